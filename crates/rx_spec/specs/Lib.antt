@@ -1,0 +1,15 @@
+pub mod Bytes
+pub mod Looks
+pub mod Expressions
+pub mod Ends
+pub mod Found
+pub mod Rows
+pub mod Contexts
+pub mod Classes
+pub mod States
+pub mod Machines
+pub mod Builds
+pub mod Tables
+pub mod Searches
+pub mod Sizes
+pub mod Plans

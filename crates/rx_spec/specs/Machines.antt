@@ -1,0 +1,38 @@
+-- Machines that read units, and what they tell of a word.
+use Rattle.std.specs.Prelude.{ℕ, Bool, Option, List, [], ◌∷◌}
+use Rattle.rx_spec.specs.Found.{Mode}
+use Rattle.rx_spec.specs.declared.Start.{Start}
+use Rattle.rx_spec.specs.declared.StartKind.{StartKind}
+
+-- What a row tells: nothing, the patterns that matched before the unit that led here, or that the
+-- search can't go on.
+pub data Label : Type 0 where
+  Plain : Label
+  Matches : (patterns : List ℕ) → Label
+  Quits : Label
+
+abbrev pub label_of : List ℕ → Label
+label_of [] = Plain
+label_of (k ∷ ks) = Matches (k ∷ ks)
+
+-- A deterministic machine: rows of some kind, the next row on each unit, a label for each row, and a
+-- start row for each mode and start context.
+pub record Machine (R : Type 0) : Type 0 where
+  pub entry : Mode → Start → R
+  pub next : R → ℕ → R
+  pub label : R → Label
+  -- the row from which nothing is told any more
+  pub is_dead : R → Bool
+
+-- the row to which a word leads
+unfoldable pub run : {R : Type 0} → (R → ℕ → R) → R → List ℕ → R
+run next row [] = row
+run next row (unit ∷ units) = run next (next row unit) units
+
+-- how a search begins: for which modes there are start rows, for how many patterns, where for any,
+-- which start context a byte gives, and which bytes can't be searched
+pub record Settings : Type 0 where
+  pub start_kind : StartKind
+  pub pattern_starts : Option ℕ
+  pub start_of_byte : ℕ → Start
+  pub quit : ℕ

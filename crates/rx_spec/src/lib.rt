@@ -1,0 +1,102 @@
+//! The definitions of the project: what every other crate's contracts cite.
+//!
+//! A reader who wants to know what is claimed starts here. The five enums below are the plain words
+//! of the subject. Everything else stands in `specs/`, in the order of docs/definitions.md: sets of
+//! bytes, assertions, expressions and their ends, what a search finds, the rows of an NFA, powerset
+//! states and their steps, tables, searches over tables. No function of this crate has a loop.
+//!
+//! The functions in [`laws`] have empty bodies: each carries, as its contract, a fact that a reader
+//! of the definitions expects of them.
+#![tactic(auto)]
+
+pub mod laws;
+
+/// An assertion: a test of the two bytes beside a place of the haystack. It reads no byte.
+///
+/// The names and meanings are those of the Rust crate `regex-automata`. The Unicode word assertions
+/// are decided by ASCII word bytes here: `0-9`, `A-Z`, `a-z` and `_`.
+#[derive(Clone, Copy, Debug, PartialEq, Eq)]
+pub enum Look {
+    /// The start of the haystack.
+    Start,
+    /// The end of the haystack.
+    End,
+    /// The start of the haystack, or a place behind a line terminator.
+    StartLF,
+    /// The end of the haystack, or a place before a line terminator.
+    EndLF,
+    /// The start of a line that `\r`, `\n` or `\r\n` ended; never between `\r` and `\n`.
+    StartCRLF,
+    /// The end of a line that `\r`, `\n` or `\r\n` ends; never between `\r` and `\n`.
+    EndCRLF,
+    /// A word boundary: exactly one neighbour is a word byte.
+    WordAscii,
+    /// No word boundary.
+    WordAsciiNegate,
+    /// As [`Look::WordAscii`].
+    WordUnicode,
+    /// As [`Look::WordAsciiNegate`].
+    WordUnicodeNegate,
+    /// The start of a word.
+    WordStartAscii,
+    /// The end of a word.
+    WordEndAscii,
+    /// As [`Look::WordStartAscii`].
+    WordStartUnicode,
+    /// As [`Look::WordEndAscii`].
+    WordEndUnicode,
+    /// No word byte stands before.
+    WordStartHalfAscii,
+    /// No word byte stands behind.
+    WordEndHalfAscii,
+    /// As [`Look::WordStartHalfAscii`].
+    WordStartHalfUnicode,
+    /// As [`Look::WordEndHalfAscii`].
+    WordEndHalfUnicode,
+}
+
+/// Which matches a table tells.
+#[derive(Clone, Copy, Debug, PartialEq, Eq)]
+pub enum MatchKind {
+    /// Every match of every pattern.
+    All,
+    /// The leftmost match, and there the one that is preferred, as in Perl and RE2.
+    LeftmostFirst,
+}
+
+/// For which modes of a search a table has start rows.
+#[derive(Clone, Copy, Debug, PartialEq, Eq)]
+pub enum StartKind {
+    /// For unanchored and for anchored searches.
+    Both,
+    /// For unanchored searches only.
+    Unanchored,
+    /// For anchored searches only.
+    Anchored,
+}
+
+/// What is known of the byte before a search when it starts.
+#[derive(Clone, Copy, Debug, PartialEq, Eq)]
+pub enum Start {
+    /// A byte that is none of the following.
+    NonWordByte,
+    /// A word byte.
+    WordByte,
+    /// No byte: the edge of the haystack.
+    Text,
+    /// The byte `\n`.
+    LineLF,
+    /// The byte `\r`.
+    LineCR,
+    /// A line terminator other than `\n` and `\r`, also where it is a word byte.
+    CustomLineTerminator,
+}
+
+/// What an automaton reads: a byte, or the end mark behind the last byte.
+#[derive(Clone, Copy, Debug, PartialEq, Eq)]
+pub enum Unit {
+    /// A byte.
+    Byte(u8),
+    /// The end of the haystack.
+    Eoi,
+}
