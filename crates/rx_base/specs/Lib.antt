@@ -1,0 +1,3 @@
+pub mod ByteSet
+pub mod Input
+pub mod Search
