@@ -1,2 +1,5 @@
 pub mod Computing
 pub mod Worked
+pub mod Facts
+pub mod Firsts
+pub mod Dead
