@@ -5,3 +5,5 @@ pub mod Firsts
 pub mod Dead
 pub mod Reaches
 pub mod Mirrors
+pub mod Ranges
+pub mod Asserting
