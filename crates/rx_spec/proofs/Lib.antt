@@ -1,2 +1,5 @@
 pub mod Computing
 pub mod Worked
+pub mod Every
+pub mod Ends
+pub mod Rows
