@@ -7,3 +7,6 @@ pub mod Reaches
 pub mod Mirrors
 pub mod Ranges
 pub mod Asserting
+pub mod Every
+pub mod Ends
+pub mod Rows

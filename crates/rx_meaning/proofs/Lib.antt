@@ -1,0 +1,5 @@
+pub mod FirstSuccess
+pub mod Firsts
+pub mod Deep
+pub mod Solution
+pub mod Standing
