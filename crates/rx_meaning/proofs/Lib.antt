@@ -3,3 +3,5 @@ pub mod Firsts
 pub mod Deep
 pub mod Solution
 pub mod Standing
+pub mod ReadUnits
+pub mod Unquit
