@@ -3,3 +3,4 @@ pub mod Firsts
 pub mod Deep
 pub mod Solution
 pub mod Standing
+pub mod Parts
