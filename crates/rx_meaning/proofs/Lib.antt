@@ -4,3 +4,4 @@ pub mod Deep
 pub mod Solution
 pub mod Standing
 pub mod Parts
+pub mod Depths
