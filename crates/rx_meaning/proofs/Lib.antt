@@ -5,3 +5,5 @@ pub mod Solution
 pub mod Standing
 pub mod ReadUnits
 pub mod Unquit
+pub mod Parts
+pub mod Depths
