@@ -7,3 +7,4 @@ pub mod ReadUnits
 pub mod Unquit
 pub mod Parts
 pub mod Depths
+pub mod Edges
