@@ -1,5 +1,5 @@
 -- What an expression of the code stands for, and what is kept of it.
-use Rattle.std.specs.Prelude.{ℕ, zero, suc, ◌≡◌, ◌+◌, ◌-◌, ◌*◌, ◌^◌, ◌/◌, ◌<◌, ◌≤◌, min, Bool, true, false, Option, Some, None, List, [], ◌∷◌, length, take, drop}
+use Rattle.std.specs.Prelude.{ℕ, zero, suc, ◌≡◌, ◌-◌, ◌^◌, ◌/◌, ◌≤◌, min, List, [], ◌∷◌, length, take, drop}
 use Rattle.rx_spec.specs.Bytes.{only}
 use Rattle.rx_spec.specs.Expressions.{Expression, min_len, depth, IsLoopSafe}
 use Rattle.rx_spec.specs.Rows.{rows_count}

@@ -1,5 +1,5 @@
 -- A part of an expression is less deep than the whole.
-use Rattle.std.specs.Prelude.{ℕ, ◌≤◌, max, None, Some}
+use Rattle.std.specs.Prelude.{◌≤◌, max}
 use Rattle.std.proofs.Common.{arith}
 use Rattle.rx_spec.specs.Expressions.{depth}
 use Rattle.rx_expr.specs.Expr.{form_of, node_of}

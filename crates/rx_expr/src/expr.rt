@@ -227,7 +227,7 @@ impl Expr {
         Expr::class(set)
     }
 
-    /// A concatenation that is known to be no deeper than the limit.
+    /// A form with what is kept beside it.
     fn inner(
         alloc: Global,
         form: Form,
@@ -270,13 +270,15 @@ impl Expr {
                 let (front, back) = bytes.split_at(bytes.len() / 2);
                 let first = Expr::literal(alloc, front)?;
                 let second = Expr::literal(alloc, back)?;
-                Expr::join(alloc, first, second)
+                Expr::concat(alloc, first, second)
             }
         }
     }
 
     /// The expression that matches the bytes of the matches in reverse: the parts of every
     /// concatenation are swapped. Memory alone can be wanting.
+    #[cycle(mirror)]
+    #[tactic(auto, unfolding(rx_spec::specs::Expressions::mirror))]
     pub fn mirror(&self, alloc: Global) -> Result<Expr, ExprError>
         ensures ok { IfOk result (λ e. e ≡ mirrored self.now) }
         ensures err { IfErr result (λ e. e ≡ ExprError.Memory) }
@@ -285,10 +287,7 @@ impl Expr {
             Node::Empty => Ok(Expr::empty()),
             Node::Class(set) => Ok(Expr::class(*set)),
             Node::Look(look) => Ok(Expr::look(*look)),
-            Node::Inner(inner) => {
-                let form = mirror_form(alloc, &inner.form)?;
-                Expr::inner(alloc, form, inner.min_len, u64::from(inner.rows), inner.depth)
-            }
+            Node::Inner(inner) => inner.mirror(alloc),
         }
     }
 
@@ -300,7 +299,21 @@ impl Expr {
             Node::Empty => ExprKind::Empty,
             Node::Class(set) => ExprKind::Class(*set),
             Node::Look(look) => ExprKind::Look(*look),
-            Node::Inner(inner) => inner.form.kind(),
+            Node::Inner(inner) => match &inner.form {
+                Form::Concat(first, second) => ExprKind::Concat(first, second),
+                Form::Alternate(first, second) => ExprKind::Alternate(first, second),
+                Form::Repeat {
+                    min,
+                    max,
+                    greedy,
+                    body,
+                } => ExprKind::Repeat {
+                    min: *min,
+                    max: *max,
+                    greedy: *greedy,
+                    body,
+                },
+            },
         }
     }
 
@@ -344,3 +357,49 @@ impl Expr {
     }
 }
 
+impl Inner {
+    ghost use Rattle.rx_spec.specs.Expressions.{mirror as mirrored};
+    ghost use Rattle.rx_expr.specs.Expr.{form_of, IsKept};
+
+    #[cycle(mirror)]
+    fn mirror(&self, alloc: Global) -> Result<Expr, ExprError>
+        requires { IsKept self.now }
+        ensures ok { IfOk result (λ e. e ≡ mirrored (form_of self.now.form)) }
+        ensures err { IfErr result (λ e. e ≡ ExprError.Memory) }
+    {
+        let form = self.form.mirror(alloc)?;
+        Expr::inner(alloc, form, self.min_len, u64::from(self.rows), self.depth)
+    }
+}
+
+impl Form {
+    ghost use Rattle.rx_spec.specs.Expressions.{mirror as mirrored};
+    ghost use Rattle.rx_expr.specs.Expr.{form_of};
+
+    #[cycle(mirror)]
+    #[tactic(auto, unfolding(rx_spec::specs::Expressions::mirror))]
+    fn mirror(&self, alloc: Global) -> Result<Form, ExprError>
+        ensures ok { IfOk result (λ form. form_of form ≡ mirrored (form_of self.now)) }
+        ensures err { IfErr result (λ e. e ≡ ExprError.Memory) }
+    {
+        Ok(match self {
+            Form::Concat(first, second) => {
+                Form::Concat(second.mirror(alloc)?, first.mirror(alloc)?)
+            }
+            Form::Alternate(first, second) => {
+                Form::Alternate(first.mirror(alloc)?, second.mirror(alloc)?)
+            }
+            Form::Repeat {
+                min,
+                max,
+                greedy,
+                body,
+            } => Form::Repeat {
+                min: *min,
+                max: *max,
+                greedy: *greedy,
+                body: body.mirror(alloc)?,
+            },
+        })
+    }
+}
