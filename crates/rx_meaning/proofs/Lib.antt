@@ -5,3 +5,4 @@ pub mod Solution
 pub mod Standing
 pub mod Parts
 pub mod Depths
+pub mod Patterns
