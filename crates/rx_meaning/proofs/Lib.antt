@@ -6,3 +6,5 @@ pub mod Standing
 pub mod Parts
 pub mod Depths
 pub mod Patterns
+pub mod Starts
+pub mod Edge
