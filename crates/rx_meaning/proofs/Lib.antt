@@ -8,3 +8,5 @@ pub mod Depths
 pub mod Patterns
 pub mod Starts
 pub mod Edge
+pub mod Facts
+pub mod Reach
