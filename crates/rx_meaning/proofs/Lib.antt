@@ -10,3 +10,4 @@ pub mod Starts
 pub mod Edge
 pub mod Facts
 pub mod Reach
+pub mod Steps
