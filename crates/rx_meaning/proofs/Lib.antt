@@ -11,3 +11,4 @@ pub mod Edge
 pub mod Facts
 pub mod Reach
 pub mod Steps
+pub mod Walks
