@@ -12,3 +12,4 @@ pub mod Facts
 pub mod Reach
 pub mod Steps
 pub mod Walks
+pub mod Candidates
