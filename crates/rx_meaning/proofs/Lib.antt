@@ -13,3 +13,4 @@ pub mod Reach
 pub mod Steps
 pub mod Walks
 pub mod Candidates
+pub mod ForwardHalf
