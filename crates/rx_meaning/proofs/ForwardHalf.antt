@@ -1,5 +1,5 @@
 -- The forward half search over the powerset machine tells what is found.
-use Rattle.std.proofs.Common.{◌≡◌, ℕ, zero, suc, ◌+◌, ◌-◌, ◌<◌, ◌≤◌, Bool, true, false, ◌==◌, ◌&&◌, nat_lt, if◌then◌else◌, Option, Some, None, is_some, List, [], ◌∷◌, ◌++◌, length, slice_get, take, drop, map, refl, ap, ap₂, sym, ◌∙◌, subst, arith, length-append}
+use Rattle.std.proofs.Common.{◌≡◌, ℕ, zero, suc, ◌+◌, ◌-◌, ◌<◌, ◌≤◌, Bool, true, false, ◌==◌, nat_lt, if◌then◌else◌, Option, Some, None, is_some, List, [], ◌∷◌, ◌++◌, length, slice_get, take, drop, map, refl, ap, ap₂, sym, ◌∙◌, subst, arith, length-append}
 use Rattle.std.proofs.lemmas.List.Elements.{recursion_from_All}
 use Rattle.std.specs.Option.{option_or, option_map, option_and_then}
 use Rattle.std.specs.List.{range_with_len, list_all, list_any, AllByRecursion as Every}
@@ -27,6 +27,7 @@ use Rattle.rx_meaning.proofs.Facts.{start_facts_of}
 use Rattle.rx_meaning.proofs.Steps.{state_gives}
 use Rattle.rx_meaning.proofs.Walks.{leftmost, ReadsFrom, within_stop, past_worth, told_same, quit_not_told, refused_not_told, walk_tells}
 use Rattle.rx_meaning.proofs.Candidates.{stop_worth, range_none, range_split, range_same, asked, all_worth, found_done, found_no, found_yes, found_only}
+use Rattle.rx_meaning.proofs.Tests.{and_both}
 
 -- The units that a forward search reads.
 
@@ -76,10 +77,6 @@ forward_nfa t es read = record {
 nfa_forward : (t : ℕ) (es : List Expression) → nfa_of false t false es ≡ forward_nfa t es es
 unfolding nfa_of
 nfa_forward t es = ap (forward_nfa t es) (read_forward es)
-
-and_both : (a b : Bool) → (a && b) ≡ true → (a ≡ true) × (b ≡ true)
-and_both true b e = (refl, e)
-and_both false b e = absurd (grind arith)
 
 module _ (t : ℕ) (es : List Expression) (safe : Every IsLoopSafe es) (hay : List ℕ) (bytes : Every (λ b. b < 256) hay) (start stop : ℕ) (inside : stop ≤ length hay) where
   abbrev nfa : Nfa

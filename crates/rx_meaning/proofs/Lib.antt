@@ -1,3 +1,4 @@
+pub mod Tests
 pub mod FirstSuccess
 pub mod Firsts
 pub mod Deep
