@@ -1,3 +1,4 @@
+pub mod Tests
 pub mod FirstSuccess
 pub mod Firsts
 pub mod Deep
@@ -8,3 +9,12 @@ pub mod Unquit
 pub mod Parts
 pub mod Depths
 pub mod Edges
+pub mod Patterns
+pub mod Starts
+pub mod Edge
+pub mod Facts
+pub mod Reach
+pub mod Steps
+pub mod Walks
+pub mod Candidates
+pub mod ForwardHalf
