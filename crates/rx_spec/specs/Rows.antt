@@ -157,6 +157,10 @@ pub record Nfa : Type 0 where
   pub has_empty : Bool
   pub utf8 : Bool
 
+-- whether every match begins at the text's edge: both starts are one row
+abbrev pub is_always_anchored : Nfa → Bool
+is_always_anchored nfa = nfa.anchored == nfa.unanchored
+
 -- backward, concatenations are read from their second part
 abbrev pub read_as : Bool → Expression → Expression
 read_as false e = e
