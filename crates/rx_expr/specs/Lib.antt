@@ -4,3 +4,4 @@ pub mod ExprFalls
 pub mod ExprError
 pub mod Settings
 pub mod Nfa
+pub mod Compiles

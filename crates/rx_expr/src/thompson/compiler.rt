@@ -1,0 +1,3 @@
+//! The compiler.
+
+pub struct Compiler;

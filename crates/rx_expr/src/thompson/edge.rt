@@ -1,0 +1,1 @@
+//! Whether expressions must begin with the edge of the haystack.
