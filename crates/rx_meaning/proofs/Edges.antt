@@ -1,15 +1,14 @@
 -- Expressions that must begin with the text's edge: they match nowhere else.
-use Rattle.std.proofs.Common.{◌≡◌, ◌≢◌, ℕ, suc, zero, ◌+◌, ◌-◌, ◌<◌, ◌≤◌, ◌⊎◌, inl, inr, ⊎_elim, Bool, true, false, ◌||◌, ◌&&◌, ◌==◌, Option, Some, None, List, [], ◌∷◌, ◌++◌, length, map, refl, ap, ap₂, sym, ◌∙◌, subst, arith, length-append}
+use Rattle.std.proofs.Common.{◌≡◌, ℕ, suc, zero, ◌+◌, ◌-◌, ◌<◌, ◌≤◌, inl, inr, ⊎_elim, Bool, true, false, ◌&&◌, ◌==◌, Option, Some, None, List, [], ◌∷◌, ◌++◌, length, map, refl, ap, ◌∙◌, subst, arith, length-append}
 use Rattle.std.proofs.lemmas.Bool.{and_parts, or_cases, eqb-true}
 use Rattle.std.proofs.lemmas.Option.{slice_get-get_or}
-use Rattle.std.specs.Prelude.{slice_get, is_none, Contains}
+use Rattle.std.specs.Prelude.{slice_get, is_none}
 use Rattle.std.specs.List.{list_all}
-use Rattle.rx_spec.specs.Looks.{Reading, before, after, holds, holds_at}
+use Rattle.rx_spec.specs.Looks.{Reading, before, holds_at}
 use Rattle.rx_spec.specs.Expressions.{Expression}
-use Rattle.rx_spec.specs.Rows.{Row, Part, Maker, chained, either, choice, copies, optional, loop, repeated, compile, patterns_from, joined, lead_in, nfa_of, read_as, reads_nothing, is_edge, begins_with_edge}
+use Rattle.rx_spec.specs.Rows.{Row, Maker, chained, either, choice, copies, optional, loop, repeated, compile, patterns_from, joined, lead_in, nfa_of, read_as, reads_nothing, is_edge, begins_with_edge}
 use Rattle.rx_spec.specs.declared.Look.{Look}
-use Rattle.rx_spec.proofs.Firsts.{by_test}
-use Rattle.rx_spec.proofs.Reaches.{Rounds, Reaches, IsAllowed}
+use Rattle.rx_spec.proofs.Reaches.{Rounds, Reaches}
 
 -- the edge holds at the first place alone
 edge_before : (units : List ℕ) (i : ℕ) → i ≤ length units → is_none (before units i) ≡ true → i ≡ 0

@@ -8,3 +8,6 @@ pub mod Unquit
 pub mod Parts
 pub mod Depths
 pub mod Edges
+pub mod FoundLaws
+pub mod JoinedStart
+pub mod Joining

@@ -17,6 +17,7 @@ use Rattle.rx_spec.specs.declared.Start.{Start}
 use Rattle.rx_spec.proofs.Firsts.{by_test}
 use Rattle.rx_spec.proofs.Mirrors.{before_is_after}
 use Rattle.rx_spec.proofs.Asserting.{quits_alike}
+use Rattle.rx_meaning.specs.Mirrored.{back_from}
 use Rattle.rx_meaning.proofs.ReadUnits.{unit_at, units_from, units_forward, units_backward}
 
 -- the units from one place up to another can be searched
@@ -189,10 +190,6 @@ neighbour_unit s (Some byte) e = e
 unit_neighbour : (s : Settings) (byte : Option ℕ) → contains s.quit (unit_of byte) ≡ false → quits_on s byte ≡ false
 unit_neighbour s None e = refl
 unit_neighbour s (Some byte) e = e
-
--- the query for the start of a match that ends at a place
-abbrev pub back_from : Query → ℕ → Query
-back_from q end = record q { stop = end; mode = Mode.Yes; earliest = false }
 
 -- what the forward search that told an end says
 pub record Ended (quit : ℕ) (q : Query) (end : ℕ) : Type 0 where
