@@ -11,3 +11,6 @@ pub mod Edges
 pub mod FoundLaws
 pub mod JoinedStart
 pub mod Joining
+pub mod Patterns
+pub mod Starts
+pub mod Edge
