@@ -14,3 +14,4 @@ pub mod Joining
 pub mod Patterns
 pub mod Starts
 pub mod Edge
+pub mod AllWalk
