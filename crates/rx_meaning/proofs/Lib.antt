@@ -15,3 +15,6 @@ pub mod Patterns
 pub mod Starts
 pub mod Edge
 pub mod AllWalk
+pub mod Facts
+pub mod Reach
+pub mod Steps
