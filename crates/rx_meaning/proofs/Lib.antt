@@ -18,3 +18,5 @@ pub mod AllWalk
 pub mod Facts
 pub mod Reach
 pub mod Steps
+pub mod AllSteps
+pub mod MirroredWalk
