@@ -20,3 +20,4 @@ pub mod Reach
 pub mod Steps
 pub mod AllSteps
 pub mod MirroredWalk
+pub mod Walks

@@ -29,6 +29,11 @@ pub record StandsAt (nfa : Nfa) (units : List ℕ) (s : State) (i : ℕ) : Type 
   pub roots : List ℕ
   pub is : s ≡ state_at nfa roots (facts_of nfa.terminator (before units i)) s.label
 
+-- the worth of the first pattern of a label at a place
+abbrev pub label_worth : {V : Type 0} → Worth V → ℕ → List ℕ → Option V
+label_worth worth i [] = None
+label_worth worth i (k ∷ ks) = worth k i
+
 -- the unit that is read at a place
 abbrev pub unit_at : List ℕ → ℕ → ℕ
 unit_at units i = unit_of (after units i)
@@ -113,11 +118,6 @@ module _ {V : Type 0} (nfa : Nfa) (units : List ℕ) (bytes : Every (λ b. b < 2
   pub settled_gives : (i : ℕ) (s : State) → StandsAt nfa units s i → first_at i (settled nfa (unit_at units i) s) ≡ first_at i s.rows
   settled_gives i s at = subst (λ x. first_at i (settled nfa (unit_at units i) x) ≡ first_at i x.rows) (sym at.is) (settled_at i at.roots s.label)
 
-  -- the worth of the first pattern of a label, here
-  abbrev pub label_worth : ℕ → List ℕ → Option V
-  label_worth i [] = None
-  label_worth i (k ∷ ks) = worth k i
-
   abbrev targets : ℕ → List ℕ → List ℕ
   targets u qs = flat_map (λ q. target u (row_at nfa.rows q)) qs
 
@@ -136,25 +136,25 @@ module _ {V : Type 0} (nfa : Nfa) (units : List ℕ) (bytes : Every (λ b. b < 2
       ]
 
   abbrev Cuts : ℕ → ℕ → List ℕ → List ℕ → Row → Type 0
-  Cuts i q qs cuts row = option_or (g q i) (first_at i qs) ≡ option_or (first_at (i + 1) (targets (unit_at units i) (if is_accept row then q ∷ [] else (q ∷ cuts)))) (label_worth i (matched (if is_accept row then q ∷ [] else (q ∷ cuts))))
+  Cuts i q qs cuts row = option_or (g q i) (first_at i qs) ≡ option_or (first_at (i + 1) (targets (unit_at units i) (if is_accept row then q ∷ [] else (q ∷ cuts)))) (label_worth worth i (matched (if is_accept row then q ∷ [] else (q ∷ cuts))))
 
   cut_row : (pass : Passing) (holds : Look → Bool) → pass ≡ Passing.Tested holds → (i : ℕ) → ((k : ℕ) → (v : V) × (worth k i ≡ Some v)) → (q : ℕ) (qs cuts : List ℕ)
-      → first_at i qs ≡ option_or (first_at (i + 1) (targets (unit_at units i) cuts)) (label_worth i (matched cuts))
+      → first_at i qs ≡ option_or (first_at (i + 1) (targets (unit_at units i) cuts)) (label_worth worth i (matched cuts))
       → (row : Row) → row_at nfa.rows q ≡ row → IsReady (Passing.Tested holds) row → g q i ≡ gives (reading_of nfa units) worth g row i
       → Cuts i q qs cuts row
   unfolding first_of
   cut_row pass holds p i all q qs cuts ih (Row.Bytes set next) e ready h =
-      subst (λ x. option_or (g q i) (first_at i qs) ≡ option_or (first_at (i + 1) (target (unit_at units i) x ++ targets (unit_at units i) cuts)) (label_worth i (pattern_of x ++ matched cuts))) (sym e)
-      (ap (λ v. option_or v (first_at i qs)) h ∙ read_gives i set next (after units i) (λ b k. byte_below i b k) None (first_at i qs) (label_worth i (matched cuts)) (targets (unit_at units i) cuts) ih)
+      subst (λ x. option_or (g q i) (first_at i qs) ≡ option_or (first_at (i + 1) (target (unit_at units i) x ++ targets (unit_at units i) cuts)) (label_worth worth i (pattern_of x ++ matched cuts))) (sym e)
+      (ap (λ v. option_or v (first_at i qs)) h ∙ read_gives i set next (after units i) (λ b k. byte_below i b k) None (first_at i qs) (label_worth worth i (matched cuts)) (targets (unit_at units i) cuts) ih)
   cut_row pass holds p i all q qs cuts ih (Row.Split first second) e ready h = absurd ready
   cut_row pass holds p i all q qs cuts ih (Row.Assert look next) e ready h = absurd ready
   cut_row pass holds p i all q qs cuts ih (Row.Accept k) e ready h =
-      subst (λ x. option_or (g q i) (first_at i qs) ≡ option_or (first_at (i + 1) (target (unit_at units i) x ++ [])) (label_worth i (pattern_of x ++ []))) (sym e)
+      subst (λ x. option_or (g q i) (first_at i qs) ≡ option_or (first_at (i + 1) (target (unit_at units i) x ++ [])) (label_worth worth i (pattern_of x ++ []))) (sym e)
       (ap (λ v. option_or v (first_at i qs)) (h ∙ (all k).1) ∙ sym (all k).1)
   cut_row pass holds p i all q qs cuts ih Row.Fail e ready h = absurd ready
 
   cut_gives : (holds : Look → Bool) (i : ℕ) → ((k : ℕ) → (v : V) × (worth k i ≡ Some v)) → (qs : List ℕ) → Every (λ p. IsReady (Passing.Tested holds) (row_at nfa.rows p)) qs
-      → first_at i qs ≡ option_or (first_at (i + 1) (targets (unit_at units i) (to_first_match nfa.rows qs))) (label_worth i (matched (to_first_match nfa.rows qs)))
+      → first_at i qs ≡ option_or (first_at (i + 1) (targets (unit_at units i) (to_first_match nfa.rows qs))) (label_worth worth i (matched (to_first_match nfa.rows qs)))
   unfolding to_first_match first_of
   cut_gives holds i all [] ready = refl
   cut_gives holds i all (q ∷ qs) ready =
@@ -163,7 +163,7 @@ module _ {V : Type 0} (nfa : Nfa) (units : List ℕ) (bytes : Every (λ b. b < 2
   -- One step, leftmost-first, at a place where every match is worth something: what the state gives
   -- is what the next one gives one place on, or else what its label tells here.
   pub step_gives : (i : ℕ) → ((k : ℕ) → (v : V) × (worth k i ≡ Some v)) → (s : State) → StandsAt nfa units s i
-      → first_at i s.rows ≡ option_or (first_at (i + 1) (step nfa MatchKind.LeftmostFirst s (unit_at units i)).rows) (label_worth i (step nfa MatchKind.LeftmostFirst s (unit_at units i)).label)
+      → first_at i s.rows ≡ option_or (first_at (i + 1) (step nfa MatchKind.LeftmostFirst s (unit_at units i)).rows) (label_worth worth i (step nfa MatchKind.LeftmostFirst s (unit_at units i)).label)
   unfolding step
   step_gives i all s at =
       let u = unit_at units i in
@@ -172,4 +172,4 @@ module _ {V : Type 0} (nfa : Nfa) (units : List ℕ) (bytes : Every (λ b. b < 2
       let rows = to_first_match nfa.rows qs in
       sym (settled_gives i s at)
       ∙ cut_gives holds i all qs (closed_ready nfa.rows (Passing.Tested holds) s.rows)
-      ∙ ap (λ v. option_or v (label_worth i (matched rows))) (sym (state_gives (targets u rows) (unit_facts nfa.terminator u) (matched rows) (i + 1)))
+      ∙ ap (λ v. option_or v (label_worth worth i (matched rows))) (sym (state_gives (targets u rows) (unit_facts nfa.terminator u) (matched rows) (i + 1)))
