@@ -13,7 +13,7 @@ use Rattle.rx_spec.proofs.Reaches.{reaches_sound, reaches_lie}
 use Rattle.rx_meaning.specs.Mirrored.{start_to_end, least_start, back_from}
 use Rattle.rx_meaning.proofs.FoundLaws.{Matches, IsFound, candidate_none, find_is}
 
-any_end : (stop : ℕ) (xs : List ℕ) → list_any (λ j. j == stop) xs ≡ true → Contains xs stop
+pub any_end : (stop : ℕ) (xs : List ℕ) → list_any (λ j. j == stop) xs ≡ true → Contains xs stop
 any_end stop [] h = absurd (cc)
 any_end stop (x ∷ xs) h = ⊎_elim (λ (e : (x == stop) ≡ true). let same : x ≡ stop = eqb-true x stop e in (0, omega arith, same)) (λ (e : list_any (λ j. j == stop) xs ≡ true). Contains-there x xs stop (any_end stop xs e)) (or_cases (x == stop) (list_any (λ j. j == stop) xs) h)
 
