@@ -21,3 +21,4 @@ pub mod Steps
 pub mod AllSteps
 pub mod MirroredWalk
 pub mod Walks
+pub mod Candidates
