@@ -1,11 +1,11 @@
 -- One step under the kind All: nothing is cut, so what other places give is kept, and the label's
 -- first pattern is what this place gives.
-use Rattle.std.proofs.Common.{◌≡◌, ℕ, suc, zero, ◌+◌, ◌*◌, ◌-◌, ◌<◌, ◌≤◌, Bool, true, false, ◌==◌, ◌&&◌, if◌then◌else◌, Option, Some, None, List, [], ◌∷◌, ◌++◌, length, refl, ap, ap₂, sym, ◌∙◌, subst, arith}
+use Rattle.std.proofs.Common.{◌≡◌, ℕ, ◌+◌, ◌<◌, Bool, true, false, ◌==◌, if◌then◌else◌, Option, Some, None, List, [], ◌∷◌, ◌++◌, length, refl, ap, ap₂, sym, ◌∙◌, arith}
 use Rattle.std.proofs.lemmas.Bool.{and_parts, eqb-true, eq-eqb, ne_eqb}
 use Rattle.std.specs.Option.{option_or}
 use Rattle.std.specs.List.{flat_map, AllByRecursion as Every}
 use Rattle.rx_spec.specs.Bytes.{contains, unit_of}
-use Rattle.rx_spec.specs.Looks.{Reading, before, after}
+use Rattle.rx_spec.specs.Looks.{Reading, after}
 use Rattle.rx_spec.specs.Found.{first_of}
 use Rattle.rx_spec.specs.Rows.{Row, Nfa}
 use Rattle.rx_spec.specs.Contexts.{unit_facts, holds_read}
@@ -13,11 +13,10 @@ use Rattle.rx_spec.specs.States.{row_at, Passing, State, settled, pattern_of, ta
 use Rattle.rx_spec.specs.Builds.{is_dead_state}
 use Rattle.rx_spec.specs.declared.Look.{Look}
 use Rattle.rx_spec.specs.declared.MatchKind.{MatchKind}
-use Rattle.rx_meaning.proofs.FirstSuccess.{or_assoc, or_none, first_of-append}
+use Rattle.rx_meaning.proofs.FirstSuccess.{or_none, first_of-append}
 use Rattle.rx_meaning.proofs.Deep.{Deep}
 use Rattle.rx_meaning.proofs.Patterns.{depth_of}
 use Rattle.rx_meaning.proofs.Solution.{Worth, read_by, gives, Solves, solution, solution_solves, solution_none}
-use Rattle.rx_meaning.proofs.Starts.{every-got}
 use Rattle.rx_meaning.proofs.Reach.{IsReady, closed_ready}
 use Rattle.rx_meaning.proofs.Steps.{reading_of, StandsAt, state_gives, settled_gives, unit_at}
 use Rattle.rx_meaning.proofs.AllWalk.{head_of}

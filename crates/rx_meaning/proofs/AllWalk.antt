@@ -26,15 +26,15 @@ heard_is : (ks : List ℕ) (offset : ℕ) (last : Option Half) → heard (label_
 heard_is [] offset last = refl
 heard_is (k ∷ ks) offset last = refl
 
-goes_over : (ks : List ℕ) (unit offset : ℕ) (last : Option Half) (later : Option Half → Outcome) → goes (label_of ks) true true unit offset last later ≡ Outcome.Told (heard (label_of ks) offset last)
+goes_over : (ks : List ℕ) (unit offset : ℕ) (last : Option Half) (later : Option Half → Outcome) → goes false (label_of ks) true true unit offset last later ≡ Outcome.Told (heard (label_of ks) offset last)
 goes_over [] unit offset last later = refl
 goes_over (k ∷ ks) unit offset last later = refl
 
-goes_later : (ks : List ℕ) (unit offset : ℕ) (last : Option Half) (later : Option Half → Outcome) → goes (label_of ks) false true unit offset last later ≡ later (heard (label_of ks) offset last)
+goes_later : (ks : List ℕ) (unit offset : ℕ) (last : Option Half) (later : Option Half → Outcome) → goes false (label_of ks) false true unit offset last later ≡ later (heard (label_of ks) offset last)
 goes_later [] unit offset last later = refl
 goes_later (k ∷ ks) unit offset last later = refl
 
-quit_not_told : (unit offset : ℕ) (last : Option Half) (later : Option Half → Outcome) (h : Option Half) → goes (node_label Node.Quit) (is_dead Node.Quit) true unit offset last later ≡ Outcome.Told h → ⊥
+quit_not_told : (unit offset : ℕ) (last : Option Half) (later : Option Half → Outcome) (h : Option Half) → goes false (node_label Node.Quit) (is_dead Node.Quit) true unit offset last later ≡ Outcome.Told h → ⊥
 quit_not_told unit offset last later h e = cc
 
 -- Of a state at a place: what pattern, if any, it gives for each later place; and that a step tells it
@@ -96,19 +96,19 @@ module _ (b : Build) (r : Reading) (limit size : ℕ) (inside : limit ≤ size)
         → ((kept : Option Half) → walk (power b) true false (Node.Running (step b.nfa b.kind s (unit_at r i))) (size - i - 1) kept (units_from r (i + 1) n) ≡ Outcome.Told h → h ≡ option_or (furthest (step b.nfa b.kind s (unit_at r i)) (i + 1) n) kept)
         → walk (power b) true false (Node.Running s) (size - i) last (units_from r i (suc n)) ≡ Outcome.Told h → h ≡ option_or (furthest s i (suc n)) last
     one_walk n i s last h e fits rest w = elim (leads b s (unit_at r i)) as (λ l. h ≡ option_or (furthest s i (suc n)) last) [
-      | Dead d to ↦ told_same h last (sym w ∙ walk_one b true (Node.Running s) (size - i) last r i n dead to) ∙ ap (λ o. option_or o last) (sym (dead_furthest s i (suc n) d))
-      | Quits q to ↦ absurd (quit_not_told (unit_at r i) (size - i) last (λ kept. walk (power b) true false Node.Quit (size - i - 1) kept (units_from r (i + 1) n)) h (sym (walk_one b true (Node.Running s) (size - i) last r i n Node.Quit to) ∙ w))
+      | Dead d to ↦ told_same h last (sym w ∙ walk_one b true false (Node.Running s) (size - i) last r i n dead to) ∙ ap (λ o. option_or o last) (sym (dead_furthest s i (suc n) d))
+      | Quits q to ↦ absurd (quit_not_told (unit_at r i) (size - i) last (λ kept. walk (power b) true false Node.Quit (size - i - 1) kept (units_from r (i + 1) n)) h (sym (walk_one b true false (Node.Running s) (size - i) last r i n Node.Quit to) ∙ w))
       | Steps d clean to ↦
           let next = step b.nfa b.kind s (unit_at r i) in
           let kept = heard (label_of next.label) (size - i) last in
           let later : Option Half → Outcome = λ kept. walk (power b) true false (Node.Running next) (size - i - 1) kept (units_from r (i + 1) n) in
-          let goes_is = sym (walk_one b true (Node.Running s) (size - i) last r i n (Node.Running next) to) ∙ w in
+          let goes_is = sym (walk_one b true false (Node.Running s) (size - i) last r i n (Node.Running next) to) ∙ w in
           by_test (is_dead_state next)
           (λ over.
-          let ended : goes (label_of next.label) true true (unit_at r i) (size - i) last later ≡ Outcome.Told h = subst (λ o. goes (label_of next.label) o true (unit_at r i) (size - i) last later ≡ Outcome.Told h) over goes_is in
+          let ended : goes false (label_of next.label) true true (unit_at r i) (size - i) last later ≡ Outcome.Told h = subst (λ o. goes false (label_of next.label) o true (unit_at r i) (size - i) last later ≡ Outcome.Told h) over goes_is in
           told_same h kept (sym ended ∙ goes_over next.label (unit_at r i) (size - i) last later) ∙ ap (λ o. option_or o kept) (sym (dead_furthest next (i + 1) n over)) ∙ gathered s i n last fits e)
           (λ on.
-          let went : goes (label_of next.label) false true (unit_at r i) (size - i) last later ≡ Outcome.Told h = subst (λ o. goes (label_of next.label) o true (unit_at r i) (size - i) last later ≡ Outcome.Told h) on goes_is in
+          let went : goes false (label_of next.label) false true (unit_at r i) (size - i) last later ≡ Outcome.Told h = subst (λ o. goes false (label_of next.label) o true (unit_at r i) (size - i) last later ≡ Outcome.Told h) on goes_is in
           rest kept (sym (goes_later next.label (unit_at r i) (size - i) last later) ∙ went) ∙ gathered s i n last fits e)
     ]
 
@@ -119,7 +119,7 @@ module _ (b : Build) (r : Reading) (limit size : ℕ) (inside : limit ≤ size)
     pub all_walk : (n i : ℕ) (s : State) (last h : Option Half) → i + n ≡ limit → Fits s i → walk (power b) true false (Node.Running s) (size - i) last (units_from r i (suc n)) ≡ Outcome.Told h → h ≡ option_or (furthest s i (suc n)) last
     all_walk zero i s last h e fits w =
         let next = step b.nfa b.kind s (unit_at r i) in
-        one_walk zero i s last h e fits (λ kept v. told_same h kept (sym v ∙ walk_none b true (Node.Running next) (size - i - 1) kept r (i + 1)) ∙ ap (λ o. option_or o kept) (sym (none_left next (i + 1)))) w
+        one_walk zero i s last h e fits (λ kept v. told_same h kept (sym v ∙ walk_none b true false (Node.Running next) (size - i - 1) kept r (i + 1)) ∙ ap (λ o. option_or o kept) (sym (none_left next (i + 1)))) w
     all_walk (suc n) i s last h e fits w =
         let next = step b.nfa b.kind s (unit_at r i) in
         let offset : size - i - 1 ≡ size - (i + 1) = omega arith in

@@ -82,8 +82,8 @@ module _ (tells : TellsFound) (mirrored : MirroredSearch) (w : Wanted) (es : Lis
   start_given : (hit : Hit) → q.mode ≡ Mode.No → IsFound es w.terminator q hit → half_of (forward_build w es) false (record q { earliest = false }) ≡ Outcome.Told (Some (end_of hit))
       → with_start (end_of hit) (half_of (reverse_build w es) true (back_from q hit.stop)) ≡ Verdict.Answer (Some hit)
   start_given hit mode is e =
-      let told = reverse_told w es q (end_of hit) within e in
-      let ended = forward_ended (forward_build w es) q (end_of hit) within e in
+      let told = reverse_told w es (record q { earliest = false }) (end_of hit) within e in
+      let ended = forward_ended (forward_build w es) (record q { earliest = false }) (end_of hit) within e in
       let high = ended.high in
       let least = mirrored w es (back_from q hit.stop) told.0 safe bytes ended.low (omega arith) told.1 in
       let start = least_found es w.terminator q hit safe within mode is in

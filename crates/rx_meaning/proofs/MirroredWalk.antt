@@ -1,30 +1,29 @@
 -- A search in reverse tells the least start of a match that ends where it begins.
-use Rattle.std.proofs.Common.{◌≡◌, ℕ, suc, zero, ◌+◌, ◌*◌, ◌-◌, ◌<◌, ◌≤◌, ◌⊎◌, ⊎_elim, Bool, true, false, ◌==◌, ◌&&◌, if◌then◌else◌, Option, Some, None, List, [], ◌∷◌, ◌++◌, length, map, reverse, get_or, refl, ap, ap₂, sym, ◌∙◌, subst, arith, length-append, append-nil}
-use Rattle.std.proofs.lemmas.Bool.{eqb-true, eqb-false, eq-eqb, ne_eqb}
+use Rattle.std.proofs.Common.{◌≡◌, ℕ, suc, zero, ◌+◌, ◌-◌, ◌<◌, ◌≤◌, ⊎_elim, Bool, true, false, ◌==◌, if◌then◌else◌, Option, Some, None, List, [], ◌∷◌, ◌++◌, length, map, reverse, refl, ap, ap₂, sym, ◌∙◌, subst, arith, length-append}
+use Rattle.std.proofs.lemmas.Bool.{eqb-true, eqb-false}
 use Rattle.std.proofs.lemmas.List.{append_assoc, length-reverse, get_or-reverse}
-use Rattle.std.proofs.lemmas.List.Elements.{recursion_from_All, All-from_recursion}
-use Rattle.std.specs.Prelude.{slice_get, Contains, All}
+use Rattle.std.proofs.lemmas.List.Elements.{recursion_from_All}
+use Rattle.std.specs.Prelude.{slice_get, Contains}
 use Rattle.std.specs.Option.{option_or, option_map, option_and_then}
-use Rattle.std.specs.List.{flat_map, list_all, list_any, range_with_len, AllByRecursion as Every}
+use Rattle.std.specs.List.{list_any, range_with_len, AllByRecursion as Every}
 use Rattle.rx_spec.specs.Bytes.{AreBytes, unit_of}
-use Rattle.rx_spec.specs.Looks.{Reading, before, after}
+use Rattle.rx_spec.specs.Looks.{Reading, after}
 use Rattle.rx_spec.specs.Expressions.{Expression, IsLoopSafe, mirror}
 use Rattle.rx_spec.specs.Ends.{ends}
-use Rattle.rx_spec.specs.Found.{Mode, Query, first_of, forward, backward}
-use Rattle.rx_spec.specs.Rows.{Row, Nfa, nfa_of, read_as, patterns_from, joined, lead_in, begins_with_edge}
-use Rattle.rx_spec.specs.Contexts.{Facts, facts_of, start_of, start_of_byte, start_facts}
-use Rattle.rx_spec.specs.States.{State, start_state, state_at, step}
-use Rattle.rx_spec.specs.Machines.{Settings}
-use Rattle.rx_spec.specs.Builds.{Build, Node, power, build_settings, built_entry}
-use Rattle.rx_spec.specs.Searches.{Half, Outcome, walk, half, context_of, neighbour, start_at, units_of}
-use Rattle.rx_spec.specs.Plans.{Wanted, reverse_build}
+use Rattle.rx_spec.specs.Found.{Query, first_of, forward, backward}
+use Rattle.rx_spec.specs.Rows.{Nfa, nfa_of, read_as}
+use Rattle.rx_spec.specs.Contexts.{facts_of, start_of, start_of_byte, start_facts}
+use Rattle.rx_spec.specs.States.{State, start_state, state_at}
+use Rattle.rx_spec.specs.Builds.{Build, Node, power, build_settings}
+use Rattle.rx_spec.specs.Searches.{Half, Outcome, walk, context_of, start_at, units_of}
+use Rattle.rx_spec.specs.Plans.{Wanted, forward_build, reverse_build}
 use Rattle.rx_spec.specs.declared.MatchKind.{MatchKind}
 use Rattle.rx_spec.specs.declared.Start.{Start}
 use Rattle.rx_spec.specs.declared.StartKind.{StartKind}
 use Rattle.rx_spec.proofs.Firsts.{by_test, Contains-there, Contains-cases, Contains-nil}
 use Rattle.rx_spec.proofs.Ranges.{range_alike}
 use Rattle.rx_spec.proofs.Mirrors.{IsLoopSafe-mirror, ends_mirrored, after_is_before}
-use Rattle.rx_meaning.specs.Mirrored.{MirroredSearch, start_to_end, least_start, back_from}
+use Rattle.rx_meaning.specs.Mirrored.{MirroredSearch, StartOfEnd, start_to_end, least_start, back_from}
 use Rattle.rx_meaning.proofs.FirstSuccess.{first_of-cons, first_of-nil, first_of-single, or_none}
 use Rattle.rx_meaning.proofs.Standing.{Stands, stands-left, stands-right, stands_all}
 use Rattle.rx_meaning.proofs.Deep.{Deep}
@@ -34,9 +33,9 @@ use Rattle.rx_meaning.proofs.Starts.{first_pattern, pattern_worth, patterns_give
 use Rattle.rx_meaning.proofs.Facts.{start_facts_of}
 use Rattle.rx_meaning.proofs.Steps.{reading_of, StandsAt, state_gives, step_stands}
 use Rattle.rx_meaning.proofs.JoinedStart.{any_end, end_any}
-use Rattle.rx_meaning.proofs.ReadUnits.{unit_at, units_from, units_backward}
-use Rattle.rx_meaning.proofs.Unquit.{Begun, half_begun}
-use Rattle.rx_meaning.proofs.AllWalk.{half_at, all_walk, furthest, told_at}
+use Rattle.rx_meaning.proofs.ReadUnits.{units_from, units_backward}
+use Rattle.rx_meaning.proofs.Unquit.{Begun, half_begun, reverse_told, forward_ended}
+use Rattle.rx_meaning.proofs.AllWalk.{half_at, all_walk}
 use Rattle.rx_meaning.proofs.AllSteps.{exactly, exactly_here, exactly_other, tells, row_tells, row_solves, dead_tells, label_tells, step_tells}
 
 -- What the anchored start gives: the first pattern's worth.
@@ -191,15 +190,15 @@ walked w es q h safe bytes order within begun =
     let i = size - q.stop in
     let n = q.stop - q.start in
     let entry : start_at (power b) (build_settings b) true (back_from q q.stop) ≡ Node.Running s
-      = ap (λ c. Node.Running (start_state nfa nfa.anchored c)) (context_is nfa.terminator b.start_kind (if b.pattern_starts then Some (length nfa.patterns) else None) b.quit (after q.hay q.stop)) in
+    = ap (λ c. Node.Running (start_state nfa nfa.anchored c)) (context_is nfa.terminator b.start_kind (if b.pattern_starts then Some (length nfa.patterns) else None) b.quit (after q.hay q.stop)) in
     let count : n + 1 ≡ suc n = omega arith in
     let units : units_of true (back_from q q.stop) ≡ units_from (reading_of nfa (reverse q.hay)) i (suc n)
-      = units_backward t (back_from q q.stop) order within ∙ units_same t nfa.terminator true nfa.backward (reverse q.hay) (n + 1) i ∙ ap (units_from (reading_of nfa (reverse q.hay)) i) count in
+    = units_backward t (back_from q q.stop) order within ∙ units_same t nfa.terminator true nfa.backward (reverse q.hay) (n + 1) i ∙ ap (units_from (reading_of nfa (reverse q.hay)) i) count in
     let offset : size - i ≡ q.stop = omega arith in
     let walk_is : walk (power b) true false (Node.Running s) (size - i) None (units_from (reading_of nfa (reverse q.hay)) i (suc n)) ≡ Outcome.Told h
-      = ap₂ (λ (node : Node) (us : List ℕ). walk (power b) true false node (size - i) None us) (sym entry) (sym units)
-      ∙ ap (λ (o : ℕ). walk (power b) true false (start_at (power b) (build_settings b) true (back_from q q.stop)) o None (units_of true (back_from q q.stop))) offset
-      ∙ begun.walked in
+    = ap₂ (λ (node : Node) (us : List ℕ). walk (power b) true false node (size - i) None us) (sym entry) (sym units)
+    ∙ ap (λ (o : ℕ). walk (power b) true false (start_at (power b) (build_settings b) true (back_from q q.stop)) o None (units_of true (back_from q q.stop))) offset
+    ∙ begun.walked in
     let first : size - limit ≡ q.start = omega arith in
     let all : suc n ≡ q.stop + 1 - q.start = omega arith in
     let told = walk_tells nfa b.start_kind b.pattern_starts b.quit (reverse q.hay) bytes deep limit size (omega arith) n i s h (omega arith) (start_stands nfa q.hay nfa.anchored q.stop within) walk_is in
@@ -208,8 +207,15 @@ walked w es q h safe bytes order within begun =
     (λ k l. start_at_place t es safe q bytes start (size - limit + k) within (omega arith))
     ∙ ap₂ (λ (a m : ℕ). first_of (λ p. first_of (λ k. start_to_end es t q p k) (range_with_len 0 (length es))) (range_with_len a m)) first all
 
-pub mirrored_search : MirroredSearch
-mirrored_search w es q h safe bytes order within told =
+pub mirrored_walk : MirroredSearch
+mirrored_walk w es q h safe bytes order within told =
     ⊎_elim (λ (x : (q.stop < q.start) × (h ≡ None)). absurd (let y = x.0 in omega arith))
     (λ (x : Begun (power (reverse_build w es)) (build_settings (reverse_build w es)) true (back_from q q.stop) h). walked w es q h (recursion_from_All IsLoopSafe es safe) (bytes_reversed q.hay bytes) order within x)
     (half_begun (power (reverse_build w es)) (build_settings (reverse_build w es)) true (back_from q q.stop) h told)
+
+pub end_started : StartOfEnd
+end_started w es q end safe bytes within e =
+    let told = reverse_told w es q end within e in
+    let ended = forward_ended (forward_build w es) q end within e in
+    let high = ended.high in
+    told.1 ∙ ap Outcome.Told (mirrored_walk w es (record q { stop = end.offset }) told.0 safe bytes ended.low (omega arith) told.1)

@@ -35,8 +35,8 @@ MirroredSearch = (w : Wanted) (es : List Expression) (q : Query) (h : Option Hal
     → h ≡ least_start es w.terminator q
 
 -- From an end that the forward search told, the search in reverse is neither refused nor meets a quit
--- byte.
-abbrev pub ReverseTells : Type 0
-ReverseTells = (w : Wanted) (es : List Expression) (q : Query) (end : Half) → q.stop ≤ length q.hay
-    → half (power (forward_build w es)) (build_settings (forward_build w es)) false (record q { earliest = false }) ≡ Outcome.Told (Some end)
-    → (h : Option Half) × (half (power (reverse_build w es)) (build_settings (reverse_build w es)) true (back_from q end.offset) ≡ Outcome.Told h)
+-- byte: it tells the least start of a match that ends there, and the lowest pattern from that start.
+abbrev pub StartOfEnd : Type 0
+StartOfEnd = (w : Wanted) (es : List Expression) (q : Query) (end : Half) → All IsLoopSafe es → AreBytes q.hay → q.stop ≤ length q.hay
+    → half (power (forward_build w es)) (build_settings (forward_build w es)) false q ≡ Outcome.Told (Some end)
+    → half (power (reverse_build w es)) (build_settings (reverse_build w es)) true (back_from q end.offset) ≡ Outcome.Told (least_start es w.terminator (record q { stop = end.offset }))

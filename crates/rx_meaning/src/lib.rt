@@ -4,3 +4,5 @@
 //! with [`preference`]: the powerset machine of a list of expressions finds the leftmost match, and
 //! there the preferred one.
 #![tactic(auto)]
+
+pub mod mirrored;
