@@ -12,6 +12,7 @@ use Rattle.rx_meaning.proofs.FirstSuccess.{or_none, first_of-nil, first_of-map, 
 use Rattle.rx_meaning.proofs.Solution.{got_past}
 use Rattle.rx_meaning.proofs.Starts.{first_pattern}
 use Rattle.rx_meaning.proofs.Walks.{within_stop}
+use Rattle.rx_meaning.proofs.Tests.{equal_numbers}
 
 -- the worth of a pattern's preferred end within the stop
 abbrev pub stop_worth : Reading → ℕ → ℕ → ℕ → Expression → Option Half
@@ -70,9 +71,6 @@ unfolding first_of
 range_same f g zero a h = refl
 range_same f g (suc m) a h = ap₂ option_or (h a (omega arith) (omega arith)) (range_same f g m (a + 1) (λ p low high. h p (omega (arith, low)) (omega (arith, high))))
 
-equal_here : (a b : ℕ) → (a == b) ≡ true → a ≡ b
-equal_here a b e = grind arith
-
 later_one : (a b : ℕ) → (a == b) ≡ false → a ≤ b → a + 1 ≤ b
 later_one a b e h = grind arith
 
@@ -83,7 +81,7 @@ only_at : {V : Type 0} (f : ℕ → Option V) (k m c : ℕ) (v : Bool) → (c ==
     → option_or (if v then f c else None) (first_of (λ x. if x == k then f x else None) (range_with_len (c + 1) m)) ≡ f k
 only_at f k m c true e ih =
     ap (option_or (f c)) (range_none (λ x. if x == k then f x else None) m (c + 1) (λ p low high. ap (λ v. if v then f p else None) (past_one c k p e low)))
-    ∙ or_none (f c) ∙ ap f (equal_here c k e)
+    ∙ or_none (f c) ∙ ap f (equal_numbers c k e)
 only_at f k m c false e ih = ih refl
 
 -- the first success where one number alone is asked for

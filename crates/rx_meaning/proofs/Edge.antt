@@ -1,5 +1,5 @@
 -- Where an expression must begin with the text's edge, it matches nowhere else.
-use Rattle.std.proofs.Common.{◌≡◌, ℕ, zero, suc, ◌-◌, ◌<◌, ◌≤◌, Bool, true, false, ◌==◌, ◌&&◌, ◌||◌, is_none, if◌then◌else◌, Option, Some, None, List, [], ◌∷◌, ◌++◌, length, refl, ap, ap₂, sym, subst, arith, ◌⊎◌, inl, inr}
+use Rattle.std.proofs.Common.{◌≡◌, ℕ, zero, suc, ◌-◌, ◌<◌, ◌≤◌, Bool, true, false, ◌==◌, ◌&&◌, ◌||◌, is_none, if◌then◌else◌, Option, Some, None, List, [], ◌∷◌, ◌++◌, length, refl, ap, ap₂, sym, subst, arith, inl, inr}
 use Rattle.std.specs.List.{flat_map, AllByRecursion as Every}
 use Rattle.rx_spec.specs.Looks.{Reading, before, after, holds, holds_at}
 use Rattle.rx_spec.specs.Expressions.{Expression, IsLoopSafe, IsBounded}
@@ -8,6 +8,7 @@ use Rattle.rx_spec.specs.Rows.{reads_nothing, begins_with_edge, is_edge}
 use Rattle.rx_spec.specs.declared.Look.{Look}
 use Rattle.rx_spec.proofs.Every.{every-append, every-flat_map}
 use Rattle.rx_meaning.proofs.Starts.{got_some}
+use Rattle.rx_meaning.proofs.Tests.{false_not_true, and_both, suc_not_zero, or_either}
 
 -- each end is where it began
 abbrev Stays : (ℕ → List ℕ) → Type 0
@@ -33,16 +34,6 @@ unfolding up_to
 up_to_stays greedy body h zero i = (refl, tt)
 up_to_stays greedy body h (suc n) i = preferring_stays greedy (flat_map (λ j. up_to greedy body n j) (body i)) i (both_stay body (up_to greedy body n) h (up_to_stays greedy body h n) i)
 
-false_not_true : false ≡ true → ⊥
-false_not_true e = grind arith
-
-and_both : (a b : Bool) → (a && b) ≡ true → (a ≡ true) × (b ≡ true)
-and_both true b e = (refl, e)
-and_both false b e = absurd (false_not_true e)
-
-not_zero : (n : ℕ) → (suc n == 0) ≡ false
-not_zero n = grind arith
-
 or_right : (a b : Bool) → a ≡ false → (a || b) ≡ true → b ≡ true
 or_right true b e h = absurd (false_not_true (sym e))
 or_right false b e h = h
@@ -55,7 +46,7 @@ repeat_stays r least None greedy body e bounded ih i =
 repeat_stays r zero (Some zero) greedy body e bounded ih i = (refl, tt)
 repeat_stays r (suc least) (Some zero) greedy body e bounded ih i = absurd (omega (arith, bounded))
 repeat_stays r least (Some (suc most)) greedy body e bounded ih i =
-    let stays = ih (or_right (suc most == 0) (reads_nothing body) (not_zero most) e) in
+    let stays = ih (or_right (suc most == 0) (reads_nothing body) (suc_not_zero most) e) in
     both_stay (rounds (λ k. ends r body k) least) (λ j. up_to greedy (λ k. ends r body k) (suc most - least) j) (rounds_stay (λ k. ends r body k) stays least) (λ j. up_to_stays greedy (λ k. ends r body k) stays (suc most - least) j) i
 
 -- An expression that reads nothing ends where it begins.
@@ -85,10 +76,6 @@ some_before units (suc i) above within = let got = got_some units i (omega (arit
 
 edge_at : (r : Reading) (look : Look) (i : ℕ) → is_edge r.backward look ≡ true → 0 < i → i ≤ length r.units → holds_at r look i ≡ false
 edge_at r look i e above within = edge_fails r.backward look r.terminator (before r.units i) (after r.units i) e (some_before r.units i above within)
-
-or_either : (a b : Bool) → (a || b) ≡ true → (a ≡ true) ⊎ (b ≡ true)
-or_either true b e = inl refl
-or_either false b e = inr e
 
 flat_map-none : (f : ℕ → List ℕ) (i : ℕ) (xs : List ℕ) → f i ≡ [] → Every (λ j. j ≡ i) xs → flat_map f xs ≡ []
 flat_map-none f i [] e h = refl

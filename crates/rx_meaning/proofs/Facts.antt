@@ -7,6 +7,7 @@ use Rattle.rx_spec.specs.Contexts.{Facts, text_facts, facts_of, unit_facts, both
 use Rattle.rx_spec.specs.States.{row_at, is_assert}
 use Rattle.rx_spec.specs.declared.Look.{Look}
 use Rattle.rx_spec.specs.declared.Start.{Start}
+use Rattle.rx_meaning.proofs.Tests.{false_not_true, equal_numbers}
 
 -- the facts as tests of the neighbour
 abbrev tested_facts : ℕ → Option ℕ → Facts
@@ -112,9 +113,6 @@ either_swap x y z =
     ∙ ap (λ v. made (y.text || (x.text || z.text)) (y.terminator || (x.terminator || z.terminator)) (y.lf || (x.lf || z.lf)) v (x.word || (y.word || z.word))) (or_swap x.cr y.cr z.cr)
     ∙ ap (λ v. made (y.text || (x.text || z.text)) (y.terminator || (x.terminator || z.terminator)) (y.lf || (x.lf || z.lf)) (y.cr || (x.cr || z.cr)) v) (or_swap x.word y.word z.word)
 
-false_not_true : false ≡ true → ⊥
-false_not_true e = grind arith
-
 -- the facts that an assertion of the rows reads are kept
 kept_with : (rows : List Row) (q : ℕ) (look : Look) (next : ℕ) → row_at rows q ≡ Row.Assert look next → (other : Facts) × (facts_kept rows ≡ either_of (facts_read look) other)
 unfolding facts_kept
@@ -130,9 +128,6 @@ pub kept_decide : (rows : List Row) (q : ℕ) (look : Look) (next : ℕ) → row
 kept_decide rows q look next e backward last unit =
     let h = kept_with rows q look next e in
     ap (λ x. holds_read backward look (both x last) unit) h.1 ∙ unread_facts backward look h.0 last unit
-
-equal_numbers : (x y : ℕ) → (x == y) ≡ true → x ≡ y
-equal_numbers x y e = grind arith
 
 -- what a byte is, by the start context that it gives
 byte_facts : (t b : ℕ) (lf cr terminator word : Bool) → (b == 10) ≡ lf → (b == 13) ≡ cr → (b == t) ≡ terminator → is_word b ≡ word

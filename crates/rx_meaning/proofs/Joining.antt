@@ -1,40 +1,24 @@
 -- Joined search: what the two half searches answer together is what is found.
-use Rattle.std.proofs.Common.{◌≡◌, ℕ, ◌+◌, ◌-◌, ◌<◌, ◌≤◌, ⊎_elim, true, false, ◌&&◌, ◌||◌, ◌==◌, Option, Some, None, List, length, refl, ap, sym, ◌∙◌, subst, arith}
+use Rattle.std.proofs.Common.{◌≡◌, ℕ, ◌≤◌, ⊎_elim, true, false, ◌&&◌, ◌||◌, ◌==◌, Option, Some, None, List, length, refl, ap, sym, ◌∙◌, subst, arith}
 use Rattle.std.proofs.lemmas.Bool.{and_parts, eqb-true, eq-eqb, or_cases, or_parts}
 use Rattle.std.specs.Prelude.{All, nat_le, nat_lt}
 use Rattle.std.specs.Option.{option_map}
-use Rattle.std.specs.List.{range_with_len, list_all}
+use Rattle.std.specs.List.{list_all}
 use Rattle.rx_spec.specs.Bytes.{AreBytes}
 use Rattle.rx_spec.specs.Expressions.{Expression, IsLoopSafe}
-use Rattle.rx_spec.specs.Found.{Mode, Query, Hit, is_anchored, admits, admitted, forward, first_of, candidate, found}
+use Rattle.rx_spec.specs.Found.{Mode, Query, Hit, is_anchored, admits, admitted, forward, found}
 use Rattle.rx_spec.specs.Rows.{begins_with_edge, nfa_of}
-use Rattle.rx_spec.specs.Builds.{power, build_settings}
-use Rattle.rx_spec.specs.Searches.{Half, Outcome, Verdict, half, hit_of, with_start, with_end}
+use Rattle.rx_spec.specs.Searches.{Half, Outcome, Verdict, hit_of, with_start, with_end}
 use Rattle.rx_spec.specs.Plans.{Wanted, forward_build, reverse_build, unless_faulty}
 use Rattle.rx_spec.proofs.Firsts.{by_test}
-use Rattle.rx_spec.proofs.Ranges.{range_none}
 use Rattle.rx_spec.proofs.Reaches.{reaches_sound}
 use Rattle.rx_meaning.specs.Mirrored.{back_from, MirroredSearch}
+use Rattle.rx_meaning.specs.Preference.{Preference, end_of}
 use Rattle.rx_meaning.specs.Joined.{JoinedSearch, half_of, is_always_anchored}
 use Rattle.rx_meaning.proofs.FoundLaws.{IsFound, is_found}
 use Rattle.rx_meaning.proofs.JoinedStart.{found_end, found_order, least_found, safe_at}
-use Rattle.rx_meaning.proofs.Unquit.{Begun, half_begun, forward_ended, reverse_told}
+use Rattle.rx_meaning.proofs.Unquit.{forward_ended, reverse_told}
 use Rattle.rx_meaning.proofs.Edges.{one_start, list_all_at, read_forward, begins_at_edge}
-
--- the end of a match, as a half search tells it
-abbrev pub end_of : Hit → Half
-end_of hit = record { pattern = hit.pattern; offset = hit.stop }
-
--- What the forward half search tells is the end of what is found.
-abbrev pub TellsFound : Type 0
-TellsFound = (w : Wanted) (es : List Expression) (q : Query) (h : Option Half) → All IsLoopSafe es → AreBytes q.hay → q.start ≤ q.stop → q.stop ≤ length q.hay
-    → half (power (forward_build w es)) (build_settings (forward_build w es)) false (record q { earliest = false }) ≡ Outcome.Told h
-    → h ≡ option_map end_of (found es w.terminator q)
-
-none_when_done : (es : List Expression) (t : ℕ) (q : Query) → q.stop < q.start → found es t q ≡ None
-none_when_done es t q h =
-    let e : q.stop + 1 - q.start ≡ 0 = omega arith in
-    range_none (λ p. first_of (λ k. candidate es t q p k) (range_with_len 0 (length es))) q.start (q.stop + 1 - q.start) (λ k l. absurd (omega arith))
 
 none_mapped : (o : Option Hit) → None ≡ option_map end_of o → o ≡ None
 none_mapped None e = refl
@@ -71,12 +55,9 @@ edge_found t es q hit safe within e is =
     let zero_start : hit.start ≡ 0 = begins_at_edge (forward t q.hay) m.expression hit.start hit.stop begins (omega arith) (reaches_sound (forward t q.hay) m.expression hit.start hit.stop (safe_at es hit.pattern m.expression safe m.there) (found_end es t q hit m).0) in
     omega arith
 
-module _ (tells : TellsFound) (mirrored : MirroredSearch) (w : Wanted) (es : List Expression) (q : Query) (safe : All IsLoopSafe es) (bytes : AreBytes q.hay) (within : q.stop ≤ length q.hay) where
+module _ (tells : Preference) (mirrored : MirroredSearch) (w : Wanted) (es : List Expression) (q : Query) (safe : All IsLoopSafe es) (bytes : AreBytes q.hay) (within : q.stop ≤ length q.hay) where
   told_found : (h : Option Half) → half_of (forward_build w es) false (record q { earliest = false }) ≡ Outcome.Told h → h ≡ option_map end_of (found es w.terminator q)
-  told_found h e =
-      ⊎_elim (λ (x : (q.stop < q.start) × (h ≡ None)). x.1 ∙ ap (option_map end_of) (sym (none_when_done es w.terminator q x.0)))
-      (λ (x : Begun (power (forward_build w es)) (build_settings (forward_build w es)) false (record q { earliest = false }) h). tells w es q h safe bytes x.order within e)
-      (half_begun (power (forward_build w es)) (build_settings (forward_build w es)) false (record q { earliest = false }) h e)
+  told_found h e = tells w es q safe bytes within h e
 
   -- the start that the search in reverse gives
   start_given : (hit : Hit) → q.mode ≡ Mode.No → IsFound es w.terminator q hit → half_of (forward_build w es) false (record q { earliest = false }) ≡ Outcome.Told (Some (end_of hit))
@@ -119,7 +100,7 @@ module _ (tells : TellsFound) (mirrored : MirroredSearch) (w : Wanted) (es : Lis
       ap (λ (x : Half). with_end (half_of (reverse_build w es) true) (is_always_anchored (forward_build w es)) (record q { earliest = false }) (Outcome.Told (Some x))) got.2
       ∙ joined_told got.0 is (e ∙ ap (λ (x : Half). Outcome.Told (Some x)) got.2) ∙ ap Verdict.Answer (sym got.1)
 
-pub joined_from : TellsFound → MirroredSearch → JoinedSearch
+pub joined_from : Preference → MirroredSearch → JoinedSearch
 joined_from tells mirrored w es q safe bytes within =
     let o = half_of (forward_build w es) false (record q { earliest = false }) in
     joined_by tells mirrored w es q safe bytes within o refl

@@ -1,3 +1,4 @@
+pub mod Tests
 pub mod FirstSuccess
 pub mod Firsts
 pub mod Deep
@@ -22,3 +23,4 @@ pub mod AllSteps
 pub mod MirroredWalk
 pub mod Walks
 pub mod Candidates
+pub mod ForwardHalf

@@ -1,5 +1,5 @@
 -- What the start rows of an NFA give, and how deep all its rows are.
-use Rattle.std.proofs.Common.{◌≡◌, ℕ, zero, suc, ◌+◌, ◌*◌, ◌<◌, ◌≤◌, Bool, true, false, List, [], ◌∷◌, ◌++◌, length, refl, sym, subst, arith, le_refl, length-append, ◌⊎◌, inl, inr}
+use Rattle.std.proofs.Common.{◌≡◌, ℕ, zero, suc, ◌+◌, ◌*◌, ◌≤◌, Bool, true, false, List, [], ◌∷◌, ◌++◌, length, refl, sym, subst, arith, le_refl, length-append, inl, inr}
 use Rattle.std.proofs.lemmas.Nat.{mul-le}
 use Rattle.std.specs.List.{AllByRecursion as Every, list_all}
 use Rattle.rx_spec.specs.Bytes.{all_bytes}
@@ -10,6 +10,7 @@ use Rattle.rx_spec.proofs.Rows.{rows_counted}
 use Rattle.rx_meaning.proofs.Standing.{Stands, stands-left, stands-right, stands_all, EachFrom, each-append, each-weaker, each-at}
 use Rattle.rx_meaning.proofs.Deep.{Deep, deep-more}
 use Rattle.rx_meaning.proofs.Depths.{square_le, deep_at, compile_sinks}
+use Rattle.rx_meaning.proofs.Tests.{below_or_past}
 
 -- The parts of an NFA of these expressions, as they are read: of the patterns, of the anchored start,
 -- and of the unanchored one.
@@ -32,9 +33,6 @@ row_past : (rows : List Row) (q : ℕ) → length rows ≤ q → row_at rows q �
 row_past [] q h = refl
 row_past (row ∷ rows) zero h = absurd (omega (arith, h))
 row_past (row ∷ rows) (suc q) h = row_past rows q (omega (arith, h))
-
-below_or_past : (q n : ℕ) → (q < n) ⊎ (n ≤ q)
-below_or_past q n = grind arith
 
 stands_at : (rows : List Row) (a b : ℕ) (xs : List Row) → a ≡ b → Stands rows a xs → Stands rows b xs
 stands_at rows a b xs e h = subst (λ q. Stands rows q xs) e h

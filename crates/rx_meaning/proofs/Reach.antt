@@ -53,16 +53,16 @@ module _ (rows : List Row) where
       each (q ∷ qs) = every-append (λ p. IsReady pass (row_at rows p)) (closure rows pass q) (flat_map (λ q. closure rows pass q) qs) (reach_ready pass (length rows * length rows + 1) q) (each qs)
 
 -- a test decides an assertion as it stands at a place
-abbrev pub Decides_at : Reading → ℕ → Passing → Look → Type 0
-Decides_at r i Passing.Standing look = Unit {0}
-Decides_at r i (Passing.Tested holds) look = holds look ≡ holds_at r look i
+abbrev pub DecidesAt : Reading → ℕ → Passing → Look → Type 0
+DecidesAt r i Passing.Standing look = Unit {0}
+DecidesAt r i (Passing.Tested holds) look = holds look ≡ holds_at r look i
 
 -- it does so for every assertion of the rows
 abbrev pub DecidesRows : List Row → Reading → ℕ → Passing → Type 0
-DecidesRows rows r i pass = (q : ℕ) (look : Look) (next : ℕ) → row_at rows q ≡ Row.Assert look next → Decides_at r i pass look
+DecidesRows rows r i pass = (q : ℕ) (look : Look) (next : ℕ) → row_at rows q ≡ Row.Assert look next → DecidesAt r i pass look
 
 module _ {V : Type 0} (rows : List Row) (r : Reading) (worth : Worth V) (g : ℕ → ℕ → Option V) (solves : Solves rows r worth g) where
-  met_gives : (pass : Passing) (look : Look) (next q i : ℕ) (behind : List ℕ) → Decides_at r i pass look → g q i ≡ gives r worth g (Row.Assert look next) i → first_of (λ p. g p i) behind ≡ g next i
+  met_gives : (pass : Passing) (look : Look) (next q i : ℕ) (behind : List ℕ) → DecidesAt r i pass look → g q i ≡ gives r worth g (Row.Assert look next) i → first_of (λ p. g p i) behind ≡ g next i
       → first_of (λ p. g p i) (met pass look q behind) ≡ gives r worth g (Row.Assert look next) i
   unfolding first_of
   met_gives Passing.Standing look next q i behind d e h = or_none (g q i) ∙ e

@@ -1,5 +1,5 @@
 -- What the start rows of an NFA give.
-use Rattle.std.proofs.Common.{◌≡◌, ℕ, zero, suc, ◌+◌, ◌<◌, ◌≤◌, Bool, true, false, ◌&&◌, if◌then◌else◌, Option, Some, None, List, [], ◌∷◌, length, slice_get, refl, ap, ap₂, sym, ◌∙◌, subst, unwrap_or, arith, ◌⊎◌, inl, inr}
+use Rattle.std.proofs.Common.{◌≡◌, ℕ, zero, suc, ◌+◌, ◌<◌, ◌≤◌, Bool, true, false, if◌then◌else◌, Option, Some, None, List, [], ◌∷◌, length, slice_get, refl, ap, ap₂, sym, ◌∙◌, subst, unwrap_or, arith, inl, inr}
 use Rattle.std.specs.Option.{option_or}
 use Rattle.std.specs.List.{AllByRecursion as Every, list_all, range_with_len}
 use Rattle.rx_spec.specs.Bytes.{contains, all_bytes}
@@ -12,28 +12,18 @@ use Rattle.rx_meaning.proofs.FirstSuccess.{or_none, first_of-alike}
 use Rattle.rx_meaning.proofs.Standing.{Stands, stands-left, stands-right}
 use Rattle.rx_meaning.proofs.Solution.{Worth, read_by, Solves, got_past}
 use Rattle.rx_meaning.proofs.Parts.{Means, solved_at, compile_means}
+use Rattle.rx_meaning.proofs.Tests.{and_both, equal_or_above}
 
 -- Every byte is in the set of all bytes.
 all_pass : list_all (λ b. contains all_bytes b) (range_with_len 0 256) ≡ true
 all_pass = refl
 
-and_left : (a b : Bool) → (a && b) ≡ true → a ≡ true
-and_left true b e = refl
-and_left false b e = e
-
-and_right : (a b : Bool) → (a && b) ≡ true → b ≡ true
-and_right true b e = e
-and_right false b e = absurd (grind arith)
-
-here_or_later : (a x : ℕ) → a ≤ x → (a ≡ x) ⊎ (a + 1 ≤ x)
-here_or_later a x h = grind arith
-
 passes_at : (test : ℕ → Bool) (a n : ℕ) → list_all test (range_with_len a n) ≡ true → (x : ℕ) → a ≤ x → x < a + n → test x ≡ true
 passes_at test a zero e x low high = absurd (omega (arith, low, high))
 passes_at test a (suc n) e x low high =
-    elim (here_or_later a x low) [
-      | inl same ↦ subst (λ y. test y ≡ true) same (and_left (test a) (list_all test (range_with_len (a + 1) n)) e)
-      | inr later ↦ passes_at test (a + 1) n (and_right (test a) (list_all test (range_with_len (a + 1) n)) e) x later (omega (arith, high))
+    elim (equal_or_above a x low) [
+      | inl same ↦ subst (λ y. test y ≡ true) same (and_both (test a) (list_all test (range_with_len (a + 1) n)) e).0
+      | inr later ↦ passes_at test (a + 1) n (and_both (test a) (list_all test (range_with_len (a + 1) n)) e).1 x later (omega (arith, high))
     ]
 
 pub any_byte : (b : ℕ) → b < 256 → contains all_bytes b ≡ true

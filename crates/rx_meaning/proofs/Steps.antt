@@ -1,5 +1,5 @@
 -- One step of the powerset machine, at a place of a reading.
-use Rattle.std.proofs.Common.{◌≡◌, ℕ, suc, ◌+◌, ◌*◌, ◌<◌, Bool, true, false, ◌||◌, if◌then◌else◌, Option, Some, None, List, [], ◌∷◌, ◌++◌, length, refl, ap, sym, ◌∙◌, subst, arith}
+use Rattle.std.proofs.Common.{◌≡◌, ℕ, suc, ◌+◌, ◌*◌, ◌<◌, Bool, true, false, if◌then◌else◌, Option, Some, None, List, [], ◌∷◌, ◌++◌, length, refl, ap, sym, ◌∙◌, subst, arith}
 use Rattle.std.specs.Option.{option_or}
 use Rattle.std.specs.List.{flat_map, list_any, AllByRecursion as Every}
 use Rattle.rx_spec.specs.Bytes.{contains, unit_of}
@@ -18,6 +18,7 @@ use Rattle.rx_meaning.proofs.Solution.{Worth, read_by, gives, Solves}
 use Rattle.rx_meaning.proofs.Starts.{every-got}
 use Rattle.rx_meaning.proofs.Facts.{read_decides, unit_facts_of, kept_decide}
 use Rattle.rx_meaning.proofs.Reach.{IsReady, closed_ready, DecidesRows, closed_gives}
+use Rattle.rx_meaning.proofs.Tests.{or_neither}
 
 -- what an NFA reads
 abbrev pub reading_of : Nfa → List ℕ → Reading
@@ -51,13 +52,9 @@ reach_stays rows pass n q h e =
     let above : n + 1 ≡ suc n = omega arith in
     ap (λ m. reach rows pass m q) above ∙ ready_stays rows pass (λ p. reach rows pass n p) q (row_at rows q) h e
 
-or_false : (a b : Bool) → (a || b) ≡ false → (a ≡ false) × (b ≡ false)
-or_false true b e = absurd (grind arith)
-or_false false b e = (refl, e)
-
 both_each : (P : ℕ → Type 0) (test : ℕ → Bool) (xs : List ℕ) → Every P xs → list_any test xs ≡ false → Every (λ x. P x × (test x ≡ false)) xs
 both_each P test [] h e = tt
-both_each P test (x ∷ xs) h e = let k = or_false (test x) (list_any test xs) e in ((h.0, k.0), both_each P test xs h.1 k.1)
+both_each P test (x ∷ xs) h e = let k = or_neither (test x) (list_any test xs) e in ((h.0, k.0), both_each P test xs h.1 k.1)
 
 -- A step's new state stands one place on.
 pub step_stands : (nfa : Nfa) (units : List ℕ) → Every (λ b. b < 256) units → (kind : MatchKind) (s : State) (i : ℕ) → StandsAt nfa units (step nfa kind s (unit_at units i)) (i + 1)

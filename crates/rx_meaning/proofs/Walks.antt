@@ -1,5 +1,5 @@
 -- The walk of a leftmost-first machine tells the first success of the row where it begins.
-use Rattle.std.proofs.Common.{◌≡◌, ℕ, suc, ◌+◌, ◌<◌, ◌≤◌, Bool, true, false, ◌==◌, ◌&&◌, nat_le, if◌then◌else◌, Option, Some, None, List, [], ◌∷◌, length, refl, ap, sym, ◌∙◌, subst, arith}
+use Rattle.std.proofs.Common.{◌≡◌, ℕ, ◌+◌, ◌<◌, ◌≤◌, Bool, true, false, ◌==◌, nat_le, if◌then◌else◌, Option, Some, None, List, [], ◌∷◌, length, refl, ap, sym, ◌∙◌, subst, arith}
 use Rattle.std.specs.Option.{option_or}
 use Rattle.std.specs.List.{AllByRecursion as Every}
 use Rattle.rx_spec.specs.Bytes.{contains}
@@ -16,6 +16,7 @@ use Rattle.rx_meaning.proofs.Deep.{Deep}
 use Rattle.rx_meaning.proofs.Patterns.{depth_of}
 use Rattle.rx_meaning.proofs.Solution.{Worth, Solves}
 use Rattle.rx_meaning.proofs.Steps.{reading_of, StandsAt, unit_at, step_stands, label_worth, step_gives}
+use Rattle.rx_meaning.proofs.Tests.{and_both, suc_not_zero, false_not_true}
 
 -- a leftmost-first build
 abbrev pub leftmost : Nfa → StartKind → Bool → ℕ → Build
@@ -56,16 +57,9 @@ quit_not_told byte offset h e = subst IsTold (sym e) tt
 pub refused_not_told : (mode : Mode) (h : Option Half) → Outcome.Unsupported mode ≡ Outcome.Told h → ⊥
 refused_not_told mode h e = subst IsTold (sym e) tt
 
-and_both : (a b : Bool) → (a && b) ≡ true → (a ≡ true) × (b ≡ true)
-and_both true b e = (refl, e)
-and_both false b e = absurd (grind arith)
-
-not_empty : (n : ℕ) → (suc n == 0) ≡ true → ⊥
-not_empty n e = grind arith
-
 empty_list : (xs : List ℕ) → (length xs == 0) ≡ true → xs ≡ []
 empty_list [] e = refl
-empty_list (x ∷ xs) e = absurd (not_empty (length xs) e)
+empty_list (x ∷ xs) e = absurd (false_not_true (sym (suc_not_zero (length xs)) ∙ e))
 
 pub dead_empty : (s : State) → is_dead_state s ≡ true → (s.rows ≡ []) × (s.label ≡ [])
 dead_empty s e = let h = and_both (length s.rows == 0) (length s.label == 0) e in (empty_list s.rows h.0, empty_list s.label h.1)
