@@ -24,14 +24,14 @@ none_mapped : (o : Option Hit) → None ≡ option_map end_of o → o ≡ None
 none_mapped None e = refl
 none_mapped (Some hit) e = absurd (cc)
 
-some_mapped : (end : Half) (o : Option Hit) → Some end ≡ option_map end_of o → (hit : Hit) × (o ≡ Some hit) × (end ≡ end_of hit)
+pub some_mapped : (end : Half) (o : Option Hit) → Some end ≡ option_map end_of o → (hit : Hit) × (o ≡ Some hit) × (end ≡ end_of hit)
 some_mapped end None e = absurd (cc)
 some_mapped end (Some hit) e = (hit, refl, same end (end_of hit) e)
   where
     same : (a b : Half) → Some a ≡ Some b → a ≡ b
     same a b e = cc
 
-not_anchored : (mode : Mode) → is_anchored mode ≡ false → mode ≡ Mode.No
+pub not_anchored : (mode : Mode) → is_anchored mode ≡ false → mode ≡ Mode.No
 not_anchored Mode.No e = refl
 not_anchored Mode.Yes e = absurd (cc)
 not_anchored (Mode.Only k) e = absurd (cc)

@@ -24,3 +24,6 @@ pub mod MirroredWalk
 pub mod Walks
 pub mod Candidates
 pub mod ForwardHalf
+pub mod EarlyWalk
+pub mod EarlyStart
+pub mod EarlyJoined

@@ -39,7 +39,7 @@ use Rattle.rx_meaning.proofs.AllWalk.{half_at, all_walk}
 use Rattle.rx_meaning.proofs.AllSteps.{exactly, exactly_here, exactly_other, tells, row_tells, row_solves, dead_tells, label_tells, step_tells}
 
 -- What the anchored start gives: the first pattern's worth.
-anchored_gives : {V : Type 0} (backward : Bool) (es : List Expression) → Every IsLoopSafe es → (r : Reading) (worth : Worth V) (g : ℕ → ℕ → Option V) (solves : Solves (nfa_rows backward es) r worth g) (i : ℕ) → i ≤ length r.units
+pub anchored_gives : {V : Type 0} (backward : Bool) (es : List Expression) → Every IsLoopSafe es → (r : Reading) (worth : Worth V) (g : ℕ → ℕ → Option V) (solves : Solves (nfa_rows backward es) r worth g) (i : ℕ) → i ≤ length r.units
     → g (anchored_part es).entry i ≡ first_pattern (pattern_worth (nfa_rows backward es) r worth g solves i) 0 es
 anchored_gives backward es safe r worth g solves i within =
     let rows = nfa_rows backward es in
@@ -52,7 +52,7 @@ anchored_gives backward es safe r worth g solves i within =
     ∙ entries_give rows r worth g solves i 0 ps.entries es (patterns_give rows r worth g solves es safe 0 0 (stands-left rows 0 ps.rows a.rows front) i within)
 
 -- patterns by their numbers, and by the list
-from_number : {V : Type 0} (f : ℕ → Expression → Option V) (front es : List Expression) → first_of (λ k. option_and_then (f k) (slice_get (front ++ es) k)) (range_with_len (length front) (length es)) ≡ first_pattern f (length front) es
+pub from_number : {V : Type 0} (f : ℕ → Expression → Option V) (front es : List Expression) → first_of (λ k. option_and_then (f k) (slice_get (front ++ es) k)) (range_with_len (length front) (length es)) ≡ first_pattern f (length front) es
 unfolding first_pattern
 from_number f front [] = first_of-nil (λ k. option_and_then (f k) (slice_get (front ++ []) k))
 from_number f front (e ∷ es) =
@@ -68,7 +68,7 @@ from_number f front (e ∷ es) =
     got_at [] e es = refl
     got_at (x ∷ xs) e es = got_at xs e es
 
-mapped_or : {A B : Type 0} (h : A → B) (a b : Option A) → option_map h (option_or a b) ≡ option_or (option_map h a) (option_map h b)
+pub mapped_or : {A B : Type 0} (h : A → B) (a b : Option A) → option_map h (option_or a b) ≡ option_or (option_map h a) (option_map h b)
 mapped_or h None b = refl
 mapped_or h (Some x) b = refl
 
@@ -80,14 +80,14 @@ mirrored_patterns h f f' k [] each safe = refl
 mirrored_patterns h f f' k (e ∷ es) each safe = mapped_or h (f k (mirror e)) (first_pattern f (k + 1) (map (read_as true) es)) ∙ ap₂ option_or (each k e safe.0) (mirrored_patterns h f f' (k + 1) es each safe.1)
 
 -- what is worth something at exactly one place
-exactly_among : (place k : ℕ) (xs : List ℕ) → Contains xs place → first_of (λ j. exactly place k j) xs ≡ Some k
+pub exactly_among : (place k : ℕ) (xs : List ℕ) → Contains xs place → first_of (λ j. exactly place k j) xs ≡ Some k
 exactly_among place k [] c = absurd (Contains-nil place c)
 exactly_among place k (x ∷ xs) c = by_test (x == place)
     (λ q. let same : x ≡ place = eqb-true x place q in first_of-cons (λ j. exactly place k j) x xs ∙ ap (λ o. option_or o (first_of (λ j. exactly place k j) xs)) (subst (λ y. exactly place k y ≡ Some k) (sym same) (exactly_here place k)))
     (λ q. let other : x ≡ place → ⊥ = eqb-false x place q in
     first_of-cons (λ j. exactly place k j) x xs ∙ ap₂ option_or (exactly_other place k x other) (exactly_among place k xs (⊎_elim (λ (e : x ≡ place). absurd (other e)) (λ (d : Contains xs place). d) (Contains-cases x xs place c))))
 
-exactly_missing : (place k : ℕ) (xs : List ℕ) → (Contains xs place → ⊥) → first_of (λ j. exactly place k j) xs ≡ None
+pub exactly_missing : (place k : ℕ) (xs : List ℕ) → (Contains xs place → ⊥) → first_of (λ j. exactly place k j) xs ≡ None
 exactly_missing place k [] c = first_of-nil (λ j. exactly place k j)
 exactly_missing place k (x ∷ xs) c =
     first_of-cons (λ j. exactly place k j) x xs ∙ ap₂ option_or (exactly_other place k x (λ e. c (0, omega arith, e))) (exactly_missing place k xs (λ d. c (Contains-there x xs place d)))
@@ -118,7 +118,7 @@ walk_tells nfa start_kind pattern_starts quit units bytes deep limit size inside
     ∙ or_none (first_of (λ p. option_map (half_at p) (tells nfa units bytes deep s i (size - p))) (range_with_len (size - limit) (suc n)))
 
 -- a start state gives what its row gives, and stands where the search begins
-start_tells : (nfa : Nfa) (units : List ℕ) (bytes : Every (λ b. b < 256) units) (deep : (q : ℕ) → Deep nfa.rows (depth_of nfa.rows) q) (row : ℕ) (start : Start) (i j : ℕ)
+pub start_tells : (nfa : Nfa) (units : List ℕ) (bytes : Every (λ b. b < 256) units) (deep : (q : ℕ) → Deep nfa.rows (depth_of nfa.rows) q) (row : ℕ) (start : Start) (i j : ℕ)
     → tells nfa units bytes deep (start_state nfa row start) i j ≡ row_tells nfa units bytes deep j row i
 start_tells nfa units bytes deep row start i j =
     state_gives nfa units bytes (exactly j) (row_tells nfa units bytes deep j) (row_solves nfa units bytes deep j) deep (row ∷ []) (start_facts nfa.terminator start) [] i
@@ -162,12 +162,12 @@ start_at_place t es safe q bytes start p hs hp =
     ∙ reverse_row t es safe q.hay bytes q.stop p hs hp
     ∙ sym (from_number (λ k e. if list_any (λ j. j == q.stop) (ends (forward t q.hay) e p) then Some (half_at p k) else None) [] es)
 
-context_is : (t : ℕ) (start_kind : StartKind) (pattern_starts : Option ℕ) (quit : ℕ) (byte : Option ℕ)
+pub context_is : (t : ℕ) (start_kind : StartKind) (pattern_starts : Option ℕ) (quit : ℕ) (byte : Option ℕ)
     → context_of (record { start_kind = start_kind; pattern_starts = pattern_starts; start_of_byte = start_of_byte t; quit = quit }) byte ≡ start_of t byte
 context_is t start_kind pattern_starts quit None = refl
 context_is t start_kind pattern_starts quit (Some b) = refl
 
-units_same : (t t' : ℕ) (back back' : Bool) (units : List ℕ) (n i : ℕ) → units_from (record { terminator = t; backward = back; units = units }) i n ≡ units_from (record { terminator = t'; backward = back'; units = units }) i n
+pub units_same : (t t' : ℕ) (back back' : Bool) (units : List ℕ) (n i : ℕ) → units_from (record { terminator = t; backward = back; units = units }) i n ≡ units_from (record { terminator = t'; backward = back'; units = units }) i n
 unfolding units_from
 units_same t t' back back' units zero i = refl
 units_same t t' back back' units (suc n) i = ap (λ (us : List ℕ). unit_of (after units i) ∷ us) (units_same t t' back back' units n (i + 1))
