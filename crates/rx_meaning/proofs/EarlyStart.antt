@@ -21,7 +21,7 @@ use Rattle.rx_meaning.proofs.Deep.{Deep}
 use Rattle.rx_meaning.proofs.Patterns.{depth_of, nfa_rows, pattern_part, anchored_part, unanchored_part, nfa_deep}
 use Rattle.rx_meaning.proofs.Solution.{Worth, Solves}
 use Rattle.rx_meaning.proofs.Starts.{first_pattern, pattern_worth, patterns_give, lead_gives, entry_at, EntryAt, every-got}
-use Rattle.rx_meaning.proofs.Edges.{one_start, read_forward}
+use Rattle.rx_meaning.proofs.OneStart.{one_start, read_forward}
 use Rattle.rx_meaning.proofs.JoinedStart.{any_end, end_any}
 use Rattle.rx_meaning.proofs.AllWalk.{half_at}
 use Rattle.rx_meaning.proofs.AllSteps.{exactly, row_tells, row_solves}

@@ -1,7 +1,7 @@
 -- Joined search: what the two half searches answer together is what is found.
-use Rattle.std.proofs.Common.{◌≡◌, ℕ, ◌≤◌, ⊎_elim, true, false, ◌&&◌, ◌||◌, ◌==◌, Option, Some, None, List, length, refl, ap, sym, ◌∙◌, subst, arith}
-use Rattle.std.proofs.lemmas.Bool.{and_parts, eqb-true, eq-eqb, or_cases, or_parts}
-use Rattle.std.specs.Prelude.{All, nat_le, nat_lt}
+use Rattle.std.proofs.Common.{◌≡◌, ℕ, ◌<◌, ◌≤◌, ⊎_elim, true, false, ◌&&◌, ◌||◌, ◌==◌, Option, Some, None, List, length, refl, ap, sym, ◌∙◌, subst, arith}
+use Rattle.std.proofs.lemmas.Bool.{cases_lt, and_parts, eqb-true, eq-eqb, or_cases, or_parts}
+use Rattle.std.specs.Prelude.{Contains, All, nat_le, nat_lt}
 use Rattle.std.specs.Option.{option_map}
 use Rattle.std.specs.List.{list_all}
 use Rattle.rx_spec.specs.Bytes.{AreBytes}
@@ -10,15 +10,15 @@ use Rattle.rx_spec.specs.Found.{Mode, Query, Hit, is_anchored, admits, admitted,
 use Rattle.rx_spec.specs.Rows.{begins_with_edge, nfa_of}
 use Rattle.rx_spec.specs.Searches.{Half, Outcome, Verdict, hit_of, with_start, with_end}
 use Rattle.rx_spec.specs.Plans.{Wanted, forward_build, reverse_build, unless_faulty}
-use Rattle.rx_spec.proofs.Firsts.{by_test}
-use Rattle.rx_spec.proofs.Reaches.{reaches_sound}
+use Rattle.rx_spec.proofs.Firsts.{by_test, Contains-nil}
 use Rattle.rx_meaning.specs.Mirrored.{back_from, MirroredSearch}
 use Rattle.rx_meaning.specs.Preference.{Preference, end_of}
 use Rattle.rx_meaning.specs.Joined.{JoinedSearch, half_of, is_always_anchored}
 use Rattle.rx_meaning.proofs.FoundLaws.{IsFound, is_found}
 use Rattle.rx_meaning.proofs.JoinedStart.{found_end, found_order, least_found, safe_at}
 use Rattle.rx_meaning.proofs.Unquit.{forward_ended, reverse_told}
-use Rattle.rx_meaning.proofs.Edges.{one_start, list_all_at, read_forward, begins_at_edge}
+use Rattle.rx_meaning.proofs.OneStart.{one_start, list_all_at, read_forward}
+use Rattle.rx_meaning.proofs.Edge.{edge_ends}
 
 none_mapped : (o : Option Hit) → None ≡ option_map end_of o → o ≡ None
 none_mapped None e = refl
@@ -52,8 +52,9 @@ edge_found t es q hit safe within e is =
     let begins = list_all_at (begins_with_edge false) es hit.pattern m.expression all m.there in
     let high = is.high in
     let low = is.low in
-    let zero_start : hit.start ≡ 0 = begins_at_edge (forward t q.hay) m.expression hit.start hit.stop begins (omega arith) (reaches_sound (forward t q.hay) m.expression hit.start hit.stop (safe_at es hit.pattern m.expression safe m.there) (found_end es t q hit m).0) in
-    omega arith
+    let only_there : 0 < hit.start → ⊥
+    = λ above. Contains-nil hit.stop (subst (λ xs. Contains xs hit.stop) (edge_ends (forward t q.hay) m.expression (safe_at es hit.pattern m.expression safe m.there) begins hit.start above (omega arith)) (found_end es t q hit m).0) in
+    ⊎_elim (λ (above : 0 < hit.start). absurd (only_there above)) (λ (h : hit.start ≤ 0). omega arith) (cases_lt 0 hit.start)
 
 module _ (tells : Preference) (mirrored : MirroredSearch) (w : Wanted) (es : List Expression) (q : Query) (safe : All IsLoopSafe es) (bytes : AreBytes q.hay) (within : q.stop ≤ length q.hay) where
   told_found : (h : Option Half) → half_of (forward_build w es) false (record q { earliest = false }) ≡ Outcome.Told h → h ≡ option_map end_of (found es w.terminator q)

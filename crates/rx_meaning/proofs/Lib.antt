@@ -8,7 +8,7 @@ pub mod ReadUnits
 pub mod Unquit
 pub mod Parts
 pub mod Depths
-pub mod Edges
+pub mod OneStart
 pub mod FoundLaws
 pub mod JoinedStart
 pub mod Joining
