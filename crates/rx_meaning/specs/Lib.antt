@@ -1,1 +1,3 @@
+pub mod Mirrored
+pub mod Joined
 pub mod Preference
