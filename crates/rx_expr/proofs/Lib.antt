@@ -1,3 +1,5 @@
 pub mod Literals
 pub mod Turned
 pub mod Adding
+pub mod Edges
+pub mod Starting

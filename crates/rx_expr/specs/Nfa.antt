@@ -1,5 +1,5 @@
 -- The rows of the code as those of the definitions.
-use Rattle.std.specs.Prelude.{ℕ, ◌≡◌, ◌+◌, List, ◌++◌, map, length}
+use Rattle.std.specs.Prelude.{map}
 use Rattle.rx_spec.specs.Rows.{Nfa, Part}
 use Rattle.rx_spec.specs.Rows as rows
 use Rattle.rx_base.specs.ByteSet.{set_of}
@@ -22,5 +22,5 @@ meaning nfa = record {
   backward = nfa.reverse;
   terminator = nfa.line_terminator;
   has_empty = nfa.has_empty;
-  utf8 = nfa.utf8
+  utf8 = nfa.utf8;
 }
