@@ -7,31 +7,8 @@ use Rattle.rx_spec.specs.Rows.{Row}
 use Rattle.rx_spec.specs.States.{row_at, Passing, Standing, Tested, met, reach_by, reach, closure, fresh, firsts}
 use Rattle.rx_spec.specs.Shallow.{AllBehind, Short, IsShallow}
 use Rattle.rx_spec.specs.declared.Look.{Look}
+use Rattle.rx_powerset.specs.Closing.{own_met, own_by, ways_met, ways_by}
 use Rattle.rx_powerset.proofs.Search.{Graph}
-
--- what a row lists of itself
-abbrev pub own_met : Passing → ℕ → List ℕ
-own_met Standing q = q ∷ []
-own_met (Tested holds) q = []
-
-abbrev pub own_by : Passing → ℕ → Row → List ℕ
-own_by pass q (Row.Bytes set next) = q ∷ []
-own_by pass q (Row.Split first second) = []
-own_by pass q (Row.Assert look next) = own_met pass q
-own_by pass q (Row.Accept pattern) = q ∷ []
-own_by pass q Row.Fail = []
-
--- the rows behind it that it gives way to
-abbrev pub ways_met : Passing → Look → ℕ → List ℕ
-ways_met Standing look next = []
-ways_met (Tested holds) look next = if holds look then next ∷ [] else []
-
-abbrev pub ways_by : Passing → Row → List ℕ
-ways_by pass (Row.Bytes set next) = []
-ways_by pass (Row.Split first second) = first ∷ second ∷ []
-ways_by pass (Row.Assert look next) = ways_met pass look next
-ways_by pass (Row.Accept pattern) = []
-ways_by pass Row.Fail = []
 
 reach_parts : (pass : Passing) (behind : ℕ → List ℕ) (q : ℕ) (row : Row) → reach_by pass behind q row ≡ own_by pass q row ++ flat_map behind (ways_by pass row)
 reach_parts pass behind q (Row.Bytes set next) = refl
@@ -158,5 +135,5 @@ graph_of rows pass s = record {
   weight = λ q. weight_of rows q;
   own_is = λ q. own_either pass q (row_at rows q);
   unfolds = closure_unfolds rows pass s;
-  falls = closure_falls rows pass s
+  falls = closure_falls rows pass s;
 }

@@ -109,7 +109,7 @@ module _ (g : Graph) where
   search_begins qs seen none = record {
     whole = refl;
     noted = λ x h. absurd (in_nil x h);
-    listed = λ p h. absurd (clash p h)
+    listed = λ p h. absurd (clash p h);
   }
     where
       clash : (p : ℕ) → seen p ≡ true → ⊥
@@ -140,18 +140,18 @@ module _ (g : Graph) where
         below = ways ++ rest;
         split = refl;
         lighter = tt;
-        given = λ x h. ⊎_elim (λ a. inl (in_left out more x a)) (λ b. absurd (in_nil x b)) (given x h)
+        given = λ x h. ⊎_elim (λ a. inl (in_left out more x a)) (λ b. absurd (in_nil x b)) (given x h);
       }
       go (a ∷ above) below split lighter given =
-        let same : q ≡ a = cc in
-        let others : rest ≡ above ++ below = cc in
-        record {
-          above = ways ++ above;
-          below = below;
-          split = ap (λ l. ways ++ l) others ∙ sym (append_assoc ways above below);
-          lighter = every-append (λ b. g.weight b < g.weight p) ways above (every-weaker (λ b. g.weight b < g.weight q) (λ b. g.weight b < g.weight p) ways (λ b k. below_both b same k lighter.0) light) lighter.1;
-          given = λ x h. ⊎_elim (λ k. inl (in_left out more x k)) (λ k. spread x above a same k) (given x h)
-        }
+          let same : q ≡ a = cc in
+          let others : rest ≡ above ++ below = cc in
+          record {
+            above = ways ++ above;
+            below = below;
+            split = ap (λ l. ways ++ l) others ∙ sym (append_assoc ways above below);
+            lighter = every-append (λ b. g.weight b < g.weight p) ways above (every-weaker (λ b. g.weight b < g.weight q) (λ b. g.weight b < g.weight p) ways (λ b k. below_both b same k lighter.0) light) lighter.1;
+            given = λ x h. ⊎_elim (λ k. inl (in_left out more x k)) (λ k. spread x above a same k) (given x h);
+          }
         where
           below_both : (b : ℕ) → q ≡ a → g.weight b < g.weight q → g.weight a < g.weight p → g.weight b < g.weight p
           below_both b e k m = let same : g.weight q ≡ g.weight a = ap g.weight e in omega arith
@@ -172,7 +172,7 @@ module _ (g : Graph) where
       record {
         whole = ap (λ l. out ++ l) (sym (fresh_skips out (g.gives q) (flat_map g.gives rest) listed_q)) ∙ s.whole;
         noted = s.noted;
-        listed = λ p h. no_more out rest p (turned out [] rest [] p q (λ x k. inl (in_left out [] x (listed_q x k))) tt (s.listed p h))
+        listed = λ p h. no_more out rest p (turned out [] rest [] p q (λ x k. inl (in_left out [] x (listed_q x k))) tt (s.listed p h));
       }
 
   -- the row in front is listed, and gives way to where it leads
@@ -203,7 +203,7 @@ module _ (g : Graph) where
       record {
         whole = sym (whole_turned out rest q (λ h. let old : seen q ≡ true = s.noted q h in cc)) ∙ s.whole;
         noted = λ x h. ⊎_elim (λ o. stays x (s.noted x o)) (λ o. subst (λ v. then v ≡ true) (sym (own_self q x o)) now) (in_split out (g.own q) x h);
-        listed = λ p h. ⊎_elim (λ e. subst (Listed (out ++ g.own q) (g.branches q ++ rest)) (sym e) (here light)) (λ o. turned out (g.own q) rest (g.branches q) p q from light (s.listed p o)) (only p h)
+        listed = λ p h. ⊎_elim (λ e. subst (Listed (out ++ g.own q) (g.branches q ++ rest)) (sym e) (here light)) (λ o. turned out (g.own q) rest (g.branches q) p q from light (s.listed p o)) (only p h);
       }
     where
       from : (x : ℕ) → In (g.gives q) x → In (out ++ g.own q) x ⊎ In (flat_map g.gives (g.branches q)) x
@@ -218,3 +218,7 @@ module _ (g : Graph) where
 
   pub turns_falls : (rest : List ℕ) (q : ℕ) → sum_by g.weight (g.branches q ++ rest) < sum_by g.weight (q ∷ rest)
   turns_falls rest q = let c : sum_by g.weight (q ∷ rest) ≡ g.weight q + sum_by g.weight rest = sum_by-cons g.weight q rest in let f : sum_by g.weight (g.branches q) < g.weight q = g.falls q in let e : sum_by g.weight (g.branches q ++ rest) ≡ sum_by g.weight (g.branches q) + sum_by g.weight rest = sum_by-append g.weight (g.branches q) rest in omega arith
+
+  -- The same flags, kept in another way.
+  pub search_renamed : (target : List ℕ) (seen then : ℕ → Bool) (out waiting : List ℕ) → ((x : ℕ) → seen x ≡ true → then x ≡ true) → ((x : ℕ) → then x ≡ true → seen x ≡ true) → Searching target seen out waiting → Searching target then out waiting
+  search_renamed target seen then out waiting stays only s = record { whole = s.whole; noted = λ x h. stays x (s.noted x h); listed = λ p h. s.listed p (only p h) }
