@@ -3,3 +3,4 @@ pub mod Turned
 pub mod Adding
 pub mod Edges
 pub mod Starting
+pub mod Asked

@@ -5,12 +5,12 @@ ghost use Rattle.rx_spec.specs.Expressions.{IsLoopSafe};
 ghost use Rattle.rx_expr.specs.Compiles.{wanted_nfa, Refuses, Fits};
 ghost use Rattle.rx_expr.specs.Compiler.{asked_by};
 ghost use Rattle.rx_expr.specs.Settings.{asked, overwritten};
-ghost use Rattle.rx_expr.specs.Nfa.{meaning};
+ghost use Rattle.rx_expr.specs.Nfa.{meaning, KeepsAsked};
 
 use super::build_error::BuildError;
 use super::config::Config;
 use super::edge::all_begin_with_edge;
-use super::nfa::NFA;
+use super::nfa::{NFA, asked_facts};
 use super::starts::{
     add_patterns, any_empty, join_starts, lead_in_rows, learn_safe, patterns_len, starts_len,
 };
@@ -56,6 +56,7 @@ impl Compiler {
     /// What is refused by its numbers is refused before any memory is taken.
     pub fn build_many(&self, alloc: Global, exprs: &[Expr]) -> Result<NFA, BuildError>
         ensures ok { IfOk result (λ nfa. meaning nfa ≡ wanted_nfa (asked_by self.now) exprs.now) }
+        ensures asked { IfOk result (λ nfa. KeepsAsked nfa) }
         ensures fits { OnOk result (Fits (asked_by self.now) exprs.now) }
         ensures err { IfErr result (Refuses (asked_by self.now) exprs.now) }
         // Each repetition in an expression is bounded.
@@ -85,7 +86,8 @@ impl Compiler {
 
     fn build(&self, alloc: Global, exprs: &[Expr]) -> Result<NFA, AllocError>
         requires { Fits (asked_by self.now) exprs.now }
-        ensures { IfOk result (λ nfa. meaning nfa ≡ wanted_nfa (asked_by self.now) exprs.now) }
+        ensures rows { IfOk result (λ nfa. meaning nfa ≡ wanted_nfa (asked_by self.now) exprs.now) }
+        ensures asked { IfOk result (λ nfa. KeepsAsked nfa) }
     {
         let reverse = self.config.get_reverse();
         let mut rows = Vec::new(alloc);
@@ -97,6 +99,7 @@ impl Compiler {
             all_begin_with_edge(exprs, reverse),
             start_anchored,
         )?;
+        let asked = asked_facts(&rows);
         Ok(NFA {
             rows,
             start_anchored,
@@ -106,6 +109,7 @@ impl Compiler {
             line_terminator: self.config.get_line_terminator(),
             has_empty: any_empty(exprs),
             utf8: self.config.get_utf8(),
+            asked,
         })
     }
 }

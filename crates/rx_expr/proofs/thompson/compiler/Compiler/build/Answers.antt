@@ -27,8 +27,8 @@ lead_in_rows-requires c =
     let leads : lead_count c.all_begin_with_edge.result ≡ lead_count (all_at_edge a.reverse c.args.exprs.now) = ap lead_count (c.all_begin_with_edge.ensures ∙ ap (λ r. all_at_edge r c.args.exprs.now) c.get_reverse-reverse.ensures) in
     omega (arith, length-nfa a.reverse a.terminator a.utf8 c.args.exprs.now, c.requires.states, room.0)
 
-pub returns : goal.returns
-returns c =
+pub returns-clause-rows : goal.returns-clause-rows
+returns-clause-rows c =
     let a = settled (asked_by c.args.self.now) in
     let joins = subst (λ (xs : List ℕ). Adds c.add_patterns.new.rows.items c.join_starts.new.rows.items c.in_ok-start_anchored.start_anchored (joined (length c.add_patterns.new.rows.items) xs)) c.deref.ensures.value c.in_ok-start_anchored.ensures in
     nfa_made c.get_reverse-reverse.result c.get_line_terminator.result c.get_utf8.result c.args.exprs.now c.add_patterns.new.rows.items c.join_starts.new.rows.items c.lead_in_rows.new.rows.items c.add_patterns.new.starts.items c.in_ok-start_anchored.start_anchored c.in_ok-start_unanchored.start_unanchored c.all_begin_with_edge.result c.any_empty.result
