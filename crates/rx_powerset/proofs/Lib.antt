@@ -3,3 +3,4 @@ pub mod Closing
 pub mod Turns
 pub mod Gathered
 pub mod Stepped
+pub mod Few

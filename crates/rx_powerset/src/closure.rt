@@ -1,6 +1,6 @@
 //! The rows that are reached without reading a byte.
 
-ghost use Rattle.std.specs.Prelude.{◌≡◌, ◌++◌, reverse, OnOk, IfOk};
+ghost use Rattle.std.specs.Prelude.{◌≡◌, ◌++◌, ◌<◌, ◌≤◌, length, reverse, OnOk, IfOk};
 ghost use Rattle.std.specs.List.{flat_map};
 ghost use Rattle.rx_spec.specs.Contexts.{holds_read};
 ghost use Rattle.rx_spec.specs.States.{row_at, closure, firsts};
@@ -28,7 +28,8 @@ pub(crate) enum Passing {
 /// The row of a number; past the end, one that goes on nowhere.
 #[inline]
 pub(crate) fn row_at(nfa: &NFA, id: StateID) -> Row
-    ensures { row_of result ≡ row_at (meaning nfa.now).rows id }
+    ensures row { row_of result ≡ row_at (meaning nfa.now).rows id }
+    ensures bound { id < StateID.LIMIT }
 {
     match nfa.rows().get(id.as_usize()) {
         Some(row) => *row,
@@ -56,7 +57,8 @@ pub(crate) fn closed(
     passing: &Passing,
 ) -> Result<Vec<StateID>, AllocError>
     requires { IsSound nfa.now }
-    ensures { IfOk result (λ v. v.items ≡ firsts (flat_map (λ q. closure (meaning nfa.now).rows (passing_of passing.now) q) from.now)) }
+    ensures rows { IfOk result (λ v. v.items ≡ firsts (flat_map (λ q. closure (meaning nfa.now).rows (passing_of passing.now) q) from.now)) }
+    ensures bound { IfOk result (λ v. length v.items ≤ StateID.LIMIT) }
 {
     let mut seen = BTreeSet::new(alloc);
     let mut found = Vec::new(alloc);
@@ -78,6 +80,7 @@ fn visit(
     found: &mut Vec<StateID>,
     waiting: &mut Vec<StateID>,
 ) -> Result<(), AllocError>
+    ensures bound { id < StateID.LIMIT }
     ensures found { OnOk result (found.new.items ≡ found.old.items ++ own_by (passing_of passing.now) id (row_at (meaning nfa.now).rows id)) }
     ensures waiting { OnOk result (reverse waiting.new.items ≡ ways_by (passing_of passing.now) (row_at (meaning nfa.now).rows id) ++ reverse waiting.old.items) }
 {

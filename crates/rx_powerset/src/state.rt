@@ -1,6 +1,6 @@
 //! Powerset states.
 
-ghost use Rattle.std.specs.Prelude.{◌≡◌, ◌++◌, ◌<◌, IfOk, OnOk, length, slice_index};
+ghost use Rattle.std.specs.Prelude.{◌≡◌, ◌++◌, ◌<◌, ◌≤◌, IfOk, OnOk, length, slice_index};
 ghost use Rattle.std.specs.List.{flat_map, list_any};
 ghost use Rattle.rx_spec.specs.States.{dead_state, start_state, step, state_at, row_at, cut, to_first_match, is_assert, is_accept, pattern_of, target};
 ghost use Rattle.rx_spec.specs.Sizes.{state_size};
@@ -8,7 +8,6 @@ ghost use Rattle.rx_spec.specs.Bytes.{contains};
 ghost use Rattle.rx_base.specs.ByteSet.{set_of};
 ghost use Rattle.rx_base.specs.Unit.{unit_number};
 ghost use Rattle.rx_expr.specs.Nfa.{meaning, IsSound};
-ghost use Rattle.rx_powerset.specs.PowerState.{state_of};
 
 use crate::closure::{Passing, closed, row_at};
 use rx_base::{ByteSet, Facts, MatchKind, PatternID, Start, StateID, Unit};
@@ -24,9 +23,13 @@ pub struct PowerState {
     context: Facts,
     /// The patterns that matched before that unit, the preferred first.
     label: Vec<PatternID>,
+    ghost few_rows: { length rows.items ≤ 2147483647 },
+    ghost few_patterns: { length label.items ≤ 2147483647 },
 }
 
 impl PowerState {
+    ghost use Rattle.rx_powerset.specs.PowerState.{state_of};
+
     /// The state in which nothing goes on and nothing matched.
     pub fn dead(alloc: Global) -> PowerState
         ensures { state_of result ≡ dead_state }
@@ -87,7 +90,8 @@ impl PowerState {
         known: Facts,
         label: Vec<PatternID>,
     ) -> Result<PowerState, AllocError>
-        requires { IsSound nfa.now }
+        requires sound { IsSound nfa.now }
+        requires few { length label.items ≤ 2147483647 }
         ensures { IfOk result (λ s. state_of s ≡ state_at (meaning nfa.now) from.now known label.items) }
     {
         let rows = closed(alloc, nfa, from, &Passing::Standing)?;
@@ -101,6 +105,14 @@ impl PowerState {
             context,
             label,
         })
+    }
+
+    /// The bytes that the state counts for where a limit is set on the states of a construction: 8,
+    /// and 4 for each row and each pattern.
+    pub fn size(&self) -> u64
+        ensures { result ≡ state_size (state_of self.now) }
+    {
+        8 + 4 * self.rows.len() as u64 + 4 * self.label.len() as u64
     }
 
     /// How many patterns matched.
