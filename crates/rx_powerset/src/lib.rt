@@ -11,6 +11,7 @@
 #![tactic(auto)]
 
 mod closure;
+pub mod laws;
 mod state;
 
 pub use state::PowerState;
