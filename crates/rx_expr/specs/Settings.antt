@@ -1,5 +1,5 @@
 -- Settings of Thompson's construction.
-use Rattle.std.specs.Prelude.{ℕ, Bool, true, false, Option, Some, None, unwrap_or}
+use Rattle.std.specs.Prelude.{ℕ, Bool, true, false, Option, None, unwrap_or}
 use Rattle.std.specs.Option.{option_or}
 use Rattle.rx_expr.specs.declared.thompson.config.Config.{Config}
 
