@@ -4,3 +4,5 @@ pub mod ExprFalls
 pub mod ExprError
 pub mod Settings
 pub mod Nfa
+pub mod Compiles
+pub mod Compiler

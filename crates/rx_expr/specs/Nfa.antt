@@ -27,8 +27,12 @@ meaning nfa = record {
   utf8 = nfa.utf8;
 }
 
+-- The facts that are kept beside the rows are those that some assertion of them asks for.
+abbrev pub KeepsAsked : NFA → Type 0
+KeepsAsked nfa = nfa.asked ≡ facts_kept (meaning nfa).rows
+
 -- What a step over an NFA stands on: no path that reads nothing goes round, and the facts that are
 -- kept beside the rows are those that some assertion of them asks for.
 pub record IsSound (nfa : NFA) : Type 0 where
   pub shallow : IsShallow (meaning nfa).rows
-  pub asked : nfa.asked ≡ facts_kept (meaning nfa).rows
+  pub asked : KeepsAsked nfa

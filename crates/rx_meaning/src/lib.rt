@@ -3,8 +3,13 @@
 //! No function here computes anything: each has an empty body, and its contract is the theorem. The
 //! theorems are about the powerset machines of lists of expressions, before any table, class or id is
 //! made of them, so whatever gives the labels of such a machine inherits them. Start with
-//! [`preference`].
+//! [`preference`]: what a search forward finds. [`mirrored`] says what a search in reverse finds, and
+//! [`joined`] that the two together find the match.
 #![tactic(auto)]
+
+pub mod joined;
+pub mod mirrored;
+pub mod shallow;
 
 ghost use Rattle.rx_meaning.specs.Preference.{Preference};
 
