@@ -13,5 +13,7 @@
 mod closure;
 pub mod laws;
 mod state;
+#[cfg(test)]
+mod tests;
 
 pub use state::PowerState;
