@@ -1,5 +1,5 @@
 -- The facts that some of a list of rows ask for, gathered one row after another.
-use Rattle.std.proofs.Common.{◌≡◌, ℕ, suc, ◌+◌, ◌<◌, ◌≤◌, Bool, true, false, ◌||◌, List, [], ◌∷◌, length, refl, ap, ap₂, sym, ◌∙◌, get_or, drop, drop-cons, add-one, map}
+use Rattle.std.proofs.Common.{◌≡◌, ℕ, ◌+◌, ◌<◌, ◌≤◌, Bool, true, false, ◌||◌, List, [], ◌∷◌, length, refl, ap, sym, ◌∙◌, get_or, drop, drop-cons, add-one, map}
 use Rattle.std.proofs.Math.ListN.{drop_of_length-le}
 use Rattle.rx_spec.specs.Contexts.{Facts, either_of, row_reads, facts_kept, no_facts}
 use Rattle.rx_expr.specs.Nfa.{row_of}

@@ -1,5 +1,5 @@
 -- The rows of the code as those of the definitions.
-use Rattle.std.specs.Prelude.{ℕ, ◌≡◌, ◌+◌, List, ◌++◌, map, length}
+use Rattle.std.specs.Prelude.{◌≡◌, map}
 use Rattle.rx_spec.specs.Contexts.{facts_kept}
 use Rattle.rx_spec.specs.Rows.{Nfa, Part}
 use Rattle.rx_spec.specs.Shallow.{IsShallow}

@@ -1,13 +1,12 @@
 -- The closure of a row, where no path that reads nothing goes round: what the row is of itself, and
 -- the closures of those behind it.
-use Rattle.std.proofs.Common.{◌≡◌, ℕ, zero, suc, ◌+◌, ◌*◌, ◌<◌, ◌≤◌, ◌⊎◌, inl, inr, Bool, true, false, if◌then◌else◌, List, [], ◌∷◌, ◌++◌, length, sum_by, refl, ap, ap₂, sym, ◌∙◌, subst, arith, append-nil, add-one}
+use Rattle.std.proofs.Common.{◌≡◌, ℕ, zero, suc, ◌+◌, ◌*◌, ◌<◌, ◌⊎◌, inl, inr, true, false, if◌then◌else◌, List, [], ◌∷◌, ◌++◌, length, sum_by, refl, ap, ap₂, sym, ◌∙◌, subst, arith, append-nil}
 use Rattle.std.specs.List.{flat_map}
 use Rattle.std.proofs.lemmas.List.Sums.{sum_by-cons}
 use Rattle.rx_spec.specs.Rows.{Row}
-use Rattle.rx_spec.specs.States.{row_at, Passing, Standing, Tested, met, reach_by, reach, closure, fresh, firsts}
+use Rattle.rx_spec.specs.States.{row_at, Passing, Standing, Tested, reach_by, reach, closure}
 use Rattle.rx_spec.specs.Shallow.{AllBehind, Short, IsShallow}
-use Rattle.rx_spec.specs.declared.Look.{Look}
-use Rattle.rx_powerset.specs.Closing.{own_met, own_by, ways_met, ways_by}
+use Rattle.rx_powerset.specs.Closing.{own_by, ways_by}
 use Rattle.rx_powerset.proofs.Search.{Graph}
 
 reach_parts : (pass : Passing) (behind : ℕ → List ℕ) (q : ℕ) (row : Row) → reach_by pass behind q row ≡ own_by pass q row ++ flat_map behind (ways_by pass row)

@@ -1,12 +1,11 @@
 -- How many rows and patterns a state can have.
-use Rattle.std.proofs.Common.{◌≡◌, ℕ, suc, ◌+◌, ◌<◌, ◌≤◌, ◌==◌, ◌⊎◌, Bool, true, false, if◌then◌else◌, Result, Ok, Err, IfOk, List, [], ◌∷◌, ◌++◌, length, refl, ap, sym, ◌∙◌, subst, arith, ⊎_elim, length-append}
+use Rattle.std.proofs.Common.{◌≡◌, ℕ, suc, ◌+◌, ◌<◌, ◌≤◌, ◌==◌, ◌⊎◌, true, false, if◌then◌else◌, List, [], ◌∷◌, ◌++◌, length, ap, sym, subst, arith, ⊎_elim, length-append}
 use Rattle.std.proofs.lemmas.Bool.{eqb-true, false_from_ne_true}
-use Rattle.std.proofs.lemmas.Map.Keys.{IsDistinct-cons}
 use Rattle.std.proofs.lemmas.Map.Steps.{length-le_from_distinct_below}
 use Rattle.std.specs.List.{flat_map, IsDistinct, AllByRecursion as Every}
 use Rattle.std.specs.Prelude.{Contains}
 use Rattle.rx_spec.specs.Rows.{Row}
-use Rattle.rx_spec.specs.States.{row_at, is_accept, to_first_match, cut, pattern_of, fresh, firsts}
+use Rattle.rx_spec.specs.States.{row_at, is_accept, to_first_match, cut, pattern_of, firsts}
 use Rattle.rx_spec.specs.declared.MatchKind.{MatchKind}
 use Rattle.rx_spec.proofs.Every.{every-append}
 use Rattle.rx_spec.proofs.Firsts.{Contains-here, Contains-there, Apart, Apart-fresh}

@@ -4,3 +4,4 @@ pub mod Turns
 pub mod Gathered
 pub mod Stepped
 pub mod Few
+pub mod Compared

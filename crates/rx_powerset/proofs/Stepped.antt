@@ -1,5 +1,5 @@
 -- The parts of a step, put together.
-use Rattle.std.proofs.Common.{◌≡◌, ℕ, Bool, List, Result, Ok, Err, IfOk, refl, ap, sym, ◌∙◌}
+use Rattle.std.proofs.Common.{◌≡◌, ℕ, Bool, List, Result, Ok, Err, IfOk, ap, ◌∙◌}
 use Rattle.std.specs.List.{flat_map}
 use Rattle.rx_spec.specs.Contexts.{Facts, unit_facts, holds_read}
 use Rattle.rx_spec.specs.Rows.{Nfa}

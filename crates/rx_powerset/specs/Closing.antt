@@ -1,5 +1,5 @@
 -- One row of a search for what is reached without reading a byte.
-use Rattle.std.specs.Prelude.{ℕ, Bool, if◌then◌else◌, List, [], ◌∷◌}
+use Rattle.std.specs.Prelude.{ℕ, if◌then◌else◌, List, [], ◌∷◌}
 use Rattle.rx_spec.specs.Contexts.{holds_read}
 use Rattle.rx_spec.specs.Rows.{Row}
 use Rattle.rx_spec.specs.States as states

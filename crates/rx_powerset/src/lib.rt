@@ -11,6 +11,9 @@
 #![tactic(auto)]
 
 mod closure;
+pub mod laws;
 mod state;
+#[cfg(test)]
+mod tests;
 
 pub use state::PowerState;

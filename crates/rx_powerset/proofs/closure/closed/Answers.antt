@@ -1,6 +1,6 @@
-use Rattle.std.proofs.Common.{ℕ, List, []}
+use Rattle.std.proofs.Common.{[]}
 use Rattle.std.specs.List.{flat_map}
-use Rattle.rx_spec.specs.States.{row_at, closure, firsts}
+use Rattle.rx_spec.specs.States.{row_at, closure}
 use Rattle.rx_expr.specs.Nfa.{meaning}
 use Rattle.rx_powerset.specs.Closing.{passing_of}
 use Rattle.rx_powerset.proofs.Closing.{graph_of, own_either}

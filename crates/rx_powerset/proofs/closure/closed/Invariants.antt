@@ -1,4 +1,4 @@
-use Rattle.std.proofs.Common.{ℕ, ◌<◌, reverse, sum_by}
+use Rattle.std.proofs.Common.{◌<◌, reverse, sum_by}
 use Rattle.std.specs.BTreeSet.{contains}
 use Rattle.std.specs.List.{flat_map, AllByRecursion as Every}
 use Rattle.std.specs.Ordering.{nat_cmp}

@@ -1,4 +1,4 @@
-use Rattle.std.proofs.Common.{ℕ, List, ap, sym, ◌∙◌}
+use Rattle.std.proofs.Common.{ℕ, List, ap, ◌∙◌}
 use Rattle.rx_spec.specs.Contexts.{unit_facts}
 use Rattle.rx_spec.specs.States.{state_at, step, cut}
 use Rattle.rx_base.specs.Unit.{unit_number}
