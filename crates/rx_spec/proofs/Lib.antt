@@ -10,3 +10,7 @@ pub mod Asserting
 pub mod Every
 pub mod Ends
 pub mod Rows
+pub mod FoundLaws
+pub mod FoundWords
+pub mod RowsLaws
+pub mod StatesLaws

@@ -13,3 +13,8 @@ pub mod Tables
 pub mod Searches
 pub mod Sizes
 pub mod Plans
+pub mod Matching
+pub mod EndsLaws
+pub mod RowsLaws
+pub mod FoundLaws
+pub mod StatesLaws
