@@ -1,5 +1,6 @@
 pub mod Computing
-pub mod Worked
+pub mod Reached
+pub mod Letter
 pub mod Facts
 pub mod Firsts
 pub mod Dead

@@ -18,3 +18,4 @@ pub mod EndsLaws
 pub mod RowsLaws
 pub mod FoundLaws
 pub mod StatesLaws
+pub mod Examples

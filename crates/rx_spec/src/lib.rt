@@ -5,10 +5,11 @@
 //! bytes, assertions, expressions and their ends, what a search finds, the rows of an NFA, powerset
 //! states and their steps, tables, searches over tables. No function of this crate has a loop.
 //!
-//! The functions in [`laws`] have empty bodies: each carries, as its contract, a fact that a reader
-//! of the definitions expects of them.
+//! The functions in [`laws`] and [`examples`] have empty bodies: each carries, as its contract, facts
+//! that a reader of the definitions expects of them, or questions that they answer by computing.
 #![tactic(auto)]
 
+pub mod examples;
 pub mod laws;
 
 /// An assertion: a test of the two bytes beside a place of the haystack. It reads no byte.
