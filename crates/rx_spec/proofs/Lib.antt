@@ -1,6 +1,7 @@
 pub mod Computing
 pub mod Reached
 pub mod Letter
+pub mod Everywhere
 pub mod Facts
 pub mod Firsts
 pub mod Dead

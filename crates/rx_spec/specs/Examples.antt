@@ -3,16 +3,16 @@ use Rattle.std.specs.Prelude.{◌≡◌, ℕ, ◌+◌, Bool, true, false, ◌==�
 use Rattle.std.specs.List.{range_with_len}
 use Rattle.rx_spec.specs.Bytes.{only, between, all_bytes, eoi}
 use Rattle.rx_spec.specs.Looks.{holds_at}
-use Rattle.rx_spec.specs.Expressions.{Expression, min_len, depth, mirror}
+use Rattle.rx_spec.specs.Expressions.{Expression, min_len, depth, mirror, IsLoopSafe}
 use Rattle.rx_spec.specs.Ends.{ends}
-use Rattle.rx_spec.specs.Found.{Mode, Query, Hit, forward, backward, found}
+use Rattle.rx_spec.specs.Found.{Mode, Query, IsFit, Hit, forward, backward, found}
 use Rattle.rx_spec.specs.Rows.{Row, Nfa, nfa_of, rows_count, is_always_anchored, always_match, never_match}
-use Rattle.rx_spec.specs.Contexts.{no_facts, facts_kept, start_of, start_of_byte}
+use Rattle.rx_spec.specs.Contexts.{no_facts, facts_kept, start_of, start_of_byte, start_facts, all_starts}
 use Rattle.rx_spec.specs.Classes.{class_of, alphabet_len, stride2_of, quit_set}
 use Rattle.rx_spec.specs.States.{State}
 use Rattle.rx_spec.specs.Machines.{Label}
 use Rattle.rx_spec.specs.Builds.{Build, power, build_settings, node_label, node_after, AreReached}
-use Rattle.rx_spec.specs.Tables.{Table, row_after}
+use Rattle.rx_spec.specs.Tables.{Table, IsTable, row_after, Gives}
 use Rattle.rx_spec.specs.Searches.{Half, Outcome, Item, Ending, Tale, Verdict, Matches, half, told, is_split, half_unsplit, told_unsplit, joined_search, join, iterate}
 use Rattle.rx_spec.specs.Sizes.{nfa_size, state_size, determinizer_size, label_total, table_size}
 use Rattle.rx_spec.specs.Plans.{Wanted, forward_build, reverse_build, outcome}
@@ -372,6 +372,11 @@ QuitBytes = (quit_set (forward_build unicode_words (number ∷ [])).nfa (only 12
 abbrev pub StartContexts : Type 0
 StartContexts = map (start_of 59) (Some 10 ∷ Some 13 ∷ Some 97 ∷ Some 32 ∷ None ∷ Some 59 ∷ []) ≡ Start.LineLF ∷ Start.LineCR ∷ Start.WordByte ∷ Start.NonWordByte ∷ Start.Text ∷ Start.CustomLineTerminator ∷ []
 
+-- what each context knows, where a line ends in a letter: only its own context and that of letters are
+-- of word bytes
+abbrev pub StartWords : Type 0
+StartWords = map (λ start. (start_facts 97 start).word) all_starts ≡ false ∷ true ∷ false ∷ false ∷ false ∷ true ∷ []
+
 -- a\b keeps of the unit read last whether it is a word byte, and nothing else
 abbrev pub FactsOfWords : Type 0
 FactsOfWords = facts_kept (nfa_of false 10 false (word_a ∷ [])).rows ≡ record no_facts { word = true }
@@ -407,6 +412,13 @@ everywhere utf8 = record {
 
 abbrev pub EverywhereReads : Type 0
 EverywhereReads = (row_after (everywhere true) Mode.No Start.Text (97 ∷ []) ≡ 3) × (row_after (everywhere true) Mode.No Start.Text (97 ∷ 97 ∷ []) ≡ 0)
+
+-- it is a table, and gives the labels of the empty expression's machine
+abbrev pub EverywhereIsTable : Type 0
+EverywhereIsTable = IsTable (everywhere true)
+
+abbrev pub EverywhereGives : Type 0
+EverywhereGives = Gives (everywhere true) (forward_build plain (Expression.Empty ∷ []))
 
 -- a snowman, a character of three bytes
 abbrev pub snowman : List ℕ
@@ -489,6 +501,20 @@ many e = Expression.Repeat 65536 (Some 65536) true e
 
 abbrev pub NumbersOfMany : Type 0
 NumbersOfMany = (rows_count (many (many (byte 97))) ≡ 4294967296) × (min_len (many (many (byte 97))) ≡ 4294967296) × (depth (many (many (byte 97))) ≡ 3)
+
+-- a+ is safe to repeat without an end, a body that may read nothing isn't
+abbrev pub SafeLoop : Type 0
+SafeLoop = IsLoopSafe (one_or_more true (byte 97))
+
+abbrev pub UnsafeLoop : Type 0
+UnsafeLoop = IsLoopSafe (one_or_more true (Expression.Assert Look.Start)) → ⊥
+
+-- a span may begin one past its end, and no further
+abbrev pub FitSpan : Type 0
+FitSpan = IsFit (ask Mode.No [] 1 0)
+
+abbrev pub UnfitSpan : Type 0
+UnfitSpan = IsFit (ask Mode.No [] 2 0) → ⊥
 
 -- the mirror of abc
 abbrev pub MirrorOfText : Type 0

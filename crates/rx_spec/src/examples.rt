@@ -3,7 +3,100 @@
 //! Each function has an empty body, and each of its clauses is an example, which is proved by computing
 //! it. They are spelled out in `specs/Examples.antt`, each with the pattern in the usual notation.
 
-ghost use Rattle.rx_spec.specs.Examples.{AlphabetOfBytes, AlphabetOfLines, AlphabetOfRange, ClassesOfRange, DoneBeforeRefused, EachByte, EachCharacter, EachDate, EachLineStart, EachPlace, EachWord, EarliestInReverse, EdgeForward, EdgeInReverse, EndCRLFPlaces, EndLFPlaces, EndPlaces, EndsBackward, EndsInOrder, EntriesOfLetter, EverywhereReads, FactsOfWords, GreedyRounds, LabelBehindEnd, LabelBehindSpace, LazyRounds, Leftmost, LetterFound, LongerFirst, LongerPastSpan, MatchEverywhere, MatchNowhere, MirrorOfText, Mismatched, ModeRefused, NoLabelBehindByte, NoLabelInWord, NoLabelYet, NothingInReverse, NumberInReverse, NumbersOfMany, OfEmptyPattern, OfNoPattern, OfTwoPatterns, PatternAlone, PatternPastLast, PatternRefused, QuitBefore, QuitBeforeInReverse, QuitBehind, QuitBehindInReverse, QuitBehindMatch, QuitBytes, QuitNotReached, ReachedForward, ReachedInReverse, RowsOfBounded, RowsOfLazyLoop, RowsOfLetter, RowsOfTwo, SamInReverse, ShorterFirst, SizeOfRows, SizeOfStates, SizeOfTable, SplitAllowed, SplitAnchored, SplitForward, SplitInReverse, SplitOffsets, SplitSilent, SplitTold, StartCRLFPlaces, StartContexts, StartLFPlaces, StartPlaces, ToldBoth, ToldTogether, WordByteThatEndsLines, WordEndHalfPlaces, WordEndPlaces, WordNegatePlaces, WordPlaces, WordStartHalfPlaces, WordStartPlaces};
+ghost use Rattle.rx_spec.specs.Examples.{
+  AlphabetOfBytes,
+  AlphabetOfLines,
+  AlphabetOfRange,
+  ClassesOfRange,
+  DoneBeforeRefused,
+  EachByte,
+  EachCharacter,
+  EachDate,
+  EachLineStart,
+  EachPlace,
+  EachWord,
+  EarliestInReverse,
+  EdgeForward,
+  EdgeInReverse,
+  EndCRLFPlaces,
+  EndLFPlaces,
+  EndPlaces,
+  EndsBackward,
+  EndsInOrder,
+  EntriesOfLetter,
+  EverywhereGives,
+  EverywhereIsTable,
+  EverywhereReads,
+  FactsOfWords,
+  FitSpan,
+  GreedyRounds,
+  LabelBehindEnd,
+  LabelBehindSpace,
+  LazyRounds,
+  Leftmost,
+  LetterFound,
+  LongerFirst,
+  LongerPastSpan,
+  MatchEverywhere,
+  MatchNowhere,
+  MirrorOfText,
+  Mismatched,
+  ModeRefused,
+  NoLabelBehindByte,
+  NoLabelInWord,
+  NoLabelYet,
+  NothingInReverse,
+  NumberInReverse,
+  NumbersOfMany,
+  OfEmptyPattern,
+  OfNoPattern,
+  OfTwoPatterns,
+  PatternAlone,
+  PatternPastLast,
+  PatternRefused,
+  QuitBefore,
+  QuitBeforeInReverse,
+  QuitBehind,
+  QuitBehindInReverse,
+  QuitBehindMatch,
+  QuitBytes,
+  QuitNotReached,
+  ReachedForward,
+  ReachedInReverse,
+  RowsOfBounded,
+  RowsOfLazyLoop,
+  RowsOfLetter,
+  RowsOfTwo,
+  SafeLoop,
+  SamInReverse,
+  ShorterFirst,
+  SizeOfRows,
+  SizeOfStates,
+  SizeOfTable,
+  SplitAllowed,
+  SplitAnchored,
+  SplitForward,
+  SplitInReverse,
+  SplitOffsets,
+  SplitSilent,
+  SplitTold,
+  StartCRLFPlaces,
+  StartContexts,
+  StartLFPlaces,
+  StartPlaces,
+  StartWords,
+  ToldBoth,
+  ToldTogether,
+  UnfitSpan,
+  UnsafeLoop,
+  WordByteThatEndsLines,
+  WordEndHalfPlaces,
+  WordEndPlaces,
+  WordNegatePlaces,
+  WordPlaces,
+  WordStartHalfPlaces,
+  WordStartPlaces,
+};
 ghost use Rattle.rx_spec.specs.declared.Look.{Look};
 
 /// Where each assertion holds in short haystacks.
@@ -35,6 +128,8 @@ pub fn expressions()
     ensures mirror { MirrorOfText }
     ensures ends { EndsInOrder }
     ensures backward { EndsBackward }
+    ensures safe_loop { SafeLoop }
+    ensures unsafe_loop { UnsafeLoop }
 {}
 
 /// What is found: the leftmost match, there the lowest pattern, and of it the preferred end.
@@ -70,6 +165,7 @@ pub fn classes_and_contexts()
     ensures lines { AlphabetOfLines }
     ensures quit { QuitBytes }
     ensures starts { StartContexts }
+    ensures words { StartWords }
     ensures facts { FactsOfWords }
 {}
 
@@ -100,8 +196,10 @@ pub fn halves_in_reverse()
     ensures earliest { EarliestInReverse }
 {}
 
-/// Searches that are done, and searches whose mode has no starts.
+/// Spans that fit, searches that are done, and searches whose mode has no starts.
 pub fn refusals()
+    ensures fit { FitSpan }
+    ensures unfit { UnfitSpan }
     ensures done { DoneBeforeRefused }
     ensures mode { ModeRefused }
     ensures past_last { PatternPastLast }
@@ -131,9 +229,15 @@ pub fn fixed_machines()
     ensures nowhere { MatchNowhere }
 {}
 
-/// Matches of nothing inside a character, on a table of four rows.
+/// A table of four rows for the empty expression.
+pub fn tables()
+    ensures is_table { EverywhereIsTable }
+    ensures gives { EverywhereGives }
+    ensures reads { EverywhereReads }
+{}
+
+/// Matches of nothing inside a character, on that table.
 pub fn splits()
-    ensures table { EverywhereReads }
     ensures offsets { SplitOffsets }
     ensures forward { SplitForward }
     ensures in_reverse { SplitInReverse }

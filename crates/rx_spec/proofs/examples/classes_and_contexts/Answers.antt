@@ -29,3 +29,7 @@ returns-clause-starts c = refl
 pub returns-clause-facts : goal.returns-clause-facts
 unfolding computing
 returns-clause-facts c = refl
+
+pub returns-clause-words : goal.returns-clause-words
+unfolding computing
+returns-clause-words c = refl

@@ -1,4 +1,4 @@
-use Rattle.std.proofs.Common.{refl}
+use Rattle.std.proofs.Common.{refl, arith}
 use Rattle.rx_spec.proofs.Computing.{computing}
 use Rattle.rx_spec.proofs.examples.expressions.Goals as goal
 
@@ -17,3 +17,11 @@ returns-clause-ends c = refl
 pub returns-clause-backward : goal.returns-clause-backward
 unfolding computing
 returns-clause-backward c = refl
+
+pub returns-clause-safe_loop : goal.returns-clause-safe_loop
+unfolding computing
+returns-clause-safe_loop c = (omega arith, tt)
+
+pub returns-clause-unsafe_loop : goal.returns-clause-unsafe_loop
+unfolding computing
+returns-clause-unsafe_loop c = λ safe. omega (arith, safe.0)

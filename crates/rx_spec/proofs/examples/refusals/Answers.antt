@@ -1,4 +1,4 @@
-use Rattle.std.proofs.Common.{refl}
+use Rattle.std.proofs.Common.{refl, arith}
 use Rattle.rx_spec.proofs.Computing.{computing}
 use Rattle.rx_spec.proofs.examples.refusals.Goals as goal
 
@@ -21,3 +21,9 @@ returns-clause-pattern c = refl
 pub returns-clause-no_pattern_starts : goal.returns-clause-no_pattern_starts
 unfolding computing
 returns-clause-no_pattern_starts c = refl
+
+pub returns-clause-fit : goal.returns-clause-fit
+returns-clause-fit c = record { within = omega arith; ordered = omega arith }
+
+pub returns-clause-unfit : goal.returns-clause-unfit
+returns-clause-unfit c = λ fit. omega (arith, fit.ordered)

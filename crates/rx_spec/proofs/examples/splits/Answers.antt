@@ -2,10 +2,6 @@ use Rattle.std.proofs.Common.{refl}
 use Rattle.rx_spec.proofs.Computing.{computing}
 use Rattle.rx_spec.proofs.examples.splits.Goals as goal
 
-pub returns-clause-table : goal.returns-clause-table
-unfolding computing
-returns-clause-table c = (refl, refl)
-
 pub returns-clause-offsets : goal.returns-clause-offsets
 unfolding computing
 returns-clause-offsets c = refl
