@@ -1,3 +1,4 @@
 pub mod ByteSet
 pub mod Input
 pub mod Search
+pub mod Unit

@@ -2,11 +2,13 @@
 #![tactic(auto)]
 
 mod alphabet;
+mod facts;
 mod input;
 mod primitives;
 mod search;
 
 pub use alphabet::ByteSet;
+pub use facts::Facts;
 pub use input::Input;
 pub use primitives::{IdError, PatternID, StateID};
 pub use rx_spec::{Look, MatchKind, Start, StartKind, Unit};

@@ -8,7 +8,7 @@ use Rattle.rx_spec.specs.Expressions.{Expression, mirror, depth}
 use Rattle.rx_spec.specs.declared.Look.{Look}
 use Rattle.rx_spec.specs.Rows.{Part, Maker, straight, row_to, chained, either, choice, copies, optional, loop, repeated, compile, rows_count, repeated_count, read_as}
 use Rattle.rx_spec.specs.Rows as spec
-use Rattle.rx_spec.proofs.Rows.{Makes, rows_counted, copies_make, optional_makes}
+use Rattle.rx_spec.proofs.Rows.{Makes, rows_counted}
 use Rattle.rx_expr.specs.Compiles.{Adds, maker}
 use Rattle.rx_expr.specs.Nfa.{row_of}
 use Rattle.rx_expr.specs.declared.thompson.nfa.Row.{Row}
@@ -44,8 +44,8 @@ adds_row old new row to next is e = record { entered = refl; rows = ap (map row_
 
 -- first what is behind, then what leads to it
 pub adds_chained : (first second : Maker) (old mid new : List Row) (behind entry next : ℕ)
-  → Adds old mid behind (second (length old) next) → Adds mid new entry (first (length mid) behind)
-  → Adds old new entry (chained first second (length old) next)
+    → Adds old mid behind (second (length old) next) → Adds mid new entry (first (length mid) behind)
+    → Adds old new entry (chained first second (length old) next)
 adds_chained first second old mid new behind entry next a b =
     let place : length mid ≡ length old + length (second (length old) next).rows = sym (length-map mid row_of) ∙ ap length a.rows ∙ length-append (map row_of old) (second (length old) next).rows ∙ ap (λ n. n + length (second (length old) next).rows) (length-map old row_of) in
     let front : first (length mid) behind ≡ first (length old + length (second (length old) next).rows) (second (length old) next).entry = ap (λ n. first n behind) place ∙ ap (first (length old + length (second (length old) next).rows)) a.entered in
@@ -56,8 +56,8 @@ adds_chained first second old mid new behind entry next a b =
 
 -- the same with another maker for the same rows
 pub adds_more : (more : ℕ → ℕ → Part) (old mid new : List Row) (part : Part) (entered entry : ℕ)
-  → Adds old mid entered part → Adds mid new entry (more (length mid) entered)
-  → Adds old new entry (record { entry = (more (length old + length part.rows) part.entry).entry; rows = part.rows ++ (more (length old + length part.rows) part.entry).rows })
+    → Adds old mid entered part → Adds mid new entry (more (length mid) entered)
+    → Adds old new entry (record { entry = (more (length old + length part.rows) part.entry).entry; rows = part.rows ++ (more (length old + length part.rows) part.entry).rows })
 adds_more more old mid new part entered entry a b =
     let place : length mid ≡ length old + length part.rows = sym (length-map mid row_of) ∙ ap length a.rows ∙ length-append (map row_of old) part.rows ∙ ap (λ n. n + length part.rows) (length-map old row_of) in
     let front : more (length mid) entered ≡ more (length old + length part.rows) part.entry = ap (λ n. more n entered) place ∙ ap (more (length old + length part.rows)) a.entered in
@@ -71,19 +71,19 @@ end_of_added old new entry part a = sym (length-map new row_of) ∙ ap length a.
 
 -- both, and a Split of them
 pub adds_either : (first second : Maker) (old mid late new : List Row) (a b next : ℕ)
-  → Adds old mid a (first (length old) next) → Adds mid late b (second (length mid) next) → new ≡ late ++ (Row.Split a b ∷ [])
-  → Adds old new (length late) (either first second (length old) next)
+    → Adds old mid a (first (length old) next) → Adds mid late b (second (length mid) next) → new ≡ late ++ (Row.Split a b ∷ [])
+    → Adds old new (length late) (either first second (length old) next)
 adds_either first second old mid late new a b next p q e =
     let one = first (length old) next in
     let place : length mid ≡ length old + length one.rows = end_of_added old mid a one p in
     let two = second (length old + length one.rows) next in
     let same : second (length mid) next ≡ two = ap (λ n. second n next) place in
     let there : length late ≡ length old + length one.rows + length two.rows =
-          end_of_added mid late b (second (length mid) next) q ∙ ap (λ (x : Part). length mid + length x.rows) same ∙ ap (λ n. n + length two.rows) place in
+    end_of_added mid late b (second (length mid) next) q ∙ ap (λ (x : Part). length mid + length x.rows) same ∙ ap (λ n. n + length two.rows) place in
     let before : map row_of late ≡ map row_of old ++ (one.rows ++ two.rows) =
-          q.rows ∙ ap (λ (x : Part). map row_of mid ++ x.rows) same ∙ ap (λ xs. xs ++ two.rows) p.rows ∙ append_assoc (map row_of old) one.rows two.rows in
+    q.rows ∙ ap (λ (x : Part). map row_of mid ++ x.rows) same ∙ ap (λ xs. xs ++ two.rows) p.rows ∙ append_assoc (map row_of old) one.rows two.rows in
     let entries : (spec.Split a b ∷ []) ≡ (spec.Split one.entry two.entry ∷ []) =
-          ap (λ n. spec.Split n b ∷ []) p.entered ∙ ap (λ n. spec.Split one.entry n ∷ []) (q.entered ∙ ap (λ (x : Part). x.entry) same) in
+    ap (λ n. spec.Split n b ∷ []) p.entered ∙ ap (λ n. spec.Split one.entry n ∷ []) (q.entered ∙ ap (λ (x : Part). x.entry) same) in
     record {
       entered = there;
       rows = ap (map row_of) e ∙ map-append row_of late (Row.Split a b ∷ []) ∙ ap (λ xs. xs ++ (spec.Split a b ∷ [])) before ∙ append_assoc (map row_of old) (one.rows ++ two.rows) (spec.Split a b ∷ []) ∙ ap (λ xs. map row_of old ++ ((one.rows ++ two.rows) ++ xs)) entries;
@@ -91,9 +91,9 @@ adds_either first second old mid late new a b next p q e =
 
 -- one more optional round
 pub adds_optional : (greedy : Bool) (body : Maker) (n : ℕ) (old mid late new : List Row) (split : Row) (entered round next : ℕ)
-  → Adds old mid entered (optional greedy n body (length old) next) → Adds mid late round (body (length mid) entered)
-  → row_of split ≡ choice greedy round next → new ≡ late ++ (split ∷ [])
-  → Adds old new (length late) (optional greedy (n + 1) body (length old) next)
+    → Adds old mid entered (optional greedy n body (length old) next) → Adds mid late round (body (length mid) entered)
+    → row_of split ≡ choice greedy round next → new ≡ late ++ (split ∷ [])
+    → Adds old new (length late) (optional greedy (n + 1) body (length old) next)
 unfolding optional
 adds_optional greedy body n old mid late new split entered round next p q s e =
     let inner = optional greedy n body (length old) next in
@@ -101,9 +101,9 @@ adds_optional greedy body n old mid late new split entered round next p q s e =
     let two = body (length old + length inner.rows) inner.entry in
     let same : body (length mid) entered ≡ two = ap (λ n. body n entered) place ∙ ap (body (length old + length inner.rows)) p.entered in
     let there : length late ≡ length old + length inner.rows + length two.rows =
-          end_of_added mid late round (body (length mid) entered) q ∙ ap (λ (x : Part). length mid + length x.rows) same ∙ ap (λ n. n + length two.rows) place in
+    end_of_added mid late round (body (length mid) entered) q ∙ ap (λ (x : Part). length mid + length x.rows) same ∙ ap (λ n. n + length two.rows) place in
     let before : map row_of late ≡ map row_of old ++ (inner.rows ++ two.rows) =
-          q.rows ∙ ap (λ (x : Part). map row_of mid ++ x.rows) same ∙ ap (λ xs. xs ++ two.rows) p.rows ∙ append_assoc (map row_of old) inner.rows two.rows in
+    q.rows ∙ ap (λ (x : Part). map row_of mid ++ x.rows) same ∙ ap (λ xs. xs ++ two.rows) p.rows ∙ append_assoc (map row_of old) inner.rows two.rows in
     let chosen : row_of split ≡ choice greedy two.entry next = s ∙ ap (λ n. choice greedy n next) (q.entered ∙ ap (λ (x : Part). x.entry) same) in
     let whole : Adds old new (length late) (optional greedy (suc n) body (length old) next) = record {
       entered = there;
@@ -113,16 +113,16 @@ adds_optional greedy body n old mid late new split entered round next p q s e =
 
 -- a Split before the body that leads back to it, put there when the body's entry is known
 pub adds_loop : (greedy : Bool) (body : Maker) (old first late new : List Row) (split : Row) (round next : ℕ)
-  → first ≡ old ++ (Row.Fail ∷ []) → Adds first late round (body (length first) (length old))
-  → row_of split ≡ choice greedy round next → new ≡ set late (length old) split
-  → Adds old new (length old) (loop greedy body (length old) next)
+    → first ≡ old ++ (Row.Fail ∷ []) → Adds first late round (body (length first) (length old))
+    → row_of split ≡ choice greedy round next → new ≡ set late (length old) split
+    → Adds old new (length old) (loop greedy body (length old) next)
 adds_loop greedy body old first late new split round next f q s e =
     let place : length first ≡ length old + 1 = ap length f ∙ length-append old (Row.Fail ∷ []) in
     let two = body (length old + 1) (length old) in
     let same : body (length first) (length old) ≡ two = ap (λ n. body n (length old)) place in
     let laid : map row_of first ≡ map row_of old ++ (spec.Fail ∷ []) = ap (map row_of) f ∙ map-append row_of old (Row.Fail ∷ []) in
     let before : map row_of late ≡ map row_of old ++ (spec.Fail ∷ two.rows) =
-          q.rows ∙ ap (λ (x : Part). map row_of first ++ x.rows) same ∙ ap (λ xs. xs ++ two.rows) laid ∙ append_assoc (map row_of old) (spec.Fail ∷ []) two.rows in
+    q.rows ∙ ap (λ (x : Part). map row_of first ++ x.rows) same ∙ ap (λ xs. xs ++ two.rows) laid ∙ append_assoc (map row_of old) (spec.Fail ∷ []) two.rows in
     let chosen : row_of split ≡ choice greedy two.entry next = s ∙ ap (λ n. choice greedy n next) (q.entered ∙ ap (λ (x : Part). x.entry) same) in
     record {
       entered = refl;
@@ -140,8 +140,8 @@ copies_more body (suc n) base next =
     let outer = body (base + length last.rows + length inner.rows) inner.entry in
     ap (λ (p : Part). record { entry = p.entry; rows = last.rows ++ p.rows }) step
     ∙ (let shift : base + length last.rows + length inner.rows ≡ base + length (last.rows ++ inner.rows) = omega (arith, length-append last.rows inner.rows) in
-       ap (λ xs. record { entry = outer.entry; rows = xs }) (sym (append_assoc last.rows inner.rows outer.rows))
-       ∙ ap (λ b. record { entry = (body b inner.entry).entry; rows = (last.rows ++ inner.rows) ++ (body b inner.entry).rows }) shift)
+    ap (λ xs. record { entry = outer.entry; rows = xs }) (sym (append_assoc last.rows inner.rows outer.rows))
+    ∙ ap (λ b. record { entry = (body b inner.entry).entry; rows = (last.rows ++ inner.rows) ++ (body b inner.entry).rows }) shift)
 
 -- what has no rows is entered behind itself
 pub bare_copies : (body : Maker) → ((base next : ℕ) → body base next ≡ straight base next) → (n base next : ℕ) → copies n body base next ≡ straight base next
@@ -171,7 +171,7 @@ bare (Expression.Alternate a b) z base next = absurd (omega arith)
 bare (Expression.Repeat least None greedy body) z base next = absurd (omega arith)
 bare (Expression.Repeat least (Some most) greedy body) z base next =
     ap (λ k. chained (copies least (compile body)) (optional greedy k (compile body)) base next) (no_more least (most - least) (rows_count body) z) ∙ (elim (eq-zero-or-pos (rows_count body)) [
-        inl none ↦ bare_copies (compile body) (λ b n. bare body none b n) least (base + 0) next
+      | inl none ↦ bare_copies (compile body) (λ b n. bare body none b n) least (base + 0) next
       | inr some ↦ ap (λ n. copies n (compile body) (base + 0) next) (no_copies least (most - least) (rows_count body) z some)
     ])
 
@@ -248,7 +248,7 @@ maker_concat_so false h a b = maker_concat a b
 
 -- a row that was pushed
 pub ok_row : (r : Result ℕ AllocError) (old new : List Row) (row : Row) (to : ℕ → spec.Row) (next : ℕ) → row_of row ≡ to next
-  → IfOk r (λ id. id ≡ length old) → IfOk r (λ id. new ≡ old ++ (row ∷ [])) → IfOk r (λ entry. Adds old new entry (row_to to (length old) next))
+    → IfOk r (λ id. id ≡ length old) → IfOk r (λ id. new ≡ old ++ (row ∷ [])) → IfOk r (λ entry. Adds old new entry (row_to to (length old) next))
 ok_row (Ok id) old new row to next is i n = subst (λ e. Adds old new e (row_to to (length old) next)) (sym i) (adds_row old new row to next is n)
 ok_row (Err error) old new row to next is i n = tt
 
@@ -258,8 +258,8 @@ unfolding copies
 copied_none body old next = adds_nothing old (length old) next
 
 pub copied_more : (body : Maker) (n : ℕ) (old mid new : List Row) (entered entry next : ℕ)
-  → Adds old mid entered (copies n body (length old) next) → Adds mid new entry (body (length mid) entered)
-  → Adds old new entry (copies (n + 1) body (length old) next)
+    → Adds old mid entered (copies n body (length old) next) → Adds mid new entry (body (length mid) entered)
+    → Adds old new entry (copies (n + 1) body (length old) next)
 copied_more body n old mid new entered entry next p q =
     subst (λ x. Adds old new entry x) (sym (ap (λ k. copies k body (length old) next) (add-one n) ∙ copies_more body n (length old) next)) (adds_chained body (copies n body) old mid new entered entry next p q)
 

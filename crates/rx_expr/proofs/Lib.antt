@@ -1,3 +1,6 @@
 pub mod Literals
 pub mod Turned
 pub mod Adding
+pub mod Edges
+pub mod Starting
+pub mod Asked

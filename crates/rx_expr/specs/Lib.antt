@@ -5,3 +5,4 @@ pub mod ExprError
 pub mod Settings
 pub mod Nfa
 pub mod Compiles
+pub mod Compiler

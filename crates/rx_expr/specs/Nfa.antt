@@ -1,6 +1,8 @@
 -- The rows of the code as those of the definitions.
 use Rattle.std.specs.Prelude.{ℕ, ◌≡◌, ◌+◌, List, ◌++◌, map, length}
+use Rattle.rx_spec.specs.Contexts.{facts_kept}
 use Rattle.rx_spec.specs.Rows.{Nfa, Part}
+use Rattle.rx_spec.specs.Shallow.{IsShallow}
 use Rattle.rx_spec.specs.Rows as rows
 use Rattle.rx_base.specs.ByteSet.{set_of}
 use Rattle.rx_expr.specs.declared.thompson.nfa.Row.{Row}
@@ -22,5 +24,15 @@ meaning nfa = record {
   backward = nfa.reverse;
   terminator = nfa.line_terminator;
   has_empty = nfa.has_empty;
-  utf8 = nfa.utf8
+  utf8 = nfa.utf8;
 }
+
+-- The facts that are kept beside the rows are those that some assertion of them asks for.
+abbrev pub KeepsAsked : NFA → Type 0
+KeepsAsked nfa = nfa.asked ≡ facts_kept (meaning nfa).rows
+
+-- What a step over an NFA stands on: no path that reads nothing goes round, and the facts that are
+-- kept beside the rows are those that some assertion of them asks for.
+pub record IsSound (nfa : NFA) : Type 0 where
+  pub shallow : IsShallow (meaning nfa).rows
+  pub asked : KeepsAsked nfa

@@ -1,5 +1,5 @@
 -- Settings of Thompson's construction.
-use Rattle.std.specs.Prelude.{ℕ, Bool, true, false, Option, Some, None, unwrap_or}
+use Rattle.std.specs.Prelude.{ℕ, Bool, true, false, Option, None, unwrap_or}
 use Rattle.std.specs.Option.{option_or}
 use Rattle.rx_expr.specs.declared.thompson.config.Config.{Config}
 
@@ -18,7 +18,7 @@ overwritten old new = record {
   reverse = option_or new.reverse old.reverse;
   utf8 = option_or new.utf8 old.utf8;
   size_limit = option_or new.size_limit old.size_limit;
-  terminator = option_or new.terminator old.terminator
+  terminator = option_or new.terminator old.terminator;
 }
 
 -- what holds, defaults included: forward, UTF-8 on, no limit, \n
@@ -33,5 +33,5 @@ settled a = record {
   reverse = unwrap_or a.reverse false;
   utf8 = unwrap_or a.utf8 true;
   size_limit = unwrap_or a.size_limit None;
-  terminator = unwrap_or a.terminator 10
+  terminator = unwrap_or a.terminator 10;
 }

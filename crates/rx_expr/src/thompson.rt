@@ -6,6 +6,7 @@ mod config;
 mod edge;
 mod nfa;
 mod rows;
+mod starts;
 
 pub use build_error::BuildError;
 pub use compiler::Compiler;

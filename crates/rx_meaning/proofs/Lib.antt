@@ -26,3 +26,4 @@ pub mod ForwardHalf
 pub mod EarlyWalk
 pub mod EarlyStart
 pub mod EarlyJoined
+pub mod Shallows

@@ -9,6 +9,7 @@
 
 pub mod joined;
 pub mod mirrored;
+pub mod shallow;
 
 ghost use Rattle.rx_meaning.specs.Preference.{Preference};
 

@@ -7,6 +7,7 @@ pub mod Rows
 pub mod Contexts
 pub mod Classes
 pub mod States
+pub mod Shallow
 pub mod Machines
 pub mod Builds
 pub mod Tables

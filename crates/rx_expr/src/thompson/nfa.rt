@@ -1,10 +1,11 @@
 //! The NFA: rows and where they are entered.
 
 ghost use Rattle.std.specs.Prelude.{◌≡◌, ◌<◌, ◌≤◌, length, slice_get, map};
+ghost use Rattle.rx_spec.specs.Contexts.{facts_kept, row_reads};
 ghost use Rattle.rx_spec.specs.Rows.{is_always_anchored};
-ghost use Rattle.rx_expr.specs.Nfa.{meaning, row_of};
+ghost use Rattle.rx_expr.specs.Nfa.{meaning, row_of, IsSound};
 
-use rx_base::{ByteSet, Look, PatternID, StateID};
+use rx_base::{ByteSet, Facts, Look, PatternID, StateID};
 
 /// A row of an NFA.
 #[derive(Clone, Copy, Debug)]
@@ -50,6 +51,31 @@ pub struct NFA {
     pub(super) line_terminator: u8,
     pub(super) has_empty: bool,
     pub(super) utf8: bool,
+    /// What some assertion of the rows asks of a neighbour.
+    pub(super) asked: Facts,
+}
+
+/// What some assertion of the rows asks of a neighbour.
+pub(super) fn asked_facts(rows: &[Row]) -> Facts
+    ensures { result ≡ facts_kept (map row_of rows.now) }
+{
+    let mut asked = Facts::none();
+    for row in rows {
+        asked = asked.union(row.asked_facts());
+    }
+    asked
+}
+
+impl Row {
+    /// What it asks of a neighbour.
+    fn asked_facts(&self) -> Facts
+        ensures { result ≡ row_reads (row_of self.now) }
+    {
+        match *self {
+            Row::Look { look, .. } => Facts::asked_by(look),
+            _ => Facts::none(),
+        }
+    }
 }
 
 impl NFA {
@@ -93,6 +119,21 @@ impl NFA {
         ensures { result ≡ (meaning self.now).backward }
     {
         self.reverse
+    }
+
+    /// The line terminator of the assertions.
+    pub fn line_terminator(&self) -> u8
+        ensures { result ≡ (meaning self.now).terminator }
+    {
+        self.line_terminator
+    }
+
+    /// The facts of a neighbour that some assertion of the rows asks for.
+    pub fn asked_facts(&self) -> Facts
+        requires { IsSound self.now }
+        ensures { result ≡ facts_kept (meaning self.now).rows }
+    {
+        self.asked
     }
 
     /// Whether some pattern matches without a byte.

@@ -1,11 +1,11 @@
 use Rattle.std.proofs.Common.{◌≡◌, ◌∙◌, ap, sym, subst, arith, ◌+◌, ◌*◌, max, length, refl, set, None, Some, ◌≤◌, ◌-◌}
-use Rattle.rx_spec.specs.Expressions.{Expression, depth}
+use Rattle.rx_spec.specs.Expressions.{depth}
 use Rattle.rx_spec.specs.Rows.{rows_count, Part, straight, row_to, chained, either, copies, optional, loop as looped, repeated, repeated_count}
 use Rattle.rx_spec.specs.Rows as spec
 use Rattle.rx_base.specs.ByteSet.{set_of}
 use Rattle.rx_spec.proofs.Rows.{copies_make, optional_makes, loop_makes}
 use Rattle.rx_expr.specs.Compiles.{Adds, maker}
-use Rattle.rx_expr.proofs.Adding.{maker_makes, length-added, ok_adds, adds_nothing, adds_row, adds_chained, adds_either, adds_optional, adds_loop, exact_fits, exact_fits_behind, copied_none, copied_more, optioned_none, round_fits, bare_maker, bare_copies, ok_row, maker_concat_as, maker_concat_so, maker_empty, maker_class, maker_assert, maker_concat, maker_concat_reverse, maker_alternate, maker_repeat, depth_concat, depth_alternate, depth_repeat, rows_concat, rows_alternate, rows_repeat}
+use Rattle.rx_expr.proofs.Adding.{maker_makes, length-added, ok_adds, adds_nothing, adds_optional, adds_loop, exact_fits, exact_fits_behind, copied_none, copied_more, optioned_none, round_fits, bare_maker, bare_copies, ok_row, maker_concat_as, maker_concat_so, maker_empty, maker_class, maker_assert, maker_alternate, maker_repeat, depth_concat, depth_alternate, depth_repeat, rows_concat, rows_alternate, rows_repeat}
 use Rattle.rx_expr.proofs.thompson.rows.+compile.Goals as goal
 
 pub alternate-compile-requires-2 : goal.alternate-compile-requires-2
@@ -132,9 +132,9 @@ repeat_forever-returns t c =
     let body = maker c.args.reverse c.args.body.now in
     subst (λ e. Adds c.args.rows.now.items c.put.new.rows.items e (looped c.args.greedy body (length c.args.rows.now.items) c.args.next)) (sym at)
     (adds_loop c.args.greedy body c.args.rows.now.items c.push.new.rows.items c.compile.new.rows.items c.put.new.rows.items c.choice.result c.in_ok-round.round c.args.next c.in_ok-split.ensures.rows
-      (subst (λ n. Adds c.push.new.rows.items c.compile.new.rows.items c.in_ok-round.round (body (length c.push.new.rows.items) n)) at c.in_ok-round.ensures)
-      c.choice.ensures
-      (c.put.ensures ∙ ap (λ n. set c.compile.new.rows.items n c.choice.result) (c.as_usize.ensures.value ∙ at)))
+    (subst (λ n. Adds c.push.new.rows.items c.compile.new.rows.items c.in_ok-round.round (body (length c.push.new.rows.items) n)) at c.in_ok-round.ensures)
+    c.choice.ensures
+    (c.put.ensures ∙ ap (λ n. set c.compile.new.rows.items n c.choice.result) (c.as_usize.ensures.value ∙ at)))
 
 pub repeat-repeat_exactly-requires : goal.repeat-repeat_exactly-requires
 repeat-repeat_exactly-requires t c =

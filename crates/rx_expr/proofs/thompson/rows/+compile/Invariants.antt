@@ -1,6 +1,6 @@
-use Rattle.std.proofs.Common.{◌≡◌, ◌+◌, ◌*◌, ◌≤◌, max, length}
+use Rattle.std.proofs.Common.{◌+◌, ◌*◌, max, length}
 use Rattle.rx_spec.specs.Expressions.{depth}
-use Rattle.rx_spec.specs.Rows.{rows_count, copies, optional}
+use Rattle.rx_spec.specs.Rows.{copies, optional}
 use Rattle.rx_expr.specs.Compiles.{Adds, maker}
 use Rattle.rx_expr.proofs.thompson.rows.+compile.Given as goal
 
