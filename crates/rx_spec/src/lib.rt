@@ -76,7 +76,8 @@ pub enum StartKind {
     Anchored,
 }
 
-/// What is known of the byte before a search when it starts.
+/// What is known of the byte beside a span, on the side where a search begins: before it forward, behind
+/// it in reverse.
 #[derive(Clone, Copy, Debug, PartialEq, Eq)]
 pub enum Start {
     /// A byte that is none of the following.
@@ -93,11 +94,11 @@ pub enum Start {
     CustomLineTerminator,
 }
 
-/// What an automaton reads: a byte, or the end mark behind the last byte.
+/// What an automaton reads: a byte, or the end mark, where the haystack has no further byte.
 #[derive(Clone, Copy, Debug, PartialEq, Eq)]
 pub enum Unit {
     /// A byte.
     Byte(u8),
-    /// The end of the haystack.
+    /// The edge of the haystack: its end, or in reverse its start.
     Eoi,
 }
