@@ -23,7 +23,7 @@ use Rattle.rx_meaning.proofs.Facts.{start_facts_of}
 use Rattle.rx_meaning.proofs.Steps.{reading_of, StandsAt}
 use Rattle.rx_meaning.proofs.ReadUnits.{units_from, units_forward}
 use Rattle.rx_meaning.proofs.Unquit.{Begun, half_begun, forward_ended}
-use Rattle.rx_meaning.proofs.FoundLaws.{is_found}
+use Rattle.rx_spec.proofs.FoundLaws.{is_found}
 use Rattle.rx_meaning.proofs.JoinedStart.{found_end, found_order}
 use Rattle.rx_meaning.proofs.Joining.{some_mapped, not_anchored, joined_from}
 use Rattle.rx_meaning.proofs.AllSteps.{dead_tells}

@@ -11,7 +11,7 @@ use Rattle.rx_spec.proofs.Firsts.{Contains-there, Contains-cases, Contains-nil}
 use Rattle.rx_spec.proofs.Ranges.{range_first_at, range_none}
 use Rattle.rx_spec.proofs.Reaches.{reaches_sound, reaches_lie}
 use Rattle.rx_meaning.specs.Mirrored.{start_to_end, least_start, back_from}
-use Rattle.rx_meaning.proofs.FoundLaws.{Matches, IsFound, candidate_none, find_is}
+use Rattle.rx_spec.proofs.FoundLaws.{Matches, IsFound, candidate_none, find_is}
 
 pub any_end : (stop : ℕ) (xs : List ℕ) → list_any (λ j. j == stop) xs ≡ true → Contains xs stop
 any_end stop [] h = absurd (cc)

@@ -14,7 +14,7 @@ use Rattle.rx_spec.proofs.Firsts.{by_test, Contains-nil}
 use Rattle.rx_meaning.specs.Mirrored.{back_from, MirroredSearch}
 use Rattle.rx_meaning.specs.Preference.{Preference, end_of}
 use Rattle.rx_meaning.specs.Joined.{JoinedSearch, half_of, is_always_anchored}
-use Rattle.rx_meaning.proofs.FoundLaws.{IsFound, is_found}
+use Rattle.rx_spec.proofs.FoundLaws.{IsFound, is_found}
 use Rattle.rx_meaning.proofs.JoinedStart.{found_end, found_order, least_found, safe_at}
 use Rattle.rx_meaning.proofs.Unquit.{forward_ended, reverse_told}
 use Rattle.rx_meaning.proofs.OneStart.{one_start, list_all_at, read_forward}

@@ -9,7 +9,6 @@ pub mod Unquit
 pub mod Parts
 pub mod Depths
 pub mod OneStart
-pub mod FoundLaws
 pub mod JoinedStart
 pub mod Joining
 pub mod Patterns

@@ -1,4 +1,4 @@
--- What is built: the powerset machine of an NFA.
+-- What is built: the powerset machine of an NFA, and which of its states are reached.
 use Rattle.std.specs.Prelude.{ℕ, ◌≡◌, ◌≢◌, ◌==◌, Bool, true, false, ◌&&◌, if◌then◌else◌, Option, Some, None, List, [], ◌∷◌, ◌++◌, length, slice_get, Contains, map, AllPairs, All}
 use Rattle.std.specs.List.{range_with_len}
 use Rattle.rx_spec.specs.Bytes.{contains}

@@ -14,3 +14,9 @@ pub mod Tables
 pub mod Searches
 pub mod Sizes
 pub mod Plans
+pub mod Matching
+pub mod EndsLaws
+pub mod RowsLaws
+pub mod FoundLaws
+pub mod StatesLaws
+pub mod Examples

@@ -1,4 +1,5 @@
--- Machines that read units, and what they tell of a word.
+-- Machines that read units, and what they tell of a word: automata with a label at each state, as Moore
+-- has them.
 use Rattle.std.specs.Prelude.{ℕ, Bool, Option, List, [], ◌∷◌}
 use Rattle.rx_spec.specs.Found.{Mode}
 use Rattle.rx_spec.specs.declared.Start.{Start}

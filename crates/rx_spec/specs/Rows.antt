@@ -1,4 +1,6 @@
--- The rows of an NFA: Thompson's construction, with a fixed numbering.
+-- The rows of an NFA: the construction of Thompson (Regular expression search algorithm, 1968), with a
+-- fixed numbering, and with an order between the two ways of a Split, as in Pike's and Cox's virtual
+-- machines.
 use Rattle.std.specs.Prelude.{ℕ, zero, suc, ◌+◌, ◌-◌, ◌*◌, Bool, true, false, ◌&&◌, ◌||◌, ◌==◌, Option, Some, None, List, [], ◌∷◌, ◌++◌, length, map}
 use Rattle.std.specs.List.{list_all, list_any}
 use Rattle.rx_spec.specs.Bytes.{all_bytes}

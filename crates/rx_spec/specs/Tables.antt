@@ -1,4 +1,5 @@
--- Tables: machines with numbered rows.
+-- Tables: machines with numbered rows. When a table is as small as can be, and when two of its rows behave
+-- alike, is said as Myhill and Nerode say it, by the labels of words.
 use Rattle.std.specs.Prelude.{ℕ, ◌≡◌, ◌≢◌, ◌<◌, ◌≤◌, Bool, Option, List, [], Contains}
 use Rattle.rx_spec.specs.Found.{Mode}
 use Rattle.rx_spec.specs.Machines.{Label, Machine, run, Settings}
@@ -49,7 +50,7 @@ row_after t mode start word = run t.machine.next (t.machine.entry mode start) wo
 abbrev pub Gives : Table → Build → Type 0
 Gives t b = (mode : Mode) → Contains (built_modes b) mode → (start : Start) (word : List ℕ) → IsWord word → t.machine.label (row_after t mode start word) ≡ node_label (node_after b mode start word)
 
--- some table of m rows gives the build, and none of fewer rows does
+-- some table of m rows gives the build, and none of fewer rows does (what Hopcroft's algorithm reaches)
 pub record IsLeast (b : Build) (m : ℕ) : Type 0 where
   pub table : Table
   pub is_table : IsTable table
@@ -57,6 +58,6 @@ pub record IsLeast (b : Build) (m : ℕ) : Type 0 where
   pub rows : table.size ≡ m
   pub least : (t : Table) → IsTable t → Gives t b → m ≤ t.size
 
--- every word leads from both rows to equal labels
+-- every word leads from both rows to equal labels: the rows are equivalent, in the sense of Nerode
 abbrev pub BehaveAlike : Table → ℕ → ℕ → Type 0
 BehaveAlike t x y = (word : List ℕ) → IsWord word → t.machine.label (run t.machine.next x word) ≡ t.machine.label (run t.machine.next y word)
