@@ -2,7 +2,7 @@
 -- alike, is said as Myhill and Nerode say it, by the labels of words.
 use Rattle.std.specs.Prelude.{ℕ, ◌≡◌, ◌≢◌, ◌<◌, ◌≤◌, Bool, Option, List, [], Contains}
 use Rattle.rx_spec.specs.Found.{Mode}
-use Rattle.rx_spec.specs.Machines.{Label, Machine, run, Settings}
+use Rattle.rx_spec.specs.Machines.{Label, Machine, IsWord, run, Settings}
 use Rattle.rx_spec.specs.Builds.{Build, built_modes, node_after, node_label}
 use Rattle.rx_spec.specs.declared.Start.{Start}
 
@@ -38,10 +38,6 @@ pub record IsTable (t : Table) : Type 0 where
   pub quit_ends : (unit : ℕ) → unit < 257 → t.machine.next 1 unit ≡ 0
   pub quit_only : (row : ℕ) → row < t.size → t.machine.label row ≡ Label.Quits → row ≡ 1
   pub lists : (row : ℕ) → row < t.size → t.machine.label row ≢ Label.Matches []
-
--- a word of units
-abbrev pub IsWord : List ℕ → Type 0
-IsWord word = (unit : ℕ) → Contains word unit → unit < 257
 
 abbrev pub row_after : Table → Mode → Start → List ℕ → ℕ
 row_after t mode start word = run t.machine.next (t.machine.entry mode start) word
