@@ -16,3 +16,4 @@ pub mod FoundLaws
 pub mod FoundWords
 pub mod RowsLaws
 pub mod StatesLaws
+pub mod Closures

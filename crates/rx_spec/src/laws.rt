@@ -61,17 +61,29 @@ ghost use Rattle.rx_spec.specs.RowsLaws.{
   StartOfOne,
 };
 ghost use Rattle.rx_spec.specs.StatesLaws.{
+  ClosureOfAccept,
+  ClosureOfBytes,
+  ClosureOfFail,
+  ClosureOfFailing,
+  ClosureOfHolding,
+  ClosureOfSplit,
+  ClosureOfStanding,
   DeadStaysDead,
   DroppedOfBoth,
   DroppedOfLast,
+  EndMarkEnds,
   FactsDecide,
   FirstsKeepMembers,
   FirstsKeepOrder,
   FirstsOfDistinct,
   FirstsRepeatNothing,
+  OthersStep,
+  QuitByteQuits,
   QuitLeadsToDead,
   StartKnows,
   StepOfDead,
+  TellsAll,
+  TellsOne,
 };
 
 /// Where the matches of each form of expression end, in the order in which a backtracking matcher
@@ -192,6 +204,27 @@ pub fn first_occurrences()
     ensures distinct { FirstsRepeatNothing }
     ensures order { FirstsKeepOrder }
     ensures itself { FirstsOfDistinct }
+{}
+
+/// What a row reaches without reading a byte, by its kind: the closure of the subset construction, in
+/// the order of preference.
+pub fn closures_by_row()
+    ensures bytes { ClosureOfBytes }
+    ensures accept { ClosureOfAccept }
+    ensures fail { ClosureOfFail }
+    ensures split { ClosureOfSplit }
+    ensures standing { ClosureOfStanding }
+    ensures holding { ClosureOfHolding }
+    ensures failing { ClosureOfFailing }
+{}
+
+/// What a unit leads to, and what is told then.
+pub fn steps()
+    ensures quit_byte { QuitByteQuits }
+    ensures other { OthersStep }
+    ensures end_mark { EndMarkEnds }
+    ensures leftmost_first { TellsOne }
+    ensures all { TellsAll }
 {}
 
 /// Where nothing goes on, nothing is told any more.
