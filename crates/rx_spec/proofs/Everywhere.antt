@@ -46,6 +46,8 @@ everywhere_is_table = record {
   two = omega arith;
   entries = λ mode start. omega arith;
   nexts = λ row unit h k. choose (row == 2);
+  past_last = λ n k start e h. absurd (cc);
+  dead_only = λ row h. refl;
   dead_label = refl;
   dead_stays = λ unit h. refl;
   quit_label = refl;

@@ -1,5 +1,5 @@
 -- The machine of a single letter: the states that are reached, and no others.
-use Rattle.std.proofs.Common.{◌≡◌, ◌≢◌, ℕ, ◌<◌, ◌==◌, Bool, true, false, if◌then◌else◌, List, [], ◌∷◌, ◌++◌, length, refl, arith}
+use Rattle.std.proofs.Common.{◌≡◌, ◌≢◌, ℕ, ◌<◌, ◌==◌, ⊎_elim, Bool, true, false, if◌then◌else◌, List, [], ◌∷◌, ◌++◌, length, refl, arith}
 use Rattle.std.specs.Prelude.{Contains, AllPairs, nat_lt, slice_index_or}
 use Rattle.std.specs.Int.{bit_at}
 use Rattle.std.specs.List.{AllByRecursion as Every}
@@ -8,11 +8,13 @@ use Rattle.std.proofs.lemmas.List.Elements.{All-from_recursion}
 use Rattle.rx_spec.specs.Bytes.{contains, only, all_bytes}
 use Rattle.rx_spec.specs.Contexts.{Facts, unit_facts}
 use Rattle.rx_spec.specs.Found.{Mode}
+use Rattle.rx_spec.specs.Machines.{IsWord}
 use Rattle.rx_spec.specs.States.{State, state_at}
 use Rattle.rx_spec.specs.Builds.{Build, Node, is_dead_state, built_entry, built_modes, node_after, IsReached}
 use Rattle.rx_spec.specs.Examples.{state, letter_forward, letter_reverse, five_states, three_states, ReachedForward, ReachedInReverse}
 use Rattle.rx_spec.specs.declared.Start.{Start}
 use Rattle.rx_spec.proofs.Computing.{computing}
+use Rattle.rx_spec.proofs.Firsts.{Contains-nil, Contains-cases}
 use Rattle.rx_spec.proofs.Reached.{Known, known_dead, Steps, reached_within, apart_by_codes}
 
 -- An a is a byte.
@@ -80,21 +82,34 @@ five_starts Mode.No start = λ alive. at_place five_states 1 (state (1 ∷ 3 ∷
 five_starts Mode.Yes start = λ alive. at_place five_states 0 (state (1 ∷ []) []) (omega arith) refl
 five_starts (Mode.Only k) start = known_dead five_states
 
+-- words of so many letters
+no_letter : IsWord []
+no_letter unit c = absurd (Contains-nil unit c)
+
+letter_more : (word : List ℕ) → IsWord word → IsWord (97 ∷ word)
+letter_more word h unit c = ⊎_elim (λ (e : 97 ≡ unit). omega (arith, e)) (λ (d : Contains word unit). h unit d) (Contains-cases 97 word unit c)
+
+one_a : IsWord (97 ∷ [])
+one_a = letter_more [] no_letter
+
+two_as : IsWord (97 ∷ 97 ∷ [])
+two_as = letter_more (97 ∷ []) one_a
+
 -- a state to which a word leads from the first or the second of the modes that are built
-reached_by : (b : Build) (k : ℕ) (mode : Mode) (word : List ℕ) (s : State) → k < length (built_modes b) → slice_index_or (built_modes b) k mode ≡ mode → node_after b mode Start.Text word ≡ Node.Running s → is_dead_state s ≡ false → IsReached b s
-reached_by b k mode word s h e leads alive = record { mode = mode; built = (k, h, e); start = Start.Text; word = word; leads = leads; alive = alive }
+reached_by : (b : Build) (k : ℕ) (mode : Mode) (word : List ℕ) (s : State) → IsWord word → k < length (built_modes b) → slice_index_or (built_modes b) k mode ≡ mode → node_after b mode Start.Text word ≡ Node.Running s → is_dead_state s ≡ false → IsReached b s
+reached_by b k mode word s units h e leads alive = record { mode = mode; built = (k, h, e); start = Start.Text; word = word; units = units; leads = leads; alive = alive }
 
 five_reached : Every (IsReached letter_forward) five_states
 unfolding computing
 five_reached = (
-  reached_by letter_forward 1 Mode.Yes [] (state (1 ∷ []) []) (omega arith) refl refl refl,
+  reached_by letter_forward 1 Mode.Yes [] (state (1 ∷ []) []) no_letter (omega arith) refl refl refl,
   (
-    reached_by letter_forward 0 Mode.No [] (state (1 ∷ 3 ∷ []) []) (omega arith) refl refl refl,
+    reached_by letter_forward 0 Mode.No [] (state (1 ∷ 3 ∷ []) []) no_letter (omega arith) refl refl refl,
     (
-      reached_by letter_forward 1 Mode.Yes (97 ∷ []) (state (0 ∷ []) []) (omega arith) refl refl refl,
+      reached_by letter_forward 1 Mode.Yes (97 ∷ []) (state (0 ∷ []) []) one_a (omega arith) refl refl refl,
       (
-        reached_by letter_forward 0 Mode.No (97 ∷ []) (state (0 ∷ 1 ∷ 3 ∷ []) []) (omega arith) refl refl refl,
-        (reached_by letter_forward 1 Mode.Yes (97 ∷ 97 ∷ []) (state [] (0 ∷ [])) (omega arith) refl refl refl, tt),
+        reached_by letter_forward 0 Mode.No (97 ∷ []) (state (0 ∷ 1 ∷ 3 ∷ []) []) one_a (omega arith) refl refl refl,
+        (reached_by letter_forward 1 Mode.Yes (97 ∷ 97 ∷ []) (state [] (0 ∷ [])) two_as (omega arith) refl refl refl, tt),
       ),
     ),
   ),
@@ -137,10 +152,10 @@ three_starts (Mode.Only k) start = known_dead three_states
 three_reached : Every (IsReached letter_reverse) three_states
 unfolding computing
 three_reached = (
-  reached_by letter_reverse 0 Mode.Yes [] (state (1 ∷ []) []) (omega arith) refl refl refl,
+  reached_by letter_reverse 0 Mode.Yes [] (state (1 ∷ []) []) no_letter (omega arith) refl refl refl,
   (
-    reached_by letter_reverse 0 Mode.Yes (97 ∷ []) (state (0 ∷ []) []) (omega arith) refl refl refl,
-    (reached_by letter_reverse 0 Mode.Yes (97 ∷ 97 ∷ []) (state [] (0 ∷ [])) (omega arith) refl refl refl, tt),
+    reached_by letter_reverse 0 Mode.Yes (97 ∷ []) (state (0 ∷ []) []) one_a (omega arith) refl refl refl,
+    (reached_by letter_reverse 0 Mode.Yes (97 ∷ 97 ∷ []) (state [] (0 ∷ [])) two_as (omega arith) refl refl refl, tt),
   ),
 )
 
