@@ -1,5 +1,5 @@
 -- Tables of rows, the rows that behave alike in one, and words that tell two rows apart.
-use Rattle.std.specs.Prelude.{ℕ, ◌≡◌, ◌≢◌, ◌<◌, ◌≤◌, ◌*◌, ◌^◌, List, [], length, slice_index, slice_index_or, Contains}
+use Rattle.std.specs.Prelude.{ℕ, ◌≡◌, ◌≢◌, ◌<◌, ◌≤◌, ◌+◌, ◌*◌, ◌^◌, List, [], length, slice_index, slice_index_or, Contains}
 use Rattle.std.specs.Int.Digits.{digits_of}
 use Rattle.rx_spec.specs.Machines.{run}
 use Rattle.rx_refine.specs.Places.{places_of}
@@ -26,6 +26,12 @@ pub record AreMoves (m : Moves) : Type 0 where
   pub few : m.rows ≤ 2 ^ 31
   pub lengths : (unit : ℕ) → 0 < m.rows → unit < m.units → length (column m unit) ≡ m.rows
   pub nexts : (row unit : ℕ) → row < m.rows → unit < m.units → next_row m row unit < m.rows
+
+-- the first columns of a table whose cells are given row by row
+pub record AreColumns (rows units : ℕ) (next : List ℕ) (n : ℕ) (columns : List (List ℕ)) : Type 0 where
+  pub count : length columns ≡ n
+  pub lengths : (unit : ℕ) → unit < n → length (slice_index_or columns unit []) ≡ rows
+  pub cells : (row unit : ℕ) → row < rows → unit < n → slice_index (slice_index_or columns unit []) row ≡ slice_index next (row * units + unit)
 
 -- a word of units
 abbrev pub IsWord : Moves → List ℕ → Type 0

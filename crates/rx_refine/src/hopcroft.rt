@@ -1,12 +1,10 @@
 //! The refinement.
 
-use std::alloc::{AllocError, Global};
-
-use rx_base::Steps;
-
 use crate::groups::Groups;
 use crate::lists::Incoming;
 use crate::partition::Partition;
+use rx_base::Steps;
+use std::alloc::{AllocError, Global};
 
 /// For each row the number of its block. Two rows are in one block exactly where they behave alike for
 /// the labels `first`.
@@ -39,11 +37,7 @@ pub fn refine<L>(
 }
 
 /// The partition into rows with equal labels.
-fn by_label(
-    alloc: Global,
-    first: &[u32],
-    touched: &mut Vec<u32>,
-) -> Result<Partition, AllocError> {
+fn by_label(alloc: Global, first: &[u32], touched: &mut Vec<u32>) -> Result<Partition, AllocError> {
     let groups = Groups::new(alloc, first)?;
     let mut partition = Partition::new(alloc, first.len())?;
     for label in 0..first.len() {

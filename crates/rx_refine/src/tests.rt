@@ -1,8 +1,7 @@
 use super::*;
+use rx_base::Tally;
 use std::alloc::{AllocError, Global};
 use std::test::Fail;
-
-use rx_base::Tally;
 
 /// The blocks, and how many steps they took.
 fn blocks(
