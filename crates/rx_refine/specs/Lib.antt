@@ -1,3 +1,5 @@
 pub mod Moves
 pub mod Places
 pub mod Groups
+pub mod Parts
+pub mod Kept
