@@ -12,9 +12,9 @@ module _ (p : Parts) (w : IsPartition p) (b : ℕ) (hb : b < length p.sizes) whe
       let lo : get_or p.starts b 0 ≤ get_or p.places x 0 = rw e at (w.from_start x l) in
       rw e (⊎_elim
       (λ (t : ltb (get_or p.places x 0) (get_or p.starts b 0 + get_or p.marks b 0) ≡ true).
-          t ∙ sym (true_in_range (get_or p.starts b 0) (get_or p.marks b 0) (get_or p.places x 0) lo (ltb-true (get_or p.places x 0) (get_or p.starts b 0 + get_or p.marks b 0) t)))
+      t ∙ sym (true_in_range (get_or p.starts b 0) (get_or p.marks b 0) (get_or p.places x 0) lo (ltb-true (get_or p.places x 0) (get_or p.starts b 0 + get_or p.marks b 0) t)))
       (λ (f : ltb (get_or p.places x 0) (get_or p.starts b 0 + get_or p.marks b 0) ≡ false).
-          f ∙ sym (out_of (get_or p.starts b 0) (get_or p.marks b 0) (get_or p.places x 0) (λ _ hi. let g = ltb-false (get_or p.places x 0) (get_or p.starts b 0 + get_or p.marks b 0) f in omega arith)))
+      f ∙ sym (out_of (get_or p.starts b 0) (get_or p.marks b 0) (get_or p.places x 0) (λ _ hi. let g = ltb-false (get_or p.places x 0) (get_or p.starts b 0 + get_or p.marks b 0) f in omega arith)))
       (cases_Bool (ltb (get_or p.places x 0) (get_or p.starts b 0 + get_or p.marks b 0))))
 
   pub front_halves : 0 < get_or p.marks b 0 → get_or p.marks b 0 ≤ get_or p.sizes b 0 - get_or p.marks b 0 → AreHalves p b (get_or p.starts b 0 + get_or p.marks b 0) (get_or p.sizes b 0 - get_or p.marks b 0) (get_or p.starts b 0) (get_or p.marks b 0)
@@ -27,9 +27,9 @@ module _ (p : Parts) (w : IsPartition p) (b : ℕ) (hb : b < length p.sizes) whe
     low2 = omega arith;
     high2 = omega arith;
     cover = λ q lo hi out. ⊎_elim
-      (λ (t : ltb q (get_or p.starts b 0 + get_or p.marks b 0) ≡ true). absurd (out lo (ltb-true q (get_or p.starts b 0 + get_or p.marks b 0) t)))
-      (λ (f : ltb q (get_or p.starts b 0 + get_or p.marks b 0) ≡ false). let g = ltb-false q (get_or p.starts b 0 + get_or p.marks b 0) f in (g, omega arith))
-      (cases_Bool (ltb q (get_or p.starts b 0 + get_or p.marks b 0)));
+        (λ (t : ltb q (get_or p.starts b 0 + get_or p.marks b 0) ≡ true). absurd (out lo (ltb-true q (get_or p.starts b 0 + get_or p.marks b 0) t)))
+        (λ (f : ltb q (get_or p.starts b 0 + get_or p.marks b 0) ≡ false). let g = ltb-false q (get_or p.starts b 0 + get_or p.marks b 0) f in (g, omega arith))
+        (cases_Bool (ltb q (get_or p.starts b 0 + get_or p.marks b 0)));
     small = omega arith;
     same_mark = λ x y lx ly ex ey e. mark_front x lx ex ∙ e ∙ sym (mark_front y ly ey);
     same_half = λ x y lx ly ex ey e. sym (mark_front x lx ex) ∙ e ∙ mark_front y ly ey;
@@ -42,11 +42,11 @@ module _ (p : Parts) (w : IsPartition p) (b : ℕ) (hb : b < length p.sizes) whe
       let hi : get_or p.places x 0 < get_or p.starts b 0 + get_or p.sizes b 0 = rw e at (w.to_end x l) in
       rw e (⊎_elim
       (λ (t : ltb (get_or p.places x 0) (get_or p.starts b 0 + get_or p.marks b 0) ≡ true).
-          let h = ltb-true (get_or p.places x 0) (get_or p.starts b 0 + get_or p.marks b 0) t in
-          rw (t, out_of (get_or p.starts b 0 + get_or p.marks b 0) (get_or p.sizes b 0 - get_or p.marks b 0) (get_or p.places x 0) (λ a _. omega arith)) refl)
+      let h = ltb-true (get_or p.places x 0) (get_or p.starts b 0 + get_or p.marks b 0) t in
+      rw (t, out_of (get_or p.starts b 0 + get_or p.marks b 0) (get_or p.sizes b 0 - get_or p.marks b 0) (get_or p.places x 0) (λ a _. omega arith)) refl)
       (λ (f : ltb (get_or p.places x 0) (get_or p.starts b 0 + get_or p.marks b 0) ≡ false).
-          let h = ltb-false (get_or p.places x 0) (get_or p.starts b 0 + get_or p.marks b 0) f in
-          rw (f, true_in_range (get_or p.starts b 0 + get_or p.marks b 0) (get_or p.sizes b 0 - get_or p.marks b 0) (get_or p.places x 0) h (omega arith)) refl)
+      let h = ltb-false (get_or p.places x 0) (get_or p.starts b 0 + get_or p.marks b 0) f in
+      rw (f, true_in_range (get_or p.starts b 0 + get_or p.marks b 0) (get_or p.sizes b 0 - get_or p.marks b 0) (get_or p.places x 0) h (omega arith)) refl)
       (cases_Bool (ltb (get_or p.places x 0) (get_or p.starts b 0 + get_or p.marks b 0))))
 
   flip_same : (s t : Bool) → cond s false true ≡ cond t false true → s ≡ t
@@ -65,9 +65,9 @@ module _ (p : Parts) (w : IsPartition p) (b : ℕ) (hb : b < length p.sizes) whe
     low2 = omega arith;
     high2 = omega arith;
     cover = λ q lo hi out. ⊎_elim
-      (λ (t : ltb q (get_or p.starts b 0 + get_or p.marks b 0) ≡ true). (lo, ltb-true q (get_or p.starts b 0 + get_or p.marks b 0) t))
-      (λ (f : ltb q (get_or p.starts b 0 + get_or p.marks b 0) ≡ false). absurd (out (ltb-false q (get_or p.starts b 0 + get_or p.marks b 0) f) (omega arith)))
-      (cases_Bool (ltb q (get_or p.starts b 0 + get_or p.marks b 0)));
+        (λ (t : ltb q (get_or p.starts b 0 + get_or p.marks b 0) ≡ true). (lo, ltb-true q (get_or p.starts b 0 + get_or p.marks b 0) t))
+        (λ (f : ltb q (get_or p.starts b 0 + get_or p.marks b 0) ≡ false). absurd (out (ltb-false q (get_or p.starts b 0 + get_or p.marks b 0) f) (omega arith)))
+        (cases_Bool (ltb q (get_or p.starts b 0 + get_or p.marks b 0)));
     small = omega arith;
     same_mark = λ x y lx ly ex ey e. back_mark x lx ex (omega arith) ∙ ap (λ t. cond t false true) e ∙ sym (back_mark y ly ey (omega arith));
     same_half = λ x y lx ly ex ey e. flip_same (in_range (get_or p.starts b 0 + get_or p.marks b 0) (get_or p.sizes b 0 - get_or p.marks b 0) (get_or p.places x 0)) (in_range (get_or p.starts b 0 + get_or p.marks b 0) (get_or p.sizes b 0 - get_or p.marks b 0) (get_or p.places y 0)) (sym (back_mark x lx ex (omega arith)) ∙ e ∙ back_mark y ly ey (omega arith));
@@ -107,9 +107,9 @@ module _ (p : Parts) (w : IsPartition p) (b : ℕ) (hb : b < length p.sizes) whe
       within = w.within;
       some = w.some;
       marked = λ c l. ⊎_elim
-        (λ (e : c ≡ b). rw (e, own_mark) (omega arith))
-        (λ (ne : c ≡ b → ⊥). rw (other_mark c ne) (w.marked c l))
-        (cases_eq c b);
+          (λ (e : c ≡ b). rw (e, own_mark) (omega arith))
+          (λ (ne : c ≡ b → ⊥). rw (other_mark c ne) (w.marked c l))
+          (cases_eq c b);
       in_block = w.in_block;
     };
     rows_len = refl;
@@ -131,7 +131,7 @@ added p w b s1 z1 s2 z2 new hb a adds =
     let same : halved p b s1 z1 s2 z2 new.blocks ≡ new = parts_same p.rows p.places (set p.starts b s1 ++ s2 ∷ []) (set p.sizes b z1 ++ z2 ∷ []) (set p.marks b 0 ++ 0 ∷ []) new adds.rows adds.places adds.starts adds.sizes adds.marks in
     subst (λ n. SplitsBlock p b n) same
     (SplitsBlock_halved p w b s1 z1 s2 z2 hb a new.blocks (adds.blocks_len ∙ w.blocks_len)
-        (λ row l. adds.blocks row l ∙ ap (λ n. cond (in_range s2 z2 (get_or p.places row 0)) n (block_of p row)) (length-set p.sizes b z1)))
+    (λ row l. adds.blocks row l ∙ ap (λ n. cond (in_range s2 z2 (get_or p.places row 0)) n (block_of p row)) (length-set p.sizes b z1)))
 
 -- a split, as the fields are after it
 pub SplitsBlock-from_AddsBlock : (p : Parts) (w : IsPartition p) (b s1 z1 s2 z2 : ℕ) (before new : Parts) → b < length p.sizes → AreHalves p b s1 z1 s2 z2 → before ≡ record p { starts = set p.starts b s1; sizes = set p.sizes b z1; marks = set p.marks b 0 } → AddsBlock before s2 z2 new → SplitsBlock p b new
@@ -142,8 +142,10 @@ SplitsBlock-from_AddsBlock p w b s1 z1 s2 z2 before new hb a e adds =
 module _ (p : Parts) (w : IsPartition p) (b start size marked : ℕ) (hb : b < length p.sizes) (rs : start ≡ get_or p.starts b start) (rz : size ≡ get_or p.sizes b size) (rm : marked ≡ get_or p.marks b marked) where
   start_is : start ≡ get_or p.starts b 0
   start_is = let l = w.starts_len in get_or_read p.starts b start (omega arith) rs 0
+
   size_is : size ≡ get_or p.sizes b 0
   size_is = get_or_read p.sizes b size hb rz 0
+
   marked_is : marked ≡ get_or p.marks b 0
   marked_is = let l = w.marks_len in get_or_read p.marks b marked (omega arith) rm 0
 

@@ -4,3 +4,4 @@ pub mod Columns
 pub mod Splitting
 pub mod Halving
 pub mod Marking
+pub mod Splits

@@ -23,10 +23,10 @@ module _ (p : Parts) (w : IsPartition p) where
       let ej : get_or p.starts j d ≡ get_or p.starts j 0 = get_or_default p.starts j d 0 h in
       rw (ei, ej) (ne_eqb (get_or p.starts i 0) (get_or p.starts j 0)
       (λ (e : get_or p.starts i 0 ≡ get_or p.starts j 0).
-          let bi : block_of p (get_or p.rows (get_or p.starts i 0) 0) ≡ i = block_of_start i (omega arith) in
-          let bj : block_of p (get_or p.rows (get_or p.starts j 0) 0) ≡ j = block_of_start j (omega arith) in
-          let same : i ≡ j = sym bi ∙ ap (λ n. block_of p (get_or p.rows n 0)) e ∙ bj in
-          omega arith))
+      let bi : block_of p (get_or p.rows (get_or p.starts i 0) 0) ≡ i = block_of_start i (omega arith) in
+      let bj : block_of p (get_or p.rows (get_or p.starts j 0) 0) ≡ j = block_of_start j (omega arith) in
+      let same : i ≡ j = sym bi ∙ ap (λ n. block_of p (get_or p.rows n 0)) e ∙ bj in
+      omega arith))
 
   start_in : (q : ℕ) → Contains p.starts q → q < length p.rows
   start_in q (k, l, e) =
@@ -109,9 +109,10 @@ module _ (p : Parts) (w : IsPartition p) (b s1 z1 s2 z2 : ℕ) (hb : b < length 
   block_in row l t =
       let r = in_range_true s2 z2 (get_or p.places row 0) t in
       let lo = a.low2 in
-      let hi = a.high2 in
-      (is row l ∙ cond-true (in_range s2 z2 (get_or p.places row 0)) (length p.sizes) (block_of p row) t,
-        ap (λ n. block_of p n) (sym (w.permuted.row_of_place row l)) ∙ w.in_block b (get_or p.places row 0) hb (omega (arith, r.0)) (omega (arith, r.1)))
+      let hi = a.high2 in (
+        is row l ∙ cond-true (in_range s2 z2 (get_or p.places row 0)) (length p.sizes) (block_of p row) t,
+        ap (λ n. block_of p n) (sym (w.permuted.row_of_place row l)) ∙ w.in_block b (get_or p.places row 0) hb (omega (arith, r.0)) (omega (arith, r.1)),
+      )
 
   block_out : (row : ℕ) → row < length p.rows → in_range s2 z2 (get_or p.places row 0) ≡ false → get_or blocks row 0 ≡ block_of p row
   block_out row l f = is row l ∙ cond-false (in_range s2 z2 (get_or p.places row 0)) (length p.sizes) (block_of p row) f
@@ -126,16 +127,22 @@ module _ (p : Parts) (w : IsPartition p) (b s1 z1 s2 z2 : ℕ) (hb : b < length 
 
   n_starts_own : get_or (set p.starts b s1 ++ s2 ∷ []) b 0 ≡ s1
   n_starts_own = edited_own p.starts b s1 s2 (length p.sizes) w.starts_len hb
+
   n_starts_new : get_or (set p.starts b s1 ++ s2 ∷ []) (length p.sizes) 0 ≡ s2
   n_starts_new = edited_new p.starts b s1 s2 (length p.sizes) w.starts_len hb
+
   n_starts_other : (c : ℕ) → c < length p.sizes → (c ≡ b → ⊥) → get_or (set p.starts b s1 ++ s2 ∷ []) c 0 ≡ get_or p.starts c 0
   n_starts_other = edited_other p.starts b s1 s2 (length p.sizes) w.starts_len hb
+
   n_sizes_own : get_or (set p.sizes b z1 ++ z2 ∷ []) b 0 ≡ z1
   n_sizes_own = edited_own p.sizes b z1 z2 (length p.sizes) refl hb
+
   n_sizes_new : get_or (set p.sizes b z1 ++ z2 ∷ []) (length p.sizes) 0 ≡ z2
   n_sizes_new = edited_new p.sizes b z1 z2 (length p.sizes) refl hb
+
   n_sizes_other : (c : ℕ) → c < length p.sizes → (c ≡ b → ⊥) → get_or (set p.sizes b z1 ++ z2 ∷ []) c 0 ≡ get_or p.sizes c 0
   n_sizes_other = edited_other p.sizes b z1 z2 (length p.sizes) refl hb
+
   n_sizes_len : length (set p.sizes b z1 ++ z2 ∷ []) ≡ length p.sizes + 1
   n_sizes_len = edited_len p.sizes b z1 z2 (length p.sizes) refl hb
 
@@ -144,18 +151,18 @@ module _ (p : Parts) (w : IsPartition p) (b s1 z1 s2 z2 : ℕ) (hb : b < length 
   h_range row l =
       ⊎_elim
       (λ (t : in_range s2 z2 (get_or p.places row 0) ≡ true).
-          let r = in_range_true s2 z2 (get_or p.places row 0) t in
-          rw ((block_in row l t).0, n_starts_new, n_sizes_new) (r.0, r.1))
+      let r = in_range_true s2 z2 (get_or p.places row 0) t in
+      rw ((block_in row l t).0, n_starts_new, n_sizes_new) (r.0, r.1))
       (λ (f : in_range s2 z2 (get_or p.places row 0) ≡ false).
-          ⊎_elim
-          (λ (e : block_of p row ≡ b).
-              let lo : get_or p.starts b 0 ≤ get_or p.places row 0 = rw e at (w.from_start row l) in
-              let hi : get_or p.places row 0 < get_or p.starts b 0 + get_or p.sizes b 0 = rw e at (w.to_end row l) in
-              let r = a.cover (get_or p.places row 0) lo hi (in_range_false s2 z2 (get_or p.places row 0) f) in
-              rw (block_out row l f, e, n_starts_own, n_sizes_own) (r.0, r.1))
-          (λ (ne : block_of p row ≡ b → ⊥).
-              rw (block_out row l f, n_starts_other (block_of p row) (w.block_at row l) ne, n_sizes_other (block_of p row) (w.block_at row l) ne) (w.from_start row l, w.to_end row l))
-          (cases_eq (block_of p row) b))
+      ⊎_elim
+      (λ (e : block_of p row ≡ b).
+      let lo : get_or p.starts b 0 ≤ get_or p.places row 0 = rw e at (w.from_start row l) in
+      let hi : get_or p.places row 0 < get_or p.starts b 0 + get_or p.sizes b 0 = rw e at (w.to_end row l) in
+      let r = a.cover (get_or p.places row 0) lo hi (in_range_false s2 z2 (get_or p.places row 0) f) in
+      rw (block_out row l f, e, n_starts_own, n_sizes_own) (r.0, r.1))
+      (λ (ne : block_of p row ≡ b → ⊥).
+      rw (block_out row l f, n_starts_other (block_of p row) (w.block_at row l) ne, n_sizes_other (block_of p row) (w.block_at row l) ne) (w.from_start row l, w.to_end row l))
+      (cases_eq (block_of p row) b))
       (cases_Bool (in_range s2 z2 (get_or p.places row 0)))
 
   h_block_at : (row : ℕ) → row < length p.rows → get_or blocks row 0 < length (set p.sizes b z1 ++ z2 ∷ [])
@@ -172,9 +179,9 @@ module _ (p : Parts) (w : IsPartition p) (b s1 z1 s2 z2 : ℕ) (hb : b < length 
       ⊎_elim
       (λ (e : c ≡ b). subst P (sym e) own)
       (λ (ne : c ≡ b → ⊥). ⊎_elim
-          (λ (s : c < length p.sizes). other c s ne)
-          (λ (g : length p.sizes ≤ c). let e : length p.sizes ≡ c = omega arith in subst P e new)
-          (cases_lt c (length p.sizes)))
+      (λ (s : c < length p.sizes). other c s ne)
+      (λ (g : length p.sizes ≤ c). let e : length p.sizes ≡ c = omega arith in subst P e new)
+      (cases_lt c (length p.sizes)))
       (cases_eq c b)
 
   h_within : (c : ℕ) → c < length (set p.sizes b z1 ++ z2 ∷ []) → get_or (set p.starts b s1 ++ s2 ∷ []) c 0 + get_or (set p.sizes b z1 ++ z2 ∷ []) c 0 ≤ length p.rows
@@ -193,8 +200,10 @@ module _ (p : Parts) (w : IsPartition p) (b s1 z1 s2 z2 : ℕ) (hb : b < length 
 
   n_marks_own : get_or (set p.marks b 0 ++ 0 ∷ []) b 0 ≡ 0
   n_marks_own = edited_own p.marks b 0 0 (length p.sizes) w.marks_len hb
+
   n_marks_new : get_or (set p.marks b 0 ++ 0 ∷ []) (length p.sizes) 0 ≡ 0
   n_marks_new = edited_new p.marks b 0 0 (length p.sizes) w.marks_len hb
+
   n_marks_other : (c : ℕ) → c < length p.sizes → (c ≡ b → ⊥) → get_or (set p.marks b 0 ++ 0 ∷ []) c 0 ≡ get_or p.marks c 0
   n_marks_other = edited_other p.marks b 0 0 (length p.sizes) w.marks_len hb
 
@@ -211,33 +220,33 @@ module _ (p : Parts) (w : IsPartition p) (b s1 z1 s2 z2 : ℕ) (hb : b < length 
       ⊎_elim
       (λ (s : o < length p.sizes). n_marks_other o s ne)
       (λ (g : length p.sizes ≤ o). ⊎_elim
-          (λ (e : o ≡ length p.sizes). rw e (n_marks_new ∙ sym (get_or_past p.marks (length p.sizes) 0 (omega arith))))
-          (λ (n : o ≡ length p.sizes → ⊥). edited_past p.marks b 0 0 (length p.sizes) ml hb o (omega arith) ∙ sym (get_or_past p.marks o 0 (omega arith)))
-          (cases_eq o (length p.sizes)))
+      (λ (e : o ≡ length p.sizes). rw e (n_marks_new ∙ sym (get_or_past p.marks (length p.sizes) 0 (omega arith))))
+      (λ (n : o ≡ length p.sizes → ⊥). edited_past p.marks b 0 0 (length p.sizes) ml hb o (omega arith) ∙ sym (get_or_past p.marks o 0 (omega arith)))
+      (cases_eq o (length p.sizes)))
       (cases_lt o (length p.sizes))
 
   h_in_block : (c place : ℕ) → c < length (set p.sizes b z1 ++ z2 ∷ []) → get_or (set p.starts b s1 ++ s2 ∷ []) c 0 ≤ place → place < get_or (set p.starts b s1 ++ s2 ∷ []) c 0 + get_or (set p.sizes b z1 ++ z2 ∷ []) c 0 → get_or blocks (get_or p.rows place 0) 0 ≡ c
   h_in_block c place l =
       block_cases (λ c. get_or (set p.starts b s1 ++ s2 ∷ []) c 0 ≤ place → place < get_or (set p.starts b s1 ++ s2 ∷ []) c 0 + get_or (set p.sizes b z1 ++ z2 ∷ []) c 0 → get_or blocks (get_or p.rows place 0) 0 ≡ c) c l
       (rw (n_starts_own, n_sizes_own) (λ lo hi.
-          let h1 = a.low1 in
-          let h2 = a.high1 in
-          let pl : place < length p.rows = omega (arith, w.within b hb) in
-          let row : get_or p.rows place 0 < length p.rows = w.permuted.row_at place pl in
-          let back : get_or p.places (get_or p.rows place 0) 0 ≡ place = w.permuted.place_of_row place pl in
-          let f : in_range s2 z2 (get_or p.places (get_or p.rows place 0) 0) ≡ false = rw back (out_of s2 z2 place (a.apart place lo hi)) in
-          block_out (get_or p.rows place 0) row f ∙ w.in_block b place hb (omega arith) (omega arith)))
+      let h1 = a.low1 in
+      let h2 = a.high1 in
+      let pl : place < length p.rows = omega (arith, w.within b hb) in
+      let row : get_or p.rows place 0 < length p.rows = w.permuted.row_at place pl in
+      let back : get_or p.places (get_or p.rows place 0) 0 ≡ place = w.permuted.place_of_row place pl in
+      let f : in_range s2 z2 (get_or p.places (get_or p.rows place 0) 0) ≡ false = rw back (out_of s2 z2 place (a.apart place lo hi)) in
+      block_out (get_or p.rows place 0) row f ∙ w.in_block b place hb (omega arith) (omega arith)))
       (rw (n_starts_new, n_sizes_new) (λ lo hi.
-          let h2 = a.high2 in
-          let pl : place < length p.rows = omega (arith, w.within b hb) in
-          let row : get_or p.rows place 0 < length p.rows = w.permuted.row_at place pl in
-          let back : get_or p.places (get_or p.rows place 0) 0 ≡ place = w.permuted.place_of_row place pl in
-          (block_in (get_or p.rows place 0) row (rw back (true_in_range s2 z2 place lo hi))).0))
+      let h2 = a.high2 in
+      let pl : place < length p.rows = omega (arith, w.within b hb) in
+      let row : get_or p.rows place 0 < length p.rows = w.permuted.row_at place pl in
+      let back : get_or p.places (get_or p.rows place 0) 0 ≡ place = w.permuted.place_of_row place pl in
+      (block_in (get_or p.rows place 0) row (rw back (true_in_range s2 z2 place lo hi))).0))
       (λ c h ne. rw (n_starts_other c h ne, n_sizes_other c h ne) (λ lo hi.
-          let pl : place < length p.rows = omega (arith, w.within c h) in
-          let row : get_or p.rows place 0 < length p.rows = w.permuted.row_at place pl in
-          let own : block_of p (get_or p.rows place 0) ≡ c = w.in_block c place h lo hi in
-          block_out (get_or p.rows place 0) row (out_of_other (get_or p.rows place 0) row (λ e. ne (sym own ∙ e))) ∙ own))
+      let pl : place < length p.rows = omega (arith, w.within c h) in
+      let row : get_or p.rows place 0 < length p.rows = w.permuted.row_at place pl in
+      let own : block_of p (get_or p.rows place 0) ≡ c = w.in_block c place h lo hi in
+      block_out (get_or p.rows place 0) row (out_of_other (get_or p.rows place 0) row (λ e. ne (sym own ∙ e))) ∙ own))
 
   pub IsPartition_halved : IsPartition (halved p b s1 z1 s2 z2 blocks)
   IsPartition_halved = record {
@@ -259,13 +268,13 @@ module _ (p : Parts) (w : IsPartition p) (b s1 z1 s2 z2 : ℕ) (hb : b < length 
   one_side x y lx ly e =
       ⊎_elim
       (λ (tx : in_range s2 z2 (get_or p.places x 0) ≡ true). ⊎_elim
-          (λ (ty : in_range s2 z2 (get_or p.places y 0) ≡ true). tx ∙ sym ty)
-          (λ (fy : in_range s2 z2 (get_or p.places y 0) ≡ false). absurd (let u = (block_in x lx tx).0 in let v = block_out y ly fy in omega (arith, w.block_at y ly)))
-          (cases_Bool (in_range s2 z2 (get_or p.places y 0))))
+      (λ (ty : in_range s2 z2 (get_or p.places y 0) ≡ true). tx ∙ sym ty)
+      (λ (fy : in_range s2 z2 (get_or p.places y 0) ≡ false). absurd (let u = (block_in x lx tx).0 in let v = block_out y ly fy in omega (arith, w.block_at y ly)))
+      (cases_Bool (in_range s2 z2 (get_or p.places y 0))))
       (λ (fx : in_range s2 z2 (get_or p.places x 0) ≡ false). ⊎_elim
-          (λ (ty : in_range s2 z2 (get_or p.places y 0) ≡ true). absurd (let u = (block_in y ly ty).0 in let v = block_out x lx fx in omega (arith, w.block_at x lx)))
-          (λ (fy : in_range s2 z2 (get_or p.places y 0) ≡ false). fx ∙ sym fy)
-          (cases_Bool (in_range s2 z2 (get_or p.places y 0))))
+      (λ (ty : in_range s2 z2 (get_or p.places y 0) ≡ true). absurd (let u = (block_in y ly ty).0 in let v = block_out x lx fx in omega (arith, w.block_at x lx)))
+      (λ (fy : in_range s2 z2 (get_or p.places y 0) ≡ false). fx ∙ sym fy)
+      (cases_Bool (in_range s2 z2 (get_or p.places y 0))))
       (cases_Bool (in_range s2 z2 (get_or p.places x 0)))
 
   h_finer : (x y : ℕ) → x < length p.rows → y < length p.rows → get_or blocks x 0 ≡ get_or blocks y 0 → block_of p x ≡ block_of p y
@@ -280,23 +289,26 @@ module _ (p : Parts) (w : IsPartition p) (b s1 z1 s2 z2 : ℕ) (hb : b < length 
   h_kept x y lx ly e m =
       ⊎_elim
       (λ (eb : block_of p x ≡ b).
-          let side = a.same_half x y lx ly eb (sym e ∙ eb) (m eb) in
-          is x lx ∙ ap (λ t. cond t (length p.sizes) (block_of p x)) side ∙ ap (λ n. cond (in_range s2 z2 (get_or p.places y 0)) (length p.sizes) n) e ∙ sym (is y ly))
+      let side = a.same_half x y lx ly eb (sym e ∙ eb) (m eb) in
+      is x lx ∙ ap (λ t. cond t (length p.sizes) (block_of p x)) side ∙ ap (λ n. cond (in_range s2 z2 (get_or p.places y 0)) (length p.sizes) n) e ∙ sym (is y ly))
       (λ (ne : block_of p x ≡ b → ⊥).
-          block_out x lx (out_of_other x lx ne) ∙ e ∙ sym (block_out y ly (out_of_other y ly (λ f. ne (e ∙ f)))))
+      block_out x lx (out_of_other x lx ne) ∙ e ∙ sym (block_out y ly (out_of_other y ly (λ f. ne (e ∙ f)))))
       (cases_eq (block_of p x) b)
 
   h_numbers : (x : ℕ) → x < length p.rows → ((get_or blocks x 0 ≡ block_of p x) × (get_or (set p.sizes b z1 ++ z2 ∷ []) (block_of p x) 0 ≤ size_of p (block_of p x))) ⊎ ((block_of p x ≡ b) × (length p.sizes ≤ get_or blocks x 0) × (2 * get_or (set p.sizes b z1 ++ z2 ∷ []) (get_or blocks x 0) 0 ≤ size_of p b))
   h_numbers x l =
       ⊎_elim
       (λ (t : in_range s2 z2 (get_or p.places x 0) ≡ true).
-          let e = (block_in x l t).0 in
-          inr ((block_in x l t).1, omega arith, rw (e, n_sizes_new) a.small))
+      let e = (block_in x l t).0 in
+      inr ((block_in x l t).1, omega arith, rw (e, n_sizes_new) a.small))
       (λ (f : in_range s2 z2 (get_or p.places x 0) ≡ false).
-          inl (block_out x l f, ⊎_elim
-              (λ (eb : block_of p x ≡ b). rw (eb, n_sizes_own) (let h1 = a.high1 in let h2 = a.low1 in omega arith))
-              (λ (ne : block_of p x ≡ b → ⊥). rw (n_sizes_other (block_of p x) (w.block_at x l) ne) (omega arith))
-              (cases_eq (block_of p x) b)))
+      inl (
+        block_out x l f,
+        ⊎_elim
+            (λ (eb : block_of p x ≡ b). rw (eb, n_sizes_own) (let h1 = a.high1 in let h2 = a.low1 in omega arith))
+            (λ (ne : block_of p x ≡ b → ⊥). rw (n_sizes_other (block_of p x) (w.block_at x l) ne) (omega arith))
+            (cases_eq (block_of p x) b),
+      ))
       (cases_Bool (in_range s2 z2 (get_or p.places x 0)))
 
   h_others : (x : ℕ) → x < length p.rows → (block_of p x ≡ b → ⊥) → is_marked (halved p b s1 z1 s2 z2 blocks) x ≡ is_marked p x
