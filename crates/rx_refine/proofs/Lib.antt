@@ -5,3 +5,4 @@ pub mod Splitting
 pub mod Halving
 pub mod Marking
 pub mod Splits
+pub mod Refining
