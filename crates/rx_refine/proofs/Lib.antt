@@ -6,3 +6,5 @@ pub mod Halving
 pub mod Marking
 pub mod Splits
 pub mod Refining
+pub mod Totals
+pub mod Cost
