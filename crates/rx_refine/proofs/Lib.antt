@@ -8,3 +8,4 @@ pub mod Splits
 pub mod Refining
 pub mod Totals
 pub mod Cost
+pub mod Labels

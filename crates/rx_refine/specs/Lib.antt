@@ -3,3 +3,4 @@ pub mod Places
 pub mod Groups
 pub mod Parts
 pub mod Kept
+pub mod Labelled

@@ -1,5 +1,5 @@
 -- Tables of rows, the rows that behave alike in one, and words that tell two rows apart.
-use Rattle.std.specs.Prelude.{ℕ, ◌≡◌, ◌≢◌, ◌<◌, ◌≤◌, ◌+◌, ◌*◌, ◌^◌, List, [], length, slice_index, slice_index_or, Contains}
+use Rattle.std.specs.Prelude.{ℕ, ◌≡◌, ◌↔◌, ◌≢◌, ◌<◌, ◌≤◌, ◌+◌, ◌*◌, ◌^◌, List, [], length, slice_index, slice_index_or, Contains}
 use Rattle.std.specs.Int.Digits.{digits_of}
 use Rattle.rx_spec.specs.Machines.{run}
 use Rattle.rx_refine.specs.Places.{places_of}
@@ -58,3 +58,15 @@ binary_digits n = length (digits_of 2 n)
 -- at most so many reads are made where a table is refined
 abbrev pub read_limit : Moves → ℕ
 read_limit m = 2 * m.units * m.rows * binary_digits m.rows
+
+-- rows have one number exactly where they behave alike
+abbrev pub AreAlikeByNumber : Moves → List ℕ → List ℕ → Type 0
+AreAlikeByNumber m labels numbers = (x y : ℕ) → x < m.rows → y < m.rows → (slice_index numbers x ≡ slice_index numbers y) ↔ BehaveAlike m labels x y
+
+-- a word tells rows with different numbers apart
+abbrev pub AreToldByNumber : Moves → List ℕ → List ℕ → Type 0
+AreToldByNumber m labels numbers = (x y : ℕ) → x < m.rows → y < m.rows → slice_index numbers x ≢ slice_index numbers y → AreToldApart m labels x y
+
+-- each number up to the largest one stands there
+abbrev pub AreWithoutGaps : List ℕ → Type 0
+AreWithoutGaps numbers = (x number : ℕ) → x < length numbers → number < slice_index numbers x → Contains numbers number
