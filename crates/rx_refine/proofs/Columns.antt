@@ -1,10 +1,10 @@
 -- Lemmas on the columns of a table.
-use Rattle.std.proofs.Common.{◌≡◌, ℕ, ◌+◌, ◌-◌, ◌*◌, ◌^◌, ◌<◌, ◌≤◌, ◌⊎◌, List, [], ◌∷◌, ◌++◌, length, get_or, refl, sym, subst, ap, ◌∙◌, inl, inr, ⊎_elim, arith, mul-le-mul_right}
+use Rattle.std.proofs.Common.{◌≡◌, ℕ, ◌+◌, ◌*◌, ◌^◌, ◌<◌, ◌≤◌, List, [], ◌∷◌, ◌++◌, length, get_or, refl, sym, subst, ap, ◌∙◌, ⊎_elim, arith}
 use Rattle.std.specs.List.{All}
 use Rattle.std.proofs.lemmas.Bool.{cases_lt}
 use Rattle.std.proofs.lemmas.Nat.{mul-add-lt}
 use Rattle.std.proofs.lemmas.List.{get_or_read, get_or_past, get_or_push, length_push, get_or_append_left}
-use Rattle.rx_refine.specs.Moves.{Moves, AreMoves, AreColumns, next_row, column}
+use Rattle.rx_refine.specs.Moves.{Moves, AreMoves, AreColumns}
 
 -- what is read as the list of a unit
 pub column_read : (lists : List (List ℕ)) (unit : ℕ) (x : List ℕ) (n : ℕ) → 0 < n → length (get_or lists unit []) ≡ n → x ≡ get_or lists unit x → x ≡ get_or lists unit []

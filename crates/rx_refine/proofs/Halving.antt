@@ -1,9 +1,9 @@
 -- The two ways to split a block: its marked rows get the new number, or the others do.
-use Rattle.std.proofs.Common.{◌≡◌, ℕ, ◌+◌, ◌-◌, ◌*◌, ◌<◌, ◌≤◌, ◌⊎◌, Bool, true, false, cond, ◌&&◌, List, [], ◌∷◌, ◌++◌, length, get_or, set, ltb, leb, refl, sym, subst, ap, ◌∙◌, inl, inr, ⊎_elim, arith, true≢false, ltb-true, ltb-false, lt-ltb, le-ltb, length-set, get_or-set_same, get_or-set_other}
+use Rattle.std.proofs.Common.{◌≡◌, ℕ, ◌+◌, ◌-◌, ◌<◌, ◌≤◌, ◌⊎◌, Bool, true, false, cond, List, [], ◌∷◌, ◌++◌, length, get_or, set, ltb, refl, sym, subst, ap, ◌∙◌, inl, inr, ⊎_elim, arith, true≢false, ltb-true, ltb-false, lt-ltb, le-ltb, length-set, get_or-set_same, get_or-set_other}
 use Rattle.std.proofs.lemmas.Bool.{cases_Bool, cases_eq}
 use Rattle.std.proofs.lemmas.List.{get_or_read, set-get_or}
-use Rattle.rx_refine.specs.Parts.{Parts, ArePermuted, IsPartition, SplitsBlock, AddsBlock, block_of, size_of, is_marked}
-use Rattle.rx_refine.proofs.Splitting.{in_range, in_range_true, true_in_range, in_range_false, out_of, halved, AreHalves, SplitsBlock_halved}
+use Rattle.rx_refine.specs.Parts.{Parts, IsPartition, SplitsBlock, AddsBlock, block_of, is_marked}
+use Rattle.rx_refine.proofs.Splitting.{in_range, true_in_range, out_of, halved, AreHalves, SplitsBlock_halved}
 
 module _ (p : Parts) (w : IsPartition p) (b : ℕ) (hb : b < length p.sizes) where
   -- a row of the block that is marked stands in the front range, and the other way round

@@ -1,8 +1,8 @@
 -- The first blocks: rows with equal labels.
-use Rattle.std.proofs.Common.{◌≡◌, ℕ, ◌+◌, ◌<◌, ◌≤◌, ◌⊎◌, ◌^◌, Bool, true, false, List, [], ◌∷◌, ◌++◌, length, get_or, eqb, refl, sym, subst, ap, ◌∙◌, inl, inr, ⊎_elim, arith, true≢false, eqb-true, eq-eqb, ne_eqb, ◌||◌}
-use Rattle.std.specs.List.{Contains, All, list_any, flat_map}
+use Rattle.std.proofs.Common.{◌≡◌, ℕ, ◌+◌, ◌<◌, ◌≤◌, true, false, List, [], ◌∷◌, length, get_or, eqb, refl, sym, ap, ◌∙◌, ⊎_elim, arith, eqb-true, eq-eqb, ne_eqb, ◌||◌}
+use Rattle.std.specs.List.{All, flat_map}
 use Rattle.std.proofs.lemmas.Bool.{cases_Bool, cases_eq, cases_lt}
-use Rattle.std.proofs.lemmas.List.Folds.{list_any_at, list_any-append}
+use Rattle.std.proofs.lemmas.List.Folds.{list_any-append}
 use Rattle.std.proofs.lemmas.List.Elements.{Contains-get_or, All-append, All-nil}
 use Rattle.std.proofs.lemmas.Map.Views.{Contains-from_any}
 use Rattle.rx_refine.specs.Moves.{Moves, AreMoves, column, sources, next_row}
@@ -18,10 +18,10 @@ is_in-places_of xs v x l =
     ⊎_elim
     (λ (e : get_or xs x 0 ≡ v). any-from_Contains x (places_of xs v) (Contains-places_of xs v x l e) ∙ sym (eq-eqb (get_or xs x 0) v e))
     (λ (ne : get_or xs x 0 ≡ v → ⊥).
-        ⊎_elim
-        (λ (t : is_in (places_of xs v) x ≡ true). absurd (ne (value-places_of xs v x (Contains-from_any (λ a b. eqb-true a b) x (places_of xs v) t))))
-        (λ (f : is_in (places_of xs v) x ≡ false). f ∙ sym (ne_eqb (get_or xs x 0) v ne))
-        (cases_Bool (is_in (places_of xs v) x)))
+    ⊎_elim
+    (λ (t : is_in (places_of xs v) x ≡ true). absurd (ne (value-places_of xs v x (Contains-from_any (λ a b. eqb-true a b) x (places_of xs v) t))))
+    (λ (f : is_in (places_of xs v) x ≡ false). f ∙ sym (ne_eqb (get_or xs x 0) v ne))
+    (cases_Bool (is_in (places_of xs v) x)))
     (cases_eq (get_or xs x 0) v)
 
 pub places_of-small : (xs : List ℕ) (v n : ℕ) → length xs ≡ n → All (λ row. row < n) (places_of xs v)
@@ -55,10 +55,10 @@ module _ (labels : List ℕ) (p q : Parts) (n : ℕ) (a : IsByFirst labels p n) 
       ⊎_elim
       (λ (old : v < n). a.labelled x y v lx ly old (s.finer x y (in_rows x lx) (in_rows y ly) e) is)
       (λ (g : n ≤ v).
-          let now : v ≡ n = omega arith in
-          let i : is_in (places_of labels n) x ≡ is_in (places_of labels n) y = s.agrees x y (in_rows x lx) (in_rows y ly) e in
-          let t : eqb (get_or labels y 0) n ≡ true = sym (is_in-places_of labels n y ly) ∙ sym i ∙ is_in-places_of labels n x lx ∙ eq-eqb (get_or labels x 0) n (is ∙ now) in
-          eqb-true (get_or labels y 0) n t ∙ sym now)
+      let now : v ≡ n = omega arith in
+      let i : is_in (places_of labels n) x ≡ is_in (places_of labels n) y = s.agrees x y (in_rows x lx) (in_rows y ly) e in
+      let t : eqb (get_or labels y 0) n ≡ true = sym (is_in-places_of labels n y ly) ∙ sym i ∙ is_in-places_of labels n x lx ∙ eq-eqb (get_or labels x 0) n (is ∙ now) in
+      eqb-true (get_or labels y 0) n t ∙ sym now)
       (cases_lt v n)
 
   pub IsByFirst_more : IsByFirst labels q (n + 1)
@@ -86,8 +86,8 @@ pub is_in-flat_map : (m : Moves) (rows : List ℕ) (unit row : ℕ) → row < le
 is_in-flat_map m [] unit row l = refl
 is_in-flat_map m (r ∷ rs) unit row l =
     list_any-append (eqb row) (sources m r unit) (flat_map (λ r. sources m r unit) rs)
-        ∙ ap (λ s. s || is_in (flat_map (λ r. sources m r unit) rs) row) (is_in-places_of (column m unit) r row l)
-        ∙ ap (λ s. eqb (next_row m row unit) r || s) (is_in-flat_map m rs unit row l)
+    ∙ ap (λ s. s || is_in (flat_map (λ r. sources m r unit) rs) row) (is_in-places_of (column m unit) r row l)
+    ∙ ap (λ s. eqb (next_row m row unit) r || s) (is_in-flat_map m rs unit row l)
 
 pub flat_map-small : (m : Moves) (rows : List ℕ) (unit : ℕ) → AreMoves m → unit < m.units → 0 < m.rows → All (λ row. row < m.rows) (flat_map (λ r. sources m r unit) rows)
 flat_map-small m [] unit a h some = All-nil (λ row. row < m.rows)

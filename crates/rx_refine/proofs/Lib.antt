@@ -9,3 +9,4 @@ pub mod Refining
 pub mod Totals
 pub mod Cost
 pub mod Labels
+pub mod Rounds

@@ -1,15 +1,15 @@
 -- Why the blocks are right: while blocks are taken and worked through, rows of different blocks are told
 -- apart by a word, and rows of one block whose next rows are apart have one of these in a block that
 -- is still to be taken, or is being worked through.
-use Rattle.std.proofs.Common.{◌≡◌, ◌≢◌, ℕ, zero, suc, ◌+◌, ◌-◌, ◌*◌, ◌<◌, ◌≤◌, ◌⊎◌, Bool, true, false, List, [], ◌∷◌, ◌++◌, length, get_or, take, drop, eqb, refl, sym, subst, ap, ◌∙◌, inl, inr, ⊎_elim, arith, true≢false, eqb-true, eq-eqb, ne_eqb, add-zero, length-take, length-drop, get_or-take, get_or-drop}
-use Rattle.std.specs.List.{Contains, All, list_any, slice_range}
-use Rattle.std.proofs.lemmas.Bool.{cases_Bool, cases_eq, cases_lt}
+use Rattle.std.proofs.Common.{◌≡◌, ℕ, suc, ◌+◌, ◌-◌, ◌<◌, ◌≤◌, true, false, List, [], ◌∷◌, length, get_or, drop, eqb, refl, sym, subst, ap, ◌∙◌, ⊎_elim, arith, true≢false, eqb-true, eq-eqb, ne_eqb, length-take, length-drop, get_or-take, get_or-drop}
+use Rattle.std.specs.List.{Contains, All, slice_range}
+use Rattle.std.proofs.lemmas.Bool.{cases_Bool, cases_eq}
 use Rattle.std.proofs.lemmas.List.Folds.{list_any_at}
 use Rattle.std.proofs.lemmas.List.{get_or_default}
 use Rattle.std.proofs.lemmas.Map.Views.{Contains-from_any}
 use Rattle.rx_spec.specs.Machines.{run}
 use Rattle.rx_refine.specs.Moves.{Moves, AreMoves, next_row, IsWord, label_after, BehaveAlike, AreToldApart}
-use Rattle.rx_refine.specs.Parts.{Parts, IsPartition, SplitsBy, block_of, size_of, is_in}
+use Rattle.rx_refine.specs.Parts.{Parts, IsPartition, SplitsBy, block_of, is_in}
 use Rattle.rx_refine.proofs.Places.{Contains-cons}
 
 -- ---- words
@@ -17,7 +17,7 @@ label_after-cons : (m : Moves) (labels : List ℕ) (x unit : ℕ) (word : List �
 unfolding run
 label_after-cons m labels x unit word = refl
 
-label_after-nil : (m : Moves) (labels : List ℕ) (x : ℕ) → label_after m labels x [] ≡ get_or labels x 0
+pub label_after-nil : (m : Moves) (labels : List ℕ) (x : ℕ) → label_after m labels x [] ≡ get_or labels x 0
 unfolding run
 label_after-nil m labels x = refl
 
@@ -53,17 +53,18 @@ module _ (p : Parts) (w : IsPartition p) (b : ℕ) (hb : b < length p.sizes) whe
       let l : i < get_or p.starts b 0 + get_or p.sizes b 0 - get_or p.starts b 0 = omega arith in
       let r : get_or p.starts b 0 + i < length p.rows = omega (arith, w.within b hb) in
       get_or-take (get_or p.starts b 0 + get_or p.sizes b 0 - get_or p.starts b 0) (drop (get_or p.starts b 0) p.rows) i d l
-          ∙ get_or-drop (get_or p.starts b 0) p.rows i d
-          ∙ get_or_default p.rows (get_or p.starts b 0 + i) d 0 r
+      ∙ get_or-drop (get_or p.starts b 0) p.rows i d
+      ∙ get_or_default p.rows (get_or p.starts b 0 + i) d 0 r
 
   member_block : (row : ℕ) → Contains members row → (row < length p.rows) × (block_of p row ≡ b)
   member_block row (i, l, e) =
       let len = members_len in
       let h : i < get_or p.sizes b 0 = omega arith in
       let pl : get_or p.starts b 0 + i < length p.rows = omega (arith, w.within b hb) in
-      let at : get_or p.rows (get_or p.starts b 0 + i) 0 ≡ row = sym (members_at i row h) ∙ e in
-      (subst (λ n. n < length p.rows) at (w.permuted.row_at (get_or p.starts b 0 + i) pl),
-        subst (λ n. block_of p n ≡ b) at (w.in_block b (get_or p.starts b 0 + i) hb (omega arith) (omega arith)))
+      let at : get_or p.rows (get_or p.starts b 0 + i) 0 ≡ row = sym (members_at i row h) ∙ e in (
+        subst (λ n. n < length p.rows) at (w.permuted.row_at (get_or p.starts b 0 + i) pl),
+        subst (λ n. block_of p n ≡ b) at (w.in_block b (get_or p.starts b 0 + i) hb (omega arith) (omega arith)),
+      )
 
   member_at : (row : ℕ) → row < length p.rows → block_of p row ≡ b → is_in members row ≡ true
   member_at row l e =
@@ -81,10 +82,10 @@ module _ (p : Parts) (w : IsPartition p) (b : ℕ) (hb : b < length p.sizes) whe
       ⊎_elim
       (λ (e : block_of p row ≡ b). member_at row l e ∙ sym (eq-eqb (block_of p row) b e))
       (λ (ne : block_of p row ≡ b → ⊥).
-          ⊎_elim
-          (λ (t : is_in members row ≡ true). absurd (ne (member_block row (Contains-from_any (λ x y. eqb-true x y) row members t)).1))
-          (λ (f : is_in members row ≡ false). f ∙ sym (ne_eqb (block_of p row) b ne))
-          (cases_Bool (is_in members row)))
+      ⊎_elim
+      (λ (t : is_in members row ≡ true). absurd (ne (member_block row (Contains-from_any (λ x y. eqb-true x y) row members t)).1))
+      (λ (f : is_in members row ≡ false). f ∙ sym (ne_eqb (block_of p row) b ne))
+      (cases_Bool (is_in members row)))
       (cases_eq (block_of p row) b)
 
   pub members_small : All (λ row. row < length p.rows) members
@@ -154,11 +155,11 @@ module _ (m : Moves) (labels : List ℕ) (p : Parts) (taken : ℕ) (moves : AreM
   take_first x y u lu lx ly le =
       ⊎_elim
       (λ (e : block_of p x ≡ taken).
-          ⊎_elim
-          (λ (f : block_of p y ≡ taken). same (e ∙ sym f))
-          (λ (ne : block_of p y ≡ taken → ⊥).
-              working (omega arith, λ i. true≢false (sym (taken_in x lx ∙ eq-eqb (block_of p x) taken e) ∙ i ∙ taken_in y ly ∙ ne_eqb (block_of p y) taken ne)))
-          (cases_eq (block_of p y) taken))
+      ⊎_elim
+      (λ (f : block_of p y ≡ taken). same (e ∙ sym f))
+      (λ (ne : block_of p y ≡ taken → ⊥).
+      working (omega arith, λ i. true≢false (sym (taken_in x lx ∙ eq-eqb (block_of p x) taken e) ∙ i ∙ taken_in y ly ∙ ne_eqb (block_of p y) taken ne)))
+      (cases_eq (block_of p y) taken))
       (λ (ne : block_of p x ≡ taken → ⊥). first (omega arith))
       (cases_eq (block_of p x) taken)
 
@@ -166,11 +167,11 @@ module _ (m : Moves) (labels : List ℕ) (p : Parts) (taken : ℕ) (moves : AreM
   take_second x y u lu lx ly le =
       ⊎_elim
       (λ (e : block_of p y ≡ taken).
-          ⊎_elim
-          (λ (f : block_of p x ≡ taken). same (f ∙ sym e))
-          (λ (ne : block_of p x ≡ taken → ⊥).
-              working (omega arith, λ i. true≢false (sym (taken_in y ly ∙ eq-eqb (block_of p y) taken e) ∙ sym i ∙ taken_in x lx ∙ ne_eqb (block_of p x) taken ne)))
-          (cases_eq (block_of p x) taken))
+      ⊎_elim
+      (λ (f : block_of p x ≡ taken). same (f ∙ sym e))
+      (λ (ne : block_of p x ≡ taken → ⊥).
+      working (omega arith, λ i. true≢false (sym (taken_in y ly ∙ eq-eqb (block_of p y) taken e) ∙ sym i ∙ taken_in x lx ∙ ne_eqb (block_of p x) taken ne)))
+      (cases_eq (block_of p x) taken))
       (λ (ne : block_of p y ≡ taken → ⊥). second (omega arith))
       (cases_eq (block_of p y) taken)
 
@@ -198,24 +199,24 @@ module _ (m : Moves) (labels : List ℕ) (p : Parts) (taken : ℕ) (taking : Lis
   told_by_split x y lx ly ne =
       ⊎_elim
       (λ (tx : is_in taking (next_row m x unit) ≡ true).
-          ⊎_elim
-          (λ (ty : is_in taking (next_row m y unit) ≡ true). absurd (ne (tx ∙ sym ty)))
-          (λ (fy : is_in taking (next_row m y unit) ≡ false).
-              AreToldApart-before m labels x y unit hu (a.apart (next_row m x unit) (next_row m y unit) (moves.nexts x unit lx hu) (moves.nexts y unit ly hu) tx fy))
-          (cases_Bool (is_in taking (next_row m y unit))))
+      ⊎_elim
+      (λ (ty : is_in taking (next_row m y unit) ≡ true). absurd (ne (tx ∙ sym ty)))
+      (λ (fy : is_in taking (next_row m y unit) ≡ false).
+      AreToldApart-before m labels x y unit hu (a.apart (next_row m x unit) (next_row m y unit) (moves.nexts x unit lx hu) (moves.nexts y unit ly hu) tx fy))
+      (cases_Bool (is_in taking (next_row m y unit))))
       (λ (fx : is_in taking (next_row m x unit) ≡ false).
-          ⊎_elim
-          (λ (ty : is_in taking (next_row m y unit) ≡ true).
-              AreToldApart-flip m labels y x (AreToldApart-before m labels y x unit hu (a.apart (next_row m y unit) (next_row m x unit) (moves.nexts y unit ly hu) (moves.nexts x unit lx hu) ty fx)))
-          (λ (fy : is_in taking (next_row m y unit) ≡ false). absurd (ne (fx ∙ sym fy)))
-          (cases_Bool (is_in taking (next_row m y unit))))
+      ⊎_elim
+      (λ (ty : is_in taking (next_row m y unit) ≡ true).
+      AreToldApart-flip m labels y x (AreToldApart-before m labels y x unit hu (a.apart (next_row m y unit) (next_row m x unit) (moves.nexts y unit ly hu) (moves.nexts x unit lx hu) ty fx)))
+      (λ (fy : is_in taking (next_row m y unit) ≡ false). absurd (ne (fx ∙ sym fy)))
+      (cases_Bool (is_in taking (next_row m y unit))))
       (cases_Bool (is_in taking (next_row m x unit)))
 
   split_told : (x y : ℕ) → x < m.rows → y < m.rows → (block_of q x ≡ block_of q y → ⊥) → AreToldApart m labels x y
   split_told x y lx ly ne =
       ⊎_elim
       (λ (e : block_of p x ≡ block_of p y).
-          told_by_split x y lx ly (λ i. ne (s.kept x y (rows_in x lx) (rows_in y ly) e (is x lx ∙ i ∙ sym (is y ly)))))
+      told_by_split x y lx ly (λ i. ne (s.kept x y (rows_in x lx) (rows_in y ly) e (is x lx ∙ i ∙ sym (is y ly)))))
       (λ (n : block_of p x ≡ block_of p y → ⊥). a.refined.told x y lx ly n)
       (cases_eq (block_of p x) (block_of p y))
 
@@ -231,9 +232,9 @@ module _ (m : Moves) (labels : List ℕ) (p : Parts) (taken : ℕ) (taking : Lis
       let b = a.below in
       ⊎_elim
       (λ hx. ⊎_elim
-          (λ hy. same (hx.0 ∙ e ∙ sym hy.0))
-          (λ hy. second (let g = hy.0 in omega arith))
-          (s.numbers y (rows_in y ly)))
+      (λ hy. same (hx.0 ∙ e ∙ sym hy.0))
+      (λ hy. second (let g = hy.0 in omega arith))
+      (s.numbers y (rows_in y ly)))
       (λ hx. first (let g = hx.0 in omega arith))
       (s.numbers x (rows_in x lx))
 
@@ -241,7 +242,7 @@ module _ (m : Moves) (labels : List ℕ) (p : Parts) (taken : ℕ) (taking : Lis
   split_busy x y u lx ly e w =
       ⊎_elim
       (λ (now : u ≡ unit).
-          absurd (w.1 (subst (λ n. is_in taking (next_row m x n) ≡ is_in taking (next_row m y n)) (sym now) (sym (is x lx) ∙ s.agrees x y (rows_in x lx) (rows_in y ly) e ∙ is y ly))))
+      absurd (w.1 (subst (λ n. is_in taking (next_row m x n) ≡ is_in taking (next_row m y n)) (sym now) (sym (is x lx) ∙ s.agrees x y (rows_in x lx) (rows_in y ly) e ∙ is y ly))))
       (λ (ne : u ≡ unit → ⊥). working (let g = w.0 in omega arith, w.1))
       (cases_eq u unit)
 
@@ -294,8 +295,8 @@ module _ (m : Moves) (labels : List ℕ) (p : Parts) (taken : ℕ) (moves : AreM
       let nx : next_row m x unit < m.rows = moves.nexts x unit lx hu in
       let ny : next_row m y unit < m.rows = moves.nexts y unit ly hu in
       label_after-cons m labels x unit word
-          ∙ end_alike (next_row m x unit) (next_row m y unit) word nx ny (end_same (next_row m x unit) (next_row m y unit) nx ny (a.pending x y unit lx ly hu e)) (IsWord-tail m unit word w)
-          ∙ sym (label_after-cons m labels y unit word)
+      ∙ end_alike (next_row m x unit) (next_row m y unit) word nx ny (end_same (next_row m x unit) (next_row m y unit) nx ny (a.pending x y unit lx ly hu e)) (IsWord-tail m unit word w)
+      ∙ sym (label_after-cons m labels y unit word)
 
   pub alike_from_same : (x y : ℕ) → x < m.rows → y < m.rows → block_of p x ≡ block_of p y → BehaveAlike m labels x y
   alike_from_same x y lx ly e word w = end_alike x y word lx ly e w

@@ -1,12 +1,12 @@
 -- A block that is split into two ranges.
-use Rattle.std.proofs.Common.{◌≡◌, ◌≢◌, ℕ, zero, suc, ◌+◌, ◌-◌, ◌*◌, ◌^◌, ◌<◌, ◌≤◌, ◌⊎◌, Bool, true, false, cond, not, ◌&&◌, List, [], ◌∷◌, ◌++◌, length, get_or, set, eqb, ltb, leb, refl, sym, subst, ap, ◌∙◌, inl, inr, ⊎_elim, arith, true≢false, ltb-true, ltb-false, leb-true, le-leb, lt-ltb, le-ltb, eqb-true, eq-eqb, ne_eqb, length-set, get_or-set_same, get_or-set_other, length-append}
+use Rattle.std.proofs.Common.{◌≡◌, ℕ, ◌+◌, ◌*◌, ◌<◌, ◌≤◌, ◌⊎◌, Bool, true, false, cond, ◌&&◌, List, [], ◌∷◌, ◌++◌, length, get_or, set, eqb, ltb, leb, refl, sym, subst, ap, ◌∙◌, inl, inr, ⊎_elim, arith, true≢false, ltb-true, leb-true, le-leb, lt-ltb, eqb-true, ne_eqb, length-set, get_or-set_same, get_or-set_other}
 use Rattle.std.specs.List.{list_any, Contains}
-use Rattle.std.proofs.lemmas.Bool.{cases_Bool, cases_lt, cases_eq, cond-true, cond-false, and_parts, and_from, and_cases, leb-false}
+use Rattle.std.proofs.lemmas.Bool.{cases_Bool, cases_lt, cases_eq, cond-true, cond-false, and_parts, and_from}
 use Rattle.std.proofs.lemmas.List.{get_or_default, get_or_push, get_or_append_left, get_or_past, length_push}
 use Rattle.std.proofs.lemmas.Map.Steps.{length-le_from_distinct_below}
 use Rattle.std.proofs.lemmas.Map.Keys.{IsDistinct-from_apart}
 use Rattle.std.proofs.lemmas.Map.Views.{Contains-from_any}
-use Rattle.rx_refine.specs.Parts.{Parts, ArePermuted, IsPartition, SplitsBlock, block_of, size_of, is_marked}
+use Rattle.rx_refine.specs.Parts.{Parts, IsPartition, SplitsBlock, block_of, size_of, is_marked}
 
 -- ---- there are at most as many blocks as rows
 module _ (p : Parts) (w : IsPartition p) where

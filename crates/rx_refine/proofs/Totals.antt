@@ -1,6 +1,6 @@
 -- Sums over the numbers below a bound.
-use Rattle.std.proofs.Common.{◌≡◌, ℕ, zero, suc, ◌+◌, ◌-◌, ◌*◌, ◌<◌, ◌≤◌, ◌⊎◌, Bool, true, false, cond, ◌||◌, List, [], ◌∷◌, length, get_or, take, eqb, refl, sym, subst, ap, ◌∙◌, inl, inr, ⊎_elim, arith, eq-eqb, ne_eqb, eqb-true, mul-zero, true≢false}
-use Rattle.std.specs.List.{sum_by, All, list_any}
+use Rattle.std.proofs.Common.{◌≡◌, ℕ, zero, suc, ◌+◌, ◌*◌, ◌<◌, ◌≤◌, true, false, cond, List, [], ◌∷◌, length, get_or, eqb, refl, sym, ap, ◌∙◌, ⊎_elim, arith, eq-eqb, ne_eqb, eqb-true, mul-zero, true≢false}
+use Rattle.std.specs.List.{sum_by, list_any}
 use Rattle.std.proofs.lemmas.Bool.{cases_Bool, cases_eq, false_from_ne_true}
 use Rattle.std.proofs.lemmas.List.Sums.{sum_by-cons}
 use Rattle.rx_refine.specs.Places.{how_many, how_many_below}
@@ -81,9 +81,9 @@ split_in : (h : ℕ → ℕ) (x : ℕ) (xs : List ℕ) (r : ℕ) → (list_any (
 split_in h x xs r ne =
     ⊎_elim
     (λ (t : eqb r x ≡ true).
-        let e : r ≡ x = eqb-true r x t in
-        let f : list_any (eqb r) xs ≡ false = rw e (false_from_ne_true (list_any (eqb x) xs) ne) in
-        rw (t, f) (omega arith))
+    let e : r ≡ x = eqb-true r x t in
+    let f : list_any (eqb r) xs ≡ false = rw e (false_from_ne_true (list_any (eqb x) xs) ne) in
+    rw (t, f) (omega arith))
     (λ (f : eqb r x ≡ false). rw f (omega arith))
     (cases_Bool (eqb r x))
 

@@ -1,5 +1,5 @@
 -- A partition of rows into blocks, kept as ranges of one permuted list.
-use Rattle.std.specs.Prelude.{ℕ, ◌≡◌, ◌<◌, ◌≤◌, ◌+◌, ◌*◌, ◌^◌, ◌⊎◌, Bool, true, cond, List, [], ◌∷◌, ◌++◌, length, slice_index, slice_set, All, Contains, ltb, leb, eqb, ◌&&◌}
+use Rattle.std.specs.Prelude.{ℕ, ◌≡◌, ◌<◌, ◌≤◌, ◌+◌, ◌*◌, ◌^◌, ◌⊎◌, Bool, true, cond, List, [], ◌∷◌, ◌++◌, length, slice_index, slice_set, Contains, ltb, leb, eqb, ◌&&◌}
 use Rattle.std.specs.List.{list_any}
 
 -- the lists that a partition keeps

@@ -6,13 +6,11 @@ ghost use Rattle.rx_refine.specs.Moves.{AreMoves, Moves, sources, read_limit, Ar
 ghost use Rattle.rx_refine.specs.Kept.{parts};
 ghost use Rattle.rx_refine.specs.Labelled.{IsByLabel};
 
-use std::alloc::{AllocError, Global};
-
-use rx_base::Steps;
-
 use crate::groups::Groups;
 use crate::lists::Incoming;
 use crate::partition::Partition;
+use rx_base::Steps;
+use std::alloc::{AllocError, Global};
 
 /// For each row the number of its block. Two rows are in one block exactly where they behave alike for
 /// the labels `first`: every word of units leads from both to rows with equal labels.
@@ -59,11 +57,7 @@ pub fn refine<L>(
 }
 
 /// The partition into rows with equal labels.
-fn by_label(
-    alloc: Global,
-    first: &[u32],
-    touched: &mut Vec<u32>,
-) -> Result<Partition, AllocError>
+fn by_label(alloc: Global, first: &[u32], touched: &mut Vec<u32>) -> Result<Partition, AllocError>
     requires few { length first.now ≤ 2 ^ 31 }
     requires small { All (λ label. label < length first.now) first.now }
     ensures { IfOk result (λ partition. IsByLabel first.now (parts partition)) }

@@ -16,8 +16,6 @@ mod groups;
 mod hopcroft;
 mod lists;
 mod partition;
-#[cfg(test)]
-mod tests;
 
 pub use hopcroft::refine;
 pub use lists::Incoming;

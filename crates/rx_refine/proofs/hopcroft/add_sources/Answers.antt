@@ -1,4 +1,4 @@
-use Rattle.std.proofs.Common.{◌<◌, ◌≤◌, arith}
+use Rattle.std.proofs.Common.{arith}
 use Rattle.rx_refine.proofs.Labels.{source_below}
 use Rattle.rx_refine.proofs.hopcroft.add_sources.Goals as goal
 

@@ -1,9 +1,8 @@
-use Rattle.std.proofs.Common.{◌≡◌, ℕ, ◌+◌, ◌<◌, ◌≤◌, length, sym, subst, ap, ◌∙◌, arith}
-use Rattle.std.specs.List.{All}
+use Rattle.std.proofs.Common.{◌≡◌, length, sym, subst, ap, ◌∙◌, arith}
 use Rattle.rx_refine.specs.Kept.{parts}
 use Rattle.rx_refine.specs.Places.{places_of}
 use Rattle.rx_refine.specs.Parts.{SplitsBy}
-use Rattle.rx_refine.proofs.Labels.{IsByFirst, places_of-small, IsByFirst_more, IsByLabel-from_IsByFirst}
+use Rattle.rx_refine.proofs.Labels.{places_of-small, IsByFirst_more, IsByLabel-from_IsByFirst}
 use Rattle.rx_refine.proofs.hopcroft.by_label.Goals as goal
 
 pub split-requires-clause-hits : goal.split-requires-clause-hits

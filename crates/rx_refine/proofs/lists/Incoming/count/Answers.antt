@@ -1,5 +1,3 @@
-use Rattle.std.proofs.Common.{◌≡◌, ℕ, ◌<◌, ◌≤◌, List, [], length, get_or, subst, sym, ap, arith}
-use Rattle.rx_refine.specs.Moves.{Moves, AreMoves}
 use Rattle.rx_refine.proofs.Columns.{row_of_column}
 use Rattle.rx_refine.proofs.lists.Incoming.count.Goals as goal
 
