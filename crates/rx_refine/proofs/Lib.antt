@@ -10,3 +10,4 @@ pub mod Totals
 pub mod Cost
 pub mod Labels
 pub mod Rounds
+pub mod Room

@@ -8,7 +8,7 @@
 //! binary digits of the number of rows.
 //!
 //! What these words mean stands in `specs/Moves.antt`. Start with [`refine`], whose body is the
-//! algorithm; `partition.rs` has the blocks as ranges of one permuted vector, and `groups.rs` the lists
+//! algorithm; `partition.rt` has the blocks as ranges of one permuted vector, and `groups.rt` the lists
 //! of rows by two passes of counting.
 #![tactic(auto)]
 
@@ -16,6 +16,10 @@ mod groups;
 mod hopcroft;
 mod lists;
 mod partition;
+#[cfg(test)]
+mod plain;
+#[cfg(test)]
+mod tests;
 
 pub use hopcroft::refine;
 pub use lists::Incoming;
