@@ -1,4 +1,9 @@
-//! Values that every crate speaks of: ids, spans, inputs, byte sets, the outside.
+//! The values that every crate speaks of: ids, spans and inputs, sets of bytes, what is known of a
+//! neighbour, a counter of steps, and the outside, a source of bytes and a sink for them.
+//!
+//! The contract of this crate is that contracts above see these values as the numbers, sets and
+//! records of the definitions: an id as its number, an [`Input`] as a query, a [`ByteSet`] as a set of
+//! bytes. Start with [`Input`], what is searched, and [`Match`], what is found.
 #![tactic(auto)]
 
 mod alphabet;
@@ -6,6 +11,7 @@ mod facts;
 mod input;
 mod primitives;
 mod search;
+mod steps;
 
 pub use alphabet::ByteSet;
 pub use facts::Facts;
@@ -13,3 +19,4 @@ pub use input::Input;
 pub use primitives::{IdError, PatternID, StateID};
 pub use rx_spec::{Look, MatchKind, Start, StartKind, Unit};
 pub use search::{Anchored, HalfMatch, Match, Span};
+pub use steps::{Steps, Tally};
