@@ -1,3 +1,6 @@
+pub mod ByteSet
+pub mod Input
+pub mod Search
 pub mod Outside
 pub mod Source
 pub mod Sink

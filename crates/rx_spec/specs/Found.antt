@@ -1,5 +1,5 @@
 -- What a search finds: the leftmost match, and there the preferred one.
-use Rattle.std.specs.Prelude.{ℕ, ◌+◌, ◌-◌, Bool, true, false, ◌==◌, ◌&&◌, nat_le, nat_lt, if◌then◌else◌, Option, None, List, [], ◌∷◌, length, find, slice_get, reverse}
+use Rattle.std.specs.Prelude.{ℕ, ◌+◌, ◌-◌, ◌≤◌, Bool, true, false, ◌==◌, ◌&&◌, nat_le, nat_lt, if◌then◌else◌, Option, None, List, [], ◌∷◌, length, find, slice_get, reverse}
 use Rattle.std.specs.Option.{option_or, option_map, option_and_then}
 use Rattle.std.specs.List.{range_with_len}
 use Rattle.rx_spec.specs.Looks.{Reading}
@@ -25,6 +25,11 @@ pub record Query : Type 0 where
   pub stop : ℕ
   pub mode : Mode
   pub earliest : Bool
+
+-- the span lies in the haystack, or its start is one past its end
+pub record IsFit (q : Query) : Type 0 where
+  pub within : q.stop ≤ length q.hay
+  pub ordered : q.start ≤ q.stop + 1
 
 -- a span whose start is past its end has nothing more to give
 abbrev pub is_done : Query → Bool
