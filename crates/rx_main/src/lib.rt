@@ -10,6 +10,7 @@
 mod fault;
 mod pieces;
 mod plan;
+mod tokens;
 mod words;
 
 pub use fault::{BadKind, ScriptFault};
