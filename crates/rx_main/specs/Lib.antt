@@ -1,3 +1,4 @@
 pub mod Pieces
 pub mod Faults
 pub mod Tokens
+pub mod PlanLine

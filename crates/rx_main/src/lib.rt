@@ -10,6 +10,7 @@
 mod fault;
 mod pieces;
 mod plan;
+mod plan_words;
 mod tokens;
 mod words;
 
