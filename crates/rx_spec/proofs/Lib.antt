@@ -1,2 +1,12 @@
 pub mod Computing
 pub mod Worked
+pub mod Facts
+pub mod Firsts
+pub mod Dead
+pub mod Reaches
+pub mod Mirrors
+pub mod Ranges
+pub mod Asserting
+pub mod Every
+pub mod Ends
+pub mod Rows

@@ -1,0 +1,4 @@
+pub mod ExpressionCode
+pub mod Expr
+pub mod ExprFalls
+pub mod ExprError

@@ -1,0 +1,7 @@
+//! Expressions, and the rows of their NFA.
+#![tactic(auto)]
+
+mod bounds;
+mod expr;
+
+pub use expr::{Expr, ExprError};

@@ -1,0 +1,10 @@
+pub mod FirstSuccess
+pub mod Firsts
+pub mod Deep
+pub mod Solution
+pub mod Standing
+pub mod ReadUnits
+pub mod Unquit
+pub mod Parts
+pub mod Depths
+pub mod Edges
