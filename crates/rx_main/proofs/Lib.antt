@@ -1,3 +1,4 @@
 pub mod Cutting
 pub mod Hex
 pub mod Ranges
+pub mod Making

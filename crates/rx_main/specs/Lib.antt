@@ -2,3 +2,4 @@ pub mod Pieces
 pub mod Faults
 pub mod Tokens
 pub mod PlanLine
+pub mod Items

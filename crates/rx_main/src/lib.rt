@@ -7,6 +7,7 @@
 //! the laws that join the two in [`laws`].
 #![tactic(auto)]
 
+mod expression;
 mod fault;
 mod pieces;
 mod plan;
