@@ -2,3 +2,4 @@ pub mod Cutting
 pub mod Hex
 pub mod Ranges
 pub mod Making
+pub mod Asking

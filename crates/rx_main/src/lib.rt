@@ -12,6 +12,7 @@ mod fault;
 mod pieces;
 mod plan;
 mod plan_words;
+mod script;
 mod tokens;
 mod words;
 
