@@ -3,3 +3,5 @@ pub mod Hex
 pub mod Ranges
 pub mod Making
 pub mod Asking
+pub mod Steps
+pub mod Lines

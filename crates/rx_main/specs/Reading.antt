@@ -129,17 +129,21 @@ abbrev pub spelled : Chosen → Result (List Expression × Option Query) Fault �
 spelled chosen read = read >>= λ rest. Ok (record { chosen = chosen; exprs = rest.0; asked = rest.1 })
 
 -- the plan line is the first one, if it is there
-abbrev pub planned : Bool → List (List ℕ) → List (List ℕ) → LineKind → List (List ℕ) → Result Spelled Fault
-planned with_input all lines LineKind.Plan words = needed 1 BadKind.Plan (plan_from unplanned none_seen words) >>= λ chosen. spelled chosen (lines_at with_input 2 lines)
-planned with_input all lines LineKind.Expr words = spelled unplanned (lines_at with_input 1 all)
-planned with_input all lines LineKind.Input words = spelled unplanned (lines_at with_input 1 all)
-planned with_input all lines LineKind.Hay words = spelled unplanned (lines_at with_input 1 all)
-planned with_input all lines LineKind.Other words = spelled unplanned (lines_at with_input 1 all)
+abbrev pub plan_kind : LineKind → List (List ℕ) → List (List ℕ) → Result (Option (Chosen × List (List ℕ))) Fault
+plan_kind LineKind.Plan words lines = needed 1 BadKind.Plan (plan_from unplanned none_seen words) >>= λ chosen. Ok (Some (chosen, lines))
+plan_kind LineKind.Expr words lines = Ok None
+plan_kind LineKind.Input words lines = Ok None
+plan_kind LineKind.Hay words lines = Ok None
+plan_kind LineKind.Other words lines = Ok None
 
-unfoldable pub script_at : Bool → List (List ℕ) → Result Spelled Fault
-script_at with_input [] = spelled unplanned (lines_at with_input 1 [])
-script_at with_input (line ∷ lines) = line_at 1 line >>= λ read. planned with_input (line ∷ lines) lines read.0 read.1
+unfoldable pub plan_at : List (List ℕ) → Result (Option (Chosen × List (List ℕ))) Fault
+plan_at [] = Ok None
+plan_at (line ∷ lines) = line_at 1 line >>= λ read. plan_kind read.0 read.1 lines
+
+abbrev pub planned : Bool → List (List ℕ) → Option (Chosen × List (List ℕ)) → Result Spelled Fault
+planned with_input lines None = spelled unplanned (lines_at with_input 1 lines)
+planned with_input lines (Some plan) = spelled plan.0 (lines_at with_input 2 plan.1)
 
 -- The script that a text spells, or its first fault.
 unfoldable pub script_of : Bool → List ℕ → Result Spelled Fault
-script_of with_input text = script_at with_input (lines_of text)
+script_of with_input text = plan_at (lines_of text) >>= planned with_input (lines_of text)

@@ -1,6 +1,6 @@
 //! Text in pieces: lines and words.
 
-ghost use Rattle.std.specs.Prelude.{◌≡◌, ℕ, ◌+◌, ◌<◌, [], ◌∷◌, ◌==◌, length, true, option_map, MatchOption};
+ghost use Rattle.std.specs.Prelude.{◌≡◌, ℕ, ◌+◌, ◌<◌, [], ◌∷◌, ◌==◌, length, true, option_map, MatchOption, IfSome};
 ghost use Rattle.std.specs.List.{slice_split, position};
 ghost use Rattle.rx_main.specs.Pieces.{pieces_left, bytes_left, lines_of, is_spaced};
 
@@ -24,7 +24,7 @@ pub fn cut(separator: u8, text: &[u8]) -> (&[u8], Option<&[u8]>)
 /// The first line, and the lines behind it; none where no byte is left.
 pub fn next_line(text: &[u8]) -> Option<(&[u8], &[u8])>
     ensures lines { MatchOption result (lines_of text.now ≡ []) (λ next. lines_of text.now ≡ next.0.now ∷ lines_of next.1.now) }
-    ensures fewer { MatchOption result (length text.now ≡ 0) (λ next. length next.0.now + length next.1.now < length text.now + 1) }
+    ensures fewer { IfSome result (λ next. length next.1.now < length text.now) }
 {
     if text.is_empty() {
         return None;

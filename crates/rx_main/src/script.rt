@@ -2,11 +2,11 @@
 
 ghost use Rattle.std.specs.Prelude.{◌≡◌, ◌+◌, ◌^◌, ◌<◌, ◌≤◌, length, true, option_map, IfOk, IfSome};
 ghost use Rattle.rx_main.specs.declared.fault.BadKind.{BadKind};
-ghost use Rattle.rx_main.specs.Pieces.{pieces_left, bytes_left, lines_of};
-ghost use Rattle.rx_main.specs.PlanLine.{unplanned, none_seen, plan_from};
+ghost use Rattle.rx_main.specs.Pieces.{pieces_left, lines_of};
+ghost use Rattle.rx_main.specs.PlanLine.{unplanned, none_seen, plan_from, chosen_of};
 ghost use Rattle.rx_main.specs.Faults.{Gives};
-ghost use Rattle.rx_main.specs.Reading.{line_at, input_words, hay_words, nothing_at, fits, asked_at, hay_kind, hay_at, input_at, next_kind, next_at, lines_at, script_at, script_of};
-ghost use Rattle.rx_main.specs.Script.{span_read, asked_read, script_read};
+ghost use Rattle.rx_main.specs.Reading.{line_at, input_words, hay_words, nothing_at, fits, asked_at, hay_at, input_at, next_at, lines_at, plan_at, spelled, script_of};
+ghost use Rattle.rx_main.specs.Script.{span_read, asked_read, next_read, LeavesFewer, script_read};
 
 use crate::expression::expression;
 use crate::fault::{BadKind, ScriptFault};
@@ -226,4 +226,124 @@ fn input_line(
 {
     let span = input_words(words).ok_or(bad(number, BadKind::Input))?;
     hay_line(alloc, number + 1, span, text)
+}
+
+/// What the next line is, with the text behind it.
+#[derive(Drop)]
+enum NextLine<'a> {
+    Expr(Expr, &'a [u8]),
+    Input(Option<&'a [u8]>, &'a [u8]),
+    End,
+}
+
+#[tactic(auto, unfolding(crate::specs::Reading::next_at))]
+fn next_part(
+    alloc: Global,
+    with_input: bool,
+    number: u64,
+    text: &[u8],
+) -> Result<NextLine<'_>, ScriptFault>
+    ensures given { Gives next_read result (next_at with_input number (lines_of text.now)) }
+    ensures fewer { IfOk result (λ next. LeavesFewer next (length text.now)) }
+{
+    let Some((line, after)) = next_line(text) else {
+        if with_input {
+            return Err(bad(number, BadKind::Order));
+        }
+        return Ok(NextLine::End);
+    };
+    let (kind, others) = words(number, line)?;
+    match kind {
+        LineKind::Expr => {
+            let expr = expression(alloc, number, others)?;
+            Ok(NextLine::Expr(expr, after))
+        }
+        LineKind::Input => {
+            if with_input {
+                return Ok(NextLine::Input(others, after));
+            }
+            Err(bad(number, BadKind::Order))
+        }
+        _ => Err(bad(number, BadKind::Order)),
+    }
+}
+
+/// Reads the expressions and what is asked, from the line of this number on.
+fn parts(
+    alloc: Global,
+    with_input: bool,
+    number: u64,
+    text: &[u8],
+) -> Result<(Exprs, Option<ScriptInput>), ScriptFault>
+    requires { number + length text.now + 2 < 2 ^ 64 }
+    ensures { Gives (λ x. (x.0, option_map asked_read x.1)) result (lines_at with_input number (lines_of text.now)) }
+{
+    let mut exprs = Vec::new(alloc);
+    let mut number = number;
+    let mut rest = text;
+    'lines: loop {
+        match next_part(alloc, with_input, number, rest)? {
+            NextLine::Expr(expr, after) => {
+                exprs.push(expr)?;
+                number += 1;
+                rest = after;
+            }
+            NextLine::Input(words, after) => {
+                let input = input_line(alloc, number, words, after)?;
+                return Ok((Exprs { exprs }, Some(input)));
+            }
+            NextLine::End => return Ok((Exprs { exprs }, None)),
+        }
+    }
+}
+
+/// Reads the plan line, if the first line is one, with the text behind it.
+#[tactic(auto, unfolding(crate::specs::Reading::plan_at))]
+fn plan_part(text: &[u8]) -> Result<Option<(Choices, &[u8])>, ScriptFault>
+    ensures given { Gives (λ o. option_map (λ p. (chosen_of p.0.plan p.0.rows, lines_of p.1.now)) o) result (plan_at (lines_of text.now)) }
+    ensures fewer { IfOk result (λ o. IfSome o (λ p. length p.1.now < length text.now)) }
+{
+    let Some((line, after)) = next_line(text) else {
+        return Ok(None);
+    };
+    let (kind, others) = words(1, line)?;
+    match kind {
+        LineKind::Plan => {
+            let choices = plan_line(others).ok_or(bad(1, BadKind::Plan))?;
+            Ok(Some((choices, after)))
+        }
+        _ => Ok(None),
+    }
+}
+
+fn whole(
+    alloc: Global,
+    with_input: bool,
+    choices: Choices,
+    number: u64,
+    text: &[u8],
+) -> Result<Script, ScriptFault>
+    requires { number + length text.now + 2 < 2 ^ 64 }
+    ensures { Gives script_read result (spelled (chosen_of choices.plan choices.rows) (lines_at with_input number (lines_of text.now))) }
+{
+    let (exprs, input) = parts(alloc, with_input, number, text)?;
+    Ok(Script {
+        plan: choices.plan,
+        rows: choices.rows,
+        exprs,
+        input,
+    })
+}
+
+/// Reads a script, with what is asked or without it.
+///
+/// An `Ok` is the script that the text spells, and `Bad` is its first fault.
+#[tactic(auto, unfolding(crate::specs::Reading::script_of))]
+pub fn read_script(alloc: Global, text: &[u8], with_input: bool) -> Result<Script, ScriptFault>
+    ensures { Gives script_read result (script_of with_input text.now) }
+{
+    match plan_part(text)? {
+        Some((choices, after)) => whole(alloc, with_input, choices, 2, after),
+        None => whole(alloc, with_input, Choices::new(), 1, text),
+    }
 }
