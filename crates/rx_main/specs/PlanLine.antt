@@ -9,7 +9,8 @@ use Rattle.rx_main.specs.declared.plan.Passage.{Passage}
 use Rattle.rx_main.specs.declared.plan_words.PlanWord.{PlanWord}
 use Rattle.rx_main.specs.Tokens.{byte_of, number_of, set_of_word, or_else}
 
--- what a plan says, and whether the row counts are asked for
+-- What a plan says, whether the row counts are asked for, and whether no word but a limit of the NFA
+-- stands in the plan line.
 pub record Chosen : Type 0 where
   pub start_kind : StartKind
   pub pattern_starts : Bool
@@ -26,9 +27,10 @@ pub record Chosen : Type 0 where
   pub form : Form
   pub passage : Passage
   pub rows : Bool
+  pub plain : Bool
 
-abbrev pub chosen_of : Plan → Bool → Chosen
-chosen_of p rows = record {
+abbrev pub chosen_of : Plan → Bool → Bool → Chosen
+chosen_of p rows plain = record {
   start_kind = p.start_kind;
   pattern_starts = p.pattern_starts;
   byte_classes = p.byte_classes;
@@ -44,6 +46,7 @@ chosen_of p rows = record {
   form = p.form;
   passage = p.passage;
   rows = rows;
+  plain = plain;
 }
 
 -- without a plan line
@@ -64,6 +67,7 @@ unplanned = record {
   form = Form.Dense;
   passage = Passage.Direct;
   rows = false;
+  plain = true;
 }
 
 -- one word of a plan line
@@ -121,21 +125,21 @@ name_of Rows = 14
 
 -- what it changes
 abbrev pub with_setting : Setting → Chosen → Chosen
-with_setting (Start kind) c = record c { start_kind = kind }
-with_setting Patterns c = record c { pattern_starts = true }
-with_setting NoClasses c = record c { byte_classes = false }
-with_setting (Quit set) c = record c { quit = set }
-with_setting UnicodeWord c = record c { unicode_word = true }
-with_setting (LineTerminator byte) c = record c { line_terminator = byte }
+with_setting (Start kind) c = record c { start_kind = kind; plain = false }
+with_setting Patterns c = record c { pattern_starts = true; plain = false }
+with_setting NoClasses c = record c { byte_classes = false; plain = false }
+with_setting (Quit set) c = record c { quit = set; plain = false }
+with_setting UnicodeWord c = record c { unicode_word = true; plain = false }
+with_setting (LineTerminator byte) c = record c { line_terminator = byte; plain = false }
 with_setting (NfaLimit bytes) c = record c { nfa_limit = Some bytes }
-with_setting (DfaLimit bytes) c = record c { dfa_limit = Some bytes }
-with_setting (DeterminizeLimit bytes) c = record c { determinize_limit = Some bytes }
-with_setting Minimize c = record c { minimize = true }
-with_setting NoAccelerate c = record c { accelerate = false }
-with_setting Mark c = record c { mark_starts = true }
-with_setting Sparse c = record c { form = Form.Sparse }
-with_setting Bytes c = record c { passage = Passage.Bytes }
-with_setting Rows c = record c { rows = true }
+with_setting (DfaLimit bytes) c = record c { dfa_limit = Some bytes; plain = false }
+with_setting (DeterminizeLimit bytes) c = record c { determinize_limit = Some bytes; plain = false }
+with_setting Minimize c = record c { minimize = true; plain = false }
+with_setting NoAccelerate c = record c { accelerate = false; plain = false }
+with_setting Mark c = record c { mark_starts = true; plain = false }
+with_setting Sparse c = record c { form = Form.Sparse; plain = false }
+with_setting Bytes c = record c { passage = Passage.Bytes; plain = false }
+with_setting Rows c = record c { rows = true; plain = false }
 
 -- ---- the words
 

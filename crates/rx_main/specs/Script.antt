@@ -29,4 +29,4 @@ LeavesFewer (NextLine.Input words text) n = length text.now < n
 LeavesFewer NextLine.End n = Unit {0}
 
 abbrev pub script_read : Script → Spelled
-script_read s = record { chosen = chosen_of s.plan s.rows; exprs = s.exprs; asked = option_map asked_read s.input }
+script_read s = record { chosen = chosen_of s.plan s.rows s.plain; exprs = s.exprs; asked = option_map asked_read s.input }

@@ -9,11 +9,12 @@ use crate::plan::{Form, Passage, Plan};
 use crate::tokens::{byte, is, number, set};
 use rx_base::{ByteSet, StartKind};
 
-/// A plan, and whether the row counts are asked for.
+/// A plan, whether the row counts are asked for, and whether no word but a limit of the NFA stands.
 #[derive(Clone, Copy, Debug)]
 pub struct Choices {
     pub plan: Plan,
     pub rows: bool,
+    pub plain: bool,
 }
 
 /// A word of a plan line.
@@ -63,7 +64,7 @@ fn name(word: &PlanWord) -> usize
 impl Choices {
     /// What holds without a plan line.
     pub fn new() -> Choices
-        ensures { chosen_of result.plan result.rows ≡ unplanned }
+        ensures { chosen_of result.plan result.rows result.plain ≡ unplanned }
     {
         Choices {
             plan: Plan {
@@ -83,13 +84,15 @@ impl Choices {
                 passage: Passage::Direct,
             },
             rows: false,
+            plain: true,
         }
     }
 
     /// Takes what a word says.
     fn choose(&mut self, word: PlanWord)
-        ensures { chosen_of self.new.plan self.new.rows ≡ with_setting (setting_of word) (chosen_of self.old.plan self.old.rows) }
+        ensures { chosen_of self.new.plan self.new.rows self.new.plain ≡ with_setting (setting_of word) (chosen_of self.old.plan self.old.rows self.old.plain) }
     {
+        self.plain = self.plain && matches!(word, PlanWord::NfaLimit(_));
         let plan = &mut self.plan;
         match word {
             PlanWord::Start(kind) => plan.start_kind = kind,
@@ -280,7 +283,7 @@ fn plan_word(word: &[u8]) -> Option<PlanWord>
 
 /// What the words behind `plan` say, where each is known and no name stands twice.
 pub fn plan_line(words: Option<&[u8]>) -> Option<Choices>
-    ensures { option_map (λ c. chosen_of c.plan c.rows) result ≡ plan_from unplanned none_seen (pieces_left 32 (option_map (λ t. t.now) words.entry)) }
+    ensures { option_map (λ c. chosen_of c.plan c.rows c.plain) result ≡ plan_from unplanned none_seen (pieces_left 32 (option_map (λ t. t.now) words.entry)) }
 {
     let mut choices = Choices::new();
     let mut seen = [false; 15];

@@ -90,6 +90,8 @@ pub struct Script {
     pub plan: Plan,
     /// Whether the row counts are asked for.
     pub rows: bool,
+    /// Whether no word but a limit of the NFA stands in the plan line.
+    pub plain: bool,
     /// The expressions.
     pub exprs: Exprs,
     /// What is asked, where that is part of the script.
@@ -300,7 +302,7 @@ fn parts(
 /// Reads the plan line, if the first line is one, with the text behind it.
 #[tactic(auto, unfolding(crate::specs::Reading::plan_at))]
 fn plan_part(text: &[u8]) -> Result<Option<(Choices, &[u8])>, ScriptFault>
-    ensures given { Gives (λ o. option_map (λ p. (chosen_of p.0.plan p.0.rows, lines_of p.1.now)) o) result (plan_at (lines_of text.now)) }
+    ensures given { Gives (λ o. option_map (λ p. (chosen_of p.0.plan p.0.rows p.0.plain, lines_of p.1.now)) o) result (plan_at (lines_of text.now)) }
     ensures fewer { IfOk result (λ o. IfSome o (λ p. length p.1.now < length text.now)) }
 {
     let Some((line, after)) = next_line(text) else {
@@ -324,12 +326,13 @@ fn whole(
     text: &[u8],
 ) -> Result<Script, ScriptFault>
     requires { number + length text.now + 2 < 2 ^ 64 }
-    ensures { Gives script_read result (spelled (chosen_of choices.plan choices.rows) (lines_at with_input number (lines_of text.now))) }
+    ensures { Gives script_read result (spelled (chosen_of choices.plan choices.rows choices.plain) (lines_at with_input number (lines_of text.now))) }
 {
     let (exprs, input) = parts(alloc, with_input, number, text)?;
     Ok(Script {
         plan: choices.plan,
         rows: choices.rows,
+        plain: choices.plain,
         exprs,
         input,
     })
