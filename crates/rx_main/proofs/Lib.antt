@@ -5,3 +5,4 @@ pub mod Making
 pub mod Asking
 pub mod Steps
 pub mod Lines
+pub mod Transfers

@@ -14,6 +14,7 @@ mod plan;
 mod plan_words;
 mod script;
 mod tokens;
+mod transfer;
 mod words;
 
 pub use fault::{BadKind, ScriptFault};
