@@ -5,3 +5,5 @@ pub mod PlanLine
 pub mod Items
 pub mod Reading
 pub mod Script
+pub mod Replies
+pub mod Run

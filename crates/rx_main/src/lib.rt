@@ -7,11 +7,14 @@
 //! the laws that join the two in [`laws`].
 #![tactic(auto)]
 
+mod engine;
 mod expression;
 mod fault;
 mod pieces;
 mod plan;
 mod plan_words;
+mod reply;
+mod run;
 mod script;
 mod tokens;
 mod transfer;
