@@ -4,4 +4,4 @@
 mod bounds;
 mod expr;
 
-pub use expr::{Expr, ExprError};
+pub use expr::{Expr, ExprError, ExprKind};

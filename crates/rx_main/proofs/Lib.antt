@@ -6,3 +6,5 @@ pub mod Asking
 pub mod Steps
 pub mod Lines
 pub mod Transfers
+pub mod Commands
+pub mod Replying

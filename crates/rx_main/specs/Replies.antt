@@ -114,21 +114,20 @@ IsAnswer chosen exprs query (Match hit) = (nfa_refused chosen exprs ≡ false) �
 IsAnswer chosen exprs query NoMatch = (nfa_refused chosen exprs ≡ false) × (found exprs chosen.line_terminator query ≡ None)
 IsAnswer chosen exprs query _ = ⊥
 
--- A reply to a script: it isn't built, or it is answered.
+-- The reply to a script: it isn't built, or it is answered.
+abbrev pub IsReplyTo : Chosen → List Expression → Query → Reply → Type 0
+IsReplyTo chosen exprs query Unbuilt = is_built chosen exprs query ≡ false
+IsReplyTo chosen exprs query NfaRefused = (is_built chosen exprs query ≡ true) × IsAnswer chosen exprs query NfaRefused
+IsReplyTo chosen exprs query (Match hit) = (is_built chosen exprs query ≡ true) × IsAnswer chosen exprs query (Match hit)
+IsReplyTo chosen exprs query NoMatch = (is_built chosen exprs query ≡ true) × IsAnswer chosen exprs query NoMatch
+IsReplyTo chosen exprs query _ = ⊥
+
 pub record Solves (text : List ℕ) (reply : Reply) : Type 0 where
   pub chosen : Chosen
   pub exprs : List Expression
   pub query : Query
   pub asks : Asks text chosen exprs query
-  pub built : is_built chosen exprs query ≡ true
-  pub answer : IsAnswer chosen exprs query reply
-
-pub record IsBeyond (text : List ℕ) : Type 0 where
-  pub chosen : Chosen
-  pub exprs : List Expression
-  pub query : Query
-  pub asks : Asks text chosen exprs query
-  pub unbuilt : is_built chosen exprs query ≡ false
+  pub answer : IsReplyTo chosen exprs query reply
 
 -- The reply to a command line and the bytes that were taken from the source. Where the bytes are the
 -- whole of the source, ended is true.
@@ -136,7 +135,7 @@ abbrev pub Replies : List (List ℕ) → List ℕ → Bool → Reply → Type 0
 Replies words bytes ended Usage = (IsFind words → ⊥) × (bytes ≡ [])
 Replies words bytes ended Long = IsFind words × (most_bytes < length bytes)
 Replies words bytes ended (Bad fault) = IsFind words × (ended ≡ true) × (length bytes ≤ most_bytes) × (script_of true bytes ≡ Err fault)
-Replies words bytes ended Unbuilt = IsFind words × (ended ≡ true) × IsBeyond bytes
+Replies words bytes ended Unbuilt = IsFind words × (ended ≡ true) × Solves bytes Unbuilt
 Replies words bytes ended NfaRefused = IsFind words × (ended ≡ true) × Solves bytes NfaRefused
 Replies words bytes ended (Match hit) = IsFind words × (ended ≡ true) × Solves bytes (Match hit)
 Replies words bytes ended NoMatch = IsFind words × (ended ≡ true) × Solves bytes NoMatch

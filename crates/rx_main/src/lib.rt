@@ -1,7 +1,7 @@
 //! The program as a function: from the words of a command line and the bytes of a source to the line
 //! that is written and the status.
 //!
-//! [`run`](run::run) is the whole program. Its contract ties what is written to the words and the bytes read by
+//! [`run`] is the whole program. Its contract ties what is written to the words and the bytes read by
 //! the definition `Replies` of `specs/Replies.antt`. What a script is stands in `specs/Grammar.antt`,
 //! which knows no reader; the reading function with its first fault stands in `specs/Reading.antt`, and
 //! the laws that join the two in [`laws`].
@@ -22,4 +22,6 @@ mod words;
 
 pub use fault::{BadKind, ScriptFault};
 pub use plan::{Form, Passage, Plan};
+pub use run::run;
+pub use script::{Exprs, Hay, Script, ScriptInput, read_script};
 pub use words::Words;
