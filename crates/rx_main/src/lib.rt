@@ -13,8 +13,8 @@ mod fault;
 mod pieces;
 mod plan;
 mod plan_words;
+mod program;
 mod reply;
-mod run;
 mod script;
 mod tokens;
 mod transfer;
@@ -22,6 +22,6 @@ mod words;
 
 pub use fault::{BadKind, ScriptFault};
 pub use plan::{Form, Passage, Plan};
-pub use run::run;
+pub use program::run;
 pub use script::{Exprs, Hay, Script, ScriptInput, read_script};
 pub use words::Words;

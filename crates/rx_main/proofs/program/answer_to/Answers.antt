@@ -3,7 +3,7 @@ use Rattle.std.proofs.lemmas.Result.{IfOk-weaker}
 use Rattle.rx_main.specs.Script.{asked_read}
 use Rattle.rx_main.specs.Run.{reply_of}
 use Rattle.rx_main.proofs.Replying.{plainly_built, answered}
-use Rattle.rx_main.proofs.run.answer_to.Goals as goal
+use Rattle.rx_main.proofs.program.answer_to.Goals as goal
 
 pub returns-then-not-is_built-clause-reply : goal.returns-then-not-is_built-clause-reply
 returns-then-not-is_built-clause-reply c = λ rows. sym (c.is_built.ensures c.args.plan.now rows) ∙ c.if-not-is_built.true

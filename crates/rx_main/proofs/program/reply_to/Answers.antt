@@ -2,7 +2,7 @@ use Rattle.std.proofs.Common.{sym, ◌∙◌}
 use Rattle.std.proofs.lemmas.Result.{IfOk-weaker}
 use Rattle.rx_main.specs.Run.{reply_of}
 use Rattle.rx_main.proofs.Replying.{replied_by, input_fits, input_there}
-use Rattle.rx_main.proofs.run.reply_to.Goals as goal
+use Rattle.rx_main.proofs.program.reply_to.Goals as goal
 
 pub answer_to-requires-clause-within : goal.answer_to-requires-clause-within
 answer_to-requires-clause-within c = (input_fits c.args.text.now c.in-Ok.script c.in-Some.input c.in-Ok.ensures c.in-Some.is).0
