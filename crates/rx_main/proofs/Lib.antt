@@ -8,3 +8,5 @@ pub mod Lines
 pub mod Transfers
 pub mod Commands
 pub mod Replying
+pub mod Texts
+pub mod Numbers

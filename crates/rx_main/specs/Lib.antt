@@ -5,5 +5,6 @@ pub mod PlanLine
 pub mod Items
 pub mod Reading
 pub mod Script
+pub mod Grammar
 pub mod Replies
 pub mod Run
