@@ -10,3 +10,6 @@ pub mod Commands
 pub mod Replying
 pub mod Texts
 pub mod Numbers
+pub mod Bytes
+pub mod Names
+pub mod Phrases
