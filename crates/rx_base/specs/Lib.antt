@@ -2,3 +2,6 @@ pub mod ByteSet
 pub mod Input
 pub mod Search
 pub mod Unit
+pub mod Outside
+pub mod Source
+pub mod Sink

@@ -11,6 +11,8 @@ mod facts;
 mod input;
 mod primitives;
 mod search;
+mod sink;
+mod source;
 mod steps;
 
 pub use alphabet::ByteSet;
@@ -19,4 +21,6 @@ pub use input::Input;
 pub use primitives::{IdError, PatternID, StateID};
 pub use rx_spec::{Look, MatchKind, Start, StartKind, Unit};
 pub use search::{Anchored, HalfMatch, Match, Span};
+pub use sink::{MemSink, Sink, WriteAnswer, WriteSink};
+pub use source::{MemSource, ReadAnswer, ReadSource, Source};
 pub use steps::{Steps, Tally};

@@ -1,0 +1,59 @@
+//! The program: its arguments are the words, standard input is the source, and standard output the sink.
+//!
+//! All that it does stands in `rx_main`. The status is that of `run`; it is 7 where the arguments can't
+//! be kept, and 8 where the program isn't given any, not even its own name.
+#![tactic(auto)]
+
+use rx_base::{ReadSource, WriteSink};
+use rx_main::{Words, run};
+use std::alloc::{AllocError, Global};
+use std::env::{Env, FillError};
+use std::process::ExitCode;
+
+/// The status where the arguments can't be kept.
+const NO_MEMORY: u8 = 7;
+/// The status where there are no arguments.
+const NO_ARGUMENTS: u8 = 8;
+
+/// An argument, if there is one of this number.
+fn argument<E: Env>(env: &E, alloc: Global, index: usize) -> Result<Option<Vec<u8>>, AllocError> {
+    let mut room: usize = 256;
+    for _ in 0..usize::BITS {
+        let mut bytes = vec![in alloc; 0; room]?;
+        match env.arg(index, &mut bytes) {
+            Ok(len) => {
+                bytes.truncate(len);
+                return Ok(Some(bytes));
+            }
+            Err(FillError::NotPresent) => return Ok(None),
+            Err(FillError::TooLong) => room = room.saturating_add(room),
+        }
+    }
+    Err(AllocError)
+}
+
+/// The arguments behind the program's name, or none where even that is missing.
+fn arguments<E: Env>(env: &E, alloc: Global) -> Result<Option<Words>, AllocError> {
+    if argument(env, alloc, 0)?.is_none() {
+        return Ok(None);
+    }
+    let mut words = Words::new(alloc);
+    for index in 1..usize::MAX {
+        match argument(env, alloc, index)? {
+            Some(word) => words.push(&word)?,
+            None => break,
+        }
+    }
+    Ok(Some(words))
+}
+
+fn main(rt: HostRuntime) -> ExitCode {
+    let words = match arguments(&rt, rt.alloc()) {
+        Ok(Some(words)) => words,
+        Ok(None) => return ExitCode::from(NO_ARGUMENTS),
+        Err(AllocError) => return ExitCode::from(NO_MEMORY),
+    };
+    let mut source = ReadSource::new(rt.stdin());
+    let mut sink = WriteSink::new(rt.stdout());
+    ExitCode::from(run(rt.alloc(), &words, &mut source, &mut sink))
+}

@@ -1,0 +1,15 @@
+pub mod Cutting
+pub mod Hex
+pub mod Ranges
+pub mod Making
+pub mod Asking
+pub mod Steps
+pub mod Lines
+pub mod Transfers
+pub mod Commands
+pub mod Replying
+pub mod Texts
+pub mod Numbers
+pub mod Bytes
+pub mod Names
+pub mod Phrases

@@ -1,0 +1,28 @@
+-- A range of bytes put into a set byte by byte, and ranges one after the other.
+use Rattle.std.proofs.Common.{◌≡◌, ◌≢◌, ℕ, suc, ◌+◌, ◌-◌, ◌^◌, ◌<◌, ◌≤◌, ◌⊎◌, inl, inr, max, bit_or, List, [], ◌∷◌, Option, Some, None, refl, sym, ap, ◌∙◌, arith, option_map}
+use Rattle.std.specs.Prelude.{option_and_then}
+use Rattle.std.specs.Int.{bit_at}
+use Rattle.std.proofs.lemmas.Nat.Bits.{bit_at_or, same_from_bits, bit_at-pow_same, bit_at-pow_other, bit_at_mask_inside, bit_at_mask_below, bit_at_mask_above, bit_at-lt}
+use Rattle.std.specs.Int.Bits.{or_zero_r}
+use Rattle.rx_spec.specs.Bytes.{between}
+use Rattle.rx_main.specs.Tokens.{range_of, ranges_from}
+
+where_is : (i f k : ℕ) → f ≤ k → (i < f) ⊎ ((f ≤ i) × (i < k)) ⊎ (i ≡ k) ⊎ (k < i)
+where_is i f k le = grind arith
+
+one_bit : (f k i : ℕ) → f ≤ k → max (bit_at (2 ^ k - 2 ^ f) i) (bit_at (2 ^ k) i) ≡ bit_at (2 ^ (k + 1) - 2 ^ f) i
+one_bit f k i le = elim (where_is i f k le) [
+  | inl below ↦ let ne : i ≢ k = omega arith in rw (bit_at_mask_below f k i below, bit_at-pow_other k i ne, bit_at_mask_below f (k + 1) i below) refl
+  | inr (inl in_it) ↦ let ne : i ≢ k = omega (arith, in_it.1) in let lt : i < k + 1 = omega (arith, in_it.1) in rw (bit_at_mask_inside f k i in_it.0 in_it.1, bit_at-pow_other k i ne, bit_at_mask_inside f (k + 1) i in_it.0 lt) refl
+  | inr (inr (inl same)) ↦ let ge : k ≤ i = omega arith in let le' : f ≤ i = omega arith in let lt : i < k + 1 = omega arith in rw (bit_at_mask_above f k i ge, bit_at_mask_inside f (k + 1) i le' lt) (ap (λ (n : ℕ). max 0 (bit_at (2 ^ k) n)) same ∙ ap (max 0) (bit_at-pow_same k))
+  | inr (inr (inr above)) ↦ let ge : k ≤ i = omega arith in let ge' : k + 1 ≤ i = omega arith in let ne : i ≢ k = omega arith in rw (bit_at_mask_above f k i ge, bit_at-pow_other k i ne, bit_at_mask_above f (k + 1) i ge') refl
+]
+
+pub range_more : (set f k : ℕ) → f ≤ k → bit_or (bit_or set (2 ^ k - 2 ^ f)) (2 ^ k) ≡ bit_or set (2 ^ (k + 1) - 2 ^ f)
+range_more set f k le = same_from_bits _ _ (λ i.
+    bit_at_or (bit_or set (2 ^ k - 2 ^ f)) (2 ^ k) i ∙ ap (λ (n : ℕ). max n (bit_at (2 ^ k) i)) (bit_at_or set (2 ^ k - 2 ^ f) i)
+    ∙ (let e : max (max (bit_at set i) (bit_at (2 ^ k - 2 ^ f) i)) (bit_at (2 ^ k) i) ≡ max (bit_at set i) (max (bit_at (2 ^ k - 2 ^ f) i) (bit_at (2 ^ k) i)) = omega arith in e)
+    ∙ ap (max (bit_at set i)) (one_bit f k i le) ∙ sym (bit_at_or set (2 ^ (k + 1) - 2 ^ f) i))
+
+pub range_begun : (set f : ℕ) → set ≡ bit_or set (2 ^ f - 2 ^ f)
+range_begun set f = let e : 2 ^ f - 2 ^ f ≡ 0 = omega arith in rw e (sym (or_zero_r set))

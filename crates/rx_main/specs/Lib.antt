@@ -1,0 +1,10 @@
+pub mod Pieces
+pub mod Faults
+pub mod Tokens
+pub mod PlanLine
+pub mod Items
+pub mod Reading
+pub mod Script
+pub mod Grammar
+pub mod Replies
+pub mod Run

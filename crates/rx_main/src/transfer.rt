@@ -1,0 +1,121 @@
+//! Reading all of a source, and writing a text into a sink.
+
+ghost use Rattle.std.specs.Prelude.{◌≡◌, ◌+◌, ◌<◌, ◌≤◌, ℕ, List, length, take, IfOk, IsTrue, true, false};
+ghost use Rattle.std.specs.Io.KnownBytes.{Consumes, IsAtEnd, Appends};
+ghost use Rattle.rx_base.specs.Outside.{Rose};
+ghost use Rattle.rx_base.specs.Source.{Reads, ReadCause};
+
+use rx_base::{ReadAnswer, Sink, Source, WriteAnswer};
+use std::alloc::{AllocError, AllocFailed, Global};
+
+/// The most bytes that are read.
+pub const LIMIT: usize = 16_777_216;
+
+/// How many bytes are asked for at once, at most.
+const CHUNK: usize = 65_536;
+
+/// Why a source was not read to its end.
+#[derive(Clone, Copy, Debug, PartialEq, Eq)]
+pub enum TextFault {
+    /// It has more bytes than are read.
+    Long,
+    /// A read failed.
+    Failed,
+    /// Want of memory.
+    Memory,
+}
+
+impl From<AllocError> for TextFault {
+    ghost use Rattle.std.specs.Prelude.{◌≡◌};
+    ghost use Rattle.rx_main.specs.declared.transfer.TextFault.TheVariants.{Memory};
+
+    ghost from_gives = { λ _ e. e ≡ Memory };
+
+    fn from(_: AllocError) -> TextFault {
+        TextFault::Memory
+    }
+}
+
+impl<T: Drop> From<AllocFailed<T>> for TextFault {
+    ghost use Rattle.std.specs.Prelude.{◌≡◌};
+    ghost use Rattle.rx_main.specs.declared.transfer.TextFault.TheVariants.{Memory};
+
+    ghost from_gives = { λ _ e. e ≡ Memory };
+
+    fn from(_: AllocFailed<T>) -> TextFault {
+        TextFault::Memory
+    }
+}
+
+/// Reads into the front of a buffer.
+fn read_front<S: Source>(src: &mut S, buffer: &mut [u8], room: usize) -> ReadAnswer
+    requires some { 0 < room }
+    requires within { room ≤ length buffer.old }
+    ensures bytes { Reads (S.left src.old) (S.left src.new) result (take room buffer.new) }
+    ensures cause { ReadCause (S.faults src.old) (S.faults src.new) result }
+{
+    src.read(&mut buffer[..room])
+}
+
+/// Room for the bytes of one read.
+fn new_buffer(alloc: Global) -> Result<Vec<u8>, AllocError>
+    ensures { IfOk result (λ buffer. 0 < length buffer.items) }
+{
+    vec![in alloc; 0; CHUNK]
+}
+
+/// All the bytes that are left, unless there are more than [`LIMIT`].
+pub fn read_text<S: Source>(alloc: Global, src: &mut S) -> Result<Vec<u8>, TextFault>
+    ensures few { IfOk result (λ text. length text.items ≤ 16777216) }
+    ensures bytes { IfOk result (λ text. Consumes (S.left src.old) (S.left src.new) text.items) }
+    ensures end { IfOk result (λ text. IsAtEnd (S.left src.new)) }
+    ensures long { result ≡ Err TextFault.Long → (bytes : List ℕ) × (length bytes ≡ 16777217) × Consumes (S.left src.old) (S.left src.new) bytes }
+    ensures failed { result ≡ Err TextFault.Failed → Rose (S.faults src.old) (S.faults src.new) }
+    ensures kept { S.faults src.old ≤ S.faults src.new }
+{
+    let mut buffer = new_buffer(alloc)?;
+    read_through(alloc, src, &mut buffer)
+}
+
+/// The same, through a buffer.
+fn read_through<S: Source>(
+    alloc: Global,
+    src: &mut S,
+    buffer: &mut [u8],
+) -> Result<Vec<u8>, TextFault>
+    requires { 0 < length buffer.old }
+    ensures few { IfOk result (λ text. length text.items ≤ 16777216) }
+    ensures bytes { IfOk result (λ text. Consumes (S.left src.old) (S.left src.new) text.items) }
+    ensures end { IfOk result (λ text. IsAtEnd (S.left src.new)) }
+    ensures long { result ≡ Err TextFault.Long → (bytes : List ℕ) × (length bytes ≡ 16777217) × Consumes (S.left src.old) (S.left src.new) bytes }
+    ensures failed { result ≡ Err TextFault.Failed → Rose (S.faults src.old) (S.faults src.new) }
+    ensures kept { S.faults src.old ≤ S.faults src.new }
+{
+    let mut text = Vec::new(alloc);
+    'reads: while text.len() <= LIMIT {
+        let room = buffer.len().min(LIMIT + 1 - text.len());
+        match read_front(src, buffer, room) {
+            ReadAnswer::Got(count) => text.extend_from_slice(&buffer[..count])?,
+            ReadAnswer::End => return Ok(text),
+            ReadAnswer::Failed => return Err(TextFault::Failed),
+        }
+    }
+    Err(TextFault::Long)
+}
+
+/// Writes a text, and tells whether all of it was taken.
+pub fn write_text<K: Sink>(out: &mut K, text: &[u8]) -> bool
+    ensures whole { result ≡ true → Appends (K.written out.old) (K.written out.new) text.now }
+    ensures part { result ≡ false → (count : ℕ) × (count < length text.now) × Appends (K.written out.old) (K.written out.new) (take count text.now) }
+    ensures failed { result ≡ false → Rose (K.faults out.old) (K.faults out.new) }
+    ensures kept { K.faults out.old ≤ K.faults out.new }
+{
+    let mut at = 0;
+    'writes: while at < text.len() {
+        match out.write(&text[at..]) {
+            WriteAnswer::Took(count) => at += count,
+            WriteAnswer::Failed => return false,
+        }
+    }
+    true
+}
