@@ -1,9 +1,9 @@
 -- A half search that is begun is a walk.
-use Rattle.std.proofs.Common.{◌≡◌, ℕ, Bool, true, false, cond, Option, Some, None, List, refl, sym, ◌∙◌, ap, subst, length, Result, Ok, Err}
+use Rattle.std.proofs.Common.{◌≡◌, ℕ, Bool, true, false, cond, Option, Some, None, refl, sym, ◌∙◌, ap, subst, length, Result, Err}
 use Rattle.std.specs.Prelude.{is_some}
-use Rattle.rx_spec.specs.Builds.{Build, Node, Running, start_node, start_row, supports, built_entry, build_settings, power, dead}
-use Rattle.rx_spec.specs.Contexts.{start_of, start_of_byte}
-use Rattle.rx_spec.specs.Found.{Mode, Query, is_done}
+use Rattle.rx_spec.specs.Builds.{Build, Running, start_node, start_row, supports, built_entry, build_settings, power, dead}
+use Rattle.rx_spec.specs.Contexts.{start_of}
+use Rattle.rx_spec.specs.Found.{Query, is_done}
 use Rattle.rx_spec.specs.Searches.{Outcome, half, walk, refusal, neighbour, first_offset, units_of, context_of, unless_refused, start_at, quits_on}
 use Rattle.rx_spec.specs.States.{State}
 use Rattle.rx_base.specs.declared.search.HalfMatch.{HalfMatch}
@@ -26,14 +26,14 @@ taken false true x y h = refl
 taken false false x y h = absurd (cc)
 
 pub half_walks : (b : Build) (reverse : Bool) (q : Query) (s : State) → is_done q ≡ false → refusal (build_settings b) reverse q ≡ None
-  → Running s ≡ start_node b.nfa (start_row b.nfa q.mode) (start_of b.nfa.terminator (neighbour reverse q))
-  → half (power b) (build_settings b) reverse q ≡ walk (power b) reverse q.earliest (Running s) (first_offset reverse q) None (units_of reverse q)
+    → Running s ≡ start_node b.nfa (start_row b.nfa q.mode) (start_of b.nfa.terminator (neighbour reverse q))
+    → half (power b) (build_settings b) reverse q ≡ walk (power b) reverse q.earliest (Running s) (first_offset reverse q) None (units_of reverse q)
 half_walks b reverse q s going free start =
     let has : supports b.start_kind (is_some (build_settings b).pattern_starts) q.mode ≡ true = taken (quits_on (build_settings b) (neighbour reverse q)) (supports b.start_kind (is_some (build_settings b).pattern_starts) q.mode) _ _ free in
     let supported : supports b.start_kind b.pattern_starts q.mode ≡ true = ap (λ t. supports b.start_kind t q.mode) (sym (some_if b.pattern_starts (length b.nfa.patterns))) ∙ has in
     let entry : start_at (power b) (build_settings b) reverse q ≡ Running s =
-          ap (built_entry b q.mode) (context_is b (neighbour reverse q))
-          ∙ ap (λ t. cond t (start_node b.nfa (start_row b.nfa q.mode) (start_of b.nfa.terminator (neighbour reverse q))) dead) supported ∙ sym start in
+    ap (built_entry b q.mode) (context_is b (neighbour reverse q))
+    ∙ ap (λ t. cond t (start_node b.nfa (start_row b.nfa q.mode) (start_of b.nfa.terminator (neighbour reverse q))) dead) supported ∙ sym start in
     let walked = walk (power b) reverse q.earliest (start_at (power b) (build_settings b) reverse q) (first_offset reverse q) None (units_of reverse q) in
     ap (λ t. cond t (Outcome.Told None) (unless_refused (refusal (build_settings b) reverse q) walked)) going
     ∙ ap (λ r. unless_refused r walked) free

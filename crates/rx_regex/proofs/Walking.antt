@@ -1,11 +1,10 @@
 -- Walks over a span, forward and in reverse.
-use Rattle.std.proofs.Common.{◌≡◌, ℕ, zero, suc, ◌+◌, ◌-◌, ◌<◌, ◌≤◌, Bool, true, false, Option, Some, None, List, [], ◌∷◌, ◌++◌, length, take, drop, reverse, get_or, refl, sym, ◌∙◌, ap, subst, arith, drop-cons, add-one, Result, Ok, Err, length-drop}
+use Rattle.std.proofs.Common.{◌≡◌, ℕ, suc, ◌+◌, ◌-◌, ◌<◌, ◌≤◌, Bool, true, false, Option, List, [], ◌∷◌, ◌++◌, length, take, drop, reverse, get_or, refl, sym, ◌∙◌, ap, subst, arith, drop-cons, add-one, Result, Ok, length-drop}
 use Rattle.std.proofs.lemmas.List.{reverse-append, get_or-drop}
 use Rattle.std.proofs.Math.Seq.{take-suc}
 use Rattle.rx_spec.specs.Bytes.{unit_of}
 use Rattle.rx_spec.specs.Looks.{before, after}
-use Rattle.rx_spec.specs.Found.{Query, IsFit}
-use Rattle.rx_spec.specs.Searches.{Outcome, walk, moved, span_of, units_of}
+use Rattle.rx_spec.specs.Searches.{Outcome, walk}
 use Rattle.rx_base.specs.declared.search.HalfMatch.{HalfMatch}
 use Rattle.rx_powerset.specs.declared.state.PowerState.{PowerState}
 use Rattle.rx_regex.specs.Engine.{halves, walk_from, TurnSays, FaultSays, Says}
@@ -50,52 +49,52 @@ behind_end hay start = let none : start - start ≡ 0 = omega arith in ap (λ n.
 
 -- one turn of the walk, handed on
 pub turned_on : (e : Engine) (earliest : Bool) (hay : List ℕ) (stop at d : ℕ) (state next : PowerState) (last now : Option HalfMatch) (turn : Turn) (whole : Outcome)
-  → at < stop → stop ≤ length hay → turn ≡ Turn.Going next now
-  → TurnSays e false earliest at (Ok turn) (λ units. walk_from e false earliest state at last (get_or hay at d ∷ units))
-  → walk_from e false earliest state at last (ahead hay at stop) ≡ whole → walk_from e false earliest next (at + 1) now (ahead hay (at + 1) stop) ≡ whole
+    → at < stop → stop ≤ length hay → turn ≡ Turn.Going next now
+    → TurnSays e false earliest at (Ok turn) (λ units. walk_from e false earliest state at last (get_or hay at d ∷ units))
+    → walk_from e false earliest state at last (ahead hay at stop) ≡ whole → walk_from e false earliest next (at + 1) now (ahead hay (at + 1) stop) ≡ whole
 turned_on e earliest hay stop at d state next last now turn whole h fits is says inv =
     let step = subst (λ (t : Turn). TurnSays e false earliest at (Ok t) (λ units. walk_from e false earliest state at last (get_or hay at d ∷ units))) is says in
     sym (step (ahead hay (at + 1) stop)) ∙ ap (walk_from e false earliest state at last) (sym (ahead_more hay at stop d h fits)) ∙ inv
 
 pub done_on : (e : Engine) (earliest : Bool) (hay : List ℕ) (stop at d : ℕ) (state : PowerState) (last found : Option HalfMatch) (turn : Turn) (whole : Outcome)
-  → at < stop → stop ≤ length hay → turn ≡ Turn.Done found
-  → TurnSays e false earliest at (Ok turn) (λ units. walk_from e false earliest state at last (get_or hay at d ∷ units))
-  → walk_from e false earliest state at last (ahead hay at stop) ≡ whole → whole ≡ Outcome.Told (halves found)
+    → at < stop → stop ≤ length hay → turn ≡ Turn.Done found
+    → TurnSays e false earliest at (Ok turn) (λ units. walk_from e false earliest state at last (get_or hay at d ∷ units))
+    → walk_from e false earliest state at last (ahead hay at stop) ≡ whole → whole ≡ Outcome.Told (halves found)
 done_on e earliest hay stop at d state last found turn whole h fits is says inv =
     let step = subst (λ (t : Turn). TurnSays e false earliest at (Ok t) (λ units. walk_from e false earliest state at last (get_or hay at d ∷ units))) is says in
     sym inv ∙ ap (walk_from e false earliest state at last) (ahead_more hay at stop d h fits) ∙ step (ahead hay (at + 1) stop)
 
 pub failed_on : (e : Engine) (earliest : Bool) (hay : List ℕ) (stop at d : ℕ) (state : PowerState) (last : Option HalfMatch) (fault : HalfFault) (whole : Outcome)
-  → at < stop → stop ≤ length hay
-  → ((units : List ℕ) → FaultSays fault (walk_from e false earliest state at last (get_or hay at d ∷ units)))
-  → walk_from e false earliest state at last (ahead hay at stop) ≡ whole → FaultSays fault whole
+    → at < stop → stop ≤ length hay
+    → ((units : List ℕ) → FaultSays fault (walk_from e false earliest state at last (get_or hay at d ∷ units)))
+    → walk_from e false earliest state at last (ahead hay at stop) ≡ whole → FaultSays fault whole
 failed_on e earliest hay stop at d state last fault whole h fits says inv =
     fault_says fault whole _ (sym inv ∙ ap (walk_from e false earliest state at last) (ahead_more hay at stop d h fits)) (says (ahead hay (at + 1) stop))
 
 pub turned_back : (e : Engine) (earliest : Bool) (hay : List ℕ) (start at d : ℕ) (state next : PowerState) (last now : Option HalfMatch) (turn : Turn) (whole : Outcome)
-  → start < at → at ≤ length hay → turn ≡ Turn.Going next now
-  → TurnSays e true earliest at (Ok turn) (λ units. walk_from e true earliest state at last (get_or hay (at - 1) d ∷ units))
-  → walk_from e true earliest state at last (behind hay start at) ≡ whole → walk_from e true earliest next (at - 1) now (behind hay start (at - 1)) ≡ whole
+    → start < at → at ≤ length hay → turn ≡ Turn.Going next now
+    → TurnSays e true earliest at (Ok turn) (λ units. walk_from e true earliest state at last (get_or hay (at - 1) d ∷ units))
+    → walk_from e true earliest state at last (behind hay start at) ≡ whole → walk_from e true earliest next (at - 1) now (behind hay start (at - 1)) ≡ whole
 turned_back e earliest hay start at d state next last now turn whole h fits is says inv =
     let step = subst (λ (t : Turn). TurnSays e true earliest at (Ok t) (λ units. walk_from e true earliest state at last (get_or hay (at - 1) d ∷ units))) is says in
     sym (step (behind hay start (at - 1))) ∙ ap (walk_from e true earliest state at last) (sym (behind_more hay start at d h fits)) ∙ inv
 
 pub done_back : (e : Engine) (earliest : Bool) (hay : List ℕ) (start at d : ℕ) (state : PowerState) (last found : Option HalfMatch) (turn : Turn) (whole : Outcome)
-  → start < at → at ≤ length hay → turn ≡ Turn.Done found
-  → TurnSays e true earliest at (Ok turn) (λ units. walk_from e true earliest state at last (get_or hay (at - 1) d ∷ units))
-  → walk_from e true earliest state at last (behind hay start at) ≡ whole → whole ≡ Outcome.Told (halves found)
+    → start < at → at ≤ length hay → turn ≡ Turn.Done found
+    → TurnSays e true earliest at (Ok turn) (λ units. walk_from e true earliest state at last (get_or hay (at - 1) d ∷ units))
+    → walk_from e true earliest state at last (behind hay start at) ≡ whole → whole ≡ Outcome.Told (halves found)
 done_back e earliest hay start at d state last found turn whole h fits is says inv =
     let step = subst (λ (t : Turn). TurnSays e true earliest at (Ok t) (λ units. walk_from e true earliest state at last (get_or hay (at - 1) d ∷ units))) is says in
     sym inv ∙ ap (walk_from e true earliest state at last) (behind_more hay start at d h fits) ∙ step (behind hay start (at - 1))
 
 pub failed_back : (e : Engine) (earliest : Bool) (hay : List ℕ) (start at d : ℕ) (state : PowerState) (last : Option HalfMatch) (fault : HalfFault) (whole : Outcome)
-  → start < at → at ≤ length hay
-  → ((units : List ℕ) → FaultSays fault (walk_from e true earliest state at last (get_or hay (at - 1) d ∷ units)))
-  → walk_from e true earliest state at last (behind hay start at) ≡ whole → FaultSays fault whole
+    → start < at → at ≤ length hay
+    → ((units : List ℕ) → FaultSays fault (walk_from e true earliest state at last (get_or hay (at - 1) d ∷ units)))
+    → walk_from e true earliest state at last (behind hay start at) ≡ whole → FaultSays fault whole
 failed_back e earliest hay start at d state last fault whole h fits says inv =
     fault_says fault whole _ (sym inv ∙ ap (walk_from e true earliest state at last) (behind_more hay start at d h fits)) (says (behind hay start (at - 1)))
 
 -- the last turn
 pub says_end : (e : Engine) (reverse earliest : Bool) (state : PowerState) (offset : ℕ) (last : Option HalfMatch) (r : Result (Option HalfMatch) HalfFault) (xs ys : List ℕ) (whole : Outcome)
-  → Says r (walk_from e reverse earliest state offset last xs) → ys ≡ xs → walk_from e reverse earliest state offset last ys ≡ whole → Says r whole
+    → Says r (walk_from e reverse earliest state offset last xs) → ys ≡ xs → walk_from e reverse earliest state offset last ys ≡ whole → Says r whole
 says_end e reverse earliest state offset last r xs ys whole says same inv = subst (λ o. Says r o) (ap (walk_from e reverse earliest state offset last) (sym same) ∙ inv) says

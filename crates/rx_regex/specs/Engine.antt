@@ -4,7 +4,6 @@ use Rattle.std.specs.Option.{option_map}
 use Rattle.rx_spec.specs.Builds.{Build, Node, power, build_settings}
 use Rattle.rx_spec.specs.Builds as builds
 use Rattle.rx_spec.specs.Found.{Query}
-use Rattle.rx_spec.specs.Machines.{Machine}
 use Rattle.rx_spec.specs.States.{State}
 use Rattle.rx_spec.specs.Searches.{Half, Outcome, half, walk, moved}
 use Rattle.rx_base.specs.ByteSet.{set_of}

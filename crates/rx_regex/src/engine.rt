@@ -328,12 +328,7 @@ fn is_dead(state: &PowerState) -> bool
 }
 
 /// What a state that was reached at an offset makes of the last match.
-fn arrived(
-    next: PowerState,
-    offset: usize,
-    last: Option<HalfMatch>,
-    earliest: bool,
-) -> Turn
+fn arrived(next: PowerState, offset: usize, last: Option<HalfMatch>, earliest: bool) -> Turn
     ensures { Arrives result (state_of next) offset last earliest }
 {
     if next.pattern_len() == 0 {

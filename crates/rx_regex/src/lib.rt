@@ -8,7 +8,9 @@
 
 mod engine;
 mod error;
+mod find;
 mod plan;
 
 pub use error::{BuildError, BuildErrorKind, FindFault};
+pub use find::compile_and_find;
 pub use plan::{Answer, Form, Passage, Plan};

@@ -1,7 +1,6 @@
-use Rattle.std.proofs.Common.{◌≡◌, ◌∙◌, sym, ap, subst, arith, true, false}
+use Rattle.std.proofs.Common.{◌∙◌, sym, subst}
 use Rattle.std.proofs.lemmas.Result.{err_from_is_err_and}
 use Rattle.rx_regex.specs.Engine.{build_of, halves, Arrives}
-use Rattle.rx_spec.specs.States.{step}
 use Rattle.rx_powerset.specs.PowerState.{state_of}
 use Rattle.rx_regex.proofs.Turns.{walk_dead, quit_says, arrives_says}
 use Rattle.rx_base.specs.Unit.{unit_number}
@@ -18,4 +17,4 @@ returns-in_err-refuse_quit c =
 pub returns-in-Ok : goal.returns-in-Ok
 returns-in-Ok c =
     arrives_says c.args.self.now c.args.reverse c.args.earliest (state_of c.args.state.now) c.args.offset (unit_number c.args.unit) c.args.last c.arrived.result (sym c.is_dead.ensures ∙ c.if-is_dead.false) c.in_ok-refuse_quit.ensures
-      (subst (λ s. Arrives c.arrived.result s c.args.offset c.args.last c.args.earliest) c.in-Ok.ensures c.arrived.ensures)
+    (subst (λ s. Arrives c.arrived.result s c.args.offset c.args.last c.args.earliest) c.in-Ok.ensures c.arrived.ensures)

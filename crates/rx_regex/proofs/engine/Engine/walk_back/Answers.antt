@@ -34,5 +34,5 @@ pub returns : goal.returns
 returns c =
     let at : (c.end-end.result - c.loop-read.read) ≡ c.start-first.result = omega (arith, c.start-first.ensures, c.end-end.ensures, c.requires.begun) in
     says_end c.args.self.now true c.get_earliest-earliest.result c.loop-read.state c.start-first.result c.loop-read.last c.finish.result _ (behind c.haystack-hay.result.now c.start-first.result c.start-first.result) _ c.finish.ensures
-      (behind_end c.haystack-hay.result.now c.start-first.result ∙ ap (λ u. u ∷ []) (sym c.unit_before-unit.ensures))
-      (subst (λ n. walk_from c.args.self.now true c.get_earliest-earliest.result c.loop-read.state n c.loop-read.last (behind c.haystack-hay.result.now c.start-first.result n) ≡ walk_from c.args.self.now true (query_of c.args.input.now).earliest c.args.start (query_of c.args.input.now).stop None (units_of true (query_of c.args.input.now))) at c.loop-read.invariant)
+    (behind_end c.haystack-hay.result.now c.start-first.result ∙ ap (λ u. u ∷ []) (sym c.unit_before-unit.ensures))
+    (subst (λ n. walk_from c.args.self.now true c.get_earliest-earliest.result c.loop-read.state n c.loop-read.last (behind c.haystack-hay.result.now c.start-first.result n) ≡ walk_from c.args.self.now true (query_of c.args.input.now).earliest c.args.start (query_of c.args.input.now).stop None (units_of true (query_of c.args.input.now))) at c.loop-read.invariant)

@@ -26,5 +26,5 @@ pub returns : goal.returns
 returns c =
     let at : c.loop-at.at ≡ c.end-end.result = omega (arith, c.start-at.ensures, c.end-end.ensures, c.requires.begun) in
     says_end c.args.self.now false c.get_earliest-earliest.result c.loop-at.state c.end-end.result c.loop-at.last c.finish.result _ (ahead c.haystack-hay.result.now c.end-end.result c.end-end.result) _ c.finish.ensures
-      (ahead_end c.haystack-hay.result.now c.end-end.result ∙ ap (λ u. u ∷ []) (sym c.unit_at-unit.ensures))
-      (subst (λ n. walk_from c.args.self.now false c.get_earliest-earliest.result c.loop-at.state n c.loop-at.last (ahead c.haystack-hay.result.now n c.end-end.result) ≡ walk_from c.args.self.now false (query_of c.args.input.now).earliest c.args.start (query_of c.args.input.now).start None (units_of false (query_of c.args.input.now))) at c.loop-at.invariant)
+    (ahead_end c.haystack-hay.result.now c.end-end.result ∙ ap (λ u. u ∷ []) (sym c.unit_at-unit.ensures))
+    (subst (λ n. walk_from c.args.self.now false c.get_earliest-earliest.result c.loop-at.state n c.loop-at.last (ahead c.haystack-hay.result.now n c.end-end.result) ≡ walk_from c.args.self.now false (query_of c.args.input.now).earliest c.args.start (query_of c.args.input.now).start None (units_of false (query_of c.args.input.now))) at c.loop-at.invariant)
