@@ -5,3 +5,4 @@ pub mod Gathered
 pub mod Stepped
 pub mod Few
 pub mod Compared
+pub mod Single

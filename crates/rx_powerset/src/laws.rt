@@ -2,6 +2,7 @@
 
 ghost use Rattle.std.specs.Prelude.{◌≡◌, ◌↔◌, IsTrue, All};
 ghost use Rattle.rx_spec.specs.Expressions.{IsLoopSafe};
+ghost use Rattle.rx_spec.specs.Rows.{always_match, never_match};
 ghost use Rattle.rx_expr.specs.Compiler.{asked_by};
 ghost use Rattle.rx_expr.specs.Compiles.{wanted_nfa};
 ghost use Rattle.rx_expr.specs.Nfa.{meaning, IsSound, KeepsAsked};
@@ -21,6 +22,20 @@ pub fn learn_sound(compiler: &Compiler, exprs: &[Expr], nfa: &NFA)
 {
     rx_meaning::shallow::shallow();
 }
+
+/// The NFA that matches everywhere can be stepped.
+pub fn learn_always_sound(nfa: &NFA)
+    requires built { meaning nfa.now ≡ always_match }
+    requires asked { KeepsAsked nfa.now }
+    ensures { IsSound nfa.now }
+{}
+
+/// The NFA that matches nowhere can be stepped.
+pub fn learn_never_sound(nfa: &NFA)
+    requires built { meaning nfa.now ≡ never_match }
+    requires asked { KeepsAsked nfa.now }
+    ensures { IsSound nfa.now }
+{}
 
 /// Two states are equal exactly where their three parts are.
 pub fn equal(a: &PowerState, b: &PowerState) -> bool

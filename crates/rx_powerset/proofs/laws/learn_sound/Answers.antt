@@ -1,4 +1,4 @@
-use Rattle.std.proofs.Common.{List, sym, ap, subst}
+use Rattle.std.proofs.Common.{sym, subst}
 use Rattle.rx_spec.specs.Rows.{Nfa}
 use Rattle.rx_spec.specs.Shallow.{IsShallow}
 use Rattle.rx_expr.specs.Compiler.{asked_by}
