@@ -13,3 +13,4 @@ pub mod Numbers
 pub mod Bytes
 pub mod Names
 pub mod Phrases
+pub mod Items
