@@ -14,3 +14,4 @@ pub mod Bytes
 pub mod Names
 pub mod Phrases
 pub mod Items
+pub mod Plans
