@@ -15,3 +15,4 @@ pub mod Names
 pub mod Phrases
 pub mod Items
 pub mod Plans
+pub mod Scripts
