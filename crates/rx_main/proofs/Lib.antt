@@ -16,3 +16,4 @@ pub mod Phrases
 pub mod Items
 pub mod Plans
 pub mod Scripts
+pub mod Outcomes

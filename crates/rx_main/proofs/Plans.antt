@@ -55,6 +55,7 @@ value_of front word read make s e = on (behind front word) refl e where
   mapped : (text : List ℕ) (o : Option _) → read text ≡ o → option_map make o ≡ Some s → (x : _) × (read text ≡ Some x) × (make x ≡ s)
   mapped text None p q = absurd cc
   mapped text (Some x) p q = (x, p, some_is (make x) s q)
+
   on : (o : Option (List ℕ)) → behind front word ≡ o → option_and_then (λ text. option_map make (read text)) o ≡ Some s → (text : List ℕ) × (x : _) × (word ≡ front ++ text) × (read text ≡ Some x) × (make x ≡ s)
   on None p q = absurd cc
   on (Some text) p q = let m = mapped text (read text) refl q in (text, m.0, behind_spelled front word text p, m.1, m.2)
@@ -165,8 +166,8 @@ seen_less : (seen : List Bool) (s t : Setting) → length seen ≡ 15 → IsUnse
 seen_less seen s t len e =
     let other : name_of t ≢ name_of s = λ same. clash (sym (get_or-set_same seen (name_of s) true false (omega (arith, len, name_small s))) ∙ ap (λ (k : ℕ). get_or (set seen (name_of s) true) k false) (sym same) ∙ e) in
     (other, sym (get_or-set_other seen (name_of s) (name_of t) true false other) ∙ e) where
-  clash : true ≡ false → ⊥
-  clash z = cc
+      clash : true ≡ false → ⊥
+      clash z = cc
 
 all_less : (seen : List Bool) (s : Setting) (ss : List Setting) → length seen ≡ 15 → AllByRecursion (IsUnseen (set seen (name_of s) true)) ss → AllByRecursion (λ t. name_of t ≢ name_of s) ss × AllByRecursion (IsUnseen seen) ss
 all_less seen s [] len each = (tt, tt)
@@ -193,6 +194,7 @@ from_spelled chosen seen [] out len e = record { settings = []; spelled = tt; un
 from_spelled chosen seen (word ∷ words) out len e = on (setting_word word) refl e (λ s z. from_spelled (with_setting s chosen) (set seen (name_of s) true) words out (length-set seen (name_of s) true ∙ len) z) where
   Rest : Type 0
   Rest = (s : Setting) → plan_from (with_setting s chosen) (set seen (name_of s) true) words ≡ Some out → IsRead (with_setting s chosen) (set seen (name_of s) true) words out
+
   free : (s : Setting) (t : Bool) → get_or seen (name_of s) false ≡ t → setting_word word ≡ Some s → unless_seen t (plan_from (with_setting s chosen) (set seen (name_of s) true) words) ≡ Some out
       → ((s : Setting) → plan_from (with_setting s chosen) (set seen (name_of s) true) words ≡ Some out → IsRead (with_setting s chosen) (set seen (name_of s) true) words out) → IsRead chosen seen (word ∷ words) out
   free s true p w q again = absurd cc
@@ -200,6 +202,7 @@ from_spelled chosen seen (word ∷ words) out len e = on (setting_word word) ref
       let r = again s q in
       let l = all_less seen s r.settings len r.unseen in
       record { settings = s ∷ r.settings; spelled = (setting_spelled word s w, r.spelled); unseen = (p, l.1); distinct = (l.0, r.distinct); made = r.made }
+
   on : (o : Option Setting) → setting_word word ≡ o → option_and_then (λ s. unless_seen (get_or seen (name_of s) false) (plan_from (with_setting s chosen) (set seen (name_of s) true) words)) o ≡ Some out
       → ((s : Setting) → plan_from (with_setting s chosen) (set seen (name_of s) true) words ≡ Some out → IsRead (with_setting s chosen) (set seen (name_of s) true) words out) → IsRead chosen seen (word ∷ words) out
   on None w q again = absurd cc

@@ -12,6 +12,7 @@ use Rattle.rx_main.specs.Reading.{Spelled, script_of}
 use Rattle.rx_main.specs.Script.{asked_read, script_read}
 use Rattle.rx_main.specs.Replies.{Reply, is_built, IsAnswer, IsReplyTo, Asks, Replies}
 use Rattle.rx_main.proofs.Commands.{Fits, is_asked}
+use Rattle.rx_main.proofs.Scripts.{script_spelled}
 
 pub plainly_built : (p : Plan) (rows plain : Bool) (es : List Expression) (q : Query) → is_built (chosen_of p rows plain) es q ≡ true → is_built (chosen_of p false true) es q ≡ true
 plainly_built p rows true es q h = h
@@ -28,7 +29,7 @@ answered p rows plain es q Reply.NoMatch b a = (b, a)
 
 asks_by : (text : List ℕ) (s : Script) (input : ScriptInput) → length text ≤ 16777216 → script_of true text ≡ Ok (script_read s) → s.input ≡ Some input → Asks text (chosen_of s.plan s.rows s.plain) s.exprs (asked_read input)
 asks_by text s input short h e =
-    record { short = short; spelled = h ∙ ap (λ (i : Option ScriptInput). Ok (record { chosen = chosen_of s.plan s.rows s.plain; exprs = s.exprs; asked = option_map asked_read i })) e }
+    record { short = short; spelled = script_spelled true text (record { chosen = chosen_of s.plan s.rows s.plain; exprs = s.exprs; asked = Some (asked_read input) }) (h ∙ ap (λ (i : Option ScriptInput). Ok (record { chosen = chosen_of s.plan s.rows s.plain; exprs = s.exprs; asked = option_map asked_read i })) e) }
 
 pub replied : (text : List ℕ) (s : Script) (input : ScriptInput) (reply : Reply) → length text ≤ 16777216 → script_of true text ≡ Ok (script_read s) → s.input ≡ Some input → IsReplyTo (chosen_of s.plan s.rows s.plain) s.exprs (asked_read input) reply → Replies (codes "find" ∷ []) text true reply
 replied text s input Reply.Usage short h e r = absurd r

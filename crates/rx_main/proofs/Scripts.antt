@@ -42,14 +42,14 @@ tested n line kind others e =
     let s = spaced_line line p.0 in
     let pair = ok_is (kind_of (words_of line), others_of (words_of line)) (kind, others) p.1 in
     on (words_of line) s.0 s.1 (ap (λ (x : LineKind × List (List ℕ)). x.0) pair) (ap (λ (x : LineKind × List (List ℕ)). x.1) pair) where
-  on : (words : List (List ℕ)) → IsLine words → line ≡ line_text words → kind_of words ≡ kind → others_of words ≡ others → IsTested line kind others
-  on [] w t k o = absurd (omega (arith, w.0))
-  on (first ∷ more) w t k o = record {
-    first = first;
-    words = subst (λ (x : List (List ℕ)). IsLine (first ∷ x)) o w;
-    text = t ∙ ap (λ (x : List (List ℕ)). line_text (first ∷ x)) o;
-    named = kind_spelled first kind k;
-  }
+      on : (words : List (List ℕ)) → IsLine words → line ≡ line_text words → kind_of words ≡ kind → others_of words ≡ others → IsTested line kind others
+      on [] w t k o = absurd (omega (arith, w.0))
+      on (first ∷ more) w t k o = record {
+        first = first;
+        words = subst (λ (x : List (List ℕ)). IsLine (first ∷ x)) o w;
+        text = t ∙ ap (λ (x : List (List ℕ)). line_text (first ∷ x)) o;
+        named = kind_spelled first kind k;
+      }
 
 line_read : (n : ℕ) (words : List (List ℕ)) (first : List ℕ) (others : List (List ℕ)) (kind : LineKind) → IsLine words → words ≡ first ∷ others → line_kind first ≡ kind → line_at n (line_text words) ≡ Ok (kind, others)
 line_read n words first others kind w e k =
@@ -73,7 +73,7 @@ span_spelled (a ∷ (b ∷ (m ∷ []))) span e = on (number_of a) (number_of b) 
   on (Some x) (Some y) None p q r s = absurd cc
   on (Some x) (Some y) (Some z) p q r s =
       subst (λ (t : Span). (a' : List ℕ) × (b' : List ℕ) × (m' : List ℕ) × ((a ∷ (b ∷ (m ∷ []))) ≡ a' ∷ (b' ∷ (m' ∷ []))) × SpellsNumber t.start a' × SpellsNumber t.stop b' × SpellsMode (mode_of t.mode) m')
-        (some_is (record { start = x; stop = y; mode = z }) span s) (a, b, m, refl, number_spelled a x p, number_spelled b y q, mode_spelled m z r)
+      (some_is (record { start = x; stop = y; mode = z }) span s) (a, b, m, refl, number_spelled a x p, number_spelled b y q, mode_spelled m z r)
 span_spelled [] span e = absurd cc
 span_spelled (a ∷ []) span e = absurd cc
 span_spelled (a ∷ (b ∷ [])) span e = absurd cc
@@ -106,11 +106,19 @@ asked_spelled n span inputs words lines a b m first q is sa sb sm line named h =
     let r = bind_ok (nothing_at (n + 1) lines) (λ nothing. Ok (query_of span x.0)) q p.1 in
     let t = both_true _ _ p.0 in
     let made : SpellsQuery (query_of span x.0) (codes "input" ∷ inputs) (first ∷ words) = record {
-      start = a; stop = b; mode = m; bytes = w.0;
+      start = a;
+      stop = b;
+      mode = m;
+      bytes = w.0;
       input_words = ap (λ (l : List (List ℕ)). codes "input" ∷ l) is;
       hay_words = ap (λ (f : List ℕ). f ∷ words) named ∙ ap (λ (l : List (List ℕ)). codes "hay" ∷ l) w.1;
-      start_spelled = sa; stop_spelled = sb; mode_spelled = sm; hay_spelled = w.2;
-      within = leb-true _ _ t.0; ordered = leb-true _ _ t.1; whole = refl;
+      start_spelled = sa;
+      stop_spelled = sb;
+      mode_spelled = sm;
+      hay_spelled = w.2;
+      within = leb-true _ _ t.0;
+      ordered = leb-true _ _ t.1;
+      whole = refl;
     } in
     (nothing_spelled (n + 1) lines r.1, record { hay = first ∷ words; hay_line = line; lines_are = refl; spelled = subst (λ (y : Query). SpellsQuery y (codes "input" ∷ inputs) (first ∷ words)) (ok_is (query_of span x.0) q r.2) made })
 
@@ -219,36 +227,39 @@ spelled_by w text plan_lines chosen rest exprs asked e each plan lines =
       exprs = lines.exprs_spelled;
       asked = lines.asked_spelled;
     } where
-  both : (xs ys : List (List (List ℕ))) → AllByRecursion IsLine xs → AllByRecursion IsLine ys → AllByRecursion IsLine (xs ++ ys)
-  both [] ys p q = q
-  both (x ∷ xs) ys p q = (p.0, both xs ys p.1 q)
-  joined : (all : List (List (List ℕ))) → IsJoined text (map line_text all) → (text ≡ lines_text all) ⊎ ((0 < length all) × (text ≡ lines_text all ++ 10 ∷ []))
-  joined all (inl p) = inl p
-  joined all (inr p) = inr (omega (arith, p.0, length-map {A = List (List ℕ)} {B = List ℕ}), p.1)
+      both : (xs ys : List (List (List ℕ))) → AllByRecursion IsLine xs → AllByRecursion IsLine ys → AllByRecursion IsLine (xs ++ ys)
+      both [] ys p q = q
+      both (x ∷ xs) ys p q = (p.0, both xs ys p.1 q)
+
+      joined : (all : List (List (List ℕ))) → IsJoined text (map line_text all) → (text ≡ lines_text all) ⊎ ((0 < length all) × (text ≡ lines_text all ++ 10 ∷ []))
+      joined all (inl p) = inl p
+      joined all (inr p) = inr (omega (arith, p.0, length-map {A = List (List ℕ)} {B = List ℕ}), p.1)
 
 pub script_spelled : (w : Bool) (text : List ℕ) (s : Spelled) → script_of w text ≡ Ok s → Spells w text s
 unfolding script_of plan_at
 script_spelled w text s h =
     let b = bind_ok (plan_at (lines_of text)) (planned w (lines_of text)) s h in
     on (lines_of text) refl b.0 b.1 b.2 where
-  none : (chosen : Chosen) (n : ℕ) (lines : List (List ℕ)) (plan_lines : List (List (List ℕ))) → lines_of text ≡ map line_text plan_lines ++ lines → AllByRecursion IsLine plan_lines → SpellsPlanLines chosen plan_lines → spelled chosen (lines_at w n lines) ≡ Ok s → Spells w text s
-  none chosen n lines plan_lines e each plan z =
-      let x = bind_ok (lines_at w n lines) (λ rest. Ok (record { chosen = chosen; exprs = rest.0; asked = rest.1 })) s z in
-      subst (Spells w text) (ok_is (record { chosen = chosen; exprs = x.0.0; asked = x.0.1 }) s x.2) (spelled_by w text plan_lines chosen lines x.0.0 x.0.1 e each plan (lines_spelled w n lines x.0 x.1))
-  some : (line : List ℕ) (lines : List (List ℕ)) (kind : LineKind) (others : List (List ℕ)) (plan : Option (Chosen × List (List ℕ))) → lines_of text ≡ line ∷ lines → IsTested line kind others → plan_kind kind others lines ≡ Ok plan → planned w (line ∷ lines) plan ≡ Ok s → Spells w text s
-  some line lines LineKind.Plan others plan e t k z =
-      let c = bind_ok (needed 1 BadKind.Plan (plan_from unplanned none_seen others)) (λ chosen. Ok (Some (chosen, lines))) plan k in
-      let z' = ap (planned w (line ∷ lines)) (ok_is (Some (c.0, lines)) plan c.2) ∙ z in
-      none c.0 2 lines ((t.first ∷ others) ∷ []) (e ∙ ap (λ (l : List ℕ). l ∷ lines) t.text) (t.words, tt) (others, plan_spelled others c.0 (needed_ok 1 BadKind.Plan (plan_from unplanned none_seen others) c.0 c.1), ap (λ (f : List ℕ). f ∷ others) t.named) z'
-  some line lines LineKind.Expr others plan e t k z = none unplanned 1 (line ∷ lines) [] e tt refl (ap (planned w (line ∷ lines)) (ok_is None plan k) ∙ z)
-  some line lines LineKind.Input others plan e t k z = none unplanned 1 (line ∷ lines) [] e tt refl (ap (planned w (line ∷ lines)) (ok_is None plan k) ∙ z)
-  some line lines LineKind.Hay others plan e t k z = none unplanned 1 (line ∷ lines) [] e tt refl (ap (planned w (line ∷ lines)) (ok_is None plan k) ∙ z)
-  some line lines LineKind.Other others plan e t k z = none unplanned 1 (line ∷ lines) [] e tt refl (ap (planned w (line ∷ lines)) (ok_is None plan k) ∙ z)
-  on : (lines : List (List ℕ)) → lines_of text ≡ lines → (plan : Option (Chosen × List (List ℕ))) → plan_at lines ≡ Ok plan → planned w lines plan ≡ Ok s → Spells w text s
-  on [] e plan p z = none unplanned 1 [] [] e tt refl (ap (planned w []) (ok_is None plan p) ∙ z)
-  on (line ∷ lines) e plan p z =
-      let l = bind_ok (line_at 1 line) (λ read. plan_kind read.0 read.1 lines) plan p in
-      some line lines l.0.0 l.0.1 plan e (tested 1 line l.0.0 l.0.1 l.1) l.2 z
+      none : (chosen : Chosen) (n : ℕ) (lines : List (List ℕ)) (plan_lines : List (List (List ℕ))) → lines_of text ≡ map line_text plan_lines ++ lines → AllByRecursion IsLine plan_lines → SpellsPlanLines chosen plan_lines → spelled chosen (lines_at w n lines) ≡ Ok s → Spells w text s
+      none chosen n lines plan_lines e each plan z =
+          let x = bind_ok (lines_at w n lines) (λ rest. Ok (record { chosen = chosen; exprs = rest.0; asked = rest.1 })) s z in
+          subst (Spells w text) (ok_is (record { chosen = chosen; exprs = x.0.0; asked = x.0.1 }) s x.2) (spelled_by w text plan_lines chosen lines x.0.0 x.0.1 e each plan (lines_spelled w n lines x.0 x.1))
+
+      some : (line : List ℕ) (lines : List (List ℕ)) (kind : LineKind) (others : List (List ℕ)) (plan : Option (Chosen × List (List ℕ))) → lines_of text ≡ line ∷ lines → IsTested line kind others → plan_kind kind others lines ≡ Ok plan → planned w (line ∷ lines) plan ≡ Ok s → Spells w text s
+      some line lines LineKind.Plan others plan e t k z =
+          let c = bind_ok (needed 1 BadKind.Plan (plan_from unplanned none_seen others)) (λ chosen. Ok (Some (chosen, lines))) plan k in
+          let z' = ap (planned w (line ∷ lines)) (ok_is (Some (c.0, lines)) plan c.2) ∙ z in
+          none c.0 2 lines ((t.first ∷ others) ∷ []) (e ∙ ap (λ (l : List ℕ). l ∷ lines) t.text) (t.words, tt) (others, plan_spelled others c.0 (needed_ok 1 BadKind.Plan (plan_from unplanned none_seen others) c.0 c.1), ap (λ (f : List ℕ). f ∷ others) t.named) z'
+      some line lines LineKind.Expr others plan e t k z = none unplanned 1 (line ∷ lines) [] e tt refl (ap (planned w (line ∷ lines)) (ok_is None plan k) ∙ z)
+      some line lines LineKind.Input others plan e t k z = none unplanned 1 (line ∷ lines) [] e tt refl (ap (planned w (line ∷ lines)) (ok_is None plan k) ∙ z)
+      some line lines LineKind.Hay others plan e t k z = none unplanned 1 (line ∷ lines) [] e tt refl (ap (planned w (line ∷ lines)) (ok_is None plan k) ∙ z)
+      some line lines LineKind.Other others plan e t k z = none unplanned 1 (line ∷ lines) [] e tt refl (ap (planned w (line ∷ lines)) (ok_is None plan k) ∙ z)
+
+      on : (lines : List (List ℕ)) → lines_of text ≡ lines → (plan : Option (Chosen × List (List ℕ))) → plan_at lines ≡ Ok plan → planned w lines plan ≡ Ok s → Spells w text s
+      on [] e plan p z = none unplanned 1 [] [] e tt refl (ap (planned w []) (ok_is None plan p) ∙ z)
+      on (line ∷ lines) e plan p z =
+          let l = bind_ok (line_at 1 line) (λ read. plan_kind read.0 read.1 lines) plan p in
+          some line lines l.0.0 l.0.1 plan e (tested 1 line l.0.0 l.0.1 l.1) l.2 z
 
 -- ---- what is spelled is read
 
@@ -284,7 +295,7 @@ query_read n input hay q li lh s =
     let m = mode_read s.mode q.mode s.mode_spelled in
     let span : Span = record { start = q.start; stop = q.stop; mode = m.0 } in
     let ok = input_again n s.start s.stop s.mode span (line_text hay ∷ []) (query_of span q.hay) (numbers_read s.start s.stop s.mode q.start q.stop m.0 (number_read s.start q.start s.start_spelled) (number_read s.stop q.stop s.stop_spelled) m.1)
-      (hay_again (n + 1) span hay s.bytes q.hay lh s.hay_words (bytes_read s.bytes q.hay s.hay_spelled) (within_is span q.hay s.within s.ordered)) in
+    (hay_again (n + 1) span hay s.bytes q.hay lh s.hay_words (bytes_read s.bytes q.hay s.hay_spelled) (within_is span q.hay s.within s.ordered)) in
     rw (line_read n input (codes "input") (s.start ∷ (s.stop ∷ (s.mode ∷ []))) LineKind.Input li s.input_words input_read, ok) (ap (λ (x : Query). Ok ([], Some x)) (same_query q span refl refl m.2 s.whole))
 
 end_read : (n : ℕ) → lines_at false n [] ≡ Ok ([], None)
@@ -340,10 +351,10 @@ pub script_read : (w : Bool) (text : List ℕ) (s : Spelled) → Spells w text s
 unfolding script_of
 script_read w text s sp =
     ap (λ (ls : List (List ℕ)). plan_at ls >>= planned w ls) (spelled_lines (sp.plan_lines ++ (sp.expr_lines ++ sp.asked_lines)) text sp.lines) ∙ on sp.plan_lines sp.lines.each sp.plan where
-  on : (plan_lines : List (List (List ℕ))) → AllByRecursion IsLine (plan_lines ++ (sp.expr_lines ++ sp.asked_lines)) → SpellsPlanLines s.chosen plan_lines
-      → (plan_at (map line_text (plan_lines ++ (sp.expr_lines ++ sp.asked_lines))) >>= planned w (map line_text (plan_lines ++ (sp.expr_lines ++ sp.asked_lines)))) ≡ Ok s
-  on [] each plan =
-      rw (no_plan w sp.expr_lines sp.asked_lines s.exprs s.asked each sp.exprs sp.asked, exprs_read w 1 sp.expr_lines sp.asked_lines s.exprs s.asked each sp.exprs sp.asked) (ap (λ (c : Chosen). Ok (record { chosen = c; exprs = s.exprs; asked = s.asked })) (sym plan))
-  on (words ∷ []) each (others, plan, is) =
-      rw (plan_again words others (map line_text (sp.expr_lines ++ sp.asked_lines)) s.chosen each.0 is plan, exprs_read w 2 sp.expr_lines sp.asked_lines s.exprs s.asked each.1 sp.exprs sp.asked) refl
-  on (a ∷ (b ∷ ls)) each plan = absurd plan
+      on : (plan_lines : List (List (List ℕ))) → AllByRecursion IsLine (plan_lines ++ (sp.expr_lines ++ sp.asked_lines)) → SpellsPlanLines s.chosen plan_lines
+          → (plan_at (map line_text (plan_lines ++ (sp.expr_lines ++ sp.asked_lines))) >>= planned w (map line_text (plan_lines ++ (sp.expr_lines ++ sp.asked_lines)))) ≡ Ok s
+      on [] each plan =
+          rw (no_plan w sp.expr_lines sp.asked_lines s.exprs s.asked each sp.exprs sp.asked, exprs_read w 1 sp.expr_lines sp.asked_lines s.exprs s.asked each sp.exprs sp.asked) (ap (λ (c : Chosen). Ok (record { chosen = c; exprs = s.exprs; asked = s.asked })) (sym plan))
+      on (words ∷ []) each (others, plan, is) =
+          rw (plan_again words others (map line_text (sp.expr_lines ++ sp.asked_lines)) s.chosen each.0 is plan, exprs_read w 2 sp.expr_lines sp.asked_lines s.exprs s.asked each.1 sp.exprs sp.asked) refl
+      on (a ∷ (b ∷ ls)) each plan = absurd plan

@@ -10,7 +10,8 @@ use Rattle.rx_main.specs.declared.fault.BadKind.{BadKind}
 use Rattle.rx_main.specs.Faults.{Fault}
 use Rattle.rx_main.specs.PlanLine.{Chosen}
 use Rattle.rx_main.specs.Reading.{Spelled, script_of}
-use Rattle.std.specs.Prelude.{Ok, Err}
+use Rattle.std.specs.Prelude.{Err}
+use Rattle.rx_main.specs.Grammar.{Spells}
 
 -- ---- what is built so far
 
@@ -105,7 +106,7 @@ most_bytes = 16777216
 -- The script that a text spells asks this of these expressions, under this plan.
 pub record Asks (text : List ℕ) (chosen : Chosen) (exprs : List Expression) (query : Query) : Type 0 where
   pub short : length text ≤ most_bytes
-  pub spelled : script_of true text ≡ Ok (record { chosen = chosen; exprs = exprs; asked = Some query })
+  pub spelled : Spells true text (record { chosen = chosen; exprs = exprs; asked = Some query })
 
 -- what is answered to a script that is built
 abbrev pub IsAnswer : Chosen → List Expression → Query → Reply → Type 0

@@ -10,6 +10,7 @@
 mod engine;
 mod expression;
 mod fault;
+pub mod laws;
 mod pieces;
 mod plan;
 mod plan_words;
