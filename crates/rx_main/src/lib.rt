@@ -26,3 +26,6 @@ pub use plan::{Form, Passage, Plan};
 pub use program::run;
 pub use script::{Exprs, Hay, Script, ScriptInput, read_script};
 pub use words::Words;
+
+#[cfg(test)]
+mod tests;
