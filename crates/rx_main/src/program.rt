@@ -3,7 +3,6 @@
 ghost use Rattle.std.specs.Prelude.{◌≡◌, ◌+◌, ◌≤◌, ◌↔◌, ◌∷◌, [], true, false, codes, length, IsTrue, IfOk, IfErr, option_map};
 ghost use Rattle.std.specs.List.{list_any};
 ghost use Rattle.std.specs.Io.KnownBytes.{Keeps};
-ghost use Rattle.rx_spec.specs.Found.{found};
 ghost use Rattle.rx_base.specs.Outside.{Rose};
 ghost use Rattle.rx_base.specs.Input.{query_of};
 ghost use Rattle.rx_base.specs.Search.{mode_of};
@@ -12,7 +11,7 @@ ghost use Rattle.rx_main.specs.Replies.{has_look, names_pattern, is_built, IsFin
 ghost use Rattle.rx_main.specs.Script.{asked_read};
 ghost use Rattle.rx_main.specs.Run.{reply_of, Took, Answers, Breaks};
 
-use crate::engine::{FindFault, compile_and_find};
+use crate::engine::{SearchFault, search};
 use crate::fault::ScriptFault;
 use crate::plan::Plan;
 use crate::reply::Reply;
@@ -100,13 +99,13 @@ fn solve(alloc: Global, plan: &Plan, exprs: &[Expr], input: &ScriptInput) -> Res
     ensures answer { IfOk result (λ reply. IsAnswer (chosen_of plan.now false true) exprs.now (asked_read input.now) (reply_of reply)) }
     ensures memory { IfErr result (λ stop. stop ≡ Stop.Memory) }
 {
-    match compile_and_find(alloc, exprs, plan, &input_of(input)) {
-        Ok(answer) => match answer.found {
-            Some(found) => Ok(Reply::Match(found)),
-            None => Ok(Reply::NoMatch),
-        },
-        Err(FindFault::Build) => Ok(Reply::NfaRefused),
-        Err(FindFault::Memory) => Err(Stop::Memory),
+    match search(alloc, exprs, plan, &input_of(input)) {
+        Ok(Some(found)) => Ok(Reply::Match(found)),
+        Ok(None) => Ok(Reply::NoMatch),
+        Err(SearchFault::Refused(cause)) => Ok(Reply::Refused(cause)),
+        Err(SearchFault::Quit { byte, offset }) => Ok(Reply::Quits(byte, offset)),
+        Err(SearchFault::Unsupported { mode }) => Ok(Reply::NoStart(mode)),
+        Err(SearchFault::Memory) => Err(Stop::Memory),
     }
 }
 
