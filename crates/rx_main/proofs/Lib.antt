@@ -17,3 +17,4 @@ pub mod Items
 pub mod Plans
 pub mod Scripts
 pub mod Outcomes
+pub mod Plain

@@ -18,6 +18,10 @@ pub plainly_built : (p : Plan) (rows plain : Bool) (es : List Expression) (q : Q
 plainly_built p rows true es q h = h
 plainly_built p rows false es q h = absurd cc
 
+pub plain_where_built : (p : Plan) (rows plain : Bool) (es : List Expression) (q : Query) → is_built (chosen_of p rows plain) es q ≡ true → plain ≡ true
+plain_where_built p rows true es q h = refl
+plain_where_built p rows false es q h = absurd cc
+
 pub answered : (p : Plan) (rows plain : Bool) (es : List Expression) (q : Query) (reply : Reply) → is_built (chosen_of p rows plain) es q ≡ true → IsAnswer (chosen_of p false true) es q reply → IsReplyTo (chosen_of p rows plain) es q reply
 unfolding cause_of outcome_of
 answered p rows plain es q Reply.Usage b a = a

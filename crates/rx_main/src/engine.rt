@@ -2,7 +2,7 @@
 
 ghost use Rattle.std.specs.Prelude.{◌≡◌, ◌+◌, ◌≤◌, length, true, false};
 ghost use Rattle.rx_base.specs.Input.{query_of};
-ghost use Rattle.rx_main.specs.PlanLine.{chosen_of};
+ghost use Rattle.rx_main.specs.PlanLine.{chosen_of, IsPlain};
 ghost use Rattle.rx_main.specs.Replies.{is_built};
 ghost use Rattle.rx_main.specs.Finding.{Finds};
 
@@ -49,6 +49,7 @@ pub fn search(
     _input: &Input<'_>,
 ) -> Result<Option<Match>, SearchFault>
     requires built { is_built (chosen_of _plan.now false true) _exprs.now (query_of _input.now) ≡ true }
+    requires plain { IsPlain (chosen_of _plan.now false true) }
     requires within { (query_of _input.now).stop ≤ length (query_of _input.now).hay }
     requires ordered { (query_of _input.now).start ≤ (query_of _input.now).stop + 1 }
     ensures { Finds (chosen_of _plan.now false true) _exprs.now (query_of _input.now) result }

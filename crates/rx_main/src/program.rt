@@ -6,7 +6,7 @@ ghost use Rattle.std.specs.Io.KnownBytes.{Keeps};
 ghost use Rattle.rx_base.specs.Outside.{Rose};
 ghost use Rattle.rx_base.specs.Input.{query_of};
 ghost use Rattle.rx_base.specs.Search.{mode_of};
-ghost use Rattle.rx_main.specs.PlanLine.{chosen_of};
+ghost use Rattle.rx_main.specs.PlanLine.{chosen_of, IsPlain};
 ghost use Rattle.rx_main.specs.Replies.{has_look, names_pattern, is_built, IsFind, IsAnswer, IsReplyTo, Replies};
 ghost use Rattle.rx_main.specs.Script.{asked_read};
 ghost use Rattle.rx_main.specs.Run.{reply_of, Took, Answers, Breaks};
@@ -94,6 +94,7 @@ fn input_of(input: &ScriptInput) -> Input<'_>
 /// The answer to a script that is built.
 fn solve(alloc: Global, plan: &Plan, exprs: &[Expr], input: &ScriptInput) -> Result<Reply, Stop>
     requires built { is_built (chosen_of plan.now false true) exprs.now (asked_read input.now) ≡ true }
+    requires plain { IsPlain (chosen_of plan.now false true) }
     requires within { input.now.end ≤ length input.now.haystack }
     requires ordered { input.now.start ≤ input.now.end + 1 }
     ensures answer { IfOk result (λ reply. IsAnswer (chosen_of plan.now false true) exprs.now (asked_read input.now) (reply_of reply)) }
@@ -117,6 +118,7 @@ fn answer_to(
     exprs: &[Expr],
     input: &ScriptInput,
 ) -> Result<Reply, Stop>
+    requires plain { plain ≡ true → IsPlain (chosen_of plan.now false true) }
     requires within { input.now.end ≤ length input.now.haystack }
     requires ordered { input.now.start ≤ input.now.end + 1 }
     ensures reply { IfOk result (λ reply. (rows : _) → IsReplyTo (chosen_of plan.now rows plain) exprs.now (asked_read input.now) (reply_of reply)) }
