@@ -13,3 +13,8 @@ pub mod Numbers
 pub mod Bytes
 pub mod Names
 pub mod Phrases
+pub mod Items
+pub mod Plans
+pub mod Scripts
+pub mod Outcomes
+pub mod Plain

@@ -155,7 +155,7 @@ bind_assoc : {A B C : Type 0} (r : Result A Fault) (f : A → Result B Fault) (g
 bind_assoc (Ok x) f g = refl
 bind_assoc (Err e) f g = refl
 
-made_append : (n : ℕ) (xs ys : List Item) (parts : List Expression) → made_onto n (xs ++ ys) parts ≡ (made_onto n ys parts >>= λ done. made_onto n xs done)
+pub made_append : (n : ℕ) (xs ys : List Item) (parts : List Expression) → made_onto n (xs ++ ys) parts ≡ (made_onto n ys parts >>= λ done. made_onto n xs done)
 unfolding made_onto
 made_append n [] ys parts = last (made_onto n ys parts) where
   last : (r : Result (List Expression) Fault) → r ≡ (r >>= λ done. Ok done)

@@ -7,4 +7,5 @@ pub mod Reading
 pub mod Script
 pub mod Grammar
 pub mod Replies
+pub mod Finding
 pub mod Run

@@ -1,5 +1,5 @@
 -- What the words of a plan line say.
-use Rattle.std.specs.Prelude.{ℕ, Bool, true, false, if◌then◌else◌, List, [], ◌∷◌, length, take, drop, codes, slice_index_or, slice_set, Option, Some, None, option_map, option_and_then, replicate}
+use Rattle.std.specs.Prelude.{◌≡◌, ℕ, Bool, true, false, if◌then◌else◌, List, [], ◌∷◌, length, take, drop, codes, slice_index_or, slice_set, Option, Some, None, option_map, option_and_then, replicate}
 use Rattle.std.specs.Str.{bytes_eq}
 use Rattle.rx_spec.specs.declared.StartKind.{StartKind}
 use Rattle.rx_base.specs.ByteSet.{set_of}
@@ -69,6 +69,19 @@ unplanned = record {
   rows = false;
   plain = true;
 }
+
+-- what holds of a plan where no word but a limit of the NFA stands
+pub record IsPlain (c : Chosen) : Type 0 where
+  pub start_kind : c.start_kind ≡ StartKind.Both
+  pub pattern_starts : c.pattern_starts ≡ false
+  pub quit : c.quit ≡ 0
+  pub unicode_word : c.unicode_word ≡ false
+  pub dfa_limit : c.dfa_limit ≡ None
+  pub determinize_limit : c.determinize_limit ≡ None
+  pub minimize : c.minimize ≡ false
+  pub mark_starts : c.mark_starts ≡ false
+  pub form : c.form ≡ Form.Dense
+  pub passage : c.passage ≡ Passage.Direct
 
 -- one word of a plan line
 pub data Setting : Type 0 where

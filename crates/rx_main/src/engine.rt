@@ -1,40 +1,58 @@
-//! A search without an engine, until there is one.
+//! The search for the answer to a script.
 
-ghost use Rattle.std.specs.Prelude.{◌≡◌, true, false, IfOk, IfErr, option_map};
-ghost use Rattle.rx_spec.specs.Found.{found};
+ghost use Rattle.std.specs.Prelude.{◌≡◌, ◌+◌, ◌≤◌, length, true, false};
 ghost use Rattle.rx_base.specs.Input.{query_of};
-ghost use Rattle.rx_base.specs.Search.{hit_of};
-ghost use Rattle.rx_main.specs.PlanLine.{chosen_of};
-ghost use Rattle.rx_main.specs.Replies.{is_built, nfa_refused};
+ghost use Rattle.rx_main.specs.PlanLine.{chosen_of, IsPlain};
+ghost use Rattle.rx_main.specs.Replies.{is_built};
+ghost use Rattle.rx_main.specs.Finding.{Finds};
 
 use crate::plan::Plan;
-use rx_base::{Input, Match};
+use rx_base::{Anchored, Input, Match};
 use rx_expr::Expr;
 use std::alloc::Global;
 
-/// What was found.
-#[derive(Clone, Copy, Debug)]
-pub struct Answer {
-    pub found: Option<Match>,
+/// Why a build is refused.
+#[derive(Clone, Copy, Debug, PartialEq, Eq)]
+pub enum Cause {
+    /// Its NFA has too many patterns or rows, or is larger than the limit.
+    Nfa,
+    /// An expression has a Unicode word assertion, and a byte from 0x80 on is no quit byte.
+    UnicodeWord,
 }
 
-/// Why nothing was searched.
+/// Why nothing was searched, or the search gave up.
 #[derive(Debug, Drop)]
-pub enum FindFault {
-    Build,
+pub enum SearchFault {
+    /// A build is refused.
+    Refused(Cause),
+    /// A quit byte was met, or stands before the span.
+    Quit {
+        /// The byte.
+        byte: u8,
+        /// Where it stands in the haystack.
+        offset: usize,
+    },
+    /// There are no starts for the mode.
+    Unsupported {
+        /// The mode.
+        mode: Anchored,
+    },
+    /// Want of memory.
     Memory,
 }
 
-pub fn compile_and_find(
+/// Builds what the plan says, and searches.
+pub fn search(
     _alloc: Global,
     _exprs: &[Expr],
     _plan: &Plan,
     _input: &Input<'_>,
-) -> Result<Answer, FindFault>
-    requires { is_built (chosen_of _plan.now false true) _exprs.now (query_of _input.now) ≡ true }
-    ensures found { IfOk result (λ answer. option_map hit_of answer.found ≡ found _exprs.now _plan.now.line_terminator (query_of _input.now)) }
-    ensures built { IfOk result (λ answer. nfa_refused (chosen_of _plan.now false true) _exprs.now ≡ false) }
-    ensures build { result ≡ Err FindFault.Build → nfa_refused (chosen_of _plan.now false true) _exprs.now ≡ true }
+) -> Result<Option<Match>, SearchFault>
+    requires built { is_built (chosen_of _plan.now false true) _exprs.now (query_of _input.now) ≡ true }
+    requires plain { IsPlain (chosen_of _plan.now false true) }
+    requires within { (query_of _input.now).stop ≤ length (query_of _input.now).hay }
+    requires ordered { (query_of _input.now).start ≤ (query_of _input.now).stop + 1 }
+    ensures { Finds (chosen_of _plan.now false true) _exprs.now (query_of _input.now) result }
 {
-    Err(FindFault::Memory)
+    Err(SearchFault::Memory)
 }

@@ -10,6 +10,7 @@
 mod engine;
 mod expression;
 mod fault;
+pub mod laws;
 mod pieces;
 mod plan;
 mod plan_words;
@@ -25,3 +26,6 @@ pub use plan::{Form, Passage, Plan};
 pub use program::run;
 pub use script::{Exprs, Hay, Script, ScriptInput, read_script};
 pub use words::Words;
+
+#[cfg(test)]
+mod tests;

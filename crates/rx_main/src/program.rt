@@ -3,16 +3,15 @@
 ghost use Rattle.std.specs.Prelude.{◌≡◌, ◌+◌, ◌≤◌, ◌↔◌, ◌∷◌, [], true, false, codes, length, IsTrue, IfOk, IfErr, option_map};
 ghost use Rattle.std.specs.List.{list_any};
 ghost use Rattle.std.specs.Io.KnownBytes.{Keeps};
-ghost use Rattle.rx_spec.specs.Found.{found};
 ghost use Rattle.rx_base.specs.Outside.{Rose};
 ghost use Rattle.rx_base.specs.Input.{query_of};
 ghost use Rattle.rx_base.specs.Search.{mode_of};
-ghost use Rattle.rx_main.specs.PlanLine.{chosen_of};
+ghost use Rattle.rx_main.specs.PlanLine.{chosen_of, IsPlain};
 ghost use Rattle.rx_main.specs.Replies.{has_look, names_pattern, is_built, IsFind, IsAnswer, IsReplyTo, Replies};
 ghost use Rattle.rx_main.specs.Script.{asked_read};
 ghost use Rattle.rx_main.specs.Run.{reply_of, Took, Answers, Breaks};
 
-use crate::engine::{FindFault, compile_and_find};
+use crate::engine::{SearchFault, search};
 use crate::fault::ScriptFault;
 use crate::plan::Plan;
 use crate::reply::Reply;
@@ -95,18 +94,19 @@ fn input_of(input: &ScriptInput) -> Input<'_>
 /// The answer to a script that is built.
 fn solve(alloc: Global, plan: &Plan, exprs: &[Expr], input: &ScriptInput) -> Result<Reply, Stop>
     requires built { is_built (chosen_of plan.now false true) exprs.now (asked_read input.now) ≡ true }
+    requires plain { IsPlain (chosen_of plan.now false true) }
     requires within { input.now.end ≤ length input.now.haystack }
     requires ordered { input.now.start ≤ input.now.end + 1 }
     ensures answer { IfOk result (λ reply. IsAnswer (chosen_of plan.now false true) exprs.now (asked_read input.now) (reply_of reply)) }
     ensures memory { IfErr result (λ stop. stop ≡ Stop.Memory) }
 {
-    match compile_and_find(alloc, exprs, plan, &input_of(input)) {
-        Ok(answer) => match answer.found {
-            Some(found) => Ok(Reply::Match(found)),
-            None => Ok(Reply::NoMatch),
-        },
-        Err(FindFault::Build) => Ok(Reply::NfaRefused),
-        Err(FindFault::Memory) => Err(Stop::Memory),
+    match search(alloc, exprs, plan, &input_of(input)) {
+        Ok(Some(found)) => Ok(Reply::Match(found)),
+        Ok(None) => Ok(Reply::NoMatch),
+        Err(SearchFault::Refused(cause)) => Ok(Reply::Refused(cause)),
+        Err(SearchFault::Quit { byte, offset }) => Ok(Reply::Quits(byte, offset)),
+        Err(SearchFault::Unsupported { mode }) => Ok(Reply::NoStart(mode)),
+        Err(SearchFault::Memory) => Err(Stop::Memory),
     }
 }
 
@@ -118,6 +118,7 @@ fn answer_to(
     exprs: &[Expr],
     input: &ScriptInput,
 ) -> Result<Reply, Stop>
+    requires plain { plain ≡ true → IsPlain (chosen_of plan.now false true) }
     requires within { input.now.end ≤ length input.now.haystack }
     requires ordered { input.now.start ≤ input.now.end + 1 }
     ensures reply { IfOk result (λ reply. (rows : _) → IsReplyTo (chosen_of plan.now rows plain) exprs.now (asked_read input.now) (reply_of reply)) }

@@ -1,12 +1,13 @@
 //! The line that is written, and the status that goes with it.
 
-ghost use Rattle.std.specs.Prelude.{◌≡◌, ◌≤◌, Some, IfOk};
+ghost use Rattle.std.specs.Prelude.{◌≡◌, ◌<◌, Some, IfOk};
 ghost use Rattle.std.specs.String.{string_bytes};
-ghost use Rattle.rx_main.specs.Replies.{kind_name, words_written, text_of, status_of};
+ghost use Rattle.rx_main.specs.Replies.{kind_name, hex_code, words_written, text_of, status_of};
 ghost use Rattle.rx_main.specs.Run.{reply_of};
 
+use crate::engine::Cause;
 use crate::fault::BadKind;
-use rx_base::Match;
+use rx_base::{Anchored, Match};
 use std::alloc::{AllocError, Global};
 use std::fmt;
 
@@ -26,12 +27,16 @@ pub enum Reply {
     },
     /// The script is of a form that isn't built.
     Unbuilt,
-    /// An NFA is refused.
-    NfaRefused,
+    /// A build is refused.
+    Refused(Cause),
     /// A match.
     Match(Match),
     /// No match.
     NoMatch,
+    /// A quit byte, and where it stands.
+    Quits(u8, usize),
+    /// There are no starts for the mode.
+    NoStart(Anchored),
 }
 
 impl fmt::Display for BadKind {
@@ -53,6 +58,18 @@ impl fmt::Display for BadKind {
     }
 }
 
+/// A lower-case hexadecimal digit.
+fn hex_digit(digit: u8) -> char
+    requires { digit < 16 }
+    ensures { result ≡ hex_code digit }
+{
+    if digit < 10 {
+        (b'0' + digit) as char
+    } else {
+        (b'a' + digit - 10) as char
+    }
+}
+
 impl fmt::Display for Reply {
     ghost output = { λ reply. Some (words_written (reply_of reply)) };
 
@@ -62,7 +79,8 @@ impl fmt::Display for Reply {
             Reply::Long => write!(f, "long"),
             Reply::Bad { line, kind } => write!(f, "bad {line} {kind}"),
             Reply::Unbuilt => write!(f, "unbuilt"),
-            Reply::NfaRefused => write!(f, "build nfa"),
+            Reply::Refused(Cause::Nfa) => write!(f, "build nfa"),
+            Reply::Refused(Cause::UnicodeWord) => write!(f, "build unsupported"),
             Reply::Match(found) => {
                 let pattern = found.pattern().as_u32();
                 let start = found.start();
@@ -70,6 +88,17 @@ impl fmt::Display for Reply {
                 write!(f, "match {pattern} {start} {end}")
             }
             Reply::NoMatch => write!(f, "none"),
+            Reply::Quits(byte, offset) => {
+                let high = hex_digit(*byte / 16);
+                let low = hex_digit(*byte % 16);
+                write!(f, "quit {high}{low} {offset}")
+            }
+            Reply::NoStart(Anchored::No) => write!(f, "unsupported no"),
+            Reply::NoStart(Anchored::Yes) => write!(f, "unsupported yes"),
+            Reply::NoStart(Anchored::Pattern(pattern)) => {
+                let pattern = pattern.as_u32();
+                write!(f, "unsupported p{pattern}")
+            }
         }
     }
 }
@@ -83,7 +112,8 @@ impl Reply {
             Reply::Match(_) => 0,
             Reply::NoMatch => 1,
             Reply::Usage | Reply::Long | Reply::Bad { .. } | Reply::Unbuilt => 2,
-            Reply::NfaRefused => 3,
+            Reply::Refused(_) => 3,
+            Reply::Quits(_, _) | Reply::NoStart(_) => 4,
         }
     }
 

@@ -5,7 +5,8 @@ ghost use Rattle.rx_main.specs.declared.fault.BadKind.{BadKind};
 ghost use Rattle.rx_main.specs.Pieces.{pieces_left, lines_of};
 ghost use Rattle.rx_main.specs.PlanLine.{unplanned, none_seen, plan_from, chosen_of};
 ghost use Rattle.rx_main.specs.Faults.{Gives};
-ghost use Rattle.rx_main.specs.Reading.{line_at, input_words, hay_words, nothing_at, fits, asked_at, hay_at, input_at, next_at, lines_at, plan_at, spelled, script_of};
+ghost use Rattle.rx_main.specs.Grammar.{Spells};
+ghost use Rattle.rx_main.specs.Reading.{Spelled, line_at, input_words, hay_words, nothing_at, fits, asked_at, hay_at, input_at, next_at, lines_at, plan_at, spelled, script_of};
 ghost use Rattle.rx_main.specs.Script.{span_read, asked_read, next_read, LeavesFewer, script_read};
 
 use crate::expression::expression;
@@ -338,15 +339,26 @@ fn whole(
     })
 }
 
-/// Reads a script, with what is asked or without it.
-///
-/// An `Ok` is the script that the text spells, and `Bad` is its first fault.
 #[tactic(auto, unfolding(crate::specs::Reading::script_of))]
-pub fn read_script(alloc: Global, text: &[u8], with_input: bool) -> Result<Script, ScriptFault>
+fn read_whole(alloc: Global, text: &[u8], with_input: bool) -> Result<Script, ScriptFault>
     ensures { Gives script_read result (script_of with_input text.now) }
 {
     match plan_part(text)? {
         Some((choices, after)) => whole(alloc, with_input, choices, 2, after),
         None => whole(alloc, with_input, Choices::new(), 1, text),
     }
+}
+
+/// Reads a script, with what is asked or without it.
+///
+/// `Bad` carries the first fault of the text.
+pub fn read_script(alloc: Global, text: &[u8], with_input: bool) -> Result<Script, ScriptFault>
+    // What is read is what the text spells.
+    ensures found { IfOk result (λ script. Spells with_input text.now (script_read script)) }
+    // What the text spells is read, unless memory runs out.
+    ensures only { (script : Spelled) → Spells with_input text.now script → Gives script_read result (Ok script) }
+    // Which script or fault it is.
+    ensures exact { Gives script_read result (script_of with_input text.now) }
+{
+    read_whole(alloc, text, with_input)
 }
