@@ -1,5 +1,6 @@
 pub mod ByteSet
 pub mod Input
+pub mod LookSet
 pub mod Search
 pub mod Unit
 pub mod Outside

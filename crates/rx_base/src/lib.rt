@@ -9,18 +9,24 @@
 mod alphabet;
 mod facts;
 mod input;
+mod looks;
 mod primitives;
 mod search;
 mod sink;
 mod source;
+pub mod start;
 mod steps;
+#[cfg(test)]
+mod tests;
 
 pub use alphabet::ByteSet;
 pub use facts::Facts;
 pub use input::Input;
+pub use looks::{LookMatcher, LookSet};
 pub use primitives::{IdError, PatternID, StateID};
 pub use rx_spec::{Look, MatchKind, Start, StartKind, Unit};
 pub use search::{Anchored, HalfMatch, Match, Span};
 pub use sink::{MemSink, Sink, WriteAnswer, WriteSink};
 pub use source::{MemSource, ReadAnswer, ReadSource, Source};
+pub use start::StartByteMap;
 pub use steps::{Steps, Tally};

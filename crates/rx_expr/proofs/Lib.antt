@@ -1,4 +1,5 @@
 pub mod Literals
+pub mod LooksAny
 pub mod Turned
 pub mod Adding
 pub mod Edges

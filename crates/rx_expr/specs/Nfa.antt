@@ -1,10 +1,13 @@
 -- The rows of the code as those of the definitions.
-use Rattle.std.specs.Prelude.{◌≡◌, map}
+use Rattle.std.specs.Prelude.{◌≡◌, ◌==◌, Bool, false, List, map}
+use Rattle.std.specs.List.{list_any}
 use Rattle.rx_spec.specs.Contexts.{facts_kept}
 use Rattle.rx_spec.specs.Rows.{Nfa, Part}
 use Rattle.rx_spec.specs.Shallow.{IsShallow}
 use Rattle.rx_spec.specs.Rows as rows
+use Rattle.rx_spec.specs.declared.Look.{Look}
 use Rattle.rx_base.specs.ByteSet.{set_of}
+use Rattle.rx_base.specs.LookSet.{holds_look, look_number}
 use Rattle.rx_expr.specs.declared.thompson.nfa.Row.{Row}
 use Rattle.rx_expr.specs.declared.thompson.nfa.NFA.{NFA}
 
@@ -22,17 +25,26 @@ meaning nfa = record {
   unanchored = nfa.start_unanchored;
   patterns = nfa.start_patterns.items;
   backward = nfa.reverse;
-  terminator = nfa.line_terminator;
+  terminator = nfa.look_matcher.line_terminator;
   has_empty = nfa.has_empty;
   utf8 = nfa.utf8;
 }
 
--- The facts that are kept beside the rows are those that some assertion of them asks for.
-abbrev pub KeepsAsked : NFA → Type 0
-KeepsAsked nfa = nfa.asked ≡ facts_kept (meaning nfa).rows
+-- whether a row has an assertion, and whether some of the rows has
+abbrev pub asserts : Look → rows.Row → Bool
+asserts look (rows.Assert other next) = look_number look == look_number other
+asserts look _ = false
 
--- What a step over an NFA stands on: no path that reads nothing goes round, and the facts that are
--- kept beside the rows are those that some assertion of them asks for.
+abbrev pub has_look : List rows.Row → Look → Bool
+has_look rs look = list_any (asserts look) rs
+
+-- What is kept beside the rows: the facts that some assertion of them asks for, and their assertions.
+pub record KeepsAsked (nfa : NFA) : Type 0 where
+  pub facts : nfa.asked ≡ facts_kept (meaning nfa).rows
+  pub looks : (look : Look) → holds_look nfa.look_set_any look ≡ has_look (meaning nfa).rows look
+
+-- What a step over an NFA stands on: no path that reads nothing goes round, and what is kept beside the
+-- rows is true of them.
 pub record IsSound (nfa : NFA) : Type 0 where
   pub shallow : IsShallow (meaning nfa).rows
   pub asked : KeepsAsked nfa

@@ -65,6 +65,17 @@ pub enum MatchKind {
     LeftmostFirst,
 }
 
+impl Default for MatchKind {
+    ghost use Rattle.std.specs.Prelude.{◌≡◌};
+    ghost use Rattle.rx_spec.specs.declared.MatchKind.TheVariants.{LeftmostFirst};
+
+    ghost is_default = { λ kind. kind ≡ LeftmostFirst };
+
+    fn default() -> MatchKind {
+        MatchKind::LeftmostFirst
+    }
+}
+
 /// For which modes of a search a table has start rows.
 #[derive(Clone, Copy, Debug, PartialEq, Eq)]
 pub enum StartKind {

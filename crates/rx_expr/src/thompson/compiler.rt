@@ -10,12 +10,12 @@ ghost use Rattle.rx_expr.specs.Nfa.{meaning, KeepsAsked};
 use super::build_error::BuildError;
 use super::config::Config;
 use super::edge::all_begin_with_edge;
-use super::nfa::{NFA, asked_facts};
+use super::nfa::{NFA, asked_facts, look_set_any};
 use super::starts::{
     add_patterns, any_empty, join_starts, lead_in_rows, learn_safe, patterns_len, starts_len,
 };
 use crate::expr::{Expr, ROWS_LIMIT};
-use rx_base::{PatternID, StateID};
+use rx_base::{LookMatcher, PatternID, StateID};
 use std::alloc::{AllocError, Global};
 
 /// Makes NFAs of expressions.
@@ -100,16 +100,18 @@ impl Compiler {
             start_anchored,
         )?;
         let asked = asked_facts(&rows);
+        let look_set_any = look_set_any(&rows);
         Ok(NFA {
             rows,
             start_anchored,
             start_unanchored,
             start_patterns,
             reverse,
-            line_terminator: self.config.get_line_terminator(),
+            look_matcher: LookMatcher::new(self.config.get_line_terminator()),
             has_empty: any_empty(exprs),
             utf8: self.config.get_utf8(),
             asked,
+            look_set_any,
         })
     }
 }

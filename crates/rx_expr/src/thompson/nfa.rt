@@ -1,11 +1,12 @@
 //! The NFA: rows and where they are entered.
 
-ghost use Rattle.std.specs.Prelude.{◌≡◌, ◌<◌, ◌≤◌, length, slice_get, map};
+ghost use Rattle.std.specs.Prelude.{◌≡◌, ◌||◌, ◌<◌, ◌≤◌, length, slice_get, map};
 ghost use Rattle.rx_spec.specs.Contexts.{facts_kept, row_reads};
 ghost use Rattle.rx_spec.specs.Rows.{is_always_anchored};
-ghost use Rattle.rx_expr.specs.Nfa.{meaning, row_of, IsSound};
+ghost use Rattle.rx_base.specs.LookSet.{holds_look};
+ghost use Rattle.rx_expr.specs.Nfa.{meaning, row_of, asserts, has_look, IsSound};
 
-use rx_base::{ByteSet, Facts, Look, PatternID, StateID};
+use rx_base::{ByteSet, Facts, Look, LookMatcher, LookSet, PatternID, StateID};
 
 /// A row of an NFA.
 #[derive(Clone, Copy, Debug)]
@@ -48,11 +49,13 @@ pub struct NFA {
     pub(super) start_unanchored: StateID,
     pub(super) start_patterns: Vec<StateID>,
     pub(super) reverse: bool,
-    pub(super) line_terminator: u8,
+    pub(super) look_matcher: LookMatcher,
     pub(super) has_empty: bool,
     pub(super) utf8: bool,
     /// What some assertion of the rows asks of a neighbour.
     pub(super) asked: Facts,
+    /// The assertions that the rows have.
+    pub(super) look_set_any: LookSet,
 }
 
 /// What some assertion of the rows asks of a neighbour.
@@ -66,7 +69,28 @@ pub(super) fn asked_facts(rows: &[Row]) -> Facts
     asked
 }
 
+/// The assertions that the rows have.
+pub(super) fn look_set_any(rows: &[Row]) -> LookSet
+    ensures { (look : Look) → holds_look result look ≡ has_look (map row_of rows.now) look }
+{
+    let mut looks = LookSet::empty();
+    for row in rows {
+        looks = row.insert_into(looks);
+    }
+    looks
+}
+
 impl Row {
+    /// The set with the row's assertion too, where it has one.
+    fn insert_into(&self, looks: LookSet) -> LookSet
+        ensures { (look : Look) → holds_look result look ≡ (holds_look looks look || asserts look (row_of self.now)) }
+    {
+        match *self {
+            Row::Look { look, .. } => looks.insert(look),
+            _ => looks,
+        }
+    }
+
     /// What it asks of a neighbour.
     fn asked_facts(&self) -> Facts
         ensures { result ≡ row_reads (row_of self.now) }
@@ -125,7 +149,22 @@ impl NFA {
     pub fn line_terminator(&self) -> u8
         ensures { result ≡ (meaning self.now).terminator }
     {
-        self.line_terminator
+        self.look_matcher.get_line_terminator()
+    }
+
+    /// What decides the assertions.
+    pub fn look_matcher(&self) -> &LookMatcher
+        ensures { result.now.line_terminator ≡ (meaning self.now).terminator }
+    {
+        &self.look_matcher
+    }
+
+    /// The assertions that some row has.
+    pub fn look_set_any(&self) -> LookSet
+        requires { IsSound self.now }
+        ensures { (look : Look) → holds_look result look ≡ has_look (meaning self.now).rows look }
+    {
+        self.look_set_any
     }
 
     /// The facts of a neighbour that some assertion of the rows asks for.

@@ -31,6 +31,6 @@ pub returns-clause-rows : goal.returns-clause-rows
 returns-clause-rows c =
     let a = settled (asked_by c.args.self.now) in
     let joins = subst (λ (xs : List ℕ). Adds c.add_patterns.new.rows.items c.join_starts.new.rows.items c.in_ok-start_anchored.start_anchored (joined (length c.add_patterns.new.rows.items) xs)) c.deref.ensures.value c.in_ok-start_anchored.ensures in
-    nfa_made c.get_reverse-reverse.result c.get_line_terminator.result c.get_utf8.result c.args.exprs.now c.add_patterns.new.rows.items c.join_starts.new.rows.items c.lead_in_rows.new.rows.items c.add_patterns.new.starts.items c.in_ok-start_anchored.start_anchored c.in_ok-start_unanchored.start_unanchored c.all_begin_with_edge.result c.any_empty.result
+    nfa_made c.get_reverse-reverse.result c.new.result.line_terminator c.get_utf8.result c.args.exprs.now c.add_patterns.new.rows.items c.join_starts.new.rows.items c.lead_in_rows.new.rows.items c.add_patterns.new.starts.items c.in_ok-start_anchored.start_anchored c.in_ok-start_unanchored.start_unanchored c.all_begin_with_edge.result c.any_empty.result
     c.in_ok-add_patterns.ensures joins c.all_begin_with_edge.ensures c.in_ok-start_unanchored.ensures c.any_empty.ensures
-    ∙ nfa_same c.get_reverse-reverse.result a.reverse c.get_line_terminator.result a.terminator c.get_utf8.result a.utf8 c.args.exprs.now c.get_reverse-reverse.ensures c.get_line_terminator.ensures c.get_utf8.ensures
+    ∙ nfa_same c.get_reverse-reverse.result a.reverse c.new.result.line_terminator a.terminator c.get_utf8.result a.utf8 c.args.exprs.now c.get_reverse-reverse.ensures (c.new.ensures ∙ c.get_line_terminator.ensures) c.get_utf8.ensures
