@@ -1,5 +1,5 @@
 -- A counter at 0 has room for the reads of any table of usual size.
-use Rattle.std.proofs.Common.{ℕ, ◌+◌, ◌*◌, ◌^◌, ◌<◌, ◌≤◌, length, arith, le_trans}
+use Rattle.std.proofs.Common.{◌*◌, ◌^◌, ◌≤◌, arith}
 use Rattle.std.proofs.lemmas.Nat.{mul-le}
 use Rattle.std.proofs.lemmas.Int.Digits.{length-digits_of-le}
 use Rattle.rx_refine.specs.Moves.{Moves, binary_digits, read_limit}

@@ -53,13 +53,14 @@ pub record IsPartition (p : Parts) : Type 0 where
 abbrev pub AreTouched : Parts → List ℕ → Type 0
 AreTouched p touched = (block : ℕ) → 0 < slice_index p.marks block → Contains touched block
 
--- one more row is marked, and the blocks stay
+-- one more row is marked, unless it is alone in its block, and the blocks stay
 pub record MarksRow (old : Parts) (row : ℕ) (new : Parts) : Type 0 where
   pub partition : IsPartition new
   pub rows_len : length new.rows ≡ length old.rows
   pub blocks : new.blocks ≡ old.blocks
   pub sizes : new.sizes ≡ old.sizes
-  pub marks : (other : ℕ) → other < length old.rows → is_marked new other ≡ cond (eqb other row) true (is_marked old other)
+  pub marks : (other : ℕ) → other < length old.rows → 1 < size_of old (block_of old other) → is_marked new other ≡ cond (eqb other row) true (is_marked old other)
+  pub alone : (block : ℕ) → size_of old block ≡ 1 → slice_index new.marks block ≡ slice_index old.marks block
 
 -- a block is split into its marked rows and the others. The smaller part has a new number
 pub record SplitsBlock (old : Parts) (block : ℕ) (new : Parts) : Type 0 where
