@@ -128,21 +128,21 @@ joined_words-or w v us ws vs h = same_from_bits (joined_words (bit_or w v ∷ us
       | inl low ↦
           bit_at_cat_low (joined_words us) 64 (bit_or w v % 2 ^ 64) k low ∙ bit_at_mod (bit_or w v) k 64 low ∙ bit_at_or w v k
           ∙ sym (bit_at_or (joined_words (w ∷ ws)) (joined_words (v ∷ vs)) k
-                 ∙ ap (λ n. max n (bit_at (joined_words (v ∷ vs)) k)) (bit_at_cat_low (joined_words ws) 64 (w % 2 ^ 64) k low ∙ bit_at_mod w k 64 low)
-                 ∙ ap (λ n. max (bit_at w k) n) (bit_at_cat_low (joined_words vs) 64 (v % 2 ^ 64) k low ∙ bit_at_mod v k 64 low))
+          ∙ ap (λ n. max n (bit_at (joined_words (v ∷ vs)) k)) (bit_at_cat_low (joined_words ws) 64 (w % 2 ^ 64) k low ∙ bit_at_mod w k 64 low)
+          ∙ ap (λ n. max (bit_at w k) n) (bit_at_cat_low (joined_words vs) 64 (v % 2 ^ 64) k low ∙ bit_at_mod v k 64 low))
       | inr high ↦
           bit_at_cat_high (joined_words us) 64 (bit_or w v % 2 ^ 64) k (mod_small (bit_or w v)) high ∙ ap (λ n. bit_at n (k - 64)) h ∙ bit_at_or (joined_words ws) (joined_words vs) (k - 64)
           ∙ sym (bit_at_or (joined_words (w ∷ ws)) (joined_words (v ∷ vs)) k
-                 ∙ ap (λ n. max n (bit_at (joined_words (v ∷ vs)) k)) (bit_at_cat_high (joined_words ws) 64 (w % 2 ^ 64) k (mod_small w) high)
-                 ∙ ap (λ n. max (bit_at (joined_words ws) (k - 64)) n) (bit_at_cat_high (joined_words vs) 64 (v % 2 ^ 64) k (mod_small v) high))
+          ∙ ap (λ n. max n (bit_at (joined_words (v ∷ vs)) k)) (bit_at_cat_high (joined_words ws) 64 (w % 2 ^ 64) k (mod_small w) high)
+          ∙ ap (λ n. max (bit_at (joined_words ws) (k - 64)) n) (bit_at_cat_high (joined_words vs) 64 (v % 2 ^ 64) k (mod_small v) high))
     ]
 
 pub joined_words-or_4 : (a b c d e f g h : ℕ) → joined_words (bit_or a e ∷ bit_or b f ∷ bit_or c g ∷ bit_or d h ∷ []) ≡ bit_or (joined_words (a ∷ b ∷ c ∷ d ∷ [])) (joined_words (e ∷ f ∷ g ∷ h ∷ []))
 joined_words-or_4 a b c d e f g h =
     joined_words-or a e (bit_or b f ∷ bit_or c g ∷ bit_or d h ∷ []) (b ∷ c ∷ d ∷ []) (f ∷ g ∷ h ∷ [])
-      (joined_words-or b f (bit_or c g ∷ bit_or d h ∷ []) (c ∷ d ∷ []) (g ∷ h ∷ [])
-        (joined_words-or c g (bit_or d h ∷ []) (d ∷ []) (h ∷ [])
-          (joined_words-or d h [] [] [] refl)))
+    (joined_words-or b f (bit_or c g ∷ bit_or d h ∷ []) (c ∷ d ∷ []) (g ∷ h ∷ [])
+    (joined_words-or c g (bit_or d h ∷ []) (d ∷ []) (h ∷ [])
+    (joined_words-or d h [] [] [] refl)))
 
 -- the four words of a set
 four_words : (ws : List ℕ) → length ws ≡ 4 → ws ≡ slice_index_or ws 0 0 ∷ slice_index_or ws 1 0 ∷ slice_index_or ws 2 0 ∷ slice_index_or ws 3 0 ∷ []
@@ -156,5 +156,5 @@ four_words (a ∷ b ∷ c ∷ d ∷ e ∷ ws) h = grind arith
 pub joined_words-or_of : (ws vs : List ℕ) → length ws ≡ 4 → length vs ≡ 4
     → joined_words (bit_or (slice_index_or ws 0 0) (slice_index_or vs 0 0) ∷ bit_or (slice_index_or ws 1 0) (slice_index_or vs 1 0) ∷ bit_or (slice_index_or ws 2 0) (slice_index_or vs 2 0) ∷ bit_or (slice_index_or ws 3 0) (slice_index_or vs 3 0) ∷ []) ≡ bit_or (joined_words ws) (joined_words vs)
 joined_words-or_of ws vs hw hv = joined_words-or_4 (slice_index_or ws 0 0) (slice_index_or ws 1 0) (slice_index_or ws 2 0) (slice_index_or ws 3 0) (slice_index_or vs 0 0) (slice_index_or vs 1 0) (slice_index_or vs 2 0) (slice_index_or vs 3 0)
-  ∙ ap (λ x. bit_or (joined_words x) (joined_words (slice_index_or vs 0 0 ∷ slice_index_or vs 1 0 ∷ slice_index_or vs 2 0 ∷ slice_index_or vs 3 0 ∷ []))) (sym (four_words ws hw))
-  ∙ ap (λ x. bit_or (joined_words ws) (joined_words x)) (sym (four_words vs hv))
+    ∙ ap (λ x. bit_or (joined_words x) (joined_words (slice_index_or vs 0 0 ∷ slice_index_or vs 1 0 ∷ slice_index_or vs 2 0 ∷ slice_index_or vs 3 0 ∷ []))) (sym (four_words ws hw))
+    ∙ ap (λ x. bit_or (joined_words ws) (joined_words x)) (sym (four_words vs hv))

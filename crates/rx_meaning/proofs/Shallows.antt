@@ -1,14 +1,14 @@
 -- Paths that read nothing are as short as a closure asks.
-use Rattle.std.proofs.Common.{ℕ, zero, suc, Bool, true, false, List, [], ◌∷◌, map, All}
+use Rattle.std.proofs.Common.{ℕ, zero, suc, Bool, true, false, List, [], ◌∷◌, map}
 use Rattle.std.specs.List.{AllByRecursion as Every}
 use Rattle.std.proofs.lemmas.List.Elements.{recursion_from_All}
 use Rattle.rx_spec.specs.Expressions.{Expression, IsLoopSafe}
 use Rattle.rx_spec.specs.Rows.{Row, nfa_of, read_as}
-use Rattle.rx_spec.specs.Shallow.{AllBehind, Short, IsShallow}
+use Rattle.rx_spec.specs.Shallow.{AllBehind, Short}
 use Rattle.rx_spec.specs.States.{row_at}
 use Rattle.rx_spec.proofs.Mirrors.{IsLoopSafe-mirror}
 use Rattle.rx_meaning.proofs.Deep.{Behind, Deep}
-use Rattle.rx_meaning.proofs.Patterns.{nfa_rows, nfa_deep, depth_of}
+use Rattle.rx_meaning.proofs.Patterns.{nfa_deep, depth_of}
 use Rattle.rx_meaning.specs.Shallow.{Shallow}
 
 behind_same : (P Q : ℕ → Type 0) → ((p : ℕ) → P p → Q p) → (row : Row) → Behind P row → AllBehind Q row

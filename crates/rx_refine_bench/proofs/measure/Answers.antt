@@ -1,5 +1,4 @@
-use Rattle.std.proofs.Common.{◌≡◌, ◌+◌, ◌<◌, ◌≤◌, arith}
-use Rattle.rx_refine.specs.Moves.{read_limit}
+use Rattle.std.proofs.Common.{arith}
 use Rattle.rx_refine.proofs.Room.{read_limit_fits}
 use Rattle.rx_refine_bench.proofs.measure.Goals as goal
 
