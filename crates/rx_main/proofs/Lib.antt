@@ -18,3 +18,4 @@ pub mod Plans
 pub mod Scripts
 pub mod Outcomes
 pub mod Plain
+pub mod Single
