@@ -1,5 +1,5 @@
 -- The bits of a number that words of 64 bits make.
-use Rattle.std.proofs.Common.{ℕ, suc, ◌≡◌, ◌≢◌, ◌-◌, ◌*◌, ◌^◌, ◌/◌, ◌%◌, ◌<◌, ◌≤◌, ◌⊎◌, List, [], ◌∷◌, length, refl, sym, ◌∙◌, ap, arith, get_or, inl, inr, set, max, bit_or, bit_and, Bool, true, false, ◌==◌, ◌&&◌, not, nat_lt, nat_eq, w64}
+use Rattle.std.proofs.Common.{ℕ, suc, ◌≡◌, ◌≢◌, ◌-◌, ◌*◌, ◌^◌, ◌/◌, ◌%◌, ◌<◌, ◌≤◌, ◌⊎◌, List, [], ◌∷◌, length, refl, sym, ◌∙◌, ap, arith, get_or, inl, inr, set, max, bit_or, bit_and, Bool, true, false, ◌==◌, ◌&&◌, not, nat_lt, nat_eq, slice_index_or, w64}
 use Rattle.std.proofs.lemmas.Nat.{shr_split}
 use Rattle.std.specs.Int.{bit_at}
 use Rattle.std.proofs.lemmas.Nat.Bits.{shr_and_one, bit_at-zero, bit_at_cat_low, bit_at_cat_high, bit_at_or, same_from_bits, bit_at-pow_same, bit_at-pow_other, bit_at_set_same, bit_at_set_other, bit_at_clear_same, bit_at_clear_other, bit_at-lt}
@@ -118,3 +118,43 @@ joined_words_zero a b c d ha hb hc hd h =
     let c0 : c ≡ 0 = omega arith in
     let d0 : d ≡ 0 = omega arith in
     cc
+
+-- the words of two sets, one by one
+pub joined_words-or : (w v : ℕ) (us ws vs : List ℕ) → joined_words us ≡ bit_or (joined_words ws) (joined_words vs) → joined_words (bit_or w v ∷ us) ≡ bit_or (joined_words (w ∷ ws)) (joined_words (v ∷ vs))
+joined_words-or w v us ws vs h = same_from_bits (joined_words (bit_or w v ∷ us)) (bit_or (joined_words (w ∷ ws)) (joined_words (v ∷ vs))) each
+  where
+    each : (k : ℕ) → bit_at (joined_words (bit_or w v ∷ us)) k ≡ bit_at (bit_or (joined_words (w ∷ ws)) (joined_words (v ∷ vs))) k
+    each k = elim (low_or_high k) [
+      | inl low ↦
+          bit_at_cat_low (joined_words us) 64 (bit_or w v % 2 ^ 64) k low ∙ bit_at_mod (bit_or w v) k 64 low ∙ bit_at_or w v k
+          ∙ sym (bit_at_or (joined_words (w ∷ ws)) (joined_words (v ∷ vs)) k
+                 ∙ ap (λ n. max n (bit_at (joined_words (v ∷ vs)) k)) (bit_at_cat_low (joined_words ws) 64 (w % 2 ^ 64) k low ∙ bit_at_mod w k 64 low)
+                 ∙ ap (λ n. max (bit_at w k) n) (bit_at_cat_low (joined_words vs) 64 (v % 2 ^ 64) k low ∙ bit_at_mod v k 64 low))
+      | inr high ↦
+          bit_at_cat_high (joined_words us) 64 (bit_or w v % 2 ^ 64) k (mod_small (bit_or w v)) high ∙ ap (λ n. bit_at n (k - 64)) h ∙ bit_at_or (joined_words ws) (joined_words vs) (k - 64)
+          ∙ sym (bit_at_or (joined_words (w ∷ ws)) (joined_words (v ∷ vs)) k
+                 ∙ ap (λ n. max n (bit_at (joined_words (v ∷ vs)) k)) (bit_at_cat_high (joined_words ws) 64 (w % 2 ^ 64) k (mod_small w) high)
+                 ∙ ap (λ n. max (bit_at (joined_words ws) (k - 64)) n) (bit_at_cat_high (joined_words vs) 64 (v % 2 ^ 64) k (mod_small v) high))
+    ]
+
+pub joined_words-or_4 : (a b c d e f g h : ℕ) → joined_words (bit_or a e ∷ bit_or b f ∷ bit_or c g ∷ bit_or d h ∷ []) ≡ bit_or (joined_words (a ∷ b ∷ c ∷ d ∷ [])) (joined_words (e ∷ f ∷ g ∷ h ∷ []))
+joined_words-or_4 a b c d e f g h =
+    joined_words-or a e (bit_or b f ∷ bit_or c g ∷ bit_or d h ∷ []) (b ∷ c ∷ d ∷ []) (f ∷ g ∷ h ∷ [])
+      (joined_words-or b f (bit_or c g ∷ bit_or d h ∷ []) (c ∷ d ∷ []) (g ∷ h ∷ [])
+        (joined_words-or c g (bit_or d h ∷ []) (d ∷ []) (h ∷ [])
+          (joined_words-or d h [] [] [] refl)))
+
+-- the four words of a set
+four_words : (ws : List ℕ) → length ws ≡ 4 → ws ≡ slice_index_or ws 0 0 ∷ slice_index_or ws 1 0 ∷ slice_index_or ws 2 0 ∷ slice_index_or ws 3 0 ∷ []
+four_words (a ∷ b ∷ c ∷ d ∷ []) h = refl
+four_words [] h = grind arith
+four_words (a ∷ []) h = grind arith
+four_words (a ∷ b ∷ []) h = grind arith
+four_words (a ∷ b ∷ c ∷ []) h = grind arith
+four_words (a ∷ b ∷ c ∷ d ∷ e ∷ ws) h = grind arith
+
+pub joined_words-or_of : (ws vs : List ℕ) → length ws ≡ 4 → length vs ≡ 4
+    → joined_words (bit_or (slice_index_or ws 0 0) (slice_index_or vs 0 0) ∷ bit_or (slice_index_or ws 1 0) (slice_index_or vs 1 0) ∷ bit_or (slice_index_or ws 2 0) (slice_index_or vs 2 0) ∷ bit_or (slice_index_or ws 3 0) (slice_index_or vs 3 0) ∷ []) ≡ bit_or (joined_words ws) (joined_words vs)
+joined_words-or_of ws vs hw hv = joined_words-or_4 (slice_index_or ws 0 0) (slice_index_or ws 1 0) (slice_index_or ws 2 0) (slice_index_or ws 3 0) (slice_index_or vs 0 0) (slice_index_or vs 1 0) (slice_index_or vs 2 0) (slice_index_or vs 3 0)
+  ∙ ap (λ x. bit_or (joined_words x) (joined_words (slice_index_or vs 0 0 ∷ slice_index_or vs 1 0 ∷ slice_index_or vs 2 0 ∷ slice_index_or vs 3 0 ∷ []))) (sym (four_words ws hw))
+  ∙ ap (λ x. bit_or (joined_words ws) (joined_words x)) (sym (four_words vs hv))

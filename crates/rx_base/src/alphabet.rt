@@ -1,7 +1,7 @@
 //! Sets of bytes.
 
 ghost use Rattle.std.specs.Prelude.{◌≡◌, ℕ, ◌/◌, ◌<◌, ◌≤◌, ◌↔◌, length, ◌==◌, ◌&&◌, not, IsTrue, true, bit_or};
-ghost use Rattle.rx_spec.specs.Bytes.{contains, only, all_bytes};
+ghost use Rattle.rx_spec.specs.Bytes.{contains, only, between, all_bytes};
 ghost use Rattle.rx_base.specs.ByteSet.{set_of, joined_words};
 
 /// A set of bytes.
@@ -27,6 +27,15 @@ impl ByteSet {
         }
     }
 
+    /// The bytes from 0x80 on.
+    pub fn non_ascii() -> ByteSet
+        ensures { set_of result ≡ between 128 255 }
+    {
+        ByteSet {
+            words: [0, 0, u64::MAX, u64::MAX],
+        }
+    }
+
     /// Whether a byte is in the set.
     #[inline]
     pub fn contains(&self, byte: u8) -> bool
@@ -41,6 +50,15 @@ impl ByteSet {
         ensures { set_of self.new ≡ bit_or (set_of self.old) (only byte) }
     {
         set_bit(&mut self.words, byte);
+    }
+
+    /// The bytes of either set.
+    pub fn union(&self, other: &ByteSet) -> ByteSet
+        ensures { set_of result ≡ bit_or (set_of self.now) (set_of other.now) }
+    {
+        ByteSet {
+            words: either_words(&self.words, &other.words),
+        }
     }
 
     /// Takes a byte out of the set.
@@ -83,4 +101,17 @@ fn clear_bit(words: &mut [u64], byte: u8)
     ensures { (c : ℕ) → contains (joined_words words.new) c ≡ (contains (joined_words words.old) c && not (c == byte)) }
 {
     words[(byte / 64) as usize] &= !(1 << (byte % 64));
+}
+
+fn either_words(words: &[u64], other: &[u64]) -> [u64; 4]
+    requires words { length words.now ≡ 4 }
+    requires other { length other.now ≡ 4 }
+    ensures { joined_words result ≡ bit_or (joined_words words.now) (joined_words other.now) }
+{
+    [
+        words[0] | other[0],
+        words[1] | other[1],
+        words[2] | other[2],
+        words[3] | other[3],
+    ]
 }

@@ -3,5 +3,6 @@
 
 mod bounds;
 mod expr;
+pub mod thompson;
 
 pub use expr::{Expr, ExprError, ExprKind};

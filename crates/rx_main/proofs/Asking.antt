@@ -1,9 +1,9 @@
 -- Words that are too many.
-use Rattle.std.proofs.Common.{◌≡◌, ℕ, ◌<◌, Bool, true, false, eqb, List, [], ◌∷◌, length, Option, Some, None, refl, sym, ap, ◌∙◌, arith}
+use Rattle.std.proofs.Common.{◌≡◌, ℕ, ◌<◌, true, eqb, List, [], ◌∷◌, length, Option, Some, None, refl, sym, ap, ◌∙◌, arith}
 use Rattle.std.specs.Prelude.{is_some, option_map}
 use Rattle.std.specs.List.{slice_split}
 use Rattle.rx_main.specs.Pieces.{pieces_left}
-use Rattle.rx_main.specs.Reading.{Span, input_words, hay_words}
+use Rattle.rx_main.specs.Reading.{input_words, hay_words}
 use Rattle.rx_main.proofs.Cutting.{some_piece}
 
 some_left : (c : ℕ) (left : Option (List ℕ)) → is_some left ≡ true → 0 < length (pieces_left c left)

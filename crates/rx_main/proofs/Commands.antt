@@ -1,5 +1,5 @@
 -- The words of the command, and that a script that was read with its input has one.
-use Rattle.std.proofs.Common.{◌≡◌, ℕ, ◌+◌, ◌<◌, ◌≤◌, ◌&&◌, cond, subst, Bool, true, false, List, [], ◌∷◌, length, Option, Some, None, Result, Ok, Err, refl, sym, ap, ◌∙◌, arith}
+use Rattle.std.proofs.Common.{◌≡◌, ℕ, ◌+◌, ◌≤◌, ◌&&◌, cond, subst, Bool, true, false, List, [], ◌∷◌, length, Option, Some, None, Result, Ok, refl, sym, ap, ◌∙◌, arith}
 use Rattle.std.specs.Prelude.{codes, slice_get, IsTrue}
 use Rattle.std.specs.Str.{bytes_eq}
 use Rattle.std.proofs.lemmas.Slice.Eq.{bytes_eq-Decides}
@@ -12,7 +12,7 @@ use Rattle.rx_main.specs.Faults.{Fault, refused, needed, ◌>>=◌}
 use Rattle.rx_main.specs.Pieces.{lines_of}
 use Rattle.rx_main.specs.PlanLine.{Chosen, unplanned}
 use Rattle.rx_main.specs.Items.{expression_at}
-use Rattle.rx_main.specs.Reading.{Next, Spelled, Span, asked_at, hay_words, hay_kind, hay_at, input_words, nothing_at, fits, query_of, line_at, next_kind, next_at, with_expr, input_at, behind, lines_at, plan_at, planned, spelled, script_of}
+use Rattle.rx_main.specs.Reading.{Next, Spelled, Span, asked_at, hay_words, hay_kind, hay_at, input_words, nothing_at, fits, query_of, line_at, next_kind, next_at, input_at, behind, lines_at, plan_at, planned, spelled, script_of}
 use Rattle.rx_main.proofs.Steps.{bind_ok, ok_is, passed}
 
 some_is : {A : Type 0} (x y : A) → Some x ≡ Some y → x ≡ y

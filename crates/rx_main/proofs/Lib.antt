@@ -19,3 +19,4 @@ pub mod Scripts
 pub mod Outcomes
 pub mod Plain
 pub mod Single
+pub mod Refusals

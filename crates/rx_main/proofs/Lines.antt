@@ -5,7 +5,7 @@ use Rattle.rx_spec.specs.Found.{Query}
 use Rattle.rx_main.specs.declared.fault.ScriptFault.{ScriptFault}
 use Rattle.rx_main.specs.declared.tokens.LineKind.{LineKind}
 use Rattle.rx_main.specs.Faults.{Fault, Fails, ◌>>=◌}
-use Rattle.rx_main.specs.Reading.{Next, line_at, next_kind, next_at, ended, behind, with_expr, input_at, lines_at}
+use Rattle.rx_main.specs.Reading.{Next, line_at, next_kind, next_at, behind, with_expr, input_at, lines_at}
 use Rattle.rx_main.specs.Items.{expression_at}
 use Rattle.rx_main.proofs.Steps.{bind_ok, ok_is}
 

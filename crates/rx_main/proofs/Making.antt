@@ -1,5 +1,5 @@
 -- Reading items one after the other, and making them into expressions from the last on.
-use Rattle.std.proofs.Common.{◌≡◌, ◌≢◌, ℕ, ◌+◌, ◌<◌, ◌≤◌, Bool, true, false, cond, ltb, eqb, List, [], ◌∷◌, ◌++◌, length, Option, Some, None, Result, Ok, Err, refl, sym, ap, ◌∙◌, append_assoc, append-nil, arith, rules}
+use Rattle.std.proofs.Common.{◌≡◌, ℕ, Bool, true, false, cond, List, [], ◌∷◌, ◌++◌, Option, Result, Ok, Err, refl, sym, ap, ◌∙◌, append_assoc, append-nil}
 use Rattle.std.specs.Option.{option_to_list}
 use Rattle.rx_main.specs.Faults.{Fault, Fails, refused, ◌>>=◌}
 use Rattle.rx_main.specs.declared.expression.Item.{Item}

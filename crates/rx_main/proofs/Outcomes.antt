@@ -1,5 +1,5 @@
 -- What reading a script gives, in the words of the grammar.
-use Rattle.std.proofs.Common.{◌≡◌, ℕ, Bool, List, Result, Ok, Err, subst}
+use Rattle.std.proofs.Common.{ℕ, Bool, List, Result, Ok, Err, subst}
 use Rattle.std.specs.Prelude.{IfOk}
 use Rattle.rx_main.specs.declared.fault.ScriptFault.{ScriptFault}
 use Rattle.rx_main.specs.declared.script.Script.{Script}

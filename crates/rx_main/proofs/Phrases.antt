@@ -1,24 +1,21 @@
 -- Expressions: what is read is spelled so, and what is spelled so is read.
-use Rattle.std.proofs.Common.{◌≡◌, ◌≢◌, ◌⊎◌, inl, inr, ℕ, zero, suc, ◌+◌, ◌-◌, ◌<◌, ◌≤◌, Bool, true, false, cond, eqb, ltb, List, [], ◌∷◌, ◌++◌, length, map, Option, Some, None, Result, Ok, Err, refl, sym, ap, subst, ◌∙◌, append_assoc, append-nil, arith}
+use Rattle.std.proofs.Common.{◌≡◌, ℕ, suc, ◌+◌, ◌-◌, ◌≤◌, Bool, false, List, [], ◌∷◌, ◌++◌, Option, Some, None, Result, Ok, Err, refl, sym, ap, ◌∙◌, append_assoc, append-nil, arith}
 use Rattle.std.specs.Prelude.{codes}
-use Rattle.std.specs.Option.{option_to_list}
-use Rattle.std.proofs.lemmas.Bool.{eqb-true, eqb-false, ltb-true, ltb-false, lt-ltb, le-ltb, ne_eqb}
+use Rattle.std.proofs.lemmas.Bool.{le-ltb, ne_eqb}
 use Rattle.rx_spec.specs.Expressions.{Expression, min_len, depth, IsBounded}
 use Rattle.rx_spec.specs.declared.Look.{Look}
 use Rattle.rx_expr.specs.Expr.{literal_of}
 use Rattle.rx_main.specs.declared.expression.Item.{Item}
 use Rattle.rx_main.specs.declared.expression.Awaited.{Awaited}
 use Rattle.rx_main.specs.declared.expression.Taken.{Taken}
-use Rattle.rx_main.specs.declared.fault.BadKind.{BadKind}
 use Rattle.rx_main.specs.declared.tokens.Head.{Head}
-use Rattle.rx_main.specs.Faults.{Fault, refused, needed, ◌>>=◌}
-use Rattle.rx_main.specs.Tokens.{bytes_of, set_of_word, look_of, number_of, most_of, greed_of, head_of}
-use Rattle.rx_main.specs.Items.{taken, by_head, take_head, literal_at, take_word, is_whole, with_item, items_at, shallow, is_bad_range, is_empty_body, finished, made_onto, single_of, expression_at}
-use Rattle.rx_main.specs.Grammar.{Phrase, SpellsPhrase, meaning, IsAccepted, SpellsExpression, SpellsBytes, SpellsSet, SpellsNumber, SpellsMost, look_name, greed_name}
-use Rattle.rx_main.proofs.Steps.{bind_ok, ok_is, needed_ok, passed}
-use Rattle.rx_main.proofs.Bytes.{bytes_spelled, bytes_read, set_spelled, set_read}
-use Rattle.rx_main.proofs.Numbers.{number_spelled, number_read}
-use Rattle.rx_main.proofs.Names.{look_spelled, look_read, head_name, head_spelled, head_read, most_spelled, most_read, greed_spelled, greed_read}
+use Rattle.rx_main.specs.Faults.{Fault, ◌>>=◌}
+use Rattle.rx_main.specs.Tokens.{bytes_of, set_of_word, number_of, most_of}
+use Rattle.rx_main.specs.Items.{by_head, take_head, literal_at, take_word, with_item, items_at, shallow, is_bad_range, is_empty_body, finished, made_onto, expression_at}
+use Rattle.rx_main.specs.Grammar.{Phrase, SpellsPhrase, meaning, IsAccepted, SpellsExpression, look_name, greed_name}
+use Rattle.rx_main.proofs.Bytes.{bytes_read, set_read}
+use Rattle.rx_main.proofs.Numbers.{number_read}
+use Rattle.rx_main.proofs.Names.{look_read, head_name, head_read, most_read, greed_read}
 
 -- ---- phrases as items
 

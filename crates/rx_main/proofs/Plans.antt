@@ -1,14 +1,14 @@
 -- Plan lines: what is read is spelled so, and what is spelled so is read.
-use Rattle.std.proofs.Common.{◌≡◌, ◌≢◌, ◌⊎◌, inl, inr, ℕ, ◌+◌, ◌-◌, ◌<◌, ◌≤◌, Bool, true, false, cond, List, [], ◌∷◌, ◌++◌, length, take, drop, get_or, set, Option, Some, None, refl, sym, ap, subst, ◌∙◌, take_at, drop_at, arith}
-use Rattle.std.specs.Prelude.{codes, option_map, option_and_then, slice_index_or, slice_set}
+use Rattle.std.proofs.Common.{◌≡◌, ◌≢◌, inl, inr, ℕ, ◌<◌, Bool, true, false, cond, List, [], ◌∷◌, ◌++◌, length, take, drop, get_or, set, Option, Some, None, refl, sym, ap, subst, ◌∙◌, take_at, drop_at, arith}
+use Rattle.std.specs.Prelude.{codes, option_map, option_and_then}
 use Rattle.std.specs.List.{AllByRecursion}
 use Rattle.std.specs.Str.{bytes_eq}
 use Rattle.std.proofs.lemmas.List.{take-append-drop, get_or-set_same, get_or-set_other, length-set}
 use Rattle.std.proofs.lemmas.Slice.Eq.{bytes_eq-Decides}
 use Rattle.rx_spec.specs.declared.StartKind.{StartKind}
-use Rattle.rx_main.specs.Tokens.{or_else, set_of_word, number_of, byte_of}
+use Rattle.rx_main.specs.Tokens.{or_else, set_of_word, number_of}
 use Rattle.rx_main.specs.PlanLine.{Chosen, Setting, unplanned, name_of, with_setting, start_setting, build_setting, form_setting, behind, one_byte, quit_setting, terminator_setting, nfa_setting, dfa_setting, det_setting, limit_setting, valued_setting, plain_setting, setting_word, unless_seen, plan_from, none_seen}
-use Rattle.rx_main.specs.Grammar.{start_name, Behind, SpellsOneByte, SpellsSetting, SpellsSettings, AreDistinct, with_settings, SpellsPlan, SpellsSet, SpellsNumber}
+use Rattle.rx_main.specs.Grammar.{SpellsOneByte, SpellsSetting, SpellsSettings, AreDistinct, with_settings, SpellsPlan}
 use Rattle.rx_main.proofs.Bytes.{some_is, first_test, test_is, byte_spelled, byte_read, set_spelled, set_read}
 use Rattle.rx_main.proofs.Numbers.{number_spelled, number_read}
 use Rattle.rx_main.proofs.Names.{find_name, either_of}

@@ -1,11 +1,8 @@
 -- A range of bytes put into a set byte by byte, and ranges one after the other.
-use Rattle.std.proofs.Common.{◌≡◌, ◌≢◌, ℕ, suc, ◌+◌, ◌-◌, ◌^◌, ◌<◌, ◌≤◌, ◌⊎◌, inl, inr, max, bit_or, List, [], ◌∷◌, Option, Some, None, refl, sym, ap, ◌∙◌, arith, option_map}
-use Rattle.std.specs.Prelude.{option_and_then}
+use Rattle.std.proofs.Common.{◌≡◌, ◌≢◌, ℕ, ◌+◌, ◌-◌, ◌^◌, ◌<◌, ◌≤◌, ◌⊎◌, inl, inr, max, bit_or, refl, sym, ap, ◌∙◌, arith}
 use Rattle.std.specs.Int.{bit_at}
-use Rattle.std.proofs.lemmas.Nat.Bits.{bit_at_or, same_from_bits, bit_at-pow_same, bit_at-pow_other, bit_at_mask_inside, bit_at_mask_below, bit_at_mask_above, bit_at-lt}
+use Rattle.std.proofs.lemmas.Nat.Bits.{bit_at_or, same_from_bits, bit_at-pow_same, bit_at-pow_other, bit_at_mask_inside, bit_at_mask_below, bit_at_mask_above}
 use Rattle.std.specs.Int.Bits.{or_zero_r}
-use Rattle.rx_spec.specs.Bytes.{between}
-use Rattle.rx_main.specs.Tokens.{range_of, ranges_from}
 
 where_is : (i f k : ℕ) → f ≤ k → (i < f) ⊎ ((f ≤ i) × (i < k)) ⊎ (i ≡ k) ⊎ (k < i)
 where_is i f k le = grind arith

@@ -1,28 +1,27 @@
 -- From what was read and found to the reply.
-use Rattle.std.proofs.Common.{◌≡◌, ◌≢◌, ℕ, ◌+◌, ◌≤◌, Bool, true, false, not, ◌&&◌, List, [], ◌∷◌, length, Option, Some, None, Result, Ok, Err, refl, sym, ap, subst, ◌∙◌, arith}
+use Rattle.std.proofs.Common.{◌≡◌, ℕ, ◌≤◌, Bool, true, false, List, [], ◌∷◌, length, Option, Some, None, Ok, refl, sym, ap, subst, ◌∙◌}
 use Rattle.std.specs.Prelude.{codes, option_map}
 use Rattle.rx_spec.specs.Expressions.{Expression}
 use Rattle.rx_spec.specs.Found.{Query}
-use Rattle.rx_main.specs.declared.plan.Plan.{Plan}
+use Rattle.rx_regex.specs.declared.plan.Plan.{Plan}
 use Rattle.rx_main.specs.declared.script.Script.{Script}
 use Rattle.rx_main.specs.declared.script.ScriptInput.{ScriptInput}
-use Rattle.rx_main.specs.Faults.{Fault}
-use Rattle.rx_main.specs.PlanLine.{Chosen, chosen_of}
-use Rattle.rx_main.specs.Reading.{Spelled, script_of}
+use Rattle.rx_main.specs.PlanLine.{chosen_of}
+use Rattle.rx_main.specs.Reading.{script_of}
 use Rattle.rx_main.specs.Script.{asked_read, script_read}
 use Rattle.rx_main.specs.Replies.{Reply, is_built, cause_of, outcome_of, IsAnswer, IsReplyTo, Asks, Replies}
 use Rattle.rx_main.proofs.Commands.{Fits, is_asked}
 use Rattle.rx_main.proofs.Scripts.{script_spelled}
 
-pub plainly_built : (p : Plan) (rows plain : Bool) (es : List Expression) (q : Query) → is_built (chosen_of p rows plain) es q ≡ true → is_built (chosen_of p false true) es q ≡ true
-plainly_built p rows true es q h = h
-plainly_built p rows false es q h = absurd cc
+pub plainly_built : (p : Plan) (rows plain : Bool) (q : Query) → is_built (chosen_of p rows plain) q ≡ true → is_built (chosen_of p false true) q ≡ true
+plainly_built p rows true q h = h
+plainly_built p rows false q h = absurd cc
 
-pub plain_where_built : (p : Plan) (rows plain : Bool) (es : List Expression) (q : Query) → is_built (chosen_of p rows plain) es q ≡ true → plain ≡ true
-plain_where_built p rows true es q h = refl
-plain_where_built p rows false es q h = absurd cc
+pub plain_where_built : (p : Plan) (rows plain : Bool) (q : Query) → is_built (chosen_of p rows plain) q ≡ true → plain ≡ true
+plain_where_built p rows true q h = refl
+plain_where_built p rows false q h = absurd cc
 
-pub answered : (p : Plan) (rows plain : Bool) (es : List Expression) (q : Query) (reply : Reply) → is_built (chosen_of p rows plain) es q ≡ true → IsAnswer (chosen_of p false true) es q reply → IsReplyTo (chosen_of p rows plain) es q reply
+pub answered : (p : Plan) (rows plain : Bool) (es : List Expression) (q : Query) (reply : Reply) → is_built (chosen_of p rows plain) q ≡ true → IsAnswer (chosen_of p false true) es q reply → IsReplyTo (chosen_of p rows plain) es q reply
 unfolding cause_of outcome_of
 answered p rows plain es q Reply.Usage b a = a
 answered p rows plain es q Reply.Long b a = a

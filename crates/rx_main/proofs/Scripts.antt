@@ -1,7 +1,7 @@
 -- Scripts: what is read is spelled so, and what is spelled so is read.
-use Rattle.std.proofs.Common.{◌≡◌, ◌≢◌, ◌⊎◌, inl, inr, ℕ, ◌+◌, ◌-◌, ◌<◌, ◌≤◌, Bool, true, false, ◌&&◌, cond, leb, List, [], ◌∷◌, ◌++◌, length, map, Option, Some, None, Result, Ok, Err, refl, sym, ap, subst, ◌∙◌, append_assoc, append-nil, arith}
+use Rattle.std.proofs.Common.{◌≡◌, ◌⊎◌, inl, inr, ℕ, ◌+◌, ◌<◌, ◌≤◌, Bool, true, false, ◌&&◌, cond, List, [], ◌∷◌, ◌++◌, length, map, Option, Some, None, Ok, refl, sym, ap, subst, ◌∙◌, arith}
 use Rattle.std.specs.Prelude.{codes}
-use Rattle.std.specs.List.{AllByRecursion, join_with_byte}
+use Rattle.std.specs.List.{AllByRecursion}
 use Rattle.std.proofs.lemmas.Bool.{leb-true, le-leb}
 use Rattle.std.proofs.lemmas.List.{length-map, map-append}
 use Rattle.rx_spec.specs.Expressions.{Expression}
@@ -10,13 +10,13 @@ use Rattle.rx_base.specs.Search.{mode_of}
 use Rattle.rx_base.specs.declared.search.Anchored.{Anchored}
 use Rattle.rx_main.specs.declared.fault.BadKind.{BadKind}
 use Rattle.rx_main.specs.declared.tokens.LineKind.{LineKind}
-use Rattle.rx_main.specs.Faults.{Fault, refused, needed, ◌>>=◌}
+use Rattle.rx_main.specs.Faults.{refused, needed, ◌>>=◌}
 use Rattle.rx_main.specs.Pieces.{lines_of, words_of, is_spaced}
 use Rattle.rx_main.specs.Tokens.{number_of, bytes_of, mode_word, line_kind}
 use Rattle.rx_main.specs.PlanLine.{Chosen, unplanned, plan_from, none_seen}
 use Rattle.rx_main.specs.Items.{expression_at}
 use Rattle.rx_main.specs.Reading.{Spelled, kind_of, others_of, line_at, Span, span_of, input_words, hay_words, nothing_at, fits, query_of, asked_at, hay_kind, hay_at, input_at, Next, next_kind, ended, next_at, with_expr, behind, lines_at, spelled, plan_kind, plan_at, planned, script_of}
-use Rattle.rx_main.specs.Grammar.{IsWord, IsLine, line_text, lines_text, SpellsLines, SpellsNumber, SpellsBytes, SpellsMode, SpellsExpression, SpellsPlan, Headed, SpellsPlanLines, SpellsExprs, SpellsQuery, SpellsAsked, Spells}
+use Rattle.rx_main.specs.Grammar.{IsLine, line_text, lines_text, SpellsNumber, SpellsBytes, SpellsMode, SpellsExpression, SpellsPlan, SpellsPlanLines, SpellsExprs, SpellsQuery, SpellsAsked, Spells}
 use Rattle.rx_main.proofs.Steps.{bind_ok, ok_is, needed_ok, passed}
 use Rattle.rx_main.proofs.Texts.{spaced_line, line_spaced, line_words, IsJoined, lines_joined, spelled_lines}
 use Rattle.rx_main.proofs.Bytes.{some_is, bytes_spelled, bytes_read}

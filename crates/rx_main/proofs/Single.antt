@@ -27,7 +27,7 @@ by_cause (Some cause) verdict = Reply.Refused cause
 by_cause None verdict = by_verdict verdict
 
 abbrev answer_of : Chosen → List Expression → Query → Reply
-answer_of chosen exprs query = cond (is_built chosen exprs query) (by_cause (cause_of chosen exprs) (outcome_of chosen exprs query)) Reply.Unbuilt
+answer_of chosen exprs query = cond (is_built chosen query) (by_cause (cause_of chosen exprs) (outcome_of chosen exprs query)) Reply.Unbuilt
 
 abbrev asked_reply : Chosen → List Expression → Option Query → Reply
 asked_reply chosen exprs None = Reply.Unbuilt

@@ -1,9 +1,9 @@
 -- Bytes that are read or written one piece after another.
-use Rattle.std.proofs.Common.{◌≡◌, ℕ, ◌+◌, ◌-◌, ◌^◌, ◌<◌, ◌≤◌, List, [], ◌∷◌, ◌++◌, length, take, drop, Option, Some, None, refl, sym, ap, ◌∙◌, append_assoc, append-nil, arith, min}
+use Rattle.std.proofs.Common.{◌≡◌, ℕ, ◌+◌, ◌-◌, ◌≤◌, List, [], ◌++◌, length, take, drop, Option, Some, None, refl, sym, ap, ◌∙◌, append_assoc, append-nil, arith}
 use Rattle.std.proofs.Math.Seq.{take-add}
 use Rattle.std.proofs.lemmas.List.{take_rest}
-use Rattle.std.specs.Io.KnownBytes.{Consumes, IsAtEnd, Keeps, Appends}
-use Rattle.rx_base.specs.Outside.{Rose, one_more}
+use Rattle.std.specs.Io.KnownBytes.{Consumes, Keeps, Appends}
+use Rattle.rx_base.specs.Outside.{Rose}
 
 pub consumes_none : (left : Option (List ℕ)) → Consumes left left []
 consumes_none None = tt

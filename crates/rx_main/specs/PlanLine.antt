@@ -3,14 +3,14 @@ use Rattle.std.specs.Prelude.{◌≡◌, ℕ, Bool, true, false, if◌then◌els
 use Rattle.std.specs.Str.{bytes_eq}
 use Rattle.rx_spec.specs.declared.StartKind.{StartKind}
 use Rattle.rx_base.specs.ByteSet.{set_of}
-use Rattle.rx_main.specs.declared.plan.Plan.{Plan}
-use Rattle.rx_main.specs.declared.plan.Form.{Form}
-use Rattle.rx_main.specs.declared.plan.Passage.{Passage}
+use Rattle.rx_regex.specs.declared.plan.Plan.{Plan}
+use Rattle.rx_regex.specs.declared.plan.Form.{Form}
+use Rattle.rx_regex.specs.declared.plan.Passage.{Passage}
 use Rattle.rx_main.specs.declared.plan_words.PlanWord.{PlanWord}
 use Rattle.rx_main.specs.Tokens.{byte_of, number_of, set_of_word, or_else}
 
--- What a plan says, whether the row counts are asked for, and whether no word but a limit of the NFA
--- stands in the plan line.
+-- What a plan says, whether the row counts are asked for, and whether only built words stand in the
+-- plan line.
 pub record Chosen : Type 0 where
   pub start_kind : StartKind
   pub pattern_starts : Bool
@@ -70,12 +70,10 @@ unplanned = record {
   plain = true;
 }
 
--- what holds of a plan where no word but a limit of the NFA stands
+-- what holds of a plan where only built words stand
 pub record IsPlain (c : Chosen) : Type 0 where
   pub start_kind : c.start_kind ≡ StartKind.Both
   pub pattern_starts : c.pattern_starts ≡ false
-  pub quit : c.quit ≡ 0
-  pub unicode_word : c.unicode_word ≡ false
   pub dfa_limit : c.dfa_limit ≡ None
   pub determinize_limit : c.determinize_limit ≡ None
   pub minimize : c.minimize ≡ false
@@ -141,9 +139,9 @@ abbrev pub with_setting : Setting → Chosen → Chosen
 with_setting (Start kind) c = record c { start_kind = kind; plain = false }
 with_setting Patterns c = record c { pattern_starts = true; plain = false }
 with_setting NoClasses c = record c { byte_classes = false; plain = false }
-with_setting (Quit set) c = record c { quit = set; plain = false }
-with_setting UnicodeWord c = record c { unicode_word = true; plain = false }
-with_setting (LineTerminator byte) c = record c { line_terminator = byte; plain = false }
+with_setting (Quit set) c = record c { quit = set }
+with_setting UnicodeWord c = record c { unicode_word = true }
+with_setting (LineTerminator byte) c = record c { line_terminator = byte }
 with_setting (NfaLimit bytes) c = record c { nfa_limit = Some bytes }
 with_setting (DfaLimit bytes) c = record c { dfa_limit = Some bytes; plain = false }
 with_setting (DeterminizeLimit bytes) c = record c { determinize_limit = Some bytes; plain = false }

@@ -15,30 +15,21 @@ use Rattle.rx_main.specs.declared.fault.BadKind.{BadKind}
 use Rattle.rx_main.specs.Faults.{Fault}
 use Rattle.rx_main.specs.Tokens.{or_else}
 use Rattle.rx_main.specs.PlanLine.{Chosen}
-use Rattle.rx_main.specs.Reading.{Spelled, script_of}
+use Rattle.rx_main.specs.Reading.{script_of}
 use Rattle.std.specs.Prelude.{Err}
 use Rattle.rx_main.specs.Grammar.{Spells}
 
 -- ---- what is built so far
-
--- an assertion stands in it
-unfoldable pub has_look : Expression → Bool
-has_look Expression.Empty = false
-has_look (Expression.Class set) = false
-has_look (Expression.Assert look) = true
-has_look (Expression.Concat a b) = has_look a || has_look b
-has_look (Expression.Alternate a b) = has_look a || has_look b
-has_look (Expression.Repeat least most greedy body) = has_look body
 
 abbrev pub names_pattern : Mode → Bool
 names_pattern (Mode.Only k) = true
 names_pattern Mode.No = false
 names_pattern Mode.Yes = false
 
--- The forms of scripts that are answered: no word of a plan but a limit of the NFA, no assertion, and no
--- mode that names a pattern.
-abbrev pub is_built : Chosen → List Expression → Query → Bool
-is_built chosen exprs query = chosen.plain && not (list_any has_look exprs) && not (names_pattern query.mode)
+-- The forms of scripts that are answered: no word of a plan but a limit of the NFA, quit bytes, the line
+-- terminator and the giving up at Unicode words, and no mode that names a pattern.
+abbrev pub is_built : Chosen → Query → Bool
+is_built chosen query = chosen.plain && not (names_pattern query.mode)
 
 -- ---- why a build is refused
 
@@ -169,12 +160,12 @@ IsAnswer chosen exprs query Unbuilt = ⊥
 
 -- The reply to a script: it isn't built, or it is answered.
 abbrev pub IsReplyTo : Chosen → List Expression → Query → Reply → Type 0
-IsReplyTo chosen exprs query Unbuilt = is_built chosen exprs query ≡ false
-IsReplyTo chosen exprs query (Refused cause) = (is_built chosen exprs query ≡ true) × IsAnswer chosen exprs query (Refused cause)
-IsReplyTo chosen exprs query (Match hit) = (is_built chosen exprs query ≡ true) × IsAnswer chosen exprs query (Match hit)
-IsReplyTo chosen exprs query NoMatch = (is_built chosen exprs query ≡ true) × IsAnswer chosen exprs query NoMatch
-IsReplyTo chosen exprs query (Quits byte offset) = (is_built chosen exprs query ≡ true) × IsAnswer chosen exprs query (Quits byte offset)
-IsReplyTo chosen exprs query (NoStart mode) = (is_built chosen exprs query ≡ true) × IsAnswer chosen exprs query (NoStart mode)
+IsReplyTo chosen exprs query Unbuilt = is_built chosen query ≡ false
+IsReplyTo chosen exprs query (Refused cause) = (is_built chosen query ≡ true) × IsAnswer chosen exprs query (Refused cause)
+IsReplyTo chosen exprs query (Match hit) = (is_built chosen query ≡ true) × IsAnswer chosen exprs query (Match hit)
+IsReplyTo chosen exprs query NoMatch = (is_built chosen query ≡ true) × IsAnswer chosen exprs query NoMatch
+IsReplyTo chosen exprs query (Quits byte offset) = (is_built chosen query ≡ true) × IsAnswer chosen exprs query (Quits byte offset)
+IsReplyTo chosen exprs query (NoStart mode) = (is_built chosen query ≡ true) × IsAnswer chosen exprs query (NoStart mode)
 IsReplyTo chosen exprs query Usage = ⊥
 IsReplyTo chosen exprs query Long = ⊥
 IsReplyTo chosen exprs query (Bad fault) = ⊥

@@ -2,7 +2,6 @@
 use Rattle.std.specs.Prelude.{◌≡◌, ℕ, ◌<◌, Bool, true, List, length, take, Option}
 use Rattle.std.specs.Io.KnownBytes.{Consumes, IsAtEnd, Appends}
 use Rattle.rx_base.specs.Search.{hit_of, mode_of}
-use Rattle.rx_base.specs.Outside.{Rose}
 use Rattle.rx_main.specs.declared.reply.Reply as code
 use Rattle.rx_main.specs.Finding.{cause_read}
 use Rattle.rx_main.specs.Replies.{Reply, Replies, text_of, status_of}

@@ -1,8 +1,8 @@
 -- What single words of a script say, read from left to right.
-use Rattle.std.specs.Prelude.{ℕ, ◌+◌, ◌-◌, ◌*◌, ◌^◌, Bool, true, false, ◌==◌, ◌&&◌, nat_le, nat_lt, if◌then◌else◌, List, [], ◌∷◌, length, codes, Option, Some, None, option_map, option_and_then, bit_or, drop, take}
+use Rattle.std.specs.Prelude.{ℕ, ◌+◌, ◌-◌, ◌*◌, ◌^◌, Bool, true, false, ◌==◌, ◌&&◌, nat_le, nat_lt, if◌then◌else◌, List, [], ◌∷◌, length, codes, Option, Some, None, option_map, option_and_then, bit_or}
 use Rattle.std.specs.Str.{bytes_eq}
-use Rattle.std.specs.List.{slice_split, starts_with}
-use Rattle.rx_spec.specs.Bytes.{only, between}
+use Rattle.std.specs.List.{slice_split}
+use Rattle.rx_spec.specs.Bytes.{between}
 use Rattle.rx_spec.specs.declared.Look.{Look}
 use Rattle.rx_base.specs.declared.search.Anchored.{Anchored}
 use Rattle.rx_main.specs.declared.tokens.LineKind.{LineKind}

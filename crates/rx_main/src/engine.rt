@@ -1,14 +1,14 @@
 //! The search for the answer to a script.
 
-ghost use Rattle.std.specs.Prelude.{◌≡◌, ◌+◌, ◌≤◌, length, true, false};
+ghost use Rattle.std.specs.Prelude.{◌≡◌, true, false};
+ghost use Rattle.rx_spec.specs.Found.{IsFit};
 ghost use Rattle.rx_base.specs.Input.{query_of};
 ghost use Rattle.rx_main.specs.PlanLine.{chosen_of, IsPlain};
-ghost use Rattle.rx_main.specs.Replies.{is_built};
-ghost use Rattle.rx_main.specs.Finding.{Finds};
+ghost use Rattle.rx_main.specs.Finding.{Finds, refused_by};
 
-use crate::plan::Plan;
 use rx_base::{Anchored, Input, Match};
 use rx_expr::Expr;
+use rx_regex::{Answer, BuildErrorKind, FindFault, Plan, compile_and_find};
 use std::alloc::Global;
 
 /// Why a build is refused.
@@ -43,16 +43,31 @@ pub enum SearchFault {
 
 /// Builds what the plan says, and searches.
 pub fn search(
-    _alloc: Global,
-    _exprs: &[Expr],
-    _plan: &Plan,
-    _input: &Input<'_>,
+    alloc: Global,
+    exprs: &[Expr],
+    plan: &Plan,
+    input: &Input<'_>,
 ) -> Result<Option<Match>, SearchFault>
-    requires built { is_built (chosen_of _plan.now false true) _exprs.now (query_of _input.now) ≡ true }
-    requires plain { IsPlain (chosen_of _plan.now false true) }
-    requires within { (query_of _input.now).stop ≤ length (query_of _input.now).hay }
-    requires ordered { (query_of _input.now).start ≤ (query_of _input.now).stop + 1 }
-    ensures { Finds (chosen_of _plan.now false true) _exprs.now (query_of _input.now) result }
+    requires plain { IsPlain (chosen_of plan.now false true) }
+    requires fits { IsFit (query_of input.now) }
+    ensures { Finds (chosen_of plan.now false true) exprs.now (query_of input.now) result }
 {
-    Err(SearchFault::Memory)
+    match compile_and_find(alloc, exprs, plan, input) {
+        Ok(Answer { found, .. }) => Ok(found),
+        Err(FindFault::Build(error)) => Err(refused(error.kind())),
+        Err(FindFault::Quit { byte, offset }) => Err(SearchFault::Quit { byte, offset }),
+        Err(FindFault::Unsupported { mode }) => Err(SearchFault::Unsupported { mode }),
+        Err(FindFault::Memory) => Err(SearchFault::Memory),
+    }
+}
+
+/// A build that is refused.
+fn refused(kind: &BuildErrorKind) -> SearchFault
+    ensures { result ≡ refused_by kind.now }
+{
+    match kind {
+        BuildErrorKind::NFA(_) => SearchFault::Refused(Cause::Nfa),
+        BuildErrorKind::Unsupported => SearchFault::Refused(Cause::UnicodeWord),
+        BuildErrorKind::Memory => SearchFault::Memory,
+    }
 }

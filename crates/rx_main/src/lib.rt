@@ -12,7 +12,6 @@ mod expression;
 mod fault;
 pub mod laws;
 mod pieces;
-mod plan;
 mod plan_words;
 mod program;
 mod reply;
@@ -22,7 +21,6 @@ mod transfer;
 mod words;
 
 pub use fault::{BadKind, ScriptFault};
-pub use plan::{Form, Passage, Plan};
 pub use program::run;
 pub use script::{Exprs, Hay, Script, ScriptInput, read_script};
 pub use words::Words;

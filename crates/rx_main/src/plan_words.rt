@@ -1,13 +1,13 @@
 //! The words of a plan line.
 
-ghost use Rattle.std.specs.Prelude.{◌≡◌, ◌<◌, option_map};
+ghost use Rattle.std.specs.Prelude.{◌≡◌, ◌<◌, ◌&&◌, option_map};
 ghost use Rattle.rx_main.specs.Pieces.{pieces_left};
 ghost use Rattle.rx_main.specs.PlanLine.{chosen_of, unplanned, setting_of, name_of, with_setting, start_setting, build_setting, form_setting, behind, one_byte, quit_setting, terminator_setting, nfa_setting, dfa_setting, det_setting, limit_setting, valued_setting, plain_setting, setting_word, plan_from, none_seen};
 
 use crate::pieces::cut;
-use crate::plan::{Form, Passage, Plan};
 use crate::tokens::{byte, is, number, set};
 use rx_base::{ByteSet, StartKind};
+use rx_regex::{Form, Passage, Plan};
 
 /// A plan, whether the row counts are asked for, and whether no word but a limit of the NFA stands.
 #[derive(Clone, Copy, Debug)]
@@ -61,6 +61,19 @@ fn name(word: &PlanWord) -> usize
     }
 }
 
+/// Whether what the word says is built.
+fn is_built(word: &PlanWord) -> bool
+    ensures { (c : _) → (with_setting (setting_of word.now) c).plain ≡ (c.plain && result) }
+{
+    matches!(
+        word,
+        PlanWord::NfaLimit(_)
+            | PlanWord::Quit(_)
+            | PlanWord::UnicodeWord
+            | PlanWord::LineTerminator(_)
+    )
+}
+
 impl Choices {
     /// What holds without a plan line.
     pub fn new() -> Choices
@@ -92,7 +105,7 @@ impl Choices {
     fn choose(&mut self, word: PlanWord)
         ensures { chosen_of self.new.plan self.new.rows self.new.plain ≡ with_setting (setting_of word) (chosen_of self.old.plan self.old.rows self.old.plain) }
     {
-        self.plain = self.plain && matches!(word, PlanWord::NfaLimit(_));
+        self.plain = self.plain && is_built(&word);
         let plan = &mut self.plan;
         match word {
             PlanWord::Start(kind) => plan.start_kind = kind,

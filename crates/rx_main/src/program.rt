@@ -1,26 +1,25 @@
 //! The program: a command line, a source and a sink.
 
 ghost use Rattle.std.specs.Prelude.{◌≡◌, ◌+◌, ◌≤◌, ◌↔◌, ◌∷◌, [], true, false, codes, length, IsTrue, IfOk, IfErr, option_map};
-ghost use Rattle.std.specs.List.{list_any};
 ghost use Rattle.std.specs.Io.KnownBytes.{Keeps};
 ghost use Rattle.rx_base.specs.Outside.{Rose};
 ghost use Rattle.rx_base.specs.Input.{query_of};
 ghost use Rattle.rx_base.specs.Search.{mode_of};
 ghost use Rattle.rx_main.specs.PlanLine.{chosen_of, IsPlain};
-ghost use Rattle.rx_main.specs.Replies.{has_look, names_pattern, is_built, IsFind, IsAnswer, IsReplyTo, Replies};
+ghost use Rattle.rx_main.specs.Replies.{names_pattern, is_built, IsFind, IsAnswer, IsReplyTo, Replies};
 ghost use Rattle.rx_main.specs.Script.{asked_read};
 ghost use Rattle.rx_main.specs.Run.{reply_of, Took, Answers, Breaks};
 
 use crate::engine::{SearchFault, search};
 use crate::fault::ScriptFault;
-use crate::plan::Plan;
 use crate::reply::Reply;
 use crate::script::{Script, ScriptInput, read_script};
 use crate::tokens::is;
 use crate::transfer::{TextFault, read_text, write_text};
 use crate::words::Words;
 use rx_base::{Anchored, Input, Sink, Source};
-use rx_expr::{Expr, ExprKind};
+use rx_expr::Expr;
+use rx_regex::Plan;
 use std::alloc::Global;
 
 /// The status where the source failed, where the sink failed, and where memory ran out.
@@ -46,27 +45,6 @@ fn is_find(words: &Words) -> bool
     words.len() == 1 && is(words.word(0), b"find")
 }
 
-/// Whether an assertion stands in an expression.
-#[tactic(auto, unfolding(crate::specs::Replies::has_look, rx_spec::specs::Expressions::depth))]
-fn has_look(expr: &Expr) -> bool
-    ensures { result ≡ has_look expr.now }
-{
-    match expr.kind() {
-        ExprKind::Empty | ExprKind::Class(_) => false,
-        ExprKind::Look(_) => true,
-        ExprKind::Concat(first, second) | ExprKind::Alternate(first, second) => {
-            has_look(first) || has_look(second)
-        }
-        ExprKind::Repeat { body, .. } => has_look(body),
-    }
-}
-
-fn have_look(exprs: &[Expr]) -> bool
-    ensures { result ≡ list_any has_look exprs.now }
-{
-    exprs.iter().any(|expr| has_look(expr))
-}
-
 fn names_pattern(mode: Anchored) -> bool
     ensures { result ≡ names_pattern (mode_of mode) }
 {
@@ -74,10 +52,10 @@ fn names_pattern(mode: Anchored) -> bool
 }
 
 /// Whether scripts of this form are answered.
-fn is_built(plain: bool, exprs: &[Expr], input: &ScriptInput) -> bool
-    ensures { (p : _) (r : _) → result ≡ is_built (chosen_of p r plain) exprs.now (asked_read input.now) }
+fn is_built(plain: bool, input: &ScriptInput) -> bool
+    ensures { (p : _) (r : _) → result ≡ is_built (chosen_of p r plain) (asked_read input.now) }
 {
-    plain && !have_look(exprs) && !names_pattern(input.mode)
+    plain && !names_pattern(input.mode)
 }
 
 /// What is searched, as the engine takes it.
@@ -93,7 +71,7 @@ fn input_of(input: &ScriptInput) -> Input<'_>
 
 /// The answer to a script that is built.
 fn solve(alloc: Global, plan: &Plan, exprs: &[Expr], input: &ScriptInput) -> Result<Reply, Stop>
-    requires built { is_built (chosen_of plan.now false true) exprs.now (asked_read input.now) ≡ true }
+    requires built { is_built (chosen_of plan.now false true) (asked_read input.now) ≡ true }
     requires plain { IsPlain (chosen_of plan.now false true) }
     requires within { input.now.end ≤ length input.now.haystack }
     requires ordered { input.now.start ≤ input.now.end + 1 }
@@ -124,7 +102,7 @@ fn answer_to(
     ensures reply { IfOk result (λ reply. (rows : _) → IsReplyTo (chosen_of plan.now rows plain) exprs.now (asked_read input.now) (reply_of reply)) }
     ensures memory { IfErr result (λ stop. stop ≡ Stop.Memory) }
 {
-    if !is_built(plain, exprs, input) {
+    if !is_built(plain, input) {
         return Ok(Reply::Unbuilt);
     }
     solve(alloc, plan, exprs, input)

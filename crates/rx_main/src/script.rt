@@ -12,11 +12,11 @@ ghost use Rattle.rx_main.specs.Script.{span_read, asked_read, next_read, LeavesF
 use crate::expression::expression;
 use crate::fault::{BadKind, ScriptFault};
 use crate::pieces::{cut, is_spaced, next_line};
-use crate::plan::Plan;
 use crate::plan_words::{Choices, plan_line};
 use crate::tokens::{LineKind, bytes, line_kind, mode, number};
 use rx_base::{Anchored, Input};
 use rx_expr::Expr;
+use rx_regex::Plan;
 use std::alloc::{AllocError, Global};
 use std::marker::Model;
 

@@ -1,10 +1,11 @@
 -- First occurrences keep the first success.
-use Rattle.std.proofs.Common.{◌≡◌, ℕ, Bool, true, false, ◌||◌, ◌==◌, if◌then◌else◌, Option, Some, None, List, [], ◌∷◌, refl, sym, ◌∙◌, subst, arith}
+use Rattle.std.proofs.Common.{◌≡◌, ℕ, Bool, true, false, ◌||◌, ◌==◌, if◌then◌else◌, Option, Some, None, List, [], ◌∷◌, refl, sym, ◌∙◌, subst}
 use Rattle.std.specs.Option.{option_or}
 use Rattle.std.specs.List.{list_any, AllByRecursion as Every}
 use Rattle.rx_spec.specs.Found.{first_of}
 use Rattle.rx_spec.specs.States.{fresh, firsts}
 use Rattle.rx_meaning.proofs.FirstSuccess.{or_assoc}
+use Rattle.rx_meaning.proofs.Tests.{equal_numbers, false_not_true}
 
 -- Behind v the value o changes nothing.
 abbrev Absorbed : {V : Type 0} → Option V → Option V → Type 0
@@ -20,19 +21,13 @@ absorbed-self (Some v) u w = refl
 absorbed-self None (Some u) w = refl
 absorbed-self None None w = refl
 
-equal_from : (x y : ℕ) → (x == y) ≡ true → x ≡ y
-equal_from x y e = grind arith
-
-false_is_not_true : false ≡ true → ⊥
-false_is_not_true e = grind arith
-
 -- what holds of each that was seen holds of one that was seen
 seen_at : (P : ℕ → Type 0) (x y : ℕ) (rest : Bool) → (rest ≡ true → P x) → P y → (same : Bool) → (x == y) ≡ same → (same || rest) ≡ true → P x
-seen_at P x y rest ih h true s e = subst P (sym (equal_from x y s)) h
+seen_at P x y rest ih h true s e = subst P (sym (equal_numbers x y s)) h
 seen_at P x y rest ih h false s e = ih e
 
 seen_has : (P : ℕ → Type 0) (x : ℕ) (seen : List ℕ) → list_any (λ y. x == y) seen ≡ true → Every P seen → P x
-seen_has P x [] e h = absurd (false_is_not_true e)
+seen_has P x [] e h = absurd (false_not_true e)
 seen_has P x (y ∷ seen) e h = seen_at P x y (list_any (λ z. x == z) seen) (λ found. seen_has P x seen found h.1) h.0 (x == y) refl e
 
 every-absorbed : {V : Type 0} (f : ℕ → Option V) (v u : Option V) (seen : List ℕ) → Every (λ y. Absorbed v (f y)) seen → Every (λ y. Absorbed (option_or v u) (f y)) seen

@@ -46,7 +46,7 @@ preferring_none false i = refl
 
 module _ {V : Type 0} (rows : List Row) (r : Reading) (worth : Worth V) (g : ℕ → ℕ → Option V) (solves : Solves rows r worth g) where
   -- A maker's part means these ends.
-  pub Means : Maker → (ℕ → List ℕ) → Type 0
+  unfoldable pub Means : Maker → (ℕ → List ℕ) → Type 0
   Means maker body = (base next : ℕ) → Stands rows base (maker base next).rows → (i : ℕ) → i ≤ length r.units → g (maker base next).entry i ≡ first_of (λ j. g next j) (body i)
 
   pub solved_at : (q : ℕ) (row : Row) (i : ℕ) → row_at rows q ≡ row → g q i ≡ gives r worth g row i

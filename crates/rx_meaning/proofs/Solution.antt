@@ -72,7 +72,7 @@ settle_gives rows holds read worth (suc n) q h =
     given-same (λ p. Deep rows n p) holds read read (λ p. settle rows holds read worth n p) (λ p. settle rows holds read worth (suc n) p) worth
     (λ set next. refl) (λ p k. settle-more rows holds read worth n (suc n) p (omega arith) k) (row_at rows q) h
 
-got_past : {X : Type 0} (xs : List X) (i : ℕ) → length xs ≤ i → slice_get xs i ≡ None
+pub got_past : {X : Type 0} (xs : List X) (i : ℕ) → length xs ≤ i → slice_get xs i ≡ None
 got_past [] i h = refl
 got_past (x ∷ xs) zero h = absurd (omega (arith, h))
 got_past (x ∷ xs) (suc i) h = got_past xs i (omega (arith, h))

@@ -1,7 +1,8 @@
 -- Rows that stand in a list of rows from a number on.
-use Rattle.std.proofs.Common.{◌≡◌, ℕ, zero, suc, ◌+◌, ◌<◌, ◌≤◌, List, [], ◌∷◌, ◌++◌, length, refl, ap, ◌∙◌, subst, arith, drop, ◌⊎◌, inl, inr}
+use Rattle.std.proofs.Common.{◌≡◌, ℕ, zero, suc, ◌+◌, ◌<◌, ◌≤◌, List, [], ◌∷◌, ◌++◌, length, refl, ap, ◌∙◌, subst, arith, drop, inl, inr}
 use Rattle.rx_spec.specs.Rows.{Row}
 use Rattle.rx_spec.specs.States.{row_at}
+use Rattle.rx_meaning.proofs.Tests.{equal_or_above}
 
 -- The second rows stand in the first, from the number on.
 abbrev pub Stands : List Row → ℕ → List Row → Type 0
@@ -32,12 +33,9 @@ pub each-weaker : (P Q : ℕ → Type 0) (base : ℕ) (xs : List Row) → ((q : 
 each-weaker P Q base [] f h = tt
 each-weaker P Q base (x ∷ xs) f h = (f base h.0, each-weaker P Q (base + 1) xs f h.1)
 
-base_or_above : (base q : ℕ) → base ≤ q → (base ≡ q) ⊎ (base + 1 ≤ q)
-base_or_above base q h = grind arith
-
 pub each-at : (P : ℕ → Type 0) (base : ℕ) (xs : List Row) → EachFrom P base xs → (q : ℕ) → base ≤ q → q < base + length xs → P q
 each-at P base [] h q low high = absurd (omega (arith, low, high))
-each-at P base (x ∷ xs) h q low high = elim (base_or_above base q low) [ inl e ↦ subst P e h.0 | inr above ↦ each-at P (base + 1) xs h.1 q above (omega (arith, high)) ]
+each-at P base (x ∷ xs) h q low high = elim (equal_or_above base q low) [ inl e ↦ subst P e h.0 | inr above ↦ each-at P (base + 1) xs h.1 q above (omega (arith, high)) ]
 
 -- The whole list stands in itself.
 abbrev IsNil : List Row → Type 0

@@ -17,6 +17,7 @@ use Rattle.rx_spec.specs.declared.Start.{Start}
 use Rattle.rx_spec.proofs.Firsts.{by_test}
 use Rattle.rx_spec.proofs.Mirrors.{before_is_after}
 use Rattle.rx_spec.proofs.Asserting.{quits_alike}
+use Rattle.rx_meaning.specs.Mirrored.{back_from}
 use Rattle.rx_meaning.proofs.ReadUnits.{unit_at, units_from, units_forward, units_backward}
 
 -- the units from one place up to another can be searched
@@ -37,19 +38,19 @@ read_more r quit i n end here later = record {
 }
 
 -- how the walk goes on from where a unit leads
-abbrev pub goes : Label → Bool → Bool → ℕ → ℕ → Option Half → (Option Half → Outcome) → Outcome
-goes label over reverse unit offset last later =
-    met_label label reverse false unit offset (Outcome.Told (heard label offset last)) (if over then Outcome.Told (heard label offset last) else later (heard label offset last))
+abbrev pub goes : Bool → Label → Bool → Bool → ℕ → ℕ → Option Half → (Option Half → Outcome) → Outcome
+goes earliest label over reverse unit offset last later =
+    met_label label reverse earliest unit offset (Outcome.Told (heard label offset last)) (if over then Outcome.Told (heard label offset last) else later (heard label offset last))
 
-pub walk_one : (b : Build) (reverse : Bool) (node : Node) (offset : ℕ) (last : Option Half) (r : Reading) (i n : ℕ) (there : Node) → next_node b node (unit_at r i) ≡ there
-    → walk (power b) reverse false node offset last (units_from r i (suc n)) ≡ goes (node_label there) (is_dead there) reverse (unit_at r i) offset last (λ kept. walk (power b) reverse false there (moved reverse offset) kept (units_from r (i + 1) n))
+pub walk_one : (b : Build) (reverse earliest : Bool) (node : Node) (offset : ℕ) (last : Option Half) (r : Reading) (i n : ℕ) (there : Node) → next_node b node (unit_at r i) ≡ there
+    → walk (power b) reverse earliest node offset last (units_from r i (suc n)) ≡ goes earliest (node_label there) (is_dead there) reverse (unit_at r i) offset last (λ kept. walk (power b) reverse earliest there (moved reverse offset) kept (units_from r (i + 1) n))
 unfolding walk units_from
-walk_one b reverse node offset last r i n there e =
-    ap (λ (x : Node). goes (node_label x) (is_dead x) reverse (unit_at r i) offset last (λ kept. walk (power b) reverse false x (moved reverse offset) kept (units_from r (i + 1) n))) e
+walk_one b reverse earliest node offset last r i n there e =
+    ap (λ (x : Node). goes earliest (node_label x) (is_dead x) reverse (unit_at r i) offset last (λ kept. walk (power b) reverse earliest x (moved reverse offset) kept (units_from r (i + 1) n))) e
 
-pub walk_none : (b : Build) (reverse : Bool) (node : Node) (offset : ℕ) (last : Option Half) (r : Reading) (i : ℕ) → walk (power b) reverse false node offset last (units_from r i 0) ≡ Outcome.Told last
+pub walk_none : (b : Build) (reverse earliest : Bool) (node : Node) (offset : ℕ) (last : Option Half) (r : Reading) (i : ℕ) → walk (power b) reverse earliest node offset last (units_from r i 0) ≡ Outcome.Told last
 unfolding walk units_from
-walk_none b reverse node offset last r i = refl
+walk_none b reverse earliest node offset last r i = refl
 
 pub told_same : (a b : Option Half) → Outcome.Told a ≡ Outcome.Told b → a ≡ b
 told_same a b e = cc
@@ -70,27 +71,25 @@ heard_here Label.Quits offset last h e = inl e
 heard_here (Label.Matches []) offset last h e = inr (let x : first_pattern [] offset ≡ h = cc in ap (λ (y : Half). y.offset) (sym x))
 heard_here (Label.Matches (k ∷ ks)) offset last h e = inr (let x : first_pattern (k ∷ ks) offset ≡ h = cc in ap (λ (y : Half). y.offset) (sym x))
 
-goes_told : (label : Label) (over : Bool) (reverse : Bool) (unit offset : ℕ) (last : Option Half) (later : Option Half → Outcome) (h : Half) → goes label over reverse unit offset last later ≡ Outcome.Told (Some h)
+pub goes_told : (earliest : Bool) (label : Label) (over : Bool) (reverse : Bool) (unit offset : ℕ) (last : Option Half) (later : Option Half → Outcome) (h : Half) → goes earliest label over reverse unit offset last later ≡ Outcome.Told (Some h)
     → (heard label offset last ≡ Some h) ⊎ (later (heard label offset last) ≡ Outcome.Told (Some h))
-goes_told Label.Quits over reverse unit offset last later h e = absurd (cc)
-goes_told Label.Plain true reverse unit offset last later h e = inl (told_same last (Some h) e)
-goes_told Label.Plain false reverse unit offset last later h e = inr e
-goes_told (Label.Matches ks) true reverse unit offset last later h e = inl (told_same (Some (first_pattern ks offset)) (Some h) e)
-goes_told (Label.Matches ks) false reverse unit offset last later h e = inr e
-
-dead_goes : (reverse : Bool) (unit offset : ℕ) (last : Option Half) (later : Option Half → Outcome) → goes (node_label dead) (is_dead dead) reverse unit offset last later ≡ Outcome.Told last
-dead_goes reverse unit offset last later = refl
+goes_told earliest Label.Quits over reverse unit offset last later h e = absurd (cc)
+goes_told earliest Label.Plain true reverse unit offset last later h e = inl (told_same last (Some h) e)
+goes_told earliest Label.Plain false reverse unit offset last later h e = inr e
+goes_told true (Label.Matches ks) over reverse unit offset last later h e = inl (told_same (Some (first_pattern ks offset)) (Some h) e)
+goes_told false (Label.Matches ks) true reverse unit offset last later h e = inl (told_same (Some (first_pattern ks offset)) (Some h) e)
+goes_told false (Label.Matches ks) false reverse unit offset last later h e = inr e
 
 module _ (b : Build) (r : Reading) where
   read_here : (i n end : ℕ) → contains b.quit (unit_at r i) ≡ false → end ≡ i → ReadTo r b.quit i (suc n) end
   read_here i n end clean e = record { low = omega arith; high = omega arith; clean = λ k a c. let f : i ≡ k = omega arith in subst (λ m. contains b.quit (unit_at r m) ≡ false) f clean }
 
   -- Each told end was read up to.
-  pub told_read : (n i : ℕ) (s : State) (last : Option Half) (h : Half) → walk (power b) false false (Node.Running s) i last (units_from r i n) ≡ Outcome.Told (Some h) → (last ≡ Some h) ⊎ ReadTo r b.quit i n h.offset
-  told_read zero i s last h e = inl (told_same last (Some h) (sym (walk_none b false (Node.Running s) i last r i) ∙ e))
-  told_read (suc n) i s last h e = elim (leads b s (unit_at r i)) as (λ l. (last ≡ Some h) ⊎ ReadTo r b.quit i (suc n) h.offset) [
-    | Dead d to ↦ inl (told_same last (Some h) (sym (walk_one b false (Node.Running s) i last r i n dead to) ∙ e))
-    | Quits q to ↦ absurd (quit_told (unit_at r i) i last (λ kept. walk (power b) false false Node.Quit (i + 1) kept (units_from r (i + 1) n)) h (sym (walk_one b false (Node.Running s) i last r i n Node.Quit to) ∙ e))
+  pub told_read : (earliest : Bool) (n i : ℕ) (s : State) (last : Option Half) (h : Half) → walk (power b) false earliest (Node.Running s) i last (units_from r i n) ≡ Outcome.Told (Some h) → (last ≡ Some h) ⊎ ReadTo r b.quit i n h.offset
+  told_read earliest zero i s last h e = inl (told_same last (Some h) (sym (walk_none b false earliest (Node.Running s) i last r i) ∙ e))
+  told_read earliest (suc n) i s last h e = elim (leads b s (unit_at r i)) as (λ l. (last ≡ Some h) ⊎ ReadTo r b.quit i (suc n) h.offset) [
+    | Dead d to ↦ inl (told_same last (Some h) (sym (walk_one b false earliest (Node.Running s) i last r i n dead to) ∙ e))
+    | Quits q to ↦ absurd (quit_told earliest (unit_at r i) i last (λ kept. walk (power b) false earliest Node.Quit (i + 1) kept (units_from r (i + 1) n)) h (sym (walk_one b false earliest (Node.Running s) i last r i n Node.Quit to) ∙ e))
     | Steps d clean to ↦
         let next = step b.nfa b.kind s (unit_at r i) in
         let there = Node.Running next in
@@ -98,16 +97,16 @@ module _ (b : Build) (r : Reading) where
         let done : (kept ≡ Some h) → (last ≡ Some h) ⊎ ReadTo r b.quit i (suc n) h.offset
         = λ k. ⊎_elim (λ (x : last ≡ Some h). inl x) (λ (x : h.offset ≡ i). inr (read_here i n h.offset clean x)) (heard_here (node_label there) i last h k) in
         ⊎_elim done
-        (λ (w : walk (power b) false false there (i + 1) kept (units_from r (i + 1) n) ≡ Outcome.Told (Some h)).
-        ⊎_elim done (λ (x : ReadTo r b.quit (i + 1) n h.offset). inr (read_more r b.quit i n h.offset clean x)) (told_read n (i + 1) next kept h w))
-        (goes_told (node_label there) (is_dead there) false (unit_at r i) i last (λ kept. walk (power b) false false there (i + 1) kept (units_from r (i + 1) n)) h (sym (walk_one b false (Node.Running s) i last r i n there to) ∙ e))
+        (λ (w : walk (power b) false earliest there (i + 1) kept (units_from r (i + 1) n) ≡ Outcome.Told (Some h)).
+        ⊎_elim done (λ (x : ReadTo r b.quit (i + 1) n h.offset). inr (read_more r b.quit i n h.offset clean x)) (told_read earliest n (i + 1) next kept h w))
+        (goes_told earliest (node_label there) (is_dead there) false (unit_at r i) i last (λ kept. walk (power b) false earliest there (i + 1) kept (units_from r (i + 1) n)) h (sym (walk_one b false earliest (Node.Running s) i last r i n there to) ∙ e))
   ]
     where
-      quit_told : (unit i : ℕ) (last : Option Half) (later : Option Half → Outcome) (h : Half) → goes (node_label Node.Quit) (is_dead Node.Quit) false unit i last later ≡ Outcome.Told (Some h) → ⊥
-      quit_told unit i last later h e = cc
+      quit_told : (earliest : Bool) (unit i : ℕ) (last : Option Half) (later : Option Half → Outcome) (h : Half) → goes earliest (node_label Node.Quit) (is_dead Node.Quit) false unit i last later ≡ Outcome.Told (Some h) → ⊥
+      quit_told earliest unit i last later h e = cc
 
   goes_on : (label : Label) (over reverse : Bool) (unit offset : ℕ) (last : Option Half) (later : Option Half → Outcome) → label ≢ Label.Quits → ((kept : Option Half) → (h : Option Half) × (later kept ≡ Outcome.Told h))
-      → (h : Option Half) × (goes label over reverse unit offset last later ≡ Outcome.Told h)
+      → (h : Option Half) × (goes false label over reverse unit offset last later ≡ Outcome.Told h)
   goes_on Label.Quits over reverse unit offset last later no_quit f = absurd (no_quit refl)
   goes_on Label.Plain true reverse unit offset last later no_quit f = (last, refl)
   goes_on Label.Plain false reverse unit offset last later no_quit f = f last
@@ -121,15 +120,15 @@ module _ (b : Build) (r : Reading) where
   -- A walk over units that can all be searched doesn't quit.
   pub clean_told : (reverse : Bool) (n i : ℕ) (s : State) (offset : ℕ) (last : Option Half) → ((k : ℕ) → i ≤ k → k < i + n → contains b.quit (unit_at r k) ≡ false)
       → (h : Option Half) × (walk (power b) reverse false (Node.Running s) offset last (units_from r i n) ≡ Outcome.Told h)
-  clean_told reverse zero i s offset last clean = (last, walk_none b reverse (Node.Running s) offset last r i)
+  clean_told reverse zero i s offset last clean = (last, walk_none b reverse false (Node.Running s) offset last r i)
   clean_told reverse (suc n) i s offset last clean = elim (leads b s (unit_at r i)) as (λ l. (h : Option Half) × (walk (power b) reverse false (Node.Running s) offset last (units_from r i (suc n)) ≡ Outcome.Told h)) [
-    | Dead d to ↦ (last, walk_one b reverse (Node.Running s) offset last r i n dead to)
+    | Dead d to ↦ (last, walk_one b reverse false (Node.Running s) offset last r i n dead to)
     | Quits q to ↦ absurd (let c = clean i (omega arith) (omega arith) in cc)
     | Steps d c to ↦
         let next = step b.nfa b.kind s (unit_at r i) in
         let on = goes_on (label_of next.label) (is_dead_state next) reverse (unit_at r i) offset last (λ kept. walk (power b) reverse false (Node.Running next) (moved reverse offset) kept (units_from r (i + 1) n)) (label_no_quit next.label)
         (λ kept. clean_told reverse n (i + 1) next (moved reverse offset) kept (λ k a l. clean k (omega arith) (omega arith))) in
-        (on.0, walk_one b reverse (Node.Running s) offset last r i n (Node.Running next) to ∙ on.1)
+        (on.0, walk_one b reverse false (Node.Running s) offset last r i n (Node.Running next) to ∙ on.1)
   ]
 
 -- What a half search that tells says of its start.
@@ -190,10 +189,6 @@ unit_neighbour : (s : Settings) (byte : Option ℕ) → contains s.quit (unit_of
 unit_neighbour s None e = refl
 unit_neighbour s (Some byte) e = e
 
--- the query for the start of a match that ends at a place
-abbrev pub back_from : Query → ℕ → Query
-back_from q end = record q { stop = end; mode = Mode.Yes; earliest = false }
-
 -- what the forward search that told an end says
 pub record Ended (quit : ℕ) (q : Query) (end : ℕ) : Type 0 where
   pub low : q.start ≤ end
@@ -202,11 +197,11 @@ pub record Ended (quit : ℕ) (q : Query) (end : ℕ) : Type 0 where
   pub clean : (k : ℕ) → q.start ≤ k → k ≤ end → contains quit (unit_of (after q.hay k)) ≡ false
 
 pub forward_ended : (b : Build) (q : Query) (end : Half) → q.stop ≤ length q.hay
-    → half (power b) (build_settings b) false (record q { earliest = false }) ≡ Outcome.Told (Some end) → Ended b.quit q end.offset
+    → half (power b) (build_settings b) false q ≡ Outcome.Told (Some end) → Ended b.quit q end.offset
 forward_ended b q end within e =
     ⊎_elim (λ (x : (q.stop < q.start) × (Some end ≡ None)). absurd (some_none end x.1))
-    (λ (x : Begun (power b) (build_settings b) false (record q { earliest = false }) (Some end)). walked b q end within x)
-    (half_begun (power b) (build_settings b) false (record q { earliest = false }) (Some end) e)
+    (λ (x : Begun (power b) (build_settings b) false q (Some end)). walked b q end within x)
+    (half_begun (power b) (build_settings b) false q (Some end) e)
   where
     some_none : (end : Half) → Some end ≡ None → ⊥
     some_none end e = cc
@@ -215,14 +210,14 @@ forward_ended b q end within e =
     read b q end clean (inl e) order = absurd (cc)
     read b q end clean (inr x) order = record { low = x.low; high = (let h = x.high in omega arith); before_clean = clean; clean = x.clean }
 
-    walked : (b : Build) (q : Query) (end : Half) → q.stop ≤ length q.hay → Begun (power b) (build_settings b) false (record q { earliest = false }) (Some end) → Ended b.quit q end.offset
+    walked : (b : Build) (q : Query) (end : Half) → q.stop ≤ length q.hay → Begun (power b) (build_settings b) false q (Some end) → Ended b.quit q end.offset
     walked b q end within x =
         let start = context_of (build_settings b) (neighbour false q) in
         let entry = entry_state b q.mode start in
         let units = units_forward 0 q x.order within in
-        let walk_is : walk (power b) false false (Node.Running entry.0) q.start None (units_from (forward 0 q.hay) q.start (q.stop - q.start + 1)) ≡ Outcome.Told (Some end)
-        = ap₂ (λ (node : Node) (us : List ℕ). walk (power b) false false node q.start None us) (sym entry.1) (sym units) ∙ x.walked in
-        read b q end (neighbour_unit (build_settings b) (before q.hay q.start) x.neighbour_clean) (told_read b (forward 0 q.hay) (q.stop - q.start + 1) q.start entry.0 None end walk_is) x.order
+        let walk_is : walk (power b) false q.earliest (Node.Running entry.0) q.start None (units_from (forward 0 q.hay) q.start (q.stop - q.start + 1)) ≡ Outcome.Told (Some end)
+        = ap₂ (λ (node : Node) (us : List ℕ). walk (power b) false q.earliest node q.start None us) (sym entry.1) (sym units) ∙ x.walked in
+        read b q end (neighbour_unit (build_settings b) (before q.hay q.start) x.neighbour_clean) (told_read b (forward 0 q.hay) q.earliest (q.stop - q.start + 1) q.start entry.0 None end walk_is) x.order
 
 clean_before : (quit : ℕ) (q : Query) (end i : ℕ) → q.start ≤ i → i ≤ end → Ended quit q end → contains quit (unit_of (before q.hay i)) ≡ false
 clean_before quit q end zero a c e = let z : q.start ≡ 0 = omega arith in subst (λ k. contains quit (unit_of (before q.hay k)) ≡ false) z e.before_clean
@@ -259,7 +254,7 @@ backward_told b q end within anchored ended =
 
 -- the same of a plan's two builds
 pub reverse_told : (w : Wanted) (es : List Expression) (q : Query) (end : Half) → q.stop ≤ length q.hay
-    → half (power (forward_build w es)) (build_settings (forward_build w es)) false (record q { earliest = false }) ≡ Outcome.Told (Some end)
+    → half (power (forward_build w es)) (build_settings (forward_build w es)) false q ≡ Outcome.Told (Some end)
     → (h : Option Half) × (half (power (reverse_build w es)) (build_settings (reverse_build w es)) true (back_from q end.offset) ≡ Outcome.Told h)
 reverse_told w es q end within e =
     let ended = forward_ended (forward_build w es) q end within e in

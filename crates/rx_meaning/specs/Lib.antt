@@ -1,0 +1,4 @@
+pub mod Mirrored
+pub mod Joined
+pub mod Preference
+pub mod Shallow

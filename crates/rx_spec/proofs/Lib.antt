@@ -1,5 +1,7 @@
 pub mod Computing
-pub mod Worked
+pub mod Reached
+pub mod Letter
+pub mod Everywhere
 pub mod Facts
 pub mod Firsts
 pub mod Dead
@@ -10,3 +12,8 @@ pub mod Asserting
 pub mod Every
 pub mod Ends
 pub mod Rows
+pub mod FoundLaws
+pub mod FoundWords
+pub mod RowsLaws
+pub mod StatesLaws
+pub mod Closures

@@ -9,30 +9,8 @@ use Rattle.rx_spec.specs.Looks.{Reading, after, holds_at}
 use Rattle.rx_spec.specs.Expressions.{Expression, min_len, IsLoopSafe, IsBounded}
 use Rattle.rx_spec.specs.Ends.{ends, class_ends, rounds, up_to, further, preferring}
 use Rattle.rx_spec.proofs.Firsts.{by_test, Contains-here, Contains-there, Contains-nil, Contains-cases}
-
--- a byte that is there and in the set
-abbrev pub IsIn : ℕ → Option ℕ → Type 0
-IsIn set None = ⊥
-IsIn set (Some byte) = contains set byte ≡ true
-
--- so many rounds of a body, one behind the other
-abbrev pub Rounds : (ℕ → ℕ → Type 0) → ℕ → ℕ → ℕ → Type 0
-Rounds R zero i j = i ≡ j
-Rounds R (suc n) i j = (k : ℕ) × R i k × Rounds R n k j
-
--- a number of rounds that a bound allows
-abbrev pub IsAllowed : Option ℕ → ℕ → Type 0
-IsAllowed None n = Unit {0}
-IsAllowed (Some most) n = n ≤ most
-
--- a match from i to j
-abbrev pub Reaches : Reading → Expression → ℕ → ℕ → Type 0
-Reaches r Expression.Empty i j = i ≡ j
-Reaches r (Expression.Class set) i j = (j ≡ i + 1) × IsIn set (after r.units i)
-Reaches r (Expression.Assert look) i j = (i ≡ j) × (holds_at r look i ≡ true)
-Reaches r (Expression.Concat a b) i j = (k : ℕ) × Reaches r a i k × Reaches r b k j
-Reaches r (Expression.Alternate a b) i j = Reaches r a i j ⊎ Reaches r b i j
-Reaches r (Expression.Repeat least most greedy body) i j = (n : ℕ) × (least ≤ n) × IsAllowed most n × Rounds (Reaches r body) n i j
+-- The relation stands among the definitions; those who cite it from here find it here.
+pub use Rattle.rx_spec.specs.Matching.{IsIn, Rounds, IsAllowed, Reaches}
 
 pub IsIn-within : (set : ℕ) (units : List ℕ) (i : ℕ) → IsIn set (slice_get units i) → i < length units
 IsIn-within set [] i h = absurd h

@@ -1,10 +1,10 @@
--- What is built: the powerset machine of an NFA.
+-- What is built: the powerset machine of an NFA, and which of its states are reached.
 use Rattle.std.specs.Prelude.{ℕ, ◌≡◌, ◌≢◌, ◌==◌, Bool, true, false, ◌&&◌, if◌then◌else◌, Option, Some, None, List, [], ◌∷◌, ◌++◌, length, slice_get, Contains, map, AllPairs, All}
 use Rattle.std.specs.List.{range_with_len}
 use Rattle.rx_spec.specs.Bytes.{contains}
 use Rattle.rx_spec.specs.Contexts.{start_of_byte}
 use Rattle.rx_spec.specs.Found.{Mode}
-use Rattle.rx_spec.specs.Machines.{Label, label_of, Machine, run, Settings}
+use Rattle.rx_spec.specs.Machines.{Label, label_of, Machine, IsWord, run, Settings}
 use Rattle.rx_spec.specs.Rows.{Nfa}
 use Rattle.rx_spec.specs.States.{State, dead_state, start_state, step}
 use Rattle.rx_spec.specs.declared.MatchKind.{MatchKind}
@@ -95,12 +95,13 @@ built_modes b =
 abbrev pub node_after : Build → Mode → Start → List ℕ → Node
 node_after b mode start word = run (next_node b) (built_entry b mode start) word
 
--- a state to which some word leads from some start that is built, and that isn't dead
+-- a state to which some word of units leads from some start that is built, and that isn't dead
 pub record IsReached (b : Build) (s : State) : Type 0 where
   pub mode : Mode
   pub built : Contains (built_modes b) mode
   pub start : Start
   pub word : List ℕ
+  pub units : IsWord word
   pub leads : node_after b mode start word ≡ Running s
   pub alive : is_dead_state s ≡ false
 

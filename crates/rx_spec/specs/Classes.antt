@@ -1,4 +1,5 @@
--- Byte classes: runs of bytes that nothing in an NFA tells apart.
+-- Byte classes: runs of bytes that nothing in an NFA tells apart, so that one column of a table serves
+-- them all (the alphabet compression of lex, RE2 and regex-automata).
 use Rattle.std.specs.Prelude.{ℕ, zero, suc, ◌+◌, ◌^◌, Bool, false, ◌==◌, ◌&&◌, ◌||◌, nat_le, if◌then◌else◌, bit_or}
 use Rattle.std.specs.List.{list_any}
 use Rattle.rx_spec.specs.Bytes.{contains, between, is_word}

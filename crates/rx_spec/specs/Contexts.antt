@@ -1,4 +1,5 @@
--- What is remembered of the unit that was read last: as much as the assertions of the rows ask of it.
+-- What is remembered of the unit that was read last: as much as the assertions of the rows ask of it. So
+-- an assertion is decided one unit late, when both its neighbours are known, as in RE2 and regex-automata.
 use Rattle.std.specs.Prelude.{ℕ, Bool, true, false, not, ◌==◌, ◌&&◌, ◌||◌, if◌then◌else◌, Option, Some, None, List, [], ◌∷◌}
 use Rattle.rx_spec.specs.Bytes.{is_word}
 use Rattle.rx_spec.specs.Looks.{differ}
@@ -80,7 +81,8 @@ unfoldable pub facts_kept : List Row → Facts
 facts_kept [] = no_facts
 facts_kept (row ∷ rows) = either_of (row_reads row) (facts_kept rows)
 
--- which start context the byte before a search gives: a line terminator other than \n and \r its own
+-- Which start context the byte beside a span gives, where a search begins: a line terminator other than
+-- \n and \r has its own.
 abbrev pub start_of_byte : ℕ → ℕ → Start
 start_of_byte t b =
     if b == 10 then Start.LineLF else (if b == 13 then Start.LineCR else (if b == t then Start.CustomLineTerminator else (if is_word b then Start.WordByte else Start.NonWordByte)))

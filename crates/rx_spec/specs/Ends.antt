@@ -1,5 +1,6 @@
--- Where an expression's matches end, in order of preference: the textbook meaning of an expression,
--- with the preferences of Perl.
+-- Where an expression's matches end, in order of preference: the textbook meaning of an expression, as
+-- the list of ends that a backtracking matcher such as Perl's tries one after another. No automaton occurs
+-- in it.
 use Rattle.std.specs.Prelude.{ℕ, zero, suc, ◌+◌, ◌-◌, Bool, true, false, if◌then◌else◌, Option, Some, None, List, [], ◌∷◌, ◌++◌, length}
 use Rattle.std.specs.List.{flat_map}
 use Rattle.rx_spec.specs.Bytes.{contains}

@@ -1,8 +1,9 @@
--- Expressions.
+-- Expressions: the regular expressions of Kleene, with assertions, counted repetitions, and the order of
+-- preference that Perl and RE2 give to alternatives and rounds.
 use Rattle.std.specs.Prelude.{ℕ, ◌+◌, ◌*◌, ◌<◌, ◌≤◌, min, max, Bool, Option, Some, None}
 use Rattle.rx_spec.specs.declared.Look.{Look}
 
--- The expressions of regular languages, with the six forms that a pattern is made of.
+-- A pattern, made of six forms.
 pub data Expression : Type 0 where
   -- matches where it stands
   Empty : Expression
@@ -33,7 +34,8 @@ depth (Concat a b) = 1 + max (depth a) (depth b)
 depth (Alternate a b) = 1 + max (depth a) (depth b)
 depth (Repeat least most greedy body) = 1 + depth body
 
--- the parts of every concatenation swapped, and nothing else
+-- The parts of every concatenation swapped, and nothing else: the reversal of the language. What an
+-- assertion tests stays in place, so it is the reading that turns round.
 unfoldable pub mirror : Expression → Expression
 mirror Empty = Empty
 mirror (Class set) = Class set

@@ -1,4 +1,5 @@
--- What a search finds: the leftmost match, and there the preferred one.
+-- What a search finds: the leftmost match, and there the preferred one (leftmost-first, as Perl and RE2
+-- have it, and not the longest, as POSIX has it).
 use Rattle.std.specs.Prelude.{ℕ, ◌+◌, ◌-◌, ◌≤◌, Bool, true, false, ◌==◌, ◌&&◌, nat_le, nat_lt, if◌then◌else◌, Option, None, List, [], ◌∷◌, length, find, slice_get, reverse}
 use Rattle.std.specs.Option.{option_or, option_map, option_and_then}
 use Rattle.std.specs.List.{range_with_len}

@@ -7,9 +7,16 @@ pub mod Rows
 pub mod Contexts
 pub mod Classes
 pub mod States
+pub mod Shallow
 pub mod Machines
 pub mod Builds
 pub mod Tables
 pub mod Searches
 pub mod Sizes
 pub mod Plans
+pub mod Matching
+pub mod EndsLaws
+pub mod RowsLaws
+pub mod FoundLaws
+pub mod StatesLaws
+pub mod Examples

@@ -1,4 +1,5 @@
--- Assertions: tests of the two bytes beside a place.
+-- Assertions (look-around without width, as in Perl): tests of the two bytes beside a place. Their names
+-- and their meanings on bytes are those of the Rust crate regex-automata.
 use Rattle.std.specs.Prelude.{ℕ, zero, suc, Bool, true, false, not, ◌==◌, ◌&&◌, ◌||◌, Option, Some, None, is_none, List, slice_get, if◌then◌else◌}
 use Rattle.rx_spec.specs.Bytes.{is_word}
 use Rattle.rx_spec.specs.declared.Look.{Look}

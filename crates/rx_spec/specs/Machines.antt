@@ -1,5 +1,6 @@
--- Machines that read units, and what they tell of a word.
-use Rattle.std.specs.Prelude.{ℕ, Bool, Option, List, [], ◌∷◌}
+-- Machines that read units, and what they tell of a word: automata with a label at each state, as Moore
+-- has them.
+use Rattle.std.specs.Prelude.{ℕ, ◌<◌, Bool, Option, List, [], ◌∷◌, Contains}
 use Rattle.rx_spec.specs.Found.{Mode}
 use Rattle.rx_spec.specs.declared.Start.{Start}
 use Rattle.rx_spec.specs.declared.StartKind.{StartKind}
@@ -23,6 +24,10 @@ pub record Machine (R : Type 0) : Type 0 where
   pub label : R → Label
   -- the row from which nothing is told any more
   pub is_dead : R → Bool
+
+-- a word of units: bytes and end marks, in any order
+abbrev pub IsWord : List ℕ → Type 0
+IsWord word = (unit : ℕ) → Contains word unit → unit < 257
 
 -- the row to which a word leads
 unfoldable pub run : {R : Type 0} → (R → ℕ → R) → R → List ℕ → R

@@ -1,4 +1,6 @@
--- The rows of an NFA: Thompson's construction, with a fixed numbering.
+-- The rows of an NFA: the construction of Thompson (Regular expression search algorithm, 1968), with a
+-- fixed numbering, and with an order between the two ways of a Split, as in Pike's and Cox's virtual
+-- machines.
 use Rattle.std.specs.Prelude.{ℕ, zero, suc, ◌+◌, ◌-◌, ◌*◌, Bool, true, false, ◌&&◌, ◌||◌, ◌==◌, Option, Some, None, List, [], ◌∷◌, ◌++◌, length, map}
 use Rattle.std.specs.List.{list_all, list_any}
 use Rattle.rx_spec.specs.Bytes.{all_bytes}
@@ -156,6 +158,10 @@ pub record Nfa : Type 0 where
   -- whether some pattern matches without a byte, and whether matches inside a character are passed over
   pub has_empty : Bool
   pub utf8 : Bool
+
+-- whether every match begins at the text's edge: both starts are one row
+abbrev pub is_always_anchored : Nfa → Bool
+is_always_anchored nfa = nfa.anchored == nfa.unanchored
 
 -- backward, concatenations are read from their second part
 abbrev pub read_as : Bool → Expression → Expression

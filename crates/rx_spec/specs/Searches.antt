@@ -1,4 +1,5 @@
--- Searches over a machine.
+-- Searches over a machine: half searches, which tell one side of a match, overlapping ones, which tell
+-- all, matches inside a character, and the two halves joined. The names are those of regex-automata.
 use Rattle.std.specs.Prelude.{ℕ, zero, suc, ◌+◌, ◌-◌, Bool, true, false, ◌==◌, ◌&&◌, ◌||◌, not, nat_lt, nat_le, if◌then◌else◌, Option, Some, None, List, [], ◌∷◌, ◌++◌, map, take, drop, reverse, is_some}
 use Rattle.std.specs.List.{flat_map}
 use Rattle.rx_spec.specs.Bytes.{contains, unit_of}

@@ -1,5 +1,5 @@
--- Powerset states and their steps: the subset construction of Rabin and Scott, with the order of the
--- rows kept, as preference asks.
+-- Powerset states and their steps: the subset construction of Rabin and Scott (Finite automata and their
+-- decision problems, 1959), with the order of the rows kept, as preference asks.
 use Rattle.std.specs.Prelude.{ℕ, zero, suc, ◌+◌, ◌*◌, Bool, true, false, ◌==◌, if◌then◌else◌, List, [], ◌∷◌, ◌++◌, length, slice_get, unwrap_or}
 use Rattle.std.specs.List.{flat_map, list_any}
 use Rattle.rx_spec.specs.Bytes.{contains}
@@ -36,7 +36,8 @@ unfoldable pub reach : List Row → Passing → ℕ → ℕ → List ℕ
 reach rows pass zero q = []
 reach rows pass (suc n) q = reach_by pass (λ p. reach rows pass n p) q (row_at rows q)
 
--- No path of an NFA without a read byte is longer than the square of its number of rows.
+-- In the NFA of expressions that are safe to repeat no path that reads nothing has more steps than the
+-- square of its number of rows, so nothing is cut off.
 abbrev pub closure : List Row → Passing → ℕ → List ℕ
 closure rows pass q = reach rows pass (length rows * length rows + 1) q
 
@@ -95,7 +96,8 @@ unfoldable pub to_first_match : List Row → List ℕ → List ℕ
 to_first_match rows [] = []
 to_first_match rows (q ∷ qs) = if is_accept (row_at rows q) then q ∷ [] else (q ∷ to_first_match rows qs)
 
--- leftmost-first, what is less preferred than a match is cut off
+-- Leftmost-first, what is less preferred than a match is cut off, as a thread list is in Pike's virtual
+-- machine.
 abbrev pub cut : MatchKind → List Row → List ℕ → List ℕ
 cut MatchKind.All rows qs = qs
 cut MatchKind.LeftmostFirst rows qs = to_first_match rows qs

@@ -1,7 +1,8 @@
--- Tables: machines with numbered rows.
-use Rattle.std.specs.Prelude.{ℕ, ◌≡◌, ◌≢◌, ◌<◌, ◌≤◌, Bool, Option, List, [], Contains}
+-- Tables: machines with numbered rows. When a table is as small as can be, and when two of its rows behave
+-- alike, is said as Myhill and Nerode say it, by the labels of words.
+use Rattle.std.specs.Prelude.{ℕ, ◌≡◌, ◌≢◌, ◌<◌, ◌≤◌, ◌==◌, Bool, Option, Some, List, [], Contains}
 use Rattle.rx_spec.specs.Found.{Mode}
-use Rattle.rx_spec.specs.Machines.{Label, Machine, run, Settings}
+use Rattle.rx_spec.specs.Machines.{Label, Machine, IsWord, run, Settings}
 use Rattle.rx_spec.specs.Builds.{Build, built_modes, node_after, node_label}
 use Rattle.rx_spec.specs.declared.Start.{Start}
 
@@ -25,22 +26,20 @@ pub record Table : Type 0 where
   pub universal_unanchored : Option ℕ
   pub universal_anchored : Option ℕ
 
--- its entries and next rows are rows; dead leads to dead and tells nothing; quit alone quits, and
--- leads to dead
+-- Its entries and next rows are rows, and a pattern past the last starts at dead; dead alone ends a
+-- walk, leads to dead and tells nothing; quit alone quits, and leads to dead.
 pub record IsTable (t : Table) : Type 0 where
   pub two : 2 ≤ t.size
   pub entries : (mode : Mode) (start : Start) → t.machine.entry mode start < t.size
   pub nexts : (row unit : ℕ) → row < t.size → unit < 257 → t.machine.next row unit < t.size
+  pub past_last : (n k : ℕ) (start : Start) → t.settings.pattern_starts ≡ Some n → n ≤ k → t.machine.entry (Mode.Only k) start ≡ 0
+  pub dead_only : (row : ℕ) → row < t.size → t.machine.is_dead row ≡ (row == 0)
   pub dead_label : t.machine.label 0 ≡ Label.Plain
   pub dead_stays : (unit : ℕ) → unit < 257 → t.machine.next 0 unit ≡ 0
   pub quit_label : t.machine.label 1 ≡ Label.Quits
   pub quit_ends : (unit : ℕ) → unit < 257 → t.machine.next 1 unit ≡ 0
   pub quit_only : (row : ℕ) → row < t.size → t.machine.label row ≡ Label.Quits → row ≡ 1
   pub lists : (row : ℕ) → row < t.size → t.machine.label row ≢ Label.Matches []
-
--- a word of units
-abbrev pub IsWord : List ℕ → Type 0
-IsWord word = (unit : ℕ) → Contains word unit → unit < 257
 
 abbrev pub row_after : Table → Mode → Start → List ℕ → ℕ
 row_after t mode start word = run t.machine.next (t.machine.entry mode start) word
@@ -49,7 +48,7 @@ row_after t mode start word = run t.machine.next (t.machine.entry mode start) wo
 abbrev pub Gives : Table → Build → Type 0
 Gives t b = (mode : Mode) → Contains (built_modes b) mode → (start : Start) (word : List ℕ) → IsWord word → t.machine.label (row_after t mode start word) ≡ node_label (node_after b mode start word)
 
--- some table of m rows gives the build, and none of fewer rows does
+-- some table of m rows gives the build, and none of fewer rows does (what Hopcroft's algorithm reaches)
 pub record IsLeast (b : Build) (m : ℕ) : Type 0 where
   pub table : Table
   pub is_table : IsTable table
@@ -57,6 +56,6 @@ pub record IsLeast (b : Build) (m : ℕ) : Type 0 where
   pub rows : table.size ≡ m
   pub least : (t : Table) → IsTable t → Gives t b → m ≤ t.size
 
--- every word leads from both rows to equal labels
+-- every word leads from both rows to equal labels: the rows are equivalent, in the sense of Nerode
 abbrev pub BehaveAlike : Table → ℕ → ℕ → Type 0
 BehaveAlike t x y = (word : List ℕ) → IsWord word → t.machine.label (run t.machine.next x word) ≡ t.machine.label (run t.machine.next y word)

@@ -5,10 +5,11 @@
 //! bytes, assertions, expressions and their ends, what a search finds, the rows of an NFA, powerset
 //! states and their steps, tables, searches over tables. No function of this crate has a loop.
 //!
-//! The functions in [`laws`] have empty bodies: each carries, as its contract, a fact that a reader
-//! of the definitions expects of them.
+//! The functions in [`laws`] and [`examples`] have empty bodies: each carries, as its contract, facts
+//! that a reader of the definitions expects of them, or questions that they answer by computing.
 #![tactic(auto)]
 
+pub mod examples;
 pub mod laws;
 
 /// An assertion: a test of the two bytes beside a place of the haystack. It reads no byte.
@@ -64,6 +65,17 @@ pub enum MatchKind {
     LeftmostFirst,
 }
 
+impl Default for MatchKind {
+    ghost use Rattle.std.specs.Prelude.{◌≡◌};
+    ghost use Rattle.rx_spec.specs.declared.MatchKind.TheVariants.{LeftmostFirst};
+
+    ghost is_default = { λ kind. kind ≡ LeftmostFirst };
+
+    fn default() -> MatchKind {
+        MatchKind::LeftmostFirst
+    }
+}
+
 /// For which modes of a search a table has start rows.
 #[derive(Clone, Copy, Debug, PartialEq, Eq)]
 pub enum StartKind {
@@ -75,7 +87,8 @@ pub enum StartKind {
     Anchored,
 }
 
-/// What is known of the byte before a search when it starts.
+/// What is known of the byte beside a span, on the side where a search begins: before it forward, behind
+/// it in reverse.
 #[derive(Clone, Copy, Debug, PartialEq, Eq)]
 pub enum Start {
     /// A byte that is none of the following.
@@ -92,11 +105,11 @@ pub enum Start {
     CustomLineTerminator,
 }
 
-/// What an automaton reads: a byte, or the end mark behind the last byte.
+/// What an automaton reads: a byte, or the end mark, where the haystack has no further byte.
 #[derive(Clone, Copy, Debug, PartialEq, Eq)]
 pub enum Unit {
     /// A byte.
     Byte(u8),
-    /// The end of the haystack.
+    /// The edge of the haystack: its end, or in reverse its start.
     Eoi,
 }

@@ -1,7 +1,7 @@
-use Rattle.std.proofs.Common.{◌≡◌, ◌+◌, ◌≤◌, ◌∷◌, ◌++◌, [], List, ℕ, true, false, not, arith, sym, ◌∙◌, option_map, refl}
+use Rattle.std.proofs.Common.{arith, sym, ◌∙◌, option_map, refl}
 use Rattle.std.proofs.lemmas.Result.{err_from_is_err_and}
-use Rattle.rx_main.specs.Pieces.{pieces_left, bytes_left}
-use Rattle.rx_main.specs.Items.{items_at, is_whole}
+use Rattle.rx_main.specs.Pieces.{pieces_left}
+use Rattle.rx_main.specs.Items.{items_at}
 use Rattle.rx_main.specs.declared.expression.Awaited.{Awaited}
 use Rattle.rx_main.proofs.Making.{words_turn, words_fail, words_whole, words_partial}
 use Rattle.rx_main.proofs.expression.items.Goals as goal

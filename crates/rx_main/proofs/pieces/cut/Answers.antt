@@ -1,5 +1,4 @@
-use Rattle.std.proofs.Common.{◌≡◌, ℕ, ◌∷◌, eqb, List, ap, ◌∙◌, sym, ◌+◌}
-use Rattle.std.specs.List.{slice_split}
+use Rattle.std.proofs.Common.{sym, ◌+◌}
 use Rattle.std.proofs.lemmas.List.{take_rest}
 use Rattle.rx_main.proofs.Cutting.{parts_at, parts_none}
 use Rattle.rx_main.proofs.pieces.cut.Goals as goal

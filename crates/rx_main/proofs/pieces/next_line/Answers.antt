@@ -1,4 +1,4 @@
-use Rattle.std.proofs.Common.{◌≡◌, ◌<◌, ◌≢◌, Some, None, arith, length, sym, ◌∙◌}
+use Rattle.std.proofs.Common.{◌≢◌, Some, None, arith, length, sym, ◌∙◌}
 use Rattle.std.proofs.lemmas.Bool.{eqb-false}
 use Rattle.rx_main.proofs.Cutting.{lines_next}
 use Rattle.rx_main.proofs.pieces.next_line.Goals as goal

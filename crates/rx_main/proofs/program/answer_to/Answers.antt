@@ -10,7 +10,7 @@ returns-then-not-is_built-clause-reply c = λ rows. sym (c.is_built.ensures c.ar
 
 pub solve-requires-clause-built : goal.solve-requires-clause-built
 solve-requires-clause-built c =
-    plainly_built c.args.plan.now false c.args.plain c.args.exprs.now (asked_read c.args.input.now) (sym (c.is_built.ensures c.args.plan.now false) ∙ c.if-not-is_built.false)
+    plainly_built c.args.plan.now false c.args.plain (asked_read c.args.input.now) (sym (c.is_built.ensures c.args.plan.now false) ∙ c.if-not-is_built.false)
 
 pub returns-clause-reply : goal.returns-clause-reply
 returns-clause-reply c =
@@ -18,4 +18,4 @@ returns-clause-reply c =
 
 pub solve-requires-clause-plain : goal.solve-requires-clause-plain
 solve-requires-clause-plain c =
-    c.requires.plain (plain_where_built c.args.plan.now false c.args.plain c.args.exprs.now (asked_read c.args.input.now) (sym (c.is_built.ensures c.args.plan.now false) ∙ c.if-not-is_built.false))
+    c.requires.plain (plain_where_built c.args.plan.now false c.args.plain (asked_read c.args.input.now) (sym (c.is_built.ensures c.args.plan.now false) ∙ c.if-not-is_built.false))

@@ -1,4 +1,4 @@
-use Rattle.std.proofs.Common.{ℕ, List, Option, Bor, ap, sym, ◌∙◌, option_map}
+use Rattle.std.proofs.Common.{ℕ, List, Bor, ap, sym, ◌∙◌, option_map}
 use Rattle.rx_main.proofs.Asking.{second_word, is_some_mapped}
 use Rattle.rx_main.proofs.script.hay_words.Goals as goal
 

@@ -1,4 +1,4 @@
-use Rattle.std.proofs.Common.{◌≡◌, ◌+◌, ◌≤◌, ℕ, List, Bor, Option, option_map, arith}
+use Rattle.std.proofs.Common.{option_map, arith}
 use Rattle.std.proofs.lemmas.Result.{err_from_is_err_and}
 use Rattle.rx_main.specs.Pieces.{pieces_left, lines_of}
 use Rattle.rx_main.specs.Reading.{lines_at}

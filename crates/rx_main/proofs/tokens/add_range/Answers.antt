@@ -1,4 +1,4 @@
-use Rattle.std.proofs.Common.{◌≡◌, ◌≤◌, ◌-◌, ◌^◌, bit_or, ℕ, ap, ◌∙◌, sym, arith}
+use Rattle.std.proofs.Common.{◌≡◌, ◌^◌, bit_or, ℕ, ap, ◌∙◌, arith}
 use Rattle.rx_base.specs.ByteSet.{set_of}
 use Rattle.rx_main.proofs.Ranges.{range_more, range_begun}
 use Rattle.rx_main.proofs.tokens.add_range.Goals as goal

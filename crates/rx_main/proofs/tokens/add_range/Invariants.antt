@@ -1,4 +1,4 @@
-use Rattle.std.proofs.Common.{◌≡◌, ◌≤◌, ◌-◌, ◌^◌, bit_or}
+use Rattle.std.proofs.Common.{◌≡◌, ◌-◌, ◌^◌, bit_or}
 use Rattle.rx_base.specs.ByteSet.{set_of}
 use Rattle.rx_main.proofs.tokens.add_range.Given as goal
 

@@ -1,5 +1,4 @@
 use Rattle.std.proofs.Common.{◌≡◌, option_map}
-use Rattle.std.specs.List.{slice_split}
 use Rattle.rx_base.specs.ByteSet.{set_of}
 use Rattle.rx_main.specs.Pieces.{pieces_left, bytes_left}
 use Rattle.rx_main.specs.Tokens.{ranges_from}

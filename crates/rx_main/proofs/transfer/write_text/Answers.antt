@@ -1,4 +1,4 @@
-use Rattle.std.proofs.Common.{arith, length, take}
+use Rattle.std.proofs.Common.{arith}
 use Rattle.rx_main.proofs.Transfers.{written_more}
 use Rattle.rx_main.proofs.transfer.write_text.Goals as goal
 

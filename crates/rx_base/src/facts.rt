@@ -1,0 +1,174 @@
+//! What is known of the byte beside a place.
+
+ghost use Rattle.std.specs.Prelude.{◌≡◌, Some, None};
+ghost use Rattle.rx_spec.specs.Bytes.{is_word};
+ghost use Rattle.rx_spec.specs.Contexts.{no_facts, facts_of, unit_facts, start_facts, facts_read, both, either_of, holds_by};
+ghost use Rattle.rx_base.specs.Unit.{unit_number};
+
+use crate::{Look, Start, Unit};
+use std::marker::Model;
+
+/// Facts of a neighbour of a place: as much of it as assertions ask for.
+///
+/// Contracts see it as the facts of the definitions.
+#[derive(Clone, Copy, Debug, PartialEq, Eq, PartialOrd, Ord, Hash)]
+pub struct Facts {
+    /// There is none: the place is an edge of the haystack.
+    text: bool,
+    /// It is the line terminator.
+    terminator: bool,
+    /// It is `\n`.
+    lf: bool,
+    /// It is `\r`.
+    cr: bool,
+    /// It is a word byte.
+    word: bool,
+}
+
+impl Model for Facts {
+    ghost use Rattle.rx_spec.specs.Contexts.{Facts as Known};
+
+    ghost Value = { Known };
+
+    ghost view = { λ f. record { text = f.text; terminator = f.terminator; lf = f.lf; cr = f.cr; word = f.word } };
+
+    ghost inverse = { λ k. record { text = k.text; terminator = k.terminator; lf = k.lf; cr = k.cr; word = k.word } };
+}
+
+/// No fact.
+const NONE: Facts = Facts {
+    text: false,
+    terminator: false,
+    lf: false,
+    cr: false,
+    word: false,
+};
+
+/// What is known of the edge of the haystack.
+const TEXT: Facts = Facts {
+    text: true,
+    terminator: false,
+    lf: false,
+    cr: false,
+    word: false,
+};
+
+fn is_word_byte(byte: u8) -> bool
+    ensures { result ≡ is_word byte }
+{
+    (48 <= byte && byte <= 57)
+        || (65 <= byte && byte <= 90)
+        || byte == 95
+        || (97 <= byte && byte <= 122)
+}
+
+impl Facts {
+    /// No fact at all.
+    pub fn none() -> Facts
+        ensures { result ≡ no_facts }
+    {
+        NONE
+    }
+
+    /// Those that are true of a byte, under a line terminator.
+    pub fn of_byte(terminator: u8, byte: u8) -> Facts
+        ensures { result ≡ facts_of terminator (Some byte) }
+    {
+        Facts {
+            text: false,
+            terminator: byte == terminator,
+            lf: byte == 10,
+            cr: byte == 13,
+            word: is_word_byte(byte),
+        }
+    }
+
+    /// Those that are true of a unit; the end mark is no byte.
+    pub fn of_unit(terminator: u8, unit: Unit) -> Facts
+        ensures { result ≡ unit_facts terminator (unit_number unit) }
+    {
+        match unit {
+            Unit::Byte(byte) => Facts::of_byte(terminator, byte),
+            Unit::Eoi => TEXT,
+        }
+    }
+
+    /// What is known in a start context.
+    pub fn of_start(terminator: u8, start: Start) -> Facts
+        ensures { result ≡ start_facts terminator start }
+    {
+        match start {
+            Start::NonWordByte => NONE,
+            Start::WordByte => Facts { word: true, ..NONE },
+            Start::Text => TEXT,
+            Start::LineLF => Facts::of_byte(terminator, 10),
+            Start::LineCR => Facts::of_byte(terminator, 13),
+            Start::CustomLineTerminator => Facts::of_byte(terminator, terminator),
+        }
+    }
+
+    /// Those that an assertion asks for.
+    pub fn asked_by(look: Look) -> Facts
+        ensures { result ≡ facts_read look }
+    {
+        match look {
+            Look::Start | Look::End => TEXT,
+            Look::StartLF | Look::EndLF => Facts {
+                terminator: true,
+                ..TEXT
+            },
+            Look::StartCRLF | Look::EndCRLF => Facts {
+                lf: true,
+                cr: true,
+                ..TEXT
+            },
+            _ => Facts { word: true, ..NONE },
+        }
+    }
+
+    /// Those of both.
+    pub fn intersect(self, other: Facts) -> Facts
+        ensures { result ≡ both self other }
+    {
+        Facts {
+            text: self.text && other.text,
+            terminator: self.terminator && other.terminator,
+            lf: self.lf && other.lf,
+            cr: self.cr && other.cr,
+            word: self.word && other.word,
+        }
+    }
+
+    /// Those of either.
+    pub fn union(self, other: Facts) -> Facts
+        ensures { result ≡ either_of self other }
+    {
+        Facts {
+            text: self.text || other.text,
+            terminator: self.terminator || other.terminator,
+            lf: self.lf || other.lf,
+            cr: self.cr || other.cr,
+            word: self.word || other.word,
+        }
+    }
+
+    /// Whether an assertion holds between two neighbours of which these facts are known.
+    pub fn decide(look: Look, before: Facts, after: Facts) -> bool
+        ensures { result ≡ holds_by look before after }
+    {
+        match look {
+            Look::Start => before.text,
+            Look::End => after.text,
+            Look::StartLF => before.text || before.terminator,
+            Look::EndLF => after.text || after.terminator,
+            Look::StartCRLF => before.text || before.lf || (before.cr && !after.lf),
+            Look::EndCRLF => after.text || after.cr || (after.lf && !before.cr),
+            Look::WordAscii | Look::WordUnicode => before.word != after.word,
+            Look::WordAsciiNegate | Look::WordUnicodeNegate => before.word == after.word,
+            Look::WordStartAscii | Look::WordStartUnicode => after.word && !before.word,
+            Look::WordEndAscii | Look::WordEndUnicode => before.word && !after.word,
+            Look::WordStartHalfAscii | Look::WordStartHalfUnicode => !before.word,
+            Look::WordEndHalfAscii | Look::WordEndHalfUnicode => !after.word,
+        }
+    }
+}

@@ -1,0 +1,5 @@
+use Rattle.rx_spec.specs.Expressions.{depth}
+use Rattle.rx_expr.proofs.thompson.edge.+reads_nothing.Given as goal
+
+abbrev pub decreases-reads_nothing : goal.decreases-reads_nothing
+decreases-reads_nothing l = depth l.expr.now

@@ -1,0 +1,7 @@
+use Rattle.std.proofs.Common.{◌≡◌, map, drop}
+use Rattle.rx_spec.specs.Contexts.{facts_kept, either_of}
+use Rattle.rx_expr.specs.Nfa.{row_of}
+use Rattle.rx_expr.proofs.thompson.nfa.asked_facts.Given as goal
+
+abbrev pub invariant-loop-row : goal.invariant-loop-row
+invariant-loop-row l = either_of l.asked (facts_kept (map row_of (drop l.row-index l.rows))) ≡ facts_kept (map row_of l.rows)

@@ -1,0 +1,8 @@
+use Rattle.std.proofs.Common.{◌≡◌, ◌||◌, map, drop}
+use Rattle.rx_spec.specs.declared.Look.{Look}
+use Rattle.rx_base.specs.LookSet.{holds_look}
+use Rattle.rx_expr.specs.Nfa.{row_of, has_look}
+use Rattle.rx_expr.proofs.thompson.nfa.look_set_any.Given as goal
+
+abbrev pub invariant-loop-row : goal.invariant-loop-row
+invariant-loop-row l = (look : Look) → (holds_look l.looks look || has_look (map row_of (drop l.row-index l.rows)) look) ≡ has_look (map row_of l.rows) look

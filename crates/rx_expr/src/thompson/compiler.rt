@@ -1,0 +1,117 @@
+//! The compiler.
+
+ghost use Rattle.std.specs.Prelude.{◌≡◌, ◌^◌, min, length, IfOk, IfErr, OnOk, All, None};
+ghost use Rattle.rx_spec.specs.Expressions.{IsLoopSafe};
+ghost use Rattle.rx_expr.specs.Compiles.{wanted_nfa, Refuses, Fits};
+ghost use Rattle.rx_expr.specs.Compiler.{asked_by};
+ghost use Rattle.rx_expr.specs.Settings.{asked, overwritten};
+ghost use Rattle.rx_expr.specs.Nfa.{meaning, KeepsAsked};
+
+use super::build_error::BuildError;
+use super::config::Config;
+use super::edge::all_begin_with_edge;
+use super::nfa::{NFA, asked_facts, look_set_any};
+use super::starts::{
+    add_patterns, any_empty, join_starts, lead_in_rows, learn_safe, patterns_len, starts_len,
+};
+use crate::expr::{Expr, ROWS_LIMIT};
+use rx_base::{LookMatcher, PatternID, StateID};
+use std::alloc::{AllocError, Global};
+
+/// Makes NFAs of expressions.
+#[derive(Clone, Debug, Default, Drop)]
+pub struct Compiler {
+    config: Config,
+}
+
+impl Compiler {
+    /// With default settings.
+    pub fn new() -> Compiler
+        ensures { asked_by result ≡ record { reverse = None; utf8 = None; size_limit = None; terminator = None } }
+    {
+        Compiler {
+            config: Config::new(),
+        }
+    }
+
+    /// Takes these settings, and keeps those that they don't set.
+    pub fn configure(&mut self, config: Config) -> &mut Compiler
+        ensures value { asked_by result.now ≡ overwritten (asked_by self.old) (asked config) }
+        ensures same_reference { result.ghost_name ≡ self.entry.ghost_name }
+    {
+        self.config = self.config.overwrite(&config);
+        self
+    }
+
+    /// How many rows the NFA of these expressions has; 2^31 stands for more too.
+    pub fn rows_len(&self, exprs: &[Expr]) -> u64
+        ensures { result ≡ min (length (wanted_nfa (asked_by self.now) exprs.now).rows) (2 ^ 31) }
+    {
+        let rows = patterns_len(exprs) + starts_len(exprs, self.config.get_reverse());
+        rows.min(ROWS_LIMIT)
+    }
+
+    /// The NFA of a list of expressions, the first of which is pattern 0.
+    ///
+    /// What is refused by its numbers is refused before any memory is taken.
+    pub fn build_many(&self, alloc: Global, exprs: &[Expr]) -> Result<NFA, BuildError>
+        ensures ok { IfOk result (λ nfa. meaning nfa ≡ wanted_nfa (asked_by self.now) exprs.now) }
+        ensures asked { IfOk result (λ nfa. KeepsAsked nfa) }
+        ensures fits { OnOk result (Fits (asked_by self.now) exprs.now) }
+        ensures err { IfErr result (Refuses (asked_by self.now) exprs.now) }
+        // Each repetition in an expression is bounded.
+        ensures safe { All IsLoopSafe exprs.now }
+    {
+        learn_safe(exprs);
+        self.check_sizes(exprs)?;
+        self.build(alloc, exprs).map_err(|_| BuildError::Memory)
+    }
+
+    fn check_sizes(&self, exprs: &[Expr]) -> Result<(), BuildError>
+        ensures ok { OnOk result (Fits (asked_by self.now) exprs.now) }
+        ensures err { IfErr result (Refuses (asked_by self.now) exprs.now) }
+    {
+        if exprs.len() > PatternID::LIMIT {
+            return Err(BuildError::TooManyPatterns { given: exprs.len() });
+        }
+        let rows = self.rows_len(exprs);
+        if rows > StateID::LIMIT as u64 {
+            return Err(BuildError::TooManyStates { given: rows });
+        }
+        match self.config.get_nfa_size_limit() {
+            Some(limit) if 40 * rows > limit as u64 => Err(BuildError::ExceededSizeLimit { limit }),
+            _ => Ok(()),
+        }
+    }
+
+    fn build(&self, alloc: Global, exprs: &[Expr]) -> Result<NFA, AllocError>
+        requires { Fits (asked_by self.now) exprs.now }
+        ensures rows { IfOk result (λ nfa. meaning nfa ≡ wanted_nfa (asked_by self.now) exprs.now) }
+        ensures asked { IfOk result (λ nfa. KeepsAsked nfa) }
+    {
+        let reverse = self.config.get_reverse();
+        let mut rows = Vec::new(alloc);
+        let mut start_patterns = Vec::new(alloc);
+        add_patterns(&mut rows, &mut start_patterns, exprs, reverse)?;
+        let start_anchored = join_starts(&mut rows, &start_patterns)?;
+        let start_unanchored = lead_in_rows(
+            &mut rows,
+            all_begin_with_edge(exprs, reverse),
+            start_anchored,
+        )?;
+        let asked = asked_facts(&rows);
+        let look_set_any = look_set_any(&rows);
+        Ok(NFA {
+            rows,
+            start_anchored,
+            start_unanchored,
+            start_patterns,
+            reverse,
+            look_matcher: LookMatcher::new(self.config.get_line_terminator()),
+            has_empty: any_empty(exprs),
+            utf8: self.config.get_utf8(),
+            asked,
+            look_set_any,
+        })
+    }
+}

@@ -1,0 +1,199 @@
+//! The NFA: rows and where they are entered.
+
+ghost use Rattle.std.specs.Prelude.{◌≡◌, ◌||◌, ◌<◌, ◌≤◌, length, slice_get, map};
+ghost use Rattle.rx_spec.specs.Contexts.{facts_kept, row_reads};
+ghost use Rattle.rx_spec.specs.Rows.{is_always_anchored};
+ghost use Rattle.rx_base.specs.LookSet.{holds_look};
+ghost use Rattle.rx_expr.specs.Nfa.{meaning, row_of, asserts, has_look, IsSound};
+
+use rx_base::{ByteSet, Facts, Look, LookMatcher, LookSet, PatternID, StateID};
+
+/// A row of an NFA.
+#[derive(Clone, Copy, Debug)]
+pub enum Row {
+    /// Reads a byte of the set and goes on at a row.
+    Bytes {
+        /// Which bytes are read.
+        set: ByteSet,
+        /// Where it goes on.
+        next: StateID,
+    },
+    /// Goes on at both rows without reading a byte, the first preferred.
+    Split {
+        /// The preferred row.
+        first: StateID,
+        /// The other row.
+        second: StateID,
+    },
+    /// Goes on where an assertion holds, without reading a byte.
+    Look {
+        /// The assertion.
+        look: Look,
+        /// Where it goes on.
+        next: StateID,
+    },
+    /// A match of a pattern.
+    Match {
+        /// The pattern.
+        pattern: PatternID,
+    },
+    /// Goes on nowhere.
+    Fail,
+}
+
+/// A nondeterministic automaton: the rows that [`super::Compiler`] makes of expressions.
+#[derive(Drop)]
+pub struct NFA {
+    pub(super) rows: Vec<Row>,
+    pub(super) start_anchored: StateID,
+    pub(super) start_unanchored: StateID,
+    pub(super) start_patterns: Vec<StateID>,
+    pub(super) reverse: bool,
+    pub(super) look_matcher: LookMatcher,
+    pub(super) has_empty: bool,
+    pub(super) utf8: bool,
+    /// What some assertion of the rows asks of a neighbour.
+    pub(super) asked: Facts,
+    /// The assertions that the rows have.
+    pub(super) look_set_any: LookSet,
+}
+
+/// What some assertion of the rows asks of a neighbour.
+pub(super) fn asked_facts(rows: &[Row]) -> Facts
+    ensures { result ≡ facts_kept (map row_of rows.now) }
+{
+    let mut asked = Facts::none();
+    for row in rows {
+        asked = asked.union(row.asked_facts());
+    }
+    asked
+}
+
+/// The assertions that the rows have.
+pub(super) fn look_set_any(rows: &[Row]) -> LookSet
+    ensures { (look : Look) → holds_look result look ≡ has_look (map row_of rows.now) look }
+{
+    let mut looks = LookSet::empty();
+    for row in rows {
+        looks = row.insert_into(looks);
+    }
+    looks
+}
+
+impl Row {
+    /// The set with the row's assertion too, where it has one.
+    fn insert_into(&self, looks: LookSet) -> LookSet
+        ensures { (look : Look) → holds_look result look ≡ (holds_look looks look || asserts look (row_of self.now)) }
+    {
+        match *self {
+            Row::Look { look, .. } => looks.insert(look),
+            _ => looks,
+        }
+    }
+
+    /// What it asks of a neighbour.
+    fn asked_facts(&self) -> Facts
+        ensures { result ≡ row_reads (row_of self.now) }
+    {
+        match *self {
+            Row::Look { look, .. } => Facts::asked_by(look),
+            _ => Facts::none(),
+        }
+    }
+}
+
+impl NFA {
+    /// The rows, by their numbers.
+    pub fn rows(&self) -> &[Row]
+        ensures { map row_of result.now ≡ (meaning self.now).rows }
+    {
+        &self.rows
+    }
+
+    /// Where an anchored search starts.
+    pub fn start_anchored(&self) -> StateID
+        ensures { result ≡ (meaning self.now).anchored }
+    {
+        self.start_anchored
+    }
+
+    /// Where an unanchored search starts.
+    pub fn start_unanchored(&self) -> StateID
+        ensures { result ≡ (meaning self.now).unanchored }
+    {
+        self.start_unanchored
+    }
+
+    /// Where a search for one pattern starts; none past the list.
+    pub fn start_pattern(&self, pid: PatternID) -> Option<StateID>
+        ensures { result ≡ slice_get (meaning self.now).patterns pid }
+    {
+        self.start_patterns.get(pid.as_usize()).copied()
+    }
+
+    /// How many patterns there are.
+    pub fn pattern_len(&self) -> usize
+        ensures { result ≡ length (meaning self.now).patterns }
+    {
+        self.start_patterns.len()
+    }
+
+    /// Whether the haystack is read backward.
+    pub fn is_reverse(&self) -> bool
+        ensures { result ≡ (meaning self.now).backward }
+    {
+        self.reverse
+    }
+
+    /// The line terminator of the assertions.
+    pub fn line_terminator(&self) -> u8
+        ensures { result ≡ (meaning self.now).terminator }
+    {
+        self.look_matcher.get_line_terminator()
+    }
+
+    /// What decides the assertions.
+    pub fn look_matcher(&self) -> &LookMatcher
+        ensures { result.now.line_terminator ≡ (meaning self.now).terminator }
+    {
+        &self.look_matcher
+    }
+
+    /// The assertions that some row has.
+    pub fn look_set_any(&self) -> LookSet
+        requires { IsSound self.now }
+        ensures { (look : Look) → holds_look result look ≡ has_look (meaning self.now).rows look }
+    {
+        self.look_set_any
+    }
+
+    /// The facts of a neighbour that some assertion of the rows asks for.
+    pub fn asked_facts(&self) -> Facts
+        requires { IsSound self.now }
+        ensures { result ≡ facts_kept (meaning self.now).rows }
+    {
+        self.asked
+    }
+
+    /// Whether some pattern matches without a byte.
+    pub fn has_empty(&self) -> bool
+        ensures { result ≡ (meaning self.now).has_empty }
+    {
+        self.has_empty
+    }
+
+    /// Whether matches inside a UTF-8 encoded character are passed over.
+    pub fn is_utf8(&self) -> bool
+        ensures { result ≡ (meaning self.now).utf8 }
+    {
+        self.utf8
+    }
+
+    /// Whether every match begins at the edge of the haystack where reading begins, so that both
+    /// starts are one row.
+    pub fn is_always_start_anchored(&self) -> bool
+        ensures { result ≡ is_always_anchored (meaning self.now) }
+    {
+        self.start_anchored == self.start_unanchored
+    }
+}

@@ -1,0 +1,216 @@
+//! The rows of one expression.
+
+ghost use Rattle.std.specs.Prelude.{◌≡◌, ◌+◌, ◌*◌, ◌≤◌, ◌++◌, ◌∷◌, [], IfOk, length, ◌<◌, slice_set};
+ghost use Rattle.rx_spec.specs.Rows.{rows_count, copies as copied, optional as optioned, loop as looped, choice as chosen, chained, either, repeated, repeated_count};
+ghost use Rattle.rx_expr.specs.Compiles.{Adds, maker};
+ghost use Rattle.rx_expr.specs.Nfa.{row_of};
+
+use super::nfa::Row;
+use crate::expr::{Expr, ExprKind};
+use rx_base::StateID;
+use std::alloc::AllocError;
+
+/// The id of a number that is known to be one.
+pub(super) fn id_of(n: usize) -> StateID
+    requires { n ≤ 2147483646 }
+    ensures { result ≡ n }
+{
+    match StateID::new(n) {
+        Ok(id) => id,
+        Err(_) => StateID::ZERO,
+    }
+}
+
+/// Adds a row, and gives its id.
+pub(super) fn push(rows: &mut Vec<Row>, row: Row) -> Result<StateID, AllocError>
+    requires { length rows.old.items ≤ 2147483646 }
+    ensures id { IfOk result (λ id. id ≡ length rows.old.items) }
+    ensures rows { IfOk result (λ id. rows.new.items ≡ rows.old.items ++ (row ∷ [])) }
+{
+    let id = id_of(rows.len());
+    rows.push(row)?;
+    Ok(id)
+}
+
+/// A Split of a body and of what comes behind it: the greedy have the body first.
+fn choice(greedy: bool, body: StateID, next: StateID) -> Row
+    ensures { row_of result ≡ chosen greedy body next }
+{
+    if greedy {
+        Row::Split {
+            first: body,
+            second: next,
+        }
+    } else {
+        Row::Split {
+            first: next,
+            second: body,
+        }
+    }
+}
+
+/// Adds an expression's rows before `next`, and gives the row where they are entered.
+///
+/// A part that has no rows is passed over, so that the time is that of the rows that are made.
+#[cycle(compile)]
+pub(super) fn compile(
+    rows: &mut Vec<Row>,
+    expr: &Expr,
+    reverse: bool,
+    next: StateID,
+) -> Result<StateID, AllocError>
+    requires { length rows.old.items + rows_count expr.now ≤ 2147483647 }
+    ensures { IfOk result (λ entry. Adds rows.old.items rows.new.items entry (maker reverse expr.now (length rows.old.items) next)) }
+{
+    if expr.rows_len() == 0 {
+        return Ok(next);
+    }
+    match expr.kind() {
+        ExprKind::Empty => Ok(next),
+        ExprKind::Class(set) => push(rows, Row::Bytes { set, next }),
+        ExprKind::Look(look) => push(rows, Row::Look { look, next }),
+        ExprKind::Concat(first, second) => {
+            if reverse {
+                concat(rows, second, first, reverse, next)
+            } else {
+                concat(rows, first, second, reverse, next)
+            }
+        }
+        ExprKind::Alternate(first, second) => alternate(rows, first, second, reverse, next),
+        ExprKind::Repeat {
+            min,
+            max,
+            greedy,
+            body,
+        } => repeat(rows, body, reverse, (min, max), greedy, next),
+    }
+}
+
+/// The least rounds before the further ones, which are made first.
+#[cycle(compile)]
+fn repeat(
+    rows: &mut Vec<Row>,
+    body: &Expr,
+    reverse: bool,
+    bounds: (u32, Option<u32>),
+    greedy: bool,
+    next: StateID,
+) -> Result<StateID, AllocError>
+    requires { length rows.old.items + repeated_count bounds.0 bounds.1 (rows_count body.now) ≤ 2147483647 }
+    ensures { IfOk result (λ entry. Adds rows.old.items rows.new.items entry (repeated bounds.0 bounds.1 greedy (maker reverse body.now) (length rows.old.items) next)) }
+{
+    let min = bounds.0;
+    match bounds.1 {
+        None => {
+            let behind = repeat_forever(rows, body, reverse, greedy, next)?;
+            repeat_exactly(rows, body, reverse, min, behind)
+        }
+        Some(max) => {
+            let rounds = max.saturating_sub(min);
+            let behind = repeat_up_to(rows, body, reverse, greedy, rounds, next)?;
+            repeat_exactly(rows, body, reverse, min, behind)
+        }
+    }
+}
+
+/// What is read first before what is read behind it, which is made first.
+#[cycle(compile)]
+fn concat(
+    rows: &mut Vec<Row>,
+    front: &Expr,
+    back: &Expr,
+    reverse: bool,
+    next: StateID,
+) -> Result<StateID, AllocError>
+    requires { length rows.old.items + rows_count front.now + rows_count back.now ≤ 2147483647 }
+    ensures { IfOk result (λ entry. Adds rows.old.items rows.new.items entry (chained (maker reverse front.now) (maker reverse back.now) (length rows.old.items) next)) }
+{
+    let behind = compile(rows, back, reverse, next)?;
+    compile(rows, front, reverse, behind)
+}
+
+/// Both, and a Split of them.
+#[cycle(compile)]
+fn alternate(
+    rows: &mut Vec<Row>,
+    first: &Expr,
+    second: &Expr,
+    reverse: bool,
+    next: StateID,
+) -> Result<StateID, AllocError>
+    requires { length rows.old.items + rows_count first.now + rows_count second.now + 1 ≤ 2147483647 }
+    ensures { IfOk result (λ entry. Adds rows.old.items rows.new.items entry (either (maker reverse first.now) (maker reverse second.now) (length rows.old.items) next)) }
+{
+    let first = compile(rows, first, reverse, next)?;
+    let second = compile(rows, second, reverse, next)?;
+    push(rows, Row::Split { first, second })
+}
+
+/// So many copies of a body, the last made first.
+#[cycle(compile)]
+fn repeat_exactly(
+    rows: &mut Vec<Row>,
+    body: &Expr,
+    reverse: bool,
+    count: u32,
+    next: StateID,
+) -> Result<StateID, AllocError>
+    requires { length rows.old.items + count * rows_count body.now ≤ 2147483647 }
+    ensures { IfOk result (λ entry. Adds rows.old.items rows.new.items entry (copied count (maker reverse body.now) (length rows.old.items) next)) }
+{
+    if body.rows_len() == 0 {
+        return Ok(next);
+    }
+    let mut entry = next;
+    for round in 0..count {
+        entry = compile(rows, body, reverse, entry)?;
+    }
+    Ok(entry)
+}
+
+/// So many optional rounds of a body, the last made first.
+#[cycle(compile)]
+fn repeat_up_to(
+    rows: &mut Vec<Row>,
+    body: &Expr,
+    reverse: bool,
+    greedy: bool,
+    count: u32,
+    next: StateID,
+) -> Result<StateID, AllocError>
+    requires { length rows.old.items + count * (rows_count body.now + 1) ≤ 2147483647 }
+    ensures { IfOk result (λ entry. Adds rows.old.items rows.new.items entry (optioned greedy count (maker reverse body.now) (length rows.old.items) next)) }
+{
+    let mut entry = next;
+    for round in 0..count {
+        let body_entry = compile(rows, body, reverse, entry)?;
+        entry = push(rows, choice(greedy, body_entry, next))?;
+    }
+    Ok(entry)
+}
+
+/// A Split that the body leads back to.
+#[cycle(compile)]
+fn repeat_forever(
+    rows: &mut Vec<Row>,
+    body: &Expr,
+    reverse: bool,
+    greedy: bool,
+    next: StateID,
+) -> Result<StateID, AllocError>
+    requires { length rows.old.items + rows_count body.now + 1 ≤ 2147483647 }
+    ensures { IfOk result (λ entry. Adds rows.old.items rows.new.items entry (looped greedy (maker reverse body.now) (length rows.old.items) next)) }
+{
+    let split = push(rows, Row::Fail)?;
+    let round = compile(rows, body, reverse, split)?;
+    put(rows, split.as_usize(), choice(greedy, round, next));
+    Ok(split)
+}
+
+/// Puts a row in the place of another.
+fn put(rows: &mut Vec<Row>, index: usize, row: Row)
+    requires { index < length rows.old.items }
+    ensures { rows.new.items ≡ slice_set rows.old.items index row }
+{
+    rows[index] = row;
+}

@@ -1,0 +1,136 @@
+//! The rows of all patterns, and their starts.
+
+ghost use Rattle.std.specs.Prelude.{◌≡◌, ◌==◌, ◌+◌, ◌-◌, ◌^◌, ◌≤◌, [], min, length, map, IfOk, OnOk, All};
+ghost use Rattle.std.specs.List.{list_all, list_any};
+ghost use Rattle.rx_spec.specs.Expressions.{IsLoopSafe, min_len};
+ghost use Rattle.rx_spec.specs.Rows.{patterns_from, joined, lead_in, read_as, begins_with_edge};
+ghost use Rattle.rx_expr.specs.Compiles.{Adds, AddsPatterns, patterns_count, joined_count, lead_count};
+
+use super::edge::all_begin_with_edge;
+use super::nfa::Row;
+use super::rows::{compile, id_of, push};
+use crate::expr::{Expr, ROWS_LIMIT};
+use rx_base::{ByteSet, PatternID, StateID};
+use std::alloc::AllocError;
+
+/// Learns of each expression that its repetitions are bounded. Nothing is done.
+pub(super) fn learn_safe(exprs: &[Expr])
+    ensures { All IsLoopSafe exprs.now }
+{
+    for expr in exprs {
+        let _ = expr.min_len();
+    }
+}
+
+/// Whether some expression may match without a byte.
+pub(super) fn any_empty(exprs: &[Expr]) -> bool
+    ensures { result ≡ list_any (λ e. min_len e == 0) exprs.now }
+{
+    exprs.iter().any(|expr| is_empty(expr))
+}
+
+fn is_empty(expr: &Expr) -> bool
+    ensures { result ≡ (min_len expr.now == 0) }
+{
+    expr.min_len() == 0
+}
+
+/// How many rows the patterns have, up to [`ROWS_LIMIT`].
+pub(super) fn patterns_len(exprs: &[Expr]) -> u64
+    ensures { result ≡ min (patterns_count exprs.now) (2 ^ 31) }
+{
+    let mut rows = 0;
+    for expr in exprs {
+        rows = (rows + 1 + expr.rows_len()).min(ROWS_LIMIT);
+    }
+    rows
+}
+
+/// How many rows the starts have, up to [`ROWS_LIMIT`] and two more.
+pub(super) fn starts_len(exprs: &[Expr], reverse: bool) -> u64
+    ensures value { result ≡ min (joined_count (length exprs.now)) (2 ^ 31) + lead_count (list_all (λ e. begins_with_edge reverse (read_as reverse e)) exprs.now) }
+    ensures bound { result ≤ 2 ^ 31 + 2 }
+{
+    let joined = match exprs.len() {
+        0 => 1,
+        n => (n as u64 - 1).min(ROWS_LIMIT),
+    };
+    if all_begin_with_edge(exprs, reverse) {
+        joined
+    } else {
+        joined + 2
+    }
+}
+
+/// Adds for each expression its match row, and the rows before it, to no rows.
+pub(super) fn add_patterns(
+    rows: &mut Vec<Row>,
+    starts: &mut Vec<StateID>,
+    exprs: &[Expr],
+    reverse: bool,
+) -> Result<(), AllocError>
+    requires empty { rows.old.items ≡ [] }
+    requires none { starts.old.items ≡ [] }
+    requires room { patterns_count exprs.now ≤ 2147483647 }
+    ensures { OnOk result (AddsPatterns rows.new.items starts.new.items (patterns_from 0 0 (map (read_as reverse) exprs.now))) }
+{
+    for (k, expr) in exprs.iter().enumerate() {
+        let pattern = pattern_of(k);
+        let accept = push(rows, Row::Match { pattern })?;
+        let start = compile(rows, expr, reverse, accept)?;
+        starts.push(start)?;
+    }
+    Ok(())
+}
+
+/// The id of a number that is known to be one.
+fn pattern_of(n: usize) -> PatternID
+    requires { n ≤ 2147483646 }
+    ensures { result ≡ n }
+{
+    match PatternID::new(n) {
+        Ok(id) => id,
+        Err(_) => PatternID::ZERO,
+    }
+}
+
+/// Adds the Splits that join the starts, the last pair first.
+pub(super) fn join_starts(rows: &mut Vec<Row>, starts: &[StateID]) -> Result<StateID, AllocError>
+    requires { length rows.old.items + joined_count (length starts.now) ≤ 2147483647 }
+    ensures { IfOk result (λ start. Adds rows.old.items rows.new.items start (joined (length rows.old.items) starts.now)) }
+{
+    let n = starts.len();
+    if n == 0 {
+        return push(rows, Row::Fail);
+    }
+    let mut start = starts[n - 1];
+    for round in 1..n {
+        let first = starts[n - 1 - round];
+        let second = start;
+        start = push(rows, Row::Split { first, second })?;
+    }
+    Ok(start)
+}
+
+/// Adds a Split of the anchored start and of a row that reads any byte and leads back, unless every
+/// match begins at the edge.
+pub(super) fn lead_in_rows(
+    rows: &mut Vec<Row>,
+    at_edge: bool,
+    anchored: StateID,
+) -> Result<StateID, AllocError>
+    requires { length rows.old.items + lead_count at_edge ≤ 2147483647 }
+    ensures { IfOk result (λ start. Adds rows.old.items rows.new.items start (lead_in at_edge (length rows.old.items) anchored)) }
+{
+    if at_edge {
+        return Ok(anchored);
+    }
+    let any = id_of(rows.len() + 1);
+    let first = anchored;
+    let second = any;
+    let start = push(rows, Row::Split { first, second })?;
+    let set = ByteSet::full();
+    let next = start;
+    push(rows, Row::Bytes { set, next })?;
+    Ok(start)
+}

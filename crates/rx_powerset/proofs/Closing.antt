@@ -1,0 +1,138 @@
+-- The closure of a row, where no path that reads nothing goes round: what the row is of itself, and
+-- the closures of those behind it.
+use Rattle.std.proofs.Common.{◌≡◌, ℕ, zero, suc, ◌+◌, ◌*◌, ◌<◌, ◌⊎◌, inl, inr, true, false, if◌then◌else◌, List, [], ◌∷◌, ◌++◌, length, sum_by, refl, ap, ap₂, sym, ◌∙◌, subst, arith, append-nil}
+use Rattle.std.specs.List.{flat_map}
+use Rattle.std.proofs.lemmas.List.Sums.{sum_by-cons}
+use Rattle.rx_spec.specs.Rows.{Row}
+use Rattle.rx_spec.specs.States.{row_at, Passing, Standing, Tested, reach_by, reach, closure}
+use Rattle.rx_spec.specs.Shallow.{AllBehind, Short, IsShallow}
+use Rattle.rx_powerset.specs.Closing.{own_by, ways_by}
+use Rattle.rx_powerset.proofs.Search.{Graph}
+
+reach_parts : (pass : Passing) (behind : ℕ → List ℕ) (q : ℕ) (row : Row) → reach_by pass behind q row ≡ own_by pass q row ++ flat_map behind (ways_by pass row)
+reach_parts pass behind q (Row.Bytes set next) = refl
+reach_parts pass behind q (Row.Split first second) = ap (λ l. behind first ++ l) (sym (append-nil (behind second)))
+reach_parts Standing behind q (Row.Assert look next) = refl
+reach_parts (Tested holds) behind q (Row.Assert look next) = elim (holds look) as (λ v. (if v then behind next else []) ≡ flat_map behind (if v then next ∷ [] else [])) [ true ↦ sym (append-nil (behind next)) | false ↦ refl ]
+reach_parts pass behind q (Row.Accept pattern) = refl
+reach_parts pass behind q Row.Fail = refl
+
+pub own_either : (pass : Passing) (q : ℕ) (row : Row) → (own_by pass q row ≡ []) ⊎ (own_by pass q row ≡ q ∷ [])
+own_either pass q (Row.Bytes set next) = inr refl
+own_either pass q (Row.Split first second) = inl refl
+own_either Standing q (Row.Assert look next) = inr refl
+own_either (Tested holds) q (Row.Assert look next) = inl refl
+own_either pass q (Row.Accept pattern) = inr refl
+own_either pass q Row.Fail = inl refl
+
+-- how many rows the paths from a row that read nothing meet, each as often as a path does
+abbrev weight_by : (ℕ → ℕ) → Row → ℕ
+weight_by behind (Row.Bytes set next) = 1
+weight_by behind (Row.Split first second) = 1 + behind first + behind second
+weight_by behind (Row.Assert look next) = 1 + behind next
+weight_by behind (Row.Accept pattern) = 1
+weight_by behind Row.Fail = 1
+
+unfoldable pub weight_within : List Row → ℕ → ℕ → ℕ
+weight_within rows zero q = 0
+weight_within rows (suc n) q = weight_by (λ p. weight_within rows n p) (row_at rows q)
+
+reach_same : (pass : Passing) (f g : ℕ → List ℕ) (q : ℕ) (row : Row) → AllBehind (λ p. f p ≡ g p) row → reach_by pass f q row ≡ reach_by pass g q row
+reach_same pass f g q (Row.Bytes set next) h = refl
+reach_same pass f g q (Row.Split first second) h = ap₂ (λ a b. a ++ b) h.0 h.1
+reach_same Standing f g q (Row.Assert look next) h = refl
+reach_same (Tested holds) f g q (Row.Assert look next) h = ap (λ l. if holds look then l else []) h
+reach_same pass f g q (Row.Accept pattern) h = refl
+reach_same pass f g q Row.Fail h = refl
+
+weight_same : (f g : ℕ → ℕ) (row : Row) → AllBehind (λ p. f p ≡ g p) row → weight_by f row ≡ weight_by g row
+weight_same f g (Row.Bytes set next) h = refl
+weight_same f g (Row.Split first second) h = ap₂ (λ a b. 1 + a + b) h.0 h.1
+weight_same f g (Row.Assert look next) h = ap (λ n. 1 + n) h
+weight_same f g (Row.Accept pattern) h = refl
+weight_same f g Row.Fail h = refl
+
+behind_each : (P Q : ℕ → Type 0) → ((p : ℕ) → P p → Q p) → (row : Row) → AllBehind P row → AllBehind Q row
+behind_each P Q f (Row.Bytes set next) h = tt
+behind_each P Q f (Row.Split first second) h = (f first h.0, f second h.1)
+behind_each P Q f (Row.Assert look next) h = f next h
+behind_each P Q f (Row.Accept pattern) h = tt
+behind_each P Q f Row.Fail h = tt
+
+-- one step more reaches nothing new, and adds no weight, where paths are short
+reach_stays : (rows : List Row) (pass : Passing) (n q : ℕ) → Short rows n q → reach rows pass (suc n) q ≡ reach rows pass n q
+unfolding Short reach
+reach_stays rows pass zero q h = absurd h
+reach_stays rows pass (suc n) q h =
+    reach_same pass (λ p. reach rows pass (suc n) p) (λ p. reach rows pass n p) q (row_at rows q)
+    (behind_each (λ p. Short rows n p) (λ p. reach rows pass (suc n) p ≡ reach rows pass n p) (λ p k. reach_stays rows pass n p k) (row_at rows q) h)
+
+weight_stays : (rows : List Row) (n q : ℕ) → Short rows n q → weight_within rows (suc n) q ≡ weight_within rows n q
+unfolding Short weight_within
+weight_stays rows zero q h = absurd h
+weight_stays rows (suc n) q h =
+    weight_same (λ p. weight_within rows (suc n) p) (λ p. weight_within rows n p) (row_at rows q)
+    (behind_each (λ p. Short rows n p) (λ p. weight_within rows (suc n) p ≡ weight_within rows n p) (λ p k. weight_stays rows n p k) (row_at rows q) h)
+
+-- the weight of those that it gives way to is less
+sum_of_none : (w : ℕ → ℕ) → sum_by w [] ≡ 0
+sum_of_none w = refl
+
+sum_of_one : (w : ℕ → ℕ) (a : ℕ) → sum_by w (a ∷ []) ≡ w a
+sum_of_one w a = let e : sum_by w (a ∷ []) ≡ w a + sum_by w [] = sum_by-cons w a [] in let z : sum_by w [] ≡ 0 = sum_of_none w in omega arith
+
+sum_of_two : (w : ℕ → ℕ) (a b : ℕ) → sum_by w (a ∷ b ∷ []) ≡ w a + w b
+sum_of_two w a b = let e : sum_by w (a ∷ b ∷ []) ≡ w a + sum_by w (b ∷ []) = sum_by-cons w a (b ∷ []) in let z : sum_by w (b ∷ []) ≡ w b = sum_of_one w b in omega arith
+
+none_lighter : (w : ℕ → ℕ) (n : ℕ) → 0 < n → sum_by w [] < n
+none_lighter w n h = let z : sum_by w [] ≡ 0 = sum_of_none w in omega arith
+
+ways_lighter : (pass : Passing) (w : ℕ → ℕ) (row : Row) → sum_by w (ways_by pass row) < weight_by w row
+ways_lighter pass w (Row.Bytes set next) = none_lighter w 1 (omega arith)
+ways_lighter pass w (Row.Split first second) = let e : sum_by w (first ∷ second ∷ []) ≡ w first + w second = sum_of_two w first second in omega arith
+ways_lighter Standing w (Row.Assert look next) = none_lighter w (1 + w next) (omega arith)
+ways_lighter (Tested holds) w (Row.Assert look next) =
+    elim (holds look) as (λ v. sum_by w (if v then next ∷ [] else []) < 1 + w next) [
+      | true ↦ let e : sum_by w (next ∷ []) ≡ w next = sum_of_one w next in omega arith
+      | false ↦ none_lighter w (1 + w next) (omega arith)
+    ]
+ways_lighter pass w (Row.Accept pattern) = none_lighter w 1 (omega arith)
+ways_lighter pass w Row.Fail = none_lighter w 1 (omega arith)
+
+-- as many steps as a closure takes
+abbrev pub steps : List Row → ℕ
+steps rows = length rows * length rows + 1
+
+abbrev pub weight_of : List Row → ℕ → ℕ
+weight_of rows q = weight_within rows (steps rows) q
+
+reach_next : (rows : List Row) (pass : Passing) (n q : ℕ) → reach rows pass (suc n) q ≡ reach_by pass (λ p. reach rows pass n p) q (row_at rows q)
+unfolding reach
+reach_next rows pass n q = refl
+
+weight_next : (rows : List Row) (n q : ℕ) → weight_within rows (suc n) q ≡ weight_by (λ p. weight_within rows n p) (row_at rows q)
+unfolding weight_within
+weight_next rows n q = refl
+
+pub closure_unfolds : (rows : List Row) (pass : Passing) → IsShallow rows → (q : ℕ) → closure rows pass q ≡ own_by pass q (row_at rows q) ++ flat_map (λ p. closure rows pass p) (ways_by pass (row_at rows q))
+closure_unfolds rows pass s q =
+    sym (reach_stays rows pass (steps rows) q (s.short q))
+    ∙ reach_next rows pass (steps rows) q
+    ∙ reach_parts pass (λ p. reach rows pass (steps rows) p) q (row_at rows q)
+
+pub closure_falls : (rows : List Row) (pass : Passing) → IsShallow rows → (q : ℕ) → sum_by (λ p. weight_of rows p) (ways_by pass (row_at rows q)) < weight_of rows q
+closure_falls rows pass s q =
+    subst (λ n. sum_by (λ p. weight_of rows p) (ways_by pass (row_at rows q)) < n) (sym (weight_next rows (steps rows) q) ∙ weight_stays rows (steps rows) q (s.short q))
+    (ways_lighter pass (λ p. weight_within rows (steps rows) p) (row_at rows q))
+
+-- the rows as a graph that a search goes through
+abbrev pub graph_of : (rows : List Row) (pass : Passing) → IsShallow rows → Graph
+graph_of rows pass s = record {
+  own = λ q. own_by pass q (row_at rows q);
+  branches = λ q. ways_by pass (row_at rows q);
+  gives = λ q. closure rows pass q;
+  weight = λ q. weight_of rows q;
+  own_is = λ q. own_either pass q (row_at rows q);
+  unfolds = closure_unfolds rows pass s;
+  falls = closure_falls rows pass s;
+}

@@ -1,0 +1,108 @@
+//! The rows that are reached without reading a byte.
+
+ghost use Rattle.std.specs.Prelude.{◌≡◌, ◌++◌, ◌<◌, ◌≤◌, length, reverse, OnOk, IfOk};
+ghost use Rattle.std.specs.List.{flat_map};
+ghost use Rattle.rx_spec.specs.Contexts.{holds_read};
+ghost use Rattle.rx_spec.specs.States.{row_at, closure, firsts};
+ghost use Rattle.rx_expr.specs.Nfa.{meaning, row_of, IsSound};
+ghost use Rattle.rx_powerset.specs.Closing.{own_by, ways_by, passing_of};
+
+use rx_base::{Facts, Look, StateID};
+use rx_expr::thompson::{NFA, Row};
+use std::alloc::{AllocError, Global};
+use std::collections::BTreeSet;
+
+/// What becomes of an assertion that is met.
+#[derive(Clone, Copy)]
+pub(crate) enum Passing {
+    /// It stands for itself.
+    Standing,
+    /// It is passed where it holds between the unit read last and the next one.
+    Tested {
+        last: Facts,
+        next: Facts,
+        reverse: bool,
+    },
+}
+
+/// The row of a number; past the end, one that goes on nowhere.
+#[inline]
+pub(crate) fn row_at(nfa: &NFA, id: StateID) -> Row
+    ensures row { row_of result ≡ row_at (meaning nfa.now).rows id }
+    ensures bound { id < StateID.LIMIT }
+{
+    match nfa.rows().get(id.as_usize()) {
+        Some(row) => *row,
+        None => Row::Fail,
+    }
+}
+
+/// Whether an assertion holds, in the order of reading.
+fn holds(look: Look, last: Facts, next: Facts, reverse: bool) -> bool
+    ensures { result ≡ holds_read reverse look last next }
+{
+    if reverse {
+        Facts::decide(look, next, last)
+    } else {
+        Facts::decide(look, last, next)
+    }
+}
+
+/// The rows that are reached from some rows without reading a byte: the preferred first, and each
+/// once.
+pub(crate) fn closed(
+    alloc: Global,
+    nfa: &NFA,
+    from: &[StateID],
+    passing: &Passing,
+) -> Result<Vec<StateID>, AllocError>
+    requires { IsSound nfa.now }
+    ensures rows { IfOk result (λ v. v.items ≡ firsts (flat_map (λ q. closure (meaning nfa.now).rows (passing_of passing.now) q) from.now)) }
+    ensures bound { IfOk result (λ v. length v.items ≤ StateID.LIMIT) }
+{
+    let mut seen = BTreeSet::new(alloc);
+    let mut found = Vec::new(alloc);
+    let mut waiting: Vec<StateID> = from.iter().rev().copied().collect(alloc)?;
+    'search: while let Some(id) = waiting.pop() {
+        if seen.insert(id)? {
+            visit(nfa, id, passing, &mut found, &mut waiting)?;
+        }
+    }
+    Ok(found)
+}
+
+/// Lists a row where the search ends at it, and else puts the rows behind it on the stack, the
+/// preferred on top.
+fn visit(
+    nfa: &NFA,
+    id: StateID,
+    passing: &Passing,
+    found: &mut Vec<StateID>,
+    waiting: &mut Vec<StateID>,
+) -> Result<(), AllocError>
+    ensures bound { id < StateID.LIMIT }
+    ensures found { OnOk result (found.new.items ≡ found.old.items ++ own_by (passing_of passing.now) id (row_at (meaning nfa.now).rows id)) }
+    ensures waiting { OnOk result (reverse waiting.new.items ≡ ways_by (passing_of passing.now) (row_at (meaning nfa.now).rows id) ++ reverse waiting.old.items) }
+{
+    match row_at(nfa, id) {
+        Row::Bytes { .. } | Row::Match { .. } => found.push(id)?,
+        Row::Split { first, second } => {
+            waiting.push(second)?;
+            waiting.push(first)?;
+        }
+        Row::Look { look, next: behind } => match *passing {
+            Passing::Standing => found.push(id)?,
+            Passing::Tested {
+                last,
+                next,
+                reverse,
+            } => {
+                if holds(look, last, next, reverse) {
+                    waiting.push(behind)?;
+                }
+            }
+        },
+        Row::Fail => {}
+    }
+    Ok(())
+}

@@ -1,0 +1,243 @@
+//! Powerset states.
+
+ghost use Rattle.std.specs.Prelude.{◌≡◌, ◌++◌, ◌<◌, ◌≤◌, IfOk, OnOk, length, slice_index};
+ghost use Rattle.std.specs.List.{flat_map, list_any};
+ghost use Rattle.rx_spec.specs.States.{dead_state, start_state, step, state_at, row_at, cut, to_first_match, is_assert, is_accept, pattern_of, target};
+ghost use Rattle.rx_spec.specs.Sizes.{state_size};
+ghost use Rattle.rx_spec.specs.Bytes.{contains};
+ghost use Rattle.rx_base.specs.ByteSet.{set_of};
+ghost use Rattle.rx_base.specs.Unit.{unit_number};
+ghost use Rattle.rx_expr.specs.Nfa.{meaning, IsSound};
+
+use crate::closure::{Passing, closed, row_at};
+use rx_base::{ByteSet, Facts, MatchKind, PatternID, Start, StateID, Unit};
+use rx_expr::thompson::{NFA, Row};
+use std::alloc::{AllocError, Global};
+
+/// A state of the powerset automaton of an NFA.
+#[derive(PartialEq, Eq, PartialOrd, Ord, Hash, Drop)]
+pub struct PowerState {
+    /// The rows that may go on, the preferred first: each reads a byte, matches or asserts.
+    rows: Vec<StateID>,
+    /// What is known of the unit read last, as far as some assertion asks for it.
+    context: Facts,
+    /// The patterns that matched before that unit, the preferred first.
+    label: Vec<PatternID>,
+    ghost few_rows: { length rows.items ≤ 2147483647 },
+    ghost few_patterns: { length label.items ≤ 2147483647 },
+}
+
+impl PowerState {
+    ghost use Rattle.rx_powerset.specs.PowerState.{state_of};
+
+    /// The state in which nothing goes on and nothing matched.
+    pub fn dead(alloc: Global) -> PowerState
+        ensures { state_of result ≡ dead_state }
+    {
+        PowerState {
+            rows: Vec::new(alloc),
+            context: Facts::none(),
+            label: Vec::new(alloc),
+        }
+    }
+
+    /// The state in which a search starts at a row, in a start context.
+    pub fn start(
+        alloc: Global,
+        nfa: &NFA,
+        row: StateID,
+        start: Start,
+    ) -> Result<PowerState, AllocError>
+        requires { IsSound nfa.now }
+        ensures { IfOk result (λ s. state_of s ≡ start_state (meaning nfa.now) row start) }
+    {
+        let known = Facts::of_start(nfa.line_terminator(), start);
+        PowerState::at(alloc, nfa, &[row], known, Vec::new(alloc))
+    }
+
+    /// The state after a unit is read.
+    ///
+    /// The assertions of this one are decided by the unit, matches are told and, leftmost-first, cut
+    /// off what is less preferred, and the rows that are left read the unit.
+    pub fn step(
+        &self,
+        alloc: Global,
+        nfa: &NFA,
+        kind: MatchKind,
+        unit: Unit,
+    ) -> Result<PowerState, AllocError>
+        requires { IsSound nfa.now }
+        ensures { IfOk result (λ s. state_of s ≡ step (meaning nfa.now) kind (state_of self.now) (unit_number unit)) }
+    {
+        let known = Facts::of_unit(nfa.line_terminator(), unit);
+        let passing = Passing::Tested {
+            last: self.context,
+            next: known,
+            reverse: nfa.is_reverse(),
+        };
+        let settled = closed(alloc, nfa, &self.rows, &passing)?;
+        let going = cut(nfa, kind, &settled);
+        let label = matched(alloc, nfa, going)?;
+        let targets = targets(alloc, nfa, going, unit)?;
+        PowerState::at(alloc, nfa, &targets, known, label)
+    }
+
+    /// The state whose rows are reached from some rows.
+    fn at(
+        alloc: Global,
+        nfa: &NFA,
+        from: &[StateID],
+        known: Facts,
+        label: Vec<PatternID>,
+    ) -> Result<PowerState, AllocError>
+        requires sound { IsSound nfa.now }
+        requires few { length label.items ≤ 2147483647 }
+        ensures { IfOk result (λ s. state_of s ≡ state_at (meaning nfa.now) from.now known label.items) }
+    {
+        let rows = closed(alloc, nfa, from, &Passing::Standing)?;
+        let context = if has_look(nfa, &rows) {
+            nfa.asked_facts().intersect(known)
+        } else {
+            Facts::none()
+        };
+        Ok(PowerState {
+            rows,
+            context,
+            label,
+        })
+    }
+
+    /// The bytes that the state counts for where a limit is set on the states of a construction: 8,
+    /// and 4 for each row and each pattern.
+    pub fn size(&self) -> u64
+        ensures { result ≡ state_size (state_of self.now) }
+    {
+        8 + 4 * self.rows.len() as u64 + 4 * self.label.len() as u64
+    }
+
+    /// How many patterns matched.
+    pub fn pattern_len(&self) -> usize
+        ensures { result ≡ length (state_of self.now).label }
+    {
+        self.label.len()
+    }
+
+    /// A pattern that matched, by its place among them.
+    pub fn pattern(&self, i: usize) -> PatternID
+        requires { i < length (state_of self.now).label }
+        ensures { result ≡ slice_index (state_of self.now).label i }
+    {
+        self.label[i]
+    }
+}
+
+/// Whether some of the rows is an assertion.
+fn has_look(nfa: &NFA, rows: &[StateID]) -> bool
+    ensures { result ≡ list_any (λ q. is_assert (row_at (meaning nfa.now).rows q)) rows.now }
+{
+    rows.iter().any(|id| is_look(nfa, *id))
+}
+
+fn is_look(nfa: &NFA, id: StateID) -> bool
+    ensures { result ≡ is_assert (row_at (meaning nfa.now).rows id) }
+{
+    match row_at(nfa, id) {
+        Row::Look { .. } => true,
+        _ => false,
+    }
+}
+
+fn is_match(nfa: &NFA, id: StateID) -> bool
+    ensures { result ≡ is_accept (row_at (meaning nfa.now).rows id) }
+{
+    match row_at(nfa, id) {
+        Row::Match { .. } => true,
+        _ => false,
+    }
+}
+
+/// The rows that go on: leftmost-first none behind the first match.
+fn cut<'r>(nfa: &NFA, kind: MatchKind, rows: &'r [StateID]) -> &'r [StateID]
+    ensures { result.now ≡ cut kind (meaning nfa.now).rows rows.now }
+{
+    match kind {
+        MatchKind::All => rows,
+        MatchKind::LeftmostFirst => to_first_match(nfa, rows),
+    }
+}
+
+/// The rows up to the first match, that one included.
+fn to_first_match<'r>(nfa: &NFA, rows: &'r [StateID]) -> &'r [StateID]
+    ensures { result.now ≡ to_first_match (meaning nfa.now).rows rows.now }
+{
+    for (i, id) in rows.iter().enumerate() {
+        if is_match(nfa, *id) {
+            return &rows[..i + 1];
+        }
+    }
+    rows
+}
+
+/// The patterns that rows match.
+fn matched(alloc: Global, nfa: &NFA, rows: &[StateID]) -> Result<Vec<PatternID>, AllocError>
+    ensures { IfOk result (λ v. v.items ≡ flat_map (λ q. pattern_of (row_at (meaning nfa.now).rows q)) rows.now) }
+{
+    let mut patterns = Vec::new(alloc);
+    for id in rows {
+        add_pattern(nfa, *id, &mut patterns)?;
+    }
+    Ok(patterns)
+}
+
+/// Adds the pattern that a row matches.
+fn add_pattern(nfa: &NFA, id: StateID, patterns: &mut Vec<PatternID>) -> Result<(), AllocError>
+    ensures { OnOk result (patterns.new.items ≡ patterns.old.items ++ pattern_of (row_at (meaning nfa.now).rows id)) }
+{
+    if let Row::Match { pattern } = row_at(nfa, id) {
+        patterns.push(pattern)?;
+    }
+    Ok(())
+}
+
+/// Where the rows lead that read a unit.
+fn targets(
+    alloc: Global,
+    nfa: &NFA,
+    rows: &[StateID],
+    unit: Unit,
+) -> Result<Vec<StateID>, AllocError>
+    ensures { IfOk result (λ v. v.items ≡ flat_map (λ q. target (unit_number unit) (row_at (meaning nfa.now).rows q)) rows.now) }
+{
+    let mut targets = Vec::new(alloc);
+    for id in rows {
+        add_target(nfa, *id, unit, &mut targets)?;
+    }
+    Ok(targets)
+}
+
+/// Adds the row behind one that reads a unit.
+fn add_target(
+    nfa: &NFA,
+    id: StateID,
+    unit: Unit,
+    targets: &mut Vec<StateID>,
+) -> Result<(), AllocError>
+    ensures { OnOk result (targets.new.items ≡ targets.old.items ++ target (unit_number unit) (row_at (meaning nfa.now).rows id)) }
+{
+    if let Row::Bytes { set, next } = row_at(nfa, id) {
+        if reads(&set, unit) {
+            targets.push(next)?;
+        }
+    }
+    Ok(())
+}
+
+/// Whether a unit is in a set; the end mark is in none.
+fn reads(set: &ByteSet, unit: Unit) -> bool
+    ensures { result ≡ contains (set_of set.now) (unit_number unit) }
+{
+    match unit {
+        Unit::Byte(byte) => set.contains(byte),
+        Unit::Eoi => false,
+    }
+}

@@ -1,0 +1,98 @@
+-- The first blocks: rows with equal labels.
+use Rattle.std.proofs.Common.{◌≡◌, ℕ, ◌+◌, ◌<◌, ◌≤◌, true, false, List, [], ◌∷◌, length, get_or, eqb, refl, sym, ap, ◌∙◌, ⊎_elim, arith, eqb-true, eq-eqb, ne_eqb, ◌||◌}
+use Rattle.std.specs.List.{All, flat_map}
+use Rattle.std.proofs.lemmas.Bool.{cases_Bool, cases_eq, cases_lt}
+use Rattle.std.proofs.lemmas.List.Folds.{list_any-append}
+use Rattle.std.proofs.lemmas.List.Elements.{Contains-get_or, All-append, All-nil}
+use Rattle.std.proofs.lemmas.Map.Views.{Contains-from_any}
+use Rattle.rx_refine.specs.Moves.{Moves, AreMoves, column, sources, next_row}
+use Rattle.rx_refine.specs.Places.{places_of}
+use Rattle.rx_refine.specs.Parts.{Parts, IsPartition, SplitsBy, block_of, is_in}
+use Rattle.rx_refine.specs.Labelled.{IsByLabel}
+use Rattle.rx_refine.proofs.Places.{Contains-places_of, within-places_of, value-places_of}
+use Rattle.rx_refine.proofs.Grouping.{any-from_Contains}
+
+-- a place is among the places of the value that stands there
+pub is_in-places_of : (xs : List ℕ) (v x : ℕ) → x < length xs → is_in (places_of xs v) x ≡ eqb (get_or xs x 0) v
+is_in-places_of xs v x l =
+    ⊎_elim
+    (λ (e : get_or xs x 0 ≡ v). any-from_Contains x (places_of xs v) (Contains-places_of xs v x l e) ∙ sym (eq-eqb (get_or xs x 0) v e))
+    (λ (ne : get_or xs x 0 ≡ v → ⊥).
+    ⊎_elim
+    (λ (t : is_in (places_of xs v) x ≡ true). absurd (ne (value-places_of xs v x (Contains-from_any (λ a b. eqb-true a b) x (places_of xs v) t))))
+    (λ (f : is_in (places_of xs v) x ≡ false). f ∙ sym (ne_eqb (get_or xs x 0) v ne))
+    (cases_Bool (is_in (places_of xs v) x)))
+    (cases_eq (get_or xs x 0) v)
+
+pub places_of-small : (xs : List ℕ) (v n : ℕ) → length xs ≡ n → All (λ row. row < n) (places_of xs v)
+places_of-small xs v n e k d l =
+    let w : get_or (places_of xs v) k d < length xs = within-places_of xs v (get_or (places_of xs v) k d) (Contains-get_or (places_of xs v) k d l) in
+    omega arith
+
+-- the labels below a bound are told apart
+pub record IsByFirst (labels : List ℕ) (p : Parts) (n : ℕ) : Type 0 where
+  pub partition : IsPartition p
+  pub rows_len : length p.rows ≡ length labels
+  pub clear : (block : ℕ) → get_or p.marks block 0 ≡ 0
+  pub labelled : (x y v : ℕ) → x < length labels → y < length labels → v < n → block_of p x ≡ block_of p y → get_or labels x 0 ≡ v → get_or labels y 0 ≡ v
+  pub together : (x y : ℕ) → x < length labels → y < length labels → get_or labels x 0 ≡ get_or labels y 0 → block_of p x ≡ block_of p y
+
+pub IsByFirst-none : (labels : List ℕ) (p : Parts) → IsPartition p → length p.rows ≡ length labels → ((block : ℕ) → get_or p.marks block 0 ≡ 0) → ((row : ℕ) → row < length labels → block_of p row ≡ 0) → IsByFirst labels p 0
+IsByFirst-none labels p w e clear zeros = record {
+  partition = w;
+  rows_len = e;
+  clear = clear;
+  labelled = λ x y v lx ly l. absurd (omega arith);
+  together = λ x y lx ly f. zeros x lx ∙ sym (zeros y ly);
+}
+
+module _ (labels : List ℕ) (p q : Parts) (n : ℕ) (a : IsByFirst labels p n) (s : SplitsBy p (places_of labels n) q) where
+  in_rows : (x : ℕ) → x < length labels → x < length p.rows
+  in_rows x l = let e = a.rows_len in omega arith
+
+  more_labelled : (x y v : ℕ) → x < length labels → y < length labels → v < n + 1 → block_of q x ≡ block_of q y → get_or labels x 0 ≡ v → get_or labels y 0 ≡ v
+  more_labelled x y v lx ly l e is =
+      ⊎_elim
+      (λ (old : v < n). a.labelled x y v lx ly old (s.finer x y (in_rows x lx) (in_rows y ly) e) is)
+      (λ (g : n ≤ v).
+      let now : v ≡ n = omega arith in
+      let i : is_in (places_of labels n) x ≡ is_in (places_of labels n) y = s.agrees x y (in_rows x lx) (in_rows y ly) e in
+      let t : eqb (get_or labels y 0) n ≡ true = sym (is_in-places_of labels n y ly) ∙ sym i ∙ is_in-places_of labels n x lx ∙ eq-eqb (get_or labels x 0) n (is ∙ now) in
+      eqb-true (get_or labels y 0) n t ∙ sym now)
+      (cases_lt v n)
+
+  pub IsByFirst_more : IsByFirst labels q (n + 1)
+  IsByFirst_more = record {
+    partition = s.partition;
+    rows_len = s.rows_len ∙ a.rows_len;
+    clear = s.clear;
+    labelled = more_labelled;
+    together = λ x y lx ly e.
+        s.kept x y (in_rows x lx) (in_rows y ly) (a.together x y lx ly e)
+        (is_in-places_of labels n x lx ∙ ap (λ v. eqb v n) e ∙ sym (is_in-places_of labels n y ly));
+  }
+
+pub IsByLabel-from_IsByFirst : (labels : List ℕ) (p : Parts) (n : ℕ) → All (λ label. label < n) labels → IsByFirst labels p n → IsByLabel labels p
+IsByLabel-from_IsByFirst labels p n small a = record {
+  partition = a.partition;
+  rows_len = a.rows_len;
+  clear = a.clear;
+  labelled = λ x y lx ly e. sym (a.labelled x y (get_or labels x 0) lx ly (small x 0 lx) e refl);
+  together = a.together;
+}
+
+-- ---- the rows that a unit leads to one of several rows
+pub is_in-flat_map : (m : Moves) (rows : List ℕ) (unit row : ℕ) → row < length (column m unit) → is_in (flat_map (λ r. sources m r unit) rows) row ≡ is_in rows (next_row m row unit)
+is_in-flat_map m [] unit row l = refl
+is_in-flat_map m (r ∷ rs) unit row l =
+    list_any-append (eqb row) (sources m r unit) (flat_map (λ r. sources m r unit) rs)
+    ∙ ap (λ s. s || is_in (flat_map (λ r. sources m r unit) rs) row) (is_in-places_of (column m unit) r row l)
+    ∙ ap (λ s. eqb (next_row m row unit) r || s) (is_in-flat_map m rs unit row l)
+
+pub flat_map-small : (m : Moves) (rows : List ℕ) (unit : ℕ) → AreMoves m → unit < m.units → 0 < m.rows → All (λ row. row < m.rows) (flat_map (λ r. sources m r unit) rows)
+flat_map-small m [] unit a h some = All-nil (λ row. row < m.rows)
+flat_map-small m (r ∷ rs) unit a h some = All-append (λ row. row < m.rows) (sources m r unit) (flat_map (λ r. sources m r unit) rs) (places_of-small (column m unit) r m.rows (a.lengths unit some h)) (flat_map-small m rs unit a h some)
+
+-- a source is a row
+pub source_below : (m : Moves) (row unit i x : ℕ) → AreMoves m → row < m.rows → unit < m.units → i < length (sources m row unit) → x ≡ get_or (sources m row unit) i 0 → x < m.rows
+source_below m row unit i x a r u l e = rw e (places_of-small (column m unit) row m.rows (a.lengths unit (omega arith) u) i 0 l)

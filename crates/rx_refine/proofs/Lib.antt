@@ -1,0 +1,13 @@
+pub mod Places
+pub mod Grouping
+pub mod Columns
+pub mod Splitting
+pub mod Halving
+pub mod Marking
+pub mod Splits
+pub mod Refining
+pub mod Totals
+pub mod Cost
+pub mod Labels
+pub mod Rounds
+pub mod Room

@@ -1,0 +1,6 @@
+pub mod Moves
+pub mod Places
+pub mod Groups
+pub mod Parts
+pub mod Kept
+pub mod Labelled

@@ -1,0 +1,118 @@
+//! The refinement.
+
+ghost use Rattle.std.specs.Prelude.{◌≡◌, ℕ, ◌+◌, ◌<◌, ◌≤◌, ◌^◌, ◌++◌, length, All, IfOk, OnOk};
+ghost use Rattle.std.specs.List.{flat_map, sum_by};
+ghost use Rattle.rx_refine.specs.Moves.{AreMoves, Moves, sources, read_limit, AreAlikeByNumber, AreToldByNumber, AreWithoutGaps};
+ghost use Rattle.rx_refine.specs.Kept.{parts};
+ghost use Rattle.rx_refine.specs.Labelled.{IsByLabel};
+
+use crate::groups::Groups;
+use crate::lists::Incoming;
+use crate::partition::Partition;
+use rx_base::Steps;
+use std::alloc::{AllocError, Global};
+
+/// For each row the number of its block. Two rows are in one block exactly where they behave alike for
+/// the labels `first`: every word of units leads from both to rows with equal labels.
+///
+/// Blocks are taken in the order of their numbers. While a block is worked through, each block is split
+/// into the rows that a unit leads into the taken block and those that it doesn't. The smaller part of
+/// a split gets a new number, so it is taken later; the larger part keeps its number, so it is taken
+/// later where it wasn't taken yet.
+pub fn refine<L>(
+    alloc: Global,
+    incoming: &Incoming<L>,
+    first: &[u32],
+    steps: &mut Steps<L>,
+) -> Result<Vec<u32>, AllocError>
+    requires labels_len { length first.now ≡ incoming.now.rows }
+    requires labels { All (λ label. label < incoming.now.rows) first.now }
+    requires room { steps.old + read_limit incoming.now < 2 ^ 64 }
+    ensures len { IfOk result (λ blocks. length blocks.items ≡ incoming.now.rows) }
+    ensures alike { IfOk result (λ blocks. AreAlikeByNumber incoming.now first.now blocks.items) }
+    ensures told { IfOk result (λ blocks. AreToldByNumber incoming.now first.now blocks.items) }
+    ensures numbers { IfOk result (λ blocks. All (λ block. block < incoming.now.rows) blocks.items) }
+    ensures no_gaps { IfOk result (λ blocks. AreWithoutGaps blocks.items) }
+
+    // Where memory runs out there were no more steps either.
+    ensures steps { steps.new ≤ steps.old + read_limit incoming.now }
+    ensures rising { steps.old ≤ steps.new }
+{
+    let units = incoming.units();
+    let mut touched = Vec::new(alloc);
+    let mut partition = by_label(alloc, first, &mut touched)?;
+    let mut members = Vec::new(alloc);
+    let mut hits = Vec::new(alloc);
+    let mut taken = 0;
+    while taken < partition.len() {
+        members.clear();
+        members.extend_from_slice(partition.members(taken))?;
+        taken += 1;
+        for unit in 0..units {
+            gather(incoming, &members, unit, &mut hits, steps)?;
+            partition.split(&hits, &mut touched)?;
+        }
+    }
+    Ok(partition.into_blocks())
+}
+
+/// The partition into rows with equal labels.
+fn by_label(alloc: Global, first: &[u32], touched: &mut Vec<u32>) -> Result<Partition, AllocError>
+    requires few { length first.now ≤ 2 ^ 31 }
+    requires small { All (λ label. label < length first.now) first.now }
+    ensures { IfOk result (λ partition. IsByLabel first.now (parts partition)) }
+{
+    let groups = Groups::new(alloc, first)?;
+    let mut partition = Partition::new(alloc, first.len())?;
+    for label in 0..first.len() {
+        partition.split(groups.rows_of(label), touched)?;
+    }
+    Ok(partition)
+}
+
+/// Puts into `hits` the rows from which the unit leads to one of `members`.
+fn gather<L>(
+    incoming: &Incoming<L>,
+    members: &[u32],
+    unit: usize,
+    hits: &mut Vec<u32>,
+    steps: &mut Steps<L>,
+) -> Result<(), AllocError>
+    requires moves { AreMoves incoming.now }
+    requires unit { unit < incoming.now.units }
+    requires members { All (λ row. row < incoming.now.rows) members.now }
+    requires room { steps.old + sum_by (λ row. 1 + length (sources incoming.now row unit)) members.now < 2 ^ 64 }
+    ensures hits { OnOk result (hits.new.items ≡ flat_map (λ row. sources incoming.now row unit) members.now) }
+    ensures steps { steps.new ≤ steps.old + sum_by (λ row. 1 + length (sources incoming.now row unit)) members.now }
+    ensures rising { steps.old ≤ steps.new }
+{
+    hits.clear();
+    for member in members {
+        add_sources(incoming, *member as usize, unit, hits, steps)?;
+    }
+    Ok(())
+}
+
+/// Adds the rows from which the unit leads to `row`.
+fn add_sources<L>(
+    incoming: &Incoming<L>,
+    row: usize,
+    unit: usize,
+    hits: &mut Vec<u32>,
+    steps: &mut Steps<L>,
+) -> Result<(), AllocError>
+    requires moves { AreMoves incoming.now }
+    requires row { row < incoming.now.rows }
+    requires unit { unit < incoming.now.units }
+    requires room { steps.old + (1 + length (sources incoming.now row unit)) < 2 ^ 64 }
+    ensures hits { OnOk result (hits.new.items ≡ hits.old.items ++ sources incoming.now row unit) }
+    ensures steps { steps.new ≤ steps.old + (1 + length (sources incoming.now row unit)) }
+    ensures rising { steps.old ≤ steps.new }
+{
+    let count = incoming.count(row, unit, steps);
+    for i in 0..count {
+        let source = incoming.source(row, unit, i, steps);
+        hits.push(source as u32)?;
+    }
+    Ok(())
+}

@@ -1,0 +1,144 @@
+//! The lists of rows that lead to a row.
+
+ghost use Rattle.std.specs.Prelude.{◌≡◌, ℕ, ◌+◌, ◌-◌, ◌*◌, ◌<◌, ◌≤◌, ◌^◌, length, slice_index, All, IfOk};
+ghost use Rattle.rx_refine.specs.Moves.{Moves, AreMoves, sources, next_row, AreColumns};
+
+use crate::groups::Groups;
+use rx_base::Steps;
+use std::alloc::{AllocError, Global};
+use std::marker::{Model, PhantomData};
+
+/// Which rows of a table lead to a row on a unit. Each read is counted by a ledger `L`.
+///
+/// Contracts see the table: its rows, its units and the next row for each.
+#[derive(Drop)]
+pub struct Incoming<L> {
+    rows: usize,
+    units: usize,
+    /// For each unit the rows, grouped by the row to which the unit leads.
+    lists: Vec<Groups>,
+    ledger: PhantomData<L>,
+}
+
+impl<L> Model for Incoming<L> {
+    ghost use Rattle.std.specs.Prelude.{ℕ, List};
+    ghost use Rattle.rx_refine.specs.Moves.{Moves, AreMoves};
+
+    ghost Value = { Moves };
+
+    ghost view = { λ a. record { rows = a.rows; units = a.units; columns = a.lists.items } };
+
+    ghost invariant = { λ a. AreMoves (record { rows = a.rows; units = a.units; columns = a.lists.items }) };
+}
+
+impl<L> Incoming<L> {
+    /// The lists of the table in which unit `unit` leads from row `row` to
+    /// `next[row * units + unit]`.
+    pub fn new(
+        alloc: Global,
+        rows: usize,
+        units: usize,
+        next: &[u32],
+    ) -> Result<Incoming<L>, AllocError>
+        requires few { rows ≤ 2 ^ 31 }
+        requires cells { length next.now ≡ rows * units }
+        requires nexts { All (λ row. row < rows) next.now }
+        ensures rows { IfOk result (λ incoming. incoming.rows ≡ rows) }
+        ensures units { IfOk result (λ incoming. incoming.units ≡ units) }
+        ensures next { IfOk result (λ incoming. (row unit : ℕ) → row < rows → unit < units → next_row incoming row unit ≡ slice_index next.now (row * units + unit)) }
+        ensures moves { IfOk result AreMoves }
+    {
+        let lists = if rows == 0 {
+            Vec::new(alloc)
+        } else {
+            lists_of(alloc, rows, units, next)?
+        };
+        Ok(Incoming {
+            rows,
+            units,
+            lists,
+            ledger: PhantomData,
+        })
+    }
+
+    /// How many rows lead to `row` on `unit`. This is one step.
+    pub fn count(&self, row: usize, unit: usize, steps: &mut Steps<L>) -> usize
+        requires row { row < self.now.rows }
+        requires unit { unit < self.now.units }
+        requires room { steps.old < 2 ^ 64 - 1 }
+        ensures count { result ≡ length (sources self.now row unit) }
+        ensures steps { steps.new ≡ steps.old + 1 }
+    {
+        steps.tick();
+        self.lists[unit].rows_of(row).len()
+    }
+
+    /// The `i`-th row, in rising order and from 0 on, that leads to `row` on `unit`. This is one step.
+    pub fn source(&self, row: usize, unit: usize, i: usize, steps: &mut Steps<L>) -> usize
+        requires row { row < self.now.rows }
+        requires unit { unit < self.now.units }
+        requires i { i < length (sources self.now row unit) }
+        requires room { steps.old < 2 ^ 64 - 1 }
+        ensures source { result ≡ slice_index (sources self.now row unit) i }
+        ensures steps { steps.new ≡ steps.old + 1 }
+    {
+        steps.tick();
+        self.lists[unit].rows_of(row)[i] as usize
+    }
+
+    /// How many rows the table has.
+    pub fn rows(&self) -> usize
+        ensures rows { result ≡ self.now.rows }
+        ensures moves { AreMoves self.now }
+    {
+        self.rows
+    }
+
+    /// How many units the table has.
+    pub fn units(&self) -> usize
+        ensures units { result ≡ self.now.units }
+        ensures moves { AreMoves self.now }
+    {
+        self.units
+    }
+}
+
+/// For each unit the rows, grouped by the row to which the unit leads.
+fn lists_of(
+    alloc: Global,
+    rows: usize,
+    units: usize,
+    next: &[u32],
+) -> Result<Vec<Groups>, AllocError>
+    requires few { rows ≤ 2 ^ 31 }
+    requires cells { length next.now ≡ rows * units }
+    requires nexts { All (λ row. row < rows) next.now }
+    ensures { IfOk result (λ lists. AreColumns rows units next.now units lists.items) }
+{
+    let mut lists = Vec::new(alloc);
+    for unit in 0..units {
+        let column = column_of(alloc, rows, units, next, unit)?;
+        lists.push(Groups::new(alloc, &column)?)?;
+    }
+    Ok(lists)
+}
+
+/// The row to which the unit leads, for each row.
+fn column_of(
+    alloc: Global,
+    rows: usize,
+    units: usize,
+    next: &[u32],
+    unit: usize,
+) -> Result<Vec<u32>, AllocError>
+    requires cells { length next.now ≡ rows * units }
+    requires unit { unit < units }
+    ensures len { IfOk result (λ column. length column.items ≡ rows) }
+    ensures next { IfOk result (λ column. (row : ℕ) → row < rows → slice_index column.items row ≡ slice_index next.now (row * units + unit)) }
+{
+    let mut column = Vec::with_capacity(alloc, rows)?;
+    for row in 0..rows {
+        column.push(next[row * units + unit])?;
+    }
+    Ok(column)
+}

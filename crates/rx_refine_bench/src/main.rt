@@ -1,0 +1,71 @@
+//! Times the refinement on one table: `rx_refine_bench KIND ROWS UNITS`, where KIND is `chain`, `random`
+//! or `grid`.
+//!
+//! Standard output says how many blocks there are, and the steps taken beside their limit. Standard
+//! error says how long the lists took to build, and how long the refinement took.
+#![tactic(auto)]
+
+ghost use Rattle.std.specs.Prelude.{◌≡◌, ℕ, ◌+◌, ◌*◌, ◌<◌, ◌≤◌, ◌^◌, length, All, IfOk};
+
+mod tables;
+
+use anyhow::{Context, Result, ensure};
+use rx_base::Tally;
+use rx_refine::{Incoming, Steps, refine};
+use std::alloc::Global;
+use std::rt::Clock;
+use std::time::Instant;
+use std::{env, io};
+use tables::Kind;
+
+fn main(rt: HostRuntime) -> Result<()> {
+    let mut words = env::args(&rt)?;
+    let _program = words.next();
+    let kind = words.next().context("no kind of table")?;
+    let rows = number(words.next())?;
+    let units = number(words.next())?;
+    ensure!(2 <= rows && rows <= 1_000_000, "{rows} rows");
+    ensure!(units <= 1000, "{units} units");
+    let kind = match kind.as_str() {
+        "chain" => Kind::Chain,
+        "random" => Kind::Random,
+        _ => Kind::Grid,
+    };
+    measure(&rt, rt.alloc(), kind, rows, units)?;
+    Ok(())
+}
+
+/// The number that a word spells.
+fn number(word: Option<String>) -> Result<usize> {
+    let word = word.context("no number")?;
+    Ok(word.as_str().parse::<usize>().context("a number")?)
+}
+
+/// Refines one table, and prints what it took.
+fn measure(
+    rt: &(impl Print + Eprint + Clock),
+    alloc: Global,
+    kind: Kind,
+    rows: usize,
+    units: usize,
+) -> io::Result<()>
+    requires some { 2 ≤ rows }
+    requires rows { rows ≤ 1000000 }
+    requires units { units ≤ 1000 }
+{
+    let next = tables::next_rows(alloc, kind, rows, units)?;
+    let labels = tables::labels(alloc, kind, rows)?;
+    let begin = Instant::now(rt)?;
+    let incoming: Incoming<Tally> = Incoming::new(alloc, rows, units, &next)?;
+    let built = begin.elapsed(rt)?;
+    let mut steps = Steps::new(Tally);
+    let middle = Instant::now(rt)?;
+    let blocks = refine(alloc, &incoming, &labels, &mut steps)?;
+    let refined = middle.elapsed(rt)?;
+    let count = blocks.iter().max().map_or(0, |most| u64::from(*most) + 1);
+    let digits = usize::BITS - rows.leading_zeros();
+    let limit = (2 * units * rows) as u64 * u64::from(digits);
+    let taken = steps.count();
+    println!(rt; "{count} blocks, {taken} steps of at most {limit}")?;
+    eprintln!(rt; "lists {built:?}, refinement {refined:?}")
+}

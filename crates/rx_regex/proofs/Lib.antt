@@ -1,0 +1,5 @@
+pub mod Turns
+pub mod Walking
+pub mod Begun
+pub mod Joining
+pub mod Words
