@@ -1,5 +1,5 @@
 -- At most one reply fits a command line and the bytes that were taken.
-use Rattle.std.proofs.Common.{◌≡◌, ◌≢◌, ◌⊎◌, inl, inr, ℕ, ◌<◌, ◌≤◌, Bool, true, false, cond, ltb, List, [], ◌∷◌, length, Option, Some, None, Result, Ok, Err, refl, sym, ap, ◌∙◌, arith}
+use Rattle.std.proofs.Common.{◌≡◌, ℕ, ◌≤◌, Bool, true, false, cond, ltb, List, [], ◌∷◌, length, Option, Some, None, Result, Ok, Err, refl, sym, ap, ◌∙◌}
 use Rattle.std.specs.Prelude.{codes}
 use Rattle.std.specs.Str.{bytes_eq}
 use Rattle.std.proofs.lemmas.Slice.Eq.{bytes_eq-Decides}
@@ -10,7 +10,7 @@ use Rattle.rx_spec.specs.Searches.{Verdict}
 use Rattle.rx_main.specs.Faults.{Fault}
 use Rattle.rx_main.specs.PlanLine.{Chosen}
 use Rattle.rx_main.specs.Reading.{Spelled, script_of}
-use Rattle.rx_main.specs.Replies.{Reply, Cause, is_built, cause_of, outcome_of, IsFind, most_bytes, IsAnswer, IsReplyTo, Asks, Solves, Replies}
+use Rattle.rx_main.specs.Replies.{Reply, Cause, is_built, cause_of, outcome_of, IsFind, most_bytes, IsReplyTo, Solves, Replies}
 use Rattle.rx_main.proofs.Scripts.{script_read}
 
 -- ---- the reply, as a function
