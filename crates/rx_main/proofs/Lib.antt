@@ -18,4 +18,5 @@ pub mod Plans
 pub mod Scripts
 pub mod Outcomes
 pub mod Plain
+pub mod Single
 pub mod Refusals

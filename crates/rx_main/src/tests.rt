@@ -211,18 +211,182 @@ fn forms_that_are_not_built_are_told(rt: HostRuntime) -> Result<(), Fail> {
         &[
             ("plan rows/input 0 0 yes/hay -", "unbuilt"),
             ("plan start=both/input 0 0 yes/hay -", "unbuilt"),
-            ("plan nfa=0 lt=0a/input 0 0 yes/hay -", "unbuilt"),
-            ("plan quit=none/input 0 0 yes/hay -", "unbuilt"),
             (
                 "plan patterns noclasses quit=7A-ff,00 uword lt=Ff nfa=1 dfa=2 det=4294967295 minimize noaccel mark sparse bytes rows start=anchored/input 0 0 yes/hay -",
                 "unbuilt",
             ),
-            (
-                "expr cat eps look uwordendhalf/input 0 0 yes/hay -",
-                "unbuilt",
-            ),
             ("input 0 0 p0/hay -", "unbuilt"),
             ("plan rows/expr eps/input 0 1 yes/hay -", "bad 4 span"),
+        ],
+    )
+}
+
+fn answers(rt: &impl Abort, alloc: Global, cases: &[(&str, u8, &str)]) -> Result<(), Fail> {
+    for (script, status, line) in cases {
+        find(rt, alloc, script, *status, line)?;
+    }
+    Ok(())
+}
+
+#[test]
+fn anchored_scripts_are_answered(rt: HostRuntime) -> Result<(), Fail> {
+    answers(
+        &rt,
+        rt.alloc(),
+        &[
+            ("expr lit 61/input 0 1 yes/hay 61", 0, "match 0 0 1"),
+            ("expr lit 61/input 0 1 yes/hay 62", 1, "none"),
+            (
+                "expr lit 61/expr lit 62/input 0 2 yes/hay 6261",
+                0,
+                "match 1 0 1",
+            ),
+            (
+                "expr alt lit 53616d77697365 lit 53616d/input 0 7 yes/hay 53616d77697365",
+                0,
+                "match 0 0 7",
+            ),
+            (
+                "expr alt lit 53616d lit 53616d77697365/input 0 7 yes/hay 53616d77697365",
+                0,
+                "match 0 0 3",
+            ),
+            (
+                "expr alt lit 53616d77697365 lit 53616d/input 0 3 yes/hay 53616d77697365",
+                0,
+                "match 0 0 3",
+            ),
+            ("input 0 3 yes/hay 616263", 1, "none"),
+            ("expr eps/input 0 0 yes/hay -", 0, "match 0 0 0"),
+        ],
+    )
+}
+
+#[test]
+fn unanchored_scripts_are_answered(rt: HostRuntime) -> Result<(), Fail> {
+    answers(
+        &rt,
+        rt.alloc(),
+        &[
+            ("expr lit 61/input 0 3 no/hay 626162", 0, "match 0 1 2"),
+            (
+                "expr alt lit 53616d77697365 lit 53616d/input 0 7 no/hay 53616d77697365",
+                0,
+                "match 0 0 7",
+            ),
+            ("expr eps/input 0 0 no/hay -", 0, "match 0 0 0"),
+            ("expr lit 61/input 1 0 no/hay -", 1, "none"),
+            (
+                "expr alt lit 62 lit 6162/input 0 2 no/hay 6162",
+                0,
+                "match 0 0 2",
+            ),
+        ],
+    )
+}
+
+#[test]
+fn repetitions_are_answered(rt: HostRuntime) -> Result<(), Fail> {
+    answers(
+        &rt,
+        rt.alloc(),
+        &[
+            (
+                "expr cat rep 4 4 greedy cls 30-39 cat lit 2d cat rep 2 2 greedy cls 30-39 cat lit 2d rep 2 2 greedy cls 30-39/input 0 21 no/hay 323031382d31322d323420323031362d31302d3038",
+                0,
+                "match 0 0 10",
+            ),
+            (
+                "expr rep 1 inf greedy cls 30-39,41-5a,5f,61-7a/expr rep 1 inf greedy cls 00-08,0e-1f,21-ff/input 0 8 no/hay 40666f6f20626172",
+                0,
+                "match 1 0 4",
+            ),
+            (
+                "expr rep 0 inf greedy cls 00-77,79-ff/input 0 6 no/hay 616161786161",
+                0,
+                "match 0 0 3",
+            ),
+            (
+                "expr rep 1 inf lazy cls 61/input 0 3 no/hay 616161",
+                0,
+                "match 0 0 1",
+            ),
+            (
+                "expr cat rep 40 40 greedy rep 0 1 greedy cls 61 cat rep 40 40 greedy cls 61 lit 62/input 0 80 no/hay 6161616161616161616161616161616161616161616161616161616161616161616161616161616161616161616161616161616161616161616161616161616161616161616161616161616161616161",
+                1,
+                "none",
+            ),
+        ],
+    )
+}
+
+#[test]
+fn builds_are_refused_by_their_causes(rt: HostRuntime) -> Result<(), Fail> {
+    answers(
+        &rt,
+        rt.alloc(),
+        &[
+            (
+                "plan nfa=160/expr lit 61/input 0 3 no/hay 626162",
+                0,
+                "match 0 1 2",
+            ),
+            (
+                "plan nfa=159/expr lit 61/input 0 3 no/hay 626162",
+                3,
+                "build nfa",
+            ),
+            (
+                "expr rep 65536 65536 greedy rep 65536 65536 greedy cls 61/input 0 1 no/hay 61",
+                3,
+                "build nfa",
+            ),
+            (
+                "expr cat eps look uwordendhalf/input 0 0 yes/hay -",
+                3,
+                "build unsupported",
+            ),
+            (
+                "plan nfa=0/expr look uword/input 0 0 yes/hay -",
+                3,
+                "build nfa",
+            ),
+        ],
+    )
+}
+
+#[test]
+fn assertions_and_quit_bytes_are_answered(rt: HostRuntime) -> Result<(), Fail> {
+    answers(
+        &rt,
+        rt.alloc(),
+        &[
+            (
+                "plan lt=61/expr cat look word lit 78/input 1 2 no/hay 6178",
+                1,
+                "none",
+            ),
+            (
+                "plan uword/expr cat look uword cat rep 1 inf greedy cls 30-39 look uword/input 2 5 no/hay ceb2313233",
+                4,
+                "quit b2 1",
+            ),
+            (
+                "plan uword/expr cat look uword cat rep 1 inf greedy cls 30-39 look uword/input 0 3 no/hay 313233ceb2",
+                4,
+                "quit ce 3",
+            ),
+            ("plan quit=7a/expr lit 61/input 0 2 yes/hay 627a", 1, "none"),
+            (
+                "plan quit=7a/expr lit 61/input 0 2 yes/hay 617a",
+                4,
+                "quit 7a 1",
+            ),
+            (
+                "expr look startcrlf/input 0 2 no/hay 0d0a",
+                0,
+                "match 0 0 0",
+            ),
         ],
     )
 }
@@ -263,9 +427,13 @@ fn a_read_that_fails_ends_with_5(rt: HostRuntime) -> Result<(), Fail> {
 fn a_write_that_fails_ends_with_6(rt: HostRuntime) -> Result<(), Fail> {
     let mut words = Words::new(rt.alloc());
     words.push(b"find")?;
-    let mut source = MemSource::new(b"hay -\n", 8, &[]);
+    let mut source = MemSource::new(
+        b"expr lit 61\nexpr lit 62\ninput 0 2 yes\nhay 6261\n",
+        8,
+        &[],
+    );
     let mut sink = MemSink::new(rt.alloc(), 100, 1, &[2])?;
     assert_eq!(rt; run(rt.alloc(), &words, &mut source, &mut sink), 6);
-    assert_eq!(rt; sink.bytes(), b"b".as_slice());
+    assert_eq!(rt; sink.bytes(), b"m".as_slice());
     Ok(())
 }
