@@ -9,36 +9,60 @@ ghost use Rattle.std.specs.Prelude.{◌≡◌, ℕ, ◌+◌, ◌*◌, ◌<◌, �
 
 mod tables;
 
-use anyhow::{Context, Result, ensure};
 use rx_base::Tally;
 use rx_refine::{Incoming, Steps, refine};
 use std::alloc::Global;
+use std::process::ExitCode;
 use std::rt::Clock;
 use std::time::Instant;
 use std::{env, io};
 use tables::Kind;
+use thiserror::Error;
 
-fn main(rt: HostRuntime) -> Result<()> {
-    let mut words = env::args(&rt)?;
+/// Why nothing was measured.
+#[derive(Debug, Drop, Error)]
+enum Fault {
+    /// The words are wrong.
+    #[error("usage: rx_refine_bench chain|random|grid ROWS UNITS, with 2 to 1000000 rows and at most 1000 units")]
+    Usage,
+    /// Memory ran out, or the words, the clock or an output failed.
+    #[error("{0}")]
+    Io(#[from] io::Error),
+}
+
+fn main(rt: HostRuntime) -> ExitCode {
+    match run(&rt) {
+        Ok(()) => ExitCode::SUCCESS,
+        Err(fault) => {
+            let _ = eprintln!(rt; "{fault}");
+            ExitCode::FAILURE
+        }
+    }
+}
+
+/// Measures what the words ask for.
+fn run(rt: &HostRuntime) -> Result<(), Fault> {
+    let mut words = env::args(rt)?;
     let _program = words.next();
-    let kind = words.next().context("no kind of table")?;
+    let kind = words.next().ok_or(Fault::Usage)?;
     let rows = number(words.next())?;
     let units = number(words.next())?;
-    ensure!(2 <= rows && rows <= 1_000_000, "{rows} rows");
-    ensure!(units <= 1000, "{units} units");
+    if rows < 2 || rows > 1_000_000 || units > 1000 {
+        return Err(Fault::Usage);
+    }
     let kind = match kind.as_str() {
         "chain" => Kind::Chain,
         "random" => Kind::Random,
         _ => Kind::Grid,
     };
-    measure(&rt, rt.alloc(), kind, rows, units)?;
+    measure(rt, rt.alloc(), kind, rows, units)?;
     Ok(())
 }
 
 /// The number that a word spells.
-fn number(word: Option<String>) -> Result<usize> {
-    let word = word.context("no number")?;
-    Ok(word.as_str().parse::<usize>().context("a number")?)
+fn number(word: Option<String>) -> Result<usize, Fault> {
+    let word = word.ok_or(Fault::Usage)?;
+    word.as_str().parse::<usize>().map_err(|_| Fault::Usage)
 }
 
 /// Refines one table, and prints what it took.
