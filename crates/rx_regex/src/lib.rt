@@ -10,6 +10,8 @@ mod engine;
 mod error;
 mod find;
 mod plan;
+#[cfg(test)]
+mod tests;
 
 pub use error::{BuildError, BuildErrorKind, FindFault};
 pub use find::compile_and_find;

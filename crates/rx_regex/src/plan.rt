@@ -1,5 +1,9 @@
 //! What is asked of a build, and what a search answers.
 
+ghost use Rattle.std.specs.Prelude.{◌≡◌, None, true, false};
+ghost use Rattle.rx_spec.specs.declared.StartKind.{StartKind};
+ghost use Rattle.rx_regex.specs.Plan.{IsBuilt, wanted_of};
+
 use rx_base::{ByteSet, Match, StartKind};
 
 /// How the expressions are built into tables, and what the tables are.
@@ -33,6 +37,35 @@ pub struct Plan {
     pub form: Form,
     /// How the tables come to be searched.
     pub passage: Passage,
+}
+
+impl Plan {
+    /// The usual plan: starts for both modes, but none of each pattern's own, no quit bytes, lines that
+    /// end with `\n`, no limits, and dense tables searched as they were built.
+    pub fn new() -> Plan
+        ensures built { IsBuilt result }
+        ensures wanted { wanted_of result ≡ record { start_kind = StartKind.Both; pattern_starts = false; quit = 0; unicode_word = false; terminator = 10 } }
+        ensures limit { result.nfa_limit ≡ None }
+        ensures classes { result.byte_classes ≡ true }
+        ensures accelerates { result.accelerate ≡ true }
+    {
+        Plan {
+            start_kind: StartKind::Both,
+            pattern_starts: false,
+            byte_classes: true,
+            quit: ByteSet::empty(),
+            unicode_word: false,
+            line_terminator: b'\n',
+            nfa_limit: None,
+            dfa_limit: None,
+            determinize_limit: None,
+            minimize: false,
+            accelerate: true,
+            mark_starts: false,
+            form: Form::Dense,
+            passage: Passage::Direct,
+        }
+    }
 }
 
 /// How the rows of a table are kept.
