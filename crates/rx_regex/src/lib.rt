@@ -1,9 +1,10 @@
 //! Searches for the matches of a list of expressions.
 //!
 //! [`compile_and_find`] takes expressions, a [`Plan`] and an input, and answers the leftmost match,
-//! there the lowest pattern and its preferred end, or says why it can't. Its contract is the
-//! definition of what a search finds, with nothing of automata in it. Until tables are built, it steps
-//! powerset states along the haystack; that engine stays as the program that tables are compared with.
+//! there the lowest pattern and its preferred end, or says why it can't. Its contract says what is
+//! found without an automaton, and names one only in the causes of errors. Until tables are built, it
+//! steps powerset states along the haystack; that engine stays as the program that tables are compared
+//! with.
 #![tactic(auto)]
 
 mod engine;
