@@ -9,7 +9,7 @@ use crate::tokens::{byte, is, number, set};
 use rx_base::{ByteSet, StartKind};
 use rx_regex::{Form, Passage, Plan};
 
-/// A plan, whether the row counts are asked for, and whether no word but a limit of the NFA stands.
+/// A plan, whether the row counts are asked for, and whether every word that stands is built.
 #[derive(Clone, Copy, Debug)]
 pub struct Choices {
     pub plan: Plan,
@@ -80,22 +80,7 @@ impl Choices {
         ensures { chosen_of result.plan result.rows result.plain ≡ unplanned }
     {
         Choices {
-            plan: Plan {
-                start_kind: StartKind::Both,
-                pattern_starts: false,
-                byte_classes: true,
-                quit: ByteSet::empty(),
-                unicode_word: false,
-                line_terminator: b'\n',
-                nfa_limit: None,
-                dfa_limit: None,
-                determinize_limit: None,
-                minimize: false,
-                accelerate: true,
-                mark_starts: false,
-                form: Form::Dense,
-                passage: Passage::Direct,
-            },
+            plan: Plan::new(),
             rows: false,
             plain: true,
         }

@@ -91,7 +91,7 @@ pub struct Script {
     pub plan: Plan,
     /// Whether the row counts are asked for.
     pub rows: bool,
-    /// Whether no word but a limit of the NFA stands in the plan line.
+    /// Whether every word of the plan line is built.
     pub plain: bool,
     /// The expressions.
     pub exprs: Exprs,

@@ -82,9 +82,9 @@ abbrev pub Joins : Verdict → Result (Option Match) FindFault → Type 0
 Joins verdict (Ok found) = verdict ≡ Verdict.Answer (option_map hit_of found)
 Joins verdict (Err fault) = FaultAnswers verdict fault
 
--- The search answers what is found, or an error, each with its cause.
+-- The search answers what is found, or an error, each with its cause. Without tables it counts no rows.
 abbrev pub Answers : Plan → List Expression → Query → Result Answer FindFault → Type 0
-Answers p es q (Ok answer) = Built p es × (outcome (wanted_of p) es q ≡ Verdict.Answer (option_map hit_of answer.found))
+Answers p es q (Ok answer) = Built p es × (outcome (wanted_of p) es q ≡ Verdict.Answer (option_map hit_of answer.found)) × (answer.forward_rows ≡ 0) × (answer.reverse_rows ≡ 0)
 Answers p es q (Err (FindFault.Build error)) = RefusesBuild p es error.kind
 Answers p es q (Err (FindFault.Quit byte offset)) = Built p es × (outcome (wanted_of p) es q ≡ Verdict.Quit byte offset)
 Answers p es q (Err (FindFault.Unsupported mode)) = Built p es × (outcome (wanted_of p) es q ≡ Verdict.Unsupported (mode_of mode))

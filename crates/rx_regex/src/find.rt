@@ -6,11 +6,10 @@ ghost use Rattle.rx_spec.specs.Bytes.{AreBytes};
 ghost use Rattle.rx_spec.specs.Classes.{quit_set, asserts_unicode_word};
 ghost use Rattle.rx_spec.specs.Expressions.{IsLoopSafe};
 ghost use Rattle.rx_spec.specs.Found.{IsFit, Mode};
-ghost use Rattle.rx_spec.specs.Looks.{is_unicode_word as unicode_word};
 ghost use Rattle.rx_base.specs.ByteSet.{set_of};
 ghost use Rattle.rx_base.specs.Input.{query_of};
 ghost use Rattle.rx_expr.specs.Compiles.{Fits, wanted_nfa};
-ghost use Rattle.rx_expr.specs.Nfa.{meaning, row_of, IsSound};
+ghost use Rattle.rx_expr.specs.Nfa.{meaning, IsSound};
 ghost use Rattle.rx_meaning.specs.Joined.{joined_of};
 ghost use Rattle.rx_regex.specs.Plan.{wanted_of, IsBuilt, plan_build, kind_of, start_kind_of};
 ghost use Rattle.rx_regex.specs.Engine.{build_of};
@@ -19,9 +18,9 @@ ghost use Rattle.rx_regex.specs.Find.{Answers, NoCause, NfaFaulted, asked_for, B
 use crate::engine::{Engine, HalfFault};
 use crate::error::{BuildError, BuildErrorKind, FindFault};
 use crate::plan::{Answer, Plan};
-use rx_base::{Anchored, ByteSet, HalfMatch, Input, Look, Match, MatchKind, Span, StartKind};
+use rx_base::{Anchored, ByteSet, HalfMatch, Input, Match, MatchKind, Span, StartKind};
 use rx_expr::Expr;
-use rx_expr::thompson::{self, Compiler, NFA, Row};
+use rx_expr::thompson::{self, Compiler, NFA};
 use std::alloc::Global;
 
 /// Finds the leftmost match of a list of expressions in an input: the least place in the span where a
@@ -136,42 +135,16 @@ fn nfa_fault(error: thompson::BuildError) -> FindFault
 
 /// Whether some row asserts something of Unicode words.
 fn has_unicode_word(nfa: &NFA) -> bool
+    requires { IsSound nfa.now }
     ensures { result ≡ list_any asserts_unicode_word (meaning nfa.now).rows }
 {
-    for row in nfa.rows() {
-        if asserts_word(row) {
-            return true;
-        }
-    }
-    false
-}
-
-fn asserts_word(row: &Row) -> bool
-    ensures { result ≡ asserts_unicode_word (row_of row.now) }
-{
-    match *row {
-        Row::Look { look, .. } => is_unicode_word(look),
-        _ => false,
-    }
-}
-
-fn is_unicode_word(look: Look) -> bool
-    ensures { result ≡ unicode_word look }
-{
-    matches!(
-        look,
-        Look::WordUnicode
-            | Look::WordUnicodeNegate
-            | Look::WordStartUnicode
-            | Look::WordEndUnicode
-            | Look::WordStartHalfUnicode
-            | Look::WordEndHalfUnicode
-    )
+    nfa.look_set_any().contains_word_unicode()
 }
 
 /// The quit bytes in effect: those of the plan, and every byte from 0x80 on where the plan gives up at
 /// them and some row asserts something of Unicode words.
 fn quit_bytes(nfa: &NFA, plan: &Plan) -> ByteSet
+    requires { IsSound nfa.now }
     ensures { set_of result ≡ quit_set (meaning nfa.now) (set_of plan.now.quit) plan.now.unicode_word }
 {
     if plan.unicode_word && has_unicode_word(nfa) {

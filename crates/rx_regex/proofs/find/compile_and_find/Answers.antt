@@ -1,4 +1,4 @@
-use Rattle.std.proofs.Common.{◌∙◌, sym, ap}
+use Rattle.std.proofs.Common.{◌∙◌, refl, sym, ap}
 use Rattle.std.proofs.lemmas.Result.{err_from_is_err_and}
 use Rattle.rx_base.specs.Input.{query_of}
 use Rattle.rx_meaning.specs.Joined.{joined_of}
@@ -26,4 +26,6 @@ returns c =
       sym (ap (λ x. joined_of w c.args.exprs.now x) c.preferred-preferred.ensures.asked
           ∙ c.joined_search.ensures w c.args.exprs.now q c.in_ok-forward.ensures.safe (rw (sym c.haystack.ensures) c.learn_bytes.ensures) c.requires.fits.within)
           ∙ c.in_ok-found.ensures,
+      refl,
+      refl,
     )
