@@ -1,7 +1,7 @@
--- How many reads there are. The allowance of a row is the size of its block where that waits, and half
--- of it where it doesn't. Where a block is taken, the allowance of each of its rows has one binary digit
--- less; a split raises none.
-use Rattle.std.proofs.Common.{◌≡◌, ℕ, zero, suc, ◌+◌, ◌*◌, ◌/◌, ◌^◌, ◌<◌, ◌≤◌, true, false, cond, List, length, eqb, leb, refl, sym, ap, ◌∙◌, ⊎_elim, arith, eq-eqb, ne_eqb, le-leb, leb-false, leb-true, mul-le-mul_right, pow_pos, pow-suc}
+-- How many reads there are. For a unit the allowance of a row is the size of its block where that waits
+-- for the unit, and half of it where it doesn't. Where the unit takes a block, the allowance of each of
+-- its rows has one binary digit less; a split raises none.
+use Rattle.std.proofs.Common.{◌≡◌, ℕ, zero, suc, ◌+◌, ◌*◌, ◌/◌, ◌^◌, ◌<◌, ◌≤◌, true, false, cond, List, length, get_or, set, eqb, leb, refl, sym, ap, ◌∙◌, ⊎_elim, arith, eq-eqb, ne_eqb, le-leb, leb-false, leb-true, mul-le-mul_right, pow_pos, pow-suc, get_or-set_same, get_or-set_other}
 use Rattle.std.specs.List.{sum_by, list_any}
 use Rattle.std.proofs.lemmas.Bool.{cases_Bool, cases_eq, cases_lt, lt-leb}
 use Rattle.std.proofs.lemmas.Int.Digits.{length-digits_of_step, length-digits_of-le}
@@ -10,7 +10,7 @@ use Rattle.rx_refine.specs.Places.{how_many}
 use Rattle.rx_refine.specs.Parts.{Parts, IsPartition, SplitsBy, block_of, size_of}
 use Rattle.rx_refine.proofs.Places.{length-places_from, add-one-sym}
 use Rattle.rx_refine.proofs.Refining.{members, members_small, members_apart, is_in_members}
-use Rattle.rx_refine.proofs.Totals.{total, total-add, total-le, total-same, total-const, total-mul, total-how_many-all, sum_by-total, sum_by-add}
+use Rattle.rx_refine.proofs.Totals.{total, total-add, total-le, total-same, total-const, total-mul, total-how_many-all, total_single, total_term, sum_by-total}
 
 -- ---- binary digits
 digits_half : (n : ℕ) → 0 < n → binary_digits n ≡ binary_digits (n / 2) + 1
@@ -34,14 +34,9 @@ below_power (suc f) n h =
 digits-le : (a b : ℕ) → a ≤ b → binary_digits a ≤ binary_digits b
 digits-le a b h = length-digits_of-le 2 (binary_digits b) a (omega arith) (omega (arith, below_power b b (omega arith)))
 
--- ---- what a row costs where it is taken
+-- ---- what a row costs where a unit takes its block
 abbrev pub cost : Moves → ℕ → ℕ → ℕ
 cost m unit row = 1 + length (sources m row unit)
-
--- for the units below a bound
-abbrev pub weight : Moves → ℕ → ℕ → ℕ
-weight m zero row = 0
-weight m (suc unit) row = weight m unit row + cost m unit row
 
 total_cost : (m : Moves) (unit : ℕ) → AreMoves m → unit < m.units → 0 < m.rows → total (λ row. cost m unit row) m.rows ≡ 2 * m.rows
 total_cost m unit a h some =
@@ -50,57 +45,58 @@ total_cost m unit a h some =
     let len = a.lengths unit some h in
     total-add (λ _. 1) (λ row. length (sources m row unit)) m.rows ∙ omega (arith, total-const 1 m.rows)
 
-total_weight : (m : Moves) (unit : ℕ) → AreMoves m → unit ≤ m.units → 0 < m.rows → total (λ row. weight m unit row) m.rows ≡ 2 * unit * m.rows
-total_weight m zero a h some = omega (arith, total-const 0 m.rows)
-total_weight m (suc unit) a h some =
-    total-add (λ row. weight m unit row) (λ row. cost m unit row) m.rows
-    ∙ omega (arith, total_weight m unit a (omega arith) some, total_cost m unit a (omega arith) some)
-
-pub weight-le : (m : Moves) (unit n row : ℕ) → weight m unit row ≤ weight m (unit + n) row
-weight-le m unit zero row = let e : unit + 0 ≡ unit = omega arith in rw e (omega arith)
-weight-le m unit (suc n) row = let e : unit + suc n ≡ suc (unit + n) = omega arith in rw e (omega (arith, weight-le m unit n row))
-
 -- ---- the allowance
 abbrev pub allowance : Parts → ℕ → ℕ → ℕ
 allowance p taken row = cond (leb taken (block_of p row)) (size_of p (block_of p row)) (size_of p (block_of p row) / 2)
 
-abbrev pub potential : Moves → Parts → ℕ → ℕ
-potential m p taken = total (λ row. binary_digits (allowance p taken row) * weight m m.units row) m.rows
+-- of one unit, which took so many blocks
+abbrev pub unit_potential : Moves → Parts → ℕ → ℕ → ℕ
+unit_potential m p taken unit = total (λ row. binary_digits (allowance p taken row) * cost m unit row) m.rows
 
-first_digits : (m : Moves) (p : Parts) → IsPartition p → length p.rows ≡ m.rows → (row : ℕ) → row < m.rows → binary_digits (allowance p 0 row) * weight m m.units row ≤ binary_digits m.rows * weight m m.units row
-first_digits m p w len row l =
+abbrev pub potential : Moves → Parts → List ℕ → ℕ
+potential m p taken = total (λ unit. unit_potential m p (get_or taken unit 0) unit) m.units
+
+first_digits : (m : Moves) (p : Parts) (unit taken : ℕ) → IsPartition p → length p.rows ≡ m.rows → taken ≡ 0 → (row : ℕ) → row < m.rows → binary_digits (allowance p taken row) * cost m unit row ≤ binary_digits m.rows * cost m unit row
+first_digits m p unit taken w len z row l =
     let h : row < length p.rows = omega arith in
     let b = w.within (block_of p row) (w.block_at row h) in
-    let small : allowance p 0 row ≤ m.rows = rw (le-leb 0 (block_of p row) (omega arith)) (omega arith) in
-    mul-le-mul_right (weight m m.units row) (digits-le (allowance p 0 row) m.rows small)
+    let small : allowance p taken row ≤ m.rows = rw (le-leb taken (block_of p row) (omega arith)) (omega arith) in
+    mul-le-mul_right (cost m unit row) (digits-le (allowance p taken row) m.rows small)
 
-no_rows : (m : Moves) (p : Parts) → m.rows ≡ 0 → potential m p 0 ≤ read_limit m
-no_rows m p e =
-    let z : total (λ row. binary_digits (allowance p 0 row) * weight m m.units row) m.rows ≡ 0 = ap (λ n. total (λ row. binary_digits (allowance p 0 row) * weight m m.units row) n) e in
+unit_first : (m : Moves) (p : Parts) (unit taken : ℕ) → AreMoves m → IsPartition p → length p.rows ≡ m.rows → taken ≡ 0 → unit < m.units → 0 < m.rows → unit_potential m p taken unit ≤ binary_digits m.rows * (2 * m.rows)
+unit_first m p unit taken a w len z h some =
+    let le : unit_potential m p taken unit ≤ total (λ row. binary_digits m.rows * cost m unit row) m.rows = total-le (λ row. binary_digits (allowance p taken row) * cost m unit row) (λ row. binary_digits m.rows * cost m unit row) m.rows (λ row l. first_digits m p unit taken w len z row l) in
+    let t : total (λ row. binary_digits m.rows * cost m unit row) m.rows ≡ binary_digits m.rows * total (λ row. cost m unit row) m.rows = total-mul (binary_digits m.rows) (λ row. cost m unit row) m.rows in
+    let u : binary_digits m.rows * total (λ row. cost m unit row) m.rows ≡ binary_digits m.rows * (2 * m.rows) = ap (λ k. binary_digits m.rows * k) (total_cost m unit a h some) in
     omega arith
 
+no_rows : (m : Moves) (p : Parts) (taken unit : ℕ) → m.rows ≡ 0 → unit_potential m p taken unit ≡ 0
+no_rows m p taken unit e = ap (λ n. total (λ row. binary_digits (allowance p taken row) * cost m unit row) n) e
+
+limit_of : (units rows digits : ℕ) → digits * (2 * rows) * units ≡ 2 * units * rows * digits
+limit_of units rows digits = omega arith
+
 -- at first each block waits
-pub potential_first : (m : Moves) (p : Parts) → AreMoves m → IsPartition p → length p.rows ≡ m.rows → potential m p 0 ≤ read_limit m
-potential_first m p a w len =
-    ⊎_elim
-    (λ (some : 0 < m.rows).
-    let le : potential m p 0 ≤ total (λ row. binary_digits m.rows * weight m m.units row) m.rows = total-le (λ row. binary_digits (allowance p 0 row) * weight m m.units row) (λ row. binary_digits m.rows * weight m m.units row) m.rows (λ row l. first_digits m p w len row l) in
-    let t : total (λ row. binary_digits m.rows * weight m m.units row) m.rows ≡ binary_digits m.rows * total (λ row. weight m m.units row) m.rows = total-mul (binary_digits m.rows) (λ row. weight m m.units row) m.rows in
-    let u : total (λ row. weight m m.units row) m.rows ≡ 2 * m.units * m.rows = total_weight m m.units a (omega arith) some in
-    let v : binary_digits m.rows * total (λ row. weight m m.units row) m.rows ≡ binary_digits m.rows * (2 * m.units * m.rows) = ap (λ k. binary_digits m.rows * k) u in
-    omega arith)
-    (λ (none : m.rows ≤ 0). let e : m.rows ≡ 0 = omega arith in no_rows m p e)
-    (cases_lt 0 m.rows)
+pub potential_first : (m : Moves) (p : Parts) (taken : List ℕ) → AreMoves m → IsPartition p → length p.rows ≡ m.rows → ((u : ℕ) → u < m.units → get_or taken u 0 ≡ 0) → potential m p taken ≤ read_limit m
+potential_first m p taken a w len zeros =
+    let le : potential m p taken ≤ total (λ _. binary_digits m.rows * (2 * m.rows)) m.units = total-le (λ unit. unit_potential m p (get_or taken unit 0) unit) (λ _. binary_digits m.rows * (2 * m.rows)) m.units
+    (λ unit l. ⊎_elim
+    (λ (some : 0 < m.rows). unit_first m p unit (get_or taken unit 0) a w len (zeros unit l) l some)
+    (λ (none : m.rows ≤ 0). let e = no_rows m p (get_or taken unit 0) unit (omega arith) in omega arith)
+    (cases_lt 0 m.rows)) in
+    let c : total (λ _. binary_digits m.rows * (2 * m.rows)) m.units ≡ binary_digits m.rows * (2 * m.rows) * m.units = total-const (binary_digits m.rows * (2 * m.rows)) m.units in
+    let r : binary_digits m.rows * (2 * m.rows) * m.units ≡ read_limit m = limit_of m.units m.rows (binary_digits m.rows) in
+    omega arith
 
 -- where a block is taken
-module _ (m : Moves) (p : Parts) (taken : ℕ) (w : IsPartition p) (len : length p.rows ≡ m.rows) (h : taken < length p.sizes) where
-  take_row : (row : ℕ) → row < m.rows → binary_digits (allowance p (taken + 1) row) * weight m m.units row + cond (list_any (eqb row) (members p w taken h)) (weight m m.units row) 0 ≤ binary_digits (allowance p taken row) * weight m m.units row
+module _ (m : Moves) (p : Parts) (unit taken : ℕ) (w : IsPartition p) (len : length p.rows ≡ m.rows) (h : taken < length p.sizes) where
+  take_row : (row : ℕ) → row < m.rows → binary_digits (allowance p (taken + 1) row) * cost m unit row + cond (list_any (eqb row) (members p w taken h)) (cost m unit row) 0 ≤ binary_digits (allowance p taken row) * cost m unit row
   take_row row l =
       let lp : row < length p.rows = omega arith in
       rw (is_in_members p w taken h row lp) (⊎_elim
       (λ (e : block_of p row ≡ taken).
       let half : binary_digits (size_of p taken) ≡ binary_digits (size_of p taken / 2) + 1 = digits_half (size_of p taken) (w.some taken h) in
-      let prod : binary_digits (size_of p taken) * weight m m.units row ≡ (binary_digits (size_of p taken / 2) + 1) * weight m m.units row = ap (λ k. k * weight m m.units row) half in
+      let prod : binary_digits (size_of p taken) * cost m unit row ≡ (binary_digits (size_of p taken / 2) + 1) * cost m unit row = ap (λ k. k * cost m unit row) half in
       rw (e, eq-eqb taken taken refl, lt-leb (taken + 1) taken (omega arith), le-leb taken taken (omega arith)) (omega arith))
       (λ (ne : block_of p row ≡ taken → ⊥).
       rw (ne_eqb (block_of p row) taken ne) (⊎_elim
@@ -113,15 +109,15 @@ module _ (m : Moves) (p : Parts) (taken : ℕ) (w : IsPartition p) (len : length
       (cases_Bool (leb taken (block_of p row)))))
       (cases_eq (block_of p row) taken))
 
-  pub potential_take : potential m p (taken + 1) + sum_by (λ row. weight m m.units row) (members p w taken h) ≤ potential m p taken
-  potential_take =
-      let e : sum_by (λ row. weight m m.units row) (members p w taken h) ≡ total (λ row. cond (list_any (eqb row) (members p w taken h)) (weight m m.units row) 0) m.rows = sum_by-total (λ row. weight m m.units row) m.rows (members p w taken h) (members_apart p w taken h) (λ k l. let s = members_small p w taken h k 0 l in omega arith) in
-      let a : total (λ row. binary_digits (allowance p (taken + 1) row) * weight m m.units row + cond (list_any (eqb row) (members p w taken h)) (weight m m.units row) 0) m.rows ≡ potential m p (taken + 1) + total (λ row. cond (list_any (eqb row) (members p w taken h)) (weight m m.units row) 0) m.rows = total-add (λ row. binary_digits (allowance p (taken + 1) row) * weight m m.units row) (λ row. cond (list_any (eqb row) (members p w taken h)) (weight m m.units row) 0) m.rows in
-      let le : total (λ row. binary_digits (allowance p (taken + 1) row) * weight m m.units row + cond (list_any (eqb row) (members p w taken h)) (weight m m.units row) 0) m.rows ≤ potential m p taken = total-le (λ row. binary_digits (allowance p (taken + 1) row) * weight m m.units row + cond (list_any (eqb row) (members p w taken h)) (weight m m.units row) 0) (λ row. binary_digits (allowance p taken row) * weight m m.units row) m.rows take_row in
+  pub unit_take : unit_potential m p (taken + 1) unit + sum_by (λ row. cost m unit row) (members p w taken h) ≤ unit_potential m p taken unit
+  unit_take =
+      let e : sum_by (λ row. cost m unit row) (members p w taken h) ≡ total (λ row. cond (list_any (eqb row) (members p w taken h)) (cost m unit row) 0) m.rows = sum_by-total (λ row. cost m unit row) m.rows (members p w taken h) (members_apart p w taken h) (λ k l. let s = members_small p w taken h k 0 l in omega arith) in
+      let a : total (λ row. binary_digits (allowance p (taken + 1) row) * cost m unit row + cond (list_any (eqb row) (members p w taken h)) (cost m unit row) 0) m.rows ≡ unit_potential m p (taken + 1) unit + total (λ row. cond (list_any (eqb row) (members p w taken h)) (cost m unit row) 0) m.rows = total-add (λ row. binary_digits (allowance p (taken + 1) row) * cost m unit row) (λ row. cond (list_any (eqb row) (members p w taken h)) (cost m unit row) 0) m.rows in
+      let le : total (λ row. binary_digits (allowance p (taken + 1) row) * cost m unit row + cond (list_any (eqb row) (members p w taken h)) (cost m unit row) 0) m.rows ≤ unit_potential m p taken unit = total-le (λ row. binary_digits (allowance p (taken + 1) row) * cost m unit row + cond (list_any (eqb row) (members p w taken h)) (cost m unit row) 0) (λ row. binary_digits (allowance p taken row) * cost m unit row) m.rows take_row in
       omega arith
 
 -- where blocks are split
-module _ (m : Moves) (p q : Parts) (hits : List ℕ) (taken : ℕ) (len : length p.rows ≡ m.rows) (below : taken ≤ length p.sizes) (s : SplitsBy p hits q) where
+module _ (m : Moves) (p q : Parts) (hits : List ℕ) (unit taken : ℕ) (len : length p.rows ≡ m.rows) (below : taken ≤ length p.sizes) (s : SplitsBy p hits q) where
   split_allowance : (row : ℕ) → row < m.rows → allowance q taken row ≤ allowance p taken row
   split_allowance row l =
       ⊎_elim
@@ -139,11 +135,38 @@ module _ (m : Moves) (p q : Parts) (hits : List ℕ) (taken : ℕ) (len : length
       (cases_Bool (leb taken (block_of p row)))))
       (s.numbers row (omega arith))
 
-  pub potential_split : potential m q taken ≤ potential m p taken
-  potential_split =
-      total-le (λ row. binary_digits (allowance q taken row) * weight m m.units row) (λ row. binary_digits (allowance p taken row) * weight m m.units row) m.rows
-      (λ row l. mul-le-mul_right (weight m m.units row) (digits-le (allowance q taken row) (allowance p taken row) (split_allowance row l)))
+  pub unit_split : unit_potential m q taken unit ≤ unit_potential m p taken unit
+  unit_split =
+      total-le (λ row. binary_digits (allowance q taken row) * cost m unit row) (λ row. binary_digits (allowance p taken row) * cost m unit row) m.rows
+      (λ row l. mul-le-mul_right (cost m unit row) (digits-le (allowance q taken row) (allowance p taken row) (split_allowance row l)))
 
--- ---- the reads that were made, with those that are still allowed
-pub sum_weight_more : (m : Moves) (unit : ℕ) (xs : List ℕ) → sum_by (λ row. weight m (unit + 1) row) xs ≡ sum_by (λ row. weight m unit row) xs + sum_by (λ row. cost m unit row) xs
-sum_weight_more m unit xs = rw (sym (add-one-sym unit)) (sum_by-add (λ row. weight m unit row) (λ row. cost m unit row) xs)
+-- where a unit takes a block and the blocks are split
+module _ (m : Moves) (p q : Parts) (hits : List ℕ) (unit : ℕ) (taken : List ℕ) (w : IsPartition p) (len : length p.rows ≡ m.rows) (taken_len : length taken ≡ m.units) (hu : unit < m.units) (below : (u : ℕ) → u < m.units → get_or taken u 0 ≤ length p.sizes) (h : get_or taken unit 0 < length p.sizes) (s : SplitsBy p hits q) where
+  abbrev spent : ℕ
+  spent = sum_by (λ row. cost m unit row) (members p w (get_or taken unit 0) h)
+
+  turn_unit : (u : ℕ) → u < m.units → unit_potential m q (get_or (set taken unit (get_or taken unit 0 + 1)) u 0) u + cond (eqb u unit) spent 0 ≤ unit_potential m p (get_or taken u 0) u
+  turn_unit u l =
+      ⊎_elim
+      (λ (e : u ≡ unit).
+      let split = unit_split m p q hits unit (get_or taken unit 0 + 1) len (omega arith) s in
+      let take = unit_take m p unit (get_or taken unit 0) w len h in
+      rw (e, eq-eqb unit unit refl, get_or-set_same taken unit (get_or taken unit 0 + 1) 0 (omega arith)) (omega arith))
+      (λ (ne : u ≡ unit → ⊥).
+      let split = unit_split m p q hits u (get_or taken u 0) len (below u l) s in
+      rw (ne_eqb u unit ne, get_or-set_other taken unit u (get_or taken unit 0 + 1) 0 ne) (omega arith))
+      (cases_eq u unit)
+
+  pub potential_turn : potential m q (set taken unit (get_or taken unit 0 + 1)) + sum_by (λ row. cost m unit row) (members p w (get_or taken unit 0) h) ≤ potential m p taken
+  potential_turn =
+      let a : total (λ u. unit_potential m q (get_or (set taken unit (get_or taken unit 0 + 1)) u 0) u + cond (eqb u unit) spent 0) m.units ≡ potential m q (set taken unit (get_or taken unit 0 + 1)) + total (λ u. cond (eqb u unit) spent 0) m.units = total-add (λ u. unit_potential m q (get_or (set taken unit (get_or taken unit 0 + 1)) u 0) u) (λ u. cond (eqb u unit) spent 0) m.units in
+      let one : total (λ u. cond (eqb u unit) spent 0) m.units ≡ spent = total_single (λ _. spent) unit m.units hu in
+      let le : total (λ u. unit_potential m q (get_or (set taken unit (get_or taken unit 0 + 1)) u 0) u + cond (eqb u unit) spent 0) m.units ≤ potential m p taken = total-le (λ u. unit_potential m q (get_or (set taken unit (get_or taken unit 0 + 1)) u 0) u + cond (eqb u unit) spent 0) (λ u. unit_potential m p (get_or taken u 0) u) m.units turn_unit in
+      omega arith
+
+-- the reads where a unit takes a block are still allowed
+pub turn_reads : (m : Moves) (p : Parts) (unit : ℕ) (taken : List ℕ) (w : IsPartition p) → length p.rows ≡ m.rows → unit < m.units → (h : get_or taken unit 0 < length p.sizes) → sum_by (λ row. cost m unit row) (members p w (get_or taken unit 0) h) ≤ potential m p taken
+turn_reads m p unit taken w len hu h =
+    let take = unit_take m p unit (get_or taken unit 0) w len h in
+    let term : unit_potential m p (get_or taken unit 0) unit ≤ potential m p taken = total_term (λ u. unit_potential m p (get_or taken u 0) u) unit m.units hu in
+    omega arith

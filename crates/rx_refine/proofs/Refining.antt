@@ -1,7 +1,7 @@
--- Why the blocks are right: while blocks are taken and worked through, rows of different blocks are told
--- apart by a word, and rows of one block whose next rows are apart have one of these in a block that
--- is still to be taken, or is being worked through.
-use Rattle.std.proofs.Common.{◌≡◌, ℕ, suc, ◌+◌, ◌-◌, ◌<◌, ◌≤◌, true, false, List, [], ◌∷◌, length, get_or, drop, eqb, refl, sym, subst, ap, ◌∙◌, ⊎_elim, arith, true≢false, eqb-true, eq-eqb, ne_eqb, length-take, length-drop, get_or-take, get_or-drop}
+-- Why the blocks are right: while units take blocks, rows of different blocks are told apart by a word,
+-- and where a unit leads two rows of one block into different blocks, one of these is a block that the
+-- unit has still to take.
+use Rattle.std.proofs.Common.{◌≡◌, ℕ, suc, ◌+◌, ◌-◌, ◌<◌, ◌≤◌, true, false, List, [], ◌∷◌, length, get_or, set, drop, eqb, refl, sym, subst, ap, ◌∙◌, ⊎_elim, arith, eqb-true, eq-eqb, ne_eqb, length-take, length-drop, get_or-take, get_or-drop, length-set, get_or-set_same, get_or-set_other}
 use Rattle.std.specs.List.{Contains, All, slice_range}
 use Rattle.std.proofs.lemmas.Bool.{cases_Bool, cases_eq}
 use Rattle.std.proofs.lemmas.List.Folds.{list_any_at}
@@ -11,6 +11,7 @@ use Rattle.rx_spec.specs.Machines.{run}
 use Rattle.rx_refine.specs.Moves.{Moves, AreMoves, next_row, IsWord, label_after, BehaveAlike, AreToldApart}
 use Rattle.rx_refine.specs.Parts.{Parts, IsPartition, SplitsBy, block_of, is_in}
 use Rattle.rx_refine.proofs.Places.{Contains-cons}
+use Rattle.rx_refine.proofs.Splitting.{alone}
 
 -- ---- words
 label_after-cons : (m : Moves) (labels : List ℕ) (x unit : ℕ) (word : List ℕ) → label_after m labels x (unit ∷ word) ≡ label_after m labels (next_row m x unit) word
@@ -113,123 +114,41 @@ pub record IsRefined (m : Moves) (labels : List ℕ) (p : Parts) : Type 0 where
   pub labelled : (x y : ℕ) → x < m.rows → y < m.rows → block_of p x ≡ block_of p y → get_or labels x 0 ≡ get_or labels y 0
   pub told : (x y : ℕ) → x < m.rows → y < m.rows → (block_of p x ≡ block_of p y → ⊥) → AreToldApart m labels x y
 
--- what holds of the rows p and q to which a unit leads two rows of one block
-pub data Leads (p : Parts) (taken : ℕ) (busy : Type 0) (x y : ℕ) : Type 0 where
-  same : block_of p x ≡ block_of p y → Leads p taken busy x y
-  first : taken ≤ block_of p x → Leads p taken busy x y
-  second : taken ≤ block_of p y → Leads p taken busy x y
-  working : busy → Leads p taken busy x y
+-- of two rows to which a unit leads two rows of one block: they are in one block, or one of them is in a
+-- block that the unit has still to take
+pub data Leads (p : Parts) (taken x y : ℕ) : Type 0 where
+  same : block_of p x ≡ block_of p y → Leads p taken x y
+  first : taken ≤ block_of p x → Leads p taken x y
+  second : taken ≤ block_of p y → Leads p taken x y
 
-abbrev pub IsBusy : List ℕ → ℕ → ℕ → ℕ → ℕ → Type 0
-IsBusy taking unit u x y = (unit ≤ u) × (is_in taking x ≡ is_in taking y → ⊥)
-
--- between two blocks
-pub record IsBetween (m : Moves) (labels : List ℕ) (p : Parts) (taken : ℕ) : Type 0 where
+-- how many blocks each unit took
+pub record IsSettling (m : Moves) (labels : List ℕ) (p : Parts) (taken : List ℕ) : Type 0 where
   pub refined : IsRefined m labels p
-  pub pending : (x y u : ℕ) → x < m.rows → y < m.rows → u < m.units → block_of p x ≡ block_of p y → Leads p taken ⊥ (next_row m x u) (next_row m y u)
-
--- while a block is worked through: its members when it was taken, and the unit that comes next
-pub record IsWithin (m : Moves) (labels : List ℕ) (p : Parts) (taken : ℕ) (taking : List ℕ) (unit : ℕ) : Type 0 where
-  pub refined : IsRefined m labels p
-  pub small : All (λ row. row < m.rows) taking
-  pub below : taken ≤ length p.sizes
-  pub pending : (x y u : ℕ) → x < m.rows → y < m.rows → u < m.units → block_of p x ≡ block_of p y → Leads p taken (IsBusy taking unit u (next_row m x u) (next_row m y u)) (next_row m x u) (next_row m y u)
-  pub apart : (x y : ℕ) → x < m.rows → y < m.rows → is_in taking x ≡ true → is_in taking y ≡ false → AreToldApart m labels x y
+  pub taken_len : length taken ≡ m.units
+  pub below : (u : ℕ) → u < m.units → get_or taken u 0 ≤ length p.sizes
+  pub pending : (x y u : ℕ) → x < m.rows → y < m.rows → u < m.units → block_of p x ≡ block_of p y → Leads p (get_or taken u 0) (next_row m x u) (next_row m y u)
 
 -- at first each block waits
-pub IsBetween-first : (m : Moves) (labels : List ℕ) (p : Parts) → IsRefined m labels p → IsBetween m labels p 0
-IsBetween-first m labels p r = record {
+pub IsSettling-first : (m : Moves) (labels : List ℕ) (p : Parts) (taken : List ℕ) → IsRefined m labels p → length taken ≡ m.units → ((u : ℕ) → u < m.units → get_or taken u 0 ≡ 0) → IsSettling m labels p taken
+IsSettling-first m labels p taken r len zeros = record {
   refined = r;
-  pending = λ x y u lx ly lu e. first (omega arith);
+  taken_len = len;
+  below = λ u h. (let z = zeros u h in omega arith);
+  pending = λ x y u lx ly lu e. first (let z = zeros u lu in omega arith);
 }
 
--- ---- a block is taken
-module _ (m : Moves) (labels : List ℕ) (p : Parts) (taken : ℕ) (moves : AreMoves m) (a : IsBetween m labels p taken) (h : taken < length p.sizes) where
-  private_rows : (x : ℕ) → x < m.rows → x < length p.rows
-  private_rows x l = let e = a.refined.rows_len in omega arith
-
-  taken_in : (x : ℕ) → x < m.rows → is_in (members p a.refined.partition taken h) x ≡ eqb (block_of p x) taken
-  taken_in x l = is_in_members p a.refined.partition taken h x (private_rows x l)
-
-  take_first : (x y u : ℕ) → u < m.units → x < m.rows → y < m.rows → taken ≤ block_of p x → Leads p (taken + 1) (IsBusy (members p a.refined.partition taken h) 0 u x y) x y
-  take_first x y u lu lx ly le =
-      ⊎_elim
-      (λ (e : block_of p x ≡ taken).
-      ⊎_elim
-      (λ (f : block_of p y ≡ taken). same (e ∙ sym f))
-      (λ (ne : block_of p y ≡ taken → ⊥).
-      working (omega arith, λ i. true≢false (sym (taken_in x lx ∙ eq-eqb (block_of p x) taken e) ∙ i ∙ taken_in y ly ∙ ne_eqb (block_of p y) taken ne)))
-      (cases_eq (block_of p y) taken))
-      (λ (ne : block_of p x ≡ taken → ⊥). first (omega arith))
-      (cases_eq (block_of p x) taken)
-
-  take_second : (x y u : ℕ) → u < m.units → x < m.rows → y < m.rows → taken ≤ block_of p y → Leads p (taken + 1) (IsBusy (members p a.refined.partition taken h) 0 u x y) x y
-  take_second x y u lu lx ly le =
-      ⊎_elim
-      (λ (e : block_of p y ≡ taken).
-      ⊎_elim
-      (λ (f : block_of p x ≡ taken). same (f ∙ sym e))
-      (λ (ne : block_of p x ≡ taken → ⊥).
-      working (omega arith, λ i. true≢false (sym (taken_in y ly ∙ eq-eqb (block_of p y) taken e) ∙ sym i ∙ taken_in x lx ∙ ne_eqb (block_of p x) taken ne)))
-      (cases_eq (block_of p x) taken))
-      (λ (ne : block_of p y ≡ taken → ⊥). second (omega arith))
-      (cases_eq (block_of p y) taken)
-
-  take_leads : (x y u : ℕ) → u < m.units → x < m.rows → y < m.rows → Leads p taken ⊥ x y → Leads p (taken + 1) (IsBusy (members p a.refined.partition taken h) 0 u x y) x y
-  take_leads x y u lu lx ly (same e) = same e
-  take_leads x y u lu lx ly (first e) = take_first x y u lu lx ly e
-  take_leads x y u lu lx ly (second e) = take_second x y u lu lx ly e
-  take_leads x y u lu lx ly (working e) = absurd e
-
-  pub IsWithin-take : IsWithin m labels p (taken + 1) (members p a.refined.partition taken h) 0
-  IsWithin-take = record {
-    refined = a.refined;
-    small = let e = a.refined.rows_len in λ k d l. (let s = members_small p a.refined.partition taken h k d l in omega arith);
-    below = omega arith;
-    pending = λ x y u lx ly lu e. take_leads (next_row m x u) (next_row m y u) u lu (moves.nexts x u lx lu) (moves.nexts y u ly lu) (a.pending x y u lx ly lu e);
-    apart = λ x y lx ly tx fy. a.refined.told x y lx ly (λ e. true≢false (sym tx ∙ taken_in x lx ∙ ap (λ n. eqb n taken) e ∙ sym (taken_in y ly) ∙ fy));
-  }
-
--- ---- the blocks are split by the rows that a unit leads into the taken block
-module _ (m : Moves) (labels : List ℕ) (p : Parts) (taken : ℕ) (taking : List ℕ) (unit : ℕ) (moves : AreMoves m) (hu : unit < m.units) (a : IsWithin m labels p taken taking unit) (hits : List ℕ) (q : Parts) (s : SplitsBy p hits q) (is : (row : ℕ) → row < m.rows → is_in hits row ≡ is_in taking (next_row m row unit)) where
+-- ---- the blocks are split
+module _ (m : Moves) (p : Parts) (len : length p.rows ≡ m.rows) (hits : List ℕ) (q : Parts) (s : SplitsBy p hits q) where
   rows_in : (x : ℕ) → x < m.rows → x < length p.rows
-  rows_in x l = let e = a.refined.rows_len in omega arith
-
-  told_by_split : (x y : ℕ) → x < m.rows → y < m.rows → (is_in taking (next_row m x unit) ≡ is_in taking (next_row m y unit) → ⊥) → AreToldApart m labels x y
-  told_by_split x y lx ly ne =
-      ⊎_elim
-      (λ (tx : is_in taking (next_row m x unit) ≡ true).
-      ⊎_elim
-      (λ (ty : is_in taking (next_row m y unit) ≡ true). absurd (ne (tx ∙ sym ty)))
-      (λ (fy : is_in taking (next_row m y unit) ≡ false).
-      AreToldApart-before m labels x y unit hu (a.apart (next_row m x unit) (next_row m y unit) (moves.nexts x unit lx hu) (moves.nexts y unit ly hu) tx fy))
-      (cases_Bool (is_in taking (next_row m y unit))))
-      (λ (fx : is_in taking (next_row m x unit) ≡ false).
-      ⊎_elim
-      (λ (ty : is_in taking (next_row m y unit) ≡ true).
-      AreToldApart-flip m labels y x (AreToldApart-before m labels y x unit hu (a.apart (next_row m y unit) (next_row m x unit) (moves.nexts y unit ly hu) (moves.nexts x unit lx hu) ty fx)))
-      (λ (fy : is_in taking (next_row m y unit) ≡ false). absurd (ne (fx ∙ sym fy)))
-      (cases_Bool (is_in taking (next_row m y unit))))
-      (cases_Bool (is_in taking (next_row m x unit)))
-
-  split_told : (x y : ℕ) → x < m.rows → y < m.rows → (block_of q x ≡ block_of q y → ⊥) → AreToldApart m labels x y
-  split_told x y lx ly ne =
-      ⊎_elim
-      (λ (e : block_of p x ≡ block_of p y).
-      told_by_split x y lx ly (λ i. ne (s.kept x y (rows_in x lx) (rows_in y ly) e (is x lx ∙ i ∙ sym (is y ly)))))
-      (λ (n : block_of p x ≡ block_of p y → ⊥). a.refined.told x y lx ly n)
-      (cases_eq (block_of p x) (block_of p y))
+  rows_in x l = omega arith
 
   -- a row's new number isn't less
-  later : (x : ℕ) → x < m.rows → taken ≤ block_of p x → taken ≤ block_of q x
-  later x l le =
-      let b = a.below in
-      ⊎_elim (λ h. (let e = h.0 in omega arith)) (λ h. (let g = h.0 in omega arith)) (s.numbers x (rows_in x l))
+  later : (k x : ℕ) → k ≤ length p.sizes → x < m.rows → k ≤ block_of p x → k ≤ block_of q x
+  later k x b l le = ⊎_elim (λ h. (let e = h.0 in omega arith)) (λ h. (let g = h.0 in omega arith)) (s.numbers x (rows_in x l))
 
   -- rows of one block are in one block, or one of them is in a new one
-  split_same : (x y : ℕ) (busy : Type 0) → x < m.rows → y < m.rows → block_of p x ≡ block_of p y → Leads q taken busy x y
-  split_same x y busy lx ly e =
-      let b = a.below in
+  split_same : (k x y : ℕ) → k ≤ length p.sizes → x < m.rows → y < m.rows → block_of p x ≡ block_of p y → Leads q k x y
+  split_same k x y b lx ly e =
       ⊎_elim
       (λ hx. ⊎_elim
       (λ hy. same (hx.0 ∙ e ∙ sym hy.0))
@@ -238,64 +157,105 @@ module _ (m : Moves) (labels : List ℕ) (p : Parts) (taken : ℕ) (taking : Lis
       (λ hx. first (let g = hx.0 in omega arith))
       (s.numbers x (rows_in x lx))
 
-  split_busy : (x y u : ℕ) → x < m.rows → y < m.rows → block_of q x ≡ block_of q y → IsBusy taking unit u (next_row m x u) (next_row m y u) → Leads q taken (IsBusy taking (unit + 1) u (next_row m x u) (next_row m y u)) (next_row m x u) (next_row m y u)
-  split_busy x y u lx ly e w =
+  split_leads : (k x y : ℕ) → k ≤ length p.sizes → x < m.rows → y < m.rows → Leads p k x y → Leads q k x y
+  split_leads k x y b lx ly (same e) = split_same k x y b lx ly e
+  split_leads k x y b lx ly (first e) = first (later k x b lx e)
+  split_leads k x y b lx ly (second e) = second (later k y b ly e)
+
+-- ---- a unit takes a block: the blocks are split by the rows that it leads into that block
+module _ (m : Moves) (labels : List ℕ) (p : Parts) (taken : List ℕ) (unit : ℕ) (moves : AreMoves m) (hu : unit < m.units) (a : IsSettling m labels p taken) (h : get_or taken unit 0 < length p.sizes) (hits : List ℕ) (q : Parts) (s : SplitsBy p hits q) (is : (row : ℕ) → row < m.rows → is_in hits row ≡ is_in (members p a.refined.partition (get_or taken unit 0) h) (next_row m row unit)) where
+  p_rows : (x : ℕ) → x < m.rows → x < length p.rows
+  p_rows x l = let e = a.refined.rows_len in omega arith
+
+  taken_in : (x : ℕ) → x < m.rows → is_in (members p a.refined.partition (get_or taken unit 0) h) x ≡ eqb (block_of p x) (get_or taken unit 0)
+  taken_in x l = is_in_members p a.refined.partition (get_or taken unit 0) h x (p_rows x l)
+
+  -- a row is hit where the unit leads it into the taken block
+  hit : (x : ℕ) → x < m.rows → is_in hits x ≡ eqb (block_of p (next_row m x unit)) (get_or taken unit 0)
+  hit x l = is x l ∙ taken_in (next_row m x unit) (moves.nexts x unit l hu)
+
+  told_by_split : (x y : ℕ) → x < m.rows → y < m.rows → (is_in hits x ≡ is_in hits y → ⊥) → AreToldApart m labels x y
+  told_by_split x y lx ly ne =
+      AreToldApart-before m labels x y unit hu
+      (a.refined.told (next_row m x unit) (next_row m y unit) (moves.nexts x unit lx hu) (moves.nexts y unit ly hu)
+      (λ e. ne (hit x lx ∙ ap (λ n. eqb n (get_or taken unit 0)) e ∙ sym (hit y ly))))
+
+  split_told : (x y : ℕ) → x < m.rows → y < m.rows → (block_of q x ≡ block_of q y → ⊥) → AreToldApart m labels x y
+  split_told x y lx ly ne =
       ⊎_elim
-      (λ (now : u ≡ unit).
-      absurd (w.1 (subst (λ n. is_in taking (next_row m x n) ≡ is_in taking (next_row m y n)) (sym now) (sym (is x lx) ∙ s.agrees x y (rows_in x lx) (rows_in y ly) e ∙ is y ly))))
-      (λ (ne : u ≡ unit → ⊥). working (let g = w.0 in omega arith, w.1))
+      (λ (e : block_of p x ≡ block_of p y). told_by_split x y lx ly (λ i. ne (s.kept x y (p_rows x lx) (p_rows y ly) e i)))
+      (λ (n : block_of p x ≡ block_of p y → ⊥). a.refined.told x y lx ly n)
+      (cases_eq (block_of p x) (block_of p y))
+
+  -- rows that stay together are both hit or both not
+  both_hit : (x y : ℕ) → x < m.rows → y < m.rows → block_of q x ≡ block_of q y → eqb (block_of p (next_row m x unit)) (get_or taken unit 0) ≡ eqb (block_of p (next_row m y unit)) (get_or taken unit 0)
+  both_hit x y lx ly e = sym (hit x lx) ∙ s.agrees x y (p_rows x lx) (p_rows y ly) e ∙ hit y ly
+
+  taken_first : (x y : ℕ) → x < m.rows → y < m.rows → block_of q x ≡ block_of q y → get_or taken unit 0 ≤ block_of p (next_row m x unit) → Leads q (get_or taken unit 0 + 1) (next_row m x unit) (next_row m y unit)
+  taken_first x y lx ly e le =
+      ⊎_elim
+      (λ (f : block_of p (next_row m x unit) ≡ get_or taken unit 0).
+      let g : block_of p (next_row m y unit) ≡ get_or taken unit 0 = eqb-true (block_of p (next_row m y unit)) (get_or taken unit 0) (sym (both_hit x y lx ly e) ∙ eq-eqb (block_of p (next_row m x unit)) (get_or taken unit 0) f) in
+      split_same m p a.refined.rows_len hits q s (get_or taken unit 0 + 1) (next_row m x unit) (next_row m y unit) (omega arith) (moves.nexts x unit lx hu) (moves.nexts y unit ly hu) (f ∙ sym g))
+      (λ (ne : block_of p (next_row m x unit) ≡ get_or taken unit 0 → ⊥).
+      first (later m p a.refined.rows_len hits q s (get_or taken unit 0 + 1) (next_row m x unit) (omega arith) (moves.nexts x unit lx hu) (omega arith)))
+      (cases_eq (block_of p (next_row m x unit)) (get_or taken unit 0))
+
+  flipped : (x y k : ℕ) → Leads q k x y → Leads q k y x
+  flipped x y k (same e) = same (sym e)
+  flipped x y k (first e) = second e
+  flipped x y k (second e) = first e
+
+  taken_leads : (x y : ℕ) → x < m.rows → y < m.rows → block_of q x ≡ block_of q y → Leads p (get_or taken unit 0) (next_row m x unit) (next_row m y unit) → Leads q (get_or taken unit 0 + 1) (next_row m x unit) (next_row m y unit)
+  taken_leads x y lx ly e (same f) = split_same m p a.refined.rows_len hits q s (get_or taken unit 0 + 1) (next_row m x unit) (next_row m y unit) (omega arith) (moves.nexts x unit lx hu) (moves.nexts y unit ly hu) f
+  taken_leads x y lx ly e (first f) = taken_first x y lx ly e f
+  taken_leads x y lx ly e (second f) = flipped (next_row m y unit) (next_row m x unit) (get_or taken unit 0 + 1) (taken_first y x ly lx (sym e) f)
+
+  more_pending : (x y u : ℕ) → x < m.rows → y < m.rows → u < m.units → block_of q x ≡ block_of q y → Leads q (get_or (set taken unit (get_or taken unit 0 + 1)) u 0) (next_row m x u) (next_row m y u)
+  more_pending x y u lx ly lu e =
+      let old : Leads p (get_or taken u 0) (next_row m x u) (next_row m y u) = a.pending x y u lx ly lu (s.finer x y (p_rows x lx) (p_rows y ly) e) in
+      ⊎_elim
+      (λ (f : u ≡ unit).
+      let l = a.taken_len in
+      rw (f, get_or-set_same taken unit (get_or taken unit 0 + 1) 0 (omega arith)) (taken_leads x y lx ly e (rw f at old)))
+      (λ (ne : u ≡ unit → ⊥).
+      rw (get_or-set_other taken unit u (get_or taken unit 0 + 1) 0 ne)
+      (split_leads m p a.refined.rows_len hits q s (get_or taken u 0) (next_row m x u) (next_row m y u) (a.below u lu) (moves.nexts x u lx lu) (moves.nexts y u ly lu) old))
       (cases_eq u unit)
 
-  split_leads : (x y u : ℕ) → x < m.rows → y < m.rows → u < m.units → block_of q x ≡ block_of q y → Leads p taken (IsBusy taking unit u (next_row m x u) (next_row m y u)) (next_row m x u) (next_row m y u) → Leads q taken (IsBusy taking (unit + 1) u (next_row m x u) (next_row m y u)) (next_row m x u) (next_row m y u)
-  split_leads x y u lx ly lu e (same f) = split_same (next_row m x u) (next_row m y u) (IsBusy taking (unit + 1) u (next_row m x u) (next_row m y u)) (moves.nexts x u lx lu) (moves.nexts y u ly lu) f
-  split_leads x y u lx ly lu e (first f) = first (later (next_row m x u) (moves.nexts x u lx lu) f)
-  split_leads x y u lx ly lu e (second f) = second (later (next_row m y u) (moves.nexts y u ly lu) f)
-  split_leads x y u lx ly lu e (working w) = split_busy x y u lx ly e w
+  more_below : (u : ℕ) → u < m.units → get_or (set taken unit (get_or taken unit 0 + 1)) u 0 ≤ length q.sizes
+  more_below u lu =
+      let g = s.more in
+      let l = a.taken_len in
+      ⊎_elim
+      (λ (f : u ≡ unit). rw (f, get_or-set_same taken unit (get_or taken unit 0 + 1) 0 (omega arith)) (omega arith))
+      (λ (ne : u ≡ unit → ⊥). rw (get_or-set_other taken unit u (get_or taken unit 0 + 1) 0 ne) (let b = a.below u lu in omega arith))
+      (cases_eq u unit)
 
-  pub IsWithin-split : IsWithin m labels q taken taking (unit + 1)
-  IsWithin-split = record {
+  pub IsSettling-more : IsSettling m labels q (set taken unit (get_or taken unit 0 + 1))
+  IsSettling-more = record {
     refined = record {
       partition = s.partition;
       rows_len = s.rows_len ∙ a.refined.rows_len;
       clear = s.clear;
-      labelled = λ x y lx ly e. a.refined.labelled x y lx ly (s.finer x y (rows_in x lx) (rows_in y ly) e);
+      labelled = λ x y lx ly e. a.refined.labelled x y lx ly (s.finer x y (p_rows x lx) (p_rows y ly) e);
       told = split_told;
     };
-    small = a.small;
-    below = let b = a.below in let g = s.more in omega arith;
-    pending = λ x y u lx ly lu e. split_leads x y u lx ly lu e (a.pending x y u lx ly lu (s.finer x y (rows_in x lx) (rows_in y ly) e));
-    apart = a.apart;
+    taken_len = length-set taken unit (get_or taken unit 0 + 1) ∙ a.taken_len;
+    below = more_below;
+    pending = more_pending;
   }
 
--- ---- all units are done
-finish_leads : (p : Parts) (taken : ℕ) (taking : List ℕ) (unit u x y : ℕ) → u < unit → Leads p taken (IsBusy taking unit u x y) x y → Leads p taken ⊥ x y
-finish_leads p taken taking unit u x y l (same e) = same e
-finish_leads p taken taking unit u x y l (first e) = first e
-finish_leads p taken taking unit u x y l (second e) = second e
-finish_leads p taken taking unit u x y l (working w) = absurd (let g = w.0 in omega arith)
-
-pub IsBetween-finish : (m : Moves) (labels : List ℕ) (p : Parts) (taken : ℕ) (taking : List ℕ) (unit : ℕ) → m.units ≤ unit → IsWithin m labels p taken taking unit → IsBetween m labels p taken
-IsBetween-finish m labels p taken taking unit h a = record {
-  refined = a.refined;
-  pending = λ x y u lx ly lu e. finish_leads p taken taking unit u (next_row m x u) (next_row m y u) (omega arith) (a.pending x y u lx ly lu e);
-}
-
--- ---- no block waits any more
-module _ (m : Moves) (labels : List ℕ) (p : Parts) (taken : ℕ) (moves : AreMoves m) (a : IsBetween m labels p taken) (h : length p.sizes ≤ taken) where
-  end_same : (x y : ℕ) → x < m.rows → y < m.rows → Leads p taken ⊥ x y → block_of p x ≡ block_of p y
-  end_same x y lx ly (same e) = e
-  end_same x y lx ly (first e) = absurd (let r = a.refined.rows_len in let b = a.refined.partition.block_at x (omega arith) in omega arith)
-  end_same x y lx ly (second e) = absurd (let r = a.refined.rows_len in let b = a.refined.partition.block_at y (omega arith) in omega arith)
-  end_same x y lx ly (working e) = absurd e
-
+-- ---- nothing is left to split: the rows to which a unit leads two rows of one block are in one block
+module _ (m : Moves) (labels : List ℕ) (p : Parts) (moves : AreMoves m) (r : IsRefined m labels p) (steady : (x y u : ℕ) → x < m.rows → y < m.rows → u < m.units → block_of p x ≡ block_of p y → block_of p (next_row m x u) ≡ block_of p (next_row m y u)) where
   end_alike : (x y : ℕ) (word : List ℕ) → x < m.rows → y < m.rows → block_of p x ≡ block_of p y → IsWord m word → label_after m labels x word ≡ label_after m labels y word
-  end_alike x y [] lx ly e w = label_after-nil m labels x ∙ a.refined.labelled x y lx ly e ∙ sym (label_after-nil m labels y)
+  end_alike x y [] lx ly e w = label_after-nil m labels x ∙ r.labelled x y lx ly e ∙ sym (label_after-nil m labels y)
   end_alike x y (unit ∷ word) lx ly e w =
       let hu : unit < m.units = IsWord-head m unit word w in
       let nx : next_row m x unit < m.rows = moves.nexts x unit lx hu in
       let ny : next_row m y unit < m.rows = moves.nexts y unit ly hu in
       label_after-cons m labels x unit word
-      ∙ end_alike (next_row m x unit) (next_row m y unit) word nx ny (end_same (next_row m x unit) (next_row m y unit) nx ny (a.pending x y unit lx ly hu e)) (IsWord-tail m unit word w)
+      ∙ end_alike (next_row m x unit) (next_row m y unit) word nx ny (steady x y unit lx ly hu e) (IsWord-tail m unit word w)
       ∙ sym (label_after-cons m labels y unit word)
 
   pub alike_from_same : (x y : ℕ) → x < m.rows → y < m.rows → block_of p x ≡ block_of p y → BehaveAlike m labels x y
@@ -305,5 +265,21 @@ module _ (m : Moves) (labels : List ℕ) (p : Parts) (taken : ℕ) (moves : AreM
   same_from_alike x y lx ly b =
       ⊎_elim
       (λ (e : block_of p x ≡ block_of p y). e)
-      (λ (ne : block_of p x ≡ block_of p y → ⊥). absurd (let t = a.refined.told x y lx ly ne in t.differ (b t.word t.is_word)))
+      (λ (ne : block_of p x ≡ block_of p y → ⊥). absurd (let t = r.told x y lx ly ne in t.differ (b t.word t.is_word)))
       (cases_eq (block_of p x) (block_of p y))
+
+-- each unit took all blocks
+module _ (m : Moves) (labels : List ℕ) (p : Parts) (taken : List ℕ) (moves : AreMoves m) (a : IsSettling m labels p taken) (h : (u : ℕ) → u < m.units → length p.sizes ≤ get_or taken u 0) where
+  end_same : (x y k : ℕ) → length p.sizes ≤ k → x < m.rows → y < m.rows → Leads p k x y → block_of p x ≡ block_of p y
+  end_same x y k l lx ly (same e) = e
+  end_same x y k l lx ly (first e) = absurd (let r = a.refined.rows_len in let b = a.refined.partition.block_at x (omega arith) in omega arith)
+  end_same x y k l lx ly (second e) = absurd (let r = a.refined.rows_len in let b = a.refined.partition.block_at y (omega arith) in omega arith)
+
+  pub steady_at_end : (x y u : ℕ) → x < m.rows → y < m.rows → u < m.units → block_of p x ≡ block_of p y → block_of p (next_row m x u) ≡ block_of p (next_row m y u)
+  steady_at_end x y u lx ly lu e = end_same (next_row m x u) (next_row m y u) (get_or taken u 0) (h u lu) (moves.nexts x u lx lu) (moves.nexts y u ly lu) (a.pending x y u lx ly lu e)
+
+-- each row is alone in its block
+pub steady_where_discrete : (m : Moves) (labels : List ℕ) (p : Parts) → IsRefined m labels p → length p.sizes ≡ length p.rows → (x y u : ℕ) → x < m.rows → y < m.rows → u < m.units → block_of p x ≡ block_of p y → block_of p (next_row m x u) ≡ block_of p (next_row m y u)
+steady_where_discrete m labels p r d x y u lx ly lu e =
+    let l = r.rows_len in
+    ap (λ n. block_of p (next_row m n u)) (alone p r.partition d x y (omega arith) (omega arith) e)

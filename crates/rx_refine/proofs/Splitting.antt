@@ -1,5 +1,5 @@
 -- A block that is split into two ranges.
-use Rattle.std.proofs.Common.{◌≡◌, ℕ, ◌+◌, ◌*◌, ◌<◌, ◌≤◌, ◌⊎◌, Bool, true, false, cond, ◌&&◌, List, [], ◌∷◌, ◌++◌, length, get_or, set, eqb, ltb, leb, refl, sym, subst, ap, ◌∙◌, inl, inr, ⊎_elim, arith, true≢false, ltb-true, leb-true, le-leb, lt-ltb, eqb-true, ne_eqb, length-set, get_or-set_same, get_or-set_other}
+use Rattle.std.proofs.Common.{◌≡◌, ℕ, zero, suc, ◌+◌, ◌*◌, ◌<◌, ◌≤◌, ◌⊎◌, Bool, true, false, cond, ◌&&◌, List, [], ◌∷◌, ◌++◌, length, get_or, set, eqb, ltb, leb, refl, sym, subst, ap, ◌∙◌, inl, inr, ⊎_elim, arith, true≢false, ltb-true, leb-true, le-leb, lt-ltb, eqb-true, ne_eqb, length-set, get_or-set_same, get_or-set_other}
 use Rattle.std.specs.List.{list_any, Contains}
 use Rattle.std.proofs.lemmas.Bool.{cases_Bool, cases_lt, cases_eq, cond-true, cond-false, and_parts, and_from}
 use Rattle.std.proofs.lemmas.List.{get_or_default, get_or_push, get_or_append_left, get_or_past, length_push}
@@ -41,6 +41,52 @@ module _ (p : Parts) (w : IsPartition p) where
   blocks_few =
       let s = w.starts_len in
       omega (arith, length-le_from_distinct_below p.starts (length p.rows) (IsDistinct-from_apart eqb p.starts starts_apart) starts_small)
+
+  -- a place in a block past its start is no start
+  no_start : (place b k : ℕ) → b < length p.sizes → get_or p.starts b 0 < place → place < get_or p.starts b 0 + size_of p b → k < length p.starts → get_or p.starts k 0 ≡ place → ⊥
+  no_start place b k hb lo hi lk e =
+      let s = w.starts_len in
+      let at : block_of p (get_or p.rows place 0) ≡ b = w.in_block b place hb (omega arith) hi in
+      let same : k ≡ b = sym (block_of_start k (omega arith)) ∙ ap (λ n. block_of p (get_or p.rows n 0)) e ∙ at in
+      let f : get_or p.starts b 0 ≡ place = ap (λ n. get_or p.starts n 0) (sym same) ∙ e in
+      omega arith
+
+  with_apart : (place : ℕ) → ((k : ℕ) → k < length p.starts → get_or p.starts k 0 ≡ place → ⊥) → (i j d : ℕ) → i < j → j < length (place ∷ p.starts) → eqb (get_or (place ∷ p.starts) i d) (get_or (place ∷ p.starts) j d) ≡ false
+  with_apart place free i zero d l h = absurd (omega arith)
+  with_apart place free zero (suc j) d l h = ne_eqb place (get_or p.starts j d) (λ e. free j (omega arith) (get_or_default p.starts j 0 d (omega arith) ∙ sym e))
+  with_apart place free (suc i) (suc j) d l h = starts_apart i j d (omega arith) (omega arith)
+
+  with_small : (place : ℕ) → place < length p.rows → (q : ℕ) → list_any (eqb q) (place ∷ p.starts) ≡ true → q < length p.rows
+  with_small place l q t =
+      ⊎_elim
+      (λ (e : eqb q place ≡ true). let f = eqb-true q place e in omega arith)
+      (λ (n : eqb q place ≡ false). starts_small q (rw n at t))
+      (cases_Bool (eqb q place))
+
+  -- where a block has a place past its start, there are fewer blocks than rows
+  pub blocks_fewer : (place b : ℕ) → b < length p.sizes → get_or p.starts b 0 < place → place < get_or p.starts b 0 + size_of p b → length p.sizes < length p.rows
+  blocks_fewer place b hb lo hi =
+      let s = w.starts_len in
+      let l : place < length p.rows = omega (arith, w.within b hb) in
+      let c : length (place ∷ p.starts) ≤ length p.rows = length-le_from_distinct_below (place ∷ p.starts) (length p.rows) (IsDistinct-from_apart eqb (place ∷ p.starts) (with_apart place (λ k lk e. no_start place b k hb lo hi lk e))) (with_small place l) in
+      omega arith
+
+  -- where there are as many blocks as rows, a row stands at the start of its block
+  at_start : length p.sizes ≡ length p.rows → (x : ℕ) → x < length p.rows → get_or p.places x 0 ≡ get_or p.starts (block_of p x) 0
+  at_start d x l =
+      let lo = w.from_start x l in
+      let hi = w.to_end x l in
+      ⊎_elim
+      (λ (lt : get_or p.starts (block_of p x) 0 < get_or p.places x 0).
+      absurd (let f = blocks_fewer (get_or p.places x 0) (block_of p x) (w.block_at x l) lt hi in omega arith))
+      (λ (le : get_or p.places x 0 ≤ get_or p.starts (block_of p x) 0). omega arith)
+      (cases_lt (get_or p.starts (block_of p x) 0) (get_or p.places x 0))
+
+  -- and is alone in it
+  pub alone : length p.sizes ≡ length p.rows → (x y : ℕ) → x < length p.rows → y < length p.rows → block_of p x ≡ block_of p y → x ≡ y
+  alone d x y lx ly e =
+      let places : get_or p.places x 0 ≡ get_or p.places y 0 = at_start d x lx ∙ ap (λ b. get_or p.starts b 0) e ∙ sym (at_start d y ly) in
+      sym (w.permuted.row_of_place x lx) ∙ ap (λ n. get_or p.rows n 0) places ∙ w.permuted.row_of_place y ly
 
 -- ---- a list with one element changed and one more at its end
 module _ (xs : List ℕ) (b u v k : ℕ) (len : length xs ≡ k) (h : b < k) where

@@ -52,6 +52,15 @@ total_single h x (suc n) l =
     (λ (ne : n ≡ x → ⊥). let t : ◌≡◌ {A = ℕ} (cond (eqb n x) (h n) 0) 0 = rw (ne_eqb n x ne) refl in omega (arith, total_single h x n (omega arith), t))
     (cases_eq n x)
 
+-- a term is at most the sum
+pub total_term : (f : ℕ → ℕ) (x n : ℕ) → x < n → f x ≤ total f n
+total_term f x zero l = absurd (omega arith)
+total_term f x (suc n) l =
+    ⊎_elim
+    (λ (e : x ≡ n). rw e (omega arith))
+    (λ (ne : x ≡ n → ⊥). let t = total_term f x n (omega arith) in omega arith)
+    (cases_eq x n)
+
 pub total-how_many : (xs : List ℕ) (n : ℕ) → total (λ r. how_many xs r) n ≡ how_many_below xs n
 total-how_many xs zero = sym (how_many_below-zero xs)
 total-how_many xs (suc n) = rw (add-one-sym n) (omega (arith, total-how_many xs n, how_many_below_more xs n))

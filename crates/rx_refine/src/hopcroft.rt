@@ -1,6 +1,6 @@
 //! The refinement.
 
-ghost use Rattle.std.specs.Prelude.{◌≡◌, ℕ, ◌+◌, ◌<◌, ◌≤◌, ◌^◌, ◌++◌, length, All, IfOk, OnOk};
+ghost use Rattle.std.specs.Prelude.{◌≡◌, ℕ, ◌+◌, ◌<◌, ◌≤◌, ◌^◌, ◌++◌, length, slice_index, All, IfOk, OnOk};
 ghost use Rattle.std.specs.List.{flat_map, sum_by};
 ghost use Rattle.rx_refine.specs.Moves.{AreMoves, Moves, sources, read_limit, AreAlikeByNumber, AreToldByNumber, AreWithoutGaps};
 ghost use Rattle.rx_refine.specs.Kept.{parts};
@@ -15,10 +15,12 @@ use std::alloc::{AllocError, Global};
 /// For each row the number of its block. Two rows are in one block exactly where they behave alike for
 /// the labels `first`: every word of units leads from both to rows with equal labels.
 ///
-/// Blocks are taken in the order of their numbers. While a block is worked through, each block is split
-/// into the rows that a unit leads into the taken block and those that it doesn't. The smaller part of
-/// a split gets a new number, so it is taken later; the larger part keeps its number, so it is taken
-/// later where it wasn't taken yet.
+/// For each unit the blocks are taken in the order of their numbers. Where a block is taken for a unit,
+/// each block is split into the rows that the unit leads into the taken block and those that it
+/// doesn't. The smaller part of a split gets a new number, so it is taken later; the larger part keeps
+/// its number, so it is taken later where it wasn't taken yet. One unit takes all blocks that wait for
+/// it before the next unit does, since its lists stay near then. Rows that are all apart can't be split
+/// further, and nothing more is read.
 pub fn refine<L>(
     alloc: Global,
     incoming: &Incoming<L>,
@@ -41,19 +43,32 @@ pub fn refine<L>(
     let units = incoming.units();
     let mut touched = Vec::new(alloc);
     let mut partition = by_label(alloc, first, &mut touched)?;
-    let mut members = Vec::new(alloc);
     let mut hits = Vec::new(alloc);
-    let mut taken = 0;
-    while taken < partition.len() {
-        members.clear();
-        members.extend_from_slice(partition.members(taken))?;
-        taken += 1;
+    let mut taken = none_taken(alloc, units)?;
+    let mut seen = 0;
+    while seen < partition.len() {
+        seen = partition.len();
         for unit in 0..units {
-            gather(incoming, &members, unit, &mut hits, steps)?;
-            partition.split(&hits, &mut touched)?;
+            while taken[unit] < partition.len() {
+                if partition.is_discrete() {
+                    return Ok(partition.into_blocks());
+                }
+                let block = taken[unit];
+                gather(incoming, partition.members(block), unit, &mut hits, steps)?;
+                partition.split(&hits, &mut touched)?;
+                taken[unit] = block + 1;
+            }
         }
     }
     Ok(partition.into_blocks())
+}
+
+/// For each unit how many blocks it took: none yet.
+fn none_taken(alloc: Global, units: usize) -> Result<Vec<usize>, AllocError>
+    ensures len { IfOk result (λ taken. length taken.items ≡ units) }
+    ensures none { IfOk result (λ taken. (unit : ℕ) → unit < units → slice_index taken.items unit ≡ 0) }
+{
+    vec![in alloc; 0; units]
 }
 
 /// The partition into rows with equal labels.

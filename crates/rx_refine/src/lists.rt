@@ -8,6 +8,10 @@ use rx_base::Steps;
 use std::alloc::{AllocError, Global};
 use std::marker::{Model, PhantomData};
 
+/// So many columns of a table are copied at a time: a line of a processor's cache has two times as many
+/// cells, and so a line that was read isn't read again soon.
+const COLUMNS: usize = 8;
+
 /// Which rows of a table lead to a row on a unit. Each read is counted by a ledger `L`.
 ///
 /// Contracts see the table: its rows, its units and the next row for each.
@@ -115,30 +119,41 @@ fn lists_of(
     requires nexts { All (λ row. row < rows) next.now }
     ensures { IfOk result (λ lists. AreColumns rows units next.now units lists.items) }
 {
-    let mut lists = Vec::new(alloc);
-    for unit in 0..units {
-        let column = column_of(alloc, rows, units, next, unit)?;
-        lists.push(Groups::new(alloc, &column)?)?;
+    let mut lists = Vec::with_capacity(alloc, units)?;
+    let mut room = vec![in alloc; 0; COLUMNS * rows]?;
+    let columns = room.as_mut_slice();
+    let mut first = 0;
+    while first < units {
+        let count = COLUMNS.min(units - first);
+        copy_columns(rows, units, next, first, count, columns);
+        for i in 0..count {
+            let column = &columns[i * rows..(i + 1) * rows];
+            lists.push(Groups::new(alloc, column)?)?;
+        }
+        first += count;
     }
     Ok(lists)
 }
 
-/// The row to which the unit leads, for each row.
-fn column_of(
-    alloc: Global,
+/// Copies the columns of so many units, one after another: the row to which each unit leads, for each
+/// row.
+fn copy_columns(
     rows: usize,
     units: usize,
     next: &[u32],
-    unit: usize,
-) -> Result<Vec<u32>, AllocError>
+    first: usize,
+    count: usize,
+    columns: &mut [u32],
+)
     requires cells { length next.now ≡ rows * units }
-    requires unit { unit < units }
-    ensures len { IfOk result (λ column. length column.items ≡ rows) }
-    ensures next { IfOk result (λ column. (row : ℕ) → row < rows → slice_index column.items row ≡ slice_index next.now (row * units + unit)) }
+    requires units { first + count ≤ units }
+    requires room { count * rows ≤ length columns.old }
+    ensures len { length columns.new ≡ length columns.old }
+    ensures copied { (i row : ℕ) → i < count → row < rows → slice_index columns.new (i * rows + row) ≡ slice_index next.now (row * units + (first + i)) }
 {
-    let mut column = Vec::with_capacity(alloc, rows)?;
     for row in 0..rows {
-        column.push(next[row * units + unit])?;
+        for i in 0..count {
+            columns[i * rows + row] = next[row * units + (first + i)];
+        }
     }
-    Ok(column)
 }
