@@ -165,10 +165,13 @@ fn rows_are_those_worked_by_hand(rt: HostRuntime) -> Result<(), Fail> {
         let count = nfa.rows().len();
         assert_eq!(rt; compiler.rows_len(&exprs), count as u64, "of {text}");
         assert!(rt; 0 < count && count < 20);
-        for (limit, want) in [(40 * count, None), (40 * count - 1, Some(40 * count - 1))] {
-            compiler.configure(Config::new().nfa_size_limit(Some(limit)));
-            assert_eq!(rt; exceeded(alloc, &compiler, &exprs), want, "of {text}");
-        }
+        let limit = 40 * count;
+        compiler.configure(Config::new().nfa_size_limit(Some(limit - 1)));
+        let told = exceeded(alloc, &compiler, &exprs);
+        assert_eq!(rt; told, Some(limit - 1), "of {text}");
+        compiler.configure(Config::new().nfa_size_limit(Some(limit)));
+        let again = compiler.build_many(alloc, &exprs)?;
+        assert_eq!(rt; again.rows().len(), count, "of {text}");
     }
     Ok(())
 }
