@@ -3,6 +3,8 @@
 
 mod bounds;
 mod expr;
+#[cfg(test)]
+mod tests;
 pub mod thompson;
 
 pub use expr::{Expr, ExprError, ExprKind};
