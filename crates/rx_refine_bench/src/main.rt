@@ -1,5 +1,5 @@
-//! Times the refinement on one table: `rx_refine_bench KIND ROWS UNITS`, where KIND is `chain`, `random`
-//! or `grid`.
+//! Times the refinement on one table: `rx_refine_bench KIND ROWS UNITS`, where KIND is `chain`, `random`,
+//! `twins` or `grid`.
 //!
 //! Standard output says how many blocks there are, and the steps taken beside their limit. Standard
 //! error says how long the lists took to build, and how long the refinement took.
@@ -23,7 +23,7 @@ use thiserror::Error;
 #[derive(Debug, Drop, Error)]
 enum Fault {
     /// The words are wrong.
-    #[error("usage: rx_refine_bench chain|random|grid ROWS UNITS, with 2 to 1000000 rows and at most 1000 units")]
+    #[error("usage: rx_refine_bench chain|random|twins|grid ROWS UNITS, with 2 to 1000000 rows and at most 1000 units")]
     Usage,
     /// Memory ran out, or the words, the clock or an output failed.
     #[error("{0}")]
@@ -53,6 +53,7 @@ fn run(rt: &HostRuntime) -> Result<(), Fault> {
     let kind = match kind.as_str() {
         "chain" => Kind::Chain,
         "random" => Kind::Random,
+        "twins" => Kind::Twins,
         _ => Kind::Grid,
     };
     measure(rt, rt.alloc(), kind, rows, units)?;

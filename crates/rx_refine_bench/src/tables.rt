@@ -11,6 +11,8 @@ pub enum Kind {
     Chain,
     /// Each unit leads to some row. Labels are random too.
     Random,
+    /// The same, but every second row is like the one before it.
+    Twins,
     /// Rows stand in a square. Every second unit leads to the right, the others down. The last row
     /// has a label of its own.
     Grid,
@@ -76,6 +78,7 @@ fn next_row(kind: Kind, rows: usize, side: usize, row: usize, unit: usize, seed:
     match kind {
         Kind::Chain => step(rows, row, 1),
         Kind::Random => random_below(seed, rows),
+        Kind::Twins => random_of(row / 2, unit, rows),
         Kind::Grid => {
             if unit % 2 == 1 {
                 step(rows, row, side)
@@ -104,8 +107,20 @@ fn label(kind: Kind, rows: usize, row: usize, seed: &mut u64) -> u32
 {
     match kind {
         Kind::Random => random_below(seed, 2) as u32,
+        Kind::Twins => random_of(row / 2, 1000, 2) as u32,
         _ => u32::from(row + 1 == rows),
     }
+}
+
+/// A pseudo-random number below the bound, the same again for the same pair.
+fn random_of(pair: usize, unit: usize, bound: usize) -> usize
+    requires { 0 < bound }
+    ensures { result < bound }
+{
+    let mut seed = (pair as u64).wrapping_mul(1009).wrapping_add(unit as u64);
+    random_below(&mut seed, bound);
+    seed ^= seed >> 29;
+    random_below(&mut seed, bound)
 }
 
 /// A pseudo-random number below the bound.
