@@ -5,11 +5,11 @@ use Rattle.rx_spec.specs.Contexts.{Facts, either_of, row_reads, facts_kept, no_f
 use Rattle.rx_expr.specs.Nfa.{row_of}
 use Rattle.rx_expr.specs.declared.thompson.nfa.Row.{Row}
 
-or_assoc : (a b c : Bool) → (a || (b || c)) ≡ ((a || b) || c)
+pub or_assoc : (a b c : Bool) → (a || (b || c)) ≡ ((a || b) || c)
 or_assoc true b c = refl
 or_assoc false b c = refl
 
-or_nothing : (a : Bool) → (a || false) ≡ a
+pub or_nothing : (a : Bool) → (a || false) ≡ a
 or_nothing true = refl
 or_nothing false = refl
 

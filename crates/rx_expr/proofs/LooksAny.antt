@@ -1,17 +1,10 @@
 -- The assertions of a list of rows, gathered one row after another.
-use Rattle.std.proofs.Common.{◌≡◌, ℕ, ◌+◌, ◌<◌, ◌≤◌, Bool, true, false, ◌||◌, List, [], ◌∷◌, length, refl, ap, sym, ◌∙◌, get_or, drop, drop-cons, add-one, map}
+use Rattle.std.proofs.Common.{◌≡◌, ℕ, ◌+◌, ◌<◌, ◌≤◌, Bool, false, ◌||◌, List, [], ◌∷◌, length, refl, ap, sym, ◌∙◌, get_or, drop, drop-cons, add-one, map}
 use Rattle.std.proofs.Math.ListN.{drop_of_length-le}
 use Rattle.rx_spec.specs.declared.Look.{Look}
 use Rattle.rx_expr.specs.Nfa.{row_of, asserts, has_look}
 use Rattle.rx_expr.specs.declared.thompson.nfa.Row.{Row}
-
-or_assoc : (a b c : Bool) → (a || (b || c)) ≡ ((a || b) || c)
-or_assoc true b c = refl
-or_assoc false b c = refl
-
-or_nothing : (a : Bool) → (a || false) ≡ a
-or_nothing true = refl
-or_nothing false = refl
+use Rattle.rx_expr.proofs.Asked.{or_assoc, or_nothing}
 
 abbrev looks_in : List Row → Look → Bool
 looks_in rows look = has_look (map row_of rows) look

@@ -55,6 +55,32 @@ fn parts_are_told_and_mirrors_swap_them(rt: HostRuntime) -> Result<(), Fail> {
     Ok(())
 }
 
+/// So many digits.
+fn digits(alloc: Global, count: u32) -> Result<Expr, ExprError> {
+    let mut digit = ByteSet::empty();
+    for byte in b'0'..=b'9' {
+        digit.add(byte);
+    }
+    Expr::repeat(alloc, count, Some(count), true, Expr::class(digit))
+}
+
+#[test]
+fn a_date_is_mirrored(rt: HostRuntime) -> Result<(), Fail> {
+    let alloc = rt.alloc();
+    let mut date = digits(alloc, 2)?;
+    for count in [2, 4] {
+        let dash = Expr::literal(alloc, b"-")?;
+        let rest = Expr::concat(alloc, dash, date)?;
+        date = Expr::concat(alloc, digits(alloc, count)?, rest)?;
+    }
+    let mirror = date.mirror(alloc)?;
+    let told = "012345678944!-012345678922!-012345678922!....";
+    let want = "012345678922!-.012345678922!.-.012345678944!.";
+    compared(&rt, alloc, &date, told, (10, 6))?;
+    compared(&rt, alloc, &mirror, want, (10, 6))?;
+    compared(&rt, alloc, &mirror.mirror(alloc)?, told, (10, 6))
+}
+
 #[test]
 fn leaves_literals_and_long_matches_are_told(rt: HostRuntime) -> Result<(), Fail> {
     let alloc = rt.alloc();

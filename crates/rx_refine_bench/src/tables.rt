@@ -13,8 +13,8 @@ pub enum Kind {
     Random,
     /// The same, but every second row is like the one before it.
     Twins,
-    /// Rows stand in a square. Every second unit leads to the right, the others down. The last row
-    /// has a label of its own.
+    /// Rows stand in a rectangle, as near to a square as their number allows. Every second unit leads
+    /// to the right, the others down. The last row has a label of its own.
     Grid,
 }
 
@@ -55,14 +55,14 @@ pub fn labels(alloc: Global, kind: Kind, rows: usize) -> Result<Vec<u32>, AllocE
     Ok(labels)
 }
 
-/// The side of the largest square with at most so many rows.
+/// The shorter side of a rectangle of so many rows that is as near to a square as can be.
 fn side_of(rows: usize) -> usize
     requires { rows ≤ 1000000 }
     ensures { result ≤ 1000 }
 {
     let mut side = 0;
     for tried in 1..1001 {
-        if tried * tried <= rows {
+        if tried * tried <= rows && rows % tried == 0 {
             side = tried;
         }
     }
