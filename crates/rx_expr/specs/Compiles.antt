@@ -4,7 +4,7 @@ use Rattle.rx_spec.specs.Expressions.{Expression}
 use Rattle.rx_spec.specs.Rows.{Part, Maker, Nfa, Patterns, compile, read_as, rows_count, nfa_of}
 use Rattle.rx_expr.specs.Settings.{Asked, settled}
 use Rattle.rx_expr.specs.declared.thompson.build_error.BuildError.{BuildError}
-use Rattle.rx_expr.specs.Nfa.{row_of}
+use Rattle.rx_expr.specs.NfaRows.{row_of}
 use Rattle.rx_expr.specs.declared.thompson.nfa.Row.{Row}
 
 -- what makes an expression's rows, read forward or backward

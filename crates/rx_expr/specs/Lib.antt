@@ -3,6 +3,7 @@ pub mod Expr
 pub mod ExprFalls
 pub mod ExprError
 pub mod Settings
+pub mod NfaRows
 pub mod Nfa
 pub mod Compiles
 pub mod Compiler

@@ -5,4 +5,3 @@ pub mod Gathered
 pub mod Stepped
 pub mod Few
 pub mod Compared
-pub mod Single

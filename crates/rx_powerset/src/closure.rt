@@ -4,7 +4,7 @@ ghost use Rattle.std.specs.Prelude.{◌≡◌, ◌++◌, ◌<◌, ◌≤◌, len
 ghost use Rattle.std.specs.List.{flat_map};
 ghost use Rattle.rx_spec.specs.Contexts.{holds_read};
 ghost use Rattle.rx_spec.specs.States.{row_at, closure, firsts};
-ghost use Rattle.rx_expr.specs.Nfa.{meaning, row_of, IsSound};
+ghost use Rattle.rx_expr.specs.Nfa.{meaning, row_of};
 ghost use Rattle.rx_powerset.specs.Closing.{own_by, ways_by, passing_of};
 
 use rx_base::{Facts, Look, StateID};
@@ -56,7 +56,6 @@ pub(crate) fn closed(
     from: &[StateID],
     passing: &Passing,
 ) -> Result<Vec<StateID>, AllocError>
-    requires { IsSound nfa.now }
     ensures rows { IfOk result (λ v. v.items ≡ firsts (flat_map (λ q. closure (meaning nfa.now).rows (passing_of passing.now) q) from.now)) }
     ensures bound { IfOk result (λ v. length v.items ≤ StateID.LIMIT) }
 {

@@ -7,7 +7,7 @@ ghost use Rattle.rx_spec.specs.Sizes.{state_size};
 ghost use Rattle.rx_spec.specs.Bytes.{contains};
 ghost use Rattle.rx_base.specs.ByteSet.{set_of};
 ghost use Rattle.rx_base.specs.Unit.{unit_number};
-ghost use Rattle.rx_expr.specs.Nfa.{meaning, IsSound};
+ghost use Rattle.rx_expr.specs.Nfa.{meaning};
 
 use crate::closure::{Passing, closed, row_at};
 use rx_base::{ByteSet, Facts, MatchKind, PatternID, Start, StateID, Unit};
@@ -48,7 +48,6 @@ impl PowerState {
         row: StateID,
         start: Start,
     ) -> Result<PowerState, AllocError>
-        requires { IsSound nfa.now }
         ensures { IfOk result (λ s. state_of s ≡ start_state (meaning nfa.now) row start) }
     {
         let known = Facts::of_start(nfa.line_terminator(), start);
@@ -66,7 +65,6 @@ impl PowerState {
         kind: MatchKind,
         unit: Unit,
     ) -> Result<PowerState, AllocError>
-        requires { IsSound nfa.now }
         ensures { IfOk result (λ s. state_of s ≡ step (meaning nfa.now) kind (state_of self.now) (unit_number unit)) }
     {
         let known = Facts::of_unit(nfa.line_terminator(), unit);
@@ -90,8 +88,7 @@ impl PowerState {
         known: Facts,
         label: Vec<PatternID>,
     ) -> Result<PowerState, AllocError>
-        requires sound { IsSound nfa.now }
-        requires few { length label.items ≤ 2147483647 }
+        requires { length label.items ≤ 2147483647 }
         ensures { IfOk result (λ s. state_of s ≡ state_at (meaning nfa.now) from.now known label.items) }
     {
         let rows = closed(alloc, nfa, from, &Passing::Standing)?;

@@ -1,7 +1,7 @@
 //! What no clause shows: that calls succeed, and examples worked by hand.
 
 use crate::PowerState;
-use crate::laws::{equal, learn_sound, same_rank};
+use crate::laws::{equal, same_rank};
 use rx_base::{Look, MatchKind, Start, Unit};
 use rx_expr::Expr;
 use rx_expr::thompson::{Compiler, Config};
@@ -19,7 +19,6 @@ fn told(alloc: Global, exprs: &[Expr], way: Way, units: &str) -> Option<String> 
     let mut compiler = Compiler::new();
     compiler.configure(Config::new().reverse(way.1));
     let nfa = compiler.build_many(alloc, exprs).ok()?;
-    learn_sound(&compiler, exprs, &nfa);
     let mut state = PowerState::start(alloc, &nfa, nfa.start_anchored(), way.2).ok()?;
     let mut out = String::new(alloc);
     for byte in units.as_bytes() {
@@ -106,7 +105,6 @@ fn states_tell_their_parts(rt: HostRuntime) {
     let exprs = [literal(alloc, "a").expect(&rt, MEMORY)];
     let compiler = Compiler::new();
     let nfa = compiler.build_many(alloc, &exprs).expect(&rt, MEMORY);
-    learn_sound(&compiler, &exprs, &nfa);
     let anchored = PowerState::start(alloc, &nfa, nfa.start_anchored(), Start::Text).expect(
         &rt, MEMORY,
     );

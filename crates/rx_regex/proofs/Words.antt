@@ -71,12 +71,14 @@ rows_have (row ∷ rows) h =
     ⊎_elim
     (λ (t : asserts_unicode_word row ≡ true). (let a = row_has row t in (a.0, a.1, rw a.2 refl)))
     (λ (f : asserts_unicode_word row ≡ false).
-    let a = rows_have rows (rw f at h) in
-    (a.0, a.1,
-    ⊎_elim
-    (λ (t : asserts a.0 row ≡ true). rw t refl)
-    (λ (n : asserts a.0 row ≡ false). rw n a.2)
-    (cases_Bool (asserts a.0 row))))
+    let a = rows_have rows (rw f at h) in (
+      a.0,
+      a.1,
+      ⊎_elim
+          (λ (t : asserts a.0 row ≡ true). rw t refl)
+          (λ (n : asserts a.0 row ≡ false). rw n a.2)
+          (cases_Bool (asserts a.0 row)),
+    ))
     (cases_Bool (asserts_unicode_word row))
 
 -- what the set of assertions tells

@@ -11,7 +11,7 @@ ghost use Rattle.rx_spec.specs.Searches.{neighbour, units_of, refusal, quit_offs
 ghost use Rattle.rx_base.specs.Input.{query_of};
 ghost use Rattle.rx_base.specs.Search.{mode_of};
 ghost use Rattle.rx_base.specs.Unit.{unit_number};
-ghost use Rattle.rx_expr.specs.Nfa.{meaning, IsSound};
+ghost use Rattle.rx_expr.specs.Nfa.{meaning};
 ghost use Rattle.rx_powerset.specs.PowerState.{state_of};
 ghost use Rattle.rx_regex.specs.Engine.{Arrives, build_of, Checks, Says, half_search, walk_from, TurnSays};
 
@@ -53,7 +53,6 @@ impl Engine {
         input: &Input<'_>,
         reverse: bool,
     ) -> Result<Option<HalfMatch>, HalfFault>
-        requires sound { IsSound self.now.nfa }
         requires fits { IsFit (query_of input.now) }
         ensures { Says result (half_search self.now reverse (query_of input.now)) }
     {
@@ -99,7 +98,6 @@ impl Engine {
         input: &Input<'_>,
         reverse: bool,
     ) -> Result<PowerState, HalfFault>
-        requires sound { IsSound self.now.nfa }
         requires fits { IsFit (query_of input.now) }
         ensures { MatchResult result (λ s. Running (state_of s) ≡ start_node (meaning self.now.nfa) (start_row (meaning self.now.nfa) (query_of input.now).mode) (start_of (meaning self.now.nfa).terminator (neighbour reverse (query_of input.now)))) (λ e. e ≡ HalfFault.Memory) }
     {
@@ -128,7 +126,6 @@ impl Engine {
         input: &Input<'_>,
         start: PowerState,
     ) -> Result<Option<HalfMatch>, HalfFault>
-        requires sound { IsSound self.now.nfa }
         requires fits { IsFit (query_of input.now) }
         requires begun { (query_of input.now).start ≤ (query_of input.now).stop }
         ensures { Says result (walk_from self.now false (query_of input.now).earliest start (query_of input.now).start None (units_of false (query_of input.now))) }
@@ -160,7 +157,6 @@ impl Engine {
         input: &Input<'_>,
         start: PowerState,
     ) -> Result<Option<HalfMatch>, HalfFault>
-        requires sound { IsSound self.now.nfa }
         requires fits { IsFit (query_of input.now) }
         requires begun { (query_of input.now).start ≤ (query_of input.now).stop }
         ensures { Says result (walk_from self.now true (query_of input.now).earliest start (query_of input.now).stop None (units_of true (query_of input.now))) }
@@ -198,7 +194,6 @@ impl Engine {
         reverse: bool,
         earliest: bool,
     ) -> Result<Option<HalfMatch>, HalfFault>
-        requires { IsSound self.now.nfa }
         ensures { Says result (walk_from self.now reverse earliest state.now offset last (unit_number unit ∷ [])) }
     {
         let turn = self.turn(alloc, state, unit, offset, last, reverse, earliest)?;
@@ -238,7 +233,6 @@ impl Engine {
         reverse: bool,
         earliest: bool,
     ) -> Result<Turn, HalfFault>
-        requires { IsSound self.now.nfa }
         ensures { TurnSays self.now reverse earliest offset result (λ units. walk_from self.now reverse earliest state.now offset last (unit_number unit ∷ units)) }
     {
         if is_dead(state) {

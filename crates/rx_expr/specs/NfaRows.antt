@@ -1,0 +1,47 @@
+-- The rows of the code as those of the definitions, and facts of them that an NFA keeps.
+use Rattle.std.specs.Prelude.{ℕ, zero, suc, ◌≡◌, ◌==◌, ◌+◌, ◌*◌, Bool, false, List, length}
+use Rattle.std.proofs.Common.{ap}
+use Rattle.std.specs.Coded.{×_prop, Π_prop, Unit-prop}
+use Rattle.std.specs.List.{list_any}
+use Rattle.rx_spec.specs.Rows as rows
+use Rattle.rx_spec.specs.States.{row_at}
+use Rattle.rx_spec.specs.Shallow.{AllBehind, Short, IsShallow}
+use Rattle.rx_spec.specs.declared.Look.{Look}
+use Rattle.rx_base.specs.ByteSet.{set_of}
+use Rattle.rx_base.specs.LookSet.{holds_look, look_number}
+use Rattle.rx_expr.specs.declared.thompson.nfa.Row.{Row}
+
+abbrev pub row_of : Row → rows.Row
+row_of (Row.Bytes set next) = rows.Bytes (set_of set) next
+row_of (Row.Split first second) = rows.Split first second
+row_of (Row.Look look next) = rows.Assert look next
+row_of (Row.Match pattern) = rows.Accept pattern
+row_of Row.Fail = rows.Fail
+
+-- whether a row has an assertion, and whether some of the rows has
+abbrev pub asserts : Look → rows.Row → Bool
+asserts look (rows.Assert other next) = look_number look == look_number other
+asserts look _ = false
+
+abbrev pub has_look : List rows.Row → Look → Bool
+has_look rs look = list_any (asserts look) rs
+
+-- a set has the assertions that the rows have
+abbrev pub HoldsLooks : ℕ → List rows.Row → Type 0
+HoldsLooks set rs = (look : Look) → holds_look set look ≡ has_look rs look
+
+-- There is one proof at most that no path which reads nothing goes round.
+AllBehind-prop : (P : ℕ → Type 0) → ((q : ℕ) → IsProp (P q)) → (row : rows.Row) → IsProp (AllBehind P row)
+AllBehind-prop P one (rows.Bytes set next) = Unit-prop
+AllBehind-prop P one (rows.Split first second) = ×_prop (one first) (one second)
+AllBehind-prop P one (rows.Assert look next) = one next
+AllBehind-prop P one (rows.Accept pattern) = Unit-prop
+AllBehind-prop P one rows.Fail = Unit-prop
+
+Short-prop : (rs : List rows.Row) (n q : ℕ) → IsProp (Short rs n q)
+unfolding Short
+Short-prop rs zero q = λ a b. absurd a
+Short-prop rs (suc n) q = AllBehind-prop (λ p. Short rs n p) (λ p. Short-prop rs n p) (row_at rs q)
+
+pub IsShallow-prop : (rs : List rows.Row) → IsProp (IsShallow rs)
+IsShallow-prop rs = λ a b. ap (λ s. record { short = s }) (Π_prop (λ q. Short-prop rs (length rs * length rs + 1) q) a.short b.short)
