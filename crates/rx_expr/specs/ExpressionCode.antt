@@ -4,30 +4,11 @@ use Rattle.std.specs.Coded.{Coded, code_by, coded×, coded_ℕ, coded_list}
 use Rattle.std.proofs.Common.{sym, ◌∙◌, ap, append_assoc, append-nil}
 use Rattle.rx_spec.specs.Expressions.{Expression}
 use Rattle.rx_spec.specs.declared.Look.{Look}
+use Rattle.rx_base.specs.LookSet.{look_number}
 
 -- a form's number, and what it holds besides its parts
 abbrev pub Token : Type 0
 Token = ℕ × (ℕ × ℕ)
-
-abbrev pub look_number : Look → ℕ
-look_number Look.Start = 0
-look_number Look.End = 1
-look_number Look.StartLF = 2
-look_number Look.EndLF = 3
-look_number Look.StartCRLF = 4
-look_number Look.EndCRLF = 5
-look_number Look.WordAscii = 6
-look_number Look.WordAsciiNegate = 7
-look_number Look.WordUnicode = 8
-look_number Look.WordUnicodeNegate = 9
-look_number Look.WordStartAscii = 10
-look_number Look.WordEndAscii = 11
-look_number Look.WordStartUnicode = 12
-look_number Look.WordEndUnicode = 13
-look_number Look.WordStartHalfAscii = 14
-look_number Look.WordEndHalfAscii = 15
-look_number Look.WordStartHalfUnicode = 16
-look_number Look.WordEndHalfUnicode = 17
 
 abbrev pub all_looks : List Look
 all_looks = Look.Start ∷ Look.End ∷ Look.StartLF ∷ Look.EndLF ∷ Look.StartCRLF ∷ Look.EndCRLF ∷ Look.WordAscii ∷ Look.WordAsciiNegate ∷ Look.WordUnicode ∷ Look.WordUnicodeNegate ∷ Look.WordStartAscii ∷ Look.WordEndAscii ∷ Look.WordStartUnicode ∷ Look.WordEndUnicode ∷ Look.WordStartHalfAscii ∷ Look.WordEndHalfAscii ∷ Look.WordStartHalfUnicode ∷ Look.WordEndHalfUnicode ∷ []
