@@ -38,9 +38,6 @@ AreToldApart-before m labels x y unit h t = record {
   differ = λ e. t.differ (sym (label_after-cons m labels x unit t.word) ∙ e ∙ label_after-cons m labels y unit t.word);
 }
 
-pub AreToldApart-flip : (m : Moves) (labels : List ℕ) (x y : ℕ) → AreToldApart m labels x y → AreToldApart m labels y x
-AreToldApart-flip m labels x y t = record { word = t.word; is_word = t.is_word; differ = λ e. t.differ (sym e) }
-
 -- ---- the rows of a block
 module _ (p : Parts) (w : IsPartition p) (b : ℕ) (hb : b < length p.sizes) where
   abbrev pub members : List ℕ

@@ -104,8 +104,3 @@ sum_by-total h n (x ∷ xs) a small =
     let v : total (λ r. cond (eqb r x) (h r) 0) n ≡ h x = total_single h x n (small 0 (omega arith)) in
     let w : sum_by h xs ≡ total (λ r. cond (list_any (eqb r) xs) (h r) 0) n = sum_by-total h n xs (AreApart-tail x xs a) (λ k l. small (suc k) (omega arith)) in
     sum_by-cons h x xs ∙ ap (λ k. h x + k) w ∙ ap (λ k. k + total (λ r. cond (list_any (eqb r) xs) (h r) 0) n) (sym v) ∙ sym u ∙ sym t
-
--- a sum over a list, term by term
-pub sum_by-add : (f g : ℕ → ℕ) (xs : List ℕ) → sum_by (λ r. f r + g r) xs ≡ sum_by f xs + sum_by g xs
-sum_by-add f g [] = refl
-sum_by-add f g (x ∷ xs) = omega (arith, sum_by-cons (λ r. f r + g r) x xs, sum_by-cons f x xs, sum_by-cons g x xs, sum_by-add f g xs)

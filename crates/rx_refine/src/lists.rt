@@ -120,11 +120,12 @@ fn lists_of(
     ensures { IfOk result (λ lists. AreColumns rows units next.now units lists.items) }
 {
     let mut lists = Vec::with_capacity(alloc, units)?;
-    let mut room = vec![in alloc; 0; COLUMNS * rows]?;
+    let width = COLUMNS.min(units);
+    let mut room = vec![in alloc; 0; width * rows]?;
     let columns = room.as_mut_slice();
     let mut first = 0;
     while first < units {
-        let count = COLUMNS.min(units - first);
+        let count = width.min(units - first);
         copy_columns(rows, units, next, first, count, columns);
         for i in 0..count {
             let column = &columns[i * rows..(i + 1) * rows];

@@ -10,8 +10,8 @@ loop-i-preserved c =
     (AreColumns_copied c.args.rows c.args.units c.args.next.now c.loop-first.first c.min-count.result c.loop-i.i c.copy_columns.new.columns c.in_ok-new.field-0
     c.copy_columns.ensures.copied
     (omega arith)
-    (let few : c.min-count.result ≤ 8 = grind arith in
-    let l : c.min-count.result * c.args.rows ≤ 8 * c.args.rows = mul-le-mul_right c.args.rows few in
+    (let few : c.min-count.result ≤ c.min-width.result = grind arith in
+    let l : c.min-count.result * c.args.rows ≤ c.min-width.result * c.args.rows = mul-le-mul_right c.args.rows few in
     let len = c.copy_columns.ensures.len ∙ c.loop-first.invariant.len in
     omega arith)
     (c.in_ok-new.ensures ∙ ap (λ xs. slice_range xs (c.loop-i.i * c.args.rows) ((c.loop-i.i + 1) * c.args.rows)) refl)

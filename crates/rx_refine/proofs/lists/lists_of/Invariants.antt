@@ -4,7 +4,7 @@ use Rattle.rx_refine.proofs.lists.lists_of.Given as goal
 
 abbrev pub invariant-loop-first : goal.invariant-loop-first
 invariant-loop-first l = record {
-  len : length l.columns ≡ 8 * l.rows;
+  len : length l.columns ≡ l.width * l.rows;
   below : l.first ≤ l.units;
   lists : AreColumns l.rows l.units l.next l.first l.lists.items;
 }
