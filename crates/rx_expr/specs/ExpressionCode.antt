@@ -4,14 +4,11 @@ use Rattle.std.specs.Coded.{Coded, code_by, coded×, coded_ℕ, coded_list}
 use Rattle.std.proofs.Common.{sym, ◌∙◌, ap, append_assoc, append-nil}
 use Rattle.rx_spec.specs.Expressions.{Expression}
 use Rattle.rx_spec.specs.declared.Look.{Look}
-use Rattle.rx_base.specs.LookSet.{look_number}
+use Rattle.rx_base.specs.LookSet.{all_looks, look_number}
 
 -- a form's number, and what it holds besides its parts
 abbrev pub Token : Type 0
 Token = ℕ × (ℕ × ℕ)
-
-abbrev pub all_looks : List Look
-all_looks = Look.Start ∷ Look.End ∷ Look.StartLF ∷ Look.EndLF ∷ Look.StartCRLF ∷ Look.EndCRLF ∷ Look.WordAscii ∷ Look.WordAsciiNegate ∷ Look.WordUnicode ∷ Look.WordUnicodeNegate ∷ Look.WordStartAscii ∷ Look.WordEndAscii ∷ Look.WordStartUnicode ∷ Look.WordEndUnicode ∷ Look.WordStartHalfAscii ∷ Look.WordEndHalfAscii ∷ Look.WordStartHalfUnicode ∷ Look.WordEndHalfUnicode ∷ []
 
 abbrev pub look_at : List Look → ℕ → Look
 look_at [] n = Look.Start
