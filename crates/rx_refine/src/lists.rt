@@ -8,9 +8,9 @@ use rx_base::Steps;
 use std::alloc::{AllocError, Global};
 use std::marker::{Model, PhantomData};
 
-/// So many columns of a table are copied at a time: a line of a processor's cache has two times as many
-/// cells, and so a line that was read isn't read again soon.
-const COLUMNS: usize = 8;
+/// So many columns of a table are copied at a time: a line of a processor's cache has as many cells, and
+/// so each line is read once.
+const COLUMNS: usize = 16;
 
 /// Which rows of a table lead to a row on a unit. Each read is counted by a ledger `L`.
 ///
