@@ -5,12 +5,13 @@ use Rattle.std.proofs.Common.{◌≡◌, ℕ, zero, suc, ◌+◌, ◌*◌, ◌/�
 use Rattle.std.specs.List.{sum_by, list_any}
 use Rattle.std.proofs.lemmas.Bool.{cases_Bool, cases_eq, cases_lt, lt-leb}
 use Rattle.std.proofs.lemmas.Int.Digits.{length-digits_of_step, length-digits_of-le}
+use Rattle.rx_refine.specs.Keys.{total, waiting_cost, waiting_reads}
 use Rattle.rx_refine.specs.Moves.{Moves, AreMoves, column, sources, binary_digits, read_limit}
 use Rattle.rx_refine.specs.Places.{how_many}
-use Rattle.rx_refine.specs.Parts.{Parts, IsPartition, SplitsBy, block_of, size_of}
+use Rattle.rx_refine.specs.Parts.{Parts, IsPartition, Refines, block_of, size_of}
 use Rattle.rx_refine.proofs.Places.{length-places_from, add-one-sym}
 use Rattle.rx_refine.proofs.Refining.{members, members_small, members_apart, is_in_members}
-use Rattle.rx_refine.proofs.Totals.{total, total-add, total-le, total-same, total-const, total-mul, total-how_many-all, total_single, total_term, sum_by-total}
+use Rattle.rx_refine.proofs.Totals.{total-add, total-le, total-same, total-const, total-mul, total-how_many-all, total_single, total_term, sum_by-total}
 
 -- ---- binary digits
 digits_half : (n : ℕ) → 0 < n → binary_digits n ≡ binary_digits (n / 2) + 1
@@ -117,7 +118,7 @@ module _ (m : Moves) (p : Parts) (unit taken : ℕ) (w : IsPartition p) (len : l
       omega arith
 
 -- where blocks are split
-module _ (m : Moves) (p q : Parts) (hits : List ℕ) (unit taken : ℕ) (len : length p.rows ≡ m.rows) (below : taken ≤ length p.sizes) (s : SplitsBy p hits q) where
+module _ (m : Moves) (p q : Parts) (unit taken : ℕ) (len : length p.rows ≡ m.rows) (below : taken ≤ length p.sizes) (s : Refines p q) where
   split_allowance : (row : ℕ) → row < m.rows → allowance q taken row ≤ allowance p taken row
   split_allowance row l =
       ⊎_elim
@@ -140,31 +141,67 @@ module _ (m : Moves) (p q : Parts) (hits : List ℕ) (unit taken : ℕ) (len : l
       total-le (λ row. binary_digits (allowance q taken row) * cost m unit row) (λ row. binary_digits (allowance p taken row) * cost m unit row) m.rows
       (λ row l. mul-le-mul_right (cost m unit row) (digits-le (allowance q taken row) (allowance p taken row) (split_allowance row l)))
 
--- where a unit takes a block and the blocks are split
-module _ (m : Moves) (p q : Parts) (hits : List ℕ) (unit : ℕ) (taken : List ℕ) (w : IsPartition p) (len : length p.rows ≡ m.rows) (taken_len : length taken ≡ m.units) (hu : unit < m.units) (below : (u : ℕ) → u < m.units → get_or taken u 0 ≤ length p.sizes) (h : get_or taken unit 0 < length p.sizes) (s : SplitsBy p hits q) where
-  abbrev spent : ℕ
-  spent = sum_by (λ row. cost m unit row) (members p w (get_or taken unit 0) h)
+-- where all blocks that wait are taken
+module _ (m : Moves) (p : Parts) (unit taken : ℕ) (w : IsPartition p) (len : length p.rows ≡ m.rows) where
+  take_each : (row : ℕ) → row < m.rows → binary_digits (allowance p (length p.sizes) row) * cost m unit row + waiting_cost m unit p.blocks taken row ≤ binary_digits (allowance p taken row) * cost m unit row
+  take_each row l =
+      let b : block_of p row < length p.sizes = w.block_at row (omega arith) in
+      rw (lt-leb (length p.sizes) (block_of p row) b) (⊎_elim
+      (λ (t : leb taken (block_of p row) ≡ true).
+      let half : binary_digits (size_of p (block_of p row)) ≡ binary_digits (size_of p (block_of p row) / 2) + 1 = digits_half (size_of p (block_of p row)) (w.some (block_of p row) b) in
+      let prod : binary_digits (size_of p (block_of p row)) * cost m unit row ≡ (binary_digits (size_of p (block_of p row) / 2) + 1) * cost m unit row = ap (λ k. k * cost m unit row) half in
+      rw t (omega arith))
+      (λ (f : leb taken (block_of p row) ≡ false). rw f (omega arith))
+      (cases_Bool (leb taken (block_of p row))))
 
-  turn_unit : (u : ℕ) → u < m.units → unit_potential m q (get_or (set taken unit (get_or taken unit 0 + 1)) u 0) u + cond (eqb u unit) spent 0 ≤ unit_potential m p (get_or taken u 0) u
-  turn_unit u l =
-      ⊎_elim
-      (λ (e : u ≡ unit).
-      let split = unit_split m p q hits unit (get_or taken unit 0 + 1) len (omega arith) s in
-      let take = unit_take m p unit (get_or taken unit 0) w len h in
-      rw (e, eq-eqb unit unit refl, get_or-set_same taken unit (get_or taken unit 0 + 1) 0 (omega arith)) (omega arith))
-      (λ (ne : u ≡ unit → ⊥).
-      let split = unit_split m p q hits u (get_or taken u 0) len (below u l) s in
-      rw (ne_eqb u unit ne, get_or-set_other taken unit u (get_or taken unit 0 + 1) 0 ne) (omega arith))
-      (cases_eq u unit)
-
-  pub potential_turn : potential m q (set taken unit (get_or taken unit 0 + 1)) + sum_by (λ row. cost m unit row) (members p w (get_or taken unit 0) h) ≤ potential m p taken
-  potential_turn =
-      let a : total (λ u. unit_potential m q (get_or (set taken unit (get_or taken unit 0 + 1)) u 0) u + cond (eqb u unit) spent 0) m.units ≡ potential m q (set taken unit (get_or taken unit 0 + 1)) + total (λ u. cond (eqb u unit) spent 0) m.units = total-add (λ u. unit_potential m q (get_or (set taken unit (get_or taken unit 0 + 1)) u 0) u) (λ u. cond (eqb u unit) spent 0) m.units in
-      let one : total (λ u. cond (eqb u unit) spent 0) m.units ≡ spent = total_single (λ _. spent) unit m.units hu in
-      let le : total (λ u. unit_potential m q (get_or (set taken unit (get_or taken unit 0 + 1)) u 0) u + cond (eqb u unit) spent 0) m.units ≤ potential m p taken = total-le (λ u. unit_potential m q (get_or (set taken unit (get_or taken unit 0 + 1)) u 0) u + cond (eqb u unit) spent 0) (λ u. unit_potential m p (get_or taken u 0) u) m.units turn_unit in
+  pub unit_take_all : unit_potential m p (length p.sizes) unit + waiting_reads m unit p.blocks taken ≤ unit_potential m p taken unit
+  unit_take_all =
+      let a : total (λ row. binary_digits (allowance p (length p.sizes) row) * cost m unit row + waiting_cost m unit p.blocks taken row) m.rows ≡ unit_potential m p (length p.sizes) unit + waiting_reads m unit p.blocks taken = total-add (λ row. binary_digits (allowance p (length p.sizes) row) * cost m unit row) (waiting_cost m unit p.blocks taken) m.rows in
+      let le : total (λ row. binary_digits (allowance p (length p.sizes) row) * cost m unit row + waiting_cost m unit p.blocks taken row) m.rows ≤ unit_potential m p taken unit = total-le (λ row. binary_digits (allowance p (length p.sizes) row) * cost m unit row + waiting_cost m unit p.blocks taken row) (λ row. binary_digits (allowance p taken row) * cost m unit row) m.rows take_each in
       omega arith
 
--- the reads where a unit takes a block are still allowed
+-- where a unit took blocks below a number `v`, the reads were paid for, and the blocks are split
+module _ (m : Moves) (p q : Parts) (unit : ℕ) (taken : List ℕ) (len : length p.rows ≡ m.rows) (taken_len : length taken ≡ m.units) (hu : unit < m.units) (below : (u : ℕ) → u < m.units → get_or taken u 0 ≤ length p.sizes) (s : Refines p q) (v spent : ℕ) (own : unit_potential m q v unit + spent ≤ unit_potential m p (get_or taken unit 0) unit) where
+  step_unit : (u : ℕ) → u < m.units → unit_potential m q (get_or (set taken unit v) u 0) u + cond (eqb u unit) spent 0 ≤ unit_potential m p (get_or taken u 0) u
+  step_unit u l =
+      ⊎_elim
+      (λ (e : u ≡ unit).
+      rw (e, eq-eqb unit unit refl, get_or-set_same taken unit v 0 (omega arith)) own)
+      (λ (ne : u ≡ unit → ⊥).
+      let split = unit_split m p q u (get_or taken u 0) len (below u l) s in
+      rw (ne_eqb u unit ne, get_or-set_other taken unit u v 0 ne) (omega arith))
+      (cases_eq u unit)
+
+  potential_step : potential m q (set taken unit v) + spent ≤ potential m p taken
+  potential_step =
+      let a : total (λ u. unit_potential m q (get_or (set taken unit v) u 0) u + cond (eqb u unit) spent 0) m.units ≡ potential m q (set taken unit v) + total (λ u. cond (eqb u unit) spent 0) m.units = total-add (λ u. unit_potential m q (get_or (set taken unit v) u 0) u) (λ u. cond (eqb u unit) spent 0) m.units in
+      let one : total (λ u. cond (eqb u unit) spent 0) m.units ≡ spent = total_single (λ _. spent) unit m.units hu in
+      let le : total (λ u. unit_potential m q (get_or (set taken unit v) u 0) u + cond (eqb u unit) spent 0) m.units ≤ potential m p taken = total-le (λ u. unit_potential m q (get_or (set taken unit v) u 0) u + cond (eqb u unit) spent 0) (λ u. unit_potential m p (get_or taken u 0) u) m.units step_unit in
+      omega arith
+
+-- where a unit takes blocks and the blocks are split
+module _ (m : Moves) (p q : Parts) (unit : ℕ) (taken : List ℕ) (w : IsPartition p) (len : length p.rows ≡ m.rows) (taken_len : length taken ≡ m.units) (hu : unit < m.units) (below : (u : ℕ) → u < m.units → get_or taken u 0 ≤ length p.sizes) (s : Refines p q) where
+  -- one of them
+  pub potential_turn : (h : get_or taken unit 0 < length p.sizes) → potential m q (set taken unit (get_or taken unit 0 + 1)) + sum_by (λ row. cost m unit row) (members p w (get_or taken unit 0) h) ≤ potential m p taken
+  potential_turn h =
+      let split = unit_split m p q unit (get_or taken unit 0 + 1) len (omega arith) s in
+      let take = unit_take m p unit (get_or taken unit 0) w len h in
+      potential_step m p q unit taken len taken_len hu below s (get_or taken unit 0 + 1) (sum_by (λ row. cost m unit row) (members p w (get_or taken unit 0) h)) (omega arith)
+
+  -- all that wait
+  pub potential_all : potential m q (set taken unit (length p.sizes)) + waiting_reads m unit p.blocks (get_or taken unit 0) ≤ potential m p taken
+  potential_all =
+      let split = unit_split m p q unit (length p.sizes) len (omega arith) s in
+      let take = unit_take_all m p unit (get_or taken unit 0) w len in
+      potential_step m p q unit taken len taken_len hu below s (length p.sizes) (waiting_reads m unit p.blocks (get_or taken unit 0)) (omega arith)
+
+-- the reads where a unit takes blocks are still allowed
+pub all_reads : (m : Moves) (p : Parts) (unit : ℕ) (taken : List ℕ) (w : IsPartition p) → length p.rows ≡ m.rows → unit < m.units → waiting_reads m unit p.blocks (get_or taken unit 0) ≤ potential m p taken
+all_reads m p unit taken w len hu =
+    let take = unit_take_all m p unit (get_or taken unit 0) w len in
+    let term : unit_potential m p (get_or taken unit 0) unit ≤ potential m p taken = total_term (λ u. unit_potential m p (get_or taken u 0) u) unit m.units hu in
+    omega arith
+
 pub turn_reads : (m : Moves) (p : Parts) (unit : ℕ) (taken : List ℕ) (w : IsPartition p) → length p.rows ≡ m.rows → unit < m.units → (h : get_or taken unit 0 < length p.sizes) → sum_by (λ row. cost m unit row) (members p w (get_or taken unit 0) h) ≤ potential m p taken
 turn_reads m p unit taken w len hu h =
     let take = unit_take m p unit (get_or taken unit 0) w len h in

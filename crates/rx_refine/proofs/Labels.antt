@@ -1,13 +1,13 @@
 -- The first blocks: rows with equal labels.
-use Rattle.std.proofs.Common.{◌≡◌, ℕ, ◌+◌, ◌<◌, ◌≤◌, true, false, List, [], ◌∷◌, length, get_or, eqb, refl, sym, ap, ◌∙◌, ⊎_elim, arith, eqb-true, eq-eqb, ne_eqb, ◌||◌}
+use Rattle.std.proofs.Common.{◌≡◌, ℕ, ◌<◌, true, false, List, [], ◌∷◌, length, get_or, eqb, refl, sym, ap, ◌∙◌, ⊎_elim, arith, eqb-true, eq-eqb, ne_eqb, ◌||◌}
 use Rattle.std.specs.List.{All, flat_map}
-use Rattle.std.proofs.lemmas.Bool.{cases_Bool, cases_eq, cases_lt}
+use Rattle.std.proofs.lemmas.Bool.{cases_Bool, cases_eq}
 use Rattle.std.proofs.lemmas.List.Folds.{list_any-append}
 use Rattle.std.proofs.lemmas.List.Elements.{Contains-get_or, All-append, All-nil}
 use Rattle.std.proofs.lemmas.Map.Views.{Contains-from_any}
 use Rattle.rx_refine.specs.Moves.{Moves, AreMoves, column, sources, next_row}
 use Rattle.rx_refine.specs.Places.{places_of}
-use Rattle.rx_refine.specs.Parts.{Parts, IsPartition, SplitsBy, block_of, is_in}
+use Rattle.rx_refine.specs.Parts.{Parts, SplitsByKey, block_of, is_in}
 use Rattle.rx_refine.specs.Labelled.{IsByLabel}
 use Rattle.rx_refine.proofs.Places.{Contains-places_of, within-places_of, value-places_of}
 use Rattle.rx_refine.proofs.Grouping.{any-from_Contains}
@@ -29,56 +29,14 @@ places_of-small xs v n e k d l =
     let w : get_or (places_of xs v) k d < length xs = within-places_of xs v (get_or (places_of xs v) k d) (Contains-get_or (places_of xs v) k d l) in
     omega arith
 
--- the labels below a bound are told apart
-pub record IsByFirst (labels : List ℕ) (p : Parts) (n : ℕ) : Type 0 where
-  pub partition : IsPartition p
-  pub rows_len : length p.rows ≡ length labels
-  pub clear : (block : ℕ) → get_or p.marks block 0 ≡ 0
-  pub labelled : (x y v : ℕ) → x < length labels → y < length labels → v < n → block_of p x ≡ block_of p y → get_or labels x 0 ≡ v → get_or labels y 0 ≡ v
-  pub together : (x y : ℕ) → x < length labels → y < length labels → get_or labels x 0 ≡ get_or labels y 0 → block_of p x ≡ block_of p y
-
-pub IsByFirst-none : (labels : List ℕ) (p : Parts) → IsPartition p → length p.rows ≡ length labels → ((block : ℕ) → get_or p.marks block 0 ≡ 0) → ((row : ℕ) → row < length labels → block_of p row ≡ 0) → IsByFirst labels p 0
-IsByFirst-none labels p w e clear zeros = record {
-  partition = w;
-  rows_len = e;
-  clear = clear;
-  labelled = λ x y v lx ly l. absurd (omega arith);
-  together = λ x y lx ly f. zeros x lx ∙ sym (zeros y ly);
-}
-
-module _ (labels : List ℕ) (p q : Parts) (n : ℕ) (a : IsByFirst labels p n) (s : SplitsBy p (places_of labels n) q) where
-  in_rows : (x : ℕ) → x < length labels → x < length p.rows
-  in_rows x l = let e = a.rows_len in omega arith
-
-  more_labelled : (x y v : ℕ) → x < length labels → y < length labels → v < n + 1 → block_of q x ≡ block_of q y → get_or labels x 0 ≡ v → get_or labels y 0 ≡ v
-  more_labelled x y v lx ly l e is =
-      ⊎_elim
-      (λ (old : v < n). a.labelled x y v lx ly old (s.finer x y (in_rows x lx) (in_rows y ly) e) is)
-      (λ (g : n ≤ v).
-      let now : v ≡ n = omega arith in
-      let i : is_in (places_of labels n) x ≡ is_in (places_of labels n) y = s.agrees x y (in_rows x lx) (in_rows y ly) e in
-      let t : eqb (get_or labels y 0) n ≡ true = sym (is_in-places_of labels n y ly) ∙ sym i ∙ is_in-places_of labels n x lx ∙ eq-eqb (get_or labels x 0) n (is ∙ now) in
-      eqb-true (get_or labels y 0) n t ∙ sym now)
-      (cases_lt v n)
-
-  pub IsByFirst_more : IsByFirst labels q (n + 1)
-  IsByFirst_more = record {
-    partition = s.partition;
-    rows_len = s.rows_len ∙ a.rows_len;
-    clear = s.clear;
-    labelled = more_labelled;
-    together = λ x y lx ly e.
-        s.kept x y (in_rows x lx) (in_rows y ly) (a.together x y lx ly e)
-        (is_in-places_of labels n x lx ∙ ap (λ v. eqb v n) e ∙ sym (is_in-places_of labels n y ly));
-  }
-
-pub IsByLabel-from_IsByFirst : (labels : List ℕ) (p : Parts) (n : ℕ) → All (λ label. label < n) labels → IsByFirst labels p n → IsByLabel labels p
-IsByLabel-from_IsByFirst labels p n small a = record {
-  partition = a.partition;
-  rows_len = a.rows_len;
-  clear = a.clear;
-  labelled = λ x y lx ly e. sym (a.labelled x y (get_or labels x 0) lx ly (small x 0 lx) e refl);
-  together = a.together;
+-- one block that is split by the labels
+pub IsByLabel-from_SplitsByKey : (labels : List ℕ) (p q : Parts) → length p.rows ≡ length labels → ((row : ℕ) → row < length labels → block_of p row ≡ 0) → SplitsByKey p labels q → IsByLabel labels q
+IsByLabel-from_SplitsByKey labels p q len zeros s = record {
+  partition = s.refines.partition;
+  rows_len = s.refines.rows_len ∙ len;
+  clear = s.refines.clear;
+  labelled = λ x y lx ly e. s.agrees x y (omega arith) (omega arith) e;
+  together = λ x y lx ly e. s.kept x y (omega arith) (omega arith) (zeros x lx ∙ sym (zeros y ly)) e;
 }
 
 -- ---- the rows that a unit leads to one of several rows

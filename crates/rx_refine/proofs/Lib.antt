@@ -9,5 +9,11 @@ pub mod Refining
 pub mod Totals
 pub mod Cost
 pub mod Labels
+pub mod Keying
 pub mod Rounds
 pub mod Room
+pub mod Counting
+pub mod Voting
+pub mod Numbering
+pub mod NumberingParts
+pub mod Regrouping

@@ -1,15 +1,16 @@
 -- Why the blocks are right: while units take blocks, rows of different blocks are told apart by a word,
 -- and where a unit leads two rows of one block into different blocks, one of these is a block that the
 -- unit has still to take.
-use Rattle.std.proofs.Common.{◌≡◌, ℕ, suc, ◌+◌, ◌-◌, ◌<◌, ◌≤◌, true, false, List, [], ◌∷◌, length, get_or, set, drop, eqb, refl, sym, subst, ap, ◌∙◌, ⊎_elim, arith, eqb-true, eq-eqb, ne_eqb, length-take, length-drop, get_or-take, get_or-drop, length-set, get_or-set_same, get_or-set_other}
+use Rattle.std.proofs.Common.{◌≡◌, ℕ, suc, ◌+◌, ◌-◌, ◌<◌, ◌≤◌, true, false, cond, List, [], ◌∷◌, length, get_or, set, drop, eqb, leb, le-leb, refl, sym, subst, ap, ◌∙◌, ⊎_elim, arith, eqb-true, eq-eqb, ne_eqb, length-take, length-drop, get_or-take, get_or-drop, length-set, get_or-set_same, get_or-set_other}
 use Rattle.std.specs.List.{Contains, All, slice_range}
-use Rattle.std.proofs.lemmas.Bool.{cases_Bool, cases_eq}
+use Rattle.std.proofs.lemmas.Bool.{cases_Bool, cases_eq, cases_lt, lt-leb}
 use Rattle.std.proofs.lemmas.List.Folds.{list_any_at}
 use Rattle.std.proofs.lemmas.List.{get_or_default}
 use Rattle.std.proofs.lemmas.Map.Views.{Contains-from_any}
 use Rattle.rx_spec.specs.Machines.{run}
+use Rattle.rx_refine.specs.Keys.{next_key, TakesAll}
 use Rattle.rx_refine.specs.Moves.{Moves, AreMoves, next_row, IsWord, label_after, BehaveAlike, AreToldApart}
-use Rattle.rx_refine.specs.Parts.{Parts, IsPartition, SplitsBy, block_of, is_in}
+use Rattle.rx_refine.specs.Parts.{Parts, IsPartition, Refines, SplitsBy, block_of, is_in}
 use Rattle.rx_refine.proofs.Places.{Contains-cons}
 use Rattle.rx_refine.proofs.Splitting.{alone}
 
@@ -43,7 +44,7 @@ module _ (p : Parts) (w : IsPartition p) (b : ℕ) (hb : b < length p.sizes) whe
   abbrev pub members : List ℕ
   members = slice_range p.rows (get_or p.starts b 0) (get_or p.starts b 0 + get_or p.sizes b 0)
 
-  members_len : length members ≡ get_or p.sizes b 0
+  pub members_len : length members ≡ get_or p.sizes b 0
   members_len = simp (length-take, length-drop) (omega (arith, w.within b hb))
 
   members_at : (i d : ℕ) → i < get_or p.sizes b 0 → get_or members i d ≡ get_or p.rows (get_or p.starts b 0 + i) 0
@@ -135,7 +136,7 @@ IsSettling-first m labels p taken r len zeros = record {
 }
 
 -- ---- the blocks are split
-module _ (m : Moves) (p : Parts) (len : length p.rows ≡ m.rows) (hits : List ℕ) (q : Parts) (s : SplitsBy p hits q) where
+module _ (m : Moves) (p : Parts) (len : length p.rows ≡ m.rows) (q : Parts) (s : Refines p q) where
   rows_in : (x : ℕ) → x < m.rows → x < length p.rows
   rows_in x l = omega arith
 
@@ -158,6 +159,51 @@ module _ (m : Moves) (p : Parts) (len : length p.rows ≡ m.rows) (hits : List �
   split_leads k x y b lx ly (same e) = split_same k x y b lx ly e
   split_leads k x y b lx ly (first e) = first (later k x b lx e)
   split_leads k x y b lx ly (second e) = second (later k y b ly e)
+
+flipped : (p : Parts) (k x y : ℕ) → Leads p k x y → Leads p k y x
+flipped p k x y (same e) = same (sym e)
+flipped p k x y (first e) = second e
+flipped p k x y (second e) = first e
+
+-- ---- a unit took blocks below a number `v`, and the blocks were split by them
+module _ (m : Moves) (labels : List ℕ) (p : Parts) (taken : List ℕ) (unit : ℕ) (moves : AreMoves m) (hu : unit < m.units) (a : IsSettling m labels p taken) (q : Parts) (s : Refines p q) (told : (x y : ℕ) → x < m.rows → y < m.rows → (block_of q x ≡ block_of q y → ⊥) → AreToldApart m labels x y) (v : ℕ) (few : v ≤ length p.sizes) (own : (x y : ℕ) → x < m.rows → y < m.rows → block_of q x ≡ block_of q y → Leads p (get_or taken unit 0) (next_row m x unit) (next_row m y unit) → Leads q v (next_row m x unit) (next_row m y unit)) where
+  step_rows : (x : ℕ) → x < m.rows → x < length p.rows
+  step_rows x l = let e = a.refined.rows_len in omega arith
+
+  step_pending : (x y u : ℕ) → x < m.rows → y < m.rows → u < m.units → block_of q x ≡ block_of q y → Leads q (get_or (set taken unit v) u 0) (next_row m x u) (next_row m y u)
+  step_pending x y u lx ly lu e =
+      let old : Leads p (get_or taken u 0) (next_row m x u) (next_row m y u) = a.pending x y u lx ly lu (s.finer x y (step_rows x lx) (step_rows y ly) e) in
+      ⊎_elim
+      (λ (f : u ≡ unit).
+      let l = a.taken_len in
+      rw (f, get_or-set_same taken unit v 0 (omega arith)) (own x y lx ly e (rw f at old)))
+      (λ (ne : u ≡ unit → ⊥).
+      rw (get_or-set_other taken unit u v 0 ne)
+      (split_leads m p a.refined.rows_len q s (get_or taken u 0) (next_row m x u) (next_row m y u) (a.below u lu) (moves.nexts x u lx lu) (moves.nexts y u ly lu) old))
+      (cases_eq u unit)
+
+  step_below : (u : ℕ) → u < m.units → get_or (set taken unit v) u 0 ≤ length q.sizes
+  step_below u lu =
+      let g = s.more in
+      let l = a.taken_len in
+      ⊎_elim
+      (λ (f : u ≡ unit). rw (f, get_or-set_same taken unit v 0 (omega arith)) (omega arith))
+      (λ (ne : u ≡ unit → ⊥). rw (get_or-set_other taken unit u v 0 ne) (let b = a.below u lu in omega arith))
+      (cases_eq u unit)
+
+  IsSettling-step : IsSettling m labels q (set taken unit v)
+  IsSettling-step = record {
+    refined = record {
+      partition = s.partition;
+      rows_len = s.rows_len ∙ a.refined.rows_len;
+      clear = s.clear;
+      labelled = λ x y lx ly e. a.refined.labelled x y lx ly (s.finer x y (step_rows x lx) (step_rows y ly) e);
+      told = told;
+    };
+    taken_len = length-set taken unit v ∙ a.taken_len;
+    below = step_below;
+    pending = step_pending;
+  }
 
 -- ---- a unit takes a block: the blocks are split by the rows that it leads into that block
 module _ (m : Moves) (labels : List ℕ) (p : Parts) (taken : List ℕ) (unit : ℕ) (moves : AreMoves m) (hu : unit < m.units) (a : IsSettling m labels p taken) (h : get_or taken unit 0 < length p.sizes) (hits : List ℕ) (q : Parts) (s : SplitsBy p hits q) (is : (row : ℕ) → row < m.rows → is_in hits row ≡ is_in (members p a.refined.partition (get_or taken unit 0) h) (next_row m row unit)) where
@@ -193,55 +239,60 @@ module _ (m : Moves) (labels : List ℕ) (p : Parts) (taken : List ℕ) (unit : 
       ⊎_elim
       (λ (f : block_of p (next_row m x unit) ≡ get_or taken unit 0).
       let g : block_of p (next_row m y unit) ≡ get_or taken unit 0 = eqb-true (block_of p (next_row m y unit)) (get_or taken unit 0) (sym (both_hit x y lx ly e) ∙ eq-eqb (block_of p (next_row m x unit)) (get_or taken unit 0) f) in
-      split_same m p a.refined.rows_len hits q s (get_or taken unit 0 + 1) (next_row m x unit) (next_row m y unit) (omega arith) (moves.nexts x unit lx hu) (moves.nexts y unit ly hu) (f ∙ sym g))
+      split_same m p a.refined.rows_len q s.refines (get_or taken unit 0 + 1) (next_row m x unit) (next_row m y unit) (omega arith) (moves.nexts x unit lx hu) (moves.nexts y unit ly hu) (f ∙ sym g))
       (λ (ne : block_of p (next_row m x unit) ≡ get_or taken unit 0 → ⊥).
-      first (later m p a.refined.rows_len hits q s (get_or taken unit 0 + 1) (next_row m x unit) (omega arith) (moves.nexts x unit lx hu) (omega arith)))
+      first (later m p a.refined.rows_len q s.refines (get_or taken unit 0 + 1) (next_row m x unit) (omega arith) (moves.nexts x unit lx hu) (omega arith)))
       (cases_eq (block_of p (next_row m x unit)) (get_or taken unit 0))
 
-  flipped : (x y k : ℕ) → Leads q k x y → Leads q k y x
-  flipped x y k (same e) = same (sym e)
-  flipped x y k (first e) = second e
-  flipped x y k (second e) = first e
-
   taken_leads : (x y : ℕ) → x < m.rows → y < m.rows → block_of q x ≡ block_of q y → Leads p (get_or taken unit 0) (next_row m x unit) (next_row m y unit) → Leads q (get_or taken unit 0 + 1) (next_row m x unit) (next_row m y unit)
-  taken_leads x y lx ly e (same f) = split_same m p a.refined.rows_len hits q s (get_or taken unit 0 + 1) (next_row m x unit) (next_row m y unit) (omega arith) (moves.nexts x unit lx hu) (moves.nexts y unit ly hu) f
+  taken_leads x y lx ly e (same f) = split_same m p a.refined.rows_len q s.refines (get_or taken unit 0 + 1) (next_row m x unit) (next_row m y unit) (omega arith) (moves.nexts x unit lx hu) (moves.nexts y unit ly hu) f
   taken_leads x y lx ly e (first f) = taken_first x y lx ly e f
-  taken_leads x y lx ly e (second f) = flipped (next_row m y unit) (next_row m x unit) (get_or taken unit 0 + 1) (taken_first y x ly lx (sym e) f)
-
-  more_pending : (x y u : ℕ) → x < m.rows → y < m.rows → u < m.units → block_of q x ≡ block_of q y → Leads q (get_or (set taken unit (get_or taken unit 0 + 1)) u 0) (next_row m x u) (next_row m y u)
-  more_pending x y u lx ly lu e =
-      let old : Leads p (get_or taken u 0) (next_row m x u) (next_row m y u) = a.pending x y u lx ly lu (s.finer x y (p_rows x lx) (p_rows y ly) e) in
-      ⊎_elim
-      (λ (f : u ≡ unit).
-      let l = a.taken_len in
-      rw (f, get_or-set_same taken unit (get_or taken unit 0 + 1) 0 (omega arith)) (taken_leads x y lx ly e (rw f at old)))
-      (λ (ne : u ≡ unit → ⊥).
-      rw (get_or-set_other taken unit u (get_or taken unit 0 + 1) 0 ne)
-      (split_leads m p a.refined.rows_len hits q s (get_or taken u 0) (next_row m x u) (next_row m y u) (a.below u lu) (moves.nexts x u lx lu) (moves.nexts y u ly lu) old))
-      (cases_eq u unit)
-
-  more_below : (u : ℕ) → u < m.units → get_or (set taken unit (get_or taken unit 0 + 1)) u 0 ≤ length q.sizes
-  more_below u lu =
-      let g = s.more in
-      let l = a.taken_len in
-      ⊎_elim
-      (λ (f : u ≡ unit). rw (f, get_or-set_same taken unit (get_or taken unit 0 + 1) 0 (omega arith)) (omega arith))
-      (λ (ne : u ≡ unit → ⊥). rw (get_or-set_other taken unit u (get_or taken unit 0 + 1) 0 ne) (let b = a.below u lu in omega arith))
-      (cases_eq u unit)
+  taken_leads x y lx ly e (second f) = flipped q (get_or taken unit 0 + 1) (next_row m y unit) (next_row m x unit) (taken_first y x ly lx (sym e) f)
 
   pub IsSettling-more : IsSettling m labels q (set taken unit (get_or taken unit 0 + 1))
-  IsSettling-more = record {
-    refined = record {
-      partition = s.partition;
-      rows_len = s.rows_len ∙ a.refined.rows_len;
-      clear = s.clear;
-      labelled = λ x y lx ly e. a.refined.labelled x y lx ly (s.finer x y (p_rows x lx) (p_rows y ly) e);
-      told = split_told;
-    };
-    taken_len = length-set taken unit (get_or taken unit 0 + 1) ∙ a.taken_len;
-    below = more_below;
-    pending = more_pending;
-  }
+  IsSettling-more = IsSettling-step m labels p taken unit moves hu a q s.refines split_told (get_or taken unit 0 + 1) (omega arith) taken_leads
+
+-- ---- a unit takes all blocks that wait for it: the blocks are split by those to which it leads the rows
+module _ (m : Moves) (labels : List ℕ) (p : Parts) (taken : List ℕ) (unit : ℕ) (moves : AreMoves m) (hu : unit < m.units) (a : IsSettling m labels p taken) (q : Parts) (s : TakesAll m unit p (get_or taken unit 0) q) where
+  in_p : (x : ℕ) → x < m.rows → x < length p.rows
+  in_p x l = let e = a.refined.rows_len in omega arith
+
+  told_by_key : (x y : ℕ) → x < m.rows → y < m.rows → (get_or s.keys x 0 ≡ get_or s.keys y 0 → ⊥) → AreToldApart m labels x y
+  told_by_key x y lx ly ne =
+      AreToldApart-before m labels x y unit hu
+      (a.refined.told (next_row m x unit) (next_row m y unit) (moves.nexts x unit lx hu) (moves.nexts y unit ly hu)
+      (λ e. ne (s.are x lx ∙ ap (λ b. cond (leb (get_or taken unit 0) b) b 0) e ∙ sym (s.are y ly))))
+
+  all_told : (x y : ℕ) → x < m.rows → y < m.rows → (block_of q x ≡ block_of q y → ⊥) → AreToldApart m labels x y
+  all_told x y lx ly ne =
+      ⊎_elim
+      (λ (e : block_of p x ≡ block_of p y). told_by_key x y lx ly (λ i. ne (s.splits.kept x y (in_p x lx) (in_p y ly) e i)))
+      (λ (n : block_of p x ≡ block_of p y → ⊥). a.refined.told x y lx ly n)
+      (cases_eq (block_of p x) (block_of p y))
+
+  -- rows that stay together are led into one block, where one of them is led into a block that waited
+  one_next : (x y : ℕ) → x < m.rows → y < m.rows → block_of q x ≡ block_of q y → get_or taken unit 0 ≤ block_of p (next_row m x unit) → block_of p (next_row m x unit) ≡ block_of p (next_row m y unit)
+  one_next x y lx ly e le =
+      let keys : next_key m unit p.blocks (get_or taken unit 0) x ≡ next_key m unit p.blocks (get_or taken unit 0) y = sym (s.are x lx) ∙ s.splits.agrees x y (in_p x lx) (in_p y ly) e ∙ s.are y ly in
+      let own : next_key m unit p.blocks (get_or taken unit 0) x ≡ block_of p (next_row m x unit) = rw (le-leb (get_or taken unit 0) (block_of p (next_row m x unit)) le) refl in
+      ⊎_elim
+      (λ (lt : block_of p (next_row m y unit) < get_or taken unit 0).
+      let none : next_key m unit p.blocks (get_or taken unit 0) y ≡ 0 = rw (lt-leb (get_or taken unit 0) (block_of p (next_row m y unit)) lt) refl in
+      absurd (let z : block_of p (next_row m x unit) ≡ 0 = sym own ∙ keys ∙ none in omega arith))
+      (λ (ge : get_or taken unit 0 ≤ block_of p (next_row m y unit)).
+      sym own ∙ keys ∙ rw (le-leb (get_or taken unit 0) (block_of p (next_row m y unit)) ge) refl)
+      (cases_lt (block_of p (next_row m y unit)) (get_or taken unit 0))
+
+  one_leads : (x y : ℕ) → x < m.rows → y < m.rows → block_of p (next_row m x unit) ≡ block_of p (next_row m y unit) → Leads q (length p.sizes) (next_row m x unit) (next_row m y unit)
+  one_leads x y lx ly e = split_same m p a.refined.rows_len q s.splits.refines (length p.sizes) (next_row m x unit) (next_row m y unit) (omega arith) (moves.nexts x unit lx hu) (moves.nexts y unit ly hu) e
+
+  all_leads : (x y : ℕ) → x < m.rows → y < m.rows → block_of q x ≡ block_of q y → Leads p (get_or taken unit 0) (next_row m x unit) (next_row m y unit) → Leads q (length p.sizes) (next_row m x unit) (next_row m y unit)
+  all_leads x y lx ly e (same f) = one_leads x y lx ly f
+  all_leads x y lx ly e (first f) = one_leads x y lx ly (one_next x y lx ly e f)
+  all_leads x y lx ly e (second f) = one_leads x y lx ly (sym (one_next y x ly lx (sym e) f))
+
+  pub IsSettling-all : IsSettling m labels q (set taken unit (length p.sizes))
+  IsSettling-all = IsSettling-step m labels p taken unit moves hu a q s.splits.refines all_told (length p.sizes) (omega arith) all_leads
 
 -- ---- nothing is left to split: the rows to which a unit leads two rows of one block are in one block
 module _ (m : Moves) (labels : List ℕ) (p : Parts) (moves : AreMoves m) (r : IsRefined m labels p) (steady : (x y u : ℕ) → x < m.rows → y < m.rows → u < m.units → block_of p x ≡ block_of p y → block_of p (next_row m x u) ≡ block_of p (next_row m y u)) where

@@ -4,13 +4,14 @@ use Rattle.std.specs.List.{sum_by, flat_map, All, Contains, slice_range}
 use Rattle.std.proofs.lemmas.Bool.{cases_eq}
 use Rattle.std.proofs.lemmas.List.Elements.{Contains-get_or}
 use Rattle.std.proofs.lemmas.List.{get_or_default}
+use Rattle.rx_refine.specs.Keys.{waiting_reads, TakesAll}
 use Rattle.rx_refine.specs.Moves.{Moves, AreMoves, sources, read_limit, AreToldApart, AreAlikeByNumber, AreToldByNumber, AreWithoutGaps}
 use Rattle.rx_refine.specs.Parts.{Parts, SplitsBy, block_of, size_of}
 use Rattle.rx_refine.specs.Labelled.{IsByLabel}
 use Rattle.rx_refine.proofs.Splitting.{blocks_few}
 use Rattle.rx_refine.proofs.Labels.{is_in-flat_map, flat_map-small}
-use Rattle.rx_refine.proofs.Refining.{members, members_small, IsRefined, IsSettling, IsSettling-first, IsSettling-more, steady_at_end, steady_where_discrete, alike_from_same, same_from_alike, label_after-nil}
-use Rattle.rx_refine.proofs.Cost.{cost, potential, potential_first, potential_turn, turn_reads}
+use Rattle.rx_refine.proofs.Refining.{members, members_small, IsRefined, IsSettling, IsSettling-first, IsSettling-more, IsSettling-all, steady_at_end, steady_where_discrete, alike_from_same, same_from_alike, label_after-nil}
+use Rattle.rx_refine.proofs.Cost.{cost, potential, potential_first, potential_turn, potential_all, turn_reads, all_reads}
 
 -- before a turn: `start` steps were counted when the refinement began, `steps` by now
 pub record IsRound (m : Moves) (labels : List ℕ) (start : ℕ) (p : Parts) (taken : List ℕ) (steps : ℕ) : Type 0 where
@@ -51,25 +52,19 @@ sweep_first m labels start p taken a len b taken_len zeros =
       seen_few = omega arith;
     }
 
--- ---- a sweep begins
-pub sweep_begun : (m : Moves) (labels : List ℕ) (start : ℕ) (p : Parts) (taken : List ℕ) (steps seen unit : ℕ) → IsSweep m labels start p taken steps seen unit → IsSweep m labels start p taken steps (length p.sizes) 0
-sweep_begun m labels start p taken steps seen unit t = record {
-  round = t.round;
-  seen_all = λ u l. absurd (omega arith);
-  seen_few = omega arith;
-}
-
 -- ---- a unit took all blocks
-pub sweep_more : (m : Moves) (labels : List ℕ) (start : ℕ) (p : Parts) (taken : List ℕ) (steps seen unit : ℕ) → IsSweep m labels start p taken steps seen unit → length p.sizes ≤ get_or taken unit 0 → IsSweep m labels start p taken steps seen (unit + 1)
-sweep_more m labels start p taken steps seen unit t h = record {
-  round = t.round;
-  seen_all = λ u l.
-      ⊎_elim
-      (λ (e : u ≡ unit). rw e (let f = t.seen_few in omega arith))
-      (λ (ne : u ≡ unit → ⊥). t.seen_all u (omega arith))
-      (cases_eq u unit);
-  seen_few = t.seen_few;
-}
+pub sweep_more : (m : Moves) (labels : List ℕ) (start : ℕ) (p : Parts) (taken : List ℕ) (steps seen unit : ℕ) → IsSweep m labels start p taken steps seen unit → unit < m.units → (read : ℕ) → read ≡ get_or taken unit read → length p.sizes ≤ read → IsSweep m labels start p taken steps seen (unit + 1)
+sweep_more m labels start p taken steps seen unit t hu read is le =
+    let own : read ≡ get_or taken unit 0 = (let l = t.round.settling.taken_len in is ∙ get_or_default taken unit read 0 (omega arith)) in
+    record {
+      round = t.round;
+      seen_all = λ u l.
+          ⊎_elim
+          (λ (e : u ≡ unit). rw e (let f = t.seen_few in omega arith))
+          (λ (ne : u ≡ unit → ⊥). t.seen_all u (omega arith))
+          (cases_eq u unit);
+      seen_few = t.seen_few;
+    }
 
 -- ---- a turn. How many blocks the unit took is read twice: before the turn, and as the block to take
 module _ (m : Moves) (labels : List ℕ) (start : ℕ) (p : Parts) (taken : List ℕ) (steps seen unit : ℕ) (t : IsSweep m labels start p taken steps seen unit) (hu : unit < m.units) (read block : ℕ) (is_read : read ≡ get_or taken unit read) (is_block : block ≡ get_or taken unit block) (few : read < length p.sizes) (taking : List ℕ) (is : taking ≡ slice_range p.rows (get_or p.starts block 0) (get_or p.starts block 0 + size_of p block)) where
@@ -115,7 +110,7 @@ module _ (m : Moves) (labels : List ℕ) (start : ℕ) (p : Parts) (taken : List
 
   turn_spends : (q : Parts) (hits : List ℕ) → SplitsBy p hits q → potential m q (set taken unit (get_or taken unit 0 + 1)) + sum_by (λ row. cost m unit row) taking ≤ potential m p taken
   turn_spends q hits s =
-      rw is_taking (potential_turn m p q hits unit taken t.round.settling.refined.partition t.round.settling.refined.rows_len t.round.settling.taken_len hu t.round.settling.below h s)
+      rw is_taking (potential_turn m p q unit taken t.round.settling.refined.partition t.round.settling.refined.rows_len t.round.settling.taken_len hu t.round.settling.below s.refines h)
 
   turn_seen : (u : ℕ) → u < unit → seen ≤ get_or (set taken unit (get_or taken unit 0 + 1)) u 0
   turn_seen u l = rw (get_or-set_other taken unit u (get_or taken unit 0 + 1) 0 (λ e. omega arith)) (t.seen_all u l)
@@ -129,7 +124,7 @@ module _ (m : Moves) (labels : List ℕ) (start : ℕ) (p : Parts) (taken : List
       rising = let r = t.round.rising in omega arith;
     };
     seen_all = turn_seen;
-    seen_few = let f = t.seen_few in let g = s.more in omega arith;
+    seen_few = let f = t.seen_few in let g = s.refines.more in omega arith;
   }
 
   pub turn_more : AreMoves m → (hits : List ℕ) (q : Parts) (now : ℕ) → hits ≡ flat_map (λ row. sources m row unit) taking → SplitsBy p hits q → now ≤ steps + sum_by (λ row. cost m unit row) taking → steps ≤ now → IsSweep m labels start q (set taken unit (block + 1)) now seen unit
@@ -142,6 +137,50 @@ module _ (m : Moves) (labels : List ℕ) (start : ℕ) (p : Parts) (taken : List
       let b = block_is in
       let low = block_below in
       rw (e, get_or-set_same taken unit (block + 1) 0 (omega arith)) (omega arith)
+
+-- ---- a unit takes all blocks that wait for it
+module _ (m : Moves) (labels : List ℕ) (start : ℕ) (p : Parts) (taken : List ℕ) (steps seen unit : ℕ) (t : IsSweep m labels start p taken steps seen unit) (hu : unit < m.units) (read : ℕ) (is_read : read ≡ get_or taken unit read) where
+  read_is : read ≡ get_or taken unit 0
+  read_is = let l = t.round.settling.taken_len in is_read ∙ get_or_default taken unit read 0 (omega arith)
+
+  pub all_allowed : steps + waiting_reads m unit p.blocks read ≤ start + read_limit m
+  all_allowed =
+      let al = t.round.allowed in
+      let r = all_reads m p unit taken t.round.settling.refined.partition t.round.settling.refined.rows_len hu in
+      rw read_is (omega arith)
+
+  all_done : (q : Parts) (now : ℕ) → TakesAll m unit p (get_or taken unit 0) q → AreMoves m → now ≤ steps + waiting_reads m unit p.blocks (get_or taken unit 0) → steps ≤ now → IsSweep m labels start q (set taken unit (length p.sizes)) now seen unit
+  all_done q now s a le ge = record {
+    round = record {
+      settling = IsSettling-all m labels p taken unit a hu t.round.settling q s;
+      allowed =
+          let al = t.round.allowed in
+          let spent = potential_all m p q unit taken t.round.settling.refined.partition t.round.settling.refined.rows_len t.round.settling.taken_len hu t.round.settling.below s.splits.refines in
+          omega arith;
+      rising = let r = t.round.rising in omega arith;
+    };
+    seen_all = λ u l. rw (get_or-set_other taken unit u (length p.sizes) 0 (λ e. omega arith)) (t.seen_all u l);
+    seen_few = let f = t.seen_few in let g = s.splits.refines.more in omega arith;
+  }
+
+  pub all_more : (q : Parts) (now : ℕ) → TakesAll m unit p read q → AreMoves m → now ≤ steps + waiting_reads m unit p.blocks read → steps ≤ now → IsSweep m labels start q (set taken unit (length p.sizes)) now seen unit
+  all_more q now s a le ge =
+      all_done q now (subst (λ n. TakesAll m unit p n q) read_is s) a (subst (λ n. now ≤ steps + waiting_reads m unit p.blocks n) read_is le) ge
+
+  -- and the next unit is taken up
+  pub all_next : (q : Parts) (now : ℕ) → TakesAll m unit p read q → AreMoves m → now ≤ steps + waiting_reads m unit p.blocks read → steps ≤ now → IsSweep m labels start q (set taken unit (length p.sizes)) now seen (unit + 1)
+  all_next q now s a le ge =
+      let done = all_more q now s a le ge in
+      let own : get_or (set taken unit (length p.sizes)) unit 0 ≡ length p.sizes = (let l = t.round.settling.taken_len in get_or-set_same taken unit (length p.sizes) 0 (omega arith)) in
+      record {
+        round = done.round;
+        seen_all = λ u l.
+            ⊎_elim
+            (λ (e : u ≡ unit). rw (e, own) t.seen_few)
+            (λ (ne : u ≡ unit → ⊥). done.seen_all u (omega arith))
+            (cases_eq u unit);
+        seen_few = done.seen_few;
+      }
 
 -- blocks are at most as many as rows
 pub blocks_below : (m : Moves) (labels : List ℕ) (start : ℕ) (p : Parts) (taken : List ℕ) (steps : ℕ) → IsRound m labels start p taken steps → length p.sizes ≤ m.rows

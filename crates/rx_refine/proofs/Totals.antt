@@ -3,6 +3,7 @@ use Rattle.std.proofs.Common.{◌≡◌, ℕ, zero, suc, ◌+◌, ◌*◌, ◌<�
 use Rattle.std.specs.List.{sum_by, list_any}
 use Rattle.std.proofs.lemmas.Bool.{cases_Bool, cases_eq, false_from_ne_true}
 use Rattle.std.proofs.lemmas.List.Sums.{sum_by-cons}
+use Rattle.rx_refine.specs.Keys.{total}
 use Rattle.rx_refine.specs.Places.{how_many, how_many_below}
 use Rattle.rx_refine.proofs.Places.{how_many_below_more, how_many_below-zero, add-one-sym}
 use Rattle.rx_refine.proofs.Grouping.{how_many_below-all}
@@ -12,10 +13,6 @@ mul-suc k n = omega arith
 
 mul_add : (k a b : ℕ) → k * (a + b) ≡ k * a + k * b
 mul_add k a b = omega arith
-
-abbrev pub total : (ℕ → ℕ) → ℕ → ℕ
-total f zero = 0
-total f (suc n) = total f n + f n
 
 pub total-add : (f g : ℕ → ℕ) (n : ℕ) → total (λ r. f r + g r) n ≡ total f n + total g n
 total-add f g zero = refl

@@ -4,3 +4,5 @@ pub mod Groups
 pub mod Parts
 pub mod Kept
 pub mod Labelled
+pub mod Keys
+pub mod Numbers

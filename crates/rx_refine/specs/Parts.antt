@@ -75,17 +75,27 @@ pub record SplitsBlock (old : Parts) (block : ℕ) (new : Parts) : Type 0 where
   pub unmarked : slice_index new.marks block ≡ 0
   pub other_marks : (other : ℕ) → (other ≡ block → ⊥) → slice_index new.marks other ≡ slice_index old.marks other
 
--- Each block is split into its rows among `hits` and the others. Of the parts the smaller one has a
--- new number.
-pub record SplitsBy (old : Parts) (hits : List ℕ) (new : Parts) : Type 0 where
+-- The blocks are split into finer ones. A row keeps the number of its block, or has a new number and is in
+-- a block with at most half of the rows.
+pub record Refines (old new : Parts) : Type 0 where
   pub partition : IsPartition new
   pub rows_len : length new.rows ≡ length old.rows
   pub more : length old.sizes ≤ length new.sizes
   pub finer : (x y : ℕ) → x < length old.rows → y < length old.rows → block_of new x ≡ block_of new y → block_of old x ≡ block_of old y
-  pub agrees : (x y : ℕ) → x < length old.rows → y < length old.rows → block_of new x ≡ block_of new y → is_in hits x ≡ is_in hits y
-  pub kept : (x y : ℕ) → x < length old.rows → y < length old.rows → block_of old x ≡ block_of old y → is_in hits x ≡ is_in hits y → block_of new x ≡ block_of new y
   pub numbers : (x : ℕ) → x < length old.rows → ((block_of new x ≡ block_of old x) × (size_of new (block_of old x) ≤ size_of old (block_of old x))) ⊎ ((length old.sizes ≤ block_of new x) × (2 * size_of new (block_of new x) ≤ size_of old (block_of old x)))
   pub clear : (block : ℕ) → slice_index new.marks block ≡ 0
+
+-- each block is split into its rows among `hits` and the others
+pub record SplitsBy (old : Parts) (hits : List ℕ) (new : Parts) : Type 0 where
+  pub refines : Refines old new
+  pub agrees : (x y : ℕ) → x < length old.rows → y < length old.rows → block_of new x ≡ block_of new y → is_in hits x ≡ is_in hits y
+  pub kept : (x y : ℕ) → x < length old.rows → y < length old.rows → block_of old x ≡ block_of old y → is_in hits x ≡ is_in hits y → block_of new x ≡ block_of new y
+
+-- each block is split into its rows with equal keys
+pub record SplitsByKey (old : Parts) (keys : List ℕ) (new : Parts) : Type 0 where
+  pub refines : Refines old new
+  pub agrees : (x y : ℕ) → x < length old.rows → y < length old.rows → block_of new x ≡ block_of new y → slice_index keys x ≡ slice_index keys y
+  pub kept : (x y : ℕ) → x < length old.rows → y < length old.rows → block_of old x ≡ block_of old y → slice_index keys x ≡ slice_index keys y → block_of new x ≡ block_of new y
 
 -- a range of rows is a new block, the last one
 pub record AddsBlock (old : Parts) (start size : ℕ) (new : Parts) : Type 0 where

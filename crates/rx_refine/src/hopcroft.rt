@@ -5,8 +5,10 @@ ghost use Rattle.std.specs.List.{flat_map, sum_by};
 ghost use Rattle.rx_refine.specs.Moves.{AreMoves, Moves, sources, read_limit, AreAlikeByNumber, AreToldByNumber, AreWithoutGaps};
 ghost use Rattle.rx_refine.specs.Kept.{parts};
 ghost use Rattle.rx_refine.specs.Labelled.{IsByLabel};
+ghost use Rattle.rx_refine.specs.Parts.{IsPartition};
+ghost use Rattle.rx_refine.specs.Keys.{waiting_reads, TakesAll};
 
-use crate::groups::Groups;
+use crate::keys::read_keys;
 use crate::lists::Incoming;
 use crate::partition::Partition;
 use rx_base::Steps;
@@ -18,9 +20,10 @@ use std::alloc::{AllocError, Global};
 /// For each unit the blocks are taken in the order of their numbers. Where a block is taken for a unit,
 /// each block is split into the rows that the unit leads into the taken block and those that it
 /// doesn't. The smaller part of a split gets a new number, so it is taken later; the larger part keeps
-/// its number, so it is taken later where it wasn't taken yet. One unit takes all blocks that wait for
-/// it before the next unit does, since its lists stay near then. Rows that are all apart can't be split
-/// further, and nothing more is read.
+/// its number, so it is taken later where it wasn't taken yet. Where many rows wait for a unit, it
+/// takes all their blocks at once: each block is split by the blocks into which the unit leads its rows.
+/// Where few wait, one unit takes them all before the next unit does, since its lists stay near then.
+/// Rows that are all apart can't be split further, and nothing more is read.
 pub fn refine<L>(
     alloc: Global,
     incoming: &Incoming<L>,
@@ -41,14 +44,32 @@ pub fn refine<L>(
     ensures rising { steps.old ≤ steps.new }
 {
     let units = incoming.units();
-    let mut touched = Vec::new(alloc);
-    let mut partition = by_label(alloc, first, &mut touched)?;
-    let mut hits = Vec::new(alloc);
+    let mut key_room = vec![in alloc; 0; incoming.rows()]?;
+    let keys = key_room.as_mut_slice();
+    let mut name_room = vec![in alloc; 0; incoming.rows() + 1]?;
+    let names = name_room.as_mut_slice();
+    let mut partition = by_label(alloc, first, names)?;
     let mut taken = none_taken(alloc, units)?;
+    let mut touched = Vec::new(alloc);
+    let mut hits = Vec::new(alloc);
     let mut seen = 0;
     while seen < partition.len() {
         seen = partition.len();
         for unit in 0..units {
+            if partition.is_crowded(taken[unit]) {
+                taken[unit] = take_all(
+                    incoming,
+                    unit,
+                    taken[unit],
+                    &mut partition,
+                    keys,
+                    names,
+                    steps,
+                )?;
+                if partition.is_crowded(taken[unit]) {
+                    continue;
+                }
+            }
             while taken[unit] < partition.len() {
                 if partition.is_discrete() {
                     return Ok(partition.into_blocks());
@@ -63,6 +84,36 @@ pub fn refine<L>(
     Ok(partition.into_blocks())
 }
 
+/// Splits each block by the blocks from `taken` on into which the unit leads its rows. The result is the
+/// number of blocks that there were: the unit has taken these.
+fn take_all<L>(
+    incoming: &Incoming<L>,
+    unit: usize,
+    taken: usize,
+    partition: &mut Partition,
+    keys: &mut [u32],
+    names: &mut [u32],
+    steps: &mut Steps<L>,
+) -> Result<usize, AllocError>
+    requires moves { AreMoves incoming.now }
+    requires unit { unit < incoming.now.units }
+    requires partition { IsPartition (parts partition.old) }
+    requires clear { (block : ℕ) → slice_index partition.old.marks.items block ≡ 0 }
+    requires rows { length partition.old.rows.items ≡ incoming.now.rows }
+    requires keys { length keys.old ≡ incoming.now.rows }
+    requires names { length names.old ≡ incoming.now.rows + 1 }
+    requires room { steps.old + waiting_reads incoming.now unit partition.old.blocks.items taken < 2 ^ 64 }
+    ensures end { IfOk result (λ end. end ≡ length partition.old.sizes.items) }
+    ensures takes { IfOk result (λ _. TakesAll incoming.now unit (parts partition.old) taken (parts partition.new)) }
+    ensures steps { steps.new ≤ steps.old + waiting_reads incoming.now unit partition.old.blocks.items taken }
+    ensures rising { steps.old ≤ steps.new }
+{
+    let end = partition.len();
+    read_keys(incoming, partition.blocks(), taken, unit, keys, steps);
+    partition.split_by_keys(keys, names)?;
+    Ok(end)
+}
+
 /// For each unit how many blocks it took: none yet.
 fn none_taken(alloc: Global, units: usize) -> Result<Vec<usize>, AllocError>
     ensures len { IfOk result (λ taken. length taken.items ≡ units) }
@@ -71,17 +122,15 @@ fn none_taken(alloc: Global, units: usize) -> Result<Vec<usize>, AllocError>
     vec![in alloc; 0; units]
 }
 
-/// The partition into rows with equal labels.
-fn by_label(alloc: Global, first: &[u32], touched: &mut Vec<u32>) -> Result<Partition, AllocError>
+/// The partition into rows with equal labels. `names` is room to work in.
+fn by_label(alloc: Global, first: &[u32], names: &mut [u32]) -> Result<Partition, AllocError>
     requires few { length first.now ≤ 2 ^ 31 }
     requires small { All (λ label. label < length first.now) first.now }
+    requires names { length names.old ≡ length first.now + 1 }
     ensures { IfOk result (λ partition. IsByLabel first.now (parts partition)) }
 {
-    let groups = Groups::new(alloc, first)?;
     let mut partition = Partition::new(alloc, first.len())?;
-    for label in 0..first.len() {
-        partition.split(groups.rows_of(label), touched)?;
-    }
+    partition.split_by_keys(first, names)?;
     Ok(partition)
 }
 

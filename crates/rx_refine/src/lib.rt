@@ -8,13 +8,15 @@
 //! binary digits of the number of rows.
 //!
 //! What these words mean stands in `specs/Moves.antt`. Start with [`refine`], whose body is the
-//! algorithm; `partition.rt` has the blocks as ranges of one permuted vector, and `groups.rt` the lists
-//! of rows by two passes of counting.
+//! algorithm; `partition.rt` has the blocks as ranges of one permuted vector, `keys.rt` and `numbers.rt`
+//! how many blocks are taken at once, and `groups.rt` the lists of rows by two passes of counting.
 #![tactic(auto)]
 
 mod groups;
 mod hopcroft;
+mod keys;
 mod lists;
+mod numbers;
 mod partition;
 #[cfg(test)]
 mod plain;

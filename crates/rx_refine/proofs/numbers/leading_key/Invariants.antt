@@ -1,0 +1,5 @@
+use Rattle.rx_refine.proofs.Voting.{IsVoting}
+use Rattle.rx_refine.proofs.numbers.leading_key.Given as goal
+
+abbrev pub invariant-loop-row : goal.invariant-loop-row
+invariant-loop-row l = IsVoting l.members l.keys l.row-index l.leading l.votes
