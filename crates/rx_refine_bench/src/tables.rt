@@ -33,7 +33,7 @@ pub fn next_rows(
 {
     let side = side_of(rows);
     let mut seed = 7;
-    let mut next = Vec::new(alloc);
+    let mut next = Vec::with_capacity(alloc, rows * units)?;
     for row in 0..rows {
         for unit in 0..units {
             next.push(next_row(kind, rows, side, row, unit, &mut seed) as u32)?;
@@ -48,7 +48,7 @@ pub fn labels(alloc: Global, kind: Kind, rows: usize) -> Result<Vec<u32>, AllocE
     ensures small { IfOk result (λ labels. All (λ label. label < 2) labels.items) }
 {
     let mut seed = 11;
-    let mut labels = Vec::new(alloc);
+    let mut labels = Vec::with_capacity(alloc, rows)?;
     for row in 0..rows {
         labels.push(label(kind, rows, row, &mut seed))?;
     }
