@@ -1,6 +1,7 @@
 -- Keys that are given to the rows of a list, one after another, and to the sources of one row after another.
-use Rattle.std.proofs.Common.{◌≡◌, ℕ, zero, suc, ◌+◌, ◌<◌, ◌≤◌, Bool, true, false, cond, ◌||◌, List, length, get_or, take, take_all, set, eqb, ltb, refl, sym, ap, ◌∙◌, ⊎_elim, arith, eq-eqb, ne_eqb, lt-ltb, le-ltb, le-leb, get_or-set_same, get_or-set_other}
+use Rattle.std.proofs.Common.{◌≡◌, ℕ, zero, suc, ◌+◌, ◌<◌, ◌≤◌, true, false, cond, List, length, get_or, take, take_all, set, eqb, ltb, refl, sym, ap, ◌∙◌, ⊎_elim, arith, eq-eqb, ne_eqb, lt-ltb, le-ltb, le-leb, get_or-set_same, get_or-set_other}
 use Rattle.std.specs.List.{All}
+use Rattle.std.proofs.Math.Bool.{or-true, or-false}
 use Rattle.std.proofs.lemmas.Bool.{cases_eq, cases_lt, lt-leb}
 use Rattle.std.proofs.lemmas.List.{get_or_default}
 use Rattle.std.proofs.lemmas.List.Folds.{list_any_more}
@@ -11,24 +12,16 @@ use Rattle.rx_refine.proofs.Places.{add-one-sym}
 use Rattle.rx_refine.proofs.Splitting.{blocks_few}
 use Rattle.rx_refine.proofs.Labels.{is_in-places_of}
 
-or_true : (b : Bool) → (b || true) ≡ true
-or_true true = refl
-or_true false = refl
-
-or_false : (b : Bool) → (b || false) ≡ b
-or_false true = refl
-or_false false = refl
-
 -- one more row has the key
 pub set_more : (keys old hits : List ℕ) (i row key x : ℕ) → i < length hits → row ≡ get_or hits i 0 → x < length keys → get_or keys x 0 ≡ cond (is_in (take i hits) x) key (get_or old x 0) → get_or (set keys row key) x 0 ≡ cond (is_in (take (i + 1) hits) x) key (get_or old x 0)
 set_more keys old hits i row key x l is lx h =
     rw (list_any_more (eqb x) hits i 0 l) (⊎_elim
     (λ (e : x ≡ row).
     let t : eqb x (get_or hits i 0) ≡ true = eq-eqb x (get_or hits i 0) (e ∙ is) in
-    rw (t, or_true (is_in (take i hits) x), ← e) (get_or-set_same keys x key 0 lx))
+    rw (t, or-true (is_in (take i hits) x), ← e) (get_or-set_same keys x key 0 lx))
     (λ (ne : x ≡ row → ⊥).
     let f : eqb x (get_or hits i 0) ≡ false = ne_eqb x (get_or hits i 0) (λ e. ne (e ∙ sym is)) in
-    rw (f, or_false (is_in (take i hits) x)) (get_or-set_other keys row x key 0 ne ∙ h))
+    rw (f, or-false (is_in (take i hits) x)) (get_or-set_other keys row x key 0 ne ∙ h))
     (cases_eq x row))
 
 pub set_all : (keys old hits : List ℕ) (i key x : ℕ) → length hits ≤ i → get_or keys x 0 ≡ cond (is_in (take i hits) x) key (get_or old x 0) → get_or keys x 0 ≡ cond (is_in hits x) key (get_or old x 0)

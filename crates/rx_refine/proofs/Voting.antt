@@ -1,6 +1,7 @@
 -- Rows vote for their keys: of two rows with different keys neither is counted, so a key that more than
 -- half of the rows have is left over.
-use Rattle.std.proofs.Common.{◌≡◌, ℕ, ◌+◌, ◌-◌, ◌*◌, ◌<◌, ◌≤◌, Bool, true, false, cond, ◌||◌, List, length, get_or, take, take_all, eqb, refl, sym, ap, ◌∙◌, ⊎_elim, arith, eq-eqb, ne_eqb}
+use Rattle.std.proofs.Common.{◌≡◌, ℕ, ◌+◌, ◌-◌, ◌*◌, ◌<◌, ◌≤◌, true, cond, ◌||◌, List, length, get_or, take, take_all, eqb, refl, sym, ap, ◌∙◌, ⊎_elim, arith, eq-eqb, ne_eqb}
+use Rattle.std.proofs.Math.Bool.{or-true}
 use Rattle.std.proofs.lemmas.Bool.{cases_eq}
 use Rattle.std.proofs.lemmas.List.Sums.{sum_by_more}
 use Rattle.std.proofs.lemmas.List.Folds.{list_any_more, list_any_kept}
@@ -16,16 +17,12 @@ have_same members keys key i l e = how_many_have_more members keys key i l ∙ r
 have_other : (members keys : List ℕ) (key i : ℕ) → i < length members → (get_or keys (get_or members i 0) 0 ≡ key → ⊥) → how_many_have keys key (take (i + 1) members) ≡ how_many_have keys key (take i members)
 have_other members keys key i l ne = how_many_have_more members keys key i l ∙ rw (ne_eqb (get_or keys (get_or members i 0) 0) key ne) (omega arith)
 
-or_true : (b : Bool) → (b || true) ≡ true
-or_true true = refl
-or_true false = refl
-
 -- the next row is among the rows that were taken
 pub is_in_next : (members : List ℕ) (i : ℕ) → i < length members → is_in (take (i + 1) members) (get_or members i 0) ≡ true
 is_in_next members i l =
     list_any_more (eqb (get_or members i 0)) members i 0 l
     ∙ ap (λ b. is_in (take i members) (get_or members i 0) || b) (eq-eqb (get_or members i 0) (get_or members i 0) refl)
-    ∙ or_true (is_in (take i members) (get_or members i 0))
+    ∙ or-true (is_in (take i members) (get_or members i 0))
 
 pub is_in_kept : (members : List ℕ) (i row : ℕ) → is_in (take i members) row ≡ true → is_in (take (i + 1) members) row ≡ true
 is_in_kept members i row h = list_any_kept (eqb row) members i h
