@@ -1,6 +1,6 @@
 pub mod Places
 pub mod Grouping
-pub mod Columns
+pub mod Cells
 pub mod Splitting
 pub mod Halving
 pub mod Marking

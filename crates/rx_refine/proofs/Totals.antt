@@ -4,7 +4,7 @@ use Rattle.std.specs.List.{sum_by, list_any}
 use Rattle.std.proofs.lemmas.Bool.{cases_Bool, cases_eq, false_from_ne_true}
 use Rattle.std.proofs.lemmas.List.Sums.{sum_by-cons}
 use Rattle.rx_refine.specs.Keys.{total}
-use Rattle.rx_refine.specs.Places.{how_many, how_many_below}
+use Rattle.rx_refine.specs.Places.{how_many, how_many_below, AreApart}
 use Rattle.rx_refine.proofs.Places.{how_many_below_more, how_many_below-zero, add-one-sym}
 use Rattle.rx_refine.proofs.Grouping.{how_many_below-all}
 
@@ -67,9 +67,6 @@ pub total-how_many-all : (xs : List ℕ) (n : ℕ) → ((k : ℕ) → k < length
 total-how_many-all xs n h = total-how_many xs n ∙ how_many_below-all xs n h
 
 -- a sum over a list without repeats is one over the numbers that stand in it
-abbrev pub AreApart : List ℕ → Type 0
-AreApart xs = (i j : ℕ) → i < j → j < length xs → get_or xs i 0 ≡ get_or xs j 0 → ⊥
-
 AreApart-tail : (x : ℕ) (xs : List ℕ) → AreApart (x ∷ xs) → AreApart xs
 AreApart-tail x xs a i j l h e = a (suc i) (suc j) (omega arith) (omega arith) e
 

@@ -38,9 +38,9 @@ pub record NumbersParts (p : Parts) (keys : List ℕ) (n : ℕ) (numbers : List 
   pub kept : (x y : ℕ) → x < length p.rows → y < length p.rows → block_of p x ≡ block_of p y → slice_index keys x ≡ slice_index keys y → slice_index numbers x ≡ slice_index numbers y
   pub new : (x : ℕ) → x < length p.rows → (slice_index numbers x ≡ block_of p x) ⊎ ((length p.sizes ≤ slice_index numbers x) × (2 * how_many numbers (slice_index numbers x) ≤ size_of p (block_of p x)))
 
--- each row of the list is found at its place
+-- each row is found at its place
 abbrev pub ArePlacesOf : List ℕ → List ℕ → Type 0
-ArePlacesOf rows places = (row : ℕ) → Contains rows row → (slice_index places row < length rows) × (slice_index rows (slice_index places row) ≡ row)
+ArePlacesOf rows places = (row : ℕ) → row < length rows → (slice_index places row < length rows) × (slice_index rows (slice_index places row) ≡ row)
 
 -- so many blocks begin at these places, and end where the next begins
 pub record IsCut (count : ℕ) (starts : List ℕ) (p : Parts) : Type 0 where

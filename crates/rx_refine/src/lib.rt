@@ -9,9 +9,11 @@
 //!
 //! What these words mean stands in `specs/Moves.antt`. Start with [`refine`], whose body is the
 //! algorithm; `partition.rt` has the blocks as ranges of one permuted vector, `keys.rt` and `numbers.rt`
-//! how many blocks are taken at once, and `groups.rt` the lists of rows by two passes of counting.
+//! how many blocks are taken at once, `columns.rt` the columns of a table, and `groups.rt` the lists of
+//! rows by two passes of counting.
 #![tactic(auto)]
 
+mod columns;
 mod groups;
 mod hopcroft;
 mod keys;

@@ -3,14 +3,11 @@
 ghost use Rattle.std.specs.Prelude.{◌≡◌, ℕ, ◌+◌, ◌-◌, ◌*◌, ◌<◌, ◌≤◌, ◌^◌, length, slice_index, All, IfOk};
 ghost use Rattle.rx_refine.specs.Moves.{Moves, AreMoves, sources, next_row, AreColumns};
 
+use crate::columns::columns_of;
 use crate::groups::Groups;
 use rx_base::Steps;
 use std::alloc::{AllocError, Global};
 use std::marker::{Model, PhantomData};
-
-/// So many columns of a table are copied at a time: a line of a processor's cache has as many cells, and
-/// so each line is read once.
-const COLUMNS: usize = 16;
 
 /// Which rows of a table lead to a row on a unit. Each read is counted by a ledger `L`.
 ///
@@ -119,42 +116,11 @@ fn lists_of(
     requires nexts { All (λ row. row < rows) next.now }
     ensures { IfOk result (λ lists. AreColumns rows units next.now units lists.items) }
 {
+    let mut room = vec![in alloc; 0; rows]?;
+    let places = room.as_mut_slice();
     let mut lists = Vec::with_capacity(alloc, units)?;
-    let width = COLUMNS.min(units);
-    let mut room = vec![in alloc; 0; width * rows]?;
-    let columns = room.as_mut_slice();
-    let mut first = 0;
-    while first < units {
-        let count = width.min(units - first);
-        copy_columns(rows, units, next, first, count, columns);
-        for i in 0..count {
-            let column = &columns[i * rows..(i + 1) * rows];
-            lists.push(Groups::new(alloc, column)?)?;
-        }
-        first += count;
+    for column in columns_of(alloc, rows, units, next)? {
+        lists.push(Groups::new(alloc, column, places)?)?;
     }
     Ok(lists)
-}
-
-/// Copies the columns of so many units, one after another: the row to which each unit leads, for each
-/// row.
-fn copy_columns(
-    rows: usize,
-    units: usize,
-    next: &[u32],
-    first: usize,
-    count: usize,
-    columns: &mut [u32],
-)
-    requires cells { length next.now ≡ rows * units }
-    requires units { first + count ≤ units }
-    requires room { count * rows ≤ length columns.old }
-    ensures len { length columns.new ≡ length columns.old }
-    ensures copied { (i row : ℕ) → i < count → row < rows → slice_index columns.new (i * rows + row) ≡ slice_index next.now (row * units + (first + i)) }
-{
-    for row in 0..rows {
-        for i in 0..count {
-            columns[i * rows + row] = next[row * units + (first + i)];
-        }
-    }
 }

@@ -83,10 +83,15 @@ fn worked_tables(rt: HostRuntime) -> Result<(), Fail> {
     Ok(())
 }
 
+/// Every table of up to four rows and two units. Blocks of so few rows are taken one by one.
 #[test]
 fn small_tables(rt: HostRuntime) -> Result<(), Fail> {
     let alloc = rt.alloc();
-    let shapes: [(u32, usize, u64, u64); 8] = [
+    let shapes: [(u32, usize, u64, u64); 12] = [
+        (1, 0, 1, 1),
+        (2, 0, 1, 4),
+        (3, 0, 1, 27),
+        (4, 0, 1, 256),
         (1, 1, 1, 1),
         (1, 2, 1, 1),
         (2, 1, 4, 4),
@@ -243,7 +248,7 @@ fn tables_with_copies(rt: HostRuntime) -> Result<(), Fail> {
     Ok(())
 }
 
-/// Compares a random table of some hundred rows, most of which lead to few rows.
+/// Random tables of some hundred rows. Their blocks are taken at once, as long as many rows wait.
 #[test]
 fn large_random_tables(rt: HostRuntime) -> Result<(), Fail> {
     let alloc = rt.alloc();
@@ -282,7 +287,7 @@ fn last_labelled(alloc: Global, rows: u32) -> Result<Vec<u32>, AllocError>
     Ok(labels)
 }
 
-/// In a chain the rounds are as many as the rows.
+/// In a chain the rounds are as many as the rows, and its blocks are taken one by one.
 #[test]
 fn chain(rt: HostRuntime) -> Result<(), Fail> {
     let alloc = rt.alloc();

@@ -1,4 +1,4 @@
-use Rattle.rx_refine.proofs.Columns.{row_of_column}
+use Rattle.rx_refine.proofs.Cells.{row_of_column}
 use Rattle.rx_refine.proofs.lists.Incoming.count.Goals as goal
 
 pub rows_of-requires : goal.rows_of-requires

@@ -1,0 +1,111 @@
+//! The columns of a table that is given row by row.
+
+ghost use Rattle.std.specs.Prelude.{◌≡◌, ℕ, ◌+◌, ◌*◌, ◌<◌, ◌≤◌, [], ◌++◌, length, slice_index, slice_index_or, slice_range, IfOk, OnOk};
+ghost use Rattle.rx_refine.specs.Moves.{AreColumns};
+
+use std::alloc::{AllocError, Global};
+use std::marker::Model;
+
+/// So many rows are turned into columns at a time. They stay in a processor's cache, so the table is read
+/// once and in order, and each column is written in order.
+const ROWS: usize = 64;
+
+/// A column of a table.
+///
+/// Contracts see the list of its cells.
+#[derive(Drop)]
+pub(crate) struct Column {
+    cells: Vec<u32>,
+}
+
+impl Model for Column {
+    ghost use Rattle.std.specs.Prelude.{ℕ, List};
+
+    ghost Value = { List ℕ };
+
+    ghost view = { λ a. a.cells.items };
+}
+
+impl Column {
+    /// A column without cells, with room for so many.
+    fn with_capacity(alloc: Global, rows: usize) -> Result<Column, AllocError>
+        ensures { IfOk result (λ column. column ≡ []) }
+    {
+        let cells = Vec::with_capacity(alloc, rows)?;
+        Ok(Column { cells })
+    }
+
+    /// Adds cells at the end.
+    fn extend(&mut self, cells: &[u32]) -> Result<(), AllocError>
+        ensures { IfOk result (λ _. self.new ≡ self.old ++ cells.now) }
+    {
+        self.cells.extend_from_slice(cells)
+    }
+
+    /// The cells.
+    pub(crate) fn into_cells(self) -> Vec<u32>
+        ensures { result.items ≡ self }
+    {
+        self.cells
+    }
+}
+
+/// The columns of the table whose cell for row `row` and unit `unit` is `next[row * units + unit]`.
+pub(crate) fn columns_of(
+    alloc: Global,
+    rows: usize,
+    units: usize,
+    next: &[u32],
+) -> Result<Vec<Column>, AllocError>
+    requires cells { length next.now ≡ rows * units }
+    ensures { IfOk result (λ columns. AreColumns rows units next.now units columns.items) }
+{
+    let mut columns = empty_columns(alloc, rows, units)?;
+    let mut room = vec![in alloc; 0; ROWS.min(rows) * units]?;
+    let turned = room.as_mut_slice();
+    let mut first = 0;
+    while first < rows {
+        let count = ROWS.min(rows - first);
+        let cells = &next[first * units..(first + count) * units];
+        turn(count, units, cells, turned);
+        add_cells(count, turned, &mut columns)?;
+        first += count;
+    }
+    Ok(columns)
+}
+
+/// So many columns without cells, each with room for so many rows.
+fn empty_columns(alloc: Global, rows: usize, units: usize) -> Result<Vec<Column>, AllocError>
+    ensures len { IfOk result (λ columns. length columns.items ≡ units) }
+    ensures empty { IfOk result (λ columns. (unit : ℕ) → slice_index_or columns.items unit [] ≡ []) }
+{
+    let mut columns = Vec::with_capacity(alloc, units)?;
+    for _unit in 0..units {
+        columns.push(Column::with_capacity(alloc, rows)?)?;
+    }
+    Ok(columns)
+}
+
+/// Copies the cells of a table column by column.
+fn turn(rows: usize, units: usize, cells: &[u32], turned: &mut [u32])
+    requires cells { length cells.now ≡ rows * units }
+    requires room { rows * units ≤ length turned.old }
+    ensures { (row unit : ℕ) → row < rows → unit < units → slice_index turned.new (unit * rows + row) ≡ slice_index cells.now (row * units + unit) }
+{
+    for row in 0..rows {
+        for unit in 0..units {
+            turned[unit * rows + row] = cells[row * units + unit];
+        }
+    }
+}
+
+/// Adds so many cells to each column.
+fn add_cells(count: usize, turned: &[u32], columns: &mut [Column]) -> Result<(), AllocError>
+    requires room { length columns.old * count ≤ length turned.now }
+    ensures { IfOk result (λ _. (unit : ℕ) → unit < length columns.old → slice_index_or columns.new unit [] ≡ slice_index_or columns.old unit [] ++ slice_range turned.now (unit * count) ((unit + 1) * count)) }
+{
+    for unit in 0..columns.len() {
+        columns[unit].extend(&turned[unit * count..(unit + 1) * count])?;
+    }
+    Ok(())
+}
