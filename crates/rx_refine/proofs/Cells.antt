@@ -75,19 +75,19 @@ cells_apart rows i j r q lr lq ne e =
     (cases_lt i j)
 
 -- the rows below `row` are copied for each unit, and that row for the first `n` units
-pub record AreTurned (rows units : ℕ) (cells : List ℕ) (row n : ℕ) (turned : List ℕ) : Type 0 where
-  pub above : (r unit : ℕ) → r < row → r < rows → unit < units → get_or turned (unit * rows + r) 0 ≡ get_or cells (r * units + unit) 0
-  pub here : (unit : ℕ) → unit < n → unit < units → row < rows → get_or turned (unit * rows + row) 0 ≡ get_or cells (row * units + unit) 0
+pub record AreTransposed (rows units : ℕ) (cells : List ℕ) (row n : ℕ) (transposed : List ℕ) : Type 0 where
+  pub above : (r unit : ℕ) → r < row → r < rows → unit < units → get_or transposed (unit * rows + r) 0 ≡ get_or cells (r * units + unit) 0
+  pub here : (unit : ℕ) → unit < n → unit < units → row < rows → get_or transposed (unit * rows + row) 0 ≡ get_or cells (row * units + unit) 0
 
-pub AreTurned-none : (rows units : ℕ) (cells turned : List ℕ) → AreTurned rows units cells 0 0 turned
-AreTurned-none rows units cells turned = record {
+pub AreTransposed-none : (rows units : ℕ) (cells transposed : List ℕ) → AreTransposed rows units cells 0 0 transposed
+AreTransposed-none rows units cells transposed = record {
   above = λ r unit lr l lu. absurd (omega arith);
   here = λ unit lt lu l. absurd (omega arith);
 }
 
 -- a row is done
-pub AreTurned-row : (rows units : ℕ) (cells : List ℕ) (row n : ℕ) (turned : List ℕ) → n ≡ units → AreTurned rows units cells row n turned → AreTurned rows units cells (row + 1) 0 turned
-AreTurned-row rows units cells row n turned e a = record {
+pub AreTransposed-row : (rows units : ℕ) (cells : List ℕ) (row n : ℕ) (transposed : List ℕ) → n ≡ units → AreTransposed rows units cells row n transposed → AreTransposed rows units cells (row + 1) 0 transposed
+AreTransposed-row rows units cells row n transposed e a = record {
   above = λ r unit lr l lu. ⊎_elim
       (λ (lt : r < row). a.above r unit lt l lu)
       (λ (ge : row ≤ r). let f : r ≡ row = omega arith in rw f (a.here unit (omega arith) lu (omega arith)))
@@ -96,18 +96,18 @@ AreTurned-row rows units cells row n turned e a = record {
 }
 
 -- a cell is copied
-pub AreTurned_more : (rows units : ℕ) (cells : List ℕ) (row n : ℕ) (turned : List ℕ) → AreTurned rows units cells row n turned → row < rows → n < units → rows * units ≤ length turned → AreTurned rows units cells row (n + 1) (set turned (n * rows + row) (get_or cells (row * units + n) 0))
-AreTurned_more rows units cells row n turned a lr ln room =
+pub AreTransposed_more : (rows units : ℕ) (cells : List ℕ) (row n : ℕ) (transposed : List ℕ) → AreTransposed rows units cells row n transposed → row < rows → n < units → rows * units ≤ length transposed → AreTransposed rows units cells row (n + 1) (set transposed (n * rows + row) (get_or cells (row * units + n) 0))
+AreTransposed_more rows units cells row n transposed a lr ln room =
     let value : ℕ = get_or cells (row * units + n) 0 in
-    let in' : n * rows + row < length turned = let h : n * rows + row < rows * units = mul-add-lt n rows row units ln lr in omega arith in
+    let in' : n * rows + row < length transposed = let h : n * rows + row < rows * units = mul-add-lt n rows row units ln lr in omega arith in
     record {
       above = λ r unit lt l lu.
-          get_or-set_other turned (n * rows + row) (unit * rows + r) value 0 (λ f. cells_apart rows unit n r row l lr (λ s t. omega arith) f)
+          get_or-set_other transposed (n * rows + row) (unit * rows + r) value 0 (λ f. cells_apart rows unit n r row l lr (λ s t. omega arith) f)
           ∙ a.above r unit lt l lu;
       here = λ unit lt lu l. ⊎_elim
-          (λ (same : unit ≡ n). rw same (get_or-set_same turned (n * rows + row) value 0 in'))
+          (λ (same : unit ≡ n). rw same (get_or-set_same transposed (n * rows + row) value 0 in'))
           (λ (ne : unit ≡ n → ⊥).
-          get_or-set_other turned (n * rows + row) (unit * rows + row) value 0 (λ f. cells_apart rows unit n row row l lr (λ s t. ne s) f)
+          get_or-set_other transposed (n * rows + row) (unit * rows + row) value 0 (λ f. cells_apart rows unit n row row l lr (λ s t. ne s) f)
           ∙ a.here unit (omega arith) lu l)
           (cases_eq unit n);
     }
@@ -120,20 +120,20 @@ AreColumns-empty units next columns len empty = record {
   cells = λ row unit r h. absurd (omega arith);
 }
 
-module _ (units first count : ℕ) (next cells turned : List ℕ) (old new : List (List ℕ)) (a : AreColumns first units next units old) (within : (first + count) * units ≤ length next) (is : cells ≡ slice_range next (first * units) ((first + count) * units)) (turn : (row unit : ℕ) → row < count → unit < units → get_or turned (unit * count + row) 0 ≡ get_or cells (row * units + unit) 0) (room : units * count ≤ length turned) (len : length new ≡ length old) (added : (unit : ℕ) → unit < length old → get_or new unit [] ≡ get_or old unit [] ++ slice_range turned (unit * count) ((unit + 1) * count)) where
+module _ (units first count : ℕ) (next cells transposed : List ℕ) (old new : List (List ℕ)) (a : AreColumns first units next units old) (within : (first + count) * units ≤ length next) (is : cells ≡ slice_range next (first * units) ((first + count) * units)) (moved : (row unit : ℕ) → row < count → unit < units → get_or transposed (unit * count + row) 0 ≡ get_or cells (row * units + unit) 0) (room : units * count ≤ length transposed) (len : length new ≡ length old) (added : (unit : ℕ) → unit < length old → get_or new unit [] ≡ get_or old unit [] ++ slice_range transposed (unit * count) ((unit + 1) * count)) where
   part_end : (unit : ℕ) → (unit + 1) * count ≡ unit * count + count
   part_end unit = omega arith
 
-  part_len : (unit : ℕ) → unit < units → length (slice_range turned (unit * count) ((unit + 1) * count)) ≡ count
+  part_len : (unit : ℕ) → unit < units → length (slice_range transposed (unit * count) ((unit + 1) * count)) ≡ count
   part_len unit h =
-      let le : (unit + 1) * count ≤ length turned = le_trans (mul-le-mul_right count (omega arith)) room in
+      let le : (unit + 1) * count ≤ length transposed = le_trans (mul-le-mul_right count (omega arith)) room in
       let e = part_end unit in
       simp (length-take, length-drop) (omega arith)
 
-  part_at : (row unit : ℕ) → row < count → get_or (slice_range turned (unit * count) ((unit + 1) * count)) row 0 ≡ get_or turned (unit * count + row) 0
+  part_at : (row unit : ℕ) → row < count → get_or (slice_range transposed (unit * count) ((unit + 1) * count)) row 0 ≡ get_or transposed (unit * count + row) 0
   part_at row unit h =
       let e = part_end unit in
-      get_or-take ((unit + 1) * count - unit * count) (drop (unit * count) turned) row 0 (omega arith) ∙ get_or-drop (unit * count) turned row 0
+      get_or-take ((unit + 1) * count - unit * count) (drop (unit * count) transposed) row 0 (omega arith) ∙ get_or-drop (unit * count) transposed row 0
 
   cell_at : (row unit : ℕ) → row < count → unit < units → get_or cells (row * units + unit) 0 ≡ get_or next ((first + row) * units + unit) 0
   cell_at row unit r u =
@@ -145,7 +145,7 @@ module _ (units first count : ℕ) (next cells turned : List ℕ) (old new : Lis
       ∙ get_or-drop (first * units) next (row * units + unit) 0
       ∙ ap (λ k. get_or next k 0) f)
 
-  grown : (unit : ℕ) → unit < units → get_or new unit [] ≡ get_or old unit [] ++ slice_range turned (unit * count) ((unit + 1) * count)
+  grown : (unit : ℕ) → unit < units → get_or new unit [] ≡ get_or old unit [] ++ slice_range transposed (unit * count) ((unit + 1) * count)
   grown unit h = added unit (let c = a.count in omega arith)
 
   pub AreColumns-grown : AreColumns (first + count) units next units new
@@ -153,19 +153,19 @@ module _ (units first count : ℕ) (next cells turned : List ℕ) (old new : Lis
     count = len ∙ a.count;
     lengths = λ unit h.
         ap length (grown unit h)
-        ∙ length-append (get_or old unit []) (slice_range turned (unit * count) ((unit + 1) * count))
+        ∙ length-append (get_or old unit []) (slice_range transposed (unit * count) ((unit + 1) * count))
         ∙ omega (arith, a.lengths unit h, part_len unit h);
     cells = λ row unit r h. ⊎_elim
         (λ (l : row < first).
         ap (λ xs. get_or xs row 0) (grown unit h)
-        ∙ get_or_append_left (get_or old unit []) (slice_range turned (unit * count) ((unit + 1) * count)) 0 row (omega (arith, a.lengths unit h))
+        ∙ get_or_append_left (get_or old unit []) (slice_range transposed (unit * count) ((unit + 1) * count)) 0 row (omega (arith, a.lengths unit h))
         ∙ a.cells row unit l h)
         (λ (g : first ≤ row).
         let e : first + (row - first) ≡ row = omega arith in
         ap (λ xs. get_or xs row 0) (grown unit h)
-        ∙ get_or-append_right (get_or old unit []) (slice_range turned (unit * count) ((unit + 1) * count)) first row 0 (a.lengths unit h) g
+        ∙ get_or-append_right (get_or old unit []) (slice_range transposed (unit * count) ((unit + 1) * count)) first row 0 (a.lengths unit h) g
         ∙ part_at (row - first) unit (omega arith)
-        ∙ turn (row - first) unit (omega arith) h
+        ∙ moved (row - first) unit (omega arith) h
         ∙ cell_at (row - first) unit (omega arith) h
         ∙ ap (λ k. get_or next (k * units + unit) 0) e)
         (cases_lt row first);

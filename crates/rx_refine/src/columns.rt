@@ -6,8 +6,8 @@ ghost use Rattle.rx_refine.specs.Moves.{AreColumns};
 use std::alloc::{AllocError, Global};
 use std::marker::Model;
 
-/// So many rows are turned into columns at a time. They stay in a processor's cache, so the table is read
-/// once and in order, and each column is written in order.
+/// So many rows are transposed at a time. They stay in a processor's cache, so the table is read once and
+/// in order, and each column is written in order.
 const ROWS: usize = 64;
 
 /// A column of a table.
@@ -62,13 +62,13 @@ pub(crate) fn columns_of(
 {
     let mut columns = empty_columns(alloc, rows, units)?;
     let mut room = vec![in alloc; 0; ROWS.min(rows) * units]?;
-    let turned = room.as_mut_slice();
+    let transposed = room.as_mut_slice();
     let mut first = 0;
     while first < rows {
         let count = ROWS.min(rows - first);
         let cells = &next[first * units..(first + count) * units];
-        turn(count, units, cells, turned);
-        add_cells(count, turned, &mut columns)?;
+        transpose(count, units, cells, transposed);
+        add_cells(count, transposed, &mut columns)?;
         first += count;
     }
     Ok(columns)
@@ -86,26 +86,26 @@ fn empty_columns(alloc: Global, rows: usize, units: usize) -> Result<Vec<Column>
     Ok(columns)
 }
 
-/// Copies the cells of a table column by column.
-fn turn(rows: usize, units: usize, cells: &[u32], turned: &mut [u32])
+/// Copies the cells of a table, which stand row after row, so that they stand column after column.
+fn transpose(rows: usize, units: usize, cells: &[u32], transposed: &mut [u32])
     requires cells { length cells.now ≡ rows * units }
-    requires room { rows * units ≤ length turned.old }
-    ensures { (row unit : ℕ) → row < rows → unit < units → slice_index turned.new (unit * rows + row) ≡ slice_index cells.now (row * units + unit) }
+    requires room { rows * units ≤ length transposed.old }
+    ensures { (row unit : ℕ) → row < rows → unit < units → slice_index transposed.new (unit * rows + row) ≡ slice_index cells.now (row * units + unit) }
 {
     for row in 0..rows {
         for unit in 0..units {
-            turned[unit * rows + row] = cells[row * units + unit];
+            transposed[unit * rows + row] = cells[row * units + unit];
         }
     }
 }
 
-/// Adds so many cells to each column.
-fn add_cells(count: usize, turned: &[u32], columns: &mut [Column]) -> Result<(), AllocError>
-    requires room { length columns.old * count ≤ length turned.now }
-    ensures { IfOk result (λ _. (unit : ℕ) → unit < length columns.old → slice_index_or columns.new unit [] ≡ slice_index_or columns.old unit [] ++ slice_range turned.now (unit * count) ((unit + 1) * count)) }
+/// Adds so many cells to each column. They stand in `transposed`, column after column.
+fn add_cells(count: usize, transposed: &[u32], columns: &mut [Column]) -> Result<(), AllocError>
+    requires room { length columns.old * count ≤ length transposed.now }
+    ensures { IfOk result (λ _. (unit : ℕ) → unit < length columns.old → slice_index_or columns.new unit [] ≡ slice_index_or columns.old unit [] ++ slice_range transposed.now (unit * count) ((unit + 1) * count)) }
 {
     for unit in 0..columns.len() {
-        columns[unit].extend(&turned[unit * count..(unit + 1) * count])?;
+        columns[unit].extend(&transposed[unit * count..(unit + 1) * count])?;
     }
     Ok(())
 }
