@@ -6,9 +6,16 @@ ghost use Rattle.rx_refine.specs.Moves.{AreColumns};
 use std::alloc::{AllocError, Global};
 use std::marker::Model;
 
-/// So many rows are transposed at a time. They stay in a processor's cache, so the table is read once and
-/// in order, and each column is written in order.
-const ROWS: usize = 64;
+/// About so many cells of a table are transposed at a time: 16 KiB, so that they and what they are copied
+/// from stay in a processor's first-level cache. So the table is read once and in order, and each column
+/// is written in order.
+const CELLS: usize = 4096;
+
+/// At least so many rows are transposed at a time. That is a line of the cache for each column.
+const LEAST_ROWS: usize = 16;
+
+/// At most so many rows are transposed at a time. More make no difference.
+const MOST_ROWS: usize = 64;
 
 /// A column of a table.
 ///
@@ -61,17 +68,25 @@ pub(crate) fn columns_of(
     ensures { IfOk result (λ columns. AreColumns rows units next.now units columns.items) }
 {
     let mut columns = empty_columns(alloc, rows, units)?;
-    let mut room = vec![in alloc; 0; ROWS.min(rows) * units]?;
+    let most = rows_at_once(units).min(rows);
+    let mut room = vec![in alloc; 0; most * units]?;
     let transposed = room.as_mut_slice();
     let mut first = 0;
     while first < rows {
-        let count = ROWS.min(rows - first);
+        let count = most.min(rows - first);
         let cells = &next[first * units..(first + count) * units];
         transpose(count, units, cells, transposed);
         add_cells(count, transposed, &mut columns)?;
         first += count;
     }
     Ok(columns)
+}
+
+/// How many rows of a table of so many units are transposed at a time.
+fn rows_at_once(units: usize) -> usize
+    ensures { 0 < result }
+{
+    (CELLS / units.max(1)).max(LEAST_ROWS).min(MOST_ROWS)
 }
 
 /// So many columns without cells, each with room for so many rows.

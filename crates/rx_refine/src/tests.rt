@@ -287,7 +287,7 @@ fn last_labelled(alloc: Global, rows: u32) -> Result<Vec<u32>, AllocError>
     Ok(labels)
 }
 
-/// In a chain the rounds are as many as the rows, and its blocks are taken one by one.
+/// In a chain the rounds are as many as the rows. Behind the first its blocks are taken one by one.
 #[test]
 fn chain(rt: HostRuntime) -> Result<(), Fail> {
     let alloc = rt.alloc();

@@ -7,10 +7,10 @@ use Rattle.rx_refine.proofs.columns.columns_of.Goals as goal
 pub loop-first-preserved : goal.loop-first-preserved
 loop-first-preserved c =
     let below : c.loop-first.first + c.min-count.result ≤ c.args.rows = grind arith in
-    let few : c.min-count.result ≤ c.min.result = grind arith in
-    let len : length c.transpose.new.transposed ≡ c.min.result * c.args.units = omega (arith, c.transpose.auto.transposed, c.loop-first.auto.transposed, c.as_mut_slice-transposed.ensures.len, c.in_ok-room.ensures.len) in
+    let few : c.min-count.result ≤ c.min-most.result = grind arith in
+    let len : length c.transpose.new.transposed ≡ c.min-most.result * c.args.units = omega (arith, c.transpose.auto.transposed, c.loop-first.auto.transposed, c.as_mut_slice-transposed.ensures.len, c.in_ok-room.ensures.len) in
     let within : (c.loop-first.first + c.min-count.result) * c.args.units ≤ c.args.rows * c.args.units = mul-le-mul_right c.args.units below in
-    let room : c.min-count.result * c.args.units ≤ c.min.result * c.args.units = mul-le-mul_right c.args.units few in
+    let room : c.min-count.result * c.args.units ≤ c.min-most.result * c.args.units = mul-le-mul_right c.args.units few in
     record {
       below = below;
       columns =
