@@ -82,9 +82,11 @@ pub(crate) fn columns_of(
     Ok(columns)
 }
 
-/// How many rows of a table of so many units are transposed at a time.
+/// How many rows of a table of so many units are transposed at a time. Within the bounds this is a matter of
+/// speed alone.
 fn rows_at_once(units: usize) -> usize
-    ensures { 0 < result }
+    ensures least { 16 ≤ result }
+    ensures most { result ≤ 64 }
 {
     (CELLS / units.max(1)).max(LEAST_ROWS).min(MOST_ROWS)
 }
