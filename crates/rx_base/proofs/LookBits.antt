@@ -1,14 +1,15 @@
--- A set of assertions with one bit changed, the assertions of Unicode words in it, and how many it has.
-use Rattle.std.proofs.Common.{ℕ, zero, suc, ◌≡◌, ◌≢◌, ◌+◌, ◌-◌, ◌*◌, ◌^◌, ◌/◌, ◌%◌, ◌<◌, List, [], ◌∷◌, ◌++◌, refl, sym, ◌∙◌, ap, subst, arith, get_or, bit_or, bit_and, Bool, true, false, ◌==◌, ◌||◌, w32, cond, IsTrue, ◌↔◌, inl, inr}
+-- A set of assertions with one bit changed, how many it has, and the assertions of Unicode words in it.
+use Rattle.std.proofs.Common.{ℕ, zero, suc, ◌≡◌, ◌≢◌, ◌+◌, ◌-◌, ◌*◌, ◌^◌, ◌/◌, ◌%◌, ◌<◌, refl, sym, ◌∙◌, ap, subst}
+use Rattle.std.proofs.Common.{arith, List, [], ◌∷◌, get_or, bit_or, bit_and, Bool, true, false, ◌==◌, w32, cond}
 use Rattle.std.specs.Int.{bit_at}
 use Rattle.std.specs.Int.Count.{ones}
 use Rattle.std.specs.List.{count_by}
 use Rattle.std.proofs.lemmas.Nat.{ones_cat, or_lt, pow_below, shr-shr, shr_split, one_shl}
 use Rattle.std.proofs.lemmas.Nat.Bits.{bit_at_set_same, bit_at_set_other, bit_at_clear_same, bit_at_clear_other}
 use Rattle.std.proofs.lemmas.List.Sums.{sum_by-cons}
-use Rattle.std.proofs.lemmas.Bool.{or_left, or_right, or_cases}
 use Rattle.rx_spec.specs.Looks.{is_unicode_word}
 use Rattle.rx_spec.specs.declared.Look.{Look}
+use Rattle.std.proofs.lemmas.Bool.{false≢true}
 use Rattle.rx_base.specs.LookSet.{holds_look, look_number, all_looks}
 
 -- ---- the places of assertions
@@ -33,26 +34,39 @@ other_number a b ne e = ne (same_look a b e)
 abbrev bit_of : ℕ → ℕ
 bit_of k = 1 * 2 ^ k % 4294967296
 
-pub insert-below : (set k : ℕ) (look : Look) → k ≡ look_number look → set < 262144 → bit_or set (bit_of k) < 262144
+pub insert-below : (set k : ℕ) (look : Look) → k ≡ look_number look → set < 2 ^ 18 → bit_or set (bit_of k) < 2 ^ 18
 insert-below set k look e h =
     let small : k < 18 = omega (arith, number_below look) in
     or_lt 18 set (bit_of k) h (subst (λ n. n < 2 ^ 18) (sym (one_shl k 32 (omega arith))) (pow_below k 18 small))
 
 pub insert-same : (set k : ℕ) (look : Look) → k ≡ look_number look → holds_look (bit_or set (bit_of k)) look ≡ true
 insert-same set k look e =
-    ap (λ n. bit_at (bit_or set (bit_of n)) (look_number look) == 1) e ∙ ap (λ n. n == 1) (bit_at_set_same w32 set (look_number look) (number_fits look))
+    ap (λ n. bit_at (bit_or set (bit_of n)) (look_number look) == 1) e
+    ∙ ap (λ n. n == 1) (bit_at_set_same w32 set (look_number look) (number_fits look))
 
-pub insert-other : (set k : ℕ) (look other : Look) → k ≡ look_number look → other ≢ look → holds_look (bit_or set (bit_of k)) other ≡ holds_look set other
+pub insert-other : (set k : ℕ) (look other : Look) → k ≡ look_number look → other ≢ look
+    → holds_look (bit_or set (bit_of k)) other ≡ holds_look set other
 insert-other set k look other e ne =
-    ap (λ n. bit_at (bit_or set (bit_of n)) (look_number other) == 1) e ∙ ap (λ n. n == 1) (bit_at_set_other w32 set (look_number look) (number_fits look) (look_number other) (other_number other look ne))
+    let differs = other_number other look ne in
+    ap (λ n. bit_at (bit_or set (bit_of n)) (look_number other) == 1) e
+    ∙ ap (λ n. n == 1) (bit_at_set_other w32 set (look_number look) (number_fits look) (look_number other) differs)
 
-pub remove-same : (set k : ℕ) (look : Look) → k ≡ look_number look → holds_look (bit_and set (2 ^ 32 - 1 - bit_of k)) look ≡ false
+abbrev cleared : ℕ → ℕ → ℕ
+cleared set k = bit_and set (2 ^ 32 - 1 - bit_of k)
+
+pub remove-same : (set k : ℕ) (look : Look) → k ≡ look_number look → holds_look (cleared set k) look ≡ false
 remove-same set k look e =
-    ap (λ n. bit_at (bit_and set (2 ^ 32 - 1 - bit_of n)) (look_number look) == 1) e ∙ ap (λ n. n == 1) (bit_at_clear_same w32 set (look_number look) (number_fits look))
+    ap (λ n. bit_at (cleared set n) (look_number look) == 1) e
+    ∙ ap (λ n. n == 1) (bit_at_clear_same w32 set (look_number look) (number_fits look))
 
-pub remove-other : (set k : ℕ) (look other : Look) → k ≡ look_number look → other ≢ look → holds_look (bit_and set (2 ^ 32 - 1 - bit_of k)) other ≡ holds_look set other
+pub remove-other : (set k : ℕ) (look other : Look) → k ≡ look_number look → other ≢ look
+    → holds_look (cleared set k) other ≡ holds_look set other
 remove-other set k look other e ne =
-    ap (λ n. bit_at (bit_and set (2 ^ 32 - 1 - bit_of n)) (look_number other) == 1) e ∙ ap (λ n. n == 1) (bit_at_clear_other w32 set (look_number look) (number_fits look) (look_number other) (number_fits other) (other_number other look ne))
+    let n = look_number look in
+    let m = look_number other in
+    let differs = other_number other look ne in
+    ap (λ n. bit_at (cleared set n) m == 1) e
+    ∙ ap (λ n. n == 1) (bit_at_clear_other w32 set n (number_fits look) m (number_fits other) differs)
 
 -- ---- how many
 abbrev up : ℕ → ℕ → List ℕ
@@ -69,7 +83,9 @@ ones-bit (suc zero) h = refl
 ones-bit (suc (suc b)) h = omega arith
 
 ones-half : (m : ℕ) → ones m ≡ ones (m / 2) + m % 2
-ones-half m = sym (ap ones (shr_split m 1)) ∙ ones_cat 1 (m / 2) (m % 2) (omega arith) ∙ ap (λ x. ones (m / 2) + x) (ones-bit (m % 2) (omega arith))
+ones-half m =
+    sym (ap ones (shr_split m 1)) ∙ ones_cat 1 (m / 2) (m % 2) (omega arith)
+    ∙ ap (λ x. ones (m / 2) + x) (ones-bit (m % 2) (omega arith))
 
 bit_is : (b : ℕ) → b < 2 → b ≡ cond (b == 1) 1 0
 bit_is zero h = refl
@@ -85,64 +101,60 @@ ones-up n zero i h = ap ones (zero_of (n / 2 ^ i) h) ∙ ones-bit 0 (omega arith
     zero_of : (m : ℕ) → m < 2 ^ 0 → m ≡ 0
     zero_of m h = omega arith
 ones-up n (suc k) i h =
-    swapped (ones (n / 2 ^ i)) (ones (n / 2 ^ i / 2)) (n / 2 ^ i % 2) (cond (held n i) 1 0) (ones-half (n / 2 ^ i)) (bit_is (n / 2 ^ i % 2) (omega arith))
-    ∙ ap (λ x. cond (held n i) 1 0 + x) (ap ones (shr-shr n i 1) ∙ ones-up n k (i + 1) (subst (λ x. x < 2 ^ k) (shr-shr n i 1) (halved (n / 2 ^ i) k h)))
+    let m = n / 2 ^ i in
+    let first = cond (held n i) 1 0 in
+    let next = ones-up n k (i + 1) (subst (λ x. x < 2 ^ k) (shr-shr n i 1) (halved m k h)) in
+    swapped (ones m) (ones (m / 2)) (m % 2) first (ones-half m) (bit_is (m % 2) (omega arith))
+    ∙ ap (λ x. first + x) (ap ones (shr-shr n i 1) ∙ next)
     ∙ sym (sum_by-cons (λ j. cond (held n j) 1 0) i (up (i + 1) k))
   where
     halved : (m k : ℕ) → m < 2 ^ suc k → m / 2 < 2 ^ k
     halved m k h = omega arith
 
-pub len-ones : (set : ℕ) → set < 262144 → ones set ≡ count_by (holds_look set) all_looks
-len-ones set h = ap ones (whole set) ∙ ones-up set 18 0 (subst (λ m. m < 262144) (whole set) h)
+pub len-ones : (set : ℕ) → set < 2 ^ 18 → ones set ≡ count_by (holds_look set) all_looks
+len-ones set h = ap ones (whole set) ∙ ones-up set 18 0 (subst (λ m. m < 2 ^ 18) (whole set) h)
   where
     whole : (n : ℕ) → n ≡ n / 2 ^ 0
     whole n = omega arith
 
--- ---- the assertions of Unicode words, the last first
-abbrev pub any_held : ℕ → List Look → Bool
-any_held set [] = false
-any_held set (look ∷ looks) = any_held set looks || holds_look set look
+-- ---- the assertions of Unicode words
+abbrev pub word_looks : List Look
+word_looks =
+    Look.WordUnicode ∷ Look.WordUnicodeNegate ∷ Look.WordStartUnicode ∷ Look.WordEndUnicode
+    ∷ Look.WordStartHalfUnicode ∷ Look.WordEndHalfUnicode ∷ []
 
-abbrev pub unicode_words : List Look
-unicode_words =
-    Look.WordEndHalfUnicode ∷ Look.WordStartHalfUnicode ∷ Look.WordEndUnicode ∷ Look.WordStartUnicode ∷ Look.WordUnicodeNegate ∷ Look.WordUnicode ∷ []
+-- none of the first few is in the set
+abbrev pub NoneOfFirst : ℕ → ℕ → Type 0
+NoneOfFirst set n = (k : ℕ) → k < n → holds_look set (get_or word_looks k Look.WordUnicode) ≡ false
 
-pub or_then : (v r a b : Bool) → v ≡ r → r ≡ true → r ≡ a → v ≡ (a || b)
-or_then v r a b p q e = p ∙ q ∙ sym (or_left a b (sym e ∙ q))
+abbrev pub HasWordLook : ℕ → Type 0
+HasWordLook set = (look : Look) × (is_unicode_word look ≡ true) × (holds_look set look ≡ true)
 
-pub or_else : (v r s a b : Bool) → v ≡ s → r ≡ false → r ≡ a → s ≡ b → v ≡ (a || b)
-or_else v r s a b p q e f = p ∙ f ∙ ap (λ t. t || b) (sym q ∙ e)
+word_look_at : (k : ℕ) → is_unicode_word (get_or word_looks k Look.WordUnicode) ≡ true
+word_look_at zero = refl
+word_look_at (suc zero) = refl
+word_look_at (suc (suc zero)) = refl
+word_look_at (suc (suc (suc zero))) = refl
+word_look_at (suc (suc (suc (suc zero)))) = refl
+word_look_at (suc (suc (suc (suc (suc zero))))) = refl
+word_look_at (suc (suc (suc (suc (suc (suc k)))))) = refl
 
-abbrev HasUnicodeWord : ℕ → Type 0
-HasUnicodeWord set = (look : Look) × (is_unicode_word look ≡ true) × (holds_look set look ≡ true)
+pub has_word_look : (set k : ℕ) → holds_look set (get_or word_looks k Look.WordUnicode) ≡ true → HasWordLook set
+has_word_look set k h = (get_or word_looks k Look.WordUnicode, word_look_at k, h)
 
-abbrev AllUnicode : List Look → Type 0
-AllUnicode [] = Unit {0}
-AllUnicode (look ∷ looks) = (is_unicode_word look ≡ true) × AllUnicode looks
+abbrev IsPlace : Look → Type 0
+IsPlace look = (k : ℕ) × (k < 6) × (get_or word_looks k Look.WordUnicode ≡ look)
 
-never : false ≡ true → ⊥
-never h = grind arith
+place_of : (look : Look) → is_unicode_word look ≡ true → IsPlace look
+place_of Look.WordUnicode u = (0, omega arith, refl)
+place_of Look.WordUnicodeNegate u = (1, omega arith, refl)
+place_of Look.WordStartUnicode u = (2, omega arith, refl)
+place_of Look.WordEndUnicode u = (3, omega arith, refl)
+place_of Look.WordStartHalfUnicode u = (4, omega arith, refl)
+place_of Look.WordEndHalfUnicode u = (5, omega arith, refl)
+place_of _ u = absurd (false≢true u)
 
-one_held : (set : ℕ) (looks : List Look) → AllUnicode looks → any_held set looks ≡ true → HasUnicodeWord set
-one_held set [] u h = absurd (never h)
-one_held set (look ∷ looks) u h = elim (or_cases (any_held set looks) (holds_look set look) h) [
-  | inl earlier ↦ one_held set looks u.1 earlier
-  | inr this ↦ (look, u.0, this)
-]
-
-held_among : (set : ℕ) (later : List Look) (look : Look) (earlier : List Look) → holds_look set look ≡ true → any_held set (later ++ look ∷ earlier) ≡ true
-held_among set [] look earlier h = or_right (any_held set earlier) (holds_look set look) h
-held_among set (other ∷ later) look earlier h = or_left (any_held set (later ++ look ∷ earlier)) (holds_look set other) (held_among set later look earlier h)
-
-all_held : (set : ℕ) (look : Look) → is_unicode_word look ≡ true → holds_look set look ≡ true → any_held set unicode_words ≡ true
-all_held set Look.WordUnicode u h = held_among set (Look.WordEndHalfUnicode ∷ Look.WordStartHalfUnicode ∷ Look.WordEndUnicode ∷ Look.WordStartUnicode ∷ Look.WordUnicodeNegate ∷ []) Look.WordUnicode [] h
-all_held set Look.WordUnicodeNegate u h = held_among set (Look.WordEndHalfUnicode ∷ Look.WordStartHalfUnicode ∷ Look.WordEndUnicode ∷ Look.WordStartUnicode ∷ []) Look.WordUnicodeNegate (Look.WordUnicode ∷ []) h
-all_held set Look.WordStartUnicode u h = held_among set (Look.WordEndHalfUnicode ∷ Look.WordStartHalfUnicode ∷ Look.WordEndUnicode ∷ []) Look.WordStartUnicode (Look.WordUnicodeNegate ∷ Look.WordUnicode ∷ []) h
-all_held set Look.WordEndUnicode u h = held_among set (Look.WordEndHalfUnicode ∷ Look.WordStartHalfUnicode ∷ []) Look.WordEndUnicode (Look.WordStartUnicode ∷ Look.WordUnicodeNegate ∷ Look.WordUnicode ∷ []) h
-all_held set Look.WordStartHalfUnicode u h = held_among set (Look.WordEndHalfUnicode ∷ []) Look.WordStartHalfUnicode (Look.WordEndUnicode ∷ Look.WordStartUnicode ∷ Look.WordUnicodeNegate ∷ Look.WordUnicode ∷ []) h
-all_held set Look.WordEndHalfUnicode u h = held_among set [] Look.WordEndHalfUnicode (Look.WordStartHalfUnicode ∷ Look.WordEndUnicode ∷ Look.WordStartUnicode ∷ Look.WordUnicodeNegate ∷ Look.WordUnicode ∷ []) h
-all_held set _ u h = absurd (never u)
-
-pub tells_unicode_word : (set : ℕ) (b : Bool) → b ≡ any_held set unicode_words → IsTrue b ↔ HasUnicodeWord set
-tells_unicode_word set b e =
-    (λ h. one_held set unicode_words (refl, (refl, (refl, (refl, (refl, (refl, tt)))))) (sym e ∙ h), λ s. e ∙ all_held set s.0 s.1 s.2)
+pub no_word_look : (set : ℕ) → NoneOfFirst set 6 → HasWordLook set → false ≡ true
+no_word_look set none has =
+    let place = place_of has.0 has.1 in
+    sym (none place.0 place.1) ∙ ap (λ look. holds_look set look) place.2 ∙ has.2

@@ -1,8 +1,17 @@
-pub mod ByteSet
-pub mod Input
-pub mod LookSet
-pub mod Search
+-- values as the definitions have them
 pub mod Unit
+pub mod Search
+pub mod Input
+pub mod Searcher
+pub mod StartConfig
+pub mod MatchError
+pub mod Needles
+pub mod PatternSet
+pub mod ByteClasses
+pub mod LookSet
+-- laws that models ask for
+pub mod Inverses
+-- the outside
 pub mod Outside
 pub mod Source
 pub mod Sink

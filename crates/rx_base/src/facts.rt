@@ -2,7 +2,8 @@
 
 ghost use Rattle.std.specs.Prelude.{◌≡◌, Some, None};
 ghost use Rattle.rx_spec.specs.Bytes.{is_word};
-ghost use Rattle.rx_spec.specs.Contexts.{no_facts, facts_of, unit_facts, start_facts, facts_read, both, either_of, holds_by};
+ghost use Rattle.rx_spec.specs.Contexts.{no_facts, facts_of, unit_facts, start_facts, facts_read};
+ghost use Rattle.rx_spec.specs.Contexts.{both, either_of, holds_by};
 ghost use Rattle.rx_base.specs.Unit.{unit_number};
 
 use crate::{Look, Start, Unit};
@@ -16,7 +17,7 @@ pub struct Facts {
     /// There is none: the place is an edge of the haystack.
     text: bool,
     /// It is the line terminator.
-    terminator: bool,
+    line_terminator: bool,
     /// It is `\n`.
     lf: bool,
     /// It is `\r`.
@@ -30,15 +31,17 @@ impl Model for Facts {
 
     ghost Value = { Known };
 
-    ghost view = { λ f. record { text = f.text; terminator = f.terminator; lf = f.lf; cr = f.cr; word = f.word } };
+    ghost view = { λ f.
+        record { text = f.text; line_terminator = f.line_terminator; lf = f.lf; cr = f.cr; word = f.word } };
 
-    ghost inverse = { λ k. record { text = k.text; terminator = k.terminator; lf = k.lf; cr = k.cr; word = k.word } };
+    ghost inverse = { λ k.
+        record { text = k.text; line_terminator = k.line_terminator; lf = k.lf; cr = k.cr; word = k.word } };
 }
 
 /// No fact.
 const NONE: Facts = Facts {
     text: false,
-    terminator: false,
+    line_terminator: false,
     lf: false,
     cr: false,
     word: false,
@@ -47,7 +50,7 @@ const NONE: Facts = Facts {
 /// What is known of the edge of the haystack.
 const TEXT: Facts = Facts {
     text: true,
-    terminator: false,
+    line_terminator: false,
     lf: false,
     cr: false,
     word: false,
@@ -71,12 +74,12 @@ impl Facts {
     }
 
     /// Those that are true of a byte, under a line terminator.
-    pub fn of_byte(terminator: u8, byte: u8) -> Facts
-        ensures { result ≡ facts_of terminator (Some byte) }
+    pub fn of_byte(line_terminator: u8, byte: u8) -> Facts
+        ensures { result ≡ facts_of line_terminator (Some byte) }
     {
         Facts {
             text: false,
-            terminator: byte == terminator,
+            line_terminator: byte == line_terminator,
             lf: byte == 10,
             cr: byte == 13,
             word: is_word_byte(byte),
@@ -84,26 +87,26 @@ impl Facts {
     }
 
     /// Those that are true of a unit; the end mark is no byte.
-    pub fn of_unit(terminator: u8, unit: Unit) -> Facts
-        ensures { result ≡ unit_facts terminator (unit_number unit) }
+    pub fn of_unit(line_terminator: u8, unit: Unit) -> Facts
+        ensures { result ≡ unit_facts line_terminator (unit_number unit) }
     {
         match unit {
-            Unit::Byte(byte) => Facts::of_byte(terminator, byte),
+            Unit::Byte(byte) => Facts::of_byte(line_terminator, byte),
             Unit::Eoi => TEXT,
         }
     }
 
     /// What is known in a start context.
-    pub fn of_start(terminator: u8, start: Start) -> Facts
-        ensures { result ≡ start_facts terminator start }
+    pub fn of_start(line_terminator: u8, start: Start) -> Facts
+        ensures { result ≡ start_facts line_terminator start }
     {
         match start {
             Start::NonWordByte => NONE,
             Start::WordByte => Facts { word: true, ..NONE },
             Start::Text => TEXT,
-            Start::LineLF => Facts::of_byte(terminator, 10),
-            Start::LineCR => Facts::of_byte(terminator, 13),
-            Start::CustomLineTerminator => Facts::of_byte(terminator, terminator),
+            Start::LineLF => Facts::of_byte(line_terminator, 10),
+            Start::LineCR => Facts::of_byte(line_terminator, 13),
+            Start::CustomLineTerminator => Facts::of_byte(line_terminator, line_terminator),
         }
     }
 
@@ -114,7 +117,7 @@ impl Facts {
         match look {
             Look::Start | Look::End => TEXT,
             Look::StartLF | Look::EndLF => Facts {
-                terminator: true,
+                line_terminator: true,
                 ..TEXT
             },
             Look::StartCRLF | Look::EndCRLF => Facts {
@@ -132,7 +135,7 @@ impl Facts {
     {
         Facts {
             text: self.text && other.text,
-            terminator: self.terminator && other.terminator,
+            line_terminator: self.line_terminator && other.line_terminator,
             lf: self.lf && other.lf,
             cr: self.cr && other.cr,
             word: self.word && other.word,
@@ -145,7 +148,7 @@ impl Facts {
     {
         Facts {
             text: self.text || other.text,
-            terminator: self.terminator || other.terminator,
+            line_terminator: self.line_terminator || other.line_terminator,
             lf: self.lf || other.lf,
             cr: self.cr || other.cr,
             word: self.word || other.word,
@@ -159,8 +162,8 @@ impl Facts {
         match look {
             Look::Start => before.text,
             Look::End => after.text,
-            Look::StartLF => before.text || before.terminator,
-            Look::EndLF => after.text || after.terminator,
+            Look::StartLF => before.text || before.line_terminator,
+            Look::EndLF => after.text || after.line_terminator,
             Look::StartCRLF => before.text || before.lf || (before.cr && !after.lf),
             Look::EndCRLF => after.text || after.cr || (after.lf && !before.cr),
             Look::WordAscii | Look::WordUnicode => before.word != after.word,

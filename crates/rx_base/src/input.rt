@@ -2,7 +2,10 @@
 
 ghost use Rattle.std.specs.Prelude.{◌≡◌, ◌+◌, ◌<◌, ◌≤◌, ◌↔◌, IsTrue, length, false, not};
 
+mod searcher;
+
 use crate::search::{Anchored, Span};
+pub use searcher::Searcher;
 
 /// A haystack with the span that is searched, where a match may begin, and whether the first end met
 /// will do.
@@ -22,12 +25,19 @@ pub struct Input<'h> {
 impl<'h> Input<'h> {
     ghost use Rattle.rx_base.specs.Input.{query_of};
     ghost use Rattle.rx_base.specs.Search.{mode_of};
-    ghost use Rattle.rx_spec.specs.Found.{Mode, is_done, IsFit};
-    ghost use Rattle.rx_spec.specs.Searches.{is_split};
+    ghost use Rattle.rx_spec.specs.Queries.{Anchored as Mode, is_done, IsFit};
+    ghost use Rattle.rx_spec.specs.Splits.{is_split};
 
     /// The whole haystack, with no anchor.
     pub fn new(haystack: &'h [u8]) -> Input<'h>
-        ensures asked { query_of result ≡ record { hay = haystack.now; start = 0; stop = length haystack.now; mode = Mode.No; earliest = false } }
+        ensures asked { query_of result
+            ≡ record {
+              haystack = haystack.now;
+              start = 0;
+              end = length haystack.now;
+              mode = Mode.No;
+              earliest = false;
+            } }
         ensures fits { IsFit (query_of result) }
     {
         Input {
@@ -51,9 +61,9 @@ impl<'h> Input<'h> {
 
     /// The same with this span, which must fit.
     pub fn span(self, span: Span) -> Input<'h>
-        requires within { span.end ≤ length (query_of self).hay }
+        requires within { span.end ≤ length (query_of self).haystack }
         requires ordered { span.start ≤ span.end + 1 }
-        ensures asked { query_of result ≡ record (query_of self.entry) { start = span.start; stop = span.end } }
+        ensures asked { query_of result ≡ record (query_of self.entry) { start = span.start; end = span.end } }
         ensures fits { IsFit (query_of result) }
     {
         Input { span, ..self }
@@ -61,9 +71,9 @@ impl<'h> Input<'h> {
 
     /// The same with the span from `start` to `end`, which must fit.
     pub fn range(self, start: usize, end: usize) -> Input<'h>
-        requires within { end ≤ length (query_of self).hay }
+        requires within { end ≤ length (query_of self).haystack }
         requires ordered { start ≤ end + 1 }
-        ensures asked { query_of result ≡ record (query_of self.entry) { start = start; stop = end } }
+        ensures asked { query_of result ≡ record (query_of self.entry) { start = start; end = end } }
         ensures fits { IsFit (query_of result) }
     {
         Input {
@@ -94,16 +104,16 @@ impl<'h> Input<'h> {
 
     /// Sets the span, which must fit.
     pub fn set_span(&mut self, span: Span)
-        requires within { span.end ≤ length (query_of self.old).hay }
+        requires within { span.end ≤ length (query_of self.old).haystack }
         requires ordered { span.start ≤ span.end + 1 }
-        ensures { query_of self.new ≡ record (query_of self.old) { start = span.start; stop = span.end } }
+        ensures { query_of self.new ≡ record (query_of self.old) { start = span.start; end = span.end } }
     {
         self.span = span;
     }
 
     /// Sets the span's start. The span must still fit.
     pub fn set_start(&mut self, start: usize)
-        requires ordered { start ≤ (query_of self.old).stop + 1 }
+        requires ordered { start ≤ (query_of self.old).end + 1 }
         ensures { query_of self.new ≡ record (query_of self.old) { start = start } }
     {
         self.span.start = start;
@@ -111,9 +121,9 @@ impl<'h> Input<'h> {
 
     /// Sets the span's end. The span must still fit.
     pub fn set_end(&mut self, end: usize)
-        requires within { end ≤ length (query_of self.old).hay }
+        requires within { end ≤ length (query_of self.old).haystack }
         requires ordered { (query_of self.old).start ≤ end + 1 }
-        ensures { query_of self.new ≡ record (query_of self.old) { stop = end } }
+        ensures { query_of self.new ≡ record (query_of self.old) { end = end } }
     {
         self.span.end = end;
     }
@@ -135,7 +145,7 @@ impl<'h> Input<'h> {
     /// The haystack, whole.
     #[inline]
     pub fn haystack(&self) -> &'h [u8]
-        ensures { result.now ≡ (query_of self.now).hay }
+        ensures { result.now ≡ (query_of self.now).haystack }
     {
         self.haystack
     }
@@ -148,10 +158,10 @@ impl<'h> Input<'h> {
         self.span.start
     }
 
-    /// The offset behind the span.
+    /// The offset after the span.
     #[inline]
     pub fn end(&self) -> usize
-        ensures { result ≡ (query_of self.now).stop }
+        ensures { result ≡ (query_of self.now).end }
     {
         self.span.end
     }
@@ -159,7 +169,7 @@ impl<'h> Input<'h> {
     /// The span.
     pub fn get_span(&self) -> Span
         ensures start { result.start ≡ (query_of self.now).start }
-        ensures end { result.end ≡ (query_of self.now).stop }
+        ensures end { result.end ≡ (query_of self.now).end }
     {
         self.span
     }
@@ -188,7 +198,8 @@ impl<'h> Input<'h> {
     /// Whether an offset is within the haystack and splits no character: it is the haystack's end, or
     /// its byte begins a character.
     pub fn is_char_boundary(&self, offset: usize) -> bool
-        ensures { IsTrue result ↔ ((offset ≤ length (query_of self.now).hay) × (is_split (query_of self.now).hay offset ≡ false)) }
+        ensures { let haystack = (query_of self.now).haystack in
+            IsTrue result ↔ ((offset ≤ length haystack) × (is_split haystack offset ≡ false)) }
     {
         match self.haystack.get(offset) {
             Some(byte) => *byte < 0x80 || *byte >= 0xc0,

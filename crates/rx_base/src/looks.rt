@@ -9,6 +9,19 @@ ghost use Rattle.rx_base.specs.LookSet.{holds_look, look_number, all_looks};
 use crate::{Facts, Look, Start};
 use std::marker::Model;
 
+/// The bits of all 18 assertions.
+const ALL: u32 = 0x3ffff;
+
+/// The assertions of Unicode words.
+const WORD_UNICODE: [Look; 6] = [
+    Look::WordUnicode,
+    Look::WordUnicodeNegate,
+    Look::WordStartUnicode,
+    Look::WordEndUnicode,
+    Look::WordStartHalfUnicode,
+    Look::WordEndHalfUnicode,
+];
+
 /// A set of assertions: a bit for each, in the order of [`Look`].
 ///
 /// Contracts see it as the number that its bits make.
@@ -18,13 +31,13 @@ pub struct LookSet {
 }
 
 impl Model for LookSet {
-    ghost use Rattle.std.specs.Prelude.{ℕ, ◌<◌};
+    ghost use Rattle.std.specs.Prelude.{ℕ, ◌<◌, ◌^◌};
 
     ghost Value = { ℕ };
 
     ghost view = { λ set. set.bits };
 
-    ghost invariant = { λ set. set.bits < 262144 };
+    ghost invariant = { λ set. set.bits < 2 ^ 18 };
 
     ghost inverse = { λ n. record { bits = n } };
 }
@@ -41,7 +54,7 @@ impl LookSet {
     pub fn full() -> LookSet
         ensures { (look : Look) → holds_look result look ≡ true }
     {
-        LookSet { bits: 262143 }
+        LookSet { bits: ALL }
     }
 
     /// The set with this assertion too.
@@ -75,12 +88,12 @@ impl LookSet {
     pub fn contains_word_unicode(self) -> bool
         ensures { IsTrue result ↔ ((look : Look) × (is_unicode_word look ≡ true) × (holds_look self look ≡ true)) }
     {
-        self.contains(Look::WordUnicode)
-            || self.contains(Look::WordUnicodeNegate)
-            || self.contains(Look::WordStartUnicode)
-            || self.contains(Look::WordEndUnicode)
-            || self.contains(Look::WordStartHalfUnicode)
-            || self.contains(Look::WordEndHalfUnicode)
+        for look in WORD_UNICODE {
+            if self.contains(look) {
+                return true;
+            }
+        }
+        false
     }
 
     /// How many assertions are in the set.
@@ -115,22 +128,32 @@ pub(crate) fn byte_after(haystack: &[u8], at: usize) -> Option<u8>
 }
 
 /// Decides assertions, under a line terminator.
+///
+/// Contracts see it as that byte.
 #[derive(Clone, Debug, Drop)]
 pub struct LookMatcher {
     line_terminator: u8,
 }
 
+impl Model for LookMatcher {
+    ghost use Rattle.std.specs.Prelude.{ℕ};
+
+    ghost Value = { ℕ };
+
+    ghost view = { λ matcher. matcher.line_terminator };
+}
+
 impl LookMatcher {
     /// With this line terminator.
     pub fn new(line_terminator: u8) -> LookMatcher
-        ensures { result.line_terminator ≡ line_terminator }
+        ensures { result ≡ line_terminator }
     {
         LookMatcher { line_terminator }
     }
 
     /// The line terminator.
     pub fn get_line_terminator(&self) -> u8
-        ensures { result ≡ self.now.line_terminator }
+        ensures { result ≡ self.now }
     {
         self.line_terminator
     }
@@ -138,16 +161,16 @@ impl LookMatcher {
     /// Whether an assertion holds at an offset, which must be within the haystack or at its end.
     pub fn matches(&self, look: Look, haystack: &[u8], at: usize) -> bool
         requires { at ≤ length haystack.now }
-        ensures { result ≡ holds look self.now.line_terminator (before haystack.now at) (after haystack.now at) }
+        ensures { result ≡ holds look self.now (before haystack.now at) (after haystack.now at) }
     {
-        let behind = self.facts(byte_before(haystack, at));
-        let ahead = self.facts(byte_after(haystack, at));
-        Facts::decide(look, behind, ahead)
+        let before = self.facts(byte_before(haystack, at));
+        let after = self.facts(byte_after(haystack, at));
+        Facts::decide(look, before, after)
     }
 
     /// What is known of a neighbour, which may be absent.
     fn facts(&self, neighbour: Option<u8>) -> Facts
-        ensures { result ≡ facts_of self.now.line_terminator neighbour }
+        ensures { result ≡ facts_of self.now neighbour }
     {
         match neighbour {
             Some(byte) => Facts::of_byte(self.line_terminator, byte),
@@ -157,7 +180,7 @@ impl LookMatcher {
 }
 
 impl Default for LookMatcher {
-    ghost is_default = { λ matcher. matcher.line_terminator ≡ 10 };
+    ghost is_default = { λ matcher. matcher ≡ 10 };
 
     fn default() -> LookMatcher {
         LookMatcher::new(b'\n')

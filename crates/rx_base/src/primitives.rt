@@ -1,8 +1,14 @@
 //! Numbers of rows and of patterns.
 
 ghost use Rattle.std.specs.Prelude.{◌≡◌, ℕ, ◌<◌, ◌≤◌, IfOk, IfErr};
+ghost use Rattle.rx_spec.specs.Causes.{max_id};
 
 use std::marker::Model;
+
+/// The greatest number of an id, 2^31 - 2, and how many ids there are.
+const MAX: u32 = 2147483646;
+
+const LIMIT: usize = 2147483647;
 
 /// The number of a row of an NFA or of a table, from 0 to [`StateID::MAX`].
 #[derive(Clone, Copy, Debug, Default, PartialEq, Eq, PartialOrd, Ord, Hash)]
@@ -12,32 +18,33 @@ pub struct StateID {
 
 impl Model for StateID {
     ghost use Rattle.std.specs.Prelude.{ℕ, ◌≤◌};
+    ghost use Rattle.rx_spec.specs.Causes.{max_id};
 
     ghost Value = { ℕ };
 
     ghost view = { λ id. id.index };
 
-    ghost invariant = { λ id. id.index ≤ 2147483646 };
+    ghost invariant = { λ id. id.index ≤ max_id };
 
     ghost inverse = { λ n. record { index = n } };
 }
 
 impl StateID {
     /// The greatest id, 2^31 - 2.
-    pub const MAX: StateID = StateID { index: 2147483646 };
+    pub const MAX: StateID = StateID { index: MAX };
     /// How many ids there are.
-    pub const LIMIT: usize = 2147483647;
+    pub const LIMIT: usize = LIMIT;
     /// The bytes that an id takes in an image.
     pub const SIZE: usize = 4;
     /// The id 0.
     pub const ZERO: StateID = StateID { index: 0 };
 
-    /// The id of a number, which must be at most [`StateID::MAX`].
+    /// The id of a number, which is refused above [`StateID::MAX`].
     pub fn new(n: usize) -> Result<StateID, IdError>
-        ensures ok { IfOk result (λ id. (id ≡ n) × (n ≤ 2147483646)) }
-        ensures err { IfErr result (λ e. (e.attempted ≡ n) × (2147483646 < n)) }
+        ensures ok { IfOk result (λ id. (id ≡ n) × (n ≤ max_id)) }
+        ensures err { IfErr result (λ e. (e.attempted ≡ n) × (max_id < n)) }
     {
-        if n >= StateID::LIMIT {
+        if n >= LIMIT {
             return Err(IdError {
                 attempted: n as u64,
             });
@@ -45,11 +52,20 @@ impl StateID {
         Ok(StateID { index: n as u32 })
     }
 
+    /// The id of a number, which must be at most [`StateID::MAX`].
+    #[inline(always)]
+    pub fn must(n: usize) -> StateID
+        requires { n ≤ max_id }
+        ensures { result ≡ n }
+    {
+        StateID { index: n as u32 }
+    }
+
     /// The number.
     #[inline(always)]
     pub fn as_usize(self) -> usize
         ensures value { result ≡ self }
-        ensures bound { result ≤ 2147483646 }
+        ensures bound { result ≤ max_id }
     {
         self.index as usize
     }
@@ -58,7 +74,7 @@ impl StateID {
     #[inline(always)]
     pub fn as_u32(self) -> u32
         ensures value { result ≡ self }
-        ensures bound { result ≤ 2147483646 }
+        ensures bound { result ≤ max_id }
     {
         self.index
     }
@@ -72,32 +88,33 @@ pub struct PatternID {
 
 impl Model for PatternID {
     ghost use Rattle.std.specs.Prelude.{ℕ, ◌≤◌};
+    ghost use Rattle.rx_spec.specs.Causes.{max_id};
 
     ghost Value = { ℕ };
 
     ghost view = { λ id. id.index };
 
-    ghost invariant = { λ id. id.index ≤ 2147483646 };
+    ghost invariant = { λ id. id.index ≤ max_id };
 
     ghost inverse = { λ n. record { index = n } };
 }
 
 impl PatternID {
     /// The greatest id, 2^31 - 2.
-    pub const MAX: PatternID = PatternID { index: 2147483646 };
+    pub const MAX: PatternID = PatternID { index: MAX };
     /// How many ids there are.
-    pub const LIMIT: usize = 2147483647;
+    pub const LIMIT: usize = LIMIT;
     /// The bytes that an id takes in an image.
     pub const SIZE: usize = 4;
     /// The id 0.
     pub const ZERO: PatternID = PatternID { index: 0 };
 
-    /// The id of a number, which must be at most [`PatternID::MAX`].
+    /// The id of a number, which is refused above [`PatternID::MAX`].
     pub fn new(n: usize) -> Result<PatternID, IdError>
-        ensures ok { IfOk result (λ id. (id ≡ n) × (n ≤ 2147483646)) }
-        ensures err { IfErr result (λ e. (e.attempted ≡ n) × (2147483646 < n)) }
+        ensures ok { IfOk result (λ id. (id ≡ n) × (n ≤ max_id)) }
+        ensures err { IfErr result (λ e. (e.attempted ≡ n) × (max_id < n)) }
     {
-        if n >= PatternID::LIMIT {
+        if n >= LIMIT {
             return Err(IdError {
                 attempted: n as u64,
             });
@@ -105,11 +122,20 @@ impl PatternID {
         Ok(PatternID { index: n as u32 })
     }
 
+    /// The id of a number, which must be at most [`PatternID::MAX`].
+    #[inline(always)]
+    pub fn must(n: usize) -> PatternID
+        requires { n ≤ max_id }
+        ensures { result ≡ n }
+    {
+        PatternID { index: n as u32 }
+    }
+
     /// The number.
     #[inline(always)]
     pub fn as_usize(self) -> usize
         ensures value { result ≡ self }
-        ensures bound { result ≤ 2147483646 }
+        ensures bound { result ≤ max_id }
     {
         self.index as usize
     }
@@ -118,7 +144,7 @@ impl PatternID {
     #[inline(always)]
     pub fn as_u32(self) -> u32
         ensures value { result ≡ self }
-        ensures bound { result ≤ 2147483646 }
+        ensures bound { result ≤ max_id }
     {
         self.index
     }

@@ -52,7 +52,15 @@ impl<'a> Model for MemSink<'a> {
 
     ghost Value = { MemoryWritten };
 
-    ghost view = { λ s. record { written = s.kept.items; capacity = s.limit; step = s.most; fails = s.failing.now; calls = s.writes; faults = s.failed } };
+    ghost view = { λ s.
+        record {
+          written = s.kept.items;
+          capacity = s.limit;
+          step = s.most;
+          fails = s.failing.now;
+          calls = s.writes;
+          faults = s.failed;
+        } };
 
     ghost invariant = { λ s. (0 < s.most) × (length s.kept.items ≤ s.limit) × (s.limit ≤ vec_capacity s.kept) };
 }
@@ -67,7 +75,8 @@ impl<'a> MemSink<'a> {
         fails: &'a [u64],
     ) -> Result<MemSink<'a>, AllocError>
         requires { 0 < step }
-        ensures { IfOk result (λ s. s ≡ record { written = []; capacity = capacity; step = step; fails = fails.now; calls = 0; faults = 0 }) }
+        ensures { IfOk result (λ s. s
+            ≡ record { written = []; capacity = capacity; step = step; fails = fails.now; calls = 0; faults = 0 }) }
     {
         Ok(MemSink {
             kept: Vec::with_capacity(alloc, capacity)?,

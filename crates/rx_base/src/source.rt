@@ -50,7 +50,8 @@ impl<'a> Model for MemSource<'a> {
 
     ghost Value = { MemoryLeft };
 
-    ghost view = { λ s. record { left = s.rest.now; step = s.most; fails = s.failing.now; calls = s.reads; faults = s.failed } };
+    ghost view = { λ s.
+        record { left = s.rest.now; step = s.most; fails = s.failing.now; calls = s.reads; faults = s.failed } };
 
     ghost invariant = { λ s. 0 < s.most };
 }

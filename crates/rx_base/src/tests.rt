@@ -1,73 +1,43 @@
-//! What no clause shows: the tables of assertions, and that each call does what its name says.
+//! What no clause shows: the tables of assertions, ids, classes and searches worked by hand, and that each
+//! call does what its name says.
+
+mod assertions;
+mod classes;
+mod searches;
 
 use crate::start::Config;
-use crate::{Anchored, Input, Look, LookMatcher, LookSet, Start, StartByteMap};
+use crate::{
+    Anchored, Input, Look, LookMatcher, LookSet, PatternID, PatternSet, Start, StartByteMap,
+    StartKind, StateID,
+};
+use std::test::Fail;
 
-/// Whether an assertion holds at these offsets of a haystack, a digit each, and at no other.
-fn holds_at(look: Look, haystack: &str, offsets: &str) -> bool {
-    let matcher = LookMatcher::default();
-    let haystack = haystack.as_bytes();
-    for (at, digit) in b"0123456789".iter().enumerate() {
-        let holds = at <= haystack.len() && matcher.matches(look, haystack, at);
-        if holds != offsets.as_bytes().contains(digit) {
-            return false;
+#[test]
+fn an_id_is_at_most_the_greatest(rt: HostRuntime) {
+    let table = [
+        (0, true),
+        (2147483646, true),
+        (2147483647, false),
+        (4294967296, false),
+    ];
+    for (n, is_id) in table {
+        match StateID::new(n) {
+            Ok(id) => assert!(rt; is_id && id.as_usize() == n, "{n}"),
+            Err(e) => assert!(rt; !is_id && e.attempted == n as u64, "{n}"),
+        }
+        match PatternID::new(n) {
+            Ok(id) => assert!(rt; is_id && id.as_usize() == n, "{n}"),
+            Err(e) => assert!(rt; !is_id && e.attempted == n as u64, "{n}"),
         }
     }
-    haystack.len() < 10
-}
-
-/// Whether an assertion holds as each cell of a row says, one for each haystack.
-fn row_holds(look: Look, haystacks: &[&str], cells: &[&str]) -> bool {
-    for (i, haystack) in haystacks.iter().enumerate() {
-        match cells.get(i) {
-            Some(offsets) if holds_at(look, haystack, offsets) => {}
-            _ => return false,
-        }
-    }
-    true
+    assert!(rt; StateID::must(7).as_u32() == 7 && StateID::default() == StateID::ZERO);
+    assert!(rt;
+        PatternID::must(7) < PatternID::MAX && StateID::MAX.as_usize() + 1 == StateID::LIMIT
+    );
 }
 
 #[test]
-fn assertions_of_lines_hold_where_the_table_says(rt: HostRuntime) {
-    let haystacks = ["", "\n", "a", "\na", "a\na"];
-    let table = [
-        (Look::Start, ["0", "0", "0", "0", "0"]),
-        (Look::End, ["0", "1", "1", "2", "3"]),
-        (Look::StartLF, ["0", "01", "0", "01", "02"]),
-        (Look::EndLF, ["0", "01", "1", "02", "13"]),
-    ];
-    for (look, cells) in table {
-        assert!(rt; row_holds(look, &haystacks, &cells), "{look:?}");
-    }
-}
-
-#[test]
-fn assertions_of_words_hold_where_the_table_says(rt: HostRuntime) {
-    let haystacks = ["", "a", "ab", " a ", "a ", "\u{1d6c3}b", "b\u{1d6c3}"];
-    let table = [
-        (Look::WordAscii, ["", "01", "02", "12", "01", "45", "01"]),
-        (
-            Look::WordAsciiNegate,
-            ["0", "", "1", "03", "2", "0123", "2345"],
-        ),
-        (Look::WordStartAscii, ["", "0", "0", "1", "0", "4", "0"]),
-        (Look::WordEndAscii, ["", "1", "2", "2", "1", "5", "1"]),
-        (
-            Look::WordStartHalfAscii,
-            ["0", "0", "0", "013", "02", "01234", "02345"],
-        ),
-        (
-            Look::WordEndHalfAscii,
-            ["0", "1", "2", "023", "12", "01235", "12345"],
-        ),
-    ];
-    for (look, cells) in table {
-        assert!(rt; row_holds(look, &haystacks, &cells), "{look:?}");
-    }
-}
-
-#[test]
-fn sets_hold_what_was_put_in(rt: HostRuntime) {
+fn look_sets_hold_what_was_put_in(rt: HostRuntime) {
     let words = LookSet::empty()
         .insert(Look::WordEndHalfUnicode)
         .insert(Look::End);
@@ -77,6 +47,28 @@ fn sets_hold_what_was_put_in(rt: HostRuntime) {
     let ends = words.remove(Look::WordEndHalfUnicode);
     assert!(rt; !ends.contains_word_unicode() && ends == LookSet::default().insert(Look::End));
     assert_eq!(rt; LookSet::full().len(), 18);
+}
+
+#[test]
+fn pattern_sets_hold_what_was_put_in(rt: HostRuntime) -> Result<(), Fail> {
+    let mut none = PatternSet::new(rt.alloc(), 0)?;
+    assert!(rt; none.is_full() && none.is_empty() && none.capacity() == 0);
+    assert!(rt; !none.contains(PatternID::ZERO));
+    let mut few = PatternSet::new(rt.alloc(), 2)?;
+    assert!(rt; few.is_empty() && !few.is_full() && few.capacity() == 2);
+    let (first, second) = (PatternID::must(0), PatternID::must(1));
+    assert!(rt; few.insert(second) && !few.insert(second) && few.len() == 1);
+    assert!(rt; few.contains(second) && !few.contains(first) && !few.contains(PatternID::must(2)));
+    assert!(rt; few.insert(first) && few.is_full() && few.len() == 2);
+    let mut many = PatternSet::new(rt.alloc(), 1000000)?;
+    let (middle, highest) = (PatternID::must(500000), PatternID::must(999999));
+    assert!(rt;
+        many.insert(first) && many.insert(highest) && many.insert(middle) && !many.insert(highest)
+    );
+    assert!(rt;
+        many.len() == 3 && many.contains(highest) && !many.contains(second) && !many.is_full()
+    );
+    Ok(())
 }
 
 #[test]
@@ -94,6 +86,21 @@ fn a_terminator_has_its_own_context(rt: HostRuntime) {
     }
     let feed = StartByteMap::new(&LookMatcher::default());
     assert!(rt; feed.get(b'\n') == Start::LineLF);
+}
+
+#[test]
+fn a_start_kind_has_its_modes(rt: HostRuntime) {
+    let table = [
+        (StartKind::Both, true, true),
+        (StartKind::Unanchored, true, false),
+        (StartKind::Anchored, false, true),
+    ];
+    for (kind, unanchored, anchored) in table {
+        assert!(rt;
+            kind.has_unanchored() == unanchored && kind.has_anchored() == anchored,
+            "{kind:?}"
+        );
+    }
 }
 
 #[test]

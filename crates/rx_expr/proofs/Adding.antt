@@ -1,25 +1,27 @@
 -- How what is added to the rows is put together.
-use Rattle.std.proofs.Common.{◌≡◌, ℕ, zero, suc, ◌+◌, ◌-◌, ◌*◌, ◌<◌, ◌≤◌, Bool, true, false, Option, Some, None, List, [], ◌∷◌, ◌++◌, length, map, refl, sym, ◌∙◌, ap, subst, arith, append_assoc, append-nil, length-append, add-one, add-zero, max, inl, inr, Result, Ok, Err, IfOk, set}
+use Rattle.std.proofs.Common.{◌≡◌, ℕ, zero, suc, ◌+◌, ◌-◌, ◌*◌, ◌<◌, ◌≤◌, Bool, Option, Some, None, List, [], ◌∷◌, ◌++◌, length, map, refl, sym, ◌∙◌, ap, subst, arith, append_assoc, append-nil, length-append, add-one, add-zero, max, inl, inr, Result, Ok, Err, IfOk, set}
 use Rattle.std.proofs.lemmas.List.{length-map, map-set}
 use Rattle.std.proofs.Math.Seq.{set-append_seam}
 use Rattle.std.proofs.Math.Nat.{eq-zero-or-pos, mul-le-mul_right}
 use Rattle.std.specs.declared.alloc.AllocError.{AllocError}
 use Rattle.rx_spec.specs.Expressions.{Expression, mirror, depth}
 use Rattle.rx_spec.specs.declared.Look.{Look}
-use Rattle.rx_spec.specs.Rows.{Part, Maker, straight, row_to, chained, either, choice, copies, optional, loop, repeated, compile, rows_count, repeated_count, read_as}
+use Rattle.rx_spec.specs.Rows.{Part, Maker, straight, row_to, chained, either, choice, copies, optional, loop, repeated, compile, rows_count, repeated_count}
+use Rattle.rx_spec.specs.Nfas.{read_as}
 use Rattle.rx_spec.specs.Rows as spec
-use Rattle.rx_spec.proofs.Rows.{Makes, rows_counted}
+use Rattle.rx_spec.specs.declared.Direction.{Direction}
+use Rattle.rx_lemmas.proofs.Rows.{Makes, rows_counted}
 use Rattle.rx_expr.specs.Compiles.{Adds, maker}
 use Rattle.rx_expr.specs.Nfa.{row_of}
 use Rattle.rx_expr.specs.declared.thompson.nfa.Row.{Row}
 use Rattle.rx_expr.proofs.Turned.{rows_count-mirror}
 
-pub rows_count-read_as : (reverse : Bool) (e : Expression) → rows_count (read_as reverse e) ≡ rows_count e
-rows_count-read_as false e = refl
-rows_count-read_as true e = rows_count-mirror e
+pub rows_count-read_as : (direction : Direction) (e : Expression) → rows_count (read_as direction e) ≡ rows_count e
+rows_count-read_as Direction.Forward e = refl
+rows_count-read_as Direction.Reverse e = rows_count-mirror e
 
-pub maker_makes : (reverse : Bool) (e : Expression) → Makes (maker reverse e) (rows_count e)
-maker_makes reverse e base next = rows_counted (read_as reverse e) base next ∙ rows_count-read_as reverse e
+pub maker_makes : (direction : Direction) (e : Expression) → Makes (maker direction e) (rows_count e)
+maker_makes direction e base next = rows_counted (read_as direction e) base next ∙ rows_count-read_as direction e
 
 -- how long the rows are then
 pub length-added : (old new : List Row) (entry count : ℕ) (m : Maker) (base next : ℕ) → Makes m count → Adds old new entry (m base next) → length new ≡ length old + count
@@ -162,7 +164,7 @@ pub bare : (e : Expression) → rows_count e ≡ 0 → (base next : ℕ) → com
 unfolding compile rows_count copies optional
 bare Expression.Empty z base next = refl
 bare (Expression.Class set) z base next = absurd (omega arith)
-bare (Expression.Assert look) z base next = absurd (omega arith)
+bare (Expression.Look look) z base next = absurd (omega arith)
 bare (Expression.Concat a b) z base next =
     let za : rows_count a ≡ 0 = omega arith in
     let zb : rows_count b ≡ 0 = omega arith in
@@ -176,42 +178,42 @@ bare (Expression.Repeat least (Some most) greedy body) z base next =
     ])
 
 -- the rows of an expression without rows, read either way
-pub bare_maker : (reverse : Bool) (e : Expression) → rows_count e ≡ 0 → (base next : ℕ) → maker reverse e base next ≡ straight base next
-bare_maker reverse e z base next = bare (read_as reverse e) (rows_count-read_as reverse e ∙ z) base next
+pub bare_maker : (direction : Direction) (e : Expression) → rows_count e ≡ 0 → (base next : ℕ) → maker direction e base next ≡ straight base next
+bare_maker direction e z base next = bare (read_as direction e) (rows_count-read_as direction e ∙ z) base next
 
 -- the forms, read either way
-pub maker_empty : (reverse : Bool) → maker reverse Expression.Empty ≡ straight
+pub maker_empty : (direction : Direction) → maker direction Expression.Empty ≡ straight
 unfolding compile mirror
-maker_empty false = refl
-maker_empty true = refl
+maker_empty Direction.Forward = refl
+maker_empty Direction.Reverse = refl
 
-pub maker_class : (reverse : Bool) (set : ℕ) → maker reverse (Expression.Class set) ≡ row_to (spec.Bytes set)
+pub maker_class : (direction : Direction) (set : ℕ) → maker direction (Expression.Class set) ≡ row_to (spec.Bytes set)
 unfolding compile mirror
-maker_class false set = refl
-maker_class true set = refl
+maker_class Direction.Forward set = refl
+maker_class Direction.Reverse set = refl
 
-pub maker_assert : (reverse : Bool) (look : Look) → maker reverse (Expression.Assert look) ≡ row_to (spec.Assert look)
+pub maker_look : (direction : Direction) (look : Look) → maker direction (Expression.Look look) ≡ row_to (spec.Look look)
 unfolding compile mirror
-maker_assert false look = refl
-maker_assert true look = refl
+maker_look Direction.Forward look = refl
+maker_look Direction.Reverse look = refl
 
-pub maker_concat : (a b : Expression) → maker false (Expression.Concat a b) ≡ chained (maker false a) (maker false b)
+pub maker_concat : (a b : Expression) → maker Direction.Forward (Expression.Concat a b) ≡ chained (maker Direction.Forward a) (maker Direction.Forward b)
 unfolding compile mirror
 maker_concat a b = refl
 
-pub maker_concat_reverse : (a b : Expression) → maker true (Expression.Concat a b) ≡ chained (maker true b) (maker true a)
+pub maker_concat_reverse : (a b : Expression) → maker Direction.Reverse (Expression.Concat a b) ≡ chained (maker Direction.Reverse b) (maker Direction.Reverse a)
 unfolding compile mirror
 maker_concat_reverse a b = refl
 
-pub maker_alternate : (reverse : Bool) (a b : Expression) → maker reverse (Expression.Alternate a b) ≡ either (maker reverse a) (maker reverse b)
+pub maker_alternate : (direction : Direction) (a b : Expression) → maker direction (Expression.Alternate a b) ≡ either (maker direction a) (maker direction b)
 unfolding compile mirror
-maker_alternate false a b = refl
-maker_alternate true a b = refl
+maker_alternate Direction.Forward a b = refl
+maker_alternate Direction.Reverse a b = refl
 
-pub maker_repeat : (reverse : Bool) (least : ℕ) (most : Option ℕ) (greedy : Bool) (body : Expression) → maker reverse (Expression.Repeat least most greedy body) ≡ repeated least most greedy (maker reverse body)
+pub maker_repeat : (direction : Direction) (least : ℕ) (most : Option ℕ) (greedy : Bool) (body : Expression) → maker direction (Expression.Repeat least most greedy body) ≡ repeated least most greedy (maker direction body)
 unfolding compile mirror
-maker_repeat false least most greedy body = refl
-maker_repeat true least most greedy body = refl
+maker_repeat Direction.Forward least most greedy body = refl
+maker_repeat Direction.Reverse least most greedy body = refl
 
 -- how deep and how many rows the parts of a form are
 pub depth_concat : (a b : Expression) → depth (Expression.Concat a b) ≡ 1 + max (depth a) (depth b)
@@ -238,13 +240,13 @@ pub rows_repeat : (least : ℕ) (most : Option ℕ) (greedy : Bool) (body : Expr
 unfolding rows_count
 rows_repeat least most greedy body = refl
 
-pub maker_concat_as : (reverse : Bool) → reverse ≡ true → (a b : Expression) → maker reverse (Expression.Concat a b) ≡ chained (maker reverse b) (maker reverse a)
-maker_concat_as true h a b = maker_concat_reverse a b
-maker_concat_as false h a b = absurd (cc)
+pub maker_concat_as : (direction : Direction) → direction ≡ Direction.Reverse → (a b : Expression) → maker direction (Expression.Concat a b) ≡ chained (maker direction b) (maker direction a)
+maker_concat_as Direction.Reverse h a b = maker_concat_reverse a b
+maker_concat_as Direction.Forward h a b = absurd (cc)
 
-pub maker_concat_so : (reverse : Bool) → reverse ≡ false → (a b : Expression) → maker reverse (Expression.Concat a b) ≡ chained (maker reverse a) (maker reverse b)
-maker_concat_so true h a b = absurd (cc)
-maker_concat_so false h a b = maker_concat a b
+pub maker_concat_so : (direction : Direction) → direction ≡ Direction.Forward → (a b : Expression) → maker direction (Expression.Concat a b) ≡ chained (maker direction a) (maker direction b)
+maker_concat_so Direction.Reverse h a b = absurd (cc)
+maker_concat_so Direction.Forward h a b = maker_concat a b
 
 -- a row that was pushed
 pub ok_row : (r : Result ℕ AllocError) (old new : List Row) (row : Row) (to : ℕ → spec.Row) (next : ℕ) → row_of row ≡ to next

@@ -2,7 +2,9 @@
 use Rattle.std.proofs.Common.{◌≡◌, ℕ, zero, suc, ◌<◌, ◌≤◌, Bool, true, false, ◌&&◌, ◌||◌, Option, Some, None, refl, arith}
 use Rattle.rx_spec.specs.declared.Look.{Look}
 use Rattle.rx_spec.specs.Expressions.{Expression, mirror}
-use Rattle.rx_spec.specs.Rows.{reads_nothing, begins_with_edge, is_edge, read_as}
+use Rattle.rx_spec.specs.Edge.{reads_nothing, begins_with_edge, is_edge}
+use Rattle.rx_spec.specs.Nfas.{read_as}
+use Rattle.rx_spec.specs.declared.Direction.{Direction}
 use Rattle.rx_expr.specs.Compiles.{has_no_round}
 
 pub nothing_empty : reads_nothing Expression.Empty ≡ true
@@ -13,7 +15,7 @@ pub nothing_class : (set : ℕ) → reads_nothing (Expression.Class set) ≡ fal
 unfolding reads_nothing
 nothing_class set = refl
 
-pub nothing_assert : (look : Look) → reads_nothing (Expression.Assert look) ≡ true
+pub nothing_assert : (look : Look) → reads_nothing (Expression.Look look) ≡ true
 unfolding reads_nothing
 nothing_assert look = refl
 
@@ -41,60 +43,60 @@ pub nothing-mirror : (e : Expression) → reads_nothing (mirror e) ≡ reads_not
 unfolding reads_nothing mirror
 nothing-mirror Expression.Empty = refl
 nothing-mirror (Expression.Class set) = refl
-nothing-mirror (Expression.Assert look) = refl
+nothing-mirror (Expression.Look look) = refl
 nothing-mirror (Expression.Concat a b) = let x = nothing-mirror a in let y = nothing-mirror b in rw (x, y) (and_swap (reads_nothing b) (reads_nothing a))
 nothing-mirror (Expression.Alternate a b) = let x = nothing-mirror a in let y = nothing-mirror b in rw (x, y) refl
 nothing-mirror (Expression.Repeat least None greedy body) = nothing-mirror body
 nothing-mirror (Expression.Repeat least (Some most) greedy body) = let x = nothing-mirror body in rw x refl
 
-pub nothing-read_as : (reverse : Bool) (e : Expression) → reads_nothing (read_as reverse e) ≡ reads_nothing e
-nothing-read_as false e = refl
-nothing-read_as true e = nothing-mirror e
+pub nothing-read_as : (direction : Direction) (e : Expression) → reads_nothing (read_as direction e) ≡ reads_nothing e
+nothing-read_as Direction.Forward e = refl
+nothing-read_as Direction.Reverse e = nothing-mirror e
 
-pub begins_empty : (reverse : Bool) → begins_with_edge reverse (read_as reverse Expression.Empty) ≡ false
+pub begins_empty : (direction : Direction) → begins_with_edge direction (read_as direction Expression.Empty) ≡ false
 unfolding begins_with_edge mirror
-begins_empty false = refl
-begins_empty true = refl
+begins_empty Direction.Forward = refl
+begins_empty Direction.Reverse = refl
 
-pub begins_class : (reverse : Bool) (set : ℕ) → begins_with_edge reverse (read_as reverse (Expression.Class set)) ≡ false
+pub begins_class : (direction : Direction) (set : ℕ) → begins_with_edge direction (read_as direction (Expression.Class set)) ≡ false
 unfolding begins_with_edge mirror
-begins_class false set = refl
-begins_class true set = refl
+begins_class Direction.Forward set = refl
+begins_class Direction.Reverse set = refl
 
-pub begins_assert : (reverse : Bool) (look : Look) → begins_with_edge reverse (read_as reverse (Expression.Assert look)) ≡ is_edge reverse look
+pub begins_look : (direction : Direction) (look : Look) → begins_with_edge direction (read_as direction (Expression.Look look)) ≡ is_edge direction look
 unfolding begins_with_edge mirror
-begins_assert false look = refl
-begins_assert true look = refl
+begins_look Direction.Forward look = refl
+begins_look Direction.Reverse look = refl
 
-abbrev pub begins_read : Bool → Expression → Bool
-begins_read reverse e = begins_with_edge reverse (read_as reverse e)
+abbrev pub begins_read : Direction → Expression → Bool
+begins_read direction e = begins_with_edge direction (read_as direction e)
 
-pub begins_concat : (reverse : Bool) → reverse ≡ false → (a b : Expression) → begins_read reverse (Expression.Concat a b) ≡ (begins_read reverse a || (reads_nothing (read_as reverse a) && begins_read reverse b))
+pub begins_concat : (direction : Direction) → direction ≡ Direction.Forward → (a b : Expression) → begins_read direction (Expression.Concat a b) ≡ (begins_read direction a || (reads_nothing (read_as direction a) && begins_read direction b))
 unfolding begins_with_edge mirror
-begins_concat false h a b = refl
-begins_concat true h a b = absurd (cc)
+begins_concat Direction.Forward h a b = refl
+begins_concat Direction.Reverse h a b = absurd (cc)
 
-pub begins_concat_reverse : (reverse : Bool) → reverse ≡ true → (a b : Expression) → begins_read reverse (Expression.Concat a b) ≡ (begins_read reverse b || (reads_nothing (read_as reverse b) && begins_read reverse a))
+pub begins_concat_reverse : (direction : Direction) → direction ≡ Direction.Reverse → (a b : Expression) → begins_read direction (Expression.Concat a b) ≡ (begins_read direction b || (reads_nothing (read_as direction b) && begins_read direction a))
 unfolding begins_with_edge mirror
-begins_concat_reverse false h a b = absurd (cc)
-begins_concat_reverse true h a b = refl
+begins_concat_reverse Direction.Forward h a b = absurd (cc)
+begins_concat_reverse Direction.Reverse h a b = refl
 
-pub begins_alternate : (reverse : Bool) (a b : Expression) → begins_read reverse (Expression.Alternate a b) ≡ (begins_read reverse a && begins_read reverse b)
+pub begins_alternate : (direction : Direction) (a b : Expression) → begins_read direction (Expression.Alternate a b) ≡ (begins_read direction a && begins_read direction b)
 unfolding begins_with_edge mirror
-begins_alternate false a b = refl
-begins_alternate true a b = refl
+begins_alternate Direction.Forward a b = refl
+begins_alternate Direction.Reverse a b = refl
 
-pub begins_none : (reverse : Bool) (least : ℕ) (most : Option ℕ) (greedy : Bool) (body : Expression) → least ≤ 0 → begins_read reverse (Expression.Repeat least most greedy body) ≡ false
+pub begins_none : (direction : Direction) (least : ℕ) (most : Option ℕ) (greedy : Bool) (body : Expression) → least ≤ 0 → begins_read direction (Expression.Repeat least most greedy body) ≡ false
 unfolding begins_with_edge mirror
-begins_none false zero most greedy body h = refl
-begins_none true zero most greedy body h = refl
-begins_none reverse (suc n) most greedy body h = absurd (omega arith)
+begins_none Direction.Forward zero most greedy body h = refl
+begins_none Direction.Reverse zero most greedy body h = refl
+begins_none direction (suc n) most greedy body h = absurd (omega arith)
 
-pub begins_some : (reverse : Bool) (least : ℕ) (most : Option ℕ) (greedy : Bool) (body : Expression) → 0 < least → begins_read reverse (Expression.Repeat least most greedy body) ≡ begins_read reverse body
+pub begins_some : (direction : Direction) (least : ℕ) (most : Option ℕ) (greedy : Bool) (body : Expression) → 0 < least → begins_read direction (Expression.Repeat least most greedy body) ≡ begins_read direction body
 unfolding begins_with_edge mirror
-begins_some reverse zero most greedy body h = absurd (omega arith)
-begins_some false (suc n) most greedy body h = refl
-begins_some true (suc n) most greedy body h = refl
+begins_some direction zero most greedy body h = absurd (omega arith)
+begins_some Direction.Forward (suc n) most greedy body h = refl
+begins_some Direction.Reverse (suc n) most greedy body h = refl
 
 -- a test in two steps
 pub and_yes : (x y : Bool) → x ≡ true → (x && y) ≡ y

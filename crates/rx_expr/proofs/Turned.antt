@@ -1,7 +1,7 @@
 -- What is kept of an expression is kept of its mirror.
 use Rattle.std.proofs.Common.{◌≡◌, ℕ, ◌-◌, ◌^◌, min, refl, Some, None, arith, ap, ◌∙◌, sym, subst}
 use Rattle.rx_spec.specs.Expressions.{Expression, mirror, depth, min_len, IsLoopSafe}
-use Rattle.rx_spec.proofs.Mirrors.{min_len-mirror, IsLoopSafe-mirror}
+use Rattle.rx_lemmas.proofs.Mirrors.{min_len-mirror, IsLoopSafe-mirror}
 use Rattle.rx_expr.specs.Expr.{form_of, IsKept}
 use Rattle.rx_expr.specs.declared.expr.Form.{Form}
 use Rattle.rx_expr.specs.declared.expr.Inner.{Inner}
@@ -11,7 +11,7 @@ pub depth-mirror : (e : Expression) → depth (mirror e) ≡ depth e
 unfolding depth mirror
 depth-mirror Expression.Empty = refl
 depth-mirror (Expression.Class set) = refl
-depth-mirror (Expression.Assert look) = refl
+depth-mirror (Expression.Look look) = refl
 depth-mirror (Expression.Concat a b) = let x = depth-mirror a in let y = depth-mirror b in omega arith
 depth-mirror (Expression.Alternate a b) = let x = depth-mirror a in let y = depth-mirror b in omega arith
 depth-mirror (Expression.Repeat least most greedy body) = let x = depth-mirror body in omega arith
@@ -20,7 +20,7 @@ pub rows_count-mirror : (e : Expression) → rows_count (mirror e) ≡ rows_coun
 unfolding rows_count mirror
 rows_count-mirror Expression.Empty = refl
 rows_count-mirror (Expression.Class set) = refl
-rows_count-mirror (Expression.Assert look) = refl
+rows_count-mirror (Expression.Look look) = refl
 rows_count-mirror (Expression.Concat a b) = let x = rows_count-mirror a in let y = rows_count-mirror b in omega arith
 rows_count-mirror (Expression.Alternate a b) = let x = rows_count-mirror a in let y = rows_count-mirror b in omega arith
 rows_count-mirror (Expression.Repeat least None greedy body) = let x = rows_count-mirror body in rw x refl

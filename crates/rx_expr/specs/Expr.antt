@@ -3,7 +3,6 @@ use Rattle.std.specs.Prelude.{ℕ, zero, suc, ◌≡◌, ◌-◌, ◌^◌, ◌/�
 use Rattle.rx_spec.specs.Bytes.{only}
 use Rattle.rx_spec.specs.Expressions.{Expression, min_len, depth, IsLoopSafe}
 use Rattle.rx_spec.specs.Rows.{rows_count}
-use Rattle.rx_base.specs.ByteSet.{set_of}
 use Rattle.rx_expr.specs.declared.expr.Node.{Node}
 use Rattle.rx_expr.specs.declared.expr.ExprKind.{ExprKind}
 use Rattle.rx_expr.specs.declared.expr.Form.{Form}
@@ -16,8 +15,8 @@ form_of (Form.Repeat least most greedy body) = Expression.Repeat least most gree
 
 abbrev pub node_of : Node → Expression
 node_of Node.Empty = Expression.Empty
-node_of (Node.Class set) = Expression.Class (set_of set)
-node_of (Node.Look look) = Expression.Assert look
+node_of (Node.Class set) = Expression.Class (set)
+node_of (Node.Look look) = Expression.Look look
 node_of (Node.Inner inner) = form_of inner.value.form
 
 -- what is kept beside a form: the least length and the number of rows, each up to a limit, and the depth
@@ -48,8 +47,8 @@ literal_of bytes = literal_within (length bytes) bytes
 -- an expression taken apart is that expression
 abbrev pub kind_of : ExprKind → Expression
 kind_of ExprKind.Empty = Expression.Empty
-kind_of (ExprKind.Class set) = Expression.Class (set_of set)
-kind_of (ExprKind.Look look) = Expression.Assert look
+kind_of (ExprKind.Class set) = Expression.Class (set)
+kind_of (ExprKind.Look look) = Expression.Look look
 kind_of (ExprKind.Concat a b) = Expression.Concat a.now b.now
 kind_of (ExprKind.Alternate a b) = Expression.Alternate a.now b.now
 kind_of (ExprKind.Repeat least most greedy body) = Expression.Repeat least most greedy body.now

@@ -50,7 +50,7 @@ greedy_number false = 6
 abbrev pub encode : Expression → List Token
 encode Expression.Empty = (0, (0, 0)) ∷ []
 encode (Expression.Class set) = (1, (set, 0)) ∷ []
-encode (Expression.Assert look) = (2, (look_number look, 0)) ∷ []
+encode (Expression.Look look) = (2, (look_number look, 0)) ∷ []
 encode (Expression.Concat a b) = encode a ++ (encode b ++ ((3, (0, 0)) ∷ []))
 encode (Expression.Alternate a b) = encode a ++ (encode b ++ ((4, (0, 0)) ∷ []))
 encode (Expression.Repeat least most greedy body) = encode body ++ ((greedy_number greedy, (least, most_number most)) ∷ [])
@@ -59,7 +59,7 @@ encode (Expression.Repeat least most greedy body) = encode body ++ ((greedy_numb
 abbrev pub finish : ℕ → ℕ → ℕ → List Expression → List Expression
 finish zero m n done = Expression.Empty ∷ done
 finish (suc zero) m n done = Expression.Class m ∷ done
-finish (suc (suc zero)) m n done = Expression.Assert (look_at all_looks m) ∷ done
+finish (suc (suc zero)) m n done = Expression.Look (look_at all_looks m) ∷ done
 finish (suc (suc (suc zero))) m n (b ∷ (a ∷ done)) = Expression.Concat a b ∷ done
 finish (suc (suc (suc (suc zero)))) m n (b ∷ (a ∷ done)) = Expression.Alternate a b ∷ done
 finish (suc (suc (suc (suc (suc zero))))) m n (body ∷ done) = Expression.Repeat m (number_most n) true body ∷ done
@@ -78,7 +78,7 @@ first_finished (e ∷ done) = e
 decode-encode : (e : Expression) (ts : List Token) (done : List Expression) → decode (encode e ++ ts) done ≡ decode ts (e ∷ done)
 decode-encode Expression.Empty ts done = refl
 decode-encode (Expression.Class set) ts done = refl
-decode-encode (Expression.Assert look) ts done = ap (λ k. decode ts (Expression.Assert k ∷ done)) (look_again look)
+decode-encode (Expression.Look look) ts done = ap (λ k. decode ts (Expression.Look k ∷ done)) (look_again look)
 decode-encode (Expression.Concat a b) ts done =
     ap (λ xs. decode xs done) (append_assoc (encode a) (encode b ++ ((3, (0, 0)) ∷ [])) ts ∙ ap (λ xs. encode a ++ xs) (append_assoc (encode b) ((3, (0, 0)) ∷ []) ts))
     ∙ decode-encode a (encode b ++ ((3, (0, 0)) ∷ ts)) done ∙ decode-encode b ((3, (0, 0)) ∷ ts) (a ∷ done)

@@ -5,22 +5,21 @@ use Rattle.std.specs.Coded.{×_prop, Π_prop, Unit-prop}
 use Rattle.std.specs.List.{list_any}
 use Rattle.rx_spec.specs.Rows as rows
 use Rattle.rx_spec.specs.States.{row_at}
-use Rattle.rx_spec.specs.Shallow.{AllBehind, Short, IsShallow}
+use Rattle.rx_spec.specs.Shallow.{AllNext, Short, IsShallow}
 use Rattle.rx_spec.specs.declared.Look.{Look}
-use Rattle.rx_base.specs.ByteSet.{set_of}
 use Rattle.rx_base.specs.LookSet.{holds_look, look_number}
 use Rattle.rx_expr.specs.declared.thompson.nfa.Row.{Row}
 
 abbrev pub row_of : Row → rows.Row
-row_of (Row.Bytes set next) = rows.Bytes (set_of set) next
+row_of (Row.Bytes set next) = rows.Bytes (set) next
 row_of (Row.Split first second) = rows.Split first second
-row_of (Row.Look look next) = rows.Assert look next
-row_of (Row.Match pattern) = rows.Accept pattern
+row_of (Row.Look look next) = rows.Look look next
+row_of (Row.Match pattern) = rows.Match pattern
 row_of Row.Fail = rows.Fail
 
 -- whether a row has an assertion, and whether some of the rows has
 abbrev pub asserts : Look → rows.Row → Bool
-asserts look (rows.Assert other next) = look_number look == look_number other
+asserts look (rows.Look other next) = look_number look == look_number other
 asserts look _ = false
 
 abbrev pub has_look : List rows.Row → Look → Bool
@@ -31,11 +30,11 @@ abbrev pub HoldsLooks : ℕ → List rows.Row → Type 0
 HoldsLooks set rs = (look : Look) → holds_look set look ≡ has_look rs look
 
 -- There is one proof at most that no path which reads nothing goes round.
-AllBehind-prop : (P : ℕ → Type 0) → ((q : ℕ) → IsProp (P q)) → (row : rows.Row) → IsProp (AllBehind P row)
+AllBehind-prop : (P : ℕ → Type 0) → ((q : ℕ) → IsProp (P q)) → (row : rows.Row) → IsProp (AllNext P row)
 AllBehind-prop P one (rows.Bytes set next) = Unit-prop
 AllBehind-prop P one (rows.Split first second) = ×_prop (one first) (one second)
-AllBehind-prop P one (rows.Assert look next) = one next
-AllBehind-prop P one (rows.Accept pattern) = Unit-prop
+AllBehind-prop P one (rows.Look look next) = one next
+AllBehind-prop P one (rows.Match pattern) = Unit-prop
 AllBehind-prop P one rows.Fail = Unit-prop
 
 Short-prop : (rs : List rows.Row) (n q : ℕ) → IsProp (Short rs n q)

@@ -127,7 +127,6 @@ impl Expr {
     ghost use Rattle.rx_spec.specs.Expressions.{Expression, min_len as least_len, depth as depth_of, mirror as mirrored, IsLoopSafe};
     ghost use Rattle.rx_spec.specs.Rows.{rows_count};
     ghost use Rattle.rx_spec.specs.Bytes.{only};
-    ghost use Rattle.rx_base.specs.ByteSet.{set_of};
     ghost use Rattle.rx_expr.specs.Expr.{form_of, kind_of, literal_of};
     ghost use Rattle.rx_expr.specs.ExprError.{RefusesJoin, RefusesRepeat};
 
@@ -140,7 +139,7 @@ impl Expr {
 
     /// One byte of a set.
     pub fn class(set: ByteSet) -> Expr
-        ensures { result ≡ Expression.Class (set_of set) }
+        ensures { result ≡ Expression.Class set }
     {
         Expr {
             node: Node::Class(set),
@@ -149,7 +148,7 @@ impl Expr {
 
     /// Where an assertion holds.
     pub fn look(look: Look) -> Expr
-        ensures { result ≡ Expression.Assert look }
+        ensures { result ≡ Expression.Look look }
     {
         Expr {
             node: Node::Look(look),

@@ -1,22 +1,7 @@
-pub mod Cutting
-pub mod Hex
-pub mod Ranges
-pub mod Making
-pub mod Asking
-pub mod Steps
-pub mod Lines
+-- sources and sinks, piece by piece
 pub mod Transfers
-pub mod Commands
-pub mod Replying
-pub mod Texts
-pub mod Numbers
-pub mod Bytes
-pub mod Names
-pub mod Phrases
-pub mod Items
-pub mod Plans
-pub mod Scripts
-pub mod Outcomes
-pub mod Plain
-pub mod Single
+-- the command `find`: why a build is refused, and the reply
 pub mod Refusals
+pub mod Finding
+-- at most one reply fits
+pub mod OneReply

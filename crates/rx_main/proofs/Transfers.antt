@@ -1,5 +1,6 @@
 -- Bytes that are read or written one piece after another.
-use Rattle.std.proofs.Common.{◌≡◌, ℕ, ◌+◌, ◌-◌, ◌≤◌, List, [], ◌++◌, length, take, drop, Option, Some, None, refl, sym, ap, ◌∙◌, append_assoc, append-nil, arith}
+use Rattle.std.proofs.Common.{◌≡◌, ℕ, ◌+◌, ◌-◌, ◌≤◌, List, [], ◌++◌, length, take, drop, Option, Some, None, refl, sym}
+use Rattle.std.proofs.Common.{ap, ◌∙◌, append_assoc, append-nil, arith}
 use Rattle.std.proofs.Math.Seq.{take-add}
 use Rattle.std.proofs.lemmas.List.{take_rest}
 use Rattle.std.specs.Io.KnownBytes.{Consumes, Keeps, Appends}
@@ -9,7 +10,8 @@ pub consumes_none : (left : Option (List ℕ)) → Consumes left left []
 consumes_none None = tt
 consumes_none (Some xs) = refl
 
-pub consumes_more : (a b c : Option (List ℕ)) (xs ys : List ℕ) → Consumes a b xs → Consumes b c ys → Consumes a c (xs ++ ys)
+pub consumes_more
+    : (a b c : Option (List ℕ)) (xs ys : List ℕ) → Consumes a b xs → Consumes b c ys → Consumes a c (xs ++ ys)
 consumes_more None b c xs ys p q = tt
 consumes_more (Some x) None c xs ys p q = absurd p
 consumes_more (Some x) (Some y) None xs ys p q = absurd q
@@ -41,7 +43,9 @@ appends_kept (Some x) (Some y) (Some z) xs p q = q ∙ p
 pub rose_since : (a b c : ℕ) → a ≤ b → Rose b c → Rose a c
 rose_since a b c le rose = omega arith
 
-pub written_more : (text : List ℕ) (at n : ℕ) (a b c : Option (List ℕ)) → Appends a b (take at text) → Appends b c (take n (take (length text - at) (drop at text))) → Appends a c (take (at + n) text)
+pub written_more
+    : (text : List ℕ) (at n : ℕ) (a b c : Option (List ℕ)) → Appends a b (take at text)
+    → Appends b c (take n (take (length text - at) (drop at text))) → Appends a c (take (at + n) text)
 written_more text at n a b c p q =
     let e : take (length text - at) (drop at text) ≡ drop at text = take_rest text at in
     let q' = rw e at q in

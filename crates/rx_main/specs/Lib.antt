@@ -1,11 +1,7 @@
-pub mod Pieces
-pub mod Faults
-pub mod Tokens
-pub mod PlanLine
-pub mod Items
-pub mod Reading
-pub mod Script
-pub mod Grammar
+-- command lines
+pub mod Commands
+-- a file for each command
+pub mod Find
+-- what is answered, and what a run leaves
 pub mod Replies
-pub mod Finding
 pub mod Run

@@ -2,27 +2,20 @@
 //! that is written and the status.
 //!
 //! [`run`] is the whole program. Its contract ties what is written to the words and the bytes read by
-//! the definition `Replies` of `specs/Replies.antt`. What a script is stands in `specs/Grammar.antt`,
-//! which knows no reader; the reading function with its first fault stands in `specs/Reading.antt`, and
-//! the laws that join the two in [`laws`].
+//! the definition `Replies` of `specs/Replies.antt`, which has a file for each command. Scripts and
+//! their reader are a crate of their own, whose public names are handed on here.
 #![tactic(auto)]
 
-mod engine;
-mod expression;
-mod fault;
+mod command;
+mod find;
 pub mod laws;
-mod pieces;
-mod plan_words;
 mod program;
 mod reply;
-mod script;
-mod tokens;
 mod transfer;
 mod words;
 
-pub use fault::{BadKind, ScriptFault};
 pub use program::run;
-pub use script::{Exprs, Hay, Script, ScriptInput, read_script};
+pub use rx_script::{BadKind, Exprs, Hay, Script, ScriptFault, ScriptInput, read_script};
 pub use words::Words;
 
 #[cfg(test)]

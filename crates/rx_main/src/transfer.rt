@@ -69,7 +69,8 @@ pub fn read_text<S: Source>(alloc: Global, src: &mut S) -> Result<Vec<u8>, TextF
     ensures few { IfOk result (λ text. length text.items ≤ 16777216) }
     ensures bytes { IfOk result (λ text. Consumes (S.left src.old) (S.left src.new) text.items) }
     ensures end { IfOk result (λ text. IsAtEnd (S.left src.new)) }
-    ensures long { result ≡ Err TextFault.Long → (bytes : List ℕ) × (length bytes ≡ 16777217) × Consumes (S.left src.old) (S.left src.new) bytes }
+    ensures long { result ≡ Err TextFault.Long
+        → (bytes : List ℕ) × (length bytes ≡ 16777217) × Consumes (S.left src.old) (S.left src.new) bytes }
     ensures failed { result ≡ Err TextFault.Failed → Rose (S.faults src.old) (S.faults src.new) }
     ensures kept { S.faults src.old ≤ S.faults src.new }
 {
@@ -87,7 +88,8 @@ fn read_through<S: Source>(
     ensures few { IfOk result (λ text. length text.items ≤ 16777216) }
     ensures bytes { IfOk result (λ text. Consumes (S.left src.old) (S.left src.new) text.items) }
     ensures end { IfOk result (λ text. IsAtEnd (S.left src.new)) }
-    ensures long { result ≡ Err TextFault.Long → (bytes : List ℕ) × (length bytes ≡ 16777217) × Consumes (S.left src.old) (S.left src.new) bytes }
+    ensures long { result ≡ Err TextFault.Long
+        → (bytes : List ℕ) × (length bytes ≡ 16777217) × Consumes (S.left src.old) (S.left src.new) bytes }
     ensures failed { result ≡ Err TextFault.Failed → Rose (S.faults src.old) (S.faults src.new) }
     ensures kept { S.faults src.old ≤ S.faults src.new }
 {
@@ -106,7 +108,9 @@ fn read_through<S: Source>(
 /// Writes a text, and tells whether all of it was taken.
 pub fn write_text<K: Sink>(out: &mut K, text: &[u8]) -> bool
     ensures whole { result ≡ true → Appends (K.written out.old) (K.written out.new) text.now }
-    ensures part { result ≡ false → (count : ℕ) × (count < length text.now) × Appends (K.written out.old) (K.written out.new) (take count text.now) }
+    ensures part { result ≡ false
+        → (count : ℕ) × (count < length text.now)
+        × Appends (K.written out.old) (K.written out.new) (take count text.now) }
     ensures failed { result ≡ false → Rose (K.faults out.old) (K.faults out.new) }
     ensures kept { K.faults out.old ≤ K.faults out.new }
 {

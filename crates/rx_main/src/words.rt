@@ -5,7 +5,7 @@ ghost use Rattle.std.specs.Prelude.{◌≡◌, ◌<◌, ◌++◌, ◌∷◌, [],
 use std::alloc::{AllocError, Global};
 use std::marker::Model;
 
-/// The words of a command line, behind the program's name.
+/// The words of a command line, after the program's name.
 #[derive(Drop)]
 pub struct Words {
     alloc: Global,

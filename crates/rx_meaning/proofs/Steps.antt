@@ -1,172 +1,278 @@
--- One step of the powerset machine, at a place of a reading.
-use Rattle.std.proofs.Common.{◌≡◌, ℕ, suc, ◌+◌, ◌*◌, ◌<◌, Bool, true, false, if◌then◌else◌, Option, Some, None, List, [], ◌∷◌, ◌++◌, length, refl, ap, sym, ◌∙◌, subst, arith}
+-- One step of a state, at a place of a reading: what the state gives there is what the next one gives one place
+-- on, and what its label is worth here.
+use Rattle.std.proofs.Common.{◌≡◌, ℕ, ◌+◌, Bool, true, false, if◌then◌else◌, Option, Some, None, List, [], ◌∷◌, ◌++◌}
+use Rattle.std.proofs.Common.{refl, ap, ap₂, sym, ◌∙◌, subst}
+use Rattle.std.specs.Prelude.{slice_get}
 use Rattle.std.specs.Option.{option_or}
-use Rattle.std.specs.List.{flat_map, list_any, AllByRecursion as Every}
+use Rattle.std.specs.List.{flat_map}
 use Rattle.rx_spec.specs.Bytes.{contains, unit_of}
-use Rattle.rx_spec.specs.Looks.{Reading, before, after}
+use Rattle.rx_spec.specs.Looks.{after}
 use Rattle.rx_spec.specs.Found.{first_of}
-use Rattle.rx_spec.specs.Rows.{Row, Nfa}
-use Rattle.rx_spec.specs.Contexts.{Facts, no_facts, facts_of, unit_facts, both, holds_read, facts_kept}
-use Rattle.rx_spec.specs.States.{row_at, Passing, reach_by, reach, closure, firsts, State, is_assert, state_at, settled, pattern_of, is_accept, to_first_match, cut, target, step}
+use Rattle.rx_spec.specs.Rows.{Row}
+use Rattle.rx_spec.specs.Nfas.{Nfa}
+use Rattle.rx_spec.specs.Contexts.{unit_facts}
+use Rattle.rx_spec.specs.States.{row_at, Passing, State, decided_rows, holds_before, pattern_of, is_match_row}
+use Rattle.rx_spec.specs.States.{to_first_match, cut, target, step}
 use Rattle.rx_spec.specs.declared.Look.{Look}
 use Rattle.rx_spec.specs.declared.MatchKind.{MatchKind}
-use Rattle.rx_meaning.proofs.FirstSuccess.{or_assoc, first_of-single, first_of-flat_map, first_of-same}
-use Rattle.rx_meaning.proofs.Firsts.{firsts_keep}
-use Rattle.rx_meaning.proofs.Deep.{Deep}
-use Rattle.rx_meaning.proofs.Patterns.{depth_of}
-use Rattle.rx_meaning.proofs.Solution.{Worth, read_by, gives, Solves}
-use Rattle.rx_meaning.proofs.Starts.{every-got}
-use Rattle.rx_meaning.proofs.Facts.{read_decides, unit_facts_of, kept_decide}
-use Rattle.rx_meaning.proofs.Reach.{IsReady, closed_ready, DecidesRows, closed_gives}
-use Rattle.rx_meaning.proofs.Tests.{or_neither}
+use Rattle.rx_lemmas.proofs.Firsts.{by_test}
+use Rattle.rx_lemmas.proofs.ReadUnits.{unit_at}
+use Rattle.rx_meaning.proofs.FirstSuccess.{or_assoc, or_none, first_of-nil, first_of-cons, first_of-single}
+use Rattle.rx_meaning.proofs.FirstSuccess.{first_of-append, first_of-none}
+use Rattle.rx_meaning.proofs.Solution.{Valued, read_by, given, gives_at, given_solves}
+use Rattle.rx_meaning.proofs.Closures.{IsReady, AllReady, closed_ready, first_given}
+use Rattle.rx_meaning.proofs.Scan.{Scan, read_in, valued, StandsAt, step_at}
+use Rattle.rx_meaning.proofs.StateAssertions.{state_gives, decided_gives}
 
--- what an NFA reads
-abbrev pub reading_of : Nfa → List ℕ → Reading
-reading_of nfa units = record { terminator = nfa.terminator; backward = nfa.backward; units = units }
+-- what a label is worth at a place, by the first pattern that is worth something
+abbrev pub label_worth : {V : Type 0} → (ℕ → ℕ → Option V) → ℕ → List ℕ → Option V
+label_worth worth i ks = first_of (λ k. worth k i) ks
 
--- A state that stands at a place: its rows are reached from some rows, and its context is of the unit
--- read last.
-pub record StandsAt (nfa : Nfa) (units : List ℕ) (s : State) (i : ℕ) : Type 0 where
-  pub roots : List ℕ
-  pub is : s ≡ state_at nfa roots (facts_of nfa.terminator (before units i)) s.label
+matched_row : (row : Row) → is_match_row row ≡ true → (k : ℕ) × (row ≡ Row.Match k)
+matched_row (Row.Bytes set next) e = absurd (cc)
+matched_row (Row.Split first second) e = absurd (cc)
+matched_row (Row.Look look next) e = absurd (cc)
+matched_row (Row.Match k) e = (k, refl)
+matched_row Row.Fail e = absurd (cc)
 
--- the worth of the first pattern of a label at a place
-abbrev pub label_worth : {V : Type 0} → Worth V → ℕ → List ℕ → Option V
-label_worth worth i [] = None
-label_worth worth i (k ∷ ks) = worth k i
+unmatched_row : (row : Row) → is_match_row row ≡ false → pattern_of row ≡ []
+unmatched_row (Row.Bytes set next) e = refl
+unmatched_row (Row.Split first second) e = refl
+unmatched_row (Row.Look look next) e = refl
+unmatched_row (Row.Match k) e = absurd (cc)
+unmatched_row Row.Fail e = refl
 
--- the unit that is read at a place
-abbrev pub unit_at : List ℕ → ℕ → ℕ
-unit_at units i = unit_of (after units i)
+-- ---- what is cut off after a match
 
-ready_stays : (rows : List Row) (pass : Passing) (behind : ℕ → List ℕ) (q : ℕ) (row : Row) → IsReady Passing.Standing row → is_assert row ≡ false → reach_by pass behind q row ≡ q ∷ []
-ready_stays rows pass behind q (Row.Bytes set next) h e = refl
-ready_stays rows pass behind q (Row.Split first second) h e = absurd h
-ready_stays rows pass behind q (Row.Assert look next) h e = absurd (grind arith)
-ready_stays rows pass behind q (Row.Accept pattern) h e = refl
-ready_stays rows pass behind q Row.Fail h e = absurd h
+module _ (rows : List Row) where
+  abbrev pub matched : List ℕ → List ℕ
+  matched qs = flat_map (λ q. pattern_of (row_at rows q)) qs
 
-reach_stays : (rows : List Row) (pass : Passing) (n q : ℕ) → IsReady Passing.Standing (row_at rows q) → is_assert (row_at rows q) ≡ false → reach rows pass (n + 1) q ≡ q ∷ []
-unfolding reach
-reach_stays rows pass n q h e =
-    let above : n + 1 ≡ suc n = omega arith in
-    ap (λ m. reach rows pass m q) above ∙ ready_stays rows pass (λ p. reach rows pass n p) q (row_at rows q) h e
+  cut_here : (q : ℕ) (qs : List ℕ) → is_match_row (row_at rows q) ≡ true → to_first_match rows (q ∷ qs) ≡ q ∷ []
+  unfolding to_first_match
+  cut_here q qs e = rw e refl
 
-both_each : (P : ℕ → Type 0) (test : ℕ → Bool) (xs : List ℕ) → Every P xs → list_any test xs ≡ false → Every (λ x. P x × (test x ≡ false)) xs
-both_each P test [] h e = tt
-both_each P test (x ∷ xs) h e = let k = or_neither (test x) (list_any test xs) e in ((h.0, k.0), both_each P test xs h.1 k.1)
+  cut_later : (q : ℕ) (qs : List ℕ) → is_match_row (row_at rows q) ≡ false
+      → to_first_match rows (q ∷ qs) ≡ q ∷ to_first_match rows qs
+  unfolding to_first_match
+  cut_later q qs e = rw e refl
 
--- A step's new state stands one place on.
-pub step_stands : (nfa : Nfa) (units : List ℕ) → Every (λ b. b < 256) units → (kind : MatchKind) (s : State) (i : ℕ) → StandsAt nfa units (step nfa kind s (unit_at units i)) (i + 1)
+  -- the first pattern stays
+  head_cut : (qs : List ℕ) → slice_get (matched (to_first_match rows qs)) 0 ≡ slice_get (matched qs) 0
+  unfolding to_first_match
+  head_cut [] = refl
+  head_cut (q ∷ qs) =
+      by_test (is_match_row (row_at rows q))
+      (λ e. let k = matched_row (row_at rows q) e in
+      ap (λ l. slice_get (matched l) 0) (cut_here q qs e)
+      ∙ ap (λ row. slice_get (pattern_of row ++ []) 0) k.1
+      ∙ sym (ap (λ row. slice_get (pattern_of row ++ matched qs) 0) k.1))
+      (λ e. let none = unmatched_row (row_at rows q) e in
+      ap (λ l. slice_get (matched l) 0) (cut_later q qs e)
+      ∙ ap (λ ks. slice_get (ks ++ matched (to_first_match rows qs)) 0) none ∙ head_cut qs
+      ∙ sym (ap (λ ks. slice_get (ks ++ matched qs) 0) none))
+
+  -- where nothing matches, nothing is cut
+  uncut : (qs : List ℕ) → matched (to_first_match rows qs) ≡ [] → to_first_match rows qs ≡ qs
+  unfolding to_first_match
+  uncut [] h = refl
+  uncut (q ∷ qs) h =
+      by_test (is_match_row (row_at rows q))
+      (λ e. let k = matched_row (row_at rows q) e in
+      absurd (no_match k.0 (sym (ap (λ l. matched l) (cut_here q qs e) ∙ ap (λ row. pattern_of row ++ []) k.1) ∙ h)))
+      (λ e. let none = unmatched_row (row_at rows q) e in
+      let later = ap (λ l. matched l) (cut_later q qs e) ∙ ap (λ ks. ks ++ matched (to_first_match rows qs)) none in
+      cut_later q qs e ∙ ap (λ (l : List ℕ). q ∷ l) (uncut qs (sym later ∙ h)))
+    where
+      no_match : (k : ℕ) → (k ∷ []) ++ [] ≡ [] → ⊥
+      no_match k e = cc
+
+-- a step's label, and its targets where its label is empty, are those of the rows that aren't cut
+pub label_head : (nfa : Nfa) (kind : MatchKind) (s : State) (unit : ℕ)
+    → slice_get (step nfa kind s unit).label 0 ≡ slice_get (matched nfa.rows (decided_rows nfa unit s)) 0
 unfolding step
-step_stands nfa units bytes kind s i =
-    let rows = cut kind nfa.rows (settled nfa (unit_at units i) s) in
-    let u = unit_at units i in
-    let place : suc i ≡ i + 1 = omega arith in
-    record {
-      roots = flat_map (λ q. target u (row_at nfa.rows q)) rows;
-      is = ap (λ facts. state_at nfa (flat_map (λ q. target u (row_at nfa.rows q)) rows) facts (flat_map (λ q. pattern_of (row_at nfa.rows q)) rows))
-          (unit_facts_of nfa.terminator (after units i) (λ b e. every-got (λ b. b < 256) units i b bytes e) ∙ ap (λ j. facts_of nfa.terminator (before units j)) place);
-    }
+label_head nfa MatchKind.All s unit = refl
+label_head nfa MatchKind.LeftmostFirst s unit = head_cut nfa.rows (decided_rows nfa unit s)
 
-module _ {V : Type 0} (nfa : Nfa) (units : List ℕ) (bytes : Every (λ b. b < 256) units) (worth : Worth V) (g : ℕ → ℕ → Option V) (solves : Solves nfa.rows (reading_of nfa units) worth g)
-    (deep : (q : ℕ) → Deep nfa.rows (depth_of nfa.rows) q) where
-  -- what rows give at a place
-  abbrev pub first_at : ℕ → List ℕ → Option V
-  first_at i qs = first_of (λ q. g q i) qs
+-- a step that cuts nothing
+abbrev pub CutsNothing : Nfa → MatchKind → State → ℕ → Type 0
+CutsNothing nfa kind s unit = cut kind nfa.rows (decided_rows nfa unit s) ≡ decided_rows nfa unit s
 
-  byte_below : (i b : ℕ) → after units i ≡ Some b → b < 256
-  byte_below i b e = every-got (λ b. b < 256) units i b bytes e
+pub cuts_nothing : (nfa : Nfa) (kind : MatchKind) (s : State) (unit : ℕ) → (step nfa kind s unit).label ≡ []
+    → CutsNothing nfa kind s unit
+unfolding step
+cuts_nothing nfa MatchKind.All s unit e = refl
+cuts_nothing nfa MatchKind.LeftmostFirst s unit e = uncut nfa.rows (decided_rows nfa unit s) e
 
-  standing_decides : (i : ℕ) → DecidesRows nfa.rows (reading_of nfa units) i Passing.Standing
-  standing_decides i q look next e = tt
+-- ---- what rows give once their assertions are decided
 
-  -- A state's rows give what their roots give.
-  pub state_gives : (roots : List ℕ) (facts : Facts) (label : List ℕ) (i : ℕ) → first_at i (state_at nfa roots facts label).rows ≡ first_at i roots
-  state_gives roots facts label i = closed_gives nfa.rows (reading_of nfa units) worth g solves Passing.Standing i (standing_decides i) deep roots
+module _ {V : Type 0} (c : Scan) (worth : ℕ → ℕ → Option V) where
+  abbrev nfa : Nfa
+  nfa = c.build.nfa
 
-  settling : ℕ → Bool → Passing
-  settling i known = Passing.Tested (λ look. holds_read nfa.backward look (if known then both (facts_kept nfa.rows) (facts_of nfa.terminator (before units i)) else no_facts) (unit_facts nfa.terminator (unit_at units i)))
-
-  settled_with : (i : ℕ) (qs : List ℕ) → Every (λ p. IsReady Passing.Standing (row_at nfa.rows p)) qs → (known : Bool) → list_any (λ q. is_assert (row_at nfa.rows q)) qs ≡ known
-      → first_at i (firsts (flat_map (λ q. closure nfa.rows (settling i known) q) qs)) ≡ first_at i qs
-  unfolding settling
-  settled_with i qs ready true e =
-      closed_gives nfa.rows (reading_of nfa units) worth g solves (settling i true) i
-      (λ q look next e.
-      kept_decide nfa.rows q look next e nfa.backward (facts_of nfa.terminator (before units i)) (unit_facts nfa.terminator (unit_at units i))
-      ∙ ap (holds_read nfa.backward look (facts_of nfa.terminator (before units i))) (unit_facts_of nfa.terminator (after units i) (λ b k. byte_below i b k))
-      ∙ read_decides (reading_of nfa units) look i)
-      deep qs
-  settled_with i qs ready false e =
-      firsts_keep (λ p. g p i) (flat_map (λ q. closure nfa.rows (settling i false) q) qs)
-      ∙ first_of-flat_map (λ p. g p i) (λ q. closure nfa.rows (settling i false) q) qs
-      ∙ first_of-same (λ q. IsReady Passing.Standing (row_at nfa.rows q) × (is_assert (row_at nfa.rows q) ≡ false)) (λ q. first_of (λ p. g p i) (closure nfa.rows (settling i false) q)) (λ q. g q i) qs
-      (λ q h. ap (first_of (λ p. g p i)) (reach_stays nfa.rows (settling i false) (length nfa.rows * length nfa.rows) q h.0 h.1) ∙ first_of-single (λ p. g p i) q)
-      (both_each (λ p. IsReady Passing.Standing (row_at nfa.rows p)) (λ q. is_assert (row_at nfa.rows q)) qs ready e)
-
-  settled_at : (i : ℕ) (roots label : List ℕ) → first_at i (settled nfa (unit_at units i) (state_at nfa roots (facts_of nfa.terminator (before units i)) label)) ≡ first_at i (state_at nfa roots (facts_of nfa.terminator (before units i)) label).rows
-  unfolding settling
-  settled_at i roots label =
-      let qs = firsts (flat_map (λ q. closure nfa.rows Passing.Standing q) roots) in
-      settled_with i qs (closed_ready nfa.rows Passing.Standing roots) (list_any (λ q. is_assert (row_at nfa.rows q)) qs) refl
-
-  -- Deciding its assertions by the next unit keeps what a state gives.
-  pub settled_gives : (i : ℕ) (s : State) → StandsAt nfa units s i → first_at i (settled nfa (unit_at units i) s) ≡ first_at i s.rows
-  settled_gives i s at = subst (λ x. first_at i (settled nfa (unit_at units i) x) ≡ first_at i x.rows) (sym at.is) (settled_at i at.roots s.label)
+  abbrev x : Valued V
+  x = valued c worth
 
   abbrev targets : ℕ → List ℕ → List ℕ
-  targets u qs = flat_map (λ q. target u (row_at nfa.rows q)) qs
+  targets i qs = flat_map (λ q. target (unit_at (read_in c) i) (row_at nfa.rows q)) qs
 
-  abbrev matched : List ℕ → List ℕ
-  matched qs = flat_map (λ q. pattern_of (row_at nfa.rows q)) qs
-
-  -- a row that reads a byte
-  read_gives : (i set next : ℕ) (byte : Option ℕ) → ((b : ℕ) → byte ≡ Some b → b < 256) → (front rest label : Option V) (more : List ℕ) → rest ≡ option_or (first_at (i + 1) more) label
-      → option_or (read_by set byte (g next (i + 1))) rest ≡ option_or (first_at (i + 1) (target (unit_of byte) (Row.Bytes set next) ++ more)) label
-  unfolding first_of
-  read_gives i set next None below front rest label more e = e
-  read_gives i set next (Some b) below front rest label more e =
-      elim (contains set b) as (λ v. option_or (if v then g next (i + 1) else None) rest ≡ option_or (first_at (i + 1) ((if v then next ∷ [] else []) ++ more)) label) [
-        | true ↦ ap (option_or (g next (i + 1))) e ∙ sym (or_assoc (g next (i + 1)) (first_at (i + 1) more) label)
-        | false ↦ e
+  target_gives : (set next i : ℕ) (byte : Option ℕ)
+      → read_by set byte (given x next (i + 1)) ≡ first_given x (i + 1) (target (unit_of byte) (Row.Bytes set next))
+  target_gives set next i None = sym (first_of-nil (λ (q : ℕ). given x q (i + 1)))
+  target_gives set next i (Some b) =
+      elim (contains set b)
+      as (λ v. (if v then given x next (i + 1) else None) ≡ first_given x (i + 1) (if v then next ∷ [] else [])) [
+        | true ↦ sym (first_of-single (λ q. given x q (i + 1)) next)
+        | false ↦ sym (first_of-nil (λ (q : ℕ). given x q (i + 1)))
       ]
 
-  abbrev Cuts : ℕ → ℕ → List ℕ → List ℕ → Row → Type 0
-  Cuts i q qs cuts row = option_or (g q i) (first_at i qs) ≡ option_or (first_at (i + 1) (targets (unit_at units i) (if is_accept row then q ∷ [] else (q ∷ cuts)))) (label_worth worth i (matched (if is_accept row then q ∷ [] else (q ∷ cuts))))
-
-  cut_row : (pass : Passing) (holds : Look → Bool) → pass ≡ Passing.Tested holds → (i : ℕ) → ((k : ℕ) → (v : V) × (worth k i ≡ Some v)) → (q : ℕ) (qs cuts : List ℕ)
-      → first_at i qs ≡ option_or (first_at (i + 1) (targets (unit_at units i) cuts)) (label_worth worth i (matched cuts))
-      → (row : Row) → row_at nfa.rows q ≡ row → IsReady (Passing.Tested holds) row → g q i ≡ gives (reading_of nfa units) worth g row i
-      → Cuts i q qs cuts row
+  -- a row gives what the row to which it leads gives one place on, or what its match is worth here
+  row_reads : (holds : Look → Bool) (i : ℕ) (row : Row) → IsReady (Passing.Tested holds) row
+      → gives_at x i row
+      ≡ option_or (first_given x (i + 1) (target (unit_at (read_in c) i) row)) (label_worth worth i (pattern_of row))
   unfolding first_of
-  cut_row pass holds p i all q qs cuts ih (Row.Bytes set next) e ready h =
-      subst (λ x. option_or (g q i) (first_at i qs) ≡ option_or (first_at (i + 1) (target (unit_at units i) x ++ targets (unit_at units i) cuts)) (label_worth worth i (pattern_of x ++ matched cuts))) (sym e)
-      (ap (λ v. option_or v (first_at i qs)) h ∙ read_gives i set next (after units i) (λ b k. byte_below i b k) None (first_at i qs) (label_worth worth i (matched cuts)) (targets (unit_at units i) cuts) ih)
-  cut_row pass holds p i all q qs cuts ih (Row.Split first second) e ready h = absurd ready
-  cut_row pass holds p i all q qs cuts ih (Row.Assert look next) e ready h = absurd ready
-  cut_row pass holds p i all q qs cuts ih (Row.Accept k) e ready h =
-      subst (λ x. option_or (g q i) (first_at i qs) ≡ option_or (first_at (i + 1) (target (unit_at units i) x ++ [])) (label_worth worth i (pattern_of x ++ []))) (sym e)
-      (ap (λ v. option_or v (first_at i qs)) (h ∙ (all k).1) ∙ sym (all k).1)
-  cut_row pass holds p i all q qs cuts ih Row.Fail e ready h = absurd ready
+  row_reads holds i (Row.Bytes set next) ready =
+      target_gives set next i (after c.units i)
+      ∙ sym (or_none (first_given x (i + 1) (target (unit_at (read_in c) i) (Row.Bytes set next))))
+  row_reads holds i (Row.Split first second) ready = absurd ready
+  row_reads holds i (Row.Look look next) ready = absurd ready
+  row_reads holds i (Row.Match k) ready = sym (or_none (worth k i))
+  row_reads holds i Row.Fail ready = absurd ready
 
-  cut_gives : (holds : Look → Bool) (i : ℕ) → ((k : ℕ) → (v : V) × (worth k i ≡ Some v)) → (qs : List ℕ) → Every (λ p. IsReady (Passing.Tested holds) (row_at nfa.rows p)) qs
-      → first_at i qs ≡ option_or (first_at (i + 1) (targets (unit_at units i) (to_first_match nfa.rows qs))) (label_worth worth i (matched (to_first_match nfa.rows qs)))
-  unfolding to_first_match first_of
-  cut_gives holds i all [] ready = refl
-  cut_gives holds i all (q ∷ qs) ready =
-      cut_row (Passing.Tested holds) holds refl i all q qs (to_first_match nfa.rows qs) (cut_gives holds i all qs ready.1) (row_at nfa.rows q) refl ready.0 (solves q i)
+  module _ (holds : Look → Bool) (i : ℕ) where
+    abbrev Ready : List ℕ → Type 0
+    Ready qs = AllReady nfa.rows (Passing.Tested holds) qs
 
-  -- One step, leftmost-first, at a place where every match is worth something: what the state gives
-  -- is what the next one gives one place on, or else what its label tells here.
-  pub step_gives : (i : ℕ) → ((k : ℕ) → (v : V) × (worth k i ≡ Some v)) → (s : State) → StandsAt nfa units s i
-      → first_at i s.rows ≡ option_or (first_at (i + 1) (step nfa MatchKind.LeftmostFirst s (unit_at units i)).rows) (label_worth worth i (step nfa MatchKind.LeftmostFirst s (unit_at units i)).label)
+    -- what the first of them gives, and then the others
+    abbrev reads_first : Row → Option V → Option V
+    reads_first row rest =
+        option_or (option_or (first_given x (i + 1) (target (unit_at (read_in c) i) row))
+        (label_worth worth i (pattern_of row))) rest
+
+    first_reads : (q : ℕ) (qs : List ℕ) → Ready (q ∷ qs)
+        → first_given x i (q ∷ qs) ≡ reads_first (row_at nfa.rows q) (first_given x i qs)
+    first_reads q qs ready =
+        first_of-cons (λ p. given x p i) q qs
+        ∙ ap (λ v. option_or v (first_given x i qs))
+        (given_solves x q i ∙ row_reads holds i (row_at nfa.rows q) ready.0)
+
+    -- where no match is worth anything here, they give what their targets give
+    later_gives : ((k : ℕ) → worth k i ≡ None) → (qs : List ℕ) → Ready qs
+        → first_given x i qs ≡ first_given x (i + 1) (targets i qs)
+    later_gives none [] ready =
+        first_of-nil (λ (q : ℕ). given x q i) ∙ sym (first_of-nil (λ (q : ℕ). given x q (i + 1)))
+    later_gives none (q ∷ qs) ready =
+        let row = row_at nfa.rows q in
+        let on = target (unit_at (read_in c) i) row in
+        first_reads q qs ready
+        ∙ ap (λ v. option_or (option_or (first_given x (i + 1) on) v) (first_given x i qs))
+        (first_of-none (λ k. worth k i) (pattern_of row) none)
+        ∙ ap₂ option_or (or_none (first_given x (i + 1) on)) (later_gives none qs ready.1)
+        ∙ sym (first_of-append (λ p. given x p (i + 1)) on (targets i qs))
+
+    -- where nothing is given past this place, they give what their matches are worth
+    here_gives : ((q : ℕ) → given x q (i + 1) ≡ None) → (qs : List ℕ) → Ready qs
+        → first_given x i qs ≡ label_worth worth i (matched nfa.rows qs)
+    here_gives none [] ready = first_of-nil (λ (q : ℕ). given x q i) ∙ sym (first_of-nil (λ (k : ℕ). worth k i))
+    here_gives none (q ∷ qs) ready =
+        let row = row_at nfa.rows q in
+        let on = target (unit_at (read_in c) i) row in
+        first_reads q qs ready
+        ∙ ap (λ v. option_or (option_or v (label_worth worth i (pattern_of row))) (first_given x i qs))
+        (first_of-none (λ p. given x p (i + 1)) on none)
+        ∙ ap (option_or (label_worth worth i (pattern_of row))) (here_gives none qs ready.1)
+        ∙ sym (first_of-append (λ k. worth k i) (pattern_of row) (matched nfa.rows qs))
+
+    -- where every match is worth something here, what comes after the first match doesn't matter
+    abbrev Cut : List ℕ → List ℕ → Type 0
+    Cut qs left =
+        first_given x i qs
+        ≡ option_or (first_given x (i + 1) (targets i left)) (label_worth worth i (matched nfa.rows left))
+
+    cut_match : ((k : ℕ) → (v : V) × (worth k i ≡ Some v)) → (q : ℕ) (qs : List ℕ) → Ready (q ∷ qs)
+        → is_match_row (row_at nfa.rows q) ≡ true → Cut (q ∷ qs) (q ∷ [])
+    unfolding first_of
+    cut_match all q qs ready e =
+        let k = matched_row (row_at nfa.rows q) e in
+        let some = all k.0 in
+        first_reads q qs ready
+        ∙ ap (λ row. reads_first row (first_given x i qs)) k.1
+        ∙ ap (λ v. option_or (option_or v None) (first_given x i qs)) some.1
+        ∙ sym (ap (λ row. option_or (first_given x (i + 1) (target (unit_at (read_in c) i) row ++ []))
+        (label_worth worth i (pattern_of row ++ []))) k.1
+        ∙ ap (λ v. option_or v None) some.1)
+
+    cut_other : (q : ℕ) (qs left : List ℕ) → Ready (q ∷ qs) → is_match_row (row_at nfa.rows q) ≡ false
+        → Cut qs left → Cut (q ∷ qs) (q ∷ left)
+    cut_other q qs left ready e h =
+        let row = row_at nfa.rows q in
+        let on = target (unit_at (read_in c) i) row in
+        let none = unmatched_row row e in
+        first_reads q qs ready
+        ∙ ap (λ ks. option_or (option_or (first_given x (i + 1) on) (label_worth worth i ks)) (first_given x i qs)) none
+        ∙ ap (λ v. option_or (option_or (first_given x (i + 1) on) v) (first_given x i qs))
+        (first_of-nil (λ (k : ℕ). worth k i))
+        ∙ ap₂ option_or (or_none (first_given x (i + 1) on)) h
+        ∙ sym (or_assoc (first_given x (i + 1) on) (first_given x (i + 1) (targets i left))
+        (label_worth worth i (matched nfa.rows left)))
+        ∙ ap (λ v. option_or v (label_worth worth i (matched nfa.rows left)))
+        (sym (first_of-append (λ p. given x p (i + 1)) on (targets i left)))
+        ∙ ap (λ ks. option_or (first_given x (i + 1) (on ++ targets i left))
+        (label_worth worth i (ks ++ matched nfa.rows left))) (sym none)
+
+    cut_gives : ((k : ℕ) → (v : V) × (worth k i ≡ Some v)) → (qs : List ℕ) → Ready qs
+        → Cut qs (to_first_match nfa.rows qs)
+    unfolding to_first_match first_of
+    cut_gives all [] ready = refl
+    cut_gives all (q ∷ qs) ready =
+        by_test (is_match_row (row_at nfa.rows q))
+        (λ e. subst (Cut (q ∷ qs)) (sym (cut_here nfa.rows q qs e)) (cut_match all q qs ready e))
+        (λ e. subst (Cut (q ∷ qs)) (sym (cut_later nfa.rows q qs e))
+        (cut_other q qs (to_first_match nfa.rows qs) ready e (cut_gives all qs ready.1)))
+
+  -- ---- the step
+
+  -- Leftmost-first, where every match is worth something: what the state gives is what the next one gives one
+  -- place on, or else what its label is worth here.
+  pub step_gives : (i : ℕ) (s : State) → c.build.kind ≡ MatchKind.LeftmostFirst
+      → ((k : ℕ) → (v : V) × (worth k i ≡ Some v)) → StandsAt c s i
+      → first_given (valued c worth) i s.rows
+      ≡ option_or (first_given (valued c worth) (i + 1) (step_at c s i).rows)
+      (label_worth worth i (step_at c s i).label)
   unfolding step
-  step_gives i all s at =
-      let u = unit_at units i in
-      let holds : Look → Bool = λ look. holds_read nfa.backward look s.context (unit_facts nfa.terminator u) in
-      let qs = settled nfa u s in
-      let rows = to_first_match nfa.rows qs in
-      sym (settled_gives i s at)
-      ∙ cut_gives holds i all qs (closed_ready nfa.rows (Passing.Tested holds) s.rows)
-      ∙ ap (λ v. option_or v (label_worth worth i (matched rows))) (sym (state_gives (targets u rows) (unit_facts nfa.terminator u) (matched rows) (i + 1)))
+  step_gives i s leftmost all at =
+      let u = unit_at (read_in c) i in
+      let holds = holds_before nfa u s in
+      let qs = decided_rows nfa u s in
+      let left : to_first_match nfa.rows qs ≡ cut c.build.kind nfa.rows qs
+      = ap (λ kind. cut kind nfa.rows qs) (sym leftmost) in
+      let rows = cut c.build.kind nfa.rows qs in
+      sym (decided_gives c worth i s at)
+      ∙ subst (Cut holds i qs) left (cut_gives holds i all qs (closed_ready nfa.rows (Passing.Tested holds) s.rows))
+      ∙ ap (λ v. option_or v (label_worth worth i (matched nfa.rows rows)))
+      (sym (state_gives c worth (targets i rows) (unit_facts nfa.line_terminator u) (matched nfa.rows rows) (i + 1)))
+
+  -- Where no match is worth anything here and nothing is cut, it is what the next one gives.
+  pub step_later : (i : ℕ) (s : State) → CutsNothing c.build.nfa c.build.kind s (unit_at (read_in c) i)
+      → ((k : ℕ) → worth k i ≡ None) → StandsAt c s i
+      → first_given (valued c worth) (i + 1) (step_at c s i).rows ≡ first_given (valued c worth) i s.rows
+  unfolding step
+  step_later i s whole none at =
+      let u = unit_at (read_in c) i in
+      let holds = holds_before nfa u s in
+      let qs = decided_rows nfa u s in
+      let rows = cut c.build.kind nfa.rows qs in
+      state_gives c worth (targets i rows) (unit_facts nfa.line_terminator u) (matched nfa.rows rows) (i + 1)
+      ∙ ap (λ l. first_given x (i + 1) (targets i l)) whole
+      ∙ sym (later_gives holds i none qs (closed_ready nfa.rows (Passing.Tested holds) s.rows))
+      ∙ decided_gives c worth i s at
+
+  -- Where nothing is given past this place, it is what the rows match.
+  pub step_here : (i : ℕ) (s : State) → ((q : ℕ) → given (valued c worth) q (i + 1) ≡ None) → StandsAt c s i
+      → first_given (valued c worth) i s.rows
+      ≡ label_worth worth i (matched c.build.nfa.rows (decided_rows c.build.nfa (unit_at (read_in c) i) s))
+  step_here i s none at =
+      let holds = holds_before nfa (unit_at (read_in c) i) s in
+      let qs = decided_rows nfa (unit_at (read_in c) i) s in
+      sym (decided_gives c worth i s at)
+      ∙ here_gives holds i none qs (closed_ready nfa.rows (Passing.Tested holds) s.rows)

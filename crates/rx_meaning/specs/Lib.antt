@@ -1,4 +1,9 @@
+-- what a forward search finds, what a search in reverse finds, and that both together find the match
+pub mod Preference
 pub mod Mirrored
 pub mod Joined
-pub mod Preference
-pub mod Shallow
+-- tables that give builds, and where the answers of searches lie
+pub mod Tables
+pub mod Bounds
+-- how few rows a table can have
+pub mod Least

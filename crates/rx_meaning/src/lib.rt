@@ -4,12 +4,16 @@
 //! theorems are about the powerset machines of lists of expressions, before any table, class or id is
 //! made of them, so whatever gives the labels of such a machine inherits them. Start with
 //! [`preference`]: what a search forward finds. [`mirrored`] says what a search in reverse finds, and
-//! [`joined`] that the two together find the match.
+//! [`joined`] that the two together find the match. [`tables`] carries this to tables that give a build,
+//! and to any two tables that tell the same; [`bounds`] says where answers lie and what they depend on,
+//! and [`least`] how few rows a table can have.
 #![tactic(auto)]
 
+pub mod bounds;
 pub mod joined;
+pub mod least;
 pub mod mirrored;
-pub mod shallow;
+pub mod tables;
 
 ghost use Rattle.rx_meaning.specs.Preference.{Preference};
 

@@ -1,12 +1,6 @@
-//! Mirrored search: what is read backward is what was read forward.
+//! Mirrored search: what is read in reverse is what was read forward.
 
-ghost use Rattle.rx_meaning.specs.Mirrored.{MirroredEnds, MirroredSearch, StartOfEnd};
-
-/// An expression matches from one place to another exactly where its mirror, read backward, matches
-/// from the second to the first.
-pub fn mirrored_ends()
-    ensures { MirroredEnds }
-{}
+ghost use Rattle.rx_meaning.specs.Mirrored.{MirroredSearch, StartOfEnd};
 
 /// An anchored search in reverse, of the kind `All`, tells the least start in the span of a match that
 /// ends where the span ends, and there the lowest pattern.

@@ -5,58 +5,58 @@ use Rattle.std.specs.List.{flat_map}
 use Rattle.std.proofs.lemmas.List.Sums.{sum_by-cons}
 use Rattle.rx_spec.specs.Rows.{Row}
 use Rattle.rx_spec.specs.States.{row_at, Passing, Standing, Tested, reach_by, reach, closure}
-use Rattle.rx_spec.specs.Shallow.{AllBehind, Short, IsShallow}
+use Rattle.rx_spec.specs.Shallow.{AllNext, Short, IsShallow}
 use Rattle.rx_powerset.specs.Closing.{own_by, ways_by}
 use Rattle.rx_powerset.proofs.Search.{Graph}
 
 reach_parts : (pass : Passing) (behind : ℕ → List ℕ) (q : ℕ) (row : Row) → reach_by pass behind q row ≡ own_by pass q row ++ flat_map behind (ways_by pass row)
 reach_parts pass behind q (Row.Bytes set next) = refl
 reach_parts pass behind q (Row.Split first second) = ap (λ l. behind first ++ l) (sym (append-nil (behind second)))
-reach_parts Standing behind q (Row.Assert look next) = refl
-reach_parts (Tested holds) behind q (Row.Assert look next) = elim (holds look) as (λ v. (if v then behind next else []) ≡ flat_map behind (if v then next ∷ [] else [])) [ true ↦ sym (append-nil (behind next)) | false ↦ refl ]
-reach_parts pass behind q (Row.Accept pattern) = refl
+reach_parts Standing behind q (Row.Look look next) = refl
+reach_parts (Tested holds) behind q (Row.Look look next) = elim (holds look) as (λ v. (if v then behind next else []) ≡ flat_map behind (if v then next ∷ [] else [])) [ true ↦ sym (append-nil (behind next)) | false ↦ refl ]
+reach_parts pass behind q (Row.Match pattern) = refl
 reach_parts pass behind q Row.Fail = refl
 
 pub own_either : (pass : Passing) (q : ℕ) (row : Row) → (own_by pass q row ≡ []) ⊎ (own_by pass q row ≡ q ∷ [])
 own_either pass q (Row.Bytes set next) = inr refl
 own_either pass q (Row.Split first second) = inl refl
-own_either Standing q (Row.Assert look next) = inr refl
-own_either (Tested holds) q (Row.Assert look next) = inl refl
-own_either pass q (Row.Accept pattern) = inr refl
+own_either Standing q (Row.Look look next) = inr refl
+own_either (Tested holds) q (Row.Look look next) = inl refl
+own_either pass q (Row.Match pattern) = inr refl
 own_either pass q Row.Fail = inl refl
 
 -- how many rows the paths from a row that read nothing meet, each as often as a path does
 abbrev weight_by : (ℕ → ℕ) → Row → ℕ
 weight_by behind (Row.Bytes set next) = 1
 weight_by behind (Row.Split first second) = 1 + behind first + behind second
-weight_by behind (Row.Assert look next) = 1 + behind next
-weight_by behind (Row.Accept pattern) = 1
+weight_by behind (Row.Look look next) = 1 + behind next
+weight_by behind (Row.Match pattern) = 1
 weight_by behind Row.Fail = 1
 
 unfoldable pub weight_within : List Row → ℕ → ℕ → ℕ
 weight_within rows zero q = 0
 weight_within rows (suc n) q = weight_by (λ p. weight_within rows n p) (row_at rows q)
 
-reach_same : (pass : Passing) (f g : ℕ → List ℕ) (q : ℕ) (row : Row) → AllBehind (λ p. f p ≡ g p) row → reach_by pass f q row ≡ reach_by pass g q row
+reach_same : (pass : Passing) (f g : ℕ → List ℕ) (q : ℕ) (row : Row) → AllNext (λ p. f p ≡ g p) row → reach_by pass f q row ≡ reach_by pass g q row
 reach_same pass f g q (Row.Bytes set next) h = refl
 reach_same pass f g q (Row.Split first second) h = ap₂ (λ a b. a ++ b) h.0 h.1
-reach_same Standing f g q (Row.Assert look next) h = refl
-reach_same (Tested holds) f g q (Row.Assert look next) h = ap (λ l. if holds look then l else []) h
-reach_same pass f g q (Row.Accept pattern) h = refl
+reach_same Standing f g q (Row.Look look next) h = refl
+reach_same (Tested holds) f g q (Row.Look look next) h = ap (λ l. if holds look then l else []) h
+reach_same pass f g q (Row.Match pattern) h = refl
 reach_same pass f g q Row.Fail h = refl
 
-weight_same : (f g : ℕ → ℕ) (row : Row) → AllBehind (λ p. f p ≡ g p) row → weight_by f row ≡ weight_by g row
+weight_same : (f g : ℕ → ℕ) (row : Row) → AllNext (λ p. f p ≡ g p) row → weight_by f row ≡ weight_by g row
 weight_same f g (Row.Bytes set next) h = refl
 weight_same f g (Row.Split first second) h = ap₂ (λ a b. 1 + a + b) h.0 h.1
-weight_same f g (Row.Assert look next) h = ap (λ n. 1 + n) h
-weight_same f g (Row.Accept pattern) h = refl
+weight_same f g (Row.Look look next) h = ap (λ n. 1 + n) h
+weight_same f g (Row.Match pattern) h = refl
 weight_same f g Row.Fail h = refl
 
-behind_each : (P Q : ℕ → Type 0) → ((p : ℕ) → P p → Q p) → (row : Row) → AllBehind P row → AllBehind Q row
+behind_each : (P Q : ℕ → Type 0) → ((p : ℕ) → P p → Q p) → (row : Row) → AllNext P row → AllNext Q row
 behind_each P Q f (Row.Bytes set next) h = tt
 behind_each P Q f (Row.Split first second) h = (f first h.0, f second h.1)
-behind_each P Q f (Row.Assert look next) h = f next h
-behind_each P Q f (Row.Accept pattern) h = tt
+behind_each P Q f (Row.Look look next) h = f next h
+behind_each P Q f (Row.Match pattern) h = tt
 behind_each P Q f Row.Fail h = tt
 
 -- one step more reaches nothing new, and adds no weight, where paths are short
@@ -90,13 +90,13 @@ none_lighter w n h = let z : sum_by w [] ≡ 0 = sum_of_none w in omega arith
 ways_lighter : (pass : Passing) (w : ℕ → ℕ) (row : Row) → sum_by w (ways_by pass row) < weight_by w row
 ways_lighter pass w (Row.Bytes set next) = none_lighter w 1 (omega arith)
 ways_lighter pass w (Row.Split first second) = let e : sum_by w (first ∷ second ∷ []) ≡ w first + w second = sum_of_two w first second in omega arith
-ways_lighter Standing w (Row.Assert look next) = none_lighter w (1 + w next) (omega arith)
-ways_lighter (Tested holds) w (Row.Assert look next) =
+ways_lighter Standing w (Row.Look look next) = none_lighter w (1 + w next) (omega arith)
+ways_lighter (Tested holds) w (Row.Look look next) =
     elim (holds look) as (λ v. sum_by w (if v then next ∷ [] else []) < 1 + w next) [
       | true ↦ let e : sum_by w (next ∷ []) ≡ w next = sum_of_one w next in omega arith
       | false ↦ none_lighter w (1 + w next) (omega arith)
     ]
-ways_lighter pass w (Row.Accept pattern) = none_lighter w 1 (omega arith)
+ways_lighter pass w (Row.Match pattern) = none_lighter w 1 (omega arith)
 ways_lighter pass w Row.Fail = none_lighter w 1 (omega arith)
 
 -- as many steps as a closure takes

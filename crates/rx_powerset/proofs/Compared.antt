@@ -43,15 +43,15 @@ list_itself xs = tied_itself nat_list_cmp_total xs
 
 facts_tied : (x y : Facts) → is_eq (facts_rank x y) ≡ true → x ≡ y
 facts_tied x y h =
-    let a = then_both (bool_cmp x.text y.text) (ordering_then (bool_cmp x.terminator y.terminator) (ordering_then (bool_cmp x.lf y.lf) (ordering_then (bool_cmp x.cr y.cr) (bool_cmp x.word y.word)))) h in
-    let b = then_both (bool_cmp x.terminator y.terminator) (ordering_then (bool_cmp x.lf y.lf) (ordering_then (bool_cmp x.cr y.cr) (bool_cmp x.word y.word))) a.1 in
+    let a = then_both (bool_cmp x.text y.text) (ordering_then (bool_cmp x.line_terminator y.line_terminator) (ordering_then (bool_cmp x.lf y.lf) (ordering_then (bool_cmp x.cr y.cr) (bool_cmp x.word y.word)))) h in
+    let b = then_both (bool_cmp x.line_terminator y.line_terminator) (ordering_then (bool_cmp x.lf y.lf) (ordering_then (bool_cmp x.cr y.cr) (bool_cmp x.word y.word))) a.1 in
     let c = then_both (bool_cmp x.lf y.lf) (ordering_then (bool_cmp x.cr y.cr) (bool_cmp x.word y.word)) b.1 in
     let d = then_both (bool_cmp x.cr y.cr) (bool_cmp x.word y.word) c.1 in
-    ap (λ (v : Bool). record { text = v; terminator = x.terminator; lf = x.lf; cr = x.cr; word = x.word }) (bool_tied x.text y.text a.0)
-    ∙ ap (λ (v : Bool). record { text = y.text; terminator = v; lf = x.lf; cr = x.cr; word = x.word }) (bool_tied x.terminator y.terminator b.0)
-    ∙ ap (λ (v : Bool). record { text = y.text; terminator = y.terminator; lf = v; cr = x.cr; word = x.word }) (bool_tied x.lf y.lf c.0)
-    ∙ ap (λ (v : Bool). record { text = y.text; terminator = y.terminator; lf = y.lf; cr = v; word = x.word }) (bool_tied x.cr y.cr d.0)
-    ∙ ap (λ (v : Bool). record { text = y.text; terminator = y.terminator; lf = y.lf; cr = y.cr; word = v }) (bool_tied x.word y.word d.1)
+    ap (λ (v : Bool). record { text = v; line_terminator = x.line_terminator; lf = x.lf; cr = x.cr; word = x.word }) (bool_tied x.text y.text a.0)
+    ∙ ap (λ (v : Bool). record { text = y.text; line_terminator = v; lf = x.lf; cr = x.cr; word = x.word }) (bool_tied x.line_terminator y.line_terminator b.0)
+    ∙ ap (λ (v : Bool). record { text = y.text; line_terminator = y.line_terminator; lf = v; cr = x.cr; word = x.word }) (bool_tied x.lf y.lf c.0)
+    ∙ ap (λ (v : Bool). record { text = y.text; line_terminator = y.line_terminator; lf = y.lf; cr = v; word = x.word }) (bool_tied x.cr y.cr d.0)
+    ∙ ap (λ (v : Bool). record { text = y.text; line_terminator = y.line_terminator; lf = y.lf; cr = y.cr; word = v }) (bool_tied x.word y.word d.1)
 
 facts_itself : (x : Facts) → facts_rank x x ≡ Equal
 facts_itself x = simp bool_itself

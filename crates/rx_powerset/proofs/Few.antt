@@ -5,10 +5,10 @@ use Rattle.std.proofs.lemmas.Map.Steps.{length-le_from_distinct_below}
 use Rattle.std.specs.List.{flat_map, IsDistinct, AllByRecursion as Every}
 use Rattle.std.specs.Prelude.{Contains}
 use Rattle.rx_spec.specs.Rows.{Row}
-use Rattle.rx_spec.specs.States.{row_at, is_accept, to_first_match, cut, pattern_of, firsts}
+use Rattle.rx_spec.specs.States.{row_at, is_match_row, to_first_match, cut, pattern_of, firsts}
 use Rattle.rx_spec.specs.declared.MatchKind.{MatchKind}
-use Rattle.rx_spec.proofs.Every.{every-append}
-use Rattle.rx_spec.proofs.Firsts.{Contains-here, Contains-there, Apart, Apart-fresh}
+use Rattle.rx_lemmas.proofs.Every.{every-append}
+use Rattle.rx_lemmas.proofs.Firsts.{Contains-here, Contains-there, Apart, Apart-fresh}
 use Rattle.rx_powerset.proofs.Search.{In, in_nil, in_cases}
 
 apart_each : (x : ℕ) (xs : List ℕ) → (Contains xs x → ⊥) → Every (λ y. (x == y) ≡ false) xs
@@ -39,7 +39,7 @@ unfolding to_first_match
 first_few rows [] = omega arith
 first_few rows (x ∷ xs) =
     let h : length (to_first_match rows xs) ≤ length xs = first_few rows xs in
-    elim (is_accept (row_at rows x)) as (λ v. length (if v then x ∷ [] else (x ∷ to_first_match rows xs)) ≤ suc (length xs)) [ true ↦ omega arith | false ↦ omega arith ]
+    elim (is_match_row (row_at rows x)) as (λ v. length (if v then x ∷ [] else (x ∷ to_first_match rows xs)) ≤ suc (length xs)) [ true ↦ omega arith | false ↦ omega arith ]
 
 cut_few : (kind : MatchKind) (rows : List Row) (xs : List ℕ) → length (cut kind rows xs) ≤ length xs
 cut_few MatchKind.All rows xs = omega arith
@@ -48,8 +48,8 @@ cut_few MatchKind.LeftmostFirst rows xs = first_few rows xs
 pattern_few : (row : Row) → length (pattern_of row) ≤ 1
 pattern_few (Row.Bytes set next) = omega arith
 pattern_few (Row.Split first second) = omega arith
-pattern_few (Row.Assert look next) = omega arith
-pattern_few (Row.Accept pattern) = omega arith
+pattern_few (Row.Look look next) = omega arith
+pattern_few (Row.Match pattern) = omega arith
 pattern_few Row.Fail = omega arith
 
 patterns_few : (rows : List Row) (xs : List ℕ) → length (flat_map (λ q. pattern_of (row_at rows q)) xs) ≤ length xs

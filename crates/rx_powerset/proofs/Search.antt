@@ -5,8 +5,8 @@ use Rattle.std.proofs.lemmas.Bool.{or_left, or_right, or_cases, eqb-true, eq-eqb
 use Rattle.std.proofs.lemmas.List.Sums.{sum_by-append, sum_by-cons}
 use Rattle.std.specs.List.{flat_map, list_any, AllByRecursion as Every}
 use Rattle.rx_spec.specs.States.{fresh}
-use Rattle.rx_spec.proofs.Every.{every-append, every-weaker, flat_map-append_of}
-use Rattle.rx_spec.proofs.Firsts.{fresh_alike}
+use Rattle.rx_lemmas.proofs.Every.{every-append, every-weaker, flat_map-append_of}
+use Rattle.rx_lemmas.proofs.Firsts.{fresh_alike}
 
 -- membership, as the test that computes it
 abbrev pub In : List ℕ → ℕ → Type 0

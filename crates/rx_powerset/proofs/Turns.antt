@@ -6,7 +6,7 @@ use Rattle.std.proofs.Common.{arith}
 use Rattle.std.specs.BTreeSet.{BTreeSet, contains, Updates}
 use Rattle.std.specs.BTreeMap.{is_at}
 use Rattle.std.specs.Ordering.{nat_cmp}
-use Rattle.rx_spec.proofs.Firsts.{by_test}
+use Rattle.rx_lemmas.proofs.Firsts.{by_test}
 use Rattle.rx_powerset.proofs.Search.{Graph, Searching, search_passes, search_turns, search_renamed, search_ends, passes_falls, turns_falls}
 
 -- the last of the stack is the first of those that wait

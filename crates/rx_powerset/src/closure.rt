@@ -7,7 +7,7 @@ ghost use Rattle.rx_spec.specs.States.{row_at, closure, firsts};
 ghost use Rattle.rx_expr.specs.Nfa.{meaning, row_of};
 ghost use Rattle.rx_powerset.specs.Closing.{own_by, ways_by, passing_of};
 
-use rx_base::{Facts, Look, StateID};
+use rx_base::{Direction, Facts, Look, StateID};
 use rx_expr::thompson::{NFA, Row};
 use std::alloc::{AllocError, Global};
 use std::collections::BTreeSet;
@@ -21,7 +21,7 @@ pub(crate) enum Passing {
     Tested {
         last: Facts,
         next: Facts,
-        reverse: bool,
+        direction: Direction,
     },
 }
 
@@ -38,13 +38,12 @@ pub(crate) fn row_at(nfa: &NFA, id: StateID) -> Row
 }
 
 /// Whether an assertion holds, in the order of reading.
-fn holds(look: Look, last: Facts, next: Facts, reverse: bool) -> bool
-    ensures { result ≡ holds_read reverse look last next }
+fn holds(look: Look, last: Facts, next: Facts, direction: Direction) -> bool
+    ensures { result ≡ holds_read direction look last next }
 {
-    if reverse {
-        Facts::decide(look, next, last)
-    } else {
-        Facts::decide(look, last, next)
+    match direction {
+        Direction::Forward => Facts::decide(look, last, next),
+        Direction::Reverse => Facts::decide(look, next, last),
     }
 }
 
@@ -94,9 +93,9 @@ fn visit(
             Passing::Tested {
                 last,
                 next,
-                reverse,
+                direction,
             } => {
-                if holds(look, last, next, reverse) {
+                if holds(look, last, next, direction) {
                     waiting.push(behind)?;
                 }
             }

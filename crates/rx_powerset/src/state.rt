@@ -2,10 +2,10 @@
 
 ghost use Rattle.std.specs.Prelude.{◌≡◌, ◌++◌, ◌<◌, ◌≤◌, IfOk, OnOk, length, slice_index};
 ghost use Rattle.std.specs.List.{flat_map, list_any};
-ghost use Rattle.rx_spec.specs.States.{dead_state, start_state, step, state_at, row_at, cut, to_first_match, is_assert, is_accept, pattern_of, target};
+ghost use Rattle.rx_spec.specs.States.{dead_state, start_state, step, state_at, row_at, cut, to_first_match, is_look_row, is_match_row, pattern_of, target};
+ghost use Rattle.rx_spec.specs.Builds.{is_dead_state};
 ghost use Rattle.rx_spec.specs.Sizes.{state_size};
 ghost use Rattle.rx_spec.specs.Bytes.{contains};
-ghost use Rattle.rx_base.specs.ByteSet.{set_of};
 ghost use Rattle.rx_base.specs.Unit.{unit_number};
 ghost use Rattle.rx_expr.specs.Nfa.{meaning};
 
@@ -71,7 +71,7 @@ impl PowerState {
         let passing = Passing::Tested {
             last: self.context,
             next: known,
-            reverse: nfa.is_reverse(),
+            direction: nfa.direction(),
         };
         let settled = closed(alloc, nfa, &self.rows, &passing)?;
         let going = cut(nfa, kind, &settled);
@@ -112,6 +112,14 @@ impl PowerState {
         8 + 4 * self.rows.len() as u64 + 4 * self.label.len() as u64
     }
 
+    /// Whether nothing goes on and nothing matched: whatever is read, no match is told any more.
+    #[inline]
+    pub fn is_dead(&self) -> bool
+        ensures { result ≡ is_dead_state (state_of self.now) }
+    {
+        self.rows.is_empty() && self.label.is_empty()
+    }
+
     /// How many patterns matched.
     pub fn pattern_len(&self) -> usize
         ensures { result ≡ length (state_of self.now).label }
@@ -130,13 +138,13 @@ impl PowerState {
 
 /// Whether some of the rows is an assertion.
 fn has_look(nfa: &NFA, rows: &[StateID]) -> bool
-    ensures { result ≡ list_any (λ q. is_assert (row_at (meaning nfa.now).rows q)) rows.now }
+    ensures { result ≡ list_any (λ q. is_look_row (row_at (meaning nfa.now).rows q)) rows.now }
 {
     rows.iter().any(|id| is_look(nfa, *id))
 }
 
 fn is_look(nfa: &NFA, id: StateID) -> bool
-    ensures { result ≡ is_assert (row_at (meaning nfa.now).rows id) }
+    ensures { result ≡ is_look_row (row_at (meaning nfa.now).rows id) }
 {
     match row_at(nfa, id) {
         Row::Look { .. } => true,
@@ -145,7 +153,7 @@ fn is_look(nfa: &NFA, id: StateID) -> bool
 }
 
 fn is_match(nfa: &NFA, id: StateID) -> bool
-    ensures { result ≡ is_accept (row_at (meaning nfa.now).rows id) }
+    ensures { result ≡ is_match_row (row_at (meaning nfa.now).rows id) }
 {
     match row_at(nfa, id) {
         Row::Match { .. } => true,
@@ -231,7 +239,7 @@ fn add_target(
 
 /// Whether a unit is in a set; the end mark is in none.
 fn reads(set: &ByteSet, unit: Unit) -> bool
-    ensures { result ≡ contains (set_of set.now) (unit_number unit) }
+    ensures { result ≡ contains set.now (unit_number unit) }
 {
     match unit {
         Unit::Byte(byte) => set.contains(byte),

@@ -1,6 +1,7 @@
+pub mod Cases
 pub mod Places
 pub mod Grouping
-pub mod Cells
+pub mod ColumnsOf
 pub mod Splitting
 pub mod Halving
 pub mod Marking
@@ -11,7 +12,6 @@ pub mod Cost
 pub mod Labels
 pub mod Keying
 pub mod Rounds
-pub mod Room
 pub mod Counting
 pub mod Voting
 pub mod Numbering

@@ -7,7 +7,6 @@ use Rattle.std.proofs.lemmas.Bool.{cases_Bool, cases_eq, cases_lt, lt-leb}
 use Rattle.std.proofs.lemmas.List.Folds.{list_any_at}
 use Rattle.std.proofs.lemmas.List.{get_or_default}
 use Rattle.std.proofs.lemmas.Map.Views.{Contains-from_any}
-use Rattle.rx_spec.specs.Machines.{run}
 use Rattle.rx_refine.specs.Keys.{next_key, TakesAll}
 use Rattle.rx_refine.specs.Moves.{Moves, AreMoves, next_row, IsWord, label_after, BehaveAlike, AreToldApart}
 use Rattle.rx_refine.specs.Parts.{Parts, IsPartition, Refines, SplitsBy, block_of, is_in}
@@ -16,11 +15,9 @@ use Rattle.rx_refine.proofs.Splitting.{alone}
 
 -- ---- words
 label_after-cons : (m : Moves) (labels : List ℕ) (x unit : ℕ) (word : List ℕ) → label_after m labels x (unit ∷ word) ≡ label_after m labels (next_row m x unit) word
-unfolding run
 label_after-cons m labels x unit word = refl
 
 pub label_after-nil : (m : Moves) (labels : List ℕ) (x : ℕ) → label_after m labels x [] ≡ get_or labels x 0
-unfolding run
 label_after-nil m labels x = refl
 
 IsWord-cons : (m : Moves) (unit : ℕ) (word : List ℕ) → unit < m.units → IsWord m word → IsWord m (unit ∷ word)

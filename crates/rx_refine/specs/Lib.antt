@@ -1,5 +1,6 @@
 pub mod Moves
 pub mod Places
+pub mod Layouts
 pub mod Groups
 pub mod Parts
 pub mod Kept

@@ -1,7 +1,6 @@
 -- Tables of rows, the rows that behave alike in one, and words that tell two rows apart.
-use Rattle.std.specs.Prelude.{ℕ, ◌≡◌, ◌↔◌, ◌≢◌, ◌<◌, ◌≤◌, ◌+◌, ◌*◌, ◌^◌, List, [], length, slice_index, slice_index_or, Contains}
+use Rattle.std.specs.Prelude.{ℕ, ◌≡◌, ◌↔◌, ◌≢◌, ◌<◌, ◌≤◌, ◌+◌, ◌*◌, ◌^◌, List, [], length, slice_index, slice_index_or, fold, Contains}
 use Rattle.std.specs.Int.Digits.{digits_of}
-use Rattle.rx_spec.specs.Machines.{run}
 use Rattle.rx_refine.specs.Places.{places_of}
 
 -- A table: so many rows, so many units, and for each unit the next row of each row.
@@ -27,19 +26,17 @@ pub record AreMoves (m : Moves) : Type 0 where
   pub lengths : (unit : ℕ) → 0 < m.rows → unit < m.units → length (column m unit) ≡ m.rows
   pub nexts : (row unit : ℕ) → row < m.rows → unit < m.units → next_row m row unit < m.rows
 
--- the first columns of a table whose cells are given row by row
-pub record AreColumns (rows units : ℕ) (next : List ℕ) (n : ℕ) (columns : List (List ℕ)) : Type 0 where
-  pub count : length columns ≡ n
-  pub lengths : (unit : ℕ) → unit < n → length (slice_index_or columns unit []) ≡ rows
-  pub cells : (row unit : ℕ) → row < rows → unit < n → slice_index (slice_index_or columns unit []) row ≡ slice_index next (row * units + unit)
-
 -- a word of units
 abbrev pub IsWord : Moves → List ℕ → Type 0
 IsWord m word = (unit : ℕ) → Contains word unit → unit < m.units
 
+-- the row to which a word leads
+abbrev pub row_after : Moves → ℕ → List ℕ → ℕ
+row_after m row word = fold (next_row m) row word
+
 -- the label of the row to which a word leads
 abbrev pub label_after : Moves → List ℕ → ℕ → List ℕ → ℕ
-label_after m labels row word = slice_index labels (run (next_row m) row word)
+label_after m labels row word = slice_index labels (row_after m row word)
 
 -- every word leads from both rows to rows with equal labels
 abbrev pub BehaveAlike : Moves → List ℕ → ℕ → ℕ → Type 0

@@ -1,8 +1,9 @@
-//! The columns of a table that is given row by row.
+//! The columns of a table: for each unit the rows to which it leads.
 
 ghost use Rattle.std.specs.Prelude.{◌≡◌, ℕ, ◌+◌, ◌*◌, ◌<◌, ◌≤◌, [], ◌++◌, length, slice_index, slice_index_or, slice_range, IfOk, OnOk};
-ghost use Rattle.rx_refine.specs.Moves.{AreColumns};
+ghost use Rattle.rx_refine.specs.Layouts.{AreColumns};
 
+use crate::table::Table;
 use std::alloc::{AllocError, Global};
 use std::marker::Model;
 
@@ -57,16 +58,12 @@ impl Column {
     }
 }
 
-/// The columns of the table whose cell for row `row` and unit `unit` is `next[row * units + unit]`.
-pub(crate) fn columns_of(
-    alloc: Global,
-    rows: usize,
-    units: usize,
-    next: &[u32],
-) -> Result<Vec<Column>, AllocError>
-    requires cells { length next.now ≡ rows * units }
-    ensures { IfOk result (λ columns. AreColumns rows units next.now units columns.items) }
+/// For each unit the rows to which it leads.
+pub(crate) fn columns_of(alloc: Global, table: &Table<'_>) -> Result<Vec<Column>, AllocError>
+    ensures { IfOk result (λ columns. AreColumns table.now table.now.rows columns.items) }
 {
+    let rows = table.rows();
+    let units = table.units();
     let mut columns = empty_columns(alloc, rows, units)?;
     let most = rows_at_once(units).min(rows);
     let mut room = vec![in alloc; 0; most * units]?;
@@ -74,8 +71,7 @@ pub(crate) fn columns_of(
     let mut first = 0;
     while first < rows {
         let count = most.min(rows - first);
-        let cells = &next[first * units..(first + count) * units];
-        transpose(count, units, cells, transposed);
+        table.transpose(first, count, transposed);
         add_cells(count, transposed, &mut columns)?;
         first += count;
     }
@@ -101,19 +97,6 @@ fn empty_columns(alloc: Global, rows: usize, units: usize) -> Result<Vec<Column>
         columns.push(Column::with_capacity(alloc, rows)?)?;
     }
     Ok(columns)
-}
-
-/// Copies the cells of a table, which stand row after row, so that they stand column after column.
-fn transpose(rows: usize, units: usize, cells: &[u32], transposed: &mut [u32])
-    requires cells { length cells.now ≡ rows * units }
-    requires room { rows * units ≤ length transposed.old }
-    ensures { (row unit : ℕ) → row < rows → unit < units → slice_index transposed.new (unit * rows + row) ≡ slice_index cells.now (row * units + unit) }
-{
-    for row in 0..rows {
-        for unit in 0..units {
-            transposed[unit * rows + row] = cells[row * units + unit];
-        }
-    }
 }
 
 /// Adds so many cells to each column. They stand in `transposed`, column after column.

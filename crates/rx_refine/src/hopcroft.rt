@@ -11,7 +11,7 @@ ghost use Rattle.rx_refine.specs.Keys.{waiting_reads, TakesAll};
 use crate::keys::read_keys;
 use crate::lists::Incoming;
 use crate::partition::Partition;
-use rx_base::Steps;
+use rx_steps::Steps;
 use std::alloc::{AllocError, Global};
 
 /// For each row the number of its block. Two rows are in one block exactly where they behave alike for

@@ -7,7 +7,7 @@ ghost use Rattle.rx_refine.specs.Keys.{waiting_reads, AreNextKeys};
 
 use crate::lists::Incoming;
 use crate::numbers::clear;
-use rx_base::Steps;
+use rx_steps::Steps;
 
 /// Puts into `keys` the block into which the unit leads each row, and 0 where that is a block below
 /// `taken`. The lists of the rows in the other blocks are read, in the order of the rows.

@@ -17,14 +17,16 @@ mod columns;
 mod groups;
 mod hopcroft;
 mod keys;
+pub mod laws;
 mod lists;
 mod numbers;
 mod partition;
 #[cfg(test)]
 mod plain;
+mod table;
 #[cfg(test)]
 mod tests;
 
 pub use hopcroft::refine;
 pub use lists::Incoming;
-pub use rx_base::Steps;
+pub use rx_steps::Steps;

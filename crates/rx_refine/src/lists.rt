@@ -1,11 +1,13 @@
 //! The lists of rows that lead to a row.
 
-ghost use Rattle.std.specs.Prelude.{◌≡◌, ℕ, ◌+◌, ◌-◌, ◌*◌, ◌<◌, ◌≤◌, ◌^◌, length, slice_index, All, IfOk};
-ghost use Rattle.rx_refine.specs.Moves.{Moves, AreMoves, sources, next_row, AreColumns};
+ghost use Rattle.std.specs.Prelude.{◌≡◌, ℕ, ◌+◌, ◌-◌, ◌*◌, ◌/◌, ◌<◌, ◌≤◌, ◌^◌, length, slice_index, All, IfOk};
+ghost use Rattle.rx_refine.specs.Layouts.{AreColumns, next_at};
+ghost use Rattle.rx_refine.specs.Moves.{Moves, AreMoves, sources, next_row};
 
 use crate::columns::columns_of;
 use crate::groups::Groups;
-use rx_base::Steps;
+use crate::table::Table;
+use rx_steps::Steps;
 use std::alloc::{AllocError, Global};
 use std::marker::{Model, PhantomData};
 
@@ -49,14 +51,49 @@ impl<L> Incoming<L> {
         ensures next { IfOk result (λ incoming. (row unit : ℕ) → row < rows → unit < units → next_row incoming row unit ≡ slice_index next.now (row * units + unit)) }
         ensures moves { IfOk result AreMoves }
     {
+        Incoming::from_table(alloc, &Table::from_rows(rows, units, next))
+    }
+
+    /// The lists of a dense table, read where it lies: its rows are `1 << stride2` entries apart, and unit
+    /// `unit` leads from row `row` to the row with the identifier `table[(row << stride2) + unit]`, which
+    /// is the row's number, shifted left by `stride2`. What stands behind the entries of a row's units is
+    /// not read.
+    pub fn from_ids(
+        alloc: Global,
+        rows: usize,
+        units: usize,
+        stride2: usize,
+        table: &[u32],
+    ) -> Result<Incoming<L>, AllocError>
+        requires few { rows ≤ 2 ^ 31 }
+        requires stride { stride2 ≤ 30 }
+        requires units { units ≤ 2 ^ stride2 }
+        requires cells { rows * 2 ^ stride2 ≤ length table.now }
+        requires ids { (row unit : ℕ) → row < rows → unit < units → slice_index table.now (row * 2 ^ stride2 + unit) / 2 ^ stride2 < rows }
+        ensures rows { IfOk result (λ incoming. incoming.rows ≡ rows) }
+        ensures units { IfOk result (λ incoming. incoming.units ≡ units) }
+        ensures next { IfOk result (λ incoming. (row unit : ℕ) → row < rows → unit < units → next_row incoming row unit ≡ slice_index table.now (row * 2 ^ stride2 + unit) / 2 ^ stride2) }
+        ensures moves { IfOk result AreMoves }
+    {
+        Incoming::from_table(alloc, &Table::from_ids(rows, units, stride2, table))
+    }
+
+    /// The lists of a table.
+    fn from_table(alloc: Global, table: &Table<'_>) -> Result<Incoming<L>, AllocError>
+        ensures rows { IfOk result (λ incoming. incoming.rows ≡ table.now.rows) }
+        ensures units { IfOk result (λ incoming. incoming.units ≡ table.now.units) }
+        ensures next { IfOk result (λ incoming. (row unit : ℕ) → row < table.now.rows → unit < table.now.units → next_row incoming row unit ≡ next_at table.now row unit) }
+        ensures moves { IfOk result AreMoves }
+    {
+        let rows = table.rows();
         let lists = if rows == 0 {
             Vec::new(alloc)
         } else {
-            lists_of(alloc, rows, units, next)?
+            lists_of(alloc, table)?
         };
         Ok(Incoming {
             rows,
-            units,
+            units: table.units(),
             lists,
             ledger: PhantomData,
         })
@@ -105,21 +142,13 @@ impl<L> Incoming<L> {
 }
 
 /// For each unit the rows, grouped by the row to which the unit leads.
-fn lists_of(
-    alloc: Global,
-    rows: usize,
-    units: usize,
-    next: &[u32],
-) -> Result<Vec<Groups>, AllocError>
-    requires few { rows ≤ 2 ^ 31 }
-    requires cells { length next.now ≡ rows * units }
-    requires nexts { All (λ row. row < rows) next.now }
-    ensures { IfOk result (λ lists. AreColumns rows units next.now units lists.items) }
+fn lists_of(alloc: Global, table: &Table<'_>) -> Result<Vec<Groups>, AllocError>
+    ensures { IfOk result (λ lists. AreColumns table.now table.now.rows lists.items) }
 {
-    let mut room = vec![in alloc; 0; rows]?;
+    let mut room = vec![in alloc; 0; table.rows()]?;
     let places = room.as_mut_slice();
-    let mut lists = Vec::with_capacity(alloc, units)?;
-    for column in columns_of(alloc, rows, units, next)? {
+    let mut lists = Vec::with_capacity(alloc, table.units())?;
+    for column in columns_of(alloc, table)? {
         lists.push(Groups::new(alloc, column, places)?)?;
     }
     Ok(lists)

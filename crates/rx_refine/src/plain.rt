@@ -41,7 +41,7 @@ fn split_once(
     requires few { length blocks.now ≤ 1024 }
     ensures { IfOk result (λ rows. length rows.items ≡ length blocks.now) }
 {
-    let mut finer = Vec::new(alloc);
+    let mut finer = Vec::with_capacity(alloc, blocks.len())?;
     for row in 0..blocks.len() {
         finer.push(first_alike(row, units, next, blocks) as u32)?;
     }

@@ -1,14 +1,33 @@
 //! What no clause says: worked tables, and that a call has an answer. Each answer is compared with that
 //! of the plain refinement, and the steps with the limit.
 
-ghost use Rattle.std.specs.Prelude.{◌≡◌, ℕ, ◌+◌, ◌*◌, ◌<◌, ◌≤◌, length, All, IfOk};
+ghost use Rattle.std.specs.Prelude.{◌≡◌, ℕ, ◌+◌, ◌*◌, ◌/◌, ◌<◌, ◌≤◌, ◌^◌, length, slice_index, All, IfOk};
+ghost use Rattle.rx_refine.specs.Moves.{AreMoves};
 
 use super::*;
 use crate::plain::first_alike_rows;
-use rx_base::Tally;
+use rx_steps::Tally;
 use std::alloc::{AllocError, Global};
 use std::process::Abort;
 use std::test::Fail;
+
+/// The blocks of a table, and how many steps they took.
+fn refined(
+    alloc: Global,
+    incoming: &Incoming<Tally>,
+    labels: &[u32],
+) -> Result<(Vec<u32>, u64), AllocError>
+    requires moves { AreMoves incoming.now }
+    requires units { incoming.now.units ≤ 64 }
+    requires labels_len { length labels.now ≡ incoming.now.rows }
+    requires labels { All (λ label. label < incoming.now.rows) labels.now }
+    ensures { IfOk result (λ refined. length refined.0.items ≡ incoming.now.rows) }
+{
+    let mut steps = Steps::new(Tally);
+    laws::room();
+    let blocks = refine(alloc, incoming, labels, &mut steps)?;
+    Ok((blocks, steps.count()))
+}
 
 /// The blocks, each named by its first row, and how many steps they took. They are those of the plain
 /// refinement, and the steps are within the limit.
@@ -26,9 +45,8 @@ fn compared(
     requires units { units ≤ 64 }
 {
     let rows = labels.len();
-    let incoming: Incoming<Tally> = Incoming::new(alloc, rows, units, next)?;
-    let mut steps = Steps::new(Tally);
-    let blocks = refine(alloc, &incoming, labels, &mut steps)?;
+    let incoming = Incoming::new(alloc, rows, units, next)?;
+    let (blocks, steps) = refined(alloc, &incoming, labels)?;
     let named = named_by_first(alloc, &blocks)?;
     let wanted = first_alike_rows(alloc, units, next, labels)?;
     assert!(rt;
@@ -37,15 +55,70 @@ fn compared(
     );
     let digits = usize::BITS - rows.leading_zeros();
     let limit = (2 * units * rows) as u64 * u64::from(digits);
-    assert!(rt; steps.count() <= limit, "{next:?} {labels:?}");
-    Ok((named, steps.count()))
+    assert!(rt; steps <= limit, "{next:?} {labels:?}");
+    Ok((named, steps))
+}
+
+/// The blocks. They and the steps are the same where the rows stand one behind the other, and where they
+/// are so far apart and hold identifiers.
+fn compared_in_place(
+    rt: &impl Abort,
+    alloc: Global,
+    units: usize,
+    stride2: usize,
+    next: &[u32],
+    labels: &[u32],
+) -> Result<Vec<u32>, AllocError>
+    requires cells { length next.now ≡ length labels.now * units }
+    requires nexts { All (λ row. row < length labels.now) next.now }
+    requires labels { All (λ label. label < length labels.now) labels.now }
+    requires rows { length labels.now ≤ 2 ^ 20 }
+    requires units { units ≤ 64 }
+    requires stride2 { stride2 ≤ 10 }
+    requires stride { units ≤ 2 ^ stride2 }
+{
+    let rows = labels.len();
+    let incoming = Incoming::new(alloc, rows, units, next)?;
+    let (blocks, steps) = refined(alloc, &incoming, labels)?;
+    let table = padded(alloc, rows, units, 1 << stride2, next)?;
+    let in_place = Incoming::from_ids(alloc, rows, units, stride2, &table)?;
+    let (same_blocks, same_steps) = refined(alloc, &in_place, labels)?;
+    assert!(rt; same_blocks.as_slice() == blocks.as_slice());
+    assert!(rt; same_steps == steps);
+    Ok(blocks)
+}
+
+/// The table with rows `stride` entries apart and identifiers of rows. The entries behind those of the units
+/// are no identifiers.
+fn padded(
+    alloc: Global,
+    rows: usize,
+    units: usize,
+    stride: usize,
+    next: &[u32],
+) -> Result<Vec<u32>, AllocError>
+    requires cells { length next.now ≡ rows * units }
+    requires nexts { All (λ row. row < rows) next.now }
+    requires rows { rows ≤ 2 ^ 20 }
+    requires stride { stride ≤ 1024 }
+    requires units { units ≤ stride }
+    ensures len { IfOk result (λ table. length table.items ≡ rows * stride) }
+    ensures ids { IfOk result (λ table. (row unit : ℕ) → row < rows → unit < units → slice_index table.items (row * stride + unit) / stride < rows) }
+{
+    let mut table = vec![in alloc; u32::MAX; rows * stride]?;
+    for row in 0..rows {
+        for unit in 0..units {
+            table[row * stride + unit] = next[row * units + unit] * stride as u32;
+        }
+    }
+    Ok(table)
 }
 
 /// For each row the first row with its number.
 fn named_by_first(alloc: Global, numbers: &[u32]) -> Result<Vec<u32>, AllocError>
     requires { length numbers.now ≤ 1024 }
 {
-    let mut named = Vec::new(alloc);
+    let mut named = Vec::with_capacity(alloc, numbers.len())?;
     for row in 0..numbers.len() {
         let first = numbers.iter().position(|number| *number == numbers[row]);
         named.push(first.unwrap_or(row) as u32)?;
@@ -59,7 +132,7 @@ fn digits(alloc: Global, code: u64, base: u32, count: usize) -> Result<Vec<u32>,
     ensures len { IfOk result (λ digits. length digits.items ≡ count) }
     ensures small { IfOk result (λ digits. All (λ digit. digit < base) digits.items) }
 {
-    let mut digits = Vec::new(alloc);
+    let mut digits = Vec::with_capacity(alloc, count)?;
     let mut rest = code;
     for _i in 0..count {
         digits.push((rest % u64::from(base)) as u32)?;
@@ -83,56 +156,59 @@ fn worked_tables(rt: HostRuntime) -> Result<(), Fail> {
     Ok(())
 }
 
-/// Every table of up to four rows and two units. Blocks of so few rows are taken one by one.
+/// Every table of up to three rows and two units and of four rows and one unit, and one in 97 of four rows
+/// and two units. Blocks of so few rows are taken one by one.
 #[test]
 fn small_tables(rt: HostRuntime) -> Result<(), Fail> {
     let alloc = rt.alloc();
-    let shapes: [(u32, usize, u64, u64); 12] = [
-        (1, 0, 1, 1),
-        (2, 0, 1, 4),
-        (3, 0, 1, 27),
-        (4, 0, 1, 256),
-        (1, 1, 1, 1),
-        (1, 2, 1, 1),
-        (2, 1, 4, 4),
-        (2, 2, 16, 4),
-        (3, 1, 27, 27),
-        (3, 2, 729, 27),
-        (4, 1, 256, 256),
-        (4, 2, 65536, 256),
+    let shapes: [(u32, usize, u64, u64, u64); 12] = [
+        (1, 0, 1, 1, 1),
+        (2, 0, 4, 1, 1),
+        (3, 0, 27, 1, 1),
+        (4, 0, 256, 1, 1),
+        (1, 1, 1, 1, 1),
+        (1, 2, 1, 1, 1),
+        (2, 1, 4, 4, 1),
+        (2, 2, 4, 16, 1),
+        (3, 1, 27, 27, 1),
+        (3, 2, 27, 729, 1),
+        (4, 1, 256, 256, 1),
+        (4, 2, 256, 675, 97),
     ];
-    for (rows, units, tables, labellings) in shapes {
+    for (rows, units, labellings, tables, step) in shapes {
         assert!(rt; 0 < rows);
         assert!(rt; rows <= 4);
         assert!(rt; units <= 2);
         for labelling in 0..labellings {
-            every_table(&rt, alloc, rows, units, tables, labelling)?;
+            let labels = digits(alloc, labelling, rows, rows as usize)?;
+            let named = named_by_first(alloc, &labels)?;
+            if named.as_slice() == labels.as_slice() {
+                labelled_tables(&rt, alloc, units, &labels, tables, step)?;
+            }
         }
     }
     Ok(())
 }
 
-/// Compares every table of so many rows and units, with one labelling. Labellings that differ in their
-/// names alone are passed over.
-fn every_table(
+/// Compares so many tables with these labels, whose codes are so far apart.
+fn labelled_tables(
     rt: &impl Abort,
     alloc: Global,
-    rows: u32,
     units: usize,
+    labels: &[u32],
     tables: u64,
-    labelling: u64,
+    step: u64,
 ) -> Result<(), AllocError>
-    requires some { 0 < rows }
-    requires rows { rows ≤ 4 }
+    requires some { 0 < length labels.now }
+    requires rows { length labels.now ≤ 4 }
     requires units { units ≤ 2 }
+    requires labels { All (λ label. label < length labels.now) labels.now }
 {
-    let labels = digits(alloc, labelling, rows, rows as usize)?;
-    let named = named_by_first(alloc, &labels)?;
-    if named.as_slice() == labels.as_slice() {
-        for table in 0..tables {
-            let next = digits(alloc, table, rows, rows as usize * units)?;
-            compared(rt, alloc, units, &next, &labels)?;
-        }
+    let rows = labels.len();
+    for table in 0..tables {
+        let code = table.wrapping_mul(step);
+        let next = digits(alloc, code, rows as u32, rows * units)?;
+        compared(rt, alloc, units, &next, labels)?;
     }
     Ok(())
 }
@@ -156,11 +232,11 @@ fn random_numbers(
     count: usize,
 ) -> Result<Vec<u32>, AllocError>
     requires some { 0 < bound }
-    requires bound { bound ≤ 1024 }
+    requires bound { bound ≤ 2 ^ 20 }
     ensures len { IfOk result (λ numbers. length numbers.items ≡ count) }
     ensures small { IfOk result (λ numbers. All (λ number. number < bound) numbers.items) }
 {
-    let mut numbers = Vec::new(alloc);
+    let mut numbers = Vec::with_capacity(alloc, count)?;
     for _i in 0..count {
         numbers.push(random_below(seed, bound) as u32)?;
     }
@@ -186,7 +262,7 @@ fn copied(
     ensures len { IfOk result (λ rows. length rows.items ≡ copies * length next.now) }
     ensures small { IfOk result (λ rows. All (λ row. row < classes * copies) rows.items) }
 {
-    let mut rows = Vec::new(alloc);
+    let mut rows = Vec::with_capacity(alloc, copies * next.len())?;
     for _copy in 0..copies {
         for class in next {
             let row = *class as usize + classes * random_below(seed, copies);
@@ -205,7 +281,7 @@ fn copied_labels(alloc: Global, copies: usize, labels: &[u32]) -> Result<Vec<u32
     ensures len { IfOk result (λ rows. length rows.items ≡ copies * length labels.now) }
     ensures small { IfOk result (λ rows. All (λ label. label < copies * length labels.now) rows.items) }
 {
-    let mut rows = Vec::new(alloc);
+    let mut rows = Vec::with_capacity(alloc, copies * labels.len())?;
     for _copy in 0..copies {
         rows.extend_from_slice(labels)?;
     }
@@ -268,7 +344,7 @@ fn chain_rows(alloc: Global, rows: u32) -> Result<Vec<u32>, AllocError>
     ensures len { IfOk result (λ next. length next.items ≡ rows) }
     ensures small { IfOk result (λ next. All (λ row. row < rows) next.items) }
 {
-    let mut next = Vec::new(alloc);
+    let mut next = Vec::with_capacity(alloc, rows as usize)?;
     for row in 0..rows {
         next.push((row + 1).min(rows - 1))?;
     }
@@ -280,7 +356,7 @@ fn last_labelled(alloc: Global, rows: u32) -> Result<Vec<u32>, AllocError>
     ensures len { IfOk result (λ labels. length labels.items ≡ rows) }
     ensures small { IfOk result (λ labels. All (λ label. label < 2) labels.items) }
 {
-    let mut labels = Vec::new(alloc);
+    let mut labels = Vec::with_capacity(alloc, rows as usize)?;
     for row in 0..rows {
         labels.push(u32::from(row + 1 == rows))?;
     }
@@ -297,6 +373,38 @@ fn chain(rt: HostRuntime) -> Result<(), Fail> {
     for row in 0..apart.len() {
         assert!(rt; apart[row] as usize == row);
     }
+    Ok(())
+}
+
+/// Tables are read where they lie, with no, some and much room behind the units of a row.
+#[test]
+fn tables_in_place(rt: HostRuntime) -> Result<(), Fail> {
+    let alloc = rt.alloc();
+    compared_in_place(&rt, alloc, 1, 0, &[1, 2, 3, 3], &[0, 0, 0, 1])?;
+    compared_in_place(&rt, alloc, 1, 2, &[1, 0, 3, 2], &[0, 0, 0, 1])?;
+    compared_in_place(&rt, alloc, 2, 1, &[1, 2, 0, 0, 2, 1], &[0, 1, 1])?;
+    compared_in_place(&rt, alloc, 0, 0, &[], &[0])?;
+    compared_in_place(&rt, alloc, 3, 2, &[], &[])?;
+    let mut seed = 13;
+    for rows in [1, 7, 60] {
+        for units in 1..6 {
+            let next = random_numbers(alloc, &mut seed, rows, rows * units)?;
+            let labels = random_numbers(alloc, &mut seed, rows.min(3), rows)?;
+            compared_in_place(&rt, alloc, units, 3, &next, &labels)?;
+            compared_in_place(&rt, alloc, units, 9, &next, &labels)?;
+        }
+    }
+    Ok(())
+}
+
+/// The rows of a long chain are all apart.
+#[test]
+fn long_chain(rt: HostRuntime) -> Result<(), Fail> {
+    let alloc = rt.alloc();
+    let next = chain_rows(alloc, 100_000)?;
+    let labels = last_labelled(alloc, 100_000)?;
+    let blocks = compared_in_place(&rt, alloc, 1, 1, &next, &labels)?;
+    assert_eq!(rt; blocks.iter().max().copied(), Some(99_999));
     Ok(())
 }
 

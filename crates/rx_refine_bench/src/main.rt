@@ -2,15 +2,17 @@
 //! `twins` or `grid`.
 //!
 //! Standard output says how many blocks there are, and the steps taken beside their limit. Standard
-//! error says how long the lists took to build, and how long the refinement took.
+//! error says how long the lists took to build, and how long the refinement took. Where nothing is
+//! measured, standard error says why, and the status is 2 for words that are wrong, 3 for an unknown kind
+//! of table, and 1 where memory, the clock or an output failed.
 #![tactic(auto)]
 
 ghost use Rattle.std.specs.Prelude.{◌≡◌, ℕ, ◌+◌, ◌*◌, ◌<◌, ◌≤◌, ◌^◌, length, All, IfOk};
 
 mod tables;
 
-use rx_base::Tally;
-use rx_refine::{Incoming, Steps, refine};
+use rx_refine::{Incoming, Steps, laws, refine};
+use rx_steps::Tally;
 use std::alloc::Global;
 use std::process::ExitCode;
 use std::rt::Clock;
@@ -23,11 +25,25 @@ use thiserror::Error;
 #[derive(Debug, Drop, Error)]
 enum Fault {
     /// The words are wrong.
-    #[error("usage: rx_refine_bench chain|random|twins|grid ROWS UNITS, with 2 to 1000000 rows and at most 1000 units")]
+    #[error("usage: rx_refine_bench KIND ROWS UNITS, with 2 to 1000000 rows and at most 1000 units")]
     Usage,
+    /// There is no such kind of table.
+    #[error("{0} is no kind of table: there are chain, random, twins and grid")]
+    Kind(String),
     /// Memory ran out, or the words, the clock or an output failed.
     #[error("{0}")]
     Io(#[from] io::Error),
+}
+
+impl Fault {
+    /// The exit status that says so.
+    fn status(&self) -> ExitCode {
+        match self {
+            Fault::Usage => ExitCode::from(2),
+            Fault::Kind(_) => ExitCode::from(3),
+            Fault::Io(_) => ExitCode::FAILURE,
+        }
+    }
 }
 
 fn main(rt: HostRuntime) -> ExitCode {
@@ -35,7 +51,7 @@ fn main(rt: HostRuntime) -> ExitCode {
         Ok(()) => ExitCode::SUCCESS,
         Err(fault) => {
             let _ = eprintln!(rt; "{fault}");
-            ExitCode::FAILURE
+            fault.status()
         }
     }
 }
@@ -54,7 +70,8 @@ fn run(rt: &HostRuntime) -> Result<(), Fault> {
         "chain" => Kind::Chain,
         "random" => Kind::Random,
         "twins" => Kind::Twins,
-        _ => Kind::Grid,
+        "grid" => Kind::Grid,
+        _ => return Err(Fault::Kind(kind)),
     };
     measure(rt, rt.alloc(), kind, rows, units)?;
     Ok(())
@@ -84,6 +101,7 @@ fn measure(
     let incoming: Incoming<Tally> = Incoming::new(alloc, rows, units, &next)?;
     let built = begin.elapsed(rt)?;
     let mut steps = Steps::new(Tally);
+    laws::room();
     let middle = Instant::now(rt)?;
     let blocks = refine(alloc, &incoming, &labels, &mut steps)?;
     let refined = middle.elapsed(rt)?;

@@ -1,5 +1,8 @@
-pub mod Turns
-pub mod Walking
-pub mod Begun
-pub mod Joining
-pub mod Words
+-- the assertions of Unicode words
+pub mod UnicodeWords
+-- what a search says, how it starts, and its walk over a span
+pub mod Saying
+pub mod Starts
+pub mod Walks
+-- two searches joined
+pub mod Joins

@@ -1,133 +1,96 @@
 -- What a search for a match answers, and why it has no answer.
-use Rattle.std.specs.Prelude.{ℕ, ◌≡◌, ◌≤◌, Bool, true, false, Option, Some, Result, Ok, Err, List, ◌⊎◌}
-use Rattle.std.specs.Option.{option_map}
-use Rattle.std.specs.List.{list_any}
-use Rattle.rx_spec.specs.Bytes.{contains}
-use Rattle.rx_spec.specs.Classes.{asserts_unicode_word}
+use Rattle.std.specs.Prelude.{◌≡◌, ◌≢◌, ◌⊎◌, Result, Ok, Err, List, All}
+use Rattle.rx_spec.specs.Expressions.{Expression, IsLoopSafe}
+use Rattle.rx_spec.specs.Queries.{Query, MatchError}
 use Rattle.rx_spec.specs.Builds.{Build}
-use Rattle.rx_spec.specs.Expressions.{Expression}
-use Rattle.rx_spec.specs.Found.{Query}
-use Rattle.rx_spec.specs.Plans.{outcome}
-use Rattle.rx_spec.specs.Rows.{is_always_anchored}
-use Rattle.rx_spec.specs.Searches.{Verdict, Outcome, with_end}
-use Rattle.rx_base.specs.Search.{hit_of, half_of, mode_of}
-use Rattle.rx_base.specs.declared.search.Match.{Match}
-use Rattle.rx_base.specs.declared.search.HalfMatch.{HalfMatch}
-use Rattle.rx_expr.specs.Compiles.{Fits, Refuses}
-use Rattle.rx_expr.specs.Settings.{Asked}
-use Rattle.rx_regex.specs.Plan.{wanted_of, plan_build}
-use Rattle.rx_regex.specs.Engine.{build_of, half_search}
-use Rattle.rx_regex.specs.declared.engine.Engine.{Engine}
-use Rattle.rx_regex.specs.declared.engine.HalfFault.{HalfFault}
-use Rattle.rx_expr.specs.declared.thompson.build_error.BuildError.{BuildError}
+use Rattle.rx_spec.specs.Causes.{NfaCause, BuildCause}
+use Rattle.rx_spec.specs.Plans.{Plan, Cause, IsCompiled, DirectionRefused, plan_build, outcome}
+use Rattle.rx_spec.specs.declared.Direction.{Direction}
+use Rattle.rx_base.specs.Search.{mode_of}
+use Rattle.rx_expr.specs.declared.thompson.build_error.BuildError as nfa
+use Rattle.rx_regex.specs.declared.error.BuildError.{BuildError}
 use Rattle.rx_regex.specs.declared.error.BuildErrorKind.{BuildErrorKind}
 use Rattle.rx_regex.specs.declared.error.FindFault.{FindFault}
-use Rattle.rx_regex.specs.declared.plan.Answer.{Answer}
-use Rattle.rx_regex.specs.declared.plan.Plan.{Plan}
+use Rattle.rx_regex.specs.declared.error.SearchError.{SearchError}
+use Rattle.rx_regex.specs.declared.find.Answer.{Answer}
 
--- what is asked of the compiler for one direction
-abbrev pub asked_for : Plan → Bool → Asked
-asked_for p reverse = record { reverse = Some reverse; utf8 = Some false; size_limit = Some p.nfa_limit; terminator = Some p.line_terminator }
+-- ---- builds
 
--- every byte from 0x80 on is a quit byte
-abbrev pub QuitsAtHigh : Build → Type 0
-QuitsAtHigh b = (byte : ℕ) → 128 ≤ byte → byte ≤ 255 → contains b.quit byte ≡ true
+-- an NFA that is refused, as a refusal of a build
+abbrev pub refused_nfa : nfa.BuildError → BuildError
+refused_nfa nfa.BuildError.Memory = record { kind = BuildErrorKind.Memory }
+refused_nfa (nfa.BuildError.TooManyPatterns given) = record { kind = BuildErrorKind.NFA (nfa.BuildError.TooManyPatterns given) }
+refused_nfa (nfa.BuildError.TooManyStates given) = record { kind = BuildErrorKind.NFA (nfa.BuildError.TooManyStates given) }
+refused_nfa (nfa.BuildError.ExceededSizeLimit limit) = record { kind = BuildErrorKind.NFA (nfa.BuildError.ExceededSizeLimit limit) }
 
--- a row has a Unicode word assertion, and not every byte from 0x80 on is a quit byte
-pub record IsUnsupported (b : Build) : Type 0 where
-  pub asserts : list_any asserts_unicode_word b.nfa.rows ≡ true
-  pub lacks : QuitsAtHigh b → ⊥
+-- the cause that a refusal names, in a relation of causes; the want of memory names none
+abbrev pub NamesNfa : (Cause → Type 0) → nfa.BuildError → Type 0
+NamesNfa Refused (nfa.BuildError.TooManyPatterns given) = Refused (Cause.NFA (NfaCause.TooManyPatterns given))
+NamesNfa Refused (nfa.BuildError.TooManyStates given) = Refused (Cause.NFA (NfaCause.TooManyStates given))
+NamesNfa Refused (nfa.BuildError.ExceededSizeLimit limit) = Refused (Cause.NFA (NfaCause.ExceededSizeLimit limit))
+NamesNfa Refused nfa.BuildError.Memory = ⊥
 
--- nothing refuses the build of one direction
-pub record NoCause (p : Plan) (reverse : Bool) (es : List Expression) : Type 0 where
-  pub fits : Fits (asked_for p reverse) es
-  pub supported : list_any asserts_unicode_word (plan_build p reverse es).nfa.rows ≡ true → QuitsAtHigh (plan_build p reverse es)
+abbrev pub Names : (Cause → Type 0) → BuildErrorKind → Type 0
+Names Refused (BuildErrorKind.NFA error) = NamesNfa Refused error
+Names Refused BuildErrorKind.Unsupported = Refused (Cause.DFA BuildCause.Unsupported)
+Names Refused BuildErrorKind.Memory = ⊥
 
--- why an NFA is refused, of which the want of memory is no part
-abbrev pub NfaRefuses : Asked → List Expression → BuildError → Type 0
-NfaRefuses a es BuildError.Memory = ⊥
-NfaRefuses a es (BuildError.TooManyPatterns given) = Refuses a es (BuildError.TooManyPatterns given)
-NfaRefuses a es (BuildError.TooManyStates given) = Refuses a es (BuildError.TooManyStates given)
-NfaRefuses a es (BuildError.ExceededSizeLimit limit) = Refuses a es (BuildError.ExceededSizeLimit limit)
+-- what a refusal says: such a cause, or nothing where memory ran out
+abbrev pub IsRefused : (Cause → Type 0) → BuildErrorKind → Type 0
+IsRefused Refused (BuildErrorKind.NFA error) = NamesNfa Refused error
+IsRefused Refused BuildErrorKind.Unsupported = Refused (Cause.DFA BuildCause.Unsupported)
+IsRefused Refused BuildErrorKind.Memory = Unit {0}
 
--- why it is refused: by the numbers of the NFA, and else by its assertions
-abbrev pub KindRefuses : Plan → Bool → List Expression → BuildErrorKind → Type 0
-KindRefuses p reverse es (BuildErrorKind.NFA error) = NfaRefuses (asked_for p reverse) es error
-KindRefuses p reverse es BuildErrorKind.Unsupported = Fits (asked_for p reverse) es × IsUnsupported (plan_build p reverse es)
-KindRefuses p reverse es BuildErrorKind.Memory = ⊥
+-- a refusal as a fault of the search
+abbrev pub IsFault : BuildErrorKind → FindFault → Type 0
+IsFault kind (FindFault.Build error) = (error.kind ≡ kind) × (kind ≢ BuildErrorKind.Memory)
+IsFault kind (FindFault.Quit byte offset) = ⊥
+IsFault kind (FindFault.Unsupported mode) = ⊥
+IsFault kind FindFault.Memory = kind ≡ BuildErrorKind.Memory
 
-abbrev pub BuildRefuses : Plan → Bool → List Expression → FindFault → Type 0
-BuildRefuses p reverse es (FindFault.Build error) = KindRefuses p reverse es error.kind
-BuildRefuses p reverse es FindFault.Memory = Unit {0}
-BuildRefuses p reverse es (FindFault.Quit byte offset) = ⊥
-BuildRefuses p reverse es (FindFault.Unsupported mode) = ⊥
+-- nothing of what is built so far refuses a plan's builds
+pub record AreCompiled (p : Plan) (es : List Expression) : Type 0 where
+  pub forward : IsCompiled p Direction.Forward es
+  pub reverse : IsCompiled p Direction.Reverse es
 
--- a build is refused: the forward one, or else the reverse one
-abbrev pub RefusesBuild : Plan → List Expression → BuildErrorKind → Type 0
-RefusesBuild p es kind = KindRefuses p false es kind ⊎ (NoCause p false es × KindRefuses p true es kind)
+-- a plan's builds are refused: the forward one, or else the reverse one
+abbrev pub PlanRefused : Plan → List Expression → Cause → Type 0
+PlanRefused p es cause =
+    DirectionRefused p Direction.Forward es cause
+    ⊎ (IsCompiled p Direction.Forward es × DirectionRefused p Direction.Reverse es cause)
 
--- nothing refuses the builds
-pub record Built (p : Plan) (es : List Expression) : Type 0 where
-  pub forward : NoCause p false es
-  pub reverse : NoCause p true es
+-- they are the plan's builds of these expressions
+pub record AreBuilt (p : Plan) (es : List Expression) (b c : Build) : Type 0 where
+  pub compiled : AreCompiled p es
+  pub safe : All IsLoopSafe es
+  pub forward : b ≡ plan_build p Direction.Forward es
+  pub reverse : c ≡ plan_build p Direction.Reverse es
 
--- what is answered, unless memory ran out
-abbrev pub FaultAnswers : Verdict → FindFault → Type 0
-FaultAnswers verdict (FindFault.Build error) = ⊥
-FaultAnswers verdict (FindFault.Quit byte offset) = verdict ≡ Verdict.Quit byte offset
-FaultAnswers verdict (FindFault.Unsupported mode) = verdict ≡ Verdict.Unsupported (mode_of mode)
-FaultAnswers verdict FindFault.Memory = Unit {0}
+-- ---- the search
 
-abbrev pub Joins : Verdict → Result (Option Match) FindFault → Type 0
-Joins verdict (Ok found) = verdict ≡ Verdict.Answer (option_map hit_of found)
-Joins verdict (Err fault) = FaultAnswers verdict fault
+-- an error of a plan's search, which never has halves that disagree
+abbrev pub IsPaired : SearchError → Type 0
+IsPaired (SearchError.Match (MatchError.Quit byte offset)) = Unit {0}
+IsPaired (SearchError.Match (MatchError.UnsupportedAnchored mode)) = Unit {0}
+IsPaired (SearchError.Match (MatchError.PairMismatch forward reverse)) = ⊥
+IsPaired SearchError.Memory = Unit {0}
 
--- The search answers what is found, or an error, each with its cause. Without tables it counts no rows.
+-- a fault tells a search's error
+abbrev pub Tells : FindFault → SearchError → Type 0
+Tells (FindFault.Build refused) error = ⊥
+Tells (FindFault.Quit byte offset) error = error ≡ SearchError.Match (MatchError.Quit byte offset)
+Tells (FindFault.Unsupported mode) error = error ≡ SearchError.Match (MatchError.UnsupportedAnchored (mode_of mode))
+Tells FindFault.Memory error = error ≡ SearchError.Memory
+
+-- ---- the answer
+
+-- What is found, or an error with its cause. Without tables no rows are counted.
 abbrev pub Answers : Plan → List Expression → Query → Result Answer FindFault → Type 0
-Answers p es q (Ok answer) = Built p es × (outcome (wanted_of p) es q ≡ Verdict.Answer (option_map hit_of answer.found)) × (answer.forward_rows ≡ 0) × (answer.reverse_rows ≡ 0)
-Answers p es q (Err (FindFault.Build error)) = RefusesBuild p es error.kind
-Answers p es q (Err (FindFault.Quit byte offset)) = Built p es × (outcome (wanted_of p) es q ≡ Verdict.Quit byte offset)
-Answers p es q (Err (FindFault.Unsupported mode)) = Built p es × (outcome (wanted_of p) es q ≡ Verdict.Unsupported (mode_of mode))
+Answers p es q (Ok answer) =
+    AreCompiled p es × (outcome p es q ≡ Ok answer.found) × (answer.forward_rows ≡ 0) × (answer.reverse_rows ≡ 0)
+Answers p es q (Err (FindFault.Build error)) = Names (PlanRefused p es) error.kind
+Answers p es q (Err (FindFault.Quit byte offset)) =
+    AreCompiled p es × (outcome p es q ≡ Err (MatchError.Quit byte offset))
+Answers p es q (Err (FindFault.Unsupported mode)) =
+    AreCompiled p es × (outcome p es q ≡ Err (MatchError.UnsupportedAnchored (mode_of mode)))
 Answers p es q (Err FindFault.Memory) = Unit {0}
-
--- an NFA that is refused, as a fault of the whole search
-abbrev pub nfa_faulty : BuildError → FindFault
-nfa_faulty BuildError.Memory = FindFault.Memory
-nfa_faulty (BuildError.TooManyPatterns given) = FindFault.Build (record { kind = BuildErrorKind.NFA (BuildError.TooManyPatterns given) })
-nfa_faulty (BuildError.TooManyStates given) = FindFault.Build (record { kind = BuildErrorKind.NFA (BuildError.TooManyStates given) })
-nfa_faulty (BuildError.ExceededSizeLimit limit) = FindFault.Build (record { kind = BuildErrorKind.NFA (BuildError.ExceededSizeLimit limit) })
-
--- a half search's fault, as one of the whole search
-abbrev pub half_faulty : HalfFault → FindFault
-half_faulty (HalfFault.Quit byte offset) = FindFault.Quit byte offset
-half_faulty (HalfFault.Unsupported mode) = FindFault.Unsupported mode
-half_faulty HalfFault.Memory = FindFault.Memory
-
--- the match for an end, where the two half searches are joined
-abbrev pub ended : Engine → Engine → Query → HalfMatch → Verdict
-ended forward reverse q end = with_end (half_search reverse true) (is_always_anchored (build_of forward).nfa) q (Outcome.Told (Some (half_of end)))
-
--- it is a match from some place to that end
-pub record HasStart (forward reverse : Engine) (q : Query) (end : HalfMatch) : Type 0 where
-  pub start : ℕ
-  pub low : q.start ≤ start
-  pub order : start ≤ end.offset
-  pub high : end.offset ≤ q.stop
-  pub is : ended forward reverse q end ≡ Verdict.Answer (Some (record { pattern = end.pattern; start = start; stop = end.offset }))
-
--- where the match starts
-abbrev pub StartSays : Verdict → HalfMatch → Result ℕ FindFault → Type 0
-StartSays verdict end (Ok start) = verdict ≡ Verdict.Answer (Some (record { pattern = end.pattern; start = start; stop = end.offset }))
-StartSays verdict end (Err fault) = FaultAnswers verdict fault
-
--- the fault of an NFA that is refused
-abbrev pub NfaKind : Asked → List Expression → BuildErrorKind → Type 0
-NfaKind a es (BuildErrorKind.NFA error) = NfaRefuses a es error
-NfaKind a es BuildErrorKind.Unsupported = ⊥
-NfaKind a es BuildErrorKind.Memory = ⊥
-
-abbrev pub NfaFaulted : Plan → Bool → List Expression → FindFault → Type 0
-NfaFaulted p reverse es (FindFault.Build error) = NfaKind (asked_for p reverse) es error.kind
-NfaFaulted p reverse es FindFault.Memory = Unit {0}
-NfaFaulted p reverse es (FindFault.Quit byte offset) = ⊥
-NfaFaulted p reverse es (FindFault.Unsupported mode) = ⊥

@@ -2,8 +2,9 @@
 
 ghost use Rattle.std.specs.Prelude.{◌≡◌};
 
-use rx_base::Anchored;
+use rx_base::{Anchored, MatchError};
 use rx_expr::thompson;
+use std::alloc::AllocError;
 use thiserror::Error;
 
 /// Why a build is refused.
@@ -33,6 +34,41 @@ impl BuildError {
         ensures { result.now ≡ self.now.kind }
     {
         &self.kind
+    }
+}
+
+impl From<thompson::BuildError> for BuildError {
+    ghost use Rattle.rx_regex.specs.Find.{refused_nfa};
+
+    ghost from_gives = { λ error made. made ≡ refused_nfa error };
+
+    fn from(error: thompson::BuildError) -> BuildError {
+        let kind = match error {
+            thompson::BuildError::Memory => BuildErrorKind::Memory,
+            error => BuildErrorKind::NFA(error),
+        };
+        BuildError { kind }
+    }
+}
+
+/// Why a search has no answer, as long as states are stepped, which takes memory.
+#[derive(Clone, Debug, Drop, Error)]
+pub(crate) enum SearchError {
+    /// What a search of tables may answer too.
+    #[error("{0}")]
+    Match(MatchError),
+    /// Memory ran out.
+    #[error("out of memory")]
+    Memory,
+}
+
+impl From<AllocError> for SearchError {
+    ghost use Rattle.rx_regex.specs.declared.error.SearchError.TheVariants.{Memory};
+
+    ghost from_gives = { λ _ e. e ≡ Memory };
+
+    fn from(_: AllocError) -> SearchError {
+        SearchError::Memory
     }
 }
 

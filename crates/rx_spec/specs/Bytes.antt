@@ -1,5 +1,6 @@
 -- Bytes, units, and sets of bytes.
-use Rattle.std.specs.Prelude.{ℕ, ◌+◌, ◌-◌, ◌^◌, ◌<◌, Bool, ◌==◌, nat_lt, nat_le, ◌&&◌, ◌||◌, Option, unwrap_or, List, All}
+use Rattle.std.specs.Prelude.{ℕ, ◌+◌, ◌-◌, ◌^◌, ◌<◌, Bool, ◌==◌, nat_lt, nat_le, ◌&&◌, ◌||◌, Option, unwrap_or, List}
+use Rattle.std.specs.Prelude.{All}
 use Rattle.std.specs.Int.{bit_at}
 
 -- A set of bytes is a number below 2 ^ 256: its bit b is set where the byte b is in the set. The end

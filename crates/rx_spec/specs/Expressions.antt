@@ -1,7 +1,7 @@
 -- Expressions: the regular expressions of Kleene, with assertions, counted repetitions, and the order of
 -- preference that Perl and RE2 give to alternatives and rounds.
 use Rattle.std.specs.Prelude.{ℕ, ◌+◌, ◌*◌, ◌<◌, ◌≤◌, min, max, Bool, Option, Some, None}
-use Rattle.rx_spec.specs.declared.Look.{Look}
+use Rattle.rx_spec.specs.declared.Look.{Look as Assertion}
 
 -- A pattern, made of six forms.
 pub data Expression : Type 0 where
@@ -9,7 +9,7 @@ pub data Expression : Type 0 where
   Empty : Expression
   -- one byte of a set
   Class : (set : ℕ) → Expression
-  Assert : (look : Look) → Expression
+  Look : (look : Assertion) → Expression
   Concat : (first : Expression) → (second : Expression) → Expression
   -- the first is preferred
   Alternate : (first : Expression) → (second : Expression) → Expression
@@ -20,7 +20,7 @@ pub data Expression : Type 0 where
 unfoldable pub min_len : Expression → ℕ
 min_len Empty = 0
 min_len (Class set) = 1
-min_len (Assert look) = 0
+min_len (Look look) = 0
 min_len (Concat a b) = min_len a + min_len b
 min_len (Alternate a b) = min (min_len a) (min_len b)
 min_len (Repeat least most greedy body) = least * min_len body
@@ -29,7 +29,7 @@ min_len (Repeat least most greedy body) = least * min_len body
 unfoldable pub depth : Expression → ℕ
 depth Empty = 1
 depth (Class set) = 1
-depth (Assert look) = 1
+depth (Look look) = 1
 depth (Concat a b) = 1 + max (depth a) (depth b)
 depth (Alternate a b) = 1 + max (depth a) (depth b)
 depth (Repeat least most greedy body) = 1 + depth body
@@ -39,7 +39,7 @@ depth (Repeat least most greedy body) = 1 + depth body
 unfoldable pub mirror : Expression → Expression
 mirror Empty = Empty
 mirror (Class set) = Class set
-mirror (Assert look) = Assert look
+mirror (Look look) = Look look
 mirror (Concat a b) = Concat (mirror b) (mirror a)
 mirror (Alternate a b) = Alternate (mirror a) (mirror b)
 mirror (Repeat least most greedy body) = Repeat least most greedy (mirror body)
@@ -54,7 +54,7 @@ IsBounded least (Some most) body = least ≤ most
 abbrev pub IsLoopSafe : Expression → Type 0
 IsLoopSafe Empty = Unit {0}
 IsLoopSafe (Class set) = Unit {0}
-IsLoopSafe (Assert look) = Unit {0}
+IsLoopSafe (Look look) = Unit {0}
 IsLoopSafe (Concat a b) = IsLoopSafe a × IsLoopSafe b
 IsLoopSafe (Alternate a b) = IsLoopSafe a × IsLoopSafe b
 IsLoopSafe (Repeat least most greedy body) = IsBounded least most body × IsLoopSafe body

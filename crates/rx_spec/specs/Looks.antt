@@ -1,16 +1,18 @@
 -- Assertions (look-around without width, as in Perl): tests of the two bytes beside a place. Their names
 -- and their meanings on bytes are those of the Rust crate regex-automata.
-use Rattle.std.specs.Prelude.{ℕ, zero, suc, Bool, true, false, not, ◌==◌, ◌&&◌, ◌||◌, Option, Some, None, is_none, List, slice_get, if◌then◌else◌}
+use Rattle.std.specs.Prelude.{ℕ, zero, suc, Bool, true, false, not, ◌==◌, ◌&&◌, ◌||◌, Option, Some, None, is_none, List}
+use Rattle.std.specs.Prelude.{slice_get}
 use Rattle.rx_spec.specs.Bytes.{is_word}
+use Rattle.rx_spec.specs.declared.Direction.{Direction}
 use Rattle.rx_spec.specs.declared.Look.{Look}
 
--- the byte before a place of the haystack, and the byte at it; each may be absent
+-- the byte before a place of the haystack, and the byte after it; each may be absent
 abbrev pub before : List ℕ → ℕ → Option ℕ
-before hay zero = None
-before hay (suc i) = slice_get hay i
+before haystack zero = None
+before haystack (suc i) = slice_get haystack i
 
 abbrev pub after : List ℕ → ℕ → Option ℕ
-after hay i = slice_get hay i
+after haystack i = slice_get haystack i
 
 -- whether a neighbour is this byte, and whether it is a word byte; an absent one is neither
 abbrev pub is_byte : Option ℕ → ℕ → Bool
@@ -26,7 +28,7 @@ abbrev pub differ : Bool → Bool → Bool
 differ true b = not b
 differ false b = b
 
--- Whether an assertion holds between the byte before and the byte behind, under a line terminator.
+-- Whether an assertion holds between the byte before and the byte after, under a line terminator.
 -- 10 is \n and 13 is \r. The Unicode word assertions are decided by ASCII word bytes.
 abbrev pub holds : Look → ℕ → Option ℕ → Option ℕ → Bool
 holds Look.Start t b a = is_none b
@@ -58,12 +60,18 @@ is_unicode_word Look.WordStartHalfUnicode = true
 is_unicode_word Look.WordEndHalfUnicode = true
 is_unicode_word _ = false
 
--- A haystack in the order in which it is read, byte by byte, forward or backward.
+-- A haystack in the order in which it is read, byte by byte.
 pub record Reading : Type 0 where
-  pub terminator : ℕ
-  pub backward : Bool
+  pub line_terminator : ℕ
+  pub direction : Direction
   pub units : List ℕ
 
--- whether an assertion holds at a place of a reading: backward, the byte read next stands before
+-- Whether an assertion holds between what was read last and what is read next. In reverse, what is read
+-- next stands before.
+abbrev pub holds_between : Direction → Look → ℕ → Option ℕ → Option ℕ → Bool
+holds_between Direction.Forward look t last next = holds look t last next
+holds_between Direction.Reverse look t last next = holds look t next last
+
+-- whether it holds at a place of a reading
 abbrev pub holds_at : Reading → Look → ℕ → Bool
-holds_at r look i = if r.backward then holds look r.terminator (after r.units i) (before r.units i) else holds look r.terminator (before r.units i) (after r.units i)
+holds_at r look i = holds_between r.direction look r.line_terminator (before r.units i) (after r.units i)

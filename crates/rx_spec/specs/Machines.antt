@@ -1,7 +1,7 @@
 -- Machines that read units, and what they tell of a word: automata with a label at each state, as Moore
 -- has them.
 use Rattle.std.specs.Prelude.{ℕ, ◌<◌, Bool, Option, List, [], ◌∷◌, Contains}
-use Rattle.rx_spec.specs.Found.{Mode}
+use Rattle.rx_spec.specs.Queries.{Anchored}
 use Rattle.rx_spec.specs.declared.Start.{Start}
 use Rattle.rx_spec.specs.declared.StartKind.{StartKind}
 
@@ -19,7 +19,7 @@ label_of (k ∷ ks) = Matches (k ∷ ks)
 -- A deterministic machine: rows of some kind, the next row on each unit, a label for each row, and a
 -- start row for each mode and start context.
 pub record Machine (R : Type 0) : Type 0 where
-  pub entry : Mode → Start → R
+  pub entry : Anchored → Start → R
   pub next : R → ℕ → R
   pub label : R → Label
   -- the row from which nothing is told any more
@@ -34,10 +34,13 @@ unfoldable pub run : {R : Type 0} → (R → ℕ → R) → R → List ℕ → R
 run next row [] = row
 run next row (unit ∷ units) = run next (next row unit) units
 
--- how a search begins: for which modes there are start rows, for how many patterns, where for any,
--- which start context a byte gives, and which bytes can't be searched
+-- How a search begins.
 pub record Settings : Type 0 where
+  -- for which modes there are start rows
   pub start_kind : StartKind
+  -- for how many patterns there are start rows of their own, if for any
   pub pattern_starts : Option ℕ
+  -- the start context that a byte beside the span gives
   pub start_of_byte : ℕ → Start
+  -- the bytes that can't be searched
   pub quit : ℕ

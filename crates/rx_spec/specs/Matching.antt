@@ -9,7 +9,7 @@ abbrev pub IsIn : ℕ → Option ℕ → Type 0
 IsIn set None = ⊥
 IsIn set (Some byte) = contains set byte ≡ true
 
--- so many rounds of a body, one behind the other
+-- so many rounds of a body, one after the other
 abbrev pub Rounds : (ℕ → ℕ → Type 0) → ℕ → ℕ → ℕ → Type 0
 Rounds R zero i j = i ≡ j
 Rounds R (suc n) i j = (k : ℕ) × R i k × Rounds R n k j
@@ -23,7 +23,8 @@ IsAllowed (Some most) n = n ≤ most
 abbrev pub Reaches : Reading → Expression → ℕ → ℕ → Type 0
 Reaches r Expression.Empty i j = i ≡ j
 Reaches r (Expression.Class set) i j = (j ≡ i + 1) × IsIn set (after r.units i)
-Reaches r (Expression.Assert look) i j = (i ≡ j) × (holds_at r look i ≡ true)
+Reaches r (Expression.Look look) i j = (i ≡ j) × (holds_at r look i ≡ true)
 Reaches r (Expression.Concat a b) i j = (k : ℕ) × Reaches r a i k × Reaches r b k j
 Reaches r (Expression.Alternate a b) i j = Reaches r a i j ⊎ Reaches r b i j
-Reaches r (Expression.Repeat least most greedy body) i j = (n : ℕ) × (least ≤ n) × IsAllowed most n × Rounds (Reaches r body) n i j
+Reaches r (Expression.Repeat least most greedy body) i j =
+    (n : ℕ) × (least ≤ n) × IsAllowed most n × Rounds (Reaches r body) n i j

@@ -1,16 +1,10 @@
 //! The definitions of the project: what every other crate's contracts cite.
 //!
-//! A reader who wants to know what is claimed starts here. The five enums below are the plain words
+//! A reader who wants to know what is claimed starts here. The enums below are the plain words
 //! of the subject. Everything else stands in `specs/`, in the order of docs/definitions.md: sets of
 //! bytes, assertions, expressions and their ends, what a search finds, the rows of an NFA, powerset
 //! states and their steps, tables, searches over tables. No function of this crate has a loop.
-//!
-//! The functions in [`laws`] and [`examples`] have empty bodies: each carries, as its contract, facts
-//! that a reader of the definitions expects of them, or questions that they answer by computing.
 #![tactic(auto)]
-
-pub mod examples;
-pub mod laws;
 
 /// An assertion: a test of the two bytes beside a place of the haystack. It reads no byte.
 ///
@@ -22,7 +16,7 @@ pub enum Look {
     Start,
     /// The end of the haystack.
     End,
-    /// The start of the haystack, or a place behind a line terminator.
+    /// The start of the haystack, or a place after a line terminator.
     StartLF,
     /// The end of the haystack, or a place before a line terminator.
     EndLF,
@@ -48,12 +42,21 @@ pub enum Look {
     WordEndUnicode,
     /// No word byte stands before.
     WordStartHalfAscii,
-    /// No word byte stands behind.
+    /// No word byte stands after.
     WordEndHalfAscii,
     /// As [`Look::WordStartHalfAscii`].
     WordStartHalfUnicode,
     /// As [`Look::WordEndHalfAscii`].
     WordEndHalfUnicode,
+}
+
+/// In which direction a haystack is read.
+#[derive(Clone, Copy, Debug, PartialEq, Eq)]
+pub enum Direction {
+    /// From its start to its end.
+    Forward,
+    /// From its end to its start.
+    Reverse,
 }
 
 /// Which matches a table tells.
@@ -87,8 +90,27 @@ pub enum StartKind {
     Anchored,
 }
 
-/// What is known of the byte beside a span, on the side where a search begins: before it forward, behind
-/// it in reverse.
+impl StartKind {
+    ghost use Rattle.std.specs.Prelude.{◌≡◌};
+    ghost use Rattle.rx_spec.specs.Starts.{has_unanchored, has_anchored};
+
+    /// Whether there are start rows for unanchored searches.
+    pub fn has_unanchored(&self) -> bool
+        ensures { result ≡ has_unanchored self.now }
+    {
+        matches!(self, StartKind::Both | StartKind::Unanchored)
+    }
+
+    /// Whether there are start rows for anchored searches.
+    pub fn has_anchored(&self) -> bool
+        ensures { result ≡ has_anchored self.now }
+    {
+        matches!(self, StartKind::Both | StartKind::Anchored)
+    }
+}
+
+/// What is known of the byte beside a span, on the side where a search begins: before it forward, after it
+/// in reverse.
 #[derive(Clone, Copy, Debug, PartialEq, Eq)]
 pub enum Start {
     /// A byte that is none of the following.
@@ -103,6 +125,15 @@ pub enum Start {
     LineCR,
     /// A line terminator other than `\n` and `\r`, also where it is a word byte.
     CustomLineTerminator,
+}
+
+/// How the rows of a table are kept.
+#[derive(Clone, Copy, Debug, PartialEq, Eq)]
+pub enum Form {
+    /// A column for each class of bytes.
+    Dense,
+    /// Ranges of classes that lead to one row.
+    Sparse,
 }
 
 /// What an automaton reads: a byte, or the end mark, where the haystack has no further byte.

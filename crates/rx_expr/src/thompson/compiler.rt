@@ -27,7 +27,7 @@ pub struct Compiler {
 impl Compiler {
     /// With default settings.
     pub fn new() -> Compiler
-        ensures { asked_by result ≡ record { reverse = None; utf8 = None; size_limit = None; terminator = None } }
+        ensures { asked_by result ≡ record { reverse = None; is_utf8 = None; size_limit = None; line_terminator = None } }
     {
         Compiler {
             config: Config::new(),
@@ -47,7 +47,7 @@ impl Compiler {
     pub fn rows_len(&self, exprs: &[Expr]) -> u64
         ensures { result ≡ min (length (wanted_nfa (asked_by self.now) exprs.now).rows) (2 ^ 31) }
     {
-        let rows = patterns_len(exprs) + starts_len(exprs, self.config.get_reverse());
+        let rows = patterns_len(exprs) + starts_len(exprs, self.config.direction());
         rows.min(ROWS_LIMIT)
     }
 
@@ -88,25 +88,24 @@ impl Compiler {
         requires safe { All IsLoopSafe exprs.now }
         ensures { IfOk result (λ nfa. meaning nfa ≡ wanted_nfa (asked_by self.now) exprs.now) }
     {
-        let reverse = self.config.get_reverse();
+        let direction = self.config.direction();
         let mut rows = Vec::new(alloc);
         let mut start_patterns = Vec::new(alloc);
-        add_patterns(&mut rows, &mut start_patterns, exprs, reverse)?;
+        add_patterns(&mut rows, &mut start_patterns, exprs, direction)?;
         let start_anchored = join_starts(&mut rows, &start_patterns)?;
         let start_unanchored = lead_in_rows(
             &mut rows,
-            all_begin_with_edge(exprs, reverse),
+            all_begin_with_edge(exprs, direction),
             start_anchored,
         )?;
         let asked = asked_facts(&rows);
         let look_set_any = look_set_any(&rows);
-        rx_meaning::shallow::shallow();
         Ok(NFA {
             rows,
             start_anchored,
             start_unanchored,
             start_patterns,
-            reverse,
+            direction,
             look_matcher: LookMatcher::new(self.config.get_line_terminator()),
             has_empty: any_empty(exprs),
             utf8: self.config.get_utf8(),

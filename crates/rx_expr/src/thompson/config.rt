@@ -3,6 +3,8 @@
 ghost use Rattle.std.specs.Prelude.{◌≡◌, Option, Some, None};
 ghost use Rattle.std.specs.Option.{option_or};
 
+use rx_base::Direction;
+
 /// Settings of the construction. What isn't set has its default.
 #[derive(Clone, Debug, Default, Drop)]
 pub struct Config {
@@ -13,11 +15,11 @@ pub struct Config {
 }
 
 impl Config {
-    ghost use Rattle.rx_expr.specs.Settings.{asked, settled, overwritten};
+    ghost use Rattle.rx_expr.specs.Settings.{asked, settled, overwritten, is_reverse};
 
     /// Nothing is set.
     pub fn new() -> Config
-        ensures { asked result ≡ record { reverse = None; utf8 = None; size_limit = None; terminator = None } }
+        ensures { asked result ≡ record { reverse = None; is_utf8 = None; size_limit = None; line_terminator = None } }
     {
         Config {
             reverse: None,
@@ -37,7 +39,7 @@ impl Config {
 
     /// Whether matches inside a UTF-8 encoded character are passed over. By default they are.
     pub fn utf8(mut self, yes: bool) -> Config
-        ensures { asked result ≡ record (asked self) { utf8 = Some yes } }
+        ensures { asked result ≡ record (asked self) { is_utf8 = Some yes } }
     {
         self.utf8 = Some(yes);
         self
@@ -53,7 +55,7 @@ impl Config {
 
     /// The byte that ends a line for the line assertions. By default `\n`.
     pub fn line_terminator(mut self, byte: u8) -> Config
-        ensures { asked result ≡ record (asked self) { terminator = Some byte } }
+        ensures { asked result ≡ record (asked self) { line_terminator = Some byte } }
     {
         self.line_terminator = Some(byte);
         self
@@ -61,14 +63,25 @@ impl Config {
 
     /// Whether the haystack is read backward.
     pub fn get_reverse(&self) -> bool
-        ensures { result ≡ (settled (asked self.now)).reverse }
+        ensures { result ≡ is_reverse (settled (asked self.now)).direction }
     {
         self.reverse.unwrap_or(false)
     }
 
+    /// In which direction the haystack is read.
+    pub(crate) fn direction(&self) -> Direction
+        ensures { result ≡ (settled (asked self.now)).direction }
+    {
+        if self.get_reverse() {
+            Direction::Reverse
+        } else {
+            Direction::Forward
+        }
+    }
+
     /// Whether matches inside a character are passed over.
     pub fn get_utf8(&self) -> bool
-        ensures { result ≡ (settled (asked self.now)).utf8 }
+        ensures { result ≡ (settled (asked self.now)).is_utf8 }
     {
         self.utf8.unwrap_or(true)
     }
@@ -82,7 +95,7 @@ impl Config {
 
     /// The byte that ends a line.
     pub fn get_line_terminator(&self) -> u8
-        ensures { result ≡ (settled (asked self.now)).terminator }
+        ensures { result ≡ (settled (asked self.now)).line_terminator }
     {
         self.line_terminator.unwrap_or(b'\n')
     }

@@ -2,17 +2,18 @@
 
 ghost use Rattle.std.specs.Prelude.{◌≡◌, ◌||◌, ◌&&◌};
 ghost use Rattle.std.specs.List.{list_all};
-ghost use Rattle.rx_spec.specs.Rows.{reads_nothing as reads_none, begins_with_edge as begins, is_edge as edge, read_as};
+ghost use Rattle.rx_spec.specs.Edge.{reads_nothing as reads_none, begins_with_edge as begins, is_edge as edge};
+ghost use Rattle.rx_spec.specs.Nfas.{read_as};
 ghost use Rattle.rx_expr.specs.Compiles.{has_no_round};
 
 use crate::expr::{Expr, ExprKind};
-use rx_base::Look;
+use rx_base::{Direction, Look};
 
 /// Whether every expression must begin with the edge where reading begins, by its form.
-pub(super) fn all_begin_with_edge(exprs: &[Expr], reverse: bool) -> bool
-    ensures { result ≡ list_all (λ e. begins reverse (read_as reverse e)) exprs.now }
+pub(super) fn all_begin_with_edge(exprs: &[Expr], direction: Direction) -> bool
+    ensures { result ≡ list_all (λ e. begins direction (read_as direction e)) exprs.now }
 {
-    exprs.iter().all(|expr| begins_with_edge(expr, reverse))
+    exprs.iter().all(|expr| begins_with_edge(expr, direction))
 }
 
 /// Whether an expression reads no byte, by its form.
@@ -40,41 +41,40 @@ fn is_zero(max: Option<u32>) -> bool
 
 /// Whether an expression must begin with the edge, by its form.
 #[cycle(begins)]
-fn begins_with_edge(expr: &Expr, reverse: bool) -> bool
-    ensures { result ≡ begins reverse (read_as reverse expr.now) }
+fn begins_with_edge(expr: &Expr, direction: Direction) -> bool
+    ensures { result ≡ begins direction (read_as direction expr.now) }
 {
     match expr.kind() {
         ExprKind::Empty => false,
         ExprKind::Class(_) => false,
-        ExprKind::Look(look) => is_edge(look, reverse),
+        ExprKind::Look(look) => is_edge(look, direction),
         ExprKind::Concat(first, second) => {
-            if reverse {
-                either_begins(second, first, reverse)
-            } else {
-                either_begins(first, second, reverse)
+            match direction {
+                Direction::Forward => either_begins(first, second, direction),
+                Direction::Reverse => either_begins(second, first, direction),
             }
         }
         ExprKind::Alternate(first, second) => {
-            begins_with_edge(first, reverse) && begins_with_edge(second, reverse)
+            begins_with_edge(first, direction) && begins_with_edge(second, direction)
         }
-        ExprKind::Repeat { min, body, .. } => min > 0 && begins_with_edge(body, reverse),
+        ExprKind::Repeat { min, body, .. } => min > 0 && begins_with_edge(body, direction),
     }
 }
 
-fn is_edge(look: Look, reverse: bool) -> bool
-    ensures { result ≡ edge reverse look }
+fn is_edge(look: Look, direction: Direction) -> bool
+    ensures { result ≡ edge direction look }
 {
-    if reverse {
-        matches!(look, Look::End)
-    } else {
-        matches!(look, Look::Start)
+    match direction {
+        Direction::Forward => matches!(look, Look::Start),
+        Direction::Reverse => matches!(look, Look::End),
     }
 }
 
 /// Whether what is read first begins with the edge, or reads nothing before what does.
 #[cycle(begins)]
-fn either_begins(front: &Expr, back: &Expr, reverse: bool) -> bool
-    ensures { result ≡ (begins reverse (read_as reverse front.now) || (reads_none (read_as reverse front.now) && begins reverse (read_as reverse back.now))) }
+fn either_begins(front: &Expr, back: &Expr, direction: Direction) -> bool
+    ensures { result ≡ (begins direction (read_as direction front.now) || (reads_none (read_as direction front.now) && begins direction (read_as direction back.now))) }
 {
-    begins_with_edge(front, reverse) || (reads_nothing(front) && begins_with_edge(back, reverse))
+    begins_with_edge(front, direction)
+        || (reads_nothing(front) && begins_with_edge(back, direction))
 }

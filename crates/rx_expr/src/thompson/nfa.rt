@@ -2,12 +2,12 @@
 
 ghost use Rattle.std.specs.Prelude.{◌≡◌, ◌||◌, ◌<◌, ◌≤◌, length, slice_get, map};
 ghost use Rattle.rx_spec.specs.Contexts.{facts_kept, row_reads};
-ghost use Rattle.rx_spec.specs.Rows.{is_always_anchored};
+ghost use Rattle.rx_spec.specs.Nfas.{is_always_start_anchored};
 ghost use Rattle.rx_spec.specs.Shallow.{IsShallow};
 ghost use Rattle.rx_base.specs.LookSet.{holds_look};
 ghost use Rattle.rx_expr.specs.NfaRows.{row_of, asserts, has_look, HoldsLooks, IsShallow-prop};
 
-use rx_base::{ByteSet, Facts, Look, LookMatcher, LookSet, PatternID, StateID};
+use rx_base::{ByteSet, Direction, Facts, Look, LookMatcher, LookSet, PatternID, StateID};
 
 /// A row of an NFA.
 #[derive(Clone, Copy, Debug)]
@@ -49,7 +49,7 @@ pub struct NFA {
     pub(super) start_anchored: StateID,
     pub(super) start_unanchored: StateID,
     pub(super) start_patterns: Vec<StateID>,
-    pub(super) reverse: bool,
+    pub(super) direction: Direction,
     pub(super) look_matcher: LookMatcher,
     pub(super) has_empty: bool,
     pub(super) utf8: bool,
@@ -110,6 +110,7 @@ impl Row {
 
 impl NFA {
     ghost use Rattle.rx_expr.specs.Nfa.{meaning};
+    ghost use Rattle.rx_expr.specs.Settings.{is_reverse};
 
     /// The rows, by their numbers.
     pub fn rows(&self) -> &[Row]
@@ -120,49 +121,56 @@ impl NFA {
 
     /// Where an anchored search starts.
     pub fn start_anchored(&self) -> StateID
-        ensures { result ≡ (meaning self.now).anchored }
+        ensures { result ≡ (meaning self.now).start_anchored }
     {
         self.start_anchored
     }
 
     /// Where an unanchored search starts.
     pub fn start_unanchored(&self) -> StateID
-        ensures { result ≡ (meaning self.now).unanchored }
+        ensures { result ≡ (meaning self.now).start_unanchored }
     {
         self.start_unanchored
     }
 
     /// Where a search for one pattern starts; none past the list.
     pub fn start_pattern(&self, pid: PatternID) -> Option<StateID>
-        ensures { result ≡ slice_get (meaning self.now).patterns pid }
+        ensures { result ≡ slice_get (meaning self.now).start_patterns pid }
     {
         self.start_patterns.get(pid.as_usize()).copied()
     }
 
     /// How many patterns there are.
     pub fn pattern_len(&self) -> usize
-        ensures { result ≡ length (meaning self.now).patterns }
+        ensures { result ≡ length (meaning self.now).start_patterns }
     {
         self.start_patterns.len()
     }
 
+    /// In which direction the haystack is read.
+    pub fn direction(&self) -> Direction
+        ensures { result ≡ (meaning self.now).direction }
+    {
+        self.direction
+    }
+
     /// Whether the haystack is read backward.
     pub fn is_reverse(&self) -> bool
-        ensures { result ≡ (meaning self.now).backward }
+        ensures { result ≡ is_reverse (meaning self.now).direction }
     {
-        self.reverse
+        matches!(self.direction, Direction::Reverse)
     }
 
     /// The line terminator of the assertions.
     pub fn line_terminator(&self) -> u8
-        ensures { result ≡ (meaning self.now).terminator }
+        ensures { result ≡ (meaning self.now).line_terminator }
     {
         self.look_matcher.get_line_terminator()
     }
 
     /// What decides the assertions.
     pub fn look_matcher(&self) -> &LookMatcher
-        ensures { result.now.line_terminator ≡ (meaning self.now).terminator }
+        ensures { result.now ≡ (meaning self.now).line_terminator }
     {
         &self.look_matcher
     }
@@ -190,7 +198,7 @@ impl NFA {
 
     /// Whether matches inside a UTF-8 encoded character are passed over.
     pub fn is_utf8(&self) -> bool
-        ensures { result ≡ (meaning self.now).utf8 }
+        ensures { result ≡ (meaning self.now).is_utf8 }
     {
         self.utf8
     }
@@ -198,7 +206,7 @@ impl NFA {
     /// Whether every match begins at the edge of the haystack where reading begins, so that both
     /// starts are one row.
     pub fn is_always_start_anchored(&self) -> bool
-        ensures { result ≡ is_always_anchored (meaning self.now) }
+        ensures { result ≡ is_always_start_anchored (meaning self.now) }
     {
         self.start_anchored == self.start_unanchored
     }

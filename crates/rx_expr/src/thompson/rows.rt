@@ -7,7 +7,7 @@ ghost use Rattle.rx_expr.specs.Nfa.{row_of};
 
 use super::nfa::Row;
 use crate::expr::{Expr, ExprKind};
-use rx_base::StateID;
+use rx_base::{Direction, StateID};
 use std::alloc::AllocError;
 
 /// The id of a number that is known to be one.
@@ -56,11 +56,11 @@ fn choice(greedy: bool, body: StateID, next: StateID) -> Row
 pub(super) fn compile(
     rows: &mut Vec<Row>,
     expr: &Expr,
-    reverse: bool,
+    direction: Direction,
     next: StateID,
 ) -> Result<StateID, AllocError>
     requires { length rows.old.items + rows_count expr.now ≤ 2147483647 }
-    ensures { IfOk result (λ entry. Adds rows.old.items rows.new.items entry (maker reverse expr.now (length rows.old.items) next)) }
+    ensures { IfOk result (λ entry. Adds rows.old.items rows.new.items entry (maker direction expr.now (length rows.old.items) next)) }
 {
     if expr.rows_len() == 0 {
         return Ok(next);
@@ -70,19 +70,18 @@ pub(super) fn compile(
         ExprKind::Class(set) => push(rows, Row::Bytes { set, next }),
         ExprKind::Look(look) => push(rows, Row::Look { look, next }),
         ExprKind::Concat(first, second) => {
-            if reverse {
-                concat(rows, second, first, reverse, next)
-            } else {
-                concat(rows, first, second, reverse, next)
+            match direction {
+                Direction::Forward => concat(rows, first, second, direction, next),
+                Direction::Reverse => concat(rows, second, first, direction, next),
             }
         }
-        ExprKind::Alternate(first, second) => alternate(rows, first, second, reverse, next),
+        ExprKind::Alternate(first, second) => alternate(rows, first, second, direction, next),
         ExprKind::Repeat {
             min,
             max,
             greedy,
             body,
-        } => repeat(rows, body, reverse, (min, max), greedy, next),
+        } => repeat(rows, body, direction, (min, max), greedy, next),
     }
 }
 
@@ -91,24 +90,24 @@ pub(super) fn compile(
 fn repeat(
     rows: &mut Vec<Row>,
     body: &Expr,
-    reverse: bool,
+    direction: Direction,
     bounds: (u32, Option<u32>),
     greedy: bool,
     next: StateID,
 ) -> Result<StateID, AllocError>
     requires { length rows.old.items + repeated_count bounds.0 bounds.1 (rows_count body.now) ≤ 2147483647 }
-    ensures { IfOk result (λ entry. Adds rows.old.items rows.new.items entry (repeated bounds.0 bounds.1 greedy (maker reverse body.now) (length rows.old.items) next)) }
+    ensures { IfOk result (λ entry. Adds rows.old.items rows.new.items entry (repeated bounds.0 bounds.1 greedy (maker direction body.now) (length rows.old.items) next)) }
 {
     let min = bounds.0;
     match bounds.1 {
         None => {
-            let behind = repeat_forever(rows, body, reverse, greedy, next)?;
-            repeat_exactly(rows, body, reverse, min, behind)
+            let behind = repeat_forever(rows, body, direction, greedy, next)?;
+            repeat_exactly(rows, body, direction, min, behind)
         }
         Some(max) => {
             let rounds = max.saturating_sub(min);
-            let behind = repeat_up_to(rows, body, reverse, greedy, rounds, next)?;
-            repeat_exactly(rows, body, reverse, min, behind)
+            let behind = repeat_up_to(rows, body, direction, greedy, rounds, next)?;
+            repeat_exactly(rows, body, direction, min, behind)
         }
     }
 }
@@ -119,14 +118,14 @@ fn concat(
     rows: &mut Vec<Row>,
     front: &Expr,
     back: &Expr,
-    reverse: bool,
+    direction: Direction,
     next: StateID,
 ) -> Result<StateID, AllocError>
     requires { length rows.old.items + rows_count front.now + rows_count back.now ≤ 2147483647 }
-    ensures { IfOk result (λ entry. Adds rows.old.items rows.new.items entry (chained (maker reverse front.now) (maker reverse back.now) (length rows.old.items) next)) }
+    ensures { IfOk result (λ entry. Adds rows.old.items rows.new.items entry (chained (maker direction front.now) (maker direction back.now) (length rows.old.items) next)) }
 {
-    let behind = compile(rows, back, reverse, next)?;
-    compile(rows, front, reverse, behind)
+    let behind = compile(rows, back, direction, next)?;
+    compile(rows, front, direction, behind)
 }
 
 /// Both, and a Split of them.
@@ -135,14 +134,14 @@ fn alternate(
     rows: &mut Vec<Row>,
     first: &Expr,
     second: &Expr,
-    reverse: bool,
+    direction: Direction,
     next: StateID,
 ) -> Result<StateID, AllocError>
     requires { length rows.old.items + rows_count first.now + rows_count second.now + 1 ≤ 2147483647 }
-    ensures { IfOk result (λ entry. Adds rows.old.items rows.new.items entry (either (maker reverse first.now) (maker reverse second.now) (length rows.old.items) next)) }
+    ensures { IfOk result (λ entry. Adds rows.old.items rows.new.items entry (either (maker direction first.now) (maker direction second.now) (length rows.old.items) next)) }
 {
-    let first = compile(rows, first, reverse, next)?;
-    let second = compile(rows, second, reverse, next)?;
+    let first = compile(rows, first, direction, next)?;
+    let second = compile(rows, second, direction, next)?;
     push(rows, Row::Split { first, second })
 }
 
@@ -151,19 +150,19 @@ fn alternate(
 fn repeat_exactly(
     rows: &mut Vec<Row>,
     body: &Expr,
-    reverse: bool,
+    direction: Direction,
     count: u32,
     next: StateID,
 ) -> Result<StateID, AllocError>
     requires { length rows.old.items + count * rows_count body.now ≤ 2147483647 }
-    ensures { IfOk result (λ entry. Adds rows.old.items rows.new.items entry (copied count (maker reverse body.now) (length rows.old.items) next)) }
+    ensures { IfOk result (λ entry. Adds rows.old.items rows.new.items entry (copied count (maker direction body.now) (length rows.old.items) next)) }
 {
     if body.rows_len() == 0 {
         return Ok(next);
     }
     let mut entry = next;
     for round in 0..count {
-        entry = compile(rows, body, reverse, entry)?;
+        entry = compile(rows, body, direction, entry)?;
     }
     Ok(entry)
 }
@@ -173,17 +172,17 @@ fn repeat_exactly(
 fn repeat_up_to(
     rows: &mut Vec<Row>,
     body: &Expr,
-    reverse: bool,
+    direction: Direction,
     greedy: bool,
     count: u32,
     next: StateID,
 ) -> Result<StateID, AllocError>
     requires { length rows.old.items + count * (rows_count body.now + 1) ≤ 2147483647 }
-    ensures { IfOk result (λ entry. Adds rows.old.items rows.new.items entry (optioned greedy count (maker reverse body.now) (length rows.old.items) next)) }
+    ensures { IfOk result (λ entry. Adds rows.old.items rows.new.items entry (optioned greedy count (maker direction body.now) (length rows.old.items) next)) }
 {
     let mut entry = next;
     for round in 0..count {
-        let body_entry = compile(rows, body, reverse, entry)?;
+        let body_entry = compile(rows, body, direction, entry)?;
         entry = push(rows, choice(greedy, body_entry, next))?;
     }
     Ok(entry)
@@ -194,15 +193,15 @@ fn repeat_up_to(
 fn repeat_forever(
     rows: &mut Vec<Row>,
     body: &Expr,
-    reverse: bool,
+    direction: Direction,
     greedy: bool,
     next: StateID,
 ) -> Result<StateID, AllocError>
     requires { length rows.old.items + rows_count body.now + 1 ≤ 2147483647 }
-    ensures { IfOk result (λ entry. Adds rows.old.items rows.new.items entry (looped greedy (maker reverse body.now) (length rows.old.items) next)) }
+    ensures { IfOk result (λ entry. Adds rows.old.items rows.new.items entry (looped greedy (maker direction body.now) (length rows.old.items) next)) }
 {
     let split = push(rows, Row::Fail)?;
-    let round = compile(rows, body, reverse, split)?;
+    let round = compile(rows, body, direction, split)?;
     put(rows, split.as_usize(), choice(greedy, round, next));
     Ok(split)
 }

@@ -3,14 +3,15 @@
 ghost use Rattle.std.specs.Prelude.{◌≡◌, ◌==◌, ◌+◌, ◌-◌, ◌^◌, ◌≤◌, [], min, length, map, IfOk, OnOk, All};
 ghost use Rattle.std.specs.List.{list_all, list_any};
 ghost use Rattle.rx_spec.specs.Expressions.{IsLoopSafe, min_len};
-ghost use Rattle.rx_spec.specs.Rows.{patterns_from, joined, lead_in, read_as, begins_with_edge};
+ghost use Rattle.rx_spec.specs.Nfas.{patterns_from, start_of_all, lead_in, read_as};
+ghost use Rattle.rx_spec.specs.Edge.{begins_with_edge};
 ghost use Rattle.rx_expr.specs.Compiles.{Adds, AddsPatterns, patterns_count, joined_count, lead_count};
 
 use super::edge::all_begin_with_edge;
 use super::nfa::Row;
 use super::rows::{compile, id_of, push};
 use crate::expr::{Expr, ROWS_LIMIT};
-use rx_base::{ByteSet, PatternID, StateID};
+use rx_base::{ByteSet, Direction, PatternID, StateID};
 use std::alloc::AllocError;
 
 /// Learns of each expression that its repetitions are bounded. Nothing is done.
@@ -47,18 +48,18 @@ pub(super) fn patterns_len(exprs: &[Expr]) -> u64
 }
 
 /// How many rows the starts have, up to [`ROWS_LIMIT`] and two more.
-pub(super) fn starts_len(exprs: &[Expr], reverse: bool) -> u64
-    ensures value { result ≡ min (joined_count (length exprs.now)) (2 ^ 31) + lead_count (list_all (λ e. begins_with_edge reverse (read_as reverse e)) exprs.now) }
+pub(super) fn starts_len(exprs: &[Expr], direction: Direction) -> u64
+    ensures value { result ≡ min (joined_count (length exprs.now)) (2 ^ 31) + lead_count (list_all (λ e. begins_with_edge direction (read_as direction e)) exprs.now) }
     ensures bound { result ≤ 2 ^ 31 + 2 }
 {
-    let joined = match exprs.len() {
+    let start_of_all = match exprs.len() {
         0 => 1,
         n => (n as u64 - 1).min(ROWS_LIMIT),
     };
-    if all_begin_with_edge(exprs, reverse) {
-        joined
+    if all_begin_with_edge(exprs, direction) {
+        start_of_all
     } else {
-        joined + 2
+        start_of_all + 2
     }
 }
 
@@ -67,17 +68,17 @@ pub(super) fn add_patterns(
     rows: &mut Vec<Row>,
     starts: &mut Vec<StateID>,
     exprs: &[Expr],
-    reverse: bool,
+    direction: Direction,
 ) -> Result<(), AllocError>
     requires empty { rows.old.items ≡ [] }
     requires none { starts.old.items ≡ [] }
     requires room { patterns_count exprs.now ≤ 2147483647 }
-    ensures { OnOk result (AddsPatterns rows.new.items starts.new.items (patterns_from 0 0 (map (read_as reverse) exprs.now))) }
+    ensures { OnOk result (AddsPatterns rows.new.items starts.new.items (patterns_from 0 0 (map (read_as direction) exprs.now))) }
 {
     for (k, expr) in exprs.iter().enumerate() {
         let pattern = pattern_of(k);
         let accept = push(rows, Row::Match { pattern })?;
-        let start = compile(rows, expr, reverse, accept)?;
+        let start = compile(rows, expr, direction, accept)?;
         starts.push(start)?;
     }
     Ok(())
@@ -97,7 +98,7 @@ fn pattern_of(n: usize) -> PatternID
 /// Adds the Splits that join the starts, the last pair first.
 pub(super) fn join_starts(rows: &mut Vec<Row>, starts: &[StateID]) -> Result<StateID, AllocError>
     requires { length rows.old.items + joined_count (length starts.now) ≤ 2147483647 }
-    ensures { IfOk result (λ start. Adds rows.old.items rows.new.items start (joined (length rows.old.items) starts.now)) }
+    ensures { IfOk result (λ start. Adds rows.old.items rows.new.items start (start_of_all (length rows.old.items) starts.now)) }
 {
     let n = starts.len();
     if n == 0 {

@@ -1,5 +1,5 @@
-use Rattle.rx_meaning.proofs.ForwardHalf.{preference}
+use Rattle.rx_meaning.proofs.ForwardSearch.{preference_holds}
 use Rattle.rx_meaning.proofs.preference.Goals as goal
 
 pub returns : goal.returns
-returns c = preference
+returns c = preference_holds

@@ -5,6 +5,9 @@ use Rattle.rx_main.proofs.transfer.write_text.Goals as goal
 pub writes-preserved : goal.writes-preserved
 writes-preserved g c = record {
   within = omega (arith, c.in-Took.ensures.bytes.1);
-  bytes = written_more c.args.text.now c.writes.at c.in-Took.count (g.K.Sink.written c.args.out.now) (g.K.Sink.written c.writes.out) (g.K.Sink.written c.write.new.self) c.writes.invariant.bytes c.in-Took.ensures.bytes.2;
+  bytes =
+      written_more c.args.text.now c.writes.at c.in-Took.count (g.K.Sink.written c.args.out.now)
+      (g.K.Sink.written c.writes.out) (g.K.Sink.written c.write.new.self) c.writes.invariant.bytes
+      c.in-Took.ensures.bytes.2;
   kept = omega (arith, c.in-Took.ensures.cause.kept);
 }

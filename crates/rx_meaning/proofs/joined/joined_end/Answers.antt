@@ -1,5 +1,5 @@
-use Rattle.rx_meaning.proofs.EarlyJoined.{joined_end}
+use Rattle.rx_meaning.proofs.JoinedSearches.{joined_end_holds}
 use Rattle.rx_meaning.proofs.joined.joined_end.Goals as goal
 
 pub returns : goal.returns
-returns c = joined_end
+returns c = joined_end_holds

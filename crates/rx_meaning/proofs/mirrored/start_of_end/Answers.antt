@@ -1,5 +1,5 @@
-use Rattle.rx_meaning.proofs.MirroredWalk.{end_started}
+use Rattle.rx_meaning.proofs.ReverseSearch.{start_of_end_holds}
 use Rattle.rx_meaning.proofs.mirrored.start_of_end.Goals as goal
 
 pub returns : goal.returns
-returns c = end_started
+returns c = start_of_end_holds

@@ -1,28 +1,39 @@
-use Rattle.std.proofs.Common.{◌≡◌, ◌+◌, ◌*◌, ◌≤◌, length, refl, ap, ◌∙◌, arith, mul-le-mul_right}
-use Rattle.std.specs.List.{slice_range}
-use Rattle.rx_refine.proofs.Cells.{AreColumns-grown}
-use Rattle.rx_refine.proofs.Grouping.{whole_written}
+use Rattle.std.proofs.Common.{◌≡◌, ◌+◌, ◌*◌, ◌≤◌, length, sym, ap, ◌∙◌, arith, mul-le-mul_left, mul-le-mul_right}
+use Rattle.std.proofs.lemmas.List.{with_items_is}
+use Rattle.rx_refine.proofs.ColumnsOf.{AreColumns-grown}
 use Rattle.rx_refine.proofs.columns.columns_of.Goals as goal
+
+pub overflow_mul-most : goal.overflow_mul-most
+overflow_mul-most c =
+    let few : c.min-most.result ≤ c.args.table.now.rows = grind arith in
+    let i = c.units-units.ensures.layout in
+    let wide : c.args.table.now.rows * c.args.table.now.units ≤ c.args.table.now.rows * c.args.table.now.stride =
+    mul-le-mul_left c.args.table.now.rows i.units in
+    rw c.units-units.ensures.units
+    (omega (arith, i.entries, i.fits, mul-le-mul_right c.args.table.now.units few))
 
 pub loop-first-preserved : goal.loop-first-preserved
 loop-first-preserved c =
-    let below : c.loop-first.first + c.min-count.result ≤ c.args.rows = grind arith in
     let few : c.min-count.result ≤ c.min-most.result = grind arith in
-    let len : length c.transpose.new.transposed ≡ c.min-most.result * c.args.units = omega (arith, c.transpose.auto.transposed, c.loop-first.auto.transposed, c.as_mut_slice-transposed.ensures.len, c.in_ok-room.ensures.len) in
-    let within : (c.loop-first.first + c.min-count.result) * c.args.units ≤ c.args.rows * c.args.units = mul-le-mul_right c.args.units below in
-    let room : c.min-count.result * c.args.units ≤ c.min-most.result * c.args.units = mul-le-mul_right c.args.units few in
+    let below : c.loop-first.first + c.min-count.result ≤ c.args.table.now.rows = grind arith in
+    let room : c.min-count.result * c.units-units.result ≤ c.min-most.result * c.units-units.result =
+    mul-le-mul_right c.units-units.result few in
+    let transposed : length c.transpose.new.transposed ≡ c.min-most.result * c.units-units.result =
+    omega (
+      arith,
+      c.transpose.auto.transposed,
+      c.loop-first.auto.transposed,
+      c.as_mut_slice-transposed.ensures.len,
+      c.in_ok-room.ensures.len,
+    ) in
+    let old = c.deref_mut.ensures.value in
+    let same : length c.add_cells.new.columns ≡ length c.loop-first.columns.items = c.add_cells.auto.columns ∙ ap length old in
     record {
       below = below;
       columns =
-          rw (whole_written c.loop-first.columns.len c.loop-first.columns.items c.add_cells.new.columns (c.add_cells.auto.columns ∙ ap length c.deref_mut.ensures.value) c.loop-first.columns.ok.0)
-          (AreColumns-grown c.args.units c.loop-first.first c.min-count.result c.args.next.now
-          (slice_range c.args.next.now (c.loop-first.first * c.args.units) ((c.loop-first.first + c.min-count.result) * c.args.units))
-          c.transpose.new.transposed c.loop-first.columns.items c.add_cells.new.columns
-          c.loop-first.invariant.columns
-          (let l = c.requires.cells in omega arith)
-          refl
-          c.transpose.ensures
-          (omega arith)
-          (c.add_cells.auto.columns ∙ ap length c.deref_mut.ensures.value)
-          (λ unit h. rw c.deref_mut.ensures.value at (c.in_ok-add_cells.ensures unit (rw c.deref_mut.ensures.value h))));
+          rw (with_items_is c.loop-first.columns c.add_cells.new.columns (same ∙ sym c.loop-first.columns.ok.0))
+          (AreColumns-grown c.loop-first.invariant.columns c.min-count.result c.transpose.new.transposed
+          (rw (← c.units-units.ensures.units) (omega arith))
+          c.transpose.ensures c.add_cells.new.columns same
+          (λ unit h. rw old at (c.in_ok-add_cells.ensures unit (rw old h))));
     }

@@ -1,7 +1,7 @@
-use Rattle.rx_refine.proofs.Cells.{column_small}
+use Rattle.rx_refine.proofs.ColumnsOf.{column_small}
 use Rattle.rx_refine.proofs.lists.lists_of.Goals as goal
 
 pub new-requires-clause-small : goal.new-requires-clause-small
 new-requires-clause-small c =
-    column_small c.args.rows c.args.units c.args.next.now c.loop-column.lists.items c.in-Some.column c.next.new.self.rest.items
-    (rw (c.in-Some.ensures.steps.0) at c.loop-column.invariant) c.requires.cells c.requires.nexts
+    column_small c.loop-column.lists.items c.in-Some.column c.next.new.self.rest.items c.rows.ensures.layout
+    (rw c.in-Some.ensures.steps.0 at c.loop-column.invariant)

@@ -1,31 +1,35 @@
-use Rattle.std.proofs.Common.{◌∙◌, refl, sym, ap}
-use Rattle.std.proofs.lemmas.Result.{err_from_is_err_and}
+use Rattle.std.proofs.Common.{Err, false, refl, sym, ◌∙◌, subst}
+use Rattle.rx_spec.specs.Bytes.{AreBytes}
+use Rattle.rx_spec.specs.Plans.{outcome}
 use Rattle.rx_base.specs.Input.{query_of}
-use Rattle.rx_meaning.specs.Joined.{joined_of}
-use Rattle.rx_regex.specs.Plan.{wanted_of}
-use Rattle.rx_regex.proofs.Joining.{answers_fault}
+use Rattle.rx_plan.specs.Plan.{plan_of}
+use Rattle.rx_regex.specs.Engine.{build_of}
+use Rattle.rx_regex.specs.Pairs.{joined_by}
+use Rattle.rx_regex.proofs.Joins.{joined_outcome, answers_fault}
+use Rattle.rx_regex.proofs.Saying.{says_same}
 use Rattle.rx_regex.proofs.find.compile_and_find.Goals as goal
 
-pub returns-in_err-found : goal.returns-in_err-found
-returns-in_err-found c =
-    let p = err_from_is_err_and c.from_residual-in_err-found.result c.from_residual-in_err-found.ensures.1 in
-    let w = wanted_of c.args.plan.now in
-    let q = query_of c.args.input.now in
-    rw (p.1, p.2)
-    (answers_fault c.args.plan.now c.args.exprs.now q (joined_of w c.args.exprs.now (query_of c.preferred-preferred.result)) _
-    (record { forward = c.in_ok-forward.ensures.free; reverse = c.in_ok-reverse.ensures.free })
-    (ap (λ x. joined_of w c.args.exprs.now x) c.preferred-preferred.ensures.asked
-    ∙ c.joined_search.ensures w c.args.exprs.now q c.in_ok-forward.ensures.safe (rw (sym c.haystack.ensures) c.learn_bytes.ensures) c.requires.fits.within)
-    c.in_err-found.ensures)
+pub returns-in-Ok-search-clause-answers : goal.returns-in-Ok-search-clause-answers
+returns-in-Ok-search-clause-answers k =
+    let b = build_of k.in-Ok.built.forward in
+    let c = build_of k.in-Ok.built.reverse in
+    let p = plan_of k.args.plan.now in
+    let q = query_of k.args.input.now in
+    let built = k.in-Ok.ensures.ok in
+    let bytes = subst AreBytes k.haystack.ensures k.learn_bytes.ensures in
+    let found = joined_outcome b c p k.args.exprs.now q k.joined_search.ensures built bytes k.requires.fits.within in
+    (built.compiled, sym found ∙ k.in-Ok-search.ensures.answer, refl, refl)
 
-pub returns : goal.returns
-returns c =
-    let w = wanted_of c.args.plan.now in
-    let q = query_of c.args.input.now in (
-      record { forward = c.in_ok-forward.ensures.free; reverse = c.in_ok-reverse.ensures.free },
-      sym (ap (λ x. joined_of w c.args.exprs.now x) c.preferred-preferred.ensures.asked
-          ∙ c.joined_search.ensures w c.args.exprs.now q c.in_ok-forward.ensures.safe (rw (sym c.haystack.ensures) c.learn_bytes.ensures) c.requires.fits.within)
-          ∙ c.in_ok-found.ensures,
-      refl,
-      refl,
-    )
+pub returns-clause-answers : goal.returns-clause-answers
+returns-clause-answers k =
+    let b = build_of k.in-Ok.built.forward in
+    let c = build_of k.in-Ok.built.reverse in
+    let p = plan_of k.args.plan.now in
+    let q = query_of k.args.input.now in
+    let built = k.in-Ok.ensures.ok in
+    let bytes = subst AreBytes k.haystack.ensures k.learn_bytes.ensures in
+    let found = joined_outcome b c p k.args.exprs.now q k.joined_search.ensures built bytes k.requires.fits.within in
+    answers_fault p k.args.exprs.now q k.search_fault.result k.in-Err-search.error built.compiled
+    (says_same (Err k.in-Err-search.error) (joined_by b c (record q { earliest = false })) (outcome p k.args.exprs.now q) found
+    k.in-Err-search.ensures.answer)
+    k.search_fault.ensures

@@ -11,4 +11,5 @@ returns-clause-inserted c = insert-same c.self.inside.bits c.bit_of.result c.arg
 
 pub returns-clause-others : goal.returns-clause-others
 returns-clause-others c other ne =
-    insert-other c.self.inside.bits c.bit_of.result c.args.look other c.bit_of.ensures ne ∙ ap (λ (set : ℕ). holds_look set other) c.self.view_is
+    insert-other c.self.inside.bits c.bit_of.result c.args.look other c.bit_of.ensures ne
+    ∙ ap (λ (set : ℕ). holds_look set other) c.self.view_is

@@ -8,4 +8,5 @@ returns-clause-removed c = remove-same c.self.inside.bits c.bit_of.result c.args
 
 pub returns-clause-others : goal.returns-clause-others
 returns-clause-others c other ne =
-    remove-other c.self.inside.bits c.bit_of.result c.args.look other c.bit_of.ensures ne ∙ ap (λ (set : ℕ). holds_look set other) c.self.view_is
+    remove-other c.self.inside.bits c.bit_of.result c.args.look other c.bit_of.ensures ne
+    ∙ ap (λ (set : ℕ). holds_look set other) c.self.view_is

@@ -1,6 +1,6 @@
 use Rattle.std.proofs.Common.{◌≡◌, ◌∙◌, ap, sym, arith, ◌+◌, max}
 use Rattle.rx_spec.specs.Expressions.{depth}
-use Rattle.rx_spec.specs.Rows.{reads_nothing}
+use Rattle.rx_spec.specs.Edge.{reads_nothing}
 use Rattle.rx_expr.proofs.Adding.{depth_concat, depth_alternate, depth_repeat}
 use Rattle.rx_expr.proofs.Edges as edges
 use Rattle.rx_expr.proofs.thompson.edge.+reads_nothing.Goals as goal

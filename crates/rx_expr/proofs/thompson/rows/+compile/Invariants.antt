@@ -23,10 +23,10 @@ abbrev pub decreases-repeat_forever : goal.decreases-repeat_forever
 decreases-repeat_forever l = 3 * depth l.body.now + 1
 
 abbrev pub invariant-repeat_exactly-loop-round : goal.invariant-repeat_exactly-loop-round
-invariant-repeat_exactly-loop-round l = Adds l.fn.rows.items l.rows.items l.entry (copies l.round (maker l.reverse l.body) (length l.fn.rows.items) l.fn.next)
+invariant-repeat_exactly-loop-round l = Adds l.fn.rows.items l.rows.items l.entry (copies l.round (maker l.direction l.body) (length l.fn.rows.items) l.fn.next)
 
 abbrev pub invariant-repeat_up_to-loop-round : goal.invariant-repeat_up_to-loop-round
-invariant-repeat_up_to-loop-round l = Adds l.fn.rows.items l.rows.items l.entry (optional l.greedy l.round (maker l.reverse l.body) (length l.fn.rows.items) l.fn.next)
+invariant-repeat_up_to-loop-round l = Adds l.fn.rows.items l.rows.items l.entry (optional l.greedy l.round (maker l.direction l.body) (length l.fn.rows.items) l.fn.next)
 
 abbrev pub decreases-repeat : goal.decreases-repeat
 decreases-repeat l = 3 * depth l.body.now + 2

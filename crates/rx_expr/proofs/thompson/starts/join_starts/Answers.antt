@@ -1,5 +1,5 @@
 use Rattle.std.proofs.Common.{arith, sym, subst, ◌+◌, ◌-◌, length, drop}
-use Rattle.rx_spec.specs.Rows.{joined}
+use Rattle.rx_spec.specs.Nfas.{start_of_all}
 use Rattle.rx_expr.specs.Compiles.{Adds}
 use Rattle.rx_expr.proofs.Starting.{ok_failed, joined_last, joined_room, joined_before}
 use Rattle.rx_expr.proofs.thompson.starts.join_starts.Goals as goal
@@ -16,5 +16,5 @@ push-requires-in-loop-round c =
 
 pub loop-round-preserved : goal.loop-round-preserved
 loop-round-preserved c =
-    subst (λ e. Adds c.args.rows.now.items c.push-in-loop-round.new.rows.items e (joined (length c.args.rows.now.items) (drop (length c.args.starts.now - (c.loop-round.round + 1)) c.args.starts.now))) (sym c.in_ok-start.ensures.id)
+    subst (λ e. Adds c.args.rows.now.items c.push-in-loop-round.new.rows.items e (start_of_all (length c.args.rows.now.items) (drop (length c.args.starts.now - (c.loop-round.round + 1)) c.args.starts.now))) (sym c.in_ok-start.ensures.id)
     (joined_before c.args.rows.now.items c.loop-round.rows.items c.push-in-loop-round.new.rows.items c.args.starts.now c.loop-round.round c.index-starts-n-in-loop-round.result c.loop-round.start c.loop-round.auto.round c.loop-round-test.true c.index-starts-n-in-loop-round.is c.loop-round.invariant c.in_ok-start.ensures.rows)

@@ -12,9 +12,9 @@ pub returns : goal.returns
 returns c =
     answered state_of c.at.result (state_at (meaning c.args.nfa.now) c.deref-3.result.now c.of_unit-known.result c.in_ok-label.label.items) (step (meaning c.args.nfa.now) c.args.kind (state_of c.args.self.now) (unit_number c.args.unit))
     (ap (λ (l : List ℕ). state_at (meaning c.args.nfa.now) l c.of_unit-known.result c.in_ok-label.label.items) c.deref-3.ensures.value
-    ∙ stepped (meaning c.args.nfa.now) c.args.kind (state_of c.args.self.now) (unit_number c.args.unit) c.of_unit-known.result c.is_reverse.result c.deref.result.now c.in_ok-settled.settled.items c.cut-going.result.now c.in_ok-targets.targets.items c.in_ok-label.label.items
+    ∙ stepped (meaning c.args.nfa.now) c.args.kind (state_of c.args.self.now) (unit_number c.args.unit) c.of_unit-known.result c.direction.result c.deref.result.now c.in_ok-settled.settled.items c.cut-going.result.now c.in_ok-targets.targets.items c.in_ok-label.label.items
     (c.of_unit-known.ensures ∙ ap (λ (t : ℕ). unit_facts t (unit_number c.args.unit)) c.line_terminator.ensures)
-    c.is_reverse.ensures c.deref.ensures.value c.in_ok-settled.ensures.rows
+    c.direction.ensures c.deref.ensures.value c.in_ok-settled.ensures.rows
     (c.cut-going.ensures ∙ ap (λ (l : List ℕ). cut c.args.kind (meaning c.args.nfa.now).rows l) c.deref-2.ensures.value)
     c.in_ok-label.ensures c.in_ok-targets.ensures)
     c.at.ensures

@@ -1,0 +1,214 @@
+-- A set of bytes, a number of 256 bits, by its two halves of 128, and its bytes after a change.
+use Rattle.std.proofs.Common.{ℕ, ◌≡◌, ◌≢◌, ◌+◌, ◌-◌, ◌*◌, ◌^◌, ◌/◌, ◌%◌, ◌<◌, ◌≤◌, ◌⊎◌, refl, sym, ◌∙◌, ap, subst}
+use Rattle.std.proofs.Common.{arith}
+use Rattle.std.proofs.Common.{inl, inr, bit_or, bit_and, Bool, true, false, ◌==◌, ◌&&◌, ◌||◌, not, nat_le, nat_lt, max}
+use Rattle.std.proofs.Common.{ap₂}
+use Rattle.std.specs.Int.{w128, bit_at}
+use Rattle.std.specs.Int.Bits.{or_zero_r, and_lt}
+use Rattle.std.proofs.Math.Bool.{and-true, and-false}
+use Rattle.std.proofs.lemmas.Bool.Decides.{nat_tests, eqb_tells}
+use Rattle.std.proofs.lemmas.Nat.{or_block, or_lt, one_shl, pow_below, pow-add}
+use Rattle.std.proofs.lemmas.Nat.Bits.{shr_and_one, bit_at-lt, bit_at_or, bit_at-pow_same, bit_at-pow_other}
+use Rattle.std.proofs.lemmas.Nat.Bits.{bit_at_above}
+use Rattle.std.proofs.lemmas.Nat.Bits.{bit_at_cat_low, bit_at_cat_high, bit_at_clear_same, bit_at_clear_other}
+use Rattle.std.proofs.lemmas.Nat.Bits.{bit_at_mask_below, bit_at_mask_inside, bit_at_mask_above}
+use Rattle.rx_spec.specs.Bytes.{contains, only, between}
+use Rattle.rx_spec.specs.Looks.{differ}
+use Rattle.rx_spec.specs.Classes.{parts}
+
+abbrev pub joined : ℕ → ℕ → ℕ
+joined high low = high * 2 ^ 128 + low
+
+-- 1 << k in a half
+abbrev pub bit : ℕ → ℕ
+bit k = 1 * 2 ^ k % 2 ^ 128
+
+half_or_other : (b : ℕ) → (b < 128) ⊎ (128 ≤ b)
+half_or_other b = grind arith
+
+-- ---- a byte is in the set where its bit is set in its half
+byte_in : (set b n : ℕ) → b < 256 → n ≡ bit_at set b → (n == 1) ≡ contains set b
+byte_in set b n is_byte e =
+    let within : nat_lt b 256 ≡ true = grind (arith, nat_tests) in
+    ap (λ m. m == 1) e ∙ ap (λ t. t && (bit_at set b == 1)) (sym within)
+
+pub contains-low : (high low b : ℕ) → b < 128 → (bit_and (low / 2 ^ b) 1 == 1) ≡ contains (joined high low) b
+contains-low high low b below =
+    byte_in (joined high low) b _ (omega arith) (shr_and_one low b ∙ sym (bit_at_cat_low high 128 low b below))
+
+pub contains-high : (high low b : ℕ) → low < 2 ^ 128 → 128 ≤ b → b < 256
+    → (bit_and (high / 2 ^ (b - 128)) 1 == 1) ≡ contains (joined high low) b
+contains-high high low b fits from below =
+    byte_in (joined high low) b _ below
+    (shr_and_one high (b - 128) ∙ sym (bit_at_cat_high high 128 low b fits from))
+
+-- ---- the union of two sets is made by halves
+pub joined-or : (h l h' l' : ℕ) → l < 2 ^ 128 → l' < 2 ^ 128
+    → joined (bit_or h h') (bit_or l l') ≡ bit_or (joined h l) (joined h' l')
+joined-or h l h' l' fits fits' = sym (or_block 128 h h' l l' fits fits')
+
+-- ---- one byte more
+bit_is : (k : ℕ) → k < 128 → bit k ≡ 2 ^ k
+bit_is k below = one_shl k 128 below
+
+pub bit_fits : (k : ℕ) → k < 128 → bit k < 2 ^ 128
+bit_fits k below = subst (λ n. n < 2 ^ 128) (sym (bit_is k below)) (pow_below k 128 below)
+
+pub or-fits : (half k : ℕ) → half < 2 ^ 128 → k < 128 → bit_or half (bit k) < 2 ^ 128
+or-fits half k fits below = or_lt 128 half (bit k) fits (bit_fits k below)
+
+pub joined-or_low : (high low b : ℕ) → low < 2 ^ 128 → b < 128
+    → joined high (bit_or low (bit b)) ≡ bit_or (joined high low) (2 ^ b)
+joined-or_low high low b fits below =
+    ap (λ n. joined n (bit_or low (bit b))) (sym (or_zero_r high))
+    ∙ joined-or high low 0 (bit b) fits (bit_fits b below)
+    ∙ ap (λ n. bit_or (joined high low) n) (alone (bit b) ∙ bit_is b below)
+  where
+    alone : (n : ℕ) → joined 0 n ≡ n
+    alone n = omega arith
+
+pub joined-or_high : (high low b : ℕ) → low < 2 ^ 128 → 128 ≤ b → b < 256
+    → joined (bit_or high (bit (b - 128))) low ≡ bit_or (joined high low) (2 ^ b)
+joined-or_high high low b fits from below =
+    ap (λ n. joined (bit_or high (bit (b - 128))) n) (sym (or_zero_r low))
+    ∙ joined-or high low (bit (b - 128)) 0 fits (omega arith)
+    ∙ ap (λ n. bit_or (joined high low) n) (ap (λ n. joined n 0) (bit_is (b - 128) (omega arith)) ∙ shifted)
+  where
+    alone : (n : ℕ) → n + 0 ≡ n
+    alone n = omega arith
+
+    placed : b - 128 + 128 ≡ b
+    placed = omega arith
+
+    shifted : joined (2 ^ (b - 128)) 0 ≡ 2 ^ b
+    shifted = alone (2 ^ (b - 128) * 2 ^ 128) ∙ sym (pow-add 2 (b - 128) 128) ∙ ap (λ n. 2 ^ n) placed
+
+-- ---- one byte less
+without : (set changed b : ℕ) → bit_at changed b ≡ 0 → ((c : ℕ) → c ≢ b → bit_at changed c ≡ bit_at set c)
+    → (c : ℕ) → contains changed c ≡ (contains set c && not (c == b))
+without set changed b gone kept c = elim (eqb_tells c b) [
+  | inl same ↦
+      ap (λ n. nat_lt c 256 && (n == 1)) (ap (λ j. bit_at changed j) same.1 ∙ gone) ∙ and-false (nat_lt c 256)
+      ∙ sym (ap (λ t. contains set c && not t) same.0 ∙ and-false (contains set c))
+  | inr other ↦
+      ap (λ n. nat_lt c 256 && (n == 1)) (kept c other.1)
+      ∙ sym (ap (λ t. contains set c && not t) other.0 ∙ and-true (contains set c))
+]
+
+-- a half without a bit
+abbrev pub cleared : ℕ → ℕ → ℕ
+cleared half k = bit_and half (2 ^ 128 - 1 - bit k)
+
+cleared-fits : (half k : ℕ) → half < 2 ^ 128 → cleared half k < 2 ^ 128
+cleared-fits half k fits = and_lt 128 half (2 ^ 128 - 1 - bit k) fits (omega arith)
+
+pub contains-without_low : (high low b : ℕ) → low < 2 ^ 128 → b < 128
+    → (c : ℕ) → contains (joined high (cleared low b)) c ≡ (contains (joined high low) c && not (c == b))
+contains-without_low high low b fits below =
+    without (joined high low) (joined high (cleared low b)) b gone kept
+  where
+    gone : bit_at (joined high (cleared low b)) b ≡ 0
+    gone = bit_at_cat_low high 128 (cleared low b) b below ∙ bit_at_clear_same w128 low b below
+
+    kept : (c : ℕ) → c ≢ b → bit_at (joined high (cleared low b)) c ≡ bit_at (joined high low) c
+    kept c ne = elim (half_or_other c) [
+      | inl in_low ↦
+          bit_at_cat_low high 128 (cleared low b) c in_low ∙ bit_at_clear_other w128 low b below c in_low ne
+          ∙ sym (bit_at_cat_low high 128 low c in_low)
+      | inr in_high ↦
+          bit_at_cat_high high 128 (cleared low b) c (cleared-fits low b fits) in_high
+          ∙ sym (bit_at_cat_high high 128 low c fits in_high)
+    ]
+
+pub contains-without_high : (high low b : ℕ) → (low < 2 ^ 128) × (high < 2 ^ 128) → 128 ≤ b → b < 256
+    → (c : ℕ) → contains (joined (cleared high (b - 128)) low) c ≡ (contains (joined high low) c && not (c == b))
+contains-without_high high low b fits from below =
+    without (joined high low) (joined (cleared high (b - 128)) low) b gone kept
+  where
+    within : b - 128 < 128
+    within = omega arith
+
+    gone : bit_at (joined (cleared high (b - 128)) low) b ≡ 0
+    gone = bit_at_cat_high (cleared high (b - 128)) 128 low b fits.0 from ∙ bit_at_clear_same w128 high (b - 128) within
+
+    kept : (c : ℕ) → c ≢ b → bit_at (joined (cleared high (b - 128)) low) c ≡ bit_at (joined high low) c
+    kept c ne = elim (half_or_other c) [
+      | inl in_low ↦
+          bit_at_cat_low (cleared high (b - 128)) 128 low c in_low ∙ sym (bit_at_cat_low high 128 low c in_low)
+      | inr in_high ↦
+          bit_at_cat_high (cleared high (b - 128)) 128 low c fits.0 in_high
+          ∙ in_half c in_high ne
+          ∙ sym (bit_at_cat_high high 128 low c fits.0 in_high)
+    ]
+      where
+        in_half : (c : ℕ) → 128 ≤ c → c ≢ b → bit_at (cleared high (b - 128)) (c - 128) ≡ bit_at high (c - 128)
+        in_half c in_high ne = elim (half_or_other (c - 128)) [
+          | inl inside ↦ bit_at_clear_other w128 high (b - 128) within (c - 128) inside (λ e. ne (omega arith))
+          | inr past ↦
+              bit_at_above (cleared high (b - 128)) 128 (c - 128) (cleared-fits high (b - 128) fits.1) past
+              ∙ sym (bit_at_above high 128 (c - 128) fits.1 past)
+        ]
+
+-- ---- the bytes of a union, of one byte, of a range
+or_bit : (x y : ℕ) → x < 2 → y < 2 → (max x y == 1) ≡ ((x == 1) || (y == 1))
+or_bit x y h k = grind (arith, nat_tests)
+
+pub contains-or : (set other b : ℕ) → contains (bit_or set other) b ≡ (contains set b || contains other b)
+contains-or set other b =
+    ap (λ n. nat_lt b 256 && (n == 1)) (bit_at_or set other b)
+    ∙ ap (λ t. nat_lt b 256 && t) (or_bit (bit_at set b) (bit_at other b) (bit_at-lt set b) (bit_at-lt other b))
+    ∙ over (nat_lt b 256) (bit_at set b == 1) (bit_at other b == 1)
+  where
+    over : (t x y : Bool) → (t && (x || y)) ≡ ((t && x) || (t && y))
+    over true x y = refl
+    over false x y = refl
+
+pub contains-only : (byte b : ℕ) → byte < 256 → contains (only byte) b ≡ (b == byte)
+contains-only byte b h = elim (eqb_tells b byte) [
+  | inl same ↦
+      let within : nat_lt b 256 ≡ true = grind (arith, nat_tests, same.1) in
+      let set : bit_at (2 ^ byte) b ≡ 1 = ap (λ k. bit_at (2 ^ byte) k) same.1 ∙ bit_at-pow_same byte in
+      ap₂ (λ (t : Bool) (n : ℕ). t && (n == 1)) within set ∙ sym same.0
+  | inr other ↦
+      ap (λ n. nat_lt b 256 && (n == 1)) (bit_at-pow_other byte b other.1) ∙ and-false (nat_lt b 256) ∙ sym other.0
+]
+
+pub contains-add : (set byte b : ℕ) → byte < 256 → contains (bit_or set (only byte)) b ≡ (contains set b || (b == byte))
+contains-add set byte b h =
+    contains-or set (only byte) b ∙ ap (λ t. contains set b || t) (contains-only byte b h)
+
+pub contains-between : (first last b : ℕ) → last < 256
+    → contains (between first last) b ≡ (nat_le first b && nat_le b last)
+contains-between first last b h = elim (place first last b) [
+  | inl before ↦
+      let low : nat_le first b ≡ false = grind (arith, nat_tests) in
+      ap (λ n. nat_lt b 256 && (n == 1)) (bit_at_mask_below first (last + 1) b before) ∙ and-false (nat_lt b 256)
+      ∙ sym (ap (λ t. t && nat_le b last) low)
+  | inr from ↦ elim from [
+    | inl inside ↦
+        let low : nat_le first b ≡ true = grind (arith, nat_tests, inside) in
+        let high : nat_le b last ≡ true = grind (arith, nat_tests, inside) in
+        let within : nat_lt b 256 ≡ true = grind (arith, nat_tests, inside) in
+        ap₂ (λ (t : Bool) (n : ℕ). t && (n == 1)) within (bit_at_mask_inside first (last + 1) b inside.0 inside.1)
+        ∙ sym (ap₂ (λ (t u : Bool). t && u) low high)
+    | inr after ↦
+        let high : nat_le b last ≡ false = grind (arith, nat_tests) in
+        ap (λ n. nat_lt b 256 && (n == 1)) (bit_at_mask_above first (last + 1) b after) ∙ and-false (nat_lt b 256)
+        ∙ sym (ap (λ t. nat_le first b && t) high ∙ and-false (nat_le first b))
+  ]
+]
+  where
+    place : (first last b : ℕ) → (b < first) ⊎ (((first ≤ b) × (b < last + 1)) ⊎ (last + 1 ≤ b))
+    place first last b = grind arith
+
+-- the bytes where a range is told apart from what is beside it: the one before it, and its last one
+pub parts-between : (first last b : ℕ) → first ≤ last → last < 256
+    → parts (contains (between first last)) b (b + 1) ≡ ((b + 1 == first) || (b == last))
+parts-between first last b h k =
+    ap₂ (λ (t u : Bool). differ t u) (contains-between first last b k) (contains-between first last (b + 1) k)
+    ∙ edges first last b h
+  where
+    edges : (first last b : ℕ) → first ≤ last
+        → differ (nat_le first b && nat_le b last) (nat_le first (b + 1) && nat_le (b + 1) last)
+        ≡ ((b + 1 == first) || (b == last))
+    edges first last b h = grind (arith, nat_tests)

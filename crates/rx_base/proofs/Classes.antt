@@ -1,0 +1,250 @@
+-- The classes that end at some bytes, and the bytes of which each is the first.
+use Rattle.std.proofs.Common.{ℕ, zero, suc, ◌≡◌, ◌≢◌, ◌+◌, ◌-◌, ◌^◌, ◌<◌, ◌≤◌, ◌⊎◌, refl, sym, ◌∙◌, ap, ap₂, subst}
+use Rattle.std.proofs.Common.{arith}
+use Rattle.std.proofs.Common.{inl, inr, add-one, Bool, true, false, ◌==◌, ◌&&◌, ◌||◌, not, nat_le, nat_lt, cond, bit_or}
+use Rattle.std.proofs.Common.{List, [], ◌∷◌, ◌++◌, length, get_or, filter, replicate}
+use Rattle.std.specs.List.{range_with_len}
+use Rattle.std.proofs.Math.Bool.{and-false, or-true, or-false, or_assoc}
+use Rattle.std.proofs.lemmas.Bool.{eq-eqb}
+use Rattle.std.proofs.lemmas.Bool.Decides.{nat_tests, eqb_tells}
+use Rattle.std.proofs.lemmas.List.{get_or-replicate, length-replicate}
+use Rattle.rx_spec.specs.Bytes.{contains, only, between, eoi}
+use Rattle.rx_spec.specs.Classes.{class_by, begins_class, parts, least_exponent}
+use Rattle.rx_base.specs.ByteClasses.{AreClasses, ends_of, alphabet_len, bytes_from, representatives_from}
+use Rattle.rx_base.specs.ByteClasses.{elements_from}
+use Rattle.rx_base.proofs.ByteSets.{contains-add, parts-between}
+
+-- ---- the class of a byte
+class_by-suc : (ends : ℕ → Bool) (b : ℕ) → class_by ends (suc b) ≡ class_by ends b + cond (ends b) 1 0
+unfolding class_by
+class_by-suc ends b = refl
+
+pub class_by-zero : (ends : ℕ → Bool) → class_by ends 0 ≡ 0
+unfolding class_by
+class_by-zero ends = refl
+
+pub class_by-next : (ends : ℕ → Bool) (b : ℕ) → class_by ends (b + 1) ≡ class_by ends b + cond (ends b) 1 0
+class_by-next ends b = rw add-one (class_by-suc ends b)
+
+one_or_none : (b : Bool) → cond b 1 0 ≤ 1
+one_or_none true = omega arith
+one_or_none false = omega arith
+
+pub class_by-le : (ends : ℕ → Bool) (b : ℕ) → class_by ends b ≤ b
+class_by-le ends zero = omega (arith, class_by-zero ends)
+class_by-le ends (suc b) = omega (arith, class_by-suc ends b, class_by-le ends b, one_or_none (ends b))
+
+-- tests that agree on the bytes below one give it the same class
+pub class_by-alike : (ends others : ℕ → Bool) (b : ℕ) → ((c : ℕ) → c < b → ends c ≡ others c)
+    → class_by ends b ≡ class_by others b
+class_by-alike ends others zero h = class_by-zero ends ∙ sym (class_by-zero others)
+class_by-alike ends others (suc b) h =
+    class_by-suc ends b
+    ∙ ap₂ (λ (m : ℕ) (t : Bool). m + cond t 1 0)
+    (class_by-alike ends others b (λ c below. h c (omega arith))) (h b (omega arith))
+    ∙ sym (class_by-suc others b)
+
+-- ---- the list of all classes
+module _ (ends : ℕ → Bool) (classes : List ℕ) (by : (b : ℕ) → b < 256 → get_or classes b 0 ≡ class_by ends b) where
+  pub AreClasses-class_by : length classes ≡ 256 → AreClasses classes
+  AreClasses-class_by count = record {
+    count = count;
+    first = by 0 (omega arith) ∙ class_by-zero ends;
+    rises = λ b h. omega (arith, by b (omega arith), by (b + 1) (omega arith), class_by-next ends b);
+    by_one = λ b h.
+        omega (arith, by b (omega arith), by (b + 1) (omega arith), class_by-next ends b, one_or_none (ends b));
+  }
+
+-- such a list has the classes that end where it rises
+pub ends_of-class : (classes : List ℕ) → AreClasses classes → (b : ℕ) → b < 256
+    → get_or classes b 0 ≡ class_by (ends_of classes) b
+ends_of-class classes are zero h = are.first ∙ sym (class_by-zero (ends_of classes))
+ends_of-class classes are (suc b) h =
+    let below : b < 255 = omega arith in
+    let here : get_or classes b 0 ≡ class_by (ends_of classes) b = ends_of-class classes are b (omega arith) in
+    let stepped : get_or classes (b + 1) 0 ≡ get_or classes b 0 + cond (ends_of classes b) 1 0
+    = elim (eqb_tells (get_or classes b 0) (get_or classes (b + 1) 0)) [
+      | inl same ↦ sym (ap (λ t. get_or classes b 0 + cond (not t) 1 0) same.0 ∙ added_none _ ∙ same.1)
+      | inr other ↦
+          rises_by_one _ _ (are.rises b below) (are.by_one b below) other.1
+          ∙ sym (ap (λ t. get_or classes b 0 + cond (not t) 1 0) other.0)
+    ]
+    in
+    rw add-one at (stepped ∙ ap (λ n. n + cond (ends_of classes b) 1 0) here ∙ sym (class_by-next (ends_of classes) b))
+  where
+    added_none : (n : ℕ) → n + 0 ≡ n
+    added_none n = omega arith
+
+    rises_by_one : (m n : ℕ) → m ≤ n → n ≤ m + 1 → m ≢ n → n ≡ m + 1
+    rises_by_one m n low high ne = omega arith
+
+-- ---- the bytes from one on that pass a test
+bytes_from-cons : (test : ℕ → Bool) (at : ℕ) → at < 256
+    → bytes_from test at ≡ cond (test at) (at ∷ bytes_from test (at + 1)) (bytes_from test (at + 1))
+bytes_from-cons test at h = ap (λ n. filter test (range_with_len at n)) more
+  where
+    more : 256 - at ≡ suc (256 - (at + 1))
+    more = omega arith
+
+pub bytes_from-pass : (test : ℕ → Bool) (at : ℕ) → at < 256 → test at ≡ true
+    → bytes_from test at ≡ at ∷ bytes_from test (at + 1)
+bytes_from-pass test at h e =
+    bytes_from-cons test at h ∙ ap (λ t. cond t (at ∷ bytes_from test (at + 1)) (bytes_from test (at + 1))) e
+
+pub bytes_from-skip : (test : ℕ → Bool) (at : ℕ) → at < 256 → test at ≡ false
+    → bytes_from test at ≡ bytes_from test (at + 1)
+bytes_from-skip test at h e =
+    bytes_from-cons test at h ∙ ap (λ t. cond t (at ∷ bytes_from test (at + 1)) (bytes_from test (at + 1))) e
+
+pub bytes_from-end : (test : ℕ → Bool) (at : ℕ) → 256 ≤ at → bytes_from test at ≡ []
+bytes_from-end test at h = ap (λ n. filter test (range_with_len at n)) none
+  where
+    none : 256 - at ≡ 0
+    none = omega arith
+
+-- ---- one class of all bytes, and the classes of single bytes
+abbrev pub zeros : List ℕ
+zeros = replicate 256 0
+
+pub zero_at : (b : ℕ) → b < 256 → get_or zeros b 0 ≡ 0
+zero_at b h = get_or-replicate 256 b 0 0 h
+
+pub AreClasses-zeros : AreClasses zeros
+AreClasses-zeros = record {
+  count = length-replicate {A = ℕ} 256 0;
+  first = zero_at 0 (omega arith);
+  rises = λ b h. omega (arith, zero_at b (omega arith), zero_at (b + 1) (omega arith));
+  by_one = λ b h. omega (arith, zero_at b (omega arith), zero_at (b + 1) (omega arith));
+}
+
+pub AreClasses-singletons : (classes : List ℕ) → length classes ≡ 256 → ((b : ℕ) → b < 256 → get_or classes b 0 ≡ b)
+    → AreClasses classes
+AreClasses-singletons classes count each = record {
+  count = count;
+  first = each 0 (omega arith);
+  rises = λ b h. omega (arith, each b (omega arith), each (b + 1) (omega arith));
+  by_one = λ b h. omega (arith, each b (omega arith), each (b + 1) (omega arith));
+}
+
+-- ---- what the iterators have left, from one byte to the next
+pub elements_from-pass : (classes : List ℕ) (class at : ℕ) → at < 256 → get_or classes at 0 ≡ class
+    → elements_from classes class at ≡ at ∷ elements_from classes class (at + 1)
+elements_from-pass classes class at h e =
+    bytes_from-pass (λ b. get_or classes b 0 == class) at h (eq-eqb (get_or classes at 0) class e)
+
+pub elements_from-skip : (classes : List ℕ) (class at : ℕ) → at < 256 → get_or classes at 0 ≢ class
+    → elements_from classes class at ≡ elements_from classes class (at + 1)
+elements_from-skip classes class at h ne =
+    let other : (get_or classes at 0 == class) ≡ false = grind (arith, nat_tests) in
+    bytes_from-skip (λ b. get_or classes b 0 == class) at h other
+
+-- the end mark is left as long as a byte is
+eoi_left : (at : ℕ) → at < 256 → nat_le at 256 ≡ nat_le (at + 1) 256
+eoi_left at h =
+    let now : nat_le at 256 ≡ true = grind (arith, nat_tests) in
+    let then_too : nat_le (at + 1) 256 ≡ true = grind (arith, nat_tests) in
+    now ∙ sym then_too
+
+pub representatives_from-pass : (classes : List ℕ) (at : ℕ) → at < 256 → begins_class (ends_of classes) at ≡ true
+    → representatives_from classes at ≡ at ∷ representatives_from classes (at + 1)
+representatives_from-pass classes at h e =
+    ap₂ (λ (xs : List ℕ) (t : Bool). xs ++ cond t (eoi ∷ []) [])
+    (bytes_from-pass (begins_class (ends_of classes)) at h e) (eoi_left at h)
+
+pub representatives_from-skip : (classes : List ℕ) (at : ℕ) → at < 256 → begins_class (ends_of classes) at ≡ false
+    → representatives_from classes at ≡ representatives_from classes (at + 1)
+representatives_from-skip classes at h e =
+    ap₂ (λ (xs : List ℕ) (t : Bool). xs ++ cond t (eoi ∷ []) [])
+    (bytes_from-skip (begins_class (ends_of classes)) at h e) (eoi_left at h)
+
+-- ---- the bytes that end a class, once a range or a byte is told apart
+module _ (old ends : ℕ) where
+  pub ends-with_range : (first last b : ℕ) → first ≤ last → last < 256
+      → contains ends b ≡ (contains old b || (b + 1 == first))
+      → contains (bit_or ends (only last)) b ≡ (contains old b || parts (contains (between first last)) b (b + 1))
+  ends-with_range first last b ordered fits before =
+      contains-add ends last b fits
+      ∙ ap (λ t. t || (b == last)) before
+      ∙ or_assoc (contains old b) (b + 1 == first) (b == last)
+      ∙ ap (λ t. contains old b || t) (sym (parts-between first last b ordered fits))
+
+  pub ends-with_byte : (test : ℕ → Bool) (byte b : ℕ) → byte < 256 → test byte ≡ true
+      → contains ends b ≡ (contains old b || (nat_lt b byte && test b))
+      → contains (bit_or ends (only byte)) b ≡ (contains old b || (nat_lt b (byte + 1) && test b))
+  ends-with_byte test byte b fits ends_here before =
+      contains-add ends byte b fits
+      ∙ ap (λ t. t || (b == byte)) before
+      ∙ or_assoc (contains old b) (nat_lt b byte && test b) (b == byte)
+      ∙ ap (λ t. contains old b || t) more
+    where
+      more : ((nat_lt b byte && test b) || (b == byte)) ≡ (nat_lt b (byte + 1) && test b)
+      more = elim (eqb_tells b byte) [
+        | inl same ↦
+            let within : nat_lt b (byte + 1) ≡ true = grind (arith, nat_tests, same.1) in
+            let here : test b ≡ true = ap test same.1 ∙ ends_here in
+            rw (same.0, within, here) (or-true (nat_lt b byte && true))
+        | inr other ↦
+            let alike : nat_lt b (byte + 1) ≡ nat_lt b byte = grind (arith, nat_tests, other.1) in
+            rw (other.0, alike) (or-false (nat_lt b byte && test b))
+      ]
+
+  pub ends-without_byte : (test : ℕ → Bool) (byte b : ℕ) → test byte ≡ false
+      → contains ends b ≡ (contains old b || (nat_lt b byte && test b))
+      → contains ends b ≡ (contains old b || (nat_lt b (byte + 1) && test b))
+  ends-without_byte test byte b goes_on before =
+      before ∙ ap (λ t. contains old b || t) more
+    where
+      more : (nat_lt b byte && test b) ≡ (nat_lt b (byte + 1) && test b)
+      more = elim (eqb_tells b byte) [
+        | inl same ↦
+            let here : test b ≡ false = ap test same.1 ∙ goes_on in
+            rw here (and-false (nat_lt b byte) ∙ sym (and-false (nat_lt b (byte + 1))))
+        | inr other ↦
+            let alike : nat_lt b (byte + 1) ≡ nat_lt b byte = grind (arith, nat_tests, other.1) in
+            ap (λ t. t && test b) (sym alike)
+      ]
+
+-- ---- the least exponent
+pub least_exponent-next : (len k more : ℕ) → 2 ^ k < len → 0 < more
+    → least_exponent len k more ≡ least_exponent len (k + 1) (more - 1)
+unfolding least_exponent
+least_exponent-next len k zero h m = absurd (omega arith)
+least_exponent-next len k (suc more) h m =
+    let above : nat_le len (2 ^ k) ≡ false = grind (arith, nat_tests) in
+    let one_less : more ≡ suc more - 1 = omega arith in
+    ap (λ t. cond t k (least_exponent len (k + 1) more)) above ∙ ap (λ n. least_exponent len (k + 1) n) one_less
+
+pub least_exponent-here : (len k more : ℕ) → len ≤ 2 ^ k → least_exponent len k more ≡ k
+unfolding least_exponent
+least_exponent-here len k zero h = refl
+least_exponent-here len k (suc more) h =
+    let within : nat_le len (2 ^ k) ≡ true = grind (arith, nat_tests) in
+    ap (λ t. cond t k (least_exponent len (k + 1) more)) within
+
+pub alphabet_len-le : (classes : List ℕ) → AreClasses classes → alphabet_len classes ≤ 257
+alphabet_len-le classes are =
+    omega (arith, ends_of-class classes are 255 (omega arith), class_by-le (ends_of classes) 255)
+
+-- an exponent that is too small is below 9
+pub exponent-below : (len k : ℕ) → k ≤ 9 → 2 ^ k < len → len ≤ 257 → k < 9
+exponent-below len k h less most = elim (split k h) [
+  | inl below ↦ below
+  | inr nine ↦ absurd (omega (arith, subst (λ n. 2 ^ n < len) nine less))
+]
+  where
+    split : (k : ℕ) → k ≤ 9 → (k < 9) ⊎ (k ≡ 9)
+    split k h = grind arith
+
+-- ---- classes that are read byte by byte
+pub record RiseBelow (classes : List ℕ) (n : ℕ) : Type 0 where
+  pub rises : (b : ℕ) → b < n → get_or classes b 0 ≤ get_or classes (b + 1) 0
+  pub by_one : (b : ℕ) → b < n → get_or classes (b + 1) 0 ≤ get_or classes b 0 + 1
+
+pub AreClasses-risen : (classes : List ℕ) (n : ℕ) → length classes ≡ 256 → get_or classes 0 0 ≡ 0
+    → RiseBelow classes n → 255 ≤ n → AreClasses classes
+AreClasses-risen classes n count first rise all = record {
+  count = count;
+  first = first;
+  rises = λ b h. rise.rises b (omega arith);
+  by_one = λ b h. rise.by_one b (omega arith);
+}

@@ -1,0 +1,22 @@
+use Rattle.std.proofs.Common.{◌<◌, length, length-set, get_or-set_same, get_or-set_other, ◌≢◌, below_more}
+use Rattle.std.proofs.Common.{arith}
+use Rattle.rx_base.proofs.Classes.{AreClasses-singletons}
+use Rattle.rx_base.proofs.byte_classes.ByteClasses.singletons.Goals as goal
+
+pub loop-byte-init : goal.loop-byte-init
+loop-byte-init c = (c.empty-2.invariant.count, λ b h. absurd (omega arith))
+
+pub loop-byte-preserved : goal.loop-byte-preserved
+loop-byte-preserved c =
+    let known = c.loop-byte.invariant in
+    let within : c.loop-byte.byte < length c.loop-byte.classes = omega (arith, known.0) in (
+      rw length-set known.0,
+      below_more _ _
+          (λ b h. let other : b ≢ c.loop-byte.byte = omega arith in rw get_or-set_other (known.1 b h))
+          (rw get_or-set_same),
+    )
+
+pub invariant_of-result : goal.invariant_of-result
+invariant_of-result c =
+    let known = c.loop-byte.invariant in
+    AreClasses-singletons c.loop-byte.classes known.0 (λ b h. known.1 b (omega arith))

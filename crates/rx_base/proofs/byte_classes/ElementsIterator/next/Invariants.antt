@@ -1,0 +1,12 @@
+use Rattle.std.proofs.Common.{◌≡◌, ◌-◌}
+use Rattle.rx_base.specs.ByteClasses.{elements_from}
+use Rattle.rx_base.proofs.byte_classes.ElementsIterator.next.Given as goal
+
+-- what is left stays the same
+abbrev pub invariant-loop-self : goal.invariant-loop-self
+invariant-loop-self l =
+    elements_from l.self-inside.classes.now l.self-inside.class l.self-inside.at
+    ≡ elements_from l.initial.self-inside.classes.now l.initial.self-inside.class l.initial.self-inside.at
+
+abbrev pub decreases-loop-self : goal.decreases-loop-self
+decreases-loop-self l = 256 - l.self-inside.at

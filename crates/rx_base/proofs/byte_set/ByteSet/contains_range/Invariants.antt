@@ -1,0 +1,6 @@
+use Rattle.std.proofs.Common.{◌≡◌, ℕ, ◌<◌, ◌≤◌, true}
+use Rattle.rx_spec.specs.Bytes.{contains}
+use Rattle.rx_base.proofs.byte_set.ByteSet.contains_range.Given as goal
+
+abbrev pub invariant-loop-byte : goal.invariant-loop-byte
+invariant-loop-byte l = (c : ℕ) → l.start ≤ c → c < l.byte → contains l.self c ≡ true

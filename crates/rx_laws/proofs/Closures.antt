@@ -1,0 +1,169 @@
+-- What a row reaches without reading a byte, where paths that read nothing are short; and steps.
+use Rattle.std.proofs.Common.{◌≡◌, ℕ, zero, suc, ◌+◌, ◌*◌, ◌≤◌, Bool, true, false, if◌then◌else◌, List, [], ◌∷◌, ◌++◌}
+use Rattle.std.proofs.Common.{length, refl, ap, ap₂, sym, ◌∙◌, subst, arith}
+use Rattle.std.specs.List.{flat_map}
+use Rattle.rx_spec.specs.Bytes.{eoi}
+use Rattle.rx_spec.specs.Rows.{Row}
+use Rattle.rx_spec.specs.Nfas.{Nfa}
+use Rattle.rx_spec.specs.Shallow.{AllNext, Short, IsShallow}
+use Rattle.rx_spec.specs.States.{row_at, Passing, Standing, Tested, reach_by, reach, closure, firsts, fresh, State}
+use Rattle.rx_spec.specs.States.{decided_rows, pattern_of, is_match_row, to_first_match, cut, target, step}
+use Rattle.rx_spec.specs.declared.Look.{Look}
+use Rattle.rx_spec.specs.declared.MatchKind.{MatchKind}
+use Rattle.rx_lemmas.proofs.Firsts.{by_test}
+
+abbrev bound : List Row → ℕ
+bound rows = length rows * length rows
+
+closure_steps : (rows : List Row) (pass : Passing) (q : ℕ)
+    → closure rows pass q ≡ reach_by pass (λ p. reach rows pass (bound rows) p) q (row_at rows q)
+unfolding reach
+closure_steps rows pass q =
+    let e : bound rows + 1 ≡ suc (bound rows) = omega arith in
+    ap (λ n. reach rows pass n q) e
+
+reach_alike : (pass : Passing) (f g : ℕ → List ℕ) (q : ℕ) (row : Row) → AllNext (λ p. f p ≡ g p) row
+    → reach_by pass f q row ≡ reach_by pass g q row
+reach_alike pass f g q (Row.Bytes set next) h = refl
+reach_alike pass f g q (Row.Split first second) h = ap₂ (λ (a b : List ℕ). a ++ b) h.0 h.1
+reach_alike Standing f g q (Row.Look look next) h = refl
+reach_alike (Tested holds) f g q (Row.Look look next) h = ap (λ (l : List ℕ). if holds look then l else []) h
+reach_alike pass f g q (Row.Match pattern) h = refl
+reach_alike pass f g q Row.Fail h = refl
+
+each_next : (P Q : ℕ → Type 0) → ((p : ℕ) → P p → Q p) → (row : Row) → AllNext P row → AllNext Q row
+each_next P Q f (Row.Bytes set next) h = tt
+each_next P Q f (Row.Split first second) h = (f first h.0, f second h.1)
+each_next P Q f (Row.Look look next) h = f next h
+each_next P Q f (Row.Match pattern) h = tt
+each_next P Q f Row.Fail h = tt
+
+-- one step more reaches nothing new
+reach_more : (rows : List Row) (pass : Passing) (n q : ℕ) → Short rows n q
+    → reach rows pass n q ≡ reach rows pass (suc n) q
+unfolding Short reach
+reach_more rows pass zero q h = absurd h
+reach_more rows pass (suc n) q h =
+    reach_alike pass (λ p. reach rows pass n p) (λ p. reach rows pass (suc n) p) q (row_at rows q)
+    (each_next (λ p. Short rows n p) (λ p. reach rows pass n p ≡ reach rows pass (suc n) p)
+    (λ p k. reach_more rows pass n p k) (row_at rows q) h)
+
+next_short : (rows : List Row) (q : ℕ) → Short rows (bound rows + 1) q
+    → AllNext (λ p. Short rows (bound rows) p) (row_at rows q)
+unfolding Short
+next_short rows q h =
+    let e : bound rows + 1 ≡ suc (bound rows) = omega arith in
+    subst (λ n. Short rows n q) e h
+
+reach_bound : (rows : List Row) (pass : Passing) (p : ℕ) → Short rows (bound rows) p
+    → reach rows pass (bound rows) p ≡ closure rows pass p
+reach_bound rows pass p h =
+    let e : suc (bound rows) ≡ bound rows + 1 = omega arith in
+    reach_more rows pass (bound rows) p h ∙ ap (λ n. reach rows pass n p) e
+
+-- so the closure of a row is made of the closures of those next to it
+pub closure_by_row : (rows : List Row) (pass : Passing) (q : ℕ) → IsShallow rows
+    → closure rows pass q ≡ reach_by pass (λ p. closure rows pass p) q (row_at rows q)
+closure_by_row rows pass q shallow =
+    closure_steps rows pass q
+    ∙ reach_alike pass (λ p. reach rows pass (bound rows) p) (λ p. closure rows pass p) q (row_at rows q)
+    (each_next (λ p. Short rows (bound rows) p) (λ p. reach rows pass (bound rows) p ≡ closure rows pass p)
+    (λ p h. reach_bound rows pass p h) (row_at rows q) (next_short rows q (shallow.short q)))
+
+pub closure_bytes : (rows : List Row) (pass : Passing) (q set next : ℕ) → row_at rows q ≡ Row.Bytes set next
+    → closure rows pass q ≡ q ∷ []
+closure_bytes rows pass q set next e =
+    closure_steps rows pass q ∙ ap (reach_by pass (λ p. reach rows pass (bound rows) p) q) e
+
+pub closure_match : (rows : List Row) (pass : Passing) (q pattern : ℕ) → row_at rows q ≡ Row.Match pattern
+    → closure rows pass q ≡ q ∷ []
+closure_match rows pass q pattern e =
+    closure_steps rows pass q ∙ ap (reach_by pass (λ p. reach rows pass (bound rows) p) q) e
+
+pub closure_fail : (rows : List Row) (pass : Passing) (q : ℕ) → row_at rows q ≡ Row.Fail → closure rows pass q ≡ []
+closure_fail rows pass q e =
+    closure_steps rows pass q ∙ ap (reach_by pass (λ p. reach rows pass (bound rows) p) q) e
+
+pub closure_split : (rows : List Row) (pass : Passing) (q first second : ℕ) → IsShallow rows
+    → row_at rows q ≡ Row.Split first second
+    → closure rows pass q ≡ closure rows pass first ++ closure rows pass second
+closure_split rows pass q first second shallow e =
+    closure_by_row rows pass q shallow ∙ ap (reach_by pass (λ p. closure rows pass p) q) e
+
+pub closure_standing : (rows : List Row) (q next : ℕ) (look : Look) → row_at rows q ≡ Row.Look look next
+    → closure rows Standing q ≡ q ∷ []
+closure_standing rows q next look e =
+    closure_steps rows Standing q ∙ ap (reach_by Standing (λ p. reach rows Standing (bound rows) p) q) e
+
+pub closure_holding : (rows : List Row) (holds : Look → Bool) (q next : ℕ) (look : Look) → IsShallow rows
+    → row_at rows q ≡ Row.Look look next → holds look ≡ true
+    → closure rows (Tested holds) q ≡ closure rows (Tested holds) next
+closure_holding rows holds q next look shallow e t =
+    closure_by_row rows (Tested holds) q shallow
+    ∙ ap (reach_by (Tested holds) (λ p. closure rows (Tested holds) p) q) e
+    ∙ ap (λ (b : Bool). if b then closure rows (Tested holds) next else []) t
+
+pub closure_failing : (rows : List Row) (holds : Look → Bool) (q next : ℕ) (look : Look)
+    → row_at rows q ≡ Row.Look look next → holds look ≡ false → closure rows (Tested holds) q ≡ []
+closure_failing rows holds q next look e f =
+    closure_steps rows (Tested holds) q
+    ∙ ap (reach_by (Tested holds) (λ p. reach rows (Tested holds) (bound rows) p) q) e
+    ∙ ap (λ (b : Bool). if b then reach rows (Tested holds) (bound rows) next else []) f
+
+-- no row reads the end mark
+no_target : (row : Row) → target eoi row ≡ []
+no_target (Row.Bytes set next) = refl
+no_target (Row.Split first second) = refl
+no_target (Row.Look look next) = refl
+no_target (Row.Match pattern) = refl
+no_target Row.Fail = refl
+
+no_targets : (rows : List Row) (qs : List ℕ) → flat_map (λ q. target eoi (row_at rows q)) qs ≡ []
+no_targets rows [] = refl
+no_targets rows (q ∷ qs) = ap₂ (λ (a b : List ℕ). a ++ b) (no_target (row_at rows q)) (no_targets rows qs)
+
+rows_of_none : (rows : List Row) → firsts (flat_map (λ q. closure rows Standing q) []) ≡ []
+unfolding fresh
+rows_of_none rows = refl
+
+pub end_mark_ends : (nfa : Nfa) (kind : MatchKind) (s : State) → (step nfa kind s eoi).rows ≡ []
+unfolding step
+end_mark_ends nfa kind s =
+    ap (λ qs. firsts (flat_map (λ q. closure nfa.rows Standing q) qs))
+    (no_targets nfa.rows (cut kind nfa.rows (decided_rows nfa eoi s)))
+    ∙ rows_of_none nfa.rows
+
+no_pattern : (row : Row) → is_match_row row ≡ false → pattern_of row ≡ []
+no_pattern (Row.Bytes set next) e = refl
+no_pattern (Row.Split first second) e = refl
+no_pattern (Row.Look look next) e = refl
+no_pattern (Row.Match pattern) e = absurd (cc)
+no_pattern Row.Fail e = refl
+
+one_pattern : (row : Row) → length (pattern_of row ++ []) ≤ 1
+one_pattern (Row.Bytes set next) = omega arith
+one_pattern (Row.Split first second) = omega arith
+one_pattern (Row.Look look next) = omega arith
+one_pattern (Row.Match pattern) = omega arith
+one_pattern Row.Fail = omega arith
+
+abbrev patterns_at : List Row → List ℕ → List ℕ
+patterns_at rows qs = flat_map (λ q. pattern_of (row_at rows q)) qs
+
+told_once : (rows : List Row) (qs : List ℕ) → length (patterns_at rows (to_first_match rows qs)) ≤ 1
+unfolding to_first_match
+told_once rows [] = omega arith
+told_once rows (q ∷ qs) =
+    by_test (is_match_row (row_at rows q))
+    (λ e. rw e (one_pattern (row_at rows q)))
+    (λ e. rw e (subst (λ (l : List ℕ). length (l ++ patterns_at rows (to_first_match rows qs)) ≤ 1)
+    (sym (no_pattern (row_at rows q) e)) (told_once rows qs)))
+
+pub tells_one : (nfa : Nfa) (s : State) (unit : ℕ) → length (step nfa MatchKind.LeftmostFirst s unit).label ≤ 1
+unfolding step
+tells_one nfa s unit = told_once nfa.rows (decided_rows nfa unit s)
+
+pub tells_all : (nfa : Nfa) (s : State) (unit : ℕ)
+    → (step nfa MatchKind.All s unit).label ≡ patterns_at nfa.rows (decided_rows nfa unit s)
+unfolding step
+tells_all nfa s unit = refl

@@ -1,0 +1,231 @@
+-- What a half search tells is the first pattern of the last row that an overlapping search tells of.
+use Rattle.std.proofs.Common.{◌≡◌, ℕ, ◌+◌, ◌-◌, ◌<◌, ◌≤◌, ◌==◌, Bool, true, false, if◌then◌else◌, Option, Some, None}
+use Rattle.std.proofs.Common.{List, [], ◌∷◌, length, drop, reverse, refl, ap, sym, ◌∙◌, arith}
+use Rattle.std.proofs.Common.{length-append, length-take}
+use Rattle.std.specs.Prelude.{Ok, Err, Contains, fold}
+use Rattle.std.specs.List.{AllByRecursion as Every}
+use Rattle.std.proofs.lemmas.Bool.{ne_eqb, eq-eqb}
+use Rattle.std.proofs.lemmas.List.{length-reverse}
+use Rattle.std.proofs.lemmas.List.Sums.{fold-append}
+use Rattle.rx_spec.specs.Bytes.{unit_of}
+use Rattle.rx_spec.specs.Looks.{before}
+use Rattle.rx_spec.specs.Queries.{Query, HalfMatch, MatchError, is_done}
+use Rattle.rx_spec.specs.Machines.{Label, label_of, Machine, Settings}
+use Rattle.rx_spec.specs.Starts.{StartError, start_error, start_row, start_context}
+use Rattle.rx_spec.specs.Builds.{Node, node_label, power, build_settings}
+use Rattle.rx_spec.specs.HalfSearches.{HalfAnswer, span_bytes, units_of, beside, first_offset, next_offset}
+use Rattle.rx_spec.specs.HalfSearches.{last_match, at_label, walk, from_start, whole_walk, half_search}
+use Rattle.rx_spec.specs.Overlapping.{Item, Ending, OverlappingMatches, none_left, pattern_items, with_items}
+use Rattle.rx_spec.specs.Overlapping.{at_item_label, overlapping_walk, overlapping_from, whole_overlapping_walk}
+use Rattle.rx_spec.specs.Overlapping.{overlapping}
+use Rattle.rx_laws.specs.SearchesLaws.{keep_first, HalfOfOverlapping, HalfOfOverlappingInBuild}
+use Rattle.rx_spec.specs.declared.Direction.{Direction}
+use Rattle.rx_lemmas.proofs.Firsts.{Contains-here, Contains-there}
+use Rattle.rx_lemmas.proofs.Tables.{units_below}
+
+-- the answer, where a half match is kept already
+abbrev answer_by : Option HalfMatch → Ending → List Item → HalfAnswer
+answer_by kept Ending.Ended items = Ok (fold keep_first kept items)
+answer_by kept (Ending.Quits byte offset) items = Err (MatchError.Quit byte offset)
+answer_by kept (Ending.Refused error) items = Err error
+
+abbrev answer_from : Option HalfMatch → OverlappingMatches → HalfAnswer
+answer_from kept told = answer_by kept told.ending told.items
+
+-- What is kept was told at an offset that the units left don't come back to.
+abbrev PassedBy : Direction → ℕ → Option HalfMatch → List ℕ → Type 0
+PassedBy Direction.Forward offset kept units = (h : HalfMatch) → kept ≡ Some h → h.offset < offset
+PassedBy Direction.Reverse offset kept units =
+    (length units ≤ offset + 1) × ((h : HalfMatch) → kept ≡ Some h → 0 < length units → offset < h.offset)
+
+record IsLeft (direction : Direction) (offset : ℕ) (kept : Option HalfMatch) (units : List ℕ) : Type 0 where
+  passed : PassedBy direction offset kept units
+
+left_by_unit : {direction : Direction} {offset unit : ℕ} {kept : Option HalfMatch} {units : List ℕ}
+    → IsLeft direction offset kept (unit ∷ units) → IsLeft direction (next_offset direction offset) kept units
+left_by_unit {direction} {offset} {unit} {kept} {units} left = record { passed = go direction left.passed }
+  where
+    go : (direction : Direction) → PassedBy direction offset kept (unit ∷ units)
+        → PassedBy direction (next_offset direction offset) kept units
+    go Direction.Forward h = λ m e. omega (arith, h m e)
+    go Direction.Reverse h = (omega (arith, h.0), λ m e some. omega (arith, h.0, h.1 m e (omega arith)))
+
+left_by_match : {direction : Direction} {offset unit : ℕ} {kept : Option HalfMatch} {units : List ℕ} (k : ℕ)
+    → IsLeft direction offset kept (unit ∷ units)
+    → IsLeft direction (next_offset direction offset) (Some (record { pattern = k; offset = offset })) units
+left_by_match {direction} {offset} {unit} {kept} {units} k left = record { passed = go direction left.passed }
+  where
+    offset_of : Option HalfMatch → ℕ
+    offset_of None = 0
+    offset_of (Some m) = m.offset
+
+    go : (direction : Direction) → PassedBy direction offset kept (unit ∷ units)
+        → PassedBy direction (next_offset direction offset) (Some (record { pattern = k; offset = offset })) units
+    go Direction.Forward h = λ m e. (let same : offset ≡ m.offset = ap offset_of e in omega arith)
+    go Direction.Reverse h = (
+      omega (arith, h.0),
+      λ m e some. (let same : offset ≡ m.offset = ap offset_of e in omega (arith, h.0)),
+    )
+
+-- so what is told at this offset takes its place
+takes_place : {direction : Direction} {offset unit : ℕ} (k : ℕ) (kept : Option HalfMatch) {units : List ℕ}
+    → IsLeft direction offset kept (unit ∷ units)
+    → keep_first kept (Item.Reported (record { pattern = k; offset = offset }))
+    ≡ Some (record { pattern = k; offset = offset })
+takes_place k None left = refl
+takes_place {direction} {offset} {unit} k (Some h) {units} left =
+    ap (λ (same : Bool). if same then Some h else Some (record { pattern = k; offset = offset }))
+    (other direction left.passed)
+  where
+    other : (direction : Direction) → PassedBy direction offset (Some h) (unit ∷ units) → (h.offset == offset) ≡ false
+    other Direction.Forward passed = ne_eqb h.offset offset (λ e. omega (arith, passed h refl))
+    other Direction.Reverse passed = ne_eqb h.offset offset (λ e. omega (arith, passed.1 h refl (omega arith)))
+
+-- the row's other patterns don't
+stays_first : (k offset : ℕ) (ks : List ℕ)
+    → fold keep_first (Some (record { pattern = k; offset = offset })) (pattern_items ks offset)
+    ≡ Some (record { pattern = k; offset = offset })
+stays_first k offset [] = refl
+stays_first k offset (j ∷ ks) =
+    ap (λ (same : Bool). fold keep_first (if same then Some (record { pattern = k; offset = offset })
+    else Some (record { pattern = j; offset = offset })) (pattern_items ks offset)) (eq-eqb offset offset refl)
+    ∙ stays_first k offset ks
+
+answer_with : (kept : Option HalfMatch) (items : List Item) (later : OverlappingMatches)
+    → answer_from kept (with_items items later) ≡ answer_from (fold keep_first kept items) later
+answer_with kept items later = by_ending later.ending later.items
+  where
+    by_ending : (ending : Ending) (others : List Item)
+        → answer_from kept (with_items items (record { items = others; ending = ending }))
+        ≡ answer_from (fold keep_first kept items) (record { items = others; ending = ending })
+    by_ending Ending.Ended others = ap (λ (h : Option HalfMatch). Ok h) (fold-append keep_first kept items others)
+    by_ending (Ending.Quits byte offset) others = refl
+    by_ending (Ending.Refused error) others = refl
+
+-- A machine whose match rows have patterns, seen from rows that units lead to.
+record HasLists {R : Type 0} (m : Machine R) (In : R → Type 0) (Fits : ℕ → Type 0) : Type 0 where
+  stays : (row : R) (unit : ℕ) → In row → Fits unit → In (m.next row unit)
+  some : (row : R) → In row → m.label row ≡ Label.Matches [] → ⊥
+
+module _ {R : Type 0} {m : Machine R} {In : R → Type 0} {Fits : ℕ → Type 0} (has : HasLists m In Fits)
+    (direction : Direction) where
+  walk_told : (row : R) {offset : ℕ} {kept : Option HalfMatch} {units : List ℕ}
+      → In row → Every Fits units → IsLeft direction offset kept units
+      → walk m direction false row offset kept units
+      ≡ answer_from kept (overlapping_walk m direction row offset units)
+  unfolding walk overlapping_walk
+  walk_told row {units = []} within fits left = refl
+  walk_told row {offset} {kept} {units = unit ∷ units} within fits left =
+      let below = has.stays row unit within fits.0 in
+      by_label (m.label (m.next row unit)) refl (λ last h. walk_told (m.next row unit) {units = units} below fits.1 h)
+    where
+      later : OverlappingMatches
+      later = overlapping_walk m direction (m.next row unit) (next_offset direction offset) units
+
+      on : Option HalfMatch → HalfAnswer
+      on last = walk m direction false (m.next row unit) (next_offset direction offset) last units
+
+      rest : Bool → OverlappingMatches
+      rest dead = if dead then none_left Ending.Ended else later
+
+      by_dead : (last : Option HalfMatch) (dead : Bool) → on last ≡ answer_from last later
+          → (if dead then Ok last else on last) ≡ answer_from last (rest dead)
+      by_dead last true h = refl
+      by_dead last false h = h
+
+      by_label : (label : Label) → m.label (m.next row unit) ≡ label
+          → ((last : Option HalfMatch) → IsLeft direction (next_offset direction offset) last units
+          → on last ≡ answer_from last later)
+          → at_label label direction false unit offset (Ok (last_match label offset kept))
+          (if m.is_dead (m.next row unit) then Ok (last_match label offset kept) else on (last_match label offset kept))
+          ≡ answer_from kept (at_item_label label direction unit offset (rest (m.is_dead (m.next row unit))))
+      by_label Label.Quits e others = refl
+      by_label Label.Plain e others =
+          by_dead kept (m.is_dead (m.next row unit)) (others kept (left_by_unit left))
+      by_label (Label.Matches []) e others =
+          absurd (has.some (m.next row unit) (has.stays row unit within fits.0) e)
+      by_label (Label.Matches (k ∷ ks)) e others =
+          let h : Option HalfMatch = Some (record { pattern = k; offset = offset }) in
+          let dead = m.is_dead (m.next row unit) in
+          by_dead h dead (others h (left_by_match k left))
+          ∙ sym (answer_with kept (pattern_items (k ∷ ks) offset) (rest dead)
+          ∙ ap (λ (last : Option HalfMatch). answer_from last (rest dead))
+          (ap (λ (last : Option HalfMatch). fold keep_first last (pattern_items ks offset))
+          (takes_place k kept left) ∙ stays_first k offset ks))
+
+-- all that is read has no more units than offsets
+span_left : (direction : Direction) (q : Query)
+    → IsLeft direction (first_offset direction q) None (units_of direction q)
+span_left direction q = record { passed = go direction }
+  where
+    go : (direction : Direction) → PassedBy direction (first_offset direction q) None (units_of direction q)
+    go Direction.Forward = λ h e. absurd (cc)
+    go Direction.Reverse = (
+      omega (
+        arith,
+        length-append (reverse (span_bytes q)) (unit_of (before q.haystack q.start) ∷ []),
+        length-reverse (span_bytes q),
+        length-take (q.end - q.start) (drop q.start q.haystack),
+      ),
+      λ h e. absurd (cc),
+    )
+
+half_told : {R : Type 0} {m : Machine R} {In : R → Type 0} {Fits : ℕ → Type 0} → HasLists m In Fits → (s : Settings)
+    (direction : Direction) (q : Query) → q.earliest ≡ false → In (start_row m s (beside direction q) q.mode)
+    → Every Fits (units_of direction q)
+    → half_search m s direction q ≡ answer_from None (overlapping m s direction q)
+half_told {R} {m} {In} {Fits} has s direction q late within fits =
+    let row = start_row m s (beside direction q) q.mode in
+    let told = whole_overlapping_walk m direction q row in
+    let units = units_of direction q in
+    let on = λ (earliest : Bool). walk m direction earliest row (first_offset direction q) None units in
+    let walked : whole_walk m direction q row ≡ answer_from None told =
+    ap on late ∙ walk_told has direction row within fits (span_left direction q) in
+    let error = start_error s (beside direction q) q.mode in
+    by_done (from_start direction q error (whole_walk m direction q row)) (overlapping_from direction q error told)
+    (is_done q) (ap (from_start direction q error) walked ∙ by_error error told)
+  where
+    by_error : (error : Option StartError) (told : OverlappingMatches)
+        → from_start direction q error (answer_from None told)
+        ≡ answer_from None (overlapping_from direction q error told)
+    by_error None told = refl
+    by_error (Some error) told = refl
+
+    by_done : (x : HalfAnswer) (y : OverlappingMatches) (done : Bool) → x ≡ answer_from None y
+        → (if done then Ok None else x) ≡ answer_from None (if done then none_left Ending.Ended else y)
+    by_done x y true h = refl
+    by_done x y false h = h
+
+every_unit : (P : ℕ → Type 0) (units : List ℕ) → ((unit : ℕ) → Contains units unit → P unit) → Every P units
+every_unit P [] f = tt
+every_unit P (unit ∷ units) f =
+    (f unit (Contains-here unit units), every_unit P units (λ v c. f v (Contains-there unit units v c)))
+
+-- in a table
+pub half_of_overlapping : HalfOfOverlapping
+half_of_overlapping t direction q is bytes late =
+    half_told has t.settings direction q late (is.entries q.mode (start_context t.settings (beside direction q)))
+    (every_unit (λ unit. unit < 257) (units_of direction q) (units_below direction q bytes))
+  where
+    has : HasLists t.machine (λ row. row < t.size) (λ unit. unit < 257)
+    has = record {
+      stays = λ row unit h k. is.nexts row unit h k;
+      some = λ row h e. is.lists row h e;
+    }
+
+-- and in what a build makes
+pub half_of_overlapping_in_build : HalfOfOverlappingInBuild
+half_of_overlapping_in_build b direction q late =
+    half_told has (build_settings b) direction q late tt
+    (every_unit (λ unit. Unit {0}) (units_of direction q) (λ unit c. tt))
+  where
+    no_empty : (ks : List ℕ) → label_of ks ≡ Label.Matches [] → ⊥
+    no_empty [] e = cc
+    no_empty (k ∷ ks) e = cc
+
+    has : HasLists (power b) (λ node. Unit {0}) (λ unit. Unit {0})
+    has = record { stays = λ node unit h k. tt; some = λ node h e. none node e }
+      where
+        none : (node : Node) → node_label node ≡ Label.Matches [] → ⊥
+        none Node.Quit e = cc
+        none (Node.Running s) e = no_empty s.label e

@@ -1,0 +1,11 @@
+use Rattle.std.proofs.Common.{refl}
+use Rattle.rx_laws.proofs.Computing.{computing}
+use Rattle.rx_laws.proofs.examples.found_beside.Goals as goal
+
+pub returns-clause-word_byte_that_ends_lines : goal.returns-clause-word_byte_that_ends_lines
+unfolding computing
+returns-clause-word_byte_that_ends_lines c = refl
+
+pub returns-clause-line_start : goal.returns-clause-line_start
+unfolding computing
+returns-clause-line_start c = (refl, refl, refl)

@@ -1,0 +1,21 @@
+use Rattle.std.proofs.Common.{◌≡◌, ℕ, false, Option, Some, None, refl}
+use Rattle.rx_spec.specs.Bytes.{contains}
+use Rattle.rx_spec.specs.Queries.{Anchored}
+use Rattle.rx_spec.specs.Machines.{Settings}
+use Rattle.rx_spec.specs.Starts.{mode_error, start_error}
+use Rattle.rx_lemmas.proofs.Splits.{half_when_done}
+use Rattle.rx_laws.proofs.laws.starts_refused.Goals as goal
+
+by_mode : (s : Settings) (beside : Option ℕ) (mode : Anchored)
+    → ((byte : ℕ) → beside ≡ Some byte → contains s.quit byte ≡ false) → start_error s beside mode ≡ mode_error s mode
+by_mode s None mode none = refl
+by_mode s (Some byte) mode none = rw (none byte refl) refl
+
+pub returns-clause-by_byte : goal.returns-clause-by_byte
+returns-clause-by_byte c = λ s byte mode quits. rw quits refl
+
+pub returns-clause-by_mode : goal.returns-clause-by_mode
+returns-clause-by_mode c = by_mode
+
+pub returns-clause-done : goal.returns-clause-done
+returns-clause-done c = λ t direction q done. half_when_done t.machine t.settings direction q done

@@ -1,0 +1,70 @@
+-- Rows and their ids: the one names the other, and those of a dense table are multiples of its stride.
+use Rattle.std.proofs.Common.{◌≡◌, ℕ, ◌+◌, ◌*◌, ◌^◌, ◌<◌, ◌==◌, ◌⊎◌, Some, None, Bool, if◌then◌else◌, List}
+use Rattle.std.proofs.Common.{length, refl, ap, sym, ◌∙◌, ⊎_elim, arith}
+use Rattle.std.specs.Prelude.{Contains, unwrap_or, nat_lt}
+use Rattle.std.specs.List.{position_or_len}
+use Rattle.std.proofs.lemmas.Bool.{ne_eqb, eq-eqb, lt-ltb, cases_order}
+use Rattle.std.proofs.lemmas.List.{get_or_default}
+use Rattle.std.proofs.lemmas.List.FromFn.{length-map-range_with_len, get_or-map-range_with_len}
+use Rattle.std.proofs.lemmas.List.Kept.{AllPairs-from_increasing}
+use Rattle.std.proofs.lemmas.List.Sums.{position_or_len_is}
+use Rattle.std.proofs.lemmas.Nat.{pow_pos}
+use Rattle.rx_spec.specs.Ids.{AreIds, id_of, row_of, dense_ids}
+
+-- no two rows have one id
+pub id_apart : {size : ℕ} {ids : List ℕ} → AreIds size ids → (x y : ℕ) → x < size → y < size
+    → id_of ids x ≡ id_of ids y → x ≡ y
+id_apart {size} {ids} are x y hx hy same =
+    let n = are.count in
+    let rises = AllPairs-from_increasing ids are.rising in
+    ⊎_elim
+    (λ (e : x ≡ y). e)
+    (λ (ne : (x < y) ⊎ (y < x)).
+    ⊎_elim
+    (λ (below : x < y). absurd (omega (arith, rises x y 0 below (omega arith))))
+    (λ (above : y < x). absurd (omega (arith, rises y x 0 above (omega arith))))
+    ne)
+    (cases_order x y)
+
+-- the row of a row's id
+pub row_of-id_of : {size : ℕ} {ids : List ℕ} → AreIds size ids → (row : ℕ) → row < size
+    → row_of ids (id_of ids row) ≡ row
+row_of-id_of {size} {ids} are row h =
+    let n = are.count in
+    let id = id_of ids row in
+    let test = λ (other : ℕ). other == id in
+    let first : position_or_len test ids ≡ row =
+    position_or_len_is test ids row 0 (omega arith)
+    (λ k low. ne_eqb (id_of ids k) id (λ same. (let e = id_apart are k row (omega arith) h same in omega arith)))
+    (λ l. eq-eqb id id refl) in
+    ap (λ (k : ℕ). unwrap_or (if nat_lt k (length ids) then Some k else None) (length ids)) first
+    ∙ ap (λ (b : Bool). unwrap_or (if b then Some row else None) (length ids)) (lt-ltb row (length ids) (omega arith))
+
+-- the id of an id's row
+pub id_of-row_of : {size : ℕ} {ids : List ℕ} → AreIds size ids → (id : ℕ) → Contains ids id
+    → id_of ids (row_of ids id) ≡ id
+id_of-row_of {size} {ids} are id (k, h, e) =
+    let n = are.count in
+    let there : id_of ids k ≡ id = get_or_default ids k 0 id h ∙ e in
+    ap (λ x. id_of ids (row_of ids x)) (sym there) ∙ ap (id_of ids) (row_of-id_of are k (omega arith)) ∙ there
+
+-- ---- dense tables
+
+pub id_of-dense : (size stride2 row : ℕ) → row < size → id_of (dense_ids size stride2) row ≡ row * 2 ^ stride2
+id_of-dense size stride2 row h =
+    let none : 0 + row ≡ row = omega arith in
+    get_or-map-range_with_len (λ r. r * 2 ^ stride2) 0 size row row 0 h none
+
+pub dense_are_ids : (size stride2 : ℕ) → AreIds size (dense_ids size stride2)
+dense_are_ids size stride2 = record {
+  count = length-map-range_with_len (λ r. r * 2 ^ stride2) 0 size;
+  rising = λ k h.
+      let n = length-map-range_with_len (λ r. r * 2 ^ stride2) 0 size in
+      let next : (k + 1) * 2 ^ stride2 ≡ k * 2 ^ stride2 + 2 ^ stride2 = omega arith in
+      omega (
+        arith,
+        id_of-dense size stride2 k (omega arith),
+        id_of-dense size stride2 (k + 1) (omega arith),
+        pow_pos stride2,
+      );
+}

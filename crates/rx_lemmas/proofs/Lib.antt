@@ -1,0 +1,44 @@
+-- lists: what holds of every element, first occurrences, the first success of a range
+pub mod Every
+pub mod Firsts
+pub mod Ranges
+-- facts of a neighbour, and the quit sets of both directions
+pub mod Facts
+pub mod QuitSets
+-- where matches end: with an order, without one, and read backward; what is found
+pub mod Ends
+pub mod Reaches
+pub mod Mirrors
+pub mod FoundLaws
+-- rows: how many there are, where they stand, and that paths that read nothing are short
+pub mod Rows
+pub mod RowPlaces
+pub mod ShortPaths
+pub mod PathLengths
+pub mod Patterns
+pub mod Shallows
+-- words, and what walks over machines, tables and builds do with each unit
+pub mod Words
+pub mod SilentRows
+pub mod Walking
+pub mod ReadUnits
+pub mod HalfSearches
+pub mod Overlapping
+-- where their answers come from
+pub mod WalkBounds
+pub mod OverlappingBounds
+-- tables: byte classes, sizes that grow with the states, least tables, the machine row by row, ids
+pub mod Sublists
+pub mod Filters
+pub mod ClassNumbers
+pub mod Classes
+pub mod Sizes
+pub mod Labels
+pub mod Power
+pub mod Ids
+pub mod Tables
+-- searches of them: that no bound cuts anything off, and that all that is told lies in the span
+pub mod Splits
+pub mod ToldInSpan
+pub mod Iterating
+pub mod Joining

@@ -1,0 +1,105 @@
+-- A table that is a build's powerset machine gives the build, and its rows are reached.
+use Rattle.std.proofs.Common.{◌≡◌, ℕ, suc, zero, ◌<◌, ◌≤◌, true, false, List, [], ◌∷◌, length, get_or, sym, ap, ◌∙◌}
+use Rattle.std.proofs.Common.{⊎_elim}
+use Rattle.std.proofs.Common.{arith}
+use Rattle.std.specs.Prelude.{Contains}
+use Rattle.std.proofs.lemmas.Bool.{cases_lt}
+use Rattle.std.proofs.lemmas.List.{get_or-map}
+use Rattle.rx_spec.specs.Queries.{Anchored}
+use Rattle.rx_spec.specs.Builds as builds
+use Rattle.rx_spec.specs.Builds.{Build, Node, dead, is_dead_state, built_modes, built_entry, next_node, node_label}
+use Rattle.rx_spec.specs.Builds.{node_after, power}
+use Rattle.rx_spec.specs.States.{State, dead_state}
+use Rattle.rx_spec.specs.Machines.{IsWord, run}
+use Rattle.rx_spec.specs.Tables.{Table, IsTable, row_after}
+use Rattle.rx_spec.specs.Labels.{Gives, SameLabels, IsReachedRow}
+use Rattle.rx_spec.specs.Power.{node_at, IsPower}
+use Rattle.rx_spec.specs.declared.Start.{Start}
+use Rattle.rx_lemmas.proofs.Words.{run-nil, run-cons, IsWord-head, IsWord-tail, run-within}
+
+abbrev state_of : Node → State
+state_of builds.Quit = dead_state
+state_of (builds.Running s) = s
+
+module _ {t : Table} {b : Build} (is : IsTable t) (by : IsPower t b) where
+  -- words lead from a row and from its node alike
+  node_run : (row : ℕ) (word : List ℕ) → row < t.size → IsWord word
+      → node_at by.states (run t.machine.next row word) ≡ run (next_node b) (node_at by.states row) word
+  node_run row [] l w =
+      ap (node_at by.states) (run-nil t.machine.next row) ∙ sym (run-nil (next_node b) (node_at by.states row))
+  node_run row (unit ∷ word) l w =
+      let unit_fits = IsWord-head unit word w in
+      ap (node_at by.states) (run-cons t.machine.next row unit word)
+      ∙ node_run (t.machine.next row unit) word (is.nexts row unit l unit_fits) (IsWord-tail unit word w)
+      ∙ ap (λ n. run (next_node b) n word) (by.nexts row unit l unit_fits)
+      ∙ sym (run-cons (next_node b) (node_at by.states row) unit word)
+
+  after_below : (mode : Anchored) (start : Start) (word : List ℕ) → IsWord word
+      → row_after t mode start word < t.size
+  after_below mode start word w =
+      run-within t.machine.next (λ r. r < t.size) (λ r unit l u. is.nexts r unit l u) (t.machine.entry mode start) word (is.entries mode start) w
+
+  node_of_after : (mode : Anchored) (start : Start) (word : List ℕ) → IsWord word
+      → node_at by.states (row_after t mode start word) ≡ node_after b mode start word
+  node_of_after mode start word w =
+      node_run (t.machine.entry mode start) word (is.entries mode start) w
+      ∙ ap (λ n. run (next_node b) n word) (by.entries mode start)
+
+  -- it has the machine's labels from all modes, built or not,
+  pub power_same : (Starts : Anchored → Type 0) → SameLabels Starts t.machine (power b)
+  power_same Starts mode begins start word w =
+      by.labels (row_after t mode start word) (after_below mode start word w)
+      ∙ ap node_label (node_of_after mode start word w)
+
+  -- so it gives the build,
+  pub power_gives : Gives t b
+  power_gives = power_same (Contains (built_modes b))
+
+  state_row : (i : ℕ) → i < length by.states
+      → node_at by.states (suc (suc i)) ≡ builds.Running (get_or by.states i dead_state)
+  state_row i l = get_or-map (λ s. builds.Running s) by.states i dead_state dead l
+
+  states_alone : (i j : ℕ) → i < length by.states → j < length by.states
+      → get_or by.states i dead_state ≡ get_or by.states j dead_state → i ≡ j
+  states_alone i j li lj e =
+      ⊎_elim
+      (λ (h : i < j). absurd (by.reached.distinct i j dead_state h lj e))
+      (λ (ge : j ≤ i).
+      ⊎_elim
+      (λ (h : j < i). absurd (by.reached.distinct j i dead_state h li (sym e)))
+      (λ (le : i ≤ j). let a : i ≡ j = omega arith in a)
+      (cases_lt j i))
+      (cases_lt i j)
+
+  -- the row of a state that isn't dead
+  row_of_state : (x i : ℕ) → x < t.size → i < length by.states
+      → is_dead_state (get_or by.states i dead_state) ≡ false
+      → node_at by.states x ≡ builds.Running (get_or by.states i dead_state) → x ≡ suc (suc i)
+  row_of_state zero i lx li alive e =
+      let is_dead : true ≡ is_dead_state (get_or by.states i dead_state) = ap (λ n. is_dead_state (state_of n)) e in
+      let f : true ≡ false = is_dead ∙ alive in
+      absurd (cc)
+  row_of_state (suc zero) i lx li alive e = absurd (cc)
+  row_of_state (suc (suc j)) i lx li alive e =
+      let size = by.size in
+      let lj : j < length by.states = omega arith in
+      ap (λ n. suc (suc n)) (states_alone j i lj li (ap state_of (sym (state_row j lj) ∙ e)))
+
+  -- and a word leads to each row but dead and quit.
+  pub power_reached : (row : ℕ) → 1 < row → row < t.size → IsReachedRow (Contains (built_modes b)) t row
+  power_reached zero h l = absurd (omega arith)
+  power_reached (suc zero) h l = absurd (omega arith)
+  power_reached (suc (suc i)) h l =
+      let size = by.size in
+      let li : i < length by.states = omega arith in
+      let r = by.reached.only i dead_state li in
+      record {
+        mode = r.mode;
+        begins = r.built;
+        start = r.start;
+        word = r.word;
+        is_word = r.units;
+        leads =
+            row_of_state (row_after t r.mode r.start r.word) i (after_below r.mode r.start r.word r.units) li r.alive
+            (node_of_after r.mode r.start r.word r.units ∙ r.leads);
+      }

@@ -1,6 +1,0 @@
-use Rattle.std.proofs.Common.{◌≡◌, true, drop}
-use Rattle.rx_main.specs.Pieces.{is_spaced}
-use Rattle.rx_main.proofs.pieces.is_spaced.Given as goal
-
-abbrev pub invariant-bytes : goal.invariant-bytes
-invariant-bytes l = is_spaced l.gap (drop l.byte-index l.line) ≡ is_spaced true l.line

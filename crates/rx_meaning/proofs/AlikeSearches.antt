@@ -1,0 +1,173 @@
+-- Searches of two machines whose starts are alike, under settings that say the same of bytes.
+use Rattle.std.proofs.Common.{◌≡◌, ℕ, suc, zero, ◌+◌, ◌<◌, ◌≤◌, true, if◌then◌else◌, Option, Some, None, [], ◌∷◌, ◌++◌}
+use Rattle.std.proofs.Common.{map, refl, ap, sym, ◌∙◌, subst, arith, ⊎_elim}
+use Rattle.std.proofs.lemmas.Bool.{lt-ltb, cases_lt}
+use Rattle.std.proofs.lemmas.List.Elements.{Contains-append_left, Contains-append_right}
+use Rattle.std.specs.Prelude.{Contains, is_some}
+use Rattle.std.specs.List.{range_with_len}
+use Rattle.rx_spec.specs.Bytes.{AreBytes, contains}
+use Rattle.rx_spec.specs.Queries.{Anchored, Query}
+use Rattle.rx_spec.specs.Machines.{Machine, Settings}
+use Rattle.rx_spec.specs.Starts.{has_unanchored, has_anchored, supports, start_context, StartError, start_error}
+use Rattle.rx_spec.specs.Starts.{mode_error, start_row}
+use Rattle.rx_spec.specs.Builds.{pattern_modes}
+use Rattle.rx_spec.specs.Tables.{SameSettings}
+use Rattle.rx_spec.specs.Labels.{SameLabels, pattern_start_modes, table_modes}
+use Rattle.rx_spec.specs.HalfSearches.{beside, first_offset, units_of, walk, half_search}
+use Rattle.rx_spec.specs.Overlapping.{overlapping_walk, overlapping}
+use Rattle.rx_spec.specs.declared.Direction.{Direction}
+use Rattle.rx_spec.specs.declared.Start.{Start}
+use Rattle.rx_lemmas.proofs.Firsts.{Contains-here, Contains-there}
+use Rattle.rx_lemmas.proofs.HalfSearches.{Begins, Done, Refused, Started, begins, started, half_done, half_refused}
+use Rattle.rx_lemmas.proofs.HalfSearches.{half_walks, going}
+use Rattle.rx_lemmas.proofs.Overlapping.{overlapping_done, overlapping_refused, overlapping_walks}
+use Rattle.rx_lemmas.proofs.ReadUnits.{beside_is_byte, units_word}
+use Rattle.rx_lemmas.proofs.SilentRows.{IsSilent, EndsWell}
+use Rattle.rx_meaning.proofs.AlikeRows.{Alike, silent_alike, walk_alike, overlapping_alike}
+
+-- ---- starts
+
+-- Settings that say the same of bytes refuse the same starts, and give the same contexts.
+module _ (s r : Settings) (same : SameSettings s r) where
+  context_alike : (byte : Option ℕ) → ((b : ℕ) → byte ≡ Some b → b < 256) → start_context s byte ≡ start_context r byte
+  context_alike None h = refl
+  context_alike (Some b) h = same.start_of_byte b (h b refl)
+
+  mode_alike : (mode : Anchored) → mode_error s mode ≡ mode_error r mode
+  mode_alike mode =
+      ap (λ v. if v then None else Some (StartError.UnsupportedAnchored mode))
+      (ap (λ k. supports k (is_some s.pattern_starts) mode) same.start_kind
+      ∙ ap (λ p. supports r.start_kind (is_some p) mode) same.pattern_starts)
+
+  error_alike : (byte : Option ℕ) (mode : Anchored) → ((b : ℕ) → byte ≡ Some b → b < 256)
+      → start_error s byte mode ≡ start_error r byte mode
+  error_alike None mode h = mode_alike mode
+  error_alike (Some b) mode h =
+      ap (λ v. if v then Some (StartError.Quit b) else mode_error s mode) (same.quit b (h b refl))
+      ∙ ap (λ e. if contains r.quit b then Some (StartError.Quit b) else e) (mode_alike mode)
+
+-- the modes that are supported are those that a table has, and patterns past the last
+unanchored_there : (s : Settings) → has_unanchored s.start_kind ≡ true → Contains (table_modes s) Anchored.No
+unanchored_there s e =
+    let front = if has_unanchored s.start_kind then Anchored.No ∷ [] else [] in
+    let second = if has_anchored s.start_kind then Anchored.Yes ∷ [] else [] in
+    let one = Contains-here Anchored.No [] in
+    let here : Contains front Anchored.No
+    = subst (λ v. Contains (if v then Anchored.No ∷ [] else []) Anchored.No) (sym e) one in
+    Contains-append_left (front ++ second) (pattern_start_modes s.pattern_starts) Anchored.No
+    (Contains-append_left front second Anchored.No here)
+
+anchored_there : (s : Settings) → has_anchored s.start_kind ≡ true → Contains (table_modes s) Anchored.Yes
+anchored_there s e =
+    let front = if has_unanchored s.start_kind then Anchored.No ∷ [] else [] in
+    let second = if has_anchored s.start_kind then Anchored.Yes ∷ [] else [] in
+    let one = Contains-here Anchored.Yes [] in
+    let here : Contains second Anchored.Yes
+    = subst (λ v. Contains (if v then Anchored.Yes ∷ [] else []) Anchored.Yes) (sym e) one in
+    Contains-append_left (front ++ second) (pattern_start_modes s.pattern_starts) Anchored.Yes
+    (Contains-append_right front second Anchored.Yes here)
+
+modes_from : (n base k : ℕ) → k < n
+    → Contains (map (λ i. Anchored.Pattern i) (range_with_len base n)) (Anchored.Pattern (base + k))
+modes_from zero base k h = absurd (omega arith)
+modes_from (suc n) base zero h =
+    let here : base ≡ base + 0 = omega arith in
+    subst (λ i. Contains (map (λ j. Anchored.Pattern j) (range_with_len base (suc n))) (Anchored.Pattern i)) here
+    (Contains-here (Anchored.Pattern base) (map (λ j. Anchored.Pattern j) (range_with_len (base + 1) n)))
+modes_from (suc n) base (suc k) h =
+    let later = map (λ j. Anchored.Pattern j) (range_with_len (base + 1) n) in
+    let place : base + 1 + k ≡ base + suc k = omega arith in
+    Contains-there (Anchored.Pattern base) later (Anchored.Pattern (base + suc k))
+    (subst (λ i. Contains later (Anchored.Pattern i)) place (modes_from n (base + 1) k (omega arith)))
+
+pattern_there : (s : Settings) (n k : ℕ) → s.pattern_starts ≡ Some n → k < n
+    → Contains (table_modes s) (Anchored.Pattern k)
+pattern_there s n k e h =
+    let front = if has_unanchored s.start_kind then Anchored.No ∷ [] else [] in
+    let second = if has_anchored s.start_kind then Anchored.Yes ∷ [] else [] in
+    let number : 0 + k ≡ k = omega arith in
+    Contains-append_right (front ++ second) (pattern_start_modes s.pattern_starts) (Anchored.Pattern k)
+    (subst (λ o. Contains (pattern_start_modes o) (Anchored.Pattern k)) (sym e)
+    (subst (λ i. Contains (pattern_modes n) (Anchored.Pattern i)) number (modes_from n 0 k h)))
+
+-- ---- machines
+
+-- A machine whose searches end well: from each start, and from the starts of patterns past the last at once.
+pub record StartsWell {R : Type 0} (m : Machine R) (In : R → Type 0) (s : Settings) : Type 0 where
+  pub ends : EndsWell m In
+  pub inside : (mode : Anchored) (start : Start) → In (m.entry mode start)
+  pub past_last : (n k : ℕ) (start : Start) → s.pattern_starts ≡ Some n → n ≤ k
+      → IsSilent m (m.entry (Anchored.Pattern k) start)
+
+module _ {R S : Type 0} {m : Machine R} {n : Machine S} {In : R → Type 0} {On : S → Type 0} {r : Settings}
+    (left : StartsWell m In r) (right : StartsWell n On r)
+    (labels : SameLabels (Contains (table_modes r)) m n) where
+  there_alike : (mode : Anchored) (start : Start) → Contains (table_modes r) mode
+      → Alike m n In On (m.entry mode start) (n.entry mode start)
+  there_alike mode start c =
+      record { inside = left.inside mode start; within = right.inside mode start; labels = labels mode c start }
+
+  pattern_alike : (k : ℕ) (start : Start) (o : Option ℕ) → r.pattern_starts ≡ o → is_some o ≡ true
+      → Alike m n In On (m.entry (Anchored.Pattern k) start) (n.entry (Anchored.Pattern k) start)
+  pattern_alike k start None e h = absurd (cc)
+  pattern_alike k start (Some len) e h =
+      ⊎_elim (λ (l : k < len). there_alike (Anchored.Pattern k) start (pattern_there r len k e l))
+      (λ (l : len ≤ k). silent_alike (left.inside (Anchored.Pattern k) start) (right.inside (Anchored.Pattern k) start)
+      (left.past_last len k start e l) (right.past_last len k start e l))
+      (cases_lt k len)
+
+  starts_alike : (mode : Anchored) (start : Start) → supports r.start_kind (is_some r.pattern_starts) mode ≡ true
+      → Alike m n In On (m.entry mode start) (n.entry mode start)
+  starts_alike Anchored.No start e = there_alike Anchored.No start (unanchored_there r e)
+  starts_alike Anchored.Yes start e = there_alike Anchored.Yes start (anchored_there r e)
+  starts_alike (Anchored.Pattern k) start e = pattern_alike k start r.pattern_starts refl e
+
+  module _ {s : Settings} (same : SameSettings s r) (direction : Direction) (q : Query)
+      (bytes : AreBytes q.haystack) where
+    byte : (b : ℕ) → beside direction q ≡ Some b → b < 256
+    byte b e = beside_is_byte direction q b bytes e
+
+    refused : start_error s (beside direction q) q.mode ≡ start_error r (beside direction q) q.mode
+    refused = error_alike s r same (beside direction q) q.mode byte
+
+    row : start_row m s (beside direction q) q.mode ≡ start_row m r (beside direction q) q.mode
+    row = ap (m.entry q.mode) (context_alike s r same (beside direction q) byte)
+
+    begun_alike : start_error r (beside direction q) q.mode ≡ None
+        → Alike m n In On (start_row m r (beside direction q) q.mode) (start_row n r (beside direction q) q.mode)
+    begun_alike is =
+        starts_alike q.mode (start_context r (beside direction q)) (started r (beside direction q) q.mode is).supported
+
+    pub half_alike : half_search m s direction q ≡ half_search n r direction q
+    half_alike = by_start (begins r direction q)
+      where
+        by_start : Begins r direction q → half_search m s direction q ≡ half_search n r direction q
+        by_start (Done past) =
+            let d = lt-ltb q.end q.start past in
+            half_done m s direction q d ∙ sym (half_done n r direction q d)
+        by_start (Refused order error is) =
+            half_refused m s direction q error (going q order) (refused ∙ is)
+            ∙ sym (half_refused n r direction q error (going q order) is)
+        by_start (Started order is) =
+            half_walks m s direction q (going q order) (refused ∙ is)
+            ∙ ap (λ x. walk m direction q.earliest x (first_offset direction q) None (units_of direction q)) row
+            ∙ walk_alike left.ends right.ends direction q.earliest (begun_alike is) (units_of direction q)
+            (units_word direction q bytes) (first_offset direction q) None
+            ∙ sym (half_walks n r direction q (going q order) is)
+
+    pub overlapping_search_alike : overlapping m s direction q ≡ overlapping n r direction q
+    overlapping_search_alike = by_start (begins r direction q)
+      where
+        by_start : Begins r direction q → overlapping m s direction q ≡ overlapping n r direction q
+        by_start (Done past) =
+            let d = lt-ltb q.end q.start past in
+            overlapping_done m s direction q d ∙ sym (overlapping_done n r direction q d)
+        by_start (Refused order error is) =
+            overlapping_refused m s direction q error (going q order) (refused ∙ is)
+            ∙ sym (overlapping_refused n r direction q error (going q order) is)
+        by_start (Started order is) =
+            overlapping_walks m s direction q (going q order) (refused ∙ is)
+            ∙ ap (λ x. overlapping_walk m direction x (first_offset direction q) (units_of direction q)) row
+            ∙ overlapping_alike left.ends right.ends direction (begun_alike is) (units_of direction q)
+            (units_word direction q bytes) (first_offset direction q)
+            ∙ sym (overlapping_walks n r direction q (going q order) is)

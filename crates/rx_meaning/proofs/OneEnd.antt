@@ -1,0 +1,82 @@
+-- What states give for exactly one place: which pattern, if any, matches up to it. A step keeps what later places
+-- are given, and its label's first pattern is what this place is given.
+use Rattle.std.proofs.Common.{◌≡◌, ℕ, ◌+◌, ◌<◌, ◌==◌, ◌||◌, true, if◌then◌else◌, Option, Some, None, List, [], ◌∷◌}
+use Rattle.std.proofs.Common.{refl, ap, sym, ◌∙◌, subst, arith}
+use Rattle.std.proofs.lemmas.Bool.{eq-eqb, ne_eqb, eqb-true}
+use Rattle.std.proofs.lemmas.List.Folds.{Any-from_list_any, list_any_at}
+use Rattle.std.specs.Prelude.{slice_get, Contains, get_or}
+use Rattle.std.specs.Option.{option_or}
+use Rattle.std.specs.List.{list_any}
+use Rattle.rx_spec.specs.Found.{first_of}
+use Rattle.rx_spec.specs.States.{State, decided_rows}
+use Rattle.rx_spec.specs.Builds.{is_dead_state}
+use Rattle.rx_lemmas.proofs.Firsts.{by_test}
+use Rattle.rx_lemmas.proofs.ReadUnits.{unit_at}
+use Rattle.rx_lemmas.proofs.SilentRows.{dead_empty}
+use Rattle.rx_meaning.proofs.FirstSuccess.{first_of-nil, first_of-cons}
+use Rattle.rx_meaning.proofs.Solution.{given, given_none}
+use Rattle.rx_meaning.proofs.Closures.{first_given}
+use Rattle.rx_meaning.proofs.Scan.{Scan, read_in, valued, StandsAt, step_at}
+use Rattle.rx_meaning.proofs.Steps.{label_worth, matched, label_head, CutsNothing, step_later, step_here}
+
+-- a match is worth its pattern, at exactly one place
+abbrev pub exactly : ℕ → ℕ → ℕ → Option ℕ
+exactly place k i = if i == place then Some k else None
+
+exactly_here : (place k : ℕ) → exactly place k place ≡ Some k
+exactly_here place k = ap (λ v. if v then Some k else None) (eq-eqb place place refl)
+
+exactly_other : (place k i : ℕ) → (i ≡ place → ⊥) → exactly place k i ≡ None
+exactly_other place k i other = ap (λ v. if v then Some k else None) (ne_eqb i place other)
+
+-- of ends, whether the place is one of them
+pub ends_exactly : (place k : ℕ) (xs : List ℕ)
+    → first_of (λ j. exactly place k j) xs ≡ (if list_any (λ j. j == place) xs then Some k else None)
+ends_exactly place k [] = first_of-nil (λ (j : ℕ). exactly place k j)
+ends_exactly place k (x ∷ xs) =
+    let rest = first_of (λ j. exactly place k j) xs in
+    first_of-cons (λ j. exactly place k j) x xs
+    ∙ by_test (x == place)
+    (λ e. ap (λ v. option_or (if v then Some k else None) rest) e
+    ∙ sym (ap (λ v. if v || list_any (λ j. j == place) xs then Some k else None) e))
+    (λ e. ap (λ v. option_or (if v then Some k else None) rest) e ∙ ends_exactly place k xs
+    ∙ sym (ap (λ v. if v || list_any (λ j. j == place) xs then Some k else None) e))
+
+pub any_end : (place : ℕ) (xs : List ℕ) → list_any (λ j. j == place) xs ≡ true → Contains xs place
+any_end place xs h =
+    let a = Any-from_list_any (λ j. j == place) xs h in
+    subst (Contains xs) (eqb-true a.1 place a.4) (a.0, a.2, a.3)
+
+pub end_any : (place : ℕ) (xs : List ℕ) → Contains xs place → list_any (λ j. j == place) xs ≡ true
+end_any place xs (i, within, e) = list_any_at (λ j. j == place) xs i place within (eq-eqb (get_or xs i place) place e)
+
+-- what a label is worth at its place is its first pattern
+label_exactly : (i : ℕ) (ks : List ℕ) → label_worth (exactly i) i ks ≡ slice_get ks 0
+label_exactly i [] = first_of-nil (λ (k : ℕ). exactly i k i)
+label_exactly i (k ∷ ks) =
+    first_of-cons (λ k. exactly i k i) k ks ∙ ap (λ v. option_or v (label_worth (exactly i) i ks)) (exactly_here i k)
+
+module _ (c : Scan) where
+  -- what a state gives for a place
+  abbrev pub tells : State → ℕ → ℕ → Option ℕ
+  tells s i place = first_given (valued c (exactly place)) i s.rows
+
+  pub dead_tells : (s : State) (i place : ℕ) → is_dead_state s ≡ true → tells s i place ≡ None
+  dead_tells s i place d =
+      ap (first_given (valued c (exactly place)) i) (dead_empty s d).0
+      ∙ first_of-nil (λ (q : ℕ). given (valued c (exactly place)) q i)
+
+  pub tells_here : (s : State) (i : ℕ) → StandsAt c s i → slice_get (step_at c s i).label 0 ≡ tells s i i
+  tells_here s i at =
+      let x = valued c (exactly i) in
+      let none : (q : ℕ) → given x q (i + 1) ≡ None
+      = λ q. given_none x q (i + 1) (λ k j low. exactly_other i k j (λ e. omega (arith, low, e))) in
+      label_head c.build.nfa c.build.kind s (unit_at (read_in c) i)
+      ∙ sym (label_exactly i (matched c.build.nfa.rows (decided_rows c.build.nfa (unit_at (read_in c) i) s)))
+      ∙ sym (step_here c (exactly i) i s none at)
+
+  pub tells_later : (s : State) (i place : ℕ) → StandsAt c s i → i < place
+      → CutsNothing c.build.nfa c.build.kind s (unit_at (read_in c) i)
+      → tells (step_at c s i) (i + 1) place ≡ tells s i place
+  tells_later s i place at h whole =
+      step_later c (exactly place) i s whole (λ k. exactly_other place k i (λ e. omega (arith, e, h))) at

@@ -1,0 +1,86 @@
+-- Tables, and builds, as machines whose searches end well: then a table and the build that it gives are alike, and
+-- so are copies.
+use Rattle.std.proofs.Common.{◌≡◌, ℕ, ◌≤◌, Bool, true, false, if◌then◌else◌, Some, None, [], ◌∷◌, ◌++◌, length, refl}
+use Rattle.std.proofs.Common.{ap, sym, ◌∙◌, subst}
+use Rattle.std.proofs.lemmas.Option.{slice_get_past, same_Some}
+use Rattle.std.specs.Prelude.{Contains, slice_get}
+use Rattle.rx_spec.specs.Queries.{Anchored}
+use Rattle.rx_spec.specs.Machines.{Settings}
+use Rattle.rx_spec.specs.Starts.{has_unanchored, has_anchored}
+use Rattle.rx_spec.specs.Builds.{Build, dead, start_node, built_entry, power, build_settings, built_modes}
+use Rattle.rx_spec.specs.Builds.{pattern_modes}
+use Rattle.rx_spec.specs.Tables.{Table, IsTable}
+use Rattle.rx_spec.specs.Labels.{SameLabels, pattern_start_modes, table_modes}
+use Rattle.rx_spec.specs.declared.Start.{Start}
+use Rattle.rx_lemmas.proofs.SilentRows.{IsSilent, IsRow, zero_is_silent, table_ends_well, AnyNode, dead_label}
+use Rattle.rx_lemmas.proofs.SilentRows.{power_ends_well}
+use Rattle.rx_meaning.specs.Tables.{Serves, HalfOfTable, OverlappingOfTable, HalfOfCopy, OverlappingOfCopy}
+use Rattle.rx_meaning.proofs.AlikeSearches.{StartsWell, half_alike, overlapping_search_alike}
+
+-- a table, under settings with as many pattern starts
+table_starts_well : (t : Table) (r : Settings) → IsTable t → t.settings.pattern_starts ≡ r.pattern_starts
+    → StartsWell t.machine (IsRow t) r
+table_starts_well t r is same = record {
+  ends = table_ends_well t is;
+  inside = is.entries;
+  past_last = λ n k start e h.
+      subst (λ row. IsSilent t.machine row) (sym (is.past_last n k start (same ∙ e) h)) (zero_is_silent t is);
+}
+
+-- a build
+power_starts_well : (b : Build) → StartsWell (power b) AnyNode (build_settings b)
+power_starts_well b = record {
+  ends = power_ends_well b;
+  inside = λ mode start. tt;
+  past_last = λ n k start e h.
+      let silent : IsSilent (power b) dead = record { plain = λ word w. dead_label b word } in
+      subst (λ node. IsSilent (power b) node) (sym (past_is_dead n k start e h)) silent;
+}
+  where
+    by_starts : (v : Bool) (n k : ℕ) (start : Start) → (if v then Some (length b.nfa.start_patterns) else None) ≡ Some n
+        → n ≤ k → (if v then start_node b.nfa (slice_get b.nfa.start_patterns k) start else dead) ≡ dead
+    by_starts true n k start e h =
+        let same = same_Some (length b.nfa.start_patterns) n e in
+        ap (λ o. start_node b.nfa o start) (slice_get_past b.nfa.start_patterns k (subst (λ m. m ≤ k) (sym same) h))
+    by_starts false n k start e h = refl
+
+    past_is_dead : (n k : ℕ) (start : Start) → (build_settings b).pattern_starts ≡ Some n → n ≤ k
+        → built_entry b (Anchored.Pattern k) start ≡ dead
+    past_is_dead n k start e h = by_starts b.pattern_starts n k start e h
+
+-- the modes for which a build has starts
+modes_are : (b : Build) → built_modes b ≡ table_modes (build_settings b)
+modes_are b =
+    let front = (if has_unanchored b.start_kind then Anchored.No ∷ [] else [])
+    ++ (if has_anchored b.start_kind then Anchored.Yes ∷ [] else []) in
+    ap (λ l. front ++ l) (by_starts b.pattern_starts (length b.nfa.start_patterns))
+  where
+    by_starts : (v : Bool) (n : ℕ)
+        → (if v then pattern_modes n else []) ≡ pattern_start_modes (if v then Some n else None)
+    by_starts true n = refl
+    by_starts false n = refl
+
+served_labels : (t : Table) (b : Build) → Serves t b
+    → SameLabels (Contains (table_modes (build_settings b))) t.machine (power b)
+served_labels t b serves mode c start word w =
+    serves.gives mode (subst (λ l. Contains l mode) (sym (modes_are b)) c) start word w
+
+pub half_of_table_holds : HalfOfTable
+half_of_table_holds t b serves direction q bytes =
+    half_alike (table_starts_well t (build_settings b) serves.is_table serves.settings.pattern_starts)
+    (power_starts_well b) (served_labels t b serves) serves.settings direction q bytes
+
+pub overlapping_of_table_holds : OverlappingOfTable
+overlapping_of_table_holds t b serves direction q bytes =
+    overlapping_search_alike (table_starts_well t (build_settings b) serves.is_table serves.settings.pattern_starts)
+    (power_starts_well b) (served_labels t b serves) serves.settings direction q bytes
+
+pub half_of_copy_holds : HalfOfCopy
+half_of_copy_holds t u c direction q bytes =
+    half_alike (table_starts_well t u.settings c.is_table c.settings.pattern_starts)
+    (table_starts_well u u.settings c.other_is_table refl) c.labels c.settings direction q bytes
+
+pub overlapping_of_copy_holds : OverlappingOfCopy
+overlapping_of_copy_holds t u c direction q bytes =
+    overlapping_search_alike (table_starts_well t u.settings c.is_table c.settings.pattern_starts)
+    (table_starts_well u u.settings c.other_is_table refl) c.labels c.settings direction q bytes

@@ -1,0 +1,244 @@
+-- Where the answers of searches over sound tables lie.
+use Rattle.std.proofs.Common.{◌≡◌, ◌≢◌, ℕ, zero, suc, ◌+◌, ◌-◌, ◌<◌, ◌≤◌, ◌⊎◌, inl, inr, ⊎_elim, Bool, true}
+use Rattle.std.proofs.Common.{if◌then◌else◌, Option, Some, None, Ok, Err, List, [], ◌∷◌, length, take, get_or, refl, ap}
+use Rattle.std.proofs.Common.{sym, ◌∙◌, subst, arith}
+use Rattle.std.proofs.lemmas.Option.{none-some}
+use Rattle.std.proofs.lemmas.List.Elements.{Contains-get_or}
+use Rattle.std.specs.Prelude.{Contains, slice_get, is_some}
+use Rattle.rx_spec.specs.Bytes.{AreBytes, contains, unit_of}
+use Rattle.rx_spec.specs.Looks.{before}
+use Rattle.rx_spec.specs.Queries.{Anchored, Query, IsFit, HalfMatch, MatchError, reading}
+use Rattle.rx_spec.specs.Machines.{Label, Settings, run}
+use Rattle.rx_spec.specs.Starts.{supports, StartError, mode_error, start_error}
+use Rattle.rx_spec.specs.Tables.{Table, IsTable, IsSound}
+use Rattle.rx_spec.specs.HalfSearches.{units_of, beside, beside_offset, first_offset, unit_offset, first_match}
+use Rattle.rx_spec.specs.HalfSearches.{match_error, half_search}
+use Rattle.rx_spec.specs.Overlapping.{Item, Ending, overlapping}
+use Rattle.rx_spec.specs.declared.Direction.{Direction}
+use Rattle.rx_lemmas.proofs.WalkBounds.{offset_after, Came, LeadsToQuit, units_count, offset_in_span, half_met}
+use Rattle.rx_lemmas.proofs.WalkBounds.{half_error}
+use Rattle.rx_lemmas.proofs.Firsts.{by_test, Contains-here}
+use Rattle.rx_lemmas.proofs.OverlappingBounds.{search_met, search_quit, search_refused}
+use Rattle.rx_lemmas.proofs.ReadUnits.{unit_at, get_or-units_from, units_read, place_of, first_place, next_byte}
+use Rattle.rx_lemmas.proofs.ReadUnits.{next_at_place, units_word}
+use Rattle.rx_lemmas.proofs.SilentRows.{IsRow}
+use Rattle.rx_lemmas.proofs.Words.{IsWord-take, run-within}
+use Rattle.rx_meaning.specs.Bounds.{IsInBounds, HalfInBounds, OverlappingInBounds, IsNamed, Quitting, HalfQuits}
+use Rattle.rx_meaning.specs.Bounds.{OverlappingQuits}
+
+-- ---- what is told
+
+module _ (t : Table) (sound : IsSound t) (direction : Direction) (q : Query) (bytes : AreBytes q.haystack) where
+  abbrev is : IsTable t
+  is = sound.is_table
+
+  -- what led to an answer was a row, and a unit
+  came_from : (start place : ℕ) → start < t.size → place < length (units_of direction q)
+      → (run t.machine.next start (take place (units_of direction q)) < t.size)
+      × (get_or (units_of direction q) place 256 < 257)
+  came_from start place inside within =
+      let word = units_word direction q bytes in (
+        run-within t.machine.next (IsRow t) (λ row unit h u. is.nexts row unit h u) start
+            (take place (units_of direction q)) inside (IsWord-take place (units_of direction q) word),
+        word (get_or (units_of direction q) place 256) (Contains-get_or (units_of direction q) place 256 within),
+      )
+
+  told_in_bounds : (h : HalfMatch) → half_search t.machine t.settings direction q ≡ Ok (Some h)
+      → IsInBounds q t.pattern_len h
+  told_in_bounds h e =
+      let met = half_met t.machine t.settings direction q h e in
+      let c = met.1 in
+      let l = c.leads in
+      let from = came_from _ c.place (is.entries q.mode _) c.within in
+      let row = is.nexts _ _ from.0 from.1 in
+      let lies = offset_in_span direction q c.place met.0 c.within in
+      subst (IsInBounds q t.pattern_len) (sym l.told) (of_patterns l.patterns _ row l.label lies)
+    where
+      of_patterns : (ks : List ℕ) (row : ℕ) {o : ℕ} → row < t.size → t.machine.label row ≡ Label.Matches ks
+          → (q.start ≤ o) × (o ≤ q.end) → IsInBounds q t.pattern_len (first_match ks o)
+      of_patterns [] row h e lies = absurd (is.lists row h e)
+      of_patterns (k ∷ ks) row h e lies = record {
+        low = lies.0;
+        high = lies.1;
+        pattern = sound.patterns row (k ∷ ks) k h e (Contains-here k ks);
+      }
+
+  item_in_bounds : (h : HalfMatch) → Contains (overlapping t.machine t.settings direction q).items (Item.Reported h)
+      → IsInBounds q t.pattern_len h
+  item_in_bounds h e =
+      let met = search_met t.machine t.settings direction q h e in
+      let c = met.1 in
+      let l = c.leads in
+      let from = came_from _ c.place (is.entries q.mode _) c.within in
+      let row = is.nexts _ _ from.0 from.1 in
+      let lies = offset_in_span direction q c.place met.0 c.within in
+      record {
+        low = subst (λ o. q.start ≤ o) (sym l.told) lies.0;
+        high = subst (λ o. o ≤ q.end) (sym l.told) lies.1;
+        pattern = sound.patterns _ l.patterns h.pattern row l.label l.pattern;
+      }
+
+pub half_in_bounds : HalfInBounds
+half_in_bounds t sound direction q h bytes e = told_in_bounds t sound direction q bytes h e
+
+pub overlapping_in_bounds : OverlappingInBounds
+overlapping_in_bounds t sound direction q h bytes e = item_in_bounds t sound direction q bytes h e
+
+-- ---- where it quits
+
+mode_quits_not : (s : Settings) (mode : Anchored) (byte : ℕ) → mode_error s mode ≡ Some (StartError.Quit byte) → ⊥
+mode_quits_not s mode byte e =
+    by_test (supports s.start_kind (is_some s.pattern_starts) mode)
+    (λ t. none-some (StartError.Quit byte) (sym (ap refused t) ∙ e))
+    (λ f. other (StartError.UnsupportedAnchored mode) refl (sym (ap refused f) ∙ e))
+  where
+    refused : Bool → Option StartError
+    refused v = if v then None else Some (StartError.UnsupportedAnchored mode)
+
+    other : (error : StartError) → error ≡ StartError.UnsupportedAnchored mode
+        → Some error ≡ Some (StartError.Quit byte) → ⊥
+    other error is e = cc
+
+start_quits : (s : Settings) (neighbour : Option ℕ) (mode : Anchored) (byte : ℕ)
+    → start_error s neighbour mode ≡ Some (StartError.Quit byte)
+    → (neighbour ≡ Some byte) × (contains s.quit byte ≡ true)
+start_quits s None mode byte e = absurd (mode_quits_not s mode byte e)
+start_quits s (Some b) mode byte e =
+    by_test (contains s.quit b)
+    (λ t. let same : b ≡ byte = same_quit b byte (sym (ap refused t) ∙ e) in
+    (ap (λ x. Some x) same, subst (λ x. contains s.quit x ≡ true) same t))
+    (λ f. absurd (mode_quits_not s mode byte (sym (ap refused f) ∙ e)))
+  where
+    refused : Bool → Option StartError
+    refused v = if v then Some (StartError.Quit b) else mode_error s mode
+
+    same_quit : (a b : ℕ) → Some (StartError.Quit a) ≡ Some (StartError.Quit b) → a ≡ b
+    same_quit a b e = cc
+
+-- the byte beside the span, and one that is read next at an offset of it
+beside_named : (direction : Direction) (q : Query) (byte : ℕ) → q.start ≤ q.end → beside direction q ≡ Some byte
+    → IsNamed q byte (beside_offset direction q)
+beside_named Direction.Forward q byte order e = at_start q.start order refl e
+  where
+    at_start : (start : ℕ) → start ≤ q.end → start ≡ q.start → before q.haystack start ≡ Some byte
+        → IsNamed q byte (q.start - 1)
+    at_start zero order is e = absurd (none-some byte e)
+    at_start (suc i) order is e =
+        let place : i ≡ q.start - 1 = omega arith in
+        record { low = omega arith; high = omega arith; there = ap (slice_get q.haystack) (sym place) ∙ e }
+beside_named Direction.Reverse q byte order e = record { low = omega arith; high = omega arith; there = e }
+
+next_named : (direction : Direction) (q : Query) (byte offset : ℕ) → (q.start ≤ offset) × (offset ≤ q.end)
+    → next_byte direction q.haystack offset ≡ Some byte → IsNamed q byte (unit_offset direction offset)
+next_named Direction.Forward q byte offset lies e = record { low = omega (arith, lies.0); high = lies.1; there = e }
+next_named Direction.Reverse q byte zero lies e = absurd (none-some byte e)
+next_named Direction.Reverse q byte (suc i) lies e =
+    let place : i ≡ suc i - 1 = omega arith in
+    record {
+      low = omega (arith, lies.0);
+      high = omega (arith, lies.1);
+      there = ap (slice_get q.haystack) (sym place) ∙ e;
+    }
+
+-- a unit that is read, by the place of the walk
+unit_is : (direction : Direction) (q : Query) (place : ℕ) → q.start ≤ q.end → q.end ≤ length q.haystack
+    → place < length (units_of direction q)
+    → get_or (units_of direction q) place 256
+    ≡ unit_of (next_byte direction q.haystack (offset_after direction (first_offset direction q) place))
+unit_is direction q place order inside within =
+    let r = reading direction 0 q.haystack in
+    let n = suc (q.end - q.start) in
+    let few = units_count direction q in
+    let lies = offset_in_span direction q place order within in
+    let o = offset_after direction (first_offset direction q) place in
+    ap (λ us. get_or us place 256) (units_read direction 0 q order inside)
+    ∙ get_or-units_from r (first_place direction q) n place 256 (omega arith)
+    ∙ ap (unit_at r) (sym (place_is direction q place order inside (omega arith)))
+    ∙ ap unit_of (next_at_place direction q.haystack o (omega (arith, lies.1)))
+  where
+    place_is : (direction : Direction) (q : Query) (place : ℕ) → q.start ≤ q.end → q.end ≤ length q.haystack
+        → place < suc (q.end - q.start)
+        → place_of direction (length q.haystack) (offset_after direction (first_offset direction q) place)
+        ≡ first_place direction q + place
+    place_is Direction.Forward q place order inside h = refl
+    place_is Direction.Reverse q place order inside h = omega arith
+
+module _ (t : Table) (sound : IsSound t) (direction : Direction) (q : Query) (bytes : AreBytes q.haystack)
+    (fit : IsFit q) where
+  abbrev table : IsTable t
+  table = sound.is_table
+
+  -- a quit in the walk
+  walk_named : (start byte offset : ℕ) → q.start ≤ q.end → start < t.size
+      → Came t.machine start (units_of direction q)
+      (LeadsToQuit t.machine direction (first_offset direction q) (MatchError.Quit byte offset))
+      → IsNamed q byte offset × Quitting t byte
+  walk_named start byte offset order inside c =
+      let l = c.leads in
+      let from = came_from t sound direction q bytes start c.place inside c.within in
+      let o = offset_after direction (first_offset direction q) c.place in
+      let unit = get_or (units_of direction q) c.place 256 in
+      let row = run t.machine.next start (take c.place (units_of direction q)) in
+      let to_quit : t.machine.next row unit ≡ 1
+      = table.quit_only (t.machine.next row unit) (table.nexts row unit from.0 from.1) l.label in
+      let not_end : unit ≢ 256
+      = λ e. sound.eoi_goes_on row from.0 (ap (t.machine.next row) (sym e) ∙ to_quit) in
+      let there = a_byte (next_byte direction q.haystack o) unit not_end
+      (unit_is direction q c.place order fit.within c.within) in
+      let same = quit_parts byte unit offset (unit_offset direction o) l.told in
+      subst (λ b. IsNamed q b offset × Quitting t b) (sym same.0) (
+        subst (λ o. IsNamed q unit o) (sym same.1)
+            (next_named direction q unit o (offset_in_span direction q c.place order c.within) there),
+        inr (row, from.0, to_quit),
+      )
+    where
+      quit_parts : (a b x y : ℕ) → MatchError.Quit a x ≡ MatchError.Quit b y → (a ≡ b) × (x ≡ y)
+      quit_parts a b x y e = (cc, cc)
+
+      a_byte : (byte : Option ℕ) (unit : ℕ) → unit ≢ 256 → unit ≡ unit_of byte → byte ≡ Some unit
+      a_byte None unit not_end e = absurd (not_end e)
+      a_byte (Some b) unit not_end e = ap (λ x. Some x) (sym e)
+
+  -- a start that is refused
+  start_named : (refused : StartError) (byte offset : ℕ) → q.start ≤ q.end
+      → start_error t.settings (beside direction q) q.mode ≡ Some refused
+      → MatchError.Quit byte offset ≡ match_error direction q refused
+      → IsNamed q byte offset × Quitting t byte
+  start_named (StartError.Quit b) byte offset order is e =
+      let parts = start_quits t.settings (beside direction q) q.mode b is in
+      let same = quit_parts byte b offset (beside_offset direction q) e in
+      subst (λ x. IsNamed q x offset × Quitting t x) (sym same.0)
+      (subst (λ o. IsNamed q b o) (sym same.1) (beside_named direction q b order parts.0), inl parts.1)
+    where
+      quit_parts : (a b x y : ℕ) → MatchError.Quit a x ≡ MatchError.Quit b y → (a ≡ b) × (x ≡ y)
+      quit_parts a b x y e = (cc, cc)
+  start_named (StartError.UnsupportedAnchored mode) byte offset order is e = absurd (cc)
+
+  quit_named : (byte offset : ℕ) → half_search t.machine t.settings direction q ≡ Err (MatchError.Quit byte offset)
+      → IsNamed q byte offset × Quitting t byte
+  quit_named byte offset e =
+      let cause = half_error t.machine t.settings direction q (MatchError.Quit byte offset) e in
+      ⊎_elim
+      (λ (r : (refused : StartError) × (start_error t.settings (beside direction q) q.mode ≡ Some refused)
+      × (MatchError.Quit byte offset ≡ match_error direction q refused)).
+      start_named r.0 byte offset cause.0 r.1 r.2)
+      (λ c. walk_named _ byte offset cause.0 (table.entries q.mode _) c)
+      cause.1
+
+  overlapping_named : (byte offset : ℕ)
+      → let ending = (overlapping t.machine t.settings direction q).ending in
+      (ending ≡ Ending.Quits byte offset) ⊎ (ending ≡ Ending.Refused (MatchError.Quit byte offset))
+      → IsNamed q byte offset × Quitting t byte
+  overlapping_named byte offset (inl e) =
+      let met = search_quit t.machine t.settings direction q byte offset e in
+      walk_named _ byte offset met.0 (table.entries q.mode _) met.1
+  overlapping_named byte offset (inr e) =
+      let r = search_refused t.machine t.settings direction q (MatchError.Quit byte offset) e in
+      start_named r.1.0 byte offset r.0 r.1.1 r.1.2
+
+pub half_quits : HalfQuits
+half_quits t sound direction q byte offset fit bytes e = quit_named t sound direction q bytes fit byte offset e
+
+pub overlapping_quits : OverlappingQuits
+overlapping_quits t sound direction q byte offset fit bytes e =
+    overlapping_named t sound direction q bytes fit byte offset e

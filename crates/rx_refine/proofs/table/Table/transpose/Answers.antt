@@ -1,0 +1,11 @@
+use Rattle.std.proofs.Common.{◌≡◌, ◌+◌, ◌*◌, arith}
+use Rattle.rx_refine.proofs.ColumnsOf.{AreTransposed-set, AreTransposed-all}
+use Rattle.rx_refine.proofs.table.Table.transpose.Goals as goal
+
+pub loop-unit-preserved : goal.loop-unit-preserved
+loop-unit-preserved c =
+    rw c.next_row.ensures
+    (AreTransposed-set c.loop-unit.invariant c.loop-row-test.true (omega arith) (omega (arith, c.requires.room)))
+
+pub returns : goal.returns
+returns c = AreTransposed-all c.loop-row.invariant c.loop-row-test.false

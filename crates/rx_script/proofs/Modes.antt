@@ -1,0 +1,57 @@
+-- Modes: what is read is spelled so, and what is spelled so is read.
+use Rattle.std.proofs.Common.{◌≡◌, ℕ, Bool, true, false, eqb, leb, List, [], ◌∷◌, Option, Some, None}
+use Rattle.std.proofs.Common.{refl, sym, ap, subst, ◌∙◌, arith, inl, inr}
+use Rattle.std.specs.Fmt.{decimal}
+use Rattle.std.proofs.lemmas.Bool.{cases_Bool, eqb-true, leb-true, le-leb}
+use Rattle.std.proofs.lemmas.Option.{same_Some, none-some, cond_some}
+use Rattle.rx_spec.specs.Queries.{Anchored}
+use Rattle.rx_base.specs.Search.{mode_of}
+use Rattle.rx_spec.specs.Causes.{max_id}
+use Rattle.rx_base.specs.declared.search.Anchored.{Anchored as Mode}
+use Rattle.rx_script.specs.Names.{anchored_of}
+use Rattle.rx_script.specs.Tokens.{number_of, pattern_mode, numbered_mode, mode_from, mode_word}
+use Rattle.rx_script.specs.Grammar.{SpellsMode}
+use Rattle.rx_script.proofs.Tables.{anchored_spelled, anchored_read}
+use Rattle.rx_script.proofs.Numbers.{number_spelled, number_read}
+
+abbrev Spelled : List ℕ → Mode → Type 0
+Spelled word mode = SpellsMode (mode_of mode) word
+
+numbered_spelled : (word : List ℕ) (mode : Mode) → numbered_mode word ≡ Some mode → Spelled word mode
+numbered_spelled [] mode e = absurd cc
+numbered_spelled (c ∷ cs) mode e = elim (cases_Bool (eqb c 112)) [
+  | inl p ↦
+      subst (λ (x : ℕ). Spelled (x ∷ cs) mode) (sym (eqb-true c 112 p)) (on (number_of cs) refl (rw p at e))
+  | inr p ↦ absurd (none-some mode (rw p at e))
+] where
+  on : (o : Option ℕ) → number_of cs ≡ o → pattern_mode o ≡ Some mode → Spelled (112 ∷ cs) mode
+  on None q z = absurd cc
+  on (Some n) q z =
+      let c = cond_some (leb n max_id) (Mode.Pattern n) mode z in
+      let number = (number_spelled cs n q).1 in
+      subst (Spelled (112 ∷ cs)) c.1 (leb-true n max_id c.0, ap (λ (x : List ℕ). 112 ∷ x) number)
+
+pub mode_spelled : (word : List ℕ) (mode : Mode) → mode_word word ≡ Some mode → SpellsMode (mode_of mode) word
+unfolding mode_word
+mode_spelled word mode e = on (anchored_of word) refl e where
+  on : (o : Option Bool) → anchored_of word ≡ o → mode_from word o ≡ Some mode → Spelled word mode
+  on None p z = numbered_spelled word mode z
+  on (Some true) p z = subst (Spelled word) (same_Some Mode.Yes mode z) (anchored_spelled word true p)
+  on (Some false) p z = subst (Spelled word) (same_Some Mode.No mode z) (anchored_spelled word false p)
+
+-- the number of a pattern is no name
+no_name : (cs : List ℕ) → anchored_of (112 ∷ cs) ≡ None
+unfolding anchored_of
+no_name cs = refl
+
+pub mode_read
+    : (word : List ℕ) (mode : Anchored) → SpellsMode mode word
+    → (read : Mode) × (mode_word word ≡ Some read) × (mode_of read ≡ mode)
+unfolding mode_word
+mode_read word Anchored.No s = (Mode.No, ap mode_word s ∙ rw (anchored_read false) refl, refl)
+mode_read word Anchored.Yes s = (Mode.Yes, ap mode_word s ∙ rw (anchored_read true) refl, refl)
+mode_read word (Anchored.Pattern k) s =
+    let n : number_of (decimal k) ≡ Some k = number_read (decimal k) k (omega (arith, s.0), refl) in
+    let read : mode_word (112 ∷ decimal k) ≡ Some (Mode.Pattern k) =
+    rw (no_name (decimal k), n, le-leb k max_id s.0) refl in
+    (Mode.Pattern k, ap mode_word s.1 ∙ read, refl)

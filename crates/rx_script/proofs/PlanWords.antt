@@ -1,0 +1,388 @@
+-- The words of a plan line: what is read is spelled so, and what is spelled so is read.
+use Rattle.std.proofs.Common.{◌≡◌, ◌≢◌, ℕ, zero, suc, ◌<◌, Bool, true, false, not, eqb, ltb, List, [], ◌∷◌, ◌++◌}
+use Rattle.std.proofs.Common.{length, get_or, set}
+use Rattle.std.proofs.Common.{Option, Some, None, refl, sym, ap, subst, ◌∙◌, append-nil, arith, inl, inr}
+use Rattle.std.specs.Prelude.{option_map, option_and_then}
+use Rattle.std.specs.List.{AllByRecursion, list_all}
+use Rattle.std.proofs.lemmas.Bool.{cases_Bool, eqb-true, ltb-true, not-true, both_ways, and_parts}
+use Rattle.std.proofs.lemmas.Option.{same_Some, none-some}
+use Rattle.std.proofs.lemmas.List.{get_or-set_same, get_or-set_other, length-set}
+use Rattle.rx_script.specs.declared.names.PlanName.{PlanName}
+use Rattle.rx_script.specs.declared.plan_words.PlanWord.{PlanWord}
+use Rattle.rx_script.specs.declared.plan_words.Choices.{Choices}
+use Rattle.rx_script.specs.Pieces.{cut}
+use Rattle.rx_script.specs.Names.{plan_name, all_plan_names, plan_name_of, start_of}
+use Rattle.rx_script.specs.Tokens.{number_of, one_byte, set_of_word}
+use Rattle.rx_script.specs.Plans.{unplanned, name_of, with_word, bare_word, valued_word, with_value, plan_word}
+use Rattle.rx_script.specs.Plans.{number_of_name, place_of, unless_seen, plan_from, none_seen, plan_of}
+use Rattle.rx_script.specs.Grammar.{SpellsValue, SpellsWord, SpellsWords}
+use Rattle.rx_script.specs.Grammar.{AreDistinct, with_words, SpellsPlan}
+use Rattle.rx_script.proofs.Tables.{plan_name_spelled, plan_name_read, start_spelled, start_read}
+use Rattle.rx_script.proofs.Numbers.{number_spelled, number_read}
+use Rattle.rx_script.proofs.Bytes.{byte_spelled, byte_read}
+use Rattle.rx_script.proofs.Sets.{set_spelled, set_read}
+
+-- ---- one word
+
+-- what a text is made of that was cut
+abbrev joined : ℕ → List ℕ × Option (List ℕ) → List ℕ
+joined c (before, None) = before
+joined c (before, Some after) = before ++ c ∷ after
+
+cut_joined : (c : ℕ) (text : List ℕ) → text ≡ joined c (cut c text)
+cut_joined c [] = refl
+cut_joined c (b ∷ bs) = elim (cases_Bool (eqb b c)) [
+  | inl h ↦ rw h (ap (λ (x : ℕ). x ∷ bs) (eqb-true b c h))
+  | inr h ↦ rw h (ap (λ (xs : List ℕ). b ∷ xs) (cut_joined c bs) ∙ on (cut c bs).0 (cut c bs).1)
+] where
+  on : (before : List ℕ) (after : Option (List ℕ)) → b ∷ joined c (before, after) ≡ joined c (b ∷ before, after)
+  on before None = refl
+  on before (Some after) = refl
+
+-- the word has this name, and this after it
+abbrev IsNamed : PlanName → List ℕ → PlanWord → Type 0
+IsNamed name after word = (name_of word ≡ name) × SpellsValue word after
+
+bare : {name : PlanName} {made word : PlanWord} → IsNamed name [] made → Some made ≡ Some word → IsNamed name [] word
+bare {name = name} {made = made} {word = word} is e = subst (IsNamed name []) (same_Some made word e) is
+
+bare_spelled : (name : PlanName) (word : PlanWord) → bare_word name ≡ Some word → IsNamed name [] word
+bare_spelled PlanName.Patterns word e = bare {made = PlanWord.Patterns} (refl, refl) e
+bare_spelled PlanName.NoClasses word e = bare {made = PlanWord.NoClasses} (refl, refl) e
+bare_spelled PlanName.UnicodeWord word e = bare {made = PlanWord.UnicodeWord} (refl, refl) e
+bare_spelled PlanName.Minimize word e = bare {made = PlanWord.Minimize} (refl, refl) e
+bare_spelled PlanName.NoAccelerate word e = bare {made = PlanWord.NoAccelerate} (refl, refl) e
+bare_spelled PlanName.Mark word e = bare {made = PlanWord.Mark} (refl, refl) e
+bare_spelled PlanName.Sparse word e = bare {made = PlanWord.Sparse} (refl, refl) e
+bare_spelled PlanName.Bytes word e = bare {made = PlanWord.Bytes} (refl, refl) e
+bare_spelled PlanName.Rows word e = bare {made = PlanWord.Rows} (refl, refl) e
+bare_spelled PlanName.Start word e = absurd cc
+bare_spelled PlanName.Quit word e = absurd cc
+bare_spelled PlanName.LineTerminator word e = absurd cc
+bare_spelled PlanName.NfaLimit word e = absurd cc
+bare_spelled PlanName.DfaLimit word e = absurd cc
+bare_spelled PlanName.DeterminizeLimit word e = absurd cc
+
+-- a value that was read, and the word of it
+valued
+    : {A : Type 0} (name : PlanName) (value : List ℕ) (o : Option A) (make : A → PlanWord) (word : PlanWord)
+    → ((x : A) → o ≡ Some x → IsNamed name (61 ∷ value) (make x)) → option_map make o ≡ Some word
+    → IsNamed name (61 ∷ value) word
+valued name value None make word is e = absurd cc
+valued name value (Some x) make word is e =
+    subst (IsNamed name (61 ∷ value)) (same_Some (make x) word e) (is x refl)
+
+valued_spelled
+    : (name : PlanName) (value : List ℕ) (word : PlanWord) → valued_word name value ≡ Some word
+    → IsNamed name (61 ∷ value) word
+valued_spelled PlanName.Start value word e =
+    valued PlanName.Start value (start_of value) (λ kind. PlanWord.Start kind) word
+    (λ kind is. (refl, (value, start_spelled value kind is, refl))) e
+valued_spelled PlanName.Quit value word e =
+    valued PlanName.Quit value (set_of_word value) (λ bytes. PlanWord.Quit bytes) word
+    (λ bytes is. (refl, (value, set_spelled value bytes is, refl))) e
+valued_spelled PlanName.LineTerminator value word e =
+    valued PlanName.LineTerminator value (one_byte value) (λ byte. PlanWord.LineTerminator byte) word
+    (λ byte is. (refl, (value, byte_spelled value byte is, refl))) e
+valued_spelled PlanName.NfaLimit value word e =
+    valued PlanName.NfaLimit value (number_of value) (λ bytes. PlanWord.NfaLimit bytes) word
+    (λ bytes is. (refl, (value, number_spelled value bytes is, refl))) e
+valued_spelled PlanName.DfaLimit value word e =
+    valued PlanName.DfaLimit value (number_of value) (λ bytes. PlanWord.DfaLimit bytes) word
+    (λ bytes is. (refl, (value, number_spelled value bytes is, refl))) e
+valued_spelled PlanName.DeterminizeLimit value word e =
+    valued PlanName.DeterminizeLimit value (number_of value) (λ bytes. PlanWord.DeterminizeLimit bytes) word
+    (λ bytes is. (refl, (value, number_spelled value bytes is, refl))) e
+valued_spelled PlanName.Patterns value word e = absurd cc
+valued_spelled PlanName.NoClasses value word e = absurd cc
+valued_spelled PlanName.UnicodeWord value word e = absurd cc
+valued_spelled PlanName.Minimize value word e = absurd cc
+valued_spelled PlanName.NoAccelerate value word e = absurd cc
+valued_spelled PlanName.Mark value word e = absurd cc
+valued_spelled PlanName.Sparse value word e = absurd cc
+valued_spelled PlanName.Bytes value word e = absurd cc
+valued_spelled PlanName.Rows value word e = absurd cc
+
+-- a name, and what stands after it
+abbrev tail_of : Option (List ℕ) → List ℕ
+tail_of None = []
+tail_of (Some value) = 61 ∷ value
+
+tail_spelled
+    : (name : PlanName) (value : Option (List ℕ)) (word : PlanWord) → with_value value name ≡ Some word
+    → IsNamed name (tail_of value) word
+tail_spelled name None word e = bare_spelled name word e
+tail_spelled name (Some value) word e = valued_spelled name value word e
+
+joined_tail : (before : List ℕ) (value : Option (List ℕ)) → joined 61 (before, value) ≡ before ++ tail_of value
+joined_tail before None = sym (append-nil before)
+joined_tail before (Some value) = refl
+
+word_spelled : (text : List ℕ) (word : PlanWord) → plan_word text ≡ Some word → SpellsWord word text
+unfolding plan_word
+word_spelled text word e = on (plan_name_of (cut 61 text).0) refl e where
+  on
+      : (o : Option PlanName) → plan_name_of (cut 61 text).0 ≡ o
+      → option_and_then (with_value (cut 61 text).1) o ≡ Some word → SpellsWord word text
+  on None p z = absurd cc
+  on (Some name) p z =
+      let value = (cut 61 text).1 in
+      let t = tail_spelled name value word z in
+      let front = plan_name_spelled (cut 61 text).0 name p ∙ ap plan_name (sym t.0) in
+      let text_is = cut_joined 61 text ∙ joined_tail (cut 61 text).0 value in
+      (tail_of value, t.1, text_is ∙ ap (λ (x : List ℕ). x ++ tail_of value) front)
+
+-- ---- and the other way
+
+-- the numbers of names are their places in the list of all
+at_place : (name : PlanName) → get_or all_plan_names (number_of_name name) PlanName.Start ≡ name
+at_place PlanName.Start = refl
+at_place PlanName.Patterns = refl
+at_place PlanName.NoClasses = refl
+at_place PlanName.Quit = refl
+at_place PlanName.UnicodeWord = refl
+at_place PlanName.LineTerminator = refl
+at_place PlanName.NfaLimit = refl
+at_place PlanName.DfaLimit = refl
+at_place PlanName.DeterminizeLimit = refl
+at_place PlanName.Minimize = refl
+at_place PlanName.NoAccelerate = refl
+at_place PlanName.Mark = refl
+at_place PlanName.Sparse = refl
+at_place PlanName.Bytes = refl
+at_place PlanName.Rows = refl
+
+-- a test that each name passes
+each_at
+    : (test : PlanName → Bool) (names : List PlanName) (k : ℕ) (d : PlanName) → list_all test names ≡ true
+    → test d ≡ true → test (get_or names k d) ≡ true
+each_at test [] k d all last = last
+each_at test (name ∷ names) zero d all last = (and_parts (test name) (list_all test names) all).0
+each_at test (name ∷ names) (suc k) d all last =
+    each_at test names k d (and_parts (test name) (list_all test names) all).1 last
+
+of_each : (test : PlanName → Bool) → list_all test all_plan_names ≡ true → (name : PlanName) → test name ≡ true
+of_each test all name =
+    let start = and_parts (test PlanName.Start) _ all in
+    subst (λ (n : PlanName). test n ≡ true) (at_place name)
+    (each_at test all_plan_names (number_of_name name) PlanName.Start all start.0)
+
+-- no name has an equals sign
+abbrev is_plain : List ℕ → Bool
+is_plain name = list_all (λ b. not (eqb b 61)) name
+
+cut-plain : (name : List ℕ) → is_plain name ≡ true → cut 61 name ≡ (name, None)
+cut-plain [] plain = refl
+cut-plain (b ∷ bs) plain =
+    let p = and_parts (not (eqb b 61)) (is_plain bs) plain in
+    rw (not-true (eqb b 61) p.0, cut-plain bs p.1) refl
+
+cut-valued : (name value : List ℕ) → is_plain name ≡ true → cut 61 (name ++ 61 ∷ value) ≡ (name, Some value)
+cut-valued [] value plain = refl
+cut-valued (b ∷ bs) value plain =
+    let p = and_parts (not (eqb b 61)) (is_plain bs) plain in
+    rw (not-true (eqb b 61) p.0, cut-valued bs value p.1) refl
+
+bare_read : (name : PlanName) → plan_word (plan_name name) ≡ bare_word name
+unfolding plan_word
+bare_read name =
+    rw (cut-plain (plan_name name) (of_each (λ n. is_plain (plan_name n)) refl name), plan_name_read name) refl
+
+valued_read
+    : (name : PlanName) (value : List ℕ) → plan_word (plan_name name ++ 61 ∷ value) ≡ valued_word name value
+unfolding plan_word
+valued_read name value =
+    let plain = of_each (λ n. is_plain (plan_name n)) refl name in
+    rw (cut-valued (plan_name name) value plain, plan_name_read name) refl
+
+nothing_after
+    : (name : PlanName) (word : PlanWord) (after : List ℕ) → after ≡ [] → bare_word name ≡ Some word
+    → plan_word (plan_name name ++ after) ≡ Some word
+nothing_after name word after none e =
+    ap (λ (x : List ℕ). plan_word (plan_name name ++ x)) none ∙ ap plan_word (append-nil (plan_name name))
+    ∙ bare_read name ∙ e
+
+value_after
+    : {A : Type 0} (name : PlanName) (after value : List ℕ) (o : Option A) (make : A → PlanWord) (x : A)
+    → (after ≡ 61 ∷ value) × (valued_word name value ≡ option_map make o) → o ≡ Some x
+    → plan_word (plan_name name ++ after) ≡ Some (make x)
+value_after name after value o make x e is =
+    ap (λ (rest : List ℕ). plan_word (plan_name name ++ rest)) e.0 ∙ valued_read name value ∙ e.1
+    ∙ ap (option_map make) is
+
+tail_read
+    : (word : PlanWord) (after : List ℕ) → SpellsValue word after
+    → plan_word (plan_name (name_of word) ++ after) ≡ Some word
+tail_read (PlanWord.Start kind) after v =
+    value_after PlanName.Start after v.0 (start_of v.0) (λ kind. PlanWord.Start kind) kind (v.2, refl)
+    (ap start_of v.1 ∙ start_read kind)
+tail_read (PlanWord.Quit bytes) after v =
+    value_after PlanName.Quit after v.0 (set_of_word v.0) (λ bytes. PlanWord.Quit bytes) bytes (v.2, refl)
+    (set_read v.0 bytes v.1)
+tail_read (PlanWord.LineTerminator byte) after v =
+    value_after PlanName.LineTerminator after v.0 (one_byte v.0) (λ byte. PlanWord.LineTerminator byte) byte (v.2, refl)
+    (byte_read v.0 byte v.1)
+tail_read (PlanWord.NfaLimit bytes) after v =
+    value_after PlanName.NfaLimit after v.0 (number_of v.0) (λ bytes. PlanWord.NfaLimit bytes) bytes (v.2, refl)
+    (number_read v.0 bytes v.1)
+tail_read (PlanWord.DfaLimit bytes) after v =
+    value_after PlanName.DfaLimit after v.0 (number_of v.0) (λ bytes. PlanWord.DfaLimit bytes) bytes (v.2, refl)
+    (number_read v.0 bytes v.1)
+tail_read (PlanWord.DeterminizeLimit bytes) after v =
+    value_after PlanName.DeterminizeLimit after v.0 (number_of v.0) (λ bytes. PlanWord.DeterminizeLimit bytes) bytes
+    (v.2, refl) (number_read v.0 bytes v.1)
+tail_read PlanWord.Patterns after v = nothing_after PlanName.Patterns PlanWord.Patterns after v refl
+tail_read PlanWord.NoClasses after v = nothing_after PlanName.NoClasses PlanWord.NoClasses after v refl
+tail_read PlanWord.UnicodeWord after v = nothing_after PlanName.UnicodeWord PlanWord.UnicodeWord after v refl
+tail_read PlanWord.Minimize after v = nothing_after PlanName.Minimize PlanWord.Minimize after v refl
+tail_read PlanWord.NoAccelerate after v = nothing_after PlanName.NoAccelerate PlanWord.NoAccelerate after v refl
+tail_read PlanWord.Mark after v = nothing_after PlanName.Mark PlanWord.Mark after v refl
+tail_read PlanWord.Sparse after v = nothing_after PlanName.Sparse PlanWord.Sparse after v refl
+tail_read PlanWord.Bytes after v = nothing_after PlanName.Bytes PlanWord.Bytes after v refl
+tail_read PlanWord.Rows after v = nothing_after PlanName.Rows PlanWord.Rows after v refl
+
+word_read : (text : List ℕ) (word : PlanWord) → SpellsWord word text → plan_word text ≡ Some word
+word_read text word s = ap plan_word s.2 ∙ tail_read word s.0 s.1
+
+-- ---- names that were seen
+
+place_small : (name : PlanName) → number_of_name name < 15
+place_small name = ltb-true _ _ (of_each (λ n. ltb (number_of_name n) 15) refl name)
+
+same_place : (name other : PlanName) → number_of_name name ≡ number_of_name other → name ≡ other
+same_place name other e =
+    sym (at_place name) ∙ ap (λ (n : ℕ). get_or all_plan_names n PlanName.Start) e ∙ at_place other
+
+abbrev IsUnseen : List Bool → PlanWord → Type 0
+IsUnseen seen word = get_or seen (place_of word) false ≡ false
+
+abbrev with_seen : List Bool → PlanWord → List Bool
+with_seen seen word = set seen (place_of word) true
+
+none_is_seen : (name : PlanName) → get_or none_seen (number_of_name name) false ≡ false
+none_is_seen name = not-true _ (of_each (λ n. not (get_or none_seen (number_of_name n) false)) refl name)
+
+all_unseen : (words : List PlanWord) → AllByRecursion (IsUnseen none_seen) words
+all_unseen [] = tt
+all_unseen (word ∷ words) = (none_is_seen (name_of word), all_unseen words)
+
+-- what is unseen after a word is unseen before it, and has another name
+seen_less
+    : (seen : List Bool) (word other : PlanWord) → length seen ≡ 15 → IsUnseen (with_seen seen word) other
+    → (name_of other ≢ name_of word) × IsUnseen seen other
+seen_less seen word other len e =
+    let place : place_of word < length seen = omega (arith, len, place_small (name_of word)) in
+    let seen_now = get_or-set_same seen (place_of word) true false place in
+    let differ = λ (same : place_of other ≡ place_of word).
+    both_ways (get_or (with_seen seen word) (place_of word) false)
+    (ap (λ (k : ℕ). get_or (with_seen seen word) k false) (sym same) ∙ e) seen_now in
+    let unseen = sym (get_or-set_other seen (place_of word) (place_of other) true false differ) ∙ e in
+    (λ same. differ (ap number_of_name same), unseen)
+
+all_less
+    : (seen : List Bool) (word : PlanWord) (words : List PlanWord) → length seen ≡ 15
+    → AllByRecursion (IsUnseen (with_seen seen word)) words
+    → AllByRecursion (λ other. name_of other ≢ name_of word) words × AllByRecursion (IsUnseen seen) words
+all_less seen word [] len each = (tt, tt)
+all_less seen word (other ∷ others) len each =
+    let one = seen_less seen word other len each.0 in
+    let more = all_less seen word others len each.1 in
+    ((one.0, more.0), (one.1, more.1))
+
+all_more
+    : (seen : List Bool) (word : PlanWord) (words : List PlanWord)
+    → AllByRecursion (λ other. name_of other ≢ name_of word) words → AllByRecursion (IsUnseen seen) words
+    → AllByRecursion (IsUnseen (with_seen seen word)) words
+all_more seen word [] differ unseen = tt
+all_more seen word (other ∷ others) differ unseen =
+    let apart = λ (e : place_of other ≡ place_of word). differ.0 (same_place (name_of other) (name_of word) e) in
+    let one = get_or-set_other seen (place_of word) (place_of other) true false apart ∙ unseen.0 in
+    (one, all_more seen word others differ.1 unseen.1)
+
+-- ---- the line
+
+record IsRead (choices : Choices) (seen : List Bool) (texts : List (List ℕ)) (out : Choices) : Type 0 where
+  words : List PlanWord
+  spelled : SpellsWords words texts
+  unseen : AllByRecursion (IsUnseen seen) words
+  distinct : AreDistinct words
+  made : out ≡ with_words words choices
+
+-- the words after a word
+abbrev after_word : Choices → List Bool → List (List ℕ) → PlanWord → Option Choices
+after_word choices seen texts word = plan_from (with_word word choices) (with_seen seen word) texts
+
+abbrev first_word : Choices → List Bool → List (List ℕ) → PlanWord → Option Choices
+first_word choices seen texts word =
+    unless_seen (get_or seen (place_of word) false) (after_word choices seen texts word)
+
+-- whatever is read of the words after a word was spelled by them
+record MoreWords (choices : Choices) (seen : List Bool) (texts : List (List ℕ)) (out : Choices) : Type 0 where
+  are
+      : (word : PlanWord) → after_word choices seen texts word ≡ Some out
+      → IsRead (with_word word choices) (with_seen seen word) texts out
+
+word_in_front
+    : {choices out : Choices} {seen : List Bool} {texts : List (List ℕ)} (text : List ℕ) (word : PlanWord)
+    → length seen ≡ 15 → plan_word text ≡ Some word → IsUnseen seen word
+    → IsRead (with_word word choices) (with_seen seen word) texts out → IsRead choices seen (text ∷ texts) out
+word_in_front {seen = seen} text word len w unseen r =
+    let less = all_less seen word r.words len r.unseen in
+    record {
+      words = word ∷ r.words;
+      spelled = (word_spelled text word w, r.spelled);
+      unseen = (unseen, less.1);
+      distinct = (less.0, r.distinct);
+      made = r.made;
+    }
+
+word_spelled_first
+    : {choices out : Choices} {seen : List Bool} {texts : List (List ℕ)} (text : List ℕ) → length seen ≡ 15
+    → MoreWords choices seen texts out → plan_from choices seen (text ∷ texts) ≡ Some out
+    → IsRead choices seen (text ∷ texts) out
+word_spelled_first {choices = choices} {out = out} {seen = seen} {texts = texts} text len more e =
+    on (plan_word text) refl e where
+      on
+          : (o : Option PlanWord) → plan_word text ≡ o
+          → option_and_then (first_word choices seen texts) o ≡ Some out
+          → IsRead choices seen (text ∷ texts) out
+      on None w q = absurd cc
+      on (Some word) w q = elim (cases_Bool (get_or seen (place_of word) false)) [
+        | inl p ↦ absurd (none-some out (rw p at q))
+        | inr p ↦ word_in_front text word len w p (more.are word (rw p at q))
+      ]
+
+from_spelled
+    : (choices : Choices) (seen : List Bool) (texts : List (List ℕ)) (out : Choices) → length seen ≡ 15
+    → plan_from choices seen texts ≡ Some out → IsRead choices seen texts out
+from_spelled choices seen [] out len e =
+    record { words = []; spelled = tt; unseen = tt; distinct = tt; made = sym (same_Some choices out e) }
+from_spelled choices seen (text ∷ texts) out len e =
+    let more : MoreWords choices seen texts out = record {
+      are = λ word z.
+          let len' = length-set seen (place_of word) true ∙ len in
+          from_spelled (with_word word choices) (with_seen seen word) texts out len' z;
+    } in
+    word_spelled_first text len more e
+
+from_read
+    : (choices : Choices) (seen : List Bool) (words : List PlanWord) (texts : List (List ℕ)) → SpellsWords words texts
+    → AllByRecursion (IsUnseen seen) words → AreDistinct words
+    → plan_from choices seen texts ≡ Some (with_words words choices)
+from_read choices seen [] [] s u d = refl
+from_read choices seen [] (text ∷ texts) s u d = absurd s
+from_read choices seen (word ∷ words) [] s u d = absurd s
+from_read choices seen (word ∷ words) (text ∷ texts) s u d =
+    let unseen = all_more seen word words d.0 u.1 in
+    rw (word_read text word s.0, u.0)
+    (from_read (with_word word choices) (with_seen seen word) words texts s.1 unseen d.1)
+
+pub plan_spelled : (texts : List (List ℕ)) (choices : Choices) → plan_of texts ≡ Some choices → SpellsPlan choices texts
+plan_spelled texts choices e =
+    let r = from_spelled unplanned none_seen texts choices refl e in
+    record { words = r.words; spelled = r.spelled; distinct = r.distinct; made = r.made }
+
+pub plan_read : (texts : List (List ℕ)) (choices : Choices) → SpellsPlan choices texts → plan_of texts ≡ Some choices
+plan_read texts choices s =
+    from_read unplanned none_seen s.words texts s.spelled (all_unseen s.words) s.distinct
+    ∙ ap (λ (c : Choices). Some c) (sym s.made)

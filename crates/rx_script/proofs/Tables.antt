@@ -1,0 +1,135 @@
+-- Words and names: what a word names has that name, and each name is found.
+use Rattle.std.proofs.Common.{◌≡◌, ◌≢◌, inl, inr, ℕ, Bool, true, false, List, [], ◌∷◌, Some, refl, ap, ◌∙◌}
+use Rattle.std.specs.Str.{bytes_eq}
+use Rattle.std.proofs.lemmas.Slice.Eq.{bytes_eq-Decides}
+use Rattle.std.proofs.lemmas.Bool.{cases_Bool, false_from_ne_true}
+use Rattle.std.proofs.lemmas.Option.{same_Some}
+use Rattle.rx_spec.specs.declared.Look.{Look}
+use Rattle.rx_spec.specs.declared.StartKind.{StartKind}
+use Rattle.rx_script.specs.declared.names.LineKind.{LineKind}
+use Rattle.rx_script.specs.declared.names.Head.{Head}
+use Rattle.rx_script.specs.declared.names.PlanName.{PlanName}
+use Rattle.rx_script.specs.Names.{named, line_name, all_lines, line_kind, head_name, all_heads, head_of}
+use Rattle.rx_script.specs.Names.{look_name, all_looks, look_of, greed_name, truths, greed_of, anchored_name}
+use Rattle.rx_script.specs.Names.{anchored_of}
+use Rattle.rx_script.specs.Names.{plan_name, all_plan_names, plan_name_of, start_name, all_starts, start_of}
+
+-- a word that is another, and one that isn't
+pub same_word : (word other : List ℕ) → bytes_eq word other ≡ true → word ≡ other
+same_word word other e = (bytes_eq-Decides word other).0 e
+
+pub other_word : (word other : List ℕ) → word ≢ other → bytes_eq word other ≡ false
+other_word word other ne = false_from_ne_true (bytes_eq word other) (λ e. ne (same_word word other e))
+
+named_is
+    : {A : Type 0} (name : A → List ℕ) (things : List A) (word : List ℕ) (thing : A)
+    → named name things word ≡ Some thing → word ≡ name thing
+named_is name [] word thing e = absurd cc
+named_is name (x ∷ xs) word thing e = elim (cases_Bool (bytes_eq word (name x))) [
+  | inl h ↦ same_word word (name x) h ∙ ap name (same_Some x thing (rw h at e))
+  | inr h ↦ named_is name xs word thing (rw h at e)
+]
+
+-- ---- what a word names has that name
+
+pub line_spelled : (word : List ℕ) (kind : LineKind) → line_kind word ≡ Some kind → word ≡ line_name kind
+unfolding line_kind
+line_spelled word kind e = named_is line_name all_lines word kind e
+
+pub head_spelled : (word : List ℕ) (head : Head) → head_of word ≡ Some head → word ≡ head_name head
+unfolding head_of
+head_spelled word head e = named_is head_name all_heads word head e
+
+pub look_spelled : (word : List ℕ) (look : Look) → look_of word ≡ Some look → word ≡ look_name look
+unfolding look_of
+look_spelled word look e = named_is look_name all_looks word look e
+
+pub greed_spelled : (word : List ℕ) (greedy : Bool) → greed_of word ≡ Some greedy → word ≡ greed_name greedy
+unfolding greed_of
+greed_spelled word greedy e = named_is greed_name truths word greedy e
+
+pub anchored_spelled : (word : List ℕ) (truth : Bool) → anchored_of word ≡ Some truth → word ≡ anchored_name truth
+unfolding anchored_of
+anchored_spelled word truth e = named_is anchored_name truths word truth e
+
+pub plan_name_spelled : (word : List ℕ) (name : PlanName) → plan_name_of word ≡ Some name → word ≡ plan_name name
+unfolding plan_name_of
+plan_name_spelled word name e = named_is plan_name all_plan_names word name e
+
+pub start_spelled : (word : List ℕ) (kind : StartKind) → start_of word ≡ Some kind → word ≡ start_name kind
+unfolding start_of
+start_spelled word kind e = named_is start_name all_starts word kind e
+
+-- ---- each name is found
+
+pub line_read : (kind : LineKind) → line_kind (line_name kind) ≡ Some kind
+unfolding line_kind
+line_read LineKind.Plan = refl
+line_read LineKind.Expr = refl
+line_read LineKind.Input = refl
+line_read LineKind.Hay = refl
+
+pub head_read : (head : Head) → head_of (head_name head) ≡ Some head
+unfolding head_of
+head_read Head.Empty = refl
+head_read Head.Literal = refl
+head_read Head.Class = refl
+head_read Head.Look = refl
+head_read Head.Concat = refl
+head_read Head.Alternate = refl
+head_read Head.Repeat = refl
+
+pub look_read : (look : Look) → look_of (look_name look) ≡ Some look
+unfolding look_of
+look_read Look.Start = refl
+look_read Look.End = refl
+look_read Look.StartLF = refl
+look_read Look.EndLF = refl
+look_read Look.StartCRLF = refl
+look_read Look.EndCRLF = refl
+look_read Look.WordAscii = refl
+look_read Look.WordAsciiNegate = refl
+look_read Look.WordUnicode = refl
+look_read Look.WordUnicodeNegate = refl
+look_read Look.WordStartAscii = refl
+look_read Look.WordEndAscii = refl
+look_read Look.WordStartUnicode = refl
+look_read Look.WordEndUnicode = refl
+look_read Look.WordStartHalfAscii = refl
+look_read Look.WordEndHalfAscii = refl
+look_read Look.WordStartHalfUnicode = refl
+look_read Look.WordEndHalfUnicode = refl
+
+pub greed_read : (greedy : Bool) → greed_of (greed_name greedy) ≡ Some greedy
+unfolding greed_of
+greed_read true = refl
+greed_read false = refl
+
+pub anchored_read : (truth : Bool) → anchored_of (anchored_name truth) ≡ Some truth
+unfolding anchored_of
+anchored_read true = refl
+anchored_read false = refl
+
+pub plan_name_read : (name : PlanName) → plan_name_of (plan_name name) ≡ Some name
+unfolding plan_name_of
+plan_name_read PlanName.Start = refl
+plan_name_read PlanName.Patterns = refl
+plan_name_read PlanName.NoClasses = refl
+plan_name_read PlanName.Quit = refl
+plan_name_read PlanName.UnicodeWord = refl
+plan_name_read PlanName.LineTerminator = refl
+plan_name_read PlanName.NfaLimit = refl
+plan_name_read PlanName.DfaLimit = refl
+plan_name_read PlanName.DeterminizeLimit = refl
+plan_name_read PlanName.Minimize = refl
+plan_name_read PlanName.NoAccelerate = refl
+plan_name_read PlanName.Mark = refl
+plan_name_read PlanName.Sparse = refl
+plan_name_read PlanName.Bytes = refl
+plan_name_read PlanName.Rows = refl
+
+pub start_read : (kind : StartKind) → start_of (start_name kind) ≡ Some kind
+unfolding start_of
+start_read StartKind.Both = refl
+start_read StartKind.Unanchored = refl
+start_read StartKind.Anchored = refl

@@ -1,0 +1,28 @@
+use Rattle.std.proofs.Common.{true, false, arith, sym, ◌∙◌}
+use Rattle.std.proofs.lemmas.Result.{err_from_is_err_and}
+use Rattle.rx_script.proofs.ItemsAt.{items_turn, items_fail, items_end}
+use Rattle.rx_script.proofs.expression.items.Goals as goal
+
+pub returns-in_err-taken : goal.returns-in_err-taken
+returns-in_err-taken c =
+    let p = err_from_is_err_and c.from_residual.result c.from_residual.ensures.1 in
+    let fault = c.in_err-taken.field-0.0 in
+    rw (p.1, p.2) (items_fail fault c.words.invariant.so_far c.in-Some.ensures.words c.in_err-taken.ensures.given)
+
+pub words-preserved : goal.words-preserved
+words-preserved c =
+    let turned = items_turn c.words.invariant.so_far c.in-Some.ensures.words c.in_ok-taken.ensures.given in
+    record {
+      few = omega (arith, c.words.invariant.few, c.in-Some.ensures.fewer, c.in_ok-taken.ensures.few);
+      so_far = rw c.in_ok-keep.ensures.ok turned;
+    }
+
+pub returns-then-not-is_whole : goal.returns-then-not-is_whole
+returns-then-not-is_whole c =
+    let partial = sym c.is_whole.ensures ∙ c.if-not-is_whole.true in
+    rw c.bad.ensures (items_end false c.words.invariant.so_far c.in_default.ensures.words partial)
+
+pub returns : goal.returns
+returns c =
+    let complete = sym c.is_whole.ensures ∙ c.if-not-is_whole.false in
+    items_end true c.words.invariant.so_far c.in_default.ensures.words complete

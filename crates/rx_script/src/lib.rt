@@ -1,0 +1,21 @@
+//! Scripts: a plan, expressions, and what is asked of them, as lines of words.
+//!
+//! What a script is stands in `specs/Grammar.antt`, which knows no reader. The reading function with its
+//! first fault stands in `specs/Reading.antt`, and the laws that join the two in [`laws`]. [`read_script`]
+//! reads.
+#![tactic(auto)]
+
+mod expression;
+mod fault;
+pub mod laws;
+mod names;
+mod pieces;
+mod plan_words;
+mod script;
+mod tokens;
+
+pub use fault::{BadKind, ScriptFault};
+pub use script::{Exprs, Hay, Script, ScriptInput, read_script};
+
+#[cfg(test)]
+mod tests;
