@@ -32,7 +32,7 @@ fn argument<E: Env>(env: &E, alloc: Global, index: usize) -> Result<Option<Vec<u
     Err(AllocError)
 }
 
-/// The arguments behind the program's name, or none where even that is missing.
+/// The arguments after the program's name, or none where even that is missing.
 fn arguments<E: Env>(env: &E, alloc: Global) -> Result<Option<Words>, AllocError> {
     if argument(env, alloc, 0)?.is_none() {
         return Ok(None);

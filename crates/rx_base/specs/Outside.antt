@@ -6,9 +6,9 @@ use Rattle.std.specs.List.{list_any}
 abbrev pub one_more : ℕ → ℕ
 one_more count = min (count + 1) (2 ^ 64 - 1)
 
--- A count of faults rose where it is higher than before, or stands at its last number.
+-- A count of faults rose where it is higher than before, or stands at its last number. It never falls.
 abbrev pub Rose : ℕ → ℕ → Type 0
-Rose before now = one_more before ≤ now
+Rose before now = (before ≤ now) × (one_more before ≤ now)
 
 -- whether a call fails: those of these numbers do, the first being 1
 abbrev pub fails_at : List ℕ → ℕ → Bool

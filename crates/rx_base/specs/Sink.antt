@@ -12,10 +12,11 @@ abbrev pub Writes : Option (List ℕ) → Option (List ℕ) → WriteAnswer → 
 Writes before after (Took n) piece = (0 < n) × (n ≤ length piece) × Appends before after (take n piece)
 Writes before after Failed piece = Keeps before after
 
--- The count of faults never falls, and a write fails only where it rose.
-pub record WriteCause (before now : ℕ) (answer : WriteAnswer) : Type 0 where
-  pub kept : before ≤ now
-  pub rose : answer ≡ Failed → Rose before now
+-- What an answer says of the count of faults before and after: it rose where the write failed, and no other
+-- write changed it.
+abbrev pub WriteCause : ℕ → ℕ → WriteAnswer → Type 0
+WriteCause before now (Took n) = now ≡ before
+WriteCause before now Failed = Rose before now
 
 -- A sink in memory: the bytes written, how many there can be, the most that a write takes, the numbers
 -- of the writes that fail, and how many writes and faults there were.

@@ -12,10 +12,12 @@ Reads before after (Got n) buffer = (0 < n) × (n ≤ length buffer) × Consumes
 Reads before after End buffer = Keeps before after × IsAtEnd after
 Reads before after Failed buffer = Keeps before after
 
--- The count of faults never falls, and a read fails only where it rose.
-pub record ReadCause (before now : ℕ) (answer : ReadAnswer) : Type 0 where
-  pub kept : before ≤ now
-  pub rose : answer ≡ Failed → Rose before now
+-- What an answer says of the count of faults before and after: it rose where the read failed, and no other
+-- read changed it.
+abbrev pub ReadCause : ℕ → ℕ → ReadAnswer → Type 0
+ReadCause before now (Got n) = now ≡ before
+ReadCause before now End = now ≡ before
+ReadCause before now Failed = Rose before now
 
 -- A source in memory: the bytes left, the most that a read gives, the numbers of the reads that fail,
 -- and how many reads and faults there were.

@@ -25,6 +25,7 @@ pub struct Input<'h> {
 impl<'h> Input<'h> {
     ghost use Rattle.rx_base.specs.Input.{query_of};
     ghost use Rattle.rx_base.specs.Search.{mode_of};
+    ghost use Rattle.rx_spec.specs.Bytes.{AreBytes};
     ghost use Rattle.rx_spec.specs.Queries.{Anchored as Mode, is_done, IsFit};
     ghost use Rattle.rx_spec.specs.Splits.{is_split};
 
@@ -39,6 +40,7 @@ impl<'h> Input<'h> {
               earliest = false;
             } }
         ensures fits { IsFit (query_of result) }
+        ensures bytes { AreBytes haystack.now }
     {
         Input {
             haystack,

@@ -1,5 +1,8 @@
--- Forms that begin with the edge, or read nothing.
-use Rattle.std.proofs.Common.{◌≡◌, ℕ, zero, suc, ◌<◌, ◌≤◌, Bool, true, false, ◌&&◌, ◌||◌, Option, Some, None, refl, arith}
+-- Whether an expression reads nothing, and whether it begins with the edge, by its form.
+use Rattle.std.proofs.Common.{◌≡◌, ◌==◌, ℕ, zero, suc, ◌<◌, ◌≤◌, Bool, true, false, ◌&&◌, ◌||◌, Option, Some, None}
+use Rattle.std.proofs.Common.{refl, ap, ◌∙◌, arith}
+use Rattle.std.proofs.Math.Path.{ap₂}
+use Rattle.std.proofs.Math.Bool.{and_comm}
 use Rattle.rx_spec.specs.declared.Look.{Look}
 use Rattle.rx_spec.specs.Expressions.{Expression, mirror}
 use Rattle.rx_spec.specs.Edge.{reads_nothing, begins_with_edge, is_edge}
@@ -7,110 +10,137 @@ use Rattle.rx_spec.specs.Nfas.{read_as}
 use Rattle.rx_spec.specs.declared.Direction.{Direction}
 use Rattle.rx_expr.specs.Compiles.{has_no_round}
 
-pub nothing_empty : reads_nothing Expression.Empty ≡ true
-unfolding reads_nothing
-nothing_empty = refl
+-- ---- reading nothing, by an expression's form
 
-pub nothing_class : (set : ℕ) → reads_nothing (Expression.Class set) ≡ false
+pub nothing-empty : {e : Expression} → Expression.Empty ≡ e → true ≡ reads_nothing e
 unfolding reads_nothing
-nothing_class set = refl
+nothing-empty is = ap reads_nothing is
 
-pub nothing_assert : (look : Look) → reads_nothing (Expression.Look look) ≡ true
+pub nothing-class : {e : Expression} {set : ℕ} → Expression.Class set ≡ e → false ≡ reads_nothing e
 unfolding reads_nothing
-nothing_assert look = refl
+nothing-class is = ap reads_nothing is
 
-pub nothing_concat : (a b : Expression) → reads_nothing (Expression.Concat a b) ≡ (reads_nothing a && reads_nothing b)
+pub nothing-look : {e : Expression} {look : Look} → Expression.Look look ≡ e → true ≡ reads_nothing e
 unfolding reads_nothing
-nothing_concat a b = refl
+nothing-look is = ap reads_nothing is
 
-pub nothing_alternate : (a b : Expression) → reads_nothing (Expression.Alternate a b) ≡ (reads_nothing a && reads_nothing b)
+pub nothing-concat : {e a b : Expression} → Expression.Concat a b ≡ e
+    → (reads_nothing a && reads_nothing b) ≡ reads_nothing e
 unfolding reads_nothing
-nothing_alternate a b = refl
+nothing-concat is = ap reads_nothing is
 
-pub nothing_repeat : (least : ℕ) (most : Option ℕ) (greedy : Bool) (body : Expression) → reads_nothing (Expression.Repeat least most greedy body) ≡ (has_no_round most || reads_nothing body)
+pub nothing-alternate : {e a b : Expression} → Expression.Alternate a b ≡ e
+    → (reads_nothing a && reads_nothing b) ≡ reads_nothing e
 unfolding reads_nothing
-nothing_repeat least None greedy body = refl
-nothing_repeat least (Some most) greedy body = refl
+nothing-alternate is = ap reads_nothing is
 
-and_swap : (x y : Bool) → (x && y) ≡ (y && x)
-and_swap true true = refl
-and_swap true false = refl
-and_swap false true = refl
-and_swap false false = refl
+pub nothing-repeat : {e body : Expression} {least : ℕ} {greedy : Bool} (most : Option ℕ)
+    → Expression.Repeat least most greedy body ≡ e → (has_no_round most || reads_nothing body) ≡ reads_nothing e
+unfolding reads_nothing
+nothing-repeat None is = ap reads_nothing is
+nothing-repeat (Some most) is = ap reads_nothing is
 
 -- the mirror reads nothing where the expression reads nothing
-pub nothing-mirror : (e : Expression) → reads_nothing (mirror e) ≡ reads_nothing e
+nothing-mirror : (e : Expression) → reads_nothing (mirror e) ≡ reads_nothing e
 unfolding reads_nothing mirror
 nothing-mirror Expression.Empty = refl
 nothing-mirror (Expression.Class set) = refl
 nothing-mirror (Expression.Look look) = refl
-nothing-mirror (Expression.Concat a b) = let x = nothing-mirror a in let y = nothing-mirror b in rw (x, y) (and_swap (reads_nothing b) (reads_nothing a))
-nothing-mirror (Expression.Alternate a b) = let x = nothing-mirror a in let y = nothing-mirror b in rw (x, y) refl
+nothing-mirror (Expression.Concat a b) =
+    ap₂ (λ x y. x && y) (nothing-mirror b) (nothing-mirror a) ∙ and_comm (reads_nothing b) (reads_nothing a)
+nothing-mirror (Expression.Alternate a b) = ap₂ (λ x y. x && y) (nothing-mirror a) (nothing-mirror b)
 nothing-mirror (Expression.Repeat least None greedy body) = nothing-mirror body
-nothing-mirror (Expression.Repeat least (Some most) greedy body) = let x = nothing-mirror body in rw x refl
+nothing-mirror (Expression.Repeat least (Some most) greedy body) = ap (λ x. most == 0 || x) (nothing-mirror body)
 
 pub nothing-read_as : (direction : Direction) (e : Expression) → reads_nothing (read_as direction e) ≡ reads_nothing e
 nothing-read_as Direction.Forward e = refl
 nothing-read_as Direction.Reverse e = nothing-mirror e
 
-pub begins_empty : (direction : Direction) → begins_with_edge direction (read_as direction Expression.Empty) ≡ false
+-- ---- beginning with the edge, by the form of what is read
+
+abbrev pub begins : Direction → Expression → Bool
+begins direction e = begins_with_edge direction (read_as direction e)
+
+pub begins-empty : {e : Expression} (direction : Direction) → Expression.Empty ≡ e → false ≡ begins direction e
 unfolding begins_with_edge mirror
-begins_empty Direction.Forward = refl
-begins_empty Direction.Reverse = refl
+begins-empty Direction.Forward is = ap (begins Direction.Forward) is
+begins-empty Direction.Reverse is = ap (begins Direction.Reverse) is
 
-pub begins_class : (direction : Direction) (set : ℕ) → begins_with_edge direction (read_as direction (Expression.Class set)) ≡ false
+pub begins-class : {e : Expression} {set : ℕ} (direction : Direction) → Expression.Class set ≡ e
+    → false ≡ begins direction e
 unfolding begins_with_edge mirror
-begins_class Direction.Forward set = refl
-begins_class Direction.Reverse set = refl
+begins-class Direction.Forward is = ap (begins Direction.Forward) is
+begins-class Direction.Reverse is = ap (begins Direction.Reverse) is
 
-pub begins_look : (direction : Direction) (look : Look) → begins_with_edge direction (read_as direction (Expression.Look look)) ≡ is_edge direction look
+pub begins-look : {e : Expression} {look : Look} (direction : Direction) → Expression.Look look ≡ e
+    → is_edge direction look ≡ begins direction e
 unfolding begins_with_edge mirror
-begins_look Direction.Forward look = refl
-begins_look Direction.Reverse look = refl
+begins-look Direction.Forward is = ap (begins Direction.Forward) is
+begins-look Direction.Reverse is = ap (begins Direction.Reverse) is
 
-abbrev pub begins_read : Direction → Expression → Bool
-begins_read direction e = begins_with_edge direction (read_as direction e)
+-- what is read first begins with it, or reads nothing before what does
+abbrev pub either_begins : Direction → Expression → Expression → Bool
+either_begins direction front back =
+    begins direction front || (reads_nothing (read_as direction front) && begins direction back)
 
-pub begins_concat : (direction : Direction) → direction ≡ Direction.Forward → (a b : Expression) → begins_read direction (Expression.Concat a b) ≡ (begins_read direction a || (reads_nothing (read_as direction a) && begins_read direction b))
+pub begins-concat : {e a b : Expression} {direction : Direction} → direction ≡ Direction.Forward
+    → Expression.Concat a b ≡ e → either_begins direction a b ≡ begins direction e
 unfolding begins_with_edge mirror
-begins_concat Direction.Forward h a b = refl
-begins_concat Direction.Reverse h a b = absurd (cc)
+begins-concat {a = a} {b = b} {direction = Direction.Forward} forward is = ap (begins Direction.Forward) is
+begins-concat {direction = Direction.Reverse} forward is = absurd (cc)
 
-pub begins_concat_reverse : (direction : Direction) → direction ≡ Direction.Reverse → (a b : Expression) → begins_read direction (Expression.Concat a b) ≡ (begins_read direction b || (reads_nothing (read_as direction b) && begins_read direction a))
+pub begins-concat_reverse : {e a b : Expression} {direction : Direction} → direction ≡ Direction.Reverse
+    → Expression.Concat a b ≡ e → either_begins direction b a ≡ begins direction e
 unfolding begins_with_edge mirror
-begins_concat_reverse Direction.Forward h a b = absurd (cc)
-begins_concat_reverse Direction.Reverse h a b = refl
+begins-concat_reverse {direction = Direction.Forward} reverse is = absurd (cc)
+begins-concat_reverse {direction = Direction.Reverse} reverse is = ap (begins Direction.Reverse) is
 
-pub begins_alternate : (direction : Direction) (a b : Expression) → begins_read direction (Expression.Alternate a b) ≡ (begins_read direction a && begins_read direction b)
+pub begins-alternate : {e a b : Expression} (direction : Direction) → Expression.Alternate a b ≡ e
+    → (begins direction a && begins direction b) ≡ begins direction e
 unfolding begins_with_edge mirror
-begins_alternate Direction.Forward a b = refl
-begins_alternate Direction.Reverse a b = refl
+begins-alternate Direction.Forward is = ap (begins Direction.Forward) is
+begins-alternate Direction.Reverse is = ap (begins Direction.Reverse) is
 
-pub begins_none : (direction : Direction) (least : ℕ) (most : Option ℕ) (greedy : Bool) (body : Expression) → least ≤ 0 → begins_read direction (Expression.Repeat least most greedy body) ≡ false
+begins-no_round : (direction : Direction) (least : ℕ) (most : Option ℕ) (greedy : Bool) (body : Expression)
+    → least ≤ 0 → false ≡ begins direction (Expression.Repeat least most greedy body)
 unfolding begins_with_edge mirror
-begins_none Direction.Forward zero most greedy body h = refl
-begins_none Direction.Reverse zero most greedy body h = refl
-begins_none direction (suc n) most greedy body h = absurd (omega arith)
+begins-no_round Direction.Forward zero most greedy body h = refl
+begins-no_round Direction.Reverse zero most greedy body h = refl
+begins-no_round direction (suc n) most greedy body h = absurd (omega arith)
 
-pub begins_some : (direction : Direction) (least : ℕ) (most : Option ℕ) (greedy : Bool) (body : Expression) → 0 < least → begins_read direction (Expression.Repeat least most greedy body) ≡ begins_read direction body
+begins-round : (direction : Direction) (least : ℕ) (most : Option ℕ) (greedy : Bool) (body : Expression)
+    → 0 < least → begins direction body ≡ begins direction (Expression.Repeat least most greedy body)
 unfolding begins_with_edge mirror
-begins_some direction zero most greedy body h = absurd (omega arith)
-begins_some Direction.Forward (suc n) most greedy body h = refl
-begins_some Direction.Reverse (suc n) most greedy body h = refl
+begins-round direction zero most greedy body h = absurd (omega arith)
+begins-round Direction.Forward (suc n) most greedy body h = refl
+begins-round Direction.Reverse (suc n) most greedy body h = refl
 
--- a test in two steps
-pub and_yes : (x y : Bool) → x ≡ true → (x && y) ≡ y
-and_yes true y h = refl
-and_yes false y h = absurd (cc)
+pub begins-repeat_none : {e body : Expression} {least : ℕ} {most : Option ℕ} {greedy : Bool} (direction : Direction)
+    → Expression.Repeat least most greedy body ≡ e → least ≤ 0 → false ≡ begins direction e
+begins-repeat_none {body = body} {least = least} {most = most} {greedy = greedy} direction is none =
+    begins-no_round direction least most greedy body none ∙ ap (begins direction) is
 
-pub and_no : (x y : Bool) → x ≡ false → (x && y) ≡ false
-and_no true y h = absurd (cc)
-and_no false y h = refl
+pub begins-repeat_some : {e body : Expression} {least : ℕ} {most : Option ℕ} {greedy : Bool} (direction : Direction)
+    → Expression.Repeat least most greedy body ≡ e → 0 < least → begins direction body ≡ begins direction e
+begins-repeat_some {body = body} {least = least} {most = most} {greedy = greedy} direction is some =
+    begins-round direction least most greedy body some ∙ ap (begins direction) is
 
-pub or_yes : (x y : Bool) → x ≡ true → (x || y) ≡ true
-or_yes true y h = refl
-or_yes false y h = absurd (cc)
+-- ---- a test in two steps: the second decides where the first leaves it open
 
-pub or_no : (x y : Bool) → x ≡ false → (x || y) ≡ y
-or_no true y h = absurd (cc)
-or_no false y h = refl
+pub and_then : {first second x y whole : Bool} → (x && y) ≡ whole → first ≡ x → first ≡ true → second ≡ y
+    → second ≡ whole
+and_then {x = true} is same holds e = e ∙ is
+and_then {x = false} is same holds e = absurd (cc)
+
+pub and_else : {first x whole : Bool} (y : Bool) → (x && y) ≡ whole → first ≡ x → first ≡ false → first ≡ whole
+and_else {x = true} y is same fails = absurd (cc)
+and_else {x = false} y is same fails = fails ∙ is
+
+pub or_then : {first x whole : Bool} (y : Bool) → (x || y) ≡ whole → first ≡ x → first ≡ true → first ≡ whole
+or_then {x = true} y is same holds = holds ∙ is
+or_then {x = false} y is same holds = absurd (cc)
+
+pub or_else : {first second x y whole : Bool} → (x || y) ≡ whole → first ≡ x → first ≡ false → second ≡ y
+    → second ≡ whole
+or_else {x = true} is same fails e = absurd (cc)
+or_else {x = false} is same fails e = e ∙ is

@@ -1,8 +1,10 @@
 -- What an expression of the code stands for, and what is kept of it.
-use Rattle.std.specs.Prelude.{ℕ, zero, suc, ◌≡◌, ◌-◌, ◌^◌, ◌/◌, ◌≤◌, min, List, [], ◌∷◌, length, take, drop}
+use Rattle.std.specs.Prelude.{ℕ, zero, suc, ◌≡◌, ◌-◌, ◌^◌, ◌/◌, ◌<◌, ◌≤◌, min, List, [], ◌∷◌, length}
+use Rattle.std.specs.Prelude.{take, drop}
 use Rattle.rx_spec.specs.Bytes.{only}
-use Rattle.rx_spec.specs.Expressions.{Expression, min_len, depth, IsLoopSafe}
-use Rattle.rx_spec.specs.Rows.{rows_count}
+use Rattle.rx_spec.specs.Expressions.{Expression, IsLoopSafe}
+pub use Rattle.rx_spec.specs.Expressions.{min_len, depth}
+pub use Rattle.rx_spec.specs.Rows.{rows_count}
 use Rattle.rx_expr.specs.declared.expr.Node.{Node}
 use Rattle.rx_expr.specs.declared.expr.ExprKind.{ExprKind}
 use Rattle.rx_expr.specs.declared.expr.Form.{Form}
@@ -15,7 +17,7 @@ form_of (Form.Repeat least most greedy body) = Expression.Repeat least most gree
 
 abbrev pub node_of : Node → Expression
 node_of Node.Empty = Expression.Empty
-node_of (Node.Class set) = Expression.Class (set)
+node_of (Node.Class set) = Expression.Class set
 node_of (Node.Look look) = Expression.Look look
 node_of (Node.Inner inner) = form_of inner.value.form
 
@@ -38,7 +40,8 @@ literal_within (suc n) [] = Expression.Empty
 literal_within (suc n) (byte ∷ []) = Expression.Class (only byte)
 literal_within (suc n) (byte ∷ (next ∷ bytes)) =
     let all = byte ∷ (next ∷ bytes) in
-    Expression.Concat (literal_within n (take (length all / 2) all)) (literal_within n (drop (length all / 2) all))
+    let half = length all / 2 in
+    Expression.Concat (literal_within n (take half all)) (literal_within n (drop half all))
 
 -- the bytes one after another
 abbrev pub literal_of : List ℕ → Expression
@@ -47,8 +50,15 @@ literal_of bytes = literal_within (length bytes) bytes
 -- an expression taken apart is that expression
 abbrev pub kind_of : ExprKind → Expression
 kind_of ExprKind.Empty = Expression.Empty
-kind_of (ExprKind.Class set) = Expression.Class (set)
+kind_of (ExprKind.Class set) = Expression.Class set
 kind_of (ExprKind.Look look) = Expression.Look look
 kind_of (ExprKind.Concat a b) = Expression.Concat a.now b.now
 kind_of (ExprKind.Alternate a b) = Expression.Alternate a.now b.now
 kind_of (ExprKind.Repeat least most greedy body) = Expression.Repeat least most greedy body.now
+
+-- each of its parts is less deep than so much
+abbrev pub HasPartsBelow : ℕ → ExprKind → Type 0
+HasPartsBelow bound (ExprKind.Concat a b) = (depth a.now < bound) × (depth b.now < bound)
+HasPartsBelow bound (ExprKind.Alternate a b) = (depth a.now < bound) × (depth b.now < bound)
+HasPartsBelow bound (ExprKind.Repeat least most greedy body) = depth body.now < bound
+HasPartsBelow bound _ = Unit {0}

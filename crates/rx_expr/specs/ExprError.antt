@@ -24,7 +24,8 @@ RefusesJoin e ExprError.EmptyBody = ⊥
 abbrev pub RefusesRepeat : ℕ → Option ℕ → Expression → Expression → ExprError → Type 0
 RefusesRepeat least most body e ExprError.BadRange = HasBadRange least most
 RefusesRepeat least most body e ExprError.EmptyBody = HasEmptyBody most body
-RefusesRepeat least most body e ExprError.TooDeep = (HasBadRange least most → ⊥) × (HasEmptyBody most body → ⊥) × (200 < depth e)
+RefusesRepeat least most body e ExprError.TooDeep =
+    (HasBadRange least most → ⊥) × (HasEmptyBody most body → ⊥) × (200 < depth e)
 RefusesRepeat least most body e ExprError.Memory = Unit {0}
 
 -- the first two of them

@@ -1,5 +1,6 @@
 -- An expression as a list of numbers, in postfix order, and back: a proof tells values apart by it.
-use Rattle.std.specs.Prelude.{ℕ, zero, suc, ◌≡◌, Bool, true, false, Option, Some, None, List, [], ◌∷◌, ◌++◌, refl}
+use Rattle.std.specs.Prelude.{ℕ, zero, suc, ◌≡◌, Bool, true, false, Option, Some, None, List, [], ◌∷◌, ◌++◌}
+use Rattle.std.specs.Prelude.{refl}
 use Rattle.std.specs.Coded.{Coded, code_by, coded×, coded_ℕ, coded_list}
 use Rattle.std.proofs.Common.{sym, ◌∙◌, ap, append_assoc, append-nil}
 use Rattle.rx_spec.specs.Expressions.{Expression}
@@ -53,7 +54,8 @@ encode (Expression.Class set) = (1, (set, 0)) ∷ []
 encode (Expression.Look look) = (2, (look_number look, 0)) ∷ []
 encode (Expression.Concat a b) = encode a ++ (encode b ++ ((3, (0, 0)) ∷ []))
 encode (Expression.Alternate a b) = encode a ++ (encode b ++ ((4, (0, 0)) ∷ []))
-encode (Expression.Repeat least most greedy body) = encode body ++ ((greedy_number greedy, (least, most_number most)) ∷ [])
+encode (Expression.Repeat least most greedy body) =
+    encode body ++ ((greedy_number greedy, (least, most_number most)) ∷ [])
 
 -- a token takes its parts from the finished ones, the last first
 abbrev pub finish : ℕ → ℕ → ℕ → List Expression → List Expression
@@ -63,7 +65,8 @@ finish (suc (suc zero)) m n done = Expression.Look (look_at all_looks m) ∷ don
 finish (suc (suc (suc zero))) m n (b ∷ (a ∷ done)) = Expression.Concat a b ∷ done
 finish (suc (suc (suc (suc zero)))) m n (b ∷ (a ∷ done)) = Expression.Alternate a b ∷ done
 finish (suc (suc (suc (suc (suc zero))))) m n (body ∷ done) = Expression.Repeat m (number_most n) true body ∷ done
-finish (suc (suc (suc (suc (suc (suc zero)))))) m n (body ∷ done) = Expression.Repeat m (number_most n) false body ∷ done
+finish (suc (suc (suc (suc (suc (suc zero)))))) m n (body ∷ done) =
+    Expression.Repeat m (number_most n) false body ∷ done
 finish _ m n done = done
 
 abbrev pub decode : List Token → List Expression → List Expression
@@ -74,29 +77,51 @@ abbrev pub first_finished : List Expression → Expression
 first_finished [] = Expression.Empty
 first_finished (e ∷ done) = e
 
--- the numbers of an expression finish it
-decode-encode : (e : Expression) (ts : List Token) (done : List Expression) → decode (encode e ++ ts) done ≡ decode ts (e ∷ done)
+-- what is behind the tokens of one part, or of two
+one_part : (xs : List Token) (t : Token) (ts : List Token) → (xs ++ (t ∷ [])) ++ ts ≡ xs ++ (t ∷ ts)
+one_part xs t ts = append_assoc xs (t ∷ []) ts
+
+two_parts : (xs ys : List Token) (t : Token) (ts : List Token)
+    → (xs ++ (ys ++ (t ∷ []))) ++ ts ≡ xs ++ (ys ++ (t ∷ ts))
+two_parts xs ys t ts = append_assoc xs (ys ++ (t ∷ [])) ts ∙ ap (λ zs. xs ++ zs) (one_part ys t ts)
+
+-- the tokens of an expression finish it
+decode-encode : (e : Expression) (ts : List Token) (done : List Expression)
+    → decode (encode e ++ ts) done ≡ decode ts (e ∷ done)
 decode-encode Expression.Empty ts done = refl
 decode-encode (Expression.Class set) ts done = refl
 decode-encode (Expression.Look look) ts done = ap (λ k. decode ts (Expression.Look k ∷ done)) (look_again look)
 decode-encode (Expression.Concat a b) ts done =
-    ap (λ xs. decode xs done) (append_assoc (encode a) (encode b ++ ((3, (0, 0)) ∷ [])) ts ∙ ap (λ xs. encode a ++ xs) (append_assoc (encode b) ((3, (0, 0)) ∷ []) ts))
-    ∙ decode-encode a (encode b ++ ((3, (0, 0)) ∷ ts)) done ∙ decode-encode b ((3, (0, 0)) ∷ ts) (a ∷ done)
+    let last : Token = (3, (0, 0)) in
+    ap (λ xs. decode xs done) (two_parts (encode a) (encode b) last ts)
+    ∙ decode-encode a (encode b ++ (last ∷ ts)) done
+    ∙ decode-encode b (last ∷ ts) (a ∷ done)
 decode-encode (Expression.Alternate a b) ts done =
-    ap (λ xs. decode xs done) (append_assoc (encode a) (encode b ++ ((4, (0, 0)) ∷ [])) ts ∙ ap (λ xs. encode a ++ xs) (append_assoc (encode b) ((4, (0, 0)) ∷ []) ts))
-    ∙ decode-encode a (encode b ++ ((4, (0, 0)) ∷ ts)) done ∙ decode-encode b ((4, (0, 0)) ∷ ts) (a ∷ done)
+    let last : Token = (4, (0, 0)) in
+    ap (λ xs. decode xs done) (two_parts (encode a) (encode b) last ts)
+    ∙ decode-encode a (encode b ++ (last ∷ ts)) done
+    ∙ decode-encode b (last ∷ ts) (a ∷ done)
 decode-encode (Expression.Repeat least None true body) ts done =
-    ap (λ xs. decode xs done) (append_assoc (encode body) ((5, (least, 0)) ∷ []) ts) ∙ decode-encode body ((5, (least, 0)) ∷ ts) done
+    let last : Token = (5, (least, 0)) in
+    ap (λ xs. decode xs done) (one_part (encode body) last ts) ∙ decode-encode body (last ∷ ts) done
 decode-encode (Expression.Repeat least (Some most) true body) ts done =
-    ap (λ xs. decode xs done) (append_assoc (encode body) ((5, (least, suc most)) ∷ []) ts) ∙ decode-encode body ((5, (least, suc most)) ∷ ts) done
+    let last : Token = (5, (least, suc most)) in
+    ap (λ xs. decode xs done) (one_part (encode body) last ts) ∙ decode-encode body (last ∷ ts) done
 decode-encode (Expression.Repeat least None false body) ts done =
-    ap (λ xs. decode xs done) (append_assoc (encode body) ((6, (least, 0)) ∷ []) ts) ∙ decode-encode body ((6, (least, 0)) ∷ ts) done
+    let last : Token = (6, (least, 0)) in
+    ap (λ xs. decode xs done) (one_part (encode body) last ts) ∙ decode-encode body (last ∷ ts) done
 decode-encode (Expression.Repeat least (Some most) false body) ts done =
-    ap (λ xs. decode xs done) (append_assoc (encode body) ((6, (least, suc most)) ∷ []) ts) ∙ decode-encode body ((6, (least, suc most)) ∷ ts) done
+    let last : Token = (6, (least, suc most)) in
+    ap (λ xs. decode xs done) (one_part (encode body) last ts) ∙ decode-encode body (last ∷ ts) done
 
 pub decoded : (e : Expression) → first_finished (decode (encode e) []) ≡ e
-decoded e = ap (λ xs. first_finished (decode xs [])) (sym (append-nil (encode e))) ∙ ap first_finished (decode-encode e [] [])
+decoded e =
+    ap (λ xs. first_finished (decode xs [])) (sym (append-nil (encode e)))
+    ∙ ap first_finished (decode-encode e [] [])
+
+abbrev pub token_code : Coded Token
+token_code = coded× coded_ℕ (coded× coded_ℕ coded_ℕ)
 
 abbrev pub expression_code : Coded Expression
 expression_code =
-    code_by (List Token) (coded_list (coded× coded_ℕ (coded× coded_ℕ coded_ℕ))) (λ e. encode e) (λ ts. first_finished (decode ts [])) decoded
+    code_by (List Token) (coded_list token_code) (λ e. encode e) (λ ts. first_finished (decode ts [])) decoded

@@ -43,4 +43,6 @@ Short-prop rs zero q = λ a b. absurd a
 Short-prop rs (suc n) q = AllBehind-prop (λ p. Short rs n p) (λ p. Short-prop rs n p) (row_at rs q)
 
 pub IsShallow-prop : (rs : List rows.Row) → IsProp (IsShallow rs)
-IsShallow-prop rs = λ a b. ap (λ s. record { short = s }) (Π_prop (λ q. Short-prop rs (length rs * length rs + 1) q) a.short b.short)
+IsShallow-prop rs =
+    let each = λ (q : ℕ). Short-prop rs (length rs * length rs + 1) q in
+    λ a b. ap (λ s. record { short = s }) (Π_prop each a.short b.short)

@@ -12,7 +12,16 @@ pub record Asked : Type 0 where
   pub line_terminator : Option ℕ
 
 abbrev pub asked : Config → Asked
-asked c = record { reverse = c.reverse; is_utf8 = c.utf8; size_limit = c.nfa_size_limit; line_terminator = c.line_terminator }
+asked c = record {
+  reverse = c.reverse;
+  is_utf8 = c.utf8;
+  size_limit = c.nfa_size_limit;
+  line_terminator = c.line_terminator;
+}
+
+-- nothing was set
+abbrev pub nothing_asked : Asked
+nothing_asked = record { reverse = None; is_utf8 = None; size_limit = None; line_terminator = None }
 
 abbrev pub overwritten : Asked → Asked → Asked
 overwritten old new = record {

@@ -124,10 +124,12 @@ pub enum ExprError {
 }
 
 impl Expr {
-    ghost use Rattle.rx_spec.specs.Expressions.{Expression, min_len as least_len, depth as depth_of, mirror as mirrored, IsLoopSafe};
+    ghost use Rattle.rx_spec.specs.Expressions.{Expression, IsBounded, IsLoopSafe};
+    ghost use Rattle.rx_spec.specs.Expressions.{min_len as least_len, depth as depth_of};
+    ghost use Rattle.rx_spec.specs.Expressions.{mirror as mirrored};
     ghost use Rattle.rx_spec.specs.Rows.{rows_count};
     ghost use Rattle.rx_spec.specs.Bytes.{only};
-    ghost use Rattle.rx_expr.specs.Expr.{form_of, kind_of, literal_of};
+    ghost use Rattle.rx_expr.specs.Expr.{form_of, kind_of, HasPartsBelow, literal_of};
     ghost use Rattle.rx_expr.specs.ExprError.{RefusesJoin, RefusesRepeat};
 
     /// Matches where it stands, without a byte.
@@ -156,7 +158,7 @@ impl Expr {
     }
 
     /// The first and then the second.
-    #[tactic(auto, unfolding(rx_spec::specs::Expressions::min_len, rx_spec::specs::Expressions::depth, rx_spec::specs::Rows::rows_count))]
+    #[tactic(auto, unfolding(crate::specs::Expr::min_len, crate::specs::Expr::depth, crate::specs::Expr::rows_count))]
     pub fn concat(alloc: Global, first: Expr, second: Expr) -> Result<Expr, ExprError>
         ensures ok { IfOk result (λ e. e ≡ Expression.Concat first second) }
         ensures shallow { IfOk result (λ e. depth_of e ≤ 200) }
@@ -172,7 +174,7 @@ impl Expr {
     }
 
     /// The first or else the second: the first is preferred.
-    #[tactic(auto, unfolding(rx_spec::specs::Expressions::min_len, rx_spec::specs::Expressions::depth, rx_spec::specs::Rows::rows_count))]
+    #[tactic(auto, unfolding(crate::specs::Expr::min_len, crate::specs::Expr::depth, crate::specs::Expr::rows_count))]
     pub fn alternate(alloc: Global, first: Expr, second: Expr) -> Result<Expr, ExprError>
         ensures ok { IfOk result (λ e. e ≡ Expression.Alternate first second) }
         ensures shallow { IfOk result (λ e. depth_of e ≤ 200) }
@@ -189,7 +191,7 @@ impl Expr {
 
     /// From `min` to `max` rounds of a body, or with no `max` without an end; a greedy repetition
     /// prefers a further round, a lazy one none.
-    #[tactic(auto, unfolding(rx_spec::specs::Expressions::min_len, rx_spec::specs::Expressions::depth, rx_spec::specs::Rows::rows_count))]
+    #[tactic(auto, unfolding(crate::specs::Expr::min_len, crate::specs::Expr::depth, crate::specs::Expr::rows_count))]
     pub fn repeat(
         alloc: Global,
         min: u32,
@@ -198,6 +200,8 @@ impl Expr {
         body: Expr,
     ) -> Result<Expr, ExprError>
         ensures ok { IfOk result (λ e. e ≡ Expression.Repeat min max greedy body) }
+        // The bounds are in order, and without an upper one each round reads a byte.
+        ensures bounded { OnOk result (IsBounded min max body) }
         ensures shallow { IfOk result (λ e. depth_of e ≤ 200) }
         ensures err { IfErr result (RefusesRepeat min max body (Expression.Repeat min max greedy body)) }
     {
@@ -290,9 +294,11 @@ impl Expr {
         }
     }
 
-    /// The form and the parts.
+    /// The form and the parts, each of which is less deep.
+    #[tactic(auto, unfolding(rx_spec::specs::Expressions::depth))]
     pub fn kind(&self) -> ExprKind<'_>
-        ensures { kind_of result ≡ self.now }
+        ensures whole { kind_of result ≡ self.now }
+        ensures parts { HasPartsBelow (depth_of self.now) result }
     {
         match &self.node {
             Node::Empty => ExprKind::Empty,
@@ -347,6 +353,7 @@ impl Expr {
     pub(crate) fn rows_len(&self) -> u64
         ensures value { result ≡ least (rows_count self.now) (2 ^ 31) }
         ensures bound { result ≤ 2 ^ 31 }
+        ensures safe { IsLoopSafe self.now }
     {
         match &self.node {
             Node::Empty => 0,

@@ -27,18 +27,3 @@ pub mod Overlapping
 -- where their answers come from
 pub mod WalkBounds
 pub mod OverlappingBounds
--- tables: byte classes, sizes that grow with the states, least tables, the machine row by row, ids
-pub mod Sublists
-pub mod Filters
-pub mod ClassNumbers
-pub mod Classes
-pub mod Sizes
-pub mod Labels
-pub mod Power
-pub mod Ids
-pub mod Tables
--- searches of them: that no bound cuts anything off, and that all that is told lies in the span
-pub mod Splits
-pub mod ToldInSpan
-pub mod Iterating
-pub mod Joining

@@ -8,7 +8,8 @@ use Rattle.rx_spec.specs.States.{State, step}
 use Rattle.rx_spec.specs.Builds.{Build, Node, is_dead_state, power}
 use Rattle.rx_spec.specs.HalfSearches.{beside, next_offset, unit_offset, match_error}
 use Rattle.rx_spec.specs.Overlapping.{Reported, Ending, OverlappingMatches, none_left, with_items, at_item_label}
-use Rattle.rx_spec.specs.Overlapping.{overlapping_walk, overlapping_from, whole_overlapping_walk, overlapping, remaining}
+use Rattle.rx_spec.specs.Overlapping.{overlapping_walk, overlapping_from, whole_overlapping_walk, overlapping}
+use Rattle.rx_spec.specs.Overlapping.{remaining}
 use Rattle.rx_spec.specs.declared.Direction.{Direction}
 use Rattle.rx_lemmas.proofs.Firsts.{by_test}
 use Rattle.rx_lemmas.proofs.SilentRows.{IsSilent, silent_label, silent_next}

@@ -1,10 +1,9 @@
 -- Bytes that are read or written one piece after another.
-use Rattle.std.proofs.Common.{◌≡◌, ℕ, ◌+◌, ◌-◌, ◌≤◌, List, [], ◌++◌, length, take, drop, Option, Some, None, refl, sym}
-use Rattle.std.proofs.Common.{ap, ◌∙◌, append_assoc, append-nil, arith}
+use Rattle.std.proofs.Common.{◌≡◌, ℕ, ◌+◌, ◌-◌, List, [], ◌++◌, length, take, drop, Option, Some, None, refl, sym}
+use Rattle.std.proofs.Common.{ap, ◌∙◌, append_assoc, append-nil}
 use Rattle.std.proofs.Math.Seq.{take-add}
 use Rattle.std.proofs.lemmas.List.{take_rest}
 use Rattle.std.specs.Io.KnownBytes.{Consumes, Keeps, Appends}
-use Rattle.rx_base.specs.Outside.{Rose}
 
 pub consumes_none : (left : Option (List ℕ)) → Consumes left left []
 consumes_none None = tt
@@ -38,10 +37,6 @@ appends_kept None b c xs p q = tt
 appends_kept (Some x) None c xs p q = absurd p
 appends_kept (Some x) (Some y) None xs p q = absurd q
 appends_kept (Some x) (Some y) (Some z) xs p q = q ∙ p
-
--- a count that rose later rose since before
-pub rose_since : (a b c : ℕ) → a ≤ b → Rose b c → Rose a c
-rose_since a b c le rose = omega arith
 
 pub written_more
     : (text : List ℕ) (at n : ℕ) (a b c : Option (List ℕ)) → Appends a b (take at text)

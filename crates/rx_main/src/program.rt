@@ -1,6 +1,6 @@
 //! The program: a command line, a source and a sink.
 
-ghost use Rattle.std.specs.Prelude.{◌≡◌, ◌≤◌, IfOk, Err};
+ghost use Rattle.std.specs.Prelude.{◌≡◌, ◌≢◌, ◌≤◌, IfOk, Err};
 ghost use Rattle.std.specs.Io.KnownBytes.{Keeps};
 ghost use Rattle.rx_base.specs.Outside.{Rose};
 ghost use Rattle.rx_main.specs.Run.{Took, Answers, Breaks};
@@ -33,7 +33,7 @@ enum Stop {
 fn reply<S: Source>(alloc: Global, words: &Words, src: &mut S) -> Result<Reply, Stop>
     ensures took { IfOk result (λ reply. Took words.now (S.left src.old) (S.left src.new) reply) }
     ensures failed { result ≡ Err Stop.Failed → Rose (S.faults src.old) (S.faults src.new) }
-    ensures kept { S.faults src.old ≤ S.faults src.new }
+    ensures kept { result ≢ Err Stop.Failed → S.faults src.new ≡ S.faults src.old }
 {
     let Some(command) = command_of(words) else {
         return Ok(Reply::Usage);
@@ -56,7 +56,8 @@ fn reply<S: Source>(alloc: Global, words: &Words, src: &mut S) -> Result<Reply, 
 /// the sink. The result is the status.
 ///
 /// With a status up to 4 the line was written, with 6 a part of it, and with 5 and 7 nothing. 5 says
-/// that the source failed, 6 that the sink did, and 7 that memory ran out.
+/// that the source failed, 6 that the sink did, and 7 that memory ran out: any fault of the source or the
+/// sink gives 5 or 6, and without one there is no such status.
 pub fn run<S: Source, K: Sink>(alloc: Global, words: &Words, src: &mut S, out: &mut K) -> u8
     ensures answers { result ≤ 4
         → Answers words.now (record {
@@ -76,9 +77,9 @@ pub fn run<S: Source, K: Sink>(alloc: Global, words: &Words, src: &mut S, out: &
         }) }
     ensures memory { result ≡ 7 → Keeps (K.written out.old) (K.written out.new) }
     ensures few { result ≤ 7 }
-    // Counts of faults never fall.
-    ensures source_faults { S.faults src.old ≤ S.faults src.new }
-    ensures sink_faults { K.faults out.old ≤ K.faults out.new }
+    // A fault of the source gives 5, and one of the sink 6.
+    ensures source_faults { result ≢ 5 → S.faults src.new ≡ S.faults src.old }
+    ensures sink_faults { result ≢ 6 → K.faults out.new ≡ K.faults out.old }
 {
     let reply = match reply(alloc, words, src) {
         Ok(reply) => reply,

@@ -7,7 +7,13 @@ use Rattle.rx_spec.specs.States.{State}
 
 abbrev pub facts_rank : Facts → Facts → Ordering
 facts_rank x y =
-    ordering_then (bool_cmp x.text y.text) (ordering_then (bool_cmp x.line_terminator y.line_terminator) (ordering_then (bool_cmp x.lf y.lf) (ordering_then (bool_cmp x.cr y.cr) (bool_cmp x.word y.word))))
+    let word = bool_cmp x.word y.word in
+    let cr = ordering_then (bool_cmp x.cr y.cr) word in
+    let lf = ordering_then (bool_cmp x.lf y.lf) cr in
+    let line_terminator = ordering_then (bool_cmp x.line_terminator y.line_terminator) lf in
+    ordering_then (bool_cmp x.text y.text) line_terminator
 
 abbrev pub rank : State → State → Ordering
-rank s t = ordering_then (slice_cmp nat_cmp s.rows t.rows) (ordering_then (facts_rank s.context t.context) (slice_cmp nat_cmp s.label t.label))
+rank s t =
+    let context = ordering_then (facts_rank s.context t.context) (slice_cmp nat_cmp s.label t.label) in
+    ordering_then (slice_cmp nat_cmp s.rows t.rows) context

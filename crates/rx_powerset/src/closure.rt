@@ -1,11 +1,10 @@
 //! The rows that are reached without reading a byte.
 
 ghost use Rattle.std.specs.Prelude.{◌≡◌, ◌++◌, ◌<◌, ◌≤◌, length, reverse, OnOk, IfOk};
-ghost use Rattle.std.specs.List.{flat_map};
 ghost use Rattle.rx_spec.specs.Contexts.{holds_read};
-ghost use Rattle.rx_spec.specs.States.{row_at, closure, firsts};
+ghost use Rattle.rx_spec.specs.States.{row_at};
 ghost use Rattle.rx_expr.specs.Nfa.{meaning, row_of};
-ghost use Rattle.rx_powerset.specs.Closing.{own_by, ways_by, passing_of};
+ghost use Rattle.rx_powerset.specs.Closures.{own_by, branches_by, passing_of, closed_rows};
 
 use rx_base::{Direction, Facts, Look, StateID};
 use rx_expr::thompson::{NFA, Row};
@@ -55,7 +54,7 @@ pub(crate) fn closed(
     from: &[StateID],
     passing: &Passing,
 ) -> Result<Vec<StateID>, AllocError>
-    ensures rows { IfOk result (λ v. v.items ≡ firsts (flat_map (λ q. closure (meaning nfa.now).rows (passing_of passing.now) q) from.now)) }
+    ensures rows { IfOk result (λ v. v.items ≡ closed_rows (meaning nfa.now).rows (passing_of passing.now) from.now) }
     ensures bound { IfOk result (λ v. length v.items ≤ StateID.LIMIT) }
 {
     let mut seen = BTreeSet::new(alloc);
@@ -79,8 +78,10 @@ fn visit(
     waiting: &mut Vec<StateID>,
 ) -> Result<(), AllocError>
     ensures bound { id < StateID.LIMIT }
-    ensures found { OnOk result (found.new.items ≡ found.old.items ++ own_by (passing_of passing.now) id (row_at (meaning nfa.now).rows id)) }
-    ensures waiting { OnOk result (reverse waiting.new.items ≡ ways_by (passing_of passing.now) (row_at (meaning nfa.now).rows id) ++ reverse waiting.old.items) }
+    ensures found { let row = row_at (meaning nfa.now).rows id in
+        OnOk result (found.new.items ≡ found.old.items ++ own_by (passing_of passing.now) id row) }
+    ensures waiting { let behind = branches_by (passing_of passing.now) (row_at (meaning nfa.now).rows id) in
+        OnOk result (reverse waiting.new.items ≡ behind ++ reverse waiting.old.items) }
 {
     match row_at(nfa, id) {
         Row::Bytes { .. } | Row::Match { .. } => found.push(id)?,

@@ -1,9 +1,11 @@
 //! Powerset states.
 
-ghost use Rattle.std.specs.Prelude.{◌≡◌, ◌++◌, ◌<◌, ◌≤◌, IfOk, OnOk, length, slice_index};
+ghost use Rattle.std.specs.Prelude.{◌≡◌, ℕ, ◌++◌, ◌<◌, ◌≤◌, IfOk, OnOk, length, slice_index};
 ghost use Rattle.std.specs.List.{flat_map, list_any};
-ghost use Rattle.rx_spec.specs.States.{dead_state, start_state, step, state_at, row_at, cut, to_first_match, is_look_row, is_match_row, pattern_of, target};
+ghost use Rattle.rx_spec.specs.States.{dead_state, start_state, step, state_at, row_at, cut, to_first_match};
+ghost use Rattle.rx_spec.specs.States.{is_look_row, is_match_row, pattern_of, target};
 ghost use Rattle.rx_spec.specs.Builds.{is_dead_state};
+ghost use Rattle.rx_spec.specs.Causes.{id_count};
 ghost use Rattle.rx_spec.specs.Sizes.{state_size};
 ghost use Rattle.rx_spec.specs.Bytes.{contains};
 ghost use Rattle.rx_base.specs.Unit.{unit_number};
@@ -23,8 +25,8 @@ pub struct PowerState {
     context: Facts,
     /// The patterns that matched before that unit, the preferred first.
     label: Vec<PatternID>,
-    ghost few_rows: { length rows.items ≤ 2147483647 },
-    ghost few_patterns: { length label.items ≤ 2147483647 },
+    ghost few_rows: { length rows.items ≤ id_count },
+    ghost few_patterns: { length label.items ≤ id_count },
 }
 
 impl PowerState {
@@ -88,7 +90,7 @@ impl PowerState {
         known: Facts,
         label: Vec<PatternID>,
     ) -> Result<PowerState, AllocError>
-        requires { length label.items ≤ 2147483647 }
+        requires { length label.items ≤ id_count }
         ensures { IfOk result (λ s. state_of s ≡ state_at (meaning nfa.now) from.now known label.items) }
     {
         let rows = closed(alloc, nfa, from, &Passing::Standing)?;
@@ -211,9 +213,10 @@ fn targets(
     rows: &[StateID],
     unit: Unit,
 ) -> Result<Vec<StateID>, AllocError>
-    ensures { IfOk result (λ v. v.items ≡ flat_map (λ q. target (unit_number unit) (row_at (meaning nfa.now).rows q)) rows.now) }
+    ensures { let each = λ (q : ℕ). target (unit_number unit) (row_at (meaning nfa.now).rows q) in
+        IfOk result (λ v. v.items ≡ flat_map each rows.now) }
 {
-    let mut targets = Vec::new(alloc);
+    let mut targets = Vec::with_capacity(alloc, rows.len())?;
     for id in rows {
         add_target(nfa, *id, unit, &mut targets)?;
     }
@@ -227,7 +230,8 @@ fn add_target(
     unit: Unit,
     targets: &mut Vec<StateID>,
 ) -> Result<(), AllocError>
-    ensures { OnOk result (targets.new.items ≡ targets.old.items ++ target (unit_number unit) (row_at (meaning nfa.now).rows id)) }
+    ensures { let row = row_at (meaning nfa.now).rows id in
+        OnOk result (targets.new.items ≡ targets.old.items ++ target (unit_number unit) row) }
 {
     if let Row::Bytes { set, next } = row_at(nfa, id) {
         if reads(&set, unit) {

@@ -1,15 +1,15 @@
 -- Sums over the numbers below a bound.
-use Rattle.std.proofs.Common.{◌≡◌, ℕ, zero, suc, ◌+◌, ◌*◌, ◌<◌, ◌≤◌, true, false, cond, List, [], ◌∷◌, length, get_or, eqb, refl, sym, ap, ◌∙◌, ⊎_elim, arith, eq-eqb, ne_eqb, eqb-true, mul-zero, true≢false}
+use Rattle.std.proofs.Common.{◌≡◌, ℕ, zero, suc, ◌+◌, ◌*◌, ◌<◌, ◌≤◌, true, false, cond, List, [], ◌∷◌, length, get_or}
+use Rattle.std.proofs.Common.{eqb, refl, sym, ap, ◌∙◌, arith, eq-eqb, ne_eqb, eqb-true, mul-zero, true≢false, inl, inr}
 use Rattle.std.specs.List.{sum_by, list_any}
 use Rattle.std.proofs.lemmas.Bool.{cases_Bool, cases_eq, false_from_ne_true}
 use Rattle.std.proofs.lemmas.List.Sums.{sum_by-cons}
+use Rattle.std.proofs.Math.Nat.{mul-suc}
+use Rattle.std.proofs.Math.Numerals.{suc-eq-add-one}
 use Rattle.rx_refine.specs.Keys.{total}
 use Rattle.rx_refine.specs.Places.{how_many, how_many_below, AreApart}
-use Rattle.rx_refine.proofs.Places.{how_many_below_more, how_many_below-zero, add-one-sym}
-use Rattle.rx_refine.proofs.Grouping.{how_many_below-all}
-
-mul-suc : (k n : ℕ) → k * suc n ≡ k * n + k
-mul-suc k n = omega arith
+use Rattle.rx_refine.proofs.Places.{how_many_below_more, how_many_below-zero}
+use Rattle.rx_refine.proofs.GroupedRows.{how_many_below-all}
 
 mul_add : (k a b : ℕ) → k * (a + b) ≡ k * a + k * b
 mul_add k a b = omega arith
@@ -21,6 +21,10 @@ total-add f g (suc n) = omega (arith, total-add f g n)
 pub total-le : (f g : ℕ → ℕ) (n : ℕ) → ((r : ℕ) → r < n → f r ≤ g r) → total f n ≤ total g n
 total-le f g zero h = omega arith
 total-le f g (suc n) h = omega (arith, total-le f g n (λ r l. h r (omega arith)), h n (omega arith))
+
+-- where each term and what is spent beside it are at most another term
+pub total-spent : (f g h : ℕ → ℕ) (n : ℕ) → ((r : ℕ) → r < n → f r + g r ≤ h r) → total f n + total g n ≤ total h n
+total-spent f g h n le = omega (arith, total-add f g n, total-le (λ r. f r + g r) h n le)
 
 pub total-same : (f g : ℕ → ℕ) (n : ℕ) → ((r : ℕ) → r < n → f r ≡ g r) → total f n ≡ total g n
 total-same f g zero h = refl
@@ -39,31 +43,36 @@ total-mul k f (suc n) = omega (arith, total-mul k f n, mul_add k (total f n) (f 
 
 pub total_none : (h : ℕ → ℕ) (x n : ℕ) → n ≤ x → total (λ r. cond (eqb r x) (h r) 0) n ≡ 0
 total_none h x zero l = refl
-total_none h x (suc n) l = let e : ◌≡◌ {A = ℕ} (cond (eqb n x) (h n) 0) 0 = rw (ne_eqb n x (λ f. omega arith)) refl in omega (arith, total_none h x n (omega arith), e)
+total_none h x (suc n) l =
+    let e : ◌≡◌ {A = ℕ} (cond (eqb n x) (h n) 0) 0 = rw (ne_eqb n x (λ f. omega arith)) refl in
+    omega (arith, total_none h x n (omega arith), e)
 
 pub total_single : (h : ℕ → ℕ) (x n : ℕ) → x < n → total (λ r. cond (eqb r x) (h r) 0) n ≡ h x
 total_single h x zero l = absurd (omega arith)
 total_single h x (suc n) l =
-    ⊎_elim
-    (λ (e : n ≡ x). let t : cond (eqb n x) (h n) 0 ≡ h x = rw (eq-eqb n x e) (ap h e) in omega (arith, total_none h x n (omega arith), t))
-    (λ (ne : n ≡ x → ⊥). let t : ◌≡◌ {A = ℕ} (cond (eqb n x) (h n) 0) 0 = rw (ne_eqb n x ne) refl in omega (arith, total_single h x n (omega arith), t))
-    (cases_eq n x)
+    elim (cases_eq n x) [
+      | inl e ↦ let t : cond (eqb n x) (h n) 0 ≡ h x =
+          rw (eq-eqb n x e) (ap h e) in omega (arith, total_none h x n (omega arith), t)
+      | inr ne ↦ let t : ◌≡◌ {A = ℕ} (cond (eqb n x) (h n) 0) 0 =
+          rw (ne_eqb n x ne) refl in omega (arith, total_single h x n (omega arith), t)
+    ]
 
 -- a term is at most the sum
 pub total_term : (f : ℕ → ℕ) (x n : ℕ) → x < n → f x ≤ total f n
 total_term f x zero l = absurd (omega arith)
 total_term f x (suc n) l =
-    ⊎_elim
-    (λ (e : x ≡ n). rw e (omega arith))
-    (λ (ne : x ≡ n → ⊥). let t = total_term f x n (omega arith) in omega arith)
-    (cases_eq x n)
+    elim (cases_eq x n) [
+      | inl e ↦ rw e (omega arith)
+      | inr ne ↦ let t = total_term f x n (omega arith) in omega arith
+    ]
 
 pub total-how_many : (xs : List ℕ) (n : ℕ) → total (λ r. how_many xs r) n ≡ how_many_below xs n
 total-how_many xs zero = sym (how_many_below-zero xs)
-total-how_many xs (suc n) = rw (add-one-sym n) (omega (arith, total-how_many xs n, how_many_below_more xs n))
+total-how_many xs (suc n) = rw (suc-eq-add-one n) (omega (arith, total-how_many xs n, how_many_below_more xs n))
 
 -- each element of the list is below the bound
-pub total-how_many-all : (xs : List ℕ) (n : ℕ) → ((k : ℕ) → k < length xs → get_or xs k 0 < n) → total (λ r. how_many xs r) n ≡ length xs
+pub total-how_many-all : (xs : List ℕ) (n : ℕ) → ((k : ℕ) → k < length xs → get_or xs k 0 < n)
+    → total (λ r. how_many xs r) n ≡ length xs
 total-how_many-all xs n h = total-how_many xs n ∙ how_many_below-all xs n h
 
 -- a sum over a list without repeats is one over the numbers that stand in it
@@ -80,21 +89,34 @@ not_in_tail : (x : ℕ) (xs : List ℕ) → AreApart (x ∷ xs) → list_any (eq
 not_in_tail x xs a t = absent x xs (λ k l e. a 0 (suc k) (omega arith) (omega arith) e) t
 
 -- what a row counts for, as the first or as a later element
-split_in : (h : ℕ → ℕ) (x : ℕ) (xs : List ℕ) (r : ℕ) → (list_any (eqb x) xs ≡ true → ⊥) → cond (list_any (eqb r) (x ∷ xs)) (h r) 0 ≡ cond (eqb r x) (h r) 0 + cond (list_any (eqb r) xs) (h r) 0
+split_in : (h : ℕ → ℕ) (x : ℕ) (xs : List ℕ) (r : ℕ) → (list_any (eqb x) xs ≡ true → ⊥)
+    → cond (list_any (eqb r) (x ∷ xs)) (h r) 0 ≡ cond (eqb r x) (h r) 0 + cond (list_any (eqb r) xs) (h r) 0
 split_in h x xs r ne =
-    ⊎_elim
-    (λ (t : eqb r x ≡ true).
-    let e : r ≡ x = eqb-true r x t in
-    let f : list_any (eqb r) xs ≡ false = rw e (false_from_ne_true (list_any (eqb x) xs) ne) in
-    rw (t, f) (omega arith))
-    (λ (f : eqb r x ≡ false). rw f (omega arith))
-    (cases_Bool (eqb r x))
+    elim (cases_Bool (eqb r x)) [
+      | inl t ↦
+          let e : r ≡ x = eqb-true r x t in
+          let f : list_any (eqb r) xs ≡ false = rw e (false_from_ne_true (list_any (eqb x) xs) ne) in
+          rw (t, f) (omega arith)
+      | inr f ↦ rw f (omega arith)
+    ]
 
-pub sum_by-total : (h : ℕ → ℕ) (n : ℕ) (xs : List ℕ) → AreApart xs → ((k : ℕ) → k < length xs → get_or xs k 0 < n) → sum_by h xs ≡ total (λ r. cond (list_any (eqb r) xs) (h r) 0) n
+pub sum_by-total : (h : ℕ → ℕ) (n : ℕ) (xs : List ℕ) → AreApart xs → ((k : ℕ) → k < length xs → get_or xs k 0 < n)
+    → sum_by h xs ≡ total (λ r. cond (list_any (eqb r) xs) (h r) 0) n
 sum_by-total h n [] a small = sym (total_zero n)
 sum_by-total h n (x ∷ xs) a small =
-    let t : total (λ r. cond (list_any (eqb r) (x ∷ xs)) (h r) 0) n ≡ total (λ r. cond (eqb r x) (h r) 0 + cond (list_any (eqb r) xs) (h r) 0) n = total-same (λ r. cond (list_any (eqb r) (x ∷ xs)) (h r) 0) (λ r. cond (eqb r x) (h r) 0 + cond (list_any (eqb r) xs) (h r) 0) n (λ r l. split_in h x xs r (not_in_tail x xs a)) in
-    let u : total (λ r. cond (eqb r x) (h r) 0 + cond (list_any (eqb r) xs) (h r) 0) n ≡ total (λ r. cond (eqb r x) (h r) 0) n + total (λ r. cond (list_any (eqb r) xs) (h r) 0) n = total-add (λ r. cond (eqb r x) (h r) 0) (λ r. cond (list_any (eqb r) xs) (h r) 0) n in
+    let t : total (λ r. cond (list_any (eqb r) (x ∷ xs)) (h r) 0) n
+    ≡ total (λ r. cond (eqb r x) (h r) 0 + cond (list_any (eqb r) xs) (h r) 0) n =
+    total-same (λ r. cond (list_any (eqb r) (x ∷ xs)) (h r) 0)
+    (λ r. cond (eqb r x) (h r) 0 + cond (list_any (eqb r) xs) (h r) 0) n
+    (λ r l. split_in h x xs r (not_in_tail x xs a)) in
+    let u : total (λ r. cond (eqb r x) (h r) 0 + cond (list_any (eqb r) xs) (h r) 0) n
+    ≡ total (λ r. cond (eqb r x) (h r) 0) n + total (λ r. cond (list_any (eqb r) xs) (h r) 0) n =
+    total-add (λ r. cond (eqb r x) (h r) 0) (λ r. cond (list_any (eqb r) xs) (h r) 0) n in
     let v : total (λ r. cond (eqb r x) (h r) 0) n ≡ h x = total_single h x n (small 0 (omega arith)) in
-    let w : sum_by h xs ≡ total (λ r. cond (list_any (eqb r) xs) (h r) 0) n = sum_by-total h n xs (AreApart-tail x xs a) (λ k l. small (suc k) (omega arith)) in
-    sum_by-cons h x xs ∙ ap (λ k. h x + k) w ∙ ap (λ k. k + total (λ r. cond (list_any (eqb r) xs) (h r) 0) n) (sym v) ∙ sym u ∙ sym t
+    let w : sum_by h xs ≡ total (λ r. cond (list_any (eqb r) xs) (h r) 0) n =
+    sum_by-total h n xs (AreApart-tail x xs a) (λ k l. small (suc k) (omega arith)) in
+    sum_by-cons h x xs
+    ∙ ap (λ k. h x + k) w
+    ∙ ap (λ k. k + total (λ r. cond (list_any (eqb r) xs) (h r) 0) n) (sym v)
+    ∙ sym u
+    ∙ sym t

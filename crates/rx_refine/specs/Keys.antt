@@ -18,10 +18,12 @@ waiting_reads m unit blocks taken = total (waiting_cost m unit blocks taken) m.r
 
 -- the block to which a unit leads a row, or 0 where the unit took that block before
 abbrev pub next_key : Moves → ℕ → List ℕ → ℕ → ℕ → ℕ
-next_key m unit blocks taken row = cond (leb taken (slice_index blocks (next_row m row unit))) (slice_index blocks (next_row m row unit)) 0
+next_key m unit blocks taken row =
+    cond (leb taken (slice_index blocks (next_row m row unit))) (slice_index blocks (next_row m row unit)) 0
 
 abbrev pub AreNextKeys : Moves → ℕ → List ℕ → ℕ → List ℕ → Type 0
-AreNextKeys m unit blocks taken keys = (row : ℕ) → row < m.rows → slice_index keys row ≡ next_key m unit blocks taken row
+AreNextKeys m unit blocks taken keys =
+    (row : ℕ) → row < m.rows → slice_index keys row ≡ next_key m unit blocks taken row
 
 -- each block is split by the blocks from `taken` on to which the unit leads its rows
 pub record TakesAll (m : Moves) (unit : ℕ) (old : Parts) (taken : ℕ) (new : Parts) : Type 0 where

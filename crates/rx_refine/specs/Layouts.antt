@@ -27,5 +27,5 @@ pub record IsLayout (t : Layout) : Type 0 where
 pub record AreColumns (t : Layout) (rows : ℕ) (columns : List (List ℕ)) : Type 0 where
   pub count : length columns ≡ t.units
   pub lengths : (unit : ℕ) → unit < t.units → length (slice_index_or columns unit []) ≡ rows
-  pub cells : (row unit : ℕ) → row < rows → unit < t.units →
-      slice_index (slice_index_or columns unit []) row ≡ next_at t row unit
+  pub cells : (row unit : ℕ) → row < rows → unit < t.units
+      → slice_index (slice_index_or columns unit []) row ≡ next_at t row unit

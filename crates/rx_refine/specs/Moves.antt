@@ -1,5 +1,6 @@
 -- Tables of rows, the rows that behave alike in one, and words that tell two rows apart.
-use Rattle.std.specs.Prelude.{ℕ, ◌≡◌, ◌↔◌, ◌≢◌, ◌<◌, ◌≤◌, ◌+◌, ◌*◌, ◌^◌, List, [], length, slice_index, slice_index_or, fold, Contains}
+use Rattle.std.specs.Prelude.{ℕ, ◌≡◌, ◌↔◌, ◌≢◌, ◌<◌, ◌≤◌, ◌*◌, ◌^◌, List, [], length, slice_index, slice_index_or}
+use Rattle.std.specs.Prelude.{fold, Contains}
 use Rattle.std.specs.Int.Digits.{digits_of}
 use Rattle.rx_refine.specs.Places.{places_of}
 
@@ -58,11 +59,13 @@ read_limit m = 2 * m.units * m.rows * binary_digits m.rows
 
 -- rows have one number exactly where they behave alike
 abbrev pub AreAlikeByNumber : Moves → List ℕ → List ℕ → Type 0
-AreAlikeByNumber m labels numbers = (x y : ℕ) → x < m.rows → y < m.rows → (slice_index numbers x ≡ slice_index numbers y) ↔ BehaveAlike m labels x y
+AreAlikeByNumber m labels numbers =
+    (x y : ℕ) → x < m.rows → y < m.rows → (slice_index numbers x ≡ slice_index numbers y) ↔ BehaveAlike m labels x y
 
 -- a word tells rows with different numbers apart
 abbrev pub AreToldByNumber : Moves → List ℕ → List ℕ → Type 0
-AreToldByNumber m labels numbers = (x y : ℕ) → x < m.rows → y < m.rows → slice_index numbers x ≢ slice_index numbers y → AreToldApart m labels x y
+AreToldByNumber m labels numbers =
+    (x y : ℕ) → x < m.rows → y < m.rows → slice_index numbers x ≢ slice_index numbers y → AreToldApart m labels x y
 
 -- each number up to the largest one stands there
 abbrev pub AreWithoutGaps : List ℕ → Type 0

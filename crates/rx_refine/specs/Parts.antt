@@ -1,5 +1,6 @@
 -- A partition of rows into blocks, kept as ranges of one permuted list.
-use Rattle.std.specs.Prelude.{ℕ, ◌≡◌, ◌<◌, ◌≤◌, ◌+◌, ◌*◌, ◌^◌, ◌⊎◌, Bool, true, cond, List, [], ◌∷◌, ◌++◌, length, slice_index, slice_set, Contains, ltb, leb, eqb, ◌&&◌}
+use Rattle.std.specs.Prelude.{ℕ, ◌≡◌, ◌<◌, ◌≤◌, ◌+◌, ◌*◌, ◌^◌, ◌⊎◌, Bool, true, cond, List, [], ◌∷◌, ◌++◌, length}
+use Rattle.std.specs.Prelude.{slice_index, slice_set, Contains, ltb, leb, eqb, ◌&&◌}
 use Rattle.std.specs.List.{list_any}
 
 -- the lists that a partition keeps
@@ -19,7 +20,8 @@ size_of p block = slice_index p.sizes block
 
 -- whether a row is marked: it stands among the first rows of its block
 abbrev pub is_marked : Parts → ℕ → Bool
-is_marked p row = ltb (slice_index p.places row) (slice_index p.starts (block_of p row) + slice_index p.marks (block_of p row))
+is_marked p row =
+    ltb (slice_index p.places row) (slice_index p.starts (block_of p row) + slice_index p.marks (block_of p row))
 
 -- whether a row is among those of a list
 abbrev pub is_in : List ℕ → ℕ → Bool
@@ -43,11 +45,13 @@ pub record IsPartition (p : Parts) : Type 0 where
   pub marks_len : length p.marks ≡ length p.sizes
   pub block_at : (row : ℕ) → row < length p.rows → block_of p row < length p.sizes
   pub from_start : (row : ℕ) → row < length p.rows → slice_index p.starts (block_of p row) ≤ slice_index p.places row
-  pub to_end : (row : ℕ) → row < length p.rows → slice_index p.places row < slice_index p.starts (block_of p row) + size_of p (block_of p row)
+  pub to_end : (row : ℕ) → row < length p.rows
+      → slice_index p.places row < slice_index p.starts (block_of p row) + size_of p (block_of p row)
   pub within : (block : ℕ) → block < length p.sizes → slice_index p.starts block + size_of p block ≤ length p.rows
   pub some : (block : ℕ) → block < length p.sizes → 0 < size_of p block
   pub marked : (block : ℕ) → block < length p.sizes → slice_index p.marks block ≤ size_of p block
-  pub in_block : (block place : ℕ) → block < length p.sizes → slice_index p.starts block ≤ place → place < slice_index p.starts block + size_of p block → block_of p (slice_index p.rows place) ≡ block
+  pub in_block : (block place : ℕ) → block < length p.sizes → slice_index p.starts block ≤ place
+      → place < slice_index p.starts block + size_of p block → block_of p (slice_index p.rows place) ≡ block
 
 -- a block with a marked row is in the list
 abbrev pub AreTouched : Parts → List ℕ → Type 0
@@ -59,7 +63,8 @@ pub record MarksRow (old : Parts) (row : ℕ) (new : Parts) : Type 0 where
   pub rows_len : length new.rows ≡ length old.rows
   pub blocks : new.blocks ≡ old.blocks
   pub sizes : new.sizes ≡ old.sizes
-  pub marks : (other : ℕ) → other < length old.rows → 1 < size_of old (block_of old other) → is_marked new other ≡ cond (eqb other row) true (is_marked old other)
+  pub marks : (other : ℕ) → other < length old.rows → 1 < size_of old (block_of old other)
+      → is_marked new other ≡ cond (eqb other row) true (is_marked old other)
   pub alone : (block : ℕ) → size_of old block ≡ 1 → slice_index new.marks block ≡ slice_index old.marks block
 
 -- a block is split into its marked rows and the others. The smaller part has a new number
@@ -67,10 +72,16 @@ pub record SplitsBlock (old : Parts) (block : ℕ) (new : Parts) : Type 0 where
   pub partition : IsPartition new
   pub rows_len : length new.rows ≡ length old.rows
   pub more : length old.sizes ≤ length new.sizes
-  pub finer : (x y : ℕ) → x < length old.rows → y < length old.rows → block_of new x ≡ block_of new y → block_of old x ≡ block_of old y
-  pub agrees : (x y : ℕ) → x < length old.rows → y < length old.rows → block_of new x ≡ block_of new y → block_of old x ≡ block → is_marked old x ≡ is_marked old y
-  pub kept : (x y : ℕ) → x < length old.rows → y < length old.rows → block_of old x ≡ block_of old y → (block_of old x ≡ block → is_marked old x ≡ is_marked old y) → block_of new x ≡ block_of new y
-  pub numbers : (x : ℕ) → x < length old.rows → ((block_of new x ≡ block_of old x) × (size_of new (block_of old x) ≤ size_of old (block_of old x))) ⊎ ((block_of old x ≡ block) × (length old.sizes ≤ block_of new x) × (2 * size_of new (block_of new x) ≤ size_of old block))
+  pub finer : (x y : ℕ) → x < length old.rows → y < length old.rows → block_of new x ≡ block_of new y
+      → block_of old x ≡ block_of old y
+  pub agrees : (x y : ℕ) → x < length old.rows → y < length old.rows → block_of new x ≡ block_of new y
+      → block_of old x ≡ block → is_marked old x ≡ is_marked old y
+  pub kept : (x y : ℕ) → x < length old.rows → y < length old.rows → block_of old x ≡ block_of old y
+      → (block_of old x ≡ block → is_marked old x ≡ is_marked old y) → block_of new x ≡ block_of new y
+  pub numbers : (x : ℕ) → x < length old.rows
+      → ((block_of new x ≡ block_of old x) × (size_of new (block_of old x) ≤ size_of old (block_of old x)))
+      ⊎ ((block_of old x ≡ block) × (length old.sizes ≤ block_of new x)
+      × (2 * size_of new (block_of new x) ≤ size_of old block))
   pub others : (x : ℕ) → x < length old.rows → (block_of old x ≡ block → ⊥) → is_marked new x ≡ is_marked old x
   pub unmarked : slice_index new.marks block ≡ 0
   pub other_marks : (other : ℕ) → (other ≡ block → ⊥) → slice_index new.marks other ≡ slice_index old.marks other
@@ -81,21 +92,28 @@ pub record Refines (old new : Parts) : Type 0 where
   pub partition : IsPartition new
   pub rows_len : length new.rows ≡ length old.rows
   pub more : length old.sizes ≤ length new.sizes
-  pub finer : (x y : ℕ) → x < length old.rows → y < length old.rows → block_of new x ≡ block_of new y → block_of old x ≡ block_of old y
-  pub numbers : (x : ℕ) → x < length old.rows → ((block_of new x ≡ block_of old x) × (size_of new (block_of old x) ≤ size_of old (block_of old x))) ⊎ ((length old.sizes ≤ block_of new x) × (2 * size_of new (block_of new x) ≤ size_of old (block_of old x)))
+  pub finer : (x y : ℕ) → x < length old.rows → y < length old.rows → block_of new x ≡ block_of new y
+      → block_of old x ≡ block_of old y
+  pub numbers : (x : ℕ) → x < length old.rows
+      → ((block_of new x ≡ block_of old x) × (size_of new (block_of old x) ≤ size_of old (block_of old x)))
+      ⊎ ((length old.sizes ≤ block_of new x) × (2 * size_of new (block_of new x) ≤ size_of old (block_of old x)))
   pub clear : (block : ℕ) → slice_index new.marks block ≡ 0
 
 -- each block is split into its rows among `hits` and the others
 pub record SplitsBy (old : Parts) (hits : List ℕ) (new : Parts) : Type 0 where
   pub refines : Refines old new
-  pub agrees : (x y : ℕ) → x < length old.rows → y < length old.rows → block_of new x ≡ block_of new y → is_in hits x ≡ is_in hits y
-  pub kept : (x y : ℕ) → x < length old.rows → y < length old.rows → block_of old x ≡ block_of old y → is_in hits x ≡ is_in hits y → block_of new x ≡ block_of new y
+  pub agrees : (x y : ℕ) → x < length old.rows → y < length old.rows → block_of new x ≡ block_of new y
+      → is_in hits x ≡ is_in hits y
+  pub kept : (x y : ℕ) → x < length old.rows → y < length old.rows → block_of old x ≡ block_of old y
+      → is_in hits x ≡ is_in hits y → block_of new x ≡ block_of new y
 
 -- each block is split into its rows with equal keys
 pub record SplitsByKey (old : Parts) (keys : List ℕ) (new : Parts) : Type 0 where
   pub refines : Refines old new
-  pub agrees : (x y : ℕ) → x < length old.rows → y < length old.rows → block_of new x ≡ block_of new y → slice_index keys x ≡ slice_index keys y
-  pub kept : (x y : ℕ) → x < length old.rows → y < length old.rows → block_of old x ≡ block_of old y → slice_index keys x ≡ slice_index keys y → block_of new x ≡ block_of new y
+  pub agrees : (x y : ℕ) → x < length old.rows → y < length old.rows → block_of new x ≡ block_of new y
+      → slice_index keys x ≡ slice_index keys y
+  pub kept : (x y : ℕ) → x < length old.rows → y < length old.rows → block_of old x ≡ block_of old y
+      → slice_index keys x ≡ slice_index keys y → block_of new x ≡ block_of new y
 
 -- a range of rows is a new block, the last one
 pub record AddsBlock (old : Parts) (start size : ℕ) (new : Parts) : Type 0 where
@@ -105,8 +123,17 @@ pub record AddsBlock (old : Parts) (start size : ℕ) (new : Parts) : Type 0 whe
   pub sizes : new.sizes ≡ old.sizes ++ size ∷ []
   pub marks : new.marks ≡ old.marks ++ 0 ∷ []
   pub blocks_len : length new.blocks ≡ length old.blocks
-  pub blocks : (row : ℕ) → row < length old.rows → block_of new row ≡ cond (leb start (slice_index old.places row) && ltb (slice_index old.places row) (start + size)) (length old.sizes) (block_of old row)
+  pub blocks : (row : ℕ) → row < length old.rows
+      → block_of new row
+      ≡ cond (leb start (slice_index old.places row) && ltb (slice_index old.places row) (start + size))
+      (length old.sizes) (block_of old row)
 
 -- the rows at two places exchanged: `row` stands at `place` at first, and at `front` in the end
 abbrev pub swapped : Parts → ℕ → ℕ → ℕ → Parts
-swapped p row place front = record p { rows = slice_set (slice_set p.rows place (slice_index p.rows front)) front row; places = slice_set (slice_set p.places (slice_index p.rows front) place) row front }
+swapped p row place front =
+    record p {
+      rows =
+          slice_set (slice_set p.rows place (slice_index p.rows front)) front row;
+      places =
+          slice_set (slice_set p.places (slice_index p.rows front) place) row front;
+    }

@@ -1,6 +1,7 @@
 //! The columns of a table: for each unit the rows to which it leads.
 
-ghost use Rattle.std.specs.Prelude.{◌≡◌, ℕ, ◌+◌, ◌*◌, ◌<◌, ◌≤◌, [], ◌++◌, length, slice_index, slice_index_or, slice_range, IfOk, OnOk};
+ghost use Rattle.std.specs.Prelude.{◌≡◌, ℕ, ◌+◌, ◌*◌, ◌<◌, ◌≤◌, [], ◌++◌, length, slice_index, slice_index_or};
+ghost use Rattle.std.specs.Prelude.{slice_range, IfOk, OnOk};
 ghost use Rattle.rx_refine.specs.Layouts.{AreColumns};
 
 use crate::table::Table;
@@ -102,7 +103,9 @@ fn empty_columns(alloc: Global, rows: usize, units: usize) -> Result<Vec<Column>
 /// Adds so many cells to each column. They stand in `transposed`, column after column.
 fn add_cells(count: usize, transposed: &[u32], columns: &mut [Column]) -> Result<(), AllocError>
     requires room { length columns.old * count ≤ length transposed.now }
-    ensures { IfOk result (λ _. (unit : ℕ) → unit < length columns.old → slice_index_or columns.new unit [] ≡ slice_index_or columns.old unit [] ++ slice_range transposed.now (unit * count) ((unit + 1) * count)) }
+    ensures { IfOk result (λ _. (unit : ℕ) → unit < length columns.old
+        → slice_index_or columns.new unit []
+        ≡ slice_index_or columns.old unit [] ++ slice_range transposed.now (unit * count) ((unit + 1) * count)) }
 {
     for unit in 0..columns.len() {
         columns[unit].extend(&transposed[unit * count..(unit + 1) * count])?;

@@ -2,7 +2,8 @@
 
 ghost use Rattle.std.specs.Prelude.{◌≡◌, ℕ, ◌+◌, ◌<◌, ◌≤◌, ◌^◌, ◌++◌, length, slice_index, All, IfOk, OnOk};
 ghost use Rattle.std.specs.List.{flat_map, sum_by};
-ghost use Rattle.rx_refine.specs.Moves.{AreMoves, Moves, sources, read_limit, AreAlikeByNumber, AreToldByNumber, AreWithoutGaps};
+ghost use Rattle.rx_refine.specs.Moves.{AreMoves, Moves, sources, read_limit};
+ghost use Rattle.rx_refine.specs.Moves.{AreAlikeByNumber, AreToldByNumber, AreWithoutGaps};
 ghost use Rattle.rx_refine.specs.Kept.{parts};
 ghost use Rattle.rx_refine.specs.Labelled.{IsByLabel};
 ghost use Rattle.rx_refine.specs.Parts.{IsPartition};

@@ -53,7 +53,8 @@ fn set_keys<L>(
     requires keys { length keys.old ≡ incoming.now.rows }
     requires room { steps.old + (1 + length (sources incoming.now row unit)) < 2 ^ 64 }
     ensures len { length keys.new ≡ length keys.old }
-    ensures keys { (x : ℕ) → x < length keys.old → slice_index keys.new x ≡ cond (is_in (sources incoming.now row unit) x) key (slice_index keys.old x) }
+    ensures keys { (x : ℕ) → x < length keys.old
+        → slice_index keys.new x ≡ cond (is_in (sources incoming.now row unit) x) key (slice_index keys.old x) }
     ensures steps { steps.new ≡ steps.old + (1 + length (sources incoming.now row unit)) }
 {
     let count = incoming.count(row, unit, steps);

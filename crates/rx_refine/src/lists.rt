@@ -48,7 +48,8 @@ impl<L> Incoming<L> {
         requires nexts { All (λ row. row < rows) next.now }
         ensures rows { IfOk result (λ incoming. incoming.rows ≡ rows) }
         ensures units { IfOk result (λ incoming. incoming.units ≡ units) }
-        ensures next { IfOk result (λ incoming. (row unit : ℕ) → row < rows → unit < units → next_row incoming row unit ≡ slice_index next.now (row * units + unit)) }
+        ensures next { IfOk result (λ incoming. (row unit : ℕ) → row < rows → unit < units
+            → next_row incoming row unit ≡ slice_index next.now (row * units + unit)) }
         ensures moves { IfOk result AreMoves }
     {
         Incoming::from_table(alloc, &Table::from_rows(rows, units, next))
@@ -69,10 +70,12 @@ impl<L> Incoming<L> {
         requires stride { stride2 ≤ 30 }
         requires units { units ≤ 2 ^ stride2 }
         requires cells { rows * 2 ^ stride2 ≤ length table.now }
-        requires ids { (row unit : ℕ) → row < rows → unit < units → slice_index table.now (row * 2 ^ stride2 + unit) / 2 ^ stride2 < rows }
+        requires ids { (row unit : ℕ) → row < rows → unit < units
+            → slice_index table.now (row * 2 ^ stride2 + unit) / 2 ^ stride2 < rows }
         ensures rows { IfOk result (λ incoming. incoming.rows ≡ rows) }
         ensures units { IfOk result (λ incoming. incoming.units ≡ units) }
-        ensures next { IfOk result (λ incoming. (row unit : ℕ) → row < rows → unit < units → next_row incoming row unit ≡ slice_index table.now (row * 2 ^ stride2 + unit) / 2 ^ stride2) }
+        ensures next { IfOk result (λ incoming. (row unit : ℕ) → row < rows → unit < units
+            → next_row incoming row unit ≡ slice_index table.now (row * 2 ^ stride2 + unit) / 2 ^ stride2) }
         ensures moves { IfOk result AreMoves }
     {
         Incoming::from_table(alloc, &Table::from_ids(rows, units, stride2, table))
@@ -82,7 +85,8 @@ impl<L> Incoming<L> {
     fn from_table(alloc: Global, table: &Table<'_>) -> Result<Incoming<L>, AllocError>
         ensures rows { IfOk result (λ incoming. incoming.rows ≡ table.now.rows) }
         ensures units { IfOk result (λ incoming. incoming.units ≡ table.now.units) }
-        ensures next { IfOk result (λ incoming. (row unit : ℕ) → row < table.now.rows → unit < table.now.units → next_row incoming row unit ≡ next_at table.now row unit) }
+        ensures next { IfOk result (λ incoming. (row unit : ℕ) → row < table.now.rows → unit < table.now.units
+            → next_row incoming row unit ≡ next_at table.now row unit) }
         ensures moves { IfOk result AreMoves }
     {
         let rows = table.rows();

@@ -45,7 +45,8 @@ pub(crate) fn number_rows(
 /// two rows with different keys neither is counted, so such a key is left over.
 fn leading_key(members: &[u32], keys: &[u32]) -> u32
     requires { All (λ row. row < length keys.now) members.now }
-    ensures some { 0 < length members.now → (row : ℕ) × (is_in members.now row ≡ true) × (slice_index keys.now row ≡ result) }
+    ensures some { 0 < length members.now
+        → (row : ℕ) × (is_in members.now row ≡ true) × (slice_index keys.now row ≡ result) }
     ensures half { (key : ℕ) → (key ≡ result → ⊥) → 2 * how_many_have keys.now key members.now ≤ length members.now }
 {
     let mut leading = 0;

@@ -24,9 +24,11 @@ impl<'a> Model for Table<'a> {
 
     ghost Value = { Layout };
 
-    ghost view = { λ t. record { rows = t.rows; units = t.units; stride = t.stride; shift = t.shift; entries = t.entries.now } };
+    ghost view = { λ t.
+        record { rows = t.rows; units = t.units; stride = t.stride; shift = t.shift; entries = t.entries.now } };
 
-    ghost invariant = { λ t. IsLayout (record { rows = t.rows; units = t.units; stride = t.stride; shift = t.shift; entries = t.entries.now }) };
+    ghost invariant = { λ t. IsLayout
+        (record { rows = t.rows; units = t.units; stride = t.stride; shift = t.shift; entries = t.entries.now }) };
 }
 
 impl<'a> Table<'a> {
@@ -58,8 +60,10 @@ impl<'a> Table<'a> {
         requires stride { stride2 ≤ 30 }
         requires units { units ≤ 2 ^ stride2 }
         requires cells { rows * 2 ^ stride2 ≤ length entries.now }
-        requires ids { (row unit : ℕ) → row < rows → unit < units → slice_index entries.now (row * 2 ^ stride2 + unit) / 2 ^ stride2 < rows }
-        ensures { result ≡ record { rows = rows; units = units; stride = 2 ^ stride2; shift = stride2; entries = entries.now } }
+        requires ids { (row unit : ℕ) → row < rows → unit < units
+            → slice_index entries.now (row * 2 ^ stride2 + unit) / 2 ^ stride2 < rows }
+        ensures { result
+            ≡ record { rows = rows; units = units; stride = 2 ^ stride2; shift = stride2; entries = entries.now } }
     {
         Table {
             rows,
@@ -100,7 +104,8 @@ impl<'a> Table<'a> {
     pub(crate) fn transpose(&self, first: usize, count: usize, transposed: &mut [u32])
         requires rows { first + count ≤ self.now.rows }
         requires room { count * self.now.units ≤ length transposed.old }
-        ensures { (row unit : ℕ) → row < count → unit < self.now.units → slice_index transposed.new (unit * count + row) ≡ next_at self.now (first + row) unit }
+        ensures { (row unit : ℕ) → row < count → unit < self.now.units
+            → slice_index transposed.new (unit * count + row) ≡ next_at self.now (first + row) unit }
     {
         for row in 0..count {
             for unit in 0..self.units() {

@@ -103,7 +103,8 @@ fn padded(
     requires stride { stride ≤ 1024 }
     requires units { units ≤ stride }
     ensures len { IfOk result (λ table. length table.items ≡ rows * stride) }
-    ensures ids { IfOk result (λ table. (row unit : ℕ) → row < rows → unit < units → slice_index table.items (row * stride + unit) / stride < rows) }
+    ensures ids { IfOk result (λ table. (row unit : ℕ) → row < rows → unit < units
+        → slice_index table.items (row * stride + unit) / stride < rows) }
 {
     let mut table = vec![in alloc; u32::MAX; rows * stride]?;
     for row in 0..rows {

@@ -38,6 +38,7 @@ module _ (b : Build) (direction : Direction) (q : Query) (going : is_done q ≡ 
           → whole_walk (power b) direction q (Running s) ≡ build_half_search b direction q
       by_refusal (Some refused) given e = absurd (cc)
       by_refusal None given e =
-          let row = build_start b (beside direction q) q.mode (started (build_settings b) (beside direction q) q.mode given) in
+          let row =
+          build_start b (beside direction q) q.mode (started (build_settings b) (beside direction q) q.mode given) in
           ap (whole_walk (power b) direction q) (is ∙ sym row)
           ∙ sym (half_walks (power b) (build_settings b) direction q going given)

@@ -1,5 +1,6 @@
 -- Whether the rows have a Unicode word assertion, told by the set of their assertions.
-use Rattle.std.proofs.Common.{◌≡◌, ℕ, ◌↔◌, Bool, true, false, ◌||◌, ◌==◌, List, [], ◌∷◌, refl, sym, ap, ◌∙◌, ⊎_elim, true≢false, eqb-true, eq-eqb}
+use Rattle.std.proofs.Common.{◌≡◌, ℕ, ◌↔◌, Bool, true, false, ◌||◌, ◌==◌, List, [], ◌∷◌, refl, sym, ap, ◌∙◌}
+use Rattle.std.proofs.Common.{⊎_elim, true≢false, eqb-true, eq-eqb}
 use Rattle.std.specs.Prelude.{IsTrue}
 use Rattle.std.specs.List.{list_any}
 use Rattle.std.proofs.lemmas.Bool.{cases_Bool}
@@ -38,14 +39,17 @@ same_number : (look other : Look) → look_number look ≡ look_number other →
 same_number look other e = by_number look ∙ ap is_unicode_number e ∙ sym (by_number other)
 
 -- a row that has the assertion
-row_told : (look : Look) (row : Row) → is_unicode_word look ≡ true → asserts look row ≡ true → looks_for_unicode_word row ≡ true
-row_told look (Row.Look other next) u h = sym (same_number look other (eqb-true (look_number look) (look_number other) h)) ∙ u
+row_told : (look : Look) (row : Row) → is_unicode_word look ≡ true → asserts look row ≡ true
+    → looks_for_unicode_word row ≡ true
+row_told look (Row.Look other next) u h =
+    sym (same_number look other (eqb-true (look_number look) (look_number other) h)) ∙ u
 row_told look (Row.Bytes set next) u h = absurd (true≢false (sym h))
 row_told look (Row.Split first second) u h = absurd (true≢false (sym h))
 row_told look (Row.Match pattern) u h = absurd (true≢false (sym h))
 row_told look Row.Fail u h = absurd (true≢false (sym h))
 
-rows_told : (look : Look) (rows : List Row) → is_unicode_word look ≡ true → has_look rows look ≡ true → list_any looks_for_unicode_word rows ≡ true
+rows_told : (look : Look) (rows : List Row) → is_unicode_word look ≡ true → has_look rows look ≡ true
+    → list_any looks_for_unicode_word rows ≡ true
 rows_told look [] u h = h
 rows_told look (row ∷ rows) u h =
     ⊎_elim
@@ -58,14 +62,16 @@ rows_told look (row ∷ rows) u h =
     (cases_Bool (asserts look row))
 
 -- the assertion that a row has
-row_has : (row : Row) → looks_for_unicode_word row ≡ true → (look : Look) × (is_unicode_word look ≡ true) × (asserts look row ≡ true)
+row_has : (row : Row) → looks_for_unicode_word row ≡ true
+    → (look : Look) × (is_unicode_word look ≡ true) × (asserts look row ≡ true)
 row_has (Row.Look look next) h = (look, h, eq-eqb (look_number look) (look_number look) refl)
 row_has (Row.Bytes set next) h = absurd (true≢false (sym h))
 row_has (Row.Split first second) h = absurd (true≢false (sym h))
 row_has (Row.Match pattern) h = absurd (true≢false (sym h))
 row_has Row.Fail h = absurd (true≢false (sym h))
 
-rows_have : (rows : List Row) → list_any looks_for_unicode_word rows ≡ true → (look : Look) × (is_unicode_word look ≡ true) × (has_look rows look ≡ true)
+rows_have : (rows : List Row) → list_any looks_for_unicode_word rows ≡ true
+    → (look : Look) × (is_unicode_word look ≡ true) × (has_look rows look ≡ true)
 rows_have [] h = absurd (true≢false (sym h))
 rows_have (row ∷ rows) h =
     ⊎_elim
@@ -82,7 +88,10 @@ rows_have (row ∷ rows) h =
     (cases_Bool (looks_for_unicode_word row))
 
 -- what the set of assertions tells
-pub unicode_told : (rows : List Row) (set : ℕ) (told : Bool) → ((look : Look) → holds_look set look ≡ has_look rows look) → (IsTrue told ↔ ((look : Look) × (is_unicode_word look ≡ true) × (holds_look set look ≡ true))) → told ≡ list_any looks_for_unicode_word rows
+pub unicode_told : (rows : List Row) (set : ℕ) (told : Bool)
+    → ((look : Look) → holds_look set look ≡ has_look rows look)
+    → (IsTrue told ↔ ((look : Look) × (is_unicode_word look ≡ true) × (holds_look set look ≡ true)))
+    → told ≡ list_any looks_for_unicode_word rows
 unicode_told rows set told holds iff =
     ⊎_elim
     (λ (t : list_any looks_for_unicode_word rows ≡ true).
@@ -90,7 +99,8 @@ unicode_told rows set told holds iff =
     iff.1 (a.0, a.1, holds a.0 ∙ a.2) ∙ sym t)
     (λ (f : list_any looks_for_unicode_word rows ≡ false).
     ⊎_elim
-    (λ (yes_told : told ≡ true). absurd (let a = iff.0 yes_told in true≢false (sym (rows_told a.0 rows a.1 (sym (holds a.0) ∙ a.2)) ∙ f)))
+    (λ (yes_told : told ≡ true). let a = iff.0 yes_told in
+    absurd (true≢false (sym (rows_told a.0 rows a.1 (sym (holds a.0) ∙ a.2)) ∙ f)))
     (λ (not_told : told ≡ false). not_told ∙ sym f)
     (cases_Bool told))
     (cases_Bool (list_any looks_for_unicode_word rows))

@@ -1,6 +1,6 @@
 -- The walk of a build's states over the span of a query, by how many of its bytes are read.
-use Rattle.std.proofs.Common.{◌≡◌, ℕ, suc, ◌+◌, ◌-◌, ◌<◌, ◌≤◌, Bool, true, false, if◌then◌else◌, Option, Some, None, Ok, Err, List, [], ◌∷◌}
-use Rattle.std.proofs.Common.{length, refl, ap, ap₂, sym, ◌∙◌, arith}
+use Rattle.std.proofs.Common.{◌≡◌, ℕ, suc, ◌+◌, ◌-◌, ◌<◌, ◌≤◌, Bool, true, false, if◌then◌else◌, Option, Some, None}
+use Rattle.std.proofs.Common.{Ok, Err, List, [], ◌∷◌, length, refl, ap, ap₂, sym, ◌∙◌, arith}
 use Rattle.std.specs.Prelude.{slice_index}
 use Rattle.rx_spec.specs.Bytes.{contains, unit_of}
 use Rattle.rx_spec.specs.Looks.{after}
@@ -32,8 +32,8 @@ first_is : (direction : Direction) (q : Query) → first_offset direction q ≡ 
 first_is Direction.Forward q = omega arith
 first_is Direction.Reverse q = omega arith
 
-pub walk_begun : (b : Build) (direction : Direction) (q : Query) (s : State) → q.start ≤ q.end → q.end ≤ length q.haystack
-    → whole_walk (power b) direction q (Running s) ≡ walk_left b direction q s None 0
+pub walk_begun : (b : Build) (direction : Direction) (q : Query) (s : State) → q.start ≤ q.end
+    → q.end ≤ length q.haystack → whole_walk (power b) direction q (Running s) ≡ walk_left b direction q s None 0
 walk_begun b direction q s begun within =
     let none : first_place direction q ≡ first_place direction q + 0 = omega arith in
     let all : suc (q.end - q.start) ≡ suc (q.end - q.start) - 0 = omega arith in
@@ -95,7 +95,8 @@ module _ {direction : Direction} {q : Query} (t : Turn direction q) where
       offset_within Direction.Forward = omega (arith, t.begun, t.within, t.more)
       offset_within Direction.Reverse = omega (arith, t.begun, t.within, t.more)
 
-      byte_ahead : (d : Direction) (offset : ℕ) → unit_of (next_byte d q.haystack offset) ≡ unit_ahead d q.haystack offset
+      byte_ahead : (d : Direction) (offset : ℕ)
+          → unit_of (next_byte d q.haystack offset) ≡ unit_ahead d q.haystack offset
       byte_ahead Direction.Forward offset = refl
       byte_ahead Direction.Reverse offset = refl
 
@@ -103,7 +104,8 @@ module _ {direction : Direction} {q : Query} (t : Turn direction q) where
   left_more =
       let r = reading direction 0 q.haystack in
       let place = first_place direction q + t.read in
-      let count : suc (q.end - q.start) - t.read ≡ suc (suc (q.end - q.start) - (t.read + 1)) = omega (arith, t.more) in
+      let count : suc (q.end - q.start) - t.read ≡ suc (suc (q.end - q.start) - (t.read + 1)) =
+      omega (arith, t.more) in
       let behind : place + 1 ≡ first_place direction q + (t.read + 1) = omega arith in
       ap (units_from r place) count ∙ units_from-suc r place (suc (q.end - q.start) - (t.read + 1))
       ∙ ap₂ (λ u i. u ∷ units_from r i (suc (q.end - q.start) - (t.read + 1))) unit_there behind
@@ -118,9 +120,11 @@ module _ {direction : Direction} {q : Query} (t : Turn direction q) where
         → walk_left b direction q t.state last t.read ≡ Err (MatchError.Quit t.unit (unit_offset direction t.offset))
     turn_quits quits =
         walk_more
-        ∙ walk_quits b direction q.earliest t.state t.unit t.offset last (units_left direction q (t.read + 1)) t.alive quits
+        ∙ walk_quits b direction q.earliest t.state t.unit t.offset last (units_left direction q (t.read + 1)) t.alive
+        quits
 
-    module _ (goes : contains b.quit t.unit ≡ false) (next : State) (is : next ≡ step b.nfa b.kind t.state t.unit) where
+    module _ (goes : contains b.quit t.unit ≡ false) (next : State)
+        (is : next ≡ step b.nfa b.kind t.state t.unit) where
       -- what a label of the next state makes of the walk from there
       abbrev on_label : List ℕ → HalfAnswer
       on_label label =
@@ -131,7 +135,8 @@ module _ {direction : Direction} {q : Query} (t : Turn direction q) where
       walk_on : (label : List ℕ) → next.label ≡ label → walk_left b direction q t.state last t.read ≡ on_label label
       walk_on label e =
           walk_more
-          ∙ walk_steps b direction q.earliest t.state t.unit t.offset last (units_left direction q (t.read + 1)) t.alive goes
+          ∙ walk_steps b direction q.earliest t.state t.unit t.offset last (units_left direction q (t.read + 1))
+          t.alive goes
           ∙ ap (walk_after b direction q.earliest t.unit t.offset last (units_left direction q (t.read + 1))) (sym is)
           ∙ ap (λ o. let met = last_match (label_of next.label) t.offset last in
           at_label (label_of next.label) direction q.earliest t.unit t.offset (Ok met)

@@ -19,9 +19,12 @@ use Rattle.rx_regex.specs.declared.find.Answer.{Answer}
 -- an NFA that is refused, as a refusal of a build
 abbrev pub refused_nfa : nfa.BuildError → BuildError
 refused_nfa nfa.BuildError.Memory = record { kind = BuildErrorKind.Memory }
-refused_nfa (nfa.BuildError.TooManyPatterns given) = record { kind = BuildErrorKind.NFA (nfa.BuildError.TooManyPatterns given) }
-refused_nfa (nfa.BuildError.TooManyStates given) = record { kind = BuildErrorKind.NFA (nfa.BuildError.TooManyStates given) }
-refused_nfa (nfa.BuildError.ExceededSizeLimit limit) = record { kind = BuildErrorKind.NFA (nfa.BuildError.ExceededSizeLimit limit) }
+refused_nfa (nfa.BuildError.TooManyPatterns given) =
+    record { kind = BuildErrorKind.NFA (nfa.BuildError.TooManyPatterns given) }
+refused_nfa (nfa.BuildError.TooManyStates given) =
+    record { kind = BuildErrorKind.NFA (nfa.BuildError.TooManyStates given) }
+refused_nfa (nfa.BuildError.ExceededSizeLimit limit) =
+    record { kind = BuildErrorKind.NFA (nfa.BuildError.ExceededSizeLimit limit) }
 
 -- the cause that a refusal names, in a relation of causes; the want of memory names none
 abbrev pub NamesNfa : (Cause → Type 0) → nfa.BuildError → Type 0

@@ -1,7 +1,6 @@
 //! The two searches of a plan, and the two joined.
 
-ghost use Rattle.std.specs.Prelude.{◌≡◌, ◌≤◌, IfOk, IfErr, IfSome, Some, Ok, All, length, false};
-ghost use Rattle.rx_spec.specs.Bytes.{AreBytes};
+ghost use Rattle.std.specs.Prelude.{◌≡◌, ◌≤◌, IfOk, IfErr, IfSome, Some, Ok, All, length};
 ghost use Rattle.rx_spec.specs.Classes.{quit_set, has_unicode_word};
 ghost use Rattle.rx_spec.specs.Expressions.{IsLoopSafe};
 ghost use Rattle.rx_spec.specs.Joining.{back_from};
@@ -11,8 +10,8 @@ ghost use Rattle.rx_base.specs.Input.{query_of};
 ghost use Rattle.rx_expr.specs.Compiler.{asked_by};
 ghost use Rattle.rx_expr.specs.Nfa.{meaning};
 ghost use Rattle.rx_plan.specs.Plan.{plan_of};
-ghost use Rattle.rx_regex.specs.Engine.{build_of, build_half_search, asked_for, Says};
-ghost use Rattle.rx_regex.specs.Pairs.{IsPair, joined_by, IsStart, HasStart};
+ghost use Rattle.rx_regex.specs.Engine.{build_of, build_half_search, asked_for};
+ghost use Rattle.rx_regex.specs.Pairs.{IsPair, Finds, IsStart, HasStart};
 ghost use Rattle.rx_regex.specs.Find.{AreBuilt, PlanRefused, IsRefused, IsPaired};
 
 use crate::engine::Engine;
@@ -28,12 +27,16 @@ use std::alloc::{AllocError, Global};
 pub(crate) struct Built {
     pub(crate) forward: Engine,
     pub(crate) reverse: Engine,
+
+    // They are the builds of one plan and one list of expressions.
+    ghost pair: { ∥ IsPair (build_of forward) (build_of reverse) ∥₁ },
 }
 
 impl Built {
     /// The searches of a plan; the forward one is built, and may be refused, first.
     pub(crate) fn new(alloc: Global, exprs: &[Expr], plan: &Plan) -> Result<Built, BuildError>
-        ensures ok { IfOk result (λ built. AreBuilt (plan_of plan.now) exprs.now (build_of built.forward) (build_of built.reverse)) }
+        ensures ok { IfOk result (λ built.
+            AreBuilt (plan_of plan.now) exprs.now (build_of built.forward) (build_of built.reverse)) }
         ensures err { IfErr result (λ error. IsRefused (PlanRefused (plan_of plan.now) exprs.now) error.kind) }
     {
         let forward = build(alloc, exprs, plan, Direction::Forward)?;
@@ -41,22 +44,18 @@ impl Built {
         Ok(Built { forward, reverse })
     }
 
-    /// The leftmost match of an input, whatever it says of the first match met.
+    /// The leftmost match of an input, whatever it says of the first match met: that of the plan and the
+    /// expressions of which these are the searches.
     pub(crate) fn search(
         &self,
         alloc: Global,
         input: &Input<'_>,
     ) -> Result<Option<Match>, SearchError>
         requires fits { IsFit (query_of input.now) }
-        // They are the builds of one plan, of expressions whose repetitions are bounded.
-        requires pair { IsPair (build_of self.now.forward) (build_of self.now.reverse) }
-        ensures answer { Says result (joined_by (build_of self.now.forward) (build_of self.now.reverse) (record (query_of input.now) { earliest = false })) }
+        ensures answer { Finds (build_of self.now.forward) (build_of self.now.reverse) (query_of input.now) result }
         ensures within { IfOk result (λ found. IfSome found (LiesIn (query_of input.now))) }
         ensures paired { IfErr result IsPaired }
     {
-        rx_meaning::joined::joined_end();
-        rx_meaning::joined::never_mismatched();
-        learn_bytes(input.haystack());
         let input = Input::new(input.haystack())
             .span(input.get_span())
             .anchored(input.get_anchored());
@@ -81,9 +80,12 @@ impl Built {
         end: &HalfMatch,
     ) -> Result<usize, AllocError>
         requires fits { IsFit (query_of input.now) }
-        requires begins { HasStart (build_of self.now.forward) (build_of self.now.reverse) (query_of input.now) end.now }
-        requires told { build_half_search (build_of self.now.forward) Direction.Forward (query_of input.now) ≡ Ok (Some end.now) }
-        ensures { IfOk result (IsStart (build_of self.now.forward) (build_of self.now.reverse) (query_of input.now) end.now) }
+        requires begins { HasStart (build_of self.now.forward) (build_of self.now.reverse)
+            (query_of input.now) end.now }
+        requires told { build_half_search (build_of self.now.forward) Direction.Forward (query_of input.now)
+            ≡ Ok (Some end.now) }
+        ensures { IfOk result
+            (IsStart (build_of self.now.forward) (build_of self.now.reverse) (query_of input.now) end.now) }
     {
         if end.offset() == input.start()
             || input.get_anchored().is_anchored()
@@ -100,11 +102,6 @@ impl Built {
         }
     }
 }
-
-/// What is in a slice of bytes.
-pub(crate) fn learn_bytes(haystack: &[u8])
-    ensures { AreBytes haystack.now }
-{}
 
 /// The input for the start of a match that ends at a place.
 fn input_before<'h>(input: &Input<'h>, end: usize) -> Input<'h>
@@ -128,7 +125,8 @@ fn build(
     ensures ok { IfOk result (λ engine. build_of engine ≡ plan_build (plan_of plan.now) direction exprs.now) }
     ensures compiled { IfOk result (λ _. IsCompiled (plan_of plan.now) direction exprs.now) }
     ensures safe { IfOk result (λ _. All IsLoopSafe exprs.now) }
-    ensures err { IfErr result (λ error. IsRefused (DirectionRefused (plan_of plan.now) direction exprs.now) error.kind) }
+    ensures err { IfErr result (λ error.
+        IsRefused (DirectionRefused (plan_of plan.now) direction exprs.now) error.kind) }
 {
     let nfa = compiler(plan, direction).build_many(alloc, exprs)?;
     let quit = quit_bytes(&nfa, plan);

@@ -63,7 +63,9 @@ impl Engine {
         input: &Input<'_>,
         direction: Direction,
     ) -> Option<MatchError>
-        ensures { result ≡ option_map (match_error direction (query_of input.now)) (start_error (build_settings (build_of self.now)) config.now.beside config.now.mode) }
+        ensures { result
+            ≡ option_map (match_error direction (query_of input.now))
+            (start_error (build_settings (build_of self.now)) config.now.beside config.now.mode) }
     {
         if let Some(byte) = config.get_look_behind() {
             if self.quit.contains(byte) {
@@ -90,7 +92,9 @@ impl Engine {
 
     /// The state in which a search starts that isn't refused; a pattern past the list has a dead one.
     fn start(&self, alloc: Global, config: &Config) -> Result<PowerState, AllocError>
-        ensures { IfOk result (λ s. Running (state_of s) ≡ start_node (meaning self.now.nfa) (nfa_start (meaning self.now.nfa) config.now.mode) (start_of (meaning self.now.nfa).line_terminator config.now.beside)) }
+        ensures { IfOk result (λ s. Running (state_of s)
+            ≡ start_node (meaning self.now.nfa) (nfa_start (meaning self.now.nfa) config.now.mode)
+            (start_of (meaning self.now.nfa).line_terminator config.now.beside)) }
     {
         let row = match config.get_anchored() {
             Anchored::No => Some(self.nfa.start_unanchored()),
@@ -126,7 +130,8 @@ impl Engine {
     ) -> Result<Option<HalfMatch>, SearchError>
         requires fits { IsFit (query_of input.now) }
         requires begun { (query_of input.now).start ≤ (query_of input.now).end }
-        ensures { Says result (whole_walk (power (build_of self.now)) direction (query_of input.now) (Running (state_of start))) }
+        ensures { Says result
+            (whole_walk (power (build_of self.now)) direction (query_of input.now) (Running (state_of start))) }
     {
         let mut state = start;
         let mut last = None;
@@ -153,7 +158,9 @@ impl Engine {
 
     /// Why a walk ends at a unit, read next at an offset: it is a quit byte.
     fn quit_error(&self, unit: Unit, direction: Direction, offset: usize) -> Option<MatchError>
-        ensures { MatchOption result (contains self.now.quit (unit_number unit) ≡ false) (λ error. (contains self.now.quit (unit_number unit) ≡ true) × (error ≡ SearchFault.Quit (unit_number unit) (unit_offset direction offset))) }
+        ensures { MatchOption result (contains self.now.quit (unit_number unit) ≡ false)
+            (λ error. (contains self.now.quit (unit_number unit) ≡ true)
+            × (error ≡ SearchFault.Quit (unit_number unit) (unit_offset direction offset))) }
     {
         let byte = match unit {
             Unit::Byte(byte) => byte,

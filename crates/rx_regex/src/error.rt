@@ -21,7 +21,9 @@ pub enum BuildErrorKind {
     #[error("error building NFA")]
     NFA(thompson::BuildError),
     /// An expression has a Unicode word assertion, and a byte from 0x80 on is no quit byte.
-    #[error("unsupported regex feature for DFAs: cannot build DFAs for regexes with Unicode word boundaries; switch to ASCII word boundaries, or heuristically enable Unicode word boundaries or use a different regex engine")]
+    #[error("unsupported regex feature for DFAs: cannot build DFAs for regexes with Unicode word boundaries; \
+             switch to ASCII word boundaries, or heuristically enable Unicode word boundaries or use a different \
+             regex engine")]
     Unsupported,
     /// Memory ran out.
     #[error("out of memory")]

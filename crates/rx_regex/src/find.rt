@@ -7,7 +7,7 @@ ghost use Rattle.rx_plan.specs.Plan.{plan_of};
 ghost use Rattle.rx_regex.specs.Plan.{IsBuilt};
 ghost use Rattle.rx_regex.specs.Find.{Answers, IsPaired, Tells, IsFault};
 
-use crate::built::{Built, learn_bytes};
+use crate::built::Built;
 use crate::error::{BuildError, BuildErrorKind, FindFault, SearchError};
 use rx_base::{Input, Match, MatchErrorKind};
 use rx_expr::Expr;
@@ -43,8 +43,6 @@ pub fn compile_and_find(
     // A match lies in the span that was searched, so the haystack can be sliced by it.
     ensures within { IfOk result (λ answer. IfSome answer.found (LiesIn (query_of input.now))) }
 {
-    rx_meaning::joined::joined_search();
-    learn_bytes(input.haystack());
     let built = match Built::new(alloc, exprs, plan) {
         Ok(built) => built,
         Err(error) => return Err(build_fault(error)),

@@ -222,7 +222,9 @@ fn quit_bytes_are_told(rt: HostRuntime) -> Result<(), Fail> {
 }
 
 const UNSUPPORTED: &str =
-    "unsupported regex feature for DFAs: cannot build DFAs for regexes with Unicode word boundaries; switch to ASCII word boundaries, or heuristically enable Unicode word boundaries or use a different regex engine";
+    "unsupported regex feature for DFAs: cannot build DFAs for regexes with Unicode word boundaries; \
+     switch to ASCII word boundaries, or heuristically enable Unicode word boundaries or use a different \
+     regex engine";
 
 const NFA_REFUSED: &str = "error building NFA";
 

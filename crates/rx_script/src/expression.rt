@@ -277,10 +277,7 @@ fn repeat(
 {
     let body = parts.pop().ok_or(bad(line))?;
     match Expr::repeat(alloc, least, most, greedy, body) {
-        Ok(whole) => {
-            let _ = whole.min_len();
-            Ok(parts.push(whole)?)
-        }
+        Ok(whole) => Ok(parts.push(whole)?),
         Err(error) => Err(refusal(line, error)),
     }
 }

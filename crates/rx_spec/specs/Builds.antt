@@ -1,5 +1,5 @@
 -- What is built: the powerset machine of an NFA, and which of its states are reached.
-use Rattle.std.specs.Prelude.{ℕ, ◌≡◌, ◌≢◌, ◌==◌, Bool, true, false, ◌&&◌, if◌then◌else◌, Option, Some, None, List, []}
+use Rattle.std.specs.Prelude.{ℕ, ◌≡◌, ◌≢◌, ◌==◌, Bool, false, ◌&&◌, if◌then◌else◌, Option, Some, None, List, []}
 use Rattle.std.specs.Prelude.{◌∷◌, ◌++◌, length, slice_get, Contains, map, AllPairs, All}
 use Rattle.std.specs.List.{range_with_len}
 use Rattle.rx_spec.specs.Bytes.{contains}

@@ -1,6 +1,6 @@
 -- Byte classes: runs of bytes that nothing in an NFA tells apart, so that one column of a table serves
 -- them all (the alphabet compression of lex, RE2 and regex-automata).
-use Rattle.std.specs.Prelude.{ℕ, zero, suc, ◌+◌, ◌-◌, ◌^◌, Bool, true, false, ◌==◌, ◌&&◌, ◌||◌, nat_le, if◌then◌else◌}
+use Rattle.std.specs.Prelude.{ℕ, zero, suc, ◌+◌, ◌^◌, Bool, true, false, ◌==◌, ◌&&◌, ◌||◌, nat_le, if◌then◌else◌}
 use Rattle.std.specs.Prelude.{bit_or, List, filter}
 use Rattle.std.specs.List.{list_any, range_with_len}
 use Rattle.rx_spec.specs.Bytes.{contains, between, is_word}

@@ -1,6 +1,6 @@
 -- Which expressions can match at the text's edge alone, by their form: an unanchored search of them begins
 -- there too, and so needs no lead-in.
-use Rattle.std.specs.Prelude.{ℕ, zero, suc, Bool, true, false, ◌&&◌, ◌||◌, ◌==◌, Some, None}
+use Rattle.std.specs.Prelude.{zero, suc, Bool, true, false, ◌&&◌, ◌||◌, ◌==◌, Some, None}
 use Rattle.rx_spec.specs.Expressions.{Expression}
 use Rattle.rx_spec.specs.declared.Direction.{Direction}
 use Rattle.rx_spec.specs.declared.Look.{Look}

@@ -1,6 +1,6 @@
 -- Half searches over a machine: they tell one side of a match, its end forward, its start in reverse. The
 -- names are those of regex-automata.
-use Rattle.std.specs.Prelude.{ℕ, ◌+◌, ◌-◌, Bool, true, false, if◌then◌else◌, Option, Some, None, Result, Ok, Err, List}
+use Rattle.std.specs.Prelude.{ℕ, ◌+◌, ◌-◌, Bool, if◌then◌else◌, Option, Some, None, Result, Ok, Err, List}
 use Rattle.std.specs.Prelude.{[], ◌∷◌, ◌++◌, take, drop, reverse}
 use Rattle.rx_spec.specs.Bytes.{unit_of}
 use Rattle.rx_spec.specs.Looks.{before, after}

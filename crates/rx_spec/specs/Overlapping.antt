@@ -1,6 +1,6 @@
 -- Overlapping searches over a machine: they tell every pattern of every match row, one after another. The
 -- names are those of regex-automata.
-use Rattle.std.specs.Prelude.{ℕ, Bool, if◌then◌else◌, Option, Some, None, List, [], ◌∷◌, ◌++◌, map}
+use Rattle.std.specs.Prelude.{ℕ, if◌then◌else◌, Option, Some, None, List, [], ◌∷◌, ◌++◌, map}
 use Rattle.rx_spec.specs.Queries.{Query, HalfMatch, MatchError, is_done}
 use Rattle.rx_spec.specs.Machines.{Label, Machine, Settings}
 use Rattle.rx_spec.specs.Starts.{StartError, start_error, start_row}

@@ -1,5 +1,5 @@
 -- What a plan builds of a list of expressions, why that is refused, and what is to be answered.
-use Rattle.std.specs.Prelude.{ℕ, ◌⊎◌, Bool, true, false, Option, Some, Result, Ok, Err, List, length}
+use Rattle.std.specs.Prelude.{ℕ, Bool, false, Option, Ok, Err, List, length}
 use Rattle.rx_spec.specs.Expressions.{Expression}
 use Rattle.rx_spec.specs.Queries.{Query}
 use Rattle.rx_spec.specs.Found.{found}

@@ -4,7 +4,7 @@ use Rattle.std.specs.Prelude.{ℕ, zero, suc, ◌+◌, ◌-◌, Bool, true, fals
 use Rattle.std.specs.Prelude.{if◌then◌else◌, Option, Some, None, Ok, Err, List, [], ◌∷◌}
 use Rattle.std.specs.List.{flat_map}
 use Rattle.rx_spec.specs.Looks.{after}
-use Rattle.rx_spec.specs.Queries.{Query, HalfMatch, MatchError, is_anchored}
+use Rattle.rx_spec.specs.Queries.{Query, is_anchored}
 use Rattle.rx_spec.specs.HalfSearches.{HalfAnswer, half_search}
 use Rattle.rx_spec.specs.Overlapping.{Item, OverlappingMatches, overlapping}
 use Rattle.rx_spec.specs.Tables.{Table}

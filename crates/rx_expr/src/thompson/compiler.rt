@@ -1,19 +1,17 @@
 //! The compiler.
 
-ghost use Rattle.std.specs.Prelude.{◌≡◌, ◌^◌, min, length, IfOk, IfErr, OnOk, All, None};
+ghost use Rattle.std.specs.Prelude.{◌≡◌, ◌^◌, min, length, IfOk, IfErr, OnOk, All};
 ghost use Rattle.rx_spec.specs.Expressions.{IsLoopSafe};
 ghost use Rattle.rx_expr.specs.Compiles.{wanted_nfa, Refuses, Fits};
 ghost use Rattle.rx_expr.specs.Compiler.{asked_by};
-ghost use Rattle.rx_expr.specs.Settings.{asked, overwritten};
+ghost use Rattle.rx_expr.specs.Settings.{asked, nothing_asked, overwritten};
 ghost use Rattle.rx_expr.specs.Nfa.{meaning};
 
 use super::build_error::BuildError;
 use super::config::Config;
 use super::edge::all_begin_with_edge;
 use super::nfa::{NFA, asked_facts, look_set_any};
-use super::starts::{
-    add_patterns, any_empty, join_starts, lead_in_rows, learn_safe, patterns_len, starts_len,
-};
+use super::starts::{add_patterns, any_empty, join_starts, lead_in_rows, patterns_len, starts_len};
 use crate::expr::{Expr, ROWS_LIMIT};
 use rx_base::{LookMatcher, PatternID, StateID};
 use std::alloc::{AllocError, Global};
@@ -27,7 +25,7 @@ pub struct Compiler {
 impl Compiler {
     /// With default settings.
     pub fn new() -> Compiler
-        ensures { asked_by result ≡ record { reverse = None; is_utf8 = None; size_limit = None; line_terminator = None } }
+        ensures { asked_by result ≡ nothing_asked }
     {
         Compiler {
             config: Config::new(),
@@ -45,7 +43,9 @@ impl Compiler {
 
     /// How many rows the NFA of these expressions has; 2^31 stands for more too.
     pub fn rows_len(&self, exprs: &[Expr]) -> u64
-        ensures { result ≡ min (length (wanted_nfa (asked_by self.now) exprs.now).rows) (2 ^ 31) }
+        ensures value { result ≡ min (length (wanted_nfa (asked_by self.now) exprs.now).rows) (2 ^ 31) }
+        // Each repetition in an expression is bounded.
+        ensures safe { All IsLoopSafe exprs.now }
     {
         let rows = patterns_len(exprs) + starts_len(exprs, self.config.direction());
         rows.min(ROWS_LIMIT)
@@ -53,7 +53,8 @@ impl Compiler {
 
     /// The NFA of a list of expressions, the first of which is pattern 0.
     ///
-    /// What is refused by its numbers is refused before any memory is taken.
+    /// What is refused by its numbers is refused before any memory is taken, and then the room for
+    /// all rows is taken at once.
     pub fn build_many(&self, alloc: Global, exprs: &[Expr]) -> Result<NFA, BuildError>
         ensures ok { IfOk result (λ nfa. meaning nfa ≡ wanted_nfa (asked_by self.now) exprs.now) }
         ensures fits { OnOk result (Fits (asked_by self.now) exprs.now) }
@@ -61,7 +62,6 @@ impl Compiler {
         // Each repetition in an expression is bounded.
         ensures safe { All IsLoopSafe exprs.now }
     {
-        learn_safe(exprs);
         self.check_sizes(exprs)?;
         self.build(alloc, exprs).map_err(|_| BuildError::Memory)
     }
@@ -69,11 +69,12 @@ impl Compiler {
     fn check_sizes(&self, exprs: &[Expr]) -> Result<(), BuildError>
         ensures ok { OnOk result (Fits (asked_by self.now) exprs.now) }
         ensures err { IfErr result (Refuses (asked_by self.now) exprs.now) }
+        ensures safe { All IsLoopSafe exprs.now }
     {
+        let rows = self.rows_len(exprs);
         if exprs.len() > PatternID::LIMIT {
             return Err(BuildError::TooManyPatterns { given: exprs.len() });
         }
-        let rows = self.rows_len(exprs);
         if rows > StateID::LIMIT as u64 {
             return Err(BuildError::TooManyStates { given: rows });
         }
@@ -89,8 +90,8 @@ impl Compiler {
         ensures { IfOk result (λ nfa. meaning nfa ≡ wanted_nfa (asked_by self.now) exprs.now) }
     {
         let direction = self.config.direction();
-        let mut rows = Vec::new(alloc);
-        let mut start_patterns = Vec::new(alloc);
+        let mut rows = Vec::with_capacity(alloc, self.rows_len(exprs) as usize)?;
+        let mut start_patterns = Vec::with_capacity(alloc, exprs.len())?;
         add_patterns(&mut rows, &mut start_patterns, exprs, direction)?;
         let start_anchored = join_starts(&mut rows, &start_patterns)?;
         let start_unanchored = lead_in_rows(

@@ -1,6 +1,6 @@
 //! Settings of the construction.
 
-ghost use Rattle.std.specs.Prelude.{◌≡◌, Option, Some, None};
+ghost use Rattle.std.specs.Prelude.{◌≡◌, Some};
 ghost use Rattle.std.specs.Option.{option_or};
 
 use rx_base::Direction;
@@ -15,11 +15,11 @@ pub struct Config {
 }
 
 impl Config {
-    ghost use Rattle.rx_expr.specs.Settings.{asked, settled, overwritten, is_reverse};
+    ghost use Rattle.rx_expr.specs.Settings.{asked, nothing_asked, settled, overwritten, is_reverse};
 
     /// Nothing is set.
     pub fn new() -> Config
-        ensures { asked result ≡ record { reverse = None; is_utf8 = None; size_limit = None; line_terminator = None } }
+        ensures { asked result ≡ nothing_asked }
     {
         Config {
             reverse: None,

@@ -1,17 +1,16 @@
 //! Whether expressions must begin with the edge of the haystack.
 
 ghost use Rattle.std.specs.Prelude.{◌≡◌, ◌||◌, ◌&&◌};
-ghost use Rattle.std.specs.List.{list_all};
 ghost use Rattle.rx_spec.specs.Edge.{reads_nothing as reads_none, begins_with_edge as begins, is_edge as edge};
 ghost use Rattle.rx_spec.specs.Nfas.{read_as};
-ghost use Rattle.rx_expr.specs.Compiles.{has_no_round};
+ghost use Rattle.rx_expr.specs.Compiles.{all_at_edge, has_no_round};
 
 use crate::expr::{Expr, ExprKind};
 use rx_base::{Direction, Look};
 
 /// Whether every expression must begin with the edge where reading begins, by its form.
 pub(super) fn all_begin_with_edge(exprs: &[Expr], direction: Direction) -> bool
-    ensures { result ≡ list_all (λ e. begins direction (read_as direction e)) exprs.now }
+    ensures { result ≡ all_at_edge direction exprs.now }
 {
     exprs.iter().all(|expr| begins_with_edge(expr, direction))
 }
@@ -73,7 +72,9 @@ fn is_edge(look: Look, direction: Direction) -> bool
 /// Whether what is read first begins with the edge, or reads nothing before what does.
 #[cycle(begins)]
 fn either_begins(front: &Expr, back: &Expr, direction: Direction) -> bool
-    ensures { result ≡ (begins direction (read_as direction front.now) || (reads_none (read_as direction front.now) && begins direction (read_as direction back.now))) }
+    ensures { let first = read_as direction front.now in
+        let second = read_as direction back.now in
+        result ≡ (begins direction first || (reads_none first && begins direction second)) }
 {
     begins_with_edge(front, direction)
         || (reads_nothing(front) && begins_with_edge(back, direction))

@@ -1,8 +1,9 @@
 //! The rows of one expression.
 
 ghost use Rattle.std.specs.Prelude.{◌≡◌, ◌+◌, ◌*◌, ◌≤◌, ◌++◌, ◌∷◌, [], IfOk, length, ◌<◌, slice_set};
-ghost use Rattle.rx_spec.specs.Rows.{rows_count, copies as copied, optional as optioned, loop as looped, choice as chosen, chained, either, repeated, repeated_count};
-ghost use Rattle.rx_expr.specs.Compiles.{Adds, maker};
+ghost use Rattle.rx_spec.specs.Rows.{rows_count, repeated_count, chained, either, repeated};
+ghost use Rattle.rx_spec.specs.Rows.{copies as copied, optional as optioned, loop as looped, choice as chosen};
+ghost use Rattle.rx_expr.specs.Compiles.{Adds, AddsRow, maker};
 ghost use Rattle.rx_expr.specs.Nfa.{row_of};
 
 use super::nfa::Row;
@@ -12,7 +13,7 @@ use std::alloc::AllocError;
 
 /// The id of a number that is known to be one.
 pub(super) fn id_of(n: usize) -> StateID
-    requires { n ≤ 2147483646 }
+    requires { n < StateID.LIMIT }
     ensures { result ≡ n }
 {
     match StateID::new(n) {
@@ -23,9 +24,8 @@ pub(super) fn id_of(n: usize) -> StateID
 
 /// Adds a row, and gives its id.
 pub(super) fn push(rows: &mut Vec<Row>, row: Row) -> Result<StateID, AllocError>
-    requires { length rows.old.items ≤ 2147483646 }
-    ensures id { IfOk result (λ id. id ≡ length rows.old.items) }
-    ensures rows { IfOk result (λ id. rows.new.items ≡ rows.old.items ++ (row ∷ [])) }
+    requires { length rows.old.items < StateID.LIMIT }
+    ensures { IfOk result (AddsRow row rows.old.items rows.new.items) }
 {
     let id = id_of(rows.len());
     rows.push(row)?;
@@ -59,8 +59,8 @@ pub(super) fn compile(
     direction: Direction,
     next: StateID,
 ) -> Result<StateID, AllocError>
-    requires { length rows.old.items + rows_count expr.now ≤ 2147483647 }
-    ensures { IfOk result (λ entry. Adds rows.old.items rows.new.items entry (maker direction expr.now (length rows.old.items) next)) }
+    requires { length rows.old.items + rows_count expr.now ≤ StateID.LIMIT }
+    ensures { IfOk result (Adds (maker direction expr.now) rows.old.items rows.new.items next) }
 {
     if expr.rows_len() == 0 {
         return Ok(next);
@@ -95,8 +95,9 @@ fn repeat(
     greedy: bool,
     next: StateID,
 ) -> Result<StateID, AllocError>
-    requires { length rows.old.items + repeated_count bounds.0 bounds.1 (rows_count body.now) ≤ 2147483647 }
-    ensures { IfOk result (λ entry. Adds rows.old.items rows.new.items entry (repeated bounds.0 bounds.1 greedy (maker direction body.now) (length rows.old.items) next)) }
+    requires { length rows.old.items + repeated_count bounds.0 bounds.1 (rows_count body.now) ≤ StateID.LIMIT }
+    ensures { let make = repeated bounds.0 bounds.1 greedy (maker direction body.now) in
+        IfOk result (Adds make rows.old.items rows.new.items next) }
 {
     let min = bounds.0;
     match bounds.1 {
@@ -121,8 +122,9 @@ fn concat(
     direction: Direction,
     next: StateID,
 ) -> Result<StateID, AllocError>
-    requires { length rows.old.items + rows_count front.now + rows_count back.now ≤ 2147483647 }
-    ensures { IfOk result (λ entry. Adds rows.old.items rows.new.items entry (chained (maker direction front.now) (maker direction back.now) (length rows.old.items) next)) }
+    requires { length rows.old.items + rows_count front.now + rows_count back.now ≤ StateID.LIMIT }
+    ensures { let make = chained (maker direction front.now) (maker direction back.now) in
+        IfOk result (Adds make rows.old.items rows.new.items next) }
 {
     let behind = compile(rows, back, direction, next)?;
     compile(rows, front, direction, behind)
@@ -137,8 +139,9 @@ fn alternate(
     direction: Direction,
     next: StateID,
 ) -> Result<StateID, AllocError>
-    requires { length rows.old.items + rows_count first.now + rows_count second.now + 1 ≤ 2147483647 }
-    ensures { IfOk result (λ entry. Adds rows.old.items rows.new.items entry (either (maker direction first.now) (maker direction second.now) (length rows.old.items) next)) }
+    requires { length rows.old.items + rows_count first.now + rows_count second.now + 1 ≤ StateID.LIMIT }
+    ensures { let make = either (maker direction first.now) (maker direction second.now) in
+        IfOk result (Adds make rows.old.items rows.new.items next) }
 {
     let first = compile(rows, first, direction, next)?;
     let second = compile(rows, second, direction, next)?;
@@ -154,8 +157,8 @@ fn repeat_exactly(
     count: u32,
     next: StateID,
 ) -> Result<StateID, AllocError>
-    requires { length rows.old.items + count * rows_count body.now ≤ 2147483647 }
-    ensures { IfOk result (λ entry. Adds rows.old.items rows.new.items entry (copied count (maker direction body.now) (length rows.old.items) next)) }
+    requires { length rows.old.items + count * rows_count body.now ≤ StateID.LIMIT }
+    ensures { IfOk result (Adds (copied count (maker direction body.now)) rows.old.items rows.new.items next) }
 {
     if body.rows_len() == 0 {
         return Ok(next);
@@ -177,8 +180,8 @@ fn repeat_up_to(
     count: u32,
     next: StateID,
 ) -> Result<StateID, AllocError>
-    requires { length rows.old.items + count * (rows_count body.now + 1) ≤ 2147483647 }
-    ensures { IfOk result (λ entry. Adds rows.old.items rows.new.items entry (optioned greedy count (maker direction body.now) (length rows.old.items) next)) }
+    requires { length rows.old.items + count * (rows_count body.now + 1) ≤ StateID.LIMIT }
+    ensures { IfOk result (Adds (optioned greedy count (maker direction body.now)) rows.old.items rows.new.items next) }
 {
     let mut entry = next;
     for round in 0..count {
@@ -197,8 +200,8 @@ fn repeat_forever(
     greedy: bool,
     next: StateID,
 ) -> Result<StateID, AllocError>
-    requires { length rows.old.items + rows_count body.now + 1 ≤ 2147483647 }
-    ensures { IfOk result (λ entry. Adds rows.old.items rows.new.items entry (looped greedy (maker direction body.now) (length rows.old.items) next)) }
+    requires { length rows.old.items + rows_count body.now + 1 ≤ StateID.LIMIT }
+    ensures { IfOk result (Adds (looped greedy (maker direction body.now)) rows.old.items rows.new.items next) }
 {
     let split = push(rows, Row::Fail)?;
     let round = compile(rows, body, direction, split)?;

@@ -1,11 +1,11 @@
 //! The rows of all patterns, and their starts.
 
-ghost use Rattle.std.specs.Prelude.{◌≡◌, ◌==◌, ◌+◌, ◌-◌, ◌^◌, ◌≤◌, [], min, length, map, IfOk, OnOk, All};
-ghost use Rattle.std.specs.List.{list_all, list_any};
+ghost use Rattle.std.specs.Prelude.{◌≡◌, ◌==◌, ◌+◌, ◌-◌, ◌^◌, ◌<◌, ◌≤◌, [], min, length, IfOk, OnOk, All};
+ghost use Rattle.std.specs.List.{list_any};
 ghost use Rattle.rx_spec.specs.Expressions.{IsLoopSafe, min_len};
-ghost use Rattle.rx_spec.specs.Nfas.{patterns_from, start_of_all, lead_in, read_as};
-ghost use Rattle.rx_spec.specs.Edge.{begins_with_edge};
-ghost use Rattle.rx_expr.specs.Compiles.{Adds, AddsPatterns, patterns_count, joined_count, lead_count};
+ghost use Rattle.rx_spec.specs.Nfas.{lead_in};
+ghost use Rattle.rx_expr.specs.Compiles.{Adds, AddsJoined, AddsPatterns, all_at_edge, patterns_count, joined_count};
+ghost use Rattle.rx_expr.specs.Compiles.{lead_count};
 
 use super::edge::all_begin_with_edge;
 use super::nfa::Row;
@@ -13,15 +13,6 @@ use super::rows::{compile, id_of, push};
 use crate::expr::{Expr, ROWS_LIMIT};
 use rx_base::{ByteSet, Direction, PatternID, StateID};
 use std::alloc::AllocError;
-
-/// Learns of each expression that its repetitions are bounded. Nothing is done.
-pub(super) fn learn_safe(exprs: &[Expr])
-    ensures { All IsLoopSafe exprs.now }
-{
-    for expr in exprs {
-        let _ = expr.min_len();
-    }
-}
 
 /// Whether some expression may match without a byte.
 pub(super) fn any_empty(exprs: &[Expr]) -> bool
@@ -38,7 +29,8 @@ fn is_empty(expr: &Expr) -> bool
 
 /// How many rows the patterns have, up to [`ROWS_LIMIT`].
 pub(super) fn patterns_len(exprs: &[Expr]) -> u64
-    ensures { result ≡ min (patterns_count exprs.now) (2 ^ 31) }
+    ensures value { result ≡ min (patterns_count exprs.now) (2 ^ 31) }
+    ensures safe { All IsLoopSafe exprs.now }
 {
     let mut rows = 0;
     for expr in exprs {
@@ -49,7 +41,8 @@ pub(super) fn patterns_len(exprs: &[Expr]) -> u64
 
 /// How many rows the starts have, up to [`ROWS_LIMIT`] and two more.
 pub(super) fn starts_len(exprs: &[Expr], direction: Direction) -> u64
-    ensures value { result ≡ min (joined_count (length exprs.now)) (2 ^ 31) + lead_count (list_all (λ e. begins_with_edge direction (read_as direction e)) exprs.now) }
+    ensures value { let joined = joined_count (length exprs.now) in
+        result ≡ min joined (2 ^ 31) + lead_count (all_at_edge direction exprs.now) }
     ensures bound { result ≤ 2 ^ 31 + 2 }
 {
     let start_of_all = match exprs.len() {
@@ -72,8 +65,8 @@ pub(super) fn add_patterns(
 ) -> Result<(), AllocError>
     requires empty { rows.old.items ≡ [] }
     requires none { starts.old.items ≡ [] }
-    requires room { patterns_count exprs.now ≤ 2147483647 }
-    ensures { OnOk result (AddsPatterns rows.new.items starts.new.items (patterns_from 0 0 (map (read_as direction) exprs.now))) }
+    requires room { patterns_count exprs.now ≤ StateID.LIMIT }
+    ensures { OnOk result (AddsPatterns direction exprs.now rows.new.items starts.new.items) }
 {
     for (k, expr) in exprs.iter().enumerate() {
         let pattern = pattern_of(k);
@@ -86,7 +79,7 @@ pub(super) fn add_patterns(
 
 /// The id of a number that is known to be one.
 fn pattern_of(n: usize) -> PatternID
-    requires { n ≤ 2147483646 }
+    requires { n < PatternID.LIMIT }
     ensures { result ≡ n }
 {
     match PatternID::new(n) {
@@ -97,8 +90,8 @@ fn pattern_of(n: usize) -> PatternID
 
 /// Adds the Splits that join the starts, the last pair first.
 pub(super) fn join_starts(rows: &mut Vec<Row>, starts: &[StateID]) -> Result<StateID, AllocError>
-    requires { length rows.old.items + joined_count (length starts.now) ≤ 2147483647 }
-    ensures { IfOk result (λ start. Adds rows.old.items rows.new.items start (start_of_all (length rows.old.items) starts.now)) }
+    requires { length rows.old.items + joined_count (length starts.now) ≤ StateID.LIMIT }
+    ensures { IfOk result (AddsJoined starts.now rows.old.items rows.new.items) }
 {
     let n = starts.len();
     if n == 0 {
@@ -120,8 +113,8 @@ pub(super) fn lead_in_rows(
     at_edge: bool,
     anchored: StateID,
 ) -> Result<StateID, AllocError>
-    requires { length rows.old.items + lead_count at_edge ≤ 2147483647 }
-    ensures { IfOk result (λ start. Adds rows.old.items rows.new.items start (lead_in at_edge (length rows.old.items) anchored)) }
+    requires { length rows.old.items + lead_count at_edge ≤ StateID.LIMIT }
+    ensures { IfOk result (Adds (lead_in at_edge) rows.old.items rows.new.items anchored) }
 {
     if at_edge {
         return Ok(anchored);

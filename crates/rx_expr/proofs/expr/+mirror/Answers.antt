@@ -1,15 +1,16 @@
 use Rattle.std.proofs.Common.{◌∙◌}
-use Rattle.rx_expr.proofs.Turned.{Keeps-mirror}
+use Rattle.rx_expr.proofs.MirroredForms.{IsKeptOf-mirror}
 use Rattle.rx_expr.proofs.expr.+mirror.Goals as goal
 
 pub Inner::mirror-inner-requires-clause-least : goal.Inner::mirror-inner-requires-clause-least
-Inner::mirror-inner-requires-clause-least t c = (Keeps-mirror c.args.self.now c.in_ok-form.form c.requires c.in_ok-form.ensures.ok).least
+Inner::mirror-inner-requires-clause-least t c = (IsKeptOf-mirror c.requires c.in_ok-form.ensures.ok).least
 
 pub Inner::mirror-inner-requires-clause-rows : goal.Inner::mirror-inner-requires-clause-rows
-Inner::mirror-inner-requires-clause-rows t c = c.from.ensures ∙ (Keeps-mirror c.args.self.now c.in_ok-form.form c.requires c.in_ok-form.ensures.ok).rows
+Inner::mirror-inner-requires-clause-rows t c =
+    c.from.ensures ∙ (IsKeptOf-mirror c.requires c.in_ok-form.ensures.ok).rows
 
 pub Inner::mirror-inner-requires-clause-depth : goal.Inner::mirror-inner-requires-clause-depth
-Inner::mirror-inner-requires-clause-depth t c = (Keeps-mirror c.args.self.now c.in_ok-form.form c.requires c.in_ok-form.ensures.ok).depth_is
+Inner::mirror-inner-requires-clause-depth t c = (IsKeptOf-mirror c.requires c.in_ok-form.ensures.ok).depth_is
 
 pub Inner::mirror-inner-requires-clause-safe : goal.Inner::mirror-inner-requires-clause-safe
-Inner::mirror-inner-requires-clause-safe t c = (Keeps-mirror c.args.self.now c.in_ok-form.form c.requires c.in_ok-form.ensures.ok).safe
+Inner::mirror-inner-requires-clause-safe t c = (IsKeptOf-mirror c.requires c.in_ok-form.ensures.ok).safe

@@ -1,41 +1,63 @@
-use Rattle.std.proofs.Common.{[]}
+use Rattle.std.proofs.Common.{ℕ}
 use Rattle.std.specs.List.{flat_map}
+use Rattle.rx_spec.specs.Causes.{id_count}
 use Rattle.rx_spec.specs.States.{row_at, closure}
 use Rattle.rx_expr.specs.Nfa.{meaning}
-use Rattle.rx_powerset.specs.Closing.{passing_of}
-use Rattle.rx_powerset.proofs.Closing.{graph_of, own_either}
-use Rattle.rx_powerset.proofs.Few.{few_more, few_firsts}
-use Rattle.rx_powerset.proofs.Turns.{stopped, passed, met_first, passed_falls, met_falls}
+use Rattle.rx_powerset.specs.Closures.{passing_of}
+use Rattle.rx_powerset.proofs.Closures.{nfa_graph, own_either}
+use Rattle.rx_powerset.proofs.StateBounds.{few_more, few_firsts}
+use Rattle.rx_powerset.proofs.StackSearch.{popped, passed, met, kept, passed_falls, met_falls, stopped}
 use Rattle.rx_powerset.proofs.closure.closed.Goals as goal
+
+-- ---- a row that is new
 
 pub search-smaller-in-Continue-branch-3 : goal.search-smaller-in-Continue-branch-3
 search-smaller-in-Continue-branch-3 c =
-    met_falls (graph_of (meaning c.args.nfa.now).rows (passing_of c.args.passing.now) c.args.nfa.now.shallow) [] c.search.waiting.items c.pop.new.self.items c.visit.new.waiting.items c.in-Some.id c.in-Some.ensures.items c.in_ok-visit.ensures.waiting
+    let graph = nfa_graph c.args.nfa.now c.args.passing.now in
+    met_falls graph (popped _ c.in-Some.ensures.items) c.in_ok-visit.ensures.waiting
 
 pub search-preserved-in-Continue-branch-3 : goal.search-preserved-in-Continue-branch-3
-search-preserved-in-Continue-branch-3 c = record {
-  search =
-      met_first (graph_of (meaning c.args.nfa.now).rows (passing_of c.args.passing.now) c.args.nfa.now.shallow) _ c.search.seen c.insert.new.self c.search.found.items c.visit.new.found.items c.search.waiting.items c.pop.new.self.items c.visit.new.waiting.items c.in-Some.id c.in_ok-insert.field-0
-      c.search.invariant.search c.in-Some.ensures.items c.in_ok-insert.ensures.added c.if-branch.true c.in_ok-insert.ensures.updates c.in_ok-visit.ensures.found c.in_ok-visit.ensures.waiting;
-  few = few_more 2147483647 c.in-Some.id c.search.found.items c.visit.new.found.items _ c.in_ok-visit.ensures.bound (own_either (passing_of c.args.passing.now) c.in-Some.id (row_at (meaning c.args.nfa.now).rows c.in-Some.id)) c.in_ok-visit.ensures.found c.search.invariant.few;
-}
+search-preserved-in-Continue-branch-3 c =
+    let graph = nfa_graph c.args.nfa.now c.args.passing.now in
+    let before = c.search.invariant in
+    let first = popped _ c.in-Some.ensures.items in
+    let noted = c.in_ok-insert.ensures in
+    let visited = c.in_ok-visit.ensures in
+    let row = row_at (meaning c.args.nfa.now).rows c.in-Some.id in
+    let turned =
+    met graph c.search.seen c.insert.new.self before.search first noted.added c.if-branch.true noted.updates in
+    let own = own_either (passing_of c.args.passing.now) c.in-Some.id row in
+    record {
+      search = kept graph turned visited.found visited.waiting;
+      few = few_more id_count _ visited.bound own visited.found before.few;
+    }
+
+-- ---- a row that was seen
 
 pub search-smaller : goal.search-smaller
 search-smaller c =
-    passed_falls (graph_of (meaning c.args.nfa.now).rows (passing_of c.args.passing.now) c.args.nfa.now.shallow) [] c.search.waiting.items c.pop.new.self.items c.in-Some.id c.in-Some.ensures.items
+    passed_falls (nfa_graph c.args.nfa.now c.args.passing.now) (popped _ c.in-Some.ensures.items)
 
 pub search-preserved : goal.search-preserved
-search-preserved c = record {
-  search =
-      passed (graph_of (meaning c.args.nfa.now).rows (passing_of c.args.passing.now) c.args.nfa.now.shallow) _ c.search.seen c.insert.new.self c.search.found.items c.search.waiting.items c.pop.new.self.items c.in-Some.id c.in_ok-insert.field-0
-      c.search.invariant.search c.in-Some.ensures.items c.in_ok-insert.ensures.added c.if-branch.false c.in_ok-insert.ensures.updates;
-  few = c.search.invariant.few;
-}
+search-preserved c =
+    let graph = nfa_graph c.args.nfa.now c.args.passing.now in
+    let before = c.search.invariant in
+    let first = popped _ c.in-Some.ensures.items in
+    let noted = c.in_ok-insert.ensures in
+    record {
+      search =
+          passed graph c.search.seen c.insert.new.self before.search first noted.added c.if-branch.false noted.updates;
+      few = before.few;
+    }
+
+-- ---- the end
 
 pub returns-clause-rows : goal.returns-clause-rows
 returns-clause-rows c =
-    stopped (graph_of (meaning c.args.nfa.now).rows (passing_of c.args.passing.now) c.args.nfa.now.shallow) _ c.search.seen c.search.found.items c.search.waiting.items c.search.waiting.len c.search.waiting.ok.0 c.in_default.ensures.cases.0 c.search.invariant.search
+    let graph = nfa_graph c.args.nfa.now c.args.passing.now in
+    stopped graph c.search.waiting.items c.search.waiting.ok.0 c.in_default.ensures.cases.0 c.search.invariant.search
 
 pub returns-clause-bound : goal.returns-clause-bound
 returns-clause-bound c =
-    few_firsts (flat_map (λ q. closure (meaning c.args.nfa.now).rows (passing_of c.args.passing.now) q) c.args.from.now) c.search.found.items 2147483647 (returns-clause-rows c) c.search.invariant.few
+    let reached = λ (q : ℕ). closure (meaning c.args.nfa.now).rows (passing_of c.args.passing.now) q in
+    few_firsts (flat_map reached c.args.from.now) id_count (returns-clause-rows c) c.search.invariant.few

@@ -1,19 +1,20 @@
 use Rattle.std.proofs.Common.{◌<◌, reverse, sum_by}
-use Rattle.std.specs.BTreeSet.{contains}
-use Rattle.std.specs.List.{flat_map, AllByRecursion as Every}
-use Rattle.std.specs.Ordering.{nat_cmp}
-use Rattle.rx_spec.specs.States.{closure, firsts}
+use Rattle.std.specs.List.{AllByRecursion as Every}
+use Rattle.rx_spec.specs.Causes.{id_count}
 use Rattle.rx_expr.specs.Nfa.{meaning}
-use Rattle.rx_powerset.specs.Closing.{passing_of}
-use Rattle.rx_powerset.proofs.Closing.{graph_of, weight_of}
+use Rattle.rx_powerset.specs.Closures.{passing_of, closed_rows}
+use Rattle.rx_powerset.proofs.Closures.{nfa_graph, weight_of}
 use Rattle.rx_powerset.proofs.Search.{Searching}
+use Rattle.rx_powerset.proofs.StackSearch.{has}
 use Rattle.rx_powerset.proofs.closure.closed.Given as goal
 
 abbrev pub invariant-search : goal.invariant-search
-invariant-search l = record {
-  search : Searching (graph_of (meaning l.nfa).rows (passing_of l.passing) l.nfa.shallow) (firsts (flat_map (λ q. closure (meaning l.nfa).rows (passing_of l.passing) q) l.from)) (λ x. contains nat_cmp l.seen x) l.found.items (reverse l.waiting.items);
-  few : Every (λ x. x < 2147483647) l.found.items;
-}
+invariant-search l =
+    let wanted = closed_rows (meaning l.nfa).rows (passing_of l.passing) l.from in
+    record {
+      search : Searching (nfa_graph l.nfa l.passing) wanted (has l.seen) l.found.items (reverse l.waiting.items);
+      few : Every (λ x. x < id_count) l.found.items;
+    }
 
 abbrev pub decreases-search : goal.decreases-search
-decreases-search l = sum_by (λ q. weight_of (meaning l.nfa).rows q) (reverse l.waiting.items)
+decreases-search l = sum_by (weight_of (meaning l.nfa).rows) (reverse l.waiting.items)

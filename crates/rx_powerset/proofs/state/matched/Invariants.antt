@@ -1,8 +1,11 @@
-use Rattle.std.proofs.Common.{◌≡◌, ◌++◌, drop}
+use Rattle.std.proofs.Common.{◌≡◌, ◌++◌, drop, ℕ}
 use Rattle.std.specs.List.{flat_map}
 use Rattle.rx_spec.specs.States.{row_at, pattern_of}
 use Rattle.rx_expr.specs.Nfa.{meaning}
 use Rattle.rx_powerset.proofs.state.matched.Given as goal
 
+-- the patterns so far, and those of the rows that are left
 abbrev pub invariant-loop-id : goal.invariant-loop-id
-invariant-loop-id l = l.patterns.items ++ flat_map (λ q. pattern_of (row_at (meaning l.nfa).rows q)) (drop l.id-index l.rows) ≡ flat_map (λ q. pattern_of (row_at (meaning l.nfa).rows q)) l.rows
+invariant-loop-id l =
+    let each = λ (q : ℕ). pattern_of (row_at (meaning l.nfa).rows q) in
+    l.patterns.items ++ flat_map each (drop l.id-index l.rows) ≡ flat_map each l.rows

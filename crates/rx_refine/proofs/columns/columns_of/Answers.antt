@@ -1,6 +1,6 @@
 use Rattle.std.proofs.Common.{◌≡◌, ◌+◌, ◌*◌, ◌≤◌, length, sym, ap, ◌∙◌, arith, mul-le-mul_left, mul-le-mul_right}
 use Rattle.std.proofs.lemmas.List.{with_items_is}
-use Rattle.rx_refine.proofs.ColumnsOf.{AreColumns-grown}
+use Rattle.rx_refine.proofs.TableColumns.{AreColumns-grown}
 use Rattle.rx_refine.proofs.columns.columns_of.Goals as goal
 
 pub overflow_mul-most : goal.overflow_mul-most
@@ -27,7 +27,8 @@ loop-first-preserved c =
       c.in_ok-room.ensures.len,
     ) in
     let old = c.deref_mut.ensures.value in
-    let same : length c.add_cells.new.columns ≡ length c.loop-first.columns.items = c.add_cells.auto.columns ∙ ap length old in
+    let same : length c.add_cells.new.columns ≡ length c.loop-first.columns.items =
+    c.add_cells.auto.columns ∙ ap length old in
     record {
       below = below;
       columns =

@@ -5,8 +5,16 @@ use Rattle.rx_refine.proofs.hopcroft.gather.Goals as goal
 
 pub add_sources-requires-clause-room : goal.add_sources-requires-clause-room
 add_sources-requires-clause-room g c =
-    omega (arith, sum_by_more_le (λ row. 1 + length (sources c.args.incoming.now row c.args.unit)) c.args.members.now c.loop-member.member-index 0 (omega arith))
+    omega (
+      arith,
+      sum_by_more_le (λ row. 1 + length (sources c.args.incoming.now row c.args.unit)) c.args.members.now
+          c.loop-member.member-index 0 (omega arith),
+    )
 
 pub returns-in_err-add_sources-clause-steps : goal.returns-in_err-add_sources-clause-steps
 returns-in_err-add_sources-clause-steps g c =
-    omega (arith, sum_by_more_le (λ row. 1 + length (sources c.args.incoming.now row c.args.unit)) c.args.members.now c.loop-member.member-index 0 (omega arith))
+    omega (
+      arith,
+      sum_by_more_le (λ row. 1 + length (sources c.args.incoming.now row c.args.unit)) c.args.members.now
+          c.loop-member.member-index 0 (omega arith),
+    )

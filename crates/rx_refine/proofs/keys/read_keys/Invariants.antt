@@ -1,5 +1,7 @@
-use Rattle.rx_refine.proofs.Keying.{IsReading}
+use Rattle.rx_refine.proofs.NextKeys.{IsReading}
 use Rattle.rx_refine.proofs.keys.read_keys.Given as goal
 
 abbrev pub invariant-loop-row : goal.invariant-loop-row
-invariant-loop-row g l = IsReading l.incoming l.unit l.blocks l.taken l.fn.steps l.row l.keys l.steps
+invariant-loop-row g l =
+    IsReading (record { moves = l.incoming; unit = l.unit; blocks = l.blocks; taken = l.taken }) l.fn.steps l.row l.keys
+    l.steps

@@ -7,8 +7,10 @@ use Rattle.rx_refine.proofs.laws.room.Goals as goal
 -- 2 ^ 31 rows have 32 digits
 pub returns : goal.returns
 returns c m a h =
-    let digits : binary_digits m.rows ≤ 32 = length-digits_of-le 2 32 m.rows (omega arith) (let r = a.few in omega arith) in
-    let lists : 2 * m.units * m.rows ≤ 2 ^ 27 * 2 ^ 31 = mul-le (2 * m.units) m.rows (2 ^ 27) (2 ^ 31) (omega arith) a.few in
+    let digits : binary_digits m.rows ≤ 32 =
+    length-digits_of-le 2 32 m.rows (omega arith) (let r = a.few in omega arith) in
+    let lists : 2 * m.units * m.rows ≤ 2 ^ 27 * 2 ^ 31 =
+    mul-le (2 * m.units) m.rows (2 ^ 27) (2 ^ 31) (omega arith) a.few in
     let all : read_limit m ≤ 2 ^ 27 * 2 ^ 31 * 32 =
     mul-le (2 * m.units * m.rows) (binary_digits m.rows) (2 ^ 27 * 2 ^ 31) 32 lists digits in
     omega arith

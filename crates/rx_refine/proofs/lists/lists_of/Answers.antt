@@ -1,4 +1,4 @@
-use Rattle.rx_refine.proofs.ColumnsOf.{column_small}
+use Rattle.rx_refine.proofs.TableColumns.{column_small}
 use Rattle.rx_refine.proofs.lists.lists_of.Goals as goal
 
 pub new-requires-clause-small : goal.new-requires-clause-small

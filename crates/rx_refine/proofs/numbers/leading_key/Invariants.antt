@@ -1,4 +1,4 @@
-use Rattle.rx_refine.proofs.Voting.{IsVoting}
+use Rattle.rx_refine.proofs.LeadingKey.{IsVoting}
 use Rattle.rx_refine.proofs.numbers.leading_key.Given as goal
 
 abbrev pub invariant-loop-row : goal.invariant-loop-row

@@ -4,5 +4,5 @@ use Rattle.rx_regex.proofs.built.has_unicode_word.Goals as goal
 
 pub returns : goal.returns
 returns c =
-    unicode_told (meaning c.args.nfa.now).rows c.look_set_any.result c.contains_word_unicode.result c.look_set_any.ensures
-    c.contains_word_unicode.ensures
+    unicode_told (meaning c.args.nfa.now).rows c.look_set_any.result c.contains_word_unicode.result
+    c.look_set_any.ensures c.contains_word_unicode.ensures

@@ -1,58 +1,41 @@
-use Rattle.std.proofs.Common.{◌≡◌, ◌∙◌, ap, sym, arith, ◌+◌, max}
-use Rattle.rx_spec.specs.Expressions.{depth}
-use Rattle.rx_spec.specs.Edge.{reads_nothing}
-use Rattle.rx_expr.proofs.Adding.{depth_concat, depth_alternate, depth_repeat}
-use Rattle.rx_expr.proofs.Edges as edges
+use Rattle.rx_expr.proofs.Edges.{nothing-empty, nothing-class, nothing-look, nothing-concat, nothing-alternate}
+use Rattle.rx_expr.proofs.Edges.{nothing-repeat, and_then, and_else, or_then, or_else}
 use Rattle.rx_expr.proofs.thompson.edge.+reads_nothing.Goals as goal
 
-pub reads_nothing-requires : goal.reads_nothing-requires
-reads_nothing-requires t c =
-    let d : depth c.args.expr.now ≡ 1 + max (depth c.in-Concat.first.now) (depth c.in-Concat.second.now) = ap depth (sym c.in-Concat.ensures) ∙ depth_concat c.in-Concat.first.now c.in-Concat.second.now in
-    (omega (arith, c.decreases), tt)
-
-pub reads_nothing-requires-then-reads_nothing : goal.reads_nothing-requires-then-reads_nothing
-reads_nothing-requires-then-reads_nothing t c =
-    let d : depth c.args.expr.now ≡ 1 + max (depth c.in-Concat.first.now) (depth c.in-Concat.second.now) = ap depth (sym c.in-Concat.ensures) ∙ depth_concat c.in-Concat.first.now c.in-Concat.second.now in
-    (omega (arith, c.decreases), tt)
-
-pub reads_nothing-requires-in-Alternate : goal.reads_nothing-requires-in-Alternate
-reads_nothing-requires-in-Alternate t c =
-    let d : depth c.args.expr.now ≡ 1 + max (depth c.in-Alternate.first.now) (depth c.in-Alternate.second.now) = ap depth (sym c.in-Alternate.ensures) ∙ depth_alternate c.in-Alternate.first.now c.in-Alternate.second.now in
-    (omega (arith, c.decreases), tt)
-
-pub reads_nothing-requires-then-reads_nothing-2 : goal.reads_nothing-requires-then-reads_nothing-2
-reads_nothing-requires-then-reads_nothing-2 t c =
-    let d : depth c.args.expr.now ≡ 1 + max (depth c.in-Alternate.first.now) (depth c.in-Alternate.second.now) = ap depth (sym c.in-Alternate.ensures) ∙ depth_alternate c.in-Alternate.first.now c.in-Alternate.second.now in
-    (omega (arith, c.decreases), tt)
-
-pub reads_nothing-requires-else-is_zero : goal.reads_nothing-requires-else-is_zero
-reads_nothing-requires-else-is_zero t c =
-    let d : depth c.args.expr.now ≡ 1 + depth c.in-Repeat.body.now = ap depth (sym c.in-Repeat.ensures) ∙ depth_repeat _ _ _ c.in-Repeat.body.now in
-    (omega (arith, c.decreases), tt)
-
 pub returns-in-Empty : goal.returns-in-Empty
-returns-in-Empty t c = sym (ap reads_nothing (sym c.in-Empty.ensures) ∙ edges.nothing_empty)
+returns-in-Empty t c = nothing-empty c.in-Empty.ensures.whole
 
 pub returns-in-Look : goal.returns-in-Look
-returns-in-Look t c = sym (ap reads_nothing (sym c.in-Look.ensures) ∙ edges.nothing_assert _)
+returns-in-Look t c = nothing-look c.in-Look.ensures.whole
 
 pub returns-in-Class : goal.returns-in-Class
-returns-in-Class t c = sym (ap reads_nothing (sym c.in-Class.ensures) ∙ edges.nothing_class _)
+returns-in-Class t c = nothing-class c.in-Class.ensures.whole
 
 pub returns-then-reads_nothing : goal.returns-then-reads_nothing
-returns-then-reads_nothing t c = c.reads_nothing-then-reads_nothing.ensures ∙ sym (ap reads_nothing (sym c.in-Concat.ensures) ∙ edges.nothing_concat c.in-Concat.first.now c.in-Concat.second.now ∙ edges.and_yes _ _ (sym c.reads_nothing.ensures ∙ c.if-reads_nothing.true))
+returns-then-reads_nothing t c =
+    let both = nothing-concat c.in-Concat.ensures.whole in
+    and_then both c.reads_nothing.ensures c.if-reads_nothing.true c.reads_nothing-then-reads_nothing.ensures
 
 pub returns-else-reads_nothing : goal.returns-else-reads_nothing
-returns-else-reads_nothing t c = c.if-reads_nothing.false ∙ sym (ap reads_nothing (sym c.in-Concat.ensures) ∙ edges.nothing_concat c.in-Concat.first.now c.in-Concat.second.now ∙ edges.and_no _ _ (sym c.reads_nothing.ensures ∙ c.if-reads_nothing.false))
+returns-else-reads_nothing t c =
+    and_else _ (nothing-concat c.in-Concat.ensures.whole) c.reads_nothing.ensures c.if-reads_nothing.false
 
 pub returns-then-reads_nothing-2 : goal.returns-then-reads_nothing-2
-returns-then-reads_nothing-2 t c = c.reads_nothing-then-reads_nothing-2.ensures ∙ sym (ap reads_nothing (sym c.in-Alternate.ensures) ∙ edges.nothing_alternate c.in-Alternate.first.now c.in-Alternate.second.now ∙ edges.and_yes _ _ (sym c.reads_nothing-in-Alternate.ensures ∙ c.if-reads_nothing-2.true))
+returns-then-reads_nothing-2 t c =
+    let both = nothing-alternate c.in-Alternate.ensures.whole in
+    let second = c.reads_nothing-then-reads_nothing-2.ensures in
+    and_then both c.reads_nothing-in-Alternate.ensures c.if-reads_nothing-2.true second
 
 pub returns-else-reads_nothing-2 : goal.returns-else-reads_nothing-2
-returns-else-reads_nothing-2 t c = c.if-reads_nothing-2.false ∙ sym (ap reads_nothing (sym c.in-Alternate.ensures) ∙ edges.nothing_alternate c.in-Alternate.first.now c.in-Alternate.second.now ∙ edges.and_no _ _ (sym c.reads_nothing-in-Alternate.ensures ∙ c.if-reads_nothing-2.false))
+returns-else-reads_nothing-2 t c =
+    let both = nothing-alternate c.in-Alternate.ensures.whole in
+    and_else _ both c.reads_nothing-in-Alternate.ensures c.if-reads_nothing-2.false
 
 pub returns-then-is_zero : goal.returns-then-is_zero
-returns-then-is_zero t c = c.if-is_zero.true ∙ sym (ap reads_nothing (sym c.in-Repeat.ensures) ∙ edges.nothing_repeat _ c.in-Repeat.max _ c.in-Repeat.body.now ∙ edges.or_yes _ _ (sym c.is_zero.ensures ∙ c.if-is_zero.true))
+returns-then-is_zero t c =
+    or_then _ (nothing-repeat c.in-Repeat.max c.in-Repeat.ensures.whole) c.is_zero.ensures c.if-is_zero.true
 
 pub returns-else-is_zero : goal.returns-else-is_zero
-returns-else-is_zero t c = c.reads_nothing-else-is_zero.ensures ∙ sym (ap reads_nothing (sym c.in-Repeat.ensures) ∙ edges.nothing_repeat _ c.in-Repeat.max _ c.in-Repeat.body.now ∙ edges.or_no _ _ (sym c.is_zero.ensures ∙ c.if-is_zero.false))
+returns-else-is_zero t c =
+    let either = nothing-repeat c.in-Repeat.max c.in-Repeat.ensures.whole in
+    or_else either c.is_zero.ensures c.if-is_zero.false c.reads_nothing-else-is_zero.ensures

@@ -1,10 +1,13 @@
-use Rattle.std.proofs.Common.{arith}
-use Rattle.rx_expr.proofs.LooksAny.{looks_step, looks_end}
+use Rattle.std.proofs.Common.{arith, ◌<◌, length}
+use Rattle.rx_expr.proofs.NfaFacts.{looks_more, looks_last}
 use Rattle.rx_expr.proofs.thompson.nfa.look_set_any.Goals as goal
 
 pub loop-row-preserved : goal.loop-row-preserved
 loop-row-preserved c look =
-    looks_step c.args.rows.now c.loop-row.row-index c.row-item.result look _ _ _ (omega arith) c.row-item.is (c.loop-row.invariant look) (c.insert_into-looks.ensures look)
+    let i = c.loop-row.row-index in
+    let lt : i < length c.args.rows.now = omega arith in
+    let more = c.insert_into-looks.ensures look in
+    looks_more c.args.rows.now i look _ lt c.row-item.is (c.loop-row.invariant look) more
 
 pub returns : goal.returns
-returns c look = looks_end c.args.rows.now c.loop-row.row-index look _ _ (omega arith) (c.loop-row.invariant look)
+returns c look = looks_last c.args.rows.now c.loop-row.row-index look _ (omega arith) (c.loop-row.invariant look)

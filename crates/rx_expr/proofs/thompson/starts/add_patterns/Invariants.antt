@@ -1,4 +1,4 @@
-use Rattle.rx_expr.proofs.Starting.{Going}
+use Rattle.rx_expr.proofs.PatternRows.{Going}
 use Rattle.rx_expr.proofs.thompson.starts.add_patterns.Given as goal
 
 abbrev pub invariant-loop-k : goal.invariant-loop-k

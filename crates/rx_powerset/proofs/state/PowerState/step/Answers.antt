@@ -1,24 +1,30 @@
-use Rattle.std.proofs.Common.{ℕ, List, ap, ◌∙◌}
+use Rattle.std.proofs.Common.{ap, ◌∙◌, arith, length}
 use Rattle.rx_spec.specs.Contexts.{unit_facts}
-use Rattle.rx_spec.specs.States.{state_at, step, cut}
+use Rattle.rx_spec.specs.States.{state_at, cut}
 use Rattle.rx_base.specs.Unit.{unit_number}
 use Rattle.rx_expr.specs.Nfa.{meaning}
 use Rattle.rx_powerset.specs.PowerState.{state_of}
-use Rattle.rx_powerset.proofs.Stepped.{answered, stepped}
-use Rattle.rx_powerset.proofs.Few.{few_told}
+use Rattle.rx_powerset.proofs.Steps.{answered, decided, Parts, stepped}
+use Rattle.rx_powerset.proofs.StateBounds.{few_told}
 use Rattle.rx_powerset.proofs.state.PowerState.step.Goals as goal
 
 pub returns : goal.returns
 returns c =
-    answered state_of c.at.result (state_at (meaning c.args.nfa.now) c.deref-3.result.now c.of_unit-known.result c.in_ok-label.label.items) (step (meaning c.args.nfa.now) c.args.kind (state_of c.args.self.now) (unit_number c.args.unit))
-    (ap (λ (l : List ℕ). state_at (meaning c.args.nfa.now) l c.of_unit-known.result c.in_ok-label.label.items) c.deref-3.ensures.value
-    ∙ stepped (meaning c.args.nfa.now) c.args.kind (state_of c.args.self.now) (unit_number c.args.unit) c.of_unit-known.result c.direction.result c.deref.result.now c.in_ok-settled.settled.items c.cut-going.result.now c.in_ok-targets.targets.items c.in_ok-label.label.items
-    (c.of_unit-known.ensures ∙ ap (λ (t : ℕ). unit_facts t (unit_number c.args.unit)) c.line_terminator.ensures)
-    c.direction.ensures c.deref.ensures.value c.in_ok-settled.ensures.rows
-    (c.cut-going.ensures ∙ ap (λ (l : List ℕ). cut c.args.kind (meaning c.args.nfa.now).rows l) c.deref-2.ensures.value)
-    c.in_ok-label.ensures c.in_ok-targets.ensures)
-    c.at.ensures
+    let nfa = meaning c.args.nfa.now in
+    let s = state_of c.args.self.now in
+    let unit = unit_number c.args.unit in
+    let known = c.of_unit-known.ensures ∙ ap (λ t. unit_facts t unit) c.line_terminator.ensures in
+    let settled = decided nfa s unit known c.direction.ensures c.deref.ensures.value c.in_ok-settled.ensures.rows in
+    let parts : Parts nfa c.args.kind s unit c.of_unit-known.result c.cut-going.result.now _ _ = record {
+      known_is = known;
+      going_is = c.cut-going.ensures ∙ ap (cut c.args.kind nfa.rows) (c.deref-2.ensures.value ∙ settled);
+      targets_are = c.in_ok-targets.ensures;
+      label_is = c.in_ok-label.ensures;
+    } in
+    let from = ap (λ l. state_at nfa l c.of_unit-known.result c.in_ok-label.label.items) c.deref-3.ensures.value in
+    answered state_of c.at.result (from ∙ stepped parts) c.at.ensures
 
 pub at-requires : goal.at-requires
 at-requires c =
-    few_told c.args.kind (meaning c.args.nfa.now).rows c.in_ok-settled.settled.items c.deref-2.result.now c.cut-going.result.now c.in_ok-label.label.items 2147483647 c.in_ok-settled.ensures.bound c.deref-2.ensures.value c.cut-going.ensures c.in_ok-label.ensures
+    let told = few_told c.args.kind (meaning c.args.nfa.now).rows _ c.cut-going.ensures c.in_ok-label.ensures in
+    omega (arith, told, ap length c.deref-2.ensures.value, c.in_ok-settled.ensures.bound)

@@ -1,5 +1,5 @@
 use Rattle.std.proofs.Common.{◌<◌, subst, sym}
-use Rattle.rx_refine.proofs.ColumnsOf.{group_of_row}
+use Rattle.rx_refine.proofs.TableColumns.{group_of_row}
 use Rattle.rx_refine.proofs.lists.Incoming.count.Goals as goal
 
 pub rows_of-requires : goal.rows_of-requires

@@ -1,5 +1,5 @@
-use Rattle.std.proofs.Common.{◌≡◌, ◌+◌, ◌*◌, arith}
-use Rattle.rx_refine.proofs.ColumnsOf.{AreTransposed-set, AreTransposed-all}
+use Rattle.std.proofs.Common.{arith}
+use Rattle.rx_refine.proofs.TableColumns.{AreTransposed-set, AreTransposed-all}
 use Rattle.rx_refine.proofs.table.Table.transpose.Goals as goal
 
 pub loop-unit-preserved : goal.loop-unit-preserved

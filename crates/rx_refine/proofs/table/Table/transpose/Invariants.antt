@@ -1,5 +1,5 @@
 use Rattle.std.proofs.Common.{◌+◌, ◌*◌}
-use Rattle.rx_refine.proofs.ColumnsOf.{AreTransposed}
+use Rattle.rx_refine.proofs.TableColumns.{AreTransposed}
 use Rattle.rx_refine.proofs.table.Table.transpose.Given as goal
 
 abbrev pub invariant-loop-row : goal.invariant-loop-row

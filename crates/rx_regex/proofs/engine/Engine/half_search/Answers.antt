@@ -27,7 +27,8 @@ returns c =
     let q = query_of c.args.input.now in
     let d = c.args.direction in
     let refusal = λ (k : StartConfig). option_map (match_error d q) (start_error (build_settings b) k.beside k.mode) in
-    let node = λ (k : StartConfig). start_node b.nfa (nfa_start b.nfa k.mode) (start_of b.nfa.line_terminator k.beside) in
+    let node = λ (k : StartConfig).
+    start_node b.nfa (nfa_start b.nfa k.mode) (start_of b.nfa.line_terminator k.beside) in
     let s = state_of c.in_ok-start.start in
     says_same c.walk.result (whole_walk (power b) d q (Running s)) (build_half_search b d q)
     (start_given b d q (sym c.is_done.ensures ∙ c.if-is_done.false)

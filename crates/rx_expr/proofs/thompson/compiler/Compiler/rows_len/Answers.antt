@@ -1,13 +1,22 @@
-use Rattle.std.proofs.Common.{◌≡◌, ◌+◌, ◌∙◌, ap, length, min, ◌^◌}
+use Rattle.std.proofs.Common.{◌+◌, ◌∙◌, ap, length, min, ◌^◌}
 use Rattle.rx_expr.specs.Settings.{settled}
 use Rattle.rx_expr.specs.Compiler.{asked_by}
-use Rattle.rx_expr.specs.Compiles.{wanted_nfa, patterns_count, joined_count, lead_count}
-use Rattle.rx_expr.proofs.Starting.{length-nfa, all_at_edge, capped}
+use Rattle.rx_expr.specs.Compiles.{all_at_edge, patterns_count, joined_count, lead_count}
+use Rattle.rx_expr.proofs.BuiltNfas.{length-nfa, capped}
 use Rattle.rx_expr.proofs.thompson.compiler.Compiler.rows_len.Goals as goal
 
-pub returns : goal.returns
-returns c =
+pub returns-clause-value : goal.returns-clause-value
+returns-clause-value c =
     let a = settled (asked_by c.args.self.now) in
-    let e : lead_count (all_at_edge c.direction.result c.args.exprs.now) ≡ lead_count (all_at_edge a.direction c.args.exprs.now) = ap (λ r. lead_count (all_at_edge r c.args.exprs.now)) c.direction.ensures in
-    capped (patterns_count c.args.exprs.now) (joined_count (length c.args.exprs.now)) (lead_count (all_at_edge a.direction c.args.exprs.now)) c.patterns_len.result c.starts_len.result c.min.result (length (wanted_nfa (asked_by c.args.self.now) c.args.exprs.now).rows)
-    c.patterns_len.ensures (c.starts_len.ensures.value ∙ ap (λ n. min (joined_count (length c.args.exprs.now)) (2 ^ 31) + n) e) c.min.ensures (length-nfa a.direction a.line_terminator a.is_utf8 c.args.exprs.now)
+    let es = c.args.exprs.now in
+    let joins = joined_count (length es) in
+    let same = ap (λ d. min joins (2 ^ 31) + lead_count (all_at_edge d es)) c.direction.ensures in
+    let total = length-nfa a.direction a.line_terminator a.is_utf8 es in
+    capped
+    (patterns_count es)
+    joins
+    (lead_count (all_at_edge a.direction es))
+    c.patterns_len.ensures.value
+    (c.starts_len.ensures.value ∙ same)
+    c.min.ensures
+    total

@@ -1,0 +1,48 @@
+-- What is kept of an expression is kept of its mirror.
+use Rattle.std.proofs.Common.{◌≡◌, ℕ, ◌-◌, ◌^◌, min, refl, Some, None, arith, ap, ◌∙◌, sym, subst}
+use Rattle.rx_spec.specs.Expressions.{Expression, mirror, depth, min_len, IsLoopSafe}
+use Rattle.rx_lemmas.proofs.Mirrors.{min_len-mirror, IsLoopSafe-mirror}
+use Rattle.rx_expr.specs.Expr.{form_of, IsKept}
+use Rattle.rx_expr.specs.declared.expr.Form.{Form}
+use Rattle.rx_expr.specs.declared.expr.Inner.{Inner}
+use Rattle.rx_spec.specs.Rows.{rows_count}
+
+pub depth-mirror : (e : Expression) → depth (mirror e) ≡ depth e
+unfolding depth mirror
+depth-mirror Expression.Empty = refl
+depth-mirror (Expression.Class set) = refl
+depth-mirror (Expression.Look look) = refl
+depth-mirror (Expression.Concat a b) = let x = depth-mirror a in let y = depth-mirror b in omega arith
+depth-mirror (Expression.Alternate a b) = let x = depth-mirror a in let y = depth-mirror b in omega arith
+depth-mirror (Expression.Repeat least most greedy body) = let x = depth-mirror body in omega arith
+
+pub rows_count-mirror : (e : Expression) → rows_count (mirror e) ≡ rows_count e
+unfolding rows_count mirror
+rows_count-mirror Expression.Empty = refl
+rows_count-mirror (Expression.Class set) = refl
+rows_count-mirror (Expression.Look look) = refl
+rows_count-mirror (Expression.Concat a b) = let x = rows_count-mirror a in let y = rows_count-mirror b in omega arith
+rows_count-mirror (Expression.Alternate a b) =
+    let x = rows_count-mirror a in
+    let y = rows_count-mirror b in
+    omega arith
+rows_count-mirror (Expression.Repeat least None greedy body) = let x = rows_count-mirror body in rw x refl
+rows_count-mirror (Expression.Repeat least (Some most) greedy body) = let x = rows_count-mirror body in rw x refl
+
+-- what is kept of a form is kept of the mirrored one
+pub record IsKeptOf (f : Form) (kept_len kept_rows kept_depth : ℕ) : Type 0 where
+  pub least : kept_len ≡ min (min_len (form_of f)) (2 ^ 64 - 1)
+  pub rows : kept_rows ≡ min (rows_count (form_of f)) (2 ^ 31)
+  pub depth_is : kept_depth ≡ depth (form_of f)
+  pub safe : IsLoopSafe (form_of f)
+
+pub IsKeptOf-mirror : {i : Inner} {f : Form} → IsKept i → form_of f ≡ mirror (form_of i.form)
+    → IsKeptOf f i.min_len i.rows i.depth
+IsKeptOf-mirror {i} kept is =
+    let e = form_of i.form in
+    record {
+      least = kept.min_len ∙ sym (ap (λ n. min n (2 ^ 64 - 1)) (ap min_len is ∙ min_len-mirror e));
+      rows = kept.rows ∙ sym (ap (λ n. min n (2 ^ 31)) (ap rows_count is ∙ rows_count-mirror e));
+      depth_is = kept.depth ∙ sym (ap depth is ∙ depth-mirror e);
+      safe = subst IsLoopSafe (sym is) (IsLoopSafe-mirror e kept.safe);
+    }

@@ -1,0 +1,146 @@
+-- The rows of all patterns: each pattern's Match row and its expression's rows, one pattern after another.
+use Rattle.std.proofs.Common.{◌≡◌, ℕ, suc, ◌+◌, ◌^◌, ◌≤◌, List, [], ◌∷◌, ◌++◌, length, map, drop, min, refl, sym}
+use Rattle.std.proofs.Common.{◌∙◌, ap, arith, append_assoc, append-nil, length-append, All}
+use Rattle.std.proofs.Math.Path.{ap₂}
+use Rattle.std.proofs.lemmas.List.{length-map, map-append, drop_all}
+use Rattle.std.proofs.lemmas.List.Sums.{sum_by-cons}
+use Rattle.rx_spec.specs.Expressions.{Expression, IsLoopSafe}
+use Rattle.rx_spec.specs.Rows.{Part, compile, rows_count}
+use Rattle.rx_spec.specs.Nfas.{Patterns, patterns_from, read_as}
+use Rattle.rx_spec.specs.Rows as spec
+use Rattle.rx_spec.specs.declared.Direction.{Direction}
+use Rattle.rx_expr.specs.Compiles.{Adds, AddsPatterns, maker, patterns_count, patterns_of}
+use Rattle.rx_expr.specs.Nfa.{row_of}
+use Rattle.rx_expr.specs.declared.thompson.nfa.Row.{Row}
+use Rattle.rx_expr.proofs.ExpressionRows.{maker_makes}
+
+-- how many rows some expressions have, up to a limit, and that they are safe
+pub record Counted (exprs : List Expression) (rows : ℕ) : Type 0 where
+  pub value : rows ≡ min (patterns_count exprs) (2 ^ 31)
+  pub safe : All IsLoopSafe exprs
+
+patterns_count-cons : (e : Expression) (es : List Expression)
+    → patterns_count (e ∷ es) ≡ 1 + rows_count e + patterns_count es
+patterns_count-cons e es = sum_by-cons (λ x. 1 + rows_count x) e es
+
+pub length-le-patterns_count : (es : List Expression) → length es ≤ patterns_count es
+length-le-patterns_count [] = omega arith
+length-le-patterns_count (e ∷ es) =
+    let h = length-le-patterns_count es in
+    omega (arith, patterns_count-cons e es)
+
+-- ---- one pattern after another
+
+-- the patterns from the k-th on, whose rows stand from a base on
+abbrev left : Direction → List Expression → ℕ → ℕ → Patterns
+left direction exprs k base = patterns_from base k (map (read_as direction) (drop k exprs))
+
+-- the rows and starts so far, and those of the expressions that are left
+pub record Going (direction : Direction) (exprs : List Expression) (k : ℕ) (rows : List Row) (starts : List ℕ)
+    : Type 0 where
+  pub rows_are : map row_of rows ++ (left direction exprs k (length rows)).rows ≡ (patterns_of direction exprs).rows
+  pub starts_are : starts ++ (left direction exprs k (length rows)).entries ≡ (patterns_of direction exprs).entries
+  pub room : length rows + patterns_count (drop k exprs) ≡ patterns_count exprs
+
+pub going_first : (direction : Direction) (exprs : List Expression) → Going direction exprs 0 [] []
+going_first direction exprs = record { rows_are = refl; starts_are = refl; room = omega arith }
+
+pub going_more : {direction : Direction} {exprs : List Expression} {rows accepted made : List Row} {starts : List ℕ}
+    {e : Expression} {start : ℕ} (k : ℕ) (row : Row) → Going direction exprs k rows starts
+    → drop k exprs ≡ e ∷ drop (k + 1) exprs → row_of row ≡ spec.Match k → accepted ≡ rows ++ (row ∷ [])
+    → Adds (maker direction e) accepted made (length rows) start
+    → Going direction exprs (k + 1) made (starts ++ (start ∷ []))
+unfolding patterns_from
+going_more {direction} {exprs} {rows} {accepted} {made} {starts} {e} {start} k row going split is pushed added =
+    let r = read_as direction in
+    let base = length rows + 1 in
+    let part = compile (r e) base (length rows) in
+    let others = left direction exprs (k + 1) (base + length part.rows) in
+    let old = map row_of rows in
+    let place : length accepted ≡ base = ap length pushed ∙ length-append rows (row ∷ []) in
+    let same : maker direction e (length accepted) (length rows) ≡ part =
+    ap (λ n. compile (r e) n (length rows)) place in
+    let accepted_rows = ap (map row_of) pushed ∙ map-append row_of rows (row ∷ []) ∙ ap (λ x. old ++ (x ∷ [])) is in
+    let made_rows : map row_of made ≡ old ++ (spec.Match k ∷ part.rows) =
+    added.rows ∙ ap₂ (λ xs (p : Part). xs ++ p.rows) accepted_rows same
+    ∙ append_assoc old (spec.Match k ∷ []) part.rows in
+    let made_len : length made ≡ base + length part.rows =
+    omega (
+      arith,
+      length-map made row_of,
+      length-map rows row_of,
+      ap length made_rows,
+      length-append old (spec.Match k ∷ part.rows),
+    ) in
+    let later : left direction exprs (k + 1) (length made) ≡ others = ap (left direction exprs (k + 1)) made_len in
+    let all : Patterns = record {
+      entries = part.entry ∷ others.entries;
+      rows = (spec.Match k ∷ part.rows) ++ others.rows;
+    } in
+    let whole : left direction exprs k (length rows) ≡ all =
+    ap (λ xs. patterns_from (length rows) k (map r xs)) split in
+    let counted : length part.rows ≡ rows_count e = maker_makes direction e base (length rows) in
+    let entered = added.entered ∙ ap (λ (p : Part). p.entry) same in
+    record {
+      rows_are =
+          ap₂ (λ xs (p : Patterns). xs ++ p.rows) made_rows later
+          ∙ append_assoc old (spec.Match k ∷ part.rows) others.rows
+          ∙ sym (ap (λ (p : Patterns). old ++ p.rows) whole) ∙ going.rows_are;
+      starts_are =
+          ap₂ (λ n (p : Patterns). (starts ++ (n ∷ [])) ++ p.entries) entered later
+          ∙ append_assoc starts (part.entry ∷ []) others.entries
+          ∙ sym (ap (λ (p : Patterns). starts ++ p.entries) whole) ∙ going.starts_are;
+      room =
+          omega (arith, going.room, ap patterns_count split, patterns_count-cons e (drop (k + 1) exprs));
+    }
+
+-- all patterns were added
+pub going_last : {direction : Direction} {exprs : List Expression} {k : ℕ} {rows : List Row} {starts : List ℕ}
+    → Going direction exprs k rows starts → length exprs ≤ k → AddsPatterns direction exprs rows starts
+unfolding patterns_from
+going_last {direction} {exprs} {k} {rows} {starts} going h =
+    let nothing : Patterns = record { entries = []; rows = [] } in
+    let none : left direction exprs k (length rows) ≡ nothing =
+    ap (λ xs. patterns_from (length rows) k (map (read_as direction) xs)) (drop_all k exprs h) in
+    record {
+      rows_are =
+          sym (append-nil (map row_of rows)) ∙ sym (ap (λ (p : Patterns). map row_of rows ++ p.rows) none)
+          ∙ going.rows_are;
+      starts_are =
+          sym (append-nil starts) ∙ sym (ap (λ (p : Patterns). starts ++ p.entries) none) ∙ going.starts_are;
+    }
+
+-- ---- how many rows and starts that are
+
+pub length-patterns : (direction : Direction) (es : List Expression) (base k : ℕ)
+    → length (patterns_from base k (map (read_as direction) es)).rows ≡ patterns_count es
+unfolding patterns_from
+length-patterns direction [] base k = refl
+length-patterns direction (e ∷ es) base k =
+    let part = compile (read_as direction e) (base + 1) base in
+    let after = base + 1 + length part.rows in
+    let others = patterns_from after (k + 1) (map (read_as direction) es) in
+    omega (
+      arith,
+      patterns_count-cons e es,
+      length-append part.rows others.rows,
+      length-patterns direction es after (k + 1),
+      maker_makes direction e (base + 1) base,
+    )
+
+pub length-entries : (direction : Direction) (es : List Expression) (base k : ℕ)
+    → length (patterns_from base k (map (read_as direction) es)).entries ≡ length es
+unfolding patterns_from
+length-entries direction [] base k = refl
+length-entries direction (e ∷ es) base k =
+    let part = compile (read_as direction e) (base + 1) base in
+    ap suc (length-entries direction es (base + 1 + length part.rows) (k + 1))
+
+pub length-added_patterns : {direction : Direction} {es : List Expression} {rows : List Row} {starts : List ℕ}
+    → AddsPatterns direction es rows starts → length rows ≡ patterns_count es
+length-added_patterns {direction} {es} {rows} added =
+    sym (length-map rows row_of) ∙ ap length added.rows_are ∙ length-patterns direction es 0 0
+
+pub length-starts : {direction : Direction} {es : List Expression} {rows : List Row} {starts : List ℕ}
+    → AddsPatterns direction es rows starts → length starts ≡ length es
+length-starts {direction} {es} added = ap length added.starts_are ∙ length-entries direction es 0 0

@@ -1,0 +1,17 @@
+use Rattle.std.proofs.Common.{arith, subst, All}
+use Rattle.std.proofs.lemmas.Grind.{common_steps}
+use Rattle.std.proofs.lemmas.List.{take_all}
+use Rattle.std.proofs.lemmas.List.Elements.{All-more}
+use Rattle.rx_spec.specs.Expressions.{IsLoopSafe}
+use Rattle.rx_expr.proofs.thompson.starts.patterns_len.Goals as goal
+
+pub loop-expr-preserved : goal.loop-expr-preserved
+loop-expr-preserved c =
+    let safe = subst IsLoopSafe c.expr-item.is c.rows_len.ensures.safe in
+    record {
+      value = grind (arith, common_steps);
+      safe = All-more IsLoopSafe c.args.exprs.now _ _ c.loop-expr-test.true c.loop-expr.invariant.safe safe;
+    }
+
+pub returns-clause-safe : goal.returns-clause-safe
+returns-clause-safe c = subst (All IsLoopSafe) (take_all _ c.args.exprs.now (omega arith)) c.loop-expr.invariant.safe

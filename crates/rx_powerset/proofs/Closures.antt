@@ -1,0 +1,173 @@
+-- The closure of a row, where no path that reads nothing goes round: what the row is of itself, and
+-- the closures of those behind it.
+use Rattle.std.proofs.Common.{◌≡◌, ℕ, zero, suc, ◌+◌, ◌*◌, ◌<◌, ◌⊎◌, inl, inr, true, false, if◌then◌else◌, List, []}
+use Rattle.std.proofs.Common.{◌∷◌, ◌++◌, length, sum_by, refl, ap, ap₂, sym, ◌∙◌, subst, arith, append-nil}
+use Rattle.std.specs.List.{flat_map}
+use Rattle.std.proofs.lemmas.List.Sums.{sum_by-cons}
+use Rattle.rx_spec.specs.Rows.{Row}
+use Rattle.rx_spec.specs.States.{row_at, Passing, Standing, Tested, reach_by, reach, closure}
+use Rattle.rx_spec.specs.Shallow.{AllNext, Short, IsShallow}
+use Rattle.rx_expr.specs.Nfa.{meaning}
+use Rattle.rx_expr.specs.declared.thompson.nfa.NFA.{NFA}
+use Rattle.rx_powerset.specs.Closures.{own_by, branches_by, passing_of}
+use Rattle.rx_powerset.specs.declared.closure.Passing as code
+use Rattle.rx_powerset.proofs.Search.{Graph}
+
+-- ---- one row
+
+reach_by-parts : (pass : Passing) (behind : ℕ → List ℕ) (q : ℕ) (row : Row)
+    → reach_by pass behind q row ≡ own_by pass q row ++ flat_map behind (branches_by pass row)
+reach_by-parts pass behind q (Row.Bytes set next) = refl
+reach_by-parts pass behind q (Row.Split first second) =
+    ap (λ l. behind first ++ l) (sym (append-nil (behind second)))
+reach_by-parts Standing behind q (Row.Look look next) = refl
+reach_by-parts (Tested holds) behind q (Row.Look look next) =
+    elim (holds look) as (λ v. (if v then behind next else []) ≡ flat_map behind (if v then next ∷ [] else [])) [
+      | true ↦ sym (append-nil (behind next))
+      | false ↦ refl
+    ]
+reach_by-parts pass behind q (Row.Match pattern) = refl
+reach_by-parts pass behind q Row.Fail = refl
+
+pub own_either : (pass : Passing) (q : ℕ) (row : Row) → (own_by pass q row ≡ []) ⊎ (own_by pass q row ≡ q ∷ [])
+own_either pass q (Row.Bytes set next) = inr refl
+own_either pass q (Row.Split first second) = inl refl
+own_either Standing q (Row.Look look next) = inr refl
+own_either (Tested holds) q (Row.Look look next) = inl refl
+own_either pass q (Row.Match pattern) = inr refl
+own_either pass q Row.Fail = inl refl
+
+-- how many rows the paths from a row that read nothing meet, each as often as a path does
+abbrev weight_by : (ℕ → ℕ) → Row → ℕ
+weight_by behind (Row.Bytes set next) = 1
+weight_by behind (Row.Split first second) = 1 + behind first + behind second
+weight_by behind (Row.Look look next) = 1 + behind next
+weight_by behind (Row.Match pattern) = 1
+weight_by behind Row.Fail = 1
+
+sum_of_one : (w : ℕ → ℕ) (a : ℕ) → sum_by w (a ∷ []) ≡ w a
+sum_of_one w a =
+    let none : sum_by w [] ≡ 0 = refl in
+    omega (arith, sum_by-cons w a [])
+
+sum_of_two : (w : ℕ → ℕ) (a b : ℕ) → sum_by w (a ∷ b ∷ []) ≡ w a + w b
+sum_of_two w a b = omega (arith, sum_by-cons w a (b ∷ []), sum_of_one w b)
+
+none_lighter : (w : ℕ → ℕ) (n : ℕ) → 0 < n → sum_by w [] < n
+none_lighter w n h =
+    let none : sum_by w [] ≡ 0 = refl in
+    omega arith
+
+-- the weight of those behind it is less
+branches_lighter : (pass : Passing) (w : ℕ → ℕ) (row : Row) → sum_by w (branches_by pass row) < weight_by w row
+branches_lighter pass w (Row.Bytes set next) = none_lighter w 1 (omega arith)
+branches_lighter pass w (Row.Split first second) = omega (arith, sum_of_two w first second)
+branches_lighter Standing w (Row.Look look next) = none_lighter w (1 + w next) (omega arith)
+branches_lighter (Tested holds) w (Row.Look look next) =
+    elim (holds look) as (λ v. sum_by w (if v then next ∷ [] else []) < 1 + w next) [
+      | true ↦ omega (arith, sum_of_one w next)
+      | false ↦ none_lighter w (1 + w next) (omega arith)
+    ]
+branches_lighter pass w (Row.Match pattern) = none_lighter w 1 (omega arith)
+branches_lighter pass w Row.Fail = none_lighter w 1 (omega arith)
+
+-- ---- one step more changes nothing, where paths are short
+
+reach_by-same : (pass : Passing) (f g : ℕ → List ℕ) (q : ℕ) (row : Row) → AllNext (λ p. f p ≡ g p) row
+    → reach_by pass f q row ≡ reach_by pass g q row
+reach_by-same pass f g q (Row.Bytes set next) h = refl
+reach_by-same pass f g q (Row.Split first second) h = ap₂ (λ a b. a ++ b) h.0 h.1
+reach_by-same Standing f g q (Row.Look look next) h = refl
+reach_by-same (Tested holds) f g q (Row.Look look next) h = ap (λ l. if holds look then l else []) h
+reach_by-same pass f g q (Row.Match pattern) h = refl
+reach_by-same pass f g q Row.Fail h = refl
+
+weight_by-same : (f g : ℕ → ℕ) (row : Row) → AllNext (λ p. f p ≡ g p) row → weight_by f row ≡ weight_by g row
+weight_by-same f g (Row.Bytes set next) h = refl
+weight_by-same f g (Row.Split first second) h = ap₂ (λ a b. 1 + a + b) h.0 h.1
+weight_by-same f g (Row.Look look next) h = ap (λ n. 1 + n) h
+weight_by-same f g (Row.Match pattern) h = refl
+weight_by-same f g Row.Fail h = refl
+
+AllNext-weaker : (P Q : ℕ → Type 0) → ((p : ℕ) → P p → Q p) → (row : Row) → AllNext P row → AllNext Q row
+AllNext-weaker P Q f (Row.Bytes set next) h = tt
+AllNext-weaker P Q f (Row.Split first second) h = (f first h.0, f second h.1)
+AllNext-weaker P Q f (Row.Look look next) h = f next h
+AllNext-weaker P Q f (Row.Match pattern) h = tt
+AllNext-weaker P Q f Row.Fail h = tt
+
+unfoldable pub weight_within : List Row → ℕ → ℕ → ℕ
+weight_within rows zero q = 0
+weight_within rows (suc n) q = weight_by (λ p. weight_within rows n p) (row_at rows q)
+
+reach_stays : (rows : List Row) (pass : Passing) (n q : ℕ) → Short rows n q
+    → reach rows pass (suc n) q ≡ reach rows pass n q
+unfolding Short reach
+reach_stays rows pass zero q h = absurd h
+reach_stays rows pass (suc n) q h =
+    let more = λ (p : ℕ). reach rows pass (suc n) p in
+    let less = λ (p : ℕ). reach rows pass n p in
+    let each = λ (p : ℕ) (k : Short rows n p). reach_stays rows pass n p k in
+    reach_by-same pass more less q (row_at rows q)
+    (AllNext-weaker (Short rows n) (λ p. more p ≡ less p) each (row_at rows q) h)
+
+weight_stays : (rows : List Row) (n q : ℕ) → Short rows n q → weight_within rows (suc n) q ≡ weight_within rows n q
+unfolding Short weight_within
+weight_stays rows zero q h = absurd h
+weight_stays rows (suc n) q h =
+    let more = λ (p : ℕ). weight_within rows (suc n) p in
+    let less = λ (p : ℕ). weight_within rows n p in
+    let each = λ (p : ℕ) (k : Short rows n p). weight_stays rows n p k in
+    weight_by-same more less (row_at rows q)
+    (AllNext-weaker (Short rows n) (λ p. more p ≡ less p) each (row_at rows q) h)
+
+-- ---- the rows as a graph
+
+-- as many steps as a closure takes
+abbrev pub steps : List Row → ℕ
+steps rows = length rows * length rows + 1
+
+abbrev pub weight_of : List Row → ℕ → ℕ
+weight_of rows q = weight_within rows (steps rows) q
+
+reach-next : (rows : List Row) (pass : Passing) (n q : ℕ)
+    → reach rows pass (suc n) q ≡ reach_by pass (λ p. reach rows pass n p) q (row_at rows q)
+unfolding reach
+reach-next rows pass n q = refl
+
+weight-next : (rows : List Row) (n q : ℕ)
+    → weight_within rows (suc n) q ≡ weight_by (λ p. weight_within rows n p) (row_at rows q)
+unfolding weight_within
+weight-next rows n q = refl
+
+pub closure_unfolds : (rows : List Row) (pass : Passing) → IsShallow rows → (q : ℕ)
+    → closure rows pass q
+    ≡ own_by pass q (row_at rows q) ++ flat_map (closure rows pass) (branches_by pass (row_at rows q))
+closure_unfolds rows pass s q =
+    sym (reach_stays rows pass (steps rows) q (s.short q)) ∙ reach-next rows pass (steps rows) q
+    ∙ reach_by-parts pass (λ p. reach rows pass (steps rows) p) q (row_at rows q)
+
+pub closure_falls : (rows : List Row) (pass : Passing) → IsShallow rows → (q : ℕ)
+    → sum_by (weight_of rows) (branches_by pass (row_at rows q)) < weight_of rows q
+closure_falls rows pass s q =
+    let behind = λ (p : ℕ). weight_within rows (steps rows) p in
+    let same = sym (weight-next rows (steps rows) q) ∙ weight_stays rows (steps rows) q (s.short q) in
+    subst
+    (λ n. sum_by behind (branches_by pass (row_at rows q)) < n)
+    same
+    (branches_lighter pass behind (row_at rows q))
+
+abbrev pub graph_of : (rows : List Row) (pass : Passing) → IsShallow rows → Graph
+graph_of rows pass s = record {
+  own = λ q. own_by pass q (row_at rows q);
+  branches = λ q. branches_by pass (row_at rows q);
+  gives = closure rows pass;
+  weight = weight_of rows;
+  own_is = λ q. own_either pass q (row_at rows q);
+  unfolds = closure_unfolds rows pass s;
+  falls = closure_falls rows pass s;
+}
+
+-- that of an NFA of the code
+abbrev pub nfa_graph : NFA → code.Passing → Graph
+nfa_graph nfa passing = graph_of (meaning nfa).rows (passing_of passing) nfa.shallow

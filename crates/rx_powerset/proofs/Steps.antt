@@ -1,0 +1,41 @@
+-- The parts of a step, put together.
+use Rattle.std.proofs.Common.{◌≡◌, ℕ, List, Result, Ok, Err, IfOk, ap, ap₂, ◌∙◌}
+use Rattle.std.specs.List.{flat_map}
+use Rattle.rx_spec.specs.Contexts.{Facts, unit_facts, holds_read}
+use Rattle.rx_spec.specs.Nfas.{Nfa}
+use Rattle.rx_spec.specs.States.{State, Tested, row_at, decided_rows, cut, pattern_of, target, state_at, step}
+use Rattle.rx_spec.specs.declared.Direction.{Direction}
+use Rattle.rx_spec.specs.declared.MatchKind.{MatchKind}
+use Rattle.rx_powerset.specs.Closures.{closed_rows}
+
+-- what an answer is known to be, by what that equals
+pub answered : {S E T : Type 0} (f : S → T) (r : Result S E) {a b : T} → a ≡ b → IfOk r (λ s. f s ≡ a)
+    → IfOk r (λ s. f s ≡ b)
+answered f (Ok s) e h = h ∙ e
+answered f (Err x) e h = h
+
+-- the rows that are closed under the facts and the direction at hand
+pub decided : {known : Facts} {direction : Direction} {from rows : List ℕ} (nfa : Nfa) (s : State) (unit : ℕ)
+    → known ≡ unit_facts nfa.line_terminator unit → direction ≡ nfa.direction → from ≡ s.rows
+    → rows ≡ closed_rows nfa.rows (Tested (λ look. holds_read direction look s.context known)) from
+    → rows ≡ decided_rows nfa unit s
+decided {from = from} nfa s unit known direction from_is rows_are =
+    let passing = λ (d : Direction) (k : Facts). Tested (λ look. holds_read d look s.context k) in
+    rows_are ∙ ap₂ (λ d k. closed_rows nfa.rows (passing d k) from) direction known
+    ∙ ap (closed_rows nfa.rows (passing nfa.direction (unit_facts nfa.line_terminator unit))) from_is
+
+-- what the parts of a step were found to be
+pub record Parts (nfa : Nfa) (kind : MatchKind) (s : State) (unit : ℕ) (known : Facts) (going targets label : List ℕ)
+    : Type 0 where
+  pub known_is : known ≡ unit_facts nfa.line_terminator unit
+  pub going_is : going ≡ cut kind nfa.rows (decided_rows nfa unit s)
+  pub targets_are : targets ≡ flat_map (λ q. target unit (row_at nfa.rows q)) going
+  pub label_is : label ≡ flat_map (λ q. pattern_of (row_at nfa.rows q)) going
+
+pub stepped : {nfa : Nfa} {kind : MatchKind} {s : State} {unit : ℕ} {known : Facts} {going targets label : List ℕ}
+    → Parts nfa kind s unit known going targets label → state_at nfa targets known label ≡ step nfa kind s unit
+unfolding step
+stepped {nfa} {unit = unit} p =
+    let targets = p.targets_are ∙ ap (flat_map (λ q. target unit (row_at nfa.rows q))) p.going_is in
+    let label = p.label_is ∙ ap (flat_map (λ q. pattern_of (row_at nfa.rows q))) p.going_is in
+    λ i. state_at nfa (targets i) (p.known_is i) (label i)

@@ -1,0 +1,43 @@
+-- The rows that are reached without reading a byte: what one row gives to a search for them, and all that some
+-- rows reach.
+use Rattle.std.specs.Prelude.{ℕ, if◌then◌else◌, List, [], ◌∷◌}
+use Rattle.std.specs.List.{flat_map}
+use Rattle.rx_spec.specs.Contexts.{holds_read}
+use Rattle.rx_spec.specs.Rows.{Row}
+use Rattle.rx_spec.specs.States as states
+use Rattle.rx_spec.specs.States.{Standing, Tested, closure, firsts}
+use Rattle.rx_spec.specs.declared.Look.{Look}
+use Rattle.rx_powerset.specs.declared.closure.Passing.{Passing}
+
+-- what a row lists of itself
+abbrev pub own_of_look : states.Passing → ℕ → List ℕ
+own_of_look Standing q = q ∷ []
+own_of_look (Tested holds) q = []
+
+abbrev pub own_by : states.Passing → ℕ → Row → List ℕ
+own_by pass q (Row.Bytes set next) = q ∷ []
+own_by pass q (Row.Split first second) = []
+own_by pass q (Row.Look look next) = own_of_look pass q
+own_by pass q (Row.Match pattern) = q ∷ []
+own_by pass q Row.Fail = []
+
+-- the rows behind it that it gives way to, the preferred first
+abbrev pub branches_of_look : states.Passing → Look → ℕ → List ℕ
+branches_of_look Standing look next = []
+branches_of_look (Tested holds) look next = if holds look then next ∷ [] else []
+
+abbrev pub branches_by : states.Passing → Row → List ℕ
+branches_by pass (Row.Bytes set next) = []
+branches_by pass (Row.Split first second) = first ∷ second ∷ []
+branches_by pass (Row.Look look next) = branches_of_look pass look next
+branches_by pass (Row.Match pattern) = []
+branches_by pass Row.Fail = []
+
+-- what becomes of an assertion that is met, as the code says it
+abbrev pub passing_of : Passing → states.Passing
+passing_of Passing.Standing = Standing
+passing_of (Passing.Tested last next direction) = Tested (λ look. holds_read direction look last next)
+
+-- all that some rows reach, the preferred first, and each once
+abbrev pub closed_rows : List Row → states.Passing → List ℕ → List ℕ
+closed_rows rows pass from = firsts (flat_map (λ q. closure rows pass q) from)

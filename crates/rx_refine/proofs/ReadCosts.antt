@@ -1,0 +1,260 @@
+-- How many reads there are. For a unit the allowance of a row is the size of its block where that waits
+-- for the unit, and half of it where it doesn't. Where the unit takes a block, the allowance of each of
+-- its rows has one binary digit less; a split raises none.
+use Rattle.std.proofs.Common.{◌≡◌, ℕ, zero, suc, ◌+◌, ◌*◌, ◌/◌, ◌^◌, ◌<◌, ◌≤◌, cond, List, length, get_or}
+use Rattle.std.proofs.Common.{set, eqb, leb, refl, sym, ap, ◌∙◌, arith, eq-eqb, ne_eqb, le-leb, leb-false, leb-true}
+use Rattle.std.proofs.Common.{mul-le-mul_right, pow_pos, pow-suc, get_or-set_same, get_or-set_other, inl, inr}
+use Rattle.std.specs.List.{sum_by}
+use Rattle.std.proofs.lemmas.Bool.{cases_Bool, cases_eq, cases_lt, lt-leb}
+use Rattle.std.proofs.lemmas.Int.Digits.{length-digits_of_step, length-digits_of-le}
+use Rattle.std.proofs.Math.Numerals.{suc-eq-add-one}
+use Rattle.rx_refine.specs.Keys.{total, waiting_cost, waiting_reads}
+use Rattle.rx_refine.specs.Moves.{Moves, AreMoves, column, sources, binary_digits, read_limit}
+use Rattle.rx_refine.specs.Places.{how_many}
+use Rattle.rx_refine.specs.Parts.{Parts, Refines, block_of, size_of, is_in}
+use Rattle.rx_refine.proofs.Blocks.{is_in_members, members, members_apart, members_small}
+use Rattle.rx_refine.proofs.Places.{length-places_from}
+use Rattle.rx_refine.proofs.RefinedBlocks.{IsRefined, IsSettling}
+use Rattle.rx_refine.proofs.Totals.{total-add, total-le, total-spent, total-same, total-const, total-mul}
+use Rattle.rx_refine.proofs.Totals.{total-how_many-all, total_single, total_term, sum_by-total}
+use Rattle.rx_refine.proofs.Totals.{total-add, total-le, total-spent, total-same, total-const, total-mul}
+use Rattle.rx_refine.proofs.Totals.{total-how_many-all, total_single, total_term, sum_by-total}
+
+-- ---- binary digits
+digits_half : (n : ℕ) → 0 < n → binary_digits n ≡ binary_digits (n / 2) + 1
+digits_half n h = length-digits_of_step 2 n (omega arith) h
+
+pow_next : (k : ℕ) → 2 ^ suc k ≡ 2 ^ k * 2
+pow_next k = pow-suc 2 k
+
+below_power : (f n : ℕ) → n ≤ f → n < 2 ^ binary_digits n
+below_power zero n h = let e : n ≡ 0 = omega arith in rw e (pow_pos (binary_digits 0))
+below_power (suc f) n h =
+    elim (cases_lt 0 n) [
+      | inl some ↦
+          let e : binary_digits n ≡ suc (binary_digits (n / 2)) =
+          digits_half n some ∙ sym (suc-eq-add-one (binary_digits (n / 2))) in
+          let l : n / 2 < 2 ^ binary_digits (n / 2) = below_power f (n / 2) (omega arith) in
+          let p : 2 ^ suc (binary_digits (n / 2)) ≡ 2 ^ binary_digits (n / 2) * 2 = pow_next (binary_digits (n / 2)) in
+          rw (e, p) (omega arith)
+      | inr none ↦ let e : n ≡ 0 = omega arith in rw e (pow_pos (binary_digits 0))
+    ]
+
+digits-le : (a b : ℕ) → a ≤ b → binary_digits a ≤ binary_digits b
+digits-le a b h = length-digits_of-le 2 (binary_digits b) a (omega arith) (omega (arith, below_power b b (omega arith)))
+
+-- ---- what a row costs where a unit takes its block
+abbrev pub cost : Moves → ℕ → ℕ → ℕ
+cost m unit row = 1 + length (sources m row unit)
+
+total_cost : {m : Moves} {unit : ℕ} → AreMoves m → unit < m.units → 0 < m.rows → total (cost m unit) m.rows ≡ 2 * m.rows
+total_cost {m} {unit} a h some =
+    let len = a.lengths unit some h in
+    let read : ℕ → ℕ = λ row. length (sources m row unit) in
+    let stands : ℕ → ℕ = how_many (column m unit) in
+    let each : total read m.rows ≡ total stands m.rows =
+    total-same read stands m.rows (λ row l. length-places_from 0 (column m unit) row) in
+    let all : total stands m.rows ≡ length (column m unit) =
+    total-how_many-all (column m unit) m.rows (λ k l. a.nexts k unit (omega arith) h) in
+    total-add (λ _. 1) read m.rows ∙ omega (arith, total-const 1 m.rows)
+
+-- ---- the allowance
+abbrev pub allowance : Parts → ℕ → ℕ → ℕ
+allowance p taken row = cond (leb taken (block_of p row)) (size_of p (block_of p row)) (size_of p (block_of p row) / 2)
+
+-- what one row may still cost one unit, which took so many blocks
+abbrev pub row_potential : Moves → Parts → ℕ → ℕ → ℕ → ℕ
+row_potential m p taken unit row = binary_digits (allowance p taken row) * cost m unit row
+
+abbrev pub unit_potential : Moves → Parts → ℕ → ℕ → ℕ
+unit_potential m p taken unit = total (row_potential m p taken unit) m.rows
+
+abbrev pub potential : Moves → Parts → List ℕ → ℕ
+potential m p taken = total (λ unit. unit_potential m p (get_or taken unit 0) unit) m.units
+
+-- ---- at first each block waits
+module _ {m : Moves} {labels : List ℕ} {p : Parts} (r : IsRefined m labels p) where
+  first_digits : (unit taken row : ℕ) → taken ≡ 0 → row < m.rows
+      → row_potential m p taken unit row ≤ binary_digits m.rows * cost m unit row
+  first_digits unit taken row z l =
+      let len = r.rows_len in
+      let b = r.partition.within (block_of p row) (r.partition.block_at row (omega arith)) in
+      let small : allowance p taken row ≤ m.rows = rw (le-leb taken (block_of p row) (omega arith)) (omega arith) in
+      mul-le-mul_right (cost m unit row) (digits-le (allowance p taken row) m.rows small)
+
+  unit_first : (unit taken : ℕ) → AreMoves m → taken ≡ 0 → unit < m.units → 0 < m.rows
+      → unit_potential m p taken unit ≤ binary_digits m.rows * (2 * m.rows)
+  unit_first unit taken a z h some =
+      let digits = binary_digits m.rows in
+      let le : unit_potential m p taken unit ≤ total (λ row. digits * cost m unit row) m.rows =
+      total-le (row_potential m p taken unit) (λ row. digits * cost m unit row) m.rows
+      (λ row l. first_digits unit taken row z l) in
+      let all : total (λ row. digits * cost m unit row) m.rows ≡ digits * total (cost m unit) m.rows =
+      total-mul digits (cost m unit) m.rows in
+      let each : digits * total (cost m unit) m.rows ≡ digits * (2 * m.rows) =
+      ap (λ k. digits * k) (total_cost a h some) in
+      omega arith
+
+  no_rows : (taken unit : ℕ) → m.rows ≡ 0 → unit_potential m p taken unit ≡ 0
+  no_rows taken unit e = ap (total (row_potential m p taken unit)) e
+
+  limit_of : (units rows digits : ℕ) → digits * (2 * rows) * units ≡ 2 * units * rows * digits
+  limit_of units rows digits = omega arith
+
+  pub potential_first : (taken : List ℕ) → AreMoves m → ((u : ℕ) → u < m.units → get_or taken u 0 ≡ 0)
+      → potential m p taken ≤ read_limit m
+  potential_first taken a zeros =
+      let each : ℕ = binary_digits m.rows * (2 * m.rows) in
+      let le : potential m p taken ≤ total (λ _. each) m.units =
+      total-le (λ unit. unit_potential m p (get_or taken unit 0) unit) (λ _. each) m.units
+      (λ unit l. elim (cases_lt 0 m.rows) [
+        | inl some ↦ unit_first unit (get_or taken unit 0) a (zeros unit l) l some
+        | inr none ↦ let e = no_rows (get_or taken unit 0) unit (omega arith) in omega arith
+      ]) in
+      let all : total (λ _. each) m.units ≡ each * m.units = total-const each m.units in
+      let limit : each * m.units ≡ read_limit m = limit_of m.units m.rows (binary_digits m.rows) in
+      omega arith
+
+  -- ---- a block is taken
+  take_row : (unit taken row : ℕ) → taken < length p.sizes → row < m.rows
+      → row_potential m p (taken + 1) unit row + cond (is_in (members p taken) row) (cost m unit row) 0
+      ≤ row_potential m p taken unit row
+  take_row unit taken row h l =
+      let len = r.rows_len in
+      let lp : row < length p.rows = omega arith in
+      rw (is_in_members r.partition h row lp) (elim (cases_eq (block_of p row) taken) [
+        | inl e ↦
+            let size = size_of p taken in
+            let half : binary_digits size ≡ binary_digits (size / 2) + 1 =
+            digits_half size (r.partition.some taken h) in
+            let prod : binary_digits size * cost m unit row ≡ (binary_digits (size / 2) + 1) * cost m unit row =
+            ap (λ k. k * cost m unit row) half in
+            rw (e, eq-eqb taken taken refl, lt-leb (taken + 1) taken (omega arith), le-leb taken taken (omega arith))
+            (omega arith)
+        | inr ne ↦ rw (ne_eqb (block_of p row) taken ne) (elim (cases_Bool (leb taken (block_of p row))) [
+          | inl t ↦
+              let le = leb-true taken (block_of p row) t in
+              rw (t, le-leb (taken + 1) (block_of p row) (omega arith)) (omega arith)
+          | inr f ↦
+              let lt = leb-false taken (block_of p row) f in
+              rw (f, lt-leb (taken + 1) (block_of p row) (omega arith)) (omega arith)
+        ])
+      ])
+
+  unit_take : (unit taken : ℕ) → taken < length p.sizes
+      → unit_potential m p (taken + 1) unit + sum_by (cost m unit) (members p taken) ≤ unit_potential m p taken unit
+  unit_take unit taken h =
+      let len = r.rows_len in
+      let own : ℕ → ℕ = λ row. cond (is_in (members p taken) row) (cost m unit row) 0 in
+      let e : sum_by (cost m unit) (members p taken) ≡ total own m.rows =
+      sum_by-total (cost m unit) m.rows (members p taken) (members_apart r.partition h)
+      (λ k l. let s = members_small r.partition h k 0 l in omega arith) in
+      let le : unit_potential m p (taken + 1) unit + total own m.rows ≤ unit_potential m p taken unit =
+      total-spent (row_potential m p (taken + 1) unit) own (row_potential m p taken unit) m.rows
+      (λ row l. take_row unit taken row h l) in
+      omega arith
+
+  -- ---- all blocks that wait are taken
+  take_each : (unit taken row : ℕ) → row < m.rows
+      → row_potential m p (length p.sizes) unit row + waiting_cost m unit p.blocks taken row
+      ≤ row_potential m p taken unit row
+  take_each unit taken row l =
+      let len = r.rows_len in
+      let b : block_of p row < length p.sizes = r.partition.block_at row (omega arith) in
+      rw (lt-leb (length p.sizes) (block_of p row) b) (elim (cases_Bool (leb taken (block_of p row))) [
+        | inl t ↦
+            let size = size_of p (block_of p row) in
+            let half : binary_digits size ≡ binary_digits (size / 2) + 1 =
+            digits_half size (r.partition.some (block_of p row) b) in
+            let prod : binary_digits size * cost m unit row ≡ (binary_digits (size / 2) + 1) * cost m unit row =
+            ap (λ k. k * cost m unit row) half in
+            rw t (omega arith)
+        | inr f ↦ rw f (omega arith)
+      ])
+
+  unit_take_all : (unit taken : ℕ)
+      → unit_potential m p (length p.sizes) unit + waiting_reads m unit p.blocks taken ≤ unit_potential m p taken unit
+  unit_take_all unit taken =
+      total-spent (row_potential m p (length p.sizes) unit) (waiting_cost m unit p.blocks taken)
+      (row_potential m p taken unit) m.rows (λ row l. take_each unit taken row l)
+
+  -- ---- blocks are split
+  split_allowance : {q : Parts} → Refines p q → (taken row : ℕ) → taken ≤ length p.sizes → row < m.rows
+      → allowance q taken row ≤ allowance p taken row
+  split_allowance {q} s taken row below l =
+      let len = r.rows_len in
+      elim (s.numbers row (omega arith)) [
+        | inl h ↦ rw h.0 (elim (cases_Bool (leb taken (block_of p row))) [
+          | inl t ↦ rw t h.1
+          | inr f ↦ rw f (let g = h.1 in omega arith)
+        ])
+        | inr h ↦
+            let g = h.0 in
+            let k = h.1 in
+            rw (le-leb taken (block_of q row) (omega arith)) (elim (cases_Bool (leb taken (block_of p row))) [
+              | inl t ↦ rw t (omega arith)
+              | inr f ↦ rw f (omega arith)
+            ])
+      ]
+
+  unit_split : {q : Parts} → Refines p q → (unit taken : ℕ) → taken ≤ length p.sizes
+      → unit_potential m q taken unit ≤ unit_potential m p taken unit
+  unit_split {q} s unit taken below =
+      total-le (row_potential m q taken unit) (row_potential m p taken unit) m.rows
+      (λ row l.
+      mul-le-mul_right (cost m unit row)
+      (digits-le (allowance q taken row) (allowance p taken row) (split_allowance s taken row below l)))
+
+-- ---- a unit takes blocks below a number `to`, its reads are paid for, and the blocks are split
+module _ {m : Moves} {labels : List ℕ} {p q : Parts} {taken : List ℕ} {unit : ℕ} (a : IsSettling m labels p taken)
+    (hu : unit < m.units) (s : Refines p q) where
+  module _ (to spent : ℕ)
+      (own : unit_potential m q to unit + spent ≤ unit_potential m p (get_or taken unit 0) unit) where
+    step_unit : (u : ℕ) → u < m.units
+        → unit_potential m q (get_or (set taken unit to) u 0) u + cond (eqb u unit) spent 0
+        ≤ unit_potential m p (get_or taken u 0) u
+    step_unit u l =
+        let len = a.taken_len in
+        elim (cases_eq u unit) [
+          | inl e ↦ rw (e, eq-eqb unit unit refl, get_or-set_same taken unit to 0 (omega arith)) own
+          | inr ne ↦
+              let split = unit_split a.refined s u (get_or taken u 0) (a.below u l) in
+              rw (ne_eqb u unit ne, get_or-set_other taken unit u to 0 ne) (omega arith)
+        ]
+
+    potential_step : potential m q (set taken unit to) + spent ≤ potential m p taken
+    potential_step =
+        let one : total (λ u. cond (eqb u unit) spent 0) m.units ≡ spent = total_single (λ _. spent) unit m.units hu in
+        let le : potential m q (set taken unit to) + total (λ u. cond (eqb u unit) spent 0) m.units
+        ≤ potential m p taken =
+        total-spent (λ u. unit_potential m q (get_or (set taken unit to) u 0) u) (λ u. cond (eqb u unit) spent 0)
+        (λ u. unit_potential m p (get_or taken u 0) u) m.units step_unit in
+        omega arith
+
+  -- one of them
+  pub potential_turn : {block : ℕ} → block ≡ get_or taken unit 0 → block < length p.sizes
+      → potential m q (set taken unit (block + 1)) + sum_by (cost m unit) (members p block) ≤ potential m p taken
+  potential_turn {block} e h =
+      let split = unit_split a.refined s unit (block + 1) (omega arith) in
+      let take = unit_take a.refined unit block h in
+      potential_step (block + 1) (sum_by (cost m unit) (members p block)) (rw (sym e) (omega arith))
+
+  -- all that wait
+  pub potential_all : {from : ℕ} → from ≡ get_or taken unit 0
+      → potential m q (set taken unit (length p.sizes)) + waiting_reads m unit p.blocks from ≤ potential m p taken
+  potential_all {from} e =
+      let split = unit_split a.refined s unit (length p.sizes) (omega arith) in
+      let take = unit_take_all a.refined unit from in
+      potential_step (length p.sizes) (waiting_reads m unit p.blocks from) (rw (sym e) (omega arith))
+
+-- the reads where a unit takes blocks are still allowed
+module _ {m : Moves} {labels : List ℕ} {p : Parts} {taken : List ℕ} {unit from : ℕ} (a : IsSettling m labels p taken)
+    (hu : unit < m.units) (is : from ≡ get_or taken unit 0) where
+  one_unit : unit_potential m p from unit ≤ potential m p taken
+  one_unit = rw is (total_term (λ u. unit_potential m p (get_or taken u 0) u) unit m.units hu)
+
+  pub all_reads : waiting_reads m unit p.blocks from ≤ potential m p taken
+  all_reads = let take = unit_take_all a.refined unit from in omega (arith, one_unit)
+
+  pub turn_reads : from < length p.sizes → sum_by (cost m unit) (members p from) ≤ potential m p taken
+  turn_reads h = let take = unit_take a.refined unit from h in omega (arith, one_unit)
