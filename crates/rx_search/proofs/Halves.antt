@@ -1,0 +1,316 @@
+-- What a half search tells, from stop to stop.
+use Rattle.std.proofs.Common.{◌≡◌, ◌≢◌, ℕ, ◌+◌, ◌<◌, ◌≤◌, Bool, true, false, if◌then◌else◌, Option, Some, None, Ok, Err}
+use Rattle.std.proofs.Common.{List, [], ◌∷◌, length, drop, refl, ap, ap₂, sym, ◌∙◌, subst, arith}
+use Rattle.std.specs.Prelude.{slice_index}
+use Rattle.rx_spec.specs.Bytes.{AreBytes}
+use Rattle.rx_spec.specs.Queries.{Query, HalfMatch, MatchError, IsFit, is_done}
+use Rattle.rx_spec.specs.Starts.{start_context}
+use Rattle.rx_spec.specs.Machines.{Label, Machine}
+use Rattle.rx_spec.specs.HalfSearches.{HalfAnswer, first_offset, next_offset, units_of, first_match, last_match}
+use Rattle.rx_spec.specs.HalfSearches.{at_label}
+use Rattle.rx_spec.specs.HalfSearches.{walk, whole_walk, half_search, beside}
+use Rattle.rx_lemmas.proofs.HalfSearches.{half_walks}
+use Rattle.std.proofs.lemmas.Bool.{ltb-false}
+use Rattle.rx_search.specs.Starts.{IsStart}
+use Rattle.rx_spec.specs.Tables.{Table, IsSound, is_match}
+use Rattle.rx_spec.specs.declared.Direction.{Direction}
+use Rattle.rx_lemmas.proofs.Firsts.{by_test}
+use Rattle.rx_table_lemmas.proofs.Tables.{match_alive}
+use Rattle.rx_lemmas.proofs.Walking.{walk-nil, walk-cons}
+use Rattle.rx_search.specs.Labels.{patterns_of}
+use Rattle.rx_search.specs.Needles.{byte_ahead, Skips}
+use Rattle.rx_search.specs.Walks.{last_offset, previous_offset, units_left, units_after, at_stop_label, next_stop}
+use Rattle.rx_search.specs.Walks.{Stop, stop_error}
+use Rattle.rx_search.specs.Walks.{IsInSpan, IsMet, bytes_left}
+use Rattle.rx_search.specs.Counted.{IsReady, ends_at, counted, counted_on}
+use Rattle.rx_search.proofs.Standing.{Standing, match_label}
+use Rattle.rx_search.proofs.Walks.{Place, stop-nil, stop-cons, units_left-more, units_left-last, byte_there, loops}
+use Rattle.rx_search.proofs.Walks.{skip_keeps}
+use Rattle.rx_search.proofs.Walks.{rest_whole, next_place, next_left, skip_left, skip_stops}
+use Rattle.rx_search.proofs.Counting.{quiet_goes_on, match_goes_on, skip_counts}
+use Rattle.rx_search.proofs.Progress.{Standpoint}
+
+-- what a stop makes of a half search that has kept a match
+abbrev pub by_stop : Machine ℕ → Direction → Bool → Option HalfMatch → Stop → HalfAnswer
+by_stop m direction earliest last Stop.Ended = Ok last
+by_stop m direction earliest last (Stop.Quits byte offset) = Err (MatchError.Quit byte offset)
+by_stop m direction earliest last (Stop.Match row offset units) =
+    let met = last_match (m.label row) offset last in
+    if earliest then Ok met
+    else (if m.is_dead row then Ok met else walk m direction earliest row (next_offset direction offset) met units)
+
+module _ (m : Machine ℕ) (direction : Direction) (earliest : Bool) (last : Option HalfMatch) where
+  pub walk_stops : (row offset : ℕ) (units : List ℕ)
+      → walk m direction earliest row offset last units
+      ≡ by_stop m direction earliest last (next_stop m direction row offset units)
+  walk_stops row offset [] =
+      walk-nil m direction earliest row offset last
+      ∙ ap (by_stop m direction earliest last) (sym (stop-nil m direction row offset))
+  walk_stops row offset (unit ∷ units) =
+      let next = m.next row unit in
+      walk-cons m direction earliest row unit offset last units
+      ∙ by_label (m.label next) refl (walk_stops next (next_offset direction offset) units)
+      ∙ ap (by_stop m direction earliest last) (sym (stop-cons m direction row unit offset units))
+    where
+      by_label : (label : Label) → m.label (m.next row unit) ≡ label
+          → walk m direction earliest (m.next row unit) (next_offset direction offset) last units
+          ≡ by_stop m direction earliest last
+          (next_stop m direction (m.next row unit) (next_offset direction offset) units)
+          → (let met = last_match (m.label (m.next row unit)) offset last in
+          at_label (m.label (m.next row unit)) direction earliest unit offset (Ok met)
+          (if m.is_dead (m.next row unit) then Ok met
+          else walk m direction earliest (m.next row unit) (next_offset direction offset) met units))
+          ≡ by_stop m direction earliest last
+          (at_stop_label (m.label (m.next row unit)) direction (m.next row unit) unit offset units
+          (if m.is_dead (m.next row unit) then Stop.Ended
+          else next_stop m direction (m.next row unit) (next_offset direction offset) units))
+      by_label Label.Quits e later = rw e refl
+      by_label (Label.Matches ks) e later =
+          let met = last_match (m.label (m.next row unit)) offset last in
+          ap (λ (l : Label). at_label l direction earliest unit offset (Ok met)
+          (if m.is_dead (m.next row unit) then Ok met
+          else walk m direction earliest (m.next row unit) (next_offset direction offset) met units)) e
+          ∙ ap (λ (l : Label). by_stop m direction earliest last
+          (at_stop_label l direction (m.next row unit) unit offset units
+          (if m.is_dead (m.next row unit) then Stop.Ended
+          else next_stop m direction (m.next row unit) (next_offset direction offset) units))) (sym e)
+      by_label Label.Plain e later =
+          by_test (m.is_dead (m.next row unit)) (λ d. rw (e, d) refl) (λ d. rw (e, d) later)
+
+pub first_is : (ks : List ℕ) (offset : ℕ)
+    → first_match ks offset ≡ record { pattern = slice_index ks 0; offset = offset }
+first_is [] offset = refl
+first_is (k ∷ ks) offset = refl
+
+-- a match row tells some pattern
+pub some_pattern : {t : Table} {row : ℕ} → Standing t row → is_match t row ≡ true → 0 < length (patterns_of t row)
+some_pattern {t} {row} s is = by_list (patterns_of t row) refl
+  where
+    by_list : (ks : List ℕ) → patterns_of t row ≡ ks → 0 < length (patterns_of t row)
+    by_list [] e =
+        absurd (s.sound.is_table.lists row s.below (match_label (t.machine.label row) is ∙ ap Label.Matches e))
+    by_list (k ∷ ks) e = let n = ap length e in omega (arith, n)
+
+-- ---- skips at match rows
+
+previous-next : (direction : Direction) (q : Query) {offset : ℕ} → Place q offset → offset ≢ last_offset direction q
+    → previous_offset direction (next_offset direction offset) ≡ offset
+previous-next Direction.Forward q p ne = omega arith
+previous-next Direction.Reverse q p ne = let low = p.in_span.low in omega arith
+
+-- the match of a row at an offset
+abbrev pub match_at : Table → ℕ → ℕ → HalfMatch
+match_at t row offset = record { pattern = slice_index (patterns_of t row) 0; offset = offset }
+
+-- at a match row a skip moves the last match along
+match_skip : {t : Table} {row : ℕ} (direction : Direction) (q : Query) → Standing t row → is_match t row ≡ true
+    → AreBytes q.haystack → q.earliest ≡ false → {from to : ℕ} → Place q from → Skips t direction q row from to
+    → walk t.machine direction q.earliest row from (Some (match_at t row (previous_offset direction from)))
+    (units_left direction q from)
+    ≡ walk t.machine direction q.earliest row to (Some (match_at t row (previous_offset direction to)))
+    (units_left direction q to)
+match_skip {t} {row} direction q s is bytes late p skips =
+    skip_keeps t row direction q
+    (λ o. walk t.machine direction q.earliest row o (Some (match_at t row (previous_offset direction o)))
+    (units_left direction q o))
+    (λ o place ne unread.
+    let byte = byte_ahead direction q.haystack o in
+    let later = units_left direction q (next_offset direction o) in
+    let before = Some (match_at t row (previous_offset direction o)) in
+    let label = match_label (t.machine.label row) is in
+    let back = loops s byte (byte_there direction place bytes ne) unread in
+    let on = λ (r : ℕ) (l : Label) (dead : Bool).
+    let met = last_match l o before in
+    at_label l direction q.earliest byte o (Ok met)
+    (if dead then Ok met else walk t.machine direction q.earliest r (next_offset direction o) met later) in
+    ap (walk t.machine direction q.earliest row o before) (units_left-more direction place ne)
+    ∙ walk-cons t.machine direction q.earliest row byte o before later
+    ∙ ap (λ (r : ℕ). on r (t.machine.label r) (t.machine.is_dead r)) back
+    ∙ ap₂ (on row) label (match_alive s.sound.is_table row s.below label)
+    ∙ ap (λ (earliest : Bool). if earliest then Ok (Some (first_match (patterns_of t row) o))
+    else walk t.machine direction q.earliest row (next_offset direction o)
+    (Some (first_match (patterns_of t row) o)) later) late
+    ∙ ap (λ (h : HalfMatch). walk t.machine direction q.earliest row (next_offset direction o) (Some h) later)
+    (first_is (patterns_of t row) o ∙ ap (match_at t row) (sym (previous-next direction q place ne))))
+    p skips
+
+-- ---- how far a half search has come
+
+pub record HalfProgress (t : Table) (direction : Direction) (q : Query)
+    (first now : Standpoint) (last : Option HalfMatch)
+    : Type 0 where
+  pub in_span : IsInSpan q now.offset
+  pub room : now.steps + bytes_left direction q now.offset ≤ first.steps + length q.haystack
+  pub walked : whole_walk t.machine direction q first.row
+      ≡ walk t.machine direction q.earliest now.row now.offset last (units_left direction q now.offset)
+  pub is_ready : IsReady t direction q now.row now.offset
+  pub count : now.steps + counted t q.earliest now.row (units_left direction q now.offset)
+      ≤ first.steps + counted t q.earliest first.row (units_of direction q)
+
+-- a span that isn't done
+pub record Open (q : Query) : Type 0 where
+  pub order : q.start ≤ q.end
+  pub fits : q.end ≤ length q.haystack
+
+pub open_span : {q : Query} → IsFit q → is_done q ≡ false → Open q
+open_span {q} fits goes = record { order = ltb-false q.end q.start goes; fits = fits.within }
+
+-- the row where it starts, and what the whole walk from there is
+pub plain_start : {t : Table} {direction : Direction} {q : Query} {row : ℕ} → IsSound t → IsStart t direction q row
+    → t.machine.label row ≡ Label.Plain
+plain_start {t} {direction} {q} {row} sound start =
+    ap t.machine.label start.row_is ∙ sound.starts_plain q.mode (start_context t.settings (beside direction q))
+
+pub begun : {t : Table} {direction : Direction} {q : Query} {row : ℕ} → IsStart t direction q row → is_done q ≡ false
+    → half_search t.machine t.settings direction q ≡ whole_walk t.machine direction q row
+begun {t} {direction} {q} {row} start goes =
+    half_walks t.machine t.settings direction q goes start.allowed
+    ∙ ap (whole_walk t.machine direction q) (sym start.row_is)
+
+pub first_place : (direction : Direction) {q : Query} → Open q → Place q (first_offset direction q)
+first_place Direction.Forward o =
+    let order = o.order in record { fits = o.fits; in_span = record { low = omega arith; high = omega arith } }
+first_place Direction.Reverse o =
+    let order = o.order in record { fits = o.fits; in_span = record { low = omega arith; high = omega arith } }
+
+all_left : (direction : Direction) {q : Query} → Open q
+    → bytes_left direction q (first_offset direction q) ≤ length q.haystack
+all_left Direction.Forward o = let fits = o.fits in omega arith
+all_left Direction.Reverse o = let fits = o.fits in omega arith
+
+-- where it begins, at a row that tells nothing, behind what may be skipped
+pub half_begins : {t : Table} {row : ℕ} (direction : Direction) {q : Query}
+    → Open q → AreBytes q.haystack → Standing t row
+    → t.machine.label row ≡ Label.Plain → (steps : ℕ) {to : ℕ} → Skips t direction q row (first_offset direction q) to
+    → HalfProgress t direction q (record { row = row; offset = first_offset direction q; steps = steps })
+    (record { row = row; offset = to; steps = steps }) None
+half_begins {t} {row} direction {q} o bytes s plain steps {to} skips =
+    let place = first_place direction o in
+    let first = first_offset direction q in
+    let whole = ap (units_of direction) (rest_whole direction q) in
+    let less = skip_left direction q skips in
+    let all = all_left direction o in
+    let stops = skip_stops direction q s plain bytes place skips in
+    let counts = skip_counts q.earliest direction q s
+    (λ alive. quiet_goes_on {t = t} {row = row} q.earliest (record { plain = plain; alive = alive }))
+    bytes o.order place skips in
+    let here = ap (counted t q.earliest row) whole in
+    record {
+      in_span = skips.in_span;
+      room = omega (arith, less, all);
+      walked =
+          ap (walk t.machine direction q.earliest row first None) (sym whole)
+          ∙ walk_stops t.machine direction q.earliest None row first (units_left direction q first)
+          ∙ ap (by_stop t.machine direction q.earliest None) stops
+          ∙ sym (walk_stops t.machine direction q.earliest None row to (units_left direction q to));
+      is_ready = skips.is_ready;
+      count = omega (arith, counts, here);
+    }
+
+module _ {t : Table} {direction : Direction} {q : Query} {first now : Standpoint} {last : Option HalfMatch}
+    (p : HalfProgress t direction q first now last) where
+  abbrev here : Stop
+  here = next_stop t.machine direction now.row now.offset (units_left direction q now.offset)
+
+  to_stop : whole_walk t.machine direction q first.row ≡ by_stop t.machine direction q.earliest last here
+  to_stop = p.walked ∙ walk_stops t.machine direction q.earliest last now.row now.offset
+      (units_left direction q now.offset)
+
+  pub half_ended : next_stop t.machine direction now.row now.offset (units_left direction q now.offset) ≡ Stop.Ended
+      → whole_walk t.machine direction q first.row ≡ Ok last
+  half_ended e = to_stop ∙ ap (by_stop t.machine direction q.earliest last) e
+
+  pub half_fails : (error : MatchError)
+      → stop_error (next_stop t.machine direction now.row now.offset (units_left direction q now.offset)) ≡ Some error
+      → whole_walk t.machine direction q first.row ≡ Err error
+  half_fails error e = to_stop ∙ by_kind here e
+    where
+      by_kind : (stop : Stop) → stop_error stop ≡ Some error
+          → by_stop t.machine direction q.earliest last stop ≡ Err error
+      by_kind Stop.Ended e = absurd (cc)
+      by_kind (Stop.Match r o us) e = absurd (cc)
+      by_kind (Stop.Quits byte offset) e = let same : MatchError.Quit byte offset ≡ error = cc in ap Err same
+
+  -- a match row that is met
+  module _ {next offset : ℕ} (s : Standing t next) (m : IsMet t direction q now.offset next offset)
+      (stops : next_stop t.machine direction now.row now.offset (units_left direction q now.offset)
+      ≡ Stop.Match next offset (units_after direction q offset)) where
+    label : t.machine.label next ≡ Label.Matches (patterns_of t next)
+    label = match_label (t.machine.label next) m.is_match
+
+    abbrev goes_on : Option HalfMatch → Bool → Bool → HalfAnswer
+    goes_on kept earliest dead =
+        if earliest then Ok kept
+        else (if dead then Ok kept
+        else walk t.machine direction q.earliest next (next_offset direction offset)
+        kept (units_after direction q offset))
+
+    met_on : whole_walk t.machine direction q first.row ≡ goes_on (Some (match_at t next offset)) q.earliest false
+    met_on =
+        to_stop ∙ ap (by_stop t.machine direction q.earliest last) stops
+        ∙ ap (λ (l : Label). goes_on (last_match l offset last) q.earliest (t.machine.is_dead next)) label
+        ∙ ap (λ (h : HalfMatch). goes_on (Some h) q.earliest (t.machine.is_dead next))
+        (first_is (patterns_of t next) offset)
+        ∙ ap (goes_on (Some (match_at t next offset)) q.earliest) (match_alive s.sound.is_table next s.below label)
+
+    pub half_earliest : q.earliest ≡ true
+        → whole_walk t.machine direction q first.row ≡ Ok (Some (match_at t next offset))
+    half_earliest e = met_on ∙ ap (λ (b : Bool). goes_on (Some (match_at t next offset)) b false) e
+
+    goes : q.earliest ≡ false
+        → whole_walk t.machine direction q first.row
+        ≡ walk t.machine direction q.earliest next (next_offset direction offset) (Some (match_at t next offset))
+        (units_after direction q offset)
+    goes e = met_on ∙ ap (λ (b : Bool). goes_on (Some (match_at t next offset)) b false) e
+
+    module _ (o : Open q) where
+      pub half_last : q.earliest ≡ false → offset ≡ last_offset direction q
+          → whole_walk t.machine direction q first.row ≡ Ok (Some (match_at t next offset))
+      half_last e over =
+          let none = ap (units_after direction q) over ∙ ap (drop 1) (units_left-last direction q o.order o.fits) in
+          goes e
+          ∙ ap (walk t.machine direction q.earliest next (next_offset direction offset)
+          (Some (match_at t next offset))) none
+          ∙ walk-nil t.machine direction q.earliest next (next_offset direction offset) (Some (match_at t next offset))
+
+      -- behind it and what may be skipped there the search goes on
+      pub half_on : AreBytes q.haystack → q.earliest ≡ false → offset ≢ last_offset direction q → (steps : ℕ)
+          → steps + counted_on t direction q next (Ok (Some offset))
+          ≤ now.steps + counted t q.earliest now.row (units_left direction q now.offset)
+          → steps + bytes_left direction q offset ≤ now.steps + bytes_left direction q now.offset + 1
+          → (to : ℕ) → Skips t direction q next (next_offset direction offset) to
+          → (kept : HalfMatch) → kept ≡ match_at t next (previous_offset direction to)
+          → HalfProgress t direction q first (record { row = next; offset = to; steps = steps }) (Some kept)
+      half_on bytes e ne steps count room to skips kept kept_is =
+          let place : Place q offset = record { fits = o.fits; in_span = m.in_span } in
+          let there = next_place direction place ne in
+          let later = ap (drop 1) (units_left-more direction place ne) in
+          let from = next_offset direction offset in
+          let on = match_goes_on t next label (match_alive s.sound.is_table next s.below label) in
+          let late = ap (λ (b : Bool). ends_at t b next) e ∙ on in
+          let left = next_left direction place ne in
+          let less = skip_left direction q skips in
+          let same = ap (λ (us : List ℕ). if ends_at t q.earliest next then 0 else counted t q.earliest next us) later
+          ∙ ap (λ (b : Bool). if b then 0 else counted t q.earliest next (units_left direction q from)) late in
+          let counts = skip_counts q.earliest direction q s (λ alive. late) bytes o.order there skips in
+          let before = ap (match_at t next) (sym (previous-next direction q place ne)) in
+          record {
+            in_span = skips.in_span;
+            room = omega (arith, p.room, room, left, less);
+            walked =
+                goes e
+                ∙ ap₂ (λ (h : HalfMatch) (us : List ℕ). walk t.machine direction q.earliest next from (Some h) us)
+                before later
+                ∙ match_skip direction q s m.is_match bytes e there skips
+                ∙ ap (λ (h : HalfMatch). walk t.machine direction q.earliest next to (Some h)
+                (units_left direction q to))
+                (sym kept_is);
+            is_ready = skips.is_ready;
+            count = omega (arith, p.count, count, same, counts);
+          }
+
+-- what is known at a table and its ids that are the same
+pub at_table : {t t' : Table} {ids ids' : List ℕ} (P : Table → List ℕ → Type 0)
+    → t' ≡ t → ids' ≡ ids → P t' ids' → P t ids
+at_table {t} {t'} {ids} {ids'} P same same_ids known =
+    subst (λ (i : List ℕ). P t i) same_ids (subst (λ (u : Table). P u ids') same known)

@@ -1,0 +1,18 @@
+-- a row of a sound table
+pub mod Standing
+-- needles, and skips to them
+pub mod Needles
+-- what is left of a span, and where a walk over it stops
+pub mod Walks
+pub mod Counting
+pub mod Progress
+-- half searches
+pub mod Halves
+pub mod InSpan
+-- overlapping searches
+pub mod Overlaps
+-- matches that split a character
+pub mod Unsplit
+pub mod OverlapSplits
+-- sets of patterns
+pub mod Collecting

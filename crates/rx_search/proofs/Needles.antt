@@ -1,0 +1,229 @@
+-- The next needle of a span, as it is found in the bytes that are left, and skips to it.
+use Rattle.std.proofs.Common.{◌≡◌, ℕ, ◌+◌, ◌-◌, ◌<◌, ◌≤◌, Bool, true, false, ◌||◌, Option, Some, None, List, [], ◌∷◌}
+use Rattle.std.proofs.Common.{length, take, drop, refl, ap, sym, ◌∙◌, arith, length-drop, length-take-le}
+use Rattle.std.proofs.Math.Bool.{or-false, or_assoc}
+use Rattle.std.proofs.lemmas.Bool.{false_from_ne_true}
+use Rattle.std.proofs.lemmas.List.{get_or-take, get_or-drop}
+use Rattle.std.specs.Prelude.{slice_index}
+use Rattle.memchr.specs.Find.{IsFirstByte, IsLastByte, is_byte, is_byte2, is_byte3}
+use Rattle.rx_spec.specs.Queries.{Query}
+use Rattle.rx_spec.specs.Tables.{Table}
+use Rattle.rx_spec.specs.declared.Direction.{Direction}
+use Rattle.rx_search.specs.Needles.{is_nil, is_needle, byte_ahead, offset_after, IsNextNeedle, Skips}
+use Rattle.rx_search.specs.Walks.{IsInSpan}
+use Rattle.rx_search.proofs.Standing.{Standing}
+
+-- ---- one, two or three needles
+
+one_test : (needles : List ℕ) → length needles ≡ 1 → (x : ℕ) → is_byte (slice_index needles 0) x ≡ is_needle needles x
+one_test [] e x = absurd (omega (arith, e))
+one_test (a ∷ []) e x = sym (or-false (is_byte a x))
+one_test (a ∷ (b ∷ more)) e x = absurd (omega (arith, e))
+
+two_test : (needles : List ℕ) → length needles ≡ 2 → (x : ℕ)
+    → is_byte2 (slice_index needles 0) (slice_index needles 1) x ≡ is_needle needles x
+two_test [] e x = absurd (omega (arith, e))
+two_test (a ∷ []) e x = absurd (omega (arith, e))
+two_test (a ∷ (b ∷ [])) e x = ap (λ rest. is_byte a x || rest) (sym (or-false (is_byte b x)))
+two_test (a ∷ (b ∷ (c ∷ more))) e x = absurd (omega (arith, e))
+
+three_test : (needles : List ℕ) → length needles ≡ 3 → (x : ℕ)
+    → is_byte3 (slice_index needles 0) (slice_index needles 1) (slice_index needles 2) x ≡ is_needle needles x
+three_test [] e x = absurd (omega (arith, e))
+three_test (a ∷ []) e x = absurd (omega (arith, e))
+three_test (a ∷ (b ∷ [])) e x = absurd (omega (arith, e))
+three_test (a ∷ (b ∷ (c ∷ []))) e x =
+    or_assoc (is_byte a x) (is_byte b x) (is_byte c x)
+    ∙ ap (λ rest. is_byte a x || (is_byte b x || rest)) (sym (or-false (is_byte c x)))
+three_test (a ∷ (b ∷ (c ∷ (d ∷ more)))) e x = absurd (omega (arith, e))
+
+first_same : (f g : ℕ → Bool) (hay : List ℕ) → ((x : ℕ) → f x ≡ g x) → (r : Option ℕ) → IsFirstByte f hay r
+    → IsFirstByte g hay r
+first_same f g hay same None is = λ k low high passes. is k low high (same (slice_index hay k) ∙ passes)
+first_same f g hay same (Some at) is = (
+  record {
+    low = is.0.low;
+    high = is.0.high;
+    before = λ k low high passes. is.0.before k low high (same (slice_index hay k) ∙ passes);
+  },
+  sym (same (slice_index hay at)) ∙ is.1,
+)
+
+last_same : (f g : ℕ → Bool) (hay : List ℕ) → ((x : ℕ) → f x ≡ g x) → (r : Option ℕ) → IsLastByte f hay r
+    → IsLastByte g hay r
+last_same f g hay same None is = λ k low high passes. is k low high (same (slice_index hay k) ∙ passes)
+last_same f g hay same (Some at) is = (
+  record {
+    low = is.0.low;
+    high = is.0.high;
+    after = λ k low high passes. is.0.after k low high (same (slice_index hay k) ∙ passes);
+  },
+  sym (same (slice_index hay at)) ∙ is.1,
+)
+
+module _ (needles hay : List ℕ) (r : Option ℕ) where
+  pub first_of_one : length needles ≡ 1 → IsFirstByte (is_byte (slice_index needles 0)) hay r
+      → IsFirstByte (is_needle needles) hay r
+  first_of_one e = first_same (is_byte (slice_index needles 0)) (is_needle needles) hay (one_test needles e) r
+
+  pub first_of_two : length needles ≡ 2 → IsFirstByte (is_byte2 (slice_index needles 0) (slice_index needles 1)) hay r
+      → IsFirstByte (is_needle needles) hay r
+  first_of_two e =
+      first_same (is_byte2 (slice_index needles 0) (slice_index needles 1)) (is_needle needles) hay
+      (two_test needles e) r
+
+  pub first_of_three : length needles ≡ 3
+      → IsFirstByte (is_byte3 (slice_index needles 0) (slice_index needles 1) (slice_index needles 2)) hay r
+      → IsFirstByte (is_needle needles) hay r
+  first_of_three e =
+      first_same (is_byte3 (slice_index needles 0) (slice_index needles 1) (slice_index needles 2))
+      (is_needle needles) hay (three_test needles e) r
+
+  pub last_of_one : length needles ≡ 1 → IsLastByte (is_byte (slice_index needles 0)) hay r
+      → IsLastByte (is_needle needles) hay r
+  last_of_one e = last_same (is_byte (slice_index needles 0)) (is_needle needles) hay (one_test needles e) r
+
+  pub last_of_two : length needles ≡ 2 → IsLastByte (is_byte2 (slice_index needles 0) (slice_index needles 1)) hay r
+      → IsLastByte (is_needle needles) hay r
+  last_of_two e =
+      last_same (is_byte2 (slice_index needles 0) (slice_index needles 1)) (is_needle needles) hay
+      (two_test needles e) r
+
+  pub last_of_three : length needles ≡ 3
+      → IsLastByte (is_byte3 (slice_index needles 0) (slice_index needles 1) (slice_index needles 2)) hay r
+      → IsLastByte (is_needle needles) hay r
+  last_of_three e =
+      last_same (is_byte3 (slice_index needles 0) (slice_index needles 1) (slice_index needles 2))
+      (is_needle needles) hay (three_test needles e) r
+
+-- ---- the next one of a span
+
+-- a place of the bytes from an offset up to another
+part_at : (hay : List ℕ) (low high k : ℕ) → k < high - low
+    → slice_index (take (high - low) (drop low hay)) k ≡ slice_index hay (low + k)
+part_at hay low high k h = get_or-take (high - low) (drop low hay) k 0 h ∙ get_or-drop low hay k 0
+
+part_length : (hay : List ℕ) (low high : ℕ) → high ≤ length hay → length (take (high - low) (drop low hay)) ≡ high - low
+part_length hay low high h = length-take-le (high - low) (drop low hay) (simp length-drop (omega arith))
+
+module _ (needles : List ℕ) (q : Query) (from : ℕ) (is : IsInSpan q from) (within : q.end ≤ length q.haystack) where
+  pub no_next : IsFirstByte (is_needle needles) (take (q.end - from) (drop from q.haystack)) None
+      → IsNextNeedle needles Direction.Forward q from q.end
+  no_next none =
+      let n = part_length q.haystack from q.end within in
+      let low = is.low in
+      let high = is.high in
+      record {
+        count = q.end - from;
+        there = omega arith;
+        enough = omega arith;
+        in_span = record { low = omega arith; high = omega arith };
+        none = λ k h.
+            ap (is_needle needles) (sym (part_at q.haystack from q.end k h))
+            ∙ false_from_ne_true _ (none k (omega arith) (omega (arith, n)));
+        stands = λ ne. absurd (ne refl);
+      }
+
+  pub next_there : (at : ℕ) → IsFirstByte (is_needle needles) (take (q.end - from) (drop from q.haystack)) (Some at)
+      → IsNextNeedle needles Direction.Forward q from (from + at)
+  next_there at first =
+      let n = part_length q.haystack from q.end within in
+      let low = is.low in
+      let below : at < q.end - from = omega (arith, n, first.0.high) in
+      record {
+        count = at;
+        there = refl;
+        enough = omega arith;
+        in_span = record { low = omega arith; high = omega arith };
+        none = λ k h.
+            ap (is_needle needles) (sym (part_at q.haystack from q.end k (omega arith)))
+            ∙ false_from_ne_true _ (first.0.before k (omega arith) h);
+        stands = λ ne. ap (is_needle needles) (sym (part_at q.haystack from q.end at below)) ∙ first.1;
+      }
+
+  -- a byte before it in the order of reading, in reverse
+  back_at : (k : ℕ) → k < from - q.start
+      → slice_index (take (from - q.start) (drop q.start q.haystack)) (from - q.start - 1 - k)
+      ≡ byte_ahead Direction.Reverse q.haystack (from - k)
+  back_at k h =
+      let place : q.start + (from - q.start - 1 - k) ≡ from - k - 1 = omega arith in
+      part_at q.haystack q.start from (from - q.start - 1 - k) (omega arith) ∙ ap (slice_index q.haystack) place
+
+  pub no_last : IsLastByte (is_needle needles) (take (from - q.start) (drop q.start q.haystack)) None
+      → IsNextNeedle needles Direction.Reverse q from q.start
+  no_last none =
+      let low = is.low in
+      let high = is.high in
+      let n = part_length q.haystack q.start from (omega arith) in
+      record {
+        count = from - q.start;
+        there = omega arith;
+        enough = omega arith;
+        in_span = record { low = omega arith; high = omega arith };
+        none = λ k h.
+            ap (is_needle needles) (sym (back_at k h))
+            ∙ false_from_ne_true _ (none (from - q.start - 1 - k) (omega arith) (omega (arith, n)));
+        stands = λ ne. absurd (ne refl);
+      }
+
+  pub last_there : (at : ℕ) → IsLastByte (is_needle needles) (take (from - q.start) (drop q.start q.haystack)) (Some at)
+      → IsNextNeedle needles Direction.Reverse q from (q.start + at + 1)
+  last_there at last =
+      let low = is.low in
+      let high = is.high in
+      let n = part_length q.haystack q.start from (omega arith) in
+      let below : at < from - q.start = omega (arith, n, last.0.high) in
+      let same : q.start + at ≡ q.start + at + 1 - 1 = omega arith in
+      record {
+        count = from - (q.start + at + 1);
+        there = omega arith;
+        enough = omega arith;
+        in_span = record { low = omega arith; high = omega arith };
+        none = λ k h.
+            ap (is_needle needles) (sym (back_at k (omega arith)))
+            ∙ false_from_ne_true _ (last.0.after (from - q.start - 1 - k) (omega arith) (omega (arith, n)));
+        stands = λ ne.
+            ap (is_needle needles) (sym (part_at q.haystack q.start from at below ∙ ap (slice_index q.haystack) same))
+            ∙ last.1;
+      }
+
+-- ---- skips
+
+module _ {t : Table} {row : ℕ} (s : Standing t row) (direction : Direction) (q : Query) (from : ℕ) where
+  pub stays : IsInSpan q from → t.is_accelerated row ≡ false → Skips t direction q row from from
+  stays is plain = record {
+    count = 0;
+    there = here direction;
+    enough = omega arith;
+    in_span = is;
+    skipped = λ k h. absurd (omega (arith, h));
+    is_ready = λ ne. ap (λ (needles : List ℕ).
+        is_nil needles || is_needle needles (byte_ahead direction q.haystack from))
+        (s.sound.no_needle row s.below plain);
+  }
+    where
+      here : (d : Direction) → from ≡ offset_after d from 0
+      here Direction.Forward = omega arith
+      here Direction.Reverse = omega arith
+
+  some_needles : t.is_accelerated row ≡ true → is_nil (t.needles row) ≡ false
+  some_needles accelerated = by_list (t.needles row) (s.sound.some_needle row s.below accelerated)
+    where
+      by_list : (needles : List ℕ) → 1 ≤ length needles → is_nil needles ≡ false
+      by_list [] h = absurd (omega (arith, h))
+      by_list (a ∷ more) h = refl
+
+  pub skips : (needles : List ℕ) (to : ℕ) → needles ≡ t.needles row → t.is_accelerated row ≡ true
+      → IsNextNeedle needles direction q from to → Skips t direction q row from to
+  skips needles to same accelerated next =
+      let read = λ (byte : ℕ).
+      ap (λ (none : Bool). none || is_needle (t.needles row) byte) (some_needles accelerated)
+      ∙ ap (λ (ns : List ℕ). is_needle ns byte) (sym same) in
+      record {
+        count = next.count;
+        there = next.there;
+        enough = next.enough;
+        in_span = next.in_span;
+        skipped = λ k h. read (byte_ahead direction q.haystack (offset_after direction from k)) ∙ next.none k h;
+        is_ready = λ ne. read (byte_ahead direction q.haystack to) ∙ next.stands ne;
+      }

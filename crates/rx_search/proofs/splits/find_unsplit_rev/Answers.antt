@@ -1,0 +1,43 @@
+use Rattle.std.proofs.Common.{◌≡◌, Some, Ok, sym, ◌∙◌, rules}
+use Rattle.rx_spec.specs.HalfSearches.{half_search}
+use Rattle.rx_spec.specs.declared.Direction.{Direction}
+use Rattle.rx_base.specs.Input.{query_of}
+use Rattle.rx_search.proofs.Unsplit.{unsplit_none, unsplit_fails, unsplit_match, told_in_span}
+use Rattle.rx_search.proofs.InSpan.{unsplit_in_span}
+use Rattle.rx_search.proofs.splits.find_unsplit_rev.Goals as goal
+
+pub returns-in-Ok-None-clause-answer : goal.returns-in-Ok-None-clause-answer
+returns-in-Ok-None-clause-answer g c =
+    let t = g.A.Automaton.table c.args.dfa.now in
+    let found = rw c.in-Ok-None.field-0-is at c.in-Ok-None.ensures.answer in
+    sym (unsplit_none t Direction.Reverse c.requires.fits (sym found))
+
+pub returns-in-Err-clause-answer : goal.returns-in-Err-clause-answer
+returns-in-Err-clause-answer g c =
+    let t = g.A.Automaton.table c.args.dfa.now in
+    sym (unsplit_fails t Direction.Reverse c.requires.fits c.in-Err.error (sym c.in-Err.ensures.answer))
+
+pub skip_splits_rev-requires-clause-first : goal.skip_splits_rev-requires-clause-first
+skip_splits_rev-requires-clause-first g c =
+    let t = g.A.Automaton.table c.args.dfa.now in
+    let found = rw c.in-Ok-Some.field-0-is at c.in-Ok-Some.ensures.answer in
+    told_in_span t Direction.Reverse c.requires.fits c.in-Ok-Some.first (sym found)
+
+pub skip_splits_rev-requires-clause-within : goal.skip_splits_rev-requires-clause-within
+skip_splits_rev-requires-clause-within g c = λ at h fits told.
+    let t = g.A.Automaton.table c.args.dfa.now in
+    let says : half_search t.machine t.settings Direction.Reverse (query_of at.now) ≡ Ok (Some h) = search rules in
+    told_in_span t Direction.Reverse fits h says
+
+pub returns-clause-answer : goal.returns-clause-answer
+returns-clause-answer g c =
+    let t = g.A.Automaton.table c.args.dfa.now in
+    let found = rw c.in-Ok-Some.field-0-is at c.in-Ok-Some.ensures.answer in
+    c.skip_splits_rev.ensures (half_search t.machine t.settings Direction.Reverse) (λ at told fits says. search rules)
+    ∙ sym (unsplit_match t Direction.Reverse c.requires.fits c.in-Ok-Some.first
+    (sym c.skips_splits.ensures ∙ c.if-not-skips_splits.false) (sym found))
+
+pub returns-clause-within : goal.returns-clause-within
+returns-clause-within g c =
+    let t = g.A.Automaton.table c.args.dfa.now in
+    unsplit_in_span t Direction.Reverse (query_of c.args.input.now) c.skip_splits_rev.result (returns-clause-answer g c)

@@ -1,0 +1,250 @@
+use Rattle.std.proofs.Common.{◌≡◌, ◌≤◌, ◌<◌, ℕ, true, false, ap, ap₂, sym, ◌∙◌, subst, arith, length}
+use Rattle.std.proofs.lemmas.Bool.{or_left, or_right}
+use Rattle.rx_spec.specs.HalfSearches.{HalfAnswer}
+use Rattle.rx_spec.specs.Queries.{Query, IsFit, is_anchored}
+use Rattle.rx_spec.specs.Splits.{is_split, narrower, is_narrowest, skip_splits, split_limit}
+use Rattle.rx_base.specs.Input.{query_of}
+use Rattle.rx_search.specs.SplitSearches.{unsplit_from}
+use Rattle.rx_search.specs.Walks.{IsInSpan}
+use Rattle.rx_search.proofs.Unsplit.{splits_there, whole_there, whole_told, none_told, searched_again, nothing_found}
+use Rattle.rx_search.proofs.Unsplit.{search_failed, match_found, narrower_fits, limit_falls}
+use Rattle.rx_search.proofs.splits.skip_splits.Goals as goal
+
+pub splits-init : goal.splits-init
+splits-init g c =
+    let q = query_of c.args.input.now in
+    let same : q ≡ record q { start = c.get_span-span.result.start; end = c.get_span-span.result.end }
+    = sym (ap₂ (λ (s e : ℕ). record q { start = s; end = e })
+    c.get_span-span.ensures.start c.get_span-span.ensures.end) in
+    record {
+      fits = subst IsFit same c.requires.fits;
+      in_span = subst (λ (x : Query). IsInSpan x c.args.first.offset) same c.requires.first;
+      told = λ answers says. ap (λ (x : Query). unsplit_from answers c.args.direction x c.args.first) same;
+    }
+
+pub returns-then-is_anchored : goal.returns-then-is_anchored
+returns-then-is_anchored g c =
+    let q = query_of c.args.input.now in
+    let d = c.args.direction in
+    let inv = c.splits.invariant in
+    let now : Query = record q { start = c.splits.span.start; end = c.splits.span.end } in
+    let fits : IsFit now = inv.fits in
+    let span : IsInSpan now c.splits.found.offset = inv.in_span in
+    let low : now.start ≤ c.splits.found.offset = span.low in
+    let high : c.splits.found.offset ≤ now.end = span.high in
+    let split = subst (λ (o : ℕ). is_split q.haystack o ≡ true) c.offset.ensures
+    (splits_there q.haystack c.offset.result c.is_char_boundary.ensures c.splits-test.true
+    (let within = fits.within in omega (arith, c.offset.ensures))) in
+    let anchored : is_anchored q.mode ≡ true
+    = ap is_anchored (sym c.get_anchored.ensures) ∙ sym c.is_anchored.ensures ∙ c.if-is_anchored.true in
+    λ answers says.
+    sym (inv.told answers says
+    ∙ none_told answers d now c.splits.found split (or_left (is_anchored q.mode) (is_narrowest d now) anchored))
+
+pub returns-then-is_narrowest : goal.returns-then-is_narrowest
+returns-then-is_narrowest g c =
+    let q = query_of c.args.input.now in
+    let d = c.args.direction in
+    let inv = c.splits.invariant in
+    let now : Query = record q { start = c.splits.span.start; end = c.splits.span.end } in
+    let fits : IsFit now = inv.fits in
+    let span : IsInSpan now c.splits.found.offset = inv.in_span in
+    let low : now.start ≤ c.splits.found.offset = span.low in
+    let high : c.splits.found.offset ≤ now.end = span.high in
+    let split = subst (λ (o : ℕ). is_split q.haystack o ≡ true) c.offset.ensures
+    (splits_there q.haystack c.offset.result c.is_char_boundary.ensures c.splits-test.true
+    (let within = fits.within in omega (arith, c.offset.ensures))) in
+    let narrowest : is_narrowest d now ≡ true = sym (c.is_narrowest.ensures q) ∙ c.if-is_narrowest.true in
+    λ answers says.
+    sym (inv.told answers says
+    ∙ none_told answers d now c.splits.found split (or_right (is_anchored q.mode) (is_narrowest d now) narrowest))
+
+pub narrower-span-requires : goal.narrower-span-requires
+narrower-span-requires g c =
+    let q = query_of c.args.input.now in
+    let d = c.args.direction in
+    let inv = c.splits.invariant in
+    let now : Query = record q { start = c.splits.span.start; end = c.splits.span.end } in
+    let fits : IsFit now = inv.fits in
+    let span : IsInSpan now c.splits.found.offset = inv.in_span in
+    let low : now.start ≤ c.splits.found.offset = span.low in
+    let high : c.splits.found.offset ≤ now.end = span.high in
+    let within = fits.within in
+    omega (arith, ap length c.haystack-haystack.ensures, c.haystack-haystack.type_inv.1)
+
+pub with_span-requires-clause-within : goal.with_span-requires-clause-within
+with_span-requires-clause-within g c =
+    let q = query_of c.args.input.now in
+    let d = c.args.direction in
+    let inv = c.splits.invariant in
+    let now : Query = record q { start = c.splits.span.start; end = c.splits.span.end } in
+    let fits : IsFit now = inv.fits in
+    let span : IsInSpan now c.splits.found.offset = inv.in_span in
+    let low : now.start ≤ c.splits.found.offset = span.low in
+    let high : c.splits.found.offset ≤ now.end = span.high in
+    let goes : is_anchored q.mode ≡ false
+    = ap is_anchored (sym c.get_anchored.ensures) ∙ sym c.is_anchored.ensures ∙ c.if-is_anchored.false in
+    let more : is_narrowest d now ≡ false = sym (c.is_narrowest.ensures q) ∙ c.if-is_narrowest.false in
+    let next : Query = record q { start = c.narrower-span.result.start; end = c.narrower-span.result.end } in
+    let next_is : next ≡ narrower d now = c.narrower-span.ensures q in
+    let next_fits : IsFit next = subst IsFit (sym next_is) (narrower_fits d fits (omega arith) more) in
+    let within = next_fits.within in omega (arith, ap length c.haystack-haystack.ensures)
+
+pub with_span-requires-clause-ordered : goal.with_span-requires-clause-ordered
+with_span-requires-clause-ordered g c =
+    let q = query_of c.args.input.now in
+    let d = c.args.direction in
+    let inv = c.splits.invariant in
+    let now : Query = record q { start = c.splits.span.start; end = c.splits.span.end } in
+    let fits : IsFit now = inv.fits in
+    let span : IsInSpan now c.splits.found.offset = inv.in_span in
+    let low : now.start ≤ c.splits.found.offset = span.low in
+    let high : c.splits.found.offset ≤ now.end = span.high in
+    let goes : is_anchored q.mode ≡ false
+    = ap is_anchored (sym c.get_anchored.ensures) ∙ sym c.is_anchored.ensures ∙ c.if-is_anchored.false in
+    let more : is_narrowest d now ≡ false = sym (c.is_narrowest.ensures q) ∙ c.if-is_narrowest.false in
+    let next : Query = record q { start = c.narrower-span.result.start; end = c.narrower-span.result.end } in
+    let next_is : next ≡ narrower d now = c.narrower-span.ensures q in
+    let next_fits : IsFit next = subst IsFit (sym next_is) (narrower_fits d fits (omega arith) more) in
+    next_fits.ordered
+
+pub search-requires : goal.search-requires
+search-requires g c =
+    let q = query_of c.args.input.now in
+    let d = c.args.direction in
+    let inv = c.splits.invariant in
+    let now : Query = record q { start = c.splits.span.start; end = c.splits.span.end } in
+    let fits : IsFit now = inv.fits in
+    let span : IsInSpan now c.splits.found.offset = inv.in_span in
+    let low : now.start ≤ c.splits.found.offset = span.low in
+    let high : c.splits.found.offset ≤ now.end = span.high in
+    let goes : is_anchored q.mode ≡ false
+    = ap is_anchored (sym c.get_anchored.ensures) ∙ sym c.is_anchored.ensures ∙ c.if-is_anchored.false in
+    let more : is_narrowest d now ≡ false = sym (c.is_narrowest.ensures q) ∙ c.if-is_narrowest.false in
+    let next : Query = record q { start = c.narrower-span.result.start; end = c.narrower-span.result.end } in
+    let next_is : next ≡ narrower d now = c.narrower-span.ensures q in
+    let next_fits : IsFit next = subst IsFit (sym next_is) (narrower_fits d fits (omega arith) more) in
+    let called : IsFit (query_of c.with_span.result) = subst IsFit (sym c.with_span.ensures) next_fits in
+    c.requires.callable _ called
+
+pub splits-smaller : goal.splits-smaller
+splits-smaller g c =
+    let q = query_of c.args.input.now in
+    let d = c.args.direction in
+    let inv = c.splits.invariant in
+    let now : Query = record q { start = c.splits.span.start; end = c.splits.span.end } in
+    let fits : IsFit now = inv.fits in
+    let span : IsInSpan now c.splits.found.offset = inv.in_span in
+    let low : now.start ≤ c.splits.found.offset = span.low in
+    let high : c.splits.found.offset ≤ now.end = span.high in
+    let goes : is_anchored q.mode ≡ false
+    = ap is_anchored (sym c.get_anchored.ensures) ∙ sym c.is_anchored.ensures ∙ c.if-is_anchored.false in
+    let more : is_narrowest d now ≡ false = sym (c.is_narrowest.ensures q) ∙ c.if-is_narrowest.false in
+    let next : Query = record q { start = c.narrower-span.result.start; end = c.narrower-span.result.end } in
+    let next_is : next ≡ narrower d now = c.narrower-span.ensures q in
+    let next_fits : IsFit next = subst IsFit (sym next_is) (narrower_fits d fits (omega arith) more) in
+    subst (λ (x : Query). split_limit x < split_limit now) (sym next_is) (limit_falls d fits more)
+
+pub splits-preserved : goal.splits-preserved
+splits-preserved g c =
+    let q = query_of c.args.input.now in
+    let d = c.args.direction in
+    let inv = c.splits.invariant in
+    let now : Query = record q { start = c.splits.span.start; end = c.splits.span.end } in
+    let fits : IsFit now = inv.fits in
+    let span : IsInSpan now c.splits.found.offset = inv.in_span in
+    let low : now.start ≤ c.splits.found.offset = span.low in
+    let high : c.splits.found.offset ≤ now.end = span.high in
+    let split = subst (λ (o : ℕ). is_split q.haystack o ≡ true) c.offset.ensures
+    (splits_there q.haystack c.offset.result c.is_char_boundary.ensures c.splits-test.true
+    (let within = fits.within in omega (arith, c.offset.ensures))) in
+    let goes : is_anchored q.mode ≡ false
+    = ap is_anchored (sym c.get_anchored.ensures) ∙ sym c.is_anchored.ensures ∙ c.if-is_anchored.false in
+    let more : is_narrowest d now ≡ false = sym (c.is_narrowest.ensures q) ∙ c.if-is_narrowest.false in
+    let next : Query = record q { start = c.narrower-span.result.start; end = c.narrower-span.result.end } in
+    let next_is : next ≡ narrower d now = c.narrower-span.ensures q in
+    let next_fits : IsFit next = subst IsFit (sym next_is) (narrower_fits d fits (omega arith) more) in
+    let called : IsFit (query_of c.with_span.result) = subst IsFit (sym c.with_span.ensures) next_fits in
+    let again = λ (answers : Query → HalfAnswer) (says : _).
+    inv.told answers says ∙ searched_again answers d now c.splits.found split goes more
+    ∙ ap (λ (x : Query). skip_splits answers d (split_limit x) x) (sym next_is) in
+    let told = rw c.in-Ok-Some.field-0-is at c.in-Ok-Some.ensures in
+    record {
+      fits = next_fits;
+      in_span = subst (λ (x : Query). IsInSpan x c.in-Ok-Some.next.offset) c.with_span.ensures
+          (c.requires.within _ c.in-Ok-Some.next called told);
+      told = λ answers says.
+          again answers says
+          ∙ match_found answers d next_fits c.in-Ok-Some.next
+          (sym (says _ _ called told ∙ ap answers c.with_span.ensures));
+    }
+
+pub returns-in-Ok-None : goal.returns-in-Ok-None
+returns-in-Ok-None g c =
+    let q = query_of c.args.input.now in
+    let d = c.args.direction in
+    let inv = c.splits.invariant in
+    let now : Query = record q { start = c.splits.span.start; end = c.splits.span.end } in
+    let fits : IsFit now = inv.fits in
+    let span : IsInSpan now c.splits.found.offset = inv.in_span in
+    let low : now.start ≤ c.splits.found.offset = span.low in
+    let high : c.splits.found.offset ≤ now.end = span.high in
+    let split = subst (λ (o : ℕ). is_split q.haystack o ≡ true) c.offset.ensures
+    (splits_there q.haystack c.offset.result c.is_char_boundary.ensures c.splits-test.true
+    (let within = fits.within in omega (arith, c.offset.ensures))) in
+    let goes : is_anchored q.mode ≡ false
+    = ap is_anchored (sym c.get_anchored.ensures) ∙ sym c.is_anchored.ensures ∙ c.if-is_anchored.false in
+    let more : is_narrowest d now ≡ false = sym (c.is_narrowest.ensures q) ∙ c.if-is_narrowest.false in
+    let next : Query = record q { start = c.narrower-span.result.start; end = c.narrower-span.result.end } in
+    let next_is : next ≡ narrower d now = c.narrower-span.ensures q in
+    let next_fits : IsFit next = subst IsFit (sym next_is) (narrower_fits d fits (omega arith) more) in
+    let called : IsFit (query_of c.with_span.result) = subst IsFit (sym c.with_span.ensures) next_fits in
+    let again = λ (answers : Query → HalfAnswer) (says : _).
+    inv.told answers says ∙ searched_again answers d now c.splits.found split goes more
+    ∙ ap (λ (x : Query). skip_splits answers d (split_limit x) x) (sym next_is) in
+    let told = rw c.in-Ok-None.field-0-is at c.in-Ok-None.ensures in
+    λ answers says.
+    sym (again answers says ∙ nothing_found answers d next_fits
+    (sym (says _ _ called told ∙ ap answers c.with_span.ensures)))
+
+pub returns-in-Err : goal.returns-in-Err
+returns-in-Err g c =
+    let q = query_of c.args.input.now in
+    let d = c.args.direction in
+    let inv = c.splits.invariant in
+    let now : Query = record q { start = c.splits.span.start; end = c.splits.span.end } in
+    let fits : IsFit now = inv.fits in
+    let span : IsInSpan now c.splits.found.offset = inv.in_span in
+    let low : now.start ≤ c.splits.found.offset = span.low in
+    let high : c.splits.found.offset ≤ now.end = span.high in
+    let split = subst (λ (o : ℕ). is_split q.haystack o ≡ true) c.offset.ensures
+    (splits_there q.haystack c.offset.result c.is_char_boundary.ensures c.splits-test.true
+    (let within = fits.within in omega (arith, c.offset.ensures))) in
+    let goes : is_anchored q.mode ≡ false
+    = ap is_anchored (sym c.get_anchored.ensures) ∙ sym c.is_anchored.ensures ∙ c.if-is_anchored.false in
+    let more : is_narrowest d now ≡ false = sym (c.is_narrowest.ensures q) ∙ c.if-is_narrowest.false in
+    let next : Query = record q { start = c.narrower-span.result.start; end = c.narrower-span.result.end } in
+    let next_is : next ≡ narrower d now = c.narrower-span.ensures q in
+    let next_fits : IsFit next = subst IsFit (sym next_is) (narrower_fits d fits (omega arith) more) in
+    let called : IsFit (query_of c.with_span.result) = subst IsFit (sym c.with_span.ensures) next_fits in
+    let again = λ (answers : Query → HalfAnswer) (says : _).
+    inv.told answers says ∙ searched_again answers d now c.splits.found split goes more
+    ∙ ap (λ (x : Query). skip_splits answers d (split_limit x) x) (sym next_is) in
+    λ answers says.
+    sym (again answers says ∙ search_failed answers d next_fits c.in-Err.error
+    (sym (says _ _ called c.in-Err.ensures ∙ ap answers c.with_span.ensures)))
+
+pub returns : goal.returns
+returns g c =
+    let q = query_of c.args.input.now in
+    let d = c.args.direction in
+    let inv = c.splits.invariant in
+    let now : Query = record q { start = c.splits.span.start; end = c.splits.span.end } in
+    let fits : IsFit now = inv.fits in
+    let span : IsInSpan now c.splits.found.offset = inv.in_span in
+    let low : now.start ≤ c.splits.found.offset = span.low in
+    let high : c.splits.found.offset ≤ now.end = span.high in
+    λ answers says.
+    sym (inv.told answers says ∙ whole_told answers d now c.splits.found
+    (subst (λ (o : ℕ). is_split q.haystack o ≡ false) c.offset.ensures
+    (whole_there q.haystack c.offset.result c.is_char_boundary.ensures c.splits-test.false)))

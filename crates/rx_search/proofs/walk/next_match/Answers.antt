@@ -1,0 +1,336 @@
+use Rattle.std.proofs.Common.{◌≡◌, ℕ, ◌≤◌, ◌==◌, sym, ◌∙◌, ap, ap₂, subst, arith, refl, length, List}
+use Rattle.rx_spec.specs.Ids.{row_of}
+use Rattle.rx_spec.specs.HalfSearches.{next_offset, unit_offset}
+use Rattle.rx_spec.specs.Queries.{Query}
+use Rattle.rx_spec.specs.Tables.{Table, is_match}
+use Rattle.rx_spec.specs.declared.Direction.{Direction}
+use Rattle.rx_base.specs.Input.{query_of}
+use Rattle.rx_base.specs.Unit.{unit_number}
+use Rattle.rx_search.specs.Labels.{is_quit}
+use Rattle.rx_search.specs.Needles.{byte_ahead}
+use Rattle.rx_search.specs.Starts.{IsId}
+use Rattle.rx_search.specs.Walks.{IsInSpan, last_offset, unit_ahead, bytes_left}
+use Rattle.rx_search.proofs.Needles.{stays}
+use Rattle.rx_search.proofs.Walks.{Held, turned, stepped, known, Step, LastStep, Place, next_place, within_haystack}
+use Rattle.rx_search.proofs.Walks.{Turn, bytes_of, ordinary, unaccelerated, quiet, eoi_no_quit, held_row, skips_at}
+use Rattle.rx_search.proofs.Progress.{Progress, begins, progress_on, met_stop, met_count, end_count, quit_stop}
+use Rattle.rx_search.proofs.Progress.{end_stop, last_met_stop}
+use Rattle.rx_search.proofs.Progress.{last_met_count, last_end_count, last_quit_stop, last_end_stop, quits_at}
+use Rattle.rx_search.proofs.walk.next_match.Goals as goal
+
+-- a turn of a cursor, which keeps the table that it was made for
+moved : {A : Type 0} (table : A → Table) (ids : A → List ℕ) {first here there : A}
+    → Held (table first) (ids first) → (id next : ℕ) {unit : ℕ} → here ≡ first → there ≡ first
+    → IsId (ids there) next → row_of (ids here) next ≡ (table here).machine.next (row_of (ids here) id) unit
+    → Turn (table first) (row_of (ids first) id) unit (row_of (ids first) next)
+moved table ids held id next {unit} same same_next is leads =
+    turned held id next {unit = unit} (ap table same) (ap ids same) (ap ids same_next) is leads
+
+-- the step past the span, as it is known of the unit there
+last_stepped : {t : Table} {direction : Direction} {q : Query} {row next offset unit last : ℕ} {hay : List ℕ}
+    → IsInSpan q offset → q.end ≤ length q.haystack → last ≡ last_offset direction q → hay ≡ q.haystack
+    → unit ≡ unit_ahead direction hay last → Turn t row unit next → LastStep t direction q row unit next
+last_stepped {t} {direction} is fits last_is hay_is unit_is turn =
+    let low = is.low in
+    let high = is.high in
+    record {
+      order = omega arith;
+      fits = fits;
+      unit_is = unit_is ∙ ap₂ (unit_ahead direction) hay_is last_is;
+      turn = turn;
+    }
+
+pub byte_ahead-byte-requires : goal.byte_ahead-byte-requires
+byte_ahead-byte-requires g c =
+    let q = query_of c.args.input.now in
+    let place : Place q c.bytes.at
+    = record { fits = c.requires.within; in_span = c.bytes.invariant.progress.in_span } in
+    let within = within_haystack c.args.direction place (λ e. c.bytes-test.true (e ∙ sym c.last_offset-last.ensures)) in
+    omega (arith, within, ap length c.haystack-haystack.ensures)
+
+pub bytes-init : goal.bytes-init
+bytes-init g c = record {
+  table = refl;
+  progress = begins _ c.args.direction (query_of c.args.input.now) _ c.requires.in_span;
+}
+
+pub bytes-preserved-then-not-is_special : goal.bytes-preserved-then-not-is_special
+bytes-preserved-then-not-is_special g c =
+    let a = g.A.Automaton in
+    let met = g.met.A.Automaton in
+    let t = a.table c.args.cursor.now.table in
+    let ids = a.ids c.args.cursor.now.table in
+    let q = query_of c.args.input.now in
+    let inv = c.bytes.invariant in
+    let held : Held t ids = record {
+      sound = met.sound c.args.cursor.now.table c.args.cursor.now.sound;
+      are = met.are_ids c.args.cursor.now.table;
+    } in
+    let next = c.advance.new.self.row in
+    let same = c.advance.ensures.table ∙ inv.table in
+    let turn = moved a.table a.ids held c.bytes.cursor.row next {unit = c.byte_ahead-byte.result}
+    inv.table same c.advance.new.self.is_id c.advance.ensures.row in
+    let place : Place q c.bytes.at = record { fits = c.requires.within; in_span = inv.progress.in_span } in
+    let s : Step t c.args.direction q (row_of ids c.bytes.cursor.row) c.bytes.at (row_of ids next) =
+    stepped place c.last_offset-last.ensures c.bytes-test.true c.haystack-haystack.ensures c.byte_ahead-byte.ensures
+    turn in
+    let none = known (λ (u : Table) (r : ℕ). u.is_special r) next (ap a.table same) (ap a.ids same)
+    c.is_special.ensures c.if-not-is_special.true in
+    let bytes = bytes_of c.haystack-haystack.result.now q.haystack c.haystack-haystack.ensures
+    (λ k. omega (arith, c.type_inv.haystack k)) in
+    let there = next_place c.args.direction place s.more in
+    let on = progress_on inv.progress s (ordinary turn.standing none) bytes (next_offset c.args.direction c.bytes.at)
+    (stays turn.standing c.args.direction q (next_offset c.args.direction c.bytes.at) there.in_span
+    (unaccelerated turn.standing none)) in
+    let way = λ (at steps : ℕ). Progress t c.args.direction q
+    (record { row = row_of ids c.args.cursor.now.row; offset = c.args.from; steps = c.args.steps.now })
+    (record { row = row_of ids next; offset = at; steps = steps }) in
+    record {
+      table = same;
+      progress = subst (λ (at : ℕ). way at c.advance.new.steps) (sym c.next_offset-at.ensures)
+          (subst (λ (steps : ℕ). way (next_offset c.args.direction c.bytes.at) steps)
+          (sym c.advance.ensures.counted) on);
+    }
+
+pub returns-then-is_match : goal.returns-then-is_match
+returns-then-is_match g c =
+    let a = g.A.Automaton in
+    let met = g.met.A.Automaton in
+    let t = a.table c.args.cursor.now.table in
+    let ids = a.ids c.args.cursor.now.table in
+    let q = query_of c.args.input.now in
+    let inv = c.bytes.invariant in
+    let held : Held t ids = record {
+      sound = met.sound c.args.cursor.now.table c.args.cursor.now.sound;
+      are = met.are_ids c.args.cursor.now.table;
+    } in
+    let next = c.advance.new.self.row in
+    let same = c.advance.ensures.table ∙ inv.table in
+    let turn = moved a.table a.ids held c.bytes.cursor.row next {unit = c.byte_ahead-byte.result}
+    inv.table same c.advance.new.self.is_id c.advance.ensures.row in
+    let place : Place q c.bytes.at = record { fits = c.requires.within; in_span = inv.progress.in_span } in
+    let s : Step t c.args.direction q (row_of ids c.bytes.cursor.row) c.bytes.at (row_of ids next) =
+    stepped place c.last_offset-last.ensures c.bytes-test.true c.haystack-haystack.ensures c.byte_ahead-byte.ensures
+    turn in
+    let is = known is_match next (ap a.table same) (ap a.ids same) c.is_match.ensures c.if-is_match.true in
+    record {
+      table = same;
+      stop = met_stop inv.progress s is;
+      room = omega (arith, inv.progress.room, c.advance.ensures.counted);
+      counted = λ r. omega (arith, met_count inv.progress s r, c.advance.ensures.counted);
+    }
+
+pub returns-then-is_quit : goal.returns-then-is_quit
+returns-then-is_quit g c =
+    let a = g.A.Automaton in
+    let met = g.met.A.Automaton in
+    let t = a.table c.args.cursor.now.table in
+    let ids = a.ids c.args.cursor.now.table in
+    let q = query_of c.args.input.now in
+    let inv = c.bytes.invariant in
+    let held : Held t ids = record {
+      sound = met.sound c.args.cursor.now.table c.args.cursor.now.sound;
+      are = met.are_ids c.args.cursor.now.table;
+    } in
+    let next = c.advance.new.self.row in
+    let same = c.advance.ensures.table ∙ inv.table in
+    let turn = moved a.table a.ids held c.bytes.cursor.row next {unit = c.byte_ahead-byte.result}
+    inv.table same c.advance.new.self.is_id c.advance.ensures.row in
+    let place : Place q c.bytes.at = record { fits = c.requires.within; in_span = inv.progress.in_span } in
+    let s : Step t c.args.direction q (row_of ids c.bytes.cursor.row) c.bytes.at (row_of ids next) =
+    stepped place c.last_offset-last.ensures c.bytes-test.true c.haystack-haystack.ensures c.byte_ahead-byte.ensures
+    turn in
+    let is = known is_quit next (ap a.table same) (ap a.ids same) c.is_quit.ensures c.if-is_quit.true in
+    record {
+      table = same;
+      stop = quits_at c.quit.ensures
+          (c.byte_ahead-byte.ensures
+          ∙ ap (λ hay. byte_ahead c.args.direction hay c.bytes.at) c.haystack-haystack.ensures)
+          c.unit_offset.ensures (quit_stop inv.progress s is);
+      room = omega (arith, inv.progress.room, c.advance.ensures.counted);
+      counted = λ r. omega (arith, end_count inv.progress s r, c.advance.ensures.counted);
+    }
+
+pub returns-then-is_dead : goal.returns-then-is_dead
+returns-then-is_dead g c =
+    let a = g.A.Automaton in
+    let met = g.met.A.Automaton in
+    let t = a.table c.args.cursor.now.table in
+    let ids = a.ids c.args.cursor.now.table in
+    let q = query_of c.args.input.now in
+    let inv = c.bytes.invariant in
+    let held : Held t ids = record {
+      sound = met.sound c.args.cursor.now.table c.args.cursor.now.sound;
+      are = met.are_ids c.args.cursor.now.table;
+    } in
+    let next = c.advance.new.self.row in
+    let same = c.advance.ensures.table ∙ inv.table in
+    let turn = moved a.table a.ids held c.bytes.cursor.row next {unit = c.byte_ahead-byte.result}
+    inv.table same c.advance.new.self.is_id c.advance.ensures.row in
+    let place : Place q c.bytes.at = record { fits = c.requires.within; in_span = inv.progress.in_span } in
+    let s : Step t c.args.direction q (row_of ids c.bytes.cursor.row) c.bytes.at (row_of ids next) =
+    stepped place c.last_offset-last.ensures c.bytes-test.true c.haystack-haystack.ensures c.byte_ahead-byte.ensures
+    turn in
+    let no_match = known is_match next (ap a.table same) (ap a.ids same) c.is_match.ensures c.if-is_match.false in
+    let no_quit = known is_quit next (ap a.table same) (ap a.ids same) c.is_quit.ensures c.if-is_quit.false in
+    let dead = known (λ (u : Table) (r : ℕ). r == 0) next (ap a.table same) (ap a.ids same)
+    c.is_dead.ensures c.if-is_dead.true in
+    record {
+      table = same;
+      stop = end_stop inv.progress s no_match no_quit dead;
+      room = omega (arith, inv.progress.room, c.advance.ensures.counted);
+      counted = λ r. omega (arith, end_count inv.progress s r, c.advance.ensures.counted);
+    }
+
+pub bytes-preserved : goal.bytes-preserved
+bytes-preserved g c =
+    let a = g.A.Automaton in
+    let met = g.met.A.Automaton in
+    let t = a.table c.args.cursor.now.table in
+    let ids = a.ids c.args.cursor.now.table in
+    let q = query_of c.args.input.now in
+    let inv = c.bytes.invariant in
+    let held : Held t ids = record {
+      sound = met.sound c.args.cursor.now.table c.args.cursor.now.sound;
+      are = met.are_ids c.args.cursor.now.table;
+    } in
+    let next = c.advance.new.self.row in
+    let same = c.advance.ensures.table ∙ inv.table in
+    let turn = moved a.table a.ids held c.bytes.cursor.row next {unit = c.byte_ahead-byte.result}
+    inv.table same c.advance.new.self.is_id c.advance.ensures.row in
+    let place : Place q c.bytes.at = record { fits = c.requires.within; in_span = inv.progress.in_span } in
+    let s : Step t c.args.direction q (row_of ids c.bytes.cursor.row) c.bytes.at (row_of ids next) =
+    stepped place c.last_offset-last.ensures c.bytes-test.true c.haystack-haystack.ensures c.byte_ahead-byte.ensures
+    turn in
+    let no_match = known is_match next (ap a.table same) (ap a.ids same) c.is_match.ensures c.if-is_match.false in
+    let no_quit = known is_quit next (ap a.table same) (ap a.ids same) c.is_quit.ensures c.if-is_quit.false in
+    let not_dead = known (λ (u : Table) (r : ℕ). r == 0) next (ap a.table same) (ap a.ids same)
+    c.is_dead.ensures c.if-is_dead.false in
+    let bytes = bytes_of c.haystack-haystack.result.now q.haystack c.haystack-haystack.ensures
+    (λ k. omega (arith, c.type_inv.haystack k)) in
+    let from = next_offset c.args.direction c.bytes.at in
+    let skips = skips_at next (ap a.table same) (ap a.ids same) c.next_offset.ensures c.skip-at.ensures.skips in
+    let on = progress_on inv.progress s (quiet turn.standing no_match no_quit not_dead) bytes c.skip-at.result skips in
+    record {
+      table = same;
+      progress = subst (λ (steps : ℕ). Progress t c.args.direction q
+          (record { row = row_of ids c.args.cursor.now.row; offset = c.args.from; steps = c.args.steps.now })
+          (record { row = row_of ids next; offset = c.skip-at.result; steps = steps }))
+          (sym c.advance.ensures.counted) on;
+    }
+
+pub returns-then-is_match-2 : goal.returns-then-is_match-2
+returns-then-is_match-2 g c =
+    let a = g.A.Automaton in
+    let met = g.met.A.Automaton in
+    let t = a.table c.args.cursor.now.table in
+    let ids = a.ids c.args.cursor.now.table in
+    let q = query_of c.args.input.now in
+    let inv = c.bytes.invariant in
+    let held : Held t ids = record {
+      sound = met.sound c.args.cursor.now.table c.args.cursor.now.sound;
+      are = met.are_ids c.args.cursor.now.table;
+    } in
+    let next = c.advance-2.new.self.row in
+    let same = c.advance-2.ensures.table ∙ inv.table in
+    let turn = moved a.table a.ids held c.bytes.cursor.row next {unit = unit_number c.unit_ahead-unit.result}
+    inv.table same c.advance-2.new.self.is_id c.advance-2.ensures.row in
+    let s = last_stepped inv.progress.in_span c.requires.within c.last_offset-last.ensures
+    c.haystack-haystack.ensures c.unit_ahead-unit.ensures turn in
+    let over = c.bytes-test.false ∙ c.last_offset-last.ensures in
+    let is = known is_match next (ap a.table same) (ap a.ids same) c.is_match-2.ensures c.if-is_match-2.true in
+    record {
+      table = same;
+      stop = last_met_stop inv.progress over s c.last_offset-last.ensures is;
+      room = (let here = ap (bytes_left c.args.direction q) c.bytes-test.false in
+          omega (arith, inv.progress.room, here, c.advance-2.ensures.counted));
+      counted = λ r.
+          omega (arith, last_met_count inv.progress over s c.last_offset-last.ensures r, c.advance-2.ensures.counted);
+    }
+
+pub returns-in-Eoi : goal.returns-in-Eoi
+returns-in-Eoi g c =
+    let a = g.A.Automaton in
+    let met = g.met.A.Automaton in
+    let t = a.table c.args.cursor.now.table in
+    let ids = a.ids c.args.cursor.now.table in
+    let q = query_of c.args.input.now in
+    let inv = c.bytes.invariant in
+    let held : Held t ids = record {
+      sound = met.sound c.args.cursor.now.table c.args.cursor.now.sound;
+      are = met.are_ids c.args.cursor.now.table;
+    } in
+    let next = c.advance-2.new.self.row in
+    let same = c.advance-2.ensures.table ∙ inv.table in
+    let turn = moved a.table a.ids held c.bytes.cursor.row next {unit = unit_number c.unit_ahead-unit.result}
+    inv.table same c.advance-2.new.self.is_id c.advance-2.ensures.row in
+    let s = last_stepped inv.progress.in_span c.requires.within c.last_offset-last.ensures
+    c.haystack-haystack.ensures c.unit_ahead-unit.ensures turn in
+    let over = c.bytes-test.false ∙ c.last_offset-last.ensures in
+    let no_match = known is_match next (ap a.table same) (ap a.ids same) c.is_match-2.ensures c.if-is_match-2.false in
+    let row = c.bytes.cursor.row in
+    let standing = held_row held row (subst (λ (i : List ℕ). IsId i row) (ap a.ids inv.table) c.bytes.cursor.is_id) in
+    let no_quit = eoi_no_quit standing turn (ap unit_number c.in-Eoi.is) in
+    record {
+      table = same;
+      stop = last_end_stop inv.progress over s no_match no_quit;
+      room = omega (arith, inv.progress.room, c.advance-2.ensures.counted);
+      counted = λ r. omega (arith, last_end_count inv.progress over s r, c.advance-2.ensures.counted);
+    }
+
+pub returns-then-is_quit-2 : goal.returns-then-is_quit-2
+returns-then-is_quit-2 g c =
+    let a = g.A.Automaton in
+    let met = g.met.A.Automaton in
+    let t = a.table c.args.cursor.now.table in
+    let ids = a.ids c.args.cursor.now.table in
+    let q = query_of c.args.input.now in
+    let inv = c.bytes.invariant in
+    let held : Held t ids = record {
+      sound = met.sound c.args.cursor.now.table c.args.cursor.now.sound;
+      are = met.are_ids c.args.cursor.now.table;
+    } in
+    let next = c.advance-2.new.self.row in
+    let same = c.advance-2.ensures.table ∙ inv.table in
+    let turn = moved a.table a.ids held c.bytes.cursor.row next {unit = unit_number c.unit_ahead-unit.result}
+    inv.table same c.advance-2.new.self.is_id c.advance-2.ensures.row in
+    let s = last_stepped inv.progress.in_span c.requires.within c.last_offset-last.ensures
+    c.haystack-haystack.ensures c.unit_ahead-unit.ensures turn in
+    let over = c.bytes-test.false ∙ c.last_offset-last.ensures in
+    let is = known is_quit next (ap a.table same) (ap a.ids same) c.is_quit-2.ensures c.if-is_quit-2.true in
+    record {
+      table = same;
+      stop = quits_at c.quit-then-is_quit-2.ensures (sym (ap unit_number c.in-Byte.is))
+          (c.unit_offset-then-is_quit-2.ensures ∙ ap (unit_offset c.args.direction) c.last_offset-last.ensures)
+          (last_quit_stop inv.progress over s is);
+      room = omega (arith, inv.progress.room, c.advance-2.ensures.counted);
+      counted = λ r. omega (arith, last_end_count inv.progress over s r, c.advance-2.ensures.counted);
+    }
+
+pub returns : goal.returns
+returns g c =
+    let a = g.A.Automaton in
+    let met = g.met.A.Automaton in
+    let t = a.table c.args.cursor.now.table in
+    let ids = a.ids c.args.cursor.now.table in
+    let q = query_of c.args.input.now in
+    let inv = c.bytes.invariant in
+    let held : Held t ids = record {
+      sound = met.sound c.args.cursor.now.table c.args.cursor.now.sound;
+      are = met.are_ids c.args.cursor.now.table;
+    } in
+    let next = c.advance-2.new.self.row in
+    let same = c.advance-2.ensures.table ∙ inv.table in
+    let turn = moved a.table a.ids held c.bytes.cursor.row next {unit = unit_number c.unit_ahead-unit.result}
+    inv.table same c.advance-2.new.self.is_id c.advance-2.ensures.row in
+    let s = last_stepped inv.progress.in_span c.requires.within c.last_offset-last.ensures
+    c.haystack-haystack.ensures c.unit_ahead-unit.ensures turn in
+    let over = c.bytes-test.false ∙ c.last_offset-last.ensures in
+    let no_match = known is_match next (ap a.table same) (ap a.ids same) c.is_match-2.ensures c.if-is_match-2.false in
+    let no_quit = known is_quit next (ap a.table same) (ap a.ids same) c.is_quit-2.ensures c.if-is_quit-2.false in
+    record {
+      table = same;
+      stop = last_end_stop inv.progress over s no_match no_quit;
+      room = omega (arith, inv.progress.room, c.advance-2.ensures.counted);
+      counted = λ r. omega (arith, last_end_count inv.progress over s r, c.advance-2.ensures.counted);
+    }

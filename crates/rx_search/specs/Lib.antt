@@ -1,0 +1,16 @@
+-- ids, labels, starts
+pub mod Labels
+pub mod Starts
+-- walks, and what they skip
+pub mod Walks
+pub mod Needles
+pub mod Counted
+-- overlapping searches
+pub mod OverlappingCalls
+-- matches that split a character
+pub mod SplitSearches
+-- sets of patterns
+pub mod Collected
+-- a table for tests
+pub mod Samples
+pub mod SampleFacts

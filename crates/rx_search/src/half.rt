@@ -1,0 +1,185 @@
+//! Half searches: forward they tell the end of a match, in reverse its start.
+
+ghost use Rattle.std.specs.Prelude.{◌≡◌, ◌+◌, ◌-◌, ◌<◌, ◌≤◌, ◌^◌, length, true, IfOk, IfSome};
+ghost use Rattle.rx_spec.specs.HalfSearches.{half_search, units_of};
+ghost use Rattle.rx_spec.specs.Ids.{row_of};
+ghost use Rattle.rx_spec.specs.Queries.{IsFit, is_done};
+ghost use Rattle.rx_spec.specs.declared.Direction.TheVariants.{Forward, Reverse};
+ghost use Rattle.rx_base.specs.Input.{query_of};
+ghost use Rattle.rx_search.specs.Counted.{counted};
+ghost use Rattle.rx_search.specs.Starts.{IsStart};
+ghost use Rattle.rx_search.specs.Walks.{previous_offset, IsInSpan};
+
+use crate::skip::skip;
+use crate::walk::{first_offset, last_offset, next_match, next_offset};
+use crate::{Automaton, Cursor};
+use rx_base::{Direction, HalfMatch, Input, MatchError, Steps, Tally};
+
+/// The end of the match that a forward search of an input tells, without UTF-8 mode.
+#[inline]
+pub fn find_fwd<A: Automaton>(dfa: &A, input: &Input<'_>) -> Result<Option<HalfMatch>, MatchError>
+    requires sound { A.IsSound dfa.now }
+    requires fits { IsFit (query_of input.now) }
+    ensures answer { result
+        ≡ half_search (A.table dfa.now).machine (A.table dfa.now).settings Forward (query_of input.now) }
+    // What is told lies in the span.
+    ensures within { IfOk result (λ found. IfSome found (λ h. IsInSpan (query_of input.now) h.offset)) }
+{
+    if input.is_done() {
+        return Ok(None);
+    }
+    match Cursor::<&A, Tally>::forward(dfa, input) {
+        Err(error) => Err(error),
+        Ok(cursor) => {
+            let mut cursor = cursor;
+            let mut steps = Steps::new(Tally);
+            half_search(&mut cursor, input, Direction::Forward, &mut steps)
+        }
+    }
+}
+
+/// The start of the match that a search in reverse of an input tells, without UTF-8 mode.
+#[inline]
+pub fn find_rev<A: Automaton>(dfa: &A, input: &Input<'_>) -> Result<Option<HalfMatch>, MatchError>
+    requires sound { A.IsSound dfa.now }
+    requires fits { IsFit (query_of input.now) }
+    ensures answer { result
+        ≡ half_search (A.table dfa.now).machine (A.table dfa.now).settings Reverse (query_of input.now) }
+    // What is told lies in the span.
+    ensures within { IfOk result (λ found. IfSome found (λ h. IsInSpan (query_of input.now) h.offset)) }
+{
+    if input.is_done() {
+        return Ok(None);
+    }
+    match Cursor::<&A, Tally>::reverse(dfa, input) {
+        Err(error) => Err(error),
+        Ok(cursor) => {
+            let mut cursor = cursor;
+            let mut steps = Steps::new(Tally);
+            half_search(&mut cursor, input, Direction::Reverse, &mut steps)
+        }
+    }
+}
+
+/// The same as [`find_fwd`], from a cursor that [`Cursor::forward`] made for this input.
+///
+/// Its ticks are at most the number of units that count of those that it reads: the bytes of the span that are
+/// read from a row without needles or that are a needle of their row, and the unit past the span. It answers no
+/// other error than a quit byte.
+#[inline(always)]
+pub fn find_fwd_counted<A: Automaton, L>(
+    cursor: &mut Cursor<A, L>,
+    input: &Input<'_>,
+    steps: &mut Steps<L>,
+) -> Result<Option<HalfMatch>, MatchError>
+    requires fits { IsFit (query_of input.now) }
+    requires room { steps.old + length (query_of input.now).haystack + 1 < 2 ^ 64 }
+    requires fresh { let t = A.table cursor.old.table in
+        IsStart t Forward (query_of input.now) (row_of (A.ids cursor.old.table) cursor.old.row) }
+    ensures answer { let t = A.table cursor.old.table in
+        result ≡ half_search t.machine t.settings Forward (query_of input.now) }
+    // What is told lies in the span.
+    ensures within { IfOk result (λ found. IfSome found (λ h. IsInSpan (query_of input.now) h.offset)) }
+    ensures counted { let q = query_of input.now in
+        let t = A.table cursor.old.table in
+        let row = row_of (A.ids cursor.old.table) cursor.old.row in
+        steps.new ≤ steps.old + counted t q.earliest row (units_of Forward q) }
+    ensures done { is_done (query_of input.now) ≡ true → steps.new ≡ steps.old }
+{
+    half_search(cursor, input, Direction::Forward, steps)
+}
+
+/// The same as [`find_rev`], from a cursor that [`Cursor::reverse`] made for this input. Its ticks are bounded as
+/// those of [`find_fwd_counted`].
+#[inline(always)]
+pub fn find_rev_counted<A: Automaton, L>(
+    cursor: &mut Cursor<A, L>,
+    input: &Input<'_>,
+    steps: &mut Steps<L>,
+) -> Result<Option<HalfMatch>, MatchError>
+    requires fits { IsFit (query_of input.now) }
+    requires room { steps.old + length (query_of input.now).haystack + 1 < 2 ^ 64 }
+    requires fresh { let t = A.table cursor.old.table in
+        IsStart t Reverse (query_of input.now) (row_of (A.ids cursor.old.table) cursor.old.row) }
+    ensures answer { let t = A.table cursor.old.table in
+        result ≡ half_search t.machine t.settings Reverse (query_of input.now) }
+    // What is told lies in the span.
+    ensures within { IfOk result (λ found. IfSome found (λ h. IsInSpan (query_of input.now) h.offset)) }
+    ensures counted { let q = query_of input.now in
+        let t = A.table cursor.old.table in
+        let row = row_of (A.ids cursor.old.table) cursor.old.row in
+        steps.new ≤ steps.old + counted t q.earliest row (units_of Reverse q) }
+    ensures done { is_done (query_of input.now) ≡ true → steps.new ≡ steps.old }
+{
+    half_search(cursor, input, Direction::Reverse, steps)
+}
+
+/// The half search in a direction, from the row where it starts.
+#[inline(always)]
+fn half_search<A: Automaton, L>(
+    cursor: &mut Cursor<A, L>,
+    input: &Input<'_>,
+    direction: Direction,
+    steps: &mut Steps<L>,
+) -> Result<Option<HalfMatch>, MatchError>
+    requires fits { IsFit (query_of input.now) }
+    requires room { steps.old + length (query_of input.now).haystack + 1 < 2 ^ 64 }
+    requires fresh { let t = A.table cursor.old.table in
+        IsStart t direction (query_of input.now) (row_of (A.ids cursor.old.table) cursor.old.row) }
+    ensures answer { let t = A.table cursor.old.table in
+        result ≡ half_search t.machine t.settings direction (query_of input.now) }
+    // What is told lies in the span.
+    ensures within { IfOk result (λ found. IfSome found (λ h. IsInSpan (query_of input.now) h.offset)) }
+    ensures counted { let q = query_of input.now in
+        let t = A.table cursor.old.table in
+        let row = row_of (A.ids cursor.old.table) cursor.old.row in
+        steps.new ≤ steps.old + counted t q.earliest row (units_of direction q) }
+    ensures done { is_done (query_of input.now) ≡ true → steps.new ≡ steps.old }
+{
+    if input.is_done() {
+        return Ok(None);
+    }
+    let haystack = input.haystack();
+    let mut at = skip(
+        cursor,
+        haystack,
+        input,
+        direction,
+        first_offset(input, direction),
+    );
+    let mut last = None;
+    'matches: loop {
+        let offset = match next_match(cursor, input, direction, at, steps) {
+            Ok(Some(offset)) => offset,
+            Ok(None) => return Ok(last),
+            Err(error) => return Err(error),
+        };
+        let pattern = cursor.pattern(0);
+        if input.get_earliest() {
+            return Ok(Some(HalfMatch::new(pattern, offset)));
+        }
+        if offset == last_offset(input, direction) {
+            return Ok(Some(HalfMatch::new(pattern, offset)));
+        }
+        at = skip(
+            cursor,
+            haystack,
+            input,
+            direction,
+            next_offset(direction, offset),
+        );
+        last = Some(HalfMatch::new(pattern, previous_offset(direction, at)));
+    }
+}
+
+/// The offset before the unit that was read last at an offset.
+#[inline(always)]
+fn previous_offset(direction: Direction, offset: usize) -> usize
+    requires { offset < 2 ^ 64 - 1 }
+    ensures { result ≡ previous_offset direction offset }
+{
+    match direction {
+        Direction::Forward => offset.saturating_sub(1),
+        Direction::Reverse => offset + 1,
+    }
+}
