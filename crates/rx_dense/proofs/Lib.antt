@@ -1,0 +1,10 @@
+-- rows and their ids
+pub mod Rows
+-- needles in words
+pub mod AccelLists
+-- kinds of rows by their ids
+pub mod RowKinds
+-- what each change leaves true of a table
+pub mod Shaped
+-- rows that change places
+pub mod Swaps

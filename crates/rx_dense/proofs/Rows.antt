@@ -1,0 +1,233 @@
+-- Rows and their ids: the id of a row is its number times the stride.
+use Rattle.std.proofs.Common.{◌≡◌, ℕ, zero, suc, ◌+◌, ◌*◌, ◌/◌, ◌%◌, ◌^◌, ◌<◌, ◌≤◌, ◌==◌, Option, Some, None, Bool}
+use Rattle.std.proofs.Common.{true, List}
+use Rattle.std.proofs.Common.{length, refl, ap, sym, ◌∙◌, subst, ⊎_elim, arith, slice_index, if◌then◌else◌}
+use Rattle.std.specs.Prelude.{unwrap_or, nat_lt}
+use Rattle.std.specs.List.{position_or_len}
+use Rattle.std.proofs.Math.Nat.{pow-le-pow_right}
+use Rattle.std.proofs.lemmas.Bool.{and_parts, eqb-true, lt-ltb, ltb-true, le-ltb, cases_lt, cases_eq}
+use Rattle.std.proofs.lemmas.List.Sums.{passes_at_first}
+use Rattle.std.proofs.lemmas.Nat.{one_shl, pow_pos, mod-mul-add, mul-le, row_fits, le-div, div-add-mod'}
+use Rattle.rx_spec.specs.Ids.{id_of, row_of}
+use Rattle.rx_table_lemmas.proofs.Ids.{row_of-id_of, id_of-dense, dense_are_ids}
+use Rattle.rx_search.specs.Starts.{IsId}
+use Rattle.rx_dense.specs.Layouts.{Layout, IsRowId, AreRows, AreStarts, stride, row_count, ids_of, is_row_id}
+use Rattle.rx_spec.specs.Queries.{Anchored}
+use Rattle.rx_spec.specs.declared.Start.{Start}
+use Rattle.rx_dense.specs.Layouts.{context_number, mode_place, start_entries}
+use Rattle.rx_base.specs.ByteClasses.{AreClasses, alphabet_len}
+use Rattle.rx_spec.specs.Causes.{max_id}
+
+-- ---- numbers
+
+pub quotient : (x s : ℕ) → x % s ≡ 0 → x / s * s ≡ x
+quotient x s h = omega (arith, div-add-mod' x s)
+
+pub no_more : (x : ℕ) → x + 0 ≡ x
+no_more x = omega arith
+
+quotient_below : (x s n : ℕ) → 0 < s → x % s ≡ 0 → x + s ≤ n → x / s < n / s
+quotient_below x s n some h below =
+    let q = quotient x s h in
+    let next : (x / s + 1) * s ≤ n = omega (arith, q, below) in
+    omega (arith, le-div (x / s + 1) n s some next)
+
+multiple_below : (row s n : ℕ) → 0 < s → row < n / s → row * s + s ≤ n
+multiple_below row s n some h =
+    omega (arith, div-add-mod' n s, row_fits row s (n / s) s h (omega arith))
+
+-- a multiple of s below another is below it by s
+pub multiple_within : (x s n : ℕ) → x % s ≡ 0 → n % s ≡ 0 → x < n → x + s ≤ n
+multiple_within x s n h k below =
+    let q = quotient x s h in
+    let r = quotient n s k in
+    ⊎_elim
+    (λ (less : x / s < n / s). omega (arith, q, r, row_fits (x / s) s (n / s) s less (omega arith)))
+    (λ (more : n / s ≤ x / s).
+    let same : s ≤ s = omega arith in
+    absurd (omega (arith, q, r, mul-le (n / s) s (x / s) s more same)))
+    (cases_lt (x / s) (n / s))
+
+-- ---- strides
+
+pub stride_shifted : (s : ℕ) → s ≤ 9 → 1 * 2 ^ s % 18446744073709551616 ≡ 2 ^ s
+stride_shifted s h = one_shl s 64 (omega arith)
+
+pub stride_few : (s : ℕ) → s ≤ 9 → 2 ^ s ≤ 512
+stride_few s h = pow-le-pow_right (let some : 0 < 2 = omega arith in some) h
+
+-- ---- the row of an id
+
+-- a number that is an id stands at its row
+pub id_at_row : (ids : List ℕ) (id : ℕ) → IsId ids id → id_of ids (row_of ids id) ≡ id
+id_at_row ids id is = at_place (position_or_len (λ other. other == id) ids) refl
+  where
+    n : ℕ
+    n = length ids
+
+    choice : ℕ → ℕ
+    choice k = unwrap_or (if nat_lt k n then Some k else None) n
+
+    at_place : (k : ℕ) → k ≡ position_or_len (λ other. other == id) ids → id_of ids (row_of ids id) ≡ id
+    at_place k e =
+        ⊎_elim
+        (λ (h : k < n).
+        let there : choice k ≡ k = ap (λ (b : Bool). unwrap_or (if b then Some k else None) n) (lt-ltb k n h) in
+        let place : row_of ids id ≡ k = ap choice (sym e) ∙ there in
+        let below : position_or_len (λ other. other == id) ids < n = subst (λ x. x < n) e h in
+        let passes = passes_at_first (λ other. other == id) ids 0 below in
+        ap (id_of ids) (place ∙ e) ∙ eqb-true _ _ passes)
+        (λ (h : n ≤ k).
+        let past : choice k ≡ n = ap (λ (b : Bool). unwrap_or (if b then Some k else None) n) (le-ltb k n h) in
+        let place : row_of ids id ≡ n = ap choice (sym e) ∙ past in
+        absurd (omega (arith, place, is)))
+        (cases_lt k n)
+
+-- ---- in a dense table
+
+module _ (l : Layout) where
+  some : 0 < stride l
+  some = pow_pos l.stride2
+
+  -- the id of a row is the place of its first word
+  pub IsRowId-row : (row : ℕ) → row < row_count l → IsRowId l (row * stride l)
+  IsRowId-row row h = record {
+    whole = subst (λ x. x % stride l ≡ 0) (no_more (row * stride l)) (mod-mul-add row (stride l) 0 some);
+    below = multiple_below row (stride l) (length l.words) some h;
+  }
+
+  pub row-below : (id : ℕ) → IsRowId l id → id / stride l < row_count l
+  row-below id is = quotient_below id (stride l) (length l.words) some is.whole is.below
+
+  pub row_of-id : (id : ℕ) → IsRowId l id → row_of (ids_of l) id ≡ id / stride l
+  row_of-id id is =
+      let row = id / stride l in
+      let below = row-below id is in
+      let there : id_of (ids_of l) row ≡ id =
+      id_of-dense (row_count l) l.stride2 row below ∙ quotient id (stride l) is.whole in
+      ap (row_of (ids_of l)) (sym there) ∙ row_of-id_of (dense_are_ids (row_count l) l.stride2) row below
+
+  count : length (ids_of l) ≡ row_count l
+  count = (dense_are_ids (row_count l) l.stride2).count
+
+  pub IsId-row_id : (id : ℕ) → IsRowId l id → IsId (ids_of l) id
+  IsId-row_id id is = omega (arith, count, row_of-id id is, row-below id is)
+
+  pub row-is_below : (id : ℕ) → IsId (ids_of l) id → row_of (ids_of l) id < row_count l
+  row-is_below id is = omega (arith, count, is)
+
+  pub id-times : (id : ℕ) → IsId (ids_of l) id → row_of (ids_of l) id * stride l ≡ id
+  id-times id is =
+      let below : row_of (ids_of l) id < row_count l = omega (arith, count, is) in
+      sym (id_of-dense (row_count l) l.stride2 (row_of (ids_of l) id) below) ∙ id_at_row (ids_of l) id is
+
+  pub IsRowId-id : (id : ℕ) → IsId (ids_of l) id → IsRowId l id
+  IsRowId-id id is =
+      let below : row_of (ids_of l) id < row_count l = omega (arith, count, is) in
+      subst (IsRowId l) (id-times id is) (IsRowId-row (row_of (ids_of l) id) below)
+
+-- ---- entries
+
+module _ (l : Layout) (rows : AreRows l) where
+  pub id_few : (id : ℕ) → IsRowId l id → id ≤ max_id
+  id_few id is = (let few = rows.few in let below = is.below in omega arith)
+
+  pub valid_id : (id : ℕ) → is_row_id l id ≡ true → IsRowId l id
+  valid_id id e =
+      let parts = and_parts (id % stride l == 0) (nat_lt id (length l.words)) e in
+      let whole = eqb-true _ _ parts.0 in
+      record {
+        whole = whole;
+        below = multiple_within id (stride l) (length l.words) whole rows.whole (ltb-true _ _ parts.1);
+      }
+
+  -- an entry of a row lies in the table, and leads to a row
+  pub entry_within : (id at : ℕ) → IsId (ids_of l) id → at < alphabet_len l.classes → id + at < length l.words
+  entry_within id at is h =
+      let fits = rows.fits in
+      let below = (IsRowId-id l id is).below in
+      omega arith
+
+  pub entry_id : (id at : ℕ) → IsId (ids_of l) id → at < alphabet_len l.classes
+      → IsId (ids_of l) (slice_index l.words (id + at))
+  entry_id id at is h = IsId-row_id l _ (rows.next_ids (id + at) (entry_within id at is h))
+
+  pub entry_few : (id at : ℕ) → IsId (ids_of l) id → at < alphabet_len l.classes
+      → slice_index l.words (id + at) ≤ max_id
+  entry_few id at is h = id_few _ (rows.next_ids (id + at) (entry_within id at is h))
+
+  pub entry_row : (id at : ℕ) → IsId (ids_of l) id → at < alphabet_len l.classes
+      → row_of (ids_of l) (slice_index l.words (id + at))
+      ≡ slice_index l.words (row_of (ids_of l) id * stride l + at) / stride l
+  entry_row id at is h =
+      row_of-id l _ (rows.next_ids (id + at) (entry_within id at is h))
+      ∙ ap (λ x. slice_index l.words (x + at) / stride l) (sym (id-times l id is))
+
+-- ---- columns
+
+-- a byte's class is a column before the last
+module _ (classes : List ℕ) (are : AreClasses classes) where
+  class_below : (n b : ℕ) → b ≤ n → n < 256 → slice_index classes b ≤ slice_index classes n
+  class_below zero b h k =
+      let e : b ≡ 0 = omega arith in
+      subst (λ x. slice_index classes x ≤ slice_index classes 0) (sym e) (omega arith)
+  class_below (suc n) b h k =
+      ⊎_elim
+      (λ (e : b ≡ suc n). subst (λ x. slice_index classes x ≤ slice_index classes (suc n)) (sym e) (omega arith))
+      (λ (ne : b ≡ suc n → ⊥).
+      let rises = are.rises n (omega arith) in
+      let next : n + 1 ≡ suc n = omega arith in
+      let up : slice_index classes n ≤ slice_index classes (suc n) =
+      subst (λ x. slice_index classes n ≤ slice_index classes x) next rises in
+      omega (arith, class_below n b (omega arith) (omega arith), up))
+      (cases_eq b (suc n))
+
+  pub class_column : (b : ℕ) → b < 256 → slice_index classes b < alphabet_len classes
+  class_column b h = omega (arith, class_below 255 b (omega arith) (omega arith))
+
+  -- there are no more classes than bytes
+  class_upto : (b : ℕ) → b < 256 → slice_index classes b ≤ b
+  class_upto zero h = omega (arith, are.first)
+  class_upto (suc b) h =
+      let by_one = are.by_one b (omega arith) in
+      let next : b + 1 ≡ suc b = omega arith in
+      let up : slice_index classes (suc b) ≤ slice_index classes b + 1 =
+      subst (λ x. slice_index classes x ≤ slice_index classes b + 1) next by_one in
+      omega (arith, class_upto b (omega arith), up)
+
+  pub alphabet_few : alphabet_len classes ≤ 257
+  alphabet_few = omega (arith, class_upto 255 (omega arith))
+
+-- ---- start entries
+
+place_within : (mode : Anchored) (start : Start) (pattern_starts : Option ℕ)
+    → mode_place mode < start_entries pattern_starts
+    → mode_place mode + context_number start < start_entries pattern_starts
+place_within mode start pattern_starts h = omega (arith, context_below start, whole mode pattern_starts h)
+  where
+    context_below : (start : Start) → context_number start < 6
+    context_below Start.NonWordByte = omega arith
+    context_below Start.WordByte = omega arith
+    context_below Start.Text = omega arith
+    context_below Start.LineLF = omega arith
+    context_below Start.LineCR = omega arith
+    context_below Start.CustomLineTerminator = omega arith
+
+    whole : (mode : Anchored) (pattern_starts : Option ℕ) → mode_place mode < start_entries pattern_starts
+        → mode_place mode + 6 ≤ start_entries pattern_starts
+    whole Anchored.No None h = omega arith
+    whole Anchored.No (Some n) h = omega arith
+    whole Anchored.Yes None h = omega arith
+    whole Anchored.Yes (Some n) h = omega arith
+    whole (Anchored.Pattern k) None h = omega arith
+    whole (Anchored.Pattern k) (Some n) h = omega arith
+
+pub start_within : (l : Layout) → AreStarts l → (mode : Anchored) (start : Start) → mode_place mode < length l.starts
+    → mode_place mode + context_number start < length l.starts
+start_within l starts mode start h =
+    subst (λ n. mode_place mode + context_number start < n) (sym starts.count)
+    (place_within mode start l.pattern_starts (subst (λ n. mode_place mode < n) starts.count h))
+
+pub start_is_row : (l : Layout) → AreStarts l → (mode : Anchored) (start : Start) → mode_place mode < length l.starts
+    → IsRowId l (slice_index l.starts (mode_place mode + context_number start))
+start_is_row l starts mode start h = starts.start_ids _ (start_within l starts mode start h)

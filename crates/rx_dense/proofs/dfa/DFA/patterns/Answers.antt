@@ -1,0 +1,40 @@
+use Rattle.std.proofs.Common.{◌∙◌, ◌+◌, ◌-◌, ◌*◌, slice_index, sym, arith}
+use Rattle.rx_dense.specs.Layouts.{place_in_range}
+use Rattle.rx_dense.proofs.RowKinds.{match_first, match_place, match_patterns, part_is, part_ids}
+use Rattle.rx_dense.proofs.dfa.DFA.patterns.Goals as goal
+
+pub place_in_range-place-requires : goal.place_in_range-place-requires
+place_in_range-place-requires g c =
+    rw c.special.ensures (match_first c.args.self.now c.args.id c.requires.is_id c.requires.is_match)
+
+pub bounds-slices-place : goal.bounds-slices-place
+bounds-slices-place g c =
+    let within = match_place c.args.self.now c.args.id c.requires.is_id c.requires.sound c.requires.is_match in
+    rw (c.place_in_range-place.ensures, c.special.ensures, c.slices-slices.ensures.value) (omega (arith, within))
+
+pub bounds-slices-place-2 : goal.bounds-slices-place-2
+bounds-slices-place-2 g c =
+    let within = match_place c.args.self.now c.args.id c.requires.is_id c.requires.sound c.requires.is_match in
+    rw (c.place_in_range-place.ensures, c.special.ensures, c.slices-slices.ensures.value) within
+
+pub slice_bounds-result-end : goal.slice_bounds-result-end
+slice_bounds-result-end g c =
+    let l = c.args.self.now in
+    let within = match_place l c.args.id c.requires.is_id c.requires.sound c.requires.is_match in
+    let fits = c.slices-slices.ensures.lists.within (place_in_range l l.special.min_match c.args.id) within in
+    rw (c.place_in_range-place.ensures, c.special.ensures, c.slices-slices.ensures.value, c.pattern_ids.ensures) fits
+
+pub returns-clause-value : goal.returns-clause-value
+returns-clause-value g c =
+    let l = c.args.self.now in
+    let i = place_in_range l l.special.min_match c.args.id in
+    rw (c.place_in_range-place.ensures, c.special.ensures, c.slices-slices.ensures.value, c.pattern_ids.ensures)
+    (part_is l (slice_index l.slices (2 * i)) (slice_index l.slices (2 * i + 1))
+    ∙ sym (match_patterns l c.args.id c.requires.is_id c.requires.is_match))
+
+pub returns-clause-are_ids : goal.returns-clause-are_ids
+returns-clause-are_ids g c =
+    let l = c.args.self.now in
+    let start = slice_index c.slices-slices.result.now (2 * c.place_in_range-place.result) in
+    let len = slice_index c.slices-slices.result.now (2 * c.place_in_range-place.result + 1) in
+    rw c.pattern_ids.ensures (part_ids l c.slices-slices.ensures.lists start (start + len - start))

@@ -1,0 +1,9 @@
+use Rattle.std.proofs.Common.{◌≡◌, ◌<◌, ℕ, length, get_or}
+use Rattle.rx_spec.specs.Contexts.{start_of_byte}
+use Rattle.rx_spec.specs.declared.Start.{Start}
+use Rattle.rx_dense.proofs.dfa.build.contexts.Given as goal
+
+abbrev pub invariant-loop-byte : goal.invariant-loop-byte
+invariant-loop-byte l =
+    (length l.contexts ≡ 256) × (l.map ≡ l.fn.lookm)
+    × ((k : ℕ) → k < l.byte → get_or l.contexts k Start.NonWordByte ≡ start_of_byte l.fn.lookm k)

@@ -1,0 +1,32 @@
+use Rattle.std.proofs.Common.{◌≤◌, ◌*◌, ap, arith}
+use Rattle.rx_base.specs.ByteClasses.{alphabet_len}
+use Rattle.rx_table_lemmas.proofs.ClassNumbers.{stride_holds, stride_within}
+use Rattle.rx_dense.proofs.Rows.{alphabet_few, stride_few, stride_shifted}
+use Rattle.rx_dense.proofs.dfa.build.two_rows.Goals as goal
+
+pub overflow_shl-stride : goal.overflow_shl-stride
+overflow_shl-stride c =
+    let alphabet = c.alphabet_len-alphabet_len.ensures in
+    omega (arith, c.stride2-stride.ensures, (stride_within (alphabet_len c.args.classes.now) (omega arith)).1)
+
+pub prove-unreachable-requires : goal.prove-unreachable-requires
+prove-unreachable-requires c =
+    let alphabet = c.alphabet_len-alphabet_len.ensures in
+    let within = stride_within (alphabet_len c.args.classes.now) (omega arith) in
+    let exponent : c.stride2-stride.result ≤ 9 = omega (arith, c.stride2-stride.ensures, within.1) in
+    let few = alphabet_few c.args.classes.now alphabet.classes in
+    let holds =
+    rw (← c.stride2-stride.ensures) at (stride_holds (alphabet_len c.args.classes.now) (omega (arith, few))) in
+    omega (arith, c.if-prove.true, stride_shifted c.stride2-stride.result exponent, alphabet.value, holds)
+
+pub overflow_mul-result : goal.overflow_mul-result
+overflow_mul-result c =
+    let within = stride_within (alphabet_len c.args.classes.now) (omega arith) in
+    let exponent : c.stride2-stride.result ≤ 9 = omega (arith, c.stride2-stride.ensures, within.1) in
+    omega (arith, stride_shifted c.stride2-stride.result exponent, stride_few c.stride2-stride.result exponent)
+
+pub returns-clause-value : goal.returns-clause-value
+returns-clause-value c =
+    let within = stride_within (alphabet_len c.args.classes.now) (omega arith) in
+    let exponent : c.stride2-stride.result ≤ 9 = omega (arith, c.stride2-stride.ensures, within.1) in
+    rw (← c.stride2-stride.ensures) (ap (λ x. 2 * x) (stride_shifted c.stride2-stride.result exponent))

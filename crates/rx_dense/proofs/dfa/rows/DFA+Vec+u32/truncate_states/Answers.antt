@@ -1,0 +1,24 @@
+use Rattle.std.proofs.Common.{ℕ, ◌*◌, ◌<◌, ◌≤◌, length, slice_index, sym, ap, subst}
+use Rattle.rx_dense.specs.Builder.{with_rows}
+use Rattle.rx_dense.specs.Layouts.{Layout, row_count, stride}
+use Rattle.rx_dense.proofs.Shaped.{shaped_cut}
+use Rattle.rx_dense.proofs.dfa.rows.DFA+Vec+u32.truncate_states.Goals as goal
+
+pub invariant_of-self : goal.invariant_of-self
+invariant_of-self c =
+    let stride_is = rw (← c.self.view_is) at c.stride-width.ensures.value in
+    let back = sym c.self.view_is in
+    let within = subst (λ (l : Layout). c.args.len ≤ row_count l) back c.requires.within in
+    let rows =
+    subst (λ (l : Layout). (k : ℕ) → k < c.args.len * stride l → slice_index l.words k < c.args.len * stride l)
+    back c.requires.rows in
+    let starts =
+    subst (λ (l : Layout). (k : ℕ) → k < length l.starts → slice_index l.starts k < c.args.len * stride l)
+    back c.requires.starts in
+    rw (c.truncate.ensures.items, stride_is)
+    (shaped_cut _ c.args.len c.requires.two within rows starts c.self.invariant)
+
+pub returns : goal.returns
+returns c =
+    let stride_is = rw (← c.self.view_is) at c.stride-width.ensures.value in
+    rw (c.truncate.ensures.items, stride_is) (ap (λ (l : Layout). with_rows l c.args.len) c.self.view_is)

@@ -1,0 +1,9 @@
+-- which ids are those of special rows
+pub mod Specials
+-- needles, kept in words
+pub mod Accels
+-- a table's lists and numbers, and the table that they mean
+pub mod Layouts
+pub mod Facts
+-- what a builder's calls make of a table
+pub mod Builder
