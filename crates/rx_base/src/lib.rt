@@ -20,8 +20,6 @@ mod search;
 mod sink;
 mod source;
 pub mod start;
-#[cfg(test)]
-mod tests;
 
 pub use byte_classes::{ByteClassSet, ByteClasses, Elements, Representatives};
 pub use byte_set::ByteSet;

@@ -160,35 +160,3 @@ impl<W: Write + Drop> Sink for WriteSink<W> {
         }
     }
 }
-
-#[cfg(test)]
-mod tests {
-    use super::*;
-    use std::test::Fail;
-
-    #[test]
-    fn bytes_are_kept_up_to_the_capacity(rt: HostRuntime) -> Result<(), Fail> {
-        let mut sink = MemSink::new(rt.alloc(), 4, 3, &[2])?;
-        assert_eq!(rt; sink.write(b"abcd"), WriteAnswer::Took(3));
-        assert_eq!(rt; sink.write(b"d"), WriteAnswer::Failed);
-        assert_eq!(rt; sink.write(b"de"), WriteAnswer::Took(1));
-        assert_eq!(rt; sink.write(b"e"), WriteAnswer::Failed);
-        assert_eq!(rt; sink.bytes(), b"abcd".as_slice());
-        Ok(())
-    }
-
-    #[test]
-    fn a_writer_takes_bytes(rt: HostRuntime) {
-        let mut sink = WriteSink::new(Vec::new(rt.alloc()));
-        assert_eq!(rt; sink.write(b"abc"), WriteAnswer::Took(3));
-        assert_eq!(rt; sink.inner.as_slice(), b"abc".as_slice());
-    }
-
-    #[test]
-    fn a_writer_that_takes_nothing_is_a_fault(rt: HostRuntime) {
-        let mut room = [0; 2];
-        let mut sink = WriteSink::new(room.as_mut_slice());
-        assert_eq!(rt; sink.write(b"abc"), WriteAnswer::Took(2));
-        assert_eq!(rt; sink.write(b"c"), WriteAnswer::Failed);
-    }
-}

@@ -3,8 +3,6 @@
 
 mod bounds;
 mod expr;
-#[cfg(test)]
-mod tests;
 pub mod thompson;
 
 pub use expr::{Expr, ExprError, ExprKind};

@@ -17,6 +17,3 @@ mod words;
 pub use program::run;
 pub use rx_script::{BadKind, Exprs, Hay, Script, ScriptFault, ScriptInput, read_script};
 pub use words::Words;
-
-#[cfg(test)]
-mod tests;

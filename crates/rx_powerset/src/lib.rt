@@ -13,7 +13,5 @@
 mod closure;
 pub mod laws;
 mod state;
-#[cfg(test)]
-mod tests;
 
 pub use state::PowerState;

@@ -21,11 +21,7 @@ pub mod laws;
 mod lists;
 mod numbers;
 mod partition;
-#[cfg(test)]
-mod plain;
 mod table;
-#[cfg(test)]
-mod tests;
 
 pub use hopcroft::refine;
 pub use lists::Incoming;

@@ -11,8 +11,6 @@ mod built;
 mod engine;
 mod error;
 mod find;
-#[cfg(test)]
-mod tests;
 
 pub use error::{BuildError, BuildErrorKind, FindFault};
 pub use find::{Answer, compile_and_find};

@@ -16,6 +16,3 @@ mod tokens;
 
 pub use fault::{BadKind, ScriptFault};
 pub use script::{Exprs, Hay, Script, ScriptInput, read_script};
-
-#[cfg(test)]
-mod tests;

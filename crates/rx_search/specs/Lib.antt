@@ -11,6 +11,3 @@ pub mod OverlappingCalls
 pub mod SplitSearches
 -- sets of patterns
 pub mod Collected
--- a table for tests
-pub mod Samples
-pub mod SampleFacts

@@ -14,8 +14,6 @@ mod overlapping;
 mod skip;
 mod splits;
 mod start;
-#[cfg(test)]
-mod tests;
 mod walk;
 mod which;
 

@@ -1,0 +1,5 @@
+//! Tests of `rx_main`: what no clause shows of the program as a function.
+#![tactic(auto)]
+
+#[cfg(test)]
+mod tests;

@@ -1,0 +1,5 @@
+//! Tests of `rx_regex`: what no clause shows of a search, and examples worked by hand.
+#![tactic(auto)]
+
+#[cfg(test)]
+mod tests;

@@ -1,0 +1,3 @@
+-- a table for tests
+pub mod Samples
+pub mod SampleFacts
