@@ -8,3 +8,9 @@ pub mod RowKinds
 pub mod Shaped
 -- rows that change places
 pub mod Swaps
+-- rows that are renamed
+pub mod Renaming
+-- lists of patterns
+pub mod PatternLists
+-- universal starts
+pub mod UniversalStarts

@@ -5,7 +5,7 @@ use Rattle.std.proofs.Common.{length, refl, ap, sym, ◌∙◌, subst, ⊎_elim,
 use Rattle.std.specs.Prelude.{unwrap_or, nat_lt}
 use Rattle.std.specs.List.{position_or_len}
 use Rattle.std.proofs.Math.Nat.{pow-le-pow_right}
-use Rattle.std.proofs.lemmas.Bool.{and_parts, eqb-true, lt-ltb, ltb-true, le-ltb, cases_lt, cases_eq}
+use Rattle.std.proofs.lemmas.Bool.{and_parts, eq-eqb, eqb-true, ne_eqb, lt-ltb, ltb-true, le-ltb, cases_lt, cases_eq}
 use Rattle.std.proofs.lemmas.List.Sums.{passes_at_first}
 use Rattle.std.proofs.lemmas.Nat.{one_shl, pow_pos, mod-mul-add, mul-le, row_fits, le-div, div-add-mod'}
 use Rattle.rx_spec.specs.Ids.{id_of, row_of}
@@ -14,7 +14,7 @@ use Rattle.rx_search.specs.Starts.{IsId}
 use Rattle.rx_dense.specs.Layouts.{Layout, IsRowId, AreRows, AreStarts, stride, row_count, ids_of, is_row_id}
 use Rattle.rx_spec.specs.Queries.{Anchored}
 use Rattle.rx_spec.specs.declared.Start.{Start}
-use Rattle.rx_dense.specs.Layouts.{context_number, mode_place, start_entries}
+use Rattle.rx_dense.specs.Layouts.{column, context_number, mode_place, start_entries}
 use Rattle.rx_base.specs.ByteClasses.{AreClasses, alphabet_len}
 use Rattle.rx_spec.specs.Causes.{max_id}
 
@@ -32,7 +32,7 @@ quotient_below x s n some h below =
     let next : (x / s + 1) * s ≤ n = omega (arith, q, below) in
     omega (arith, le-div (x / s + 1) n s some next)
 
-multiple_below : (row s n : ℕ) → 0 < s → row < n / s → row * s + s ≤ n
+pub multiple_below : (row s n : ℕ) → 0 < s → row < n / s → row * s + s ≤ n
 multiple_below row s n some h =
     omega (arith, div-add-mod' n s, row_fits row s (n / s) s h (omega arith))
 
@@ -197,6 +197,15 @@ module _ (classes : List ℕ) (are : AreClasses classes) where
 
   pub alphabet_few : alphabet_len classes ≤ 257
   alphabet_few = omega (arith, class_upto 255 (omega arith))
+
+-- so is that of the end mark within the alphabet
+pub column_within : (l : Layout) → AreClasses l.classes → (unit : ℕ) → unit < 257
+    → column l unit < alphabet_len l.classes
+column_within l are unit h =
+    ⊎_elim
+    (λ (eoi : unit ≡ 256). rw (eq-eqb _ _ eoi) (omega arith))
+    (λ (byte : unit ≡ 256 → ⊥). rw (ne_eqb _ _ byte) (class_column l.classes are unit (omega arith)))
+    (cases_eq unit 256)
 
 -- ---- start entries
 

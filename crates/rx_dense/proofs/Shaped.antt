@@ -1,6 +1,6 @@
 -- What each change leaves true of a table.
-use Rattle.std.proofs.Common.{◌≡◌, ℕ, ◌+◌, ◌-◌, ◌*◌, ◌/◌, ◌%◌, ◌^◌, ◌<◌, ◌≤◌, ◌≢◌, ◌⊎◌, Some, None, Bool, true, false}
-use Rattle.std.proofs.Common.{if◌then◌else◌, List, ◌++◌}
+use Rattle.std.proofs.Common.{◌≡◌, ℕ, ◌+◌, ◌-◌, ◌*◌, ◌/◌, ◌%◌, ◌^◌, ◌<◌, ◌≤◌, ◌≢◌, ◌⊎◌, Option, Some, None, Bool}
+use Rattle.std.proofs.Common.{true, false, if◌then◌else◌, List, ◌++◌}
 use Rattle.std.proofs.Common.{length, slice_index, refl, ap, sym, ◌∙◌, subst, ⊎_elim, arith, length-append}
 use Rattle.std.proofs.Common.{length-take-le, inl, inr}
 use Rattle.std.specs.Prelude.{slice_set, replicate}
@@ -199,6 +199,16 @@ shaped_special l special h =
       lists = lists_kept l m refl refl refl h.lists;
     }
 
+pub shaped_universal : (l : Layout) (unanchored anchored : Option ℕ) → IsShaped l
+    → IsShaped (record l { universal_unanchored = unanchored; universal_anchored = anchored })
+shaped_universal l unanchored anchored h =
+    let m : Layout = record l { universal_unanchored = unanchored; universal_anchored = anchored } in
+    record {
+      rows = rows_kept l m refl refl refl h.rows;
+      starts = starts_kept l m refl (omega arith) refl refl refl h.starts;
+      lists = lists_kept l m refl refl refl h.lists;
+    }
+
 pub shaped_accels : (l : Layout) (accels : List (List ℕ)) → length accels < 2 ^ 32 → IsShaped l
     → IsShaped (record l { accels = accels })
 shaped_accels l accels few h =
@@ -329,6 +339,26 @@ shaped_words l ws count ids zeros h =
       starts = starts_kept l m refl same refl refl refl h.starts;
       lists = lists_kept l m refl refl refl h.lists;
     }
+
+-- ---- other start entries
+
+pub shaped_starts : (l : Layout) (ids : List ℕ) → length ids ≡ length l.starts
+    → ((k : ℕ) → k < length l.starts → IsRowId l (slice_index ids k)) → IsShaped l
+    → IsShaped (record l { starts = ids })
+shaped_starts l ids count are h =
+    let m : Layout = record l { starts = ids } in
+    record {
+      rows = rows_kept l m refl refl refl h.rows;
+      starts = record {
+        contexts = h.starts.contexts;
+        count = rw count h.starts.count;
+        small = rw count h.starts.small;
+        start_ids = λ k b. id_kept l m (slice_index ids k) refl (omega arith) (are k (omega (arith, count)));
+      };
+      lists = lists_kept l m refl refl refl h.lists;
+    }
+
+-- ---- rows that change places
 
 -- two rows that aren't one lie apart
 pub rows_apart : (l : Layout) (x y : ℕ) → IsRowId l x → IsRowId l y → x ≢ y → (x + stride l ≤ y) ⊎ (y + stride l ≤ x)

@@ -1,16 +1,22 @@
 -- What the calls of a builder make of a table.
-use Rattle.std.specs.Prelude.{ℕ, ◌≡◌, ◌<◌, ◌≤◌, ◌⊎◌, ◌+◌, ◌*◌, ◌^◌, Bool, if◌then◌else◌}
-use Rattle.std.specs.Prelude.{Some, None, List, [], ◌++◌, length, map, slice_index, take, slice_set, replicate}
-use Rattle.std.specs.List.{range_with_len}
+use Rattle.std.specs.Prelude.{ℕ, ◌≡◌, ◌<◌, ◌≤◌, ◌⊎◌, ◌+◌, ◌*◌, ◌/◌, ◌%◌, ◌^◌, ◌==◌, nat_lt, Bool}
+use Rattle.std.specs.Prelude.{if◌then◌else◌, Option, Some, None, List, [], ◌∷◌, ◌++◌, length, map, slice_index, take}
+use Rattle.std.specs.Prelude.{slice_set, replicate, Vec}
+use Rattle.std.specs.List.{range_with_len, concat, list_all}
+use Rattle.std.specs.BTreeMap.{BTreeMap, values}
+use Rattle.std.specs.Vec.{vec_items}
 use Rattle.rx_spec.specs.Classes.{stride2_of}
-use Rattle.rx_spec.specs.Contexts.{start_of_byte}
+use Rattle.rx_spec.specs.Contexts.{all_starts, start_of_byte}
 use Rattle.rx_spec.specs.Queries.{Anchored}
+use Rattle.rx_spec.specs.Starts.{has_anchored, has_unanchored}
+use Rattle.rx_spec.specs.Tables.{Table}
 use Rattle.rx_spec.specs.declared.Start.{Start}
 use Rattle.rx_spec.specs.declared.StartKind.{StartKind}
 use Rattle.rx_base.specs.ByteClasses.{alphabet_len}
 use Rattle.rx_dense.specs.declared.flags.Flags.{Flags}
 use Rattle.rx_dense.specs.Specials.{no_rows}
-use Rattle.rx_dense.specs.Layouts.{Layout, column, context_number, mode_place, start_entries, stride}
+use Rattle.rx_dense.specs.Layouts.{Layout, column, context_number, ids_of, machine_of, mode_place, row_count}
+use Rattle.rx_dense.specs.Layouts.{start_entries, start_id, stride}
 
 -- what a table is begun with
 pub record Beginning : Type 0 where
@@ -60,6 +66,26 @@ with_next l id unit next = record l { words = slice_set l.words (id + column l u
 abbrev pub with_start : Layout → Anchored → Start → ℕ → Layout
 with_start l mode start id = record l { starts = slice_set l.starts (mode_place mode + context_number start) id }
 
+-- the start that all six contexts have, where no two of them have different ones
+abbrev pub common_start : (Start → ℕ) → Option ℕ
+common_start entry =
+    if list_all (λ start. entry start == entry Start.NonWordByte) all_starts then Some (entry Start.NonWordByte)
+    else None
+
+-- a universal start for each mode that the start kind has and whose start entries are one row
+abbrev pub with_universal_starts : Layout → Layout
+with_universal_starts l = record l {
+  universal_unanchored = if has_unanchored l.start_kind then common_start (start_id l Anchored.No) else None;
+  universal_anchored = if has_anchored l.start_kind then common_start (start_id l Anchored.Yes) else None;
+}
+
+-- the same, of rows
+pub record HasUniversalStarts (t : Table) : Type 0 where
+  pub unanchored : t.universal_unanchored
+      ≡ (if has_unanchored t.settings.start_kind then common_start (t.machine.entry Anchored.No) else None)
+  pub anchored : t.universal_anchored
+      ≡ (if has_anchored t.settings.start_kind then common_start (t.machine.entry Anchored.Yes) else None)
+
 -- ---- rows that change places, are renamed, or are cut off
 
 abbrev pub IsOutside : (row width place : ℕ) → Type 0
@@ -72,9 +98,57 @@ pub record AreSwapped (width : ℕ) (old new : List ℕ) (first second : ℕ) : 
   pub at_second : (c : ℕ) → c < width → slice_index new (second + c) ≡ slice_index old (first + c)
   pub others : (k : ℕ) → IsOutside first width k → IsOutside second width k → slice_index new k ≡ slice_index old k
 
+-- the id that a list, with one for each row, has for the row of an id
+abbrev pub renamed_id : Layout → List ℕ → ℕ → ℕ
+renamed_id l ids id = slice_index ids (id / stride l)
+
+-- The word at a place where a row is renamed: what stands past the alphabet is no entry, and stays.
+abbrev pub renamed_word : Layout → List ℕ → ℕ → ℕ
+renamed_word l ids place =
+    let word = slice_index l.words place in
+    if nat_lt (place % stride l) (alphabet_len l.classes) then renamed_id l ids word else word
+
+-- other ids for the rows to which the rows and the start entries lead
+abbrev pub renamed : Layout → List ℕ → Layout
+renamed l ids = record l {
+  words = map (renamed_word l ids) (range_with_len 0 (length l.words));
+  starts = map (renamed_id l ids) l.starts;
+}
+
+-- Where a step or a start led to a row, it leads to the row whose id the list has for it.
+pub record IsMachineRenamed (l m : Layout) (ids : List ℕ) : Type 0 where
+  pub rows : ids_of m ≡ ids_of l
+  pub nexts : (row unit : ℕ) → row < row_count l → unit < 257
+      → (machine_of m).next row unit ≡ slice_index ids ((machine_of l).next row unit) / stride l
+  pub entries : (mode : Anchored) (start : Start) → mode_place mode < length l.starts
+      → (machine_of m).entry mode start ≡ slice_index ids ((machine_of l).entry mode start) / stride l
+
+-- other ids for the rows to which one row leads
+abbrev pub with_renamed_row : Layout → ℕ → List ℕ → Layout
+with_renamed_row l id ids = record l {
+  words = map
+      (λ place. if place / stride l == id / stride l then renamed_word l ids place else slice_index l.words place)
+      (range_with_len 0 (length l.words));
+}
+
 -- the same table with fewer rows
 abbrev pub with_rows : Layout → ℕ → Layout
 with_rows l rows = record l { words = take (rows * stride l) l.words }
+
+-- ---- the patterns of match rows
+
+-- the lists of a map, in the order of its keys
+abbrev pub pattern_lists : {A : Type 0} → BTreeMap ℕ (Vec ℕ A) → List (List ℕ)
+pattern_lists lists = map vec_items (values lists)
+
+-- for each list where it begins and how long it is, where they are joined and the first begins at a place
+abbrev pub slices_from : ℕ → List (List ℕ) → List ℕ
+slices_from start [] = []
+slices_from start (list ∷ lists) = start ∷ length list ∷ slices_from (start + length list) lists
+
+-- the lists of patterns of all match rows, in their order
+abbrev pub with_patterns : Layout → List (List ℕ) → Layout
+with_patterns l lists = record l { slices = slices_from 0 lists; pattern_ids = concat lists }
 
 -- ---- how much it keeps
 

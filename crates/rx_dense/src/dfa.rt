@@ -14,6 +14,7 @@ ghost use Rattle.rx_dense.specs.Layouts.{place_in_range, row_count, start_id, st
 
 mod automaton;
 mod build;
+mod pattern_map;
 mod rows;
 
 use crate::{Flags, Special, WordStore};

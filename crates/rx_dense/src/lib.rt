@@ -16,7 +16,7 @@ mod store;
 
 pub use accel::{Accel, Accels};
 pub use dfa::{DFA, OwnedDFA};
-pub use errors::AddError;
+pub use errors::{AddError, PatternMapError};
 pub use flags::Flags;
 pub use special::Special;
 pub use store::WordStore;

@@ -1,7 +1,9 @@
 //! What a builder does with a table.
 
 ghost use Rattle.std.specs.Prelude.{◌≡◌, ◌<◌, ◌≤◌, ◌+◌, ◌*◌, ◌^◌, length, replicate, Some, None, if◌then◌else◌};
-ghost use Rattle.std.specs.Prelude.{IfOk, IfErr, IfSome};
+ghost use Rattle.std.specs.Prelude.{◌==◌, ◌↔◌, Err, IfOk, IfSome, OnErr, OnOk};
+ghost use Rattle.std.specs.List.{list_all};
+ghost use Rattle.rx_spec.specs.Contexts.{all_starts};
 ghost use Rattle.rx_spec.specs.Causes.{max_id};
 ghost use Rattle.rx_spec.specs.Ids.{row_of};
 ghost use Rattle.rx_spec.specs.Classes.{stride2_of};
@@ -9,8 +11,10 @@ ghost use Rattle.rx_base.specs.ByteClasses.{AreClasses, alphabet_len};
 ghost use Rattle.rx_base.specs.Search.{mode_of};
 ghost use Rattle.rx_base.specs.Unit.{unit_number};
 ghost use Rattle.rx_search.specs.Starts.{IsId};
-ghost use Rattle.rx_dense.specs.Builder.{contexts_of, initial, with_next, with_row, with_start};
-ghost use Rattle.rx_dense.specs.Layouts.{column, context_number, ids_of, mode_place, start_entries};
+ghost use Rattle.rx_dense.specs.Builder.{common_start, contexts_of, initial, with_next, with_row, with_start};
+ghost use Rattle.rx_dense.specs.Builder.{HasUniversalStarts, with_universal_starts};
+ghost use Rattle.rx_dense.specs.Layouts.{column, context_number, ids_of, mode_place, start_entries, start_id};
+ghost use Rattle.rx_dense.specs.Layouts.{table_of};
 
 use crate::dfa::{context_number, mode_place};
 use crate::{Accels, AddError, DFA, Flags, OwnedDFA, Special, WordStore};
@@ -21,6 +25,16 @@ use std::alloc::{AllocError, Global};
 
 /// A row that leads to dead, as long as the greatest stride.
 const EMPTY_ROW: [u32; 512] = [0; 512];
+
+/// All start contexts, in the order of their entries.
+const STARTS: [Start; 6] = [
+    Start::NonWordByte,
+    Start::WordByte,
+    Start::Text,
+    Start::LineLF,
+    Start::LineCR,
+    Start::CustomLineTerminator,
+];
 
 /// A row of so many words that leads to dead.
 fn empty_row(stride: usize) -> &'static [u32]
@@ -80,9 +94,9 @@ impl DFA<Vec<u32>> {
     pub fn add_empty_state(&mut self) -> Result<StateID, AddError>
         ensures ok { IfOk result (λ id. (id ≡ length self.old.words) × (self.new ≡ with_row self.old)) }
         ensures is_id { IfOk result (λ id. IsId (ids_of self.new) id) }
-        ensures fits { IfOk result (λ _. length self.old.words ≤ max_id) }
-        ensures err { IfErr result (λ _. self.new ≡ self.old) }
-        ensures too_many { IfErr result (λ e. e ≡ AddError.TooManyStates → max_id < length self.old.words) }
+        ensures fits { OnOk result (length self.old.words ≤ max_id) }
+        ensures err { OnErr result (self.new ≡ self.old) }
+        ensures too_many { (result ≡ Err AddError.TooManyStates) ↔ (max_id < length self.old.words) }
     {
         let len = self.words().len();
         if len > StateID::MAX.as_usize() {
@@ -116,6 +130,26 @@ impl DFA<Vec<u32>> {
         self.starts[place] = id.as_u32();
     }
 
+    /// Sets the universal start of an unanchored and of an anchored search: the row in which it starts whatever stands
+    /// beside its span. There is none where two start entries differ, or where there are no starts for the search.
+    pub fn set_universal_starts(&mut self)
+        ensures value { self.new ≡ with_universal_starts self.old }
+        ensures rows { HasUniversalStarts (table_of self.new) }
+    {
+        let unanchored = self.common_start(&Anchored::No);
+        let anchored = self.common_start(&Anchored::Yes);
+        self.universal_unanchored = if self.start_kind.has_unanchored() {
+            unanchored
+        } else {
+            None
+        };
+        self.universal_anchored = if self.start_kind.has_anchored() {
+            anchored
+        } else {
+            None
+        };
+    }
+
     /// Sets which rows are special.
     pub fn set_special(&mut self, special: Special)
         ensures { self.new ≡ record self.old { special = special } }
@@ -142,6 +176,25 @@ impl<T: WordStore> DFA<T> {
             Unit::Byte(byte) => self.byte_classes().get(byte) as usize,
             Unit::Eoi => self.alphabet_len() - 1,
         }
+    }
+
+    /// The start row that all contexts of a mode have, where no two have different ones.
+    fn common_start(&self, mode: &Anchored) -> Option<StateID>
+        ensures { result ≡ common_start (start_id self.now (mode_of mode.now)) }
+    {
+        let first = self.start(*mode, Start::NonWordByte);
+        if self.starts_at(mode, first) {
+            Some(first)
+        } else {
+            None
+        }
+    }
+
+    /// Whether a row is the start row of all contexts of a mode.
+    fn starts_at(&self, mode: &Anchored, id: StateID) -> bool
+        ensures { result ≡ list_all (λ start. start_id self.now (mode_of mode.now) start == id) all_starts }
+    {
+        STARTS.iter().all(|start| self.start(*mode, *start) == id)
     }
 }
 

@@ -1,0 +1,82 @@
+-- Lists of patterns, joined, and where each of them stands.
+use Rattle.std.proofs.Common.{◌≡◌, ℕ, zero, suc, ◌+◌, ◌*◌, ◌<◌, ◌≤◌, List, [], ◌∷◌, ◌++◌, length, take, drop, get_or}
+use Rattle.std.proofs.Common.{slice_index, All, ◌∙◌, ap, arith, refl, append_assoc, length-append}
+use Rattle.std.specs.List.{concat}
+use Rattle.std.proofs.lemmas.List.{take_at, drop_at}
+use Rattle.std.proofs.lemmas.List.Elements.{All-get_or}
+use Rattle.rx_spec.specs.Causes.{max_id}
+use Rattle.rx_dense.specs.Builder.{slices_from, with_patterns}
+use Rattle.rx_dense.specs.Layouts.{Layout, IsShaped, patterns_at}
+use Rattle.rx_dense.proofs.Shaped.{rows_kept, starts_kept}
+
+-- ---- two words for each list
+
+pub length-slices_from : (start : ℕ) (lists : List (List ℕ)) → length (slices_from start lists) ≡ 2 * length lists
+length-slices_from start [] = refl
+length-slices_from start (list ∷ lists) = omega (arith, length-slices_from (start + length list) lists)
+
+behind_first : (x y : ℕ) (words : List ℕ) (i : ℕ) → slice_index (x ∷ y ∷ words) (2 * suc i) ≡ slice_index words (2 * i)
+behind_first x y words i =
+    let next : 2 * suc i ≡ suc (suc (2 * i)) = omega arith in
+    ap (slice_index (x ∷ y ∷ words)) next
+
+behind_second : (x y : ℕ) (words : List ℕ) (i : ℕ)
+    → slice_index (x ∷ y ∷ words) (2 * suc i + 1) ≡ slice_index words (2 * i + 1)
+behind_second x y words i =
+    let next : 2 * suc i + 1 ≡ suc (suc (2 * i + 1)) = omega arith in
+    ap (slice_index (x ∷ y ∷ words)) next
+
+-- no list ends behind the joined lists
+slice_within : (start : ℕ) (lists : List (List ℕ)) (i : ℕ) → i < length lists
+    → slice_index (slices_from start lists) (2 * i) + slice_index (slices_from start lists) (2 * i + 1)
+    ≤ start + length (concat lists)
+slice_within start [] i h = absurd (omega arith)
+slice_within start (list ∷ lists) zero h = omega (arith, length-append list (concat lists))
+slice_within start (list ∷ lists) (suc i) h =
+    omega (
+      arith,
+      length-append list (concat lists),
+      behind_first start (length list) (slices_from (start + length list) lists) i,
+      behind_second start (length list) (slices_from (start + length list) lists) i,
+      slice_within (start + length list) lists i (omega arith),
+    )
+
+-- each list stands where its words say, behind others as well
+slice_is : (front : List ℕ) (lists : List (List ℕ)) (i : ℕ) → i < length lists
+    → take (slice_index (slices_from (length front) lists) (2 * i + 1))
+    (drop (slice_index (slices_from (length front) lists) (2 * i)) (front ++ concat lists)) ≡ get_or lists i []
+slice_is front [] i h = absurd (omega arith)
+slice_is front (list ∷ lists) zero h =
+    ap (take (length list)) (drop_at front (list ++ concat lists) (length front) refl)
+    ∙ take_at list (concat lists) (length list) refl
+slice_is front (list ∷ lists) (suc i) h =
+    let start : length (front ++ list) ≡ length front + length list = length-append front list in
+    rw (
+      behind_first (length front) (length list) (slices_from (length front + length list) lists) i,
+      behind_second (length front) (length list) (slices_from (length front + length list) lists) i,
+      ← start,
+      ← append_assoc front list (concat lists),
+    ) (slice_is (front ++ list) lists i (omega arith))
+
+-- ---- a table with these lists
+
+pub patterns_are : (l : Layout) (lists : List (List ℕ)) (i : ℕ) → i < length lists
+    → patterns_at (with_patterns l lists) i ≡ get_or lists i []
+patterns_are l lists i h = slice_is [] lists i h
+
+pub shaped_patterns : (l : Layout) (lists : List (List ℕ)) → length (concat lists) ≤ max_id
+    → All (λ id. id ≤ max_id) (concat lists) → IsShaped l → IsShaped (with_patterns l lists)
+shaped_patterns l lists few are h =
+    let m : Layout = with_patterns l lists in
+    record {
+      rows = rows_kept l m refl refl refl h.rows;
+      starts = starts_kept l m refl (omega arith) refl refl refl h.starts;
+      lists = record {
+        few = omega arith;
+        pattern_ids = λ k b. All-get_or (λ id. id ≤ max_id) (concat lists) k 0 b are;
+        within = λ i b.
+            let there : i < length lists = omega (arith, length-slices_from 0 lists) in
+            omega (arith, slice_within 0 lists i there);
+        few_accels = h.lists.few_accels;
+      };
+    }

@@ -1,0 +1,84 @@
+-- Universal starts, as ids and as rows.
+use Rattle.std.proofs.Common.{◌≡◌, ℕ, ◌*◌, ◌/◌, ◌<◌, ◌≤◌, ◌==◌, ◌&&◌, Bool, true, false, Some, None, List}
+use Rattle.std.proofs.Common.{[], ◌∷◌, if◌then◌else◌, length, refl, ap, sym, ◌∙◌, ⊎_elim, arith}
+use Rattle.std.specs.List.{list_all}
+use Rattle.std.proofs.lemmas.Bool.{cases_eq, cases_lt, eq-eqb, ne_eqb, lt-ltb, le-ltb}
+use Rattle.std.proofs.lemmas.Nat.{pow_pos}
+use Rattle.rx_spec.specs.Contexts.{all_starts}
+use Rattle.rx_spec.specs.Queries.{Anchored}
+use Rattle.rx_spec.specs.Starts.{has_anchored, has_unanchored}
+use Rattle.rx_spec.specs.declared.Start.{Start}
+use Rattle.rx_dense.specs.Builder.{HasUniversalStarts, common_start, with_universal_starts}
+use Rattle.rx_dense.specs.Layouts.{Layout, IsRowId, IsShaped, is_row_id, machine_of, mode_place, start_id, stride}
+use Rattle.rx_dense.specs.Layouts.{table_of, universal_row}
+use Rattle.rx_dense.proofs.Rows.{quotient, start_is_row}
+use Rattle.rx_dense.proofs.Shaped.{zero_id}
+
+-- two ids are one exactly where their rows are
+same_row : (l : Layout) (x y : ℕ) → IsRowId l x → IsRowId l y → (x == y) ≡ (x / stride l == y / stride l)
+same_row l x y x_is y_is =
+    ⊎_elim
+    (λ (e : x ≡ y). eq-eqb x y e ∙ sym (eq-eqb _ _ (ap (λ id. id / stride l) e)))
+    (λ (ne : x ≡ y → ⊥).
+    ne_eqb x y ne
+    ∙ sym
+    (ne_eqb _ _
+    (λ (e : x / stride l ≡ y / stride l).
+    ne
+    (sym (quotient x (stride l) x_is.whole) ∙ ap (λ row. row * stride l) e ∙ quotient y (stride l) y_is.whole))))
+    (cases_eq x y)
+
+-- a test of all starts goes by the tests of each
+list_all_same : {X : Type 0} (p q : X → Bool) → ((x : X) → p x ≡ q x) → (xs : List X) → list_all p xs ≡ list_all q xs
+list_all_same p q same [] = refl
+list_all_same p q same (x ∷ xs) =
+    ap (λ b. b && list_all p xs) (same x) ∙ ap (λ b. q x && b) (list_all_same p q same xs)
+
+module _ (l : Layout) (h : IsShaped l) where
+  start_id_is : (mode : Anchored) (start : Start) → IsRowId l (start_id l mode start)
+  start_id_is mode start =
+      ⊎_elim
+      (λ (has : mode_place mode < length l.starts).
+      rw (lt-ltb _ _ has) (start_is_row l h.starts mode start has))
+      (λ (none : length l.starts ≤ mode_place mode).
+      rw (le-ltb _ _ none) (zero_id l (let two = h.rows.two in omega arith)))
+      (cases_lt (mode_place mode) (length l.starts))
+
+  valid : (id : ℕ) → IsRowId l id → is_row_id l id ≡ true
+  valid id is =
+      let some = pow_pos l.stride2 in
+      let below = is.below in
+      rw (eq-eqb _ _ is.whole) (lt-ltb _ _ (omega arith))
+
+  row_if : (mode : Anchored) (b : Bool)
+      → universal_row l (if b then Some (start_id l mode Start.NonWordByte) else None)
+      ≡ (if b then Some (start_id l mode Start.NonWordByte / stride l) else None)
+  row_if mode true =
+      ap
+      (λ b. if b then Some (start_id l mode Start.NonWordByte / stride l) else None)
+      (valid _ (start_id_is mode Start.NonWordByte))
+  row_if mode false = refl
+
+  -- the common start as an id is that of the row
+  common_row : (mode : Anchored)
+      → universal_row l (common_start (start_id l mode)) ≡ common_start ((machine_of l).entry mode)
+  common_row mode =
+      let first = start_id l mode Start.NonWordByte in
+      let same_ids : Start → Bool = λ start. start_id l mode start == first in
+      let same_rows : Start → Bool = λ start. start_id l mode start / stride l == first / stride l in
+      let agree = λ (start : Start).
+      same_row l (start_id l mode start) first (start_id_is mode start) (start_id_is mode Start.NonWordByte) in
+      ap (λ b. universal_row l (if b then Some first else None)) (list_all_same same_ids same_rows agree all_starts)
+      ∙ row_if mode (list_all same_rows all_starts)
+
+  kept : (b : Bool) (mode : Anchored)
+      → universal_row l (if b then common_start (start_id l mode) else None)
+      ≡ (if b then common_start ((machine_of l).entry mode) else None)
+  kept true mode = common_row mode
+  kept false mode = refl
+
+  pub universal_starts : HasUniversalStarts (table_of (with_universal_starts l))
+  universal_starts = record {
+    unanchored = kept (has_unanchored l.start_kind) Anchored.No;
+    anchored = kept (has_anchored l.start_kind) Anchored.Yes;
+  }

@@ -1,0 +1,12 @@
+use Rattle.std.proofs.Common.{◌≡◌, ◌+◌, ◌≤◌, length, map}
+use Rattle.std.specs.List.{concat}
+use Rattle.std.specs.Vec.{vec_items}
+use Rattle.rx_spec.specs.Causes.{max_id}
+use Rattle.rx_dense.specs.Builder.{pattern_lists}
+use Rattle.rx_dense.proofs.dfa.pattern_map.joined_len.Given as goal
+
+abbrev pub invariant-loop-list : goal.invariant-loop-list
+invariant-loop-list l = record {
+  few : l.len ≤ max_id;
+  left : l.len + length (concat (map vec_items l.list-iterator)) ≡ length (concat (pattern_lists l.map));
+}

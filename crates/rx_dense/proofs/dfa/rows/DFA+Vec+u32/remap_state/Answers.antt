@@ -1,0 +1,70 @@
+use Rattle.std.proofs.Common.{List, ◌≡◌, ◌+◌, ◌-◌, ◌/◌, ◌<◌, ◌≤◌, ◌∙◌, ℕ, length, drop, sym, ap, subst, arith}
+use Rattle.std.proofs.lemmas.List.{with_items_is}
+use Rattle.std.proofs.lemmas.List.Elements.{All-take, All-drop}
+use Rattle.rx_base.specs.ByteClasses.{alphabet_len}
+use Rattle.rx_dense.specs.Builder.{renamed_id}
+use Rattle.rx_dense.specs.Layouts.{Layout, IsShaped, ids_of, stride}
+use Rattle.rx_dense.proofs.Rows.{IsRowId-id}
+use Rattle.rx_dense.proofs.Renaming.{RenamedPart, length-part, length-renamed, row_renamed, same_ids, same_lists}
+use Rattle.rx_dense.proofs.Renaming.{shaped_renamed_row, words_within}
+use Rattle.rx_dense.proofs.dfa.rows.DFA+Vec+u32.remap_state.Goals as goal
+use borrow.Rule.Slice.PartMut.{put_mid}
+
+pub slice_bounds-rename-end : goal.slice_bounds-rename-end
+slice_bounds-rename-end c =
+    let l = c.args.self.now in
+    let old_words = c.deref_mut.ensures.value ∙ ap (λ (l : Layout). l.words) c.self.view_is in
+    let fits = (subst IsShaped c.self.view_is c.self.invariant).rows.fits in
+    let below = (IsRowId-id l c.args.id c.requires.is_id).below in
+    let within : c.args.id + alphabet_len l.classes ≤ length l.words = omega arith in
+    rw (old_words, c.as_usize-first.ensures.value, c.alphabet_len.ensures) within
+
+pub rename-requires-clause-rows : goal.rename-requires-clause-rows
+rename-requires-clause-rows c =
+    let l = c.args.self.now in
+    let old_words = c.deref_mut.ensures.value ∙ ap (λ (l : Layout). l.words) c.self.view_is in
+    let shaped = subst IsShaped c.self.view_is c.self.invariant in
+    let IsIn : ℕ → Type 0 = λ id. id / stride l < length c.args.map.now in
+    rw (old_words, c.stride2-stride2.ensures.value)
+    (All-take IsIn (c.as_usize-first.result + c.alphabet_len.result - c.as_usize-first.result)
+    (drop c.as_usize-first.result l.words)
+    (All-drop IsIn c.as_usize-first.result l.words
+    (words_within l c.args.map.now c.requires.count c.requires.ids shaped)))
+
+pub returns-clause-value : goal.returns-clause-value
+returns-clause-value c =
+    let l = c.args.self.now in
+    let old_words = c.deref_mut.ensures.value ∙ ap (λ (l : Layout). l.words) c.self.view_is in
+    let n : c.args.id + alphabet_len l.classes - c.args.id ≡ alphabet_len l.classes = omega arith in
+    let fits = (subst IsShaped c.self.view_is c.self.invariant).rows.fits in
+    let is = IsRowId-id l c.args.id c.requires.is_id in
+    let below = is.below in
+    let part : RenamedPart (renamed_id l c.args.map.now) l.words c.rename.new.ids c.args.id (alphabet_len l.classes) =
+    record {
+      within = omega arith;
+      ids =
+          rw (
+            old_words,
+            c.stride2-stride2.ensures.value,
+            c.as_usize-first.ensures.value,
+            c.alphabet_len.ensures,
+            n,
+          ) at c.rename.ensures;
+    } in
+    let ws : List ℕ = put_mid c.args.id (alphabet_len l.classes) l.words c.rename.new.ids in
+    let kept = with_items_is c.self.inside.words ws
+    (length-part l.words c.rename.new.ids c.args.id (alphabet_len l.classes) (length-renamed part) part.within
+    ∙ sym (ap length old_words) ∙ c.deref_mut.ensures.len) in
+    rw (old_words, c.as_usize-first.ensures.value, c.alphabet_len.ensures, n)
+    (same_lists c.self.view_is (kept ∙ row_renamed l c.args.map.now c.rename.new.ids c.args.id is fits part)
+    (ap (λ (l : Layout). l.starts) c.self.view_is))
+
+pub returns-clause-rows : goal.returns-clause-rows
+returns-clause-rows c =
+    ap ids_of (returns-clause-value c) ∙ same_ids c.args.self.now _
+
+pub invariant_of-self : goal.invariant_of-self
+invariant_of-self c =
+    subst IsShaped (sym (returns-clause-value c))
+    (shaped_renamed_row c.args.self.now c.args.map.now c.requires.count c.requires.ids
+    (subst IsShaped c.self.view_is c.self.invariant) c.args.id)

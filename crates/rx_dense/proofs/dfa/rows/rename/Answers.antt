@@ -1,0 +1,23 @@
+use Rattle.std.proofs.Common.{◌≡◌, ℕ, ◌/◌, ◌^◌, ◌<◌, ◌∙◌, length, slice_index, arith, ap}
+use Rattle.std.proofs.lemmas.List.{get_or_default, places}
+use Rattle.std.proofs.lemmas.List.Edits.{map_over_more}
+use Rattle.std.proofs.lemmas.List.Elements.{All-get_or}
+use Rattle.rx_dense.proofs.dfa.rows.rename.Goals as goal
+
+pub loop-id-preserved : goal.loop-id-preserved
+loop-id-preserved c =
+    let i = c.loop-id.id-index in
+    let s = c.args.stride2 in
+    let new_ids = c.args.new_ids.now in
+    let id = slice_index c.loop-id.ids i in
+    let within : i < length c.args.ids.now = omega arith in
+    let old : slice_index c.loop-id.ids i ≡ slice_index c.args.ids.now i =
+    ap (λ ids. slice_index ids i) c.loop-id.invariant ∙ grind (arith, places) in
+    let row : slice_index c.loop-id.ids i / 2 ^ s < length new_ids =
+    rw old (All-get_or (λ id. id / 2 ^ s < length new_ids) c.args.ids.now i 0 within c.requires.rows) in
+    let value : c.as_u32.result ≡ slice_index new_ids (id / 2 ^ s) =
+    c.as_u32.ensures.value ∙ c.index-new_ids-id.is
+    ∙ get_or_default new_ids (id / 2 ^ s) c.index-new_ids-id.result 0 row in
+    rw value
+    (map_over_more (λ (id : ℕ). slice_index new_ids (id / 2 ^ s)) c.args.ids.now c.loop-id.ids i id within
+    c.loop-id.invariant (get_or_default c.loop-id.ids i 0 id (omega arith)))
