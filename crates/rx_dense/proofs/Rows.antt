@@ -3,9 +3,11 @@ use Rattle.std.proofs.Common.{◌≡◌, ℕ, zero, suc, ◌+◌, ◌*◌, ◌/�
 use Rattle.std.proofs.Common.{true, List}
 use Rattle.std.proofs.Common.{length, refl, ap, sym, ◌∙◌, subst, ⊎_elim, arith, slice_index, if◌then◌else◌}
 use Rattle.std.specs.Prelude.{unwrap_or, nat_lt}
+use Rattle.std.proofs.Common.{◌-◌, take, drop, length-take, length-drop}
 use Rattle.std.specs.List.{position_or_len}
 use Rattle.std.proofs.Math.Nat.{pow-le-pow_right}
 use Rattle.std.proofs.lemmas.Bool.{and_parts, eq-eqb, eqb-true, ne_eqb, lt-ltb, ltb-true, le-ltb, cases_lt, cases_eq}
+use Rattle.std.proofs.lemmas.List.{get_or-drop, get_or-take}
 use Rattle.std.proofs.lemmas.List.Sums.{passes_at_first}
 use Rattle.std.proofs.lemmas.Nat.{one_shl, pow_pos, mod-mul-add, mul-le, row_fits, le-div, div-add-mod'}
 use Rattle.rx_spec.specs.Ids.{id_of, row_of}
@@ -162,6 +164,19 @@ module _ (l : Layout) (rows : AreRows l) where
   entry_row id at is h =
       row_of-id l _ (rows.next_ids (id + at) (entry_within id at is h))
       ∙ ap (λ x. slice_index l.words (x + at) / stride l) (sym (id-times l id is))
+
+-- ---- the words from a column on
+
+module _ (words : List ℕ) (column id : ℕ) (h : id + column < length words) where
+  pub from_column_has : id < length (take (length words - column) (drop column words))
+  from_column_has = omega (arith, length-take (length words - column) (drop column words), length-drop column words)
+
+  pub from_column_is : slice_index (take (length words - column) (drop column words)) id
+      ≡ slice_index words (id + column)
+  from_column_is =
+      let turned : column + id ≡ id + column = omega arith in
+      get_or-take (length words - column) (drop column words) id 0 (omega arith) ∙ get_or-drop column words id 0
+      ∙ ap (slice_index words) turned
 
 -- ---- columns
 

@@ -271,7 +271,8 @@ impl<T: WordStore> DFA<T> {
         ensures row { row_of (ids_of self.now) result
             ≡ slice_index self.now.words (row_of (ids_of self.now) id * stride self.now + column) / stride self.now }
     {
-        StateID::must(self.words()[id.as_usize() + column] as usize)
+        // In this order what is read waits for the row before by a load alone, and not by a sum too.
+        StateID::must(self.words()[column..][id.as_usize()] as usize)
     }
 
     /// Whether an id is that of a row.

@@ -1,0 +1,2 @@
+-- tables that are being made
+pub mod Begun
