@@ -1,0 +1,100 @@
+-- How a key is found: from the newest key of its hash over older ones.
+use Rattle.std.proofs.Common.{◌≡◌, ℕ, ◌<◌, ◌≤◌, ◌⊎◌, inl, inr, Option, None, Some, List, length, take, refl, ap, sym}
+use Rattle.std.proofs.Common.{◌∙◌, arith, length-take}
+use Rattle.std.proofs.lemmas.List.{length-map}
+use Rattle.std.proofs.lemmas.Option.{slice_get-get_or, slice_get-map, same_Some}
+use Rattle.std.specs.Option.{MatchOption, option_map}
+use Rattle.std.specs.Prelude.{slice_get, unwrap_or, Contains}
+use Rattle.rx_interner.specs.Hash.{hash_of}
+use Rattle.rx_interner.specs.Links.{Link, keys_of}
+use Rattle.rx_interner.specs.Index.{AreChained, IsIndex, newest_of}
+use Rattle.rx_interner.proofs.Places.{slice_get-take}
+use Rattle.rx_interner.proofs.NewestKeys.{NoneHas, HasLast, newest_of_is}
+
+-- A search for a key has come to an id: the key, if it is there, has this id or an older one.
+pub record IsReached (links : List Link) (key : List ℕ) (id : ℕ) : Type 0 where
+  pub within : id < length links
+  pub same_hash : (kept : List ℕ) → slice_get (keys_of links) id ≡ Some kept → hash_of kept ≡ hash_of key
+  pub none_newer : (newer : ℕ) → slice_get (keys_of links) newer ≡ Some key → newer ≤ id
+
+place_of : (keys : List (List ℕ)) (key : List ℕ) (at : Contains keys key) → slice_get keys at.0 ≡ Some key
+place_of keys key at = slice_get-get_or keys at.0 key at.1 ∙ ap (λ k. Some k) at.2
+
+pub key_at : (links : List Link) (id : ℕ) {link : Link} → slice_get links id ≡ Some link
+    → slice_get (keys_of links) id ≡ Some link.key
+key_at links id there =
+    slice_get-map (λ (link : Link). link.key) links id ∙ ap (option_map (λ (link : Link). link.key)) there
+
+-- where no key has its hash, a key is not there
+pub none_there : {links : List Link} {newest : ℕ → Option ℕ} → IsIndex links newest → (key : List ℕ)
+    → newest (hash_of key) ≡ None → Contains (keys_of links) key → ⊥
+none_there {links} index key none at =
+    let has_none = rw (sym (index.newest_is (hash_of key)) ∙ none) at (newest_of_is (hash_of key) (keys_of links)) in
+    has_none at.0 key (place_of (keys_of links) key at) refl
+
+module _ {links : List Link} {key : List ℕ} where
+  pub reached_newest : {newest : ℕ} → newest_of (hash_of key) (keys_of links) ≡ Some newest
+      → IsReached links key newest
+  reached_newest {newest} e = record {
+    within = simp length-map at last.within;
+    same_hash = last.has;
+    none_newer = λ newer there. last.none_newer newer key there refl;
+  }
+    where
+      last : HasLast (hash_of key) (keys_of links) newest
+      last = rw e at (newest_of_is (hash_of key) (keys_of links))
+
+  -- the search leaves a link whose key is another one
+  module _ {id : ℕ} {link : Link} (chained : AreChained links) (there : slice_get links id ≡ Some link)
+      (differs : link.key ≡ key → ⊥) (reached : IsReached links key id) where
+    older_keys : List (List ℕ)
+    older_keys = take id (keys_of links)
+
+    leads_to : (newest : Option ℕ) → newest_of (hash_of link.key) older_keys ≡ newest → link.older ≡ unwrap_or newest id
+    unfolding older_keys
+    leads_to newest e = chained id link there ∙ ap (λ o. unwrap_or o id) e
+
+    -- the key, if it is there, is among the older ones
+    is_older : (k : ℕ) → slice_get (keys_of links) k ≡ Some key → k < id
+    is_older k at =
+        let le : k ≤ id = reached.none_newer k at in
+        let other : k ≡ id → ⊥ = λ e. differs (same_Some link.key key (sym (key_at links id there) ∙ rw e at at)) in
+        omega arith
+
+    among_older : (k : ℕ) → slice_get (keys_of links) k ≡ Some key → slice_get older_keys k ≡ Some key
+    unfolding older_keys
+    among_older k at = slice_get-take id (keys_of links) k (is_older k at) ∙ at
+
+    has_hash : hash_of key ≡ hash_of link.key
+    has_hash = sym (reached.same_hash link.key (key_at links id there))
+
+    abbrev Ends : Type 0
+    Ends = (link.older ≡ id) × (Contains (keys_of links) key → ⊥)
+
+    abbrev Goes : Type 0
+    Goes = (link.older < id) × IsReached links key link.older
+
+    ends : NoneHas (hash_of link.key) older_keys → Contains (keys_of links) key → ⊥
+    ends none at = none at.0 key (among_older at.0 (place_of (keys_of links) key at)) has_hash
+
+    goes : (older : ℕ) → HasLast (hash_of link.key) older_keys older → link.older ≡ older → Goes
+    unfolding older_keys
+    goes older last e =
+        let lt : older < id = omega (arith, last.within, length-take id (keys_of links)) in
+        rw e (
+          lt,
+          record {
+            within = omega (arith, reached.within);
+            same_hash = λ kept at. last.has kept (slice_get-take id (keys_of links) older lt ∙ at) ∙ sym has_hash;
+            none_newer = λ newer at. last.none_newer newer key (among_older newer at) has_hash;
+          },
+        )
+
+    cases : (older : Option ℕ) → newest_of (hash_of link.key) older_keys ≡ older
+        → MatchOption older (NoneHas (hash_of link.key) older_keys) (HasLast (hash_of link.key) older_keys)
+        → Ends ⊎ Goes
+    cases None e none = inl (leads_to None e, ends none)
+    cases (Some older) e last = inr (goes older last (leads_to (Some older) e))
+
+    pub next : Ends ⊎ Goes
+    next = cases (newest_of (hash_of link.key) older_keys) refl (newest_of_is (hash_of link.key) older_keys)

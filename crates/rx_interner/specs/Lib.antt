@@ -1,0 +1,4 @@
+pub mod Hash
+pub mod Links
+pub mod Entries
+pub mod Index

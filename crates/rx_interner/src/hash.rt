@@ -1,0 +1,21 @@
+//! A hash of a list of numbers.
+
+ghost use Rattle.std.specs.Prelude.{◌≡◌};
+ghost use Rattle.rx_interner.specs.Hash.{hash_of};
+
+/// The hash of the empty list.
+const SEED: u64 = 0x243f_6a88_85a3_08d3;
+
+/// An odd number, so that no bit is lost, and of mixed bits, so that each is spread.
+const FACTOR: u64 = 0x9e37_79b9_7f4a_7c15;
+
+/// A hash of a list of numbers.
+#[tactic(auto, unfolding(crate::specs::Hash::hash_of))]
+pub(crate) fn hash_of(key: &[u32]) -> u64
+    ensures { result ≡ hash_of key.now }
+{
+    key.iter().fold(
+        SEED,
+        |hash, number| (hash ^ u64::from(*number)).wrapping_mul(FACTOR),
+    )
+}

@@ -1,0 +1,97 @@
+//! Lists of numbers, each once, by their numbers.
+
+ghost use Rattle.std.specs.Prelude.{◌≡◌, ℕ, ◌<◌, ◌^◌, ◌↔◌, [], ◌∷◌, ◌++◌, if◌then◌else◌, length, slice_get, Some};
+ghost use Rattle.std.specs.Prelude.{IsTrue, IfOk, OnErr, Contains};
+
+use crate::hash::hash_of;
+use crate::links::Links;
+use std::alloc::{AllocError, Global};
+use std::collections::HashMap;
+use std::collections::hash_map::Entry;
+use std::marker::Model;
+
+/// What interning a list answers.
+#[derive(Clone, Copy, Debug, PartialEq, Eq)]
+pub struct Interned {
+    /// The list's number.
+    pub id: u32,
+    /// Whether the list was not there before.
+    pub is_new: bool,
+}
+
+/// Lists of numbers, each once, numbered in the order in which they came.
+///
+/// Contracts see it as the list of these lists, the keys.
+#[derive(Drop)]
+pub struct Interner {
+    links: Links,
+    /// The number of the newest key of each hash.
+    newest: HashMap<u64, u32>,
+}
+
+impl Model for Interner {
+    ghost use Rattle.std.specs.Prelude.{ℕ, List, nat_eq};
+    ghost use Rattle.std.specs.HashMap.{get};
+    ghost use Rattle.rx_interner.specs.Links.{keys_of};
+    ghost use Rattle.rx_interner.specs.Index.{IsIndex};
+
+    ghost Value = { List (List ℕ) };
+
+    ghost view = { λ s. keys_of s.links };
+
+    ghost invariant = { λ s. IsIndex s.links (get nat_eq s.newest) };
+}
+
+impl Interner {
+    /// No keys.
+    pub fn new(alloc: Global) -> Interner
+        ensures { result ≡ [] }
+    {
+        Interner {
+            links: Links::new(alloc),
+            newest: HashMap::new(alloc),
+        }
+    }
+
+    /// How many keys there are.
+    pub fn len(&self) -> usize
+        ensures { result ≡ length self.now }
+    {
+        self.links.len()
+    }
+
+    /// The key of a number, which is the key of no other number.
+    pub fn key(&self, id: u32) -> &[u32]
+        requires { id < length self.now }
+        ensures key { slice_get self.now id ≡ Some result.now }
+        ensures unique { (other : ℕ) → slice_get self.now other ≡ Some result.now → other ≡ id }
+    {
+        self.links.get(id).0
+    }
+
+    /// The number of a key, which is added where it isn't there.
+    pub fn intern(&mut self, key: &[u32]) -> Result<Interned, AllocError>
+        requires { length self.old < 2 ^ 32 }
+        ensures new { IfOk result (λ r. IsTrue r.is_new ↔ ¬ Contains self.old key.now) }
+        ensures keys { IfOk result (λ r. self.new ≡ (if r.is_new then self.old ++ key.now ∷ [] else self.old)) }
+        ensures id { IfOk result (λ r. slice_get self.new r.id ≡ Some key.now) }
+        ensures err { OnErr result (self.new ≡ self.old) }
+    {
+        match self.newest.entry(hash_of(key))? {
+            Entry::Occupied(mut entry) => {
+                let newest = *entry.get();
+                if let Some(id) = self.links.find(key, newest) {
+                    return Ok(Interned { id, is_new: false });
+                }
+                let id = self.links.push(key, Some(newest))?;
+                entry.insert(id);
+                Ok(Interned { id, is_new: true })
+            }
+            Entry::Vacant(entry) => {
+                let id = self.links.push(key, None)?;
+                entry.insert(id);
+                Ok(Interned { id, is_new: true })
+            }
+        }
+    }
+}
