@@ -6,5 +6,3 @@ pub mod Renamed
 pub mod NewIds
 -- what is exchanged or renamed stays rows
 pub mod KeptRows
--- the tests' table
-pub mod Samples

@@ -4,5 +4,3 @@ pub mod Transitions
 pub mod Renaming
 -- three rows, renamed by hand
 pub mod Examples
--- the tests' table
-pub mod Samples

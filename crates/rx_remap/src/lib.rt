@@ -10,7 +10,5 @@
 
 pub mod laws;
 mod remapper;
-#[cfg(test)]
-mod tests;
 
 pub use remapper::{Remappable, Remapper};

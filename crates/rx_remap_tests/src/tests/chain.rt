@@ -3,7 +3,7 @@
 ghost use Rattle.std.specs.Prelude.{◌≡◌, ℕ, ◌<◌, ◌≤◌, ◌*◌, ◌/◌, ◌^◌, [], ◌∷◌, All, IfOk, length, map, slice_index};
 ghost use Rattle.rx_remap.specs.Transitions.{IsRowId};
 
-use crate::Remappable;
+use rx_remap::Remappable;
 use rx_base::StateID;
 use std::alloc::{AllocError, Global};
 use std::marker::Model;
@@ -21,7 +21,7 @@ pub(super) struct Chain {
 impl Model for Chain {
     ghost use Rattle.std.specs.Prelude.{ℕ};
     ghost use Rattle.rx_remap.specs.Transitions.{Transitions, AreRows};
-    ghost use Rattle.rx_remap.specs.Samples.{chain_of};
+    ghost use Rattle.rx_remap_tests.specs.Samples.{chain_of};
 
     ghost Value = { Transitions × ℕ };
 

@@ -1,7 +1,7 @@
 use Rattle.std.proofs.Common.{ℕ, ◌*◌, ◌^◌, ◌<◌, ◌≤◌, slice_index, sym, ◌∙◌, arith, lit<}
 use Rattle.std.proofs.Math.Nat.{mod-eq_of_lt, mul-le-mul, pow-le-pow_right}
 use Rattle.std.proofs.lemmas.List.{map_more}
-use Rattle.rx_remap.proofs.tests.chain.ids.Goals as goal
+use Rattle.rx_remap_tests.proofs.tests.chain.ids.Goals as goal
 
 -- an id of so few rows
 few : (row s : ℕ) → row < 100 → s ≤ 9 → row * 2 ^ s < 2 ^ 16

@@ -1,5 +1,5 @@
 use Rattle.std.proofs.Common.{◌≡◌, ℕ, ◌/◌, ◌^◌, ◌<◌, ◌≤◌, length, slice_index}
-use Rattle.rx_remap.proofs.tests.chain.rename.Given as goal
+use Rattle.rx_remap_tests.proofs.tests.chain.rename.Given as goal
 
 abbrev pub invariant-loop-place : goal.invariant-loop-place
 invariant-loop-place l = record {

@@ -1,8 +1,8 @@
 use Rattle.std.proofs.Common.{◌∙◌, ap, sym, subst}
 use Rattle.rx_remap.specs.Transitions.{Transitions, AreRows, IsRowId, row_of, with_swapped}
 use Rattle.rx_remap.proofs.KeptRows.{swapped_are_rows}
-use Rattle.rx_remap.proofs.Samples.{row_within, swapped_chain}
-use Rattle.rx_remap.proofs.tests.chain.ChainRemappable.swap_states.Goals as goal
+use Rattle.rx_remap_tests.proofs.Samples.{row_within, swapped_chain}
+use Rattle.rx_remap_tests.proofs.tests.chain.ChainRemappable.swap_states.Goals as goal
 
 pub invariant_of-self : goal.invariant_of-self
 invariant_of-self c =

@@ -8,7 +8,7 @@ use Rattle.std.proofs.lemmas.List.Elements.{All-cons, All-map, All-nil, All-weak
 use Rattle.std.proofs.lemmas.Nat.{pow_pos}
 use Rattle.std.proofs.Math.Nat.{mul-div_cancel, mul-le-mul, mul-mod_left, pow-le-pow_right}
 use Rattle.rx_remap.specs.Transitions.{Transitions, AreRows, IsRowId, with_ids, with_swapped}
-use Rattle.rx_remap.specs.Samples.{chain_of}
+use Rattle.rx_remap_tests.specs.Samples.{chain_of}
 use Rattle.rx_remap.proofs.Places.{map-swap}
 
 pub swapped_chain : (next starts : List ℕ) (s i j : ℕ) → i < length next → j < length next

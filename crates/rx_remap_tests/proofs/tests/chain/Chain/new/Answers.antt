@@ -1,7 +1,7 @@
 use Rattle.std.proofs.Common.{rules, ◌<◌, length}
 use Rattle.std.specs.Prelude.{All}
-use Rattle.rx_remap.proofs.Samples.{chain_of_rows}
-use Rattle.rx_remap.proofs.tests.chain.Chain.new.Goals as goal
+use Rattle.rx_remap_tests.proofs.Samples.{chain_of_rows}
+use Rattle.rx_remap_tests.proofs.tests.chain.Chain.new.Goals as goal
 
 pub invariant_of-result : goal.invariant_of-result
 invariant_of-result g c =

@@ -1,0 +1,2 @@
+-- a table for tests
+pub mod Samples
