@@ -8,3 +8,6 @@ pub mod RowKinds
 pub mod Shaped
 -- rows that change places
 pub mod Swaps
+-- rows and transitions, as they are handed out one by one
+pub mod States
+pub mod Ranges

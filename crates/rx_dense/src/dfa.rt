@@ -15,6 +15,8 @@ ghost use Rattle.rx_dense.specs.Layouts.{place_in_range, row_count, start_id, st
 mod automaton;
 mod build;
 mod rows;
+pub(crate) mod starts;
+pub(crate) mod states;
 
 use crate::{Flags, Special, WordStore};
 use rx_base::{Anchored, ByteClasses, ByteSet, Start, StartKind, StateID};
@@ -124,7 +126,8 @@ impl<T: WordStore> DFA<T> {
 
     /// How many rows there are.
     pub fn state_len(&self) -> usize
-        ensures { result ≡ row_count self.now }
+        ensures value { result ≡ row_count self.now }
+        ensures rows { AreRows self.now }
     {
         self.words.words().len() >> self.stride2
     }
