@@ -14,3 +14,6 @@ pub mod Renaming
 pub mod PatternLists
 -- universal starts
 pub mod UniversalStarts
+-- rows and transitions, as they are handed out one by one
+pub mod States
+pub mod Ranges
