@@ -14,3 +14,6 @@ pub mod Renaming
 pub mod PatternLists
 -- universal starts
 pub mod UniversalStarts
+-- rows, transitions and start entries, as they are handed out one by one, and ranges of classes
+pub mod States
+pub mod Ranges

@@ -1,5 +1,5 @@
 -- Kinds of rows by their ids, with the patterns of match rows and the needles of accelerated ones.
-use Rattle.std.proofs.Common.{◌≡◌, ℕ, ◌+◌, ◌-◌, ◌*◌, ◌/◌, ◌<◌, ◌≤◌, ◌&&◌, not, nat_le, Bool, true, false}
+use Rattle.std.proofs.Common.{◌≡◌, ℕ, ◌+◌, ◌*◌, ◌/◌, ◌<◌, ◌≤◌, ◌&&◌, not, nat_le, Bool, true, false}
 use Rattle.std.proofs.Common.{if◌then◌else◌, List, [], length, take, drop, get_or, slice_index, refl, ap, sym, ◌∙◌}
 use Rattle.std.proofs.Common.{⊎_elim, arith, length-drop, length-take, length-take-le, Some, None}
 use Rattle.std.proofs.lemmas.Bool.{cases_lt, leb-true, and_parts}
@@ -160,13 +160,7 @@ module _ (l : Layout) (lists : AreLists l) (i : ℕ) (h : 2 * i + 1 < length l.s
       ∙ get_or-drop (slice_index l.slices (2 * i)) l.pattern_ids k 0
       )
 
--- a part of them, from a place up to another
-pub part_is : (l : Layout) (start len : ℕ)
-    → take (start + len - start) (drop start l.pattern_ids) ≡ take len (drop start l.pattern_ids)
-part_is l start len =
-    let same : start + len - start ≡ len = omega arith in
-    ap (λ n. take n (drop start l.pattern_ids)) same
-
+-- a part of them
 pub part_ids : (l : Layout) → AreLists l → (start len k : ℕ) → k < length (take len (drop start l.pattern_ids))
     → slice_index (take len (drop start l.pattern_ids)) k ≤ max_id
 part_ids l lists start len k h =

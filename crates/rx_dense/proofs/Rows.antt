@@ -1,6 +1,6 @@
 -- Rows and their ids: the id of a row is its number times the stride.
-use Rattle.std.proofs.Common.{◌≡◌, ℕ, zero, suc, ◌+◌, ◌*◌, ◌/◌, ◌%◌, ◌^◌, ◌<◌, ◌≤◌, ◌==◌, Option, Some, None, Bool}
-use Rattle.std.proofs.Common.{true, List}
+use Rattle.std.proofs.Common.{◌≡◌, ℕ, zero, suc, ◌+◌, ◌-◌, ◌*◌, ◌/◌, ◌%◌, ◌^◌, ◌<◌, ◌≤◌, ◌==◌, Option, Some, None, Bool}
+use Rattle.std.proofs.Common.{true, List, take, drop}
 use Rattle.std.proofs.Common.{length, refl, ap, sym, ◌∙◌, subst, ⊎_elim, arith, slice_index, if◌then◌else◌}
 use Rattle.std.specs.Prelude.{unwrap_or, nat_lt}
 use Rattle.std.specs.List.{position_or_len}
@@ -47,6 +47,12 @@ multiple_within x s n h k below =
     let same : s ≤ s = omega arith in
     absurd (omega (arith, q, r, mul-le (n / s) s (x / s) s more same)))
     (cases_lt (x / s) (n / s))
+
+-- a part of a list, from a place up to another
+pub part_is : (xs : List ℕ) (start len : ℕ) → take (start + len - start) (drop start xs) ≡ take len (drop start xs)
+part_is xs start len =
+    let same : start + len - start ≡ len = omega arith in
+    ap (λ n. take n (drop start xs)) same
 
 -- ---- strides
 

@@ -312,7 +312,7 @@ shaped_initial b are small =
     }
   where
     few_entries : (own : Bool) → length (initial b).starts ≡ start_entries (if own then Some b.pattern_len else None)
-        → length (initial b).starts < 2 ^ 34
+        → length (initial b).starts ≤ 12 + 6 * (max_id + 1)
     few_entries true e = omega arith
     few_entries false e = omega arith
 

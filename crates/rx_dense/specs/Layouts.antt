@@ -165,11 +165,11 @@ pub record AreRows (l : Layout) : Type 0 where
   pub next_ids : (k : ℕ) → k < length l.words → IsRowId l (slice_index l.words k)
   pub past_alphabet : (k : ℕ) → k < length l.words → alphabet_len l.classes ≤ k % stride l → slice_index l.words k ≡ 0
 
--- There are start entries for both modes and for the patterns that have starts of their own.
+-- There are start entries for both modes and for the patterns that have starts of their own, as many as have ids.
 pub record AreStarts (l : Layout) : Type 0 where
   pub contexts : length l.contexts ≡ 256
   pub count : length l.starts ≡ start_entries l.pattern_starts
-  pub small : length l.starts < 2 ^ 34
+  pub small : length l.starts ≤ 12 + 6 * (max_id + 1)
   pub start_ids : (k : ℕ) → k < length l.starts → IsRowId l (slice_index l.starts k)
 
 -- The patterns of each match row stand among the pattern ids. There are not too many accelerated rows.

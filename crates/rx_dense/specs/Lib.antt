@@ -7,3 +7,5 @@ pub mod Layouts
 pub mod Facts
 -- what a builder's calls make of a table
 pub mod Builder
+-- rows and start entries, as they are handed out one by one
+pub mod States

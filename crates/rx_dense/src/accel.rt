@@ -77,6 +77,16 @@ impl Accel {
         &self.bytes[..self.len]
     }
 
+    /// The needles of a list of at most three bytes.
+    fn from_needles(needles: Needles) -> Accel
+        ensures { result ≡ needles }
+    {
+        let mut bytes = [0; 3];
+        let len = needles.len();
+        bytes[..len].copy_from_slice(needles.as_slice());
+        Accel { len, bytes }
+    }
+
     /// The word that keeps the needles: their number, and three bytes.
     fn word(&self) -> u32
         ensures { word_needles result ≡ self.now }
@@ -159,11 +169,58 @@ impl Accels {
         needles_of(words[2 * i])
     }
 
+    /// The needles of each row, in the order of the rows.
+    pub fn iter(&self) -> IterAccels<'_>
+        ensures { result ≡ self.now }
+    {
+        IterAccels {
+            accels: self,
+            at: 0,
+        }
+    }
+
     /// The bytes that the rows take: 4, and 8 for each row.
     pub fn memory_usage(&self) -> usize
         ensures { result ≡ 4 + 8 * length self.now }
     {
         4 + 8 * self.len()
+    }
+}
+
+/// The needles that [`Accels::iter`] yields, those of one row at a time.
+///
+/// Contracts see it as the list of those that are left.
+#[derive(Drop)]
+pub struct IterAccels<'a> {
+    accels: &'a Accels,
+    /// The place of the first row that wasn't yielded.
+    at: usize,
+}
+
+impl<'a> Model for IterAccels<'a> {
+    ghost use Rattle.std.specs.Prelude.{ℕ, List, drop};
+
+    ghost Value = { List (List ℕ) };
+
+    ghost view = { λ i. drop i.at i.accels.now };
+}
+
+impl<'a> Iterator for IterAccels<'a> {
+    ghost use Rattle.std.specs.Iterator.{YieldsFirst, item_count};
+
+    type Item = Accel;
+
+    ghost next_gives = { YieldsFirst (λ left. left) };
+
+    ghost remaining = { item_count (λ left. left) };
+
+    fn next(&mut self) -> Option<Accel> {
+        if self.at >= self.accels.len() {
+            return None;
+        }
+        let needles = self.accels.needles(self.at);
+        self.at += 1;
+        Some(Accel::from_needles(needles))
     }
 }
 

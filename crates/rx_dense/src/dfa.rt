@@ -16,6 +16,8 @@ mod automaton;
 mod build;
 mod pattern_map;
 mod rows;
+pub(crate) mod starts;
+pub(crate) mod states;
 
 use crate::{Flags, Special, WordStore};
 use rx_base::{Anchored, ByteClasses, ByteSet, Start, StartKind, StateID};
@@ -125,7 +127,8 @@ impl<T: WordStore> DFA<T> {
 
     /// How many rows there are.
     pub fn state_len(&self) -> usize
-        ensures { result ≡ row_count self.now }
+        ensures value { result ≡ row_count self.now }
+        ensures rows { AreRows self.now }
     {
         self.words.words().len() >> self.stride2
     }

@@ -14,7 +14,9 @@ mod flags;
 mod special;
 mod store;
 
-pub use accel::{Accel, Accels};
+pub use accel::{Accel, Accels, IterAccels};
+pub use dfa::starts::StartStateIter;
+pub use dfa::states::{State, StateIter, StateSparseTransitionIter, StateTransitionIter};
 pub use dfa::{DFA, OwnedDFA};
 pub use errors::{AddError, PatternMapError};
 pub use flags::Flags;

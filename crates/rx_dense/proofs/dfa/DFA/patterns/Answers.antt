@@ -1,6 +1,7 @@
 use Rattle.std.proofs.Common.{◌∙◌, ◌+◌, ◌-◌, ◌*◌, slice_index, sym, arith}
 use Rattle.rx_dense.specs.Layouts.{place_in_range}
-use Rattle.rx_dense.proofs.RowKinds.{match_first, match_place, match_patterns, part_is, part_ids}
+use Rattle.rx_dense.proofs.RowKinds.{match_first, match_place, match_patterns, part_ids}
+use Rattle.rx_dense.proofs.Rows.{part_is}
 use Rattle.rx_dense.proofs.dfa.DFA.patterns.Goals as goal
 
 pub place_in_range-place-requires : goal.place_in_range-place-requires
@@ -29,7 +30,7 @@ returns-clause-value g c =
     let l = c.args.self.now in
     let i = place_in_range l l.special.min_match c.args.id in
     rw (c.place_in_range-place.ensures, c.special.ensures, c.slices-slices.ensures.value, c.pattern_ids.ensures)
-    (part_is l (slice_index l.slices (2 * i)) (slice_index l.slices (2 * i + 1))
+    (part_is l.pattern_ids (slice_index l.slices (2 * i)) (slice_index l.slices (2 * i + 1))
     ∙ sym (match_patterns l c.args.id c.requires.is_id c.requires.is_match))
 
 pub returns-clause-are_ids : goal.returns-clause-are_ids

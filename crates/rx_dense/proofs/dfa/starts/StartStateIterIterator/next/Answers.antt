@@ -1,0 +1,42 @@
+use Rattle.std.proofs.Common.{rules, ◌≡◌, ◌+◌, ◌≤◌, ◌<◌, ◌∙◌, ◌∷◌, ℕ, List, [], ap, ap₂, sym, arith, length, drop}
+use Rattle.std.proofs.Common.{slice_index}
+use Rattle.std.proofs.lemmas.List.{drop_all}
+use Rattle.rx_spec.specs.declared.Start.{Start}
+use Rattle.rx_base.specs.declared.search.Anchored.{Anchored}
+use Rattle.rx_dense.specs.States.{starts_of}
+use Rattle.rx_dense.proofs.Rows.{id_few}
+use Rattle.rx_dense.proofs.States.{starts_of-next}
+use Rattle.rx_dense.proofs.dfa.starts.StartStateIterIterator.next.Goals as goal
+
+pub returns-in_err-place-clause-steps : goal.returns-in_err-place-clause-steps
+returns-in_err-place-clause-steps g c =
+    let entries : List (ℕ × Anchored × Start) = starts_of c.self.inside.dfa.now in
+    let next = c.in_err-place.ensures.steps.1 in
+    let past : length entries ≤ c.self.inside.places.start = omega (arith, c.self.invariant, next.0) in
+    let none : drop c.self.inside.places.start entries ≡ [] = drop_all c.self.inside.places.start entries past in
+    rw c.from_residual.ensures (sym c.self.view_is ∙ none, ap (λ at. drop at entries) next.1 ∙ none)
+
+pub must-id-requires : goal.must-id-requires
+must-id-requires g c =
+    let next = c.in_ok-place.ensures.steps.1 in
+    rw c.start_ids.ensures.value
+    (id_few c.self.inside.dfa.now c.start_ids.ensures.rows _
+    (c.start_ids.ensures.starts.start_ids c.in_ok-place.place (omega (arith, c.self.invariant, next.0, next.1))))
+
+pub returns-clause-steps : goal.returns-clause-steps
+returns-clause-steps g c =
+    let l = c.self.inside.dfa.now in
+    let place = c.in_ok-place.place in
+    let ids = c.start_ids.ensures in
+    let next = c.in_ok-place.ensures.steps.1 in
+    let below : place < length l.starts = omega (arith, c.self.invariant, next.0, next.1) in
+    sym c.self.view_is
+    ∙ ap (λ at. drop at (starts_of l)) (sym next.1)
+    ∙ starts_of-next l ids.starts place below c.mode_of_group.result c.context_of_number.result
+    c.mode_of_group.ensures c.context_of_number.ensures
+    ∙ ap₂ (λ (id at : ℕ). (id, c.mode_of_group.result, c.context_of_number.result) ∷ drop at (starts_of l))
+    (sym (c.must-id.ensures ∙ ap (λ (ids : List ℕ). slice_index ids place) ids.value))
+    (ap (λ n. n + 1) next.1 ∙ sym next.2)
+
+pub returns-clause-goes : goal.returns-clause-goes
+returns-clause-goes g c = rw (returns-clause-steps g c) (search rules)
