@@ -14,6 +14,8 @@ pub mod Renaming
 pub mod PatternLists
 -- universal starts
 pub mod UniversalStarts
--- rows and transitions, as they are handed out one by one
+-- rows, transitions and start entries, as they are handed out one by one, and ranges of classes
 pub mod States
 pub mod Ranges
+-- that a table is sound where each of its rows is
+pub mod Soundness

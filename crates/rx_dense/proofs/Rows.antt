@@ -5,7 +5,7 @@ use Rattle.std.proofs.Common.{length, refl, ap, sym, ◌∙◌, subst, ⊎_elim,
 use Rattle.std.specs.Prelude.{unwrap_or, nat_lt}
 use Rattle.std.proofs.Common.{◌-◌, take, drop, length-take, length-drop}
 use Rattle.std.specs.List.{position_or_len}
-use Rattle.std.proofs.Math.Nat.{pow-le-pow_right}
+use Rattle.std.proofs.Math.Nat.{mul-div_cancel, pow-le-pow_right}
 use Rattle.std.proofs.lemmas.Bool.{and_parts, eq-eqb, eqb-true, ne_eqb, lt-ltb, ltb-true, le-ltb, cases_lt, cases_eq}
 use Rattle.std.proofs.lemmas.List.{get_or-drop, get_or-take}
 use Rattle.std.proofs.lemmas.List.Sums.{passes_at_first}
@@ -114,6 +114,9 @@ module _ (l : Layout) where
       let there : id_of (ids_of l) row ≡ id =
       id_of-dense (row_count l) l.stride2 row below ∙ quotient id (stride l) is.whole in
       ap (row_of (ids_of l)) (sym there) ∙ row_of-id_of (dense_are_ids (row_count l) l.stride2) row below
+
+  pub row_of-row : (row : ℕ) → row < row_count l → row_of (ids_of l) (row * stride l) ≡ row
+  row_of-row row h = row_of-id (row * stride l) (IsRowId-row row h) ∙ mul-div_cancel row some
 
   count : length (ids_of l) ≡ row_count l
   count = (dense_are_ids (row_count l) l.stride2).count

@@ -3,8 +3,8 @@
 ghost use Rattle.std.specs.Prelude.{◌≡◌, ℕ, ◌<◌, ◌≤◌, ◌*◌, ◌/◌, ◌^◌, [], ◌∷◌, All, IfOk, length, map, slice_index};
 ghost use Rattle.rx_remap.specs.Transitions.{IsRowId};
 
-use rx_remap::Remappable;
 use rx_base::StateID;
+use rx_remap::Remappable;
 use std::alloc::{AllocError, Global};
 use std::marker::Model;
 use std::process::Abort;

@@ -1,0 +1,3 @@
+//! Dense tables worked by hand.
+
+mod soundness;
