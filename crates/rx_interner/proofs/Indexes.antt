@@ -1,28 +1,17 @@
--- Indexes: no key has two ids, no keys are an index, and so are an index's keys with a new one behind them.
+-- Indexes: no keys are one, and so are an index's keys with a new one behind them.
 use Rattle.std.proofs.Common.{◌≡◌, ℕ, ◌<◌, ◌≤◌, ◌==◌, inl, inr, cond, Option, None, Some, List, [], ◌∷◌}
 use Rattle.std.proofs.Common.{◌++◌, length, get_or, take, ap, ap₂, sym, ◌∙◌, subst, arith}
-use Rattle.std.proofs.lemmas.Bool.{cases_order}
 use Rattle.std.proofs.lemmas.List.{length-map, map-append, take-append-le, take_all}
 use Rattle.std.proofs.lemmas.List.Elements.{Contains-get_or}
 use Rattle.std.proofs.lemmas.List.Quantifiers.{all_pairs_push}
-use Rattle.std.proofs.lemmas.Option.{get_or_from_slice_get, slice_get_within}
-use Rattle.std.specs.Prelude.{◌≢◌, slice_get, unwrap_or, AllPairs, Contains}
+use Rattle.std.proofs.lemmas.Option.{slice_get_within}
+use Rattle.std.specs.Prelude.{◌≢◌, slice_get, unwrap_or, Contains}
 use Rattle.rx_interner.specs.Hash.{hash_of}
 use Rattle.rx_interner.specs.Links.{Link, keys_of}
 use Rattle.rx_interner.specs.Index.{AreChained, IsIndex, newest_of}
 use Rattle.rx_interner.proofs.Places.{slice_get-push, slice_get-end}
 use Rattle.rx_interner.proofs.NewestKeys.{newest_of-push}
 use Rattle.rx_interner.proofs.Chains.{key_at}
-
-pub one_id : (keys : List (List ℕ)) → AllPairs (λ key other. key ≢ other) keys → (i j : ℕ) (key : List ℕ)
-    → slice_get keys i ≡ Some key → slice_get keys j ≡ Some key → i ≡ j
-one_id keys distinct i j key at_i at_j =
-    let same = get_or_from_slice_get keys i key key at_i ∙ sym (get_or_from_slice_get keys j key key at_j) in
-    elim (cases_order i j) [
-      | inl e ↦ e
-      | inr (inl lt) ↦ absurd (distinct i j key lt (slice_get_within keys j key at_j) same)
-      | inr (inr gt) ↦ absurd (distinct j i key gt (slice_get_within keys i key at_i) (sym same))
-    ]
 
 index_nil : {newest : ℕ → Option ℕ} → ((hash : ℕ) → newest hash ≡ None) → IsIndex [] newest
 unfolding newest_of

@@ -1,7 +1,7 @@
 //! Lists of numbers, each once, by their numbers.
 
-ghost use Rattle.std.specs.Prelude.{◌≡◌, ℕ, ◌<◌, ◌^◌, ◌↔◌, [], ◌∷◌, ◌++◌, if◌then◌else◌, length, slice_get, Some};
-ghost use Rattle.std.specs.Prelude.{IsTrue, IfOk, OnErr, Contains};
+ghost use Rattle.std.specs.Prelude.{◌≡◌, ◌≢◌, ◌<◌, ◌^◌, ◌↔◌, [], ◌∷◌, ◌++◌, if◌then◌else◌, length, slice_get, Some};
+ghost use Rattle.std.specs.Prelude.{IsTrue, IfOk, OnErr, Contains, AllPairs};
 
 use crate::hash::hash_of;
 use crate::links::Links;
@@ -55,16 +55,16 @@ impl Interner {
 
     /// How many keys there are.
     pub fn len(&self) -> usize
-        ensures { result ≡ length self.now }
+        ensures value { result ≡ length self.now }
+        ensures distinct { AllPairs (λ key other. key ≢ other) self.now }
     {
         self.links.len()
     }
 
-    /// The key of a number, which is the key of no other number.
+    /// The key of a number.
     pub fn key(&self, id: u32) -> &[u32]
         requires { id < length self.now }
-        ensures key { slice_get self.now id ≡ Some result.now }
-        ensures unique { (other : ℕ) → slice_get self.now other ≡ Some result.now → other ≡ id }
+        ensures { slice_get self.now id ≡ Some result.now }
     {
         self.links.get(id).0
     }
