@@ -17,5 +17,3 @@ pub mod UniversalStarts
 -- rows, transitions and start entries, as they are handed out one by one, and ranges of classes
 pub mod States
 pub mod Ranges
--- that a table is sound where each of its rows is
-pub mod Soundness

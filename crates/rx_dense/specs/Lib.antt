@@ -9,5 +9,3 @@ pub mod Facts
 pub mod Builder
 -- rows and start entries, as they are handed out one by one
 pub mod States
--- what makes a table sound
-pub mod Soundness

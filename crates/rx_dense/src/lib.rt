@@ -13,8 +13,6 @@ mod errors;
 mod flags;
 mod special;
 mod store;
-#[cfg(test)]
-mod tests;
 
 pub use accel::{Accel, Accels, IterAccels};
 pub use dfa::starts::StartStateIter;

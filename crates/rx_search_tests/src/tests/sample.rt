@@ -3,8 +3,8 @@
 ghost use Rattle.std.specs.Prelude.{◌≡◌, ◌<◌, ◌≤◌, length, MatchOption, true, false};
 ghost use Rattle.rx_spec.specs.Ids.{row_of, AreIds};
 ghost use Rattle.rx_search_tests.specs.SampleFacts.{sample_is_sound, sample_are_ids, unit_fact};
-ghost use Rattle.rx_search_tests.specs.Samples.{Sample as SampleRows, size, next_row, told_count, start_row, accelerated};
-ghost use Rattle.rx_search_tests.specs.Samples.{leaving_of, sample_table, sample_ids};
+ghost use Rattle.rx_search_tests.specs.Samples.{Sample as SampleRows, size, next_row, told_count, start_row};
+ghost use Rattle.rx_search_tests.specs.Samples.{accelerated, leaving_of, sample_table, sample_ids};
 ghost use Rattle.rx_search.specs.Starts.{IsId};
 
 use rx_base::start::Config;

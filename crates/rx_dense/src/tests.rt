@@ -1,3 +1,0 @@
-//! Dense tables worked by hand.
-
-mod soundness;
