@@ -1,16 +1,11 @@
 -- Needles as they are kept in words.
 use Rattle.std.proofs.Common.{◌≡◌, ℕ, ◌+◌, ◌-◌, ◌*◌, ◌/◌, ◌%◌, ◌<◌, List, [], ◌∷◌, ◌++◌, length, get_or, slice_index}
-use Rattle.std.proofs.Common.{◌≤◌, ap, sym, ◌∙◌, arith, length-append, length-take, map}
+use Rattle.std.proofs.Common.{ap, sym, ◌∙◌, arith, length-append, map}
 use Rattle.std.specs.List.{range_with_len}
 use Rattle.std.proofs.lemmas.List.{get_or_append_left, get_or-append_right}
 use Rattle.std.proofs.lemmas.List.FromFn.{length-map-range_with_len, get_or-map-range_with_len}
 use Rattle.std.proofs.lemmas.List.FromFn.{fill_by_all, map-range_with_len_more}
 use Rattle.rx_dense.specs.Accels.{accel_lists, word_needles}
-
-pub word_needles_few : (word : ℕ) → length (word_needles word) ≤ 3
-word_needles_few word =
-    let bytes : List ℕ = word / 256 % 256 ∷ word / 65536 % 256 ∷ word / 16777216 % 256 ∷ [] in
-    omega (arith, length-take (word % 256) bytes)
 
 pub accel_lists_len : (words : List ℕ) → length (accel_lists words) ≡ length words / 2
 accel_lists_len words =
