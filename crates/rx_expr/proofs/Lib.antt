@@ -13,3 +13,5 @@ pub mod JoinedStarts
 pub mod BuiltNfas
 -- what it remembers of its rows
 pub mod NfaFacts
+-- which bytes its rows tell apart
+pub mod RowClasses

@@ -1,11 +1,15 @@
--- What an NFA remembers of its rows: the facts that they ask for and their assertions, gathered row by row.
-use Rattle.std.proofs.Common.{◌≡◌, ℕ, ◌+◌, ◌<◌, ◌≤◌, Bool, ◌||◌, List, [], ◌∷◌, length, map, get_or, drop, refl}
+-- What an NFA remembers of its rows: the facts that they ask for, their assertions and which bytes they tell apart,
+-- gathered row by row.
+use Rattle.std.proofs.Common.{◌≡◌, ℕ, zero, suc, ◌+◌, ◌<◌, ◌≤◌, Bool, ◌||◌, List, [], ◌∷◌, length, map, get_or, drop}
+use Rattle.std.proofs.Common.{refl}
 use Rattle.std.proofs.Common.{ap, sym, ◌∙◌}
+use Rattle.std.specs.List.{list_any}
 use Rattle.std.proofs.Math.Bool.{or_assoc, or-false}
 use Rattle.std.proofs.Math.ListN.{drop_of_length-le}
 use Rattle.rx_spec.specs.Contexts.{Facts, either_of, row_reads, facts_kept, no_facts}
-use Rattle.rx_spec.specs.declared.Look.{Look}
-use Rattle.rx_expr.specs.Nfa.{row_of, asserts, has_look}
+use Rattle.rx_spec.specs.Rows as rows
+use Rattle.rx_spec.specs.Shallow.{AllNext, IsShallow, Short}
+use Rattle.rx_expr.specs.Nfa.{row_of}
 use Rattle.rx_expr.specs.declared.thompson.nfa.Row.{Row}
 use Rattle.rx_expr.proofs.Lists.{drop_at}
 
@@ -44,21 +48,32 @@ asked_last rows i f le before =
     let none = ap asked (drop_of_length-le rows le) ∙ asked-nil in
     sym (either_of-none f) ∙ sym (ap (either_of f) none) ∙ before
 
--- ---- the assertions
+-- ---- what some row has, by any test
 
-abbrev looks_in : List Row → Look → Bool
-looks_in rows look = has_look (map row_of rows) look
+abbrev any_of : (rows.Row → Bool) → List Row → Bool
+any_of test rs = list_any test (map row_of rs)
 
-pub looks_more : (rows : List Row) (i : ℕ) (look : Look) (held : Bool) {row : Row} {more whole : Bool}
-    → i < length rows → row ≡ get_or rows i row → (held || looks_in (drop i rows) look) ≡ whole
-    → more ≡ (held || asserts look (row_of row)) → (more || looks_in (drop (i + 1) rows) look) ≡ whole
-looks_more rows i look held {row} lt is before joined =
-    let left = looks_in (drop (i + 1) rows) look in
-    ap (λ b. b || left) joined ∙ or_assoc held (asserts look (row_of row)) left
-    ∙ ap (λ xs. held || looks_in xs look) (sym (drop_at rows i lt is)) ∙ before
+pub any_more : (test : rows.Row → Bool) (rs : List Row) (i : ℕ) (before : Bool) {row : Row} {more whole : Bool}
+    → i < length rs → row ≡ get_or rs i row → (before || any_of test (drop i rs)) ≡ whole
+    → more ≡ (before || test (row_of row)) → (more || any_of test (drop (i + 1) rs)) ≡ whole
+any_more test rs i before {row} lt is left joined =
+    let last = any_of test (drop (i + 1) rs) in
+    ap (λ b. b || last) joined ∙ or_assoc before (test (row_of row)) last
+    ∙ ap (λ xs. before || any_of test xs) (sym (drop_at rs i lt is)) ∙ left
 
-pub looks_last : (rows : List Row) (i : ℕ) (look : Look) (held : Bool) {whole : Bool} → length rows ≤ i
-    → (held || looks_in (drop i rows) look) ≡ whole → held ≡ whole
-looks_last rows i look held le before =
-    let none = ap (λ xs. looks_in xs look) (drop_of_length-le rows le) in
-    sym (or-false held) ∙ sym (ap (λ b. held || b) none) ∙ before
+pub any_last : (test : rows.Row → Bool) (rs : List Row) (i : ℕ) (before : Bool) {whole : Bool} → length rs ≤ i
+    → (before || any_of test (drop i rs)) ≡ whole → before ≡ whole
+any_last test rs i before le left =
+    let none = ap (any_of test) (drop_of_length-le rs le) in
+    sym (or-false before) ∙ sym (ap (λ b. before || b) none) ∙ left
+
+-- ---- an NFA of one row
+
+-- a row that leads nowhere without a byte
+pub shallow_row : (row : rows.Row) → ((P : ℕ → Type 0) → AllNext P row) → IsShallow (row ∷ [])
+unfolding Short
+shallow_row row ends = record { short = at }
+  where
+    at : (q : ℕ) → Short (row ∷ []) 2 q
+    at zero = ends (λ p. Short (row ∷ []) 1 p)
+    at (suc q) = tt

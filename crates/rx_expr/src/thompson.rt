@@ -1,6 +1,7 @@
 //! Thompson's construction: from expressions to the rows of an NFA.
 
 mod build_error;
+mod classes;
 mod compiler;
 mod config;
 mod edge;

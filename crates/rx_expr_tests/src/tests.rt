@@ -4,7 +4,7 @@ mod notation;
 
 use notation::{read, shown, shown_nfa};
 use rx_base::{ByteSet, Facts, Look, LookSet, PatternID, Start};
-use rx_expr::thompson::{BuildError, Compiler, Config};
+use rx_expr::thompson::{BuildError, Compiler, Config, NFA};
 use rx_expr::{Expr, ExprError, ExprKind};
 use std::alloc::Global;
 use std::process::Abort;
@@ -198,6 +198,60 @@ fn rows_are_those_worked_by_hand(rt: HostRuntime) -> Result<(), Fail> {
         compiler.configure(Config::new().nfa_size_limit(Some(limit)));
         let again = compiler.build_many(alloc, &exprs)?;
         assert_eq!(rt; again.rows().len(), count, "of {text}");
+    }
+    Ok(())
+}
+
+#[test]
+fn one_row_matches_everywhere_or_nowhere(rt: HostRuntime) -> Result<(), Fail> {
+    let alloc = rt.alloc();
+    let always = NFA::always_match(alloc)?;
+    let never = NFA::never_match(alloc)?;
+    for (nfa, want, has_empty) in [(always, "#0 0=0 0", true), (never, "fail 0=0", false)] {
+        let told = shown_nfa(alloc, &nfa)?;
+        assert_eq!(rt; told.as_str(), want);
+        assert!(rt; nfa.has_empty() == has_empty && !nfa.is_utf8() && !nfa.is_reverse());
+        assert_eq!(rt; nfa.line_terminator(), b'\n');
+    }
+    Ok(())
+}
+
+/// The bytes that end a class where an expression's rows are told apart, and a quit set.
+#[test]
+fn classes_end_where_rows_tell_bytes_apart(rt: HostRuntime) -> Result<(), Fail> {
+    let alloc = rt.alloc();
+    let cases: [(Expr, ByteSet, &[u8]); 7] = [
+        (Expr::empty(), ByteSet::empty(), &[]),
+        (Expr::empty(), ByteSet::non_ascii(), &[127]),
+        (
+            Expr::literal(alloc, b"ma")?,
+            ByteSet::non_ascii(),
+            &[96, 97, 108, 109, 127],
+        ),
+        (Expr::look(Look::Start), ByteSet::empty(), &[]),
+        (Expr::look(Look::EndLF), ByteSet::empty(), &[119, 120]),
+        (
+            Expr::look(Look::StartCRLF),
+            ByteSet::empty(),
+            &[9, 10, 12, 13],
+        ),
+        (
+            Expr::look(Look::WordEndHalfAscii),
+            ByteSet::empty(),
+            &[47, 57, 64, 90, 94, 95, 96, 122],
+        ),
+    ];
+    let mut compiler = Compiler::new();
+    compiler.configure(Config::new().line_terminator(b'x'));
+    for (expr, quit, want) in cases {
+        let nfa = compiler.build_many(alloc, &[expr])?;
+        let mut ends = nfa.byte_class_set().clone()?;
+        ends.add_set(&quit);
+        let classes = ends.byte_classes();
+        for byte in 0..255 {
+            let differ = classes.get(byte) != classes.get(byte + 1);
+            assert_eq!(rt; differ, want.contains(&byte), "of {byte} in {want:?}");
+        }
     }
     Ok(())
 }

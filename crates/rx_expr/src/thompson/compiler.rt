@@ -8,6 +8,7 @@ ghost use Rattle.rx_expr.specs.Settings.{asked, nothing_asked, overwritten};
 ghost use Rattle.rx_expr.specs.Nfa.{meaning};
 
 use super::build_error::BuildError;
+use super::classes::byte_class_set;
 use super::config::Config;
 use super::edge::all_begin_with_edge;
 use super::nfa::{NFA, asked_facts, look_set_any};
@@ -101,17 +102,20 @@ impl Compiler {
         )?;
         let asked = asked_facts(&rows);
         let look_set_any = look_set_any(&rows);
+        let line_terminator = self.config.get_line_terminator();
+        let byte_class_set = byte_class_set(&rows, line_terminator);
         Ok(NFA {
             rows,
             start_anchored,
             start_unanchored,
             start_patterns,
             direction,
-            look_matcher: LookMatcher::new(self.config.get_line_terminator()),
+            look_matcher: LookMatcher::new(line_terminator),
             has_empty: any_empty(exprs),
             utf8: self.config.get_utf8(),
             asked,
             look_set_any,
+            byte_class_set,
         })
     }
 }

@@ -1,13 +1,21 @@
 //! The NFA: rows and where they are entered.
 
-ghost use Rattle.std.specs.Prelude.{◌≡◌, ◌||◌, ◌<◌, ◌≤◌, length, slice_get, map};
+ghost use Rattle.std.specs.Prelude.{◌≡◌, ℕ, ◌||◌, ◌==◌, ◌<◌, ◌≤◌, not, [], ◌∷◌, length, slice_get, map, false, IfErr};
+ghost use Rattle.std.specs.Prelude.{IfOk};
+ghost use Rattle.rx_spec.specs.Bytes.{contains};
 ghost use Rattle.rx_spec.specs.Contexts.{facts_kept, row_reads};
-ghost use Rattle.rx_spec.specs.Nfas.{is_always_start_anchored};
+ghost use Rattle.rx_spec.specs.declared.Direction.TheVariants.{Forward};
+ghost use Rattle.rx_spec.specs.Nfas.{always_match, is_always_start_anchored, never_match};
 ghost use Rattle.rx_spec.specs.Shallow.{IsShallow};
 ghost use Rattle.rx_base.specs.LookSet.{holds_look};
-ghost use Rattle.rx_expr.specs.NfaRows.{row_of, asserts, has_look, HoldsLooks, IsShallow-prop};
+ghost use Rattle.rx_expr.specs.NfaRows.{row_of, asserts, has_look, rows_part, EndsClasses, HoldsLooks, IsShallow-prop};
 
-use rx_base::{ByteSet, Direction, Facts, Look, LookMatcher, LookSet, PatternID, StateID};
+use super::build_error::BuildError;
+use super::classes::byte_class_set;
+use rx_base::{
+    ByteClassSet, ByteSet, Direction, Facts, Look, LookMatcher, LookSet, PatternID, StateID,
+};
+use std::alloc::{AllocError, Global};
 
 /// A row of an NFA.
 #[derive(Clone, Copy, Debug)]
@@ -57,8 +65,11 @@ pub struct NFA {
     pub(super) asked: Facts,
     /// The assertions that the rows have.
     pub(super) look_set_any: LookSet,
+    /// The bytes that some row tells apart from the next byte.
+    pub(super) byte_class_set: ByteClassSet,
     ghost facts_are: { asked ≡ facts_kept (map row_of rows.items) },
     ghost looks_are: { HoldsLooks look_set_any (map row_of rows.items) },
+    ghost classes_are: { EndsClasses byte_class_set look_matcher (map row_of rows.items) },
 
     // No path that reads nothing goes round, so a closure of rows ends.
     pub ghost shallow: { IsShallow (map row_of rows.items) } by { IsShallow-prop (map row_of rows.items) },
@@ -111,6 +122,56 @@ impl Row {
 impl NFA {
     ghost use Rattle.rx_expr.specs.Nfa.{meaning};
     ghost use Rattle.rx_expr.specs.Settings.{is_reverse};
+
+    /// The NFA of one pattern that matches everywhere, without a byte.
+    pub fn always_match(alloc: Global) -> Result<NFA, BuildError>
+        ensures ok { IfOk result (λ nfa. meaning nfa ≡ always_match) }
+        ensures err { IfErr result (λ e. e ≡ BuildError.Memory) }
+    {
+        let pattern = PatternID::ZERO;
+        NFA::of_row(alloc, Row::Match { pattern }, &[StateID::ZERO]).map_err(|_| BuildError::Memory)
+    }
+
+    /// The NFA of no pattern.
+    pub fn never_match(alloc: Global) -> Result<NFA, BuildError>
+        ensures ok { IfOk result (λ nfa. meaning nfa ≡ never_match) }
+        ensures err { IfErr result (λ e. e ≡ BuildError.Memory) }
+    {
+        NFA::of_row(alloc, Row::Fail, &[]).map_err(|_| BuildError::Memory)
+    }
+
+    /// An NFA of one row, in which every search starts, with the starts of its patterns.
+    fn of_row(alloc: Global, row: Row, start_patterns: &[StateID]) -> Result<NFA, AllocError>
+        requires { IsShallow (row_of row ∷ []) }
+        ensures { IfOk result (λ nfa. meaning nfa ≡ record {
+          rows = row_of row ∷ [];
+          start_anchored = 0;
+          start_unanchored = 0;
+          start_patterns = start_patterns.now;
+          direction = Forward;
+          line_terminator = 10;
+          has_empty = not (length start_patterns.now == 0);
+          is_utf8 = false;
+        }) }
+    {
+        let rows = vec![in alloc; row]?;
+        let asked = asked_facts(&rows);
+        let look_set_any = look_set_any(&rows);
+        let byte_class_set = byte_class_set(&rows, b'\n');
+        Ok(NFA {
+            rows,
+            start_anchored: StateID::ZERO,
+            start_unanchored: StateID::ZERO,
+            start_patterns: start_patterns.to_vec(alloc)?,
+            direction: Direction::Forward,
+            look_matcher: LookMatcher::new(b'\n'),
+            has_empty: !start_patterns.is_empty(),
+            utf8: false,
+            asked,
+            look_set_any,
+            byte_class_set,
+        })
+    }
 
     /// The rows, by their numbers.
     pub fn rows(&self) -> &[Row]
@@ -180,6 +241,14 @@ impl NFA {
         ensures { (look : Look) → holds_look result look ≡ has_look (meaning self.now).rows look }
     {
         self.look_set_any
+    }
+
+    /// The bytes that some row tells apart from the next byte, which end a class of bytes.
+    pub fn byte_class_set(&self) -> &ByteClassSet
+        ensures { (b : ℕ) → b < 255
+            → contains result.now b ≡ rows_part (meaning self.now).line_terminator (meaning self.now).rows b }
+    {
+        &self.byte_class_set
     }
 
     /// The facts of a neighbour that some assertion of the rows asks for.

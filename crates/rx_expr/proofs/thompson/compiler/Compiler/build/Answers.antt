@@ -1,11 +1,11 @@
-use Rattle.std.proofs.Common.{arith, length, map, ◌∙◌, ap, sym, subst}
+use Rattle.std.proofs.Common.{arith, length, map, ◌∙◌, ap, ap₂, sym, subst}
 use Rattle.rx_spec.specs.Contexts.{facts_kept}
 use Rattle.rx_spec.specs.Nfas.{Nfa}
 use Rattle.rx_spec.specs.Shallow.{IsShallow}
 use Rattle.rx_lemmas.proofs.Shallows.{nfa_shallow}
 use Rattle.rx_expr.specs.Compiler.{asked_by}
 use Rattle.rx_expr.specs.Compiles.{joined_count, lead_count}
-use Rattle.rx_expr.specs.NfaRows.{row_of, has_look}
+use Rattle.rx_expr.specs.NfaRows.{row_of, has_look, rows_part}
 use Rattle.rx_expr.proofs.PatternRows.{length-added_patterns, length-starts}
 use Rattle.rx_expr.proofs.JoinedStarts.{length-joined}
 use Rattle.rx_expr.proofs.BuiltNfas.{rows_fit, steps_of, nfa_made, nfa_same}
@@ -49,6 +49,10 @@ invariant_of-result c =
           λ look.
           c.look_set_any-look_set_any.ensures look
           ∙ ap (λ rows. has_look (map row_of rows) look) c.deref-3.ensures.value;
+      classes_are =
+          λ b below.
+          c.byte_class_set-byte_class_set.ensures b below
+          ∙ ap₂ (λ t rows. rows_part t (map row_of rows) b) (sym c.new.ensures) c.deref-4.ensures.value;
       shallow = subst (λ (n : Nfa). IsShallow n.rows) (sym made) (shallow c.requires.safe);
     }
 
@@ -58,6 +62,6 @@ returns c =
     let led = c.in_ok-start_unanchored.ensures in
     let edge = c.all_begin_with_edge.ensures in
     let steps = steps_of c.in_ok-add_patterns.ensures c.deref.ensures.value joined edge led in
-    let terminator = c.new.ensures ∙ c.get_line_terminator.ensures in
+    let terminator = c.new.ensures ∙ c.get_line_terminator-line_terminator.ensures in
     nfa_made c.new.result c.get_utf8.result steps c.any_empty.ensures
     ∙ nfa_same c.args.exprs.now c.direction-direction.ensures terminator c.get_utf8.ensures
