@@ -77,7 +77,8 @@ module _ {A : Type 0} (table : A → Table) (ids : A → List ℕ) where
   reached {first} {here} {there} {direction} {q} {row} {from} {next} {offset} held same same_next is stops =
       let is_id : IsId (ids first) next = at_same (λ t i. IsId i next) same_next is in
       let told = at_same (λ t i. StopsAt t direction q from (row_of i next)
-      (next_stop t.machine direction (row_of i row) from (units_left direction q from)) (Ok (Some offset))) same stops in
+      (next_stop t.machine direction (row_of i row) from (units_left direction q from)) (Ok (Some offset)))
+      same stops in
       record {
         stops = told.0;
         met = told.1;
