@@ -1,6 +1,6 @@
 -- What a half search tells, from stop to stop.
 use Rattle.std.proofs.Common.{◌≡◌, ◌≢◌, ℕ, ◌+◌, ◌<◌, ◌≤◌, Bool, true, false, if◌then◌else◌, Option, Some, None, Ok, Err}
-use Rattle.std.proofs.Common.{List, [], ◌∷◌, length, drop, refl, ap, ap₂, sym, ◌∙◌, subst, arith}
+use Rattle.std.proofs.Common.{List, [], ◌∷◌, length, drop, refl, ap, ap₂, sym, ◌∙◌, arith}
 use Rattle.std.specs.Prelude.{slice_index}
 use Rattle.rx_spec.specs.Bytes.{AreBytes}
 use Rattle.rx_spec.specs.Queries.{Query, HalfMatch, MatchError, IsFit, is_done}
@@ -308,9 +308,3 @@ module _ {t : Table} {direction : Direction} {q : Query} {first now : Standpoint
             is_ready = skips.is_ready;
             count = omega (arith, p.count, count, same, counts);
           }
-
--- what is known at a table and its ids that are the same
-pub at_table : {t t' : Table} {ids ids' : List ℕ} (P : Table → List ℕ → Type 0)
-    → t' ≡ t → ids' ≡ ids → P t' ids' → P t ids
-at_table {t} {t'} {ids} {ids'} P same same_ids known =
-    subst (λ (i : List ℕ). P t i) same_ids (subst (λ (u : Table). P u ids') same known)

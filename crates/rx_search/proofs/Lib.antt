@@ -9,6 +9,8 @@ pub mod Progress
 -- half searches
 pub mod Halves
 pub mod InSpan
+-- cursors, which keep the table that they were made for
+pub mod Cursors
 -- overlapping searches
 pub mod Overlaps
 -- matches that split a character

@@ -15,6 +15,11 @@ pub record IsCall (before : OverlappingMatches) (result : Result (Unit {0}) Matc
     (after : OverlappingMatches) : Type 0 where
   pub is : record { result = result; told = told; left = after } ≡ next_call before
 
+pub called : {before : OverlappingMatches} {result : Result (Unit {0}) MatchError} {told : Option HalfMatch}
+    {after : OverlappingMatches} → record { result = result; told = told; left = after } ≡ next_call before
+    → IsCall before result told after
+called e = record { is = e }
+
 -- the same of one that does
 abbrev pub UnsplitCall : Query → OverlappingMatches → Result (Unit {0}) MatchError
     → Option HalfMatch → OverlappingMatches

@@ -1,6 +1,6 @@
 -- Matches that split a character are passed over, turn by turn.
 use Rattle.std.proofs.Common.{◌≡◌, ℕ, suc, ◌-◌, ◌<◌, ◌≤◌, ◌||◌, Bool, true, false, if◌then◌else◌, Some, None, Ok, Err}
-use Rattle.std.proofs.Common.{List, length, refl, ap, ap₂, sym, ◌∙◌, arith}
+use Rattle.std.proofs.Common.{List, length, refl, ap, ap₂, sym, ◌∙◌, subst, arith}
 use Rattle.std.specs.Prelude.{IsTrue, ◌↔◌}
 use Rattle.std.proofs.lemmas.Bool.{eqb-false, or_right, true_from_ne_false}
 use Rattle.rx_spec.specs.Queries.{Query, HalfMatch, MatchError, IsFit, is_anchored}
@@ -119,14 +119,30 @@ pub whole_there : (haystack : List ℕ) (offset : ℕ) {boundary : Bool}
     → boundary ≡ true → is_split haystack offset ≡ false
 whole_there haystack offset is there = (is.0 there).1
 
+-- so of a match that was told
+pub split_found : {q : Query} {told offset : ℕ} {boundary : Bool} → IsFit q → IsInSpan q told → offset ≡ told
+    → (IsTrue boundary ↔ ((offset ≤ length q.haystack) × (is_split q.haystack offset ≡ false))) → boundary ≡ false
+    → is_split q.haystack told ≡ true
+split_found {q} {told} {offset} fits span same is none =
+    let within = fits.within in
+    let high = span.high in
+    subst (λ (o : ℕ). is_split q.haystack o ≡ true) same (splits_there q.haystack offset is none (omega arith))
+
 -- a narrower query fits, where a match was told
-pub narrower_fits : (direction : Direction) {q : Query} → IsFit q → q.start ≤ q.end → is_narrowest direction q ≡ false
+narrower_fits : (direction : Direction) {q : Query} → IsFit q → q.start ≤ q.end → is_narrowest direction q ≡ false
     → IsFit (narrower direction q)
 narrower_fits Direction.Forward fits order more =
     let within = fits.within in record { within = omega arith; ordered = omega arith }
 narrower_fits Direction.Reverse {q} fits order more =
     let within = fits.within in
     let some = eqb-false q.end 0 more in record { within = omega arith; ordered = omega arith }
+
+pub next_fits : (direction : Direction) {now next : Query} {offset : ℕ} → IsFit now → IsInSpan now offset
+    → next ≡ narrower direction now → is_narrowest direction now ≡ false → IsFit next
+next_fits direction fits span is more =
+    let low = span.low in
+    let high = span.high in
+    subst IsFit (sym is) (narrower_fits direction fits (omega arith) more)
 
 pub limit_falls : (direction : Direction) {q : Query} → IsFit q → is_narrowest direction q ≡ false
     → split_limit (narrower direction q) < split_limit q

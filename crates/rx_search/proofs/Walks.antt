@@ -10,7 +10,7 @@ use Rattle.rx_spec.specs.Queries.{Query}
 use Rattle.rx_spec.specs.Machines.{Label, Machine}
 use Rattle.rx_spec.specs.HalfSearches.{units_of, first_offset, next_offset, unit_offset}
 use Rattle.rx_spec.specs.Splits.{narrower}
-use Rattle.rx_spec.specs.Tables.{Table, IsSound, is_match, leaving}
+use Rattle.rx_spec.specs.Tables.{Table, is_match, leaving}
 use Rattle.rx_spec.specs.declared.Direction.{Direction}
 use Rattle.rx_table_lemmas.proofs.Filters.{filter_within, range_within}
 use Rattle.rx_lemmas.proofs.Firsts.{by_test, seen_if, Contains-here}
@@ -20,9 +20,7 @@ use Rattle.rx_search.specs.Labels.{is_quit}
 use Rattle.rx_search.specs.Needles.{is_nil, is_needle, byte_ahead, offset_after, is_read, Skips}
 use Rattle.rx_search.specs.Walks.{IsInSpan, last_offset, bytes_left, rest, units_left, units_after, unit_ahead, Stop}
 use Rattle.rx_search.specs.Walks.{at_stop_label, next_stop}
-use Rattle.rx_spec.specs.Ids.{AreIds, row_of}
-use Rattle.rx_search.specs.Starts.{IsId}
-use Rattle.rx_search.proofs.Standing.{Standing, standing, match_label, quit_label, plain_label}
+use Rattle.rx_search.proofs.Standing.{Standing, match_label, quit_label, plain_label}
 
 -- bytes, as they are known of a slice
 pub bytes_of : (hay hay' : List ℕ) → hay ≡ hay' → ((k : ℕ) → get_or hay k 0 < 256) → AreBytes hay'
@@ -337,24 +335,6 @@ skip_stops {t} {row} direction q s plain bytes p skips =
 
 -- ---- turns of a search
 
--- a table with its ids, as a search holds it
-pub record Held (t : Table) (ids : List ℕ) : Type 0 where
-  pub sound : IsSound t
-  pub are : AreIds t.size ids
-
-pub held_row : {t : Table} {ids : List ℕ} → Held t ids → (id : ℕ) → IsId ids id → Standing t (row_of ids id)
-held_row h id is = standing id h.sound h.are is
-
--- a turn, as it is known of a cursor that keeps its table
-pub turned : {t t' : Table} {ids ids' ids'' : List ℕ} → Held t ids → (id next : ℕ) {unit : ℕ} → t' ≡ t → ids' ≡ ids
-    → ids'' ≡ ids → IsId ids'' next → row_of ids' next ≡ t'.machine.next (row_of ids' id) unit
-    → Turn t (row_of ids id) unit (row_of ids next)
-turned {t} {t'} {ids} {ids'} {ids''} held id next {unit} same same_ids same_next is leads = record {
-  leads = subst (λ (i : List ℕ). row_of i next ≡ t.machine.next (row_of i id) unit) same_ids
-      (subst (λ (u : Table). row_of ids' next ≡ u.machine.next (row_of ids' id) unit) same leads);
-  standing = held_row held next (subst (λ (i : List ℕ). IsId i next) same_next is);
-}
-
 -- A byte of the span led from a row to another.
 pub record Step (t : Table) (direction : Direction) (q : Query) (row offset next : ℕ) : Type 0 where
   pub place : Place q offset
@@ -449,14 +429,6 @@ eoi_no_quit {t} {row} {unit} {next} s turn eoi =
     let one = s.sound.is_table.quit_only next turn.standing.below (quit_label (t.machine.label next) quits) in
     s.sound.eoi_goes_on row s.below (sym (ap (t.machine.next row) eoi) ∙ sym turn.leads ∙ one))
 
--- what a cursor tells of its row, where it holds a table
-pub known : {t t' : Table} {ids ids' : List ℕ} (test : Table → ℕ → Bool) (id : ℕ) {told value : Bool}
-    → t' ≡ t → ids' ≡ ids
-    → told ≡ test t' (row_of ids' id) → told ≡ value → test t (row_of ids id) ≡ value
-known {t} {t'} {ids} {ids'} test id same same_ids tells is =
-    sym (ap (λ (u : Table). test u (row_of ids' id)) same ∙ ap (λ (i : List ℕ). test t (row_of i id)) same_ids)
-    ∙ sym tells ∙ is
-
 -- a step, as it is known of a byte of the haystack
 pub stepped : {t : Table} {direction : Direction} {q : Query} {row offset next byte last : ℕ} {hay : List ℕ}
     → Place q offset → last ≡ last_offset direction q → offset ≢ last → hay ≡ q.haystack
@@ -467,13 +439,3 @@ stepped {t} {direction} {q} {row} {offset} {next} {byte} {last} {hay} place last
   turn = subst (λ (b : ℕ). Turn t row b next)
       (byte_is ∙ ap (λ (h : List ℕ). byte_ahead direction h offset) hay_is) turn;
 }
-
--- a skip, as a cursor that keeps its table makes it
-pub skips_at : {t t' : Table} {ids ids' : List ℕ} {direction : Direction} {q : Query} (id : ℕ) {from from' to : ℕ}
-    → t' ≡ t
-    → ids' ≡ ids → from' ≡ from → Skips t' direction q (row_of ids' id) from' to
-    → Skips t direction q (row_of ids id) from to
-skips_at {t} {t'} {ids} {ids'} {direction} {q} id {from} {from'} {to} same same_ids same_from skips =
-    subst (λ (f : ℕ). Skips t direction q (row_of ids id) f to) same_from
-    (subst (λ (i : List ℕ). Skips t direction q (row_of i id) from' to) same_ids
-    (subst (λ (u : Table). Skips u direction q (row_of ids' id) from' to) same skips))

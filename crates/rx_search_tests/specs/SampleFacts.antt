@@ -5,8 +5,8 @@ use Rattle.std.proofs.lemmas.List.FromFn.{filter_of_map_range_with_len_more, len
 use Rattle.std.proofs.lemmas.List.FromFn.{get_or-range_with_len}
 use Rattle.std.specs.Prelude.{unwrap_or}
 use Rattle.std.specs.List.{position_or_len}
-use Rattle.std.proofs.Common.{◌≡◌, ◌≢◌, ℕ, ◌+◌, ◌-◌, ◌*◌, ◌<◌, ◌≤◌, ◌==◌, ◌||◌, ◌&&◌, ◌^◌, Bool, true, false, not}
-use Rattle.std.proofs.Common.{min, Option, Some, None}
+use Rattle.std.proofs.Common.{◌≡◌, ◌≢◌, ℕ, ◌+◌, ◌*◌, ◌<◌, ◌≤◌, ◌==◌, ◌||◌, ◌&&◌, Bool, true, false, not}
+use Rattle.std.proofs.Common.{Some, None}
 use Rattle.std.proofs.Common.{List, [], ◌∷◌, length, filter, if◌then◌else◌, refl, ap, sym, ◌∙◌, subst, arith}
 use Rattle.std.proofs.lemmas.Bool.{ltb-true, ltb-false, le-ltb, lt-ltb, eqb-true, eq-eqb, ne_eqb, and_parts}
 use Rattle.std.proofs.lemmas.Bool.{false_from_ne_true}
@@ -14,8 +14,8 @@ use Rattle.std.specs.Prelude.{nat_lt, nat_le, slice_index, slice_index_or, Conta
 use Rattle.std.specs.List.{range_with_len}
 use Rattle.rx_spec.specs.Queries.{Anchored}
 use Rattle.rx_spec.specs.Machines.{Label, label_of}
-use Rattle.rx_spec.specs.Tables.{Table, IsTable, IsSound, is_match_label}
-use Rattle.rx_spec.specs.Ids.{AreIds, id_of, row_of}
+use Rattle.rx_spec.specs.Tables.{IsTable, IsSound, is_match_label}
+use Rattle.rx_spec.specs.Ids.{AreIds, row_of}
 use Rattle.rx_spec.specs.Starts.{has_unanchored, has_anchored}
 use Rattle.rx_spec.specs.declared.Start.{Start}
 use Rattle.rx_table_lemmas.proofs.Filters.{range_within}
@@ -23,7 +23,7 @@ use Rattle.rx_lemmas.proofs.Firsts.{by_test}
 use Rattle.rx_table_lemmas.proofs.Ids.{dense_are_ids, id_of-dense, row_of-id_of}
 use Rattle.rx_search.specs.Starts.{IsId}
 use Rattle.rx_search.specs.Labels.{is_quit_label, label_patterns}
-use Rattle.rx_search_tests.specs.Samples.{Sample, size, kept, next_row, told_count, row_label, start_row, entry_row}
+use Rattle.rx_search_tests.specs.Samples.{Sample, size, next_row, told_count, row_label, start_row, entry_row}
 use Rattle.rx_search_tests.specs.Samples.{leaving_below}
 use Rattle.rx_search_tests.specs.Samples.{leaving_of, accelerated}
 use Rattle.rx_search_tests.specs.Samples.{sample_table, sample_ids}

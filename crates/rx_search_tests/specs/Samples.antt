@@ -1,10 +1,10 @@
 -- A small table for tests, which is sound whatever its rows hold.
 use Rattle.std.specs.Prelude.{ℕ, ◌+◌, ◌-◌, ◌*◌, ◌==◌, ◌||◌, ◌&&◌, Bool, true, false, not, nat_lt, nat_le, min}
 use Rattle.std.specs.Prelude.{if◌then◌else◌}
-use Rattle.std.specs.Prelude.{Option, Some, None, List, [], ◌∷◌, length, filter, slice_index, slice_index_or}
+use Rattle.std.specs.Prelude.{Some, None, List, [], length, filter, slice_index, slice_index_or}
 use Rattle.std.specs.List.{range_with_len}
 use Rattle.rx_spec.specs.Queries.{Anchored}
-use Rattle.rx_spec.specs.Machines.{Label, label_of, Machine, Settings}
+use Rattle.rx_spec.specs.Machines.{Label, label_of, Settings}
 use Rattle.rx_spec.specs.Starts.{has_unanchored, has_anchored}
 use Rattle.rx_spec.specs.Tables.{Table, is_match_label}
 use Rattle.rx_spec.specs.Ids.{dense_ids}

@@ -1,293 +1,144 @@
-use Rattle.std.proofs.Common.{◌≡◌, ◌+◌, ◌≤◌, ◌<◌, ℕ, true, slice_index, Some, Ok, sym, ◌∙◌, ap, ap₂, subst, arith}
-use Rattle.std.proofs.Common.{refl, length, List}
-use Rattle.rx_spec.specs.Ids.{row_of}
+use Rattle.std.proofs.Common.{◌≡◌, ◌+◌, ◌≤◌, ℕ, Some, Ok, sym, ◌∙◌, ap, ap₂, subst, refl, arith}
 use Rattle.rx_spec.specs.HalfSearches.{HalfAnswer}
-use Rattle.rx_spec.specs.Queries.{Query, HalfMatch}
-use Rattle.rx_spec.specs.Tables.{Table, is_match}
-use Rattle.rx_spec.specs.declared.Direction.{Direction}
+use Rattle.rx_spec.specs.Ids.{row_of}
+use Rattle.rx_spec.specs.Queries.{HalfMatch}
 use Rattle.rx_base.specs.Input.{query_of}
 use Rattle.rx_search.specs.Counted.{IsReady, counted, counted_on}
-use Rattle.rx_search.specs.Labels.{patterns_of}
-use Rattle.rx_search.specs.Starts.{IsId}
-use Rattle.rx_search.specs.Walks.{IsInSpan, units_left, units_after, next_stop, Stop, stop_error, IsMet}
-use Rattle.rx_search.proofs.Standing.{Standing}
-use Rattle.rx_search.proofs.Walks.{Held, held_row, bytes_of, skips_at}
-use Rattle.rx_search.proofs.Halves.{Open, first_place, half_begins, half_ended, half_fails, half_earliest, half_last}
-use Rattle.rx_search.proofs.Halves.{half_on}
-use Rattle.rx_search.proofs.Halves.{some_pattern, open_span, plain_start, begun, at_table}
+use Rattle.rx_search.specs.Walks.{IsInSpan, units_left, next_stop, Stop, stop_error}
+use Rattle.rx_search.proofs.Walks.{bytes_of}
+use Rattle.rx_search.proofs.Halves.{first_place, half_begins, half_ended, half_fails, half_earliest, half_last}
+use Rattle.rx_search.proofs.Halves.{half_on, open_span, plain_start, begun}
 use Rattle.rx_search.proofs.InSpan.{half_in_span}
+use Rattle.rx_search.proofs.Cursors.{held_by, held_row, at_same, skips_at}
+use Rattle.rx_search.proofs.Cursors.{reached, match_there, some_there, first_pattern}
 use Rattle.rx_search.proofs.half.half_search.Goals as goal
 
--- from a row at an offset, a walk stops at a match row, both rows named by their ids
-abbrev StopsAtMatch : Table → List ℕ → Direction → Query → (row at next offset : ℕ) → Type 0
-StopsAtMatch t ids d q row at next offset =
-    (next_stop t.machine d (row_of ids row) at (units_left d q at)
-    ≡ Stop.Match (row_of ids next) offset (units_after d q offset))
-    × IsMet t d q at (row_of ids next) offset
+-- what is told of a match row
+abbrev told : HalfMatch → HalfAnswer
+told h = Ok (Some h)
 
 pub skip-at-requires-clause-in_span : goal.skip-at-requires-clause-in_span
 skip-at-requires-clause-in_span g c =
-    let a = g.A.Automaton in
-    let met = g.met.A.Automaton in
-    let t = a.table c.args.cursor.now.table in
-    let ids = a.ids c.args.cursor.now.table in
     let q = query_of c.args.input.now in
-    let held : Held t ids = record {
-      sound = met.sound c.args.cursor.now.table c.args.cursor.now.sound;
-      are = met.are_ids c.args.cursor.now.table;
-    } in
-    let goes = sym c.is_done.ensures ∙ c.if-is_done.false in
-    let span : Open q = open_span c.requires.fits goes in
+    let span = open_span c.requires.fits (sym c.is_done.ensures ∙ c.if-is_done.false) in
     subst (IsInSpan q) (sym c.first_offset.ensures) (first_place c.args.direction span).in_span
 
 pub matches-init : goal.matches-init
 matches-init g c =
     let a = g.A.Automaton in
     let met = g.met.A.Automaton in
-    let t = a.table c.args.cursor.now.table in
-    let ids = a.ids c.args.cursor.now.table in
     let q = query_of c.args.input.now in
-    let held : Held t ids = record {
-      sound = met.sound c.args.cursor.now.table c.args.cursor.now.sound;
-      are = met.are_ids c.args.cursor.now.table;
-    } in
-    let goes = sym c.is_done.ensures ∙ c.if-is_done.false in
-    let span : Open q = open_span c.requires.fits goes in
+    let row = c.args.cursor.now.row in
+    let held = held_by met.sound met.are_ids c.args.cursor.now.table c.args.cursor.now.sound in
+    let span = open_span c.requires.fits (sym c.is_done.ensures ∙ c.if-is_done.false) in
     let bytes = bytes_of c.haystack-haystack.result.now q.haystack c.haystack-haystack.ensures
     (λ k. omega (arith, c.type_inv.haystack k)) in
     record {
       table = refl;
-      progress = half_begins c.args.direction span bytes (held_row held c.args.cursor.now.row c.args.cursor.now.is_id)
+      progress = half_begins c.args.direction span bytes (held_row held row c.args.cursor.now.is_id)
           (plain_start held.sound c.requires.fresh) c.args.steps.now
-          (skips_at c.args.cursor.now.row refl refl c.first_offset.ensures c.skip-at.ensures.skips);
+          (skips_at a.table a.ids row refl c.first_offset.ensures c.skip-at.ensures.skips);
     }
 
 pub returns-in-Ok-None-clause-answer : goal.returns-in-Ok-None-clause-answer
 returns-in-Ok-None-clause-answer g c =
     let a = g.A.Automaton in
-    let met = g.met.A.Automaton in
-    let t = a.table c.args.cursor.now.table in
-    let ids = a.ids c.args.cursor.now.table in
     let q = query_of c.args.input.now in
-    let held : Held t ids = record {
-      sound = met.sound c.args.cursor.now.table c.args.cursor.now.sound;
-      are = met.are_ids c.args.cursor.now.table;
-    } in
-    let goes = sym c.is_done.ensures ∙ c.if-is_done.false in
-    let span : Open q = open_span c.requires.fits goes in
     let inv = c.matches.invariant in
-    let same_t = ap a.table inv.table in
-    let same_i = ap a.ids inv.table in
-    let d = c.args.direction in
-    let first = row_of ids c.args.cursor.now.row in
-    let row = c.matches.cursor.row in
-    let at = c.matches.at in
-    let whole = begun c.requires.fresh goes in
-    let stops = at_table (λ (u : Table) (i : List ℕ).
-    next_stop u.machine d (row_of i row) at (units_left d q at) ≡ Stop.Ended) same_t same_i
+    let whole = begun c.requires.fresh (sym c.is_done.ensures ∙ c.if-is_done.false) in
+    let stops = at_same a.table a.ids (λ t ids. next_stop t.machine c.args.direction (row_of ids c.matches.cursor.row)
+    c.matches.at (units_left c.args.direction q c.matches.at) ≡ Stop.Ended) inv.table
     (rw c.in-Ok-None.field-0-is at c.in-Ok-None.ensures.stop) in
     sym (whole ∙ half_ended inv.progress stops)
 
 pub returns-in-Err-clause-answer : goal.returns-in-Err-clause-answer
 returns-in-Err-clause-answer g c =
     let a = g.A.Automaton in
-    let met = g.met.A.Automaton in
-    let t = a.table c.args.cursor.now.table in
-    let ids = a.ids c.args.cursor.now.table in
     let q = query_of c.args.input.now in
-    let held : Held t ids = record {
-      sound = met.sound c.args.cursor.now.table c.args.cursor.now.sound;
-      are = met.are_ids c.args.cursor.now.table;
-    } in
-    let goes = sym c.is_done.ensures ∙ c.if-is_done.false in
-    let span : Open q = open_span c.requires.fits goes in
     let inv = c.matches.invariant in
-    let same_t = ap a.table inv.table in
-    let same_i = ap a.ids inv.table in
-    let d = c.args.direction in
-    let first = row_of ids c.args.cursor.now.row in
-    let row = c.matches.cursor.row in
-    let at = c.matches.at in
-    let whole = begun c.requires.fresh goes in
-    let stops = at_table (λ (u : Table) (i : List ℕ).
-    stop_error (next_stop u.machine d (row_of i row) at (units_left d q at)) ≡ Some c.in-Err.error) same_t same_i
-    c.in-Err.ensures.stop in
+    let whole = begun c.requires.fresh (sym c.is_done.ensures ∙ c.if-is_done.false) in
+    let stops = at_same a.table a.ids (λ t ids.
+    stop_error (next_stop t.machine c.args.direction (row_of ids c.matches.cursor.row) c.matches.at
+    (units_left c.args.direction q c.matches.at)) ≡ Some c.in-Err.error) inv.table c.in-Err.ensures.stop in
     sym (whole ∙ half_fails inv.progress c.in-Err.error stops)
 
 pub pattern-pattern-requires-clause-is_match : goal.pattern-pattern-requires-clause-is_match
 pattern-pattern-requires-clause-is_match g c =
     let a = g.A.Automaton in
     let met = g.met.A.Automaton in
-    let t = a.table c.args.cursor.now.table in
-    let ids = a.ids c.args.cursor.now.table in
-    let q = query_of c.args.input.now in
-    let held : Held t ids = record {
-      sound = met.sound c.args.cursor.now.table c.args.cursor.now.sound;
-      are = met.are_ids c.args.cursor.now.table;
-    } in
-    let goes = sym c.is_done.ensures ∙ c.if-is_done.false in
-    let span : Open q = open_span c.requires.fits goes in
     let inv = c.matches.invariant in
-    let same_t = ap a.table inv.table in
-    let same_i = ap a.ids inv.table in
-    let d = c.args.direction in
-    let first = row_of ids c.args.cursor.now.row in
-    let row = c.matches.cursor.row in
-    let at = c.matches.at in
-    let next = c.next_match.new.cursor.row in
-    let same = c.next_match.ensures.table ∙ inv.table in
-    let offset = c.in-Ok-Some.offset in
-    let stops = at_table (λ (u : Table) (i : List ℕ). StopsAtMatch u i d q row at next offset) same_t same_i
-    (rw c.in-Ok-Some.field-0-is at c.in-Ok-Some.ensures.stop) in
-    let there : Standing t (row_of ids next) = held_row held next
-    (subst (λ (i : List ℕ). IsId i next) (ap a.ids same) c.next_match.new.cursor.is_id) in
-    at_table (λ (u : Table) (i : List ℕ). is_match u (row_of i next) ≡ true)
-    (ap a.table (sym same)) (ap a.ids (sym same)) stops.1.is_match
+    let held = held_by met.sound met.are_ids c.args.cursor.now.table c.args.cursor.now.sound in
+    match_there a.table a.ids
+    (reached a.table a.ids held inv.table (c.next_match.ensures.table ∙ inv.table) c.next_match.new.cursor.is_id
+    (rw c.in-Ok-Some.field-0-is at c.in-Ok-Some.ensures.stop))
 
 pub pattern-pattern-requires-clause-within : goal.pattern-pattern-requires-clause-within
 pattern-pattern-requires-clause-within g c =
     let a = g.A.Automaton in
     let met = g.met.A.Automaton in
-    let t = a.table c.args.cursor.now.table in
-    let ids = a.ids c.args.cursor.now.table in
-    let q = query_of c.args.input.now in
-    let held : Held t ids = record {
-      sound = met.sound c.args.cursor.now.table c.args.cursor.now.sound;
-      are = met.are_ids c.args.cursor.now.table;
-    } in
-    let goes = sym c.is_done.ensures ∙ c.if-is_done.false in
-    let span : Open q = open_span c.requires.fits goes in
     let inv = c.matches.invariant in
-    let same_t = ap a.table inv.table in
-    let same_i = ap a.ids inv.table in
-    let d = c.args.direction in
-    let first = row_of ids c.args.cursor.now.row in
-    let row = c.matches.cursor.row in
-    let at = c.matches.at in
-    let next = c.next_match.new.cursor.row in
-    let same = c.next_match.ensures.table ∙ inv.table in
-    let offset = c.in-Ok-Some.offset in
-    let stops = at_table (λ (u : Table) (i : List ℕ). StopsAtMatch u i d q row at next offset) same_t same_i
-    (rw c.in-Ok-Some.field-0-is at c.in-Ok-Some.ensures.stop) in
-    let there : Standing t (row_of ids next) = held_row held next
-    (subst (λ (i : List ℕ). IsId i next) (ap a.ids same) c.next_match.new.cursor.is_id) in
-    at_table (λ (u : Table) (i : List ℕ). 0 < length (patterns_of u (row_of i next))) (ap a.table (sym same))
-    (ap a.ids (sym same)) (some_pattern there stops.1.is_match)
+    let held = held_by met.sound met.are_ids c.args.cursor.now.table c.args.cursor.now.sound in
+    some_there a.table a.ids
+    (reached a.table a.ids held inv.table (c.next_match.ensures.table ∙ inv.table) c.next_match.new.cursor.is_id
+    (rw c.in-Ok-Some.field-0-is at c.in-Ok-Some.ensures.stop))
 
 pub returns-then-get_earliest-clause-answer : goal.returns-then-get_earliest-clause-answer
 returns-then-get_earliest-clause-answer g c =
     let a = g.A.Automaton in
     let met = g.met.A.Automaton in
-    let t = a.table c.args.cursor.now.table in
-    let ids = a.ids c.args.cursor.now.table in
-    let q = query_of c.args.input.now in
-    let held : Held t ids = record {
-      sound = met.sound c.args.cursor.now.table c.args.cursor.now.sound;
-      are = met.are_ids c.args.cursor.now.table;
-    } in
-    let goes = sym c.is_done.ensures ∙ c.if-is_done.false in
-    let span : Open q = open_span c.requires.fits goes in
     let inv = c.matches.invariant in
-    let same_t = ap a.table inv.table in
-    let same_i = ap a.ids inv.table in
-    let d = c.args.direction in
-    let first = row_of ids c.args.cursor.now.row in
-    let row = c.matches.cursor.row in
-    let at = c.matches.at in
-    let whole = begun c.requires.fresh goes in
-    let next = c.next_match.new.cursor.row in
-    let same = c.next_match.ensures.table ∙ inv.table in
     let offset = c.in-Ok-Some.offset in
-    let stops = at_table (λ (u : Table) (i : List ℕ). StopsAtMatch u i d q row at next offset) same_t same_i
-    (rw c.in-Ok-Some.field-0-is at c.in-Ok-Some.ensures.stop) in
-    let there : Standing t (row_of ids next) = held_row held next
-    (subst (λ (i : List ℕ). IsId i next) (ap a.ids same) c.next_match.new.cursor.is_id) in
-    let pattern : c.pattern-pattern.result ≡ slice_index (patterns_of t (row_of ids next)) 0
-    = at_table (λ (u : Table) (i : List ℕ). c.pattern-pattern.result ≡ slice_index (patterns_of u (row_of i next)) 0)
-    (ap a.table same) (ap a.ids same) c.pattern-pattern.ensures in
-    let told : HalfMatch → HalfAnswer = λ h. Ok (Some h) in
+    let held = held_by met.sound met.are_ids c.args.cursor.now.table c.args.cursor.now.sound in
+    let whole = begun c.requires.fresh (sym c.is_done.ensures ∙ c.if-is_done.false) in
+    let r = reached a.table a.ids held inv.table (c.next_match.ensures.table ∙ inv.table)
+    c.next_match.new.cursor.is_id (rw c.in-Ok-Some.field-0-is at c.in-Ok-Some.ensures.stop) in
+    let pattern = first_pattern a.table a.ids r c.pattern-pattern.ensures in
     ap told (c.new.ensures ∙ ap (λ (k : ℕ). record { pattern = k; offset = offset }) pattern)
-    ∙ sym (whole ∙ half_earliest inv.progress there stops.1 stops.0
+    ∙ sym (whole ∙ half_earliest inv.progress r.standing r.met r.stops
     (sym c.get_earliest.ensures ∙ c.if-get_earliest.true))
 
 pub returns-then-offset-last_offset-clause-answer : goal.returns-then-offset-last_offset-clause-answer
 returns-then-offset-last_offset-clause-answer g c =
     let a = g.A.Automaton in
     let met = g.met.A.Automaton in
-    let t = a.table c.args.cursor.now.table in
-    let ids = a.ids c.args.cursor.now.table in
-    let q = query_of c.args.input.now in
-    let held : Held t ids = record {
-      sound = met.sound c.args.cursor.now.table c.args.cursor.now.sound;
-      are = met.are_ids c.args.cursor.now.table;
-    } in
-    let goes = sym c.is_done.ensures ∙ c.if-is_done.false in
-    let span : Open q = open_span c.requires.fits goes in
     let inv = c.matches.invariant in
-    let same_t = ap a.table inv.table in
-    let same_i = ap a.ids inv.table in
-    let d = c.args.direction in
-    let first = row_of ids c.args.cursor.now.row in
-    let row = c.matches.cursor.row in
-    let at = c.matches.at in
-    let whole = begun c.requires.fresh goes in
-    let next = c.next_match.new.cursor.row in
-    let same = c.next_match.ensures.table ∙ inv.table in
     let offset = c.in-Ok-Some.offset in
-    let stops = at_table (λ (u : Table) (i : List ℕ). StopsAtMatch u i d q row at next offset) same_t same_i
-    (rw c.in-Ok-Some.field-0-is at c.in-Ok-Some.ensures.stop) in
-    let there : Standing t (row_of ids next) = held_row held next
-    (subst (λ (i : List ℕ). IsId i next) (ap a.ids same) c.next_match.new.cursor.is_id) in
-    let pattern : c.pattern-pattern.result ≡ slice_index (patterns_of t (row_of ids next)) 0
-    = at_table (λ (u : Table) (i : List ℕ). c.pattern-pattern.result ≡ slice_index (patterns_of u (row_of i next)) 0)
-    (ap a.table same) (ap a.ids same) c.pattern-pattern.ensures in
-    let told : HalfMatch → HalfAnswer = λ h. Ok (Some h) in
+    let held = held_by met.sound met.are_ids c.args.cursor.now.table c.args.cursor.now.sound in
+    let goes = sym c.is_done.ensures ∙ c.if-is_done.false in
+    let whole = begun c.requires.fresh goes in
+    let r = reached a.table a.ids held inv.table (c.next_match.ensures.table ∙ inv.table)
+    c.next_match.new.cursor.is_id (rw c.in-Ok-Some.field-0-is at c.in-Ok-Some.ensures.stop) in
+    let pattern = first_pattern a.table a.ids r c.pattern-pattern.ensures in
     ap told (c.new-then-offset-last_offset.ensures ∙ ap (λ (k : ℕ). record { pattern = k; offset = offset }) pattern)
-    ∙ sym (whole ∙ half_last inv.progress there stops.1 stops.0 span
-    (sym c.get_earliest.ensures ∙ c.if-get_earliest.false)
-    (c.if-offset-last_offset.true ∙ c.last_offset.ensures))
+    ∙ sym (whole ∙ half_last inv.progress r.standing r.met r.stops (open_span c.requires.fits goes)
+    (sym c.get_earliest.ensures ∙ c.if-get_earliest.false) (c.if-offset-last_offset.true ∙ c.last_offset.ensures))
 
 pub matches-preserved : goal.matches-preserved
 matches-preserved g c =
     let a = g.A.Automaton in
     let met = g.met.A.Automaton in
-    let t = a.table c.args.cursor.now.table in
-    let ids = a.ids c.args.cursor.now.table in
     let q = query_of c.args.input.now in
-    let held : Held t ids = record {
-      sound = met.sound c.args.cursor.now.table c.args.cursor.now.sound;
-      are = met.are_ids c.args.cursor.now.table;
-    } in
-    let goes = sym c.is_done.ensures ∙ c.if-is_done.false in
-    let span : Open q = open_span c.requires.fits goes in
+    let d = c.args.direction in
+    let inv = c.matches.invariant in
+    let next = c.next_match.new.cursor.row in
+    let offset = c.in-Ok-Some.offset in
+    let held = held_by met.sound met.are_ids c.args.cursor.now.table c.args.cursor.now.sound in
+    let span = open_span c.requires.fits (sym c.is_done.ensures ∙ c.if-is_done.false) in
     let bytes = bytes_of c.haystack-haystack.result.now q.haystack c.haystack-haystack.ensures
     (λ k. omega (arith, c.type_inv.haystack k)) in
-    let inv = c.matches.invariant in
-    let same_t = ap a.table inv.table in
-    let same_i = ap a.ids inv.table in
-    let d = c.args.direction in
-    let first = row_of ids c.args.cursor.now.row in
-    let row = c.matches.cursor.row in
-    let at = c.matches.at in
-    let next = c.next_match.new.cursor.row in
     let same = c.next_match.ensures.table ∙ inv.table in
-    let offset = c.in-Ok-Some.offset in
-    let stops = at_table (λ (u : Table) (i : List ℕ). StopsAtMatch u i d q row at next offset) same_t same_i
+    let r = reached a.table a.ids held inv.table same c.next_match.new.cursor.is_id
     (rw c.in-Ok-Some.field-0-is at c.in-Ok-Some.ensures.stop) in
-    let there : Standing t (row_of ids next) = held_row held next
-    (subst (λ (i : List ℕ). IsId i next) (ap a.ids same) c.next_match.new.cursor.is_id) in
-    let pattern : c.pattern-pattern.result ≡ slice_index (patterns_of t (row_of ids next)) 0
-    = at_table (λ (u : Table) (i : List ℕ). c.pattern-pattern.result ≡ slice_index (patterns_of u (row_of i next)) 0)
-    (ap a.table same) (ap a.ids same) c.pattern-pattern.ensures in
-    let count = at_table (λ (u : Table) (i : List ℕ). IsReady u d q (row_of i row) at
-    → c.next_match.new.steps + counted_on u d q (row_of i next) (Ok (Some offset))
-    ≤ c.matches.steps + counted u q.earliest (row_of i row) (units_left d q at)) same_t same_i
+    let pattern = first_pattern a.table a.ids r c.pattern-pattern.ensures in
+    let count = at_same a.table a.ids (λ t ids. IsReady t d q (row_of ids c.matches.cursor.row) c.matches.at
+    → c.next_match.new.steps + counted_on t d q (row_of ids next) (Ok (Some offset))
+    ≤ c.matches.steps + counted t q.earliest (row_of ids c.matches.cursor.row) (units_left d q c.matches.at)) inv.table
     (rw c.in-Ok-Some.field-0-is at c.in-Ok-Some.ensures.counted) inv.progress.is_ready in
-    let on = half_on inv.progress there stops.1 stops.0 span bytes
+    let on = half_on inv.progress r.standing r.met r.stops span bytes
     (sym c.get_earliest.ensures ∙ c.if-get_earliest.false)
     (λ e. c.if-offset-last_offset.false (e ∙ sym c.last_offset.ensures)) c.next_match.new.steps count
     (rw c.in-Ok-Some.field-0-is at c.in-Ok-Some.ensures.room) c.skip-at-in-matches.result
-    (skips_at next (ap a.table same) (ap a.ids same) c.next_offset.ensures c.skip-at-in-matches.ensures.skips)
+    (skips_at a.table a.ids next same c.next_offset.ensures c.skip-at-in-matches.ensures.skips)
     c.new-in-matches.result
     (c.new-in-matches.ensures
     ∙ ap₂ (λ (k o : ℕ). record { pattern = k; offset = o }) pattern c.previous_offset.ensures) in

@@ -1,13 +1,12 @@
-use Rattle.std.proofs.Common.{◌≡◌, ◌≤◌, ◌<◌, ℕ, true, false, ap, ap₂, sym, ◌∙◌, subst, arith, length}
+use Rattle.std.proofs.Common.{◌≡◌, ◌<◌, ℕ, false, ap, ap₂, sym, ◌∙◌, subst, arith, length}
 use Rattle.std.proofs.lemmas.Bool.{or_left, or_right}
-use Rattle.rx_spec.specs.HalfSearches.{HalfAnswer}
 use Rattle.rx_spec.specs.Queries.{Query, IsFit, is_anchored}
-use Rattle.rx_spec.specs.Splits.{is_split, narrower, is_narrowest, skip_splits, split_limit}
+use Rattle.rx_spec.specs.Splits.{is_split, is_narrowest, skip_splits, split_limit}
 use Rattle.rx_base.specs.Input.{query_of}
 use Rattle.rx_search.specs.SplitSearches.{unsplit_from}
 use Rattle.rx_search.specs.Walks.{IsInSpan}
-use Rattle.rx_search.proofs.Unsplit.{splits_there, whole_there, whole_told, none_told, searched_again, nothing_found}
-use Rattle.rx_search.proofs.Unsplit.{search_failed, match_found, narrower_fits, limit_falls}
+use Rattle.rx_search.proofs.Unsplit.{whole_there, split_found, whole_told, none_told, searched_again, nothing_found}
+use Rattle.rx_search.proofs.Unsplit.{search_failed, match_found, next_fits, limit_falls}
 use Rattle.rx_search.proofs.splits.skip_splits.Goals as goal
 
 pub splits-init : goal.splits-init
@@ -28,15 +27,8 @@ returns-then-is_anchored g c =
     let d = c.args.direction in
     let inv = c.splits.invariant in
     let now : Query = record q { start = c.splits.span.start; end = c.splits.span.end } in
-    let fits : IsFit now = inv.fits in
-    let span : IsInSpan now c.splits.found.offset = inv.in_span in
-    let low : now.start ≤ c.splits.found.offset = span.low in
-    let high : c.splits.found.offset ≤ now.end = span.high in
-    let split = subst (λ (o : ℕ). is_split q.haystack o ≡ true) c.offset.ensures
-    (splits_there q.haystack c.offset.result c.is_char_boundary.ensures c.splits-test.true
-    (let within = fits.within in omega (arith, c.offset.ensures))) in
-    let anchored : is_anchored q.mode ≡ true
-    = ap is_anchored (sym c.get_anchored.ensures) ∙ sym c.is_anchored.ensures ∙ c.if-is_anchored.true in
+    let split = split_found inv.fits inv.in_span c.offset.ensures c.is_char_boundary.ensures c.splits-test.true in
+    let anchored = ap is_anchored (sym c.get_anchored.ensures) ∙ sym c.is_anchored.ensures ∙ c.if-is_anchored.true in
     λ answers says.
     sym (inv.told answers says
     ∙ none_told answers d now c.splits.found split (or_left (is_anchored q.mode) (is_narrowest d now) anchored))
@@ -47,103 +39,53 @@ returns-then-is_narrowest g c =
     let d = c.args.direction in
     let inv = c.splits.invariant in
     let now : Query = record q { start = c.splits.span.start; end = c.splits.span.end } in
-    let fits : IsFit now = inv.fits in
-    let span : IsInSpan now c.splits.found.offset = inv.in_span in
-    let low : now.start ≤ c.splits.found.offset = span.low in
-    let high : c.splits.found.offset ≤ now.end = span.high in
-    let split = subst (λ (o : ℕ). is_split q.haystack o ≡ true) c.offset.ensures
-    (splits_there q.haystack c.offset.result c.is_char_boundary.ensures c.splits-test.true
-    (let within = fits.within in omega (arith, c.offset.ensures))) in
-    let narrowest : is_narrowest d now ≡ true = sym (c.is_narrowest.ensures q) ∙ c.if-is_narrowest.true in
+    let split = split_found inv.fits inv.in_span c.offset.ensures c.is_char_boundary.ensures c.splits-test.true in
+    let narrowest = sym (c.is_narrowest.ensures q) ∙ c.if-is_narrowest.true in
     λ answers says.
     sym (inv.told answers says
     ∙ none_told answers d now c.splits.found split (or_right (is_anchored q.mode) (is_narrowest d now) narrowest))
 
 pub narrower-span-requires : goal.narrower-span-requires
 narrower-span-requires g c =
-    let q = query_of c.args.input.now in
-    let d = c.args.direction in
-    let inv = c.splits.invariant in
-    let now : Query = record q { start = c.splits.span.start; end = c.splits.span.end } in
-    let fits : IsFit now = inv.fits in
-    let span : IsInSpan now c.splits.found.offset = inv.in_span in
-    let low : now.start ≤ c.splits.found.offset = span.low in
-    let high : c.splits.found.offset ≤ now.end = span.high in
+    let span = c.splits.invariant.in_span in
+    let fits = c.splits.invariant.fits in
+    let low = span.low in
+    let high = span.high in
     let within = fits.within in
     omega (arith, ap length c.haystack-haystack.ensures, c.haystack-haystack.type_inv.1)
 
 pub with_span-requires-clause-within : goal.with_span-requires-clause-within
 with_span-requires-clause-within g c =
     let q = query_of c.args.input.now in
-    let d = c.args.direction in
     let inv = c.splits.invariant in
-    let now : Query = record q { start = c.splits.span.start; end = c.splits.span.end } in
-    let fits : IsFit now = inv.fits in
-    let span : IsInSpan now c.splits.found.offset = inv.in_span in
-    let low : now.start ≤ c.splits.found.offset = span.low in
-    let high : c.splits.found.offset ≤ now.end = span.high in
-    let goes : is_anchored q.mode ≡ false
-    = ap is_anchored (sym c.get_anchored.ensures) ∙ sym c.is_anchored.ensures ∙ c.if-is_anchored.false in
-    let more : is_narrowest d now ≡ false = sym (c.is_narrowest.ensures q) ∙ c.if-is_narrowest.false in
-    let next : Query = record q { start = c.narrower-span.result.start; end = c.narrower-span.result.end } in
-    let next_is : next ≡ narrower d now = c.narrower-span.ensures q in
-    let next_fits : IsFit next = subst IsFit (sym next_is) (narrower_fits d fits (omega arith) more) in
-    let within = next_fits.within in omega (arith, ap length c.haystack-haystack.ensures)
+    let more = sym (c.is_narrowest.ensures q) ∙ c.if-is_narrowest.false in
+    let fits = next_fits c.args.direction inv.fits inv.in_span (c.narrower-span.ensures q) more in
+    let within = fits.within in
+    omega (arith, ap length c.haystack-haystack.ensures)
 
 pub with_span-requires-clause-ordered : goal.with_span-requires-clause-ordered
 with_span-requires-clause-ordered g c =
     let q = query_of c.args.input.now in
-    let d = c.args.direction in
     let inv = c.splits.invariant in
-    let now : Query = record q { start = c.splits.span.start; end = c.splits.span.end } in
-    let fits : IsFit now = inv.fits in
-    let span : IsInSpan now c.splits.found.offset = inv.in_span in
-    let low : now.start ≤ c.splits.found.offset = span.low in
-    let high : c.splits.found.offset ≤ now.end = span.high in
-    let goes : is_anchored q.mode ≡ false
-    = ap is_anchored (sym c.get_anchored.ensures) ∙ sym c.is_anchored.ensures ∙ c.if-is_anchored.false in
-    let more : is_narrowest d now ≡ false = sym (c.is_narrowest.ensures q) ∙ c.if-is_narrowest.false in
-    let next : Query = record q { start = c.narrower-span.result.start; end = c.narrower-span.result.end } in
-    let next_is : next ≡ narrower d now = c.narrower-span.ensures q in
-    let next_fits : IsFit next = subst IsFit (sym next_is) (narrower_fits d fits (omega arith) more) in
-    next_fits.ordered
+    let more = sym (c.is_narrowest.ensures q) ∙ c.if-is_narrowest.false in
+    (next_fits c.args.direction inv.fits inv.in_span (c.narrower-span.ensures q) more).ordered
 
 pub search-requires : goal.search-requires
 search-requires g c =
     let q = query_of c.args.input.now in
-    let d = c.args.direction in
     let inv = c.splits.invariant in
-    let now : Query = record q { start = c.splits.span.start; end = c.splits.span.end } in
-    let fits : IsFit now = inv.fits in
-    let span : IsInSpan now c.splits.found.offset = inv.in_span in
-    let low : now.start ≤ c.splits.found.offset = span.low in
-    let high : c.splits.found.offset ≤ now.end = span.high in
-    let goes : is_anchored q.mode ≡ false
-    = ap is_anchored (sym c.get_anchored.ensures) ∙ sym c.is_anchored.ensures ∙ c.if-is_anchored.false in
-    let more : is_narrowest d now ≡ false = sym (c.is_narrowest.ensures q) ∙ c.if-is_narrowest.false in
-    let next : Query = record q { start = c.narrower-span.result.start; end = c.narrower-span.result.end } in
-    let next_is : next ≡ narrower d now = c.narrower-span.ensures q in
-    let next_fits : IsFit next = subst IsFit (sym next_is) (narrower_fits d fits (omega arith) more) in
-    let called : IsFit (query_of c.with_span.result) = subst IsFit (sym c.with_span.ensures) next_fits in
-    c.requires.callable _ called
+    let more = sym (c.is_narrowest.ensures q) ∙ c.if-is_narrowest.false in
+    let fits = next_fits c.args.direction inv.fits inv.in_span (c.narrower-span.ensures q) more in
+    c.requires.callable _ (subst IsFit (sym c.with_span.ensures) fits)
 
 pub splits-smaller : goal.splits-smaller
 splits-smaller g c =
     let q = query_of c.args.input.now in
     let d = c.args.direction in
-    let inv = c.splits.invariant in
     let now : Query = record q { start = c.splits.span.start; end = c.splits.span.end } in
-    let fits : IsFit now = inv.fits in
-    let span : IsInSpan now c.splits.found.offset = inv.in_span in
-    let low : now.start ≤ c.splits.found.offset = span.low in
-    let high : c.splits.found.offset ≤ now.end = span.high in
-    let goes : is_anchored q.mode ≡ false
-    = ap is_anchored (sym c.get_anchored.ensures) ∙ sym c.is_anchored.ensures ∙ c.if-is_anchored.false in
-    let more : is_narrowest d now ≡ false = sym (c.is_narrowest.ensures q) ∙ c.if-is_narrowest.false in
-    let next : Query = record q { start = c.narrower-span.result.start; end = c.narrower-span.result.end } in
-    let next_is : next ≡ narrower d now = c.narrower-span.ensures q in
-    let next_fits : IsFit next = subst IsFit (sym next_is) (narrower_fits d fits (omega arith) more) in
-    subst (λ (x : Query). split_limit x < split_limit now) (sym next_is) (limit_falls d fits more)
+    let more = sym (c.is_narrowest.ensures q) ∙ c.if-is_narrowest.false in
+    subst (λ (x : Query). split_limit x < split_limit now) (sym (c.narrower-span.ensures q))
+    (limit_falls d c.splits.invariant.fits more)
 
 pub splits-preserved : goal.splits-preserved
 splits-preserved g c =
@@ -151,31 +93,22 @@ splits-preserved g c =
     let d = c.args.direction in
     let inv = c.splits.invariant in
     let now : Query = record q { start = c.splits.span.start; end = c.splits.span.end } in
-    let fits : IsFit now = inv.fits in
-    let span : IsInSpan now c.splits.found.offset = inv.in_span in
-    let low : now.start ≤ c.splits.found.offset = span.low in
-    let high : c.splits.found.offset ≤ now.end = span.high in
-    let split = subst (λ (o : ℕ). is_split q.haystack o ≡ true) c.offset.ensures
-    (splits_there q.haystack c.offset.result c.is_char_boundary.ensures c.splits-test.true
-    (let within = fits.within in omega (arith, c.offset.ensures))) in
-    let goes : is_anchored q.mode ≡ false
-    = ap is_anchored (sym c.get_anchored.ensures) ∙ sym c.is_anchored.ensures ∙ c.if-is_anchored.false in
-    let more : is_narrowest d now ≡ false = sym (c.is_narrowest.ensures q) ∙ c.if-is_narrowest.false in
-    let next : Query = record q { start = c.narrower-span.result.start; end = c.narrower-span.result.end } in
-    let next_is : next ≡ narrower d now = c.narrower-span.ensures q in
-    let next_fits : IsFit next = subst IsFit (sym next_is) (narrower_fits d fits (omega arith) more) in
-    let called : IsFit (query_of c.with_span.result) = subst IsFit (sym c.with_span.ensures) next_fits in
-    let again = λ (answers : Query → HalfAnswer) (says : _).
-    inv.told answers says ∙ searched_again answers d now c.splits.found split goes more
-    ∙ ap (λ (x : Query). skip_splits answers d (split_limit x) x) (sym next_is) in
+    let split = split_found inv.fits inv.in_span c.offset.ensures c.is_char_boundary.ensures c.splits-test.true in
+    let goes = ap is_anchored (sym c.get_anchored.ensures) ∙ sym c.is_anchored.ensures ∙ c.if-is_anchored.false in
+    let more = sym (c.is_narrowest.ensures q) ∙ c.if-is_narrowest.false in
+    let next = c.narrower-span.ensures q in
+    let fits = next_fits d inv.fits inv.in_span next more in
+    let called = subst IsFit (sym c.with_span.ensures) fits in
     let told = rw c.in-Ok-Some.field-0-is at c.in-Ok-Some.ensures in
     record {
-      fits = next_fits;
+      fits = fits;
       in_span = subst (λ (x : Query). IsInSpan x c.in-Ok-Some.next.offset) c.with_span.ensures
           (c.requires.within _ c.in-Ok-Some.next called told);
       told = λ answers says.
-          again answers says
-          ∙ match_found answers d next_fits c.in-Ok-Some.next
+          inv.told answers says
+          ∙ searched_again answers d now c.splits.found split goes more
+          ∙ ap (λ (x : Query). skip_splits answers d (split_limit x) x) (sym next)
+          ∙ match_found answers d fits c.in-Ok-Some.next
           (sym (says _ _ called told ∙ ap answers c.with_span.ensures));
     }
 
@@ -185,27 +118,18 @@ returns-in-Ok-None g c =
     let d = c.args.direction in
     let inv = c.splits.invariant in
     let now : Query = record q { start = c.splits.span.start; end = c.splits.span.end } in
-    let fits : IsFit now = inv.fits in
-    let span : IsInSpan now c.splits.found.offset = inv.in_span in
-    let low : now.start ≤ c.splits.found.offset = span.low in
-    let high : c.splits.found.offset ≤ now.end = span.high in
-    let split = subst (λ (o : ℕ). is_split q.haystack o ≡ true) c.offset.ensures
-    (splits_there q.haystack c.offset.result c.is_char_boundary.ensures c.splits-test.true
-    (let within = fits.within in omega (arith, c.offset.ensures))) in
-    let goes : is_anchored q.mode ≡ false
-    = ap is_anchored (sym c.get_anchored.ensures) ∙ sym c.is_anchored.ensures ∙ c.if-is_anchored.false in
-    let more : is_narrowest d now ≡ false = sym (c.is_narrowest.ensures q) ∙ c.if-is_narrowest.false in
-    let next : Query = record q { start = c.narrower-span.result.start; end = c.narrower-span.result.end } in
-    let next_is : next ≡ narrower d now = c.narrower-span.ensures q in
-    let next_fits : IsFit next = subst IsFit (sym next_is) (narrower_fits d fits (omega arith) more) in
-    let called : IsFit (query_of c.with_span.result) = subst IsFit (sym c.with_span.ensures) next_fits in
-    let again = λ (answers : Query → HalfAnswer) (says : _).
-    inv.told answers says ∙ searched_again answers d now c.splits.found split goes more
-    ∙ ap (λ (x : Query). skip_splits answers d (split_limit x) x) (sym next_is) in
+    let split = split_found inv.fits inv.in_span c.offset.ensures c.is_char_boundary.ensures c.splits-test.true in
+    let goes = ap is_anchored (sym c.get_anchored.ensures) ∙ sym c.is_anchored.ensures ∙ c.if-is_anchored.false in
+    let more = sym (c.is_narrowest.ensures q) ∙ c.if-is_narrowest.false in
+    let next = c.narrower-span.ensures q in
+    let fits = next_fits d inv.fits inv.in_span next more in
+    let called = subst IsFit (sym c.with_span.ensures) fits in
     let told = rw c.in-Ok-None.field-0-is at c.in-Ok-None.ensures in
     λ answers says.
-    sym (again answers says ∙ nothing_found answers d next_fits
-    (sym (says _ _ called told ∙ ap answers c.with_span.ensures)))
+    sym (inv.told answers says
+    ∙ searched_again answers d now c.splits.found split goes more
+    ∙ ap (λ (x : Query). skip_splits answers d (split_limit x) x) (sym next)
+    ∙ nothing_found answers d fits (sym (says _ _ called told ∙ ap answers c.with_span.ensures)))
 
 pub returns-in-Err : goal.returns-in-Err
 returns-in-Err g c =
@@ -213,38 +137,25 @@ returns-in-Err g c =
     let d = c.args.direction in
     let inv = c.splits.invariant in
     let now : Query = record q { start = c.splits.span.start; end = c.splits.span.end } in
-    let fits : IsFit now = inv.fits in
-    let span : IsInSpan now c.splits.found.offset = inv.in_span in
-    let low : now.start ≤ c.splits.found.offset = span.low in
-    let high : c.splits.found.offset ≤ now.end = span.high in
-    let split = subst (λ (o : ℕ). is_split q.haystack o ≡ true) c.offset.ensures
-    (splits_there q.haystack c.offset.result c.is_char_boundary.ensures c.splits-test.true
-    (let within = fits.within in omega (arith, c.offset.ensures))) in
-    let goes : is_anchored q.mode ≡ false
-    = ap is_anchored (sym c.get_anchored.ensures) ∙ sym c.is_anchored.ensures ∙ c.if-is_anchored.false in
-    let more : is_narrowest d now ≡ false = sym (c.is_narrowest.ensures q) ∙ c.if-is_narrowest.false in
-    let next : Query = record q { start = c.narrower-span.result.start; end = c.narrower-span.result.end } in
-    let next_is : next ≡ narrower d now = c.narrower-span.ensures q in
-    let next_fits : IsFit next = subst IsFit (sym next_is) (narrower_fits d fits (omega arith) more) in
-    let called : IsFit (query_of c.with_span.result) = subst IsFit (sym c.with_span.ensures) next_fits in
-    let again = λ (answers : Query → HalfAnswer) (says : _).
-    inv.told answers says ∙ searched_again answers d now c.splits.found split goes more
-    ∙ ap (λ (x : Query). skip_splits answers d (split_limit x) x) (sym next_is) in
+    let split = split_found inv.fits inv.in_span c.offset.ensures c.is_char_boundary.ensures c.splits-test.true in
+    let goes = ap is_anchored (sym c.get_anchored.ensures) ∙ sym c.is_anchored.ensures ∙ c.if-is_anchored.false in
+    let more = sym (c.is_narrowest.ensures q) ∙ c.if-is_narrowest.false in
+    let next = c.narrower-span.ensures q in
+    let fits = next_fits d inv.fits inv.in_span next more in
+    let called = subst IsFit (sym c.with_span.ensures) fits in
     λ answers says.
-    sym (again answers says ∙ search_failed answers d next_fits c.in-Err.error
+    sym (inv.told answers says
+    ∙ searched_again answers d now c.splits.found split goes more
+    ∙ ap (λ (x : Query). skip_splits answers d (split_limit x) x) (sym next)
+    ∙ search_failed answers d fits c.in-Err.error
     (sym (says _ _ called c.in-Err.ensures ∙ ap answers c.with_span.ensures)))
 
 pub returns : goal.returns
 returns g c =
     let q = query_of c.args.input.now in
-    let d = c.args.direction in
-    let inv = c.splits.invariant in
     let now : Query = record q { start = c.splits.span.start; end = c.splits.span.end } in
-    let fits : IsFit now = inv.fits in
-    let span : IsInSpan now c.splits.found.offset = inv.in_span in
-    let low : now.start ≤ c.splits.found.offset = span.low in
-    let high : c.splits.found.offset ≤ now.end = span.high in
     λ answers says.
-    sym (inv.told answers says ∙ whole_told answers d now c.splits.found
+    sym (c.splits.invariant.told answers says
+    ∙ whole_told answers c.args.direction now c.splits.found
     (subst (λ (o : ℕ). is_split q.haystack o ≡ false) c.offset.ensures
     (whole_there q.haystack c.offset.result c.is_char_boundary.ensures c.splits-test.false)))

@@ -11,20 +11,13 @@ use Rattle.rx_search.specs.Needles.{byte_ahead}
 use Rattle.rx_search.specs.Starts.{IsId}
 use Rattle.rx_search.specs.Walks.{IsInSpan, last_offset, unit_ahead, bytes_left}
 use Rattle.rx_search.proofs.Needles.{stays}
-use Rattle.rx_search.proofs.Walks.{Held, turned, stepped, known, Step, LastStep, Place, next_place, within_haystack}
-use Rattle.rx_search.proofs.Walks.{Turn, bytes_of, ordinary, unaccelerated, quiet, eoi_no_quit, held_row, skips_at}
+use Rattle.rx_search.proofs.Walks.{stepped, Step, LastStep, Place, next_place, within_haystack}
+use Rattle.rx_search.proofs.Walks.{Turn, bytes_of, ordinary, unaccelerated, quiet, eoi_no_quit}
+use Rattle.rx_search.proofs.Cursors.{held_by, held_row, at_same, known, skips_at, turned}
 use Rattle.rx_search.proofs.Progress.{Progress, begins, progress_on, met_stop, met_count, end_count, quit_stop}
 use Rattle.rx_search.proofs.Progress.{end_stop, last_met_stop}
 use Rattle.rx_search.proofs.Progress.{last_met_count, last_end_count, last_quit_stop, last_end_stop, quits_at}
 use Rattle.rx_search.proofs.walk.next_match.Goals as goal
-
--- a turn of a cursor, which keeps the table that it was made for
-moved : {A : Type 0} (table : A → Table) (ids : A → List ℕ) {first here there : A}
-    → Held (table first) (ids first) → (id next : ℕ) {unit : ℕ} → here ≡ first → there ≡ first
-    → IsId (ids there) next → row_of (ids here) next ≡ (table here).machine.next (row_of (ids here) id) unit
-    → Turn (table first) (row_of (ids first) id) unit (row_of (ids first) next)
-moved table ids held id next {unit} same same_next is leads =
-    turned held id next {unit = unit} (ap table same) (ap ids same) (ap ids same_next) is leads
 
 -- the step past the span, as it is known of the unit there
 last_stepped : {t : Table} {direction : Direction} {q : Query} {row next offset unit last : ℕ} {hay : List ℕ}
@@ -62,19 +55,16 @@ bytes-preserved-then-not-is_special g c =
     let ids = a.ids c.args.cursor.now.table in
     let q = query_of c.args.input.now in
     let inv = c.bytes.invariant in
-    let held : Held t ids = record {
-      sound = met.sound c.args.cursor.now.table c.args.cursor.now.sound;
-      are = met.are_ids c.args.cursor.now.table;
-    } in
+    let held = held_by met.sound met.are_ids c.args.cursor.now.table c.args.cursor.now.sound in
     let next = c.advance.new.self.row in
     let same = c.advance.ensures.table ∙ inv.table in
-    let turn = moved a.table a.ids held c.bytes.cursor.row next {unit = c.byte_ahead-byte.result}
+    let turn = turned a.table a.ids held c.bytes.cursor.row next {unit = c.byte_ahead-byte.result}
     inv.table same c.advance.new.self.is_id c.advance.ensures.row in
     let place : Place q c.bytes.at = record { fits = c.requires.within; in_span = inv.progress.in_span } in
     let s : Step t c.args.direction q (row_of ids c.bytes.cursor.row) c.bytes.at (row_of ids next) =
     stepped place c.last_offset-last.ensures c.bytes-test.true c.haystack-haystack.ensures c.byte_ahead-byte.ensures
     turn in
-    let none = known (λ (u : Table) (r : ℕ). u.is_special r) next (ap a.table same) (ap a.ids same)
+    let none = known a.table a.ids (λ (u : Table) (r : ℕ). u.is_special r) next same
     c.is_special.ensures c.if-not-is_special.true in
     let bytes = bytes_of c.haystack-haystack.result.now q.haystack c.haystack-haystack.ensures
     (λ k. omega (arith, c.type_inv.haystack k)) in
@@ -100,19 +90,16 @@ returns-then-is_match g c =
     let ids = a.ids c.args.cursor.now.table in
     let q = query_of c.args.input.now in
     let inv = c.bytes.invariant in
-    let held : Held t ids = record {
-      sound = met.sound c.args.cursor.now.table c.args.cursor.now.sound;
-      are = met.are_ids c.args.cursor.now.table;
-    } in
+    let held = held_by met.sound met.are_ids c.args.cursor.now.table c.args.cursor.now.sound in
     let next = c.advance.new.self.row in
     let same = c.advance.ensures.table ∙ inv.table in
-    let turn = moved a.table a.ids held c.bytes.cursor.row next {unit = c.byte_ahead-byte.result}
+    let turn = turned a.table a.ids held c.bytes.cursor.row next {unit = c.byte_ahead-byte.result}
     inv.table same c.advance.new.self.is_id c.advance.ensures.row in
     let place : Place q c.bytes.at = record { fits = c.requires.within; in_span = inv.progress.in_span } in
     let s : Step t c.args.direction q (row_of ids c.bytes.cursor.row) c.bytes.at (row_of ids next) =
     stepped place c.last_offset-last.ensures c.bytes-test.true c.haystack-haystack.ensures c.byte_ahead-byte.ensures
     turn in
-    let is = known is_match next (ap a.table same) (ap a.ids same) c.is_match.ensures c.if-is_match.true in
+    let is = known a.table a.ids is_match next same c.is_match.ensures c.if-is_match.true in
     record {
       table = same;
       stop = met_stop inv.progress s is;
@@ -128,19 +115,16 @@ returns-then-is_quit g c =
     let ids = a.ids c.args.cursor.now.table in
     let q = query_of c.args.input.now in
     let inv = c.bytes.invariant in
-    let held : Held t ids = record {
-      sound = met.sound c.args.cursor.now.table c.args.cursor.now.sound;
-      are = met.are_ids c.args.cursor.now.table;
-    } in
+    let held = held_by met.sound met.are_ids c.args.cursor.now.table c.args.cursor.now.sound in
     let next = c.advance.new.self.row in
     let same = c.advance.ensures.table ∙ inv.table in
-    let turn = moved a.table a.ids held c.bytes.cursor.row next {unit = c.byte_ahead-byte.result}
+    let turn = turned a.table a.ids held c.bytes.cursor.row next {unit = c.byte_ahead-byte.result}
     inv.table same c.advance.new.self.is_id c.advance.ensures.row in
     let place : Place q c.bytes.at = record { fits = c.requires.within; in_span = inv.progress.in_span } in
     let s : Step t c.args.direction q (row_of ids c.bytes.cursor.row) c.bytes.at (row_of ids next) =
     stepped place c.last_offset-last.ensures c.bytes-test.true c.haystack-haystack.ensures c.byte_ahead-byte.ensures
     turn in
-    let is = known is_quit next (ap a.table same) (ap a.ids same) c.is_quit.ensures c.if-is_quit.true in
+    let is = known a.table a.ids is_quit next same c.is_quit.ensures c.if-is_quit.true in
     record {
       table = same;
       stop = quits_at c.quit.ensures
@@ -159,21 +143,18 @@ returns-then-is_dead g c =
     let ids = a.ids c.args.cursor.now.table in
     let q = query_of c.args.input.now in
     let inv = c.bytes.invariant in
-    let held : Held t ids = record {
-      sound = met.sound c.args.cursor.now.table c.args.cursor.now.sound;
-      are = met.are_ids c.args.cursor.now.table;
-    } in
+    let held = held_by met.sound met.are_ids c.args.cursor.now.table c.args.cursor.now.sound in
     let next = c.advance.new.self.row in
     let same = c.advance.ensures.table ∙ inv.table in
-    let turn = moved a.table a.ids held c.bytes.cursor.row next {unit = c.byte_ahead-byte.result}
+    let turn = turned a.table a.ids held c.bytes.cursor.row next {unit = c.byte_ahead-byte.result}
     inv.table same c.advance.new.self.is_id c.advance.ensures.row in
     let place : Place q c.bytes.at = record { fits = c.requires.within; in_span = inv.progress.in_span } in
     let s : Step t c.args.direction q (row_of ids c.bytes.cursor.row) c.bytes.at (row_of ids next) =
     stepped place c.last_offset-last.ensures c.bytes-test.true c.haystack-haystack.ensures c.byte_ahead-byte.ensures
     turn in
-    let no_match = known is_match next (ap a.table same) (ap a.ids same) c.is_match.ensures c.if-is_match.false in
-    let no_quit = known is_quit next (ap a.table same) (ap a.ids same) c.is_quit.ensures c.if-is_quit.false in
-    let dead = known (λ (u : Table) (r : ℕ). r == 0) next (ap a.table same) (ap a.ids same)
+    let no_match = known a.table a.ids is_match next same c.is_match.ensures c.if-is_match.false in
+    let no_quit = known a.table a.ids is_quit next same c.is_quit.ensures c.if-is_quit.false in
+    let dead = known a.table a.ids (λ (u : Table) (r : ℕ). r == 0) next same
     c.is_dead.ensures c.if-is_dead.true in
     record {
       table = same;
@@ -190,26 +171,22 @@ bytes-preserved g c =
     let ids = a.ids c.args.cursor.now.table in
     let q = query_of c.args.input.now in
     let inv = c.bytes.invariant in
-    let held : Held t ids = record {
-      sound = met.sound c.args.cursor.now.table c.args.cursor.now.sound;
-      are = met.are_ids c.args.cursor.now.table;
-    } in
+    let held = held_by met.sound met.are_ids c.args.cursor.now.table c.args.cursor.now.sound in
     let next = c.advance.new.self.row in
     let same = c.advance.ensures.table ∙ inv.table in
-    let turn = moved a.table a.ids held c.bytes.cursor.row next {unit = c.byte_ahead-byte.result}
+    let turn = turned a.table a.ids held c.bytes.cursor.row next {unit = c.byte_ahead-byte.result}
     inv.table same c.advance.new.self.is_id c.advance.ensures.row in
     let place : Place q c.bytes.at = record { fits = c.requires.within; in_span = inv.progress.in_span } in
     let s : Step t c.args.direction q (row_of ids c.bytes.cursor.row) c.bytes.at (row_of ids next) =
     stepped place c.last_offset-last.ensures c.bytes-test.true c.haystack-haystack.ensures c.byte_ahead-byte.ensures
     turn in
-    let no_match = known is_match next (ap a.table same) (ap a.ids same) c.is_match.ensures c.if-is_match.false in
-    let no_quit = known is_quit next (ap a.table same) (ap a.ids same) c.is_quit.ensures c.if-is_quit.false in
-    let not_dead = known (λ (u : Table) (r : ℕ). r == 0) next (ap a.table same) (ap a.ids same)
+    let no_match = known a.table a.ids is_match next same c.is_match.ensures c.if-is_match.false in
+    let no_quit = known a.table a.ids is_quit next same c.is_quit.ensures c.if-is_quit.false in
+    let not_dead = known a.table a.ids (λ (u : Table) (r : ℕ). r == 0) next same
     c.is_dead.ensures c.if-is_dead.false in
     let bytes = bytes_of c.haystack-haystack.result.now q.haystack c.haystack-haystack.ensures
     (λ k. omega (arith, c.type_inv.haystack k)) in
-    let from = next_offset c.args.direction c.bytes.at in
-    let skips = skips_at next (ap a.table same) (ap a.ids same) c.next_offset.ensures c.skip-at.ensures.skips in
+    let skips = skips_at a.table a.ids next same c.next_offset.ensures c.skip-at.ensures.skips in
     let on = progress_on inv.progress s (quiet turn.standing no_match no_quit not_dead) bytes c.skip-at.result skips in
     record {
       table = same;
@@ -227,18 +204,15 @@ returns-then-is_match-2 g c =
     let ids = a.ids c.args.cursor.now.table in
     let q = query_of c.args.input.now in
     let inv = c.bytes.invariant in
-    let held : Held t ids = record {
-      sound = met.sound c.args.cursor.now.table c.args.cursor.now.sound;
-      are = met.are_ids c.args.cursor.now.table;
-    } in
+    let held = held_by met.sound met.are_ids c.args.cursor.now.table c.args.cursor.now.sound in
     let next = c.advance-2.new.self.row in
     let same = c.advance-2.ensures.table ∙ inv.table in
-    let turn = moved a.table a.ids held c.bytes.cursor.row next {unit = unit_number c.unit_ahead-unit.result}
+    let turn = turned a.table a.ids held c.bytes.cursor.row next {unit = unit_number c.unit_ahead-unit.result}
     inv.table same c.advance-2.new.self.is_id c.advance-2.ensures.row in
     let s = last_stepped inv.progress.in_span c.requires.within c.last_offset-last.ensures
     c.haystack-haystack.ensures c.unit_ahead-unit.ensures turn in
     let over = c.bytes-test.false ∙ c.last_offset-last.ensures in
-    let is = known is_match next (ap a.table same) (ap a.ids same) c.is_match-2.ensures c.if-is_match-2.true in
+    let is = known a.table a.ids is_match next same c.is_match-2.ensures c.if-is_match-2.true in
     record {
       table = same;
       stop = last_met_stop inv.progress over s c.last_offset-last.ensures is;
@@ -254,22 +228,19 @@ returns-in-Eoi g c =
     let met = g.met.A.Automaton in
     let t = a.table c.args.cursor.now.table in
     let ids = a.ids c.args.cursor.now.table in
-    let q = query_of c.args.input.now in
     let inv = c.bytes.invariant in
-    let held : Held t ids = record {
-      sound = met.sound c.args.cursor.now.table c.args.cursor.now.sound;
-      are = met.are_ids c.args.cursor.now.table;
-    } in
+    let held = held_by met.sound met.are_ids c.args.cursor.now.table c.args.cursor.now.sound in
     let next = c.advance-2.new.self.row in
     let same = c.advance-2.ensures.table ∙ inv.table in
-    let turn = moved a.table a.ids held c.bytes.cursor.row next {unit = unit_number c.unit_ahead-unit.result}
+    let turn = turned a.table a.ids held c.bytes.cursor.row next {unit = unit_number c.unit_ahead-unit.result}
     inv.table same c.advance-2.new.self.is_id c.advance-2.ensures.row in
     let s = last_stepped inv.progress.in_span c.requires.within c.last_offset-last.ensures
     c.haystack-haystack.ensures c.unit_ahead-unit.ensures turn in
     let over = c.bytes-test.false ∙ c.last_offset-last.ensures in
-    let no_match = known is_match next (ap a.table same) (ap a.ids same) c.is_match-2.ensures c.if-is_match-2.false in
+    let no_match = known a.table a.ids is_match next same c.is_match-2.ensures c.if-is_match-2.false in
     let row = c.bytes.cursor.row in
-    let standing = held_row held row (subst (λ (i : List ℕ). IsId i row) (ap a.ids inv.table) c.bytes.cursor.is_id) in
+    let standing = held_row held row
+    (at_same a.table a.ids (λ t ids. IsId ids row) inv.table c.bytes.cursor.is_id) in
     let no_quit = eoi_no_quit standing turn (ap unit_number c.in-Eoi.is) in
     record {
       table = same;
@@ -284,20 +255,16 @@ returns-then-is_quit-2 g c =
     let met = g.met.A.Automaton in
     let t = a.table c.args.cursor.now.table in
     let ids = a.ids c.args.cursor.now.table in
-    let q = query_of c.args.input.now in
     let inv = c.bytes.invariant in
-    let held : Held t ids = record {
-      sound = met.sound c.args.cursor.now.table c.args.cursor.now.sound;
-      are = met.are_ids c.args.cursor.now.table;
-    } in
+    let held = held_by met.sound met.are_ids c.args.cursor.now.table c.args.cursor.now.sound in
     let next = c.advance-2.new.self.row in
     let same = c.advance-2.ensures.table ∙ inv.table in
-    let turn = moved a.table a.ids held c.bytes.cursor.row next {unit = unit_number c.unit_ahead-unit.result}
+    let turn = turned a.table a.ids held c.bytes.cursor.row next {unit = unit_number c.unit_ahead-unit.result}
     inv.table same c.advance-2.new.self.is_id c.advance-2.ensures.row in
     let s = last_stepped inv.progress.in_span c.requires.within c.last_offset-last.ensures
     c.haystack-haystack.ensures c.unit_ahead-unit.ensures turn in
     let over = c.bytes-test.false ∙ c.last_offset-last.ensures in
-    let is = known is_quit next (ap a.table same) (ap a.ids same) c.is_quit-2.ensures c.if-is_quit-2.true in
+    let is = known a.table a.ids is_quit next same c.is_quit-2.ensures c.if-is_quit-2.true in
     record {
       table = same;
       stop = quits_at c.quit-then-is_quit-2.ensures (sym (ap unit_number c.in-Byte.is))
@@ -313,21 +280,17 @@ returns g c =
     let met = g.met.A.Automaton in
     let t = a.table c.args.cursor.now.table in
     let ids = a.ids c.args.cursor.now.table in
-    let q = query_of c.args.input.now in
     let inv = c.bytes.invariant in
-    let held : Held t ids = record {
-      sound = met.sound c.args.cursor.now.table c.args.cursor.now.sound;
-      are = met.are_ids c.args.cursor.now.table;
-    } in
+    let held = held_by met.sound met.are_ids c.args.cursor.now.table c.args.cursor.now.sound in
     let next = c.advance-2.new.self.row in
     let same = c.advance-2.ensures.table ∙ inv.table in
-    let turn = moved a.table a.ids held c.bytes.cursor.row next {unit = unit_number c.unit_ahead-unit.result}
+    let turn = turned a.table a.ids held c.bytes.cursor.row next {unit = unit_number c.unit_ahead-unit.result}
     inv.table same c.advance-2.new.self.is_id c.advance-2.ensures.row in
     let s = last_stepped inv.progress.in_span c.requires.within c.last_offset-last.ensures
     c.haystack-haystack.ensures c.unit_ahead-unit.ensures turn in
     let over = c.bytes-test.false ∙ c.last_offset-last.ensures in
-    let no_match = known is_match next (ap a.table same) (ap a.ids same) c.is_match-2.ensures c.if-is_match-2.false in
-    let no_quit = known is_quit next (ap a.table same) (ap a.ids same) c.is_quit-2.ensures c.if-is_quit-2.false in
+    let no_match = known a.table a.ids is_match next same c.is_match-2.ensures c.if-is_match-2.false in
+    let no_quit = known a.table a.ids is_quit next same c.is_quit-2.ensures c.if-is_quit-2.false in
     record {
       table = same;
       stop = last_end_stop inv.progress over s no_match no_quit;

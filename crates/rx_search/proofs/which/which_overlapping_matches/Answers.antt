@@ -1,11 +1,11 @@
-use Rattle.std.proofs.Common.{◌≡◌, ℕ, Bool, true, false, List, Some, Ok, Err, refl, ap, sym, ◌∙◌, subst, arith, length}
+use Rattle.std.proofs.Common.{◌≡◌, ℕ, Bool, true, false, List, Some, Ok, refl, ap, sym, ◌∙◌, subst, arith, length}
 use Rattle.std.specs.Prelude.{slice_set}
 use Rattle.std.proofs.lemmas.List.{length-set}
 use Rattle.rx_spec.specs.declared.Direction.{Direction}
 use Rattle.rx_base.specs.Input.{query_of}
 use Rattle.rx_search.specs.Collected.{is_full}
 use Rattle.rx_search.specs.SplitSearches.{remaining_unsplit}
-use Rattle.rx_search.proofs.OverlapSplits.{IsCall}
+use Rattle.rx_search.proofs.OverlapSplits.{called}
 use Rattle.rx_search.proofs.Collecting.{collect, collect_error, collect_none, collect_full, collect_first}
 use Rattle.rx_search.proofs.Collecting.{collect_on_next}
 use Rattle.rx_search.proofs.Collecting.{fewer_items, full_is, open_is}
@@ -13,38 +13,24 @@ use Rattle.rx_search.proofs.which.which_overlapping_matches.Goals as goal
 
 pub returns-in-Err : goal.returns-in-Err
 returns-in-Err g c =
-    let t = g.A.Automaton.table c.args.dfa.now in
-    let ids = g.A.Automaton.ids c.args.dfa.now in
     let q = query_of c.args.input.now in
     let inv = c.matches.invariant in
-    let state = c.find_overlapping_unsplit.new.state in
-    let before = remaining_unsplit t ids Direction.Forward q c.matches.state in
-    let after = remaining_unsplit t ids Direction.Forward q state in
-    let call : IsCall before (Err c.in-Err.error) state.told after = record { is = c.in-Err.ensures.call } in
+    let call = called c.in-Err.ensures.call in
     sym (collect_error q.earliest c.matches.patset call c.in-Err.error refl) ∙ inv.same
 
 pub returns-in-None : goal.returns-in-None
 returns-in-None g c =
-    let t = g.A.Automaton.table c.args.dfa.now in
-    let ids = g.A.Automaton.ids c.args.dfa.now in
     let q = query_of c.args.input.now in
     let inv = c.matches.invariant in
-    let state = c.find_overlapping_unsplit.new.state in
-    let before = remaining_unsplit t ids Direction.Forward q c.matches.state in
-    let after = remaining_unsplit t ids Direction.Forward q state in
-    let call : IsCall before (Ok c.in-Ok.field-0) state.told after = record { is = c.in-Ok.ensures.call } in
+    let call = called c.in-Ok.ensures.call in
     sym (collect_none q.earliest c.matches.patset call refl (sym c.get_match.ensures ∙ c.in-None.is)) ∙ inv.same
 
 pub returns-then-is_full : goal.returns-then-is_full
 returns-then-is_full g c =
-    let t = g.A.Automaton.table c.args.dfa.now in
-    let ids = g.A.Automaton.ids c.args.dfa.now in
     let q = query_of c.args.input.now in
     let inv = c.matches.invariant in
     let state = c.find_overlapping_unsplit.new.state in
-    let before = remaining_unsplit t ids Direction.Forward q c.matches.state in
-    let after = remaining_unsplit t ids Direction.Forward q state in
-    let call : IsCall before (Ok c.in-Ok.field-0) state.told after = record { is = c.in-Ok.ensures.call } in
+    let call = called c.in-Ok.ensures.call in
     let told : state.told ≡ Some c.in-Some.found = sym c.get_match.ensures ∙ c.in-Some.is in
     let more = slice_set c.matches.patset c.in-Some.found.pattern true in
     let inserted : c.insert.new.self ≡ more
@@ -57,14 +43,10 @@ returns-then-is_full g c =
 
 pub returns-then-get_earliest : goal.returns-then-get_earliest
 returns-then-get_earliest g c =
-    let t = g.A.Automaton.table c.args.dfa.now in
-    let ids = g.A.Automaton.ids c.args.dfa.now in
     let q = query_of c.args.input.now in
     let inv = c.matches.invariant in
     let state = c.find_overlapping_unsplit.new.state in
-    let before = remaining_unsplit t ids Direction.Forward q c.matches.state in
-    let after = remaining_unsplit t ids Direction.Forward q state in
-    let call : IsCall before (Ok c.in-Ok.field-0) state.told after = record { is = c.in-Ok.ensures.call } in
+    let call = called c.in-Ok.ensures.call in
     let told : state.told ≡ Some c.in-Some.found = sym c.get_match.ensures ∙ c.in-Some.is in
     let more = slice_set c.matches.patset c.in-Some.found.pattern true in
     let inserted : c.insert.new.self ≡ more
@@ -81,9 +63,8 @@ matches-preserved g c =
     let q = query_of c.args.input.now in
     let inv = c.matches.invariant in
     let state = c.find_overlapping_unsplit.new.state in
-    let before = remaining_unsplit t ids Direction.Forward q c.matches.state in
     let after = remaining_unsplit t ids Direction.Forward q state in
-    let call : IsCall before (Ok c.in-Ok.field-0) state.told after = record { is = c.in-Ok.ensures.call } in
+    let call = called c.in-Ok.ensures.call in
     let told : state.told ≡ Some c.in-Some.found = sym c.get_match.ensures ∙ c.in-Some.is in
     let more = slice_set c.matches.patset c.in-Some.found.pattern true in
     let inserted : c.insert.new.self ≡ more
@@ -107,16 +88,9 @@ matches-preserved g c =
 
 pub matches-smaller : goal.matches-smaller
 matches-smaller g c =
-    let t = g.A.Automaton.table c.args.dfa.now in
-    let ids = g.A.Automaton.ids c.args.dfa.now in
     let q = query_of c.args.input.now in
-    let inv = c.matches.invariant in
     let state = c.find_overlapping_unsplit.new.state in
-    let before = remaining_unsplit t ids Direction.Forward q c.matches.state in
-    let after = remaining_unsplit t ids Direction.Forward q state in
-    let call : IsCall before (Ok c.in-Ok.field-0) state.told after = record { is = c.in-Ok.ensures.call } in
+    let call = called c.in-Ok.ensures.call in
     let told : state.told ≡ Some c.in-Some.found = sym c.get_match.ensures ∙ c.in-Some.is in
     let more = slice_set c.matches.patset c.in-Some.found.pattern true in
-    let inserted : c.insert.new.self ≡ more
-    = c.insert.ensures.inserted ∙ ap (λ (k : ℕ). slice_set c.matches.patset k true) c.pattern.ensures in
     fewer_items q.earliest c.matches.patset call c.in-Some.found told
