@@ -5,7 +5,7 @@ use Rattle.std.proofs.Common.{length-drop, length-take-le}
 use Rattle.std.proofs.lemmas.Bool.{cases_lt}
 use Rattle.std.proofs.lemmas.List.{places, get_or-map, get_or-drop, get_or-take, length-map}
 use Rattle.std.proofs.lemmas.List.Elements.{All-get_or, All-from_get_or}
-use Rattle.std.proofs.lemmas.Nat.{mod-mul-add, div-mul-add, div-add-mod'}
+use Rattle.std.proofs.lemmas.Nat.{mod-mul-add, div-mul-add, div-add-mod', pow_pos}
 use Rattle.std.specs.List.{range_with_len}
 use Rattle.std.specs.Prelude.{◌==◌, if◌then◌else◌}
 use Rattle.std.proofs.lemmas.Bool.{lt-ltb, le-ltb, eq-eqb, ne_eqb, cases_eq}
@@ -15,18 +15,25 @@ use Rattle.rx_base.specs.ByteClasses.{alphabet_len}
 use Rattle.rx_search.specs.Starts.{IsId}
 use Rattle.rx_dense.specs.Builder.{IsMachineRenamed, IsOutside, renamed_id, renamed_word, renamed, with_renamed_row}
 use Rattle.rx_dense.specs.Layouts.{Layout, IsRowId, IsShaped, column, ids_of, mode_place, row_count, stride}
-use Rattle.rx_dense.proofs.Rows.{IsRowId-id, IsRowId-row, column_within, row-below, quotient, start_within}
+use Rattle.rx_dense.proofs.Rows.{IsRowId-id, IsRowId-row, column_within, multiple_below, row-below, quotient}
+use Rattle.rx_dense.proofs.Rows.{start_within}
 use Rattle.rx_dense.proofs.Shaped.{id_kept, shaped_words, shaped_starts}
 use borrow.Rule.Slice.PartMut.{put_mid}
 
 -- ---- a part of a list that gives way to another
 
-module _ (words part : List ℕ) (first n : ℕ) (count : length part ≡ n) (within : first + n ≤ length words) where
+pub record IsPart (words part : List ℕ) (first n : ℕ) : Type 0 where
+  pub count : length part ≡ n
+  pub within : first + n ≤ length words
+
+module _ {words part : List ℕ} {first n : ℕ} (is : IsPart words part first n) where
   pub length-part : length (put_mid first n words part) ≡ length words
-  length-part = grind (arith, places)
+  length-part = (let count = is.count in let within = is.within in grind (arith, places))
 
   pub part_outside : (k : ℕ) → IsOutside first n k → slice_index (put_mid first n words part) k ≡ slice_index words k
   part_outside k outside =
+      let count = is.count in
+      let within = is.within in
       ⊎_elim
       (λ (h : k < first). grind (arith, places))
       (λ (h : first + n ≤ k). grind (arith, places))
@@ -34,7 +41,7 @@ module _ (words part : List ℕ) (first n : ℕ) (count : length part ≡ n) (wi
 
   pub part_inside : (k : ℕ) → first ≤ k → k < first + n
       → slice_index (put_mid first n words part) k ≡ slice_index part (k - first)
-  part_inside k low high = grind (arith, places)
+  part_inside k low high = (let count = is.count in let within = is.within in grind (arith, places))
 
 -- a part of a list, each of whose ids is renamed
 pub record RenamedPart (rename : ℕ → ℕ) (words part : List ℕ) (first n : ℕ) : Type 0 where
@@ -45,15 +52,18 @@ module _ {rename : ℕ → ℕ} {words part : List ℕ} {first n : ℕ} (renamed
   taken : length (take n (drop first words)) ≡ n
   taken = (let within = renamed.within in length-take-le n (drop first words) (omega (arith, length-drop first words)))
 
-  pub length-renamed : length part ≡ n
-  length-renamed = ap length renamed.ids ∙ length-map (take n (drop first words)) rename ∙ taken
+  pub renamed_part : IsPart words part first n
+  renamed_part = record {
+    count = ap length renamed.ids ∙ length-map (take n (drop first words)) rename ∙ taken;
+    within = renamed.within;
+  }
 
   pub renamed_inside : (k : ℕ) → first ≤ k → k < first + n
       → slice_index (put_mid first n words part) k ≡ rename (slice_index words k)
   renamed_inside k low high =
       let i : k - first < n = omega arith in
       let place : first + (k - first) ≡ k = omega arith in
-      part_inside words part first n length-renamed renamed.within k low high
+      part_inside renamed_part k low high
       ∙ ap (λ part. slice_index part (k - first)) renamed.ids
       ∙ get_or-map rename (take n (drop first words)) (k - first) 0 0 (omega (arith, taken))
       ∙ ap rename
@@ -70,14 +80,18 @@ pub record RenamedBelow (s alphabet : ℕ) (rename : ℕ → ℕ) (old new : Lis
   pub rest : (k : ℕ) → rows * 2 ^ s ≤ k → slice_index new k ≡ slice_index old k
 
 module _ {s alphabet : ℕ} {rename : ℕ → ℕ} {old words : List ℕ} (row : ℕ) (fits : alphabet ≤ 2 ^ s)
-    (within : row * 2 ^ s + 2 ^ s ≤ length words) (below : RenamedBelow s alphabet rename old words row) where
+    (b : row < length old / 2 ^ s) (below : RenamedBelow s alphabet rename old words row) where
+  inside : row * 2 ^ s + alphabet ≤ length words
+  inside = omega (arith, below.count, multiple_below row (2 ^ s) (length old) (pow_pos s) b)
+
   -- the ids of the next row are old ones
   pub row_ids : (P : ℕ → Type 0) → All P old → All P (take alphabet (drop (row * 2 ^ s) words))
   row_ids P old_ids = All-from_get_or P (take alphabet (drop (row * 2 ^ s) words)) 0 (λ i h.
       let low : i < alphabet =
-      let rest : alphabet ≤ length (drop (row * 2 ^ s) words) = omega (arith, length-drop (row * 2 ^ s) words) in
+      let rest : alphabet ≤ length (drop (row * 2 ^ s) words) =
+      omega (arith, inside, length-drop (row * 2 ^ s) words) in
       omega (arith, length-take-le alphabet (drop (row * 2 ^ s) words) rest) in
-      let there : row * 2 ^ s + i < length old = omega (arith, below.count) in
+      let there : row * 2 ^ s + i < length old = omega (arith, inside, below.count) in
       subst P
       (sym
       (get_or-take alphabet (drop (row * 2 ^ s) words) i 0 low ∙ get_or-drop (row * 2 ^ s) words i 0
@@ -88,7 +102,7 @@ module _ {s alphabet : ℕ} {rename : ℕ → ℕ} {old words : List ℕ} (row :
   pub row_more : (part : List ℕ) → part ≡ map rename (take alphabet (drop (row * 2 ^ s) words))
       → RenamedBelow s alphabet rename old (put_mid (row * 2 ^ s) alphabet words part) (row + 1)
   row_more part ids = record {
-    count = length-part words part (row * 2 ^ s) alphabet length_is inside ∙ below.count;
+    count = length-part (renamed_part renamed) ∙ below.count;
     entries = λ k b column.
         ⊎_elim
         (λ (h : k < row * 2 ^ s). outside k (inl h) ∙ below.entries k h column)
@@ -103,18 +117,12 @@ module _ {s alphabet : ℕ} {rename : ℕ → ℕ} {old words : List ℕ} (row :
     rest = λ k b. outside k (inr (omega arith)) ∙ below.rest k (omega arith);
   }
     where
-      inside : row * 2 ^ s + alphabet ≤ length words
-      inside = omega arith
-
       renamed : RenamedPart rename words part (row * 2 ^ s) alphabet
       renamed = record { within = inside; ids = ids }
 
-      length_is : length part ≡ alphabet
-      length_is = length-renamed renamed
-
       outside : (k : ℕ) → IsOutside (row * 2 ^ s) alphabet k
           → slice_index (put_mid (row * 2 ^ s) alphabet words part) k ≡ slice_index words k
-      outside = part_outside words part (row * 2 ^ s) alphabet length_is inside
+      outside = part_outside (renamed_part renamed)
 
       at : (k : ℕ) → row * 2 ^ s ≤ k → k < (row + 1) * 2 ^ s → k % 2 ^ s ≡ k - row * 2 ^ s
       at k low high =
@@ -249,7 +257,7 @@ module _ (l : Layout) (ids part : List ℕ) (id : ℕ) (is : IsRowId l id) (fits
   pub row_renamed : put_mid id (alphabet_len l.classes) l.words part ≡ (with_renamed_row l id ids).words
   row_renamed =
       fill_by_all (word (id / stride l)) (put_mid id (alphabet_len l.classes) l.words part) (length l.words) 0
-      (length-part l.words part id (alphabet_len l.classes) (length-renamed renamed) renamed.within)
+      (length-part (renamed_part renamed))
       (λ k b.
       ⊎_elim
       (λ (own : k / stride l ≡ id / stride l).
@@ -268,7 +276,7 @@ module _ (l : Layout) (ids part : List ℕ) (id : ℕ) (is : IsRowId l id) (fits
 
       outside : (k : ℕ) → IsOutside id (alphabet_len l.classes) k
           → slice_index (put_mid id (alphabet_len l.classes) l.words part) k ≡ slice_index l.words k
-      outside = part_outside l.words part id (alphabet_len l.classes) (length-renamed renamed) renamed.within
+      outside = part_outside (renamed_part renamed)
 
       in_row : (k : ℕ) → k / stride l ≡ id / stride l → k ≡ id + k % stride l
       in_row k own =

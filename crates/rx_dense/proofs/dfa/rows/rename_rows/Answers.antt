@@ -1,7 +1,6 @@
-use Rattle.std.proofs.Common.{◌≡◌, ◌+◌, ◌-◌, ◌*◌, ◌/◌, ◌^◌, ◌<◌, ◌≤◌, length, arith}
+use Rattle.std.proofs.Common.{◌≡◌, ◌+◌, ◌-◌, ◌*◌, ◌/◌, ◌^◌, ◌<◌, length, arith}
 use Rattle.rx_dense.proofs.Renaming.{row_ids, row_more}
-use Rattle.rx_dense.proofs.Rows.{stride_shifted, multiple_below}
-use Rattle.std.proofs.lemmas.Nat.{pow_pos}
+use Rattle.rx_dense.proofs.Rows.{stride_shifted}
 use Rattle.rx_dense.proofs.dfa.rows.rename_rows.Goals as goal
 
 pub rename-requires-clause-rows : goal.rename-requires-clause-rows
@@ -9,22 +8,17 @@ rename-requires-clause-rows c =
     let s = c.args.stride2 in
     let row = c.loop-row.row in
     let width = stride_shifted s c.requires.exponent in
-    let within : row * 2 ^ s + 2 ^ s ≤ length c.loop-row.words =
-    rw c.loop-row.invariant.count
-    (multiple_below row (2 ^ s) (length c.args.words.now) (pow_pos s) (rw width at c.loop-row-test.true)) in
     let n : row * 2 ^ s + c.args.alphabet_len - row * 2 ^ s ≡ c.args.alphabet_len = omega arith in
     rw (width, n)
-    (row_ids row c.requires.fits within c.loop-row.invariant (λ id. id / 2 ^ s < length c.args.new_ids.now)
-    c.requires.rows)
+    (row_ids row c.requires.fits (rw width at c.loop-row-test.true) c.loop-row.invariant
+    (λ id. id / 2 ^ s < length c.args.new_ids.now) c.requires.rows)
 
 pub loop-row-preserved : goal.loop-row-preserved
 loop-row-preserved c =
     let s = c.args.stride2 in
     let row = c.loop-row.row in
     let width = stride_shifted s c.requires.exponent in
-    let within : row * 2 ^ s + 2 ^ s ≤ length c.loop-row.words =
-    rw c.loop-row.invariant.count
-    (multiple_below row (2 ^ s) (length c.args.words.now) (pow_pos s) (rw width at c.loop-row-test.true)) in
     let n : row * 2 ^ s + c.args.alphabet_len - row * 2 ^ s ≡ c.args.alphabet_len = omega arith in
     rw (width, n)
-    (row_more row c.requires.fits within c.loop-row.invariant c.rename.new.ids (rw (width, n) at c.rename.ensures))
+    (row_more row c.requires.fits (rw width at c.loop-row-test.true) c.loop-row.invariant c.rename.new.ids
+    (rw (width, n) at c.rename.ensures))

@@ -5,7 +5,7 @@ use Rattle.rx_base.specs.ByteClasses.{alphabet_len}
 use Rattle.rx_dense.specs.Builder.{renamed_id}
 use Rattle.rx_dense.specs.Layouts.{Layout, IsShaped, ids_of, stride}
 use Rattle.rx_dense.proofs.Rows.{IsRowId-id}
-use Rattle.rx_dense.proofs.Renaming.{RenamedPart, length-part, length-renamed, row_renamed, same_ids, same_lists}
+use Rattle.rx_dense.proofs.Renaming.{RenamedPart, length-part, renamed_part, row_renamed, same_ids, same_lists}
 use Rattle.rx_dense.proofs.Renaming.{shaped_renamed_row, words_within}
 use Rattle.rx_dense.proofs.dfa.rows.DFA+Vec+u32.remap_state.Goals as goal
 use borrow.Rule.Slice.PartMut.{put_mid}
@@ -53,7 +53,7 @@ returns-clause-value c =
     } in
     let ws : List ℕ = put_mid c.args.id (alphabet_len l.classes) l.words c.rename.new.ids in
     let kept = with_items_is c.self.inside.words ws
-    (length-part l.words c.rename.new.ids c.args.id (alphabet_len l.classes) (length-renamed part) part.within
+    (length-part (renamed_part part)
     ∙ sym (ap length old_words) ∙ c.deref_mut.ensures.len) in
     rw (old_words, c.as_usize-first.ensures.value, c.alphabet_len.ensures, n)
     (same_lists c.self.view_is (kept ∙ row_renamed l c.args.map.now c.rename.new.ids c.args.id is fits part)
