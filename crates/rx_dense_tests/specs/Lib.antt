@@ -1,0 +1,2 @@
+-- what makes a dense table sound
+pub mod Soundness

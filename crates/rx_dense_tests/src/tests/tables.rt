@@ -1,0 +1,323 @@
+//! How the tests make tables: rows are named by their numbers.
+
+ghost use Rattle.std.specs.Prelude.{◌≡◌, ◌<◌, ◌-◌, ◌^◌, length, All, IfOk, true};
+ghost use Rattle.rx_search.specs.Starts.{IsId};
+ghost use Rattle.rx_dense.specs.Facts.{IsSoundLayout};
+ghost use Rattle.rx_base.specs.Search.{mode_of};
+ghost use Rattle.rx_dense.specs.Layouts.{AreStarts, ids_of, mode_place};
+
+use super::soundness::{Lists, id_of_row, is_sound};
+use rx_base::{
+    Anchored, ByteClassSet, ByteClasses, ByteSet, LookMatcher, PatternID, Start, StartKind,
+    StateID, Unit,
+};
+use rx_dense::{Accel, Accels, AddError, Flags, OwnedDFA, Special};
+use std::alloc::{AllocError, Global};
+use std::collections::BTreeMap;
+use std::process::Abort;
+use std::test::Fail;
+
+/// All start contexts, in the order of their entries.
+pub(super) const STARTS: [Start; 6] = [
+    Start::NonWordByte,
+    Start::WordByte,
+    Start::Text,
+    Start::LineLF,
+    Start::LineCR,
+    Start::CustomLineTerminator,
+];
+
+/// The units of a row of [`worked`]: a byte of each class, and the end mark.
+const UNITS: [Unit; 7] = [
+    Unit::Byte(b'.'),
+    Unit::Byte(b'a'),
+    Unit::Byte(b'b'),
+    Unit::Byte(b'c'),
+    Unit::Byte(b'z'),
+    Unit::Byte(0xff),
+    Unit::Eoi,
+];
+
+/// Where the rows of [`worked`] from 2 on lead.
+const ROWS: [[usize; 7]; 5] = [
+    [4, 4, 4, 4, 1, 4, 4],
+    [0, 0, 0, 0, 1, 0, 0],
+    [4, 4, 4, 4, 1, 4, 4],
+    [5, 6, 5, 5, 1, 5, 0],
+    [3, 3, 2, 3, 1, 3, 3],
+];
+
+/// The rows in which the searches of [`worked`] start, by their modes.
+const BEGINNINGS: [usize; 5] = [5, 6, 5, 0, 6];
+
+/// The patterns of the match rows of [`worked`].
+const PATTERNS: [(usize, &[u32]); 3] = [(2, &[0]), (4, &[2, 1]), (3, &[0])];
+
+/// The modes of a table with starts for three patterns, in the order of its start entries.
+pub(super) fn modes() -> [Anchored; 5] {
+    [
+        Anchored::No,
+        Anchored::Yes,
+        Anchored::Pattern(PatternID::must(0)),
+        Anchored::Pattern(PatternID::must(1)),
+        Anchored::Pattern(PatternID::must(2)),
+    ]
+}
+
+/// Classes in which each of some bytes is alone.
+pub(super) fn classes_apart(bytes: &[u8]) -> ByteClasses {
+    let mut ends = ByteClassSet::empty();
+    for byte in bytes {
+        ends.set_range(*byte, *byte);
+    }
+    ends.byte_classes()
+}
+
+/// The dead row and the quit row, with three patterns that have starts of their own. A `z` can't be searched, and `y`
+/// ends lines.
+pub(super) fn begin(alloc: Global, classes: ByteClasses) -> Result<OwnedDFA, AllocError> {
+    let mut quitset = ByteSet::empty();
+    quitset.add(b'z');
+    let flags = Flags {
+        has_empty: true,
+        is_utf8: false,
+        is_always_start_anchored: true,
+    };
+    let lookm = LookMatcher::new(b'y');
+    OwnedDFA::initial(
+        alloc,
+        classes,
+        3,
+        StartKind::Both,
+        &lookm,
+        true,
+        quitset,
+        flags,
+    )
+}
+
+/// The id of a row.
+pub(super) fn id(rt: &impl Abort, dfa: &OwnedDFA, row: usize) -> StateID
+    ensures { IsId (ids_of dfa.now) result }
+{
+    assert!(rt; row < dfa.state_len());
+    id_of_row(dfa, row)
+}
+
+/// Lets a unit lead from a row to another.
+pub(super) fn connect(rt: &impl Abort, dfa: &mut OwnedDFA, from: usize, unit: Unit, to: usize) {
+    let from = id(rt, dfa, from);
+    let to = id(rt, dfa, to);
+    dfa.set_transition(from, unit, to);
+}
+
+/// Lets some units lead from a row to others, each to its own.
+pub(super) fn fill(
+    rt: &impl Abort,
+    dfa: &mut OwnedDFA,
+    from: usize,
+    units: &[Unit],
+    nexts: &[usize],
+) {
+    for (unit, to) in units.iter().zip(nexts) {
+        connect(rt, dfa, from, *unit, *to);
+    }
+}
+
+/// Lets searches of a mode and a context start in a row.
+pub(super) fn start_at(
+    rt: &impl Abort,
+    dfa: &mut OwnedDFA,
+    mode: &Anchored,
+    start: Start,
+    row: usize,
+) {
+    let id = id(rt, dfa, row);
+    assert!(rt; has_starts(dfa, mode));
+    dfa.set_start_state(*mode, start, id);
+}
+
+/// The place of the first start entry of a mode.
+fn mode_place(mode: Anchored) -> usize
+    ensures { result ≡ mode_place (mode_of mode) }
+{
+    match mode {
+        Anchored::No => 0,
+        Anchored::Yes => 6,
+        Anchored::Pattern(pattern) => 12 + 6 * pattern.as_usize(),
+    }
+}
+
+/// Whether a mode has start entries.
+fn has_starts(dfa: &OwnedDFA, mode: &Anchored) -> bool
+    ensures are_starts { AreStarts dfa.now }
+    ensures within { result ≡ true → mode_place (mode_of mode.now) < length dfa.now.starts }
+{
+    mode_place(*mode) < dfa.starts().count()
+}
+
+/// Lets all searches of a mode start in a row.
+pub(super) fn start_all_at(rt: &impl Abort, dfa: &mut OwnedDFA, mode: &Anchored, row: usize) {
+    for start in STARTS.iter() {
+        start_at(rt, dfa, mode, *start, row);
+    }
+}
+
+/// Adds a row that leads to itself at the end mark, and cuts it off.
+pub(super) fn add_and_cut(rt: &impl Abort, dfa: &mut OwnedDFA) -> Result<(), AddError> {
+    let len = dfa.state_len();
+    assert!(rt; has_starts(dfa, &Anchored::Yes));
+    let last = dfa.add_empty_state()?;
+    dfa.set_transition(last, Unit::Eoi, last);
+    dfa.truncate_states(len);
+    Ok(())
+}
+
+/// The ids of some rows.
+fn ids(
+    rt: &impl Abort,
+    alloc: Global,
+    dfa: &OwnedDFA,
+    rows: &[usize],
+) -> Result<Vec<StateID>, AllocError>
+    ensures { IfOk result (λ ids. All (IsId (ids_of dfa.now)) ids.items) }
+{
+    let mut ids = Vec::new(alloc);
+    for row in rows {
+        ids.push(id(rt, dfa, *row))?;
+    }
+    Ok(ids)
+}
+
+/// Renames all rows: each gets the id of the row that stands at its number.
+pub(super) fn remap(
+    rt: &impl Abort,
+    alloc: Global,
+    dfa: &mut OwnedDFA,
+    rows: &[usize],
+) -> Result<(), AllocError> {
+    let map = ids(rt, alloc, dfa, rows)?;
+    assert!(rt; map.len() == dfa.state_len());
+    dfa.remap(&map);
+    Ok(())
+}
+
+/// Renames what one row leads to.
+pub(super) fn remap_state(
+    rt: &impl Abort,
+    alloc: Global,
+    dfa: &mut OwnedDFA,
+    row: usize,
+    rows: &[usize],
+) -> Result<(), AllocError> {
+    let map = ids(rt, alloc, dfa, rows)?;
+    assert!(rt; map.len() == dfa.state_len());
+    let id = id(rt, dfa, row);
+    dfa.remap_state(id, &map);
+    Ok(())
+}
+
+/// Special rows: quit, and a first and a last row for match rows, accelerated ones and starts.
+pub(super) fn special(
+    rt: &impl Abort,
+    dfa: &OwnedDFA,
+    matches: (usize, usize),
+    accels: (usize, usize),
+    starts: (usize, usize),
+) -> Special {
+    let mut special = Special::new();
+    special.quit = id(rt, dfa, 1);
+    special.min_match = id(rt, dfa, matches.0);
+    special.max_match = id(rt, dfa, matches.1);
+    special.min_accel = id(rt, dfa, accels.0);
+    special.max_accel = id(rt, dfa, accels.1);
+    special.min_start = id(rt, dfa, starts.0);
+    special.max_start = id(rt, dfa, starts.1);
+    special.set_max();
+    special
+}
+
+/// Needles: at most three bytes that aren't spaces and differ.
+pub(super) fn accel(rt: &impl Abort, needles: &[u8]) -> Accel {
+    let mut accel = Accel::new();
+    for needle in needles {
+        assert!(rt; !accel.needles().contains(needle));
+        assert!(rt; accel.add(*needle));
+    }
+    accel
+}
+
+/// The needles of several rows.
+pub(super) fn accels(alloc: Global, rows: &[Accel]) -> Result<Accels, AllocError>
+    requires { length rows.now < 2 ^ 32 - 1 }
+    ensures { IfOk result (λ accels. accels ≡ rows.now) }
+{
+    let mut accels = Accels::empty(alloc)?;
+    for row in rows {
+        accels.add(row.clone()?)?;
+    }
+    Ok(accels)
+}
+
+/// Lists of patterns, by the rows that tell them.
+pub(super) fn lists(
+    rt: &impl Abort,
+    alloc: Global,
+    dfa: &OwnedDFA,
+    rows: &[(usize, &[u32])],
+) -> Result<Lists, Fail> {
+    let mut lists = BTreeMap::new(alloc);
+    for (row, patterns) in rows {
+        let mut list = Vec::new(alloc);
+        for pattern in patterns.iter() {
+            list.push(PatternID::new(*pattern as usize)?)?;
+        }
+        lists.insert(id(rt, dfa, *row), list)?;
+    }
+    Ok(lists)
+}
+
+/// Sets what the special rows of a table tell, which makes it a sound one.
+fn finish(
+    rt: &impl Abort,
+    alloc: Global,
+    dfa: &mut OwnedDFA,
+    lists: &Lists,
+    needles: &[Accel],
+) -> Result<(), Fail>
+    ensures { IfOk result (λ _. IsSoundLayout dfa.new) }
+{
+    assert!(rt; needles.len() < 100);
+    dfa.set_accels(accels(alloc, needles)?);
+    dfa.set_pattern_map(lists)?;
+    assert!(rt; is_sound(dfa, lists, &accels(alloc, needles)?));
+    Ok(())
+}
+
+/// A table that looks for `a` (pattern 0) and `ab` with whatever follows (patterns 2 and 1), and quits at `z`.
+///
+/// Row 2 tells pattern 0 where `ab` was read, row 3 where another unit follows `a`, and row 4 tells the patterns 2
+/// and 1. Searches start in row 5, which waits for `a`, and anchored ones, as those for pattern 2, in row 6, where it
+/// was read. Those for pattern 1 start at dead.
+pub(super) fn worked(rt: &impl Abort, alloc: Global) -> Result<OwnedDFA, Fail>
+    ensures { IfOk result IsSoundLayout }
+{
+    let mut dfa = begin(alloc, classes_apart(b"abz"))?;
+    for _ in 2..7 {
+        dfa.add_empty_state()?;
+    }
+    for (row, nexts) in (2..7usize).zip(ROWS.iter()) {
+        fill(rt, &mut dfa, row, &UNITS, nexts);
+    }
+    for (mode, row) in modes().iter().zip(&BEGINNINGS) {
+        start_all_at(rt, &mut dfa, mode, *row);
+    }
+    dfa.set_universal_starts();
+    dfa.set_special(special(rt, &dfa, (2, 4), (4, 5), (5, 5)));
+    let lists = lists(rt, alloc, &dfa, &PATTERNS)?;
+    let mut needles = Vec::new(alloc);
+    needles.push(accel(rt, b"z"))?;
+    needles.push(accel(rt, b"az"))?;
+    finish(rt, alloc, &mut dfa, &lists, &needles)?;
+    Ok(dfa)
+}
