@@ -124,7 +124,8 @@ module _ (l : Layout) (rows : AreRows l) (starts : AreStarts l) where
   next_below : (row unit : ℕ) → row < row_count l → unit < 257 → (table_of l).machine.next row unit < row_count l
   next_below row unit h u =
       row-below l (next_id l (row * stride l) unit)
-      (rows.next_ids (row * stride l + column l unit) (omega (arith, column_within l rows.classes unit u, row_within l row h rows)))
+      (rows.next_ids (row * stride l + column l unit)
+      (omega (arith, column_within l rows.classes unit u, row_within l row h rows)))
 
   dead_label : (table_of l).machine.label 0 ≡ Label.Plain
   dead_label =

@@ -30,4 +30,5 @@ pub record IsSoundRow (t : Table) (row : ℕ) : Type 0 where
   pub patterns : (ks : List ℕ) → t.machine.label row ≡ Label.Matches ks → IsPatternList t.pattern_len ks
   pub eoi_goes_on : t.machine.next row 256 ≢ 1
   pub needles : t.is_accelerated row ≡ true → AreNeedlesOf t row
-  pub special : t.is_special row ≡ ((row == 0) || (row == 1) || is_match t row || t.is_accelerated row || t.is_start row)
+  pub special : t.is_special row
+      ≡ ((row == 0) || (row == 1) || is_match t row || t.is_accelerated row || t.is_start row)

@@ -6,7 +6,9 @@ mod tables;
 ghost use Rattle.std.specs.Prelude.{◌≡◌};
 ghost use Rattle.rx_spec.specs.Queries.{IsFit};
 ghost use Rattle.rx_base.specs.Input.{query_of};
+ghost use Rattle.rx_search.specs.Starts.{IsId};
 ghost use Rattle.rx_dense.specs.Facts.{IsSoundLayout};
+ghost use Rattle.rx_dense.specs.Layouts.{ids_of};
 
 use Step::{Add, AddAndCut, Connect, Fill, Remap, RemapState, StartAt, Swap};
 use Told::{Match, Nothing, Quit, Unsupported};
@@ -536,6 +538,20 @@ fn views_and_copies_answer_as_their_source(rt: HostRuntime) -> Result<(), Fail> 
     Ok(())
 }
 
+/// Which kinds of row an id is that of.
+fn kinds<T: WordStore>(dfa: &DFA<T>, id: StateID) -> [bool; 6]
+    requires { IsId (ids_of dfa.now) id }
+{
+    [
+        dfa.is_special_state(id),
+        dfa.is_dead_state(id),
+        dfa.is_quit_state(id),
+        dfa.is_match_state(id),
+        dfa.is_start_state(id),
+        dfa.is_accel_state(id),
+    ]
+}
+
 /// Asserts that the calls of a copy with a row answer as those of its source.
 fn check_rows<T: WordStore>(rt: &impl Abort, source: &OwnedDFA, copy: &DFA<T>)
     requires same { copy.now ≡ source.now }
@@ -548,12 +564,7 @@ fn check_rows<T: WordStore>(rt: &impl Abort, source: &OwnedDFA, copy: &DFA<T>)
             assert_eq!(rt; copy.next_state(id, byte), source.next_state(id, byte));
         }
         assert_eq!(rt; copy.next_eoi_state(id), source.next_eoi_state(id));
-        assert_eq!(rt; copy.is_special_state(id), source.is_special_state(id));
-        assert_eq!(rt; copy.is_dead_state(id), source.is_dead_state(id));
-        assert_eq!(rt; copy.is_quit_state(id), source.is_quit_state(id));
-        assert_eq!(rt; copy.is_match_state(id), source.is_match_state(id));
-        assert_eq!(rt; copy.is_start_state(id), source.is_start_state(id));
-        assert_eq!(rt; copy.is_accel_state(id), source.is_accel_state(id));
+        assert_eq!(rt; kinds(copy, id), kinds(source, id));
         let needles = source.accelerator(id);
         assert_eq!(rt; copy.accelerator(id).as_slice(), needles.as_slice());
         if source.is_match_state(id) {

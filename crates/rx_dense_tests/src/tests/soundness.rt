@@ -145,8 +145,8 @@ fn is_sound_row(dfa: &OwnedDFA, lists: &Lists, accels: &Accels, id: StateID) -> 
 /// Whether a search has more to do at a row than to go on.
 fn has_more_to_do(dfa: &OwnedDFA, id: StateID) -> bool
     requires { IsId (ids_of dfa.now) id }
-    ensures { let row = row_of (ids_of dfa.now) id in result ≡ ((row == 0) || (row == 1) || is_match (table_of dfa.now) row
-        || (table_of dfa.now).is_accelerated row || (table_of dfa.now).is_start row) }
+    ensures { let row = row_of (ids_of dfa.now) id in let table = table_of dfa.now in result
+        ≡ ((row == 0) || (row == 1) || is_match table row || table.is_accelerated row || table.is_start row) }
 {
     let row = row_of_id(dfa, id);
     row == 0

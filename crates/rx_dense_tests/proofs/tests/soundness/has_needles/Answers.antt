@@ -41,7 +41,8 @@ loop-byte-preserved c =
     (ap (λ r. r == row) (sym c.next_state.ensures.row)
     ∙ sym (same_row l c.next_state.result c.args.id c.next_state.ensures.is_id c.requires.is_id))
     ∙ sym c.ne.ensures in
-    let more : (b : Bool) → c.ne.result ≡ b → before ++ (if b then byte ∷ [] else []) ≡ filter test (range_with_len 0 (byte + 1)) =
+    let more : (b : Bool) → c.ne.result ≡ b
+    → before ++ (if b then byte ∷ [] else []) ≡ filter test (range_with_len 0 (byte + 1)) =
     λ (b : Bool) (e : c.ne.result ≡ b).
     sym (filter_more test byte ∙ ap (λ b. before ++ (if b then byte ∷ [] else [])) (tested ∙ e)) in
     elim c.if-ne.branch [

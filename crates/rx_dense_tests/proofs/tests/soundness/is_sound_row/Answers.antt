@@ -2,7 +2,8 @@ use Rattle.std.proofs.Common.{◌≡◌, ◌∙◌, Bool, true, false, not, refl
 use mathlib.Core.Bool.{beq}
 use Rattle.rx_search.specs.Labels.{is_quit_label}
 use Rattle.rx_dense_tests.proofs.tests.soundness.is_sound_row.Goals as goal
-use Rattle.rx_dense_tests.proofs.tests.soundness.is_sound_row.Goals.{then-is_quit_state+else-row_of_id-ne1, else-is_quit_state}
+use Rattle.rx_dense_tests.proofs.tests.soundness.is_sound_row.Goals.{then-is_quit_state+else-row_of_id-ne1}
+use Rattle.rx_dense_tests.proofs.tests.soundness.is_sound_row.Goals.{else-is_quit_state}
 
 same_bool : (a b : Bool) → not (beq a b) ≡ false → a ≡ b
 same_bool true true e = refl
