@@ -11,25 +11,39 @@ use rx_base::{
     Anchored, Input, Look, LookMatcher, LookSet, PatternID, PatternSet, Start, StartByteMap,
     StartKind, StateID,
 };
+use std::alloc::{AllocError, Global};
+use std::process::Abort;
 use std::test::Fail;
+
+/// The number of a row's id, or the one that was refused.
+fn state_number(n: usize) -> Result<usize, u64> {
+    match StateID::new(n) {
+        Ok(id) => Ok(id.as_usize()),
+        Err(e) => Err(e.attempted),
+    }
+}
+
+/// The number of a pattern's id, or the one that was refused.
+fn pattern_number(n: usize) -> Result<usize, u64> {
+    match PatternID::new(n) {
+        Ok(id) => Ok(id.as_usize()),
+        Err(e) => Err(e.attempted),
+    }
+}
 
 #[test]
 fn an_id_is_at_most_the_greatest(rt: HostRuntime) {
-    let table = [
-        (0, true),
-        (2147483646, true),
-        (2147483647, false),
-        (4294967296, false),
+    let table: &[(usize, Result<usize, u64>)] = &[
+        (0, Ok(0)),
+        (2147483646, Ok(2147483646)),
+        (2147483647, Err(2147483647)),
+        (4294967296, Err(4294967296)),
     ];
-    for (n, is_id) in table {
-        match StateID::new(n) {
-            Ok(id) => assert!(rt; is_id && id.as_usize() == n, "{n}"),
-            Err(e) => assert!(rt; !is_id && e.attempted == n as u64, "{n}"),
-        }
-        match PatternID::new(n) {
-            Ok(id) => assert!(rt; is_id && id.as_usize() == n, "{n}"),
-            Err(e) => assert!(rt; !is_id && e.attempted == n as u64, "{n}"),
-        }
+    for (n, want) in table {
+        assert!(rt;
+            state_number(*n) == *want && pattern_number(*n) == *want,
+            "{n}"
+        );
     }
     assert!(rt; StateID::must(7).as_u32() == 7 && StateID::default() == StateID::ZERO);
     assert!(rt;
@@ -42,48 +56,80 @@ fn look_sets_hold_what_was_put_in(rt: HostRuntime) {
     let words = LookSet::empty()
         .insert(Look::WordEndHalfUnicode)
         .insert(Look::End);
-    assert_eq!(rt; words.len(), 2);
     assert!(rt; words.contains(Look::End) && !words.contains(Look::Start));
-    assert!(rt; words.contains_word_unicode());
+    assert!(rt; words.contains_word_unicode() && words.len() == 2 && LookSet::full().len() == 18);
     let ends = words.remove(Look::WordEndHalfUnicode);
     assert!(rt; !ends.contains_word_unicode() && ends == LookSet::default().insert(Look::End));
-    assert_eq!(rt; LookSet::full().len(), 18);
+}
+
+/// Adds a pattern, and says whether it is new.
+fn insert(rt: &impl Abort, set: &mut PatternSet, pattern: usize) -> bool {
+    assert!(rt; pattern < set.capacity() && pattern < 1000000);
+    set.insert(PatternID::must(pattern))
+}
+
+/// Adds patterns to an empty set, each of which is new or not, and compares how many it has then.
+fn set_of(
+    rt: &impl Abort,
+    alloc: Global,
+    capacity: usize,
+    inserted: &[(usize, bool)],
+    len: usize,
+) -> Result<PatternSet, AllocError> {
+    let mut set = PatternSet::new(alloc, capacity)?;
+    for (pattern, is_new) in inserted {
+        assert!(rt;
+            insert(rt, &mut set, *pattern) == *is_new,
+            "{pattern} of {capacity}"
+        );
+    }
+    let is_full = len == capacity;
+    assert!(rt; set.len() == len && set.is_empty() == (len == 0) && set.is_full() == is_full);
+    Ok(set)
 }
 
 #[test]
 fn pattern_sets_hold_what_was_put_in(rt: HostRuntime) -> Result<(), Fail> {
-    let mut none = PatternSet::new(rt.alloc(), 0)?;
-    assert!(rt; none.is_full() && none.is_empty() && none.capacity() == 0);
-    assert!(rt; !none.contains(PatternID::ZERO));
-    let mut few = PatternSet::new(rt.alloc(), 2)?;
-    assert!(rt; few.is_empty() && !few.is_full() && few.capacity() == 2);
-    let (first, second) = (PatternID::must(0), PatternID::must(1));
-    assert!(rt; few.insert(second) && !few.insert(second) && few.len() == 1);
-    assert!(rt; few.contains(second) && !few.contains(first) && !few.contains(PatternID::must(2)));
-    assert!(rt; few.insert(first) && few.is_full() && few.len() == 2);
-    let mut many = PatternSet::new(rt.alloc(), 1000000)?;
-    let (middle, highest) = (PatternID::must(500000), PatternID::must(999999));
-    assert!(rt;
-        many.insert(first) && many.insert(highest) && many.insert(middle) && !many.insert(highest)
-    );
-    assert!(rt;
-        many.len() == 3 && many.contains(highest) && !many.contains(second) && !many.is_full()
-    );
+    let table: &[(usize, &[(usize, bool)], usize, &[(usize, bool)])] = &[
+        (0, &[], 0, &[(0, false)]),
+        (2, &[], 0, &[]),
+        (
+            2,
+            &[(1, true), (1, false)],
+            1,
+            &[(1, true), (0, false), (2, false)],
+        ),
+        (2, &[(1, true), (1, false), (0, true)], 2, &[]),
+        (
+            1000000,
+            &[(0, true), (999999, true), (500000, true), (999999, false)],
+            3,
+            &[(999999, true), (1, false)],
+        ),
+    ];
+    for (capacity, inserted, len, members) in table {
+        let set = set_of(&rt, rt.alloc(), *capacity, inserted, *len)?;
+        assert!(rt; set.capacity() == *capacity);
+        for (pattern, is_member) in *members {
+            let told = *pattern < 1000000 && set.contains(PatternID::must(*pattern));
+            assert!(rt; told == *is_member, "{pattern} of {capacity}");
+        }
+    }
     Ok(())
 }
 
 #[test]
 fn a_terminator_has_its_own_context(rt: HostRuntime) {
-    let map = StartByteMap::new(&LookMatcher::new(b'a'));
-    let table = [
+    let table: &[(u8, Start)] = &[
         (b'a', Start::CustomLineTerminator),
         (b'b', Start::WordByte),
         (b'\n', Start::LineLF),
         (b'\r', Start::LineCR),
         (b' ', Start::NonWordByte),
     ];
+    let map = StartByteMap::new(&LookMatcher::new(b'a'));
     for (byte, start) in table {
-        assert!(rt; map.get(byte) == start, "at {byte}");
+        assert!(rt; map.get(*byte) == *start, "at {byte}");
     }
     let feed = StartByteMap::new(&LookMatcher::default());
     assert!(rt; feed.get(b'\n') == Start::LineLF);
@@ -91,38 +137,31 @@ fn a_terminator_has_its_own_context(rt: HostRuntime) {
 
 #[test]
 fn a_start_kind_has_its_modes(rt: HostRuntime) {
-    let table = [
+    let table: &[(StartKind, bool, bool)] = &[
         (StartKind::Both, true, true),
         (StartKind::Unanchored, true, false),
         (StartKind::Anchored, false, true),
     ];
     for (kind, unanchored, anchored) in table {
-        assert!(rt;
-            kind.has_unanchored() == unanchored && kind.has_anchored() == anchored,
-            "{kind:?}"
-        );
+        let has_modes = kind.has_unanchored() == *unanchored && kind.has_anchored() == *anchored;
+        assert!(rt; has_modes, "{kind:?}");
     }
+}
+
+/// The bytes beside a span from which a search reads forward and in reverse.
+fn beside(input: &Input<'_>) -> (Option<u8>, Option<u8>) {
+    (
+        Config::from_input_forward(input).get_look_behind(),
+        Config::from_input_reverse(input).get_look_behind(),
+    )
 }
 
 #[test]
 fn a_search_starts_beside_its_span(rt: HostRuntime) {
     let input = Input::new(b"abcd").range(1, 3).anchored(Anchored::Yes);
-    let forward = Config::from_input_forward(&input);
-    assert!(rt; forward.get_look_behind() == Some(b'a'));
-    assert!(rt; forward.get_anchored() == Anchored::Yes);
-    let reverse = Config::from_input_reverse(&input);
-    assert!(rt; reverse.get_look_behind() == Some(b'd'));
-    let whole = Input::new(b"abcd");
-    assert!(rt;
-        Config::from_input_forward(&whole)
-            .get_look_behind()
-            .is_none()
-    );
-    assert!(rt;
-        Config::from_input_reverse(&whole)
-            .get_look_behind()
-            .is_none()
-    );
+    assert!(rt; beside(&input) == (Some(b'a'), Some(b'd')));
+    assert!(rt; Config::from_input_forward(&input).get_anchored() == Anchored::Yes);
+    assert!(rt; beside(&Input::new(b"abcd")) == (None, None));
     let config = Config::default()
         .look_behind(Some(b'x'))
         .anchored(Anchored::Yes);

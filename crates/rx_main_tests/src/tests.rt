@@ -1,31 +1,72 @@
 use rx_base::{MemSink, MemSource};
 use rx_main::*;
-use std::alloc::Global;
+use std::alloc::{AllocError, Global};
 use std::process::Abort;
 use std::test::Fail;
 
-/// The words of the command `find`.
-fn find_words(alloc: Global) -> Result<Words, Fail> {
+/// A command line.
+fn words(alloc: Global, texts: &[&str]) -> Result<Words, AllocError> {
     let mut words = Words::new(alloc);
-    words.push(b"find")?;
+    for text in texts {
+        words.push(text.as_bytes())?;
+    }
     Ok(words)
 }
 
-/// Runs the command `find` on a text.
-fn find(rt: &impl Abort, alloc: Global, text: &[u8], status: u8, line: &str) -> Result<(), Fail> {
-    let mut source = MemSource::new(text, 65_536, &[]);
-    let mut sink = MemSink::new(alloc, 100, 3, &[])?;
-    let told = run(alloc, &find_words(alloc)?, &mut source, &mut sink);
-    let written = sink.bytes();
-    let expected = line.as_bytes();
-    assert!(rt;
-        written.len() == expected.len() + 1
-            && written.starts_with(expected)
-            && written.ends_with(b"\n"),
-        "{line}: {written:?}"
-    );
-    assert!(rt; told == status, "{line}: {told}");
+/// What a run reads and where it writes: a text, the most bytes of a read and the reads that fail; room, the
+/// most bytes of a write and the writes that fail.
+#[derive(Clone, Copy)]
+struct Outside<'a> {
+    text: &'a [u8],
+    most_read: usize,
+    failing_reads: &'a [u64],
+    room: usize,
+    most_written: usize,
+    failing_writes: &'a [u64],
+}
+
+/// The status of a run, and what it wrote.
+fn answer(
+    rt: &impl Abort,
+    alloc: Global,
+    texts: &[&str],
+    outside: Outside<'_>,
+) -> Result<(u8, Vec<u8>), Fail> {
+    let words = words(alloc, texts)?;
+    assert!(rt; 0 < outside.most_read && 0 < outside.most_written);
+    let mut source = MemSource::new(outside.text, outside.most_read, outside.failing_reads);
+    let (room, most) = (outside.room, outside.most_written);
+    let mut sink = MemSink::new(alloc, room, most, outside.failing_writes)?;
+    let status = run(alloc, &words, &mut source, &mut sink);
+    Ok((status, Vec::from_slice(alloc, sink.bytes())?))
+}
+
+/// Compares a run with the status and the bytes that are wanted.
+fn compare(
+    rt: &impl Abort,
+    alloc: Global,
+    texts: &[&str],
+    outside: Outside<'_>,
+    want: (u8, &str),
+) -> Result<(), Fail> {
+    let (status, written) = answer(rt, alloc, texts, outside)?;
+    let is_wanted = status == want.0 && written.as_slice() == want.1.as_bytes();
+    assert!(rt; is_wanted, "{texts:?}: {status}, {written:?}");
     Ok(())
+}
+
+/// Compares the line of the command `find` for a text.
+fn find(rt: &impl Abort, alloc: Global, text: &[u8], status: u8, line: &str) -> Result<(), Fail> {
+    let outside = Outside {
+        text,
+        most_read: 65_536,
+        failing_reads: &[],
+        room: 100,
+        most_written: 3,
+        failing_writes: &[],
+    };
+    let line = format!(in alloc; "{line}\n")?;
+    compare(rt, alloc, &["find"], outside, (status, &line))
 }
 
 /// Runs it on scripts, which are given with a slash between two lines.
@@ -224,58 +265,49 @@ fn sources_have_at_most_so_many_bytes(rt: HostRuntime) -> Result<(), Fail> {
 
 #[test]
 fn only_find_is_a_command(rt: HostRuntime) -> Result<(), Fail> {
-    let empty = Words::new(rt.alloc());
-    let mut twice = find_words(rt.alloc())?;
-    twice.push(b"x")?;
-    let mut other = Words::new(rt.alloc());
-    other.push(b"Find")?;
-    for words in [&empty, &twice, &other] {
-        let mut source = MemSource::new(b"x", 1, &[1]);
-        let mut sink = MemSink::new(rt.alloc(), 100, 100, &[])?;
-        assert_eq!(rt; run(rt.alloc(), words, &mut source, &mut sink), 2);
-        assert_eq!(rt; sink.bytes(), b"usage\n".as_slice());
+    let table: &[&[&str]] = &[&[], &["find", "x"], &["Find"]];
+    let outside = Outside {
+        text: b"x",
+        most_read: 1,
+        failing_reads: &[1],
+        room: 100,
+        most_written: 100,
+        failing_writes: &[],
+    };
+    for texts in table {
+        compare(&rt, rt.alloc(), texts, outside, (2, "usage\n"))?;
     }
     Ok(())
 }
 
+const SCRIPT: &str = "expr lit 61\nexpr lit 62\ninput 0 2 yes\nhay 6261\n";
+
 /// The script has 47 bytes, so the sixth read of 8 gives the last one, and the seventh tells the end.
 #[test]
 fn reads_and_writes_may_fail(rt: HostRuntime) -> Result<(), Fail> {
-    let script = b"expr lit 61\nexpr lit 62\ninput 0 2 yes\nhay 6261\n";
-    let line = b"match 1 0 1\n".as_slice();
-    let none: &[u64] = &[];
-    let cases = [
-        (none, none, 0, 12),
-        (&[1], none, 5, 0),
-        (&[2, 3], none, 5, 0),
-        (&[7], none, 5, 0),
-        (&[8], none, 0, 12),
-        (none, &[1], 6, 0),
-        (none, &[2], 6, 5),
-        (none, &[3], 6, 10),
-        (none, &[4], 0, 12),
-        (&[1], &[1], 5, 0),
+    let table: &[(&[u64], &[u64], usize, usize, u8, &str)] = &[
+        (&[], &[], 100, 5, 0, "match 1 0 1\n"),
+        (&[1], &[], 100, 5, 5, ""),
+        (&[2, 3], &[], 100, 5, 5, ""),
+        (&[7], &[], 100, 5, 5, ""),
+        (&[8], &[], 100, 5, 0, "match 1 0 1\n"),
+        (&[], &[1], 100, 5, 6, ""),
+        (&[], &[2], 100, 5, 6, "match"),
+        (&[], &[3], 100, 5, 6, "match 1 0 "),
+        (&[], &[4], 100, 5, 0, "match 1 0 1\n"),
+        (&[1], &[1], 100, 5, 5, ""),
+        (&[], &[], 4, 100, 6, "matc"),
     ];
-    for (failing_reads, failing_writes, status, count) in cases {
-        let mut source = MemSource::new(script, 8, failing_reads);
-        let mut sink = MemSink::new(rt.alloc(), 100, 5, failing_writes)?;
-        let told = run(rt.alloc(), &find_words(rt.alloc())?, &mut source, &mut sink);
-        assert!(rt;
-            told == status,
-            "{failing_reads:?}, {failing_writes:?}: {told}"
-        );
-        let written = sink.bytes();
-        assert!(rt;
-            written.len() == count && line.starts_with(written),
-            "{failing_reads:?}, {failing_writes:?}: {written:?}"
-        );
+    for (failing_reads, failing_writes, room, most, status, written) in table {
+        let outside = Outside {
+            text: SCRIPT.as_bytes(),
+            most_read: 8,
+            failing_reads,
+            room: *room,
+            most_written: *most,
+            failing_writes,
+        };
+        compare(&rt, rt.alloc(), &["find"], outside, (*status, written))?;
     }
-    let mut source = MemSource::new(script, 8, &[]);
-    let mut full = MemSink::new(rt.alloc(), 4, 100, &[])?;
-    assert_eq!(rt;
-        run(rt.alloc(), &find_words(rt.alloc())?, &mut source, &mut full),
-        6
-    );
-    assert_eq!(rt; full.bytes(), b"matc".as_slice());
     Ok(())
 }

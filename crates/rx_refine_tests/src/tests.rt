@@ -1,7 +1,9 @@
 //! What no clause says: worked tables, and that a call has an answer. Each answer is compared with that
 //! of the plain refinement, and the steps with the limit.
+//!
+//! What a refinement asks of a table is asserted of each, so tables can come from anywhere.
 
-ghost use Rattle.std.specs.Prelude.{◌≡◌, ℕ, ◌+◌, ◌*◌, ◌/◌, ◌<◌, ◌≤◌, ◌^◌, length, slice_index, All, IfOk};
+ghost use Rattle.std.specs.Prelude.{◌≡◌, ℕ, ◌+◌, ◌*◌, ◌/◌, ◌<◌, ◌≤◌, ◌^◌, length, slice_index, All, IfOk, IsTrue};
 ghost use Rattle.rx_refine.specs.Moves.{AreMoves};
 
 use crate::plain::first_alike_rows;
@@ -10,6 +12,26 @@ use rx_steps::Tally;
 use std::alloc::{AllocError, Global};
 use std::process::Abort;
 use std::test::Fail;
+
+/// A table: how many units there are, for each row the next row at each unit, and the rows' labels.
+#[derive(Clone, Copy)]
+struct Table<'a> {
+    units: usize,
+    next: &'a [u32],
+    labels: &'a [u32],
+}
+
+/// Whether each number is below a bound.
+fn are_below(numbers: &[u32], bound: usize) -> bool
+    ensures { IsTrue result → All (λ number. number < bound) numbers.now }
+{
+    for number in numbers {
+        if *number as usize >= bound {
+            return false;
+        }
+    }
+    true
+}
 
 /// The blocks of a table, and how many steps they took.
 fn refined(
@@ -21,7 +43,6 @@ fn refined(
     requires units { incoming.now.units ≤ 64 }
     requires labels_len { length labels.now ≡ incoming.now.rows }
     requires labels { All (λ label. label < incoming.now.rows) labels.now }
-    ensures { IfOk result (λ refined. length refined.0.items ≡ incoming.now.rows) }
 {
     let mut steps = Steps::new(Tally);
     laws::room();
@@ -31,61 +52,54 @@ fn refined(
 
 /// The blocks, each named by its first row, and how many steps they took. They are those of the plain
 /// refinement, and the steps are within the limit.
-fn compared(
-    rt: &impl Abort,
-    alloc: Global,
-    units: usize,
-    next: &[u32],
-    labels: &[u32],
-) -> Result<(Vec<u32>, u64), AllocError>
-    requires cells { length next.now ≡ length labels.now * units }
-    requires nexts { All (λ row. row < length labels.now) next.now }
-    requires labels { All (λ label. label < length labels.now) labels.now }
-    requires rows { length labels.now ≤ 1024 }
-    requires units { units ≤ 64 }
-{
+fn compared(rt: &impl Abort, alloc: Global, table: Table<'_>) -> Result<(Vec<u32>, u64), Fail> {
+    let Table {
+        units,
+        next,
+        labels,
+    } = table;
     let rows = labels.len();
+    assert!(rt; units <= 64 && rows <= 1024);
+    assert!(rt; next.len() == rows * units && are_below(next, rows) && are_below(labels, rows));
     let incoming = Incoming::new(alloc, rows, units, next)?;
     let (blocks, steps) = refined(alloc, &incoming, labels)?;
     let named = named_by_first(alloc, &blocks)?;
     let wanted = first_alike_rows(alloc, units, next, labels)?;
-    assert!(rt;
-        named.as_slice() == wanted.as_slice(),
-        "{next:?} {labels:?}: {named:?}, {wanted:?}"
-    );
     let digits = usize::BITS - rows.leading_zeros();
     let limit = (2 * units * rows) as u64 * u64::from(digits);
-    assert!(rt; steps <= limit, "{next:?} {labels:?}");
+    assert!(rt;
+        named.as_slice() == wanted.as_slice() && steps <= limit,
+        "{next:?} {labels:?}: {named:?}, {wanted:?}"
+    );
     Ok((named, steps))
 }
 
-/// The blocks. They and the steps are the same where the rows stand one behind the other, and where they
-/// are so far apart and hold identifiers.
+/// The greatest block. The blocks and the steps are the same where the rows stand one behind the other, and
+/// where they are so far apart and hold identifiers.
 fn compared_in_place(
     rt: &impl Abort,
     alloc: Global,
-    units: usize,
+    table: Table<'_>,
     stride2: usize,
-    next: &[u32],
-    labels: &[u32],
-) -> Result<Vec<u32>, AllocError>
-    requires cells { length next.now ≡ length labels.now * units }
-    requires nexts { All (λ row. row < length labels.now) next.now }
-    requires labels { All (λ label. label < length labels.now) labels.now }
-    requires rows { length labels.now ≤ 2 ^ 20 }
-    requires units { units ≤ 64 }
+) -> Result<Option<u32>, Fail>
     requires stride2 { stride2 ≤ 10 }
-    requires stride { units ≤ 2 ^ stride2 }
 {
+    let Table {
+        units,
+        next,
+        labels,
+    } = table;
     let rows = labels.len();
+    assert!(rt; units <= 64 && rows <= 1048576);
+    assert!(rt; units <= 1 << stride2 && next.len() == rows * units);
+    assert!(rt; are_below(next, rows) && are_below(labels, rows));
     let incoming = Incoming::new(alloc, rows, units, next)?;
-    let (blocks, steps) = refined(alloc, &incoming, labels)?;
-    let table = padded(alloc, rows, units, 1 << stride2, next)?;
-    let in_place = Incoming::from_ids(alloc, rows, units, stride2, &table)?;
-    let (same_blocks, same_steps) = refined(alloc, &in_place, labels)?;
-    assert!(rt; same_blocks.as_slice() == blocks.as_slice());
-    assert!(rt; same_steps == steps);
-    Ok(blocks)
+    let told = refined(alloc, &incoming, labels)?;
+    let entries = padded(alloc, rows, units, 1 << stride2, next)?;
+    let in_place = Incoming::from_ids(alloc, rows, units, stride2, &entries)?;
+    let same = refined(alloc, &in_place, labels)?;
+    assert!(rt; told.0.as_slice() == same.0.as_slice() && told.1 == same.1);
+    Ok(told.0.iter().max().copied())
 }
 
 /// The table with rows `stride` entries apart and identifiers of rows. The entries behind those of the units
@@ -116,13 +130,11 @@ fn padded(
 }
 
 /// For each row the first row with its number.
-fn named_by_first(alloc: Global, numbers: &[u32]) -> Result<Vec<u32>, AllocError>
-    requires { length numbers.now ≤ 1024 }
-{
+fn named_by_first(alloc: Global, numbers: &[u32]) -> Result<Vec<u32>, Fail> {
     let mut named = Vec::with_capacity(alloc, numbers.len())?;
-    for row in 0..numbers.len() {
-        let first = numbers.iter().position(|number| *number == numbers[row]);
-        named.push(first.unwrap_or(row) as u32)?;
+    for number in numbers {
+        let first = numbers.iter().position(|other| *other == *number);
+        named.push(u32::try_from(first.unwrap_or(0))?)?;
     }
     Ok(named)
 }
@@ -130,30 +142,41 @@ fn named_by_first(alloc: Global, numbers: &[u32]) -> Result<Vec<u32>, AllocError
 /// The digits of a number in a base, the least first.
 fn digits(alloc: Global, code: u64, base: u32, count: usize) -> Result<Vec<u32>, AllocError>
     requires { 0 < base }
-    ensures len { IfOk result (λ digits. length digits.items ≡ count) }
-    ensures small { IfOk result (λ digits. All (λ digit. digit < base) digits.items) }
 {
     let mut digits = Vec::with_capacity(alloc, count)?;
     let mut rest = code;
-    for _i in 0..count {
+    for _ in 0..count {
         digits.push((rest % u64::from(base)) as u32)?;
         rest /= u64::from(base);
     }
     Ok(digits)
 }
 
+/// Worked tables, the last of which has no rows, no blocks and no steps.
 #[test]
 fn worked_tables(rt: HostRuntime) -> Result<(), Fail> {
-    let alloc = rt.alloc();
-    let (apart, steps) = compared(&rt, alloc, 1, &[1, 2, 3, 3], &[0, 0, 0, 1])?;
-    assert_eq!(rt; apart.as_slice(), [0, 1, 2, 3].as_slice());
-    assert!(rt; steps <= 24);
-    let (one, steps) = compared(&rt, alloc, 1, &[1, 0, 3, 2], &[0, 0, 0, 0])?;
-    assert_eq!(rt; one.as_slice(), [0, 0, 0, 0].as_slice());
-    assert!(rt; steps <= 24);
-    let (two, steps) = compared(&rt, alloc, 1, &[1, 0, 3, 2], &[0, 0, 0, 1])?;
-    assert_eq!(rt; two.as_slice(), [0, 0, 2, 3].as_slice());
-    assert!(rt; steps <= 24);
+    let rows: &[(usize, &[u32], &[u32], &[u32], u64)] = &[
+        (1, &[1, 2, 3, 3], &[0, 0, 0, 1], &[0, 1, 2, 3], 24),
+        (1, &[1, 0, 3, 2], &[0, 0, 0, 0], &[0, 0, 0, 0], 24),
+        (1, &[1, 0, 3, 2], &[0, 0, 0, 1], &[0, 0, 2, 3], 24),
+        (2, &[], &[], &[], 0),
+    ];
+    for (units, next, labels, want, most) in rows {
+        let units = *units;
+        let (named, steps) = compared(
+            &rt,
+            rt.alloc(),
+            Table {
+                units,
+                next,
+                labels,
+            },
+        )?;
+        assert!(rt;
+            named.as_slice() == *want && steps <= *most,
+            "{named:?} in {steps}"
+        );
+    }
     Ok(())
 }
 
@@ -161,8 +184,7 @@ fn worked_tables(rt: HostRuntime) -> Result<(), Fail> {
 /// and two units. Blocks of so few rows are taken one by one.
 #[test]
 fn small_tables(rt: HostRuntime) -> Result<(), Fail> {
-    let alloc = rt.alloc();
-    let shapes: [(u32, usize, u64, u64, u64); 12] = [
+    let shapes: &[(u32, usize, u64, u64, u64)] = &[
         (1, 0, 1, 1, 1),
         (2, 0, 4, 1, 1),
         (3, 0, 27, 1, 1),
@@ -177,14 +199,12 @@ fn small_tables(rt: HostRuntime) -> Result<(), Fail> {
         (4, 2, 256, 675, 97),
     ];
     for (rows, units, labellings, tables, step) in shapes {
-        assert!(rt; 0 < rows);
-        assert!(rt; rows <= 4);
-        assert!(rt; units <= 2);
-        for labelling in 0..labellings {
-            let labels = digits(alloc, labelling, rows, rows as usize)?;
-            let named = named_by_first(alloc, &labels)?;
+        assert!(rt; 0 < *rows && *rows <= 4);
+        for labelling in 0..*labellings {
+            let labels = digits(rt.alloc(), labelling, *rows, *rows as usize)?;
+            let named = named_by_first(rt.alloc(), &labels)?;
             if named.as_slice() == labels.as_slice() {
-                labelled_tables(&rt, alloc, units, &labels, tables, step)?;
+                compare_labelled(&rt, rt.alloc(), *units, &labels, *tables, *step)?;
             }
         }
     }
@@ -192,54 +212,55 @@ fn small_tables(rt: HostRuntime) -> Result<(), Fail> {
 }
 
 /// Compares so many tables with these labels, whose codes are so far apart.
-fn labelled_tables(
+fn compare_labelled(
     rt: &impl Abort,
     alloc: Global,
     units: usize,
     labels: &[u32],
     tables: u64,
     step: u64,
-) -> Result<(), AllocError>
-    requires some { 0 < length labels.now }
-    requires rows { length labels.now ≤ 4 }
-    requires units { units ≤ 2 }
-    requires labels { All (λ label. label < length labels.now) labels.now }
-{
+) -> Result<(), Fail> {
     let rows = labels.len();
+    assert!(rt; 0 < rows && rows <= 4 && units <= 2);
     for table in 0..tables {
         let code = table.wrapping_mul(step);
         let next = digits(alloc, code, rows as u32, rows * units)?;
-        compared(rt, alloc, units, &next, labels)?;
+        let next = &next;
+        compared(
+            rt,
+            alloc,
+            Table {
+                units,
+                next,
+                labels,
+            },
+        )?;
     }
     Ok(())
 }
 
 /// A pseudo-random number below the bound.
-fn random_below(seed: &mut u64, bound: usize) -> usize
+fn random_below(seed: &mut u64, bound: u32) -> u32
     requires { 0 < bound }
-    ensures { result < bound }
 {
     *seed = seed
         .wrapping_mul(6364136223846793005)
         .wrapping_add(1442695040888963407);
-    (*seed >> 33) as usize % bound
+    ((*seed >> 33) % u64::from(bound)) as u32
 }
 
 /// Pseudo-random numbers below the bound.
 fn random_numbers(
     alloc: Global,
     seed: &mut u64,
-    bound: usize,
-    count: usize,
+    bound: u32,
+    count: u32,
 ) -> Result<Vec<u32>, AllocError>
-    requires some { 0 < bound }
-    requires bound { bound ≤ 2 ^ 20 }
-    ensures len { IfOk result (λ numbers. length numbers.items ≡ count) }
-    ensures small { IfOk result (λ numbers. All (λ number. number < bound) numbers.items) }
+    requires { 0 < bound }
 {
-    let mut numbers = Vec::with_capacity(alloc, count)?;
-    for _i in 0..count {
-        numbers.push(random_below(seed, bound) as u32)?;
+    let mut numbers = Vec::with_capacity(alloc, count as usize)?;
+    for _ in 0..count {
+        numbers.push(random_below(seed, bound))?;
     }
     Ok(numbers)
 }
@@ -249,77 +270,77 @@ fn random_numbers(
 fn copied(
     alloc: Global,
     seed: &mut u64,
-    classes: usize,
-    copies: usize,
-    units: usize,
+    classes: u32,
+    copies: u32,
     next: &[u32],
 ) -> Result<Vec<u32>, AllocError>
-    requires classes { classes ≤ 32 }
-    requires copies { copies ≤ 32 }
-    requires some { 0 < copies }
-    requires units { units ≤ 64 }
-    requires cells { length next.now ≡ classes * units }
-    requires nexts { All (λ class. class < classes) next.now }
-    ensures len { IfOk result (λ rows. length rows.items ≡ copies * length next.now) }
-    ensures small { IfOk result (λ rows. All (λ row. row < classes * copies) rows.items) }
+    requires { 0 < copies }
 {
-    let mut rows = Vec::with_capacity(alloc, copies * next.len())?;
-    for _copy in 0..copies {
+    let mut rows = Vec::new(alloc);
+    for _ in 0..copies {
         for class in next {
-            let row = *class as usize + classes * random_below(seed, copies);
-            rows.push(row as u32)?;
+            let copy = random_below(seed, copies);
+            rows.push(classes.wrapping_mul(copy).wrapping_add(*class))?;
         }
     }
     Ok(rows)
 }
 
 /// The labels of such a table's rows.
-fn copied_labels(alloc: Global, copies: usize, labels: &[u32]) -> Result<Vec<u32>, AllocError>
-    requires classes { length labels.now ≤ 32 }
-    requires copies { copies ≤ 32 }
-    requires some { 0 < copies }
-    requires labels { All (λ label. label < length labels.now) labels.now }
-    ensures len { IfOk result (λ rows. length rows.items ≡ copies * length labels.now) }
-    ensures small { IfOk result (λ rows. All (λ label. label < copies * length labels.now) rows.items) }
-{
-    let mut rows = Vec::with_capacity(alloc, copies * labels.len())?;
-    for _copy in 0..copies {
+fn copied_labels(alloc: Global, copies: u32, labels: &[u32]) -> Result<Vec<u32>, AllocError> {
+    let mut rows = Vec::new(alloc);
+    for _ in 0..copies {
         rows.extend_from_slice(labels)?;
     }
     Ok(rows)
 }
 
 /// Compares a random table, and one in which each of its rows has several copies.
-fn random_tables(
+fn compare_copies(
     rt: &impl Abort,
     alloc: Global,
     seed: &mut u64,
-    classes: usize,
-    copies: usize,
-    units: usize,
-) -> Result<(), AllocError>
-    requires classes { classes ≤ 32 }
-    requires some_class { 0 < classes }
-    requires copies { copies ≤ 32 }
-    requires some_copy { 0 < copies }
-    requires units { units ≤ 64 }
+    classes: u32,
+    copies: u32,
+    units: u32,
+) -> Result<(), Fail>
+    requires classes { 0 < classes }
+    requires copies { 0 < copies }
 {
-    let next = random_numbers(alloc, seed, classes, classes * units)?;
+    let next = random_numbers(alloc, seed, classes, classes.wrapping_mul(units))?;
     let labels = random_numbers(alloc, seed, classes.min(2), classes)?;
-    compared(rt, alloc, units, &next, &labels)?;
-    let many_next = copied(alloc, seed, classes, copies, units, &next)?;
-    let many_labels = copied_labels(alloc, copies, &labels)?;
-    compared(rt, alloc, units, &many_next, &many_labels)?;
+    compare_table(rt, alloc, units, &next, &labels)?;
+    let next = copied(alloc, seed, classes, copies, &next)?;
+    let labels = copied_labels(alloc, copies, &labels)?;
+    compare_table(rt, alloc, units, &next, &labels)
+}
+
+fn compare_table(
+    rt: &impl Abort,
+    alloc: Global,
+    units: u32,
+    next: &[u32],
+    labels: &[u32],
+) -> Result<(), Fail> {
+    let units = units as usize;
+    compared(
+        rt,
+        alloc,
+        Table {
+            units,
+            next,
+            labels,
+        },
+    )?;
     Ok(())
 }
 
 #[test]
 fn tables_with_copies(rt: HostRuntime) -> Result<(), Fail> {
-    let alloc = rt.alloc();
     let mut seed = 7;
     for classes in 1..33 {
         for units in 1..4 {
-            random_tables(&rt, alloc, &mut seed, classes, 10, units)?;
+            compare_copies(&rt, rt.alloc(), &mut seed, classes, 10, units)?;
         }
     }
     Ok(())
@@ -328,23 +349,19 @@ fn tables_with_copies(rt: HostRuntime) -> Result<(), Fail> {
 /// Random tables of some hundred rows. Their blocks are taken at once, as long as many rows wait.
 #[test]
 fn large_random_tables(rt: HostRuntime) -> Result<(), Fail> {
-    let alloc = rt.alloc();
     let mut seed = 11;
-    for rows in [100, 300] {
-        for units in 1..3 {
-            let next = random_numbers(alloc, &mut seed, rows, rows * units)?;
-            let labels = random_numbers(alloc, &mut seed, 2, rows)?;
-            compared(&rt, alloc, units, &next, &labels)?;
-        }
+    let sizes: &[(u32, u32)] = &[(100, 1), (100, 2), (300, 1), (300, 2)];
+    for (rows, units) in sizes {
+        assert!(rt; 0 < *rows);
+        let next = random_numbers(rt.alloc(), &mut seed, *rows, rows.wrapping_mul(*units))?;
+        let labels = random_numbers(rt.alloc(), &mut seed, 2, *rows)?;
+        compare_table(&rt, rt.alloc(), *units, &next, &labels)?;
     }
     Ok(())
 }
 
 /// The rows of a chain: each leads to the one behind it, and the last one to itself.
-fn chain_rows(alloc: Global, rows: u32) -> Result<Vec<u32>, AllocError>
-    ensures len { IfOk result (λ next. length next.items ≡ rows) }
-    ensures small { IfOk result (λ next. All (λ row. row < rows) next.items) }
-{
+fn chain_rows(alloc: Global, rows: u32) -> Result<Vec<u32>, AllocError> {
     let mut next = Vec::with_capacity(alloc, rows as usize)?;
     for row in 0..rows {
         next.push((row + 1).min(rows - 1))?;
@@ -353,10 +370,7 @@ fn chain_rows(alloc: Global, rows: u32) -> Result<Vec<u32>, AllocError>
 }
 
 /// A label for the last row, and one for the others.
-fn last_labelled(alloc: Global, rows: u32) -> Result<Vec<u32>, AllocError>
-    ensures len { IfOk result (λ labels. length labels.items ≡ rows) }
-    ensures small { IfOk result (λ labels. All (λ label. label < 2) labels.items) }
-{
+fn last_labelled(alloc: Global, rows: u32) -> Result<Vec<u32>, AllocError> {
     let mut labels = Vec::with_capacity(alloc, rows as usize)?;
     for row in 0..rows {
         labels.push(u32::from(row + 1 == rows))?;
@@ -364,56 +378,109 @@ fn last_labelled(alloc: Global, rows: u32) -> Result<Vec<u32>, AllocError>
     Ok(labels)
 }
 
-/// In a chain the rounds are as many as the rows. Behind the first its blocks are taken one by one.
+/// In a chain the rounds are as many as the rows. Behind the first its blocks are taken one by one. The rows
+/// of a long chain are all apart too.
 #[test]
-fn chain(rt: HostRuntime) -> Result<(), Fail> {
+fn chains(rt: HostRuntime) -> Result<(), Fail> {
     let alloc = rt.alloc();
-    let next = chain_rows(alloc, 200)?;
-    let labels = last_labelled(alloc, 200)?;
-    let (apart, _steps) = compared(&rt, alloc, 1, &next, &labels)?;
-    for row in 0..apart.len() {
-        assert!(rt; apart[row] as usize == row);
-    }
+    let units = 1;
+    let next = &chain_rows(alloc, 200)?;
+    let labels = &last_labelled(alloc, 200)?;
+    let (apart, _steps) = compared(
+        &rt,
+        alloc,
+        Table {
+            units,
+            next,
+            labels,
+        },
+    )?;
+    assert!(rt;
+        apart
+            .iter()
+            .enumerate()
+            .all(|(row, block)| *block as usize == row)
+    );
+    let next = &chain_rows(alloc, 100_000)?;
+    let labels = &last_labelled(alloc, 100_000)?;
+    let greatest = compared_in_place(
+        &rt,
+        alloc,
+        Table {
+            units,
+            next,
+            labels,
+        },
+        1,
+    )?;
+    assert!(rt; greatest == Some(99_999));
     Ok(())
 }
 
 /// Tables are read where they lie, with no, some and much room behind the units of a row.
 #[test]
 fn tables_in_place(rt: HostRuntime) -> Result<(), Fail> {
-    let alloc = rt.alloc();
-    compared_in_place(&rt, alloc, 1, 0, &[1, 2, 3, 3], &[0, 0, 0, 1])?;
-    compared_in_place(&rt, alloc, 1, 2, &[1, 0, 3, 2], &[0, 0, 0, 1])?;
-    compared_in_place(&rt, alloc, 2, 1, &[1, 2, 0, 0, 2, 1], &[0, 1, 1])?;
-    compared_in_place(&rt, alloc, 0, 0, &[], &[0])?;
-    compared_in_place(&rt, alloc, 3, 2, &[], &[])?;
+    let rows: &[(usize, usize, &[u32], &[u32])] = &[
+        (1, 0, &[1, 2, 3, 3], &[0, 0, 0, 1]),
+        (1, 2, &[1, 0, 3, 2], &[0, 0, 0, 1]),
+        (2, 1, &[1, 2, 0, 0, 2, 1], &[0, 1, 1]),
+        (0, 0, &[], &[0]),
+        (3, 2, &[], &[]),
+    ];
+    for (units, stride2, next, labels) in rows {
+        let units = *units;
+        assert!(rt; *stride2 <= 10);
+        compared_in_place(
+            &rt,
+            rt.alloc(),
+            Table {
+                units,
+                next,
+                labels,
+            },
+            *stride2,
+        )?;
+    }
     let mut seed = 13;
-    for rows in [1, 7, 60] {
+    let sizes: &[u32] = &[1, 7, 60];
+    for rows in sizes {
         for units in 1..6 {
-            let next = random_numbers(alloc, &mut seed, rows, rows * units)?;
-            let labels = random_numbers(alloc, &mut seed, rows.min(3), rows)?;
-            compared_in_place(&rt, alloc, units, 3, &next, &labels)?;
-            compared_in_place(&rt, alloc, units, 9, &next, &labels)?;
+            compare_random_in_place(&rt, rt.alloc(), &mut seed, *rows, units)?;
         }
     }
     Ok(())
 }
 
-/// The rows of a long chain are all apart.
-#[test]
-fn long_chain(rt: HostRuntime) -> Result<(), Fail> {
-    let alloc = rt.alloc();
-    let next = chain_rows(alloc, 100_000)?;
-    let labels = last_labelled(alloc, 100_000)?;
-    let blocks = compared_in_place(&rt, alloc, 1, 1, &next, &labels)?;
-    assert_eq!(rt; blocks.iter().max().copied(), Some(99_999));
-    Ok(())
-}
-
-/// A table without rows has no blocks, and takes no steps.
-#[test]
-fn no_rows(rt: HostRuntime) -> Result<(), Fail> {
-    let (apart, steps) = compared(&rt, rt.alloc(), 2, &[], &[])?;
-    assert!(rt; apart.is_empty());
-    assert!(rt; steps == 0);
+fn compare_random_in_place(
+    rt: &impl Abort,
+    alloc: Global,
+    seed: &mut u64,
+    rows: u32,
+    units: u32,
+) -> Result<(), Fail> {
+    assert!(rt; 0 < rows);
+    let next = &random_numbers(alloc, seed, rows, rows.wrapping_mul(units))?;
+    let labels = &random_numbers(alloc, seed, rows.min(3), rows)?;
+    let units = units as usize;
+    compared_in_place(
+        rt,
+        alloc,
+        Table {
+            units,
+            next,
+            labels,
+        },
+        3,
+    )?;
+    compared_in_place(
+        rt,
+        alloc,
+        Table {
+            units,
+            next,
+            labels,
+        },
+        9,
+    )?;
     Ok(())
 }

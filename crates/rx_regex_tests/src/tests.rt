@@ -2,221 +2,228 @@
 
 ghost use Rattle.rx_regex.specs.Plan.{IsBuilt};
 
-use rx_base::{Anchored, ByteSet, Input, Look, PatternID, StartKind};
-use rx_expr::{Expr, ExprError};
-use rx_regex::{FindFault, Plan, compile_and_find};
+use rx_base::{Anchored, Input, PatternID, StartKind};
+use rx_notation::read;
+use rx_regex::{Plan, compile_and_find};
 use std::alloc::Global;
 use std::process::Abort;
 use std::test::Fail;
 
-/// What is searched: a haystack, the span in it, and where a match may begin.
+/// What a plan has that is not usual.
 #[derive(Clone, Copy)]
-struct Asked<'h>(&'h [u8], usize, usize, Anchored);
+enum Change {
+    LineTerminator(u8),
+    Quit(u8),
+    UnicodeWord,
+    PatternStarts,
+    Starts(StartKind),
+    NfaLimit(usize),
+}
 
-/// The pattern, start and end of what is found.
-fn find(
+/// Where a match may begin, and of which pattern it is.
+#[derive(Clone, Copy)]
+enum Mode {
+    Anywhere,
+    AtStart,
+    OfPattern(usize),
+}
+
+/// What is searched: a haystack and the span in it.
+#[derive(Clone, Copy)]
+struct Asked<'h>(&'h [u8], usize, usize, Mode);
+
+fn apply(plan: &mut Plan, change: Change)
+    requires { IsBuilt plan.old }
+    ensures { IsBuilt plan.new }
+{
+    match change {
+        Change::LineTerminator(byte) => plan.line_terminator = byte,
+        Change::Quit(byte) => plan.quit.add(byte),
+        Change::UnicodeWord => plan.unicode_word = true,
+        Change::PatternStarts => plan.pattern_starts = true,
+        Change::Starts(kind) => plan.start_kind = kind,
+        Change::NfaLimit(limit) => plan.nfa_limit = Some(limit),
+    }
+}
+
+/// The usual plan with at most two changes.
+fn plan_with(changes: &[Change]) -> Plan
+    ensures { IsBuilt result }
+{
+    let mut plan = Plan::new();
+    if let Some(first) = changes.first() {
+        apply(&mut plan, *first);
+    }
+    if let Some(second) = changes.get(1) {
+        apply(&mut plan, *second);
+    }
+    plan
+}
+
+fn mode_of(mode: Mode) -> Result<Anchored, Fail> {
+    match mode {
+        Mode::Anywhere => Ok(Anchored::No),
+        Mode::AtStart => Ok(Anchored::Yes),
+        Mode::OfPattern(pattern) => Ok(Anchored::Pattern(PatternID::new(pattern)?)),
+    }
+}
+
+/// The pattern, the start and the end of what is found, or why nothing can be.
+fn told(
     rt: &impl Abort,
     alloc: Global,
-    exprs: &[Expr],
-    plan: &Plan,
+    patterns: &str,
+    changes: &[Change],
     asked: Asked<'_>,
-) -> Result<Option<(u32, usize, usize)>, FindFault>
-    requires { IsBuilt plan.now }
-{
+) -> Result<String, Fail> {
+    let exprs = read(alloc, patterns)?;
     assert!(rt; Input::fits(asked.0.len(), asked.1, asked.2));
-    let input = Input::new(asked.0)
-        .range(asked.1, asked.2)
-        .anchored(asked.3);
-    let answer = compile_and_find(alloc, exprs, plan, &input)?;
-    match answer.found {
-        None => Ok(None),
-        Some(found) => Ok(Some((found.pattern().as_u32(), found.start(), found.end()))),
+    let input = Input::new(asked.0).range(asked.1, asked.2);
+    let input = input.anchored(mode_of(asked.3)?);
+    match compile_and_find(alloc, &exprs, &plan_with(changes), &input) {
+        Ok(answer) => match answer.found {
+            None => Ok(String::from_str(alloc, "none")?),
+            Some(m) => {
+                let (start, end) = (m.start(), m.end());
+                Ok(format!(in alloc; "{} {start} {end}", m.pattern().as_u32())?)
+            }
+        },
+        Err(fault) => Ok(fault.to_string(alloc)?),
     }
 }
 
-fn class(ranges: &[(u8, u8)]) -> Expr {
-    let mut set = ByteSet::empty();
-    for (first, last) in ranges {
-        for byte in *first..=*last {
-            set.add(byte);
-        }
+/// Compares what is told of a search.
+fn compare(
+    rt: &impl Abort,
+    alloc: Global,
+    patterns: &str,
+    changes: &[Change],
+    asked: Asked<'_>,
+    want: &str,
+) -> Result<(), Fail> {
+    let told = told(rt, alloc, patterns, changes, asked)?;
+    assert!(rt; told.as_str() == want, "{patterns}: {told}");
+    Ok(())
+}
+
+/// Compares what the usual plan tells of searches for a match anywhere in a span.
+fn compare_usual(
+    rt: &impl Abort,
+    alloc: Global,
+    rows: &[(&str, &str, usize, usize, &str)],
+) -> Result<(), Fail> {
+    for (patterns, haystack, start, end, want) in rows {
+        let asked = Asked(haystack.as_bytes(), *start, *end, Mode::Anywhere);
+        compare(rt, alloc, patterns, &[], asked, want)?;
     }
-    Expr::class(set)
+    Ok(())
 }
 
-fn literal(alloc: Global, text: &str) -> Result<Expr, ExprError> {
-    Expr::literal(alloc, text.as_bytes())
-}
-
-fn either(alloc: Global, first: &str, second: &str) -> Result<Expr, ExprError> {
-    Expr::alternate(alloc, literal(alloc, first)?, literal(alloc, second)?)
-}
-
-fn times(alloc: Global, count: u32, body: Expr) -> Result<Expr, ExprError> {
-    Expr::repeat(alloc, count, Some(count), true, body)
-}
+const LETTERS: &str =
+    "aaaaaaaaaaaaaaaaaaaaaaaaaaaaaaaaaaaaaaaaaaaaaaaaaaaaaaaaaaaaaaaaaaaaaaaaaaaaaaaa";
 
 /// `[0-9]{4}-[0-9]{2}-[0-9]{2}`
-fn date(alloc: Global) -> Result<Expr, ExprError> {
-    let year = times(alloc, 4, class(&[(b'0', b'9')]))?;
-    let month = times(alloc, 2, class(&[(b'0', b'9')]))?;
-    let day = times(alloc, 2, class(&[(b'0', b'9')]))?;
-    let end = Expr::concat(alloc, literal(alloc, "-")?, day)?;
-    let rest = Expr::concat(alloc, month, end)?;
-    let rest = Expr::concat(alloc, literal(alloc, "-")?, rest)?;
-    Expr::concat(alloc, year, rest)
-}
-
-/// `\b[0-9]+\b`, where the words are of Unicode.
-fn number(alloc: Global) -> Result<Expr, ExprError> {
-    let digits = Expr::repeat(alloc, 1, None, true, class(&[(b'0', b'9')]))?;
-    let tail = Expr::concat(alloc, digits, Expr::look(Look::WordUnicode))?;
-    Expr::concat(alloc, Expr::look(Look::WordUnicode), tail)
-}
-
-/// `(a?){40}a{40}b`
-fn optional_letters(alloc: Global) -> Result<Expr, ExprError> {
-    let letter = Expr::repeat(alloc, 0, Some(1), true, literal(alloc, "a")?)?;
-    let front = times(alloc, 40, letter)?;
-    let letters = times(alloc, 40, literal(alloc, "a")?)?;
-    let tail = Expr::concat(alloc, letters, literal(alloc, "b")?)?;
-    Expr::concat(alloc, front, tail)
-}
+const DATE: &str = "\\d {4,4} - \\d {2,2} - \\d {2,2} . . . .";
 
 #[test]
 fn the_leftmost_match_in_the_span_is_told(rt: HostRuntime) -> Result<(), Fail> {
-    let alloc = rt.alloc();
-    let plan = Plan::new();
-    let dates = "2018-12-24 2016-10-08";
-    let samwise = either(alloc, "Samwise", "Sam")?;
-    let rows = [
-        (literal(alloc, "a")?, "bab", 0, 3, Some((0, 1, 2))),
-        (literal(alloc, "a")?, "", 1, 0, None),
-        (samwise, "Samwise", 0, 3, Some((0, 0, 3))),
-        (date(alloc)?, dates, 0, 21, Some((0, 0, 10))),
-        (date(alloc)?, dates, 10, 21, Some((0, 11, 21))),
-        (Expr::empty(), "", 0, 0, Some((0, 0, 0))),
-        (Expr::look(Look::StartCRLF), "\r\n", 0, 2, Some((0, 0, 0))),
-        (Expr::look(Look::StartCRLF), "\r\n", 1, 2, Some((0, 2, 2))),
+    let rows: &[(&str, &str, usize, usize, &str)] = &[
+        ("a", "bab", 0, 3, "0 1 2"),
+        ("a", "", 1, 0, "none"),
+        ("Samwise Sam |", "Samwise", 0, 3, "0 0 3"),
+        (DATE, "2018-12-24 2016-10-08", 0, 21, "0 0 10"),
+        (DATE, "2018-12-24 2016-10-08", 10, 21, "0 11 21"),
+        ("_", "", 0, 0, "0 0 0"),
+        ("<startcrlf>", "\r\n", 0, 2, "0 0 0"),
+        ("<startcrlf>", "\r\n", 1, 2, "0 2 2"),
+        // (a?){40}a{40}b
+        ("a {0,1} {40,40} a {40,40} b . .", LETTERS, 0, 80, "none"),
     ];
-    for (expr, hay, start, end, want) in rows {
-        let asked = Asked(hay.as_bytes(), start, end, Anchored::No);
-        let told = find(&rt, alloc, &[expr], &plan, asked)?;
-        assert_eq!(rt; told, want, "at {hay} from {start} to {end}");
-    }
-    let asked = Asked(&[b'a'; 80], 0, 80, Anchored::No);
-    let told = find(&rt, alloc, &[optional_letters(alloc)?], &plan, asked)?;
-    assert_eq!(rt; told, None);
-    Ok(())
+    compare_usual(&rt, rt.alloc(), rows)
 }
 
 #[test]
 fn of_its_ends_the_preferred_is_told(rt: HostRuntime) -> Result<(), Fail> {
-    let alloc = rt.alloc();
-    let plan = Plan::new();
-    let letters = class(&[(0, b'w'), (b'y', 0xff)]);
-    let greedy = Expr::repeat(alloc, 0, None, true, letters)?;
-    let lazy = Expr::repeat(alloc, 1, None, false, literal(alloc, "a")?)?;
-    let rows = [
-        (either(alloc, "Samwise", "Sam")?, "Samwise", 7),
-        (either(alloc, "Sam", "Samwise")?, "Samwise", 3),
-        (either(alloc, "b", "ab")?, "ab", 2),
-        (greedy, "aaaxaa", 3),
-        (lazy, "aaa", 1),
+    let rows: &[(&str, &str, usize, usize, &str)] = &[
+        ("Samwise Sam |", "Samwise", 0, 7, "0 0 7"),
+        ("Sam Samwise |", "Samwise", 0, 7, "0 0 3"),
+        ("b ab |", "ab", 0, 2, "0 0 2"),
+        ("[^x] {0,}", "aaaxaa", 0, 6, "0 0 3"),
+        ("a {1,}?", "aaa", 0, 3, "0 0 1"),
     ];
-    for (expr, hay, end) in rows {
-        let asked = Asked(hay.as_bytes(), 0, hay.len(), Anchored::No);
-        let told = find(&rt, alloc, &[expr], &plan, asked)?;
-        assert_eq!(rt; told, Some((0, 0, end)), "at {hay}");
-    }
-    Ok(())
+    compare_usual(&rt, rt.alloc(), rows)
 }
 
 #[test]
 fn of_patterns_the_lowest_is_told(rt: HostRuntime) -> Result<(), Fail> {
     let alloc = rt.alloc();
-    let plan = Plan::new();
-    let words = class(&[(b'0', b'9'), (b'A', b'Z'), (b'_', b'_'), (b'a', b'z')]);
-    let visible = class(&[(0, 8), (0x0e, 0x1f), (0x21, 0xff)]);
-    let exprs = [
-        Expr::repeat(alloc, 1, None, true, words)?,
-        Expr::repeat(alloc, 1, None, true, visible)?,
+    let rows: &[(&str, &str, usize, usize, &str)] = &[
+        ("\\w {1,} \\S {1,}", "@foo bar", 0, 8, "1 0 4"),
+        ("\\w {1,} \\S {1,}", "@foo bar", 4, 8, "0 5 8"),
+        ("", "abc", 0, 3, "none"),
     ];
-    for (start, want) in [(0, Some((1, 0, 4))), (4, Some((0, 5, 8)))] {
-        let asked = Asked(b"@foo bar", start, 8, Anchored::No);
-        assert_eq!(rt; find(&rt, alloc, &exprs, &plan, asked)?, want);
-    }
-    let asked = Asked(b"abc", 0, 3, Anchored::No);
-    assert_eq!(rt; find(&rt, alloc, &[], &plan, asked)?, None);
-    let exprs = [literal(alloc, "a")?, literal(alloc, "b")?];
-    let asked = Asked(b"ba", 0, 2, Anchored::Yes);
-    assert_eq!(rt; find(&rt, alloc, &exprs, &plan, asked)?, Some((1, 0, 1)));
-    let mut plan = Plan::new();
-    plan.pattern_starts = true;
-    let rows = [(0, Some((0, 0, 1))), (1, None), (5, None)];
+    compare_usual(&rt, alloc, rows)?;
+    let asked = Asked(b"ba", 0, 2, Mode::AtStart);
+    compare(&rt, alloc, "a b", &[], asked, "1 0 1")?;
+    let rows: &[(usize, &str)] = &[(0, "0 0 1"), (1, "none"), (5, "none")];
     for (pattern, want) in rows {
-        let asked = Asked(b"a", 0, 1, Anchored::Pattern(PatternID::new(pattern)?));
-        assert_eq!(rt;
-            find(&rt, alloc, &exprs, &plan, asked)?,
-            want,
-            "pattern {pattern}"
-        );
+        let asked = Asked(b"a", 0, 1, Mode::OfPattern(*pattern));
+        compare(&rt, alloc, "a b", &[Change::PatternStarts], asked, want)?;
     }
     Ok(())
 }
 
-#[test]
-fn the_plan_decides_words_and_starts(rt: HostRuntime) -> Result<(), Fail> {
-    let alloc = rt.alloc();
-    let mut plan = Plan::new();
-    plan.line_terminator = b'a';
-    let word = Expr::concat(alloc, Expr::look(Look::WordAscii), literal(alloc, "x")?)?;
-    let asked = Asked(b"ax", 1, 2, Anchored::No);
-    assert_eq!(rt; find(&rt, alloc, &[word], &plan, asked)?, None);
-    let mut plan = Plan::new();
-    plan.quit.add(b'z');
-    let exprs = [literal(alloc, "a")?];
-    let asked = Asked(b"bz", 0, 2, Anchored::Yes);
-    assert_eq!(rt; find(&rt, alloc, &exprs, &plan, asked)?, None);
-    let mut plan = Plan::new();
-    plan.start_kind = StartKind::Unanchored;
-    let asked = Asked(b"a", 1, 0, Anchored::Yes);
-    assert_eq!(rt; find(&rt, alloc, &exprs, &plan, asked)?, None);
-    Ok(())
-}
-
-/// The byte and the offset at which a search gives up.
-fn quit(told: Result<Option<(u32, usize, usize)>, FindFault>) -> Option<(u8, usize)> {
-    match told {
-        Err(FindFault::Quit { byte, offset }) => Some((byte, offset)),
-        _ => None,
-    }
-}
+/// `\b[0-9]+\b`, where the words are of Unicode.
+const NUMBER: &str = "<uword> \\d {1,} <uword> . .";
 
 #[test]
-fn quit_bytes_are_told(rt: HostRuntime) -> Result<(), Fail> {
-    let alloc = rt.alloc();
-    let rows: [(u8, &[u8], usize, Anchored, Option<(u8, usize)>); 2] = [
-        (b'b', b"ba", 1, Anchored::No, Some((b'b', 0))),
-        (b'z', b"az", 0, Anchored::Yes, Some((b'z', 1))),
+fn the_plan_decides_words_starts_and_quits(rt: HostRuntime) -> Result<(), Fail> {
+    let rows: &[(&str, &[Change], Asked<'_>, &str)] = &[
+        (
+            "<word> x .",
+            &[Change::LineTerminator(b'a')],
+            Asked(b"ax", 1, 2, Mode::Anywhere),
+            "none",
+        ),
+        (
+            "a",
+            &[Change::Quit(b'z')],
+            Asked(b"bz", 0, 2, Mode::AtStart),
+            "none",
+        ),
+        (
+            "a",
+            &[Change::Starts(StartKind::Unanchored)],
+            Asked(b"a", 1, 0, Mode::AtStart),
+            "none",
+        ),
+        (
+            "a",
+            &[Change::Quit(b'b')],
+            Asked(b"ba", 1, 2, Mode::Anywhere),
+            "quit at the byte 0x62 at 0",
+        ),
+        (
+            "a",
+            &[Change::Quit(b'z')],
+            Asked(b"az", 0, 2, Mode::AtStart),
+            "quit at the byte 0x7a at 1",
+        ),
+        (
+            NUMBER,
+            &[Change::UnicodeWord],
+            Asked(b"\xce\xb2123", 2, 5, Mode::Anywhere),
+            "quit at the byte 0xb2 at 1",
+        ),
+        (
+            NUMBER,
+            &[Change::UnicodeWord],
+            Asked(b"123\xce\xb2", 0, 3, Mode::Anywhere),
+            "quit at the byte 0xce at 3",
+        ),
     ];
-    for (byte, hay, start, mode, want) in rows {
-        let mut plan = Plan::new();
-        plan.quit.add(byte);
-        let asked = Asked(hay, start, 2, mode);
-        let told = find(&rt, alloc, &[literal(alloc, "a")?], &plan, asked);
-        assert_eq!(rt; quit(told), want);
-    }
-    let mut plan = Plan::new();
-    plan.unicode_word = true;
-    let rows: [(&[u8], usize, usize, Option<(u8, usize)>); 2] = [
-        (b"\xce\xb2123", 2, 5, Some((0xb2, 1))),
-        (b"123\xce\xb2", 0, 3, Some((0xce, 3))),
-    ];
-    for (hay, start, end, want) in rows {
-        let asked = Asked(hay, start, end, Anchored::No);
-        let told = find(&rt, alloc, &[number(alloc)?], &plan, asked);
-        assert_eq!(rt; quit(told), want, "from {start} to {end}");
+    for (patterns, changes, asked, want) in rows {
+        compare(&rt, rt.alloc(), patterns, changes, *asked, want)?;
     }
     Ok(())
 }
@@ -228,51 +235,27 @@ const UNSUPPORTED: &str =
 
 const NFA_REFUSED: &str = "error building NFA";
 
-const NO_STARTS: &str = "the mode No is not supported";
-
-const QUIT: &str = "quit at the byte 0x62 at 0";
-
-/// The usual plan with another limit, other starts and other quit bytes.
-fn changed(nfa_limit: Option<usize>, start_kind: StartKind, quit: ByteSet) -> Plan
-    ensures { IsBuilt result }
-{
-    Plan {
-        nfa_limit,
-        start_kind,
-        quit,
-        ..Plan::new()
-    }
-}
-
 #[test]
 fn faults_say_why(rt: HostRuntime) -> Result<(), Fail> {
-    let alloc = rt.alloc();
-    let (none, kind) = (ByteSet::empty(), StartKind::Both);
-    let mut quits = ByteSet::empty();
-    quits.add(b'b');
-    let many = times(alloc, 65536, times(alloc, 65536, literal(alloc, "a")?)?)?;
-    let letter = || literal(alloc, "a");
-    let held = StartKind::Anchored;
-    let rows = [
-        (number(alloc)?, None, kind, none, UNSUPPORTED),
-        (many, None, kind, none, NFA_REFUSED),
-        (letter()?, Some(159), kind, none, NFA_REFUSED),
-        (letter()?, None, held, none, NO_STARTS),
-        (letter()?, None, held, quits, QUIT),
+    let rows: &[(&str, &[Change], &str)] = &[
+        (NUMBER, &[], UNSUPPORTED),
+        ("a {65536,65536} {65536,65536}", &[], NFA_REFUSED),
+        ("a", &[Change::NfaLimit(159)], NFA_REFUSED),
+        ("a", &[Change::NfaLimit(160)], "0 1 2"),
+        (
+            "a",
+            &[Change::Starts(StartKind::Anchored)],
+            "the mode No is not supported",
+        ),
+        (
+            "a",
+            &[Change::Starts(StartKind::Anchored), Change::Quit(b'b')],
+            "quit at the byte 0x62 at 0",
+        ),
     ];
-    for (expr, limit, kind, quit, want) in rows {
-        let plan = changed(limit, kind, quit);
-        let asked = Asked(b"ba", 1, 2, Anchored::No);
-        let told = find(&rt, alloc, &[expr], &plan, asked);
-        let fault = told.err().ok_or(want)?;
-        let text = fault.to_string(alloc)?;
-        assert_eq!(rt; text.as_str(), want);
+    for (patterns, changes, want) in rows {
+        let asked = Asked(b"ba", 1, 2, Mode::Anywhere);
+        compare(&rt, rt.alloc(), patterns, changes, asked, want)?;
     }
-    let plan = changed(Some(160), kind, none);
-    let asked = Asked(b"ba", 1, 2, Anchored::No);
-    assert_eq!(rt;
-        find(&rt, alloc, &[letter()?], &plan, asked)?,
-        Some((0, 1, 2))
-    );
     Ok(())
 }

@@ -1,13 +1,15 @@
-use rx_base::{Anchored, Look, PatternID, StartKind};
-use rx_expr::ExprKind;
-use rx_plan::{Form, Passage};
+//! What no clause shows: that scripts are read, and faults worked by hand.
+
+use rx_base::{Anchored, ByteSet, Look, PatternID, StartKind};
+use rx_expr::{Expr, ExprKind};
+use rx_plan::{Form, Passage, Plan};
 use rx_script::*;
-use std::alloc::Global;
+use std::alloc::{AllocError, Global};
 use std::process::Abort;
 use std::test::Fail;
 
 /// The text of a script that is given with a slash between two lines.
-fn text(alloc: Global, script: &str) -> Result<Vec<u8>, Fail> {
+fn text(alloc: Global, script: &str) -> Result<Vec<u8>, AllocError> {
     let mut text = Vec::with_capacity(alloc, script.len())?;
     for byte in script.as_bytes() {
         text.push(if *byte == b'/' { b'\n' } else { *byte })?;
@@ -17,8 +19,7 @@ fn text(alloc: Global, script: &str) -> Result<Vec<u8>, Fail> {
 
 /// The first fault of a script, if it has one.
 fn fault(alloc: Global, script: &str, with_input: bool) -> Result<Option<(u64, BadKind)>, Fail> {
-    let text = text(alloc, script)?;
-    match read_script(alloc, &text, with_input) {
+    match read_script(alloc, &text(alloc, script)?, with_input) {
         Ok(_) => Ok(None),
         Err(ScriptFault::Bad { line, kind }) => Ok(Some((line, kind))),
         Err(ScriptFault::Memory) => Err("want of memory")?,
@@ -27,17 +28,25 @@ fn fault(alloc: Global, script: &str, with_input: bool) -> Result<Option<(u64, B
 
 /// The script, which has no fault.
 fn script(alloc: Global, script: &str, with_input: bool) -> Result<Script, Fail> {
-    let text = text(alloc, script)?;
-    match read_script(alloc, &text, with_input) {
-        Ok(script) => Ok(script),
-        Err(ScriptFault::Bad { .. }) => Err("a fault")?,
-        Err(ScriptFault::Memory) => Err("want of memory")?,
-    }
+    Ok(read_script(alloc, &text(alloc, script)?, with_input)?)
+}
+
+/// Compares the first fault of a script with the one wanted.
+fn compare(
+    rt: &impl Abort,
+    alloc: Global,
+    script: &str,
+    with_input: bool,
+    want: Option<(u64, BadKind)>,
+) -> Result<(), Fail> {
+    let told = fault(alloc, script, with_input)?;
+    assert!(rt; told == want, "{script}: {told:?}");
+    Ok(())
 }
 
 #[test]
 fn the_first_fault_is_told(rt: HostRuntime) -> Result<(), Fail> {
-    let cases = [
+    let cases: &[(&str, u64, BadKind)] = &[
         ("/", 1, BadKind::Words),
         (" expr eps", 1, BadKind::Words),
         ("expr eps ", 1, BadKind::Words),
@@ -102,15 +111,14 @@ fn the_first_fault_is_told(rt: HostRuntime) -> Result<(), Fail> {
         ("input 2 0 no/hay -", 2, BadKind::Span),
     ];
     for (script, line, kind) in cases {
-        let told = fault(rt.alloc(), script, true)?;
-        assert!(rt; told == Some((line, kind)), "{script}: {told:?}");
+        compare(&rt, rt.alloc(), script, true, Some((*line, *kind)))?;
     }
     Ok(())
 }
 
 #[test]
 fn an_input_stands_where_it_is_asked_for(rt: HostRuntime) -> Result<(), Fail> {
-    let cases = [
+    let cases: &[(&str, Option<(u64, BadKind)>)] = &[
         ("expr eps", None),
         ("", None),
         ("plan rows/expr eps/", None),
@@ -119,28 +127,48 @@ fn an_input_stands_where_it_is_asked_for(rt: HostRuntime) -> Result<(), Fail> {
         ("expr eps/hay -", Some((2, BadKind::Order))),
         ("expr eps /input 0 0 no", Some((1, BadKind::Words))),
     ];
-    for (script, expected) in cases {
-        let told = fault(rt.alloc(), script, false)?;
-        assert!(rt; told == expected, "{script}: {told:?}");
+    for (script, want) in cases {
+        compare(&rt, rt.alloc(), script, false, *want)?;
     }
     let read = script(rt.alloc(), "plan rows/expr eps", false)?;
-    assert!(rt; read.rows);
-    assert!(rt; read.input.is_none());
-    assert_eq!(rt; read.exprs.as_slice().len(), 1);
+    assert!(rt; read.rows && read.input.is_none() && read.exprs.as_slice().len() == 1);
+    Ok(())
+}
+
+/// Adds a word so often.
+fn push_repeated(text: &mut String, word: &str, count: u32) -> Result<(), AllocError> {
+    for _ in 0..count {
+        text.push_str(word)?;
+    }
     Ok(())
 }
 
 #[test]
 fn expressions_are_at_most_200_deep(rt: HostRuntime) -> Result<(), Fail> {
-    for (rounds, told) in [(199, None), (200, Some((1, BadKind::TooDeep)))] {
+    let cases: &[(u32, Option<(u64, BadKind)>)] = &[
+        (199, None),
+        (200, Some((1, BadKind::TooDeep))),
+    ];
+    for (rounds, want) in cases {
         let mut script = String::from_str(rt.alloc(), "expr")?;
-        for _ in 0..rounds {
-            script.push_str(" rep 0 1 lazy")?;
-        }
+        push_repeated(&mut script, " rep 0 1 lazy", *rounds)?;
         script.push_str(" eps")?;
-        assert!(rt; fault(rt.alloc(), &script, false)? == told, "{rounds}");
+        compare(&rt, rt.alloc(), &script, false, *want)?;
     }
     Ok(())
+}
+
+/// Whether a plan is the one of `every_plan_word_is_taken`, whose quit bytes are 0x00 and 0x7a to 0x7c.
+fn has_every_word(plan: &Plan) -> bool {
+    let starts = (plan.start_kind, plan.pattern_starts, plan.mark_starts);
+    let bytes = (plan.byte_classes, plan.line_terminator, plan.unicode_word);
+    let limits = (plan.nfa_limit, plan.dfa_limit, plan.determinize_limit);
+    let tables = (plan.minimize, plan.accelerate, plan.form, plan.passage);
+    starts == (StartKind::Anchored, true, true)
+        && bytes == (false, 0xff, true)
+        && limits == (Some(1), Some(2), Some(4294967295))
+        && tables == (true, false, Form::Sparse, Passage::Bytes)
+        && plan.quit == ByteSet::from_halves(1 | 7 << 0x7a, 0)
 }
 
 #[test]
@@ -153,34 +181,31 @@ fn every_plan_word_is_taken(rt: HostRuntime) -> Result<(), Fail> {
          noaccel mark sparse bytes rows start=anchored/input 0 0 p2147483646/hay -",
         true,
     )?;
-    let plan = read.plan;
-    assert!(rt; read.rows && plan.pattern_starts && !plan.byte_classes && plan.unicode_word);
-    assert!(rt; plan.minimize && !plan.accelerate && plan.mark_starts);
-    assert_eq!(rt; plan.start_kind, StartKind::Anchored);
-    assert_eq!(rt; plan.form, Form::Sparse);
-    assert_eq!(rt; plan.passage, Passage::Bytes);
-    assert_eq!(rt; plan.line_terminator, 0xff);
-    assert_eq!(rt; plan.nfa_limit, Some(1));
-    assert_eq!(rt; plan.dfa_limit, Some(2));
-    assert_eq!(rt; plan.determinize_limit, Some(4294967295));
-    for (byte, quits) in [
-        (0, true),
-        (0x79, false),
-        (0x7a, true),
-        (0x7c, true),
-        (0x7d, false),
-    ] {
-        assert!(rt; plan.quit.contains(byte) == quits, "{byte}");
-    }
+    assert!(rt; read.rows && has_every_word(&read.plan));
     let input = read.input.ok_or("no input")?;
-    let pattern = PatternID::new(2147483646).ok();
-    assert!(rt; pattern.is_some() && input.mode.pattern() == pattern);
+    assert!(rt; input.mode.pattern() == Some(PatternID::new(2147483646)?));
     Ok(())
+}
+
+/// The assertion that a script's one expression is.
+fn look_of(alloc: Global, name: &str) -> Result<Option<Look>, Fail> {
+    let read = script(alloc, &format!(in alloc; "expr look {name}")?, false)?;
+    match read.exprs.as_slice() {
+        [expr] => Ok(look_in(expr)),
+        _ => Ok(None),
+    }
+}
+
+fn look_in(expr: &Expr) -> Option<Look> {
+    match expr.kind() {
+        ExprKind::Look(look) => Some(look),
+        _ => None,
+    }
 }
 
 #[test]
 fn every_assertion_has_a_name(rt: HostRuntime) -> Result<(), Fail> {
-    let cases = [
+    let cases: &[(&str, Look)] = &[
         ("start", Look::Start),
         ("end", Look::End),
         ("startlf", Look::StartLF),
@@ -201,43 +226,28 @@ fn every_assertion_has_a_name(rt: HostRuntime) -> Result<(), Fail> {
         ("uwordendhalf", Look::WordEndHalfUnicode),
     ];
     for (name, look) in cases {
-        let read = script(
-            rt.alloc(),
-            &format!(in rt.alloc(); "expr look {name}")?,
-            false,
-        )?;
-        let found = match read.exprs.as_slice() {
-            [expr] => match expr.kind() {
-                ExprKind::Look(found) => Some(found),
-                _ => None,
-            },
-            _ => None,
-        };
-        assert!(rt; found == Some(look), "{name}");
+        assert!(rt; look_of(rt.alloc(), name)? == Some(*look), "{name}");
     }
     Ok(())
+}
+
+/// Whether a script asks for the span from 1 to 65536 of a haystack whose bytes are 0 and 255 in turn.
+fn asks_for_long(input: &ScriptInput) -> bool {
+    let haystack = input.haystack.as_slice();
+    (input.start, input.end, input.mode) == (1, 65536, Anchored::Yes)
+        && (haystack.len(), haystack.first(), haystack.last()) == (65536, Some(&0), Some(&0xff))
 }
 
 #[test]
 fn long_words_are_read(rt: HostRuntime) -> Result<(), Fail> {
     let mut long = String::from_str(rt.alloc(), "expr cat lit ")?;
-    for _ in 0..3000 {
-        long.push_str("61")?;
-    }
+    push_repeated(&mut long, "61", 3000)?;
     long.push_str(" alt cls 61-63,65 rep 2 inf greedy lit 62/input 1 65536 yes/hay ")?;
-    for _ in 0..32768 {
-        long.push_str("00fF")?;
-    }
+    push_repeated(&mut long, "00fF", 32768)?;
     let read = script(rt.alloc(), &long, true)?;
-    match read.exprs.as_slice() {
-        [expr] => assert_eq!(rt; expr.min_len(), 3001),
-        _ => assert!(rt; false),
-    }
+    let expr = read.exprs.as_slice().first().ok_or("no expression")?;
+    assert!(rt; read.exprs.as_slice().len() == 1 && expr.min_len() == 3001);
     let input = read.input.ok_or("no input")?;
-    assert!(rt; input.start == 1 && input.end == 65536 && input.mode == Anchored::Yes);
-    let haystack = input.haystack.as_slice();
-    assert_eq!(rt; haystack.len(), 65536);
-    assert_eq!(rt; haystack[0], 0);
-    assert_eq!(rt; haystack[65535], 0xff);
+    assert!(rt; asks_for_long(&input));
     Ok(())
 }

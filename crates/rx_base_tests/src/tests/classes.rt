@@ -38,39 +38,89 @@ fn class_begins_at(classes: &ByteClasses, first: u8) -> bool {
     }
 }
 
+/// Whether bytes are in the classes of these numbers.
+fn have_numbers(classes: &ByteClasses, numbers: &[(u8, u8)]) -> bool {
+    for (byte, number) in numbers {
+        if classes.get(*byte) != *number {
+            return false;
+        }
+    }
+    true
+}
+
+fn classes_of_ranges(ranges: &[(u8, u8)]) -> ByteClasses {
+    let mut set = ByteClassSet::empty();
+    for (first, last) in ranges {
+        if first <= last {
+            set.set_range(*first, *last);
+        }
+    }
+    set.byte_classes()
+}
+
+/// The bytes of a text, and perhaps every byte, no byte, and those that are not ASCII.
+fn classes_of_sets(bytes: &[u8], with_full: bool, with_others: bool) -> ByteClasses {
+    let mut named = ByteSet::empty();
+    for byte in bytes {
+        named.add(*byte);
+    }
+    let mut set = ByteClassSet::empty();
+    set.add_set(&named);
+    if with_full {
+        set.add_set(&ByteSet::full());
+        set.add_set(&ByteSet::empty());
+    }
+    if with_others {
+        set.add_set(&ByteSet::non_ascii());
+    }
+    set.byte_classes()
+}
+
 #[test]
 fn classes_of_ranges_are_those_of_the_table(rt: HostRuntime) {
-    let mut letters = ByteClassSet::empty();
-    letters.set_range(b'a', b'z');
-    let classes = letters.byte_classes();
-    let table = [(0, 0), (b'a', 1), (b'm', 1), (b'z', 1), (255, 2)];
-    for (byte, class) in table {
-        assert_eq!(rt; classes.get(byte), class, "{byte}");
+    let table: &[(&[(u8, u8)], &[u8])] = &[
+        (&[(b'a', b'z')], &[0, b'a', b'{']),
+        (&[(0, 0), (255, 255)], &[0, 1, 255]),
+        (
+            &[(0, 0), (255, 255), (0, 255), (100, 200), (150, 250)],
+            &[0, 1, 100, 150, 201, 251, 255],
+        ),
+    ];
+    for (ranges, firsts) in table {
+        assert!(rt; begin_at(&classes_of_ranges(ranges), firsts), "{ranges:?}");
     }
-    assert!(rt; classes.alphabet_len() == 4 && classes.stride2() == 2);
-    assert!(rt; begin_at(&classes, &[0, b'a', b'{']));
+    let letters = classes_of_ranges(&[(b'a', b'z')]);
+    let numbers = &[(0, 0), (b'a', 1), (b'm', 1), (b'z', 1), (255, 2)];
+    assert!(rt; have_numbers(&letters, numbers));
+    assert!(rt; letters.alphabet_len() == 4 && letters.stride2() == 2);
+}
 
-    let mut ends = ByteClassSet::empty();
-    ends.set_range(0, 0);
-    ends.set_range(255, 255);
-    assert!(rt; begin_at(&ends.byte_classes(), &[0, 1, 255]));
-    ends.set_range(0, 255);
-    ends.set_range(100, 200);
-    ends.set_range(150, 250);
-    assert!(rt; begin_at(&ends.byte_classes(), &[0, 1, 100, 150, 201, 251, 255]));
-
-    let mut digits = ByteSet::empty();
-    for byte in b"024678" {
-        digits.add(*byte);
+#[test]
+fn classes_of_sets_are_those_of_the_table(rt: HostRuntime) {
+    let table: &[(bool, bool, &[u8])] = &[
+        (false, false, b"\x0001234569"),
+        (true, false, b"\x0001234569"),
+        (true, true, b"\x0001234569\x80"),
+    ];
+    for (with_full, with_others, firsts) in table {
+        let classes = classes_of_sets(b"024678", *with_full, *with_others);
+        assert!(rt; begin_at(&classes, firsts), "{with_full} {with_others}");
     }
-    let mut told = ByteClassSet::empty();
-    told.add_set(&digits);
-    assert!(rt; begin_at(&told.byte_classes(), b"\x0001234569"));
-    told.add_set(&ByteSet::full());
-    told.add_set(&ByteSet::empty());
-    assert!(rt; begin_at(&told.byte_classes(), b"\x0001234569"));
-    told.add_set(&ByteSet::non_ascii());
-    assert!(rt; told.byte_classes().get(0x7f) == 8 && told.byte_classes().get(0x80) == 9);
+    let classes = classes_of_sets(b"024678", true, true);
+    assert!(rt; have_numbers(&classes, &[(0x7f, 8), (0x80, 9)]));
+}
+
+/// How many classes there are, the end mark's among them, where all but the first have one byte, and the
+/// exponent of their stride.
+fn sizes(len: usize) -> (usize, usize) {
+    let mut set = ByteClassSet::empty();
+    for byte in 0..255 {
+        if (byte as usize) + 2 < len {
+            set.set_range(byte, byte);
+        }
+    }
+    let classes = set.byte_classes();
+    (classes.alphabet_len(), classes.stride2())
 }
 
 #[test]
@@ -80,37 +130,37 @@ fn the_least_and_the_most_classes_have_their_strides(rt: HostRuntime) {
     let all = ByteClasses::singletons();
     assert!(rt; all.alphabet_len() == 257 && all.stride2() == 9 && all.get(200) == 200);
     assert!(rt; begin_at(&all, all.as_bytes()));
-    let table = [(2, 1), (3, 2), (4, 2), (5, 3), (16, 4), (17, 5), (256, 8)];
+    let table: &[(usize, usize)] = &[(2, 1), (3, 2), (4, 2), (5, 3), (16, 4), (17, 5), (256, 8)];
     for (len, stride2) in table {
-        let mut set = ByteClassSet::empty();
-        for byte in 0..255 {
-            if (byte as usize) + 2 < len {
-                set.set_range(byte, byte);
-            }
-        }
-        let classes = set.byte_classes();
-        assert!(rt;
-            classes.alphabet_len() == len && classes.stride2() == stride2,
-            "{len}"
-        );
+        assert!(rt; sizes(*len) == (*len, *stride2), "{len}");
+    }
+}
+
+/// Whether bytes are classes: two that meet at 97, with one byte changed.
+fn is_read(at: u8, class: u8) -> bool {
+    let mut bytes = [0; 256];
+    for (byte, class) in bytes.iter_mut().enumerate() {
+        *class = if byte < 97 { 0 } else { 1 };
+    }
+    bytes[at as usize] = class;
+    match ByteClasses::from_bytes(&bytes) {
+        Some(classes) => classes.as_bytes() == bytes.as_slice() && classes.get(96) == 0,
+        None => false,
     }
 }
 
 #[test]
 fn bytes_are_read_as_classes_where_they_are_some(rt: HostRuntime) {
-    let mut bytes = [0; 256];
-    for (byte, class) in bytes.iter_mut().enumerate() {
-        *class = if byte < 97 { 0 } else { 1 };
-    }
-    let read = ByteClasses::from_bytes(&bytes);
-    assert!(rt;
-        read.is_some_and(|classes| classes.get(96) == 0 && classes.as_bytes() == bytes.as_slice())
-    );
-    for (at, class) in [(0, 1), (97, 2), (255, 0), (255, 3), (255, 2)] {
-        let mut others = bytes;
-        others[at] = class;
-        let is_read = ByteClasses::from_bytes(&others).is_some();
-        assert!(rt; is_read == (at == 255 && class == 2), "{class} at {at}");
+    let table: &[(u8, u8, bool)] = &[
+        (0, 0, true),
+        (0, 1, false),
+        (97, 2, false),
+        (255, 0, false),
+        (255, 3, false),
+        (255, 2, true),
+    ];
+    for (at, class, want) in table {
+        assert!(rt; is_read(*at, *class) == *want, "{class} at {at}");
     }
 }
 
@@ -118,15 +168,16 @@ fn bytes_are_read_as_classes_where_they_are_some(rt: HostRuntime) {
 fn byte_sets_hold_what_was_put_in(rt: HostRuntime) {
     let mut set = ByteSet::empty();
     assert!(rt; set.is_empty() && set == ByteSet::from_halves(0, 0));
-    for byte in [0, 127, 128, 255] {
-        set.add(byte);
-        assert!(rt; set.contains(byte) && !set.contains(byte ^ 1), "{byte}");
+    let bytes: &[u8] = &[0, 127, 128, 255];
+    for byte in bytes {
+        set.add(*byte);
+        assert!(rt; set.contains(*byte) && !set.contains(*byte ^ 1), "{byte}");
     }
     let (low, high) = set.halves();
     assert!(rt; low == 1 | 1 << 127 && high == low && ByteSet::from_halves(low, high) == set);
     assert!(rt; set.contains_range(127, 128) && !set.contains_range(127, 129));
     set.remove(127);
     assert!(rt; !set.contains(127) && set.contains(128));
-    assert!(rt; set.union(&ByteSet::non_ascii()).contains_range(128, 255));
-    assert!(rt; ByteSet::full().contains_range(0, 255));
+    let union = set.union(&ByteSet::non_ascii());
+    assert!(rt; union.contains_range(128, 255) && ByteSet::full().contains_range(0, 255));
 }
