@@ -9,6 +9,7 @@ pub mod Needles
 pub mod PatternSet
 pub mod ByteClasses
 pub mod LookSet
+pub mod FactBits
 -- laws that models ask for
 pub mod Inverses
 -- the outside

@@ -1,9 +1,10 @@
 //! What is known of the byte beside a place.
 
-ghost use Rattle.std.specs.Prelude.{◌≡◌, Some, None};
+ghost use Rattle.std.specs.Prelude.{◌≡◌, ◌<◌, Some, None};
 ghost use Rattle.rx_spec.specs.Bytes.{is_word};
 ghost use Rattle.rx_spec.specs.Contexts.{no_facts, facts_of, unit_facts, start_facts, facts_read};
 ghost use Rattle.rx_spec.specs.Contexts.{both, either_of, holds_by};
+ghost use Rattle.rx_base.specs.FactBits.{bits_of, facts_with};
 ghost use Rattle.rx_base.specs.Unit.{unit_number};
 
 use crate::{Look, Start, Unit};
@@ -152,6 +153,32 @@ impl Facts {
             lf: self.lf || other.lf,
             cr: self.cr || other.cr,
             word: self.word || other.word,
+        }
+    }
+
+    /// A number that tells them apart from all others, below 32: a bit for each fact.
+    pub fn to_bits(self) -> u8
+        ensures value { result ≡ bits_of self }
+        ensures bound { result < 32 }
+        ensures back { facts_with result ≡ self }
+    {
+        u8::from(self.text)
+            + 2 * u8::from(self.line_terminator)
+            + 4 * u8::from(self.lf)
+            + 8 * u8::from(self.cr)
+            + 16 * u8::from(self.word)
+    }
+
+    /// The facts whose bits a number has, as [`Facts::to_bits`] sets them.
+    pub fn from_bits(bits: u8) -> Facts
+        ensures { result ≡ facts_with bits }
+    {
+        Facts {
+            text: bits % 2 == 1,
+            line_terminator: bits / 2 % 2 == 1,
+            lf: bits / 4 % 2 == 1,
+            cr: bits / 8 % 2 == 1,
+            word: bits / 16 % 2 == 1,
         }
     }
 

@@ -1,0 +1,180 @@
+-- The bytes that lead a row elsewhere, as they are found one by one.
+use Rattle.std.proofs.Common.{◌≡◌, ◌≢◌, ℕ, zero, suc, ◌+◌, ◌-◌, ◌<◌, ◌≤◌, ◌==◌, ◌&&◌, ◌||◌, not, nat_lt, nat_le, Bool}
+use Rattle.std.proofs.Common.{true, false, cond}
+use Rattle.std.proofs.Common.{List, [], ◌∷◌, ◌++◌, length, filter, refl, ap, ap₂, sym, ◌∙◌, subst, ⊎_elim, arith}
+use Rattle.std.proofs.Common.{length-append}
+use Rattle.std.specs.List.{list_any, range_with_len}
+use Rattle.std.specs.Prelude.{Contains}
+use Rattle.std.proofs.Math.Bool.{or-true}
+use Rattle.std.proofs.lemmas.Bool.{and_parts, cases_lt, eq-eqb, ne_eqb, lt-ltb, ltb-true}
+use Rattle.std.proofs.lemmas.Bool.Decides.{nat_tests}
+use Rattle.std.proofs.lemmas.List.{append-nil, append_assoc}
+use Rattle.std.proofs.lemmas.List.Elements.{filter-append}
+use Rattle.rx_spec.specs.Tables.{Table, leaving}
+use Rattle.rx_dense.specs.Accels.{takes}
+use Rattle.rx_remap.proofs.Places.{range_more}
+use Rattle.rx_table_lemmas.proofs.Filters.{filter_within, range_within}
+use Rattle.rx_spec.specs.Ids.{id_of, row_of}
+use Rattle.rx_search.specs.Starts.{IsId}
+use Rattle.rx_dense.proofs.Rows.{id_at_row}
+use Rattle.rx_order.specs.ByKind.{leaving_of}
+use Rattle.rx_order.specs.RowOrder.{are_needles}
+
+-- the bytes below one that lead a row elsewhere
+abbrev pub leaving_below : Table → ℕ → ℕ → List ℕ
+leaving_below t row byte = filter (λ b. not (t.machine.next row b == row)) (range_with_len 0 byte)
+
+abbrev pub has_space : List ℕ → Bool
+has_space bytes = list_any (λ byte. byte == 32) bytes
+
+-- the bytes below one are found, and they are at most three and no space
+pub record AreFound (t : Table) (row : ℕ) (found : List ℕ) (byte : ℕ) : Type 0 where
+  pub are : found ≡ leaving_below t row byte
+  pub few : length found ≤ 3
+  pub no_space : has_space found ≡ false
+
+pub none_found : (t : Table) (row : ℕ) → AreFound t row [] 0
+none_found t row = record { are = refl; few = omega arith; no_space = refl }
+
+pub at_most : (a b : ℕ) → a ≤ b → nat_le a b ≡ true
+at_most a b h = grind (arith, nat_tests)
+
+over : (a b : ℕ) → b < a → nat_le a b ≡ false
+over a b h = grind (arith, nat_tests)
+
+pub not_true : (b : Bool) → not b ≡ true → b ≡ false
+not_true true e = sym e
+not_true false e = refl
+
+pub not_false : (b : Bool) → not b ≡ false → b ≡ true
+not_false true e = refl
+not_false false e = sym e
+
+last_false : (a b : Bool) → (a && b && false) ≡ false
+last_false true true = refl
+last_false true false = refl
+last_false false b = refl
+
+-- what passes of a longer range has what passes of a shorter one in front
+filter_rest : (p : ℕ → Bool) (n more : ℕ)
+    → (rest : List ℕ) × (filter p (range_with_len 0 (n + more)) ≡ filter p (range_with_len 0 n) ++ rest)
+filter_rest p n zero =
+    let same : n + 0 ≡ n = omega arith in
+    ([], ap (λ k. filter p (range_with_len 0 k)) same ∙ sym (append-nil (filter p (range_with_len 0 n))))
+filter_rest p n (suc more) =
+    let before = filter_rest p n more in
+    let next : n + suc more ≡ n + more + 1 = omega arith in (
+      before.0 ++ filter p ((n + more) ∷ []),
+      ap (λ k. filter p (range_with_len 0 k)) next ∙ ap (filter p) (range_more (n + more))
+          ∙ filter-append p (range_with_len 0 (n + more)) ((n + more) ∷ [])
+          ∙ ap (λ xs. xs ++ filter p ((n + more) ∷ [])) before.1
+          ∙ append_assoc (filter p (range_with_len 0 n)) before.0 (filter p ((n + more) ∷ [])),
+    )
+
+any_append : (xs ys : List ℕ) → has_space (xs ++ ys) ≡ (has_space xs || has_space ys)
+any_append [] ys = refl
+any_append (x ∷ xs) ys = ap (λ b. (x == 32) || b) (any_append xs ys) ∙ or_assoc (x == 32) (has_space xs) (has_space ys)
+  where
+    or_assoc : (a b c : Bool) → (a || (b || c)) ≡ ((a || b) || c)
+    or_assoc true b c = refl
+    or_assoc false b c = refl
+
+module _ {t : Table} {row byte : ℕ} {found : List ℕ} (h : AreFound t row found byte) where
+  next_byte : leaving_below t row (byte + 1)
+      ≡ found ++ cond (not (t.machine.next row byte == row)) (byte ∷ []) []
+  next_byte =
+      ap (filter (λ b. not (t.machine.next row b == row))) (range_more byte)
+      ∙ filter-append (λ b. not (t.machine.next row b == row)) (range_with_len 0 byte) (byte ∷ [])
+      ∙ ap (λ xs. xs ++ cond (not (t.machine.next row byte == row)) (byte ∷ []) []) (sym h.are)
+
+  -- a byte is none of those below it
+  pub new_byte : Contains found byte → ⊥
+  new_byte c =
+      let within = filter_within (λ b. not (t.machine.next row b == row)) (range_with_len 0 byte) byte
+      (subst (λ xs. Contains xs byte) h.are c) in
+      omega (arith, (range_within 0 byte byte within).1)
+
+  pub stays_found : t.machine.next row byte ≡ row → AreFound t row found (byte + 1)
+  stays_found e = record {
+    are =
+        sym (append-nil found)
+        ∙ sym (next_byte ∙ ap (λ b. found ++ cond (not b) (byte ∷ []) []) (eq-eqb (t.machine.next row byte) row e));
+    few = h.few;
+    no_space = h.no_space;
+  }
+
+  more_is : t.machine.next row byte ≢ row → leaving_below t row (byte + 1) ≡ found ++ byte ∷ []
+  more_is ne = next_byte ∙ ap (λ b. found ++ cond (not b) (byte ∷ []) []) (ne_eqb (t.machine.next row byte) row ne)
+
+  pub leaves_found : t.machine.next row byte ≢ row → takes found byte ≡ true → AreFound t row (found ++ byte ∷ []) (byte + 1)
+  leaves_found ne e =
+      let parts = and_parts (nat_lt (length found) 3) (not (byte == 32)) e in
+      record {
+        are = sym (more_is ne);
+        few = omega (arith, length-append found (byte ∷ []), ltb-true (length found) 3 parts.0);
+        no_space =
+            any_append found (byte ∷ []) ∙ ap₂ (λ (a b : Bool). a || (b || false)) h.no_space (not_true (byte == 32) parts.1);
+      }
+
+  -- a byte that isn't taken gives the row up
+  pub refused : byte < 256 → t.machine.next row byte ≢ row → takes found byte ≡ false
+      → are_needles (leaving t row) ≡ false
+  refused below ne e =
+      let rest = filter_rest (λ b. not (t.machine.next row b == row)) (byte + 1) (256 - (byte + 1)) in
+      let all : byte + 1 + (256 - (byte + 1)) ≡ 256 = omega arith in
+      let whole : leaving t row ≡ (found ++ byte ∷ []) ++ rest.0 =
+      ap (λ n. filter (λ b. not (t.machine.next row b == row)) (range_with_len 0 n)) (sym all)
+      ∙ rest.1 ∙ ap (λ xs. xs ++ rest.0) (more_is ne) in
+      ap are_needles whole
+      ∙ ⊎_elim
+      (λ (room : length found < 3).
+      let space : (byte == 32) ≡ true = taken_space room e in
+      too_spacy rest.0 space)
+      (λ (full : 3 ≤ length found). too_long rest.0 full)
+      (cases_lt (length found) 3)
+    where
+      taken_space : length found < 3 → takes found byte ≡ false → (byte == 32) ≡ true
+      taken_space room f = not_false (byte == 32) (sym (ap (λ b. b && not (byte == 32)) (lt-ltb (length found) 3 room)) ∙ f)
+
+      too_long : (ys : List ℕ) → 3 ≤ length found → are_needles ((found ++ byte ∷ []) ++ ys) ≡ false
+      too_long ys full =
+          let n = length-append (found ++ byte ∷ []) ys in
+          let k = length-append found (byte ∷ []) in
+          ap₂ (λ (a b : Bool). a && b && not (has_space ((found ++ byte ∷ []) ++ ys)))
+          (at_most 1 (length ((found ++ byte ∷ []) ++ ys)) (omega arith))
+          (over (length ((found ++ byte ∷ []) ++ ys)) 3 (omega arith))
+
+      too_spacy : (ys : List ℕ) → (byte == 32) ≡ true → are_needles ((found ++ byte ∷ []) ++ ys) ≡ false
+      too_spacy ys space =
+          let bytes : List ℕ = (found ++ byte ∷ []) ++ ys in
+          let has : has_space bytes ≡ true =
+          any_append (found ++ byte ∷ []) ys
+          ∙ ap (λ b. b || has_space ys) (any_append found (byte ∷ [])
+          ∙ ap (λ b. has_space found || (b || false)) space ∙ or-true (has_space found)) in
+          ap (λ b. nat_le 1 (length bytes) && nat_le (length bytes) 3 && not b) has
+          ∙ last_false (nat_le 1 (length bytes)) (nat_le (length bytes) 3)
+
+-- all bytes are found
+pub found_all : {t : Table} {row : ℕ} {found : List ℕ} → AreFound t row found 256 → 1 ≤ length found
+    → are_needles (leaving t row) ≡ true
+found_all {t} {row} {found} h some =
+    ap are_needles (sym h.are)
+    ∙ ap₂ (λ (a b : Bool). a && b && not (has_space found)) (at_most 1 (length found) some)
+    (at_most (length found) 3 h.few)
+    ∙ ap not h.no_space
+
+pub found_none : {t : Table} {row : ℕ} {found : List ℕ} → AreFound t row found 256 → length found ≡ 0
+    → are_needles (leaving t row) ≡ false
+found_none {t} {row} {found} h none =
+    ap are_needles (sym h.are)
+    ∙ ap (λ a. a && nat_le (length found) 3 && not (has_space found)) (over 1 (length found) (omega (arith, none)))
+
+-- ---- ids
+
+pub leaving_is : (t : Table) (row : ℕ) → leaving_of t row ≡ leaving t row
+unfolding leaving_of
+leaving_is t row = refl
+
+-- an id is known by its row
+pub same_id : (ids : List ℕ) (a b : ℕ) → IsId ids a → IsId ids b → row_of ids a ≡ row_of ids b → a ≡ b
+same_id ids a b a_is b_is e = sym (id_at_row ids a a_is) ∙ ap (id_of ids) e ∙ id_at_row ids b b_is

@@ -1,0 +1,24 @@
+-- rows while they are moved, one exchange after another
+pub mod Moved
+-- rows in the order of their kinds
+pub mod ByKind
+-- tables whose rows were moved and renamed
+pub mod Reordered
+-- kinds as numbers, and ranges of ids
+pub mod KindNumbers
+-- which rows and ids are special
+pub mod Ordered
+-- rows that are marked by their ids
+pub mod MarkedRows
+-- the patterns of match rows, and what each row tells
+pub mod MatchRows
+-- tables in order that are sound
+pub mod Sound
+-- shuffled tables
+pub mod Shuffled
+-- the bytes that lead a row elsewhere
+pub mod Leaving
+-- rows in order, of which it is known which match and from which a search may skip
+pub mod Sorted
+-- accelerated tables
+pub mod Accelerating

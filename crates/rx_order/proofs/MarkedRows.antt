@@ -1,0 +1,203 @@
+-- Rows that are marked by their ids: those in which searches start, and those that match.
+use Rattle.std.proofs.Common.{◌≡◌, ℕ, zero, suc, ◌+◌, ◌*◌, ◌/◌, ◌%◌, ◌<◌, ◌≤◌, ◌==◌, ◌||◌, Bool, true, false, List, []}
+use Rattle.std.proofs.Common.{◌∷◌}
+use Rattle.std.proofs.Common.{length, drop, map, slice_index, slice_set, get_or, All, refl, ap, sym, ◌∙◌, ⊎_elim, arith}
+use Rattle.std.specs.List.{list_any}
+use Rattle.std.proofs.Math.Seq.{drop-cons}
+use Rattle.std.specs.BTreeMap.{is_at}
+use Rattle.std.specs.Map.{keys_of, lookup}
+use Rattle.std.specs.Ordering.{is_eq, nat_cmp}
+use Rattle.std.specs.Prelude.{Contains, Option, Some, None, is_some}
+use Rattle.std.proofs.lemmas.Bool.{cases_eq, cases_lt, eq-eqb, false≢true, le-ltb, lt-ltb, ne_eqb}
+use Rattle.std.proofs.lemmas.Map.Entries.{lookup_head, lookup_tail}
+use Rattle.rx_lemmas.proofs.Firsts.{Contains-cases, Contains-nil}
+use Rattle.std.proofs.lemmas.List.{drop_all, get_or-set_same, get_or-set_other, length-set}
+use Rattle.std.proofs.lemmas.List.Elements.{All-head, All-tail, Contains-get_or}
+use Rattle.std.proofs.lemmas.Nat.{pow_pos}
+use Rattle.std.proofs.Math.Bool.{or-true}
+use Rattle.std.proofs.Math.Nat.{mul-div_cancel}
+use Rattle.rx_spec.specs.declared.Start.{Start}
+use Rattle.rx_base.specs.Search.{mode_of}
+use Rattle.rx_base.specs.declared.search.Anchored.{Anchored}
+use Rattle.rx_dense.specs.Layouts.{Layout, AreStarts, IsRowId, context_number, mode_place, row_count, stride}
+use Rattle.rx_dense.specs.States.{starts_of}
+use Rattle.rx_dense.proofs.Rows.{quotient, row-below}
+use Rattle.rx_dense.proofs.States.{starts_of-len, starts_of-next}
+
+-- a start entry: an id, a mode and a context
+abbrev pub Entry : Type 0
+Entry = ℕ × Anchored × Start
+
+pub mode_at : ℕ → Anchored
+mode_at zero = Anchored.No
+mode_at (suc zero) = Anchored.Yes
+mode_at (suc (suc k)) = Anchored.Pattern k
+
+pub mode_at-place : (group : ℕ) → mode_place (mode_of (mode_at group)) ≡ 6 * group
+unfolding mode_at
+mode_at-place zero = refl
+mode_at-place (suc zero) = refl
+mode_at-place (suc (suc k)) = omega arith
+
+pub context_at : ℕ → Start
+context_at zero = Start.NonWordByte
+context_at (suc zero) = Start.WordByte
+context_at (suc (suc zero)) = Start.Text
+context_at (suc (suc (suc zero))) = Start.LineLF
+context_at (suc (suc (suc (suc zero)))) = Start.LineCR
+context_at (suc (suc (suc (suc (suc k))))) = Start.CustomLineTerminator
+
+pub context_at-number : (number : ℕ) → number < 6 → context_number (context_at number) ≡ number
+unfolding context_at
+context_at-number zero h = refl
+context_at-number (suc zero) h = refl
+context_at-number (suc (suc zero)) h = refl
+context_at-number (suc (suc (suc zero))) h = refl
+context_at-number (suc (suc (suc (suc zero)))) h = refl
+context_at-number (suc (suc (suc (suc (suc k))))) h = omega (arith, h)
+
+module _ (l : Layout) (starts : AreStarts l) where
+  ids_from : (more place : ℕ) → place + more ≡ length l.starts
+      → map (λ (e : Entry). e.0) (drop place (starts_of l)) ≡ drop place l.starts
+  ids_from zero place h =
+      ap (map (λ (e : Entry). e.0)) (drop_all place (starts_of l) (omega (arith, starts_of-len l starts)))
+      ∙ sym (drop_all place l.starts (omega arith))
+  ids_from (suc more) place h =
+      let mode = mode_at (place / 6) in
+      let context = context_at (place % 6) in
+      let number : place % 6 < 6 = omega arith in
+      let next : suc place ≡ place + 1 = omega arith in
+      ap (map (λ (e : Entry). e.0))
+      (starts_of-next l starts place (omega arith) mode context (mode_at-place (place / 6))
+      (context_at-number (place % 6) number))
+      ∙ ap (λ (ids : List ℕ). slice_index l.starts place ∷ ids) (ids_from more (place + 1) (omega arith))
+      ∙ sym (drop-cons l.starts place 0 (omega arith)
+      ∙ ap (λ n. slice_index l.starts place ∷ drop n l.starts) next)
+
+  pub entry_ids : map (λ (e : Entry). e.0) (starts_of l) ≡ l.starts
+  entry_ids = ids_from (length l.starts) 0 (omega arith)
+
+-- ---- rows of ids, noted one after another
+
+-- The rows of the ids that were passed are noted, and what is left are ids.
+pub record AreNoted (l : Layout) (flags : List Bool) (left all : List ℕ) : Type 0 where
+  pub count : length flags ≡ row_count l
+  pub noted : (row : ℕ) → row < row_count l
+      → (get_or flags row false || list_any (λ id. id == row * stride l) left)
+      ≡ list_any (λ id. id == row * stride l) all
+  pub ids : All (IsRowId l) left
+
+pub any_has : (x : ℕ) (xs : List ℕ) → Contains xs x → list_any (λ y. y == x) xs ≡ true
+any_has x [] c = absurd (Contains-nil x c)
+any_has x (y ∷ ys) c =
+    ⊎_elim
+    (λ (e : y ≡ x). ap (λ b. b || list_any (λ y. y == x) ys) (eq-eqb y x e))
+    (λ (d : Contains ys x). ap (λ b. (y == x) || b) (any_has x ys d) ∙ or-true (y == x))
+    (Contains-cases y ys x c)
+
+pub none_noted : (l : Layout) (flags : List Bool) (all : List ℕ) → length flags ≡ row_count l
+    → ((row : ℕ) → row < row_count l → get_or flags row false ≡ false) → All (IsRowId l) all → AreNoted l flags all all
+none_noted l flags all count none ids = record {
+  count = count;
+  noted = λ row h. ap (λ b. b || list_any (λ id. id == row * stride l) all) (none row h);
+  ids = ids;
+}
+
+or_false : (b : Bool) → (b || false) ≡ b
+or_false true = refl
+or_false false = refl
+
+pub all_noted : {l : Layout} {flags : List Bool} {all : List ℕ} → AreNoted l flags [] all → (row : ℕ)
+    → row < row_count l → get_or flags row false ≡ list_any (λ id. id == row * stride l) all
+all_noted {flags = flags} noted row h = sym (or_false (get_or flags row false)) ∙ noted.noted row h
+
+or_moved : (now was own others : Bool) → now ≡ (was || own) → (now || others) ≡ (was || (own || others))
+or_moved now true own others e = ap (λ b. b || others) e
+or_moved now false own others e = ap (λ b. b || others) e
+
+module _ {l : Layout} {flags : List Bool} {id : ℕ} {left all : List ℕ} (noted : AreNoted l flags (id ∷ left) all) where
+  id_is : IsRowId l id
+  id_is = All-head (IsRowId l) id left noted.ids
+
+  pub id_row : id / stride l < length flags
+  id_row = omega (arith, row-below l id id_is, noted.count)
+
+  flag_is : (row : ℕ)
+      → get_or (slice_set flags (id / stride l) true) row false
+      ≡ (get_or flags row false || (id == row * stride l))
+  flag_is row =
+      let whole = quotient id (stride l) id_is.whole in
+      ⊎_elim
+      (λ (e : row ≡ id / stride l).
+      let own : id ≡ row * stride l = sym whole ∙ ap (λ r. r * stride l) (sym e) in
+      ap (λ r. get_or (slice_set flags (id / stride l) true) r false) e
+      ∙ get_or-set_same flags (id / stride l) true false id_row
+      ∙ sym (ap (λ b. get_or flags row false || b) (eq-eqb id (row * stride l) own) ∙ or-true (get_or flags row false)))
+      (λ (ne : row ≡ id / stride l → ⊥).
+      let other : id ≡ row * stride l → ⊥ = λ e.
+      absurd (ne (sym (ap (λ x. x / stride l) e ∙ mul-div_cancel row (pow_pos l.stride2)))) in
+      get_or-set_other flags (id / stride l) row true false ne
+      ∙ sym (ap (λ b. get_or flags row false || b) (ne_eqb id (row * stride l) other)
+      ∙ or_false (get_or flags row false)))
+      (cases_eq row (id / stride l))
+
+  pub one_noted : AreNoted l (slice_set flags (id / stride l) true) left all
+  one_noted = record {
+    count = length-set flags (id / stride l) true ∙ noted.count;
+    noted = λ row h.
+        or_moved (get_or (slice_set flags (id / stride l) true) row false) (get_or flags row false)
+        (id == row * stride l) (list_any (λ id. id == row * stride l) left) (flag_is row)
+        ∙ noted.noted row h;
+    ids = All-tail (IsRowId l) id left noted.ids;
+  }
+
+-- ---- keys
+
+pub is_at_number : (k x : ℕ) → is_eq (nat_cmp k x) ≡ (x == k)
+is_at_number k x =
+    ⊎_elim
+    (λ (low : k < x).
+    let other : x ≡ k → ⊥ = λ e. absurd (omega (arith, e)) in
+    rw (lt-ltb k x low, ne_eqb x k other) refl)
+    (λ (high : x ≤ k).
+    ⊎_elim
+    (λ (e : k ≡ x). rw (le-ltb k x high, eq-eqb k x e, eq-eqb x k (sym e)) refl)
+    (λ (ne : k ≡ x → ⊥).
+    rw (le-ltb k x high, ne_eqb k x ne, ne_eqb x k (λ e. ne (sym e))) refl)
+    (cases_eq k x))
+    (cases_lt k x)
+
+-- a map has a key where some key is it
+pub has_key : {X : Type 0} (k : ℕ) (entries : List (ℕ × X))
+    → is_some (lookup (is_at (nat_cmp k)) entries) ≡ list_any (λ x. x == k) (keys_of entries)
+has_key k [] = refl
+has_key {X} k (e ∷ entries) = by_test (is_at (nat_cmp k) e.0) refl (has_key k entries)
+  where
+    by_test : (b : Bool) → is_at (nat_cmp k) e.0 ≡ b
+        → is_some (lookup (is_at (nat_cmp k)) entries) ≡ list_any (λ x. x == k) (keys_of entries)
+        → is_some (lookup (is_at (nat_cmp k)) (e ∷ entries)) ≡ list_any (λ x. x == k) (keys_of (e ∷ entries))
+    by_test true t rest =
+        ap (λ (o : Option X). is_some o) (lookup_head (is_at (nat_cmp k)) e entries t)
+        ∙ sym (ap (λ b. b || list_any (λ x. x == k) (keys_of entries)) (sym (is_at_number k e.0) ∙ t))
+    by_test false t rest =
+        ap (λ (o : Option X). is_some o) (lookup_tail (is_at (nat_cmp k)) e entries t)
+        ∙ rest
+        ∙ sym (ap (λ b. b || list_any (λ x. x == k) (keys_of entries)) (sym (is_at_number k e.0) ∙ t))
+
+-- each key is one that the map has
+pub key_ids : {X : Type 0} (P : ℕ → Type 0) (entries : List (ℕ × X))
+    → ((k : ℕ) (v : X) → lookup (is_at (nat_cmp k)) entries ≡ Some v → P k) → All P (keys_of entries)
+key_ids {X} P entries each k d h = found (lookup (is_at (nat_cmp key)) entries) refl
+  where
+    key : ℕ
+    key = get_or (keys_of entries) k d
+
+    found : (o : Option X) → lookup (is_at (nat_cmp (get_or (keys_of entries) k d))) entries ≡ o
+        → P (get_or (keys_of entries) k d)
+    found (Some v) e = each (get_or (keys_of entries) k d) v e
+    found None e =
+        let none : list_any (λ x. x == get_or (keys_of entries) k d) (keys_of entries) ≡ false =
+        sym (has_key (get_or (keys_of entries) k d) entries) ∙ ap (λ (o : Option X). is_some o) e in
+        let some : list_any (λ x. x == get_or (keys_of entries) k d) (keys_of entries) ≡ true =
+        any_has (get_or (keys_of entries) k d) (keys_of entries) (Contains-get_or (keys_of entries) k d h) in
+        absurd (false≢true (sym none ∙ some))

@@ -1,0 +1,217 @@
+-- Match rows in order: where their patterns stand, and what each row tells.
+use Rattle.std.proofs.Common.{◌≡◌, ℕ, ◌+◌, ◌-◌, ◌*◌, ◌/◌, ◌<◌, ◌≤◌, ◌⊎◌, inl, inr, ◌==◌, ◌&&◌, nat_lt, nat_le}
+use Rattle.std.proofs.Common.{Bool, true, false, if◌then◌else◌, List, [], length, map, take, drop, slice_index, get_or}
+use Rattle.std.proofs.Common.{refl, ap, ap₂, sym, ◌∙◌, subst, ⊎_elim, arith}
+use Rattle.std.specs.List.{concat, range_with_len}
+use Rattle.std.proofs.Math.Nat.{add-mul, mul-div_cancel}
+use Rattle.std.proofs.lemmas.Bool.{and_parts, cases_eq, cases_lt, eq-eqb, le-ltb, leb-true, lt-ltb, ltb-true, ne_eqb}
+use Rattle.std.proofs.lemmas.List.FromFn.{fill_by_all}
+use Rattle.rx_spec.specs.Machines.{Label}
+use Rattle.rx_dense.specs.Builder.{slices_from}
+use Rattle.rx_dense.specs.Layouts.{Layout, patterns_at, place_in_range, row_count, stride, table_of}
+use Rattle.rx_dense.specs.Specials.{is_quit_id}
+use Rattle.rx_dense.specs.declared.special.Special.{Special}
+use Rattle.rx_dense.proofs.PatternLists.{patterns_are}
+use Rattle.rx_order.specs.RowOrder.{AreJoined, is_start_row, match_count, match_lists}
+use Rattle.rx_order.proofs.Moved.{factor}
+use Rattle.rx_order.proofs.Ordered.{IsArranged, Sorting, behind_end, end, ends_quit, kind_at, low_kind, low_row}
+use Rattle.rx_order.proofs.Ordered.{match_id}
+use Rattle.rx_order.proofs.KindNumbers.{high_matches}
+use Rattle.rx_order.proofs.Ordered.{high_kind_is, high_row, number, quit, row_at, some, special_is}
+use Rattle.rx_order.proofs.Ordered.{stride_same}
+use Rattle.rx_order.proofs.Reordered.{number_below, row_at_number}
+
+cases_le : (a b : ℕ) → (a ≤ b) ⊎ (b < a)
+cases_le a b = ⊎_elim (λ (h : b < a). inr h) (λ (h : a ≤ b). inl h) (cases_lt b a)
+
+-- rows of a range are counted from its first
+pub place_from : (from to width : ℕ) → 0 < width → from ≤ to → (to * width - from * width) / width ≡ to - from
+place_from from to width some h =
+    let apart : to * width - from * width ≡ (to - from) * width =
+    omega (arith, mul_sub_distrib to from width h) in
+    ap (λ n. n / width) apart ∙ mul-div_cancel (to - from) some
+  where
+    mul_sub_distrib : (a b s : ℕ) → b ≤ a → (a - b) * s + b * s ≡ a * s
+    mul_sub_distrib a b s h =
+        let whole : a - b + b ≡ a = omega arith in
+        sym (add-mul (a - b) b s) ∙ ap (λ n. n * s) whole
+
+-- the patterns of all match rows are given, in the order of the rows
+pub record HasPatterns (x : Sorting) (m : Layout) (lists : List (List ℕ)) : Type 0 where
+  pub count : length lists ≡ slice_index x.ends 3 - 2
+  pub slices : m.slices ≡ slices_from 0 lists
+  pub pattern_ids : m.pattern_ids ≡ concat lists
+
+module _ {x : Sorting} {l new m : Layout} (a : IsArranged x l new m) {lists : List (List ℕ)}
+    (has : HasPatterns x m lists) where
+  w : 0 < stride l
+  w = some a
+
+  pub patterns_there : (i : ℕ) → i < length lists → patterns_at m i ≡ get_or lists i []
+  patterns_there i h =
+      ap₂ (λ (slices ids : List ℕ). take (slice_index slices (2 * i + 1)) (drop (slice_index slices (2 * i)) ids))
+      has.slices has.pattern_ids
+      ∙ patterns_are m lists i h
+
+  min_is : 2 < end a 3 → m.special.min_match ≡ 2 * stride l
+  min_is h =
+      ap (λ (s : Special). s.min_match) (special_is a)
+      ∙ ap₂ (λ (from : ℕ) (b : Bool). if b then from * stride l else 0) (ends_quit a)
+      (lt-ltb (end a 1) (end a 3) (omega (arith, ends_quit a)))
+
+  max_is : 2 < end a 3 → m.special.max_match ≡ (end a 3 - 1) * stride l
+  max_is h =
+      ap (λ (s : Special). s.max_match) (special_is a)
+      ∙ ap (λ (b : Bool). if b then (end a 3 - 1) * stride l else 0)
+      (lt-ltb (end a 1) (end a 3) (omega (arith, ends_quit a)))
+
+  none_is : end a 3 ≤ 2 → m.special.min_match ≡ 0
+  none_is h =
+      ap (λ (s : Special). s.min_match) (special_is a)
+      ∙ ap (λ (b : Bool). if b then end a 1 * stride l else 0)
+      (le-ltb (end a 1) (end a 3) (omega (arith, ends_quit a)))
+
+  -- which match row lies at a place
+  pub place_is : (place : ℕ) → 2 ≤ place → place < end a 3
+      → place_in_range m m.special.min_match (place * stride m) ≡ place - 2
+  place_is place low high =
+      ap₂ (λ (first w : ℕ). (place * w - first) / w) (min_is (omega arith)) (stride_same a)
+      ∙ place_from 2 place (stride l) w low
+
+  pub count_is : match_count m ≡ length lists
+  count_is =
+      ⊎_elim
+      (λ (h : 2 < end a 3).
+      let above : 0 < 2 * stride l = omega (arith, w) in
+      let other : m.special.min_match ≡ 0 → ⊥ = λ e. absurd (omega (arith, e, min_is h)) in
+      let last : place_in_range m m.special.min_match m.special.max_match ≡ end a 3 - 1 - 2 =
+      ap (place_in_range m m.special.min_match) (max_is h ∙ ap (λ w. (end a 3 - 1) * w) (sym (stride_same a)))
+      ∙ place_is (end a 3 - 1) (omega arith) (omega arith) in
+      ap (λ b. if b then 0 else place_in_range m m.special.min_match m.special.max_match + 1)
+      (ne_eqb m.special.min_match 0 other)
+      ∙ omega (arith, last, has.count))
+      (λ (h : end a 3 ≤ 2).
+      ap (λ b. if b then 0 else place_in_range m m.special.min_match m.special.max_match + 1)
+      (eq-eqb m.special.min_match 0 (none_is h))
+      ∙ omega (arith, has.count))
+      (cases_lt 2 (end a 3))
+
+  pub lists_are : match_lists m ≡ lists
+  lists_are =
+      ap (λ n. map (patterns_at m) (range_with_len 0 n)) count_is
+      ∙ sym (fill_by_all (patterns_at m) lists (length lists) [] refl (λ k h. sym (patterns_there k h)))
+
+  pub joined : AreJoined m
+  joined = record {
+    slices = has.slices ∙ ap (slices_from 0) (sym lists_are);
+    pattern_ids = has.pattern_ids ∙ ap concat (sym lists_are);
+  }
+
+  -- ---- labels
+
+  quit_id : (place : ℕ) → is_quit_id m.special (place * stride m) ≡ (place == 1)
+  quit_id place =
+      let quit : m.special.quit ≡ 1 * stride m =
+      omega (arith, ap (λ (s : Special). s.quit) (special_is a), stride_same a) in
+      let some_stride : 0 < stride m = omega (arith, w, stride_same a) in
+      ⊎_elim
+      (λ (e : place ≡ 1).
+      let here : place * stride m ≡ m.special.quit = ap (λ p. p * stride m) e ∙ sym quit in
+      let other : place * stride m ≡ 0 → ⊥ = λ z. absurd (omega (arith, z, here, quit, some_stride)) in
+      rw (eq-eqb _ _ here, ne_eqb _ _ other, eq-eqb place 1 e) refl)
+      (λ (ne : place ≡ 1 → ⊥).
+      let other : place * stride m ≡ m.special.quit → ⊥ = λ e. ne (factor some_stride place 1 (e ∙ quit)) in
+      rw (ne_eqb _ _ other, ne_eqb place 1 ne) refl)
+      (cases_eq place 1)
+
+  inside_end : (p : ℕ) → p < row_count l → kind_at a p ≤ 3 → p < end a 3
+  inside_end p b low =
+      ⊎_elim
+      (λ (h : p < end a 3). h)
+      (λ (h : end a 3 ≤ p). absurd (omega (arith, behind_end a p 3 b (omega arith) h)))
+      (cases_lt p (end a 3))
+
+  high_place : (p : ℕ) → 1 < kind_at a p → 2 ≤ p
+  high_place p high =
+      ⊎_elim
+      (λ (h : p ≤ 1). absurd (omega (arith, low_kind a p h)))
+      (λ (h : 1 < p). omega arith)
+      (cases_le p 1)
+
+  -- what a row tells at its place
+  pub label_at : (place : ℕ) → place < row_count l
+      → (table_of m).machine.label place
+      ≡ (if place == 1 then Label.Quits
+      else (if nat_lt 1 (kind_at a place) && nat_le (kind_at a place) 3 then Label.Matches (get_or lists (place - 2) [])
+      else Label.Plain))
+  label_at place h =
+      let told : ℕ → Label = λ i. Label.Matches (patterns_at m i) in
+      let i : ℕ = place_in_range m m.special.min_match (place * stride m) in
+      ap₂ (λ (b q : Bool). if b then Label.Matches (patterns_at m i) else (if q then Label.Quits else Label.Plain))
+      (match_id a place h) (quit_id place)
+      ∙ ⊎_elim
+      (λ (e : place ≡ 1).
+      let low : kind_at a place ≡ 1 = low_kind a place (omega arith) ∙ e in
+      rw (eq-eqb place 1 e, le-ltb 1 (kind_at a place) (omega (arith, low))) refl)
+      (λ (ne : place ≡ 1 → ⊥). rw (ne_eqb place 1 ne) (by_match (nat_lt 1 (kind_at a place) && nat_le (kind_at a place) 3) refl))
+      (cases_eq place 1)
+    where
+      by_match : (b : Bool) → (nat_lt 1 (kind_at a place) && nat_le (kind_at a place) 3) ≡ b
+          → (if b then Label.Matches (patterns_at m (place_in_range m m.special.min_match (place * stride m)))
+          else Label.Plain)
+          ≡ (if b then Label.Matches (get_or lists (place - 2) []) else Label.Plain)
+      by_match false e = refl
+      by_match true e =
+          let kinds = and_parts (nat_lt 1 (kind_at a place)) (nat_le (kind_at a place) 3) e in
+          let low : 1 < kind_at a place = ltb-true 1 (kind_at a place) kinds.0 in
+          let inside = inside_end place h (leb-true (kind_at a place) 3 kinds.1) in
+          let behind : 2 ≤ place = high_place place low in
+          ap Label.Matches
+          (ap (patterns_at m) (place_is place behind inside)
+          ∙ patterns_there (place - 2) (omega (arith, has.count)))
+
+  -- what a row tells that lies there
+  pub label_of_number : (row : ℕ) → row < row_count l
+      → (table_of m).machine.label (number a row)
+      ≡ (if row == 1 then Label.Quits
+      else (if nat_lt 1 row && x.matches row then Label.Matches (get_or lists (number a row - 2) []) else Label.Plain))
+  label_of_number row h =
+      let place : ℕ = number a row in
+      let below = number_below a.reordered a.before row h in
+      let back = row_at_number a.reordered a.before row h in
+      let quits : (number a row == 1) ≡ (row == 1) = same_quit in
+      let matches : (nat_lt 1 (kind_at a place) && nat_le (kind_at a place) 3) ≡ (nat_lt 1 row && x.matches row) =
+      same_match below back in
+      label_at (number a row) below
+      ∙ ap₂ (λ (q b : Bool). if q then Label.Quits
+      else (if b then Label.Matches (get_or lists (number a row - 2) []) else Label.Plain)) quits matches
+    where
+      same_quit : (number a row == 1) ≡ (row == 1)
+      same_quit =
+          ⊎_elim
+          (λ (e : row ≡ 1). eq-eqb (number a row) 1 (ap (number a) e ∙ quit a) ∙ sym (eq-eqb row 1 e))
+          (λ (ne : row ≡ 1 → ⊥).
+          let other : number a row ≡ 1 → ⊥ = λ e.
+          ne (sym (row_at_number a.reordered a.before row h) ∙ ap (row_at a) e ∙ low_row a 1 (omega arith)) in
+          ne_eqb (number a row) 1 other ∙ sym (ne_eqb row 1 ne))
+          (cases_eq row 1)
+
+      same_match : number a row < row_count l → row_at a (number a row) ≡ row
+          → (nat_lt 1 (kind_at a (number a row)) && nat_le (kind_at a (number a row)) 3) ≡ (nat_lt 1 row && x.matches row)
+      same_match below back =
+          ⊎_elim
+          (λ (low : number a row ≤ 1).
+          let here : row ≡ number a row = sym back ∙ low_row a (number a row) low in
+          rw (
+            le-ltb 1 (kind_at a (number a row)) (omega (arith, low_kind a (number a row) low)),
+            le-ltb 1 row (omega (arith, here)),
+          )
+          refl)
+          (λ (high : 1 < number a row).
+          let above : 1 < row = subst (λ r. 1 < r) back (high_row a (number a row) below high) in
+          ap (λ k. nat_lt 1 k && nat_le k 3) (high_kind_is a (number a row) below high)
+          ∙ high_matches (x.matches (row_at a (number a row))) (x.accelerated (row_at a (number a row)))
+          (is_start_row l (row_at a (number a row)))
+          ∙ ap x.matches back
+          ∙ sym (ap (λ b. b && x.matches row) (lt-ltb 1 row above)))
+          (cases_le (number a row) 1)

@@ -1,0 +1,223 @@
+-- A table whose rows were moved and renamed: the numbers of its rows, and where they lead.
+use Rattle.std.proofs.Common.{◌≡◌, ℕ, ◌+◌, ◌*◌, ◌/◌, ◌^◌, ◌<◌, ◌≤◌, ◌==◌, ◌||◌, Bool}
+use Rattle.std.proofs.Common.{List, [], ◌∷◌, length, map, slice_index, All, map-id, refl, ap, ap₂, sym, ◌∙◌, subst}
+use Rattle.std.proofs.Common.{⊎_elim, arith}
+use Rattle.std.specs.List.{list_any, range_with_len}
+use Rattle.std.specs.List.Sorted.{IsPermutation}
+use Rattle.std.proofs.Math.Nat.{mul-div_cancel}
+use Rattle.std.proofs.lemmas.Bool.{cases_eq, cases_lt, eq-eqb, ne_eqb, lt-ltb, le-ltb}
+use Rattle.std.proofs.lemmas.List.{get_or-map, length-map}
+use Rattle.std.proofs.lemmas.List.Elements.{All-head, All-tail, All-from_get_or}
+use Rattle.std.proofs.lemmas.List.FromFn.{fill_by_all, get_or-map-range_with_len, length-map-range_with_len}
+use Rattle.std.proofs.lemmas.List.Sorted.{IsPermutation-map}
+use Rattle.std.proofs.lemmas.Nat.{le-div, pow_pos}
+use Rattle.rx_spec.specs.Queries.{Anchored}
+use Rattle.rx_spec.specs.declared.Start.{Start}
+use Rattle.rx_dense.specs.Layouts.{Layout, IsRowId, AreRows, AreStarts, column, ids_of, machine_of, mode_place}
+use Rattle.rx_dense.specs.Layouts.{row_count, stride}
+use Rattle.rx_dense.proofs.Rows.{IsRowId-row, column_within, quotient, row-below, start_is_row}
+use Rattle.rx_remap.proofs.Places.{places_apart, row_below}
+use Rattle.rx_order.specs.Moved.{IsReordered}
+use Rattle.rx_order.proofs.Moved.{factor, id_count, ids_count}
+
+-- the numbers of the rows, by their new ids
+abbrev pub numbers_of : Layout → List ℕ → List ℕ
+numbers_of l ids = map (λ id. id / stride l) ids
+
+-- what is known of a table before its rows are moved
+pub record IsBefore (l : Layout) (rows : List ℕ) : Type 0 where
+  pub are_rows : AreRows l
+  pub are_starts : AreStarts l
+  pub order : IsPermutation (range_with_len 0 (row_count l)) rows
+
+-- a test of images is a test of what they are images of
+any_alike : (P : ℕ → Type 0) (f : ℕ → ℕ) (p q : ℕ → Bool) (xs : List ℕ) → ((x : ℕ) → P x → p (f x) ≡ q x) → All P xs
+    → list_any p (map f xs) ≡ list_any q xs
+any_alike P f p q [] e h = refl
+any_alike P f p q (x ∷ xs) e h =
+    ap₂ (λ (a b : Bool). a || b) (e x (All-head P x xs h)) (any_alike P f p q xs e (All-tail P x xs h))
+
+module _ {rows : List ℕ} {old new : Layout} (re : IsReordered rows old new) (before : IsBefore old rows) where
+  some : 0 < stride old
+  some = pow_pos old.stride2
+
+  abbrev pub numbers : List ℕ
+  numbers = map (λ id. id / stride old) re.ids
+
+  -- a row's number is its place
+  number_is : (row : ℕ) (h : row < row_count old) → slice_index numbers row ≡ (re.moved.lies row h).place
+  number_is row h =
+      get_or-map (λ id. id / stride old) re.ids row 0 0 (omega (arith, id_count re.moved))
+      ∙ ap (λ id. id / stride old) (re.moved.lies row h).id ∙ mul-div_cancel (re.moved.lies row h).place some
+
+  pub id_is : (row : ℕ) → row < row_count old → slice_index re.ids row ≡ slice_index numbers row * stride old
+  id_is row h = (re.moved.lies row h).id ∙ ap (λ k. k * stride old) (sym (number_is row h))
+
+  pub number_below : (row : ℕ) → row < row_count old → slice_index numbers row < row_count old
+  number_below row h =
+      let at = re.moved.lies row h in
+      let below : at.place < row_count old = omega (arith, at.below, re.moved.places) in
+      subst (λ k. k < row_count old) (sym (number_is row h)) below
+
+  pub row_at_number : (row : ℕ) → row < row_count old → slice_index rows (slice_index numbers row) ≡ row
+  row_at_number row h =
+      sym (re.there (slice_index numbers row) (number_below row h))
+      ∙ ap (slice_index re.lying) (number_is row h) ∙ (re.moved.lies row h).there
+
+  pub row_of_place : (place : ℕ) → place < row_count old → slice_index rows place < row_count old
+  row_of_place place h = row_below before.order place h
+
+  pub number_of_place : (place : ℕ) → place < row_count old → slice_index numbers (slice_index rows place) ≡ place
+  number_of_place place h =
+      let row = row_of_place place h in
+      places_apart before.order (slice_index numbers (slice_index rows place)) place (number_below _ row) h
+      (row_at_number (slice_index rows place) row)
+
+  pub permutation : IsPermutation (range_with_len 0 (row_count old)) numbers
+  permutation =
+      let n : ℕ = row_count old in
+      let each : map (λ id. id / stride old) (ids_of old) ≡ map (λ k. k) (range_with_len 0 n) =
+      fill_by_all (λ k. k) (map (λ id. id / stride old) (ids_of old)) n 0
+      (length-map (ids_of old) (λ id. id / stride old) ∙ ids_count old)
+      (λ k h.
+      get_or-map (λ id. id / stride old) (ids_of old) k 0 0 (omega (arith, ids_count old))
+      ∙ ap (λ id. id / stride old)
+      (get_or-map-range_with_len (λ row. row * 2 ^ old.stride2) 0 n k k 0 h (omega arith))
+      ∙ mul-div_cancel k some) in
+      subst (λ xs. IsPermutation xs numbers) (each ∙ map-id (range_with_len 0 n))
+      (IsPermutation-map (λ id. id / stride old) (ids_of old) re.ids re.moved.permutation)
+
+  -- ---- the table
+
+  same_stride2 : re.now.stride2 ≡ old.stride2
+  same_stride2 = ap (λ (l : Layout). l.stride2) re.moved.rest
+
+  same_starts : re.now.starts ≡ old.starts
+  same_starts = ap (λ (l : Layout). l.starts) re.moved.rest
+
+  pub stride_is : stride new ≡ stride old
+  stride_is = ap (λ (l : Layout). stride l) re.is ∙ ap (λ s. 2 ^ s) same_stride2
+
+  pub words_count : length new.words ≡ length old.words
+  words_count =
+      ap (λ (l : Layout). length l.words) re.is
+      ∙ length-map-range_with_len _ 0 (length re.now.words) ∙ re.moved.count
+
+  pub size : row_count new ≡ row_count old
+  size = ap₂ (λ (len s : ℕ). len / s) words_count stride_is
+
+  now_size : row_count re.now ≡ row_count old
+  now_size = ap₂ (λ (len s : ℕ). len / 2 ^ s) re.moved.count same_stride2
+
+  next_place : (row unit : ℕ) → row < row_count old → unit < 257
+      → row * stride old + column old unit < length old.words
+  next_place row unit h u =
+      let is = IsRowId-row old row h in
+      let below = is.below in
+      let fits = before.are_rows.fits in
+      let low = column_within old before.are_rows.classes unit u in
+      omega arith
+
+  pub next_below : (row unit : ℕ) → row < row_count old → unit < 257 → (machine_of old).next row unit < row_count old
+  next_below row unit h u = row-below old _ (before.are_rows.next_ids _ (next_place row unit h u))
+
+  -- before the renaming a place leads where its row led
+  next_there : (place unit : ℕ) → place < row_count old → unit < 257
+      → (machine_of re.now).next place unit ≡ (machine_of old).next (slice_index rows place) unit
+  next_there place unit h u =
+      let fits = before.are_rows.fits in
+      let low = column_within old before.are_rows.classes unit u in
+      ap (λ (l : Layout). (machine_of l).next place unit) re.moved.rest
+      ∙ ap (λ id. id / stride old) (re.moved.words place (column old unit) h (omega arith))
+      ∙ ap (λ row. (machine_of old).next row unit) (re.there place h)
+
+  renamed_row : (row : ℕ) → row < row_count old
+      → slice_index re.ids row / stride re.now ≡ slice_index numbers row
+  renamed_row row h =
+      ap (λ s. slice_index re.ids row / 2 ^ s) same_stride2
+      ∙ sym (get_or-map (λ id. id / stride old) re.ids row 0 0 (omega (arith, id_count re.moved)))
+
+  pub next_of_place : (place unit : ℕ) → place < row_count old → unit < 257
+      → (machine_of new).next place unit
+      ≡ slice_index numbers ((machine_of old).next (slice_index rows place) unit)
+  next_of_place place unit h u =
+      re.machine.nexts place unit (omega (arith, now_size)) u
+      ∙ ap (λ row. slice_index re.ids row / stride re.now) (next_there place unit h u)
+      ∙ renamed_row _ (next_below (slice_index rows place) unit (row_of_place place h) u)
+
+  pub next_of_row : (row unit : ℕ) → row < row_count old → unit < 257
+      → (machine_of new).next (slice_index numbers row) unit ≡ slice_index numbers ((machine_of old).next row unit)
+  next_of_row row unit h u =
+      next_of_place (slice_index numbers row) unit (number_below row h) u
+      ∙ ap (λ r. slice_index numbers ((machine_of old).next r unit)) (row_at_number row h)
+
+  -- ---- start entries
+
+  pub zero_div : 0 / stride old ≡ 0
+  zero_div = omega (arith, mul-div_cancel 0 some)
+
+  pub two_rows : 2 ≤ row_count old
+  two_rows = le-div 2 (length old.words) (stride old) some before.are_rows.two
+
+  pub entry_below : (mode : Anchored) (start : Start) → (machine_of old).entry mode start < row_count old
+  entry_below mode start =
+      ⊎_elim
+      (λ (has : mode_place mode < length old.starts).
+      rw (lt-ltb _ _ has) (row-below old _ (start_is_row old before.are_starts mode start has)))
+      (λ (none : length old.starts ≤ mode_place mode). rw (le-ltb _ _ none, zero_div) (omega (arith, two_rows)))
+      (cases_lt (mode_place mode) (length old.starts))
+
+  starts_are : new.starts ≡ map (λ id. slice_index re.ids (id / stride old)) old.starts
+  starts_are =
+      ap (λ (l : Layout). l.starts) re.is
+      ∙ ap₂ (λ (s : ℕ) (ids : List ℕ). map (λ id. slice_index re.ids (id / 2 ^ s)) ids) same_stride2 same_starts
+
+  pub starts_count : length new.starts ≡ length old.starts
+  starts_count = ap length starts_are ∙ length-map old.starts (λ id. slice_index re.ids (id / stride old))
+
+  pub entry_of : slice_index numbers 0 ≡ 0 → (mode : Anchored) (start : Start)
+      → (machine_of new).entry mode start ≡ slice_index numbers ((machine_of old).entry mode start)
+  entry_of dead mode start =
+      ⊎_elim
+      (λ (has : mode_place mode < length old.starts).
+      let there : mode_place mode < length re.now.starts = omega (arith, ap length same_starts) in
+      let same = ap (λ (l : Layout). (machine_of l).entry mode start) re.moved.rest in
+      re.machine.entries mode start there
+      ∙ ap (λ row. slice_index re.ids row / stride re.now) same
+      ∙ renamed_row _ (entry_below mode start))
+      (λ (none : length old.starts ≤ mode_place mode).
+      let none_now : length new.starts ≤ mode_place mode = omega (arith, starts_count) in
+      rw (le-ltb _ _ none, le-ltb _ _ none_now, zero_div, dead) (ap (λ s. 0 / s) stride_is ∙ zero_div))
+      (cases_lt (mode_place mode) (length old.starts))
+
+  -- a search starts at a place where it started in the place's row
+  pub any_start : (place : ℕ) → place < row_count old
+      → list_any (λ id. id == place * stride new) new.starts
+      ≡ list_any (λ id. id == slice_index rows place * stride old) old.starts
+  any_start place h =
+      ap (λ s. list_any (λ id. id == place * s) new.starts) stride_is
+      ∙ ap (list_any (λ id. id == place * stride old)) starts_are
+      ∙ any_alike (IsRowId old) (λ id. slice_index re.ids (id / stride old)) (λ id. id == place * stride old)
+      (λ id. id == slice_index rows place * stride old) old.starts same
+      (All-from_get_or (IsRowId old) old.starts 0 before.are_starts.start_ids)
+    where
+      same : (id : ℕ) → IsRowId old id
+          → (slice_index re.ids (id / stride old) == place * stride old) ≡ (id == slice_index rows place * stride old)
+      same id is =
+          let row : ℕ = id / stride old in
+          let below : row < row_count old = row-below old id is in
+          let whole : row * stride old ≡ id = quotient id (stride old) is.whole in
+          ⊎_elim
+          (λ (e : row ≡ slice_index rows place).
+          let here : slice_index re.ids row ≡ place * stride old =
+          id_is row below ∙ ap (λ r. slice_index numbers r * stride old) e
+          ∙ ap (λ k. k * stride old) (number_of_place place h) in
+          eq-eqb _ _ here ∙ sym (eq-eqb _ _ (sym whole ∙ ap (λ r. r * stride old) e)))
+          (λ (ne : row ≡ slice_index rows place → ⊥).
+          let elsewhere : slice_index re.ids row ≡ place * stride old → ⊥ = λ e.
+          let number = factor some (slice_index numbers row) place (sym (id_is row below) ∙ e) in
+          ne (sym (row_at_number row below) ∙ ap (slice_index rows) number) in
+          let other : id ≡ slice_index rows place * stride old → ⊥ = λ e.
+          ne (factor some row (slice_index rows place) (whole ∙ e)) in
+          ne_eqb _ _ elsewhere ∙ sym (ne_eqb _ _ other))
+          (cases_eq row (slice_index rows place))

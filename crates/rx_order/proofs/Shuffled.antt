@@ -1,0 +1,631 @@
+-- Shuffled tables: the match rows lie in the order of their ids, so their patterns are the lists of the map in its order.
+use Rattle.std.proofs.Common.{◌≡◌, ℕ, zero, suc, ◌+◌, ◌-◌, ◌*◌, ◌/◌, ◌<◌, ◌≤◌, ◌⊎◌, ◌==◌, ◌&&◌, ◌||◌, nat_lt, nat_le}
+use Rattle.std.proofs.Common.{Bool}
+use Rattle.std.proofs.Common.{true, false, if◌then◌else◌, Option, Some, None, List, [], ◌∷◌, length, map, slice_index}
+use Rattle.std.proofs.Common.{get_or}
+use Rattle.std.proofs.Common.{Vec, Global, refl, ap, ap₂, sym, ◌∙◌, subst, ⊎_elim, inl, inr, arith}
+use Rattle.std.specs.BTreeMap.{IsOrdered, insert_entry, get, is_at, keys, values}
+use Rattle.std.specs.List.{concat, list_any, range_with_len, slice_get}
+use Rattle.std.specs.List.Sorted.{IsStrictlyIncreasing}
+use Rattle.std.specs.Map.{keys_of, values_of}
+use Rattle.std.specs.Ordering.{nat_cmp}
+use Rattle.std.specs.Prelude.{Contains, is_some}
+use Rattle.std.specs.Vec.{vec_items}
+use Rattle.std.proofs.lemmas.Bool.{cases_eq, cases_lt, eq-eqb, eqb-true, false≢true, ne_eqb, lt-ltb, le-ltb}
+use Rattle.std.proofs.lemmas.List.FromFn.{get_or-map-range_with_len, length-map-range_with_len}
+use Rattle.std.proofs.lemmas.Map.Entries.{length-keys_of, length-values_of, place_from_lookup}
+use Rattle.std.proofs.lemmas.Map.Keys.{IsStrictlyIncreasing-from_sorted, below_from_sorted}
+use Rattle.std.proofs.lemmas.Map.Keys.{sorted_from_strictly_increasing}
+use Rattle.std.proofs.lemmas.Nat.{mul-le, row_fits}
+use Rattle.std.proofs.Math.Bool.{and-false}
+use Rattle.std.proofs.Math.Nat.{mul-div_cancel}
+use Rattle.std.proofs.lemmas.List.{length-map}
+use Rattle.rx_order.specs.RowOrder.{is_start_row}
+use Rattle.rx_lemmas.proofs.Firsts.{Contains-cases, Contains-here, Contains-nil, Contains-there}
+use Rattle.rx_spec.specs.Machines.{Label}
+use Rattle.rx_dense.specs.Builder.{pattern_lists, slices_from, with_patterns}
+use Rattle.rx_dense.specs.Layouts.{Layout, AreRows, row_count, stride, table_of}
+use Rattle.rx_dense.proofs.Rows.{quotient, row-below, start_is_row, start_within}
+use Rattle.std.specs.Prelude.{All}
+use Rattle.std.proofs.lemmas.List.{get_or_default}
+use Rattle.std.proofs.lemmas.List.Elements.{All-contains, All-head, All-tail}
+use Rattle.std.proofs.Common.{◌++◌}
+use Rattle.rx_order.specs.Ordering.{AreMatches, IsRouted, IsShuffled, Matches, is_match_row, label_by}
+use Rattle.rx_order.specs.Ordering.{label_of_patterns}
+use Rattle.rx_order.proofs.MarkedRows.{any_has, has_key, is_at_number}
+use Rattle.rx_order.proofs.Moved.{factor}
+use Rattle.rx_order.proofs.MatchRows.{HasPatterns, label_of_number}
+use Rattle.rx_order.proofs.KindNumbers.{high_kind}
+use Rattle.rx_order.proofs.Ordered.{IsArranged, Sorting, before_end, behind_end, end, end_within, high_at}
+use Rattle.rx_order.proofs.Ordered.{high_kind_is}
+use Rattle.rx_spec.specs.Causes.{max_id}
+use Rattle.std.specs.List.Sorted.{IsPermutation}
+use Rattle.rx_dense.specs.Layouts.{AreStarts}
+use Rattle.rx_dense.proofs.Shaped.{rows_kept, starts_kept}
+use Rattle.rx_order.specs.ByKind.{AreByKind, AreKinds}
+use Rattle.rx_order.specs.Moved.{IsReordered}
+use Rattle.rx_order.specs.SpecialIds.{special_ids}
+use Rattle.rx_order.proofs.Ordered.{ends_few}
+use Rattle.rx_order.proofs.Reordered.{IsBefore, stride_is}
+use Rattle.rx_spec.specs.Queries.{Anchored}
+use Rattle.rx_spec.specs.Tables.{IsSound}
+use Rattle.rx_spec.specs.declared.Start.{Start}
+use Rattle.rx_dense.specs.declared.special.Special.{Special}
+use Rattle.rx_dense.specs.Layouts.{context_number, machine_of, mode_place}
+use Rattle.rx_order.proofs.MatchRows.{joined}
+use Rattle.rx_order.proofs.Sound.{AreLabels, frame, sound}
+use Rattle.rx_order.proofs.Ordered.{accel_id, accel_is, end_high, ordered, permuted, size_same, special_is, start_is}
+use Rattle.rx_order.proofs.Reordered.{numbers, zero_div}
+use Rattle.rx_order.proofs.KindNumbers.{kind_high}
+use Rattle.rx_order.proofs.Ordered.{kind_at, low_kind, number, row_at, some}
+use Rattle.rx_order.proofs.Reordered.{number_below, number_of_place, row_at_number}
+
+-- ---- lists that rise
+
+-- what rises and has the same members is the same
+pub same_rising : (xs ys : List ℕ) → IsStrictlyIncreasing xs → IsStrictlyIncreasing ys
+    → ((z : ℕ) → Contains xs z → Contains ys z) → ((z : ℕ) → Contains ys z → Contains xs z) → xs ≡ ys
+same_rising [] [] up down there back = refl
+same_rising [] (y ∷ ys) up down there back = absurd (Contains-nil y (back y (Contains-here y ys)))
+same_rising (x ∷ xs) [] up down there back = absurd (Contains-nil x (there x (Contains-here x xs)))
+same_rising (x ∷ xs) (y ∷ ys) up down there back =
+    ap₂ (λ (z : ℕ) (zs : List ℕ). z ∷ zs) first
+    (same_rising xs ys (rest x xs up) (rest y ys down)
+    (λ z c. past (λ e. absurd (omega (arith, least x xs up z c, e, first)))
+    (Contains-cases y ys z (there z (Contains-there x xs z c))))
+    (λ z c. past (λ e. absurd (omega (arith, least y ys down z c, e, first)))
+    (Contains-cases x xs z (back z (Contains-there y ys z c)))))
+  where
+    least : (x : ℕ) (xs : List ℕ) → IsStrictlyIncreasing (x ∷ xs) → (z : ℕ) → Contains xs z → x < z
+    least x xs up z c =
+        let low = c.1 in
+        let at = below_from_sorted (x ∷ xs) 0 (suc c.0) z (sorted_from_strictly_increasing (x ∷ xs) up) (omega arith)
+        (omega arith) in
+        subst (λ v. x < v) c.2 at
+
+    rest : (x : ℕ) (xs : List ℕ) → IsStrictlyIncreasing (x ∷ xs) → IsStrictlyIncreasing xs
+    rest x xs up k h =
+        let next : suc k + 1 ≡ suc (k + 1) = omega arith in
+        subst (λ j. slice_index (x ∷ xs) (suc k) < slice_index (x ∷ xs) j) next (up (suc k) (omega (arith, h)))
+
+    past : {A B : Type 0} → (A → B) → A ⊎ B → B
+    past f o = ⊎_elim f (λ b. b) o
+
+    first : x ≡ y
+    first =
+        ⊎_elim
+        (λ (e : y ≡ x). sym e)
+        (λ (c : Contains ys x).
+        ⊎_elim
+        (λ (e : x ≡ y). e)
+        (λ (d : Contains xs y). absurd (omega (arith, least y ys down x c, least x xs up y d)))
+        (Contains-cases x xs y (back y (Contains-here y ys))))
+        (Contains-cases y ys x (there x (Contains-here x xs)))
+
+-- a test finds a member
+pub any_contains : (x : ℕ) (xs : List ℕ) → list_any (λ y. y == x) xs ≡ true → Contains xs x
+any_contains x [] e = absurd (false≢true e)
+any_contains x (y ∷ ys) e =
+    ⊎_elim
+    (λ (here : y ≡ x). subst (λ z. Contains (y ∷ ys) z) here (Contains-here y ys))
+    (λ (other : y ≡ x → ⊥).
+    Contains-there y ys x (any_contains x ys (sym (ap (λ b. b || list_any (λ y. y == x) ys) (ne_eqb y x other)) ∙ e)))
+    (cases_eq y x)
+
+-- ---- the entries of a map
+
+pub key_there : {X : Type 0} (entries : List (ℕ × X)) (i k : ℕ) (v : X) → slice_get entries i ≡ Some (k, v)
+    → (i < length (keys_of entries)) × (slice_index (keys_of entries) i ≡ k)
+key_there [] i k v e = absurd (cc)
+key_there {X} (entry ∷ entries) zero k v e = (omega arith, let same : entry ≡ (k, v) = cc in ap (λ (p : ℕ × X). p.0) same)
+key_there (entry ∷ entries) (suc i) k v e =
+    let at = key_there entries i k v e in
+    (omega (arith, at.0), at.1)
+
+pub list_there : (entries : List (ℕ × Vec ℕ Global)) (i k : ℕ) (v : Vec ℕ Global) → slice_get entries i ≡ Some (k, v)
+    → get_or (map vec_items (values_of entries)) i [] ≡ v.items
+list_there [] i k v e = absurd (cc)
+list_there (entry ∷ entries) zero k v e =
+    let same : entry ≡ (k, v) = cc in
+    ap (λ (p : ℕ × Vec ℕ Global). p.1.items) same
+list_there (entry ∷ entries) (suc i) k v e = list_there entries i k v e
+
+-- ---- what labels say
+
+not_quits : (o : Option (Vec ℕ Global)) → label_of_patterns o ≡ Label.Quits → ⊥
+not_quits None e = cc
+not_quits (Some v) e = cc
+
+quits_apart : (ks : List ℕ) → Label.Quits ≡ Label.Matches ks → ⊥
+quits_apart ks e = cc
+
+found_list : (o : Option (Vec ℕ Global)) (ks : List ℕ) → label_of_patterns o ≡ Label.Matches ks
+    → (v : Vec ℕ Global) × (o ≡ Some v) × (v.items ≡ ks)
+found_list None ks e = absurd (cc)
+found_list (Some v) ks e = (v, refl, cc)
+
+-- ---- a table that is shuffled
+
+-- by the kinds of its rows, with the patterns that were given
+pub record IsShuffle (old : Layout) (matches : Matches) (x : Sorting) (new m : Layout) : Type 0 where
+  pub are : AreMatches old matches
+  pub ordered : IsOrdered nat_cmp matches
+  pub marked : x.marked ≡ true
+  pub matches_are : x.matches ≡ is_match_row old matches
+  pub none_accelerated : x.accelerated ≡ (λ row. false)
+  pub arranged : IsArranged x (with_patterns old (pattern_lists matches)) new m
+  pub slices : m.slices ≡ slices_from 0 (pattern_lists matches)
+  pub pattern_ids : m.pattern_ids ≡ concat (pattern_lists matches)
+  pub accels : m.accels ≡ old.accels
+
+module _ {old : Layout} {matches : Matches} {x : Sorting} {new m : Layout} (s : IsShuffle old matches x new m) where
+  abbrev a : IsArranged x (with_patterns old (pattern_lists matches)) new m
+  a = s.arranged
+
+  match_at : (row : ℕ) → x.matches row ≡ is_match_row old matches row
+  match_at row = ap (λ (f : ℕ → Bool). f row) s.matches_are
+
+  -- a row whose id is a key
+  key_row : (id : ℕ) (v : Vec ℕ Global) → get nat_cmp matches id ≡ Some v
+      → (id / stride old < row_count old) × (1 < id / stride old) × (id / stride old * stride old ≡ id)
+  key_row id v e =
+      let at = s.are.rows id v e in
+      let whole = quotient id (stride old) at.0.whole in
+      let some_stride = some a in (
+        row-below old id at.0,
+        ⊎_elim
+            (λ (h : 1 < id / stride old). h)
+            (λ (h : id / stride old ≤ 1).
+            let low = mul-le (id / stride old) (stride old) 1 (stride old) h (omega arith) in
+            absurd (omega (arith, low, whole, at.1)))
+            (cases_lt 1 (id / stride old)),
+        whole,
+      )
+
+  matched : (row : ℕ) (v : Vec ℕ Global) → get nat_cmp matches (row * stride old) ≡ Some v → x.matches row ≡ true
+  matched row v e = match_at row ∙ ap (λ (o : Option (Vec ℕ Global)). is_some o) e
+
+  -- the kind of match rows
+  two_kind : (b c : Bool) → 1 < high_kind b false c → high_kind b false c ≤ 3 → (b ≡ true) × (high_kind b false c ≡ 2)
+  two_kind true c low high = (refl, refl)
+  two_kind false true low high = absurd (omega arith)
+  two_kind false false low high = absurd (omega arith)
+
+  -- match rows lie up to where they end
+  match_place : (place : ℕ) → 2 ≤ place → place < end a 3 → (x.matches (row_at a place) ≡ true) × (kind_at a place ≡ 2)
+  match_place place low high =
+      let at = before_end a place 3 (omega arith) high in
+      let kind = high_kind_is a place at.0 low
+      ∙ ap (λ (f : ℕ → Bool). high_kind (x.matches (row_at a place)) (f (row_at a place)) (is_start_row old (row_at a place)))
+      s.none_accelerated in
+      let above = high_at a place at.0 low in
+      let is = two_kind (x.matches (row_at a place)) (is_start_row old (row_at a place)) (omega (arith, kind, above))
+      (omega (arith, kind, at.1)) in
+      (is.0, kind ∙ is.1)
+
+  place_match : (row : ℕ) → row < row_count old → 1 < row → x.matches row ≡ true
+      → (2 ≤ number a row) × (number a row < end a 3)
+  place_match row h high e =
+      let below = number_below a.reordered a.before row h in
+      let back = row_at_number a.reordered a.before row h in
+      let kind : kind_at a (number a row) ≡ high_kind true false (is_start_row old row) =
+      ap (slice_index x.kinds) back ∙ a.kinds.kinds_are row h ∙ kind_high row (x.matches row) (x.accelerated row) (is_start_row old row) high
+      ∙ ap₂ (λ (b : Bool) (f : ℕ → Bool). high_kind b (f row) (is_start_row old row)) e s.none_accelerated in (
+        ⊎_elim
+            (λ (low : number a row ≤ 1). absurd (omega (arith, low_kind a (number a row) low, kind)))
+            (λ (past : 1 < number a row). past)
+            (⊎_elim (λ (p : 1 < number a row). inr p) (λ (p : number a row ≤ 1). inl p) (cases_lt 1 (number a row))),
+        ⊎_elim
+            (λ (within : number a row < end a 3). within)
+            (λ (past : end a 3 ≤ number a row).
+            absurd (omega (arith, behind_end a (number a row) 3 below (omega arith) past, kind)))
+            (cases_lt (number a row) (end a 3)),
+      )
+
+  -- the ids of the match rows, in their order
+  ids : List ℕ
+  ids = map (λ i. row_at a (i + 2) * stride old) (range_with_len 0 (end a 3 - 2))
+
+  ids_count : length ids ≡ end a 3 - 2
+  unfolding ids
+  ids_count = length-map-range_with_len (λ i. row_at a (i + 2) * stride old) 0 (end a 3 - 2)
+
+  id_at : (i d : ℕ) → i < end a 3 - 2 → get_or ids i d ≡ row_at a (i + 2) * stride old
+  unfolding ids
+  id_at i d h =
+      get_or-map-range_with_len (λ i. row_at a (i + 2) * stride old) 0 (end a 3 - 2) i i d h (omega arith)
+
+  ids_rise : IsStrictlyIncreasing ids
+  ids_rise i h =
+      let next : i + 1 + 2 ≡ i + 2 + 1 = omega arith in
+      let more : i + 1 < end a 3 - 2 = omega (arith, ids_count) in
+      let first = match_place (i + 2) (omega arith) (omega arith) in
+      let second = match_place (i + 1 + 2) (omega arith) (omega arith) in
+      let within = end_within a 3 (omega arith) in
+      let rises : row_at a (i + 2) < row_at a (i + 1 + 2) =
+      a.by_kind.stable (i + 2) (i + 1 + 2) (omega arith) (omega (arith, a.kinds.count))
+      (first.1 ∙ sym second.1) in
+      let at = id_at i 0 (omega arith) in
+      let behind = id_at (i + 1) 0 more in
+      omega (
+        arith,
+        at,
+        behind,
+        row_fits (row_at a (i + 2)) (stride old) (row_at a (i + 1 + 2)) (stride old) rises (omega arith),
+        some a,
+      )
+
+  keys_are : keys matches ≡ ids
+  keys_are =
+      same_rising (keys matches) ids (IsStrictlyIncreasing-from_sorted (keys matches) s.ordered) ids_rise there back
+    where
+      there : (z : ℕ) → Contains (keys matches) z → Contains ids z
+      there z c = found (get nat_cmp matches z) refl
+        where
+          found : (o : Option (Vec ℕ Global)) → get nat_cmp matches z ≡ o → Contains ids z
+          found None e =
+              let no : list_any (λ y. y == z) (keys matches) ≡ false =
+              sym (has_key z matches.entries) ∙ ap (λ (o : Option (Vec ℕ Global)). is_some o) e in
+              absurd (false≢true (sym no ∙ any_has z (keys matches) c))
+          found (Some v) e =
+              let row : ℕ = z / stride old in
+              let at = key_row z v e in
+              let here : get nat_cmp matches (row * stride old) ≡ Some v =
+              ap (get nat_cmp matches) at.2 ∙ e in
+              let inside = place_match row at.0 at.1 (matched row v here) in
+              let i : ℕ = number a row - 2 in
+              let place : i + 2 ≡ number a row = omega (arith, inside.0) in
+              let below : i < end a 3 - 2 = omega (arith, inside.0, inside.1) in (
+                i,
+                omega (arith, ids_count),
+                id_at i z below ∙ ap (λ p. row_at a p * stride old) place
+                    ∙ ap (λ r. r * stride old) (row_at_number a.reordered a.before row at.0) ∙ at.2,
+              )
+
+      back : (z : ℕ) → Contains ids z → Contains (keys matches) z
+      back z c =
+          let i : ℕ = c.0 in
+          let below : i < end a 3 - 2 = omega (arith, ids_count, c.1) in
+          let is : row_at a (i + 2) * stride old ≡ z = sym (id_at i z below) ∙ c.2 in
+          let own = match_place (i + 2) (omega arith) (omega arith) in
+          let has : list_any (λ y. y == row_at a (i + 2) * stride old) (keys matches) ≡ true =
+          sym (has_key (row_at a (i + 2) * stride old) matches.entries) ∙ sym (match_at (row_at a (i + 2))) ∙ own.0 in
+          subst (Contains (keys matches)) is (any_contains (row_at a (i + 2) * stride old) (keys matches) has)
+
+  lists_count : length (pattern_lists matches) ≡ end a 3 - 2
+  lists_count =
+      length-map (values matches) vec_items ∙ length-values_of matches.entries ∙ sym (length-keys_of matches.entries)
+      ∙ ap length keys_are ∙ ids_count
+
+  pub has_patterns : HasPatterns x m (pattern_lists matches)
+  has_patterns = record { count = lists_count; slices = s.slices; pattern_ids = s.pattern_ids }
+
+  -- the list of a row's patterns
+  list_is : (row : ℕ) (v : Vec ℕ Global) → get nat_cmp matches (row * stride old) ≡ Some v → row < row_count old
+      → get_or (pattern_lists matches) (number a row - 2) [] ≡ v.items
+  list_is row v e h =
+      let found = place_from_lookup (is_at (nat_cmp (row * stride old))) matches.entries v e in
+      let i : ℕ = found.0 in
+      let key : ℕ = found.1 in
+      let there = found.2 in
+      let same : key ≡ row * stride old =
+      eqb-true key (row * stride old) (sym (is_at_number (row * stride old) key) ∙ found.3) in
+      let at = key_there matches.entries i key v there in
+      let below : i < end a 3 - 2 = omega (arith, at.0, ap length keys_are, ids_count) in
+      let id : row_at a (i + 2) * stride old ≡ row * stride old =
+      sym (id_at i 0 below) ∙ ap (λ xs. slice_index xs i) (sym keys_are) ∙ at.1 ∙ same in
+      let own : row_at a (i + 2) ≡ row = factor (some a) (row_at a (i + 2)) row id in
+      let within = end_within a 3 (omega arith) in
+      let place : number a row ≡ i + 2 =
+      ap (number a) (sym own) ∙ number_of_place a.reordered a.before (i + 2) (omega arith) in
+      let index : number a row - 2 ≡ i = omega (arith, place) in
+      ap (λ j. get_or (pattern_lists matches) j []) index ∙ list_there matches.entries i key v there
+
+  -- ---- labels
+
+  pub told : (row : ℕ) → row < row_count old → (table_of m).machine.label (number a row) ≡ label_by old matches row
+  told row h =
+      label_of_number a has_patterns row h ∙ by_get (get nat_cmp matches (row * stride old)) refl
+    where
+      by_get : (o : Option (Vec ℕ Global)) → get nat_cmp matches (row * stride old) ≡ o
+          → (if row == 1 then Label.Quits
+          else (if nat_lt 1 row && x.matches row
+          then Label.Matches (get_or (pattern_lists matches) (number a row - 2) []) else Label.Plain))
+          ≡ (if row == 1 then Label.Quits else label_of_patterns (get nat_cmp matches (row * stride old)))
+      by_get None e =
+          let none : x.matches row ≡ false = match_at row ∙ ap (λ (o : Option (Vec ℕ Global)). is_some o) e in
+          ap (λ b. if row == 1 then Label.Quits
+          else (if b then Label.Matches (get_or (pattern_lists matches) (number a row - 2) []) else Label.Plain))
+          (ap (λ b. nat_lt 1 row && b) none ∙ and-false (nat_lt 1 row))
+          ∙ ap (λ o. if row == 1 then Label.Quits else label_of_patterns o) (sym e)
+      by_get (Some v) e =
+          let at = key_row (row * stride old) v e in
+          let same : row * stride old / stride old ≡ row = mul-div_cancel row (some a) in
+          let high : 1 < row = subst (λ r. 1 < r) same at.1 in
+          ap₂ (λ (b : Bool) (ks : List ℕ). if row == 1 then Label.Quits else (if b then Label.Matches ks else Label.Plain))
+          (ap₂ (λ (b c : Bool). b && c) (lt-ltb 1 row high) (matched row v e)) (list_is row v e h)
+          ∙ ap (λ o. if row == 1 then Label.Quits else label_of_patterns o) (sym e)
+
+  -- ---- what is left
+
+  no_kind : (b c : Bool) → 2 < high_kind b false c → high_kind b false c ≤ 5 → ⊥
+  no_kind true c low high = omega arith
+  no_kind false true low high = omega arith
+  no_kind false false low high = omega arith
+
+  no_accels : nat_lt (end a 2) (end a 5) ≡ false
+  no_accels =
+      ⊎_elim
+      (λ (h : end a 2 < end a 5).
+      let at = before_end a (end a 2) 5 (omega arith) h in
+      let past = behind_end a (end a 2) 2 at.0 (omega arith) (omega arith) in
+      let high : 1 < end a 2 = end_high a 2 (omega arith) (omega arith) in
+      let kind = high_kind_is a (end a 2) at.0 high
+      ∙ ap (λ (f : ℕ → Bool). high_kind (x.matches (row_at a (end a 2))) (f (row_at a (end a 2))) (is_start_row old (row_at a (end a 2))))
+      s.none_accelerated in
+      absurd (no_kind (x.matches (row_at a (end a 2))) (is_start_row old (row_at a (end a 2)))
+      (omega (arith, kind, past)) (omega (arith, kind, at.1))))
+      (λ (h : end a 5 ≤ end a 2). le-ltb (end a 2) (end a 5) h)
+      (cases_lt (end a 2) (end a 5))
+
+  no_accel_id : m.special.min_accel ≡ 0
+  no_accel_id = ap (λ (k : Special). k.min_accel) (special_is a) ∙ ap (λ b. if b then end a 2 * stride old else 0) no_accels
+
+  no_accelerated : (row : ℕ) → row < row_count m → (table_of m).is_accelerated row ≡ false
+  no_accelerated row h =
+      let low : row < row_count old = omega (arith, size_same a) in
+      ⊎_elim
+      (λ (high : 1 < row). accel_is a row low high ∙ ap (λ (f : ℕ → Bool). f (row_at a row)) s.none_accelerated)
+      (λ (first : row ≤ 1).
+      accel_id a row low
+      ∙ ap (λ b. b && nat_le (kind_at a row) 5) (le-ltb 2 (kind_at a row) (omega (arith, low_kind a row first))))
+      (cases_lt 1 row)
+
+  pub shuffled : IsShuffled old matches m
+  shuffled = record {
+    numbers = numbers a.reordered a.before;
+    permuted = record {
+      permutation = (permuted a).permutation;
+      size = (permuted a).size;
+      dead = (permuted a).dead;
+      quit = (permuted a).quit;
+      entries = (permuted a).entries;
+      nexts = (permuted a).nexts;
+    };
+    labels = told;
+    ordered = ordered a;
+    marked = λ row h.
+        start_is a row (omega (arith, size_same a)) ∙ ap (λ b. b && is_start_row m row) s.marked;
+    unaccelerated = (
+      no_accel_id,
+      ap (λ (k : Special). k.max_accel) (special_is a) ∙ ap (λ b. if b then (end a 5 - 1) * stride old else 0) no_accels,
+    );
+    joined = joined a has_patterns;
+    rest =
+        frame a
+        ∙ ap (λ (accels : List (List ℕ)). record old {
+          words = m.words;
+          starts = m.starts;
+          slices = m.slices;
+          pattern_ids = m.pattern_ids;
+          special = m.special;
+          accels = accels;
+        }) s.accels;
+  }
+
+  -- ---- soundness
+
+  get_low : (row : ℕ) → row ≤ 1 → get nat_cmp matches (row * stride old) ≡ None
+  get_low row low = by_get (get nat_cmp matches (row * stride old)) refl
+    where
+      by_get : (o : Option (Vec ℕ Global)) → get nat_cmp matches (row * stride old) ≡ o → o ≡ None
+      by_get None e = refl
+      by_get (Some v) e =
+          let at = key_row (row * stride old) v e in
+          let same : row * stride old / stride old ≡ row = mul-div_cancel row (some a) in
+          absurd (omega (arith, at.1, same))
+
+  -- no search starts in a match row
+  get_start : (mode : Anchored) (start : Start)
+      → get nat_cmp matches ((machine_of old).entry mode start * stride old) ≡ None
+  get_start mode start =
+      ⊎_elim
+      (λ (has : mode_place mode < length old.starts). by_get has (get nat_cmp matches (row * stride old)) refl)
+      (λ (none : length old.starts ≤ mode_place mode).
+      let first : row ≡ 0 = ap (λ b. (if b then slice_index old.starts place else 0) / stride old) (le-ltb _ _ none)
+      ∙ zero_div a.reordered a.before in
+      get_low row (omega (arith, first)))
+      (cases_lt (mode_place mode) (length old.starts))
+    where
+      row : ℕ
+      row = (machine_of old).entry mode start
+
+      place : ℕ
+      place = mode_place mode + context_number start
+
+      by_get : mode_place mode < length old.starts → (o : Option (Vec ℕ Global))
+          → get nat_cmp matches ((machine_of old).entry mode start * stride old) ≡ o → o ≡ None
+      by_get has None e = refl
+      by_get has (Some v) e =
+          let id : ℕ = slice_index old.starts (mode_place mode + context_number start) in
+          let l : Layout = with_patterns old (pattern_lists matches) in
+          let is = start_is_row l a.before.are_starts mode start has in
+          let own : (machine_of old).entry mode start * stride old ≡ id =
+          ap (λ b. (if b then id else 0) / stride old * stride old) (lt-ltb _ _ has) ∙ quotient id (stride old) is.whole in
+          let within = start_within l a.before.are_starts mode start has in
+          absurd ((s.are.rows ((machine_of old).entry mode start * stride old) v e).2 (
+            mode_place mode + context_number start,
+            within,
+            get_or_default old.starts (mode_place mode + context_number start)
+                ((machine_of old).entry mode start * stride old) 0 within
+                ∙ sym own,
+          ))
+
+  label_high : (row : ℕ) → (row ≡ 1 → ⊥)
+      → label_by old matches row ≡ label_of_patterns (get nat_cmp matches (row * stride old))
+  label_high row ne =
+      ap (λ b. if b then Label.Quits else label_of_patterns (get nat_cmp matches (row * stride old))) (ne_eqb row 1 ne)
+
+  -- a row that tells patterns has a list
+  label_found : (row : ℕ) (ks : List ℕ) → label_by old matches row ≡ Label.Matches ks
+      → (v : Vec ℕ Global) × (get nat_cmp matches (row * stride old) ≡ Some v) × (v.items ≡ ks)
+  label_found row ks e =
+      ⊎_elim
+      (λ (one : row ≡ 1).
+      absurd (quits_apart ks (sym (ap (λ b. if b then Label.Quits
+      else label_of_patterns (get nat_cmp matches (row * stride old))) (eq-eqb row 1 one)) ∙ e)))
+      (λ (ne : row ≡ 1 → ⊥).
+      found_list (get nat_cmp matches (row * stride old)) ks (sym (label_high row ne) ∙ e))
+      (cases_eq row 1)
+
+  labels_are : IsRouted (table_of old) → AreLabels (with_patterns old (pattern_lists matches)) (label_by old matches)
+  labels_are routed = record {
+    dead = ap label_of_patterns (get_low 0 (omega arith));
+    quit = refl;
+    quit_only = λ row h e.
+        ⊎_elim
+        (λ (one : row ≡ 1). one)
+        (λ (ne : row ≡ 1 → ⊥). absurd (not_quits (get nat_cmp matches (row * stride old)) (sym (label_high row ne) ∙ e)))
+        (cases_eq row 1);
+    lists = λ row h e.
+        let found = label_found row [] e in
+        let many = s.are.lists (row * stride old) found.0 found.1 in
+        omega (arith, many.0, ap length found.2);
+    starts = λ mode start.
+        label_high ((machine_of old).entry mode start) (routed.starts mode start)
+        ∙ ap label_of_patterns (get_start mode start);
+    patterns = λ row ks k h e c.
+        let found = label_found row ks e in
+        let each = (s.are.lists (row * stride old) found.0 found.1).1 in
+        All-contains (λ k. k < old.pattern_len) ks k (subst (All (λ k. k < old.pattern_len)) found.2 each) c;
+  }
+
+  pub shuffled_sound : IsRouted (table_of old) → IsSound (table_of m)
+  shuffled_sound routed =
+      let same : IsRouted (table_of (with_patterns old (pattern_lists matches))) = record {
+        past_last = routed.past_last;
+        dead_stays = routed.dead_stays;
+        quit_ends = routed.quit_ends;
+        eoi_goes_on = routed.eoi_goes_on;
+        starts = routed.starts;
+      } in
+      sound a same told (labels_are routed)
+      (record {
+        needles = λ row h e. absurd (false≢true (sym (no_accelerated row h) ∙ e));
+        some_needle = λ row h e. absurd (false≢true (sym (no_accelerated row h) ∙ e));
+        few_needles = λ row h e. absurd (false≢true (sym (no_accelerated row h) ∙ e));
+      })
+
+-- ---- what the call makes
+
+-- by what it learns of a table and what its calls leave
+pub record IsShuffling (old : Layout) (matches : Matches) (kinds rows ends : List ℕ) (next new m : Layout) : Type 0 where
+  pub are : AreMatches old matches
+  pub ordered : IsOrdered nat_cmp matches
+  pub are_rows : AreRows old
+  pub are_starts : AreStarts old
+  pub kinds_are : AreKinds old (is_match_row old matches) (λ row. false) kinds
+  pub by_kind : AreByKind kinds rows ends
+  pub next_is : next ≡ with_patterns old (pattern_lists matches)
+  pub reordered : IsReordered rows next new
+  pub set : m ≡ record new { special = special_ids (stride new) ends true }
+
+module _ {old : Layout} {matches : Matches} {kinds rows ends : List ℕ} {next new m : Layout}
+    (s : IsShuffling old matches kinds rows ends next new m) where
+  abbrev pub l : Layout
+  l = with_patterns old (pattern_lists matches)
+
+  abbrev pub sorting : Sorting
+  sorting = record {
+    kinds = kinds;
+    rows = rows;
+    ends = ends;
+    marked = true;
+    matches = is_match_row old matches;
+    accelerated = λ row. false;
+  }
+
+  reordered : IsReordered rows l new
+  reordered = subst (λ k. IsReordered rows k new) s.next_is s.reordered
+
+  before : IsBefore l rows
+  before = record {
+    are_rows = rows_kept old l refl refl refl s.are_rows;
+    are_starts = starts_kept old l refl (omega arith) refl refl refl s.are_starts;
+    order = subst (λ n. IsPermutation (range_with_len 0 n) rows) s.kinds_are.count s.by_kind.permutation;
+  }
+
+  set_is : m ≡ record new { special = special_ids (stride l) ends true }
+  set_is = s.set ∙ ap (λ w. record new { special = special_ids w ends true }) (stride_is reordered before)
+
+  plain : (row : ℕ) → is_match_row old matches row ≡ true → is_start_row old row ≡ false
+  plain row e = by_get (get nat_cmp matches (row * stride old)) refl
+    where
+      by_get : (o : Option (Vec ℕ Global)) → get nat_cmp matches (row * stride old) ≡ o → is_start_row old row ≡ false
+      by_get None h = absurd (false≢true (sym (ap (λ (o : Option (Vec ℕ Global)). is_some o) h) ∙ e))
+      by_get (Some v) h =
+          by_start (list_any (λ id. id == row * stride old) old.starts) refl
+        where
+          by_start : (b : Bool) → list_any (λ id. id == row * stride old) old.starts ≡ b → is_start_row old row ≡ false
+          by_start false none = ap (λ b. nat_lt 1 row && b) none ∙ and-false (nat_lt 1 row)
+          by_start true some_start =
+              absurd ((s.are.rows (row * stride old) v h).2 (any_contains (row * stride old) old.starts some_start))
+
+  pub is_shuffle : IsShuffle old matches sorting new m
+  is_shuffle = record {
+    are = s.are;
+    ordered = s.ordered;
+    marked = refl;
+    matches_are = refl;
+    none_accelerated = refl;
+    arranged = record {
+      before = before;
+      reordered = reordered;
+      kinds = record { count = s.kinds_are.count; kinds_are = s.kinds_are.kinds_are };
+      by_kind = s.by_kind;
+      plain = plain;
+      rest =
+          subst (λ (k : Layout). k ≡ record new {
+            slices = k.slices;
+            pattern_ids = k.pattern_ids;
+            special = special_ids (stride l) ends true;
+            accels = k.accels;
+          }) (sym set_is) refl;
+    };
+    slices =
+        ap (λ (k : Layout). k.slices) set_is ∙ ap (λ (k : Layout). k.slices) reordered.is
+        ∙ ap (λ (k : Layout). k.slices) reordered.moved.rest;
+    pattern_ids =
+        ap (λ (k : Layout). k.pattern_ids) set_is ∙ ap (λ (k : Layout). k.pattern_ids) reordered.is
+        ∙ ap (λ (k : Layout). k.pattern_ids) reordered.moved.rest;
+    accels =
+        ap (λ (k : Layout). k.accels) set_is ∙ ap (λ (k : Layout). k.accels) reordered.is
+        ∙ ap (λ (k : Layout). k.accels) reordered.moved.rest;
+  }
+
+  pub shuffling_ends : (kind : ℕ) → kind < 8 → slice_index ends kind * stride new ≤ max_id + stride new
+  shuffling_ends kind h =
+      subst (λ w. slice_index ends kind * w ≤ max_id + w) (sym (stride_is reordered before))
+      (ends_few old kinds rows ends s.by_kind s.kinds_are.count s.are_rows kind h)
+
+-- ---- a map that grows behind its last key
+
+pub inserted_last : {X : Type 0} (entries : List (ℕ × X)) (k : ℕ) (v : X) → All (λ key. key < k) (keys_of entries)
+    → insert_entry nat_cmp entries k v ≡ entries ++ (k, v) ∷ []
+inserted_last [] k v h = refl
+inserted_last {X} (e ∷ entries) k v h =
+    let low = All-head (λ key. key < k) e.0 (keys_of entries) h in
+    let other : k ≡ e.0 → ⊥ = λ same. absurd (omega (arith, low, same)) in
+    rw (le-ltb k e.0 (omega (arith, low)), ne_eqb k e.0 other)
+    (ap (λ (rest : List (ℕ × X)). e ∷ rest)
+    (inserted_last entries k v (All-tail (λ key. key < k) e.0 (keys_of entries) h)))
+
+pub lists_last : (entries : List (ℕ × Vec ℕ Global)) (k : ℕ) (v : Vec ℕ Global)
+    → map vec_items (values_of (entries ++ (k, v) ∷ [])) ≡ map vec_items (values_of entries) ++ v.items ∷ []
+lists_last [] k v = refl
+lists_last (e ∷ entries) k v = ap (λ (rest : List (List ℕ)). e.1.items ∷ rest) (lists_last entries k v)
+
+pub keys_last : {X : Type 0} (entries : List (ℕ × X)) (k : ℕ) (v : X)
+    → keys_of (entries ++ (k, v) ∷ []) ≡ keys_of entries ++ k ∷ []
+keys_last [] k v = refl
+keys_last (e ∷ entries) k v = ap (λ (rest : List ℕ). e.0 ∷ rest) (keys_last entries k v)

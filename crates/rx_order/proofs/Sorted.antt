@@ -1,0 +1,128 @@
+-- Rows in order, by whose kinds it is known which match and from which a search may skip.
+use Rattle.std.proofs.Common.{◌≡◌, ℕ, ◌*◌, ◌%◌, ◌<◌, ◌≤◌, ◌&&◌, nat_lt, nat_le, Bool, true, List, length, slice_index}
+use Rattle.std.proofs.Common.{ap, ap₂, sym, ◌∙◌, subst, ⊎_elim, arith}
+use Rattle.std.specs.List.{range_with_len}
+use Rattle.std.specs.List.Sorted.{IsPermutation}
+use Rattle.std.specs.Prelude.{IsSome, Option, Some, None, is_some}
+use Rattle.std.proofs.Common.{rules}
+use Rattle.std.proofs.Math.Nat.{le-mul_of_pos_right, mod-eq_of_lt}
+use Rattle.std.proofs.lemmas.Nat.{pow_pos}
+use Rattle.std.proofs.lemmas.Bool.{cases_lt, false≢true, lt-ltb}
+use Rattle.rx_spec.specs.Causes.{max_id}
+use Rattle.rx_spec.specs.Ids.{row_of}
+use Rattle.rx_spec.specs.Tables.{is_match}
+use Rattle.rx_search.specs.Starts.{IsId}
+use Rattle.rx_dense.specs.Layouts.{ids_of, row_count, stride, table_of}
+use Rattle.rx_dense.specs.Layouts.{Layout, AreRows}
+use Rattle.rx_dense.proofs.Rows.{IsId-row_id, IsRowId-row, id_few, row_of-row}
+use Rattle.rx_remap.proofs.Places.{count_of, row_below}
+use Rattle.rx_order.specs.ByKind.{AreSkippable, leaving_of}
+use Rattle.rx_order.specs.RowOrder.{are_needles, is_start_row, kind_by}
+use Rattle.rx_order.proofs.Leaving.{at_most}
+use Rattle.rx_order.proofs.KindNumbers.{high_accels, high_kind, high_matches, kind_high, kind_low}
+
+-- a row's id, as it is made of its number
+pub record IsNumbered (l : Layout) (row : ℕ) : Type 0 where
+  pub is_id : IsId (ids_of l) (row * stride l)
+  pub row_is : row_of (ids_of l) (row * stride l) ≡ row
+  pub few : row * stride l ≤ max_id
+  pub shifted : row * stride l % 18446744073709551616 ≡ row * stride l
+
+-- a row's number is at most the greatest id
+pub number_few : (l : Layout) → AreRows l → (row : ℕ) → row < row_count l → row ≤ max_id
+number_few l are row h =
+    omega (
+      arith,
+      id_few l are (row * stride l) (IsRowId-row l row h),
+      le-mul_of_pos_right row (pow_pos l.stride2),
+    )
+
+-- a test that holds is that of something
+pub some_of : {X : Type 0} (o : Option X) → is_some o ≡ true → IsSome o
+some_of None e = absurd (false≢true e)
+some_of (Some x) e = search rules
+
+module _ {l : Layout} {rows ends : List ℕ} (s : AreSkippable l rows ends) where
+  pub permutation : IsPermutation (range_with_len 0 (row_count l)) rows
+  permutation =
+      subst (λ n. IsPermutation (range_with_len 0 n) rows) s.kinds_are.count s.by_kind.permutation
+
+  pub rows_count : length rows ≡ row_count l
+  rows_count = count_of permutation
+
+  pub place_below : (place kind : ℕ) → kind < 8 → place < slice_index ends kind → place < row_count l
+  place_below place kind h b = omega (arith, (s.by_kind.before place kind h b).0, s.kinds_are.count)
+
+  -- further kinds end further behind
+  pub ends_rise : (kind other : ℕ) → kind ≤ other → other < 8 → slice_index ends kind ≤ slice_index ends other
+  ends_rise kind other h b =
+      ⊎_elim
+      (λ (past : slice_index ends other < slice_index ends kind).
+      let at = s.by_kind.before (slice_index ends other) kind (omega arith) past in
+      let behind = s.by_kind.behind (slice_index ends other) other at.0 b (omega arith) in
+      absurd (omega (arith, at.1, behind)))
+      (λ (rises : slice_index ends kind ≤ slice_index ends other). rises)
+      (cases_lt (slice_index ends other) (slice_index ends kind))
+
+  pub row_in : (place : ℕ) → place < row_count l → slice_index rows place < row_count l
+  row_in place h = row_below permutation place h
+
+  pub numbered : (row : ℕ) → row < row_count l → IsNumbered l row
+  numbered row h =
+      let is = IsRowId-row l row h in
+      let few = id_few l s.are_rows (row * stride l) is in
+      record {
+        is_id = IsId-row_id l (row * stride l) is;
+        row_is = row_of-row l row h;
+        few = few;
+        shifted = mod-eq_of_lt (omega (arith, few));
+      }
+
+  high_row : (place : ℕ) → place < row_count l → 1 < slice_index s.kinds (slice_index rows place)
+      → slice_index s.kinds (slice_index rows place)
+      ≡ high_kind (is_match (table_of l) (slice_index rows place))
+      (are_needles (leaving_of (table_of l) (slice_index rows place))) (is_start_row l (slice_index rows place))
+  high_row place h above =
+      let row : ℕ = slice_index rows place in
+      let m = is_match (table_of l) row in
+      let a = are_needles (leaving_of (table_of l) row) in
+      let b = is_start_row l row in
+      let is : slice_index s.kinds row ≡ kind_by row m a b = s.kinds_are.kinds_are row (row_in place h) in
+      let high : 1 < row = by_kind row m a b (omega (arith, is, above)) in
+      is ∙ kind_high row m a b high
+    where
+      by_kind : (row : ℕ) (m a b : Bool) → 1 < kind_by row m a b → 1 < row
+      by_kind row m a b h =
+          ⊎_elim
+          (λ (high : 1 < row). high)
+          (λ (low : row ≤ 1). absurd (omega (arith, kind_low row m a b low, h)))
+          (cases_lt 1 row)
+
+  -- rows of the kinds of accelerated rows are those from which a search may skip
+  pub skippable : (place : ℕ) → slice_index ends 2 ≤ place → place < slice_index ends 5
+      → are_needles (leaving_of (table_of l) (slice_index rows place)) ≡ true
+  skippable place low high =
+      let below = place_below place 5 (omega arith) high in
+      let kind = slice_index s.kinds (slice_index rows place) in
+      let above = s.by_kind.behind place 2 (omega (arith, s.kinds_are.count)) (omega arith) low in
+      let within = (s.by_kind.before place 5 (omega arith) high).1 in
+      let is = high_row place below (omega (arith, above)) in
+      sym (high_accels (is_match (table_of l) (slice_index rows place))
+      (are_needles (leaving_of (table_of l) (slice_index rows place))) (is_start_row l (slice_index rows place)))
+      ∙ ap (λ k. nat_lt 2 k && nat_le k 5) (sym is)
+      ∙ ap₂ (λ (b c : Bool). b && c) (lt-ltb 2 (slice_index s.kinds (slice_index rows place)) above)
+      (at_most (slice_index s.kinds (slice_index rows place)) 5 within)
+
+  -- rows of the kinds of match rows are these
+  pub matching : (place : ℕ) → slice_index ends 1 ≤ place → place < slice_index ends 3
+      → is_match (table_of l) (slice_index rows place) ≡ true
+  matching place low high =
+      let below = place_below place 3 (omega arith) high in
+      let above = s.by_kind.behind place 1 (omega (arith, s.kinds_are.count)) (omega arith) low in
+      let within = (s.by_kind.before place 3 (omega arith) high).1 in
+      let is = high_row place below above in
+      sym (high_matches (is_match (table_of l) (slice_index rows place))
+      (are_needles (leaving_of (table_of l) (slice_index rows place))) (is_start_row l (slice_index rows place)))
+      ∙ ap (λ k. nat_lt 1 k && nat_le k 3) (sym is)
+      ∙ ap₂ (λ (b c : Bool). b && c) (lt-ltb 1 (slice_index s.kinds (slice_index rows place)) above)
+      (at_most (slice_index s.kinds (slice_index rows place)) 3 within)

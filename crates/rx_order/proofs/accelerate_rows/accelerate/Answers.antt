@@ -1,0 +1,82 @@
+use Rattle.std.proofs.Common.{◌^◌, ◌-◌, ◌==◌, ◌∙◌, ℕ, Bool, not, List, map, slice_index, refl, ap, ap₂}
+use Rattle.std.specs.List.{range_with_len}
+use Rattle.rx_dense.specs.Builder.{pattern_lists}
+use Rattle.rx_dense.specs.Layouts.{Layout, stride, table_of}
+use Rattle.rx_dense.specs.declared.special.Special.{Special}
+use Rattle.rx_order.specs.ByKind.{leaving_of}
+use Rattle.rx_order.specs.RowOrder.{is_marked}
+use Rattle.rx_order.specs.SpecialIds.{special_ids}
+use Rattle.rx_order.proofs.Accelerating.{IsAccelerating, accelerating, accelerating_ends}
+use Rattle.rx_order.proofs.accelerate_rows.accelerate.Goals as goal
+
+pub accels-requires : goal.accels-requires
+accels-requires c = record {
+  sorted = record {
+    kinds = c.in_ok-kinds.kinds.items;
+    kinds_are = c.in_ok-kinds.ensures.kinds;
+    by_kind = rw c.deref.ensures.value at c.in_ok-order.ensures;
+    are_rows = c.in_ok-kinds.ensures.are_rows;
+  };
+}
+
+pub patterns-requires-clause-sorted : goal.patterns-requires-clause-sorted
+patterns-requires-clause-sorted c = record {
+  kinds = c.in_ok-kinds.kinds.items;
+  kinds_are = c.in_ok-kinds.ensures.kinds;
+  by_kind = rw c.deref.ensures.value at c.in_ok-order.ensures;
+  are_rows = c.in_ok-kinds.ensures.are_rows;
+}
+
+pub special-requires-2-clause-ids : goal.special-requires-2-clause-ids
+special-requires-2-clause-ids c =
+    let kinds = c.in_ok-kinds.ensures in
+    let next = c.arrange.new.dfa in
+    let rows = c.in_ok-order.order.rows.items in
+    let ends = c.in_ok-order.order.ends in
+    let needles = map (λ place. leaving_of (table_of c.args.dfa.now) (slice_index rows place))
+    (range_with_len (slice_index ends 2) (slice_index ends 5 - slice_index ends 2)) in
+    let s : IsAccelerating c.args.dfa.now c.in_ok-kinds.kinds.items rows ends (pattern_lists c.in_ok-patterns.patterns)
+    c.set_pattern_map.new.self next
+    (record next { accels = needles; special = special_ids (stride next) ends (is_marked c.args.dfa.now) }) = record {
+      in_order = c.requires.in_order;
+      plain = c.requires.plain;
+      are_rows = kinds.are_rows;
+      are_starts = kinds.are_starts;
+      kinds_are = kinds.kinds;
+      by_kind = rw c.deref.ensures.value at c.in_ok-order.ensures;
+      lists_are = c.in_ok-patterns.ensures;
+      few = c.in-Ok.ensures.fits;
+      next_is = c.in-Ok.ensures.ok;
+      reordered = rw c.deref-2.ensures.value at c.arrange.ensures;
+      set = refl;
+    } in
+    rw (c.stride2.ensures.value ∙ ap (λ (k : Layout). k.stride2) c.set_accels.ensures) (accelerating_ends s)
+
+pub returns-clause-ok : goal.returns-clause-ok
+returns-clause-ok c =
+    let kinds = c.in_ok-kinds.ensures in
+    let next = c.arrange.new.dfa in
+    let rows = c.in_ok-order.order.rows.items in
+    let ends = c.in_ok-order.order.ends in
+    let s : IsAccelerating c.args.dfa.now c.in_ok-kinds.kinds.items rows ends (pattern_lists c.in_ok-patterns.patterns)
+    c.set_pattern_map.new.self next c.set_special.new.self = record {
+      in_order = c.requires.in_order;
+      plain = c.requires.plain;
+      are_rows = kinds.are_rows;
+      are_starts = kinds.are_starts;
+      kinds_are = kinds.kinds;
+      by_kind = rw c.deref.ensures.value at c.in_ok-order.ensures;
+      lists_are = c.in_ok-patterns.ensures;
+      few = c.in-Ok.ensures.fits;
+      next_is = c.in-Ok.ensures.ok;
+      reordered = rw c.deref-2.ensures.value at c.arrange.ensures;
+      set =
+          c.set_special.ensures
+          ∙ ap₂ (λ (k : Layout) (special : Special). record k { special = special })
+          (c.set_accels.ensures ∙ ap (λ (accels : List (List ℕ)). record next { accels = accels }) c.in_ok-accels.ensures)
+          (c.special-2.ensures
+          ∙ ap₂ (λ (k : ℕ) (marked : Bool). special_ids (2 ^ k) ends marked)
+          (c.stride2.ensures.value ∙ ap (λ (k : Layout). k.stride2) c.set_accels.ensures)
+          (c.starts-marked.ensures ∙ ap (λ (special : Special). not (special.min_start == 0)) c.special.ensures));
+    } in
+    accelerating s

@@ -1,0 +1,37 @@
+use Rattle.std.proofs.Common.{◌≡◌, ◌*◌, ◌^◌, ◌<◌, ◌∙◌, map, sym, ap, arith}
+use Rattle.std.proofs.Math.Nat.{mod-eq_of_lt}
+use Rattle.std.specs.List.{range_with_len}
+use Rattle.std.proofs.lemmas.List.FromFn.{map-range_with_len_more}
+use Rattle.rx_remap.proofs.Places.{range_more}
+use Rattle.rx_dense.specs.Layouts.{row_count, stride}
+use Rattle.rx_dense.proofs.Rows.{IsRowId-row}
+use Rattle.rx_order.proofs.places.Places.new.Goals as goal
+
+pub loop-row-preserved : goal.loop-row-preserved
+loop-row-preserved c =
+    let row = c.loop-row.row in
+    let count = c.state_len-count.ensures.value in
+    let few = c.state_len-count.ensures.rows.few in
+    let low : row < row_count c.args.dfa.now = omega arith in
+    let below = (IsRowId-row c.args.dfa.now row low).below in
+    let fits : row * stride c.args.dfa.now < 2 ^ 64 = omega arith in
+    let id : c.must.result ≡ row * 2 ^ c.args.dfa.now.stride2 =
+    c.must.ensures ∙ rw c.stride2-stride2.ensures.value (mod-eq_of_lt fits) in
+    record {
+      lying = c.in_ok-push.ensures.items ∙ rw c.loop-row.invariant.lying (sym (range_more row));
+      ids =
+          c.in_ok-push-2.ensures.items
+          ∙ rw (c.loop-row.invariant.ids, id)
+          (sym (map-range_with_len_more (λ row. row * 2 ^ c.args.dfa.now.stride2) 0 row row (omega arith)));
+    }
+
+pub returns : goal.returns
+returns c =
+    let count = c.state_len-count.ensures.value in
+    let all : c.loop-row.row ≡ row_count c.args.dfa.now = omega arith in
+    record {
+      rows = c.loop-row.invariant.lying ∙ ap (range_with_len 0) all;
+      places =
+          c.loop-row.invariant.ids
+          ∙ ap (λ n. map (λ row. row * 2 ^ c.args.dfa.now.stride2) (range_with_len 0 n)) all;
+    }

@@ -1,0 +1,47 @@
+use Rattle.std.proofs.Common.{◌++◌, [], ◌∷◌, ◌≡◌, ◌&&◌, ◌==◌, ◌*◌, ◌<◌, ◌∙◌, ℕ, Bool, false, length, nat_lt}
+use Rattle.std.proofs.Common.{slice_index, ap₂, sym}
+use Rattle.std.proofs.Common.{subst, ⊎_elim, arith}
+use Rattle.std.specs.List.{list_any}
+use Rattle.std.proofs.lemmas.Bool.{cases_eq}
+use Rattle.std.proofs.lemmas.List.{get_or_append_left, get_or_default, get_or_push, length_push}
+use Rattle.std.proofs.lemmas.List.Elements.{All-push}
+use Rattle.rx_dense.specs.Layouts.{Layout, row_count, stride}
+use Rattle.rx_order.specs.Ordering.{is_match_row}
+use Rattle.rx_order.specs.RowOrder.{is_start_row, kind_by}
+use Rattle.rx_order.proofs.shuffle_rows.kinds.Goals as goal
+
+pub loop-row-preserved : goal.loop-row-preserved
+loop-row-preserved c =
+    let l : Layout = c.args.dfa.now in
+    let row : ℕ = c.loop-row.row in
+    let kinds = c.loop-row.kinds.items in
+    let count = c.loop-row.invariant.count in
+    let starts = c.in_ok-starts.ensures.rows in
+    let low : row < row_count l = omega (arith, c.len-row-end.ensures, starts.count, c.in_ok-starts.starts.ok.0) in
+    let rows = c.in_ok-matches.ensures in
+    let matches : c.index.result.now ≡ is_match_row l c.args.matches.now row =
+    c.index.ensures
+    ∙ get_or_default c.in_ok-matches.matches.items row c.index.result.now false (omega (arith, rows.count))
+    ∙ rows.rows row low in
+    let flag : c.index-in-loop-row.result.now ≡ list_any (λ id. id == row * stride l) l.starts =
+    c.index-in-loop-row.ensures
+    ∙ get_or_default c.in_ok-starts.starts.items row c.index-in-loop-row.result.now false (omega (arith, starts.count))
+    ∙ starts.starts_are row low in
+    let kind : c.kind.result ≡ kind_by row (is_match_row l c.args.matches.now row) false (is_start_row l row) =
+    c.kind.ensures.value
+    ∙ ap₂ (λ (m s : Bool). kind_by row m false (nat_lt 1 row && s)) matches flag in
+    rw c.in_ok-push.ensures.items (record {
+      count = omega (arith, length_push kinds c.kind.result);
+      kinds = λ k h.
+          ⊎_elim
+          (λ (e : k ≡ row).
+          subst (λ k. slice_index (kinds ++ c.kind.result ∷ []) k
+          ≡ kind_by k (is_match_row l c.args.matches.now k) false (is_start_row l k))
+          (sym e)
+          (get_or_push kinds c.kind.result 0 row count ∙ kind))
+          (λ (ne : k ≡ row → ⊥).
+          let within : k < length kinds = omega arith in
+          get_or_append_left kinds (c.kind.result ∷ []) 0 k within ∙ c.loop-row.invariant.kinds k (omega arith))
+          (cases_eq k row);
+      below = All-push (λ kind. kind < 8) kinds c.kind.result c.loop-row.invariant.below c.kind.ensures.below;
+    })

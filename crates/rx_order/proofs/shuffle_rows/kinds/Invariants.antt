@@ -1,0 +1,12 @@
+use Rattle.std.proofs.Common.{◌≡◌, ℕ, ◌<◌, All, false, length, slice_index}
+use Rattle.rx_order.specs.Ordering.{is_match_row}
+use Rattle.rx_order.specs.RowOrder.{is_start_row, kind_by}
+use Rattle.rx_order.proofs.shuffle_rows.kinds.Given as goal
+
+abbrev pub invariant-loop-row : goal.invariant-loop-row
+invariant-loop-row l = record {
+  count : length l.kinds.items ≡ l.row;
+  kinds : (row : ℕ) → row < l.row
+      → slice_index l.kinds.items row ≡ kind_by row (is_match_row l.dfa l.fn.matches row) false (is_start_row l.dfa row);
+  below : All (λ kind. kind < 8) l.kinds.items;
+}

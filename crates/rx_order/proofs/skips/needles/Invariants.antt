@@ -1,0 +1,7 @@
+use Rattle.rx_spec.specs.Ids.{row_of}
+use Rattle.rx_dense.specs.Layouts.{ids_of, table_of}
+use Rattle.rx_order.proofs.Leaving.{AreFound}
+use Rattle.rx_order.proofs.skips.needles.Given as goal
+
+abbrev pub invariant-loop-byte : goal.invariant-loop-byte
+invariant-loop-byte l = AreFound (table_of l.dfa) (row_of (ids_of l.dfa) l.id) l.accel l.byte

@@ -1,0 +1,119 @@
+//! Rows from which a search may skip.
+
+ghost use Rattle.std.specs.Prelude.{◌≡◌, ℕ, ◌<◌, ◌-◌, All, IfOk, OnErr, OnOk, map, slice_index, true};
+ghost use Rattle.std.specs.List.{range_with_len};
+ghost use Rattle.rx_spec.specs.Ids.{row_of};
+ghost use Rattle.rx_spec.specs.Tables.{IsSound, is_match};
+ghost use Rattle.rx_search.specs.Labels.{patterns_of};
+ghost use Rattle.rx_search.specs.Starts.{IsId};
+ghost use Rattle.rx_dense.specs.Builder.{pattern_lists};
+ghost use Rattle.rx_dense.specs.Layouts.{AreRows, AreStarts, ids_of, table_of};
+ghost use Rattle.rx_order.specs.ByKind.{AreKinds, AreSkippable, leaving_of};
+ghost use Rattle.rx_order.specs.RowOrder.{IsInOrder, IsPlain, are_needles};
+ghost use Rattle.rx_order.specs.Ordering.{IsAccelerated};
+
+use crate::kinds::{kind, start_rows};
+use crate::order::Order;
+use crate::places::Places;
+use crate::skips::needles;
+use rx_base::{PatternID, StateID};
+use rx_dense::{Accels, OwnedDFA};
+use rx_search::Automaton;
+use std::alloc::{AllocError, Global};
+use std::collections::BTreeMap;
+
+/// Finds the rows that one to three bytes lead elsewhere, none of them a space, keeps these bytes as the rows' needles,
+/// and puts the rows in their order anew. Where memory runs out, the table is as before.
+pub fn accelerate(alloc: Global, dfa: &mut OwnedDFA) -> Result<(), AllocError>
+    requires in_order { IsInOrder dfa.old }
+    requires plain { IsPlain dfa.old }
+    ensures ok { OnOk result (IsAccelerated dfa.old dfa.new) }
+    ensures err { OnErr result (dfa.new ≡ dfa.old) }
+{
+    let kinds = kinds(alloc, dfa)?;
+    let order = Order::new(alloc, &kinds)?;
+    let accels = accels(alloc, dfa, &order)?;
+    let patterns = patterns(alloc, dfa, &order)?;
+    let places = Places::new(alloc, dfa)?;
+    let marked = dfa.special().starts();
+    match dfa.set_pattern_map(&patterns) {
+        Ok(()) => {}
+        Err(_) => return Err(AllocError),
+    }
+    places.arrange(dfa, &order.rows);
+    dfa.set_accels(accels);
+    dfa.set_special(order.special(dfa.stride2(), marked));
+    Ok(())
+}
+
+/// The kind of each row, by which rows match and from which a search may skip.
+fn kinds(alloc: Global, dfa: &OwnedDFA) -> Result<Vec<u8>, AllocError>
+    ensures kinds { IfOk result (λ kinds. AreKinds dfa.now (is_match (table_of dfa.now))
+        (λ row. are_needles (leaving_of (table_of dfa.now) row)) kinds.items) }
+    ensures below { IfOk result (λ kinds. All (λ kind. kind < 8) kinds.items) }
+    ensures are_rows { IfOk result (λ _. AreRows dfa.now) }
+    ensures are_starts { IfOk result (λ _. AreStarts dfa.now) }
+{
+    let starts = start_rows(alloc, dfa)?;
+    let stride2 = dfa.stride2();
+    let mut kinds = Vec::with_capacity(alloc, starts.len())?;
+    for row in 0..starts.len() {
+        let id = StateID::must(row << stride2);
+        let accelerated = needles(dfa, id).is_some();
+        kinds.push(kind(row, dfa.is_match_state(id), accelerated, starts[row]))?;
+    }
+    Ok(kinds)
+}
+
+/// The needles of the accelerated rows, in the order in which the rows are to lie.
+fn accels(alloc: Global, dfa: &OwnedDFA, order: &Order) -> Result<Accels, AllocError>
+    requires sorted { AreSkippable dfa.now order.now.rows.items order.now.ends }
+    ensures { IfOk result (λ accels. accels
+        ≡ map (λ place. leaving_of (table_of dfa.now) (slice_index order.now.rows.items place))
+        (range_with_len (slice_index order.now.ends 2) (slice_index order.now.ends 5 - slice_index order.now.ends 2))) }
+{
+    let stride2 = dfa.stride2();
+    let mut accels = Accels::empty(alloc)?;
+    for place in order.ends[2]..order.ends[5] {
+        let id = StateID::must((order.rows[place] as usize) << stride2);
+        accels.add(needles(dfa, id).unwrap())?;
+    }
+    Ok(accels)
+}
+
+/// The patterns of the match rows, by the ids that the rows are to have.
+fn patterns(
+    alloc: Global,
+    dfa: &OwnedDFA,
+    order: &Order,
+) -> Result<BTreeMap<StateID, Vec<PatternID>>, AllocError>
+    requires sound { IsSound (table_of dfa.now) }
+    requires sorted { AreSkippable dfa.now order.now.rows.items order.now.ends }
+    ensures { IfOk result (λ patterns. pattern_lists patterns
+        ≡ map (λ place. patterns_of (table_of dfa.now) (slice_index order.now.rows.items place))
+        (range_with_len (slice_index order.now.ends 1) (slice_index order.now.ends 3 - slice_index order.now.ends 1))) }
+{
+    let stride2 = dfa.stride2();
+    let mut lists = BTreeMap::new(alloc);
+    for place in order.ends[1]..order.ends[3] {
+        let id = StateID::must((order.rows[place] as usize) << stride2);
+        let list = patterns_of_row(alloc, dfa, id)?;
+        lists.insert(StateID::must(place << stride2), list)?;
+    }
+    Ok(lists)
+}
+
+/// The patterns of a match row.
+fn patterns_of_row(alloc: Global, dfa: &OwnedDFA, id: StateID) -> Result<Vec<PatternID>, AllocError>
+    requires sound { IsSound (table_of dfa.now) }
+    requires is_id { IsId (ids_of dfa.now) id }
+    requires is_match { is_match (table_of dfa.now) (row_of (ids_of dfa.now) id) ≡ true }
+    ensures { IfOk result (λ list. list.items ≡ patterns_of (table_of dfa.now) (row_of (ids_of dfa.now) id)) }
+{
+    let count = dfa.match_len(id);
+    let mut list = Vec::with_capacity(alloc, count)?;
+    for index in 0..count {
+        list.push(dfa.match_pattern(id, index))?;
+    }
+    Ok(list)
+}

@@ -1,0 +1,91 @@
+//! The order of rows by their kinds.
+
+ghost use Rattle.std.specs.Prelude.{◌≡◌, ℕ, ◌<◌, ◌≤◌, ◌+◌, ◌*◌, ◌^◌, All, IfOk, length, slice_index};
+ghost use Rattle.rx_spec.specs.Causes.{max_id};
+ghost use Rattle.rx_order.specs.ByKind.{AreByKind};
+ghost use Rattle.rx_order.specs.SpecialIds.{first_id, last_id, special_ids};
+
+use rx_base::StateID;
+use rx_dense::Special;
+use std::alloc::{AllocError, Global};
+
+/// Which row is to lie at each place, so that rows lie in the order of their kinds.
+#[derive(Drop)]
+pub(crate) struct Order {
+    /// The row at each place.
+    pub(crate) rows: Vec<u32>,
+    /// For each kind the place behind its last row.
+    pub(crate) ends: [usize; 8],
+}
+
+impl Order {
+    /// The order of rows by their kinds, numbers below 8. Rows of one kind keep their order.
+    pub(crate) fn new(alloc: Global, kinds: &[u8]) -> Result<Order, AllocError>
+        requires few { length kinds.now < 2 ^ 32 }
+        requires kinds { All (λ kind. kind < 8) kinds.now }
+        ensures { IfOk result (λ order. AreByKind kinds.now order.rows.items order.ends) }
+    {
+        let mut rows = Vec::with_capacity(alloc, kinds.len())?;
+        let mut ends = [0; 8];
+        for kind in 0..8 {
+            for row in 0..kinds.len() {
+                if kinds[row] as usize == kind {
+                    rows.push(row as u32)?;
+                }
+            }
+            ends[kind] = rows.len();
+        }
+        Ok(Order { rows, ends })
+    }
+
+    /// The special ids of a table whose rows lie in this order, where a row has so many words as the exponent of a
+    /// power of two says. Start rows are marked or not.
+    pub(crate) fn special(&self, stride2: usize, marked: bool) -> Special
+        requires stride2 { stride2 ≤ 9 }
+        requires ids { (kind : ℕ) → kind < 8 → slice_index self.now.ends kind * 2 ^ stride2 ≤ max_id + 2 ^ stride2 }
+        ensures { result ≡ special_ids (2 ^ stride2) self.now.ends marked }
+    {
+        let (min_match, max_match) = self.ids(1, 3, stride2);
+        let (min_accel, max_accel) = self.ids(2, 5, stride2);
+        let (min_start, max_start) = if marked {
+            self.ids(4, 6, stride2)
+        } else {
+            (StateID::ZERO, StateID::ZERO)
+        };
+        let mut special = Special {
+            max: StateID::ZERO,
+            quit: StateID::must(1 << stride2),
+            min_match,
+            max_match,
+            min_accel,
+            max_accel,
+            min_start,
+            max_start,
+        };
+        special.set_max();
+        special
+    }
+
+    /// The first and the last id of the rows behind those of one kind, up to those of another; 0 and 0 where there are
+    /// none.
+    fn ids(&self, before: usize, last: usize, stride2: usize) -> (StateID, StateID)
+        requires before { before < 8 }
+        requires last { last < 8 }
+        requires stride2 { stride2 ≤ 9 }
+        requires ids { (kind : ℕ) → kind < 8 → slice_index self.now.ends kind * 2 ^ stride2 ≤ max_id + 2 ^ stride2 }
+        ensures first { result.0 ≡ first_id (2 ^ stride2) (slice_index self.now.ends before)
+            (slice_index self.now.ends last) }
+        ensures last { result.1 ≡ last_id (2 ^ stride2) (slice_index self.now.ends before)
+            (slice_index self.now.ends last) }
+    {
+        let from = self.ends[before];
+        let to = self.ends[last];
+        if from >= to {
+            return (StateID::ZERO, StateID::ZERO);
+        }
+        (
+            StateID::must(from << stride2),
+            StateID::must((to - 1) << stride2),
+        )
+    }
+}

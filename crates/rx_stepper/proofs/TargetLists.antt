@@ -1,0 +1,118 @@
+-- Lists of targets that are added to at the places of some columns.
+use Rattle.std.proofs.Common.{◌≡◌, ◌≢◌, ℕ, ◌+◌, ◌<◌, ◌==◌, Bool, true, false, List, [], ◌∷◌, ◌++◌, length, map}
+use Rattle.std.proofs.Common.{get_or, set, take, refl, ap, ap₂, sym, ◌∙◌, subst, arith, append_assoc, append-nil}
+use Rattle.std.specs.Prelude.{filter, cond}
+use Rattle.std.specs.List.{flat_map}
+use Rattle.std.proofs.lemmas.Bool.{eqb-true, eqb-false}
+use Rattle.std.proofs.lemmas.List.{take_more, get_or-set_same, get_or-set_other, get_or-map, length-map, map-set}
+use Rattle.std.proofs.lemmas.List.Elements.{filter-append}
+use Rattle.rx_lemmas.proofs.Every.{flat_map-append_of}
+use Rattle.rx_lemmas.proofs.Firsts.{by_test}
+use Rattle.rx_stepper.specs.Columns.{led_by, list_at, only_if}
+
+-- ---- one column
+
+module _ {X : Type 0} (f : X → List ℕ) (vs : List X) (v : ℕ) (x y : X) (next : ℕ) (lt : v < length vs)
+    (e : f y ≡ f (get_or vs v x) ++ next ∷ []) where
+  at_place : list_at (map f (set vs v y)) v ≡ list_at (map f vs) v ++ next ∷ []
+  at_place =
+      let n : length (map f vs) ≡ length vs = simp length-map in
+      ap (λ (l : List (List ℕ)). list_at l v) (map-set f vs v y)
+      ∙ get_or-set_same (map f vs) v (f y) [] (omega arith)
+      ∙ e ∙ ap (λ l. l ++ next ∷ []) (sym (get_or-map f vs v x [] lt))
+
+  -- one list has one more
+  pub pushed_one : (column : ℕ) → list_at (map f (set vs v y)) column
+      ≡ list_at (map f vs) column ++ only_if (column == v) (next ∷ [])
+  pushed_one column =
+      let Grows = λ (b : Bool) (u : ℕ). list_at (map f (set vs v y)) u ≡ list_at (map f vs) u ++ only_if b (next ∷ []) in
+      by_test (column == v)
+      (λ t. subst (λ b. Grows b column) (sym t) (subst (Grows true) (sym (eqb-true column v t)) at_place))
+      (λ t.
+      let other : column ≢ v = eqb-false column v t in
+      subst (λ b. Grows b column) (sym t)
+      (ap (λ (l : List (List ℕ)). list_at l column) (map-set f vs v y)
+      ∙ get_or-set_other (map f vs) v column (f y) [] other ∙ sym (append-nil (list_at (map f vs) column))))
+
+-- ---- a turn of the loop over columns
+
+module _ (next : ℕ) (p : ℕ → Bool) (columns : List ℕ) (i d : ℕ) (lt : i < length columns) where
+  led_next : (column : ℕ) (b : Bool) → p (get_or columns i d) ≡ b
+      → led_by next (filter p (take (i + 1) columns)) column
+      ≡ led_by next (filter p (take i columns)) column ++ led_by next (only_if b (get_or columns i d ∷ [])) column
+  led_next column b t =
+      let v = get_or columns i d in
+      ap (λ l. led_by next (filter p l) column) (take_more columns i d lt)
+      ∙ ap (λ l. led_by next l column) (filter-append p (take i columns) (v ∷ []))
+      ∙ flat_map-append_of (λ c. only_if (column == c) (next ∷ [])) (filter p (take i columns)) (only_if (p v) (v ∷ []))
+      ∙ ap (λ t. led_by next (filter p (take i columns)) column ++ led_by next (only_if t (v ∷ [])) column) t
+
+  module _ {X : Type 0} (f : X → List ℕ) (first vs : List X)
+      (so_far : (column : ℕ) → list_at (map f vs) column
+      ≡ list_at (map f first) column ++ led_by next (filter p (take i columns)) column) where
+    -- the column isn't of the group
+    pub column_left : p (get_or columns i d) ≡ false → (column : ℕ) → list_at (map f vs) column
+        ≡ list_at (map f first) column ++ led_by next (filter p (take (i + 1) columns)) column
+    column_left t column =
+        so_far column
+        ∙ ap (λ l. list_at (map f first) column ++ l)
+        (sym (append-nil (led_by next (filter p (take i columns)) column)) ∙ sym (led_next column false t))
+
+    -- its list has one more
+    pub column_taken : (v : ℕ) (x y : X) → v ≡ get_or columns i d → p v ≡ true → v < length vs
+        → f y ≡ f (get_or vs v x) ++ next ∷ [] → (column : ℕ)
+        → list_at (map f (set vs v y)) column
+        ≡ list_at (map f first) column ++ led_by next (filter p (take (i + 1) columns)) column
+    column_taken v x y v_is t within e column =
+        let before = led_by next (filter p (take i columns)) column in
+        let one = only_if (column == v) (next ∷ []) in
+        pushed_one f vs v x y next within e column ∙ ap (λ l. l ++ one) (so_far column)
+        ∙ append_assoc (list_at (map f first) column) before one
+        ∙ ap (λ l. list_at (map f first) column ++ l)
+        (ap (λ l. before ++ l) (sym (append-nil one) ∙ ap (λ w. led_by next (w ∷ []) column) v_is)
+        ∙ sym (led_next column true (ap p (sym v_is) ∙ t)))
+
+-- ---- all columns of a row
+
+only_nothing : (b : Bool) → only_if b [] ≡ []
+only_nothing true = refl
+only_nothing false = refl
+
+only_append : (b : Bool) (xs ys : List ℕ) → only_if b xs ++ only_if b ys ≡ only_if b (xs ++ ys)
+only_append true xs ys = refl
+only_append false xs ys = refl
+
+pub led_filtered : (next : ℕ) (p : ℕ → Bool) (columns : List ℕ) (column : ℕ)
+    → led_by next (filter p columns) column ≡ only_if (p column) (led_by next columns column)
+led_filtered next p [] column = sym (only_nothing (p column))
+led_filtered next p (c ∷ cs) column =
+    by_test (p c)
+    (λ t. ap (λ b. led_by next (cond b (c ∷ filter p cs) (filter p cs)) column) t
+    ∙ ap₂ (λ a b. a ++ b) (here t) (led_filtered next p cs column)
+    ∙ only_append (p column) (only_if (column == c) (next ∷ [])) (led_by next cs column))
+    (λ t. ap (λ b. led_by next (cond b (c ∷ filter p cs) (filter p cs)) column) t
+    ∙ led_filtered next p cs column ∙ passed t)
+  where
+    here : p c ≡ true → only_if (column == c) (next ∷ []) ≡ only_if (p column) (only_if (column == c) (next ∷ []))
+    here t =
+        by_test (column == c)
+        (λ e. let same : p column ≡ true = ap p (eqb-true column c e) ∙ t in rw same refl)
+        (λ e. rw e (sym (only_nothing (p column))))
+
+    passed : p c ≡ false → only_if (p column) (led_by next cs column)
+        ≡ only_if (p column) (only_if (column == c) (next ∷ []) ++ led_by next cs column)
+    passed t =
+        by_test (column == c)
+        (λ e. let same : p column ≡ false = ap p (eqb-true column c e) ∙ t in rw same refl)
+        (λ e. rw e refl)
+
+-- a row more
+pub row_added : (leads : ℕ → List ℕ) (rows : List ℕ) (i d : ℕ) (first : List ℕ) {before after more : List ℕ}
+    → i < length rows → before ≡ first ++ flat_map leads (take i rows) → after ≡ before ++ more
+    → more ≡ leads (get_or rows i d) → after ≡ first ++ flat_map leads (take (i + 1) rows)
+row_added leads rows i d first {before} {after} {more} lt so_far e is =
+    e ∙ ap₂ (λ a b. a ++ b) so_far is ∙ append_assoc first (flat_map leads (take i rows)) (leads (get_or rows i d))
+    ∙ ap (λ l. first ++ l)
+    (ap (λ l. flat_map leads (take i rows) ++ l) (sym (append-nil (leads (get_or rows i d))))
+    ∙ sym (ap (flat_map leads) (take_more rows i d lt)
+    ∙ flat_map-append_of leads (take i rows) (get_or rows i d ∷ [])))

@@ -1,0 +1,82 @@
+-- Lists of thin rows that grow at the end.
+use Rattle.std.proofs.Common.{◌≡◌, ℕ, zero, suc, ◌+◌, ◌<◌, ◌≤◌, List, [], ◌∷◌, ◌++◌, length, get_or, refl, ap, sym, ◌∙◌, subst}
+use Rattle.std.proofs.Common.{arith, ⊎_elim}
+use Rattle.std.proofs.lemmas.Bool.{cases_lt}
+use Rattle.std.proofs.lemmas.Option.{slice_get_past}
+use Rattle.std.specs.Prelude.{map, unwrap_or}
+use Rattle.rx_spec.specs.Rows.{Row}
+use Rattle.rx_spec.specs.States.{row_at}
+use Rattle.rx_expr.specs.Nfa.{row_of}
+use Rattle.rx_expr.specs.declared.thompson.nfa.Row as code
+use Rattle.rx_stepper.specs.ThinRows.{row_of_thin, thin_at, IsThin, AreThin}
+use Rattle.rx_stepper.specs.declared.thin_row.ThinRow.{ThinRow}
+
+pub thin_there : (thin : List ThinRow) (q : ℕ) {row : ThinRow} → q < length thin → row ≡ get_or thin q row
+    → row ≡ thin_at thin q
+thin_there [] q lt e = absurd (omega arith)
+thin_there (x ∷ xs) zero lt e = e
+thin_there (x ∷ xs) (suc q) lt e = thin_there xs q (omega arith) e
+
+thin_before : (xs : List ThinRow) (y : ThinRow) (q : ℕ) → q < length xs → thin_at xs q ≡ thin_at (xs ++ y ∷ []) q
+thin_before [] y q lt = absurd (omega arith)
+thin_before (x ∷ xs) y zero lt = refl
+thin_before (x ∷ xs) y (suc q) lt = thin_before xs y q (omega arith)
+
+thin_end : (xs : List ThinRow) (y : ThinRow) → y ≡ thin_at (xs ++ y ∷ []) (length xs)
+thin_end [] y = refl
+thin_end (x ∷ xs) y = thin_end xs y
+
+-- a row of the code as the row of its number
+pub row_there : (xs : List code.Row) {rows : List Row} (i : ℕ) (row : code.Row) → i < length xs → row ≡ get_or xs i row
+    → map row_of xs ≡ rows → row_at rows i ≡ row_of row
+row_there xs {rows} i row lt is e = ap (λ l. row_at l i) (sym e) ∙ go xs i lt is
+  where
+    go : (ys : List code.Row) (k : ℕ) → k < length ys → row ≡ get_or ys k row → row_at (map row_of ys) k ≡ row_of row
+    go [] k lt is = absurd (omega arith)
+    go (y ∷ ys) zero lt is = ap row_of (sym is)
+    go (y ∷ ys) (suc k) lt is = go ys k (omega arith) is
+
+-- one more row that is thin
+pub thin_push : (thin : List ThinRow) (rows : List Row) {more : List ThinRow} {n : ℕ} (new : ThinRow) → length thin ≡ n
+    → more ≡ thin ++ new ∷ [] → IsThin (row_of_thin new) (row_at rows n)
+    → ((q : ℕ) → q < n → IsThin (row_of_thin (thin_at thin q)) (row_at rows q))
+    → (q : ℕ) → q < n + 1 → IsThin (row_of_thin (thin_at more q)) (row_at rows q)
+thin_push thin rows {more} {n} new len e is each q h =
+    subst
+    (λ l. IsThin (row_of_thin (thin_at l q)) (row_at rows q))
+    (sym e)
+    (⊎_elim
+    (λ (k : q < n).
+    subst (λ r. IsThin (row_of_thin r) (row_at rows q)) (thin_before thin new q (omega arith)) (each q k))
+    (λ (k : n ≤ q).
+    let here : thin_at (thin ++ new ∷ []) n ≡ new =
+    ap (thin_at (thin ++ new ∷ [])) (sym len) ∙ sym (thin_end thin new) in
+    let same : n ≡ q = omega arith in
+    subst
+    (λ j. IsThin (row_of_thin (thin_at (thin ++ new ∷ []) j)) (row_at rows j))
+    same
+    (subst (λ r. IsThin (row_of_thin r) (row_at rows n)) (sym here) is))
+    (cases_lt q n))
+
+thin_past : (thin : List ThinRow) (q : ℕ) → length thin ≤ q → thin_at thin q ≡ ThinRow.Fail
+thin_past thin q h = ap (λ o. unwrap_or o ThinRow.Fail) (slice_get_past thin q h)
+
+fail_thin : IsThin Row.Fail Row.Fail
+fail_thin = record {
+  own = λ pass q. refl;
+  branches = λ pass. refl;
+  is_look = refl;
+  is_match = refl;
+  pattern = refl;
+}
+
+-- all rows are thin, and past the end there are none
+pub thin_all : (thin : List ThinRow) (rows : List Row) → length thin ≡ length rows
+    → ((q : ℕ) → q < length rows → IsThin (row_of_thin (thin_at thin q)) (row_at rows q)) → AreThin thin rows
+thin_all thin rows len each q =
+    ⊎_elim (each q)
+    (λ (h : length rows ≤ q).
+    let none : row_at rows q ≡ Row.Fail = ap (λ o. unwrap_or o Row.Fail) (slice_get_past rows q h) in
+    subst (IsThin (row_of_thin (thin_at thin q))) (sym none)
+    (subst (λ r. IsThin (row_of_thin r) Row.Fail) (sym (thin_past thin q (omega arith))) fail_thin))
+    (cases_lt q (length rows))

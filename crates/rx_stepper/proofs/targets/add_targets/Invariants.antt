@@ -1,0 +1,18 @@
+use Rattle.std.proofs.Common.{◌≡◌, ℕ, ◌<◌, ◌++◌, List, length, map, take}
+use Rattle.std.specs.Prelude.{slice_index}
+use Rattle.std.specs.List.{flat_map}
+use Rattle.rx_spec.specs.Rows.{Row}
+use Rattle.rx_spec.specs.States.{row_at, target}
+use Rattle.rx_stepper.specs.Columns.{list_at, only_if, takes, Reads}
+use Rattle.rx_stepper.proofs.targets.add_targets.Given as goal
+
+abbrev pub invariant-loop-row : goal.invariant-loop-row
+invariant-loop-row l = record {
+  len : length l.targets ≡ length l.fn.targets;
+  lists : (nfa : List Row) (units : List ℕ) → Reads nfa units l.reading.columns.items l.reading.spans.items
+      → (column : ℕ) → column < length units
+      → let taken = takes l.only l.groups.of.items column in
+      let leads = λ (q : ℕ). only_if taken (target (slice_index units column) (row_at nfa q)) in
+      list_at (map (λ v. v.items) l.targets) column
+      ≡ list_at (map (λ v. v.items) l.fn.targets) column ++ flat_map leads (take l.row-index l.rows);
+}

@@ -1,0 +1,11 @@
+use Rattle.std.proofs.Common.{◌≡◌, ℕ, ◌<◌, length}
+use Rattle.rx_spec.specs.States.{row_at}
+use Rattle.rx_expr.specs.Nfa.{meaning}
+use Rattle.rx_stepper.specs.ThinRows.{row_of_thin, thin_at, IsThin}
+use Rattle.rx_stepper.proofs.thin_row.thin_rows.Given as goal
+
+abbrev pub invariant-loop-row : goal.invariant-loop-row
+invariant-loop-row l = record {
+  len : length l.thin.items ≡ l.row-index;
+  each : (q : ℕ) → q < l.row-index → IsThin (row_of_thin (thin_at l.thin.items q)) (row_at (meaning l.nfa).rows q);
+}

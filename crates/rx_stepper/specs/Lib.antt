@@ -1,0 +1,13 @@
+-- states kept as keys, and their steps
+pub mod Stepping
+pub mod Steppers
+pub mod Keys
+-- closures: rows without what they read, and the rows that were met
+pub mod ThinRows
+pub mod Stamps
+-- the columns that rows read, those that assertions don't tell apart, and what each needs for a step
+pub mod Units
+pub mod Columns
+pub mod Steps
+-- how the parts of a stepper fit
+pub mod Fits

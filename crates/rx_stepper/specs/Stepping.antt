@@ -1,0 +1,45 @@
+-- What steps the states of an NFA, which are kept as lists of numbers, their keys.
+use Rattle.std.specs.Prelude.{ℕ, ◌≡◌, Bool, true, false, Option, Some, List, [], ◌∷◌, ◌++◌, slice_index}
+use Rattle.rx_spec.specs.Bytes.{eoi}
+use Rattle.rx_spec.specs.Builds.{is_dead_state}
+use Rattle.rx_spec.specs.Classes.{representatives}
+use Rattle.rx_spec.specs.Nfas.{Nfa}
+use Rattle.rx_spec.specs.States.{State, step}
+use Rattle.rx_spec.specs.declared.MatchKind.{MatchKind}
+use Rattle.rx_base.specs.ByteClasses.{ends_of}
+use Rattle.rx_stepper.specs.declared.next.Next.{Next}
+
+pub record Stepping : Type 0 where
+  pub nfa : Nfa
+  pub kind : MatchKind
+  -- the class of each byte; states step by the least byte of a class, and by the end mark
+  pub classes : List ℕ
+  -- which lists are keys, and the states that they stand for
+  pub is_key : List ℕ → Bool
+  pub state_of : List ℕ → State
+  -- the state that is being stepped
+  pub current : State
+
+-- No two keys stand for one state.
+abbrev pub HasOneKeyEach : Stepping → Type 0
+HasOneKeyEach s = (j k : List ℕ) → s.is_key j ≡ true → s.is_key k ≡ true → s.state_of j ≡ s.state_of k → j ≡ k
+
+-- the unit that stands for a column: the least byte of its class, and for the last column the end mark
+abbrev pub unit_of : List ℕ → ℕ → ℕ
+unit_of classes column = slice_index (representatives (ends_of classes) ++ eoi ∷ []) column
+
+-- the state after the unit of a column is read
+abbrev pub stepped : Stepping → ℕ → State
+stepped s column = step s.nfa s.kind s.current (unit_of s.classes column)
+
+-- a key stands for a state that isn't dead
+pub record IsKeyOf (s : Stepping) (key : List ℕ) (state : State) : Type 0 where
+  pub is_key : s.is_key key ≡ true
+  pub stands_for : s.state_of key ≡ state
+  pub alive : is_dead_state state ≡ false
+
+-- What a column leads to: nothing that goes on, the state of the column that was stepped last, or that of a key.
+abbrev pub IsNext : Stepping → (column : ℕ) → (last : Option ℕ) → (key : List ℕ) → Next → Type 0
+IsNext s column last key Next.Dead = is_dead_state (stepped s column) ≡ true
+IsNext s column last key Next.AsLast = (other : ℕ) × (last ≡ Some other) × (stepped s column ≡ stepped s other)
+IsNext s column last key Next.State = IsKeyOf s key (stepped s column)

@@ -1,0 +1,170 @@
+//! The rows that are reached without reading a byte, in room that is taken once.
+
+ghost use Rattle.std.specs.Prelude.{◌≡◌, ◌+◌, ◌<◌, ◌≤◌, ◌++◌, ◌∷◌, [], length, reverse, vec_capacity, IfOk};
+ghost use Rattle.std.specs.List.{list_any};
+ghost use Rattle.rx_spec.specs.Causes.{id_count};
+ghost use Rattle.rx_spec.specs.Contexts.{holds_read};
+ghost use Rattle.rx_spec.specs.States.{row_at, is_look_row};
+ghost use Rattle.rx_powerset.specs.Closures.{own_by, branches_by, closed_rows};
+ghost use Rattle.rx_expr.specs.Nfa.{meaning};
+ghost use Rattle.rx_stepper.specs.ThinRows.{row_of_thin, thin_at, AreThin, passing_of};
+
+use crate::stamps::Stamps;
+use crate::thin_row::{ThinRow, thin_rows};
+use rx_base::{Direction, Facts, Look, StateID};
+use rx_expr::thompson::NFA;
+use std::alloc::{AllocError, Global};
+
+/// What becomes of an assertion that is met.
+#[derive(Clone, Copy)]
+pub(crate) enum Passing {
+    /// It stands for itself.
+    Standing,
+    /// It is passed where it holds between the unit read last and the next one.
+    Tested {
+        last: Facts,
+        next: Facts,
+        direction: Direction,
+    },
+}
+
+/// Whether an assertion holds, in the order of reading.
+fn holds(look: Look, last: Facts, next: Facts, direction: Direction) -> bool
+    ensures { result ≡ holds_read direction look last next }
+{
+    match direction {
+        Direction::Forward => Facts::decide(look, last, next),
+        Direction::Reverse => Facts::decide(look, next, last),
+    }
+}
+
+/// What lists closures of an NFA's rows.
+#[derive(Drop)]
+pub(crate) struct Closures<'n> {
+    pub(crate) nfa: &'n NFA,
+    pub(crate) thin: Vec<ThinRow>,
+    stamps: Stamps,
+    /// The rows that are still to be looked at, the next one last.
+    waiting: Vec<StateID>,
+    ghost thin_rows: { AreThin thin.items (meaning nfa.now).rows },
+    ghost thin_len: { length thin.items ≡ length (meaning nfa.now).rows },
+    ghost stamps_len: { length stamps.stamps.items ≡ length (meaning nfa.now).rows },
+    ghost room: { length (meaning nfa.now).rows < vec_capacity waiting },
+}
+
+impl<'n> Closures<'n> {
+    /// Takes the room that closures of an NFA's rows need.
+    pub(crate) fn new(alloc: Global, nfa: &'n NFA) -> Result<Closures<'n>, AllocError>
+        ensures { IfOk result (λ c. c.nfa.now ≡ nfa.now) }
+    {
+        let thin = thin_rows(alloc, nfa)?;
+        let stamps = Stamps::new(alloc, thin.len())?;
+        let waiting = Vec::with_capacity(alloc, thin.len() + 1)?;
+        Ok(Closures {
+            nfa,
+            thin,
+            stamps,
+            waiting,
+        })
+    }
+
+    /// Lists the rows that are reached from some rows without reading a byte: the preferred first, and each once. The
+    /// list must have room for all rows.
+    pub(crate) fn list(&mut self, from: &[StateID], passing: &Passing, found: &mut Vec<StateID>)
+        requires { length (meaning self.old.nfa.now).rows ≤ vec_capacity found.old }
+        ensures nfa { self.new.nfa.now ≡ self.old.nfa.now }
+        ensures room { vec_capacity found.old ≤ vec_capacity found.new }
+        ensures rows { let rows = (meaning self.old.nfa.now).rows in
+            found.new.items ≡ closed_rows rows (passing_of passing.now) from.now }
+        ensures few { length found.new.items ≤ id_count }
+    {
+        self.stamps.begin();
+        self.waiting.clear();
+        found.clear();
+        'each: for row in from {
+            put(&mut self.waiting, *row);
+            'search: while let Some(id) = self.waiting.pop() {
+                if self.stamps.is_first(id) {
+                    enter(
+                        self.thin[id.as_usize()],
+                        id,
+                        passing,
+                        found,
+                        &mut self.waiting,
+                    );
+                }
+            }
+        }
+    }
+
+    /// Whether some of the rows is an assertion.
+    pub(crate) fn has_look(&self, rows: &[StateID]) -> bool
+        ensures { result ≡ list_any (λ q. is_look_row (row_at (meaning self.now.nfa.now).rows q)) rows.now }
+    {
+        rows.iter().any(|id| self.is_look(*id))
+    }
+
+    fn is_look(&self, id: StateID) -> bool
+        ensures { result ≡ is_look_row (row_at (meaning self.now.nfa.now).rows id) }
+    {
+        match self.thin.get(id.as_usize()) {
+            Some(ThinRow::Look(..)) => true,
+            _ => false,
+        }
+    }
+}
+
+/// Puts a row at the end, where there is room.
+#[inline]
+fn put(rows: &mut Vec<StateID>, row: StateID)
+    requires { length rows.old.items < vec_capacity rows.old }
+    ensures items { rows.new.items ≡ rows.old.items ++ row ∷ [] }
+    ensures room { vec_capacity rows.old ≤ vec_capacity rows.new }
+{
+    match rows.push(row) {
+        Ok(()) => {}
+        Err(_) => {}
+    }
+}
+
+/// Lists a row where the search ends at it, and else puts the rows behind it on the stack, the preferred on top.
+fn enter(
+    row: ThinRow,
+    id: StateID,
+    passing: &Passing,
+    found: &mut Vec<StateID>,
+    waiting: &mut Vec<StateID>,
+)
+    requires listed { length found.old.items < vec_capacity found.old }
+    requires stack { length waiting.old.items + 1 < vec_capacity waiting.old }
+    ensures found { found.new.items ≡ found.old.items ++ own_by (passing_of passing.now) id (row_of_thin row) }
+    ensures waiting { let behind = branches_by (passing_of passing.now) (row_of_thin row) in
+        reverse waiting.new.items ≡ behind ++ reverse waiting.old.items }
+    ensures found_room { vec_capacity found.old ≤ vec_capacity found.new }
+    ensures waiting_room { vec_capacity waiting.old ≤ vec_capacity waiting.new }
+    ensures found_len { length found.new.items ≤ length found.old.items + 1 }
+    ensures waiting_len { length waiting.new.items ≤ length waiting.old.items + 2 }
+    ensures bound { id < id_count }
+{
+    match row {
+        ThinRow::Bytes | ThinRow::Match(_) => put(found, id),
+        ThinRow::Split(first, second) => {
+            put(waiting, second);
+            put(waiting, first);
+        }
+        ThinRow::Look(look, behind) => match *passing {
+            Passing::Standing => put(found, id),
+            Passing::Tested {
+                last,
+                next,
+                direction,
+            } => {
+                if holds(look, last, next, direction) {
+                    put(waiting, behind);
+                }
+            }
+        },
+        ThinRow::Fail => {}
+    }
+    let _number = id.as_usize();
+}

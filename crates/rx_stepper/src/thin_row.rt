@@ -1,0 +1,55 @@
+//! Rows as closures see them.
+
+ghost use Rattle.std.specs.Prelude.{◌≡◌, ◌+◌, ◌<◌, ◌≤◌, ◌++◌, length, reverse, vec_capacity, IfOk};
+ghost use Rattle.rx_spec.specs.Causes.{id_count};
+ghost use Rattle.rx_powerset.specs.Closures.{own_by, branches_by};
+ghost use Rattle.rx_expr.specs.Nfa.{meaning, row_of};
+ghost use Rattle.rx_stepper.specs.ThinRows.{row_of_thin, AreThin, IsThin};
+
+use rx_base::{Look, PatternID, StateID};
+use rx_expr::thompson::{NFA, Row};
+use std::alloc::{AllocError, Global};
+
+/// A row of an NFA without the set that it reads, so that many lie side by side.
+#[derive(Clone, Copy)]
+pub(crate) enum ThinRow {
+    /// It reads a byte.
+    Bytes,
+    /// It goes on at both rows without reading a byte, the first preferred.
+    Split(StateID, StateID),
+    /// It goes on where an assertion holds.
+    Look(Look, StateID),
+    /// A match of a pattern.
+    Match(PatternID),
+    /// It goes on nowhere.
+    Fail,
+}
+
+impl ThinRow {
+    ghost use Rattle.rx_stepper.specs.ThinRows.{row_of_thin, AreThin, IsThin};
+
+    fn new(row: &Row) -> ThinRow
+        ensures { IsThin (row_of_thin result) (row_of row.now) }
+    {
+        match *row {
+            Row::Bytes { .. } => ThinRow::Bytes,
+            Row::Split { first, second } => ThinRow::Split(first, second),
+            Row::Look { look, next } => ThinRow::Look(look, next),
+            Row::Match { pattern } => ThinRow::Match(pattern),
+            Row::Fail => ThinRow::Fail,
+        }
+    }
+}
+
+/// The rows of an NFA.
+pub(crate) fn thin_rows(alloc: Global, nfa: &NFA) -> Result<Vec<ThinRow>, AllocError>
+    ensures len { IfOk result (λ v. length v.items ≡ length (meaning nfa.now).rows) }
+    ensures rows { IfOk result (λ v. AreThin v.items (meaning nfa.now).rows) }
+{
+    let rows = nfa.rows();
+    let mut thin = Vec::with_capacity(alloc, rows.len())?;
+    for row in rows {
+        thin.push(ThinRow::new(row))?;
+    }
+    Ok(thin)
+}
