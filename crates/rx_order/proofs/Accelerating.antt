@@ -107,7 +107,8 @@ needle_parts xs e = by_test (nat_le 1 (length xs)) (nat_le (length xs) 3) refl r
     by_test true false f g =
         absurd (false≢true (sym (ap₂ (λ (a b : Bool). a && b && not (list_any (λ byte. byte == 32) xs)) f g) ∙ e))
     by_test false b f g =
-        absurd (false≢true (sym (ap (λ (a : Bool). a && nat_le (length xs) 3 && not (list_any (λ byte. byte == 32) xs)) f) ∙ e))
+        absurd (false≢true (sym (ap (λ (a : Bool). a && nat_le (length xs) 3 && not (list_any
+        (λ byte. byte == 32) xs)) f) ∙ e))
 
 too_many : (xs : List ℕ) → 3 < length xs → are_needles xs ≡ false
 too_many xs h =
@@ -162,7 +163,8 @@ module _ {old : Layout} {kinds rows ends : List ℕ} {lists : List (List ℕ)} {
   sound_old = s.in_order.sound
 
   plain_start : (row : ℕ) → is_start_row old row ≡ true → (table_of old).machine.label row ≡ Label.Plain
-  plain_start row e = found (any_contains (row * stride old) old.starts (and_parts (nat_lt 1 row) (list_any (λ id. id == row * stride old) old.starts) e).1)
+  plain_start row e = found (any_contains (row * stride old) old.starts (and_parts (nat_lt 1 row) (list_any
+      (λ id. id == row * stride old) old.starts) e).1)
     where
       found : Contains old.starts (row * stride old) → (table_of old).machine.label row ≡ Label.Plain
       found c =
@@ -187,7 +189,8 @@ module _ {old : Layout} {kinds rows ends : List ℕ} {lists : List (List ℕ)} {
     where
       by_start : (b : Bool) → is_start_row old row ≡ b → b ≡ false
       by_start false h = refl
-      by_start true h = absurd (false≢true (sym (plain_no_match ((table_of old).machine.label row) (plain_start row h)) ∙ e))
+      by_start true h = absurd (false≢true (sym (plain_no_match ((table_of old).machine.label row)
+          (plain_start row h)) ∙ e))
 
   pub arranged : IsArranged sorting l new m
   arranged = record {
@@ -274,7 +277,12 @@ module _ {old : Layout} {kinds rows ends : List ℕ} {lists : List (List ℕ)} {
       let within : place < end arranged 3 =
       ⊎_elim
       (λ (b : place < end arranged 3). b)
-      (λ (past : end arranged 3 ≤ place). absurd (omega (arith, behind_end arranged place 3 below (omega arith) past, low_end)))
+      (λ (past : end arranged 3 ≤ place). absurd (omega (
+        arith,
+        behind_end arranged place 3 below
+            (omega arith) past,
+        low_end,
+      )))
       (cases_lt place (end arranged 3)) in
       let two = ends_quit arranged in
       let at : slice_index ends 1 + (place - 2) ≡ place = omega (arith, two) in
@@ -311,7 +319,8 @@ module _ {old : Layout} {kinds rows ends : List ℕ} {lists : List (List ℕ)} {
           ∙ sym (ap (table_of old).machine.label one ∙ sound_old.is_table.quit_label))
           (λ (ne : row ≡ 1 → ⊥).
           ap (λ b. if b then Label.Quits else Label.Plain) (ne_eqb row 1 ne)
-          ∙ sym (plain_is ((table_of old).machine.label row) e (λ quits. ne (sound_old.is_table.quit_only row h quits))))
+          ∙ sym (plain_is ((table_of old).machine.label row) e (λ quits. ne
+          (sound_old.is_table.quit_only row h quits))))
           (cases_eq row 1)
 
   -- ---- the rows from which a search may skip
@@ -363,7 +372,8 @@ module _ {old : Layout} {kinds rows ends : List ℕ} {lists : List (List ℕ)} {
       dead_stays =
           filter_alike (λ b. not ((machine_of old).next 0 b == 0)) (λ b. false) (range_with_len 0 256)
           (every_in_range (λ b. not ((machine_of old).next 0 b == 0) ≡ false) 0 256
-          (λ b low high. ap not (eq-eqb ((machine_of old).next 0 b) 0 (sound_old.is_table.dead_stays b (omega (arith, high))))))
+          (λ b low high. ap not (eq-eqb ((machine_of old).next 0 b) 0 (sound_old.is_table.dead_stays b (omega
+          (arith, high))))))
           ∙ none_pass (range_with_len 0 256)
 
       quit_leaves : leaving (table_of old) 1 ≡ range_with_len 0 256
@@ -390,7 +400,8 @@ module _ {old : Layout} {kinds rows ends : List ℕ} {lists : List (List ℕ)} {
       (λ (low : place ≤ 1).
       let row = low_row arranged place low in
       accel_id arranged place h
-      ∙ ap (λ c. c && nat_le (kind_at arranged place) 5) (le-ltb 2 (kind_at arranged place) (omega (arith, low_kind arranged place low)))
+      ∙ ap (λ c. c && nat_le (kind_at arranged place) 5) (le-ltb 2 (kind_at arranged place) (omega
+      (arith, low_kind arranged place low)))
       ∙ sym (ap (λ c. nat_lt 2 (row_count m) && c)
       (ap are_needles (leaving_same place h) ∙ low_none (row_at arranged place) (omega (arith, row)))
       ∙ and-false (nat_lt 2 (row_count m))))
@@ -489,7 +500,12 @@ module _ {old : Layout} {kinds rows ends : List ℕ} {lists : List (List ℕ)} {
           let some_start = start_kind row below starts in
           let high = end_high arranged 4 (omega arith) (omega arith) in
           let above : 0 < slice_index ends 4 * stride old =
-          omega (arith, row_fits 0 (stride old) (slice_index ends 4) (stride old) (omega (arith, high)) (omega arith), some arranged) in
+          omega (
+            arith,
+            row_fits 0 (stride old) (slice_index ends 4) (stride old) (omega (arith, high))
+                (omega arith),
+            some arranged,
+          ) in
           let other : slice_index ends 4 * stride old ≡ 0 → ⊥ = λ z. absurd (omega (arith, z, above)) in
           ap (λ b. not ((if b then slice_index ends 4 * stride old else 0) == 0))
           (lt-ltb (slice_index ends 4) (slice_index ends 6) some_start)

@@ -106,14 +106,16 @@ module _ {t : Table} {row byte : ℕ} {found : List ℕ} (h : AreFound t row fou
   more_is : t.machine.next row byte ≢ row → leaving_below t row (byte + 1) ≡ found ++ byte ∷ []
   more_is ne = next_byte ∙ ap (λ b. found ++ cond (not b) (byte ∷ []) []) (ne_eqb (t.machine.next row byte) row ne)
 
-  pub leaves_found : t.machine.next row byte ≢ row → takes found byte ≡ true → AreFound t row (found ++ byte ∷ []) (byte + 1)
+  pub leaves_found : t.machine.next row byte ≢ row → takes found byte ≡ true
+      → AreFound t row (found ++ byte ∷ []) (byte + 1)
   leaves_found ne e =
       let parts = and_parts (nat_lt (length found) 3) (not (byte == 32)) e in
       record {
         are = sym (more_is ne);
         few = omega (arith, length-append found (byte ∷ []), ltb-true (length found) 3 parts.0);
         no_space =
-            any_append found (byte ∷ []) ∙ ap₂ (λ (a b : Bool). a || (b || false)) h.no_space (not_true (byte == 32) parts.1);
+            any_append found (byte ∷ []) ∙ ap₂ (λ (a b : Bool). a || (b || false)) h.no_space (not_true
+            (byte == 32) parts.1);
       }
 
   -- a byte that isn't taken gives the row up
@@ -134,7 +136,8 @@ module _ {t : Table} {row byte : ℕ} {found : List ℕ} (h : AreFound t row fou
       (cases_lt (length found) 3)
     where
       taken_space : length found < 3 → takes found byte ≡ false → (byte == 32) ≡ true
-      taken_space room f = not_false (byte == 32) (sym (ap (λ b. b && not (byte == 32)) (lt-ltb (length found) 3 room)) ∙ f)
+      taken_space room f = not_false (byte == 32) (sym (ap (λ b. b && not (byte == 32)) (lt-ltb
+          (length found) 3 room)) ∙ f)
 
       too_long : (ys : List ℕ) → 3 ≤ length found → are_needles ((found ++ byte ∷ []) ++ ys) ≡ false
       too_long ys full =

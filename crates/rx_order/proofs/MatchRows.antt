@@ -153,7 +153,8 @@ module _ {x : Sorting} {l new m : Layout} (a : IsArranged x l new m) {lists : Li
       (λ (e : place ≡ 1).
       let low : kind_at a place ≡ 1 = low_kind a place (omega arith) ∙ e in
       rw (eq-eqb place 1 e, le-ltb 1 (kind_at a place) (omega (arith, low))) refl)
-      (λ (ne : place ≡ 1 → ⊥). rw (ne_eqb place 1 ne) (by_match (nat_lt 1 (kind_at a place) && nat_le (kind_at a place) 3) refl))
+      (λ (ne : place ≡ 1 → ⊥). rw (ne_eqb place 1 ne) (by_match (nat_lt 1 (kind_at a place) && nat_le
+      (kind_at a place) 3) refl))
       (cases_eq place 1)
     where
       by_match : (b : Bool) → (nat_lt 1 (kind_at a place) && nat_le (kind_at a place) 3) ≡ b
@@ -197,7 +198,8 @@ module _ {x : Sorting} {l new m : Layout} (a : IsArranged x l new m) {lists : Li
           (cases_eq row 1)
 
       same_match : number a row < row_count l → row_at a (number a row) ≡ row
-          → (nat_lt 1 (kind_at a (number a row)) && nat_le (kind_at a (number a row)) 3) ≡ (nat_lt 1 row && x.matches row)
+          → (nat_lt 1 (kind_at a (number a row)) && nat_le (kind_at a (number a row)) 3)
+          ≡ (nat_lt 1 row && x.matches row)
       same_match below back =
           ⊎_elim
           (λ (low : number a row ≤ 1).

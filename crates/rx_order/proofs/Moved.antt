@@ -258,7 +258,8 @@ module _ {old now : Layout} {lying ids : List ℕ} {row place other from : ℕ} 
       → (p : ℕ) → p < place + 1 → slice_index (swap lying place from) p ≡ slice_index rows p
   placed rows perm row_is before p h =
       ⊎_elim
-      (λ (e : p ≡ place). ap (slice_index (swap lying place from)) e ∙ row_there ∙ row_is ∙ ap (slice_index rows) (sym e))
+      (λ (e : p ≡ place). ap (slice_index (swap lying place from)) e ∙ row_there ∙ row_is
+      ∙ ap (slice_index rows) (sym e))
       (λ (np : p ≡ place → ⊥).
       let low : p < place = omega arith in
       let nf : p ≢ from = λ e.

@@ -24,12 +24,15 @@ use Rattle.rx_order.specs.SpecialIds.{first_id, last_id, special_ids}
 use Rattle.rx_order.proofs.Reordered.{IsBefore, any_start, entry_of, next_of_row, number_below, number_of_place}
 use Rattle.rx_order.proofs.Reordered.{numbers}
 use Rattle.rx_order.proofs.Reordered.{permutation, row_at_number, row_of_place, size, stride_is, two_rows}
-use Rattle.rx_order.proofs.KindNumbers.{high_kind, at_most, over, any_of, id, above, in_ids, kind_high, high_above, kind_small, row_first, row_dead, high_matches, high_accels, high_starts, label_match}
+use Rattle.rx_order.proofs.KindNumbers.{high_kind, at_most, over, any_of, id, above, in_ids, kind_high, high_above}
+use Rattle.rx_order.proofs.KindNumbers.{kind_small, row_first, row_dead, high_matches, high_accels, high_starts}
+use Rattle.rx_order.proofs.KindNumbers.{label_match}
 
 -- ---- ids of places
 
 -- where a kind ends there is an id, or the end of the table
-pub ends_few : (l : Layout) (kinds rows ends : List ℕ) → AreByKind kinds rows ends → length kinds ≡ row_count l → AreRows l
+pub ends_few : (l : Layout) (kinds rows ends : List ℕ) → AreByKind kinds rows ends → length kinds ≡ row_count l
+    → AreRows l
     → (kind : ℕ) → kind < 8 → slice_index ends kind * stride l ≤ max_id + stride l
 ends_few l kinds rows ends by_kind count are kind h =
     let few = are.few in
@@ -243,7 +246,8 @@ module _ {x : Sorting} {l new m : Layout} (a : IsArranged x l new m) where
       (λ (high : 2 ≤ end kind). high)
       (cases_lt (end kind) 2)
 
-  pub from_end : (place kind : ℕ) → place < row_count l → kind < 8 → nat_le (end kind) place ≡ nat_lt kind (kind_at place)
+  pub from_end : (place kind : ℕ) → place < row_count l → kind < 8
+      → nat_le (end kind) place ≡ nat_lt kind (kind_at place)
   from_end place kind b h =
       ⊎_elim
       (λ (low : place < end kind).
@@ -570,9 +574,15 @@ module _ {x : Sorting} {l new m : Layout} (a : IsArranged x l new m) where
   accel_out place h high k = outside place 2 5 h (omega arith) (omega arith) k
 
   start_out : (place : ℕ) → place < row_count l → 1 < place → (marked : Bool) → 5 < kind_at place
-      → (marked && (nat_lt 4 (kind_at place) && nat_le (kind_at place) 6)) ≡ false → start_last marked < place * stride l
+      → (marked && (nat_lt 4 (kind_at place) && nat_le (kind_at place) 6)) ≡ false
+      → start_last marked < place * stride l
   unfolding start_last
-  start_out place h high false k e = omega (arith, row_fits 0 (stride l) place (stride l) (omega arith) (omega arith), some)
+  start_out place h high false k e = omega (
+    arith,
+    row_fits 0 (stride l) place (stride l) (omega arith)
+        (omega arith),
+    some,
+  )
   start_out place h high true k e =
       ⊎_elim
       (λ (past : 6 < kind_at place). outside place 4 6 h (omega arith) (omega arith) past)
@@ -648,5 +658,6 @@ module _ {x : Sorting} {l new m : Layout} (a : IsArranged x l new m) where
       let not_one : place ≢ 1 = eqb-false place 1 one in
       let high : 1 < place = omega (arith, not_zero, not_one) in
       over (place * stride m) m.special.max
-      (none_special place h high (sym (match_by_id place ∙ match_id place h) ∙ no_match) (sym (accel_id place h) ∙ no_accel)
+      (none_special place h high (sym (match_by_id place ∙ match_id place h) ∙ no_match) (sym (accel_id place h)
+      ∙ no_accel)
       (sym (start_id place h) ∙ no_start)))

@@ -1,4 +1,5 @@
--- Shuffled tables: the match rows lie in the order of their ids, so their patterns are the lists of the map in its order.
+-- Shuffled tables: the match rows lie in the order of their ids, so their patterns are the lists of the map in its
+-- order.
 use Rattle.std.proofs.Common.{◌≡◌, ℕ, zero, suc, ◌+◌, ◌-◌, ◌*◌, ◌/◌, ◌<◌, ◌≤◌, ◌⊎◌, ◌==◌, ◌&&◌, ◌||◌, nat_lt, nat_le}
 use Rattle.std.proofs.Common.{Bool}
 use Rattle.std.proofs.Common.{true, false, if◌then◌else◌, Option, Some, None, List, [], ◌∷◌, length, map, slice_index}
@@ -117,7 +118,11 @@ any_contains x (y ∷ ys) e =
 pub key_there : {X : Type 0} (entries : List (ℕ × X)) (i k : ℕ) (v : X) → slice_get entries i ≡ Some (k, v)
     → (i < length (keys_of entries)) × (slice_index (keys_of entries) i ≡ k)
 key_there [] i k v e = absurd (cc)
-key_there {X} (entry ∷ entries) zero k v e = (omega arith, let same : entry ≡ (k, v) = cc in ap (λ (p : ℕ × X). p.0) same)
+key_there {X} (entry ∷ entries) zero k v e = (
+  omega arith,
+  let same : entry ≡ (k, v) = cc in ap (λ (p : ℕ
+      × X). p.0) same,
+)
 key_there (entry ∷ entries) (suc i) k v e =
     let at = key_there entries i k v e in
     (omega (arith, at.0), at.1)
@@ -196,7 +201,8 @@ module _ {old : Layout} {matches : Matches} {x : Sorting} {new m : Layout} (s : 
   match_place place low high =
       let at = before_end a place 3 (omega arith) high in
       let kind = high_kind_is a place at.0 low
-      ∙ ap (λ (f : ℕ → Bool). high_kind (x.matches (row_at a place)) (f (row_at a place)) (is_start_row old (row_at a place)))
+      ∙ ap (λ (f : ℕ → Bool). high_kind (x.matches (row_at a place)) (f (row_at a place)) (is_start_row old
+      (row_at a place)))
       s.none_accelerated in
       let above = high_at a place at.0 low in
       let is = two_kind (x.matches (row_at a place)) (is_start_row old (row_at a place)) (omega (arith, kind, above))
@@ -209,7 +215,8 @@ module _ {old : Layout} {matches : Matches} {x : Sorting} {new m : Layout} (s : 
       let below = number_below a.reordered a.before row h in
       let back = row_at_number a.reordered a.before row h in
       let kind : kind_at a (number a row) ≡ high_kind true false (is_start_row old row) =
-      ap (slice_index x.kinds) back ∙ a.kinds.kinds_are row h ∙ kind_high row (x.matches row) (x.accelerated row) (is_start_row old row) high
+      ap (slice_index x.kinds) back ∙ a.kinds.kinds_are row h
+      ∙ kind_high row (x.matches row) (x.accelerated row) (is_start_row old row) high
       ∙ ap₂ (λ (b : Bool) (f : ℕ → Bool). high_kind b (f row) (is_start_row old row)) e s.none_accelerated in (
         ⊎_elim
             (λ (low : number a row ≤ 1). absurd (omega (arith, low_kind a (number a row) low, kind)))
@@ -342,7 +349,8 @@ module _ {old : Layout} {matches : Matches} {x : Sorting} {new m : Layout} (s : 
           let at = key_row (row * stride old) v e in
           let same : row * stride old / stride old ≡ row = mul-div_cancel row (some a) in
           let high : 1 < row = subst (λ r. 1 < r) same at.1 in
-          ap₂ (λ (b : Bool) (ks : List ℕ). if row == 1 then Label.Quits else (if b then Label.Matches ks else Label.Plain))
+          ap₂ (λ (b : Bool) (ks : List ℕ). if row == 1 then Label.Quits else
+          (if b then Label.Matches ks else Label.Plain))
           (ap₂ (λ (b c : Bool). b && c) (lt-ltb 1 row high) (matched row v e)) (list_is row v e h)
           ∙ ap (λ o. if row == 1 then Label.Quits else label_of_patterns o) (sym e)
 
@@ -361,7 +369,8 @@ module _ {old : Layout} {matches : Matches} {x : Sorting} {new m : Layout} (s : 
       let past = behind_end a (end a 2) 2 at.0 (omega arith) (omega arith) in
       let high : 1 < end a 2 = end_high a 2 (omega arith) (omega arith) in
       let kind = high_kind_is a (end a 2) at.0 high
-      ∙ ap (λ (f : ℕ → Bool). high_kind (x.matches (row_at a (end a 2))) (f (row_at a (end a 2))) (is_start_row old (row_at a (end a 2))))
+      ∙ ap (λ (f : ℕ → Bool). high_kind (x.matches (row_at a (end a 2))) (f (row_at a (end a 2)))
+      (is_start_row old (row_at a (end a 2))))
       s.none_accelerated in
       absurd (no_kind (x.matches (row_at a (end a 2))) (is_start_row old (row_at a (end a 2)))
       (omega (arith, kind, past)) (omega (arith, kind, at.1))))
@@ -369,7 +378,8 @@ module _ {old : Layout} {matches : Matches} {x : Sorting} {new m : Layout} (s : 
       (cases_lt (end a 2) (end a 5))
 
   no_accel_id : m.special.min_accel ≡ 0
-  no_accel_id = ap (λ (k : Special). k.min_accel) (special_is a) ∙ ap (λ b. if b then end a 2 * stride old else 0) no_accels
+  no_accel_id = ap (λ (k : Special). k.min_accel) (special_is a)
+      ∙ ap (λ b. if b then end a 2 * stride old else 0) no_accels
 
   no_accelerated : (row : ℕ) → row < row_count m → (table_of m).is_accelerated row ≡ false
   no_accelerated row h =
@@ -398,7 +408,8 @@ module _ {old : Layout} {matches : Matches} {x : Sorting} {new m : Layout} (s : 
         start_is a row (omega (arith, size_same a)) ∙ ap (λ b. b && is_start_row m row) s.marked;
     unaccelerated = (
       no_accel_id,
-      ap (λ (k : Special). k.max_accel) (special_is a) ∙ ap (λ b. if b then (end a 5 - 1) * stride old else 0) no_accels,
+      ap (λ (k : Special). k.max_accel) (special_is a)
+          ∙ ap (λ b. if b then (end a 5 - 1) * stride old else 0) no_accels,
     );
     joined = joined a has_patterns;
     rest =
@@ -451,7 +462,8 @@ module _ {old : Layout} {matches : Matches} {x : Sorting} {new m : Layout} (s : 
           let l : Layout = with_patterns old (pattern_lists matches) in
           let is = start_is_row l a.before.are_starts mode start has in
           let own : (machine_of old).entry mode start * stride old ≡ id =
-          ap (λ b. (if b then id else 0) / stride old * stride old) (lt-ltb _ _ has) ∙ quotient id (stride old) is.whole in
+          ap (λ b. (if b then id else 0) / stride old * stride old) (lt-ltb _ _ has)
+          ∙ quotient id (stride old) is.whole in
           let within = start_within l a.before.are_starts mode start has in
           absurd ((s.are.rows ((machine_of old).entry mode start * stride old) v e).2 (
             mode_place mode + context_number start,
@@ -485,7 +497,8 @@ module _ {old : Layout} {matches : Matches} {x : Sorting} {new m : Layout} (s : 
     quit_only = λ row h e.
         ⊎_elim
         (λ (one : row ≡ 1). one)
-        (λ (ne : row ≡ 1 → ⊥). absurd (not_quits (get nat_cmp matches (row * stride old)) (sym (label_high row ne) ∙ e)))
+        (λ (ne : row ≡ 1 → ⊥). absurd (not_quits (get nat_cmp matches (row * stride old)) (sym
+        (label_high row ne) ∙ e)))
         (cases_eq row 1);
     lists = λ row h e.
         let found = label_found row [] e in
@@ -519,7 +532,8 @@ module _ {old : Layout} {matches : Matches} {x : Sorting} {new m : Layout} (s : 
 -- ---- what the call makes
 
 -- by what it learns of a table and what its calls leave
-pub record IsShuffling (old : Layout) (matches : Matches) (kinds rows ends : List ℕ) (next new m : Layout) : Type 0 where
+pub record IsShuffling (old : Layout) (matches : Matches) (kinds rows ends : List ℕ)
+    (next new m : Layout) : Type 0 where
   pub are : AreMatches old matches
   pub ordered : IsOrdered nat_cmp matches
   pub are_rows : AreRows old

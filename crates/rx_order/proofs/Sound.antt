@@ -44,7 +44,12 @@ frame {x} {l} {new} {m} a =
     next in
     let special = ap (λ (k : Layout). k.special) a.rest in
     let m_is : m ≡ all (record l { words = ws; starts = ss }) =
-    a.rest ∙ ap (λ s. record new { slices = m.slices; pattern_ids = m.pattern_ids; special = s; accels = m.accels }) (sym special)
+    a.rest ∙ ap (λ s. record new {
+      slices = m.slices;
+      pattern_ids = m.pattern_ids;
+      special = s;
+      accels = m.accels;
+    }) (sym special)
     ∙ ap all new_is in
     let words : ws ≡ m.words = sym (ap (λ (k : Layout). k.words) m_is) in
     let starts : ss ≡ m.starts = sym (ap (λ (k : Layout). k.starts) m_is) in
@@ -74,19 +79,23 @@ pub record HasNeedles (m : Layout) : Type 0 where
 some_is : (a b : ℕ) → Some a ≡ Some b → a ≡ b
 some_is a b e = cc
 
-universal_below : (m : Layout) (whole : length m.words % stride m ≡ 0) (id : Option ℕ) (row : ℕ) → universal_row m id ≡ Some row → row < row_count m
+universal_below : (m : Layout) (whole : length m.words % stride m ≡ 0) (id : Option ℕ) (row : ℕ)
+    → universal_row m id ≡ Some row → row < row_count m
 universal_below m whole None row e = absurd (cc)
 universal_below m whole (Some id) row e = by_test (is_row_id m id) refl e
   where
-    by_test : (b : Bool) → is_row_id m id ≡ b → (if b then Some (id / stride m) else None) ≡ Some row → row < row_count m
+    by_test : (b : Bool) → is_row_id m id ≡ b → (if b then Some (id / stride m) else None) ≡ Some row
+        → row < row_count m
     by_test false t e = absurd (cc)
     by_test true t e =
         let parts = and_parts (id % stride m == 0) (nat_lt id (length m.words)) t in
         let own = eqb-true (id % stride m) 0 parts.0 in
         let below = multiple_within id (stride m) (length m.words) own whole (ltb-true id (length m.words) parts.1) in
-        subst (λ r. r < row_count m) (some_is (id / stride m) row e) (row-below m id (record { whole = own; below = below }))
+        subst (λ r. r < row_count m) (some_is (id / stride m) row e) (row-below m id
+        (record { whole = own; below = below }))
 
-module _ {x : Sorting} {l new m : Layout} (a : IsArranged x l new m) (routed : IsRouted (table_of l)) {labels : ℕ → Label}
+module _ {x : Sorting} {l new m : Layout} (a : IsArranged x l new m) (routed : IsRouted (table_of l)) {labels : ℕ
+    → Label}
     (told : (row : ℕ) → row < row_count l → (table_of m).machine.label (number a row) ≡ labels row)
     (are : AreLabels l labels) (has : HasNeedles m) where
   -- what a place tells
@@ -178,6 +187,7 @@ module _ {x : Sorting} {l new m : Layout} (a : IsArranged x l new m) (routed : I
     needles = has.needles;
     some_needle = has.some_needle;
     few_needles = has.few_needles;
-    no_needle = λ row h e. ap (λ b. if b then get_or m.accels (place_in_range m m.special.min_accel (row * stride m)) [] else []) e;
+    no_needle = λ row h e. ap (λ b. if b then get_or m.accels (place_in_range m m.special.min_accel
+        (row * stride m)) [] else []) e;
     special = λ row h. special_rows a row (omega (arith, size_same a));
   }

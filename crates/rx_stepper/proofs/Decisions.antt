@@ -8,13 +8,15 @@ use Rattle.rx_spec.specs.Contexts.{Facts, both, unit_facts, facts_kept, facts_re
 use Rattle.rx_spec.specs.Nfas.{Nfa}
 use Rattle.rx_spec.specs.Rows.{Row}
 use Rattle.rx_spec.specs.Shallow.{IsShallow}
-use Rattle.rx_spec.specs.States.{State, Passing, Standing, Tested, row_at, reach_by, reach, closure, firsts, decided_rows}
+use Rattle.rx_spec.specs.States.{State, Passing, Standing, Tested, row_at, reach_by, reach, closure, firsts}
+use Rattle.rx_spec.specs.States.{decided_rows}
 use Rattle.rx_spec.specs.States.{holds_before, is_look_row}
 use Rattle.rx_spec.specs.declared.Direction.{Direction}
 use Rattle.rx_spec.specs.declared.Look.{Look}
 use Rattle.rx_lemmas.proofs.Every.{every-append, flat_map-alike}
 use Rattle.rx_lemmas.proofs.Facts.{Cover, kept_cover, kept_after, kept_before}
-use Rattle.rx_lemmas.proofs.Firsts.{Contains-here, Contains-there, Contains-cases, Contains-nil, fresh_within, fresh_itself}
+use Rattle.rx_lemmas.proofs.Firsts.{Contains-here, Contains-there, Contains-cases, Contains-nil, fresh_within}
+use Rattle.rx_lemmas.proofs.Firsts.{fresh_itself}
 use Rattle.rx_lemmas.proofs.Firsts.{Apart-fresh}
 use Rattle.rx_powerset.specs.Closures.{own_by, branches_by, closed_rows}
 use Rattle.rx_powerset.proofs.Closures.{closure_unfolds}
@@ -104,7 +106,8 @@ module _ (rows : List Row) where
 
   pub closed_stands : (from : List ℕ) → Every Stands (closed_rows rows Standing from)
   closed_stands from =
-      every_from _ (λ x h. every_at _ (flat_stands from) x (fresh_within [] (flat_map (closure rows Standing) from) x h))
+      every_from _ (λ x h. every_at _ (flat_stands from) x (fresh_within [] (flat_map
+      (closure rows Standing) from) x h))
     where
       every_at : (xs : List ℕ) → Every Stands xs → (x : ℕ) → Contains xs x → Stands x
       every_at [] h x c = absurd (Contains-nil x c)

@@ -1,6 +1,8 @@
 -- The columns that rows read: each is named once, and more of them behind change no row's.
-use Rattle.std.proofs.Common.{◌≡◌, ℕ, zero, suc, ◌+◌, ◌<◌, ◌≤◌, ◌==◌, ◌⊎◌, inl, inr, ⊎_elim, Bool, true, false, List, []}
-use Rattle.std.proofs.Common.{◌∷◌, ◌++◌, Some, length, drop, refl, ap, ap₂, sym, ◌∙◌, arith, append-nil, append_assoc, length-append}
+use Rattle.std.proofs.Common.{◌≡◌, ℕ, zero, suc, ◌+◌, ◌<◌, ◌≤◌, ◌==◌, ◌⊎◌, inl, inr, ⊎_elim, Bool, true, false}
+use Rattle.std.proofs.Common.{List, []}
+use Rattle.std.proofs.Common.{◌∷◌, ◌++◌, Some, length, drop, refl, ap, ap₂, sym, ◌∙◌, arith, append-nil}
+use Rattle.std.proofs.Common.{append_assoc, length-append}
 use Rattle.std.proofs.Common.{map, get_or}
 use Rattle.std.specs.Prelude.{filter, slice_get, slice_index, slice_range, All}
 use Rattle.std.specs.List.{range_with_len}
@@ -148,7 +150,8 @@ get-push (z ∷ xs) y (suc k) x there =
     ⊎_elim (λ before. inl before) (λ end. inr (ap suc end.0, end.1)) (get-push xs y k x there)
 
 -- the rows below a number
-pub record ReadsBelow (rows : List Row) (units : List ℕ) (i : ℕ) (columns : List ℕ) (spans : List ColumnSpan) : Type 0 where
+pub record ReadsBelow (rows : List Row) (units : List ℕ) (i : ℕ) (columns : List ℕ)
+    (spans : List ColumnSpan) : Type 0 where
   pub len : length spans ≡ i
   pub within : (q : ℕ) (s : ColumnSpan) → slice_get spans q ≡ Some s → (s.start ≤ s.stop) × (s.stop ≤ length columns)
   pub reads : (q : ℕ) (s : ColumnSpan) → slice_get spans q ≡ Some s → (column : ℕ) → column < length units
@@ -162,8 +165,20 @@ module _ {rows : List Row} {units : List ℕ} {i : ℕ} {columns : List ℕ} {sp
   reads_more = record {
     len = omega (arith, length-append spans (s ∷ []), before.len);
     within = λ q t there. elim (get-push spans s q t there) [
-      | inl old ↦ let k = before.within q t old in (k.0, omega (arith, k.1, length-append columns (columns_of row units)))
-      | inr end ↦ rw (end.1) (omega (arith, begins, ends, length-append columns (columns_of row units)), omega (arith, ends))
+      | inl old ↦ let k = before.within q t old in (
+        k.0,
+        omega (
+          arith,
+          k.1,
+          length-append columns
+              (columns_of row units),
+        ),
+      )
+      | inr end ↦ rw (end.1) (
+        omega (arith, begins, ends, length-append columns (columns_of row units)),
+        omega
+            (arith, ends),
+      )
     ];
     reads = λ q t there column h. elim (get-push spans s q t there) [
       | inl old ↦
@@ -173,7 +188,8 @@ module _ {rows : List Row} {units : List ℕ} {i : ℕ} {columns : List ℕ} {sp
       | inr end ↦
           let range = range-added columns (columns_of row units) s.start s.stop begins ends in
           let place : q ≡ i = end.0 ∙ before.len in
-          ap (λ (u : ColumnSpan). led_by u.next (slice_range (columns ++ columns_of row units) u.start u.stop) column) end.1
+          ap (λ (u : ColumnSpan). led_by u.next (slice_range
+          (columns ++ columns_of row units) u.start u.stop) column) end.1
           ∙ ap₂ (λ n l. led_by n l column) leads range
           ∙ led_of row units column h
           ∙ ap (target (slice_index units column)) (sym (ap (row_at rows) place ∙ here))

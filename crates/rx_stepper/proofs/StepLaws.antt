@@ -9,7 +9,8 @@ use Rattle.std.proofs.lemmas.Bool.{cases_lt, eq-eqb, ne_eqb}
 use Rattle.rx_spec.specs.Causes.{id_count, max_id}
 use Rattle.rx_spec.specs.Contexts.{Facts, no_facts, unit_facts}
 use Rattle.rx_spec.specs.Nfas.{Nfa}
-use Rattle.rx_spec.specs.States.{State, Standing, Tested, row_at, closure, cut, to_first_match, fresh, firsts, holds_before}
+use Rattle.rx_spec.specs.States.{State, Standing, Tested, row_at, closure, cut, to_first_match, fresh, firsts}
+use Rattle.rx_spec.specs.States.{holds_before}
 use Rattle.rx_spec.specs.States.{pattern_of, target, state_at, step}
 use Rattle.rx_spec.specs.States.{is_look_row}
 use Rattle.rx_spec.specs.declared.MatchKind.{MatchKind}
@@ -30,7 +31,8 @@ pub record Done (s : Stand) (units groups : List ℕ) (i : ℕ) (targets labels 
   pub left : (column : ℕ) → column < length units → i ≤ slice_index groups column → list_at targets column ≡ []
   pub labels_left : (place : ℕ) → i ≤ place → list_at labels place ≡ []
 
-pub done_none : {s : Stand} {units groups : List ℕ} {targets labels : List (List ℕ)} → AreEmpty targets → AreEmpty labels
+pub done_none : {s : Stand} {units groups : List ℕ} {targets labels : List (List ℕ)} → AreEmpty targets
+    → AreEmpty labels
     → Done s units groups 0 targets labels
 done_none t l = record {
   done = λ column h k. absurd (omega arith);
@@ -73,17 +75,20 @@ pub record GroupDone (s : Stand) (units groups : List ℕ) (i : ℕ) (targets la
   pub few : length (flat_map (λ q. pattern_of (row_at s.nfa.rows q)) goes) ≤ id_count
   pub lists : (column : ℕ) → column < length units
       → list_at targets' column ≡ list_at targets column
-      ++ flat_map (λ q. only_if (slice_index groups column == i) (target (slice_index units column) (row_at s.nfa.rows q))) goes
+      ++ flat_map (λ q. only_if (slice_index groups column == i) (target (slice_index units column)
+      (row_at s.nfa.rows q))) goes
   pub goes_on : (column : ℕ) → column < length units → slice_index groups column ≡ i
       → goes ≡ going s (slice_index units column)
 
 module _ {s : Stand} {units groups : List ℕ} {i : ℕ} {targets labels targets' labels' : List (List ℕ)} {goes : List ℕ}
-    (g : GroupDone s units groups i targets labels targets' labels' goes) (d : Done s units groups i targets labels) where
+    (g : GroupDone s units groups i targets labels targets' labels' goes)
+    (d : Done s units groups i targets labels) where
   unchanged : (column : ℕ) → column < length units → slice_index groups column ≢ i
       → list_at targets' column ≡ list_at targets column
   unchanged column h other =
       let apart = ne_eqb (slice_index groups column) i other in
-      let leads = λ (b : Bool). flat_map (λ q. only_if b (target (slice_index units column) (row_at s.nfa.rows q))) goes in
+      let leads = λ (b : Bool). flat_map (λ q. only_if b (target (slice_index units column)
+      (row_at s.nfa.rows q))) goes in
       g.lists column h ∙ ap (λ b. list_at targets column ++ leads b) apart
       ∙ ap (λ l. list_at targets column ++ l) (flat_nothing goes) ∙ append-nil (list_at targets column)
 
@@ -128,7 +133,8 @@ module _ {s : Stand} {units groups : List ℕ} {i : ℕ} {targets labels targets
   }
 
 -- the facts of a group decide for its columns
-pub group_goes : (s : Stand) (units groups : List ℕ) (i : ℕ) {last : Facts} {from : List ℕ} → AreGroups s.nfa units groups
+pub group_goes : (s : Stand) (units groups : List ℕ) (i : ℕ) {last : Facts} {from : List ℕ}
+    → AreGroups s.nfa units groups
     → last ≡ s.state.context → from ≡ s.state.rows → (column : ℕ) → column < length units
     → slice_index groups column ≡ i
     → going_by s.nfa s.kind last (facts_with i) from ≡ going s (slice_index units column)
@@ -157,7 +163,8 @@ pub dead_steps : (s : Stand) (units groups : List ℕ) (targets labels : List (L
 dead_steps s units groups targets labels none t l column h =
     let unit = slice_index units column in
     let decided =
-    ap (λ from. firsts (flat_map (closure s.nfa.rows (Tested (holds_before s.nfa unit s.state))) from)) none ∙ fresh_nil in
+    ap (λ from. firsts (flat_map (closure s.nfa.rows (Tested (holds_before s.nfa unit s.state))) from)) none
+    ∙ fresh_nil in
     let goes : going s unit ≡ [] = ap (cut s.kind s.nfa.rows) decided ∙ cut_nil s.kind s.nfa in
     let label = l (slice_index groups column) in
     record {

@@ -25,7 +25,8 @@ module _ {X : Type 0} (f : X → List ℕ) (vs : List X) (v : ℕ) (x y : X) (ne
   pub pushed_one : (column : ℕ) → list_at (map f (set vs v y)) column
       ≡ list_at (map f vs) column ++ only_if (column == v) (next ∷ [])
   pushed_one column =
-      let Grows = λ (b : Bool) (u : ℕ). list_at (map f (set vs v y)) u ≡ list_at (map f vs) u ++ only_if b (next ∷ []) in
+      let Grows = λ (b : Bool) (u : ℕ). list_at (map f (set vs v y)) u
+      ≡ list_at (map f vs) u ++ only_if b (next ∷ []) in
       by_test (column == v)
       (λ t. subst (λ b. Grows b column) (sym t) (subst (Grows true) (sym (eqb-true column v t)) at_place))
       (λ t.

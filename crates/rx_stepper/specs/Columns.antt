@@ -58,7 +58,8 @@ pub record AreGroups (nfa : Nfa) (units groups : List ℕ) : Type 0 where
 
 -- the groups that have a column are marked
 abbrev pub AreUsed : List ℕ → List Bool → Type 0
-AreUsed groups used = (column : ℕ) → column < length groups → slice_index_or used (slice_index groups column) false ≡ true
+AreUsed groups used = (column : ℕ) → column < length groups
+    → slice_index_or used (slice_index groups column) false ≡ true
 
 -- whether a column is of a group, where one is named
 abbrev pub takes : Option ℕ → List ℕ → ℕ → Bool

@@ -1,6 +1,7 @@
 //! The state that is being stepped.
 
-ghost use Rattle.std.specs.Prelude.{◌≡◌, ℕ, List, All, true, ◌<◌, ◌≤◌, ◌≢◌, ◌++◌, [], Some, map, length, slice_index, vec_capacity, IfOk, OnOk};
+ghost use Rattle.std.specs.Prelude.{◌≡◌, ℕ, List, All, true, ◌<◌, ◌≤◌, ◌≢◌};
+ghost use Rattle.std.specs.Prelude.{◌++◌, [], Some, map, length, slice_index, vec_capacity, IfOk, OnOk};
 ghost use Rattle.std.specs.List.{flat_map};
 ghost use Rattle.rx_spec.specs.States.{row_at, cut, pattern_of, target};
 ghost use Rattle.rx_spec.specs.Causes.{id_count, max_id};

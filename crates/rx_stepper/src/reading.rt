@@ -1,6 +1,7 @@
 //! Which columns rows read.
 
-ghost use Rattle.std.specs.Prelude.{◌≡◌, ℕ, ◌+◌, ◌<◌, ◌≤◌, ◌++◌, List, map, filter, length, slice_index, All, IfOk, OnOk};
+ghost use Rattle.std.specs.Prelude.{◌≡◌, ℕ, ◌+◌, ◌<◌, ◌≤◌, ◌++◌, List};
+ghost use Rattle.std.specs.Prelude.{map, filter, length, slice_index, All, IfOk, OnOk};
 ghost use Rattle.std.specs.List.{range_with_len};
 ghost use Rattle.rx_spec.specs.Bytes.{contains};
 ghost use Rattle.rx_spec.specs.Rows.{Row as NfaRow};
@@ -33,7 +34,8 @@ impl Reading {
     pub(crate) fn new(alloc: Global, nfa: &NFA, units: &[Unit]) -> Result<Reading, AllocError>
         requires { length units.now < 65536 }
         ensures count { IfOk result (λ r. r.count ≡ length units.now) }
-        ensures reads { IfOk result (λ r. Reads (meaning nfa.now).rows (map unit_number units.now) r.columns.items r.spans.items) }
+        ensures reads { IfOk result (λ r.
+            Reads (meaning nfa.now).rows (map unit_number units.now) r.columns.items r.spans.items) }
     {
         let rows = nfa.rows();
         let mut columns = Vec::new(alloc);

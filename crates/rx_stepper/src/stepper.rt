@@ -90,7 +90,8 @@ impl<'n> Stepper<'n> {
     pub fn begin(&mut self, key: &[u32]) -> Result<(), AllocError>
         requires { (stepping_of self.old).is_key key.now ≡ true }
         ensures current { OnOk result ((stepping_of self.new).current ≡ (stepping_of self.old).state_of key.now) }
-        ensures kept { stepping_of self.new ≡ record (stepping_of self.old) { current = (stepping_of self.new).current } }
+        ensures kept { stepping_of self.new
+            ≡ record (stepping_of self.old) { current = (stepping_of self.new).current } }
     {
         match self
             .current
@@ -104,8 +105,8 @@ impl<'n> Stepper<'n> {
         }
     }
 
-    /// Steps the state by the unit of a column, and writes the key of the state that follows, where it is a new one: it is
-    /// none where the state is dead, or is known to be the one to which another column led, the last that was stepped.
+    /// Steps the state by the unit of a column, and writes the key of the state that follows. None is written where
+    /// that state is dead, or is known to be the one to which another column led, the last that was stepped.
     #[tactic(auto, unfolding(crate::specs::Steppers::stepping_of))]
     pub fn next(
         &mut self,

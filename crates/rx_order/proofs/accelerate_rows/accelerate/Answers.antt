@@ -73,7 +73,8 @@ returns-clause-ok c =
       set =
           c.set_special.ensures
           ∙ ap₂ (λ (k : Layout) (special : Special). record k { special = special })
-          (c.set_accels.ensures ∙ ap (λ (accels : List (List ℕ)). record next { accels = accels }) c.in_ok-accels.ensures)
+          (c.set_accels.ensures ∙ ap (λ (accels : List
+          (List ℕ)). record next { accels = accels }) c.in_ok-accels.ensures)
           (c.special-2.ensures
           ∙ ap₂ (λ (k : ℕ) (marked : Bool). special_ids (2 ^ k) ends marked)
           (c.stride2.ensures.value ∙ ap (λ (k : Layout). k.stride2) c.set_accels.ensures)

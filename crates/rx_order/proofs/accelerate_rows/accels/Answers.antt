@@ -100,5 +100,6 @@ returns c =
     let from = slice_index c.args.order.now.ends 2 in
     let f = λ (place : ℕ). leaving_of (table_of c.args.dfa.now) (slice_index c.args.order.now.rows.items place) in
     let rises = ends_rise s 2 5 (omega arith) (omega arith) in
-    let last : c.loop-place.place ≡ slice_index c.args.order.now.ends 5 = omega (arith, c.loop-place.auto.place-end rises) in
+    let last : c.loop-place.place ≡ slice_index c.args.order.now.ends 5 = omega
+    (arith, c.loop-place.auto.place-end rises) in
     c.loop-place.invariant ∙ ap (λ n. map f (range_with_len from (n - from))) last

@@ -64,7 +64,8 @@ loop-row-preserved c =
     ≡ kind_by row (is_match (table_of l) row) (are_needles (leaving_of (table_of l) row)) (is_start_row l row) =
     c.kind.ensures.value
     ∙ ap₂ (λ (m a : Bool). kind_by row m a (nat_lt 1 row && c.index.result.now)) matches skips
-    ∙ ap (λ s. kind_by row (is_match (table_of l) row) (are_needles (leaving_of (table_of l) row)) (nat_lt 1 row && s)) flag in
+    ∙ ap (λ s. kind_by row (is_match (table_of l) row) (are_needles (leaving_of (table_of l) row))
+    (nat_lt 1 row && s)) flag in
     rw c.in_ok-push.ensures.items (record {
       count = omega (arith, length_push kinds c.kind.result);
       kinds = λ k h.

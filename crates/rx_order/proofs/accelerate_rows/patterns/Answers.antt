@@ -121,5 +121,6 @@ returns c =
     let from = slice_index c.args.order.now.ends 1 in
     let f = λ (place : ℕ). patterns_of (table_of c.args.dfa.now) (slice_index c.args.order.now.rows.items place) in
     let rises = ends_rise s 1 3 (omega arith) (omega arith) in
-    let last : c.loop-place.place ≡ slice_index c.args.order.now.ends 3 = omega (arith, c.loop-place.auto.place-end rises) in
+    let last : c.loop-place.place ≡ slice_index c.args.order.now.ends 3 = omega
+    (arith, c.loop-place.auto.place-end rises) in
     c.loop-place.invariant.lists ∙ ap (λ n. map f (range_with_len from (n - from))) last

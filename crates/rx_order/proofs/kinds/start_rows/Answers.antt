@@ -11,7 +11,8 @@ loop-id-init c =
     let count = c.state_len.ensures.value in
     let starts = c.starts-id-items.ensures in
     rw (c.into_iter-id-iterator.ensures.into_iter_gives, starts.value)
-    (rw (entry_ids c.args.dfa.now starts.are_starts) (none_noted c.args.dfa.now c.in_ok-starts.starts.items c.args.dfa.now.starts
+    (rw (entry_ids c.args.dfa.now starts.are_starts)
+    (none_noted c.args.dfa.now c.in_ok-starts.starts.items c.args.dfa.now.starts
     (ap length items ∙ length-replicate c.state_len.result false ∙ count)
     (λ row h.
     ap (λ (flags : List Bool). get_or flags row false) items
@@ -20,18 +21,21 @@ loop-id-init c =
 
 pub index_mut-requires : goal.index_mut-requires
 index_mut-requires c =
-    let noted = subst (λ left. AreNoted c.args.dfa.now c.loop-id.starts.items (map (λ (e : Entry). e.0) left) c.args.dfa.now.starts)
+    let noted = subst (λ left. AreNoted c.args.dfa.now c.loop-id.starts.items (map (λ
+    (e : Entry). e.0) left) c.args.dfa.now.starts)
     c.in-Some.ensures.steps c.loop-id.invariant in
     rw (c.as_usize.ensures.value, c.stride2-stride2.ensures.value) (omega (arith, id_row noted, c.loop-id.starts.ok.0))
 
 pub loop-id-preserved : goal.loop-id-preserved
 loop-id-preserved c =
-    let noted = subst (λ left. AreNoted c.args.dfa.now c.loop-id.starts.items (map (λ (e : Entry). e.0) left) c.args.dfa.now.starts)
+    let noted = subst (λ left. AreNoted c.args.dfa.now c.loop-id.starts.items (map (λ
+    (e : Entry). e.0) left) c.args.dfa.now.starts)
     c.in-Some.ensures.steps c.loop-id.invariant in
     rw (c.as_usize.ensures.value, c.stride2-stride2.ensures.value) (one_noted noted)
 
 pub returns-clause-rows : goal.returns-clause-rows
 returns-clause-rows c =
-    let noted = subst (λ left. AreNoted c.args.dfa.now c.loop-id.starts.items (map (λ (e : Entry). e.0) left) c.args.dfa.now.starts)
+    let noted = subst (λ left. AreNoted c.args.dfa.now c.loop-id.starts.items (map (λ
+    (e : Entry). e.0) left) c.args.dfa.now.starts)
     (c.in-None.ensures.steps).0 c.loop-id.invariant in
     record { count = noted.count; starts_are = all_noted noted }

@@ -7,6 +7,7 @@ abbrev pub invariant-loop-row : goal.invariant-loop-row
 invariant-loop-row l = record {
   count : length l.kinds.items ≡ l.row;
   kinds : (row : ℕ) → row < l.row
-      → slice_index l.kinds.items row ≡ kind_by row (is_match_row l.dfa l.fn.matches row) false (is_start_row l.dfa row);
+      → slice_index l.kinds.items row
+      ≡ kind_by row (is_match_row l.dfa l.fn.matches row) false (is_start_row l.dfa row);
   below : All (λ kind. kind < 8) l.kinds.items;
 }

@@ -25,7 +25,8 @@ returns-then-not-add-clause-exactly c =
     let other = eqb-false c.next_state.result c.args.id
     (not_true (c.next_state.result == c.args.id) (sym c.ne.ensures ∙ c.if-ne.true)) in
     let leaves : t.machine.next row c.loop-byte.byte ≢ row = λ e.
-    other (same_id ids c.next_state.result c.args.id c.next_state.ensures.is_id c.requires (c.next_state.ensures.row ∙ e)) in
+    other (same_id ids c.next_state.result c.args.id c.next_state.ensures.is_id c.requires
+    (c.next_state.ensures.row ∙ e)) in
     sym (ap are_needles (leaving_is t row)
     ∙ refused c.loop-byte.invariant c.loop-byte-test.true leaves (sym c.add.ensures.exactly ∙ c.if-not-add.true))
 
@@ -39,7 +40,8 @@ loop-byte-preserved c =
           let other = eqb-false c.next_state.result c.args.id
           (not_true (c.next_state.result == c.args.id) (sym c.ne.ensures ∙ w.if-ne.true)) in
           let leaves : t.machine.next row c.loop-byte.byte ≢ row = λ e.
-          other (same_id ids c.next_state.result c.args.id c.next_state.ensures.is_id c.requires (c.next_state.ensures.row ∙ e)) in
+          other (same_id ids c.next_state.result c.args.id c.next_state.ensures.is_id c.requires
+          (c.next_state.ensures.row ∙ e)) in
           let taken = sym w.add.ensures.exactly ∙ w.if-not-add.false in
           let after : w.add.new.self ≡ c.loop-byte.accel ++ c.loop-byte.byte ∷ [] =
           w.add.ensures.after

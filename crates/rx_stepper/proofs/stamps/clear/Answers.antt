@@ -12,4 +12,5 @@ all_clear xs n le h k =
     (cases_lt k (length xs))
 
 pub returns-clause-zeros : goal.returns-clause-zeros
-returns-clause-zeros c = all_clear c.loop-number.numbers c.loop-number.number-index (omega arith) c.loop-number.invariant
+returns-clause-zeros c = all_clear c.loop-number.numbers c.loop-number.number-index
+    (omega arith) c.loop-number.invariant

@@ -25,7 +25,8 @@ loop-row-preserved c = record {
 pub returns-clause-lists : goal.returns-clause-lists
 returns-clause-lists c = λ nfa units reads column h.
     let leads =
-    λ (q : ℕ). only_if (takes c.args.only c.args.groups.now.of.items column) (target (slice_index units column) (row_at nfa q)) in
+    λ (q : ℕ). only_if (takes c.args.only c.args.groups.now.of.items column) (target (slice_index units column)
+    (row_at nfa q)) in
     let all = take_all c.loop-row.row-index c.args.rows.now c.loop-row-test.false in
     c.loop-row.invariant.lists nfa units reads column h
     ∙ ap (λ l. list_at (map (λ v. v.items) c.args.targets.now) column ++ flat_map leads l) all

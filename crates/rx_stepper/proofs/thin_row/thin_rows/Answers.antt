@@ -13,7 +13,8 @@ loop-row-preserved c =
       len = search rules;
       each =
           thin_push c.loop-row.thin.items (meaning c.args.nfa.now).rows c.new.result c.loop-row.invariant.len
-          c.in_ok-push.ensures.items (subst (IsThin (row_of_thin c.new.result)) (sym row) c.new.ensures) c.loop-row.invariant.each;
+          c.in_ok-push.ensures.items (subst (IsThin (row_of_thin c.new.result))
+          (sym row) c.new.ensures) c.loop-row.invariant.each;
     }
 
 pub returns-clause-rows : goal.returns-clause-rows

@@ -36,7 +36,8 @@ loop-kind-preserved c =
     let kind = c.loop-kind.kind in
     let all : c.loop-row.row ≡ length kinds = omega arith in
     let rows : c.loop-row.rows.items ≡ rows_below kinds (kind + 1) =
-    subst (λ n. c.loop-row.rows.items ≡ rows_below kinds kind ++ filter (λ row. slice_index kinds row == kind) (range_with_len 0 n))
+    subst (λ n. c.loop-row.rows.items
+    ≡ rows_below kinds kind ++ filter (λ row. slice_index kinds row == kind) (range_with_len 0 n))
     all c.loop-row.invariant
     ∙ sym (rows_more kinds kind) in
     let len : c.len.result ≡ length (rows_below kinds (kind + 1)) =

@@ -12,4 +12,5 @@ invariant-loop-kind l = record {
 
 abbrev pub invariant-loop-row : goal.invariant-loop-row
 invariant-loop-row l =
-    l.rows.items ≡ rows_below l.kinds l.kind ++ filter (λ row. slice_index l.kinds row == l.kind) (range_with_len 0 l.row)
+    l.rows.items ≡ rows_below l.kinds l.kind ++ filter (λ row. slice_index l.kinds row == l.kind)
+    (range_with_len 0 l.row)

@@ -1,4 +1,5 @@
-use Rattle.std.proofs.Common.{◌≡◌, ℕ, ◌+◌, ◌<◌, ◌++◌, List, [], ◌∷◌, reverse, get_or, length, drop, refl, ap, sym, ◌∙◌, subst, arith, length-append}
+use Rattle.std.proofs.Common.{◌≡◌, ℕ, ◌+◌, ◌<◌, ◌++◌, List, [], ◌∷◌, reverse, get_or, length, drop, refl, ap, sym}
+use Rattle.std.proofs.Common.{◌∙◌, subst, arith, length-append}
 use Rattle.std.specs.List.{flat_map, AllByRecursion as Every}
 use Rattle.rx_spec.specs.Causes.{id_count}
 use Rattle.rx_spec.specs.States.{row_at, closure}
@@ -91,7 +92,8 @@ search-preserved-then-is_first c =
           met_now graph c.pop.new.self.items tail id (is_met old.stamps.items old.now) (is_met new.stamps.items new.now)
           c.enter.new.waiting.items c.is_first.ensures.only before.search c.in-Some.ensures.items c.is_first.ensures.new
           c.if-is_first.true own behind;
-      few = few_more id_count _ c.enter.ensures.bound (own_either pass id (row_at (meaning nfa).rows id)) own before.few;
+      few = few_more id_count _ c.enter.ensures.bound (own_either pass id (row_at
+          (meaning nfa).rows id)) own before.few;
       stack = omega (arith, before.stack, c.enter.ensures.waiting_len, popped_len, count);
       listed = omega (arith, before.listed, c.enter.ensures.found_len, count);
       found_room = omega (arith, before.found_room, c.enter.ensures.found_room);

@@ -16,7 +16,8 @@ use Rattle.rx_stepper.proofs.current.Current.step_group.Goals as goal
 
 settled_is : (c : goal.After-self-3-1) → c.deref-2.result.now
     ≡ closed_rows (meaning c.args.closures.now.nfa.now).rows
-    (Tested (λ look. holds_read (meaning c.args.closures.now.nfa.now).direction look c.args.last (facts_with c.args.group)))
+    (Tested (λ look. holds_read (meaning c.args.closures.now.nfa.now).direction look c.args.last
+    (facts_with c.args.group)))
     c.args.self.now.rows.items
 settled_is c =
     let rows = (meaning c.args.closures.now.nfa.now).rows in

@@ -38,9 +38,11 @@ loop-unit-preserved c =
       len = search rules;
       used_len = search rules;
       each =
-          subst Each (sym pushed) (each_push (λ k v. IsGroup nfa (slice_index units k) v) of group i place before.each here);
+          subst Each (sym pushed) (each_push (λ k v. IsGroup nfa
+          (slice_index units k) v) of group i place before.each here);
       below =
           subst (All (λ g. g < 32)) (sym pushed)
-          (All-append (λ g. g < 32) of (group ∷ []) before.below (All-cons (λ g. g < 32) group [] bits.bound (All-nil (λ g. g < 32))));
+          (All-append (λ g. g < 32) of (group ∷ []) before.below (All-cons (λ g. g < 32) group [] bits.bound
+          (All-nil (λ g. g < 32))));
       used = subst Used (sym pushed) (each_push Marked of group i place still set_here);
     }

@@ -30,5 +30,6 @@ loop-row-preserved c =
     (length-map c.args.units.now unit_number) (columns_few (row_of c.row-item.result) units) in
     record {
       reads = subst (λ l. Below l c.push.new.self.items) (sym added) (subst (Below grown) (sym spans) more);
-      few = subst Few (sym added) (All-append (λ column. column < length c.args.units.now) c.loop-row.columns.items _ c.loop-row.invariant.few few);
+      few = subst Few (sym added) (All-append
+          (λ column. column < length c.args.units.now) c.loop-row.columns.items _ c.loop-row.invariant.few few);
     }

@@ -16,7 +16,8 @@ invariant_of-self c =
     let new = c.begin.new.self in
     let begun = c.begin.ensures in
     let groups = self.columns.groups.of.items in
-    let Steps = λ (key : List ℕ). AreSteps (stand self.closures.nfa.now self.kind (spelled key)) (units_of self.classes) groups
+    let Steps = λ (key : List ℕ). AreSteps (stand self.closures.nfa.now self.kind (spelled key))
+    (units_of self.classes) groups
     (map (λ v. v.items) new.targets.items) (map (λ v. v.items) new.labels.items) in
     let Is = λ (n : NFA). Fits (meaning n) self.kind self.classes self.columns new in
     let fits : Is self.closures.nfa.now = record {

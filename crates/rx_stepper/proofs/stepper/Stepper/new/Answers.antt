@@ -33,7 +33,8 @@ invariant_of-result c =
     } in
     record {
       fits =
-          subst (λ n. Fits (meaning n) c.args.kind c.args.classes.now c.in_ok-columns.columns now) (sym c.in_ok-new.ensures) fits;
+          subst (λ n. Fits (meaning n) c.args.kind c.args.classes.now c.in_ok-columns.columns now)
+          (sym c.in_ok-new.ensures) fits;
     }
 
 pub returns-clause-one_key : goal.returns-clause-one_key

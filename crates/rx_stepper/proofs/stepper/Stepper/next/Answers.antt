@@ -44,7 +44,8 @@ returns-then-is_dead-clause-next c =
     let column = c.args.column in
     let within : column < length (units_of self.classes) = omega (arith, c.requires.column, self.fits.counted) in
     let nfa = meaning self.closures.nfa.now in
-    let from = c.deref.ensures.value ∙ sym (list_there (λ v. v.items) self.current.targets.items column c.index.result.now
+    let from = c.deref.ensures.value
+    ∙ sym (list_there (λ v. v.items) self.current.targets.items column c.index.result.now
     (omega (arith, within, self.fits.targets)) c.index.ensures) in
     let rows = c.deref-2.ensures.value ∙ c.list.ensures.rows ∙ ap (closed_rows nfa.rows Standing) from in
     let group = c.of-group.ensures in
@@ -77,7 +78,8 @@ invariant_of-self-2 c =
     let groups = self.columns.groups.of.items in
     let e = sym c.list.ensures.nfa in
     let reading = self.columns.reading in
-    let reads = subst (λ (n : NFA). Reads (meaning n).rows units reading.columns.items reading.spans.items) e old.reads in
+    let reads = subst (λ (n : NFA). Reads
+    (meaning n).rows units reading.columns.items reading.spans.items) e old.reads in
     let targets = map (λ v. v.items) self.current.targets.items in
     let labels = map (λ v. v.items) self.current.labels.items in
     let state = spelled self.current.key.items in
@@ -101,7 +103,8 @@ returns-clause-next c =
     let within : column < length (units_of self.classes) = omega (arith, c.requires.column, self.fits.counted) in
     let nfa = meaning self.closures.nfa.now in
     let unit = unit_at self column in
-    let from = c.deref.ensures.value ∙ sym (list_there (λ v. v.items) self.current.targets.items column c.index.result.now
+    let from = c.deref.ensures.value
+    ∙ sym (list_there (λ v. v.items) self.current.targets.items column c.index.result.now
     (omega (arith, within, self.fits.targets)) c.index.ensures) in
     let listed = c.list.ensures.rows ∙ ap (closed_rows nfa.rows Standing) from in
     let rows = c.deref-6.ensures.value ∙ listed in
@@ -120,7 +123,8 @@ returns-clause-next c =
     let wrote = c.in_ok-write.ensures in
     let reached = c.deref-6.result.now in
     let key =
-    made_key nfa (targets_at self column) (asked_of nfa unit) (label_at self column) c.kept.result c.of-group.result rows bits
+    made_key nfa (targets_at self column) (asked_of nfa unit)
+    (label_at self column) c.kept.result c.of-group.result rows bits
     (group.value ∙ number.bits) (ap facts_with group.value ∙ number.facts)
     (subst (All (λ k. k ≤ max_id)) label wrote.label) is.few wrote.rows
     (wrote.items ∙ ap (λ (l : List ℕ). c.kept.result ∷ (length l ∷ (l ++ reached))) label) in

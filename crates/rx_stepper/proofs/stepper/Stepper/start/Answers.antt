@@ -25,9 +25,11 @@ returns-clause-key c =
     let bits = c.kept.ensures ∙ ap (λ b. if b then group else 0) asks in
     let wrote = c.in_ok-write.ensures in
     let key =
-    made_key nfa (c.args.row ∷ []) asked [] c.kept.result group rows bits (c.to_bits-group.ensures.value ∙ ap bits_of asked_is)
+    made_key nfa (c.args.row ∷ []) asked [] c.kept.result group rows bits (c.to_bits-group.ensures.value
+    ∙ ap bits_of asked_is)
     (c.to_bits-group.ensures.back ∙ asked_is) wrote.label (omega arith) wrote.rows wrote.items in
     let first_rows = c.deref.ensures.value ∙ c.list.ensures.rows in
-    let alive = ap (λ (xs : List ℕ). (length xs == 0) && (length {A = ℕ} [] == 0)) (sym first_rows) ∙ sym c.is_dead.ensures
+    let alive = ap (λ (xs : List ℕ). (length xs == 0) && (length {A = ℕ} [] == 0)) (sym first_rows)
+    ∙ sym c.is_dead.ensures
     ∙ c.if-is_dead.false in
     record { is_key = key.is_key; stands_for = key.stands_for; alive = alive }
