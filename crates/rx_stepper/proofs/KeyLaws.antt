@@ -1,8 +1,10 @@
 -- Keys: what is written spells its state, and a key tells what it spells.
 use Rattle.std.proofs.Common.{◌≡◌, ℕ, ◌+◌, ◌<◌, ◌≤◌, ◌&&◌, leb, Bool, true, false, if◌then◌else◌, List, [], ◌∷◌, ◌++◌}
-use Rattle.std.proofs.Common.{length, refl, ap, sym, ◌∙◌, arith, length-append}
+use Rattle.std.proofs.Common.{◌^◌, length, take, drop, get_or, refl, ap, sym, ◌∙◌, subst, arith, length-append}
+use Rattle.std.specs.Prelude.{All}
 use Rattle.std.proofs.Math.Seq.{take-append_seam, drop-append_seam}
 use Rattle.std.proofs.lemmas.Bool.{and_parts, leb-true, le-leb}
+use Rattle.std.proofs.lemmas.List.Elements.{All-from_recursion}
 use Rattle.std.proofs.lemmas.Slice.Eq.{bytes_eq-Decides}
 use Rattle.std.specs.List.{list_all, AllByRecursion as Every}
 use Rattle.std.specs.Str.{bytes_eq}
@@ -13,7 +15,8 @@ use Rattle.rx_spec.specs.States.{State, row_at, firsts}
 use Rattle.rx_lemmas.proofs.Every.{every-weaker}
 use Rattle.rx_powerset.proofs.StateBounds.{few_firsts}
 use Rattle.rx_base.specs.FactBits.{bits_of, facts_with}
-use Rattle.rx_stepper.specs.Keys.{key_of, spelled, stands, is_closed, is_key}
+use Rattle.rx_spec.specs.Sizes.{state_size}
+use Rattle.rx_stepper.specs.Keys.{key_of, label_of, size_of, spelled, stands, is_closed, is_key}
 
 -- what is_closed tests
 pub record IsClosed (rows : List Row) (s : State) : Type 0 where
@@ -142,3 +145,39 @@ pub rows_few : {rows : List Row} {s : State} → IsClosed rows s → length s.ro
 rows_few {s = s} c =
     few_firsts s.rows id_count (sym c.once)
     (every-weaker (λ q. q ≤ max_id) (λ q. q < id_count) s.rows (λ q h. omega arith) c.ids)
+
+-- ---- what a key's numbers tell
+
+pub label_len : (key : List ℕ) → 2 ≤ length key → label_of key ≡ take (get_or key 1 0) (drop 2 key)
+unfolding label_of
+label_len [] h = absurd (omega arith)
+label_len (bits ∷ []) h = absurd (omega arith)
+label_len (bits ∷ (len ∷ numbers)) h = refl
+
+pub label_short : (key : List ℕ) → length key < 2 → label_of key ≡ []
+unfolding label_of
+label_short [] h = refl
+label_short (bits ∷ []) h = refl
+label_short (bits ∷ (len ∷ numbers)) h = absurd (omega arith)
+
+pub spelled_label : (key : List ℕ) → label_of key ≡ (spelled key).label
+unfolding label_of
+spelled_label [] = refl
+spelled_label (bits ∷ []) = refl
+spelled_label (bits ∷ (len ∷ numbers)) = refl
+
+pub spelled_size : {rows : List Row} {key : List ℕ} → Spells rows key → size_of key ≡ state_size (spelled key)
+unfolding size_of
+spelled_size {key = key} s = omega (arith, key_len key s.is)
+
+pub spelled_small : {rows : List Row} {key : List ℕ} → Spells rows key → size_of key < 2 ^ 35
+unfolding size_of
+spelled_small {key = key} s = omega (arith, key_len key s.is, rows_few s.closed, s.closed.few)
+
+pub ids_spelled : {rows : List Row} {key : List ℕ} → Spells rows key → All (λ k. k ≤ max_id) (label_of key)
+ids_spelled {key = key} s =
+    subst (All (λ k. k ≤ max_id)) (sym (spelled_label key))
+    (All-from_recursion (λ k. k ≤ max_id) (spelled key).label s.closed.patterns)
+
+pub few_spelled : {rows : List Row} {key : List ℕ} → Spells rows key → length (label_of key) < 2 ^ 32
+few_spelled {key = key} s = omega (arith, ap length (spelled_label key), s.closed.few)

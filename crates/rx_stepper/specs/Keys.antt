@@ -1,5 +1,5 @@
 -- States as keys: lists of numbers that spell them.
-use Rattle.std.specs.Prelude.{ℕ, ◌&&◌, nat_le, Bool, true, false, List, [], ◌∷◌, ◌++◌, length, take, drop}
+use Rattle.std.specs.Prelude.{ℕ, ◌+◌, ◌-◌, ◌*◌, ◌&&◌, nat_le, Bool, true, false, List, [], ◌∷◌, ◌++◌, length, take, drop}
 use Rattle.std.specs.List.{list_all}
 use Rattle.std.specs.Str.{bytes_eq}
 use Rattle.rx_spec.specs.Causes.{max_id, id_count}
@@ -17,6 +17,15 @@ spelled [] = dead_state
 spelled (bits ∷ []) = dead_state
 spelled (bits ∷ (len ∷ numbers)) =
     record { rows = drop len numbers; context = facts_with bits; label = take len numbers }
+
+-- a key's label, and what its state counts for, by its numbers alone
+unfoldable pub label_of : List ℕ → List ℕ
+label_of [] = []
+label_of (bits ∷ []) = []
+label_of (bits ∷ (len ∷ numbers)) = take len numbers
+
+unfoldable pub size_of : List ℕ → ℕ
+size_of key = 8 + 4 * (length key - 2)
 
 -- a row at which a closure ends: it reads a byte, matches or asserts
 abbrev pub stands : Row → Bool

@@ -1,12 +1,16 @@
 -- What steps the states of an NFA, which are kept as lists of numbers, their keys.
-use Rattle.std.specs.Prelude.{ℕ, ◌≡◌, Bool, true, false, Option, Some, List, [], ◌∷◌, ◌++◌, slice_index}
+use Rattle.std.specs.Prelude.{ℕ, ◌≡◌, ◌≤◌, ◌<◌, ◌^◌, All, Bool, true, false, Option, Some, List, [], ◌∷◌, ◌++◌}
+use Rattle.std.specs.Prelude.{length, slice_index}
 use Rattle.rx_spec.specs.Bytes.{eoi}
 use Rattle.rx_spec.specs.Builds.{is_dead_state}
+use Rattle.rx_spec.specs.Causes.{max_id}
 use Rattle.rx_spec.specs.Classes.{representatives}
 use Rattle.rx_spec.specs.Nfas.{Nfa}
+use Rattle.rx_spec.specs.Sizes.{state_size}
 use Rattle.rx_spec.specs.States.{State, step}
 use Rattle.rx_spec.specs.declared.MatchKind.{MatchKind}
 use Rattle.rx_base.specs.ByteClasses.{ends_of}
+use Rattle.rx_stepper.specs.Keys.{label_of, size_of}
 use Rattle.rx_stepper.specs.declared.next.Next.{Next}
 
 pub record Stepping : Type 0 where
@@ -23,6 +27,14 @@ pub record Stepping : Type 0 where
 -- No two keys stand for one state.
 abbrev pub HasOneKeyEach : Stepping → Type 0
 HasOneKeyEach s = (j k : List ℕ) → s.is_key j ≡ true → s.is_key k ≡ true → s.state_of j ≡ s.state_of k → j ≡ k
+
+-- A key spells the label of its state, whose patterns are ids, and what the state counts for.
+pub record SpellStates (s : Stepping) : Type 0 where
+  pub label : (key : List ℕ) → s.is_key key ≡ true → label_of key ≡ (s.state_of key).label
+  pub are_ids : (key : List ℕ) → s.is_key key ≡ true → All (λ k. k ≤ max_id) (label_of key)
+  pub few : (key : List ℕ) → s.is_key key ≡ true → length (label_of key) < 2 ^ 32
+  pub size : (key : List ℕ) → s.is_key key ≡ true → size_of key ≡ state_size (s.state_of key)
+  pub small : (key : List ℕ) → s.is_key key ≡ true → size_of key < 2 ^ 35
 
 -- the unit that stands for a column: the least byte of its class, and for the last column the end mark
 abbrev pub unit_of : List ℕ → ℕ → ℕ

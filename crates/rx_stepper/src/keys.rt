@@ -2,17 +2,33 @@
 
 ghost use Rattle.std.specs.Prelude.{◌≡◌, ◌≤◌, ◌++◌, ◌∷◌, ◌==◌, ◌&&◌, if◌then◌else◌, All, OnOk, length};
 ghost use Rattle.rx_spec.specs.Causes.{id_count, max_id};
-ghost use Rattle.rx_stepper.specs.Keys.{key_of, spelled};
+ghost use Rattle.rx_stepper.specs.Keys.{key_of, label_of, size_of, spelled};
 
 use rx_base::{Facts, PatternID, StateID};
 use std::alloc::AllocError;
 
 /// The label of a key's state.
 pub(crate) fn label_of(key: &[u32]) -> &[u32]
-    requires { key_of (spelled key.now) ≡ key.now }
-    ensures { result.now ≡ (spelled key.now).label }
+    ensures { result.now ≡ label_of key.now }
 {
-    &key[2..2 + key[1] as usize]
+    if key.len() < 2 {
+        return &[];
+    }
+    let numbers = &key[2..];
+    let len = key[1] as usize;
+    if numbers.len() <= len {
+        numbers
+    } else {
+        &numbers[..len]
+    }
+}
+
+/// What a key's state counts for: 8 bytes, and 4 for each row and each pattern.
+#[tactic(auto, unfolding(crate::specs::Keys::size_of))]
+pub(crate) fn size_of(key: &[u32]) -> u64
+    ensures { result ≡ size_of key.now }
+{
+    8 + 4 * key.len().saturating_sub(2) as u64
 }
 
 /// The rows of a key's state.

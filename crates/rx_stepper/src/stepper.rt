@@ -1,13 +1,12 @@
 //! What steps states.
 
-ghost use Rattle.std.specs.Prelude.{◌≡◌, ◌≤◌, ◌<◌, ◌+◌, ◌^◌, true, MatchBool, All, IfOk, OnOk, IfSome, length};
+ghost use Rattle.std.specs.Prelude.{◌≡◌, ◌<◌, true, MatchBool, IfOk, OnOk, IfSome};
 ghost use Rattle.rx_spec.specs.Builds.{is_dead_state};
-ghost use Rattle.rx_spec.specs.Causes.{max_id};
-ghost use Rattle.rx_spec.specs.Sizes.{state_size};
 ghost use Rattle.rx_spec.specs.States.{start_state};
 ghost use Rattle.rx_base.specs.ByteClasses.{alphabet_len};
 ghost use Rattle.rx_expr.specs.Nfa.{meaning};
 ghost use Rattle.rx_stepper.specs.Fits.{Fits};
+ghost use Rattle.rx_stepper.specs.Keys.{label_of, size_of};
 
 use crate::closures::{Closures, Passing};
 use crate::columns::Columns;
@@ -32,7 +31,7 @@ pub struct Stepper<'n> {
 
 impl<'n> Stepper<'n> {
     ghost use Rattle.rx_stepper.specs.Steppers.{stepping_of};
-    ghost use Rattle.rx_stepper.specs.Stepping.{HasOneKeyEach, IsKeyOf, IsNext, stepped};
+    ghost use Rattle.rx_stepper.specs.Stepping.{HasOneKeyEach, IsKeyOf, IsNext, SpellStates, stepped};
 
     /// What steps the states of an NFA by the columns of these classes.
     #[tactic(auto, unfolding(crate::specs::Steppers::stepping_of))]
@@ -45,6 +44,7 @@ impl<'n> Stepper<'n> {
         ensures nfa { IfOk result (λ s. (stepping_of s).nfa ≡ meaning nfa.now) }
         ensures kind { IfOk result (λ s. (stepping_of s).kind ≡ kind) }
         ensures classes { IfOk result (λ s. (stepping_of s).classes ≡ classes.now) }
+        ensures spells { IfOk result (λ s. SpellStates (stepping_of s)) }
         ensures one_key { IfOk result (λ s. HasOneKeyEach (stepping_of s)) }
     {
         let columns = Columns::new(alloc, nfa, classes)?;
@@ -154,26 +154,20 @@ impl<'n> Stepper<'n> {
         are_equal(&self.current.targets[column], &self.current.targets[other])
     }
 
-    /// The patterns that matched before the unit that led to a key's state.
-    #[tactic(auto, unfolding(crate::specs::Steppers::stepping_of))]
-    pub fn label<'k>(&self, key: &'k [u32]) -> &'k [u32]
-        requires { (stepping_of self.now).is_key key.now ≡ true }
-        ensures value { result.now ≡ ((stepping_of self.now).state_of key.now).label }
-        ensures are_ids { All (λ k. k ≤ max_id) result.now }
-        ensures few { length result.now ≤ max_id + 1 }
+    /// The patterns that matched before the unit that led to a key's state. Of numbers that are no key it is none, or
+    /// some of them.
+    pub fn label(key: &[u32]) -> &[u32]
+        ensures { result.now ≡ label_of key.now }
     {
         keys::label_of(key)
     }
 
     /// The bytes that a key's state counts for where a limit is set on the states of a construction: 8, and 4 for each
     /// row and each pattern.
-    #[tactic(auto, unfolding(crate::specs::Steppers::stepping_of))]
-    pub fn size(&self, key: &[u32]) -> u64
-        requires { (stepping_of self.now).is_key key.now ≡ true }
-        ensures value { result ≡ state_size ((stepping_of self.now).state_of key.now) }
-        ensures bound { result < 2 ^ 35 }
+    pub fn size(key: &[u32]) -> u64
+        ensures { result ≡ size_of key.now }
     {
-        8 + 4 * (key.len() - 2) as u64
+        keys::size_of(key)
     }
 }
 

@@ -6,7 +6,7 @@ use Rattle.rx_stepper.specs.Keys.{spelled}
 use Rattle.rx_stepper.specs.Steppers.{stepping_of}
 use Rattle.rx_stepper.specs.Units.{units_of}
 use Rattle.rx_stepper.proofs.GroupLoop.{stand}
-use Rattle.rx_stepper.proofs.KeyLaws.{one_key_each}
+use Rattle.rx_stepper.proofs.KeyLaws.{few_spelled, ids_spelled, one_key_each, spelled_label, spelled_size, spelled_small, spells}
 use Rattle.rx_stepper.proofs.StepLaws.{dead_steps}
 use Rattle.rx_stepper.proofs.UnitCounts.{units_counted}
 use Rattle.rx_stepper.proofs.stepper.Stepper.new.Goals as goal
@@ -41,3 +41,15 @@ pub returns-clause-one_key : goal.returns-clause-one_key
 unfolding stepping_of
 returns-clause-one_key c = λ j k is_j is_k same.
     one_key_each (meaning c.in_ok-new.field-0.nfa.now).rows j k is_j is_k same
+
+pub returns-clause-spells : goal.returns-clause-spells
+unfolding stepping_of
+returns-clause-spells c =
+    let rows = (meaning c.in_ok-new.field-0.nfa.now).rows in
+    record {
+      label = λ key is_key. spelled_label key;
+      are_ids = λ key is_key. ids_spelled (spells rows key is_key);
+      few = λ key is_key. few_spelled (spells rows key is_key);
+      size = λ key is_key. spelled_size (spells rows key is_key);
+      small = λ key is_key. spelled_small (spells rows key is_key);
+    }
