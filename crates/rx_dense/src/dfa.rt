@@ -219,11 +219,12 @@ impl<T: WordStore> DFA<T> {
         4 * (self.words().len() + self.start_ids().len() + lists + 1 + 2 * accels)
     }
 
-    /// The words of the rows.
+    /// The words of the rows, each row's next ids and zeros up to the stride.
     #[inline(always)]
-    pub(crate) fn words(&self) -> &[u32]
+    pub fn words(&self) -> &[u32]
         ensures value { result.now ≡ self.now.words }
         ensures rows { AreRows self.now }
+        ensures starts { AreStarts self.now }
     {
         self.words.words()
     }
