@@ -1,0 +1,59 @@
+use Rattle.std.proofs.Common.{◌≡◌, ◌<◌, ◌∙◌, ℕ, All, Vec, Global, length, sym, subst, arith}
+use Rattle.rx_base.proofs.Classes.{alphabet_len-le}
+use Rattle.rx_refine.specs.Moves.{Moves, AreAlikeByNumber, AreToldByNumber}
+use Rattle.rx_dense.specs.Layouts.{Layout, table_of}
+use Rattle.rx_minimize.specs.Blocks.{AreBlocks}
+use Rattle.rx_minimize.specs.LabelNumbers.{AreByLabel}
+use Rattle.rx_minimize.proofs.ColumnMoves.{AreMovesOf, entries_below, fourth, reads_few, refined}
+use Rattle.rx_minimize.proofs.Shaped.{rows_few}
+use Rattle.rx_minimize.proofs.blocks.blocks.Goals as goal
+
+pub from_ids-requires-clause-ids : goal.from_ids-requires-clause-ids
+from_ids-requires-clause-ids c =
+    rw (c.stride2.ensures.value, c.state_len.ensures.value, c.alphabet_len.ensures, c.words.ensures.value)
+    (entries_below c.args.dfa.now c.state_len.ensures.rows)
+
+pub refine-requires-clause-room : goal.refine-requires-clause-room
+refine-requires-clause-room c =
+    let rows = c.state_len.ensures.rows in
+    let few = rows_few c.args.dfa.now rows in
+    let small = alphabet_len-le c.args.dfa.now.classes rows.classes in
+    let reads =
+    reads_few c.in_ok-incoming.incoming (omega (arith, few, c.in_ok-incoming.ensures.rows, c.state_len.ensures.value))
+    (omega (arith, small, c.in_ok-incoming.ensures.units, c.alphabet_len.ensures)) in
+    omega (arith, c.new-steps.ensures, reads)
+
+pub returns-clause-blocks : goal.returns-clause-blocks
+returns-clause-blocks c =
+    let l : Layout = c.args.dfa.now in
+    let m : Moves = c.in_ok-incoming.incoming in
+    let of : AreMovesOf l m =
+    record {
+      rows = c.in_ok-incoming.ensures.rows ∙ c.state_len.ensures.value;
+      units = c.in_ok-incoming.ensures.units ∙ c.alphabet_len.ensures;
+      nexts = (rw (
+        c.stride2.ensures.value,
+        c.state_len.ensures.value,
+        c.alphabet_len.ensures,
+        c.words.ensures.value,
+      ) at c.in_ok-incoming.ensures.next);
+    } in
+    fourth c.refine.result (λ (blocks : Vec ℕ Global). length blocks.items ≡ m.rows)
+    (λ (blocks : Vec ℕ Global). AreAlikeByNumber m c.deref.result.now blocks.items)
+    (λ (blocks : Vec ℕ Global). AreToldByNumber m c.deref.result.now blocks.items)
+    (λ (blocks : Vec ℕ Global). AreBlocks (table_of l) blocks.items)
+    (λ (blocks : Vec ℕ Global) count alike told.
+    refined l c.state_len.ensures.rows c.requires.is_table m c.deref.result.now blocks.items of
+    (subst (AreByLabel (table_of l)) (sym c.deref.ensures.value) c.in_ok-labels.ensures.numbered) count alike told)
+    c.refine.ensures.len c.refine.ensures.alike c.refine.ensures.told
+
+pub returns-clause-below : goal.returns-clause-below
+returns-clause-below c =
+    let m : Moves = c.in_ok-incoming.incoming in
+    fourth c.refine.result (λ (blocks : Vec ℕ Global). length blocks.items ≡ m.rows)
+    (λ (blocks : Vec ℕ Global). All (λ block. block < m.rows) blocks.items)
+    (λ (blocks : Vec ℕ Global). All (λ block. block < m.rows) blocks.items)
+    (λ (blocks : Vec ℕ Global). All (λ block. block < length blocks.items) blocks.items)
+    (λ (blocks : Vec ℕ Global) count below _.
+    subst (λ n. All (λ block. block < n) blocks.items) (sym count) below)
+    c.refine.ensures.len c.refine.ensures.numbers c.refine.ensures.numbers
