@@ -74,23 +74,27 @@ by_column l rows m labels of labelled = record {
   labelled = labelled;
 }
 
-pub refined : (l : Layout) → AreRows l → IsTable (table_of l) → (m : Moves) (labels blocks : List ℕ) → AreMovesOf l m
-    → AreByLabel (table_of l) labels → length blocks ≡ m.rows → AreAlikeByNumber m labels blocks
-    → AreToldByNumber m labels blocks → AreBlocks (table_of l) blocks
-refined l rows is m labels blocks of labelled count alike told =
+-- the blocks of a refinement
+pub record AreRefined (m : Moves) (labels blocks : List ℕ) : Type 0 where
+  pub count : length blocks ≡ m.rows
+  pub alike : AreAlikeByNumber m labels blocks
+  pub told : AreToldByNumber m labels blocks
+
+pub refined : (l : Layout) → AreRows l → IsTable (table_of l) → {m : Moves} {labels blocks : List ℕ} → AreMovesOf l m
+    → AreByLabel (table_of l) labels → AreRefined m labels blocks → AreBlocks (table_of l) blocks
+refined l rows is {m} {labels} {blocks} of labelled are =
     let by = by_column l rows m labels of labelled in
     record {
-      count = count ∙ of.rows;
+      count = are.count ∙ of.rows;
       alike = λ x y lx ly e.
           alike_by_units (table_of l) m labels (column l) is.nexts by x y lx ly
-          ((alike x y (omega (arith, of.rows)) (omega (arith, of.rows))).0 e);
+          ((are.alike x y (omega (arith, of.rows)) (omega (arith, of.rows))).0 e);
       told = λ x y lx ly ne.
           told_by_units (table_of l) m labels (column l) is.nexts by x y lx ly
-          (told x y (omega (arith, of.rows)) (omega (arith, of.rows)) ne);
+          (are.told x y (omega (arith, of.rows)) (omega (arith, of.rows)) ne);
     }
 
--- three facts of what is answered give a fourth
-pub fourth : {T E : Type 0} (r : Result T E) (A B C P : T → Type 0) → ((x : T) → A x → B x → C x → P x) → IfOk r A
-    → IfOk r B → IfOk r C → IfOk r P
-fourth (Ok x) A B C P f a b c = f x a b c
-fourth (Err e) A B C P f a b c = tt
+-- two facts of what is answered are both facts of it
+pub both : {T E : Type 0} (r : Result T E) (A B : T → Type 0) → IfOk r A → IfOk r B → IfOk r (λ x. A x × B x)
+both (Ok x) A B a b = (a, b)
+both (Err e) A B a b = tt

@@ -28,7 +28,8 @@ module _ (t : Table) (m : Moves) (labels : List ℕ) (column_of : ℕ → ℕ)
   run_columns row [] l w = run-nil t.machine.next row
   run_columns row (unit ∷ word) l w =
       run-cons t.machine.next row unit word
-      ∙ run_columns (t.machine.next row unit) word (nexts row unit l (IsWord-head unit word w)) (IsWord-tail unit word w)
+      ∙ run_columns (t.machine.next row unit) word (nexts row unit l (IsWord-head unit word w))
+      (IsWord-tail unit word w)
       ∙ ap (λ r. row_after m r (map column_of word)) (by.nexts row unit l (IsWord-head unit word w))
 
   -- each word of columns is that of some units

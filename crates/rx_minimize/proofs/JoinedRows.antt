@@ -68,7 +68,7 @@ pub renamed_rows : (l : Layout) (ids : List ℕ) (r : Layout) → r ≡ renamed 
 renamed_rows l ids r e =
     ap₂ (λ (n s : ℕ). n / 2 ^ s) (renamed_count l ids r e) (ap (λ (l : Layout). l.stride2) e)
 
-module _ (l : Layout) (rows ids : List ℕ) (r m : Layout) (s : AreSteps l rows ids r m) where
+module _ {l : Layout} {rows ids : List ℕ} {r m : Layout} (s : AreSteps l rows ids r m) where
   pub stride_is : stride m ≡ stride l
   stride_is = ap (λ (l : Layout). stride l) s.kept ∙ ap (λ (l : Layout). stride l) s.renamed_is
 
@@ -134,7 +134,8 @@ module _ (l : Layout) (rows ids : List ℕ) (r m : Layout) (s : AreSteps l rows 
 
   room : length rows * stride m ≤ length m.words
   room =
-      let fits = mul-le (length rows) (stride m) (row_count m) (stride m) (omega (arith, s.new.within, rows_is)) (omega arith) in
+      let within : length rows ≤ row_count m = omega (arith, s.new.within, rows_is) in
+      let fits = mul-le (length rows) (stride m) (row_count m) (stride m) within (omega arith) in
       omega (arith, fits, div-add-mod' (length m.words) (stride m))
 
   next_is : IsMachineRenamed l r ids → (q : Layout) → q ≡ with_rows m (length rows) → (place unit : ℕ)

@@ -14,7 +14,8 @@ use Rattle.rx_spec.specs.Tables.{Table, is_match, is_match_label}
 use Rattle.rx_spec.specs.declared.Start.{Start}
 use Rattle.rx_search.specs.Labels.{label_patterns, patterns_of}
 use Rattle.rx_dense.specs.Builder.{slices_from, with_patterns}
-use Rattle.rx_dense.specs.Layouts.{Layout, AreStarts, context_number, machine_of, mode_place, patterns_at, place_in_range}
+use Rattle.rx_dense.specs.Layouts.{Layout, AreStarts, context_number, machine_of, mode_place, patterns_at}
+use Rattle.rx_dense.specs.Layouts.{place_in_range}
 use Rattle.rx_dense.specs.Layouts.{row_count, stride, table_of}
 use Rattle.rx_dense.specs.Specials.{is_match_id, is_quit_id}
 use Rattle.rx_dense.specs.declared.special.Special.{Special}
@@ -27,8 +28,10 @@ use Rattle.rx_minimize.specs.Blocks.{AreBlocks, AreRenumbered}
 use Rattle.rx_minimize.specs.Joined.{IsJoinedBy}
 use Rattle.rx_minimize.specs.Quotient.{IsQuotient}
 use Rattle.rx_minimize.specs.Ranges.{AreKeptPatterns, AreKeptSpecials}
-use Rattle.rx_minimize.proofs.KeptRanges.{SamePlaces, ends_are, inside_parts, kept_test, no_ends, not_dead, rows_inside, same_places, times_above}
-use Rattle.rx_minimize.proofs.Quotients.{AreNumbered, first_below, first_number, first_one, first_zero, number_one, number_zero}
+use Rattle.rx_minimize.proofs.KeptRanges.{AreKeptRows, SamePlaces, ends_are, inside_parts, kept_test, no_ends}
+use Rattle.rx_minimize.proofs.KeptRanges.{not_dead, rows_inside, same_places, times_above}
+use Rattle.rx_minimize.proofs.Quotients.{AreNumbered, first_below, first_number, first_one, first_zero, number_one}
+use Rattle.rx_minimize.proofs.Quotients.{number_zero}
 
 -- what is known of a table, and what the calls leave of it
 pub record IsMinimizing (old : Layout) (blocks numbers firsts ids : List ℕ) (lists : List (List ℕ)) (special : Special)
@@ -86,6 +89,14 @@ module _ {old : Layout} {blocks numbers firsts ids : List ℕ} {lists : List (Li
   pub some : 0 < stride old
   some = pow_pos old.stride2
 
+  pub kept_rows : AreKeptRows (stride old) firsts
+  kept_rows = record {
+    some = some;
+    dead = first_zero numbered;
+    quit = first_one numbered;
+    rising = s.renumbered.are_firsts.rising;
+  }
+
   pub size : row_count left ≡ length firsts
   size = ap (λ n. n / stride old) s.joined.count ∙ mul-div_cancel (length firsts) some
 
@@ -140,7 +151,7 @@ module _ {old : Layout} {blocks numbers firsts ids : List ℕ} {lists : List (Li
 
   pub kept_matches : (k : ℕ) → k < length firsts
       → is_match_id special (k * stride old) ≡ is_match_id old.special (first k * stride old)
-  kept_matches k h = kept_test some (first_zero numbered) s.specials.matches k h
+  kept_matches k h = kept_test kept_rows s.specials.matches k h
 
   pub match_before : (row : ℕ) → is_match before row ≡ is_match_id old.special (row * stride old)
   match_before row =
@@ -177,23 +188,24 @@ module _ {old : Layout} {blocks numbers firsts ids : List ℕ} {lists : List (Li
 
   place_is : (k : ℕ) → from ≤ k → k < end → place_in_range left special.min_match (k * stride old) ≡ k - from
   place_is k low high =
-      let ends = ends_are some (first_zero numbered) s.specials.matches (omega arith) in
+      let ends = ends_are kept_rows s.specials.matches (omega arith) in
       ap (λ first. (k * stride old - first) / stride old) ends.0 ∙ place_from from k (stride old) some low
 
   count_is : match_count left ≡ length lists
   count_is =
       ⊎_elim
       (λ (h : from < end).
-      let ends = ends_are some (first_zero numbered) s.specials.matches h in
+      let ends = ends_are kept_rows s.specials.matches h in
       let last : place_in_range left special.min_match special.max_match ≡ end - 1 - from =
       ap (place_in_range left special.min_match) ends.1 ∙ place_is (end - 1) (omega arith) (omega arith) in
       let behind = match_behind h in
-      let other : special.min_match ≡ 0 → ⊥ = λ e. absurd (omega (arith, e, ends.0, times_above (stride old) 0 from some behind)) in
+      let above = times_above (stride old) 0 from some behind in
+      let other : special.min_match ≡ 0 → ⊥ = λ e. absurd (omega (arith, e, ends.0, above)) in
       ap (λ b. if b then 0 else place_in_range left special.min_match special.max_match + 1)
       (ne_eqb special.min_match 0 other)
       ∙ omega (arith, last, lists_count))
       (λ (h : end ≤ from).
-      let ends = no_ends some (first_zero numbered) s.specials.matches h in
+      let ends = no_ends kept_rows s.specials.matches h in
       ap (λ b. if b then 0 else place_in_range left special.min_match special.max_match + 1)
       (eq-eqb special.min_match 0 ends.0)
       ∙ omega (arith, lists_count))
@@ -202,7 +214,7 @@ module _ {old : Layout} {blocks numbers firsts ids : List ℕ} {lists : List (Li
       match_behind : from < end → 0 < from
       match_behind h =
           let within = s.specials.matches.places.within in
-          not_dead some (first_zero numbered) s.specials.matches from (omega arith) (omega arith) h
+          not_dead kept_rows s.specials.matches from (omega arith) (omega arith) h
 
   pub lists_are : match_lists left ≡ lists
   lists_are =
@@ -244,7 +256,7 @@ module _ {old : Layout} {blocks numbers firsts ids : List ℕ} {lists : List (Li
       by_match : (b : Bool) → is_match_id special (row * stride old) ≡ b
           → after.machine.label row ≡ before.machine.label (first row)
       by_match true e =
-          let at = rows_inside some (first_zero numbered) s.specials.matches row
+          let at = rows_inside kept_rows s.specials.matches row
           (inside_parts special.min_match special.max_match (row * stride old) e) in
           let matches : is_match before (first row) ≡ true = match_before (first row) ∙ sym (kept_matches row h) ∙ e in
           ap (λ b. if b then Label.Matches (patterns_at left (place_in_range left special.min_match (row * stride old)))

@@ -64,8 +64,15 @@ times_above width a b some h = omega (arith, row_fits a width b width h (omega a
 
 -- ---- a range that is kept
 
-module _ {width : ℕ} {rows : List ℕ} {old_first old_last first last : ℕ} (some : 0 < width)
-    (dead : slice_index rows 0 ≡ 0) (kept : IsKeptRange width rows old_first old_last first last) where
+-- rising rows that are left, dead and quit among them
+pub record AreKeptRows (width : ℕ) (rows : List ℕ) : Type 0 where
+  pub some : 0 < width
+  pub dead : slice_index rows 0 ≡ 0
+  pub quit : slice_index rows 1 ≡ 1
+  pub rising : (j k : ℕ) → j < k → k < length rows → slice_index rows j < slice_index rows k
+
+module _ {width : ℕ} {rows : List ℕ} {old_first old_last first last : ℕ} (are : AreKeptRows width rows)
+    (kept : IsKeptRange width rows old_first old_last first last) where
   abbrev from : ℕ
   from = kept.from
 
@@ -83,7 +90,7 @@ module _ {width : ℕ} {rows : List ℕ} {old_first old_last first last : ℕ} (
   not_dead k h low high =
       ⊎_elim
       (λ (zero : k ≡ 0).
-      let none : was k ≡ 0 = ap was zero ∙ ap (λ r. r * width) dead ∙ omega arith in
+      let none : was k ≡ 0 = ap was zero ∙ ap (λ r. r * width) are.dead ∙ omega arith in
       absurd ((was_inside k h low high).some none))
       (λ (other : k ≡ 0 → ⊥). omega (arith, other))
       (cases_eq k 0)
@@ -95,7 +102,7 @@ module _ {width : ℕ} {rows : List ℕ} {old_first old_last first last : ℕ} (
       (λ (is : (from < end) × (first ≡ from * width) × (last ≡ (end - 1) * width)). record {
         from = omega (arith, is.1, times_rise width from k low);
         to = omega (arith, is.2, times_rise width k (end - 1) (omega (arith, high)));
-        some = λ e. omega (arith, e, times_above width 0 k some above);
+        some = λ e. omega (arith, e, times_above width 0 k are.some above);
       })
       kept.ids
 
@@ -104,8 +111,8 @@ module _ {width : ℕ} {rows : List ℕ} {old_first old_last first last : ℕ} (
       ⊎_elim
       (λ (none : (end ≤ from) × (first ≡ 0) × (last ≡ 0)). absurd (h.some (omega (arith, h.to, none.2))))
       (λ (is : (from < end) × (first ≡ from * width) × (last ≡ (end - 1) * width)). (
-        times_least width from k some (omega (arith, is.1, h.from)),
-        (let low : k ≤ end - 1 = times_least width k (end - 1) some (omega (arith, is.2, h.to)) in
+        times_least width from k are.some (omega (arith, is.1, h.from)),
+        (let low : k ≤ end - 1 = times_least width k (end - 1) are.some (omega (arith, is.2, h.to)) in
             let g : k < end = omega (arith, low, is.0) in g),
       ))
       kept.ids
@@ -120,8 +127,8 @@ module _ {width : ℕ} {rows : List ℕ} {old_first old_last first last : ℕ} (
       inside_from (inside_rows k at.0 at.1 (not_dead k h at.0 at.1)))
 
   pub is_range : (l : Layout) → IsRange l old_first old_last → (m : Layout) → stride l ≡ width → stride m ≡ width
-      → row_count m ≡ length rows → slice_index rows 1 ≡ 1 → IsRange m first last
-  is_range l range m old_width new_width count quit =
+      → row_count m ≡ length rows → IsRange m first last
+  is_range l range m old_width new_width count =
       ⊎_elim
       (λ (none : (end ≤ from) × (first ≡ 0) × (last ≡ 0)). inl (none.1, none.2))
       (λ (is : (from < end) × (first ≡ from * width) × (last ≡ (end - 1) * width)).
@@ -137,7 +144,7 @@ module _ {width : ℕ} {rows : List ℕ} {old_first old_last first last : ℕ} (
       let behind : 1 < from =
       ⊎_elim
       (λ (one : from ≡ 1).
-      let there : was from ≡ width = ap was one ∙ ap (λ r. r * width) quit ∙ omega arith in
+      let there : was from ≡ width = ap was one ∙ ap (λ r. r * width) are.quit ∙ omega arith in
       absurd (omega (arith, past, there)))
       (λ (other : from ≡ 1 → ⊥). (let g : 1 < from = omega (arith, zero, other) in g))
       (cases_eq from 1) in
@@ -146,7 +153,7 @@ module _ {width : ℕ} {rows : List ℕ} {old_first old_last first last : ℕ} (
       subst (λ w. IsRowId m (k * w)) new_width (IsRowId-row m k (omega (arith, count, b))) in
       row_id in
       inr (
-        omega (arith, is.1, new_width, times_above width 1 from some behind),
+        omega (arith, is.1, new_width, times_above width 1 from are.some behind),
         omega (arith, is.1, is.2, times_rise width from (end - 1) (omega (arith, is.0))),
         subst (IsRowId m) (sym is.1) (id from (omega (arith, within, is.0))),
         subst (IsRowId m) (sym is.2) (id (end - 1) (omega (arith, within, is.0))),
@@ -154,24 +161,23 @@ module _ {width : ℕ} {rows : List ℕ} {old_first old_last first last : ℕ} (
       kept.ids
 
   -- rows that lay behind the range lie behind it
-  pub past_range : ((j k : ℕ) → j < k → k < length rows → slice_index rows j < slice_index rows k) → (k : ℕ)
-      → k < length rows → 0 < k → old_last < was k → last < k * width
-  past_range rising k h above past =
+  pub past_range : (k : ℕ) → k < length rows → 0 < k → old_last < was k → last < k * width
+  past_range k h above past =
       ⊎_elim
       (λ (none : (end ≤ from) × (first ≡ 0) × (last ≡ 0)).
-      (let g : last < k * width = omega (arith, none.2, times_above width 0 k some above) in g))
+      (let g : last < k * width = omega (arith, none.2, times_above width 0 k are.some above) in g))
       (λ (is : (from < end) × (first ≡ from * width) × (last ≡ (end - 1) * width)).
       let within = kept.places.within in
       let there = was_inside (end - 1) (omega (arith, within, is.0)) (omega (arith, is.0)) (omega (arith, is.0)) in
       let behind : end - 1 < k =
       ⊎_elim
       (λ (low : k < end - 1).
-      let less = rising k (end - 1) low (omega (arith, within, is.0)) in
+      let less = are.rising k (end - 1) low (omega (arith, within, is.0)) in
       absurd (omega (
         arith,
         there.to,
         past,
-        times_above width (slice_index rows k) (slice_index rows (end - 1)) some
+        times_above width (slice_index rows k) (slice_index rows (end - 1)) are.some
             less,
       )))
       (λ (high : end - 1 ≤ k).
@@ -180,7 +186,7 @@ module _ {width : ℕ} {rows : List ℕ} {old_first old_last first last : ℕ} (
       (λ (other : k ≡ end - 1 → ⊥). (let g : end - 1 < k = omega (arith, high, other) in g))
       (cases_eq k (end - 1)))
       (cases_lt k (end - 1)) in
-      (let g : last < k * width = omega (arith, is.2, times_above width (end - 1) k some behind) in g))
+      (let g : last < k * width = omega (arith, is.2, times_above width (end - 1) k are.some behind) in g))
       kept.ids
 
   -- its ends, where it has rows
@@ -196,17 +202,6 @@ module _ {width : ℕ} {rows : List ℕ} {old_first old_last first last : ℕ} (
       ⊎_elim
       (λ (none : (end ≤ from) × (first ≡ 0) × (last ≡ 0)). (none.1, none.2))
       (λ (is : (from < end) × (first ≡ from * width) × (last ≡ (end - 1) * width)). absurd (omega (arith, h, is.0)))
-      kept.ids
-
-  -- there are no rows in it where there were none
-  pub none_kept : old_first ≡ 0 → old_last ≡ 0 → (first ≡ 0) × (last ≡ 0)
-  none_kept f l =
-      ⊎_elim
-      (λ (none : (end ≤ from) × (first ≡ 0) × (last ≡ 0)). (none.1, none.2))
-      (λ (is : (from < end) × (first ≡ from * width) × (last ≡ (end - 1) * width)).
-      let within = kept.places.within in
-      let here = was_inside from (omega (arith, within, is.0)) (omega arith) is.0 in
-      absurd (here.some (omega (arith, here.to, l))))
       kept.ids
 
 -- ---- places
@@ -226,7 +221,8 @@ same_places {width} {rows} {first} {last} {from} {end} {other_from} {other_end} 
     let other_within = b.within in
     let first_there = carried from (omega (arith, within, some)) (omega arith) some in
     let last_there = carried (end - 1) (omega (arith, within, some)) (omega (arith, some)) (omega (arith, some)) in
-    let first_here = back other_from (omega (arith, other_within, first_there)) (omega arith) (omega (arith, first_there)) in
+    let first_here = back other_from (omega (arith, other_within, first_there)) (omega arith)
+    (omega (arith, first_there)) in
     let last_here = back (other_end - 1) (omega (arith, other_within, first_there)) (omega (arith, first_there))
     (omega (arith, first_there)) in
     record {
@@ -240,7 +236,8 @@ same_places {width} {rows} {first} {last} {from} {end} {other_from} {other_end} 
           let other_within = b.within in
           let here = back other_from (omega (arith, other_within, some)) (omega arith) some in
           absurd (omega (arith, here, none)))
-          (λ (also : other_end ≤ other_from). (let g : end - from ≡ other_end - other_from = omega (arith, none, also) in g))
+          (λ (also : other_end ≤ other_from).
+          (let g : end - from ≡ other_end - other_from = omega (arith, none, also) in g))
           (cases_lt other_from other_end);
       first = λ h. absurd (omega (arith, none, h));
     })

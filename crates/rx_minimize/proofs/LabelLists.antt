@@ -180,19 +180,28 @@ module _ (lists : List (List ℕ)) (distinct : AllPairs (λ key other. key ≢ o
 
 -- ---- one row's label
 
--- a list gets a number of those that there are then
-pub interned_below : (old new : List (List ℕ)) (key : List ℕ) (id : ℕ) (is_new : Bool)
-    → new ≡ (if is_new then old ++ key ∷ [] else old) → slice_get new id ≡ Some key → id ≤ length old
-interned_below old new key id true e at =
-    omega (arith, slice_get_within new id key at, ap length e, length-append old (key ∷ []))
-interned_below old new key id false e at = omega (arith, slice_get_within new id key at, ap length e)
+-- a list is among others, or is added to them
+pub record IsInterned (old new : List (List ℕ)) (key : List ℕ) (id : ℕ) : Type 0 where
+  pub is_new : Bool
+  pub keys : new ≡ (if is_new then old ++ key ∷ [] else old)
+  pub there : slice_get new id ≡ Some key
 
-pub match_added : (label : Label) → is_match_label label ≡ true → (old new : List (List ℕ)) (key : List ℕ) (id : ℕ)
-    (is_new : Bool) → key ≡ label_patterns label → new ≡ (if is_new then old ++ key ∷ [] else old)
-    → slice_get new id ≡ Some key → AddsLabel old label (2 + id) new
-match_added Label.Plain e old new key id is_new k n at = absurd cc
-match_added Label.Quits e old new key id is_new k n at = absurd cc
-match_added (Label.Matches ks) e old new key id true k n at =
-    record { added = inr (n ∙ ap (λ k. old ++ k ∷ []) k); number_is = (id, refl, at ∙ ap Some k) }
-match_added (Label.Matches ks) e old new key id false k n at =
-    record { added = inl n; number_is = (id, refl, at ∙ ap Some k) }
+-- it gets a number of those that there are then
+pub interned_below : {old new : List (List ℕ)} {key : List ℕ} {id : ℕ} → IsInterned old new key id → id ≤ length old
+interned_below {old} {new} {key} {id} h = by_new h.is_new h.keys
+  where
+    by_new : (is_new : Bool) → new ≡ (if is_new then old ++ key ∷ [] else old) → id ≤ length old
+    by_new true e = omega (arith, slice_get_within new id key h.there, ap length e, length-append old (key ∷ []))
+    by_new false e = omega (arith, slice_get_within new id key h.there, ap length e)
+
+pub match_added : {old new : List (List ℕ)} {key : List ℕ} {id : ℕ} → IsInterned old new key id → (label : Label)
+    → is_match_label label ≡ true → key ≡ label_patterns label → AddsLabel old label (2 + id) new
+match_added h Label.Plain e k = absurd cc
+match_added h Label.Quits e k = absurd cc
+match_added {old} {new} {key} {id} h (Label.Matches ks) e k =
+    record { added = by_new h.is_new h.keys; number_is = (id, refl, h.there ∙ ap Some k) }
+  where
+    by_new : (is_new : Bool) → new ≡ (if is_new then old ++ key ∷ [] else old)
+        → (new ≡ old) ⊎ (new ≡ old ++ ks ∷ [])
+    by_new true n = inr (n ∙ ap (λ (k : List ℕ). old ++ k ∷ []) k)
+    by_new false n = inl n

@@ -23,7 +23,8 @@ use Rattle.rx_order.proofs.Moved.{factor}
 use Rattle.rx_order.proofs.Shuffled.{any_contains}
 use Rattle.rx_minimize.proofs.KeptRanges.{ends_are, inside_parts, is_range, kept_test, no_ends, not_dead, nothing}
 use Rattle.rx_minimize.proofs.KeptRanges.{past_range, same_test, times_above, was_inside}
-use Rattle.rx_minimize.proofs.JoinedTables.{IsMinimizing, after, before, first, id_is, kept_matches, label_is, left, number}
+use Rattle.rx_minimize.proofs.JoinedTables.{IsMinimizing, after, before, first, id_is, kept_matches, kept_rows}
+use Rattle.rx_minimize.proofs.JoinedTables.{label_is, left, number}
 use Rattle.rx_minimize.proofs.JoinedTables.{match_before, numbered, size, some, starts_len}
 use Rattle.rx_minimize.proofs.Quotients.{first_below, first_number, first_one, first_zero, label_first, number_one}
 use Rattle.rx_minimize.proofs.Quotients.{number_zero}
@@ -109,14 +110,16 @@ module _ {old : Layout} {blocks numbers firsts ids : List ℕ} {lists : List (Li
   first_starts k row high h low is e =
       let above = and_parts (nat_lt 1 row) (list_any (λ id. id == row * stride old) old.starts) e in
       let behind : 1 < row = behind_one in
-      let least : first s k ≤ row = omega (arith, ap (first s) is, s.renumbered.first_least row (omega (arith, count))) in
+      let least : first s k ≤ row =
+      omega (arith, ap (first s) is, s.renumbered.first_least row (omega (arith, count))) in
       let rise = s.in_order.ordered.kinds (first s k) row least low in
       let label : is_match (before s) (first s k) ≡ false =
       ap is_match_label (ap (λ j. (before s).machine.label (first s j)) (sym is) ∙ label_first (numbered s) row low
       ∙ start_plain row e) in
       let kind : kind_of old row ≡ 6 =
       kind_high row (is_match (before s) row) ((before s).is_accelerated row) (is_start_row old row) behind
-      ∙ ap (λ b. high_kind b ((before s).is_accelerated row) (is_start_row old row)) (ap is_match_label (start_plain row e))
+      ∙ ap (λ b. high_kind b ((before s).is_accelerated row) (is_start_row old row))
+      (ap is_match_label (start_plain row e))
       ∙ ap₂ (λ (a b : Bool). high_kind false a b) (none_before row) e in
       let own : kind_of old (first s k) ≡ high_kind false false (is_start_row old (first s k)) =
       kind_high (first s k) (is_match (before s) (first s k)) ((before s).is_accelerated (first s k))
@@ -229,7 +232,7 @@ module _ {old : Layout} {blocks numbers firsts ids : List ℕ} {lists : List (Li
 
   kept_starts : (k : ℕ) → k < length firsts
       → is_start_id special (k * stride old) ≡ is_start_id old.special (first s k * stride old)
-  kept_starts k h = kept_test width (first_zero (numbered s)) s.specials.starts k h
+  kept_starts k h = kept_test (kept_rows s) s.specials.starts k h
 
   pub marked : (k : ℕ) → k < length firsts → (after s).is_start k ≡ (is_marked old && is_start_row (left s) k)
   marked k h =
@@ -253,15 +256,15 @@ module _ {old : Layout} {blocks numbers firsts ids : List ℕ} {lists : List (Li
       marked k h
       ∙ ap (λ b. b && is_start_row (left s) k) (was_marked has ∙ sym (is_left has)))
       (λ (none : end ≤ from).
-      let ends = no_ends width (first_zero (numbered s)) s.specials.starts none in
+      let ends = no_ends (kept_rows s) s.specials.starts none in
       ap₂ (λ (a b : ℕ). is_in_range a b (k * stride old)) ends.0 ends.1 ∙ nothing (k * stride old)
       ∙ sym (ap (λ n. not (n == 0) && is_start_row (left s) k) ends.0))
       (cases_lt from end)
     where
       is_left : from < end → is_marked (left s) ≡ true
       is_left has =
-          let ends = ends_are width (first_zero (numbered s)) s.specials.starts has in
-          let above = not_dead width (first_zero (numbered s)) s.specials.starts from (omega (arith, within, has))
+          let ends = ends_are (kept_rows s) s.specials.starts has in
+          let above = not_dead (kept_rows s) s.specials.starts from (omega (arith, within, has))
           (omega arith) has in
           let other : special.min_start ≡ 0 → ⊥ =
           λ e. absurd (omega (arith, e, ends.0, times_above (stride old) 0 from width above)) in
@@ -269,7 +272,7 @@ module _ {old : Layout} {blocks numbers firsts ids : List ℕ} {lists : List (Li
 
       was_marked : from < end → is_marked old ≡ true
       was_marked has =
-          let there = was_inside width (first_zero (numbered s)) s.specials.starts from (omega (arith, within, has))
+          let there = was_inside (kept_rows s) s.specials.starts from (omega (arith, within, has))
           (omega arith) has in
           ⊎_elim
           (λ (none : (old.special.min_start ≡ 0) × (old.special.max_start ≡ 0)).
@@ -300,12 +303,12 @@ module _ {old : Layout} {blocks numbers firsts ids : List ℕ} {lists : List (Li
         (first_below (numbered s) y y_in)));
     quit = s.specials.quit;
     matches =
-        is_range width (first_zero (numbered s)) s.specials.matches old s.in_order.ordered.matches (left s) refl refl
-        (size s) (first_one (numbered s));
+        is_range (kept_rows s) s.specials.matches old s.in_order.ordered.matches (left s) refl refl
+        (size s);
     accels = inl (s.specials.min_accel, s.specials.max_accel);
     starts =
-        is_range width (first_zero (numbered s)) s.specials.starts old s.in_order.ordered.starts (left s) refl refl
-        (size s) (first_one (numbered s));
+        is_range (kept_rows s) s.specials.starts old s.in_order.ordered.starts (left s) refl refl
+        (size s);
     max = s.specials.max;
     marks = λ row b. marks row (omega (arith, size s));
   }
@@ -322,7 +325,8 @@ module _ {old : Layout} {blocks numbers firsts ids : List ℕ} {lists : List (Li
       let one : row ≡ 1 → ⊥ = λ e. absurd (omega (arith, e, past)) in
       let ordinary : nat_le (row * stride old) old.special.max ≡ false =
       s.in_order.sound.special row (first_below (numbered s) k h)
-      ∙ ap₂ (λ (a b : Bool). a || b || is_match (before s) row || (before s).is_accelerated row || (before s).is_start row)
+      ∙ ap₂ (λ (a b : Bool). a || b || is_match (before s) row || (before s).is_accelerated row
+      || (before s).is_start row)
       (ne_eqb row 0 zero) (ne_eqb row 1 one)
       ∙ ap₂ (λ (a b : Bool). a || b || (before s).is_start row) (sym (match_is k h) ∙ no_match) (none_before row)
       ∙ sym (kept_starts k h) ∙ no_start in
@@ -335,9 +339,9 @@ module _ {old : Layout} {blocks numbers firsts ids : List ℕ} {lists : List (Li
       let old_max = s.in_order.ordered.max in
       let above : 0 < k = omega arith in
       let matches =
-      past_range width (first_zero (numbered s)) s.specials.matches rises k h above (omega (arith, behind, old_max)) in
+      past_range (kept_rows s) s.specials.matches k h above (omega (arith, behind, old_max)) in
       let starts =
-      past_range width (first_zero (numbered s)) s.specials.starts rises k h above (omega (arith, behind, old_max)) in
+      past_range (kept_rows s) s.specials.starts k h above (omega (arith, behind, old_max)) in
       let quit = times_above (stride old) 1 k width high in
       omega (arith, s.specials.max, s.specials.quit, s.specials.max_accel, matches, starts, quit)
 

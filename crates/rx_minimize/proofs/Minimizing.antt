@@ -9,10 +9,12 @@ use Rattle.rx_spec.specs.Tables.{IsSound, IsTable}
 use Rattle.rx_dense.specs.Layouts.{Layout, place_in_range, row_count, stride, universal_row}
 use Rattle.rx_dense.specs.declared.special.Special.{Special}
 use Rattle.rx_minimize.specs.Minimized.{AnyMode, IsMinimized}
-use Rattle.rx_minimize.proofs.JoinedTables.{IsMinimizing, after, before, first, joined_lists, left, lists_are, number, numbered}
+use Rattle.rx_minimize.proofs.JoinedTables.{IsMinimizing, after, before, first, joined_lists, left, lists_are}
+use Rattle.rx_minimize.proofs.JoinedTables.{number, numbered}
 use Rattle.rx_minimize.proofs.JoinedTables.{quotient, size}
 use Rattle.rx_minimize.proofs.LeftKinds.{marked, none_accelerated, ordered, special_is}
-use Rattle.rx_minimize.proofs.Quotients.{first_below, label_first, number_below, number_is_one, quotient_apart, quotient_is_table}
+use Rattle.rx_minimize.proofs.Quotients.{first_below, label_first, number_below, number_is_one, quotient_apart}
+use Rattle.rx_minimize.proofs.Quotients.{quotient_is_table}
 use Rattle.rx_minimize.proofs.Quotients.{quotient_reached, quotient_same}
 
 module _ {old : Layout} {blocks numbers firsts ids : List ℕ} {lists : List (List ℕ)} {special : Special} {new : Layout}

@@ -71,7 +71,9 @@ module _ {blocks : List ℕ} {row : ℕ} {names numbers firsts : List ℕ} (h : 
       count = omega (arith, length-append numbers (name ∷ []), h.count);
       few = omega (arith, h.few);
       named = λ x l.
-          ⊎_elim (λ (e : x ≡ row). subst (λ x. slice_index names (slice_index blocks x) ≡ slice_index more x) (sym e) (sym last))
+          ⊎_elim
+          (λ (e : x ≡ row).
+          subst (λ x. slice_index names (slice_index blocks x) ≡ slice_index more x) (sym e) (sym last))
           (λ (ne : x ≡ row → ⊥). h.named x (omega arith) ∙ sym (before x (omega arith)))
           (cases_eq x row);
       below = λ x l.
@@ -248,7 +250,8 @@ all_named {blocks} {row} {names} {numbers} {firsts} all fits h = record {
     in_row : {x : ℕ} → x < length blocks → x < row
     in_row l = omega (arith, all)
 
-    own : (x : ℕ) → x < length blocks → slice_index blocks (slice_index firsts (slice_index numbers x)) ≡ slice_index blocks x
+    own : (x : ℕ) → x < length blocks
+        → slice_index blocks (slice_index firsts (slice_index numbers x)) ≡ slice_index blocks x
     own x l =
         let named = h.named x (in_row l) in
         ⊎_elim

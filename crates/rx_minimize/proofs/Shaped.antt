@@ -14,7 +14,8 @@ use Rattle.rx_minimize.specs.Ranges.{ArePlaces}
 
 -- each row but the first has an id, which is at least the row's number
 pub rows_few : (l : Layout) → AreRows l → row_count l ≤ 2147483647
-rows_few l rows = ⊎_elim small (λ h. (let g : row_count l ≤ 2147483647 = omega arith in g)) (cases_lt 2147483647 (row_count l))
+rows_few l rows =
+    ⊎_elim small (λ h. (let g : row_count l ≤ 2147483647 = omega arith in g)) (cases_lt 2147483647 (row_count l))
   where
     small : 2147483647 < row_count l → row_count l ≤ 2147483647
     small h =
@@ -39,7 +40,8 @@ pub empty_range : {l : Layout} {first last : ℕ} → IsRange l first last → f
 empty_range {l} {first} {last} range zero =
     ⊎_elim
     (λ (none : (first ≡ 0) × (last ≡ 0)). none.1)
-    (λ (is : (stride l < first) × (first ≤ last) × IsRowId l first × IsRowId l last). absurd (omega (arith, zero, is.0)))
+    (λ (is : (stride l < first) × (first ≤ last) × IsRowId l first × IsRowId l last).
+    absurd (omega (arith, zero, is.0)))
     range
 
 -- and begins at a row

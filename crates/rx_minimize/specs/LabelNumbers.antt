@@ -7,7 +7,8 @@ use Rattle.rx_spec.specs.Tables.{Table}
 abbrev pub HasNumber : List (List ℕ) → Label → ℕ → Type 0
 HasNumber lists Label.Plain number = number ≡ 0
 HasNumber lists Label.Quits number = number ≡ 1
-HasNumber lists (Label.Matches patterns) number = (place : ℕ) × (number ≡ 2 + place) × (slice_get lists place ≡ Some patterns)
+HasNumber lists (Label.Matches patterns) number =
+    (place : ℕ) × (number ≡ 2 + place) × (slice_get lists place ≡ Some patterns)
 
 -- the patterns of a match row are added to the lists, where they aren't there yet
 abbrev pub AddsPatterns : List (List ℕ) → Label → List (List ℕ) → Type 0

@@ -13,9 +13,9 @@ AnyMode mode = Unit {0}
 abbrev pub AreReachedRows : List Anchored → Table → Type 0
 AreReachedRows modes t = (row : ℕ) → 1 < row → row < t.size → IsReachedRow (Contains modes) t row
 
--- Every word has the label from each start that it had, and a word tells any two rows apart. Where all rows were reached, all
--- are. The table is sound and its rows in order, none accelerated, and starts are marked where they were; of the rest
--- nothing is changed.
+-- Every word has the label from each start that it had, and a word tells any two rows apart. Where all rows were
+-- reached, all are. The table is sound and its rows in order, none accelerated, and starts are marked where they were;
+-- of the rest nothing is changed.
 pub record IsMinimized (old new : Layout) : Type 0 where
   pub same : SameLabels AnyMode (table_of new).machine (table_of old).machine
   pub apart : (x y : ℕ) → x < row_count new → y < row_count new → x ≢ y → AreToldApart (table_of new) x y

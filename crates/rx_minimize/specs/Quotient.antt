@@ -16,7 +16,8 @@ pub record AreMovesByColumn (t : Table) (m : Moves) (labels : List ℕ) (column_
   pub labelled : (x y : ℕ) → x < t.size → y < t.size
       → (slice_index labels x ≡ slice_index labels y) ↔ (t.machine.label x ≡ t.machine.label y)
 
--- The first row of each block is left, at the place of the block's number; what led to a row leads to its block's number.
+-- The first row of each block is left, at the place of the block's number; what led to a row leads to its block's
+-- number.
 pub record IsQuotient (t : Table) (numbers firsts : List ℕ) (q : Table) : Type 0 where
   pub size : q.size ≡ length firsts
   pub entries : (mode : Anchored) (start : Start)

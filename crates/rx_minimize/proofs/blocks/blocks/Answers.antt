@@ -1,10 +1,11 @@
-use Rattle.std.proofs.Common.{◌≡◌, ◌<◌, ◌∙◌, ℕ, All, Vec, Global, length, sym, subst, arith}
+use Rattle.std.proofs.Common.{◌≡◌, ◌<◌, ◌∙◌, ℕ, All, Vec, Global, List, length, sym, subst, arith}
+use Rattle.std.proofs.lemmas.Result.{IfOk-weaker}
 use Rattle.rx_base.proofs.Classes.{alphabet_len-le}
 use Rattle.rx_refine.specs.Moves.{Moves, AreAlikeByNumber, AreToldByNumber}
 use Rattle.rx_dense.specs.Layouts.{Layout, table_of}
 use Rattle.rx_minimize.specs.Blocks.{AreBlocks}
 use Rattle.rx_minimize.specs.LabelNumbers.{AreByLabel}
-use Rattle.rx_minimize.proofs.ColumnMoves.{AreMovesOf, entries_below, fourth, reads_few, refined}
+use Rattle.rx_minimize.proofs.ColumnMoves.{AreMovesOf, both, entries_below, reads_few, refined}
 use Rattle.rx_minimize.proofs.Shaped.{rows_few}
 use Rattle.rx_minimize.proofs.blocks.blocks.Goals as goal
 
@@ -38,22 +39,27 @@ returns-clause-blocks c =
         c.words.ensures.value,
       ) at c.in_ok-incoming.ensures.next);
     } in
-    fourth c.refine.result (λ (blocks : Vec ℕ Global). length blocks.items ≡ m.rows)
-    (λ (blocks : Vec ℕ Global). AreAlikeByNumber m c.deref.result.now blocks.items)
-    (λ (blocks : Vec ℕ Global). AreToldByNumber m c.deref.result.now blocks.items)
+    let result = c.refine.result in
+    let labels : List ℕ = c.deref.result.now in
+    let labelled = subst (AreByLabel (table_of l)) (sym c.deref.ensures.value) c.in_ok-labels.ensures.numbered in
+    let alike = λ (blocks : Vec ℕ Global). AreAlikeByNumber m labels blocks.items in
+    let told = λ (blocks : Vec ℕ Global). AreToldByNumber m labels blocks.items in
+    let count = λ (blocks : Vec ℕ Global). length blocks.items ≡ m.rows in
+    IfOk-weaker result (λ (blocks : Vec ℕ Global). (alike blocks × told blocks) × count blocks)
     (λ (blocks : Vec ℕ Global). AreBlocks (table_of l) blocks.items)
-    (λ (blocks : Vec ℕ Global) count alike told.
-    refined l c.state_len.ensures.rows c.requires.is_table m c.deref.result.now blocks.items of
-    (subst (AreByLabel (table_of l)) (sym c.deref.ensures.value) c.in_ok-labels.ensures.numbered) count alike told)
-    c.refine.ensures.len c.refine.ensures.alike c.refine.ensures.told
+    (λ blocks are.
+    refined l c.state_len.ensures.rows c.requires.is_table of labelled
+    (record { count = are.1; alike = are.0.0; told = are.0.1 }))
+    (both result (λ (blocks : Vec ℕ Global). alike blocks × told blocks) count
+    (both result alike told c.refine.ensures.alike c.refine.ensures.told) c.refine.ensures.len)
 
 pub returns-clause-below : goal.returns-clause-below
 returns-clause-below c =
     let m : Moves = c.in_ok-incoming.incoming in
-    fourth c.refine.result (λ (blocks : Vec ℕ Global). length blocks.items ≡ m.rows)
-    (λ (blocks : Vec ℕ Global). All (λ block. block < m.rows) blocks.items)
-    (λ (blocks : Vec ℕ Global). All (λ block. block < m.rows) blocks.items)
+    let result = c.refine.result in
+    let below = λ (blocks : Vec ℕ Global). All (λ block. block < m.rows) blocks.items in
+    let count = λ (blocks : Vec ℕ Global). length blocks.items ≡ m.rows in
+    IfOk-weaker result (λ (blocks : Vec ℕ Global). below blocks × count blocks)
     (λ (blocks : Vec ℕ Global). All (λ block. block < length blocks.items) blocks.items)
-    (λ (blocks : Vec ℕ Global) count below _.
-    subst (λ n. All (λ block. block < n) blocks.items) (sym count) below)
-    c.refine.ensures.len c.refine.ensures.numbers c.refine.ensures.numbers
+    (λ (blocks : Vec ℕ Global) are. subst (λ n. All (λ block. block < n) blocks.items) (sym are.1) are.0)
+    (both result below count c.refine.ensures.numbers c.refine.ensures.len)

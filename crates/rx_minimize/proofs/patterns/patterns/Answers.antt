@@ -1,5 +1,5 @@
-use Rattle.std.proofs.Common.{◌≡◌, ◌+◌, ◌-◌, ◌*◌, ◌^◌, ◌<◌, ◌≤◌, ◌∙◌, ◌++◌, [], ◌∷◌, ℕ, List, All, map, slice_index, ap, ap₂}
-use Rattle.std.proofs.Common.{inr, sym, subst, arith}
+use Rattle.std.proofs.Common.{◌≡◌, ◌+◌, ◌-◌, ◌*◌, ◌^◌, ◌<◌, ◌≤◌, ◌∙◌, ◌++◌, [], ◌∷◌, ℕ, List, All}
+use Rattle.std.proofs.Common.{map, slice_index, ap, ap₂, inr, sym, subst, arith}
 use Rattle.std.specs.BTreeMap.{keys}
 use Rattle.std.specs.List.{range_with_len}
 use Rattle.std.specs.Map.{keys_of, values_of}
@@ -49,10 +49,11 @@ patterns_of_row-requires-clause-is_match c =
     let id : c.must-id.result ≡ row * stride l =
     c.must-id.ensures ∙ rw c.stride2-stride2.ensures.value n.shifted in
     let own : row_of (ids_of l) c.must-id.result ≡ row = ap (row_of (ids_of l)) id ∙ n.row_is in
-    let places : ArePlaces (stride l) c.args.firsts.now l.special.min_match l.special.max_match from end =
-    subst (λ k. ArePlaces (2 ^ k) c.args.firsts.now l.special.min_match l.special.max_match from end)
+    let rows = c.args.firsts.now in
+    let places : ArePlaces (stride l) rows l.special.min_match l.special.max_match from end =
+    subst (λ k. ArePlaces (2 ^ k) rows l.special.min_match l.special.max_match from end)
     c.stride2-stride2.ensures.value
-    (subst (λ (s : Special). ArePlaces (2 ^ c.stride2-stride2.result) c.args.firsts.now s.min_match s.max_match from end)
+    (subst (λ (s : Special). ArePlaces (2 ^ c.stride2-stride2.result) rows s.min_match s.max_match from end)
     c.special-special.ensures c.places-first.ensures) in
     ap (is_match (table_of l)) own ∙ match_there l places place c.loop-place.auto.place c.loop-place-test.true
 

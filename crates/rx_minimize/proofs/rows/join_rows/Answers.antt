@@ -1,7 +1,8 @@
 use Rattle.std.proofs.Common.{ap, sym, subst, length, arith}
 use Rattle.rx_dense.specs.Layouts.{Layout, stride}
 use Rattle.rx_minimize.specs.Blocks.{AreFirsts}
-use Rattle.rx_minimize.proofs.JoinedRows.{AreSteps, all_ids, joined, renamed_count, renamed_rows, rows_is, starts_below, words_below}
+use Rattle.rx_minimize.proofs.JoinedRows.{AreSteps, all_ids, joined, renamed_count, renamed_rows, rows_is}
+use Rattle.rx_minimize.proofs.JoinedRows.{starts_below, words_below}
 use Rattle.rx_minimize.proofs.rows.join_rows.Goals as goal
 
 pub remap-requires-clause-ids : goal.remap-requires-clause-ids
@@ -36,16 +37,12 @@ truncate_states-requires-clause-within c =
       kept = c.move_rows.ensures.rest;
       moved = c.move_rows.ensures.moved;
     } in
-    omega (
-      arith,
-      rows_is c.args.dfa.now c.args.firsts.now c.args.ids.now c.remap.new.self c.move_rows.new.dfa s,
-      c.requires.ids.within,
-    )
+    omega (arith, rows_is s, c.requires.ids.within)
 
 pub truncate_states-requires-clause-rows : goal.truncate_states-requires-clause-rows
 truncate_states-requires-clause-rows c =
-    words_below c.args.dfa.now c.args.firsts.now c.args.ids.now c.remap.new.self c.move_rows.new.dfa
-    (record {
+    let s : AreSteps c.args.dfa.now c.args.firsts.now c.args.ids.now c.remap.new.self c.move_rows.new.dfa =
+    record {
       are_rows = c.requires.rows;
       are_starts = c.requires.starts;
       firsts = c.requires.firsts;
@@ -54,12 +51,13 @@ truncate_states-requires-clause-rows c =
       renamed_is = c.remap.ensures.value;
       kept = c.move_rows.ensures.rest;
       moved = c.move_rows.ensures.moved;
-    })
+    } in
+    words_below s
 
 pub truncate_states-requires-clause-starts : goal.truncate_states-requires-clause-starts
 truncate_states-requires-clause-starts c =
-    starts_below c.args.dfa.now c.args.firsts.now c.args.ids.now c.remap.new.self c.move_rows.new.dfa
-    (record {
+    let s : AreSteps c.args.dfa.now c.args.firsts.now c.args.ids.now c.remap.new.self c.move_rows.new.dfa =
+    record {
       are_rows = c.requires.rows;
       are_starts = c.requires.starts;
       firsts = c.requires.firsts;
@@ -68,12 +66,13 @@ truncate_states-requires-clause-starts c =
       renamed_is = c.remap.ensures.value;
       kept = c.move_rows.ensures.rest;
       moved = c.move_rows.ensures.moved;
-    })
+    } in
+    starts_below s
 
 pub returns : goal.returns
 returns c =
-    joined c.args.dfa.now c.args.firsts.now c.args.ids.now c.remap.new.self c.move_rows.new.dfa
-    (record {
+    let s : AreSteps c.args.dfa.now c.args.firsts.now c.args.ids.now c.remap.new.self c.move_rows.new.dfa =
+    record {
       are_rows = c.requires.rows;
       are_starts = c.requires.starts;
       firsts = c.requires.firsts;
@@ -82,4 +81,5 @@ returns c =
       renamed_is = c.remap.ensures.value;
       kept = c.move_rows.ensures.rest;
       moved = c.move_rows.ensures.moved;
-    }) c.remap.ensures.machine c.truncate_states.new.self c.truncate_states.ensures
+    } in
+    joined s c.remap.ensures.machine c.truncate_states.new.self c.truncate_states.ensures
