@@ -12,7 +12,7 @@ use Rattle.rx_minimize.specs.Minimized.{AnyMode, IsMinimized}
 use Rattle.rx_minimize.proofs.JoinedTables.{IsMinimizing, after, before, first, joined_lists, left, lists_are}
 use Rattle.rx_minimize.proofs.JoinedTables.{number, numbered}
 use Rattle.rx_minimize.proofs.JoinedTables.{quotient, size}
-use Rattle.rx_minimize.proofs.LeftKinds.{marked, none_accelerated, ordered, special_is}
+use Rattle.rx_minimize.proofs.LeftKinds.{marked, none_accelerated, ordered, special_is, start_row_is}
 use Rattle.rx_minimize.proofs.Quotients.{first_below, label_first, number_below, number_is_one, quotient_apart}
 use Rattle.rx_minimize.proofs.Quotients.{quotient_is_table}
 use Rattle.rx_minimize.proofs.Quotients.{quotient_reached, quotient_same}
@@ -80,5 +80,9 @@ module _ {old : Layout} {blocks numbers firsts ids : List ℕ} {lists : List (Li
     };
     joined = joined_lists s;
     marked = λ row h. marked s row (in_firsts h);
+    starts =
+        λ row h e.
+        let is = sym (start_row_is s row (in_firsts h)) ∙ e in
+        (first s row, first_below (numbered s) row (in_firsts h), is);
     rest = refl;
   }

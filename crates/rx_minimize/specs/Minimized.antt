@@ -1,5 +1,5 @@
 -- What minimizing leaves: the same labels, and any two rows told apart.
-use Rattle.std.specs.Prelude.{ℕ, ◌≡◌, ◌≢◌, ◌<◌, ◌&&◌, List, Contains}
+use Rattle.std.specs.Prelude.{ℕ, ◌≡◌, ◌≢◌, ◌<◌, ◌&&◌, true, List, Contains}
 use Rattle.rx_spec.specs.Labels.{SameLabels, AreToldApart, IsReachedRow}
 use Rattle.rx_spec.specs.Queries.{Anchored}
 use Rattle.rx_spec.specs.Tables.{Table}
@@ -25,6 +25,9 @@ pub record IsMinimized (old new : Layout) : Type 0 where
   pub joined : AreJoined new
   pub marked : (row : ℕ) → row < row_count new
       → (table_of new).is_start row ≡ (is_marked old && is_start_row new row)
+  -- where a search starts, one did before
+  pub starts : (row : ℕ) → row < row_count new → is_start_row new row ≡ true
+      → (other : ℕ) × (other < row_count old) × (is_start_row old other ≡ true)
   pub rest : new ≡ record old {
     words = new.words;
     starts = new.starts;
