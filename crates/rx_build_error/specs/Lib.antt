@@ -1,0 +1,3 @@
+-- which cause a refusal names
+pub mod Refusals
+
