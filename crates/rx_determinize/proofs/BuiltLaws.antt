@@ -65,10 +65,10 @@ module _ {s : Stepping} {limits : SizeLimits} {met : Met} {l : Layout} (built : 
   count : row_count l ≡ length met.keys + 2
   count = built.entering.working.count
 
-  states_count : length states ≡ length met.keys
+  pub states_count : length states ≡ length met.keys
   states_count = length-map met.keys s.state_of
 
-  rows_count : row_count l ≡ length states + 2
+  pub rows_count : row_count l ≡ length states + 2
   rows_count = omega (arith, count, states_count)
 
   -- ---- starts
@@ -130,7 +130,7 @@ module _ {s : Stepping} {limits : SizeLimits} {met : Met} {l : Layout} (built : 
 
   -- ---- rows
 
-  reached : AreReached b states
+  pub reached : AreReached b states
   reached = ends built.entering.list starts (omega arith) built.entering.working.distinct
 
   low_row : (node : Node) (row : ℕ) → IsRowOf states node row → row < row_count l

@@ -1,9 +1,9 @@
 -- The columns of a table and the units that stand for them.
 use Rattle.std.proofs.Common.{◌≡◌, ℕ, ◌+◌, ◌<◌, ◌≤◌, Bool, true, false, List, [], ◌∷◌, ◌++◌, length, get_or, refl, ap, sym, ◌∙◌}
-use Rattle.std.proofs.Common.{arith, ⊎_elim, eqb, cond}
+use Rattle.std.proofs.Common.{arith, ⊎_elim, eqb, cond, map, append_assoc}
 use Rattle.std.proofs.lemmas.Bool.{cases_lt, cases_eq}
 use Rattle.std.proofs.lemmas.Bool.Decides.{nat_tests}
-use Rattle.std.proofs.lemmas.List.{get_or_append_left, get_or_push}
+use Rattle.std.proofs.lemmas.List.{get_or-map, get_or_append_left, get_or_push, length-map, length_push, map-append}
 use Rattle.std.proofs.lemmas.List.FromFn.{get_or-map-range_with_len}
 use Rattle.std.specs.Prelude.{slice_index}
 use Rattle.rx_spec.specs.Bytes.{eoi}
@@ -14,9 +14,12 @@ use Rattle.rx_base.proofs.Classes.{ends_of-class}
 use Rattle.rx_base.specs.ByteClasses.{AreClasses, ends_of, alphabet_len}
 use Rattle.rx_table_lemmas.proofs.ClassNumbers.{representatives_counted, representative_class, representative_below}
 use Rattle.rx_table_lemmas.proofs.Classes.{column_leads}
+use Rattle.rx_base.specs.Unit.{unit_number}
 use Rattle.rx_dense.specs.Layouts.{Layout, column}
+use Rattle.rx_spec.specs.declared.Unit.{Unit}
 use Rattle.rx_stepper.specs.Stepping.{unit_of}
 use Rattle.rx_determinize.specs.Determinized.{classes_of}
+use Rattle.rx_determinize.specs.Filling.{AreUnits}
 
 column_of_byte : (l : Layout) (unit : ℕ) → unit < 256 → column l unit ≡ slice_index l.classes unit
 column_of_byte l unit h = let ne : eqb unit 256 ≡ false = grind (arith, nat_tests) in
@@ -62,6 +65,30 @@ module _ (l : Layout) (are : AreClasses l.classes) where
       let is_last : c ≡ slice_index l.classes 255 + 1 = omega arith in
       ap (column l) (unit_last c is_last) ∙ sym is_last)
       (cases_lt c (slice_index l.classes 255 + 1))
+
+-- there is a unit for each column
+pub units_count : (l : Layout) (units : List Unit) → AreClasses l.classes → AreUnits units l.classes
+    → length units ≡ alphabet_len l.classes
+units_count l units are is =
+    sym (length-map units unit_number) ∙ ap length is
+    ∙ omega (arith, length_push (representatives (ends_of l.classes)) eoi, counted l are)
+
+-- one more unit
+pub units_more : (units more : List Unit) (unit : Unit) (left rest : List ℕ) {all : List ℕ}
+    → more ≡ units ++ unit ∷ [] → left ≡ unit_number unit ∷ rest → map unit_number units ++ left ≡ all
+    → map unit_number more ++ rest ≡ all
+units_more units more unit left rest pushed first so_far =
+    ap (λ (us : List Unit). map unit_number us ++ rest) pushed
+    ∙ ap (λ (ns : List ℕ). ns ++ rest) (map-append unit_number units (unit ∷ []))
+    ∙ append_assoc (map unit_number units) (unit_number unit ∷ []) rest
+    ∙ ap (λ (ns : List ℕ). map unit_number units ++ ns) (sym first) ∙ so_far
+
+-- that of a column
+pub unit_is : (units : List Unit) (classes : List ℕ) {column : ℕ} {unit : Unit} → AreUnits units classes
+    → column < length units → unit ≡ get_or units column unit → unit_number unit ≡ unit_of classes column
+unit_is units classes {column} {unit} is low here =
+    ap unit_number here ∙ sym (get_or-map unit_number units column unit 0 low)
+    ∙ ap (λ (us : List ℕ). slice_index us column) is
 
 -- the column of a table with an NFA's classes
 pub column_is : (l : Layout) (nfa : Nfa) (quit : ℕ) (byte_classes : Bool) → l.classes ≡ classes_of nfa quit byte_classes

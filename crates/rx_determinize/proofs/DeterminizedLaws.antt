@@ -33,7 +33,7 @@ determinized {b} {begun} {l} {new} {matches} beginning is over has ends =
       special = new.special;
     }) over.rest in
     record {
-      power = permuted_power has s.permuted s.labels;
+      power = permuted_power l new has s.permuted s.labels;
       in_order = record { sound = ends.sound has.routed; ordered = s.ordered; few = ends.joined };
       plain = record {
         accels = ap (λ (k : Layout). k.accels) rest ∙ ap (λ (k : Layout). k.accels) is;

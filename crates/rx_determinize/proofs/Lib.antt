@@ -32,3 +32,7 @@ pub mod LimitLaws
 pub mod DeterminizedLaws
 -- whether an NFA has a Unicode word assertion
 pub mod UnicodeWords
+-- whether a build is supported
+pub mod SupportLaws
+-- the start entries of modes
+pub mod ModeLaws

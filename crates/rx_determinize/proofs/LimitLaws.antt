@@ -1,5 +1,5 @@
 -- What refuses a build, and that nothing does where its table is built.
-use Rattle.std.proofs.Common.{◌≡◌, ℕ, ◌+◌, ◌*◌, ◌/◌, ◌^◌, ◌<◌, ◌≤◌, inl, Bool, true, false, Option, Some, None, List, length}
+use Rattle.std.proofs.Common.{◌≡◌, ℕ, ◌+◌, ◌*◌, ◌/◌, ◌^◌, ◌<◌, ◌≤◌, inl, Bool, true, false, Option, Some, None, List, [], length}
 use Rattle.std.proofs.Common.{map, slice_index, refl, ap, ap₂, sym, ◌∙◌, subst, arith}
 use Rattle.std.proofs.lemmas.List.{length-map, length-replicate}
 use Rattle.std.proofs.lemmas.List.FromFn.{get_or-map-range_with_len}
@@ -13,21 +13,43 @@ use Rattle.rx_spec.specs.Sizes.{build_alphabet, build_stride, determinizer_size,
 use Rattle.rx_spec.specs.Sizes as sizes
 use Rattle.rx_spec.specs.States.{State}
 use Rattle.rx_spec.specs.declared.Form.{Form}
-use Rattle.rx_base.specs.ByteClasses.{alphabet_len}
-use Rattle.rx_dense.specs.Layouts.{Layout, row_count, start_entries, stride}
+use Rattle.rx_base.specs.ByteClasses.{AreClasses, alphabet_len}
+use Rattle.rx_dense.specs.Builder.{Beginning}
+use Rattle.rx_dense.proofs.Shaped.{shaped_initial}
+use Rattle.rx_dense.specs.Layouts.{Layout, AreRows, row_count, start_entries, stride}
 use Rattle.rx_table_lemmas.proofs.Sizes.{determinizer_grows, exceeds_exactly, ids_grow, labels_grow, table_grows}
 use Rattle.rx_build_error.specs.Refusals.{IsRefused, TableRefused}
 use Rattle.rx_build_error.specs.declared.BuildErrorKind.{BuildErrorKind}
-use Rattle.rx_stepper.specs.Stepping.{Stepping}
+use Rattle.rx_expr.specs.NfaRows.{NamesPatterns}
+use Rattle.rx_order.specs.Ordering.{Matches}
+use Rattle.rx_stepper.specs.Stepping.{SpellStates, Stepping}
 use Rattle.rx_determinize.specs.Determinized.{IsBegunWith, Settings, build_in, classes_of, limits_of}
-use Rattle.rx_determinize.specs.Filling.{IsStartedOver}
+use Rattle.rx_determinize.specs.Building.{HasStates}
+use Rattle.rx_determinize.specs.Filling.{IsEntering, IsStartedOver}
+use Rattle.rx_determinize.specs.Matching.{AreLabels}
 use Rattle.rx_determinize.specs.Working.{IsOver, Keying, Met, SizeLimits, keying, states_of}
-use Rattle.rx_determinize.proofs.BuiltLaws.{IsBuilt, reached, rows_count, states_count}
+use Rattle.rx_determinize.proofs.BuiltLaws.{IsBuilt, has_states, reached, rows_count, states_count}
+use Rattle.rx_determinize.proofs.StartLaws.{entering_begun}
 use Rattle.rx_determinize.proofs.SteppingLaws.{over_kept}
 
 -- the limits of settings
 abbrev pub limits_in : Settings → SizeLimits
 limits_in settings = record { table = settings.dfa_size_limit; construction = settings.determinize_size_limit }
+
+pub not_unsupported : {b : Build} → IsSupported b → IsUnsupported b → ⊥
+not_unsupported supported un = un.lacks (supported un.looks)
+
+-- how a table is begun
+abbrev pub beginning_of : Nfa → Settings → Bool → Layout → Beginning
+beginning_of nfa settings byte_classes l = record {
+  classes = classes_of nfa settings.quit byte_classes;
+  pattern_len = length nfa.start_patterns;
+  start_kind = l.start_kind;
+  line_terminator = nfa.line_terminator;
+  pattern_starts = is_some l.pattern_starts;
+  quit = settings.quit;
+  flags = l.flags;
+}
 
 -- a table that is begun, and what steps states for it
 pub record Begins (s : Stepping) (nfa : Nfa) (settings : Settings) (byte_classes : Bool) (l : Layout) : Type 0 where
@@ -57,6 +79,23 @@ module _ {s : Stepping} {nfa : Nfa} {settings : Settings} {byte_classes : Bool} 
       ap (λ (n : Layout). n.classes) x.begun
       ∙ ap₂ (λ (n : Nfa) (quit : ℕ). classes_of n quit byte_classes) (sym x.nfa_is) (sym quit_is)
 
+  abbrev beginning : Beginning
+  beginning = beginning_of nfa settings byte_classes l
+
+  pub begun_rows : AreClasses l.classes → NamesPatterns (length nfa.start_patterns) nfa.rows → AreRows l
+  begun_rows are names =
+      let same = ap (λ (n : Layout). n.classes) x.begun in
+      let few : length nfa.start_patterns ≤ 2147483647 = omega (arith, names.few) in
+      subst AreRows (sym x.begun) (shaped_initial beginning (subst AreClasses same are) few).rows
+
+  -- no state was met
+  pub begun_entering : (limits : SizeLimits) (met : Met) → met ≡ record { keys = []; size = 0; patterns = 0 }
+      → AreClasses l.classes → NamesPatterns (length nfa.start_patterns) nfa.rows
+      → IsEntering (keying s l) limits met l 0 0
+  begun_entering limits met none are names =
+      subst (λ (m : Met). IsEntering (keying s l) limits m l 0 0) (sym none)
+      (entering_begun (keying s l) limits beginning l x.begun (begun_rows are names))
+
   -- ---- sizes
 
   pub stride_is : stride l ≡ build_stride b byte_classes
@@ -80,6 +119,15 @@ module _ {s : Stepping} {nfa : Nfa} {settings : Settings} {byte_classes : Bool} 
       at : (c : Bool) → (if c then Some (length nfa.start_patterns) else None) ≡ Some n → n ≡ length nfa.start_patterns
       at true e = cc
       at false e = absurd (cc)
+
+  pub start_patterns_are : IfSome l.pattern_starts (λ n. n ≡ length nfa.start_patterns)
+  start_patterns_are =
+      at l.pattern_starts (λ n e. patterns_are n e ∙ ap (λ (m : Nfa). length m.start_patterns) x.nfa_is)
+    where
+      at : (o : Option ℕ) → ((n : ℕ) → o ≡ Some n → n ≡ length nfa.start_patterns)
+          → IfSome o (λ n. n ≡ length nfa.start_patterns)
+      at None f = tt
+      at (Some n) f = f n refl
 
   pub all_patterns : l.pattern_len ≡ length s.nfa.start_patterns
   all_patterns =
@@ -124,6 +172,22 @@ module _ {s : Stepping} {nfa : Nfa} {settings : Settings} {byte_classes : Bool} 
 
   -- ---- a build that is done
 
+  -- what the construction leaves
+  pub built_of : {met : Met} (m : Layout) {limits : SizeLimits} → IsStartedOver l m
+      → IsEntering (keying s m) limits met m (length m.starts) (length met.keys) → SpellStates s
+      → NamesPatterns (length nfa.start_patterns) nfa.rows → IsBuilt s limits met m
+  built_of {met} m {limits} over entering spells names =
+      let own = ap (λ (n : Layout). n.pattern_starts) over.rest in
+      record {
+        entering = entering;
+        spells = spells;
+        named =
+            subst (λ (n : Nfa). NamesPatterns (length n.start_patterns) n.rows) (sym x.nfa_is) names;
+        pattern_len = ap (λ (n : Layout). n.pattern_len) over.rest ∙ all_patterns;
+        entries = over.count ∙ entries_are ∙ ap start_entries (sym own);
+        patterns = λ n e. patterns_are n (sym own ∙ e);
+      }
+
   module _ {met : Met} {m : Layout} (over : IsStartedOver l m) (built : IsBuilt s (limits_in settings) met m) where
     abbrev states : List State
     states = states_of (keying s m) met
@@ -147,6 +211,9 @@ module _ {s : Stepping} {nfa : Nfa} {settings : Settings} {byte_classes : Bool} 
 
     keys : length states ≡ length met.keys
     keys = states_count built
+
+    pub states_in : {matches : Matches} → AreLabels met.keys m matches → HasStates b m matches
+    states_in {matches} labels = subst (λ (c : Build). HasStates c m matches) same_build (has_states built labels)
 
     pub fits : IsSupported b → BuildFits (limits_of settings byte_classes) b
     fits supported = record {

@@ -1,12 +1,12 @@
 -- The patterns of match rows, key by key.
 use Rattle.std.proofs.Common.{◌≡◌, ◌≢◌, ℕ, zero, suc, ◌+◌, ◌*◌, ◌<◌, ◌≤◌, ◌==◌, false, Option, Some, None, List, []}
-use Rattle.std.proofs.Common.{◌∷◌, ◌++◌, length, map, get_or, length-append, refl, ap, sym, ◌∙◌, subst, arith, ⊎_elim}
+use Rattle.std.proofs.Common.{◌∷◌, ◌++◌, length, map, get_or, take, length-append, refl, ap, sym, ◌∙◌, subst, arith, ⊎_elim}
 use Rattle.std.proofs.lemmas.Bool.{cases_eq, cases_lt, ne_eqb}
-use Rattle.std.proofs.lemmas.List.{length_push, get_or_push}
+use Rattle.std.proofs.lemmas.List.{length_push, get_or_push, length-take-le, take_more}
 use Rattle.std.proofs.lemmas.List.Folds.{concat-append}
 use Rattle.std.proofs.lemmas.List.Sums.{sum_by_push}
 use Rattle.std.proofs.lemmas.Nat.{pow_pos, row_fits}
-use Rattle.std.proofs.lemmas.Option.{slice_get-get_or, slice_get_within}
+use Rattle.std.proofs.lemmas.Option.{get_or_from_slice_get, slice_get-get_or, slice_get_within}
 use Rattle.std.specs.BTreeMap.{Updates, get, insert_entry, is_at}
 use Rattle.std.specs.List.{concat}
 use Rattle.std.specs.Map.{keys_of, lookup, values_of}
@@ -25,7 +25,7 @@ use Rattle.rx_determinize.proofs.CellLaws.{one_place}
 use Rattle.rx_determinize.proofs.WorkListLaws.{old_key, slice_get-append}
 
 -- the rows of two places are apart
-one_row : (l : Layout) (p q : ℕ) → (p + 2) * stride l ≡ (q + 2) * stride l → p ≡ q
+pub one_row : (l : Layout) (p q : ℕ) → (p + 2) * stride l ≡ (q + 2) * stride l → p ≡ q
 one_row l p q e =
     let some = pow_pos l.stride2 in
     let ids : (p + 2) * stride l + 0 ≡ (q + 2) * stride l + 0 = omega arith in
@@ -164,3 +164,33 @@ module _ {keys : List (List ℕ)} {l : Layout} {matches : Matches} (are : AreLab
 
       last_one : (xs : List ℕ) → length (concat (xs ∷ [])) ≡ length xs
       last_one xs = simp length-append (omega arith)
+
+-- ---- by places
+
+taken : (keys : List (List ℕ)) (place : ℕ) (key : List ℕ) → slice_get keys place ≡ Some key
+    → take (place + 1) keys ≡ take place keys ++ key ∷ []
+taken keys place key there =
+    take_more keys place key (slice_get_within keys place key there)
+    ∙ ap (λ (other : List ℕ). take place keys ++ other ∷ []) (get_or_from_slice_get keys place key key there)
+
+pub labels_pass : (keys : List (List ℕ)) {l : Layout} {matches : Matches} (place : ℕ) (key : List ℕ)
+    → slice_get keys place ≡ Some key → label_of key ≡ [] → AreLabels (take place keys) l matches
+    → AreLabels (take (place + 1) keys) l matches
+labels_pass keys {l} {matches} place key there plain are =
+    subst (λ (ks : List (List ℕ)). AreLabels ks l matches) (sym (taken keys place key there))
+    (labels_skip are key plain)
+
+pub labels_at : (keys : List (List ℕ)) {l : Layout} {matches more : Matches} (place : ℕ) (key : List ℕ)
+    (patterns : Vec ℕ Global) (row : ℕ) → slice_get keys place ≡ Some key → patterns.items ≡ label_of key
+    → (length patterns.items ≡ 0 → ⊥) → row ≡ (place + 2) * stride l
+    → Updates nat_cmp matches more row (Some patterns)
+    → more.entries ≡ insert_entry nat_cmp matches.entries row patterns
+    → AreLabels (take place keys) l matches → AreLabels (take (place + 1) keys) l more
+labels_at keys {l} {matches} {more} place key patterns row there label some row_is updates entries are =
+    let low = slice_get_within keys place key there in
+    let count : length (take place keys) ≡ place = length-take-le place keys (omega arith) in
+    let same : row ≡ (length (take place keys) + 2) * stride l = row_is ∙ ap (λ n. (n + 2) * stride l) (sym count) in
+    subst (λ (ks : List (List ℕ)). AreLabels ks l more) (sym (taken keys place key there))
+    (labels_more are key patterns label (omega (arith, some))
+    (subst (λ n. Updates nat_cmp matches more n (Some patterns)) same updates)
+    (entries ∙ ap (λ n. insert_entry nat_cmp matches.entries n patterns) same))

@@ -86,11 +86,11 @@ module _ {numbers : List ℕ} {t u : Table} (p : IsPermuted numbers t u) (states
   abbrev is : IsRenumbered t.size numbers
   is = renumbered p
 
-  pick : (place : ℕ) → (place < t.size) ⊎ (t.size ≤ place) → ℕ
+  pub pick : (place : ℕ) → (place < t.size) ⊎ (t.size ≤ place) → ℕ
   pick place (inl h) = (is.there place h).0
   pick place (inr h) = 0
 
-  row_at : ℕ → ℕ
+  pub row_at : ℕ → ℕ
   row_at place = pick place (cases_lt place t.size)
 
   pick_low : (place : ℕ) (c : (place < t.size) ⊎ (t.size ≤ place)) → place < t.size
@@ -133,7 +133,7 @@ module _ {numbers : List ℕ} {t u : Table} (p : IsPermuted numbers t u) (states
       (λ (h : 2 ≤ row_at (i + 2)). h)
       (cases_lt (row_at (i + 2)) 2)
 
-  state_at : ℕ → State
+  pub state_at : ℕ → State
   state_at i = get_or states (row_at (i + 2) - 2) dead_state
 
   abbrev pub moved : List State
@@ -243,11 +243,11 @@ module _ {numbers : List ℕ} {t u : Table} (p : IsPermuted numbers t u) (states
       behind_number (suc (suc i)) low h = omega arith
 
 -- rows that are put in order
-pub permuted_power : {b : Build} {l new : Layout} {matches : Matches} {numbers : List ℕ} → HasStates b l matches
+pub permuted_power : {b : Build} (l new : Layout) {matches : Matches} {numbers : List ℕ} → HasStates b l matches
     → IsPermuted numbers (table_of l) (table_of new)
     → ((row : ℕ) → row < row_count l → (table_of new).machine.label (slice_index numbers row) ≡ label_by l matches row)
     → IsPower (table_of new) b
-permuted_power {b} {l} {new} {matches} {numbers} has p told =
+permuted_power {b} l new {matches} {numbers} has p told =
     let states = has.states in
     let at = row_at p states has.size in
     let node = moved_node p states has.size in

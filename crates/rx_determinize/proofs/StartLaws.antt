@@ -1,6 +1,6 @@
 -- Start entries that are set, and the states in which searches start.
 use Rattle.std.proofs.Common.{◌≡◌, ◌≢◌, ℕ, zero, suc, ◌+◌, ◌*◌, ◌/◌, ◌%◌, ◌<◌, ◌≤◌, Bool, true, false, Option, Some, None}
-use Rattle.std.proofs.Common.{List, [], ◌∷◌, ◌++◌, length, map, replicate, slice_index, refl, ap, ap₂, sym, ◌∙◌, subst}
+use Rattle.std.proofs.Common.{List, [], ◌∷◌, ◌++◌, length, map, get_or, replicate, slice_index, refl, ap, ap₂, sym, ◌∙◌, subst}
 use Rattle.std.proofs.Common.{arith, ⊎_elim}
 use Rattle.std.proofs.lemmas.Bool.{cases_eq, cases_lt, lt-ltb}
 use Rattle.std.proofs.lemmas.List.{get_or-set_other, get_or-set_same, get_or-replicate, get_or_past}
@@ -8,10 +8,14 @@ use Rattle.std.proofs.lemmas.List.{length-replicate, length-set}
 use Rattle.std.proofs.lemmas.List.Elements.{All-nil, Contains-append_left, Contains-append_right, Contains-get_or}
 use Rattle.std.proofs.lemmas.List.FromFn.{get_or-map-range_with_len, length-map-range_with_len}
 use Rattle.std.proofs.lemmas.Nat.{div-add-mod', div-mul-add, pow_pos}
+use Rattle.std.proofs.lemmas.Option.{slice_get_within}
 use Rattle.std.specs.List.{range_with_len}
 use Rattle.std.specs.Prelude.{All, AllPairs, Contains, IfSome, if◌then◌else◌, nat_lt, slice_get, slice_set}
 use Rattle.rx_spec.specs.Builds.{Build, Node, Running, IsReached, built_entry, built_modes, is_dead_state, pattern_modes}
-use Rattle.rx_spec.specs.Builds.{nfa_start, start_node}
+use Rattle.rx_spec.specs.Builds.{dead, next_node, start_node}
+use Rattle.rx_spec.specs.Nfas.{Nfa}
+use Rattle.rx_spec.specs.Contexts.{all_starts as all_contexts}
+use Rattle.std.specs.Bool.{then_some}
 use Rattle.rx_spec.specs.Queries.{Anchored}
 use Rattle.rx_spec.specs.Starts.{has_anchored, has_unanchored, supports}
 use Rattle.rx_spec.specs.States.{State, start_state}
@@ -23,10 +27,11 @@ use Rattle.rx_dense.specs.Layouts.{Layout, AreRows, IsRowId, column, context_num
 use Rattle.rx_dense.specs.Layouts.{start_id, stride}
 use Rattle.rx_dense.proofs.Shaped.{rows_kept}
 use Rattle.rx_stepper.specs.Stepping.{Stepping}
-use Rattle.rx_determinize.specs.Filling.{IsEntering, IsStartedOver}
+use Rattle.rx_determinize.specs.Filling.{Grows, IsEntering, IsStartedOver, IsWrittenOver}
 use Rattle.rx_determinize.specs.WorkLists.{IsRowOf}
 use Rattle.rx_determinize.specs.Working.{IsBare, IsWorking, Keying, Met, SizeLimits, bytes_of, entry_in, keying, states_of}
 use Rattle.rx_determinize.proofs.CellLaws.{one_place}
+use Rattle.rx_determinize.proofs.FillingLaws.{entering_kept}
 
 -- ---- the place of a start entry
 
@@ -271,7 +276,7 @@ start_reached b mode start row built is alive = record {
   start = start;
   word = [];
   units = IsWord-nil;
-  leads = run-nil _ _ ∙ is;
+  leads = run-nil (next_node b) (built_entry b mode start) ∙ is;
   alive = alive;
 }
 
@@ -334,3 +339,97 @@ entering_begun k limits b l is rows = record {
         ∙ ap (λ n. n / stride (initial b))
         (zero_word (2 * stride (initial b)) (row * stride (initial b) + column (initial b) unit))
         ∙ zero_row (initial b)
+
+-- ---- a start row that was found
+
+-- the row of the node in which a search starts
+pub record IsStartRow (s : Stepping) (limits : SizeLimits) (met : Met) (l : Layout) (node : Node) (after : Met)
+    (m : Layout) (id : ℕ) : Type 0 where
+  pub grows : Grows met l after m
+  pub rest : IsWrittenOver l m
+  pub rows : AreRows m
+  pub working : IsWorking (keying s m) limits after m
+  pub is_row : IsRowOf (states_of (keying s m) after) node (id / stride m)
+
+-- a state is entered, and then a start entry set
+pub start_set : (s : Stepping) {limits : SizeLimits} {met after : Met} {l m n : Layout} (mode : Anchored) (start : Start)
+    {id : ℕ} → IsEntering (keying s l) limits met l (place_of mode start) 0
+    → IsStartRow s limits met l (built_entry (keying s l).build mode start) after m id
+    → place_of mode start < length l.starts → n ≡ with_start m mode start id
+    → IsEntering (keying s n) limits after n (place_of mode start + 1) 0
+start_set s {limits} {met} {after} {l} {m} {n} mode start {id} entering found low is =
+    let same : keying s m ≡ keying s l = ap (keying s) found.rest in
+    let count : length m.starts ≡ length l.starts = ap (λ (k : Layout). length k.starts) found.rest in
+    let working : IsWorking (keying s l) limits after m =
+    subst (λ (k : Keying). IsWorking k limits after m) same found.working in
+    let grown : IsEntering (keying s m) limits after m (place_of mode start) 0 =
+    subst (λ (k : Keying). IsEntering k limits after m (place_of mode start) 0) (sym same)
+    (entering_kept (keying s l) found.grows found.rows working entering) in
+    let leads : IsStart (keying s m) after m mode start id = record {
+      is_row =
+          subst (λ (k : Keying). IsRowOf (states_of (keying s m) after) (built_entry k.build mode start) (id / stride m))
+          (sym same) found.is_row;
+      place_in = omega (arith, count);
+    } in
+    entering_start s leads is grown
+
+pub started_by : (l m n : Layout) (mode : Anchored) (start : Start) (id : ℕ) → IsWrittenOver l m
+    → n ≡ with_start m mode start id → IsStartedOver l n
+started_by l m n mode start id rest is =
+    let starts : List ℕ = slice_set m.starts (place_of mode start) id in
+    started_over l n m.words starts (is ∙ ap (λ (k : Layout). record k { starts = starts }) rest)
+    (length-set m.starts (place_of mode start) id ∙ ap (λ (k : Layout). length k.starts) rest)
+
+-- the state in which a search starts is reached
+pub row_reached : (b : Build) (mode : Anchored) (start : Start) (row : Option ℕ)
+    → IfSome row (λ _. Contains (built_modes b) mode) → built_entry b mode start ≡ start_node b.nfa row start
+    → IfSome row (λ q. is_dead_state (start_state b.nfa q start) ≡ false → IsReached b (start_state b.nfa q start))
+row_reached b mode start None built is = tt
+row_reached b mode start (Some q) built is = λ alive. start_reached b mode start q built is alive
+
+-- the number of each context, by its place
+pub context_at : (i : ℕ) (d : Start) → i < 6 → context_number (get_or all_contexts i d) ≡ i
+context_at zero d low = refl
+context_at (suc zero) d low = refl
+context_at (suc (suc zero)) d low = refl
+context_at (suc (suc (suc zero))) d low = refl
+context_at (suc (suc (suc (suc zero)))) d low = refl
+context_at (suc (suc (suc (suc (suc zero))))) d low = refl
+context_at (suc (suc (suc (suc (suc (suc i)))))) d low = absurd (omega arith)
+
+-- ---- the rows of modes
+
+no_row : (c : Bool) (nfa : Nfa) (row : ℕ) (start : Start)
+    → (if c then start_node nfa (Some row) start else dead) ≡ start_node nfa (then_some c row) start
+no_row true nfa row start = refl
+no_row false nfa row start = refl
+
+where_some : (c : Bool) (row : ℕ) (P : Type 0) → (c ≡ true → P) → IfSome (then_some c row) (λ _. P)
+where_some true row P f = f refl
+where_some false row P f = tt
+
+pub unanchored_row : (b : Build) (start : Start) → built_entry b Anchored.No start
+    ≡ start_node b.nfa (then_some (has_unanchored b.start_kind) b.nfa.start_unanchored) start
+unanchored_row b start = no_row (has_unanchored b.start_kind) b.nfa b.nfa.start_unanchored start
+
+pub anchored_row : (b : Build) (start : Start) → built_entry b Anchored.Yes start
+    ≡ start_node b.nfa (then_some (has_anchored b.start_kind) b.nfa.start_anchored) start
+anchored_row b start = no_row (has_anchored b.start_kind) b.nfa b.nfa.start_anchored start
+
+pub unanchored_built : (b : Build)
+    → IfSome (then_some (has_unanchored b.start_kind) b.nfa.start_unanchored) (λ _. Contains (built_modes b) Anchored.No)
+unanchored_built b = where_some (has_unanchored b.start_kind) b.nfa.start_unanchored _ (has_no b)
+
+pub anchored_built : (b : Build)
+    → IfSome (then_some (has_anchored b.start_kind) b.nfa.start_anchored) (λ _. Contains (built_modes b) Anchored.Yes)
+anchored_built b = where_some (has_anchored b.start_kind) b.nfa.start_anchored _ (has_yes b)
+
+pub pattern_row : (b : Build) (k : ℕ) (start : Start) → b.pattern_starts ≡ true
+    → built_entry b (Anchored.Pattern k) start ≡ start_node b.nfa (slice_get b.nfa.start_patterns k) start
+pattern_row b k start e =
+    ap (λ (c : Bool). if c then start_node b.nfa (slice_get b.nfa.start_patterns k) start else dead) e
+
+pub pattern_built : (b : Build) (k : ℕ) → b.pattern_starts ≡ true → (row : Option ℕ)
+    → slice_get b.nfa.start_patterns k ≡ row → IfSome row (λ _. Contains (built_modes b) (Anchored.Pattern k))
+pattern_built b k e None is = tt
+pattern_built b k e (Some row) is = has_pattern b k e (slice_get_within b.nfa.start_patterns k row is)

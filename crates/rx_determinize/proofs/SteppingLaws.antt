@@ -1,23 +1,30 @@
 -- A state that is stepped column by column: what is kept where states are entered, and where a cell is set.
-use Rattle.std.proofs.Common.{◌≡◌, ℕ, ◌+◌, ◌*◌, ◌/◌, ◌%◌, ◌<◌, ◌≤◌, true, false, Bool, Option, Some, None, List, ◌++◌}
-use Rattle.std.proofs.Common.{length, replicate, refl, ap, sym, ◌∙◌, subst, arith}
+use Rattle.std.proofs.Common.{◌≡◌, ℕ, ◌+◌, ◌*◌, ◌/◌, ◌%◌, ◌<◌, ◌≤◌, true, false, Bool, Option, Some, None, List, [], ◌++◌}
+use Rattle.std.proofs.Common.{length, replicate, refl, ap, ap₂, sym, ◌∙◌, subst, arith}
 use Rattle.std.proofs.lemmas.List.{length-set}
 use Rattle.std.proofs.lemmas.List.Elements.{All-get_or}
 use Rattle.std.proofs.lemmas.Option.{get_or_from_slice_get, slice_get_within}
-use Rattle.std.specs.Prelude.{IfSome, if◌then◌else◌, slice_set, []}
-use Rattle.rx_spec.specs.Builds.{Running, IsReached, next_node}
+use Rattle.std.specs.Prelude.{IfSome, if◌then◌else◌, slice_get, slice_set}
+use Rattle.rx_spec.specs.Builds.{Node, Quit, Running, IsReached, next_node}
+use Rattle.rx_spec.specs.Bytes.{contains}
 use Rattle.rx_spec.specs.Causes.{Exceeds, max_id}
+use Rattle.rx_spec.specs.Nfas.{Nfa}
 use Rattle.rx_spec.specs.Sizes.{last_id, table_size}
+use Rattle.rx_spec.specs.declared.Unit.{Unit}
 use Rattle.rx_dense.specs.Builder.{with_next, with_row}
 use Rattle.rx_dense.specs.Layouts.{Layout, AreRows, IsRowId, column, row_count, stride}
 use Rattle.rx_base.specs.ByteClasses.{alphabet_len}
 use Rattle.rx_build_error.specs.declared.BuildErrorKind.{BuildErrorKind}
-use Rattle.rx_stepper.specs.Stepping.{Stepping, stepped, unit_of}
+use Rattle.rx_stepper.specs.Stepping.{HasOneKeyEach, SpellStates, Stepping, stepped, unit_of}
 use Rattle.rx_determinize.specs.Adding.{Adds}
-use Rattle.rx_determinize.specs.Filling.{Grows, IsEntering, IsFilling, IsStepped, IsStepping, IsWrittenOver, Progress}
-use Rattle.rx_determinize.specs.WorkLists.{IsRowOf}
+use Rattle.rx_determinize.specs.Determinized.{classes_of}
+use Rattle.rx_determinize.specs.Filling.{AreUnits, Grows, IsAnother, IsEntering, IsFilling, IsStartedOver, IsStepped}
+use Rattle.rx_determinize.specs.Filling.{IsStepping, IsWrittenOver, Progress, Suits}
+use Rattle.rx_determinize.specs.WorkLists.{IsRowOf, nodes}
 use Rattle.rx_determinize.specs.Working.{IsOver, IsWorking, Keying, Met, SizeLimits, keying, states_of}
 use Rattle.rx_determinize.proofs.ColumnLaws.{unit_in, unit_column}
+use Rattle.rx_determinize.proofs.NextLaws.{leads_on}
+use Rattle.rx_determinize.proofs.RowIds.{row_of_id}
 use Rattle.rx_determinize.proofs.FillingLaws.{IsSet, entering_kept, entering_set, filling_kept, filling_set}
 
 -- ---- tables of which words were written
@@ -36,6 +43,47 @@ adds_over {met} {after} {l} {m} adds = at adds.interns.is_new adds.layout
     at : (is_new : Bool) → m ≡ (if is_new then with_row l else l) → IsWrittenOver l m
     at true is = written_over l m (l.words ++ replicate (stride l) 0) is
     at false is = written_over l m l.words is
+
+-- what steps states for a table still does
+pub suits_kept : (s r : Stepping) {units others : List Unit} (l m : Layout) → IsAnother s r → others ≡ units
+    → m.classes ≡ l.classes → m.quit ≡ l.quit → Suits s units l → Suits r others m
+suits_kept s r {units} {others} l m another same classes quit suits =
+    let nfa = ap (λ (t : Stepping). t.nfa) another in
+    let spells : SpellStates (record s { current = r.current }) =
+    record {
+      label = suits.spells.label;
+      are_ids = suits.spells.are_ids;
+      few = suits.spells.few;
+      size = suits.spells.size;
+      small = suits.spells.small;
+    } in
+    record {
+      byte_classes = suits.byte_classes;
+      are_classes =
+          classes ∙ suits.are_classes
+          ∙ ap₂ (λ (n : Nfa) (q : ℕ). classes_of n q suits.byte_classes) (sym nfa) (sym quit);
+      classes = ap (λ (t : Stepping). t.classes) another ∙ suits.classes ∙ sym classes;
+      are_units =
+          subst (λ (us : List Unit). AreUnits us m.classes) (sym same)
+          (subst (AreUnits units) (sym classes) suits.are_units);
+      one_key = subst HasOneKeyEach (sym another) suits.one_key;
+      spells = subst SpellStates (sym another) spells;
+    }
+
+pub suits_over : (s r : Stepping) {units others : List Unit} (l m : Layout) → IsAnother s r → others ≡ units
+    → IsWrittenOver l m → Suits s units l → Suits r others m
+suits_over s r l m another same is suits =
+    suits_kept s r l m another same (ap (λ (n : Layout). n.classes) is) (ap (λ (n : Layout). n.quit) is) suits
+
+-- the same state is stepped
+pub no_other : (s r : Stepping) → r ≡ s → IsAnother s r
+no_other s r same = same ∙ ap (λ (t : Stepping). record s { current = t.current }) (sym same)
+
+pub suits_started : (s r : Stepping) {units others : List Unit} (l m : Layout) → r ≡ s → others ≡ units
+    → IsStartedOver l m → Suits s units l → Suits r others m
+suits_started s r l m same_steps same over suits =
+    suits_kept s r l m (no_other s r same_steps) same (ap (λ (n : Layout). n.classes) over.rest)
+    (ap (λ (n : Layout). n.quit) over.rest) suits
 
 -- what refuses the construction is the same
 pub over_kept : (k : Keying) (limits : SizeLimits) (l m : Layout) (kind : BuildErrorKind) → stride m ≡ stride l
@@ -157,3 +205,125 @@ module _ {s : Stepping} {limits : SizeLimits} {met : Met} {l : Layout} {at : Pro
             (λ c lt. unit_in l stepping.entering.rows.classes c (omega arith)) stepping.filling);
         stepped_last = tt;
       }
+
+-- ---- where a column leads
+
+-- to quit
+pub quit_led : {s : Stepping} {limits : SizeLimits} {met : Met} {l m : Layout} {at : Progress} {last : Option ℕ}
+    {last_id id : ℕ} → IsStepping s limits met l at last last_id → at.column < alphabet_len l.classes
+    → contains l.quit (unit_of l.classes at.column) ≡ true → id ≡ 1 * stride l → IsRowId l id
+    → m ≡ with_next l ((at.place + 2) * stride l) (unit_of l.classes at.column) id → IsLed s met l at id m
+quit_led {s} {limits} {met} {l} {m} {at} {last} {last_id} {id} stepping within quits id_is is_id is = record {
+  column_in = within;
+  is_row =
+      let b = (keying s l).build in
+      let unit = unit_of l.classes at.column in
+      let alive = (current_reached stepping).alive in
+      let node : next_node b (Running s.current) unit ≡ Quit = rw (alive, quits) refl in
+      let row : id / stride l ≡ 1 = ap (λ n. n / stride l) id_is ∙ row_of_id l 1 in
+      subst (λ (n : Node). IsRowOf (states_of (keying s l) met) n (id / stride l)) (sym node)
+      (ap (slice_get (nodes (states_of (keying s l) met))) row);
+  is_id = is_id;
+  is = is;
+}
+
+-- to the state that is stepped to
+pub state_led : {s : Stepping} {limits : SizeLimits} {met : Met} {l m : Layout} {at : Progress} {last : Option ℕ}
+    {last_id id : ℕ} → IsStepping s limits met l at last last_id → s.classes ≡ l.classes
+    → contains l.quit (unit_of l.classes at.column) ≡ false → IsStepped (keying s l) met l s at.column id
+    → m ≡ with_next l ((at.place + 2) * stride l) (unit_of l.classes at.column) id → IsLed s met l at id m
+state_led {s} {limits} {met} {l} {m} {at} {last} {last_id} {id} stepping classes stays led is = record {
+  column_in = led.column_in;
+  is_row =
+      subst (λ (n : Node). IsRowOf (states_of (keying s l) met) n (id / stride l))
+      (sym (leads_on s l stepping.entering.rows classes (current_reached stepping) at.column led.column_in stays))
+      led.is_row;
+  is_id = led.is_id;
+  is = is;
+}
+
+-- the row that was found for a column's state
+pub record IsNextRow (s : Stepping) (limits : SizeLimits) (met : Met) (l : Layout) (column : ℕ) (after : Met)
+    (m : Layout) (id : ℕ) : Type 0 where
+  pub grows : Grows met l after m
+  pub rest : IsWrittenOver l m
+  pub rows : AreRows m
+  pub working : IsWorking (keying s m) limits after m
+  pub stepped : IsStepped (keying s m) after m s column id
+
+module _ {s : Stepping} {limits : SizeLimits} {met : Met} {l : Layout} {at : Progress} {last : Option ℕ} {last_id : ℕ}
+    (stepping : IsStepping s limits met l at last last_id) {after : Met} {m : Layout} {id : ℕ}
+    (next : IsNextRow s limits met l at.column after m id) where
+  same_classes : m.classes ≡ l.classes
+  same_classes = ap (λ (n : Layout). n.classes) next.rest
+
+  -- the state under way has its row still
+  pub next_grown : IsStepping s limits after m at None last_id
+  next_grown =
+      let low : at.column < alphabet_len l.classes =
+      subst (λ (cs : List ℕ). at.column < alphabet_len cs) same_classes next.stepped.column_in in
+      grown stepping next.grows next.rest next.rows next.working (omega arith)
+
+  -- the column is written, and was stepped last
+  pub stepped_on : (n : Layout) → s.classes ≡ l.classes → contains l.quit (unit_of l.classes at.column) ≡ false
+      → n ≡ with_next m ((at.place + 2) * stride m) (unit_of l.classes at.column) id
+      → IsStepping s limits after n (record { place = at.place; column = at.column + 1 }) (Some at.column) id
+  stepped_on n classes stays is =
+      let same = same_classes in
+      let quit : m.quit ≡ l.quit = ap (λ (k : Layout). k.quit) next.rest in
+      let goes_on : contains m.quit (unit_of m.classes at.column) ≡ false =
+      ap₂ (λ (q : ℕ) (cs : List ℕ). contains q (unit_of cs at.column)) quit same ∙ stays in
+      let led : IsLed s after m at id n =
+      state_led next_grown (classes ∙ sym same) goes_on next.stepped
+      (is ∙ ap (λ (cs : List ℕ). with_next m ((at.place + 2) * stride m) (unit_of cs at.column) id) (sym same)) in
+      written next_grown led (Some at.column) id next.stepped
+
+-- ---- from one state to the next
+
+-- a state is stepped by no column yet
+pub stepping_begun : (s r : Stepping) {limits : SizeLimits} {met : Met} {l : Layout} {place last_id : ℕ}
+    {key : List ℕ} → IsAnother s r → r.current ≡ s.state_of key → slice_get met.keys place ≡ Some key
+    → IsEntering (keying s l) limits met l (length l.starts) place
+    → IsStepping r limits met l (record { place = place; column = 0 }) None last_id
+stepping_begun s r {limits} {met} {l} {place} {last_id} {key} another current here entering =
+    let same : keying r l ≡ keying s l = ap (λ (t : Stepping). keying t l) another in
+    record {
+      entering =
+          subst (λ (k : Keying). IsEntering k limits met l (length l.starts) place) (sym same) entering;
+      filling =
+          subst (λ (k : Keying). IsFilling k met l place r.current 0) (sym same) (record {
+            key = key;
+            here = here;
+            stands = sym current;
+            cells = λ c low. absurd (omega arith);
+          });
+      stepped_last = tt;
+    }
+
+pub another_twice : (s r t : Stepping) → IsAnother s r → IsAnother r t → IsAnother s t
+another_twice s r t first second = second ∙ ap (λ (u : Stepping). record u { current = t.current }) first
+
+-- what refuses a later turn refuses the construction
+pub over_back : (s r : Stepping) {limits others : SizeLimits} (l m : Layout) (kind : BuildErrorKind) → IsAnother s r
+    → others ≡ limits → IsWrittenOver l m → IsOver (keying r m) others m kind → IsOver (keying s l) limits l kind
+over_back s r {limits} {others} l m kind another same is over =
+    over_written s limits l m kind is
+    (subst (λ (k : Keying). IsOver k limits m kind) (ap (λ (t : Stepping). keying t m) another)
+    (subst (λ (c : SizeLimits). IsOver (keying r m) c m kind) same over))
+
+-- the same states are entered, whichever is under way
+pub entering_as : (s r : Stepping) {limits others : SizeLimits} {met : Met} {m : Layout} {set done : ℕ}
+    → IsAnother s r → others ≡ limits → IsEntering (keying r m) others met m set done
+    → IsEntering (keying s m) limits met m set done
+entering_as s r {limits} {others} {met} {m} {set} {done} another same entering =
+    subst (λ (k : Keying). IsEntering k limits met m set done) (ap (λ (t : Stepping). keying t m) another)
+    (subst (λ (c : SizeLimits). IsEntering (keying r m) c met m set done) same entering)
+
+-- words were written after start entries
+pub started_written : (l m n : Layout) → IsStartedOver l m → IsWrittenOver m n → IsStartedOver l n
+started_written l m n first second = record {
+  rest =
+      second ∙ ap (λ (k : Layout). record k { words = n.words }) first.rest
+      ∙ ap (λ (ss : List ℕ). record l { words = n.words; starts = ss }) (sym (ap (λ (k : Layout). k.starts) second));
+  count = ap (λ (k : Layout). length k.starts) second ∙ first.count;
+}

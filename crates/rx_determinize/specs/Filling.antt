@@ -72,7 +72,7 @@ pub record Suits (s : Stepping) (units : List Unit) (l : Layout) : Type 0 where
   pub byte_classes : Bool
   pub are_classes : l.classes ≡ classes_of s.nfa l.quit byte_classes
   pub classes : s.classes ≡ l.classes
-  pub units : AreUnits units l.classes
+  pub are_units : AreUnits units l.classes
   pub one_key : HasOneKeyEach s
   pub spells : SpellStates s
 
@@ -88,8 +88,3 @@ IsWrittenOver old new = new ≡ record old { words = new.words }
 pub record IsStartedOver (old new : Layout) : Type 0 where
   pub rest : new ≡ record old { words = new.words; starts = new.starts }
   pub count : length new.starts ≡ length old.starts
-
--- the column that was stepped last, where one more was written
-abbrev pub last_after : ℕ → Option ℕ → Option ℕ → Option ℕ
-last_after column last None = last
-last_after column last (Some id) = Some column

@@ -131,8 +131,9 @@ impl Config {
         ensures err { IfErr result (λ error. (byte_classes : Bool) → IsBegunWith (meaning nfa.now) self.now byte_classes dfa.old
             → IsRefused (TableRefused (limits_of self.now byte_classes) (build_in (meaning nfa.now) self.now dfa.old)) error.kind) }
     {
-        let mut stepper = Stepper::new(alloc, nfa, self.match_kind, dfa.byte_classes())?;
-        let mut construction = Construction::new(alloc, dfa.byte_classes(), self.limits())?;
+        let classes = *dfa.byte_classes();
+        let mut stepper = Stepper::new(alloc, nfa, self.match_kind, &classes)?;
+        let mut construction = Construction::new(alloc, &classes, self.limits())?;
         construction.set_starts(&mut stepper, nfa, dfa)?;
         construction.explore(&mut stepper, dfa)?;
         Ok(construction.states.matches(alloc, dfa)?)

@@ -1,15 +1,15 @@
 //! The construction: each state that is met is stepped once, and its row written.
 
-ghost use Rattle.std.specs.Prelude.{◌≡◌, ◌<◌, ◌+◌, [], false, IfErr, IfOk, IfSome, OnOk, length, unwrap_or};
+ghost use Rattle.std.specs.Prelude.{◌≡◌, ◌<◌, ◌+◌, [], false, IfErr, IfOk, IfSome, OnOk, length};
 ghost use Rattle.rx_spec.specs.Builds.{IsReached};
 ghost use Rattle.rx_spec.specs.Bytes.{contains};
 ghost use Rattle.rx_base.specs.ByteClasses.{alphabet_len};
 ghost use Rattle.rx_dense.specs.Layouts.{AreRows};
-ghost use Rattle.rx_stepper.specs.Stepping.{HasOneKeyEach, SpellStates, unit_of};
+ghost use Rattle.rx_stepper.specs.Stepping.{unit_of};
 ghost use Rattle.rx_stepper.specs.Steppers.{stepping_of};
 ghost use Rattle.rx_determinize.specs.Working.{IsWorking, IsOver, keying};
 ghost use Rattle.rx_determinize.specs.Filling.{AreUnits, Grows, IsAnother, IsEntering, IsStepped, IsStepping};
-ghost use Rattle.rx_determinize.specs.Filling.{IsWrittenOver, Suits, last_after};
+ghost use Rattle.rx_determinize.specs.Filling.{IsWrittenOver, Suits};
 ghost use Rattle.rx_base.specs.Unit.{unit_number};
 
 use crate::states::{SizeLimits, States, row_id};
@@ -28,6 +28,14 @@ pub(crate) struct Construction {
     pub(crate) units: Vec<Unit>,
     /// Room for a key.
     pub(crate) key: Vec<u32>,
+}
+
+/// The column by which a state was stepped last, and the row to which it led.
+#[derive(Clone, Copy)]
+pub(crate) struct Last {
+    /// None where it was stepped by no column.
+    pub(crate) column: Option<usize>,
+    pub(crate) id: StateID,
 }
 
 impl Construction {
@@ -53,28 +61,23 @@ impl Construction {
         })
     }
 
-    /// The row of the state to which a column leads that isn't a quit byte's. The column by which the state was stepped
-    /// last led to the row `last_id`.
+    /// The row of the state to which a column leads that isn't a quit byte's.
     fn next_row(
         &mut self,
         stepper: &mut Stepper<'_>,
         dfa: &mut OwnedDFA,
         column: usize,
-        last: Option<usize>,
-        last_id: StateID,
+        last: Last,
     ) -> Result<StateID, BuildError>
         requires working { IsWorking (keying (stepping_of stepper.old) dfa.old) self.old.limits self.old.states dfa.old }
         requires rows { AreRows dfa.old }
-        requires one_key { HasOneKeyEach (stepping_of stepper.old) }
-        requires spells { SpellStates (stepping_of stepper.old) }
+        requires suits { Suits (stepping_of stepper.old) self.old.units.items dfa.old }
         requires reached { IsReached (keying (stepping_of stepper.old) dfa.old).build
             (stepping_of stepper.old).current }
-        requires classes { (stepping_of stepper.old).classes ≡ dfa.old.classes }
         requires column { column < alphabet_len dfa.old.classes }
         requires goes_on { contains dfa.old.quit (unit_of dfa.old.classes column) ≡ false }
-        requires last { IfSome last (λ other.
-            IsStepped (keying (stepping_of stepper.old) dfa.old) self.old.states dfa.old
-            (stepping_of stepper.old) other last_id) }
+        requires last { IfSome last.column (λ other. IsStepped (keying (stepping_of stepper.old) dfa.old) self.old.states
+            dfa.old (stepping_of stepper.old) other last.id) }
         ensures stepped { IfOk result (IsStepped (keying (stepping_of stepper.old) dfa.new) self.new.states dfa.new
             (stepping_of stepper.old) column) }
         ensures rows { OnOk result (AreRows dfa.new) }
@@ -88,31 +91,29 @@ impl Construction {
         ensures err { IfErr result (λ error.
             IsOver (keying (stepping_of stepper.old) dfa.old) self.old.limits dfa.old error.kind) }
     {
-        match stepper.next(column, last, &mut self.key)? {
+        match stepper.next(column, last.column, &mut self.key)? {
             Next::Dead => Ok(StateID::ZERO),
-            Next::AsLast => Ok(last_id),
+            Next::AsLast => Ok(last.id),
             Next::State => self.states.add(dfa, self.limits, &self.key),
         }
     }
 
-    /// Writes where a column leads the state under way, whose row is that of a place among the states. Tells the row to
-    /// which the state was stepped; it isn't at a quit byte.
+    /// Writes where a column leads the state under way, whose row is that of a place among the states. Tells the column
+    /// by which the state was stepped last: this one, or where it is a quit byte's, the one before.
     fn write_column(
         &mut self,
         stepper: &mut Stepper<'_>,
         dfa: &mut OwnedDFA,
         place: usize,
         column: usize,
-        last: Option<usize>,
-        last_id: StateID,
-    ) -> Result<Option<StateID>, BuildError>
+        last: Last,
+    ) -> Result<Last, BuildError>
         requires stepping { IsStepping (stepping_of stepper.old) self.old.limits self.old.states dfa.old
-            (record { place = place; column = column }) last last_id }
+            (record { place = place; column = column }) last.column last.id }
         requires suits { Suits (stepping_of stepper.old) self.old.units.items dfa.old }
         requires column { column < alphabet_len dfa.old.classes }
         ensures stepping { IfOk result (λ led. IsStepping (stepping_of stepper.new) self.new.limits self.new.states
-            dfa.new (record { place = place; column = column + 1 }) (last_after column last led)
-            (unwrap_or led last_id)) }
+            dfa.new (record { place = place; column = column + 1 }) led.column led.id) }
         ensures rest { OnOk result (IsWrittenOver dfa.old dfa.new) }
         ensures kept { stepping_of stepper.new ≡ stepping_of stepper.old }
         ensures limits { self.new.limits ≡ self.old.limits }
@@ -124,11 +125,14 @@ impl Construction {
         if is_quit(dfa, unit) {
             let quit = row_id(dfa, 1);
             dfa.set_transition(row_id(dfa, place + 2), unit, quit);
-            return Ok(None);
+            return Ok(last);
         }
-        let next = self.next_row(stepper, dfa, column, last, last_id)?;
+        let next = self.next_row(stepper, dfa, column, last)?;
         dfa.set_transition(row_id(dfa, place + 2), unit, next);
-        Ok(Some(next))
+        Ok(Last {
+            column: Some(column),
+            id: next,
+        })
     }
 
     /// Writes the row of the state at a place among the states.
@@ -152,13 +156,12 @@ impl Construction {
             IsOver (keying (stepping_of stepper.old) dfa.old) self.old.limits dfa.old error.kind) }
     {
         stepper.begin(self.states.key(place as u32))?;
-        let mut last = None;
-        let mut last_id = StateID::ZERO;
+        let mut last = Last {
+            column: None,
+            id: StateID::ZERO,
+        };
         'columns: for column in 0..self.units.len() {
-            if let Some(next) = self.write_column(stepper, dfa, place, column, last, last_id)? {
-                last = Some(column);
-                last_id = next;
-            }
+            last = self.write_column(stepper, dfa, place, column, last)?;
         }
         Ok(())
     }

@@ -1,6 +1,6 @@
 //! The patterns of match rows.
 
-ghost use Rattle.std.specs.Prelude.{◌≡◌, ◌≤◌, ◌+◌, All, IfOk, length};
+ghost use Rattle.std.specs.Prelude.{◌≡◌, ◌<◌, ◌≤◌, ◌+◌, All, IfOk, OnOk, length, take};
 ghost use Rattle.rx_spec.specs.Causes.{max_id};
 ghost use Rattle.rx_dense.specs.Layouts.{row_count};
 ghost use Rattle.rx_stepper.specs.Keys.{label_of};
@@ -27,12 +27,35 @@ impl States {
     {
         let mut matches = BTreeMap::new(alloc);
         'places: for place in 0..self.len() {
-            let label = Stepper::label(self.key(place as u32));
-            if label.len() > 0 {
-                matches.insert(row_id(dfa, place + 2), patterns(alloc, label)?)?;
-            }
+            self.add_label(alloc, dfa, place, &mut matches)?;
         }
         Ok(matches)
+    }
+
+    /// Adds the label of the key at a place, where it has one.
+    fn add_label(
+        &self,
+        alloc: Global,
+        dfa: &OwnedDFA,
+        place: usize,
+        matches: &mut BTreeMap<StateID, Vec<PatternID>>,
+    ) -> Result<(), AllocError>
+        requires place { place < length self.now.keys }
+        requires count { row_count dfa.now ≡ length self.now.keys + 2 }
+        requires few { length self.now.keys ≤ max_id }
+        requires are_ids { All (λ key. All (λ k. k ≤ max_id) (label_of key)) self.now.keys }
+        requires labels { AreLabels (take place self.now.keys) dfa.now matches.old }
+        ensures { OnOk result (AreLabels (take (place + 1) self.now.keys) dfa.now matches.new) }
+    {
+        let key = self.key(place as u32);
+        let label = Stepper::label(key);
+        if label.is_empty() {
+            return Ok(());
+        }
+        let list = patterns(alloc, label)?;
+        let id = row_id(dfa, place + 2);
+        matches.insert(id, list)?;
+        Ok(())
     }
 }
 

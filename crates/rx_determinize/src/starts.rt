@@ -53,15 +53,16 @@ impl Construction {
     {
         let kind = dfa.start_kind();
         let unanchored = kind.has_unanchored().then_some(nfa.start_unanchored());
-        self.set_mode(stepper, dfa, Anchored::No, unanchored)?;
+        self.set_mode(stepper, dfa, &Anchored::No, &unanchored)?;
         let anchored = kind.has_anchored().then_some(nfa.start_anchored());
-        self.set_mode(stepper, dfa, Anchored::Yes, anchored)?;
-        if dfa.starts_for_each_pattern() {
-            'patterns: for k in 0..nfa.pattern_len() {
-                let pattern = PatternID::must(k);
-                let start = nfa.start_pattern(pattern);
-                self.set_mode(stepper, dfa, Anchored::Pattern(pattern), start)?;
-            }
+        self.set_mode(stepper, dfa, &Anchored::Yes, &anchored)?;
+        if !dfa.starts_for_each_pattern() {
+            return Ok(());
+        }
+        'patterns: for k in 0..nfa.pattern_len() {
+            let pattern = PatternID::must(k);
+            let start = nfa.start_pattern(pattern);
+            self.set_mode(stepper, dfa, &Anchored::Pattern(pattern), &start)?;
         }
         Ok(())
     }
@@ -71,19 +72,19 @@ impl Construction {
         &mut self,
         stepper: &mut Stepper<'_>,
         dfa: &mut OwnedDFA,
-        mode: Anchored,
-        row: Option<StateID>,
+        mode: &Anchored,
+        row: &Option<StateID>,
     ) -> Result<(), BuildError>
         requires entering { IsEntering (keying (stepping_of stepper.old) dfa.old) self.old.limits self.old.states dfa.old
-            (mode_place (mode_of mode)) 0 }
+            (mode_place (mode_of mode.now)) 0 }
         requires suits { Suits (stepping_of stepper.old) self.old.units.items dfa.old }
-        requires row { (start : Context) → built_entry (keying (stepping_of stepper.old) dfa.old).build (mode_of mode) start
-            ≡ start_node (stepping_of stepper.old).nfa row start }
-        requires built { IfSome row (λ _.
-            Contains (built_modes (keying (stepping_of stepper.old) dfa.old).build) (mode_of mode)) }
-        requires entries { mode_place (mode_of mode) + 6 ≤ length dfa.old.starts }
+        requires row { (start : Context) → built_entry (keying (stepping_of stepper.old) dfa.old).build (mode_of mode.now) start
+            ≡ start_node (stepping_of stepper.old).nfa row.now start }
+        requires built { IfSome row.now (λ _.
+            Contains (built_modes (keying (stepping_of stepper.old) dfa.old).build) (mode_of mode.now)) }
+        requires entries { mode_place (mode_of mode.now) + 6 ≤ length dfa.old.starts }
         ensures entering { OnOk result (IsEntering (keying (stepping_of stepper.old) dfa.new) self.old.limits
-            self.new.states dfa.new (mode_place (mode_of mode) + 6) 0) }
+            self.new.states dfa.new (mode_place (mode_of mode.now) + 6) 0) }
         ensures rest { OnOk result (IsStartedOver dfa.old dfa.new) }
         ensures kept { stepping_of stepper.new ≡ stepping_of stepper.old }
         ensures limits { self.new.limits ≡ self.old.limits }
@@ -91,9 +92,10 @@ impl Construction {
         ensures err { IfErr result (λ error.
             IsOver (keying (stepping_of stepper.old) dfa.old) self.old.limits dfa.old error.kind) }
     {
-        'contexts: for start in STARTS {
-            let id = self.start_row(stepper, dfa, row, start)?;
-            dfa.set_start_state(mode, start, id);
+        'contexts: for i in 0..STARTS.len() {
+            let start = STARTS[i];
+            let id = self.start_row(stepper, dfa, *row, start)?;
+            dfa.set_start_state(*mode, start, id);
         }
         Ok(())
     }
