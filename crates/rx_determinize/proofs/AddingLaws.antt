@@ -1,13 +1,13 @@
 -- Entering a state: what is kept where it is new, and what its size passes.
-use Rattle.std.proofs.Common.{◌≡◌, ◌≢◌, ℕ, ◌+◌, ◌*◌, ◌/◌, ◌^◌, ◌<◌, ◌≤◌, true, Option, Some, None, List, [], ◌∷◌, ◌++◌}
-use Rattle.std.proofs.Common.{length, map, get_or, replicate, length-append, refl, ap, sym, ◌∙◌, subst, arith}
+use Rattle.std.proofs.Common.{◌≡◌, ◌≢◌, ℕ, ◌+◌, ◌*◌, ◌/◌, ◌<◌, true, Some, List, [], ◌∷◌, ◌++◌}
+use Rattle.std.proofs.Common.{length, get_or, length-append, refl, ap, sym, ◌∙◌, subst, arith}
 use Rattle.std.proofs.lemmas.List.{length-map, map-append, length_push, get_or-map, get_or_default, length-replicate}
 use Rattle.std.proofs.Math.Nat.{mul-le-mul_left}
 use Rattle.std.proofs.lemmas.Nat.{div-mul-add, pow_pos, div-add-mod'}
 use Rattle.std.proofs.lemmas.List.Elements.{All-append, All-cons, All-nil, All-get_or, All-map}
 use Rattle.std.proofs.lemmas.List.Quantifiers.{all_pairs_push}
 use Rattle.std.proofs.lemmas.List.Sums.{sum_by_push}
-use Rattle.std.specs.Prelude.{All, AllPairs, Contains, IfSome, IsTrue, ◌↔◌, Bool, false, not, if◌then◌else◌, slice_get}
+use Rattle.std.specs.Prelude.{All, AllPairs, Contains, IsTrue, ◌↔◌, Bool, false, not, if◌then◌else◌, slice_get}
 use Rattle.rx_spec.specs.Builds.{IsReached}
 use Rattle.rx_spec.specs.Causes.{Exceeds, max_id}
 use Rattle.rx_spec.specs.Sizes.{state_size, determinizer_size, label_total, table_size}
@@ -16,7 +16,7 @@ use Rattle.rx_dense.proofs.Rows.{no_more}
 use Rattle.rx_dense.specs.Builder.{with_row}
 use Rattle.rx_dense.specs.Layouts.{Layout, AreRows, row_count, stride}
 use Rattle.rx_build_error.specs.declared.BuildErrorKind.{BuildErrorKind}
-use Rattle.rx_determinize.specs.Working.{Keying, Met, SizeLimits, IsBare, IsWorking, IsOver, states_of, bytes_of}
+use Rattle.rx_determinize.specs.Working.{Keying, Met, SizeLimits, IsWorking, IsOver, states_of}
 use Rattle.rx_determinize.specs.WorkLists.{Interns}
 use Rattle.rx_determinize.specs.Adding.{CanAdd, IsWithin, Passes, IsFull}
 
@@ -134,10 +134,11 @@ module _ {k : Keying} {limits : SizeLimits} {met : Met} {l : Layout} {key : List
     is_over BuildErrorKind.Unsupported passes = passes
     is_over BuildErrorKind.TooManyStates passes = absurd passes
     is_over BuildErrorKind.TooManyMatchPatternIDs passes = exceeds label_total max_id (rw (← patterns_are) passes)
-    is_over (BuildErrorKind.DFAExceededSizeLimit limit) passes =
-        (passes.0,
-        exceeds (λ states. table_size (length states) (stride l) (length l.starts)) limit
-        (rw count (let over = passes.1 in omega (arith, more_words))))
+    is_over (BuildErrorKind.DFAExceededSizeLimit limit) passes = (
+      passes.0,
+      exceeds (λ states. table_size (length states) (stride l) (length l.starts)) limit
+          (rw count (let over = passes.1 in omega (arith, more_words))),
+    )
     is_over (BuildErrorKind.DeterminizeExceededSizeLimit limit) passes =
         (passes.0, exceeds determinizer_size limit (rw (← size_is) passes.1))
     is_over BuildErrorKind.Memory passes = tt
@@ -232,4 +233,3 @@ module _ {k : Keying} {limits : SizeLimits} {met : Met} {l : Layout} {key : List
       (working_more working new rows
       (subst (λ (n : Layout). IsWithin limits (met_with k met key) n) is_more
       (subst (λ (a : Met). IsWithin limits a m) is_after within))))
-

@@ -1,5 +1,5 @@
 -- A table that has a row for each state that was met, all of which are stepped, has the states that are reached.
-use Rattle.std.proofs.Common.{◌≡◌, ◌≢◌, ℕ, zero, suc, ◌+◌, ◌-◌, ◌*◌, ◌/◌, ◌%◌, ◌<◌, ◌≤◌, ◌==◌, Bool, true, false, Option}
+use Rattle.std.proofs.Common.{◌≡◌, ℕ, zero, suc, ◌+◌, ◌*◌, ◌/◌, ◌<◌, ◌≤◌, Bool, true, false, Option}
 use Rattle.std.proofs.Common.{Some, None, List, [], ◌∷◌, length, map, get_or, slice_index, refl, ap, sym, ◌∙◌, subst}
 use Rattle.std.proofs.Common.{arith, ⊎_elim}
 use Rattle.std.proofs.lemmas.Bool.{cases_Bool, cases_lt, le-ltb, lt-ltb, ne_eqb}
@@ -7,26 +7,25 @@ use Rattle.std.proofs.lemmas.Bool.Decides.{when_false, when_true}
 use Rattle.std.proofs.lemmas.List.{get_or-map, get_or_default, length-map}
 use Rattle.std.proofs.lemmas.List.Sums.{sum_by-cons}
 use Rattle.std.proofs.lemmas.List.Elements.{All-get_or}
-use Rattle.std.proofs.lemmas.Nat.{pow_pos, row_fits, div-add-mod'}
-use Rattle.std.proofs.lemmas.Option.{get_or_from_slice_get, slice_get-get_or, slice_get-map, slice_get_past, slice_get_within}
+use Rattle.std.proofs.lemmas.Nat.{pow_pos, row_fits}
+use Rattle.std.proofs.lemmas.Option.{get_or_from_slice_get, slice_get-get_or, slice_get_past, slice_get_within}
 use Rattle.std.specs.BTreeMap.{get}
 use Rattle.std.specs.List.{concat}
 use Rattle.std.specs.Ordering.{nat_cmp}
-use Rattle.std.specs.Prelude.{All, Contains, IfSome, Vec, if◌then◌else◌, is_some, nat_lt, slice_get, sum_by}
+use Rattle.std.specs.Prelude.{All, Contains, IfSome, Vec, if◌then◌else◌, is_some, slice_get, sum_by}
 use Rattle.std.specs.declared.alloc.Global.{Global}
 use Rattle.rx_spec.specs.Builds.{Build, Node, Quit, Running, dead, AreReached, IsReached, built_entry, is_dead}
-use Rattle.rx_spec.specs.Builds.{is_dead_state, next_node, nfa_start, node_label, start_node}
+use Rattle.rx_spec.specs.Builds.{next_node, node_label, start_node}
 use Rattle.rx_spec.specs.Causes.{max_id}
 use Rattle.rx_spec.specs.Machines.{Label, label_of as label_from}
 use Rattle.rx_spec.specs.Power.{node_at}
 use Rattle.rx_spec.specs.Queries.{Anchored}
 use Rattle.rx_spec.specs.Sizes.{label_total}
-use Rattle.rx_spec.specs.Starts.{supports}
 use Rattle.rx_spec.specs.States.{State, dead_state}
 use Rattle.rx_spec.specs.declared.Start.{Start}
 use Rattle.rx_dense.specs.Builder.{pattern_lists}
-use Rattle.rx_dense.specs.Layouts.{Layout, AreRows, IsRowId, context_number, machine_of, mode_place, row_count}
-use Rattle.rx_dense.specs.Layouts.{start_entries, start_id, stride, table_of}
+use Rattle.rx_dense.specs.Layouts.{Layout, IsRowId, machine_of, mode_place, row_count}
+use Rattle.rx_dense.specs.Layouts.{start_entries, stride, table_of}
 use Rattle.rx_expr.specs.NfaRows.{NamesPatterns}
 use Rattle.rx_order.specs.Ordering.{AreMatches, IsRouted, Matches, label_by, label_of_patterns}
 use Rattle.rx_stepper.specs.Keys.{label_of}
@@ -35,9 +34,8 @@ use Rattle.rx_determinize.specs.Building.{HasStates}
 use Rattle.rx_determinize.specs.Filling.{IsEntering}
 use Rattle.rx_determinize.specs.Matching.{AreLabels, IsLabelAt, patterns_told}
 use Rattle.rx_determinize.specs.WorkLists.{IsRowOf, nodes}
-use Rattle.rx_determinize.specs.Working.{Keying, Met, SizeLimits, entry_in, keying, next_in, states_of}
+use Rattle.rx_determinize.specs.Working.{Keying, Met, SizeLimits, entry_in, keying, states_of}
 use Rattle.rx_determinize.proofs.LabelLaws.{reached_named}
-use Rattle.rx_determinize.proofs.MatchingLaws.{one_row}
 use Rattle.rx_determinize.proofs.NodeLaws.{entry_goes_on, entry_plain, entry_whole, eoi_goes_on, next_whole, node_of_row, quit_of_row}
 use Rattle.rx_determinize.proofs.RowIds.{row_id, row_of_id}
 use Rattle.rx_determinize.proofs.StartLaws.{number_low, place_of, start_of_place, zero_row}
@@ -268,9 +266,11 @@ module _ {s : Stepping} {limits : SizeLimits} {met : Met} {l : Layout} (built : 
     are_matches = record {
       rows = λ id v e.
           let is = labels.only id v e in
-          let low = slice_get_within met.keys is.place is.key is.there in
-          (subst (IsRowId l) (sym is.id_is) (row_id l (is.place + 2) built.entering.rows (omega (arith, low, count))),
-          high_id id v.items is, no_start_match id v.items is);
+          let low = slice_get_within met.keys is.place is.key is.there in (
+            subst (IsRowId l) (sym is.id_is) (row_id l (is.place + 2) built.entering.rows (omega (arith, low, count))),
+            high_id id v.items is,
+            no_start_match id v.items is,
+          );
       lists = λ id v e.
           let is = labels.only id v e in
           let low = slice_get_within met.keys is.place is.key is.there in
@@ -281,11 +281,12 @@ module _ {s : Stepping} {limits : SizeLimits} {met : Met} {l : Layout} (built : 
           (All-get_or (λ j. IsReached b (s.state_of j)) met.keys is.place [] low
           built.entering.working.reached) in
           let below : All (λ j. j < length s.nfa.start_patterns) state.label =
-          reached_named (length s.nfa.start_patterns) b built.named state own in
-          (is.some,
-          subst (λ n. All (λ j. j < n) v.items) (sym built.pattern_len)
-          (subst (All (λ j. j < length s.nfa.start_patterns))
-          (sym (is.label ∙ named_by is.key is.place is.there)) below));
+          reached_named (length s.nfa.start_patterns) b built.named state own in (
+            is.some,
+            subst (λ n. All (λ j. j < n) v.items) (sym built.pattern_len)
+                (subst (All (λ j. j < length s.nfa.start_patterns))
+                (sym (is.label ∙ named_by is.key is.place is.there)) below),
+          );
     }
 
     routed : IsRouted (table_of l)

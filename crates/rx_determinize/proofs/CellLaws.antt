@@ -1,5 +1,5 @@
 -- Cells that are set, and rows that are added: to which rows the rows of a table lead then.
-use Rattle.std.proofs.Common.{◌≡◌, ◌≢◌, ℕ, ◌+◌, ◌*◌, ◌/◌, ◌<◌, ◌≤◌, ◌++◌, length, get_or, replicate}
+use Rattle.std.proofs.Common.{◌≡◌, ◌≢◌, ℕ, ◌+◌, ◌*◌, ◌/◌, ◌<◌, length, get_or, replicate}
 use Rattle.std.proofs.Common.{ap, sym, ◌∙◌, arith}
 use Rattle.std.proofs.lemmas.List.{get_or-set_same, get_or-set_other, get_or_append_left}
 use Rattle.std.proofs.lemmas.Nat.{div-mul-add, pow_pos}
@@ -51,4 +51,3 @@ module _ (l : Layout) (rows : AreRows l) where
         (get_or-set_other l.words (r * stride l + column l unit) (q * stride l + column l other) next 0
         (λ e. let one = one_place (stride l) q (column l other) r (column l unit) (column_in other is_other)
         (column_in unit is_unit) e in apart one.0 one.1))
-

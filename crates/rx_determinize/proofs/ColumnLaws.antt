@@ -1,5 +1,5 @@
 -- The columns of a table and the units that stand for them.
-use Rattle.std.proofs.Common.{◌≡◌, ℕ, ◌+◌, ◌<◌, ◌≤◌, Bool, true, false, List, [], ◌∷◌, ◌++◌, length, get_or, refl, ap, sym, ◌∙◌}
+use Rattle.std.proofs.Common.{◌≡◌, ℕ, ◌+◌, ◌<◌, ◌≤◌, Bool, false, List, [], ◌∷◌, ◌++◌, length, get_or, ap, sym, ◌∙◌}
 use Rattle.std.proofs.Common.{arith, ⊎_elim, eqb, cond, map, append_assoc}
 use Rattle.std.proofs.lemmas.Bool.{cases_lt, cases_eq}
 use Rattle.std.proofs.lemmas.Bool.Decides.{nat_tests}
@@ -114,4 +114,3 @@ same_column l b byte_classes is node x y below_x below_y same =
     column_leads b byte_classes node x y below_x below_y
     (sym (column_is l b.nfa b.quit byte_classes is x below_x) ∙ same
     ∙ column_is l b.nfa b.quit byte_classes is y below_y)
-

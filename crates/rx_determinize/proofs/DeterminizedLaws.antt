@@ -1,5 +1,5 @@
 -- A table with all states that are reached, whose rows are put in order.
-use Rattle.std.proofs.Common.{◌≡◌, ◌≤◌, List, length, refl, ap, sym, ◌∙◌}
+use Rattle.std.proofs.Common.{◌≡◌, ◌≤◌, length, ap, ◌∙◌}
 use Rattle.std.specs.List.{concat}
 use Rattle.rx_spec.specs.Builds.{Build}
 use Rattle.rx_spec.specs.Causes.{max_id}

@@ -1,21 +1,19 @@
 -- What stays true of a table in which rows are written: where a row is added, and where a cell is set.
-use Rattle.std.proofs.Common.{◌≡◌, ◌≢◌, ℕ, zero, suc, ◌+◌, ◌*◌, ◌/◌, ◌<◌, ◌≤◌, true, false, Some, List, [], ◌∷◌, ◌++◌}
+use Rattle.std.proofs.Common.{◌≡◌, ◌≢◌, ℕ, ◌+◌, ◌*◌, ◌/◌, ◌<◌, ◌≤◌, true, false, Some, List, [], ◌∷◌, ◌++◌}
 use Rattle.std.proofs.Common.{length, map, get_or, length-append, length-set, refl, ap, sym, ◌∙◌, subst, arith, ⊎_elim}
 use Rattle.std.proofs.lemmas.List.{map-append, append-nil}
-use Rattle.std.proofs.lemmas.Bool.{cases_lt, cases_eq}
+use Rattle.std.proofs.lemmas.Bool.{cases_lt}
 use Rattle.std.proofs.lemmas.Option.{slice_get_within}
-use Rattle.std.specs.Prelude.{All, Bool, Option, IfSome, if◌then◌else◌, slice_get}
-use Rattle.rx_spec.specs.Builds.{Node, Running, IsReached, next_node, built_entry}
-use Rattle.rx_spec.specs.Queries.{Anchored}
+use Rattle.std.specs.Prelude.{Bool, Option, IfSome, if◌then◌else◌, slice_get}
+use Rattle.rx_spec.specs.Builds.{Node, Running, next_node, built_entry}
 use Rattle.rx_spec.specs.States.{State}
-use Rattle.rx_spec.specs.declared.Start.{Start}
 use Rattle.rx_dense.specs.Builder.{with_next, with_row}
-use Rattle.rx_dense.specs.Layouts.{Layout, AreRows, IsRowId, machine_of, row_count, stride, column, context_number, mode_place}
+use Rattle.rx_dense.specs.Layouts.{Layout, AreRows, IsRowId, machine_of, row_count, stride, column}
 use Rattle.rx_base.specs.ByteClasses.{alphabet_len}
-use Rattle.rx_dense.proofs.Rows.{column_within, multiple_below}
+use Rattle.rx_dense.proofs.Rows.{column_within}
 use Rattle.rx_dense.proofs.Shaped.{rows_set}
 use Rattle.rx_stepper.specs.Stepping.{unit_of}
-use Rattle.rx_determinize.specs.WorkLists.{IsRowOf, IsWorkList, Interns}
+use Rattle.rx_determinize.specs.WorkLists.{IsRowOf}
 use Rattle.rx_determinize.specs.Working.{Keying, Met, SizeLimits, IsWorking, states_of, next_in, entry_in}
 use Rattle.rx_determinize.specs.Adding.{Adds}
 use Rattle.rx_determinize.specs.Filling.{Grows, IsEntering, IsFilling}
@@ -191,7 +189,7 @@ module _ {l : Layout} {place unit id : ℕ} {m : Layout} (set : IsSet l place un
     where
       before : (c : ℕ) → c < at
           → IsRowOf (states_of k met) (next_node k.build (Running state) (unit_of l.classes c))
-            ((machine_of m).next (place + 2) (unit_of l.classes c))
+          ((machine_of m).next (place + 2) (unit_of l.classes c))
       before c less =
           let here = columns c (omega arith) in
           let last = columns at (omega arith) in
@@ -202,7 +200,7 @@ module _ {l : Layout} {place unit id : ℕ} {m : Layout} (set : IsSet l place un
 
       here : (c : ℕ) → c ≡ at
           → IsRowOf (states_of k met) (next_node k.build (Running state) (unit_of l.classes c))
-            ((machine_of m).next (place + 2) (unit_of l.classes c))
+          ((machine_of m).next (place + 2) (unit_of l.classes c))
       here c is_at =
           let unit_at : unit_of l.classes c ≡ unit = ap (unit_of l.classes) is_at ∙ unit_is in
           let led : (machine_of m).next (place + 2) unit ≡ id / stride l =
@@ -243,4 +241,3 @@ filled {k} {limits} {met} {l} {set} {place} {state} byte_classes is old row =
         ap (λ n. get_or l.words ((place + 2) * stride l + n) 0 / stride l) same in
         subst (λ (n : Node). IsRowOf (states_of k met) n (next_in l place unit)) node
         (subst (IsRowOf (states_of k met) (next_node k.build (Running state) other)) led (row.cells c within))
-

@@ -12,7 +12,6 @@ pub mod ColumnLaws
 pub mod FillingLaws
 -- the state to which a column leads
 pub mod NextLaws
-
 -- a state that is stepped by each column
 pub mod SteppingLaws
 -- nodes by their rows, and the patterns that labels name

@@ -1,7 +1,7 @@
 -- What refuses a build, and that nothing does where its table is built.
-use Rattle.std.proofs.Common.{◌≡◌, ℕ, ◌+◌, ◌*◌, ◌/◌, ◌^◌, ◌<◌, ◌≤◌, inl, Bool, true, false, Option, Some, None, List, [], length}
-use Rattle.std.proofs.Common.{map, slice_index, refl, ap, ap₂, sym, ◌∙◌, subst, arith}
-use Rattle.std.proofs.lemmas.List.{length-map, length-replicate}
+use Rattle.std.proofs.Common.{◌≡◌, ℕ, ◌+◌, ◌*◌, ◌^◌, ◌<◌, ◌≤◌, inl, Bool, true, false, Option, Some, None, List, [], length}
+use Rattle.std.proofs.Common.{slice_index, refl, ap, ap₂, sym, ◌∙◌, subst, arith}
+use Rattle.std.proofs.lemmas.List.{length-replicate}
 use Rattle.std.proofs.lemmas.List.FromFn.{get_or-map-range_with_len}
 use Rattle.std.proofs.lemmas.Nat.{div-add-mod'}
 use Rattle.std.specs.Prelude.{IfSome, if◌then◌else◌, is_some}
@@ -12,11 +12,10 @@ use Rattle.rx_spec.specs.Nfas.{Nfa}
 use Rattle.rx_spec.specs.Sizes.{build_alphabet, build_stride, determinizer_size, label_total, last_id, table_size}
 use Rattle.rx_spec.specs.Sizes as sizes
 use Rattle.rx_spec.specs.States.{State}
-use Rattle.rx_spec.specs.declared.Form.{Form}
-use Rattle.rx_base.specs.ByteClasses.{AreClasses, alphabet_len}
+use Rattle.rx_base.specs.ByteClasses.{AreClasses}
 use Rattle.rx_dense.specs.Builder.{Beginning}
 use Rattle.rx_dense.proofs.Shaped.{shaped_initial}
-use Rattle.rx_dense.specs.Layouts.{Layout, AreRows, row_count, start_entries, stride}
+use Rattle.rx_dense.specs.Layouts.{Layout, AreRows, start_entries, stride}
 use Rattle.rx_table_lemmas.proofs.Sizes.{determinizer_grows, exceeds_exactly, ids_grow, labels_grow, table_grows}
 use Rattle.rx_build_error.specs.Refusals.{IsRefused, TableRefused}
 use Rattle.rx_build_error.specs.declared.BuildErrorKind.{BuildErrorKind}
@@ -30,7 +29,6 @@ use Rattle.rx_determinize.specs.Matching.{AreLabels}
 use Rattle.rx_determinize.specs.Working.{IsOver, Keying, Met, SizeLimits, keying, states_of}
 use Rattle.rx_determinize.proofs.BuiltLaws.{IsBuilt, has_states, reached, rows_count, states_count}
 use Rattle.rx_determinize.proofs.StartLaws.{entering_begun}
-use Rattle.rx_determinize.proofs.SteppingLaws.{over_kept}
 
 -- the limits of settings
 abbrev pub limits_in : Settings → SizeLimits
@@ -159,14 +157,17 @@ module _ {s : Stepping} {nfa : Nfa} {settings : Settings} {byte_classes : Bool} 
           → IsRefused (TableRefused (limits_of settings byte_classes) b) kind
       at (BuildErrorKind.NFA error) over = absurd over
       at BuildErrorKind.Unsupported over = absurd over
-      at BuildErrorKind.TooManyStates over =
-          (supported,
-          inl (subst (λ w. Exceeds b (λ states. last_id (length states) w) max_id) stride_is over))
+      at BuildErrorKind.TooManyStates over = (
+        supported,
+        inl (subst (λ w. Exceeds b (λ states. last_id (length states) w) max_id) stride_is over),
+      )
       at BuildErrorKind.TooManyMatchPatternIDs over = (supported, over)
-      at (BuildErrorKind.DFAExceededSizeLimit limit) over =
-          (supported, over.0,
-          subst (λ w. Exceeds b (λ states. table_size (length states) w (sizes.start_entries b)) limit) stride_is
-          (subst (λ n. Exceeds b (λ states. table_size (length states) (stride l) n) limit) starts_are over.1))
+      at (BuildErrorKind.DFAExceededSizeLimit limit) over = (
+        supported,
+        over.0,
+        subst (λ w. Exceeds b (λ states. table_size (length states) w (sizes.start_entries b)) limit) stride_is
+            (subst (λ n. Exceeds b (λ states. table_size (length states) (stride l) n) limit) starts_are over.1),
+      )
       at (BuildErrorKind.DeterminizeExceededSizeLimit limit) over = (supported, over.0, over.1)
       at BuildErrorKind.Memory over = tt
 

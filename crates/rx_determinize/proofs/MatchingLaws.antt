@@ -1,6 +1,6 @@
 -- The patterns of match rows, key by key.
-use Rattle.std.proofs.Common.{◌≡◌, ◌≢◌, ℕ, zero, suc, ◌+◌, ◌*◌, ◌<◌, ◌≤◌, ◌==◌, false, Option, Some, None, List, []}
-use Rattle.std.proofs.Common.{◌∷◌, ◌++◌, length, map, get_or, take, length-append, refl, ap, sym, ◌∙◌, subst, arith, ⊎_elim}
+use Rattle.std.proofs.Common.{◌≡◌, ◌≢◌, ℕ, ◌+◌, ◌*◌, ◌<◌, ◌≤◌, Option, Some, None, List, []}
+use Rattle.std.proofs.Common.{◌∷◌, ◌++◌, length, map, take, length-append, refl, ap, sym, ◌∙◌, subst, arith, ⊎_elim}
 use Rattle.std.proofs.lemmas.Bool.{cases_eq, cases_lt, ne_eqb}
 use Rattle.std.proofs.lemmas.List.{length_push, get_or_push, length-take-le, take_more}
 use Rattle.std.proofs.lemmas.List.Folds.{concat-append}
@@ -48,13 +48,14 @@ last_or_before : (keys : List (List ℕ)) (key other : List ℕ) (place : ℕ)
     → slice_get (keys ++ key ∷ []) place ≡ Some other → (place < length keys → slice_get keys place ≡ Some other)
     × (length keys ≤ place → (place ≡ length keys) × (key ≡ other))
 last_or_before keys key other place there =
-    let low = slice_get_within (keys ++ key ∷ []) place other there in
-    (λ h. old_key keys (key ∷ []) place other there h,
-    λ h.
-    let last : place ≡ length keys = omega (arith, low, length_push keys key) in
-    let here : slice_get (keys ++ key ∷ []) place ≡ Some key =
-    slice_get-get_or (keys ++ key ∷ []) place key low ∙ ap Some (get_or_push keys key key place (sym last)) in
-    (last, cc))
+    let low = slice_get_within (keys ++ key ∷ []) place other there in (
+      λ h. old_key keys (key ∷ []) place other there h,
+      λ h.
+          let last : place ≡ length keys = omega (arith, low, length_push keys key) in
+          let here : slice_get (keys ++ key ∷ []) place ≡ Some key =
+          slice_get-get_or (keys ++ key ∷ []) place key low ∙ ap Some (get_or_push keys key key place (sym last)) in
+          (last, cc),
+    )
 
 module _ {keys : List (List ℕ)} {l : Layout} {matches : Matches} (are : AreLabels keys l matches) (key : List ℕ) where
   abbrev id : ℕ
@@ -76,8 +77,14 @@ module _ {keys : List (List ℕ)} {l : Layout} {matches : Matches} (are : AreLab
   lower : (other : ℕ) (patterns : List ℕ) → IsLabelAt keys l other patterns → other < id
   lower other patterns is =
       let low = slice_get_within keys is.place is.key is.there in
-      omega (arith, is.id_is, low, row_fits (is.place + 2) (stride l) (length keys + 2) (stride l) (omega arith)
-      (omega arith), pow_pos l.stride2)
+      omega (
+        arith,
+        is.id_is,
+        low,
+        row_fits (is.place + 2) (stride l) (length keys + 2) (stride l) (omega arith)
+            (omega arith),
+        pow_pos l.stride2,
+      )
 
   -- a key without a label
   pub labels_skip : label_of key ≡ [] → AreLabels (keys ++ key ∷ []) l matches
@@ -104,8 +111,11 @@ module _ {keys : List (List ℕ)} {l : Layout} {matches : Matches} (are : AreLab
           → patterns_told o ≡ []
       none None e = refl
       none (Some patterns) e =
-          absurd (omega (arith, lower ((length keys + 2) * stride l) patterns.items
-          (are.only ((length keys + 2) * stride l) patterns e)))
+          absurd (omega (
+            arith,
+            lower ((length keys + 2) * stride l) patterns.items
+                (are.only ((length keys + 2) * stride l) patterns e),
+          ))
 
   -- a key with one
   pub labels_more : {more : Matches} (patterns : Vec ℕ Global) → patterns.items ≡ label_of key

@@ -1,24 +1,23 @@
 -- The start entries of one mode after another.
-use Rattle.std.proofs.Common.{◌≡◌, ℕ, ◌+◌, ◌*◌, ◌/◌, ◌<◌, Bool, true, false, true≢false, Option, Some, None, List, length, refl, ap, sym, ◌∙◌, subst, arith}
+use Rattle.std.proofs.Common.{◌≡◌, ℕ, ◌+◌, ◌*◌, ◌/◌, ◌<◌, true, false, true≢false, Option, Some, None, length, ap, sym, ◌∙◌, subst, arith}
 use Rattle.std.specs.Bool.{then_some}
-use Rattle.std.specs.Prelude.{Contains, IfSome, is_some, not, slice_get}
-use Rattle.rx_spec.specs.Builds.{Build, IsReached, built_entry, built_modes, is_dead_state, start_node}
+use Rattle.std.specs.Prelude.{Contains, IfSome, is_some, slice_get}
+use Rattle.rx_spec.specs.Builds.{IsReached, built_entry, built_modes, is_dead_state, start_node}
 use Rattle.rx_spec.specs.Queries.{Anchored}
 use Rattle.rx_spec.specs.Starts.{has_anchored, has_unanchored}
 use Rattle.rx_spec.specs.States.{start_state}
 use Rattle.rx_spec.specs.declared.Start.{Start}
-use Rattle.rx_spec.specs.declared.Unit.{Unit}
 use Rattle.rx_dense.specs.Builder.{with_start}
-use Rattle.rx_dense.specs.Layouts.{Layout, AreRows, context_number, mode_place, start_entries, stride}
+use Rattle.rx_dense.specs.Layouts.{Layout, context_number, mode_place, start_entries, stride}
 use Rattle.rx_build_error.specs.declared.BuildErrorKind.{BuildErrorKind}
 use Rattle.rx_stepper.specs.Stepping.{Stepping}
-use Rattle.rx_determinize.specs.Filling.{Grows, IsEntering, IsStartedOver, IsWrittenOver, Suits}
+use Rattle.rx_determinize.specs.Filling.{IsEntering, IsStartedOver}
 use Rattle.rx_determinize.specs.WorkLists.{IsRowOf}
-use Rattle.rx_determinize.specs.Working.{IsOver, IsWorking, Keying, Met, SizeLimits, keying, states_of}
+use Rattle.rx_determinize.specs.Working.{IsOver, Keying, Met, SizeLimits, keying, states_of}
 use Rattle.rx_determinize.proofs.StartLaws.{IsStartRow, anchored_built, anchored_row, pattern_built, pattern_row}
 use Rattle.rx_determinize.proofs.StartLaws.{place_of, row_reached, start_set, started_by, started_twice}
 use Rattle.rx_determinize.proofs.StartLaws.{unanchored_built, unanchored_row}
-use Rattle.rx_determinize.proofs.SteppingLaws.{entering_as, no_other, over_kept, suits_started}
+use Rattle.rx_determinize.proofs.SteppingLaws.{entering_as, no_other, over_kept}
 
 -- what refuses a later mode refuses the construction
 pub over_start : (s r : Stepping) {limits others : SizeLimits} (l m : Layout) (kind : BuildErrorKind) → r ≡ s

@@ -1,18 +1,18 @@
 -- The state to which a column leads.
-use Rattle.std.proofs.Common.{◌≡◌, ℕ, zero, suc, ◌+◌, ◌*◌, ◌/◌, ◌<◌, true, false, List, refl, ap, sym, ◌∙◌, subst, arith}
+use Rattle.std.proofs.Common.{◌≡◌, ℕ, suc, ◌+◌, ◌*◌, ◌/◌, ◌<◌, true, false, List, refl, ap, sym, ◌∙◌, subst, arith}
 use Rattle.std.proofs.lemmas.Nat.{div-mul-add, pow_pos}
 use Rattle.std.proofs.lemmas.List.{append-nil}
-use Rattle.std.specs.Prelude.{map, Bool, Option, Some, Result, Ok, Err, IfOk, IfSome, MatchBool, if◌then◌else◌, slice_get, []}
+use Rattle.std.specs.Prelude.{Bool, Option, Some, Result, Ok, Err, IfOk, IfSome, MatchBool, if◌then◌else◌, slice_get, []}
 use Rattle.rx_dense.specs.Builder.{with_row}
 use Rattle.rx_determinize.proofs.FillingLaws.{grows_by}
 use Rattle.rx_spec.specs.Bytes.{contains}
-use Rattle.rx_spec.specs.Builds.{Build, Node, Quit, Running, dead, IsReached, is_dead_state, next_node}
+use Rattle.rx_spec.specs.Builds.{Build, Running, IsReached, is_dead_state, next_node}
 use Rattle.rx_spec.specs.States.{State, step}
 use Rattle.rx_dense.proofs.Rows.{no_more}
 use Rattle.rx_dense.specs.Layouts.{Layout, AreRows, IsRowId, stride}
 use Rattle.rx_base.specs.ByteClasses.{alphabet_len}
 use Rattle.rx_dense.proofs.Shaped.{zero_id}
-use Rattle.rx_stepper.specs.Stepping.{HasOneKeyEach, SpellStates, Stepping, IsKeyOf, IsNext, stepped, unit_of}
+use Rattle.rx_stepper.specs.Stepping.{Stepping, IsKeyOf, IsNext, stepped, unit_of}
 use Rattle.rx_stepper.specs.declared.next.Next.{Next}
 use Rattle.rx_determinize.specs.WorkLists.{IsRowOf, nodes}
 use Rattle.rx_determinize.specs.Working.{IsWorking, Keying, Met, SizeLimits, keying, states_of}
@@ -152,4 +152,3 @@ stepped_by s {l} {m} {met} {after} {key} {id} rows column within is adds is_id =
       (added_row (keying s l) adds (ap is_dead_state is.stands_for ∙ is.alive)));
   is_id = is_id;
 }
-

@@ -1,8 +1,8 @@
 -- A table whose rows lie at other places is the same powerset machine.
-use Rattle.std.proofs.Common.{◌≡◌, ◌≢◌, ℕ, zero, suc, ◌+◌, ◌-◌, ◌<◌, ◌≤◌, ◌⊎◌, inl, inr, ◌==◌, true, false, List, [], length}
+use Rattle.std.proofs.Common.{◌≡◌, ℕ, zero, suc, ◌+◌, ◌-◌, ◌<◌, ◌≤◌, ◌⊎◌, inl, inr, List, length}
 use Rattle.std.proofs.Common.{map, get_or, slice_index, refl, ap, sym, ◌∙◌, subst, arith, ⊎_elim, eqb}
-use Rattle.std.proofs.lemmas.Bool.{cases_eq, cases_lt, eq-eqb, eqb-true, ne_eqb, false≢true}
-use Rattle.std.proofs.lemmas.List.{get_or-map, get_or_default, length-map}
+use Rattle.std.proofs.lemmas.Bool.{cases_eq, cases_lt, eq-eqb, ne_eqb, false≢true}
+use Rattle.std.proofs.lemmas.List.{get_or-map, get_or_default}
 use Rattle.std.proofs.lemmas.List.Elements.{Contains-get_or}
 use Rattle.std.proofs.lemmas.List.FromFn.{get_or-range_with_len, get_or-map-range_with_len, length-map-range_with_len}
 use Rattle.std.proofs.lemmas.List.FromFn.{length-range_with_len}
@@ -10,13 +10,11 @@ use Rattle.std.proofs.lemmas.List.Sorted.{Contains-permutation, IsPermutation-sy
 use Rattle.std.proofs.lemmas.Map.Keys.{IsDistinct-IsPermutation, IsDistinct-from_apart, apart_from_distinct}
 use Rattle.std.specs.List.{IsDistinct, range_with_len}
 use Rattle.std.specs.Prelude.{Contains}
-use Rattle.rx_spec.specs.Builds.{Build, Node, Quit, Running, dead, AreReached, IsReached, built_entry, next_node}
+use Rattle.rx_spec.specs.Builds.{Build, Node, Running, dead, AreReached, IsReached, next_node}
 use Rattle.rx_spec.specs.Builds.{node_label}
 use Rattle.rx_spec.specs.Power.{IsPower, node_at}
-use Rattle.rx_spec.specs.Queries.{Anchored}
 use Rattle.rx_spec.specs.States.{State, dead_state}
 use Rattle.rx_spec.specs.Tables.{Table}
-use Rattle.rx_spec.specs.declared.Start.{Start}
 use Rattle.rx_dense.specs.Layouts.{Layout, table_of, row_count}
 use Rattle.rx_order.specs.Ordering.{Matches, label_by}
 use Rattle.rx_order.specs.Permuted.{IsPermuted}
@@ -232,9 +230,11 @@ module _ {numbers : List ℕ} {t u : Table} (p : IsPermuted numbers t u) (states
         let high : 2 ≤ place = behind_number place low (omega (arith, back)) in
         let index : place - 2 + 2 ≡ place = omega arith in
         let i_low : place - 2 < length states = omega (arith, size) in
-        let own : row_at (place - 2 + 2) - 2 ≡ at.0 = omega (arith, ap row_at index, back) in
-        (place - 2, omega (arith, i_low, count),
-        moved_at (place - 2) s i_low ∙ ap (λ k. get_or states k s) own ∙ at.2);
+        let own : row_at (place - 2 + 2) - 2 ≡ at.0 = omega (arith, ap row_at index, back) in (
+          place - 2,
+          omega (arith, i_low, count),
+          moved_at (place - 2) s i_low ∙ ap (λ k. get_or states k s) own ∙ at.2,
+        );
   }
     where
       behind_number : (place : ℕ) → place < t.size → 2 ≤ row_at place → 2 ≤ place
@@ -256,7 +256,7 @@ permuted_power {b} l new {matches} {numbers} has p told =
     number_of p states has.size in
     let own : (place : ℕ) → place < row_count l → at place < row_count l = row_low p states has.size in
     let number : (row : ℕ) → row < row_count l
-        → node_at (moved p states has.size) (slice_index numbers row) ≡ node_at states row =
+    → node_at (moved p states has.size) (slice_index numbers row) ≡ node_at states row =
     λ row h. moved_number p states has.size row h (number_low p states has.size row h) in
     record {
       states = moved p states has.size;

@@ -1,6 +1,6 @@
 -- The ids of a table's rows.
 use Rattle.std.proofs.Common.{◌≡◌, ℕ, ◌*◌, ◌/◌, ◌<◌, length, ap, sym, ◌∙◌, arith}
-use Rattle.rx_spec.specs.Ids.{row_of, id_of}
+use Rattle.rx_spec.specs.Ids.{row_of}
 use Rattle.rx_search.specs.Starts.{IsId}
 use Rattle.rx_table_lemmas.proofs.Ids.{row_of-id_of, id_of-dense, dense_are_ids}
 use Rattle.rx_dense.proofs.Rows.{multiple_below, no_more}
@@ -24,7 +24,6 @@ row_id l row rows within = record {
   whole = rw (← no_more (row * stride l)) (mod-mul-add row (stride l) 0 (pow_pos l.stride2));
   below = multiple_below row (stride l) (length l.words) (pow_pos l.stride2) within;
 }
-
 
 -- the row of its id, by division
 pub row_of_id : (l : Layout) (row : ℕ) → row * stride l / stride l ≡ row

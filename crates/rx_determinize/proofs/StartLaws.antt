@@ -1,35 +1,34 @@
 -- Start entries that are set, and the states in which searches start.
 use Rattle.std.proofs.Common.{◌≡◌, ◌≢◌, ℕ, zero, suc, ◌+◌, ◌*◌, ◌/◌, ◌%◌, ◌<◌, ◌≤◌, Bool, true, false, Option, Some, None}
-use Rattle.std.proofs.Common.{List, [], ◌∷◌, ◌++◌, length, map, get_or, replicate, slice_index, refl, ap, ap₂, sym, ◌∙◌, subst}
+use Rattle.std.proofs.Common.{List, [], ◌∷◌, ◌++◌, length, get_or, replicate, slice_index, refl, ap, ap₂, sym, ◌∙◌, subst}
 use Rattle.std.proofs.Common.{arith, ⊎_elim}
 use Rattle.std.proofs.lemmas.Bool.{cases_eq, cases_lt, lt-ltb}
 use Rattle.std.proofs.lemmas.List.{get_or-set_other, get_or-set_same, get_or-replicate, get_or_past}
 use Rattle.std.proofs.lemmas.List.{length-replicate, length-set}
-use Rattle.std.proofs.lemmas.List.Elements.{All-nil, Contains-append_left, Contains-append_right, Contains-get_or}
+use Rattle.std.proofs.lemmas.List.Elements.{All-nil, Contains-append_left, Contains-append_right}
 use Rattle.std.proofs.lemmas.List.FromFn.{get_or-map-range_with_len, length-map-range_with_len}
 use Rattle.std.proofs.lemmas.Nat.{div-add-mod', div-mul-add, pow_pos}
 use Rattle.std.proofs.lemmas.Option.{slice_get_within}
-use Rattle.std.specs.List.{range_with_len}
-use Rattle.std.specs.Prelude.{All, AllPairs, Contains, IfSome, if◌then◌else◌, nat_lt, slice_get, slice_set}
-use Rattle.rx_spec.specs.Builds.{Build, Node, Running, IsReached, built_entry, built_modes, is_dead_state, pattern_modes}
+use Rattle.std.specs.Prelude.{Contains, IfSome, if◌then◌else◌, nat_lt, slice_get, slice_set}
+use Rattle.rx_spec.specs.Builds.{Build, Node, IsReached, built_entry, built_modes, is_dead_state, pattern_modes}
 use Rattle.rx_spec.specs.Builds.{dead, next_node, start_node}
 use Rattle.rx_spec.specs.Nfas.{Nfa}
 use Rattle.rx_spec.specs.Contexts.{all_starts as all_contexts}
 use Rattle.std.specs.Bool.{then_some}
 use Rattle.rx_spec.specs.Queries.{Anchored}
-use Rattle.rx_spec.specs.Starts.{has_anchored, has_unanchored, supports}
-use Rattle.rx_spec.specs.States.{State, start_state}
+use Rattle.rx_spec.specs.Starts.{has_anchored, has_unanchored}
+use Rattle.rx_spec.specs.States.{start_state}
 use Rattle.rx_spec.specs.declared.Start.{Start}
 use Rattle.rx_lemmas.proofs.Firsts.{Contains-here}
 use Rattle.rx_lemmas.proofs.Words.{IsWord-nil, run-nil}
 use Rattle.rx_dense.specs.Builder.{Beginning, initial, with_start}
-use Rattle.rx_dense.specs.Layouts.{Layout, AreRows, IsRowId, column, context_number, machine_of, mode_place, row_count}
-use Rattle.rx_dense.specs.Layouts.{start_id, stride}
+use Rattle.rx_dense.specs.Layouts.{Layout, AreRows, column, context_number, machine_of, mode_place, row_count}
+use Rattle.rx_dense.specs.Layouts.{stride}
 use Rattle.rx_dense.proofs.Shaped.{rows_kept}
 use Rattle.rx_stepper.specs.Stepping.{Stepping}
 use Rattle.rx_determinize.specs.Filling.{Grows, IsEntering, IsStartedOver, IsWrittenOver}
 use Rattle.rx_determinize.specs.WorkLists.{IsRowOf}
-use Rattle.rx_determinize.specs.Working.{IsBare, IsWorking, Keying, Met, SizeLimits, bytes_of, entry_in, keying, states_of}
+use Rattle.rx_determinize.specs.Working.{IsWorking, Keying, Met, SizeLimits, entry_in, keying, states_of}
 use Rattle.rx_determinize.proofs.CellLaws.{one_place}
 use Rattle.rx_determinize.proofs.FillingLaws.{entering_kept}
 
@@ -92,9 +91,10 @@ one_start mode other start context e =
     let places : group mode * 6 + context_number start ≡ group other * 6 + context_number context =
     omega (arith, place_of_group mode, place_of_group other, e) in
     let one = one_place 6 (group mode) (context_number start) (group other) (context_number context)
-    (number_low start) (number_low context) places in
-    (sym (mode_of_group mode) ∙ ap mode_at one.0 ∙ mode_of_group other,
-    sym (start_of_number start) ∙ ap start_at one.1 ∙ start_of_number context)
+    (number_low start) (number_low context) places in (
+      sym (mode_of_group mode) ∙ ap mode_at one.0 ∙ mode_of_group other,
+      sym (start_of_number start) ∙ ap start_at one.1 ∙ start_of_number context,
+    )
 
 group_of_mode : (n : ℕ) → group (mode_at n) ≡ n
 unfolding group mode_at
@@ -116,14 +116,17 @@ pub start_of_place : (place : ℕ) → (mode : Anchored) × (start : Start) × (
 start_of_place place =
     let mode = mode_at (place / 6) in
     let start = start_at (place % 6) in
-    let low : place % 6 < 6 = omega arith in
-    (mode, start, omega (
-      arith,
-      place_of_group mode,
-      group_of_mode (place / 6),
-      number_of_start (place % 6) low,
-      div-add-mod' place 6,
-    ))
+    let low : place % 6 < 6 = omega arith in (
+      mode,
+      start,
+      omega (
+        arith,
+        place_of_group mode,
+        group_of_mode (place / 6),
+        number_of_start (place % 6) low,
+        div-add-mod' place 6,
+      ),
+    )
 
 -- ---- an entry that is set
 
@@ -196,7 +199,7 @@ module _ {k : Keying} {limits : SizeLimits} {met : Met} {l : Layout} {mode : Anc
 
       here : (other : Anchored) (context : Start) → (other ≡ mode) × (context ≡ start)
           → IsRowOf (states_of k met) (built_entry k.build other context)
-            (entry_in (with_start l mode start id) other context)
+          (entry_in (with_start l mode start id) other context)
       here other context same =
           subst (λ (m : Anchored). IsRowOf (states_of k met) (built_entry k.build m context)
           (entry_in (with_start l mode start id) m context)) (sym same.0)

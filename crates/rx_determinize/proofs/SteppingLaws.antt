@@ -1,10 +1,10 @@
 -- A state that is stepped column by column: what is kept where states are entered, and where a cell is set.
-use Rattle.std.proofs.Common.{◌≡◌, ℕ, ◌+◌, ◌*◌, ◌/◌, ◌%◌, ◌<◌, ◌≤◌, true, false, Bool, Option, Some, None, List, [], ◌++◌}
+use Rattle.std.proofs.Common.{◌≡◌, ℕ, ◌+◌, ◌*◌, ◌/◌, ◌<◌, ◌≤◌, true, false, Bool, Option, Some, None, List, [], ◌++◌}
 use Rattle.std.proofs.Common.{length, replicate, refl, ap, ap₂, sym, ◌∙◌, subst, arith}
 use Rattle.std.proofs.lemmas.List.{length-set}
 use Rattle.std.proofs.lemmas.List.Elements.{All-get_or}
 use Rattle.std.proofs.lemmas.Option.{get_or_from_slice_get, slice_get_within}
-use Rattle.std.specs.Prelude.{IfSome, if◌then◌else◌, slice_get, slice_set}
+use Rattle.std.specs.Prelude.{IfSome, if◌then◌else◌, slice_get}
 use Rattle.rx_spec.specs.Builds.{Node, Quit, Running, IsReached, next_node}
 use Rattle.rx_spec.specs.Bytes.{contains}
 use Rattle.rx_spec.specs.Causes.{Exceeds, max_id}
@@ -93,10 +93,11 @@ over_kept k limits l m BuildErrorKind.Unsupported width starts over = over
 over_kept k limits l m BuildErrorKind.TooManyStates width starts over =
     subst (λ w. Exceeds k.build (λ states. last_id (length states) w) max_id) width over
 over_kept k limits l m BuildErrorKind.TooManyMatchPatternIDs width starts over = over
-over_kept k limits l m (BuildErrorKind.DFAExceededSizeLimit limit) width starts over =
-    (over.0,
-    subst (λ w. Exceeds k.build (λ states. table_size (length states) w (length l.starts)) limit) width
-    (subst (λ n. Exceeds k.build (λ states. table_size (length states) (stride m) n) limit) starts over.1))
+over_kept k limits l m (BuildErrorKind.DFAExceededSizeLimit limit) width starts over = (
+  over.0,
+  subst (λ w. Exceeds k.build (λ states. table_size (length states) w (length l.starts)) limit) width
+      (subst (λ n. Exceeds k.build (λ states. table_size (length states) (stride m) n) limit) starts over.1),
+)
 over_kept k limits l m (BuildErrorKind.DeterminizeExceededSizeLimit limit) width starts over = over
 over_kept k limits l m BuildErrorKind.Memory width starts over = tt
 

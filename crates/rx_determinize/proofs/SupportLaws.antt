@@ -1,8 +1,7 @@
 -- Whether a build is supported, as the code tells it.
-use Rattle.std.proofs.Common.{◌≡◌, ◌≤◌, ◌↔◌, ℕ, Bool, true, false, refl, ap, sym, ◌∙◌, subst, true≢false}
+use Rattle.std.proofs.Common.{◌≡◌, ◌↔◌, Bool, true, false, refl, sym, ◌∙◌, true≢false}
 use Rattle.std.specs.Prelude.{IsTrue, MatchBool, not}
 use Rattle.rx_spec.specs.Builds.{Build}
-use Rattle.rx_spec.specs.Bytes.{contains}
 use Rattle.rx_spec.specs.Causes.{IsSupported, IsUnsupported, QuitsAtHigh}
 use Rattle.rx_spec.specs.Classes.{has_unicode_word}
 

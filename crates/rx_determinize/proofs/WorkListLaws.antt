@@ -241,4 +241,3 @@ distinct_states state_of IsKey apart keys are_keys distinct i j d lt within e =
     distinct i j [] lt there
     (apart (get_or keys i []) (get_or keys j []) (is_key i (omega arith)) (is_key j there)
     (sym (state i (omega arith)) ∙ e ∙ state j there))
-

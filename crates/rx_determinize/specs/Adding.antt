@@ -1,5 +1,5 @@
 -- What entering a state into a table does.
-use Rattle.std.specs.Prelude.{ℕ, ◌≡◌, ◌<◌, ◌≤◌, ◌+◌, ◌*◌, if◌then◌else◌, true, Some, List, [], length, IfSome}
+use Rattle.std.specs.Prelude.{ℕ, ◌≡◌, ◌<◌, ◌≤◌, ◌+◌, ◌*◌, if◌then◌else◌, true, Some, List, length, IfSome}
 use Rattle.rx_spec.specs.Causes.{max_id}
 use Rattle.rx_dense.specs.Builder.{with_row}
 use Rattle.rx_dense.specs.Layouts.{Layout, stride}
@@ -45,4 +45,3 @@ abbrev pub IsFull : Layout → BuildErrorKind → Type 0
 IsFull l BuildErrorKind.TooManyStates = max_id < length l.words
 IsFull l BuildErrorKind.Memory = Unit {0}
 IsFull l _ = ⊥
-

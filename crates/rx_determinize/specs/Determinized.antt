@@ -74,4 +74,3 @@ pub record IsDeterminized (b : Build) (old new : Layout) : Type 0 where
     pattern_ids = new.pattern_ids;
     special = new.special;
   }
-

@@ -1,6 +1,6 @@
 -- A table while states are entered into it, and while the row of one of them is written.
-use Rattle.std.specs.Prelude.{ℕ, ◌≡◌, Bool, ◌<◌, ◌≤◌, ◌+◌, ◌/◌, ◌++◌, IfSome, Option, Some, None, List, [], ◌∷◌, length, map, slice_get}
-use Rattle.rx_spec.specs.Builds.{Node, Running, next_node, built_entry}
+use Rattle.std.specs.Prelude.{ℕ, ◌≡◌, Bool, ◌<◌, ◌≤◌, ◌+◌, ◌/◌, ◌++◌, IfSome, Option, Some, List, [], ◌∷◌, length, map, slice_get}
+use Rattle.rx_spec.specs.Builds.{Running, next_node, built_entry}
 use Rattle.rx_spec.specs.Queries.{Anchored}
 use Rattle.rx_spec.specs.States.{State}
 use Rattle.rx_spec.specs.declared.Start.{Start}
@@ -34,7 +34,7 @@ pub record IsFilling (k : Keying) (met : Met) (l : Layout) (place : ℕ) (state 
   pub stands : k.state_of key ≡ state
   pub cells : (c : ℕ) → c < column
       → IsRowOf (states_of k met) (next_node k.build (Running state) (unit_of l.classes c))
-        ((machine_of l).next (place + 2) (unit_of l.classes c))
+      ((machine_of l).next (place + 2) (unit_of l.classes c))
 
 -- More states were met, and the rows that were there are as they were.
 pub record Grows (met : Met) (l : Layout) (after : Met) (m : Layout) : Type 0 where

@@ -4,6 +4,5 @@ pub mod WorkLists
 pub mod Working
 pub mod Adding
 pub mod Filling
-
 pub mod Matching
 pub mod Building

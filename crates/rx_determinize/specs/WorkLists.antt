@@ -36,4 +36,3 @@ pub record Interns (before : List (List ℕ)) (key : List ℕ) (id : ℕ) (after
   pub is_new : Bool
   pub keys : after ≡ (if is_new then before ++ key ∷ [] else before)
   pub here : slice_get after id ≡ Some key
-

@@ -1,7 +1,7 @@
 -- What is kept while states are entered into a table.
-use Rattle.std.specs.Prelude.{ℕ, ◌≡◌, ◌<◌, ◌≤◌, ◌+◌, ◌*◌, ◌/◌, Bool, true, false, is_some, Option, Some, None, List, []}
+use Rattle.std.specs.Prelude.{ℕ, ◌≡◌, ◌<◌, ◌≤◌, ◌+◌, ◌*◌, Bool, true, is_some, Option, Some, List, []}
 use Rattle.std.specs.Prelude.{length, map, All, AllPairs, IfSome, ◌≢◌}
-use Rattle.rx_spec.specs.Builds.{Build, Node, IsReached, next_node, Running}
+use Rattle.rx_spec.specs.Builds.{Build, IsReached}
 use Rattle.rx_spec.specs.Causes.{Exceeds, max_id}
 use Rattle.rx_spec.specs.Queries.{Anchored}
 use Rattle.rx_spec.specs.Sizes.{determinizer_size, label_total, table_size, last_id}
@@ -10,8 +10,6 @@ use Rattle.rx_spec.specs.declared.Start.{Start}
 use Rattle.rx_dense.specs.Layouts.{Layout, machine_of, row_count, stride}
 use Rattle.rx_stepper.specs.Stepping.{Stepping}
 use Rattle.rx_build_error.specs.declared.BuildErrorKind.{BuildErrorKind}
-use Rattle.rx_determinize.specs.Determinized.{classes_of}
-use Rattle.rx_determinize.specs.WorkLists.{IsRowOf, IsWorkList}
 
 -- what a stepper steps for a table: the table's build, and what keys stand for
 pub record Keying : Type 0 where
@@ -90,4 +88,3 @@ next_in l id unit = (machine_of l).next (id + 2) unit
 
 abbrev pub entry_in : Layout → Anchored → Start → ℕ
 entry_in l mode start = (machine_of l).entry mode start
-

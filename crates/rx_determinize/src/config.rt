@@ -157,4 +157,3 @@ fn is_unsupported(nfa: &NFA, quit: &ByteSet) -> bool
 {
     nfa.look_set_any().contains_word_unicode() && !quit.contains_range(0x80, 0xff)
 }
-

@@ -199,4 +199,3 @@ fn is_quit(dfa: &OwnedDFA, unit: Unit) -> bool
         Unit::Eoi => false,
     }
 }
-

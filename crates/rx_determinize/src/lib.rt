@@ -12,4 +12,3 @@ mod starts;
 mod states;
 
 pub use config::Config;
-

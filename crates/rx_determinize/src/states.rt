@@ -161,4 +161,3 @@ fn add_row(dfa: &mut OwnedDFA) -> Result<(), BuildError>
         Err(AddError::Memory) => Err(BuildErrorKind::Memory.into()),
     }
 }
-

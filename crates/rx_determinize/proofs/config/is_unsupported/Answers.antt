@@ -2,7 +2,6 @@ use Rattle.std.proofs.Common.{◌≡◌, ◌≤◌, ◌↔◌, ℕ, true, ap, sy
 use Rattle.std.specs.Prelude.{IsTrue}
 use Rattle.rx_spec.specs.Bytes.{contains}
 use Rattle.rx_spec.specs.Classes.{has_unicode_word}
-use Rattle.rx_spec.specs.Nfas.{Nfa}
 use Rattle.rx_expr.specs.Nfa.{meaning}
 use Rattle.rx_determinize.proofs.SupportLaws.{where_asked, where_not}
 use Rattle.rx_determinize.proofs.UnicodeWords.{unicode_told}

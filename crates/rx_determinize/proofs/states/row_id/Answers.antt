@@ -28,4 +28,3 @@ pub returns-clause-is_row : goal.returns-clause-is_row
 returns-clause-is_row c =
     subst (IsRowId c.args.dfa.now) (sym (same c))
     (row_at c.args.dfa.now c.args.row c.state_len-rows.ensures.rows c.requires)
-

@@ -1,17 +1,13 @@
-use Rattle.std.proofs.Common.{◌≡◌, ◌+◌, ◌<◌, ◌≤◌, ℕ, Bool, true, List, [], All, length, refl, ap, sym, ◌∙◌, subst, arith}
+use Rattle.std.proofs.Common.{◌≡◌, ◌≤◌, true, All, refl, ap, sym, ◌∙◌, subst, arith}
 use Rattle.std.proofs.lemmas.List.Elements.{All-weaker}
 use Rattle.std.proofs.lemmas.Result.{err_from_is_err_and}
 use Rattle.rx_spec.specs.Causes.{max_id}
-use Rattle.rx_dense.specs.Layouts.{Layout}
 use Rattle.rx_expr.specs.Nfa.{meaning}
 use Rattle.rx_stepper.specs.Keys.{label_of}
-use Rattle.rx_stepper.specs.Stepping.{Stepping}
 use Rattle.rx_stepper.specs.Steppers.{stepping_of}
-use Rattle.rx_determinize.specs.Determinized.{IsBegunWith, Settings}
-use Rattle.rx_determinize.specs.Filling.{AreUnits, IsStartedOver, Suits}
-use Rattle.rx_determinize.specs.Working.{SizeLimits}
+use Rattle.rx_determinize.specs.Determinized.{Settings}
+use Rattle.rx_determinize.specs.Filling.{AreUnits, Suits}
 use Rattle.rx_determinize.proofs.AddingLaws.{few_keys}
-use Rattle.rx_determinize.proofs.BuiltLaws.{IsBuilt}
 use Rattle.rx_determinize.proofs.LimitLaws.{Begins, begun_entering, built_of, classes_are, entries_are, fits, limits_in}
 use Rattle.rx_determinize.proofs.LimitLaws.{not_unsupported, refused, start_patterns_are, states_in}
 use Rattle.rx_determinize.proofs.ModeLaws.{over_start}

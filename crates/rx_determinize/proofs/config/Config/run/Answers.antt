@@ -1,6 +1,5 @@
-use Rattle.std.proofs.Common.{◌≡◌, ◌≤◌, ◌<◌, ℕ, Bool, true, false, List, length, refl, ap, sym, ◌∙◌, subst, arith}
+use Rattle.std.proofs.Common.{refl, ap, sym, subst}
 use Rattle.std.specs.Prelude.{MatchBool}
-use Rattle.rx_spec.specs.Builds.{Build}
 use Rattle.rx_spec.specs.Causes.{IsSupported, IsUnsupported}
 use Rattle.rx_expr.specs.Nfa.{meaning}
 use Rattle.rx_determinize.specs.Determinized.{Settings, build_in}

@@ -1,17 +1,13 @@
-use Rattle.std.proofs.Common.{◌≡◌, ◌/◌, List, ℕ, ap, sym, ◌∙◌, subst}
+use Rattle.std.proofs.Common.{List, ℕ, sym, subst}
 use Rattle.std.proofs.lemmas.Result.{IfOk-weaker}
-use Rattle.rx_spec.specs.Builds.{IsReached, Running}
-use Rattle.rx_spec.specs.States.{State}
-use Rattle.rx_dense.specs.Layouts.{Layout, stride}
-use Rattle.rx_stepper.specs.Stepping.{HasOneKeyEach, IsKeyOf, IsNext, Stepping, stepped}
+use Rattle.rx_stepper.specs.Stepping.{IsKeyOf, IsNext, stepped}
 use Rattle.rx_stepper.specs.Steppers.{stepping_of}
-use Rattle.rx_stepper.specs.declared.next.Next.{Next}
-use Rattle.rx_determinize.specs.Working.{IsWorking, keying}
+use Rattle.rx_determinize.specs.Working.{keying}
 use Rattle.rx_determinize.specs.Adding.{Adds, CanAdd}
-use Rattle.rx_determinize.specs.Filling.{Grows, IsStepped, IsWrittenOver}
+use Rattle.rx_determinize.specs.Filling.{Grows, IsWrittenOver}
 use Rattle.rx_determinize.proofs.FillingLaws.{grows_by}
 use Rattle.rx_determinize.proofs.SteppingLaws.{adds_over}
-use Rattle.rx_determinize.proofs.NextLaws.{as_last, both_ok, dead_id, dead_stepped, grows_none, key_may}
+use Rattle.rx_determinize.proofs.NextLaws.{both_ok, key_may}
 use Rattle.rx_determinize.proofs.NextLaws.{stepped_by, stepped_reached, working_over}
 use Rattle.rx_determinize.proofs.construction.Construction.next_row.Goals as goal
 

@@ -1,4 +1,4 @@
-use Rattle.std.proofs.Common.{◌≡◌, ◌+◌, ◌<◌, ◌≤◌, ℕ, length, refl, ap, sym, ◌∙◌, subst, arith}
+use Rattle.std.proofs.Common.{◌≡◌, ◌+◌, length, refl, ap, ◌∙◌, subst, arith}
 use Rattle.std.proofs.lemmas.Result.{err_from_is_err_and}
 use Rattle.rx_base.specs.Search.{mode_of}
 use Rattle.rx_dense.specs.Layouts.{Layout, mode_place}
@@ -6,7 +6,7 @@ use Rattle.rx_dense.proofs.Rows.{IsId-row_id}
 use Rattle.rx_stepper.specs.Steppers.{stepping_of}
 use Rattle.rx_determinize.specs.Filling.{IsEntering}
 use Rattle.rx_determinize.specs.Working.{keying}
-use Rattle.rx_determinize.proofs.StartLaws.{IsStartRow, context_at, started_by, started_twice}
+use Rattle.rx_determinize.proofs.StartLaws.{IsStartRow, context_at, started_by}
 use Rattle.rx_determinize.proofs.SteppingLaws.{entering_as, no_other, suits_started}
 use Rattle.rx_determinize.proofs.ModeLaws.{AreSet, StartsAt, context_set, mode_reached, over_start, starts_later}
 use Rattle.rx_determinize.proofs.construction.Construction.set_mode.Goals as goal

@@ -1,18 +1,17 @@
-use Rattle.std.proofs.Common.{◌≡◌, ◌+◌, ◌*◌, ◌<◌, ◌≤◌, ℕ, Bool, Option, true, false, length, refl, ap, ap₂, sym, ◌∙◌, subst, arith}
+use Rattle.std.proofs.Common.{◌≡◌, ◌+◌, ◌*◌, ℕ, Bool, true, false, length, ap, ap₂, sym, ◌∙◌, subst, arith}
 use Rattle.std.proofs.lemmas.Result.{err_from_is_err_and}
 use Rattle.std.specs.Bool.{then_some}
 use Rattle.std.specs.Prelude.{is_some, slice_get}
 use Rattle.rx_spec.specs.Nfas.{Nfa}
-use Rattle.rx_spec.specs.Queries.{Anchored}
 use Rattle.rx_spec.specs.Starts.{has_anchored, has_unanchored}
 use Rattle.rx_dense.specs.Layouts.{Layout}
 use Rattle.rx_expr.specs.Nfa.{meaning}
 use Rattle.rx_stepper.specs.Steppers.{stepping_of}
-use Rattle.rx_determinize.specs.Filling.{IsEntering, IsStartedOver}
+use Rattle.rx_determinize.specs.Filling.{IsEntering}
 use Rattle.rx_determinize.specs.Working.{keying}
 use Rattle.rx_determinize.proofs.SteppingLaws.{entering_as, no_other, suits_started}
 use Rattle.rx_determinize.proofs.StartLaws.{started_twice}
-use Rattle.rx_determinize.proofs.ModeLaws.{AreSet, StartsAt, entries_with, entries_without, mode_set}
+use Rattle.rx_determinize.proofs.ModeLaws.{AreSet, entries_with, entries_without, mode_set}
 use Rattle.rx_determinize.proofs.ModeLaws.{over_start, starts_at_no, starts_at_pattern, starts_at_yes, starts_later}
 use Rattle.rx_determinize.proofs.construction.Construction.set_starts.Goals as goal
 

@@ -1,10 +1,10 @@
-use Rattle.std.proofs.Common.{◌≡◌, ◌/◌, Option, Some, true, false, List, ℕ, ap, sym, ◌∙◌, subst}
+use Rattle.std.proofs.Common.{◌≡◌, ◌/◌, Option, true, false, List, ℕ, sym, subst}
 use Rattle.std.proofs.lemmas.Bool.Decides.{when_true}
 use Rattle.std.proofs.lemmas.Result.{IfOk-weaker}
 use Rattle.std.specs.Prelude.{IfSome}
 use Rattle.rx_spec.specs.Builds.{IsReached, is_dead_state, start_node}
 use Rattle.rx_spec.specs.States.{start_state}
-use Rattle.rx_dense.specs.Layouts.{Layout, stride}
+use Rattle.rx_dense.specs.Layouts.{stride}
 use Rattle.rx_stepper.specs.Stepping.{IsKeyOf}
 use Rattle.rx_stepper.specs.Steppers.{stepping_of}
 use Rattle.rx_determinize.specs.Adding.{Adds, CanAdd}

@@ -1,9 +1,8 @@
-use Rattle.std.proofs.Common.{◌≡◌, ◌+◌, ◌<◌, ◌≤◌, ℕ, true, List, [], length, refl, ap, sym, ◌∙◌, subst, arith}
+use Rattle.std.proofs.Common.{◌≡◌, ℕ, true, List, [], length, refl, ap, ◌∙◌, subst, arith}
 use Rattle.std.proofs.lemmas.List.Elements.{All-get_or}
 use Rattle.std.proofs.lemmas.Option.{get_or_from_slice_get}
 use Rattle.std.proofs.lemmas.Result.{err_from_is_err_and}
 use Rattle.rx_base.specs.ByteClasses.{alphabet_len}
-use Rattle.rx_stepper.specs.Stepping.{Stepping}
 use Rattle.rx_stepper.specs.Steppers.{stepping_of}
 use Rattle.rx_determinize.specs.Filling.{IsFilling}
 use Rattle.rx_determinize.specs.Working.{keying}
@@ -74,7 +73,13 @@ returns-clause-entering c =
     let l = c.columns.dfa in
     let count = units_count l c.columns.self.units.items i.stepping.entering.rows.classes i.suits.are_units in
     let all : c.columns.column ≡ alphabet_len l.classes =
-    omega (arith, count, ap (λ us. length us.items) i.units, c.columns-test.false, c.len-column-end.ensures,
-    c.columns.auto.column-end) in
+    omega (
+      arith,
+      count,
+      ap (λ us. length us.items) i.units,
+      c.columns-test.false,
+      c.len-column-end.ensures,
+      c.columns.auto.column-end,
+    ) in
     filled i.suits.byte_classes i.suits.are_classes i.stepping.entering
     (subst (IsFilling (keying s l) c.columns.self.states l c.args.place s.current) all i.stepping.filling)

@@ -1,9 +1,7 @@
-use Rattle.std.proofs.Common.{◌≡◌, ◌+◌, ◌*◌, ◌<◌, ◌≤◌, ℕ, true, false, Some, None, List, length, refl, ap, ap₂, sym, ◌∙◌, subst, arith}
+use Rattle.std.proofs.Common.{◌≡◌, ◌+◌, ℕ, true, false, Some, ap, ap₂, sym, ◌∙◌, subst, arith}
 use Rattle.rx_spec.specs.Bytes.{contains}
-use Rattle.rx_base.specs.ByteClasses.{alphabet_len}
 use Rattle.rx_base.specs.Unit.{unit_number}
 use Rattle.rx_dense.specs.Builder.{with_next}
-use Rattle.rx_dense.specs.Layouts.{Layout, ids_of, row_count, stride}
 use Rattle.rx_dense.proofs.Rows.{IsId-row_id}
 use Rattle.rx_stepper.specs.Stepping.{Stepping, unit_of}
 use Rattle.rx_stepper.specs.Steppers.{stepping_of}

@@ -1,16 +1,14 @@
 -- What was met is read by its fields, as they lie in memory (`inside`).
-use Rattle.std.proofs.Common.{◌≡◌, ℕ, ◌+◌, ◌*◌, ◌<◌, List, [], ◌∷◌, ◌++◌, length, sym, ap, ◌∙◌, subst, refl, arith}
-use Rattle.std.specs.Prelude.{Contains, slice_get, true, false}
+use Rattle.std.proofs.Common.{◌≡◌, ℕ, ◌+◌, ◌*◌, List, [], ◌∷◌, ◌++◌, length, sym, ap, ◌∙◌, subst, refl, arith}
+use Rattle.std.specs.Prelude.{true, false}
 use Rattle.std.proofs.lemmas.List.{length_push}
 use Rattle.std.proofs.lemmas.Option.{slice_get_within}
 use Rattle.std.proofs.lemmas.Result.{err_from_is_err_and}
 use Rattle.rx_spec.specs.Sizes.{state_size}
-use Rattle.rx_dense.specs.Builder.{with_row}
-use Rattle.rx_dense.specs.Layouts.{Layout, AreRows, row_count, stride}
-use Rattle.rx_determinize.specs.Working.{Keying, Met, IsBare, IsWorking, IsOver}
-use Rattle.rx_determinize.specs.Adding.{Adds}
-use Rattle.rx_determinize.proofs.AddingLaws.{IsNew, met_with, is_over_full, over_new, one_more_row, working_new, is_new_key, is_old_key}
-use Rattle.rx_determinize.proofs.AddingLaws.{keys_at, keys_kept, is_true, met_of, same_met, new_key}
+use Rattle.rx_dense.specs.Layouts.{Layout, stride}
+use Rattle.rx_determinize.specs.Working.{Met, IsBare, IsWorking}
+use Rattle.rx_determinize.proofs.AddingLaws.{is_over_full, over_new, one_more_row, working_new, is_old_key}
+use Rattle.rx_determinize.proofs.AddingLaws.{keys_at, keys_kept, is_true, same_met, new_key}
 use Rattle.rx_determinize.proofs.states.States.add.Goals as goal
 
 pub row_id-requires : goal.row_id-requires
@@ -113,4 +111,3 @@ check-requires c =
     let bare = c.requires.bare in
     subst IsBare (sym c.in_ok-add_row.ensures.ok)
     (record { slices = bare.slices; pattern_ids = bare.pattern_ids; accels = bare.accels })
-

@@ -1,4 +1,4 @@
-use Rattle.std.proofs.Common.{◌≡◌, List, ℕ, length, subst, arith}
+use Rattle.std.proofs.Common.{List, ℕ, subst, arith}
 use Rattle.std.proofs.lemmas.List.{take_all}
 use Rattle.rx_determinize.specs.Matching.{AreLabels}
 use Rattle.rx_determinize.proofs.MatchingLaws.{labels_none}
