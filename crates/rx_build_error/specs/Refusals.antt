@@ -1,5 +1,5 @@
 -- The causes of the definitions that refused builds name.
-use Rattle.std.specs.Prelude.{ℕ}
+use Rattle.std.specs.Prelude.{Bool, true, false}
 use Rattle.rx_spec.specs.Builds.{Build}
 use Rattle.rx_spec.specs.Causes.{Limits, NfaCause, BuildCause, BuildRefused}
 use Rattle.rx_spec.specs.Plans.{Cause}
@@ -40,3 +40,10 @@ abbrev pub TableRefused : Limits → Build → Cause → Type 0
 TableRefused l b (Cause.NFA cause) = ⊥
 TableRefused l b (Cause.DFA cause) = BuildRefused l b cause
 
+-- whether a number or a size passes its limit
+abbrev pub is_size_limit : BuildErrorKind → Bool
+is_size_limit BuildErrorKind.TooManyStates = true
+is_size_limit BuildErrorKind.TooManyMatchPatternIDs = true
+is_size_limit (BuildErrorKind.DFAExceededSizeLimit limit) = true
+is_size_limit (BuildErrorKind.DeterminizeExceededSizeLimit limit) = true
+is_size_limit _ = false

@@ -4,7 +4,8 @@
 //! (`specs/Refusals.antt`), and whoever refuses a build says in its contract that this cause holds.
 #![tactic(auto)]
 
-ghost use Rattle.std.specs.Prelude.{◌≡◌, ◌⊎◌};
+ghost use Rattle.std.specs.Prelude.{◌≡◌};
+ghost use Rattle.rx_build_error.specs.Refusals.{is_size_limit};
 
 use rx_expr::thompson;
 use std::alloc::AllocError;
@@ -59,6 +60,20 @@ impl BuildError {
     {
         &self.kind
     }
+
+    /// Whether a number or a size passes its limit: the rows, the patterns of all match rows, or the bytes of the table
+    /// or of its construction.
+    pub fn is_size_limit_exceeded(&self) -> bool
+        ensures { result ≡ is_size_limit self.now.kind }
+    {
+        matches!(
+            self.kind,
+            BuildErrorKind::TooManyStates
+                | BuildErrorKind::TooManyMatchPatternIDs
+                | BuildErrorKind::DFAExceededSizeLimit { .. }
+                | BuildErrorKind::DeterminizeExceededSizeLimit { .. }
+        )
+    }
 }
 
 impl From<BuildErrorKind> for BuildError {
@@ -94,4 +109,3 @@ impl From<AllocError> for BuildError {
         }
     }
 }
-
