@@ -30,7 +30,8 @@ IsRefused Refused (BuildErrorKind.NFA error) = IsNfaRefused Refused error
 IsRefused Refused BuildErrorKind.Unsupported = Refused (Cause.DFA BuildCause.Unsupported)
 IsRefused Refused BuildErrorKind.TooManyStates = Refused (Cause.DFA BuildCause.TooManyStates)
 IsRefused Refused BuildErrorKind.TooManyMatchPatternIDs = Refused (Cause.DFA BuildCause.TooManyMatchPatternIDs)
-IsRefused Refused (BuildErrorKind.DFAExceededSizeLimit limit) = Refused (Cause.DFA (BuildCause.DFAExceededSizeLimit limit))
+IsRefused Refused (BuildErrorKind.DFAExceededSizeLimit limit) = Refused (Cause.DFA (BuildCause.DFAExceededSizeLimit
+    limit))
 IsRefused Refused (BuildErrorKind.DeterminizeExceededSizeLimit limit) =
     Refused (Cause.DFA (BuildCause.DeterminizeExceededSizeLimit limit))
 IsRefused Refused BuildErrorKind.Memory = Unit {0}

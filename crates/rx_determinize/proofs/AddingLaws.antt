@@ -103,7 +103,12 @@ module _ {k : Keying} {limits : SizeLimits} {met : Met} {l : Layout} {key : List
 
   module _ (rows : AreRows l) where
     words_are : (length met.keys + 2) * stride l ≡ length l.words
-    words_are = omega (arith, ap (λ n. n * stride l) working.count, div-add-mod' (length l.words) (stride l), rows.whole)
+    words_are = omega (
+      arith,
+      ap (λ n. n * stride l) working.count,
+      div-add-mod' (length l.words) (stride l),
+      rows.whole,
+    )
 
     more_words : length (with_row l).words ≡ (length met.keys + 3) * stride l
     more_words = simp (length-append, length-replicate) (omega (arith, words_are))
@@ -129,7 +134,8 @@ module _ {k : Keying} {limits : SizeLimits} {met : Met} {l : Layout} {key : List
     is_over_full BuildErrorKind.Memory full = tt
 
     -- a size that passes its limit
-    pub is_over : (kind : BuildErrorKind) → Passes limits (met_with k met key) (with_row l) kind → IsOver k limits l kind
+    pub is_over : (kind : BuildErrorKind) → Passes limits (met_with k met key) (with_row l) kind
+        → IsOver k limits l kind
     is_over (BuildErrorKind.NFA error) passes = passes
     is_over BuildErrorKind.Unsupported passes = passes
     is_over BuildErrorKind.TooManyStates passes = absurd passes
@@ -147,7 +153,12 @@ module _ {k : Keying} {limits : SizeLimits} {met : Met} {l : Layout} {key : List
     pub working_more : IsWithin limits (met_with k met key) (with_row l)
         → IsWorking k limits (met_with k met key) (with_row l)
     working_more within = record {
-      bare = record { slices = working.bare.slices; pattern_ids = working.bare.pattern_ids; accels = working.bare.accels };
+      bare = record {
+        slices = working.bare.slices;
+        pattern_ids = working.bare.pattern_ids;
+        accels =
+            working.bare.accels;
+      };
       count = more_rows;
       distinct = distinct;
       are_keys =
@@ -173,7 +184,8 @@ is_old_key false e = refl
 
 -- a key that was there
 pub old_interns : (before after : List (List ℕ)) (key : List ℕ) (id : ℕ) (is_new : Bool)
-    → after ≡ (if is_new then before ++ key ∷ [] else before) → slice_get after id ≡ Some key → Interns before key id after
+    → after ≡ (if is_new then before ++ key ∷ [] else before) → slice_get after id ≡ Some key
+    → Interns before key id after
 old_interns before after key id is_new keys here = record { is_new = is_new; keys = keys; here = here }
 
 pub keys_at : (before after : List (List ℕ)) (key : List ℕ) (b : Bool)
@@ -206,7 +218,8 @@ pub same_met : {keys others : List (List ℕ)} {size bytes patterns count : ℕ}
     → patterns ≡ count → met_of keys size patterns ≡ met_of others bytes count
 same_met e f g = cc
 
-pub new_key : {k : Keying} {limits : SizeLimits} {met : Met} {l : Layout} {keys : List (List ℕ)} {key : List ℕ} {is_new : Bool}
+pub new_key : {k : Keying} {limits : SizeLimits} {met : Met} {l : Layout} {keys : List (List ℕ)} {key : List ℕ}
+    {is_new : Bool}
     → CanAdd k limits met l key → keys ≡ met.keys → (IsTrue is_new ↔ ¬ Contains keys key) → not is_new ≡ false
     → IsNew k met key
 new_key {k} {limits} {met} {l} {keys} {key} {is_new} can same new old = record {

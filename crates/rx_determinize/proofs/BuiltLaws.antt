@@ -36,7 +36,8 @@ use Rattle.rx_determinize.specs.Matching.{AreLabels, IsLabelAt, patterns_told}
 use Rattle.rx_determinize.specs.WorkLists.{IsRowOf, nodes}
 use Rattle.rx_determinize.specs.Working.{Keying, Met, SizeLimits, entry_in, keying, states_of}
 use Rattle.rx_determinize.proofs.LabelLaws.{reached_named}
-use Rattle.rx_determinize.proofs.NodeLaws.{entry_goes_on, entry_plain, entry_whole, eoi_goes_on, next_whole, node_of_row, quit_of_row}
+use Rattle.rx_determinize.proofs.NodeLaws.{entry_goes_on, entry_plain, entry_whole, eoi_goes_on, next_whole}
+use Rattle.rx_determinize.proofs.NodeLaws.{node_of_row, quit_of_row}
 use Rattle.rx_determinize.proofs.RowIds.{row_id, row_of_id}
 use Rattle.rx_determinize.proofs.StartLaws.{number_low, place_of, start_of_place, zero_row}
 use Rattle.rx_determinize.proofs.WorkListLaws.{ends}
@@ -115,7 +116,13 @@ module _ {s : Stepping} {limits : SizeLimits} {met : Met} {l : Layout} (built : 
   starts (Anchored.Pattern j) start =
       ⊎_elim
       (λ (h : 12 + 6 * j < length l.starts).
-      in_place (Anchored.Pattern j) start (let six = by_six l.pattern_starts refl in omega (arith, h, number_low start, six.1)))
+      in_place (Anchored.Pattern j) start (let six = by_six l.pattern_starts refl in omega (
+        arith,
+        h,
+        number_low
+            start,
+        six.1,
+      )))
       (λ (h : length l.starts ≤ 12 + 6 * j).
       subst (λ (node : Node). IsRowOf states node (entry_in l (Anchored.Pattern j) start))
       (sym (no_start j start h)) (dead_entry j start h))
@@ -153,7 +160,8 @@ module _ {s : Stepping} {limits : SizeLimits} {met : Met} {l : Layout} (built : 
   key_at : (i : ℕ) → suc (suc i) < row_count l → slice_get met.keys i ≡ Some (get_or met.keys i [])
   key_at i low = slice_get-get_or met.keys i [] (omega (arith, count))
 
-  node_is : (i : ℕ) (key : List ℕ) → slice_get met.keys i ≡ Some key → node_at states (suc (suc i)) ≡ Running (s.state_of key)
+  node_is : (i : ℕ) (key : List ℕ) → slice_get met.keys i ≡ Some key
+      → node_at states (suc (suc i)) ≡ Running (s.state_of key)
   node_is i key there =
       let low = slice_get_within met.keys i key there in
       let here : get_or met.keys i [] ≡ key = get_or_from_slice_get met.keys i key [] there in
@@ -348,7 +356,8 @@ module _ {s : Stepping} {limits : SizeLimits} {met : Met} {l : Layout} (built : 
           (next_whole b (node_at states row) unit) (next_row row unit low is_unit);
       entries_within = λ mode start. low_row (built_entry b mode start) (entry_in l mode start) (starts mode start);
       nexts_within = λ row unit low is_unit.
-          low_row (next_node b (node_at states row) unit) ((machine_of l).next row unit) (next_row row unit low is_unit);
+          low_row (next_node b (node_at states row) unit) ((machine_of l).next row unit) (next_row row unit low
+          is_unit);
       labels = told;
       are_matches = are_matches;
       routed = routed;

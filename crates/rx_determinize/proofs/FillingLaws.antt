@@ -66,7 +66,8 @@ module _ (k : Keying) {met : Met} {l : Layout} {after : Met} {m : Layout} (grows
           reached = working.reached;
           steps = λ id key there lt unit is_unit.
               let in_old : id < length met.keys = omega (arith, old.within) in
-              let was = old_key met.keys grows.more id key (subst (λ (ks : List (List ℕ)). slice_get ks id ≡ Some key) grows.keys there) in_old in
+              let was = old_key met.keys grows.more id key (subst (λ (ks : List (List ℕ)). slice_get ks id ≡ Some
+              key) grows.keys there) in_old in
               subst (IsRowOf (states_of k after) (next_node k.build (Running (k.state_of key)) unit))
               (sym (grows.nexts (id + 2) unit (omega (arith, count)) is_unit))
               (row_kept (next_node k.build (Running (k.state_of key)) unit) (next_in l id unit)
@@ -95,7 +96,8 @@ module _ (k : Keying) {met : Met} {l : Layout} {after : Met} {m : Layout} (grows
         let node = next_node k.build (Running state) unit in
         subst (λ (classes : List ℕ). IsRowOf (states_of k after) (next_node k.build (Running state) (unit_of classes c))
         ((machine_of m).next (place + 2) (unit_of classes c))) (sym grows.classes)
-        (subst (IsRowOf (states_of k after) node) (sym (grows.nexts (place + 2) unit (omega (arith, count)) (units c lt)))
+        (subst (IsRowOf (states_of k after) node) (sym (grows.nexts (place + 2) unit (omega (arith, count)) (units c
+        lt)))
         (row_kept node ((machine_of l).next (place + 2) unit) (old.cells c lt)));
   }
 
@@ -120,7 +122,8 @@ module _ {l : Layout} {place unit id : ℕ} {m : Layout} (set : IsSet l place un
       let row = (place + 2) * stride l in
       subst AreRows (sym set.is)
       (rows_set l (with_next l row unit id) row (column l unit) id refl refl refl
-      (row_id l (place + 2) set.rows set.place_in) (column_within l set.rows.classes unit set.is_unit) set.is_id set.rows)
+      (row_id l (place + 2) set.rows set.place_in) (column_within l set.rows.classes unit set.is_unit) set.is_id
+      set.rows)
 
   set_count : row_count m ≡ row_count l
   set_count =
@@ -133,7 +136,8 @@ module _ {l : Layout} {place unit id : ℕ} {m : Layout} (set : IsSet l place un
       ap (λ (n : Layout). (machine_of n).next row other) set.is
       ∙ next_kept l set.rows (place + 2) unit id set.place_in set.is_unit row other is_other apart
 
-  pub entering_set : {k : Keying} {limits : SizeLimits} {met : Met} {starts : ℕ} → IsEntering k limits met l starts place
+  pub entering_set : {k : Keying} {limits : SizeLimits} {met : Met} {starts : ℕ}
+      → IsEntering k limits met l starts place
       → IsEntering k limits met m starts place
   entering_set {k} {limits} {met} {starts} old = record {
     rows = set_rows;
@@ -206,12 +210,14 @@ module _ {l : Layout} {place unit id : ℕ} {m : Layout} (set : IsSet l place un
           let led : (machine_of m).next (place + 2) unit ≡ id / stride l =
           ap (λ (n : Layout). (machine_of n).next (place + 2) unit) set.is
           ∙ next_set l set.rows (place + 2) unit id set.place_in set.is_unit unit refl in
-          subst (λ u. IsRowOf (states_of k met) (next_node k.build (Running state) u) ((machine_of m).next (place + 2) u))
+          subst (λ u. IsRowOf (states_of k met) (next_node k.build (Running state) u) ((machine_of m).next (place +
+          2) u))
           (sym unit_at)
           (subst (IsRowOf (states_of k met) (next_node k.build (Running state) unit)) (sym led) is_row)
 
 -- A state whose row is written for each column is done.
-pub filled : {k : Keying} {limits : SizeLimits} {met : Met} {l : Layout} {set place : ℕ} {state : State} (byte_classes : Bool)
+pub filled : {k : Keying} {limits : SizeLimits} {met : Met} {l : Layout} {set place : ℕ} {state : State}
+    (byte_classes : Bool)
     → l.classes ≡ classes_of k.build.nfa k.build.quit byte_classes → IsEntering k limits met l set place
     → IsFilling k met l place state (alphabet_len l.classes) → IsEntering k limits met l set (place + 1)
 filled {k} {limits} {met} {l} {set} {place} {state} byte_classes is old row =

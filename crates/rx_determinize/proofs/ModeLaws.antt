@@ -1,5 +1,6 @@
 -- The start entries of one mode after another.
-use Rattle.std.proofs.Common.{◌≡◌, ℕ, ◌+◌, ◌*◌, ◌/◌, ◌<◌, true, false, true≢false, Option, Some, None, length, ap, sym, ◌∙◌, subst, arith}
+use Rattle.std.proofs.Common.{◌≡◌, ℕ, ◌+◌, ◌*◌, ◌/◌, ◌<◌, true, false, true≢false, Option, Some, None, length, ap}
+use Rattle.std.proofs.Common.{sym, ◌∙◌, subst, arith}
 use Rattle.std.specs.Bool.{then_some}
 use Rattle.std.specs.Prelude.{Contains, IfSome, is_some, slice_get}
 use Rattle.rx_spec.specs.Builds.{IsReached, built_entry, built_modes, is_dead_state, start_node}
@@ -99,7 +100,8 @@ starts_at_no s l is =
     let b = (keying s l).build in
     record {
       entry = λ start. unanchored_row b start ∙ ap (λ (o : Option ℕ). start_node s.nfa o start) (sym is);
-      built = subst (λ (o : Option ℕ). IfSome o (λ _. Contains (built_modes b) Anchored.No)) (sym is) (unanchored_built b);
+      built = subst (λ (o : Option ℕ). IfSome o (λ _. Contains (built_modes b) Anchored.No)) (sym is)
+          (unanchored_built b);
     }
 
 pub starts_at_yes : (s : Stepping) (l : Layout) {row : Option ℕ}
@@ -108,7 +110,8 @@ starts_at_yes s l is =
     let b = (keying s l).build in
     record {
       entry = λ start. anchored_row b start ∙ ap (λ (o : Option ℕ). start_node s.nfa o start) (sym is);
-      built = subst (λ (o : Option ℕ). IfSome o (λ _. Contains (built_modes b) Anchored.Yes)) (sym is) (anchored_built b);
+      built = subst (λ (o : Option ℕ). IfSome o (λ _. Contains (built_modes b) Anchored.Yes)) (sym is)
+          (anchored_built b);
     }
 
 pub starts_at_pattern : (s : Stepping) (l : Layout) (j : ℕ) {row : Option ℕ} → is_some l.pattern_starts ≡ true

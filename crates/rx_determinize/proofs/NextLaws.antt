@@ -2,7 +2,8 @@
 use Rattle.std.proofs.Common.{◌≡◌, ℕ, suc, ◌+◌, ◌*◌, ◌/◌, ◌<◌, true, false, List, refl, ap, sym, ◌∙◌, subst, arith}
 use Rattle.std.proofs.lemmas.Nat.{div-mul-add, pow_pos}
 use Rattle.std.proofs.lemmas.List.{append-nil}
-use Rattle.std.specs.Prelude.{Bool, Option, Some, Result, Ok, Err, IfOk, IfSome, MatchBool, if◌then◌else◌, slice_get, []}
+use Rattle.std.specs.Prelude.{Bool, Option, Some, Result, Ok, Err, IfOk, IfSome, MatchBool, if◌then◌else◌}
+use Rattle.std.specs.Prelude.{slice_get, []}
 use Rattle.rx_dense.specs.Builder.{with_row}
 use Rattle.rx_determinize.proofs.FillingLaws.{grows_by}
 use Rattle.rx_spec.specs.Bytes.{contains}
@@ -95,7 +96,8 @@ module _ (s : Stepping) (l : Layout) (rows : AreRows l) (classes : s.classes ≡
     (reached : IsReached (keying s l).build s.current) (column : ℕ) (within : column < alphabet_len l.classes)
     (stays : contains l.quit (unit_of l.classes column) ≡ false) where
   -- a column leads to the state that is stepped to
-  pub leads_on : next_node (keying s l).build (Running s.current) (unit_of l.classes column) ≡ Running (stepped s column)
+  pub leads_on : next_node (keying s l).build (Running s.current) (unit_of l.classes column) ≡ Running (stepped s
+      column)
   leads_on =
       goes_on (keying s l).build s.current (unit_of l.classes column) reached.alive stays
       ∙ ap (λ (cs : List ℕ). Running (step s.nfa s.kind s.current (unit_of cs column))) (sym classes)

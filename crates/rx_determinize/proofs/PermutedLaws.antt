@@ -51,8 +51,12 @@ apart_in xs distinct i j less low e =
 pub renumbered : {numbers : List ℕ} {t u : Table} → IsPermuted numbers t u → IsRenumbered t.size numbers
 renumbered {numbers} {t} {u} p = record {
   there = λ place low.
-      let own : Contains (range_with_len 0 n) place =
-      (place, omega (arith, low, length-range_with_len 0 n), get_or-range_with_len 0 n place place low ∙ zero_more place) in
+      let own : Contains (range_with_len 0 n) place = (
+        place,
+        omega (arith, low, length-range_with_len 0 n),
+        get_or-range_with_len 0 n place place low ∙ zero_more
+            place,
+      ) in
       let at = Contains-permutation (range_with_len 0 n) numbers place p.permutation own in
       (at.0, omega (arith, at.1, count), get_or_default numbers at.0 0 place at.1 ∙ at.2);
   apart = λ row other low high e. ⊎_elim
@@ -209,7 +213,8 @@ module _ {numbers : List ℕ} {t u : Table} (p : IsPermuted numbers t u) (states
         let lower : i < length states = omega arith in
         let same : get_or states (row_at (i + 2) - 2) d ≡ get_or states (row_at (j + 2) - 2) d =
         sym (moved_at i d lower) ∙ e ∙ moved_at j d high in
-        let places = apart_at b reached (row_at (i + 2) - 2) (row_at (j + 2) - 2) d (within i lower) (within j high) same in
+        let places = apart_at b reached (row_at (i + 2) - 2) (row_at (j + 2) - 2) d (within i lower) (within j high)
+        same in
         let rows : row_at (i + 2) ≡ row_at (j + 2) = omega (arith, places, behind i lower, behind j high) in
         absurd (omega (
           arith,

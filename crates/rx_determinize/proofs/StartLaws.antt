@@ -1,6 +1,8 @@
 -- Start entries that are set, and the states in which searches start.
-use Rattle.std.proofs.Common.{◌≡◌, ◌≢◌, ℕ, zero, suc, ◌+◌, ◌*◌, ◌/◌, ◌%◌, ◌<◌, ◌≤◌, Bool, true, false, Option, Some, None}
-use Rattle.std.proofs.Common.{List, [], ◌∷◌, ◌++◌, length, get_or, replicate, slice_index, refl, ap, ap₂, sym, ◌∙◌, subst}
+use Rattle.std.proofs.Common.{◌≡◌, ◌≢◌, ℕ, zero, suc, ◌+◌, ◌*◌, ◌/◌, ◌%◌, ◌<◌, ◌≤◌, Bool, true, false, Option, Some}
+use Rattle.std.proofs.Common.{None}
+use Rattle.std.proofs.Common.{List, [], ◌∷◌, ◌++◌, length, get_or, replicate, slice_index, refl, ap, ap₂, sym, ◌∙◌}
+use Rattle.std.proofs.Common.{subst}
 use Rattle.std.proofs.Common.{arith, ⊎_elim}
 use Rattle.std.proofs.lemmas.Bool.{cases_eq, cases_lt, lt-ltb}
 use Rattle.std.proofs.lemmas.List.{get_or-set_other, get_or-set_same, get_or-replicate, get_or_past}
@@ -170,7 +172,8 @@ module _ {k : Keying} {limits : SizeLimits} {met : Met} {l : Layout} {mode : Anc
     within = old.within;
     list = old.list;
     starts = λ other context lt. ⊎_elim
-        (λ (e : place_of other context ≡ place_of mode start). here other context (one_start other mode context start e))
+        (λ (e : place_of other context ≡ place_of mode start). here other context (one_start other mode context start
+        e))
         (λ (ne : place_of other context ≡ place_of mode start → ⊥).
         subst (IsRowOf (states_of k met) (built_entry k.build other context))
         (sym (entry_kept l mode start id other context ne)) (old.starts other context (omega arith)))
@@ -264,8 +267,12 @@ has_pattern b k e low =
     let n = length b.nfa.start_patterns in
     let make = λ (i : ℕ). Anchored.Pattern i in
     let last = (if b.pattern_starts then pattern_modes n else []) in
-    let there : Contains (pattern_modes n) (Anchored.Pattern k) =
-    (k, rw length-map-range_with_len low, get_or-map-range_with_len make 0 n k k (Anchored.Pattern k) low (omega arith)) in
+    let there : Contains (pattern_modes n) (Anchored.Pattern k) = (
+      k,
+      rw length-map-range_with_len low,
+      get_or-map-range_with_len make 0 n k k (Anchored.Pattern k) low (omega
+          arith),
+    ) in
     Contains-append_right (front ++ middle) last (Anchored.Pattern k)
     (subst (λ (c : Bool). Contains (if c then pattern_modes n else []) (Anchored.Pattern k)) (sym e) there)
 
@@ -355,7 +362,8 @@ pub record IsStartRow (s : Stepping) (limits : SizeLimits) (met : Met) (l : Layo
   pub is_row : IsRowOf (states_of (keying s m) after) node (id / stride m)
 
 -- a state is entered, and then a start entry set
-pub start_set : (s : Stepping) {limits : SizeLimits} {met after : Met} {l m n : Layout} (mode : Anchored) (start : Start)
+pub start_set : (s : Stepping) {limits : SizeLimits} {met after : Met} {l m n : Layout} (mode : Anchored) (start :
+    Start)
     {id : ℕ} → IsEntering (keying s l) limits met l (place_of mode start) 0
     → IsStartRow s limits met l (built_entry (keying s l).build mode start) after m id
     → place_of mode start < length l.starts → n ≡ with_start m mode start id
@@ -370,7 +378,8 @@ start_set s {limits} {met} {after} {l} {m} {n} mode start {id} entering found lo
     (entering_kept (keying s l) found.grows found.rows working entering) in
     let leads : IsStart (keying s m) after m mode start id = record {
       is_row =
-          subst (λ (k : Keying). IsRowOf (states_of (keying s m) after) (built_entry k.build mode start) (id / stride m))
+          subst (λ (k : Keying). IsRowOf (states_of (keying s m) after) (built_entry k.build mode start) (id / stride
+          m))
           (sym same) found.is_row;
       place_in = omega (arith, count);
     } in
@@ -420,7 +429,8 @@ pub anchored_row : (b : Build) (start : Start) → built_entry b Anchored.Yes st
 anchored_row b start = no_row (has_anchored b.start_kind) b.nfa b.nfa.start_anchored start
 
 pub unanchored_built : (b : Build)
-    → IfSome (then_some (has_unanchored b.start_kind) b.nfa.start_unanchored) (λ _. Contains (built_modes b) Anchored.No)
+    → IfSome (then_some (has_unanchored b.start_kind) b.nfa.start_unanchored) (λ _. Contains (built_modes b)
+    Anchored.No)
 unanchored_built b = where_some (has_unanchored b.start_kind) b.nfa.start_unanchored _ (has_no b)
 
 pub anchored_built : (b : Build)

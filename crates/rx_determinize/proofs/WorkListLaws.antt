@@ -11,23 +11,28 @@ use Rattle.std.specs.Prelude.{All, AllPairs, Contains, slice_get, if◌then◌el
 use Rattle.rx_spec.specs.Queries.{Anchored}
 use Rattle.rx_spec.specs.Machines.{run, IsWord}
 use Rattle.rx_spec.specs.States.{State, dead_state}
-use Rattle.rx_spec.specs.Builds.{Build, Node, Quit, Running, dead, is_dead, is_dead_state, next_node, built_entry, IsReached, AreReached}
+use Rattle.rx_spec.specs.Builds.{Build, Node, Quit, Running, dead, is_dead, is_dead_state, next_node, built_entry}
+use Rattle.rx_spec.specs.Builds.{IsReached, AreReached}
 use Rattle.rx_spec.specs.Causes.{Exceeds}
 use Rattle.rx_spec.specs.declared.Start.{Start}
-use Rattle.rx_lemmas.proofs.Words.{run-append, run-nil, run-cons, IsWord-append, IsWord-cons, IsWord-nil, IsWord-head, IsWord-tail}
+use Rattle.rx_lemmas.proofs.Words.{run-append, run-nil, run-cons, IsWord-append, IsWord-cons, IsWord-nil}
+use Rattle.rx_lemmas.proofs.Words.{IsWord-head, IsWord-tail}
 use Rattle.rx_determinize.specs.WorkLists.{nodes, next_row, IsRowOf, IsWorkList, AreStartRows, Interns}
 
-pub slice_get-append : {X : Type 0} (xs ys : List X) (i : ℕ) (x : X) → slice_get xs i ≡ Some x → slice_get (xs ++ ys) i ≡ Some x
+pub slice_get-append : {X : Type 0} (xs ys : List X) (i : ℕ) (x : X) → slice_get xs i ≡ Some x
+    → slice_get (xs ++ ys) i ≡ Some x
 slice_get-append [] ys i x there = absurd cc
 slice_get-append (z ∷ xs) ys zero x there = there
 slice_get-append (z ∷ xs) ys (suc i) x there = slice_get-append xs ys i x there
 
 -- rows stay
-pub row_stays : (states more : List State) (node : Node) (row : ℕ) → IsRowOf states node row → IsRowOf (states ++ more) node row
+pub row_stays : (states more : List State) (node : Node) (row : ℕ) → IsRowOf states node row
+    → IsRowOf (states ++ more) node row
 row_stays states more node row is_row = at (is_dead node) is_row
   where
     stays : slice_get (nodes states) row ≡ Some node → slice_get (nodes (states ++ more)) row ≡ Some node
-    stays there = ap (λ l. slice_get (dead ∷ Quit ∷ l) row) (map-append Running states more) ∙ slice_get-append (nodes states) (map Running more) row node there
+    stays there = ap (λ l. slice_get (dead ∷ Quit ∷ l) row) (map-append Running states more) ∙ slice_get-append
+        (nodes states) (map Running more) row node there
 
     at : (b : Bool) → MatchBool b (row ≡ 0) (slice_get (nodes states) row ≡ Some node)
         → MatchBool b (row ≡ 0) (slice_get (nodes (states ++ more)) row ≡ Some node)
@@ -57,7 +62,8 @@ old_key keys more id key there lt =
     let here = slice_get-get_or keys id key lt in
     here ∙ (sym (slice_get-append keys more id (get_or keys id key) here) ∙ there)
 
-module _ {b : Build} {state_of : List ℕ → State} {next : ℕ → ℕ → ℕ} {keys : List (List ℕ)} {done : ℕ} (work : IsWorkList b state_of next keys done) where
+module _ {b : Build} {state_of : List ℕ → State} {next : ℕ → ℕ → ℕ} {keys : List (List ℕ)} {done : ℕ}
+    (work : IsWorkList b state_of next keys done) where
   -- keys behind
   pub more_keys : (more : List (List ℕ)) → All (λ key. IsReached b (state_of key)) more → done ≤ length keys
       → IsWorkList b state_of next (keys ++ more) done
@@ -68,28 +74,33 @@ module _ {b : Build} {state_of : List ℕ → State} {next : ℕ → ℕ → ℕ
         (work.steps id key (old id key there (omega arith)) lt unit is_unit);
   }
     where
-      stays : (node : Node) (row : ℕ) → IsRowOf (map state_of keys) node row → IsRowOf (map state_of (keys ++ more)) node row
+      stays : (node : Node) (row : ℕ) → IsRowOf (map state_of keys) node row
+          → IsRowOf (map state_of (keys ++ more)) node row
       stays node row h =
           subst (λ states. IsRowOf states node row) (sym (map-append state_of keys more))
           (row_stays (map state_of keys) (map state_of more) node row h)
 
-      old : (id : ℕ) (key : List ℕ) → slice_get (keys ++ more) id ≡ Some key → id < length keys → slice_get keys id ≡ Some key
+      old : (id : ℕ) (key : List ℕ) → slice_get (keys ++ more) id ≡ Some key → id < length keys
+          → slice_get keys id ≡ Some key
       old id key there lt =
           let here = slice_get-get_or keys id key lt in
           here ∙ (sym (slice_get-append keys more id (get_or keys id key) here) ∙ there)
 
   -- a key is interned
-  pub interned : {key : List ℕ} {id : ℕ} {after : List (List ℕ)} → Interns keys key id after → IsReached b (state_of key)
+  pub interned : {key : List ℕ} {id : ℕ} {after : List (List ℕ)} → Interns keys key id after
+      → IsReached b (state_of key)
       → done ≤ length keys → IsWorkList b state_of next after done
   interned {key} {id} {after} interns is_reached le = rw interns.keys (at interns.is_new)
     where
       at : (is_new : Bool) → IsWorkList b state_of next (if is_new then keys ++ key ∷ [] else keys) done
-      at true = more_keys (key ∷ []) (All-cons (λ k. IsReached b (state_of k)) key [] is_reached (All-nil (λ k. IsReached b (state_of k)))) le
+      at true = more_keys (key ∷ []) (All-cons (λ k. IsReached b (state_of k)) key [] is_reached (All-nil (λ k.
+          IsReached b (state_of k)))) le
       at false = work
 
   -- one more state is done
   pub does : {key : List ℕ} (there : slice_get keys done ≡ Some key)
-      → ((unit : ℕ) → unit < 257 → IsRowOf (map state_of keys) (next_node b (Running (state_of key)) unit) (next done unit))
+      → ((unit : ℕ) → unit < 257 → IsRowOf (map state_of keys) (next_node b (Running (state_of key)) unit) (next done
+      unit))
       → IsWorkList b state_of next keys (done + 1)
   does {key} there known = record {
     reached = work.reached;
@@ -188,7 +199,8 @@ module _ {b : Build} {state_of : List ℕ → State} {next : ℕ → ℕ → ℕ
               → IsRowOf (map state_of keys) (next_node b (Running s) unit) (next_row next row unit)
           led t =
               let lt : t.id < done = omega (arith, slice_get_within keys t.id t.key t.there) in
-              subst (λ r. IsRowOf (map state_of keys) (next_node b (Running s) unit) (next_row next r unit)) (sym t.row_is)
+              subst (λ r. IsRowOf (map state_of keys) (next_node b (Running s) unit) (next_row next r unit)) (sym
+              t.row_is)
               (subst (λ state. IsRowOf (map state_of keys) (next_node b (Running state) unit) (next t.id unit)) t.stands
               (work.steps t.id t.key t.there lt unit is_unit))
 
@@ -203,7 +215,8 @@ module _ {b : Build} {state_of : List ℕ → State} {next : ℕ → ℕ → ℕ
       (step_row all node row unit (IsWord-head unit word is_word) is_row)
 
   -- where all are done, these are the states that are reached
-  pub ends : {entry : Anchored → Start → ℕ} → AreStartRows b (map state_of keys) entry → length keys ≤ done → AllPairs (λ x y. x ≢ y) (map state_of keys) → AreReached b (map state_of keys)
+  pub ends : {entry : Anchored → Start → ℕ} → AreStartRows b (map state_of keys) entry → length keys ≤ done
+      → AllPairs (λ x y. x ≢ y) (map state_of keys) → AreReached b (map state_of keys)
   ends {entry} starts all distinct = record {
     distinct = distinct;
     only = All-map (IsReached b) state_of keys work.reached;

@@ -29,7 +29,8 @@ pub record IsWorkList (b : Build) (state_of : List ℕ → State) (next : ℕ �
 
 -- the starts have rows
 abbrev pub AreStartRows : Build → List State → (Anchored → Start → ℕ) → Type 0
-AreStartRows b states entry = (mode : Anchored) (start : Start) → IsRowOf states (built_entry b mode start) (entry mode start)
+AreStartRows b states entry = (mode : Anchored) (start : Start)
+    → IsRowOf states (built_entry b mode start) (entry mode start)
 
 -- what interning a key answers of the keys
 pub record Interns (before : List (List ℕ)) (key : List ℕ) (id : ℕ) (after : List (List ℕ)) : Type 0 where

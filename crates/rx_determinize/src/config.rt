@@ -100,8 +100,10 @@ impl Config {
         ensures ok { OnOk result (IsDeterminized (build_in (meaning nfa.now) self.now dfa.old) dfa.old dfa.new) }
         ensures fits { OnOk result ((byte_classes : Bool) → IsBegunWith (meaning nfa.now) self.now byte_classes dfa.old
             → BuildFits (limits_of self.now byte_classes) (build_in (meaning nfa.now) self.now dfa.old)) }
-        ensures err { IfErr result (λ error. (byte_classes : Bool) → IsBegunWith (meaning nfa.now) self.now byte_classes dfa.old
-            → IsRefused (TableRefused (limits_of self.now byte_classes) (build_in (meaning nfa.now) self.now dfa.old)) error.kind) }
+        ensures err { IfErr result (λ error. (byte_classes : Bool)
+            → IsBegunWith (meaning nfa.now) self.now byte_classes dfa.old
+            → IsRefused (TableRefused (limits_of self.now byte_classes) (build_in (meaning nfa.now) self.now
+            dfa.old)) error.kind) }
     {
         if is_unsupported(nfa, &self.quit) {
             return Err(BuildErrorKind::Unsupported.into());
@@ -128,8 +130,10 @@ impl Config {
         ensures rest { OnOk result (IsStartedOver dfa.old dfa.new) }
         ensures fits { OnOk result ((byte_classes : Bool) → IsBegunWith (meaning nfa.now) self.now byte_classes dfa.old
             → BuildFits (limits_of self.now byte_classes) (build_in (meaning nfa.now) self.now dfa.old)) }
-        ensures err { IfErr result (λ error. (byte_classes : Bool) → IsBegunWith (meaning nfa.now) self.now byte_classes dfa.old
-            → IsRefused (TableRefused (limits_of self.now byte_classes) (build_in (meaning nfa.now) self.now dfa.old)) error.kind) }
+        ensures err { IfErr result (λ error. (byte_classes : Bool)
+            → IsBegunWith (meaning nfa.now) self.now byte_classes dfa.old
+            → IsRefused (TableRefused (limits_of self.now byte_classes) (build_in (meaning nfa.now) self.now
+            dfa.old)) error.kind) }
     {
         let classes = *dfa.byte_classes();
         let mut stepper = Stepper::new(alloc, nfa, self.match_kind, &classes)?;

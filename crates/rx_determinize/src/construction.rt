@@ -69,14 +69,16 @@ impl Construction {
         column: usize,
         last: Last,
     ) -> Result<StateID, BuildError>
-        requires working { IsWorking (keying (stepping_of stepper.old) dfa.old) self.old.limits self.old.states dfa.old }
+        requires working { IsWorking (keying (stepping_of stepper.old) dfa.old) self.old.limits self.old.states
+            dfa.old }
         requires rows { AreRows dfa.old }
         requires suits { Suits (stepping_of stepper.old) self.old.units.items dfa.old }
         requires reached { IsReached (keying (stepping_of stepper.old) dfa.old).build
             (stepping_of stepper.old).current }
         requires column { column < alphabet_len dfa.old.classes }
         requires goes_on { contains dfa.old.quit (unit_of dfa.old.classes column) ≡ false }
-        requires last { IfSome last.column (λ other. IsStepped (keying (stepping_of stepper.old) dfa.old) self.old.states
+        requires last { IfSome last.column (λ other. IsStepped (keying (stepping_of stepper.old) dfa.old)
+            self.old.states
             dfa.old (stepping_of stepper.old) other last.id) }
         ensures stepped { IfOk result (IsStepped (keying (stepping_of stepper.old) dfa.new) self.new.states dfa.new
             (stepping_of stepper.old) column) }
@@ -142,7 +144,8 @@ impl Construction {
         dfa: &mut OwnedDFA,
         place: usize,
     ) -> Result<(), BuildError>
-        requires entering { IsEntering (keying (stepping_of stepper.old) dfa.old) self.old.limits self.old.states dfa.old
+        requires entering { IsEntering (keying (stepping_of stepper.old) dfa.old) self.old.limits self.old.states
+            dfa.old
             (length dfa.old.starts) place }
         requires suits { Suits (stepping_of stepper.old) self.old.units.items dfa.old }
         requires place { place < length self.old.states.keys }
@@ -172,7 +175,8 @@ impl Construction {
         stepper: &mut Stepper<'_>,
         dfa: &mut OwnedDFA,
     ) -> Result<(), BuildError>
-        requires entering { IsEntering (keying (stepping_of stepper.old) dfa.old) self.old.limits self.old.states dfa.old
+        requires entering { IsEntering (keying (stepping_of stepper.old) dfa.old) self.old.limits self.old.states
+            dfa.old
             (length dfa.old.starts) 0 }
         requires suits { Suits (stepping_of stepper.old) self.old.units.items dfa.old }
         ensures entering { OnOk result (IsEntering (keying (stepping_of stepper.old) dfa.new) self.old.limits

@@ -37,7 +37,8 @@ impl Construction {
         nfa: &NFA,
         dfa: &mut OwnedDFA,
     ) -> Result<(), BuildError>
-        requires entering { IsEntering (keying (stepping_of stepper.old) dfa.old) self.old.limits self.old.states dfa.old 0 0 }
+        requires entering { IsEntering (keying (stepping_of stepper.old) dfa.old) self.old.limits self.old.states
+            dfa.old 0 0 }
         requires suits { Suits (stepping_of stepper.old) self.old.units.items dfa.old }
         requires nfa { (stepping_of stepper.old).nfa ≡ meaning nfa.now }
         requires entries { length dfa.old.starts ≡ start_entries dfa.old.pattern_starts }
@@ -75,10 +76,12 @@ impl Construction {
         mode: &Anchored,
         row: &Option<StateID>,
     ) -> Result<(), BuildError>
-        requires entering { IsEntering (keying (stepping_of stepper.old) dfa.old) self.old.limits self.old.states dfa.old
+        requires entering { IsEntering (keying (stepping_of stepper.old) dfa.old) self.old.limits self.old.states
+            dfa.old
             (mode_place (mode_of mode.now)) 0 }
         requires suits { Suits (stepping_of stepper.old) self.old.units.items dfa.old }
-        requires row { (start : Context) → built_entry (keying (stepping_of stepper.old) dfa.old).build (mode_of mode.now) start
+        requires row { (start : Context) → built_entry (keying (stepping_of stepper.old) dfa.old).build (mode_of
+            mode.now) start
             ≡ start_node (stepping_of stepper.old).nfa row.now start }
         requires built { IfSome row.now (λ _.
             Contains (built_modes (keying (stepping_of stepper.old) dfa.old).build) (mode_of mode.now)) }
@@ -108,12 +111,14 @@ impl Construction {
         row: Option<StateID>,
         start: Start,
     ) -> Result<StateID, BuildError>
-        requires working { IsWorking (keying (stepping_of stepper.old) dfa.old) self.old.limits self.old.states dfa.old }
+        requires working { IsWorking (keying (stepping_of stepper.old) dfa.old) self.old.limits self.old.states
+            dfa.old }
         requires rows { AreRows dfa.old }
         requires suits { Suits (stepping_of stepper.old) self.old.units.items dfa.old }
         requires reached { IfSome row (λ row. let state = start_state (stepping_of stepper.old).nfa row start in
             is_dead_state state ≡ false → IsReached (keying (stepping_of stepper.old) dfa.old).build state) }
-        ensures is_row { IfOk result (λ id. IsRowOf (states_of (keying (stepping_of stepper.old) dfa.new) self.new.states)
+        ensures is_row { IfOk result (λ id. IsRowOf (states_of (keying (stepping_of stepper.old) dfa.new)
+            self.new.states)
             (start_node (stepping_of stepper.old).nfa row start) (id / stride dfa.new)) }
         ensures is_id { IfOk result (IsRowId dfa.new) }
         ensures rows { OnOk result (AreRows dfa.new) }

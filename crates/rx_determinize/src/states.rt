@@ -1,6 +1,7 @@
 //! The states that were met, each with a row of the table.
 
-ghost use Rattle.std.specs.Prelude.{◌≡◌, ◌≢◌, ◌<◌, ◌≤◌, ◌+◌, ◌*◌, ◌^◌, [], ◌∷◌, ◌++◌, if◌then◌else◌, true, false, length};
+ghost use Rattle.std.specs.Prelude.{◌≡◌, ◌≢◌, ◌<◌, ◌≤◌, ◌+◌, ◌*◌, ◌^◌, [], ◌∷◌, ◌++◌, if◌then◌else◌, true, false};
+ghost use Rattle.std.specs.Prelude.{length};
 ghost use Rattle.std.specs.Prelude.{slice_get, AllPairs, All, Contains, Some, IfOk, IfErr, OnOk, Err};
 ghost use Rattle.rx_spec.specs.Causes.{max_id};
 ghost use Rattle.rx_search.specs.Starts.{IsId};
@@ -52,7 +53,8 @@ impl Model for States {
 
     ghost view = { λ s. record { keys = s.keys; size = s.size; patterns = s.patterns } };
 
-    ghost invariant = { λ s. (length s.keys ≤ 2 ^ 32) × (s.size ≤ length s.keys * 2 ^ 64) × (s.patterns ≤ length s.keys * 2 ^ 64) };
+    ghost invariant = { λ s. (length s.keys ≤ 2 ^ 32) × (s.size ≤ length s.keys * 2 ^ 64) × (s.patterns ≤ length
+        s.keys * 2 ^ 64) };
 }
 
 impl States {

@@ -23,14 +23,15 @@ is_begun {nfa} {s} {byte_classes} b {l} with_parts is =
     let starts : b.pattern_starts ≡ is_some l.pattern_starts =
     own_starts b.pattern_starts b.pattern_len ∙ ap (λ (n : Layout). is_some n.pattern_starts) (sym is) in
     let kind = ap (λ (n : Layout). n.start_kind) (sym is) in
-    let flags = ap (λ (n : Layout). n.flags) (sym is) in
-    (byte_classes,
-    is ∙ λ i. initial (record {
-      classes = with_parts.classes i;
-      pattern_len = with_parts.pattern_len i;
-      start_kind = kind i;
-      line_terminator = with_parts.line_terminator i;
-      pattern_starts = starts i;
-      quit = with_parts.quit i;
-      flags = flags i;
-    }))
+    let flags = ap (λ (n : Layout). n.flags) (sym is) in (
+      byte_classes,
+      is ∙ λ i. initial (record {
+        classes = with_parts.classes i;
+        pattern_len = with_parts.pattern_len i;
+        start_kind = kind i;
+        line_terminator = with_parts.line_terminator i;
+        pattern_starts = starts i;
+        quit = with_parts.quit i;
+        flags = flags i;
+      }),
+    )

@@ -1,5 +1,6 @@
 -- The classes of bytes that the code makes are those of the definitions.
-use Rattle.std.proofs.Common.{◌≡◌, ℕ, ◌+◌, ◌<◌, ◌||◌, Bool, true, false, List, length, map, slice_index, refl, sym, ◌∙◌, arith}
+use Rattle.std.proofs.Common.{◌≡◌, ℕ, ◌+◌, ◌<◌, ◌||◌, Bool, true, false, List, length, map, slice_index, refl, sym}
+use Rattle.std.proofs.Common.{◌∙◌, arith}
 use Rattle.std.proofs.lemmas.List.FromFn.{fill_by_all}
 use Rattle.std.proofs.Math.Bool.{or_comm}
 use Rattle.rx_spec.specs.Bytes.{contains}
@@ -33,4 +34,5 @@ shared_classes nfa quit set classes count ends each =
     (λ b h.
     each b h
     ∙ class_by-alike (contains set) (ends_class nfa quit true) b
-    (λ c low. ends c (omega arith) ∙ or_comm (rows_part nfa.line_terminator nfa.rows c) (parts (contains quit) c (c + 1))))
+    (λ c low. ends c (omega arith) ∙ or_comm (rows_part nfa.line_terminator nfa.rows c) (parts (contains quit) c (c +
+    1))))

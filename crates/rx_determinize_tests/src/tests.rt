@@ -37,7 +37,14 @@ fn compare(rt: &impl Abort, alloc: Global, way: &Case<'_>, texts: &[&str]) -> Re
 
 #[test]
 fn literals_and_loops(rt: HostRuntime) -> Result<(), Fail> {
-    let texts = ["a", "", "ab abc b", "a b | {0,} c .", "[^a] {2,} b", "a {1,3}? b | {0,} aba"];
+    let texts = [
+        "a",
+        "",
+        "ab abc b",
+        "a b | {0,} c .",
+        "[^a] {2,} b",
+        "a {1,3}? b | {0,} aba",
+    ];
     compare(&rt, rt.alloc(), &FORWARD, &texts)?;
     let reverse = Case {
         kind: MatchKind::All,
@@ -49,7 +56,12 @@ fn literals_and_loops(rt: HostRuntime) -> Result<(), Fail> {
 
 #[test]
 fn assertions(rt: HostRuntime) -> Result<(), Fail> {
-    let texts = ["<word> a . <word> .", "^ a . $ . b", "<startlf> a . <endcrlf> .", "<wordstarthalf> <wordend>"];
+    let texts = [
+        "<word> a . <word> .",
+        "^ a . $ . b",
+        "<startlf> a . <endcrlf> .",
+        "<wordstarthalf> <wordend>",
+    ];
     compare(&rt, rt.alloc(), &FORWARD, &texts)?;
     let reverse = Case {
         kind: MatchKind::All,
@@ -93,7 +105,9 @@ fn refused(alloc: Global, case: &Case<'_>, config: Config) -> Result<Option<Buil
 fn limits_are_exact(rt: HostRuntime) -> Result<(), Fail> {
     let alloc = rt.alloc();
     // a row has four words, and there are five states and twelve start entries
-    let fits = Config::new().dfa_size_limit(Some(164)).determinize_size_limit(Some(72));
+    let fits = Config::new()
+        .dfa_size_limit(Some(164))
+        .determinize_size_limit(Some(72));
     assert!(rt; refused(alloc, &FORWARD, fits)?.is_none());
     let table = Config::new().dfa_size_limit(Some(163));
     let is_refused = matches!(
@@ -112,7 +126,9 @@ fn limits_are_exact(rt: HostRuntime) -> Result<(), Fail> {
         patterns: "",
         ..FORWARD
     };
-    let zero = Config::new().dfa_size_limit(Some(0)).determinize_size_limit(Some(0));
+    let zero = Config::new()
+        .dfa_size_limit(Some(0))
+        .determinize_size_limit(Some(0));
     assert!(rt; refused(alloc, &none, zero)?.is_none());
     Ok(())
 }
@@ -124,7 +140,10 @@ fn unicode_words_ask_for_quit_bytes(rt: HostRuntime) -> Result<(), Fail> {
         patterns: "<uword> a .",
         ..FORWARD
     };
-    let is_refused = matches!(refused(alloc, &word, Config::new())?, Some(BuildErrorKind::Unsupported));
+    let is_refused = matches!(
+        refused(alloc, &word, Config::new())?,
+        Some(BuildErrorKind::Unsupported)
+    );
     assert!(rt; is_refused);
     // every byte from 0x80 on, or all but the first
     let mut high = [0x80; 128];
@@ -135,7 +154,10 @@ fn unicode_words_ask_for_quit_bytes(rt: HostRuntime) -> Result<(), Fail> {
         quit: &high[1..],
         ..word
     };
-    let is_refused = matches!(refused(alloc, &most, Config::new())?, Some(BuildErrorKind::Unsupported));
+    let is_refused = matches!(
+        refused(alloc, &most, Config::new())?,
+        Some(BuildErrorKind::Unsupported)
+    );
     assert!(rt; is_refused);
     let all = Case {
         quit: &high,

@@ -44,8 +44,8 @@ impl Case<'_> {
     }
 }
 
-/// The class of each byte: bytes that neither a row nor the quit set tells apart have one class, or without byte classes
-/// each byte its own.
+/// The class of each byte: bytes that neither a row nor the quit set tells apart have one class, or without byte
+/// classes each byte its own.
 fn byte_classes(nfa: &NFA, quit: &ByteSet, byte_classes: bool) -> Result<ByteClasses, AllocError>
     ensures { IfOk result (λ classes. classes ≡ classes_of (meaning nfa.now) quit.now byte_classes) }
 {

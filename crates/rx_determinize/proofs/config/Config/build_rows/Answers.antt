@@ -18,7 +18,11 @@ pub set_starts-requires-clause-entering : goal.set_starts-requires-clause-enteri
 set_starts-requires-clause-entering c =
     let x : Begins (stepping_of c.in_ok-stepper.stepper) (meaning c.args.nfa.now) c.args.self.now c.requires.begun.0
     c.args.dfa.now =
-    record { begun = c.requires.begun.1; nfa_is = c.in_ok-stepper.ensures.nfa; kind_is = c.in_ok-stepper.ensures.kind ∙ ap (λ (m : Settings). m.match_kind) c.self.view_is } in
+    record {
+      begun = c.requires.begun.1;
+      nfa_is = c.in_ok-stepper.ensures.nfa;
+      kind_is = c.in_ok-stepper.ensures.kind ∙ ap (λ (m : Settings). m.match_kind) c.self.view_is;
+    } in
     begun_entering x c.in_ok-construction.construction.limits c.in_ok-construction.construction.states
     c.in_ok-construction.ensures.states c.byte_classes.ensures.are_classes c.args.nfa.now.patterns
 
@@ -26,7 +30,11 @@ pub set_starts-requires-clause-suits : goal.set_starts-requires-clause-suits
 set_starts-requires-clause-suits c =
     let x : Begins (stepping_of c.in_ok-stepper.stepper) (meaning c.args.nfa.now) c.args.self.now c.requires.begun.0
     c.args.dfa.now =
-    record { begun = c.requires.begun.1; nfa_is = c.in_ok-stepper.ensures.nfa; kind_is = c.in_ok-stepper.ensures.kind ∙ ap (λ (m : Settings). m.match_kind) c.self.view_is } in
+    record {
+      begun = c.requires.begun.1;
+      nfa_is = c.in_ok-stepper.ensures.nfa;
+      kind_is = c.in_ok-stepper.ensures.kind ∙ ap (λ (m : Settings). m.match_kind) c.self.view_is;
+    } in
     record {
       byte_classes = c.requires.begun.0;
       are_classes = classes_are x;
@@ -42,14 +50,22 @@ pub set_starts-requires-clause-entries : goal.set_starts-requires-clause-entries
 set_starts-requires-clause-entries c =
     let x : Begins (stepping_of c.in_ok-stepper.stepper) (meaning c.args.nfa.now) c.args.self.now c.requires.begun.0
     c.args.dfa.now =
-    record { begun = c.requires.begun.1; nfa_is = c.in_ok-stepper.ensures.nfa; kind_is = c.in_ok-stepper.ensures.kind ∙ ap (λ (m : Settings). m.match_kind) c.self.view_is } in
+    record {
+      begun = c.requires.begun.1;
+      nfa_is = c.in_ok-stepper.ensures.nfa;
+      kind_is = c.in_ok-stepper.ensures.kind ∙ ap (λ (m : Settings). m.match_kind) c.self.view_is;
+    } in
     entries_are x
 
 pub set_starts-requires-clause-patterns : goal.set_starts-requires-clause-patterns
 set_starts-requires-clause-patterns c =
     let x : Begins (stepping_of c.in_ok-stepper.stepper) (meaning c.args.nfa.now) c.args.self.now c.requires.begun.0
     c.args.dfa.now =
-    record { begun = c.requires.begun.1; nfa_is = c.in_ok-stepper.ensures.nfa; kind_is = c.in_ok-stepper.ensures.kind ∙ ap (λ (m : Settings). m.match_kind) c.self.view_is } in
+    record {
+      begun = c.requires.begun.1;
+      nfa_is = c.in_ok-stepper.ensures.nfa;
+      kind_is = c.in_ok-stepper.ensures.kind ∙ ap (λ (m : Settings). m.match_kind) c.self.view_is;
+    } in
     start_patterns_are x
 
 pub returns-in_err-set_starts-clause-err : goal.returns-in_err-set_starts-clause-err
@@ -61,7 +77,11 @@ returns-in_err-set_starts-clause-err c =
     (λ byte_classes begun.
     let x : Begins (stepping_of c.in_ok-stepper.stepper) (meaning c.args.nfa.now) c.args.self.now byte_classes
     c.args.dfa.now =
-    record { begun = begun; nfa_is = c.in_ok-stepper.ensures.nfa; kind_is = c.in_ok-stepper.ensures.kind ∙ ap (λ (m : Settings). m.match_kind) c.self.view_is } in
+    record {
+      begun = begun;
+      nfa_is = c.in_ok-stepper.ensures.nfa;
+      kind_is = c.in_ok-stepper.ensures.kind ∙ ap (λ (m : Settings). m.match_kind) c.self.view_is;
+    } in
     let s = stepping_of c.in_ok-stepper.stepper in
     refused x c.in_err-set_starts.field-0.0.kind (not_unsupported c.requires.supported)
     (over_start s s c.args.dfa.now c.args.dfa.now c.in_err-set_starts.field-0.0.kind refl limits
@@ -78,7 +98,11 @@ pub explore-requires-clause-suits : goal.explore-requires-clause-suits
 explore-requires-clause-suits c =
     let x : Begins (stepping_of c.in_ok-stepper.stepper) (meaning c.args.nfa.now) c.args.self.now c.requires.begun.0
     c.args.dfa.now =
-    record { begun = c.requires.begun.1; nfa_is = c.in_ok-stepper.ensures.nfa; kind_is = c.in_ok-stepper.ensures.kind ∙ ap (λ (m : Settings). m.match_kind) c.self.view_is } in
+    record {
+      begun = c.requires.begun.1;
+      nfa_is = c.in_ok-stepper.ensures.nfa;
+      kind_is = c.in_ok-stepper.ensures.kind ∙ ap (λ (m : Settings). m.match_kind) c.self.view_is;
+    } in
     let s = stepping_of c.in_ok-stepper.stepper in
     let suits : Suits s c.in_ok-construction.construction.units.items c.args.dfa.now = record {
       byte_classes = c.requires.begun.0;
@@ -102,7 +126,11 @@ returns-in_err-explore-clause-err c =
     (λ byte_classes begun.
     let x : Begins (stepping_of c.in_ok-stepper.stepper) (meaning c.args.nfa.now) c.args.self.now byte_classes
     c.args.dfa.now =
-    record { begun = begun; nfa_is = c.in_ok-stepper.ensures.nfa; kind_is = c.in_ok-stepper.ensures.kind ∙ ap (λ (m : Settings). m.match_kind) c.self.view_is } in
+    record {
+      begun = begun;
+      nfa_is = c.in_ok-stepper.ensures.nfa;
+      kind_is = c.in_ok-stepper.ensures.kind ∙ ap (λ (m : Settings). m.match_kind) c.self.view_is;
+    } in
     refused x c.in_err-explore.field-0.0.kind (not_unsupported c.requires.supported)
     (over_start (stepping_of c.in_ok-stepper.stepper) (stepping_of c.set_starts.new.stepper) c.args.dfa.now
     c.set_starts.new.dfa c.in_err-explore.field-0.0.kind c.set_starts.ensures.kept limits
@@ -131,7 +159,11 @@ returns-clause-states c =
     let t = stepping_of c.set_starts.new.stepper in
     let m = c.explore.new.dfa in
     let x : Begins s (meaning c.args.nfa.now) c.args.self.now c.requires.begun.0 c.args.dfa.now =
-    record { begun = c.requires.begun.1; nfa_is = c.in_ok-stepper.ensures.nfa; kind_is = c.in_ok-stepper.ensures.kind ∙ ap (λ (m : Settings). m.match_kind) c.self.view_is } in
+    record {
+      begun = c.requires.begun.1;
+      nfa_is = c.in_ok-stepper.ensures.nfa;
+      kind_is = c.in_ok-stepper.ensures.kind ∙ ap (λ (m : Settings). m.match_kind) c.self.view_is;
+    } in
     let limits : c.set_starts.new.self.limits ≡ limits_in c.args.self.now =
     c.set_starts.ensures.limits ∙ c.in_ok-construction.ensures.limits ∙ c.limits.ensures in
     let over = started_written c.args.dfa.now c.set_starts.new.dfa m c.in_ok-set_starts.ensures.rest
@@ -152,7 +184,11 @@ returns-clause-fits c byte_classes begun =
     let t = stepping_of c.set_starts.new.stepper in
     let m = c.explore.new.dfa in
     let x : Begins s (meaning c.args.nfa.now) c.args.self.now byte_classes c.args.dfa.now =
-    record { begun = begun; nfa_is = c.in_ok-stepper.ensures.nfa; kind_is = c.in_ok-stepper.ensures.kind ∙ ap (λ (m : Settings). m.match_kind) c.self.view_is } in
+    record {
+      begun = begun;
+      nfa_is = c.in_ok-stepper.ensures.nfa;
+      kind_is = c.in_ok-stepper.ensures.kind ∙ ap (λ (m : Settings). m.match_kind) c.self.view_is;
+    } in
     let limits : c.set_starts.new.self.limits ≡ limits_in c.args.self.now =
     c.set_starts.ensures.limits ∙ c.in_ok-construction.ensures.limits ∙ c.limits.ensures in
     let over = started_written c.args.dfa.now c.set_starts.new.dfa m c.in_ok-set_starts.ensures.rest
@@ -164,7 +200,8 @@ returns-clause-fits c byte_classes begun =
 
 pub returns-in_err-construction-clause-err : goal.returns-in_err-construction-clause-err
 returns-in_err-construction-clause-err c =
-    let p = err_from_is_err_and c.from_residual-in_err-construction.result c.from_residual-in_err-construction.ensures.1 in
+    let p = err_from_is_err_and c.from_residual-in_err-construction.result
+    c.from_residual-in_err-construction.ensures.1 in
     rw (p.1, p.2) (λ byte_classes begun. tt)
 
 pub returns-in_err-matches-clause-err : goal.returns-in_err-matches-clause-err

@@ -52,11 +52,13 @@ returns-in-State-clause-stepped c =
 
 pub returns-in-State-clause-grows : goal.returns-in-State-clause-grows
 returns-in-State-clause-grows c =
-    IfOk-weaker c.add.result (Adds c.args.self.now.states c.args.dfa.now c.deref.result.now c.add.new.self c.add.new.dfa)
+    IfOk-weaker c.add.result (Adds c.args.self.now.states c.args.dfa.now c.deref.result.now c.add.new.self
+    c.add.new.dfa)
     (λ _. Grows c.args.self.now.states c.args.dfa.now c.add.new.self c.add.new.dfa)
     (λ id adds. grows_by c.requires.rows adds) c.add.ensures.ok
 
 pub returns-in-State-clause-rest : goal.returns-in-State-clause-rest
 returns-in-State-clause-rest c =
-    IfOk-weaker c.add.result (Adds c.args.self.now.states c.args.dfa.now c.deref.result.now c.add.new.self c.add.new.dfa)
+    IfOk-weaker c.add.result (Adds c.args.self.now.states c.args.dfa.now c.deref.result.now c.add.new.self
+    c.add.new.dfa)
     (λ _. IsWrittenOver c.args.dfa.now c.add.new.dfa) (λ id adds. adds_over adds) c.add.ensures.ok

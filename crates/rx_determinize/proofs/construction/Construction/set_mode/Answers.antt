@@ -65,7 +65,8 @@ contexts-preserved c =
     let are : AreSet s r c.args.self.now.limits c.contexts.self.limits l c.contexts.self.states c.contexts.dfa
     (mode_place (mode_of c.args.mode.now) + c.contexts.i) =
     record { entering = i.entering; rest = i.rest; kept = i.kept; same_limits = i.limits } in
-    let found : IsStartRow r c.contexts.self.limits c.contexts.self.states c.contexts.dfa _ c.start_row.new.self.states m
+    let found : IsStartRow r c.contexts.self.limits c.contexts.self.states c.contexts.dfa _
+    c.start_row.new.self.states m
     c.in_ok-id.id =
     record { grows = e.grows; rest = e.rest; rows = e.rows; working = e.working; is_row = e.is_row } in
     let number = context_at c.contexts.i _ (omega arith) in
@@ -73,7 +74,8 @@ contexts-preserved c =
     number (omega (arith, i.rest.count, c.requires.entries)) c.set_start_state.ensures in
     record {
       entering = set.entering;
-      suits = suits_started r t c.contexts.dfa n c.start_row.ensures.kept (ap (λ us. us.items) c.start_row.ensures.units)
+      suits = suits_started r t c.contexts.dfa n c.start_row.ensures.kept (ap (λ us. us.items)
+          c.start_row.ensures.units)
           (started_by c.contexts.dfa m n (mode_of c.args.mode.now) _ c.in_ok-id.id e.rest c.set_start_state.ensures)
           i.suits;
       rest = set.rest;

@@ -26,8 +26,10 @@ set_mode-requires-clause-built c =
 
 pub set_mode-requires-2-clause-suits : goal.set_mode-requires-2-clause-suits
 set_mode-requires-2-clause-suits c =
-    suits_started (stepping_of c.args.stepper.now) (stepping_of c.set_mode.new.stepper) c.args.dfa.now c.set_mode.new.dfa
-    c.set_mode.ensures.kept (ap (λ us. us.items) c.set_mode.ensures.units) c.in_ok-set_mode.ensures.rest c.requires.suits
+    suits_started (stepping_of c.args.stepper.now) (stepping_of c.set_mode.new.stepper) c.args.dfa.now
+    c.set_mode.new.dfa
+    c.set_mode.ensures.kept (ap (λ us. us.items) c.set_mode.ensures.units) c.in_ok-set_mode.ensures.rest
+    c.requires.suits
 
 pub set_mode-requires-2-clause-built : goal.set_mode-requires-2-clause-built
 set_mode-requires-2-clause-built c =
@@ -48,7 +50,8 @@ returns-in_err-set_mode-2-clause-err c =
     c.in_err-set_mode-2.field-0.0.kind c.set_mode.ensures.kept c.set_mode.ensures.limits c.in_ok-set_mode.ensures.rest
     c.in_err-set_mode-2.ensures.err)
 
-pub returns-then-not-starts_for_each_pattern-clause-entering : goal.returns-then-not-starts_for_each_pattern-clause-entering
+pub returns-then-not-starts_for_each_pattern-clause-entering :
+    goal.returns-then-not-starts_for_each_pattern-clause-entering
 returns-then-not-starts_for_each_pattern-clause-entering c =
     let s = stepping_of c.args.stepper.now in
     let t = stepping_of c.set_mode.new.stepper in
@@ -106,7 +109,8 @@ set_mode-requires-in-patterns-clause-built c =
     ap (λ (n : Layout). is_some n.pattern_starts) (sym over.rest) ∙ sym c.starts_for_each_pattern.ensures
     ∙ c.if-not-starts_for_each_pattern.false in
     let at = starts_at_pattern s l c.must-pattern.result own
-    (c.start_pattern-start.ensures ∙ ap (λ (n : Nfa). slice_get n.start_patterns c.must-pattern.result) (sym c.requires.nfa)) in
+    (c.start_pattern-start.ensures ∙ ap (λ (n : Nfa). slice_get n.start_patterns c.must-pattern.result) (sym
+    c.requires.nfa)) in
     (starts_later s (stepping_of c.patterns.stepper) l c.patterns.dfa i.kept i.rest at).built
 
 pub returns-in_err-set_mode-3-clause-err : goal.returns-in_err-set_mode-3-clause-err
@@ -128,9 +132,13 @@ patterns-preserved c =
     let l = c.args.dfa.now in
     let k = c.patterns.dfa in
     let m = call.new.dfa in
-    let are : AreSet s r c.args.self.now.limits c.patterns.self.limits l c.patterns.self.states k (12 + 6 * c.patterns.k) =
+    let are : AreSet s r c.args.self.now.limits c.patterns.self.limits l c.patterns.self.states k (12 + 6 *
+    c.patterns.k) =
     record { entering = i.entering; rest = i.rest; kept = i.kept; same_limits = i.limits } in
-    let place : 12 + 6 * c.must-pattern.result + 6 ≡ 12 + 6 * (c.patterns.k + 1) = omega (arith, c.must-pattern.ensures) in
+    let place : 12 + 6 * c.must-pattern.result + 6 ≡ 12 + 6 * (c.patterns.k + 1) = omega (
+      arith,
+      c.must-pattern.ensures,
+    ) in
     let set = mode_set s r t l k m are call.ensures.kept call.ensures.limits e.rest
     (subst (λ n. IsEntering (keying r m) c.patterns.self.limits call.new.self.states m n 0) place e.entering) in
     record {

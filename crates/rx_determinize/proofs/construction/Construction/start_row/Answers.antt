@@ -51,7 +51,8 @@ returns-then-branch-clause-working c =
 
 pub returns-then-branch-clause-grows : goal.returns-then-branch-clause-grows
 returns-then-branch-clause-grows c =
-    IfOk-weaker c.add.result (Adds c.args.self.now.states c.args.dfa.now c.deref.result.now c.add.new.self c.add.new.dfa)
+    IfOk-weaker c.add.result (Adds c.args.self.now.states c.args.dfa.now c.deref.result.now c.add.new.self
+    c.add.new.dfa)
     (λ _. Grows c.args.self.now.states c.args.dfa.now c.add.new.self c.add.new.dfa)
     (λ id adds. grows_by c.requires.rows adds) c.add.ensures.ok
 

@@ -8,7 +8,8 @@ use Rattle.rx_determinize.specs.Filling.{IsFilling}
 use Rattle.rx_determinize.specs.Working.{keying}
 use Rattle.rx_determinize.proofs.ColumnLaws.{units_count}
 use Rattle.rx_determinize.proofs.FillingLaws.{filled}
-use Rattle.rx_determinize.proofs.SteppingLaws.{another_twice, no_other, over_back, over_twice, stepping_begun, suits_over}
+use Rattle.rx_determinize.proofs.SteppingLaws.{another_twice, no_other, over_back, over_twice, stepping_begun}
+use Rattle.rx_determinize.proofs.SteppingLaws.{suits_over}
 use Rattle.rx_determinize.proofs.construction.Construction.step.Goals as goal
 
 pub begin-requires : goal.begin-requires
@@ -25,7 +26,8 @@ columns-init c =
     let r = stepping_of c.begin.new.self in
     let l = c.args.dfa.now in
     record {
-      stepping = stepping_begun s r c.begin.ensures.kept c.in_ok-begin.ensures.current c.key.ensures c.requires.entering;
+      stepping = stepping_begun s r c.begin.ensures.kept c.in_ok-begin.ensures.current c.key.ensures
+          c.requires.entering;
       suits = suits_over s r l l c.begin.ensures.kept refl refl c.requires.suits;
       rest = refl;
       kept = c.begin.ensures.kept;
@@ -58,7 +60,8 @@ columns-preserved c =
     let other = no_other r t c.write_column.ensures.kept in
     record {
       stepping = e.stepping;
-      suits = suits_over r t c.columns.dfa c.write_column.new.dfa other (ap (λ us. us.items) c.write_column.ensures.units)
+      suits = suits_over r t c.columns.dfa c.write_column.new.dfa other (ap (λ us. us.items)
+          c.write_column.ensures.units)
           e.rest i.suits;
       rest = over_twice c.args.dfa.now c.columns.dfa c.write_column.new.dfa i.rest e.rest;
       kept = another_twice s r t i.kept other;

@@ -13,7 +13,8 @@ use Rattle.rx_determinize.proofs.states.States.add.Goals as goal
 
 pub row_id-requires : goal.row_id-requires
 row_id-requires c =
-    let there = slice_get_within c.intern.new.self c.in_ok-interned.interned.id c.args.key.now c.in_ok-interned.ensures.id in
+    let there = slice_get_within c.intern.new.self c.in_ok-interned.interned.id c.args.key.now
+    c.in_ok-interned.ensures.id in
     let kept = keys_kept c.self.inside.keys c.intern.new.self c.args.key.now c.in_ok-interned.interned.is_new
     c.in_ok-interned.ensures.keys (is_old_key c.in_ok-interned.interned.is_new c.if-not-interned.true) in
     let same : c.self.inside.keys ≡ c.args.self.now.keys = ap (λ (m : Met). m.keys) c.self.view_is in
@@ -41,7 +42,8 @@ returns-then-not-interned-clause-working c k can =
 pub returns-in_err-add_row-clause-err : goal.returns-in_err-add_row-clause-err
 returns-in_err-add_row-clause-err c k can =
     let p = err_from_is_err_and c.from_residual-in_err-add_row.result c.from_residual-in_err-add_row.ensures.1 in
-    let new = new_key can (ap (λ (m : Met). m.keys) c.self.view_is) c.in_ok-interned.ensures.new c.if-not-interned.false in
+    let new = new_key can (ap (λ (m : Met). m.keys) c.self.view_is) c.in_ok-interned.ensures.new
+    c.if-not-interned.false in
     rw (p.1, p.2)
     (is_over_full can.working new c.state_len-rows.ensures.rows c.in_err-add_row.field-0.0.kind
     c.in_err-add_row.ensures.err)
@@ -49,7 +51,8 @@ returns-in_err-add_row-clause-err c k can =
 pub returns-in_err-check-clause-err : goal.returns-in_err-check-clause-err
 returns-in_err-check-clause-err c k can =
     let p = err_from_is_err_and c.from_residual-in_err-check.result c.from_residual-in_err-check.ensures.1 in
-    let new = new_key can (ap (λ (m : Met). m.keys) c.self.view_is) c.in_ok-interned.ensures.new c.if-not-interned.false in
+    let new = new_key can (ap (λ (m : Met). m.keys) c.self.view_is) c.in_ok-interned.ensures.new
+    c.if-not-interned.false in
     let keys = keys_at c.self.inside.keys c.intern.new.self c.args.key.now c.in_ok-interned.interned.is_new
     c.in_ok-interned.ensures.keys (is_true c.in_ok-interned.interned.is_new c.if-not-interned.false) in
     let same : c.self.inside.keys ≡ c.args.self.now.keys = ap (λ (m : Met). m.keys) c.self.view_is in
@@ -65,13 +68,23 @@ returns-in_err-check-clause-err c k can =
 
 pub row_id-requires-2 : goal.row_id-requires-2
 row_id-requires-2 c =
-    let there = slice_get_within c.intern.new.self c.in_ok-interned.interned.id c.args.key.now c.in_ok-interned.ensures.id in
+    let there = slice_get_within c.intern.new.self c.in_ok-interned.interned.id c.args.key.now
+    c.in_ok-interned.ensures.id in
     let keys = keys_at c.self.inside.keys c.intern.new.self c.args.key.now c.in_ok-interned.interned.is_new
     c.in_ok-interned.ensures.keys (is_true c.in_ok-interned.interned.is_new c.if-not-interned.false) in
     let same : c.self.inside.keys ≡ c.args.self.now.keys = ap (λ (m : Met). m.keys) c.self.view_is in
     let rows = one_more_row c.args.dfa.now c.state_len-rows.ensures.rows in
     rw c.in_ok-add_row.ensures.ok
-    (omega (arith, there, rows, c.requires.count, ap length keys, length_push c.self.inside.keys c.args.key.now, ap length same))
+    (omega (
+      arith,
+      there,
+      rows,
+      c.requires.count,
+      ap length keys,
+      length_push c.self.inside.keys c.args.key.now,
+      ap
+          length same,
+    ))
 
 pub returns-clause-ok : goal.returns-clause-ok
 returns-clause-ok c =
@@ -93,7 +106,8 @@ returns-clause-ok c =
 
 pub returns-clause-working : goal.returns-clause-working
 returns-clause-working c k can =
-    let new = new_key can (ap (λ (m : Met). m.keys) c.self.view_is) c.in_ok-interned.ensures.new c.if-not-interned.false in
+    let new = new_key can (ap (λ (m : Met). m.keys) c.self.view_is) c.in_ok-interned.ensures.new
+    c.if-not-interned.false in
     let keys = keys_at c.self.inside.keys c.intern.new.self c.args.key.now c.in_ok-interned.interned.is_new
     c.in_ok-interned.ensures.keys (is_true c.in_ok-interned.interned.is_new c.if-not-interned.false) in
     let same : c.self.inside.keys ≡ c.args.self.now.keys = ap (λ (m : Met). m.keys) c.self.view_is in

@@ -28,7 +28,8 @@ patterns-requires c =
 pub returns : goal.returns
 returns c =
     let e = c.in_ok-insert.ensures in
-    labels_at c.args.self.now.keys c.args.place c.key-key.result.now c.in_ok-list.list c.row_id-id.result c.key-key.ensures
+    labels_at c.args.self.now.keys c.args.place c.key-key.result.now c.in_ok-list.list c.row_id-id.result
+    c.key-key.ensures
     (c.in_ok-list.ensures ∙ c.label-label.ensures)
     (λ none. true≢false
     (sym (eq-eqb (length c.label-label.result.now) 0 (ap length (sym c.in_ok-list.ensures) ∙ none))
