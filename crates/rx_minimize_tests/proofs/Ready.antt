@@ -1,6 +1,5 @@
 -- Tables that the tests make.
-use Rattle.std.proofs.Common.{◌≡◌, ℕ, ◌<◌, ◌≤◌, length, ap, ◌∙◌, arith}
-use Rattle.rx_base.specs.declared.search.Anchored.{Anchored}
+use Rattle.std.proofs.Common.{◌<◌, length, ap, ◌∙◌, arith}
 use Rattle.rx_spec.specs.Tables.{IsSound}
 use Rattle.rx_dense.specs.Builder.{memory_usage}
 use Rattle.rx_dense.specs.Layouts.{Layout, table_of}

@@ -1,4 +1,4 @@
-use Rattle.std.proofs.Common.{◌≡◌, ◌≢◌, ◌<◌, ℕ}
+use Rattle.std.proofs.Common.{◌≢◌, ◌<◌, ℕ}
 use Rattle.rx_dense.specs.Layouts.{table_of}
 use Rattle.rx_minimize_tests.proofs.tests.checks.is_routed.Given as goal
 
