@@ -6,7 +6,3 @@ pub mod StartMarks
 pub mod Stages
 -- tables that are begun
 pub mod Beginnings
--- the columns of a table
-pub mod Columns
--- the assertions of Unicode words
-pub mod UnicodeWords

@@ -8,6 +8,8 @@ pub mod RowIds
 pub mod CellLaws
 -- columns and their units
 pub mod ColumnLaws
+-- the classes with which a table is begun
+pub mod Columns
 -- rows that are written
 pub mod FillingLaws
 -- the state to which a column leads

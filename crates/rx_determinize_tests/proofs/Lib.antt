@@ -1,3 +1,2 @@
--- the classes of bytes, and tables that are begun
-pub mod Columns
+-- tables that are begun
 pub mod Begun

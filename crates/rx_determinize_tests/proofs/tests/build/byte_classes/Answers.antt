@@ -2,7 +2,7 @@ use Rattle.std.proofs.Common.{◌≡◌, ℕ, ◌+◌, ◌<◌, ◌||◌, sym, a
 use Rattle.rx_spec.specs.Bytes.{contains}
 use Rattle.rx_spec.specs.Classes.{parts}
 use Rattle.rx_expr.specs.Nfa.{meaning}
-use Rattle.rx_determinize_tests.proofs.Columns.{own_classes, shared_classes}
+use Rattle.rx_determinize.proofs.Columns.{own_classes, shared_classes}
 use Rattle.rx_determinize_tests.proofs.tests.build.byte_classes.Goals as goal
 
 pub returns-then-not-byte_classes : goal.returns-then-not-byte_classes

@@ -34,5 +34,6 @@ shared_classes nfa quit set classes count ends each =
     (λ b h.
     each b h
     ∙ class_by-alike (contains set) (ends_class nfa quit true) b
-    (λ c low. ends c (omega arith) ∙ or_comm (rows_part nfa.line_terminator nfa.rows c) (parts (contains quit) c (c +
-    1))))
+    (λ c low.
+    ends c (omega arith)
+    ∙ or_comm (rows_part nfa.line_terminator nfa.rows c) (parts (contains quit) c (c + 1))))
