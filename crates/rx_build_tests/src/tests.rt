@@ -1,6 +1,6 @@
 //! What no clause shows: that tables are built, of how many rows and with which ids, and how refusals read.
 
-use rx_base::{Anchored, Input, MatchKind, StartKind};
+use rx_base::{Anchored, Input, MatchKind, Needles, StartKind};
 use rx_build::BuildError;
 use rx_build::dense::{Builder, Config, DFA, DenseBuild};
 use rx_dense::OwnedDFA;
@@ -83,7 +83,11 @@ fn build(
 /// How many rows a table has, its special ids, the needles of its first accelerated row, and its universal starts.
 fn shape_of(alloc: Global, dfa: &OwnedDFA) -> Result<String, Fail> {
     let s = dfa.special();
-    let needles = dfa.accelerator(s.min_accel);
+    let needles = if dfa.accel_len() == 0 {
+        Needles::new(b"")
+    } else {
+        dfa.needles_at(0)
+    };
     let unanchored = universal(dfa, Anchored::No);
     let anchored = universal(dfa, Anchored::Yes);
     Ok(format!(in alloc;

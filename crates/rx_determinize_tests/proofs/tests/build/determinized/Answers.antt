@@ -1,4 +1,4 @@
-use Rattle.std.proofs.Common.{◌≡◌, ℕ, ap, sym, ◌∙◌}
+use Rattle.std.proofs.Common.{◌≡◌, ap, sym, ◌∙◌}
 use Rattle.rx_expr.specs.Nfa.{meaning}
 use Rattle.rx_dense.specs.Builder.{Beginning}
 use Rattle.rx_determinize.specs.Determinized.{Settings, classes_of}
@@ -29,4 +29,4 @@ run-requires c =
       line_terminator = c.look_matcher.ensures;
       quit = sym quit;
     } in
-    is_begun beginning begins c.in_ok-dfa.ensures
+    record { begun = is_begun beginning begins c.in_ok-dfa.ensures }
