@@ -32,7 +32,6 @@ pub mod LimitLaws
 -- tables that are put in order
 pub mod DeterminizedLaws
 -- whether an NFA has a Unicode word assertion
-pub mod UnicodeWords
 -- whether a build is supported
 pub mod SupportLaws
 -- the start entries of modes

@@ -1,6 +1,6 @@
 -- One field more behind a text.
-use Rattle.std.proofs.Common.{◌≡◌, ℕ, ◌+◌, ◌-◌, ◌≤◌, List, [], ◌++◌, length, take, drop, refl, sym, ap, ◌∙◌, append_assoc}
-use Rattle.std.proofs.Common.{arith}
+use Rattle.std.proofs.Common.{◌≡◌, ℕ, ◌+◌, ◌-◌, ◌≤◌, List, [], ◌++◌, length, take, drop, refl, sym, ap, ◌∙◌}
+use Rattle.std.proofs.Common.{append_assoc, arith}
 use Rattle.std.proofs.lemmas.List.{take_at, drop_at, drop-drop, length-append, length-drop, append-nil}
 use Rattle.std.proofs.lemmas.Grind.{common_steps}
 use Rattle.rx_wire.specs.Fields.{Stands}
@@ -42,7 +42,8 @@ put_behind now part field at n le field_len is =
       is =
           ap (λ (t : List ℕ). take at now ++ (part ++ t)) (nothing_left (length now - at) (drop at now) len)
           ∙ ap (λ (t : List ℕ). take at now ++ t)
-          (append-nil part ∙ is ∙ ap (λ (t : List ℕ). field ++ drop n t) (whole_take (length now - at) (drop at now) len));
+          (append-nil part ∙ is
+            ∙ ap (λ (t : List ℕ). field ++ drop n t) (whole_take (length now - at) (drop at now) len));
     }
 
 -- a field written in the place of as many bytes

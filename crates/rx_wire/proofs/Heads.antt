@@ -52,7 +52,8 @@ prefix_len-label (b ∷ label) rest (suc k) text h =
     let more = prefix_len-label label rest k parts.1 (omega (arith, h)) in
     rw (parts.0, more) (omega arith)
 
-pub label_again : (label : List ℕ) → IsLabel label → Reads (label_at label) (label_text label) (padded (length label + 1))
+pub label_again : (label : List ℕ) → IsLabel label
+  → Reads (label_at label) (label_text label) (padded (length label + 1))
 unfolding label_at
 label_again label h rest =
     let size = padded (length label + 1) in

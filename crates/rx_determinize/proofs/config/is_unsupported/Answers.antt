@@ -4,7 +4,7 @@ use Rattle.rx_spec.specs.Bytes.{contains}
 use Rattle.rx_spec.specs.Classes.{has_unicode_word}
 use Rattle.rx_expr.specs.Nfa.{meaning}
 use Rattle.rx_determinize.proofs.SupportLaws.{where_asked, where_not}
-use Rattle.rx_determinize.proofs.UnicodeWords.{unicode_told}
+use Rattle.rx_expr.proofs.UnicodeWords.{unicode_told}
 use Rattle.rx_determinize.proofs.config.is_unsupported.Goals as goal
 
 pub returns-then-contains_word_unicode : goal.returns-then-contains_word_unicode

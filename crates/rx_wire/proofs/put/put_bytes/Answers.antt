@@ -5,4 +5,5 @@ use Rattle.rx_wire.proofs.put.put_bytes.Goals as goal
 pub returns-clause-stands : goal.returns-clause-stands
 returns-clause-stands c =
     stands_more
-    (put_between c.args.dst.now c.copy_from_slice.new.self c.args.bytes.now c.args.at _ refl c.copy_from_slice.ensures.after)
+    (put_between c.args.dst.now c.copy_from_slice.new.self c.args.bytes.now c.args.at _ refl
+      c.copy_from_slice.ensures.after)

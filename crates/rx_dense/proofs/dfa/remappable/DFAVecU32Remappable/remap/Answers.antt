@@ -8,7 +8,8 @@ pub remap-requires-clause-count : goal.remap-requires-clause-count
 remap-requires-clause-count c = c.requires.count ∙ row_lists_count c.args.self.now
 
 pub remap-requires-clause-ids : goal.remap-requires-clause-ids
-remap-requires-clause-ids c = λ k d h. IsId-row_id c.args.self.now _ (id_in_words c.args.self.now _ (c.requires.ids k d h))
+remap-requires-clause-ids c =
+  λ k d h. IsId-row_id c.args.self.now _ (id_in_words c.args.self.now _ (c.requires.ids k d h))
 
 pub returns-clause-renamed : goal.returns-clause-renamed
 returns-clause-renamed c =
