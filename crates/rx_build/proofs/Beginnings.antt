@@ -114,6 +114,14 @@ pub record IsBegunBy (s : Settled) (nfa : Nfa) (settings : Settings) (l : Layout
   pub settings_are : settings ≡ settings_with s (quit_set nfa s.quit s.unicode_word)
   pub layout_is : l ≡ begun s nfa
 
+pub begun_by : {s : Settled} {nfa : Nfa} {settings : Settings} {l : Layout} {quit set : ℕ} {unicode_word : Bool}
+    → quit ≡ quit_set nfa set unicode_word → set ≡ s.quit → unicode_word ≡ s.unicode_word
+    → settings ≡ settings_with s quit → l ≡ begun s nfa → IsBegunBy s nfa settings l
+begun_by {s = s} {nfa = nfa} told set_is word_is settings_are layout_is = record {
+  settings_are = settings_are ∙ ap (settings_with s) (told ∙ ap₂ (quit_set nfa) set_is word_is);
+  layout_is = layout_is;
+}
+
 module _ {s : Settled} {nfa : Nfa} {settings : Settings} {l : Layout} (by : IsBegunBy s nfa settings l) where
   pub begun_with : IsBegunWith nfa settings s.byte_classes l
   begun_with =

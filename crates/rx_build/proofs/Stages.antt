@@ -1,6 +1,6 @@
 -- What each step of a build keeps of a table, and adds to it.
-use Rattle.std.proofs.Common.{◌≡◌, ◌≢◌, ℕ, ◌+◌, ◌*◌, ◌/◌, ◌<◌, ◌≤◌, ◌&&◌, Bool, true, false, Some, None, Option, List, length}
-use Rattle.std.proofs.Common.{slice_index, if◌then◌else◌, refl, sym, ap, ◌∙◌, ⊎_elim, inl, inr, arith}
+use Rattle.std.proofs.Common.{◌≡◌, ◌≢◌, ℕ, ◌+◌, ◌*◌, ◌/◌, ◌<◌, ◌≤◌, ◌&&◌, Bool, true, false, Some, None, Option, List}
+use Rattle.std.proofs.Common.{length, slice_index, if◌then◌else◌, refl, sym, ap, ◌∙◌, ⊎_elim, inl, inr, arith}
 use Rattle.std.proofs.lemmas.Bool.{false≢true, true≢false}
 use Rattle.std.specs.Prelude.{◌⊎◌}
 use Rattle.rx_spec.specs.Builds.{Build, built_modes}
@@ -21,7 +21,8 @@ use Rattle.rx_build.specs.Built.{AreApart, IsBuilt, begun, build_of}
 use Rattle.rx_build.specs.Making.{IsMade, Steps, determinized, marked_as, minimized}
 use Rattle.rx_build.specs.Settings.{Settled}
 use Rattle.rx_build.proofs.PermutedTables.{IsMoved, moved_apart, moved_gives, moved_power, moved_reached}
-use Rattle.rx_build.proofs.StartMarks.{none_accelerated, range_kept, unmarked, unmarked_order, unmarked_plain, unmarked_row}
+use Rattle.rx_build.proofs.StartMarks.{none_accelerated, range_kept, unmarked, unmarked_order, unmarked_plain}
+use Rattle.rx_build.proofs.StartMarks.{unmarked_row}
 
 module _ {b : Build} {begun : Layout} where
   -- ---- determinized
@@ -217,7 +218,8 @@ module _ (s : Settled) (nfa : Nfa) {l : Layout}
             entries = is.entries;
             universal_unanchored =
                 λ row e.
-                common_below _ _ _ row (row_count l) (is.entries Anchored.No Start.NonWordByte) (sym has.unanchored ∙ e);
+                common_below _ _ _ row (row_count l) (is.entries Anchored.No Start.NonWordByte)
+                (sym has.unanchored ∙ e);
             universal_anchored =
                 λ row e.
                 common_below _ _ _ row (row_count l) (is.entries Anchored.Yes Start.NonWordByte) (sym has.anchored ∙ e);

@@ -1,6 +1,7 @@
 -- Tables in which no row is accelerated, and those in which no start row is marked any more.
-use Rattle.std.proofs.Common.{◌≡◌, ◌≢◌, ℕ, zero, suc, ◌+◌, ◌*◌, ◌/◌, ◌<◌, ◌≤◌, ◌==◌, ◌&&◌, ◌||◌, ◌⊎◌, not, nat_le, nat_lt, max}
-use Rattle.std.proofs.Common.{◌^◌, Bool, true, false, if◌then◌else◌, List, length, refl, sym, ap, ap₂, subst, ◌∙◌, ⊎_elim, inl, inr, arith}
+use Rattle.std.proofs.Common.{◌≡◌, ◌≢◌, ℕ, zero, suc, ◌+◌, ◌*◌, ◌/◌, ◌<◌, ◌≤◌, ◌==◌, ◌&&◌, ◌||◌, ◌⊎◌, not, max}
+use Rattle.std.proofs.Common.{nat_le, nat_lt, ◌^◌, Bool, true, false, if◌then◌else◌, List, length, refl, sym, ap, ap₂}
+use Rattle.std.proofs.Common.{subst, ◌∙◌, ⊎_elim, inl, inr, arith}
 use Rattle.std.proofs.lemmas.Bool.{and_parts, cases_eq, cases_lt, leb-true, true≢false, ne_eqb}
 use Rattle.std.proofs.lemmas.Nat.{mul-le, pow_pos}
 use Rattle.rx_spec.specs.Machines.{Label}
@@ -112,7 +113,8 @@ module _ (l : Layout) (order : IsInOrder l) (plain : IsPlain l) where
         kinds,
         kind_high row (is_match (table_of l) row) ((table_of l).is_accelerated row) (is_start_row l row) high
             ∙ ap (λ a. high_kind (is_match (table_of l) row) a (is_start_row l row)) (not_accelerated row),
-        kind_high last (is_match (table_of l) last) ((table_of l).is_accelerated last) (is_start_row l last) (omega arith)
+        kind_high last (is_match (table_of l) last) ((table_of l).is_accelerated last) (is_start_row l last)
+            (omega arith)
             ∙ ap₂ (λ a b. high_kind b a (is_start_row l last)) (not_accelerated last) is_last,
       )))
       order.ordered.matches
@@ -159,7 +161,8 @@ module _ (l : Layout) (order : IsInOrder l) (plain : IsPlain l) where
           and_parts (nat_le l.special.min_match (row * stride l) && nat_le (row * stride l) l.special.max_match)
           (not (row * stride l == 0)) id in
           let within = leb-true (row * stride l) l.special.max_match
-          (and_parts (nat_le l.special.min_match (row * stride l)) (nat_le (row * stride l) l.special.max_match) both.0).1 in
+          (and_parts (nat_le l.special.min_match (row * stride l)) (nat_le (row * stride l) l.special.max_match)
+          both.0).1 in
           at_most (row * stride l) (unmarked_special l.special).max (omega (arith, within))
           ∙ sym (behind (is_match (table_of l) row) high ∙ e)
 

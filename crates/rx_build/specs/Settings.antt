@@ -1,5 +1,5 @@
 -- Settings of the build of a dense table.
-use Rattle.std.specs.Prelude.{ℕ, ◌≡◌, ◌==◌, Bool, true, false, if◌then◌else◌, Option, None, unwrap_or}
+use Rattle.std.specs.Prelude.{ℕ, ◌≡◌, ◌==◌, Bool, true, false, if◌then◌else◌, Option, None, is_some, unwrap_or}
 use Rattle.std.specs.Option.{option_or}
 use Rattle.rx_spec.specs.Bytes.{contains}
 use Rattle.rx_spec.specs.declared.MatchKind.{MatchKind}
@@ -95,7 +95,10 @@ settled a = record {
   determinize_size_limit = unwrap_or a.determinize_size_limit None;
 }
 
--- One byte is made a quit byte or an ordinary one, and all else stays.
+-- One byte is made a quit byte or an ordinary one, and all else stays. The quit bytes are set by it, also where there
+-- are none.
 pub record SetsQuit (old : Asked) (byte : ℕ) (yes : Bool) (new : Asked) : Type 0 where
-  pub bytes : (other : ℕ) → contains (settled new).quit other ≡ (if other == byte then yes else contains (settled old).quit other)
+  pub set : is_some new.quit ≡ true
+  pub bytes : (other : ℕ) → contains (settled new).quit other
+      ≡ (if other == byte then yes else contains (settled old).quit other)
   pub rest : new ≡ record old { quit = new.quit }

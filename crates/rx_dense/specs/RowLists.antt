@@ -7,7 +7,7 @@ use Rattle.rx_dense.specs.Layouts.{Layout, row_count, stride}
 
 abbrev pub row_ids : Layout → ℕ → List ℕ
 row_ids l row =
-  map (λ column. slice_index l.words (row * stride l + column)) (range_with_len 0 (alphabet_len l.classes))
+    map (λ column. slice_index l.words (row * stride l + column)) (range_with_len 0 (alphabet_len l.classes))
 
 abbrev pub transitions_of : Layout → Transitions
 transitions_of l = record {

@@ -43,7 +43,7 @@ put_behind now part field at n le field_len is =
           ap (λ (t : List ℕ). take at now ++ (part ++ t)) (nothing_left (length now - at) (drop at now) len)
           ∙ ap (λ (t : List ℕ). take at now ++ t)
           (append-nil part ∙ is
-            ∙ ap (λ (t : List ℕ). field ++ drop n t) (whole_take (length now - at) (drop at now) len));
+          ∙ ap (λ (t : List ℕ). field ++ drop n t) (whole_take (length now - at) (drop at now) len));
     }
 
 -- a field written in the place of as many bytes

@@ -23,7 +23,7 @@ read_back {w} width order n h rest =
     let text = field order w n in
     let len = width.len order n in
     let enough : ltb (length (text ++ rest)) (byte_len w) ≡ false =
-          le-ltb _ _ (omega (arith, length-append text rest)) in
+    le-ltb _ _ (omega (arith, length-append text rest)) in
     rw (enough, take_at text rest (byte_len w) len, drop_at text rest (byte_len w) len, width.again order n h) refl
 
 -- ---- two, four and 16 bytes

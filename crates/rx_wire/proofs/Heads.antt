@@ -53,7 +53,7 @@ prefix_len-label (b ∷ label) rest (suc k) text h =
     rw (parts.0, more) (omega arith)
 
 pub label_again : (label : List ℕ) → IsLabel label
-  → Reads (label_at label) (label_text label) (padded (length label + 1))
+    → Reads (label_at label) (label_text label) (padded (length label + 1))
 unfolding label_at
 label_again label h rest =
     let size = padded (length label + 1) in

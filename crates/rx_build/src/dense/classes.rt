@@ -28,8 +28,8 @@ pub(super) fn quit_bytes(nfa: &NFA, set: &ByteSet, unicode_word: bool) -> ByteSe
     }
 }
 
-/// The class of each byte: bytes that neither a row nor the quit set tells apart have one class, or without byte classes
-/// each byte its own.
+/// The class of each byte: bytes that neither a row nor the quit set tells apart have one class, or without byte
+/// classes each byte its own.
 pub(super) fn byte_classes(
     nfa: &NFA,
     quit: &ByteSet,

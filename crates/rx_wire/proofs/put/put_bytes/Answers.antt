@@ -6,4 +6,4 @@ pub returns-clause-stands : goal.returns-clause-stands
 returns-clause-stands c =
     stands_more
     (put_between c.args.dst.now c.copy_from_slice.new.self c.args.bytes.now c.args.at _ refl
-      c.copy_from_slice.ensures.after)
+    c.copy_from_slice.ensures.after)

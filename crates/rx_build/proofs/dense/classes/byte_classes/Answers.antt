@@ -8,8 +8,8 @@ use Rattle.rx_build.proofs.dense.classes.byte_classes.Goals as goal
 pub returns-then-not-byte_classes : goal.returns-then-not-byte_classes
 returns-then-not-byte_classes c =
     rw c.if-not-byte_classes.true
-    (own_classes (meaning c.args.nfa.now) c.args.quit.now c.singletons-classes.result c.alphabet_len.ensures.classes.count
-    c.singletons-classes.ensures)
+    (own_classes (meaning c.args.nfa.now) c.args.quit.now c.singletons-classes.result
+    c.alphabet_len.ensures.classes.count c.singletons-classes.ensures)
 
 pub returns : goal.returns
 returns c =
@@ -19,5 +19,6 @@ returns c =
     (λ b h.
     c.add_set.ensures b h
     ∙ ap (λ old. old || parts (contains c.args.quit.now) b (b + 1))
-    (ap (λ set. contains set b) (let same = c.in_ok-set.ensures.cases in sym same.3 ∙ same.4 ∙ same.2) ∙ c.byte_class_set.ensures b h))
+    (ap (λ set. contains set b) (let same = c.in_ok-set.ensures.cases in sym same.3 ∙ same.4 ∙ same.2)
+    ∙ c.byte_class_set.ensures b h))
     c.byte_classes-classes.ensures)

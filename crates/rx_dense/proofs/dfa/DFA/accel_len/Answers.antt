@@ -4,7 +4,7 @@ use Rattle.rx_dense.proofs.dfa.DFA.accel_len.Goals as goal
 
 pub returns-clause-value : goal.returns-clause-value
 returns-clause-value g c =
-  omega (arith, accel_lists_len c.accel_words.result.now, ap length c.accel_words.ensures.value)
+    omega (arith, accel_lists_len c.accel_words.result.now, ap length c.accel_words.ensures.value)
 
 pub returns-clause-bound : goal.returns-clause-bound
 returns-clause-bound g c =

@@ -9,7 +9,7 @@ remap-requires-clause-count c = c.requires.count ∙ row_lists_count c.args.self
 
 pub remap-requires-clause-ids : goal.remap-requires-clause-ids
 remap-requires-clause-ids c =
-  λ k d h. IsId-row_id c.args.self.now _ (id_in_words c.args.self.now _ (c.requires.ids k d h))
+    λ k d h. IsId-row_id c.args.self.now _ (id_in_words c.args.self.now _ (c.requires.ids k d h))
 
 pub returns-clause-renamed : goal.returns-clause-renamed
 returns-clause-renamed c =
