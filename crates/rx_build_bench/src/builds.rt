@@ -1,0 +1,119 @@
+//! Builds that are timed.
+
+use crate::Fault;
+use rx_base::{MatchKind, StartKind};
+use rx_build::dense::{Builder, Config, OwnedDFA};
+use rx_expr::Expr;
+use rx_expr::thompson::{self, Compiler, NFA};
+use std::alloc::Global;
+use std::rt::Clock;
+use std::time::{Duration, Instant};
+
+/// What is built of an NFA besides the table that searches use.
+#[derive(Clone, Copy, Debug, PartialEq, Eq)]
+pub(crate) enum Parts {
+    /// Nothing.
+    Whole,
+    /// A table without needles, and a minimized one without needles.
+    Apart,
+}
+
+/// In which direction a text is read.
+#[derive(Clone, Copy, Debug, PartialEq, Eq)]
+pub(crate) enum Direction {
+    /// Forward, for the ends of leftmost-first matches.
+    Forward,
+    /// In reverse, for the starts of matches whose ends are known.
+    Reverse,
+}
+
+impl Direction {
+    /// What makes the NFA.
+    fn compiler(self) -> Compiler {
+        let mut compiler = Compiler::new();
+        let config = thompson::Config::new().utf8(false);
+        compiler.configure(config.reverse(self == Direction::Reverse));
+        compiler
+    }
+
+    /// What makes the table, with needles and minimized where these are asked for.
+    fn builder(self, accelerate: bool, minimize: bool) -> Builder {
+        let config = Config::new().accelerate(accelerate).minimize(minimize);
+        let mut builder = Builder::new();
+        builder.configure(match self {
+            Direction::Forward => config,
+            Direction::Reverse => config
+                .match_kind(MatchKind::All)
+                .start_kind(StartKind::Anchored),
+        });
+        builder
+    }
+}
+
+/// The least times of the builds in one direction, in nanoseconds.
+#[derive(Clone, Copy, Debug)]
+pub(crate) struct Least {
+    /// The NFA.
+    pub(crate) nfa: u64,
+    /// The table of it, with needles.
+    pub(crate) table: u64,
+    /// The table without needles.
+    pub(crate) plain: u64,
+    /// The minimized table without needles.
+    pub(crate) minimized: u64,
+}
+
+impl Least {
+    /// Nothing was built.
+    pub(crate) fn new() -> Least {
+        Least {
+            nfa: u64::MAX,
+            table: u64::MAX,
+            plain: u64::MAX,
+            minimized: u64::MAX,
+        }
+    }
+}
+
+/// Builds a table for searches, and what else is asked for, and keeps the times that are less than before.
+pub(crate) fn measure(
+    clock: &impl Clock,
+    alloc: Global,
+    exprs: &[Expr],
+    direction: Direction,
+    parts: Parts,
+    least: &mut Least,
+) -> Result<OwnedDFA, Fault> {
+    let begin = Instant::now(clock)?;
+    let nfa = direction
+        .compiler()
+        .build_many(alloc, exprs)
+        .map_err(|error| Fault::Build(error.into()))?;
+    least.nfa = least.nfa.min(nanoseconds(begin.elapsed(clock)?));
+    let (table, time) = build(clock, alloc, &direction.builder(true, false), &nfa)?;
+    least.table = least.table.min(time);
+    if parts == Parts::Apart {
+        let (_plain, time) = build(clock, alloc, &direction.builder(false, false), &nfa)?;
+        least.plain = least.plain.min(time);
+        let (_minimized, time) = build(clock, alloc, &direction.builder(false, true), &nfa)?;
+        least.minimized = least.minimized.min(time);
+    }
+    Ok(table)
+}
+
+/// The table of an NFA, and how long its build took.
+fn build(
+    clock: &impl Clock,
+    alloc: Global,
+    builder: &Builder,
+    nfa: &NFA,
+) -> Result<(OwnedDFA, u64), Fault> {
+    let begin = Instant::now(clock)?;
+    let dfa = builder.build_from_nfa(alloc, nfa)?;
+    Ok((dfa, nanoseconds(begin.elapsed(clock)?)))
+}
+
+/// A time in nanoseconds, up to the greatest number.
+fn nanoseconds(time: Duration) -> u64 {
+    u64::try_from(time.as_nanos()).unwrap_or(u64::MAX)
+}

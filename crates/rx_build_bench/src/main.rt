@@ -1,0 +1,150 @@
+//! Times the builds of dense tables: `rx_build_bench FILE REPEATS [parts]`.
+//!
+//! FILE has an expression on each line, in the syntax of `reader`. Of all of them two tables are built, REPEATS times:
+//! the forward one, by which the ends of leftmost-first matches are found, from an anchored start and an unanchored one;
+//! and the reverse one, which is anchored and tells all matches, by which their starts are found. Bytes are searched,
+//! UTF-8 or not.
+//!
+//! Standard output says how large the tables are, standard error the least time of each part of a build, in
+//! microseconds. With `parts` each NFA is also made into a table without needles and into a minimized one, so that the
+//! needles' part of a build can be told, and that of minimizing.
+//!
+//! Where nothing is measured, standard error says why, and the status is 2 for words that are wrong, 3 for expressions
+//! that aren't read or built, and 1 where memory, the clock, the file or an output failed.
+#![tactic(auto)]
+
+mod bounds;
+mod builds;
+mod class;
+mod reader;
+
+use builds::{Direction, Least, Parts, measure};
+use reader::ReadError;
+use rx_build::BuildError;
+use rx_build::dense::OwnedDFA;
+use rx_expr::Expr;
+use std::process::ExitCode;
+use std::rt::Clock;
+use std::{env, fs, io};
+use thiserror::Error;
+
+/// Why nothing was measured.
+#[derive(Debug, Drop, Error)]
+pub enum Fault {
+    /// The words are wrong.
+    #[error("usage: rx_build_bench FILE REPEATS [parts]")]
+    Usage,
+    /// An expression isn't read.
+    #[error("{text}: {error}")]
+    Expression {
+        /// How it is spelled.
+        text: String,
+        /// Why it isn't read.
+        error: ReadError,
+    },
+    /// A table isn't built.
+    #[error("{0}")]
+    Build(#[from] BuildError),
+    /// Memory ran out, or the words, the clock, the file or an output failed.
+    #[error("{0}")]
+    Io(#[from] io::Error),
+}
+
+impl Fault {
+    /// The exit status that says so.
+    fn status(&self) -> ExitCode {
+        match self {
+            Fault::Usage => ExitCode::from(2),
+            Fault::Expression { .. } | Fault::Build(_) => ExitCode::from(3),
+            Fault::Io(_) => ExitCode::FAILURE,
+        }
+    }
+}
+
+fn main(rt: HostRuntime) -> ExitCode {
+    match run(&rt) {
+        Ok(()) => ExitCode::SUCCESS,
+        Err(fault) => {
+            let _ = eprintln!(rt; "{fault}");
+            fault.status()
+        }
+    }
+}
+
+/// Measures what the words ask for.
+fn run(rt: &HostRuntime) -> Result<(), Fault> {
+    let mut words = env::args(rt)?.skip(1);
+    let file = words.next().ok_or(Fault::Usage)?;
+    let repeats = words.next().ok_or(Fault::Usage)?;
+    let repeats = repeats.as_str().parse::<u32>().map_err(|_| Fault::Usage)?;
+    let parts = match words.next() {
+        None => Parts::Whole,
+        Some(word) if word.as_str() == "parts" => Parts::Apart,
+        Some(_) => return Err(Fault::Usage),
+    };
+    let exprs = read_file(rt, file.as_str())?;
+    let mut forward = Least::new();
+    let mut reverse = Least::new();
+    for turn in 0..repeats {
+        let ends = measure(
+            rt,
+            rt.alloc(),
+            &exprs,
+            Direction::Forward,
+            parts,
+            &mut forward,
+        )?;
+        let starts = measure(
+            rt,
+            rt.alloc(),
+            &exprs,
+            Direction::Reverse,
+            parts,
+            &mut reverse,
+        )?;
+        if turn == 0 {
+            tell_size(rt, Direction::Forward, &ends)?;
+            tell_size(rt, Direction::Reverse, &starts)?;
+        }
+    }
+    tell_times(rt, Direction::Forward, &forward)?;
+    tell_times(rt, Direction::Reverse, &reverse)?;
+    Ok(())
+}
+
+/// The expressions of a file, one on each line.
+fn read_file(rt: &HostRuntime, path: &str) -> Result<Vec<Expr>, Fault> {
+    let text = fs::read_to_string(rt, path)?;
+    let mut exprs = Vec::new(rt.alloc());
+    for line in text.as_str().lines() {
+        match reader::read(rt.alloc(), line) {
+            Ok(expr) => exprs.push(expr).map_err(|failed| io::Error::from(failed))?,
+            Err(error) => {
+                let text = String::from_str(rt.alloc(), line).map_err(|error| io::Error::from(
+                    error,
+                ))?;
+                return Err(Fault::Expression { text, error });
+            }
+        }
+    }
+    Ok(exprs)
+}
+
+/// Says how large a table is.
+fn tell_size(rt: &impl Print, direction: Direction, dfa: &OwnedDFA) -> io::Result<()> {
+    println!(rt;
+        "{direction:?}: {} rows, {} units, {} bytes",
+        dfa.state_len(),
+        dfa.alphabet_len(),
+        dfa.memory_usage()
+    )
+}
+
+/// Says how long the parts of a build took, in microseconds.
+fn tell_times(rt: &impl Eprint, direction: Direction, least: &Least) -> io::Result<()> {
+    eprintln!(rt;
+        "{direction:?}: NFA {}, table {}",
+        least.nfa / 1000,
+        least.table / 1000
+    )
+}
