@@ -107,8 +107,8 @@ fn run(rt: &HostRuntime) -> Result<(), Fault> {
             tell_size(rt, Direction::Reverse, &starts)?;
         }
     }
-    tell_times(rt, Direction::Forward, &forward)?;
-    tell_times(rt, Direction::Reverse, &reverse)?;
+    tell_times(rt, Direction::Forward, parts, &forward)?;
+    tell_times(rt, Direction::Reverse, parts, &reverse)?;
     Ok(())
 }
 
@@ -140,11 +140,26 @@ fn tell_size(rt: &impl Print, direction: Direction, dfa: &OwnedDFA) -> io::Resul
     )
 }
 
-/// Says how long the parts of a build took, in microseconds.
-fn tell_times(rt: &impl Eprint, direction: Direction, least: &Least) -> io::Result<()> {
+/// Says how long the parts of the builds took, in microseconds.
+fn tell_times(
+    rt: &impl Eprint,
+    direction: Direction,
+    parts: Parts,
+    least: &Least,
+) -> io::Result<()> {
     eprintln!(rt;
         "{direction:?}: NFA {}, table {}",
         least.nfa / 1000,
         least.table / 1000
+    )?;
+    if parts == Parts::Whole {
+        return Ok(());
+    }
+    eprintln!(rt;
+        "{direction:?}: without needles {}, minimized {} to {} rows, minimizing {} ns a cell",
+        least.plain / 1000,
+        least.minimized / 1000,
+        least.rows_left,
+        least.minimizing()
     )
 }
