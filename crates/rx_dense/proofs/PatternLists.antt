@@ -1,13 +1,19 @@
 -- Lists of patterns, joined, and where each of them stands.
-use Rattle.std.proofs.Common.{◌≡◌, ℕ, zero, suc, ◌+◌, ◌*◌, ◌<◌, ◌≤◌, List, [], ◌∷◌, ◌++◌, length, take, drop, get_or}
-use Rattle.std.proofs.Common.{slice_index, All, ◌∙◌, ap, arith, refl, append_assoc, length-append}
+use Rattle.std.proofs.Common.{◌≡◌, ℕ, zero, suc, ◌+◌, ◌*◌, ◌^◌, ◌<◌, ◌≤◌, List, [], ◌∷◌, ◌++◌, length, take, drop}
+use Rattle.std.proofs.Common.{get_or, slice_index, ◌∙◌, ap, arith, refl, append_assoc, length-append}
+use Rattle.std.specs.Prelude.{Vec}
+use Rattle.std.specs.BTreeMap.{BTreeMap, btree_map_len, values}
 use Rattle.std.specs.List.{concat}
-use Rattle.std.proofs.lemmas.List.{take_at, drop_at}
-use Rattle.std.proofs.lemmas.List.Elements.{All-get_or}
+use Rattle.std.specs.Vec.{vec_items}
+use Rattle.std.proofs.lemmas.List.{take_at, drop_at, length-map}
 use Rattle.rx_spec.specs.Causes.{max_id}
-use Rattle.rx_dense.specs.Builder.{slices_from, with_patterns}
+use Rattle.rx_dense.specs.Builder.{pattern_lists, slices_from, with_patterns}
 use Rattle.rx_dense.specs.Layouts.{Layout, IsShaped, patterns_at}
 use Rattle.rx_dense.proofs.Shaped.{rows_kept, starts_kept}
+
+-- a list for each key of a map
+pub map_len : {A : Type 0} (lists : BTreeMap ℕ (Vec ℕ A)) → length (pattern_lists lists) ≡ btree_map_len lists
+map_len lists = omega (arith, length-map (values lists) vec_items, length-map lists.entries (λ e. e.1))
 
 -- ---- two words for each list
 
@@ -65,15 +71,17 @@ pub patterns_are : (l : Layout) (lists : List (List ℕ)) (i : ℕ) → i < leng
 patterns_are l lists i h = slice_is [] lists i h
 
 pub shaped_patterns : (l : Layout) (lists : List (List ℕ)) → length (concat lists) ≤ max_id
-    → All (λ id. id ≤ max_id) (concat lists) → IsShaped l → IsShaped (with_patterns l lists)
-shaped_patterns l lists few are h =
+    → length (slices_from 0 lists) < 2 * 2 ^ 32 → IsShaped l → IsShaped (with_patterns l lists)
+shaped_patterns l lists few few_rows h =
     let m : Layout = with_patterns l lists in
     record {
       rows = rows_kept l m refl refl refl h.rows;
       starts = starts_kept l m refl (omega arith) refl refl refl h.starts;
       lists = record {
+        few_patterns = h.lists.few_patterns;
+        pairs = omega (arith, length-slices_from 0 lists);
+        few_rows = few_rows;
         few = omega arith;
-        pattern_ids = λ k b. All-get_or (λ id. id ≤ max_id) (concat lists) k 0 b are;
         within = λ i b.
             let there : i < length lists = omega (arith, length-slices_from 0 lists) in
             omega (arith, slice_within 0 lists i there);

@@ -1,9 +1,10 @@
 -- Kinds of rows by their ids, with the patterns of match rows and the needles of accelerated ones.
 use Rattle.std.proofs.Common.{◌≡◌, ℕ, ◌+◌, ◌*◌, ◌/◌, ◌<◌, ◌≤◌, ◌&&◌, not, nat_le, Bool, true, false}
 use Rattle.std.proofs.Common.{if◌then◌else◌, List, [], length, take, drop, get_or, slice_index, refl, ap, sym, ◌∙◌}
-use Rattle.std.proofs.Common.{⊎_elim, arith, length-drop, length-take, length-take-le, Some, None}
+use Rattle.std.proofs.Common.{⊎_elim, arith, length-drop, length-take-le, Some, None}
 use Rattle.std.proofs.lemmas.Bool.{cases_lt, leb-true, and_parts}
 use Rattle.std.proofs.lemmas.List.{get_or-drop, get_or-take, get_or_past}
+use Rattle.std.proofs.lemmas.List.Elements.{Contains-get_or}
 use Rattle.rx_spec.specs.Ids.{row_of}
 use Rattle.rx_spec.specs.Causes.{max_id}
 use Rattle.rx_spec.specs.Machines.{Label}
@@ -11,6 +12,7 @@ use Rattle.rx_spec.specs.Tables.{is_match, is_match_label}
 use Rattle.rx_spec.specs.Queries.{Anchored}
 use Rattle.rx_search.specs.Starts.{IsId, universal_start}
 use Rattle.rx_search.specs.Labels.{is_quit, is_quit_label, label_patterns, patterns_of}
+use Rattle.rx_search.proofs.Standing.{match_label}
 use Rattle.rx_dense.specs.Specials.{is_in_range, is_match_id, is_quit_id, is_accel_id, is_start_id}
 use Rattle.rx_dense.specs.Layouts.{Layout, AreLists, ids_of, label_of_id, needles_of_id, patterns_at, place_in_range}
 use Rattle.rx_dense.specs.Layouts.{AreRows, is_row_id, stride, table_of, universal_id, universal_row}
@@ -109,6 +111,20 @@ module _ (l : Layout) (id : ℕ) (is : IsId (ids_of l) id) where
       i : ℕ
       i = place_in_range l l.special.min_match id
 
+  -- in a sound table they are numbers of patterns
+  pub pattern_ids : IsSoundLayout l → AreLists l → is_match (table_of l) (row_of (ids_of l) id) ≡ true
+      → (k : ℕ) → k < length (patterns_of (table_of l) (row_of (ids_of l) id))
+      → slice_index (patterns_of (table_of l) (row_of (ids_of l) id)) k ≤ max_id
+  pattern_ids sound lists e k h =
+      let ks : List ℕ = patterns_of (table_of l) (row_of (ids_of l) id) in
+      let label = match_label ((table_of l).machine.label (row_of (ids_of l) id)) e in
+      omega (
+        arith,
+        sound.patterns (row_of (ids_of l) id) ks (slice_index ks k) (row-is_below l id is) label
+            (Contains-get_or ks k 0 h),
+        lists.few_patterns,
+      )
+
   -- ---- accelerated rows
 
   pub accel_first : is_accel_id l.special id ≡ true → l.special.min_accel ≤ id
@@ -159,17 +175,6 @@ module _ (l : Layout) (lists : AreLists l) (i : ℕ) (h : 2 * i + 1 < length l.s
       get_or-take (slice_index l.slices (2 * i + 1)) (drop (slice_index l.slices (2 * i)) l.pattern_ids) k 0 below
       ∙ get_or-drop (slice_index l.slices (2 * i)) l.pattern_ids k 0
       )
-
--- a part of them
-pub part_ids : (l : Layout) → AreLists l → (start len k : ℕ) → k < length (take len (drop start l.pattern_ids))
-    → slice_index (take len (drop start l.pattern_ids)) k ≤ max_id
-part_ids l lists start len k h =
-    let len_is = length-take len (drop start l.pattern_ids) in
-    let rest_is = length-drop start l.pattern_ids in
-    let below : k < len = omega arith in
-    let there = get_or-take len (drop start l.pattern_ids) k 0 below ∙ get_or-drop start l.pattern_ids k 0 in
-    let within : start + k < length l.pattern_ids = omega arith in
-    omega (arith, there, lists.pattern_ids (start + k) within)
 
 -- ---- universal starts
 

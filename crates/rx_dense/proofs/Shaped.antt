@@ -56,12 +56,14 @@ starts_kept l m s w c p e h = record {
       subst (λ (ids : List ℕ). IsRowId m (slice_index ids k)) (sym e) (id_kept l m _ s w (h.start_ids k there));
 }
 
-pub lists_kept : (l m : Layout) → m.slices ≡ l.slices → m.pattern_ids ≡ l.pattern_ids
+pub lists_kept : (l m : Layout) → m.pattern_len ≡ l.pattern_len → m.slices ≡ l.slices → m.pattern_ids ≡ l.pattern_ids
     → length m.accels ≡ length l.accels
     → AreLists l → AreLists m
-lists_kept l m s p a h = record {
+lists_kept l m n s p a h = record {
+  few_patterns = rw n h.few_patterns;
+  pairs = rw s h.pairs;
+  few_rows = rw s h.few_rows;
   few = rw p h.few;
-  pattern_ids = λ k b. rw p (h.pattern_ids k (rw p at b));
   within = λ i b. rw (s, p) (h.within i (rw s at b));
   few_accels = rw a h.few_accels;
 }
@@ -196,7 +198,7 @@ shaped_special l special h =
     record {
       rows = rows_kept l m refl refl refl h.rows;
       starts = starts_kept l m refl (omega arith) refl refl refl h.starts;
-      lists = lists_kept l m refl refl refl h.lists;
+      lists = lists_kept l m refl refl refl refl h.lists;
     }
 
 pub shaped_universal : (l : Layout) (unanchored anchored : Option ℕ) → IsShaped l
@@ -206,7 +208,7 @@ shaped_universal l unanchored anchored h =
     record {
       rows = rows_kept l m refl refl refl h.rows;
       starts = starts_kept l m refl (omega arith) refl refl refl h.starts;
-      lists = lists_kept l m refl refl refl h.lists;
+      lists = lists_kept l m refl refl refl refl h.lists;
     }
 
 pub shaped_accels : (l : Layout) (accels : List (List ℕ)) → length accels < 2 ^ 32 → IsShaped l
@@ -217,8 +219,10 @@ shaped_accels l accels few h =
       rows = rows_kept l m refl refl refl h.rows;
       starts = starts_kept l m refl (omega arith) refl refl refl h.starts;
       lists = record {
+        few_patterns = h.lists.few_patterns;
+        pairs = h.lists.pairs;
+        few_rows = h.lists.few_rows;
         few = h.lists.few;
-        pattern_ids = h.lists.pattern_ids;
         within = h.lists.within;
         few_accels = few;
       };
@@ -231,7 +235,7 @@ shaped_set l id column next is within next_is h =
     record {
       rows = rows_set l m id column next refl refl refl is within next_is h.rows;
       starts = starts_kept l m refl (omega (arith, length-set l.words (id + column) next)) refl refl refl h.starts;
-      lists = lists_kept l m refl refl refl h.lists;
+      lists = lists_kept l m refl refl refl refl h.lists;
     }
 
 pub shaped_start : (l : Layout) (place id : ℕ) → place < length l.starts → IsRowId l id → IsShaped l
@@ -241,7 +245,7 @@ shaped_start l place id within is h =
     record {
       rows = rows_kept l m refl refl refl h.rows;
       starts = starts_set l m place id refl refl refl refl refl within is h.starts;
-      lists = lists_kept l m refl refl refl h.lists;
+      lists = lists_kept l m refl refl refl refl h.lists;
     }
 
 pub shaped_row : (l : Layout) → length l.words ≤ max_id → IsShaped l → IsShaped (with_row l)
@@ -250,7 +254,7 @@ shaped_row l few h = record {
   starts =
       starts_kept l (with_row l) refl (omega (arith, length-append l.words (replicate (stride l) 0))) refl refl refl
       h.starts;
-  lists = lists_kept l (with_row l) refl refl refl h.lists;
+  lists = lists_kept l (with_row l) refl refl refl refl h.lists;
 }
 
 -- the id of that row
@@ -304,8 +308,10 @@ shaped_initial b are small =
         start_ids = λ k h. subst (IsRowId l) (sym (zero_at (start_entries l.pattern_starts) k)) id;
       };
       lists = record {
+        few_patterns = omega arith;
+        pairs = refl;
+        few_rows = omega arith;
         few = omega arith;
-        pattern_ids = λ k h. absurd (omega (arith, h));
         within = λ i h. absurd (omega (arith, h));
         few_accels = omega arith;
       };
@@ -337,7 +343,7 @@ shaped_words l ws count ids zeros h =
         past_alphabet = λ k b past. zeros k (omega (arith, count)) past;
       };
       starts = starts_kept l m refl same refl refl refl h.starts;
-      lists = lists_kept l m refl refl refl h.lists;
+      lists = lists_kept l m refl refl refl refl h.lists;
     }
 
 -- ---- other start entries
@@ -355,7 +361,7 @@ shaped_starts l ids count are h =
         small = rw count h.starts.small;
         start_ids = λ k b. id_kept l m (slice_index ids k) refl (omega arith) (are k (omega (arith, count)));
       };
-      lists = lists_kept l m refl refl refl h.lists;
+      lists = lists_kept l m refl refl refl refl h.lists;
     }
 
 -- ---- rows that change places
@@ -468,5 +474,5 @@ shaped_cut l rows two within cut_rows cut_starts h =
         small = h.starts.small;
         start_ids = λ k b. id (slice_index l.starts k) (h.starts.start_ids k b) (cut_starts k b);
       };
-      lists = lists_kept l m refl refl refl h.lists;
+      lists = lists_kept l m refl refl refl refl h.lists;
     }

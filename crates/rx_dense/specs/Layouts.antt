@@ -172,10 +172,13 @@ pub record AreStarts (l : Layout) : Type 0 where
   pub small : length l.starts ≤ 12 + 6 * (max_id + 1)
   pub start_ids : (k : ℕ) → k < length l.starts → IsRowId l (slice_index l.starts k)
 
--- The patterns of each match row stand among the pattern ids. There are not too many accelerated rows.
+-- The patterns of each match row stand among the pattern ids, and there is a pair of words for each. There are no more
+-- patterns than ids, and of match rows, pattern ids and accelerated rows no more than a word can count.
 pub record AreLists (l : Layout) : Type 0 where
+  pub few_patterns : l.pattern_len ≤ max_id + 1
+  pub pairs : length l.slices % 2 ≡ 0
+  pub few_rows : length l.slices < 2 * 2 ^ 32
   pub few : length l.pattern_ids < 2 ^ 32
-  pub pattern_ids : (k : ℕ) → k < length l.pattern_ids → slice_index l.pattern_ids k ≤ max_id
   pub within : (i : ℕ) → 2 * i + 1 < length l.slices
       → slice_index l.slices (2 * i) + slice_index l.slices (2 * i + 1) ≤ length l.pattern_ids
   pub few_accels : length l.accels < 2 ^ 32

@@ -5,7 +5,11 @@ pub mod Accels
 -- a table's lists and numbers, and the table that they mean
 pub mod Layouts
 pub mod Facts
+-- the parts of which a table is made
+pub mod Parts
 -- what a builder's calls make of a table
 pub mod Builder
 -- rows and start entries, as they are handed out one by one
 pub mod States
+-- rows as lists that change places
+pub mod RowLists

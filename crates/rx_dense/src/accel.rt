@@ -77,8 +77,8 @@ impl Accel {
         &self.bytes[..self.len]
     }
 
-    /// The needles of a list of at most three bytes.
-    fn from_needles(needles: Needles) -> Accel
+    /// The needles of a list of at most three bytes. A space may be among them.
+    pub fn from_needles(needles: Needles) -> Accel
         ensures { result ≡ needles }
     {
         let mut bytes = [0; 3];
@@ -123,6 +123,16 @@ impl Accels {
     {
         Ok(Accels {
             words: Vec::new(alloc),
+        })
+    }
+
+    /// No rows, with room for so many.
+    pub fn with_capacity(alloc: Global, capacity: usize) -> Result<Accels, AllocError>
+        requires { capacity < 2 ^ 32 }
+        ensures { IfOk result (λ accels. accels ≡ []) }
+    {
+        Ok(Accels {
+            words: Vec::with_capacity(alloc, 2 * capacity)?,
         })
     }
 

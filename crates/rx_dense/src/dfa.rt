@@ -1,6 +1,6 @@
 //! The table.
 
-ghost use Rattle.std.specs.Prelude.{◌≡◌, ◌<◌, ◌≤◌, ◌+◌, ◌*◌, ◌/◌, ◌^◌, length, get_or, slice_index, is_some, IfOk};
+ghost use Rattle.std.specs.Prelude.{◌≡◌, ◌<◌, ◌≤◌, ◌+◌, ◌*◌, ◌/◌, ◌^◌, [], length, get_or, slice_index, is_some, IfOk};
 ghost use Rattle.rx_dense.specs.Builder.{memory_usage};
 ghost use Rattle.rx_base.specs.Search.{mode_of};
 ghost use Rattle.rx_base.specs.ByteClasses.{AreClasses, alphabet_len};
@@ -14,13 +14,16 @@ ghost use Rattle.rx_dense.specs.Layouts.{place_in_range, row_count, start_id, st
 
 mod automaton;
 mod build;
+pub(crate) mod parts;
 mod pattern_map;
+mod remappable;
 mod rows;
 pub(crate) mod starts;
 pub(crate) mod states;
 
+use crate::accel::needles_of;
 use crate::{Flags, Special, WordStore};
-use rx_base::{Anchored, ByteClasses, ByteSet, Start, StartKind, StateID};
+use rx_base::{Anchored, ByteClasses, ByteSet, Needles, Start, StartKind, StateID};
 use std::alloc::{AllocError, Global};
 use std::marker::Model;
 
@@ -219,18 +222,20 @@ impl<T: WordStore> DFA<T> {
         4 * (self.words().len() + self.start_ids().len() + lists + 1 + 2 * accels)
     }
 
-    /// The words of the rows.
+    /// The words of the rows, each row's next ids and zeros up to the stride.
     #[inline(always)]
-    pub(crate) fn words(&self) -> &[u32]
+    pub fn words(&self) -> &[u32]
         ensures value { result.now ≡ self.now.words }
         ensures rows { AreRows self.now }
+        ensures starts { AreStarts self.now }
     {
         self.words.words()
     }
 
-    /// The start entries.
+    /// The ids of the start rows: six for the contexts of an unanchored search, six for those of an anchored one, and
+    /// six for each pattern that has starts of its own.
     #[inline(always)]
-    pub(crate) fn start_ids(&self) -> &[u32]
+    pub fn start_ids(&self) -> &[u32]
         ensures value { result.now ≡ self.now.starts }
         ensures starts { AreStarts self.now }
         ensures rows { AreRows self.now }
@@ -238,9 +243,25 @@ impl<T: WordStore> DFA<T> {
         self.starts.words()
     }
 
-    /// Where the patterns of each match row stand, and how many there are: two words for each.
+    /// How many patterns have starts of their own, if any have.
+    pub fn start_pattern_len(&self) -> Option<usize>
+        ensures { result ≡ self.now.pattern_starts }
+    {
+        self.pattern_starts
+    }
+
+    /// The start rows of an unanchored search and of an anchored one, whatever stands beside its span, where there are
+    /// such.
+    pub fn universal_starts(&self) -> (Option<StateID>, Option<StateID>)
+        ensures unanchored { result.0 ≡ self.now.universal_unanchored }
+        ensures anchored { result.1 ≡ self.now.universal_anchored }
+    {
+        (self.universal_unanchored, self.universal_anchored)
+    }
+
+    /// Where the patterns of each match row begin among the pattern ids, and how many there are: two words for each.
     #[inline(always)]
-    pub(crate) fn slices(&self) -> &[u32]
+    pub fn slices(&self) -> &[u32]
         ensures value { result.now ≡ self.now.slices }
         ensures lists { AreLists self.now }
     {
@@ -249,7 +270,7 @@ impl<T: WordStore> DFA<T> {
 
     /// The patterns of all match rows.
     #[inline(always)]
-    pub(crate) fn pattern_ids(&self) -> &[u32]
+    pub fn pattern_ids(&self) -> &[u32]
         ensures { result.now ≡ self.now.pattern_ids }
     {
         self.pattern_ids.words()
@@ -262,6 +283,22 @@ impl<T: WordStore> DFA<T> {
         ensures lists { AreLists self.now }
     {
         self.accels.words()
+    }
+
+    /// How many accelerated rows have needles.
+    pub fn accel_len(&self) -> usize
+        ensures value { result ≡ length self.now.accels }
+        ensures bound { result < 2 ^ 32 }
+    {
+        self.accel_words().len() / 2
+    }
+
+    /// The needles of an accelerated row, by its place among those rows.
+    pub fn needles_at(&self, i: usize) -> Needles
+        requires { i < length self.now.accels }
+        ensures { result ≡ get_or self.now.accels i [] }
+    {
+        needles_of(self.accel_words()[2 * i])
     }
 
     /// The row to which a column leads from a row.

@@ -15,6 +15,7 @@ mod special;
 mod store;
 
 pub use accel::{Accel, Accels, IterAccels};
+pub use dfa::parts::Parts;
 pub use dfa::starts::StartStateIter;
 pub use dfa::states::{State, StateIter, StateSparseTransitionIter, StateTransitionIter};
 pub use dfa::{DFA, OwnedDFA};

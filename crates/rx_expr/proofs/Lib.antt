@@ -15,3 +15,5 @@ pub mod BuiltNfas
 pub mod NfaFacts
 -- which bytes its rows tell apart
 pub mod RowClasses
+-- which patterns its Match rows name
+pub mod NamedPatterns

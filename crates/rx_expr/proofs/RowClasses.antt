@@ -3,12 +3,12 @@ use Rattle.std.proofs.Common.{◌≡◌, ℕ, ◌+◌, ◌<◌, ◌==◌, ◌⊎
 use Rattle.std.proofs.Common.{arith}
 use Rattle.std.proofs.Common.{lit<}
 use Rattle.std.specs.Prelude.{nat_le}
-use Rattle.std.proofs.Math.Bool.{or_assoc, or-false}
+use Rattle.std.proofs.Math.Bool.{or-false}
 use Rattle.std.proofs.lemmas.Bool.{agree_below_at}
 use Rattle.std.proofs.lemmas.Bool.Decides.{nat_tests}
 use Rattle.rx_spec.specs.Bytes.{contains, between, is_word}
 use Rattle.rx_spec.specs.Classes.{facts_part, parts}
-use Rattle.rx_spec.specs.Contexts.{Facts, facts_read}
+use Rattle.rx_spec.specs.Contexts.{facts_read}
 use Rattle.rx_spec.specs.Looks.{differ}
 use Rattle.rx_spec.specs.declared.Look.{Look}
 use Rattle.rx_base.proofs.ByteSets.{contains-between}

@@ -1,9 +1,10 @@
 -- The rows of the code as those of the definitions, and facts of them that an NFA keeps.
-use Rattle.std.specs.Prelude.{ℕ, zero, suc, ◌≡◌, ◌<◌, ◌==◌, ◌+◌, ◌*◌, Bool, false, List, length}
+use Rattle.std.specs.Prelude.{ℕ, zero, suc, ◌≡◌, ◌<◌, ◌≤◌, ◌==◌, ◌+◌, ◌*◌, Bool, false, List, length}
 use Rattle.std.proofs.Common.{ap}
 use Rattle.std.specs.Coded.{×_prop, Π_prop, Unit-prop}
 use Rattle.std.specs.List.{list_any}
 use Rattle.rx_spec.specs.Bytes.{contains}
+use Rattle.rx_spec.specs.Causes.{id_count}
 use Rattle.rx_spec.specs.Classes.{row_parts}
 use Rattle.rx_spec.specs.Rows as rows
 use Rattle.rx_spec.specs.States.{row_at}
@@ -38,6 +39,11 @@ rows_part t rs b = list_any (row_parts t b (b + 1)) rs
 -- A set has the bytes that are told apart from the next one. Whether it has the last byte means nothing.
 abbrev pub EndsClasses : (set line_terminator : ℕ) → List rows.Row → Type 0
 EndsClasses set t rs = (b : ℕ) → b < 255 → contains set b ≡ rows_part t rs b
+
+-- Each Match row names one of so many patterns, and each of these has an id.
+pub record NamesPatterns (count : ℕ) (rs : List rows.Row) : Type 0 where
+  pub few : count ≤ id_count
+  pub named : (q pattern : ℕ) → row_at rs q ≡ rows.Match pattern → pattern < count
 
 -- There is one proof at most that no path which reads nothing goes round.
 AllBehind-prop : (P : ℕ → Type 0) → ((q : ℕ) → IsProp (P q)) → (row : rows.Row) → IsProp (AllNext P row)

@@ -548,6 +548,9 @@ module _ {old : Layout} {kinds rows ends : List ℕ} {lists : List (List ℕ)} {
     };
     labels = told;
     accelerated = accelerated;
+    starts = λ row h.
+        start_row_is arranged (number arranged row) (number_below arranged.reordered arranged.before row h)
+        ∙ ap (is_start_row old) (row_at_number arranged.reordered arranged.before row h);
     marked = marked_same;
     in_order = record {
       sound = sound arranged routed told labels_are has_needles;

@@ -1,29 +1,17 @@
 -- Kinds of rows as numbers, and ranges of ids.
-use Rattle.std.proofs.Common.{◌≡◌, ◌≢◌, ℕ, ◌+◌, ◌-◌, ◌*◌, ◌<◌, ◌≤◌, ◌==◌, ◌&&◌, ◌||◌, not}
-use Rattle.std.proofs.Common.{nat_lt, nat_le, Bool, true, false, if◌then◌else◌, List, length, slice_index}
-use Rattle.std.proofs.Common.{refl, ap, ap₂, sym, ◌∙◌, subst, ⊎_elim, inl, inr, arith}
-use Rattle.std.specs.Prelude.{max}
-use Rattle.std.proofs.lemmas.Bool.{and_parts, cases_eq, cases_lt, eqb-false, eqb-true, false≢true, leb-true, ne_eqb}
+use Rattle.std.proofs.Common.{◌≡◌, ℕ, ◌-◌, ◌*◌, ◌<◌, ◌≤◌, ◌&&◌, ◌||◌}
+use Rattle.std.proofs.Common.{nat_lt, nat_le, Bool, true, false, if◌then◌else◌, List}
+use Rattle.std.proofs.Common.{refl, sym, subst, ⊎_elim, arith}
+use Rattle.std.proofs.lemmas.Bool.{cases_eq, cases_lt, ne_eqb}
 use Rattle.std.proofs.lemmas.Bool.{lt-ltb}
-use Rattle.std.proofs.lemmas.Bool.{le-ltb, ltb-true}
+use Rattle.std.proofs.lemmas.Bool.{le-ltb}
 use Rattle.std.proofs.lemmas.Bool.Decides.{nat_tests}
-use Rattle.std.proofs.lemmas.Nat.{div-add-mod', mul-le, pow_pos, row_fits}
-use Rattle.rx_dense.specs.Layouts.{Layout, AreRows, IsRowId, machine_of, patterns_at, place_in_range, row_count, stride}
-use Rattle.rx_dense.specs.Layouts.{table_of}
-use Rattle.rx_dense.specs.Specials.{greatest, is_accel_id, is_in_range, is_match_id, is_quit_id, is_start_id}
-use Rattle.rx_dense.specs.declared.special.Special.{Special}
-use Rattle.rx_spec.specs.Causes.{max_id}
+use Rattle.std.proofs.lemmas.Nat.{mul-le, row_fits}
+use Rattle.rx_dense.specs.Specials.{is_in_range}
 use Rattle.rx_spec.specs.Machines.{Label}
-use Rattle.rx_order.specs.Permuted.{IsPermuted}
-use Rattle.rx_dense.proofs.Rows.{IsRowId-row}
-use Rattle.rx_spec.specs.Tables.{is_match, is_match_label}
-use Rattle.rx_order.specs.ByKind.{AreByKind, AreKinds}
-use Rattle.rx_order.specs.Moved.{IsReordered}
-use Rattle.rx_order.specs.RowOrder.{IsOrdered, IsRange, is_start_row, kind_by, kind_of}
-use Rattle.rx_order.specs.SpecialIds.{first_id, last_id, special_ids}
-use Rattle.rx_order.proofs.Reordered.{IsBefore, any_start, entry_of, next_of_row, number_below, number_of_place}
-use Rattle.rx_order.proofs.Reordered.{numbers}
-use Rattle.rx_order.proofs.Reordered.{permutation, row_at_number, row_of_place, size, stride_is, two_rows}
+use Rattle.rx_spec.specs.Tables.{is_match_label}
+use Rattle.rx_order.specs.RowOrder.{kind_by}
+use Rattle.rx_order.specs.SpecialIds.{first_id, last_id}
 
 -- ---- tests
 

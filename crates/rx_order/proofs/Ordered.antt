@@ -6,17 +6,15 @@ use Rattle.std.specs.Prelude.{max}
 use Rattle.std.proofs.lemmas.Bool.{and_parts, cases_eq, cases_lt, eqb-false, eqb-true, false≢true, leb-true, ne_eqb}
 use Rattle.std.proofs.lemmas.Bool.{lt-ltb}
 use Rattle.std.proofs.lemmas.Bool.{le-ltb, ltb-true}
-use Rattle.std.proofs.lemmas.Bool.Decides.{nat_tests}
 use Rattle.std.proofs.lemmas.Nat.{div-add-mod', mul-le, pow_pos, row_fits}
 use Rattle.rx_dense.specs.Layouts.{Layout, AreRows, IsRowId, machine_of, patterns_at, place_in_range, row_count, stride}
 use Rattle.rx_dense.specs.Layouts.{table_of}
 use Rattle.rx_dense.specs.Specials.{greatest, is_accel_id, is_in_range, is_match_id, is_quit_id, is_start_id}
 use Rattle.rx_dense.specs.declared.special.Special.{Special}
 use Rattle.rx_spec.specs.Causes.{max_id}
-use Rattle.rx_spec.specs.Machines.{Label}
 use Rattle.rx_order.specs.Permuted.{IsPermuted}
 use Rattle.rx_dense.proofs.Rows.{IsRowId-row}
-use Rattle.rx_spec.specs.Tables.{is_match, is_match_label}
+use Rattle.rx_spec.specs.Tables.{is_match}
 use Rattle.rx_order.specs.ByKind.{AreByKind, AreKinds}
 use Rattle.rx_order.specs.Moved.{IsReordered}
 use Rattle.rx_order.specs.RowOrder.{IsOrdered, IsRange, is_start_row, kind_by, kind_of}
@@ -24,7 +22,7 @@ use Rattle.rx_order.specs.SpecialIds.{first_id, last_id, special_ids}
 use Rattle.rx_order.proofs.Reordered.{IsBefore, any_start, entry_of, next_of_row, number_below, number_of_place}
 use Rattle.rx_order.proofs.Reordered.{numbers}
 use Rattle.rx_order.proofs.Reordered.{permutation, row_at_number, row_of_place, size, stride_is, two_rows}
-use Rattle.rx_order.proofs.KindNumbers.{high_kind, at_most, over, any_of, id, above, in_ids, kind_high, high_above}
+use Rattle.rx_order.proofs.KindNumbers.{high_kind, at_most, over, any_of, id, in_ids, kind_high, high_above}
 use Rattle.rx_order.proofs.KindNumbers.{kind_small, row_first, row_dead, high_matches, high_accels, high_starts}
 use Rattle.rx_order.proofs.KindNumbers.{label_match}
 

@@ -73,6 +73,8 @@ pub record IsAccelerated (old new : Layout) : Type 0 where
       → (table_of new).machine.label (slice_index numbers row) ≡ (table_of old).machine.label row
   pub accelerated : (row : ℕ) → row < row_count new
       → (table_of new).is_accelerated row ≡ is_skippable (table_of new) row
+  pub starts : (row : ℕ) → row < row_count old
+      → is_start_row new (slice_index numbers row) ≡ is_start_row old row
   pub marked : is_marked new ≡ is_marked old
   pub in_order : IsInOrder new
   pub joined : AreJoined new

@@ -10,6 +10,7 @@ ghost use Rattle.rx_spec.specs.Tables.{IsSound};
 ghost use Rattle.rx_dense.specs.Builder.{pattern_lists};
 ghost use Rattle.rx_dense.specs.Layouts.{AreRows, AreStarts, row_count, table_of};
 ghost use Rattle.rx_order.specs.ByKind.{AreKinds};
+ghost use Rattle.rx_order.specs.RowOrder.{match_lists};
 ghost use Rattle.rx_order.specs.Ordering.{AreMatches, IsRouted, IsShuffled, is_match_row};
 
 use crate::kinds::{kind, start_rows};
@@ -32,6 +33,7 @@ pub fn shuffle(
     ensures sound { OnOk result (IsRouted (table_of dfa.old) → IsSound (table_of dfa.new)) }
     ensures err { OnErr result (dfa.new ≡ dfa.old) }
     ensures fits { OnOk result (length (concat (pattern_lists matches)) ≤ max_id) }
+    ensures joined_len { OnOk result (length (concat (match_lists dfa.new)) ≤ max_id) }
     ensures too_many { result ≡ Err PatternMapError.TooMany → max_id < length (concat (pattern_lists matches)) }
 {
     let kinds = kinds(alloc, dfa, &matches)?;

@@ -1,5 +1,4 @@
 -- the assertions of Unicode words
-pub mod UnicodeWords
 -- what a search says, how it starts, and its walk over a span
 pub mod Saying
 pub mod Starts

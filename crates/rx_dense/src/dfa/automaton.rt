@@ -21,7 +21,7 @@ use rx_search::{Automaton, StartError};
 impl<T: WordStore> DFA<T> {
     /// The patterns that a match row tells, lent from where they stand.
     #[inline(always)]
-    fn patterns(&self, id: StateID) -> &[u32]
+    pub fn patterns(&self, id: StateID) -> &[u32]
         requires sound { IsSoundLayout self.now }
         requires is_id { IsId (ids_of self.now) id }
         requires is_match { is_match (table_of self.now) (row_of (ids_of self.now) id) ≡ true }

@@ -1,6 +1,6 @@
 //! The patterns of the match rows, as a builder sets them.
 
-ghost use Rattle.std.specs.Prelude.{◌≡◌, ℕ, ◌<◌, ◌≤◌, ◌↔◌, [], length, get_or, All, Err, IfOk, OnOk, OnErr, SomeIff};
+ghost use Rattle.std.specs.Prelude.{◌≡◌, ℕ, ◌+◌, ◌<◌, ◌≤◌, ◌↔◌, [], length, get_or, Err, IfOk, OnOk, OnErr, SomeIff};
 ghost use Rattle.std.specs.BTreeMap.{btree_map_len};
 ghost use Rattle.std.specs.List.{concat};
 ghost use Rattle.rx_spec.specs.Causes.{max_id};
@@ -54,11 +54,16 @@ fn joined_len(map: &BTreeMap<StateID, Vec<PatternID>>) -> Option<usize>
     Some(len)
 }
 
-/// For each list where it begins among the joined lists, and how long it is.
+/// For each list where it begins among the joined lists, and how long it is. More lists than there are ids of rows,
+/// which are the keys, would be refused as want of memory.
 fn slices(alloc: Global, map: &BTreeMap<StateID, Vec<PatternID>>) -> Result<Vec<u32>, AllocError>
     requires { length (concat (pattern_lists map.now)) ≤ max_id }
-    ensures { IfOk result (λ slices. slices.items ≡ slices_from 0 (pattern_lists map.now)) }
+    ensures value { IfOk result (λ slices. slices.items ≡ slices_from 0 (pattern_lists map.now)) }
+    ensures few { OnOk result (btree_map_len map.now ≤ max_id + 1) }
 {
+    if map.len() > StateID::LIMIT {
+        return Err(AllocError);
+    }
     let mut slices = Vec::with_capacity(alloc, 2 * map.len())?;
     let mut start = 0;
     for list in map.values() {
@@ -75,8 +80,7 @@ fn joined(
     map: &BTreeMap<StateID, Vec<PatternID>>,
     len: usize,
 ) -> Result<Vec<u32>, AllocError>
-    ensures value { IfOk result (λ ids. ids.items ≡ concat (pattern_lists map.now)) }
-    ensures are_ids { IfOk result (λ ids. All (λ id. id ≤ max_id) ids.items) }
+    ensures { IfOk result (λ ids. ids.items ≡ concat (pattern_lists map.now)) }
 {
     let mut ids = Vec::with_capacity(alloc, len)?;
     for list in map.values() {

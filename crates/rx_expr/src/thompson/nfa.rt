@@ -9,6 +9,7 @@ ghost use Rattle.rx_spec.specs.Nfas.{always_match, is_always_start_anchored, nev
 ghost use Rattle.rx_spec.specs.Shallow.{IsShallow};
 ghost use Rattle.rx_base.specs.LookSet.{holds_look};
 ghost use Rattle.rx_expr.specs.NfaRows.{row_of, asserts, has_look, rows_part, EndsClasses, HoldsLooks, IsShallow-prop};
+ghost use Rattle.rx_expr.specs.NfaRows.{NamesPatterns};
 
 use super::build_error::BuildError;
 use super::classes::byte_class_set;
@@ -70,6 +71,9 @@ pub struct NFA {
     ghost facts_are: { asked ≡ facts_kept (map row_of rows.items) },
     ghost looks_are: { HoldsLooks look_set_any (map row_of rows.items) },
     ghost classes_are: { EndsClasses byte_class_set look_matcher (map row_of rows.items) },
+
+    // Each match row names one of the patterns that have starts.
+    pub ghost patterns: { NamesPatterns (length start_patterns.items) (map row_of rows.items) },
 
     // No path that reads nothing goes round, so a closure of rows ends.
     pub ghost shallow: { IsShallow (map row_of rows.items) } by { IsShallow-prop (map row_of rows.items) },
@@ -142,7 +146,8 @@ impl NFA {
 
     /// An NFA of one row, in which every search starts, with the starts of its patterns.
     fn of_row(alloc: Global, row: Row, start_patterns: &[StateID]) -> Result<NFA, AllocError>
-        requires { IsShallow (row_of row ∷ []) }
+        requires shallow { IsShallow (row_of row ∷ []) }
+        requires patterns { NamesPatterns (length start_patterns.now) (row_of row ∷ []) }
         ensures { IfOk result (λ nfa. meaning nfa ≡ record {
           rows = row_of row ∷ [];
           start_anchored = 0;

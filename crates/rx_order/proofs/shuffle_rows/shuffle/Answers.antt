@@ -1,7 +1,10 @@
-use Rattle.std.proofs.Common.{◌^◌, true, ◌∙◌, ap, refl, rules}
+use Rattle.std.proofs.Common.{ℕ, ◌^◌, ◌≤◌, true, List, length, ◌∙◌, ap, refl, rules, subst, sym}
+use Rattle.std.specs.List.{concat}
+use Rattle.rx_spec.specs.Causes.{max_id}
 use Rattle.rx_dense.specs.declared.special.Special.{Special}
 use Rattle.rx_order.specs.SpecialIds.{special_ids}
-use Rattle.rx_order.proofs.Shuffled.{IsShuffling, is_shuffle, shuffled, shuffled_sound, shuffling_ends}
+use Rattle.rx_order.proofs.MatchRows.{lists_are}
+use Rattle.rx_order.proofs.Shuffled.{IsShuffling, has_patterns, is_shuffle, shuffled, shuffled_sound, shuffling_ends}
 use Rattle.rx_order.proofs.shuffle_rows.shuffle.Goals as goal
 
 pub special-requires-clause-ids : goal.special-requires-clause-ids
@@ -49,5 +52,8 @@ returns c =
       sound = shuffled_sound is;
       err = tt;
       fits = c.in_ok-set_pattern_map.ensures.fits;
+      joined_len =
+          subst (λ (lists : List (List ℕ)). length (concat lists) ≤ max_id)
+          (sym (lists_are is.arranged (has_patterns is))) c.in_ok-set_pattern_map.ensures.fits;
       too_many = search rules;
     }

@@ -1,5 +1,5 @@
 use Rattle.rx_expr.specs.Nfa.{meaning}
-use Rattle.rx_regex.proofs.UnicodeWords.{unicode_told}
+use Rattle.rx_expr.proofs.UnicodeWords.{unicode_told}
 use Rattle.rx_regex.proofs.built.has_unicode_word.Goals as goal
 
 pub returns : goal.returns

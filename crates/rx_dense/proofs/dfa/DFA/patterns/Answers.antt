@@ -1,6 +1,7 @@
-use Rattle.std.proofs.Common.{◌∙◌, ◌+◌, ◌-◌, ◌*◌, slice_index, sym, arith}
+use Rattle.std.proofs.Common.{ℕ, ◌∙◌, ◌+◌, ◌*◌, ◌<◌, ◌≤◌, List, length, slice_index, subst, sym, arith}
+use Rattle.rx_spec.specs.Causes.{max_id}
 use Rattle.rx_dense.specs.Layouts.{place_in_range}
-use Rattle.rx_dense.proofs.RowKinds.{match_first, match_place, match_patterns, part_ids}
+use Rattle.rx_dense.proofs.RowKinds.{match_first, match_place, match_patterns, pattern_ids}
 use Rattle.rx_dense.proofs.Rows.{part_is}
 use Rattle.rx_dense.proofs.dfa.DFA.patterns.Goals as goal
 
@@ -35,7 +36,8 @@ returns-clause-value g c =
 
 pub returns-clause-are_ids : goal.returns-clause-are_ids
 returns-clause-are_ids g c =
-    let l = c.args.self.now in
-    let start = slice_index c.slices-slices.result.now (2 * c.place_in_range-place.result) in
-    let len = slice_index c.slices-slices.result.now (2 * c.place_in_range-place.result + 1) in
-    rw c.pattern_ids.ensures (part_ids l c.slices-slices.ensures.lists start (start + len - start))
+    subst
+    (λ (ids : List ℕ). (k : ℕ) → k < length ids → slice_index ids k ≤ max_id)
+    (sym (returns-clause-value g c))
+    (pattern_ids c.args.self.now c.args.id c.requires.is_id c.requires.sound c.slices-slices.ensures.lists
+    c.requires.is_match)

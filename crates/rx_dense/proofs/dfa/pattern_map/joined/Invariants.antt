@@ -1,18 +1,11 @@
-use Rattle.std.proofs.Common.{All, ◌≡◌, ◌≤◌, ◌++◌, map, take}
+use Rattle.std.proofs.Common.{◌≡◌, ◌++◌, map, take}
 use Rattle.std.specs.List.{concat}
 use Rattle.std.specs.Vec.{vec_items}
-use Rattle.rx_spec.specs.Causes.{max_id}
 use Rattle.rx_dense.specs.Builder.{pattern_lists}
 use Rattle.rx_dense.proofs.dfa.pattern_map.joined.Given as goal
 
 abbrev pub invariant-loop-id : goal.invariant-loop-id
-invariant-loop-id l = record {
-  ids : l.ids.items ≡ l.initial.ids.items ++ take l.id-index l.id-items;
-  are_ids : All (λ id. id ≤ max_id) l.ids.items;
-}
+invariant-loop-id l = l.ids.items ≡ l.initial.ids.items ++ take l.id-index l.id-items
 
 abbrev pub invariant-loop-list : goal.invariant-loop-list
-invariant-loop-list l = record {
-  left : l.ids.items ++ concat (map vec_items l.list-iterator) ≡ concat (pattern_lists l.map);
-  are_ids : All (λ id. id ≤ max_id) l.ids.items;
-}
+invariant-loop-list l = l.ids.items ++ concat (map vec_items l.list-iterator) ≡ concat (pattern_lists l.map)

@@ -5,10 +5,11 @@ use Rattle.rx_spec.specs.Shallow.{IsShallow}
 use Rattle.rx_lemmas.proofs.Shallows.{nfa_shallow}
 use Rattle.rx_expr.specs.Compiler.{asked_by}
 use Rattle.rx_expr.specs.Compiles.{joined_count, lead_count}
-use Rattle.rx_expr.specs.NfaRows.{row_of, has_look, rows_part}
+use Rattle.rx_expr.specs.NfaRows.{NamesPatterns, row_of, has_look, rows_part}
 use Rattle.rx_expr.proofs.PatternRows.{length-added_patterns, length-starts}
 use Rattle.rx_expr.proofs.JoinedStarts.{length-joined}
 use Rattle.rx_expr.proofs.BuiltNfas.{rows_fit, steps_of, nfa_made, nfa_same}
+use Rattle.rx_expr.proofs.NamedPatterns.{nfa_names_patterns}
 use Rattle.rx_expr.proofs.thompson.compiler.Compiler.build.Goals as goal
 
 -- ---- room for each step
@@ -43,6 +44,7 @@ invariant_of-result c =
     let steps = steps_of c.in_ok-add_patterns.ensures c.deref.ensures.value joined edge led in
     let made = nfa_made c.new.result c.get_utf8.result steps c.any_empty.ensures in
     let shallow = nfa_shallow c.direction-direction.result c.new.result c.get_utf8.result c.args.exprs.now in
+    let patterns = nfa_names_patterns c.direction-direction.result c.new.result c.get_utf8.result c.args.exprs.now in
     record {
       facts_are = c.asked_facts-asked.ensures ∙ ap (λ rows. facts_kept (map row_of rows)) c.deref-2.ensures.value;
       looks_are =
@@ -53,6 +55,9 @@ invariant_of-result c =
           λ b below.
           c.byte_class_set-byte_class_set.ensures b below
           ∙ ap₂ (λ t rows. rows_part t (map row_of rows) b) (sym c.new.ensures) c.deref-4.ensures.value;
+      patterns =
+          subst (λ (n : Nfa). NamesPatterns (length n.start_patterns) n.rows) (sym made)
+          (patterns c.requires.fits.patterns);
       shallow = subst (λ (n : Nfa). IsShallow n.rows) (sym made) (shallow c.requires.safe);
     }
 

@@ -1,5 +1,9 @@
+use Rattle.rx_expr.proofs.NamedPatterns.{match_names_one}
 use Rattle.rx_expr.proofs.NfaFacts.{shallow_row}
 use Rattle.rx_expr.proofs.thompson.nfa.NFA.always_match.Goals as goal
 
-pub of_row-requires : goal.of_row-requires
-of_row-requires c = shallow_row _ (λ P. tt)
+pub of_row-requires-clause-shallow : goal.of_row-requires-clause-shallow
+of_row-requires-clause-shallow c = shallow_row _ (λ P. tt)
+
+pub of_row-requires-clause-patterns : goal.of_row-requires-clause-patterns
+of_row-requires-clause-patterns c = match_names_one

@@ -1,0 +1,147 @@
+-- A table that was begun for an NFA is one that may be determinized, and what that says of causes is said of the build.
+use Rattle.std.proofs.Common.{◌≡◌, ℕ, Bool, true, false, is_some, if◌then◌else◌, Option, Some, None, length, inl, inr}
+use Rattle.std.proofs.Common.{refl, sym, ap, ap₂, subst, ◌∙◌, ⊎_elim}
+use Rattle.std.specs.Prelude.{◌⊎◌}
+use Rattle.rx_spec.specs.Builds.{Build}
+use Rattle.rx_spec.specs.Causes.{BuildCause, BuildFits, HasTooLongRows, HasTooManyStates}
+use Rattle.rx_spec.specs.Classes.{quit_set}
+use Rattle.rx_spec.specs.Nfas.{Nfa, is_always_start_anchored}
+use Rattle.rx_spec.specs.Plans.{Cause}
+use Rattle.rx_spec.specs.declared.Form.{Form}
+use Rattle.rx_dense.specs.Builder.{initial}
+use Rattle.rx_dense.specs.Layouts.{Layout}
+use Rattle.rx_build_error.specs.Refusals.{IsNfaRefused, IsRefused, TableRefused}
+use Rattle.rx_build_error.specs.declared.BuildErrorKind.{BuildErrorKind}
+use Rattle.rx_expr.specs.declared.thompson.build_error.BuildError as nfa
+use Rattle.rx_determinize.specs.Determinized as determinize
+use Rattle.rx_determinize.specs.Determinized.{IsBegunWith, IsDeterminized, Settings, build_in, classes_of}
+use Rattle.rx_build.specs.Built.{begun, build_of, limits_of, settings_with}
+use Rattle.rx_build.specs.Making.{IsMade, determinized}
+use Rattle.rx_build.specs.Settings.{Settled}
+use Rattle.rx_build.proofs.Stages.{determinized_made}
+
+module _ (s : Settled) (nfa : Nfa) where
+  some_if : (b : Bool) (n : ℕ) → b ≡ is_some (if b then Some n else None)
+  some_if true n = refl
+  some_if false n = refl
+
+  has_starts : s.pattern_starts ≡ is_some (begun s nfa).pattern_starts
+  has_starts = some_if s.pattern_starts (length nfa.start_patterns)
+
+  is_begun : IsBegunWith nfa (settings_with s (quit_set nfa s.quit s.unicode_word)) s.byte_classes (begun s nfa)
+  is_begun =
+      ap (λ (starts : Bool). initial (record {
+        classes = classes_of nfa (quit_set nfa s.quit s.unicode_word) s.byte_classes;
+        pattern_len = length nfa.start_patterns;
+        start_kind = s.start_kind;
+        line_terminator = nfa.line_terminator;
+        pattern_starts = starts;
+        quit = quit_set nfa s.quit s.unicode_word;
+        flags = (begun s nfa).flags;
+      })) has_starts
+
+  same_build : build_in nfa (settings_with s (quit_set nfa s.quit s.unicode_word)) (begun s nfa) ≡ build_of s nfa
+  same_build =
+      ap (λ (starts : Bool). record {
+        nfa = nfa;
+        kind = s.match_kind;
+        start_kind = s.start_kind;
+        pattern_starts = starts;
+        quit = quit_set nfa s.quit s.unicode_word;
+      }) (sym has_starts)
+
+-- ---- limits of dense tables, which have no rows of ranges
+
+not_sparse : Form.Dense ≡ Form.Sparse → ⊥
+not_sparse e = cc
+
+fits_alike : (s : Settled) (quit : ℕ) (b : Build)
+    → BuildFits (determinize.limits_of (settings_with s quit) s.byte_classes) b → BuildFits (limits_of s) b
+fits_alike s quit b fits = record {
+  supported = fits.supported;
+  states = fits.states;
+  rows = λ e rows. absurd (not_sparse rows.0);
+  patterns = fits.patterns;
+  table = fits.table;
+  construction = fits.construction;
+}
+
+table_refused_alike : (s : Settled) (quit : ℕ) (b : Build) (cause : Cause)
+    → TableRefused (determinize.limits_of (settings_with s quit) s.byte_classes) b cause
+    → TableRefused (limits_of s) b cause
+table_refused_alike s quit b (Cause.NFA cause) r = r
+table_refused_alike s quit b (Cause.DFA BuildCause.Unsupported) r = r
+table_refused_alike s quit b (Cause.DFA BuildCause.TooManyStates) r =
+    let l = determinize.limits_of (settings_with s quit) s.byte_classes in (
+      r.0,
+      ⊎_elim
+          (λ (states : HasTooManyStates l b). inl states)
+          (λ (rows : HasTooLongRows l b). absurd (not_sparse rows.0))
+          r.1,
+    )
+table_refused_alike s quit b (Cause.DFA BuildCause.TooManyMatchPatternIDs) r = r
+table_refused_alike s quit b (Cause.DFA (BuildCause.DFAExceededSizeLimit limit)) r = r
+table_refused_alike s quit b (Cause.DFA (BuildCause.DeterminizeExceededSizeLimit limit)) r = r
+
+-- a refusal names the same cause in another relation of causes
+pub refused_as : (P Q : Cause → Type 0) → ((cause : Cause) → P cause → Q cause) → (kind : BuildErrorKind)
+    → IsRefused P kind → IsRefused Q kind
+refused_as P Q f (BuildErrorKind.NFA error) r = by_nfa error r
+  where
+    by_nfa : (error : nfa.BuildError) → IsNfaRefused P error → IsNfaRefused Q error
+    by_nfa (nfa.BuildError.TooManyPatterns given) r = f _ r
+    by_nfa (nfa.BuildError.TooManyStates given) r = f _ r
+    by_nfa (nfa.BuildError.ExceededSizeLimit limit) r = f _ r
+    by_nfa nfa.BuildError.Memory r = r
+refused_as P Q f BuildErrorKind.Unsupported r = f _ r
+refused_as P Q f BuildErrorKind.TooManyStates r = f _ r
+refused_as P Q f BuildErrorKind.TooManyMatchPatternIDs r = f _ r
+refused_as P Q f (BuildErrorKind.DFAExceededSizeLimit limit) r = f _ r
+refused_as P Q f (BuildErrorKind.DeterminizeExceededSizeLimit limit) r = f _ r
+refused_as P Q f BuildErrorKind.Memory r = r
+
+refused_alike : (s : Settled) (quit : ℕ) (b c : Build) (kind : BuildErrorKind) → b ≡ c
+    → IsRefused (TableRefused (determinize.limits_of (settings_with s quit) s.byte_classes) b) kind
+    → IsRefused (TableRefused (limits_of s) c) kind
+refused_alike s quit b c kind same r =
+    let own = refused_as (TableRefused (determinize.limits_of (settings_with s quit) s.byte_classes) b)
+    (TableRefused (limits_of s) b) (table_refused_alike s quit b) kind r in
+    subst (λ (x : Build). IsRefused (TableRefused (limits_of s) x) kind) same own
+
+-- ---- a table that is determinized by a builder's settings
+
+pub record IsBegunBy (s : Settled) (nfa : Nfa) (settings : Settings) (l : Layout) : Type 0 where
+  pub settings_are : settings ≡ settings_with s (quit_set nfa s.quit s.unicode_word)
+  pub layout_is : l ≡ begun s nfa
+
+module _ {s : Settled} {nfa : Nfa} {settings : Settings} {l : Layout} (by : IsBegunBy s nfa settings l) where
+  pub begun_with : IsBegunWith nfa settings s.byte_classes l
+  begun_with =
+      subst (λ (m : Layout). IsBegunWith nfa settings s.byte_classes m) (sym by.layout_is)
+      (subst (λ (x : Settings). IsBegunWith nfa x s.byte_classes (begun s nfa)) (sym by.settings_are) (is_begun s nfa))
+
+  build_is : build_in nfa settings l ≡ build_of s nfa
+  build_is = ap₂ (λ x m. build_in nfa x m) by.settings_are by.layout_is ∙ same_build s nfa
+
+  pub made_by : {m : Layout} → IsDeterminized (build_in nfa settings l) l m
+      → IsMade (build_of s nfa) determinized (begun s nfa) m
+  made_by {m} d =
+      determinized_made
+      (subst (λ (k : Layout). IsDeterminized (build_of s nfa) k m) by.layout_is
+      (subst (λ (b : Build). IsDeterminized b l m) build_is d))
+
+  pub fits_by : BuildFits (determinize.limits_of settings s.byte_classes) (build_in nfa settings l)
+      → BuildFits (limits_of s) (build_of s nfa)
+  fits_by fits =
+      fits_alike s (quit_set nfa s.quit s.unicode_word) (build_of s nfa)
+      (subst (λ (x : Settings). BuildFits (determinize.limits_of x s.byte_classes) (build_of s nfa)) by.settings_are
+      (subst (λ (b : Build). BuildFits (determinize.limits_of settings s.byte_classes) b) build_is fits))
+
+  pub refused_by : (kind : BuildErrorKind)
+      → IsRefused (TableRefused (determinize.limits_of settings s.byte_classes) (build_in nfa settings l)) kind
+      → IsRefused (TableRefused (limits_of s) (build_of s nfa)) kind
+  refused_by kind refused =
+      refused_alike s (quit_set nfa s.quit s.unicode_word) (build_in nfa settings l) (build_of s nfa) kind build_is
+      (subst (λ (x : Settings).
+      IsRefused (TableRefused (determinize.limits_of x s.byte_classes) (build_in nfa settings l)) kind) by.settings_are
+      refused)

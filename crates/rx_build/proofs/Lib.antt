@@ -1,0 +1,8 @@
+-- tables whose rows lie at other places
+pub mod PermutedTables
+-- tables without accelerated rows, and without marked ones
+pub mod StartMarks
+-- what each step of a build keeps and adds
+pub mod Stages
+-- tables that are begun
+pub mod Beginnings

@@ -1,0 +1,7 @@
+-- what a configuration asks for
+pub mod Settings
+pub mod Builders
+-- what is built, and why it isn't
+pub mod Built
+-- a table on its way
+pub mod Making

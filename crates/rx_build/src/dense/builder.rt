@@ -1,0 +1,193 @@
+//! The builder of dense tables.
+
+ghost use Rattle.std.specs.Prelude.{◌≡◌, Bool, true, false, IfOk, IfErr, OnOk, OnErr, All};
+ghost use Rattle.rx_spec.specs.Builds.{Build};
+ghost use Rattle.rx_spec.specs.Causes.{BuildFits};
+ghost use Rattle.rx_spec.specs.Expressions.{IsLoopSafe};
+ghost use Rattle.rx_dense.specs.Layouts.{Layout};
+ghost use Rattle.rx_order.specs.RowOrder.{IsInOrder, IsPlain};
+ghost use Rattle.rx_build_error.specs.Refusals.{IsRefused, TableRefused};
+ghost use Rattle.rx_expr.specs.Compiles.{wanted_nfa};
+ghost use Rattle.rx_expr.specs.Nfa.{meaning};
+ghost use Rattle.rx_build.specs.Making.{IsMade, determinized, minimized, marked_as};
+
+use super::classes::{byte_classes, quit_bytes};
+use super::config::Config;
+use crate::{BuildError, accelerate, determinize};
+use rx_base::ByteSet;
+use rx_dense::{Flags, OwnedDFA};
+use rx_expr::Expr;
+use rx_expr::thompson::{self, Compiler, NFA};
+use rx_minimize::minimize;
+use std::alloc::{AllocError, Global};
+
+/// Makes dense tables of expressions or of an NFA.
+#[derive(Clone, Debug, Default, Drop)]
+pub struct Builder {
+    config: Config,
+    compiler: Compiler,
+}
+
+impl Builder {
+    ghost use Rattle.rx_build.specs.Settings.{asked, settled, overwritten};
+    ghost use Rattle.rx_build.specs.Builders.{both_of, none_asked};
+    ghost use Rattle.rx_build.specs.Built.{AreFit, IsBuilt, Refused, begun, build_of, limits_of, settings_with};
+    ghost use Rattle.rx_expr.specs.Settings as thompson;
+
+    /// With default settings.
+    pub fn new() -> Builder
+        ensures { both_of result ≡ none_asked }
+    {
+        Builder {
+            config: Config::new(),
+            compiler: Compiler::new(),
+        }
+    }
+
+    /// Takes these settings of the table, and keeps those that they don't set.
+    pub fn configure(&mut self, config: Config) -> &mut Builder
+        ensures value { both_of result.now
+            ≡ record (both_of self.old) { dense = overwritten (both_of self.old).dense (asked config) } }
+        ensures same_reference { result.ghost_name ≡ self.entry.ghost_name }
+    {
+        self.config = self.config.overwrite(&config);
+        self
+    }
+
+    /// Takes these settings of the NFA, and keeps those that they don't set.
+    pub fn thompson(&mut self, config: thompson::Config) -> &mut Builder
+        ensures value { both_of result.now
+            ≡ record (both_of self.old) {
+              thompson = thompson.overwritten (both_of self.old).thompson (thompson.asked config);
+            } }
+        ensures same_reference { result.ghost_name ≡ self.entry.ghost_name }
+    {
+        self.compiler.configure(config);
+        self
+    }
+
+    /// The table of a list of expressions, the first of which is pattern 0.
+    pub fn build_many(&self, alloc: Global, exprs: &[Expr]) -> Result<OwnedDFA, BuildError>
+        ensures ok { IfOk result (λ dfa. IsBuilt (settled (both_of self.now).dense)
+            (wanted_nfa (both_of self.now).thompson exprs.now) dfa) }
+        ensures fits { OnOk result
+            (AreFit (settled (both_of self.now).dense) (both_of self.now).thompson exprs.now) }
+        ensures err { IfErr result (λ e. IsRefused
+            (Refused (settled (both_of self.now).dense) (both_of self.now).thompson exprs.now) e.kind) }
+        // Each repetition in an expression is bounded.
+        ensures safe { All IsLoopSafe exprs.now }
+    {
+        let nfa = self.compiler.build_many(alloc, exprs)?;
+        self.build_from_nfa(alloc, &nfa)
+    }
+
+    /// The table of an NFA.
+    pub fn build_from_nfa(&self, alloc: Global, nfa: &NFA) -> Result<OwnedDFA, BuildError>
+        ensures ok { IfOk result (IsBuilt (settled (both_of self.now).dense) (meaning nfa.now)) }
+        ensures fits { OnOk result (BuildFits (limits_of (settled (both_of self.now).dense))
+            (build_of (settled (both_of self.now).dense) (meaning nfa.now))) }
+        ensures err { IfErr result (λ e. IsRefused (TableRefused (limits_of (settled (both_of self.now).dense))
+            (build_of (settled (both_of self.now).dense) (meaning nfa.now))) e.kind) }
+    {
+        let mut dfa = self.determinized(alloc, nfa)?;
+        join_rows(alloc, &mut dfa, self.config.get_minimize())?;
+        mark_starts(&mut dfa, self.config.get_specialize_start_states());
+        find_needles(alloc, &mut dfa, self.config.get_accelerate())?;
+        dfa.set_universal_starts();
+        Ok(dfa)
+    }
+
+    /// The table of an NFA before its rows are joined and searches may skip. All start rows are marked.
+    fn determinized(&self, alloc: Global, nfa: &NFA) -> Result<OwnedDFA, BuildError>
+        ensures made { IfOk result (IsMade (build_of (settled (asked self.now.config)) (meaning nfa.now)) determinized
+            (begun (settled (asked self.now.config)) (meaning nfa.now))) }
+        ensures fits { OnOk result (BuildFits (limits_of (settled (asked self.now.config)))
+            (build_of (settled (asked self.now.config)) (meaning nfa.now))) }
+        ensures err { IfErr result (λ e. IsRefused (TableRefused (limits_of (settled (asked self.now.config)))
+            (build_of (settled (asked self.now.config)) (meaning nfa.now))) e.kind) }
+    {
+        let quit = quit_bytes(
+            nfa,
+            &self.config.quit_bytes(),
+            self.config.get_unicode_word_boundary(),
+        );
+        let mut dfa = self.begin(alloc, nfa, quit)?;
+        self.determinizer(quit).run(alloc, nfa, &mut dfa)?;
+        Ok(dfa)
+    }
+
+    /// A table for an NFA that has no rows but dead and quit.
+    fn begin(&self, alloc: Global, nfa: &NFA, quit: ByteSet) -> Result<OwnedDFA, AllocError>
+        requires { quit ≡ (build_of (settled (asked self.now.config)) (meaning nfa.now)).quit }
+        ensures { IfOk result (λ dfa. dfa ≡ begun (settled (asked self.now.config)) (meaning nfa.now)) }
+    {
+        let flags = Flags {
+            has_empty: nfa.has_empty(),
+            is_utf8: nfa.is_utf8(),
+            is_always_start_anchored: nfa.is_always_start_anchored(),
+        };
+        OwnedDFA::initial(
+            alloc,
+            byte_classes(nfa, &quit, self.config.get_byte_classes())?,
+            nfa.pattern_len(),
+            self.config.get_starts(),
+            nfa.look_matcher(),
+            self.config.get_starts_for_each_pattern(),
+            quit,
+            flags,
+        )
+    }
+
+    /// What determinizes by these settings.
+    fn determinizer(&self, quit: ByteSet) -> determinize::Config
+        ensures { result ≡ settings_with (settled (asked self.now.config)) quit }
+    {
+        determinize::Config::new()
+            .match_kind(self.config.get_match_kind())
+            .quit(quit)
+            .dfa_size_limit(self.config.get_dfa_size_limit())
+            .determinize_size_limit(self.config.get_determinize_size_limit())
+    }
+}
+
+/// Joins the rows that behave alike, where that is asked for.
+fn join_rows(alloc: Global, dfa: &mut OwnedDFA, yes: bool) -> Result<(), AllocError>
+    requires in_order { IsInOrder dfa.old }
+    requires plain { IsPlain dfa.old }
+    ensures { (b : Build) (begun : Layout) → IsMade b determinized begun dfa.old
+        → OnOk result (IsMade b (minimized yes) begun dfa.new) }
+{
+    if yes {
+        minimize(alloc, dfa)?;
+    }
+    Ok(())
+}
+
+/// Leaves start rows marked, or none.
+fn mark_starts(dfa: &mut OwnedDFA, yes: bool)
+    requires in_order { IsInOrder dfa.old }
+    requires plain { IsPlain dfa.old }
+    ensures in_order { IsInOrder dfa.new }
+    ensures plain { IsPlain dfa.new }
+    ensures made { (b : Build) (begun : Layout) (minimize : Bool) → IsMade b (minimized minimize) begun dfa.old
+        → IsMade b (marked_as minimize yes) begun dfa.new }
+{
+    if !yes {
+        let mut special = *dfa.special();
+        special.set_no_special_start_states();
+        dfa.set_special(special);
+    }
+}
+
+/// Finds the rows from which searches may skip, where that is asked for.
+fn find_needles(alloc: Global, dfa: &mut OwnedDFA, yes: bool) -> Result<(), AllocError>
+    requires in_order { IsInOrder dfa.old }
+    requires plain { IsPlain dfa.old }
+    ensures { (b : Build) (begun : Layout) (minimize mark : Bool) → IsMade b (marked_as minimize mark) begun dfa.old
+        → OnOk result (IsMade b (record { minimize = minimize; mark_starts = mark; accelerate = yes }) begun dfa.new) }
+{
+    if yes {
+        accelerate(alloc, dfa)?;
+    }
+    Ok(())
+}

@@ -1,0 +1,2 @@
+-- which cause a refusal names
+pub mod Refusals

@@ -1,0 +1,53 @@
+-- Cells that are set, and rows that are added: to which rows the rows of a table lead then.
+use Rattle.std.proofs.Common.{◌≡◌, ◌≢◌, ℕ, ◌+◌, ◌*◌, ◌/◌, ◌<◌, length, get_or, replicate}
+use Rattle.std.proofs.Common.{ap, sym, ◌∙◌, arith}
+use Rattle.std.proofs.lemmas.List.{get_or-set_same, get_or-set_other, get_or_append_left}
+use Rattle.std.proofs.lemmas.Nat.{div-mul-add, pow_pos}
+use Rattle.rx_dense.proofs.Rows.{column_within, multiple_below}
+use Rattle.rx_dense.specs.Builder.{with_next, with_row}
+use Rattle.rx_dense.specs.Layouts.{Layout, AreRows, machine_of, row_count, stride, column}
+
+-- two places of rows are one only where the rows and the columns are
+pub one_place : (s r c q d : ℕ) → c < s → d < s → r * s + c ≡ q * s + d → (r ≡ q) × (c ≡ d)
+one_place s r c q d c_in d_in e =
+    let row : r ≡ q = sym (div-mul-add r s c c_in) ∙ ap (λ n. n / s) e ∙ div-mul-add q s d d_in in
+    (row, omega (arith, ap (λ n. n * s) row))
+
+module _ (l : Layout) (rows : AreRows l) where
+  place_within : (r unit : ℕ) → r < row_count l → unit < 257 → r * stride l + column l unit < length l.words
+  place_within r unit within is_unit =
+      omega (
+        arith,
+        multiple_below r (stride l) (length l.words) (pow_pos l.stride2) within,
+        column_within l rows.classes unit is_unit,
+        rows.fits,
+      )
+
+  column_in : (unit : ℕ) → unit < 257 → column l unit < stride l
+  column_in unit is_unit = omega (arith, column_within l rows.classes unit is_unit, rows.fits)
+
+  -- a row that is added changes no other
+  pub next_more : (r unit : ℕ) → r < row_count l → unit < 257
+      → (machine_of (with_row l)).next r unit ≡ (machine_of l).next r unit
+  next_more r unit within is_unit =
+      ap (λ n. n / stride l)
+      (get_or_append_left l.words (replicate (stride l) 0) 0 (r * stride l + column l unit)
+      (place_within r unit within is_unit))
+
+  module _ (r unit next : ℕ) (within : r < row_count l) (is_unit : unit < 257) where
+    -- the units of a column lead where it was set to
+    pub next_set : (other : ℕ) → column l other ≡ column l unit
+        → (machine_of (with_next l (r * stride l) unit next)).next r other ≡ next / stride l
+    next_set other same =
+        ap (λ n. n / stride l)
+        (ap (λ c. get_or (with_next l (r * stride l) unit next).words (r * stride l + c) 0) same
+        ∙ get_or-set_same l.words (r * stride l + column l unit) next 0 (place_within r unit within is_unit))
+
+    -- other columns and other rows stay
+    pub next_kept : (q other : ℕ) → other < 257 → (q ≡ r → column l other ≢ column l unit)
+        → (machine_of (with_next l (r * stride l) unit next)).next q other ≡ (machine_of l).next q other
+    next_kept q other is_other apart =
+        ap (λ n. n / stride l)
+        (get_or-set_other l.words (r * stride l + column l unit) (q * stride l + column l other) next 0
+        (λ e. let one = one_place (stride l) q (column l other) r (column l unit) (column_in other is_other)
+        (column_in unit is_unit) e in apart one.0 one.1))

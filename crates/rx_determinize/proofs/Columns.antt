@@ -1,0 +1,39 @@
+-- The classes of bytes that the code makes are those of the definitions.
+use Rattle.std.proofs.Common.{◌≡◌, ℕ, ◌+◌, ◌<◌, ◌||◌, Bool, true, false, List, length, map, slice_index, refl, sym}
+use Rattle.std.proofs.Common.{◌∙◌, arith}
+use Rattle.std.proofs.lemmas.List.FromFn.{fill_by_all}
+use Rattle.std.proofs.Math.Bool.{or_comm}
+use Rattle.rx_spec.specs.Bytes.{contains}
+use Rattle.rx_spec.specs.Classes.{class_by, ends_class, parts}
+use Rattle.rx_spec.specs.Nfas.{Nfa}
+use Rattle.rx_base.proofs.Classes.{class_by-alike}
+use Rattle.rx_table_lemmas.proofs.ClassNumbers.{class_of_all}
+use Rattle.rx_expr.specs.NfaRows.{rows_part}
+use Rattle.rx_determinize.specs.Determinized.{classes_of}
+
+pub classes_are : (nfa : Nfa) (quit : ℕ) (byte_classes : Bool) (classes : List ℕ) → length classes ≡ 256
+    → ((b : ℕ) → b < 256 → slice_index classes b ≡ class_by (ends_class nfa quit byte_classes) b)
+    → classes ≡ classes_of nfa quit byte_classes
+classes_are nfa quit byte_classes classes count each =
+    fill_by_all (class_by (ends_class nfa quit byte_classes)) classes 256 0 count each
+
+-- each byte has its own
+pub own_classes : (nfa : Nfa) (quit : ℕ) (classes : List ℕ) → length classes ≡ 256
+    → ((b : ℕ) → b < 256 → slice_index classes b ≡ b) → classes ≡ classes_of nfa quit false
+own_classes nfa quit classes count each =
+    classes_are nfa quit false classes count
+    (λ b h. each b h ∙ sym (class_of_all (ends_class nfa quit false) (λ x. refl) b))
+
+-- classes end where a row or the quit set tells a byte from the next one
+pub shared_classes : (nfa : Nfa) (quit set : ℕ) (classes : List ℕ) → length classes ≡ 256
+    → ((b : ℕ) → b < 255
+    → contains set b ≡ (rows_part nfa.line_terminator nfa.rows b || parts (contains quit) b (b + 1)))
+    → ((b : ℕ) → b < 256 → slice_index classes b ≡ class_by (contains set) b) → classes ≡ classes_of nfa quit true
+shared_classes nfa quit set classes count ends each =
+    classes_are nfa quit true classes count
+    (λ b h.
+    each b h
+    ∙ class_by-alike (contains set) (ends_class nfa quit true) b
+    (λ c low.
+    ends c (omega arith)
+    ∙ or_comm (rows_part nfa.line_terminator nfa.rows c) (parts (contains quit) c (c + 1))))

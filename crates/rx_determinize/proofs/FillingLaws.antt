@@ -1,0 +1,249 @@
+-- What stays true of a table in which rows are written: where a row is added, and where a cell is set.
+use Rattle.std.proofs.Common.{◌≡◌, ◌≢◌, ℕ, ◌+◌, ◌*◌, ◌/◌, ◌<◌, ◌≤◌, true, false, Some, List, [], ◌∷◌, ◌++◌}
+use Rattle.std.proofs.Common.{length, map, get_or, length-append, length-set, refl, ap, sym, ◌∙◌, subst, arith, ⊎_elim}
+use Rattle.std.proofs.lemmas.List.{map-append, append-nil}
+use Rattle.std.proofs.lemmas.Bool.{cases_lt}
+use Rattle.std.proofs.lemmas.Option.{slice_get_within}
+use Rattle.std.specs.Prelude.{Bool, Option, IfSome, if◌then◌else◌, slice_get}
+use Rattle.rx_spec.specs.Builds.{Node, Running, next_node, built_entry}
+use Rattle.rx_spec.specs.States.{State}
+use Rattle.rx_dense.specs.Builder.{with_next, with_row}
+use Rattle.rx_dense.specs.Layouts.{Layout, AreRows, IsRowId, machine_of, row_count, stride, column}
+use Rattle.rx_base.specs.ByteClasses.{alphabet_len}
+use Rattle.rx_dense.proofs.Rows.{column_within}
+use Rattle.rx_dense.proofs.Shaped.{rows_set}
+use Rattle.rx_stepper.specs.Stepping.{unit_of}
+use Rattle.rx_determinize.specs.WorkLists.{IsRowOf}
+use Rattle.rx_determinize.specs.Working.{Keying, Met, SizeLimits, IsWorking, states_of, next_in, entry_in}
+use Rattle.rx_determinize.specs.Adding.{Adds}
+use Rattle.rx_determinize.specs.Filling.{Grows, IsEntering, IsFilling}
+use Rattle.rx_determinize.proofs.RowIds.{row_id}
+use Rattle.rx_determinize.proofs.WorkListLaws.{row_stays, old_key, slice_get-append, does}
+use Rattle.rx_determinize.specs.Determinized.{classes_of}
+use Rattle.rx_determinize.proofs.ColumnLaws.{unit_in, unit_column, same_column}
+use Rattle.rx_determinize.proofs.CellLaws.{next_more, next_kept, next_set}
+
+-- a state that is entered
+pub grows_by : {met after : Met} {l m : Layout} {key : List ℕ} {id : ℕ} → AreRows l → Adds met l key after m id
+    → Grows met l after m
+grows_by {met} {after} {l} {m} {key} rows adds = at adds.interns.is_new adds.interns.keys adds.layout
+  where
+    at : (is_new : Bool) → after.keys ≡ (if is_new then met.keys ++ key ∷ [] else met.keys)
+        → m ≡ (if is_new then with_row l else l) → Grows met l after m
+    at true keys is_more = record {
+      more = key ∷ [];
+      keys = keys;
+      classes = ap (λ (n : Layout). n.classes) is_more;
+      nexts = λ row unit within is_unit.
+          ap (λ (n : Layout). (machine_of n).next row unit) is_more ∙ next_more l rows row unit within is_unit;
+      entries = λ mode start. ap (λ (n : Layout). entry_in n mode start) is_more;
+    }
+    at false keys is_same = record {
+      more = [];
+      keys = keys ∙ sym (append-nil met.keys);
+      classes = ap (λ (n : Layout). n.classes) is_same;
+      nexts = λ row unit within is_unit. ap (λ (n : Layout). (machine_of n).next row unit) is_same;
+      entries = λ mode start. ap (λ (n : Layout). entry_in n mode start) is_same;
+    }
+
+module _ (k : Keying) {met : Met} {l : Layout} {after : Met} {m : Layout} (grows : Grows met l after m) where
+  -- a node's row
+  pub row_kept : (node : Node) (row : ℕ) → IsRowOf (states_of k met) node row → IsRowOf (states_of k after) node row
+  row_kept node row is_row =
+      subst (λ (states : List State). IsRowOf states node row)
+      (sym (ap (map k.state_of) grows.keys ∙ map-append k.state_of met.keys grows.more))
+      (row_stays (states_of k met) (map k.state_of grows.more) node row is_row)
+
+  pub entering_kept : {limits : SizeLimits} {set done : ℕ} → AreRows m → IsWorking k limits after m
+      → IsEntering k limits met l set done → IsEntering k limits after m set done
+  entering_kept {limits} {set} {done} rows working old =
+      let count = old.working.count in
+      record {
+        rows = rows;
+        working = working;
+        within = omega (arith, ap length grows.keys, length-append met.keys grows.more, old.within);
+        list = record {
+          reached = working.reached;
+          steps = λ id key there lt unit is_unit.
+              let in_old : id < length met.keys = omega (arith, old.within) in
+              let was = old_key met.keys grows.more id key (subst (λ (ks : List (List ℕ)). slice_get ks id ≡ Some
+              key) grows.keys there) in_old in
+              subst (IsRowOf (states_of k after) (next_node k.build (Running (k.state_of key)) unit))
+              (sym (grows.nexts (id + 2) unit (omega (arith, count)) is_unit))
+              (row_kept (next_node k.build (Running (k.state_of key)) unit) (next_in l id unit)
+              (old.list.steps id key was lt unit is_unit));
+        };
+        starts = λ mode start lt.
+            subst (IsRowOf (states_of k after) (built_entry k.build mode start)) (sym (grows.entries mode start))
+            (row_kept (built_entry k.build mode start) (entry_in l mode start) (old.starts mode start lt));
+        dead_stays = λ unit is_unit. grows.nexts 0 unit (omega (arith, count)) is_unit ∙ old.dead_stays unit is_unit;
+        quit_ends = λ unit is_unit. grows.nexts 1 unit (omega (arith, count)) is_unit ∙ old.quit_ends unit is_unit;
+      }
+
+  -- the cells that were written
+  pub filling_kept : {place column : ℕ} {state : State} → row_count l ≡ length met.keys + 2
+      → ((c : ℕ) → c < column → unit_of l.classes c < 257) → IsFilling k met l place state column
+      → IsFilling k after m place state column
+  filling_kept {place} {column} {state} count units old = record {
+    key = old.key;
+    here =
+        subst (λ (ks : List (List ℕ)). slice_get ks place ≡ Some old.key) (sym grows.keys)
+        (slice_get-append met.keys grows.more place old.key old.here);
+    stands = old.stands;
+    cells = λ c lt.
+        let unit = unit_of l.classes c in
+        let there = slice_get_within met.keys place old.key old.here in
+        let node = next_node k.build (Running state) unit in
+        subst (λ (classes : List ℕ). IsRowOf (states_of k after) (next_node k.build (Running state) (unit_of classes c))
+        ((machine_of m).next (place + 2) (unit_of classes c))) (sym grows.classes)
+        (subst (IsRowOf (states_of k after) node) (sym (grows.nexts (place + 2) unit (omega (arith, count)) (units c
+        lt)))
+        (row_kept node ((machine_of l).next (place + 2) unit) (old.cells c lt)));
+  }
+
+-- ---- a cell that is set
+
+-- a limit that isn't passed by an equal size
+limit_kept : (limit : Option ℕ) {size bytes : ℕ} → IfSome limit (λ most. size ≤ most) → bytes ≡ size
+    → IfSome limit (λ most. bytes ≤ most)
+limit_kept limit within same = subst (λ n. IfSome limit (λ most. n ≤ most)) (sym same) within
+
+-- the row of a place and the unit of a column lead to another row
+pub record IsSet (l : Layout) (place unit id : ℕ) (m : Layout) : Type 0 where
+  pub rows : AreRows l
+  pub place_in : place + 2 < row_count l
+  pub is_unit : unit < 257
+  pub is_id : IsRowId l id
+  pub is : m ≡ with_next l ((place + 2) * stride l) unit id
+
+module _ {l : Layout} {place unit id : ℕ} {m : Layout} (set : IsSet l place unit id m) where
+  set_rows : AreRows m
+  set_rows =
+      let row = (place + 2) * stride l in
+      subst AreRows (sym set.is)
+      (rows_set l (with_next l row unit id) row (column l unit) id refl refl refl
+      (row_id l (place + 2) set.rows set.place_in) (column_within l set.rows.classes unit set.is_unit) set.is_id
+      set.rows)
+
+  set_count : row_count m ≡ row_count l
+  set_count =
+      ap row_count set.is ∙ ap (λ n. n / stride l) (length-set l.words ((place + 2) * stride l + column l unit) id)
+
+  -- other rows lead where they led
+  others_kept : (row other : ℕ) → other < 257 → (row ≡ place + 2 → column l other ≢ column l unit)
+      → (machine_of m).next row other ≡ (machine_of l).next row other
+  others_kept row other is_other apart =
+      ap (λ (n : Layout). (machine_of n).next row other) set.is
+      ∙ next_kept l set.rows (place + 2) unit id set.place_in set.is_unit row other is_other apart
+
+  pub entering_set : {k : Keying} {limits : SizeLimits} {met : Met} {starts : ℕ}
+      → IsEntering k limits met l starts place
+      → IsEntering k limits met m starts place
+  entering_set {k} {limits} {met} {starts} old = record {
+    rows = set_rows;
+    working = subst (IsWorking k limits met) (sym set.is) (working_set old.working);
+    within = old.within;
+    list = record {
+      reached = old.list.reached;
+      steps = λ key_id key there lt other is_other.
+          subst (IsRowOf (states_of k met) (next_node k.build (Running (k.state_of key)) other))
+          (sym (others_kept (key_id + 2) other is_other (λ e. absurd (omega arith))))
+          (old.list.steps key_id key there lt other is_other);
+    };
+    starts = λ mode start lt.
+        subst (IsRowOf (states_of k met) (built_entry k.build mode start))
+        (sym (ap (λ (n : Layout). entry_in n mode start) set.is)) (old.starts mode start lt);
+    dead_stays = λ other is_other.
+        others_kept 0 other is_other (λ e. absurd (omega arith)) ∙ old.dead_stays other is_other;
+    quit_ends = λ other is_other.
+        others_kept 1 other is_other (λ e. absurd (omega arith)) ∙ old.quit_ends other is_other;
+  }
+    where
+      working_set : IsWorking k limits met l
+          → IsWorking k limits met (with_next l ((place + 2) * stride l) unit id)
+      working_set w =
+          let len = length-set l.words ((place + 2) * stride l + column l unit) id in
+          record {
+            bare = record { slices = w.bare.slices; pattern_ids = w.bare.pattern_ids; accels = w.bare.accels };
+            count = ap (λ n. n / stride l) len ∙ w.count;
+            distinct = w.distinct;
+            are_keys = w.are_keys;
+            reached = w.reached;
+            size = w.size;
+            patterns = w.patterns;
+            few_patterns = w.few_patterns;
+            table = λ some. limit_kept limits.table (w.table some) (ap (λ n. 4 * (n + length l.starts + 1)) len);
+            construction = w.construction;
+          }
+
+  -- the column that was set
+  pub filling_set : {k : Keying} {met : Met} {state : State} {at : ℕ} → unit_of l.classes at ≡ unit
+      → ((c : ℕ) → c ≤ at → unit_of l.classes c < 257) → ((c : ℕ) → c ≤ at → column l (unit_of l.classes c) ≡ c)
+      → IsRowOf (states_of k met) (next_node k.build (Running state) unit) (id / stride l)
+      → IsFilling k met l place state at → IsFilling k met m place state (at + 1)
+  filling_set {k} {met} {state} {at} unit_is units columns is_row old = record {
+    key = old.key;
+    here = old.here;
+    stands = old.stands;
+    cells = λ c lt.
+        subst (λ (classes : List ℕ). IsRowOf (states_of k met) (next_node k.build (Running state) (unit_of classes c))
+        ((machine_of m).next (place + 2) (unit_of classes c))) (sym (ap (λ (n : Layout). n.classes) set.is))
+        (⊎_elim (λ (less : c < at). before c less) (λ (over : at ≤ c). here c (omega arith)) (cases_lt c at));
+  }
+    where
+      before : (c : ℕ) → c < at
+          → IsRowOf (states_of k met) (next_node k.build (Running state) (unit_of l.classes c))
+          ((machine_of m).next (place + 2) (unit_of l.classes c))
+      before c less =
+          let here = columns c (omega arith) in
+          let last = columns at (omega arith) in
+          subst (IsRowOf (states_of k met) (next_node k.build (Running state) (unit_of l.classes c)))
+          (sym (others_kept (place + 2) (unit_of l.classes c) (units c (omega arith))
+          (λ e same. absurd (omega (arith, here, last, same, ap (column l) unit_is)))))
+          (old.cells c less)
+
+      here : (c : ℕ) → c ≡ at
+          → IsRowOf (states_of k met) (next_node k.build (Running state) (unit_of l.classes c))
+          ((machine_of m).next (place + 2) (unit_of l.classes c))
+      here c is_at =
+          let unit_at : unit_of l.classes c ≡ unit = ap (unit_of l.classes) is_at ∙ unit_is in
+          let led : (machine_of m).next (place + 2) unit ≡ id / stride l =
+          ap (λ (n : Layout). (machine_of n).next (place + 2) unit) set.is
+          ∙ next_set l set.rows (place + 2) unit id set.place_in set.is_unit unit refl in
+          subst (λ u. IsRowOf (states_of k met) (next_node k.build (Running state) u) ((machine_of m).next (place +
+          2) u))
+          (sym unit_at)
+          (subst (IsRowOf (states_of k met) (next_node k.build (Running state) unit)) (sym led) is_row)
+
+-- A state whose row is written for each column is done.
+pub filled : {k : Keying} {limits : SizeLimits} {met : Met} {l : Layout} {set place : ℕ} {state : State}
+    (byte_classes : Bool)
+    → l.classes ≡ classes_of k.build.nfa k.build.quit byte_classes → IsEntering k limits met l set place
+    → IsFilling k met l place state (alphabet_len l.classes) → IsEntering k limits met l set (place + 1)
+filled {k} {limits} {met} {l} {set} {place} {state} byte_classes is old row =
+    let there = slice_get_within met.keys place row.key row.here in
+    record {
+      rows = old.rows;
+      working = old.working;
+      within = omega arith;
+      list = does old.list row.here known;
+      starts = old.starts;
+      dead_stays = old.dead_stays;
+      quit_ends = old.quit_ends;
+    }
+  where
+    known : (unit : ℕ) → unit < 257
+        → IsRowOf (states_of k met) (next_node k.build (Running (k.state_of row.key)) unit) (next_in l place unit)
+    known unit is_unit =
+        let c = column l unit in
+        let other = unit_of l.classes c in
+        let within : c < alphabet_len l.classes = column_within l old.rows.classes unit is_unit in
+        let other_in = unit_in l old.rows.classes c within in
+        let same : column l other ≡ column l unit = unit_column l old.rows.classes c within in
+        let node : next_node k.build (Running state) other ≡ next_node k.build (Running (k.state_of row.key)) unit =
+        same_column l k.build byte_classes is (Running state) other unit other_in is_unit same
+        ∙ ap (λ (s : State). next_node k.build (Running s) unit) (sym row.stands) in
+        let led : next_in l place other ≡ next_in l place unit =
+        ap (λ n. get_or l.words ((place + 2) * stride l + n) 0 / stride l) same in
+        subst (λ (n : Node). IsRowOf (states_of k met) n (next_in l place unit)) node
+        (subst (IsRowOf (states_of k met) (next_node k.build (Running state) other)) led (row.cells c within))

@@ -1,0 +1,72 @@
+-- The labels of reached states name patterns of the NFA.
+use Rattle.std.proofs.Common.{◌≡◌, ℕ, ◌<◌, Bool, true, false, Option, Some, None, List, [], ◌∷◌, refl, subst}
+use Rattle.std.proofs.lemmas.List.Elements.{All-append, All-cons, All-nil}
+use Rattle.std.specs.Prelude.{All, if◌then◌else◌}
+use Rattle.std.specs.List.{flat_map}
+use Rattle.rx_spec.specs.Bytes.{contains}
+use Rattle.rx_spec.specs.Builds.{Build, Node, Quit, Running, dead, is_dead_state, next_node, built_entry, IsReached}
+use Rattle.rx_spec.specs.Builds.{nfa_start, start_node}
+use Rattle.rx_spec.specs.Queries.{Anchored}
+use Rattle.rx_spec.specs.Rows.{Row}
+use Rattle.rx_spec.specs.Starts.{supports}
+use Rattle.rx_spec.specs.States.{State, cut, decided_rows, pattern_of, row_at, step}
+use Rattle.rx_spec.specs.declared.MatchKind.{MatchKind}
+use Rattle.rx_spec.specs.declared.Start.{Start}
+use Rattle.rx_lemmas.proofs.Words.{run-within}
+use Rattle.rx_expr.specs.NfaRows.{NamesPatterns}
+
+module _ (count : ℕ) where
+  abbrev AreBelow : List ℕ → Type 0
+  AreBelow = All (λ k. k < count)
+
+  pattern_named : (rows : List Row) (q : ℕ) (row : Row) → NamesPatterns count rows → row_at rows q ≡ row
+      → AreBelow (pattern_of row)
+  pattern_named rows q (Row.Match k) names e =
+      All-cons (λ k. k < count) k [] (names.named q k e) (All-nil (λ k. k < count))
+  pattern_named rows q (Row.Bytes set next) names e = All-nil (λ k. k < count)
+  pattern_named rows q (Row.Split first second) names e = All-nil (λ k. k < count)
+  pattern_named rows q (Row.Look look next) names e = All-nil (λ k. k < count)
+  pattern_named rows q Row.Fail names e = All-nil (λ k. k < count)
+
+  rows_named : (rows : List Row) (qs : List ℕ) → NamesPatterns count rows
+      → AreBelow (flat_map (λ q. pattern_of (row_at rows q)) qs)
+  rows_named rows [] names = All-nil (λ k. k < count)
+  rows_named rows (q ∷ qs) names =
+      All-append (λ k. k < count) (pattern_of (row_at rows q)) (flat_map (λ q. pattern_of (row_at rows q)) qs)
+      (pattern_named rows q (row_at rows q) names refl) (rows_named rows qs names)
+
+  module _ (b : Build) (named : NamesPatterns count b.nfa.rows) where
+    -- what a node tells
+    abbrev IsNamed : Node → Type 0
+    IsNamed Quit = Unit {0}
+    IsNamed (Running s) = AreBelow s.label
+
+    step_named : (kind : MatchKind) (s : State) (unit : ℕ) → AreBelow (step b.nfa kind s unit).label
+    unfolding step
+    step_named kind s unit = rows_named b.nfa.rows (cut kind b.nfa.rows (decided_rows b.nfa unit s)) named
+
+    chosen_named : (c : Bool) (x y : Node) → IsNamed x → IsNamed y → IsNamed (if c then x else y)
+    chosen_named true x y f g = f
+    chosen_named false x y f g = g
+
+    next_named : (node : Node) (unit : ℕ) → IsNamed (next_node b node unit)
+    next_named Quit unit = All-nil (λ k. k < count)
+    next_named (Running s) unit =
+        chosen_named (is_dead_state s) dead
+        (if contains b.quit unit then Quit else Running (step b.nfa b.kind s unit)) (All-nil (λ k. k < count))
+        (chosen_named (contains b.quit unit) Quit (Running (step b.nfa b.kind s unit)) tt (step_named b.kind s unit))
+
+    start_named : (row : Option ℕ) (start : Start) → IsNamed (start_node b.nfa row start)
+    start_named None start = All-nil (λ k. k < count)
+    start_named (Some row) start = All-nil (λ k. k < count)
+
+    entry_named : (mode : Anchored) (start : Start) → IsNamed (built_entry b mode start)
+    entry_named mode start =
+        chosen_named (supports b.start_kind b.pattern_starts mode) (start_node b.nfa (nfa_start b.nfa mode) start) dead
+        (start_named (nfa_start b.nfa mode) start) (All-nil (λ k. k < count))
+
+    pub reached_named : (s : State) → IsReached b s → AreBelow s.label
+    reached_named s r =
+        subst IsNamed r.leads
+        (run-within (next_node b) IsNamed (λ node unit was is_unit. next_named node unit)
+        (built_entry b r.mode r.start) r.word (entry_named r.mode r.start) r.units)

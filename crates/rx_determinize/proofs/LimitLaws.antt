@@ -1,0 +1,254 @@
+-- What refuses a build, and that nothing does where its table is built.
+use Rattle.std.proofs.Common.{◌≡◌, ℕ, ◌+◌, ◌*◌, ◌^◌, ◌<◌, ◌≤◌, inl, Bool, true, false, Option, Some, None, List, []}
+use Rattle.std.proofs.Common.{length}
+use Rattle.std.proofs.Common.{slice_index, refl, ap, ap₂, sym, ◌∙◌, subst, arith}
+use Rattle.std.proofs.lemmas.List.{length-replicate}
+use Rattle.std.proofs.lemmas.List.FromFn.{get_or-map-range_with_len}
+use Rattle.std.proofs.lemmas.Nat.{div-add-mod'}
+use Rattle.std.specs.Prelude.{IfSome, if◌then◌else◌, is_some}
+use Rattle.rx_spec.specs.Builds.{Build, AreReached}
+use Rattle.rx_spec.specs.Causes.{BuildFits, Exceeds, IsSupported, IsUnsupported, max_id}
+use Rattle.rx_spec.specs.Classes.{class_by, ends_class, stride2_of}
+use Rattle.rx_spec.specs.Nfas.{Nfa}
+use Rattle.rx_spec.specs.Sizes.{build_alphabet, build_stride, determinizer_size, label_total, last_id, table_size}
+use Rattle.rx_spec.specs.Sizes as sizes
+use Rattle.rx_spec.specs.States.{State}
+use Rattle.rx_base.specs.ByteClasses.{AreClasses}
+use Rattle.rx_dense.specs.Builder.{Beginning}
+use Rattle.rx_dense.proofs.Shaped.{shaped_initial}
+use Rattle.rx_dense.specs.Layouts.{Layout, AreRows, start_entries, stride}
+use Rattle.rx_table_lemmas.proofs.Sizes.{determinizer_grows, exceeds_exactly, ids_grow, labels_grow, table_grows}
+use Rattle.rx_build_error.specs.Refusals.{IsRefused, TableRefused}
+use Rattle.rx_build_error.specs.declared.BuildErrorKind.{BuildErrorKind}
+use Rattle.rx_expr.specs.NfaRows.{NamesPatterns}
+use Rattle.rx_order.specs.Ordering.{Matches}
+use Rattle.rx_stepper.specs.Stepping.{SpellStates, Stepping}
+use Rattle.rx_determinize.specs.Determinized.{IsBegunWith, Settings, build_in, classes_of, limits_of}
+use Rattle.rx_determinize.specs.Building.{HasStates}
+use Rattle.rx_determinize.specs.Filling.{IsEntering, IsStartedOver}
+use Rattle.rx_determinize.specs.Matching.{AreLabels}
+use Rattle.rx_determinize.specs.Working.{IsOver, Keying, Met, SizeLimits, keying, states_of}
+use Rattle.rx_determinize.proofs.BuiltLaws.{IsBuilt, has_states, reached, rows_count, states_count}
+use Rattle.rx_determinize.proofs.StartLaws.{entering_begun}
+
+-- the limits of settings
+abbrev pub limits_in : Settings → SizeLimits
+limits_in settings = record { table = settings.dfa_size_limit; construction = settings.determinize_size_limit }
+
+pub not_unsupported : {b : Build} → IsSupported b → IsUnsupported b → ⊥
+not_unsupported supported un = un.lacks (supported un.looks)
+
+-- how a table is begun
+abbrev pub beginning_of : Nfa → Settings → Bool → Layout → Beginning
+beginning_of nfa settings byte_classes l = record {
+  classes = classes_of nfa settings.quit byte_classes;
+  pattern_len = length nfa.start_patterns;
+  start_kind = l.start_kind;
+  line_terminator = nfa.line_terminator;
+  pattern_starts = is_some l.pattern_starts;
+  quit = settings.quit;
+  flags = l.flags;
+}
+
+-- a table that is begun, and what steps states for it
+pub record Begins (s : Stepping) (nfa : Nfa) (settings : Settings) (byte_classes : Bool) (l : Layout) : Type 0 where
+  pub begun : IsBegunWith nfa settings byte_classes l
+  pub nfa_is : s.nfa ≡ nfa
+  pub kind_is : s.kind ≡ settings.match_kind
+
+module _ {s : Stepping} {nfa : Nfa} {settings : Settings} {byte_classes : Bool} {l : Layout}
+    (x : Begins s nfa settings byte_classes l) where
+  abbrev b : Build
+  b = build_in nfa settings l
+
+  quit_is : l.quit ≡ settings.quit
+  quit_is = ap (λ (n : Layout). n.quit) x.begun
+
+  pub build_is : (keying s l).build ≡ b
+  build_is = λ i. record {
+    nfa = x.nfa_is i;
+    kind = x.kind_is i;
+    start_kind = l.start_kind;
+    pattern_starts = is_some l.pattern_starts;
+    quit = quit_is i;
+  }
+
+  pub classes_are : l.classes ≡ classes_of s.nfa l.quit byte_classes
+  classes_are =
+      ap (λ (n : Layout). n.classes) x.begun
+      ∙ ap₂ (λ (n : Nfa) (quit : ℕ). classes_of n quit byte_classes) (sym x.nfa_is) (sym quit_is)
+
+  abbrev beginning : Beginning
+  beginning = beginning_of nfa settings byte_classes l
+
+  pub begun_rows : AreClasses l.classes → NamesPatterns (length nfa.start_patterns) nfa.rows → AreRows l
+  begun_rows are names =
+      let same = ap (λ (n : Layout). n.classes) x.begun in
+      let few : length nfa.start_patterns ≤ 2147483647 = omega (arith, names.few) in
+      subst AreRows (sym x.begun) (shaped_initial beginning (subst AreClasses same are) few).rows
+
+  -- no state was met
+  pub begun_entering : (limits : SizeLimits) (met : Met) → met ≡ record { keys = []; size = 0; patterns = 0 }
+      → AreClasses l.classes → NamesPatterns (length nfa.start_patterns) nfa.rows
+      → IsEntering (keying s l) limits met l 0 0
+  begun_entering limits met none are names =
+      subst (λ (m : Met). IsEntering (keying s l) limits m l 0 0) (sym none)
+      (entering_begun (keying s l) limits beginning l x.begun (begun_rows are names))
+
+  -- ---- sizes
+
+  pub stride_is : stride l ≡ build_stride b byte_classes
+  stride_is =
+      let ends = ends_class nfa settings.quit byte_classes in
+      let last : slice_index (classes_of nfa settings.quit byte_classes) 255 ≡ class_by ends 255 =
+      get_or-map-range_with_len (class_by ends) 0 256 255 255 0 (omega arith) (omega arith) in
+      ap stride x.begun ∙ ap (λ n. 2 ^ stride2_of (n + 2)) last
+
+  pub entries_are : length l.starts ≡ start_entries l.pattern_starts
+  entries_are =
+      ap (λ (n : Layout). length n.starts) x.begun
+      ∙ length-replicate _ 0
+      ∙ ap (λ (n : Layout). start_entries n.pattern_starts) (sym x.begun)
+
+  pub patterns_are : (n : ℕ) → l.pattern_starts ≡ Some n → n ≡ length s.nfa.start_patterns
+  patterns_are n e =
+      at (is_some l.pattern_starts) (sym (ap (λ (k : Layout). k.pattern_starts) x.begun) ∙ e)
+      ∙ ap (λ (m : Nfa). length m.start_patterns) (sym x.nfa_is)
+    where
+      at : (c : Bool) → (if c then Some (length nfa.start_patterns) else None) ≡ Some n → n ≡ length nfa.start_patterns
+      at true e = cc
+      at false e = absurd (cc)
+
+  pub start_patterns_are : IfSome l.pattern_starts (λ n. n ≡ length nfa.start_patterns)
+  start_patterns_are =
+      at l.pattern_starts (λ n e. patterns_are n e ∙ ap (λ (m : Nfa). length m.start_patterns) x.nfa_is)
+    where
+      at : (o : Option ℕ) → ((n : ℕ) → o ≡ Some n → n ≡ length nfa.start_patterns)
+          → IfSome o (λ n. n ≡ length nfa.start_patterns)
+      at None f = tt
+      at (Some n) f = f n refl
+
+  pub all_patterns : l.pattern_len ≡ length s.nfa.start_patterns
+  all_patterns =
+      ap (λ (n : Layout). n.pattern_len) x.begun ∙ ap (λ (m : Nfa). length m.start_patterns) (sym x.nfa_is)
+
+  starts_are : length l.starts ≡ sizes.start_entries b
+  starts_are =
+      entries_are ∙ ap start_entries (ap (λ (n : Layout). n.pattern_starts) x.begun) ∙ at (is_some l.pattern_starts)
+    where
+      at : (c : Bool)
+          → start_entries (if c then Some (length nfa.start_patterns) else None)
+          ≡ 12 + (if c then 6 * length nfa.start_patterns else 0)
+      at true = refl
+      at false = omega arith
+
+  -- ---- a build that is refused
+
+  pub refused : (kind : BuildErrorKind) → (IsUnsupported b → ⊥) → IsOver (keying s l) (limits_in settings) l kind
+      → IsRefused (TableRefused (limits_of settings byte_classes) b) kind
+  refused kind supported over =
+      at kind (subst (λ (other : Build). IsOver (record (keying s l) { build = other }) (limits_in settings) l kind)
+      build_is over)
+    where
+      k : Keying
+      k = record { build = b; is_key = s.is_key; state_of = s.state_of }
+
+      at : (kind : BuildErrorKind) → IsOver (record { build = b; is_key = s.is_key; state_of = s.state_of })
+          (limits_in settings) l kind
+          → IsRefused (TableRefused (limits_of settings byte_classes) b) kind
+      at (BuildErrorKind.NFA error) over = absurd over
+      at BuildErrorKind.Unsupported over = absurd over
+      at BuildErrorKind.TooManyStates over = (
+        supported,
+        inl (subst (λ w. Exceeds b (λ states. last_id (length states) w) max_id) stride_is over),
+      )
+      at BuildErrorKind.TooManyMatchPatternIDs over = (supported, over)
+      at (BuildErrorKind.DFAExceededSizeLimit limit) over = (
+        supported,
+        over.0,
+        subst (λ w. Exceeds b (λ states. table_size (length states) w (sizes.start_entries b)) limit) stride_is
+            (subst (λ n. Exceeds b (λ states. table_size (length states) (stride l) n) limit) starts_are over.1),
+      )
+      at (BuildErrorKind.DeterminizeExceededSizeLimit limit) over = (supported, over.0, over.1)
+      at BuildErrorKind.Memory over = tt
+
+  -- ---- a build that is done
+
+  -- what the construction leaves
+  pub built_of : {met : Met} (m : Layout) {limits : SizeLimits} → IsStartedOver l m
+      → IsEntering (keying s m) limits met m (length m.starts) (length met.keys) → SpellStates s
+      → NamesPatterns (length nfa.start_patterns) nfa.rows → IsBuilt s limits met m
+  built_of {met} m {limits} over entering spells names =
+      let own = ap (λ (n : Layout). n.pattern_starts) over.rest in
+      record {
+        entering = entering;
+        spells = spells;
+        named =
+            subst (λ (n : Nfa). NamesPatterns (length n.start_patterns) n.rows) (sym x.nfa_is) names;
+        pattern_len = ap (λ (n : Layout). n.pattern_len) over.rest ∙ all_patterns;
+        entries = over.count ∙ entries_are ∙ ap start_entries (sym own);
+        patterns = λ n e. patterns_are n (sym own ∙ e);
+      }
+
+  module _ {met : Met} {m : Layout} (over : IsStartedOver l m) (built : IsBuilt s (limits_in settings) met m) where
+    abbrev states : List State
+    states = states_of (keying s m) met
+
+    same_build : (keying s m).build ≡ b
+    same_build = ap (λ (n : Layout). (keying s n).build) over.rest ∙ build_is
+
+    all_reached : AreReached b states
+    all_reached = subst (λ (c : Build). AreReached c states) same_build (reached built)
+
+    width : stride m ≡ build_stride b byte_classes
+    width = ap stride over.rest ∙ stride_is
+
+    starts : length m.starts ≡ sizes.start_entries b
+    starts = over.count ∙ starts_are
+
+    words : (length states + 2) * build_stride b byte_classes ≡ length m.words
+    words =
+        ap₂ (λ (n w : ℕ). n * w) (sym (rows_count built)) (sym width)
+        ∙ omega (arith, div-add-mod' (length m.words) (stride m), built.entering.rows.whole)
+
+    keys : length states ≡ length met.keys
+    keys = states_count built
+
+    pub states_in : {matches : Matches} → AreLabels met.keys m matches → HasStates b m matches
+    states_in {matches} labels = subst (λ (c : Build). HasStates c m matches) same_build (has_states built labels)
+
+    pub fits : IsSupported b → BuildFits (limits_of settings byte_classes) b
+    fits supported = record {
+      supported = supported;
+      states = λ e.
+          let w : ℕ = build_stride b byte_classes in
+          let passed = (exceeds_exactly b (λ xs. last_id (length xs) w) max_id states (ids_grow w) all_reached).0 e in
+          absurd (omega (arith, passed.1, words, width, built.entering.rows.few));
+      rows = λ _ e. absurd (cc e.0);
+      patterns = λ e.
+          let passed = (exceeds_exactly b label_total max_id states labels_grow all_reached).0 e in
+          absurd (omega (
+            arith,
+            passed.1,
+            built.entering.working.patterns,
+            built.entering.working.few_patterns,
+          ));
+      table = λ limit is e.
+          let w : ℕ = build_stride b byte_classes in
+          let n : ℕ = sizes.start_entries b in
+          let passed = (exceeds_exactly b (λ xs. table_size (length xs) w n) limit states (table_grows w n)
+          all_reached).0 e in
+          let some : 0 < length met.keys = omega (arith, passed.0, keys) in
+          let low = at_limit (limits_in settings).table limit (4 * (length m.words + length m.starts + 1)) is
+          (built.entering.working.table some) in
+          absurd (omega (arith, passed.1, words, starts, low));
+      construction = λ limit is e.
+          let passed = (exceeds_exactly b determinizer_size limit states determinizer_grows all_reached).0 e in
+          let some : 0 < length met.keys = omega (arith, passed.0, keys) in
+          let low = at_limit (limits_in settings).construction limit met.size is
+          (built.entering.working.construction some) in
+          absurd (omega (arith, passed.1, built.entering.working.size, low));
+    }
+      where
+        at_limit : (o : Option ℕ) (limit size : ℕ) → o ≡ Some limit → IfSome o (λ most. size ≤ most) → size ≤ limit
+        at_limit o limit size e h = subst (λ (p : Option ℕ). IfSome p (λ most. size ≤ most)) e h

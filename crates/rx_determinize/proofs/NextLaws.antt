@@ -1,0 +1,156 @@
+-- The state to which a column leads.
+use Rattle.std.proofs.Common.{◌≡◌, ℕ, suc, ◌+◌, ◌*◌, ◌/◌, ◌<◌, true, false, List, refl, ap, sym, ◌∙◌, subst, arith}
+use Rattle.std.proofs.lemmas.Nat.{div-mul-add, pow_pos}
+use Rattle.std.proofs.lemmas.List.{append-nil}
+use Rattle.std.specs.Prelude.{Bool, Option, Some, Result, Ok, Err, IfOk, IfSome, MatchBool, if◌then◌else◌}
+use Rattle.std.specs.Prelude.{slice_get, []}
+use Rattle.rx_dense.specs.Builder.{with_row}
+use Rattle.rx_determinize.proofs.FillingLaws.{grows_by}
+use Rattle.rx_spec.specs.Bytes.{contains}
+use Rattle.rx_spec.specs.Builds.{Build, Running, IsReached, is_dead_state, next_node}
+use Rattle.rx_spec.specs.States.{State, step}
+use Rattle.rx_dense.proofs.Rows.{no_more}
+use Rattle.rx_dense.specs.Layouts.{Layout, AreRows, IsRowId, stride}
+use Rattle.rx_base.specs.ByteClasses.{alphabet_len}
+use Rattle.rx_dense.proofs.Shaped.{zero_id}
+use Rattle.rx_stepper.specs.Stepping.{Stepping, IsKeyOf, IsNext, stepped, unit_of}
+use Rattle.rx_stepper.specs.declared.next.Next.{Next}
+use Rattle.rx_determinize.specs.WorkLists.{IsRowOf, nodes}
+use Rattle.rx_determinize.specs.Working.{IsWorking, Keying, Met, SizeLimits, keying, states_of}
+use Rattle.rx_determinize.specs.Adding.{Adds, CanAdd}
+use Rattle.rx_determinize.specs.Filling.{Grows, IsStepped, IsWrittenOver, Suits}
+use Rattle.rx_spec.specs.declared.Unit.{Unit}
+use Rattle.rx_determinize.proofs.WorkListLaws.{interned_row, reached_step}
+use Rattle.rx_determinize.proofs.ColumnLaws.{unit_in}
+use Rattle.rx_determinize.proofs.StartLaws.{zero_row}
+
+-- The key of a state that is reached may be added.
+pub key_may : {s : Stepping} {units : List Unit} {l : Layout} {limits : SizeLimits} {met : Met} {key : List ℕ}
+    {state : State} → Suits s units l → IsWorking (keying s l) limits met l → IsKeyOf s key state
+    → IsReached (keying s l).build state → CanAdd (keying s l) limits met l key
+key_may {s} {units} {l} {limits} {met} {key} suits working is reached = record {
+  working = working;
+  one_key = suits.one_key;
+  is_key = is.is_key;
+  reached = subst (IsReached (keying s l).build) (sym is.stands_for) reached;
+  label = suits.spells.label key is.is_key;
+  size = suits.spells.size key is.is_key;
+}
+
+in_true : {P : Type 0} (Q : Type 0) (b : Bool) → b ≡ true → P → MatchBool b P Q
+in_true Q true e p = p
+in_true Q false e p = absurd cc
+
+-- a dead state has row 0
+pub dead_is_row : (states : List State) (s : State) (l : Layout) → is_dead_state s ≡ true
+    → IsRowOf states (Running s) (0 / stride l)
+dead_is_row states s l e =
+    in_true (slice_get (nodes states) (0 / stride l) ≡ Some (Running s)) (is_dead_state s) e (zero_row l)
+
+pub dead_id : {l : Layout} → AreRows l → IsRowId l 0
+dead_id {l} rows = let two = rows.two in zero_id l (omega arith)
+
+pub dead_stepped : {k : Keying} {met : Met} {s : Stepping} {l : Layout} {column : ℕ} → AreRows l
+    → column < alphabet_len l.classes → is_dead_state (stepped s column) ≡ true → IsStepped k met l s column 0
+dead_stepped {k} {met} {s} {l} {column} rows within e = record {
+  column_in = within;
+  is_row = dead_is_row (states_of k met) (stepped s column) l e;
+  is_id = dead_id rows;
+}
+
+-- the state of the column that was stepped last
+pub as_last : (k : Keying) {met : Met} {s : Stepping} {l : Layout} {column last_id : ℕ} {last : Option ℕ}
+    (key : List ℕ) → column < alphabet_len l.classes → IfSome last (λ other. IsStepped k met l s other last_id)
+    → IsNext s column last key Next.AsLast → IsStepped k met l s column last_id
+as_last k {met} {s} {l} {column} {last_id} {last} key within was next =
+    let led : IsStepped k met l s next.0 last_id =
+    subst (λ (o : Option ℕ). IfSome o (λ other. IsStepped k met l s other last_id)) next.1 was in
+    record {
+      column_in = within;
+      is_row =
+          subst (λ (t : State). IsRowOf (states_of k met) (Running t) (last_id / stride l)) (sym next.2) led.is_row;
+      is_id = led.is_id;
+    }
+
+-- nothing is entered
+pub grows_none : (met : Met) (l : Layout) → Grows met l met l
+grows_none met l = record {
+  more = [];
+  keys = sym (append-nil met.keys);
+  classes = refl;
+  nexts = λ row unit within is_unit. refl;
+  entries = λ mode start. refl;
+}
+
+-- what stays so, if the table is as it was but for its words
+pub working_over : (s : Stepping) {limits : SizeLimits} {met : Met} (l m : Layout) → IsWrittenOver l m
+    → IsWorking (keying s l) limits met m → IsWorking (keying s m) limits met m
+working_over s {limits} {met} l m is w = subst (λ (k : Keying). IsWorking k limits met m) (sym (ap (keying s) is)) w
+
+-- a state that isn't dead goes on by a unit that isn't a quit byte
+pub goes_on : (b : Build) (s : State) (unit : ℕ) → is_dead_state s ≡ false → contains b.quit unit ≡ false
+    → next_node b (Running s) unit ≡ Running (step b.nfa b.kind s unit)
+goes_on b s unit alive stays = rw (alive, stays) refl
+
+module _ (s : Stepping) (l : Layout) (rows : AreRows l) (classes : s.classes ≡ l.classes)
+    (reached : IsReached (keying s l).build s.current) (column : ℕ) (within : column < alphabet_len l.classes)
+    (stays : contains l.quit (unit_of l.classes column) ≡ false) where
+  -- a column leads to the state that is stepped to
+  pub leads_on : next_node (keying s l).build (Running s.current) (unit_of l.classes column) ≡ Running (stepped s
+      column)
+  leads_on =
+      goes_on (keying s l).build s.current (unit_of l.classes column) reached.alive stays
+      ∙ ap (λ (cs : List ℕ). Running (step s.nfa s.kind s.current (unit_of cs column))) (sym classes)
+
+  pub stepped_reached : {key : List ℕ} → IsKeyOf s key (stepped s column)
+      → IsReached (keying s l).build (stepped s column)
+  stepped_reached {key} is =
+      reached_step (unit_of l.classes column) (unit_in l rows.classes column within) leads_on is.alive reached
+
+-- the row of a key's state that was added
+pub added_row : (k : Keying) {met after : Met} {l m : Layout} {key : List ℕ} {id : ℕ} → Adds met l key after m id
+    → is_dead_state (k.state_of key) ≡ false → IsRowOf (states_of k after) (Running (k.state_of key)) (id / stride l)
+added_row k {met} {after} {l} {m} {key} {id} adds alive =
+    let row : suc (suc adds.place) ≡ id / stride l =
+    omega (
+      arith,
+      ap (λ n. n / stride l) (adds.id_is ∙ sym (no_more ((adds.place + 2) * stride l))),
+      div-mul-add (adds.place + 2) (stride l) 0 (pow_pos l.stride2),
+    ) in
+    subst (IsRowOf (states_of k after) (Running (k.state_of key))) row (interned_row k.state_of adds.interns alive)
+
+-- facts of one answer
+pub both_ok : {T E : Type 0} (r : Result T E) {P Q R : T → Type 0} → ((x : T) → P x → Q x → R x) → IfOk r P → IfOk r Q
+    → IfOk r R
+both_ok (Ok x) both p q = both x p q
+both_ok (Err e) both p q = tt
+
+-- ids lie as far apart as they did
+adds_stride : {met after : Met} {l m : Layout} {key : List ℕ} {id : ℕ} → Adds met l key after m id → stride m ≡ stride l
+adds_stride {met} {after} {l} {m} adds = ap stride adds.layout ∙ at adds.interns.is_new
+  where
+    at : (is_new : Bool) → stride (if is_new then with_row l else l) ≡ stride l
+    at true = refl
+    at false = refl
+
+-- the state of a key has the row that it was given
+pub row_by : (s : Stepping) {l m : Layout} {met after : Met} {key : List ℕ} {id : ℕ} {state : State}
+    → IsKeyOf s key state → Adds met l key after m id
+    → IsRowOf (states_of (keying s m) after) (Running state) (id / stride m)
+row_by s {l} {m} {met} {after} {key} {id} is adds =
+    rw (adds_stride adds)
+    (subst (λ (state : State). IsRowOf (states_of (keying s l) after) (Running state) (id / stride l)) is.stands_for
+    (added_row (keying s l) adds (ap is_dead_state is.stands_for ∙ is.alive)))
+
+-- the state of a column's key has the row that it was given
+pub stepped_by : (s : Stepping) {l m : Layout} {met after : Met} {key : List ℕ} {id : ℕ} → AreRows l
+    → (column : ℕ) → column < alphabet_len l.classes → IsKeyOf s key (stepped s column) → Adds met l key after m id
+    → IsRowId m id → IsStepped (keying s m) after m s column id
+stepped_by s {l} {m} {met} {after} {key} {id} rows column within is adds is_id = record {
+  column_in = rw (grows_by rows adds).classes within;
+  is_row =
+      rw (adds_stride adds)
+      (subst (λ (state : State). IsRowOf (states_of (keying s l) after) (Running state) (id / stride l)) is.stands_for
+      (added_row (keying s l) adds (ap is_dead_state is.stands_for ∙ is.alive)));
+  is_id = is_id;
+}

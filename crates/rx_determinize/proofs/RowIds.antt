@@ -1,0 +1,31 @@
+-- The ids of a table's rows.
+use Rattle.std.proofs.Common.{◌≡◌, ℕ, ◌*◌, ◌/◌, ◌<◌, length, ap, sym, ◌∙◌, arith}
+use Rattle.rx_spec.specs.Ids.{row_of}
+use Rattle.rx_search.specs.Starts.{IsId}
+use Rattle.rx_table_lemmas.proofs.Ids.{row_of-id_of, id_of-dense, dense_are_ids}
+use Rattle.rx_dense.proofs.Rows.{multiple_below, no_more}
+use Rattle.rx_dense.specs.Layouts.{Layout, AreRows, IsRowId, ids_of, row_count, stride}
+use Rattle.std.proofs.lemmas.Nat.{div-mul-add, mod-mul-add, pow_pos}
+
+-- the row of the id of a row
+pub row_of-row : (l : Layout) (row : ℕ) → row < row_count l → row_of (ids_of l) (row * stride l) ≡ row
+row_of-row l row within =
+    ap (row_of (ids_of l)) (sym (id_of-dense (row_count l) l.stride2 row within))
+    ∙ row_of-id_of (dense_are_ids (row_count l) l.stride2) row within
+
+-- it is an id
+pub row_is_id : (l : Layout) (row : ℕ) → row < row_count l → IsId (ids_of l) (row * stride l)
+row_is_id l row within =
+    omega (arith, row_of-row l row within, (dense_are_ids (row_count l) l.stride2).count)
+
+-- the id of a row is that of a row
+pub row_id : (l : Layout) (row : ℕ) → AreRows l → row < row_count l → IsRowId l (row * stride l)
+row_id l row rows within = record {
+  whole = rw (← no_more (row * stride l)) (mod-mul-add row (stride l) 0 (pow_pos l.stride2));
+  below = multiple_below row (stride l) (length l.words) (pow_pos l.stride2) within;
+}
+
+-- the row of its id, by division
+pub row_of_id : (l : Layout) (row : ℕ) → row * stride l / stride l ≡ row
+row_of_id l row =
+    ap (λ n. n / stride l) (sym (no_more (row * stride l))) ∙ div-mul-add row (stride l) 0 (pow_pos l.stride2)

@@ -1,0 +1,448 @@
+-- Start entries that are set, and the states in which searches start.
+use Rattle.std.proofs.Common.{◌≡◌, ◌≢◌, ℕ, zero, suc, ◌+◌, ◌*◌, ◌/◌, ◌%◌, ◌<◌, ◌≤◌, Bool, true, false, Option, Some}
+use Rattle.std.proofs.Common.{None}
+use Rattle.std.proofs.Common.{List, [], ◌∷◌, ◌++◌, length, get_or, replicate, slice_index, refl, ap, ap₂, sym, ◌∙◌}
+use Rattle.std.proofs.Common.{subst}
+use Rattle.std.proofs.Common.{arith, ⊎_elim}
+use Rattle.std.proofs.lemmas.Bool.{cases_eq, cases_lt, lt-ltb}
+use Rattle.std.proofs.lemmas.List.{get_or-set_other, get_or-set_same, get_or-replicate, get_or_past}
+use Rattle.std.proofs.lemmas.List.{length-replicate, length-set}
+use Rattle.std.proofs.lemmas.List.Elements.{All-nil, Contains-append_left, Contains-append_right}
+use Rattle.std.proofs.lemmas.List.FromFn.{get_or-map-range_with_len, length-map-range_with_len}
+use Rattle.std.proofs.lemmas.Nat.{div-add-mod', div-mul-add, pow_pos}
+use Rattle.std.proofs.lemmas.Option.{slice_get_within}
+use Rattle.std.specs.Prelude.{Contains, IfSome, if◌then◌else◌, nat_lt, slice_get, slice_set}
+use Rattle.rx_spec.specs.Builds.{Build, Node, IsReached, built_entry, built_modes, is_dead_state, pattern_modes}
+use Rattle.rx_spec.specs.Builds.{dead, next_node, start_node}
+use Rattle.rx_spec.specs.Nfas.{Nfa}
+use Rattle.rx_spec.specs.Contexts.{all_starts as all_contexts}
+use Rattle.std.specs.Bool.{then_some}
+use Rattle.rx_spec.specs.Queries.{Anchored}
+use Rattle.rx_spec.specs.Starts.{has_anchored, has_unanchored}
+use Rattle.rx_spec.specs.States.{start_state}
+use Rattle.rx_spec.specs.declared.Start.{Start}
+use Rattle.rx_lemmas.proofs.Firsts.{Contains-here}
+use Rattle.rx_lemmas.proofs.Words.{IsWord-nil, run-nil}
+use Rattle.rx_dense.specs.Builder.{Beginning, initial, with_start}
+use Rattle.rx_dense.specs.Layouts.{Layout, AreRows, column, context_number, machine_of, mode_place, row_count}
+use Rattle.rx_dense.specs.Layouts.{stride}
+use Rattle.rx_dense.proofs.Shaped.{rows_kept}
+use Rattle.rx_stepper.specs.Stepping.{Stepping}
+use Rattle.rx_determinize.specs.Filling.{Grows, IsEntering, IsStartedOver, IsWrittenOver}
+use Rattle.rx_determinize.specs.WorkLists.{IsRowOf}
+use Rattle.rx_determinize.specs.Working.{IsWorking, Keying, Met, SizeLimits, entry_in, keying, states_of}
+use Rattle.rx_determinize.proofs.CellLaws.{one_place}
+use Rattle.rx_determinize.proofs.FillingLaws.{entering_kept}
+
+-- ---- the place of a start entry
+
+group : Anchored → ℕ
+group Anchored.No = 0
+group Anchored.Yes = 1
+group (Anchored.Pattern k) = suc (suc k)
+
+mode_at : ℕ → Anchored
+mode_at zero = Anchored.No
+mode_at (suc zero) = Anchored.Yes
+mode_at (suc (suc k)) = Anchored.Pattern k
+
+mode_of_group : (mode : Anchored) → mode_at (group mode) ≡ mode
+unfolding group mode_at
+mode_of_group Anchored.No = refl
+mode_of_group Anchored.Yes = refl
+mode_of_group (Anchored.Pattern k) = refl
+
+place_of_group : (mode : Anchored) → mode_place mode ≡ group mode * 6
+unfolding group
+place_of_group Anchored.No = refl
+place_of_group Anchored.Yes = refl
+place_of_group (Anchored.Pattern k) = omega arith
+
+start_at : ℕ → Start
+start_at zero = Start.NonWordByte
+start_at (suc zero) = Start.WordByte
+start_at (suc (suc zero)) = Start.Text
+start_at (suc (suc (suc zero))) = Start.LineLF
+start_at (suc (suc (suc (suc zero)))) = Start.LineCR
+start_at (suc (suc (suc (suc (suc n))))) = Start.CustomLineTerminator
+
+start_of_number : (start : Start) → start_at (context_number start) ≡ start
+unfolding start_at
+start_of_number Start.NonWordByte = refl
+start_of_number Start.WordByte = refl
+start_of_number Start.Text = refl
+start_of_number Start.LineLF = refl
+start_of_number Start.LineCR = refl
+start_of_number Start.CustomLineTerminator = refl
+
+pub number_low : (start : Start) → context_number start < 6
+number_low Start.NonWordByte = omega arith
+number_low Start.WordByte = omega arith
+number_low Start.Text = omega arith
+number_low Start.LineLF = omega arith
+number_low Start.LineCR = omega arith
+number_low Start.CustomLineTerminator = omega arith
+
+abbrev pub place_of : Anchored → Start → ℕ
+place_of mode start = mode_place mode + context_number start
+
+-- each place is that of one mode and one context
+one_start : (mode other : Anchored) (start context : Start) → place_of mode start ≡ place_of other context
+    → (mode ≡ other) × (start ≡ context)
+one_start mode other start context e =
+    let places : group mode * 6 + context_number start ≡ group other * 6 + context_number context =
+    omega (arith, place_of_group mode, place_of_group other, e) in
+    let one = one_place 6 (group mode) (context_number start) (group other) (context_number context)
+    (number_low start) (number_low context) places in (
+      sym (mode_of_group mode) ∙ ap mode_at one.0 ∙ mode_of_group other,
+      sym (start_of_number start) ∙ ap start_at one.1 ∙ start_of_number context,
+    )
+
+group_of_mode : (n : ℕ) → group (mode_at n) ≡ n
+unfolding group mode_at
+group_of_mode zero = refl
+group_of_mode (suc zero) = refl
+group_of_mode (suc (suc k)) = refl
+
+number_of_start : (n : ℕ) → n < 6 → context_number (start_at n) ≡ n
+unfolding start_at
+number_of_start zero low = refl
+number_of_start (suc zero) low = refl
+number_of_start (suc (suc zero)) low = refl
+number_of_start (suc (suc (suc zero))) low = refl
+number_of_start (suc (suc (suc (suc zero)))) low = refl
+number_of_start (suc (suc (suc (suc (suc n))))) low = omega arith
+
+-- the mode and the context of a place
+pub start_of_place : (place : ℕ) → (mode : Anchored) × (start : Start) × (place_of mode start ≡ place)
+start_of_place place =
+    let mode = mode_at (place / 6) in
+    let start = start_at (place % 6) in
+    let low : place % 6 < 6 = omega arith in (
+      mode,
+      start,
+      omega (
+        arith,
+        place_of_group mode,
+        group_of_mode (place / 6),
+        number_of_start (place % 6) low,
+        div-add-mod' place 6,
+      ),
+    )
+
+-- ---- an entry that is set
+
+module _ (l : Layout) (mode : Anchored) (start : Start) (id : ℕ) where
+  abbrev set_at : Layout
+  set_at = with_start l mode start id
+
+  count_kept : length set_at.starts ≡ length l.starts
+  count_kept = length-set l.starts (place_of mode start) id
+
+  abbrev chosen : Anchored → ℕ → ℕ → ℕ
+  chosen other n x = (if nat_lt (mode_place other) n then x else 0) / stride l
+
+  entry_set : place_of mode start < length l.starts → entry_in set_at mode start ≡ id / stride l
+  entry_set low =
+      let there : mode_place mode < length l.starts = omega arith in
+      ap (λ n. chosen mode n (slice_index set_at.starts (place_of mode start))) count_kept
+      ∙ ap (λ (b : Bool). (if b then slice_index set_at.starts (place_of mode start) else 0) / stride l)
+      (lt-ltb (mode_place mode) (length l.starts) there)
+      ∙ ap (λ n. n / stride l) (get_or-set_same l.starts (place_of mode start) id 0 low)
+
+  entry_kept : (other : Anchored) (context : Start) → place_of other context ≢ place_of mode start
+      → entry_in set_at other context ≡ entry_in l other context
+  entry_kept other context apart =
+      ap (λ n. chosen other n (slice_index set_at.starts (place_of other context))) count_kept
+      ∙ ap (chosen other (length l.starts))
+      (get_or-set_other l.starts (place_of mode start) (place_of other context) id 0 apart)
+
+-- a start entry leads to its row
+pub record IsStart (k : Keying) (met : Met) (l : Layout) (mode : Anchored) (start : Start) (id : ℕ) : Type 0 where
+  pub is_row : IsRowOf (states_of k met) (built_entry k.build mode start) (id / stride l)
+  pub place_in : place_of mode start < length l.starts
+
+module _ {k : Keying} {limits : SizeLimits} {met : Met} {l : Layout} {mode : Anchored} {start : Start} {id : ℕ}
+    (leads : IsStart k met l mode start id) where
+  starts_more : {done : ℕ} → IsEntering k limits met l (place_of mode start) done
+      → IsEntering k limits met (with_start l mode start id) (place_of mode start + 1) done
+  starts_more {done} old = record {
+    rows = rows_kept l (with_start l mode start id) refl refl refl old.rows;
+    working = working;
+    within = old.within;
+    list = old.list;
+    starts = λ other context lt. ⊎_elim
+        (λ (e : place_of other context ≡ place_of mode start). here other context (one_start other mode context start
+        e))
+        (λ (ne : place_of other context ≡ place_of mode start → ⊥).
+        subst (IsRowOf (states_of k met) (built_entry k.build other context))
+        (sym (entry_kept l mode start id other context ne)) (old.starts other context (omega arith)))
+        (cases_eq (place_of other context) (place_of mode start));
+    dead_stays = old.dead_stays;
+    quit_ends = old.quit_ends;
+  }
+    where
+      w : IsWorking k limits met l
+      w = old.working
+
+      working : IsWorking k limits met (with_start l mode start id)
+      working = record {
+        bare = record { slices = w.bare.slices; pattern_ids = w.bare.pattern_ids; accels = w.bare.accels };
+        count = w.count;
+        distinct = w.distinct;
+        are_keys = w.are_keys;
+        reached = w.reached;
+        size = w.size;
+        patterns = w.patterns;
+        few_patterns = w.few_patterns;
+        table = λ some. subst (λ n. IfSome limits.table (λ limit. 4 * (length l.words + n + 1) ≤ limit))
+            (sym (count_kept l mode start id)) (w.table some);
+        construction = w.construction;
+      }
+
+      here : (other : Anchored) (context : Start) → (other ≡ mode) × (context ≡ start)
+          → IsRowOf (states_of k met) (built_entry k.build other context)
+          (entry_in (with_start l mode start id) other context)
+      here other context same =
+          subst (λ (m : Anchored). IsRowOf (states_of k met) (built_entry k.build m context)
+          (entry_in (with_start l mode start id) m context)) (sym same.0)
+          (subst (λ (c : Start). IsRowOf (states_of k met) (built_entry k.build mode c)
+          (entry_in (with_start l mode start id) mode c)) (sym same.1)
+          (subst (IsRowOf (states_of k met) (built_entry k.build mode start))
+          (sym (entry_set l mode start id leads.place_in)) leads.is_row))
+
+-- the same where the table is known by an equation
+pub entering_start : (s : Stepping) {limits : SizeLimits} {met : Met} {l m : Layout} {mode : Anchored} {start : Start}
+    {id done : ℕ} → IsStart (keying s l) met l mode start id → m ≡ with_start l mode start id
+    → IsEntering (keying s l) limits met l (place_of mode start) done
+    → IsEntering (keying s m) limits met m (place_of mode start + 1) done
+entering_start s {limits} {met} {l} {m} {mode} {start} {id} {done} leads is old =
+    subst (λ (n : Layout). IsEntering (keying s n) limits met n (place_of mode start + 1) done) (sym is)
+    (starts_more leads old)
+
+-- ---- tables whose start entries are set
+
+pub started_over : (l m : Layout) (words starts : List ℕ) → m ≡ record l { words = words; starts = starts }
+    → length starts ≡ length l.starts → IsStartedOver l m
+started_over l m words starts is count = record {
+  rest =
+      is ∙ ap₂ (λ (ws ss : List ℕ). record l { words = ws; starts = ss }) (sym (ap (λ (n : Layout). n.words) is))
+      (sym (ap (λ (n : Layout). n.starts) is));
+  count = ap (λ (n : Layout). length n.starts) is ∙ count;
+}
+
+pub started_twice : (l m n : Layout) → IsStartedOver l m → IsStartedOver m n → IsStartedOver l n
+started_twice l m n first second = record {
+  rest = second.rest ∙ ap (λ (k : Layout). record k { words = n.words; starts = n.starts }) first.rest;
+  count = second.count ∙ first.count;
+}
+
+-- ---- the modes of a build
+
+pub has_no : (b : Build) → has_unanchored b.start_kind ≡ true → Contains (built_modes b) Anchored.No
+has_no b e =
+    let front = (if has_unanchored b.start_kind then Anchored.No ∷ [] else []) in
+    let middle = (if has_anchored b.start_kind then Anchored.Yes ∷ [] else []) in
+    let last = (if b.pattern_starts then pattern_modes (length b.nfa.start_patterns) else []) in
+    Contains-append_left (front ++ middle) last Anchored.No
+    (Contains-append_left front middle Anchored.No
+    (subst (λ (c : Bool). Contains (if c then Anchored.No ∷ [] else []) Anchored.No) (sym e)
+    (Contains-here Anchored.No [])))
+
+pub has_yes : (b : Build) → has_anchored b.start_kind ≡ true → Contains (built_modes b) Anchored.Yes
+has_yes b e =
+    let front = (if has_unanchored b.start_kind then Anchored.No ∷ [] else []) in
+    let middle = (if has_anchored b.start_kind then Anchored.Yes ∷ [] else []) in
+    let last = (if b.pattern_starts then pattern_modes (length b.nfa.start_patterns) else []) in
+    Contains-append_left (front ++ middle) last Anchored.Yes
+    (Contains-append_right front middle Anchored.Yes
+    (subst (λ (c : Bool). Contains (if c then Anchored.Yes ∷ [] else []) Anchored.Yes) (sym e)
+    (Contains-here Anchored.Yes [])))
+
+pub has_pattern : (b : Build) (k : ℕ) → b.pattern_starts ≡ true → k < length b.nfa.start_patterns
+    → Contains (built_modes b) (Anchored.Pattern k)
+has_pattern b k e low =
+    let front = (if has_unanchored b.start_kind then Anchored.No ∷ [] else []) in
+    let middle = (if has_anchored b.start_kind then Anchored.Yes ∷ [] else []) in
+    let n = length b.nfa.start_patterns in
+    let make = λ (i : ℕ). Anchored.Pattern i in
+    let last = (if b.pattern_starts then pattern_modes n else []) in
+    let there : Contains (pattern_modes n) (Anchored.Pattern k) = (
+      k,
+      rw length-map-range_with_len low,
+      get_or-map-range_with_len make 0 n k k (Anchored.Pattern k) low (omega
+          arith),
+    ) in
+    Contains-append_right (front ++ middle) last (Anchored.Pattern k)
+    (subst (λ (c : Bool). Contains (if c then pattern_modes n else []) (Anchored.Pattern k)) (sym e) there)
+
+-- a state in which a search starts
+pub start_reached : (b : Build) (mode : Anchored) (start : Start) (row : ℕ) → Contains (built_modes b) mode
+    → built_entry b mode start ≡ start_node b.nfa (Some row) start
+    → is_dead_state (start_state b.nfa row start) ≡ false → IsReached b (start_state b.nfa row start)
+start_reached b mode start row built is alive = record {
+  mode = mode;
+  built = built;
+  start = start;
+  word = [];
+  units = IsWord-nil;
+  leads = run-nil (next_node b) (built_entry b mode start) ∙ is;
+  alive = alive;
+}
+
+-- ---- a table that is begun
+
+zero_word : (n k : ℕ) → slice_index (replicate n 0) k ≡ 0
+zero_word n k =
+    ⊎_elim
+    (λ (h : k < n). get_or-replicate n k 0 0 h)
+    (λ (h : n ≤ k). get_or_past (replicate n 0) k 0 (omega (arith, length-replicate n (let x : ℕ = 0 in x))))
+    (cases_lt k n)
+
+pub zero_row : (l : Layout) → 0 / stride l ≡ 0
+zero_row l =
+    let zeros : 0 * stride l + 0 ≡ 0 = omega arith in
+    ap (λ n. n / stride l) (sym zeros) ∙ div-mul-add 0 (stride l) 0 (pow_pos l.stride2)
+
+-- it has the dead row and the quit row, which lead to dead
+pub entering_begun : (k : Keying) (limits : SizeLimits) (b : Beginning) (l : Layout) → l ≡ initial b → AreRows l
+    → IsEntering k limits (record { keys = []; size = 0; patterns = 0 }) l 0 0
+entering_begun k limits b l is rows = record {
+  rows = rows;
+  working = record {
+    bare = record {
+      slices = ap (λ (n : Layout). n.slices) is;
+      pattern_ids = ap (λ (n : Layout). n.pattern_ids) is;
+      accels = ap (λ (n : Layout). n.accels) is;
+    };
+    count =
+        ap row_count is ∙ ap (λ n. n / stride (initial b)) (words ∙ two) ∙ div-mul-add 2 (stride (initial b)) 0
+        (pow_pos (initial b).stride2);
+    distinct = λ i j d less low. absurd (omega arith);
+    are_keys = All-nil (λ key. k.is_key key ≡ true);
+    reached = All-nil (λ key. IsReached k.build (k.state_of key));
+    size = refl;
+    patterns = refl;
+    few_patterns = omega arith;
+    table = λ some. absurd (omega arith);
+    construction = λ some. absurd (omega arith);
+  };
+  within = omega arith;
+  list = record {
+    reached = All-nil (λ key. IsReached k.build (k.state_of key));
+    steps = λ id key there low. absurd (omega arith);
+  };
+  starts = λ mode start low. absurd (omega arith);
+  dead_stays = λ unit is_unit. to_dead 0 unit;
+  quit_ends = λ unit is_unit. to_dead 1 unit;
+}
+  where
+    words : length (initial b).words ≡ 2 * stride (initial b)
+    words = length-replicate (2 * stride (initial b)) 0
+
+    two : 2 * stride (initial b) ≡ 2 * stride (initial b) + 0
+    two = omega arith
+
+    to_dead : (row unit : ℕ) → (machine_of l).next row unit ≡ 0
+    to_dead row unit =
+        ap (λ (n : Layout). (machine_of n).next row unit) is
+        ∙ ap (λ n. n / stride (initial b))
+        (zero_word (2 * stride (initial b)) (row * stride (initial b) + column (initial b) unit))
+        ∙ zero_row (initial b)
+
+-- ---- a start row that was found
+
+-- the row of the node in which a search starts
+pub record IsStartRow (s : Stepping) (limits : SizeLimits) (met : Met) (l : Layout) (node : Node) (after : Met)
+    (m : Layout) (id : ℕ) : Type 0 where
+  pub grows : Grows met l after m
+  pub rest : IsWrittenOver l m
+  pub rows : AreRows m
+  pub working : IsWorking (keying s m) limits after m
+  pub is_row : IsRowOf (states_of (keying s m) after) node (id / stride m)
+
+-- a state is entered, and then a start entry set
+pub start_set : (s : Stepping) {limits : SizeLimits} {met after : Met} {l m n : Layout} (mode : Anchored) (start :
+    Start)
+    {id : ℕ} → IsEntering (keying s l) limits met l (place_of mode start) 0
+    → IsStartRow s limits met l (built_entry (keying s l).build mode start) after m id
+    → place_of mode start < length l.starts → n ≡ with_start m mode start id
+    → IsEntering (keying s n) limits after n (place_of mode start + 1) 0
+start_set s {limits} {met} {after} {l} {m} {n} mode start {id} entering found low is =
+    let same : keying s m ≡ keying s l = ap (keying s) found.rest in
+    let count : length m.starts ≡ length l.starts = ap (λ (k : Layout). length k.starts) found.rest in
+    let working : IsWorking (keying s l) limits after m =
+    subst (λ (k : Keying). IsWorking k limits after m) same found.working in
+    let grown : IsEntering (keying s m) limits after m (place_of mode start) 0 =
+    subst (λ (k : Keying). IsEntering k limits after m (place_of mode start) 0) (sym same)
+    (entering_kept (keying s l) found.grows found.rows working entering) in
+    let leads : IsStart (keying s m) after m mode start id = record {
+      is_row =
+          subst (λ (k : Keying). IsRowOf (states_of (keying s m) after) (built_entry k.build mode start) (id / stride
+          m))
+          (sym same) found.is_row;
+      place_in = omega (arith, count);
+    } in
+    entering_start s leads is grown
+
+pub started_by : (l m n : Layout) (mode : Anchored) (start : Start) (id : ℕ) → IsWrittenOver l m
+    → n ≡ with_start m mode start id → IsStartedOver l n
+started_by l m n mode start id rest is =
+    let starts : List ℕ = slice_set m.starts (place_of mode start) id in
+    started_over l n m.words starts (is ∙ ap (λ (k : Layout). record k { starts = starts }) rest)
+    (length-set m.starts (place_of mode start) id ∙ ap (λ (k : Layout). length k.starts) rest)
+
+-- the state in which a search starts is reached
+pub row_reached : (b : Build) (mode : Anchored) (start : Start) (row : Option ℕ)
+    → IfSome row (λ _. Contains (built_modes b) mode) → built_entry b mode start ≡ start_node b.nfa row start
+    → IfSome row (λ q. is_dead_state (start_state b.nfa q start) ≡ false → IsReached b (start_state b.nfa q start))
+row_reached b mode start None built is = tt
+row_reached b mode start (Some q) built is = λ alive. start_reached b mode start q built is alive
+
+-- the number of each context, by its place
+pub context_at : (i : ℕ) (d : Start) → i < 6 → context_number (get_or all_contexts i d) ≡ i
+context_at zero d low = refl
+context_at (suc zero) d low = refl
+context_at (suc (suc zero)) d low = refl
+context_at (suc (suc (suc zero))) d low = refl
+context_at (suc (suc (suc (suc zero)))) d low = refl
+context_at (suc (suc (suc (suc (suc zero))))) d low = refl
+context_at (suc (suc (suc (suc (suc (suc i)))))) d low = absurd (omega arith)
+
+-- ---- the rows of modes
+
+no_row : (c : Bool) (nfa : Nfa) (row : ℕ) (start : Start)
+    → (if c then start_node nfa (Some row) start else dead) ≡ start_node nfa (then_some c row) start
+no_row true nfa row start = refl
+no_row false nfa row start = refl
+
+where_some : (c : Bool) (row : ℕ) (P : Type 0) → (c ≡ true → P) → IfSome (then_some c row) (λ _. P)
+where_some true row P f = f refl
+where_some false row P f = tt
+
+pub unanchored_row : (b : Build) (start : Start) → built_entry b Anchored.No start
+    ≡ start_node b.nfa (then_some (has_unanchored b.start_kind) b.nfa.start_unanchored) start
+unanchored_row b start = no_row (has_unanchored b.start_kind) b.nfa b.nfa.start_unanchored start
+
+pub anchored_row : (b : Build) (start : Start) → built_entry b Anchored.Yes start
+    ≡ start_node b.nfa (then_some (has_anchored b.start_kind) b.nfa.start_anchored) start
+anchored_row b start = no_row (has_anchored b.start_kind) b.nfa b.nfa.start_anchored start
+
+pub unanchored_built : (b : Build)
+    → IfSome (then_some (has_unanchored b.start_kind) b.nfa.start_unanchored) (λ _. Contains (built_modes b)
+    Anchored.No)
+unanchored_built b = where_some (has_unanchored b.start_kind) b.nfa.start_unanchored _ (has_no b)
+
+pub anchored_built : (b : Build)
+    → IfSome (then_some (has_anchored b.start_kind) b.nfa.start_anchored) (λ _. Contains (built_modes b) Anchored.Yes)
+anchored_built b = where_some (has_anchored b.start_kind) b.nfa.start_anchored _ (has_yes b)
+
+pub pattern_row : (b : Build) (k : ℕ) (start : Start) → b.pattern_starts ≡ true
+    → built_entry b (Anchored.Pattern k) start ≡ start_node b.nfa (slice_get b.nfa.start_patterns k) start
+pattern_row b k start e =
+    ap (λ (c : Bool). if c then start_node b.nfa (slice_get b.nfa.start_patterns k) start else dead) e
+
+pub pattern_built : (b : Build) (k : ℕ) → b.pattern_starts ≡ true → (row : Option ℕ)
+    → slice_get b.nfa.start_patterns k ≡ row → IfSome row (λ _. Contains (built_modes b) (Anchored.Pattern k))
+pattern_built b k e None is = tt
+pattern_built b k e (Some row) is = has_pattern b k e (slice_get_within b.nfa.start_patterns k row is)

@@ -1,0 +1,11 @@
+use Rattle.std.proofs.Common.{◌≡◌, [], ◌∷◌, ◌++◌, map}
+use Rattle.rx_spec.specs.Bytes.{eoi}
+use Rattle.rx_spec.specs.Classes.{representatives}
+use Rattle.rx_base.specs.ByteClasses.{ends_of}
+use Rattle.rx_base.specs.Unit.{unit_number}
+use Rattle.rx_determinize.proofs.construction.Construction.new.Given as goal
+
+-- the units so far, and those that are left
+abbrev pub invariant-loop-unit : goal.invariant-loop-unit
+invariant-loop-unit l =
+    map unit_number l.units.items ++ l.unit-iterator ≡ representatives (ends_of l.classes) ++ eoi ∷ []

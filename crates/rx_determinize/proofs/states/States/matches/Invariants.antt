@@ -1,0 +1,7 @@
+use Rattle.std.proofs.Common.{take}
+use Rattle.rx_determinize.specs.Matching.{AreLabels}
+use Rattle.rx_determinize.proofs.states.States.matches.Given as goal
+
+-- the labels of the keys so far
+abbrev pub invariant-places : goal.invariant-places
+invariant-places l = AreLabels (take l.place l.self.keys) l.dfa l.matches

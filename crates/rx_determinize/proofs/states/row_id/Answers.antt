@@ -1,0 +1,30 @@
+use Rattle.std.proofs.Common.{◌≡◌, ◌*◌, ◌^◌, ℕ, length, sym, ap, subst, arith}
+use Rattle.std.proofs.lemmas.Nat.{pow_pos}
+use Rattle.rx_search.specs.Starts.{IsId}
+use Rattle.rx_dense.proofs.Rows.{multiple_below, stride_few}
+use Rattle.rx_dense.specs.Layouts.{IsRowId, ids_of, stride}
+use Rattle.rx_determinize.proofs.RowIds.{row_is_id, row_id as row_at}
+use Rattle.rx_determinize.proofs.states.row_id.Goals as goal
+
+same : (c : goal.After-must) → c.must.result ≡ c.args.row * stride c.args.dfa.now
+same c =
+    let l = c.args.dfa.now in
+    let rows = c.state_len-rows.ensures.rows in
+    let below = multiple_below c.args.row (stride l) (length l.words) (pow_pos l.stride2) c.requires in
+    omega (
+      arith,
+      c.must.ensures,
+      ap (λ (n : ℕ). c.args.row * 2 ^ n) c.stride2.ensures.value,
+      below,
+      rows.few,
+      stride_few l.stride2 rows.exponent,
+    )
+
+pub returns-clause-is_id : goal.returns-clause-is_id
+returns-clause-is_id c =
+    subst (IsId (ids_of c.args.dfa.now)) (sym (same c)) (row_is_id c.args.dfa.now c.args.row c.requires)
+
+pub returns-clause-is_row : goal.returns-clause-is_row
+returns-clause-is_row c =
+    subst (IsRowId c.args.dfa.now) (sym (same c))
+    (row_at c.args.dfa.now c.args.row c.state_len-rows.ensures.rows c.requires)

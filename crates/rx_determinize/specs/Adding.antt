@@ -1,0 +1,47 @@
+-- What entering a state into a table does.
+use Rattle.std.specs.Prelude.{ℕ, ◌≡◌, ◌<◌, ◌≤◌, ◌+◌, ◌*◌, if◌then◌else◌, true, Some, List, length, IfSome}
+use Rattle.rx_spec.specs.Causes.{max_id}
+use Rattle.rx_dense.specs.Builder.{with_row}
+use Rattle.rx_dense.specs.Layouts.{Layout, stride}
+use Rattle.rx_build_error.specs.declared.BuildErrorKind.{BuildErrorKind}
+use Rattle.rx_determinize.specs.WorkLists.{Interns}
+use Rattle.rx_spec.specs.Builds.{IsReached}
+use Rattle.rx_spec.specs.Sizes.{state_size}
+use Rattle.rx_stepper.specs.Keys.{label_of, size_of}
+use Rattle.rx_determinize.specs.Working.{Keying, Met, SizeLimits, IsWorking, bytes_of}
+
+-- A key of a state that is reached may be added. It spells its state's label and size.
+pub record CanAdd (k : Keying) (limits : SizeLimits) (met : Met) (l : Layout) (key : List ℕ) : Type 0 where
+  pub working : IsWorking k limits met l
+  pub one_key : (i j : List ℕ) → k.is_key i ≡ true → k.is_key j ≡ true → k.state_of i ≡ k.state_of j → i ≡ j
+  pub is_key : k.is_key key ≡ true
+  pub reached : IsReached k.build (k.state_of key)
+  pub label : label_of key ≡ (k.state_of key).label
+  pub size : size_of key ≡ state_size (k.state_of key)
+
+-- A key's state has a row: that which it had, or a new one behind all others.
+pub record Adds (met : Met) (l : Layout) (key : List ℕ) (after : Met) (m : Layout) (id : ℕ) : Type 0 where
+  pub place : ℕ
+  pub interns : Interns met.keys key place after.keys
+  pub layout : m ≡ (if interns.is_new then with_row l else l)
+  pub id_is : id ≡ (place + 2) * stride l
+
+-- no size passes its limit
+pub record IsWithin (limits : SizeLimits) (met : Met) (l : Layout) : Type 0 where
+  pub patterns : met.patterns ≤ max_id
+  pub table : IfSome limits.table (λ limit. bytes_of l ≤ limit)
+  pub construction : IfSome limits.construction (λ limit. met.size ≤ limit)
+
+-- one does
+abbrev pub Passes : SizeLimits → Met → Layout → BuildErrorKind → Type 0
+Passes limits met l BuildErrorKind.TooManyMatchPatternIDs = max_id < met.patterns
+Passes limits met l (BuildErrorKind.DFAExceededSizeLimit limit) = (limits.table ≡ Some limit) × (limit < bytes_of l)
+Passes limits met l (BuildErrorKind.DeterminizeExceededSizeLimit limit) =
+    (limits.construction ≡ Some limit) × (limit < met.size)
+Passes limits met l _ = ⊥
+
+-- why a table gets no further row
+abbrev pub IsFull : Layout → BuildErrorKind → Type 0
+IsFull l BuildErrorKind.TooManyStates = max_id < length l.words
+IsFull l BuildErrorKind.Memory = Unit {0}
+IsFull l _ = ⊥

@@ -1,0 +1,165 @@
+//! The states that were met, each with a row of the table.
+
+ghost use Rattle.std.specs.Prelude.{◌≡◌, ◌≢◌, ◌<◌, ◌≤◌, ◌+◌, ◌*◌, ◌^◌, [], ◌∷◌, ◌++◌, if◌then◌else◌, true, false};
+ghost use Rattle.std.specs.Prelude.{length};
+ghost use Rattle.std.specs.Prelude.{slice_get, AllPairs, All, Contains, Some, IfOk, IfErr, OnOk, Err};
+ghost use Rattle.rx_spec.specs.Causes.{max_id};
+ghost use Rattle.rx_search.specs.Starts.{IsId};
+ghost use Rattle.rx_dense.specs.Builder.{with_row};
+ghost use Rattle.rx_dense.specs.Layouts.{AreRows, IsRowId, ids_of, row_count, stride};
+ghost use Rattle.rx_determinize.specs.Working.{Keying, IsWorking, IsBare, IsOver};
+ghost use Rattle.rx_determinize.specs.Adding.{Adds, CanAdd, IsFull, IsWithin, Passes};
+
+use rx_base::{PatternID, StateID};
+use rx_build_error::{BuildError, BuildErrorKind};
+use rx_dense::{AddError, OwnedDFA};
+use rx_interner::Interner;
+use rx_stepper::Stepper;
+use std::alloc::{AllocError, Global};
+use std::marker::Model;
+
+/// The most bytes of a table, and of the states of its construction; none is no limit.
+#[derive(Clone, Copy)]
+pub(crate) struct SizeLimits {
+    pub(crate) table: Option<usize>,
+    pub(crate) construction: Option<usize>,
+}
+
+impl Model for SizeLimits {
+    ghost use Rattle.rx_determinize.specs.Working.{SizeLimits as Limits};
+
+    ghost Value = { Limits };
+
+    ghost view = { λ l. record { table = l.table; construction = l.construction } };
+
+    ghost inverse = { λ l. record { table = l.table; construction = l.construction } };
+}
+
+/// The states that were met, as keys, and what they count for.
+#[derive(Drop)]
+pub(crate) struct States {
+    keys: Interner,
+    /// The bytes that all states count for.
+    size: u128,
+    /// How many patterns the labels of all states name.
+    patterns: u128,
+}
+
+impl Model for States {
+    ghost use Rattle.std.specs.Prelude.{◌<◌, ◌≤◌, ◌*◌, ◌^◌, length};
+    ghost use Rattle.rx_determinize.specs.Working.{Met};
+
+    ghost Value = { Met };
+
+    ghost view = { λ s. record { keys = s.keys; size = s.size; patterns = s.patterns } };
+
+    ghost invariant = { λ s. (length s.keys ≤ 2 ^ 32) × (s.size ≤ length s.keys * 2 ^ 64) × (s.patterns ≤ length
+        s.keys * 2 ^ 64) };
+}
+
+impl States {
+    /// None was met.
+    pub(crate) fn new(alloc: Global) -> States
+        ensures { result ≡ record { keys = []; size = 0; patterns = 0 } }
+    {
+        States {
+            keys: Interner::new(alloc),
+            size: 0,
+            patterns: 0,
+        }
+    }
+
+    /// How many there are.
+    pub(crate) fn len(&self) -> usize
+        ensures { result ≡ length self.now.keys }
+    {
+        self.keys.len()
+    }
+
+    /// The key of a state, by its place among them.
+    pub(crate) fn key(&self, id: u32) -> &[u32]
+        requires { id < length self.now.keys }
+        ensures { slice_get self.now.keys id ≡ Some result.now }
+    {
+        self.keys.key(id)
+    }
+
+    /// The row of a key's state, which is a new one where the state wasn't met before.
+    pub(crate) fn add(
+        &mut self,
+        dfa: &mut OwnedDFA,
+        limits: SizeLimits,
+        key: &[u32],
+    ) -> Result<StateID, BuildError>
+        requires count { row_count dfa.old ≡ length self.old.keys + 2 }
+        requires bare { IsBare dfa.old }
+        ensures ok { IfOk result (Adds self.old dfa.old key.now self.new dfa.new) }
+        ensures is_row { IfOk result (IsRowId dfa.new) }
+        ensures rows { OnOk result (AreRows dfa.new) }
+        ensures working { (k : Keying) → CanAdd k limits self.old dfa.old key.now
+            → OnOk result (IsWorking k limits self.new dfa.new) }
+        ensures err { (k : Keying) → CanAdd k limits self.old dfa.old key.now
+            → IfErr result (λ error. IsOver k limits dfa.old error.kind) }
+    {
+        let rows = dfa.state_len();
+        prove!(self.keys.len() + 2 == rows);
+        let interned = self.keys.intern(key)?;
+        let row = interned.id as usize + 2;
+        if !interned.is_new {
+            return Ok(row_id(dfa, row));
+        }
+        add_row(dfa)?;
+        self.size += u128::from(Stepper::size(key));
+        self.patterns += Stepper::label(key).len() as u128;
+        self.check(dfa, limits)?;
+        Ok(row_id(dfa, row))
+    }
+
+    /// Refuses what passes a limit.
+    fn check(&self, dfa: &OwnedDFA, limits: SizeLimits) -> Result<(), BuildError>
+        requires { IsBare dfa.now }
+        ensures ok { OnOk result (IsWithin limits self.now dfa.now) }
+        ensures err { IfErr result (λ error. Passes limits self.now dfa.now error.kind) }
+    {
+        if self.patterns > PatternID::MAX.as_usize() as u128 {
+            return Err(BuildErrorKind::TooManyMatchPatternIDs.into());
+        }
+        if let Some(limit) = limits.table {
+            if dfa.memory_usage() > limit {
+                return Err(BuildErrorKind::DFAExceededSizeLimit { limit }.into());
+            }
+        }
+        if let Some(limit) = limits.construction {
+            if self.size > limit as u128 {
+                return Err(BuildErrorKind::DeterminizeExceededSizeLimit { limit }.into());
+            }
+        }
+        Ok(())
+    }
+}
+
+/// The id of a row, by its number.
+pub(crate) fn row_id(dfa: &OwnedDFA, row: usize) -> StateID
+    requires { row < row_count dfa.now }
+    ensures value { result ≡ row * stride dfa.now }
+    ensures is_id { IsId (ids_of dfa.now) result }
+    ensures is_row { IsRowId dfa.now result }
+    ensures rows { AreRows dfa.now }
+{
+    let rows = dfa.state_len();
+    prove!(row < rows);
+    StateID::must(row << dfa.stride2())
+}
+
+/// Adds a last row, which leads to dead.
+fn add_row(dfa: &mut OwnedDFA) -> Result<(), BuildError>
+    ensures ok { OnOk result (dfa.new ≡ with_row dfa.old) }
+    ensures fits { OnOk result (length dfa.old.words ≤ max_id) }
+    ensures err { IfErr result (λ error. IsFull dfa.old error.kind) }
+{
+    match dfa.add_empty_state() {
+        Ok(_) => Ok(()),
+        Err(AddError::TooManyStates) => Err(BuildErrorKind::TooManyStates.into()),
+        Err(AddError::Memory) => Err(BuildErrorKind::Memory.into()),
+    }
+}

@@ -1,0 +1,2 @@
+-- tables that are begun
+pub mod Begun

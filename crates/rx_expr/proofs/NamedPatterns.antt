@@ -1,0 +1,171 @@
+-- Which patterns the Match rows of an NFA name: those of its list, and no more than have ids.
+use Rattle.std.proofs.Common.{◌≡◌, ℕ, zero, suc, ◌+◌, ◌-◌, ◌<◌, ◌≤◌, Bool, true, false, Option, Some, None, List, []}
+use Rattle.std.proofs.Common.{◌∷◌, ◌++◌, length, map, subst, arith, lit<, lit≤}
+use Rattle.std.proofs.lemmas.List.{length-map}
+use Rattle.std.specs.List.{AllByRecursion as Every, list_all}
+use Rattle.rx_spec.specs.Causes.{id_count}
+use Rattle.rx_spec.specs.Edge.{begins_with_edge}
+use Rattle.rx_spec.specs.Expressions.{Expression}
+use Rattle.rx_spec.specs.Nfas.{lead_in, nfa_of, patterns_from, read_as, start_of_all}
+use Rattle.rx_spec.specs.Rows.{Row, Maker, chained, choice, compile, copies, either, loop, optional, repeated}
+use Rattle.rx_spec.specs.States.{row_at}
+use Rattle.rx_spec.specs.declared.Direction.{Direction}
+use Rattle.rx_lemmas.proofs.Every.{every-append}
+use Rattle.rx_expr.specs.NfaRows.{NamesPatterns}
+use Rattle.rx_expr.proofs.PatternRows.{length-entries}
+
+-- a row that matches names one of so many patterns
+abbrev pub Names : ℕ → Row → Type 0
+Names count (Row.Match pattern) = pattern < count
+Names count _ = Unit {0}
+
+pub named_at : (count : ℕ) (rows : List Row) → Every (Names count) rows → (q pattern : ℕ)
+    → row_at rows q ≡ Row.Match pattern → pattern < count
+named_at count [] named q pattern e = absurd (cc)
+named_at count (row ∷ rows) named zero pattern e = subst (Names count) e named.0
+named_at count (row ∷ rows) named (suc q) pattern e = named_at count rows named.1 q pattern e
+
+-- ---- the rows of one expression match nothing themselves
+
+choice_named : (count : ℕ) (greedy : Bool) (body next : ℕ) → Names count (choice greedy body next)
+choice_named count true body next = tt
+choice_named count false body next = tt
+
+abbrev AreNamed : ℕ → Maker → Type 0
+AreNamed count maker = (base next : ℕ) → Every (Names count) (maker base next).rows
+
+chained_named : (count : ℕ) (first second : Maker) → AreNamed count first → AreNamed count second
+    → AreNamed count (chained first second)
+chained_named count first second f s base next =
+    let after = second base next in
+    let place = base + length after.rows in
+    every-append (Names count) after.rows (first place after.entry).rows (s base next) (f place after.entry)
+
+either_named : (count : ℕ) (first second : Maker) → AreNamed count first → AreNamed count second
+    → AreNamed count (either first second)
+either_named count first second f s base next =
+    let a = first base next in
+    let place = base + length a.rows in
+    let b = second place next in
+    every-append (Names count) (a.rows ++ b.rows) (Row.Split a.entry b.entry ∷ [])
+    (every-append (Names count) a.rows b.rows (f base next) (s place next)) (tt, tt)
+
+copies_named : (count : ℕ) (body : Maker) → AreNamed count body → (n : ℕ) → AreNamed count (copies n body)
+unfolding copies
+copies_named count body h zero base next = tt
+copies_named count body h (suc n) base next =
+    chained_named count (copies n body) body (copies_named count body h n) h base next
+
+optional_named : (count : ℕ) (greedy : Bool) (body : Maker) → AreNamed count body → (n : ℕ)
+    → AreNamed count (optional greedy n body)
+unfolding optional
+optional_named count greedy body h zero base next = tt
+optional_named count greedy body h (suc n) base next =
+    let inner = optional greedy n body base next in
+    let place = base + length inner.rows in
+    let round = body place inner.entry in
+    every-append (Names count) (inner.rows ++ round.rows) (choice greedy round.entry next ∷ [])
+    (every-append (Names count) inner.rows round.rows (optional_named count greedy body h n base next)
+    (h place inner.entry)) (choice_named count greedy round.entry next, tt)
+
+loop_named : (count : ℕ) (greedy : Bool) (body : Maker) → AreNamed count body → AreNamed count (loop greedy body)
+loop_named count greedy body h base next =
+    (choice_named count greedy (body (base + 1) base).entry next, h (base + 1) base)
+
+repeated_named : (count least : ℕ) (most : Option ℕ) (greedy : Bool) (body : Maker) → AreNamed count body
+    → AreNamed count (repeated least most greedy body)
+repeated_named count least None greedy body h =
+    chained_named count (copies least body) (loop greedy body) (copies_named count body h least)
+    (loop_named count greedy body h)
+repeated_named count least (Some most) greedy body h =
+    chained_named count (copies least body) (optional greedy (most - least) body) (copies_named count body h least)
+    (optional_named count greedy body h (most - least))
+
+compile_named : (count : ℕ) (e : Expression) → AreNamed count (compile e)
+unfolding compile
+compile_named count Expression.Empty base next = tt
+compile_named count (Expression.Class set) base next = (tt, tt)
+compile_named count (Expression.Look look) base next = (tt, tt)
+compile_named count (Expression.Concat a b) base next =
+    chained_named count (compile a) (compile b) (compile_named count a) (compile_named count b) base next
+compile_named count (Expression.Alternate a b) base next =
+    either_named count (compile a) (compile b) (compile_named count a) (compile_named count b) base next
+compile_named count (Expression.Repeat least most greedy body) base next =
+    repeated_named count least most greedy (compile body) (compile_named count body) base next
+
+-- ---- the rows of an NFA
+
+patterns_named : (count : ℕ) (es : List Expression) (base k : ℕ) → k + length es ≤ count
+    → Every (Names count) (patterns_from base k es).rows
+unfolding patterns_from
+patterns_named count [] base k few = tt
+patterns_named count (e ∷ es) base k few =
+    let part = compile e (base + 1) base in
+    let after = base + 1 + length part.rows in
+    let below : k < count = omega arith in
+    every-append (Names count) (Row.Match k ∷ part.rows) (patterns_from after (k + 1) es).rows
+    (below, compile_named count e (base + 1) base) (patterns_named count es after (k + 1) (omega arith))
+
+start_named : (count base : ℕ) (entries : List ℕ) → Every (Names count) (start_of_all base entries).rows
+unfolding start_of_all
+start_named count base [] = (tt, tt)
+start_named count base (entry ∷ []) = tt
+start_named count base (entry ∷ (next ∷ entries)) =
+    let others = start_of_all base (next ∷ entries) in
+    every-append (Names count) others.rows (Row.Split entry others.entry ∷ [])
+    (start_named count base (next ∷ entries)) (tt, tt)
+
+lead_in_named : (count : ℕ) (at_edge : Bool) (base anchored : ℕ)
+    → Every (Names count) (lead_in at_edge base anchored).rows
+lead_in_named count true base anchored = tt
+lead_in_named count false base anchored = (tt, (tt, tt))
+
+nfa_named : (direction : Direction) (line_terminator : ℕ) (is_utf8 : Bool) (es : List Expression)
+    → Every (Names (length es)) (nfa_of direction line_terminator is_utf8 es).rows
+unfolding nfa_of
+nfa_named direction line_terminator is_utf8 es =
+    let count = length es in
+    let read = map (read_as direction) es in
+    let patterns = patterns_from 0 0 read in
+    let anchored = start_of_all (length patterns.rows) patterns.entries in
+    let base = length patterns.rows + length anchored.rows in
+    let edge = list_all (begins_with_edge direction) read in
+    let few : 0 + length read ≤ count = omega (arith, length-map es (read_as direction)) in
+    every-append (Names count) (patterns.rows ++ anchored.rows) (lead_in edge base anchored.entry).rows
+    (every-append (Names count) patterns.rows anchored.rows (patterns_named count read 0 0 few)
+    (start_named count (length patterns.rows) patterns.entries)) (lead_in_named count edge base anchored.entry)
+
+-- it has a start for each pattern
+length-start_patterns : (direction : Direction) (line_terminator : ℕ) (is_utf8 : Bool) (es : List Expression)
+    → length (nfa_of direction line_terminator is_utf8 es).start_patterns ≡ length es
+unfolding nfa_of
+length-start_patterns direction line_terminator is_utf8 es = length-entries direction es 0 0
+
+pub nfa_names_patterns : (direction : Direction) (line_terminator : ℕ) (is_utf8 : Bool) (es : List Expression)
+    → length es ≤ id_count
+    → NamesPatterns (length (nfa_of direction line_terminator is_utf8 es).start_patterns)
+    (nfa_of direction line_terminator is_utf8 es).rows
+nfa_names_patterns direction line_terminator is_utf8 es few =
+    let nfa = nfa_of direction line_terminator is_utf8 es in
+    let counted = length-start_patterns direction line_terminator is_utf8 es in
+    record {
+      few = omega arith;
+      named =
+          λ q pattern e.
+          let below : pattern < length es =
+          named_at (length es) nfa.rows (nfa_named direction line_terminator is_utf8 es) q pattern e in
+          omega arith;
+    }
+
+-- the NFAs of one row
+pub match_names_one : NamesPatterns 1 (Row.Match 0 ∷ [])
+match_names_one = record {
+  few = lit≤ tt;
+  named = λ q pattern e. named_at 1 (Row.Match 0 ∷ []) (lit< tt, tt) q pattern e;
+}
+
+pub fail_names_none : NamesPatterns 0 (Row.Fail ∷ [])
+fail_names_none = record {
+  few = lit≤ tt;
+  named = λ q pattern e. named_at 0 (Row.Fail ∷ []) (tt, tt) q pattern e;
+}

@@ -1,0 +1,100 @@
+-- A dense table as the refinement sees it: its columns are the units.
+use Rattle.std.proofs.Common.{◌≡◌, ◌≢◌, ◌<◌, ◌≤◌, ◌+◌, ◌*◌, ◌/◌, ◌^◌, ◌∙◌, ℕ, zero, suc, List, length, sym, subst}
+use Rattle.std.proofs.Common.{⊎_elim, arith}
+use Rattle.std.proofs.lemmas.Bool.{cases_eq, ne_eqb}
+use Rattle.std.proofs.lemmas.Int.Digits.{length-digits_of-le}
+use Rattle.std.proofs.lemmas.Nat.{mul-le}
+use Rattle.std.specs.Prelude.{IfOk, Result, Ok, Err, slice_index}
+use Rattle.rx_spec.specs.Tables.{IsTable}
+use Rattle.rx_base.specs.ByteClasses.{AreClasses, alphabet_len}
+use Rattle.rx_refine.specs.Moves.{Moves, next_row, read_limit, binary_digits, AreAlikeByNumber, AreToldByNumber}
+use Rattle.rx_dense.specs.Layouts.{AreRows, Layout, column, row_count, stride, table_of}
+use Rattle.rx_dense.proofs.Rows.{column_within, row-below, multiple_below}
+use Rattle.std.proofs.lemmas.Nat.{pow_pos}
+use Rattle.rx_minimize.specs.LabelNumbers.{AreByLabel}
+use Rattle.rx_minimize.specs.Blocks.{AreBlocks}
+use Rattle.rx_minimize.specs.Quotient.{AreMovesByColumn}
+use Rattle.rx_minimize.proofs.ColumnWords.{alike_by_units, told_by_units}
+
+-- the steps of a refinement fit their counter
+pub reads_few : (m : Moves) → m.rows ≤ 2147483647 → m.units ≤ 257 → read_limit m < 2 ^ 64
+reads_few m rows units =
+    let digits : binary_digits m.rows ≤ 32 = length-digits_of-le 2 32 m.rows (omega arith) (omega arith) in
+    let cells : 2 * m.units * m.rows ≤ 514 * 2147483647 =
+    mul-le (2 * m.units) m.rows 514 2147483647 (omega arith) rows in
+    let all : read_limit m ≤ 514 * 2147483647 * 32 =
+    mul-le (2 * m.units * m.rows) (binary_digits m.rows) (514 * 2147483647) 32 cells digits in
+    omega arith
+
+-- each entry of a row is a row
+pub entries_below : (l : Layout) → AreRows l → (row at : ℕ) → row < row_count l → at < alphabet_len l.classes
+    → slice_index l.words (row * stride l + at) / stride l < row_count l
+entries_below l rows row at h within =
+    let fits = rows.fits in
+    let place = multiple_below row (stride l) (length l.words) (pow_pos l.stride2) h in
+    row-below l (slice_index l.words (row * stride l + at)) (rows.next_ids (row * stride l + at) (omega arith))
+
+-- each class up to that of a byte is some byte's
+class_used : (classes : List ℕ) → AreClasses classes → (b class : ℕ) → b < 256 → class ≤ slice_index classes b
+    → (byte : ℕ) × (byte < 256) × (slice_index classes byte ≡ class)
+class_used classes are zero class h l = (0, omega arith, omega (arith, are.first))
+class_used classes are (suc b) class h l =
+    ⊎_elim (λ (e : class ≡ slice_index classes (suc b)). (suc b, h, sym e))
+    (λ (ne : class ≡ slice_index classes (suc b) → ⊥).
+    let next : slice_index classes (suc b) ≤ slice_index classes b + 1 =
+    subst (λ n. slice_index classes n ≤ slice_index classes b + 1) (omega arith) (are.by_one b (omega arith)) in
+    class_used classes are b class (omega arith) (omega arith))
+    (cases_eq class (slice_index classes (suc b)))
+
+column_used : (l : Layout) → AreClasses l.classes → (at : ℕ) → at < alphabet_len l.classes
+    → (unit : ℕ) × (unit < 257) × (column l unit ≡ at)
+column_used l are at h =
+    ⊎_elim (λ (e : at ≡ slice_index l.classes 255 + 1). (256, omega arith, sym e))
+    (λ (ne : at ≡ slice_index l.classes 255 + 1 → ⊥).
+    let byte = class_used l.classes are 255 at (omega arith) (omega arith) in
+    let low = byte.1 in
+    let other : byte.0 ≢ 256 = (λ e. omega (arith, low, e)) in
+    (byte.0, omega (arith, low), rw (ne_eqb byte.0 256 other) byte.2))
+    (cases_eq at (slice_index l.classes 255 + 1))
+
+-- the moves that are read from the words of a table
+pub record AreMovesOf (l : Layout) (m : Moves) : Type 0 where
+  pub rows : m.rows ≡ row_count l
+  pub units : m.units ≡ alphabet_len l.classes
+  pub nexts : (row at : ℕ) → row < row_count l → at < alphabet_len l.classes
+      → next_row m row at ≡ slice_index l.words (row * stride l + at) / stride l
+
+pub by_column : (l : Layout) → AreRows l → (m : Moves) (labels : List ℕ) → AreMovesOf l m
+    → AreByLabel (table_of l) labels → AreMovesByColumn (table_of l) m labels (column l)
+by_column l rows m labels of labelled = record {
+  rows = of.rows;
+  below = λ unit h. omega (arith, of.units, column_within l rows.classes unit h);
+  used = λ at h. column_used l rows.classes at (omega (arith, of.units));
+  nexts = λ row unit h within. sym (of.nexts row (column l unit) h (column_within l rows.classes unit within));
+  labelled = labelled;
+}
+
+-- the blocks of a refinement
+pub record AreRefined (m : Moves) (labels blocks : List ℕ) : Type 0 where
+  pub count : length blocks ≡ m.rows
+  pub alike : AreAlikeByNumber m labels blocks
+  pub told : AreToldByNumber m labels blocks
+
+pub refined : (l : Layout) → AreRows l → IsTable (table_of l) → {m : Moves} {labels blocks : List ℕ} → AreMovesOf l m
+    → AreByLabel (table_of l) labels → AreRefined m labels blocks → AreBlocks (table_of l) blocks
+refined l rows is {m} {labels} {blocks} of labelled are =
+    let by = by_column l rows m labels of labelled in
+    record {
+      count = are.count ∙ of.rows;
+      alike = λ x y lx ly e.
+          alike_by_units (table_of l) m labels (column l) is.nexts by x y lx ly
+          ((are.alike x y (omega (arith, of.rows)) (omega (arith, of.rows))).0 e);
+      told = λ x y lx ly ne.
+          told_by_units (table_of l) m labels (column l) is.nexts by x y lx ly
+          (are.told x y (omega (arith, of.rows)) (omega (arith, of.rows)) ne);
+    }
+
+-- two facts of what is answered are both facts of it
+pub both : {T E : Type 0} (r : Result T E) (A B : T → Type 0) → IfOk r A → IfOk r B → IfOk r (λ x. A x × B x)
+both (Ok x) A B a b = (a, b)
+both (Err e) A B a b = tt

@@ -1,0 +1,85 @@
+use Rattle.std.proofs.Common.{ap, sym, subst, length, arith}
+use Rattle.rx_dense.specs.Layouts.{Layout, stride}
+use Rattle.rx_minimize.specs.Blocks.{AreFirsts}
+use Rattle.rx_minimize.proofs.JoinedRows.{AreSteps, all_ids, joined, renamed_count, renamed_rows, rows_is}
+use Rattle.rx_minimize.proofs.JoinedRows.{starts_below, words_below}
+use Rattle.rx_minimize.proofs.rows.join_rows.Goals as goal
+
+pub remap-requires-clause-ids : goal.remap-requires-clause-ids
+remap-requires-clause-ids c =
+    all_ids c.args.dfa.now (length c.args.firsts.now) c.args.ids.now c.requires.ids (omega (arith, c.requires.two))
+
+pub move_rows-requires-clause-few : goal.move_rows-requires-clause-few
+move_rows-requires-clause-few c =
+    let e = c.remap.ensures.value in
+    omega (
+      arith,
+      renamed_count c.args.dfa.now c.args.ids.now c.remap.new.self e,
+      ap (λ (l : Layout). stride l) e,
+      c.requires.rows.few,
+    )
+
+pub move_rows-requires-clause-firsts : goal.move_rows-requires-clause-firsts
+move_rows-requires-clause-firsts c =
+    subst (λ n. AreFirsts n c.args.firsts.now)
+    (sym (renamed_rows c.args.dfa.now c.args.ids.now c.remap.new.self c.remap.ensures.value)) c.requires.firsts
+
+pub truncate_states-requires-clause-within : goal.truncate_states-requires-clause-within
+truncate_states-requires-clause-within c =
+    let s : AreSteps c.args.dfa.now c.args.firsts.now c.args.ids.now c.remap.new.self c.move_rows.new.dfa =
+    record {
+      are_rows = c.requires.rows;
+      are_starts = c.requires.starts;
+      firsts = c.requires.firsts;
+      some = (omega (arith, c.requires.two));
+      new = c.requires.ids;
+      renamed_is = c.remap.ensures.value;
+      kept = c.move_rows.ensures.rest;
+      moved = c.move_rows.ensures.moved;
+    } in
+    omega (arith, rows_is s, c.requires.ids.within)
+
+pub truncate_states-requires-clause-rows : goal.truncate_states-requires-clause-rows
+truncate_states-requires-clause-rows c =
+    let s : AreSteps c.args.dfa.now c.args.firsts.now c.args.ids.now c.remap.new.self c.move_rows.new.dfa =
+    record {
+      are_rows = c.requires.rows;
+      are_starts = c.requires.starts;
+      firsts = c.requires.firsts;
+      some = (omega (arith, c.requires.two));
+      new = c.requires.ids;
+      renamed_is = c.remap.ensures.value;
+      kept = c.move_rows.ensures.rest;
+      moved = c.move_rows.ensures.moved;
+    } in
+    words_below s
+
+pub truncate_states-requires-clause-starts : goal.truncate_states-requires-clause-starts
+truncate_states-requires-clause-starts c =
+    let s : AreSteps c.args.dfa.now c.args.firsts.now c.args.ids.now c.remap.new.self c.move_rows.new.dfa =
+    record {
+      are_rows = c.requires.rows;
+      are_starts = c.requires.starts;
+      firsts = c.requires.firsts;
+      some = (omega (arith, c.requires.two));
+      new = c.requires.ids;
+      renamed_is = c.remap.ensures.value;
+      kept = c.move_rows.ensures.rest;
+      moved = c.move_rows.ensures.moved;
+    } in
+    starts_below s
+
+pub returns : goal.returns
+returns c =
+    let s : AreSteps c.args.dfa.now c.args.firsts.now c.args.ids.now c.remap.new.self c.move_rows.new.dfa =
+    record {
+      are_rows = c.requires.rows;
+      are_starts = c.requires.starts;
+      firsts = c.requires.firsts;
+      some = (omega (arith, c.requires.two));
+      new = c.requires.ids;
+      renamed_is = c.remap.ensures.value;
+      kept = c.move_rows.ensures.rest;
+      moved = c.move_rows.ensures.moved;
+    } in
+    joined s c.remap.ensures.machine c.truncate_states.new.self c.truncate_states.ensures

@@ -1,0 +1,77 @@
+//! Rows that behave alike become one row.
+
+ghost use Rattle.std.specs.Prelude.{◌≡◌, IfOk, OnErr, OnOk};
+ghost use Rattle.rx_order.specs.RowOrder.{IsInOrder, IsPlain};
+ghost use Rattle.rx_minimize.specs.Minimized.{IsMinimized};
+ghost use Rattle.rx_minimize.specs.Partitioned.{IsPartitioned};
+
+use crate::blocks::blocks;
+use crate::numbering::Numbering;
+use crate::patterns::patterns;
+use crate::ranges::special;
+use crate::rows::join_rows;
+use rx_dense::OwnedDFA;
+use std::alloc::{AllocError, Global};
+
+/// Joins the rows of a table that behave alike. Where memory runs out, the table is as before.
+pub fn minimize(alloc: Global, dfa: &mut OwnedDFA) -> Result<(), AllocError>
+    requires in_order { IsInOrder dfa.old }
+    requires plain { IsPlain dfa.old }
+    ensures ok { OnOk result (IsMinimized dfa.old dfa.new) }
+    ensures err { OnErr result (dfa.new ≡ dfa.old) }
+{
+    let blocks = blocks(alloc, dfa)?;
+    join_blocks(alloc, dfa, &blocks)
+}
+
+/// Leaves the first row of each block, given as a number for each row. Where memory runs out, the table is as before.
+fn join_blocks(alloc: Global, dfa: &mut OwnedDFA, blocks: &[u32]) -> Result<(), AllocError>
+    requires { IsPartitioned dfa.old blocks.now }
+    ensures ok { OnOk result (IsMinimized dfa.old dfa.new) }
+    ensures err { OnErr result (dfa.new ≡ dfa.old) }
+{
+    let numbering = Numbering::new(alloc, blocks)?;
+    let patterns = patterns(alloc, dfa, &numbering.firsts)?;
+    let ids = numbering.ids(alloc, dfa.stride2())?;
+    let special = special(dfa, &numbering.firsts);
+    // The lists that are left aren't longer than those that there were.
+    match dfa.set_pattern_map(&patterns) {
+        Ok(()) => {}
+        Err(_) => return Err(AllocError),
+    }
+    join_rows(dfa, &numbering.firsts, &ids);
+    dfa.set_special(special);
+    Ok(())
+}
+
+/// A table that is to be minimized, and the blocks of its rows.
+#[derive(Drop)]
+pub struct Minimizer<'a, B = Vec<u32>> {
+    dfa: &'a mut OwnedDFA,
+    /// For each row the number of its block.
+    blocks: B,
+}
+
+impl<'a> Minimizer<'a> {
+    /// Finds the rows of a table that behave alike.
+    pub fn new(alloc: Global, dfa: &'a mut OwnedDFA) -> Result<Minimizer<'a>, AllocError>
+        requires in_order { IsInOrder dfa.old }
+        requires plain { IsPlain dfa.old }
+        ensures lent { IfOk result (λ minimizer. minimizer.dfa.ghost_name ≡ dfa.entry.ghost_name) }
+        ensures table { IfOk result (λ minimizer. minimizer.dfa.now ≡ dfa.old) }
+        ensures blocks { IfOk result (λ minimizer. IsPartitioned minimizer.dfa.now minimizer.blocks.items) }
+    {
+        let blocks = blocks(alloc, dfa)?;
+        Ok(Minimizer { dfa, blocks })
+    }
+
+    /// Joins the rows that behave alike. Where memory runs out, the table is as before.
+    pub fn run(self) -> Result<(), AllocError>
+        requires { IsPartitioned self.dfa.now self.blocks.items }
+        ensures ok { OnOk result (IsMinimized self.entry.dfa.now self.exit.0.now) }
+        ensures err { OnErr result (self.exit.0.now ≡ self.entry.dfa.now) }
+    {
+        let Minimizer { dfa, blocks } = self;
+        join_blocks(*blocks.allocator(), dfa, &blocks)
+    }
+}

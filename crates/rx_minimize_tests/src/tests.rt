@@ -1,0 +1,251 @@
+//! What no clause says: how many rows are left of tables worked by hand, and that calls succeed.
+
+ghost use Rattle.std.specs.Prelude.{◌<◌};
+ghost use Rattle.rx_spec.specs.Tables.{IsSound};
+ghost use Rattle.rx_dense.specs.Layouts.{table_of};
+
+mod checks;
+mod pairs;
+mod tables;
+
+use pairs::{Pairs, Rows};
+use rx_dense::OwnedDFA;
+use rx_minimize::{Minimizer, minimize};
+use std::alloc::Global;
+use std::process::Abort;
+use std::test::Fail;
+use tables::{Case, labels, nexts, starts, table};
+
+/// The tables, each with how many rows are left of it. A byte up to `a` leads to the first row that is named, another
+/// byte to the second, and the end mark to the third.
+const CASES: [(Case, usize); 8] = [
+    // dead and quit alone
+    (
+        Case {
+            nexts: &[0, 0, 0, 0, 0, 0],
+            matches: &[],
+            unanchored: 0,
+            anchored: 0,
+        },
+        2,
+    ),
+    // nothing to join: row 2 waits for an a, row 3 for another byte, and row 4 tells a match
+    (
+        Case {
+            nexts: &[0, 0, 0, 0, 0, 0, 3, 2, 0, 3, 4, 0, 3, 2, 0],
+            matches: &[(4, &[0])],
+            unanchored: 2,
+            anchored: 3,
+        },
+        5,
+    ),
+    // six match rows that lead to dead, with four lists
+    (
+        Case {
+            nexts: &[
+                0, 0, 0, 0, 0, 0, 5, 4, 3, 10, 6, 0, 8, 9, 7, 0, 0, 0, 0, 0, 0, 0, 0, 0, 0, 0, 0,
+                0, 0, 0, 0, 0, 0,
+            ],
+            matches: &[
+                (5, &[0]),
+                (6, &[1]),
+                (7, &[0, 1]),
+                (8, &[1, 0]),
+                (9, &[0, 1]),
+                (10, &[0]),
+            ],
+            unanchored: 2,
+            anchored: 4,
+        },
+        9,
+    ),
+    // rows 3 and 4 lead to each other, as if they were dead, and anchored searches start there
+    (
+        Case {
+            nexts: &[0, 0, 0, 0, 0, 0, 3, 5, 4, 4, 3, 4, 4, 4, 3, 4, 3, 0],
+            matches: &[(5, &[2])],
+            unanchored: 2,
+            anchored: 4,
+        },
+        4,
+    ),
+    // row 3 leads to quit, and row 4 to dead
+    (
+        Case {
+            nexts: &[0, 0, 0, 0, 0, 0, 3, 4, 5, 1, 0, 0, 0, 0, 0, 1, 0, 0],
+            matches: &[],
+            unanchored: 2,
+            anchored: 2,
+        },
+        4,
+    ),
+    // starts in row 5, of which row 2 is a copy
+    (
+        Case {
+            nexts: &[0, 0, 0, 0, 0, 0, 3, 2, 0, 4, 5, 0, 0, 0, 0, 3, 5, 0],
+            matches: &[(4, &[1])],
+            unanchored: 5,
+            anchored: 2,
+        },
+        5,
+    ),
+    // a copy of the start row that is no start row
+    (
+        Case {
+            nexts: &[0, 0, 0, 0, 0, 0, 3, 5, 0, 4, 2, 0, 0, 0, 0, 3, 2, 0],
+            matches: &[(4, &[1])],
+            unanchored: 5,
+            anchored: 0,
+        },
+        5,
+    ),
+    // a match row that is left for another with other patterns at the end mark alone
+    (
+        Case {
+            nexts: &[
+                0, 0, 0, 0, 0, 0, 3, 4, 0, 3, 3, 5, 4, 4, 6, 0, 0, 0, 0, 0, 0,
+            ],
+            matches: &[(3, &[0]), (4, &[0]), (5, &[1]), (6, &[2])],
+            unanchored: 2,
+            anchored: 2,
+        },
+        7,
+    ),
+];
+
+/// Asserts of a table that as few rows are left as can be, and that searches find in them what they found.
+fn check(rt: &impl Abort, alloc: Global, case: &Case, left: usize) -> Result<(), Fail> {
+    let mut dfa = table(rt, alloc, case)?;
+    let before = rows(alloc, &dfa)?;
+    assert_eq!(rt;
+        Pairs::new(rt, alloc, &before)?.block_count(rt),
+        left,
+        "{case:?}"
+    );
+    minimize(alloc, &mut dfa)?;
+    assert_eq!(rt; dfa.state_len(), left, "{case:?}");
+    let after = rows(alloc, &dfa)?;
+    assert_eq!(rt;
+        Pairs::new(rt, alloc, &after)?.block_count(rt),
+        left,
+        "{case:?}"
+    );
+    let both = before.beside(rt, alloc, &after)?;
+    let pairs = Pairs::new(rt, alloc, &both)?;
+    assert_eq!(rt; before.starts.len(), after.starts.len());
+    for (old, new) in before.starts.iter().zip(&after.starts) {
+        assert!(rt; *new < left && left < 1000 && before.labels.len() < 1000);
+        assert!(rt;
+            !pairs.are_apart(rt, *old, before.labels.len() + *new),
+            "{case:?}"
+        );
+    }
+    Ok(())
+}
+
+/// The rows of a table, as numbers and lists.
+fn rows(alloc: Global, dfa: &OwnedDFA) -> Result<Rows, Fail>
+    requires { IsSound (table_of dfa.now) }
+{
+    Ok(Rows {
+        nexts: nexts(alloc, dfa)?,
+        labels: labels(alloc, dfa)?,
+        starts: starts(alloc, dfa)?,
+    })
+}
+
+#[test]
+fn few_rows(rt: HostRuntime) -> Result<(), Fail> {
+    for (case, left) in &CASES {
+        check(&rt, rt.alloc(), case, *left)?;
+    }
+    Ok(())
+}
+
+/// Rows of which each leads to the next on any byte, twice so many as are named, and last to a match row. Each of the
+/// second half behaves like one of the first half, if that is asked for.
+fn chains(alloc: Global, count: usize, twice: bool) -> Result<Vec<usize>, Fail>
+    requires { count < 1000 }
+{
+    let mut nexts = Vec::new(alloc);
+    for _ in 0..6 {
+        nexts.push(0)?;
+    }
+    for row in 2..2 * count + 2 {
+        let next = if row == count + 1 && twice {
+            2 * count + 2
+        } else {
+            row + 1
+        };
+        nexts.push(next)?;
+        nexts.push(next)?;
+        nexts.push(0)?;
+    }
+    for _ in 0..3 {
+        nexts.push(0)?;
+    }
+    Ok(nexts)
+}
+
+#[test]
+fn long_chains(rt: HostRuntime) -> Result<(), Fail> {
+    let alloc = rt.alloc();
+    for (twice, left) in [(false, 1003), (true, 503)] {
+        let nexts = chains(alloc, 500, twice)?;
+        let case = Case {
+            nexts: &nexts,
+            matches: &[(1002, &[0])],
+            unanchored: 2,
+            anchored: 502,
+        };
+        let mut dfa = table(&rt, alloc, &case)?;
+        minimize(alloc, &mut dfa)?;
+        assert_eq!(rt; dfa.state_len(), left);
+    }
+    Ok(())
+}
+
+/// Asserts of a table that it has these rows and takes so much memory.
+fn check_same(
+    rt: &impl Abort,
+    alloc: Global,
+    dfa: &OwnedDFA,
+    before: &Rows,
+    memory: usize,
+) -> Result<(), Fail>
+    requires { IsSound (table_of dfa.now) }
+{
+    let after = rows(alloc, dfa)?;
+    assert!(rt; before.nexts.as_slice() == after.nexts.as_slice());
+    assert!(rt; before.labels.as_slice() == after.labels.as_slice());
+    assert!(rt; before.starts.as_slice() == after.starts.as_slice());
+    assert_eq!(rt; dfa.memory_usage(), memory);
+    Ok(())
+}
+
+#[test]
+fn refused_calls(rt: HostRuntime) -> Result<(), Fail> {
+    let alloc = rt.alloc();
+    let mut dfa = table(&rt, alloc, &CASES[3].0)?;
+    let before = rows(alloc, &dfa)?;
+    let memory = dfa.memory_usage();
+    match minimize(alloc, &mut dfa) {
+        Ok(()) => assert_eq!(rt; dfa.state_len(), 4),
+        Err(_) => check_same(&rt, alloc, &dfa, &before, memory)?,
+    }
+    Ok(())
+}
+
+#[test]
+fn refused_minimizers(rt: HostRuntime) -> Result<(), Fail> {
+    let alloc = rt.alloc();
+    let mut dfa = table(&rt, alloc, &CASES[3].0)?;
+    let before = rows(alloc, &dfa)?;
+    let memory = dfa.memory_usage();
+    let minimizer = Minimizer::new(alloc, &mut dfa)?;
+    match minimizer.run() {
+        Ok(()) => assert_eq!(rt; dfa.state_len(), 4),
+        Err(_) => check_same(&rt, alloc, &dfa, &before, memory)?,
+    }
+    Ok(())
+}

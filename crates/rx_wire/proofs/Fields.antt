@@ -1,0 +1,73 @@
+-- What was written is read back, in either order, whatever follows: numbers, ids and bytes.
+use Rattle.std.proofs.Common.{◌≡◌, ℕ, ◌^◌, ◌<◌, ◌≤◌, false, true, ltb, leb, List, ◌++◌, length, refl, arith}
+use Rattle.std.specs.Int.{Width, w16, w32, w128, byte_len}
+use Rattle.std.proofs.lemmas.Bool.{le-ltb}
+use Rattle.std.proofs.lemmas.List.{take_at, drop_at, length-append}
+use Rattle.std.proofs.lemmas.Nat.{from_le_bytes-to_le_bytes_2, from_be_bytes-to_be_bytes_2}
+use Rattle.std.proofs.lemmas.Nat.{from_le_bytes-to_le_bytes_4, from_be_bytes-to_be_bytes_4}
+use Rattle.rx_spec.specs.Causes.{max_id}
+use Rattle.rx_wire.specs.declared.order.Order.{Order}
+use Rattle.rx_wire.specs.Kinds.{Kind, Reads}
+use Rattle.rx_wire.specs.Fields.{bytes_at, field, id_at, number, number_at}
+use Rattle.rx_wire.proofs.WideNumbers.{again128}
+
+-- what is true of a width, for numbers below a limit
+record IsWidth (w : Width) (limit : ℕ) : Type 0 where
+  pub len : (order : Order) (n : ℕ) → length (field order w n) ≡ byte_len w
+  pub again : (order : Order) (n : ℕ) → n < limit → number order w (field order w n) ≡ n
+
+read_back : {w : Width} {limit : ℕ} → IsWidth w limit → (order : Order) (n : ℕ) → n < limit
+    → Reads (number_at order w) (field order w n) n
+unfolding number_at
+read_back {w} width order n h rest =
+    let text = field order w n in
+    let len = width.len order n in
+    let enough : ltb (length (text ++ rest)) (byte_len w) ≡ false =
+          le-ltb _ _ (omega (arith, length-append text rest)) in
+    rw (enough, take_at text rest (byte_len w) len, drop_at text rest (byte_len w) len, width.again order n h) refl
+
+-- ---- two, four and 16 bytes
+
+pub length-field_16 : (order : Order) (n : ℕ) → length (field order w16 n) ≡ 2
+length-field_16 Order.Little n = refl
+length-field_16 Order.Big n = refl
+
+again16 : (order : Order) (n : ℕ) → n < 2 ^ 16 → number order w16 (field order w16 n) ≡ n
+again16 Order.Little n h = from_le_bytes-to_le_bytes_2 n h
+again16 Order.Big n h = from_be_bytes-to_be_bytes_2 n h
+
+pub length-field_32 : (order : Order) (n : ℕ) → length (field order w32 n) ≡ 4
+length-field_32 Order.Little n = refl
+length-field_32 Order.Big n = refl
+
+pub again32 : (order : Order) (n : ℕ) → n < 2 ^ 32 → number order w32 (field order w32 n) ≡ n
+again32 Order.Little n h = from_le_bytes-to_le_bytes_4 n h
+again32 Order.Big n h = from_be_bytes-to_be_bytes_4 n h
+
+pub length-field_128 : (order : Order) (n : ℕ) → length (field order w128 n) ≡ 16
+length-field_128 Order.Little n = refl
+length-field_128 Order.Big n = refl
+
+pub u16_again : (order : Order) (n : ℕ) → n < 2 ^ 16 → Reads (number_at order w16) (field order w16 n) n
+u16_again order n h = read_back (record { len = length-field_16; again = again16 }) order n h
+
+pub u32_again : (order : Order) (n : ℕ) → n < 2 ^ 32 → Reads (number_at order w32) (field order w32 n) n
+u32_again order n h = read_back (record { len = length-field_32; again = again32 }) order n h
+
+pub u128_again : (order : Order) (n : ℕ) → n < 2 ^ 128 → Reads (number_at order w128) (field order w128 n) n
+u128_again order n h = read_back (record { len = length-field_128; again = again128 }) order n h
+
+-- ---- ids and bytes
+
+pub id_again : (kind : ℕ → Kind) (order : Order) (n : ℕ) → n ≤ max_id
+    → Reads (id_at kind order) (field order w32 n) n
+unfolding id_at
+id_again kind order n h rest =
+    let small : leb n max_id ≡ true = grind arith in rw (u32_again order n (omega (arith, h)) rest, small) refl
+
+pub bytes_again : (bytes : List ℕ) → Reads (bytes_at (length bytes)) bytes bytes
+unfolding bytes_at
+bytes_again bytes rest =
+    let enough : ltb (length (bytes ++ rest)) (length bytes) ≡ false =
+    le-ltb _ _ (omega (arith, length-append bytes rest)) in
+    rw (enough, take_at bytes rest (length bytes) refl, drop_at bytes rest (length bytes) refl) refl

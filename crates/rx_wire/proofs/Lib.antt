@@ -1,0 +1,8 @@
+-- 16 bytes of a number
+pub mod WideNumbers
+-- numbers, ids and bytes are read back
+pub mod Fields
+-- labels and the words of order and version are read back
+pub mod Heads
+-- one field more behind a text
+pub mod Behind

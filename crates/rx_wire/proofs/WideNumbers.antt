@@ -1,0 +1,44 @@
+-- Numbers of 16 bytes.
+use Rattle.std.proofs.Common.{◌≡◌, ℕ, zero, suc, ◌+◌, ◌*◌, ◌/◌, ◌%◌, ◌^◌, ◌<◌, refl, sym, ap, ◌∙◌, arith}
+use Rattle.std.specs.Int.{w128, byte_at, byte_worth, sum_through}
+use Rattle.std.proofs.Math.Arith.{mod-mul}
+use Rattle.std.proofs.lemmas.Grind.{common_steps}
+use Rattle.rx_wire.specs.declared.order.Order.{Order}
+use Rattle.rx_wire.specs.Fields.{field, number}
+
+swapped : (a b : ℕ) → a + b ≡ b + a
+swapped a b = omega arith
+
+some_power : (k : ℕ) → 0 < 256 ^ k
+some_power zero = omega arith
+some_power (suc k) =
+    let step : 256 ^ suc k ≡ 256 * 256 ^ k = grind (arith, common_steps) in omega (arith, step, some_power k)
+
+-- the lowest bytes of a number, each at its worth, are its remainder
+lowest_bytes : (n k : ℕ) → sum_through (λ i. byte_worth i (byte_at i n)) k ≡ n % 256 ^ suc k
+lowest_bytes n zero = refl
+lowest_bytes n (suc k) =
+    let worth : ℕ = 256 ^ suc k in
+    let step : 256 ^ suc (suc k) ≡ 256 * worth = grind (arith, common_steps) in
+    let split : n % (256 * worth) ≡ (n / worth % 256) * worth + n % worth =
+    mod-mul n {m = 256} {c = worth} (omega arith) (some_power (suc k)) in
+    ap (λ (s : ℕ). s + byte_worth (suc k) (byte_at (suc k) n)) (lowest_bytes n k)
+    ∙ swapped (n % worth) ((n / worth % 256) * worth)
+    ∙ sym split
+    ∙ ap (λ (m : ℕ). n % m) (sym step)
+
+-- a sum of 16, from its last summand on
+turned : (t0 t1 t2 t3 t4 t5 t6 t7 t8 t9 t10 t11 t12 t13 t14 t15 : ℕ)
+    → t15 + t14 + t13 + t12 + t11 + t10 + t9 + t8 + t7 + t6 + t5 + t4 + t3 + t2 + t1 + t0
+    ≡ t0 + t1 + t2 + t3 + t4 + t5 + t6 + t7 + t8 + t9 + t10 + t11 + t12 + t13 + t14 + t15
+turned t0 t1 t2 t3 t4 t5 t6 t7 t8 t9 t10 t11 t12 t13 t14 t15 = omega arith
+
+pub again128 : (order : Order) (n : ℕ) → n < 2 ^ 128 → number order w128 (field order w128 n) ≡ n
+again128 Order.Little n h = let whole : n % 256 ^ 16 ≡ n = omega (arith, h) in lowest_bytes n 15 ∙ whole
+again128 Order.Big n h =
+    let whole : n % 256 ^ 16 ≡ n = omega (arith, h) in
+    let part = λ (k : ℕ). byte_worth k (byte_at k n) in
+    turned (part 0) (part 1) (part 2) (part 3) (part 4) (part 5) (part 6) (part 7) (part 8) (part 9) (part 10)
+    (part 11) (part 12) (part 13) (part 14) (part 15)
+    ∙ lowest_bytes n 15
+    ∙ whole
