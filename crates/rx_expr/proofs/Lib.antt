@@ -17,3 +17,5 @@ pub mod NfaFacts
 pub mod RowClasses
 -- which patterns its Match rows name
 pub mod NamedPatterns
+-- whether they look for Unicode words
+pub mod UnicodeWords
