@@ -1,7 +1,7 @@
 -- Keys: what is written spells its state, and a key tells what it spells.
-use Rattle.std.proofs.Common.{◌≡◌, ℕ, ◌+◌, ◌*◌, ◌<◌, ◌≤◌, ◌==◌, ◌&&◌, leb, ltb, Bool, true, false, if◌then◌else◌, List, []}
+use Rattle.std.proofs.Common.{◌≡◌, ℕ, ◌+◌, ◌<◌, ◌≤◌, ◌==◌, ◌&&◌, leb, ltb, Bool, true, false, if◌then◌else◌, List, []}
 use Rattle.std.proofs.Common.{◌∷◌, ◌++◌, ap₂}
-use Rattle.std.proofs.Common.{◌^◌, length, take, drop, get_or, refl, ap, sym, ◌∙◌, subst, arith, length-append}
+use Rattle.std.proofs.Common.{◌^◌, length, get_or, refl, ap, sym, ◌∙◌, subst, arith, length-append}
 use Rattle.std.specs.Prelude.{All}
 use Rattle.std.proofs.Math.Seq.{take-append_seam, drop-append_seam}
 use Rattle.std.proofs.lemmas.Bool.{and_parts, leb-true, le-leb, ltb-true, lt-ltb}
@@ -120,7 +120,7 @@ bit_small : (b : Bool) → bit b ≤ 1
 bit_small true = omega arith
 bit_small false = omega arith
 
-bits_small : (f : Facts) → bits_of f < 32
+pub bits_small : (f : Facts) → bits_of f < 32
 bits_small f =
     omega (arith, bit_small f.text, bit_small f.line_terminator, bit_small f.lf, bit_small f.cr, bit_small f.word)
 
@@ -201,10 +201,10 @@ pub record IsWritten (bits : ℕ) (context : Facts) : Type 0 where
 
 -- a state as it is written, from what stands before its label and rows
 pub record WritesState (rows : List Row) (lead : List ℕ) (s : State) (bits : ℕ) (is_led : Bool) (own : List ℕ) : Type 0
-    where
-  pub context : IsWritten bits s.context
-  pub written : written lead s.rows ≡ written_as is_led own
-  pub closed : IsClosed rows s
+  where
+    pub context : IsWritten bits s.context
+    pub written : written lead s.rows ≡ written_as is_led own
+    pub closed : IsClosed rows s
 
 module _ {rows : List Row} {lead : List ℕ} {s : State} {bits : ℕ} {is_led : Bool} {own : List ℕ}
     (w : WritesState rows lead s bits is_led own) {key : List ℕ}

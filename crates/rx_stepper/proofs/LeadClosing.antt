@@ -12,7 +12,7 @@ use Rattle.rx_spec.specs.Rows.{Row}
 use Rattle.rx_spec.specs.Shallow.{IsShallow}
 use Rattle.rx_spec.specs.States.{Standing, row_at, closure, firsts}
 use Rattle.rx_lemmas.proofs.Every.{every-weaker}
-use Rattle.rx_lemmas.proofs.Firsts.{Apart, Apart-fresh, by_test}
+use Rattle.rx_lemmas.proofs.Firsts.{Apart}
 use Rattle.rx_expr.specs.Nfa.{meaning}
 use Rattle.rx_expr.specs.declared.thompson.nfa.NFA.{NFA}
 use Rattle.rx_powerset.specs.Closures.{own_by, branches_by, closed_rows}
@@ -25,7 +25,7 @@ use Rattle.rx_stepper.proofs.KeyLaws.{apart_once, rows_closed}
 use Rattle.rx_stepper.proofs.LeadPlaces.{at_in}
 use Rattle.rx_stepper.proofs.LeadSplits.{every_in}
 use Rattle.rx_stepper.proofs.LedSteps.{closed_joined}
-use Rattle.rx_stepper.proofs.Members.{In, in_here, in_nil, in_there}
+use Rattle.rx_stepper.proofs.Members.{In, in_here, in_there}
 use Rattle.rx_stepper.proofs.WrittenRows.{written_least}
 
 -- ---- rows that stand are reached from themselves alone

@@ -1,19 +1,19 @@
 -- Steps of rows that end with those of the lead-in: assertions are decided, and matches cut, in both lists by themselves.
-use Rattle.std.proofs.Common.{◌≡◌, ℕ, ◌==◌, ◌||◌, Bool, true, false, not, if◌then◌else◌, List, [], ◌∷◌, ◌++◌, filter, refl, ap}
+use Rattle.std.proofs.Common.{◌≡◌, ℕ, ◌==◌, ◌||◌, Bool, true, false, if◌then◌else◌, List, [], ◌∷◌, ◌++◌, refl, ap}
 use Rattle.std.proofs.Common.{ap₂, sym, ◌∙◌, subst, ⊎_elim}
 use Rattle.std.proofs.lemmas.Bool.{eqb-true, false_from_ne_true, or_left, or_right, or_cases}
 use Rattle.std.proofs.lemmas.List.Folds.{list_any-append}
 use Rattle.std.specs.List.{flat_map, list_any}
 use Rattle.rx_spec.specs.Rows.{Row}
-use Rattle.rx_spec.specs.States.{Passing, Standing, row_at, firsts, closure, is_match_row, to_first_match, cut}
-use Rattle.rx_spec.specs.States.{pattern_of, is_look_row}
+use Rattle.rx_spec.specs.States.{Passing, row_at, firsts, closure, is_match_row, to_first_match, cut}
+use Rattle.rx_spec.specs.States.{pattern_of}
 use Rattle.rx_spec.specs.declared.MatchKind.{MatchKind}
-use Rattle.rx_lemmas.proofs.Every.{flat_map-append_of, flat_map-flat_map}
+use Rattle.rx_lemmas.proofs.Every.{flat_map-append_of}
 use Rattle.rx_lemmas.proofs.Firsts.{by_test}
 use Rattle.rx_powerset.specs.Closures.{closed_rows}
 use Rattle.rx_stepper.specs.Leads.{without, led}
 use Rattle.rx_stepper.specs.Steps.{goes_on, matches_of}
-use Rattle.rx_stepper.proofs.Members.{In, in_cases, in_nil, was, in_here, in_there, not_in}
+use Rattle.rx_stepper.proofs.Members.{In, in_cases, in_nil, was}
 use Rattle.rx_stepper.proofs.Without.{without_nil, without_old, without_new, firsts_joined, led_gives}
 
 -- what is closed in both lists

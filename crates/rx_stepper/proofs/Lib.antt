@@ -26,3 +26,4 @@ pub mod StepLaws
 pub mod GroupLoop
 -- the parts of a stepper
 pub mod StepperParts
+pub mod ColumnSteps

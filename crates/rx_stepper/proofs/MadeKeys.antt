@@ -1,6 +1,6 @@
 -- The key of a state that is made, as it is written.
-use Rattle.std.proofs.Common.{◌≡◌, ℕ, ◌+◌, ◌^◌, ◌<◌, ◌≤◌, ◌==◌, ◌&&◌, Bool, true, false, not, if◌then◌else◌, List, [], ◌∷◌}
-use Rattle.std.proofs.Common.{◌++◌, length, refl, ap, sym, ◌∙◌, subst, arith, ⊎_elim}
+use Rattle.std.proofs.Common.{◌≡◌, ℕ, ◌^◌, ◌<◌, ◌≤◌, ◌==◌, ◌&&◌, Bool, true, false, not, if◌then◌else◌, List, [], ◌∷◌}
+use Rattle.std.proofs.Common.{◌++◌, length, refl, ap, sym, ◌∙◌, subst, arith}
 use Rattle.std.proofs.lemmas.Bool.{ne_eqb}
 use Rattle.std.proofs.lemmas.List.Elements.{recursion_from_All}
 use Rattle.std.specs.Prelude.{All}
@@ -14,11 +14,10 @@ use Rattle.rx_lemmas.proofs.Every.{every-append, every-weaker}
 use Rattle.rx_lemmas.proofs.Firsts.{by_test}
 use Rattle.rx_base.specs.FactBits.{bit, bits_of, facts_with}
 use Rattle.rx_powerset.specs.Closures.{closed_rows}
-use Rattle.rx_stepper.specs.Keys.{is_key, spelled}
 use Rattle.rx_stepper.specs.Leads.{lead_of, led, without, rows_by, written, written_as}
 use Rattle.rx_stepper.specs.Steps.{made, IsMadeKey}
 use Rattle.rx_stepper.proofs.Decisions.{closed_stands, firsts_twice}
-use Rattle.rx_stepper.proofs.KeyLaws.{AreClosed, IsClosed, IsWritten, WritesState, kept_written, key_written, once_front}
+use Rattle.rx_stepper.proofs.KeyLaws.{AreClosed, IsWritten, WritesState, kept_written, key_written, once_front}
 use Rattle.rx_stepper.proofs.KeyLaws.{spelled_is}
 use Rattle.rx_stepper.proofs.Members.{in_nil, was}
 use Rattle.rx_stepper.proofs.Without.{without_nil, without_none, without_old, without_new}

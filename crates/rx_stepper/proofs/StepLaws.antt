@@ -5,11 +5,11 @@ use Rattle.std.specs.Prelude.{slice_index, slice_index_or}
 use Rattle.std.specs.List.{flat_map, list_any}
 use Rattle.std.proofs.lemmas.Bool.{cases_lt, eq-eqb, ne_eqb}
 use Rattle.rx_spec.specs.Causes.{id_count}
-use Rattle.rx_spec.specs.Contexts.{Facts, no_facts, unit_facts}
+use Rattle.rx_spec.specs.Contexts.{Facts, no_facts}
 use Rattle.rx_spec.specs.Nfas.{Nfa}
 use Rattle.rx_spec.specs.Rows.{Row}
 use Rattle.rx_spec.specs.States.{State, Passing, Standing, Tested, row_at, closure, cut, to_first_match, fresh, firsts}
-use Rattle.rx_spec.specs.States.{decided_rows, holds_before, is_look_row, is_match_row, pattern_of, target, state_at, step}
+use Rattle.rx_spec.specs.States.{decided_rows, holds_before, is_look_row, is_match_row, pattern_of, target, step}
 use Rattle.rx_spec.specs.declared.MatchKind.{MatchKind}
 use Rattle.rx_base.specs.FactBits.{facts_with}
 use Rattle.rx_lemmas.proofs.Every.{flat_map-append_of, flat_map-flat_map}

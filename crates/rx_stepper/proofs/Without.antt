@@ -1,14 +1,14 @@
 -- A list without the members of another, and first occurrences of joined lists.
 use Rattle.std.proofs.Common.{◌≡◌, ℕ, ◌+◌, ◌==◌, Bool, true, false, List, [], ◌∷◌, ◌++◌, length, refl, ap, sym, ◌∙◌, subst}
-use Rattle.std.proofs.Common.{arith, append-nil, append_assoc, ⊎_elim}
+use Rattle.std.proofs.Common.{arith, append-nil, ⊎_elim}
 use Rattle.std.proofs.Common.{◌||◌, sum_by}
 use Rattle.std.proofs.lemmas.Bool.{or_left, eqb-true, eqb-false, eq-eqb}
 use Rattle.std.proofs.lemmas.List.Sums.{sum_by-cons}
 use Rattle.std.specs.Prelude.{Contains}
-use Rattle.std.specs.List.{flat_map, list_any}
+use Rattle.std.specs.List.{flat_map}
 use Rattle.rx_spec.specs.States.{fresh, firsts}
 use Rattle.rx_lemmas.proofs.Every.{flat_map-append_of}
-use Rattle.rx_lemmas.proofs.Firsts.{by_test, fresh_append, fresh_alike, fresh_itself, fresh_within, fresh_keeps}
+use Rattle.rx_lemmas.proofs.Firsts.{by_test, fresh_append, fresh_alike, fresh_within, fresh_keeps}
 use Rattle.rx_lemmas.proofs.Firsts.{Apart, Contains-here, Contains-nil, Contains-there, seen_true, seen_if}
 use Rattle.rx_base.specs.FactBits.{bit}
 use Rattle.rx_stepper.specs.Leads.{without, led}

@@ -1,13 +1,12 @@
 -- Rows as they are written: the own ones are the least, and there is one way.
-use Rattle.std.proofs.Common.{◌≡◌, ℕ, ◌+◌, ◌<◌, ◌==◌, ◌⊎◌, Bool, true, false, if◌then◌else◌, List, [], ◌∷◌, ◌++◌, length}
-use Rattle.std.proofs.Common.{refl, ap, ap₂, sym, ◌∙◌, subst, arith, append-nil, append_assoc, length-append, ⊎_elim}
+use Rattle.std.proofs.Common.{◌≡◌, ℕ, ◌<◌, true, false, if◌then◌else◌, List, [], ◌∷◌, ◌++◌, length}
+use Rattle.std.proofs.Common.{refl, ap, ap₂, sym, ◌∙◌, subst, arith, append-nil, append_assoc, ⊎_elim}
 use Rattle.std.proofs.lemmas.Bool.{false_from_ne_true}
 use Rattle.std.proofs.lemmas.Slice.Eq.{bytes_eq-Decides}
-use Rattle.std.specs.List.{list_any}
 use Rattle.std.specs.Str.{bytes_eq}
 use Rattle.rx_lemmas.proofs.Firsts.{Apart, by_test, seen_true}
-use Rattle.rx_stepper.specs.Leads.{without, led, Written, written_as, rows_by, split_by, written, IsLeast}
-use Rattle.rx_stepper.proofs.Members.{In, in_cases, in_nil, was, in_here, in_there, in_left, in_right, not_in, apart_last}
+use Rattle.rx_stepper.specs.Leads.{without, led, written_as, rows_by, split_by, written, IsLeast}
+use Rattle.rx_stepper.proofs.Members.{In, in_cases, in_nil, was, in_here, in_left, in_right, not_in, apart_last}
 use Rattle.rx_stepper.proofs.Without.{without_nil, without_old, without_new, without_append, without_join, without_all}
 use Rattle.rx_stepper.proofs.Without.{without_none, without_out, without_within, without_keeps}
 
@@ -189,9 +188,12 @@ pub comes_from : (front lead rest : List ℕ) (x : ℕ) → without front lead �
 comes_from front [] rest x e = let n : without front [] ≡ [] = without_nil front in absurd (cc)
 comes_from front (z ∷ zs) rest x e =
     by_test (was front z)
-    (λ f. let t = comes_from front zs rest x (sym (without_old front zs z f) ∙ e) in
-    (z ∷ t.0, t.1, ap (λ (l : List ℕ). z ∷ l) t.2,
-    λ y i. ⊎_elim (λ (s : y ≡ z). subst (In front) (sym s) f) (λ (o : In t.0 y). t.3 y o) (in_cases z y t.0 i)))
+    (λ f. let t = comes_from front zs rest x (sym (without_old front zs z f) ∙ e) in (
+      z ∷ t.0,
+      t.1,
+      ap (λ (l : List ℕ). z ∷ l) t.2,
+      λ y i. ⊎_elim (λ (s : y ≡ z). subst (In front) (sym s) f) (λ (o : In t.0 y). t.3 y o) (in_cases z y t.0 i),
+    ))
     (λ f. let n : without front (z ∷ zs) ≡ z ∷ without front zs = without_new front zs z f in
     let same : z ≡ x = cc in
     ([], zs, ap (λ (v : ℕ). v ∷ zs) same, λ y i. absurd (in_nil y i)))

@@ -16,13 +16,13 @@ matches_in steps group = list_at (map (λ v. v.items) steps.matches.items) group
 
 -- The lead-in's rows follow those of the current state, and go on before the units of a group.
 pub record Follows (current : Current) (leads : List LeadSteps) (kind : MatchKind) (group : ℕ) (steps : Steps) : Type 0
-    where
-  pub context : ℕ
-  pub lead : LeadSteps
-  pub led_in : current.led_in ≡ Some context
-  pub there : slice_get leads context ≡ Some lead
-  pub steps_are : steps ≡ lead.steps
-  pub goes_on : goes_on kind (matches_in current.steps group) ≡ true
+  where
+    pub context : ℕ
+    pub lead : LeadSteps
+    pub led_in : current.led_in ≡ Some context
+    pub there : slice_get leads context ≡ Some lead
+    pub steps_are : steps ≡ lead.steps
+    pub goes_on : goes_on kind (matches_in current.steps group) ≡ true
 
 -- what is added to a group's columns by the lead-in
 abbrev pub IsLeadOf : Current → List LeadSteps → MatchKind → ℕ → Option Steps → Type 0

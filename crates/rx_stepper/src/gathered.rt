@@ -55,11 +55,7 @@ impl Gathered {
         closures.add_patterns(matches, &mut self.label)?;
         if let Some(lead) = lead {
             self.targets.extend_from_slice(&lead.targets[column])?;
-            closures.add_other_patterns(
-                &lead.matches[group as usize],
-                matches,
-                &mut self.label,
-            )?;
+            closures.add_other_patterns(&lead.matches[group as usize], matches, &mut self.label)?;
         }
         Ok(())
     }

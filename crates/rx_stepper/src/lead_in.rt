@@ -96,12 +96,7 @@ impl LeadIn {
 
     /// Lists the rows that are reached from some rows as far as they are written, and tells whether the lead-in's others
     /// follow.
-    fn close(
-        &self,
-        closures: &mut Closures<'_>,
-        from: &[StateID],
-        own: &mut Vec<StateID>,
-    ) -> bool
+    fn close(&self, closures: &mut Closures<'_>, from: &[StateID], own: &mut Vec<StateID>) -> bool
         requires is { IsLeadIn (meaning closures.old.nfa.now) self.now }
         requires room { length (meaning closures.old.nfa.now).rows ≤ vec_capacity own.old }
         ensures nfa { closures.new.nfa.now ≡ closures.old.nfa.now }

@@ -36,10 +36,7 @@ impl LeadSteps {
     }
 
     /// Those of all contexts, of which none was found.
-    pub(crate) fn of_contexts(
-        alloc: Global,
-        columns: usize,
-    ) -> Result<Vec<LeadSteps>, AllocError>
+    pub(crate) fn of_contexts(alloc: Global, columns: usize) -> Result<Vec<LeadSteps>, AllocError>
         ensures len { IfOk result (λ v. length v.items ≡ 32) }
         ensures columns { IfOk result (λ v. All (λ l. length l.steps.targets.items ≡ columns) v.items) }
         ensures none { IfOk result (λ v. All (λ l. l.are_found ≡ false) v.items) }

@@ -1,16 +1,7 @@
-use Rattle.std.proofs.Common.{◌≡◌, ℕ, List, [], ◌-◌, ◌≤◌, length, take, drop, get_or, ap, sym, ◌∙◌, arith, length-drop}
+use Rattle.std.proofs.Common.{◌≡◌, ℕ, List, [], ◌-◌, length, take, drop, get_or, ap, sym, ◌∙◌, arith, length-drop}
 use Rattle.std.proofs.lemmas.List.{take_all, nil_from_length}
-use Rattle.std.proofs.Math.ListN.{drop_of_length-le}
 use Rattle.rx_stepper.specs.Keys.{label_of}
 use Rattle.rx_stepper.proofs.keys.label_of.Goals as goal
-use Rattle.rx_stepper.proofs.KeyLaws.{kept_written}
-use Rattle.rx_stepper.proofs.LedSteps.{closed_led}
-use Rattle.rx_stepper.proofs.MadeKeys.{made_key}
-use Rattle.rx_stepper.proofs.LeadSplits.{shared_within}
-use Rattle.rx_stepper.proofs.StampedSearch.{all_met}
-use Rattle.rx_stepper.proofs.LeadPlaces.{least_none}
-use Rattle.rx_stepper.proofs.StepLaws.{step_made}
-use Rattle.rx_stepper.proofs.GroupLoop.{stand}
 
 all_numbers : (key : List ℕ) → take (length key - 4) (drop 4 key) ≡ drop 4 key
 all_numbers key = take_all (length key - 4) (drop 4 key) (omega (arith, length-drop 4 key))

@@ -1,4 +1,4 @@
-use Rattle.std.proofs.Common.{◌≡◌, ◌<◌, ℕ, ◌+◌, length, set, ap, sym, ◌∙◌, subst, arith, length-set}
+use Rattle.std.proofs.Common.{◌<◌, ◌+◌, length, set, ap, sym, ◌∙◌, subst, arith, length-set}
 use Rattle.std.proofs.lemmas.List.{length-replicate}
 use Rattle.rx_stepper.specs.Places.{no_place}
 use Rattle.rx_stepper.proofs.KeyLaws.{once_apart}
@@ -9,10 +9,10 @@ pub loop-place-init : goal.loop-place-init
 loop-place-init c =
     let same = c.in_ok-places.ensures.items_if_clones_equal (λ y e. e) in
     record {
-  len = ap length same ∙ length-replicate c.args.count no_place;
-  placed =
-      placed_none c.args.count same (omega (arith, c.requires.few));
-}
+      len = ap length same ∙ length-replicate c.args.count no_place;
+      placed =
+          placed_none c.args.count same (omega (arith, c.requires.few));
+    }
 
 pub loop-place-preserved : goal.loop-place-preserved
 loop-place-preserved c =

@@ -1,4 +1,4 @@
-use Rattle.std.proofs.Common.{◌++◌, ◌∷◌, ◌+◌, drop, ap, ap₂, sym, ◌∙◌, append-nil, append_assoc, subst, ◌≡◌}
+use Rattle.std.proofs.Common.{◌++◌, ◌∷◌, ◌+◌, drop, ap, sym, ◌∙◌, append-nil, append_assoc}
 use Rattle.std.proofs.Math.ListN.{drop_of_length-le}
 use Rattle.std.proofs.lemmas.List.{drop_more}
 use Rattle.rx_spec.specs.States.{pattern_of, row_at}

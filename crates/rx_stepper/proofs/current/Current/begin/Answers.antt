@@ -1,11 +1,11 @@
-use Rattle.std.proofs.Common.{◌≡◌, ◌≤◌, ◌++◌, if◌then◌else◌, List, ℕ, true, map, None, Some, ap, ap₂, sym, ◌∙◌, subst}
+use Rattle.std.proofs.Common.{◌≤◌, ◌++◌, if◌then◌else◌, List, ℕ, map, None, Some, ap, ap₂, sym, ◌∙◌, subst}
 use Rattle.std.specs.Prelude.{All, slice_index}
 use Rattle.std.proofs.lemmas.List.Elements.{All-from_recursion}
 use Rattle.rx_spec.specs.Causes.{max_id}
 use Rattle.rx_spec.specs.Contexts.{Facts}
 use Rattle.rx_base.specs.FactBits.{bits_of, facts_with}
 use Rattle.rx_expr.specs.Nfa.{meaning}
-use Rattle.rx_stepper.specs.Keys.{are_closed, led_of, own_of}
+use Rattle.rx_stepper.specs.Keys.{are_closed, own_of}
 use Rattle.rx_stepper.specs.Steps.{AreSteps, rows_in}
 use Rattle.rx_stepper.proofs.GroupLoop.{stand}
 use Rattle.rx_stepper.proofs.KeyLaws.{rows_tested}

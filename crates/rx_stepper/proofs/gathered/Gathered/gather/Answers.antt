@@ -1,5 +1,5 @@
-use Rattle.std.proofs.Common.{◌≡◌, ◌<◌, ◌++◌, [], List, ℕ, length, map, ap, ap₂, sym, ◌∙◌, subst, append-nil, arith}
-use Rattle.std.specs.Prelude.{IfSome, Option}
+use Rattle.std.proofs.Common.{◌<◌, ◌++◌, [], length, ap, ap₂, sym, ◌∙◌, subst, append-nil, arith}
+use Rattle.std.specs.Prelude.{IfSome}
 use Rattle.std.specs.Option.{option_map_or}
 use Rattle.rx_spec.specs.States.{pattern_of, row_at}
 use Rattle.rx_lemmas.proofs.Every.{flat_map-append_of}

@@ -1,11 +1,10 @@
-use Rattle.std.proofs.Common.{◌≡◌, ◌<◌, ◌≤◌, ◌++◌, List, ℕ, true, length, take, drop, ap, sym, ◌∙◌, subst, arith}
+use Rattle.std.proofs.Common.{◌≡◌, ◌<◌, List, ℕ, true, length, take, drop, ap, sym, ◌∙◌, subst, arith}
 use Rattle.std.proofs.Common.{length-take, take-append-drop}
 use Rattle.std.specs.List.{AllByRecursion as Every}
 use Rattle.rx_spec.specs.Causes.{id_count}
-use Rattle.rx_spec.specs.States.{Standing, firsts}
+use Rattle.rx_spec.specs.States.{firsts}
 use Rattle.rx_lemmas.proofs.Firsts.{Apart}
 use Rattle.rx_expr.specs.Nfa.{meaning}
-use Rattle.rx_powerset.specs.Closures.{closed_rows}
 use Rattle.rx_stepper.specs.Leads.{IsLeast, lead_of, led, written, written_as}
 use Rattle.rx_stepper.specs.Stamps.{is_met}
 use Rattle.rx_stepper.proofs.Decisions.{firsts_twice}

@@ -1,10 +1,9 @@
-use Rattle.std.proofs.Common.{◌≡◌, ◌+◌, ◌<◌, ◌≤◌, ℕ, drop, get_or, length, ap, sym, ◌∙◌, subst, arith}
+use Rattle.std.proofs.Common.{◌+◌, ◌<◌, drop, get_or, length, ap, sym, ◌∙◌, arith}
 use Rattle.rx_stepper.proofs.LeadSplits.{equal, unequal, follows_ends, follows_next, follows_other, follows_passed, follows_short}
 use Rattle.std.specs.Str.{bytes_eq}
 use Rattle.rx_stepper.specs.Leads.{without}
 use Rattle.rx_stepper.proofs.lead_in.LeadIn.follows.Goals as goal
 use Rattle.rx_stepper.proofs.lead_in.LeadIn.follows.Goals.{then-not-is_among+else-place-rows+else-ne, else-not-is_among}
-
 
 pub returns-then-place-rows : goal.returns-then-place-rows
 returns-then-place-rows c =

@@ -1,4 +1,4 @@
-use Rattle.std.proofs.Common.{◌≡◌, ◌<◌, ℕ, get_or, length, ap, sym, ◌∙◌, subst, arith}
+use Rattle.std.proofs.Common.{◌<◌, get_or, length, ap, sym, ◌∙◌, subst, arith}
 use Rattle.rx_stepper.specs.Places.{AreMetTo}
 use Rattle.rx_stepper.specs.Stamps.{is_met}
 use Rattle.rx_stepper.proofs.LeadPlaces.{met_all, met_more, met_to}

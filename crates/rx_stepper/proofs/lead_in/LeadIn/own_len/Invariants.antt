@@ -1,4 +1,3 @@
-use Rattle.std.proofs.Common.{ℕ}
 use Rattle.rx_stepper.proofs.LeadPlaces.{Trimmed}
 use Rattle.rx_stepper.proofs.lead_in.LeadIn.own_len.Given as goal
 

@@ -6,7 +6,7 @@ use Rattle.rx_spec.specs.States.{firsts, is_look_row, row_at}
 use Rattle.rx_base.specs.FactBits.{bit, facts_with}
 use Rattle.rx_expr.specs.Nfa.{meaning}
 use Rattle.rx_expr.specs.declared.thompson.nfa.NFA.{NFA}
-use Rattle.rx_stepper.specs.Leads.{lead_of, rows_by}
+use Rattle.rx_stepper.specs.Leads.{rows_by}
 use Rattle.rx_stepper.proofs.MadeKeys.{WritesRows, dead_made, key_made, own_once}
 use Rattle.rx_stepper.proofs.lead_in.LeadIn.write_key.Goals as goal
 

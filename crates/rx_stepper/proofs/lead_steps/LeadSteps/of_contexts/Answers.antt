@@ -1,4 +1,4 @@
-use Rattle.std.proofs.Common.{◌≡◌, List, false, length, sym, subst, rules}
+use Rattle.std.proofs.Common.{◌≡◌, false, length, sym, subst, rules}
 use Rattle.std.proofs.lemmas.List.Elements.{All-push}
 use Rattle.std.specs.Prelude.{All}
 use Rattle.rx_stepper.specs.declared.lead_steps.LeadSteps.{LeadSteps}

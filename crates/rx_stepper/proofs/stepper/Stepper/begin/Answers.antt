@@ -1,4 +1,4 @@
-use Rattle.std.proofs.Common.{◌≡◌, ◌+◌, ◌<◌, ◌≤◌, true, length, ap, sym, ◌∙◌, subst, arith}
+use Rattle.std.proofs.Common.{◌≡◌, true, length, ap, sym, ◌∙◌, subst, arith}
 use Rattle.rx_spec.specs.Nfas.{Nfa}
 use Rattle.rx_expr.specs.Nfa.{meaning}
 use Rattle.rx_expr.specs.declared.thompson.nfa.NFA.{NFA}
@@ -49,7 +49,7 @@ invariant_of-self c =
     let current = begun_current (table self.closures.nfa.now) self.leads.items new
     (begun.columns ∙ self.fits_current.columns) c.in-Ok.ensures.key
     (c.in-Ok.ensures.steps (units_of self.classes) self.fits.reads self.fits.groups) c.in-Ok.ensures.led_in
-    c.in_ok-find_lead.ensures in
+    c.in_ok-find_lead.ensures.found in
     record {
       fits = subst (λ (n : NFA). Fits (meaning n) self.classes self.columns) e self.fits;
       fits_lead = subst (λ (n : NFA). FitsLead (table n) self.lead_in self.leads.items) e self.fits_lead;

@@ -1,7 +1,6 @@
-use Rattle.std.proofs.Common.{◌≡◌, ◌<◌, List, ℕ, true, Some, length, map, set, ap, sym, ◌∙◌, subst, arith}
-use Rattle.std.specs.Prelude.{slice_get}
+use Rattle.std.proofs.Common.{◌≡◌, ◌<◌, List, ℕ, true, length, map, set, ap, sym, ◌∙◌, subst, arith}
 use Rattle.rx_spec.specs.Contexts.{Facts}
-use Rattle.rx_base.specs.FactBits.{bits_of, facts_with}
+use Rattle.rx_base.specs.FactBits.{bits_of}
 use Rattle.rx_expr.specs.Nfa.{meaning}
 use Rattle.rx_expr.specs.declared.thompson.nfa.NFA.{NFA}
 use Rattle.rx_stepper.specs.Fits.{Fits, FitsCurrent, FitsLead, table_of}

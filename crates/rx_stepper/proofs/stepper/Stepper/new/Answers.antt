@@ -7,7 +7,6 @@ use Rattle.rx_stepper.specs.Fits.{Fits, FitsCurrent, FitsLead, table_of}
 use Rattle.rx_stepper.specs.LeadIns.{IsLeadIn}
 use Rattle.rx_stepper.specs.Leads.{lead_of}
 use Rattle.rx_stepper.specs.Steppers.{stepping_of}
-use Rattle.rx_stepper.specs.Units.{units_of}
 use Rattle.rx_stepper.proofs.KeyLaws.{ids_spelled, one_key_each, spelled_size, spelled_small, spells}
 use Rattle.rx_stepper.proofs.StepperParts.{dead_current, no_leads}
 use Rattle.rx_stepper.proofs.UnitCounts.{units_counted}

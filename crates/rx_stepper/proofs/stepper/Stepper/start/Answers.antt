@@ -1,4 +1,4 @@
-use Rattle.std.proofs.Common.{◌≡◌, List, ℕ, [], ◌∷◌, length, ap, ap₂, sym, ◌∙◌, subst, arith}
+use Rattle.std.proofs.Common.{[], ◌∷◌, length, ap, ap₂, sym, ◌∙◌, subst, arith}
 use Rattle.rx_spec.specs.Builds.{is_dead_state}
 use Rattle.rx_spec.specs.Contexts.{Facts, both, facts_kept, start_facts}
 use Rattle.rx_base.specs.FactBits.{bits_of}
