@@ -1,6 +1,6 @@
 -- Closures that are written behind the lead-in, or without it.
-use Rattle.std.proofs.Common.{◌≡◌, ℕ, zero, suc, ◌<◌, ◌≤◌, ◌==◌, ◌&&◌, not, Bool, true, false, if◌then◌else◌, List, [], ◌∷◌}
-use Rattle.std.proofs.Common.{◌++◌, length, take, refl, ap, sym, ◌∙◌, subst, arith, ⊎_elim}
+use Rattle.std.proofs.Common.{◌≡◌, ℕ, zero, suc, ◌<◌, ◌≤◌, ◌==◌, ◌&&◌, not, Bool, true, false, if◌then◌else◌, List, []}
+use Rattle.std.proofs.Common.{◌∷◌, ◌++◌, length, take, refl, ap, sym, ◌∙◌, subst, arith, ⊎_elim}
 use Rattle.std.proofs.lemmas.Bool.{and_parts, cases_lt, eq-eqb, eqb-true}
 use Rattle.std.proofs.lemmas.Option.{slice_get_past}
 use Rattle.std.proofs.lemmas.List.Elements.{recursion_from_All}
@@ -34,7 +34,8 @@ stand_alone : (rows : List Row) → IsShallow rows → (q : ℕ) → stands (row
     → closure rows Standing q ≡ q ∷ []
 stand_alone rows shallow q s = closure_unfolds rows Standing shallow q ∙ by_row (row_at rows q) s
   where
-    by_row : (r : Row) → stands r ≡ true → own_by Standing q r ++ flat_map (closure rows Standing) (branches_by Standing r) ≡ q ∷ []
+    by_row : (r : Row) → stands r ≡ true → own_by Standing q r
+        ++ flat_map (closure rows Standing) (branches_by Standing r) ≡ q ∷ []
     by_row (Row.Bytes set next) s = refl
     by_row (Row.Split first second) s = absurd (cc)
     by_row (Row.Look look next) s = refl

@@ -1,6 +1,6 @@
 -- The front of rows that has to be written, found by the places of the lead-in's rows.
-use Rattle.std.proofs.Common.{◌≡◌, ℕ, zero, suc, ◌+◌, ◌-◌, ◌<◌, ◌≤◌, ◌==◌, Bool, true, false, List, [], ◌∷◌, ◌++◌, length}
-use Rattle.std.proofs.Common.{take, drop, get_or, refl, ap, sym, ◌∙◌, subst, arith, append_assoc, length-append}
+use Rattle.std.proofs.Common.{◌≡◌, ℕ, zero, suc, ◌+◌, ◌-◌, ◌<◌, ◌≤◌, ◌==◌, Bool, true, false, List, [], ◌∷◌, ◌++◌}
+use Rattle.std.proofs.Common.{length, take, drop, get_or, refl, ap, sym, ◌∙◌, subst, arith, append_assoc, length-append}
 use Rattle.std.proofs.Common.{length-take, take-append-drop, ⊎_elim}
 use Rattle.std.proofs.Math.Seq.{take-length}
 use Rattle.std.proofs.lemmas.List.{take_more}
@@ -139,14 +139,16 @@ last_row own len {x} h k e =
       front_is = refl;
     }
 
-module _ {lead own places : List ℕ} (places_are : ArePlaces lead places) (lead_apart : Apart lead) (own_apart : Apart own)
+module _ {lead own places : List ℕ} (places_are : ArePlaces lead places) (lead_apart : Apart lead)
+    (own_apart : Apart own)
     {len met x : ℕ} {front : List ℕ} (t : Trimmed lead own len met) (l : LastRow own len front x) where
   abbrev place : ℕ
   place = slice_index_or places x no_place
 
   front_apart : Apart (front ++ x ∷ [])
   front_apart =
-      subst Apart l.whole (apart_front (take len own) (drop len own) (subst Apart (sym (take-append-drop len own)) own_apart))
+      subst Apart l.whole (apart_front (take len own) (drop len own)
+      (subst Apart (sym (take-append-drop len own)) own_apart))
 
   -- it would come again at once
   module _ (again : place < met) where

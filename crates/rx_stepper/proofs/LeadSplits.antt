@@ -62,7 +62,8 @@ module _ {lead rows : List ℕ} {len : ℕ} (s : IsSplitFrom lead rows len) (h :
   }
 
 -- how rows are written where there is no lead-in, and where there is one
-pub written_none : (lead rows : List ℕ) → None ≡ slice_get lead (length lead - 1) → written lead rows ≡ written_as false rows
+pub written_none : (lead rows : List ℕ) → None ≡ slice_get lead (length lead - 1) → written lead rows
+    ≡ written_as false rows
 written_none [] rows e = refl
 written_none (x ∷ xs) rows e =
     let there = at_or (x ∷ xs) (length (x ∷ xs) - 1) {q = get_or (x ∷ xs) (length (x ∷ xs) - 1) x} (omega arith)

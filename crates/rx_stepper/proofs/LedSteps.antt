@@ -1,12 +1,12 @@
--- Steps of rows that end with those of the lead-in: assertions are decided, and matches cut, in both lists by themselves.
-use Rattle.std.proofs.Common.{◌≡◌, ℕ, ◌==◌, ◌||◌, Bool, true, false, if◌then◌else◌, List, [], ◌∷◌, ◌++◌, refl, ap}
-use Rattle.std.proofs.Common.{ap₂, sym, ◌∙◌, subst, ⊎_elim}
+-- Steps of rows that end with those of the lead-in: assertions are decided, and matches cut, in both lists by
+-- themselves.
+use Rattle.std.proofs.Common.{◌≡◌, ℕ, ◌==◌, ◌||◌, Bool, true, false, if◌then◌else◌, List, [], ◌∷◌, ◌++◌, refl, ap, ap₂}
+use Rattle.std.proofs.Common.{sym, ◌∙◌, subst, ⊎_elim}
 use Rattle.std.proofs.lemmas.Bool.{eqb-true, false_from_ne_true, or_left, or_right, or_cases}
 use Rattle.std.proofs.lemmas.List.Folds.{list_any-append}
 use Rattle.std.specs.List.{flat_map, list_any}
 use Rattle.rx_spec.specs.Rows.{Row}
-use Rattle.rx_spec.specs.States.{Passing, row_at, firsts, closure, is_match_row, to_first_match, cut}
-use Rattle.rx_spec.specs.States.{pattern_of}
+use Rattle.rx_spec.specs.States.{Passing, row_at, firsts, closure, is_match_row, to_first_match, cut, pattern_of}
 use Rattle.rx_spec.specs.declared.MatchKind.{MatchKind}
 use Rattle.rx_lemmas.proofs.Every.{flat_map-append_of}
 use Rattle.rx_lemmas.proofs.Firsts.{by_test}
@@ -151,7 +151,8 @@ module _ (rows : List Row) where
       ∙ sym (ap (matches_of rows) (first_at q qs e)) ∙ h in cc))
       (λ e. ap₂ (λ (a b : Bool). a || b) e
       (cut_none qs
-      (sym (ap (λ b. if b then q ∷ matches_of rows (to_first_match rows qs) else matches_of rows (to_first_match rows qs)) e)
+      (sym (ap (λ b. if b then q ∷ matches_of rows (to_first_match rows qs) else matches_of rows
+      (to_first_match rows qs)) e)
       ∙ sym (ap (matches_of rows) (first_later q qs e)) ∙ h)))
 
   cut_some : (qs : List ℕ) (x : ℕ) (xs : List ℕ) → matches_of rows (to_first_match rows qs) ≡ x ∷ xs
@@ -231,14 +232,17 @@ module _ (rows : List Row) where
       by_test (is_match_row (row_at rows x))
       (λ m. by_test (was seen x)
       (λ e. ap patterns (without_old seen xs x e) ∙ patterns_without seen xs
-      ∙ sym (ap patterns (ap (λ b. without (matches_of rows seen) (if b then x ∷ matches_of rows xs else matches_of rows xs)) m
+      ∙ sym (ap patterns (ap (λ b. without (matches_of rows seen)
+      (if b then x ∷ matches_of rows xs else matches_of rows xs)) m
       ∙ without_old (matches_of rows seen) (matches_of rows xs) x (sym (match_in seen x m) ∙ e))))
       (λ e. ap patterns (without_new seen xs x e)
       ∙ ap (λ (l : List ℕ). pattern_of (row_at rows x) ++ l) (patterns_without seen xs)
-      ∙ sym (ap patterns (ap (λ b. without (matches_of rows seen) (if b then x ∷ matches_of rows xs else matches_of rows xs)) m
+      ∙ sym (ap patterns (ap (λ b. without (matches_of rows seen)
+      (if b then x ∷ matches_of rows xs else matches_of rows xs)) m
       ∙ without_new (matches_of rows seen) (matches_of rows xs) x (sym (match_in seen x m) ∙ e)))))
       (λ m. let nothing = plain_pattern (row_at rows x) m in
-      let rest = ap (λ b. patterns (without (matches_of rows seen) (if b then x ∷ matches_of rows xs else matches_of rows xs))) m in
+      let rest = ap (λ b. patterns (without (matches_of rows seen)
+      (if b then x ∷ matches_of rows xs else matches_of rows xs))) m in
       by_test (was seen x)
       (λ e. ap patterns (without_old seen xs x e) ∙ patterns_without seen xs ∙ sym rest)
       (λ e. ap patterns (without_new seen xs x e)

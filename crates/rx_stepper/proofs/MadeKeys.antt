@@ -100,12 +100,14 @@ module _ {nfa : Nfa} {from own : List ℕ} {is_led : Bool} (w : WritesRows nfa f
       → ((length closed == 0) && (length label == 0)) ≡ (not b && (length xs == 0) && (length label == 0))
   dead_by true xs label e some =
       ap (λ t. t && (length label == 0))
-      (ap (λ l. length l == 0) (sym e) ∙ not_zero (length (led xs (lead_of nfa))) (led_some (lead_of nfa) xs (some refl)))
+      (ap (λ l. length l == 0) (sym e) ∙ not_zero (length (led xs (lead_of nfa)))
+      (led_some (lead_of nfa) xs (some refl)))
   dead_by false xs label e some = ap (λ l. (length l == 0) && (length label == 0)) (sym e)
 
   pub dead_made : (asked : Facts) (label : List ℕ) → is_dead_state (made nfa from asked label)
       ≡ (not is_led && (length own == 0) && (length label == 0))
-  dead_made asked label = dead_by is_led own label rows_are (λ t. led_somewhere (lead_of nfa) closed (w.written ∙ ap (λ b. written_as b own) t))
+  dead_made asked label = dead_by is_led own label rows_are
+      (λ t. led_somewhere (lead_of nfa) closed (w.written ∙ ap (λ b. written_as b own) t))
 
   -- the key as it is written, from what its parts are found to be
   pub key_made : (group : ℕ) {label key : List ℕ} {bits count : ℕ} → group ≡ bits_of (facts_with group)
@@ -117,6 +119,7 @@ module _ {nfa : Nfa} {from own : List ℕ} {is_led : Bool} (w : WritesRows nfa f
   key_made group {label} {key} {bits} {count} number asks counted patterns few alive e =
       let looks = λ (l : List ℕ). list_any (λ q. is_look_row (row_at nfa.rows q)) l in
       made_key
-      (kept_written (looks closed) (facts_with group) (asks ∙ ap (λ l. if looks l then group else 0) rows_are) number refl)
+      (kept_written (looks closed) (facts_with group)
+      (asks ∙ ap (λ l. if looks l then group else 0) rows_are) number refl)
       (recursion_from_All (λ k. k ≤ max_id) label patterns) few (dead_made (facts_with group) label ∙ alive)
       (e ∙ ap (λ n. bits ∷ (length label ∷ (n ∷ (bit is_led ∷ (label ++ own))))) (counted ∙ ap length rows_are))

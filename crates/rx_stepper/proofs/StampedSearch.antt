@@ -1,7 +1,7 @@
 -- A turn of a search whose flags can be told from those before and the row that is met, with a stack in front of rows
 -- that are still given.
-use Rattle.std.proofs.Common.{◌≡◌, ℕ, ◌+◌, ◌<◌, ◌≤◌, ◌==◌, ◌||◌, ◌⊎◌, inl, inr, Bool, true, false, not, if◌then◌else◌, List}
-use Rattle.std.proofs.Common.{[], ◌∷◌, ◌++◌, get_or, drop, reverse, length, refl, ap, sym, ◌∙◌, subst, arith}
+use Rattle.std.proofs.Common.{◌≡◌, ℕ, ◌+◌, ◌<◌, ◌≤◌, ◌==◌, ◌||◌, ◌⊎◌, inl, inr, Bool, true, false, not, if◌then◌else◌}
+use Rattle.std.proofs.Common.{List, [], ◌∷◌, ◌++◌, get_or, drop, reverse, length, refl, ap, sym, ◌∙◌, subst, arith}
 use Rattle.std.proofs.Common.{append_assoc, ⊎_elim}
 use Rattle.std.proofs.Math.ListN.{drop_of_length-le}
 use Rattle.std.proofs.lemmas.Bool.{cases_lt, or_left, or_right, or_cases, eqb-true, eq-eqb}
@@ -15,7 +15,8 @@ use Rattle.rx_spec.specs.Shallow.{IsShallow}
 use Rattle.rx_spec.specs.States.{Passing, row_at, closure}
 use Rattle.rx_powerset.specs.Closures.{own_by, branches_by, closed_rows}
 use Rattle.rx_powerset.proofs.Closures.{graph_of, closure_unfolds}
-use Rattle.rx_powerset.proofs.Search.{Graph, In, Listed, Notes, Searching, in_nil, search_passes, search_turns, search_ends}
+use Rattle.rx_powerset.proofs.Search.{Graph, In, Listed, Notes, Searching, in_nil, search_passes, search_turns}
+use Rattle.rx_powerset.proofs.Search.{search_ends}
 use Rattle.rx_powerset.proofs.StackSearch.{popped}
 use Rattle.rx_stepper.specs.Stamps.{is_met, unmet}
 use Rattle.rx_stepper.proofs.Members.{same_test}
@@ -138,7 +139,8 @@ module _ (g : Graph) {target : List ℕ} {seen : ℕ → Bool} {out : List ℕ} 
           listed : Listed g out [] q → In out q
           listed l = go l.above l.below l.split l.given
             where
-              go : (above below : List ℕ) → [] ≡ above ++ below → ((x : ℕ) → In (g.gives q) x → In out x ⊎ In (flat_map g.gives above) x) → In out q
+              go : (above below : List ℕ) → [] ≡ above ++ below
+                  → ((x : ℕ) → In (g.gives q) x → In out x ⊎ In (flat_map g.gives above) x) → In out q
               go [] below split given =
                   ⊎_elim (λ (o : In out q). o) (λ (n : In [] q). absurd (in_nil q n))
                   (given q (subst (λ l. In l q) (sym one) (or_left (q == q) false (eq-eqb q q refl))))

@@ -16,8 +16,8 @@ use Rattle.rx_lemmas.proofs.Every.{flat_map-append_of, flat_map-flat_map}
 use Rattle.rx_powerset.specs.Closures.{closed_rows}
 use Rattle.rx_stepper.specs.Columns.{list_at, only_if, asked_of, AreGroups, AreUsed}
 use Rattle.rx_stepper.specs.Leads.{led, without}
-use Rattle.rx_stepper.specs.Steps.{Stand, going, going_by, goes_on, matches_of, patterns_of, rows_in, made}
-use Rattle.rx_stepper.specs.Steps.{IsStep, AreSteps, AreEmpty}
+use Rattle.rx_stepper.specs.Steps.{Stand, going, going_by, goes_on, matches_of, patterns_of, rows_in, made, IsStep}
+use Rattle.rx_stepper.specs.Steps.{AreSteps, AreEmpty}
 use Rattle.rx_stepper.proofs.Decisions.{decided_asked}
 use Rattle.rx_stepper.proofs.LedSteps.{closed_led, cut_led, cut_led_off, patterns_matches, patterns_without}
 use Rattle.rx_stepper.proofs.Without.{led_gives}
@@ -187,7 +187,8 @@ first_few rows (q ∷ qs) =
     elim (is_match_row (row_at rows q)) as Few [ true ↦ omega arith | false ↦ omega arith ]
 
 -- no more rows match than there are
-pub few_told : (kind : MatchKind) (rows : List Row) (qs : List ℕ) → length (matches_of rows (cut kind rows qs)) ≤ length qs
+pub few_told : (kind : MatchKind) (rows : List Row) (qs : List ℕ)
+    → length (matches_of rows (cut kind rows qs)) ≤ length qs
 few_told MatchKind.All rows qs = few_matches rows qs
 few_told MatchKind.LeftmostFirst rows qs =
     omega (arith, few_matches rows (to_first_match rows qs), first_few rows qs)

@@ -1,7 +1,7 @@
 -- The parts of a stepper: leads before any was found, when one is found, and the dead state.
-use Rattle.std.proofs.Common.{◌≡◌, ℕ, zero, suc, ◌^◌, ◌<◌, ◌≤◌, ◌⊎◌, inl, inr, Bool, true, false, if◌then◌else◌, List, []}
-use Rattle.std.proofs.Common.{◌∷◌, ◌++◌, length, map, set, Option, None, Some, refl, ap, sym, ◌∙◌, subst, arith, length-append}
-use Rattle.std.proofs.Common.{append-nil, length-set, ⊎_elim}
+use Rattle.std.proofs.Common.{◌≡◌, ℕ, zero, suc, ◌^◌, ◌<◌, ◌≤◌, ◌⊎◌, inl, inr, Bool, true, false, if◌then◌else◌, List}
+use Rattle.std.proofs.Common.{[], ◌∷◌, ◌++◌, length, map, set, Option, None, Some, refl, ap, sym, ◌∙◌, subst, arith}
+use Rattle.std.proofs.Common.{length-append, append-nil, length-set, ⊎_elim}
 use Rattle.std.specs.Borrow.{Bor}
 use Rattle.std.specs.Prelude.{All, slice_get, slice_index, unwrap_or}
 use Rattle.std.specs.Option.{option_copied, option_map_or}
@@ -38,7 +38,8 @@ pub no_leads : (t : Table) (lead_in : LeadIn) (leads : List LeadSteps) → IsLea
 no_leads t lead_in leads is len columns none = record {
   is = is;
   len = len;
-  columns = λ context l e. all_at (λ s. length s.steps.targets.items ≡ length (units_of t.classes)) leads context columns e;
+  columns = λ context l e. all_at (λ s. length s.steps.targets.items ≡ length (units_of t.classes)) leads context
+      columns e;
   steps = λ context l e found.
       let unfound = all_at (λ s. s.are_found ≡ false) leads context none e in
       absurd (cc);
@@ -57,7 +58,8 @@ dead_current t leads current columns key targets matches led_in =
     record {
       columns = columns;
       steps =
-          dead_steps stand (units_of t.classes) t.columns.groups.of.items (map (λ v. v.items) current.steps.targets.items)
+          dead_steps stand (units_of t.classes) t.columns.groups.of.items
+          (map (λ v. v.items) current.steps.targets.items)
           (map (λ v. v.items) current.steps.matches.items) (ap own_of key) targets matches;
       led_in =
           led_in
@@ -147,14 +149,17 @@ begun_current t leads current {key} columns same steps led_in found = record {
   columns = columns;
   steps = subst (λ k. AreStepsOf t (own_of k) (slice_index k 0) current.steps) (sym same) steps;
   led_in =
-      subst (λ (k : List ℕ). current.led_in ≡ (if led_of k then Some (bits_of (facts_with (slice_index k 0))) else None))
+      subst (λ (k : List ℕ). current.led_in ≡ (if led_of k then Some
+      (bits_of (facts_with (slice_index k 0))) else None))
       (sym same) led_in;
   found = λ context l e there.
       by_test (led_of key)
       (λ h. let is : bits_of (facts_with (slice_index key 0)) ≡ context =
-      ap (λ o. unwrap_or o 0) (sym (led_in ∙ ap (λ b. if b then Some (bits_of (facts_with (slice_index key 0))) else None) h) ∙ e) in
+      ap (λ o. unwrap_or o 0) (sym (led_in ∙ ap
+      (λ b. if b then Some (bits_of (facts_with (slice_index key 0))) else None) h) ∙ e) in
       found h l (ap (slice_get leads) is ∙ there))
-      (λ h. absurd (let clash = sym (led_in ∙ ap (λ b. if b then Some (bits_of (facts_with (slice_index key 0))) else None) h) ∙ e in cc));
+      (λ h. absurd (let clash = sym (led_in ∙ ap
+      (λ b. if b then Some (bits_of (facts_with (slice_index key 0))) else None) h) ∙ e in cc));
 }
 
 -- ---- what a column needs of both lists
@@ -202,7 +207,13 @@ facts_back f = facts_by f.text f.line_terminator f.lf f.cr f.word
 few_patterns : (rows : List Row) (qs : List ℕ) → length (patterns_of rows qs) ≤ length qs
 few_patterns rows [] = omega arith
 few_patterns rows (q ∷ qs) =
-    omega (arith, length-append (pattern_of (row_at rows q)) (patterns_of rows qs), one (row_at rows q), few_patterns rows qs)
+    omega (
+      arith,
+      length-append (pattern_of (row_at rows q)) (patterns_of rows qs),
+      one
+          (row_at rows q),
+      few_patterns rows qs,
+    )
   where
     one : (r : Row) → length (pattern_of r) ≤ 1
     one (Row.Bytes set next) = omega arith
@@ -223,7 +234,8 @@ pub record Gathers (s : Stand) (unit : ℕ) (from label : List ℕ) : Type 0 whe
   pub leads : Leads s unit from label
   pub few : length label < 2 ^ 32
 
-module _ (t : Table) {lead_in : LeadIn} {leads : List LeadSteps} {current : Current} (fits_lead : FitsLead t lead_in leads)
+module _ (t : Table) {lead_in : LeadIn} {leads : List LeadSteps} {current : Current}
+    (fits_lead : FitsLead t lead_in leads)
     (fits : FitsCurrent t leads current) (column : ℕ) (h : column < length (units_of t.classes)) where
   abbrev key : List ℕ
   key = current.key.items
@@ -246,7 +258,8 @@ module _ (t : Table) {lead_in : LeadIn} {leads : List LeadSteps} {current : Curr
   few_mine : length mine ≤ id_count
   few_mine = (fits.steps column h).few
 
-  by_own : going s unit ≡ going (record { nfa = t.nfa; kind = t.kind; state = rows_in (own_of key) s.state.context }) unit
+  by_own : going s unit ≡ going (record { nfa = t.nfa; kind = t.kind; state = rows_in (own_of key) s.state.context })
+      unit
       → Gathers s unit (targets_in current.steps column) (patterns_of t.nfa.rows mine)
   by_own same = record {
     leads = leads_alone s unit (fits.steps column h) same;
@@ -273,7 +286,8 @@ module _ (t : Table) {lead_in : LeadIn} {leads : List LeadSteps} {current : Curr
       let facts = ap facts_with (sym bits) ∙ facts_back (facts_with (slice_index key 0)) in
       let found = fits_lead.steps f.context f.lead f.there (fits.found f.context f.lead f.led_in f.there) column h in
       let Is = λ (rows : List ℕ) (known : Facts) (v : Steps). IsStep
-      (record { nfa = t.nfa; kind = t.kind; state = rows_in rows known }) unit (targets_in v column) (matches_in v group) in
+      (record { nfa = t.nfa; kind = t.kind; state = rows_in rows known }) unit (targets_in v column)
+      (matches_in v group) in
       let theirs =
       subst (λ v. Is (lead_of t.nfa) s.state.context v) (sym f.steps_are)
       (subst (λ k. Is (lead_of t.nfa) k f.lead.steps) facts
@@ -308,7 +322,8 @@ module _ (t : Table) {lead_in : LeadIn} {leads : List LeadSteps} {current : Curr
       → Gathers s unit (targets_in current.steps column ++ option_map_or (λ b. targets_in b.now column) o [])
       (patterns_of t.nfa.rows (mine ++ option_map_or (λ b. without mine (matches_in b.now group)) o []))
   gathers None i =
-      subst (λ l. Gathers s unit l (patterns_of t.nfa.rows (mine ++ []))) (sym (append-nil (targets_in current.steps column)))
+      subst (λ l. Gathers s unit l (patterns_of t.nfa.rows (mine ++ [])))
+      (sym (append-nil (targets_in current.steps column)))
       (subst (λ l. Gathers s unit (targets_in current.steps column) (patterns_of t.nfa.rows l)) (sym (append-nil mine))
       (not_behind i))
   gathers (Some b) f = behind b.now f

@@ -1,15 +1,14 @@
 -- A list without the members of another, and first occurrences of joined lists.
-use Rattle.std.proofs.Common.{◌≡◌, ℕ, ◌+◌, ◌==◌, Bool, true, false, List, [], ◌∷◌, ◌++◌, length, refl, ap, sym, ◌∙◌, subst}
-use Rattle.std.proofs.Common.{arith, append-nil, ⊎_elim}
-use Rattle.std.proofs.Common.{◌||◌, sum_by}
+use Rattle.std.proofs.Common.{◌≡◌, ℕ, ◌+◌, ◌==◌, Bool, true, false, List, [], ◌∷◌, ◌++◌, length, refl, ap, sym, ◌∙◌}
+use Rattle.std.proofs.Common.{subst, arith, append-nil, ⊎_elim, ◌||◌, sum_by}
 use Rattle.std.proofs.lemmas.Bool.{or_left, eqb-true, eqb-false, eq-eqb}
 use Rattle.std.proofs.lemmas.List.Sums.{sum_by-cons}
 use Rattle.std.specs.Prelude.{Contains}
 use Rattle.std.specs.List.{flat_map}
 use Rattle.rx_spec.specs.States.{fresh, firsts}
 use Rattle.rx_lemmas.proofs.Every.{flat_map-append_of}
-use Rattle.rx_lemmas.proofs.Firsts.{by_test, fresh_append, fresh_alike, fresh_within, fresh_keeps}
-use Rattle.rx_lemmas.proofs.Firsts.{Apart, Contains-here, Contains-nil, Contains-there, seen_true, seen_if}
+use Rattle.rx_lemmas.proofs.Firsts.{by_test, fresh_append, fresh_alike, fresh_within, fresh_keeps, Apart, Contains-here}
+use Rattle.rx_lemmas.proofs.Firsts.{Contains-nil, Contains-there, seen_true, seen_if}
 use Rattle.rx_base.specs.FactBits.{bit}
 use Rattle.rx_stepper.specs.Leads.{without, led}
 use Rattle.rx_stepper.proofs.Members.{In, in_cases, in_nil, was, in_here, in_there, in_left, in_right, in_split, not_in}
@@ -47,7 +46,8 @@ pub without_alike : (seen others xs : List ℕ) → ((x : ℕ) → was seen x �
 without_alike seen others [] same = without_nil seen ∙ sym (without_nil others)
 without_alike seen others (y ∷ ys) same =
     by_test (was seen y)
-    (λ e. without_old seen ys y e ∙ without_alike seen others ys same ∙ sym (without_old others ys y (sym (same y) ∙ e)))
+    (λ e. without_old seen ys y e ∙ without_alike seen others ys same
+    ∙ sym (without_old others ys y (sym (same y) ∙ e)))
     (λ e. without_new seen ys y e ∙ ap (λ (l : List ℕ). y ∷ l) (without_alike seen others ys same)
     ∙ sym (without_new others ys y (sym (same y) ∙ e)))
 

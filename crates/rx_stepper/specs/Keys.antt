@@ -1,6 +1,6 @@
 -- States as keys: lists of numbers that spell them.
-use Rattle.std.specs.Prelude.{ℕ, ◌+◌, ◌*◌, ◌^◌, ◌==◌, ◌&&◌, nat_le, nat_lt, Bool, true, false}
-use Rattle.std.specs.Prelude.{List, ◌∷◌, ◌++◌, length, take, drop, slice_index}
+use Rattle.std.specs.Prelude.{ℕ, ◌+◌, ◌*◌, ◌^◌, ◌==◌, ◌&&◌, nat_le, nat_lt, Bool, true, false, List, ◌∷◌, ◌++◌, length}
+use Rattle.std.specs.Prelude.{take, drop, slice_index}
 use Rattle.std.specs.List.{list_all}
 use Rattle.std.specs.Str.{bytes_eq}
 use Rattle.rx_spec.specs.Causes.{max_id}
@@ -50,7 +50,8 @@ are_closed rows qs = list_all (λ q. stands (row_at rows q) && nat_le q max_id) 
 
 -- closed rows, and a label of patterns, all of them ids
 abbrev pub is_closed : List Row → State → Bool
-is_closed rows s = are_closed rows s.rows && (list_all (λ k. nat_le k max_id) s.label && nat_lt (length s.label) (2 ^ 32))
+is_closed rows s = are_closed rows s.rows && (list_all (λ k. nat_le k max_id) s.label
+    && nat_lt (length s.label) (2 ^ 32))
 
 -- a key spells its state, and spells it in the one way
 abbrev pub is_key : List Row → List ℕ → List ℕ → Bool

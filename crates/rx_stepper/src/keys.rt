@@ -1,7 +1,7 @@
 //! States as keys.
 
-ghost use Rattle.std.specs.Prelude.{◌≡◌, ◌≤◌, ◌<◌, ◌+◌, ◌^◌, ◌++◌, ◌∷◌, ◌==◌, ◌&&◌, if◌then◌else◌, not, All, OnOk, length};
-ghost use Rattle.std.specs.Prelude.{slice_index};
+ghost use Rattle.std.specs.Prelude.{◌≡◌, ◌≤◌, ◌<◌, ◌+◌, ◌^◌, ◌++◌, ◌∷◌, ◌==◌, ◌&&◌, if◌then◌else◌, not, All, OnOk};
+ghost use Rattle.std.specs.Prelude.{length, slice_index};
 ghost use Rattle.rx_spec.specs.Causes.{max_id};
 ghost use Rattle.rx_base.specs.FactBits.{bit, facts_with};
 ghost use Rattle.rx_stepper.specs.Keys.{label_of, led_of, own_of, size_of};

@@ -1,7 +1,7 @@
 //! The rows of the unanchored start, with which the states of an unanchored search end.
 
-ghost use Rattle.std.specs.Prelude.{◌≡◌, ℕ, ◌<◌, ◌≤◌, ◌^◌, ◌==◌, ◌&&◌, ◌∷◌, [], true, false, not, Some, MatchBool, MatchOption};
-ghost use Rattle.std.specs.Prelude.{take, length, slice_get, slice_index_or, vec_capacity, IfOk, OnOk};
+ghost use Rattle.std.specs.Prelude.{◌≡◌, ℕ, ◌<◌, ◌≤◌, ◌^◌, ◌==◌, ◌&&◌, ◌∷◌, [], true, false, not, Some, MatchBool};
+ghost use Rattle.std.specs.Prelude.{MatchOption, take, length, slice_get, slice_index_or, vec_capacity, IfOk, OnOk};
 ghost use Rattle.std.specs.List.{list_any, AllByRecursion as Every};
 ghost use Rattle.std.specs.Str.{bytes_eq};
 ghost use Rattle.rx_spec.specs.Builds.{is_dead_state};
@@ -60,8 +60,8 @@ impl LeadIn {
         })
     }
 
-    /// Writes the key of the state that is reached from some rows, with what assertions ask for of the unit read last and
-    /// a label, and tells whether there is one: the dead state has no key.
+    /// Writes the key of the state that is reached from some rows, with what assertions ask for of the unit read last
+    /// and a label, and tells whether there is one: the dead state has no key.
     pub(crate) fn write_key(
         &self,
         closures: &mut Closures<'_>,
@@ -78,7 +78,8 @@ impl LeadIn {
         ensures nfa { closures.new.nfa.now ≡ closures.old.nfa.now }
         ensures room { vec_capacity own.old ≤ vec_capacity own.new }
         ensures key { let nfa = meaning closures.old.nfa.now in
-            IfOk result (λ goes_on. MatchBool goes_on (IsMadeKey nfa from.now (facts_with asked) label.now key.new.items)
+            IfOk result (λ goes_on. MatchBool goes_on
+            (IsMadeKey nfa from.now (facts_with asked) label.now key.new.items)
             (is_dead_state (made nfa from.now (facts_with asked) label.now) ≡ true)) }
     {
         let is_led = self.close(closures, from, own);
@@ -94,8 +95,8 @@ impl LeadIn {
         Ok(true)
     }
 
-    /// Lists the rows that are reached from some rows as far as they are written, and tells whether the lead-in's others
-    /// follow.
+    /// Lists the rows that are reached from some rows as far as they are written, and tells whether the lead-in's
+    /// others follow.
     fn close(&self, closures: &mut Closures<'_>, from: &[StateID], own: &mut Vec<StateID>) -> bool
         requires is { IsLeadIn (meaning closures.old.nfa.now) self.now }
         requires room { length (meaning closures.old.nfa.now).rows ≤ vec_capacity own.old }

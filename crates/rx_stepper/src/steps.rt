@@ -1,7 +1,7 @@
 //! What the columns of a table need for the steps of some rows.
 
-ghost use Rattle.std.specs.Prelude.{◌≡◌, ℕ, List, true, ◌<◌, ◌≤◌, ◌≢◌, ◌++◌, Some, map, length, slice_index, slice_index_or, false};
-ghost use Rattle.std.specs.Prelude.{vec_capacity, IfOk, OnOk};
+ghost use Rattle.std.specs.Prelude.{◌≡◌, ℕ, List, true, ◌<◌, ◌≤◌, ◌≢◌, ◌++◌, Some, map, length, slice_index};
+ghost use Rattle.std.specs.Prelude.{slice_index_or, false, vec_capacity, IfOk, OnOk};
 ghost use Rattle.std.specs.List.{flat_map};
 ghost use Rattle.rx_spec.specs.States.{row_at, cut, target};
 ghost use Rattle.rx_spec.specs.Causes.{id_count};

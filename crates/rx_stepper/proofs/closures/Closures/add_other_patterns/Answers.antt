@@ -7,7 +7,8 @@ use Rattle.rx_stepper.specs.Leads.{without}
 use Rattle.rx_stepper.specs.Steps.{patterns_of}
 use Rattle.rx_stepper.proofs.Without.{without_new, without_nil, without_old}
 use Rattle.rx_stepper.proofs.closures.Closures.add_other_patterns.Goals as goal
-use Rattle.rx_stepper.proofs.closures.Closures.add_other_patterns.Goals.{then-not-is_among+in_ok-add_pattern, else-not-is_among}
+use Rattle.rx_stepper.proofs.closures.Closures.add_other_patterns.Goals.{then-not-is_among+in_ok-add_pattern}
+use Rattle.rx_stepper.proofs.closures.Closures.add_other_patterns.Goals.{else-not-is_among}
 
 pub loop-id-preserved : goal.loop-id-preserved
 loop-id-preserved c =

@@ -15,7 +15,8 @@ returns-in_default-clause-targets c =
     let own = c.args.own.now in
     let column = c.args.column in
     let mine = targets_in own column in
-    let there = list_there (λ v. v.items) own.targets.items column c.index.result.now c.requires.column c.index.ensures in
+    let there = list_there (λ v. v.items) own.targets.items column c.index.result.now c.requires.column
+    c.index.ensures in
     c.in_ok-extend_from_slice.ensures.items
     ∙ ap₂ (λ a b. a ++ b) c.clear.ensures.items (c.deref.ensures.value ∙ sym there)
     ∙ sym (append-nil mine)
@@ -41,7 +42,8 @@ returns-in_ok-add_other_patterns-clause-targets c =
     let lead = c.in-Some.lead.now in
     let column = c.args.column in
     let mine = targets_in own column in
-    let there = list_there (λ v. v.items) own.targets.items column c.index.result.now c.requires.column c.index.ensures in
+    let there = list_there (λ v. v.items) own.targets.items column c.index.result.now c.requires.column
+    c.index.ensures in
     let within = subst (λ o. IfSome o (λ s. column < length s.now.targets.items)) c.in-Some.is c.requires.lead_column in
     let theirs =
     list_there (λ v. v.items) lead.targets.items column c.index-in-Some.result.now within c.index-in-Some.ensures in

@@ -1,5 +1,5 @@
-use Rattle.std.proofs.Common.{◌≡◌, ◌<◌, List, ℕ, true, length, take, drop, ap, sym, ◌∙◌, subst, arith}
-use Rattle.std.proofs.Common.{length-take, take-append-drop}
+use Rattle.std.proofs.Common.{◌≡◌, ◌<◌, List, ℕ, true, length, take, drop, ap, sym, ◌∙◌, subst, arith, length-take}
+use Rattle.std.proofs.Common.{take-append-drop}
 use Rattle.std.specs.List.{AllByRecursion as Every}
 use Rattle.rx_spec.specs.Causes.{id_count}
 use Rattle.rx_spec.specs.States.{firsts}
@@ -22,7 +22,8 @@ pub own_len-len-requires-clause-met : goal.own_len-len-requires-clause-met
 own_len-len-requires-clause-met c =
     let nfa = c.args.closures.now.nfa.now in
     met_alike
-    (λ q i. c.list.ensures.met q (lead_alone nfa c.requires.is.rows q i) ∙ ap (λ l. was l q) (sym c.deref.ensures.value))
+    (λ q i. c.list.ensures.met q (lead_alone nfa c.requires.is.rows q i)
+    ∙ ap (λ l. was l q) (sym c.deref.ensures.value))
     c.met_len.ensures
 
 pub returns-then-is_start-clause-rows : goal.returns-then-is_start-clause-rows
@@ -33,7 +34,8 @@ returns-then-is_start-clause-rows c =
     let len = c.own_len-len.result in
     let own = take len listed in
     let is = c.requires.is in
-    let begins = subst (λ s. Starts lead c.in-Some.last.now s) is.start (starts c.is_start.ensures c.if-is_start.true) in
+    let begins = subst (λ s. Starts lead c.in-Some.last.now s) is.start
+    (starts c.is_start.ensures c.if-is_start.true) in
     let same = subst (λ (l : List ℕ). led (take len l) lead ≡ led l lead) c.deref.ensures.value
     c.own_len-len.ensures.same in
     let least = subst (λ (l : List ℕ). IsLeast lead (take len l)) c.deref.ensures.value c.own_len-len.ensures.least in

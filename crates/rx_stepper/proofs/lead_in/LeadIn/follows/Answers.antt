@@ -1,5 +1,6 @@
 use Rattle.std.proofs.Common.{◌+◌, ◌<◌, drop, get_or, length, ap, sym, ◌∙◌, arith}
-use Rattle.rx_stepper.proofs.LeadSplits.{equal, unequal, follows_ends, follows_next, follows_other, follows_passed, follows_short}
+use Rattle.rx_stepper.proofs.LeadSplits.{equal, unequal, follows_ends, follows_next, follows_other, follows_passed}
+use Rattle.rx_stepper.proofs.LeadSplits.{follows_short}
 use Rattle.std.specs.Str.{bytes_eq}
 use Rattle.rx_stepper.specs.Leads.{without}
 use Rattle.rx_stepper.proofs.lead_in.LeadIn.follows.Goals as goal
@@ -8,8 +9,10 @@ use Rattle.rx_stepper.proofs.lead_in.LeadIn.follows.Goals.{then-not-is_among+els
 pub returns-then-place-rows : goal.returns-then-place-rows
 returns-then-place-rows c =
     let lead = c.args.self.now.rows.items in
-    let in_lead : c.loop-row.row-index < length lead = omega (arith, c.loop-row-test.true, ap length c.deref-row-items.ensures.value) in
-    let is = c.row-item.is ∙ ap (λ l. get_or l c.loop-row.row-index c.row-item.result) c.deref-row-items.ensures.value in
+    let in_lead : c.loop-row.row-index < length lead = omega
+    (arith, c.loop-row-test.true, ap length c.deref-row-items.ensures.value) in
+    let is = c.row-item.is ∙ ap (λ l. get_or l c.loop-row.row-index c.row-item.result)
+    c.deref-row-items.ensures.value in
     let new = sym c.is_among.ensures ∙ c.if-not-is_among.true in
     sym (c.loop-row.invariant.same
     ∙ follows_short c.args.own.now lead c.loop-row.row-index c.args.rows.now c.loop-row.place in_lead is new
@@ -18,8 +21,10 @@ returns-then-place-rows c =
 pub returns-then-ne : goal.returns-then-ne
 returns-then-ne c =
     let lead = c.args.self.now.rows.items in
-    let in_lead : c.loop-row.row-index < length lead = omega (arith, c.loop-row-test.true, ap length c.deref-row-items.ensures.value) in
-    let is = c.row-item.is ∙ ap (λ l. get_or l c.loop-row.row-index c.row-item.result) c.deref-row-items.ensures.value in
+    let in_lead : c.loop-row.row-index < length lead = omega
+    (arith, c.loop-row-test.true, ap length c.deref-row-items.ensures.value) in
+    let is = c.row-item.is ∙ ap (λ l. get_or l c.loop-row.row-index c.row-item.result)
+    c.deref-row-items.ensures.value in
     let new = sym c.is_among.ensures ∙ c.if-not-is_among.true in
     sym (c.loop-row.invariant.same
     ∙ follows_other c.args.own.now lead c.loop-row.row-index c.args.rows.now c.loop-row.place in_lead is new

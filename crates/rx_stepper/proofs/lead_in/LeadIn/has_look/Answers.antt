@@ -6,7 +6,8 @@ use Rattle.rx_expr.specs.Nfa.{meaning}
 use Rattle.rx_stepper.specs.Leads.{rows_by}
 use Rattle.rx_stepper.proofs.LedSteps.{any_led}
 use Rattle.rx_stepper.proofs.lead_in.LeadIn.has_look.Goals as goal
-use Rattle.rx_stepper.proofs.lead_in.LeadIn.has_look.Goals.{else-is_led-via-then-is_led+else-self, else-is_led-via-else-is_led}
+use Rattle.rx_stepper.proofs.lead_in.LeadIn.has_look.Goals.{else-is_led-via-then-is_led+else-self}
+use Rattle.rx_stepper.proofs.lead_in.LeadIn.has_look.Goals.{else-is_led-via-else-is_led}
 
 pub returns-then-self : goal.returns-then-self
 returns-then-self c =

@@ -8,7 +8,8 @@ pub loop-place-preserved : goal.loop-place-preserved
 loop-place-preserved c =
     let rows = c.args.self.now.rows.items in
     let stamps = c.args.closures.now.stamps in
-    let there : c.loop-place.place < length rows = omega (arith, c.loop-place-test.true, ap length c.deref-row-items.ensures.value) in
+    let there : c.loop-place.place < length rows = omega
+    (arith, c.loop-place-test.true, ap length c.deref-row-items.ensures.value) in
     let is = c.row-item.is ∙ ap (λ l. get_or l c.loop-place.place c.row-item.result) c.deref-row-items.ensures.value in
     met_more (is_met stamps.stamps.items stamps.now) rows c.loop-place.invariant there is
     (sym c.is_met.ensures ∙ c.if-not-is_met.false)
@@ -17,7 +18,8 @@ pub returns-then-not-is_met : goal.returns-then-not-is_met
 returns-then-not-is_met c =
     let rows = c.args.self.now.rows.items in
     let stamps = c.args.closures.now.stamps in
-    let there : c.loop-place.place < length rows = omega (arith, c.loop-place-test.true, ap length c.deref-row-items.ensures.value) in
+    let there : c.loop-place.place < length rows = omega
+    (arith, c.loop-place-test.true, ap length c.deref-row-items.ensures.value) in
     let is = c.row-item.is ∙ ap (λ l. get_or l c.loop-place.place c.row-item.result) c.deref-row-items.ensures.value in
     met_to (is_met stamps.stamps.items stamps.now) rows c.loop-place.invariant there is
     (sym c.is_met.ensures ∙ c.if-not-is_met.true)

@@ -15,7 +15,8 @@ overflow_sub-others c =
     let q = c.row-item.result in
     let one : was self.rows.items q ≡ true =
     sym (has_place self.places_are q)
-    ∙ lt-ltb _ (length self.rows.items) (omega (arith, c.if-place-len.true, c.place.ensures, c.len.ensures, self.rows.ok.0)) in
+    ∙ lt-ltb _ (length self.rows.items) (omega
+    (arith, c.if-place-len.true, c.place.ensures, c.len.ensures, self.rows.ok.0)) in
     shared_left self.rows.items c.args.own.now c.loop-row.row-index (once_apart c.args.own.now c.requires.once)
     (once_apart self.rows.items self.once) c.loop-row-test.true c.row-item.is one c.loop-row.invariant
 
@@ -29,7 +30,13 @@ loop-row-preserved c =
       | then-place-len w ↦
           let one : was lead q ≡ true =
           sym (has_place self.places_are q)
-          ∙ lt-ltb _ (length lead) (omega (arith, w.if-place-len.true, c.place.ensures, c.len.ensures, self.rows.ok.0)) in
+          ∙ lt-ltb _ (length lead) (omega (
+            arith,
+            w.if-place-len.true,
+            c.place.ensures,
+            c.len.ensures,
+            self.rows.ok.0,
+          )) in
           let left =
           shared_left lead c.args.own.now c.loop-row.row-index (once_apart c.args.own.now c.requires.once)
           (once_apart lead self.once) c.loop-row-test.true c.row-item.is one c.loop-row.invariant in
@@ -38,7 +45,14 @@ loop-row-preserved c =
           let none : was lead q ≡ false =
           sym (has_place self.places_are q)
           ∙ false_from_ne_true (ltb _ (length lead))
-          (λ t. omega (arith, ltb-true _ (length lead) t, w.if-place-len.false, c.place.ensures, c.len.ensures, self.rows.ok.0)) in
+          (λ t. omega (
+            arith,
+            ltb-true _ (length lead) t,
+            w.if-place-len.false,
+            c.place.ensures,
+            c.len.ensures,
+            self.rows.ok.0,
+          )) in
           omega (arith, w.others-is, c.loop-row.invariant, more, ap bit none)
     ]
 

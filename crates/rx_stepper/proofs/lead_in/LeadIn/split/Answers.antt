@@ -18,7 +18,8 @@ returns-then-not-is_met-clause-rows c =
     let lead = c.args.self.now.rows.items in
     let own = c.args.own.now.items in
     let q = c.in-Some.last.now in
-    let there = subst (λ (l : List ℕ). Some q ≡ slice_get l (length l - 1)) c.deref.ensures.value c.in-Some.ensures.value in
+    let there = subst (λ (l : List ℕ). Some q ≡ slice_get l (length l - 1)) c.deref.ensures.value
+    c.in-Some.ensures.value in
     let member = at_in lead (length lead - 1) (sym there) in
     let stamps = c.args.closures.now.stamps in
     let met = every_in (λ x. is_met stamps.stamps.items stamps.now x ≡ was own x) lead c.requires member in

@@ -1,4 +1,5 @@
-use Rattle.std.proofs.Common.{◌≡◌, ◌<◌, ◌==◌, ◌&&◌, not, if◌then◌else◌, List, ℕ, ◌∷◌, ◌++◌, length, ap, ap₂, sym, ◌∙◌, subst}
+use Rattle.std.proofs.Common.{◌≡◌, ◌<◌, ◌==◌, ◌&&◌, not, if◌then◌else◌, List, ℕ, ◌∷◌, ◌++◌, length, ap, ap₂, sym, ◌∙◌}
+use Rattle.std.proofs.Common.{subst}
 use Rattle.std.proofs.lemmas.List.Elements.{recursion_from_All}
 use Rattle.std.specs.List.{list_any, AllByRecursion as Every}
 use Rattle.rx_spec.specs.Causes.{id_count}
@@ -22,7 +23,8 @@ returns-then-is_dead-clause-key c =
     } in
     let label = c.args.label.now in
     dead_made w (facts_with c.args.asked) label
-    ∙ ap (λ (l : List ℕ). not c.close-is_led.result && (length l == 0) && (length label == 0)) (sym c.deref.ensures.value)
+    ∙ ap (λ (l : List ℕ). not c.close-is_led.result && (length l == 0) && (length label == 0))
+    (sym c.deref.ensures.value)
     ∙ sym c.is_dead.ensures ∙ c.if-is_dead.true
 
 pub rows_len-requires-clause-once : goal.rows_len-requires-clause-once

@@ -13,6 +13,8 @@ loop-context-preserved c =
     let unfound = λ (l : LeadSteps). l.are_found ≡ false in
     record {
       len = search rules;
-      columns = subst (All are) (sym c.in_ok-push.ensures.items) (All-push are leads new before.columns c.in_ok-new.ensures.columns);
-      none = subst (All unfound) (sym c.in_ok-push.ensures.items) (All-push unfound leads new before.none c.in_ok-new.ensures.none);
+      columns = subst (All are) (sym c.in_ok-push.ensures.items)
+          (All-push are leads new before.columns c.in_ok-new.ensures.columns);
+      none = subst (All unfound) (sym c.in_ok-push.ensures.items)
+          (All-push unfound leads new before.none c.in_ok-new.ensures.none);
     }

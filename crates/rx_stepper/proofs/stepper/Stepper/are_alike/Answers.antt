@@ -1,4 +1,5 @@
-use Rattle.std.proofs.Common.{◌≡◌, ◌<◌, ◌++◌, ◌⊎◌, List, ℕ, [], false, None, Some, length, refl, ap, ap₂, sym, ◌∙◌, subst, arith}
+use Rattle.std.proofs.Common.{◌≡◌, ◌<◌, ◌++◌, ◌⊎◌, List, ℕ, [], false, None, Some, length, refl, ap, ap₂, sym, ◌∙◌}
+use Rattle.std.proofs.Common.{subst, arith}
 use Rattle.std.specs.Prelude.{IfSome}
 use Rattle.rx_stepper.specs.Gathering.{Follows, matches_in}
 use Rattle.rx_stepper.specs.Steppers.{stepping_of}
@@ -62,7 +63,8 @@ returns-in-Some c = λ equal.
     (omega (arith, one, self.fits_current.columns)) c.index.ensures in
     let there = list_there (λ v. v.items) steps.targets.items other c.index-2.result.now
     (omega (arith, two, self.fits_current.columns)) c.index-2.ensures in
-    let own = here ∙ sym c.deref.ensures.value ∙ c.if-not-are_equal.ensures refl ∙ c.deref-2.ensures.value ∙ sym there in
+    let own = here ∙ sym c.deref.ensures.value ∙ c.if-not-are_equal.ensures refl ∙ c.deref-2.ensures.value
+    ∙ sym there in
     let lead = c.in-Some.lead in
     let Is = λ (l : List LeadSteps) (g : ℕ). Follows self.current l self.kind g lead.now in
     let follows = subst (λ l. Is l c.of-group.result) c.deref-3.ensures.value c.in-Some.ensures in
@@ -73,7 +75,8 @@ returns-in-Some c = λ equal.
     let its = list_there (λ v. v.items) lead.now.targets.items other c.index-in-Some-2.result.now
     (omega (arith, two, same_len)) c.index-in-Some-2.ensures in
     let theirs =
-    mine ∙ sym c.deref-in-Some.ensures.value ∙ c.are_equal-in-Some.ensures equal ∙ c.deref-in-Some-2.ensures.value ∙ sym its in
+    mine ∙ sym c.deref-in-Some.ensures.value ∙ c.are_equal-in-Some.ensures equal ∙ c.deref-in-Some-2.ensures.value
+    ∙ sym its in
     columns_alike self.fits.groups self.fits_lead self.fits_current column other one two (Some lead) same
     (subst (Is self.leads.items) c.of-group.ensures.value follows) (ap₂ (λ (a b : List ℕ). a ++ b) own theirs)
 
@@ -92,7 +95,8 @@ returns-in-None c = λ equal.
     (omega (arith, one, self.fits_current.columns)) c.index.ensures in
     let there = list_there (λ v. v.items) steps.targets.items other c.index-2.result.now
     (omega (arith, two, self.fits_current.columns)) c.index-2.ensures in
-    let own = here ∙ sym c.deref.ensures.value ∙ c.if-not-are_equal.ensures refl ∙ c.deref-2.ensures.value ∙ sym there in
+    let own = here ∙ sym c.deref.ensures.value ∙ c.if-not-are_equal.ensures refl ∙ c.deref-2.ensures.value
+    ∙ sym there in
     let Is = λ (g : ℕ). (self.current.led_in ≡ None) ⊎ (goes_on self.kind (matches_in steps g) ≡ false) in
     columns_alike self.fits.groups self.fits_lead self.fits_current column other one two None same
     (subst Is c.of-group.ensures.value c.in-None.ensures) (ap (λ (l : List ℕ). l ++ []) own)

@@ -66,7 +66,8 @@ invariant_of-self-in-Err c =
     let e = sym begun.nfa in
     let table = λ (n : NFA). table_of (meaning n) self.kind self.classes self.columns in
     let current = dead_current (table self.closures.nfa.now) self.leads.items new
-    (forgot.columns ∙ begun.columns ∙ self.fits_current.columns) forgot.key forgot.targets forgot.matches forgot.led_in in
+    (forgot.columns ∙ begun.columns ∙ self.fits_current.columns) forgot.key forgot.targets forgot.matches
+    forgot.led_in in
     record {
       fits = subst (λ (n : NFA). Fits (meaning n) self.classes self.columns) e self.fits;
       fits_lead = subst (λ (n : NFA). FitsLead (table n) self.lead_in self.leads.items) e self.fits_lead;

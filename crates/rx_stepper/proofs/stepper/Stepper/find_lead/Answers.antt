@@ -50,7 +50,8 @@ invariant_of-self-2 c =
     let table = λ (n : NFA). table_of (meaning n) self.kind self.classes self.columns in
     let units = units_of self.classes in
     let groups = self.columns.groups.of.items in
-    let Is = λ (rows : List ℕ) (last : Facts) (v : LeadSteps). AreSteps (stand nfa self.kind (rows_in rows last)) units groups
+    let Is = λ (rows : List ℕ) (last : Facts) (v : LeadSteps). AreSteps
+    (stand nfa self.kind (rows_in rows last)) units groups
     (map (λ w. w.items) v.steps.targets.items) (map (λ w. w.items) v.steps.matches.items) in
     let Finding = λ (rows : List ℕ) (last : Facts). (old.are_found ≡ true → Is rows last old) → new.are_found ≡ true
     → Is rows last new in

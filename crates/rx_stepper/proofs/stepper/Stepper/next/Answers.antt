@@ -17,7 +17,8 @@ use Rattle.rx_stepper.proofs.stepper.Stepper.next.Goals as goal
 pub lead_steps-lead-requires-clause-context : goal.lead_steps-lead-requires-clause-context
 lead_steps-lead-requires-clause-context c =
     let self = c.args.self.now in
-    subst (λ (l : List LeadSteps). IfSome self.current.led_in (λ context. context < length l)) (sym c.deref.ensures.value)
+    subst (λ (l : List LeadSteps). IfSome self.current.led_in (λ context. context < length l))
+    (sym c.deref.ensures.value)
     (led_within self.fits.groups self.fits_lead self.fits_current)
 
 pub gather-requires-clause-lead_column : goal.gather-requires-clause-lead_column

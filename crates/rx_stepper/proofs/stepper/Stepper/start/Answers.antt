@@ -41,6 +41,11 @@ returns-clause-key c =
     let state = ap (λ (f : Facts). made nfa (row ∷ []) f []) asked_is in
     if_ok-map c.write_key.result
     (λ goes key. match_bool-map goes
-    (λ k. record { is_key = k.is_key; stands_for = k.stands_for ∙ state; alive = ap is_dead_state (sym state) ∙ k.alive })
+    (λ k. record {
+      is_key = k.is_key;
+      stands_for = k.stands_for ∙ state;
+      alive = ap is_dead_state (sym state)
+          ∙ k.alive;
+    })
     (λ d. ap is_dead_state (sym state) ∙ d) key)
     c.write_key.ensures.key

@@ -51,4 +51,5 @@ returns-clause-targets c = λ units reads column h.
     ap (λ v. list_at (map (λ v. v.items) v.items) column) c.loop-group.invariant.targets
     ∙ ap (λ l. list_at (map (λ v. v.items) l) column) whole
     ∙ c.in_ok-add_targets.ensures.lists rows units reads column h
-    ∙ ap₂ (λ l g. list_at (map (λ v. v.items) l) column ++ flat_map leads g) c.deref_mut.ensures.value c.cut-going.ensures
+    ∙ ap₂ (λ l g. list_at (map (λ v. v.items) l) column ++ flat_map leads g) c.deref_mut.ensures.value
+    c.cut-going.ensures
