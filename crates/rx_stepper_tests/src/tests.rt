@@ -57,11 +57,7 @@ fn columns_agree(
             return Ok(false);
         }
         let stepped = state.step(alloc, case.nfa, case.kind, unit)?;
-        let before = if column == 0 {
-            None
-        } else {
-            Some(column - 1)
-        };
+        let before = if column == 0 { None } else { Some(column - 1) };
         let agrees = match stepper.next(column, before, &mut next)? {
             Next::Dead => stepped.is_dead(),
             Next::AsLast => stepped == last,
@@ -119,7 +115,10 @@ fn agree_along(
 /// Whether all ways to step an NFA agree along a word: both kinds, the classes of the NFA and of single bytes, both
 /// starts, and three contexts.
 fn nfa_agrees(alloc: Global, nfa: &NFA, word: &[u8]) -> Option<bool> {
-    let all = [nfa.byte_class_set().byte_classes(), ByteClasses::singletons()];
+    let all = [
+        nfa.byte_class_set().byte_classes(),
+        ByteClasses::singletons(),
+    ];
     for classes in &all {
         for kind in [MatchKind::All, MatchKind::LeftmostFirst] {
             let case = Case { nfa, kind, classes };

@@ -8,4 +8,3 @@ invariant-loop-byte l = record {
   key : (stepping_of l.stepper).is_key l.key.items ≡ true;
   classes : (stepping_of l.stepper).classes ≡ l.case.classes.now;
 }
-

@@ -8,4 +8,3 @@ invariant-loop-unit l = record {
   classes : (stepping_of l.stepper).classes ≡ l.case.classes.now;
   within : l.column ≤ l.columns;
 }
-
