@@ -1,8 +1,8 @@
 -- What is left of the matches of two tables, by the next of them.
-use Rattle.std.proofs.Common.{◌≡◌, ℕ, Some, None, Option, List, [], ◌∷◌, ◌++◌, map, ap, sym, ◌∙◌, refl}
+use Rattle.std.proofs.Common.{◌≡◌, Some, None, Option, List, [], ◌∷◌, map, ap, ◌∙◌}
 use Rattle.std.specs.Prelude.{All, IfOk, Result, Ok, Err}
 use Rattle.std.proofs.lemmas.List.Elements.{All-append, All-cons, All-map, All-nil, All-weaker}
-use Rattle.rx_spec.specs.Iterating.{FoundMatches, and_then, iterate}
+use Rattle.rx_spec.specs.Iterating.{and_then, iterate}
 use Rattle.rx_spec.specs.Joining.{Answer, join}
 use Rattle.rx_spec.specs.Queries.{Query, Match, MatchError, LiesIn}
 use Rattle.rx_spec.specs.Tables.{Table}

@@ -2,9 +2,13 @@
 
 use rx_base::{Input, MatchError};
 use rx_pair::Regex;
+use rx_search::Automaton;
 
 /// How many bytes the matches of a text have, and the longest of them.
-pub fn matched<'h>(regex: &Regex, text: &'h [u8]) -> Result<(usize, &'h [u8]), MatchError> {
+pub fn matched<'h, A: Automaton>(
+    regex: &Regex<A>,
+    text: &'h [u8],
+) -> Result<(usize, &'h [u8]), MatchError> {
     let mut bytes = 0usize;
     let mut longest: &'h [u8] = &[];
     for found in regex.find_iter(&Input::new(text)) {

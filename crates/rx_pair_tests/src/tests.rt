@@ -1,11 +1,12 @@
 //! What no clause shows: that pairs are built, matches that were found by hand, and how errors read.
 
 use crate::matched;
-use rx_base::{Anchored, Input, Match, PatternID, StartKind};
-use rx_build::dense::{self, DFA, DenseBuild};
+use rx_base::{Anchored, Input, Match, MatchKind, PatternID, StartKind};
+use rx_build::dense::{Builder, Config, DFA, DenseBuild};
+use rx_dense::OwnedDFA;
 use rx_expr::thompson;
 use rx_notation::read;
-use rx_pair::{Builder, Regex};
+use rx_pair::Regex;
 use std::alloc::Global;
 use std::process::Abort;
 use std::test::Fail;
@@ -13,16 +14,20 @@ use std::test::Fail;
 /// What a pair is built of: patterns, whether matches that split a character are passed over, and a quit byte.
 struct Asked(&'static str, bool, Option<u8>);
 
-fn build(alloc: Global, asked: &Asked) -> Result<Regex, Fail> {
+fn build(alloc: Global, asked: &Asked) -> Result<Regex<OwnedDFA>, Fail> {
     let exprs = read(alloc, asked.0)?;
-    let mut tables = dense::Config::new().starts_for_each_pattern(true);
+    let mut config = Config::new().starts_for_each_pattern(true);
     if let Some(byte) = asked.2 {
-        tables = tables.quit(byte, true)?;
+        config = config.quit(byte, true)?;
     }
     let mut builder = Builder::new();
+    builder.configure(config);
     builder.thompson(thompson::Config::new().utf8(asked.1));
-    builder.dense(tables);
-    Ok(builder.build_many(alloc, &exprs)?)
+    let forward = builder.build_many(alloc, &exprs)?;
+    let all = Config::new().match_kind(MatchKind::All);
+    builder.configure(all.start_kind(StartKind::Anchored));
+    builder.thompson(thompson::Config::new().reverse(true));
+    Ok(Regex::new(forward, builder.build_many(alloc, &exprs)?))
 }
 
 /// A match as text: its pattern, start and end.
@@ -32,7 +37,7 @@ fn show(alloc: Global, found: &Match) -> Result<String, Fail> {
 }
 
 /// All matches of an input as text, and the error that ended them.
-fn shown(alloc: Global, regex: &Regex, input: &Input<'_>) -> Result<String, Fail> {
+fn shown(alloc: Global, regex: &Regex<OwnedDFA>, input: &Input<'_>) -> Result<String, Fail> {
     let mut text = String::new(alloc);
     for item in regex.find_iter(input) {
         match item {
@@ -69,8 +74,8 @@ fn matches_one_after_another(rt: HostRuntime) -> Result<(), Fail> {
         (Asked("^ a .", true, None), "aa", "0 0 1;"),
         (
             Asked("a", true, Some(b'z')),
-            "abza",
-            "0 0 1;quit search after observing byte 122 at offset 2",
+            "abxza",
+            "0 0 1;quit search after observing byte 122 at offset 3",
         ),
     ];
     for (asked, text, wanted) in cases {
@@ -102,11 +107,11 @@ fn one_match(rt: HostRuntime) -> Result<(), Fail> {
 fn tables_of_other_patterns(rt: HostRuntime) -> Result<(), Fail> {
     let alloc = rt.alloc();
     let forward = DFA::<Vec<u32>>::new_many(alloc, &read(alloc, "a")?)?;
-    let mut backward = dense::Builder::new();
-    backward.configure(dense::Config::new().start_kind(StartKind::Anchored));
+    let mut backward = Builder::new();
+    backward.configure(Config::new().start_kind(StartKind::Anchored));
     backward.thompson(thompson::Config::new().reverse(true));
     let reverse = backward.build_many(alloc, &read(alloc, "b")?)?;
-    let regex = Builder::new().build_from_dfas(&forward, &reverse);
+    let regex = Regex::new(&forward, &reverse);
     let told = match regex.try_search(&Input::new(b"xa")) {
         Ok(_) => String::new(alloc),
         Err(error) => format!(in alloc; "{error}")?,

@@ -1,4 +1,4 @@
-use Rattle.std.proofs.Common.{◌≡◌, ◌∷◌, ap, refl, rules, sym, ◌∙◌}
+use Rattle.std.proofs.Common.{◌∷◌, ap, refl, rules, sym, ◌∙◌}
 use Rattle.std.specs.Prelude.{Ok}
 use Rattle.rx_spec.specs.Joining.{join}
 use Rattle.rx_base.specs.Searcher.{Search}
