@@ -2,14 +2,14 @@
 use Rattle.std.proofs.Common.{ℕ, ◌≡◌, ◌≢◌, ◌+◌, ◌-◌, ◌*◌, ◌^◌, ◌/◌, ◌%◌, ◌<◌, ◌≤◌, ◌⊎◌, refl, sym, ◌∙◌, ap, subst}
 use Rattle.std.proofs.Common.{arith}
 use Rattle.std.proofs.Common.{inl, inr, bit_or, bit_and, Bool, true, false, ◌==◌, ◌&&◌, ◌||◌, not, nat_le, nat_lt, max}
-use Rattle.std.proofs.Common.{ap₂}
+use Rattle.std.proofs.Common.{ap₂, bit_xor, suc, zero}
 use Rattle.std.specs.Int.{w128, bit_at}
 use Rattle.std.specs.Int.Bits.{or_zero_r, and_lt}
 use Rattle.std.proofs.Math.Bool.{and-true, and-false}
 use Rattle.std.proofs.lemmas.Bool.Decides.{nat_tests, eqb_tells}
-use Rattle.std.proofs.lemmas.Nat.{or_block, or_lt, one_shl, pow_below, pow-add}
+use Rattle.std.proofs.lemmas.Nat.{or_block, or_lt, one_shl, pow_below, pow-add, xor_lt}
 use Rattle.std.proofs.lemmas.Nat.Bits.{shr_and_one, bit_at-lt, bit_at_or, bit_at-pow_same, bit_at-pow_other}
-use Rattle.std.proofs.lemmas.Nat.Bits.{bit_at_above}
+use Rattle.std.proofs.lemmas.Nat.Bits.{bit_at_above, bit_at-suc, bit_at_xor}
 use Rattle.std.proofs.lemmas.Nat.Bits.{bit_at_cat_low, bit_at_cat_high, bit_at_clear_same, bit_at_clear_other}
 use Rattle.std.proofs.lemmas.Nat.Bits.{bit_at_mask_below, bit_at_mask_inside, bit_at_mask_above}
 use Rattle.rx_spec.specs.Bytes.{contains, only, between}
@@ -212,3 +212,52 @@ parts-between first last b h k =
         → differ (nat_le first b && nat_le b last) (nat_le first (b + 1) && nat_le (b + 1) last)
         ≡ ((b + 1 == first) || (b == last))
     edges first last b h = grind (arith, nat_tests)
+
+-- ---- the bytes that a set tells apart from the next one
+
+xor_bit : (h l h' l' b : ℕ) → l < 2 ^ 128 → l' < 2 ^ 128
+    → bit_at (joined (bit_xor h h') (bit_xor l l')) b ≡ (bit_at (joined h l) b + bit_at (joined h' l') b) % 2
+xor_bit h l h' l' b fits fits' = elim (half_or_other b) [
+  | inl below ↦
+      bit_at_cat_low (bit_xor h h') 128 (bit_xor l l') b below ∙ bit_at_xor l l' b
+      ∙ sym (ap₂ (λ (x y : ℕ). (x + y) % 2) (bit_at_cat_low h 128 l b below) (bit_at_cat_low h' 128 l' b below))
+  | inr from ↦
+      bit_at_cat_high (bit_xor h h') 128 (bit_xor l l') b (xor_lt 128 l l' fits fits') from
+      ∙ bit_at_xor h h' (b - 128)
+      ∙ sym (ap₂ (λ (x y : ℕ). (x + y) % 2) (bit_at_cat_high h 128 l b fits from)
+      (bit_at_cat_high h' 128 l' b fits' from))
+]
+
+-- each byte where the one before it stood
+abbrev pub next_low : ℕ → ℕ → ℕ
+next_low high low = low / 2 + high % 2 * 2 ^ 127
+
+pub next_low-fits : (h l : ℕ) → l < 2 ^ 128 → next_low h l < 2 ^ 128
+next_low-fits h l fits = omega arith
+
+pub half-fits : (h : ℕ) → h < 2 ^ 128 → h / 2 < 2 ^ 128
+half-fits h fits = omega arith
+
+halved : (h l : ℕ) → joined (h / 2) (next_low h l) ≡ joined h l / 2
+halved h l = omega arith
+
+one_of_two : (x y : ℕ) → x < 2 → y < 2 → ((x + y) % 2 == 1) ≡ differ (x == 1) (y == 1)
+one_of_two zero zero x_bit y_bit = refl
+one_of_two zero (suc zero) x_bit y_bit = refl
+one_of_two (suc zero) zero x_bit y_bit = refl
+one_of_two (suc zero) (suc zero) x_bit y_bit = refl
+one_of_two (suc (suc x)) y x_bit y_bit = absurd (omega arith)
+one_of_two x (suc (suc y)) x_bit y_bit = absurd (omega arith)
+
+pub contains-ends : (h l b : ℕ) → l < 2 ^ 128 → b < 255
+    → contains (joined (bit_xor h (h / 2)) (bit_xor l (next_low h l))) b ≡ parts (contains (joined h l)) b (b + 1)
+contains-ends h l b fits below =
+    let set = joined h l in
+    let here : nat_lt b 256 ≡ true = grind (arith, nat_tests, below) in
+    let next : nat_lt (b + 1) 256 ≡ true = grind (arith, nat_tests, below) in
+    let later : suc b ≡ b + 1 = omega arith in
+    ap (λ bit. nat_lt b 256 && (bit == 1))
+    (xor_bit h l (h / 2) (next_low h l) b fits (next_low-fits h l fits)
+    ∙ ap (λ (n : ℕ). (bit_at set b + bit_at n b) % 2) (halved h l)
+    ∙ ap (λ (bit : ℕ). (bit_at set b + bit) % 2) (sym (bit_at-suc set b) ∙ ap (bit_at set) later))
+    ∙ rw (here, next) (one_of_two (bit_at set b) (bit_at set (b + 1)) (bit_at-lt set b) (bit_at-lt set (b + 1)))

@@ -1,10 +1,10 @@
 -- The classes that end at some bytes, and the bytes of which each is the first.
 use Rattle.std.proofs.Common.{ℕ, zero, suc, ◌≡◌, ◌≢◌, ◌+◌, ◌-◌, ◌^◌, ◌<◌, ◌≤◌, ◌⊎◌, refl, sym, ◌∙◌, ap, ap₂, subst}
 use Rattle.std.proofs.Common.{arith}
-use Rattle.std.proofs.Common.{inl, inr, add-one, Bool, true, false, ◌==◌, ◌&&◌, ◌||◌, not, nat_le, nat_lt, cond, bit_or}
+use Rattle.std.proofs.Common.{inl, inr, add-one, Bool, true, false, ◌==◌, ◌||◌, not, nat_le, cond, bit_or}
 use Rattle.std.proofs.Common.{List, [], ◌∷◌, ◌++◌, length, get_or, filter, replicate}
 use Rattle.std.specs.List.{range_with_len}
-use Rattle.std.proofs.Math.Bool.{and-false, or-true, or-false, or_assoc}
+use Rattle.std.proofs.Math.Bool.{or_assoc}
 use Rattle.std.proofs.lemmas.Bool.{eq-eqb}
 use Rattle.std.proofs.lemmas.Bool.Decides.{nat_tests, eqb_tells}
 use Rattle.std.proofs.lemmas.List.{get_or-replicate, length-replicate}
@@ -157,7 +157,7 @@ representatives_from-skip classes at h e =
     ap₂ (λ (xs : List ℕ) (t : Bool). xs ++ cond t (eoi ∷ []) [])
     (bytes_from-skip (begins_class (ends_of classes)) at h e) (eoi_left at h)
 
--- ---- the bytes that end a class, once a range or a byte is told apart
+-- ---- the bytes that end a class, once a range is told apart
 module _ (old ends : ℕ) where
   pub ends-with_range : (first last b : ℕ) → first ≤ last → last < 256
       → contains ends b ≡ (contains old b || (b + 1 == first))
@@ -167,42 +167,6 @@ module _ (old ends : ℕ) where
       ∙ ap (λ t. t || (b == last)) before
       ∙ or_assoc (contains old b) (b + 1 == first) (b == last)
       ∙ ap (λ t. contains old b || t) (sym (parts-between first last b ordered fits))
-
-  pub ends-with_byte : (test : ℕ → Bool) (byte b : ℕ) → byte < 256 → test byte ≡ true
-      → contains ends b ≡ (contains old b || (nat_lt b byte && test b))
-      → contains (bit_or ends (only byte)) b ≡ (contains old b || (nat_lt b (byte + 1) && test b))
-  ends-with_byte test byte b fits ends_here before =
-      contains-add ends byte b fits
-      ∙ ap (λ t. t || (b == byte)) before
-      ∙ or_assoc (contains old b) (nat_lt b byte && test b) (b == byte)
-      ∙ ap (λ t. contains old b || t) more
-    where
-      more : ((nat_lt b byte && test b) || (b == byte)) ≡ (nat_lt b (byte + 1) && test b)
-      more = elim (eqb_tells b byte) [
-        | inl same ↦
-            let within : nat_lt b (byte + 1) ≡ true = grind (arith, nat_tests, same.1) in
-            let here : test b ≡ true = ap test same.1 ∙ ends_here in
-            rw (same.0, within, here) (or-true (nat_lt b byte && true))
-        | inr other ↦
-            let alike : nat_lt b (byte + 1) ≡ nat_lt b byte = grind (arith, nat_tests, other.1) in
-            rw (other.0, alike) (or-false (nat_lt b byte && test b))
-      ]
-
-  pub ends-without_byte : (test : ℕ → Bool) (byte b : ℕ) → test byte ≡ false
-      → contains ends b ≡ (contains old b || (nat_lt b byte && test b))
-      → contains ends b ≡ (contains old b || (nat_lt b (byte + 1) && test b))
-  ends-without_byte test byte b goes_on before =
-      before ∙ ap (λ t. contains old b || t) more
-    where
-      more : (nat_lt b byte && test b) ≡ (nat_lt b (byte + 1) && test b)
-      more = elim (eqb_tells b byte) [
-        | inl same ↦
-            let here : test b ≡ false = ap test same.1 ∙ goes_on in
-            rw here (and-false (nat_lt b byte) ∙ sym (and-false (nat_lt b (byte + 1))))
-        | inr other ↦
-            let alike : nat_lt b (byte + 1) ≡ nat_lt b byte = grind (arith, nat_tests, other.1) in
-            ap (λ t. t && test b) (sym alike)
-      ]
 
 -- ---- the least exponent
 pub least_exponent-next : (len k more : ℕ) → 2 ^ k < len → 0 < more

@@ -52,11 +52,7 @@ impl ByteClassSet {
         ensures { (b : ℕ) → b < 255
             → contains self.new b ≡ (contains self.old b || parts (contains set.now) b (b + 1)) }
     {
-        for byte in 0..255 {
-            if set.contains(byte) != set.contains(byte + 1) {
-                self.ends.add(byte);
-            }
-        }
+        self.ends = self.ends.union(&set.ends());
     }
 
     /// The classes that end there.

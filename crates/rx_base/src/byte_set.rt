@@ -1,12 +1,16 @@
 //! Sets of bytes.
 
-ghost use Rattle.std.specs.Prelude.{◌≡◌, ℕ, ◌+◌, ◌*◌, ◌^◌, ◌≤◌, ◌↔◌, ◌==◌, ◌&&◌, not, IsTrue, true, bit_or};
+ghost use Rattle.std.specs.Prelude.{◌≡◌, ℕ, ◌+◌, ◌*◌, ◌^◌, ◌<◌, ◌≤◌, ◌↔◌, ◌==◌, ◌&&◌, not, IsTrue, true, bit_or};
 ghost use Rattle.rx_spec.specs.Bytes.{contains, only, between, all_bytes};
+ghost use Rattle.rx_spec.specs.Classes.{parts};
 
 use std::marker::Model;
 
 /// How many bytes each half of a set holds.
 const HALF: u8 = 128;
+
+/// The bit of the last byte of a half.
+const LAST: u128 = 1 << 127;
 
 /// A set of bytes.
 ///
@@ -114,6 +118,19 @@ impl ByteSet {
         ByteSet {
             low: self.low | other.low,
             high: self.high | other.high,
+        }
+    }
+
+    /// The bytes that the set tells apart from the next one, since it has one of the two and not the other.
+    pub(crate) fn ends(&self) -> ByteSet
+        ensures { (b : ℕ) → b < 255 → contains result b ≡ parts (contains self.now) b (b + 1) }
+    {
+        // Each byte stands where the one before it stood.
+        let low = self.low / 2 + (self.high % 2) * LAST;
+        let high = self.high / 2;
+        ByteSet {
+            low: self.low ^ low,
+            high: self.high ^ high,
         }
     }
 

@@ -20,7 +20,7 @@ use Rattle.rx_meaning.proofs.Reduced.{reduced_is_least}
 use Rattle.rx_build.specs.Built.{AreApart, IsBuilt, begun, build_of}
 use Rattle.rx_build.specs.Making.{IsMade, Steps, determinized, marked_as, minimized}
 use Rattle.rx_build.specs.Settings.{Settled}
-use Rattle.rx_build.proofs.PermutedTables.{IsMoved, moved_apart, moved_gives, moved_power, moved_reached}
+use Rattle.rx_build.proofs.PermutedTables.{IsMoved, moved_apart, moved_gives, moved_machine, moved_reached}
 use Rattle.rx_build.proofs.StartMarks.{none_accelerated, range_kept, unmarked, unmarked_order, unmarked_plain}
 use Rattle.rx_build.proofs.StartMarks.{unmarked_row}
 
@@ -164,7 +164,7 @@ module _ {b : Build} {begun : Layout} where
       record {
         gives = moved_gives moved b made.gives;
         reached = moved_reached moved (built_modes b) made.reached;
-        power = λ e. moved_power moved (made.power e);
+        power = λ e. moved_machine moved b (made.power e);
         apart = λ e. moved_apart moved (made.apart e);
         in_order = a.in_order;
         plain = λ e. absurd (true≢false e);

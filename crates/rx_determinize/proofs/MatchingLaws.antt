@@ -17,7 +17,7 @@ use Rattle.std.specs.declared.alloc.Global.{Global}
 use Rattle.rx_dense.specs.Builder.{pattern_lists}
 use Rattle.rx_dense.specs.Layouts.{Layout, stride}
 use Rattle.rx_order.proofs.MarkedRows.{is_at_number, key_ids}
-use Rattle.rx_order.proofs.Shuffled.{inserted_last, lists_last}
+use Rattle.rx_order.proofs.InsertedLists.{inserted_last, lists_last}
 use Rattle.rx_order.specs.Ordering.{Matches}
 use Rattle.rx_stepper.specs.Keys.{label_of}
 use Rattle.rx_determinize.specs.Matching.{AreLabels, IsLabelAt, patterns_told}

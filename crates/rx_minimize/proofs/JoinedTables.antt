@@ -3,16 +3,16 @@ use Rattle.std.proofs.Common.{◌≡◌, ◌≢◌, ℕ, ◌+◌, ◌-◌, ◌*�
 use Rattle.std.proofs.Common.{Bool, true, false, List, [], length, map, refl, ap, sym, ◌∙◌, arith, slice_index, get_or}
 use Rattle.std.specs.List.{concat, range_with_len}
 use Rattle.std.proofs.Math.Nat.{mul-div_cancel}
-use Rattle.std.proofs.lemmas.Bool.{cases_eq, cases_lt, eq-eqb, false≢true, le-ltb, ne_eqb}
+use Rattle.std.proofs.lemmas.Bool.{cases_eq, cases_lt, eq-eqb, le-ltb, ne_eqb}
 use Rattle.std.proofs.lemmas.List.{get_or-map, length-map}
 use Rattle.std.proofs.lemmas.List.FromFn.{fill_by_all, get_or-map-range_with_len, length-map-range_with_len}
 use Rattle.std.proofs.lemmas.Nat.{pow_pos}
 use Rattle.rx_spec.specs.Causes.{max_id}
 use Rattle.rx_spec.specs.Machines.{Label}
 use Rattle.rx_spec.specs.Queries.{Anchored}
-use Rattle.rx_spec.specs.Tables.{Table, is_match, is_match_label}
+use Rattle.rx_spec.specs.Tables.{Table, is_match}
 use Rattle.rx_spec.specs.declared.Start.{Start}
-use Rattle.rx_search.specs.Labels.{label_patterns, patterns_of}
+use Rattle.rx_search.specs.Labels.{patterns_of}
 use Rattle.rx_dense.specs.Builder.{slices_from, with_patterns}
 use Rattle.rx_dense.specs.Layouts.{Layout, AreStarts, context_number, machine_of, mode_place, patterns_at}
 use Rattle.rx_dense.specs.Layouts.{place_in_range}
@@ -22,7 +22,7 @@ use Rattle.rx_dense.specs.declared.special.Special.{Special}
 use Rattle.rx_dense.proofs.PatternLists.{patterns_are}
 use Rattle.rx_order.specs.RowOrder.{AreJoined, IsInOrder, IsPlain, match_count, match_lists}
 use Rattle.rx_order.proofs.KindNumbers.{label_match}
-use Rattle.rx_order.proofs.MatchRows.{place_from}
+use Rattle.rx_order.proofs.MatchRows.{matching_label, place_from, plain_label}
 use Rattle.rx_order.proofs.Moved.{factor}
 use Rattle.rx_minimize.specs.Blocks.{AreBlocks, AreRenumbered}
 use Rattle.rx_minimize.specs.Joined.{IsJoinedBy}
@@ -46,18 +46,6 @@ pub record IsMinimizing (old : Layout) (blocks numbers firsts ids : List ℕ) (l
   pub few : length (concat lists) ≤ max_id
   pub joined : IsJoinedBy (with_patterns old lists) firsts ids new
   pub specials : AreKeptSpecials old firsts special
-
--- ---- labels
-
-match_is : (label : Label) → is_match_label label ≡ true → label ≡ Label.Matches (label_patterns label)
-match_is Label.Plain e = absurd (false≢true e)
-match_is (Label.Matches ks) e = refl
-match_is Label.Quits e = absurd (false≢true e)
-
-plain_is : (label : Label) → is_match_label label ≡ false → (label ≡ Label.Quits → ⊥) → label ≡ Label.Plain
-plain_is Label.Plain e no_quit = refl
-plain_is (Label.Matches ks) e no_quit = absurd (false≢true (sym e))
-plain_is Label.Quits e no_quit = absurd (no_quit refl)
 
 module _ {old : Layout} {blocks numbers firsts ids : List ℕ} {lists : List (List ℕ)} {special : Special} {new : Layout}
     (s : IsMinimizing old blocks numbers firsts ids lists special new) where
@@ -248,7 +236,7 @@ module _ {old : Layout} {blocks numbers firsts ids : List ℕ} {lists : List (Li
       plain_row : row ≢ 1 → is_match_id special (row * stride old) ≡ false
           → before.machine.label (first row) ≡ Label.Plain
       plain_row ne e =
-          plain_is (before.machine.label (first row)) (match_before (first row) ∙ sym (kept_matches row h) ∙ e)
+          plain_label (before.machine.label (first row)) (match_before (first row) ∙ sym (kept_matches row h) ∙ e)
           (λ quits.
           let one = s.in_order.sound.is_table.quit_only (first row) (first_below numbered row h) quits in
           ne (sym (first_number numbered row h) ∙ ap number one ∙ number_one numbered))
@@ -264,7 +252,7 @@ module _ {old : Layout} {blocks numbers firsts ids : List ℕ} {lists : List (Li
           ∙ ap Label.Matches
           (ap (patterns_at left) (place_is row at.0 at.1)
           ∙ patterns_there (row - from) (omega (arith, lists_count, at.0, at.1)) ∙ list_is row at.0 at.1)
-          ∙ sym (match_is (before.machine.label (first row)) matches)
+          ∙ sym (matching_label (before.machine.label (first row)) matches)
       by_match false e =
           ap (λ b. if b then Label.Matches (patterns_at left (place_in_range left special.min_match (row * stride old)))
           else (if is_quit_id special (row * stride old) then Label.Quits else Label.Plain)) e

@@ -7,7 +7,7 @@ use Rattle.rx_dense.specs.Layouts.{Layout, IsRowId, row_count, stride}
 use Rattle.rx_dense.specs.Specials.{is_in_range}
 use Rattle.rx_dense.proofs.Rows.{IsRowId-row}
 use Rattle.rx_order.specs.RowOrder.{IsRange}
-use Rattle.rx_order.proofs.KindNumbers.{at_most, over}
+use Rattle.rx_order.proofs.KindNumbers.{at_most}
 use Rattle.rx_minimize.specs.Ranges.{ArePlaces, IsKeptRange}
 
 -- ---- tests
@@ -38,14 +38,6 @@ pub inside_from : {first last id : ℕ} → IsInside first last id → is_in_ran
 inside_from {first} {last} {id} h =
     ap₂ (λ (a b : Bool). a && b && not (id == 0)) (at_most first id h.from) (at_most id last h.to)
     ∙ ap not (ne_eqb id 0 h.some)
-
--- no rows are in a range that begins and ends at dead
-pub nothing : (id : ℕ) → is_in_range 0 0 id ≡ false
-nothing id =
-    ⊎_elim
-    (λ (e : id ≡ 0). rw e refl)
-    (λ (ne : id ≡ 0 → ⊥). rw (over id 0 (omega (arith, ne)), at_most 0 id (omega arith)) refl)
-    (cases_eq id 0)
 
 -- ---- multiples
 

@@ -1,6 +1,6 @@
 -- The rows that are left: their kinds, their order, and which of them are special.
-use Rattle.std.proofs.Common.{◌≡◌, ◌≢◌, ℕ, ◌+◌, ◌*◌, ◌/◌, ◌%◌, ◌<◌, ◌≤◌, ◌==◌, ◌&&◌, ◌||◌, not, nat_lt, nat_le, ⊎_elim}
-use Rattle.std.proofs.Common.{Bool, true, false, if◌then◌else◌, List, length, refl, ap, ap₂, sym, ◌∙◌, subst, arith}
+use Rattle.std.proofs.Common.{◌≡◌, ◌≢◌, ℕ, ◌*◌, ◌/◌, ◌<◌, ◌≤◌, ◌==◌, ◌&&◌, ◌||◌, not, nat_lt, nat_le, ⊎_elim}
+use Rattle.std.proofs.Common.{Bool, true, false, List, length, refl, ap, ap₂, sym, ◌∙◌, subst, arith}
 use Rattle.std.proofs.Common.{inl, slice_index}
 use Rattle.std.specs.List.{list_any}
 use Rattle.std.specs.Prelude.{Contains}
@@ -9,19 +9,17 @@ use Rattle.std.proofs.lemmas.Bool.{and_from, and_parts, cases_eq, cases_lt, eqb-
 use Rattle.std.proofs.lemmas.Bool.{le-ltb, leb-false, lt-ltb, ne_eqb}
 use Rattle.std.proofs.lemmas.List.{get_or-map, get_or_default}
 use Rattle.std.proofs.lemmas.List.Elements.{Contains-get_or}
-use Rattle.rx_spec.specs.Machines.{Label}
 use Rattle.rx_spec.specs.Tables.{is_match, is_match_label}
-use Rattle.rx_base.specs.Search.{mode_of}
-use Rattle.rx_dense.specs.Layouts.{Layout, IsRowId, context_number, machine_of, mode_place, row_count, stride}
+use Rattle.rx_dense.specs.Layouts.{Layout, IsRowId, row_count, stride}
 use Rattle.rx_dense.specs.Specials.{is_in_range, is_start_id}
 use Rattle.rx_dense.specs.declared.special.Special.{Special}
 use Rattle.rx_dense.proofs.Rows.{quotient, row-below}
 use Rattle.rx_order.specs.RowOrder.{IsOrdered, is_marked, is_start_row, kind_of}
-use Rattle.rx_order.proofs.KindNumbers.{any_of, at_most, high_kind, kind_high, kind_low, over}
-use Rattle.rx_order.proofs.MarkedRows.{any_has, context_at, context_at-number, mode_at, mode_at-place}
+use Rattle.rx_order.proofs.KindNumbers.{any_of, at_most, high_kind, kind_high, kind_low, none_in_range, over}
+use Rattle.rx_order.proofs.MarkedRows.{any_contains, any_has}
+use Rattle.rx_order.proofs.MarkedRows.{start_row_plain}
 use Rattle.rx_order.proofs.Moved.{factor}
-use Rattle.rx_order.proofs.Shuffled.{any_contains}
-use Rattle.rx_minimize.proofs.KeptRanges.{ends_are, inside_parts, is_range, kept_test, no_ends, not_dead, nothing}
+use Rattle.rx_minimize.proofs.KeptRanges.{ends_are, inside_parts, is_range, kept_test, no_ends, not_dead}
 use Rattle.rx_minimize.proofs.KeptRanges.{past_range, same_test, times_above, was_inside}
 use Rattle.rx_minimize.proofs.JoinedTables.{IsMinimizing, after, before, first, id_is, kept_matches, kept_rows}
 use Rattle.rx_minimize.proofs.JoinedTables.{label_is, left, number}
@@ -54,38 +52,14 @@ module _ {old : Layout} {blocks numbers firsts ids : List ℕ} {lists : List (Li
   none_before : (row : ℕ) → (before s).is_accelerated row ≡ false
   none_before row =
       ap₂ (λ (a b : ℕ). is_in_range a b (row * stride old)) s.plain.min_accel s.plain.max_accel
-      ∙ nothing (row * stride old)
+      ∙ none_in_range (row * stride old)
 
   pub none_accelerated : (row : ℕ) → (after s).is_accelerated row ≡ false
   none_accelerated row =
       ap₂ (λ (a b : ℕ). is_in_range a b (row * stride old)) s.specials.min_accel s.specials.max_accel
-      ∙ nothing (row * stride old)
+      ∙ none_in_range (row * stride old)
 
   -- ---- start rows
-
-  -- a start row tells nothing
-  start_plain : (row : ℕ) → is_start_row old row ≡ true → (before s).machine.label row ≡ Label.Plain
-  start_plain row e =
-      found (any_contains (row * stride old) old.starts (and_parts (nat_lt 1 row) (list_any
-      (λ id. id == row * stride old) old.starts) e).1)
-    where
-      found : Contains old.starts (row * stride old) → (before s).machine.label row ≡ Label.Plain
-      found c =
-          let k : ℕ = c.0 in
-          let mode = mode_of (mode_at (k / 6)) in
-          let start = context_at (k % 6) in
-          let number : k % 6 < 6 = omega arith in
-          let place : mode_place mode + context_number start ≡ k =
-          omega (arith, mode_at-place (k / 6), context_at-number (k % 6) number) in
-          let has : mode_place mode < length old.starts = omega (arith, mode_at-place (k / 6), c.1) in
-          let id : slice_index old.starts k ≡ row * stride old =
-          get_or_default old.starts k 0 (row * stride old) c.1 ∙ c.2 in
-          let entry : (machine_of old).entry mode start ≡ row =
-          ap (λ b. (if b then slice_index old.starts (mode_place mode + context_number start) else 0) / stride old)
-          (lt-ltb (mode_place mode) (length old.starts) has)
-          ∙ ap (λ k. slice_index old.starts k / stride old) place ∙ ap (λ id. id / stride old) id
-          ∙ mul-div_cancel row width in
-          ap (before s).machine.label (sym entry) ∙ s.in_order.sound.starts_plain mode start
 
   -- the row in which a start entry begins
   abbrev start_at : ℕ → ℕ
@@ -115,11 +89,11 @@ module _ {old : Layout} {blocks numbers firsts ids : List ℕ} {lists : List (Li
       let rise = s.in_order.ordered.kinds (first s k) row least low in
       let label : is_match (before s) (first s k) ≡ false =
       ap is_match_label (ap (λ j. (before s).machine.label (first s j)) (sym is) ∙ label_first (numbered s) row low
-      ∙ start_plain row e) in
+      ∙ start_row_plain old s.in_order.sound row e) in
       let kind : kind_of old row ≡ 6 =
       kind_high row (is_match (before s) row) ((before s).is_accelerated row) (is_start_row old row) behind
       ∙ ap (λ b. high_kind b ((before s).is_accelerated row) (is_start_row old row))
-      (ap is_match_label (start_plain row e))
+      (ap is_match_label (start_row_plain old s.in_order.sound row e))
       ∙ ap₂ (λ (a b : Bool). high_kind false a b) (none_before row) e in
       let own : kind_of old (first s k) ≡ high_kind false false (is_start_row old (first s k)) =
       kind_high (first s k) (is_match (before s) (first s k)) ((before s).is_accelerated (first s k))
@@ -257,7 +231,7 @@ module _ {old : Layout} {blocks numbers firsts ids : List ℕ} {lists : List (Li
       ∙ ap (λ b. b && is_start_row (left s) k) (was_marked has ∙ sym (is_left has)))
       (λ (none : end ≤ from).
       let ends = no_ends (kept_rows s) s.specials.starts none in
-      ap₂ (λ (a b : ℕ). is_in_range a b (k * stride old)) ends.0 ends.1 ∙ nothing (k * stride old)
+      ap₂ (λ (a b : ℕ). is_in_range a b (k * stride old)) ends.0 ends.1 ∙ none_in_range (k * stride old)
       ∙ sym (ap (λ n. not (n == 0) && is_start_row (left s) k) ends.0))
       (cases_lt from end)
     where

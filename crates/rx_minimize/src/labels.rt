@@ -33,7 +33,8 @@ pub(crate) fn labels(alloc: Global, dfa: &OwnedDFA) -> Result<Vec<u32>, AllocErr
         let id = StateID::must(row << stride2);
         labels.push(label(dfa, id, &mut lists)?)?;
     }
-    let _count = lists.len();
+    // Each list is some row's.
+    prove!(lists.len() <= count);
     Ok(labels)
 }
 

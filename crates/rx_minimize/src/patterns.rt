@@ -1,13 +1,9 @@
 //! The patterns of the match rows that are left.
 
-ghost use Rattle.std.specs.Prelude.{◌≡◌, ℕ, ◌<◌, ◌-◌, IfOk, OnOk, map, length, slice_index, true};
-ghost use Rattle.std.specs.List.{range_with_len};
-ghost use Rattle.rx_spec.specs.Ids.{row_of};
-ghost use Rattle.rx_spec.specs.Tables.{IsSound, is_match};
-ghost use Rattle.rx_search.specs.Labels.{patterns_of};
-ghost use Rattle.rx_search.specs.Starts.{IsId};
+ghost use Rattle.std.specs.Prelude.{IfOk};
+ghost use Rattle.rx_spec.specs.Tables.{IsSound};
 ghost use Rattle.rx_dense.specs.Builder.{pattern_lists};
-ghost use Rattle.rx_dense.specs.Layouts.{AreRows, ids_of, row_count, table_of};
+ghost use Rattle.rx_dense.specs.Layouts.{AreRows, row_count, table_of};
 ghost use Rattle.rx_order.specs.RowOrder.{IsOrdered};
 ghost use Rattle.rx_minimize.specs.Blocks.{AreFirsts};
 ghost use Rattle.rx_minimize.specs.Ranges.{AreKeptPatterns};
@@ -15,7 +11,7 @@ ghost use Rattle.rx_minimize.specs.Ranges.{AreKeptPatterns};
 use crate::ranges::places;
 use rx_base::{PatternID, StateID};
 use rx_dense::OwnedDFA;
-use rx_search::Automaton;
+use rx_order::patterns_of_row;
 use std::alloc::{AllocError, Global};
 use std::collections::BTreeMap;
 
@@ -41,19 +37,4 @@ pub(crate) fn patterns(
         lists.insert(StateID::must(place << stride2), list)?;
     }
     Ok(lists)
-}
-
-/// The patterns of a match row.
-fn patterns_of_row(alloc: Global, dfa: &OwnedDFA, id: StateID) -> Result<Vec<PatternID>, AllocError>
-    requires sound { IsSound (table_of dfa.now) }
-    requires is_id { IsId (ids_of dfa.now) id }
-    requires is_match { is_match (table_of dfa.now) (row_of (ids_of dfa.now) id) ≡ true }
-    ensures { IfOk result (λ list. list.items ≡ patterns_of (table_of dfa.now) (row_of (ids_of dfa.now) id)) }
-{
-    let count = dfa.match_len(id);
-    let mut list = Vec::with_capacity(alloc, count)?;
-    for index in 0..count {
-        list.push(dfa.match_pattern(id, index))?;
-    }
-    Ok(list)
 }

@@ -12,10 +12,9 @@ use Rattle.rx_table_lemmas.proofs.Filters.{every_in_range, filter_alike}
 use Rattle.rx_spec.specs.Causes.{max_id}
 use Rattle.rx_spec.specs.Machines.{Label}
 use Rattle.rx_spec.specs.Tables.{IsSound, Table, is_match, is_match_label, leaving}
-use Rattle.rx_search.specs.Labels.{label_patterns, patterns_of}
-use Rattle.rx_base.specs.Search.{mode_of}
+use Rattle.rx_search.specs.Labels.{patterns_of}
 use Rattle.rx_dense.specs.Builder.{with_patterns}
-use Rattle.rx_dense.specs.Layouts.{Layout, AreRows, AreStarts, context_number, machine_of, mode_place, place_in_range}
+use Rattle.rx_dense.specs.Layouts.{Layout, AreRows, AreStarts, machine_of, place_in_range}
 use Rattle.rx_dense.specs.Layouts.{row_count, stride, table_of}
 use Rattle.rx_dense.specs.declared.special.Special.{Special}
 use Rattle.rx_dense.proofs.Shaped.{rows_kept, starts_kept}
@@ -25,8 +24,9 @@ use Rattle.rx_order.specs.Ordering.{IsAccelerated, IsRouted}
 use Rattle.rx_order.specs.RowOrder.{IsInOrder, IsPlain, are_needles, is_marked, is_skippable, is_start_row}
 use Rattle.rx_order.specs.SpecialIds.{special_ids}
 use Rattle.rx_order.proofs.Leaving.{leaving_is}
-use Rattle.rx_order.proofs.MarkedRows.{context_at, context_at-number, mode_at, mode_at-place}
-use Rattle.rx_order.proofs.MatchRows.{HasPatterns, joined, label_of_number, lists_are, place_from}
+use Rattle.rx_order.proofs.MarkedRows.{start_row_plain}
+use Rattle.rx_order.proofs.MatchRows.{HasPatterns, joined, label_of_number, lists_are, matching_label, place_from}
+use Rattle.rx_order.proofs.MatchRows.{plain_label}
 use Rattle.rx_order.proofs.Ordered.{IsArranged, Sorting, accel_id, accel_is, behind_end, end, end_high}
 use Rattle.rx_order.proofs.Ordered.{ends_few, ends_quit, kind_at, low_kind, low_row, number, ordered, permuted, row_at}
 use Rattle.rx_order.proofs.KindNumbers.{high_matches, over, at_most}
@@ -34,17 +34,11 @@ use Rattle.rx_order.proofs.Ordered.{from_end, high_kind_is, size_same, some, spe
 use Rattle.rx_order.proofs.Ordered.{stride_same, to_end}
 use Rattle.rx_order.proofs.Reordered.{IsBefore, next_below, number_below, number_of_place, numbers, row_at_number}
 use Rattle.rx_order.proofs.Reordered.{row_of_place, stride_is, two_rows}
-use Rattle.std.specs.Prelude.{Contains}
-use Rattle.std.proofs.Math.Nat.{mul-div_cancel}
-use Rattle.std.proofs.Common.{◌%◌}
-use Rattle.std.proofs.lemmas.List.{get_or_default}
-use Rattle.std.proofs.lemmas.Nat.{pow_pos}
 use Rattle.std.proofs.lemmas.Nat.{row_fits}
 use Rattle.rx_dense.specs.Layouts.{IsRowId}
 use Rattle.rx_dense.specs.Specials.{is_start_id}
 use Rattle.rx_dense.proofs.Rows.{quotient, row-below}
 use Rattle.rx_order.proofs.Ordered.{start_kinds, start_row_is}
-use Rattle.rx_order.proofs.Shuffled.{any_contains}
 use Rattle.rx_order.proofs.Sound.{AreLabels, HasNeedles, frame, sound}
 
 -- what the call learns of a table, and what its calls leave
@@ -72,16 +66,6 @@ pub record IsAccelerating (old : Layout) (kinds rows ends : List ℕ) (lists : L
 
 plain_no_match : (label : Label) → label ≡ Label.Plain → is_match_label label ≡ false
 plain_no_match label e = ap is_match_label e
-
-match_is : (label : Label) → is_match_label label ≡ true → label ≡ Label.Matches (label_patterns label)
-match_is Label.Plain e = absurd (false≢true e)
-match_is (Label.Matches ks) e = refl
-match_is Label.Quits e = absurd (false≢true e)
-
-plain_is : (label : Label) → is_match_label label ≡ false → (label ≡ Label.Quits → ⊥) → label ≡ Label.Plain
-plain_is Label.Plain e no_quit = refl
-plain_is (Label.Matches ks) e no_quit = absurd (false≢true (sym e))
-plain_is Label.Quits e no_quit = absurd (no_quit refl)
 
 plain_apart : Label.Plain ≡ Label.Quits → ⊥
 plain_apart e = cc
@@ -162,35 +146,13 @@ module _ {old : Layout} {kinds rows ends : List ℕ} {lists : List (List ℕ)} {
   sound_old : IsSound (table_of old)
   sound_old = s.in_order.sound
 
-  plain_start : (row : ℕ) → is_start_row old row ≡ true → (table_of old).machine.label row ≡ Label.Plain
-  plain_start row e = found (any_contains (row * stride old) old.starts (and_parts (nat_lt 1 row) (list_any
-      (λ id. id == row * stride old) old.starts) e).1)
-    where
-      found : Contains old.starts (row * stride old) → (table_of old).machine.label row ≡ Label.Plain
-      found c =
-          let k : ℕ = c.0 in
-          let mode = mode_of (mode_at (k / 6)) in
-          let start = context_at (k % 6) in
-          let number : k % 6 < 6 = omega arith in
-          let place : mode_place mode + context_number start ≡ k =
-          omega (arith, mode_at-place (k / 6), context_at-number (k % 6) number) in
-          let has : mode_place mode < length old.starts = omega (arith, mode_at-place (k / 6), c.1) in
-          let id : slice_index old.starts k ≡ row * stride old =
-          get_or_default old.starts k 0 (row * stride old) c.1 ∙ c.2 in
-          let entry : (machine_of old).entry mode start ≡ row =
-          ap (λ b. (if b then slice_index old.starts (mode_place mode + context_number start) else 0) / stride old)
-          (lt-ltb (mode_place mode) (length old.starts) has)
-          ∙ ap (λ k. slice_index old.starts k / stride old) place ∙ ap (λ id. id / stride old) id
-          ∙ mul-div_cancel row (pow_pos old.stride2) in
-          ap (table_of old).machine.label (sym entry) ∙ sound_old.starts_plain mode start
-
   plain : (row : ℕ) → is_match (table_of old) row ≡ true → is_start_row old row ≡ false
   plain row e = by_start (is_start_row old row) refl
     where
       by_start : (b : Bool) → is_start_row old row ≡ b → b ≡ false
       by_start false h = refl
       by_start true h = absurd (false≢true (sym (plain_no_match ((table_of old).machine.label row)
-          (plain_start row h)) ∙ e))
+          (start_row_plain old sound_old row h)) ∙ e))
 
   pub arranged : IsArranged sorting l new m
   arranged = record {
@@ -308,7 +270,7 @@ module _ {old : Layout} {kinds rows ends : List ℕ} {lists : List (List ℕ)} {
           then Label.Matches (get_or lists (number arranged row - 2) []) else Label.Plain)) (ne_eqb row 1 other)
           ∙ ap (λ b. if b then Label.Matches (get_or lists (number arranged row - 2) []) else Label.Plain)
           (ap₂ (λ (a b : Bool). a && b) (lt-ltb 1 row high) e)
-          ∙ ap Label.Matches (list_is row h e) ∙ sym (match_is ((table_of old).machine.label row) e)
+          ∙ ap Label.Matches (list_is row h e) ∙ sym (matching_label ((table_of old).machine.label row) e)
       by_match false e =
           ap (λ b. if row == 1 then Label.Quits else (if b
           then Label.Matches (get_or lists (number arranged row - 2) []) else Label.Plain))
@@ -319,7 +281,7 @@ module _ {old : Layout} {kinds rows ends : List ℕ} {lists : List (List ℕ)} {
           ∙ sym (ap (table_of old).machine.label one ∙ sound_old.is_table.quit_label))
           (λ (ne : row ≡ 1 → ⊥).
           ap (λ b. if b then Label.Quits else Label.Plain) (ne_eqb row 1 ne)
-          ∙ sym (plain_is ((table_of old).machine.label row) e (λ quits. ne
+          ∙ sym (plain_label ((table_of old).machine.label row) e (λ quits. ne
           (sound_old.is_table.quit_only row h quits))))
           (cases_eq row 1)
 

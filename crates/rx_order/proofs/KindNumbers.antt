@@ -35,6 +35,14 @@ any_of s false false false false false f g h i j k = k refl refl refl refl refl
 
 -- ---- ranges of ids
 
+-- no rows are in a range that begins and ends at dead
+pub none_in_range : (id : ℕ) → is_in_range 0 0 id ≡ false
+none_in_range id =
+    ⊎_elim
+    (λ (e : id ≡ 0). rw e refl)
+    (λ (ne : id ≡ 0 → ⊥). rw (over id 0 (omega (arith, ne)), at_most 0 id (omega arith)) refl)
+    (cases_eq id 0)
+
 module _ (width from to place : ℕ) (some : 0 < width) (behind : 0 < from) where
   pub id : ℕ
   id = place * width

@@ -14,6 +14,8 @@ pub mod MarkedRows
 pub mod MatchRows
 -- tables in order that are sound
 pub mod Sound
+-- maps in which lists of patterns are inserted one after another
+pub mod InsertedLists
 -- shuffled tables
 pub mod Shuffled
 -- the bytes that lead a row elsewhere

@@ -1,6 +1,6 @@
 -- Rows that are marked by their ids: those in which searches start, and those that match.
 use Rattle.std.proofs.Common.{◌≡◌, ℕ, zero, suc, ◌+◌, ◌*◌, ◌/◌, ◌%◌, ◌<◌, ◌≤◌, ◌==◌, ◌||◌, Bool, true, false, List, []}
-use Rattle.std.proofs.Common.{◌∷◌}
+use Rattle.std.proofs.Common.{◌∷◌, if◌then◌else◌, nat_lt, subst}
 use Rattle.std.proofs.Common.{length, drop, map, slice_index, slice_set, get_or, All, refl, ap, sym, ◌∙◌, ⊎_elim, arith}
 use Rattle.std.specs.List.{list_any}
 use Rattle.std.proofs.Math.Seq.{drop-cons}
@@ -8,21 +8,25 @@ use Rattle.std.specs.BTreeMap.{is_at}
 use Rattle.std.specs.Map.{keys_of, lookup}
 use Rattle.std.specs.Ordering.{is_eq, nat_cmp}
 use Rattle.std.specs.Prelude.{Contains, Option, Some, None, is_some}
-use Rattle.std.proofs.lemmas.Bool.{cases_eq, cases_lt, eq-eqb, false≢true, le-ltb, lt-ltb, ne_eqb}
+use Rattle.std.proofs.lemmas.Bool.{and_parts, cases_eq, cases_lt, eq-eqb, false≢true, le-ltb, lt-ltb, ne_eqb}
 use Rattle.std.proofs.lemmas.Map.Entries.{lookup_head, lookup_tail}
-use Rattle.rx_lemmas.proofs.Firsts.{Contains-cases, Contains-nil}
-use Rattle.std.proofs.lemmas.List.{drop_all, get_or-set_same, get_or-set_other, length-set}
+use Rattle.rx_lemmas.proofs.Firsts.{Contains-cases, Contains-here, Contains-nil, Contains-there}
+use Rattle.std.proofs.lemmas.List.{drop_all, get_or_default, get_or-set_same, get_or-set_other, length-set}
 use Rattle.std.proofs.lemmas.List.Elements.{All-head, All-tail, Contains-get_or}
 use Rattle.std.proofs.lemmas.Nat.{pow_pos}
 use Rattle.std.proofs.Math.Bool.{or-true}
 use Rattle.std.proofs.Math.Nat.{mul-div_cancel}
+use Rattle.rx_spec.specs.Machines.{Label}
+use Rattle.rx_spec.specs.Tables.{IsSound}
 use Rattle.rx_spec.specs.declared.Start.{Start}
 use Rattle.rx_base.specs.Search.{mode_of}
 use Rattle.rx_base.specs.declared.search.Anchored.{Anchored}
-use Rattle.rx_dense.specs.Layouts.{Layout, AreStarts, IsRowId, context_number, mode_place, row_count, stride}
+use Rattle.rx_dense.specs.Layouts.{Layout, AreStarts, IsRowId, context_number, machine_of, mode_place, row_count}
+use Rattle.rx_dense.specs.Layouts.{stride, table_of}
 use Rattle.rx_dense.specs.States.{starts_of}
 use Rattle.rx_dense.proofs.Rows.{quotient, row-below}
 use Rattle.rx_dense.proofs.States.{starts_of-len, starts_of-next}
+use Rattle.rx_order.specs.RowOrder.{is_start_row}
 
 -- a start entry: an id, a mode and a context
 abbrev pub Entry : Type 0
@@ -87,6 +91,16 @@ pub record AreNoted (l : Layout) (flags : List Bool) (left all : List ℕ) : Typ
       ≡ list_any (λ id. id == row * stride l) all
   pub ids : All (IsRowId l) left
 
+-- a test finds a member
+pub any_contains : (x : ℕ) (xs : List ℕ) → list_any (λ y. y == x) xs ≡ true → Contains xs x
+any_contains x [] e = absurd (false≢true e)
+any_contains x (y ∷ ys) e =
+    ⊎_elim
+    (λ (here : y ≡ x). subst (λ z. Contains (y ∷ ys) z) here (Contains-here y ys))
+    (λ (other : y ≡ x → ⊥).
+    Contains-there y ys x (any_contains x ys (sym (ap (λ b. b || list_any (λ y. y == x) ys) (ne_eqb y x other)) ∙ e)))
+    (cases_eq y x)
+
 pub any_has : (x : ℕ) (xs : List ℕ) → Contains xs x → list_any (λ y. y == x) xs ≡ true
 any_has x [] c = absurd (Contains-nil x c)
 any_has x (y ∷ ys) c =
@@ -150,6 +164,31 @@ module _ {l : Layout} {flags : List Bool} {id : ℕ} {left all : List ℕ} (note
         ∙ noted.noted row h;
     ids = All-tail (IsRowId l) id left noted.ids;
   }
+
+-- ---- no search starts in a row that tells something
+
+pub start_row_plain : (l : Layout) → IsSound (table_of l) → (row : ℕ) → is_start_row l row ≡ true
+    → (table_of l).machine.label row ≡ Label.Plain
+start_row_plain l sound row e =
+    found (any_contains (row * stride l) l.starts (and_parts (nat_lt 1 row) (list_any (λ id. id == row * stride l)
+    l.starts) e).1)
+  where
+    found : Contains l.starts (row * stride l) → (table_of l).machine.label row ≡ Label.Plain
+    found c =
+        let k : ℕ = c.0 in
+        let mode = mode_of (mode_at (k / 6)) in
+        let start = context_at (k % 6) in
+        let number : k % 6 < 6 = omega arith in
+        let place : mode_place mode + context_number start ≡ k =
+        omega (arith, mode_at-place (k / 6), context_at-number (k % 6) number) in
+        let has : mode_place mode < length l.starts = omega (arith, mode_at-place (k / 6), c.1) in
+        let id : slice_index l.starts k ≡ row * stride l = get_or_default l.starts k 0 (row * stride l) c.1 ∙ c.2 in
+        let entry : (machine_of l).entry mode start ≡ row =
+        ap (λ b. (if b then slice_index l.starts (mode_place mode + context_number start) else 0) / stride l)
+        (lt-ltb (mode_place mode) (length l.starts) has)
+        ∙ ap (λ k. slice_index l.starts k / stride l) place ∙ ap (λ id. id / stride l) id
+        ∙ mul-div_cancel row (pow_pos l.stride2) in
+        ap (table_of l).machine.label (sym entry) ∙ sound.starts_plain mode start
 
 -- ---- keys
 

@@ -4,9 +4,12 @@ use Rattle.std.proofs.Common.{Bool, true, false, if◌then◌else◌, List, [], 
 use Rattle.std.proofs.Common.{refl, ap, ap₂, sym, ◌∙◌, subst, ⊎_elim, arith}
 use Rattle.std.specs.List.{concat, range_with_len}
 use Rattle.std.proofs.Math.Nat.{add-mul, mul-div_cancel}
-use Rattle.std.proofs.lemmas.Bool.{and_parts, cases_eq, cases_lt, eq-eqb, le-ltb, leb-true, lt-ltb, ltb-true, ne_eqb}
+use Rattle.std.proofs.lemmas.Bool.{and_parts, cases_eq, cases_lt, eq-eqb, false≢true, le-ltb, leb-true, lt-ltb}
+use Rattle.std.proofs.lemmas.Bool.{ltb-true, ne_eqb}
 use Rattle.std.proofs.lemmas.List.FromFn.{fill_by_all}
 use Rattle.rx_spec.specs.Machines.{Label}
+use Rattle.rx_spec.specs.Tables.{is_match_label}
+use Rattle.rx_search.specs.Labels.{label_patterns}
 use Rattle.rx_dense.specs.Builder.{slices_from}
 use Rattle.rx_dense.specs.Layouts.{Layout, patterns_at, place_in_range, row_count, stride, table_of}
 use Rattle.rx_dense.specs.Specials.{is_quit_id}
@@ -23,6 +26,17 @@ use Rattle.rx_order.proofs.Reordered.{number_below, row_at_number}
 
 cases_le : (a b : ℕ) → (a ≤ b) ⊎ (b < a)
 cases_le a b = ⊎_elim (λ (h : b < a). inr h) (λ (h : a ≤ b). inl h) (cases_lt b a)
+
+-- a label that matches has patterns, and one that neither matches nor quits tells nothing
+pub matching_label : (label : Label) → is_match_label label ≡ true → label ≡ Label.Matches (label_patterns label)
+matching_label Label.Plain e = absurd (false≢true e)
+matching_label (Label.Matches ks) e = refl
+matching_label Label.Quits e = absurd (false≢true e)
+
+pub plain_label : (label : Label) → is_match_label label ≡ false → (label ≡ Label.Quits → ⊥) → label ≡ Label.Plain
+plain_label Label.Plain e no_quit = refl
+plain_label (Label.Matches ks) e no_quit = absurd (false≢true (sym e))
+plain_label Label.Quits e no_quit = absurd (no_quit refl)
 
 -- rows of a range are counted from its first
 pub place_from : (from to width : ℕ) → 0 < width → from ≤ to → (to * width - from * width) / width ≡ to - from

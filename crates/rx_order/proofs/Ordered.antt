@@ -22,9 +22,9 @@ use Rattle.rx_order.specs.SpecialIds.{first_id, last_id, special_ids}
 use Rattle.rx_order.proofs.Reordered.{IsBefore, any_start, entry_of, next_of_row, number_below, number_of_place}
 use Rattle.rx_order.proofs.Reordered.{numbers}
 use Rattle.rx_order.proofs.Reordered.{permutation, row_at_number, row_of_place, size, stride_is, two_rows}
-use Rattle.rx_order.proofs.KindNumbers.{high_kind, at_most, over, any_of, id, in_ids, kind_high, high_above}
+use Rattle.rx_order.proofs.KindNumbers.{high_kind, at_most, over, any_of, in_ids, kind_high, high_above}
 use Rattle.rx_order.proofs.KindNumbers.{kind_small, row_first, row_dead, high_matches, high_accels, high_starts}
-use Rattle.rx_order.proofs.KindNumbers.{label_match}
+use Rattle.rx_order.proofs.KindNumbers.{label_match, none_in_range}
 
 -- ---- ids of places
 
@@ -297,13 +297,6 @@ module _ {x : Sorting} {l new m : Layout} (a : IsArranged x l new m) where
   accel_id place h =
       by_id is_accel_id place ∙ in_range place 2 5 h (omega arith) (omega arith) (omega arith)
 
-  nothing : (id : ℕ) → is_in_range 0 0 id ≡ false
-  nothing id =
-      ⊎_elim
-      (λ (e : id ≡ 0). rw e refl)
-      (λ (ne : id ≡ 0 → ⊥). rw (over id 0 (omega (arith, ne)), at_most 0 id (omega arith)) refl)
-      (cases_eq id 0)
-
   pub start_id : (place : ℕ) → place < row_count l
       → is_start_id m.special (place * stride m)
       ≡ (x.marked && (nat_lt 4 (kind_at place) && nat_le (kind_at place) 6))
@@ -313,7 +306,7 @@ module _ {x : Sorting} {l new m : Layout} (a : IsArranged x l new m) where
           → is_start_id (special_ids (stride l) x.ends marked) (place * stride l)
           ≡ (marked && (nat_lt 4 (kind_at place) && nat_le (kind_at place) 6))
       by_mark true = in_range place 4 6 h (omega arith) (omega arith) (omega arith)
-      by_mark false = nothing (place * stride l)
+      by_mark false = none_in_range (place * stride l)
 
   pub match_by_id : (place : ℕ) → is_match (table_of m) place ≡ is_match_id m.special (place * stride m)
   match_by_id place =

@@ -1,11 +1,11 @@
 -- Shuffled tables: the match rows lie in the order of their ids, so their patterns are the lists of the map in its
 -- order.
-use Rattle.std.proofs.Common.{◌≡◌, ℕ, zero, suc, ◌+◌, ◌-◌, ◌*◌, ◌/◌, ◌<◌, ◌≤◌, ◌⊎◌, ◌==◌, ◌&&◌, ◌||◌, nat_lt, nat_le}
+use Rattle.std.proofs.Common.{◌≡◌, ℕ, zero, suc, ◌+◌, ◌-◌, ◌*◌, ◌/◌, ◌<◌, ◌≤◌, ◌⊎◌, ◌==◌, ◌&&◌, nat_lt, nat_le}
 use Rattle.std.proofs.Common.{Bool}
 use Rattle.std.proofs.Common.{true, false, if◌then◌else◌, Option, Some, None, List, [], ◌∷◌, length, map, slice_index}
 use Rattle.std.proofs.Common.{get_or}
 use Rattle.std.proofs.Common.{Vec, Global, refl, ap, ap₂, sym, ◌∙◌, subst, ⊎_elim, inl, inr, arith}
-use Rattle.std.specs.BTreeMap.{IsOrdered, insert_entry, get, is_at, keys, values}
+use Rattle.std.specs.BTreeMap.{IsOrdered, get, is_at, keys, values}
 use Rattle.std.specs.List.{concat, list_any, range_with_len, slice_get}
 use Rattle.std.specs.List.Sorted.{IsStrictlyIncreasing}
 use Rattle.std.specs.Map.{keys_of, values_of}
@@ -29,11 +29,10 @@ use Rattle.rx_dense.specs.Layouts.{Layout, AreRows, row_count, stride, table_of}
 use Rattle.rx_dense.proofs.Rows.{quotient, row-below, start_is_row, start_within}
 use Rattle.std.specs.Prelude.{All}
 use Rattle.std.proofs.lemmas.List.{get_or_default}
-use Rattle.std.proofs.lemmas.List.Elements.{All-contains, All-head, All-tail}
-use Rattle.std.proofs.Common.{◌++◌}
+use Rattle.std.proofs.lemmas.List.Elements.{All-contains}
 use Rattle.rx_order.specs.Ordering.{AreMatches, IsRouted, IsShuffled, Matches, is_match_row, label_by}
 use Rattle.rx_order.specs.Ordering.{label_of_patterns}
-use Rattle.rx_order.proofs.MarkedRows.{any_has, has_key, is_at_number}
+use Rattle.rx_order.proofs.MarkedRows.{any_contains, any_has, has_key, is_at_number}
 use Rattle.rx_order.proofs.Moved.{factor}
 use Rattle.rx_order.proofs.MatchRows.{HasPatterns, label_of_number}
 use Rattle.rx_order.proofs.KindNumbers.{high_kind}
@@ -102,16 +101,6 @@ same_rising (x ∷ xs) (y ∷ ys) up down there back =
         (λ (d : Contains xs y). absurd (omega (arith, least y ys down x c, least x xs up y d)))
         (Contains-cases x xs y (back y (Contains-here y ys))))
         (Contains-cases y ys x (there x (Contains-here x xs)))
-
--- a test finds a member
-pub any_contains : (x : ℕ) (xs : List ℕ) → list_any (λ y. y == x) xs ≡ true → Contains xs x
-any_contains x [] e = absurd (false≢true e)
-any_contains x (y ∷ ys) e =
-    ⊎_elim
-    (λ (here : y ≡ x). subst (λ z. Contains (y ∷ ys) z) here (Contains-here y ys))
-    (λ (other : y ≡ x → ⊥).
-    Contains-there y ys x (any_contains x ys (sym (ap (λ b. b || list_any (λ y. y == x) ys) (ne_eqb y x other)) ∙ e)))
-    (cases_eq y x)
 
 -- ---- the entries of a map
 
@@ -621,25 +610,3 @@ module _ {old : Layout} {matches : Matches} {kinds rows ends : List ℕ} {next n
   shuffling_ends kind h =
       subst (λ w. slice_index ends kind * w ≤ max_id + w) (sym (stride_is reordered before))
       (ends_few old kinds rows ends s.by_kind s.kinds_are.count s.are_rows kind h)
-
--- ---- a map that grows behind its last key
-
-pub inserted_last : {X : Type 0} (entries : List (ℕ × X)) (k : ℕ) (v : X) → All (λ key. key < k) (keys_of entries)
-    → insert_entry nat_cmp entries k v ≡ entries ++ (k, v) ∷ []
-inserted_last [] k v h = refl
-inserted_last {X} (e ∷ entries) k v h =
-    let low = All-head (λ key. key < k) e.0 (keys_of entries) h in
-    let other : k ≡ e.0 → ⊥ = λ same. absurd (omega (arith, low, same)) in
-    rw (le-ltb k e.0 (omega (arith, low)), ne_eqb k e.0 other)
-    (ap (λ (rest : List (ℕ × X)). e ∷ rest)
-    (inserted_last entries k v (All-tail (λ key. key < k) e.0 (keys_of entries) h)))
-
-pub lists_last : (entries : List (ℕ × Vec ℕ Global)) (k : ℕ) (v : Vec ℕ Global)
-    → map vec_items (values_of (entries ++ (k, v) ∷ [])) ≡ map vec_items (values_of entries) ++ v.items ∷ []
-lists_last [] k v = refl
-lists_last (e ∷ entries) k v = ap (λ (rest : List (List ℕ)). e.1.items ∷ rest) (lists_last entries k v)
-
-pub keys_last : {X : Type 0} (entries : List (ℕ × X)) (k : ℕ) (v : X)
-    → keys_of (entries ++ (k, v) ∷ []) ≡ keys_of entries ++ k ∷ []
-keys_last [] k v = refl
-keys_last (e ∷ entries) k v = ap (λ (rest : List ℕ). e.0 ∷ rest) (keys_last entries k v)

@@ -104,7 +104,11 @@ fn patterns(
 }
 
 /// The patterns of a match row.
-fn patterns_of_row(alloc: Global, dfa: &OwnedDFA, id: StateID) -> Result<Vec<PatternID>, AllocError>
+pub fn patterns_of_row(
+    alloc: Global,
+    dfa: &OwnedDFA,
+    id: StateID,
+) -> Result<Vec<PatternID>, AllocError>
     requires sound { IsSound (table_of dfa.now) }
     requires is_id { IsId (ids_of dfa.now) id }
     requires is_match { is_match (table_of dfa.now) (row_of (ids_of dfa.now) id) ≡ true }

@@ -1,40 +1,104 @@
--- Between two groups of a state that is begun.
-use Rattle.std.specs.Prelude.{vec_capacity}
-use Rattle.std.proofs.Common.{◌≡◌, ◌≤◌, List, ℕ, length, map}
+-- Between two groups of the steps that are found.
+use Rattle.std.proofs.Common.{◌≡◌, ◌≢◌, ◌+◌, ◌<◌, ◌≤◌, ◌++◌, Bool, true, false, List, [], ℕ, length, map, ap, sym, ◌∙◌}
+use Rattle.std.proofs.Common.{subst, arith, ⊎_elim}
+use Rattle.std.proofs.lemmas.Bool.{cases_lt}
+use Rattle.std.proofs.lemmas.List.{get_or_past}
+use Rattle.std.specs.Prelude.{slice_index_or}
+use Rattle.rx_spec.specs.Contexts.{Facts}
 use Rattle.rx_spec.specs.States.{State}
 use Rattle.rx_expr.specs.Nfa.{meaning}
 use Rattle.rx_expr.specs.declared.thompson.nfa.NFA.{NFA}
-use Rattle.rx_stepper.specs.Columns.{AreGroups, Reads}
-use Rattle.rx_stepper.specs.Keys.{spelled}
-use Rattle.rx_stepper.specs.Steps.{Stand}
+use Rattle.rx_stepper.specs.Columns.{AreGroups, Reads, list_at}
+use Rattle.rx_stepper.specs.Steps.{AreEmpty, Stand, rows_in}
 use Rattle.rx_stepper.specs.declared.closures.Closures.{Closures}
 use Rattle.rx_stepper.specs.declared.columns.Columns.{Columns}
-use Rattle.rx_stepper.specs.declared.current.Current.{Current}
+use Rattle.rx_stepper.specs.declared.steps.Steps.{Steps}
 use Rattle.rx_spec.specs.declared.MatchKind.{MatchKind}
 use Rattle.rx_stepper.proofs.StepLaws.{Done}
 
--- what a state is begun with
-pub record Beginning : Type 0 where
+-- what they are found of
+pub record Finding : Type 0 where
   pub closures : Closures
   pub columns : Columns
   pub kind : MatchKind
-  pub key : List ℕ
-  pub before : Current
-
-abbrev pub stand_of : Beginning → Stand
-stand_of b = record { nfa = meaning b.closures.nfa.now; kind = b.kind; state = spelled b.key }
+  pub rows : List ℕ
+  pub last : Facts
+  -- how many columns there are, and the room of a closure
+  pub count : ℕ
+  pub room : ℕ
 
 abbrev pub stand : NFA → MatchKind → State → Stand
 stand nfa kind state = record { nfa = meaning nfa; kind = kind; state = state }
 
-pub record Between (b : Beginning) (group : ℕ) (current : Current) (closures : Closures) : Type 0 where
-  pub nfa : closures.nfa.now ≡ b.closures.nfa.now
-  pub columns : length current.targets.items ≡ length b.before.targets.items
-  pub room : vec_capacity b.before.reached ≤ vec_capacity current.reached
-  pub key : current.key.items ≡ b.key
-  pub rows : current.rows.items ≡ (spelled b.key).rows
+abbrev pub stand_of : Finding → Stand
+stand_of f = stand f.closures.nfa.now f.kind (rows_in f.rows f.last)
+
+pub record Between (f : Finding) (group : ℕ) (steps : Steps) (closures : Closures) (room : ℕ) : Type 0 where
+  pub nfa : closures.nfa.now ≡ f.closures.nfa.now
+  pub columns : length steps.targets.items ≡ f.count
+  pub kept_room : f.room ≤ room
   pub done : (units : List ℕ)
-      → Reads (meaning b.closures.nfa.now).rows units b.columns.reading.columns.items b.columns.reading.spans.items
-      → AreGroups (meaning b.closures.nfa.now) units b.columns.groups.of.items
-      → Done (stand_of b) units b.columns.groups.of.items group (map (λ v. v.items) current.targets.items)
-      (map (λ v. v.items) current.labels.items)
+      → Reads (meaning f.closures.nfa.now).rows units f.columns.reading.columns.items f.columns.reading.spans.items
+      → AreGroups (meaning f.closures.nfa.now) units f.columns.groups.of.items
+      → Done (stand_of f) units f.columns.groups.of.items group (map (λ v. v.items) steps.targets.items)
+      (map (λ v. v.items) steps.matches.items)
+
+-- ---- rows among which none asserts: all groups have the same matches
+
+-- Between two groups: those before that have a column have the matches, and the others none yet.
+pub record MatchesTo (lists : List (List ℕ)) (used : List Bool) (matches : List ℕ) (group : ℕ) : Type 0 where
+  pub done : (g : ℕ) → g < group → slice_index_or used g false ≡ true → list_at lists g ≡ matches
+  pub left : (g : ℕ) → group ≤ g → list_at lists g ≡ []
+
+pub matches_none : {lists : List (List ℕ)} {used : List Bool} {matches : List ℕ} → AreEmpty lists
+    → MatchesTo lists used matches 0
+matches_none e = record { done = λ g h u. absurd (omega arith); left = λ g h. e g }
+
+module _ {lists : List (List ℕ)} {used : List Bool} {matches : List ℕ} {group : ℕ}
+    (m : MatchesTo lists used matches group) where
+  pub matches_more : {more : List (List ℕ)} → ((place : ℕ) → place ≢ group → list_at more place ≡ list_at lists place)
+      → list_at more group ≡ list_at lists group ++ matches → MatchesTo more used matches (group + 1)
+  matches_more {more} others here = record {
+    done = λ g h u.
+        ⊎_elim
+        (λ (lt : g < group). others g (omega arith) ∙ m.done g lt u)
+        (λ (ge : group ≤ g).
+        let same : g ≡ group = omega arith in
+        ap (list_at more) same ∙ here ∙ ap (λ l. l ++ matches) (m.left group (omega arith)))
+        (cases_lt g group);
+    left = λ g h. others g (omega arith) ∙ m.left g (omega arith);
+  }
+
+  pub matches_passed : slice_index_or used group false ≡ false → MatchesTo lists used matches (group + 1)
+  matches_passed unused = record {
+    done = λ g h u.
+        ⊎_elim
+        (λ (lt : g < group). m.done g lt u)
+        (λ (ge : group ≤ g).
+        let same : g ≡ group = omega arith in
+        let clash = sym (ap (λ k. slice_index_or used k false) same ∙ unused) ∙ u in
+        absurd (cc))
+        (cases_lt g group);
+    left = λ g h. m.left g (omega arith);
+  }
+
+  pub matches_all : length used ≤ group → (g : ℕ) → slice_index_or used g false ≡ true → list_at lists g ≡ matches
+  matches_all h g u =
+      ⊎_elim
+      (λ (lt : g < group). m.done g lt u)
+      (λ (ge : group ≤ g).
+      let clash = sym (get_or_past used g false (omega arith)) ∙ u in
+      absurd (cc))
+      (cases_lt g group)
+
+pub record PlainBetween (start now : Steps) (used : List Bool) (matches : List ℕ) (group : ℕ) : Type 0 where
+  pub targets : now.targets ≡ start.targets
+  pub told : MatchesTo (map (λ v. v.items) now.matches.items) used matches group
+
+pub plain_next : {start now s : Steps} {used : List Bool} {matches : List ℕ} {group : ℕ} (next : Steps)
+    → PlainBetween start now used matches group → s ≡ next → next.targets ≡ now.targets
+    → MatchesTo (map (λ v. v.items) next.matches.items) used matches (group + 1)
+    → PlainBetween start s used matches (group + 1)
+plain_next {start} {now} {s} {used} {matches} {group} next before e targets told =
+    subst (λ v. PlainBetween start v used matches (group + 1)) (sym e)
+    (record { targets = targets ∙ before.targets; told = told })

@@ -10,8 +10,20 @@ pub mod EmptyLists
 pub mod UnitCounts
 -- what decides assertions
 pub mod Decisions
+-- members of lists, lists without the members of others, and rows that end with those of the lead-in
+pub mod Members
+pub mod Without
+pub mod WrittenRows
+pub mod LedSteps
+pub mod LeadPlaces
+pub mod LeadSplits
 -- states as keys
 pub mod KeyLaws
+pub mod MadeKeys
+pub mod LeadClosing
 -- steps of a state
 pub mod StepLaws
 pub mod GroupLoop
+-- the parts of a stepper
+pub mod StepperParts
+pub mod ColumnSteps

@@ -1,7 +1,7 @@
 -- A turn of a search whose flags can be told from those before and the row that is met, with a stack in front of rows
 -- that are still given.
-use Rattle.std.proofs.Common.{◌≡◌, ℕ, ◌+◌, ◌<◌, ◌≤◌, ◌==◌, ◌||◌, inl, inr, Bool, true, false, not, if◌then◌else◌, List}
-use Rattle.std.proofs.Common.{[], ◌∷◌, ◌++◌, get_or, drop, reverse, length, refl, ap, sym, ◌∙◌, subst, arith}
+use Rattle.std.proofs.Common.{◌≡◌, ℕ, ◌+◌, ◌<◌, ◌≤◌, ◌==◌, ◌||◌, ◌⊎◌, inl, inr, Bool, true, false, not, if◌then◌else◌}
+use Rattle.std.proofs.Common.{List, [], ◌∷◌, ◌++◌, get_or, drop, reverse, length, refl, ap, sym, ◌∙◌, subst, arith}
 use Rattle.std.proofs.Common.{append_assoc, ⊎_elim}
 use Rattle.std.proofs.Math.ListN.{drop_of_length-le}
 use Rattle.std.proofs.lemmas.Bool.{cases_lt, or_left, or_right, or_cases, eqb-true, eq-eqb}
@@ -9,15 +9,17 @@ use Rattle.std.proofs.lemmas.List.{nil_from_length, drop_more}
 use Rattle.std.proofs.lemmas.List.Sums.{sum_by-cons}
 use Rattle.std.proofs.lemmas.Option.{slice_get_past}
 use Rattle.std.specs.Prelude.{unwrap_or}
-use Rattle.std.specs.List.{flat_map}
+use Rattle.std.specs.List.{flat_map, list_any}
 use Rattle.rx_spec.specs.Rows.{Row}
 use Rattle.rx_spec.specs.Shallow.{IsShallow}
 use Rattle.rx_spec.specs.States.{Passing, row_at, closure}
 use Rattle.rx_powerset.specs.Closures.{own_by, branches_by, closed_rows}
 use Rattle.rx_powerset.proofs.Closures.{graph_of, closure_unfolds}
-use Rattle.rx_powerset.proofs.Search.{Graph, In, Notes, Searching, in_nil, search_passes, search_turns, search_ends}
+use Rattle.rx_powerset.proofs.Search.{Graph, In, Listed, Notes, Searching, in_nil, search_passes, search_turns}
+use Rattle.rx_powerset.proofs.Search.{search_ends}
 use Rattle.rx_powerset.proofs.StackSearch.{popped}
 use Rattle.rx_stepper.specs.Stamps.{is_met, unmet}
+use Rattle.rx_stepper.proofs.Members.{same_test}
 
 not_false : (b : Bool) {first : Bool} → first ≡ not b → first ≡ false → b ≡ true
 not_false true e f = refl
@@ -125,6 +127,24 @@ module _ (g : Graph) {target : List ℕ} {seen : ℕ → Bool} {out : List ℕ} 
   -- all are done
   pub all_done : (from : List ℕ) (i : ℕ) → length from ≤ i → Searching g target seen out (drop i from) → out ≡ target
   all_done from i h s = search_ends g (subst (Searching g target seen out) (drop_of_length-le from h) s)
+
+  -- and the rows that are met and stand for themselves are those that are listed
+  pub all_met : (from : List ℕ) (i : ℕ) → length from ≤ i → Searching g target seen out (drop i from)
+      → (q : ℕ) → g.gives q ≡ q ∷ [] → seen q ≡ list_any (λ x. q == x) out
+  all_met from i h s q one = met (subst (Searching g target seen out) (drop_of_length-le from h) s)
+    where
+      met : Searching g target seen out [] → seen q ≡ list_any (λ x. q == x) out
+      met e = same_test (seen q) (list_any (λ x. q == x) out) (λ t. listed (e.listed q t)) (e.noted q)
+        where
+          listed : Listed g out [] q → In out q
+          listed l = go l.above l.below l.split l.given
+            where
+              go : (above below : List ℕ) → [] ≡ above ++ below
+                  → ((x : ℕ) → In (g.gives q) x → In out x ⊎ In (flat_map g.gives above) x) → In out q
+              go [] below split given =
+                  ⊎_elim (λ (o : In out q). o) (λ (n : In [] q). absurd (in_nil q n))
+                  (given q (subst (λ l. In l q) (sym one) (or_left (q == q) false (eq-eqb q q refl))))
+              go (a ∷ above) below split given = absurd (cc)
 
 -- ---- room: no more rows can be new than there are
 

@@ -1,31 +1,42 @@
 -- States as keys: lists of numbers that spell them.
-use Rattle.std.specs.Prelude.{ℕ, ◌+◌, ◌-◌, ◌*◌, ◌&&◌, nat_le, Bool, true, false, List, [], ◌∷◌, ◌++◌, length, take, drop}
+use Rattle.std.specs.Prelude.{ℕ, ◌+◌, ◌*◌, ◌^◌, ◌==◌, ◌&&◌, nat_le, nat_lt, Bool, true, false, List, ◌∷◌, ◌++◌, length}
+use Rattle.std.specs.Prelude.{take, drop, slice_index}
 use Rattle.std.specs.List.{list_all}
 use Rattle.std.specs.Str.{bytes_eq}
-use Rattle.rx_spec.specs.Causes.{max_id, id_count}
+use Rattle.rx_spec.specs.Causes.{max_id}
 use Rattle.rx_spec.specs.Rows.{Row}
-use Rattle.rx_spec.specs.States.{State, dead_state, row_at, firsts}
-use Rattle.rx_base.specs.FactBits.{bits_of, facts_with}
+use Rattle.rx_spec.specs.States.{State, row_at, firsts}
+use Rattle.rx_base.specs.FactBits.{bit, bits_of, facts_with}
+use Rattle.rx_stepper.specs.Leads.{rows_by, written}
 
--- a state's key: the number of its context, how many patterns its label has, the label and the rows
-abbrev pub key_of : State → List ℕ
-key_of s = bits_of s.context ∷ (length s.label ∷ (s.label ++ s.rows))
-
--- the state that a list of numbers spells
-abbrev pub spelled : List ℕ → State
-spelled [] = dead_state
-spelled (bits ∷ []) = dead_state
-spelled (bits ∷ (len ∷ numbers)) =
-    record { rows = drop len numbers; context = facts_with bits; label = take len numbers }
+-- a state's key: the number of its context, how many patterns its label has, how many rows it has, whether the
+-- lead-in's others are left out, the label, and the rows that are written
+abbrev pub key_of : List ℕ → State → List ℕ
+key_of lead s =
+    let w = written lead s.rows in
+    bits_of s.context ∷ (length s.label ∷ (length s.rows ∷ (bit w.is_led ∷ (s.label ++ w.own))))
 
 -- a key's label, and what its state counts for, by its numbers alone
 unfoldable pub label_of : List ℕ → List ℕ
-label_of [] = []
-label_of (bits ∷ []) = []
-label_of (bits ∷ (len ∷ numbers)) = take len numbers
+label_of key = take (slice_index key 1) (drop 4 key)
 
 unfoldable pub size_of : List ℕ → ℕ
-size_of key = 8 + 4 * (length key - 2)
+size_of key = 8 + 4 * (slice_index key 1 + slice_index key 2)
+
+-- its rows that are written, and whether the lead-in's others follow
+abbrev pub own_of : List ℕ → List ℕ
+own_of key = drop (slice_index key 1) (drop 4 key)
+
+abbrev pub led_of : List ℕ → Bool
+led_of key = slice_index key 3 == 1
+
+-- the state that a list of numbers spells
+abbrev pub spelled : List ℕ → List ℕ → State
+spelled lead key = record {
+  rows = rows_by lead (led_of key) (own_of key);
+  context = facts_with (slice_index key 0);
+  label = label_of key;
+}
 
 -- a row at which a closure ends: it reads a byte, matches or asserts
 abbrev pub stands : Row → Bool
@@ -33,12 +44,15 @@ stands (Row.Split first second) = false
 stands Row.Fail = false
 stands _ = true
 
--- closed rows, each once, and a label of patterns, all of them ids
+-- rows at which closures end, each once, all of them ids
+abbrev pub are_closed : List Row → List ℕ → Bool
+are_closed rows qs = list_all (λ q. stands (row_at rows q) && nat_le q max_id) qs && bytes_eq (firsts qs) qs
+
+-- closed rows, and a label of patterns, all of them ids
 abbrev pub is_closed : List Row → State → Bool
-is_closed rows s =
-    list_all (λ q. stands (row_at rows q) && nat_le q max_id) s.rows && bytes_eq (firsts s.rows) s.rows
-    && (list_all (λ k. nat_le k max_id) s.label && nat_le (length s.label) id_count)
+is_closed rows s = are_closed rows s.rows && (list_all (λ k. nat_le k max_id) s.label
+    && nat_lt (length s.label) (2 ^ 32))
 
 -- a key spells its state, and spells it in the one way
-abbrev pub is_key : List Row → List ℕ → Bool
-is_key rows key = bytes_eq (key_of (spelled key)) key && is_closed rows (spelled key)
+abbrev pub is_key : List Row → List ℕ → List ℕ → Bool
+is_key rows lead key = bytes_eq (key_of lead (spelled lead key)) key && is_closed rows (spelled lead key)

@@ -2,6 +2,10 @@
 pub mod Stepping
 pub mod Steppers
 pub mod Keys
+-- the rows of the unanchored start, with which states end, and their places
+pub mod Leads
+pub mod Places
+pub mod LeadIns
 -- closures: rows without what they read, and the rows that were met
 pub mod ThinRows
 pub mod Stamps
@@ -9,5 +13,6 @@ pub mod Stamps
 pub mod Units
 pub mod Columns
 pub mod Steps
+pub mod Gathering
 -- how the parts of a stepper fit
 pub mod Fits

@@ -1,12 +1,13 @@
 //! The rows that are reached without reading a byte, in room that is taken once.
 
-ghost use Rattle.std.specs.Prelude.{◌≡◌, ◌+◌, ◌<◌, ◌≤◌, ◌++◌, ◌∷◌, [], length, reverse, vec_capacity, IfOk};
-ghost use Rattle.std.specs.List.{list_any};
+ghost use Rattle.std.specs.Prelude.{◌≡◌, ℕ, ◌+◌, ◌<◌, ◌≤◌, ◌==◌, ◌++◌, ◌∷◌, [], length, reverse, vec_capacity, IfOk};
+ghost use Rattle.std.specs.List.{list_any, AllByRecursion as Every};
 ghost use Rattle.rx_spec.specs.Causes.{id_count};
 ghost use Rattle.rx_spec.specs.Contexts.{holds_read};
-ghost use Rattle.rx_spec.specs.States.{row_at, is_look_row};
+ghost use Rattle.rx_spec.specs.States.{closure, row_at, is_look_row};
 ghost use Rattle.rx_powerset.specs.Closures.{own_by, branches_by, closed_rows};
 ghost use Rattle.rx_expr.specs.Nfa.{meaning};
+ghost use Rattle.rx_stepper.specs.Stamps.{is_met};
 ghost use Rattle.rx_stepper.specs.ThinRows.{row_of_thin, thin_at, AreThin, passing_of};
 
 use crate::stamps::Stamps;
@@ -69,7 +70,7 @@ impl<'n> Closures<'n> {
     }
 
     /// Lists the rows that are reached from some rows without reading a byte: the preferred first, and each once. The
-    /// list must have room for all rows.
+    /// list must have room for all rows. Those of them that are listed themselves are told by `is_met`.
     pub(crate) fn list(&mut self, from: &[StateID], passing: &Passing, found: &mut Vec<StateID>)
         requires { length (meaning self.old.nfa.now).rows ≤ vec_capacity found.old }
         ensures nfa { self.new.nfa.now ≡ self.old.nfa.now }
@@ -77,6 +78,11 @@ impl<'n> Closures<'n> {
         ensures rows { let rows = (meaning self.old.nfa.now).rows in
             found.new.items ≡ closed_rows rows (passing_of passing.now) from.now }
         ensures few { length found.new.items ≤ id_count }
+        ensures ids { Every (λ q. q < id_count) found.new.items }
+        ensures met { let rows = (meaning self.old.nfa.now).rows in
+            (q : ℕ) → closure rows (passing_of passing.now) q ≡ q ∷ []
+            → is_met self.new.stamps.stamps.items self.new.stamps.now q
+            ≡ list_any (λ x. q == x) found.new.items }
     {
         self.stamps.begin();
         self.waiting.clear();
@@ -95,6 +101,13 @@ impl<'n> Closures<'n> {
                 }
             }
         }
+    }
+
+    /// Whether a row that stands for itself was listed last.
+    pub(crate) fn is_met(&self, row: StateID) -> bool
+        ensures { result ≡ is_met self.now.stamps.stamps.items self.now.stamps.now row }
+    {
+        self.stamps.is_met(row)
     }
 
     /// Whether some of the rows is an assertion.

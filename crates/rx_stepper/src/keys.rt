@@ -1,20 +1,34 @@
 //! States as keys.
 
-ghost use Rattle.std.specs.Prelude.{◌≡◌, ◌≤◌, ◌++◌, ◌∷◌, ◌==◌, ◌&&◌, if◌then◌else◌, All, OnOk, length};
-ghost use Rattle.rx_spec.specs.Causes.{id_count, max_id};
-ghost use Rattle.rx_stepper.specs.Keys.{key_of, label_of, size_of, spelled};
+ghost use Rattle.std.specs.Prelude.{◌≡◌, ◌≤◌, ◌<◌, ◌+◌, ◌^◌, ◌++◌, ◌∷◌, ◌==◌, ◌&&◌, if◌then◌else◌, not, All, OnOk};
+ghost use Rattle.std.specs.Prelude.{length, slice_index};
+ghost use Rattle.rx_spec.specs.Causes.{max_id};
+ghost use Rattle.rx_base.specs.FactBits.{bit, facts_with};
+ghost use Rattle.rx_stepper.specs.Keys.{label_of, led_of, own_of, size_of};
 
 use rx_base::{Facts, PatternID, StateID};
 use std::alloc::AllocError;
 
+/// What stands before a key's label and rows.
+#[derive(Clone, Copy)]
+pub(crate) struct Head {
+    /// The number of what is known of the unit read last.
+    pub(crate) context: u8,
+    /// How many rows the state has.
+    pub(crate) rows: u32,
+    /// Whether the lead-in's other rows follow those that are written.
+    pub(crate) is_led: bool,
+}
+
 /// The label of a key's state.
+#[tactic(auto, unfolding(crate::specs::Keys::label_of))]
 pub(crate) fn label_of(key: &[u32]) -> &[u32]
     ensures { result.now ≡ label_of key.now }
 {
-    if key.len() < 2 {
+    if key.len() < 4 {
         return &[];
     }
-    let numbers = &key[2..];
+    let numbers = &key[4..];
     let len = key[1] as usize;
     if numbers.len() <= len {
         numbers
@@ -28,30 +42,48 @@ pub(crate) fn label_of(key: &[u32]) -> &[u32]
 pub(crate) fn size_of(key: &[u32]) -> u64
     ensures { result ≡ size_of key.now }
 {
-    8 + 4 * key.len().saturating_sub(2) as u64
+    8 + 4 * (number(key, 1) + number(key, 2))
 }
 
-/// The rows of a key's state.
-pub(crate) fn rows_of(key: &[u32]) -> &[u32]
-    requires { key_of (spelled key.now) ≡ key.now }
-    ensures { result.now ≡ (spelled key.now).rows }
+/// A number of a key; 0 past its end.
+fn number(key: &[u32], place: usize) -> u64
+    ensures value { result ≡ slice_index key.now place }
+    ensures bound { result < 2 ^ 32 }
 {
-    &key[2 + key[1] as usize..]
+    match key.get(place) {
+        Some(number) => u64::from(*number),
+        None => 0,
+    }
+}
+
+/// The rows of a key's state that are written.
+pub(crate) fn own_of(key: &[u32]) -> &[u32]
+    requires { 4 + slice_index key.now 1 ≤ length key.now }
+    ensures { result.now ≡ own_of key.now }
+{
+    &key[4..][key[1] as usize..]
+}
+
+/// Whether the lead-in's other rows follow them.
+pub(crate) fn is_led(key: &[u32]) -> bool
+    ensures { result ≡ led_of key.now }
+{
+    number(key, 3) == 1
 }
 
 /// What a key's state knows of the unit read last.
 pub(crate) fn context_of(key: &[u32]) -> Facts
-    requires { key_of (spelled key.now) ≡ key.now }
-    ensures { result ≡ (spelled key.now).context }
+    requires { slice_index key.now 0 < 256 }
+    ensures { result ≡ facts_with (slice_index key.now 0) }
 {
-    Facts::from_bits(key[0] as u8)
+    Facts::from_bits(number(key, 0) as u8)
 }
 
-/// Whether a state of these rows and this label is dead.
-pub(crate) fn is_dead(rows: &[StateID], label: &[PatternID]) -> bool
-    ensures { result ≡ ((length rows.now == 0) && (length label.now == 0)) }
+/// Whether a state is dead that has these rows, the lead-in's or none behind them, and this label.
+pub(crate) fn is_dead(is_led: bool, own: &[StateID], label: &[PatternID]) -> bool
+    ensures { result ≡ (not is_led && (length own.now == 0) && (length label.now == 0)) }
 {
-    rows.is_empty() && label.is_empty()
+    !is_led && own.is_empty() && label.is_empty()
 }
 
 /// The number of the context that is kept beside rows, where it matters: none beside rows of which none asserts.
@@ -61,26 +93,28 @@ pub(crate) fn kept(asks: bool, context: u8) -> u8
     if asks { context } else { 0 }
 }
 
-/// Writes the key of a state: the number of its context, how many patterns its label has, the label and the rows.
+/// Writes the key of a state.
 pub(crate) fn write(
-    context: u8,
+    head: Head,
     label: &[PatternID],
-    rows: &[StateID],
+    own: &[StateID],
     key: &mut Vec<u32>,
 ) -> Result<(), AllocError>
-    requires { length label.now ≤ id_count }
-    ensures items { OnOk result (key.new.items ≡ context ∷ (length label.now ∷ (label.now ++ rows.now))) }
+    requires { length label.now < 2 ^ 32 }
+    ensures items { OnOk result (key.new.items
+        ≡ head.context ∷ (length label.now ∷ (head.rows ∷ (bit head.is_led ∷ (label.now ++ own.now))))) }
     ensures label { OnOk result (All (λ k. k ≤ max_id) label.now) }
-    ensures rows { OnOk result (All (λ q. q ≤ max_id) rows.now) }
 {
     key.clear();
-    key.reserve(2 + label.len() + rows.len())?;
-    key.push(u32::from(context))?;
+    key.reserve(4 + label.len() + own.len())?;
+    key.push(u32::from(head.context))?;
     key.push(label.len() as u32)?;
+    key.push(head.rows)?;
+    key.push(if head.is_led { 1 } else { 0 })?;
     for pattern in label {
         key.push(pattern.as_u32())?;
     }
-    for row in rows {
+    for row in own {
         key.push(row.as_u32())?;
     }
     Ok(())

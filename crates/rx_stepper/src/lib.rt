@@ -12,13 +12,17 @@ mod closures;
 mod column_span;
 mod columns;
 mod current;
+mod gathered;
 mod groups;
 mod keys;
+mod lead_in;
+mod lead_steps;
 mod matches;
 mod next;
 mod reading;
 mod stamps;
 mod stepper;
+mod steps;
 mod targets;
 mod thin_row;
 

@@ -1,9 +1,11 @@
 //! The rows that go on, and the patterns that they match.
 
-ghost use Rattle.std.specs.Prelude.{◌≡◌, ℕ, ◌<◌, ◌≤◌, ◌++◌, OnOk, length};
-ghost use Rattle.std.specs.List.{flat_map};
+ghost use Rattle.std.specs.Prelude.{◌≡◌, ◌==◌, ◌++◌, OnOk};
+ghost use Rattle.std.specs.List.{list_any};
 ghost use Rattle.rx_spec.specs.States.{row_at, cut, to_first_match, is_match_row, pattern_of};
 ghost use Rattle.rx_expr.specs.Nfa.{meaning};
+ghost use Rattle.rx_stepper.specs.Leads.{without};
+ghost use Rattle.rx_stepper.specs.Steps.{goes_on, matches_of, patterns_of};
 
 use crate::closures::Closures;
 use crate::thin_row::ThinRow;
@@ -42,17 +44,52 @@ impl<'n> Closures<'n> {
         }
     }
 
+    /// Adds those of the rows that match.
+    pub(crate) fn add_matches(
+        &self,
+        rows: &[StateID],
+        matches: &mut Vec<StateID>,
+    ) -> Result<(), AllocError>
+        ensures { OnOk result (matches.new.items
+            ≡ matches.old.items ++ matches_of (meaning self.now.nfa.now).rows rows.now) }
+    {
+        for id in rows {
+            if self.is_match(*id) {
+                matches.push(*id)?;
+            }
+        }
+        Ok(())
+    }
+
     /// Adds the patterns that rows match.
     pub(crate) fn add_patterns(
         &self,
         rows: &[StateID],
         label: &mut Vec<PatternID>,
     ) -> Result<(), AllocError>
-        ensures { let pattern = λ (q : ℕ). pattern_of (row_at (meaning self.now.nfa.now).rows q) in
-            OnOk result (label.new.items ≡ label.old.items ++ flat_map pattern rows.now) }
+        ensures { OnOk result (label.new.items
+            ≡ label.old.items ++ patterns_of (meaning self.now.nfa.now).rows rows.now) }
     {
         for id in rows {
             self.add_pattern(*id, label)?;
+        }
+        Ok(())
+    }
+
+    /// Adds the patterns that rows match which aren't among some others.
+    pub(crate) fn add_other_patterns(
+        &self,
+        rows: &[StateID],
+        others: &[StateID],
+        label: &mut Vec<PatternID>,
+    ) -> Result<(), AllocError>
+        ensures { OnOk result (label.new.items
+            ≡ label.old.items ++ patterns_of (meaning self.now.nfa.now).rows (without others.now rows.now)) }
+    {
+        for id in rows {
+            if !is_among(others, *id) {
+                self.add_pattern(*id, label)?;
+            }
         }
         Ok(())
     }
@@ -66,5 +103,22 @@ impl<'n> Closures<'n> {
             label.push(*pattern)?;
         }
         Ok(())
+    }
+}
+
+/// Whether a row is among some rows.
+pub(crate) fn is_among(rows: &[StateID], row: StateID) -> bool
+    ensures { result ≡ list_any (λ x. row == x) rows.now }
+{
+    rows.iter().any(|other| row == *other)
+}
+
+/// Whether less preferred rows go on too where these matched: leftmost-first none does behind a match.
+pub(crate) fn goes_on(kind: MatchKind, matches: &[StateID]) -> bool
+    ensures { result ≡ goes_on kind matches.now }
+{
+    match kind {
+        MatchKind::All => true,
+        MatchKind::LeftmostFirst => matches.is_empty(),
     }
 }

@@ -38,6 +38,17 @@ impl Stamps {
         self.now += 1;
     }
 
+    /// Whether a row was met. A row past the end counts as met.
+    #[inline]
+    pub(crate) fn is_met(&self, row: StateID) -> bool
+        ensures { result ≡ is_met self.entry.now.stamps.items self.entry.now.now row }
+    {
+        match self.stamps.get(row.as_usize()) {
+            Some(stamp) => *stamp == self.now,
+            None => true,
+        }
+    }
+
     /// Notes a row as met, and tells whether it is met for the first time. A row past the end counts as met.
     #[inline]
     pub(crate) fn is_first(&mut self, row: StateID) -> bool

@@ -1,16 +1,25 @@
 //! What steps states.
 
-ghost use Rattle.std.specs.Prelude.{◌≡◌, ◌<◌, true, MatchBool, IfOk, OnOk, IfSome};
+ghost use Rattle.std.specs.Prelude.{◌≡◌, ◌<◌, ◌≤◌, true, MatchBool, Some, IfOk, OnOk, IfSome, length};
+ghost use Rattle.std.specs.Prelude.{slice_get, slice_index, vec_capacity};
+ghost use Rattle.std.specs.Option.{option_copied};
 ghost use Rattle.rx_spec.specs.Builds.{is_dead_state};
 ghost use Rattle.rx_spec.specs.States.{start_state};
 ghost use Rattle.rx_base.specs.ByteClasses.{alphabet_len};
 ghost use Rattle.rx_expr.specs.Nfa.{meaning};
-ghost use Rattle.rx_stepper.specs.Fits.{Fits};
-ghost use Rattle.rx_stepper.specs.Keys.{label_of, size_of};
+ghost use Rattle.rx_stepper.specs.Fits.{Fits, FitsCurrent, FitsLead, table_of};
+ghost use Rattle.rx_stepper.specs.Gathering.{IsLeadOf};
+ghost use Rattle.rx_base.specs.FactBits.{bits_of, facts_with};
+ghost use Rattle.rx_stepper.specs.Keys.{label_of, led_of, size_of};
 
-use crate::closures::{Closures, Passing};
+use crate::closures::Closures;
 use crate::columns::Columns;
 use crate::current::Current;
+use crate::gathered::Gathered;
+use crate::lead_in::LeadIn;
+use crate::lead_steps::LeadSteps;
+use crate::matches::goes_on;
+use crate::steps::Steps;
 use crate::{Next, keys};
 use rx_base::{ByteClasses, Facts, MatchKind, Start, StateID};
 use rx_expr::thompson::NFA;
@@ -25,12 +34,22 @@ pub struct Stepper<'n> {
     columns: Columns,
     kind: MatchKind,
     classes: ByteClasses,
+    lead_in: LeadIn,
+    /// What the lead-in's rows need for their steps, for each number of what is known of the unit read last.
+    leads: Vec<LeadSteps>,
     current: Current,
-    ghost fits: { Fits (meaning closures.nfa.now) kind classes columns current },
+    gathered: Gathered,
+    /// Room for a closure.
+    reached: Vec<StateID>,
+    ghost fits: { Fits (meaning closures.nfa.now) classes columns },
+    ghost fits_lead: { FitsLead (table_of (meaning closures.nfa.now) kind classes columns) lead_in leads.items },
+    ghost fits_current: { FitsCurrent (table_of (meaning closures.nfa.now) kind classes columns) leads.items current },
+    ghost room: { length (meaning closures.nfa.now).rows ≤ vec_capacity reached },
 }
 
 impl<'n> Stepper<'n> {
     ghost use Rattle.rx_stepper.specs.Steppers.{stepping_of};
+    ghost use Rattle.rx_stepper.specs.declared.lead_steps.LeadSteps.{LeadSteps};
     ghost use Rattle.rx_stepper.specs.Stepping.{HasOneKeyEach, IsKeyOf, IsNext, SpellStates, stepped};
 
     /// What steps the states of an NFA by the columns of these classes.
@@ -48,13 +67,22 @@ impl<'n> Stepper<'n> {
         ensures one_key { IfOk result (λ s. HasOneKeyEach (stepping_of s)) }
     {
         let columns = Columns::new(alloc, nfa, classes)?;
-        let current = Current::new(alloc, classes.alphabet_len(), nfa.rows().len())?;
+        let mut closures = Closures::new(alloc, nfa)?;
+        let mut reached = Vec::with_capacity(alloc, nfa.rows().len())?;
+        let lead_in = LeadIn::new(alloc, &mut closures, &mut reached)?;
+        let width = classes.alphabet_len();
+        let leads = LeadSteps::of_contexts(alloc, width)?;
+        let current = Current::new(alloc, width)?;
         Ok(Stepper {
-            closures: Closures::new(alloc, nfa)?,
+            closures,
             columns,
             kind,
             classes: *classes,
+            lead_in,
+            leads,
             current,
+            gathered: Gathered::new(alloc),
+            reached,
         })
     }
 
@@ -74,15 +102,15 @@ impl<'n> Stepper<'n> {
     {
         let nfa = self.closures.nfa;
         let known = Facts::of_start(nfa.line_terminator(), start);
-        let group = nfa.asked_facts().intersect(known).to_bits();
-        self.closures
-            .list(&[row], &Passing::Standing, &mut self.current.reached);
-        if keys::is_dead(&self.current.reached, &[]) {
-            return Ok(false);
-        }
-        let asks = self.closures.has_look(&self.current.reached);
-        keys::write(keys::kept(asks, group), &[], &self.current.reached, key)?;
-        Ok(true)
+        let asked = nfa.asked_facts().intersect(known).to_bits();
+        self.lead_in.write_key(
+            &mut self.closures,
+            &[row],
+            asked,
+            &[],
+            &mut self.reached,
+            key,
+        )
     }
 
     /// Begins to step the state of a key.
@@ -93,16 +121,44 @@ impl<'n> Stepper<'n> {
         ensures kept { stepping_of self.new
             ≡ record (stepping_of self.old) { current = (stepping_of self.new).current } }
     {
-        match self
-            .current
-            .begin(&mut self.closures, &self.columns, self.kind, key)
-        {
+        self.find_lead(key)?;
+        match self.current.begin(
+            &mut self.closures,
+            &self.columns,
+            self.kind,
+            key,
+            &mut self.reached,
+        ) {
             Ok(()) => Ok(()),
             Err(error) => {
                 self.current.forget();
                 Err(error)
             }
         }
+    }
+
+    /// Finds what the lead-in's rows need for their steps where they follow a key's own rows, unless that was found
+    /// before.
+    #[tactic(auto, unfolding(crate::specs::Steppers::stepping_of))]
+    fn find_lead(&mut self, key: &[u32]) -> Result<(), AllocError>
+        requires { slice_index key.now 0 < 256 }
+        ensures kept { stepping_of self.new ≡ stepping_of self.old }
+        ensures found { OnOk result (led_of key.now ≡ true → (lead : LeadSteps)
+            → slice_get self.new.leads.items (bits_of (facts_with (slice_index key.now 0))) ≡ Some lead
+            → lead.are_found ≡ true) }
+    {
+        if !keys::is_led(key) {
+            return Ok(());
+        }
+        let last = keys::context_of(key);
+        self.leads[last.to_bits() as usize].find(
+            &mut self.closures,
+            &self.columns,
+            self.kind,
+            &self.lead_in.rows,
+            last,
+            &mut self.reached,
+        )
     }
 
     /// Steps the state by the unit of a column, and writes the key of the state that follows. None is written where
@@ -124,20 +180,19 @@ impl<'n> Stepper<'n> {
                 return Ok(Next::AsLast);
             }
         }
-        let current = &mut self.current;
-        self.closures.list(
-            &current.targets[column],
-            &Passing::Standing,
-            &mut current.reached,
-        );
         let group = self.columns.groups.of(column);
-        let label = &current.labels[group as usize];
-        if keys::is_dead(&current.reached, label) {
-            return Ok(Next::Dead);
-        }
-        let asks = self.closures.has_look(&current.reached);
-        keys::write(keys::kept(asks, group), label, &current.reached, key)?;
-        Ok(Next::State)
+        let lead = lead_steps(&self.current, &self.leads, self.kind, group);
+        self.gathered
+            .gather(&self.closures, &self.current.steps, lead, column, group)?;
+        let goes_on = self.lead_in.write_key(
+            &mut self.closures,
+            &self.gathered.targets,
+            group,
+            &self.gathered.label,
+            &mut self.reached,
+            key,
+        )?;
+        Ok(if goes_on { Next::State } else { Next::Dead })
     }
 
     /// Whether two columns surely lead to one state: no assertion tells them apart, and the same rows are led to.
@@ -147,11 +202,18 @@ impl<'n> Stepper<'n> {
         requires other { other < alphabet_len (stepping_of self.now).classes }
         ensures { result ≡ true → stepped (stepping_of self.now) column ≡ stepped (stepping_of self.now) other }
     {
-        let groups = &self.columns.groups;
-        if groups.of(column) != groups.of(other) {
+        let group = self.columns.groups.of(column);
+        if group != self.columns.groups.of(other) {
             return false;
         }
-        are_equal(&self.current.targets[column], &self.current.targets[other])
+        let own = &self.current.steps;
+        if !are_equal(&own.targets[column], &own.targets[other]) {
+            return false;
+        }
+        match lead_steps(&self.current, &self.leads, self.kind, group) {
+            Some(lead) => are_equal(&lead.targets[column], &lead.targets[other]),
+            None => true,
+        }
     }
 
     /// The patterns that matched before the unit that led to a key's state. Of numbers that are no key it is none, or
@@ -169,6 +231,25 @@ impl<'n> Stepper<'n> {
     {
         keys::size_of(key)
     }
+}
+
+/// What the lead-in's rows need for their steps, where they follow those that are written and go on before the units of
+/// a group: leftmost-first they don't behind a match.
+fn lead_steps<'l>(
+    current: &Current,
+    leads: &'l [LeadSteps],
+    kind: MatchKind,
+    group: u8,
+) -> Option<&'l Steps>
+    requires group { group < 32 }
+    requires context { IfSome current.now.led_in (λ context. context < length leads.now) }
+    ensures { IsLeadOf current.now leads.now kind group (option_copied result) }
+{
+    let context = current.led_in?;
+    if !goes_on(kind, &current.steps.matches[group as usize]) {
+        return None;
+    }
+    Some(&leads[context as usize].steps)
 }
 
 /// Whether two lists are equal: most aren't equally long.

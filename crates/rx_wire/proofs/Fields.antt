@@ -71,3 +71,6 @@ bytes_again bytes rest =
     let enough : ltb (length (bytes ++ rest)) (length bytes) ≡ false =
     le-ltb _ _ (omega (arith, length-append bytes rest)) in
     rw (enough, take_at bytes rest (length bytes) refl, drop_at bytes rest (length bytes) refl) refl
+
+-- numbers of each width
+pub ruleset numbers_again = (u16_again, u32_again, u128_again)

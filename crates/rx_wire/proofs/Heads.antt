@@ -83,3 +83,6 @@ label_again label h rest =
       drop_at (label_text label) rest size len,
     )
     refl
+
+-- labels, the words that tell an order, and versions
+pub ruleset checks_again = (label_again, order_again, little_again, version_again)

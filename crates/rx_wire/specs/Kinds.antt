@@ -36,12 +36,16 @@ abbrev pub ◌>>=◌ : {A B : Type 0} → Result A Kind → (A → Result B Kind
 (Ok x) >>= f = f x
 (Err kind) >>= f = Err kind
 
--- an error says which test fails first, or that memory ran out
+-- What a call that takes no memory gives, seen by view, is what reading gives: an error says which test fails first.
+abbrev pub GivesExactly : {X Y : Type 0} → (X → Y) → Result X Kind → Result Y Kind → Type 0
+GivesExactly view (Ok x) read = read ≡ Ok (view x)
+GivesExactly view (Err kind) read = read ≡ Err kind
+
+-- where a call takes memory, an error may also say that memory ran out
 abbrev pub FailsBy : {Y : Type 0} → Kind → Result Y Kind → Type 0
 FailsBy Kind.Memory read = Unit {0}
 FailsBy kind read = read ≡ Err kind
 
--- what a call gives, seen by view, is what reading gives, unless memory ran out
 abbrev pub Gives : {X Y : Type 0} → (X → Y) → Result X Kind → Result Y Kind → Type 0
 Gives view (Ok x) read = read ≡ Ok (view x)
 Gives view (Err kind) read = FailsBy kind read

@@ -2,7 +2,7 @@
 
 ghost use Rattle.std.specs.Prelude.{◌≡◌, IfOk, drop};
 ghost use Rattle.std.specs.Int.{w32};
-ghost use Rattle.rx_wire.specs.Kinds.{Gives, Writes};
+ghost use Rattle.rx_wire.specs.Kinds.{GivesExactly, Writes};
 ghost use Rattle.rx_wire.specs.Fields.{field};
 ghost use Rattle.rx_wire.specs.Heads.{endianness_check_at, endianness_word, order_at, version_at};
 ghost use Rattle.rx_wire.specs.declared.order.Order.TheVariants.{Little};
@@ -40,7 +40,7 @@ pub fn write_endianness_check<E: Endian>(dst: &mut [u8]) -> Result<usize, Serial
 /// The size of the word that tells the order, which must be that of a little endian image.
 #[tactic(auto, unfolding(crate::specs::Heads::endianness_check_at, crate::specs::Fields::number_at))]
 pub fn read_endianness_check(slice: &[u8]) -> Result<usize, DeserializeError>
-    ensures read { Gives (λ _. (endianness_word, drop 4 slice.now)) result (endianness_check_at slice.now) }
+    ensures read { GivesExactly (λ _. (endianness_word, drop 4 slice.now)) result (endianness_check_at slice.now) }
     ensures size { IfOk result (λ size. size ≡ 4) }
 {
     let (found, size) = Order::Little.try_read_u32(slice, "endianness check")?;
@@ -53,7 +53,7 @@ pub fn read_endianness_check(slice: &[u8]) -> Result<usize, DeserializeError>
 /// The order of what follows, and the bytes after the word that tells it.
 #[tactic(auto, unfolding(crate::specs::Heads::order_at))]
 pub fn split_order(bytes: &[u8]) -> Result<(Order, &[u8]), DeserializeError>
-    ensures { Gives (λ x. (x.0, x.1.now)) result (order_at bytes.now) }
+    ensures { GivesExactly (λ x. (x.0, x.1.now)) result (order_at bytes.now) }
 {
     let (found, rest) = Order::Little.split_u32(bytes, "endianness check")?;
     match found {
@@ -66,7 +66,7 @@ pub fn split_order(bytes: &[u8]) -> Result<(Order, &[u8]), DeserializeError>
 /// The order of what follows the word at the front of `slice`, and the word's size.
 #[tactic(auto, unfolding(crate::specs::Heads::order_at, crate::specs::Fields::number_at))]
 pub fn read_order(slice: &[u8]) -> Result<(Order, usize), DeserializeError>
-    ensures read { Gives (λ x. (x.0, drop 4 slice.now)) result (order_at slice.now) }
+    ensures read { GivesExactly (λ x. (x.0, drop 4 slice.now)) result (order_at slice.now) }
     ensures size { IfOk result (λ x. x.1 ≡ 4) }
 {
     let (order, _) = split_order(slice)?;
@@ -88,7 +88,7 @@ pub fn write_version<E: Endian>(version: u32, dst: &mut [u8]) -> Result<usize, S
 
 /// The size of a little endian version, which must be the expected one.
 pub fn read_version(slice: &[u8], expected: u32) -> Result<usize, DeserializeError>
-    ensures read { Gives (λ _. (expected, drop 4 slice.now)) result (version_at expected Little slice.now) }
+    ensures read { GivesExactly (λ _. (expected, drop 4 slice.now)) result (version_at expected Little slice.now) }
     ensures size { IfOk result (λ size. size ≡ 4) }
 {
     Order::Little.read_version(slice, expected)

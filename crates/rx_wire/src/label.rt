@@ -3,7 +3,7 @@
 ghost use Rattle.std.specs.Prelude.{◌≡◌, IfOk, ◌≤◌, ◌++◌, length, take, drop};
 ghost use Rattle.std.specs.List.{prefix_len};
 ghost use Rattle.std.specs.Str.{bytes_eq};
-ghost use Rattle.rx_wire.specs.Kinds.{Gives, Writes};
+ghost use Rattle.rx_wire.specs.Kinds.{GivesExactly, Writes};
 ghost use Rattle.rx_wire.specs.Heads.{IsLabel, is_text, label_at, label_text, padding};
 
 use crate::{DeserializeError, DeserializeErrorKind, SerializeError};
@@ -53,7 +53,7 @@ fn is_label(text: &[u8], label: &str) -> bool
 /// The size of the label at the front of `slice`, its NUL and its padding counted. The label must be the expected one.
 #[tactic(auto, unfolding(crate::specs::Heads::label_at))]
 pub fn read_label(slice: &[u8], expected: &'static str) -> Result<usize, DeserializeError>
-    ensures read { Gives (λ size. (size, drop size slice.now)) result (label_at expected.now slice.now) }
+    ensures read { GivesExactly (λ size. (size, drop size slice.now)) result (label_at expected.now slice.now) }
     ensures within { IfOk result (λ size. size ≤ length slice.now) }
 {
     let front = first(MAX_LEN, slice);
@@ -81,7 +81,7 @@ pub fn split_label<'a>(
     bytes: &'a [u8],
     expected: &'static str,
 ) -> Result<(usize, &'a [u8]), DeserializeError>
-    ensures { Gives (λ x. (x.0, x.1.now)) result (label_at expected.now bytes.now) }
+    ensures { GivesExactly (λ x. (x.0, x.1.now)) result (label_at expected.now bytes.now) }
 {
     let size = read_label(bytes, expected)?;
     Ok((size, &bytes[size..]))

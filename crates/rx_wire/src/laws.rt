@@ -13,7 +13,7 @@ ghost use Rattle.rx_wire.specs.Heads.{IsLabel, endianness_check_at, endianness_w
 ghost use Rattle.rx_wire.specs.Heads.{padded, version_at};
 
 /// Numbers, in either order.
-#[tactic(auto, using(crate::proofs::Fields::u16_again, crate::proofs::Fields::u32_again, crate::proofs::Fields::u128_again))]
+#[tactic(auto, using(crate::proofs::Fields::numbers_again))]
 pub fn numbers_are_read_back()
     ensures two { (order : Order) (n : ℕ) → n < 2 ^ 16 → Reads (number_at order w16) (field order w16 n) n }
     ensures four { (order : Order) (n : ℕ) → n < 2 ^ 32 → Reads (number_at order w32) (field order w32 n) n }
@@ -29,7 +29,7 @@ pub fn ids_and_bytes_are_read_back()
 {}
 
 /// Labels, the word that tells the order, and versions.
-#[tactic(auto, using(crate::proofs::Heads::label_again, crate::proofs::Heads::order_again, crate::proofs::Heads::little_again, crate::proofs::Heads::version_again))]
+#[tactic(auto, using(crate::proofs::Heads::checks_again))]
 pub fn checks_are_read_back()
     ensures label { (label : List ℕ)
         → IsLabel label → Reads (label_at label) (label_text label) (padded (length label + 1)) }

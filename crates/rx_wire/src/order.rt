@@ -2,7 +2,7 @@
 
 ghost use Rattle.std.specs.Prelude.{◌≡◌, IfOk, drop};
 ghost use Rattle.std.specs.Int.{w16, w32, w128};
-ghost use Rattle.rx_wire.specs.Kinds.{Gives, Kind};
+ghost use Rattle.rx_wire.specs.Kinds.{GivesExactly, Kind};
 ghost use Rattle.rx_wire.specs.Fields.{id_at, number, number_at};
 ghost use Rattle.rx_wire.specs.Heads.{version_at};
 
@@ -63,7 +63,7 @@ impl Order {
         bytes: &'a [u8],
         what: &'static str,
     ) -> Result<(u16, &'a [u8]), DeserializeError>
-        ensures { Gives (λ x. (x.0, x.1.now)) result (number_at self w16 bytes.now) }
+        ensures { GivesExactly (λ x. (x.0, x.1.now)) result (number_at self w16 bytes.now) }
     {
         if bytes.len() < 2 {
             return Err(DeserializeError::buffer_too_small(what));
@@ -79,7 +79,7 @@ impl Order {
         bytes: &'a [u8],
         what: &'static str,
     ) -> Result<(u32, &'a [u8]), DeserializeError>
-        ensures { Gives (λ x. (x.0, x.1.now)) result (number_at self w32 bytes.now) }
+        ensures { GivesExactly (λ x. (x.0, x.1.now)) result (number_at self w32 bytes.now) }
     {
         if bytes.len() < 4 {
             return Err(DeserializeError::buffer_too_small(what));
@@ -98,7 +98,7 @@ impl Order {
         bytes: &'a [u8],
         what: &'static str,
     ) -> Result<(u128, &'a [u8]), DeserializeError>
-        ensures { Gives (λ x. (x.0, x.1.now)) result (number_at self w128 bytes.now) }
+        ensures { GivesExactly (λ x. (x.0, x.1.now)) result (number_at self w128 bytes.now) }
     {
         if bytes.len() < 16 {
             return Err(DeserializeError::buffer_too_small(what));
@@ -116,7 +116,7 @@ impl Order {
         bytes: &'a [u8],
         what: &'static str,
     ) -> Result<(StateID, &'a [u8]), DeserializeError>
-        ensures { Gives (λ x. (x.0, x.1.now)) result (id_at Kind.StateID self bytes.now) }
+        ensures { GivesExactly (λ x. (x.0, x.1.now)) result (id_at Kind.StateID self bytes.now) }
     {
         let (number, rest) = self.split_u32(bytes, what)?;
         match StateID::new(number as usize) {
@@ -132,7 +132,7 @@ impl Order {
         bytes: &'a [u8],
         what: &'static str,
     ) -> Result<(PatternID, &'a [u8]), DeserializeError>
-        ensures { Gives (λ x. (x.0, x.1.now)) result (id_at Kind.PatternID self bytes.now) }
+        ensures { GivesExactly (λ x. (x.0, x.1.now)) result (id_at Kind.PatternID self bytes.now) }
     {
         let (number, rest) = self.split_u32(bytes, what)?;
         match PatternID::new(number as usize) {
@@ -148,7 +148,7 @@ impl Order {
         bytes: &'a [u8],
         expected: u32,
     ) -> Result<&'a [u8], DeserializeError>
-        ensures { Gives (λ rest. (expected, rest.now)) result (version_at expected self bytes.now) }
+        ensures { GivesExactly (λ rest. (expected, rest.now)) result (version_at expected self bytes.now) }
     {
         let (found, rest) = self.split_u32(bytes, "version")?;
         if found != expected {
@@ -170,7 +170,7 @@ impl Order {
         slice: &[u8],
         what: &'static str,
     ) -> Result<(u16, usize), DeserializeError>
-        ensures read { Gives (λ x. (x.0, drop 2 slice.now)) result (number_at self w16 slice.now) }
+        ensures read { GivesExactly (λ x. (x.0, drop 2 slice.now)) result (number_at self w16 slice.now) }
         ensures size { IfOk result (λ x. x.1 ≡ 2) }
     {
         let (number, _) = self.split_u16(slice, what)?;
@@ -184,7 +184,7 @@ impl Order {
         slice: &[u8],
         what: &'static str,
     ) -> Result<(u32, usize), DeserializeError>
-        ensures read { Gives (λ x. (x.0, drop 4 slice.now)) result (number_at self w32 slice.now) }
+        ensures read { GivesExactly (λ x. (x.0, drop 4 slice.now)) result (number_at self w32 slice.now) }
         ensures size { IfOk result (λ x. x.1 ≡ 4) }
     {
         let (number, _) = self.split_u32(slice, what)?;
@@ -198,7 +198,7 @@ impl Order {
         slice: &[u8],
         what: &'static str,
     ) -> Result<(u128, usize), DeserializeError>
-        ensures read { Gives (λ x. (x.0, drop 16 slice.now)) result (number_at self w128 slice.now) }
+        ensures read { GivesExactly (λ x. (x.0, drop 16 slice.now)) result (number_at self w128 slice.now) }
         ensures size { IfOk result (λ x. x.1 ≡ 16) }
     {
         let (number, _) = self.split_u128(slice, what)?;
@@ -212,7 +212,7 @@ impl Order {
         slice: &[u8],
         what: &'static str,
     ) -> Result<(StateID, usize), DeserializeError>
-        ensures read { Gives (λ x. (x.0, drop 4 slice.now)) result (id_at Kind.StateID self slice.now) }
+        ensures read { GivesExactly (λ x. (x.0, drop 4 slice.now)) result (id_at Kind.StateID self slice.now) }
         ensures size { IfOk result (λ x. x.1 ≡ 4) }
     {
         let (id, _) = self.split_state_id(slice, what)?;
@@ -226,7 +226,7 @@ impl Order {
         slice: &[u8],
         what: &'static str,
     ) -> Result<(PatternID, usize), DeserializeError>
-        ensures read { Gives (λ x. (x.0, drop 4 slice.now)) result (id_at Kind.PatternID self slice.now) }
+        ensures read { GivesExactly (λ x. (x.0, drop 4 slice.now)) result (id_at Kind.PatternID self slice.now) }
         ensures size { IfOk result (λ x. x.1 ≡ 4) }
     {
         let (id, _) = self.split_pattern_id(slice, what)?;
@@ -236,7 +236,7 @@ impl Order {
     /// The count of the version's bytes. The version must be the expected one.
     #[tactic(auto, unfolding(crate::specs::Heads::version_at, crate::specs::Fields::number_at))]
     pub fn read_version(self, slice: &[u8], expected: u32) -> Result<usize, DeserializeError>
-        ensures read { Gives (λ _. (expected, drop 4 slice.now)) result (version_at expected self slice.now) }
+        ensures read { GivesExactly (λ _. (expected, drop 4 slice.now)) result (version_at expected self slice.now) }
         ensures size { IfOk result (λ size. size ≡ 4) }
     {
         self.split_version(slice, expected)?;

@@ -54,6 +54,6 @@ returns-clause-below c =
 pub returns-clause-numbered : goal.returns-clause-numbered
 returns-clause-numbered c =
     let last : c.loop-row.row ≡ row_count c.args.dfa.now = omega (arith, c.state_len-count.ensures.value) in
-    all_labelled c.loop-row.lists c.len-count.ensures.distinct (table_of c.args.dfa.now) c.loop-row.labels.items
+    all_labelled c.loop-row.lists c.len.ensures.distinct (table_of c.args.dfa.now) c.loop-row.labels.items
     (subst (λ row. AreLabelled (table_of c.args.dfa.now) row c.loop-row.lists c.loop-row.labels.items) last
     c.loop-row.invariant)

@@ -1,23 +1,21 @@
-use Rattle.std.proofs.Common.{◌≡◌, ◌+◌, ◌-◌, ◌*◌, ◌^◌, ◌<◌, ◌≤◌, ◌∙◌, ◌++◌, [], ◌∷◌, ℕ, List, All}
-use Rattle.std.proofs.Common.{map, slice_index, ap, ap₂, inr, sym, subst, arith}
-use Rattle.std.specs.BTreeMap.{keys}
-use Rattle.std.specs.List.{range_with_len}
-use Rattle.std.specs.Map.{keys_of, values_of}
-use Rattle.std.specs.Vec.{vec_items}
-use Rattle.std.proofs.lemmas.List.Elements.{All-push, All-weaker}
-use Rattle.std.proofs.lemmas.List.FromFn.{map-range_with_len_more}
-use Rattle.std.proofs.lemmas.Nat.{pow_pos, row_fits}
+use Rattle.std.proofs.Common.{◌≡◌, ◌^◌, ◌*◌, ◌∙◌, slice_index, ap, inl, inr, refl, sym, subst, arith}
+use Rattle.std.proofs.Common.{rules}
+use Rattle.std.proofs.lemmas.Grind.{common_steps}
+use Rattle.std.proofs.lemmas.Nat.{pow_pos}
 use Rattle.rx_spec.specs.Ids.{row_of}
 use Rattle.rx_spec.specs.Tables.{is_match}
 use Rattle.rx_search.specs.Labels.{patterns_of}
 use Rattle.rx_search.specs.Starts.{IsId}
 use Rattle.rx_dense.specs.Layouts.{Layout, ids_of, stride, table_of}
 use Rattle.rx_dense.specs.declared.special.Special.{Special}
-use Rattle.rx_order.proofs.Shuffled.{inserted_last, keys_last, lists_last}
+use Rattle.rx_order.proofs.InsertedLists.{one_inserted}
 use Rattle.rx_minimize.specs.Ranges.{ArePlaces}
 use Rattle.rx_minimize.proofs.MovedRows.{place_least}
 use Rattle.rx_minimize.proofs.Shaped.{match_there, row_numbered}
 use Rattle.rx_minimize.proofs.patterns.patterns.Goals as goal
+
+pub loop-place-init : goal.loop-place-init
+loop-place-init c = record { inserted = first_of (search rules, grind (arith, common_steps)); within = inl refl }
 
 pub must-id-requires : goal.must-id-requires
 must-id-requires c =
@@ -71,7 +69,6 @@ loop-place-preserved c =
     let l : Layout = c.args.dfa.now in
     let place = c.loop-place.place in
     let rows = c.args.firsts.now in
-    let from = c.places-first.result.0 in
     let within = c.places-first.ensures.within in
     let least = place_least c.requires.firsts place (omega (arith, within)) in
     let below = c.requires.firsts.below place (omega (arith, within)) in
@@ -82,31 +79,11 @@ loop-place-preserved c =
     let here = row_numbered l c.requires.rows place (omega (arith, least, below)) in
     let key : c.must.result ≡ place * stride l =
     c.must.ensures ∙ rw c.stride2-stride2.ensures.value here.shifted in
-    let behind : from ≤ place = c.loop-place.auto.place in
-    let f = λ (place : ℕ). patterns_of (table_of l) (slice_index rows place) in
-    let more : place + 1 - from ≡ place - from + 1 = omega arith in
-    let at : from + (place - from) ≡ place = omega arith in
-    let list : c.in_ok-list.list.items ≡ f place =
+    let list : c.in_ok-list.list.items ≡ patterns_of (table_of l) (slice_index rows place) =
     c.in_ok-list.ensures ∙ ap (patterns_of (table_of l)) own in
-    let keys_below : All (λ key. key < c.must.result) (keys c.loop-place.lists) =
-    subst (λ k. All (λ key. key < k) (keys c.loop-place.lists)) (sym key) c.loop-place.invariant.keys in
-    let entries : c.insert.new.self.entries ≡ c.loop-place.lists.entries ++ (c.must.result, c.in_ok-list.list) ∷ [] =
-    c.in_ok-insert.ensures.entries
-    ∙ inserted_last c.loop-place.lists.entries c.must.result c.in_ok-list.list keys_below in
-    let above : place * stride l < (place + 1) * stride l =
-    omega (arith, row_fits place (stride l) (place + 1) (stride l) (omega arith) (omega arith), pow_pos l.stride2) in
     record {
-      lists =
-          ap (λ es. map vec_items (values_of es)) entries
-          ∙ lists_last c.loop-place.lists.entries c.must.result c.in_ok-list.list
-          ∙ ap₂ (λ (xs : List (List ℕ)) (y : List ℕ). xs ++ y ∷ []) c.loop-place.invariant.lists list
-          ∙ sym (ap (λ n. map f (range_with_len from n)) more ∙ map-range_with_len_more f from (place - from) place at);
-      keys =
-          subst (All (λ key. key < (place + 1) * stride l))
-          (sym (ap keys_of entries ∙ keys_last c.loop-place.lists.entries c.must.result c.in_ok-list.list))
-          (All-push (λ key. key < (place + 1) * stride l) (keys c.loop-place.lists) c.must.result
-          (All-weaker (λ key. key < place * stride l) (λ key. key < (place + 1) * stride l)
-          (λ k h. omega (arith, h, above)) (keys c.loop-place.lists) c.loop-place.invariant.keys)
-          (omega (arith, key, above)));
+      inserted =
+          one_inserted c.must.result c.in_ok-list.list c.loop-place.invariant.inserted (pow_pos l.stride2)
+          c.loop-place.auto.place key list c.in_ok-insert.ensures.entries;
       within = inr (omega (arith, c.loop-place-test.true));
     }

@@ -3,6 +3,7 @@ use Rattle.rx_dense.specs.Layouts.{Layout, stride}
 use Rattle.rx_minimize.specs.Blocks.{AreFirsts}
 use Rattle.rx_minimize.proofs.JoinedRows.{AreSteps, all_ids, joined, renamed_count, renamed_rows, rows_is}
 use Rattle.rx_minimize.proofs.JoinedRows.{starts_below, words_below}
+use Rattle.rx_minimize.proofs.rows.join_rows.Goals.{After-move_rows}
 use Rattle.rx_minimize.proofs.rows.join_rows.Goals as goal
 
 pub remap-requires-clause-ids : goal.remap-requires-clause-ids
@@ -24,62 +25,33 @@ move_rows-requires-clause-firsts c =
     subst (λ n. AreFirsts n c.args.firsts.now)
     (sym (renamed_rows c.args.dfa.now c.args.ids.now c.remap.new.self c.remap.ensures.value)) c.requires.firsts
 
+-- what the first two calls leave
+steps : (c : After-move_rows)
+    → AreSteps c.args.dfa.now c.args.firsts.now c.args.ids.now c.remap.new.self c.move_rows.new.dfa
+steps c = record {
+  are_rows = c.requires.rows;
+  are_starts = c.requires.starts;
+  firsts = c.requires.firsts;
+  some = omega (arith, c.requires.two);
+  new = c.requires.ids;
+  renamed_is = c.remap.ensures.value;
+  kept = c.move_rows.ensures.rest;
+  moved = c.move_rows.ensures.moved;
+}
+
 pub truncate_states-requires-clause-within : goal.truncate_states-requires-clause-within
 truncate_states-requires-clause-within c =
-    let s : AreSteps c.args.dfa.now c.args.firsts.now c.args.ids.now c.remap.new.self c.move_rows.new.dfa =
-    record {
-      are_rows = c.requires.rows;
-      are_starts = c.requires.starts;
-      firsts = c.requires.firsts;
-      some = (omega (arith, c.requires.two));
-      new = c.requires.ids;
-      renamed_is = c.remap.ensures.value;
-      kept = c.move_rows.ensures.rest;
-      moved = c.move_rows.ensures.moved;
-    } in
-    omega (arith, rows_is s, c.requires.ids.within)
+    omega (arith, rows_is (steps (goal.at.truncate_states-requires-clause-within c).After-move_rows), c.requires.ids.within)
 
 pub truncate_states-requires-clause-rows : goal.truncate_states-requires-clause-rows
 truncate_states-requires-clause-rows c =
-    let s : AreSteps c.args.dfa.now c.args.firsts.now c.args.ids.now c.remap.new.self c.move_rows.new.dfa =
-    record {
-      are_rows = c.requires.rows;
-      are_starts = c.requires.starts;
-      firsts = c.requires.firsts;
-      some = (omega (arith, c.requires.two));
-      new = c.requires.ids;
-      renamed_is = c.remap.ensures.value;
-      kept = c.move_rows.ensures.rest;
-      moved = c.move_rows.ensures.moved;
-    } in
-    words_below s
+    words_below (steps (goal.at.truncate_states-requires-clause-rows c).After-move_rows)
 
 pub truncate_states-requires-clause-starts : goal.truncate_states-requires-clause-starts
 truncate_states-requires-clause-starts c =
-    let s : AreSteps c.args.dfa.now c.args.firsts.now c.args.ids.now c.remap.new.self c.move_rows.new.dfa =
-    record {
-      are_rows = c.requires.rows;
-      are_starts = c.requires.starts;
-      firsts = c.requires.firsts;
-      some = (omega (arith, c.requires.two));
-      new = c.requires.ids;
-      renamed_is = c.remap.ensures.value;
-      kept = c.move_rows.ensures.rest;
-      moved = c.move_rows.ensures.moved;
-    } in
-    starts_below s
+    starts_below (steps (goal.at.truncate_states-requires-clause-starts c).After-move_rows)
 
 pub returns : goal.returns
 returns c =
-    let s : AreSteps c.args.dfa.now c.args.firsts.now c.args.ids.now c.remap.new.self c.move_rows.new.dfa =
-    record {
-      are_rows = c.requires.rows;
-      are_starts = c.requires.starts;
-      firsts = c.requires.firsts;
-      some = (omega (arith, c.requires.two));
-      new = c.requires.ids;
-      renamed_is = c.remap.ensures.value;
-      kept = c.move_rows.ensures.rest;
-      moved = c.move_rows.ensures.moved;
-    } in
-    joined s c.remap.ensures.machine c.truncate_states.new.self c.truncate_states.ensures
+    joined (steps (goal.at.returns c).After-move_rows) c.remap.ensures.machine c.truncate_states.new.self
+    c.truncate_states.ensures

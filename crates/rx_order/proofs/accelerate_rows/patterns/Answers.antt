@@ -1,19 +1,14 @@
-use Rattle.std.proofs.Common.{◌≡◌, ◌+◌, ◌-◌, ◌*◌, ◌<◌, ◌≤◌, ◌∙◌, ◌++◌, [], ◌∷◌, ℕ, List, All, map, slice_index, ap, ap₂}
+use Rattle.std.proofs.Common.{◌≡◌, ◌-◌, ◌*◌, ◌∙◌, ℕ, map, slice_index, ap}
 use Rattle.std.proofs.Common.{sym, subst, arith}
-use Rattle.std.specs.BTreeMap.{keys}
 use Rattle.std.specs.List.{range_with_len}
-use Rattle.std.specs.Map.{keys_of, values_of}
-use Rattle.std.specs.Vec.{vec_items}
 use Rattle.std.proofs.lemmas.List.{get_or_default}
-use Rattle.std.proofs.lemmas.List.Elements.{All-push, All-weaker}
-use Rattle.std.proofs.lemmas.List.FromFn.{map-range_with_len_more}
-use Rattle.std.proofs.lemmas.Nat.{pow_pos, row_fits}
+use Rattle.std.proofs.lemmas.Nat.{pow_pos}
 use Rattle.rx_spec.specs.Ids.{row_of}
 use Rattle.rx_spec.specs.Tables.{is_match}
 use Rattle.rx_search.specs.Labels.{patterns_of}
 use Rattle.rx_search.specs.Starts.{IsId}
 use Rattle.rx_dense.specs.Layouts.{ids_of, stride, table_of}
-use Rattle.rx_order.proofs.Shuffled.{inserted_last, keys_last, lists_last}
+use Rattle.rx_order.proofs.InsertedLists.{one_inserted}
 use Rattle.rx_order.proofs.Sorted.{ends_rise, matching, numbered, place_below, row_in, rows_count}
 use Rattle.rx_order.proofs.accelerate_rows.patterns.Goals as goal
 
@@ -76,7 +71,6 @@ loop-place-preserved c =
     let l = c.args.dfa.now in
     let place = c.loop-place.place in
     let rows = c.args.order.now.rows.items in
-    let from = slice_index c.args.order.now.ends 1 in
     let low = place_below s place 3 (omega arith) c.loop-place-test.true in
     let row : c.index.result.now ≡ slice_index rows place =
     c.index.ensures ∙ get_or_default rows place c.index.result.now 0 (omega (arith, rows_count s)) in
@@ -87,33 +81,10 @@ loop-place-preserved c =
     let here = numbered s place low in
     let key : c.must.result ≡ place * stride l =
     c.must.ensures ∙ rw c.stride2-stride2.ensures.value here.shifted in
-    let behind : from ≤ place = c.loop-place.auto.place in
-    let f = λ (place : ℕ). patterns_of (table_of l) (slice_index rows place) in
-    let more : place + 1 - from ≡ place - from + 1 = omega arith in
-    let at : from + (place - from) ≡ place = omega arith in
-    let list : c.in_ok-list.list.items ≡ f place =
+    let list : c.in_ok-list.list.items ≡ patterns_of (table_of l) (slice_index rows place) =
     c.in_ok-list.ensures ∙ ap (patterns_of (table_of l)) own in
-    let below : All (λ key. key < c.must.result) (keys c.loop-place.lists) =
-    subst (λ k. All (λ key. key < k) (keys c.loop-place.lists)) (sym key) c.loop-place.invariant.keys in
-    let entries : c.insert.new.self.entries ≡ c.loop-place.lists.entries ++ (c.must.result, c.in_ok-list.list) ∷ [] =
-    c.in_ok-insert.ensures.entries
-    ∙ inserted_last c.loop-place.lists.entries c.must.result c.in_ok-list.list below in
-    let above : place * stride l < (place + 1) * stride l =
-    omega (arith, row_fits place (stride l) (place + 1) (stride l) (omega arith) (omega arith), pow_pos l.stride2) in
-    record {
-      lists =
-          ap (λ es. map vec_items (values_of es)) entries
-          ∙ lists_last c.loop-place.lists.entries c.must.result c.in_ok-list.list
-          ∙ ap₂ (λ (xs : List (List ℕ)) (y : List ℕ). xs ++ y ∷ []) c.loop-place.invariant.lists list
-          ∙ sym (ap (λ n. map f (range_with_len from n)) more ∙ map-range_with_len_more f from (place - from) place at);
-      keys =
-          subst (All (λ key. key < (place + 1) * stride l))
-          (sym (ap keys_of entries ∙ keys_last c.loop-place.lists.entries c.must.result c.in_ok-list.list))
-          (All-push (λ key. key < (place + 1) * stride l) (keys c.loop-place.lists) c.must.result
-          (All-weaker (λ key. key < place * stride l) (λ key. key < (place + 1) * stride l)
-          (λ k h. omega (arith, h, above)) (keys c.loop-place.lists) c.loop-place.invariant.keys)
-          (omega (arith, key, above)));
-    }
+    one_inserted c.must.result c.in_ok-list.list c.loop-place.invariant (pow_pos l.stride2) c.loop-place.auto.place key
+    list c.in_ok-insert.ensures.entries
 
 pub returns : goal.returns
 returns c =
@@ -123,4 +94,4 @@ returns c =
     let rises = ends_rise s 1 3 (omega arith) (omega arith) in
     let last : c.loop-place.place ≡ slice_index c.args.order.now.ends 3 = omega
     (arith, c.loop-place.auto.place-end rises) in
-    c.loop-place.invariant.lists ∙ ap (λ n. map f (range_with_len from (n - from))) last
+    c.loop-place.invariant.lists_are ∙ ap (λ n. map f (range_with_len from (n - from))) last

@@ -1,15 +1,10 @@
-use Rattle.std.proofs.Common.{◌≡◌, ◌-◌, ◌*◌, ◌<◌, All, map, slice_index}
-use Rattle.std.specs.BTreeMap.{keys}
-use Rattle.std.specs.List.{range_with_len}
+use Rattle.std.proofs.Common.{slice_index}
 use Rattle.rx_search.specs.Labels.{patterns_of}
-use Rattle.rx_dense.specs.Builder.{pattern_lists}
 use Rattle.rx_dense.specs.Layouts.{stride, table_of}
+use Rattle.rx_order.proofs.InsertedLists.{AreInserted}
 use Rattle.rx_order.proofs.accelerate_rows.patterns.Given as goal
 
 abbrev pub invariant-loop-place : goal.invariant-loop-place
-invariant-loop-place l = record {
-  lists : pattern_lists l.lists
-      ≡ map (λ place. patterns_of (table_of l.dfa) (slice_index l.order.rows.items place))
-      (range_with_len (slice_index l.order.ends 1) (l.place - slice_index l.order.ends 1));
-  keys : All (λ key. key < l.place * stride l.dfa) (keys l.lists);
-}
+invariant-loop-place l =
+    AreInserted (λ place. patterns_of (table_of l.dfa) (slice_index l.order.rows.items place)) (stride l.dfa)
+    (slice_index l.order.ends 1) l.place l.lists

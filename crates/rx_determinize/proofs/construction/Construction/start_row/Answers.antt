@@ -14,40 +14,46 @@ use Rattle.rx_determinize.specs.Working.{keying, states_of}
 use Rattle.rx_determinize.proofs.FillingLaws.{grows_by}
 use Rattle.rx_determinize.proofs.SteppingLaws.{adds_over}
 use Rattle.rx_determinize.proofs.NextLaws.{both_ok, key_may, row_by, working_over}
+use Rattle.rx_determinize.proofs.construction.Construction.start_row.Goals.{After-add}
 use Rattle.rx_determinize.proofs.construction.Construction.start_row.Goals as goal
+
+-- the key that the stepper gave is that of the state in which searches start, which can be added
+key_is : (c : After-add) → IsKeyOf (stepping_of c.args.stepper.now) c.deref.result.now
+    (start_state (stepping_of c.args.stepper.now).nfa c.in-Some.row c.args.start)
+key_is c =
+    let s = stepping_of c.args.stepper.now in
+    let state = start_state s.nfa c.in-Some.row c.args.start in
+    subst (λ (k : List ℕ). IsKeyOf s k state) (sym c.deref.ensures.value)
+    (when_true (IsKeyOf s c.start.new.key.items state) (is_dead_state state ≡ true) c.if-branch.true
+    c.in_ok-start.ensures.key)
+
+can_add : (c : After-add) → CanAdd (keying (stepping_of c.args.stepper.now) c.args.dfa.now)
+    c.args.self.now.limits c.args.self.now.states c.args.dfa.now c.deref.result.now
+can_add c =
+    let s = stepping_of c.args.stepper.now in
+    let l = c.args.dfa.now in
+    let r = c.requires in
+    let state = start_state s.nfa c.in-Some.row c.args.start in
+    let reached : is_dead_state state ≡ false → IsReached (keying s l).build state =
+    subst (λ (row : Option ℕ). IfSome row (λ q. is_dead_state (start_state s.nfa q c.args.start) ≡ false
+    → IsReached (keying s l).build (start_state s.nfa q c.args.start))) c.in-Some.is r.reached in
+    key_may r.suits r.working (key_is c) (reached (key_is c).alive)
 
 pub returns-then-branch-clause-is_row : goal.returns-then-branch-clause-is_row
 returns-then-branch-clause-is_row c =
     let s = stepping_of c.args.stepper.now in
     let m = c.add.new.dfa in
-    let state = start_state s.nfa c.in-Some.row c.args.start in
-    let key : IsKeyOf s c.start.new.key.items state =
-    when_true (IsKeyOf s c.start.new.key.items state) (is_dead_state state ≡ true) c.if-branch.true
-    c.in_ok-start.ensures.key in
-    let at : IsKeyOf s c.deref.result.now state =
-    subst (λ (k : List ℕ). IsKeyOf s k state) (sym c.deref.ensures.value) key in
+    let key = key_is (goal.at.returns-then-branch-clause-is_row c).After-add in
     IfOk-weaker c.add.result (Adds c.args.self.now.states c.args.dfa.now c.deref.result.now c.add.new.self m) _
     (λ id adds. subst (λ (row : Option ℕ). IsRowOf (states_of (keying s m) c.add.new.self)
-    (start_node s.nfa row c.args.start) (id / stride m)) (sym c.in-Some.is) (row_by s at adds)) c.add.ensures.ok
+    (start_node s.nfa row c.args.start) (id / stride m)) (sym c.in-Some.is) (row_by s key adds)) c.add.ensures.ok
 
 pub returns-then-branch-clause-working : goal.returns-then-branch-clause-working
 returns-then-branch-clause-working c =
     let s = stepping_of c.args.stepper.now in
     let l = c.args.dfa.now in
-    let r = c.requires in
-    let state = start_state s.nfa c.in-Some.row c.args.start in
-    let key : IsKeyOf s c.start.new.key.items state =
-    when_true (IsKeyOf s c.start.new.key.items state) (is_dead_state state ≡ true) c.if-branch.true
-    c.in_ok-start.ensures.key in
-    let at : IsKeyOf s c.deref.result.now state =
-    subst (λ (k : List ℕ). IsKeyOf s k state) (sym c.deref.ensures.value) key in
-    let reached : is_dead_state state ≡ false → IsReached (keying s l).build state =
-    subst (λ (row : Option ℕ). IfSome row (λ q. is_dead_state (start_state s.nfa q c.args.start) ≡ false
-    → IsReached (keying s l).build (start_state s.nfa q c.args.start))) c.in-Some.is r.reached in
-    let may : CanAdd (keying s l) c.args.self.now.limits c.args.self.now.states l c.deref.result.now =
-    key_may r.suits r.working at (reached at.alive) in
     both_ok c.add.result (λ id adds w. working_over s l c.add.new.dfa (adds_over adds) w) c.add.ensures.ok
-    (c.add.ensures.working (keying s l) may)
+    (c.add.ensures.working (keying s l) (can_add (goal.at.returns-then-branch-clause-working c).After-add))
 
 pub returns-then-branch-clause-grows : goal.returns-then-branch-clause-grows
 returns-then-branch-clause-grows c =
@@ -58,18 +64,5 @@ returns-then-branch-clause-grows c =
 
 pub returns-then-branch-clause-err : goal.returns-then-branch-clause-err
 returns-then-branch-clause-err c =
-    let s = stepping_of c.args.stepper.now in
-    let l = c.args.dfa.now in
-    let r = c.requires in
-    let state = start_state s.nfa c.in-Some.row c.args.start in
-    let key : IsKeyOf s c.start.new.key.items state =
-    when_true (IsKeyOf s c.start.new.key.items state) (is_dead_state state ≡ true) c.if-branch.true
-    c.in_ok-start.ensures.key in
-    let at : IsKeyOf s c.deref.result.now state =
-    subst (λ (k : List ℕ). IsKeyOf s k state) (sym c.deref.ensures.value) key in
-    let reached : is_dead_state state ≡ false → IsReached (keying s l).build state =
-    subst (λ (row : Option ℕ). IfSome row (λ q. is_dead_state (start_state s.nfa q c.args.start) ≡ false
-    → IsReached (keying s l).build (start_state s.nfa q c.args.start))) c.in-Some.is r.reached in
-    let may : CanAdd (keying s l) c.args.self.now.limits c.args.self.now.states l c.deref.result.now =
-    key_may r.suits r.working at (reached at.alive) in
-    c.add.ensures.err (keying s l) may
+    c.add.ensures.err (keying (stepping_of c.args.stepper.now) c.args.dfa.now)
+    (can_add (goal.at.returns-then-branch-clause-err c).After-add)

@@ -11,7 +11,7 @@ use Rattle.rx_powerset.proofs.StateBounds.{few_more, few_firsts}
 use Rattle.rx_stepper.specs.Stamps.{is_met}
 use Rattle.rx_stepper.specs.ThinRows.{row_of_thin, passing_of}
 use Rattle.rx_stepper.specs.declared.thin_row.ThinRow.{ThinRow}
-use Rattle.rx_stepper.proofs.StampedSearch.{begun, passed_on, met_now, all_done}
+use Rattle.rx_stepper.proofs.StampedSearch.{begun, passed_on, met_now, all_done, all_met}
 use Rattle.rx_stepper.proofs.StampedSearch.{unmet_within, count_new, count_old}
 use Rattle.rx_stepper.proofs.ThinLists.{thin_there}
 use Rattle.rx_stepper.proofs.closures.Closures.list.Goals as goal
@@ -147,3 +147,13 @@ returns-clause-few c =
     let nfa = c.args.self.now.nfa.now in
     let reached = λ (q : ℕ). closure (meaning nfa).rows (passing_of c.args.passing.now) q in
     few_firsts (flat_map reached c.args.from.now) id_count (returns-clause-rows c) c.each.invariant.few
+
+pub returns-clause-ids : goal.returns-clause-ids
+returns-clause-ids c = c.each.invariant.few
+
+pub returns-clause-met : goal.returns-clause-met
+returns-clause-met c = λ q one.
+    let nfa = c.each.self.nfa.now in
+    let graph = graph_of (meaning nfa).rows (passing_of c.args.passing.now) nfa.shallow in
+    let one_now = ap (λ n. closure (meaning n).rows (passing_of c.args.passing.now) q) c.each.invariant.nfa ∙ one in
+    all_met graph c.args.from.now c.each.row-index (omega arith) c.each.invariant.search q one_now

@@ -1,110 +1,53 @@
-use Rattle.std.proofs.Common.{◌+◌, ◌≤◌, ◌++◌, map, refl, ap, ap₂, sym, ◌∙◌, subst, arith}
-use Rattle.std.specs.Prelude.{All}
+use Rattle.std.proofs.Common.{◌≤◌, ◌++◌, if◌then◌else◌, List, ℕ, map, None, Some, ap, ap₂, sym, ◌∙◌, subst}
+use Rattle.std.specs.Prelude.{All, slice_index}
 use Rattle.std.proofs.lemmas.List.Elements.{All-from_recursion}
 use Rattle.rx_spec.specs.Causes.{max_id}
-use Rattle.rx_base.specs.FactBits.{facts_with}
+use Rattle.rx_spec.specs.Contexts.{Facts}
+use Rattle.rx_base.specs.FactBits.{bits_of, facts_with}
 use Rattle.rx_expr.specs.Nfa.{meaning}
-use Rattle.rx_expr.specs.declared.thompson.nfa.NFA.{NFA}
-use Rattle.rx_stepper.specs.Columns.{AreGroups, Reads}
-use Rattle.rx_stepper.specs.Keys.{spelled}
-use Rattle.rx_stepper.specs.declared.current.Current.{Current}
-use Rattle.rx_stepper.specs.Steps.{going_by}
-use Rattle.rx_stepper.proofs.StepLaws.{GroupDone, done_none, done_passed, done_more, all_done, group_goes}
-use Rattle.rx_stepper.proofs.GroupLoop.{Beginning, Between, stand}
-use Rattle.rx_stepper.proofs.KeyLaws.{spells}
+use Rattle.rx_stepper.specs.Keys.{are_closed, own_of}
+use Rattle.rx_stepper.specs.Steps.{AreSteps, rows_in}
+use Rattle.rx_stepper.proofs.GroupLoop.{stand}
+use Rattle.rx_stepper.proofs.KeyLaws.{rows_tested}
+use Rattle.rx_stepper.proofs.Results.{on_ok, on_ok-map}
 use Rattle.rx_stepper.proofs.current.Current.begin.Goals as goal
-use Rattle.rx_stepper.proofs.current.Current.begin.Goals.{then-has+in_ok-step_group, else-has}
+use Rattle.rx_stepper.proofs.current.Current.begin.Goals.{then-is_led, else-is_led}
 
 pub push_rows-requires : goal.push_rows-requires
 push_rows-requires c =
-    let key = spells (meaning c.args.closures.now.nfa.now).rows c.args.key.now c.requires.key in
-    subst (All (λ n. n ≤ max_id)) (sym c.rows_of.ensures)
-    (All-from_recursion (λ n. n ≤ max_id) (spelled c.args.key.now).rows key.closed.ids)
+    let own = own_of c.args.key.now in
+    let closed = rows_tested (meaning c.args.closures.now.nfa.now).rows own c.requires.closed in
+    subst (All (λ n. n ≤ max_id)) (sym c.own_of.ensures) (All-from_recursion (λ n. n ≤ max_id) own closed.ids)
 
-pub loop-group-init : goal.loop-group-init
-loop-group-init c = record {
-  nfa = refl;
-  columns = c.forget.ensures.columns;
-  room = omega (arith, c.forget.ensures.room);
-  key = c.in_ok-extend_from_slice.ensures.items ∙ ap (λ l. l ++ c.args.key.now) c.forget.ensures.key;
-  rows =
-      c.in_ok-push_rows.ensures ∙ ap₂ (λ a b. a ++ b) c.forget.ensures.rows c.rows_of.ensures;
-  done = λ units reads groups. done_none c.forget.ensures.targets c.forget.ensures.labels;
-}
+pub find-requires-clause-closed : goal.find-requires-clause-closed
+find-requires-clause-closed c =
+    let rows = c.deref.ensures.value ∙ c.in_ok-push_rows.ensures
+    ∙ ap₂ (λ a b. a ++ b) c.clear-2.ensures.items c.own_of.ensures in
+    ap (are_closed (meaning c.args.closures.now.nfa.now).rows) rows ∙ c.requires.closed
 
-pub loop-group-preserved : goal.loop-group-preserved
-loop-group-preserved c =
-    let b : Beginning = record {
-      closures = c.args.closures.now;
-      columns = c.args.columns.now;
-      kind = c.args.kind;
-      key = c.args.key.now;
-      before = c.args.self.now;
-    } in
-    let i = c.loop-group.group in
-    let before = c.loop-group.invariant in
-    let used = c.args.columns.now.groups.used.items in
-    elim c.if-has.branch [
-      | then-has+in_ok-step_group w ↦
-          let e = w.step_group.ensures in
-          let ok = w.in_ok-step_group.ensures in
-          let more : Between b (i + 1) w.step_group.new.self w.step_group.new.closures = record {
-            nfa = e.nfa ∙ before.nfa;
-            columns = e.columns ∙ before.columns;
-            room = omega (arith, e.room, before.room);
-            key = e.key ∙ before.key;
-            rows = e.rows ∙ before.rows;
-            done = λ units reads groups.
-                let gs = b.columns.groups.of.items in
-                let columns = b.columns.reading.columns.items in
-                let spans = b.columns.reading.spans.items in
-                let state = spelled b.key in
-                let last = c.context_of-last.result in
-                let from = c.loop-group.self.rows.items in
-                let old = sym before.nfa in
-                let reads_old = subst (λ m. Reads (meaning m).rows units columns spans) old reads in
-                let groups_old = subst (λ m. AreGroups (meaning m) units gs) old groups in
-                let t = λ (s : Current). map (λ v. v.items) s.targets.items in
-                let l = λ (s : Current). map (λ v. v.items) s.labels.items in
-                let self = c.loop-group.self in
-                let new = w.step_group.new.self in
-                let Is = λ (m : NFA). GroupDone (stand m b.kind state) units gs i (t self) (l self) (t new) (l new)
-                (going_by (meaning m) b.kind last (facts_with i) from) in
-                done_more
-                (subst Is before.nfa (record {
-                  others = ok.others;
-                  label = ok.label;
-                  few = ok.few;
-                  lists = ok.targets units reads_old;
-                  goes_on =
-                      group_goes (stand c.loop-group.closures.nfa.now b.kind state) units gs i groups_old
-                      c.context_of-last.ensures before.rows;
-                }))
-                (before.done units reads groups);
-          } in
-          subst (λ s. Between b (i + 1) s c.if-has.closures) (sym w.self-is)
-          (subst (Between b (i + 1) w.step_group.new.self) (sym w.closures-is) more)
-      | else-has w ↦
-          let more : Between b (i + 1) c.loop-group.self c.loop-group.closures = record {
-            nfa = before.nfa;
-            columns = before.columns;
-            room = before.room;
-            key = before.key;
-            rows = before.rows;
-            done = λ units reads groups.
-                done_passed used groups.len c.args.columns.now.groups.are_used (sym c.has.ensures ∙ w.if-has.false)
-                (before.done units reads groups);
-          } in
-          subst (λ s. Between b (i + 1) s c.if-has.closures) (sym w.self-is)
-          (subst (Between b (i + 1) c.loop-group.self) (sym w.closures-is) more)
-    ]
+pub returns-clause-led_in : goal.returns-clause-led_in
+returns-clause-led_in c =
+    let key = c.args.key.now in
+    let bits = bits_of (facts_with (slice_index key 0)) in
+    on_ok c.find.result
+    (elim c.if-is_led.branch [
+      | then-is_led w ↦
+          w.self-is ∙ ap Some (w.to_bits.ensures.value ∙ ap bits_of c.context_of-last.ensures)
+          ∙ ap (λ b. if b then Some bits else None) (sym (sym c.is_led.ensures ∙ w.if-is_led.true))
+      | else-is_led w ↦
+          w.self-is ∙ ap (λ b. if b then Some bits else None) (sym (sym c.is_led.ensures ∙ w.if-is_led.false))
+    ])
 
 pub returns-clause-steps : goal.returns-clause-steps
-returns-clause-steps c = λ units reads groups.
-    all_done
-    (λ column h. omega (
-      arith,
-      c.args.columns.now.groups.below column 0 (omega (arith, groups.len)),
-      c.loop-group-test.false,
-    ))
-    (c.loop-group.invariant.done units reads groups)
+returns-clause-steps c =
+    let nfa = c.args.closures.now.nfa.now in
+    let rows = c.deref.ensures.value ∙ c.in_ok-push_rows.ensures
+    ∙ ap₂ (λ a b. a ++ b) c.clear-2.ensures.items c.own_of.ensures in
+    let new = c.find.new.self in
+    on_ok-map c.find.result
+    (λ steps units reads groups.
+    let Is = λ (l : List ℕ) (f : Facts). AreSteps (stand nfa c.args.kind (rows_in l f)) units
+    c.args.columns.now.groups.of.items (map (λ v. v.items) new.targets.items) (map (λ v. v.items) new.matches.items) in
+    subst (Is (own_of c.args.key.now)) c.context_of-last.ensures
+    (subst (λ l. Is l c.context_of-last.result) rows (steps units reads groups)))
+    c.find.ensures.steps

@@ -1,55 +1,76 @@
-use Rattle.std.proofs.Common.{List, ℕ, map, ap, sym, ◌∙◌, subst, arith}
+use Rattle.std.proofs.Common.{◌≡◌, true, length, ap, sym, ◌∙◌, subst, arith}
+use Rattle.rx_spec.specs.Nfas.{Nfa}
 use Rattle.rx_expr.specs.Nfa.{meaning}
 use Rattle.rx_expr.specs.declared.thompson.nfa.NFA.{NFA}
-use Rattle.rx_stepper.specs.Fits.{Fits}
-use Rattle.rx_stepper.specs.Keys.{spelled}
-use Rattle.rx_stepper.specs.Steps.{AreSteps}
+use Rattle.rx_stepper.specs.Fits.{Fits, FitsCurrent, FitsLead, table_of}
+use Rattle.rx_stepper.specs.Keys.{are_closed, own_of}
+use Rattle.rx_stepper.specs.Leads.{lead_of}
+use Rattle.rx_stepper.specs.Steppers.{stepping_of}
 use Rattle.rx_stepper.specs.Units.{units_of}
-use Rattle.rx_stepper.proofs.GroupLoop.{stand}
-use Rattle.rx_stepper.proofs.StepLaws.{dead_steps}
+use Rattle.rx_stepper.proofs.KeyLaws.{context_small, key_len, label_number, own_closed, rows_closed, spells}
+use Rattle.rx_stepper.proofs.StepperParts.{begun_current, dead_current}
 use Rattle.rx_stepper.proofs.stepper.Stepper.begin.Goals as goal
+
+pub find_lead-requires : goal.find_lead-requires
+unfolding stepping_of
+find_lead-requires c =
+    let nfa = meaning c.args.self.now.closures.nfa.now in
+    omega (arith, context_small (spells nfa.rows (lead_of nfa) c.args.key.now c.requires))
+
+pub begin-requires-clause-context : goal.begin-requires-clause-context
+unfolding stepping_of
+begin-requires-clause-context c =
+    let nfa = meaning c.args.self.now.closures.nfa.now in
+    omega (arith, context_small (spells nfa.rows (lead_of nfa) c.args.key.now c.requires))
+
+pub begin-requires-clause-long : goal.begin-requires-clause-long
+unfolding stepping_of
+begin-requires-clause-long c =
+    let nfa = meaning c.args.self.now.closures.nfa.now in
+    let key = spells nfa.rows (lead_of nfa) c.args.key.now c.requires in
+    omega (arith, key_len key, label_number key)
+
+pub begin-requires-clause-closed : goal.begin-requires-clause-closed
+unfolding stepping_of
+begin-requires-clause-closed c =
+    let nfa = meaning c.args.self.now.closures.nfa.now in
+    let own = own_of c.args.key.now in
+    let same = ap (λ s. s.nfa) c.find_lead.ensures.kept in
+    subst (λ (n : Nfa). are_closed n.rows own ≡ true) (sym same)
+    (rows_closed nfa.rows own (own_closed (spells nfa.rows (lead_of nfa) c.args.key.now c.requires)))
 
 pub invariant_of-self : goal.invariant_of-self
 invariant_of-self c =
-    let self = c.args.self.now in
-    let old = self.fits in
-    let new = c.begin.new.self in
+    let self = c.find_lead.new.self in
     let begun = c.begin.ensures in
-    let groups = self.columns.groups.of.items in
-    let Steps = λ (key : List ℕ). AreSteps (stand self.closures.nfa.now self.kind (spelled key))
-    (units_of self.classes) groups
-    (map (λ v. v.items) new.targets.items) (map (λ v. v.items) new.labels.items) in
-    let Is = λ (n : NFA). Fits (meaning n) self.kind self.classes self.columns new in
-    let fits : Is self.closures.nfa.now = record {
-      counted = old.counted;
-      count = old.count;
-      reads = old.reads;
-      groups = old.groups;
-      targets = begun.columns ∙ old.targets;
-      room = omega (arith, old.room, begun.room);
-      steps =
-          subst Steps (sym c.in-Ok.ensures.key) (c.in-Ok.ensures.steps (units_of self.classes) old.reads old.groups);
-    } in
-    record { fits = subst Is (sym begun.nfa) fits }
+    let new = c.begin.new.self in
+    let e = sym begun.nfa in
+    let table = λ (n : NFA). table_of (meaning n) self.kind self.classes self.columns in
+    let current = begun_current (table self.closures.nfa.now) self.leads.items new
+    (begun.columns ∙ self.fits_current.columns) c.in-Ok.ensures.key
+    (c.in-Ok.ensures.steps (units_of self.classes) self.fits.reads self.fits.groups) c.in-Ok.ensures.led_in
+    c.in_ok-find_lead.ensures.found in
+    record {
+      fits = subst (λ (n : NFA). Fits (meaning n) self.classes self.columns) e self.fits;
+      fits_lead = subst (λ (n : NFA). FitsLead (table n) self.lead_in self.leads.items) e self.fits_lead;
+      fits_current = subst (λ (n : NFA). FitsCurrent (table n) self.leads.items new) e current;
+      room = omega (arith, self.room, begun.room, ap (λ (n : NFA). length (meaning n).rows) e);
+    }
 
 pub invariant_of-self-in-Err : goal.invariant_of-self-in-Err
 invariant_of-self-in-Err c =
-    let self = c.args.self.now in
-    let old = self.fits in
-    let new = c.forget.new.self in
+    let self = c.find_lead.new.self in
     let begun = c.begin.ensures in
+    let new = c.forget.new.self in
     let forgot = c.forget.ensures in
-    let Is = λ (n : NFA). Fits (meaning n) self.kind self.classes self.columns new in
-    let fits : Is self.closures.nfa.now = record {
-      counted = old.counted;
-      count = old.count;
-      reads = old.reads;
-      groups = old.groups;
-      targets = forgot.columns ∙ begun.columns ∙ old.targets;
-      room = omega (arith, old.room, begun.room, forgot.room);
-      steps =
-          dead_steps (stand self.closures.nfa.now self.kind (spelled new.key.items)) (units_of self.classes)
-          self.columns.groups.of.items (map (λ v. v.items) new.targets.items) (map (λ v. v.items) new.labels.items)
-          (ap (λ l. (spelled l).rows) forgot.key) forgot.targets forgot.labels;
-    } in
-    record { fits = subst Is (sym begun.nfa) fits }
+    let e = sym begun.nfa in
+    let table = λ (n : NFA). table_of (meaning n) self.kind self.classes self.columns in
+    let current = dead_current (table self.closures.nfa.now) self.leads.items new
+    (forgot.columns ∙ begun.columns ∙ self.fits_current.columns) forgot.key forgot.targets forgot.matches
+    forgot.led_in in
+    record {
+      fits = subst (λ (n : NFA). Fits (meaning n) self.classes self.columns) e self.fits;
+      fits_lead = subst (λ (n : NFA). FitsLead (table n) self.lead_in self.leads.items) e self.fits_lead;
+      fits_current = subst (λ (n : NFA). FitsCurrent (table n) self.leads.items new) e current;
+      room = omega (arith, self.room, begun.room, ap (λ (n : NFA). length (meaning n).rows) e);
+    }

@@ -1,135 +1,126 @@
-use Rattle.std.proofs.Common.{◌==◌, ◌&&◌, ◌<◌, ◌≤◌, ◌++◌, if◌then◌else◌, List, ℕ, ◌∷◌, length, map, ap, ap₂, sym, ◌∙◌}
-use Rattle.std.proofs.Common.{subst, arith}
-use Rattle.std.specs.Prelude.{All, slice_index}
-use Rattle.std.specs.List.{list_any}
+use Rattle.std.proofs.Common.{◌<◌, List, length, ap, sym, ◌∙◌, subst, arith}
+use Rattle.std.specs.Option.{option_copied}
+use Rattle.std.specs.Prelude.{IfSome}
 use Rattle.rx_spec.specs.Builds.{is_dead_state}
-use Rattle.rx_spec.specs.Causes.{max_id}
-use Rattle.rx_spec.specs.States.{Standing, row_at, is_look_row}
-use Rattle.rx_base.specs.FactBits.{facts_with}
+use Rattle.rx_base.specs.FactBits.{bits_of, facts_with}
 use Rattle.rx_expr.specs.Nfa.{meaning}
 use Rattle.rx_expr.specs.declared.thompson.nfa.NFA.{NFA}
-use Rattle.rx_powerset.specs.Closures.{closed_rows}
-use Rattle.rx_stepper.specs.Columns.{list_at, asked_of, AreGroups, Reads}
-use Rattle.rx_stepper.specs.Keys.{spelled}
+use Rattle.rx_stepper.specs.Fits.{Fits, FitsCurrent, FitsLead, table_of}
+use Rattle.rx_stepper.specs.Gathering.{IsLeadOf}
 use Rattle.rx_stepper.specs.Steppers.{stepping_of}
-use Rattle.rx_stepper.specs.Steps.{Stand, IsStep, AreSteps}
 use Rattle.rx_stepper.specs.Units.{units_of}
-use Rattle.rx_stepper.specs.declared.stepper.Stepper.{Stepper}
-use Rattle.rx_stepper.proofs.EmptyLists.{list_there}
-use Rattle.rx_stepper.proofs.GroupLoop.{stand}
-use Rattle.rx_stepper.proofs.StepLaws.{step_made, made_key}
+use Rattle.rx_stepper.specs.declared.lead_steps.LeadSteps.{LeadSteps}
+use Rattle.rx_stepper.proofs.ColumnSteps.{IsGathered, gathered_few, gathered_made, lead_column, led_within}
+use Rattle.std.proofs.lemmas.Bool.{MatchBool-at_false, MatchBool-at_true}
 use Rattle.rx_stepper.proofs.stepper.Stepper.next.Goals as goal
 
-abbrev stand_now : Stepper → Stand
-stand_now self = stand self.closures.nfa.now self.kind (spelled self.current.key.items)
+pub lead_steps-lead-requires-clause-context : goal.lead_steps-lead-requires-clause-context
+lead_steps-lead-requires-clause-context c =
+    let self = c.args.self.now in
+    subst (λ (l : List LeadSteps). IfSome self.current.led_in (λ context. context < length l))
+    (sym c.deref.ensures.value)
+    (led_within self.fits.groups self.fits_lead self.fits_current)
 
-abbrev targets_at : Stepper → ℕ → List ℕ
-targets_at self column = list_at (map (λ v. v.items) self.current.targets.items) column
-
-abbrev label_at : Stepper → ℕ → List ℕ
-label_at self column =
-    list_at (map (λ v. v.items) self.current.labels.items) (slice_index self.columns.groups.of.items column)
-
-abbrev unit_at : Stepper → ℕ → ℕ
-unit_at self column = slice_index (units_of self.classes) column
-
-column_step : (self : Stepper) (column : ℕ) → column < length (units_of self.classes)
-    → IsStep (stand_now self) (unit_at self column) (targets_at self column) (label_at self column)
-column_step self column h = self.fits.steps column h
-
-pub returns-then-is_dead-clause-next : goal.returns-then-is_dead-clause-next
+pub gather-requires-clause-lead_column : goal.gather-requires-clause-lead_column
 unfolding stepping_of
-returns-then-is_dead-clause-next c =
+gather-requires-clause-lead_column c =
     let self = c.args.self.now in
     let column = c.args.column in
     let within : column < length (units_of self.classes) = omega (arith, c.requires.column, self.fits.counted) in
-    let nfa = meaning self.closures.nfa.now in
-    let from = c.deref.ensures.value
-    ∙ sym (list_there (λ v. v.items) self.current.targets.items column c.index.result.now
-    (omega (arith, within, self.fits.targets)) c.index.ensures) in
-    let rows = c.deref-2.ensures.value ∙ c.list.ensures.rows ∙ ap (closed_rows nfa.rows Standing) from in
-    let group = c.of-group.ensures in
-    let label = c.deref-3.ensures.value ∙ sym (list_there (λ v. v.items) self.current.labels.items c.of-group.result
-    c.index-label.result.now (omega (arith, group.bound, self.current.labels_len)) c.index-label.ensures)
-    ∙ ap (list_at (map (λ v. v.items) self.current.labels.items)) group.value in
-    let step = step_made (stand_now self) (unit_at self column) (column_step self column within) in
-    ap is_dead_state step
-    ∙ ap₂ (λ (r l : List ℕ). (length r == 0) && (length l == 0)) (sym rows) (sym label)
-    ∙ sym c.is_dead.ensures ∙ c.if-is_dead.true
+    let group = c.of-group.result in
+    let lead = c.lead_steps-lead.result in
+    let Is = λ (l : List LeadSteps). IsLeadOf self.current l self.kind group (option_copied lead) in
+    let is = subst Is c.deref.ensures.value c.lead_steps-lead.ensures in
+    lead_column self.fits.groups self.fits_lead self.fits_current column group within lead is
 
-pub write-requires : goal.write-requires
+pub write_key-requires-clause-asked : goal.write_key-requires-clause-asked
 unfolding stepping_of
-write-requires c =
+write_key-requires-clause-asked c =
     let self = c.args.self.now in
     let column = c.args.column in
     let within : column < length (units_of self.classes) = omega (arith, c.requires.column, self.fits.counted) in
-    let group = c.of-group.ensures in
-    let label = c.deref-5.ensures.value ∙ sym (list_there (λ v. v.items) self.current.labels.items c.of-group.result
-    c.index-label.result.now (omega (arith, group.bound, self.current.labels_len)) c.index-label.ensures)
-    ∙ ap (list_at (map (λ v. v.items) self.current.labels.items)) group.value in
-    omega (arith, ap length label, (column_step self column within).few)
+    let number = self.fits.groups.each column within in
+    let group = c.of-group.ensures.value in
+    group ∙ number.bits ∙ ap bits_of (sym number.facts) ∙ ap (λ g. bits_of (facts_with g)) (sym group)
+
+pub write_key-requires-clause-label : goal.write_key-requires-clause-label
+unfolding stepping_of
+write_key-requires-clause-label c =
+    let self = c.args.self.now in
+    let column = c.args.column in
+    let within : column < length (units_of self.classes) = omega (arith, c.requires.column, self.fits.counted) in
+    let group = c.of-group.result in
+    let lead = c.lead_steps-lead.result in
+    let Is = λ (l : List LeadSteps). IsLeadOf self.current l self.kind group (option_copied lead) in
+    let is = subst Is c.deref.ensures.value c.lead_steps-lead.ensures in
+    let table = table_of (meaning self.closures.nfa.now) self.kind self.classes self.columns in
+    let gathered : IsGathered table self.leads.items self.current lead column group c.deref-2.result.now
+    c.deref-3.result.now = record {
+      within = within;
+      group_is = c.of-group.ensures.value;
+      lead_is = is;
+      from_is = c.deref-2.ensures.value ∙ c.in_ok-gather.ensures.targets;
+      label_is = c.deref-3.ensures.value ∙ c.in_ok-gather.ensures.label;
+    } in
+    gathered_few gathered self.fits.groups self.fits_lead self.fits_current
 
 pub invariant_of-self-2 : goal.invariant_of-self-2
-unfolding stepping_of
 invariant_of-self-2 c =
     let self = c.args.self.now in
-    let old = self.fits in
-    let units = units_of self.classes in
-    let groups = self.columns.groups.of.items in
-    let e = sym c.list.ensures.nfa in
-    let reading = self.columns.reading in
-    let reads = subst (λ (n : NFA). Reads
-    (meaning n).rows units reading.columns.items reading.spans.items) e old.reads in
-    let targets = map (λ v. v.items) self.current.targets.items in
-    let labels = map (λ v. v.items) self.current.labels.items in
-    let state = spelled self.current.key.items in
+    let e = sym c.write_key.ensures.nfa in
+    let table = λ (n : NFA). table_of (meaning n) self.kind self.classes self.columns in
     record {
-      fits = record {
-        counted = old.counted;
-        count = old.count;
-        reads = reads;
-        groups = subst (λ (n : NFA). AreGroups (meaning n) units groups) e old.groups;
-        targets = old.targets;
-        room = omega (arith, old.room, c.list.ensures.room, ap (λ (n : NFA). length (meaning n).rows) e);
-        steps = subst (λ (n : NFA). AreSteps (stand n self.kind state) units groups targets labels) e old.steps;
-      };
+      fits = subst (λ (n : NFA). Fits (meaning n) self.classes self.columns) e self.fits;
+      fits_lead = subst (λ (n : NFA). FitsLead (table n) self.lead_in self.leads.items) e self.fits_lead;
+      fits_current = subst (λ (n : NFA). FitsCurrent (table n) self.leads.items self.current) e self.fits_current;
+      room = omega (arith, self.room, c.write_key.ensures.room, ap (λ (n : NFA). length (meaning n).rows) e);
     }
 
-pub returns-clause-next : goal.returns-clause-next
+pub returns-then-goes_on-clause-next : goal.returns-then-goes_on-clause-next
 unfolding stepping_of
-returns-clause-next c =
+returns-then-goes_on-clause-next c =
     let self = c.args.self.now in
     let column = c.args.column in
     let within : column < length (units_of self.classes) = omega (arith, c.requires.column, self.fits.counted) in
-    let nfa = meaning self.closures.nfa.now in
-    let unit = unit_at self column in
-    let from = c.deref.ensures.value
-    ∙ sym (list_there (λ v. v.items) self.current.targets.items column c.index.result.now
-    (omega (arith, within, self.fits.targets)) c.index.ensures) in
-    let listed = c.list.ensures.rows ∙ ap (closed_rows nfa.rows Standing) from in
-    let rows = c.deref-6.ensures.value ∙ listed in
-    let group = c.of-group.ensures in
-    let told = sym (list_there (λ v. v.items) self.current.labels.items c.of-group.result c.index-label.result.now
-    (omega (arith, group.bound, self.current.labels_len)) c.index-label.ensures)
-    ∙ ap (list_at (map (λ v. v.items) self.current.labels.items)) group.value in
-    let label = c.deref-5.ensures.value ∙ told in
-    let is = column_step self column within in
-    let step = step_made (stand_now self) unit is in
-    let looks = λ (n : NFA) (xs : List ℕ). list_any (λ q. is_look_row (row_at (meaning n).rows q)) xs in
-    let same_list = c.deref-4.ensures.value ∙ sym c.deref-6.ensures.value in
-    let asks = c.has_look-asks.ensures ∙ ap₂ looks c.list.ensures.nfa same_list in
-    let bits = c.kept.ensures ∙ ap (λ b. if b then c.of-group.result else 0) asks in
-    let number = self.fits.groups.each column within in
-    let wrote = c.in_ok-write.ensures in
-    let reached = c.deref-6.result.now in
-    let key =
-    made_key nfa (targets_at self column) (asked_of nfa unit)
-    (label_at self column) c.kept.result c.of-group.result rows bits
-    (group.value ∙ number.bits) (ap facts_with group.value ∙ number.facts)
-    (subst (All (λ k. k ≤ max_id)) label wrote.label) is.few wrote.rows
-    (wrote.items ∙ ap (λ (l : List ℕ). c.kept.result ∷ (length l ∷ (l ++ reached))) label) in
-    let alive = ap is_dead_state step
-    ∙ ap₂ (λ (r l : List ℕ). (length r == 0) && (length l == 0)) (sym (c.deref-2.ensures.value ∙ listed))
-    (sym (c.deref-3.ensures.value ∙ told))
-    ∙ sym c.is_dead.ensures ∙ c.if-is_dead.false in
-    record { is_key = key.is_key; stands_for = key.stands_for ∙ sym step; alive = alive }
+    let group = c.of-group.result in
+    let lead = c.lead_steps-lead.result in
+    let Is = λ (l : List LeadSteps). IsLeadOf self.current l self.kind group (option_copied lead) in
+    let is = subst Is c.deref.ensures.value c.lead_steps-lead.ensures in
+    let table = table_of (meaning self.closures.nfa.now) self.kind self.classes self.columns in
+    let gathered : IsGathered table self.leads.items self.current lead column group c.deref-2.result.now
+    c.deref-3.result.now = record {
+      within = within;
+      group_is = c.of-group.ensures.value;
+      lead_is = is;
+      from_is = c.deref-2.ensures.value ∙ c.in_ok-gather.ensures.targets;
+      label_is = c.deref-3.ensures.value ∙ c.in_ok-gather.ensures.label;
+    } in
+    let same = gathered_made gathered self.fits.groups self.fits_lead self.fits_current in
+    let key = MatchBool-at_true _ _ c.if-goes_on.true c.in_ok-goes_on.ensures.key in
+    record {
+      is_key = key.is_key;
+      stands_for = key.stands_for ∙ same;
+      alive = ap is_dead_state (sym same) ∙ key.alive;
+    }
+
+pub returns-else-goes_on-clause-next : goal.returns-else-goes_on-clause-next
+unfolding stepping_of
+returns-else-goes_on-clause-next c =
+    let self = c.args.self.now in
+    let column = c.args.column in
+    let within : column < length (units_of self.classes) = omega (arith, c.requires.column, self.fits.counted) in
+    let group = c.of-group.result in
+    let lead = c.lead_steps-lead.result in
+    let Is = λ (l : List LeadSteps). IsLeadOf self.current l self.kind group (option_copied lead) in
+    let is = subst Is c.deref.ensures.value c.lead_steps-lead.ensures in
+    let table = table_of (meaning self.closures.nfa.now) self.kind self.classes self.columns in
+    let gathered : IsGathered table self.leads.items self.current lead column group c.deref-2.result.now
+    c.deref-3.result.now = record {
+      within = within;
+      group_is = c.of-group.ensures.value;
+      lead_is = is;
+      from_is = c.deref-2.ensures.value ∙ c.in_ok-gather.ensures.targets;
+      label_is = c.deref-3.ensures.value ∙ c.in_ok-gather.ensures.label;
+    } in
+    let same = gathered_made gathered self.fits.groups self.fits_lead self.fits_current in
+    ap is_dead_state (sym same) ∙ MatchBool-at_false _ _ c.if-goes_on.false c.in_ok-goes_on.ensures.key

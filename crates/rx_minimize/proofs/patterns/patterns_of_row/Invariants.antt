@@ -1,9 +1,0 @@
-use Rattle.std.proofs.Common.{◌≡◌, take}
-use Rattle.rx_spec.specs.Ids.{row_of}
-use Rattle.rx_search.specs.Labels.{patterns_of}
-use Rattle.rx_dense.specs.Layouts.{ids_of, table_of}
-use Rattle.rx_minimize.proofs.patterns.patterns_of_row.Given as goal
-
-abbrev pub invariant-loop-index : goal.invariant-loop-index
-invariant-loop-index l =
-    l.list.items ≡ take l.index (patterns_of (table_of l.dfa) (row_of (ids_of l.dfa) l.id))

@@ -1,0 +1,2 @@
+-- matches one after another
+pub mod Iterated

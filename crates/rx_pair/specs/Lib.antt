@@ -1,0 +1,2 @@
+-- what searches tell of a match, and an iterator of those that are left
+pub mod Matches

@@ -1,0 +1,113 @@
+//! Matches one after another.
+
+ghost use Rattle.std.specs.Prelude.{◌≡◌, All, IfOk, IfSome, Some};
+ghost use Rattle.rx_spec.specs.Iterating.{iterate, unless_repeat};
+ghost use Rattle.rx_spec.specs.Joining.{join};
+ghost use Rattle.rx_spec.specs.Queries.{IsFit, LiesIn};
+ghost use Rattle.rx_base.specs.Input.{query_of};
+ghost use Rattle.rx_pair.specs.Matches.{items};
+
+use crate::Regex;
+use rx_base::{Input, Match, MatchError, Searcher};
+use rx_search::Automaton;
+use std::marker::Model;
+
+/// The matches of an input one after another, and then the error that ended them, where one did.
+///
+/// Each begins where the last one ended or later, and an empty match isn't told where the last one ended. Contracts
+/// see it as the list of what is left.
+#[derive(Drop)]
+pub struct FindMatches<'r, 'h, A: Automaton> {
+    regex: &'r Regex<A>,
+    searcher: Searcher<'h>,
+    ended: bool,
+}
+
+impl<'r, 'h, A: Automaton> Model for FindMatches<'r, 'h, A> {
+    ghost use Rattle.std.specs.Prelude.{List, Result, [], if◌then◌else◌};
+    ghost use Rattle.rx_spec.specs.Joining.{join};
+    ghost use Rattle.rx_spec.specs.Queries.{Match as FoundMatch, MatchError as SearchError};
+    ghost use Rattle.rx_pair.specs.Matches.{items, matches_left};
+
+    ghost Value = { List (Result FoundMatch SearchError) };
+
+    ghost view = { λ s. if s.ended
+        then []
+        else items (matches_left (join (A.table s.regex.now.forward) (A.table s.regex.now.reverse)) s.searcher) };
+}
+
+impl<'r, 'h, A: Automaton> FindMatches<'r, 'h, A> {
+    /// All matches of an input.
+    pub(crate) fn new(regex: &'r Regex<A>, input: &Input<'h>) -> FindMatches<'r, 'h, A>
+        requires { IsFit (query_of input.now) }
+        ensures value { result
+            ≡ items (iterate (join (A.table regex.now.forward) (A.table regex.now.reverse)) (query_of input.now)) }
+        ensures within { All (λ item. IfOk item (LiesIn (query_of input.now))) result }
+    {
+        let all = Input::new(input.haystack())
+            .span(input.get_span())
+            .anchored(input.get_anchored())
+            .earliest(input.get_earliest());
+        FindMatches {
+            regex,
+            searcher: Searcher::new(all),
+            ended: false,
+        }
+    }
+}
+
+impl<'r, 'h, A: Automaton> Iterator for FindMatches<'r, 'h, A> {
+    ghost use Rattle.std.specs.Iterator.{YieldsFirst, item_count};
+
+    type Item = Result<Match, MatchError>;
+
+    ghost next_gives = { YieldsFirst (λ left. left) };
+
+    ghost remaining = { item_count (λ left. left) };
+
+    fn next(&mut self) -> Option<Result<Match, MatchError>> {
+        if self.ended {
+            return None;
+        }
+        match next_match(self.regex, &mut self.searcher) {
+            Ok(Some(found)) => Some(Ok(found)),
+            Ok(None) => {
+                self.ended = true;
+                None
+            }
+            Err(error) => {
+                self.ended = true;
+                Some(Err(error))
+            }
+        }
+    }
+}
+
+/// The next match: past an empty one where the last match ended, the search is made again, one later. What is left to
+/// search begins where it ends.
+fn next_match<A: Automaton>(
+    regex: &Regex<A>,
+    searcher: &mut Searcher<'_>,
+) -> Result<Option<Match>, MatchError>
+    ensures told { result ≡ unless_repeat (join (A.table regex.now.forward) (A.table regex.now.reverse))
+        searcher.old.query searcher.old.last_end
+        (join (A.table regex.now.forward) (A.table regex.now.reverse) searcher.old.query) }
+    ensures left { IfOk result (λ found. IfSome found (λ m. searcher.new
+        ≡ record { query = record searcher.old.query { start = m.end }; last_end = Some m.end })) }
+{
+    let mut found = match regex.try_search(searcher.input()) {
+        Ok(Some(found)) => found,
+        Ok(None) => return Ok(None),
+        Err(error) => return Err(error),
+    };
+    if searcher.repeats(&found) {
+        searcher.bump();
+        found = match regex.try_search(searcher.input()) {
+            Ok(Some(found)) => found,
+            Ok(None) => return Ok(None),
+            Err(error) => return Err(error),
+        };
+    }
+    searcher.accept(&found);
+    Ok(Some(found))
+}

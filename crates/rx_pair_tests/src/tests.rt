@@ -1,0 +1,132 @@
+//! What no clause shows: that pairs are built, matches that were found by hand, and how errors read.
+
+use crate::matched;
+use rx_base::{Anchored, Input, Match, MatchKind, PatternID, StartKind};
+use rx_build::dense::{Builder, Config, DFA, DenseBuild};
+use rx_dense::OwnedDFA;
+use rx_expr::thompson;
+use rx_notation::read;
+use rx_pair::Regex;
+use std::alloc::Global;
+use std::process::Abort;
+use std::test::Fail;
+
+/// What a pair is built of: patterns, whether matches that split a character are passed over, and a quit byte.
+struct Asked(&'static str, bool, Option<u8>);
+
+fn build(alloc: Global, asked: &Asked) -> Result<Regex<OwnedDFA>, Fail> {
+    let exprs = read(alloc, asked.0)?;
+    let mut config = Config::new().starts_for_each_pattern(true);
+    if let Some(byte) = asked.2 {
+        config = config.quit(byte, true)?;
+    }
+    let mut builder = Builder::new();
+    builder.configure(config);
+    builder.thompson(thompson::Config::new().utf8(asked.1));
+    let forward = builder.build_many(alloc, &exprs)?;
+    let all = Config::new().match_kind(MatchKind::All);
+    builder.configure(all.start_kind(StartKind::Anchored));
+    builder.thompson(thompson::Config::new().reverse(true));
+    Ok(Regex::new(forward, builder.build_many(alloc, &exprs)?))
+}
+
+/// A match as text: its pattern, start and end.
+fn show(alloc: Global, found: &Match) -> Result<String, Fail> {
+    let pattern = found.pattern().as_usize();
+    Ok(format!(in alloc; "{pattern} {} {};", found.start(), found.end())?)
+}
+
+/// All matches of an input as text, and the error that ended them.
+fn shown(alloc: Global, regex: &Regex<OwnedDFA>, input: &Input<'_>) -> Result<String, Fail> {
+    let mut text = String::new(alloc);
+    for item in regex.find_iter(input) {
+        match item {
+            Ok(found) => text.push_str(&show(alloc, &found)?)?,
+            Err(error) => text.push_str(&format!(in alloc; "{error}")?)?,
+        }
+    }
+    Ok(text)
+}
+
+#[test]
+fn matches_one_after_another(rt: HostRuntime) -> Result<(), Fail> {
+    let alloc = rt.alloc();
+    let cases: &[(Asked, &str, &str)] = &[
+        (
+            Asked(r"\d {4,4} - . \d {2,2} . - . \d {2,2} .", true, None),
+            "2018-12-24 2016-10-08",
+            "0 0 10;0 11 21;",
+        ),
+        (
+            Asked(r"\w {1,} \S {1,}", true, None),
+            "@foo bar",
+            "1 0 4;0 5 8;",
+        ),
+        (Asked("_", true, None), "\u{2603}", "0 0 0;0 3 3;"),
+        (
+            Asked("_", false, None),
+            "\u{2603}",
+            "0 0 0;0 1 1;0 2 2;0 3 3;",
+        ),
+        (Asked("<startcrlf>", true, None), "\r\n", "0 0 0;0 2 2;"),
+        (Asked("a {0,}", true, None), "baac", "0 0 0;0 1 3;0 4 4;"),
+        (Asked("a", true, None), "", ""),
+        (Asked("^ a .", true, None), "aa", "0 0 1;"),
+        (
+            Asked("a", true, Some(b'z')),
+            "abxza",
+            "0 0 1;quit search after observing byte 122 at offset 3",
+        ),
+    ];
+    for (asked, text, wanted) in cases {
+        let regex = build(alloc, asked)?;
+        let told = shown(alloc, &regex, &Input::new(text.as_bytes()))?;
+        assert!(&rt; told.as_str() == *wanted, "{}: {told}", asked.0);
+    }
+    Ok(())
+}
+
+#[test]
+fn one_match(rt: HostRuntime) -> Result<(), Fail> {
+    let alloc = rt.alloc();
+    let regex = build(alloc, &Asked("a b", true, None))?;
+    let input = Input::new(b"xbax").anchored(Anchored::Pattern(PatternID::must(0)));
+    assert!(&rt; regex.find(&input)?.is_none());
+    assert!(&rt; regex.is_match(&Input::new(b"xbax"))?);
+    assert!(&rt; !regex.is_match(&Input::new(b"xyz"))?);
+    assert!(&rt; regex.pattern_len() == 2);
+    assert!(&rt; regex.reverse().state_len() <= regex.forward().state_len());
+    match regex.try_search(&Input::new(b"xbax").range(2, 4))? {
+        Some(found) => assert!(&rt; show(alloc, &found)?.as_str() == "0 2 3;"),
+        None => assert!(&rt; false),
+    }
+    Ok(())
+}
+
+#[test]
+fn tables_of_other_patterns(rt: HostRuntime) -> Result<(), Fail> {
+    let alloc = rt.alloc();
+    let forward = DFA::<Vec<u32>>::new_many(alloc, &read(alloc, "a")?)?;
+    let mut backward = Builder::new();
+    backward.configure(Config::new().start_kind(StartKind::Anchored));
+    backward.thompson(thompson::Config::new().reverse(true));
+    let reverse = backward.build_many(alloc, &read(alloc, "b")?)?;
+    let regex = Regex::new(&forward, &reverse);
+    let told = match regex.try_search(&Input::new(b"xa")) {
+        Ok(_) => String::new(alloc),
+        Err(error) => format!(in alloc; "{error}")?,
+    };
+    let wanted =
+        "no start for the end HalfMatch { pattern: PatternID { index: 0 }, offset: 2 }, but None";
+    assert!(&rt; told.as_str() == wanted, "{told}");
+    Ok(())
+}
+
+#[test]
+fn a_text_cut_by_its_matches(rt: HostRuntime) -> Result<(), Fail> {
+    let alloc = rt.alloc();
+    let regex = build(alloc, &Asked(r"\d {1,}", true, None))?;
+    let (bytes, longest) = matched(&regex, b"a1b234c5")?;
+    assert!(&rt; bytes == 5 && longest == b"234".as_slice());
+    Ok(())
+}

@@ -1,0 +1,318 @@
+-- The front of rows that has to be written, found by the places of the lead-in's rows.
+use Rattle.std.proofs.Common.{◌≡◌, ℕ, zero, suc, ◌+◌, ◌-◌, ◌<◌, ◌≤◌, ◌==◌, Bool, true, false, List, [], ◌∷◌, ◌++◌}
+use Rattle.std.proofs.Common.{length, take, drop, get_or, refl, ap, sym, ◌∙◌, subst, arith, append_assoc, length-append}
+use Rattle.std.proofs.Common.{length-take, take-append-drop, ⊎_elim}
+use Rattle.std.proofs.Math.Seq.{take-length}
+use Rattle.std.proofs.lemmas.List.{take_more}
+use Rattle.std.proofs.Common.{ltb, set}
+use Rattle.std.proofs.lemmas.Bool.{cases_lt, eqb-false, eqb-true, lt-ltb, ltb-true}
+use Rattle.std.proofs.lemmas.List.{get_or-set_same, get_or-set_other}
+use Rattle.std.specs.List.{AllByRecursion as Every}
+use Rattle.std.specs.Prelude.{Some, replicate, slice_get, slice_index_or}
+use Rattle.rx_lemmas.proofs.Firsts.{Apart, by_test, seen_true}
+use Rattle.rx_stepper.specs.Leads.{without, led, IsLeast}
+use Rattle.rx_stepper.specs.Places.{no_place, ArePlaces, AreMetTo}
+use Rattle.rx_stepper.proofs.Members.{In, was, in_cases, in_nil, in_here, in_there, in_left, in_right, in_split, not_in}
+use Rattle.rx_stepper.proofs.Members.{apart_front, apart_last, same_test}
+use Rattle.rx_stepper.proofs.WrittenRows.{comes_again, comes_from, dropped}
+
+-- ---- a list about a place
+
+there : (xs : List ℕ) (place : ℕ) {q : ℕ} → slice_get xs place ≡ Some q → xs ≡ take place xs ++ q ∷ drop (suc place) xs
+there [] place e = absurd (cc)
+there (x ∷ xs) zero e = ap (λ v. v ∷ xs) (cc)
+there (x ∷ xs) (suc place) e = ap (λ l. x ∷ l) (there xs place e)
+
+-- a list of two parts and one between them has that one at the length of the first
+seam : (before behind : List ℕ) (x : ℕ) → slice_get (before ++ x ∷ behind) (length before) ≡ Some x
+seam [] behind x = refl
+seam (y ∷ ys) behind x = seam ys behind x
+
+-- what stands below a place is in the front
+below : (before rest : List ℕ) (place : ℕ) {q : ℕ} → place < length before → slice_get (before ++ rest) place ≡ Some q
+    → In before q
+below [] rest place h e = absurd (omega arith)
+below (x ∷ xs) rest zero {q} h e =
+    let same : x ≡ q = cc in
+    subst (In (x ∷ xs)) same (in_here x xs)
+below (x ∷ xs) rest (suc place) {q} h e = in_there x q xs (below xs rest place (omega arith) e)
+
+-- and what is in the front stands below its end
+in_front : (xs : List ℕ) (n q : ℕ) → In (take n xs) q → (place : ℕ) × (place < n) × (slice_get xs place ≡ Some q)
+in_front xs zero q i = absurd (cc)
+in_front [] (suc n) q i = absurd (cc)
+in_front (x ∷ xs) (suc n) q i =
+    ⊎_elim
+    (λ (s : q ≡ x). (zero, omega arith, ap Some (sym s)))
+    (λ (o : In (take n xs) q). let t = in_front xs n q o in (suc t.0, omega arith, t.2))
+    (in_cases x q (take n xs) i)
+
+some_same : {x y : ℕ} → Some x ≡ Some y → x ≡ y
+some_same e = cc
+
+both_ways : {b : Bool} → b ≡ false → b ≡ true → ⊥
+both_ways e f = cc
+
+left_at : (xs ys : List ℕ) (i : ℕ) → i < length xs → slice_get (xs ++ ys) i ≡ Some (get_or xs i 0)
+left_at [] ys i h = absurd (omega arith)
+left_at (x ∷ xs) ys zero h = refl
+left_at (x ∷ xs) ys (suc i) h = left_at xs ys i (omega arith)
+
+some_within : (xs : List ℕ) (i : ℕ) {q : ℕ} → slice_get xs i ≡ Some q → i < length xs
+some_within [] i e = absurd (cc)
+some_within (x ∷ xs) zero e = omega arith
+some_within (x ∷ xs) (suc i) e = omega (arith, some_within xs i e)
+
+pub at_or : {X : Type 0} (xs : List X) (i : ℕ) {q : X} → i < length xs → q ≡ get_or xs i q → slice_get xs i ≡ Some q
+at_or [] i h e = absurd (omega arith)
+at_or (x ∷ xs) zero h e = ap Some (sym e)
+at_or (x ∷ xs) (suc i) h e = at_or xs i (omega arith) e
+
+pub every_get : (P : ℕ → Type 0) (xs : List ℕ) (i d : ℕ) → Every P xs → i < length xs → P (get_or xs i d)
+every_get P [] i d h lt = absurd (omega arith)
+every_get P (x ∷ xs) zero d h lt = h.0
+every_get P (x ∷ xs) (suc i) d h lt = every_get P xs i d h.1 (omega arith)
+
+-- ---- how many rows at the front pass a test
+
+module _ (met : ℕ → Bool) (rows : List ℕ) {i : ℕ}
+    (below_i : (place q : ℕ) → place < i → slice_get rows place ≡ Some q → met q ≡ true) where
+  pub met_more : {q : ℕ} → i < length rows → q ≡ get_or rows i q → met q ≡ true → (place p : ℕ) → place < i + 1
+      → slice_get rows place ≡ Some p → met p ≡ true
+  met_more {q} h e m place p lt k =
+      ⊎_elim
+      (λ (old : place < i). below_i place p old k)
+      (λ (new : i ≤ place).
+      let same : i ≡ place = omega arith in
+      ap met (sym (some_same (sym (at_or rows i h e) ∙ ap (slice_get rows) same ∙ k))) ∙ m)
+      (cases_lt place i)
+
+  pub met_to : {q : ℕ} → i < length rows → q ≡ get_or rows i q → met q ≡ false → AreMetTo met rows i
+  met_to {q} h e m = record {
+    within = omega arith;
+    before = below_i;
+    next = λ p k. ap met (sym (some_same (sym (at_or rows i h e) ∙ k))) ∙ m;
+  }
+
+  pub met_all : length rows ≤ i → AreMetTo met rows (length rows)
+  met_all h = record {
+    within = omega arith;
+    before = λ place q lt k. below_i place q (omega arith) k;
+    next = λ q k. absurd (omega (arith, some_within rows (length rows) k));
+  }
+
+-- ---- the front that is looked at
+
+-- Between two turns: the rows up to a length give the same, the lead-in's first ones are among them, and the next one
+-- isn't.
+pub record Trimmed (lead own : List ℕ) (len met : ℕ) : Type 0 where
+  pub within : len ≤ length own
+  pub same : led (take len own) lead ≡ led own lead
+  pub front_met : AreMetTo (was (take len own)) lead met
+
+pub trimmed_none : {lead own : List ℕ} {met : ℕ} → AreMetTo (was own) lead met → Trimmed lead own (length own) met
+trimmed_none {lead} {own} {met} m = record {
+  within = omega arith;
+  same = ap (λ l. led l lead) (take-length own);
+  front_met = subst (λ l. AreMetTo (was l) lead met) (sym (take-length own)) m;
+}
+
+last_same : (a b : List ℕ) {x y : ℕ} → a ++ x ∷ [] ≡ b ++ y ∷ [] → x ≡ y
+last_same [] [] e = cc
+last_same [] (z ∷ b) {x} {y} e = absurd (omega (arith, ap length e, length-append b (y ∷ [])))
+last_same (z ∷ a) [] {x} {y} e = absurd (omega (arith, ap length e, length-append a (x ∷ [])))
+last_same (z ∷ a) (v ∷ b) {x} {y} e = let rest : a ++ x ∷ [] ≡ b ++ y ∷ [] = cc in last_same a b rest
+
+-- the last of the rows that are looked at, and those before it
+pub record LastRow (own : List ℕ) (len : ℕ) (front : List ℕ) (x : ℕ) : Type 0 where
+  pub whole : take len own ≡ front ++ x ∷ []
+  pub front_is : front ≡ take (len - 1) own
+
+pub last_row : (own : List ℕ) (len : ℕ) {x : ℕ} → 0 < len → len ≤ length own → x ≡ get_or own (len - 1) x
+    → LastRow own len (take (len - 1) own) x
+last_row own len {x} h k e =
+    let one : len ≡ len - 1 + 1 = omega arith in
+    record {
+      whole =
+          ap (λ n. take n own) one ∙ take_more own (len - 1) x (omega arith)
+          ∙ ap (λ v. take (len - 1) own ++ v ∷ []) (sym e);
+      front_is = refl;
+    }
+
+module _ {lead own places : List ℕ} (places_are : ArePlaces lead places) (lead_apart : Apart lead)
+    (own_apart : Apart own)
+    {len met x : ℕ} {front : List ℕ} (t : Trimmed lead own len met) (l : LastRow own len front x) where
+  abbrev place : ℕ
+  place = slice_index_or places x no_place
+
+  front_apart : Apart (front ++ x ∷ [])
+  front_apart =
+      subst Apart l.whole (apart_front (take len own) (drop len own)
+      (subst Apart (sym (take-append-drop len own)) own_apart))
+
+  -- it would come again at once
+  module _ (again : place < met) where
+    here : slice_get lead place ≡ Some x
+    here = places_are.is_there x (omega (arith, t.front_met.within, again))
+
+    abbrev before : List ℕ
+    before = take place lead
+
+    lead_is : lead ≡ before ++ x ∷ drop (suc place) lead
+    lead_is = there lead place here
+
+    before_apart : In before x → ⊥
+    before_apart =
+        apart_last before x
+        (apart_front (before ++ x ∷ []) (drop (suc place) lead)
+        (subst Apart (lead_is ∙ sym (append_assoc before (x ∷ []) (drop (suc place) lead))) lead_apart))
+
+    all_before : (q : ℕ) → In before q → In front q
+    all_before q i =
+        let at = in_front lead place q i in
+        let listed : In (front ++ x ∷ []) q =
+        subst (λ l. In l q) l.whole (t.front_met.before at.0 q (omega (arith, at.1, again)) at.2) in
+        ⊎_elim
+        (λ (f : In front q). f)
+        (λ (o : In (x ∷ []) q).
+        absurd (⊎_elim (λ (s : q ≡ x). before_apart (subst (In before) s i)) (λ (n : In [] q). in_nil q n)
+        (in_cases x q [] o)))
+        (in_split front (x ∷ []) q listed)
+
+    pub trimmed_more : Trimmed lead own (len - 1) place
+    trimmed_more =
+        let again_is = comes_again front before (drop (suc place) lead) x front_apart (subst Apart lead_is lead_apart)
+        all_before in
+        let whole_again = subst (λ m. without front m ≡ x ∷ without (front ++ x ∷ []) m) (sym lead_is) again_is in
+        record {
+          within = omega (arith, t.within);
+          same =
+              ap (λ l. led l lead) (sym l.front_is) ∙ dropped lead front x whole_again
+              ∙ ap (λ l. led l lead) (sym l.whole) ∙ t.same;
+          front_met = record {
+            within = omega (arith, t.front_met.within, again);
+            before = λ i q lt e.
+                subst (λ l. In l q) l.front_is
+                (all_before q (below before (x ∷ drop (suc place) lead) i
+                (omega (arith, length-take place lead, lt, t.front_met.within, again))
+                (subst (λ m. slice_get m i ≡ Some q) lead_is e)));
+            next = λ q e.
+                let same : x ≡ q = some_same (sym here ∙ e) in
+                subst (λ v. was (take (len - 1) own) v ≡ false) same
+                (subst (λ m. was m x ≡ false) l.front_is (not_in front x (apart_last front x front_apart)));
+          };
+        }
+
+  -- it would not
+  pub trimmed_least : met ≤ place → IsLeast lead (take len own)
+  trimmed_least stops = record {
+    least = λ other y e w.
+        let from = comes_from other lead (without (take len own) lead) y w in
+        let same : y ≡ x = last_same other front (sym e ∙ l.whole) in
+        let y_at : slice_get lead (length from.0) ≡ Some y =
+        subst (λ m. slice_get m (length from.0) ≡ Some y) (sym from.2) (seam from.0 from.1 y) in
+        let x_place = places_are.is_place (length from.0) x (y_at ∙ ap Some same) in
+        ⊎_elim
+        (λ (lt : met < length from.0).
+        let q = get_or from.0 met 0 in
+        let at : slice_get lead met ≡ Some q =
+        subst (λ m. slice_get m met ≡ Some q) (sym from.2) (left_at from.0 (y ∷ from.1) met lt) in
+        let there_is : was (take len own) q ≡ true =
+        subst (λ m. In m q) (sym e) (in_left other (y ∷ []) q (from.3 q (below from.0 (y ∷ from.1) met lt
+        (left_at from.0 (y ∷ from.1) met lt)))) in
+        absurd (both_ways (t.front_met.next q at) there_is))
+        (λ (ge : length from.0 ≤ met).
+        let met_is : met ≡ length from.0 = omega (arith, x_place, stops, ge) in
+        let there_is : was (take len own) y ≡ true =
+        subst (λ m. In m y) (sym e) (in_right other (y ∷ []) y (in_here y [])) in
+        absurd (both_ways (t.front_met.next y (ap (slice_get lead) met_is ∙ y_at)) there_is))
+        (cases_lt met (length from.0));
+  }
+
+pub least_none : (lead : List ℕ) → IsLeast lead []
+least_none lead = record {
+  least = λ front x e w. absurd (omega (arith, ap length e, length-append front (x ∷ [])));
+}
+
+-- ---- the places of rows
+
+pub in_at : (xs : List ℕ) (q : ℕ) → In xs q → (place : ℕ) × (place < length xs) × (slice_get xs place ≡ Some q)
+in_at [] q i = absurd (in_nil q i)
+in_at (x ∷ xs) q i =
+    ⊎_elim
+    (λ (s : q ≡ x). (zero, omega arith, ap Some (sym s)))
+    (λ (o : In xs q). let t = in_at xs q o in (suc t.0, omega arith, t.2))
+    (in_cases x q xs i)
+
+pub at_in : (xs : List ℕ) (place : ℕ) {q : ℕ} → slice_get xs place ≡ Some q → In xs q
+at_in [] place e = absurd (cc)
+at_in (x ∷ xs) zero {q} e = subst (λ v. In (x ∷ xs) v) (some_same e) (in_here x xs)
+at_in (x ∷ xs) (suc place) {q} e = in_there x q xs (at_in xs place e)
+
+-- a row has a place where it is one of the list
+pub has_place : {rows places : List ℕ} → ArePlaces rows places → (q : ℕ)
+    → ltb (slice_index_or places q no_place) (length rows) ≡ was rows q
+has_place {rows} {places} p q =
+    same_test (ltb (slice_index_or places q no_place) (length rows)) (was rows q)
+    (λ t. at_in rows (slice_index_or places q no_place)
+    (p.is_there q (ltb-true (slice_index_or places q no_place) (length rows) t)))
+    (λ i. let t = in_at rows q i in
+    lt-ltb (slice_index_or places q no_place) (length rows) (omega (arith, p.is_place t.0 q t.2, t.1)))
+
+apart_at : (xs : List ℕ) → Apart xs → (a b : ℕ) {q : ℕ} → slice_get xs a ≡ Some q → slice_get xs b ≡ Some q → a ≡ b
+apart_at [] apart a b e f = absurd (cc)
+apart_at (x ∷ xs) apart zero zero e f = refl
+apart_at (x ∷ xs) apart zero (suc b) e f =
+    absurd (apart.0 (seen_true x xs (subst (In xs) (sym (some_same e)) (at_in xs b f))))
+apart_at (x ∷ xs) apart (suc a) zero e f =
+    absurd (apart.0 (seen_true x xs (subst (In xs) (sym (some_same f)) (at_in xs a e))))
+apart_at (x ∷ xs) apart (suc a) (suc b) e f = ap suc (apart_at xs apart.1 a b e f)
+
+-- the rows up to a place have theirs
+pub record Placed (rows places : List ℕ) (place : ℕ) : Type 0 where
+  pub is_there : (q : ℕ) → slice_index_or places q no_place < length rows
+      → slice_get rows (slice_index_or places q no_place) ≡ Some q
+  pub is_place : (i q : ℕ) → i < place → slice_get rows i ≡ Some q → slice_index_or places q no_place ≡ i
+
+pub placed_none : {rows places : List ℕ} (count : ℕ) → places ≡ replicate count no_place → length rows < no_place
+    → Placed rows places 0
+placed_none {rows} {places} count e few = record {
+  is_there = λ q h. absurd (omega (arith, ap (λ l. slice_index_or l q no_place) e, none count q, h, few));
+  is_place = λ i q h k. absurd (omega arith);
+}
+  where
+    none : (n q : ℕ) → get_or (replicate n no_place) q no_place ≡ no_place
+    none zero q = refl
+    none (suc n) zero = refl
+    none (suc n) (suc q) = none n q
+
+pub placed_more : {rows places : List ℕ} {place row : ℕ} → Apart rows → Placed rows places place
+    → slice_get rows place ≡ Some row → row < length places → Placed rows (set places row place) (place + 1)
+placed_more {rows} {places} {place} {row} apart p here within = record {
+  is_there = λ q h.
+      by_test (q == row)
+      (λ t. let same = eqb-true q row t in
+      let there_is = ap (λ v. slice_index_or (set places row place) v no_place) same
+      ∙ get_or-set_same places row place no_place within in
+      ap (slice_get rows) there_is ∙ here ∙ ap Some (sym same))
+      (λ t. let old = get_or-set_other places row q place no_place (eqb-false q row t) in
+      ap (slice_get rows) old ∙ p.is_there q (subst (λ n. n < length rows) old h));
+  is_place = λ i q h k.
+      ⊎_elim
+      (λ (lt : i < place).
+      let other : q ≡ row → ⊥ = λ s. omega (arith, apart_at rows apart i place k (here ∙ ap Some (sym s)), lt) in
+      get_or-set_other places row q place no_place other ∙ p.is_place i q lt k)
+      (λ (ge : place ≤ i).
+      let same : place ≡ i = omega arith in
+      let row_is : row ≡ q = some_same (sym here ∙ ap (slice_get rows) same ∙ k) in
+      ap (λ v. slice_index_or (set places row place) v no_place) (sym row_is)
+      ∙ get_or-set_same places row place no_place within ∙ same)
+      (cases_lt i place);
+}
+
+pub all_placed : {rows places : List ℕ} {place : ℕ} → length rows ≤ place → Placed rows places place
+    → ArePlaces rows places
+all_placed {rows} {places} {place} h p = record {
+  is_there = p.is_there;
+  is_place = λ i q k. p.is_place i q (omega (arith, some_within rows i k, h)) k;
+}

@@ -1,0 +1,201 @@
+-- How the code splits rows into own ones and the lead-in's others, and how many these are.
+use Rattle.rx_lemmas.proofs.Firsts.{Apart, by_test}
+use Rattle.std.proofs.Common.{◌≡◌, ℕ, not, ◌+◌, ◌-◌, ◌<◌, ◌≤◌, ◌==◌, Bool, true, false, List, [], ◌∷◌, ◌++◌, length}
+use Rattle.std.proofs.Common.{take, drop, get_or, sum_by, refl, ap, ap₂, sym, ◌∙◌, arith, length-append, length-drop}
+use Rattle.std.proofs.Common.{take-append-drop}
+use Rattle.std.proofs.Math.ListN.{drop_of_length-le}
+use Rattle.std.proofs.lemmas.Bool.{eq-eqb, eqb-true, false_from_ne_true}
+use Rattle.std.proofs.lemmas.List.{drop_more, take_all, take_more}
+use Rattle.std.proofs.lemmas.Slice.Eq.{bytes_eq-Decides}
+use Rattle.std.proofs.lemmas.List.Sums.{sum_by-append, sum_by-cons}
+use Rattle.std.proofs.Common.{subst, ⊎_elim}
+use Rattle.std.proofs.lemmas.List.{get_or_default}
+use Rattle.std.specs.Prelude.{None, Some, slice_get}
+use Rattle.std.specs.List.{AllByRecursion as Every}
+use Rattle.std.specs.Str.{bytes_eq}
+use Rattle.rx_base.specs.FactBits.{bit}
+use Rattle.rx_stepper.specs.Leads.{Written, led, split_by, without, written, written_as}
+use Rattle.rx_stepper.proofs.Members.{In, in_cases, in_nil, was, same_test}
+use Rattle.rx_stepper.proofs.LeadPlaces.{at_or}
+use Rattle.rx_stepper.proofs.Without.{length_without, without_nil, without_old, without_new}
+use Rattle.rx_stepper.proofs.WrittenRows.{split_here, split_later, split_nowhere}
+
+-- ---- fronts, one after another
+
+-- nothing follows the fronts that are shorter
+pub record IsSplitFrom (lead rows : List ℕ) (len : ℕ) : Type 0 where
+  pub open_still : len ≤ length rows → split_by lead [] rows ≡ split_by lead (take len rows) (drop len rows)
+  pub over : length rows < len → split_by lead [] rows ≡ written_as false rows
+
+pub split_begins : (lead rows : List ℕ) → IsSplitFrom lead rows 0
+split_begins lead rows = record {
+  open_still = λ h. refl;
+  over = λ h. absurd (omega arith);
+}
+
+module _ {lead rows : List ℕ} {len : ℕ} (s : IsSplitFrom lead rows len) (h : len ≤ length rows) where
+  pub split_found : {b : Bool} → b ≡ bytes_eq (without (take len rows) lead) (drop len rows) → b ≡ true
+      → split_by lead [] rows ≡ written_as true (take len rows)
+  split_found e t =
+      s.open_still h
+      ∙ split_here lead (take len rows) (drop len rows)
+      ((bytes_eq-Decides (without (take len rows) lead) (drop len rows)).0 (sym e ∙ t))
+
+  pub split_passed : {b : Bool} → b ≡ bytes_eq (without (take len rows) lead) (drop len rows) → b ≡ false
+      → IsSplitFrom lead rows (len + 1)
+  split_passed e t = record {
+    open_still = λ k.
+        let more = drop_more rows len 0 (omega arith) in
+        let longer = take_more rows len 0 (omega arith) in
+        s.open_still h
+        ∙ ap (split_by lead (take len rows)) more
+        ∙ split_later lead (take len rows) (drop (len + 1) rows) (get_or rows len 0)
+        (ap (bytes_eq (without (take len rows) lead)) (sym more) ∙ sym e ∙ t)
+        ∙ ap (λ f. split_by lead f (drop (len + 1) rows)) (sym longer);
+    over = λ k.
+        let all : take len rows ≡ rows = take_all len rows (omega arith) in
+        let none : drop len rows ≡ [] = drop_of_length-le rows (omega arith) in
+        s.open_still h
+        ∙ ap₂ (λ f r. split_by lead f r) all none
+        ∙ split_nowhere lead rows
+        (ap₂ (λ f r. bytes_eq (without f lead) r) (sym all) (sym none) ∙ sym e ∙ t);
+  }
+
+-- how rows are written where there is no lead-in, and where there is one
+pub written_none : (lead rows : List ℕ) → None ≡ slice_get lead (length lead - 1) → written lead rows
+    ≡ written_as false rows
+written_none [] rows e = refl
+written_none (x ∷ xs) rows e =
+    let there = at_or (x ∷ xs) (length (x ∷ xs) - 1) {q = get_or (x ∷ xs) (length (x ∷ xs) - 1) x} (omega arith)
+    (same_default (x ∷ xs) (length (x ∷ xs) - 1) x (omega arith)) in
+    absurd (cc)
+  where
+    same_default : (xs : List ℕ) (i d : ℕ) → i < length xs → get_or xs i d ≡ get_or xs i (get_or xs i d)
+    same_default xs i d h = get_or_default xs i d (get_or xs i d) h
+
+pub written_split : (lead rows : List ℕ) (place : ℕ) {q : ℕ} {w : Written} → slice_get lead place ≡ Some q
+    → split_by lead [] rows ≡ w → written lead rows ≡ w
+written_split [] rows place e s = absurd (cc)
+written_split (x ∷ xs) rows place e s = s
+
+pub every_in : (P : ℕ → Type 0) (xs : List ℕ) {q : ℕ} → Every P xs → In xs q → P q
+every_in P [] {q} h i = absurd (in_nil q i)
+every_in P (x ∷ xs) {q} h i =
+    ⊎_elim (λ (s : q ≡ x). subst P (sym s) h.0) (λ (o : In xs q). every_in P xs h.1 o) (in_cases x q xs i)
+
+-- ---- whether rows are what is left of the lead-in's
+
+-- a test whether numbers differ
+pub unequal : (a b : ℕ) {r : Bool} → r ≡ not (a == b) → r ≡ true → a ≡ b → ⊥
+unequal a b e t s = let h : (a == b) ≡ true = eq-eqb a b s in cc
+
+pub equal : (a b : ℕ) {r : Bool} → r ≡ not (a == b) → r ≡ false → a ≡ b
+equal a b e t = by_test (a == b) (λ h. eqb-true a b h) (λ h. absurd (cc))
+
+-- a row that is among the own ones is left out
+pub follows_passed : (own lead : List ℕ) (i : ℕ) {q : ℕ} (others : List ℕ) → i < length lead → q ≡ get_or lead i q
+    → was own q ≡ true
+    → bytes_eq (without own (drop i lead)) others ≡ bytes_eq (without own (drop (i + 1) lead)) others
+follows_passed own lead i {q} others h e t =
+    ap (λ l. bytes_eq l others)
+    (ap (without own) (drop_more lead i q h ∙ ap (λ v. v ∷ drop (i + 1) lead) (sym e))
+    ∙ without_old own (drop (i + 1) lead) q t)
+
+module _ (own lead : List ℕ) (i : ℕ) {q : ℕ} (rows : List ℕ) (place : ℕ) (h : i < length lead) (e : q ≡ get_or lead i q)
+    (new : was own q ≡ false) where
+  first_left : without own (drop i lead) ≡ q ∷ without own (drop (i + 1) lead)
+  first_left =
+      ap (without own) (drop_more lead i q h ∙ ap (λ v. v ∷ drop (i + 1) lead) (sym e))
+      ∙ without_new own (drop (i + 1) lead) q new
+
+  -- another is missing where no row is left
+  pub follows_short : length rows ≤ place → bytes_eq (without own (drop i lead)) (drop place rows) ≡ false
+  follows_short past =
+      false_from_ne_true _
+      (λ t. let same = (bytes_eq-Decides (without own (drop i lead)) (drop place rows)).0 t in
+      omega (arith, ap length (sym first_left ∙ same ∙ drop_of_length-le rows past)))
+
+  module _ {x : ℕ} (within : place < length rows) (is : x ≡ get_or rows place x) where
+    rest : drop place rows ≡ x ∷ drop (place + 1) rows
+    rest = drop_more rows place x within ∙ ap (λ v. v ∷ drop (place + 1) rows) (sym is)
+
+    -- or where the next one is another
+    pub follows_other : (x ≡ q → ⊥) → bytes_eq (without own (drop i lead)) (drop place rows) ≡ false
+    follows_other other =
+        false_from_ne_true _
+        (λ t. let same = sym first_left ∙ (bytes_eq-Decides (without own (drop i lead)) (drop place rows)).0 t ∙ rest in
+        other (sym (head_same same)))
+      where
+        head_same : {a b : ℕ} {xs ys : List ℕ} → a ∷ xs ≡ b ∷ ys → a ≡ b
+        head_same s = cc
+
+    pub follows_next : x ≡ q → bytes_eq (without own (drop i lead)) (drop place rows)
+        ≡ bytes_eq (without own (drop (i + 1) lead)) (drop (place + 1) rows)
+    follows_next same =
+        same_test _ _
+        (λ t. (bytes_eq-Decides _ _).1
+        (tail_same (sym first_left ∙ (bytes_eq-Decides (without own (drop i lead)) (drop place rows)).0 t ∙ rest)))
+        (λ t. (bytes_eq-Decides _ _).1
+        (first_left ∙ ap₂ (λ a l. a ∷ l) (sym same)
+        ((bytes_eq-Decides (without own (drop (i + 1) lead)) (drop (place + 1) rows)).0 t)
+        ∙ sym rest))
+      where
+        tail_same : {a b : ℕ} {xs ys : List ℕ} → a ∷ xs ≡ b ∷ ys → xs ≡ ys
+        tail_same s = cc
+
+-- all of the lead-in's rows were gone through
+pub follows_ends : (own lead rows : List ℕ) {i : ℕ} (place : ℕ) → length lead ≤ i → place ≤ length rows
+    → bytes_eq (without own (drop i lead)) (drop place rows) ≡ (place == length rows)
+follows_ends own lead rows {i} place past within =
+    ap (λ l. bytes_eq (without own l) (drop place rows)) (drop_of_length-le lead past)
+    ∙ ap (λ l. bytes_eq l (drop place rows)) (without_nil own)
+    ∙ same_test _ _
+    (λ t. let none = (bytes_eq-Decides [] (drop place rows)).0 t in
+    eq-eqb place (length rows) (omega (arith, ap length none, length-drop place rows)))
+    (λ t. let all = eqb-true place (length rows) t in
+    (bytes_eq-Decides [] (drop place rows)).1 (sym (drop_of_length-le rows (omega (arith, all)))))
+
+-- ---- how many rows of the lead-in are among the own ones
+
+module _ (lead own : List ℕ) where
+  abbrev counts : ℕ → ℕ
+  counts q = bit (was lead q)
+
+  pub shared_more : (i : ℕ) {q : ℕ} → i < length own → q ≡ get_or own i q
+      → sum_by counts (take (i + 1) own) ≡ sum_by counts (take i own) + counts q
+  shared_more i {q} h e =
+      ap (sum_by counts) (take_more own i q h ∙ ap (λ v. take i own ++ v ∷ []) (sym e))
+      ∙ sum_by-append counts (take i own) (q ∷ [])
+      ∙ omega (arith, sum_by-cons counts q [])
+
+  pub shared_within : (i : ℕ) → sum_by counts (take i own) ≤ sum_by counts own
+  shared_within i =
+      omega (
+        arith,
+        sum_by-append counts (take i own) (drop i own),
+        ap (sum_by counts) (take-append-drop i own),
+      )
+
+  -- Each row of the own ones that is one of the lead-in's is one that doesn't follow.
+  pub shared_left : (i : ℕ) {q others : ℕ} → Apart own → Apart lead → i < length own → q ≡ get_or own i q
+      → was lead q ≡ true → others + sum_by counts (take i own) ≡ length lead → 1 ≤ others
+  shared_left i {q} {others} a b h e w inv =
+      omega (
+        arith,
+        inv,
+        shared_more i h e,
+        ap bit w,
+        shared_within (i + 1),
+        length_without own lead a b,
+      )
+
+  pub shared_all : (i others : ℕ) → Apart own → Apart lead → length own ≤ i
+      → others + sum_by counts (take i own) ≡ length lead → length own + others ≡ length (led own lead)
+  shared_all i others a b h inv =
+      omega (
+        arith,
+        inv,
+        ap (sum_by counts) (take_all i own h),
+        length_without own lead a b,
+        length-append own (without own lead),
+      )

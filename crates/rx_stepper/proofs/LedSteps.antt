@@ -1,0 +1,250 @@
+-- Steps of rows that end with those of the lead-in: assertions are decided, and matches cut, in both lists by
+-- themselves.
+use Rattle.std.proofs.Common.{◌≡◌, ℕ, ◌==◌, ◌||◌, Bool, true, false, if◌then◌else◌, List, [], ◌∷◌, ◌++◌, refl, ap, ap₂}
+use Rattle.std.proofs.Common.{sym, ◌∙◌, subst, ⊎_elim}
+use Rattle.std.proofs.lemmas.Bool.{eqb-true, false_from_ne_true, or_left, or_right, or_cases}
+use Rattle.std.proofs.lemmas.List.Folds.{list_any-append}
+use Rattle.std.specs.List.{flat_map, list_any}
+use Rattle.rx_spec.specs.Rows.{Row}
+use Rattle.rx_spec.specs.States.{Passing, row_at, firsts, closure, is_match_row, to_first_match, cut, pattern_of}
+use Rattle.rx_spec.specs.declared.MatchKind.{MatchKind}
+use Rattle.rx_lemmas.proofs.Every.{flat_map-append_of}
+use Rattle.rx_lemmas.proofs.Firsts.{by_test}
+use Rattle.rx_powerset.specs.Closures.{closed_rows}
+use Rattle.rx_stepper.specs.Leads.{without, led}
+use Rattle.rx_stepper.specs.Steps.{goes_on, matches_of}
+use Rattle.rx_stepper.proofs.Members.{In, in_cases, in_nil, was}
+use Rattle.rx_stepper.proofs.Without.{without_nil, without_old, without_new, firsts_joined, led_gives}
+
+-- what is closed in both lists
+pub closed_led : (rows : List Row) (pass : Passing) (own lead : List ℕ)
+    → closed_rows rows pass (led own lead) ≡ led (closed_rows rows pass own) (closed_rows rows pass lead)
+closed_led rows pass own lead =
+    led_gives (closure rows pass) own lead
+    ∙ firsts_joined (flat_map (closure rows pass) own) (flat_map (closure rows pass) lead)
+
+-- the rows that are reached from joined lists
+pub closed_joined : (rows : List Row) (pass : Passing) (xs ys : List ℕ)
+    → closed_rows rows pass (xs ++ ys) ≡ led (closed_rows rows pass xs) (closed_rows rows pass ys)
+closed_joined rows pass xs ys =
+    ap (λ (l : List ℕ). firsts l) (flat_map-append_of (closure rows pass) xs ys)
+    ∙ firsts_joined (flat_map (closure rows pass) xs) (flat_map (closure rows pass) ys)
+
+-- a test of joined rows
+module _ (p : ℕ → Bool) where
+  none_in : (own : List ℕ) (x : ℕ) → list_any p own ≡ false → In own x → p x ≡ false
+  none_in [] x h i = absurd (in_nil x i)
+  none_in (y ∷ ys) x h i =
+      ⊎_elim
+      (λ (s : x ≡ y). false_from_ne_true (p x) (λ t. let v = or_left (p y) (list_any p ys) (ap p (sym s) ∙ t) in cc))
+      (λ (o : In ys x). none_in ys x
+      (false_from_ne_true (list_any p ys) (λ t. let v = or_right (p y) (list_any p ys) t in cc)) o)
+      (in_cases y x ys i)
+
+  any_without : (own lead : List ℕ) → list_any p own ≡ false → list_any p (without own lead) ≡ list_any p lead
+  any_without own [] h = ap (list_any p) (without_nil own)
+  any_without own (x ∷ xs) h =
+      by_test (was own x)
+      (λ e. ap (list_any p) (without_old own xs x e) ∙ any_without own xs h
+      ∙ sym (ap (λ b. b || list_any p xs) (none_in own x h e)))
+      (λ e. ap (list_any p) (without_new own xs x e) ∙ ap (λ b. p x || b) (any_without own xs h))
+
+  pub any_led : (own lead : List ℕ) → list_any p (led own lead) ≡ (list_any p own || list_any p lead)
+  any_led own lead =
+      list_any-append p own (without own lead)
+      ∙ by_test (list_any p own)
+      (λ e. ap (λ b. b || list_any p (without own lead)) e ∙ sym (ap (λ b. b || list_any p lead) e))
+      (λ e. ap (λ b. list_any p own || b) (any_without own lead e))
+
+module _ (rows : List Row) where
+  abbrev matches : List ℕ → Bool
+  matches qs = list_any (λ q. is_match_row (row_at rows q)) qs
+
+  -- ---- the first match
+
+  first_none : to_first_match rows [] ≡ []
+  unfolding to_first_match
+  first_none = refl
+
+  first_at : (q : ℕ) (qs : List ℕ) → is_match_row (row_at rows q) ≡ true → to_first_match rows (q ∷ qs) ≡ q ∷ []
+  unfolding to_first_match
+  first_at q qs h = rw h refl
+
+  first_later : (q : ℕ) (qs : List ℕ) → is_match_row (row_at rows q) ≡ false
+      → to_first_match rows (q ∷ qs) ≡ q ∷ to_first_match rows qs
+  unfolding to_first_match
+  first_later q qs h = rw h refl
+
+  head_plain : (q : ℕ) (qs : List ℕ) → matches (q ∷ qs) ≡ false → is_match_row (row_at rows q) ≡ false
+  head_plain q qs h =
+      false_from_ne_true (is_match_row (row_at rows q))
+      (λ e. let t : matches (q ∷ qs) ≡ true = or_left (is_match_row (row_at rows q)) (matches qs) e in cc)
+
+  rest_plain : (q : ℕ) (qs : List ℕ) → matches (q ∷ qs) ≡ false → matches qs ≡ false
+  rest_plain q qs h =
+      false_from_ne_true (matches qs)
+      (λ e. let t : matches (q ∷ qs) ≡ true = or_right (is_match_row (row_at rows q)) (matches qs) e in cc)
+
+  member_plain : (qs : List ℕ) (x : ℕ) → matches qs ≡ false → In qs x → is_match_row (row_at rows x) ≡ false
+  member_plain [] x h i = absurd (in_nil x i)
+  member_plain (q ∷ qs) x h i =
+      ⊎_elim
+      (λ (e : x ≡ q). subst (λ v. is_match_row (row_at rows v) ≡ false) (sym e) (head_plain q qs h))
+      (λ (k : In qs x). member_plain qs x (rest_plain q qs h) k)
+      (in_cases q x qs i)
+
+  -- it stands in the first list, or behind it
+  first_in_front : (xs ys : List ℕ) → matches xs ≡ true → to_first_match rows (xs ++ ys) ≡ to_first_match rows xs
+  first_in_front [] ys h = absurd (cc)
+  first_in_front (x ∷ xs) ys h =
+      by_test (is_match_row (row_at rows x)) (λ e. first_at x (xs ++ ys) e ∙ sym (first_at x xs e))
+      (λ e. first_later x (xs ++ ys) e
+      ∙ ap (λ (l : List ℕ). x ∷ l)
+      (first_in_front xs ys
+      (⊎_elim (λ (t : is_match_row (row_at rows x) ≡ true). absurd (cc)) (λ (t : matches xs ≡ true). t)
+      (or_cases (is_match_row (row_at rows x)) (matches xs) h)))
+      ∙ sym (first_later x xs e))
+
+  first_behind : (xs ys : List ℕ) → matches xs ≡ false → to_first_match rows (xs ++ ys) ≡ xs ++ to_first_match rows ys
+  first_behind [] ys h = refl
+  first_behind (x ∷ xs) ys h =
+      first_later x (xs ++ ys) (head_plain x xs h)
+      ∙ ap (λ (l : List ℕ). x ∷ l) (first_behind xs ys (rest_plain x xs h))
+
+  -- leaving out rows that don't match leaves it where it is
+  first_without : (seen xs : List ℕ) → matches seen ≡ false
+      → to_first_match rows (without seen xs) ≡ without seen (to_first_match rows xs)
+  first_without seen [] h =
+      ap (to_first_match rows) (without_nil seen) ∙ first_none
+      ∙ sym (ap (without seen) first_none ∙ without_nil seen)
+  first_without seen (x ∷ xs) h =
+      by_test (was seen x)
+      (λ e. ap (to_first_match rows) (without_old seen xs x e) ∙ first_without seen xs h
+      ∙ sym (ap (without seen) (first_later x xs (member_plain seen x h e))
+      ∙ without_old seen (to_first_match rows xs) x e))
+      (λ e. ap (to_first_match rows) (without_new seen xs x e)
+      ∙ by_test (is_match_row (row_at rows x))
+      (λ m. first_at x (without seen xs) m
+      ∙ sym (ap (without seen) (first_at x xs m) ∙ without_new seen [] x e
+      ∙ ap (λ (l : List ℕ). x ∷ l) (without_nil seen)))
+      (λ m. first_later x (without seen xs) m ∙ ap (λ (l : List ℕ). x ∷ l) (first_without seen xs h)
+      ∙ sym (ap (without seen) (first_later x xs m) ∙ without_new seen (to_first_match rows xs) x e)))
+
+  -- ---- the matches that go on, and whether what is less preferred goes on too
+
+  matches_nil : (qs : List ℕ) → matches qs ≡ false → matches_of rows qs ≡ []
+  matches_nil [] h = refl
+  matches_nil (q ∷ qs) h =
+      ap (λ b. if b then q ∷ matches_of rows qs else matches_of rows qs) (head_plain q qs h)
+      ∙ matches_nil qs (rest_plain q qs h)
+
+  cut_plain : (qs : List ℕ) → matches qs ≡ false → to_first_match rows qs ≡ qs
+  cut_plain [] h = first_none
+  cut_plain (q ∷ qs) h =
+      first_later q qs (head_plain q qs h) ∙ ap (λ (l : List ℕ). q ∷ l) (cut_plain qs (rest_plain q qs h))
+
+  cut_none : (qs : List ℕ) → matches_of rows (to_first_match rows qs) ≡ [] → matches qs ≡ false
+  cut_none [] h = refl
+  cut_none (q ∷ qs) h =
+      by_test (is_match_row (row_at rows q))
+      (λ e. absurd (let t = sym (ap (λ b. if b then q ∷ [] else []) e)
+      ∙ sym (ap (matches_of rows) (first_at q qs e)) ∙ h in cc))
+      (λ e. ap₂ (λ (a b : Bool). a || b) e
+      (cut_none qs
+      (sym (ap (λ b. if b then q ∷ matches_of rows (to_first_match rows qs) else matches_of rows
+      (to_first_match rows qs)) e)
+      ∙ sym (ap (matches_of rows) (first_later q qs e)) ∙ h)))
+
+  cut_some : (qs : List ℕ) (x : ℕ) (xs : List ℕ) → matches_of rows (to_first_match rows qs) ≡ x ∷ xs
+      → matches qs ≡ true
+  cut_some qs x xs h =
+      by_test (matches qs) (λ e. e)
+      (λ e. absurd (let t = sym (matches_nil qs e) ∙ sym (ap (matches_of rows) (cut_plain qs e)) ∙ h in cc))
+
+  -- The cut falls in the own rows, or in those of the lead-in.
+  pub cut_led : (kind : MatchKind) (own lead : List ℕ) → goes_on kind (matches_of rows (cut kind rows own)) ≡ true
+      → cut kind rows (led own lead) ≡ led (cut kind rows own) (cut kind rows lead)
+  cut_led MatchKind.All own lead h = refl
+  cut_led MatchKind.LeftmostFirst own lead h =
+      let none = cut_none own (none_of (matches_of rows (to_first_match rows own)) h) in
+      first_behind own (without own lead) none
+      ∙ ap₂ (λ (a b : List ℕ). a ++ b) (sym (cut_plain own none))
+      (first_without own lead none ∙ ap (λ l. without l (to_first_match rows lead)) (sym (cut_plain own none)))
+    where
+      none_of : (xs : List ℕ) → goes_on MatchKind.LeftmostFirst xs ≡ true → xs ≡ []
+      none_of [] h = refl
+      none_of (x ∷ xs) h = absurd (cc)
+
+  pub cut_led_off : (kind : MatchKind) (own lead : List ℕ) → goes_on kind (matches_of rows (cut kind rows own)) ≡ false
+      → cut kind rows (led own lead) ≡ cut kind rows own
+  cut_led_off MatchKind.All own lead h = absurd (cc)
+  cut_led_off MatchKind.LeftmostFirst own lead h =
+      first_in_front own (without own lead) (some_of (matches_of rows (to_first_match rows own)) refl h)
+    where
+      some_of : (xs : List ℕ) → matches_of rows (to_first_match rows own) ≡ xs
+          → goes_on MatchKind.LeftmostFirst xs ≡ false → matches own ≡ true
+      some_of [] e h = absurd (cc)
+      some_of (x ∷ xs) e h = cut_some own x xs e
+
+  -- ---- labels
+
+  abbrev pub patterns : List ℕ → List ℕ
+  patterns qs = flat_map (λ q. pattern_of (row_at rows q)) qs
+
+  plain_pattern : (row : Row) → is_match_row row ≡ false → pattern_of row ≡ []
+  plain_pattern (Row.Bytes set next) e = refl
+  plain_pattern (Row.Split first second) e = refl
+  plain_pattern (Row.Look look next) e = refl
+  plain_pattern (Row.Match pattern) e = absurd (cc)
+  plain_pattern Row.Fail e = refl
+
+  pub patterns_matches : (qs : List ℕ) → patterns (matches_of rows qs) ≡ patterns qs
+  patterns_matches [] = refl
+  patterns_matches (q ∷ qs) =
+      by_test (is_match_row (row_at rows q))
+      (λ e. ap (λ b. patterns (if b then q ∷ matches_of rows qs else matches_of rows qs)) e
+      ∙ ap (λ (l : List ℕ). pattern_of (row_at rows q) ++ l) (patterns_matches qs))
+      (λ e. ap (λ b. patterns (if b then q ∷ matches_of rows qs else matches_of rows qs)) e
+      ∙ patterns_matches qs
+      ∙ sym (ap (λ (l : List ℕ). l ++ patterns qs) (plain_pattern (row_at rows q) e)))
+
+  -- a match is a member of the matches where it is one of all
+  match_in : (seen : List ℕ) (x : ℕ) → is_match_row (row_at rows x) ≡ true
+      → was seen x ≡ was (matches_of rows seen) x
+  match_in [] x m = refl
+  match_in (y ∷ ys) x m =
+      by_test (is_match_row (row_at rows y))
+      (λ e. ap (λ b. (x == y) || b) (match_in ys x m)
+      ∙ sym (ap (λ b. was (if b then y ∷ matches_of rows ys else matches_of rows ys) x) e))
+      (λ e. ap₂ (λ (a b : Bool). a || b) (other y e) (match_in ys x m)
+      ∙ sym (ap (λ b. was (if b then y ∷ matches_of rows ys else matches_of rows ys) x) e))
+    where
+      other : (y : ℕ) → is_match_row (row_at rows y) ≡ false → (x == y) ≡ false
+      other y e =
+          false_from_ne_true (x == y)
+          (λ s. let t = ap (λ v. is_match_row (row_at rows v)) (eqb-true x y s) in cc)
+
+  pub patterns_without : (seen qs : List ℕ)
+      → patterns (without seen qs) ≡ patterns (without (matches_of rows seen) (matches_of rows qs))
+  patterns_without seen [] =
+      ap patterns (without_nil seen) ∙ sym (ap patterns (without_nil (matches_of rows seen)))
+  patterns_without seen (x ∷ xs) =
+      by_test (is_match_row (row_at rows x))
+      (λ m. by_test (was seen x)
+      (λ e. ap patterns (without_old seen xs x e) ∙ patterns_without seen xs
+      ∙ sym (ap patterns (ap (λ b. without (matches_of rows seen)
+      (if b then x ∷ matches_of rows xs else matches_of rows xs)) m
+      ∙ without_old (matches_of rows seen) (matches_of rows xs) x (sym (match_in seen x m) ∙ e))))
+      (λ e. ap patterns (without_new seen xs x e)
+      ∙ ap (λ (l : List ℕ). pattern_of (row_at rows x) ++ l) (patterns_without seen xs)
+      ∙ sym (ap patterns (ap (λ b. without (matches_of rows seen)
+      (if b then x ∷ matches_of rows xs else matches_of rows xs)) m
+      ∙ without_new (matches_of rows seen) (matches_of rows xs) x (sym (match_in seen x m) ∙ e)))))
+      (λ m. let nothing = plain_pattern (row_at rows x) m in
+      let rest = ap (λ b. patterns (without (matches_of rows seen)
+      (if b then x ∷ matches_of rows xs else matches_of rows xs))) m in
+      by_test (was seen x)
+      (λ e. ap patterns (without_old seen xs x e) ∙ patterns_without seen xs ∙ sym rest)
+      (λ e. ap patterns (without_new seen xs x e)
+      ∙ ap (λ (l : List ℕ). l ++ patterns (without seen xs)) nothing
+      ∙ patterns_without seen xs ∙ sym rest))

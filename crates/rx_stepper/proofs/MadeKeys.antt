@@ -1,0 +1,125 @@
+-- The key of a state that is made, as it is written.
+use Rattle.std.proofs.Common.{◌≡◌, ℕ, ◌^◌, ◌<◌, ◌≤◌, ◌==◌, ◌&&◌, Bool, true, false, not, if◌then◌else◌, List, [], ◌∷◌}
+use Rattle.std.proofs.Common.{◌++◌, length, refl, ap, sym, ◌∙◌, subst, arith}
+use Rattle.std.proofs.lemmas.Bool.{ne_eqb}
+use Rattle.std.proofs.lemmas.List.Elements.{recursion_from_All}
+use Rattle.std.specs.Prelude.{All}
+use Rattle.std.specs.List.{list_any, AllByRecursion as Every}
+use Rattle.rx_spec.specs.Builds.{is_dead_state}
+use Rattle.rx_spec.specs.Causes.{id_count, max_id}
+use Rattle.rx_spec.specs.Contexts.{Facts}
+use Rattle.rx_spec.specs.Nfas.{Nfa}
+use Rattle.rx_spec.specs.States.{Standing, row_at, is_look_row, firsts}
+use Rattle.rx_lemmas.proofs.Every.{every-append, every-weaker}
+use Rattle.rx_lemmas.proofs.Firsts.{by_test}
+use Rattle.rx_base.specs.FactBits.{bit, bits_of, facts_with}
+use Rattle.rx_powerset.specs.Closures.{closed_rows}
+use Rattle.rx_stepper.specs.Leads.{lead_of, led, without, rows_by, written, written_as}
+use Rattle.rx_stepper.specs.Steps.{made, IsMadeKey}
+use Rattle.rx_stepper.proofs.Decisions.{closed_stands, firsts_twice}
+use Rattle.rx_stepper.proofs.KeyLaws.{AreClosed, IsWritten, WritesState, kept_written, key_written, once_front}
+use Rattle.rx_stepper.proofs.KeyLaws.{spelled_is}
+use Rattle.rx_stepper.proofs.Members.{in_nil, was}
+use Rattle.rx_stepper.proofs.Without.{without_nil, without_none, without_old, without_new}
+use Rattle.rx_stepper.proofs.WrittenRows.{written_spells}
+
+every_without : (P : ℕ → Type 0) (seen xs : List ℕ) → Every P xs → Every P (without seen xs)
+every_without P seen [] h = subst (Every P) (sym (without_nil seen)) tt
+every_without P seen (x ∷ xs) h =
+    by_test (was seen x)
+    (λ e. subst (Every P) (sym (without_old seen xs x e)) (every_without P seen xs h.1))
+    (λ e. subst (Every P) (sym (without_new seen xs x e)) (h.0, every_without P seen xs h.1))
+
+every_by : (P : ℕ → Type 0) (lead own : List ℕ) (is_led : Bool) → Every P own → Every P lead
+    → Every P (rows_by lead is_led own)
+every_by P lead own true h k = every-append P own (without own lead) h (every_without P own lead k)
+every_by P lead own false h k = h
+
+-- rows that are led are some, and there is a lead-in
+not_zero : (n : ℕ) → 0 < n → (n == 0) ≡ false
+not_zero n h = ne_eqb n 0 (λ e. omega arith)
+
+led_some : (lead own : List ℕ) → 0 < length lead → 0 < length (led own lead)
+led_some lead [] h = omega (arith, ap length (without_none [] lead (λ x i j. in_nil x j)), h)
+led_some lead (x ∷ own) h = omega arith
+
+led_somewhere : (lead rows : List ℕ) {own : List ℕ} → written lead rows ≡ written_as true own → 0 < length lead
+led_somewhere [] rows e = absurd (let t = ap (λ w. w.is_led) e in cc)
+led_somewhere (x ∷ lead) rows e = omega arith
+
+-- how the rows of a state that is made are written
+pub record WritesRows (nfa : Nfa) (from own : List ℕ) (is_led : Bool) : Type 0 where
+  pub written : written (lead_of nfa) (closed_rows nfa.rows Standing from) ≡ written_as is_led own
+  pub ids : Every (λ q. q < id_count) own
+  pub lead_ids : Every (λ q. q < id_count) (lead_of nfa)
+
+module _ {nfa : Nfa} {from own : List ℕ} {is_led : Bool} (w : WritesRows nfa from own is_led) where
+  abbrev closed : List ℕ
+  closed = closed_rows nfa.rows Standing from
+
+  pub rows_are : rows_by (lead_of nfa) is_led own ≡ closed
+  rows_are =
+      sym (ap (λ v. rows_by (lead_of nfa) v.is_led v.own) w.written) ∙ written_spells (lead_of nfa) closed
+
+  are_closed : AreClosed nfa.rows closed
+  are_closed = record {
+    stand = closed_stands nfa.rows from;
+    ids =
+        every-weaker (λ q. q < id_count) (λ q. q ≤ max_id) closed (λ q h. omega arith)
+        (subst (Every (λ q. q < id_count)) rows_are
+        (every_by (λ q. q < id_count) (lead_of nfa) own is_led w.ids w.lead_ids));
+    once = firsts_twice _;
+  }
+
+  -- the own rows stand once
+  pub own_once : firsts own ≡ own
+  own_once = front_once own is_led rows_are
+    where
+      front_once : (xs : List ℕ) (b : Bool) → rows_by (lead_of nfa) b xs ≡ closed → firsts xs ≡ xs
+      front_once xs true e =
+          once_front xs (without xs (lead_of nfa))
+          (ap (λ l. firsts l) e ∙ are_closed.once ∙ sym e)
+      front_once xs false e = ap (λ l. firsts l) e ∙ are_closed.once ∙ sym e
+
+  pub made_key : {asked : Facts} {label key : List ℕ} {bits : ℕ} → IsWritten bits (made nfa from asked label).context
+      → Every (λ k. k ≤ max_id) label → length label < 2 ^ 32
+      → is_dead_state (made nfa from asked label) ≡ false
+      → key ≡ bits ∷ (length label ∷ (length closed ∷ (bit is_led ∷ (label ++ own))))
+      → IsMadeKey nfa from asked label key
+  made_key {asked} {label} {key} {bits} context patterns few alive e =
+      let writes : WritesState nfa.rows (lead_of nfa) (made nfa from asked label) bits is_led own = record {
+        context = context;
+        written = w.written;
+        closed = record { closed = are_closed; patterns = patterns; few = few };
+      } in
+      record { is_key = key_written writes e; stands_for = spelled_is writes e; alive = alive }
+
+  -- it is dead where nothing is written and nothing follows
+  dead_by : (b : Bool) (xs : List ℕ) (label : List ℕ) → rows_by (lead_of nfa) b xs ≡ closed
+      → (b ≡ true → 0 < length (lead_of nfa))
+      → ((length closed == 0) && (length label == 0)) ≡ (not b && (length xs == 0) && (length label == 0))
+  dead_by true xs label e some =
+      ap (λ t. t && (length label == 0))
+      (ap (λ l. length l == 0) (sym e) ∙ not_zero (length (led xs (lead_of nfa)))
+      (led_some (lead_of nfa) xs (some refl)))
+  dead_by false xs label e some = ap (λ l. (length l == 0) && (length label == 0)) (sym e)
+
+  pub dead_made : (asked : Facts) (label : List ℕ) → is_dead_state (made nfa from asked label)
+      ≡ (not is_led && (length own == 0) && (length label == 0))
+  dead_made asked label = dead_by is_led own label rows_are
+      (λ t. led_somewhere (lead_of nfa) closed (w.written ∙ ap (λ b. written_as b own) t))
+
+  -- the key as it is written, from what its parts are found to be
+  pub key_made : (group : ℕ) {label key : List ℕ} {bits count : ℕ} → group ≡ bits_of (facts_with group)
+      → bits ≡ (if list_any (λ q. is_look_row (row_at nfa.rows q)) (rows_by (lead_of nfa) is_led own) then group else 0)
+      → count ≡ length (rows_by (lead_of nfa) is_led own) → All (λ k. k ≤ max_id) label → length label < 2 ^ 32
+      → (not is_led && (length own == 0) && (length label == 0)) ≡ false
+      → key ≡ bits ∷ (length label ∷ (count ∷ (bit is_led ∷ (label ++ own))))
+      → IsMadeKey nfa from (facts_with group) label key
+  key_made group {label} {key} {bits} {count} number asks counted patterns few alive e =
+      let looks = λ (l : List ℕ). list_any (λ q. is_look_row (row_at nfa.rows q)) l in
+      made_key
+      (kept_written (looks closed) (facts_with group)
+      (asks ∙ ap (λ l. if looks l then group else 0) rows_are) number refl)
+      (recursion_from_All (λ k. k ≤ max_id) label patterns) few (dead_made (facts_with group) label ∙ alive)
+      (e ∙ ap (λ n. bits ∷ (length label ∷ (n ∷ (bit is_led ∷ (label ++ own))))) (counted ∙ ap length rows_are))

@@ -1,0 +1,199 @@
+-- Rows as they are written: the own ones are the least, and there is one way.
+use Rattle.std.proofs.Common.{◌≡◌, ℕ, ◌<◌, true, false, if◌then◌else◌, List, [], ◌∷◌, ◌++◌, length}
+use Rattle.std.proofs.Common.{refl, ap, ap₂, sym, ◌∙◌, subst, arith, append-nil, append_assoc, ⊎_elim}
+use Rattle.std.proofs.lemmas.Bool.{false_from_ne_true}
+use Rattle.std.proofs.lemmas.Slice.Eq.{bytes_eq-Decides}
+use Rattle.std.specs.Str.{bytes_eq}
+use Rattle.rx_lemmas.proofs.Firsts.{Apart, by_test, seen_true}
+use Rattle.rx_stepper.specs.Leads.{without, led, written_as, rows_by, split_by, written, IsLeast}
+use Rattle.rx_stepper.proofs.Members.{In, in_cases, in_nil, was, in_here, in_left, in_right, not_in, apart_last}
+use Rattle.rx_stepper.proofs.Without.{without_nil, without_old, without_new, without_append, without_join, without_all}
+use Rattle.rx_stepper.proofs.Without.{without_none, without_out, without_within, without_keeps}
+
+-- ---- its equations
+
+split_end : (lead front : List ℕ) → split_by lead front [] ≡ written_as (bytes_eq (without front lead) []) front
+unfolding split_by
+split_end lead front = refl
+
+split_more : (lead front rest : List ℕ) (x : ℕ) → split_by lead front (x ∷ rest)
+    ≡ (if bytes_eq (without front lead) (x ∷ rest) then written_as true front
+    else split_by lead (front ++ x ∷ []) rest)
+unfolding split_by
+split_more lead front rest x = refl
+
+-- what follows is what the lead-in adds
+pub split_here : (lead front rows : List ℕ) → without front lead ≡ rows
+    → split_by lead front rows ≡ written_as true front
+split_here lead front [] e =
+    split_end lead front
+    ∙ ap (λ b. written_as b front) ((bytes_eq-Decides (without front lead) []).1 e)
+split_here lead front (x ∷ rest) e =
+    split_more lead front rest x
+    ∙ ap (λ b. if b then written_as true front else split_by lead (front ++ x ∷ []) rest)
+    ((bytes_eq-Decides (without front lead) (x ∷ rest)).1 e)
+
+pub split_later : (lead front rest : List ℕ) (x : ℕ) → bytes_eq (without front lead) (x ∷ rest) ≡ false
+    → split_by lead front (x ∷ rest) ≡ split_by lead (front ++ x ∷ []) rest
+split_later lead front rest x e =
+    split_more lead front rest x
+    ∙ ap (λ b. if b then written_as true front else split_by lead (front ++ x ∷ []) rest) e
+
+pub split_nowhere : (lead front : List ℕ) → bytes_eq (without front lead) [] ≡ false
+    → split_by lead front [] ≡ written_as false front
+split_nowhere lead front e = split_end lead front ∙ ap (λ b. written_as b front) e
+
+-- ---- the rows that are written are the rows
+
+pub split_spells : (lead front rows : List ℕ)
+    → rows_by lead (split_by lead front rows).is_led (split_by lead front rows).own ≡ front ++ rows
+split_spells lead front [] =
+    by_test (bytes_eq (without front lead) [])
+    (λ e. let same = (bytes_eq-Decides (without front lead) []).0 e in
+    ap (λ w. rows_by lead w.is_led w.own) (split_here lead front [] same) ∙ ap (λ l. front ++ l) same)
+    (λ e. ap (λ w. rows_by lead w.is_led w.own) (split_nowhere lead front e) ∙ sym (append-nil front))
+split_spells lead front (x ∷ rest) =
+    by_test (bytes_eq (without front lead) (x ∷ rest))
+    (λ e. let same = (bytes_eq-Decides (without front lead) (x ∷ rest)).0 e in
+    ap (λ w. rows_by lead w.is_led w.own) (split_here lead front (x ∷ rest) same) ∙ ap (λ l. front ++ l) same)
+    (λ e. ap (λ w. rows_by lead w.is_led w.own) (split_later lead front rest x e)
+    ∙ split_spells lead (front ++ x ∷ []) rest ∙ append_assoc front (x ∷ []) rest)
+
+pub written_spells : (lead rows : List ℕ)
+    → rows_by lead (written lead rows).is_led (written lead rows).own ≡ rows
+written_spells [] rows = refl
+written_spells (x ∷ lead) rows = split_spells (x ∷ lead) [] rows
+
+-- ---- where a row of the lead-in is missing nothing follows
+
+apart_from : (lead front rows : List ℕ) (q : ℕ) → In lead q → was (front ++ rows) q ≡ false
+    → bytes_eq (without front lead) rows ≡ false
+apart_from lead front rows q i new =
+    false_from_ne_true (bytes_eq (without front lead) rows)
+    (λ h. let same = (bytes_eq-Decides (without front lead) rows).0 h in
+    clash (subst (λ l. In l q) same (without_keeps front lead q i (not_in front q (λ f. clash_left f)))))
+  where
+    clash : In rows q → ⊥
+    clash j = let t : was (front ++ rows) q ≡ true = in_right front rows q j in cc
+
+    clash_left : In front q → ⊥
+    clash_left j = let t : was (front ++ rows) q ≡ true = in_left front rows q j in cc
+
+pub split_missing : (lead front rows : List ℕ) (q : ℕ) → In lead q → was (front ++ rows) q ≡ false
+    → split_by lead front rows ≡ written_as false (front ++ rows)
+split_missing lead front [] q i new =
+    split_nowhere lead front (apart_from lead front [] q i new) ∙ ap (written_as false) (sym (append-nil front))
+split_missing lead front (x ∷ rest) q i new =
+    split_later lead front rest x (apart_from lead front (x ∷ rest) q i new)
+    ∙ split_missing lead (front ++ x ∷ []) rest q i
+    (ap (λ l. was l q) (append_assoc front (x ∷ []) rest) ∙ new)
+    ∙ ap (written_as false) (append_assoc front (x ∷ []) rest)
+
+pub written_missing : (lead rows : List ℕ) (q : ℕ) → In lead q → was rows q ≡ false
+    → written lead rows ≡ written_as false rows
+written_missing [] rows q i new = refl
+written_missing (x ∷ lead) rows q i new = split_missing (x ∷ lead) [] rows q i new
+
+-- ---- the least front
+
+-- the last of a list that isn't empty
+ends : (y : ℕ) (ys : List ℕ) → (front : List ℕ) × (x : ℕ) × (y ∷ ys ≡ front ++ x ∷ [])
+ends y [] = ([], y, refl)
+ends y (z ∷ zs) = let t = ends z zs in (y ∷ t.0, t.1, ap (λ (l : List ℕ). y ∷ l) t.2)
+
+-- what is left without a longer list, where the shorter one gives the same rows
+last_left : (lead p front : List ℕ) (x : ℕ) {q : List ℕ} → q ≡ (p ++ front) ++ x ∷ [] → Apart q
+    → without p lead ≡ (front ++ x ∷ []) ++ without q lead → without (p ++ front) lead ≡ x ∷ without q lead
+last_left lead p front x {q} e a w =
+    without_append p front lead ∙ ap (without front) w
+    ∙ without_join front (front ++ x ∷ []) (without q lead)
+    ∙ ap₂ (λ (l m : List ℕ). l ++ m)
+    (without_join front front (x ∷ [])
+    ∙ ap₂ (λ (l m : List ℕ). l ++ m) (without_all front front (λ y i. i)) (without_none front (x ∷ []) here))
+    (without_none front (without q lead) behind)
+  where
+    here : (y : ℕ) → In (x ∷ []) y → In front y → ⊥
+    here y i f =
+        ⊎_elim
+        (λ (s : y ≡ x). apart_last (p ++ front) x (subst Apart e a) (in_right p front x (subst (In front) s f)))
+        (λ (o : In [] y). in_nil y o)
+        (in_cases x y [] i)
+
+    behind : (y : ℕ) → In (without q lead) y → In front y → ⊥
+    behind y i f =
+        without_out q lead y i
+        (subst (λ l. In l y) (sym e) (in_left (p ++ front) (x ∷ []) y (in_right p front y f)))
+
+no_shorter : (lead p ys : List ℕ) (y : ℕ) {q : List ℕ} → q ≡ p ++ y ∷ ys → Apart q → IsLeast lead q
+    → without p lead ≡ (y ∷ ys) ++ without q lead → ⊥
+no_shorter lead p ys y {q} e a least w =
+    let t = ends y ys in
+    let whole : q ≡ (p ++ t.0) ++ t.1 ∷ [] =
+    e ∙ ap (λ (l : List ℕ). p ++ l) t.2 ∙ sym (append_assoc p t.0 (t.1 ∷ [])) in
+    least.least (p ++ t.0) t.1 whole
+    (last_left lead p t.0 t.1 whole a (w ∙ ap (λ (l : List ℕ). l ++ without q lead) t.2))
+
+pub split_least : (lead front rest own : List ℕ) → own ≡ front ++ rest → Apart own → IsLeast lead own
+    → split_by lead front (rest ++ without own lead) ≡ written_as true own
+split_least lead front [] own e a least =
+    let same : front ≡ own = sym (e ∙ append-nil front) in
+    split_here lead front (without own lead) (ap (λ l. without l lead) same) ∙ ap (written_as true) same
+split_least lead front (x ∷ rest) own e a least =
+    by_test (bytes_eq (without front lead) ((x ∷ rest) ++ without own lead))
+    (λ b. absurd (no_shorter lead front rest x e a least
+    ((bytes_eq-Decides (without front lead) ((x ∷ rest) ++ without own lead)).0 b)))
+    (λ b. split_later lead front (rest ++ without own lead) x b
+    ∙ split_least lead (front ++ x ∷ []) rest own (e ∙ sym (append_assoc front (x ∷ []) rest)) a least)
+
+pub written_least : (lead own : List ℕ) → 0 < length lead → Apart own → IsLeast lead own
+    → written lead (led own lead) ≡ written_as true own
+written_least [] own h a least = absurd (omega arith)
+written_least (x ∷ lead) own h a least = split_least (x ∷ lead) [] own own refl a least
+
+-- ---- the last row may go where it would come again at once
+
+pub dropped : (lead front : List ℕ) (x : ℕ) → without front lead ≡ x ∷ without (front ++ x ∷ []) lead
+    → led front lead ≡ led (front ++ x ∷ []) lead
+dropped lead front x e =
+    ap (λ (l : List ℕ). front ++ l) e ∙ sym (append_assoc front (x ∷ []) (without (front ++ x ∷ []) lead))
+
+-- that is so where all that stands before it in the lead-in's rows stands in front of it
+pub comes_again : (front before behind : List ℕ) (x : ℕ) → Apart (front ++ x ∷ []) → Apart (before ++ x ∷ behind)
+    → ((y : ℕ) → In before y → In front y)
+    → without front (before ++ x ∷ behind) ≡ x ∷ without (front ++ x ∷ []) (before ++ x ∷ behind)
+comes_again front before behind x a b h =
+    without_join front before (x ∷ behind)
+    ∙ ap₂ (λ (l m : List ℕ). l ++ m) (without_all front before h)
+    (without_new front behind x (not_in front x (apart_last front x a)))
+    ∙ ap (λ (l : List ℕ). x ∷ l)
+    (sym (without_none (x ∷ []) (without front behind) (λ y i s. other before b y i s))
+    ∙ sym (without_append front (x ∷ []) behind)
+    ∙ sym (without_join (front ++ x ∷ []) before (x ∷ behind)
+    ∙ ap₂ (λ (l m : List ℕ). l ++ m)
+    (without_all (front ++ x ∷ []) before (λ y i. in_left front (x ∷ []) y (h y i)))
+    (without_old (front ++ x ∷ []) behind x (in_right front (x ∷ []) x (in_here x [])))))
+  where
+    other : (before : List ℕ) → Apart (before ++ x ∷ behind) → (y : ℕ) → In (without front behind) y → In (x ∷ []) y
+        → ⊥
+    other [] b y i s =
+        ⊎_elim
+        (λ (e : y ≡ x). b.0 (seen_true x behind (subst (In behind) e (without_within front behind y i))))
+        (λ (o : In [] y). in_nil y o)
+        (in_cases x y [] s)
+    other (z ∷ zs) b y i s = other zs b.1 y i s
+
+-- and only there
+pub comes_from : (front lead rest : List ℕ) (x : ℕ) → without front lead ≡ x ∷ rest
+    → (before : List ℕ) × (behind : List ℕ) × (lead ≡ before ++ x ∷ behind) × ((y : ℕ) → In before y → In front y)
+comes_from front [] rest x e = let n : without front [] ≡ [] = without_nil front in absurd (cc)
+comes_from front (z ∷ zs) rest x e =
+    by_test (was front z)
+    (λ f. let t = comes_from front zs rest x (sym (without_old front zs z f) ∙ e) in (
+      z ∷ t.0,
+      t.1,
+      ap (λ (l : List ℕ). z ∷ l) t.2,
+      λ y i. ⊎_elim (λ (s : y ≡ z). subst (In front) (sym s) f) (λ (o : In t.0 y). t.3 y o) (in_cases z y t.0 i),
+    ))
+    (λ f. let n : without front (z ∷ zs) ≡ z ∷ without front zs = without_new front zs z f in
+    let same : z ≡ x = cc in
+    ([], zs, ap (λ (v : ℕ). v ∷ zs) same, λ y i. absurd (in_nil y i)))

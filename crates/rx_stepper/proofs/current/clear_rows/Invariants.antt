@@ -1,5 +1,0 @@
-use Rattle.std.proofs.Common.{◌≡◌, ◌<◌, ℕ, [], get_or, map}
-use Rattle.rx_stepper.proofs.current.clear_rows.Given as goal
-
-abbrev pub invariant-loop-list : goal.invariant-loop-list
-invariant-loop-list l = (k : ℕ) → k < l.list-index → get_or (map (λ v. v.items) l.lists) k [] ≡ []

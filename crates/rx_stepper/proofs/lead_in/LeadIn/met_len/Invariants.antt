@@ -1,0 +1,9 @@
+use Rattle.std.proofs.Common.{◌≡◌, ◌<◌, ℕ, true}
+use Rattle.std.specs.Prelude.{Some, slice_get}
+use Rattle.rx_stepper.specs.Stamps.{is_met}
+use Rattle.rx_stepper.proofs.lead_in.LeadIn.met_len.Given as goal
+
+abbrev pub invariant-loop-place : goal.invariant-loop-place
+invariant-loop-place l =
+    (place q : ℕ) → place < l.place → slice_get l.self.rows.items place ≡ Some q
+    → is_met l.closures.stamps.stamps.items l.closures.stamps.now q ≡ true

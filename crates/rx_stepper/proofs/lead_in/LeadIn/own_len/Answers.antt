@@ -1,0 +1,45 @@
+use Rattle.std.proofs.Common.{◌≡◌, ◌-◌, ◌<◌, ◌≤◌, take, ap, subst, sym, ◌∙◌, arith}
+use Rattle.rx_stepper.specs.Leads.{led}
+use Rattle.rx_stepper.proofs.KeyLaws.{once_apart}
+use Rattle.rx_stepper.proofs.LeadPlaces.{Trimmed, last_row, least_none, trimmed_least, trimmed_more, trimmed_none}
+use Rattle.rx_stepper.proofs.lead_in.LeadIn.own_len.Goals as goal
+
+pub loop-len-init : goal.loop-len-init
+loop-len-init c = trimmed_none c.requires.met
+
+pub loop-len-preserved : goal.loop-len-preserved
+loop-len-preserved c =
+    let self = c.args.self.now in
+    let lead = self.rows.items in
+    let own = c.args.own.now in
+    let t = c.loop-len.invariant in
+    let l = last_row own c.loop-len.len c.loop-len-test.true t.within c.index-own-len.is in
+    subst (Trimmed lead own (c.loop-len.len - 1)) (sym c.place-place.ensures)
+    (trimmed_more self.places_are (once_apart lead self.once) (once_apart own c.requires.once) t l
+    (subst (λ p. p < c.loop-len.met) c.place-place.ensures c.if-place-met.false))
+
+pub returns-then-place-met : goal.returns-then-place-met
+returns-then-place-met c =
+    let self = c.args.self.now in
+    let lead = self.rows.items in
+    let own = c.args.own.now in
+    let t = c.loop-len.invariant in
+    let l = last_row own c.loop-len.len c.loop-len-test.true t.within c.index-own-len.is in
+    record {
+      within = t.within;
+      same = t.same;
+      least =
+          trimmed_least self.places_are (once_apart lead self.once) (once_apart own c.requires.once) t l
+          (subst (λ p. c.loop-len.met ≤ p) c.place-place.ensures c.if-place-met.true);
+    }
+
+pub returns : goal.returns
+returns c =
+    let lead = c.args.self.now.rows.items in
+    let own = c.args.own.now in
+    let none : c.loop-len.len ≡ 0 = omega (arith, c.loop-len-test.false) in
+    record {
+      within = omega arith;
+      same = ap (λ n. led (take n own) lead) (sym none) ∙ c.loop-len.invariant.same;
+      least = least_none lead;
+    }

@@ -1,0 +1,10 @@
+use Rattle.std.proofs.Common.{◌≡◌, length, false}
+use Rattle.std.specs.Prelude.{All}
+use Rattle.rx_stepper.proofs.lead_steps.LeadSteps.of_contexts.Given as goal
+
+abbrev pub invariant-loop-context : goal.invariant-loop-context
+invariant-loop-context l = record {
+  len : length l.leads.items ≡ l.context;
+  columns : All (λ s. length s.steps.targets.items ≡ l.columns) l.leads.items;
+  none : All (λ s. s.are_found ≡ false) l.leads.items;
+}

@@ -1,0 +1,9 @@
+use Rattle.rx_expr.specs.Nfa.{meaning}
+use Rattle.rx_stepper.specs.Steps.{matches_of}
+use Rattle.rx_stepper.proofs.GroupLoop.{PlainBetween}
+use Rattle.rx_stepper.proofs.steps.Steps.add_plain.Given as goal
+
+abbrev pub invariant-loop-group : goal.invariant-loop-group
+invariant-loop-group l =
+    PlainBetween l.initial.self l.self l.columns.groups.used.items
+    (matches_of (meaning l.closures.nfa.now).rows l.going) l.group

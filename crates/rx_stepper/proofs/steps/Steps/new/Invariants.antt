@@ -1,0 +1,15 @@
+use Rattle.std.proofs.Common.{◌≡◌, length, map}
+use Rattle.rx_stepper.specs.Steps.{AreEmpty}
+use Rattle.rx_stepper.proofs.steps.Steps.new.Given as goal
+
+abbrev pub invariant-loop-group : goal.invariant-loop-group
+invariant-loop-group l = record {
+  len : length l.matches.items ≡ l.group;
+  empty : AreEmpty (map (λ v. v.items) l.matches.items);
+}
+
+abbrev pub invariant-loop-column : goal.invariant-loop-column
+invariant-loop-column l = record {
+  len : length l.targets.items ≡ l.column;
+  empty : AreEmpty (map (λ v. v.items) l.targets.items);
+}

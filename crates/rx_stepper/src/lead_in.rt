@@ -1,0 +1,301 @@
+//! The rows of the unanchored start, with which the states of an unanchored search end.
+
+ghost use Rattle.std.specs.Prelude.{◌≡◌, ℕ, ◌<◌, ◌≤◌, ◌^◌, ◌==◌, ◌&&◌, ◌∷◌, [], true, false, not, Some, MatchBool};
+ghost use Rattle.std.specs.Prelude.{MatchOption, take, length, slice_get, slice_index_or, vec_capacity, IfOk, OnOk};
+ghost use Rattle.std.specs.List.{list_any, AllByRecursion as Every};
+ghost use Rattle.std.specs.Str.{bytes_eq};
+ghost use Rattle.rx_spec.specs.Builds.{is_dead_state};
+ghost use Rattle.rx_spec.specs.Causes.{id_count, max_id};
+ghost use Rattle.rx_spec.specs.States.{Standing, firsts, is_look_row, row_at};
+ghost use Rattle.rx_base.specs.FactBits.{bits_of, facts_with};
+ghost use Rattle.rx_expr.specs.Nfa.{meaning};
+ghost use Rattle.rx_powerset.specs.Closures.{closed_rows};
+ghost use Rattle.rx_stepper.specs.Leads.{lead_of, led, rows_by, split_by, without, written, written_as, IsLeast};
+ghost use Rattle.rx_stepper.specs.Places.{no_place, ArePlaces, AreMetTo};
+ghost use Rattle.rx_stepper.specs.Stamps.{is_met};
+ghost use Rattle.rx_stepper.specs.Steps.{made, IsMadeKey};
+
+use crate::closures::{Closures, Passing};
+use crate::keys;
+use crate::matches::is_among;
+use rx_base::{PatternID, StateID};
+use std::alloc::{AllocError, Global};
+
+/// The rows of the unanchored start, which are written once for all states that end with them.
+#[derive(Drop)]
+pub(crate) struct LeadIn {
+    /// Where an unanchored search starts.
+    pub(crate) start: StateID,
+    /// The rows that are reached from there without reading a byte; none where every search is anchored.
+    pub(crate) rows: Vec<StateID>,
+    /// For each row of the NFA its place among them, or a number past their end.
+    places: Vec<u32>,
+    /// Whether one of them asserts.
+    pub(crate) asks: bool,
+    ghost places_are: { ArePlaces rows.items places.items },
+    ghost once: { firsts rows.items ≡ rows.items },
+    ghost few: { length rows.items ≤ id_count },
+}
+
+impl LeadIn {
+    ghost use Rattle.rx_stepper.specs.LeadIns.{IsLeadIn};
+
+    /// That of an NFA. The list must have room for all its rows.
+    pub(crate) fn new(
+        alloc: Global,
+        closures: &mut Closures<'_>,
+        reached: &mut Vec<StateID>,
+    ) -> Result<LeadIn, AllocError>
+        requires { length (meaning closures.old.nfa.now).rows ≤ vec_capacity reached.old }
+        ensures nfa { closures.new.nfa.now ≡ closures.old.nfa.now }
+        ensures room { vec_capacity reached.old ≤ vec_capacity reached.new }
+        ensures is { IfOk result (IsLeadIn (meaning closures.old.nfa.now)) }
+    {
+        list_lead_in(closures, reached);
+        Ok(LeadIn {
+            start: closures.nfa.start_unanchored(),
+            places: places_of(alloc, reached, closures.thin.len())?,
+            asks: closures.has_look(reached),
+            rows: reached.to_vec(alloc)?,
+        })
+    }
+
+    /// Writes the key of the state that is reached from some rows, with what assertions ask for of the unit read last
+    /// and a label, and tells whether there is one: the dead state has no key.
+    pub(crate) fn write_key(
+        &self,
+        closures: &mut Closures<'_>,
+        from: &[StateID],
+        asked: u8,
+        label: &[PatternID],
+        own: &mut Vec<StateID>,
+        key: &mut Vec<u32>,
+    ) -> Result<bool, AllocError>
+        requires is { IsLeadIn (meaning closures.old.nfa.now) self.now }
+        requires room { length (meaning closures.old.nfa.now).rows ≤ vec_capacity own.old }
+        requires asked { asked ≡ bits_of (facts_with asked) }
+        requires label { length label.now < 2 ^ 32 }
+        ensures nfa { closures.new.nfa.now ≡ closures.old.nfa.now }
+        ensures room { vec_capacity own.old ≤ vec_capacity own.new }
+        ensures key { let nfa = meaning closures.old.nfa.now in
+            IfOk result (λ goes_on. MatchBool goes_on
+            (IsMadeKey nfa from.now (facts_with asked) label.now key.new.items)
+            (is_dead_state (made nfa from.now (facts_with asked) label.now) ≡ true)) }
+    {
+        let is_led = self.close(closures, from, own);
+        if keys::is_dead(is_led, own, label) {
+            return Ok(false);
+        }
+        let head = keys::Head {
+            context: keys::kept(self.has_look(closures, own, is_led), asked),
+            rows: self.rows_len(own, is_led),
+            is_led,
+        };
+        keys::write(head, label, own, key)?;
+        Ok(true)
+    }
+
+    /// Lists the rows that are reached from some rows as far as they are written, and tells whether the lead-in's
+    /// others follow.
+    fn close(&self, closures: &mut Closures<'_>, from: &[StateID], own: &mut Vec<StateID>) -> bool
+        requires is { IsLeadIn (meaning closures.old.nfa.now) self.now }
+        requires room { length (meaning closures.old.nfa.now).rows ≤ vec_capacity own.old }
+        ensures nfa { closures.new.nfa.now ≡ closures.old.nfa.now }
+        ensures room { vec_capacity own.old ≤ vec_capacity own.new }
+        ensures rows { let nfa = meaning closures.old.nfa.now in
+            written (lead_of nfa) (closed_rows nfa.rows Standing from.now) ≡ written_as result own.new.items }
+        ensures few { length own.new.items ≤ id_count }
+        ensures ids { Every (λ q. q < id_count) own.new.items }
+    {
+        if let Some((last, front)) = from.split_last() {
+            if self.is_start(*last) {
+                closures.list(front, &Passing::Standing, own);
+                let len = self.own_len(own, self.met_len(closures));
+                own.truncate(len);
+                return true;
+            }
+        }
+        closures.list(from, &Passing::Standing, own);
+        self.split(closures, own)
+    }
+
+    /// Whether a row is the unanchored start, and there is a lead-in.
+    fn is_start(&self, row: StateID) -> bool
+        ensures { result ≡ ((row == self.now.start) && not (length self.now.rows.items == 0)) }
+    {
+        row == self.start && !self.rows.is_empty()
+    }
+
+    /// How many of its rows, from the first on, were listed last.
+    fn met_len(&self, closures: &Closures<'_>) -> usize
+        ensures { let stamps = closures.now.stamps in
+            AreMetTo (is_met stamps.stamps.items stamps.now) self.now.rows.items result }
+    {
+        for (place, row) in self.rows.iter().enumerate() {
+            if !closures.is_met(*row) {
+                return place;
+            }
+        }
+        self.rows.len()
+    }
+
+    /// How many rows have to be written before the lead-in's others: the last ones that would come again at once have
+    /// not. The first rows of the lead-in are among them, as many as is told.
+    fn own_len(&self, own: &[StateID], met: usize) -> usize
+        requires once { firsts own.now ≡ own.now }
+        requires met { AreMetTo (λ q. list_any (λ x. q == x) own.now) self.now.rows.items met }
+        ensures within { result ≤ length own.now }
+        ensures same { led (take result own.now) self.now.rows.items ≡ led own.now self.now.rows.items }
+        ensures least { IsLeast self.now.rows.items (take result own.now) }
+    {
+        let mut met = met;
+        let mut len = own.len();
+        while len > 0 {
+            let place = self.place(own[len - 1]);
+            if place >= met {
+                return len;
+            }
+            met = place;
+            len -= 1;
+        }
+        0
+    }
+
+    /// The place of a row, or a number past the end.
+    #[inline]
+    fn place(&self, row: StateID) -> usize
+        ensures { result ≡ slice_index_or self.now.places.items row no_place }
+    {
+        match self.places.get(row.as_usize()) {
+            Some(place) => *place as usize,
+            None => NO_PLACE as usize,
+        }
+    }
+
+    /// Takes off what follows the least front of rows behind which the lead-in's others follow, where there is one.
+    ///
+    /// The rows that a compiled NFA reaches from others than the unanchored start have not the lead-in's last one, and
+    /// need no search.
+    fn split(&self, closures: &Closures<'_>, own: &mut Vec<StateID>) -> bool
+        requires { let stamps = closures.now.stamps in
+            Every (λ q. is_met stamps.stamps.items stamps.now q ≡ list_any (λ x. q == x) own.old.items)
+            self.now.rows.items }
+        ensures room { vec_capacity own.old ≤ vec_capacity own.new }
+        ensures rows { written self.now.rows.items own.old.items ≡ written_as result own.new.items }
+        ensures front { own.new.items ≡ take (length own.new.items) own.old.items }
+    {
+        match self.rows.last() {
+            Some(last) => {
+                if !closures.is_met(*last) {
+                    return false;
+                }
+            }
+            None => return false,
+        }
+        match self.split_len(own) {
+            Some(len) => {
+                own.truncate(len);
+                true
+            }
+            None => false,
+        }
+    }
+
+    /// How many rows stand before the lead-in's others, at the least.
+    fn split_len(&self, rows: &[StateID]) -> Option<usize>
+        ensures { let lead = self.now.rows.items in
+            MatchOption result (split_by lead [] rows.now ≡ written_as false rows.now)
+            (λ len. split_by lead [] rows.now ≡ written_as true (take len rows.now)) }
+    {
+        for len in 0..rows.len() + 1 {
+            if self.follows(&rows[..len], &rows[len..]) {
+                return Some(len);
+            }
+        }
+        None
+    }
+
+    /// Whether rows are the lead-in's that aren't among some own ones.
+    fn follows(&self, own: &[StateID], rows: &[StateID]) -> bool
+        ensures { result ≡ bytes_eq (without own.now self.now.rows.items) rows.now }
+    {
+        let mut place = 0;
+        for row in &self.rows {
+            if !is_among(own, *row) {
+                if place >= rows.len() {
+                    return false;
+                }
+                if rows[place] != *row {
+                    return false;
+                }
+                place += 1;
+            }
+        }
+        place == rows.len()
+    }
+
+    /// Whether a state's rows assert.
+    fn has_look(&self, closures: &Closures<'_>, own: &[StateID], is_led: bool) -> bool
+        requires { IsLeadIn (meaning closures.now.nfa.now) self.now }
+        ensures { result ≡ list_any (λ q. is_look_row (row_at (meaning closures.now.nfa.now).rows q))
+            (rows_by self.now.rows.items is_led own.now) }
+    {
+        if is_led && self.asks {
+            true
+        } else {
+            closures.has_look(own)
+        }
+    }
+
+    /// How many rows a state has.
+    fn rows_len(&self, own: &[StateID], is_led: bool) -> u32
+        requires once { firsts own.now ≡ own.now }
+        requires few { length own.now ≤ id_count }
+        ensures { result ≡ length (rows_by self.now.rows.items is_led own.now) }
+    {
+        if !is_led {
+            return own.len() as u32;
+        }
+        let mut others = self.rows.len();
+        for row in own {
+            if self.place(*row) < self.rows.len() {
+                others -= 1;
+            }
+        }
+        (own.len() + others) as u32
+    }
+}
+
+/// What stands for no place.
+const NO_PLACE: u32 = u32::MAX;
+
+/// Lists the rows of an NFA's unanchored start; none where every search is anchored.
+fn list_lead_in(closures: &mut Closures<'_>, reached: &mut Vec<StateID>)
+    requires { length (meaning closures.old.nfa.now).rows ≤ vec_capacity reached.old }
+    ensures nfa { closures.new.nfa.now ≡ closures.old.nfa.now }
+    ensures room { vec_capacity reached.old ≤ vec_capacity reached.new }
+    ensures rows { reached.new.items ≡ lead_of (meaning closures.old.nfa.now) }
+    ensures few { length reached.new.items ≤ id_count }
+    ensures ids { Every (λ q. q < id_count) reached.new.items }
+{
+    if closures.nfa.is_always_start_anchored() {
+        reached.clear();
+    } else {
+        let start = closures.nfa.start_unanchored();
+        closures.list(&[start], &Passing::Standing, reached);
+    }
+}
+
+/// The places of rows, for so many rows as there are.
+fn places_of(alloc: Global, rows: &[StateID], count: usize) -> Result<Vec<u32>, AllocError>
+    requires within { Every (λ q. q < count) rows.now }
+    requires once { firsts rows.now ≡ rows.now }
+    requires few { length rows.now ≤ id_count }
+    ensures { IfOk result (λ places. ArePlaces rows.now places.items) }
+{
+    let mut places = vec![in alloc; NO_PLACE; count]?;
+    for (place, row) in rows.iter().enumerate() {
+        places[row.as_usize()] = place as u32;
+    }
+    Ok(places)
+}
