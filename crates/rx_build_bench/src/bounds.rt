@@ -18,7 +18,8 @@ impl Bounds {
         }
     }
 
-    /// Reads a byte that doesn't end the bounds. None where it is no digit and no comma, and where a number is too large.
+    /// Reads a byte that doesn't end the bounds. None where it is no digit and no comma, and where a number is too
+    /// large.
     pub(crate) fn with(mut self, byte: u8) -> Option<Bounds> {
         if byte == b',' && !self.has_comma {
             self.has_comma = true;

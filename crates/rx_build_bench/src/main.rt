@@ -1,9 +1,9 @@
 //! Times the builds of dense tables: `rx_build_bench FILE REPEATS [parts]`.
 //!
 //! FILE has an expression on each line, in the syntax of `reader`. Of all of them two tables are built, REPEATS times:
-//! the forward one, by which the ends of leftmost-first matches are found, from an anchored start and an unanchored one;
-//! and the reverse one, which is anchored and tells all matches, by which their starts are found. Bytes are searched,
-//! UTF-8 or not.
+//! the forward one, by which the ends of leftmost-first matches are found, from an anchored start and an unanchored
+//! one; and the reverse one, which is anchored and tells all matches, by which their starts are found. Bytes are
+//! searched, UTF-8 or not.
 //!
 //! Standard output says how large the tables are, standard error the least time of each part of a build, in
 //! microseconds. With `parts` each NFA is also made into a table without needles and into a minimized one, so that the
@@ -83,25 +83,17 @@ fn run(rt: &HostRuntime) -> Result<(), Fault> {
         Some(_) => return Err(Fault::Usage),
     };
     let exprs = read_file(rt, file.as_str())?;
+    time_builds(rt, &exprs, repeats, parts)
+}
+
+/// Builds both tables so many times, and says how large they are and how long the builds took.
+fn time_builds(rt: &HostRuntime, exprs: &[Expr], repeats: u32, parts: Parts) -> Result<(), Fault> {
+    let alloc = rt.alloc();
     let mut forward = Least::new();
     let mut reverse = Least::new();
     for turn in 0..repeats {
-        let ends = measure(
-            rt,
-            rt.alloc(),
-            &exprs,
-            Direction::Forward,
-            parts,
-            &mut forward,
-        )?;
-        let starts = measure(
-            rt,
-            rt.alloc(),
-            &exprs,
-            Direction::Reverse,
-            parts,
-            &mut reverse,
-        )?;
+        let ends = measure(rt, alloc, exprs, Direction::Forward, parts, &mut forward)?;
+        let starts = measure(rt, alloc, exprs, Direction::Reverse, parts, &mut reverse)?;
         if turn == 0 {
             tell_size(rt, Direction::Forward, &ends)?;
             tell_size(rt, Direction::Reverse, &starts)?;
