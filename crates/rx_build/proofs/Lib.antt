@@ -6,3 +6,5 @@ pub mod StartMarks
 pub mod Stages
 -- tables that are begun
 pub mod Beginnings
+-- what a built table tells
+pub mod Served

@@ -1,5 +1,5 @@
--- Tables whose rows lie at other places tell the same of every word: they give what they gave, and a powerset machine is
--- one still.
+-- Tables whose rows lie at other places tell the same of every word: they give what they gave, and a powerset machine
+-- is one still.
 use Rattle.std.proofs.Common.{◌≡◌, ◌≢◌, ℕ, ◌<◌, List, [], ◌∷◌, slice_index, ap, sym, ◌∙◌, arith}
 use Rattle.rx_spec.specs.Builds.{Build}
 use Rattle.rx_spec.specs.Labels.{AreToldApart, Gives, SameLabels, label_after}

@@ -7,10 +7,11 @@
 //!
 //! The contract: a table that is built says of every word what the powerset machine of its build says, is that machine
 //! with its rows at other places unless it was minimized, and then has the fewest rows (`specs/Built.antt`). A refusal
-//! names a cause that holds.
+//! names a cause that holds. [`laws`]: it answers every search as that machine does.
 #![tactic(auto)]
 
 pub mod dense;
+pub mod laws;
 
 pub use rx_build_error::{BuildError, BuildErrorKind};
 pub use rx_determinize as determinize;

@@ -4,9 +4,10 @@
 //! So the rows of a built table lie in an order in which each of these kinds is a range of ids
 //! (`specs/RowOrder.antt`). [`shuffle`] puts the rows of a table in that order once it is known which of them match,
 //! and [`accelerate`] finds the rows that few bytes lead away from, which searches skip from, and orders the rows
-//! anew. [`patterns_of_row`] reads the patterns of a match row.
+//! anew.
 //!
 //! The contract: after either call the table is the one that it was, with its rows at other places (`IsPermuted`).
+//! [`patterns_of_row`] reads the patterns of a match row.
 #![tactic(auto)]
 
 mod accelerate_rows;

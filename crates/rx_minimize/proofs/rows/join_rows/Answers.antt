@@ -41,7 +41,8 @@ steps c = record {
 
 pub truncate_states-requires-clause-within : goal.truncate_states-requires-clause-within
 truncate_states-requires-clause-within c =
-    omega (arith, rows_is (steps (goal.at.truncate_states-requires-clause-within c).After-move_rows), c.requires.ids.within)
+    let s = steps (goal.at.truncate_states-requires-clause-within c).After-move_rows in
+    omega (arith, rows_is s, c.requires.ids.within)
 
 pub truncate_states-requires-clause-rows : goal.truncate_states-requires-clause-rows
 truncate_states-requires-clause-rows c =
