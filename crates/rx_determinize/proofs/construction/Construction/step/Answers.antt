@@ -40,7 +40,14 @@ write_column-requires-clause-column c =
     let i = c.columns.invariant in
     let count = units_count c.columns.dfa c.columns.self.units.items i.stepping.entering.rows.classes
     i.suits.are_units in
-    omega (arith, count, ap (λ us. length us.items) i.units, c.columns-test.true, c.len-column-end.ensures)
+    omega (
+      arith,
+      count,
+      ap (λ us. length us.items) i.units,
+      c.args.self.now.units.ok.0,
+      c.columns-test.true,
+      c.len-column-end.ensures,
+    )
 
 pub returns-in_err-last-clause-err : goal.returns-in_err-last-clause-err
 returns-in_err-last-clause-err c =
@@ -80,6 +87,7 @@ returns-clause-entering c =
       arith,
       count,
       ap (λ us. length us.items) i.units,
+      c.args.self.now.units.ok.0,
       c.columns-test.false,
       c.len-column-end.ensures,
       c.columns.auto.column-end,
