@@ -1,5 +1,5 @@
 -- A built table serves its build.
-use Rattle.std.proofs.Common.{◌≡◌, ℕ, ◌<◌, get_or, refl, ap, ◌∙◌}
+use Rattle.std.proofs.Common.{◌≡◌, ℕ, ◌<◌, get_or, ap, ◌∙◌, zero-add}
 use Rattle.std.proofs.lemmas.List.FromFn.{get_or-map-range_with_len}
 use Rattle.rx_spec.specs.Bytes.{contains}
 use Rattle.rx_spec.specs.Contexts.{start_of_byte}
@@ -19,7 +19,8 @@ built_serves s nfa l is = record {
     pattern_starts = ap (λ (m : Layout). m.pattern_starts) is.rest;
     start_of_byte = λ byte low.
         ap (λ (m : Layout). get_or m.contexts byte Start.NonWordByte) is.rest
-        ∙ get_or-map-range_with_len (start_of_byte nfa.line_terminator) 0 256 byte byte Start.NonWordByte low refl;
+        ∙ get_or-map-range_with_len (start_of_byte nfa.line_terminator) 0 256 byte byte Start.NonWordByte low
+        (zero-add byte);
     quit = λ byte low. ap (λ (m : Layout). contains m.quit byte) is.rest;
   };
 }
