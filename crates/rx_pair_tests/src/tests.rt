@@ -36,10 +36,10 @@ fn show(alloc: Global, found: &Match) -> Result<String, Fail> {
     Ok(format!(in alloc; "{pattern} {} {};", found.start(), found.end())?)
 }
 
-/// All matches of an input as text, and the error that ended them.
-fn shown(alloc: Global, regex: &Regex<OwnedDFA>, input: &Input<'_>) -> Result<String, Fail> {
+/// All matches in a haystack as text, and the error that ended them.
+fn shown(alloc: Global, regex: &Regex<OwnedDFA>, haystack: &[u8]) -> Result<String, Fail> {
     let mut text = String::new(alloc);
-    for item in regex.find_iter(input) {
+    for item in regex.find_iter(&Input::new(haystack)) {
         match item {
             Ok(found) => text.push_str(&show(alloc, &found)?)?,
             Err(error) => text.push_str(&format!(in alloc; "{error}")?)?,
@@ -80,7 +80,7 @@ fn matches_one_after_another(rt: HostRuntime) -> Result<(), Fail> {
     ];
     for (asked, text, wanted) in cases {
         let regex = build(alloc, asked)?;
-        let told = shown(alloc, &regex, &Input::new(text.as_bytes()))?;
+        let told = shown(alloc, &regex, text.as_bytes())?;
         assert!(&rt; told.as_str() == *wanted, "{}: {told}", asked.0);
     }
     Ok(())
@@ -94,7 +94,7 @@ fn one_match(rt: HostRuntime) -> Result<(), Fail> {
     assert!(&rt; regex.find(&input)?.is_none());
     assert!(&rt; regex.is_match(&Input::new(b"xbax"))?);
     assert!(&rt; !regex.is_match(&Input::new(b"xyz"))?);
-    assert!(&rt; regex.pattern_len() == 2);
+    assert!(&rt; regex.forward().pattern_len() == 2 && regex.reverse().pattern_len() == 2);
     assert!(&rt; regex.reverse().state_len() <= regex.forward().state_len());
     match regex.try_search(&Input::new(b"xbax").range(2, 4))? {
         Some(found) => assert!(&rt; show(alloc, &found)?.as_str() == "0 2 3;"),
