@@ -7,22 +7,26 @@ use rx_dense::OwnedDFA;
 use rx_expr::thompson;
 use rx_notation::read;
 use rx_pair::Regex;
+use rx_search::Automaton;
 use std::alloc::Global;
 use std::process::Abort;
 use std::test::Fail;
 
-/// What a pair is built of: patterns, whether matches that split a character are passed over, and a quit byte.
-struct Asked(&'static str, bool, Option<u8>);
-
-fn build(alloc: Global, asked: &Asked) -> Result<Regex<OwnedDFA>, Fail> {
-    let exprs = read(alloc, asked.0)?;
+/// The pair of some patterns: whether matches that split a character are passed over, and a quit byte.
+fn build(
+    alloc: Global,
+    patterns: &str,
+    utf8: bool,
+    quit: Option<u8>,
+) -> Result<Regex<OwnedDFA>, Fail> {
+    let exprs = read(alloc, patterns)?;
     let mut config = Config::new().starts_for_each_pattern(true);
-    if let Some(byte) = asked.2 {
+    if let Some(byte) = quit {
         config = config.quit(byte, true)?;
     }
     let mut builder = Builder::new();
     builder.configure(config);
-    builder.thompson(thompson::Config::new().utf8(asked.1));
+    builder.thompson(thompson::Config::new().utf8(utf8));
     let forward = builder.build_many(alloc, &exprs)?;
     let all = Config::new().match_kind(MatchKind::All);
     builder.configure(all.start_kind(StartKind::Anchored));
@@ -48,48 +52,55 @@ fn shown(alloc: Global, regex: &Regex<OwnedDFA>, haystack: &[u8]) -> Result<Stri
     Ok(text)
 }
 
-#[test]
-fn matches_one_after_another(rt: HostRuntime) -> Result<(), Fail> {
-    let alloc = rt.alloc();
-    let cases: &[(Asked, &str, &str)] = &[
-        (
-            Asked(r"\d {4,4} - . \d {2,2} . - . \d {2,2} .", true, None),
-            "2018-12-24 2016-10-08",
-            "0 0 10;0 11 21;",
-        ),
-        (
-            Asked(r"\w {1,} \S {1,}", true, None),
-            "@foo bar",
-            "1 0 4;0 5 8;",
-        ),
-        (Asked("_", true, None), "\u{2603}", "0 0 0;0 3 3;"),
-        (
-            Asked("_", false, None),
-            "\u{2603}",
-            "0 0 0;0 1 1;0 2 2;0 3 3;",
-        ),
-        (Asked("<startcrlf>", true, None), "\r\n", "0 0 0;0 2 2;"),
-        (Asked("a {0,}", true, None), "baac", "0 0 0;0 1 3;0 4 4;"),
-        (Asked("a", true, None), "", ""),
-        (Asked("^ a .", true, None), "aa", "0 0 1;"),
-        (
-            Asked("a", true, Some(b'z')),
-            "abxza",
-            "0 0 1;quit search after observing byte 122 at offset 3",
-        ),
-    ];
-    for (asked, text, wanted) in cases {
-        let regex = build(alloc, asked)?;
+/// What a pair is built of, a haystack, and its matches.
+type Case = (&'static str, bool, Option<u8>, &'static str, &'static str);
+
+fn check(rt: &impl Abort, alloc: Global, cases: &[Case]) -> Result<(), Fail> {
+    for (patterns, utf8, quit, text, wanted) in cases {
+        let regex = build(alloc, patterns, *utf8, *quit)?;
         let told = shown(alloc, &regex, text.as_bytes())?;
-        assert!(&rt; told.as_str() == *wanted, "{}: {told}", asked.0);
+        assert!(rt; told.as_str() == *wanted, "{patterns}: {told}");
     }
     Ok(())
 }
 
 #[test]
+fn matches_one_after_another(rt: HostRuntime) -> Result<(), Fail> {
+    let alloc = rt.alloc();
+    let dates = r"\d {4,4} - . \d {2,2} . - . \d {2,2} .";
+    check(
+        &rt,
+        alloc,
+        &[
+            (
+                dates,
+                true,
+                None,
+                "2018-12-24 2016-10-08",
+                "0 0 10;0 11 21;",
+            ),
+            (r"\w {1,} \S {1,}", true, None, "@foo bar", "1 0 4;0 5 8;"),
+            ("_", true, None, "\u{2603}", "0 0 0;0 3 3;"),
+            ("_", false, None, "\u{2603}", "0 0 0;0 1 1;0 2 2;0 3 3;"),
+            ("<startcrlf>", true, None, "\r\n", "0 0 0;0 2 2;"),
+            ("a {0,}", true, None, "baac", "0 0 0;0 1 3;0 4 4;"),
+            ("a", true, None, "", ""),
+            ("^ a .", true, None, "aa", "0 0 1;"),
+            (
+                "a",
+                true,
+                Some(b'z'),
+                "abxza",
+                "0 0 1;quit search after observing byte 122 at offset 3",
+            ),
+        ],
+    )
+}
+
+#[test]
 fn one_match(rt: HostRuntime) -> Result<(), Fail> {
     let alloc = rt.alloc();
-    let regex = build(alloc, &Asked("a b", true, None))?;
+    let regex = build(alloc, "a b", true, None)?;
     let input = Input::new(b"xbax").anchored(Anchored::Pattern(PatternID::must(0)));
     assert!(&rt; regex.find(&input)?.is_none());
     assert!(&rt; regex.is_match(&Input::new(b"xbax"))?);
@@ -125,7 +136,7 @@ fn tables_of_other_patterns(rt: HostRuntime) -> Result<(), Fail> {
 #[test]
 fn a_text_cut_by_its_matches(rt: HostRuntime) -> Result<(), Fail> {
     let alloc = rt.alloc();
-    let regex = build(alloc, &Asked(r"\d {1,}", true, None))?;
+    let regex = build(alloc, r"\d {1,}", true, None)?;
     let (bytes, longest) = matched(&regex, b"a1b234c5")?;
     assert!(&rt; bytes == 5 && longest == b"234".as_slice());
     Ok(())
