@@ -15,6 +15,14 @@ empty_push f [] y e h (suc place) = refl
 empty_push f (v ∷ vs) y e h zero = h zero
 empty_push f (v ∷ vs) y e h (suc place) = empty_push f vs y e (λ p. h (suc p)) place
 
+-- one more that is empty is as none
+pub list_push : {X : Type 0} (f : X → List ℕ) (vs : List X) (y : X) → f y ≡ [] → (place : ℕ)
+    → list_at (map f (vs ++ y ∷ [])) place ≡ list_at (map f vs) place
+list_push f [] y e zero = e
+list_push f [] y e (suc place) = refl
+list_push f (v ∷ vs) y e zero = refl
+list_push f (v ∷ vs) y e (suc place) = list_push f vs y e place
+
 pub empty_all : (lists : List (List ℕ)) (n : ℕ) → length lists ≤ n → ((k : ℕ) → k < n → get_or lists k [] ≡ [])
     → AreEmpty lists
 empty_all lists n le h k =

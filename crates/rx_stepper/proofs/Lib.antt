@@ -27,3 +27,5 @@ pub mod GroupLoop
 -- the parts of a stepper
 pub mod StepperParts
 pub mod ColumnSteps
+-- columns by which the lead-in alone goes on
+pub mod LoneSteps

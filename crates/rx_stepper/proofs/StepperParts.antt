@@ -276,7 +276,7 @@ module _ (t : Table) {lead_in : LeadIn} {leads : List LeadSteps} {current : Curr
       → current.led_in ≡ (if b then Some (bits_of (facts_with (slice_index key 0))) else None)
   led_is b e = fits.led_in ∙ ap (λ v. if v then Some (bits_of (facts_with (slice_index key 0))) else None) e
 
-  behind : (b : Steps) → Follows current leads t.kind group b
+  pub behind : (b : Steps) → Follows current leads t.kind group b
       → Gathers s unit (targets_in current.steps column ++ targets_in b column)
       (patterns_of t.nfa.rows (mine ++ without mine (matches_in b group)))
   behind b f =

@@ -1,5 +1,5 @@
 -- What a column needs of the steps of some rows.
-use Rattle.std.specs.Prelude.{ℕ, ◌≡◌, true, false, ◌⊎◌, Option, Some, None, List, map, slice_get}
+use Rattle.std.specs.Prelude.{ℕ, ◌≡◌, true, false, ◌⊎◌, Option, Some, None, List, [], map, slice_get}
 use Rattle.rx_spec.specs.declared.MatchKind.{MatchKind}
 use Rattle.rx_stepper.specs.Columns.{list_at}
 use Rattle.rx_stepper.specs.Steps.{goes_on}
@@ -29,3 +29,10 @@ abbrev pub IsLeadOf : Current → List LeadSteps → MatchKind → ℕ → Optio
 IsLeadOf current leads kind group None =
     (current.led_in ≡ None) ⊎ (goes_on kind (matches_in current.steps group) ≡ false)
 IsLeadOf current leads kind group (Some steps) = Follows current leads kind group steps
+
+-- On a column of a group the lead-in's rows alone go on: none of the current state's own ones matches before its unit,
+-- or reads it.
+pub record IsLone (current : Current) (column group context : ℕ) : Type 0 where
+  pub led_in : current.led_in ≡ Some context
+  pub targets : targets_in current.steps column ≡ []
+  pub matches : matches_in current.steps group ≡ []

@@ -8,9 +8,10 @@ ghost use Rattle.rx_spec.specs.States.{start_state};
 ghost use Rattle.rx_base.specs.ByteClasses.{alphabet_len};
 ghost use Rattle.rx_expr.specs.Nfa.{meaning};
 ghost use Rattle.rx_stepper.specs.Fits.{Fits, FitsCurrent, FitsLead, table_of};
-ghost use Rattle.rx_stepper.specs.Gathering.{IsLeadOf};
+ghost use Rattle.rx_stepper.specs.Gathering.{IsLeadOf, IsLone};
 ghost use Rattle.rx_base.specs.FactBits.{bits_of, facts_with};
 ghost use Rattle.rx_stepper.specs.Keys.{label_of, led_of, size_of};
+ghost use Rattle.rx_stepper.specs.LoneKeys.{FitsLone};
 
 use crate::closures::Closures;
 use crate::columns::Columns;
@@ -18,6 +19,7 @@ use crate::current::Current;
 use crate::gathered::Gathered;
 use crate::lead_in::LeadIn;
 use crate::lead_steps::LeadSteps;
+use crate::lone_keys::LoneKeys;
 use crate::matches::goes_on;
 use crate::steps::Steps;
 use crate::{Next, keys};
@@ -37,12 +39,14 @@ pub struct Stepper<'n> {
     lead_in: LeadIn,
     /// What the lead-in's rows need for their steps, for each number of what is known of the unit read last.
     leads: Vec<LeadSteps>,
+    lone: LoneKeys,
     current: Current,
     gathered: Gathered,
     /// Room for a closure.
     reached: Vec<StateID>,
     ghost fits: { Fits (meaning closures.nfa.now) classes columns },
     ghost fits_lead: { FitsLead (table_of (meaning closures.nfa.now) kind classes columns) lead_in leads.items },
+    ghost fits_lone: { FitsLone (meaning closures.nfa.now) kind classes lone },
     ghost fits_current: { FitsCurrent (table_of (meaning closures.nfa.now) kind classes columns) leads.items current },
     ghost room: { length (meaning closures.nfa.now).rows ≤ vec_capacity reached },
 }
@@ -80,6 +84,7 @@ impl<'n> Stepper<'n> {
             classes: *classes,
             lead_in,
             leads,
+            lone: LoneKeys::new(alloc),
             current,
             gathered: Gathered::new(alloc),
             reached,
@@ -180,19 +185,80 @@ impl<'n> Stepper<'n> {
                 return Ok(Next::AsLast);
             }
         }
+        let goes_on = match self.lone_context(column) {
+            Some(context) => self.write_lone(context, column, key)?,
+            None => self.write_next(column, key)?,
+        };
+        Ok(if goes_on { Next::State } else { Next::Dead })
+    }
+
+    /// The number of what is known of the unit read last, where the lead-in's rows alone go on by a column.
+    fn lone_context(&self, column: usize) -> Option<u8>
+        requires column { column < length self.now.current.steps.targets.items }
+        requires group { column < length self.now.columns.groups.of.items }
+        ensures { let group = slice_index self.now.columns.groups.of.items column in
+            IfSome result (IsLone self.now.current column group) }
+    {
+        let own = &self.current.steps;
+        if !own.targets[column].is_empty() {
+            return None;
+        }
+        let group = self.columns.groups.of(column);
+        if !own.matches[group as usize].is_empty() {
+            return None;
+        }
+        self.current.led_in
+    }
+
+    /// Writes the key of the state to which a column leads by which the lead-in's rows alone go on, and tells whether
+    /// there is one.
+    #[tactic(auto, unfolding(crate::specs::Steppers::stepping_of))]
+    fn write_lone(
+        &mut self,
+        context: u8,
+        column: usize,
+        key: &mut Vec<u32>,
+    ) -> Result<bool, AllocError>
+        requires column { column < alphabet_len (stepping_of self.old).classes }
+        requires lone { IsLone self.old.current column (slice_index self.old.columns.groups.of.items column) context }
+        ensures kept { stepping_of self.new ≡ stepping_of self.old }
+        ensures key { IfOk result (λ goes_on. MatchBool goes_on
+            (IsKeyOf (stepping_of self.old) key.new.items (stepped (stepping_of self.old) column))
+            (is_dead_state (stepped (stepping_of self.old) column) ≡ true)) }
+    {
+        let found = self.lone.copy(context, column, key)?;
+        if found {
+            return Ok(true);
+        }
+        let goes_on = self.write_next(column, key)?;
+        if goes_on {
+            self.lone.keep(context, column, key)?;
+        }
+        Ok(goes_on)
+    }
+
+    /// Writes the key of the state to which a column leads, and tells whether there is one.
+    #[tactic(auto, unfolding(crate::specs::Steppers::stepping_of))]
+    fn write_next(&mut self, column: usize, key: &mut Vec<u32>) -> Result<bool, AllocError>
+        requires { column < alphabet_len (stepping_of self.old).classes }
+        ensures kept { stepping_of self.new ≡ stepping_of self.old }
+        ensures lone { self.new.lone ≡ self.old.lone }
+        ensures key { IfOk result (λ goes_on. MatchBool goes_on
+            (IsKeyOf (stepping_of self.old) key.new.items (stepped (stepping_of self.old) column))
+            (is_dead_state (stepped (stepping_of self.old) column) ≡ true)) }
+    {
         let group = self.columns.groups.of(column);
         let lead = lead_steps(&self.current, &self.leads, self.kind, group);
         self.gathered
             .gather(&self.closures, &self.current.steps, lead, column, group)?;
-        let goes_on = self.lead_in.write_key(
+        self.lead_in.write_key(
             &mut self.closures,
             &self.gathered.targets,
             group,
             &self.gathered.label,
             &mut self.reached,
             key,
-        )?;
-        Ok(if goes_on { Next::State } else { Next::Dead })
+        )
     }
 
     /// Whether two columns surely lead to one state: no assertion tells them apart, and the same rows are led to.
