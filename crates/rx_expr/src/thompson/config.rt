@@ -101,7 +101,7 @@ impl Config {
     }
 
     /// These settings, and those of `later` where it sets any.
-    pub(crate) fn overwrite(&self, later: &Config) -> Config
+    pub fn overwrite(&self, later: &Config) -> Config
         ensures { asked result ≡ overwritten (asked self.now) (asked later.now) }
     {
         Config {
