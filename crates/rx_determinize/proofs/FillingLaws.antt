@@ -21,6 +21,7 @@ use Rattle.rx_determinize.proofs.RowIds.{row_id}
 use Rattle.rx_determinize.proofs.WorkListLaws.{row_stays, old_key, slice_get-append, does}
 use Rattle.rx_determinize.specs.Determinized.{classes_of}
 use Rattle.rx_determinize.proofs.ColumnLaws.{unit_in, unit_column, same_column}
+use Rattle.rx_determinize.proofs.LoneLaws.{lone_over}
 use Rattle.rx_determinize.proofs.CellLaws.{next_more, next_kept, next_set}
 
 -- a state that is entered
@@ -174,6 +175,8 @@ module _ {l : Layout} {place unit id : ℕ} {m : Layout} (set : IsSet l place un
             few_patterns = w.few_patterns;
             table = λ some. limit_kept limits.table (w.table some) (ap (λ n. 4 * (n + length l.starts + 1)) len);
             construction = w.construction;
+            lone =
+                lone_over w.lone (with_next l ((place + 2) * stride l) unit id) refl refl (omega (arith, len));
           }
 
   -- the column that was set

@@ -1,5 +1,7 @@
 -- the loop that enters all states that are reached
 pub mod WorkListLaws
+-- the rows of the states to which the lead-in alone leads
+pub mod LoneLaws
 -- a state that is entered
 pub mod AddingLaws
 -- ids of rows

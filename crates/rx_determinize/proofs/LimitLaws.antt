@@ -1,5 +1,5 @@
 -- What refuses a build, and that nothing does where its table is built.
-use Rattle.std.proofs.Common.{◌≡◌, ℕ, ◌+◌, ◌*◌, ◌^◌, ◌<◌, ◌≤◌, inl, Bool, true, false, Option, Some, None, List, []}
+use Rattle.std.proofs.Common.{◌≡◌, ℕ, ◌+◌, ◌*◌, ◌^◌, ◌<◌, ◌≤◌, inl, Bool, true, false, Option, Some, None, List}
 use Rattle.std.proofs.Common.{length}
 use Rattle.std.proofs.Common.{slice_index, refl, ap, ap₂, sym, ◌∙◌, subst, arith}
 use Rattle.std.proofs.lemmas.List.{length-replicate}
@@ -27,7 +27,7 @@ use Rattle.rx_determinize.specs.Determinized.{IsBegunWith, Settings, build_in, c
 use Rattle.rx_determinize.specs.Building.{HasStates}
 use Rattle.rx_determinize.specs.Filling.{IsEntering, IsStartedOver}
 use Rattle.rx_determinize.specs.Matching.{AreLabels}
-use Rattle.rx_determinize.specs.Working.{IsOver, Keying, Met, SizeLimits, keying, states_of}
+use Rattle.rx_determinize.specs.Working.{none_met, IsOver, Keying, Met, SizeLimits, keying, states_of}
 use Rattle.rx_determinize.proofs.BuiltLaws.{IsBuilt, has_states, reached, rows_count, states_count}
 use Rattle.rx_determinize.proofs.StartLaws.{entering_begun}
 
@@ -88,12 +88,11 @@ module _ {s : Stepping} {nfa : Nfa} {settings : Settings} {byte_classes : Bool} 
       subst AreRows (sym x.begun) (shaped_initial beginning (subst AreClasses same are) few).rows
 
   -- no state was met
-  pub begun_entering : (limits : SizeLimits) (met : Met) → met ≡ record { keys = []; size = 0; patterns = 0 }
-      → AreClasses l.classes → NamesPatterns (length nfa.start_patterns) nfa.rows
-      → IsEntering (keying s l) limits met l 0 0
-  begun_entering limits met none are names =
+  pub begun_entering : (limits : SizeLimits) (met : Met) (columns : ℕ) → met ≡ none_met columns → AreClasses
+      l.classes → NamesPatterns (length nfa.start_patterns) nfa.rows → IsEntering (keying s l) limits met l 0 0
+  begun_entering limits met columns none are names =
       subst (λ (m : Met). IsEntering (keying s l) limits m l 0 0) (sym none)
-      (entering_begun (keying s l) limits beginning l x.begun (begun_rows are names))
+      (entering_begun (keying s l) limits beginning l columns x.begun (begun_rows are names))
 
   -- ---- sizes
 

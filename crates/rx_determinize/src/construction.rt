@@ -7,7 +7,7 @@ ghost use Rattle.rx_base.specs.ByteClasses.{alphabet_len};
 ghost use Rattle.rx_dense.specs.Layouts.{AreRows};
 ghost use Rattle.rx_stepper.specs.Stepping.{unit_of};
 ghost use Rattle.rx_stepper.specs.Steppers.{stepping_of};
-ghost use Rattle.rx_determinize.specs.Working.{IsWorking, IsOver, keying};
+ghost use Rattle.rx_determinize.specs.Working.{IsWorking, IsOver, keying, none_met};
 ghost use Rattle.rx_determinize.specs.Filling.{AreUnits, Grows, IsAnother, IsEntering, IsStepped, IsStepping};
 ghost use Rattle.rx_determinize.specs.Filling.{IsWrittenOver, Suits};
 ghost use Rattle.rx_base.specs.Unit.{unit_number};
@@ -45,7 +45,7 @@ impl Construction {
         classes: &ByteClasses,
         limits: SizeLimits,
     ) -> Result<Construction, AllocError>
-        ensures states { IfOk result (λ c. c.states ≡ record { keys = []; size = 0; patterns = 0 }) }
+        ensures states { IfOk result (λ c. c.states ≡ none_met (alphabet_len classes.now)) }
         ensures limits { IfOk result (λ c. c.limits ≡ limits) }
         ensures units { IfOk result (λ c. AreUnits c.units.items classes.now) }
     {
@@ -54,7 +54,7 @@ impl Construction {
             units.push(unit)?;
         }
         Ok(Construction {
-            states: States::new(alloc),
+            states: States::new(alloc, classes.alphabet_len())?,
             limits,
             units,
             key: Vec::new(alloc),
@@ -63,6 +63,49 @@ impl Construction {
 
     /// The row of the state to which a column leads that isn't a quit byte's.
     fn next_row(
+        &mut self,
+        stepper: &mut Stepper<'_>,
+        dfa: &mut OwnedDFA,
+        column: usize,
+        last: Last,
+    ) -> Result<StateID, BuildError>
+        requires working { IsWorking (keying (stepping_of stepper.old) dfa.old) self.old.limits self.old.states
+            dfa.old }
+        requires rows { AreRows dfa.old }
+        requires suits { Suits (stepping_of stepper.old) self.old.units.items dfa.old }
+        requires reached { IsReached (keying (stepping_of stepper.old) dfa.old).build
+            (stepping_of stepper.old).current }
+        requires column { column < alphabet_len dfa.old.classes }
+        requires goes_on { contains dfa.old.quit (unit_of dfa.old.classes column) ≡ false }
+        requires last { IfSome last.column (λ other. IsStepped (keying (stepping_of stepper.old) dfa.old)
+            self.old.states
+            dfa.old (stepping_of stepper.old) other last.id) }
+        ensures stepped { IfOk result (IsStepped (keying (stepping_of stepper.old) dfa.new) self.new.states dfa.new
+            (stepping_of stepper.old) column) }
+        ensures rows { OnOk result (AreRows dfa.new) }
+        ensures working { OnOk result
+            (IsWorking (keying (stepping_of stepper.old) dfa.new) self.old.limits self.new.states dfa.new) }
+        ensures grows { OnOk result (Grows self.old.states dfa.old self.new.states dfa.new) }
+        ensures rest { OnOk result (IsWrittenOver dfa.old dfa.new) }
+        ensures kept { stepping_of stepper.new ≡ stepping_of stepper.old }
+        ensures limits { self.new.limits ≡ self.old.limits }
+        ensures units { self.new.units ≡ self.old.units }
+        ensures err { IfErr result (λ error.
+            IsOver (keying (stepping_of stepper.old) dfa.old) self.old.limits dfa.old error.kind) }
+    {
+        let Some(context) = stepper.lone_context(column) else {
+            return self.find_row(stepper, dfa, column, last);
+        };
+        if let Some(id) = self.states.lone_row(context, column) {
+            return Ok(id);
+        }
+        let id = self.find_row(stepper, dfa, column, last)?;
+        self.states.keep_lone(context, column, id);
+        Ok(id)
+    }
+
+    /// The row of that state, by its key.
+    fn find_row(
         &mut self,
         stepper: &mut Stepper<'_>,
         dfa: &mut OwnedDFA,

@@ -7,6 +7,7 @@
 
 mod config;
 mod construction;
+mod lone_rows;
 mod matches;
 mod starts;
 mod states;

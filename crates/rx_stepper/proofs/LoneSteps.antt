@@ -13,13 +13,12 @@ use Rattle.rx_stepper.specs.Columns.{AreGroups, asked_of}
 use Rattle.rx_stepper.specs.Fits.{FitsCurrent, FitsLead, Table}
 use Rattle.rx_stepper.specs.Gathering.{Follows, IsLone, matches_in, targets_in}
 use Rattle.rx_stepper.specs.Leads.{lead_of, without}
-use Rattle.rx_stepper.specs.LoneKeys.{FitsLone, IsStateKey, key_in, lone_state, place_of}
+use Rattle.rx_stepper.specs.Stepping.{lone_state}
 use Rattle.rx_stepper.specs.Steps.{IsStep, Stand, goes_on, made, patterns_of, rows_in}
 use Rattle.rx_stepper.specs.Units.{units_of}
 use Rattle.rx_stepper.specs.declared.current.Current.{Current}
 use Rattle.rx_stepper.specs.declared.lead_in.LeadIn.{LeadIn}
 use Rattle.rx_stepper.specs.declared.lead_steps.LeadSteps.{LeadSteps}
-use Rattle.rx_stepper.specs.declared.lone_keys.LoneKeys.{LoneKeys}
 use Rattle.rx_stepper.proofs.ColumnSteps.{group_in, led_within, state_in, unit_in}
 use Rattle.rx_stepper.proofs.Members.{in_nil}
 use Rattle.rx_stepper.proofs.StepLaws.{leads_alone, step_made}
@@ -84,75 +83,8 @@ module _ {t : Table} {lead_in : LeadIn} {leads : List LeadSteps} {current : Curr
       ≡ lone_state t.nfa t.kind t.classes context column
   lone_step = by_state ∙ sym by_lead
 
--- ---- keys that are kept
-
--- places tell columns and contexts apart
-same_place : (context column other place : ℕ) → context < 32 → other < 32 → place_of other place
-    ≡ place_of context column
-    → (other ≡ context) × (place ≡ column)
-same_place context column other place c o e = (omega arith, omega arith)
-
-abbrev IsLoneKey : Nfa → MatchKind → List ℕ → ℕ → ℕ → List ℕ → Type 0
-IsLoneKey nfa kind classes context column key = IsStateKey nfa (lone_state nfa kind classes context column) key
-
-pub record Keeps (old new : LoneKeys) (context column : ℕ) (key : List ℕ) : Type 0 where
-  pub others : (other place : ℕ) → place_of other place ≢ place_of context column
-      → key_in new other place ≡ key_in old other place
-  pub here : (key_in new context column ≡ key) ⊎ (key_in new context column ≡ key_in old context column)
-
-module _ {nfa : Nfa} {kind : MatchKind} {classes : List ℕ} {old new : LoneKeys} {context column : ℕ} {key : List ℕ}
-    (keeps : Keeps old new context column key) (fits : FitsLone nfa kind classes old) (small : context < 32)
-    (is : IsStateKey nfa (lone_state nfa kind classes context column) key) where
-  as_before : (other place : ℕ) → other < 32 → place < length (units_of classes) → 0 < length (key_in new other place)
-      → key_in new other place ≡ key_in old other place
-      → IsLoneKey nfa kind classes other place (key_in new other place)
-  as_before other place o p some e =
-      subst (IsLoneKey nfa kind classes other place) (sym e)
-      (fits.keys other place o p (subst (λ (l : List ℕ). 0 < length l) e some))
-
-  apart : (other place : ℕ) → (place_of other place == place_of context column) ≡ false
-      → place_of other place ≢ place_of context column
-  apart other place e = λ s. true≢false (sym (eq-eqb (place_of other place) (place_of context column) s) ∙ e)
-
-  at_place : column < length (units_of classes) → 0 < length (key_in new context column)
-      → IsLoneKey nfa kind classes context column (key_in new context column)
-  at_place p some =
-      ⊎_elim
-      (λ (k : key_in new context column ≡ key). subst (IsLoneKey nfa kind classes context column) (sym k) is)
-      (λ (k : key_in new context column ≡ key_in old context column). as_before context column small p some k)
-      keeps.here
-
-  pub lone_kept : FitsLone nfa kind classes new
-  lone_kept = record {
-    keys = λ other place o p some.
-        by_test (place_of other place == place_of context column)
-        (λ e. let same =
-        same_place context column other place small o
-        (eqb-true (place_of other place) (place_of context column) e) in
-        subst (λ x. IsLoneKey nfa kind classes x place (key_in new x place)) (sym same.0)
-        (subst (λ y. IsLoneKey nfa kind classes context y (key_in new context y)) (sym same.1)
-        (at_place (subst (λ y. y < length (units_of classes)) same.1 p)
-        (subst (λ y. 0 < length (key_in new context y)) same.1
-        (subst (λ x. 0 < length (key_in new x place)) same.0 some)))))
-        (λ e. as_before other place o p some (keeps.others other place (apart other place e)));
-  }
-
--- none was found
-pub none_lone : (nfa : Nfa) (kind : MatchKind) (classes : List ℕ) (lone : LoneKeys)
-    → ((context column : ℕ) → key_in lone context column ≡ []) → FitsLone nfa kind classes lone
-none_lone nfa kind classes lone none = record {
-  keys = λ context column c h some. absurd (omega (arith, some, ap length (none context column)));
-}
-
 pub zero_by : (n : ℕ) → (n == 0) ≡ true → n ≡ 0
 zero_by n e = eqb-true n 0 e
-
-pub if_lone : (current : Current) (column group : ℕ) (o : Option ℕ) → current.led_in ≡ o
-    → targets_in current.steps column ≡ [] → matches_in current.steps group ≡ []
-    → IfSome o (IsLone current column group)
-if_lone current column group None e targets matches = tt
-if_lone current column group (Some context) e targets matches = record
-    { led_in = e; targets = targets; matches = matches }
 
 -- what is known of the unit read last is one of 32 numbers
 pub lone_small : {t : Table} {lead_in : LeadIn} {leads : List LeadSteps} {current : Current} {column group context : ℕ}

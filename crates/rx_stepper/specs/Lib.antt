@@ -16,5 +16,3 @@ pub mod Steps
 pub mod Gathering
 -- how the parts of a stepper fit
 pub mod Fits
--- the keys of states to which the lead-in alone leads
-pub mod LoneKeys

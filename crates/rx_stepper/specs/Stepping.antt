@@ -10,7 +10,10 @@ use Rattle.rx_spec.specs.Sizes.{state_size}
 use Rattle.rx_spec.specs.States.{State, step}
 use Rattle.rx_spec.specs.declared.MatchKind.{MatchKind}
 use Rattle.rx_base.specs.ByteClasses.{ends_of}
+use Rattle.rx_base.specs.FactBits.{facts_with}
 use Rattle.rx_stepper.specs.Keys.{label_of, size_of}
+use Rattle.rx_stepper.specs.Leads.{lead_of}
+use Rattle.rx_stepper.specs.Steps.{rows_in}
 use Rattle.rx_stepper.specs.declared.next.Next.{Next}
 
 pub record Stepping : Type 0 where
@@ -43,6 +46,11 @@ unit_of classes column = slice_index (representatives (ends_of classes) ++ eoi �
 -- the state after the unit of a column is read
 abbrev pub stepped : Stepping → ℕ → State
 stepped s column = step s.nfa s.kind s.current (unit_of s.classes column)
+
+-- the state that follows the lead-in's rows by themselves, where this is known of the unit read last
+abbrev pub lone_state : Nfa → MatchKind → (classes : List ℕ) → (context column : ℕ) → State
+lone_state nfa kind classes context column =
+    step nfa kind (rows_in (lead_of nfa) (facts_with context)) (unit_of classes column)
 
 -- a key stands for a state that isn't dead
 pub record IsKeyOf (s : Stepping) (key : List ℕ) (state : State) : Type 0 where

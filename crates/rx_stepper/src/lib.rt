@@ -17,7 +17,6 @@ mod groups;
 mod keys;
 mod lead_in;
 mod lead_steps;
-mod lone_keys;
 mod matches;
 mod next;
 mod reading;

@@ -8,10 +8,9 @@ ghost use Rattle.rx_spec.specs.States.{start_state};
 ghost use Rattle.rx_base.specs.ByteClasses.{alphabet_len};
 ghost use Rattle.rx_expr.specs.Nfa.{meaning};
 ghost use Rattle.rx_stepper.specs.Fits.{Fits, FitsCurrent, FitsLead, table_of};
-ghost use Rattle.rx_stepper.specs.Gathering.{IsLeadOf, IsLone};
+ghost use Rattle.rx_stepper.specs.Gathering.{IsLeadOf};
 ghost use Rattle.rx_base.specs.FactBits.{bits_of, facts_with};
 ghost use Rattle.rx_stepper.specs.Keys.{label_of, led_of, size_of};
-ghost use Rattle.rx_stepper.specs.LoneKeys.{FitsLone};
 
 use crate::closures::Closures;
 use crate::columns::Columns;
@@ -19,7 +18,6 @@ use crate::current::Current;
 use crate::gathered::Gathered;
 use crate::lead_in::LeadIn;
 use crate::lead_steps::LeadSteps;
-use crate::lone_keys::LoneKeys;
 use crate::matches::goes_on;
 use crate::steps::Steps;
 use crate::{Next, keys};
@@ -39,14 +37,12 @@ pub struct Stepper<'n> {
     lead_in: LeadIn,
     /// What the lead-in's rows need for their steps, for each number of what is known of the unit read last.
     leads: Vec<LeadSteps>,
-    lone: LoneKeys,
     current: Current,
     gathered: Gathered,
     /// Room for a closure.
     reached: Vec<StateID>,
     ghost fits: { Fits (meaning closures.nfa.now) classes columns },
     ghost fits_lead: { FitsLead (table_of (meaning closures.nfa.now) kind classes columns) lead_in leads.items },
-    ghost fits_lone: { FitsLone (meaning closures.nfa.now) kind classes lone },
     ghost fits_current: { FitsCurrent (table_of (meaning closures.nfa.now) kind classes columns) leads.items current },
     ghost room: { length (meaning closures.nfa.now).rows ≤ vec_capacity reached },
 }
@@ -54,7 +50,7 @@ pub struct Stepper<'n> {
 impl<'n> Stepper<'n> {
     ghost use Rattle.rx_stepper.specs.Steppers.{stepping_of};
     ghost use Rattle.rx_stepper.specs.declared.lead_steps.LeadSteps.{LeadSteps};
-    ghost use Rattle.rx_stepper.specs.Stepping.{HasOneKeyEach, IsKeyOf, IsNext, SpellStates, stepped};
+    ghost use Rattle.rx_stepper.specs.Stepping.{HasOneKeyEach, IsKeyOf, IsNext, SpellStates, lone_state, stepped};
 
     /// What steps the states of an NFA by the columns of these classes.
     #[tactic(auto, unfolding(crate::specs::Steppers::stepping_of))]
@@ -84,7 +80,6 @@ impl<'n> Stepper<'n> {
             classes: *classes,
             lead_in,
             leads,
-            lone: LoneKeys::new(alloc),
             current,
             gathered: Gathered::new(alloc),
             reached,
@@ -185,20 +180,20 @@ impl<'n> Stepper<'n> {
                 return Ok(Next::AsLast);
             }
         }
-        let goes_on = match self.lone_context(column) {
-            Some(context) => self.write_lone(context, column, key)?,
-            None => self.write_next(column, key)?,
-        };
+        let goes_on = self.write_next(column, key)?;
         Ok(if goes_on { Next::State } else { Next::Dead })
     }
 
-    /// The number of what is known of the unit read last, where the lead-in's rows alone go on by a column.
-    fn lone_context(&self, column: usize) -> Option<u8>
-        requires column { column < length self.now.current.steps.targets.items }
-        requires group { column < length self.now.columns.groups.of.items }
-        ensures { let group = slice_index self.now.columns.groups.of.items column in
-            IfSome result (IsLone self.now.current column group) }
+    /// The number of what is known of the unit read last, where the lead-in's rows alone go on by a column: then the
+    /// column leads where it leads each state beside which this is known and of whose own rows none goes on by it.
+    #[tactic(auto, unfolding(crate::specs::Steppers::stepping_of))]
+    pub fn lone_context(&self, column: usize) -> Option<u8>
+        requires column { column < alphabet_len (stepping_of self.now).classes }
+        ensures bound { IfSome result (λ context. context < 32) }
+        ensures alone { let s = stepping_of self.now in IfSome result (λ context. stepped s column
+            ≡ lone_state s.nfa s.kind s.classes context column) }
     {
+        let context = self.current.led_in?;
         let own = &self.current.steps;
         if !own.targets[column].is_empty() {
             return None;
@@ -207,34 +202,7 @@ impl<'n> Stepper<'n> {
         if !own.matches[group as usize].is_empty() {
             return None;
         }
-        self.current.led_in
-    }
-
-    /// Writes the key of the state to which a column leads by which the lead-in's rows alone go on, and tells whether
-    /// there is one.
-    #[tactic(auto, unfolding(crate::specs::Steppers::stepping_of))]
-    fn write_lone(
-        &mut self,
-        context: u8,
-        column: usize,
-        key: &mut Vec<u32>,
-    ) -> Result<bool, AllocError>
-        requires column { column < alphabet_len (stepping_of self.old).classes }
-        requires lone { IsLone self.old.current column (slice_index self.old.columns.groups.of.items column) context }
-        ensures kept { stepping_of self.new ≡ stepping_of self.old }
-        ensures key { IfOk result (λ goes_on. MatchBool goes_on
-            (IsKeyOf (stepping_of self.old) key.new.items (stepped (stepping_of self.old) column))
-            (is_dead_state (stepped (stepping_of self.old) column) ≡ true)) }
-    {
-        let found = self.lone.copy(context, column, key)?;
-        if found {
-            return Ok(true);
-        }
-        let goes_on = self.write_next(column, key)?;
-        if goes_on {
-            self.lone.keep(context, column, key)?;
-        }
-        Ok(goes_on)
+        Some(context)
     }
 
     /// Writes the key of the state to which a column leads, and tells whether there is one.
@@ -242,7 +210,6 @@ impl<'n> Stepper<'n> {
     fn write_next(&mut self, column: usize, key: &mut Vec<u32>) -> Result<bool, AllocError>
         requires { column < alphabet_len (stepping_of self.old).classes }
         ensures kept { stepping_of self.new ≡ stepping_of self.old }
-        ensures lone { self.new.lone ≡ self.old.lone }
         ensures key { IfOk result (λ goes_on. MatchBool goes_on
             (IsKeyOf (stepping_of self.old) key.new.items (stepped (stepping_of self.old) column))
             (is_dead_state (stepped (stepping_of self.old) column) ≡ true)) }

@@ -174,6 +174,45 @@ fn literals_step_as_plain_states_do(rt: HostRuntime) {
     assert!(rt; agrees(alloc, &[], "ab") == Some(true));
 }
 
+/// Whether the lead-in alone goes on behind `a` by every byte but `b`.
+fn leads_alone(alloc: Global, nfa: &NFA) -> Result<bool, AllocError> {
+    let classes = nfa.byte_class_set().byte_classes();
+    let [a, b, other] = [b'a', b'b', b'x'].map(|byte| classes.get(byte) as usize);
+    let columns = classes.alphabet_len();
+    if a >= columns || b >= columns || other >= columns {
+        return Ok(false);
+    }
+    let mut stepper = Stepper::new(alloc, nfa, MatchKind::LeftmostFirst, &classes)?;
+    let mut start = Vec::new(alloc);
+    if !stepper.start(nfa.start_unanchored(), Start::Text, &mut start)? {
+        return Ok(false);
+    }
+    stepper.begin(&start)?;
+    let mut key = Vec::new(alloc);
+    match stepper.next(a, None, &mut key)? {
+        Next::State => {
+            stepper.begin(&key)?;
+            let alone = [a, b, other].map(|column| stepper.lone_context(column));
+            Ok(alone == [Some(0), None, Some(0)])
+        }
+        _ => Ok(false),
+    }
+}
+
+#[test]
+fn the_lead_in_goes_on_alone(rt: HostRuntime) {
+    let alloc = rt.alloc();
+    let exprs = [
+        literal(alloc, "abab").expect(&rt, MEMORY),
+        literal(alloc, "ab").expect(&rt, MEMORY),
+    ];
+    let nfa = Compiler::new()
+        .build_many(alloc, &exprs)
+        .ok()
+        .expect(&rt, MEMORY);
+    assert!(rt; leads_alone(alloc, &nfa) == Ok(true));
+}
+
 #[test]
 fn assertions_step_as_plain_states_do(rt: HostRuntime) {
     let alloc = rt.alloc();

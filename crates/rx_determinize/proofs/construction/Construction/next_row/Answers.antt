@@ -1,64 +1,33 @@
-use Rattle.std.proofs.Common.{List, ℕ, sym, subst}
-use Rattle.std.proofs.lemmas.Result.{IfOk-weaker}
-use Rattle.rx_stepper.specs.Stepping.{IsKeyOf, IsNext, stepped}
+use Rattle.std.proofs.Common.{ℕ, List, ◌<◌, ap, sym, ◌∙◌, subst, arith}
+use Rattle.rx_base.specs.ByteClasses.{alphabet_len}
+use Rattle.rx_base.proofs.Classes.{alphabet_len-le}
 use Rattle.rx_stepper.specs.Steppers.{stepping_of}
-use Rattle.rx_determinize.specs.Working.{keying}
-use Rattle.rx_determinize.specs.Adding.{Adds, CanAdd}
-use Rattle.rx_determinize.specs.Filling.{Grows, IsWrittenOver}
-use Rattle.rx_determinize.proofs.FillingLaws.{grows_by}
-use Rattle.rx_determinize.proofs.SteppingLaws.{adds_over}
-use Rattle.rx_determinize.proofs.NextLaws.{both_ok, key_may}
-use Rattle.rx_determinize.proofs.NextLaws.{stepped_by, stepped_reached, working_over}
+use Rattle.rx_dense.specs.Layouts.{Layout}
+use Rattle.rx_determinize.specs.Working.{IsWorking, Met, keying}
+use Rattle.rx_determinize.proofs.LoneLaws.{lone_stepped, stepped_lone, working_lone}
 use Rattle.rx_determinize.proofs.construction.Construction.next_row.Goals as goal
 
-pub returns-in-State-clause-working : goal.returns-in-State-clause-working
-returns-in-State-clause-working c =
-    let s = stepping_of c.args.stepper.now in
-    let l = c.args.dfa.now in
+pub lone_context-requires : goal.lone_context-requires
+lone_context-requires c = record {
+  column =
+      subst (λ (cs : List ℕ). c.args.column < alphabet_len cs) (sym c.requires.suits.classes) c.requires.column;
+}
+
+pub lone_row-requires : goal.lone_row-requires
+lone_row-requires c = omega (arith, c.requires.column, alphabet_len-le c.args.dfa.now.classes c.requires.rows.classes)
+
+pub returns-in-Some-lone_row-clause-stepped : goal.returns-in-Some-lone_row-clause-stepped
+returns-in-Some-lone_row-clause-stepped c =
     let r = c.requires in
-    let key : IsKeyOf s c.next.new.key.items (stepped s c.args.column) =
-    subst (IsNext s c.args.column c.args.last.column c.next.new.key.items) c.in-State.is c.in_ok-next.ensures.next in
-    let at : IsKeyOf s c.deref.result.now (stepped s c.args.column) =
-    subst (λ (k : List ℕ). IsKeyOf s k (stepped s c.args.column)) (sym c.deref.ensures.value) key in
-    let may : CanAdd (keying s l) c.args.self.now.limits c.args.self.now.states l c.deref.result.now =
-    key_may r.suits r.working at
-    (stepped_reached s l r.rows r.suits.classes r.reached c.args.column r.column r.goes_on at) in
-    both_ok c.add.result (λ id adds w. working_over s l c.add.new.dfa (adds_over adds) w) c.add.ensures.ok
-    (c.add.ensures.working (keying s l) may)
+    let lone = r.working.lone c.in-Some.context c.args.column c.in-Some-lone_row.id c.in-Some.ensures.bound
+    (sym c.lone_row.ensures ∙ c.in-Some-lone_row.is) in
+    lone_stepped r.suits.classes c.in-Some.ensures.alone r.column lone
 
-pub returns-in-State-clause-err : goal.returns-in-State-clause-err
-returns-in-State-clause-err c =
+pub returns-clause-working : goal.returns-clause-working
+returns-clause-working c =
     let s = stepping_of c.args.stepper.now in
-    let l = c.args.dfa.now in
-    let r = c.requires in
-    let key : IsKeyOf s c.next.new.key.items (stepped s c.args.column) =
-    subst (IsNext s c.args.column c.args.last.column c.next.new.key.items) c.in-State.is c.in_ok-next.ensures.next in
-    let at : IsKeyOf s c.deref.result.now (stepped s c.args.column) =
-    subst (λ (k : List ℕ). IsKeyOf s k (stepped s c.args.column)) (sym c.deref.ensures.value) key in
-    let may : CanAdd (keying s l) c.args.self.now.limits c.args.self.now.states l c.deref.result.now =
-    key_may r.suits r.working at
-    (stepped_reached s l r.rows r.suits.classes r.reached c.args.column r.column r.goes_on at) in
-    c.add.ensures.err (keying s l) may
-
-pub returns-in-State-clause-stepped : goal.returns-in-State-clause-stepped
-returns-in-State-clause-stepped c =
-    let s = stepping_of c.args.stepper.now in
-    let key : IsKeyOf s c.next.new.key.items (stepped s c.args.column) =
-    subst (IsNext s c.args.column c.args.last.column c.next.new.key.items) c.in-State.is c.in_ok-next.ensures.next in
-    let at : IsKeyOf s c.deref.result.now (stepped s c.args.column) =
-    subst (λ (k : List ℕ). IsKeyOf s k (stepped s c.args.column)) (sym c.deref.ensures.value) key in
-    both_ok c.add.result (λ id adds is_row. stepped_by s c.requires.rows c.args.column c.requires.column at adds is_row)
-    c.add.ensures.ok c.add.ensures.is_row
-
-pub returns-in-State-clause-grows : goal.returns-in-State-clause-grows
-returns-in-State-clause-grows c =
-    IfOk-weaker c.add.result (Adds c.args.self.now.states c.args.dfa.now c.deref.result.now c.add.new.self
-    c.add.new.dfa)
-    (λ _. Grows c.args.self.now.states c.args.dfa.now c.add.new.self c.add.new.dfa)
-    (λ id adds. grows_by c.requires.rows adds) c.add.ensures.ok
-
-pub returns-in-State-clause-rest : goal.returns-in-State-clause-rest
-returns-in-State-clause-rest c =
-    IfOk-weaker c.add.result (Adds c.args.self.now.states c.args.dfa.now c.deref.result.now c.add.new.self
-    c.add.new.dfa)
-    (λ _. IsWrittenOver c.args.dfa.now c.add.new.dfa) (λ id adds. adds_over adds) c.add.ensures.ok
+    let m = c.find_row-2.new.dfa in
+    let found = c.in_ok-id.ensures in
+    let classes = c.requires.suits.classes ∙ sym (ap (λ (n : Layout). n.classes) found.rest) in
+    subst (λ (met : Met). IsWorking (keying s m) c.args.self.now.limits met m) (sym c.keep_lone.ensures)
+    (working_lone c.in-Some.ensures.bound (stepped_lone classes c.in-Some.ensures.alone found.stepped) found.working)

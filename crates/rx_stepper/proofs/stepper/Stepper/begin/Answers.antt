@@ -3,7 +3,6 @@ use Rattle.rx_spec.specs.Nfas.{Nfa}
 use Rattle.rx_expr.specs.Nfa.{meaning}
 use Rattle.rx_expr.specs.declared.thompson.nfa.NFA.{NFA}
 use Rattle.rx_stepper.specs.Fits.{Fits, FitsCurrent, FitsLead, table_of}
-use Rattle.rx_stepper.specs.LoneKeys.{FitsLone}
 use Rattle.rx_stepper.specs.Keys.{are_closed, own_of}
 use Rattle.rx_stepper.specs.Leads.{lead_of}
 use Rattle.rx_stepper.specs.Steppers.{stepping_of}
@@ -54,7 +53,6 @@ invariant_of-self c =
     record {
       fits = subst (λ (n : NFA). Fits (meaning n) self.classes self.columns) e self.fits;
       fits_lead = subst (λ (n : NFA). FitsLead (table n) self.lead_in self.leads.items) e self.fits_lead;
-      fits_lone = subst (λ (n : NFA). FitsLone (meaning n) self.kind self.classes self.lone) e self.fits_lone;
       fits_current = subst (λ (n : NFA). FitsCurrent (table n) self.leads.items new) e current;
       room = omega (arith, self.room, begun.room, ap (λ (n : NFA). length (meaning n).rows) e);
     }
@@ -73,7 +71,6 @@ invariant_of-self-in-Err c =
     record {
       fits = subst (λ (n : NFA). Fits (meaning n) self.classes self.columns) e self.fits;
       fits_lead = subst (λ (n : NFA). FitsLead (table n) self.lead_in self.leads.items) e self.fits_lead;
-      fits_lone = subst (λ (n : NFA). FitsLone (meaning n) self.kind self.classes self.lone) e self.fits_lone;
       fits_current = subst (λ (n : NFA). FitsCurrent (table n) self.leads.items new) e current;
       room = omega (arith, self.room, begun.room, ap (λ (n : NFA). length (meaning n).rows) e);
     }

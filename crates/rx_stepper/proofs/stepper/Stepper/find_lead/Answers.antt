@@ -4,7 +4,6 @@ use Rattle.rx_base.specs.FactBits.{bits_of}
 use Rattle.rx_expr.specs.Nfa.{meaning}
 use Rattle.rx_expr.specs.declared.thompson.nfa.NFA.{NFA}
 use Rattle.rx_stepper.specs.Fits.{Fits, FitsCurrent, FitsLead, table_of}
-use Rattle.rx_stepper.specs.LoneKeys.{FitsLone}
 use Rattle.rx_stepper.specs.Keys.{are_closed}
 use Rattle.rx_stepper.specs.Steppers.{stepping_of}
 use Rattle.rx_stepper.specs.Steps.{AreSteps, rows_in}
@@ -77,7 +76,6 @@ invariant_of-self-2 c =
         columns = lead.columns;
         steps = lead.steps;
       };
-      fits_lone = subst (λ (n : NFA). FitsLone (meaning n) self.kind self.classes self.lone) e self.fits_lone;
       fits_current =
           subst (λ (n : NFA). FitsCurrent (table n) (set self.leads.items i new) self.current) e
           (current_set finds there self.fits_current);

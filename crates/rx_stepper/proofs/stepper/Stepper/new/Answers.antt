@@ -4,12 +4,10 @@ use Rattle.std.specs.Prelude.{All}
 use Rattle.rx_expr.specs.Nfa.{meaning, row_of}
 use Rattle.rx_expr.specs.declared.thompson.nfa.NFA.{NFA}
 use Rattle.rx_stepper.specs.Fits.{Fits, FitsCurrent, FitsLead, table_of}
-use Rattle.rx_stepper.specs.LoneKeys.{FitsLone}
 use Rattle.rx_stepper.specs.LeadIns.{IsLeadIn}
 use Rattle.rx_stepper.specs.Leads.{lead_of}
 use Rattle.rx_stepper.specs.Steppers.{stepping_of}
 use Rattle.rx_stepper.proofs.KeyLaws.{ids_spelled, one_key_each, spelled_size, spelled_small, spells}
-use Rattle.rx_stepper.proofs.LoneSteps.{none_lone}
 use Rattle.rx_stepper.proofs.StepperParts.{dead_current, no_leads}
 use Rattle.rx_stepper.proofs.UnitCounts.{units_counted}
 use Rattle.rx_stepper.proofs.stepper.Stepper.new.Goals as goal
@@ -42,8 +40,6 @@ invariant_of-result c =
     record {
       fits = subst (λ (n : NFA). Fits (meaning n) classes columns) (sym same) fits;
       fits_lead = subst (λ (n : NFA). FitsLead (table n) c.in_ok-lead_in.lead_in leads) (sym same) fits_lead;
-      fits_lone = subst (λ (n : NFA). FitsLone (meaning n) c.args.kind classes c.new-5.result) (sym same)
-          (none_lone (meaning nfa) c.args.kind classes c.new-5.result c.new-5.ensures);
       fits_current = subst (λ (n : NFA). FitsCurrent (table n) leads c.in_ok-current.current) (sym same) fits_current;
       room = omega (
         arith,

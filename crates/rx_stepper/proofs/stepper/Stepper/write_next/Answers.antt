@@ -6,7 +6,6 @@ use Rattle.rx_base.specs.FactBits.{bits_of, facts_with}
 use Rattle.rx_expr.specs.Nfa.{meaning}
 use Rattle.rx_expr.specs.declared.thompson.nfa.NFA.{NFA}
 use Rattle.rx_stepper.specs.Fits.{Fits, FitsCurrent, FitsLead, table_of}
-use Rattle.rx_stepper.specs.LoneKeys.{FitsLone}
 use Rattle.rx_stepper.specs.Gathering.{IsLeadOf}
 use Rattle.rx_stepper.specs.Steppers.{stepping_of}
 use Rattle.rx_stepper.specs.Units.{units_of}
@@ -73,7 +72,6 @@ invariant_of-self-2 c =
     record {
       fits = subst (λ (n : NFA). Fits (meaning n) self.classes self.columns) e self.fits;
       fits_lead = subst (λ (n : NFA). FitsLead (table n) self.lead_in self.leads.items) e self.fits_lead;
-      fits_lone = subst (λ (n : NFA). FitsLone (meaning n) self.kind self.classes self.lone) e self.fits_lone;
       fits_current = subst (λ (n : NFA). FitsCurrent (table n) self.leads.items self.current) e self.fits_current;
       room = omega (arith, self.room, c.write_key.ensures.room, ap (λ (n : NFA). length (meaning n).rows) e);
     }
