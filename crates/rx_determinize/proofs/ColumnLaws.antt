@@ -1,12 +1,13 @@
 -- The columns of a table and the units that stand for them.
-use Rattle.std.proofs.Common.{◌≡◌, ℕ, ◌+◌, ◌<◌, ◌≤◌, Bool, false, List, [], ◌∷◌, ◌++◌, length, get_or, ap, sym, ◌∙◌}
+use Rattle.std.proofs.Common.{◌≡◌, ℕ, ◌+◌, ◌<◌, ◌≤◌, Bool, false, List, [], ◌∷◌, ◌++◌, length, get_or, refl, ap, sym, ◌∙◌}
 use Rattle.std.proofs.Common.{arith, ⊎_elim, eqb, cond, map, append_assoc}
 use Rattle.std.proofs.lemmas.Bool.{cases_lt, cases_eq}
 use Rattle.std.proofs.lemmas.Bool.Decides.{nat_tests}
 use Rattle.std.proofs.lemmas.List.{get_or-map, get_or_append_left, get_or_push, length-map, length_push, map-append}
 use Rattle.std.proofs.lemmas.List.FromFn.{get_or-map-range_with_len}
-use Rattle.std.specs.Prelude.{slice_index}
-use Rattle.rx_spec.specs.Bytes.{eoi}
+use Rattle.std.proofs.lemmas.Nat.Bits.{bit_at-zero}
+use Rattle.std.specs.Prelude.{slice_index, nat_lt, true, ◌&&◌, ◌==◌}
+use Rattle.rx_spec.specs.Bytes.{contains, eoi}
 use Rattle.rx_spec.specs.Builds.{Build, Node, next_node}
 use Rattle.rx_spec.specs.Classes.{class_by, column_by, ends_class, representatives}
 use Rattle.rx_spec.specs.Nfas.{Nfa}
@@ -89,6 +90,14 @@ pub unit_is : (units : List Unit) (classes : List ℕ) {column : ℕ} {unit : Un
 unit_is units classes {column} {unit} is low here =
     ap unit_number here ∙ sym (get_or-map unit_number units column unit 0 low)
     ∙ ap (λ (us : List ℕ). slice_index us column) is
+
+-- nothing is in the set of no bytes
+pub in_none : (unit : ℕ) → contains 0 unit ≡ false
+in_none unit = rw (bit_at-zero unit) (none (nat_lt unit 256))
+  where
+    none : (b : Bool) → (b && (0 == 1)) ≡ false
+    none true = refl
+    none false = refl
 
 -- the column of a table with an NFA's classes
 pub column_is : (l : Layout) (nfa : Nfa) (quit : ℕ) (byte_classes : Bool) → l.classes ≡ classes_of nfa quit byte_classes

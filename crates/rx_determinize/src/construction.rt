@@ -16,7 +16,7 @@ use crate::states::{SizeLimits, States, row_id};
 use rx_base::{ByteClasses, StateID, Unit};
 use rx_build_error::BuildError;
 use rx_dense::OwnedDFA;
-use rx_stepper::{Next, Stepper};
+use rx_stepper::{Going, Next, Stepper};
 use std::alloc::{AllocError, Global};
 
 /// What is kept from one state to the next.
@@ -93,8 +93,10 @@ impl Construction {
         ensures err { IfErr result (λ error.
             IsOver (keying (stepping_of stepper.old) dfa.old) self.old.limits dfa.old error.kind) }
     {
-        let Some(context) = stepper.lone_context(column) else {
-            return self.find_row(stepper, dfa, column, last);
+        let context = match stepper.going(column) {
+            Going::Nothing => return Ok(StateID::ZERO),
+            Going::Own => return self.find_row(stepper, dfa, column, last),
+            Going::LeadIn(context) => context,
         };
         if let Some(id) = self.states.lone_row(context, column) {
             return Ok(id);
@@ -241,8 +243,12 @@ impl Construction {
 fn is_quit(dfa: &OwnedDFA, unit: Unit) -> bool
     ensures { result ≡ contains dfa.now.quit (unit_number unit) }
 {
+    let quits = dfa.quitset();
+    if quits.is_empty() {
+        return false;
+    }
     match unit {
-        Unit::Byte(byte) => dfa.quitset().contains(byte),
+        Unit::Byte(byte) => quits.contains(byte),
         Unit::Eoi => false,
     }
 }

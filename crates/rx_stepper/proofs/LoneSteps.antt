@@ -1,11 +1,13 @@
 -- A column by which the lead-in's rows alone go on leads where it leads these by themselves.
 use Rattle.std.proofs.Common.{◌≡◌, ◌≢◌, ℕ, zero, suc, ◌<◌, ◌⊎◌, ◌++◌, ◌==◌, true, false, List, []}
 use Rattle.std.proofs.Common.{◌∷◌, length, Option, None, Some, refl, ap, ap₂, sym, ◌∙◌, subst, arith, true≢false}
-use Rattle.std.proofs.Common.{⊎_elim}
+use Rattle.std.proofs.Common.{inl}
 use Rattle.std.proofs.lemmas.Bool.{eqb-true, eq-eqb}
 use Rattle.std.specs.Prelude.{IfSome, slice_get}
+use Rattle.rx_spec.specs.Builds.{is_dead_state}
+use Rattle.rx_spec.specs.Contexts.{Facts}
 use Rattle.rx_spec.specs.Nfas.{Nfa}
-use Rattle.rx_spec.specs.States.{step}
+use Rattle.rx_spec.specs.States.{fresh, step}
 use Rattle.rx_spec.specs.declared.MatchKind.{MatchKind}
 use Rattle.rx_base.specs.FactBits.{facts_with}
 use Rattle.rx_lemmas.proofs.Firsts.{by_test}
@@ -19,7 +21,7 @@ use Rattle.rx_stepper.specs.Units.{units_of}
 use Rattle.rx_stepper.specs.declared.current.Current.{Current}
 use Rattle.rx_stepper.specs.declared.lead_in.LeadIn.{LeadIn}
 use Rattle.rx_stepper.specs.declared.lead_steps.LeadSteps.{LeadSteps}
-use Rattle.rx_stepper.proofs.ColumnSteps.{group_in, led_within, state_in, unit_in}
+use Rattle.rx_stepper.proofs.ColumnSteps.{column_made, group_in, led_within, state_in, unit_in}
 use Rattle.rx_stepper.proofs.Members.{in_nil}
 use Rattle.rx_stepper.proofs.StepLaws.{leads_alone, step_made}
 use Rattle.rx_stepper.proofs.StepperParts.{behind}
@@ -93,3 +95,20 @@ pub lone_small : {t : Table} {lead_in : LeadIn} {leads : List LeadSteps} {curren
 lone_small {leads = leads} groups fits_lead fits lone =
     let within = subst (λ o. IfSome o (λ c. c < length leads)) lone.led_in (led_within groups fits_lead fits) in
     omega (arith, within, fits_lead.len)
+
+-- where neither rows of its own nor the lead-in's go on, a state leads to the dead state
+made_none : (nfa : Nfa) (asked : Facts) → is_dead_state (made nfa [] asked []) ≡ true
+unfolding fresh
+made_none nfa asked = refl
+
+module _ {t : Table} {lead_in : LeadIn} {leads : List LeadSteps} {current : Current}
+    (groups : AreGroups t.nfa (units_of t.classes) t.columns.groups.of.items) (fits_lead : FitsLead t lead_in leads)
+    (fits : FitsCurrent t leads current) where
+  pub dead_step : (column : ℕ) → column < length (units_of t.classes) → current.led_in ≡ None
+      → targets_in current.steps column ≡ [] → matches_in current.steps (group_in t column) ≡ []
+      → is_dead_state (step t.nfa t.kind (state_in t current) (unit_in t column)) ≡ true
+  dead_step column h none targets matches =
+      let facts = facts_with (group_in t column) in
+      let made_of = λ (a m : List ℕ). made t.nfa (a ++ []) facts (patterns_of t.nfa.rows (m ++ [])) in
+      ap is_dead_state (column_made groups fits_lead fits column h None (inl none) ∙ ap₂ made_of targets matches)
+      ∙ made_none t.nfa facts

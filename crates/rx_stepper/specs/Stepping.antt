@@ -14,6 +14,7 @@ use Rattle.rx_base.specs.FactBits.{facts_with}
 use Rattle.rx_stepper.specs.Keys.{label_of, size_of}
 use Rattle.rx_stepper.specs.Leads.{lead_of}
 use Rattle.rx_stepper.specs.Steps.{rows_in}
+use Rattle.rx_stepper.specs.declared.going.Going.{Going}
 use Rattle.rx_stepper.specs.declared.next.Next.{Next}
 
 pub record Stepping : Type 0 where
@@ -51,6 +52,13 @@ stepped s column = step s.nfa s.kind s.current (unit_of s.classes column)
 abbrev pub lone_state : Nfa → MatchKind → (classes : List ℕ) → (context column : ℕ) → State
 lone_state nfa kind classes context column =
     step nfa kind (rows_in (lead_of nfa) (facts_with context)) (unit_of classes column)
+
+-- By which rows a column leads: by none, by the lead-in's alone, or by rows of the state's own.
+abbrev pub IsGoing : Stepping → (column : ℕ) → Going → Type 0
+IsGoing s column Going.Nothing = is_dead_state (stepped s column) ≡ true
+IsGoing s column (Going.LeadIn context) =
+    (context < 32) × (stepped s column ≡ lone_state s.nfa s.kind s.classes context column)
+IsGoing s column Going.Own = Unit {0}
 
 -- a key stands for a state that isn't dead
 pub record IsKeyOf (s : Stepping) (key : List ℕ) (state : State) : Type 0 where

@@ -13,6 +13,7 @@ mod column_span;
 mod columns;
 mod current;
 mod gathered;
+mod going;
 mod groups;
 mod keys;
 mod lead_in;
@@ -26,5 +27,6 @@ mod steps;
 mod targets;
 mod thin_row;
 
+pub use going::Going;
 pub use next::Next;
 pub use stepper::Stepper;

@@ -20,7 +20,7 @@ use crate::lead_in::LeadIn;
 use crate::lead_steps::LeadSteps;
 use crate::matches::goes_on;
 use crate::steps::Steps;
-use crate::{Next, keys};
+use crate::{Going, Next, keys};
 use rx_base::{ByteClasses, Facts, MatchKind, Start, StateID};
 use rx_expr::thompson::NFA;
 use std::alloc::{AllocError, Global};
@@ -50,7 +50,7 @@ pub struct Stepper<'n> {
 impl<'n> Stepper<'n> {
     ghost use Rattle.rx_stepper.specs.Steppers.{stepping_of};
     ghost use Rattle.rx_stepper.specs.declared.lead_steps.LeadSteps.{LeadSteps};
-    ghost use Rattle.rx_stepper.specs.Stepping.{HasOneKeyEach, IsKeyOf, IsNext, SpellStates, lone_state, stepped};
+    ghost use Rattle.rx_stepper.specs.Stepping.{HasOneKeyEach, IsGoing, IsKeyOf, IsNext, SpellStates, stepped};
 
     /// What steps the states of an NFA by the columns of these classes.
     #[tactic(auto, unfolding(crate::specs::Steppers::stepping_of))]
@@ -184,25 +184,24 @@ impl<'n> Stepper<'n> {
         Ok(if goes_on { Next::State } else { Next::Dead })
     }
 
-    /// The number of what is known of the unit read last, where the lead-in's rows alone go on by a column: then the
-    /// column leads where it leads each state beside which this is known and of whose own rows none goes on by it.
+    /// By which rows the state goes on by a column.
     #[tactic(auto, unfolding(crate::specs::Steppers::stepping_of))]
-    pub fn lone_context(&self, column: usize) -> Option<u8>
+    pub fn going(&self, column: usize) -> Going
         requires column { column < alphabet_len (stepping_of self.now).classes }
-        ensures bound { IfSome result (λ context. context < 32) }
-        ensures alone { let s = stepping_of self.now in IfSome result (λ context. stepped s column
-            ≡ lone_state s.nfa s.kind s.classes context column) }
+        ensures { IsGoing (stepping_of self.now) column result }
     {
-        let context = self.current.led_in?;
         let own = &self.current.steps;
         if !own.targets[column].is_empty() {
-            return None;
+            return Going::Own;
         }
         let group = self.columns.groups.of(column);
         if !own.matches[group as usize].is_empty() {
-            return None;
+            return Going::Own;
         }
-        Some(context)
+        match self.current.led_in {
+            Some(context) => Going::LeadIn(context),
+            None => Going::Nothing,
+        }
     }
 
     /// Writes the key of the state to which a column leads, and tells whether there is one.

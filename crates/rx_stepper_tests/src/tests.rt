@@ -7,7 +7,7 @@ use rx_base::{ByteClasses, Look, MatchKind, Start, Unit};
 use rx_expr::Expr;
 use rx_expr::thompson::{Compiler, Config, NFA};
 use rx_powerset::PowerState;
-use rx_stepper::{Next, Stepper};
+use rx_stepper::{Going, Next, Stepper};
 use std::alloc::{AllocError, Global};
 
 /// Whether a key tells the label and the size of a plain state.
@@ -192,8 +192,8 @@ fn leads_alone(alloc: Global, nfa: &NFA) -> Result<bool, AllocError> {
     match stepper.next(a, None, &mut key)? {
         Next::State => {
             stepper.begin(&key)?;
-            let alone = [a, b, other].map(|column| stepper.lone_context(column));
-            Ok(alone == [Some(0), None, Some(0)])
+            let going = [a, b, other].map(|column| stepper.going(column));
+            Ok(going == [Going::LeadIn(0), Going::Own, Going::LeadIn(0)])
         }
         _ => Ok(false),
     }
