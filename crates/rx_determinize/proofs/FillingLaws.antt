@@ -1,6 +1,6 @@
 -- What stays true of a table in which rows are written: where a row is added, and where a cell is set.
 use Rattle.std.proofs.Common.{◌≡◌, ◌≢◌, ℕ, ◌+◌, ◌*◌, ◌/◌, ◌<◌, ◌≤◌, true, false, Some, List, [], ◌∷◌, ◌++◌}
-use Rattle.std.proofs.Common.{length, map, get_or, length-append, length-set, refl, ap, sym, ◌∙◌, subst, arith, ⊎_elim}
+use Rattle.std.proofs.Common.{length, map, get_or, replicate, length-append, length-set, refl, ap, sym, ◌∙◌, subst, arith, ⊎_elim}
 use Rattle.std.proofs.lemmas.List.{map-append, append-nil}
 use Rattle.std.proofs.lemmas.Bool.{cases_lt}
 use Rattle.std.proofs.lemmas.Option.{slice_get_within}
@@ -16,13 +16,25 @@ use Rattle.rx_stepper.specs.Stepping.{unit_of}
 use Rattle.rx_determinize.specs.WorkLists.{IsRowOf}
 use Rattle.rx_determinize.specs.Working.{Keying, Met, SizeLimits, IsWorking, states_of, next_in, entry_in}
 use Rattle.rx_determinize.specs.Adding.{Adds}
-use Rattle.rx_determinize.specs.Filling.{Grows, IsEntering, IsFilling}
+use Rattle.rx_determinize.specs.Filling.{Grows, IsEntering, IsFilling, IsWrittenOver}
 use Rattle.rx_determinize.proofs.RowIds.{row_id}
 use Rattle.rx_determinize.proofs.WorkListLaws.{row_stays, old_key, slice_get-append, does}
 use Rattle.rx_determinize.specs.Determinized.{classes_of}
 use Rattle.rx_determinize.proofs.ColumnLaws.{unit_in, unit_column, same_column}
 use Rattle.rx_determinize.proofs.LoneLaws.{lone_over}
 use Rattle.rx_determinize.proofs.CellLaws.{next_more, next_kept, next_set}
+
+-- only words are written
+pub written_over : (l m : Layout) (words : List ℕ) → m ≡ record l { words = words } → IsWrittenOver l m
+written_over l m words is =
+    is ∙ ap (λ (ws : List ℕ). record l { words = ws }) (sym (ap (λ (n : Layout). n.words) is))
+
+pub adds_over : {met after : Met} {l m : Layout} {key : List ℕ} {id : ℕ} → Adds met l key after m id → IsWrittenOver l m
+adds_over {met} {after} {l} {m} adds = at adds.interns.is_new adds.layout
+  where
+    at : (is_new : Bool) → m ≡ (if is_new then with_row l else l) → IsWrittenOver l m
+    at true is = written_over l m (l.words ++ replicate (stride l) 0) is
+    at false is = written_over l m l.words is
 
 -- a state that is entered
 pub grows_by : {met after : Met} {l m : Layout} {key : List ℕ} {id : ℕ} → AreRows l → Adds met l key after m id

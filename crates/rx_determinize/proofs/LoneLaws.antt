@@ -11,7 +11,7 @@ use Rattle.rx_spec.specs.States.{State}
 use Rattle.rx_base.specs.ByteClasses.{alphabet_len}
 use Rattle.rx_dense.specs.Layouts.{Layout, stride}
 use Rattle.rx_stepper.specs.Stepping.{Stepping, lone_state, stepped}
-use Rattle.rx_determinize.specs.Filling.{IsStepped}
+use Rattle.rx_determinize.specs.Filling.{IsNextRow, IsStepped}
 use Rattle.rx_determinize.specs.WorkLists.{IsRowOf}
 use Rattle.rx_determinize.specs.Working.{AreLone, IsLone, IsWorking, Keying, Met, SizeLimits, keying, lone_id, place_of}
 use Rattle.rx_determinize.specs.Working.{states_of, with_lone}
@@ -108,7 +108,7 @@ module _ {k : Keying} {met : Met} {l : Layout} (are : AreLone k met l) where
           (cases_lt at (length met.lone))
 
 -- one more row is kept of the states that were met
-pub working_lone : {k : Keying} {limits : SizeLimits} {met : Met} {l : Layout} {context column id : ℕ} → context < 32
+working_lone : {k : Keying} {limits : SizeLimits} {met : Met} {l : Layout} {context column id : ℕ} → context < 32
     → IsLone k met l context column id → IsWorking k limits met l → IsWorking k limits (with_lone met context column id) l
 working_lone small is w = record {
   bare = w.bare;
@@ -144,10 +144,33 @@ module _ {s : Stepping} {met : Met} {l : Layout} {context column id : ℕ} (clas
   }
 
   -- and the other way round
-  pub stepped_lone : IsStepped (keying s l) met l s column id → IsLone (keying s l) met l context column id
+  stepped_lone : IsStepped (keying s l) met l s column id → IsLone (keying s l) met l context column id
   stepped_lone is = record {
     is_row =
         subst (λ (t : State). IsRowOf (states_of (keying s l) met) (Running t) (id / stride l))
         (alone_in s l context column classes alone) is.is_row;
     is_id = is.is_id;
   }
+
+-- the row that was found is kept
+pub found_lone : {s : Stepping} {limits : SizeLimits} {met after : Met} {l m : Layout} {context column id : ℕ}
+    → context < 32 → s.classes ≡ m.classes
+    → stepped s column ≡ lone_state s.nfa s.kind s.classes context column → IsNextRow s limits met l column after m id
+    → IsNextRow s limits met l column (with_lone after context column id) m id
+found_lone small classes alone found = record {
+  grows = record {
+    more = found.grows.more;
+    keys = found.grows.keys;
+    classes = found.grows.classes;
+    nexts = found.grows.nexts;
+    entries = found.grows.entries;
+  };
+  rest = found.rest;
+  rows = found.rows;
+  working = working_lone small (stepped_lone classes alone found.stepped) found.working;
+  stepped = record {
+    column_in = found.stepped.column_in;
+    is_row = found.stepped.is_row;
+    is_id = found.stepped.is_id;
+  };
+}

@@ -2,10 +2,10 @@
 use Rattle.std.proofs.Common.{◌≡◌, ℕ, suc, ◌+◌, ◌*◌, ◌/◌, ◌<◌, true, false, List, refl, ap, sym, ◌∙◌, subst, arith}
 use Rattle.std.proofs.lemmas.Nat.{div-mul-add, pow_pos}
 use Rattle.std.proofs.lemmas.List.{append-nil}
-use Rattle.std.specs.Prelude.{Bool, Option, Some, Result, Ok, Err, IfOk, IfSome, MatchBool, if◌then◌else◌}
+use Rattle.std.specs.Prelude.{Bool, Option, Some, Result, Ok, Err, IfOk, OnOk, IfSome, MatchBool, if◌then◌else◌}
 use Rattle.std.specs.Prelude.{slice_get, []}
 use Rattle.rx_dense.specs.Builder.{with_row}
-use Rattle.rx_determinize.proofs.FillingLaws.{grows_by}
+use Rattle.rx_determinize.proofs.FillingLaws.{adds_over, grows_by}
 use Rattle.rx_spec.specs.Bytes.{contains}
 use Rattle.rx_spec.specs.Builds.{Build, Running, IsReached, is_dead_state, next_node}
 use Rattle.rx_spec.specs.States.{State, step}
@@ -18,7 +18,7 @@ use Rattle.rx_stepper.specs.declared.next.Next.{Next}
 use Rattle.rx_determinize.specs.WorkLists.{IsRowOf, nodes}
 use Rattle.rx_determinize.specs.Working.{IsWorking, Keying, Met, SizeLimits, keying, states_of}
 use Rattle.rx_determinize.specs.Adding.{Adds, CanAdd}
-use Rattle.rx_determinize.specs.Filling.{Grows, IsStepped, IsWrittenOver, Suits}
+use Rattle.rx_determinize.specs.Filling.{CanStep, Grows, IsNextRow, IsStepped, IsWrittenOver, Suits}
 use Rattle.rx_spec.specs.declared.Unit.{Unit}
 use Rattle.rx_determinize.proofs.WorkListLaws.{interned_row, reached_step}
 use Rattle.rx_determinize.proofs.ColumnLaws.{unit_in}
@@ -154,3 +154,34 @@ stepped_by s {l} {m} {met} {after} {key} {id} rows column within is adds is_id =
       (added_row (keying s l) adds (ap is_dead_state is.stands_for ∙ is.alive)));
   is_id = is_id;
 }
+
+-- ---- the row that was found
+
+-- nothing was entered for it
+pub found_before : {s : Stepping} {limits : SizeLimits} {met : Met} {l : Layout} {units : List Unit} {column id : ℕ}
+    {last : Option ℕ} {last_id : ℕ} → CanStep s limits met l units column last last_id
+    → IsStepped (keying s l) met l s column id → IsNextRow s limits met l column met l id
+found_before {met = met} {l = l} can stepped = record {
+  grows = grows_none met l;
+  rest = refl;
+  rows = can.rows;
+  working = can.working;
+  stepped = stepped;
+}
+
+-- a key was added
+pub found_added : {s : Stepping} {limits : SizeLimits} {met : Met} {l : Layout} {units : List Unit} {column : ℕ}
+    {last : Option ℕ} {last_id : ℕ} {E : Type 0} (r : Result ℕ E) (key : List ℕ) (after : Met) (m : Layout)
+    → CanStep s limits met l units column last last_id → IsKeyOf s key (stepped s column)
+    → IfOk r (Adds met l key after m) → IfOk r (IsRowId m) → OnOk r (AreRows m)
+    → OnOk r (IsWorking (keying s l) limits after m) → IfOk r (IsNextRow s limits met l column after m)
+found_added {s} {l = l} {column = column} (Ok id) key after m can at adds is_id rows working =
+    let over = adds_over adds in
+    record {
+      grows = grows_by can.rows adds;
+      rest = over;
+      rows = rows;
+      working = working_over s l m over working;
+      stepped = stepped_by s can.rows column can.column_in at adds is_id;
+    }
+found_added (Err e) key after m can at adds is_id rows working = tt

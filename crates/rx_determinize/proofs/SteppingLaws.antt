@@ -1,25 +1,24 @@
 -- A state that is stepped column by column: what is kept where states are entered, and where a cell is set.
-use Rattle.std.proofs.Common.{◌≡◌, ℕ, ◌+◌, ◌*◌, ◌/◌, ◌<◌, ◌≤◌, true, false, Bool, Option, Some, None, List, [], ◌++◌}
-use Rattle.std.proofs.Common.{length, replicate, refl, ap, ap₂, sym, ◌∙◌, subst, arith}
+use Rattle.std.proofs.Common.{◌≡◌, ℕ, ◌+◌, ◌*◌, ◌/◌, ◌<◌, ◌≤◌, true, false, Option, Some, None, List, []}
+use Rattle.std.proofs.Common.{length, refl, ap, ap₂, sym, ◌∙◌, subst, arith}
 use Rattle.std.proofs.lemmas.List.{length-set}
 use Rattle.std.proofs.lemmas.List.Elements.{All-get_or}
 use Rattle.std.proofs.lemmas.Option.{get_or_from_slice_get, slice_get_within}
-use Rattle.std.specs.Prelude.{IfSome, if◌then◌else◌, slice_get}
+use Rattle.std.specs.Prelude.{IfSome, slice_get}
 use Rattle.rx_spec.specs.Builds.{Node, Quit, Running, IsReached, next_node}
 use Rattle.rx_spec.specs.Bytes.{contains}
 use Rattle.rx_spec.specs.Causes.{Exceeds, max_id}
 use Rattle.rx_spec.specs.Nfas.{Nfa}
 use Rattle.rx_spec.specs.Sizes.{last_id, table_size}
 use Rattle.rx_spec.specs.declared.Unit.{Unit}
-use Rattle.rx_dense.specs.Builder.{with_next, with_row}
+use Rattle.rx_dense.specs.Builder.{with_next}
 use Rattle.rx_dense.specs.Layouts.{Layout, AreRows, IsRowId, column, row_count, stride}
 use Rattle.rx_base.specs.ByteClasses.{alphabet_len}
 use Rattle.rx_build_error.specs.declared.BuildErrorKind.{BuildErrorKind}
 use Rattle.rx_stepper.specs.Stepping.{HasOneKeyEach, SpellStates, Stepping, stepped, unit_of}
-use Rattle.rx_determinize.specs.Adding.{Adds}
 use Rattle.rx_determinize.specs.Determinized.{classes_of}
 use Rattle.rx_determinize.specs.Filling.{AreUnits, Grows, IsAnother, IsEntering, IsFilling, IsStartedOver, IsStepped}
-use Rattle.rx_determinize.specs.Filling.{IsStepping, IsWrittenOver, Progress, Suits}
+use Rattle.rx_determinize.specs.Filling.{IsNextRow, IsStepping, IsWrittenOver, Progress, Suits}
 use Rattle.rx_determinize.specs.WorkLists.{IsRowOf, nodes}
 use Rattle.rx_determinize.specs.Working.{IsOver, IsWorking, Keying, Met, SizeLimits, keying, states_of}
 use Rattle.rx_determinize.proofs.ColumnLaws.{unit_in, unit_column}
@@ -29,20 +28,8 @@ use Rattle.rx_determinize.proofs.FillingLaws.{IsSet, entering_kept, entering_set
 
 -- ---- tables of which words were written
 
-pub written_over : (l m : Layout) (words : List ℕ) → m ≡ record l { words = words } → IsWrittenOver l m
-written_over l m words is =
-    is ∙ ap (λ (ws : List ℕ). record l { words = ws }) (sym (ap (λ (n : Layout). n.words) is))
-
 pub over_twice : (l m n : Layout) → IsWrittenOver l m → IsWrittenOver m n → IsWrittenOver l n
 over_twice l m n first second = second ∙ ap (λ (k : Layout). record k { words = n.words }) first
-
--- a state that is added
-pub adds_over : {met after : Met} {l m : Layout} {key : List ℕ} {id : ℕ} → Adds met l key after m id → IsWrittenOver l m
-adds_over {met} {after} {l} {m} adds = at adds.interns.is_new adds.layout
-  where
-    at : (is_new : Bool) → m ≡ (if is_new then with_row l else l) → IsWrittenOver l m
-    at true is = written_over l m (l.words ++ replicate (stride l) 0) is
-    at false is = written_over l m l.words is
 
 -- what steps states for a table still does
 pub suits_kept : (s r : Stepping) {units others : List Unit} (l m : Layout) → IsAnother s r → others ≡ units
@@ -242,15 +229,6 @@ state_led {s} {limits} {met} {l} {m} {at} {last} {last_id} {id} stepping classes
   is_id = led.is_id;
   is = is;
 }
-
--- the row that was found for a column's state
-pub record IsNextRow (s : Stepping) (limits : SizeLimits) (met : Met) (l : Layout) (column : ℕ) (after : Met)
-    (m : Layout) (id : ℕ) : Type 0 where
-  pub grows : Grows met l after m
-  pub rest : IsWrittenOver l m
-  pub rows : AreRows m
-  pub working : IsWorking (keying s m) limits after m
-  pub stepped : IsStepped (keying s m) after m s column id
 
 module _ {s : Stepping} {limits : SizeLimits} {met : Met} {l : Layout} {at : Progress} {last : Option ℕ} {last_id : ℕ}
     (stepping : IsStepping s limits met l at last last_id) {after : Met} {m : Layout} {id : ℕ}

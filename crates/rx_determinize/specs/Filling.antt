@@ -1,14 +1,14 @@
 -- A table while states are entered into it, and while the row of one of them is written.
-use Rattle.std.specs.Prelude.{ℕ, ◌≡◌, Bool, ◌<◌, ◌≤◌, ◌+◌, ◌/◌, ◌++◌, IfSome, Option, Some, List, [], ◌∷◌, length}
+use Rattle.std.specs.Prelude.{ℕ, ◌≡◌, Bool, false, ◌<◌, ◌≤◌, ◌+◌, ◌/◌, ◌++◌, IfSome, Option, Some, List, [], ◌∷◌, length}
 use Rattle.std.specs.Prelude.{map, slice_get}
-use Rattle.rx_spec.specs.Builds.{Running, next_node, built_entry}
+use Rattle.rx_spec.specs.Builds.{IsReached, Running, next_node, built_entry}
 use Rattle.rx_spec.specs.Queries.{Anchored}
 use Rattle.rx_spec.specs.States.{State}
 use Rattle.rx_spec.specs.declared.Start.{Start}
 use Rattle.rx_dense.specs.Layouts.{Layout, AreRows, IsRowId, context_number, machine_of, mode_place, row_count, stride}
 use Rattle.rx_base.specs.ByteClasses.{alphabet_len, ends_of}
 use Rattle.rx_base.specs.Unit.{unit_number}
-use Rattle.rx_spec.specs.Bytes.{eoi}
+use Rattle.rx_spec.specs.Bytes.{contains, eoi}
 use Rattle.rx_spec.specs.Classes.{representatives}
 use Rattle.rx_spec.specs.declared.Unit.{Unit}
 use Rattle.rx_stepper.specs.Stepping.{HasOneKeyEach, SpellStates, Stepping, stepped, unit_of}
@@ -89,3 +89,23 @@ IsWrittenOver old new = new ≡ record old { words = new.words }
 pub record IsStartedOver (old new : Layout) : Type 0 where
   pub rest : new ≡ record old { words = new.words; starts = new.starts }
   pub count : length new.starts ≡ length old.starts
+
+-- The state under way may be stepped by a column that isn't a quit byte's.
+pub record CanStep (s : Stepping) (limits : SizeLimits) (met : Met) (l : Layout) (units : List Unit) (column : ℕ)
+    (last : Option ℕ) (last_id : ℕ) : Type 0 where
+  pub working : IsWorking (keying s l) limits met l
+  pub rows : AreRows l
+  pub suits : Suits s units l
+  pub reached : IsReached (keying s l).build s.current
+  pub column_in : column < alphabet_len l.classes
+  pub goes_on : contains l.quit (unit_of l.classes column) ≡ false
+  pub stepped_last : IfSome last (λ other. IsStepped (keying s l) met l s other last_id)
+
+-- the row that was found for the state to which it leads, which is a new one where the state wasn't met before
+pub record IsNextRow (s : Stepping) (limits : SizeLimits) (met : Met) (l : Layout) (column : ℕ) (after : Met)
+    (m : Layout) (id : ℕ) : Type 0 where
+  pub grows : Grows met l after m
+  pub rest : IsWrittenOver l m
+  pub rows : AreRows m
+  pub working : IsWorking (keying s m) limits after m
+  pub stepped : IsStepped (keying s m) after m s column id

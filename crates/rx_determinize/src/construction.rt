@@ -8,7 +8,7 @@ ghost use Rattle.rx_dense.specs.Layouts.{AreRows};
 ghost use Rattle.rx_stepper.specs.Stepping.{unit_of};
 ghost use Rattle.rx_stepper.specs.Steppers.{stepping_of};
 ghost use Rattle.rx_determinize.specs.Working.{IsWorking, IsOver, keying, none_met};
-ghost use Rattle.rx_determinize.specs.Filling.{AreUnits, Grows, IsAnother, IsEntering, IsStepped, IsStepping};
+ghost use Rattle.rx_determinize.specs.Filling.{AreUnits, CanStep, IsAnother, IsEntering, IsNextRow, IsStepping};
 ghost use Rattle.rx_determinize.specs.Filling.{IsWrittenOver, Suits};
 ghost use Rattle.rx_base.specs.Unit.{unit_number};
 
@@ -69,24 +69,10 @@ impl Construction {
         column: usize,
         last: Last,
     ) -> Result<StateID, BuildError>
-        requires working { IsWorking (keying (stepping_of stepper.old) dfa.old) self.old.limits self.old.states
-            dfa.old }
-        requires rows { AreRows dfa.old }
-        requires suits { Suits (stepping_of stepper.old) self.old.units.items dfa.old }
-        requires reached { IsReached (keying (stepping_of stepper.old) dfa.old).build
-            (stepping_of stepper.old).current }
-        requires column { column < alphabet_len dfa.old.classes }
-        requires goes_on { contains dfa.old.quit (unit_of dfa.old.classes column) ≡ false }
-        requires last { IfSome last.column (λ other. IsStepped (keying (stepping_of stepper.old) dfa.old)
-            self.old.states
-            dfa.old (stepping_of stepper.old) other last.id) }
-        ensures stepped { IfOk result (IsStepped (keying (stepping_of stepper.old) dfa.new) self.new.states dfa.new
-            (stepping_of stepper.old) column) }
-        ensures rows { OnOk result (AreRows dfa.new) }
-        ensures working { OnOk result
-            (IsWorking (keying (stepping_of stepper.old) dfa.new) self.old.limits self.new.states dfa.new) }
-        ensures grows { OnOk result (Grows self.old.states dfa.old self.new.states dfa.new) }
-        ensures rest { OnOk result (IsWrittenOver dfa.old dfa.new) }
+        requires { CanStep (stepping_of stepper.old) self.old.limits self.old.states dfa.old self.old.units.items column
+            last.column last.id }
+        ensures found { IfOk result (IsNextRow (stepping_of stepper.old) self.old.limits self.old.states dfa.old column
+            self.new.states dfa.new) }
         ensures kept { stepping_of stepper.new ≡ stepping_of stepper.old }
         ensures limits { self.new.limits ≡ self.old.limits }
         ensures units { self.new.units ≡ self.old.units }
@@ -114,24 +100,10 @@ impl Construction {
         column: usize,
         last: Last,
     ) -> Result<StateID, BuildError>
-        requires working { IsWorking (keying (stepping_of stepper.old) dfa.old) self.old.limits self.old.states
-            dfa.old }
-        requires rows { AreRows dfa.old }
-        requires suits { Suits (stepping_of stepper.old) self.old.units.items dfa.old }
-        requires reached { IsReached (keying (stepping_of stepper.old) dfa.old).build
-            (stepping_of stepper.old).current }
-        requires column { column < alphabet_len dfa.old.classes }
-        requires goes_on { contains dfa.old.quit (unit_of dfa.old.classes column) ≡ false }
-        requires last { IfSome last.column (λ other. IsStepped (keying (stepping_of stepper.old) dfa.old)
-            self.old.states
-            dfa.old (stepping_of stepper.old) other last.id) }
-        ensures stepped { IfOk result (IsStepped (keying (stepping_of stepper.old) dfa.new) self.new.states dfa.new
-            (stepping_of stepper.old) column) }
-        ensures rows { OnOk result (AreRows dfa.new) }
-        ensures working { OnOk result
-            (IsWorking (keying (stepping_of stepper.old) dfa.new) self.old.limits self.new.states dfa.new) }
-        ensures grows { OnOk result (Grows self.old.states dfa.old self.new.states dfa.new) }
-        ensures rest { OnOk result (IsWrittenOver dfa.old dfa.new) }
+        requires { CanStep (stepping_of stepper.old) self.old.limits self.old.states dfa.old self.old.units.items column
+            last.column last.id }
+        ensures found { IfOk result (IsNextRow (stepping_of stepper.old) self.old.limits self.old.states dfa.old column
+            self.new.states dfa.new) }
         ensures kept { stepping_of stepper.new ≡ stepping_of stepper.old }
         ensures limits { self.new.limits ≡ self.old.limits }
         ensures units { self.new.units ≡ self.old.units }

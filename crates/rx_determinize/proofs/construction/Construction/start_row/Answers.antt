@@ -12,7 +12,7 @@ use Rattle.rx_determinize.specs.Filling.{Grows}
 use Rattle.rx_determinize.specs.WorkLists.{IsRowOf}
 use Rattle.rx_determinize.specs.Working.{keying, states_of}
 use Rattle.rx_determinize.proofs.FillingLaws.{grows_by}
-use Rattle.rx_determinize.proofs.SteppingLaws.{adds_over}
+use Rattle.rx_determinize.proofs.FillingLaws.{adds_over}
 use Rattle.rx_determinize.proofs.NextLaws.{both_ok, key_may, row_by, working_over}
 use Rattle.rx_determinize.proofs.construction.Construction.start_row.Goals.{After-add}
 use Rattle.rx_determinize.proofs.construction.Construction.start_row.Goals as goal

@@ -8,8 +8,9 @@ use Rattle.rx_stepper.specs.Steppers.{stepping_of}
 use Rattle.rx_determinize.specs.Filling.{IsStepping}
 use Rattle.rx_determinize.specs.Working.{SizeLimits}
 use Rattle.rx_determinize.proofs.ColumnLaws.{unit_is, units_count}
-use Rattle.rx_determinize.proofs.SteppingLaws.{IsNextRow, current_reached, next_grown, over_twice, place_row, quit_led}
-use Rattle.rx_determinize.proofs.SteppingLaws.{stepped_on, written, written_over}
+use Rattle.rx_determinize.proofs.SteppingLaws.{current_reached, next_grown, over_twice, place_row, quit_led}
+use Rattle.rx_determinize.proofs.SteppingLaws.{stepped_on, written}
+use Rattle.rx_determinize.proofs.FillingLaws.{written_over}
 use Rattle.rx_determinize.proofs.construction.Construction.write_column.Goals as goal
 
 pub index-unit-requires : goal.index-unit-requires
@@ -44,40 +45,30 @@ returns-then-is_quit-clause-stepping c =
 pub returns-then-is_quit-clause-rest : goal.returns-then-is_quit-clause-rest
 returns-then-is_quit-clause-rest c = written_over c.args.dfa.now c.set_transition.new.self _ c.set_transition.ensures
 
-pub next_row-requires-clause-working : goal.next_row-requires-clause-working
-next_row-requires-clause-working c = c.requires.stepping.entering.working
-
-pub next_row-requires-clause-rows : goal.next_row-requires-clause-rows
-next_row-requires-clause-rows c = c.requires.stepping.entering.rows
-
-pub next_row-requires-clause-reached : goal.next_row-requires-clause-reached
-next_row-requires-clause-reached c = current_reached c.requires.stepping
-
-pub next_row-requires-clause-last : goal.next_row-requires-clause-last
-next_row-requires-clause-last c = c.requires.stepping.stepped_last
-
-pub next_row-requires-clause-goes_on : goal.next_row-requires-clause-goes_on
-next_row-requires-clause-goes_on c =
+pub next_row-requires : goal.next_row-requires
+next_row-requires c =
     let r = c.requires in
     let l = c.args.dfa.now in
     let units = c.args.self.now.units.items in
     let count = units_count l units r.stepping.entering.rows.classes r.suits.are_units in
     let unit : unit_number c.index-unit.result.now ≡ unit_of l.classes c.args.column =
     unit_is units l.classes r.suits.are_units (omega (arith, count, r.column)) c.index-unit.ensures in
-    ap (λ u. contains l.quit u) (sym unit) ∙ sym c.is_quit.ensures ∙ c.if-is_quit.false
+    record {
+      working = r.stepping.entering.working;
+      rows = r.stepping.entering.rows;
+      suits = r.suits;
+      reached = current_reached r.stepping;
+      column_in = r.column;
+      goes_on = ap (λ u. contains l.quit u) (sym unit) ∙ sym c.is_quit.ensures ∙ c.if-is_quit.false;
+      stepped_last = r.stepping.stepped_last;
+    }
 
 pub row_id-requires-2 : goal.row_id-requires-2
-row_id-requires-2 c =
-    let r = c.requires in
-    let e = c.in_ok-next.ensures in
-    let next : IsNextRow (stepping_of c.args.stepper.now) c.args.self.now.limits c.args.self.now.states c.args.dfa.now
-    c.args.column c.next_row.new.self.states c.next_row.new.dfa c.in_ok-next.next =
-    record { grows = e.grows; rest = e.rest; rows = e.rows; working = e.working; stepped = e.stepped } in
-    place_row (next_grown r.stepping next)
+row_id-requires-2 c = place_row (next_grown c.requires.stepping c.in_ok-next.ensures.found)
 
 pub set_transition-requires-2-clause-to : goal.set_transition-requires-2-clause-to
 set_transition-requires-2-clause-to c =
-    IsId-row_id c.next_row.new.dfa c.in_ok-next.next c.in_ok-next.ensures.stepped.is_id
+    IsId-row_id c.next_row.new.dfa c.in_ok-next.next c.in_ok-next.ensures.found.stepped.is_id
 
 pub returns-clause-stepping : goal.returns-clause-stepping
 returns-clause-stepping c =
@@ -90,15 +81,12 @@ returns-clause-stepping c =
     unit_is units l.classes r.suits.are_units (omega (arith, count, r.column)) c.index-unit.ensures in
     let stays : contains l.quit (unit_of l.classes c.args.column) ≡ false =
     ap (λ u. contains l.quit u) (sym unit) ∙ sym c.is_quit.ensures ∙ c.if-is_quit.false in
-    let e = c.in_ok-next.ensures in
     let m = c.next_row.new.dfa in
     let after = c.next_row.new.self.states in
-    let next : IsNextRow s c.args.self.now.limits c.args.self.now.states l c.args.column after m c.in_ok-next.next =
-    record { grows = e.grows; rest = e.rest; rows = e.rows; working = e.working; stepped = e.stepped } in
     let is = c.set_transition-2.ensures
     ∙ ap₂ (λ (from u : ℕ). with_next m from u c.in_ok-next.next) c.row_id-2.ensures.value unit in
     let n = c.set_transition-2.new.self in
-    let on = stepped_on r.stepping next n r.suits.classes stays is in
+    let on = stepped_on r.stepping c.in_ok-next.ensures.found n r.suits.classes stays is in
     subst (λ (limits : SizeLimits). IsStepping (stepping_of c.next_row.new.stepper) limits after n
     (record { place = c.args.place; column = c.args.column + 1 }) (Some c.args.column) c.in_ok-next.next)
     (sym c.next_row.ensures.limits)
@@ -108,5 +96,5 @@ returns-clause-stepping c =
 
 pub returns-clause-rest : goal.returns-clause-rest
 returns-clause-rest c =
-    over_twice c.args.dfa.now c.next_row.new.dfa c.set_transition-2.new.self c.in_ok-next.ensures.rest
+    over_twice c.args.dfa.now c.next_row.new.dfa c.set_transition-2.new.self c.in_ok-next.ensures.found.rest
     (written_over c.next_row.new.dfa c.set_transition-2.new.self _ c.set_transition-2.ensures)
