@@ -1,8 +1,8 @@
 -- A column by which the lead-in's rows alone go on leads where it leads these by themselves.
-use Rattle.std.proofs.Common.{◌≡◌, ◌≢◌, ℕ, zero, suc, ◌<◌, ◌⊎◌, ◌++◌, ◌==◌, true, false, List, []}
-use Rattle.std.proofs.Common.{◌∷◌, length, Option, None, Some, refl, ap, ap₂, sym, ◌∙◌, subst, arith, true≢false}
+use Rattle.std.proofs.Common.{◌≡◌, ℕ, zero, suc, ◌<◌, ◌++◌, ◌==◌, true, List, []}
+use Rattle.std.proofs.Common.{◌∷◌, length, None, Some, refl, ap, ap₂, sym, ◌∙◌, subst, arith}
 use Rattle.std.proofs.Common.{inl}
-use Rattle.std.proofs.lemmas.Bool.{eqb-true, eq-eqb}
+use Rattle.std.proofs.lemmas.Bool.{eqb-true}
 use Rattle.std.specs.Prelude.{IfSome, slice_get}
 use Rattle.rx_spec.specs.Builds.{is_dead_state}
 use Rattle.rx_spec.specs.Contexts.{Facts}
@@ -10,7 +10,6 @@ use Rattle.rx_spec.specs.Nfas.{Nfa}
 use Rattle.rx_spec.specs.States.{fresh, step}
 use Rattle.rx_spec.specs.declared.MatchKind.{MatchKind}
 use Rattle.rx_base.specs.FactBits.{facts_with}
-use Rattle.rx_lemmas.proofs.Firsts.{by_test}
 use Rattle.rx_stepper.specs.Columns.{AreGroups, asked_of}
 use Rattle.rx_stepper.specs.Fits.{FitsCurrent, FitsLead, Table}
 use Rattle.rx_stepper.specs.Gathering.{Follows, IsLone, matches_in, targets_in}

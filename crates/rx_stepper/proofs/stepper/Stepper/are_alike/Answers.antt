@@ -1,14 +1,55 @@
 use Rattle.std.proofs.Common.{◌≡◌, ◌<◌, ◌++◌, ◌⊎◌, List, ℕ, [], false, None, Some, length, refl, ap, ap₂, sym, ◌∙◌}
 use Rattle.std.proofs.Common.{subst, arith}
-use Rattle.std.specs.Prelude.{IfSome}
-use Rattle.rx_stepper.specs.Gathering.{Follows, matches_in}
+use Rattle.std.specs.Prelude.{IfSome, slice_index}
+use Rattle.rx_stepper.specs.Gathering.{Follows, matches_in, targets_in}
 use Rattle.rx_stepper.specs.Steppers.{stepping_of}
 use Rattle.rx_stepper.specs.Steps.{goes_on}
 use Rattle.rx_stepper.specs.Units.{units_of}
 use Rattle.rx_stepper.specs.declared.lead_steps.LeadSteps.{LeadSteps}
 use Rattle.rx_stepper.proofs.ColumnSteps.{columns_alike, led_within}
 use Rattle.rx_stepper.proofs.EmptyLists.{list_there}
+use Rattle.rx_stepper.proofs.stepper.Stepper.are_alike.Goals.{Else-not-are_equal, In-Some, Start}
 use Rattle.rx_stepper.proofs.stepper.Stepper.are_alike.Goals as goal
+
+-- both columns have a unit
+column_in : (c : Start) → c.args.column < length (units_of c.args.self.now.classes)
+unfolding stepping_of
+column_in c = omega (arith, c.requires.column, c.args.self.now.fits.counted)
+
+other_in : (c : Start) → c.args.other < length (units_of c.args.self.now.classes)
+unfolding stepping_of
+other_in c = omega (arith, c.requires.other, c.args.self.now.fits.counted)
+
+-- they are of one group, and its own rows lead to the same rows
+same_group : (c : Else-not-are_equal) → slice_index c.args.self.now.columns.groups.of.items c.args.column
+    ≡ slice_index c.args.self.now.columns.groups.of.items c.args.other
+same_group c = sym c.of-group.ensures.value ∙ c.if-group-of.false ∙ c.of.ensures.value
+
+same_own : (c : Else-not-are_equal) → targets_in c.args.self.now.current.steps c.args.column
+    ≡ targets_in c.args.self.now.current.steps c.args.other
+same_own c =
+    let self = c.args.self.now in
+    let steps = self.current.steps in
+    let start = (goal.at.Else-not-are_equal c).Start in
+    let here = list_there (λ v. v.items) steps.targets.items c.args.column c.index.result.now
+    (omega (arith, column_in start, self.fits_current.columns)) c.index.ensures in
+    let there = list_there (λ v. v.items) steps.targets.items c.args.other c.index-2.result.now
+    (omega (arith, other_in start, self.fits_current.columns)) c.index-2.ensures in
+    here ∙ sym c.deref.ensures.value ∙ c.if-not-are_equal.ensures refl ∙ c.deref-2.ensures.value ∙ sym there
+
+-- the lead-in's rows follow
+follows : (c : In-Some)
+    → Follows c.args.self.now.current c.args.self.now.leads.items c.args.self.now.kind c.of-group.result
+    c.in-Some.lead.now
+follows c =
+    let self = c.args.self.now in
+    subst (λ (l : List LeadSteps). Follows self.current l self.kind c.of-group.result c.in-Some.lead.now)
+    c.deref-3.ensures.value c.in-Some.ensures
+
+lead_columns : (c : In-Some) → length c.in-Some.lead.now.targets.items ≡ length (units_of c.args.self.now.classes)
+lead_columns c =
+    let f = follows c in
+    ap (λ s. length s.targets.items) f.steps_are ∙ c.args.self.now.fits_lead.columns f.context f.lead f.there
 
 pub lead_steps-requires-clause-context : goal.lead_steps-requires-clause-context
 lead_steps-requires-clause-context c =
@@ -17,86 +58,43 @@ lead_steps-requires-clause-context c =
     (sym c.deref-3.ensures.value) (led_within self.fits.groups self.fits_lead self.fits_current)
 
 pub index-requires-in-Some : goal.index-requires-in-Some
-unfolding stepping_of
-index-requires-in-Some c =
-    let self = c.args.self.now in
-    let column = c.args.column in
-    let other = c.args.other in
-    let units = units_of self.classes in
-    let one : column < length units = omega (arith, c.requires.column, self.fits.counted) in
-    let two : other < length units = omega (arith, c.requires.other, self.fits.counted) in
-    let lead = c.in-Some.lead in
-    let Is = λ (l : List LeadSteps) (g : ℕ). Follows self.current l self.kind g lead.now in
-    let follows = subst (λ l. Is l c.of-group.result) c.deref-3.ensures.value c.in-Some.ensures in
-    let len = self.fits_lead.columns follows.context follows.lead follows.there in
-    let same_len = ap (λ s. length s.targets.items) follows.steps_are ∙ len in
-    omega (arith, one, same_len)
+index-requires-in-Some c = omega (arith, column_in (goal.at.index-requires-in-Some c).Start, lead_columns c)
 
 pub index-requires-in-Some-2 : goal.index-requires-in-Some-2
-unfolding stepping_of
-index-requires-in-Some-2 c =
-    let self = c.args.self.now in
-    let column = c.args.column in
-    let other = c.args.other in
-    let units = units_of self.classes in
-    let one : column < length units = omega (arith, c.requires.column, self.fits.counted) in
-    let two : other < length units = omega (arith, c.requires.other, self.fits.counted) in
-    let lead = c.in-Some.lead in
-    let Is = λ (l : List LeadSteps) (g : ℕ). Follows self.current l self.kind g lead.now in
-    let follows = subst (λ l. Is l c.of-group.result) c.deref-3.ensures.value c.in-Some.ensures in
-    let len = self.fits_lead.columns follows.context follows.lead follows.there in
-    let same_len = ap (λ s. length s.targets.items) follows.steps_are ∙ len in
-    omega (arith, two, same_len)
+index-requires-in-Some-2 c = omega (
+  arith,
+  other_in (goal.at.index-requires-in-Some-2 c).Start,
+  lead_columns (goal.at.index-requires-in-Some-2 c).In-Some,
+)
 
 pub returns-in-Some : goal.returns-in-Some
 unfolding stepping_of
 returns-in-Some c = λ equal.
     let self = c.args.self.now in
-    let column = c.args.column in
-    let other = c.args.other in
-    let units = units_of self.classes in
-    let one : column < length units = omega (arith, c.requires.column, self.fits.counted) in
-    let two : other < length units = omega (arith, c.requires.other, self.fits.counted) in
-    let steps = self.current.steps in
-    let same = sym c.of-group.ensures.value ∙ c.if-group-of.false ∙ c.of.ensures.value in
-    let here = list_there (λ v. v.items) steps.targets.items column c.index.result.now
-    (omega (arith, one, self.fits_current.columns)) c.index.ensures in
-    let there = list_there (λ v. v.items) steps.targets.items other c.index-2.result.now
-    (omega (arith, two, self.fits_current.columns)) c.index-2.ensures in
-    let own = here ∙ sym c.deref.ensures.value ∙ c.if-not-are_equal.ensures refl ∙ c.deref-2.ensures.value
-    ∙ sym there in
+    let before = goal.at.returns-in-Some c in
     let lead = c.in-Some.lead in
-    let Is = λ (l : List LeadSteps) (g : ℕ). Follows self.current l self.kind g lead.now in
-    let follows = subst (λ l. Is l c.of-group.result) c.deref-3.ensures.value c.in-Some.ensures in
-    let len = self.fits_lead.columns follows.context follows.lead follows.there in
-    let same_len = ap (λ s. length s.targets.items) follows.steps_are ∙ len in
-    let mine = list_there (λ v. v.items) lead.now.targets.items column c.index-in-Some.result.now
-    (omega (arith, one, same_len)) c.index-in-Some.ensures in
-    let its = list_there (λ v. v.items) lead.now.targets.items other c.index-in-Some-2.result.now
-    (omega (arith, two, same_len)) c.index-in-Some-2.ensures in
+    let len = lead_columns before.In-Some in
+    let mine = list_there (λ v. v.items) lead.now.targets.items c.args.column c.index-in-Some.result.now
+    (omega (arith, column_in before.Start, len)) c.index-in-Some.ensures in
+    let its = list_there (λ v. v.items) lead.now.targets.items c.args.other c.index-in-Some-2.result.now
+    (omega (arith, other_in before.Start, len)) c.index-in-Some-2.ensures in
     let theirs =
     mine ∙ sym c.deref-in-Some.ensures.value ∙ c.are_equal-in-Some.ensures equal ∙ c.deref-in-Some-2.ensures.value
     ∙ sym its in
-    columns_alike self.fits.groups self.fits_lead self.fits_current column other one two (Some lead) same
-    (subst (Is self.leads.items) c.of-group.ensures.value follows) (ap₂ (λ (a b : List ℕ). a ++ b) own theirs)
+    let is = subst (λ g. Follows self.current self.leads.items self.kind g lead.now) c.of-group.ensures.value
+    (follows before.In-Some) in
+    columns_alike self.fits.groups self.fits_lead self.fits_current c.args.column c.args.other (column_in before.Start)
+    (other_in before.Start) (Some lead) (same_group before.Else-not-are_equal) is
+    (ap₂ (λ (a b : List ℕ). a ++ b) (same_own before.Else-not-are_equal) theirs)
 
 pub returns-in-None : goal.returns-in-None
 unfolding stepping_of
 returns-in-None c = λ equal.
     let self = c.args.self.now in
-    let column = c.args.column in
-    let other = c.args.other in
-    let units = units_of self.classes in
-    let one : column < length units = omega (arith, c.requires.column, self.fits.counted) in
-    let two : other < length units = omega (arith, c.requires.other, self.fits.counted) in
-    let steps = self.current.steps in
-    let same = sym c.of-group.ensures.value ∙ c.if-group-of.false ∙ c.of.ensures.value in
-    let here = list_there (λ v. v.items) steps.targets.items column c.index.result.now
-    (omega (arith, one, self.fits_current.columns)) c.index.ensures in
-    let there = list_there (λ v. v.items) steps.targets.items other c.index-2.result.now
-    (omega (arith, two, self.fits_current.columns)) c.index-2.ensures in
-    let own = here ∙ sym c.deref.ensures.value ∙ c.if-not-are_equal.ensures refl ∙ c.deref-2.ensures.value
-    ∙ sym there in
-    let Is = λ (g : ℕ). (self.current.led_in ≡ None) ⊎ (goes_on self.kind (matches_in steps g) ≡ false) in
-    columns_alike self.fits.groups self.fits_lead self.fits_current column other one two None same
-    (subst Is c.of-group.ensures.value c.in-None.ensures) (ap (λ (l : List ℕ). l ++ []) own)
+    let before = goal.at.returns-in-None c in
+    let Is = λ (g : ℕ). (self.current.led_in ≡ None)
+    ⊎ (goes_on self.kind (matches_in self.current.steps g) ≡ false) in
+    columns_alike self.fits.groups self.fits_lead self.fits_current c.args.column c.args.other (column_in before.Start)
+    (other_in before.Start) None (same_group before.Else-not-are_equal)
+    (subst Is c.of-group.ensures.value c.in-None.ensures)
+    (ap (λ (l : List ℕ). l ++ []) (same_own before.Else-not-are_equal))

@@ -1,18 +1,45 @@
-use Rattle.std.proofs.Common.{◌<◌, List, length, ap, sym, ◌∙◌, subst, arith}
+use Rattle.std.proofs.Common.{◌<◌, ◌^◌, ℕ, List, length, ap, ap₂, sym, ◌∙◌, subst, arith}
 use Rattle.std.specs.Option.{option_copied}
 use Rattle.std.specs.Prelude.{IfSome}
 use Rattle.rx_spec.specs.Builds.{is_dead_state}
 use Rattle.rx_base.specs.FactBits.{bits_of, facts_with}
 use Rattle.rx_expr.specs.Nfa.{meaning}
 use Rattle.rx_expr.specs.declared.thompson.nfa.NFA.{NFA}
-use Rattle.rx_stepper.specs.Fits.{Fits, FitsCurrent, FitsLead, table_of}
+use Rattle.rx_stepper.specs.Fits.{Fits, FitsCurrent, FitsLead, Table, table_of}
 use Rattle.rx_stepper.specs.Gathering.{IsLeadOf}
 use Rattle.rx_stepper.specs.Steppers.{stepping_of}
+use Rattle.rx_stepper.specs.Steps.{made}
 use Rattle.rx_stepper.specs.Units.{units_of}
 use Rattle.rx_stepper.specs.declared.lead_steps.LeadSteps.{LeadSteps}
 use Rattle.rx_stepper.proofs.ColumnSteps.{IsGathered, gathered_few, gathered_made, lead_column, led_within}
 use Rattle.rx_stepper.proofs.Results.{if_ok-map, match_bool-map}
+use Rattle.rx_stepper.proofs.stepper.Stepper.write_next.Goals.{In_ok-gather, Start}
 use Rattle.rx_stepper.proofs.stepper.Stepper.write_next.Goals as goal
+
+within : (c : Start) → c.args.column < length (units_of c.args.self.now.classes)
+unfolding stepping_of
+within c = omega (arith, c.requires, c.args.self.now.fits.counted)
+
+abbrev table : (c : Start) → Table
+table c =
+    let self = c.args.self.now in
+    table_of (meaning self.closures.nfa.now) self.kind self.classes self.columns
+
+-- what was gathered for the column
+gathered : (c : In_ok-gather) → IsGathered (table (goal.at.In_ok-gather c).Start) c.args.self.now.leads.items
+    c.args.self.now.current c.lead_steps-lead.result c.args.column c.of-group.result c.gather.new.self.targets.items
+    c.gather.new.self.label.items
+gathered c =
+    let self = c.args.self.now in
+    let lead = c.lead_steps-lead.result in
+    let Is = λ (l : List LeadSteps). IsLeadOf self.current l self.kind c.of-group.result (option_copied lead) in
+    record {
+      within = within (goal.at.In_ok-gather c).Start;
+      group_is = c.of-group.ensures.value;
+      lead_is = subst Is c.deref.ensures.value c.lead_steps-lead.ensures;
+      from_is = c.in_ok-gather.ensures.targets;
+      label_is = c.in_ok-gather.ensures.label;
+    }
 
 pub lead_steps-lead-requires-clause-context : goal.lead_steps-lead-requires-clause-context
 lead_steps-lead-requires-clause-context c =
@@ -22,47 +49,27 @@ lead_steps-lead-requires-clause-context c =
     (led_within self.fits.groups self.fits_lead self.fits_current)
 
 pub gather-requires-clause-lead_column : goal.gather-requires-clause-lead_column
-unfolding stepping_of
 gather-requires-clause-lead_column c =
     let self = c.args.self.now in
-    let column = c.args.column in
-    let within : column < length (units_of self.classes) = omega (arith, c.requires, self.fits.counted) in
-    let group = c.of-group.result in
     let lead = c.lead_steps-lead.result in
-    let Is = λ (l : List LeadSteps). IsLeadOf self.current l self.kind group (option_copied lead) in
-    let is = subst Is c.deref.ensures.value c.lead_steps-lead.ensures in
-    lead_column self.fits.groups self.fits_lead self.fits_current column group within lead is
+    let Is = λ (l : List LeadSteps). IsLeadOf self.current l self.kind c.of-group.result (option_copied lead) in
+    lead_column self.fits.groups self.fits_lead self.fits_current c.args.column c.of-group.result
+    (within (goal.at.gather-requires-clause-lead_column c).Start) lead
+    (subst Is c.deref.ensures.value c.lead_steps-lead.ensures)
 
 pub write_key-requires-clause-asked : goal.write_key-requires-clause-asked
-unfolding stepping_of
 write_key-requires-clause-asked c =
     let self = c.args.self.now in
-    let column = c.args.column in
-    let within : column < length (units_of self.classes) = omega (arith, c.requires, self.fits.counted) in
-    let number = self.fits.groups.each column within in
+    let number = self.fits.groups.each c.args.column (within (goal.at.write_key-requires-clause-asked c).Start) in
     let group = c.of-group.ensures.value in
     group ∙ number.bits ∙ ap bits_of (sym number.facts) ∙ ap (λ g. bits_of (facts_with g)) (sym group)
 
 pub write_key-requires-clause-label : goal.write_key-requires-clause-label
-unfolding stepping_of
 write_key-requires-clause-label c =
     let self = c.args.self.now in
-    let column = c.args.column in
-    let within : column < length (units_of self.classes) = omega (arith, c.requires, self.fits.counted) in
-    let group = c.of-group.result in
-    let lead = c.lead_steps-lead.result in
-    let Is = λ (l : List LeadSteps). IsLeadOf self.current l self.kind group (option_copied lead) in
-    let is = subst Is c.deref.ensures.value c.lead_steps-lead.ensures in
-    let table = table_of (meaning self.closures.nfa.now) self.kind self.classes self.columns in
-    let gathered : IsGathered table self.leads.items self.current lead column group c.deref-2.result.now
-    c.deref-3.result.now = record {
-      within = within;
-      group_is = c.of-group.ensures.value;
-      lead_is = is;
-      from_is = c.deref-2.ensures.value ∙ c.in_ok-gather.ensures.targets;
-      label_is = c.deref-3.ensures.value ∙ c.in_ok-gather.ensures.label;
-    } in
-    gathered_few gathered self.fits.groups self.fits_lead self.fits_current
+    let is = gathered (goal.at.write_key-requires-clause-label c).In_ok-gather in
+    subst (λ (label : List ℕ). length label < 2 ^ 32) (sym c.deref-3.ensures.value)
+    (gathered_few is self.fits.groups self.fits_lead self.fits_current)
 
 pub invariant_of-self-2 : goal.invariant_of-self-2
 invariant_of-self-2 c =
@@ -80,22 +87,11 @@ pub returns-clause-key : goal.returns-clause-key
 unfolding stepping_of
 returns-clause-key c =
     let self = c.args.self.now in
-    let column = c.args.column in
-    let within : column < length (units_of self.classes) = omega (arith, c.requires, self.fits.counted) in
-    let group = c.of-group.result in
-    let lead = c.lead_steps-lead.result in
-    let Is = λ (l : List LeadSteps). IsLeadOf self.current l self.kind group (option_copied lead) in
-    let is = subst Is c.deref.ensures.value c.lead_steps-lead.ensures in
-    let table = table_of (meaning self.closures.nfa.now) self.kind self.classes self.columns in
-    let gathered : IsGathered table self.leads.items self.current lead column group c.deref-2.result.now
-    c.deref-3.result.now = record {
-      within = within;
-      group_is = c.of-group.ensures.value;
-      lead_is = is;
-      from_is = c.deref-2.ensures.value ∙ c.in_ok-gather.ensures.targets;
-      label_is = c.deref-3.ensures.value ∙ c.in_ok-gather.ensures.label;
-    } in
-    let same = gathered_made gathered self.fits.groups self.fits_lead self.fits_current in
+    let is = gathered (goal.at.returns-clause-key c).In_ok-gather in
+    let facts = facts_with c.of-group.result in
+    let same = ap₂ (λ (from label : List ℕ). made (meaning self.closures.nfa.now) from facts label)
+    c.deref-2.ensures.value c.deref-3.ensures.value
+    ∙ gathered_made is self.fits.groups self.fits_lead self.fits_current in
     if_ok-map c.write_key.result
     (λ goes key. match_bool-map goes
     (λ k. record {
