@@ -192,8 +192,11 @@ fn leads_alone(alloc: Global, nfa: &NFA) -> Result<bool, AllocError> {
     match stepper.next(a, None, &mut key)? {
         Next::State => {
             stepper.begin(&key)?;
-            let going = [a, b, other].map(|column| stepper.going(column));
-            Ok(going == [Going::LeadIn(0), Going::Own, Going::LeadIn(0)])
+            Ok(
+                stepper.going(a) == Going::LeadIn(0)
+                    && stepper.going(b) == Going::Own
+                    && stepper.going(other) == Going::LeadIn(0),
+            )
         }
         _ => Ok(false),
     }
