@@ -1,37 +1,27 @@
--- words of some bytes
+-- words of some bytes, and tests of each number below one
 pub mod WordBytes
--- a block of them
-pub mod Blocks
--- the test without a branch
-pub mod Collected
--- tests of each number below one
 pub mod EachBelow
--- strides and classes
+-- reading: a block of words, the test without a branch, strides and classes, the columns of rows
+pub mod Blocks
+pub mod Collected
 pub mod Strides
--- the columns of rows
 pub mod ColumnMasks
--- bytes that leave a row
-pub mod LeavingBytes
--- rows that were read
+-- rows and accelerators that were read
 pub mod Padding
--- accelerators
 pub mod Accelerators
--- lists of patterns
+-- closing tests: lists of patterns by counts, rows of a range, bytes that leave a row
 pub mod StrangerCounts
--- rows of a range
 pub mod AccelRows
--- what the closing tests say
+pub mod LeavingBytes
+-- what the closing tests say, and so: what is read is a dense table, and sound
 pub mod ClosedFacts
--- what is read and closed is a dense table, and sound
 pub mod ShapedImages
 pub mod SoundImages
--- parts that stand one behind another
+-- writing: parts that stand one behind another, quit bytes in two halves, how many bytes parts have
 pub mod Behind
--- quit bytes in two halves
 pub mod Halves
--- how many bytes parts have
 pub mod ImageLengths
--- what was written is read again
+-- what was written is read again: heads, words and rows; start tables and lists; marks; the whole
 pub mod ReadAgain
 pub mod TablesAgain
 pub mod MarksAgain
