@@ -1,0 +1,105 @@
+-- The rows of a range of accelerated rows.
+use Rattle.std.proofs.Common.{◌≡◌, ℕ, ◌+◌, ◌-◌, ◌*◌, ◌/◌, ◌%◌, ◌<◌, ◌≤◌, Bool, true, false, eqb, cond, length}
+use Rattle.std.proofs.Common.{ap, ◌∙◌, arith, inl, inr}
+use Rattle.std.proofs.lemmas.Bool.{and_parts, eqb-true, ltb-true}
+use Rattle.std.proofs.lemmas.Nat.{pow_pos}
+use Rattle.std.proofs.Math.Nat.{mul-mod_left}
+use Rattle.std.specs.Prelude.{◌⊎◌}
+use Rattle.rx_dense.specs.Layouts.{Layout, IsRowId, is_row_id, stride}
+use Rattle.rx_dense.proofs.Rows.{multiple_within, quotient}
+use Rattle.rx_dense_image.specs.Rows.{AreReadRows, rows_of}
+use Rattle.rx_dense_image.specs.Closing.{are_special_rows, range_len}
+use Rattle.rx_dense_image.proofs.EachBelow.{cases_bool}
+
+-- a number that passes the test is the id of a row
+pub row_id_of : (l : Layout) → AreReadRows (rows_of l) → (id : ℕ) → is_row_id l id ≡ true → IsRowId l id
+row_id_of l read id test =
+    let parts = and_parts (eqb (id % stride l) 0) _ test in
+    let whole = eqb-true _ _ parts.0 in
+    record {
+      whole = whole;
+      below = multiple_within id (stride l) (length l.words) whole read.whole (ltb-true _ _ parts.1);
+    }
+
+-- a row of a range
+times_whole : (a i s : ℕ) → a % s ≡ 0 → 0 < s → (a + i * s) % s ≡ 0
+times_whole a i s whole some =
+    let e : a + i * s ≡ (a / s + i) * s = omega (arith, quotient a s whole) in
+    ap (λ (n : ℕ). n % s) e ∙ mul-mod_left (a / s + i) s
+
+within_last : (a b i s : ℕ) → 0 < s → i < (b - a) / s + 1 → i ≡ 0 → a + i * s ≡ a
+within_last a b i s some lt e = rw e (omega arith)
+
+up_to : (d i s : ℕ) → 0 < s → i < d / s + 1 → i * s ≤ d
+up_to d i s some lt = grind arith
+
+pub range_row : (l : Layout) → AreReadRows (rows_of l) → (first last i : ℕ) → IsRowId l first → IsRowId l last
+    → i < range_len l first last → IsRowId l (first + i * stride l)
+range_row l read first last i is_first is_last lt = choose (cases_bool (eqb first 0))
+  where
+    s : ℕ
+    s = stride l
+
+    some : 0 < stride l
+    some = pow_pos l.stride2
+
+    bounded : i < (last - first) / stride l + 1 → IsRowId l (first + i * stride l)
+    bounded h =
+        let whole : (first + i * stride l) % stride l ≡ 0 = times_whole first i (stride l) is_first.whole some in
+        let most : i * stride l ≤ last - first = up_to (last - first) i (stride l) some h in
+        let below : first + i * stride l < length l.words =
+        omega (arith, most, is_first.below, is_last.below, some) in
+        record {
+          whole = whole;
+          below = multiple_within (first + i * stride l) (stride l) (length l.words) whole read.whole below;
+        }
+
+    choose : ◌⊎◌ (eqb first 0 ≡ true) (eqb first 0 ≡ false) → IsRowId l (first + i * stride l)
+    choose (inl none) =
+        let e : range_len l first last ≡ 0 = ap (λ (b : Bool). cond b 0 ((last - first) / stride l + 1)) none in
+        absurd (omega (arith, lt, e))
+    choose (inr there) =
+        let e : range_len l first last ≡ (last - first) / stride l + 1 =
+        ap (λ (b : Bool). cond b 0 ((last - first) / stride l + 1)) there in
+        bounded (omega (arith, lt, e))
+
+-- ---- special rows
+
+-- the ids of special rows are those of rows
+pub record AreSpecialRows (l : Layout) : Type 0 where
+  pub max : is_row_id l l.special.max ≡ true
+  pub quit : l.special.quit ≡ stride l
+  pub min_match : is_row_id l l.special.min_match ≡ true
+  pub max_match : is_row_id l l.special.max_match ≡ true
+  pub min_accel : is_row_id l l.special.min_accel ≡ true
+  pub max_accel : is_row_id l l.special.max_accel ≡ true
+  pub min_start : is_row_id l l.special.min_start ≡ true
+  pub max_start : is_row_id l l.special.max_start ≡ true
+
+pub special_rows : (l : Layout) → are_special_rows l l.special ≡ true → AreSpecialRows l
+special_rows l test =
+    let h8 = and_parts _ (is_row_id l l.special.max_start) test in
+    let h7 = and_parts _ (is_row_id l l.special.min_start) h8.0 in
+    let h6 = and_parts _ (is_row_id l l.special.max_accel) h7.0 in
+    let h5 = and_parts _ (is_row_id l l.special.min_accel) h6.0 in
+    let h4 = and_parts _ (is_row_id l l.special.max_match) h5.0 in
+    let h3 = and_parts _ (is_row_id l l.special.min_match) h4.0 in
+    let h2 = and_parts (is_row_id l l.special.max) (eqb l.special.quit (stride l)) h3.0 in
+    record {
+      max = h2.0;
+      quit = eqb-true _ _ h2.1;
+      min_match = h3.1;
+      max_match = h4.1;
+      min_accel = h5.1;
+      max_accel = h6.1;
+      min_start = h7.1;
+      max_start = h8.1;
+    }
+
+pub first_accel : (l : Layout) → AreReadRows (rows_of l) → are_special_rows l l.special ≡ true
+    → IsRowId l l.special.min_accel
+first_accel l read test = row_id_of l read l.special.min_accel (special_rows l test).min_accel
+
+pub last_accel : (l : Layout) → AreReadRows (rows_of l) → are_special_rows l l.special ≡ true
+    → IsRowId l l.special.max_accel
+last_accel l read test = row_id_of l read l.special.max_accel (special_rows l test).max_accel

@@ -1,0 +1,185 @@
+-- The columns of rows go round with the rows, and what stands in them is what the rows are asked for.
+use Rattle.std.proofs.Common.{◌≡◌, ℕ, zero, suc, ◌+◌, ◌-◌, ◌*◌, ◌%◌, ◌^◌, ◌<◌, ◌≤◌, Bool, true, false, cond, not, ◌&&◌}
+use Rattle.std.proofs.Common.{ltb, leb, eqb, List, length, get_or, take, drop, slice_index, bit_and, refl, sym, ap}
+use Rattle.std.proofs.Common.{◌∙◌, arith, inl, inr}
+use Rattle.std.specs.Prelude.{◌⊎◌}
+use Rattle.std.specs.Int.{w32}
+use Rattle.std.specs.List.{list_all, range_with_len}
+use Rattle.std.proofs.lemmas.Bool.{cases_lt, eqb-true}
+use Rattle.std.proofs.lemmas.List.{get_or-drop, get_or-take, get_or_past, length-take}
+use Rattle.std.proofs.lemmas.Nat.{and_mask, and_le_r, pow_pos}
+use Rattle.rx_wire.specs.declared.order.Order.{Order}
+use Rattle.rx_wire.specs.Fields.{number}
+use Rattle.rx_base.specs.ByteClasses.{alphabet_len}
+use Rattle.rx_dense.proofs.Rows.{multiple_within}
+use Rattle.rx_dense_image.specs.Rows.{Rows, are_entries, cleared, have_ids, is_entry, word_at}
+use Rattle.rx_dense_image.specs.Bulk.{AreOf, column_forbidden, may_stand, stand_below}
+use Rattle.rx_dense_image.specs.declared.bulk.Columns.{Columns}
+use Rattle.rx_dense_image.specs.Bulk.{kept_around, stands_around}
+use Rattle.rx_dense_image.proofs.EachBelow.{all_below, cases_bool}
+use Rattle.rx_dense_image.proofs.WordBytes.{below_cong}
+
+-- ---- 512 is a multiple of each stride
+
+rounds : (s k : ℕ) → s ≤ 9 → (k % 512) % 2 ^ s ≡ k % 2 ^ s
+rounds zero k h = omega arith
+rounds (suc zero) k h = omega arith
+rounds (suc (suc zero)) k h = omega arith
+rounds (suc (suc (suc zero))) k h = omega arith
+rounds (suc (suc (suc (suc zero)))) k h = omega arith
+rounds (suc (suc (suc (suc (suc zero))))) k h = omega arith
+rounds (suc (suc (suc (suc (suc (suc zero)))))) k h = omega arith
+rounds (suc (suc (suc (suc (suc (suc (suc zero))))))) k h = omega arith
+rounds (suc (suc (suc (suc (suc (suc (suc (suc zero)))))))) k h = omega arith
+rounds (suc (suc (suc (suc (suc (suc (suc (suc (suc zero))))))))) k h = omega arith
+rounds (suc (suc (suc (suc (suc (suc (suc (suc (suc (suc n)))))))))) k h = absurd (omega (arith, h))
+
+-- ---- bytes make words
+
+abbrev pub IsBytes : List ℕ → Type 0
+IsBytes bytes = (i : ℕ) → get_or bytes i 0 < 256
+
+IsBytes-drop : (n : ℕ) (bytes : List ℕ) → IsBytes bytes → IsBytes (drop n bytes)
+IsBytes-drop n bytes h i = rw get_or-drop (h (n + i))
+
+IsBytes-take : (n : ℕ) (bytes : List ℕ) → IsBytes bytes → IsBytes (take n bytes)
+IsBytes-take n bytes h i =
+    elim (cases_lt i n) [
+      | inl lt ↦ rw (get_or-take n bytes i 0 lt) (h i)
+      | inr le ↦ rw (get_or_past (take n bytes) i 0 (omega (arith, length-take n bytes))) (omega arith)
+    ]
+
+number_small : (order : Order) (bytes : List ℕ) → IsBytes bytes → number order w32 bytes < 2 ^ 32
+number_small Order.Little bytes fits = omega (arith, fits 0, fits 1, fits 2, fits 3)
+number_small Order.Big bytes fits = omega (arith, fits 0, fits 1, fits 2, fits 3)
+
+pub word_small : (order : Order) (bytes : List ℕ) (k : ℕ) → IsBytes bytes → word_at order bytes k < 2 ^ 32
+word_small order bytes k fits =
+    number_small order (take 4 (drop (4 * k) bytes))
+    (IsBytes-take 4 (drop (4 * k) bytes) (IsBytes-drop (4 * k) bytes fits))
+
+-- ---- what a mask keeps
+
+and_all : (w : ℕ) → w < 2 ^ 32 → bit_and w 4294967295 ≡ w
+and_all w lt = let h : bit_and w 4294967295 ≡ w % 2 ^ 32 = and_mask w 32 in h ∙ omega arith
+
+and_none : (w : ℕ) → bit_and w 0 ≡ 0
+and_none w = omega (arith, and_le_r w 0)
+
+kept_or_none : (b : Bool) (w : ℕ) → w < 2 ^ 32 → bit_and w (cond b 4294967295 0) ≡ cond b w 0
+kept_or_none true w lt = and_all w lt
+kept_or_none false w lt = and_none w
+
+rest_below : (k : ℕ) → k % 512 < 512
+rest_below k = omega arith
+
+module _ {c : Columns} {s alphabet last : ℕ} (of : AreOf c s alphabet last) where
+  -- what is kept of a word is the cleared word
+  pub kept_cleared : (bytes : List ℕ) → IsBytes bytes → (k : ℕ)
+      → kept_around c bytes k ≡ cleared (2 ^ s) alphabet k (word_at c.order bytes k)
+  kept_cleared bytes fits k =
+      ap (λ (n : ℕ). bit_and (word_at c.order bytes k) (slice_index c.kept.now (k % n))) of.len
+      ∙ ap (λ (m : ℕ). bit_and (word_at c.order bytes k) m)
+      (of.kept (k % 512) (rest_below k)
+      ∙ ap (λ (n : ℕ). cond (ltb n alphabet) 4294967295 0) (rounds s k of.exponent))
+      ∙ kept_or_none (ltb (k % 2 ^ s) alphabet) (word_at c.order bytes k) (word_small c.order bytes k fits)
+
+  pub stands_column : (bytes : List ℕ) (k w : ℕ) → w ≡ kept_around c bytes k
+      → stands_around s c bytes k ≡ may_stand (2 ^ s) last (column_forbidden (2 ^ s) alphabet k) w
+  stands_column bytes k w same =
+      ap (λ (x : ℕ). may_stand (2 ^ s) c.last (slice_index c.forbidden.now (k % length c.kept.now)) x) (sym same)
+      ∙ ap (λ (l : ℕ). may_stand (2 ^ s) l (slice_index c.forbidden.now (k % length c.kept.now)) w) of.same
+      ∙ ap (λ (n : ℕ). may_stand (2 ^ s) last (slice_index c.forbidden.now (k % n)) w) of.len
+      ∙ ap (λ (f : ℕ). may_stand (2 ^ s) last f w)
+      (of.forbidden (k % 512) (rest_below k)
+      ∙ ap (λ (n : ℕ). cond (eqb n (alphabet - 1)) (2 ^ s) 4294967295) (rounds s k of.exponent))
+
+-- ---- what stands in the columns is what rows are asked for
+
+le_lt : (x n s : ℕ) → x < n → x + s ≤ n → leb x (n - s) ≡ ltb x n
+le_lt x n s below within = grind arith
+
+le_lt_not : (x n s : ℕ) → n ≤ x → 0 < s → s ≤ n → leb x (n - s) ≡ ltb x n
+le_lt_not x n s past some fits = grind arith
+
+-- an id is at most that of the last row exactly where it stands within the words
+at_most_last : (x n s : ℕ) → 0 < s → 0 < n → n % s ≡ 0 → x % s ≡ 0 → leb x (n - s) ≡ ltb x n
+at_most_last x n s some words whole of =
+    let zero_of : 0 % s ≡ 0 = omega (arith, some) in
+    let fits : 0 + s ≤ n = multiple_within 0 s n zero_of whole words in
+    elim (cases_lt x n) [
+      | inl below ↦ le_lt x n s below (multiple_within x s n of whole below)
+      | inr past ↦ le_lt_not x n s past some (omega (arith, fits))
+    ]
+
+no_id : (x n : ℕ) → leb x n ≡ true → n < 4294967295 → eqb x 4294967295 ≡ false
+no_id x n le small = grind arith
+
+forbidden_or_not : (b : Bool) (x s n : ℕ) → leb x n ≡ true → n < 4294967295
+    → not (eqb x (cond b s 4294967295)) ≡ not (b && eqb x s)
+forbidden_or_not true x s n le small = refl
+forbidden_or_not false x s n le small = rw (no_id x n le small) refl
+
+stands_entry : (x n s : ℕ) (b : Bool) → 0 < s → 0 < n → n % s ≡ 0 → n - s ≤ 2147483646
+    → may_stand s (n - s) (cond b s 4294967295) x ≡ (((eqb (x % s) 0) && ltb x n) && not (b && eqb x s))
+stands_entry x n s b some words whole small =
+    elim (cases_bool (eqb (x % s) 0)) [
+      | inl of ↦ (
+          let most : leb x (n - s) ≡ ltb x n = at_most_last x n s some words whole (eqb-true _ _ of) in
+          elim (cases_bool (leb x (n - s))) [
+            | inl le ↦ (
+                let first : ltb x n ≡ true = sym most ∙ le in
+                rw (of, le, first) (forbidden_or_not b x s (n - s) le (omega (arith, small))))
+            | inr gt ↦ (
+                let first : ltb x n ≡ false = sym most ∙ gt in
+                rw (of, gt, first) refl)
+          ])
+      | inr off ↦ rw off refl
+    ]
+
+-- all words stand where each is an entry
+pub stand_entries : (rows : Rows) → length rows.words % 2 ^ rows.stride2 ≡ 0
+    → length rows.words - 2 ^ rows.stride2 ≤ 2147483646
+    → stand_below (2 ^ rows.stride2) (alphabet_len rows.classes) (length rows.words - 2 ^ rows.stride2) rows.words
+    ≡ list_all (is_entry rows) (range_with_len 0 (length rows.words))
+stand_entries rows whole small =
+    let n : ℕ = length rows.words in
+    let s : ℕ = 2 ^ rows.stride2 in
+    let a : ℕ = alphabet_len rows.classes in
+    below_cong n (λ k. may_stand s (n - s) (column_forbidden s a k) (slice_index rows.words k)) (is_entry rows)
+    (λ k lt.
+    stands_entry (slice_index rows.words k) n s (eqb (k % s) (a - 1)) (pow_pos rows.stride2) (omega (arith, lt)) whole
+    small)
+    ∙ all_below n (is_entry rows)
+
+le_false : (g : ℕ) → 2147483646 < g → leb g 2147483646 ≡ false
+le_false g lt = grind arith
+
+small_or : (g : ℕ) → (g ≤ 2147483646) ⊎ (leb g 2147483646 ≡ false)
+small_or g = elim (cases_lt 2147483646 g) [ inl above ↦ inr (le_false g above) | inr le ↦ inl le ]
+
+-- what was found while the words were read, as the test of the rows
+pub record IsFound (rows : Rows) (greatest last : ℕ) (sound : Bool) : Type 0 where
+  pub whole : length rows.words % 2 ^ rows.stride2 ≡ 0
+  pub is_greatest : greatest ≡ length rows.words - 2 ^ rows.stride2
+  pub is_last : greatest ≤ 2147483646 → last ≡ greatest
+  pub is_sound : sound ≡ stand_below (2 ^ rows.stride2) (alphabet_len rows.classes) last rows.words
+
+pub found_entries : {rows : Rows} {greatest last : ℕ} {sound : Bool} → IsFound rows greatest last sound
+    → (leb greatest 2147483646 && sound) ≡ are_entries rows
+found_entries {rows} {greatest} {last} {sound} found =
+    let s : ℕ = 2 ^ rows.stride2 in
+    let a : ℕ = alphabet_len rows.classes in
+    let same : have_ids rows ≡ leb greatest 2147483646 =
+    ap (λ (g : ℕ). leb g 2147483646) (sym found.is_greatest) in
+    let entries : Bool = list_all (is_entry rows) (range_with_len 0 (length rows.words)) in
+    elim (small_or greatest) [
+      | inl small ↦ (
+          let is : sound ≡ entries =
+          found.is_sound
+          ∙ ap (λ (m : ℕ). stand_below s a m rows.words) (found.is_last small ∙ found.is_greatest)
+          ∙ stand_entries rows found.whole (omega (arith, small, found.is_greatest)) in
+          ap (λ (b : Bool). leb greatest 2147483646 && b) is ∙ ap (λ (b : Bool). b && entries) (sym same))
+      | inr big ↦ (
+          ap (λ (b : Bool). b && sound) big ∙ sym (ap (λ (b : Bool). b && entries) (same ∙ big)))
+    ]

@@ -1,0 +1,8 @@
+-- A set of bytes in two halves.
+use Rattle.std.proofs.Common.{◌≡◌, ℕ, ◌+◌, ◌*◌, ◌/◌, ◌%◌, ◌^◌, ◌<◌, arith}
+
+pub low_half : (low high set : ℕ) → low < 2 ^ 128 → set ≡ high * 2 ^ 128 + low → low ≡ set % 2 ^ 128
+low_half low high set small is = omega (arith, small, is)
+
+pub high_half : (low high set : ℕ) → low < 2 ^ 128 → set ≡ high * 2 ^ 128 + low → high ≡ set / 2 ^ 128
+high_half low high set small is = omega (arith, small, is)

@@ -1,0 +1,175 @@
+-- Needles that are compared byte by byte with the bytes that leave a row.
+use Rattle.std.proofs.Common.{◌≡◌, ◌≢◌, ℕ, zero, suc, ◌+◌, ◌-◌, ◌<◌, ◌≤◌, Bool, true, false, not, eqb, List, [], ◌∷◌}
+use Rattle.std.proofs.Common.{◌++◌}
+use Rattle.std.proofs.Common.{length, get_or, take, filter, refl, sym, ap, ◌∙◌, arith, inl, inr, add-one, if◌then◌else◌}
+use Rattle.std.specs.List.{range_with_len}
+use Rattle.std.specs.Str.{bytes_eq}
+use Rattle.std.proofs.Math.Seq.{take-length}
+use Rattle.std.proofs.lemmas.Bool.{cases_lt, eq-eqb, ne_eqb}
+use Rattle.std.proofs.lemmas.List.{get_or-append_right, length-append, length-take-le, take_more, append-nil}
+use Rattle.std.proofs.lemmas.List.Elements.{filter-append}
+use Rattle.std.proofs.lemmas.Slice.Eq.{bytes_eq-Decides}
+use Rattle.rx_dense.specs.Layouts.{Layout, next_id}
+use Rattle.rx_dense_image.specs.Closing.{leaves, leaving_id}
+use Rattle.rx_dense_image.proofs.EachBelow.{cases_bool, range_more}
+
+-- the first needles are the bytes below one that pass
+pub record AreMet (needles : List ℕ) (p : ℕ → Bool) (met byte : ℕ) : Type 0 where
+  pub within : met ≤ length needles
+  pub front : take met needles ≡ filter p (range_with_len 0 byte)
+
+passing : (p : ℕ → Bool) (n : ℕ) → filter p (range_with_len 0 (n + 1))
+    ≡ filter p (range_with_len 0 n) ++ (if p n then n ∷ [] else [])
+passing p n =
+    let e : 0 + n ≡ n = omega arith in
+    ap (λ (m : ℕ). filter p (range_with_len 0 m)) (add-one n)
+    ∙ ap (filter p) (range_more n 0 ∙ ap (λ (m : ℕ). range_with_len 0 n ++ (m ∷ [])) e)
+    ∙ filter-append p (range_with_len 0 n) (n ∷ [])
+
+pub none_met : (needles : List ℕ) (p : ℕ → Bool) → AreMet needles p 0 0
+none_met needles p = record { within = omega arith; front = refl }
+
+pub met_less : {needles : List ℕ} {p : ℕ → Bool} {met byte : ℕ} → AreMet needles p met byte → p byte ≡ false
+    → AreMet needles p met (byte + 1)
+met_less {needles} {p} {met} {byte} h fails = record {
+  within = h.within;
+  front =
+      h.front
+      ∙ sym (
+      passing p byte ∙ ap (λ (b : Bool). filter p (range_with_len 0 byte) ++ (if b then byte ∷ [] else [])) fails
+      ∙ append-nil (filter p (range_with_len 0 byte))
+      );
+}
+
+pub met_more : {needles : List ℕ} {p : ℕ → Bool} {met byte : ℕ} → AreMet needles p met byte → p byte ≡ true
+    → met < length needles → get_or needles met 0 ≡ byte → AreMet needles p (met + 1) (byte + 1)
+met_more {needles} {p} {met} {byte} h passes lt is = record {
+  within = omega (arith, lt);
+  front =
+      take_more needles met 0 lt
+      ∙ ap (λ (x : ℕ). take met needles ++ (x ∷ [])) is
+      ∙ ap (λ (t : List ℕ). t ++ (byte ∷ [])) h.front
+      ∙ sym (
+      passing p byte
+      ∙ ap (λ (b : Bool). filter p (range_with_len 0 byte) ++ (if b then byte ∷ [] else [])) passes
+      );
+}
+
+-- ---- the test of all bytes
+
+range_split : (n m a : ℕ) → range_with_len a (n + m) ≡ range_with_len a n ++ range_with_len (a + n) m
+range_split zero m a =
+    let e : 0 + m ≡ m = omega arith in
+    let f : a ≡ a + 0 = omega arith in
+    ap (range_with_len a) e ∙ ap (λ (x : ℕ). range_with_len x m) f
+range_split (suc n) m a =
+    let e : suc n + m ≡ suc (n + m) = omega arith in
+    let f : a + 1 + n ≡ a + suc n = omega arith in
+    ap (range_with_len a) e
+    ∙ ap (λ (t : List ℕ). a ∷ t)
+    (range_split n m (a + 1) ∙ ap (λ (x : ℕ). range_with_len (a + 1) n ++ range_with_len x m) f)
+
+differ : (xs ys : List ℕ) → xs ≢ ys → bytes_eq xs ys ≡ false
+differ xs ys ne =
+    elim (cases_bool (bytes_eq xs ys)) [
+      | inl same ↦ absurd (ne ((bytes_eq-Decides xs ys).0 same))
+      | inr not ↦ not
+    ]
+
+module _ {needles : List ℕ} {p : ℕ → Bool} {met byte : ℕ} (h : AreMet needles p met byte) (lt : byte < 256)
+    (passes : p byte ≡ true) where
+  front : List ℕ
+  front = filter p (range_with_len 0 byte)
+
+  front_len : length (filter p (range_with_len 0 byte)) ≡ met
+  front_len = ap length (sym h.front) ∙ length-take-le met needles h.within
+
+  more : List ℕ
+  more = filter p (range_with_len (byte + 1) (255 - byte))
+
+  whole : filter p (range_with_len 0 256)
+      ≡ filter p (range_with_len 0 byte) ++ (byte ∷ filter p (range_with_len (byte + 1) (255 - byte)))
+  whole =
+      let e : 256 ≡ byte + suc (255 - byte) = omega (arith, lt) in
+      let f : 0 + byte ≡ byte = omega arith in
+      ap (λ (n : ℕ). filter p (range_with_len 0 n)) e
+      ∙ ap (filter p)
+      (range_split byte (suc (255 - byte)) 0
+      ∙ ap (λ (a : ℕ). range_with_len 0 byte ++ range_with_len a (suc (255 - byte))) f)
+      ∙ filter-append p (range_with_len 0 byte) (range_with_len byte (suc (255 - byte)))
+      ∙ ap
+      (λ (b : Bool).
+      filter p (range_with_len 0 byte)
+      ++ (if b then byte ∷ filter p (range_with_len (byte + 1) (255 - byte))
+      else filter p (range_with_len (byte + 1) (255 - byte))))
+      passes
+
+  -- the byte stands among those that pass where the needles that were met end
+  stands : get_or (filter p (range_with_len 0 256)) met 0 ≡ byte
+  stands =
+      let zero_more : met - met ≡ 0 = omega arith in
+      ap (λ (t : List ℕ). get_or t met 0) whole
+      ∙ get_or-append_right (filter p (range_with_len 0 byte))
+      (byte ∷ filter p (range_with_len (byte + 1) (255 - byte))) met met 0 front_len (omega arith)
+      ∙ ap (λ (k : ℕ). get_or (byte ∷ filter p (range_with_len (byte + 1) (255 - byte))) k 0) zero_more
+
+  longer : met < length (filter p (range_with_len 0 256))
+  longer =
+      omega (
+        arith,
+        ap length whole,
+        length-append (filter p (range_with_len 0 byte)) (byte ∷ filter p (range_with_len (byte + 1) (255 - byte))),
+        front_len,
+      )
+
+  pub too_few : length needles ≤ met → bytes_eq needles (filter p (range_with_len 0 256)) ≡ false
+  too_few le =
+      differ needles (filter p (range_with_len 0 256)) (λ e. absurd (omega (arith, le, ap length e, longer)))
+
+  pub another : get_or needles met 0 ≢ byte → bytes_eq needles (filter p (range_with_len 0 256)) ≡ false
+  another ne =
+      differ needles (filter p (range_with_len 0 256))
+      (λ e. absurd (ne (ap (λ (t : List ℕ). get_or t met 0) e ∙ stands)))
+
+pub all_met : {needles : List ℕ} {p : ℕ → Bool} {met byte : ℕ} → AreMet needles p met byte → byte ≡ 256
+    → eqb met (length needles) ≡ bytes_eq needles (filter p (range_with_len 0 256))
+all_met {needles} {p} {met} {byte} h last =
+    let all : List ℕ = filter p (range_with_len 0 256) in
+    let front : take met needles ≡ all = h.front ∙ ap (λ (n : ℕ). filter p (range_with_len 0 n)) last in
+    elim (cases_lt met (length needles)) [
+      | inl less ↦ (
+          let len : length all ≡ met = ap length (sym front) ∙ length-take-le met needles h.within in
+          let ne : met ≢ length needles = λ e. absurd (omega (arith, less, e)) in
+          ne_eqb met (length needles) ne
+          ∙ sym (differ needles all (λ e. absurd (omega (arith, less, ap length e, len)))))
+      | inr le ↦ (
+          let same : met ≡ length needles = omega (arith, le, h.within) in
+          let whole : needles ≡ all =
+          sym (take-length needles) ∙ ap (λ (n : ℕ). take n needles) (sym same) ∙ front in
+          eq-eqb met (length needles) same ∙ sym ((bytes_eq-Decides needles all).1 whole))
+    ]
+
+-- ---- of a row
+
+pub leaving_is : (l : Layout) (id : ℕ) → leaving_id l id ≡ filter (leaves l id) (range_with_len 0 256)
+unfolding leaving_id
+leaving_is l id = refl
+
+pub leaves_where : (l : Layout) (id byte next : ℕ) → next ≡ next_id l id byte → (next ≡ id → ⊥)
+    → leaves l id byte ≡ true
+leaves_where l id byte next is ne = ap not (ne_eqb (next_id l id byte) id (λ e. ne (is ∙ e)))
+
+pub stays_where : (l : Layout) (id byte next : ℕ) → next ≡ next_id l id byte → next ≡ id → leaves l id byte ≡ false
+stays_where l id byte next is e = ap not (eq-eqb (next_id l id byte) id (sym is ∙ e))
+
+module _ (l : Layout) (id : ℕ) {needles : List ℕ} {met byte : ℕ} (h : AreMet needles (leaves l id) met byte) where
+  pub few_leave : byte < 256 → leaves l id byte ≡ true → length needles ≤ met
+      → false ≡ bytes_eq needles (leaving_id l id)
+  few_leave lt passes le = sym (ap (bytes_eq needles) (leaving_is l id) ∙ too_few h lt passes le)
+
+  pub another_leaves : byte < 256 → leaves l id byte ≡ true → get_or needles met 0 ≢ byte
+      → false ≡ bytes_eq needles (leaving_id l id)
+  another_leaves lt passes ne = sym (ap (bytes_eq needles) (leaving_is l id) ∙ another h lt passes ne)
+
+  pub all_leave : byte ≡ 256 → eqb met (length needles) ≡ bytes_eq needles (leaving_id l id)
+  all_leave last = all_met h last ∙ sym (ap (bytes_eq needles) (leaving_is l id))

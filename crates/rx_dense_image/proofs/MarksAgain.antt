@@ -1,0 +1,162 @@
+-- What was written is read again: special ids, needles and quit bytes.
+use Rattle.std.proofs.Common.{◌≡◌, ℕ, zero, suc, ◌+◌, ◌*◌, ◌/◌, ◌%◌, ◌^◌, ◌<◌, ◌≤◌, List, [], ◌∷◌, ◌++◌, length}
+use Rattle.std.proofs.Common.{get_or, drop, map, Ok, refl, sym, ap, subst, ◌∙◌, append_assoc, arith, rules}
+use Rattle.std.specs.List.{flat_map, range_with_len}
+use Rattle.std.specs.Int.{w32, w128}
+use Rattle.std.proofs.lemmas.Bool.{lt-ltb}
+use Rattle.std.proofs.lemmas.List.{append-nil, drop-drop, drop_at}
+use Rattle.std.proofs.lemmas.List.Concat.{flat_map-cons}
+use Rattle.std.proofs.lemmas.List.FromFn.{fill_by_all}
+use Rattle.rx_spec.specs.Causes.{max_id}
+use Rattle.rx_wire.specs.declared.order.Order.{Order}
+use Rattle.rx_wire.specs.Kinds.{Kind, Reads}
+use Rattle.rx_wire.specs.Fields.{bytes_at, field}
+use Rattle.rx_wire.proofs.Fields.{bytes_again, id_again, u128_again, u32_again}
+use Rattle.rx_dense.specs.declared.special.Special.{Special}
+use Rattle.rx_dense_image.specs.Marks.{AreReadMarks, Marks, accel_text, accels_at, accels_text, id_pair_at, marks_at}
+use Rattle.rx_dense_image.specs.Marks.{marks_text}
+use Rattle.rx_dense_image.specs.Marks.{needles_in, needles_of, quit_at, quit_text, special_at, special_ids_at}
+use Rattle.rx_dense_image.specs.Marks.{special_text}
+use Rattle.rx_dense_image.proofs.ImageLengths.{length-accel, length-each, length-special}
+
+-- ---- special ids
+
+-- each is an id
+pub record AreSpecialIds (s : Special) : Type 0 where
+  pub max : s.max ≤ max_id
+  pub quit : s.quit ≤ max_id
+  pub min_match : s.min_match ≤ max_id
+  pub max_match : s.max_match ≤ max_id
+  pub min_accel : s.min_accel ≤ max_id
+  pub max_accel : s.max_accel ≤ max_id
+  pub min_start : s.min_start ≤ max_id
+  pub max_start : s.max_start ≤ max_id
+
+id_pair_again : (order : Order) (first last : ℕ) → first ≤ max_id → last ≤ max_id
+    → (rest : List ℕ)
+    → id_pair_at order (field order w32 first ++ (field order w32 last ++ rest)) ≡ Ok ((first, last), rest)
+unfolding id_pair_at
+id_pair_again order first last a b rest =
+    rw (
+      id_again Kind.StateID order first a (field order w32 last ++ rest),
+      id_again Kind.StateID order last b rest,
+    )
+    refl
+
+special_ids_again : (order : Order) (s : Special) → AreSpecialIds s
+    → Reads (special_ids_at order) (special_text order s) s
+unfolding special_ids_at
+special_ids_again order s h rest =
+    let t4 : List ℕ = field order w32 s.min_start ++ (field order w32 s.max_start ++ rest) in
+    let t3 : List ℕ = field order w32 s.min_accel ++ (field order w32 s.max_accel ++ t4) in
+    let t2 : List ℕ = field order w32 s.min_match ++ (field order w32 s.max_match ++ t3) in
+    let t1 : List ℕ = field order w32 s.max ++ (field order w32 s.quit ++ t2) in
+    let regrouped : special_text order s ++ rest ≡ t1 = simp append_assoc refl in
+    ap (special_ids_at order) regrouped
+    ∙ rw (
+      id_pair_again order s.max s.quit h.max h.quit t2,
+      id_pair_again order s.min_match s.max_match h.min_match h.max_match t3,
+      id_pair_again order s.min_accel s.max_accel h.min_accel h.max_accel t4,
+      id_pair_again order s.min_start s.max_start h.min_start h.max_start rest,
+    )
+    refl
+
+special_again : (order : Order) (word_len : ℕ) (marks : Marks) → AreReadMarks word_len marks
+    → AreSpecialIds marks.special → Reads (special_at order word_len) (special_text order marks.special) marks.special
+unfolding special_at
+special_again order word_len marks h ids rest =
+    let text : List ℕ = special_text order marks.special in
+    let front : bytes_at 32 (text ++ rest) ≡ Ok (text, rest) =
+    subst (λ (n : ℕ). bytes_at n (text ++ rest) ≡ Ok (text, rest)) (length-special order marks.special)
+    (bytes_again text rest) in
+    let read : special_ids_at order text ≡ Ok (marks.special, []) =
+    ap (special_ids_at order) (sym (append-nil text)) ∙ special_ids_again order marks.special ids [] in
+    rw (front, read, h.special, lt-ltb _ _ h.within) refl
+
+-- ---- needles
+
+needles_again : (needles rest : List ℕ) → length needles ≤ 3 → needles_of (accel_text needles ++ rest) ≡ needles
+needles_again [] rest few = refl
+needles_again (a ∷ []) rest few = refl
+needles_again (a ∷ (b ∷ [])) rest few = refl
+needles_again (a ∷ (b ∷ (c ∷ []))) rest few = refl
+needles_again (a ∷ (b ∷ (c ∷ (d ∷ more)))) rest few = absurd (omega (arith, few))
+
+each_again : (accels : List (List ℕ)) (rest : List ℕ) (k : ℕ) → k < length accels
+    → ((i : ℕ) → length (get_or accels i []) ≤ 3)
+    → needles_in (flat_map accel_text accels ++ rest) k ≡ get_or accels k []
+each_again [] rest k lt few = absurd (search (rules, lt))
+each_again (a ∷ accels) rest zero lt few =
+    let regrouped : flat_map accel_text (a ∷ accels) ++ rest ≡ accel_text a ++ (flat_map accel_text accels ++ rest) =
+    ap (λ (t : List ℕ). t ++ rest) (flat_map-cons accel_text a accels)
+    ∙ append_assoc (accel_text a) (flat_map accel_text accels) rest in
+    ap needles_of regrouped ∙ needles_again a (flat_map accel_text accels ++ rest) (few 0)
+each_again (a ∷ accels) rest (suc k) lt few =
+    let tail : List ℕ = flat_map accel_text accels ++ rest in
+    let all : List ℕ = flat_map accel_text (a ∷ accels) ++ rest in
+    let regrouped : all ≡ accel_text a ++ tail =
+    ap (λ (t : List ℕ). t ++ rest) (flat_map-cons accel_text a accels)
+    ∙ append_assoc (accel_text a) (flat_map accel_text accels) rest in
+    let eight : 8 * suc k ≡ 8 + 8 * k = omega arith in
+    let past : drop (8 * suc k) all ≡ drop (8 * k) tail =
+    ap (λ (n : ℕ). drop n all) eight
+    ∙ ap (drop (8 + 8 * k)) regrouped
+    ∙ sym (drop-drop (8 * k) 8 (accel_text a ++ tail))
+    ∙ ap (drop (8 * k)) (drop_at (accel_text a) tail 8 (length-accel a)) in
+    ap needles_of past ∙ each_again accels rest k (omega (arith, lt)) (λ i. few (suc i))
+
+accels_again : (order : Order) (word_len : ℕ) (marks : Marks) → AreReadMarks word_len marks
+    → Reads (accels_at order) (accels_text order marks.accels) marks.accels
+unfolding accels_at
+accels_again order word_len marks h rest =
+    let accels : List (List ℕ) = marks.accels in
+    let each : List ℕ = flat_map accel_text accels in
+    let regrouped : accels_text order accels ++ rest ≡ field order w32 (length accels) ++ (each ++ rest) =
+    append_assoc (field order w32 (length accels)) each rest in
+    let front : bytes_at (8 * length accels) (each ++ rest) ≡ Ok (each, rest) =
+    subst (λ (n : ℕ). bytes_at n (each ++ rest) ≡ Ok (each, rest)) (length-each accels) (bytes_again each rest) in
+    let at : (k : ℕ) → k < length accels → get_or accels k [] ≡ needles_in each k =
+    λ k lt.
+    sym (each_again accels [] k lt h.accels.few_needles) ∙ ap (λ (t : List ℕ). needles_in t k) (append-nil each) in
+    let same : accels ≡ map (needles_in each) (range_with_len 0 (length accels)) =
+    fill_by_all (needles_in each) accels (length accels) [] refl at in
+    ap (accels_at order) regrouped
+    ∙ rw (u32_again order (length accels) h.accels.few (each ++ rest), front, ← same) refl
+
+-- ---- quit bytes
+
+quit_again : (order : Order) (quit : ℕ) → quit < 2 ^ 256 → Reads (quit_at order) (quit_text order quit) quit
+unfolding quit_at
+quit_again order quit small rest =
+    let low : ℕ = quit % 2 ^ 128 in
+    let high : ℕ = quit / 2 ^ 128 in
+    let regrouped : quit_text order quit ++ rest ≡ field order w128 low ++ (field order w128 high ++ rest) =
+    append_assoc (field order w128 low) (field order w128 high) rest in
+    let whole : high * 2 ^ 128 + low ≡ quit = omega arith in
+    ap (quit_at order) regrouped
+    ∙ rw (
+      u128_again order low (omega arith) (field order w128 high ++ rest),
+      u128_again order high (omega (arith, small)) rest,
+      whole,
+    )
+    refl
+
+-- ---- all of them
+
+pub marks_again : (order : Order) (word_len : ℕ) (marks : Marks) → AreReadMarks word_len marks
+    → AreSpecialIds marks.special → Reads (marks_at order word_len) (marks_text order marks) marks
+unfolding marks_at
+marks_again order word_len marks h ids rest =
+    let t2 : List ℕ = quit_text order marks.quit ++ rest in
+    let t1 : List ℕ = accels_text order marks.accels ++ t2 in
+    let regrouped : marks_text order marks ++ rest ≡ special_text order marks.special ++ t1 =
+    append_assoc (special_text order marks.special) (accels_text order marks.accels ++ quit_text order marks.quit) rest
+    ∙ ap (λ (t : List ℕ). special_text order marks.special ++ t)
+    (append_assoc (accels_text order marks.accels) (quit_text order marks.quit) rest) in
+    ap (marks_at order word_len) regrouped
+    ∙ rw (
+      special_again order word_len marks h ids t1,
+      accels_again order word_len marks h t2,
+      quit_again order marks.quit h.quit rest,
+    )
+    refl

@@ -1,0 +1,72 @@
+-- Words past the alphabet are cleared, and the rows that were read are as each part says.
+use Rattle.std.proofs.Common.{◌≡◌, ℕ, ◌+◌, ◌*◌, ◌/◌, ◌%◌, ◌^◌, ◌<◌, ◌≤◌, List, length, map, slice_index, refl, sym, ap}
+use Rattle.std.proofs.Common.{subst, ◌∙◌, arith, inl, inr}
+use Rattle.std.specs.List.{range_with_len}
+use Rattle.std.proofs.Math.Nat.{mul-div_cancel, mul-mod_left}
+use Rattle.std.proofs.lemmas.Bool.{cases_lt, le-ltb}
+use Rattle.std.proofs.lemmas.List.{get_or_past}
+use Rattle.std.proofs.lemmas.List.FromFn.{get_or-map-range_with_len, length-map-range_with_len}
+use Rattle.std.proofs.lemmas.Nat.{pow_pos}
+use Rattle.rx_wire.specs.declared.order.Order.{Order}
+use Rattle.rx_base.specs.ByteClasses.{AreClasses, alphabet_len}
+use Rattle.rx_dense_image.specs.Rows.{ArePadded, AreWords, word_at, words_of, AreReadRows, IsStride, Rows, cleared}
+use Rattle.rx_dense_image.proofs.ColumnMasks.{IsBytes, word_small}
+
+-- words that were cleared
+pub padded : (stride alphabet count : ℕ) (word : ℕ → ℕ) (words : List ℕ)
+    → words ≡ map (λ k. cleared stride alphabet k (word k)) (range_with_len 0 count) → ArePadded stride alphabet words
+padded stride alphabet count word words is =
+    let f : ℕ → ℕ = λ k. cleared stride alphabet k (word k) in
+    let len : length words ≡ count = ap length is ∙ length-map-range_with_len f 0 count in
+    record {
+      zero = λ k lt past.
+          let e : 0 + k ≡ k = omega arith in
+          ap (λ (t : List ℕ). slice_index t k) is
+          ∙ get_or-map-range_with_len f 0 count k k 0 (omega (arith, lt, len)) e
+          ∙ rw (le-ltb _ _ past) refl;
+    }
+
+-- so many rows of a stride
+pub record AreCounted (rows : Rows) (bytes : List ℕ) (count stride : ℕ) : Type 0 where
+  pub classes : rows.classes ≡ bytes
+  pub of_stride : IsStride bytes rows.stride2 stride
+  pub few : count < 2 ^ 32
+  pub len : length rows.words ≡ count * stride
+  pub padded : ArePadded (2 ^ rows.stride2) (alphabet_len rows.classes) rows.words
+
+pub read_rows : {rows : Rows} {bytes : List ℕ} {count stride : ℕ} → AreCounted rows bytes count stride
+    → AreReadRows rows
+read_rows {rows} {bytes} {count} {stride} h =
+    let s : ℕ = 2 ^ rows.stride2 in
+    let is : stride ≡ s = h.of_stride.value in
+    let len : length rows.words ≡ count * s = h.len ∙ ap (λ (n : ℕ). count * n) is in
+    let rows_len : length rows.words / s ≡ count =
+    ap (λ (n : ℕ). n / s) len ∙ mul-div_cancel count (pow_pos rows.stride2) in
+    record {
+      classes = subst AreClasses (sym h.classes) h.of_stride.rise;
+      some = h.of_stride.some;
+      exponent = h.of_stride.exponent;
+      fits =
+          subst (λ (n : ℕ). alphabet_len rows.classes ≤ n) is
+          (subst (λ (t : List ℕ). alphabet_len t ≤ stride) (sym h.classes) h.of_stride.fits);
+      whole = ap (λ (n : ℕ). n % s) len ∙ mul-mod_left count s;
+      few = subst (λ (n : ℕ). n < 2 ^ 32) (sym rows_len) h.few;
+      padded = h.padded;
+    }
+
+-- ---- words of bytes
+
+pub words_fit : (order : Order) (bytes : List ℕ) (count : ℕ) (words : List ℕ) → IsBytes bytes
+    → words ≡ words_of order bytes count → AreWords words
+words_fit order bytes count words fits is i =
+    let len : length words ≡ count = ap length is ∙ length-map-range_with_len (word_at order bytes) 0 count in
+    elim (cases_lt i count) [
+      | inl lt ↦ (
+          let e : 0 + i ≡ i = omega arith in
+          let at : slice_index words i ≡ word_at order bytes i =
+          ap (λ (t : List ℕ). slice_index t i) is
+          ∙ get_or-map-range_with_len (word_at order bytes) 0 count i i 0 lt e in
+          subst (λ (n : ℕ). n < 2 ^ 32) (sym at) (word_small order bytes i fits))
+      | inr past ↦ (
+          subst (λ (n : ℕ). n < 2 ^ 32) (sym (get_or_past words i 0 (omega (arith, len, past)))) (omega arith))
+    ]

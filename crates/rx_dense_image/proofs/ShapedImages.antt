@@ -1,0 +1,79 @@
+-- A layout that is read and closed has the shape of every dense table.
+use Rattle.std.proofs.Common.{◌≡◌, ℕ, ◌+◌, ◌*◌, ◌/◌, ◌%◌, ◌<◌, ◌≤◌, not, ltb, eqb, Option, Some, None}
+use Rattle.std.proofs.Common.{length, slice_index, sym, subst, arith}
+use Rattle.std.proofs.lemmas.Bool.{and_parts, leb-true}
+use Rattle.std.proofs.lemmas.Nat.{mul-le}
+use Rattle.rx_spec.specs.Causes.{id_count, max_id}
+use Rattle.rx_dense.specs.Layouts.{AreLists, AreRows, AreStarts, IsRowId, IsShaped, Layout, is_row_id}
+use Rattle.rx_dense.specs.Layouts.{start_entries, stride}
+use Rattle.rx_dense.proofs.Rows.{quotient}
+use Rattle.rx_dense_image.specs.StartTables.{IsAtMost}
+use Rattle.rx_dense_image.specs.Images.{IsRead, IsWhole}
+use Rattle.rx_dense_image.proofs.AccelRows.{row_id_of}
+use Rattle.rx_dense_image.proofs.ClosedFacts.{AreClosed, closed}
+
+two_rows : (n s : ℕ) → n % s ≡ 0 → 2 ≤ n / s → 2 * s ≤ n
+two_rows n s whole two =
+    let same : s ≤ s = omega arith in omega (arith, quotient n s whole, mul-le 2 s (n / s) s two same)
+
+few_starts : (o : Option ℕ) → IsAtMost id_count o → start_entries o ≤ 12 + 6 * (max_id + 1)
+few_starts None most = omega arith
+few_starts (Some n) most = omega (arith, most)
+
+module _ (l : Layout) (read : IsRead l) (facts : AreClosed l) where
+  pub word_row : (k : ℕ) → k < length l.words → IsRowId l (slice_index l.words k)
+  word_row k lt =
+      row_id_of l read.rows (slice_index l.words k)
+      (and_parts (is_row_id l (slice_index l.words k)) _ (facts.entries k lt)).0
+
+  pub start_row : (k : ℕ) → k < length l.starts → IsRowId l (slice_index l.starts k)
+  start_row k lt =
+      let outer = and_parts _ (not (eqb (slice_index l.starts k) (stride l))) (facts.starts k lt) in
+      row_id_of l read.rows (slice_index l.starts k) (and_parts (is_row_id l (slice_index l.starts k)) _ outer.0).0
+
+  rows_shaped : AreRows l
+  rows_shaped = record {
+    classes = read.rows.classes;
+    exponent = read.rows.exponent;
+    fits = read.rows.fits;
+    whole = read.rows.whole;
+    two = two_rows (length l.words) (stride l) read.rows.whole facts.two;
+    few = omega (arith, facts.ids);
+    next_ids = word_row;
+    past_alphabet = read.rows.padded.zero;
+  }
+
+  starts_shaped : AreStarts l
+  starts_shaped = record {
+    contexts = read.table.contexts;
+    count = read.table.count;
+    small =
+        subst (λ (n : ℕ). n ≤ 12 + 6 * (max_id + 1)) (sym read.table.count)
+        (few_starts l.pattern_starts read.table.patterns);
+    start_ids = start_row;
+  }
+
+  pub list_within : (i : ℕ) → 2 * i + 1 < length l.slices
+      → slice_index l.slices (2 * i) + slice_index l.slices (2 * i + 1) ≤ length l.pattern_ids
+  list_within i lt =
+      let half : i < length l.slices / 2 = omega (arith, lt, read.lists.pairs) in
+      let outer = and_parts _ _ (facts.lists i half) in
+      let inner = and_parts _ (not (eqb (slice_index l.slices (2 * i + 1)) 0)) outer.0 in
+      let both = and_parts (ltb (slice_index l.slices (2 * i)) (length l.pattern_ids)) _ inner.0 in
+      leb-true _ _ both.1
+
+  lists_shaped : AreLists l
+  lists_shaped = record {
+    few_patterns = omega (arith, read.lists.few_patterns);
+    pairs = read.lists.pairs;
+    few_rows = read.lists.few_rows;
+    few = read.lists.few;
+    within = list_within;
+    few_accels = read.marks.accels.few;
+  }
+
+  pub shaped_of : IsShaped l
+  shaped_of = record { rows = rows_shaped; starts = starts_shaped; lists = lists_shaped }
+
+pub shaped : (l : Layout) → IsWhole l → IsShaped l
+shaped l whole = shaped_of l whole.read (closed l whole.closed)

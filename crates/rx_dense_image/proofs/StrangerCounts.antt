@@ -1,0 +1,81 @@
+-- Lists of pattern ids, tested by counts of numbers that are no ids of patterns.
+use Rattle.std.proofs.Common.{◌≡◌, ℕ, ◌+◌, ◌*◌, ◌<◌, ◌≤◌, Bool, true, false, cond, not, ◌&&◌, ltb, leb, eqb, List, []}
+use Rattle.std.proofs.Common.{◌∷◌, length, take, drop, refl, ap, ap₂, slice_index, ◌∙◌, arith}
+use Rattle.std.specs.List.{list_all}
+use Rattle.std.proofs.Math.Seq.{take-add}
+use Rattle.std.proofs.lemmas.Bool.{lt-ltb, ne_eqb}
+use Rattle.std.proofs.lemmas.List.Folds.{sum_by-zero}
+use Rattle.std.proofs.lemmas.List.Sums.{sum_by-append}
+use Rattle.rx_dense.specs.Layouts.{Layout}
+use Rattle.rx_dense_image.specs.Closing.{is_list}
+use Rattle.rx_dense_image.specs.Counts.{is_stranger, strangers}
+
+one_or_none : (b : Bool) → eqb (cond b 1 0) 0 ≡ not b
+one_or_none true = refl
+one_or_none false = refl
+
+no_stranger : (n id : ℕ) → eqb (cond (is_stranger n id) 1 0) 0 ≡ ltb id n
+no_stranger n id = grind arith
+
+all_same : (p q : ℕ → Bool) → ((x : ℕ) → p x ≡ q x) → (xs : List ℕ) → list_all p xs ≡ list_all q xs
+all_same p q same [] = refl
+all_same p q same (x ∷ xs) =
+    ap (λ (b : Bool). b && list_all p xs) (same x) ∙ ap (λ (b : Bool). q x && b) (all_same p q same xs)
+
+-- no stranger is counted where all are ids of patterns
+pub none_counted : (n : ℕ) (ids : List ℕ) → eqb (strangers n ids) 0 ≡ list_all (λ id. ltb id n) ids
+none_counted n ids =
+    sum_by-zero (λ id. cond (is_stranger n id) 1 0) ids
+    ∙ all_same (λ id. eqb (cond (is_stranger n id) 1 0) 0) (λ id. ltb id n) (no_stranger n) ids
+
+same_more : (a b : ℕ) → eqb a (a + b) ≡ eqb b 0
+same_more a b = grind arith
+
+-- two counts are the same where none stands between
+pub counts_same : (n first len : ℕ) (ids : List ℕ)
+    → eqb (strangers n (take first ids)) (strangers n (take (first + len) ids))
+    ≡ list_all (λ id. ltb id n) (take len (drop first ids))
+counts_same n first len ids =
+    let f : ℕ → ℕ = λ id. cond (is_stranger n id) 1 0 in
+    let both : strangers n (take (first + len) ids)
+    ≡ strangers n (take first ids) + strangers n (take len (drop first ids)) =
+    ap (strangers n) (take-add first len ids) ∙ sum_by-append f (take first ids) (take len (drop first ids)) in
+    ap (λ (m : ℕ). eqb (strangers n (take first ids)) m) both
+    ∙ same_more (strangers n (take first ids)) (strangers n (take len (drop first ids)))
+    ∙ none_counted n (take len (drop first ids))
+
+-- ---- the list of a match row
+
+last_test : (a b c d : Bool) → a ≡ true → b ≡ true → c ≡ false → d ≡ (((a && b) && not c) && d)
+last_test true true false d p q r = refl
+last_test true true true d p q r = absurd cc
+last_test true false c d p q r = absurd cc
+last_test false b c d p q r = absurd cc
+
+-- where a list begins among the pattern ids, and how long it is
+pub record IsPair (l : Layout) (i first len : ℕ) : Type 0 where
+  pub is_first : first ≡ slice_index l.slices (2 * i)
+  pub is_len : len ≡ slice_index l.slices (2 * i + 1)
+  pub begins : first < length l.pattern_ids
+  pub ends : first + len ≤ length l.pattern_ids
+  pub some : len ≡ 0 → ⊥
+
+le-leb : (a b : ℕ) → a ≤ b → leb a b ≡ true
+le-leb a b h = grind arith
+
+pub list_test : {l : Layout} {i first len : ℕ} → IsPair l i first len → (counts : List ℕ)
+    → ((k : ℕ) → k ≤ length l.pattern_ids → slice_index counts k ≡ strangers l.pattern_len (take k l.pattern_ids))
+    → eqb (slice_index counts first) (slice_index counts (first + len)) ≡ is_list l i
+list_test {l} {i} {first} {len} pair counts are =
+    let ids : List ℕ = l.pattern_ids in
+    let n : ℕ = l.pattern_len in
+    let test : ℕ → ℕ → Bool =
+    λ first len.
+    ((ltb first (length ids) && leb (first + len) (length ids)) && not (eqb len 0))
+    && list_all (λ id. ltb id n) (take len (drop first ids)) in
+    let begins : first ≤ length ids = omega (arith, pair.begins) in
+    ap₂ (λ (a b : ℕ). eqb a b) (are first begins) (are (first + len) pair.ends)
+    ∙ counts_same n first len ids
+    ∙ last_test (ltb first (length ids)) (leb (first + len) (length ids)) (eqb len 0) _ (lt-ltb _ _ pair.begins)
+    (le-leb _ _ pair.ends) (ne_eqb len 0 pair.some)
+    ∙ ap₂ test pair.is_first pair.is_len

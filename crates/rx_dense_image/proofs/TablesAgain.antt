@@ -1,0 +1,177 @@
+-- What was written is read again: start tables, and the lists of match rows.
+use Rattle.std.proofs.Common.{◌≡◌, ℕ, ◌*◌, ◌/◌, ◌%◌, ◌<◌, ◌≤◌, true, false, ltb, leb, eqb, Option, Some, None}
+use Rattle.std.proofs.Common.{List, [], ◌∷◌, ◌++◌, length, map, Ok, refl, ap, subst, ◌∙◌, append_assoc, arith}
+use Rattle.std.specs.List.{list_all}
+use Rattle.std.specs.Int.{w32}
+use Rattle.std.proofs.lemmas.List.{length-map}
+use Rattle.rx_spec.specs.Causes.{id_count, max_id}
+use Rattle.rx_spec.specs.declared.Start.{Start}
+use Rattle.rx_spec.specs.declared.StartKind.{StartKind}
+use Rattle.rx_wire.specs.declared.order.Order.{Order}
+use Rattle.rx_wire.specs.Kinds.{Reads}
+use Rattle.rx_wire.specs.Fields.{bytes_at, field}
+use Rattle.rx_wire.proofs.Fields.{bytes_again, u32_again}
+use Rattle.rx_dense.specs.Layouts.{context_number, start_entries}
+use Rattle.rx_dense_image.specs.Rows.{AreWords, words_at, words_text}
+use Rattle.rx_dense_image.specs.StartTables.{IsAtMost, IsReadStartTable, StartTable, context_count, context_count_at}
+use Rattle.rx_dense_image.specs.StartTables.{context_of}
+use Rattle.rx_dense_image.specs.StartTables.{contexts_at, kind_number, number_or_none, pattern_starts_at}
+use Rattle.rx_dense_image.specs.StartTables.{start_kind_at, start_kinds_at, start_table_at, start_table_text}
+use Rattle.rx_dense_image.specs.StartTables.{universal_at}
+use Rattle.rx_dense_image.specs.PatternLists.{AreReadLists, PatternLists, pattern_len_at, pattern_lists_at}
+use Rattle.rx_dense_image.specs.PatternLists.{pattern_lists_text}
+use Rattle.rx_dense_image.proofs.ReadAgain.{words_again}
+
+-- ---- numbers
+
+le-leb : (a b : ℕ) → a ≤ b → leb a b ≡ true
+le-leb a b h = grind arith
+
+apart : (a b : ℕ) → a < b → eqb a b ≡ false
+apart a b h = grind arith
+
+start_kind_again : (order : Order) (kind : StartKind)
+    → Reads (start_kind_at order) (field order w32 (kind_number kind)) kind
+unfolding start_kind_at
+start_kind_again order StartKind.Both rest = rw (u32_again order 0 (omega arith) rest) refl
+start_kind_again order StartKind.Unanchored rest = rw (u32_again order 1 (omega arith) rest) refl
+start_kind_again order StartKind.Anchored rest = rw (u32_again order 2 (omega arith) rest) refl
+
+context_count_again : (order : Order) → Reads (context_count_at order) (field order w32 context_count) context_count
+unfolding context_count_at
+context_count_again order rest = rw (u32_again order 6 (omega arith) rest) refl
+
+pattern_starts_again : (order : Order) (o : Option ℕ) → IsAtMost id_count o
+    → Reads (pattern_starts_at order) (field order w32 (number_or_none o)) o
+unfolding pattern_starts_at
+pattern_starts_again order None most rest = rw (u32_again order 4294967295 (omega arith) rest) refl
+pattern_starts_again order (Some n) most rest =
+    let other : eqb n 4294967295 ≡ false = apart n 4294967295 (omega (arith, most)) in
+    let few : leb n id_count ≡ true = le-leb n id_count most in
+    rw (u32_again order n (omega (arith, most)) rest, other, few) refl
+
+universal_again : (order : Order) (o : Option ℕ) → IsAtMost max_id o
+    → Reads (universal_at order) (field order w32 (number_or_none o)) o
+unfolding universal_at
+universal_again order None most rest = rw (u32_again order 4294967295 (omega arith) rest) refl
+universal_again order (Some n) most rest =
+    let other : eqb n 4294967295 ≡ false = apart n 4294967295 (omega (arith, most)) in
+    let few : leb n max_id ≡ true = le-leb n max_id most in
+    rw (u32_again order n (omega (arith, most)) rest, other, few) refl
+
+-- ---- contexts
+
+context_again : (context : Start) → context_of (context_number context) ≡ context
+context_again Start.NonWordByte = refl
+context_again Start.WordByte = refl
+context_again Start.Text = refl
+context_again Start.LineLF = refl
+context_again Start.LineCR = refl
+context_again Start.CustomLineTerminator = refl
+
+is_context : (context : Start) → ltb (context_number context) 6 ≡ true
+is_context Start.NonWordByte = refl
+is_context Start.WordByte = refl
+is_context Start.Text = refl
+is_context Start.LineLF = refl
+is_context Start.LineCR = refl
+is_context Start.CustomLineTerminator = refl
+
+are_contexts : (contexts : List Start) → list_all (λ byte. ltb byte 6) (map context_number contexts) ≡ true
+are_contexts [] = refl
+are_contexts (context ∷ contexts) = rw (is_context context, are_contexts contexts) refl
+
+all_again : (contexts : List Start) → map context_of (map context_number contexts) ≡ contexts
+all_again [] = refl
+all_again (context ∷ contexts) =
+    ap (λ (c : Start). c ∷ map context_of (map context_number contexts)) (context_again context)
+    ∙ ap (λ (t : List Start). context ∷ t) (all_again contexts)
+
+contexts_again : (contexts : List Start) → length contexts ≡ 256
+    → Reads contexts_at (map context_number contexts) contexts
+unfolding contexts_at
+contexts_again contexts len rest =
+    let numbers : List ℕ = map context_number contexts in
+    let front : bytes_at 256 (numbers ++ rest) ≡ Ok (numbers, rest) =
+    subst (λ (n : ℕ). bytes_at n (numbers ++ rest) ≡ Ok (numbers, rest)) (length-map contexts context_number ∙ len)
+    (bytes_again numbers rest) in
+    rw (front, are_contexts contexts, all_again contexts) refl
+
+-- ---- the start table
+
+start_kinds_again : (order : Order) (kind : StartKind) (contexts : List Start) → length contexts ≡ 256
+    → Reads (start_kinds_at order)
+    (field order w32 (kind_number kind) ++ (map context_number contexts ++ field order w32 context_count))
+    (kind, contexts)
+unfolding start_kinds_at
+start_kinds_again order kind contexts len rest =
+    let t2 : List ℕ = field order w32 context_count ++ rest in
+    let t1 : List ℕ = map context_number contexts ++ t2 in
+    let regrouped : (field order w32 (kind_number kind)
+    ++ (map context_number contexts ++ field order w32 context_count)) ++ rest
+    ≡ field order w32 (kind_number kind) ++ t1 =
+    append_assoc (field order w32 (kind_number kind)) (map context_number contexts ++ field order w32 context_count)
+    rest
+    ∙ ap (λ (t : List ℕ). field order w32 (kind_number kind) ++ t)
+    (append_assoc (map context_number contexts) (field order w32 context_count) rest) in
+    ap (start_kinds_at order) regrouped
+    ∙ rw (start_kind_again order kind t1, contexts_again contexts len t2, context_count_again order rest) refl
+
+pub start_table_again : (order : Order) (table : StartTable) → IsReadStartTable table → AreWords table.starts
+    → Reads (start_table_at order) (start_table_text order table) table
+unfolding start_table_at
+start_table_again order table h small rest =
+    let kind : List ℕ = field order w32 (kind_number table.start_kind) in
+    let numbers : List ℕ = map context_number table.contexts in
+    let six : List ℕ = field order w32 context_count in
+    let t4 : List ℕ = words_text order table.starts ++ rest in
+    let t3 : List ℕ = field order w32 (number_or_none table.universal_anchored) ++ t4 in
+    let t2 : List ℕ = field order w32 (number_or_none table.universal_unanchored) ++ t3 in
+    let t1 : List ℕ = field order w32 (number_or_none table.pattern_starts) ++ t2 in
+    let regrouped : start_table_text order table ++ rest ≡ (kind ++ (numbers ++ six)) ++ t1 = simp append_assoc refl in
+    let starts : words_at order (start_entries table.pattern_starts) t4 ≡ Ok (table.starts, rest) =
+    subst (λ (n : ℕ). words_at order n t4 ≡ Ok (table.starts, rest)) h.count
+    (words_again order table.starts small rest) in
+    ap (start_table_at order) regrouped
+    ∙ rw (
+      start_kinds_again order table.start_kind table.contexts h.contexts t1,
+      pattern_starts_again order table.pattern_starts h.patterns t2,
+      universal_again order table.universal_unanchored h.unanchored t3,
+      universal_again order table.universal_anchored h.anchored t4,
+      starts,
+    )
+    refl
+
+-- ---- the lists of match rows
+
+pattern_len_again : (order : Order) (n : ℕ) → n ≤ id_count → Reads (pattern_len_at order) (field order w32 n) n
+unfolding pattern_len_at
+pattern_len_again order n most rest =
+    let few : leb n id_count ≡ true = le-leb n id_count most in
+    rw (u32_again order n (omega (arith, most)) rest, few) refl
+
+pairs_whole : (n : ℕ) → n % 2 ≡ 0 → n ≡ 2 * (n / 2)
+pairs_whole n h = omega (arith, h)
+
+pub pattern_lists_again : (order : Order) (lists : PatternLists) → AreReadLists lists
+    → Reads (pattern_lists_at order) (pattern_lists_text order lists) lists
+unfolding pattern_lists_at
+pattern_lists_again order lists h rest =
+    let rows : ℕ = length lists.slices / 2 in
+    let t4 : List ℕ = words_text order lists.pattern_ids ++ rest in
+    let t3 : List ℕ = field order w32 (length lists.pattern_ids) ++ t4 in
+    let t2 : List ℕ = field order w32 lists.pattern_len ++ t3 in
+    let t1 : List ℕ = words_text order lists.slices ++ t2 in
+    let regrouped : pattern_lists_text order lists ++ rest ≡ field order w32 rows ++ t1 = simp append_assoc refl in
+    let slices : words_at order (2 * rows) t1 ≡ Ok (lists.slices, t2) =
+    subst (λ (n : ℕ). words_at order n t1 ≡ Ok (lists.slices, t2)) (pairs_whole (length lists.slices) h.pairs)
+    (words_again order lists.slices h.words t2) in
+    ap (pattern_lists_at order) regrouped
+    ∙ rw (
+      u32_again order rows (omega (arith, h.few_rows)) t1,
+      slices,
+      pattern_len_again order lists.pattern_len h.few_patterns t3,
+      u32_again order (length lists.pattern_ids) h.few t4,
+      words_again order lists.pattern_ids h.ids rest,
+    )
+    refl

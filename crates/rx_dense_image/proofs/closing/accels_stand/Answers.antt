@@ -1,0 +1,44 @@
+use Rattle.std.proofs.Common.{◌≡◌, ℕ, ◌+◌, ◌*◌, ◌<◌, true, false, eqb, length, sym, subst, ◌∙◌, arith, rules}
+use Rattle.std.proofs.Common.{below_more}
+use Rattle.std.proofs.lemmas.Bool.{eq-eqb}
+use Rattle.rx_dense.specs.Parts.{layout_of}
+use Rattle.rx_dense.specs.Layouts.{IsRowId, stride}
+use Rattle.rx_dense_image.specs.Closing.{has_needles, range_len}
+use Rattle.rx_dense_image.proofs.EachBelow.{all_of, and_of, not_all, and_false}
+use Rattle.rx_dense_image.proofs.AccelRows.{first_accel, last_accel, range_row}
+use Rattle.rx_dense_image.proofs.closing.accels_stand.Goals as goal
+
+same_place : (a b i s t : ℕ) → a ≡ b → s ≡ t → b + i * t ≡ a + i * s
+same_place a b i s t e f = cc
+
+pub has_needles-requires-clause-row : goal.has_needles-requires-clause-row
+has_needles-requires-clause-row c =
+    let l = layout_of c.args.parts.now in
+    let first = first_accel l c.requires.rows c.requires.special in
+    let last = last_accel l c.requires.rows c.requires.special in
+    let row : IsRowId l (l.special.min_accel + c.loop-i.i * stride l) =
+    range_row l c.requires.rows l.special.min_accel l.special.max_accel c.loop-i.i first last
+    (subst (λ (n : ℕ). c.loop-i.i < n) (c.if-len-range_len.false ∙ c.range_len.ensures) c.loop-i-test.true) in
+    subst (IsRowId l) (same_place _ _ c.loop-i.i _ _ c.as_usize-first.ensures.value c.stride-stride.ensures.value) row
+
+pub loop-i-preserved : goal.loop-i-preserved
+loop-i-preserved c =
+    let l = layout_of c.args.parts.now in
+    let has : c.has_needles.result ≡ true = search rules in
+    below_more (λ k. has_needles l k ≡ true) c.loop-i.i c.loop-i.invariant (sym c.has_needles.ensures ∙ has)
+
+pub returns-then-not-has_needles : goal.returns-then-not-has_needles
+returns-then-not-has_needles c =
+    let l = layout_of c.args.parts.now in
+    let has : c.has_needles.result ≡ false = search rules in
+    sym (and_false (eqb (length l.accels) (range_len l l.special.min_accel l.special.max_accel)) _
+    (not_all (length l.accels) (has_needles l) c.loop-i.i
+    (subst (λ (n : ℕ). c.loop-i.i < n) c.len-len.ensures.value c.loop-i-test.true) (sym c.has_needles.ensures ∙ has)))
+
+pub returns : goal.returns
+returns c =
+    let l = layout_of c.args.parts.now in
+    sym (and_of (eqb (length l.accels) (range_len l l.special.min_accel l.special.max_accel)) _
+    (eq-eqb _ _ (sym c.len-len.ensures.value ∙ c.if-len-range_len.false ∙ c.range_len.ensures))
+    (all_of (length l.accels) (has_needles l)
+    (λ k lt. c.loop-i.invariant k (omega (arith, lt, c.loop-i-test.false, c.len-len.ensures.value)))))

@@ -1,0 +1,8 @@
+use Rattle.std.proofs.Common.{◌≡◌, ℕ, ◌*◌, ◌<◌, true}
+use Rattle.rx_dense.specs.Layouts.{stride}
+use Rattle.rx_dense.specs.Parts.{layout_of}
+use Rattle.rx_dense_image.specs.Closing.{is_named}
+use Rattle.rx_dense_image.proofs.closing.are_named.Given as goal
+
+abbrev pub invariant-loop-row : goal.invariant-loop-row
+invariant-loop-row l = (k : ℕ) → k < l.row → is_named l.parts.special (k * stride (layout_of l.parts)) ≡ true

@@ -1,0 +1,39 @@
+use Rattle.std.proofs.Common.{◌≡◌, ℕ, ◌+◌, ◌<◌, eqb, false, cond, length, slice_index, sym, ap, ◌∙◌, arith}
+use Rattle.std.proofs.lemmas.List.{get_or_read}
+use Rattle.rx_dense.specs.Parts.{layout_of}
+use Rattle.rx_dense.specs.Layouts.{column}
+use Rattle.rx_dense.proofs.Rows.{class_column}
+use Rattle.rx_dense_image.proofs.closing.next_id.Goals as goal
+
+byte_not : (b : ℕ) → b < 256 → eqb b 256 ≡ false
+byte_not b h = grind arith
+
+pub index-requires : goal.index-requires
+index-requires c =
+    let l = layout_of c.args.parts.now in
+    let byte : c.args.byte < 256 = omega arith in
+    omega (
+      arith,
+      class_column l.classes c.requires.rows.classes c.args.byte byte,
+      c.requires.rows.fits,
+      c.requires.row.below,
+      c.get.ensures,
+    )
+
+pub returns : goal.returns
+returns c =
+    let l = layout_of c.args.parts.now in
+    let byte : c.args.byte < 256 = omega arith in
+    let col : column l c.args.byte ≡ c.get.result =
+    ap (λ b. cond b (slice_index l.classes 255 + 1) (slice_index l.classes c.args.byte)) (byte_not c.args.byte byte)
+    ∙ sym c.get.ensures in
+    let within : c.args.id + c.get.result < length l.words =
+    omega (
+      arith,
+      class_column l.classes c.requires.rows.classes c.args.byte byte,
+      c.requires.rows.fits,
+      c.requires.row.below,
+      c.get.ensures,
+    ) in
+    get_or_read l.words (c.args.id + c.get.result) _ within c.index.ensures 0
+    ∙ sym (ap (λ (n : ℕ). slice_index l.words (c.args.id + n)) col)

@@ -1,0 +1,8 @@
+use Rattle.std.proofs.Common.{rules}
+use Rattle.rx_dense.specs.Parts.{layout_of}
+use Rattle.rx_dense_image.proofs.ShapedImages.{shaped}
+use Rattle.rx_dense_image.proofs.read.read_table.Goals as goal
+
+pub from_parts-requires : goal.from_parts-requires
+from_parts-requires c =
+    shaped (layout_of c.in_ok-parts.parts) (record { read = c.in_ok-parts.ensures.parts; closed = search rules })

@@ -1,0 +1,39 @@
+use Rattle.std.proofs.Common.{◌≡◌, ℕ, ◌+◌, ◌<◌, List, length, get_or, map, slice_index, refl, sym, ap, subst, ◌∙◌}
+use Rattle.std.proofs.Common.{arith}
+use Rattle.std.specs.List.{range_with_len}
+use Rattle.std.proofs.lemmas.List.Edits.{fill_by_more}
+use Rattle.std.proofs.lemmas.List.FromFn.{fill_by_all}
+use Rattle.std.proofs.lemmas.Simd.{map-map}
+use Rattle.std.proofs.Math.ListN.{length-set, set}
+use Rattle.rx_spec.specs.declared.Start.{Start}
+use Rattle.rx_dense_image.specs.StartTables.{context_of}
+use Rattle.rx_dense_image.proofs.start_table.contexts_of.Goals as goal
+
+abbrev of_place : List ℕ → ℕ → Start
+of_place numbers k = context_of (slice_index numbers k)
+
+pub loop-byte-preserved : goal.loop-byte-preserved
+loop-byte-preserved c =
+    let numbers = c.args.numbers.now in
+    let byte : ℕ = c.loop-byte.byte in
+    let contexts = c.loop-byte.contexts in
+    let lt : byte < length contexts = omega (arith, c.loop-byte.invariant.len, c.loop-byte-test.true) in
+    record {
+      len = simp length-set c.loop-byte.invariant.len;
+      each =
+          subst
+          (λ (x : Start).
+          (k : ℕ) → k < byte + 1 → get_or (set contexts byte x) k Start.NonWordByte ≡ of_place numbers k)
+          (sym c.context_of.ensures)
+          (fill_by_more (of_place numbers) contexts byte Start.NonWordByte lt c.loop-byte.invariant.each);
+    }
+
+pub returns : goal.returns
+returns c =
+    let numbers = c.args.numbers.now in
+    let contexts = c.loop-byte.contexts in
+    let in_order : numbers ≡ map (λ k. slice_index numbers k) (range_with_len 0 256) =
+    fill_by_all (λ k. slice_index numbers k) numbers 256 0 c.requires (λ k lt. refl) in
+    fill_by_all (of_place numbers) contexts 256 Start.NonWordByte c.loop-byte.invariant.len
+    (λ k lt. c.loop-byte.invariant.each k (omega (arith, lt, c.loop-byte-test.false)))
+    ∙ sym (ap (map context_of) in_order ∙ map-map context_of (λ k. slice_index numbers k) (range_with_len 0 256))

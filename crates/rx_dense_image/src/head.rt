@@ -1,0 +1,85 @@
+//! The head of an image.
+
+ghost use Rattle.std.specs.Prelude.{◌≡◌, ◌≤◌, ◌==◌, length, take, drop};
+ghost use Rattle.std.specs.List.{prefix_len};
+ghost use Rattle.rx_wire.specs.Kinds.{Gives};
+ghost use Rattle.rx_dense_image.specs.Heads.{dense_head_at, flags_of, head_at, skipped_nuls};
+
+use rx_dense::Flags;
+use rx_wire::{DeserializeError, Order, split_label, split_order};
+
+/// The label of dense images.
+pub(crate) const LABEL: &str = "rust-regex-automata-dfa-dense";
+
+/// The version that is read and written.
+pub(crate) const VERSION: u32 = 2;
+
+/// How many NULs may stand before the label.
+const MAX_NULS: usize = 7;
+
+/// The bytes from the label on. Of the NULs before it at most seven are passed over.
+fn without_nuls(bytes: &[u8]) -> &[u8]
+    ensures { result.now ≡ drop (skipped_nuls bytes.now) bytes.now }
+{
+    let skipped = nul_len(first(MAX_NULS, bytes));
+    &bytes[skipped..]
+}
+
+/// How many NULs stand at the front.
+fn nul_len(bytes: &[u8]) -> usize
+    ensures value { result ≡ prefix_len (λ byte. byte == 0) bytes.now }
+    ensures bound { result ≤ length bytes.now }
+{
+    for i in 0..bytes.len() {
+        if bytes[i] != 0 {
+            return i;
+        }
+    }
+    bytes.len()
+}
+
+/// At most so many of the first bytes.
+fn first(most: usize, bytes: &[u8]) -> &[u8]
+    ensures value { result.now ≡ take most bytes.now }
+    ensures len { length result.now ≤ length bytes.now }
+{
+    if bytes.len() < most {
+        return bytes;
+    }
+    &bytes[..most]
+}
+
+/// The flags of a word. Bits that mean nothing may be set.
+fn flags_of(word: u32) -> Flags
+    ensures { result ≡ flags_of word }
+{
+    Flags {
+        has_empty: word & 1 == 1,
+        is_utf8: word >> 1 & 1 == 1,
+        is_always_start_anchored: word >> 2 & 1 == 1,
+    }
+}
+
+/// The flags, and the order of what follows the head.
+#[tactic(auto, unfolding(crate::specs::Heads::head_at))]
+fn split_head<'a>(
+    bytes: &'a [u8],
+    label: &'static str,
+) -> Result<((Flags, Order), &'a [u8]), DeserializeError>
+    ensures { Gives (λ x. (x.0, x.1.now)) result (head_at label.now bytes.now) }
+{
+    let (_, rest) = split_label(bytes, label)?;
+    let (order, rest) = split_order(rest)?;
+    let rest = order.split_version(rest, VERSION)?;
+    let (_, rest) = order.split_u32(rest, "unused space")?;
+    let (word, rest) = order.split_u32(rest, "flags")?;
+    Ok(((flags_of(word), order), rest))
+}
+
+/// The flags of a dense image, and the order of what follows its head.
+#[tactic(auto, unfolding(crate::specs::Heads::dense_head_at))]
+pub(crate) fn split_dense_head(bytes: &[u8]) -> Result<((Flags, Order), &[u8]), DeserializeError>
+    ensures { Gives (λ x. (x.0, x.1.now)) result (dense_head_at bytes.now) }
+{
+    split_head(without_nuls(bytes), LABEL)
+}

@@ -1,0 +1,356 @@
+//! Parts of an image, written one behind another.
+//!
+//! Each call writes a part behind the bytes before a place, and answers the place after it.
+
+ghost use Rattle.std.specs.Prelude.{◌≡◌, ℕ, ◌+◌, ◌*◌, ◌/◌, ◌%◌, ◌^◌, ◌<◌, ◌≤◌, List, [], get_or, length, map};
+ghost use Rattle.std.specs.Int.{w32, w128};
+ghost use Rattle.rx_wire.specs.Fields.{field};
+ghost use Rattle.rx_wire.specs.declared.order.Order.{Order};
+ghost use Rattle.rx_dense.specs.Layouts.{AreLists, AreStarts, context_number};
+ghost use Rattle.rx_dense_image.specs.Heads.{dense_label, flag, flags_word, head_text};
+ghost use Rattle.rx_dense_image.specs.Rows.{rows_of, rows_text, words_text};
+ghost use Rattle.rx_dense_image.specs.StartTables.{kind_number, number_or_none, start_table_text};
+ghost use Rattle.rx_dense_image.specs.PatternLists.{pattern_lists_text};
+ghost use Rattle.rx_dense_image.specs.Marks.{accel_text, accels_text, marks_text, quit_text, special_text};
+ghost use Rattle.rx_dense_image.specs.Images.{image_len, marks_of, pattern_lists_of, start_table_of, text};
+ghost use Rattle.rx_dense_image.specs.Written.{IsPut};
+
+use crate::head::VERSION;
+use crate::start_table::{CONTEXTS, NONE};
+use rx_base::{ByteSet, Needles, Start, StartKind, StateID};
+use rx_dense::{Accels, DFA, Flags, Special, WordStore};
+use rx_search::Automaton;
+use rx_wire::{Endian, put_bytes, put_u32, put_u128};
+
+/// The label with its NUL and its padding.
+const LABEL: [u8; 32] = *b"rust-regex-automata-dfa-dense\0\0\0";
+
+/// The word that tells the order.
+const ENDIANNESS: u32 = 0xFEFF;
+
+fn put_word<E: Endian>(word: u32, dst: &mut [u8], at: usize) -> usize
+    requires { at + 4 ≤ length dst.old }
+    ensures len { length dst.new ≡ length dst.old }
+    ensures place { result ≡ at + 4 }
+    ensures put { IsPut (field E.order w32 word) dst.old dst.new at result }
+{
+    put_u32::<E>(word, dst, at)
+}
+
+fn put_wide<E: Endian>(number: u128, dst: &mut [u8], at: usize) -> usize
+    requires { at + 16 ≤ length dst.old }
+    ensures len { length dst.new ≡ length dst.old }
+    ensures place { result ≡ at + 16 }
+    ensures put { IsPut (field E.order w128 number) dst.old dst.new at result }
+    ensures fits { number < 2 ^ 128 }
+{
+    put_u128::<E>(number, dst, at)
+}
+
+fn put_plain(bytes: &[u8], dst: &mut [u8], at: usize) -> usize
+    requires { at + length bytes.now ≤ length dst.old }
+    ensures len { length dst.new ≡ length dst.old }
+    ensures place { result ≡ at + length bytes.now }
+    ensures put { IsPut bytes.now dst.old dst.new at result }
+{
+    put_bytes(bytes, dst, at)
+}
+
+fn put_words<E: Endian>(words: &[u32], dst: &mut [u8], at: usize) -> usize
+    requires { at + 4 * length words.now ≤ length dst.old }
+    ensures len { length dst.new ≡ length dst.old }
+    ensures place { result ≡ at + 4 * length words.now }
+    ensures put { IsPut (words_text E.order words.now) dst.old dst.new at result }
+{
+    let mut end = at;
+    for word in words {
+        end = put_word::<E>(*word, dst, end);
+    }
+    end
+}
+
+/// A flag as the bit of a place in a word.
+fn flag(set: bool, worth: u32) -> u32
+    requires { worth ≤ 4 }
+    ensures value { result ≡ flag set worth }
+    ensures bound { result ≤ worth }
+{
+    if set { worth } else { 0 }
+}
+
+fn flags_word(flags: &Flags) -> u32
+    ensures { result ≡ flags_word flags.now }
+{
+    flag(flags.has_empty, 1) + flag(flags.is_utf8, 2) + flag(flags.is_always_start_anchored, 4)
+}
+
+fn put_head<E: Endian>(flags: &Flags, dst: &mut [u8], at: usize) -> usize
+    requires { at + 48 ≤ length dst.old }
+    ensures len { length dst.new ≡ length dst.old }
+    ensures place { result ≡ at + 48 }
+    ensures put { IsPut (head_text E.order dense_label flags.now) dst.old dst.new at result }
+{
+    let label = put_plain(&LABEL, dst, at);
+    let order = put_word::<E>(ENDIANNESS, dst, label);
+    let version = put_word::<E>(VERSION, dst, order);
+    let unused = put_word::<E>(0, dst, version);
+    put_word::<E>(flags_word(flags), dst, unused)
+}
+
+/// How many rows there are, as a word.
+fn row_word<T: WordStore>(dfa: &DFA<T>) -> u32
+    ensures { result ≡ length dfa.now.words / 2 ^ dfa.now.stride2 }
+{
+    dfa.state_len() as u32
+}
+
+fn put_rows<E: Endian, T: WordStore>(dfa: &DFA<T>, dst: &mut [u8], at: usize) -> usize
+    requires { at + 264 + 4 * length dfa.now.words ≤ length dst.old }
+    ensures len { length dst.new ≡ length dst.old }
+    ensures place { result ≡ at + 264 + 4 * length dfa.now.words }
+    ensures put { IsPut (rows_text E.order (rows_of dfa.now)) dst.old dst.new at result }
+{
+    let rows = put_word::<E>(row_word(dfa), dst, at);
+    let stride2 = put_word::<E>(dfa.stride2() as u32, dst, rows);
+    let classes = put_plain(dfa.byte_classes().as_bytes(), dst, stride2);
+    put_words::<E>(dfa.words(), dst, classes)
+}
+
+fn kind_number(kind: StartKind) -> u32
+    ensures { result ≡ kind_number kind }
+{
+    match kind {
+        StartKind::Both => 0,
+        StartKind::Unanchored => 1,
+        StartKind::Anchored => 2,
+    }
+}
+
+fn context_number(context: Start) -> u8
+    ensures { result ≡ context_number context }
+{
+    match context {
+        Start::NonWordByte => 0,
+        Start::WordByte => 1,
+        Start::Text => 2,
+        Start::LineLF => 3,
+        Start::LineCR => 4,
+        Start::CustomLineTerminator => 5,
+    }
+}
+
+/// The numbers of all contexts.
+fn context_numbers<T: WordStore>(dfa: &DFA<T>) -> [u8; 256]
+    requires { AreStarts dfa.now }
+    ensures value { result ≡ map context_number dfa.now.contexts }
+    ensures len { length result ≡ 256 }
+{
+    let mut numbers = [0; 256];
+    for byte in 0..256 {
+        numbers[byte] = context_number(dfa.start_context(byte as u8));
+    }
+    numbers
+}
+
+/// How many patterns have starts of their own, as a word.
+fn patterns_word<T: WordStore>(dfa: &DFA<T>) -> u32
+    requires { AreStarts dfa.now }
+    ensures { result ≡ number_or_none dfa.now.pattern_starts }
+{
+    match dfa.start_pattern_len() {
+        None => NONE,
+        Some(patterns) => patterns as u32,
+    }
+}
+
+fn universal_word(start: Option<StateID>) -> u32
+    ensures { result ≡ number_or_none start }
+{
+    match start {
+        None => NONE,
+        Some(id) => id.as_u32(),
+    }
+}
+
+fn put_start_table<E: Endian, T: WordStore>(dfa: &DFA<T>, dst: &mut [u8], at: usize) -> usize
+    requires { at + 276 + 4 * length dfa.now.starts ≤ length dst.old }
+    ensures len { length dst.new ≡ length dst.old }
+    ensures place { result ≡ at + 276 + 4 * length dfa.now.starts }
+    ensures put { IsPut (start_table_text E.order (start_table_of dfa.now)) dst.old dst.new at result }
+{
+    let ids = dfa.start_ids();
+    let kind = put_word::<E>(kind_number(dfa.start_kind()), dst, at);
+    let numbers = context_numbers(dfa);
+    let contexts = put_plain(&numbers, dst, kind);
+    let count = put_word::<E>(CONTEXTS, dst, contexts);
+    let patterns = put_word::<E>(patterns_word(dfa), dst, count);
+    let (unanchored, anchored) = dfa.universal_starts();
+    let first = put_word::<E>(universal_word(unanchored), dst, patterns);
+    let second = put_word::<E>(universal_word(anchored), dst, first);
+    put_words::<E>(ids, dst, second)
+}
+
+/// How many match rows have patterns, as a word.
+fn list_word<T: WordStore>(dfa: &DFA<T>) -> u32
+    ensures { result ≡ length dfa.now.slices / 2 }
+{
+    (dfa.slices().len() / 2) as u32
+}
+
+/// How many pattern ids there are, as a word.
+fn id_word<T: WordStore>(dfa: &DFA<T>) -> u32
+    requires { AreLists dfa.now }
+    ensures { result ≡ length dfa.now.pattern_ids }
+{
+    dfa.pattern_ids().len() as u32
+}
+
+/// How many patterns there are, as a word.
+fn pattern_len_word<T: WordStore>(dfa: &DFA<T>) -> u32
+    requires { AreLists dfa.now }
+    ensures { result ≡ dfa.now.pattern_len }
+{
+    dfa.pattern_len() as u32
+}
+
+fn put_pattern_lists<E: Endian, T: WordStore>(dfa: &DFA<T>, dst: &mut [u8], at: usize) -> usize
+    requires { at + 12 + 4 * length dfa.now.slices + 4 * length dfa.now.pattern_ids ≤ length dst.old }
+    ensures len { length dst.new ≡ length dst.old }
+    ensures place { result ≡ at + 12 + 4 * length dfa.now.slices + 4 * length dfa.now.pattern_ids }
+    ensures put { IsPut (pattern_lists_text E.order (pattern_lists_of dfa.now)) dst.old dst.new at result }
+{
+    let slices = dfa.slices();
+    let rows = put_word::<E>(list_word(dfa), dst, at);
+    let pairs = put_words::<E>(slices, dst, rows);
+    let patterns = put_word::<E>(pattern_len_word(dfa), dst, pairs);
+    let count = put_word::<E>(id_word(dfa), dst, patterns);
+    put_words::<E>(dfa.pattern_ids(), dst, count)
+}
+
+fn put_special<E: Endian>(special: &Special, dst: &mut [u8], at: usize) -> usize
+    requires { at + 32 ≤ length dst.old }
+    ensures len { length dst.new ≡ length dst.old }
+    ensures place { result ≡ at + 32 }
+    ensures put { IsPut (special_text E.order special.now) dst.old dst.new at result }
+{
+    let max = put_word::<E>(special.max.as_u32(), dst, at);
+    let quit = put_word::<E>(special.quit.as_u32(), dst, max);
+    let min_match = put_word::<E>(special.min_match.as_u32(), dst, quit);
+    let max_match = put_word::<E>(special.max_match.as_u32(), dst, min_match);
+    let min_accel = put_word::<E>(special.min_accel.as_u32(), dst, max_match);
+    let max_accel = put_word::<E>(special.max_accel.as_u32(), dst, min_accel);
+    let min_start = put_word::<E>(special.min_start.as_u32(), dst, max_accel);
+    put_word::<E>(special.max_start.as_u32(), dst, min_start)
+}
+
+/// The bytes of an accelerator.
+fn accel_bytes(needles: Needles) -> [u8; 8]
+    ensures value { result ≡ accel_text needles }
+    ensures len { length result ≡ 8 }
+{
+    match needles.as_slice() {
+        [a, b, c] => [3, *a, *b, *c, 0, 0, 0, 0],
+        [a, b] => [2, *a, *b, 0, 0, 0, 0, 0],
+        [a] => [1, *a, 0, 0, 0, 0, 0, 0],
+        _ => [0; 8],
+    }
+}
+
+/// The needles of accelerated rows, wherever they are kept: fewer than 2^32.
+pub(crate) trait NeedleLists {
+    /// The needles of each row.
+    ghost lists: { Self → List (List ℕ) };
+
+    fn list_len(&self) -> usize
+        ensures value { result ≡ length (lists self.now) }
+        ensures bound { result < 2 ^ 32 };
+
+    fn list_at(&self, i: usize) -> Needles
+        requires { i < length (lists self.now) }
+        ensures { result ≡ get_or (lists self.now) i [] };
+}
+
+impl<T: WordStore> NeedleLists for DFA<T> {
+    ghost lists = { λ dfa. dfa.accels };
+
+    fn list_len(&self) -> usize {
+        self.accel_len()
+    }
+
+    fn list_at(&self, i: usize) -> Needles {
+        self.needles_at(i)
+    }
+}
+
+impl NeedleLists for Accels {
+    ghost lists = { λ accels. accels };
+
+    fn list_len(&self) -> usize {
+        self.len()
+    }
+
+    fn list_at(&self, i: usize) -> Needles {
+        self.needles(i)
+    }
+}
+
+pub(crate) fn put_accels<E: Endian, L: NeedleLists>(lists: &L, dst: &mut [u8], at: usize) -> usize
+    requires { at + 4 + 8 * length (L.lists lists.now) ≤ length dst.old }
+    ensures len { length dst.new ≡ length dst.old }
+    ensures place { result ≡ at + 4 + 8 * length (L.lists lists.now) }
+    ensures put { IsPut (accels_text E.order (L.lists lists.now)) dst.old dst.new at result }
+{
+    let count = lists.list_len();
+    let mut end = put_word::<E>(count as u32, dst, at);
+    for i in 0..count {
+        let accel = accel_bytes(lists.list_at(i));
+        end = put_plain(&accel, dst, end);
+    }
+    end
+}
+
+fn put_quit<E: Endian>(quitset: &ByteSet, dst: &mut [u8], at: usize) -> usize
+    requires { at + 32 ≤ length dst.old }
+    ensures len { length dst.new ≡ length dst.old }
+    ensures place { result ≡ at + 32 }
+    ensures put { IsPut (quit_text E.order quitset.now) dst.old dst.new at result }
+{
+    let (low, high) = quitset.halves();
+    let end = put_wide::<E>(low, dst, at);
+    put_wide::<E>(high, dst, end)
+}
+
+fn put_marks<E: Endian, T: WordStore>(dfa: &DFA<T>, dst: &mut [u8], at: usize) -> usize
+    requires { at + 68 + 8 * length dfa.now.accels ≤ length dst.old }
+    ensures len { length dst.new ≡ length dst.old }
+    ensures place { result ≡ at + 68 + 8 * length dfa.now.accels }
+    ensures put { IsPut (marks_text E.order (marks_of dfa.now)) dst.old dst.new at result }
+{
+    let special = put_special::<E>(dfa.special(), dst, at);
+    let accels = put_accels::<E, DFA<T>>(dfa, dst, special);
+    put_quit::<E>(dfa.quitset(), dst, accels)
+}
+
+/// How many bytes an image has.
+pub(crate) fn image_len<T: WordStore>(dfa: &DFA<T>) -> usize
+    ensures value { result ≡ image_len dfa.now }
+    ensures text { (order : Order) → length (text order dfa.now) ≡ result }
+{
+    let words = dfa.words().len() + dfa.start_ids().len();
+    let lists = dfa.slices().len() + dfa.pattern_ids().len();
+    668 + 4 * (words + lists) + 8 * dfa.accel_len()
+}
+
+/// Writes an image at the front of `dst`, and answers how many bytes it has.
+pub(crate) fn put_image<E: Endian, T: WordStore>(dfa: &DFA<T>, dst: &mut [u8]) -> usize
+    requires { image_len dfa.now ≤ length dst.old }
+    ensures len { length dst.new ≡ length dst.old }
+    ensures place { result ≡ image_len dfa.now }
+    ensures put { IsPut (text E.order dfa.now) dst.old dst.new 0 result }
+{
+    let head = put_head::<E>(dfa.flags(), dst, 0);
+    let rows = put_rows::<E, T>(dfa, dst, head);
+    let starts = put_start_table::<E, T>(dfa, dst, rows);
+    let lists = put_pattern_lists::<E, T>(dfa, dst, starts);
+    put_marks::<E, T>(dfa, dst, lists)
+}

@@ -1,0 +1,212 @@
+//! The start table of an image.
+
+ghost use Rattle.std.specs.Prelude.{◌≡◌, ◌≤◌, ◌^◌, ◌<◌, IfOk, IfSome, Option, is_some, length, map, nat_lt};
+ghost use Rattle.std.specs.List.{list_all};
+ghost use Rattle.rx_spec.specs.Causes.{id_count};
+ghost use Rattle.rx_wire.specs.Kinds.{Gives};
+ghost use Rattle.rx_dense.specs.Layouts.{start_entries};
+ghost use Rattle.rx_dense_image.specs.StartTables.{IsAtMost, IsReadStartTable, context_count, context_count_at};
+ghost use Rattle.rx_dense_image.specs.StartTables.{context_of};
+ghost use Rattle.rx_dense_image.specs.StartTables.{contexts_at, pattern_starts_at, start_kind_at, start_kinds_at};
+ghost use Rattle.rx_dense_image.specs.StartTables.{start_table_at, universal_at};
+
+use crate::words::split_words;
+use rx_base::{PatternID, Start, StartKind, StateID};
+use rx_wire::{DeserializeError, DeserializeErrorKind, Order, split_bytes};
+use std::alloc::Global;
+use std::marker::Model;
+
+/// The number that stands for no universal start, and for no patterns with starts of their own.
+pub(crate) const NONE: u32 = 0xFFFFFFFF;
+
+/// How many start contexts there are.
+pub(crate) const CONTEXTS: u32 = 6;
+
+/// A start table that was read.
+#[derive(Drop)]
+pub(crate) struct StartTable {
+    /// For which modes there are start rows.
+    pub start_kind: StartKind,
+    /// The start context of each byte.
+    pub contexts: [Start; 256],
+    /// How many patterns have starts of their own, if any have.
+    pub pattern_starts: Option<usize>,
+    /// The start row of an unanchored search, whatever stands beside its span.
+    pub universal_unanchored: Option<StateID>,
+    /// The start row of an anchored search, whatever stands beside its span.
+    pub universal_anchored: Option<StateID>,
+    /// The ids of the start rows.
+    pub starts: Vec<u32>,
+}
+
+impl Model for StartTable {
+    ghost use Rattle.rx_dense_image.specs.StartTables.{StartTable};
+
+    ghost Value = { StartTable };
+
+    ghost view = { λ t. record {
+      start_kind = t.start_kind;
+      contexts = t.contexts;
+      pattern_starts = t.pattern_starts;
+      universal_unanchored = t.universal_unanchored;
+      universal_anchored = t.universal_anchored;
+      starts = t.starts.items;
+    } };
+}
+
+#[tactic(auto, unfolding(crate::specs::StartTables::start_kind_at))]
+fn split_start_kind(order: Order, bytes: &[u8]) -> Result<(StartKind, &[u8]), DeserializeError>
+    ensures { Gives (λ x. (x.0, x.1.now)) result (start_kind_at order bytes.now) }
+{
+    let (number, rest) = order.split_u32(bytes, "start kind")?;
+    match number {
+        0 => Ok((StartKind::Both, rest)),
+        1 => Ok((StartKind::Unanchored, rest)),
+        2 => Ok((StartKind::Anchored, rest)),
+        _ => Err(DeserializeError::generic("unknown start kind")),
+    }
+}
+
+/// The context of a number.
+fn context_of(number: u8) -> Start
+    ensures { result ≡ context_of number }
+{
+    match number {
+        0 => Start::NonWordByte,
+        1 => Start::WordByte,
+        2 => Start::Text,
+        3 => Start::LineLF,
+        4 => Start::LineCR,
+        _ => Start::CustomLineTerminator,
+    }
+}
+
+/// The contexts of 256 numbers.
+fn contexts_of(numbers: &[u8]) -> [Start; 256]
+    requires { length numbers.now ≡ 256 }
+    ensures { result ≡ map context_of numbers.now }
+{
+    let mut contexts = [Start::NonWordByte; 256];
+    for byte in 0..256 {
+        contexts[byte] = context_of(numbers[byte]);
+    }
+    contexts
+}
+
+/// Whether each number is that of a context.
+fn are_contexts(numbers: &[u8]) -> bool
+    ensures { result ≡ list_all (λ byte. nat_lt byte context_count) numbers.now }
+{
+    numbers.iter().all(|number| *number < 6)
+}
+
+#[tactic(auto, unfolding(crate::specs::StartTables::contexts_at))]
+fn split_contexts(bytes: &[u8]) -> Result<([Start; 256], &[u8]), DeserializeError>
+    ensures { Gives (λ x. (x.0, x.1.now)) result (contexts_at bytes.now) }
+{
+    let (numbers, rest) = split_bytes(256, bytes, "start contexts")?;
+    if !are_contexts(numbers) {
+        return Err(DeserializeError::generic("unknown start context"));
+    }
+    Ok((contexts_of(numbers), rest))
+}
+
+#[tactic(auto, unfolding(crate::specs::StartTables::context_count_at))]
+fn split_context_count(order: Order, bytes: &[u8]) -> Result<(u32, &[u8]), DeserializeError>
+    ensures { Gives (λ x. (x.0, x.1.now)) result (context_count_at order bytes.now) }
+{
+    let (number, rest) = order.split_u32(bytes, "number of start contexts")?;
+    if number != CONTEXTS {
+        return Err(DeserializeError::generic("another number of start contexts"));
+    }
+    Ok((number, rest))
+}
+
+#[tactic(auto, unfolding(crate::specs::StartTables::start_kinds_at))]
+fn split_start_kinds(
+    order: Order,
+    bytes: &[u8],
+) -> Result<((StartKind, [Start; 256]), &[u8]), DeserializeError>
+    ensures read { Gives (λ x. ((x.0.0, x.0.1), x.1.now)) result (start_kinds_at order bytes.now) }
+    ensures len { IfOk result (λ x. length x.0.1 ≡ 256) }
+{
+    let (kind, rest) = split_start_kind(order, bytes)?;
+    let (contexts, rest) = split_contexts(rest)?;
+    let (_, rest) = split_context_count(order, rest)?;
+    Ok(((kind, contexts), rest))
+}
+
+#[tactic(auto, unfolding(crate::specs::StartTables::pattern_starts_at))]
+fn split_pattern_starts(
+    order: Order,
+    bytes: &[u8],
+) -> Result<(Option<usize>, &[u8]), DeserializeError>
+    ensures read { Gives (λ x. (x.0, x.1.now)) result (pattern_starts_at order bytes.now) }
+    ensures few { IfOk result (λ x. IsAtMost id_count x.0) }
+{
+    let (number, rest) = order.split_u32(bytes, "number of patterns with starts")?;
+    if number == NONE {
+        return Ok((None, rest));
+    }
+    let patterns = number as usize;
+    if patterns > PatternID::LIMIT {
+        return Err(DeserializeError::generic("too many patterns with starts"));
+    }
+    Ok((Some(patterns), rest))
+}
+
+#[tactic(auto, unfolding(crate::specs::StartTables::universal_at))]
+fn split_universal<'a>(
+    order: Order,
+    bytes: &'a [u8],
+    what: &'static str,
+) -> Result<(Option<StateID>, &'a [u8]), DeserializeError>
+    ensures { Gives (λ x. (x.0, x.1.now)) result (universal_at order bytes.now) }
+{
+    let (number, rest) = order.split_u32(bytes, what)?;
+    if number == NONE {
+        return Ok((None, rest));
+    }
+    match StateID::new(number as usize) {
+        Ok(id) => Ok((Some(id), rest)),
+        Err(err) => Err(DeserializeError::new(DeserializeErrorKind::StateID { err, what })),
+    }
+}
+
+/// How many start entries there are, where so many patterns have starts of their own.
+fn start_entries(pattern_starts: Option<usize>) -> usize
+    requires { IsAtMost id_count pattern_starts }
+    ensures { result ≡ start_entries pattern_starts }
+{
+    match pattern_starts {
+        None => 12,
+        Some(patterns) => 12 + 6 * patterns,
+    }
+}
+
+/// The start table, and the bytes after it.
+#[tactic(auto, unfolding(crate::specs::StartTables::start_table_at))]
+pub(crate) fn split_start_table<'a>(
+    alloc: Global,
+    order: Order,
+    bytes: &'a [u8],
+) -> Result<(StartTable, &'a [u8]), DeserializeError>
+    ensures read { Gives (λ x. (x.0, x.1.now)) result (start_table_at order bytes.now) }
+    ensures table { IfOk result (λ x. IsReadStartTable x.0) }
+{
+    let ((start_kind, contexts), rest) = split_start_kinds(order, bytes)?;
+    let (pattern_starts, rest) = split_pattern_starts(order, rest)?;
+    let (universal_unanchored, rest) = split_universal(order, rest, "universal unanchored start")?;
+    let (universal_anchored, rest) = split_universal(order, rest, "universal anchored start")?;
+    let count = start_entries(pattern_starts);
+    let (starts, rest) = split_words(alloc, order, count, rest, "start ids")?;
+    let table = StartTable {
+        start_kind,
+        contexts,
+        pattern_starts,
+        universal_unanchored,
+        universal_anchored,
+        starts,
+    };
+    Ok((table, rest))
+}

@@ -1,0 +1,112 @@
+//! Writing of whole images.
+
+ghost use Rattle.std.specs.Prelude.{◌≡◌, ℕ, List, IfOk, length};
+ghost use Rattle.rx_wire.specs.declared.order.Order.{Order};
+ghost use Rattle.rx_wire.specs.declared.order.Order.TheVariants.{Little, Big};
+ghost use Rattle.rx_wire.specs.Kinds.{Writes};
+ghost use Rattle.rx_dense.specs.Layouts.{Layout};
+ghost use Rattle.rx_dense_image.specs.Images.{image_len, text};
+
+use crate::put::{image_len, put_image};
+use rx_dense::{DFA, WordStore};
+use rx_wire::{BE, Endian, LE, SerializeError};
+use std::alloc::{AllocError, Global};
+
+/// Writes an image at the front of `dst`, if it fits.
+fn write_image<E: Endian, T: WordStore>(
+    dfa: &DFA<T>,
+    dst: &mut [u8],
+) -> Result<usize, SerializeError>
+    ensures { Writes (text E.order dfa.now) dst.old dst.new result }
+{
+    if dst.len() < image_len(dfa) {
+        return Err(SerializeError { what: "dense DFA" });
+    }
+    Ok(put_image::<E, T>(dfa, dst))
+}
+
+/// Writes an image into a destination that it fills.
+fn fill_image<E: Endian, T: WordStore>(dfa: &DFA<T>, dst: &mut [u8])
+    requires { length dst.old ≡ image_len dfa.now }
+    ensures { dst.new ≡ text E.order dfa.now }
+{
+    put_image::<E, T>(dfa, dst);
+}
+
+/// The bytes of an image.
+fn image_bytes<E: Endian, T: WordStore>(alloc: Global, dfa: &DFA<T>) -> Result<Vec<u8>, AllocError>
+    ensures { IfOk result (λ bytes. bytes.items ≡ text E.order dfa.now) }
+{
+    let mut bytes = vec![in alloc; 0; image_len(dfa)]?;
+    fill_image::<E, T>(dfa, bytes.as_mut_slice());
+    Ok(bytes)
+}
+
+/// Writes dense tables. The native order is little endian.
+pub trait DenseWrite {
+    /// What the table is.
+    ghost layout: { Self → Layout };
+
+    /// How many bytes the image has, in either order.
+    fn write_to_len(&self) -> usize
+        ensures { (order : Order) → result ≡ length (text order (layout self.now)) };
+
+    /// Writes the little endian image at the front of `dst`, and answers its length. Where `dst` is shorter, nothing
+    /// is written; the bytes after the image stay.
+    fn write_to_little_endian(&self, dst: &mut [u8]) -> Result<usize, SerializeError>
+        ensures { Writes (text Little (layout self.now)) dst.old dst.new result };
+
+    /// Writes the big endian image at the front of `dst`, and answers its length. Where `dst` is shorter, nothing is
+    /// written; the bytes after the image stay.
+    fn write_to_big_endian(&self, dst: &mut [u8]) -> Result<usize, SerializeError>
+        ensures { Writes (text Big (layout self.now)) dst.old dst.new result };
+
+    /// Writes the image in native order at the front of `dst`, and answers its length. Where `dst` is shorter, nothing
+    /// is written; the bytes after the image stay.
+    fn write_to_native_endian(&self, dst: &mut [u8]) -> Result<usize, SerializeError>
+        ensures { Writes (text Little (layout self.now)) dst.old dst.new result };
+
+    /// The little endian image, and how many bytes of padding stand before it: none.
+    fn to_bytes_little_endian(&self, alloc: Global) -> Result<(Vec<u8>, usize), AllocError>
+        ensures { IfOk result (λ x. (x.0.items ≡ text Little (layout self.now)) × (x.1 ≡ 0)) };
+
+    /// The big endian image, and how many bytes of padding stand before it: none.
+    fn to_bytes_big_endian(&self, alloc: Global) -> Result<(Vec<u8>, usize), AllocError>
+        ensures { IfOk result (λ x. (x.0.items ≡ text Big (layout self.now)) × (x.1 ≡ 0)) };
+
+    /// The image in native order, and how many bytes of padding stand before it: none.
+    fn to_bytes_native_endian(&self, alloc: Global) -> Result<(Vec<u8>, usize), AllocError>
+        ensures { IfOk result (λ x. (x.0.items ≡ text Little (layout self.now)) × (x.1 ≡ 0)) };
+}
+
+impl<T: WordStore> DenseWrite for DFA<T> {
+    ghost layout = { λ dfa. dfa };
+
+    fn write_to_len(&self) -> usize {
+        image_len(self)
+    }
+
+    fn write_to_little_endian(&self, dst: &mut [u8]) -> Result<usize, SerializeError> {
+        write_image::<LE, T>(self, dst)
+    }
+
+    fn write_to_big_endian(&self, dst: &mut [u8]) -> Result<usize, SerializeError> {
+        write_image::<BE, T>(self, dst)
+    }
+
+    fn write_to_native_endian(&self, dst: &mut [u8]) -> Result<usize, SerializeError> {
+        self.write_to_little_endian(dst)
+    }
+
+    fn to_bytes_little_endian(&self, alloc: Global) -> Result<(Vec<u8>, usize), AllocError> {
+        Ok((image_bytes::<LE, T>(alloc, self)?, 0))
+    }
+
+    fn to_bytes_big_endian(&self, alloc: Global) -> Result<(Vec<u8>, usize), AllocError> {
+        Ok((image_bytes::<BE, T>(alloc, self)?, 0))
+    }
+
+    fn to_bytes_native_endian(&self, alloc: Global) -> Result<(Vec<u8>, usize), AllocError> {
+        self.to_bytes_little_endian(alloc)
+    }
+}
