@@ -69,8 +69,8 @@ abbrev pub AreApart : Layout → Type 0
 AreApart l = (x y : ℕ) → x < row_count l → y < row_count l → x ≢ y → AreToldApart (table_of l) x y
 
 -- The table says of every word what its build says, and each row but dead and quit is reached. Without minimizing it
--- is the build's powerset machine, with it the least table. It is sound and its rows in order; exactly the rows that may
--- be skipped from are accelerated, and start rows are marked, where that was asked for.
+-- is the build's powerset machine, with it the least table. It is sound and its rows in order; exactly the rows that
+-- may be skipped from are accelerated, and start rows are marked, where that was asked for.
 pub record IsBuilt (s : Settled) (nfa : Nfa) (l : Layout) : Type 0 where
   pub gives : Gives (table_of l) (build_of s nfa)
   pub reached : AreReachedRows (built_modes (build_of s nfa)) (table_of l)

@@ -35,7 +35,9 @@ lone_none k met l n none context column id small kept =
     absurd
     (not_none
     (⊎_elim (λ (h : at < n). get_or-replicate n at None None h)
-    (λ (h : n ≤ at). get_or_past (replicate n None) at None (omega (arith, h, length-replicate n (let o : Option ℕ = None in o))))
+    (λ (h : n ≤ at).
+    get_or_past (replicate n None) at None
+    (omega (arith, h, length-replicate n (let o : Option ℕ = None in o))))
     (cases_lt at n))
     (ap (λ (lone : List (Option ℕ)). lone_id lone context column) (sym none) ∙ kept))
 
@@ -109,7 +111,8 @@ module _ {k : Keying} {met : Met} {l : Layout} (are : AreLone k met l) where
 
 -- one more row is kept of the states that were met
 working_lone : {k : Keying} {limits : SizeLimits} {met : Met} {l : Layout} {context column id : ℕ} → context < 32
-    → IsLone k met l context column id → IsWorking k limits met l → IsWorking k limits (with_lone met context column id) l
+    → IsLone k met l context column id → IsWorking k limits met l
+    → IsWorking k limits (with_lone met context column id) l
 working_lone small is w = record {
   bare = w.bare;
   count = w.count;
@@ -138,7 +141,8 @@ module _ {s : Stepping} {met : Met} {l : Layout} {context column id : ℕ} (clas
   lone_stepped within is = record {
     column_in = within;
     is_row =
-        subst (λ (t : State). IsRowOf (states_of (keying s l) met) (Running t) (id / stride l)) (sym (alone_in s l context column classes alone))
+        subst (λ (t : State). IsRowOf (states_of (keying s l) met) (Running t) (id / stride l))
+        (sym (alone_in s l context column classes alone))
         is.is_row;
     is_id = is.is_id;
   }

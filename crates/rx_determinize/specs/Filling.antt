@@ -1,6 +1,6 @@
 -- A table while states are entered into it, and while the row of one of them is written.
-use Rattle.std.specs.Prelude.{ℕ, ◌≡◌, Bool, false, ◌<◌, ◌≤◌, ◌+◌, ◌/◌, ◌++◌, IfSome, Option, Some, List, [], ◌∷◌, length}
-use Rattle.std.specs.Prelude.{map, slice_get}
+use Rattle.std.specs.Prelude.{ℕ, ◌≡◌, Bool, false, ◌<◌, ◌≤◌, ◌+◌, ◌/◌, ◌++◌, IfSome, Option, Some, List, []}
+use Rattle.std.specs.Prelude.{◌∷◌, length, map, slice_get}
 use Rattle.rx_spec.specs.Builds.{IsReached, Running, next_node, built_entry}
 use Rattle.rx_spec.specs.Queries.{Anchored}
 use Rattle.rx_spec.specs.States.{State}

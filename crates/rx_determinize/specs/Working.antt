@@ -31,8 +31,8 @@ keying s l = record {
   state_of = s.state_of;
 }
 
--- the states that were met: their keys, the bytes that all of them count for, how many patterns all labels name, and the
--- ids of the rows of those to which the lead-in alone leads, as far as they were found
+-- the states that were met: their keys, the bytes that all of them count for, how many patterns all labels name, and
+-- the ids of the rows of those to which the lead-in alone leads, as far as they were found
 pub record Met : Type 0 where
   pub keys : List (List ℕ)
   pub size : ℕ

@@ -89,8 +89,8 @@ impl States {
         self.keys.key(id)
     }
 
-    /// The row of the state to which the lead-in alone leads by a column, where it was found before, if this is known of
-    /// the unit read last.
+    /// The row of the state to which the lead-in alone leads by a column, where it was found before, if this is known
+    /// of the unit read last.
     pub(crate) fn lone_row(&self, context: u8, column: usize) -> Option<StateID>
         requires { column < 2 ^ 32 }
         ensures { result ≡ lone_id self.now.lone context column }

@@ -108,7 +108,7 @@ impl Builder {
     {
         let quit = quit_bytes(
             nfa,
-            &self.config.quit_bytes(),
+            &self.config.get_quit_bytes(),
             self.config.get_unicode_word_boundary(),
         );
         let mut dfa = self.begin(alloc, nfa, quit)?;

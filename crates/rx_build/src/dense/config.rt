@@ -119,8 +119,17 @@ impl Config {
         if self.get_unicode_word_boundary() && byte >= 0x80 && !yes {
             return Err(QuitRefused { byte });
         }
-        self.quit = Some(with_byte(self.quit_bytes(), byte, yes));
+        self.quit = Some(with_byte(self.get_quit_bytes(), byte, yes));
         Ok(self)
+    }
+
+    /// The bytes at which a search quits, all at once. Those that Unicode word boundaries ask for are quit bytes
+    /// besides.
+    pub fn quit_bytes(mut self, set: ByteSet) -> Config
+        ensures { asked result ≡ record (asked self) { quit = Some set } }
+    {
+        self.quit = Some(set);
+        self
     }
 
     /// Whether start rows are marked, so that a search can tell them. By default they aren't.
@@ -200,7 +209,7 @@ impl Config {
     pub fn get_quit(&self, byte: u8) -> bool
         ensures { result ≡ contains (settled (asked self.now)).quit byte }
     {
-        self.quit_bytes().contains(byte)
+        self.get_quit_bytes().contains(byte)
     }
 
     /// Whether start rows are marked.
@@ -225,7 +234,7 @@ impl Config {
     }
 
     /// The bytes that were made quit bytes.
-    pub(crate) fn quit_bytes(&self) -> ByteSet
+    pub fn get_quit_bytes(&self) -> ByteSet
         ensures { result ≡ (settled (asked self.now)).quit }
     {
         self.quit.unwrap_or(ByteSet::empty())

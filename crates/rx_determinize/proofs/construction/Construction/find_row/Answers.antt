@@ -9,7 +9,8 @@ use Rattle.rx_determinize.proofs.construction.Construction.find_row.Goals as goa
 
 -- the key that the stepper gave is that of the state to which the column leads, which can be added
 key_is : (c : After-add)
-    → IsKeyOf (stepping_of c.args.stepper.now) c.deref.result.now (stepped (stepping_of c.args.stepper.now) c.args.column)
+    → IsKeyOf (stepping_of c.args.stepper.now) c.deref.result.now
+    (stepped (stepping_of c.args.stepper.now) c.args.column)
 key_is c =
     let s = stepping_of c.args.stepper.now in
     subst (λ (k : List ℕ). IsKeyOf s k (stepped s c.args.column)) (sym c.deref.ensures.value)

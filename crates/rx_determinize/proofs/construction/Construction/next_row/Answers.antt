@@ -17,7 +17,8 @@ going-requires c = record {
 }
 
 pub lone_row-requires : goal.lone_row-requires
-lone_row-requires c = omega (arith, c.requires.column_in, alphabet_len-le c.args.dfa.now.classes c.requires.rows.classes)
+lone_row-requires c =
+    omega (arith, c.requires.column_in, alphabet_len-le c.args.dfa.now.classes c.requires.rows.classes)
 
 pub returns-in-Nothing-clause-found : goal.returns-in-Nothing-clause-found
 returns-in-Nothing-clause-found c =

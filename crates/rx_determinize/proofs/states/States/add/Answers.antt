@@ -64,7 +64,8 @@ returns-in_err-check-clause-err c k can =
     omega (arith, ap length c.label.ensures, ap length can.label, ap (λ (m : Met). m.patterns) c.self.view_is) in
     rw (p.1, p.2)
     (over_new can.working new c.state_len-rows.ensures.rows
-    (same_met more size patterns (ap (λ (m : Met). m.lone) c.self.view_is)) c.in_ok-add_row.ensures.ok c.in_err-check.field-0.0.kind c.in_err-check.ensures.err)
+    (same_met more size patterns (ap (λ (m : Met). m.lone) c.self.view_is))
+    c.in_ok-add_row.ensures.ok c.in_err-check.field-0.0.kind c.in_err-check.ensures.err)
 
 pub row_id-requires-2 : goal.row_id-requires-2
 row_id-requires-2 c =
@@ -118,7 +119,8 @@ returns-clause-working c k can =
     let patterns : c.self.inside.patterns + length c.label.result.now ≡ c.args.self.now.patterns + length state.label =
     omega (arith, ap length c.label.ensures, ap length can.label, ap (λ (m : Met). m.patterns) c.self.view_is) in
     working_new can.working new c.state_len-rows.ensures.rows
-    (same_met more size patterns (ap (λ (m : Met). m.lone) c.self.view_is)) c.in_ok-add_row.ensures.ok c.in_ok-check.ensures.ok
+    (same_met more size patterns (ap (λ (m : Met). m.lone) c.self.view_is))
+    c.in_ok-add_row.ensures.ok c.in_ok-check.ensures.ok
 
 pub check-requires : goal.check-requires
 check-requires c =

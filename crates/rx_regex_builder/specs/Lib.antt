@@ -1,0 +1,2 @@
+-- the two tables of one list of expressions
+pub mod Pairs

@@ -1,0 +1,119 @@
+//! The builder of pairs.
+
+ghost use Rattle.std.specs.Prelude.{◌≡◌, All, IfOk, IfErr, OnOk};
+ghost use Rattle.rx_spec.specs.Expressions.{IsLoopSafe};
+ghost use Rattle.rx_build.specs.Builders as tables;
+ghost use Rattle.rx_build.specs.Settings.{asked, overwritten};
+ghost use Rattle.rx_build_error.specs.Refusals.{IsRefused};
+ghost use Rattle.rx_expr.specs.Settings as nfa;
+ghost use Rattle.rx_regex_builder.specs.Pairs.{taken};
+
+use rx_base::{MatchKind, StartKind};
+use rx_build::BuildError;
+use rx_build::dense::{self, Config};
+use rx_dense::OwnedDFA;
+use rx_expr::{Expr, thompson};
+use rx_pair::Regex;
+use rx_search::Automaton;
+use std::alloc::Global;
+
+/// Makes pairs of tables.
+#[derive(Clone, Debug, Default, Drop)]
+pub struct Builder {
+    dense: Config,
+    thompson: thompson::Config,
+}
+
+impl Builder {
+    ghost use Rattle.rx_build.specs.Builders.{none_asked};
+    ghost use Rattle.rx_regex_builder.specs.Pairs.{AreBothFit, AreBuilt, PairRefused, both_of, in_reverse};
+
+    /// With default settings: matches that split a character of UTF-8 are passed over.
+    pub fn new() -> Builder
+        ensures { both_of result ≡ none_asked }
+    {
+        Builder {
+            dense: Config::new(),
+            thompson: thompson::Config::new(),
+        }
+    }
+
+    /// Takes these settings of the NFAs, and keeps those that they don't set.
+    pub fn thompson(&mut self, config: thompson::Config) -> &mut Builder
+        ensures value { both_of result.now
+            ≡ record (both_of self.old) { thompson = nfa.overwritten (both_of self.old).thompson (nfa.asked config) } }
+        ensures same_reference { result.ghost_name ≡ self.entry.ghost_name }
+    {
+        self.thompson = self.thompson.overwrite(&config);
+        self
+    }
+
+    /// Takes these settings of the tables, and keeps those that they don't set.
+    pub fn dense(&mut self, config: Config) -> &mut Builder
+        ensures value { both_of result.now
+            ≡ record (both_of self.old) { dense = overwritten (both_of self.old).dense (asked config) } }
+        ensures same_reference { result.ghost_name ≡ self.entry.ghost_name }
+    {
+        self.dense = self.dense.overwrite(&config);
+        self
+    }
+
+    /// The tables of a list of expressions, the first of which is pattern 0. The forward one is built, and may be
+    /// refused, first. The one in reverse is of the mirrored expressions: it tells all matches, from a known end, and
+    /// marks no start row.
+    pub fn build_many(&self, alloc: Global, exprs: &[Expr]) -> Result<Regex<OwnedDFA>, BuildError>
+        ensures ok { IfOk result (λ regex. AreBuilt (both_of self.now) exprs.now regex.forward regex.reverse) }
+        ensures fits { OnOk result (AreBothFit (both_of self.now) exprs.now) }
+        ensures err { IfErr result (λ e. IsRefused (PairRefused (both_of self.now) exprs.now) e.kind) }
+        // Each repetition in an expression is bounded.
+        ensures safe { All IsLoopSafe exprs.now }
+    {
+        let forward = self.forward_tables().build_many(alloc, exprs)?;
+        let reverse = self.reverse_tables().build_many(alloc, exprs)?;
+        Ok(Regex::new(forward, reverse))
+    }
+
+    /// What builds tables that are searched forward: by these settings.
+    fn forward_tables(&self) -> dense::Builder
+        ensures { tables.both_of result ≡ both_of self.now }
+    {
+        let dense = Config::new().overwrite(&self.dense);
+        let thompson = thompson::Config::new().overwrite(&self.thompson);
+        table_builder(dense, thompson)
+    }
+
+    /// What builds tables that are searched in reverse: they tell all matches, from a known end, and mark no start row.
+    fn reverse_tables(&self) -> dense::Builder
+        ensures { tables.both_of result ≡ in_reverse (both_of self.now) }
+    {
+        let dense = Config::new()
+            .match_kind(MatchKind::All)
+            .start_kind(StartKind::Anchored)
+            .specialize_start_states(false);
+        let thompson = thompson::Config::new().reverse(true);
+        table_builder(
+            self.dense.overwrite(&dense),
+            self.thompson.overwrite(&thompson),
+        )
+    }
+
+    /// The pair of two tables, whatever they are of. Both must be sound.
+    pub fn build_from_dfas<A: Automaton>(&self, forward: A, reverse: A) -> Regex<A>
+        requires forward { A.IsSound forward }
+        requires reverse { A.IsSound reverse }
+        ensures forward { result.forward ≡ forward }
+        ensures reverse { result.reverse ≡ reverse }
+    {
+        Regex::new(forward, reverse)
+    }
+}
+
+/// A builder of tables by these settings.
+fn table_builder(dense: Config, thompson: thompson::Config) -> dense::Builder
+    ensures { tables.both_of result ≡ taken (asked dense) (nfa.asked thompson) }
+{
+    let mut builder = dense::Builder::new();
+    builder.configure(dense);
+    builder.thompson(thompson);
+    builder
+}

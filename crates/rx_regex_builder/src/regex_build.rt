@@ -1,0 +1,39 @@
+//! Calls that build a pair with default settings.
+
+ghost use Rattle.std.specs.Prelude.{◌≡◌, All, IfOk, IfErr, OnOk};
+ghost use Rattle.rx_spec.specs.Expressions.{IsLoopSafe};
+ghost use Rattle.rx_build.specs.Builders.{none_asked};
+ghost use Rattle.rx_build_error.specs.Refusals.{IsRefused};
+ghost use Rattle.rx_regex_builder.specs.Pairs.{AreBothFit, AreBuilt, PairRefused, both_of};
+
+use crate::Builder;
+use rx_build::BuildError;
+use rx_dense::OwnedDFA;
+use rx_expr::Expr;
+use rx_pair::Regex;
+use std::alloc::Global;
+
+/// Builds a pair without further settings: `Regex::new_many(alloc, &exprs)`.
+pub trait RegexBuild {
+    /// The tables of a list of expressions, the first of which is pattern 0. Matches that split a character of UTF-8
+    /// are passed over.
+    fn new_many(alloc: Global, exprs: &[Expr]) -> Result<Regex<OwnedDFA>, BuildError>
+        ensures ok { IfOk result (λ regex. AreBuilt none_asked exprs.now regex.forward regex.reverse) }
+        ensures fits { OnOk result (AreBothFit none_asked exprs.now) }
+        ensures err { IfErr result (λ e. IsRefused (PairRefused none_asked exprs.now) e.kind) }
+        ensures safe { All IsLoopSafe exprs.now };
+
+    /// What builds pairs by other settings.
+    fn builder() -> Builder
+        ensures { both_of result ≡ none_asked };
+}
+
+impl RegexBuild for Regex<OwnedDFA> {
+    fn new_many(alloc: Global, exprs: &[Expr]) -> Result<Regex<OwnedDFA>, BuildError> {
+        Builder::new().build_many(alloc, exprs)
+    }
+
+    fn builder() -> Builder {
+        Builder::new()
+    }
+}
