@@ -128,6 +128,6 @@ fn build(
 }
 
 /// A time in nanoseconds, up to the greatest number.
-fn nanoseconds(time: Duration) -> u64 {
+pub(crate) fn nanoseconds(time: Duration) -> u64 {
     u64::try_from(time.as_nanos()).unwrap_or(u64::MAX)
 }

@@ -1,4 +1,5 @@
-//! Times the builds of dense tables: `rx_build_bench FILE REPEATS [parts]`.
+//! Times the builds of dense tables and searches by them: `rx_build_bench FILE REPEATS [parts]`, or
+//! `rx_build_bench FILE REPEATS find TEXT`.
 //!
 //! FILE has an expression on each line, in the syntax of `reader`. Of all of them two tables are built, REPEATS times:
 //! the forward one, by which the ends of leftmost-first matches are found, from an anchored start and an unanchored
@@ -9,6 +10,9 @@
 //! microseconds. With `parts` each NFA is also made into a table without needles and into a minimized one, so that the
 //! needles' part of a build can be told, and that of minimizing.
 //!
+//! With `find` both tables are built once, and all matches in the file TEXT are gone through, REPEATS times. Standard
+//! output says how many there are and how many bytes they have, standard error the least time in microseconds.
+//!
 //! Where nothing is measured, standard error says why, and the status is 2 for words that are wrong, 3 for expressions
 //! that aren't read or built, and 1 where memory, the clock, the file or an output failed.
 #![tactic(auto)]
@@ -16,10 +20,13 @@
 mod bounds;
 mod builds;
 mod class;
+mod matches;
 mod reader;
 
 use builds::{Direction, Least, Parts, measure};
+use matches::{Matches, time_matches};
 use reader::ReadError;
+use rx_base::MatchError;
 use rx_build::BuildError;
 use rx_build::dense::OwnedDFA;
 use rx_expr::Expr;
@@ -32,7 +39,7 @@ use thiserror::Error;
 #[derive(Debug, Drop, Error)]
 pub enum Fault {
     /// The words are wrong.
-    #[error("usage: rx_build_bench FILE REPEATS [parts]")]
+    #[error("usage: rx_build_bench FILE REPEATS [parts | find TEXT]")]
     Usage,
     /// An expression isn't read.
     #[error("{text}: {error}")]
@@ -45,6 +52,9 @@ pub enum Fault {
     /// A table isn't built.
     #[error("{0}")]
     Build(#[from] BuildError),
+    /// A search ended by an error.
+    #[error("{0}")]
+    Search(#[from] MatchError),
     /// Memory ran out, or the words, the clock, the file or an output failed.
     #[error("{0}")]
     Io(#[from] io::Error),
@@ -55,7 +65,7 @@ impl Fault {
     fn status(&self) -> ExitCode {
         match self {
             Fault::Usage => ExitCode::from(2),
-            Fault::Expression { .. } | Fault::Build(_) => ExitCode::from(3),
+            Fault::Expression { .. } | Fault::Build(_) | Fault::Search(_) => ExitCode::from(3),
             Fault::Io(_) => ExitCode::FAILURE,
         }
     }
@@ -80,10 +90,24 @@ fn run(rt: &HostRuntime) -> Result<(), Fault> {
     let parts = match words.next() {
         None => Parts::Whole,
         Some(word) if word.as_str() == "parts" => Parts::Apart,
+        Some(word) if word.as_str() == "find" => {
+            let text = words.next().ok_or(Fault::Usage)?;
+            return find_all(rt, file.as_str(), repeats, text.as_str());
+        }
         Some(_) => return Err(Fault::Usage),
     };
     let exprs = read_file(rt, file.as_str())?;
     time_builds(rt, &exprs, repeats, parts)
+}
+
+/// Goes through all matches in a text so many times, and says how many there are and how long that took.
+fn find_all(rt: &HostRuntime, file: &str, repeats: u32, path: &str) -> Result<(), Fault> {
+    let exprs = read_file(rt, file)?;
+    let text = fs::read(rt, path)?;
+    let (found, time) = time_matches(rt, rt.alloc(), &exprs, repeats, &text)?;
+    println!(rt; "{} matches, {} bytes", found.count, found.bytes)?;
+    eprintln!(rt; "{} microseconds", time / 1000)?;
+    Ok(())
 }
 
 /// Builds both tables so many times, and says how large they are and how long the builds took.

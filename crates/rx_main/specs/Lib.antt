@@ -1,7 +1,11 @@
--- command lines
+-- command lines, and the lines that answer them
 pub mod Commands
--- a file for each command
+pub mod Lines
+-- what is common to the commands that read scripts, and a file for each command
+pub mod Scripts
 pub mod Find
+pub mod Each
+pub mod Gen
 -- what is answered, and what a run leaves
 pub mod Replies
 pub mod Run

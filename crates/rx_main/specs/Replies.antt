@@ -1,9 +1,12 @@
--- What the program answers to a command line and the bytes that were read: a line, and a status.
-use Rattle.std.specs.Prelude.{ℕ, ◌≡◌, ◌≢◌, ◌+◌, ◌≤◌, Bool, true, Some, None, List, [], ◌∷◌, ◌++◌, length, codes}
-use Rattle.rx_main.specs.Commands.{command_of}
-use Rattle.rx_main.specs.Find.{FindReplies, find_words, find_status}
+-- What the program replies to a command line and the bytes that were read.
+use Rattle.std.specs.Prelude.{ℕ, ◌≡◌, ◌+◌, ◌≤◌, ◌⊎◌, Bool, true, List, [], length}
+use Rattle.rx_spec.specs.Plans.{Cause}
+use Rattle.rx_main.specs.Commands.{Says, SaysNothing, is_reading}
+use Rattle.rx_main.specs.Lines.{Reply, usage_reply, long_reply, IsRefusal}
+use Rattle.rx_main.specs.Find.{FindReplies}
+use Rattle.rx_main.specs.Each.{EachReplies}
+use Rattle.rx_main.specs.Gen.{GenReplies}
 use Rattle.rx_main.specs.declared.command.Command.{Command}
-use Rattle.rx_main.specs.declared.reply.Reply.{Reply}
 
 -- the most bytes that are read
 abbrev pub most_bytes : ℕ
@@ -14,25 +17,22 @@ pub record AreRead (bytes : List ℕ) (ended : Bool) : Type 0 where
   pub whole : ended ≡ true
   pub few : length bytes ≤ most_bytes
 
--- The reply to a command line and the bytes that were taken from the source. Where the bytes are the
--- whole of the source, ended is true. No words but a command's read anything; where there are more bytes
--- than are read, one more was taken.
-abbrev pub Replies : List (List ℕ) → List ℕ → Bool → Reply → Type 0
-Replies words bytes ended Reply.Usage = (command_of words ≡ None) × (bytes ≡ [])
-Replies words bytes ended Reply.Long = (command_of words ≢ None) × (length bytes ≡ most_bytes + 1)
-Replies words bytes ended (Reply.Find reply) =
-    (command_of words ≡ Some Command.Find) × AreRead bytes ended × FindReplies bytes reply
+-- what a command replies, each by its own definition
+abbrev pub CommandReplies : Command → List ℕ → Bool → Reply → Type 0
+CommandReplies Command.Find bytes ended reply = AreRead bytes ended × FindReplies bytes reply
+CommandReplies Command.Each bytes ended reply = AreRead bytes ended × EachReplies bytes reply
+CommandReplies (Command.Gen count) bytes ended reply = (bytes ≡ []) × GenReplies count reply
 
--- the line that is written, and the status
-abbrev pub words_written : Reply → List ℕ
-words_written Reply.Usage = codes "usage"
-words_written Reply.Long = codes "long"
-words_written (Reply.Find reply) = find_words reply
+-- The reply to a command line and the bytes that were taken from the source. Where the bytes are the whole of the
+-- source, ended is true. Where there are more bytes than are read, one more was taken.
+pub data Replies (words : List (List ℕ)) (bytes : List ℕ) (ended : Bool) (reply : Reply) : Type 0 where
+  Usage : SaysNothing words → bytes ≡ [] → reply ≡ usage_reply → Replies words bytes ended reply
+  Long : (command : Command) → Says words command → is_reading command ≡ true → length bytes ≡ most_bytes + 1
+      → reply ≡ long_reply → Replies words bytes ended reply
+  Answered : (command : Command) → Says words command → CommandReplies command bytes ended reply
+      → Replies words bytes ended reply
 
-abbrev pub text_of : Reply → List ℕ
-text_of reply = words_written reply ++ 10 ∷ []
-
-abbrev pub status_of : Reply → ℕ
-status_of Reply.Usage = 2
-status_of Reply.Long = 2
-status_of (Reply.Find reply) = find_status reply
+-- Two replies are the same, or each says that a build is refused: where several causes hold, any of them may be told.
+abbrev pub SayTheSame : Reply → Reply → Type 0
+SayTheSame reply other =
+    (reply ≡ other) ⊎ (IsRefusal (λ (cause : Cause). Unit {0}) reply × IsRefusal (λ (cause : Cause). Unit {0}) other)

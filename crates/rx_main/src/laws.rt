@@ -1,12 +1,14 @@
 //! A reply is determined: a law over the definitions, as a function with an empty body.
 
-ghost use Rattle.std.specs.Prelude.{◌≡◌, ℕ, Bool, List};
-ghost use Rattle.rx_main.specs.Replies.{Replies};
-ghost use Rattle.rx_main.specs.declared.reply.Reply.{Reply};
+ghost use Rattle.std.specs.Prelude.{ℕ, Bool, List};
+ghost use Rattle.rx_main.specs.Lines.{Reply};
+ghost use Rattle.rx_main.specs.Replies.{Replies, SayTheSame};
 
-/// At most one reply fits a command line and the bytes that were taken from the source. So each line is
-/// written exactly where the definition of replies says that it may be.
+/// At most one reply fits a command line and the bytes that were taken from the source, but that a refused
+/// build names any one of the causes that hold: then all replies that fit say that a build is refused. So each
+/// line is written exactly where the definition of replies says that it may be, and the numbers of rows are
+/// no others.
 pub fn one_reply()
     ensures { (words : List (List ℕ)) (bytes : List ℕ) (ended also_ended : Bool) (reply other : Reply)
-        → Replies words bytes ended reply → Replies words bytes also_ended other → reply ≡ other }
+        → Replies words bytes ended reply → Replies words bytes also_ended other → SayTheSame reply other }
 {}

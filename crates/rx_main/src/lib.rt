@@ -1,5 +1,5 @@
-//! The program as a function: from the words of a command line and the bytes of a source to the line
-//! that is written and the status.
+//! The program as a function: from the words of a command line and the bytes of a source to the lines
+//! that are written and the status.
 //!
 //! [`run`] is the whole program. Its contract ties what is written to the words and the bytes read by
 //! the definition `Replies` of `specs/Replies.antt`, which has a file for each command. Scripts and
@@ -7,10 +7,14 @@
 #![tactic(auto)]
 
 mod command;
+mod each;
 mod find;
+mod generate;
 pub mod laws;
+mod lines;
 mod program;
 mod reply;
+mod scripts;
 mod transfer;
 mod words;
 

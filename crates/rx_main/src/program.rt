@@ -1,17 +1,21 @@
 //! The program: a command line, a source and a sink.
 
-ghost use Rattle.std.specs.Prelude.{◌≡◌, ◌≢◌, ◌≤◌, IfOk, Err};
+ghost use Rattle.std.specs.Prelude.{◌≡◌, ◌≢◌, ◌≤◌, ◌↔◌, IfOk, Err};
 ghost use Rattle.std.specs.Io.KnownBytes.{Keeps};
 ghost use Rattle.rx_base.specs.Outside.{Rose};
+ghost use Rattle.rx_main.specs.Lines.{long_reply};
 ghost use Rattle.rx_main.specs.Run.{Took, Answers, Breaks};
 
 use crate::command::{Command, command_of};
+use crate::each::each;
 use crate::find::find;
+use crate::generate::generate;
+use crate::lines::{long_reply, usage_reply};
 use crate::reply::Reply;
 use crate::transfer::{TextFault, read_text, write_text};
 use crate::words::Words;
 use rx_base::{Sink, Source};
-use std::alloc::Global;
+use std::alloc::{AllocError, Global};
 
 /// The status where the source failed, where the sink failed, and where memory ran out.
 const SOURCE_FAILED: u8 = 5;
@@ -29,33 +33,55 @@ enum Stop {
     Memory,
 }
 
+impl From<AllocError> for Stop {
+    ghost use Rattle.std.specs.Prelude.{◌≡◌};
+    ghost use Rattle.rx_main.specs.declared.program.Stop.TheVariants.{Memory};
+
+    ghost from_gives = { λ _ e. e ≡ Memory };
+
+    fn from(_: AllocError) -> Stop {
+        Stop::Memory
+    }
+}
+
 /// Reads what the command reads, and finds the reply.
 fn reply<S: Source>(alloc: Global, words: &Words, src: &mut S) -> Result<Reply, Stop>
-    ensures took { IfOk result (λ reply. Took words.now (S.left src.old) (S.left src.new) reply) }
+    ensures took { IfOk result (Took words.now (S.left src.old) (S.left src.new)) }
     ensures failed { result ≡ Err Stop.Failed → Rose (S.faults src.old) (S.faults src.new) }
     ensures kept { result ≢ Err Stop.Failed → S.faults src.new ≡ S.faults src.old }
 {
     let Some(command) = command_of(words) else {
-        return Ok(Reply::Usage);
-    };
-    let text = match read_text(alloc, src) {
-        Ok(text) => text,
-        Err(TextFault::Long) => return Ok(Reply::Long),
-        Err(TextFault::Failed) => return Err(Stop::Failed),
-        Err(TextFault::Memory) => return Err(Stop::Memory),
+        return Ok(usage_reply(alloc)?);
     };
     match command {
-        Command::Find => match find(alloc, &text) {
-            Ok(reply) => Ok(Reply::Find(reply)),
-            Err(_) => Err(Stop::Memory),
+        Command::Find => match read_text(alloc, src) {
+            Ok(text) => Ok(find(alloc, &text)?),
+            Err(fault) => unread_reply(alloc, fault),
         },
+        Command::Each => match read_text(alloc, src) {
+            Ok(text) => Ok(each(alloc, &text)?),
+            Err(fault) => unread_reply(alloc, fault),
+        },
+        Command::Gen(count) => Ok(generate(alloc, count)?),
     }
 }
 
-/// Runs a command line: reads what it reads from the source, and writes the line that answers it into
+/// What comes of a source that isn't read to its end.
+fn unread_reply(alloc: Global, fault: TextFault) -> Result<Reply, Stop>
+    ensures told { IfOk result (λ reply. (fault ≡ TextFault.Long) × (reply ≡ long_reply)) }
+    ensures failed { result ≡ Err Stop.Failed ↔ (fault ≡ TextFault.Failed) }
+{
+    match fault {
+        TextFault::Long => Ok(long_reply(alloc)?),
+        TextFault::Failed => Err(Stop::Failed),
+        TextFault::Memory => Err(Stop::Memory),
+    }
+}
+
+/// Runs a command line: reads what it reads from the source, and writes the lines that answer it into
 /// the sink. The result is the status.
 ///
-/// With a status up to 4 the line was written, with 6 a part of it, and with 5 and 7 nothing. 5 says
+/// With a status up to 4 all lines were written, with 6 a part of them, and with 5 and 7 nothing. 5 says
 /// that the source failed, 6 that the sink did, and 7 that memory ran out: any fault of the source or the
 /// sink gives 5 or 6, and without one there is no such status.
 pub fn run<S: Source, K: Sink>(alloc: Global, words: &Words, src: &mut S, out: &mut K) -> u8
@@ -86,10 +112,7 @@ pub fn run<S: Source, K: Sink>(alloc: Global, words: &Words, src: &mut S, out: &
         Err(Stop::Failed) => return SOURCE_FAILED,
         Err(Stop::Memory) => return NO_MEMORY,
     };
-    let Ok(text) = reply.text(alloc) else {
-        return NO_MEMORY;
-    };
-    if write_text(out, text.as_bytes()) {
+    if write_text(out, reply.text().as_bytes()) {
         return reply.status();
     }
     SINK_FAILED

@@ -1,51 +1,65 @@
-//! The line that is written, and the status that goes with it.
+//! What is answered.
 
-ghost use Rattle.std.specs.Prelude.{◌≡◌, Some, IfOk};
+ghost use Rattle.std.specs.Prelude.{◌≡◌, ◌≤◌};
 ghost use Rattle.std.specs.String.{string_bytes};
-ghost use Rattle.rx_main.specs.Replies.{words_written, text_of, status_of};
 
-use crate::find::FindReply;
-use std::alloc::{AllocError, Global};
-use std::fmt;
+use std::marker::Model;
 
-/// What is answered.
-#[derive(Clone, Copy, Debug)]
-pub enum Reply {
-    /// The words are no command.
-    Usage,
-    /// There are more bytes than are read.
-    Long,
-    /// The reply of `find`.
-    Find(FindReply),
+/// The status where something matches, or is counted.
+pub const FOUND: u8 = 0;
+
+/// The status where nothing matches.
+pub const NOT_FOUND: u8 = 1;
+
+/// The status where the words are no command, or the source is no script that is answered.
+pub const TURNED_DOWN: u8 = 2;
+
+/// The status where a build is refused.
+pub const REFUSED: u8 = 3;
+
+/// The status where a search ends by an error.
+pub const FAILED: u8 = 4;
+
+/// A text of one or more lines, and the status that goes with it, at most 4.
+#[derive(Drop)]
+pub struct Reply {
+    text: String,
+    status: u8,
 }
 
-impl fmt::Display for Reply {
-    ghost output = { λ reply. Some (words_written reply) };
+impl Model for Reply {
+    ghost use Rattle.std.specs.Prelude.{◌≤◌};
+    ghost use Rattle.std.specs.String.{string_bytes};
+    ghost use Rattle.rx_main.specs.Lines.{Reply as Answer};
 
-    fn fmt<W: fmt::Write>(&self, f: &mut fmt::Formatter<W>) -> fmt::Result {
-        match self {
-            Reply::Usage => write!(f, "usage"),
-            Reply::Long => write!(f, "long"),
-            Reply::Find(reply) => write!(f, "{reply}"),
-        }
-    }
+    ghost Value = { Answer };
+
+    ghost view = { λ r. record { text = string_bytes r.text; status = r.status } };
+
+    ghost invariant = { λ r. r.status ≤ 4 };
 }
 
 impl Reply {
-    /// The status that the program ends with.
-    pub fn status(&self) -> u8
-        ensures { result ≡ status_of self.now }
+    /// A text and its status.
+    pub fn new(text: String, status: u8) -> Reply
+        requires { status ≤ 4 }
+        ensures { result ≡ record { text = string_bytes text; status = status } }
     {
-        match self {
-            Reply::Usage | Reply::Long => 2,
-            Reply::Find(reply) => reply.status(),
-        }
+        Reply { text, status }
     }
 
-    /// The line that is written.
-    pub fn text(&self, alloc: Global) -> Result<String, AllocError>
-        ensures { IfOk result (λ text. string_bytes text ≡ text_of self.now) }
+    /// The text.
+    pub fn text(&self) -> &str
+        ensures { result.now ≡ self.now.text }
     {
-        format!(in alloc; "{self}\n")
+        self.text.as_str()
+    }
+
+    /// The status.
+    pub fn status(&self) -> u8
+        ensures value { result ≡ self.now.status }
+        ensures few { result ≤ 4 }
+    {
+        self.status
     }
 }

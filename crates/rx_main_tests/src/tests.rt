@@ -55,37 +55,49 @@ fn compare(
     Ok(())
 }
 
-/// Compares the line of the command `find` for a text.
-fn find(rt: &impl Abort, alloc: Global, text: &[u8], status: u8, line: &str) -> Result<(), Fail> {
-    let outside = Outside {
+/// A text, given with a slash between two lines.
+fn lines(alloc: Global, text: &str) -> Result<Vec<u8>, AllocError> {
+    let mut bytes = Vec::with_capacity(alloc, text.len())?;
+    for byte in text.as_bytes() {
+        bytes.push(if *byte == b'/' { b'\n' } else { *byte })?;
+    }
+    Ok(bytes)
+}
+
+/// What a run has that reads a text, and neither reads nor writes that fail.
+fn whole(text: &[u8]) -> Outside<'_> {
+    Outside {
         text,
         most_read: 65_536,
         failing_reads: &[],
-        room: 100,
+        room: 1000,
         most_written: 3,
         failing_writes: &[],
-    };
-    let line = format!(in alloc; "{line}\n")?;
-    compare(rt, alloc, &["find"], outside, (status, &line))
+    }
 }
 
-/// Runs it on scripts, which are given with a slash between two lines.
-fn find_all(rt: &impl Abort, alloc: Global, cases: &[(&str, u8, &str)]) -> Result<(), Fail> {
-    for (script, status, line) in cases {
-        let mut text = Vec::with_capacity(alloc, script.len())?;
-        for byte in script.as_bytes() {
-            text.push(if *byte == b'/' { b'\n' } else { *byte })?;
-        }
-        find(rt, alloc, &text, *status, line)?;
+/// A script, a status, and the lines that are wanted; slashes part lines.
+type Case = (&'static str, u8, &'static str);
+
+/// Runs a command that reads on scripts.
+fn run_all(rt: &impl Abort, alloc: Global, command: &str, cases: &[Case]) -> Result<(), Fail> {
+    for (script, status, wanted) in cases {
+        let text = lines(alloc, script)?;
+        let (told, written) = answer(rt, alloc, &[command], whole(&text))?;
+        let mut want = lines(alloc, wanted)?;
+        want.push(b'\n')?;
+        let is_wanted = told == *status && written.as_slice() == want.as_slice();
+        assert!(rt; is_wanted, "{command} {script}: {told}, {written:?}");
     }
     Ok(())
 }
 
 #[test]
 fn scripts_are_answered(rt: HostRuntime) -> Result<(), Fail> {
-    find_all(
+    run_all(
         &rt,
         rt.alloc(),
+        "find",
         &[
             ("expr lit 61/input 0 1 yes/hay 61", 0, "match 0 0 1"),
             ("expr lit 61/input 0 1 yes/hay 62", 1, "none"),
@@ -209,16 +221,100 @@ fn scripts_are_answered(rt: HostRuntime) -> Result<(), Fail> {
 }
 
 #[test]
-fn each_plan_is_answered_or_unbuilt(rt: HostRuntime) -> Result<(), Fail> {
-    find_all(
+fn plan_words_have_an_effect(rt: HostRuntime) -> Result<(), Fail> {
+    run_all(
         &rt,
         rt.alloc(),
+        "find",
         &[
-            // what is the default may be said
+            // row counts
             (
-                "plan start=both/expr eps/input 0 0 yes/hay -",
+                "plan rows dfa=0/input 0 3 no/hay 616263",
+                1,
+                "none/rows 2 2",
+            ),
+            (
+                "plan rows/expr lit 61/input 0 3 no/hay 626162",
                 0,
-                "match 0 0 0",
+                "match 0 1 2/rows 7 5",
+            ),
+            (
+                "plan rows minimize/expr lit 61/input 0 3 no/hay 626162",
+                0,
+                "match 0 1 2/rows 6 5",
+            ),
+            (
+                "plan minimize/expr lit 61/input 0 3 no/hay 626162",
+                0,
+                "match 0 1 2",
+            ),
+            (
+                "plan rows quit=62/expr lit 61/input 0 3 no/hay 626162",
+                4,
+                "quit 62 0",
+            ),
+            // limits
+            (
+                "plan dfa=164/expr lit 61/input 0 3 no/hay 626162",
+                0,
+                "match 0 1 2",
+            ),
+            (
+                "plan dfa=163/expr lit 61/input 0 3 no/hay 626162",
+                3,
+                "build dfa-size",
+            ),
+            (
+                "plan det=72/expr lit 61/input 0 3 no/hay 626162",
+                0,
+                "match 0 1 2",
+            ),
+            (
+                "plan det=71/expr lit 61/input 0 3 no/hay 626162",
+                3,
+                "build det-size",
+            ),
+            // modes
+            (
+                "plan start=unanchored/expr lit 61/input 1 0 yes/hay 61",
+                1,
+                "none",
+            ),
+            (
+                "plan start=unanchored/expr lit 61/input 0 1 yes/hay 61",
+                4,
+                "unsupported yes",
+            ),
+            (
+                "plan start=anchored/expr lit 61/input 0 1 no/hay 61",
+                4,
+                "unsupported no",
+            ),
+            (
+                "plan patterns/expr lit 61/expr lit 62/input 0 1 p5/hay 61",
+                1,
+                "none",
+            ),
+            (
+                "expr lit 61/expr lit 62/input 0 1 p5/hay 61",
+                4,
+                "unsupported p5",
+            ),
+            (
+                "plan patterns/expr lit 61/expr rep 0 1 greedy lit 61/input 0 1 p1/hay 61",
+                0,
+                "match 1 0 1",
+            ),
+            // the form of tables changes no answer
+            (
+                "plan noclasses mark/expr lit 61/input 0 3 no/hay 626162",
+                0,
+                "match 0 1 2",
+            ),
+            (
+                "plan noaccel/expr rep 0 inf greedy cls 00-77,79-ff/input 0 6 no/hay 616161786161",
+                0,
+                "match 0 0 3",
             ),
             ("plan start=both nfa=400/input 0 0 yes/hay -", 1, "none"),
             (
@@ -226,28 +322,98 @@ fn each_plan_is_answered_or_unbuilt(rt: HostRuntime) -> Result<(), Fail> {
                 1,
                 "none",
             ),
+        ],
+    )
+}
+
+#[test]
+fn matches_are_told_one_after_another(rt: HostRuntime) -> Result<(), Fail> {
+    const DATES: &str =
+        "expr cat rep 4 4 greedy cls 30-39 cat lit 2d cat rep 2 2 greedy cls 30-39 cat lit 2d rep 2 2 \
+                         greedy cls 30-39/input 0 21 no/hay 323031382d31322d323420323031362d31302d3038";
+    const MINIMIZED: &str =
+        "plan minimize/expr cat rep 4 4 greedy cls 30-39 cat lit 2d cat rep 2 2 greedy cls 30-39 \
+                             cat lit 2d rep 2 2 greedy cls 30-39/input 0 21 no/hay \
+                             323031382d31322d323420323031362d31302d3038";
+    run_all(
+        &rt,
+        rt.alloc(),
+        "each",
+        &[
+            (DATES, 0, "match 0 0 10/match 0 11 21"),
+            (MINIMIZED, 0, "match 0 0 10/match 0 11 21"),
+            (
+                "expr rep 1 inf greedy cls 30-39,41-5a,5f,61-7a/expr rep 1 inf greedy cls 00-08,0e-1f,21-ff/input 0 \
+                 8 no/hay 40666f6f20626172",
+                0,
+                "match 1 0 4/match 0 5 8",
+            ),
+            (
+                "expr look startcrlf/input 0 2 no/hay 0d0a",
+                0,
+                "match 0 0 0/match 0 2 2",
+            ),
+            (
+                "expr eps/input 0 3 no/hay e29883",
+                0,
+                "match 0 0 0/match 0 1 1/match 0 2 2/match 0 3 3",
+            ),
+            ("expr lit 61/input 0 2 no/hay 6262", 1, "none"),
+            ("expr lit 61/input 1 0 yes/hay 61", 1, "none"),
+            // the numbers of rows aren't told
+            (
+                "plan rows/expr lit 61/input 0 1 no/hay 61",
+                0,
+                "match 0 0 1",
+            ),
+            // matches before an error are told
+            (
+                "plan quit=7a/expr lit 61/input 0 4 no/hay 6162627a",
+                4,
+                "match 0 0 1/quit 7a 3",
+            ),
+            (
+                "plan quit=7a/expr lit 61/input 0 3 no/hay 62627a",
+                4,
+                "quit 7a 2",
+            ),
+            (
+                "plan start=anchored/expr lit 61/input 0 1 no/hay 61",
+                4,
+                "unsupported no",
+            ),
+            (
+                "plan dfa=163/expr lit 61/input 0 3 no/hay 626162",
+                3,
+                "build dfa-size",
+            ),
+            // what isn't built, and faults
+            ("plan bytes/expr eps/input 0 0 no/hay -", 2, "unbuilt"),
+            ("expr lit 61/input 2 0 no/hay -", 2, "bad 3 span"),
+        ],
+    )
+}
+
+#[test]
+fn scripts_may_be_turned_down(rt: HostRuntime) -> Result<(), Fail> {
+    run_all(
+        &rt,
+        rt.alloc(),
+        "find",
+        &[
             // forms that aren't built
-            ("plan rows/input 0 0 yes/hay -", 2, "unbuilt"),
-            ("plan start=anchored/input 0 0 yes/hay -", 2, "unbuilt"),
-            ("plan start=unanchored/input 0 0 yes/hay -", 2, "unbuilt"),
-            ("plan patterns/input 0 0 yes/hay -", 2, "unbuilt"),
-            ("plan noclasses/input 0 0 yes/hay -", 2, "unbuilt"),
-            ("plan dfa=2/input 0 0 yes/hay -", 2, "unbuilt"),
-            ("plan det=4294967295/input 0 0 yes/hay -", 2, "unbuilt"),
-            ("plan minimize/input 0 0 yes/hay -", 2, "unbuilt"),
-            ("plan noaccel/input 0 0 yes/hay -", 2, "unbuilt"),
-            ("plan mark/input 0 0 yes/hay -", 2, "unbuilt"),
             ("plan sparse/input 0 0 yes/hay -", 2, "unbuilt"),
             ("plan bytes/input 0 0 yes/hay -", 2, "unbuilt"),
-            ("input 0 0 p0/hay -", 2, "unbuilt"),
-            ("input 0 0 p2147483646/hay -", 2, "unbuilt"),
+            ("plan sparse bytes rows/input 0 0 yes/hay -", 2, "unbuilt"),
             // a fault comes first
-            ("plan rows/expr eps/input 0 1 yes/hay -", 2, "bad 4 span"),
+            ("plan sparse/expr eps/input 0 1 yes/hay -", 2, "bad 4 span"),
+            ("expr lit 61/input 2 0 no/hay -", 2, "bad 3 span"),
             ("", 2, "bad 1 order"),
             ("/", 2, "bad 1 words"),
             ("plan fast", 2, "bad 1 plan"),
             ("expr", 2, "bad 1 expr"),
-            ("expr rep 2 1 lazy eps", 2, "bad 1 bad-range"),
+            ("expr cat lit 61", 2, "bad 1 expr"),
+            ("expr rep 2 1 greedy lit 61", 2, "bad 1 bad-range"),
             ("expr rep 0 inf greedy eps", 2, "bad 1 empty-body"),
             ("input 0 0 x", 2, "bad 1 input"),
             ("input 0 0 yes/hay 6", 2, "bad 2 hay"),
@@ -258,24 +424,61 @@ fn each_plan_is_answered_or_unbuilt(rt: HostRuntime) -> Result<(), Fail> {
 #[test]
 fn sources_have_at_most_so_many_bytes(rt: HostRuntime) -> Result<(), Fail> {
     let mut text = vec![in rt.alloc(); b'\n'; 16_777_216]?;
-    find(&rt, rt.alloc(), &text, 2, "bad 1 words")?;
+    compare(
+        &rt,
+        rt.alloc(),
+        &["find"],
+        whole(&text),
+        (2, "bad 1 words\n"),
+    )?;
     text.push(b'\n')?;
-    find(&rt, rt.alloc(), &text, 2, "long")
+    compare(&rt, rt.alloc(), &["find"], whole(&text), (2, "long\n"))?;
+    compare(&rt, rt.alloc(), &["each"], whole(&text), (2, "long\n"))
+}
+
+/// A source whose first read fails, and a sink that takes all at once.
+const UNREAD: Outside<'static> = Outside {
+    text: b"x",
+    most_read: 1,
+    failing_reads: &[1],
+    room: 100,
+    most_written: 100,
+    failing_writes: &[],
+};
+
+#[test]
+fn other_words_are_no_command(rt: HostRuntime) -> Result<(), Fail> {
+    let table: &[&[&str]] = &[
+        &[],
+        &["find", "x"],
+        &["Find"],
+        &["each", "1"],
+        &["gen"],
+        &["gen", ""],
+        &["gen", "0"],
+        &["gen", "01"],
+        &["gen", "+1"],
+        &["gen", "1x"],
+        &["gen", "1001"],
+        &["gen", "65537"],
+        &["gen", "1", "1"],
+        &["find", "7"],
+    ];
+    for texts in table {
+        compare(&rt, rt.alloc(), texts, UNREAD, (2, "usage\n"))?;
+    }
+    Ok(())
 }
 
 #[test]
-fn only_find_is_a_command(rt: HostRuntime) -> Result<(), Fail> {
-    let table: &[&[&str]] = &[&[], &["find", "x"], &["Find"]];
-    let outside = Outside {
-        text: b"x",
-        most_read: 1,
-        failing_reads: &[1],
-        room: 100,
-        most_written: 100,
-        failing_writes: &[],
-    };
-    for texts in table {
-        compare(&rt, rt.alloc(), texts, outside, (2, "usage\n"))?;
+fn patterns_are_generated_and_counted(rt: HostRuntime) -> Result<(), Fail> {
+    let table: &[(&str, &str)] = &[
+        ("1", "gen 1 20 0\n"),
+        ("7", "gen 7 140 420\n"),
+        ("100", "gen 100 2000 99000\n"),
+    ];
+    for (count, want) in table {
+        compare(&rt, rt.alloc(), &["gen", count], UNREAD, (0, want))?;
     }
     Ok(())
 }
@@ -295,6 +498,7 @@ fn reads_and_writes_may_fail(rt: HostRuntime) -> Result<(), Fail> {
         (&[], &[2], 100, 5, 6, "match"),
         (&[], &[3], 100, 5, 6, "match 1 0 "),
         (&[], &[4], 100, 5, 0, "match 1 0 1\n"),
+        (&[], &[2], 100, 1, 6, "m"),
         (&[1], &[1], 100, 5, 5, ""),
         (&[], &[], 4, 100, 6, "matc"),
     ];

@@ -1,7 +1,9 @@
--- the assertions of Unicode words
--- what a search says, how it starts, and its walk over a span
-pub mod Saying
-pub mod Starts
-pub mod Walks
--- two searches joined
-pub mod Joins
+-- the tables of a plan: what refuses them, that they serve it, and their rows
+pub mod Refusals
+pub mod Served
+pub mod Counts
+-- searches of them, one and all
+pub mod Searches
+pub mod Iterated
+-- the whole search
+pub mod Faults

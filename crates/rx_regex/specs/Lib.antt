@@ -1,7 +1,12 @@
 -- what is built so far
 pub mod Plan
--- half searches that step states, and the two of a plan joined
-pub mod Engine
+-- the settings that a plan asks for, and the tables that are built by them
+pub mod Settings
 pub mod Pairs
+pub mod Tables
+-- pairs that are built as a plan's are
+pub mod Planned
+-- how many rows they have
+pub mod Rows
 -- what a search for a match answers
 pub mod Find

@@ -7,9 +7,10 @@ ghost use Rattle.rx_plan.specs.Plan.{plan_of};
 ghost use Rattle.rx_regex.specs.Plan.{IsBuilt};
 ghost use Rattle.rx_regex.specs.Find.{Answers, IsPaired, Tells, IsFault};
 
-use crate::built::Built;
-use crate::error::{BuildError, BuildErrorKind, FindFault, SearchError};
-use rx_base::{Input, Match, MatchErrorKind};
+use crate::error::FindFault;
+use crate::tables::Built;
+use rx_base::{Input, Match, MatchError, MatchErrorKind};
+use rx_build::{BuildError, BuildErrorKind};
 use rx_expr::Expr;
 use rx_plan::Plan;
 use std::alloc::Global;
@@ -19,18 +20,19 @@ use std::alloc::Global;
 pub struct Answer {
     /// The match, where there is one.
     pub found: Option<Match>,
-    /// The rows of the forward table; 0 while there are no tables.
+    /// The rows of the forward table.
     pub forward_rows: u64,
-    /// The rows of the reverse table; 0 while there are no tables.
+    /// The rows of the reverse table.
     pub reverse_rows: u64,
 }
 
 /// Finds the leftmost match of a list of expressions in an input: the least place in the span where a
 /// pattern matches within the span, there the lowest pattern, and of it the preferred end.
 ///
-/// The plan decides the line terminator, the quit bytes and the modes that have starts. Plans with
-/// limits on tables, with the fewest rows, marked starts, sparse tables or tables that go through
-/// bytes are not built yet. Whether the input asks for the earliest end makes no difference.
+/// The plan decides how the two tables are built, the line terminator, the quit bytes and the modes
+/// that have starts. Where it minimizes, the numbers of rows are the least of any tables that tell the
+/// same. Plans with sparse tables, or with tables that go through bytes, are not built yet. Whether the
+/// input asks for the earliest end makes no difference.
 pub fn compile_and_find(
     alloc: Global,
     exprs: &[Expr],
@@ -47,12 +49,15 @@ pub fn compile_and_find(
         Ok(built) => built,
         Err(error) => return Err(build_fault(error)),
     };
-    match built.search(alloc, input) {
-        Ok(found) => Ok(Answer {
-            found,
-            forward_rows: 0,
-            reverse_rows: 0,
-        }),
+    match built.search(input) {
+        Ok(found) => {
+            let (forward_rows, reverse_rows) = built.rows();
+            Ok(Answer {
+                found,
+                forward_rows,
+                reverse_rows,
+            })
+        }
         Err(error) => Err(search_fault(error)),
     }
 }
@@ -67,15 +72,11 @@ fn build_fault(error: BuildError) -> FindFault
     }
 }
 
-/// A search without an answer, as a fault of the whole search.
-fn search_fault(error: SearchError) -> FindFault
+/// A search that ends by an error, as a fault of the whole search.
+fn search_fault(error: MatchError) -> FindFault
     requires { IsPaired error }
     ensures { Tells result error }
 {
-    let error = match error {
-        SearchError::Match(error) => error,
-        SearchError::Memory => return FindFault::Memory,
-    };
     match *error.kind() {
         MatchErrorKind::Quit { byte, offset } => FindFault::Quit { byte, offset },
         MatchErrorKind::UnsupportedAnchored { mode } => FindFault::Unsupported { mode },

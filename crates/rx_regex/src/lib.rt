@@ -1,17 +1,22 @@
-//! Searches for the matches of a list of expressions.
+//! Searches for the matches of a list of expressions, by tables that are built of them.
 //!
 //! [`compile_and_find`] takes expressions, a [`Plan`] and an input, and answers the leftmost match,
-//! there the lowest pattern and its preferred end, or says why it can't. Its contract says what is
-//! found without an automaton, and names one only in the causes of errors. It is two steps: the two
-//! searches of a plan are built, and then they are joined into one. Until tables are built, a search
-//! steps powerset states along the haystack.
+//! there the lowest pattern and its preferred end, with the numbers of rows of the two tables; or it
+//! says why it can't. Its contract says what is found without an automaton, and names one only in the
+//! causes of errors. It is two steps: a plan's tables are [`Built`], and then searched. Who searches
+//! more than once keeps the [`Built`], or makes a [`Regex`] by settings of its own ([`laws`]: what that finds).
 #![tactic(auto)]
 
 mod built;
-mod engine;
 mod error;
 mod find;
+pub mod laws;
+mod tables;
 
-pub use error::{BuildError, BuildErrorKind, FindFault};
+pub use error::FindFault;
 pub use find::{Answer, compile_and_find};
+pub use rx_build::{BuildError, BuildErrorKind};
+pub use rx_pair::{FindMatches, Regex};
 pub use rx_plan::{Form, Passage, Plan};
+pub use rx_regex_builder::{Builder, RegexBuild};
+pub use tables::Built;

@@ -2,4 +2,6 @@
 #![tactic(auto)]
 
 #[cfg(test)]
+mod pairs;
+#[cfg(test)]
 mod tests;

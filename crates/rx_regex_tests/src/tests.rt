@@ -4,7 +4,7 @@ ghost use Rattle.rx_regex.specs.Plan.{IsBuilt};
 
 use rx_base::{Anchored, Input, PatternID, StartKind};
 use rx_notation::read;
-use rx_regex::{Plan, compile_and_find};
+use rx_regex::{Built, Plan, compile_and_find};
 use std::alloc::Global;
 use std::process::Abort;
 use std::test::Fail;
@@ -18,6 +18,12 @@ enum Change {
     PatternStarts,
     Starts(StartKind),
     NfaLimit(usize),
+    DfaLimit(usize),
+    DeterminizeLimit(usize),
+    NoClasses,
+    Minimize,
+    NoAccelerate,
+    MarkStarts,
 }
 
 /// Where a match may begin, and of which pattern it is.
@@ -43,6 +49,12 @@ fn apply(plan: &mut Plan, change: Change)
         Change::PatternStarts => plan.pattern_starts = true,
         Change::Starts(kind) => plan.start_kind = kind,
         Change::NfaLimit(limit) => plan.nfa_limit = Some(limit),
+        Change::DfaLimit(limit) => plan.dfa_limit = Some(limit),
+        Change::DeterminizeLimit(limit) => plan.determinize_limit = Some(limit),
+        Change::NoClasses => plan.byte_classes = false,
+        Change::Minimize => plan.minimize = true,
+        Change::NoAccelerate => plan.accelerate = false,
+        Change::MarkStarts => plan.mark_starts = true,
     }
 }
 
@@ -224,6 +236,47 @@ fn the_plan_decides_words_starts_and_quits(rt: HostRuntime) -> Result<(), Fail> 
     ];
     for (patterns, changes, asked, want) in rows {
         compare(&rt, rt.alloc(), patterns, changes, *asked, want)?;
+    }
+    Ok(())
+}
+
+/// The numbers of rows of both tables, or why they aren't built.
+fn rows_of(alloc: Global, patterns: &str, changes: &[Change]) -> Result<String, Fail> {
+    let exprs = read(alloc, patterns)?;
+    match Built::new(alloc, &exprs, &plan_with(changes)) {
+        Ok(built) => {
+            let (forward, reverse) = built.rows();
+            Ok(format!(in alloc; "{forward} {reverse}")?)
+        }
+        Err(error) => Ok(error.to_string(alloc)?),
+    }
+}
+
+#[test]
+fn tables_have_so_many_rows(rt: HostRuntime) -> Result<(), Fail> {
+    let alloc = rt.alloc();
+    let rows: &[(&str, &[Change], &str)] = &[
+        ("", &[Change::DfaLimit(0)], "2 2"),
+        ("a", &[], "7 5"),
+        ("a", &[Change::Minimize], "6 5"),
+        ("a", &[Change::MarkStarts, Change::NoAccelerate], "7 5"),
+        ("a", &[Change::NoClasses], "7 5"),
+        ("a", &[Change::DfaLimit(164)], "7 5"),
+        (
+            "a",
+            &[Change::DfaLimit(163)],
+            "DFA exceeded size limit of 163 during determinization",
+        ),
+        ("a", &[Change::DeterminizeLimit(72)], "7 5"),
+        (
+            "a",
+            &[Change::DeterminizeLimit(71)],
+            "determinization exceeded size limit of 71",
+        ),
+    ];
+    for (patterns, changes, want) in rows {
+        let told = rows_of(alloc, patterns, changes)?;
+        assert!(rt; told.as_str() == *want, "{patterns}: {told}");
     }
     Ok(())
 }

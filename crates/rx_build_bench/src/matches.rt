@@ -1,0 +1,55 @@
+//! Searches that are timed.
+
+use crate::Fault;
+use crate::builds::nanoseconds;
+use rx_base::{Input, MatchError};
+use rx_dense::OwnedDFA;
+use rx_expr::{Expr, thompson};
+use rx_pair::Regex;
+use rx_regex_builder::Builder;
+use std::alloc::Global;
+use std::rt::Clock;
+use std::time::Instant;
+
+/// How many matches there are, and how many bytes they have.
+#[derive(Clone, Copy, Debug, PartialEq, Eq)]
+pub(crate) struct Matches {
+    /// The matches.
+    pub(crate) count: u64,
+    /// Their bytes.
+    pub(crate) bytes: u64,
+}
+
+/// Goes through all matches in a text so many times. Answers what was found, and the least time in nanoseconds.
+pub(crate) fn time_matches(
+    clock: &impl Clock,
+    alloc: Global,
+    exprs: &[Expr],
+    repeats: u32,
+    text: &[u8],
+) -> Result<(Matches, u64), Fault> {
+    let mut builder = Builder::new();
+    builder.thompson(thompson::Config::new().utf8(false));
+    let regex = builder.build_many(alloc, exprs)?;
+    let mut found = Matches { count: 0, bytes: 0 };
+    let mut least = u64::MAX;
+    for _ in 0..repeats {
+        let begin = Instant::now(clock)?;
+        found = count_matches(&regex, text)?;
+        least = least.min(nanoseconds(begin.elapsed(clock)?));
+    }
+    Ok((found, least))
+}
+
+/// All matches in a text.
+fn count_matches(regex: &Regex<OwnedDFA>, text: &[u8]) -> Result<Matches, MatchError> {
+    let mut found = Matches { count: 0, bytes: 0 };
+    for item in regex.find_iter(&Input::new(text)) {
+        let piece = item?;
+        found.count = found.count.wrapping_add(1);
+        found.bytes = found
+            .bytes
+            .wrapping_add(text[piece.start()..piece.end()].len() as u64);
+    }
+    Ok(found)
+}

@@ -1,0 +1,105 @@
+-- The matches that an iterator gives, and the reply that lists them.
+use Rattle.std.proofs.Common.{◌≡◌, List, [], ◌∷◌, ◌++◌, map, Option, Some, None, refl, ap, ◌∙◌, append_assoc}
+use Rattle.std.specs.Prelude.{Result, Ok, Err}
+use Rattle.std.specs.List.{flat_map}
+use Rattle.std.proofs.lemmas.List.{map-append}
+use Rattle.rx_spec.specs.Iterating.{FoundMatches}
+use Rattle.rx_spec.specs.Queries.{Match, MatchError}
+use Rattle.rx_pair.specs.Matches.{items}
+use Rattle.rx_main.specs.Lines.{match_line, none_line, error_reply}
+use Rattle.rx_main.specs.Each.{each_reply, matches_reply}
+
+abbrev pub Item : Type 0
+Item = Result Match MatchError
+
+abbrev pub as_item : Match → Item
+as_item m = Ok m
+
+-- one more of what is left is given
+pub told_more : (told : List Match) (m : Match) (left : List Item)
+    → map as_item (told ++ m ∷ []) ++ left ≡ map as_item told ++ as_item m ∷ left
+told_more told m left =
+    ap (λ (items : List Item). items ++ left) (map-append as_item told (m ∷ []))
+    ∙ append_assoc (map as_item told) (as_item m ∷ []) left
+
+-- ---- what was given says what was found
+
+-- an error that ends the matches, as the iterator gives it
+abbrev pub ended : Option MatchError → List Item
+ended None = []
+ended (Some error) = Err error ∷ []
+
+pub items_are : (found : FoundMatches) → items found ≡ map Ok found.matches ++ ended found.error
+items_are found = by_error found.error found.matches
+  where
+    by_error : (error : Option MatchError) (matches : List Match)
+        → items (record { matches = matches; error = error }) ≡ map Ok matches ++ ended error
+    by_error None matches = refl
+    by_error (Some error) matches = refl
+
+all_given : (told ms : List Match) (error : Option MatchError) → map Ok told ≡ map Ok ms ++ ended error
+    → (ms ≡ told) × (error ≡ None)
+all_given [] [] None e = (refl, refl)
+all_given [] [] (Some error) e = absurd (cc)
+all_given [] (m ∷ ms) error e = absurd (cc)
+all_given (t ∷ told) [] None e = absurd (cc)
+all_given (t ∷ told) [] (Some error) e = absurd (cc)
+all_given (t ∷ told) (m ∷ ms) error e =
+    let rest = all_given told ms error (cc) in
+    let same : t ≡ m = cc in
+    (cc, rest.1)
+
+error_given : (told ms : List Match) (error : Option MatchError) (last : MatchError) (more : List Item)
+    → map Ok told ++ Err last ∷ more ≡ map Ok ms ++ ended error → (ms ≡ told) × (error ≡ Some last)
+error_given [] [] None last more e = absurd (cc)
+error_given [] [] (Some error) last more e = (refl, cc)
+error_given [] (m ∷ ms) error last more e = absurd (cc)
+error_given (t ∷ told) [] None last more e = absurd (cc)
+error_given (t ∷ told) [] (Some error) last more e = absurd (cc)
+error_given (t ∷ told) (m ∷ ms) error last more e =
+    let rest = error_given told ms error last more (cc) in
+    let same : t ≡ m = cc in
+    (cc, rest.1)
+
+-- All that was given are matches: they are all that there are, and no error ends them.
+pub found_all : (told : List Match) (found : FoundMatches) → map Ok told ≡ items found
+    → (found.matches ≡ told) × (found.error ≡ None)
+found_all told found e = all_given told found.matches found.error (e ∙ items_are found)
+
+-- After some matches an error was given: that is the one which ends them.
+pub found_before : (told : List Match) (last : MatchError) (more : List Item) (found : FoundMatches)
+    → map Ok told ++ Err last ∷ more ≡ items found → (found.matches ≡ told) × (found.error ≡ Some last)
+found_before told last more found e =
+    error_given told found.matches found.error last more (e ∙ items_are found)
+
+-- ---- the reply
+
+is_found : (found : FoundMatches) (told : List Match) (error : Option MatchError)
+    → (found.matches ≡ told) × (found.error ≡ error) → each_reply found ≡ matches_reply told error
+is_found found told error h =
+    ap (λ ms. matches_reply ms found.error) h.0 ∙ ap (λ o. matches_reply told o) h.1
+
+pub failed_reply : (told : List Match) (last : MatchError) (more : List Item) (found : FoundMatches)
+    → map Ok told ++ Err last ∷ more ≡ items found
+    → each_reply found ≡ error_reply (flat_map match_line told) last
+failed_reply told last more found e = is_found found told (Some last) (found_before told last more found e)
+
+-- no text was written where nothing was told, and only there
+pub none_reply : (told : List Match) (found : FoundMatches) → map Ok told ≡ items found
+    → flat_map match_line told ≡ [] → each_reply found ≡ record { text = none_line; status = 1 }
+none_reply told found e empty = is_found found told None (found_all told found e) ∙ by_told told empty
+  where
+    by_told : (ms : List Match) → flat_map match_line ms ≡ []
+        → matches_reply ms None ≡ record { text = none_line; status = 1 }
+    by_told [] f = refl
+    by_told (m ∷ ms) f = absurd (cc)
+
+pub matches_told : (told : List Match) (found : FoundMatches) → map Ok told ≡ items found
+    → (flat_map match_line told ≡ [] → ⊥)
+    → each_reply found ≡ record { text = flat_map match_line told; status = 0 }
+matches_told told found e some = is_found found told None (found_all told found e) ∙ by_told told some
+  where
+    by_told : (ms : List Match) → (flat_map match_line ms ≡ [] → ⊥)
+        → matches_reply ms None ≡ record { text = flat_map match_line ms; status = 0 }
+    by_told [] f = absurd (f refl)
+    by_told (m ∷ ms) f = refl

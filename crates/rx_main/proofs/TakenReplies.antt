@@ -1,0 +1,40 @@
+-- What was taken from a source, and the reply to it.
+use Rattle.std.proofs.Common.{◌≡◌, ℕ, true, false, List, [], length, Option}
+use Rattle.std.specs.Io.KnownBytes.{Consumes, IsAtEnd}
+use Rattle.rx_main.specs.Commands.{Says, is_reading}
+use Rattle.rx_main.specs.Lines.{Reply, long_reply}
+use Rattle.rx_main.specs.Replies.{CommandReplies, Replies}
+use Rattle.rx_main.specs.Run.{Took}
+use Rattle.rx_main.specs.declared.command.Command.{Command}
+use Rattle.rx_main.proofs.Transfers.{consumes_none}
+
+-- nothing
+pub took_nothing : {words : List (List ℕ)} {reply : Reply} (left : Option (List ℕ)) → Replies words [] false reply
+    → Took words left left reply
+took_nothing left h =
+    record { bytes = []; ended = false; taken = consumes_none left; at_end = λ e. absurd (cc); replies = h }
+
+-- all there is
+pub took_all : {words : List (List ℕ)} {command : Command} (before after : Option (List ℕ)) (bytes : List ℕ)
+    (reply : Reply) → Says words command → Consumes before after bytes → IsAtEnd after
+    → CommandReplies command bytes true reply → Took words before after reply
+took_all {words} {command} before after bytes reply says taken end h = record {
+  bytes = bytes;
+  ended = true;
+  taken = taken;
+  at_end = λ e. end;
+  replies = Replies.Answered command says h;
+}
+
+-- one byte more than is read
+pub took_long : {words : List (List ℕ)} {command : Command} (before after : Option (List ℕ)) (reply : Reply)
+    → Says words command → is_reading command ≡ true
+    → (bytes : List ℕ) × (length bytes ≡ 16777217) × Consumes before after bytes → reply ≡ long_reply
+    → Took words before after reply
+took_long {words} {command} before after reply says reads taken e = record {
+  bytes = taken.0;
+  ended = false;
+  taken = taken.2;
+  at_end = λ h. absurd (cc);
+  replies = Replies.Long command says reads taken.1 e;
+}

@@ -1,0 +1,16 @@
+use Rattle.std.proofs.Common.{subst, sym, ◌∙◌}
+use Rattle.std.specs.Option.{MatchOption}
+use Rattle.rx_main.specs.Commands.{Says, SaysNothing}
+use Rattle.rx_main.proofs.Counts.{one_word, two_words}
+use Rattle.rx_main.proofs.command.command_of.Goals as goal
+
+pub returns-in-1 : goal.returns-in-1
+returns-in-1 c =
+    let words = one_word c.args.words.now c.word.result.now (sym c.len.ensures ∙ c.in-1.is) c.word.ensures in
+    subst (λ ws. MatchOption c.single_word.result (SaysNothing ws) (Says ws)) (sym words) c.single_word.ensures
+
+pub returns-in-2 : goal.returns-in-2
+returns-in-2 c =
+    let words = two_words c.args.words.now c.word-in-2.result.now c.word-in-2-2.result.now
+    (sym c.len.ensures ∙ c.in-2.is) c.word-in-2.ensures c.word-in-2-2.ensures in
+    subst (λ ws. MatchOption c.two_words.result (SaysNothing ws) (Says ws)) (sym words) c.two_words.ensures

@@ -1,0 +1,88 @@
+-- What is answered: a text of one or more lines, and the status that goes with it.
+use Rattle.std.specs.Prelude.{ℕ, ◌≡◌, ◌+◌, ◌/◌, ◌%◌, nat_lt, if◌then◌else◌, List, [], ◌∷◌, ◌++◌, codes}
+use Rattle.std.specs.Fmt.{decimal}
+use Rattle.rx_spec.specs.Queries.{Anchored, Match, MatchError}
+use Rattle.rx_spec.specs.Causes.{BuildCause}
+use Rattle.rx_spec.specs.Plans.{Cause}
+use Rattle.rx_script.specs.Faults.{kind_name}
+use Rattle.rx_script.specs.declared.fault.BadKind.{BadKind}
+
+pub record Reply : Type 0 where
+  pub text : List ℕ
+  pub status : ℕ
+
+-- how a line ends
+abbrev pub newline : List ℕ
+newline = 10 ∷ []
+
+-- ---- nothing is built
+
+-- the words are no command, or there are more bytes than are read
+abbrev pub usage_reply : Reply
+usage_reply = record { text = codes "usage" ++ newline; status = 2 }
+
+abbrev pub long_reply : Reply
+long_reply = record { text = codes "long" ++ newline; status = 2 }
+
+-- a script has a fault, or is of a form that isn't built
+abbrev pub fault_reply : ℕ → BadKind → Reply
+fault_reply line kind = record {
+  text = codes "bad " ++ (decimal line ++ (codes " " ++ (kind_name kind ++ newline)));
+  status = 2;
+}
+
+abbrev pub unbuilt_reply : Reply
+unbuilt_reply = record { text = codes "unbuilt" ++ newline; status = 2 }
+
+-- ---- a build is refused
+
+abbrev pub cause_name : Cause → List ℕ
+cause_name (Cause.NFA cause) = codes "nfa"
+cause_name (Cause.DFA BuildCause.Unsupported) = codes "unsupported"
+cause_name (Cause.DFA BuildCause.TooManyStates) = codes "states"
+cause_name (Cause.DFA BuildCause.TooManyMatchPatternIDs) = codes "matches"
+cause_name (Cause.DFA (BuildCause.DFAExceededSizeLimit limit)) = codes "dfa-size"
+cause_name (Cause.DFA (BuildCause.DeterminizeExceededSizeLimit limit)) = codes "det-size"
+
+abbrev pub refusal_reply : Cause → Reply
+refusal_reply cause = record { text = codes "build " ++ (cause_name cause ++ newline); status = 3 }
+
+-- a cause of this relation is told
+pub record IsRefusal (Refused : Cause → Type 0) (reply : Reply) : Type 0 where
+  pub cause : Cause
+  pub refused : Refused cause
+  pub told : reply ≡ refusal_reply cause
+
+-- ---- a search answers
+
+abbrev pub match_line : Match → List ℕ
+match_line m =
+    codes "match "
+    ++ (decimal m.pattern ++ (codes " " ++ (decimal m.start ++ (codes " " ++ (decimal m.end ++ newline)))))
+
+abbrev pub none_line : List ℕ
+none_line = codes "none" ++ newline
+
+-- the numbers of rows of the forward and the reverse table
+abbrev pub rows_line : ℕ → ℕ → List ℕ
+rows_line forward reverse = codes "rows " ++ (decimal forward ++ (codes " " ++ (decimal reverse ++ newline)))
+
+-- a lower-case hexadecimal digit
+abbrev pub hex_code : ℕ → ℕ
+hex_code digit = if nat_lt digit 10 then 48 + digit else 87 + digit
+
+abbrev pub mode_name : Anchored → List ℕ
+mode_name Anchored.No = codes "no"
+mode_name Anchored.Yes = codes "yes"
+mode_name (Anchored.Pattern k) = codes "p" ++ decimal k
+
+-- The halves of a plan never disagree, so no search of one ends by the last of these.
+abbrev pub error_line : MatchError → List ℕ
+error_line (MatchError.Quit byte offset) =
+    codes "quit " ++ (hex_code (byte / 16) ∷ (hex_code (byte % 16) ∷ (codes " " ++ (decimal offset ++ newline))))
+error_line (MatchError.UnsupportedAnchored mode) = codes "unsupported " ++ (mode_name mode ++ newline)
+error_line (MatchError.PairMismatch forward reverse) = codes "mismatch" ++ newline
+
+-- an error, after lines that come before it
+abbrev pub error_reply : List ℕ → MatchError → Reply
+error_reply lines error = record { text = lines ++ error_line error; status = 4 }

@@ -1,0 +1,63 @@
+//! The command `each`: the matches of a script's patterns in its haystack, one after another.
+
+ghost use Rattle.std.specs.Prelude.{◌≡◌, IfOk, List};
+ghost use Rattle.rx_spec.specs.Expressions.{Expression};
+ghost use Rattle.rx_spec.specs.Iterating.{iterate};
+ghost use Rattle.rx_spec.specs.Plans.{Plan as SearchPlan, outcome};
+ghost use Rattle.rx_spec.specs.Queries.{IsFit};
+ghost use Rattle.rx_base.specs.Input.{query_of};
+ghost use Rattle.rx_plan.specs.Plan.{plan_of};
+ghost use Rattle.rx_regex.specs.Plan.{IsBuilt};
+ghost use Rattle.rx_regex.specs.Tables.{IsOf};
+ghost use Rattle.rx_script.specs.Script.{asked_read};
+ghost use Rattle.rx_main.specs.Scripts.{BuildReplies, spelled_of};
+ghost use Rattle.rx_main.specs.Each.{EachAnswers, EachReplies, each_reply};
+
+use crate::lines::{error_reply, fixed_reply, push_match, refusal_reply};
+use crate::reply::{FOUND, NOT_FOUND, Reply};
+use crate::scripts::{Asked, Reading, read};
+use rx_base::Input;
+use rx_regex::Built;
+use std::alloc::{AllocError, Global};
+
+/// The reply to the bytes of a script.
+pub fn each(alloc: Global, text: &[u8]) -> Result<Reply, AllocError>
+    ensures { IfOk result (EachReplies text.now) }
+{
+    match read(alloc, text)? {
+        Reading::Asked(asked) => solve(alloc, &asked),
+        Reading::TurnedDown(reply) => Ok(reply),
+    }
+}
+
+/// The matches, or why nothing was searched.
+fn solve(alloc: Global, asked: &Asked) -> Result<Reply, AllocError>
+    requires built { IsBuilt asked.now.plan }
+    requires fits { IsFit (asked_read asked.now.input) }
+    ensures { IfOk result (BuildReplies (plan_of asked.now.plan) asked.now.exprs
+        (EachAnswers (spelled_of asked.now) (asked_read asked.now.input))) }
+{
+    match Built::new(alloc, asked.exprs.as_slice(), &asked.plan) {
+        Ok(built) => matches_reply(alloc, &built, &asked.input()),
+        Err(error) => refusal_reply(alloc, &error),
+    }
+}
+
+/// The matches of an input, and the error that ends them, where one does.
+fn matches_reply(alloc: Global, built: &Built, input: &Input<'_>) -> Result<Reply, AllocError>
+    requires { IsFit (query_of input.now) }
+    ensures { IfOk result (λ reply. (p : SearchPlan) (es : List Expression) → IsOf p es built.now
+        → reply ≡ each_reply (iterate (outcome p es) (query_of input.now))) }
+{
+    let mut text = String::new(alloc);
+    'matches: for item in built.find_iter(input) {
+        match item {
+            Ok(found) => push_match(&mut text, &found)?,
+            Err(error) => return error_reply(text, &error),
+        }
+    }
+    if text.is_empty() {
+        return fixed_reply(alloc, "none\n", NOT_FOUND);
+    }
+    Ok(Reply::new(text, FOUND))
+}

@@ -1,0 +1,57 @@
+-- Pairs of tables that are built as a plan's are.
+use Rattle.std.specs.Prelude.{◌≡◌, ◌≢◌, ◌≤◌, false, Option, Err, List, length, All}
+use Rattle.rx_spec.specs.Bytes.{AreBytes}
+use Rattle.rx_spec.specs.Expressions.{Expression, IsLoopSafe}
+use Rattle.rx_spec.specs.Joining.{join}
+use Rattle.rx_spec.specs.Plans.{Plan, outcome}
+use Rattle.rx_spec.specs.Queries.{Query, HalfMatch, MatchError}
+use Rattle.rx_spec.specs.declared.Direction.{Direction}
+use Rattle.rx_spec.specs.declared.Form.{Form}
+use Rattle.rx_spec.specs.declared.MatchKind.{MatchKind}
+use Rattle.rx_dense.specs.Layouts.{Layout, table_of}
+use Rattle.rx_build.specs.Builders.{Both}
+use Rattle.rx_build.specs.Settings as dense
+use Rattle.rx_expr.specs.Settings as thompson
+use Rattle.rx_regex_builder.specs.Pairs.{AreBuilt}
+use Rattle.rx_regex.specs.Pairs.{whole}
+
+-- The expressions are read forward, the preferred match is told, and it may begin and end anywhere.
+pub record IsPlanned (both : Both) : Type 0 where
+  pub kind : (dense.settled both.dense).match_kind ≡ MatchKind.LeftmostFirst
+  pub forward : (thompson.settled both.thompson).direction ≡ Direction.Forward
+  pub anywhere : (thompson.settled both.thompson).is_utf8 ≡ false
+
+-- the plan that asks for these settings
+abbrev pub planned : Both → Plan
+planned both =
+    let tables = dense.settled both.dense in
+    let nfas = thompson.settled both.thompson in
+    record {
+      start_kind = tables.start_kind;
+      pattern_starts = tables.pattern_starts;
+      byte_classes = tables.byte_classes;
+      quit = tables.quit;
+      unicode_word = tables.unicode_word;
+      line_terminator = nfas.line_terminator;
+      nfa_limit = nfas.size_limit;
+      dfa_limit = tables.dfa_size_limit;
+      determinize_limit = tables.determinize_size_limit;
+      minimize = tables.minimize;
+      accelerate = tables.accelerate;
+      mark_starts = tables.mark_starts;
+      form = Form.Dense;
+    }
+
+-- They answer what the expressions say: the leftmost match, there the lowest pattern, and its preferred end; or what
+-- refuses or ends the forward search.
+abbrev pub PairsFind : Type 0
+PairsFind = (both : Both) (es : List Expression) (f r : Layout) → IsPlanned both → All IsLoopSafe es
+    → AreBuilt both es f r → (q : Query) → AreBytes q.haystack → q.end ≤ length q.haystack
+    → join (table_of f) (table_of r) (whole q) ≡ outcome (planned both) es q
+
+-- And they never disagree, whether or not the first match met will do.
+abbrev pub PairsAgree : Type 0
+PairsAgree = (both : Both) (es : List Expression) (f r : Layout) → IsPlanned both → All IsLoopSafe es
+    → AreBuilt both es f r → (q : Query) → AreBytes q.haystack → q.end ≤ length q.haystack
+    → (end : HalfMatch) (start : Option HalfMatch)
+    → join (table_of f) (table_of r) q ≢ Err (MatchError.PairMismatch end start)

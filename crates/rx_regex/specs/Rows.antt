@@ -1,0 +1,28 @@
+-- How many rows the tables of a plan have.
+use Rattle.std.specs.Prelude.{ℕ, ◌≡◌, ◌+◌, Bool, true, false, List, length}
+use Rattle.rx_spec.specs.Expressions.{Expression}
+use Rattle.rx_spec.specs.Builds.{Build, AreReached}
+use Rattle.rx_spec.specs.Labels.{IsLeastFor}
+use Rattle.rx_spec.specs.Plans.{Plan, plan_build}
+use Rattle.rx_spec.specs.States.{State}
+use Rattle.rx_spec.specs.declared.Direction.{Direction}
+
+-- dead, quit, and one for each state that is reached
+pub record CountsReached (b : Build) (rows : ℕ) : Type 0 where
+  pub states : List State
+  pub reached : AreReached b states
+  pub count : rows ≡ length states + 2
+
+-- With minimizing there are as few as can be.
+abbrev pub CountsRows : Bool → Build → ℕ → Type 0
+CountsRows false b rows = CountsReached b rows
+CountsRows true b rows = IsLeastFor b rows
+
+-- the rows of one direction of a plan
+abbrev pub HasRows : Plan → Direction → List Expression → ℕ → Type 0
+HasRows p direction es rows = CountsRows p.minimize (plan_build p direction es) rows
+
+-- of both
+pub record HaveRows (p : Plan) (es : List Expression) (forward_rows reverse_rows : ℕ) : Type 0 where
+  pub forward : HasRows p Direction.Forward es forward_rows
+  pub reverse : HasRows p Direction.Reverse es reverse_rows
