@@ -15,7 +15,7 @@ use Rattle.rx_dense.proofs.Rows.{multiple_within}
 use Rattle.rx_dense_image.specs.Rows.{Rows, are_entries, cleared, have_ids, is_entry, word_at}
 use Rattle.rx_dense_image.specs.Bulk.{AreOf, column_forbidden, may_stand, stand_below}
 use Rattle.rx_dense_image.specs.declared.bulk.Columns.{Columns}
-use Rattle.rx_dense_image.specs.Bulk.{kept_around, stands_around}
+use Rattle.rx_dense_image.specs.Bulk.{kept_word, word_stands}
 use Rattle.rx_dense_image.proofs.EachBelow.{all_below, cases_bool}
 use Rattle.rx_dense_image.proofs.WordBytes.{below_cong}
 
@@ -73,10 +73,10 @@ kept_or_none false w lt = and_none w
 rest_below : (k : ℕ) → k % 512 < 512
 rest_below k = omega arith
 
-module _ {c : Columns} {s alphabet last : ℕ} (of : AreOf c s alphabet last) where
+module _ {c : Columns} {s alphabet : ℕ} (of : AreOf c s alphabet) where
   -- what is kept of a word is the cleared word
   pub kept_cleared : (bytes : List ℕ) → IsBytes bytes → (k : ℕ)
-      → kept_around c bytes k ≡ cleared (2 ^ s) alphabet k (word_at c.order bytes k)
+      → kept_word c bytes k ≡ cleared (2 ^ s) alphabet k (word_at c.order bytes k)
   kept_cleared bytes fits k =
       ap (λ (n : ℕ). bit_and (word_at c.order bytes k) (slice_index c.kept.now (k % n))) of.len
       ∙ ap (λ (m : ℕ). bit_and (word_at c.order bytes k) m)
@@ -84,11 +84,10 @@ module _ {c : Columns} {s alphabet last : ℕ} (of : AreOf c s alphabet last) wh
       ∙ ap (λ (n : ℕ). cond (ltb n alphabet) 4294967295 0) (rounds s k of.exponent))
       ∙ kept_or_none (ltb (k % 2 ^ s) alphabet) (word_at c.order bytes k) (word_small c.order bytes k fits)
 
-  pub stands_column : (bytes : List ℕ) (k w : ℕ) → w ≡ kept_around c bytes k
-      → stands_around s c bytes k ≡ may_stand (2 ^ s) last (column_forbidden (2 ^ s) alphabet k) w
-  stands_column bytes k w same =
-      ap (λ (x : ℕ). may_stand (2 ^ s) c.last (slice_index c.forbidden.now (k % length c.kept.now)) x) (sym same)
-      ∙ ap (λ (l : ℕ). may_stand (2 ^ s) l (slice_index c.forbidden.now (k % length c.kept.now)) w) of.same
+  pub stands_column : (last : ℕ) (bytes : List ℕ) (k w : ℕ) → w ≡ kept_word c bytes k
+      → word_stands s last c bytes k ≡ may_stand (2 ^ s) last (column_forbidden (2 ^ s) alphabet k) w
+  stands_column last bytes k w same =
+      ap (λ (x : ℕ). may_stand (2 ^ s) last (slice_index c.forbidden.now (k % length c.kept.now)) x) (sym same)
       ∙ ap (λ (n : ℕ). may_stand (2 ^ s) last (slice_index c.forbidden.now (k % n)) w) of.len
       ∙ ap (λ (f : ℕ). may_stand (2 ^ s) last f w)
       (of.forbidden (k % 512) (rest_below k)
@@ -159,27 +158,26 @@ small_or : (g : ℕ) → (g ≤ 2147483646) ⊎ (leb g 2147483646 ≡ false)
 small_or g = elim (cases_lt 2147483646 g) [ inl above ↦ inr (le_false g above) | inr le ↦ inl le ]
 
 -- what was found while the words were read, as the test of the rows
-pub record IsFound (rows : Rows) (greatest last : ℕ) (sound : Bool) : Type 0 where
+pub record IsFound (rows : Rows) (last : ℕ) (sound : Bool) : Type 0 where
   pub whole : length rows.words % 2 ^ rows.stride2 ≡ 0
-  pub is_greatest : greatest ≡ length rows.words - 2 ^ rows.stride2
-  pub is_last : greatest ≤ 2147483646 → last ≡ greatest
+  pub is_last : last ≡ length rows.words - 2 ^ rows.stride2
   pub is_sound : sound ≡ stand_below (2 ^ rows.stride2) (alphabet_len rows.classes) last rows.words
 
-pub found_entries : {rows : Rows} {greatest last : ℕ} {sound : Bool} → IsFound rows greatest last sound
-    → (leb greatest 2147483646 && sound) ≡ are_entries rows
-found_entries {rows} {greatest} {last} {sound} found =
+pub found_entries : {rows : Rows} {last : ℕ} {sound : Bool} → IsFound rows last sound
+    → (leb last 2147483646 && sound) ≡ are_entries rows
+found_entries {rows} {last} {sound} found =
     let s : ℕ = 2 ^ rows.stride2 in
     let a : ℕ = alphabet_len rows.classes in
-    let same : have_ids rows ≡ leb greatest 2147483646 =
-    ap (λ (g : ℕ). leb g 2147483646) (sym found.is_greatest) in
+    let same : have_ids rows ≡ leb last 2147483646 =
+    ap (λ (g : ℕ). leb g 2147483646) (sym found.is_last) in
     let entries : Bool = list_all (is_entry rows) (range_with_len 0 (length rows.words)) in
-    elim (small_or greatest) [
+    elim (small_or last) [
       | inl small ↦ (
           let is : sound ≡ entries =
           found.is_sound
-          ∙ ap (λ (m : ℕ). stand_below s a m rows.words) (found.is_last small ∙ found.is_greatest)
-          ∙ stand_entries rows found.whole (omega (arith, small, found.is_greatest)) in
-          ap (λ (b : Bool). leb greatest 2147483646 && b) is ∙ ap (λ (b : Bool). b && entries) (sym same))
+          ∙ ap (λ (m : ℕ). stand_below s a m rows.words) found.is_last
+          ∙ stand_entries rows found.whole (omega (arith, small, found.is_last)) in
+          ap (λ (b : Bool). leb last 2147483646 && b) is ∙ ap (λ (b : Bool). b && entries) (sym same))
       | inr big ↦ (
           ap (λ (b : Bool). b && sound) big ∙ sym (ap (λ (b : Bool). b && entries) (same ∙ big)))
     ]

@@ -1,8 +1,7 @@
 -- words of some bytes, and tests of each number below one
 pub mod WordBytes
 pub mod EachBelow
--- reading: a block of words, the test without a branch, strides and classes, the columns of rows
-pub mod Blocks
+-- reading: the test without a branch, strides and classes, the columns of rows
 pub mod Collected
 pub mod Strides
 pub mod ColumnMasks

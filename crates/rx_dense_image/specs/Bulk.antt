@@ -6,49 +6,40 @@ use Rattle.rx_dense_image.specs.Rows.{word_at}
 use Rattle.rx_dense_image.specs.declared.bulk.Columns.{Columns}
 use Rattle.rx_dense_image.specs.declared.bulk.Wrong.{Wrong}
 
--- a test of each number below one, and of so many from one on
+-- a test of each number below one
 abbrev pub each_below : ℕ → (ℕ → Bool) → Bool
 each_below zero p = true
 each_below (suc n) p = each_below n p && p n
 
-abbrev pub each_from : ℕ → ℕ → (ℕ → Bool) → Bool
-each_from a n p = each_below n (λ k. p (a + k))
-
--- no bit below the stride, and not bit 31
-abbrev pub is_clean : ℕ → Wrong → Bool
-is_clean stride wrong = (wrong.low % stride == 0) && nat_lt wrong.over (2 ^ 31)
+-- no bit below the stride, no word above the last row's id, and no word that is forbidden
+abbrev pub is_clean : (stride last : ℕ) → Wrong → Bool
+is_clean stride last wrong =
+    (wrong.low % stride == 0) && nat_le wrong.greatest last && (wrong.forbidden == 0)
 
 -- a multiple of the stride, at most the last row's id, and not the forbidden number
 abbrev pub may_stand : (stride last forbidden word : ℕ) → Bool
 may_stand stride last forbidden word = (word % stride == 0) && nat_le word last && not (word == forbidden)
 
-abbrev pub bit_31_of : Bool → ℕ
-bit_31_of b = if b then 2147483648 else 0
+-- all bits or none
+abbrev pub all_bits : Bool → ℕ
+all_bits b = if b then 0xFFFFFFFF else 0
 
--- the bits of a word that its column keeps, and whether they may stand there
+-- the bits of a word that its column keeps, where the columns go round, and whether they may stand there
 abbrev pub kept_word : Columns → List ℕ → ℕ → ℕ
-kept_word c bytes k = bit_and (word_at c.order bytes k) (slice_index c.kept.now k)
+kept_word c bytes k = bit_and (word_at c.order bytes k) (slice_index c.kept.now (k % length c.kept.now))
 
-abbrev pub word_stands : ℕ → Columns → List ℕ → ℕ → Bool
-word_stands s c bytes k = may_stand (2 ^ s) c.last (slice_index c.forbidden.now k) (kept_word c bytes k)
-
--- the same where the columns go round
-abbrev pub kept_around : Columns → List ℕ → ℕ → ℕ
-kept_around c bytes k = bit_and (word_at c.order bytes k) (slice_index c.kept.now (k % length c.kept.now))
-
-abbrev pub stands_around : ℕ → Columns → List ℕ → ℕ → Bool
-stands_around s c bytes k =
-    may_stand (2 ^ s) c.last (slice_index c.forbidden.now (k % length c.kept.now)) (kept_around c bytes k)
+abbrev pub word_stands : (s last : ℕ) → Columns → List ℕ → ℕ → Bool
+word_stands s last c bytes k =
+    may_stand (2 ^ s) last (slice_index c.forbidden.now (k % length c.kept.now)) (kept_word c bytes k)
 
 -- there is at least one column, and for each what may not stand there
 pub record AreColumns (c : Columns) : Type 0 where
   pub some : 0 < length c.kept.now
   pub same : length c.forbidden.now ≡ length c.kept.now
-  pub small : c.last < 2 ^ 31
 
 -- all bits within the alphabet, and none past it
 abbrev pub column_mask : (stride alphabet column : ℕ) → ℕ
-column_mask stride alphabet column = if nat_lt (column % stride) alphabet then 0xFFFFFFFF else 0
+column_mask stride alphabet column = all_bits (nat_lt (column % stride) alphabet)
 
 -- on the end mark the quit row's id, and else a number that is no id
 abbrev pub column_forbidden : (stride alphabet column : ℕ) → ℕ
@@ -60,9 +51,8 @@ stand_below stride alphabet last words =
     (λ k. may_stand stride last (column_forbidden stride alphabet k) (slice_index words k))
 
 -- the columns are those of rows of a stride and an alphabet
-pub record AreOf (c : Columns) (s alphabet last : ℕ) : Type 0 where
+pub record AreOf (c : Columns) (s alphabet : ℕ) : Type 0 where
   pub exponent : s ≤ 9
   pub len : length c.kept.now ≡ 512
   pub kept : (i : ℕ) → i < 512 → slice_index c.kept.now i ≡ column_mask (2 ^ s) alphabet i
   pub forbidden : (i : ℕ) → i < 512 → slice_index c.forbidden.now i ≡ column_forbidden (2 ^ s) alphabet i
-  pub same : c.last ≡ last

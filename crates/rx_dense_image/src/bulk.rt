@@ -1,43 +1,61 @@
 //! Words of rows in bulk: one loop that converts, clears, stores and tests without a branch.
 
-ghost use Rattle.std.specs.Prelude.{◌≡◌, ℕ, ◌+◌, ◌-◌, ◌%◌, ◌*◌, ◌^◌, ◌<◌, ◌≤◌, ◌&&◌, length, slice_index};
-ghost use Rattle.rx_dense_image.specs.Bulk.{AreColumns, bit_31_of, each_below, each_from, is_clean, kept_around};
-ghost use Rattle.rx_dense_image.specs.Bulk.{kept_word, may_stand, stands_around, word_stands};
+ghost use Rattle.std.specs.Prelude.{◌≡◌, ℕ, ◌+◌, ◌*◌, ◌^◌, ◌<◌, ◌≤◌, ◌&&◌, bit_and, length, max, slice_index, IfOk};
+ghost use Rattle.rx_dense_image.specs.Bulk.{AreColumns, all_bits, each_below, is_clean, kept_word, may_stand};
+ghost use Rattle.rx_dense_image.specs.Bulk.{word_stands};
+ghost use Rattle.rx_dense_image.specs.Rows.{word_at};
 
 use rx_wire::Order;
+use std::alloc::{AllocError, Global};
 
-/// What is wrong with some words: all their bits together, and bit 31 where one can't stand where it does.
+/// What is wrong with some words, collected without a branch.
 #[derive(Clone, Copy, Debug)]
 pub(crate) struct Wrong {
     /// The bits of all words. Those below the stride are clear where each word is a multiple of it.
     pub low: u32,
-    /// Bit 31 is clear where no word is above the last row's id, and none is forbidden.
-    pub over: u32,
+    /// The greatest word.
+    pub greatest: u32,
+    /// All bits where some word is the one that may not stand in its column, and else none.
+    pub forbidden: u32,
 }
 
 impl Wrong {
-    /// Together with another word.
+    /// Nothing is wrong with no words.
+    const NOTHING: Wrong = Wrong {
+        low: 0,
+        greatest: 0,
+        forbidden: 0,
+    };
+
+    /// Together with another word, and the one that may not stand in its column.
     #[inline(always)]
     #[tactic(auto, using(crate::proofs::Collected::one_more_word))]
-    fn with(self, word: u32, last: u32, forbidden: u32) -> Wrong
-        requires { last < 2 ^ 31 }
-        ensures { (s : ℕ) → is_clean (2 ^ s) result
-            ≡ (is_clean (2 ^ s) self && may_stand (2 ^ s) last forbidden word) }
+    fn with(self, word: u32, forbidden: u32) -> Wrong
+        ensures { (s last : ℕ) → is_clean (2 ^ s) last result
+            ≡ (is_clean (2 ^ s) last self && may_stand (2 ^ s) last forbidden word) }
     {
-        let equal = bit_31(word == forbidden);
         Wrong {
             low: self.low | word,
-            over: self.over | (word | last.wrapping_sub(word) | equal),
+            greatest: greater(self.greatest, word),
+            forbidden: self.forbidden | all_bits(word == forbidden),
         }
     }
 }
 
-/// Bit 31, where told.
+/// The greater of two words.
 #[inline(always)]
-fn bit_31(set: bool) -> u32
-    ensures { result ≡ bit_31_of set }
+fn greater(a: u32, b: u32) -> u32
+    ensures { result ≡ max a b }
 {
-    if set { 2147483648 } else { 0 }
+    if a < b { b } else { a }
+}
+
+/// All bits where told, and else none.
+#[inline(always)]
+pub(crate) fn all_bits(set: bool) -> u32
+    ensures { result ≡ all_bits set }
+{
+    if set { u32::MAX } else { 0 }
 }
 
 /// What may stand in the columns of rows: for so many words that the rows go round in them.
@@ -49,84 +67,50 @@ pub(crate) struct Columns<'a> {
     pub kept: &'a [u32],
     /// The number that may not stand in a column.
     pub forbidden: &'a [u32],
-    /// The id of the last row.
-    pub last: u32,
 }
 
 impl<'a> Columns<'a> {
-    /// The word at a place, as far as its column keeps it.
+    /// The word at a place, as far as a column keeps it.
     #[inline(always)]
     #[tactic(auto, using(crate::proofs::WordBytes::four))]
-    fn word(&self, bytes: &[u8], i: usize) -> u32
-        requires bytes { 4 * i + 4 ≤ length bytes.now }
-        requires kept { i < length self.now.kept.now }
-        ensures { result ≡ kept_word self.now bytes.now i }
+    fn word(&self, bytes: &[u8], place: usize, column: usize) -> u32
+        requires bytes { 4 * place + 4 ≤ length bytes.now }
+        requires column { column < length self.now.kept.now }
+        ensures { result ≡ bit_and (word_at self.now.order bytes.now place) (slice_index self.now.kept.now column) }
     {
-        let at = 4 * i;
+        let at = 4 * place;
         self.order
             .u32_from_bytes([bytes[at], bytes[at + 1], bytes[at + 2], bytes[at + 3]])
-            & self.kept[i]
+            & self.kept[column]
     }
 
-    /// Reads words that begin with the first column, and answers what is wrong with them and those before.
-    #[inline]
-    fn read_part(&self, bytes: &[u8], out: &mut [u32], wrong: Wrong) -> Wrong
-        requires bytes { length bytes.now ≡ 4 * length out.old }
-        requires kept { length out.old ≤ length self.now.kept.now }
-        requires columns { AreColumns self.now }
-        ensures words { (k : ℕ) → k < length out.old → slice_index out.new k ≡ kept_word self.now bytes.now k }
-        ensures clean { (s : ℕ) → is_clean (2 ^ s) result
-            ≡ (is_clean (2 ^ s) wrong && each_below (length out.old) (word_stands s self.now bytes.now)) }
-    {
-        let mut found = wrong;
-        for i in 0..out.len() {
-            let word = self.word(bytes, i);
-            out[i] = word;
-            found = found.with(word, self.last, self.forbidden[i]);
-        }
-        found
-    }
-
-    /// Reads the words from one place, at which the columns begin anew, up to another.
-    #[inline]
-    fn read_block(
+    /// Reads so many words, and answers what is wrong with them. Each is stored once, in memory that isn't written
+    /// before.
+    pub fn read(
         &self,
+        alloc: Global,
         bytes: &[u8],
-        out: &mut [u32],
-        at: usize,
-        end: usize,
-        wrong: Wrong,
-    ) -> Wrong
-        requires bytes { length bytes.now ≡ 4 * length out.old }
-        requires order { at ≤ end }
-        requires end { end ≤ length out.old }
-        requires kept { end - at ≤ length self.now.kept.now }
+        count: usize,
+    ) -> Result<(Vec<u32>, Wrong), AllocError>
+        requires bytes { length bytes.now ≡ 4 * count }
         requires columns { AreColumns self.now }
-        requires begins { at % length self.now.kept.now ≡ 0 }
-        ensures before { (k : ℕ) → k < at → slice_index out.new k ≡ slice_index out.old k }
-        ensures words { (k : ℕ) → at ≤ k → k < end → slice_index out.new k ≡ kept_around self.now bytes.now k }
-        ensures clean { (s : ℕ) → is_clean (2 ^ s) result
-            ≡ (is_clean (2 ^ s) wrong && each_from at (end - at) (stands_around s self.now bytes.now)) }
+        ensures len { IfOk result (λ x. length x.0.items ≡ count) }
+        ensures words { IfOk result (λ x. (k : ℕ) → k < count → slice_index x.0.items k ≡ kept_word self.now bytes.now k) }
+        ensures clean { IfOk result (λ x. (s last : ℕ) → is_clean (2 ^ s) last x.1
+            ≡ each_below count (word_stands s last self.now bytes.now)) }
     {
-        self.read_part(&bytes[4 * at..4 * end], &mut out[at..end], wrong)
-    }
-
-    /// Reads all words, and answers what is wrong with them.
-    pub fn read(&self, bytes: &[u8], out: &mut [u32]) -> Wrong
-        requires bytes { length bytes.now ≡ 4 * length out.old }
-        requires columns { AreColumns self.now }
-        ensures words { (k : ℕ) → k < length out.old → slice_index out.new k ≡ kept_around self.now bytes.now k }
-        ensures clean { (s : ℕ) → is_clean (2 ^ s) result
-            ≡ each_below (length out.old) (stands_around s self.now bytes.now) }
-    {
-        let width = self.kept.len();
-        let mut wrong = Wrong { low: 0, over: 0 };
+        let mut words = Vec::with_capacity(alloc, count)?;
+        let mut wrong = Wrong::NOTHING;
         let mut at = 0;
-        while out.len() - at >= width {
-            wrong = self.read_block(bytes, out, at, at + width, wrong);
-            at += width;
+        'rounds: while at < count {
+            let round = self.kept.len().min(count - at);
+            'columns: for column in 0..round {
+                let word = self.word(bytes, at + column, column);
+                words.push_reserved(word);
+                wrong = wrong.with(word, self.forbidden[column]);
+            }
+            at += round;
         }
-        let end = out.len();
-        self.read_block(bytes, out, at, end, wrong)
+        Ok((words, wrong))
     }
 }

@@ -11,7 +11,7 @@ ghost use Rattle.rx_dense_image.specs.Rows.{ArePadded, AreReadRows, IsStride, ar
 ghost use Rattle.rx_dense_image.specs.Rows.{cleared_words_at};
 ghost use Rattle.rx_dense_image.specs.Rows.{fits_stride, rows_at, stride_of, word_at};
 
-use crate::bulk::{Columns, Wrong};
+use crate::bulk::{Columns, Wrong, all_bits};
 use crate::words::count_of;
 use rx_base::{ByteClasses, StateID};
 use rx_wire::{DeserializeError, Order, split_bytes, split_items};
@@ -101,11 +101,7 @@ fn column_mask(stride: usize, alphabet: usize, column: usize) -> u32
     requires { 0 < stride }
     ensures { result ≡ column_mask stride alphabet column }
 {
-    if column % stride < alphabet {
-        u32::MAX
-    } else {
-        0
-    }
+    all_bits(column % stride < alphabet)
 }
 
 /// For each column the number that may not stand there: the id of the quit row on the end mark, and else none that
@@ -137,12 +133,12 @@ fn forbidden_in(stride: usize, alphabet: usize, column: usize) -> u32
     }
 }
 
-/// Whether nothing is wrong with words.
-fn is_clean(wrong: Wrong, stride2: u32) -> bool
+/// Whether nothing is wrong with the words of rows, of which the last has an id.
+fn is_clean(wrong: Wrong, stride2: u32, last: usize) -> bool
     requires { stride2 ≤ 9 }
-    ensures { result ≡ is_clean (2 ^ stride2) wrong }
+    ensures { result ≡ is_clean (2 ^ stride2) last wrong }
 {
-    wrong.low % (1 << stride2) == 0 && wrong.over < 1 << 31
+    wrong.low % (1 << stride2) == 0 && wrong.greatest as usize <= last && wrong.forbidden == 0
 }
 
 /// How rows are laid out.
@@ -152,7 +148,7 @@ struct RowShape {
     /// How many columns a row has.
     alphabet: usize,
     /// The id of the last row.
-    last: u32,
+    last: usize,
 }
 
 /// The columns of rows.
@@ -169,32 +165,13 @@ fn columns_of<'a>(
         → slice_index forbidden.now k ≡ column_forbidden (2 ^ shape.stride2) shape.alphabet k }
     ensures order { result.order ≡ order }
     ensures forbidden { result.forbidden.now ≡ forbidden.now }
-    ensures of { AreOf result shape.stride2 shape.alphabet shape.last }
+    ensures of { AreOf result shape.stride2 shape.alphabet }
 {
     Columns {
         order,
         kept,
         forbidden,
-        last: shape.last,
     }
-}
-
-/// Reads all words, and answers whether each may stand where it does.
-fn read_words(order: Order, shape: RowShape, bytes: &[u8], out: &mut [u32]) -> bool
-    requires bytes { length bytes.now ≡ 4 * length out.old }
-    requires stride2 { shape.stride2 ≤ 9 }
-    requires alphabet { 0 < shape.alphabet }
-    requires last { shape.last < 2 ^ 31 }
-    ensures words { out.new ≡ map (λ k. cleared (2 ^ shape.stride2) shape.alphabet k (word_at order bytes.now k))
-        (range_with_len 0 (length out.old)) }
-    ensures sound { result ≡ stand_below (2 ^ shape.stride2) shape.alphabet shape.last out.new }
-{
-    let stride = stride(shape.stride2);
-    let kept = column_masks(stride, shape.alphabet);
-    let forbidden = column_forbidden(stride, shape.alphabet);
-    let columns = columns_of(order, shape, &kept, &forbidden);
-    let wrong = columns.read(bytes, out);
-    is_clean(wrong, shape.stride2)
 }
 
 /// The words of some bytes, and whether each may stand where it does. Their bytes are there, so no more memory is
@@ -209,7 +186,6 @@ fn row_words(
     requires bytes { length bytes.now ≡ 4 * count }
     requires stride2 { shape.stride2 ≤ 9 }
     requires alphabet { 0 < shape.alphabet }
-    requires last { shape.last < 2 ^ 31 }
     ensures memory { IfErr result (λ kind. kind ≡ Kind.Memory) }
     ensures words { IfOk result (λ x. x.0.items
         ≡ map (λ k. cleared (2 ^ shape.stride2) shape.alphabet k (word_at order bytes.now k))
@@ -218,8 +194,12 @@ fn row_words(
     ensures past { IfOk result (λ x. ArePadded (2 ^ shape.stride2) shape.alphabet x.0.items) }
     ensures sound { IfOk result (λ x. x.1 ≡ stand_below (2 ^ shape.stride2) shape.alphabet shape.last x.0.items) }
 {
-    let mut words = vec![in alloc; 0; count]?;
-    let sound = read_words(order, shape, bytes, words.as_mut_slice());
+    let stride = stride(shape.stride2);
+    let kept = column_masks(stride, shape.alphabet);
+    let forbidden = column_forbidden(stride, shape.alphabet);
+    let columns = columns_of(order, shape, &kept, &forbidden);
+    let (words, wrong) = columns.read(alloc, bytes, count)?;
+    let sound = is_clean(wrong, shape.stride2, shape.last);
     Ok((words, sound))
 }
 
@@ -234,7 +214,6 @@ fn split_row_words<'a>(
 ) -> Result<((Vec<u32>, bool), &'a [u8]), DeserializeError>
     requires stride2 { shape.stride2 ≤ 9 }
     requires alphabet { 0 < shape.alphabet }
-    requires last { shape.last < 2 ^ 31 }
     ensures read { Gives (λ x. (x.0.0.items, x.1.now)) result
         (cleared_words_at order (2 ^ shape.stride2) shape.alphabet count bytes.now) }
     ensures len { IfOk result (λ x. length x.0.0.items ≡ count) }
@@ -247,18 +226,7 @@ fn split_row_words<'a>(
     Ok((words, rest))
 }
 
-/// The greatest row's id, where it is one. Where it isn't, the rows are refused in the end whatever stands here.
-fn last_id(greatest: usize) -> u32
-    ensures small { result < 2 ^ 31 }
-    ensures value { greatest ≤ 2147483646 → result ≡ greatest }
-{
-    if greatest <= StateID::MAX.as_usize() {
-        greatest as u32
-    } else {
-        0
-    }
-}
-
+/// Whether all rows have ids and nothing is wrong with their words.
 fn have_ids(greatest: usize, sound: bool) -> bool
     ensures { result ≡ (nat_le greatest 2147483646 && sound) }
 {
@@ -286,7 +254,7 @@ pub(crate) fn split_rows<'a>(
     let shape = RowShape {
         stride2,
         alphabet: classes.alphabet_len(),
-        last: last_id(greatest),
+        last: greatest,
     };
     let ((words, sound), rest) = split_row_words(alloc, order, shape, count, rest)?;
     let sound = have_ids(greatest, sound);

@@ -46,14 +46,13 @@ returns-clause-sound c =
     } in
     let read : AreReadRows rows = read_rows counted in
     let greatest : ℕ = c.saturating_sub-greatest.result in
-    let found : IsFound rows greatest c.last_id.result c.in_ok-words.sound = record {
+    let found : IsFound rows greatest c.in_ok-words.sound = record {
       whole = read.whole;
-      is_greatest =
+      is_last =
           c.saturating_sub-greatest.ensures
           ∙ minus_same _ _ _ _ (sym c.in_ok-words.ensures.len) c.in_ok-classes.ensures.stride.value;
-      is_last = c.last_id.ensures.value;
       is_sound =
           c.in_ok-words.ensures.sound
-          ∙ ap (λ (n : ℕ). stand_below (2 ^ rows.stride2) n c.last_id.result rows.words) c.alphabet_len.ensures.value;
+          ∙ ap (λ (n : ℕ). stand_below (2 ^ rows.stride2) n greatest rows.words) c.alphabet_len.ensures.value;
     } in
     c.have_ids-sound.ensures ∙ found_entries found

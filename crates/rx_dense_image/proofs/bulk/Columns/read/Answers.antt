@@ -1,39 +1,71 @@
-use Rattle.std.proofs.Common.{rules, ◌≡◌, ℕ, ◌+◌, ◌-◌, ◌^◌, ◌≤◌, Bool, length, sym, ap, subst, ◌∙◌, arith, inl, inr}
-use Rattle.std.proofs.lemmas.Bool.{cases_lt}
-use Rattle.rx_dense_image.specs.Bulk.{each_below, is_clean, stands_around}
-use Rattle.rx_dense_image.proofs.WordBytes.{below_block, next_begins}
+use Rattle.std.proofs.Common.{rules, ◌≡◌, ℕ, ◌+◌, ◌-◌, ◌%◌, ◌^◌, ◌<◌, ◌≤◌, ◌&&◌, Bool, bit_and, length, min, slice_index}
+use Rattle.std.proofs.Common.{sym, ap, subst, ◌∙◌, arith}
+use Rattle.std.proofs.lemmas.Grind.{common_steps}
+use Rattle.rx_dense_image.specs.Rows.{word_at}
+use Rattle.rx_dense_image.specs.Bulk.{each_below, is_clean, kept_word, may_stand, word_stands}
+use Rattle.rx_dense_image.proofs.WordBytes.{below_more, next_begins, pushed, wraps}
 use Rattle.rx_dense_image.proofs.bulk.Columns.read.Goals as goal
 
-width : (at w : ℕ) → at + w - at ≡ w
-width at w = omega arith
+more : (at column : ℕ) → at + (column + 1) ≡ at + column + 1
+more at column = omega arith
 
-end_of : (at n : ℕ) → at ≤ n → n ≡ at + (n - at)
-end_of at n le = omega arith
-
-pub loop-out-preserved : goal.loop-out-preserved
-loop-out-preserved c =
+pub columns-preserved : goal.columns-preserved
+columns-preserved c =
     let columns = c.args.self.now in
-    let at : ℕ = c.loop-out.at in
-    let w : ℕ = length columns.kept.now in
+    let bytes = c.args.bytes.now in
+    let at : ℕ = c.rounds.at in
+    let column : ℕ = c.columns.column in
+    let place : ℕ = at + column in
+    let w : ℕ = c.word-word.result in
+    let wide : ℕ = length columns.kept.now in
+    let within : column < wide = search rules in
+    let is_column : place % wide ≡ column = wraps at column wide (search rules) within in
+    let is : w ≡ kept_word columns bytes place =
+    c.word-word.ensures
+    ∙ ap (λ (m : ℕ). bit_and (word_at columns.order bytes place) (slice_index columns.kept.now m)) (sym is_column) in
+    let forbidden : slice_index columns.forbidden.now column ≡ slice_index columns.forbidden.now (place % wide) =
+    ap (λ (m : ℕ). slice_index columns.forbidden.now m) (sym is_column) in
     record {
-      within = search rules;
-      begins = next_begins at w c.loop-out.invariant.begins;
-      words = λ k lt. elim (cases_lt k at) [
-        | inl early ↦ c.read_block-wrong.ensures.before k early ∙ c.loop-out.invariant.words k early
-        | inr late ↦ c.read_block-wrong.ensures.words k late lt
-      ];
-      clean = λ s.
-          below_block (stands_around s columns c.args.bytes.now) at (at + w - at) (c.loop-out.invariant.clean s)
-          (c.read_block-wrong.ensures.clean s)
-          (ap (λ (n : ℕ). at + n) (sym (width at w)));
+      room = search rules;
+      len = search rules;
+      words =
+          subst (λ (n : ℕ). (k : ℕ) → k < n → slice_index c.push_reserved.new.self.items k ≡ kept_word columns bytes k)
+          (sym (more at column))
+          (subst
+          (λ xs. (k : ℕ) → k < place + 1 → slice_index xs k ≡ kept_word columns bytes k)
+          (sym c.push_reserved.ensures.items)
+          (pushed (kept_word columns bytes) c.columns.words.items place w c.columns.invariant.len
+          c.columns.invariant.words is));
+      clean = λ s last.
+          let p : ℕ → Bool = word_stands s last columns bytes in
+          c.with-wrong.ensures s last
+          ∙ ap (λ (b : Bool). b && may_stand (2 ^ s) last (slice_index columns.forbidden.now column) w)
+          (c.columns.invariant.clean s last)
+          ∙ ap (λ (f : ℕ). each_below place p && may_stand (2 ^ s) last f w) forbidden
+          ∙ ap
+          (λ (x : ℕ).
+          each_below place p && may_stand (2 ^ s) last (slice_index columns.forbidden.now (place % wide)) x) is
+          ∙ sym (below_more p place)
+          ∙ ap (λ (n : ℕ). each_below n p) (sym (more at column));
     }
 
-pub returns-clause-clean : goal.returns-clause-clean
-returns-clause-clean c = λ s.
-    let columns = c.args.self.now in
-    let at : ℕ = c.loop-out.at in
-    let p : ℕ → Bool = stands_around s columns c.args.bytes.now in
-    let same : length c.loop-out.out ≡ length c.args.out.now = c.loop-out.auto.out in
-    subst (λ (n : ℕ). is_clean (2 ^ s) c.read_block.result ≡ each_below n p) same
-    (below_block p at (length c.loop-out.out - at) (c.loop-out.invariant.clean s) (c.read_block.ensures.clean s)
-    (end_of at (length c.loop-out.out) c.loop-out.invariant.within))
+-- a round after which words are left is whole
+whole : (at width count round : ℕ) → round ≡ min width (count - at) → at + round < count → round ≡ width
+whole at width count round is left = grind (arith, common_steps)
+
+pub rounds-preserved : goal.rounds-preserved
+rounds-preserved c =
+    let at : ℕ = c.rounds.at in
+    let width : ℕ = length c.args.self.now.kept.now in
+    let round : ℕ = c.min-round.result in
+    let least : round ≡ min width (c.args.count - at) = search rules in
+    record {
+      within = search rules;
+      begins = λ left.
+          ap (λ (n : ℕ). (at + n) % width) (whole at width c.args.count round least left)
+          ∙ next_begins at width (search rules);
+      room = search rules;
+      len = search rules;
+      words = search rules;
+      clean = search rules;
+    }
