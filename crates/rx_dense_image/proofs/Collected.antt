@@ -1,5 +1,5 @@
 -- The test of words without a branch, collected word by word.
-use Rattle.std.proofs.Common.{◌≡◌, ℕ, zero, suc, ◌%◌, ◌^◌, ◌≤◌, max, Bool, true, false, not, ◌&&◌, leb}
+use Rattle.std.proofs.Common.{◌≡◌, ℕ, zero, suc, ◌%◌, ◌^◌, max, Bool, true, false, not, ◌&&◌, leb}
 use Rattle.std.proofs.Common.{eqb, bit_or, refl, ap, ◌∙◌, arith}
 use Rattle.std.proofs.lemmas.Nat.{le_or_l, le_or_r, or_mod}
 use Rattle.rx_dense_image.specs.Bulk.{all_bits, may_stand}

@@ -7,7 +7,7 @@ use Rattle.std.specs.Prelude.{Result, Ok, Err, IfOk}
 use Rattle.std.specs.List.{list_all, range_with_len}
 use Rattle.std.specs.Str.{bytes_eq}
 use Rattle.std.proofs.Math.Nat.{mul-div_cancel}
-use Rattle.std.proofs.lemmas.Bool.{and_parts, cases_lt, cases_eq, eq-eqb, eqb-true, le-ltb, leb-true, lt-ltb, ltb-true}
+use Rattle.std.proofs.lemmas.Bool.{and_parts, cases_lt, cases_eq, eq-eqb, eqb-true, le-leb, le-ltb, leb-true, lt-ltb, ltb-true}
 use Rattle.std.proofs.lemmas.Bool.{ne_eqb}
 use Rattle.std.proofs.lemmas.List.{get_or-take, length-drop, length-take}
 use Rattle.std.proofs.lemmas.List.Elements.{All-contains}
@@ -332,20 +332,27 @@ module _ (l : Layout) (read : IsRead l) (facts : AreClosed l) where
       let same = eqb-true _ _ (and_parts (eqb id l.special.quit) (not (eqb id 0)) quits).0 in
       row_one row (same ∙ facts.special.quit)
 
+  -- the place of a row in a range is below how many rows the range has
+  range_place : (first last id : ℕ) → is_range first last ≡ true → is_in_range first last id ≡ true
+      → place_in_range l first id < range_len l first last
+  range_place first last id range test =
+      let h = within_of first last id test in
+      let begins = range_begins first last range (omega (arith, h.some, h.to)) in
+      let none : eqb first 0 ≡ false = ne_eqb first 0 (λ e. absurd (omega (arith, begins, e))) in
+      let len : range_len l first last ≡ (last - first) / stride l + 1 =
+      ap (λ (b : Bool). cond b 0 ((last - first) / stride l + 1)) none in
+      omega (arith, len, division (id - first) (last - first) (stride l) some (omega (arith, h.to)))
+
   -- the list of a match row
   match_list : (id : ℕ) → is_match_id l.special id ≡ true
       → is_list l (place_in_range l l.special.min_match id) ≡ true
   match_list id test =
-      let h = within_of l.special.min_match l.special.max_match id test in
-      let first = range_begins l.special.min_match l.special.max_match match_range (omega (arith, h.some, h.to)) in
-      let none : eqb l.special.min_match 0 ≡ false =
-      ne_eqb l.special.min_match 0 (λ e. absurd (omega (arith, first, e))) in
-      let len : range_len l l.special.min_match l.special.max_match
-      ≡ (l.special.max_match - l.special.min_match) / stride l + 1 =
-      ap (λ (b : Bool). cond b 0 ((l.special.max_match - l.special.min_match) / stride l + 1)) none in
-      let below = division (id - l.special.min_match) (l.special.max_match - l.special.min_match) (stride l) some
-      (omega (arith, h.to)) in
-      facts.lists (place_in_range l l.special.min_match id) (omega (arith, facts.list_count, len, below))
+      facts.lists (place_in_range l l.special.min_match id)
+      (omega (
+        arith,
+        facts.list_count,
+        range_place l.special.min_match l.special.max_match id match_range test,
+      ))
 
   list_some : (i : ℕ) → is_list l i ≡ true → 0 < length (patterns_at l i)
   list_some i test =
@@ -393,16 +400,12 @@ module _ (l : Layout) (read : IsRead l) (facts : AreClosed l) where
   accel_needles : (id : ℕ) → is_accel_id l.special id ≡ true
       → has_needles l (place_in_range l l.special.min_accel id) ≡ true
   accel_needles id test =
-      let h = within_of l.special.min_accel l.special.max_accel id test in
-      let first = range_begins l.special.min_accel l.special.max_accel accel_range (omega (arith, h.some, h.to)) in
-      let none : eqb l.special.min_accel 0 ≡ false =
-      ne_eqb l.special.min_accel 0 (λ e. absurd (omega (arith, first, e))) in
-      let len : range_len l l.special.min_accel l.special.max_accel
-      ≡ (l.special.max_accel - l.special.min_accel) / stride l + 1 =
-      ap (λ (b : Bool). cond b 0 ((l.special.max_accel - l.special.min_accel) / stride l + 1)) none in
-      let below = division (id - l.special.min_accel) (l.special.max_accel - l.special.min_accel) (stride l) some
-      (omega (arith, h.to)) in
-      facts.needles (place_in_range l l.special.min_accel id) (omega (arith, facts.accel_count, len, below))
+      facts.needles (place_in_range l l.special.min_accel id)
+      (omega (
+        arith,
+        facts.accel_count,
+        range_place l.special.min_accel l.special.max_accel id accel_range test,
+      ))
 
   -- the needles that are kept for an accelerated row
   kept_needles : (row : ℕ) → is_accel_id l.special (row * stride l) ≡ true → needles_of_id l (row * stride l)
@@ -521,9 +524,6 @@ module _ (l : Layout) (read : IsRead l) (facts : AreClosed l) where
       facts.named row (omega (arith, below, mul-div_cancel row some)))
       (λ e. le-leb id l.special.max (named_few id e))
     where
-      le-leb : (a b : ℕ) → a ≤ b → leb a b ≡ true
-      le-leb a b h = grind arith
-
       ends : (l.special.quit ≤ l.special.max) × (l.special.max_match ≤ l.special.max)
           × (l.special.max_accel ≤ l.special.max) × (l.special.max_start ≤ l.special.max)
       ends = (omega (arith, most), omega (arith, most), omega (arith, most), omega (arith, most))

@@ -3,7 +3,7 @@ use Rattle.std.proofs.Common.{◌≡◌, ℕ, ◌+◌, ◌*◌, ◌<◌, ◌≤�
 use Rattle.std.proofs.Common.{◌∷◌, length, take, drop, refl, ap, ap₂, slice_index, ◌∙◌, arith}
 use Rattle.std.specs.List.{list_all}
 use Rattle.std.proofs.Math.Seq.{take-add}
-use Rattle.std.proofs.lemmas.Bool.{lt-ltb, ne_eqb}
+use Rattle.std.proofs.lemmas.Bool.{lt-ltb, ne_eqb, le-leb}
 use Rattle.std.proofs.lemmas.List.Folds.{sum_by-zero}
 use Rattle.std.proofs.lemmas.List.Sums.{sum_by-append}
 use Rattle.rx_dense.specs.Layouts.{Layout}
@@ -59,9 +59,6 @@ pub record IsPair (l : Layout) (i first len : ℕ) : Type 0 where
   pub begins : first < length l.pattern_ids
   pub ends : first + len ≤ length l.pattern_ids
   pub some : len ≡ 0 → ⊥
-
-le-leb : (a b : ℕ) → a ≤ b → leb a b ≡ true
-le-leb a b h = grind arith
 
 pub list_test : {l : Layout} {i first len : ℕ} → IsPair l i first len → (counts : List ℕ)
     → ((k : ℕ) → k ≤ length l.pattern_ids → slice_index counts k ≡ strangers l.pattern_len (take k l.pattern_ids))

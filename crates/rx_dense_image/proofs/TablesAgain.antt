@@ -4,6 +4,7 @@ use Rattle.std.proofs.Common.{List, [], ◌∷◌, ◌++◌, length, map, Ok, re
 use Rattle.std.specs.List.{list_all}
 use Rattle.std.specs.Int.{w32}
 use Rattle.std.proofs.lemmas.List.{length-map}
+use Rattle.std.proofs.lemmas.Bool.{le-leb}
 use Rattle.rx_spec.specs.Causes.{id_count, max_id}
 use Rattle.rx_spec.specs.declared.Start.{Start}
 use Rattle.rx_spec.specs.declared.StartKind.{StartKind}
@@ -23,9 +24,6 @@ use Rattle.rx_dense_image.specs.PatternLists.{pattern_lists_text}
 use Rattle.rx_dense_image.proofs.ReadAgain.{words_again}
 
 -- ---- numbers
-
-le-leb : (a b : ℕ) → a ≤ b → leb a b ≡ true
-le-leb a b h = grind arith
 
 apart : (a b : ℕ) → a < b → eqb a b ≡ false
 apart a b h = grind arith

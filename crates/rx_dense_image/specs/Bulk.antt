@@ -1,5 +1,5 @@
 -- How the words of rows are tested in bulk, without a branch.
-use Rattle.std.specs.Prelude.{◌≡◌, ℕ, zero, suc, ◌+◌, ◌-◌, ◌%◌, ◌^◌, ◌<◌, ◌≤◌, ◌==◌, ◌&&◌, nat_lt, nat_le, Bool, true}
+use Rattle.std.specs.Prelude.{◌≡◌, ℕ, zero, suc, ◌-◌, ◌%◌, ◌^◌, ◌<◌, ◌≤◌, ◌==◌, ◌&&◌, nat_lt, nat_le, Bool, true}
 use Rattle.std.specs.Prelude.{not}
 use Rattle.std.specs.Prelude.{List, length, slice_index, bit_and, if◌then◌else◌}
 use Rattle.rx_dense_image.specs.Rows.{word_at}

@@ -1,5 +1,4 @@
-use Rattle.std.proofs.Common.{ℕ, ◌^◌, Bool, length, slice_index, sym, ap, ◌∙◌, arith}
-use Rattle.std.proofs.lemmas.Grind.{common_steps}
+use Rattle.std.proofs.Common.{ℕ, ◌^◌, Bool, slice_index, sym, ap, ◌∙◌, arith}
 use Rattle.std.proofs.lemmas.List.FromFn.{fill_by_all}
 use Rattle.rx_wire.specs.declared.order.Order.{Order}
 use Rattle.rx_dense_image.specs.Rows.{cleared, word_at}

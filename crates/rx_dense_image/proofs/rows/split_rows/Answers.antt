@@ -34,17 +34,7 @@ returns-clause-sound c =
       stride2 = c.in_ok-stride2.stride2;
       words = c.in_ok-words.words.items;
     } in
-    let counted : AreCounted rows c.in_ok-class_bytes.class_bytes.now c.count_of-rows.result c.in_ok-classes.stride =
-    record {
-      classes = c.in_ok-classes.ensures.value;
-      of_stride = c.in_ok-classes.ensures.stride;
-      few = c.count_of-rows.ensures.bound;
-      len = c.in_ok-words.ensures.len;
-      padded =
-          subst (λ (n : ℕ). ArePadded (2 ^ rows.stride2) n rows.words) c.alphabet_len.ensures.value
-          c.in_ok-words.ensures.past;
-    } in
-    let read : AreReadRows rows = read_rows counted in
+    let read : AreReadRows rows = returns-clause-rows c in
     let greatest : ℕ = c.saturating_sub-greatest.result in
     let found : IsFound rows greatest c.in_ok-words.sound = record {
       whole = read.whole;
