@@ -3,11 +3,15 @@
 
 mod images;
 
+ghost use Rattle.rx_spec.specs.Queries.{IsFit};
+ghost use Rattle.rx_base.specs.Input.{query_of};
+ghost use Rattle.rx_dense.specs.Facts.{IsSoundLayout};
+
 use images::{abc, never_match};
-use rx_base::Input;
+use rx_base::{Anchored, HalfMatch, Input, MatchErrorKind};
 use rx_dense::{Accel, Accels, DFA, OwnedDFA, Special};
 use rx_dense_image::{AccelImage, AccelsImage, DenseRead, DenseWrite, SpecialImage};
-use rx_search::Automaton;
+use rx_search::{Automaton, OverlappingState};
 use rx_wire::{DeserializeError, DeserializeErrorKind, LE, Order};
 use std::alloc::{AllocError, Global};
 use std::process::Abort;
@@ -101,6 +105,9 @@ const ALTERED: &[(usize, Change, Answer)] = &[
     (1050, Byte(0xFF), ABC),
     (1052, Byte(0xFF), ABC),
     (1056, Byte(1), ABC),
+    // another row where `a` leads: the match row, the quit row
+    (412, Word(16), ABC),
+    (412, Word(8), ABC),
     // the head
     (32, Word(0), Err("endian")),
     (32, Word(0x01020304), Err("endian")),
@@ -234,39 +241,136 @@ fn another_word_than_those_that_tell_an_order_is_told(rt: HostRuntime) -> Result
     Ok(())
 }
 
-/// What a search of a read image tells: a match's pattern and end, that it quits, or nothing.
-fn told(alloc: Global, image: &[u8], text: &[u8]) -> &'static str {
-    let dfa = match DFA::<Vec<u32>>::from_bytes(alloc, image) {
-        Ok((dfa, _)) => dfa,
-        Err(error) => return kind_name(&error),
-    };
+/// What a search tells: a pattern and where it ends, or at which byte it quits and where.
+#[derive(Clone, Copy, Debug, PartialEq, Eq)]
+enum Told {
+    Nothing,
+    Match(u32, usize),
+    Quit(u8, usize),
+    Other,
+}
+
+/// What a search of a read image tells.
+fn tell(dfa: &OwnedDFA, text: &[u8]) -> Told
+    requires { IsSoundLayout dfa.now }
+{
     match dfa.try_search_fwd(&Input::new(text)) {
-        Ok(None) => "none",
-        Ok(Some(found)) => match found.offset() {
-            1 => "a match up to 1",
-            3 => "a match up to 3",
-            6 => "a match up to 6",
-            _ => "another match",
+        Ok(None) => Told::Nothing,
+        Ok(Some(found)) => Told::Match(found.pattern().as_u32(), found.offset()),
+        Err(error) => match error.kind() {
+            MatchErrorKind::Quit { byte, offset } => Told::Quit(*byte, *offset),
+            _ => Told::Other,
         },
-        Err(_) => "quit",
     }
 }
 
 #[test]
 fn images_are_searched_as_they_are(rt: HostRuntime) -> Result<(), Fail> {
     let alloc = rt.alloc();
-    let cases: &[(u32, &[u8], &'static str)] = &[
-        (40, b"xyzabcxyz", "a match up to 6"),
-        (40, b"abc", "a match up to 3"),
-        (40, b"abab", "none"),
-        (16, b"xa", "a match up to 1"),
-        (8, b"xa", "quit"),
+    let cases: &[(u32, &[u8], Told)] = &[
+        (40, b"xyzabcxyz", Told::Match(0, 6)),
+        (40, b"abc", Told::Match(0, 3)),
+        (40, b"abab", Told::Nothing),
+        (16, b"xa", Told::Match(0, 1)),
+        (8, b"xa", Told::Quit(b'a', 1)),
     ];
     for (word, text, wanted) in cases {
         let mut image = abc(alloc, Order::Little)?;
         altered(&mut image, 412, Word(*word));
-        let found = told(alloc, image.as_slice(), *text);
-        assert!(&rt; found == *wanted, "{word}: {found}");
+        match DFA::<Vec<u32>>::from_bytes(alloc, image.as_slice()) {
+            Ok((dfa, _)) => assert_eq!(&rt; tell(&dfa, *text), *wanted),
+            Err(error) => assert!(&rt; false, "{word}: {error}"),
+        }
+    }
+    Ok(())
+}
+
+/// How often an overlapping search is called: more often than it can tell a match of these images.
+const CALLS: usize = 8;
+
+/// Whether what a search tells lies in its span, and is a pattern of the table.
+fn is_within(dfa: &OwnedDFA, input: &Input<'_>, told: Option<HalfMatch>) -> bool {
+    match told {
+        None => true,
+        Some(found) => {
+            input.start() <= found.offset()
+                && found.offset() <= input.end()
+                && found.pattern().as_usize() < dfa.pattern_len()
+        }
+    }
+}
+
+/// Searches a span for a match, in either direction.
+fn check_halves(rt: &impl Abort, dfa: &OwnedDFA, input: &Input<'_>, at: usize)
+    requires sound { IsSoundLayout dfa.now }
+    requires fits { IsFit (query_of input.now) }
+{
+    if let Ok(told) = dfa.try_search_fwd(input) {
+        assert!(rt; is_within(dfa, input, told), "at {at}, forward");
+    }
+    if let Ok(told) = dfa.try_search_rev(input) {
+        assert!(rt; is_within(dfa, input, told), "at {at}, in reverse");
+    }
+}
+
+/// Searches a span for all matches.
+fn check_walk_fwd(rt: &impl Abort, dfa: &OwnedDFA, input: &Input<'_>, at: usize)
+    requires sound { IsSoundLayout dfa.now }
+    requires fits { IsFit (query_of input.now) }
+{
+    let mut state = OverlappingState::start();
+    'calls: for _ in 0..CALLS {
+        let _ = dfa.try_search_overlapping_fwd(input, &mut state);
+        let told = state.get_match();
+        assert!(rt; is_within(dfa, input, told), "at {at}, overlapping");
+    }
+}
+
+/// The same in reverse.
+fn check_walk_rev(rt: &impl Abort, dfa: &OwnedDFA, input: &Input<'_>, at: usize)
+    requires sound { IsSoundLayout dfa.now }
+    requires fits { IsFit (query_of input.now) }
+{
+    let mut state = OverlappingState::start();
+    'calls: for _ in 0..CALLS {
+        let _ = dfa.try_search_overlapping_rev(input, &mut state);
+        let told = state.get_match();
+        assert!(rt;
+            is_within(dfa, input, told),
+            "at {at}, overlapping in reverse"
+        );
+    }
+}
+
+/// Searches all spans of a text, anywhere and right where they begin.
+fn check_spans(rt: &impl Abort, dfa: &OwnedDFA, at: usize)
+    requires { IsSoundLayout dfa.now }
+{
+    let text = b"xabcx";
+    for end in 0..6 {
+        for start in 0..end + 1 {
+            for mode in [Anchored::No, Anchored::Yes] {
+                let input = Input::new(text).range(start, end).anchored(mode);
+                check_halves(rt, dfa, &input, at);
+                check_walk_fwd(rt, dfa, &input, at);
+                check_walk_rev(rt, dfa, &input, at);
+            }
+        }
+    }
+}
+
+#[test]
+fn accepted_images_are_searched_within_their_spans(rt: HostRuntime) -> Result<(), Fail> {
+    let alloc = rt.alloc();
+    for (at, change, wanted) in ALTERED {
+        if wanted.is_ok() {
+            let mut image = abc(alloc, Order::Little)?;
+            altered(&mut image, *at, *change);
+            match DFA::<Vec<u32>>::from_bytes(alloc, image.as_slice()) {
+                Ok((dfa, _)) => check_spans(&rt, &dfa, *at),
+                Err(error) => assert!(&rt; false, "at {at}: {error}"),
+            }
+        }
     }
     Ok(())
 }
