@@ -95,7 +95,8 @@ impl<'a> Columns<'a> {
         requires bytes { length bytes.now ≡ 4 * count }
         requires columns { AreColumns self.now }
         ensures len { IfOk result (λ x. length x.0.items ≡ count) }
-        ensures words { IfOk result (λ x. (k : ℕ) → k < count → slice_index x.0.items k ≡ kept_word self.now bytes.now k) }
+        ensures words { IfOk result (λ x. (k : ℕ) → k < count
+            → slice_index x.0.items k ≡ kept_word self.now bytes.now k) }
         ensures clean { IfOk result (λ x. (s last : ℕ) → is_clean (2 ^ s) last x.1
             ≡ each_below count (word_stands s last self.now bytes.now)) }
     {
