@@ -84,14 +84,14 @@ fn are_special_rows(parts: &Parts, s: &Special) -> bool
 }
 
 /// Whether an id lies between two, and is not that of the dead row.
-fn is_in_range(first: StateID, last: StateID, id: usize) -> bool
+pub fn is_in_range(first: StateID, last: StateID, id: usize) -> bool
     ensures { result ≡ is_in_range first last id }
 {
     first.as_usize() <= id && id <= last.as_usize() && id != 0
 }
 
 /// Whether a row is dead, quit, or in a range.
-fn is_named(s: &Special, id: usize) -> bool
+pub fn is_named(s: &Special, id: usize) -> bool
     ensures { result ≡ is_named s.now id }
 {
     id == 0

@@ -12,7 +12,7 @@ use rx_wire::{DeserializeError, Order, split_label, split_order};
 pub(crate) const LABEL: &str = "rust-regex-automata-dfa-dense";
 
 /// The version that is read and written.
-pub(crate) const VERSION: u32 = 2;
+pub const VERSION: u32 = 2;
 
 /// How many NULs may stand before the label.
 const MAX_NULS: usize = 7;
@@ -62,7 +62,7 @@ fn flags_of(word: u32) -> Flags
 
 /// The flags, and the order of what follows the head.
 #[tactic(auto, unfolding(crate::specs::Heads::head_at))]
-fn split_head<'a>(
+pub fn split_head<'a>(
     bytes: &'a [u8],
     label: &'static str,
 ) -> Result<((Flags, Order), &'a [u8]), DeserializeError>

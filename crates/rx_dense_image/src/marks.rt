@@ -117,7 +117,7 @@ fn split_special_ids(order: Order, bytes: &[u8]) -> Result<(Special, &[u8]), Des
 
 /// The special ids, which must be in order and stand within the words of the rows.
 #[tactic(auto, unfolding(crate::specs::Marks::special_at))]
-fn split_special(
+pub fn split_special(
     order: Order,
     word_len: usize,
     bytes: &[u8],
@@ -192,7 +192,7 @@ fn split_accels<'a>(
 
 /// The quit bytes, and the bytes after them.
 #[tactic(auto, unfolding(crate::specs::Marks::quit_at))]
-fn split_quit(order: Order, bytes: &[u8]) -> Result<(ByteSet, &[u8]), DeserializeError>
+pub fn split_quit(order: Order, bytes: &[u8]) -> Result<(ByteSet, &[u8]), DeserializeError>
     ensures read { Gives (λ x. (x.0, x.1.now)) result (quit_at order bytes.now) }
     ensures bound { IfOk result (λ x. x.0 < 2 ^ 256) }
 {

@@ -26,9 +26,10 @@ use rx_wire::{Endian, put_bytes, put_u32, put_u128};
 const LABEL: [u8; 32] = *b"rust-regex-automata-dfa-dense\0\0\0";
 
 /// The word that tells the order.
-const ENDIANNESS: u32 = 0xFEFF;
+pub const ENDIANNESS: u32 = 0xFEFF;
 
-fn put_word<E: Endian>(word: u32, dst: &mut [u8], at: usize) -> usize
+/// A number of four bytes.
+pub fn put_word<E: Endian>(word: u32, dst: &mut [u8], at: usize) -> usize
     requires { at + 4 ≤ length dst.old }
     ensures len { length dst.new ≡ length dst.old }
     ensures place { result ≡ at + 4 }
@@ -47,7 +48,8 @@ fn put_wide<E: Endian>(number: u128, dst: &mut [u8], at: usize) -> usize
     put_u128::<E>(number, dst, at)
 }
 
-fn put_plain(bytes: &[u8], dst: &mut [u8], at: usize) -> usize
+/// Bytes as they are.
+pub fn put_plain(bytes: &[u8], dst: &mut [u8], at: usize) -> usize
     requires { at + length bytes.now ≤ length dst.old }
     ensures len { length dst.new ≡ length dst.old }
     ensures place { result ≡ at + length bytes.now }
@@ -78,7 +80,8 @@ fn flag(set: bool, worth: u32) -> u32
     if set { worth } else { 0 }
 }
 
-fn flags_word(flags: &Flags) -> u32
+/// Flags as a word.
+pub fn flags_word(flags: &Flags) -> u32
     ensures { result ≡ flags_word flags.now }
 {
     flag(flags.has_empty, 1) + flag(flags.is_utf8, 2) + flag(flags.is_always_start_anchored, 4)
@@ -116,7 +119,8 @@ fn put_rows<E: Endian, T: WordStore>(dfa: &DFA<T>, dst: &mut [u8], at: usize) ->
     put_words::<E>(dfa.words(), dst, classes)
 }
 
-fn kind_number(kind: StartKind) -> u32
+/// The number of a start kind.
+pub fn kind_number(kind: StartKind) -> u32
     ensures { result ≡ kind_number kind }
 {
     match kind {
@@ -126,7 +130,8 @@ fn kind_number(kind: StartKind) -> u32
     }
 }
 
-fn context_number(context: Start) -> u8
+/// The number of a start context.
+pub fn context_number(context: Start) -> u8
     ensures { result ≡ context_number context }
 {
     match context {
@@ -163,7 +168,8 @@ fn patterns_word<T: WordStore>(dfa: &DFA<T>) -> u32
     }
 }
 
-fn universal_word(start: Option<StateID>) -> u32
+/// A universal start as a word, where there is one.
+pub fn universal_word(start: Option<StateID>) -> u32
     ensures { result ≡ number_or_none start }
 {
     match start {
@@ -227,7 +233,8 @@ fn put_pattern_lists<E: Endian, T: WordStore>(dfa: &DFA<T>, dst: &mut [u8], at: 
     put_words::<E>(dfa.pattern_ids(), dst, count)
 }
 
-fn put_special<E: Endian>(special: &Special, dst: &mut [u8], at: usize) -> usize
+/// The special ids.
+pub fn put_special<E: Endian>(special: &Special, dst: &mut [u8], at: usize) -> usize
     requires { at + 32 ≤ length dst.old }
     ensures len { length dst.new ≡ length dst.old }
     ensures place { result ≡ at + 32 }
@@ -309,7 +316,8 @@ pub(crate) fn put_accels<E: Endian, L: NeedleLists>(lists: &L, dst: &mut [u8], a
     end
 }
 
-fn put_quit<E: Endian>(quitset: &ByteSet, dst: &mut [u8], at: usize) -> usize
+/// The quit bytes.
+pub fn put_quit<E: Endian>(quitset: &ByteSet, dst: &mut [u8], at: usize) -> usize
     requires { at + 32 ≤ length dst.old }
     ensures len { length dst.new ≡ length dst.old }
     ensures place { result ≡ at + 32 }

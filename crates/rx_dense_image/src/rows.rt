@@ -41,7 +41,7 @@ impl Model for Rows {
 }
 
 /// The classes that some bytes name, if they do.
-fn classes_of(bytes: &[u8]) -> Option<ByteClasses>
+pub fn classes_of(bytes: &[u8]) -> Option<ByteClasses>
     requires { length bytes.now ≡ 256 }
     ensures value { IfSome result (λ classes. classes ≡ bytes.now) }
     ensures exactly { is_some result ≡ are_classes bytes.now }

@@ -17,10 +17,10 @@ use std::alloc::Global;
 use std::marker::Model;
 
 /// The number that stands for no universal start, and for no patterns with starts of their own.
-pub(crate) const NONE: u32 = 0xFFFFFFFF;
+pub const NONE: u32 = 0xFFFFFFFF;
 
 /// How many start contexts there are.
-pub(crate) const CONTEXTS: u32 = 6;
+pub const CONTEXTS: u32 = 6;
 
 /// A start table that was read.
 #[derive(Drop)]
@@ -122,8 +122,9 @@ fn split_context_count(order: Order, bytes: &[u8]) -> Result<(u32, &[u8]), Deser
     Ok((number, rest))
 }
 
+/// The start kind and the contexts, and the bytes after them and after the number of contexts.
 #[tactic(auto, unfolding(crate::specs::StartTables::start_kinds_at))]
-fn split_start_kinds(
+pub fn split_start_kinds(
     order: Order,
     bytes: &[u8],
 ) -> Result<((StartKind, [Start; 256]), &[u8]), DeserializeError>
@@ -136,8 +137,9 @@ fn split_start_kinds(
     Ok(((kind, contexts), rest))
 }
 
+/// How many patterns have starts of their own, and the bytes after it.
 #[tactic(auto, unfolding(crate::specs::StartTables::pattern_starts_at))]
-fn split_pattern_starts(
+pub fn split_pattern_starts(
     order: Order,
     bytes: &[u8],
 ) -> Result<(Option<usize>, &[u8]), DeserializeError>
@@ -155,8 +157,9 @@ fn split_pattern_starts(
     Ok((Some(patterns), rest))
 }
 
+/// A universal start, and the bytes after it.
 #[tactic(auto, unfolding(crate::specs::StartTables::universal_at))]
-fn split_universal<'a>(
+pub fn split_universal<'a>(
     order: Order,
     bytes: &'a [u8],
     what: &'static str,
@@ -174,7 +177,7 @@ fn split_universal<'a>(
 }
 
 /// How many start entries there are, where so many patterns have starts of their own.
-fn start_entries(pattern_starts: Option<usize>) -> usize
+pub fn start_entries(pattern_starts: Option<usize>) -> usize
     requires { IsAtMost id_count pattern_starts }
     ensures { result ≡ start_entries pattern_starts }
 {

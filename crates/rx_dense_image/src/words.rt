@@ -8,7 +8,7 @@ use rx_wire::{DeserializeError, Order, split_items};
 use std::alloc::Global;
 
 /// The number of a word, as a count.
-pub(crate) fn count_of(word: u32) -> usize
+pub fn count_of(word: u32) -> usize
     ensures value { result ≡ word }
     ensures bound { result < 2 ^ 32 }
 {
@@ -17,7 +17,7 @@ pub(crate) fn count_of(word: u32) -> usize
 
 /// The word at a place.
 #[tactic(auto, using(crate::proofs::WordBytes::four))]
-fn word_at(order: Order, bytes: &[u8], i: usize) -> u32
+pub fn word_at(order: Order, bytes: &[u8], i: usize) -> u32
     requires { 4 * i + 4 ≤ length bytes.now }
     ensures { result ≡ word_at order bytes.now i }
 {
