@@ -287,6 +287,7 @@ module _ (s : Settled) (nfa : Nfa) {l : Layout}
     accelerated = made.accelerated;
     marked = made.marked;
     universal = has;
+    universal_ids = refl;
     rest =
         ap (λ (k : Layout). record k {
           universal_unanchored = (with_universal_starts l).universal_unanchored;

@@ -1,0 +1,11 @@
+-- tests of all elements and rows of places, columns, and rows of a range of ids
+pub mod Places
+pub mod Columns
+pub mod RangeRows
+-- the tests of an image: rows, special rows, start rows, lists of patterns, needles; and all together
+pub mod WholeRows
+pub mod WholeSpecial
+pub mod WholeStarts
+pub mod WholeLists
+pub mod WholeAccels
+pub mod Whole

@@ -1,0 +1,65 @@
+-- The rows of a range of ids, one after another.
+use Rattle.std.proofs.Common.{◌≡◌, ℕ, ◌+◌, ◌-◌, ◌*◌, ◌/◌, ◌<◌, ◌≤◌, true, if◌then◌else◌, ap, ap₂, sym, ◌∙◌, arith}
+use Rattle.std.proofs.Common.{inl, inr}
+use Rattle.std.proofs.lemmas.Bool.{cases_lt, eq-eqb, ne_eqb}
+use Rattle.std.proofs.lemmas.Nat.{mul-le, pow_pos}
+use Rattle.rx_dense.specs.Specials.{is_in_range}
+use Rattle.rx_dense.specs.Layouts.{Layout, place_in_range, row_count, stride}
+use Rattle.rx_dense.proofs.Rows.{quotient, row-below}
+use Rattle.rx_order.specs.RowOrder.{IsRange}
+use Rattle.rx_order.proofs.MatchRows.{place_from}
+use Rattle.rx_dense_image.specs.Closing.{range_len}
+use Rattle.rx_built_images.proofs.WholeSpecial.{within_range}
+
+pub record IsRowAt (l : Layout) (first last i row : ℕ) : Type 0 where
+  pub id : row * stride l ≡ first + i * stride l
+  pub below : row < row_count l
+  pub within : is_in_range first last (row * stride l) ≡ true
+  pub place : place_in_range l first (row * stride l) ≡ i
+
+pub range_at : (l : Layout) (first last : ℕ) → IsRange l first last → (i : ℕ) → i < range_len l first last
+    → IsRowAt l first last i (first / stride l + i)
+range_at l first last (inl (none, last_none)) i lt =
+    let e : range_len l first last ≡ 0 =
+    ap (λ b. if b then 0 else (last - first) / stride l + 1) (eq-eqb first 0 none) in
+    absurd (omega (arith, lt, e))
+range_at l first last (inr (past, le, is_first, is_last)) i lt =
+    let s : ℕ = stride l in
+    let some : 0 < stride l = pow_pos l.stride2 in
+    let q : ℕ = first / stride l in
+    let p : ℕ = last / stride l in
+    let first_is = quotient first (stride l) is_first.whole in
+    let last_is = quotient last (stride l) is_last.whole in
+    let rises = rise q p (stride l) some (omega (arith, first_is, last_is, le)) in
+    let len : range_len l first last ≡ p - q + 1 =
+    ap (λ b. if b then 0 else (last - first) / stride l + 1)
+    (ne_eqb first 0 (λ e. absurd (omega (arith, past, e))))
+    ∙ ap (λ (n : ℕ). n + 1)
+    (ap₂ (λ (x y : ℕ). (x - y) / stride l) (sym last_is) (sym first_is) ∙ place_from q p (stride l) some rises) in
+    let upto : q + i ≤ p = omega (arith, lt, len, rises) in
+    let same : stride l ≤ stride l = omega arith in
+    let most = mul-le (q + i) (stride l) p (stride l) upto same in
+    let id : (q + i) * stride l ≡ first + i * stride l = omega (arith, first_is) in
+    let back : q + i - q ≡ i = omega arith in
+    let from_first : q ≤ q + i = omega arith in
+    record {
+      id = id;
+      below = omega (arith, upto, row-below l last is_last);
+      within =
+          within_range first last ((q + i) * stride l) (omega (arith, id)) (omega (arith, most, last_is))
+          (omega (arith, id, past));
+      place =
+          ap (λ (x : ℕ). ((q + i) * stride l - x) / stride l) (sym first_is)
+          ∙ place_from q (q + i) (stride l) some from_first
+          ∙ back;
+    }
+  where
+    rise : (q p s : ℕ) → 0 < s → q * s ≤ p * s → q ≤ p
+    rise q p s some le =
+        elim (cases_lt p q) [
+          | inl less ↦ (
+              let same : s ≤ s = omega arith in
+              let one : p + 1 ≤ q = omega (arith, less) in
+              absurd (omega (arith, some, le, mul-le (p + 1) s q s one same)))
+          | inr more ↦ more
+        ]

@@ -1,0 +1,168 @@
+-- The lists of patterns of a sound table's match rows pass the tests of an image's lists.
+use Rattle.std.proofs.Common.{◌≡◌, ℕ, suc, ◌+◌, ◌*◌, ◌/◌, ◌%◌, ◌^◌, ◌<◌, ◌≤◌, Bool, true, false, ◌&&◌, not}
+use Rattle.std.proofs.Common.{leb, ltb, eqb, List, [], ◌∷◌, length, get_or, slice_index, refl, sym, ap, subst, ◌∙◌}
+use Rattle.std.proofs.Common.{arith, inl, inr, if◌then◌else◌}
+use Rattle.std.specs.List.{concat, list_all}
+use Rattle.std.proofs.lemmas.Bool.{and_parts, cases_lt, cases_eq, eq-eqb, lt-ltb, ltb-true, ne_eqb}
+use Rattle.std.proofs.lemmas.List.{get_or_past}
+use Rattle.std.proofs.lemmas.List.Elements.{Contains-get_or}
+use Rattle.std.proofs.lemmas.List.FromFn.{get_or-map-range_with_len, length-map-range_with_len}
+use Rattle.std.proofs.lemmas.List.Folds.{list_all-append}
+use Rattle.rx_spec.specs.Machines.{Label}
+use Rattle.rx_spec.specs.Tables.{IsSound}
+use Rattle.rx_dense.specs.Builder.{slices_from}
+use Rattle.rx_dense.specs.Specials.{is_match_id, is_quit_id}
+use Rattle.rx_dense.specs.Layouts.{AreLists, IsShaped, Layout, label_of_id, patterns_at, place_in_range}
+use Rattle.rx_dense.specs.Layouts.{stride, table_of}
+use Rattle.rx_dense.proofs.RowKinds.{patterns_len}
+use Rattle.rx_order.specs.RowOrder.{AreJoined, IsRange, match_count, match_lists}
+use Rattle.rx_order.proofs.KindNumbers.{at_most}
+use Rattle.rx_dense_image.specs.Rows.{AreWords}
+use Rattle.rx_dense_image.specs.PatternLists.{AreReadLists}
+use Rattle.rx_dense_image.specs.Closing.{are_lists, is_list, lists_stand, range_len}
+use Rattle.rx_dense_image.specs.Images.{pattern_lists_of}
+use Rattle.rx_dense_image.proofs.ClosedFacts.{each_at}
+use Rattle.rx_dense_image.proofs.EachBelow.{all_of, and_of}
+use Rattle.rx_built_images.proofs.Places.{all_places}
+use Rattle.rx_built_images.proofs.RangeRows.{IsRowAt, range_at}
+
+-- two words for each list
+slices_len : (start : ℕ) (lists : List (List ℕ)) → length (slices_from start lists) ≡ 2 * length lists
+slices_len start [] = refl
+slices_len start (list ∷ lists) = omega (arith, slices_len (start + length list) lists)
+
+-- the label of a match row
+matches_where : (m q : Bool) (ks : List ℕ) → m ≡ true
+    → (if m then Label.Matches ks else (if q then Label.Quits else Label.Plain)) ≡ Label.Matches ks
+matches_where true q ks e = refl
+matches_where false q ks e = absurd cc
+
+-- numbers below a bound are words
+words_below : (xs : List ℕ) → ((i : ℕ) → i < length xs → slice_index xs i < 2 ^ 32) → AreWords xs
+words_below xs below i =
+    elim (cases_lt i (length xs)) [
+      | inl lt ↦ below i lt
+      | inr past ↦ (subst (λ (n : ℕ). n < 2 ^ 32) (sym (get_or_past xs i 0 past)) (omega arith))
+    ]
+
+module _ (l : Layout) (shaped : IsShaped l) (sound : IsSound (table_of l)) (matches : IsRange l l.special.min_match
+    l.special.max_match) (joined : AreJoined l) where
+  abbrev lists : AreLists l
+  lists = shaped.lists
+
+  count : length l.slices ≡ 2 * match_count l
+  count =
+      ap length joined.slices
+      ∙ slices_len 0 (match_lists l)
+      ∙ ap (λ (n : ℕ). 2 * n) (length-map-range_with_len (patterns_at l) 0 (match_count l))
+
+  list_count : length l.slices / 2 ≡ range_len l l.special.min_match l.special.max_match
+  list_count =
+      let same : match_count l ≡ range_len l l.special.min_match l.special.max_match = refl in
+      omega (arith, count, same)
+
+  row_at : (i : ℕ) → i < match_count l
+      → IsRowAt l l.special.min_match l.special.max_match i (l.special.min_match / stride l + i)
+  row_at i lt = range_at l l.special.min_match l.special.max_match matches i lt
+
+  label_at : (i : ℕ) → i < match_count l
+      → label_of_id l ((l.special.min_match / stride l + i) * stride l) ≡ Label.Matches (patterns_at l i)
+  label_at i lt =
+      let at = row_at i lt in
+      let id : ℕ = (l.special.min_match / stride l + i) * stride l in
+      matches_where (is_match_id l.special id) (is_quit_id l.special id)
+      (patterns_at l (place_in_range l l.special.min_match id)) at.within
+      ∙ ap (λ (k : ℕ). Label.Matches (patterns_at l k)) at.place
+
+  -- the list of each match row
+  list_passes : (i : ℕ) → i < match_count l → is_list l i ≡ true
+  list_passes i lt =
+      let row : ℕ = l.special.min_match / stride l + i in
+      let first : ℕ = slice_index l.slices (2 * i) in
+      let len : ℕ = slice_index l.slices (2 * i + 1) in
+      let below = (row_at i lt).below in
+      let label = label_at i lt in
+      let within : 2 * i + 1 < length l.slices = omega (arith, count, lt) in
+      let own : length (patterns_at l i) ≡ len = patterns_len l lists i within in
+      let ends = lists.within i within in
+      let other : len ≡ 0 → ⊥ =
+      λ e. sound.is_table.lists row below (label ∙ ap Label.Matches (none (patterns_at l i) (own ∙ e))) in
+      let begins : first < length l.pattern_ids = begins_of first len (length l.pattern_ids) ends other in
+      let known : list_all (λ pattern. ltb pattern l.pattern_len) (patterns_at l i) ≡ true =
+      all_places (λ pattern. ltb pattern l.pattern_len) (patterns_at l i)
+      (λ k h.
+      lt-ltb _ _
+      (sound.patterns row (patterns_at l i) (get_or (patterns_at l i) k 0) below label
+      (Contains-get_or (patterns_at l i) k 0 h))) in
+      and_of (ltb first (length l.pattern_ids) && leb (first + len) (length l.pattern_ids) && not (eqb len 0))
+      (list_all (λ pattern. ltb pattern l.pattern_len) (patterns_at l i))
+      (and_of (ltb first (length l.pattern_ids) && leb (first + len) (length l.pattern_ids)) (not (eqb len 0))
+      (and_of (ltb first (length l.pattern_ids)) (leb (first + len) (length l.pattern_ids)) (lt-ltb _ _ begins)
+      (at_most _ _ ends)) (ap not (ne_eqb len 0 other))) known
+    where
+      none : (xs : List ℕ) → length xs ≡ 0 → xs ≡ []
+      none [] e = refl
+      none (x ∷ xs) e = absurd (omega (arith, e))
+
+      begins_of : (first len all : ℕ) → first + len ≤ all → (len ≡ 0 → ⊥) → first < all
+      begins_of first len all le other = omega (arith, le, other)
+
+  pub lists_closed : lists_stand l ≡ true
+  lists_closed =
+      and_of (eqb (length l.slices / 2) (range_len l l.special.min_match l.special.max_match)) (are_lists l)
+      (eq-eqb _ _ list_count)
+      (all_of (length l.slices / 2) (is_list l) (λ i lt. list_passes i (omega (arith, lt, count))))
+
+  -- ---- read
+
+  slice_word : (k : ℕ) → k < length l.slices → slice_index l.slices k < 2 ^ 32
+  slice_word k lt =
+      let i : ℕ = k / 2 in
+      let within : 2 * i + 1 < length l.slices = omega (arith, lt, lists.pairs) in
+      let ends = lists.within i within in
+      let few = lists.few in
+      elim (cases_eq (k % 2) 0) [
+        | inl even ↦ (
+            let same : 2 * i ≡ k = omega (arith, even) in
+            subst (λ (n : ℕ). slice_index l.slices n < 2 ^ 32) same (omega (arith, ends, few)))
+        | inr odd ↦ (
+            let same : 2 * i + 1 ≡ k = omega (arith, odd) in
+            subst (λ (n : ℕ). slice_index l.slices n < 2 ^ 32) same (omega (arith, ends, few)))
+      ]
+
+  -- each pattern id is that of a row
+  pattern_below : (k : ℕ) → k < length l.pattern_ids → slice_index l.pattern_ids k < l.pattern_len
+  pattern_below k lt =
+      let all : (list_all (λ pattern. ltb pattern l.pattern_len) (concat (match_lists l))) ≡ true =
+      all_concat (λ pattern. ltb pattern l.pattern_len) (match_lists l) each in
+      let own : list_all (λ pattern. ltb pattern l.pattern_len) l.pattern_ids ≡ true =
+      ap (list_all (λ pattern. ltb pattern l.pattern_len)) joined.pattern_ids ∙ all in
+      ltb-true _ _ (each_at (λ pattern. ltb pattern l.pattern_len) l.pattern_ids k own lt)
+    where
+      each : (i : ℕ) → i < length (match_lists l)
+          → list_all (λ pattern. ltb pattern l.pattern_len) (get_or (match_lists l) i []) ≡ true
+      each i lt =
+          let low : i < match_count l =
+          omega (arith, lt, length-map-range_with_len (patterns_at l) 0 (match_count l)) in
+          let at : 0 + i ≡ i = omega arith in
+          ap (list_all (λ pattern. ltb pattern l.pattern_len))
+          (get_or-map-range_with_len (patterns_at l) 0 (match_count l) i i [] low at)
+          ∙ (and_parts _ (list_all (λ pattern. ltb pattern l.pattern_len) (patterns_at l i)) (list_passes i low)).1
+
+      all_concat : (p : ℕ → Bool) (xss : List (List ℕ))
+          → ((i : ℕ) → i < length xss → list_all p (get_or xss i []) ≡ true) → list_all p (concat xss) ≡ true
+      all_concat p [] h = refl
+      all_concat p (xs ∷ xss) h =
+          list_all-append p xs (concat xss)
+          ∙ and_of (list_all p xs) (list_all p (concat xss)) (h 0 (omega arith))
+          (all_concat p xss (λ i lt. h (suc i) (omega (arith, lt))))
+
+  pub lists_read : AreReadLists (pattern_lists_of l)
+  lists_read = record {
+    pairs = lists.pairs;
+    few_rows = lists.few_rows;
+    few_patterns = omega (arith, lists.few_patterns);
+    few = lists.few;
+    words = words_below l.slices slice_word;
+    ids = words_below l.pattern_ids (λ k lt. omega (arith, pattern_below k lt, lists.few_patterns));
+  }

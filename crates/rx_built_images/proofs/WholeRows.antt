@@ -1,0 +1,124 @@
+-- The rows of a sound table pass the tests of an image's rows.
+use Rattle.std.proofs.Common.{◌≡◌, ℕ, zero, suc, ◌+◌, ◌-◌, ◌*◌, ◌/◌, ◌%◌, ◌^◌, ◌<◌, ◌≤◌, true, not, ◌&&◌, leb, eqb}
+use Rattle.std.proofs.Common.{length, take, slice_index, sym, ap, subst, ◌∙◌, arith, inl, inr}
+use Rattle.std.specs.List.{list_all, range_with_len}
+use Rattle.std.proofs.Math.Nat.{div-le_self, mul-div_cancel, mul-mod_left}
+use Rattle.std.proofs.lemmas.Bool.{cases_lt, cases_eq, eq-eqb, eqb-true, lt-ltb}
+use Rattle.std.proofs.lemmas.List.{get_or-take, length-take}
+use Rattle.std.proofs.lemmas.Nat.{div-add-mod', pow_pos}
+use Rattle.rx_spec.specs.Causes.{max_id}
+use Rattle.rx_spec.specs.Tables.{IsSound}
+use Rattle.rx_base.specs.ByteClasses.{alphabet_len}
+use Rattle.rx_dense.specs.Layouts.{AreRows, IsRowId, Layout, column, is_row_id, machine_of, next_id, row_count}
+use Rattle.rx_dense.specs.Layouts.{stride, table_of}
+use Rattle.rx_dense.proofs.Rows.{quotient, stride_few}
+use Rattle.rx_order.proofs.KindNumbers.{at_most}
+use Rattle.rx_dense_image.specs.Rows.{AreReadRows, are_entries, have_ids, is_entry, rows_of}
+use Rattle.rx_dense_image.specs.Closing.{lead_to_dead, rows_stand}
+use Rattle.rx_dense_image.proofs.EachBelow.{all_of, and_of}
+use Rattle.rx_built_images.proofs.Columns.{column_used}
+use Rattle.rx_built_images.proofs.Places.{all_places, not_both, row_below}
+
+-- the id of a row passes the test
+pub row_id_passes : (l : Layout) (id : ℕ) → IsRowId l id → is_row_id l id ≡ true
+row_id_passes l id is =
+    let some = pow_pos l.stride2 in
+    let below = is.below in
+    rw (eq-eqb _ _ is.whole) (lt-ltb _ _ (omega arith))
+
+-- ---- read
+
+some_exponent : (s n : ℕ) → n + 2 ≤ 2 ^ s → 1 ≤ s
+some_exponent zero n h = let one : n + 2 ≤ 1 = h in absurd (omega (arith, one))
+some_exponent (suc s) n h = omega arith
+
+pub rows_read : (l : Layout) → AreRows l → AreReadRows (rows_of l)
+rows_read l rows = record {
+  classes = rows.classes;
+  some = some_exponent l.stride2 (slice_index l.classes 255) rows.fits;
+  exponent = rows.exponent;
+  fits = rows.fits;
+  whole = rows.whole;
+  few = omega (arith, div-le_self (length l.words) (stride l), rows.few, stride_few l.stride2 rows.exponent);
+  padded = record { zero = rows.past_alphabet };
+}
+
+-- ---- closed
+
+module _ (l : Layout) (rows : AreRows l) (sound : IsSound (table_of l)) where
+  some : 0 < stride l
+  some = pow_pos l.stride2
+
+  row_of_place : (k : ℕ) → k < length l.words → k / stride l < row_count l
+  row_of_place k lt = row_below k (length l.words) (stride l) rows.whole lt
+
+  -- a word is what its row's column leads to
+  word_is : (k unit : ℕ) → column l unit ≡ k % stride l
+      → next_id l (k / stride l * stride l) unit ≡ slice_index l.words k
+  word_is k unit e =
+      let place : k / stride l * stride l + column l unit ≡ k =
+      ap (λ (n : ℕ). k / stride l * stride l + n) e ∙ div-add-mod' k (stride l) in
+      ap (slice_index l.words) place
+
+  eoi_goes_on : (k : ℕ) → k < length l.words → k % stride l ≡ alphabet_len l.classes - 1
+      → slice_index l.words k ≡ stride l → ⊥
+  eoi_goes_on k lt last quits =
+      let one : 1 * stride l ≡ stride l = omega arith in
+      let is : column l 256 ≡ k % stride l = omega (arith, last) in
+      sound.eoi_goes_on (k / stride l) (row_of_place k lt)
+      (ap (λ (n : ℕ). n / stride l) (word_is k 256 is ∙ quits ∙ sym one) ∙ mul-div_cancel 1 some)
+
+  entry : (k : ℕ) → k < length l.words → is_entry (rows_of l) k ≡ true
+  entry k lt =
+      and_of (is_row_id l (slice_index l.words k))
+      (not (eqb (k % stride l) (alphabet_len l.classes - 1) && eqb (slice_index l.words k) (stride l)))
+      (row_id_passes l (slice_index l.words k) (rows.next_ids k lt))
+      (not_both _ _ (λ p q. eoi_goes_on k lt (eqb-true _ _ p) (eqb-true _ _ q)))
+
+  -- dead and quit lead to dead
+  row_dead : (row unit : ℕ) → row < 2 → unit < 257 → (machine_of l).next row unit ≡ 0
+  row_dead row unit low u =
+      elim (cases_eq row 0) [
+        | inl e ↦ (subst (λ (r : ℕ). (machine_of l).next r unit ≡ 0) (sym e) (sound.is_table.dead_stays unit u))
+        | inr ne ↦ (
+            let one : row ≡ 1 = omega (arith, low, ne) in
+            subst (λ (r : ℕ). (machine_of l).next r unit ≡ 0) (sym one) (sound.is_table.quit_ends unit u))
+      ]
+
+  dead_word : (k : ℕ) → k < 2 * stride l → slice_index l.words k ≡ 0
+  dead_word k low =
+      let two = rows.two in
+      let within : k < length l.words = omega (arith, two, low) in
+      elim (cases_lt (k % stride l) (alphabet_len l.classes)) [
+        | inl at ↦ (
+            let none : 0 * stride l ≡ 0 = omega arith in
+            let unit = column_used l rows.classes (k % stride l) at in
+            let row_low : k / stride l < 2 =
+            subst (λ (n : ℕ). k / stride l < n) (mul-div_cancel 2 some)
+            (row_below k (2 * stride l) (stride l) (mul-mod_left 2 (stride l)) low) in
+            let led : slice_index l.words k / stride l ≡ 0 =
+            ap (λ (n : ℕ). n / stride l) (sym (word_is k unit.0 unit.2))
+            ∙ row_dead (k / stride l) unit.0 row_low unit.1 in
+            sym (quotient (slice_index l.words k) (stride l) (rows.next_ids k within).whole)
+            ∙ ap (λ (n : ℕ). n * stride l) led
+            ∙ none)
+        | inr past ↦ (rows.past_alphabet k within past)
+      ]
+
+  dead_rows : lead_to_dead l ≡ true
+  dead_rows =
+      all_places (λ word. eqb word 0) (take (2 * stride l) l.words)
+      (λ k lt.
+      let low : k < 2 * stride l = omega (arith, lt, length-take (2 * stride l) l.words) in
+      eq-eqb _ _ (get_or-take (2 * stride l) l.words k 0 low ∙ dead_word k low))
+
+  pub rows_closed : rows_stand l ≡ true
+  rows_closed =
+      let ids : have_ids (rows_of l) ≡ true =
+      at_most (length l.words - stride l) max_id (omega (arith, rows.few)) in
+      let entries : are_entries (rows_of l) ≡ true =
+      and_of (have_ids (rows_of l)) (list_all (is_entry (rows_of l)) (range_with_len 0 (length l.words))) ids
+      (all_of (length l.words) (is_entry (rows_of l)) entry) in
+      and_of (leb 2 (row_count l) && are_entries (rows_of l)) (lead_to_dead l)
+      (and_of (leb 2 (row_count l)) (are_entries (rows_of l)) (at_most 2 (row_count l) sound.is_table.two) entries)
+      dead_rows

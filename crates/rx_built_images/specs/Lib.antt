@@ -1,0 +1,2 @@
+-- tables whose layouts can be read
+pub mod Finished
