@@ -1,4 +1,4 @@
 -- settings that are taken over
 pub mod Settings
--- the pair that is built, or refused
-pub mod Built
+-- what refuses a pair
+pub mod Refusals

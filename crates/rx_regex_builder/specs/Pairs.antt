@@ -2,6 +2,7 @@
 use Rattle.std.specs.Prelude.{true, false, Some, List, ◌⊎◌}
 use Rattle.rx_spec.specs.Expressions.{Expression}
 use Rattle.rx_spec.specs.Plans.{Cause}
+use Rattle.rx_spec.specs.declared.Direction.{Direction}
 use Rattle.rx_spec.specs.declared.MatchKind.{MatchKind}
 use Rattle.rx_spec.specs.declared.StartKind.{StartKind}
 use Rattle.rx_dense.specs.Layouts.{Layout}
@@ -42,6 +43,11 @@ in_reverse both = record {
   dense = settings.overwritten both.dense reverse_tables;
   thompson = thompson.overwritten both.thompson reverse_nfa;
 }
+
+-- the settings of the table that is searched in a direction
+abbrev pub in_direction : Direction → Both → Both
+in_direction Direction.Forward both = both
+in_direction Direction.Reverse both = in_reverse both
 
 -- a table of these expressions, by these settings
 abbrev pub IsOf : Both → List Expression → Layout → Type 0

@@ -8,7 +8,7 @@ ghost use Rattle.rx_build_error.specs.Refusals.{IsRefused};
 ghost use Rattle.rx_expr.specs.Settings as nfa;
 ghost use Rattle.rx_regex_builder.specs.Pairs.{taken};
 
-use rx_base::{MatchKind, StartKind};
+use rx_base::{Direction, MatchKind, StartKind};
 use rx_build::BuildError;
 use rx_build::dense::{self, Config};
 use rx_dense::OwnedDFA;
@@ -26,7 +26,8 @@ pub struct Builder {
 
 impl Builder {
     ghost use Rattle.rx_build.specs.Builders.{none_asked};
-    ghost use Rattle.rx_regex_builder.specs.Pairs.{AreBothFit, AreBuilt, PairRefused, both_of, in_reverse};
+    ghost use Rattle.rx_regex_builder.specs.Pairs.{AreBothFit, AreBuilt, IsFitBy, IsOf, IsRefusedBy, PairRefused};
+    ghost use Rattle.rx_regex_builder.specs.Pairs.{both_of, in_direction, in_reverse};
 
     /// With default settings: matches that split a character of UTF-8 are passed over.
     pub fn new() -> Builder
@@ -68,9 +69,36 @@ impl Builder {
         // Each repetition in an expression is bounded.
         ensures safe { All IsLoopSafe exprs.now }
     {
-        let forward = self.forward_tables().build_many(alloc, exprs)?;
-        let reverse = self.reverse_tables().build_many(alloc, exprs)?;
+        let forward = self.build_one(alloc, exprs, Direction::Forward)?;
+        let reverse = self.build_one(alloc, exprs, Direction::Reverse)?;
         Ok(Regex::new(forward, reverse))
+    }
+
+    /// One of these two tables alone: the forward one, or the one in reverse.
+    pub fn build_one(
+        &self,
+        alloc: Global,
+        exprs: &[Expr],
+        direction: Direction,
+    ) -> Result<OwnedDFA, BuildError>
+        ensures ok { IfOk result (IsOf (in_direction direction (both_of self.now)) exprs.now) }
+        ensures fits { OnOk result (IsFitBy (in_direction direction (both_of self.now)) exprs.now) }
+        ensures err { IfErr result (λ e.
+            IsRefused (IsRefusedBy (in_direction direction (both_of self.now)) exprs.now) e.kind) }
+        // Each repetition in an expression is bounded.
+        ensures safe { All IsLoopSafe exprs.now }
+    {
+        self.tables(direction).build_many(alloc, exprs)
+    }
+
+    /// What builds the tables of a direction.
+    fn tables(&self, direction: Direction) -> dense::Builder
+        ensures { tables.both_of result ≡ in_direction direction (both_of self.now) }
+    {
+        match direction {
+            Direction::Forward => self.forward_tables(),
+            Direction::Reverse => self.reverse_tables(),
+        }
     }
 
     /// What builds tables that are searched forward: by these settings.
