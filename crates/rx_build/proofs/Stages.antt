@@ -21,8 +21,8 @@ use Rattle.rx_build.specs.Built.{AreApart, IsBuilt, begun, build_of}
 use Rattle.rx_build.specs.Making.{IsMade, Steps, determinized, marked_as, minimized}
 use Rattle.rx_build.specs.Settings.{Settled}
 use Rattle.rx_build.proofs.PermutedTables.{IsMoved, moved_apart, moved_gives, moved_machine, moved_reached}
-use Rattle.rx_build.proofs.StartMarks.{none_accelerated, range_kept, unmarked, unmarked_order, unmarked_plain}
-use Rattle.rx_build.proofs.StartMarks.{unmarked_row}
+use Rattle.rx_build.proofs.StartMarks.{none_accelerated, none_counted, range_kept, unmarked, unmarked_order}
+use Rattle.rx_build.proofs.StartMarks.{unmarked_plain, unmarked_row}
 
 module _ {b : Build} {begun : Layout} where
   -- ---- determinized
@@ -39,6 +39,7 @@ module _ {b : Build} {begun : Layout} where
         plain = λ e. d.plain;
         joined = d.joined;
         accelerated = λ row h. none_accelerated l d.plain row;
+        counted = none_counted l d.plain;
         marked = d.marked;
         rest =
             d.rest
@@ -66,6 +67,7 @@ module _ {b : Build} {begun : Layout} where
         plain = λ e. m.plain;
         joined = m.joined;
         accelerated = λ row h. none_accelerated new m.plain row;
+        counted = none_counted new m.plain;
         marked = λ row h. m.marked row h ∙ kept row h (cases_true (is_start_row new row));
         rest =
             m.rest
@@ -145,6 +147,7 @@ module _ {b : Build} {begun : Layout} where
         plain = λ e. unmarked_plain l made.in_order plain;
         joined = record { slices = made.joined.slices; pattern_ids = made.joined.pattern_ids };
         accelerated = made.accelerated;
+        counted = made.counted;
         marked = λ row h. unmarked_row l made.in_order plain row;
         rest = ap unmarked made.rest;
       }
@@ -170,6 +173,7 @@ module _ {b : Build} {begun : Layout} where
         plain = λ e. absurd (true≢false e);
         joined = a.joined;
         accelerated = a.accelerated;
+        counted = a.counted;
         marked =
             λ row h.
             let size = a.permuted.size in
@@ -285,6 +289,7 @@ module _ (s : Settled) (nfa : Nfa) {l : Layout}
     in_order = order_kept;
     joined = record { slices = made.joined.slices; pattern_ids = made.joined.pattern_ids };
     accelerated = made.accelerated;
+    counted = made.counted;
     marked = made.marked;
     universal = has;
     universal_ids = refl;

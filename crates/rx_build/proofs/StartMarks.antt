@@ -2,7 +2,7 @@
 use Rattle.std.proofs.Common.{◌≡◌, ◌≢◌, ℕ, zero, suc, ◌+◌, ◌*◌, ◌/◌, ◌<◌, ◌≤◌, ◌==◌, ◌&&◌, ◌||◌, ◌⊎◌, not, max}
 use Rattle.std.proofs.Common.{nat_le, nat_lt, ◌^◌, Bool, true, false, if◌then◌else◌, List, length, refl, sym, ap, ap₂}
 use Rattle.std.proofs.Common.{subst, ◌∙◌, ⊎_elim, inl, inr, arith}
-use Rattle.std.proofs.lemmas.Bool.{and_parts, cases_eq, cases_lt, leb-true, true≢false, ne_eqb}
+use Rattle.std.proofs.lemmas.Bool.{and_parts, cases_eq, cases_lt, eq-eqb, leb-true, true≢false, ne_eqb}
 use Rattle.std.proofs.lemmas.Nat.{mul-le, pow_pos}
 use Rattle.rx_spec.specs.Machines.{Label}
 use Rattle.rx_spec.specs.Tables.{IsSound, is_match, is_match_label}
@@ -11,7 +11,7 @@ use Rattle.rx_dense.specs.Layouts.{Layout, IsRowId, patterns_at, place_in_range,
 use Rattle.rx_dense.specs.Specials.{greatest, is_in_range, is_match_id, is_quit_id}
 use Rattle.rx_dense.proofs.Rows.{quotient, row-below}
 use Rattle.rx_dense.proofs.Shaped.{id_kept}
-use Rattle.rx_order.specs.RowOrder.{IsInOrder, IsPlain, IsRange, is_start_row, kind_of}
+use Rattle.rx_order.specs.RowOrder.{IsInOrder, IsPlain, IsRange, accel_count, is_start_row, kind_of}
 use Rattle.rx_order.proofs.KindNumbers.{at_most, high_kind, kind_high, over}
 
 -- ---- no row is accelerated
@@ -32,6 +32,12 @@ empty_range id =
 pub none_accelerated : (l : Layout) → IsPlain l → (row : ℕ) → (table_of l).is_accelerated row ≡ false
 none_accelerated l plain row =
     ap₂ (λ (a b : ℕ). is_in_range a b (row * stride l)) plain.min_accel plain.max_accel ∙ empty_range (row * stride l)
+
+pub none_counted : (l : Layout) → IsPlain l → length l.accels ≡ accel_count l
+none_counted l plain =
+    ap length plain.accels
+    ∙ sym (ap (λ b. if b then 0 else place_in_range l l.special.min_accel l.special.max_accel + 1)
+    (eq-eqb l.special.min_accel 0 plain.min_accel))
 
 -- ---- ranges of ids
 

@@ -11,7 +11,7 @@ use Rattle.rx_spec.specs.Power.{IsPower}
 use Rattle.rx_spec.specs.declared.Form.{Form}
 use Rattle.rx_dense.specs.Builder.{initial, HasUniversalStarts, with_universal_starts}
 use Rattle.rx_dense.specs.Layouts.{Layout, row_count, table_of}
-use Rattle.rx_order.specs.RowOrder.{IsInOrder, AreJoined, is_start_row, is_skippable}
+use Rattle.rx_order.specs.RowOrder.{IsInOrder, AreJoined, accel_count, is_start_row, is_skippable}
 use Rattle.rx_determinize.specs.Determinized as determinize
 use Rattle.rx_determinize.specs.Determinized.{classes_of}
 use Rattle.rx_minimize.specs.Minimized.{AreReachedRows}
@@ -70,8 +70,8 @@ AreApart l = (x y : ℕ) → x < row_count l → y < row_count l → x ≢ y →
 
 -- The table says of every word what its build says, and each row but dead and quit is reached. Without minimizing it
 -- is the build's powerset machine, with it the least table. It is sound and its rows in order; exactly the rows that
--- may be skipped from are accelerated, and start rows are marked, where that was asked for. Its universal starts are
--- the starts that all contexts have, as rows and as the ids that are kept.
+-- may be skipped from are accelerated, with needles for each and no others, and start rows are marked, where that was
+-- asked for. Its universal starts are the starts that all contexts have, as rows and as the ids that are kept.
 pub record IsBuilt (s : Settled) (nfa : Nfa) (l : Layout) : Type 0 where
   pub gives : Gives (table_of l) (build_of s nfa)
   pub reached : AreReachedRows (built_modes (build_of s nfa)) (table_of l)
@@ -82,6 +82,7 @@ pub record IsBuilt (s : Settled) (nfa : Nfa) (l : Layout) : Type 0 where
   pub joined : AreJoined l
   pub accelerated : (row : ℕ) → row < row_count l
       → (table_of l).is_accelerated row ≡ (s.accelerate && is_skippable (table_of l) row)
+  pub counted : length l.accels ≡ accel_count l
   pub marked : (row : ℕ) → row < row_count l → (table_of l).is_start row ≡ (s.mark_starts && is_start_row l row)
   pub universal : HasUniversalStarts (table_of l)
   pub universal_ids : l ≡ with_universal_starts l

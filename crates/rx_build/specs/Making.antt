@@ -1,10 +1,10 @@
 -- A table on its way through a build, step by step.
-use Rattle.std.specs.Prelude.{ℕ, ◌≡◌, ◌<◌, ◌&&◌, Bool, true, false}
+use Rattle.std.specs.Prelude.{ℕ, ◌≡◌, ◌<◌, ◌&&◌, Bool, true, false, length}
 use Rattle.rx_spec.specs.Builds.{Build, built_modes}
 use Rattle.rx_spec.specs.Labels.{Gives}
 use Rattle.rx_spec.specs.Power.{IsPower}
 use Rattle.rx_dense.specs.Layouts.{Layout, row_count, table_of}
-use Rattle.rx_order.specs.RowOrder.{IsInOrder, IsPlain, AreJoined, is_start_row, is_skippable}
+use Rattle.rx_order.specs.RowOrder.{IsInOrder, IsPlain, AreJoined, accel_count, is_start_row, is_skippable}
 use Rattle.rx_minimize.specs.Minimized.{AreReachedRows}
 use Rattle.rx_build.specs.Built.{AreApart}
 
@@ -24,6 +24,7 @@ pub record IsMade (b : Build) (s : Steps) (begun l : Layout) : Type 0 where
   pub joined : AreJoined l
   pub accelerated : (row : ℕ) → row < row_count l
       → (table_of l).is_accelerated row ≡ (s.accelerate && is_skippable (table_of l) row)
+  pub counted : length l.accels ≡ accel_count l
   pub marked : (row : ℕ) → row < row_count l → (table_of l).is_start row ≡ (s.mark_starts && is_start_row l row)
   pub rest : l ≡ record begun {
     words = l.words;

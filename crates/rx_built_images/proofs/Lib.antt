@@ -9,3 +9,5 @@ pub mod WholeStarts
 pub mod WholeLists
 pub mod WholeAccels
 pub mod Whole
+-- so each built table has a layout that can be read
+pub mod BuiltTables

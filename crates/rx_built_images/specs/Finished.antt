@@ -2,8 +2,7 @@
 use Rattle.std.specs.Prelude.{◌≡◌, ◌^◌, ◌<◌, length}
 use Rattle.rx_dense.specs.Builder.{with_universal_starts}
 use Rattle.rx_dense.specs.Layouts.{IsShaped, Layout}
-use Rattle.rx_order.specs.RowOrder.{AreJoined, IsInOrder}
-use Rattle.rx_dense_image.specs.Closing.{range_len}
+use Rattle.rx_order.specs.RowOrder.{AreJoined, IsInOrder, accel_count}
 
 -- A sound table in order: its lists of patterns are those of its match rows, one behind another; it has needles for
 -- each accelerated row and no others; its universal starts are what its start entries have in common; and no bit of its
@@ -12,6 +11,6 @@ pub record IsFinished (l : Layout) : Type 0 where
   pub shaped : IsShaped l
   pub in_order : IsInOrder l
   pub joined : AreJoined l
-  pub counted : length l.accels ≡ range_len l l.special.min_accel l.special.max_accel
+  pub counted : length l.accels ≡ accel_count l
   pub universal : l ≡ with_universal_starts l
   pub quit : l.quit < 2 ^ 256

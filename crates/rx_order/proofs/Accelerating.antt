@@ -21,7 +21,7 @@ use Rattle.rx_dense.proofs.Shaped.{rows_kept, starts_kept}
 use Rattle.rx_order.specs.ByKind.{AreByKind, AreKinds, leaving_of}
 use Rattle.rx_order.specs.Moved.{IsReordered}
 use Rattle.rx_order.specs.Ordering.{IsAccelerated, IsRouted}
-use Rattle.rx_order.specs.RowOrder.{IsInOrder, IsPlain, are_needles, is_marked, is_skippable, is_start_row}
+use Rattle.rx_order.specs.RowOrder.{IsInOrder, IsPlain, accel_count, are_needles, is_marked, is_skippable, is_start_row}
 use Rattle.rx_order.specs.SpecialIds.{special_ids}
 use Rattle.rx_order.proofs.Leaving.{leaving_is}
 use Rattle.rx_order.proofs.MarkedRows.{start_row_plain}
@@ -415,6 +415,43 @@ module _ {old : Layout} {kinds rows ends : List ℕ} {lists : List (List ℕ)} {
         subst (λ (xs : List ℕ). length xs ≤ 3) (sym (skips place b e)) parts.1;
   }
 
+  -- there are as many lists of needles as there are accelerated rows
+  counted : length m.accels ≡ accel_count m
+  unfolding accels_list
+  counted =
+      let first : ℕ = slice_index ends 2 in
+      let last : ℕ = slice_index ends 5 in
+      let own : length m.accels ≡ last - first =
+      ap length accels_are
+      ∙ length-map-range_with_len (λ place. leaving_of (table_of old) (slice_index rows place)) first (last - first) in
+      ⊎_elim
+      (λ (h : first < last).
+      let min_is : m.special.min_accel ≡ first * stride old =
+      ap (λ (k : Special). k.min_accel) (special_is arranged)
+      ∙ ap (λ b. if b then first * stride old else 0) (lt-ltb first last h) in
+      let max_is : m.special.max_accel ≡ (last - 1) * stride old =
+      ap (λ (k : Special). k.max_accel) (special_is arranged)
+      ∙ ap (λ b. if b then (last - 1) * stride old else 0) (lt-ltb first last h) in
+      let high = end_high arranged 2 (omega arith) (omega arith) in
+      let above : 0 < first * stride old =
+      omega (arith, row_fits 0 (stride old) first (stride old) (omega (arith, high)) (omega arith), some arranged) in
+      let other : m.special.min_accel ≡ 0 → ⊥ = λ e. absurd (omega (arith, e, min_is, above)) in
+      let upto : first ≤ last - 1 = omega (arith, h) in
+      let places : place_in_range m m.special.min_accel m.special.max_accel ≡ last - 1 - first =
+      (λ i. (max_is i - min_is i) / stride_same arranged i)
+      ∙ place_from first (last - 1) (stride old) (some arranged) upto in
+      sym (ap (λ b. if b then 0 else place_in_range m m.special.min_accel m.special.max_accel + 1)
+      (ne_eqb m.special.min_accel 0 other)
+      ∙ omega (arith, places, own, h)))
+      (λ (h : last ≤ first).
+      let min_is : m.special.min_accel ≡ 0 =
+      ap (λ (k : Special). k.min_accel) (special_is arranged)
+      ∙ ap (λ b. if b then first * stride old else 0) (le-ltb first last h) in
+      own ∙ omega (arith, h)
+      ∙ sym (ap (λ b. if b then 0 else place_in_range m m.special.min_accel m.special.max_accel + 1)
+      (eq-eqb m.special.min_accel 0 min_is)))
+      (cases_lt first last)
+
   -- ---- marks
 
   -- a marked table has a start row, whose kind is marked
@@ -510,6 +547,7 @@ module _ {old : Layout} {kinds rows ends : List ℕ} {lists : List (List ℕ)} {
     };
     labels = told;
     accelerated = accelerated;
+    counted = counted;
     starts = λ row h.
         start_row_is arranged (number arranged row) (number_below arranged.reordered arranged.before row h)
         ∙ ap (is_start_row old) (row_at_number arranged.reordered arranged.before row h);

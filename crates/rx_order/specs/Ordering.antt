@@ -10,7 +10,7 @@ use Rattle.rx_spec.specs.Queries.{Anchored}
 use Rattle.rx_spec.specs.Tables.{Table}
 use Rattle.rx_spec.specs.declared.Start.{Start}
 use Rattle.rx_dense.specs.Layouts.{Layout, IsRowId, table_of, row_count, stride}
-use Rattle.rx_order.specs.RowOrder.{IsOrdered, AreJoined, IsInOrder, is_marked, is_start_row, is_skippable}
+use Rattle.rx_order.specs.RowOrder.{IsOrdered, AreJoined, IsInOrder, accel_count, is_marked, is_start_row, is_skippable}
 use Rattle.rx_order.specs.Permuted.{IsPermuted}
 
 -- the patterns of match rows, by the rows' ids
@@ -64,8 +64,8 @@ pub record IsShuffled (old : Layout) (matches : Matches) (new : Layout) : Type 0
     special = new.special;
   }
 
--- Exactly the rows that may be skipped from are accelerated; the rows lie in their order, tell what they told, and are
--- marked as they were.
+-- Exactly the rows that may be skipped from are accelerated, and there are needles for each of them and no others; the
+-- rows lie in their order, tell what they told, and are marked as they were.
 pub record IsAccelerated (old new : Layout) : Type 0 where
   pub numbers : List ℕ
   pub permuted : IsPermuted numbers (table_of old) (table_of new)
@@ -73,6 +73,7 @@ pub record IsAccelerated (old new : Layout) : Type 0 where
       → (table_of new).machine.label (slice_index numbers row) ≡ (table_of old).machine.label row
   pub accelerated : (row : ℕ) → row < row_count new
       → (table_of new).is_accelerated row ≡ is_skippable (table_of new) row
+  pub counted : length new.accels ≡ accel_count new
   pub starts : (row : ℕ) → row < row_count old
       → is_start_row new (slice_index numbers row) ≡ is_start_row old row
   pub marked : is_marked new ≡ is_marked old

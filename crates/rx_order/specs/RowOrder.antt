@@ -78,6 +78,11 @@ pub record IsInOrder (l : Layout) : Type 0 where
 
 -- ---- acceleration
 
+-- how many rows are accelerated
+abbrev pub accel_count : Layout → ℕ
+accel_count l =
+    if l.special.min_accel == 0 then 0 else place_in_range l l.special.min_accel l.special.max_accel + 1
+
 -- one to three bytes, none of them a space
 abbrev pub are_needles : List ℕ → Bool
 are_needles bytes =
