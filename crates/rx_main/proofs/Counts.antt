@@ -12,7 +12,7 @@ use Rattle.std.proofs.lemmas.Fmt.{digits_decimal, first_decimal, parse-decimal}
 use Rattle.std.proofs.lemmas.Str.{IsUtf8-from_ascii}
 use Rattle.std.proofs.lemmas.Str.Parse.{IsNumeralModel, digit_at, numerals_by_value, parse_plain, tells_digits}
 
-own : IsNumeralModel (AllDigits 10) (digits_value 10)
+pub own : IsNumeralModel (AllDigits 10) (digits_value 10)
 own = numerals_by_value (AllDigits 10) tells_digits
 
 -- a count, and the word for it
@@ -80,3 +80,14 @@ two_words (w ∷ []) word other n e f = absurd (omega arith)
 two_words (w ∷ (v ∷ [])) word other n e f =
     ap (λ x. x ∷ (v ∷ [])) (same_Some w word e) ∙ ap (λ x. word ∷ (x ∷ [])) (same_Some v other f)
 two_words (w ∷ (v ∷ (u ∷ ws))) word other n e f = absurd (omega arith)
+
+pub three_words : (words : List (List ℕ)) (word other third : List ℕ) → length words ≡ 3
+    → slice_get words 0 ≡ Some word → slice_get words 1 ≡ Some other → slice_get words 2 ≡ Some third
+    → words ≡ word ∷ (other ∷ (third ∷ []))
+three_words [] word other third n e f g = absurd (omega arith)
+three_words (w ∷ []) word other third n e f g = absurd (omega arith)
+three_words (w ∷ (v ∷ [])) word other third n e f g = absurd (omega arith)
+three_words (w ∷ (v ∷ (u ∷ []))) word other third n e f g =
+    ap (λ x. x ∷ (v ∷ (u ∷ []))) (same_Some w word e) ∙ ap (λ x. word ∷ (x ∷ (u ∷ []))) (same_Some v other f)
+    ∙ ap (λ x. word ∷ (other ∷ (x ∷ []))) (same_Some u third g)
+three_words (w ∷ (v ∷ (u ∷ (t ∷ ws)))) word other third n e f g = absurd (omega arith)

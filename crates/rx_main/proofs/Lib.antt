@@ -1,13 +1,18 @@
 -- sources and sinks, piece by piece
 pub mod Transfers
 pub mod TakenReplies
--- the number of a command line
+-- the words of a command line, and its number
 pub mod Counts
+pub mod CommandWords
 -- builds that are refused, and the numbers of rows
 pub mod Refusals
 pub mod RowCounts
+-- scripts that ask something
+pub mod Asking
 -- the search for a match
 pub mod FindAnswers
+-- tests of reading
+pub mod CheckAnswers
 -- matches one after another
 pub mod Matches
 -- a search of the usual plan, and of generated patterns

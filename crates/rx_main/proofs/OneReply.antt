@@ -1,97 +1,119 @@
--- At most one reply fits a command line and the bytes that were taken, but that a refused build names any cause.
-use Rattle.std.proofs.Common.{◌≡◌, ◌⊎◌, inl, inr, ℕ, ◌+◌, ◌<◌, ◌≤◌, Bool, true, List, [], length, get_or, lit<}
+-- At most one reply fits a command line and the bytes that were taken, but that a refused build names any cause, and
+-- that an image is any of a table of the plan.
+use Rattle.std.proofs.Common.{◌≡◌, ◌⊎◌, inl, inr, ℕ, ◌+◌, ◌≤◌, Bool, true, false, List, [], length}
 use Rattle.std.proofs.Common.{Option, Some, Result, Ok, Err, refl, sym, ap, ◌∙◌, arith, subst}
-use Rattle.std.proofs.lemmas.Fmt.{decimal_injective}
 use Rattle.rx_spec.specs.Expressions.{Expression}
-use Rattle.rx_spec.specs.Plans.{Plan, Cause}
+use Rattle.rx_spec.specs.Plans.{Plan, Cause, DirectionFits, DirectionRefused}
 use Rattle.rx_spec.specs.Queries.{Query, Match, MatchError}
+use Rattle.rx_spec.specs.declared.Direction.{Direction}
 use Rattle.rx_spec.specs.declared.Form.{Form}
+use Rattle.rx_plan.specs.Plan.{plan_of, usual}
+use Rattle.rx_regex.specs.Find.{PlanFits, PlanRefused}
 use Rattle.rx_regex.specs.Plan.{IsBuilt}
 use Rattle.rx_script.specs.Faults.{Fault}
 use Rattle.rx_script.specs.Grammar.{Spelled}
 use Rattle.rx_script.specs.Reading.{script_of}
 use Rattle.rx_script.proofs.ScriptRead.{script_read}
-use Rattle.rx_main.specs.Commands.{Says, is_reading, words_of}
+use Rattle.rx_wire.specs.declared.order.Order.{Order}
+use Rattle.rx_main.specs.Commands.{Says}
 use Rattle.rx_main.specs.Lines.{Reply, IsRefusal, fault_reply, unbuilt_reply, error_reply}
-use Rattle.rx_main.specs.Scripts.{Asks, BuildReplies, IsAnswered, IsTurnedDown, ScriptReplies}
+use Rattle.rx_main.specs.Scripts.{AskedReplies, BuildReplies, IsScript, IsTurnedDown, PlanReplies, ScriptReplies}
 use Rattle.rx_main.specs.Find.{FindAnswers, found_reply, rows_text}
 use Rattle.rx_main.specs.Each.{EachAnswers}
-use Rattle.rx_main.specs.Replies.{CommandReplies, Replies, SayTheSame, most_bytes}
+use Rattle.rx_main.specs.Image.{ImageAnswers, IsImageReply}
+use Rattle.rx_main.specs.Replies.{CommandReplies, ReadReplies, Replies, SayTheSame, most_bytes}
 use Rattle.rx_main.specs.declared.command.Command.{Command}
-use Rattle.rx_main.proofs.Refusals.{refused_not}
+use Rattle.rx_main.specs.declared.command.ReadCommand.{ReadCommand}
+use Rattle.rx_main.proofs.CommandWords.{spelled_once}
+use Rattle.rx_main.proofs.Refusals.{direction_refused_not, plan_refused_not}
 use Rattle.rx_main.proofs.RowCounts.{rows_once}
 
--- ---- tables that are built
-
-any_cause : {Refused : Cause → Type 0} (reply : Reply) → IsRefusal Refused reply
-    → IsRefusal (λ (cause : Cause). Unit {0}) reply
-any_cause reply h = record { cause = h.cause; refused = tt; told = h.told }
-
+-- any two answers are one, or say the same
 abbrev IsOne : (Reply → Type 0) → Type 0
 IsOne Answers = (reply other : Reply) → Answers reply → Answers other → reply ≡ other
 
-built_once : {p : Plan} {es : List Expression} {Answers : Reply → Type 0} (reply other : Reply)
-    → p.form ≡ Form.Dense → IsOne Answers
-    → BuildReplies p es Answers reply → BuildReplies p es Answers other → SayTheSame reply other
-built_once reply other dense one (BuildReplies.Refused h) (BuildReplies.Refused k) =
-    inr (any_cause reply h, any_cause other k)
-built_once reply other dense one (BuildReplies.Refused h) (BuildReplies.Answered fits k) =
-    absurd (refused_not dense h fits)
-built_once reply other dense one (BuildReplies.Answered fits h) (BuildReplies.Refused k) =
-    absurd (refused_not dense k fits)
-built_once reply other dense one (BuildReplies.Answered fits h) (BuildReplies.Answered also k) =
-    inl (one reply other h k)
+abbrev AreAlike : (Reply → Type 0) → Type 0
+AreAlike Answers = (reply other : Reply) → Answers reply → Answers other → SayTheSame reply other
+
+alike_if_one : (Answers : Reply → Type 0) → IsOne Answers → AreAlike Answers
+alike_if_one Answers one reply other h k = SayTheSame.Same (one reply other h k)
+
+-- ---- what is built
+
+any_cause : (Refused : Cause → Type 0) (reply : Reply) → IsRefusal Refused reply
+    → IsRefusal (λ (cause : Cause). Unit {0}) reply
+any_cause Refused reply h = record { cause = h.cause; refused = tt; told = h.told }
+
+module _ (Refused : Cause → Type 0) (Fits : Type 0) (apart : (reply : Reply) → IsRefusal Refused reply → Fits → ⊥) where
+  built_alike : (Answers : Reply → Type 0) → AreAlike Answers → AreAlike (BuildReplies Refused Fits Answers)
+  built_alike Answers alike reply other (BuildReplies.Refused h) (BuildReplies.Refused k) =
+      SayTheSame.Refusals (any_cause Refused reply h) (any_cause Refused other k)
+  built_alike Answers alike reply other (BuildReplies.Refused h) (BuildReplies.Answered fits k) =
+      absurd (apart reply h fits)
+  built_alike Answers alike reply other (BuildReplies.Answered fits h) (BuildReplies.Refused k) =
+      absurd (apart other k fits)
+  built_alike Answers alike reply other (BuildReplies.Answered fits h) (BuildReplies.Answered also k) =
+      alike reply other h k
+
+plan_alike : (p : Plan) (es : List Expression) (Answers : Reply → Type 0) → p.form ≡ Form.Dense → IsOne Answers
+    → AreAlike (PlanReplies p es Answers)
+plan_alike p es Answers dense one =
+    built_alike (PlanRefused p es) (PlanFits p es) (plan_refused_not dense) Answers (alike_if_one Answers one)
 
 -- ---- scripts
 
 -- the reply to what was read
-abbrev Told : (Spelled → Query → Reply → Type 0) → Result Spelled Fault → Reply → Type 0
+abbrev Told : (Spelled → Reply → Type 0) → Result Spelled Fault → Reply → Type 0
 Told Answers (Err fault) reply = reply ≡ fault_reply fault.line fault.kind
-Told Answers (Ok script) reply = (q : Query) × (script.asked ≡ Some q)
-    × (((IsBuilt script.plan → ⊥) × (reply ≡ unbuilt_reply)) ⊎ IsAnswered Answers reply script q)
+Told Answers (Ok script) reply =
+    ((IsBuilt script.plan → ⊥) × (reply ≡ unbuilt_reply)) ⊎ (IsBuilt script.plan × Answers script reply)
 
-module _ (Answers : Spelled → Query → Reply → Type 0) (text : List ℕ) where
-  asks_told : (reply : Reply) (P : Spelled → Query → Type 0)
-      → ((script : Spelled) (q : Query) → P script q
-      → ((IsBuilt script.plan → ⊥) × (reply ≡ unbuilt_reply)) ⊎ IsAnswered Answers reply script q)
-      → Asks text P → Told Answers (script_of true text) reply
-  asks_told reply P each asks =
+module _ (with_input : Bool) (Answers : Spelled → Reply → Type 0) (text : List ℕ) where
+  script_told : (reply : Reply) (P : Spelled → Type 0)
+      → ((script : Spelled) → P script → Told Answers (Ok script) reply) → IsScript with_input text P
+      → Told Answers (script_of with_input text) reply
+  script_told reply P each is =
       subst (λ (read : Result Spelled Fault). Told Answers read reply)
-      (sym (script_read true text asks.script asks.spelled))
-      (asks.query, asks.asked, each asks.script asks.query asks.holds)
+      (sym (script_read with_input text is.script is.spelled)) (each is.script is.holds)
 
-  told : (reply : Reply) → ScriptReplies Answers text reply → Told Answers (script_of true text) reply
+  told : (reply : Reply) → ScriptReplies with_input Answers text reply
+      → Told Answers (script_of with_input text) reply
   told reply (ScriptReplies.TurnedDown (IsTurnedDown.Bad line kind read e)) =
       subst (λ (read : Result Spelled Fault). Told Answers read reply) (sym read) e
-  told reply (ScriptReplies.TurnedDown (IsTurnedDown.Unbuilt asks e)) =
-      asks_told reply _ (λ script q holds. inl (holds, e)) asks
-  told reply (ScriptReplies.Answered asks) = asks_told reply _ (λ script q holds. inr holds) asks
+  told reply (ScriptReplies.TurnedDown (IsTurnedDown.Unbuilt is e)) =
+      script_told reply _ (λ script holds. inl (holds, e)) is
+  told reply (ScriptReplies.Answered is) = script_told reply _ (λ script holds. inr holds) is
 
-  same_query : (asked : Option Query) (q other : Query) → asked ≡ Some q → asked ≡ Some other → other ≡ q
-  same_query asked q other e f = cc
+  answered_alike : (script : Spelled) (reply other : Reply) → (IsBuilt script.plan → AreAlike (Answers script))
+      → Told Answers (Ok script) reply → Told Answers (Ok script) other → SayTheSame reply other
+  answered_alike script reply other alike (inl h) (inl k) = SayTheSame.Same (h.1 ∙ sym k.1)
+  answered_alike script reply other alike (inl h) (inr k) = absurd (h.0 k.0)
+  answered_alike script reply other alike (inr h) (inl k) = absurd (k.0 h.0)
+  answered_alike script reply other alike (inr h) (inr k) = alike h.0 reply other h.1 k.1
 
-  answered_once : (script : Spelled) (q : Query) (reply other : Reply) → IsOne (Answers script q)
-      → ((IsBuilt script.plan → ⊥) × (reply ≡ unbuilt_reply)) ⊎ IsAnswered Answers reply script q
-      → ((IsBuilt script.plan → ⊥) × (other ≡ unbuilt_reply)) ⊎ IsAnswered Answers other script q
-      → SayTheSame reply other
-  answered_once script q reply other one (inl h) (inl k) = inl (h.1 ∙ sym k.1)
-  answered_once script q reply other one (inl h) (inr k) = absurd (h.0 k.0)
-  answered_once script q reply other one (inr h) (inl k) = absurd (k.0 h.0)
-  answered_once script q reply other one (inr h) (inr k) = built_once reply other h.0.form one h.1 k.1
-
-  told_once : (read : Result Spelled Fault) (reply other : Reply)
-      → ((script : Spelled) (q : Query) → IsOne (Answers script q))
+  told_alike : (read : Result Spelled Fault) (reply other : Reply)
+      → ((script : Spelled) → IsBuilt script.plan → AreAlike (Answers script))
       → Told Answers read reply → Told Answers read other → SayTheSame reply other
-  told_once (Err fault) reply other one h k = inl (h ∙ sym k)
-  told_once (Ok script) reply other one h k =
-      answered_once script h.0 reply other (one script h.0) h.2
-      (subst
-      (λ (q : Query). ((IsBuilt script.plan → ⊥) × (other ≡ unbuilt_reply)) ⊎ IsAnswered Answers other script q)
-      (same_query script.asked h.0 k.0 h.1 k.1) k.2)
+  told_alike (Err fault) reply other alike h k = SayTheSame.Same (h ∙ sym k)
+  told_alike (Ok script) reply other alike h k = answered_alike script reply other (alike script) h k
 
-  script_once : (reply other : Reply) → ((script : Spelled) (q : Query) → IsOne (Answers script q))
-      → ScriptReplies Answers text reply → ScriptReplies Answers text other → SayTheSame reply other
-  script_once reply other one h k = told_once (script_of true text) reply other one (told reply h) (told other k)
+  script_alike : ((script : Spelled) → IsBuilt script.plan → AreAlike (Answers script))
+      → AreAlike (ScriptReplies with_input Answers text)
+  script_alike alike reply other h k =
+      told_alike (script_of with_input text) reply other alike (told reply h) (told other k)
+
+-- ---- what is asked
+
+same_query : (asked : Option Query) (q other : Query) → asked ≡ Some q → asked ≡ Some other → other ≡ q
+same_query asked q other e f = cc
+
+asked_alike : (Answers : Spelled → Query → Reply → Type 0) → ((script : Spelled) (q : Query) → IsOne (Answers script q))
+    → (script : Spelled) → IsBuilt script.plan → AreAlike (AskedReplies Answers script)
+asked_alike Answers one script built reply other h k =
+    plan_alike (plan_of script.plan) script.exprs (Answers script h.query) built.form (one script h.query) reply other
+    h.replies
+    (subst (λ (q : Query). PlanReplies (plan_of script.plan) script.exprs (Answers script q) other)
+    (same_query script.asked h.query k.query h.asked k.asked) k.replies)
 
 -- ---- what is found
 
@@ -126,75 +148,63 @@ find_once script q reply other (FindAnswers.Fails error e h) (FindAnswers.Fails 
 each_once : (script : Spelled) (q : Query) → IsOne (EachAnswers script q)
 each_once script q reply other h k = h ∙ sym k
 
+-- ---- images
+
+image_alike : (direction : Direction) (order : Order) (script : Spelled) → IsBuilt script.plan
+    → AreAlike (ImageAnswers direction order script)
+image_alike direction order script built =
+    let p = plan_of script.plan in
+    built_alike (DirectionRefused p direction script.exprs) (DirectionFits p direction script.exprs)
+    (direction_refused_not built.form direction) (IsImageReply p direction script.exprs order)
+    (λ reply other h k. SayTheSame.Images p direction script.exprs order h k)
+
 -- ---- commands
 
-command_once : (command : Command) (bytes : List ℕ) (ended also : Bool) (reply other : Reply)
+read_alike : (command : ReadCommand) (bytes : List ℕ) → AreAlike (ReadReplies command bytes)
+read_alike ReadCommand.Find bytes =
+    script_alike true (AskedReplies FindAnswers) bytes (asked_alike FindAnswers find_once)
+read_alike ReadCommand.Each bytes =
+    script_alike true (AskedReplies EachAnswers) bytes (asked_alike EachAnswers each_once)
+read_alike (ReadCommand.Image direction order) bytes =
+    script_alike false (ImageAnswers direction order) bytes (image_alike direction order)
+read_alike ReadCommand.Check bytes = λ reply other h k. SayTheSame.Same (h ∙ sym k)
+
+command_alike : (command : Command) (bytes : List ℕ) (ended also : Bool) (reply other : Reply)
     → CommandReplies command bytes ended reply → CommandReplies command bytes also other → SayTheSame reply other
-command_once Command.Find bytes ended also reply other h k =
-    script_once FindAnswers bytes reply other find_once h.1 k.1
-command_once Command.Each bytes ended also reply other h k =
-    script_once EachAnswers bytes reply other each_once h.1 k.1
-command_once (Command.Gen count) bytes ended also reply other h k =
-    built_once reply other refl (λ r s e f. e ∙ sym f) h.1 k.1
-
--- the words are at most one command: each begins with another letter
-abbrev first_byte : List (List ℕ) → ℕ
-first_byte words = get_or (get_or words 0 []) 0 0
-
-differ : (command other : Command) (words : List (List ℕ)) → Says words command → Says words other
-    → first_byte (words_of command) < first_byte (words_of other) → ⊥
-differ command other words h k less =
-    let same : first_byte (words_of command) ≡ first_byte (words_of other) =
-    ap first_byte (sym h.spelled ∙ k.spelled) in
-    omega arith
-
-spelled_once : (command other : Command) (words : List (List ℕ)) → Says words command → Says words other
-    → command ≡ other
-spelled_once Command.Find Command.Find words h k = refl
-spelled_once Command.Find Command.Each words h k = absurd (differ Command.Each Command.Find words k h (lit< tt))
-spelled_once Command.Find (Command.Gen n) words h k = absurd (differ Command.Find (Command.Gen n) words h k (lit< tt))
-spelled_once Command.Each Command.Find words h k = absurd (differ Command.Each Command.Find words h k (lit< tt))
-spelled_once Command.Each Command.Each words h k = refl
-spelled_once Command.Each (Command.Gen n) words h k = absurd (differ Command.Each (Command.Gen n) words h k (lit< tt))
-spelled_once (Command.Gen m) Command.Find words h k = absurd (differ Command.Find (Command.Gen m) words k h (lit< tt))
-spelled_once (Command.Gen m) Command.Each words h k = absurd (differ Command.Each (Command.Gen m) words k h (lit< tt))
-spelled_once (Command.Gen m) (Command.Gen n) words h k =
-    ap Command.Gen (decimal_injective m n (omega (arith, h.in_range.1)) (omega (arith, k.in_range.1))
-    (ap (λ (ws : List (List ℕ)). get_or ws 1 []) (sym h.spelled ∙ k.spelled)))
+command_alike (Command.Read command) bytes ended also reply other h k = read_alike command bytes reply other h.1 k.1
+command_alike (Command.Gen count) bytes ended also reply other h k =
+    plan_alike (plan_of usual) _ _ refl (λ r s e f. e ∙ sym f) reply other h.1 k.1
 
 -- a command that reads and is answered read no more than the most
-read_few : (command : Command) (bytes : List ℕ) (ended : Bool) (reply : Reply) → is_reading command ≡ true
-    → CommandReplies command bytes ended reply → length bytes ≤ most_bytes
-read_few Command.Find bytes ended reply reads h = h.0.few
-read_few Command.Each bytes ended reply reads h = h.0.few
-read_few (Command.Gen count) bytes ended reply reads h = absurd (cc)
-
-long_not : (command other : Command) (words : List (List ℕ)) (bytes : List ℕ) (ended : Bool) (reply : Reply)
-    → Says words command → is_reading command ≡ true → length bytes ≡ most_bytes + 1
-    → Says words other → CommandReplies other bytes ended reply → ⊥
-long_not command other words bytes ended reply says reads long also h =
-    let few = read_few other bytes ended reply (ap is_reading (spelled_once other command words also says) ∙ reads) h in
+long_not : (command : ReadCommand) (other : Command) (words : List (List ℕ)) (bytes : List ℕ) (ended : Bool)
+    (reply : Reply) → Says words (Command.Read command) → length bytes ≡ most_bytes + 1 → Says words other
+    → CommandReplies other bytes ended reply → ⊥
+long_not command other words bytes ended reply says long also h =
+    let read = subst (λ (c : Command). CommandReplies c bytes ended reply)
+    (spelled_once other (Command.Read command) words also says) h in
+    let few : length bytes ≤ most_bytes = read.0.few in
     omega arith
 
 -- ---- the reply
 
 pub one_reply : (words : List (List ℕ)) (bytes : List ℕ) (ended also_ended : Bool) (reply other : Reply)
     → Replies words bytes ended reply → Replies words bytes also_ended other → SayTheSame reply other
-one_reply words bytes ended also reply other (Replies.Usage none e h) (Replies.Usage nothing f k) = inl (h ∙ sym k)
-one_reply words bytes ended also reply other (Replies.Usage none e h) (Replies.Long command says reads long k) =
-    absurd (none command says)
+one_reply words bytes ended also reply other (Replies.Usage none e h) (Replies.Usage nothing f k) =
+    SayTheSame.Same (h ∙ sym k)
+one_reply words bytes ended also reply other (Replies.Usage none e h) (Replies.Long command says long k) =
+    absurd (none (Command.Read command) says)
 one_reply words bytes ended also reply other (Replies.Usage none e h) (Replies.Answered command says k) =
     absurd (none command says)
-one_reply words bytes ended also reply other (Replies.Long command says reads long h) (Replies.Usage none f k) =
-    absurd (none command says)
-one_reply words bytes ended also reply other (Replies.Long command says reads long h) (Replies.Long c s r l k) =
-    inl (h ∙ sym k)
-one_reply words bytes ended also reply other (Replies.Long command says reads long h) (Replies.Answered c s k) =
-    absurd (long_not command c words bytes also other says reads long s k)
+one_reply words bytes ended also reply other (Replies.Long command says long h) (Replies.Usage none f k) =
+    absurd (none (Command.Read command) says)
+one_reply words bytes ended also reply other (Replies.Long command says long h) (Replies.Long c s l k) =
+    SayTheSame.Same (h ∙ sym k)
+one_reply words bytes ended also reply other (Replies.Long command says long h) (Replies.Answered c s k) =
+    absurd (long_not command c words bytes also other says long s k)
 one_reply words bytes ended also reply other (Replies.Answered command says h) (Replies.Usage none f k) =
     absurd (none command says)
-one_reply words bytes ended also reply other (Replies.Answered command says h) (Replies.Long c s r l k) =
-    absurd (long_not c command words bytes ended reply s r l says h)
+one_reply words bytes ended also reply other (Replies.Answered command says h) (Replies.Long c s l k) =
+    absurd (long_not c command words bytes ended reply s l says h)
 one_reply words bytes ended also reply other (Replies.Answered command says h) (Replies.Answered c s k) =
-    command_once command bytes ended also reply other h
+    command_alike command bytes ended also reply other h
     (subst (λ (d : Command). CommandReplies d bytes also other) (spelled_once c command words s says) k)

@@ -1,4 +1,4 @@
--- No plan is both refused and built.
+-- A refusal tells its cause, and no plan is both refused and built.
 use Rattle.std.proofs.Common.{◌≡◌, ⊎_elim, ℕ, ◌≤◌, List, Option, subst, arith}
 use Rattle.rx_spec.specs.Expressions.{Expression}
 use Rattle.rx_spec.specs.Nfas.{Nfa}
@@ -10,7 +10,33 @@ use Rattle.rx_spec.specs.Plans.{Plan, Cause, DirectionFits, DirectionRefused, pl
 use Rattle.rx_spec.specs.declared.Direction.{Direction}
 use Rattle.rx_spec.specs.declared.Form.{Form}
 use Rattle.rx_regex.specs.Find.{PlanFits, PlanRefused}
-use Rattle.rx_main.specs.Lines.{Reply, IsRefusal}
+use Rattle.rx_build_error.specs.Refusals.{IsRefused}
+use Rattle.rx_build_error.specs.declared.BuildErrorKind.{BuildErrorKind}
+use Rattle.rx_expr.specs.declared.thompson.build_error.BuildError as nfa
+use Rattle.rx_main.specs.Lines.{Reply, IsRefusal, TellsKind}
+
+pub kind_told : (Refused : Cause → Type 0) (kind : BuildErrorKind) (reply : Reply) → TellsKind kind reply
+    → IsRefused Refused kind → IsRefusal Refused reply
+kind_told Refused (BuildErrorKind.NFA (nfa.BuildError.TooManyPatterns given)) reply told r =
+    let cause = NfaCause.TooManyPatterns given in record { cause = Cause.NFA cause; refused = r; told = told cause }
+kind_told Refused (BuildErrorKind.NFA (nfa.BuildError.TooManyStates given)) reply told r =
+    let cause = NfaCause.TooManyStates given in record { cause = Cause.NFA cause; refused = r; told = told cause }
+kind_told Refused (BuildErrorKind.NFA (nfa.BuildError.ExceededSizeLimit limit)) reply told r =
+    let cause = NfaCause.ExceededSizeLimit limit in record { cause = Cause.NFA cause; refused = r; told = told cause }
+kind_told Refused (BuildErrorKind.NFA nfa.BuildError.Memory) reply told r = absurd r
+kind_told Refused BuildErrorKind.Unsupported reply told r =
+    record { cause = Cause.DFA BuildCause.Unsupported; refused = r; told = told }
+kind_told Refused BuildErrorKind.TooManyStates reply told r =
+    record { cause = Cause.DFA BuildCause.TooManyStates; refused = r; told = told }
+kind_told Refused BuildErrorKind.TooManyMatchPatternIDs reply told r =
+    record { cause = Cause.DFA BuildCause.TooManyMatchPatternIDs; refused = r; told = told }
+kind_told Refused (BuildErrorKind.DFAExceededSizeLimit limit) reply told r =
+    record { cause = Cause.DFA (BuildCause.DFAExceededSizeLimit limit); refused = r; told = told }
+kind_told Refused (BuildErrorKind.DeterminizeExceededSizeLimit limit) reply told r =
+    record { cause = Cause.DFA (BuildCause.DeterminizeExceededSizeLimit limit); refused = r; told = told }
+kind_told Refused BuildErrorKind.Memory reply told r = absurd told
+
+-- ---- refused and built
 
 nfa_fits_not : (limit : Option ℕ) (count : ℕ) (nfa : Nfa) (cause : NfaCause)
     → NfaRefused limit count nfa cause → NfaFits limit count nfa → ⊥
@@ -42,8 +68,12 @@ module _ {p : Plan} {es : List Expression} (dense : p.form ≡ Form.Dense) where
   direction_not direction (Cause.DFA (BuildCause.DeterminizeExceededSizeLimit limit)) h fits =
       fits.build.construction limit h.1.1 h.1.2
 
-  pub refused_not : {reply : Reply} → IsRefusal (PlanRefused p es) reply → PlanFits p es → ⊥
-  refused_not told fits =
+  pub direction_refused_not : (direction : Direction) (reply : Reply)
+      → IsRefusal (DirectionRefused p direction es) reply → DirectionFits p direction es → ⊥
+  direction_refused_not direction reply told fits = direction_not direction told.cause told.refused fits
+
+  pub plan_refused_not : (reply : Reply) → IsRefusal (PlanRefused p es) reply → PlanFits p es → ⊥
+  plan_refused_not reply told fits =
       ⊎_elim
       (λ (h : DirectionRefused p Direction.Forward es told.cause).
       direction_not Direction.Forward told.cause h fits.forward)

@@ -1,11 +1,12 @@
 -- What was taken from a source, and the reply to it.
 use Rattle.std.proofs.Common.{◌≡◌, ℕ, true, false, List, [], length, Option}
 use Rattle.std.specs.Io.KnownBytes.{Consumes, IsAtEnd}
-use Rattle.rx_main.specs.Commands.{Says, is_reading}
+use Rattle.rx_main.specs.Commands.{Says}
 use Rattle.rx_main.specs.Lines.{Reply, long_reply}
 use Rattle.rx_main.specs.Replies.{CommandReplies, Replies}
 use Rattle.rx_main.specs.Run.{Took}
 use Rattle.rx_main.specs.declared.command.Command.{Command}
+use Rattle.rx_main.specs.declared.command.ReadCommand.{ReadCommand}
 use Rattle.rx_main.proofs.Transfers.{consumes_none}
 
 -- nothing
@@ -27,14 +28,14 @@ took_all {words} {command} before after bytes reply says taken end h = record {
 }
 
 -- one byte more than is read
-pub took_long : {words : List (List ℕ)} {command : Command} (before after : Option (List ℕ)) (reply : Reply)
-    → Says words command → is_reading command ≡ true
+pub took_long : {words : List (List ℕ)} {command : ReadCommand} (before after : Option (List ℕ)) (reply : Reply)
+    → Says words (Command.Read command)
     → (bytes : List ℕ) × (length bytes ≡ 16777217) × Consumes before after bytes → reply ≡ long_reply
     → Took words before after reply
-took_long {words} {command} before after reply says reads taken e = record {
+took_long {words} {command} before after reply says taken e = record {
   bytes = taken.0;
   ended = false;
   taken = taken.2;
   at_end = λ h. absurd (cc);
-  replies = Replies.Long command says reads taken.1 e;
+  replies = Replies.Long command says taken.1 e;
 }

@@ -1,12 +1,30 @@
 -- Command lines: the words after the program's name.
-use Rattle.std.specs.Prelude.{ℕ, ◌≡◌, ◌≤◌, Bool, true, false, List, [], ◌∷◌, codes}
+use Rattle.std.specs.Prelude.{ℕ, ◌≡◌, ◌≤◌, List, [], ◌∷◌, codes}
 use Rattle.std.specs.Fmt.{decimal}
+use Rattle.rx_spec.specs.declared.Direction.{Direction}
+use Rattle.rx_wire.specs.declared.order.Order.{Order}
 use Rattle.rx_main.specs.declared.command.Command.{Command}
+use Rattle.rx_main.specs.declared.command.ReadCommand.{ReadCommand}
+
+-- a direction, and an order of the bytes of a number
+abbrev pub direction_word : Direction → List ℕ
+direction_word Direction.Forward = codes "fwd"
+direction_word Direction.Reverse = codes "rev"
+
+abbrev pub order_word : Order → List ℕ
+order_word Order.Little = codes "le"
+order_word Order.Big = codes "be"
 
 -- the words by which a command is asked for
+abbrev pub read_words : ReadCommand → List (List ℕ)
+read_words ReadCommand.Find = codes "find" ∷ []
+read_words ReadCommand.Each = codes "each" ∷ []
+read_words (ReadCommand.Image direction order) =
+    codes "image" ∷ (direction_word direction ∷ (order_word order ∷ []))
+read_words ReadCommand.Check = codes "check" ∷ (codes "dense" ∷ [])
+
 abbrev pub words_of : Command → List (List ℕ)
-words_of Command.Find = codes "find" ∷ []
-words_of Command.Each = codes "each" ∷ []
+words_of (Command.Read command) = read_words command
 words_of (Command.Gen count) = codes "gen" ∷ (decimal count ∷ [])
 
 -- patterns are generated from one to a thousand
@@ -15,7 +33,7 @@ most_patterns = 1000
 
 abbrev pub IsInRange : Command → Type 0
 IsInRange (Command.Gen count) = (1 ≤ count) × (count ≤ most_patterns)
-IsInRange _ = Unit {0}
+IsInRange (Command.Read command) = Unit {0}
 
 -- the words are this command
 pub record Says (words : List (List ℕ)) (command : Command) : Type 0 where
@@ -25,8 +43,3 @@ pub record Says (words : List (List ℕ)) (command : Command) : Type 0 where
 -- they are none
 abbrev pub SaysNothing : List (List ℕ) → Type 0
 SaysNothing words = (command : Command) → Says words command → ⊥
-
--- whether a command reads the source: to its end, or one byte past the most that it takes
-abbrev pub is_reading : Command → Bool
-is_reading (Command.Gen count) = false
-is_reading _ = true

@@ -1,5 +1,5 @@
 -- What the command `each` replies to the bytes of a script: the matches one after another.
-use Rattle.std.specs.Prelude.{ℕ, ◌≡◌, Option, Some, None, List, [], ◌∷◌}
+use Rattle.std.specs.Prelude.{ℕ, ◌≡◌, true, Option, Some, None, List, [], ◌∷◌}
 use Rattle.std.specs.List.{flat_map}
 use Rattle.rx_spec.specs.Iterating.{FoundMatches, iterate}
 use Rattle.rx_spec.specs.Plans.{outcome}
@@ -7,7 +7,7 @@ use Rattle.rx_spec.specs.Queries.{Query, Match, MatchError}
 use Rattle.rx_plan.specs.Plan.{plan_of}
 use Rattle.rx_script.specs.Grammar.{Spelled}
 use Rattle.rx_main.specs.Lines.{Reply, match_line, none_line, error_reply}
-use Rattle.rx_main.specs.Scripts.{ScriptReplies}
+use Rattle.rx_main.specs.Scripts.{AskedReplies, ScriptReplies}
 
 -- A line for each match. Where an error ends them, its line comes last; where there are neither, that is said.
 abbrev pub matches_reply : List Match → Option MatchError → Reply
@@ -23,4 +23,4 @@ abbrev pub EachAnswers : Spelled → Query → Reply → Type 0
 EachAnswers script q reply = reply ≡ each_reply (iterate (outcome (plan_of script.plan) script.exprs) q)
 
 abbrev pub EachReplies : List ℕ → Reply → Type 0
-EachReplies text reply = ScriptReplies EachAnswers text reply
+EachReplies text reply = ScriptReplies true (AskedReplies EachAnswers) text reply

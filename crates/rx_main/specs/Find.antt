@@ -6,7 +6,7 @@ use Rattle.rx_plan.specs.Plan.{plan_of}
 use Rattle.rx_regex.specs.Rows.{HaveRows}
 use Rattle.rx_script.specs.Grammar.{Spelled}
 use Rattle.rx_main.specs.Lines.{Reply, match_line, none_line, rows_line, error_reply}
-use Rattle.rx_main.specs.Scripts.{ScriptReplies}
+use Rattle.rx_main.specs.Scripts.{AskedReplies, ScriptReplies}
 
 abbrev pub found_line : Option Match → List ℕ
 found_line None = none_line
@@ -35,4 +35,4 @@ pub data FindAnswers (script : Spelled) (q : Query) (reply : Reply) : Type 0 whe
       → FindAnswers script q reply
 
 abbrev pub FindReplies : List ℕ → Reply → Type 0
-FindReplies text reply = ScriptReplies FindAnswers text reply
+FindReplies text reply = ScriptReplies true (AskedReplies FindAnswers) text reply

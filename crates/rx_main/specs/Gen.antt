@@ -10,7 +10,7 @@ use Rattle.rx_spec.specs.Queries.{Anchored, Query, Match}
 use Rattle.rx_expr.specs.Expr.{literal_of}
 use Rattle.rx_plan.specs.Plan.{plan_of, usual}
 use Rattle.rx_main.specs.Lines.{Reply, newline}
-use Rattle.rx_main.specs.Scripts.{BuildReplies}
+use Rattle.rx_main.specs.Scripts.{PlanReplies}
 
 -- ---- what is searched
 
@@ -62,4 +62,4 @@ gen_reply count matches = counts_reply count (length matches) (sum_by (λ m. m.p
 
 abbrev pub GenReplies : ℕ → Reply → Type 0
 GenReplies count reply =
-    BuildReplies (plan_of usual) (gen_patterns count) (λ r. r ≡ gen_reply count (gen_matches count)) reply
+    PlanReplies (plan_of usual) (gen_patterns count) (λ r. r ≡ gen_reply count (gen_matches count)) reply

@@ -5,6 +5,8 @@ pub mod Lines
 pub mod Scripts
 pub mod Find
 pub mod Each
+pub mod Image
+pub mod Check
 pub mod Gen
 -- what is answered, and what a run leaves
 pub mod Replies

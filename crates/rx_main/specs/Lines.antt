@@ -2,8 +2,9 @@
 use Rattle.std.specs.Prelude.{ℕ, ◌≡◌, ◌+◌, ◌/◌, ◌%◌, nat_lt, if◌then◌else◌, List, [], ◌∷◌, ◌++◌, codes}
 use Rattle.std.specs.Fmt.{decimal}
 use Rattle.rx_spec.specs.Queries.{Anchored, Match, MatchError}
-use Rattle.rx_spec.specs.Causes.{BuildCause}
+use Rattle.rx_spec.specs.Causes.{BuildCause, NfaCause}
 use Rattle.rx_spec.specs.Plans.{Cause}
+use Rattle.rx_build_error.specs.declared.BuildErrorKind.{BuildErrorKind}
 use Rattle.rx_script.specs.Faults.{kind_name}
 use Rattle.rx_script.specs.declared.fault.BadKind.{BadKind}
 
@@ -46,6 +47,19 @@ cause_name (Cause.DFA (BuildCause.DeterminizeExceededSizeLimit limit)) = codes "
 
 abbrev pub refusal_reply : Cause → Reply
 refusal_reply cause = record { text = codes "build " ++ (cause_name cause ++ newline); status = 3 }
+
+-- A refused build is told by its kind: by one word for any cause of an NFA, and want of memory not at all.
+abbrev pub TellsKind : BuildErrorKind → Reply → Type 0
+TellsKind (BuildErrorKind.NFA error) reply = (cause : NfaCause) → reply ≡ refusal_reply (Cause.NFA cause)
+TellsKind BuildErrorKind.Unsupported reply = reply ≡ refusal_reply (Cause.DFA BuildCause.Unsupported)
+TellsKind BuildErrorKind.TooManyStates reply = reply ≡ refusal_reply (Cause.DFA BuildCause.TooManyStates)
+TellsKind BuildErrorKind.TooManyMatchPatternIDs reply =
+    reply ≡ refusal_reply (Cause.DFA BuildCause.TooManyMatchPatternIDs)
+TellsKind (BuildErrorKind.DFAExceededSizeLimit limit) reply =
+    reply ≡ refusal_reply (Cause.DFA (BuildCause.DFAExceededSizeLimit limit))
+TellsKind (BuildErrorKind.DeterminizeExceededSizeLimit limit) reply =
+    reply ≡ refusal_reply (Cause.DFA (BuildCause.DeterminizeExceededSizeLimit limit))
+TellsKind BuildErrorKind.Memory reply = ⊥
 
 -- a cause of this relation is told
 pub record IsRefusal (Refused : Cause → Type 0) (reply : Reply) : Type 0 where

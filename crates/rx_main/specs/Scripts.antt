@@ -1,5 +1,5 @@
 -- What any command that reads a script replies to it.
-use Rattle.std.specs.Prelude.{ℕ, ◌≡◌, true, Some, List}
+use Rattle.std.specs.Prelude.{ℕ, ◌≡◌, Bool, Option, Some, None, List}
 use Rattle.rx_spec.specs.Expressions.{Expression}
 use Rattle.rx_spec.specs.Plans as plans
 use Rattle.rx_spec.specs.Queries.{Query, IsFit}
@@ -9,54 +9,62 @@ use Rattle.rx_regex.specs.Plan.{IsBuilt}
 use Rattle.rx_script.specs.Faults.{refused}
 use Rattle.rx_script.specs.Grammar.{Spelled, Spells}
 use Rattle.rx_script.specs.Reading.{script_of}
-use Rattle.rx_script.specs.Script.{asked_read}
+use Rattle.rx_script.specs.Script.{script_read}
 use Rattle.rx_script.specs.declared.fault.BadKind.{BadKind}
+use Rattle.rx_script.specs.declared.script.Script.{Script}
 use Rattle.rx_main.specs.Lines.{Reply, fault_reply, unbuilt_reply, IsRefusal}
-use Rattle.rx_main.specs.declared.scripts.Asked.{Asked}
 use Rattle.rx_main.specs.declared.scripts.Reading.{Reading}
 
 -- ---- the definition
 
--- the text spells a script that asks something, and this is true of both
-pub record Asks (text : List ℕ) (P : Spelled → Query → Type 0) : Type 0 where
+-- the text spells a script, with what is asked or without it, and this is true of the script
+pub record IsScript (with_input : Bool) (text : List ℕ) (P : Spelled → Type 0) : Type 0 where
   pub script : Spelled
-  pub query : Query
-  pub spelled : Spells true text script
-  pub asked : script.asked ≡ Some query
-  pub holds : P script query
+  pub spelled : Spells with_input text script
+  pub holds : P script
 
 -- The reply to a text for which nothing is built: its first fault is told, or that its plan isn't built.
-pub data IsTurnedDown (text : List ℕ) (reply : Reply) : Type 0 where
-  Bad : (line : ℕ) → (kind : BadKind) → script_of true text ≡ refused line kind → reply ≡ fault_reply line kind
-      → IsTurnedDown text reply
-  Unbuilt : Asks text (λ script q. IsBuilt script.plan → ⊥) → reply ≡ unbuilt_reply → IsTurnedDown text reply
+pub data IsTurnedDown (with_input : Bool) (text : List ℕ) (reply : Reply) : Type 0 where
+  Bad : (line : ℕ) → (kind : BadKind) → script_of with_input text ≡ refused line kind → reply ≡ fault_reply line kind
+      → IsTurnedDown with_input text reply
+  Unbuilt : IsScript with_input text (λ script. IsBuilt script.plan → ⊥) → reply ≡ unbuilt_reply
+      → IsTurnedDown with_input text reply
 
--- The reply where tables are built of a plan and expressions: why that is refused, or else an answer by the tables.
-pub data BuildReplies (p : plans.Plan) (es : List Expression) (Answers : Reply → Type 0) (reply : Reply) : Type 0 where
-  Refused : IsRefusal (PlanRefused p es) reply → BuildReplies p es Answers reply
-  Answered : PlanFits p es → Answers reply → BuildReplies p es Answers reply
+-- The reply of a command that answers a script so: only a script whose plan is built is answered.
+pub data ScriptReplies (with_input : Bool) (Answers : Spelled → Reply → Type 0) (text : List ℕ) (reply : Reply)
+    : Type 0 where
+  TurnedDown : IsTurnedDown with_input text reply → ScriptReplies with_input Answers text reply
+  Answered : IsScript with_input text (λ script. IsBuilt script.plan × Answers script reply)
+      → ScriptReplies with_input Answers text reply
 
--- those of a script's plan, which is built, and its expressions
-abbrev pub IsAnswered : (Spelled → Query → Reply → Type 0) → Reply → Spelled → Query → Type 0
-IsAnswered Answers reply script q =
-    IsBuilt script.plan × BuildReplies (plan_of script.plan) script.exprs (Answers script q) reply
+-- The reply where something is built: why that is refused, or else an answer by what is built.
+pub data BuildReplies (Refused : plans.Cause → Type 0) (Fits : Type 0) (Answers : Reply → Type 0) (reply : Reply)
+    : Type 0 where
+  Refused : IsRefusal Refused reply → BuildReplies Refused Fits Answers reply
+  Answered : Fits → Answers reply → BuildReplies Refused Fits Answers reply
 
--- The reply of a command, which answers a script and what is asked so.
-pub data ScriptReplies (Answers : Spelled → Query → Reply → Type 0) (text : List ℕ) (reply : Reply) : Type 0 where
-  TurnedDown : IsTurnedDown text reply → ScriptReplies Answers text reply
-  Answered : Asks text (IsAnswered Answers reply) → ScriptReplies Answers text reply
+-- both tables of a plan and expressions
+abbrev pub PlanReplies : plans.Plan → List Expression → (Reply → Type 0) → Reply → Type 0
+PlanReplies p es Answers reply = BuildReplies (PlanRefused p es) (PlanFits p es) Answers reply
+
+-- A script asks something, and its tables answer that.
+pub record AskedReplies (Answers : Spelled → Query → Reply → Type 0) (script : Spelled) (reply : Reply) : Type 0 where
+  pub query : Query
+  pub asked : script.asked ≡ Some query
+  pub replies : PlanReplies (plan_of script.plan) script.exprs (Answers script query) reply
 
 -- ---- what the code keeps of a script
 
-abbrev pub spelled_of : Asked → Spelled
-spelled_of a = record { plan = a.plan; rows = a.rows; exprs = a.exprs; asked = Some (asked_read a.input) }
+-- something is asked, and its span lies in the haystack
+abbrev pub IsAsking : Option Query → Type 0
+IsAsking None = ⊥
+IsAsking (Some q) = IsFit q
 
--- the text spells it, its plan is built, and its span lies in the haystack
-pub record IsAsked (text : List ℕ) (a : Asked) : Type 0 where
-  pub spelled : Spells true text (spelled_of a)
-  pub built : IsBuilt a.plan
-  pub fit : IsFit (asked_read a.input)
+-- the text spells it, and its plan is built
+pub record IsReadAs (with_input : Bool) (text : List ℕ) (script : Script) : Type 0 where
+  pub spelled : Spells with_input text (script_read script)
+  pub built : IsBuilt script.plan
 
-abbrev pub IsRead : List ℕ → Reading → Type 0
-IsRead text (Reading.Asked a) = IsAsked text a
-IsRead text (Reading.TurnedDown reply) = IsTurnedDown text reply
+abbrev pub IsRead : Bool → List ℕ → Reading → Type 0
+IsRead with_input text (Reading.Script script) = IsReadAs with_input text script
+IsRead with_input text (Reading.TurnedDown reply) = IsTurnedDown with_input text reply

@@ -6,39 +6,39 @@ ghost use Rattle.rx_spec.specs.Iterating.{iterate};
 ghost use Rattle.rx_spec.specs.Plans.{Plan as SearchPlan, outcome};
 ghost use Rattle.rx_spec.specs.Queries.{IsFit};
 ghost use Rattle.rx_base.specs.Input.{query_of};
-ghost use Rattle.rx_plan.specs.Plan.{plan_of};
 ghost use Rattle.rx_regex.specs.Plan.{IsBuilt};
 ghost use Rattle.rx_regex.specs.Tables.{IsOf};
-ghost use Rattle.rx_script.specs.Script.{asked_read};
-ghost use Rattle.rx_main.specs.Scripts.{BuildReplies, spelled_of};
+ghost use Rattle.rx_script.specs.Script.{script_read};
+ghost use Rattle.rx_main.specs.Scripts.{AskedReplies, IsAsking};
 ghost use Rattle.rx_main.specs.Each.{EachAnswers, EachReplies, each_reply};
 
 use crate::lines::{error_reply, fixed_reply, push_match, refusal_reply};
 use crate::reply::{FOUND, NOT_FOUND, Reply};
-use crate::scripts::{Asked, Reading, read};
+use crate::scripts::{Reading, asked, read};
 use rx_base::Input;
 use rx_regex::Built;
+use rx_script::Script;
 use std::alloc::{AllocError, Global};
 
 /// The reply to the bytes of a script.
 pub fn each(alloc: Global, text: &[u8]) -> Result<Reply, AllocError>
     ensures { IfOk result (EachReplies text.now) }
 {
-    match read(alloc, text)? {
-        Reading::Asked(asked) => solve(alloc, &asked),
+    match read(alloc, text, true)? {
+        Reading::Script(script) => solve(alloc, &script),
         Reading::TurnedDown(reply) => Ok(reply),
     }
 }
 
 /// The matches, or why nothing was searched.
-fn solve(alloc: Global, asked: &Asked) -> Result<Reply, AllocError>
-    requires built { IsBuilt asked.now.plan }
-    requires fits { IsFit (asked_read asked.now.input) }
-    ensures { IfOk result (BuildReplies (plan_of asked.now.plan) asked.now.exprs
-        (EachAnswers (spelled_of asked.now) (asked_read asked.now.input))) }
+fn solve(alloc: Global, script: &Script) -> Result<Reply, AllocError>
+    requires built { IsBuilt script.now.plan }
+    requires asks { IsAsking (script_read script.now).asked }
+    ensures { IfOk result (AskedReplies EachAnswers (script_read script.now)) }
 {
-    match Built::new(alloc, asked.exprs.as_slice(), &asked.plan) {
-        Ok(built) => matches_reply(alloc, &built, &asked.input()),
+    let input = asked(script);
+    match Built::new(alloc, script.exprs.as_slice(), &script.plan) {
+        Ok(built) => matches_reply(alloc, &built, &input),
         Err(error) => refusal_reply(alloc, &error),
     }
 }

@@ -2,40 +2,39 @@
 
 ghost use Rattle.std.specs.Prelude.{◌≡◌, IfOk, OnOk};
 ghost use Rattle.std.specs.String.{string_bytes};
-ghost use Rattle.rx_spec.specs.Queries.{IsFit};
-ghost use Rattle.rx_plan.specs.Plan.{plan_of};
 ghost use Rattle.rx_regex.specs.Plan.{IsBuilt};
-ghost use Rattle.rx_script.specs.Script.{asked_read};
-ghost use Rattle.rx_main.specs.Scripts.{BuildReplies, spelled_of};
+ghost use Rattle.rx_script.specs.Script.{script_read};
+ghost use Rattle.rx_main.specs.Scripts.{AskedReplies, IsAsking};
 ghost use Rattle.rx_main.specs.Find.{FindAnswers, FindReplies, found_line, found_status};
 ghost use Rattle.rx_main.specs.Find.{found_reply, rows_text};
 
 use crate::lines::{error_reply, push_match, push_rows, refusal_reply};
 use crate::reply::{FOUND, NOT_FOUND, Reply};
-use crate::scripts::{Asked, Reading, read};
+use crate::scripts::{Reading, asked, read};
 use rx_base::{Match, MatchError};
 use rx_regex::{Answer, FindFault, compile_and_find};
+use rx_script::Script;
 use std::alloc::{AllocError, Global};
 
 /// The reply to the bytes of a script.
 pub fn find(alloc: Global, text: &[u8]) -> Result<Reply, AllocError>
     ensures { IfOk result (FindReplies text.now) }
 {
-    match read(alloc, text)? {
-        Reading::Asked(asked) => solve(alloc, &asked),
+    match read(alloc, text, true)? {
+        Reading::Script(script) => solve(alloc, &script),
         Reading::TurnedDown(reply) => Ok(reply),
     }
 }
 
 /// What is found, or why nothing was searched, or why the search has no answer.
-fn solve(alloc: Global, asked: &Asked) -> Result<Reply, AllocError>
-    requires built { IsBuilt asked.now.plan }
-    requires fits { IsFit (asked_read asked.now.input) }
-    ensures { IfOk result (BuildReplies (plan_of asked.now.plan) asked.now.exprs
-        (FindAnswers (spelled_of asked.now) (asked_read asked.now.input))) }
+fn solve(alloc: Global, script: &Script) -> Result<Reply, AllocError>
+    requires built { IsBuilt script.now.plan }
+    requires asks { IsAsking (script_read script.now).asked }
+    ensures { IfOk result (AskedReplies FindAnswers (script_read script.now)) }
 {
-    match compile_and_find(alloc, asked.exprs.as_slice(), &asked.plan, &asked.input()) {
-        Ok(answer) => found_reply(alloc, &answer, asked.rows),
+    let input = asked(script);
+    match compile_and_find(alloc, script.exprs.as_slice(), &script.plan, &input) {
+        Ok(answer) => found_reply(alloc, &answer, script.rows),
         Err(FindFault::Build(error)) => refusal_reply(alloc, &error),
         Err(FindFault::Quit { byte, offset }) => {
             error_reply(String::new(alloc), &MatchError::quit(byte, offset))

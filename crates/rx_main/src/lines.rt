@@ -1,12 +1,8 @@
 //! The lines that are written, and the replies that are one line.
 
-ghost use Rattle.std.specs.Prelude.{◌≡◌, ◌++◌, ◌<◌, ◌≤◌, IfOk, OnOk, List, []};
+ghost use Rattle.std.specs.Prelude.{◌≡◌, ◌++◌, ◌<◌, ◌≤◌, IfOk, OnOk};
 ghost use Rattle.std.specs.String.{string_bytes};
-ghost use Rattle.rx_spec.specs.Expressions.{Expression};
-ghost use Rattle.rx_spec.specs.Plans.{Plan as SearchPlan};
-ghost use Rattle.rx_build_error.specs.Refusals.{IsRefused};
-ghost use Rattle.rx_regex.specs.Find.{PlanRefused};
-ghost use Rattle.rx_main.specs.Lines.{IsRefusal, match_line, rows_line, error_line, hex_code};
+ghost use Rattle.rx_main.specs.Lines.{TellsKind, match_line, rows_line, error_line, hex_code};
 ghost use Rattle.rx_main.specs.Lines.{usage_reply, long_reply, fault_reply, unbuilt_reply, error_reply};
 
 use crate::reply::{FAILED, REFUSED, Reply, TURNED_DOWN};
@@ -47,8 +43,7 @@ pub fn unbuilt_reply(alloc: Global) -> Result<Reply, AllocError>
 
 /// The reply to a build that is refused.
 pub fn refusal_reply(alloc: Global, error: &BuildError) -> Result<Reply, AllocError>
-    ensures { IfOk result (λ reply. (p : SearchPlan) (es : List Expression)
-        → IsRefused (PlanRefused p es) error.now.kind → IsRefusal (PlanRefused p es) reply) }
+    ensures { IfOk result (TellsKind error.now.kind) }
 {
     match error.kind() {
         BuildErrorKind::NFA(_) => fixed_reply(alloc, "build nfa\n", REFUSED),

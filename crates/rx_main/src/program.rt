@@ -4,12 +4,15 @@ ghost use Rattle.std.specs.Prelude.{◌≡◌, ◌≢◌, ◌≤◌, ◌↔◌, 
 ghost use Rattle.std.specs.Io.KnownBytes.{Keeps};
 ghost use Rattle.rx_base.specs.Outside.{Rose};
 ghost use Rattle.rx_main.specs.Lines.{long_reply};
+ghost use Rattle.rx_main.specs.Replies.{ReadReplies};
 ghost use Rattle.rx_main.specs.Run.{Took, Answers, Breaks};
 
-use crate::command::{Command, command_of};
+use crate::check::check;
+use crate::command::{Command, ReadCommand, command_of};
 use crate::each::each;
 use crate::find::find;
 use crate::generate::generate;
+use crate::image::image;
 use crate::lines::{long_reply, usage_reply};
 use crate::reply::Reply;
 use crate::transfer::{TextFault, read_text, write_text};
@@ -54,15 +57,23 @@ fn reply<S: Source>(alloc: Global, words: &Words, src: &mut S) -> Result<Reply, 
         return Ok(usage_reply(alloc)?);
     };
     match command {
-        Command::Find => match read_text(alloc, src) {
-            Ok(text) => Ok(find(alloc, &text)?),
-            Err(fault) => unread_reply(alloc, fault),
-        },
-        Command::Each => match read_text(alloc, src) {
-            Ok(text) => Ok(each(alloc, &text)?),
+        Command::Read(command) => match read_text(alloc, src) {
+            Ok(bytes) => Ok(read_reply(alloc, command, &bytes)?),
             Err(fault) => unread_reply(alloc, fault),
         },
         Command::Gen(count) => Ok(generate(alloc, count)?),
+    }
+}
+
+/// The reply of a command to the bytes of the source.
+fn read_reply(alloc: Global, command: ReadCommand, bytes: &[u8]) -> Result<Reply, AllocError>
+    ensures { IfOk result (ReadReplies command bytes.now) }
+{
+    match command {
+        ReadCommand::Find => find(alloc, bytes),
+        ReadCommand::Each => each(alloc, bytes),
+        ReadCommand::Image(direction, order) => image(alloc, bytes, direction, order),
+        ReadCommand::Check => check(alloc, bytes),
     }
 }
 
@@ -78,10 +89,10 @@ fn unread_reply(alloc: Global, fault: TextFault) -> Result<Reply, Stop>
     }
 }
 
-/// Runs a command line: reads what it reads from the source, and writes the lines that answer it into
+/// Runs a command line: reads what it reads from the source, and writes the lines or the image that answer it into
 /// the sink. The result is the status.
 ///
-/// With a status up to 4 all lines were written, with 6 a part of them, and with 5 and 7 nothing. 5 says
+/// With a status up to 4 all of it was written, with 6 a part of them, and with 5 and 7 nothing. 5 says
 /// that the source failed, 6 that the sink did, and 7 that memory ran out: any fault of the source or the
 /// sink gives 5 or 6, and without one there is no such status.
 pub fn run<S: Source, K: Sink>(alloc: Global, words: &Words, src: &mut S, out: &mut K) -> u8
@@ -112,7 +123,7 @@ pub fn run<S: Source, K: Sink>(alloc: Global, words: &Words, src: &mut S, out: &
         Err(Stop::Failed) => return SOURCE_FAILED,
         Err(Stop::Memory) => return NO_MEMORY,
     };
-    if write_text(out, reply.text().as_bytes()) {
+    if write_text(out, reply.text()) {
         return reply.status();
     }
     SINK_FAILED

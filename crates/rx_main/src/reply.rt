@@ -5,10 +5,10 @@ ghost use Rattle.std.specs.String.{string_bytes};
 
 use std::marker::Model;
 
-/// The status where something matches, or is counted.
+/// The status where something matches, or is counted, and where an image is written or accepted.
 pub const FOUND: u8 = 0;
 
-/// The status where nothing matches.
+/// The status where nothing matches, or an image is refused.
 pub const NOT_FOUND: u8 = 1;
 
 /// The status where the words are no command, or the source is no script that is answered.
@@ -20,39 +20,46 @@ pub const REFUSED: u8 = 3;
 /// The status where a search ends by an error.
 pub const FAILED: u8 = 4;
 
-/// A text of one or more lines, and the status that goes with it, at most 4.
+/// What is written, one or more lines or an image, and the status that goes with it, at most 4.
 #[derive(Drop)]
 pub struct Reply {
-    text: String,
+    text: Vec<u8>,
     status: u8,
 }
 
 impl Model for Reply {
     ghost use Rattle.std.specs.Prelude.{◌≤◌};
-    ghost use Rattle.std.specs.String.{string_bytes};
     ghost use Rattle.rx_main.specs.Lines.{Reply as Answer};
 
     ghost Value = { Answer };
 
-    ghost view = { λ r. record { text = string_bytes r.text; status = r.status } };
+    ghost view = { λ r. record { text = r.text.items; status = r.status } };
 
     ghost invariant = { λ r. r.status ≤ 4 };
 }
 
 impl Reply {
-    /// A text and its status.
-    pub fn new(text: String, status: u8) -> Reply
+    /// Lines and their status.
+    pub fn new(lines: String, status: u8) -> Reply
         requires { status ≤ 4 }
-        ensures { result ≡ record { text = string_bytes text; status = status } }
+        ensures { result ≡ record { text = string_bytes lines; status = status } }
+    {
+        Reply::from_bytes(lines.into_bytes(), status)
+    }
+
+    /// Bytes and their status.
+    pub fn from_bytes(text: Vec<u8>, status: u8) -> Reply
+        requires { status ≤ 4 }
+        ensures { result ≡ record { text = text.items; status = status } }
     {
         Reply { text, status }
     }
 
-    /// The text.
-    pub fn text(&self) -> &str
+    /// What is written.
+    pub fn text(&self) -> &[u8]
         ensures { result.now ≡ self.now.text }
     {
-        self.text.as_str()
+        &self.text
     }
 
     /// The status.

@@ -16,7 +16,7 @@ fn words(alloc: Global, texts: &[&str]) -> Result<Words, AllocError> {
 /// What a run reads and where it writes: a text, the most bytes of a read and the reads that fail; room, the
 /// most bytes of a write and the writes that fail.
 #[derive(Clone, Copy)]
-struct Outside<'a> {
+pub(crate) struct Outside<'a> {
     text: &'a [u8],
     most_read: usize,
     failing_reads: &'a [u64],
@@ -26,7 +26,7 @@ struct Outside<'a> {
 }
 
 /// The status of a run, and what it wrote.
-fn answer(
+pub(crate) fn answer(
     rt: &impl Abort,
     alloc: Global,
     texts: &[&str],
@@ -42,7 +42,7 @@ fn answer(
 }
 
 /// Compares a run with the status and the bytes that are wanted.
-fn compare(
+pub(crate) fn compare(
     rt: &impl Abort,
     alloc: Global,
     texts: &[&str],
@@ -56,7 +56,7 @@ fn compare(
 }
 
 /// A text, given with a slash between two lines.
-fn lines(alloc: Global, text: &str) -> Result<Vec<u8>, AllocError> {
+pub(crate) fn lines(alloc: Global, text: &str) -> Result<Vec<u8>, AllocError> {
     let mut bytes = Vec::with_capacity(alloc, text.len())?;
     for byte in text.as_bytes() {
         bytes.push(if *byte == b'/' { b'\n' } else { *byte })?;
@@ -65,12 +65,12 @@ fn lines(alloc: Global, text: &str) -> Result<Vec<u8>, AllocError> {
 }
 
 /// What a run has that reads a text, and neither reads nor writes that fail.
-fn whole(text: &[u8]) -> Outside<'_> {
+pub(crate) fn whole(text: &[u8]) -> Outside<'_> {
     Outside {
         text,
         most_read: 65_536,
         failing_reads: &[],
-        room: 1000,
+        room: 2000,
         most_written: 3,
         failing_writes: &[],
     }
@@ -335,6 +335,10 @@ fn matches_are_told_one_after_another(rt: HostRuntime) -> Result<(), Fail> {
         "plan minimize/expr cat rep 4 4 greedy cls 30-39 cat lit 2d cat rep 2 2 greedy cls 30-39 \
                              cat lit 2d rep 2 2 greedy cls 30-39/input 0 21 no/hay \
                              323031382d31322d323420323031362d31302d3038";
+    const BY_BYTES: &str =
+        "plan bytes/expr cat rep 4 4 greedy cls 30-39 cat lit 2d cat rep 2 2 greedy cls 30-39 \
+                            cat lit 2d rep 2 2 greedy cls 30-39/input 0 21 no/hay \
+                            323031382d31322d323420323031362d31302d3038";
     run_all(
         &rt,
         rt.alloc(),
@@ -342,6 +346,7 @@ fn matches_are_told_one_after_another(rt: HostRuntime) -> Result<(), Fail> {
         &[
             (DATES, 0, "match 0 0 10/match 0 11 21"),
             (MINIMIZED, 0, "match 0 0 10/match 0 11 21"),
+            (BY_BYTES, 0, "match 0 0 10/match 0 11 21"),
             (
                 "expr rep 1 inf greedy cls 30-39,41-5a,5f,61-7a/expr rep 1 inf greedy cls 00-08,0e-1f,21-ff/input 0 \
                  8 no/hay 40666f6f20626172",
@@ -388,7 +393,7 @@ fn matches_are_told_one_after_another(rt: HostRuntime) -> Result<(), Fail> {
                 "build dfa-size",
             ),
             // what isn't built, and faults
-            ("plan bytes/expr eps/input 0 0 no/hay -", 2, "unbuilt"),
+            ("plan sparse/expr eps/input 0 0 no/hay -", 2, "unbuilt"),
             ("expr lit 61/input 2 0 no/hay -", 2, "bad 3 span"),
         ],
     )
@@ -403,7 +408,7 @@ fn scripts_may_be_turned_down(rt: HostRuntime) -> Result<(), Fail> {
         &[
             // forms that aren't built
             ("plan sparse/input 0 0 yes/hay -", 2, "unbuilt"),
-            ("plan bytes/input 0 0 yes/hay -", 2, "unbuilt"),
+            ("plan bytes/input 0 0 yes/hay -", 1, "none"),
             ("plan sparse bytes rows/input 0 0 yes/hay -", 2, "unbuilt"),
             // a fault comes first
             ("plan sparse/expr eps/input 0 1 yes/hay -", 2, "bad 4 span"),
@@ -433,7 +438,14 @@ fn sources_have_at_most_so_many_bytes(rt: HostRuntime) -> Result<(), Fail> {
     )?;
     text.push(b'\n')?;
     compare(&rt, rt.alloc(), &["find"], whole(&text), (2, "long\n"))?;
-    compare(&rt, rt.alloc(), &["each"], whole(&text), (2, "long\n"))
+    compare(&rt, rt.alloc(), &["each"], whole(&text), (2, "long\n"))?;
+    compare(
+        &rt,
+        rt.alloc(),
+        &["check", "dense"],
+        whole(&text),
+        (2, "long\n"),
+    )
 }
 
 /// A source whose first read fails, and a sink that takes all at once.
@@ -463,6 +475,13 @@ fn other_words_are_no_command(rt: HostRuntime) -> Result<(), Fail> {
         &["gen", "65537"],
         &["gen", "1", "1"],
         &["find", "7"],
+        &["image", "fwd"],
+        &["image", "both", "le"],
+        &["image", "fwd", "me"],
+        &["image", "fwd", "le", "le"],
+        &["check"],
+        &["check", "sparse"],
+        &["check", "dense", "dense"],
     ];
     for texts in table {
         compare(&rt, rt.alloc(), texts, UNREAD, (2, "usage\n"))?;

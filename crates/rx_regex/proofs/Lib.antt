@@ -2,6 +2,8 @@
 pub mod Refusals
 pub mod Served
 pub mod Counts
+-- that they can be written and read again
+pub mod Whole
 -- searches of them, one and all
 pub mod Searches
 pub mod Iterated

@@ -1,6 +1,6 @@
 -- A pair of tables that is built as a plan's is serves the plan: the tables give its builds, and pass over no match
 -- that splits a character.
-use Rattle.std.proofs.Common.{◌≡◌, ◌&&◌, ℕ, Bool, true, false, refl, ap, ◌∙◌, subst, List, All}
+use Rattle.std.proofs.Common.{◌≡◌, ◌&&◌, ℕ, Bool, true, false, refl, sym, ap, ◌∙◌, subst, List, All}
 use Rattle.rx_spec.specs.Expressions.{Expression, IsLoopSafe}
 use Rattle.rx_spec.specs.Nfas.{Nfa, nfa_of, is_always_start_anchored}
 use Rattle.rx_spec.specs.Plans.{Plan, plan_build, plan_nfa}
@@ -15,6 +15,7 @@ use Rattle.rx_build.specs.Settings.{Settled, settled}
 use Rattle.rx_build.proofs.Served.{built_serves}
 use Rattle.rx_regex_builder.specs.Pairs.{AreBuilt, in_reverse}
 use Rattle.rx_regex.specs.Planned.{IsPlanned, planned}
+use Rattle.rx_regex.specs.Images.{IsTable}
 use Rattle.rx_regex.specs.Settings.{settings_of}
 use Rattle.rx_regex.specs.Pairs.{AreTables}
 
@@ -92,10 +93,13 @@ serve_plan {p} {es} {f} {r} t =
       whole_reverse = serve.whole_reverse;
     }
 
--- what is built by the settings of a plan is its pair of tables
-pub are_tables : {p : Plan} {es : List Expression} {f r : Layout} {both : Both} → both ≡ settings_of p
-    → All IsLoopSafe es → AreBuilt both es f r → AreTables p es f r
-are_tables {es = es} {f = f} {r = r} settings safe built = record {
+-- two tables of a plan are its pair
+pub are_tables : {p : Plan} {es : List Expression} {f r f' r' : Layout} → f' ≡ f → r' ≡ r → All IsLoopSafe es
+    → IsTable p Direction.Forward es f → IsTable p Direction.Reverse es r → AreTables p es f' r'
+are_tables {p} {es} f_is r_is safe forward reverse = record {
   safe = safe;
-  built = subst (λ (x : Both). AreBuilt x es f r) settings built;
+  built = record {
+    forward = subst (IsTable p Direction.Forward es) (sym f_is) forward;
+    reverse = subst (IsTable p Direction.Reverse es) (sym r_is) reverse;
+  };
 }

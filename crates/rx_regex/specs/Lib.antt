@@ -4,6 +4,8 @@ pub mod Plan
 pub mod Settings
 pub mod Pairs
 pub mod Tables
+-- one table, and images of it
+pub mod Images
 -- pairs that are built as a plan's are
 pub mod Planned
 -- how many rows they have

@@ -2,9 +2,7 @@
 use Rattle.std.specs.Prelude.{◌≡◌}
 use Rattle.rx_spec.specs.declared.Form.{Form}
 use Rattle.rx_plan.specs.declared.Plan.{Plan}
-use Rattle.rx_plan.specs.declared.Passage.{Passage}
 
--- dense tables, searched as they were built
+-- those of dense tables
 pub record IsBuilt (p : Plan) : Type 0 where
   pub form : p.form ≡ Form.Dense
-  pub passage : p.passage ≡ Passage.Direct

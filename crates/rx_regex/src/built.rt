@@ -7,38 +7,36 @@ ghost use Rattle.rx_spec.specs.Iterating.{iterate};
 ghost use Rattle.rx_spec.specs.Plans.{Plan as SearchPlan, outcome};
 ghost use Rattle.rx_spec.specs.Queries.{IsFit, LiesIn};
 ghost use Rattle.rx_base.specs.Input.{query_of};
-ghost use Rattle.rx_build.specs.Settings.{asked};
 ghost use Rattle.rx_build_error.specs.Refusals.{IsRefused};
-ghost use Rattle.rx_expr.specs.Settings as thompson;
 ghost use Rattle.rx_pair.specs.Matches.{items};
 ghost use Rattle.rx_plan.specs.Plan.{plan_of};
-ghost use Rattle.rx_regex_builder.specs.Pairs.{both_of};
 ghost use Rattle.rx_regex.specs.Find.{IsPaired, PlanFits, PlanRefused};
 ghost use Rattle.rx_regex.specs.Plan.{IsBuilt};
 ghost use Rattle.rx_regex.specs.Rows.{HaveRows};
-ghost use Rattle.rx_regex.specs.Settings.{dense_settings, settings_of, thompson_settings};
 ghost use Rattle.rx_regex.specs.Pairs.{whole};
 ghost use Rattle.rx_regex.specs.Tables.{IsOf};
 
+use crate::planned::plan_table;
 use crate::tables::Built;
-use rx_base::{Input, Match, MatchError, MatchKind};
-use rx_build::{BuildError, dense};
+use rx_base::{Direction, Input, Match, MatchError};
+use rx_build::BuildError;
 use rx_dense::OwnedDFA;
-use rx_expr::{Expr, thompson};
-use rx_pair::FindMatches;
+use rx_expr::Expr;
+use rx_pair::{FindMatches, Regex};
 use rx_plan::Plan;
-use rx_regex_builder::Builder;
 use std::alloc::Global;
 
 impl Built {
-    /// Builds the tables of a plan; the forward one is built, and may be refused, first.
+    /// The tables of a plan; the forward one is built, and may be refused, first.
     pub fn new(alloc: Global, exprs: &[Expr], plan: &Plan) -> Result<Built, BuildError>
         requires { IsBuilt plan.now }
         ensures ok { IfOk result (IsOf (plan_of plan.now) exprs.now) }
         ensures fits { OnOk result (PlanFits (plan_of plan.now) exprs.now) }
         ensures err { IfErr result (λ error. IsRefused (PlanRefused (plan_of plan.now) exprs.now) error.kind) }
     {
-        let pair = pair_builder(plan).build_many(alloc, exprs)?;
+        let forward = plan_table(alloc, exprs, plan, Direction::Forward)?;
+        let reverse = plan_table(alloc, exprs, plan, Direction::Reverse)?;
+        let pair = Regex::new(forward, reverse);
         Ok(Built { pair })
     }
 
@@ -88,42 +86,4 @@ fn whole_search<'h>(input: &Input<'h>) -> Input<'h>
     Input::new(input.haystack())
         .span(input.get_span())
         .anchored(input.get_anchored())
-}
-
-/// What builds both tables of a plan.
-fn pair_builder(plan: &Plan) -> Builder
-    ensures { both_of result ≡ settings_of (plan_of plan.now) }
-{
-    let mut builder = Builder::new();
-    builder.dense(dense_settings(plan));
-    builder.thompson(thompson_settings(plan));
-    builder
-}
-
-/// The settings of the tables that a plan asks for.
-fn dense_settings(plan: &Plan) -> dense::Config
-    ensures { asked result ≡ dense_settings (plan_of plan.now) }
-{
-    dense::Config::new()
-        .accelerate(plan.accelerate)
-        .minimize(plan.minimize)
-        .match_kind(MatchKind::LeftmostFirst)
-        .start_kind(plan.start_kind)
-        .starts_for_each_pattern(plan.pattern_starts)
-        .byte_classes(plan.byte_classes)
-        .unicode_word_boundary(plan.unicode_word)
-        .quit_bytes(plan.quit)
-        .specialize_start_states(plan.mark_starts)
-        .dfa_size_limit(plan.dfa_limit)
-        .determinize_size_limit(plan.determinize_limit)
-}
-
-/// The settings of the NFAs. Matches begin and end at any byte.
-fn thompson_settings(plan: &Plan) -> thompson::Config
-    ensures { thompson.asked result ≡ thompson_settings (plan_of plan.now) }
-{
-    thompson::Config::new()
-        .utf8(false)
-        .nfa_size_limit(plan.nfa_limit)
-        .line_terminator(plan.line_terminator)
 }

@@ -31,8 +31,8 @@ pub struct Answer {
 ///
 /// The plan decides how the two tables are built, the line terminator, the quit bytes and the modes
 /// that have starts. Where it minimizes, the numbers of rows are the least of any tables that tell the
-/// same. Plans with sparse tables, or with tables that go through bytes, are not built yet. Whether the
-/// input asks for the earliest end makes no difference.
+/// same. Plans with sparse tables are not built yet. Whether the input asks for the earliest end makes no
+/// difference.
 pub fn compile_and_find(
     alloc: Global,
     exprs: &[Expr],

@@ -5,18 +5,23 @@
 //! says why it can't. Its contract says what is found without an automaton, and names one only in the
 //! causes of errors. It is two steps: a plan's tables are [`Built`], and then searched. Who searches
 //! more than once keeps the [`Built`], or makes a [`Regex`] by settings of its own ([`laws`]: what that finds).
+//! [`build_image`] builds one table of a plan alone, and writes it as bytes that can be kept.
 #![tactic(auto)]
 
 mod built;
 mod error;
 mod find;
+mod image;
 pub mod laws;
+mod planned;
 mod tables;
 
 pub use error::FindFault;
 pub use find::{Answer, compile_and_find};
+pub use image::build_image;
 pub use rx_build::{BuildError, BuildErrorKind};
 pub use rx_pair::{FindMatches, Regex};
 pub use rx_plan::{Form, Passage, Plan};
 pub use rx_regex_builder::{Builder, RegexBuild};
+pub use rx_wire::Order;
 pub use tables::Built;

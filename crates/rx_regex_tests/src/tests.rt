@@ -2,9 +2,9 @@
 
 ghost use Rattle.rx_regex.specs.Plan.{IsBuilt};
 
-use rx_base::{Anchored, Input, PatternID, StartKind};
+use rx_base::{Anchored, Direction, Input, PatternID, StartKind};
 use rx_notation::read;
-use rx_regex::{Built, Plan, compile_and_find};
+use rx_regex::{Built, Order, Passage, Plan, build_image, compile_and_find};
 use std::alloc::Global;
 use std::process::Abort;
 use std::test::Fail;
@@ -24,6 +24,7 @@ enum Change {
     Minimize,
     NoAccelerate,
     MarkStarts,
+    ThroughBytes,
 }
 
 /// Where a match may begin, and of which pattern it is.
@@ -55,6 +56,7 @@ fn apply(plan: &mut Plan, change: Change)
         Change::Minimize => plan.minimize = true,
         Change::NoAccelerate => plan.accelerate = false,
         Change::MarkStarts => plan.mark_starts = true,
+        Change::ThroughBytes => plan.passage = Passage::Bytes,
     }
 }
 
@@ -261,6 +263,8 @@ fn tables_have_so_many_rows(rt: HostRuntime) -> Result<(), Fail> {
         ("a", &[Change::Minimize], "6 5"),
         ("a", &[Change::MarkStarts, Change::NoAccelerate], "7 5"),
         ("a", &[Change::NoClasses], "7 5"),
+        ("a", &[Change::ThroughBytes], "7 5"),
+        ("a", &[Change::ThroughBytes, Change::Minimize], "6 5"),
         ("a", &[Change::DfaLimit(164)], "7 5"),
         (
             "a",
@@ -277,6 +281,46 @@ fn tables_have_so_many_rows(rt: HostRuntime) -> Result<(), Fail> {
     for (patterns, changes, want) in rows {
         let told = rows_of(alloc, patterns, changes)?;
         assert!(rt; told.as_str() == *want, "{patterns}: {told}");
+    }
+    Ok(())
+}
+
+/// The length of an image, or why its table isn't built.
+fn image_len(
+    alloc: Global,
+    patterns: &str,
+    changes: &[Change],
+    direction: Direction,
+    order: Order,
+) -> Result<String, Fail> {
+    let exprs = read(alloc, patterns)?;
+    match build_image(alloc, &exprs, &plan_with(changes), direction, order) {
+        Ok(image) => Ok(format!(in alloc; "{}", image.len())?),
+        Err(error) => Ok(error.to_string(alloc)?),
+    }
+}
+
+#[test]
+fn images_have_so_many_bytes(rt: HostRuntime) -> Result<(), Fail> {
+    let alloc = rt.alloc();
+    let rows: &[(&str, &[Change], &str, &str)] = &[
+        ("", &[], "732", "732"),
+        ("abc", &[], "1088", "952"),
+        ("a", &[Change::ThroughBytes], "848", "808"),
+        (
+            "a",
+            &[Change::DfaLimit(132)],
+            "DFA exceeded size limit of 132 during determinization",
+            "808",
+        ),
+    ];
+    for (patterns, changes, forward, reverse) in rows {
+        for order in [Order::Little, Order::Big] {
+            let told = image_len(alloc, patterns, changes, Direction::Forward, order)?;
+            assert!(rt; told.as_str() == *forward, "{patterns}: {told}");
+            let told = image_len(alloc, patterns, changes, Direction::Reverse, order)?;
+            assert!(rt; told.as_str() == *reverse, "{patterns} in reverse: {told}");
+        }
     }
     Ok(())
 }

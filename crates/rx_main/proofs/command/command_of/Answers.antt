@@ -1,7 +1,7 @@
 use Rattle.std.proofs.Common.{subst, sym, ◌∙◌}
 use Rattle.std.specs.Option.{MatchOption}
 use Rattle.rx_main.specs.Commands.{Says, SaysNothing}
-use Rattle.rx_main.proofs.Counts.{one_word, two_words}
+use Rattle.rx_main.proofs.Counts.{one_word, three_words, two_words}
 use Rattle.rx_main.proofs.command.command_of.Goals as goal
 
 pub returns-in-1 : goal.returns-in-1
@@ -14,3 +14,9 @@ returns-in-2 c =
     let words = two_words c.args.words.now c.word-in-2.result.now c.word-in-2-2.result.now
     (sym c.len.ensures ∙ c.in-2.is) c.word-in-2.ensures c.word-in-2-2.ensures in
     subst (λ ws. MatchOption c.two_words.result (SaysNothing ws) (Says ws)) (sym words) c.two_words.ensures
+
+pub returns-in-3 : goal.returns-in-3
+returns-in-3 c =
+    let words = three_words c.args.words.now c.word-in-3.result.now c.word-in-3-2.result.now c.word-in-3-3.result.now
+    (sym c.len.ensures ∙ c.in-3.is) c.word-in-3.ensures c.word-in-3-2.ensures c.word-in-3-3.ensures in
+    subst (λ ws. MatchOption c.three_words.result (SaysNothing ws) (Says ws)) (sym words) c.three_words.ensures

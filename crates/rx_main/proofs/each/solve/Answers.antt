@@ -1,20 +1,35 @@
-use Rattle.std.proofs.Common.{◌∙◌, ap}
 use Rattle.std.proofs.lemmas.Result.{IfOk-weaker}
-use Rattle.rx_spec.specs.Iterating.{iterate}
-use Rattle.rx_spec.specs.Plans.{outcome}
+use Rattle.rx_base.specs.Input.{query_of}
 use Rattle.rx_plan.specs.Plan.{plan_of}
-use Rattle.rx_main.specs.Each.{each_reply}
+use Rattle.rx_script.specs.Script.{script_read}
+use Rattle.rx_regex.specs.Find.{PlanRefused}
 use Rattle.rx_main.specs.Scripts.{BuildReplies}
+use Rattle.rx_main.proofs.Refusals.{kind_told}
 use Rattle.rx_main.proofs.each.solve.Goals as goal
 
 pub returns-in-Ok : goal.returns-in-Ok
 returns-in-Ok c =
-    let asked = c.args.asked.now in
-    let p = plan_of asked.plan in
+    let script = script_read c.args.script.now in
     let tables = rw c.as_slice.ensures at c.in-Ok.ensures.ok in
     let fits = rw c.as_slice.ensures at c.in-Ok.ensures.fits in
     IfOk-weaker c.matches_reply.result _ _
-    (λ reply is.
-    BuildReplies.Answered fits
-    (is p asked.exprs tables ∙ ap (λ q. each_reply (iterate (outcome p asked.exprs) q)) c.input.ensures))
+    (λ reply is. record {
+      query = query_of c.asked-input.result;
+      asked = c.asked-input.ensures.query;
+      replies = BuildReplies.Answered fits (is (plan_of script.plan) script.exprs tables);
+    })
     c.matches_reply.ensures
+
+pub returns-in-Err : goal.returns-in-Err
+returns-in-Err c =
+    let script = script_read c.args.script.now in
+    let refused = rw c.as_slice.ensures at c.in-Err.ensures.err in
+    IfOk-weaker c.refusal_reply.result _ _
+    (λ reply told. record {
+      query = query_of c.asked-input.result;
+      asked = c.asked-input.ensures.query;
+      replies =
+          BuildReplies.Refused
+          (kind_told (PlanRefused (plan_of script.plan) script.exprs) c.in-Err.error.kind reply told refused);
+    })
+    c.refusal_reply.ensures

@@ -1,9 +1,7 @@
 use Rattle.std.proofs.Common.{Err, refl, ap, subst}
 use Rattle.std.proofs.lemmas.Result.{IfOk-weaker}
 use Rattle.rx_main.specs.Commands.{Says}
-use Rattle.rx_main.specs.Each.{EachReplies}
-use Rattle.rx_main.specs.Find.{FindReplies}
-use Rattle.rx_main.specs.Replies.{Replies}
+use Rattle.rx_main.specs.Replies.{ReadReplies, Replies}
 use Rattle.rx_main.specs.declared.command.Command.{Command}
 use Rattle.rx_main.proofs.TakenReplies.{took_all, took_long, took_nothing}
 use Rattle.rx_main.proofs.program.reply.Goals as goal
@@ -12,43 +10,24 @@ pub returns-in_default-clause-took : goal.returns-in_default-clause-took
 returns-in_default-clause-took g c =
     took_nothing (g.S.Source.left c.args.src.now) (Replies.Usage c.in_default.ensures refl c.in_ok-usage_reply.ensures)
 
-pub returns-in_ok-find-in-Ok-clause-took : goal.returns-in_ok-find-in-Ok-clause-took
-returns-in_ok-find-in-Ok-clause-took g c =
-    let reply = c.in_ok-find-in-Ok.field-0 in
-    took_all (g.S.Source.left c.args.src.now) (g.S.Source.left c.read_text.new.src) c.in-Ok.text.items reply
-    (subst (Says c.args.words.now) c.in-Find.is c.in-Some.ensures) c.in-Ok.ensures.bytes c.in-Ok.ensures.end (
+pub returns-in_ok-read_reply-in-Ok-clause-took : goal.returns-in_ok-read_reply-in-Ok-clause-took
+returns-in_ok-read_reply-in-Ok-clause-took g c =
+    let reply = c.in_ok-read_reply-in-Ok.field-0 in
+    took_all (g.S.Source.left c.args.src.now) (g.S.Source.left c.read_text.new.src) c.in-Ok.bytes.items reply
+    (subst (Says c.args.words.now) c.in-Read.is c.in-Some.ensures) c.in-Ok.ensures.bytes c.in-Ok.ensures.end (
       record { whole = refl; few = c.in-Ok.ensures.few },
-      subst (λ bytes. FindReplies bytes reply) c.deref.ensures.value c.in_ok-find-in-Ok.ensures,
+      subst (λ bytes. ReadReplies c.in-Read.command bytes reply) c.deref.ensures.value
+          c.in_ok-read_reply-in-Ok.ensures,
     )
 
 pub returns-in-Err-clause-took : goal.returns-in-Err-clause-took
 returns-in-Err-clause-took g c =
-    let says = subst (Says c.args.words.now) c.in-Find.is c.in-Some.ensures in
+    let says = subst (Says c.args.words.now) c.in-Read.is c.in-Some.ensures in
     IfOk-weaker c.unread_reply.result _ _
     (λ reply told.
-    took_long (g.S.Source.left c.args.src.now) (g.S.Source.left c.read_text.new.src) reply says refl
+    took_long (g.S.Source.left c.args.src.now) (g.S.Source.left c.read_text.new.src) reply says
     (c.in-Err.ensures.long (ap Err told.0)) told.1)
     c.unread_reply.ensures.told
-
-pub returns-in_ok-each-in-Ok-read_text-clause-took : goal.returns-in_ok-each-in-Ok-read_text-clause-took
-returns-in_ok-each-in-Ok-read_text-clause-took g c =
-    let reply = c.in_ok-each-in-Ok-read_text.field-0 in
-    took_all (g.S.Source.left c.args.src.now) (g.S.Source.left c.read_text-in-Each.new.src) c.in-Ok-read_text.text.items
-    reply (subst (Says c.args.words.now) c.in-Each.is c.in-Some.ensures) c.in-Ok-read_text.ensures.bytes
-    c.in-Ok-read_text.ensures.end (
-      record { whole = refl; few = c.in-Ok-read_text.ensures.few },
-      subst (λ bytes. EachReplies bytes reply) c.deref-in-Ok-read_text.ensures.value
-          c.in_ok-each-in-Ok-read_text.ensures,
-    )
-
-pub returns-in-Err-read_text-clause-took : goal.returns-in-Err-read_text-clause-took
-returns-in-Err-read_text-clause-took g c =
-    let says = subst (Says c.args.words.now) c.in-Each.is c.in-Some.ensures in
-    IfOk-weaker c.unread_reply-in-Err-read_text.result _ _
-    (λ reply told.
-    took_long (g.S.Source.left c.args.src.now) (g.S.Source.left c.read_text-in-Each.new.src) reply says refl
-    (c.in-Err-read_text.ensures.long (ap Err told.0)) told.1)
-    c.unread_reply-in-Err-read_text.ensures.told
 
 pub returns-in_ok-generate-in-Gen-clause-took : goal.returns-in_ok-generate-in-Gen-clause-took
 returns-in_ok-generate-in-Gen-clause-took g c =

@@ -4,7 +4,7 @@ use Rattle.rx_build.specs.Settings.{asked, overwritten}
 use Rattle.rx_expr.specs.Settings as nfa
 use Rattle.rx_regex_builder.specs.Pairs.{both_of}
 use Rattle.rx_regex_builder.proofs.Settings.{taken_whole}
-use Rattle.rx_regex.proofs.built.pair_builder.Goals as goal
+use Rattle.rx_regex.proofs.planned.pair_builder.Goals as goal
 
 pub returns : goal.returns
 returns c =

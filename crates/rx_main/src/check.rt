@@ -1,0 +1,64 @@
+//! The command `check`: whether some bytes begin with an image of a dense table.
+
+ghost use Rattle.std.specs.Prelude.{◌≡◌, ◌≢◌, IfOk};
+ghost use Rattle.rx_dense.specs.Layouts.{row_count};
+ghost use Rattle.rx_wire.specs.Kinds.{Kind, kind_of};
+ghost use Rattle.rx_main.specs.Check.{CheckReplies, accepted_line, failed_test_reply};
+
+use crate::lines::fixed_reply;
+use crate::reply::{FOUND, NOT_FOUND, Reply};
+use rx_dense::OwnedDFA;
+use rx_dense_image::DenseRead;
+use rx_search::Automaton;
+use rx_wire::DeserializeErrorKind;
+use std::alloc::{AllocError, Global};
+
+/// The reply to some bytes.
+pub fn check(alloc: Global, bytes: &[u8]) -> Result<Reply, AllocError>
+    ensures { IfOk result (CheckReplies bytes.now) }
+{
+    match OwnedDFA::from_bytes(alloc, bytes) {
+        Ok((table, size)) => accepted_reply(alloc, &table, size),
+        Err(error) => failed_test_reply(alloc, error.kind()),
+    }
+}
+
+/// The reply to an image, which takes so many bytes.
+fn accepted_reply(alloc: Global, table: &OwnedDFA, size: usize) -> Result<Reply, AllocError>
+    ensures { IfOk result (λ reply. reply
+        ≡ record { text = accepted_line (row_count table.now) table.now.pattern_len size; status = 0 }) }
+{
+    let rows = table.state_len();
+    let patterns = table.pattern_len();
+    let text = format!(in alloc; "ok {rows} {patterns} {size}\n")?;
+    Ok(Reply::new(text, FOUND))
+}
+
+/// The reply to bytes that fail a test of reading.
+fn failed_test_reply(alloc: Global, kind: &DeserializeErrorKind) -> Result<Reply, AllocError>
+    ensures { IfOk result (λ reply.
+        (kind_of kind.now ≢ Kind.Memory) × (reply ≡ failed_test_reply (kind_of kind.now))) }
+{
+    match kind {
+        DeserializeErrorKind::Generic { .. } => fixed_reply(alloc, "refused generic\n", NOT_FOUND),
+        DeserializeErrorKind::BufferTooSmall { .. } => {
+            fixed_reply(alloc, "refused buffer\n", NOT_FOUND)
+        }
+        DeserializeErrorKind::VersionMismatch { .. } => {
+            fixed_reply(alloc, "refused version\n", NOT_FOUND)
+        }
+        DeserializeErrorKind::EndianMismatch { .. } => {
+            fixed_reply(alloc, "refused endian\n", NOT_FOUND)
+        }
+        DeserializeErrorKind::LabelMismatch { .. } => {
+            fixed_reply(alloc, "refused label\n", NOT_FOUND)
+        }
+        DeserializeErrorKind::PatternID { .. } => fixed_reply(
+            alloc,
+            "refused pattern\n",
+            NOT_FOUND,
+        ),
+        DeserializeErrorKind::StateID { .. } => fixed_reply(alloc, "refused state\n", NOT_FOUND),
+        DeserializeErrorKind::Memory => Err(AllocError),
+    }
+}

@@ -1,0 +1,52 @@
+//! The command `image`: the image of a table of a script's plan.
+
+ghost use Rattle.std.specs.Prelude.{IfOk};
+ghost use Rattle.rx_regex.specs.Plan.{IsBuilt};
+ghost use Rattle.rx_script.specs.Script.{script_read};
+ghost use Rattle.rx_main.specs.Image.{ImageAnswers, ImageReplies};
+
+use crate::lines::refusal_reply;
+use crate::reply::{FOUND, Reply};
+use crate::scripts::{Reading, read};
+use rx_base::Direction;
+use rx_regex::build_image;
+use rx_script::Script;
+use rx_wire::Order;
+use std::alloc::{AllocError, Global};
+
+/// The reply to the bytes of a script.
+pub fn image(
+    alloc: Global,
+    text: &[u8],
+    direction: Direction,
+    order: Order,
+) -> Result<Reply, AllocError>
+    ensures { IfOk result (ImageReplies direction order text.now) }
+{
+    match read(alloc, text, false)? {
+        Reading::Script(script) => image_reply(alloc, &script, direction, order),
+        Reading::TurnedDown(reply) => Ok(reply),
+    }
+}
+
+/// The image, or why no table is built.
+fn image_reply(
+    alloc: Global,
+    script: &Script,
+    direction: Direction,
+    order: Order,
+) -> Result<Reply, AllocError>
+    requires { IsBuilt script.now.plan }
+    ensures { IfOk result (ImageAnswers direction order (script_read script.now)) }
+{
+    match build_image(
+        alloc,
+        script.exprs.as_slice(),
+        &script.plan,
+        direction,
+        order,
+    ) {
+        Ok(image) => Ok(Reply::from_bytes(image, FOUND)),
+        Err(error) => refusal_reply(alloc, &error),
+    }
+}
