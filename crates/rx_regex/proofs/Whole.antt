@@ -4,9 +4,12 @@ use Rattle.rx_spec.specs.Expressions.{Expression}
 use Rattle.rx_spec.specs.Plans.{Plan}
 use Rattle.rx_spec.specs.declared.Direction.{Direction}
 use Rattle.rx_build.specs.Builders.{Both}
+use Rattle.rx_build.specs.Settings.{settled}
+use Rattle.rx_built_images.proofs.BuiltTables.{built_whole}
 use Rattle.rx_dense.specs.Layouts.{IsShaped, Layout}
 use Rattle.rx_dense_image.specs.Images.{IsWhole, reads, text}
 use Rattle.rx_dense_image.proofs.WholeAgain.{whole_again}
+use Rattle.rx_expr.specs.Compiles.{wanted_nfa}
 use Rattle.rx_regex_builder.specs.Pairs.{IsOf, in_direction}
 use Rattle.rx_wire.specs.Kinds.{Kind}
 use Rattle.rx_wire.specs.declared.order.Order.{Order}
@@ -21,7 +24,13 @@ is_table p direction es {both} {l} settings is =
 
 pub table_whole : (p : Plan) (direction : Direction) (es : List Expression) (l : Layout) → p.quit < 2 ^ 256
     → IsShaped l → IsTable p direction es l → IsWhole l
-table_whole p direction es l quit shaped is = ?
+table_whole p direction es l quit shaped is =
+    let both : Both = in_direction direction (settings_of p) in
+    built_whole (settled both.dense) (wanted_nfa both.thompson es) l (few direction) shaped is
+  where
+    few : (d : Direction) → (settled (in_direction d (settings_of p)).dense).quit < 2 ^ 256
+    few Direction.Forward = quit
+    few Direction.Reverse = quit
 
 -- what was written is read again
 whole_read : (l : Layout) (order : Order) (bytes : List ℕ) → IsWhole l → bytes ≡ text order l
