@@ -1,0 +1,5 @@
+-- where rows begin
+pub mod Offsets
+-- the bytes of rows are read back
+pub mod RowTexts
+pub mod RowPlaces

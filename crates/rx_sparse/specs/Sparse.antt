@@ -1,0 +1,105 @@
+-- The sparse table of a dense one: the same rows in the same order, each as its ranges, and the ids of all that names
+-- rows changed to offsets.
+use Rattle.std.specs.Prelude.{ℕ, ◌+◌, ◌-◌, ◌*◌, ◌&&◌, List, [], length, map, filter, take, drop, slice_index}
+use Rattle.std.specs.Prelude.{Option, option_map, if◌then◌else◌}
+use Rattle.std.specs.List.{range_with_len}
+use Rattle.rx_spec.specs.Ids.{id_of}
+use Rattle.rx_base.specs.ByteClasses.{alphabet_len}
+use Rattle.rx_dense.specs.declared.special.Special.{Special}
+use Rattle.rx_dense.specs.Specials.{is_match_id}
+use Rattle.rx_dense.specs.Layouts.{Layout as Dense, IsRowId, needles_of_id, patterns_at, place_in_range, row_count, stride}
+use Rattle.rx_dense.specs.Layouts.{universal_row}
+use Rattle.rx_dense.specs.Builder.{renamed_id}
+use Rattle.rx_dense.specs.States.{begins_range, is_live, range_end, row_at}
+use Rattle.rx_sparse.specs.declared.ranges.ClassRange.{ClassRange}
+use Rattle.rx_sparse.specs.Rows.{Row, offsets}
+use Rattle.rx_sparse.specs.Layouts.{Layout}
+
+-- the special ids of a dense table are ids of rows
+pub record AreSpecialRows (l : Dense) : Type 0 where
+  pub max : IsRowId l l.special.max
+  pub quit : IsRowId l l.special.quit
+  pub min_match : IsRowId l l.special.min_match
+  pub max_match : IsRowId l l.special.max_match
+  pub min_accel : IsRowId l l.special.min_accel
+  pub max_accel : IsRowId l l.special.max_accel
+  pub min_start : IsRowId l l.special.min_start
+  pub max_start : IsRowId l l.special.max_start
+
+-- ---- rows as ranges
+
+-- the maximal range that begins at a class
+abbrev pub range_of : List ℕ → ℕ → ClassRange
+range_of next_ids first = record {
+  first = first;
+  last = range_end next_ids first - 1;
+  next = slice_index next_ids first;
+}
+
+-- the maximal ranges of classes that lead to one row other than dead, where a row has the next ids of its classes and
+-- last that of the end mark
+abbrev pub ranges_of : List ℕ → List ClassRange
+ranges_of next_ids =
+    map (range_of next_ids)
+    (filter (λ first. begins_range next_ids first && is_live next_ids first) (range_with_len 0 (length next_ids - 1)))
+
+abbrev pub patterns_of_id : Dense → ℕ → List ℕ
+patterns_of_id l id =
+    if is_match_id l.special id then patterns_at l (place_in_range l l.special.min_match id) else []
+
+-- a row of a dense table with its ids
+abbrev pub dense_row : Dense → ℕ → Row
+dense_row l row = record {
+  ranges = ranges_of (row_at l row).next_ids;
+  eoi = slice_index (row_at l row).next_ids (alphabet_len l.classes - 1);
+  patterns = patterns_of_id l (row * stride l);
+  needles = needles_of_id l (row * stride l);
+}
+
+abbrev pub dense_rows : Dense → List Row
+dense_rows l = map (dense_row l) (range_with_len 0 (row_count l))
+
+-- ---- ids as offsets
+
+-- the offset of each row, which the names of rows leave as it is
+abbrev pub offsets_of : Dense → List ℕ
+offsets_of l = offsets (dense_rows l)
+
+abbrev pub renamed_row : (ℕ → ℕ) → Row → Row
+renamed_row renamed row = record row {
+  ranges = map (λ range. record range { next = renamed range.next }) row.ranges;
+  eoi = renamed row.eoi;
+}
+
+abbrev pub renamed_special : (ℕ → ℕ) → Special → Special
+renamed_special renamed s = record {
+  max = renamed s.max;
+  quit = renamed s.quit;
+  min_match = renamed s.min_match;
+  max_match = renamed s.max_match;
+  min_accel = renamed s.min_accel;
+  max_accel = renamed s.max_accel;
+  min_start = renamed s.min_start;
+  max_start = renamed s.max_start;
+}
+
+abbrev pub universal_offset : Dense → Option ℕ → Option ℕ
+universal_offset l kept = option_map (id_of (offsets_of l)) (universal_row l kept)
+
+abbrev pub sparse_of : Dense → Layout
+sparse_of l =
+    let renamed : ℕ → ℕ = renamed_id l (offsets_of l) in
+    record {
+      flags = l.flags;
+      classes = l.classes;
+      pattern_len = l.pattern_len;
+      rows = map (renamed_row renamed) (dense_rows l);
+      start_kind = l.start_kind;
+      contexts = l.contexts;
+      pattern_starts = l.pattern_starts;
+      starts = map renamed l.starts;
+      universal_unanchored = universal_offset l l.universal_unanchored;
+      universal_anchored = universal_offset l l.universal_anchored;
+      special = renamed_special renamed l.special;
+      quit = l.quit;
+    }

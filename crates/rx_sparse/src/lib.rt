@@ -1,0 +1,22 @@
+//! Sparse tables in memory: a row has the ranges of byte classes that lead to one row, and where they lead.
+//!
+//! Start with [`DFA`], the table, and its `Automaton` calls. It keeps the bytes of its rows in a [`ByteStore`], owned or
+//! borrowed, in either order. [`State`] is a row that is decoded.
+//!
+//! The contract: a table is seen as a `Layout` with the order of its bytes (`specs/Layouts.antt`), of which one function
+//! makes the table of the definitions. What bytes a row has stands in `specs/Rows.antt`.
+#![tactic(auto)]
+
+mod dfa;
+mod parts;
+mod ranges;
+mod state;
+mod store;
+mod to_sparse;
+
+pub use dfa::DFA;
+pub use parts::Parts;
+pub use ranges::ClassRange;
+pub use state::State;
+pub use store::ByteStore;
+pub use to_sparse::ToSparse;

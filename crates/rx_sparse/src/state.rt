@@ -1,0 +1,134 @@
+//! Rows, decoded.
+
+ghost use Rattle.std.specs.Prelude.{◌≡◌, ◌<◌, ◌≤◌, ◌+◌, ◌*◌, drop, get_or, length, slice_index};
+ghost use Rattle.rx_sparse.specs.Parts.{IsWholeRow};
+ghost use Rattle.rx_sparse.specs.Rows.{next_among, row_in, word_at};
+
+use rx_base::{Needles, PatternID, StateID};
+use rx_wire::Order;
+use std::marker::Model;
+
+/// A row, decoded: its parts, lent from the bytes of the table.
+///
+/// Contracts see it as a `Row`: its ranges, where the end mark leads, its patterns and its needles.
+#[derive(Clone, Debug, Drop)]
+pub struct State<'a> {
+    order: Order,
+    is_match: bool,
+    /// The first and the last class of each range, and of the end mark.
+    ends: &'a [u8],
+    /// The ids to which the ranges and the end mark lead.
+    next_ids: &'a [u8],
+    /// The patterns, the needles, and the bytes after the row.
+    rest: &'a [u8],
+}
+
+impl<'a> Model for State<'a> {
+    ghost use Rattle.rx_sparse.specs.Rows.{Row, row_of_parts};
+    ghost use Rattle.rx_sparse.specs.Parts.{IsDecoded};
+
+    ghost Value = { Row };
+
+    ghost view = { λ s. row_of_parts s.order s.is_match s.ends.now s.next_ids.now s.rest.now };
+
+    ghost invariant = { λ s. IsDecoded s.order s.is_match s.ends.now s.next_ids.now s.rest.now };
+}
+
+/// The word at a place.
+#[inline(always)]
+pub(crate) fn word_at(order: Order, bytes: &[u8], i: usize) -> u32
+    requires { 4 * i + 4 ≤ length bytes.now }
+    ensures { result ≡ word_at order bytes.now i }
+{
+    let at = 4 * i;
+    order.u32_from_bytes([bytes[at], bytes[at + 1], bytes[at + 2], bytes[at + 3]])
+}
+
+impl<'a> State<'a> {
+    /// The row at the front of some bytes.
+    #[inline(always)]
+    pub(crate) fn at(order: Order, bytes: &'a [u8]) -> State<'a>
+        requires { IsWholeRow order bytes.now }
+        ensures { result ≡ row_in order bytes.now }
+    {
+        let head = order.u16_from_bytes([bytes[0], bytes[1]]) as usize;
+        let count = head % 32768;
+        State {
+            order,
+            is_match: head >= 32768,
+            ends: &bytes[2..2 + 2 * count],
+            next_ids: &bytes[2 + 2 * count..2 + 6 * count],
+            rest: &bytes[2 + 6 * count..],
+        }
+    }
+
+    /// How many ranges there are, beside the end mark.
+    pub fn range_len(&self) -> usize
+        ensures { result ≡ length self.now.ranges }
+    {
+        self.ends.len() / 2 - 1
+    }
+
+    /// The row to which a class leads: dead, where no range has it.
+    #[inline(always)]
+    pub fn next(&self, class: u8) -> StateID
+        ensures { result ≡ next_among self.now.ranges class }
+    {
+        let count = self.ends.len() / 2 - 1;
+        for i in 0..count {
+            if self.ends[2 * i] <= class && class <= self.ends[2 * i + 1] {
+                return StateID::must(word_at(self.order, self.next_ids, i) as usize);
+            }
+        }
+        StateID::ZERO
+    }
+
+    /// The row to which the end mark leads.
+    #[inline(always)]
+    pub fn next_eoi(&self) -> StateID
+        ensures { result ≡ self.now.eoi }
+    {
+        let last = self.ends.len() / 2 - 1;
+        StateID::must(word_at(self.order, self.next_ids, last) as usize)
+    }
+
+    /// How many patterns a match row tells. Any other row has none.
+    #[inline(always)]
+    pub fn pattern_len(&self) -> usize
+        ensures { result ≡ length self.now.patterns }
+    {
+        if self.is_match {
+            word_at(self.order, self.rest, 0) as usize
+        } else {
+            0
+        }
+    }
+
+    /// A pattern, by its place among those of the row.
+    #[inline(always)]
+    pub fn pattern(&self, i: usize) -> PatternID
+        requires { i < length self.now.patterns }
+        ensures { result ≡ slice_index self.now.patterns i }
+    {
+        PatternID::must(word_at(self.order, self.rest, i + 1) as usize)
+    }
+
+    /// How many bytes the patterns take, with their count.
+    fn patterns_size(&self) -> usize {
+        if self.is_match {
+            4 + 4 * self.pattern_len()
+        } else {
+            0
+        }
+    }
+
+    /// The needles of an accelerated row. Any other row has none.
+    #[inline(always)]
+    pub fn needles(&self) -> Needles
+        ensures { result ≡ self.now.needles }
+    {
+        let rest = &self.rest[self.patterns_size()..];
+        let len = rest[0] as usize;
+        Needles::new(&rest[1..1 + len])
+    }
+}
