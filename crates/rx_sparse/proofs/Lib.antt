@@ -1,3 +1,5 @@
+-- the bytes of numbers
+pub mod WordBytes
 -- where rows begin
 pub mod Offsets
 -- the bytes of rows are read back

@@ -14,7 +14,8 @@ use Rattle.rx_sparse.specs.Rows.{rows_text}
 use Rattle.rx_sparse.specs.Layouts.{IsRow, IsShaped, Layout, ids_of, row_at}
 use Rattle.rx_sparse.specs.Parts.{AreParts, FitsBytes, IsWholeRow, stored}
 use Rattle.rx_sparse.specs.declared.parts.Parts.{Parts}
-use Rattle.rx_sparse.proofs.Offsets.{length-offsets, offset_at, row_len-patterns, rows_len-more, rows_len-take}
+use Rattle.rx_sparse.specs.Facts.{length-offsets, offset_at, rows_len-more}
+use Rattle.rx_sparse.proofs.Offsets.{row_len-patterns, rows_len-take}
 use Rattle.rx_sparse.proofs.RowTexts.{eoi_there, length-next_ids, length-row, length-rows, next_there}
 
 pub length-rows_in : (order : Order) (count : ℕ) (bytes : List ℕ) → length (rows_in order count bytes) ≡ count
@@ -28,6 +29,7 @@ pub row_in-there : (order : Order) (count : ℕ) (bytes : List ℕ) (row : ℕ) 
     → get_or (rows_in order count bytes) row no_row
     ≡ row_in order (drop (rows_len (take row (rows_in order count bytes))) bytes)
 unfolding rows_in rows_len
+row_in-there order zero bytes row h = elim h [ ]
 row_in-there order (suc count) bytes zero h = refl
 row_in-there order (suc count) bytes (suc row) h =
     let len : ℕ = row_len (row_in order bytes) in
@@ -40,6 +42,7 @@ pub text_from : (order : Order) (rows : List Row) (row : ℕ) → row < length r
     → drop (rows_len (take row rows)) (rows_text order rows)
     ≡ row_text order (get_or rows row no_row) ++ rows_text order (drop (row + 1) rows)
 unfolding rows_len
+text_from order [] row h = elim h [ ]
 text_from order (r ∷ rows) zero h = refl
 text_from order (r ∷ rows) (suc row) h =
     let text : List ℕ = row_text order r in

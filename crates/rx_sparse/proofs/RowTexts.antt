@@ -103,11 +103,9 @@ again16 : (order : Order) (n : ℕ) → n < 2 ^ 16 → number order w16 (field o
 again16 Order.Little n h = from_le_bytes-to_le_bytes_2 n h
 again16 Order.Big n h = from_be_bytes-to_be_bytes_2 n h
 
-AreWords : List ℕ → Type 0
-abbrev AreWords words = (i : ℕ) → i < length words → slice_index words i < 2 ^ 32
-
 word_there : (order : Order) (words rest : List ℕ) (i : ℕ) → i < length words → slice_index words i < 2 ^ 32
     → word_at order (words_text order words ++ rest) i ≡ slice_index words i
+word_there order [] rest i h small = elim h [ ]
 word_there order (word ∷ words) rest zero h small =
     let text : List ℕ = field order w32 word in
     ap (λ t. number order w32 (take 4 t)) (append_assoc text (words_text order words) rest)
@@ -135,6 +133,7 @@ words_again order words rest small =
 
 end_first : (ranges : List ClassRange) (rest : List ℕ) (i : ℕ) → i < length ranges
     → slice_index (pairs_text ranges ++ rest) (2 * i) ≡ (get_or ranges i no_range).first
+end_first [] rest i h = elim h [ ]
 end_first (range ∷ ranges) rest zero h = refl
 end_first (range ∷ ranges) rest (suc i) h =
     let place : 2 * suc i ≡ suc (suc (2 * i)) = omega arith in
@@ -142,6 +141,7 @@ end_first (range ∷ ranges) rest (suc i) h =
 
 end_last : (ranges : List ClassRange) (rest : List ℕ) (i : ℕ) → i < length ranges
     → slice_index (pairs_text ranges ++ rest) (2 * i + 1) ≡ (get_or ranges i no_range).last
+end_last [] rest i h = elim h [ ]
 end_last (range ∷ ranges) rest zero h = refl
 end_last (range ∷ ranges) rest (suc i) h =
     let place : 2 * suc i + 1 ≡ suc (suc (2 * i + 1)) = omega arith in
@@ -149,6 +149,7 @@ end_last (range ∷ ranges) rest (suc i) h =
 
 pub next_there : (ranges : List ClassRange) (rest : List ℕ) (i : ℕ) → i < length ranges
     → slice_index (map (λ range. range.next) ranges ++ rest) i ≡ (get_or ranges i no_range).next
+next_there [] rest i h = elim h [ ]
 next_there (range ∷ ranges) rest zero h = refl
 next_there (range ∷ ranges) rest (suc i) h = next_there ranges rest i (omega arith)
 
@@ -265,8 +266,8 @@ module _ (order : Order) (row : Row) (rest : List ℕ) (fits : FitsBytes row) wh
 patterns_read : (order : Order) (patterns rest : List ℕ) → length patterns < 2 ^ 32
     → ((i : ℕ) → i < length patterns → slice_index patterns i < 2 ^ 32)
     → patterns_in order (is_some_list patterns) (patterns_text order patterns ++ rest) ≡ patterns
-patterns_read order [] rest few small = refl
-patterns_read order (k ∷ ks) rest few small =
+patterns_read order [] rest short small = refl
+patterns_read order (k ∷ ks) rest short small =
     let n : ℕ = length (k ∷ ks) in
     let text : List ℕ = patterns_text order (k ∷ ks) ++ rest in
     let words : List ℕ = words_text order (k ∷ ks) ++ rest in
@@ -275,15 +276,15 @@ patterns_read order (k ∷ ks) rest few small =
     let count : word_at order text 0 ≡ n =
     ap (λ t. number order w32 (take 4 t)) grouped
     ∙ ap (number order w32) (take_at (field order w32 n) words 4 (length-field_32 order n))
-    ∙ again32 order n few in
+    ∙ again32 order n short in
     let behind : drop 4 text ≡ words =
     ap (drop 4) grouped ∙ drop_at (field order w32 n) words 4 (length-field_32 order n) in
     ap₂ (λ m t. words_in order m t) count behind ∙ words_again order (k ∷ ks) rest small
 
 patterns_end : (order : Order) (patterns rest : List ℕ) → length patterns < 2 ^ 32
     → patterns_len order (is_some_list patterns) (patterns_text order patterns ++ rest) ≡ patterns_size patterns
-patterns_end order [] rest few = refl
-patterns_end order (k ∷ ks) rest few =
+patterns_end order [] rest short = refl
+patterns_end order (k ∷ ks) rest short =
     let n : ℕ = length (k ∷ ks) in
     let words : List ℕ = words_text order (k ∷ ks) ++ rest in
     let grouped : patterns_text order (k ∷ ks) ++ rest ≡ field order w32 n ++ words =
@@ -291,7 +292,7 @@ patterns_end order (k ∷ ks) rest few =
     let count : word_at order (patterns_text order (k ∷ ks) ++ rest) 0 ≡ n =
     ap (λ t. number order w32 (take 4 t)) grouped
     ∙ ap (number order w32) (take_at (field order w32 n) words 4 (length-field_32 order n))
-    ∙ again32 order n few in
+    ∙ again32 order n short in
     ap (λ m. 4 + 4 * m) count
 
 needles_read : (needles rest : List ℕ) → needles_in (length needles ∷ (needles ++ rest)) ≡ needles
@@ -391,7 +392,7 @@ module _ (order : Order) (row : Row) (rest : List ℕ) (fits : FitsBytes row) wh
   parts_decoded : IsDecoded order (is_some_list row.patterns) (ends_text row.ranges) next_words read_behind
   parts_decoded = record {
     some = omega (arith, length-ends row.ranges);
-    ids = omega (arith, length-ends row.ranges, length-words order (next_ids row), length-next_ids row);
+    words = omega (arith, length-ends row.ranges, length-words order (next_ids row), length-next_ids row);
     small = λ i h.
         let within : i < length (next_ids row) = omega (arith, length-ends row.ranges, length-next_ids row) in
         omega (arith, next_word i within, fits.next_ids i within);

@@ -50,7 +50,7 @@ pub record IsWholeRow (order : Order) (bytes : List ℕ) : Type 0 where
 -- the parts of a decoded row: they have as many bytes as they name, and all ids are ids
 pub record IsDecoded (order : Order) (is_match : Bool) (ends ids rest : List ℕ) : Type 0 where
   pub some : 2 ≤ length ends
-  pub ids : length ids ≡ 2 * length ends
+  pub words : length ids ≡ 2 * length ends
   pub small : (i : ℕ) → i < length ends / 2 → word_at order ids i ≤ max_id
   pub needles : patterns_len order is_match rest + 1 + slice_index rest (patterns_len order is_match rest) ≤ length rest
   pub few : slice_index rest (patterns_len order is_match rest) ≤ 3

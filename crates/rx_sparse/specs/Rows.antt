@@ -1,6 +1,6 @@
 -- Rows of a sparse table: for each range of byte classes that lead to one row the id of that row, where ids are byte
 -- offsets; and the bytes of rows, in either order.
-use Rattle.std.specs.Prelude.{ℕ, zero, suc, ◌+◌, ◌-◌, ◌*◌, ◌/◌, ◌%◌, ◌==◌, ◌&&◌, nat_le, not, Bool, if◌then◌else◌}
+use Rattle.std.specs.Prelude.{ℕ, zero, suc, ◌+◌, ◌-◌, ◌*◌, ◌/◌, ◌%◌, ◌&&◌, nat_le, Bool, true, false, if◌then◌else◌}
 use Rattle.std.specs.Prelude.{List, [], ◌∷◌, ◌++◌, length, map, take, drop, slice_index}
 use Rattle.std.specs.List.{flat_map, range_with_len}
 use Rattle.std.specs.Int.{w16, w32}
@@ -40,7 +40,8 @@ words_text order words = flat_map (field order w32) words
 
 -- whether a row tells patterns
 abbrev pub is_some_list : List ℕ → Bool
-is_some_list list = not (length list == 0)
+is_some_list [] = false
+is_some_list (k ∷ ks) = true
 
 -- How many ranges there are with that of the end mark, and in the highest bit whether the row tells patterns.
 abbrev pub head_number : Row → ℕ

@@ -65,11 +65,11 @@ dense_rows l = map (dense_row l) (range_with_len 0 (row_count l))
 abbrev pub offsets_of : Dense → List ℕ
 offsets_of l = offsets (dense_rows l)
 
+abbrev pub renamed_range : (ℕ → ℕ) → ClassRange → ClassRange
+renamed_range renamed range = record range { next = renamed range.next }
+
 abbrev pub renamed_row : (ℕ → ℕ) → Row → Row
-renamed_row renamed row = record row {
-  ranges = map (λ range. record range { next = renamed range.next }) row.ranges;
-  eoi = renamed row.eoi;
-}
+renamed_row renamed row = record row { ranges = map (renamed_range renamed) row.ranges; eoi = renamed row.eoi }
 
 abbrev pub renamed_special : (ℕ → ℕ) → Special → Special
 renamed_special renamed s = record {

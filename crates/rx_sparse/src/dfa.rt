@@ -9,6 +9,7 @@ ghost use Rattle.rx_search.specs.Starts.{IsId};
 ghost use Rattle.rx_dense.specs.Layouts.{context_number, mode_place};
 ghost use Rattle.rx_sparse.specs.Layouts.{AreRows, AreStarts, ids_of, memory_usage, row_at, row_count, start_id};
 ghost use Rattle.rx_sparse.specs.Parts.{AreParts, stored};
+ghost use Rattle.rx_sparse.specs.Rows.{rows_text};
 
 mod automaton;
 
@@ -174,6 +175,14 @@ impl<T: ByteStore> DFA<T> {
         ensures { result ≡ row_at self.now.layout (row_of (ids_of self.now.layout) id) }
     {
         State::at(self.parts.order, &self.rows.bytes()[id.as_usize()..])
+    }
+
+    /// The bytes of the rows.
+    #[inline(always)]
+    pub fn row_bytes(&self) -> &[u8]
+        ensures { result.now ≡ rows_text self.now.order self.now.layout.rows }
+    {
+        self.rows.bytes()
     }
 
     /// How many start entries there are: six for the contexts of an unanchored search, six for those of an anchored

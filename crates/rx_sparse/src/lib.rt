@@ -12,11 +12,9 @@ mod parts;
 mod ranges;
 mod state;
 mod store;
-mod to_sparse;
 
 pub use dfa::DFA;
 pub use parts::Parts;
 pub use ranges::ClassRange;
 pub use state::State;
 pub use store::ByteStore;
-pub use to_sparse::ToSparse;

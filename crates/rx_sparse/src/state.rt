@@ -1,8 +1,10 @@
 //! Rows, decoded.
 
-ghost use Rattle.std.specs.Prelude.{◌≡◌, ◌<◌, ◌≤◌, ◌+◌, ◌*◌, drop, get_or, length, slice_index};
+ghost use Rattle.std.specs.Prelude.{◌≡◌, ◌<◌, ◌≤◌, ◌+◌, ◌*◌, ◌^◌, length, slice_index, take};
+ghost use Rattle.std.specs.Int.{w16};
+ghost use Rattle.rx_wire.specs.Fields.{number};
 ghost use Rattle.rx_sparse.specs.Parts.{IsWholeRow};
-ghost use Rattle.rx_sparse.specs.Rows.{next_among, row_in, word_at};
+ghost use Rattle.rx_sparse.specs.Rows.{next_among, patterns_len, row_in, word_at};
 
 use rx_base::{Needles, PatternID, StateID};
 use rx_wire::Order;
@@ -34,14 +36,39 @@ impl<'a> Model for State<'a> {
     ghost invariant = { λ s. IsDecoded s.order s.is_match s.ends.now s.next_ids.now s.rest.now };
 }
 
+/// The number of the first two bytes.
+#[inline(always)]
+#[tactic(auto, using(crate::proofs::WordBytes::two))]
+fn head_number(order: Order, bytes: &[u8]) -> usize
+    requires { 2 ≤ length bytes.now }
+    ensures value { result ≡ number order w16 (take 2 bytes.now) }
+    ensures bound { result < 2 ^ 16 }
+{
+    order.u16_from_bytes([bytes[0], bytes[1]]) as usize
+}
+
 /// The word at a place.
 #[inline(always)]
+#[tactic(auto, using(crate::proofs::WordBytes::four))]
 pub(crate) fn word_at(order: Order, bytes: &[u8], i: usize) -> u32
     requires { 4 * i + 4 ≤ length bytes.now }
     ensures { result ≡ word_at order bytes.now i }
 {
     let at = 4 * i;
     order.u32_from_bytes([bytes[at], bytes[at + 1], bytes[at + 2], bytes[at + 3]])
+}
+
+/// How many bytes the patterns of a row take, with their count.
+#[inline(always)]
+fn patterns_len(order: Order, is_match: bool, rest: &[u8]) -> usize
+    requires { patterns_len order is_match rest.now < length rest.now }
+    ensures { result ≡ patterns_len order is_match rest.now }
+{
+    if is_match {
+        4 + 4 * word_at(order, rest, 0) as usize
+    } else {
+        0
+    }
 }
 
 impl<'a> State<'a> {
@@ -51,7 +78,7 @@ impl<'a> State<'a> {
         requires { IsWholeRow order bytes.now }
         ensures { result ≡ row_in order bytes.now }
     {
-        let head = order.u16_from_bytes([bytes[0], bytes[1]]) as usize;
+        let head = head_number(order, bytes);
         let count = head % 32768;
         State {
             order,
@@ -113,21 +140,12 @@ impl<'a> State<'a> {
         PatternID::must(word_at(self.order, self.rest, i + 1) as usize)
     }
 
-    /// How many bytes the patterns take, with their count.
-    fn patterns_size(&self) -> usize {
-        if self.is_match {
-            4 + 4 * self.pattern_len()
-        } else {
-            0
-        }
-    }
-
     /// The needles of an accelerated row. Any other row has none.
     #[inline(always)]
     pub fn needles(&self) -> Needles
         ensures { result ≡ self.now.needles }
     {
-        let rest = &self.rest[self.patterns_size()..];
+        let rest = &self.rest[patterns_len(self.order, self.is_match, self.rest)..];
         let len = rest[0] as usize;
         Needles::new(&rest[1..1 + len])
     }

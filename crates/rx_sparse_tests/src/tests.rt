@@ -1,17 +1,18 @@
 //! What no clause shows: that tables are made sparse, byte by byte, and that they are searched as the dense ones are.
 
-use rx_base::{Anchored, Input, MatchKind};
+use rx_base::{Anchored, Input, MatchKind, StateID};
 use rx_build::dense::{Builder, Config};
 use rx_dense::{OwnedDFA, Special};
 use rx_expr::thompson;
 use rx_notation::read;
 use rx_search::Automaton;
-use rx_sparse::{DFA, ToSparse};
-use std::alloc::Global;
+use rx_sparse::ToSparse;
+use rx_wire::Order;
+use std::alloc::{AllocError, Global};
 use std::process::Abort;
 use std::test::Fail;
 
-/// The dense table of some patterns, with another kind of match for the search of starts in reverse.
+/// The dense table of some patterns: forward, or in reverse with all matches told.
 fn build(alloc: Global, patterns: &str, reverse: bool) -> Result<OwnedDFA, Fail> {
     let exprs = read(alloc, patterns)?;
     let mut builder = Builder::new();
@@ -22,6 +23,7 @@ fn build(alloc: Global, patterns: &str, reverse: bool) -> Result<OwnedDFA, Fail>
     Ok(builder.build_many(alloc, &exprs)?)
 }
 
+/// The eight ids of special rows.
 fn ids(special: &Special) -> [u32; 8] {
     [
         special.max.as_u32(),
@@ -35,13 +37,90 @@ fn ids(special: &Special) -> [u32; 8] {
     ]
 }
 
+/// A row by hand: its ranges, where the end mark leads, its patterns and its needles.
+type Row = (
+    &'static [(u8, u8, u32)],
+    u32,
+    &'static [u32],
+    &'static [u8],
+);
+
+/// The rows of `abc`, whose classes are the bytes before `a`, `a`, `b`, `c`, and the bytes after it. Row 2 is the match.
+/// From row 3, 5, 7 and 9 on `abc` is looked for anywhere, and from row 4, 6, 8 and 10 on right there.
+const ABC_ROWS: [Row; 11] = [
+    (&[], 0, &[], &[]),
+    (&[], 0, &[], &[]),
+    (&[], 0, &[0], &[]),
+    (&[(0, 0, 35), (1, 1, 78), (2, 4, 35)], 0, &[], b"a"),
+    (&[(1, 1, 111)], 0, &[], &[]),
+    (&[(0, 0, 35), (1, 1, 78), (2, 2, 126), (3, 4, 35)], 0, &[], &[]),
+    (&[(2, 2, 165)], 0, &[], &[]),
+    (
+        &[(0, 0, 35), (1, 1, 78), (2, 2, 35), (3, 3, 180), (4, 4, 35)],
+        0,
+        &[],
+        &[],
+    ),
+    (&[(3, 3, 195)], 0, &[], &[]),
+    (&[(0, 4, 18)], 18, &[], &[]),
+    (&[(0, 4, 18)], 18, &[], &[]),
+];
+
+fn add_word(bytes: &mut Vec<u8>, word: u32) -> Result<(), AllocError> {
+    bytes.extend_from_slice(&word.to_le_bytes())
+}
+
+/// The bytes of rows, number by number.
+fn bytes_of(alloc: Global, rows: &[Row]) -> Result<Vec<u8>, AllocError> {
+    let mut bytes = Vec::new(alloc);
+    for (ranges, eoi, patterns, needles) in rows {
+        bytes.push(ranges.len() as u8 + 1)?;
+        bytes.push(if patterns.is_empty() { 0 } else { 128 })?;
+        for (first, last, _) in *ranges {
+            bytes.extend_from_slice(&[*first, *last])?;
+        }
+        bytes.extend_from_slice(&[0, 0])?;
+        for (_, _, next) in *ranges {
+            add_word(&mut bytes, *next)?;
+        }
+        add_word(&mut bytes, *eoi)?;
+        if !patterns.is_empty() {
+            add_word(&mut bytes, patterns.len() as u32)?;
+            for pattern in *patterns {
+                add_word(&mut bytes, *pattern)?;
+            }
+        }
+        bytes.push(needles.len() as u8)?;
+        bytes.extend_from_slice(needles)?;
+    }
+    Ok(bytes)
+}
+
 #[test]
-fn the_table_of_abc(rt: HostRuntime) -> Result<(), Fail> {
+fn the_table_of_abc_is_the_one_by_hand(rt: HostRuntime) -> Result<(), Fail> {
     let alloc = rt.alloc();
     let sparse = build(alloc, "abc", false)?.to_sparse(alloc)?;
-    assert!(rt; sparse.state_len() == 11, "{}", sparse.state_len());
-    assert!(rt; sparse.memory_usage() == 210 + 48, "{}", sparse.memory_usage());
+    assert!(&rt; sparse.state_len() == 11, "{}", sparse.state_len());
+    assert!(&rt; sparse.order() == Order::Little);
+    assert!(&rt; sparse.memory_usage() == 210 + 48, "{}", sparse.memory_usage());
     let special = ids(sparse.special());
-    assert!(rt; special == [35, 9, 18, 18, 35, 35, 0, 0], "{:?}", special);
+    assert!(&rt; special == [35, 9, 18, 18, 35, 35, 0, 0], "{:?}", special);
+    let rows = bytes_of(alloc, &ABC_ROWS)?;
+    assert!(&rt; sparse.row_bytes() == rows.as_slice(), "{:?}", sparse.row_bytes());
+    let unanchored = sparse.universal_start_state(Anchored::No);
+    assert!(&rt; unanchored == Some(StateID::must(35)));
+    let anchored = sparse.universal_start_state(Anchored::Yes);
+    assert!(&rt; anchored == Some(StateID::must(63)));
     Ok(())
+}
+
+/// Patterns, a text, and what searches of it tell.
+type Case = (&'static str, &'static [u8], &'static str);
+
+/// What a forward search, one in reverse and an overlapping one tell.
+fn told<A: Automaton>(alloc: Global, dfa: &A, text: &[u8]) -> Result<String, Fail> {
+    let input = Input::new(text);
+    let mut told = format!(in alloc; "{:?}", dfa.try_search_fwd(&input))?;
+    told.push_str(&format!(in alloc; " {:?}", dfa.try_search_rev(&input))?)?;
+    Ok(told)
 }

@@ -7,8 +7,7 @@ ghost use Rattle.rx_base.specs.Search.{mode_of};
 ghost use Rattle.rx_search.specs.Starts.{IsId, refusal_of};
 ghost use Rattle.rx_dense.specs.Specials.{is_in_range};
 ghost use Rattle.rx_sparse.specs.Layouts.{ids_of, settings_of, table_of};
-ghost use Rattle.rx_sparse.specs.Facts.{IsSoundLayout, IsSoundLayout-fact};
-ghost use Rattle.rx_sparse.proofs.Offsets.{offsets_are_ids};
+ghost use Rattle.rx_sparse.specs.Facts.{IsSoundLayout, IsSoundLayout-fact, offsets_are_ids};
 
 use crate::{ByteStore, DFA};
 use rx_base::start::Config;
