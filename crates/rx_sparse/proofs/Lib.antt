@@ -5,3 +5,9 @@ pub mod Offsets
 -- the bytes of rows are read back
 pub mod RowTexts
 pub mod RowPlaces
+-- kinds of rows by their ids
+pub mod RowKinds
+-- what a decoded row answers
+pub mod DecodedRows
+-- the ranges of dense rows are read
+pub mod ReadRanges

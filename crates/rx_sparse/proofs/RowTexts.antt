@@ -1,7 +1,7 @@
 -- The bytes of rows: how many there are, and that they are read back, whatever follows.
-use Rattle.std.proofs.Common.{◌≡◌, ℕ, zero, suc, ◌+◌, ◌-◌, ◌*◌, ◌/◌, ◌%◌, ◌^◌, ◌<◌, ◌≤◌, ◌==◌, Bool, true, false, not}
+use Rattle.std.proofs.Common.{◌≡◌, ℕ, zero, suc, ◌+◌, ◌-◌, ◌*◌, ◌/◌, ◌%◌, ◌^◌, ◌<◌, ◌≤◌, Bool, true, false}
 use Rattle.std.proofs.Common.{cond, List, [], ◌∷◌, ◌++◌, length, take, drop, map, get_or, slice_index, nat_le}
-use Rattle.std.proofs.Common.{refl, ap, ap₂, sym, ◌∙◌, subst, append_assoc, arith}
+use Rattle.std.proofs.Common.{refl, ap, ap₂, sym, ◌∙◌, subst, append_assoc, length-drop, arith}
 use Rattle.std.specs.List.{flat_map, range_with_len}
 use Rattle.std.specs.Int.{w16, w32}
 use Rattle.std.proofs.lemmas.List.{append-nil, drop-drop, drop_at, take_at, length-append, get_or-append-add}
@@ -12,7 +12,7 @@ use Rattle.rx_wire.specs.declared.order.Order.{Order}
 use Rattle.rx_wire.specs.Fields.{field, number}
 use Rattle.rx_wire.proofs.Fields.{again32, length-field_16, length-field_32}
 use Rattle.rx_sparse.specs.declared.ranges.ClassRange.{ClassRange}
-use Rattle.rx_sparse.specs.Rows.{Row, count_in, ends_in, ends_text, head_number, is_match_in, is_some_list, next_ids}
+use Rattle.rx_sparse.specs.Rows.{Row, behind_ends, count_in, ends_in, ends_text, head_number, is_match_in, is_some_list, next_ids}
 use Rattle.rx_sparse.specs.Rows.{needles_in, next_ids_in, no_range, no_row, patterns_in, patterns_len, patterns_text}
 use Rattle.rx_sparse.specs.Rows.{range_in, rest_in, row_in, row_len, row_of_parts, row_text, rows_in}
 use Rattle.rx_sparse.specs.Rows.{rows_len, rows_text, word_at, words_in, words_text}
@@ -202,12 +202,6 @@ module _ (order : Order) (row : Row) (rest : List ℕ) (fits : FitsBytes row) wh
   by_one : text ≡ head ++ (ends_text row.ranges ++ (ids ++ behind))
   by_one = simp append_assoc refl
 
-  by_two : text ≡ (head ++ ends_text row.ranges) ++ (ids ++ behind)
-  by_two = by_one ∙ sym (append_assoc head (ends_text row.ranges) (ids ++ behind))
-
-  by_three : text ≡ ((head ++ ends_text row.ranges) ++ ids) ++ behind
-  by_three = by_two ∙ sym (append_assoc (head ++ ends_text row.ranges) ids behind)
-
   head_is : number order w16 (take 2 text) ≡ head_number row
   head_is =
       ap (λ t. number order w16 (take 2 t)) by_one
@@ -221,45 +215,29 @@ module _ (order : Order) (row : Row) (rest : List ℕ) (fits : FitsBytes row) wh
   pub matches_is : is_match_in order text ≡ some
   matches_is = ap (nat_le 32768) head_is ∙ told count some few
 
-  length-head : length (head ++ ends_text row.ranges) ≡ 2 + 2 * count
-  length-head =
-      omega (
-        arith,
-        length-append head (ends_text row.ranges),
-        length-field_16 order (head_number row),
-        length-ends row.ranges,
-      )
-
-  length-three : length ((head ++ ends_text row.ranges) ++ ids) ≡ 2 + 6 * count
-  length-three =
-      omega (
-        arith,
-        length-append (head ++ ends_text row.ranges) ids,
-        length-head,
-        length-words order (next_ids row),
-        length-next_ids row,
-      )
+  behind_head : drop 2 text ≡ ends_text row.ranges ++ (ids ++ behind)
+  behind_head =
+      ap (drop 2) by_one
+      ∙ drop_at head (ends_text row.ranges ++ (ids ++ behind)) 2 (length-field_16 order (head_number row))
 
   pub ends_is : ends_in order text ≡ ends_text row.ranges
   ends_is =
-      ap (λ n. take (2 * n) (drop 2 text)) count_is
-      ∙ ap (λ t. take (2 * count) (drop 2 t)) by_one
-      ∙ ap (take (2 * count))
-      (drop_at head (ends_text row.ranges ++ (ids ++ behind)) 2 (length-field_16 order (head_number row)))
+      ap₂ (λ n t. take (2 * n) t) count_is behind_head
       ∙ take_at (ends_text row.ranges) (ids ++ behind) (2 * count) (length-ends row.ranges)
 
+  ids_there : behind_ends order text ≡ ids ++ behind
+  ids_there =
+      ap₂ (λ n t. drop (2 * n) t) count_is behind_head
+      ∙ drop_at (ends_text row.ranges) (ids ++ behind) (2 * count) (length-ends row.ranges)
+
+  length-ids : length ids ≡ 4 * count
+  length-ids = omega (arith, length-words order (next_ids row), length-next_ids row)
+
   pub ids_is : next_ids_in order text ≡ ids
-  ids_is =
-      ap (λ n. take (4 * n) (drop (2 + 2 * n) text)) count_is
-      ∙ ap (λ t. take (4 * count) (drop (2 + 2 * count) t)) by_two
-      ∙ ap (take (4 * count)) (drop_at (head ++ ends_text row.ranges) (ids ++ behind) (2 + 2 * count) length-head)
-      ∙ take_at ids behind (4 * count) (omega (arith, length-words order (next_ids row), length-next_ids row))
+  ids_is = ap₂ (λ n t. take (4 * n) t) count_is ids_there ∙ take_at ids behind (4 * count) length-ids
 
   pub rest_is : rest_in order text ≡ behind
-  rest_is =
-      ap (λ n. drop (2 + 6 * n) text) count_is
-      ∙ ap (drop (2 + 6 * count)) by_three
-      ∙ drop_at ((head ++ ends_text row.ranges) ++ ids) behind (2 + 6 * count) length-three
+  rest_is = ap₂ (λ n t. drop (4 * n) t) count_is ids_there ∙ drop_at ids behind (4 * count) length-ids
 
 -- ---- patterns and needles
 
@@ -436,6 +414,15 @@ pub whole_long : {order : Order} {bytes : List ℕ} → IsWholeRow order bytes
 whole_long {order} {bytes} whole =
     subst (λ t. 2 + 6 * count_in order t ≤ length t)
     (sym whole.stands) (long_enough order (row_in order bytes) whole.rest whole.fits)
+
+pub whole_ends : {order : Order} {bytes : List ℕ} → IsWholeRow order bytes
+    → 2 * count_in order bytes ≤ length (drop 2 bytes)
+whole_ends {order} {bytes} whole = omega (arith, whole_long whole, length-drop 2 bytes)
+
+pub whole_ids : {order : Order} {bytes : List ℕ} → IsWholeRow order bytes
+    → 4 * count_in order bytes ≤ length (behind_ends order bytes)
+whole_ids {order} {bytes} whole =
+    omega (arith, whole_long whole, length-drop 2 bytes, length-drop (2 * count_in order bytes) (drop 2 bytes))
 
 -- rows are read back
 pub rows_again : (order : Order) (rows : List Row) → ((i : ℕ) → i < length rows → FitsBytes (get_or rows i no_row))

@@ -2,11 +2,12 @@
 use Rattle.std.proofs.Common.{◌≡◌, ℕ, ◌+◌, ◌≤◌, List, [], ◌∷◌, length, get_or, take, drop, refl, ap, ◌∙◌, arith, drop-cons}
 use Rattle.std.proofs.lemmas.Grind.{common_steps}
 
--- the two bytes of a number at the front
-pub two : (xs : List ℕ) → 2 ≤ length xs → take 2 xs ≡ get_or xs 0 0 ∷ (get_or xs 1 0 ∷ [])
+-- the bytes of a number of two
+pub two : (xs : List ℕ) → length xs ≡ 2 → xs ≡ get_or xs 0 0 ∷ (get_or xs 1 0 ∷ [])
 two [] h = absurd (omega arith)
 two (x ∷ []) h = absurd (omega arith)
-two (x ∷ (y ∷ xs)) h = refl
+two (x ∷ (y ∷ [])) h = refl
+two (x ∷ (y ∷ (z ∷ xs))) h = absurd (omega arith)
 
 -- the four bytes of a word
 pub four : {a b c : ℕ} (xs : List ℕ) (n : ℕ) → a ≡ n + 1 → b ≡ n + 2 → c ≡ n + 3 → n + 4 ≤ length xs

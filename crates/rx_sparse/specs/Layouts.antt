@@ -1,7 +1,7 @@
 -- A sparse table as it lies in memory: a record of lists and numbers, whatever the order of its bytes, and the table
 -- of the definitions that it means. What an image of a table spells is the same record.
-use Rattle.std.specs.Prelude.{ℕ, ◌≡◌, ◌<◌, ◌≤◌, ◌==◌, ◌+◌, ◌*◌, nat_lt, nat_le, Bool}
-use Rattle.std.specs.Prelude.{if◌then◌else◌, Option, Some, None, IfSome, option_map, List, [], length, slice_index}
+use Rattle.std.specs.Prelude.{ℕ, ◌≡◌, ◌<◌, ◌≤◌, ◌==◌, ◌+◌, ◌*◌, nat_lt, nat_le}
+use Rattle.std.specs.Prelude.{if◌then◌else◌, Option, None, IfSome, option_map, List, length, slice_index}
 use Rattle.std.specs.Prelude.{get_or}
 use Rattle.rx_spec.specs.Causes.{max_id}
 use Rattle.rx_spec.specs.Ids.{id_of, row_of}

@@ -5,5 +5,6 @@ pub mod Layouts
 pub mod Facts
 -- the parts of which a table is made
 pub mod Parts
--- the sparse table of a dense one
+-- the sparse table of a dense one, and how it is made
 pub mod Sparse
+pub mod Reading

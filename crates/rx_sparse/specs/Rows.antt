@@ -104,15 +104,18 @@ count_in order bytes = number order w16 (take 2 bytes) % 32768
 abbrev pub is_match_in : Order → List ℕ → Bool
 is_match_in order bytes = nat_le 32768 (number order w16 (take 2 bytes))
 
--- the parts of a row: the ends of its ranges, its next ids, and what follows them
+-- the parts of a row behind its head: the ends of its ranges, its next ids, and what follows them
 abbrev pub ends_in : Order → List ℕ → List ℕ
 ends_in order bytes = take (2 * count_in order bytes) (drop 2 bytes)
 
+abbrev pub behind_ends : Order → List ℕ → List ℕ
+behind_ends order bytes = drop (2 * count_in order bytes) (drop 2 bytes)
+
 abbrev pub next_ids_in : Order → List ℕ → List ℕ
-next_ids_in order bytes = take (4 * count_in order bytes) (drop (2 + 2 * count_in order bytes) bytes)
+next_ids_in order bytes = take (4 * count_in order bytes) (behind_ends order bytes)
 
 abbrev pub rest_in : Order → List ℕ → List ℕ
-rest_in order bytes = drop (2 + 6 * count_in order bytes) bytes
+rest_in order bytes = drop (4 * count_in order bytes) (behind_ends order bytes)
 
 -- a range, by its place, where the ends of all ranges stand and where their next ids
 abbrev pub range_in : Order → (ends ids : List ℕ) → ℕ → ClassRange

@@ -1,6 +1,6 @@
 -- The sparse table of a dense one: the same rows in the same order, each as its ranges, and the ids of all that names
 -- rows changed to offsets.
-use Rattle.std.specs.Prelude.{ℕ, ◌+◌, ◌-◌, ◌*◌, ◌&&◌, List, [], length, map, filter, take, drop, slice_index}
+use Rattle.std.specs.Prelude.{ℕ, ◌-◌, ◌*◌, ◌&&◌, List, [], length, map, filter, slice_index}
 use Rattle.std.specs.Prelude.{Option, option_map, if◌then◌else◌}
 use Rattle.std.specs.List.{range_with_len}
 use Rattle.rx_spec.specs.Ids.{id_of}

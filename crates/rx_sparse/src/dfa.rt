@@ -7,7 +7,7 @@ ghost use Rattle.rx_spec.specs.declared.Start.TheVariants.{NonWordByte};
 ghost use Rattle.rx_spec.specs.Ids.{row_of};
 ghost use Rattle.rx_search.specs.Starts.{IsId};
 ghost use Rattle.rx_dense.specs.Layouts.{context_number, mode_place};
-ghost use Rattle.rx_sparse.specs.Layouts.{AreRows, AreStarts, ids_of, memory_usage, row_at, row_count, start_id};
+ghost use Rattle.rx_sparse.specs.Layouts.{IsShaped, ids_of, memory_usage, row_at, row_count, start_id};
 ghost use Rattle.rx_sparse.specs.Parts.{AreParts, stored};
 ghost use Rattle.rx_sparse.specs.Rows.{rows_text};
 
@@ -139,6 +139,7 @@ impl<T: ByteStore> DFA<T> {
     pub fn universal_starts(&self) -> (Option<StateID>, Option<StateID>)
         ensures unanchored { result.0 ≡ self.now.layout.universal_unanchored }
         ensures anchored { result.1 ≡ self.now.layout.universal_anchored }
+        ensures shaped { IsShaped self.now.layout }
     {
         (
             self.parts.universal_unanchored,
@@ -172,9 +173,11 @@ impl<T: ByteStore> DFA<T> {
     #[inline(always)]
     pub fn state(&self, id: StateID) -> State<'_>
         requires { IsId (ids_of self.now.layout) id }
-        ensures { result ≡ row_at self.now.layout (row_of (ids_of self.now.layout) id) }
+        ensures value { result ≡ row_at self.now.layout (row_of (ids_of self.now.layout) id) }
+        ensures shaped { IsShaped self.now.layout }
     {
-        State::at(self.parts.order, &self.rows.bytes()[id.as_usize()..])
+        let (_, bytes) = self.rows.bytes().split_at(id.as_usize());
+        State::at(self.parts.order, bytes)
     }
 
     /// The bytes of the rows.
@@ -188,7 +191,8 @@ impl<T: ByteStore> DFA<T> {
     /// How many start entries there are: six for the contexts of an unanchored search, six for those of an anchored
     /// one, and six for each pattern that has starts of its own.
     pub fn start_len(&self) -> usize
-        ensures { result ≡ length self.now.layout.starts }
+        ensures value { result ≡ length self.now.layout.starts }
+        ensures shaped { IsShaped self.now.layout }
     {
         self.starts.bytes().len() / 4
     }

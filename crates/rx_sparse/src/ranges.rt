@@ -1,7 +1,8 @@
 //! Ranges of classes that lead to one row.
 
-ghost use Rattle.std.specs.Prelude.{◌≡◌, ◌≤◌, length, IfOk};
+ghost use Rattle.std.specs.Prelude.{◌≡◌, ◌-◌, IfOk, length, slice_index};
 ghost use Rattle.rx_sparse.specs.Sparse.{ranges_of};
+ghost use Rattle.rx_sparse.specs.Reading.{class_of};
 
 use rx_base::Unit;
 use rx_dense::State;
@@ -18,19 +19,35 @@ pub struct ClassRange {
     pub next: u32,
 }
 
-/// Puts the maximal ranges of a row of a dense table that don't lead to dead in the place of others.
-pub(crate) fn read_ranges(row: &State<'_>, ranges: &mut Vec<ClassRange>) -> Result<(), AllocError>
-    ensures { IfOk result (λ _. ranges.new.items ≡ ranges_of row.now.next_ids) }
+/// The class that stands as a unit. The end mark is none, and has 0.
+fn class_of(unit: Unit) -> u8
+    ensures { result ≡ class_of unit }
+{
+    match unit {
+        Unit::Byte(class) => class,
+        Unit::Eoi => 0,
+    }
+}
+
+/// Puts the maximal ranges of a row of a dense table that don't lead to dead in the place of others, and answers where
+/// the end mark leads.
+pub(crate) fn read_ranges(row: &State<'_>, ranges: &mut Vec<ClassRange>) -> Result<u32, AllocError>
+    ensures ranges { IfOk result (λ _. ranges.new.items ≡ ranges_of row.now.next_ids) }
+    ensures eoi { IfOk result (λ eoi. eoi ≡ slice_index row.now.next_ids (length row.now.next_ids - 1)) }
 {
     ranges.clear();
+    let mut eoi = 0;
     for (first, last, next) in row.sparse_transitions() {
-        if let (Unit::Byte(first), Unit::Byte(last)) = (first, last) {
-            ranges.push(ClassRange {
-                first,
-                last,
-                next: next.as_u32(),
-            })?;
+        match first {
+            Unit::Byte(first) => {
+                ranges.push(ClassRange {
+                    first,
+                    last: class_of(last),
+                    next: next.as_u32(),
+                })?;
+            }
+            Unit::Eoi => eoi = next.as_u32(),
         }
     }
-    Ok(())
+    Ok(eoi)
 }

@@ -1,6 +1,6 @@
 //! Rows, decoded.
 
-ghost use Rattle.std.specs.Prelude.{◌≡◌, ◌<◌, ◌≤◌, ◌+◌, ◌*◌, ◌^◌, length, slice_index, take};
+ghost use Rattle.std.specs.Prelude.{◌≡◌, ◌<◌, ◌≤◌, ◌+◌, ◌*◌, ◌^◌, ◌&&◌, nat_le, length, slice_index};
 ghost use Rattle.std.specs.Int.{w16};
 ghost use Rattle.rx_wire.specs.Fields.{number};
 ghost use Rattle.rx_sparse.specs.Parts.{IsWholeRow};
@@ -36,12 +36,12 @@ impl<'a> Model for State<'a> {
     ghost invariant = { λ s. IsDecoded s.order s.is_match s.ends.now s.next_ids.now s.rest.now };
 }
 
-/// The number of the first two bytes.
+/// The number of two bytes.
 #[inline(always)]
 #[tactic(auto, using(crate::proofs::WordBytes::two))]
 fn head_number(order: Order, bytes: &[u8]) -> usize
-    requires { 2 ≤ length bytes.now }
-    ensures value { result ≡ number order w16 (take 2 bytes.now) }
+    requires { length bytes.now ≡ 2 }
+    ensures value { result ≡ number order w16 bytes.now }
     ensures bound { result < 2 ^ 16 }
 {
     order.u16_from_bytes([bytes[0], bytes[1]]) as usize
@@ -56,6 +56,15 @@ pub(crate) fn word_at(order: Order, bytes: &[u8], i: usize) -> u32
 {
     let at = 4 * i;
     order.u32_from_bytes([bytes[at], bytes[at + 1], bytes[at + 2], bytes[at + 3]])
+}
+
+/// Whether a range, by its place, has a class.
+#[inline(always)]
+fn has_class(ends: &[u8], i: usize, class: u8) -> bool
+    requires { 2 * i + 1 < length ends.now }
+    ensures { result ≡ (nat_le (slice_index ends.now (2 * i)) class && nat_le class (slice_index ends.now (2 * i + 1))) }
+{
+    ends[2 * i] <= class && class <= ends[2 * i + 1]
 }
 
 /// How many bytes the patterns of a row take, with their count.
@@ -78,14 +87,17 @@ impl<'a> State<'a> {
         requires { IsWholeRow order bytes.now }
         ensures { result ≡ row_in order bytes.now }
     {
-        let head = head_number(order, bytes);
+        let (head, rest) = bytes.split_at(2);
+        let head = head_number(order, head);
         let count = head % 32768;
+        let (ends, rest) = rest.split_at(2 * count);
+        let (next_ids, rest) = rest.split_at(4 * count);
         State {
             order,
             is_match: head >= 32768,
-            ends: &bytes[2..2 + 2 * count],
-            next_ids: &bytes[2 + 2 * count..2 + 6 * count],
-            rest: &bytes[2 + 6 * count..],
+            ends,
+            next_ids,
+            rest,
         }
     }
 
@@ -103,7 +115,7 @@ impl<'a> State<'a> {
     {
         let count = self.ends.len() / 2 - 1;
         for i in 0..count {
-            if self.ends[2 * i] <= class && class <= self.ends[2 * i + 1] {
+            if has_class(self.ends, i, class) {
                 return StateID::must(word_at(self.order, self.next_ids, i) as usize);
             }
         }

@@ -1,17 +1,18 @@
 //! The table as an automaton.
 
-ghost use Rattle.std.specs.Prelude.{◌≡◌, ◌<◌, ◌≤◌, option_map};
+ghost use Rattle.std.specs.Prelude.{◌≡◌, nat_le, option_map};
 ghost use Rattle.rx_spec.specs.Ids.{row_of};
 ghost use Rattle.rx_spec.specs.Starts.{mode_error, start_context, start_error};
 ghost use Rattle.rx_base.specs.Search.{mode_of};
 ghost use Rattle.rx_search.specs.Starts.{IsId, refusal_of};
-ghost use Rattle.rx_dense.specs.Specials.{is_in_range};
+ghost use Rattle.rx_dense.specs.Specials.{is_in_range, is_quit_id};
 ghost use Rattle.rx_sparse.specs.Layouts.{ids_of, settings_of, table_of};
 ghost use Rattle.rx_sparse.specs.Facts.{IsSoundLayout, IsSoundLayout-fact, offsets_are_ids};
 
 use crate::{ByteStore, DFA};
 use rx_base::start::Config;
 use rx_base::{Anchored, Needles, PatternID, Start, StateID};
+use rx_dense::Special;
 use rx_search::{Automaton, StartError};
 
 impl<T: ByteStore> DFA<T> {
@@ -100,7 +101,7 @@ impl<T: ByteStore> Automaton for DFA<T> {
 
     #[inline(always)]
     fn is_special_state(&self, id: StateID) -> bool {
-        id <= self.special().max
+        is_special_id(self.special(), id)
     }
 
     #[inline(always)]
@@ -110,7 +111,7 @@ impl<T: ByteStore> Automaton for DFA<T> {
 
     #[inline(always)]
     fn is_quit_state(&self, id: StateID) -> bool {
-        id == self.special().quit && id != StateID::ZERO && !self.is_match_state(id)
+        is_quit_id(self.special(), id) && !self.is_match_state(id)
     }
 
     #[inline(always)]
@@ -170,4 +171,20 @@ fn is_in_range(first: StateID, last: StateID, id: StateID) -> bool
     ensures { result ≡ is_in_range first last id }
 {
     first <= id && id <= last && id != StateID::ZERO
+}
+
+/// Whether an id is that of the quit row, whatever range it lies in.
+#[inline(always)]
+fn is_quit_id(special: &Special, id: StateID) -> bool
+    ensures { result ≡ is_quit_id special.now id }
+{
+    id == special.quit && id != StateID::ZERO
+}
+
+/// Whether an id is at most that of the last special row.
+#[inline(always)]
+fn is_special_id(special: &Special, id: StateID) -> bool
+    ensures { result ≡ nat_le id special.now.max }
+{
+    id <= special.max
 }
