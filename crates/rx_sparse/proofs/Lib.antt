@@ -11,3 +11,7 @@ pub mod RowKinds
 pub mod DecodedRows
 -- the ranges of dense rows are read
 pub mod ReadRanges
+-- the ranges of dense rows lead where their columns lead
+pub mod DenseRanges
+-- the sparse table of a dense one is the same
+pub mod SparseTables

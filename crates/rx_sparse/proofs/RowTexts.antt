@@ -41,7 +41,7 @@ length-pairs (range ∷ ranges) = omega (arith, length-pairs ranges)
 pub length-ends : (ranges : List ClassRange) → length (ends_text ranges) ≡ 2 * (length ranges + 1)
 length-ends ranges = omega (arith, length-append (pairs_text ranges) (0 ∷ 0 ∷ []), length-pairs ranges)
 
-length-map : {A B : Type 0} (f : A → B) (xs : List A) → length (map f xs) ≡ length xs
+pub length-map : {A B : Type 0} (f : A → B) (xs : List A) → length (map f xs) ≡ length xs
 length-map f [] = refl
 length-map f (x ∷ xs) = ap suc (length-map f xs)
 

@@ -1,19 +1,19 @@
--- The sparse table of a dense one: the same rows in the same order, each as its ranges, and the ids of all that names
--- rows changed to offsets.
-use Rattle.std.specs.Prelude.{ℕ, ◌-◌, ◌*◌, ◌&&◌, List, [], length, map, filter, slice_index}
+-- The sparse table of a dense one: the same rows in the same order, each by its ranges, and offsets for all ids.
+use Rattle.std.specs.Prelude.{ℕ, ◌<◌, ◌-◌, ◌*◌, ◌&&◌, List, [], length, map, filter, slice_index}
 use Rattle.std.specs.Prelude.{Option, option_map, if◌then◌else◌}
 use Rattle.std.specs.List.{range_with_len}
+use Rattle.rx_spec.specs.Causes.{max_id}
 use Rattle.rx_spec.specs.Ids.{id_of}
-use Rattle.rx_base.specs.ByteClasses.{alphabet_len}
+use Rattle.rx_wire.specs.declared.order.Order.{Order}
+use Rattle.rx_build_error.specs.declared.BuildErrorKind.{BuildErrorKind}
 use Rattle.rx_dense.specs.declared.special.Special.{Special}
 use Rattle.rx_dense.specs.Specials.{is_match_id}
-use Rattle.rx_dense.specs.Layouts.{Layout as Dense, IsRowId, needles_of_id, patterns_at, place_in_range, row_count, stride}
-use Rattle.rx_dense.specs.Layouts.{universal_row}
+use Rattle.rx_dense.specs.Layouts.{Layout as Dense, IsRowId, needles_of_id, patterns_at, place_in_range, universal_row}
 use Rattle.rx_dense.specs.Builder.{renamed_id}
-use Rattle.rx_dense.specs.States.{begins_range, is_live, range_end, row_at}
+use Rattle.rx_dense.specs.States.{Row as DenseRow, begins_range, is_live, range_end, rows_from}
 use Rattle.rx_sparse.specs.declared.ranges.ClassRange.{ClassRange}
-use Rattle.rx_sparse.specs.Rows.{Row, offsets}
-use Rattle.rx_sparse.specs.Layouts.{Layout}
+use Rattle.rx_sparse.specs.Rows.{Row, offsets, rows_len}
+use Rattle.rx_sparse.specs.Layouts.{Layout, Stored}
 
 -- the special ids of a dense table are ids of rows
 pub record AreSpecialRows (l : Dense) : Type 0 where
@@ -26,7 +26,7 @@ pub record AreSpecialRows (l : Dense) : Type 0 where
   pub min_start : IsRowId l l.special.min_start
   pub max_start : IsRowId l l.special.max_start
 
--- ---- rows as ranges
+-- ---- rows by their ranges
 
 -- the maximal range that begins at a class
 abbrev pub range_of : List ℕ → ℕ → ClassRange
@@ -36,8 +36,8 @@ range_of next_ids first = record {
   next = slice_index next_ids first;
 }
 
--- the maximal ranges of classes that lead to one row other than dead, where a row has the next ids of its classes and
--- last that of the end mark
+-- The maximal ranges of classes that lead to one row other than dead. Next ids are those of all classes, and last that
+-- of the end mark.
 abbrev pub ranges_of : List ℕ → List ClassRange
 ranges_of next_ids =
     map (range_of next_ids)
@@ -47,21 +47,24 @@ abbrev pub patterns_of_id : Dense → ℕ → List ℕ
 patterns_of_id l id =
     if is_match_id l.special id then patterns_at l (place_in_range l l.special.min_match id) else []
 
--- a row of a dense table with its ids
-abbrev pub dense_row : Dense → ℕ → Row
-dense_row l row = record {
-  ranges = ranges_of (row_at l row).next_ids;
-  eoi = slice_index (row_at l row).next_ids (alphabet_len l.classes - 1);
-  patterns = patterns_of_id l (row * stride l);
-  needles = needles_of_id l (row * stride l);
+-- a row of a dense table by its ranges, with dense ids
+abbrev pub row_of_dense : Dense → DenseRow → Row
+row_of_dense l row = record {
+  ranges = ranges_of row.next_ids;
+  eoi = slice_index row.next_ids (length row.next_ids - 1);
+  patterns = patterns_of_id l row.id;
+  needles = needles_of_id l row.id;
 }
 
 abbrev pub dense_rows : Dense → List Row
-dense_rows l = map (dense_row l) (range_with_len 0 (row_count l))
+dense_rows l = map (row_of_dense l) (rows_from l 0)
 
 -- ---- ids as offsets
 
--- the offset of each row, which the names of rows leave as it is
+-- how many bytes the rows have, and where each begins, whatever the ids
+abbrev pub sparse_len : Dense → ℕ
+sparse_len l = rows_len (dense_rows l)
+
 abbrev pub offsets_of : Dense → List ℕ
 offsets_of l = offsets (dense_rows l)
 
@@ -86,6 +89,8 @@ renamed_special renamed s = record {
 abbrev pub universal_offset : Dense → Option ℕ → Option ℕ
 universal_offset l kept = option_map (id_of (offsets_of l)) (universal_row l kept)
 
+-- ---- the table
+
 abbrev pub sparse_of : Dense → Layout
 sparse_of l =
     let renamed : ℕ → ℕ = renamed_id l (offsets_of l) in
@@ -103,3 +108,12 @@ sparse_of l =
       special = renamed_special renamed l.special;
       quit = l.quit;
     }
+
+abbrev pub little_sparse_of : Dense → Stored
+little_sparse_of l = record { layout = sparse_of l; order = Order.Little }
+
+-- Why there is none: memory ran out, or the rows have more bytes than there are ids.
+abbrev pub IsTooLong : (len : ℕ) → BuildErrorKind → Type 0
+IsTooLong len BuildErrorKind.Memory = Unit {0}
+IsTooLong len BuildErrorKind.TooManyStates = max_id < len
+IsTooLong len _ = ⊥
