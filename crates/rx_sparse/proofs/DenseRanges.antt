@@ -5,7 +5,7 @@ use Rattle.std.proofs.Common.{refl, ap, ap₂, sym, ◌∙◌, subst, ⊎_elim, 
 use Rattle.std.specs.Prelude.{Contains, slice_range}
 use Rattle.std.specs.List.{prefix_len, range_with_len}
 use Rattle.std.specs.List.Sorted.{IsStrictlyIncreasing}
-use Rattle.std.proofs.lemmas.Bool.{and_parts, cases_eq, cases_lt, eq-eqb, eqb-true, eqb-false, leb-true, ne_eqb}
+use Rattle.std.proofs.lemmas.Bool.{and_parts, cases_eq, cases_lt, eq-eqb, eqb-true, leb-true, ne_eqb}
 use Rattle.std.proofs.lemmas.Bool.Decides.{nat_tests}
 use Rattle.std.proofs.lemmas.List.{get_or-take, get_or-drop, get_or-map}
 use Rattle.std.proofs.lemmas.List.Elements.{Contains-get_or}
@@ -216,6 +216,9 @@ module _ (next_ids : List ℕ) where
   ranges_count : length (ranges_of next_ids) ≡ length firsts
   ranges_count = length-map (range_of next_ids) firsts
 
+  pub ranges_few : length (ranges_of next_ids) ≤ eoi
+  ranges_few = omega (arith, ranges_count, firsts_few)
+
   module _ (i : ℕ) (h : i < length (ranges_of next_ids)) where
     low : i < length firsts
     low = omega (arith, ranges_count)
@@ -255,12 +258,12 @@ module _ (next_ids : List ℕ) where
           let g : ℕ = get_or firsts (i + 1) 0 in
           let rises : f < g = firsts_rise i (omega (arith, ranges_count)) in
           let apart : range_end next_ids f ≤ g = ⊎_elim
-              (λ (inside : g < range_end next_ids f).
-              let none = inner f (first_low f (has i at)) g rises inside in
-              let begins = first_begins g (has (i + 1) h) in
-              absurd (cc))
-              (λ (behind : range_end next_ids f ≤ g). behind)
-              (cases_lt g (range_end next_ids f)) in
+          (λ (inside : g < range_end next_ids f).
+          let none = inner f (first_low f (has i at)) g rises inside in
+          let begins = first_begins g (has (i + 1) h) in
+          absurd (cc))
+          (λ (behind : range_end next_ids f ≤ g). behind)
+          (cases_lt g (range_end next_ids f)) in
           omega (
             arith,
             range_last i at,

@@ -1,7 +1,7 @@
 -- the bytes of numbers
 pub mod WordBytes
--- where rows begin
-pub mod Offsets
+-- how many bytes rows have
+pub mod RowLengths
 -- the bytes of rows are read back
 pub mod RowTexts
 pub mod RowPlaces
@@ -15,3 +15,8 @@ pub mod ReadRanges
 pub mod DenseRanges
 -- the sparse table of a dense one is the same
 pub mod SparseTables
+-- the bytes of rows are put one behind another
+pub mod WrittenRows
+pub mod SparseShapes
+-- a sparse table on its way
+pub mod SparseBytes

@@ -23,7 +23,7 @@ use Rattle.rx_sparse.specs.Layouts.{AreStarts, IsRow, IsShaped, Layout, ids_of, 
 use Rattle.rx_sparse.specs.Parts.{AreParts, FitsBytes, IsWholeRow, stored}
 use Rattle.rx_sparse.specs.declared.parts.Parts.{Parts}
 use Rattle.rx_sparse.specs.Facts.{length-offsets, offset_at, offsets_are_ids, rows_len-more}
-use Rattle.rx_sparse.proofs.Offsets.{row_len-patterns, rows_len-take}
+use Rattle.rx_sparse.proofs.RowLengths.{row_len-patterns, rows_len-take}
 use Rattle.rx_sparse.proofs.RowTexts.{eoi_there, length-next_ids, length-row, length-rows, next_there}
 
 pub length-rows_in : (order : Order) (count : ℕ) (bytes : List ℕ) → length (rows_in order count bytes) ≡ count

@@ -31,7 +31,7 @@ length-words order (word ∷ words) =
       length-words order words,
     )
 
-abbrev pairs_text : List ClassRange → List ℕ
+abbrev pub pairs_text : List ClassRange → List ℕ
 pairs_text ranges = flat_map (λ range. range.first ∷ range.last ∷ []) ranges
 
 length-pairs : (ranges : List ClassRange) → length (pairs_text ranges) ≡ 2 * length ranges
@@ -123,7 +123,7 @@ word_there order (word ∷ words) rest (suc i) h small =
     ∙ ap (λ t. number order w32 (take 4 (drop (4 * i) t))) behind
     ∙ word_there order words rest i (omega arith) small
 
-words_again : (order : Order) (words rest : List ℕ) → ((i : ℕ) → i < length words → slice_index words i < 2 ^ 32)
+pub words_again : (order : Order) (words rest : List ℕ) → ((i : ℕ) → i < length words → slice_index words i < 2 ^ 32)
     → words_in order (length words) (words_text order words ++ rest) ≡ words
 words_again order words rest small =
     sym (fill_by_all (word_at order (words_text order words ++ rest)) words (length words) 0 refl
@@ -353,7 +353,7 @@ module _ (order : Order) (row : Row) (rest : List ℕ) (fits : FitsBytes row) wh
   needle_count =
       let behind : List ℕ = (length row.needles ∷ row.needles) ++ rest in
       let size : patterns_len order (is_some_list row.patterns) read_behind
-          ≡ length (patterns_text order row.patterns) + 0 =
+      ≡ length (patterns_text order row.patterns) + 0 =
       omega (arith, patterns_end order row.patterns behind fits.few_patterns, length-patterns order row.patterns) in
       ap (slice_index read_behind) size ∙ get_or-append-add (patterns_text order row.patterns) behind 0 0
 
@@ -390,8 +390,12 @@ module _ (order : Order) (row : Row) (rest : List ℕ) (fits : FitsBytes row) wh
       (ends_in order (row_text order row ++ rest)) (next_ids_in order (row_text order row ++ rest))
       (rest_in order (row_text order row ++ rest))
   decoded =
-      rw (matches_is order row rest fits, ends_is order row rest fits, ids_is order row rest fits,
-      rest_is order row rest fits) parts_decoded
+      rw (
+        matches_is order row rest fits,
+        ends_is order row rest fits,
+        ids_is order row rest fits,
+        rest_is order row rest fits,
+      ) parts_decoded
 
   pub long_enough : 2 + 6 * count_in order (row_text order row ++ rest) ≤ length (row_text order row ++ rest)
   long_enough =

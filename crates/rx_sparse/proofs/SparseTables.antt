@@ -1,21 +1,19 @@
 -- The sparse table of a dense one is the same table.
-use Rattle.std.proofs.Common.{◌≡◌, ◌≢◌, ℕ, zero, suc, ◌+◌, ◌-◌, ◌*◌, ◌/◌, ◌<◌, ◌≤◌, ◌==◌, ◌&&◌, Bool, true, false, not}
-use Rattle.std.proofs.Common.{cond, nat_le, Option, Some, None, List, [], ◌∷◌, length, map, slice_index, get_or, take}
+use Rattle.std.proofs.Common.{◌≡◌, ℕ, zero, suc, ◌+◌, ◌-◌, ◌*◌, ◌/◌, ◌<◌, ◌≤◌, ◌==◌, ◌&&◌, Bool, true, false, not}
+use Rattle.std.proofs.Common.{cond, nat_le, Option, Some, None, List, [], ◌∷◌, length, map, slice_index}
 use Rattle.std.proofs.Common.{drop, refl, ap, ap₂, sym, ◌∙◌, subst, ⊎_elim, arith, length-drop, length-take-le}
-use Rattle.std.specs.Prelude.{if◌then◌else◌, nat_lt, option_map, IfSome, Contains, AllPairs}
-use Rattle.std.specs.List.{range_with_len}
-use Rattle.std.proofs.Math.Nat.{zero-div, mul-div_cancel}
+use Rattle.std.specs.Prelude.{if◌then◌else◌, nat_lt, option_map, IfSome}
+use Rattle.std.proofs.Math.Nat.{zero-div}
 use Rattle.std.proofs.lemmas.Bool.{cases_eq, cases_lt, eq-eqb, lt-ltb, le-ltb, ne_eqb}
 use Rattle.std.proofs.lemmas.Bool.Decides.{nat_tests}
 use Rattle.std.proofs.lemmas.List.{get_or-take, get_or-drop, get_or-map}
 use Rattle.std.proofs.lemmas.List.FromFn.{get_or-map-range_with_len, length-map-range_with_len}
 use Rattle.std.proofs.lemmas.List.Kept.{AllPairs-from_increasing}
 use Rattle.std.proofs.lemmas.Nat.{pow_pos, row_fits}
-use Rattle.rx_spec.specs.Causes.{max_id}
 use Rattle.rx_spec.specs.Ids.{id_of, row_of}
 use Rattle.rx_spec.specs.Machines.{Label}
 use Rattle.rx_spec.specs.Queries.{Anchored}
-use Rattle.rx_spec.specs.Tables.{AreSame, IsSound}
+use Rattle.rx_spec.specs.Tables.{AreSame}
 use Rattle.rx_spec.specs.declared.Start.{Start}
 use Rattle.rx_lemmas.proofs.Firsts.{by_test}
 use Rattle.rx_table_lemmas.proofs.Ids.{row_of-id_of}
@@ -33,13 +31,12 @@ use Rattle.rx_dense.proofs.Rows.{class_column, column_within, quotient, row-belo
 use Rattle.rx_dense.proofs.Shaped.{zero_id}
 use Rattle.rx_dense.proofs.States.{row_within}
 use Rattle.rx_sparse.specs.declared.ranges.ClassRange.{ClassRange}
-use Rattle.rx_sparse.specs.Rows.{Row, has_class, next_among, no_row, offsets, offsets_from, row_len, rows_len}
-use Rattle.rx_sparse.specs.Layouts.{Layout, ids_of, label_of_row, next_id, row_at, start_id, table_of}
+use Rattle.rx_sparse.specs.Rows.{Row, has_class, next_among, no_row, offsets_from, row_len, rows_len}
+use Rattle.rx_sparse.specs.Layouts.{ids_of, label_of_row, next_id, row_at, start_id, table_of}
 use Rattle.rx_sparse.specs.Facts.{IsSoundLayout, length-offsets, offset_at, offsets_are_ids}
 use Rattle.rx_sparse.specs.Sparse.{AreSpecialRows, dense_rows, offsets_of, patterns_of_id, renamed_range, renamed_row}
 use Rattle.rx_sparse.specs.Sparse.{renamed_special, row_of_dense, sparse_of, universal_offset}
 use Rattle.rx_sparse.proofs.DenseRanges.{led}
-use Rattle.rx_sparse.proofs.RowPlaces.{zero_row}
 use Rattle.rx_sparse.proofs.RowTexts.{length-map}
 
 -- ---- rows whose ids are renamed
@@ -321,7 +318,7 @@ module _ (l : dense.Layout) (rows : dense.AreRows l) where
     abbrev new : Special
     new = renamed_special renamed l.special
 
-    match_same : is_match_id new (id_of offs row) ≡ is_match_id l.special (row * stride l)
+    pub match_same : is_match_id new (id_of offs row) ≡ is_match_id l.special (row * stride l)
     match_same = in_range row h l.special.min_match l.special.max_match special.min_match special.max_match
 
     quit_same : is_quit_id new (id_of offs row) ≡ is_quit_id l.special (row * stride l)

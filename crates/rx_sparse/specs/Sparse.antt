@@ -1,5 +1,5 @@
 -- The sparse table of a dense one: the same rows in the same order, each by its ranges, and offsets for all ids.
-use Rattle.std.specs.Prelude.{ℕ, ◌<◌, ◌-◌, ◌*◌, ◌&&◌, List, [], length, map, filter, slice_index}
+use Rattle.std.specs.Prelude.{ℕ, ◌<◌, ◌-◌, ◌&&◌, List, [], length, map, filter, slice_index}
 use Rattle.std.specs.Prelude.{Option, option_map, if◌then◌else◌}
 use Rattle.std.specs.List.{range_with_len}
 use Rattle.rx_spec.specs.Causes.{max_id}

@@ -8,13 +8,17 @@
 #![tactic(auto)]
 
 mod dfa;
+mod offsets;
 mod parts;
 mod ranges;
+mod rows;
 mod state;
 mod store;
+mod to_sparse;
 
 pub use dfa::DFA;
 pub use parts::Parts;
 pub use ranges::ClassRange;
 pub use state::State;
 pub use store::ByteStore;
+pub use to_sparse::ToSparse;
