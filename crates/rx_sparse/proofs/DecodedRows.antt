@@ -1,6 +1,6 @@
 -- What a decoded row answers from its parts.
-use Rattle.std.proofs.Common.{◌≡◌, ℕ, suc, ◌+◌, ◌-◌, ◌*◌, ◌<◌, ◌≤◌, ◌&&◌, Bool, true, false, cond}
-use Rattle.std.proofs.Common.{List, ◌∷◌, length, take, drop, map, slice_index, nat_le, ap, sym, ◌∙◌, arith}
+use Rattle.std.proofs.Common.{◌≡◌, ℕ, suc, ◌+◌, ◌-◌, ◌*◌, ◌/◌, ◌<◌, ◌≤◌, ◌&&◌, Bool, true, false, cond}
+use Rattle.std.proofs.Common.{List, ◌∷◌, length, take, drop, map, slice_index, get_or, nat_le, ap, sym, ◌∙◌, arith}
 use Rattle.std.specs.List.{range_with_len}
 use Rattle.std.specs.Int.{w32}
 use Rattle.std.proofs.lemmas.List.{drop-drop}
@@ -8,7 +8,7 @@ use Rattle.std.proofs.lemmas.List.FromFn.{get_or-map-range_with_len, length-map-
 use Rattle.rx_wire.specs.declared.order.Order.{Order}
 use Rattle.rx_wire.specs.Fields.{number}
 use Rattle.rx_sparse.specs.declared.ranges.ClassRange.{ClassRange}
-use Rattle.rx_sparse.specs.Rows.{next_among, patterns_in, patterns_len, range_in, word_at}
+use Rattle.rx_sparse.specs.Rows.{next_among, no_range, patterns_in, patterns_len, range_in, word_at}
 
 -- ---- ranges
 
@@ -95,3 +95,17 @@ pub pattern_count : (order : Order) (is_match : Bool) (rest : List ℕ) → is_m
 pattern_count order is_match rest e =
     sym (length-map-range_with_len (word_at order (drop 4 rest)) 0 (word_at order rest 0))
     ∙ ap (λ m. length (patterns_in order m rest)) (sym e)
+
+-- ---- a range
+
+module _ (order : Order) (ends ids : List ℕ) {ranges : List ClassRange} (i : ℕ) (h : i < length ranges)
+    (are : map (range_in order ends ids) (range_with_len 0 (length ends / 2 - 1)) ≡ ranges) where
+  pub range_place : i < length ends / 2 - 1
+  range_place =
+      omega (arith, ap length are, length-map-range_with_len (range_in order ends ids) 0 (length ends / 2 - 1))
+
+  pub range_is : range_in order ends ids i ≡ get_or ranges i no_range
+  range_is =
+      let none : 0 + i ≡ i = omega arith in
+      sym (get_or-map-range_with_len (range_in order ends ids) 0 (length ends / 2 - 1) i i no_range range_place none)
+      ∙ ap (λ rs. get_or rs i no_range) are

@@ -11,9 +11,10 @@ use Rattle.std.proofs.lemmas.List.FromFn.{get_or-map-range_with_len, length-map-
 use Rattle.std.proofs.lemmas.List.Kept.{AllPairs-from_increasing}
 use Rattle.std.proofs.lemmas.Nat.{pow_pos, row_fits}
 use Rattle.rx_spec.specs.Ids.{id_of, row_of}
-use Rattle.rx_spec.specs.Machines.{Label}
+use Rattle.rx_spec.specs.Machines.{IsWord, Label, run}
+use Rattle.rx_lemmas.proofs.Words.{IsWord-head, IsWord-tail, run-cons, run-nil}
 use Rattle.rx_spec.specs.Queries.{Anchored}
-use Rattle.rx_spec.specs.Tables.{AreSame}
+use Rattle.rx_spec.specs.Tables.{AreSame, IsTable, Table, row_after}
 use Rattle.rx_spec.specs.declared.Start.{Start}
 use Rattle.rx_lemmas.proofs.Firsts.{by_test}
 use Rattle.rx_table_lemmas.proofs.Ids.{row_of-id_of}
@@ -438,3 +439,23 @@ same_table l shaped special =
 pub sparse_sound : (l : dense.Layout) → dense.IsShaped l → AreSpecialRows l → dense_facts.IsSoundLayout l
     → IsSoundLayout (sparse_of l)
 sparse_sound l shaped special sound = sound_same (same_table l shaped special) sound
+
+-- ---- walks
+
+module _ {t u : Table} (same : AreSame t u) (is_table : IsTable t) where
+  run_same : (row : ℕ) (word : List ℕ) → row < t.size → IsWord word
+      → run u.machine.next row word ≡ run t.machine.next row word
+  run_same row [] h is = run-nil u.machine.next row ∙ sym (run-nil t.machine.next row)
+  run_same row (unit ∷ word) h is =
+      let b : unit < 257 = IsWord-head unit word is in
+      let next : ℕ = t.machine.next row unit in
+      run-cons u.machine.next row unit word
+      ∙ ap (λ r. run u.machine.next r word) (sym (same.nexts row unit h b))
+      ∙ run_same next word (is_table.nexts row unit h b) (IsWord-tail unit word is)
+      ∙ sym (run-cons t.machine.next row unit word)
+
+  pub walks_same : (mode : Anchored) (start : Start) (word : List ℕ) → IsWord word
+      → row_after u mode start word ≡ row_after t mode start word
+  walks_same mode start word is =
+      ap (λ r. run u.machine.next r word) (sym (same.entries mode start))
+      ∙ run_same (t.machine.entry mode start) word (is_table.entries mode start) is

@@ -8,6 +8,7 @@
 #![tactic(auto)]
 
 mod dfa;
+mod laws;
 mod offsets;
 mod parts;
 mod ranges;
@@ -17,6 +18,7 @@ mod store;
 mod to_sparse;
 
 pub use dfa::DFA;
+pub use laws::{a_sparse_table_is_the_dense_one, rows_are_read_again};
 pub use parts::Parts;
 pub use ranges::ClassRange;
 pub use state::State;

@@ -1,11 +1,12 @@
 //! Rows, decoded.
 
-ghost use Rattle.std.specs.Prelude.{◌≡◌, ◌<◌, ◌≤◌, ◌+◌, ◌*◌, ◌^◌, ◌&&◌, nat_le, length, slice_index};
+ghost use Rattle.std.specs.Prelude.{◌≡◌, ◌<◌, ◌≤◌, ◌+◌, ◌*◌, ◌^◌, ◌&&◌, nat_le, get_or, length, slice_index};
 ghost use Rattle.std.specs.Int.{w16};
 ghost use Rattle.rx_wire.specs.Fields.{number};
 ghost use Rattle.rx_sparse.specs.Parts.{IsWholeRow};
-ghost use Rattle.rx_sparse.specs.Rows.{next_among, patterns_len, row_in, word_at};
+ghost use Rattle.rx_sparse.specs.Rows.{next_among, no_range, patterns_len, row_in, word_at};
 
+use crate::ClassRange;
 use rx_base::{Needles, PatternID, StateID};
 use rx_wire::Order;
 use std::marker::Model;
@@ -106,6 +107,20 @@ impl<'a> State<'a> {
         ensures { result ≡ length self.now.ranges }
     {
         self.ends.len() / 2 - 1
+    }
+
+    /// A range, by its place.
+    #[inline(always)]
+    pub fn range(&self, i: usize) -> ClassRange
+        requires { i < length self.now.ranges }
+        ensures { result ≡ get_or self.now.ranges i no_range }
+    {
+        let ends = self.ends;
+        ClassRange {
+            first: ends[2 * i],
+            last: ends[2 * i + 1],
+            next: word_at(self.order, self.next_ids, i),
+        }
     }
 
     /// The row to which a class leads: dead, where no range has it.

@@ -2,13 +2,16 @@
 
 ghost use Rattle.std.specs.Prelude.{◌≡◌, ◌<◌, ◌≤◌, ◌+◌, ◌^◌, ◌++◌, [], ◌∷◌, IfOk, IfErr, OnOk, length};
 ghost use Rattle.rx_spec.specs.Causes.{max_id};
+ghost use Rattle.rx_spec.specs.Tables.{AreSame};
 ghost use Rattle.rx_base.specs.Search.{mode_of};
 ghost use Rattle.rx_wire.specs.declared.order.Order.TheVariants.{Little};
 ghost use Rattle.rx_search.specs.Starts.{IsId};
 ghost use Rattle.rx_dense.specs.Facts.{IsSoundLayout as IsSoundDense};
-ghost use Rattle.rx_dense.specs.Layouts.{AreLists, AreStarts, Layout as Dense, ids_of, universal_id};
+ghost use Rattle.rx_dense.specs.Layouts.{AreLists, AreStarts, Layout as Dense, ids_of, table_of as dense_table};
+ghost use Rattle.rx_dense.specs.Layouts.{universal_id};
 ghost use Rattle.rx_dense.specs.Builder.{renamed_id};
 ghost use Rattle.rx_sparse.specs.Facts.{IsSoundLayout};
+ghost use Rattle.rx_sparse.specs.Layouts.{table_of};
 ghost use Rattle.rx_sparse.specs.Reading.{AreOffsets, HaveOffsets, offset_in, parts_of};
 ghost use Rattle.rx_sparse.specs.Rows.{next_ids, row_len, row_text, rows_text, words_text};
 ghost use Rattle.rx_sparse.specs.Sparse.{AreSpecialRows, IsTooLong, little_sparse_of, offsets_of, renamed_special};
@@ -37,6 +40,8 @@ pub trait ToSparse {
         requires sound { IsSoundDense (layout self.now) }
         requires special { AreSpecialRows (layout self.now) }
         ensures table { IfOk result (λ dfa. dfa ≡ little_sparse_of (layout self.now)) }
+        // So it has the same rows by their numbers, and a walk of it reaches the row of the same number on every word.
+        ensures same { IfOk result (λ dfa. AreSame (dense_table (layout self.now)) (table_of dfa.layout)) }
         ensures sound { IfOk result (λ dfa. IsSoundLayout dfa.layout) }
         ensures fits { OnOk result (sparse_len (layout self.now) ≤ max_id) }
         ensures refused { IfErr result (λ error. IsTooLong (sparse_len (layout self.now)) error.kind) };

@@ -5,8 +5,8 @@ use rx_build::dense::{Builder, Config};
 use rx_dense::{OwnedDFA, Special};
 use rx_expr::thompson;
 use rx_notation::read;
-use rx_search::Automaton;
-use rx_sparse::ToSparse;
+use rx_search::{Automaton, OverlappingState};
+use rx_sparse::{DFA, ToSparse};
 use rx_wire::Order;
 use std::alloc::{AllocError, Global};
 use std::process::Abort;
@@ -21,6 +21,11 @@ fn build(alloc: Global, patterns: &str, reverse: bool) -> Result<OwnedDFA, Fail>
         builder.configure(Config::new().match_kind(MatchKind::All));
     }
     Ok(builder.build_many(alloc, &exprs)?)
+}
+
+/// The sparse table of a dense one that was built.
+fn made_sparse(alloc: Global, dense: &OwnedDFA) -> Result<DFA<Vec<u8>>, Fail> {
+    Ok(dense.to_sparse(alloc)?)
 }
 
 /// The eight ids of special rows.
@@ -99,7 +104,8 @@ fn bytes_of(alloc: Global, rows: &[Row]) -> Result<Vec<u8>, AllocError> {
 #[test]
 fn the_table_of_abc_is_the_one_by_hand(rt: HostRuntime) -> Result<(), Fail> {
     let alloc = rt.alloc();
-    let sparse = build(alloc, "abc", false)?.to_sparse(alloc)?;
+    let dense = build(alloc, "abc", false)?;
+    let sparse = made_sparse(alloc, &dense)?;
     assert!(&rt; sparse.state_len() == 11, "{}", sparse.state_len());
     assert!(&rt; sparse.order() == Order::Little);
     assert!(&rt; sparse.memory_usage() == 210 + 48, "{}", sparse.memory_usage());
@@ -114,13 +120,60 @@ fn the_table_of_abc_is_the_one_by_hand(rt: HostRuntime) -> Result<(), Fail> {
     Ok(())
 }
 
-/// Patterns, a text, and what searches of it tell.
-type Case = (&'static str, &'static [u8], &'static str);
-
-/// What a forward search, one in reverse and an overlapping one tell.
-fn told<A: Automaton>(alloc: Global, dfa: &A, text: &[u8]) -> Result<String, Fail> {
+/// What a forward search, one in reverse, and two calls of an overlapping one tell.
+fn told<A: Automaton>(alloc: Global, dfa: &A, text: &[u8]) -> Result<String, Fail>
+    requires { A.IsSound dfa.now }
+{
     let input = Input::new(text);
-    let mut told = format!(in alloc; "{:?}", dfa.try_search_fwd(&input))?;
-    told.push_str(&format!(in alloc; " {:?}", dfa.try_search_rev(&input))?)?;
-    Ok(told)
+    let forward = dfa.try_search_fwd(&input);
+    let reverse = dfa.try_search_rev(&input);
+    let mut state = OverlappingState::start();
+    let first = dfa.try_search_overlapping_fwd(&input, &mut state);
+    let one = state.get_match();
+    let second = dfa.try_search_overlapping_fwd(&input, &mut state);
+    let other = state.get_match();
+    Ok(format!(in alloc;
+        "{forward:?} {reverse:?} {first:?} {one:?} {second:?} {other:?}"
+    )?)
+}
+
+/// A table tells of each text what its sparse one tells, also lent and copied.
+fn check(rt: &impl Abort, alloc: Global, patterns: &str, reverse: bool) -> Result<(), Fail> {
+    let dense = build(alloc, patterns, reverse)?;
+    let sparse = made_sparse(alloc, &dense)?;
+    let copy = sparse.to_owned(alloc)?;
+    for text in TEXTS {
+        let wanted = told(alloc, &dense, text)?;
+        let found = told(alloc, &sparse, text)?;
+        assert!(rt; found.as_str() == wanted.as_str(), "{patterns}: {found}, not {wanted}");
+        let lent = told(alloc, &sparse.as_ref(), text)?;
+        assert!(rt; lent.as_str() == wanted.as_str(), "{patterns}: {lent}, not {wanted}");
+        let copied = told(alloc, &copy, text)?;
+        assert!(rt; copied.as_str() == wanted.as_str(), "{patterns}: {copied}, not {wanted}");
+    }
+    Ok(())
+}
+
+const TEXTS: [&[u8]; 6] = [b"", b"a", b"xyzabcxyz", b"ab abc", b"zbcbcab", b"aaaa"];
+
+const PATTERNS: [&str; 9] = [
+    "",
+    "a",
+    "abc",
+    "[]",
+    "<word>",
+    "a b {1,} . c .",
+    "abc b [a-z]",
+    "abc [^b] [b-z] {0,} .",
+    r"\w {2,3} $ .",
+];
+
+#[test]
+fn sparse_tables_are_searched_as_dense_ones(rt: HostRuntime) -> Result<(), Fail> {
+    let alloc = rt.alloc();
+    for patterns in PATTERNS {
+        check(&rt, alloc, patterns, false)?;
+        check(&rt, alloc, patterns, true)?;
+    }
+    Ok(())
 }
