@@ -88,7 +88,8 @@ module _ (next_ids : List ℕ) where
         let after = range_end-after next_ids first h in
         let begins = range_end-begins next_ids first h (omega arith) in
         let none =
-        continued end (alike (end - 1) (omega arith) (omega arith) ∙ sym (alike end (omega arith) high)) (omega arith) in
+        continued end (alike (end - 1) (omega arith) (omega arith) ∙ sym (alike end (omega arith) high))
+        (omega arith) in
         absurd (cc))
         (cases_lt c end)
 
@@ -133,7 +134,8 @@ module _ (next_ids : List ℕ) where
       (cases_lt k (suc c)) in
       (before.0, (let low = before.1 in omega arith), before.2, goes))
       (λ (ne : id_at c ≡ id_at (suc c) → ⊥).
-      let other : (id_at (suc c - 1) == id_at (suc c)) ≡ false = ap (λ b. id_at b == id_at (suc c)) back ∙ differs _ _ ne in
+      let other : (id_at (suc c - 1) == id_at (suc c)) ≡ false =
+      ap (λ b. id_at b == id_at (suc c)) back ∙ differs _ _ ne in
       let begins : begins_range next_ids (suc c) ≡ true =
       ap₂ (λ (x y : Bool). x || not y) (differs (suc c) 0 (λ z. omega arith)) other in
       let alone : (k : ℕ) → suc c ≤ k → k ≤ suc c → id_at k ≡ id_at (suc c) =
@@ -151,7 +153,8 @@ module _ (next_ids : List ℕ) where
   unfolding next_among
   found [] c v all some =
       ⊎_elim
-      (λ (one : (f : ℕ) × Contains [] f × (has_class c (range_of next_ids f) ≡ true)). absurd (Contains-nil one.0 one.1))
+      (λ (one : (f : ℕ) × Contains [] f × (has_class c (range_of next_ids f) ≡ true)).
+      absurd (Contains-nil one.0 one.1))
       (λ (e : v ≡ 0). sym e)
       some
   found (f ∷ fs) c v all some =
@@ -199,7 +202,8 @@ module _ (next_ids : List ℕ) where
 
   -- ---- the ranges rise
 
-  range_at : (i : ℕ) → i < length firsts → get_or (ranges_of next_ids) i no_range ≡ range_of next_ids (get_or firsts i 0)
+  range_at : (i : ℕ) → i < length firsts
+      → get_or (ranges_of next_ids) i no_range ≡ range_of next_ids (get_or firsts i 0)
   range_at i h = get_or-map (range_of next_ids) firsts i 0 no_range h
 
   firsts_few : length firsts ≤ eoi
@@ -245,7 +249,8 @@ module _ (next_ids : List ℕ) where
     range_begins : (get_or (ranges_of next_ids) i no_range).first ≡ first_class
     range_begins = ap (λ (r : ClassRange). r.first) is_range
 
-  module _ (classes : List ℕ) (alphabet : slice_index classes 255 + 2 ≡ length next_ids) (few : length next_ids ≤ 257) where
+  module _ (classes : List ℕ) (alphabet : slice_index classes 255 + 2 ≡ length next_ids)
+      (few : length next_ids ≤ 257) where
     pub are_ranges : AreRanges classes (ranges_of next_ids)
     are_ranges = record {
       few = omega (arith, ranges_count, firsts_few);

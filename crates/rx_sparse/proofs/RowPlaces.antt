@@ -17,9 +17,11 @@ use Rattle.rx_search.specs.Starts.{IsId}
 use Rattle.rx_dense.proofs.Rows.{id_at_row}
 use Rattle.rx_wire.specs.declared.order.Order.{Order}
 use Rattle.rx_sparse.specs.declared.ranges.ClassRange.{ClassRange}
-use Rattle.rx_sparse.specs.Rows.{Row, has_class, next_among, next_ids, no_range, no_row, offsets, row_in, row_len, row_text, rows_in, rows_len}
+use Rattle.rx_sparse.specs.Rows.{Row, has_class, next_among, next_ids, no_range, no_row, offsets, row_in, row_len}
+use Rattle.rx_sparse.specs.Rows.{row_text, rows_in, rows_len}
 use Rattle.rx_sparse.specs.Rows.{rows_text, word_at, words_in}
-use Rattle.rx_sparse.specs.Layouts.{AreStarts, IsRow, IsShaped, Layout, ids_of, memory_usage, next_id, row_at, row_count}
+use Rattle.rx_sparse.specs.Layouts.{AreStarts, IsRow, IsShaped, Layout, ids_of, memory_usage, next_id, row_at}
+use Rattle.rx_sparse.specs.Layouts.{row_count}
 use Rattle.rx_sparse.specs.Parts.{AreParts, FitsBytes, IsWholeRow, stored}
 use Rattle.rx_sparse.specs.declared.parts.Parts.{Parts}
 use Rattle.rx_sparse.specs.Facts.{length-offsets, offset_at, offsets_are_ids, rows_len-more}
@@ -191,7 +193,8 @@ module _ (p : Parts) (rows starts : List ℕ) (are : AreParts p rows starts) whe
         sym (get_or-map-range_with_len (word_at p.order starts) 0 (length starts / 4) i i 0 low none)
 
     pub start_small : word_at p.order starts i ≤ max_id
-    start_small = omega (arith, start_is, id_small (layout p rows starts are) are.shaped _ (are.shaped.starts.start_ids i h))
+    start_small =
+        omega (arith, start_is, id_small (layout p rows starts are) are.shaped _ (are.shaped.starts.start_ids i h))
 
 -- ---- dead
 

@@ -12,7 +12,8 @@ use Rattle.rx_wire.specs.declared.order.Order.{Order}
 use Rattle.rx_wire.specs.Fields.{field, number}
 use Rattle.rx_wire.proofs.Fields.{again32, length-field_16, length-field_32}
 use Rattle.rx_sparse.specs.declared.ranges.ClassRange.{ClassRange}
-use Rattle.rx_sparse.specs.Rows.{Row, behind_ends, count_in, ends_in, ends_text, head_number, is_match_in, is_some_list, next_ids}
+use Rattle.rx_sparse.specs.Rows.{Row, behind_ends, count_in, ends_in, ends_text, head_number, is_match_in}
+use Rattle.rx_sparse.specs.Rows.{is_some_list, next_ids}
 use Rattle.rx_sparse.specs.Rows.{needles_in, next_ids_in, no_range, no_row, patterns_in, patterns_len, patterns_text}
 use Rattle.rx_sparse.specs.Rows.{range_in, rest_in, row_in, row_len, row_of_parts, row_text, rows_in}
 use Rattle.rx_sparse.specs.Rows.{rows_len, rows_text, word_at, words_in, words_text}

@@ -123,7 +123,8 @@ module _ (l : dense.Layout) (o : Offsets) (are : AreOffsets l o) where
   offset_same id = ap₂ (λ (ids : List ℕ) (s : ℕ). slice_index ids (id / 2 ^ s)) are.ids are.stride2
 
   row_same : (row : Row) → renamed_row (offset_in o) row ≡ renamed_row (renamed_id l (offsets_of l)) row
-  row_same row = ap₂ (λ (ids : List ℕ) (s : ℕ). renamed_row (λ id. slice_index ids (id / 2 ^ s)) row) are.ids are.stride2
+  row_same row =
+      ap₂ (λ (ids : List ℕ) (s : ℕ). renamed_row (λ id. slice_index ids (id / 2 ^ s)) row) are.ids are.stride2
 
   pub offset_within : (id : ℕ) → IsRowId l id → id / 2 ^ o.stride2 < length o.ids.items
   offset_within id is =
@@ -202,7 +203,8 @@ module _ {l : dense.Layout} {o : Offsets} {bytes : List ℕ} {left rest : List s
         place = written.place + 1;
         left_is = nearest.rest_is;
         bytes_are =
-            ap (λ xs. xs ++ others) (e ∙ ap (λ r. bytes ++ row_text Order.Little r) (row_same l o are (row_of_dense l row)))
+            ap (λ xs. xs ++ others)
+            (e ∙ ap (λ r. bytes ++ row_text Order.Little r) (row_same l o are (row_of_dense l row)))
             ∙ append_assoc bytes text others
             ∙ ap (λ rs. bytes ++ rows_text Order.Little (map (renamed_row f) (map (row_of_dense l) rs))) (sym some)
             ∙ written.bytes_are;
@@ -233,7 +235,8 @@ module _ (l : dense.Layout) (o : Offsets) (are : AreOffsets l o) where
 
   -- ---- universal starts
 
-  kept_offset : (kept : Option ℕ) (found : Option ℕ) → option_map (row_of (dense.ids_of l)) found ≡ dense.universal_row l kept
+  kept_offset : (kept : Option ℕ) (found : Option ℕ)
+      → option_map (row_of (dense.ids_of l)) found ≡ dense.universal_row l kept
       → option_map (λ id. id_of (offsets_of l) (row_of (dense.ids_of l) id)) found ≡ universal_offset l kept
   kept_offset kept None e = ap (option_map (id_of (offsets_of l))) e
   kept_offset kept (Some id) e = ap (option_map (id_of (offsets_of l))) e

@@ -152,7 +152,9 @@ module _ (l : dense.Layout) (rows : dense.AreRows l) where
       AllPairs-from_increasing offs (offsets_are_ids (dense_rows l)).rising x y 0 less (omega (arith, offsets_count))
 
   wider : (x y : ℕ) → x < y → x * stride l < y * stride l
-  wider x y less = (let h : x * stride l + stride l ≤ y * stride l = row_fits x (stride l) y (stride l) less (omega arith) in omega (arith, some))
+  wider x y less =
+      let h : x * stride l + stride l ≤ y * stride l = row_fits x (stride l) y (stride l) less (omega arith) in
+      omega (arith, some)
 
   le_same : (x y : ℕ) → x < size → y < size
       → nat_le (id_of offs x) (id_of offs y) ≡ nat_le (x * stride l) (y * stride l)
@@ -277,7 +279,8 @@ module _ (l : dense.Layout) (rows : dense.AreRows l) where
         let is : (unit == 256) ≡ true = eq-eqb _ _ eoi in
         let last : length dense_row.next_ids - 1 ≡ slice_index l.classes 255 + 1 = omega (arith, next_ids_count) in
         let r : Row = row_of_dense l dense_row in
-        ap (λ t. cond t (renamed r.eoi) (next_among (map (renamed_range renamed) r.ranges) (slice_index l.classes unit))) is
+        let class : ℕ = slice_index l.classes unit in
+        ap (λ t. cond t (renamed r.eoi) (next_among (map (renamed_range renamed) r.ranges) class)) is
         ∙ ap (λ n. renamed (slice_index dense_row.next_ids n)) last
         ∙ ap renamed (next_at (slice_index l.classes 255 + 1) (omega arith))
         ∙ ap (λ t. renamed (slice_index l.words (row * stride l
@@ -293,7 +296,8 @@ module _ (l : dense.Layout) (rows : dense.AreRows l) where
         ∙ next-renamed renamed renamed_zero r.ranges class
         ∙ ap renamed (led dense_row.next_ids class low)
         ∙ ap renamed (next_at class column)
-        ∙ ap (λ t. renamed (slice_index l.words (row * stride l + cond t (slice_index l.classes 255 + 1) class))) (sym no))
+        ∙ ap (λ t. renamed (slice_index l.words (row * stride l + cond t (slice_index l.classes 255 + 1) class)))
+        (sym no))
         (cases_eq unit 256)
 
     next_row_id : (unit : ℕ) → unit < 257 → IsRowId l (dense.next_id l (row * stride l) unit)

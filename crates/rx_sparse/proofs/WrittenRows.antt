@@ -25,7 +25,8 @@ pub if_ok : {A E : Type 0} {P Q : A → Type 0} (r : Result A E) → IfOk r P �
 if_ok (Ok x) h f = f x h
 if_ok (Err e) h f = tt
 
-pub if_added : {A E : Type 0} (r : Result A E) {new want : List ℕ} (old xs : List ℕ) → new ≡ (if is_ok r then old ++ xs else old)
+pub if_added : {A E : Type 0} (r : Result A E) {new want : List ℕ} (old xs : List ℕ)
+    → new ≡ (if is_ok r then old ++ xs else old)
     → (new ≡ old ++ xs → new ≡ want) → IfOk r (λ _. new ≡ want)
 if_added (Ok x) old xs e f = f e
 if_added (Err x) old xs e f = tt
@@ -64,7 +65,8 @@ module _ (f : ℕ → ℕ) where
   next-of-renamed (range ∷ ranges) = ap (λ ids. f range.next ∷ ids) (next-of-renamed ranges)
 
   -- the ids of the ranges, and last that of the end mark
-  pub next_ids-put : (order : Order) (row : Row) (old : List ℕ) {before after : List ℕ} (place : ℕ) → length row.ranges ≤ place
+  pub next_ids-put : (order : Order) (row : Row) (old : List ℕ) {before after : List ℕ} (place : ℕ)
+      → length row.ranges ≤ place
       → before ≡ old ++ words_text order (map next_of (take place row.ranges))
       → after ≡ before ++ field order w32 (f row.eoi)
       → after ≡ old ++ words_text order (next_ids (renamed_row f row))

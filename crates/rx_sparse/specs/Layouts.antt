@@ -129,7 +129,8 @@ pub record AreRanges (classes : List ℕ) (ranges : List ClassRange) : Type 0 wh
 -- Each range and the end mark lead to a row. Exactly the match rows have patterns, as many as a word can count.
 pub record IsRow (l : Layout) (row : ℕ) : Type 0 where
   pub ranges : AreRanges l.classes (row_at l row).ranges
-  pub nexts : (i : ℕ) → i < length (row_at l row).ranges → IsId (ids_of l) (get_or (row_at l row).ranges i no_range).next
+  pub nexts : (i : ℕ) → i < length (row_at l row).ranges
+      → IsId (ids_of l) (get_or (row_at l row).ranges i no_range).next
   pub eoi : IsId (ids_of l) (row_at l row).eoi
   pub matches : is_match_id l.special (id_of (ids_of l) row) ≡ is_some_list (row_at l row).patterns
   pub patterns : (i : ℕ) → i < length (row_at l row).patterns → slice_index (row_at l row).patterns i ≤ max_id

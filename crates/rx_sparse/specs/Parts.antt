@@ -33,7 +33,8 @@ pub record AreParts (p : Parts) (rows starts : List ℕ) : Type 0 where
   pub words : length starts % 4 ≡ 0
   pub shaped : IsShaped (stored p rows starts).layout
 
--- A row has no more ranges than there are byte classes, no more patterns than a word can count, and its numbers are ids.
+-- A row has no more ranges than there are byte classes, no more patterns than a word can count, and its numbers are
+-- ids.
 pub record FitsBytes (row : Row) : Type 0 where
   pub few : length row.ranges ≤ 256
   pub next_ids : (i : ℕ) → i < length (next_ids row) → slice_index (next_ids row) i ≤ max_id

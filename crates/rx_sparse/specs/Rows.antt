@@ -8,8 +8,8 @@ use Rattle.rx_wire.specs.declared.order.Order.{Order}
 use Rattle.rx_wire.specs.Fields.{field, number}
 use Rattle.rx_sparse.specs.declared.ranges.ClassRange.{ClassRange}
 
--- A row: the ranges that don't lead to dead by default, where the end mark leads, the patterns of a match row, and the
--- needles of an accelerated one. Of other rows there are none.
+-- A row: its ranges, where a class in none of them leads to dead; where the end mark leads; the patterns of a match row
+-- and the needles of an accelerated one. Of other rows there are none.
 pub record Row : Type 0 where
   pub ranges : List ClassRange
   pub eoi : ℕ
@@ -43,7 +43,7 @@ abbrev pub is_some_list : List ℕ → Bool
 is_some_list [] = false
 is_some_list (k ∷ ks) = true
 
--- How many ranges there are with that of the end mark, and in the highest bit whether the row tells patterns.
+-- how many ranges there are with that of the end mark, and in the highest bit whether the row tells patterns
 abbrev pub head_number : Row → ℕ
 head_number row = length row.ranges + 1 + (if is_some_list row.patterns then 32768 else 0)
 
@@ -65,6 +65,7 @@ row_text order row =
     ++ (ends_text row.ranges
     ++ (words_text order (next_ids row) ++ (patterns_text order row.patterns ++ length row.needles ∷ row.needles)))
 
+-- rows one behind another
 abbrev pub rows_text : Order → List Row → List ℕ
 rows_text order rows = flat_map (row_text order) rows
 
@@ -76,11 +77,12 @@ row_len row =
     let patterns : ℕ = if is_some_list row.patterns then 4 + 4 * length row.patterns else 0 in
     2 + 6 * (length row.ranges + 1) + patterns + 1 + length row.needles
 
--- The offset of each row, and of what stands behind the last one. A row's offset is its id.
+-- Where each row begins, of which the first does at a place. The offset of a row is its id.
 unfoldable pub offsets_from : ℕ → List Row → List ℕ
 offsets_from at [] = []
 offsets_from at (row ∷ rows) = at ∷ offsets_from (at + row_len row) rows
 
+-- how many bytes rows have together
 unfoldable pub rows_len : List Row → ℕ
 rows_len [] = 0
 rows_len (row ∷ rows) = row_len row + rows_len rows

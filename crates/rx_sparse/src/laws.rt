@@ -17,10 +17,10 @@ ghost use Rattle.rx_sparse.specs.Parts.{FitsBytes};
 ghost use Rattle.rx_sparse.specs.Rows.{Row, no_row, rows_in, rows_text};
 ghost use Rattle.rx_sparse.specs.Sparse.{AreSpecialRows, sparse_len, sparse_of};
 
-/// The sparse table of a dense one is the same table: the rows by their numbers, what they tell and where they lead, the
-/// settings, the marks and the needles. So it is as sound, and a walk of it reaches the row of the same number on every
-/// word, with end marks anywhere in it. It has the shape of a sparse table where its rows have no more bytes than there
-/// are ids.
+/// The sparse table of a dense one is the same table: the rows by their numbers, what they tell and where they lead,
+/// the settings, the marks and the needles. So it is as sound, and a walk of it reaches the row of the same number on
+/// every word, with end marks anywhere in it. It has the shape of a sparse table where its rows have no more bytes than
+/// there are ids.
 pub fn a_sparse_table_is_the_dense_one()
     ensures same { (l : Dense) → IsShapedDense l → AreSpecialRows l → AreSame (dense_table l) (table_of (sparse_of l)) }
     ensures walks { (l : Dense) → IsShapedDense l → AreSpecialRows l → IsSoundDense l

@@ -1,10 +1,11 @@
 //! Sparse tables in memory: a row has the ranges of byte classes that lead to one row, and where they lead.
 //!
-//! Start with [`DFA`], the table, and its `Automaton` calls. It keeps the bytes of its rows in a [`ByteStore`], owned or
-//! borrowed, in either order. [`State`] is a row that is decoded.
+//! Start with [`DFA`], the table, and its `Automaton` calls. It keeps the bytes of its rows in a [`ByteStore`], owned
+//! or borrowed, in either order. [`State`] is a row that is decoded. [`ToSparse`] makes one of a dense table.
 //!
-//! The contract: a table is seen as a `Layout` with the order of its bytes (`specs/Layouts.antt`), of which one function
-//! makes the table of the definitions. What bytes a row has stands in `specs/Rows.antt`.
+//! The contract: a table is seen as a `Layout` with the order of its bytes (`specs/Layouts.antt`), of which one
+//! function makes the table of the definitions. What bytes a row has stands in `specs/Rows.antt`, and what the sparse
+//! table of a dense one is in `specs/Sparse.antt`.
 #![tactic(auto)]
 
 mod dfa;

@@ -1,6 +1,6 @@
 //! Rows of dense tables by their ranges, and the bytes that they have in a sparse table.
 
-ghost use Rattle.std.specs.Prelude.{◌≡◌, ◌<◌, ◌≤◌, ◌^◌, ◌++◌, if◌then◌else◌, ◌+◌, ◌*◌, ℕ, IfOk, length, map, slice_index};
+ghost use Rattle.std.specs.Prelude.{◌≡◌, ◌<◌, ◌≤◌, ◌^◌, ◌++◌, if◌then◌else◌, ◌+◌, ◌*◌, IfOk, length};
 ghost use Rattle.std.specs.Int.{w32};
 ghost use Rattle.rx_wire.specs.Fields.{field};
 ghost use Rattle.rx_wire.specs.declared.order.Order.TheVariants.{Little};
@@ -8,8 +8,8 @@ ghost use Rattle.rx_search.specs.Starts.{IsId};
 ghost use Rattle.rx_dense.specs.Facts.{IsSoundLayout};
 ghost use Rattle.rx_dense.specs.Layouts.{ids_of, needles_of_id};
 ghost use Rattle.rx_sparse.specs.Reading.{offset_in, read_row, HaveOffsets};
-ghost use Rattle.rx_sparse.specs.Rows.{ends_text, head_number, is_some_list, next_ids, patterns_text, row_len, row_text};
-ghost use Rattle.rx_sparse.specs.Rows.{words_text};
+ghost use Rattle.rx_sparse.specs.Rows.{ends_text, head_number, is_some_list, next_ids, patterns_text, row_len};
+ghost use Rattle.rx_sparse.specs.Rows.{row_text, words_text};
 ghost use Rattle.rx_sparse.specs.Sparse.{patterns_of_id, renamed_row};
 
 use crate::offsets::Offsets;
@@ -19,8 +19,8 @@ use rx_dense::{DFA, WordStore};
 use rx_search::Automaton;
 use std::alloc::AllocError;
 
-/// A row of a dense table that was read: its ranges, where the end mark leads, its patterns and its needles. Its ids are
-/// those of the dense table.
+/// A row of a dense table that was read: its ranges, where the end mark leads, its patterns and its needles. Its ids
+/// are those of the dense table.
 #[derive(Drop)]
 pub(crate) struct ReadRow<'d, 'r> {
     ranges: &'r [ClassRange],

@@ -63,7 +63,8 @@ pub(crate) fn word_at(order: Order, bytes: &[u8], i: usize) -> u32
 #[inline(always)]
 fn has_class(ends: &[u8], i: usize, class: u8) -> bool
     requires { 2 * i + 1 < length ends.now }
-    ensures { result ≡ (nat_le (slice_index ends.now (2 * i)) class && nat_le class (slice_index ends.now (2 * i + 1))) }
+    ensures { result
+        ≡ (nat_le (slice_index ends.now (2 * i)) class && nat_le class (slice_index ends.now (2 * i + 1))) }
 {
     ends[2 * i] <= class && class <= ends[2 * i + 1]
 }

@@ -15,7 +15,8 @@ ghost use Rattle.rx_sparse.specs.Layouts.{table_of};
 ghost use Rattle.rx_sparse.specs.Reading.{AreOffsets, HaveOffsets, offset_in, parts_of};
 ghost use Rattle.rx_sparse.specs.Rows.{next_ids, row_len, row_text, rows_text, words_text};
 ghost use Rattle.rx_sparse.specs.Sparse.{AreSpecialRows, IsTooLong, little_sparse_of, offsets_of, renamed_special};
-ghost use Rattle.rx_sparse.specs.Sparse.{patterns_of_id, renamed_row, row_of_dense, sparse_len, sparse_of, universal_offset};
+ghost use Rattle.rx_sparse.specs.Sparse.{patterns_of_id, renamed_row, row_of_dense, sparse_len, sparse_of};
+ghost use Rattle.rx_sparse.specs.Sparse.{universal_offset};
 
 use crate::offsets::Offsets;
 use crate::ranges::{ClassRange, read_ranges};

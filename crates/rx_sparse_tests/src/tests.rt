@@ -1,5 +1,9 @@
 //! What no clause shows: that tables are made sparse, byte by byte, and that they are searched as the dense ones are.
 
+ghost use Rattle.std.specs.Prelude.{IfOk};
+ghost use Rattle.rx_order.specs.RowOrder.{IsInOrder};
+ghost use Rattle.rx_sparse.specs.Facts.{IsSoundLayout};
+
 use rx_base::{Anchored, Input, MatchKind, StateID};
 use rx_build::dense::{Builder, Config};
 use rx_dense::{OwnedDFA, Special};
@@ -13,7 +17,9 @@ use std::process::Abort;
 use std::test::Fail;
 
 /// The dense table of some patterns: forward, or in reverse with all matches told.
-fn build(alloc: Global, patterns: &str, reverse: bool) -> Result<OwnedDFA, Fail> {
+fn build(alloc: Global, patterns: &str, reverse: bool) -> Result<OwnedDFA, Fail>
+    ensures { IfOk result (λ dfa. IsInOrder dfa) }
+{
     let exprs = read(alloc, patterns)?;
     let mut builder = Builder::new();
     builder.thompson(thompson::Config::new().utf8(false).reverse(reverse));
@@ -23,9 +29,13 @@ fn build(alloc: Global, patterns: &str, reverse: bool) -> Result<OwnedDFA, Fail>
     Ok(builder.build_many(alloc, &exprs)?)
 }
 
-/// The sparse table of a dense one that was built.
-fn made_sparse(alloc: Global, dense: &OwnedDFA) -> Result<DFA<Vec<u8>>, Fail> {
-    Ok(dense.to_sparse(alloc)?)
+/// The sparse table of a dense one that was built, and how many rows it has.
+fn made_sparse(alloc: Global, dense: &OwnedDFA) -> Result<(DFA<Vec<u8>>, usize), Fail>
+    requires { IsInOrder dense.now }
+    ensures { IfOk result (λ x. IsSoundLayout x.0.layout) }
+{
+    let rows = dense.state_len();
+    Ok((dense.to_sparse(alloc)?, rows))
 }
 
 /// The eight ids of special rows.
@@ -43,14 +53,10 @@ fn ids(special: &Special) -> [u32; 8] {
 }
 
 /// A row by hand: its ranges, where the end mark leads, its patterns and its needles.
-type Row = (
-    &'static [(u8, u8, u32)],
-    u32,
-    &'static [u32],
-    &'static [u8],
-);
+type Row = (&'static [(u8, u8, u32)], u32, &'static [u32], &'static [u8]);
 
-/// The rows of `abc`, whose classes are the bytes before `a`, `a`, `b`, `c`, and the bytes after it. Row 2 is the match.
+/// The rows of `abc`, whose classes are the bytes before `a`, `a`, `b`, `c`, and the bytes after it. Row 2 is the
+/// match.
 /// From row 3, 5, 7 and 9 on `abc` is looked for anywhere, and from row 4, 6, 8 and 10 on right there.
 const ABC_ROWS: [Row; 11] = [
     (&[], 0, &[], &[]),
@@ -58,7 +64,12 @@ const ABC_ROWS: [Row; 11] = [
     (&[], 0, &[0], &[]),
     (&[(0, 0, 35), (1, 1, 78), (2, 4, 35)], 0, &[], b"a"),
     (&[(1, 1, 111)], 0, &[], &[]),
-    (&[(0, 0, 35), (1, 1, 78), (2, 2, 126), (3, 4, 35)], 0, &[], &[]),
+    (
+        &[(0, 0, 35), (1, 1, 78), (2, 2, 126), (3, 4, 35)],
+        0,
+        &[],
+        &[],
+    ),
     (&[(2, 2, 165)], 0, &[], &[]),
     (
         &[(0, 0, 35), (1, 1, 78), (2, 2, 35), (3, 3, 180), (4, 4, 35)],
@@ -105,14 +116,26 @@ fn bytes_of(alloc: Global, rows: &[Row]) -> Result<Vec<u8>, AllocError> {
 fn the_table_of_abc_is_the_one_by_hand(rt: HostRuntime) -> Result<(), Fail> {
     let alloc = rt.alloc();
     let dense = build(alloc, "abc", false)?;
-    let sparse = made_sparse(alloc, &dense)?;
-    assert!(&rt; sparse.state_len() == 11, "{}", sparse.state_len());
+    let (sparse, rows) = made_sparse(alloc, &dense)?;
+    assert!(&rt;
+        sparse.state_len() == 11 && rows == 11,
+        "{}",
+        sparse.state_len()
+    );
     assert!(&rt; sparse.order() == Order::Little);
-    assert!(&rt; sparse.memory_usage() == 210 + 48, "{}", sparse.memory_usage());
+    assert!(&rt;
+        sparse.memory_usage() == 210 + 48,
+        "{}",
+        sparse.memory_usage()
+    );
     let special = ids(sparse.special());
     assert!(&rt; special == [35, 9, 18, 18, 35, 35, 0, 0], "{:?}", special);
     let rows = bytes_of(alloc, &ABC_ROWS)?;
-    assert!(&rt; sparse.row_bytes() == rows.as_slice(), "{:?}", sparse.row_bytes());
+    assert!(&rt;
+        sparse.row_bytes() == rows.as_slice(),
+        "{:?}",
+        sparse.row_bytes()
+    );
     let unanchored = sparse.universal_start_state(Anchored::No);
     assert!(&rt; unanchored == Some(StateID::must(35)));
     let anchored = sparse.universal_start_state(Anchored::Yes);
@@ -132,24 +155,31 @@ fn told<A: Automaton>(alloc: Global, dfa: &A, text: &[u8]) -> Result<String, Fai
     let one = state.get_match();
     let second = dfa.try_search_overlapping_fwd(&input, &mut state);
     let other = state.get_match();
-    Ok(format!(in alloc;
-        "{forward:?} {reverse:?} {first:?} {one:?} {second:?} {other:?}"
-    )?)
+    Ok(format!(in alloc; "{forward:?} {reverse:?} {first:?} {one:?} {second:?} {other:?}")?)
 }
 
 /// A table tells of each text what its sparse one tells, also lent and copied.
 fn check(rt: &impl Abort, alloc: Global, patterns: &str, reverse: bool) -> Result<(), Fail> {
     let dense = build(alloc, patterns, reverse)?;
-    let sparse = made_sparse(alloc, &dense)?;
+    let (sparse, _) = made_sparse(alloc, &dense)?;
     let copy = sparse.to_owned(alloc)?;
     for text in TEXTS {
         let wanted = told(alloc, &dense, text)?;
         let found = told(alloc, &sparse, text)?;
-        assert!(rt; found.as_str() == wanted.as_str(), "{patterns}: {found}, not {wanted}");
+        assert!(rt;
+            found.as_str() == wanted.as_str(),
+            "{patterns}: {found}, not {wanted}"
+        );
         let lent = told(alloc, &sparse.as_ref(), text)?;
-        assert!(rt; lent.as_str() == wanted.as_str(), "{patterns}: {lent}, not {wanted}");
+        assert!(rt;
+            lent.as_str() == wanted.as_str(),
+            "{patterns}: {lent}, not {wanted}"
+        );
         let copied = told(alloc, &copy, text)?;
-        assert!(rt; copied.as_str() == wanted.as_str(), "{patterns}: {copied}, not {wanted}");
+        assert!(rt;
+            copied.as_str() == wanted.as_str(),
+            "{patterns}: {copied}, not {wanted}"
+        );
     }
     Ok(())
 }
