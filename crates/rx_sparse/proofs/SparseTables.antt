@@ -1,0 +1,465 @@
+-- The sparse table of a dense one is the same table.
+use Rattle.std.proofs.Common.{◌≡◌, ℕ, zero, suc, ◌+◌, ◌-◌, ◌*◌, ◌/◌, ◌<◌, ◌≤◌, ◌==◌, ◌&&◌, Bool, true, false, not}
+use Rattle.std.proofs.Common.{cond, nat_le, Option, Some, None, List, [], ◌∷◌, length, map, slice_index}
+use Rattle.std.proofs.Common.{drop, refl, ap, ap₂, sym, ◌∙◌, subst, ⊎_elim, arith, length-drop, length-take-le}
+use Rattle.std.specs.Prelude.{if◌then◌else◌, nat_lt, option_map, IfSome}
+use Rattle.std.proofs.Math.Nat.{zero-div}
+use Rattle.std.proofs.lemmas.Bool.{cases_eq, cases_lt, eq-eqb, lt-ltb, le-ltb, ne_eqb}
+use Rattle.std.proofs.lemmas.Bool.Decides.{nat_tests}
+use Rattle.std.proofs.lemmas.List.{get_or-take, get_or-drop, get_or-map}
+use Rattle.std.proofs.lemmas.List.FromFn.{get_or-map-range_with_len, length-map-range_with_len}
+use Rattle.std.proofs.lemmas.List.Kept.{AllPairs-from_increasing}
+use Rattle.std.proofs.lemmas.Nat.{pow_pos, row_fits}
+use Rattle.rx_spec.specs.Ids.{id_of, row_of}
+use Rattle.rx_spec.specs.Machines.{IsWord, Label, run}
+use Rattle.rx_lemmas.proofs.Words.{IsWord-head, IsWord-tail, run-cons, run-nil}
+use Rattle.rx_spec.specs.Queries.{Anchored}
+use Rattle.rx_spec.specs.Tables.{AreSame, IsTable, Table, row_after}
+use Rattle.rx_spec.specs.declared.Start.{Start}
+use Rattle.rx_lemmas.proofs.Firsts.{by_test}
+use Rattle.rx_table_lemmas.proofs.Ids.{row_of-id_of}
+use Rattle.rx_table_lemmas.proofs.Tables.{SameSettings-refl, sound_same}
+use Rattle.rx_base.specs.ByteClasses.{AreClasses, alphabet_len}
+use Rattle.rx_search.specs.Starts.{IsId}
+use Rattle.rx_dense.specs.Specials.{is_accel_id, is_in_range, is_match_id, is_quit_id, is_start_id}
+use Rattle.rx_dense.specs.declared.special.Special.{Special}
+use Rattle.rx_dense.specs.Layouts as dense
+use Rattle.rx_dense.specs.Layouts.{IsRowId, context_number, mode_place, stride}
+use Rattle.rx_dense.specs.Builder.{renamed_id}
+use Rattle.rx_dense.specs.Facts as dense_facts
+use Rattle.rx_dense.specs.States as states
+use Rattle.rx_dense.proofs.Rows.{class_column, column_within, quotient, row-below, start_within, valid_id}
+use Rattle.rx_dense.proofs.Shaped.{zero_id}
+use Rattle.rx_dense.proofs.States.{row_within}
+use Rattle.rx_sparse.specs.declared.ranges.ClassRange.{ClassRange}
+use Rattle.rx_sparse.specs.Rows.{Row, has_class, next_among, no_row, offsets_from, row_len, rows_len}
+use Rattle.rx_sparse.specs.Layouts.{ids_of, label_of_row, next_id, row_at, start_id, table_of}
+use Rattle.rx_sparse.specs.Facts.{IsSoundLayout, length-offsets, offset_at, offsets_are_ids}
+use Rattle.rx_sparse.specs.Sparse.{AreSpecialRows, dense_rows, offsets_of, patterns_of_id, renamed_range, renamed_row}
+use Rattle.rx_sparse.specs.Sparse.{renamed_special, row_of_dense, sparse_of, universal_offset}
+use Rattle.rx_sparse.proofs.DenseRanges.{led}
+use Rattle.rx_sparse.proofs.RowTexts.{length-map}
+
+-- ---- rows whose ids are renamed
+
+module _ (f : ℕ → ℕ) where
+  row_len-renamed : (row : Row) → row_len (renamed_row f row) ≡ row_len row
+  row_len-renamed row = omega (arith, length-map (renamed_range f) row.ranges)
+
+  pub offsets-renamed : (at : ℕ) (rows : List Row)
+      → offsets_from at (map (renamed_row f) rows) ≡ offsets_from at rows
+  unfolding offsets_from
+  offsets-renamed at [] = refl
+  offsets-renamed at (row ∷ rows) =
+      ap (λ n. at ∷ offsets_from (at + n) (map (renamed_row f) rows)) (row_len-renamed row)
+      ∙ ap (λ ids. at ∷ ids) (offsets-renamed (at + row_len row) rows)
+
+  pub rows_len-renamed : (rows : List Row) → rows_len (map (renamed_row f) rows) ≡ rows_len rows
+  unfolding rows_len
+  rows_len-renamed [] = refl
+  rows_len-renamed (row ∷ rows) = ap₂ (λ m n. m + n) (row_len-renamed row) (rows_len-renamed rows)
+
+  -- dead stays dead
+  module _ (dead : f 0 ≡ 0) where
+    next-renamed : (ranges : List ClassRange) (class : ℕ)
+        → next_among (map (renamed_range f) ranges) class ≡ f (next_among ranges class)
+    unfolding next_among
+    next-renamed [] class = sym dead
+    next-renamed (range ∷ ranges) class =
+        by_test (has_class class range)
+        (λ yes.
+        ap (λ b. cond b (f range.next) (next_among (map (renamed_range f) ranges) class)) yes
+        ∙ sym (ap (λ b. f (cond b range.next (next_among ranges class))) yes))
+        (λ no.
+        ap (λ b. cond b (f range.next) (next_among (map (renamed_range f) ranges) class)) no
+        ∙ next-renamed ranges class
+        ∙ sym (ap (λ b. f (cond b range.next (next_among ranges class))) no))
+
+-- no class is above that of the last byte
+module _ (classes : List ℕ) (are : AreClasses classes) where
+  class_rises : (b n : ℕ) → b + n < 256 → slice_index classes b ≤ slice_index classes (b + n)
+  class_rises b zero h = (let e : b + 0 ≡ b = omega arith in rw e (omega arith))
+  class_rises b (suc n) h =
+      let e : b + suc n ≡ b + n + 1 = omega arith in
+      let up = are.rises (b + n) (omega arith) in
+      rw e (omega (arith, class_rises b n (omega arith), up))
+
+  class_upto_last : (b : ℕ) → b < 256 → slice_index classes b ≤ slice_index classes 255
+  class_upto_last b h =
+      let e : b + (255 - b) ≡ 255 = omega arith in
+      subst (λ n. slice_index classes b ≤ slice_index classes n) e (class_rises b (255 - b) (omega arith))
+
+-- ---- a table
+
+module _ (l : dense.Layout) (rows : dense.AreRows l) where
+  abbrev offs : List ℕ
+  offs = offsets_of l
+
+  abbrev size : ℕ
+  size = dense.row_count l
+
+  abbrev renamed : ℕ → ℕ
+  renamed = renamed_id l offs
+
+  some : 0 < stride l
+  some = pow_pos l.stride2
+
+  pub rows_count : length (dense_rows l) ≡ size
+  rows_count =
+      let same : size - 0 ≡ size = omega arith in
+      length-map (row_of_dense l) (states.rows_from l 0)
+      ∙ length-map-range_with_len (states.row_at l) 0 (size - 0)
+      ∙ same
+
+  pub offsets_count : length offs ≡ size
+  offsets_count = length-offsets 0 (dense_rows l) ∙ rows_count
+
+  pub ids_same : ids_of (sparse_of l) ≡ offs
+  ids_same = offsets-renamed renamed 0 (dense_rows l)
+
+  zero_is_row : IsRowId l 0
+  zero_is_row = zero_id l (let two = rows.two in omega arith)
+
+  -- the offset of a row
+  pub row_back : (row : ℕ) → row < size → row_of offs (id_of offs row) ≡ row
+  row_back row h = row_of-id_of (offsets_are_ids (dense_rows l)) row (omega (arith, rows_count))
+
+  pub offset_is_id : (row : ℕ) → row < size → IsId offs (id_of offs row)
+  offset_is_id row h = omega (arith, row_back row h, offsets_count)
+
+  pub renamed_is_id : (id : ℕ) → IsRowId l id → IsId offs (renamed id)
+  renamed_is_id id is = offset_is_id (id / stride l) (row-below l id is)
+
+  pub renamed_back : (id : ℕ) → IsRowId l id → row_of offs (renamed id) ≡ id / stride l
+  renamed_back id is = row_back (id / stride l) (row-below l id is)
+
+  some_rows : 0 < size
+  some_rows =
+      let below = row-below l 0 zero_is_row in
+      omega arith
+
+  first_offset : id_of offs 0 ≡ 0
+  unfolding rows_len
+  first_offset = offset_at 0 (dense_rows l) 0 (omega (arith, rows_count, some_rows))
+
+  pub renamed_zero : renamed 0 ≡ 0
+  renamed_zero = ap (slice_index offs) (zero-div (stride l)) ∙ first_offset
+
+  -- ---- order of ids
+
+  rises : (x y : ℕ) → x < y → y < size → id_of offs x < id_of offs y
+  rises x y less h =
+      AllPairs-from_increasing offs (offsets_are_ids (dense_rows l)).rising x y 0 less (omega (arith, offsets_count))
+
+  wider : (x y : ℕ) → x < y → x * stride l < y * stride l
+  wider x y less =
+      let h : x * stride l + stride l ≤ y * stride l = row_fits x (stride l) y (stride l) less (omega arith) in
+      omega (arith, some)
+
+  le_same : (x y : ℕ) → x < size → y < size
+      → nat_le (id_of offs x) (id_of offs y) ≡ nat_le (x * stride l) (y * stride l)
+  le_same x y hx hy =
+      ⊎_elim
+      (λ (less : x < y).
+      let a = rises x y less hy in
+      let b = wider x y less in
+      let p : nat_le (id_of offs x) (id_of offs y) ≡ true = grind (arith, nat_tests) in
+      let q : nat_le (x * stride l) (y * stride l) ≡ true = grind (arith, nat_tests) in
+      p ∙ sym q)
+      (λ (more : y ≤ x).
+      ⊎_elim
+      (λ (same : x ≡ y).
+      let p : nat_le (id_of offs y) (id_of offs y) ≡ true = grind (arith, nat_tests) in
+      let q : nat_le (y * stride l) (y * stride l) ≡ true = grind (arith, nat_tests) in
+      ap (λ z. nat_le (id_of offs z) (id_of offs y)) same ∙ p
+      ∙ sym (ap (λ z. nat_le (z * stride l) (y * stride l)) same ∙ q))
+      (λ (ne : x ≡ y → ⊥).
+      let above : y < x = omega arith in
+      let a = rises y x above hx in
+      let b = wider y x above in
+      let p : nat_le (id_of offs x) (id_of offs y) ≡ false = grind (arith, nat_tests) in
+      let q : nat_le (x * stride l) (y * stride l) ≡ false = grind (arith, nat_tests) in
+      p ∙ sym q)
+      (cases_eq x y))
+      (cases_lt x y)
+
+  eq_same : (x y : ℕ) → x < size → y < size
+      → (id_of offs x == id_of offs y) ≡ (x * stride l == y * stride l)
+  eq_same x y hx hy =
+      ⊎_elim
+      (λ (same : x ≡ y).
+      ap (λ z. id_of offs z == id_of offs y) same ∙ eq-eqb _ _ refl
+      ∙ sym (ap (λ z. z * stride l == y * stride l) same ∙ eq-eqb _ _ refl))
+      (λ (ne : x ≡ y → ⊥).
+      ⊎_elim
+      (λ (less : x < y).
+      ne_eqb _ _ (λ e. omega (arith, rises x y less hy, e))
+      ∙ sym (ne_eqb _ _ (λ e. omega (arith, wider x y less, e))))
+      (λ (more : y ≤ x).
+      let above : y < x = omega arith in
+      ne_eqb _ _ (λ e. omega (arith, rises y x above hx, e))
+      ∙ sym (ne_eqb _ _ (λ e. omega (arith, wider y x above, e))))
+      (cases_lt x y))
+      (cases_eq x y)
+
+  zero_times : 0 * stride l ≡ 0
+  zero_times = omega arith
+
+  -- ---- special rows
+
+  module _ (row : ℕ) (h : row < size) where
+    abbrev offset : ℕ
+    offset = id_of offs row
+
+    -- an id of a row stands at the same place among the offsets as among the ids
+    above : (id : ℕ) → IsRowId l id → nat_le (renamed id) offset ≡ nat_le id (row * stride l)
+    above id is =
+        le_same (id / stride l) row (row-below l id is) h
+        ∙ ap (λ n. nat_le n (row * stride l)) (quotient id (stride l) is.whole)
+
+    below : (id : ℕ) → IsRowId l id → nat_le offset (renamed id) ≡ nat_le (row * stride l) id
+    below id is =
+        le_same row (id / stride l) h (row-below l id is)
+        ∙ ap (λ n. nat_le (row * stride l) n) (quotient id (stride l) is.whole)
+
+    equal : (id : ℕ) → IsRowId l id → (offset == renamed id) ≡ (row * stride l == id)
+    equal id is =
+        eq_same row (id / stride l) h (row-below l id is)
+        ∙ ap (λ n. row * stride l == n) (quotient id (stride l) is.whole)
+
+    is_dead : (offset == 0) ≡ (row * stride l == 0)
+    is_dead = ap (λ n. offset == n) (sym renamed_zero) ∙ equal 0 zero_is_row
+
+    in_range : (first last : ℕ) → IsRowId l first → IsRowId l last
+        → is_in_range (renamed first) (renamed last) offset ≡ is_in_range first last (row * stride l)
+    in_range first last a b =
+        ap₂ (λ (x y : Bool). x && y) (ap₂ (λ (x y : Bool). x && y) (above first a) (below last b)) (ap not is_dead)
+
+  -- ---- rows
+
+  module _ (row : ℕ) (h : row < size) where
+    abbrev dense_row : states.Row
+    dense_row = states.row_at l row
+
+    pub row_there : row_at (sparse_of l) row ≡ renamed_row renamed (row_of_dense l dense_row)
+    row_there =
+        let counted : row < length (dense_rows l) = omega (arith, rows_count) in
+        let first : row < length (states.rows_from l 0) =
+        omega (arith, rows_count, length-map (row_of_dense l) (states.rows_from l 0)) in
+        let none : 0 + row ≡ row = omega arith in
+        let same : size ≡ size - 0 = omega arith in
+        get_or-map (renamed_row renamed) (dense_rows l) row no_row no_row counted
+        ∙ ap (renamed_row renamed) (get_or-map (row_of_dense l) (states.rows_from l 0) row dense_row no_row first)
+        ∙ ap (λ r. renamed_row renamed (row_of_dense l r))
+        (get_or-map-range_with_len (states.row_at l) 0 (size - 0) row row dense_row (omega (arith, same)) none)
+
+    pub next_ids_count : length dense_row.next_ids ≡ alphabet_len l.classes
+    next_ids_count =
+        length-take-le (alphabet_len l.classes) (drop (row * stride l) l.words)
+        (omega (arith, length-drop (row * stride l) l.words, row_within l row h rows))
+
+    next_at : (column : ℕ) → column < alphabet_len l.classes
+        → slice_index dense_row.next_ids column ≡ slice_index l.words (row * stride l + column)
+    next_at column b =
+        get_or-take (alphabet_len l.classes) (drop (row * stride l) l.words) column 0 b
+        ∙ get_or-drop (row * stride l) l.words column 0
+
+    pub next_is_row : (column : ℕ) → column < alphabet_len l.classes → IsRowId l (slice_index dense_row.next_ids column)
+    next_is_row column b =
+        subst (IsRowId l) (sym (next_at column b))
+        (rows.next_ids (row * stride l + column) (omega (arith, row_within l row h rows)))
+
+    -- where a unit leads
+    next_same : (unit : ℕ) → unit < 257
+        → next_id l.classes (renamed_row renamed (row_of_dense l dense_row)) unit
+        ≡ renamed (dense.next_id l (row * stride l) unit)
+    next_same unit b =
+        ⊎_elim
+        (λ (eoi : unit ≡ 256).
+        let is : (unit == 256) ≡ true = eq-eqb _ _ eoi in
+        let last : length dense_row.next_ids - 1 ≡ slice_index l.classes 255 + 1 = omega (arith, next_ids_count) in
+        let r : Row = row_of_dense l dense_row in
+        let class : ℕ = slice_index l.classes unit in
+        ap (λ t. cond t (renamed r.eoi) (next_among (map (renamed_range renamed) r.ranges) class)) is
+        ∙ ap (λ n. renamed (slice_index dense_row.next_ids n)) last
+        ∙ ap renamed (next_at (slice_index l.classes 255 + 1) (omega arith))
+        ∙ ap (λ t. renamed (slice_index l.words (row * stride l
+        + cond t (slice_index l.classes 255 + 1) (slice_index l.classes unit)))) (sym is))
+        (λ (byte : unit ≡ 256 → ⊥).
+        let no : (unit == 256) ≡ false = ne_eqb _ _ byte in
+        let class : ℕ = slice_index l.classes unit in
+        let column = class_column l.classes rows.classes unit (omega arith) in
+        let low : class < length dense_row.next_ids - 1 =
+        omega (arith, next_ids_count, class_upto_last l.classes rows.classes unit (omega arith)) in
+        let r : Row = row_of_dense l dense_row in
+        ap (λ t. cond t (renamed r.eoi) (next_among (map (renamed_range renamed) r.ranges) class)) no
+        ∙ next-renamed renamed renamed_zero r.ranges class
+        ∙ ap renamed (led dense_row.next_ids class low)
+        ∙ ap renamed (next_at class column)
+        ∙ ap (λ t. renamed (slice_index l.words (row * stride l + cond t (slice_index l.classes 255 + 1) class)))
+        (sym no))
+        (cases_eq unit 256)
+
+    next_row_id : (unit : ℕ) → unit < 257 → IsRowId l (dense.next_id l (row * stride l) unit)
+    next_row_id unit b =
+        rows.next_ids (row * stride l + dense.column l unit)
+        (omega (arith, row_within l row h rows, column_within l rows.classes unit b))
+
+    next_row_same : (unit : ℕ) → unit < 257
+        → (table_of (sparse_of l)).machine.next row unit ≡ (dense.table_of l).machine.next row unit
+    next_row_same unit b =
+        ap (λ ids. row_of ids (next_id l.classes (row_at (sparse_of l) row) unit)) ids_same
+        ∙ ap (λ r. row_of offs (next_id l.classes r unit)) row_there
+        ∙ ap (row_of offs) (next_same unit b)
+        ∙ renamed_back (dense.next_id l (row * stride l) unit) (next_row_id unit b)
+
+    -- the id of the row
+    pub id_there : id_of (ids_of (sparse_of l)) row ≡ id_of offs row
+    id_there = ap (λ ids. id_of ids row) ids_same
+
+  -- ---- what a row tells
+
+  module _ (special : AreSpecialRows l) (row : ℕ) (h : row < size) where
+    abbrev new : Special
+    new = renamed_special renamed l.special
+
+    pub match_same : is_match_id new (id_of offs row) ≡ is_match_id l.special (row * stride l)
+    match_same = in_range row h l.special.min_match l.special.max_match special.min_match special.max_match
+
+    quit_same : is_quit_id new (id_of offs row) ≡ is_quit_id l.special (row * stride l)
+    quit_same =
+        ap₂ (λ (x y : Bool). x && y) (equal row h l.special.quit special.quit) (ap not (is_dead row h))
+
+    by_kind : (m q : Bool) (ks : List ℕ)
+        → (if m then Label.Matches (if m then ks else []) else (if q then Label.Quits else Label.Plain))
+        ≡ (if m then Label.Matches ks else (if q then Label.Quits else Label.Plain))
+    by_kind true q ks = refl
+    by_kind false q ks = refl
+
+    label_same : label_of_row new (id_of offs row) (renamed_row renamed (row_of_dense l (states.row_at l row)))
+        ≡ dense.label_of_id l (row * stride l)
+    label_same =
+        let ks : List ℕ = dense.patterns_at l (dense.place_in_range l l.special.min_match (row * stride l)) in
+        ap₂ (λ (m q : Bool). if m then Label.Matches (patterns_of_id l (row * stride l))
+        else (if q then Label.Quits else Label.Plain)) match_same quit_same
+        ∙ by_kind (is_match_id l.special (row * stride l)) (is_quit_id l.special (row * stride l)) ks
+
+    label_row_same : (table_of (sparse_of l)).machine.label row ≡ (dense.table_of l).machine.label row
+    label_row_same =
+        ap₂ (λ (id : ℕ) (r : Row). label_of_row new id r) (id_there row h) (row_there row h) ∙ label_same
+
+  -- ---- start rows
+
+  zero_back : row_of offs 0 ≡ 0
+  zero_back = ap (row_of offs) (sym renamed_zero) ∙ renamed_back 0 zero_is_row ∙ zero-div (stride l)
+
+  start_same : dense.AreStarts l → (mode : Anchored) (start : Start)
+      → row_of offs (start_id (sparse_of l) mode start) ≡ dense.start_id l mode start / stride l
+  start_same starts mode start =
+      let place : ℕ = mode_place mode in
+      let at : ℕ = place + context_number start in
+      let count : length (map renamed l.starts) ≡ length l.starts = length-map renamed l.starts in
+      ⊎_elim
+      (λ (there : place < length l.starts).
+      let within = start_within l starts mode start there in
+      let new : nat_lt place (length (map renamed l.starts)) ≡ true = lt-ltb _ _ (omega arith) in
+      let old : nat_lt place (length l.starts) ≡ true = lt-ltb _ _ there in
+      ap (λ b. row_of offs (cond b (slice_index (map renamed l.starts) at) 0)) new
+      ∙ ap (row_of offs) (get_or-map renamed l.starts at 0 0 within)
+      ∙ renamed_back (slice_index l.starts at) (starts.start_ids at within)
+      ∙ sym (ap (λ b. cond b (slice_index l.starts at) 0 / stride l) old))
+      (λ (none : length l.starts ≤ place).
+      let new : nat_lt place (length (map renamed l.starts)) ≡ false = le-ltb _ _ (omega arith) in
+      let old : nat_lt place (length l.starts) ≡ false = le-ltb _ _ none in
+      ap (λ b. row_of offs (cond b (slice_index (map renamed l.starts) at) 0)) new
+      ∙ zero_back ∙ sym (zero-div (stride l))
+      ∙ sym (ap (λ b. cond b (slice_index l.starts at) 0 / stride l) old))
+      (cases_lt place (length l.starts))
+
+  universal_same : (kept : Option ℕ)
+      → option_map (row_of offs) (universal_offset l kept) ≡ dense.universal_row l kept
+  universal_same None = refl
+  universal_same (Some id) =
+      by_test (dense.is_row_id l id)
+      (λ yes.
+      let row : ℕ = id / stride l in
+      ap (λ b. option_map (row_of offs) (option_map (id_of offs) (if b then Some row else None))) yes
+      ∙ ap (λ (n : ℕ). Some n) (row_back row (row-below l id (valid_id l rows id yes)))
+      ∙ sym (ap (λ b. if b then Some row else None) yes))
+      (λ no.
+      let row : ℕ = id / stride l in
+      ap (λ b. option_map (row_of offs) (option_map (id_of offs) (if b then Some row else None))) no
+      ∙ sym (ap (λ b. if b then Some row else None) no))
+
+  pub universal_is_id : (kept : Option ℕ) → IfSome (universal_offset l kept) (IsId offs)
+  universal_is_id None = tt
+  universal_is_id (Some id) =
+      by_test (dense.is_row_id l id)
+      (λ yes.
+      let row : ℕ = id / stride l in
+      let h = row-below l id (valid_id l rows id yes) in
+      rw yes (offset_is_id row h))
+      (λ no. rw no tt)
+
+-- ---- the same table
+
+pub same_table : (l : dense.Layout) → dense.IsShaped l → AreSpecialRows l
+    → AreSame (dense.table_of l) (table_of (sparse_of l))
+same_table l shaped special =
+    let rows : dense.AreRows l = shaped.rows in
+    let s = l.special in
+    let offset : ℕ → ℕ = id_of (offsets_of l) in
+    let f : ℕ → ℕ = renamed_id l (offsets_of l) in
+    record {
+      size = sym (length-map (renamed_row f) (dense_rows l) ∙ rows_count l rows);
+      settings = SameSettings-refl (dense.settings_of l);
+      entries = λ mode start.
+          sym (ap (λ ids. row_of ids (start_id (sparse_of l) mode start)) (ids_same l rows)
+          ∙ start_same l rows shaped.starts mode start);
+      nexts = λ row unit h b. sym (next_row_same l rows row h unit b);
+      labels = λ row h. sym (label_row_same l rows special row h);
+      deads = λ row h. refl;
+      has_empty = refl;
+      is_utf8 = refl;
+      is_always_start_anchored = refl;
+      pattern_len = refl;
+      accelerated = λ row h.
+          sym (ap (is_accel_id (renamed_special f s)) (id_there l rows row h)
+          ∙ in_range l rows row h s.min_accel s.max_accel special.min_accel special.max_accel);
+      needles = λ row h. sym (ap (λ (r : Row). r.needles) (row_there l rows row h));
+      starts = λ row h.
+          sym (ap (is_start_id (renamed_special f s)) (id_there l rows row h)
+          ∙ in_range l rows row h s.min_start s.max_start special.min_start special.max_start);
+      specials = λ row h.
+          sym (ap (λ id. nat_le id (f s.max)) (id_there l rows row h) ∙ below l rows row h s.max special.max);
+      universal_unanchored =
+          sym (ap (λ ids. option_map (row_of ids) (universal_offset l l.universal_unanchored)) (ids_same l rows)
+          ∙ universal_same l rows l.universal_unanchored);
+      universal_anchored =
+          sym (ap (λ ids. option_map (row_of ids) (universal_offset l l.universal_anchored)) (ids_same l rows)
+          ∙ universal_same l rows l.universal_anchored);
+    }
+
+pub sparse_sound : (l : dense.Layout) → dense.IsShaped l → AreSpecialRows l → dense_facts.IsSoundLayout l
+    → IsSoundLayout (sparse_of l)
+sparse_sound l shaped special sound = sound_same (same_table l shaped special) sound
+
+-- ---- walks
+
+module _ {t u : Table} (same : AreSame t u) (is_table : IsTable t) where
+  run_same : (row : ℕ) (word : List ℕ) → row < t.size → IsWord word
+      → run u.machine.next row word ≡ run t.machine.next row word
+  run_same row [] h is = run-nil u.machine.next row ∙ sym (run-nil t.machine.next row)
+  run_same row (unit ∷ word) h is =
+      let b : unit < 257 = IsWord-head unit word is in
+      let next : ℕ = t.machine.next row unit in
+      run-cons u.machine.next row unit word
+      ∙ ap (λ r. run u.machine.next r word) (sym (same.nexts row unit h b))
+      ∙ run_same next word (is_table.nexts row unit h b) (IsWord-tail unit word is)
+      ∙ sym (run-cons t.machine.next row unit word)
+
+  pub walks_same : (mode : Anchored) (start : Start) (word : List ℕ) → IsWord word
+      → row_after u mode start word ≡ row_after t mode start word
+  walks_same mode start word is =
+      ap (λ r. run u.machine.next r word) (sym (same.entries mode start))
+      ∙ run_same (t.machine.entry mode start) word (is_table.entries mode start) is

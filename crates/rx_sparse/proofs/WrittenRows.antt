@@ -1,0 +1,120 @@
+-- The bytes of a row, part behind part.
+use Rattle.std.proofs.Common.{◌≡◌, ℕ, ◌<◌, ◌≤◌, List, [], ◌∷◌, ◌++◌, length, map, take, slice_index, get_or}
+use Rattle.std.proofs.Common.{Result, Ok, Err, true, false, refl, ap, ap₂, sym, ◌∙◌, append_assoc, arith}
+use Rattle.std.specs.Prelude.{IfOk, if◌then◌else◌}
+use Rattle.std.specs.Result.{is_ok}
+use Rattle.std.specs.Int.{w16, w32}
+use Rattle.std.proofs.lemmas.Grind.{flat_map-append}
+use Rattle.std.proofs.lemmas.List.{append-nil, take_all}
+use Rattle.rx_spec.specs.Ids.{row_of}
+use Rattle.rx_spec.specs.Tables.{is_match}
+use Rattle.rx_wire.specs.declared.order.Order.{Order}
+use Rattle.rx_wire.specs.Fields.{field}
+use Rattle.rx_search.specs.Labels.{patterns_of}
+use Rattle.rx_search.specs.Starts.{IsId}
+use Rattle.rx_dense.specs.Layouts.{Layout, ids_of, patterns_at, place_in_range, table_of}
+use Rattle.rx_dense.proofs.RowKinds.{match_kind, match_patterns}
+use Rattle.rx_sparse.specs.declared.ranges.ClassRange.{ClassRange}
+use Rattle.rx_sparse.specs.Rows.{Row, ends_text, head_number, next_ids, no_range, patterns_text, row_text, words_text}
+use Rattle.rx_sparse.specs.Sparse.{patterns_of_id, renamed_range, renamed_row}
+use Rattle.rx_sparse.proofs.RowTexts.{eoi_there, length-map, next_there, pairs_text}
+
+-- ---- results
+
+pub if_ok : {A E : Type 0} {P Q : A → Type 0} (r : Result A E) → IfOk r P → ((x : A) → P x → Q x) → IfOk r Q
+if_ok (Ok x) h f = f x h
+if_ok (Err e) h f = tt
+
+pub if_added : {A E : Type 0} (r : Result A E) {new want : List ℕ} (old xs : List ℕ)
+    → new ≡ (if is_ok r then old ++ xs else old)
+    → (new ≡ old ++ xs → new ≡ want) → IfOk r (λ _. new ≡ want)
+if_added (Ok x) old xs e f = f e
+if_added (Err x) old xs e f = tt
+
+-- ---- patterns
+
+pub patterns_read : (l : Layout) (id : ℕ) → IsId (ids_of l) id → is_match (table_of l) (row_of (ids_of l) id) ≡ true
+    → patterns_of (table_of l) (row_of (ids_of l) id) ≡ patterns_of_id l id
+patterns_read l id is e =
+    match_patterns l id is e
+    ∙ sym (ap (λ b. if b then patterns_at l (place_in_range l l.special.min_match id) else []) (match_kind l id is ∙ e))
+
+pub no_patterns : (l : Layout) (id : ℕ) → IsId (ids_of l) id → is_match (table_of l) (row_of (ids_of l) id) ≡ false
+    → [] ≡ patterns_of_id l id
+no_patterns l id is e =
+    sym (ap (λ b. if b then patterns_at l (place_in_range l l.special.min_match id) else []) (match_kind l id is ∙ e))
+
+-- ---- renamed rows
+
+module _ (f : ℕ → ℕ) where
+  abbrev next_of : ClassRange → ℕ
+  next_of range = f range.next
+
+  pairs-renamed : (ranges : List ClassRange) → pairs_text (map (renamed_range f) ranges) ≡ pairs_text ranges
+  pairs-renamed [] = refl
+  pairs-renamed (range ∷ ranges) = ap (λ t. range.first ∷ (range.last ∷ t)) (pairs-renamed ranges)
+
+  ends-renamed : (ranges : List ClassRange) → ends_text (map (renamed_range f) ranges) ≡ ends_text ranges
+  ends-renamed ranges = ap (λ t. t ++ 0 ∷ 0 ∷ []) (pairs-renamed ranges)
+
+  head-renamed : (row : Row) → head_number (renamed_row f row) ≡ head_number row
+  head-renamed row = omega (arith, length-map (renamed_range f) row.ranges)
+
+  next-of-renamed : (ranges : List ClassRange) → map (λ r. r.next) (map (renamed_range f) ranges) ≡ map next_of ranges
+  next-of-renamed [] = refl
+  next-of-renamed (range ∷ ranges) = ap (λ ids. f range.next ∷ ids) (next-of-renamed ranges)
+
+  -- the ids of the ranges, and last that of the end mark
+  pub next_ids-put : (order : Order) (row : Row) (old : List ℕ) {before after : List ℕ} (place : ℕ)
+      → length row.ranges ≤ place
+      → before ≡ old ++ words_text order (map next_of (take place row.ranges))
+      → after ≡ before ++ field order w32 (f row.eoi)
+      → after ≡ old ++ words_text order (next_ids (renamed_row f row))
+  next_ids-put order row old {before} {after} place h was is =
+      let ids : List ℕ = map next_of row.ranges in
+      let last : List ℕ = field order w32 (f row.eoi) in
+      is
+      ∙ ap (λ t. t ++ last) (was ∙ ap (λ rs. old ++ words_text order (map next_of rs)) (take_all place row.ranges h))
+      ∙ append_assoc old (words_text order ids) last
+      ∙ ap (λ t. old ++ (words_text order ids ++ t)) (sym (append-nil last))
+      ∙ ap (λ t. old ++ t) (sym (flat_map-append (field order w32) ids (f row.eoi ∷ [])))
+      ∙ ap (λ xs. old ++ words_text order (xs ++ f row.eoi ∷ [])) (sym (next-of-renamed row.ranges))
+
+  regroup : (old h e i p : List ℕ) (n : ℕ) (ns : List ℕ)
+      → (((((old ++ h) ++ e) ++ i) ++ p) ++ n ∷ []) ++ ns ≡ old ++ (h ++ (e ++ (i ++ (p ++ (n ∷ ns)))))
+  regroup old h e i p n ns = simp append_assoc refl
+
+  -- the parts of a row
+  pub row-put : (order : Order) (row : Row) (old : List ℕ) {a b c d e new : List ℕ}
+      → a ≡ old ++ field order w16 (head_number row) → b ≡ a ++ ends_text row.ranges
+      → c ≡ b ++ words_text order (next_ids (renamed_row f row)) → d ≡ c ++ patterns_text order row.patterns
+      → e ≡ d ++ length row.needles ∷ [] → new ≡ e ++ row.needles
+      → new ≡ old ++ row_text order (renamed_row f row)
+  row-put order row old {a} {b} {c} {d} {e} {new} ha hb hc hd he hn =
+      let head : List ℕ = field order w16 (head_number row) in
+      let ends : List ℕ = ends_text row.ranges in
+      let ids : List ℕ = words_text order (next_ids (renamed_row f row)) in
+      let patterns : List ℕ = patterns_text order row.patterns in
+      let n : ℕ = length row.needles in
+      hn
+      ∙ ap (λ t. t ++ row.needles) (he ∙ ap (λ t. t ++ n ∷ []) (hd ∙ ap (λ t. t ++ patterns)
+      (hc ∙ ap (λ t. t ++ ids) (hb ∙ ap (λ t. t ++ ends) ha))))
+      ∙ regroup old head ends ids patterns n row.needles
+      ∙ ap₂ (λ h t. old ++ (field order w16 h ++ (t ++ (ids ++ (patterns ++ (n ∷ row.needles))))))
+      (sym (head-renamed row)) (sym (ends-renamed row.ranges))
+
+-- ---- ids
+
+-- the ids of a row that has them
+pub range_id : (row : Row) (i : ℕ) → i < length row.ranges
+    → slice_index (next_ids row) i ≡ (get_or row.ranges i no_range).next
+range_id row i h = next_there row.ranges (row.eoi ∷ []) i h
+
+pub eoi_id : (row : Row) → slice_index (next_ids row) (length row.ranges) ≡ row.eoi
+eoi_id row = eoi_there row.ranges row.eoi
+
+-- a row of its parts
+pub row_parts : {row : Row} {ranges : List ClassRange} {eoi : ℕ} {patterns needles : List ℕ} → ranges ≡ row.ranges
+    → eoi ≡ row.eoi → patterns ≡ row.patterns → needles ≡ row.needles
+    → record { ranges = ranges; eoi = eoi; patterns = patterns; needles = needles } ≡ row
+row_parts {row} {ranges} {eoi} {patterns} {needles} a b c d = rw (a, b, c, d) refl

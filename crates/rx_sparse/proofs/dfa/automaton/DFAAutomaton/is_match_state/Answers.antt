@@ -1,0 +1,8 @@
+use Rattle.std.proofs.Common.{◌∙◌}
+use Rattle.rx_sparse.proofs.RowKinds.{match_kind}
+use Rattle.rx_sparse.proofs.dfa.automaton.DFAAutomaton.is_match_state.Goals as goal
+
+pub returns : goal.returns
+returns g c =
+    rw (c.special.ensures, c.special-2.ensures) at c.is_in_range.ensures
+    ∙ match_kind c.args.self.now.layout c.args.id c.requires

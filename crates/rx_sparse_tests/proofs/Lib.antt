@@ -1,0 +1,2 @@
+-- special ids of tables whose rows lie in order
+pub mod Ordered
