@@ -86,11 +86,11 @@ fn add_word(bytes: &mut Vec<u8>, word: u32) -> Result<(), AllocError> {
     bytes.extend_from_slice(&word.to_le_bytes())
 }
 
-/// The bytes of rows, number by number.
+/// The bytes of rows, number by number. None has more than a few ranges, patterns or needles.
 fn bytes_of(alloc: Global, rows: &[Row]) -> Result<Vec<u8>, AllocError> {
     let mut bytes = Vec::new(alloc);
     for (ranges, eoi, patterns, needles) in rows {
-        bytes.push(ranges.len() as u8 + 1)?;
+        bytes.push(ranges.len().min(100) as u8 + 1)?;
         bytes.push(if patterns.is_empty() { 0 } else { 128 })?;
         for (first, last, _) in *ranges {
             bytes.extend_from_slice(&[*first, *last])?;
@@ -101,12 +101,12 @@ fn bytes_of(alloc: Global, rows: &[Row]) -> Result<Vec<u8>, AllocError> {
         }
         add_word(&mut bytes, *eoi)?;
         if !patterns.is_empty() {
-            add_word(&mut bytes, patterns.len() as u32)?;
+            add_word(&mut bytes, patterns.len().min(100) as u32)?;
             for pattern in *patterns {
                 add_word(&mut bytes, *pattern)?;
             }
         }
-        bytes.push(needles.len() as u8)?;
+        bytes.push(needles.len().min(3) as u8)?;
         bytes.extend_from_slice(needles)?;
     }
     Ok(bytes)
