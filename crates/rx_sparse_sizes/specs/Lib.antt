@@ -1,0 +1,2 @@
+-- dense tables whose sparse tables are measured
+pub mod Measured
