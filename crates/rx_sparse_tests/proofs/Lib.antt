@@ -1,2 +1,0 @@
--- special ids of tables whose rows lie in order
-pub mod Ordered

@@ -1,4 +1,4 @@
-use Rattle.rx_sparse_tests.proofs.Ordered.{special_rows}
+use Rattle.rx_sparse_build.proofs.Ordered.{special_rows}
 use Rattle.rx_sparse_tests.proofs.tests.made_sparse.Goals as goal
 
 pub to_sparse-requires-clause-special : goal.to_sparse-requires-clause-special

@@ -10,9 +10,11 @@ use Rattle.rx_order.specs.RowOrder.{IsOrdered, IsRange}
 use Rattle.rx_sparse.specs.Sparse.{AreSpecialRows}
 
 module _ (l : Layout) (rows : AreRows l) where
-  zero_row : IsRowId l 0
+  -- dead is a row
+  pub zero_row : IsRowId l 0
   zero_row = zero_id l (let two = rows.two in omega arith)
 
+  -- the first and the last row of a range, or dead
   ends : {first last : ℕ} → IsRange l first last → IsRowId l first × IsRowId l last
   ends {first} {last} range =
       ⊎_elim
@@ -21,13 +23,15 @@ module _ (l : Layout) (rows : AreRows l) where
       (λ (some : (stride l < first) × (first ≤ last) × IsRowId l first × IsRowId l last). (some.2, some.3))
       range
 
-  greater : (a b : ℕ) → IsRowId l a → IsRowId l b → IsRowId l (max a b)
+  -- the greater of two ids of rows is one
+  pub greater : (a b : ℕ) → IsRowId l a → IsRowId l b → IsRowId l (max a b)
   greater a b is also =
       ⊎_elim
       (λ (less : a < b). (let e : b ≡ max a b = omega arith in subst (IsRowId l) e also))
       (λ (more : b ≤ a). (let e : a ≡ max a b = omega arith in subst (IsRowId l) e is))
       (cases_lt a b)
 
+  -- so all special ids are ids of rows
   pub special_rows : IsOrdered l → AreSpecialRows l
   special_rows ordered =
       let two : 2 ≤ row_count l = le-div 2 (length l.words) (stride l) (pow_pos l.stride2) rows.two in

@@ -1,0 +1,164 @@
+-- What refuses a sparse table: what refuses its dense one, or that its rows are too long.
+use Rattle.std.proofs.Common.{◌≡◌, ℕ, ◌<◌, ◌≤◌, Bool, true, false, if◌then◌else◌, List, inl, inr, refl, ap, subst, ⊎_elim}
+use Rattle.std.specs.Prelude.{◌⊎◌, Result, Ok, Err, IfOk, IfErr, OnOk}
+use Rattle.rx_spec.specs.Builds.{Build}
+use Rattle.rx_spec.specs.Causes.{BuildCause, BuildFits, BuildRefused, Exceeds, HasTooLongRows, HasTooManyStates}
+use Rattle.rx_spec.specs.Causes.{IsUnsupported, max_id}
+use Rattle.rx_spec.specs.Expressions.{Expression}
+use Rattle.rx_spec.specs.Nfas.{Nfa}
+use Rattle.rx_spec.specs.Plans.{Cause}
+use Rattle.rx_spec.specs.Sizes.{sparse_bound, sparse_size}
+use Rattle.rx_spec.specs.States.{State}
+use Rattle.rx_spec.specs.declared.Form.{Form}
+use Rattle.rx_build_error.specs.Refusals.{IsRefused, TableRefused}
+use Rattle.rx_build_error.specs.declared.BuildError.{BuildError}
+use Rattle.rx_build_error.specs.declared.BuildErrorKind.{BuildErrorKind}
+use Rattle.rx_dense.specs.Layouts.{IsShaped, Layout, table_of}
+use Rattle.rx_expr.specs.Compiles.{Fits, wanted_nfa}
+use Rattle.rx_expr.specs.Settings as thompson
+use Rattle.rx_build.specs.Built as dense
+use Rattle.rx_build.specs.Built.{IsBuilt, build_of, limits_of}
+use Rattle.rx_build.specs.Settings.{Settled}
+use Rattle.rx_build.proofs.Beginnings.{refused_as}
+use Rattle.rx_sparse.specs.Layouts.{Stored}
+use Rattle.rx_sparse.specs.Sparse.{IsTooLong, little_sparse_of, sparse_len}
+use Rattle.rx_determinize.specs.Determinized.{classes_of}
+use Rattle.rx_sparse_sizes.specs.Measured.{IsBounded, IsMeasured}
+use Rattle.rx_sparse_sizes.proofs.Bounds.{too_long as bound_too_long}
+use Rattle.rx_sparse_sizes.proofs.Lengths.{fits as fits_rows, too_long}
+use Rattle.rx_sparse_build.specs.Built.{IsSparse, Refused, sparse_limits}
+
+-- ---- causes of the dense table
+
+not_sparse : Form.Dense ≡ Form.Sparse → ⊥
+not_sparse e = cc
+
+build_refused : (s : Settled) (b : Build) (cause : BuildCause) → BuildRefused (limits_of s) b cause
+    → BuildRefused (sparse_limits s) b cause
+build_refused s b BuildCause.Unsupported r = r
+build_refused s b BuildCause.TooManyStates r = (
+  r.0,
+  ⊎_elim
+      (λ (states : HasTooManyStates (limits_of s) b). inl states)
+      (λ (rows : HasTooLongRows (limits_of s) b). absurd (not_sparse rows.0))
+      r.1,
+)
+build_refused s b BuildCause.TooManyMatchPatternIDs r = r
+build_refused s b (BuildCause.DFAExceededSizeLimit limit) r = r
+build_refused s b (BuildCause.DeterminizeExceededSizeLimit limit) r = r
+
+-- of an NFA
+pub table_refused : (s : Settled) (b : Build) (kind : BuildErrorKind) → IsRefused (TableRefused (limits_of s) b) kind
+    → IsRefused (TableRefused (sparse_limits s) b) kind
+table_refused s b kind = refused_as (TableRefused (limits_of s) b) (TableRefused (sparse_limits s) b) each kind
+  where
+    each : (cause : Cause) → TableRefused (limits_of s) b cause → TableRefused (sparse_limits s) b cause
+    each (Cause.NFA cause) r = r
+    each (Cause.DFA cause) r = build_refused s b cause r
+
+-- of expressions
+module _ (s : Settled) (a : thompson.Asked) (es : List Expression) where
+  dense_cause : (cause : Cause) → dense.Refused s a es cause → Refused s a es cause
+  dense_cause (Cause.NFA cause) r = r
+  dense_cause (Cause.DFA cause) r = (r.0, build_refused s _ cause r.1)
+
+  pub dense_refused : (kind : BuildErrorKind) → IsRefused (dense.Refused s a es) kind
+      → IsRefused (Refused s a es) kind
+  dense_refused kind = refused_as (dense.Refused s a es) (Refused s a es) dense_cause kind
+
+-- ---- the length of the rows
+
+-- two lists of limits that differ in the size by a choice
+abbrev chosen : (b : Build) → (byte_classes accelerate minimize : Bool) → List State → ℕ
+chosen b byte_classes accelerate minimize states =
+    if minimize then sparse_bound b byte_classes states else sparse_size b byte_classes accelerate states
+
+module _ (s : Settled) (nfa : Nfa) (l : Layout) (shaped : IsShaped l) (is : IsBuilt s nfa l) where
+  abbrev b : Build
+  b = build_of s nfa
+
+  classes : l.classes ≡ classes_of nfa b.quit s.byte_classes
+  classes = ap (λ (m : Layout). m.classes) is.rest
+
+  measured : s.minimize ≡ false → IsMeasured b s.byte_classes s.accelerate l
+  measured e = record {
+    shaped = shaped;
+    sound = is.in_order.sound;
+    classes = classes;
+    power = is.power e;
+    accelerated = is.accelerated;
+  }
+
+  bounded : s.minimize ≡ true → IsBounded b s.byte_classes l
+  bounded e = record {
+    shaped = shaped;
+    sound = is.in_order.sound;
+    classes = classes;
+    gives = is.gives;
+    reached = is.reached;
+    apart = is.apart e;
+  }
+
+  by_choice : (minimize : Bool) → s.minimize ≡ minimize → max_id < sparse_len l
+      → Exceeds b (chosen b s.byte_classes s.accelerate minimize) max_id
+  by_choice false e h = too_long (measured e) h
+  by_choice true e h = bound_too_long (bounded e) h
+
+  too_long_rows : max_id < sparse_len l → HasTooLongRows (sparse_limits s) b
+  too_long_rows h = (refl, by_choice s.minimize refl h)
+
+  pub sparse_fits : sparse_len l ≤ max_id → BuildFits (limits_of s) b → BuildFits (sparse_limits s) b
+  sparse_fits h fits = record {
+    supported = fits.supported;
+    states = fits.states;
+    rows = λ e rows.
+        fits_rows (measured e) h
+        (subst (λ m. Exceeds b (chosen b s.byte_classes s.accelerate m) max_id) e rows.1);
+    patterns = fits.patterns;
+    table = fits.table;
+    construction = fits.construction;
+  }
+
+  supported : BuildFits (limits_of s) b → IsUnsupported b → ⊥
+  supported fits un = un.lacks (fits.supported un.looks)
+
+  pub too_long_refused : BuildFits (limits_of s) b → (kind : BuildErrorKind) → IsTooLong (sparse_len l) kind
+      → IsRefused (TableRefused (sparse_limits s) b) kind
+  too_long_refused fits BuildErrorKind.Memory r = tt
+  too_long_refused fits BuildErrorKind.TooManyStates r = (supported fits, inr (too_long_rows r))
+  too_long_refused fits (BuildErrorKind.NFA error) r = absurd r
+  too_long_refused fits BuildErrorKind.Unsupported r = absurd r
+  too_long_refused fits BuildErrorKind.TooManyMatchPatternIDs r = absurd r
+  too_long_refused fits (BuildErrorKind.DFAExceededSizeLimit limit) r = absurd r
+  too_long_refused fits (BuildErrorKind.DeterminizeExceededSizeLimit limit) r = absurd r
+
+  -- ---- the table, made sparse
+
+  pub made : (r : Result Stored BuildError) → IfOk r (λ t. t ≡ little_sparse_of l) → OnOk r (sparse_len l ≤ max_id)
+      → IfOk r (IsSparse s nfa)
+  made (Ok t) e h = record { dense = l; shaped = shaped; built = is; short = h; sparse = e }
+  made (Err error) e h = tt
+
+  pub all_fit : (r : Result Stored BuildError) → BuildFits (limits_of s) b → OnOk r (sparse_len l ≤ max_id)
+      → OnOk r (BuildFits (sparse_limits s) b)
+  all_fit (Ok t) fits h = sparse_fits h fits
+  all_fit (Err error) fits h = tt
+
+  pub made_refused : (r : Result Stored BuildError) → BuildFits (limits_of s) b
+      → IfErr r (λ error. IsTooLong (sparse_len l) error.kind)
+      → IfErr r (λ error. IsRefused (TableRefused (sparse_limits s) b) error.kind)
+  made_refused (Ok t) fits h = tt
+  made_refused (Err error) fits h = too_long_refused fits error.kind h
+
+-- a table of expressions whose NFA fits
+pub table_of_exprs_refused : (s : Settled) (a : thompson.Asked) (es : List Expression) → Fits a es
+    → (kind : BuildErrorKind)
+    → IsRefused (TableRefused (sparse_limits s) (build_of s (wanted_nfa a es))) kind
+    → IsRefused (Refused s a es) kind
+table_of_exprs_refused s a es fits =
+    refused_as (TableRefused (sparse_limits s) (build_of s (wanted_nfa a es))) (Refused s a es) each
+  where
+    each : (cause : Cause) → TableRefused (sparse_limits s) (build_of s (wanted_nfa a es)) cause
+        → Refused s a es cause
+    each (Cause.NFA cause) r = absurd r
+    each (Cause.DFA cause) r = (fits, r)

@@ -1,0 +1,93 @@
+-- A sparse table says what its dense one says.
+use Rattle.std.proofs.Common.{◌≡◌, ℕ, ◌<◌, true, false, List, sym, ap, ◌∙◌, subst, arith}
+use Rattle.std.specs.Prelude.{Contains}
+use Rattle.rx_spec.specs.Builds.{Build, built_modes}
+use Rattle.rx_spec.specs.Labels.{Gives, IsLeastFor}
+use Rattle.rx_spec.specs.Machines.{IsWord}
+use Rattle.rx_spec.specs.Nfas.{Nfa}
+use Rattle.rx_spec.specs.Power.{IsPower, node_at}
+use Rattle.rx_spec.specs.Queries.{Anchored}
+use Rattle.rx_spec.specs.Tables.{AreSame, IsTable, Table, row_after}
+use Rattle.rx_spec.specs.declared.Start.{Start}
+use Rattle.rx_lemmas.proofs.SilentRows.{IsRow}
+use Rattle.rx_lemmas.proofs.Words.{run-within}
+use Rattle.rx_table_lemmas.proofs.Tables.{SameSettings-sym, SameSettings-trans, table_same}
+use Rattle.rx_meaning.specs.Tables.{Serves}
+use Rattle.rx_dense.specs.Layouts as dense
+use Rattle.rx_build.specs.Built.{IsBuilt, build_of}
+use Rattle.rx_build.specs.Settings.{Settled}
+use Rattle.rx_build.proofs.Served.{built_serves}
+use Rattle.rx_sparse.specs.Facts.{IsSoundLayout}
+use Rattle.rx_sparse.specs.Layouts.{IsShaped, Layout, Stored, row_count, table_of}
+use Rattle.rx_sparse.specs.Sparse.{AreSpecialRows, sparse_of}
+use Rattle.rx_sparse.proofs.SparseTables.{same_table, sparse_sound, walks_same}
+use Rattle.rx_sparse_build.specs.Built.{IsSparse}
+use Rattle.rx_sparse_build.proofs.Ordered.{special_rows}
+
+-- ---- a table that is the same as another
+
+module _ {t u : Table} (same : AreSame t u) (is : IsTable t) (b : Build) where
+  row_there : (mode : Anchored) (start : Start) (word : List ℕ) → IsWord word → row_after t mode start word < t.size
+  row_there mode start word w =
+      run-within t.machine.next (IsRow t) (λ row unit h v. is.nexts row unit h v) (t.machine.entry mode start) word
+      (is.entries mode start) w
+
+  gives_same : Gives t b → Gives u b
+  gives_same gives mode begins start word w =
+      ap u.machine.label (walks_same same is mode start word w)
+      ∙ sym (same.labels (row_after t mode start word) (row_there mode start word w))
+      ∙ gives mode begins start word w
+
+  pub serves_same : Serves t b → Serves u b
+  serves_same serves = record {
+    is_table = table_same same serves.is_table;
+    gives = gives_same serves.gives;
+    settings = SameSettings-trans (SameSettings-sym same.settings) serves.settings;
+  }
+
+  power_same : IsPower t b → IsPower u b
+  power_same power = record {
+    states = power.states;
+    reached = power.reached;
+    size = sym same.size ∙ power.size;
+    entries = λ mode start.
+        ap (node_at power.states) (sym (same.entries mode start)) ∙ power.entries mode start;
+    nexts = λ row unit h v.
+        let low : row < t.size = omega (arith, same.size) in
+        ap (node_at power.states) (sym (same.nexts row unit low v)) ∙ power.nexts row unit low v;
+    labels = λ row h.
+        let low : row < t.size = omega (arith, same.size) in
+        sym (same.labels row low) ∙ power.labels row low;
+  }
+
+-- ---- the sparse table of a built one
+
+module _ (s : Settled) (nfa : Nfa) (t : Stored) (is : IsSparse s nfa t) where
+  pub special : AreSpecialRows is.dense
+  special = special_rows is.dense is.shaped.rows is.built.in_order.ordered
+
+  same : AreSame (dense.table_of is.dense) (table_of (sparse_of is.dense))
+  same = same_table is.dense is.shaped special
+
+  layout_is : sparse_of is.dense ≡ t.layout
+  layout_is = sym (ap (λ (x : Stored). x.layout) is.sparse)
+
+  -- it is the dense one, row by row
+  pub dense_same : AreSame (dense.table_of is.dense) (table_of t.layout)
+  dense_same = subst (λ (l : Layout). AreSame (dense.table_of is.dense) (table_of l)) layout_is same
+
+  is_table : IsTable (dense.table_of is.dense)
+  is_table = is.built.in_order.sound.is_table
+
+  pub sparse_serves : Serves (table_of t.layout) (build_of s nfa)
+  sparse_serves = serves_same dense_same is_table (build_of s nfa) (built_serves s nfa is.dense is.built)
+
+  pub built_sound : IsSoundLayout t.layout
+  built_sound =
+      subst IsSoundLayout layout_is (sparse_sound is.dense is.shaped special is.built.in_order.sound)
+
+  pub sparse_power : s.minimize ≡ false → IsPower (table_of t.layout) (build_of s nfa)
+  sparse_power e = power_same dense_same is_table (build_of s nfa) (is.built.power e)
+
+  pub sparse_least : s.minimize ≡ true → IsLeastFor (build_of s nfa) (row_count t.layout)
+  sparse_least e = subst (IsLeastFor (build_of s nfa)) dense_same.size (is.built.least e)

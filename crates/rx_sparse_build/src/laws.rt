@@ -1,0 +1,30 @@
+//! What a built sparse table tells.
+//!
+//! Each function has an empty body, and its clauses are the laws.
+
+ghost use Rattle.std.specs.Prelude.{◌≡◌, true, false};
+ghost use Rattle.rx_spec.specs.Labels.{IsLeastFor};
+ghost use Rattle.rx_spec.specs.Nfas.{Nfa};
+ghost use Rattle.rx_spec.specs.Power.{IsPower};
+ghost use Rattle.rx_meaning.specs.Tables.{Serves};
+ghost use Rattle.rx_build.specs.Built.{build_of};
+ghost use Rattle.rx_build.specs.Settings.{Settled};
+ghost use Rattle.rx_sparse.specs.Facts.{IsSoundLayout};
+ghost use Rattle.rx_sparse.specs.Layouts.{IsShaped, Stored, row_count, table_of};
+ghost use Rattle.rx_sparse_build.specs.Built.{IsSparse};
+
+/// A built sparse table gives its build, and its searches begin as the build's do. So it answers every search as the
+/// powerset machine of its build does. It is sound.
+pub fn built_tables_serve()
+    ensures serves { (s : Settled) (nfa : Nfa) (t : Stored) → IsSparse s nfa t
+        → Serves (table_of t.layout) (build_of s nfa) }
+    ensures sound { (s : Settled) (nfa : Nfa) (t : Stored) → IsSparse s nfa t → IsSoundLayout t.layout }
+{}
+
+/// It has the rows of the build's powerset machine, or where its rows are joined, as few as can be.
+pub fn built_tables_have_their_rows()
+    ensures power { (s : Settled) (nfa : Nfa) (t : Stored) → IsSparse s nfa t → s.minimize ≡ false
+        → IsPower (table_of t.layout) (build_of s nfa) }
+    ensures least { (s : Settled) (nfa : Nfa) (t : Stored) → IsSparse s nfa t → s.minimize ≡ true
+        → IsLeastFor (build_of s nfa) (row_count t.layout) }
+{}
