@@ -1,0 +1,176 @@
+-- Bytes that were decoded are the bytes of what was decoded: numbers, ends of ranges, and next ids.
+use Rattle.std.proofs.Common.{◌≡◌, ℕ, zero, suc, ◌+◌, ◌-◌, ◌*◌, ◌/◌, ◌^◌, ◌<◌, ◌≤◌, List, [], ◌∷◌, ◌++◌, length, take}
+use Rattle.std.proofs.Common.{drop, map, get_or, slice_index, refl, ap, ap₂, sym, ◌∙◌, ⊎_elim, arith, Fits, w8}
+use Rattle.std.proofs.Common.{length-drop, drop-cons}
+use Rattle.std.specs.List.{range_with_len}
+use Rattle.std.specs.Int.{w16, w32}
+use Rattle.std.proofs.Math.Seq.{take-add}
+use Rattle.std.proofs.lemmas.Bool.{cases_lt}
+use Rattle.std.proofs.lemmas.List.{drop-drop, drop-take, drop_all, get_or_past, length-take-le, take-append-drop}
+use Rattle.std.proofs.lemmas.List.{take-take}
+use Rattle.std.proofs.lemmas.List.Elements.{All-drop, All-from_get_or, All-get_or, All-take}
+use Rattle.std.proofs.lemmas.List.FromFn.{map-range_with_len_more}
+use Rattle.std.proofs.lemmas.Nat.{be_bytes_2, be_bytes_4, le_bytes_2, le_bytes_4}
+use Rattle.rx_spec.specs.Bytes.{AreBytes}
+use Rattle.rx_wire.specs.declared.order.Order.{Order}
+use Rattle.rx_wire.specs.Fields.{field, number}
+use Rattle.rx_sparse.specs.Rows.{ends_text, range_in, word_at, words_in, words_text}
+use Rattle.rx_sparse.proofs.RowTexts.{pairs_text}
+
+-- ---- numbers
+
+-- what a slice of bytes tells of its items
+pub are_bytes : (bytes : List ℕ) → ((i : ℕ) → Fits w8 (get_or bytes i 0)) → AreBytes bytes
+are_bytes bytes fit = All-from_get_or (λ b. b < 256) bytes 0 (λ i h. omega (arith, fit i))
+
+-- past the end too
+pub byte_below : (bytes : List ℕ) → AreBytes bytes → (i : ℕ) → get_or bytes i 0 < 256
+byte_below bytes are i =
+    ⊎_elim
+    (λ (low : i < length bytes). All-get_or (λ b. b < 256) bytes i 0 low are)
+    (λ (high : length bytes ≤ i). omega (arith, get_or_past bytes i 0 high))
+    (cases_lt i (length bytes))
+
+-- the bytes of the number of two bytes are these
+pub field16_is : (order : Order) (bytes : List ℕ) → AreBytes bytes → length bytes ≡ 2
+    → field order w16 (number order w16 bytes) ≡ bytes
+field16_is Order.Little bytes are len = le_bytes_2 bytes _ len (byte_below bytes are) refl
+field16_is Order.Big bytes are len = be_bytes_2 bytes _ len (byte_below bytes are) refl
+
+-- and of four
+pub field32_is : (order : Order) (bytes : List ℕ) → AreBytes bytes → length bytes ≡ 4
+    → field order w32 (number order w32 bytes) ≡ bytes
+field32_is Order.Little bytes are len = le_bytes_4 bytes _ len (byte_below bytes are) refl
+field32_is Order.Big bytes are len = be_bytes_4 bytes _ len (byte_below bytes are) refl
+
+-- a number of bytes fits them
+pub number16_below : (order : Order) (bytes : List ℕ) → AreBytes bytes → number order w16 bytes < 2 ^ 16
+number16_below Order.Little bytes are =
+    omega (arith, byte_below bytes are 0, byte_below bytes are 1)
+number16_below Order.Big bytes are =
+    omega (arith, byte_below bytes are 0, byte_below bytes are 1)
+
+-- and four bytes
+pub number32_below : (order : Order) (bytes : List ℕ) → AreBytes bytes → number order w32 bytes < 2 ^ 32
+number32_below Order.Little bytes are =
+    omega (
+      arith,
+      byte_below bytes are 0,
+      byte_below bytes are 1,
+      byte_below bytes are 2,
+      byte_below bytes are 3,
+    )
+number32_below Order.Big bytes are =
+    omega (
+      arith,
+      byte_below bytes are 0,
+      byte_below bytes are 1,
+      byte_below bytes are 2,
+      byte_below bytes are 3,
+    )
+
+-- ---- words
+
+-- a word is below 2 ^ 32
+pub word_below : (order : Order) (bytes : List ℕ) → AreBytes bytes → (k : ℕ) → word_at order bytes k < 2 ^ 32
+word_below order bytes are k =
+    number32_below order (take 4 (drop (4 * k) bytes))
+    (All-take (λ b. b < 256) 4 (drop (4 * k) bytes) (All-drop (λ b. b < 256) (4 * k) bytes are))
+
+-- the words from a place on are those bytes
+words_from : (order : Order) (bytes : List ℕ) → AreBytes bytes → (place count : ℕ)
+    → 4 * (place + count) ≤ length bytes
+    → words_text order (map (word_at order bytes) (range_with_len place count))
+    ≡ take (4 * count) (drop (4 * place) bytes)
+words_from order bytes are place zero h = refl
+words_from order bytes are place (suc count) h =
+    let here : List ℕ = drop (4 * place) bytes in
+    let first : List ℕ = take 4 here in
+    let enough : 4 ≤ length here = omega (arith, length-drop (4 * place) bytes) in
+    let next : 4 * (place + 1) ≡ 4 * place + 4 = omega arith in
+    let more : 4 * suc count ≡ 4 + 4 * count = omega arith in
+    ap₂ (λ (a b : List ℕ). a ++ b)
+    (field32_is order first
+    (All-take (λ b. b < 256) 4 here (All-drop (λ b. b < 256) (4 * place) bytes are))
+    (length-take-le 4 here enough))
+    (words_from order bytes are (place + 1) count (omega arith)
+    ∙ ap (λ n. take (4 * count) (drop n bytes)) next
+    ∙ ap (take (4 * count)) (sym (drop-drop 4 (4 * place) bytes)))
+    ∙ sym (ap (λ n. take n here) more ∙ take-add 4 (4 * count) here)
+
+-- so many words are the bytes at the front
+pub words_are : (order : Order) (count : ℕ) (bytes : List ℕ) → AreBytes bytes → 4 * count ≤ length bytes
+    → words_text order (words_in order count bytes) ≡ take (4 * count) bytes
+words_are order count bytes are h = words_from order bytes are 0 count (omega arith)
+
+-- words at the front of bytes don't ask for the bytes behind them
+pub word_in_front : (order : Order) (count : ℕ) (bytes : List ℕ) (k : ℕ) → k < count
+    → word_at order (take (4 * count) bytes) k ≡ word_at order bytes k
+word_in_front order count bytes k h =
+    let split : 4 * count ≡ 4 * k + 4 * (count - k) = omega arith in
+    ap (λ n. number order w32 (take 4 (drop (4 * k) (take n bytes)))) split
+    ∙ ap (λ t. number order w32 (take 4 t)) (drop-take (4 * k) (4 * (count - k)) bytes)
+    ∙ ap (number order w32) (take-take 4 (4 * (count - k)) (drop (4 * k) bytes) (omega arith))
+
+-- ---- ranges
+
+-- the ends of the ranges from a place on are those bytes
+pairs_from : (order : Order) (ends ids : List ℕ) (place count : ℕ) → 2 * (place + count) ≤ length ends
+    → pairs_text (map (range_in order ends ids) (range_with_len place count))
+    ≡ take (2 * count) (drop (2 * place) ends)
+pairs_from order ends ids place zero h = refl
+pairs_from order ends ids place (suc count) h =
+    let here : List ℕ = drop (2 * place) ends in
+    let next : 2 * (place + 1) ≡ suc (2 * place + 1) = omega arith in
+    let more : 2 * suc count ≡ suc (suc (2 * count)) = omega arith in
+    let one : suc (2 * place) ≡ 2 * place + 1 = omega arith in
+    let first : here ≡ slice_index ends (2 * place) ∷ drop (suc (2 * place)) ends =
+    drop-cons ends (2 * place) 0 (omega arith) in
+    let second : drop (2 * place + 1) ends ≡ slice_index ends (2 * place + 1) ∷ drop (suc (2 * place + 1)) ends =
+    drop-cons ends (2 * place + 1) 0 (omega arith) in
+    ap (λ t. slice_index ends (2 * place) ∷ (slice_index ends (2 * place + 1) ∷ t))
+    (pairs_from order ends ids (place + 1) count (omega arith)
+    ∙ ap (λ n. take (2 * count) (drop n ends)) next)
+    ∙ sym (
+    ap₂ take more first
+    ∙ ap (λ n. slice_index ends (2 * place) ∷ take (suc (2 * count)) (drop n ends)) one
+    ∙ ap (λ t. slice_index ends (2 * place) ∷ take (suc (2 * count)) t) second
+    )
+
+-- so many ranges, the last of which stands for the end mark
+module _ (order : Order) (count : ℕ) (ends ids : List ℕ) (some : 1 ≤ count) where
+  -- the ends of all ranges, and the zeros of the end mark
+  pub ends_are : length ends ≡ 2 * count → slice_index ends (2 * count - 2) ≡ 0 → slice_index ends (2 * count - 1) ≡ 0
+      → ends_text (map (range_in order ends ids) (range_with_len 0 (count - 1))) ≡ ends
+  ends_are len first last =
+      let front : ℕ = 2 * (count - 1) in
+      let a : 2 * count - 2 ≡ front = omega arith in
+      let b : 2 * count - 1 ≡ suc front = omega arith in
+      let past : length ends ≤ suc (suc front) = omega arith in
+      let d0 : drop front ends ≡ slice_index ends front ∷ drop (suc front) ends =
+      drop-cons ends front 0 (omega arith) in
+      let d1 : drop (suc front) ends ≡ slice_index ends (suc front) ∷ drop (suc (suc front)) ends =
+      drop-cons ends (suc front) 0 (omega arith) in
+      let z0 : slice_index ends front ≡ 0 = ap (slice_index ends) (sym a) ∙ first in
+      let z1 : slice_index ends (suc front) ≡ 0 = ap (slice_index ends) (sym b) ∙ last in
+      let d2 : drop (suc (suc front)) ends ≡ [] = drop_all (suc (suc front)) ends past in
+      let marks : drop front ends ≡ 0 ∷ (0 ∷ []) =
+      d0 ∙ ap₂ (λ x t. x ∷ t) z0 (d1 ∙ ap₂ (λ x t. x ∷ t) z1 d2) in
+      ap₂ (λ (s t : List ℕ). s ++ t) (pairs_from order ends ids 0 (count - 1) (omega arith)) (sym marks)
+      ∙ take-append-drop front ends
+
+  -- where the ranges from a place on lead
+  nexts_from : (place n : ℕ) → map (λ range. range.next) (map (range_in order ends ids) (range_with_len place n))
+      ≡ map (word_at order ids) (range_with_len place n)
+  nexts_from place zero = refl
+  nexts_from place (suc n) = ap (λ t. word_at order ids place ∷ t) (nexts_from (place + 1) n)
+
+  -- where all ranges and the end mark lead
+  pub nexts_are : map (λ range. range.next) (map (range_in order ends ids) (range_with_len 0 (count - 1)))
+      ++ word_at order ids (count - 1) ∷ []
+      ≡ words_in order count ids
+  nexts_are =
+      let all : count - 1 + 1 ≡ count = omega arith in
+      ap (λ t. t ++ word_at order ids (count - 1) ∷ []) (nexts_from 0 (count - 1))
+      ∙ sym (map-range_with_len_more (word_at order ids) 0 (count - 1) (count - 1) (omega arith))
+      ∙ ap (λ n. words_in order n ids) all

@@ -1,0 +1,63 @@
+-- What is true of a layout that was read, and that its rows are read again in either order.
+use Rattle.std.proofs.Common.{◌≡◌, ℕ, Ok, List, length, subst, sym, ap, ◌∙◌, arith}
+use Rattle.rx_wire.specs.declared.order.Order.{Order}
+use Rattle.rx_sparse.specs.Layouts.{Layout}
+use Rattle.rx_sparse.specs.Rows.{Row, rows_in, rows_text}
+use Rattle.rx_sparse.proofs.RowPlaces.{length-rows_in}
+use Rattle.rx_sparse_image.specs.declared.read.Image.{Image}
+use Rattle.rx_sparse_image.specs.declared.walk.Bounds.{Bounds}
+use Rattle.rx_sparse_image.specs.Images.{bounds_of}
+use Rattle.rx_sparse_image.specs.Reading.{IsReadImage, image_layout, seen_image}
+use Rattle.rx_sparse_image.specs.Tested.{AreTestedRows, IsRead, IsTestedRow, bounds_in}
+use Rattle.rx_sparse_image.specs.Walks.{rows_at}
+use Rattle.rx_sparse_image.proofs.RowsAgain.{rows_again_read}
+
+-- no test asks for the order
+pub tested_in : (order : Order) {b : Bounds} {at : ℕ} {row : Row} → IsTestedRow b at row
+    → IsTestedRow (record b { order = order }) at row
+tested_in order is = record {
+  special = is.special;
+  few = is.few;
+  ordered = is.ordered;
+  within = is.within;
+  rising = is.rising;
+  near = is.near;
+  next_ids = is.next_ids;
+  matches = is.matches;
+  few_patterns = is.few_patterns;
+  patterns = is.patterns;
+  known = is.known;
+  needles = is.needles;
+  eoi = is.eoi;
+  next = is.next;
+}
+
+pub are_tested_in : (order : Order) {b : Bounds} {rows : List Row} → AreTestedRows b rows
+    → AreTestedRows (record b { order = order }) rows
+are_tested_in order are = record { each = λ i h. tested_in order (are.each i h); len = are.len }
+
+-- a layout that was read
+pub is_read : (i : Image) → IsReadImage i
+    → AreTestedRows (bounds_of (seen_image i)) (rows_in i.parts.order i.parts.state_len i.rows.now)
+    → IsRead (image_layout i)
+is_read i is are =
+    let rows : List Row = rows_in i.parts.order i.parts.state_len i.rows.now in
+    let bytes = is.bytes in
+    let count : length rows ≡ i.parts.state_len = length-rows_in i.parts.order i.parts.state_len i.rows.now in
+    let len = are.len in
+    let b : Bounds = record (bounds_of (seen_image i)) { order = Order.Little } in
+    record {
+      few_rows = omega (arith, bytes.few_rows);
+      few_patterns = bytes.few_patterns;
+      classes = bytes.classes;
+      rows = subst (λ n. AreTestedRows (record b { len = n }) rows) (sym len) (are_tested_in Order.Little are);
+      table = is.table;
+      special = is.special;
+      within = (let most = is.within in omega arith);
+      quit = is.quit;
+    }
+
+-- its rows are read again
+pub read_rows : (order : Order) (l : Layout) → IsRead l
+    → rows_at (record (bounds_in l) { order = order }) (rows_text order l.rows) ≡ Ok l.rows
+read_rows order l is = rows_again_read (record (bounds_in l) { order = order }) l.rows (are_tested_in order is.rows)

@@ -1,0 +1,378 @@
+-- Rows that can pass the tests are read again from their bytes.
+use Rattle.std.proofs.Common.{◌≡◌, ℕ, zero, suc, ◌+◌, ◌-◌, ◌*◌, ◌%◌, ◌^◌, ◌<◌, ◌≤◌, Bool, true, false, not, ◌&&◌, ◌||◌}
+use Rattle.std.proofs.Common.{◌==◌, if◌then◌else◌, cond, leb, ltb, eqb, List, [], ◌∷◌, ◌++◌, length, get_or}
+use Rattle.std.proofs.Common.{slice_index, Ok, Err, refl, ap, ap₂, sym, ◌∙◌, append_assoc, arith}
+use Rattle.std.specs.List.{list_all, range_with_len}
+use Rattle.std.specs.Int.{w16, w32}
+use Rattle.std.proofs.lemmas.Bool.{and_from, eq-eqb, le-leb, lt-ltb, ne_eqb, or_right}
+use Rattle.std.proofs.lemmas.Bool.Decides.{nat_tests}
+use Rattle.std.proofs.lemmas.List.{append-nil, get_or-append-add, length-append}
+use Rattle.std.proofs.lemmas.List.FromFn.{get_or-map-range_with_len}
+use Rattle.rx_spec.specs.Causes.{max_id}
+use Rattle.rx_spec.specs.Ids.{id_of}
+use Rattle.rx_wire.specs.declared.order.Order.{Order}
+use Rattle.rx_wire.specs.Fields.{bytes_at, field}
+use Rattle.rx_wire.specs.Kinds.{Kind, ◌>>=◌}
+use Rattle.rx_wire.proofs.Fields.{bytes_again, u16_again, u32_again}
+use Rattle.rx_dense.specs.Specials.{is_accel_id, is_match_id}
+use Rattle.rx_dense_image.proofs.EachBelow.{all_of}
+use Rattle.rx_sparse.specs.Rows.{Row, ends_in, ends_text, head_number, is_some_list, next_ids, no_range, no_row}
+use Rattle.rx_sparse.specs.Rows.{next_ids_in, offsets_from, patterns_text, range_in, row_in, row_len, row_text}
+use Rattle.rx_sparse.specs.Rows.{rows_len, rows_text, word_at, words_text}
+use Rattle.rx_sparse.proofs.DecodedRows.{range_is}
+use Rattle.rx_sparse.proofs.RowTexts.{ends_is, eoi_there, length-ends, length-next_ids, length-row, length-rows}
+use Rattle.rx_sparse.proofs.RowTexts.{length-words, pairs_text, row_again, words_again}
+use Rattle.rx_sparse_image.specs.declared.walk.Bounds.{Bounds}
+use Rattle.rx_sparse_image.specs.Tested.{AreTestedRows, IsTestedRow}
+use Rattle.rx_sparse_image.specs.Walks.{after_patterns_if, are_ends, ends_at, has_count, head_at, is_head}
+use Rattle.rx_sparse_image.specs.Walks.{is_match_head, is_range_at, may_have, needles_at, next_ids_at, range_count}
+use Rattle.rx_sparse_image.specs.Walks.{row_at, rows_at, rows_from, tested, tested_count, tested_next}
+use Rattle.rx_sparse_image.proofs.PassedRows.{none_left, row_first}
+use Rattle.rx_sparse_image.proofs.Sizes.{rows_few}
+use Rattle.rx_sparse_image.proofs.Passes.{next_ids_pass, patterns_pass}
+use Rattle.rx_sparse_image.proofs.TestedRows.{fits_tested}
+
+-- ---- tests that are passed
+
+-- a number that passes a test
+pass : (holds : Bool) (kind : Kind) (n : ℕ) → holds ≡ true → tested holds kind n ≡ Ok n
+pass true kind n h = refl
+pass false kind n h = absurd cc
+
+-- a number that passes two tests
+both_pass : (s t : Bool) (first second : Kind) (n : ℕ) → s ≡ true → t ≡ true
+    → (if not s then Err first else (if t then Ok n else Err second)) ≡ Ok n
+both_pass s t first second n hs ht = rw (hs, ht) refl
+
+-- a count that is not 0 passes
+count_pass : (n : ℕ) → 1 ≤ n → tested_count n ≡ Ok n
+count_pass n h = rw (ne_eqb n 0 (λ e. (omega arith))) refl
+
+-- the lowest 15 bits of a head
+counted : (n : ℕ) (some : Bool) → n ≤ 257 → (n + cond some 32768 0) % 32768 ≡ n
+counted n true h = omega arith
+counted n false h = omega arith
+
+-- its highest bit
+told : (n : ℕ) (some : Bool) → n ≤ 257 → leb 32768 (n + cond some 32768 0) ≡ some
+told n true h = grind (arith, nat_tests)
+told n false h = grind (arith, nat_tests)
+
+-- it fits two bytes
+fits_16 : (n : ℕ) (some : Bool) → n ≤ 257 → n + cond some 32768 0 < 2 ^ 16
+fits_16 n true h = omega arith
+fits_16 n false h = omega arith
+
+-- a mark that is right passes
+same_pass : (is_match mark : Bool) → is_match ≡ mark → cond is_match mark (not mark) ≡ true
+same_pass true true e = refl
+same_pass true false e = sym e
+same_pass false true e = e
+same_pass false false e = refl
+
+-- parts of a row, and what follows it
+regroup : (h e i p n rest : List ℕ) → (h ++ (e ++ (i ++ (p ++ n)))) ++ rest ≡ h ++ (e ++ (i ++ (p ++ (n ++ rest))))
+regroup h e i p n rest = simp append_assoc refl
+
+-- ---- words
+
+-- a word by its place
+word_there : (order : Order) (words : List ℕ) (k : ℕ) → ((i : ℕ) → i < length words → slice_index words i < 2 ^ 32)
+    → k < length words → word_at order (words_text order words) k ≡ slice_index words k
+word_there order words k small h =
+    let none : 0 + k ≡ k = omega arith in
+    let text : List ℕ = words_text order words ++ [] in
+    ap (λ t. word_at order t k) (sym (append-nil (words_text order words)))
+    ∙ sym (get_or-map-range_with_len (word_at order text) 0 (length words) k k 0 h none)
+    ∙ ap (λ t. slice_index t k) (words_again order words [] small)
+
+-- so many bytes at the front
+front_there : (front rest : List ℕ) (count : ℕ) → length front ≡ count
+    → bytes_at count (front ++ rest) ≡ Ok (front, rest)
+front_there front rest count e = ap (λ n. bytes_at n (front ++ rest)) (sym e) ∙ bytes_again front rest
+
+-- two zeros at the end
+last_two : (xs : List ℕ) (n : ℕ) → length (xs ++ 0 ∷ 0 ∷ []) ≡ 2 * n
+    → (slice_index (xs ++ 0 ∷ 0 ∷ []) (2 * n - 2) ≡ 0) × (slice_index (xs ++ 0 ∷ 0 ∷ []) (2 * n - 1) ≡ 0)
+last_two xs n e =
+    let zeros : List ℕ = 0 ∷ 0 ∷ [] in
+    let len = length-append xs zeros in
+    let first : 2 * n - 2 ≡ length xs + 0 = omega arith in
+    let last : 2 * n - 1 ≡ length xs + 1 = omega arith in (
+      ap (slice_index (xs ++ zeros)) first ∙ get_or-append-add xs zeros 0 0,
+      ap (slice_index (xs ++ zeros)) last ∙ get_or-append-add xs zeros 1 0,
+    )
+
+-- the steps of a row, one after another
+record AreSteps (b : Bounds) (at : ℕ) (bytes : List ℕ) : Type 0 where
+  pub head : ℕ × List ℕ
+  pub ends : List ℕ × List ℕ
+  pub ids : List ℕ × List ℕ
+  pub rest : List ℕ
+  pub needles : List ℕ × List ℕ
+  pub head_read : head_at b at bytes ≡ Ok head
+  pub ends_read : ends_at b (range_count head.0) head.1 ≡ Ok ends
+  pub ids_read : next_ids_at b (range_count head.0) ends.1 ≡ Ok ids
+  pub rest_read : after_patterns_if b (is_match_head head.0) ids.1 ≡ Ok rest
+  pub needles_read : needles_at (is_accel_id b.special at) rest ≡ Ok needles
+  -- the end mark and the next row pass
+  pub next_passes : tested_next b (word_at b.order ids.0 (range_count head.0 - 1)) (b.len - length needles.1)
+      ≡ Ok (b.len - length needles.1)
+
+steps_pass : {b : Bounds} {at : ℕ} {bytes : List ℕ} (s : AreSteps b at bytes)
+    → row_at b at bytes ≡ Ok (row_in b.order bytes, s.needles.1)
+unfolding row_at
+steps_pass s =
+    rw (s.head_read, s.ends_read, s.ids_read, s.rest_read, s.needles_read, s.next_passes) refl
+
+-- ---- a row
+
+module _ (b : Bounds) (at : ℕ) (row : Row) (is : IsTestedRow b at row) where
+  abbrev order : Order
+  order = b.order
+
+  abbrev count : ℕ
+  count = length row.ranges + 1
+
+  abbrev n : ℕ
+  n = head_number row
+
+  -- no more ranges than a row may have, with that of the end mark
+  few : count ≤ 257
+  few = let most = is.few in omega arith
+
+  -- the head tells how many
+  count_is : range_count n ≡ count
+  count_is = counted count (is_some_list row.patterns) few
+
+  -- and whether there are patterns
+  mark_is : is_match_head n ≡ is_some_list row.patterns
+  mark_is = told count (is_some_list row.patterns) few
+
+  -- it may stand there
+  head_may : is_head b at n ≡ true
+  head_may =
+      and_from (leb 1 (range_count n) && leb (range_count n) 257)
+      (cond (is_match_id b.special at) (is_match_head n) (not (is_match_head n)))
+      (and_from (leb 1 (range_count n)) (leb (range_count n) 257)
+      (le-leb 1 (range_count n) (omega (arith, count_is)))
+      (le-leb (range_count n) 257 (omega (arith, count_is, few))))
+      (same_pass (is_match_id b.special at) (is_match_head n) (is.matches ∙ sym mark_is))
+
+  -- the head is read again
+  head_again : (rest : List ℕ) → head_at b at (field order w16 n ++ rest) ≡ Ok (n, rest)
+  unfolding head_at
+  head_again rest =
+      let small : n < 2 ^ 16 = fits_16 count (is_some_list row.patterns) few in
+      rw (is.special, u16_again order n small rest, head_may) refl
+
+  -- ---- ends
+
+  abbrev ends : List ℕ
+  ends = ends_text row.ranges
+
+  abbrev ids : List ℕ
+  ids = words_text order (next_ids row)
+
+  abbrev alone : List ℕ
+  alone = row_text order row ++ []
+
+  ends_alone : ends_in order alone ≡ ends
+  ends_alone = ends_is order row [] (fits_tested is)
+
+  length-ends_are : length ends ≡ 2 * count
+  length-ends_are = length-ends row.ranges
+
+  -- the ends of a range by its place
+  range_there : (i : ℕ) → i < length row.ranges
+      → (slice_index ends (2 * i) ≡ (get_or row.ranges i no_range).first)
+      × (slice_index ends (2 * i + 1) ≡ (get_or row.ranges i no_range).last)
+  range_there i h =
+      let again : row_in order alone ≡ row = row_again order row [] (fits_tested is) in
+      let same : range_in order (ends_in order alone) (next_ids_in order alone) i ≡ get_or row.ranges i no_range =
+      range_is order (ends_in order alone) (next_ids_in order alone) i h (ap (λ r. r.ranges) again) in (
+        ap (λ e. slice_index e (2 * i)) (sym ends_alone) ∙ ap (λ r. r.first) same,
+        ap (λ e. slice_index e (2 * i + 1)) (sym ends_alone) ∙ ap (λ r. r.last) same,
+      )
+
+  -- it passes its test
+  range_may : (i : ℕ) → i < count - 1 → is_range_at b.last_class ends i ≡ true
+  range_may i h =
+      let low : i < length row.ranges = omega arith in
+      let here = range_there i low in
+      let first : ℕ = slice_index ends (2 * i) in
+      let last : ℕ = slice_index ends (2 * i + 1) in
+      let begins : Bool = (i == 0) || ltb (slice_index ends (2 * i - 1)) first in
+      and_from (leb first last && leb last b.last_class) begins
+      (and_from (leb first last) (leb last b.last_class)
+      (le-leb first last (omega (arith, here.0, here.1, is.ordered i low)))
+      (le-leb last b.last_class (omega (arith, here.1, is.within i low))))
+      (behind i low)
+    where
+      behind : (i : ℕ) → i < length row.ranges
+          → ((i == 0) || ltb (slice_index ends (2 * i - 1)) (slice_index ends (2 * i))) ≡ true
+      behind zero h = refl
+      behind (suc i) h =
+          let place : 2 * suc i - 1 ≡ 2 * i + 1 = omega arith in
+          let more : i + 1 ≡ suc i = omega arith in
+          or_right (suc i == 0) (ltb (slice_index ends (2 * suc i - 1)) (slice_index ends (2 * suc i)))
+          (lt-ltb (slice_index ends (2 * suc i - 1)) (slice_index ends (2 * suc i))
+          (omega (
+            arith,
+            ap (slice_index ends) place,
+            (range_there i (omega arith)).1,
+            (range_there (suc i) h).0,
+            ap (λ k. (get_or row.ranges k no_range).first) more,
+            is.rising i (omega arith),
+          )))
+
+  -- the end mark is zeros
+  marks_zero : (slice_index ends (2 * count - 2) ≡ 0) × (slice_index ends (2 * count - 1) ≡ 0)
+  marks_zero = last_two (pairs_text row.ranges) count length-ends_are
+
+  -- the ends are read again
+  ends_again : (rest : List ℕ) → ends_at b count (ends ++ rest) ≡ Ok (ends, rest)
+  unfolding ends_at
+  ends_again rest =
+      let each : Bool = list_all (is_range_at b.last_class ends) (range_with_len 0 (count - 1)) in
+      let may : are_ends b.last_class count ends ≡ true =
+      and_from (each && eqb (slice_index ends (2 * count - 2)) 0) (eqb (slice_index ends (2 * count - 1)) 0)
+      (and_from each (eqb (slice_index ends (2 * count - 2)) 0)
+      (all_of (count - 1) (is_range_at b.last_class ends) range_may)
+      (eq-eqb (slice_index ends (2 * count - 2)) 0 marks_zero.0))
+      (eq-eqb (slice_index ends (2 * count - 1)) 0 marks_zero.1) in
+      rw (front_there ends rest (2 * count) length-ends_are, may) refl
+
+  -- ---- next ids
+
+  id_small : (i : ℕ) → i < length (next_ids row) → slice_index (next_ids row) i < 2 ^ 32
+  id_small i h = omega (arith, is.next_ids i h)
+
+  -- a next id by its place
+  id_there : (k : ℕ) → k < count → word_at order ids k ≡ slice_index (next_ids row) k
+  id_there k h = word_there order (next_ids row) k id_small (omega (arith, length-next_ids row))
+
+  -- the next ids are read again
+  ids_again : (rest : List ℕ) → next_ids_at b count (ids ++ rest) ≡ Ok (ids, rest)
+  ids_again rest =
+      next_ids_pass b count (ids ++ rest) ids rest
+      (front_there ids rest (4 * count) (omega (arith, length-words order (next_ids row), length-next_ids row)))
+      (λ k h.
+      let low : k < length (next_ids row) = omega (arith, length-next_ids row) in
+      let id : ℕ = word_at order ids k in
+      both_pass (leb id max_id) (leb id b.len) (Kind.StateID id) Kind.BufferTooSmall id
+      (le-leb id max_id (omega (arith, id_there k h, is.next_ids k low)))
+      (le-leb id b.len (omega (arith, id_there k h, is.near k low))))
+
+  eoi_is : word_at order ids (count - 1) ≡ row.eoi
+  eoi_is =
+      let last : count - 1 ≡ length row.ranges = omega arith in
+      ap (word_at order ids) last ∙ id_there (length row.ranges) (omega arith) ∙ eoi_there row.ranges row.eoi
+
+  -- ---- patterns
+
+  -- the patterns are read again
+  patterns_again : (rest : List ℕ)
+      → after_patterns_if b (is_some_list row.patterns) (patterns_text order row.patterns ++ rest) ≡ Ok rest
+  patterns_again rest = by_list row.patterns is.few_patterns is.patterns is.known
+    where
+      by_list : (ks : List ℕ) → length ks < 2 ^ 32 → ((i : ℕ) → i < length ks → slice_index ks i ≤ max_id)
+          → ((i : ℕ) → i < length ks → slice_index ks i < b.pattern_len)
+          → after_patterns_if b (is_some_list ks) (patterns_text order ks ++ rest) ≡ Ok rest
+      by_list [] short small known = refl
+      by_list (k ∷ ks) short small known =
+          let all : List ℕ = k ∷ ks in
+          let words : List ℕ = words_text order all in
+          ap (after_patterns_if b true) (append_assoc (field order w32 (length all)) words rest)
+          ∙ patterns_pass b (length all) (field order w32 (length all) ++ (words ++ rest)) (words ++ rest) words rest
+          (count_pass (length all) (omega arith))
+          (u32_again order (length all) short (words ++ rest))
+          (front_there words rest (4 * length all) (length-words order all))
+          (λ i h.
+          let id : ℕ = word_at order words i in
+          let here : id ≡ slice_index all i = word_there order all i (λ j l. omega (arith, small j l)) h in
+          both_pass (leb id max_id) (ltb id b.pattern_len) (Kind.PatternID id) Kind.Generic id
+          (le-leb id max_id (omega (arith, here, small i h)))
+          (lt-ltb id b.pattern_len (omega (arith, here, known i h))))
+
+  -- ---- needles
+
+  -- the needles are read again
+  needles_again : (rest : List ℕ)
+      → needles_at (is_accel_id b.special at) ((length row.needles ∷ row.needles) ++ rest) ≡ Ok (row.needles, rest)
+  unfolding needles_at
+  needles_again rest =
+      let there : has_count (is_accel_id b.special at) ((length row.needles ∷ row.needles) ++ rest) ≡ true =
+      and_from (ltb 0 (suc (length (row.needles ++ rest)))) (may_have (is_accel_id b.special at) (length row.needles))
+      (lt-ltb 0 (suc (length (row.needles ++ rest))) (omega arith)) is.needles in
+      rw (there, bytes_again row.needles rest) refl
+
+  -- ---- the row
+
+  next_passes : (next : ℕ) → next ≤ max_id → tested_next b (word_at order ids (count - 1)) next ≡ Ok next
+  next_passes next h =
+      let eoi : ℕ = word_at order ids (count - 1) in
+      rw (ne_eqb eoi b.special.quit (λ e. is.eoi (sym eoi_is ∙ e)), le-leb next max_id h) refl
+
+  -- the row is read again, whatever follows
+  row_read : (rest : List ℕ) → at + row_len row + length rest ≡ b.len
+      → row_at b at (row_text order row ++ rest) ≡ Ok (row, rest)
+  row_read rest place =
+      let needles : List ℕ = length row.needles ∷ row.needles in
+      let t4 : List ℕ = needles ++ rest in
+      let t3 : List ℕ = patterns_text order row.patterns ++ t4 in
+      let t2 : List ℕ = ids ++ t3 in
+      let t1 : List ℕ = ends ++ t2 in
+      let bytes : List ℕ = row_text order row ++ rest in
+      let parts : bytes ≡ field order w16 n ++ t1 =
+      regroup (field order w16 n) ends ids (patterns_text order row.patterns) needles rest in
+      let next : ℕ = b.len - length rest in
+      let low = is.next in
+      let steps : AreSteps b at bytes = record {
+        head = (n, t1);
+        ends = (ends, t2);
+        ids = (ids, t3);
+        rest = t4;
+        needles = (row.needles, rest);
+        head_read = ap (head_at b at) parts ∙ head_again t1;
+        ends_read = ap (λ c. ends_at b c t1) count_is ∙ ends_again t2;
+        ids_read = ap (λ c. next_ids_at b c t2) count_is ∙ ids_again t3;
+        rest_read = ap (λ m. after_patterns_if b m t3) mark_is ∙ patterns_again t4;
+        needles_read = needles_again rest;
+        next_passes =
+            ap (λ c. tested_next b (word_at order ids (c - 1)) next) count_is ∙ next_passes next (omega arith);
+      } in
+      steps_pass steps
+      ∙ ap (λ r. Ok (r, rest)) (row_again order row rest (fits_tested is))
+
+-- ---- all rows
+
+-- rows from one on are read again
+rows_read : (b : Bounds) (at : ℕ) (rows : List Row) (most : ℕ) → length rows ≤ most → at + rows_len rows ≡ b.len
+    → ((i : ℕ) → i < length rows → IsTestedRow b (id_of (offsets_from at rows) i) (get_or rows i no_row))
+    → rows_from b most (rows_text b.order rows) ≡ Ok rows
+unfolding offsets_from rows_len
+rows_read b at [] most h place each = none_left b most
+rows_read b at (row ∷ rows) zero h place each = absurd (omega arith)
+rows_read b at (row ∷ rows) (suc most) h place each =
+    let rest : List ℕ = rows_text b.order rows in
+    let text : List ℕ = row_text b.order row ++ rest in
+    let size : length text ≡ row_len row + rows_len rows =
+    length-append (row_text b.order row) rest
+    ∙ ap₂ (λ m n. m + n) (length-row b.order row) (length-rows b.order rows) in
+    let here : b.len - length text ≡ at = omega arith in
+    let first : row_at b at text ≡ Ok (row, rest) =
+    row_read b at row (each 0 (omega arith)) rest (omega (arith, length-rows b.order rows)) in
+    let behind : rows_from b most rest ≡ Ok rows =
+    rows_read b (at + row_len row) rows most (omega arith) (omega arith) (λ i l. each (suc i) (omega arith)) in
+    row_first b most text (omega (arith, size))
+    ∙ ap (λ n. row_at b n text >>= (λ x. rows_from b most x.1 >>= (λ more. Ok (x.0 ∷ more)))) here
+    ∙ ap (λ r. r >>= (λ x. rows_from b most x.1 >>= (λ more. Ok (x.0 ∷ more)))) first
+    ∙ ap (λ r. r >>= (λ more. Ok (row ∷ more))) behind
+
+-- rows that can pass the tests are read again
+pub rows_again_read : (b : Bounds) (rows : List Row) → AreTestedRows b rows
+    → rows_at b (rows_text b.order rows) ≡ Ok rows
+rows_again_read b rows are =
+    rows_read b 0 rows (length (rows_text b.order rows)) (omega (arith, length-rows b.order rows, rows_few rows))
+    (omega (arith, are.len)) are.each

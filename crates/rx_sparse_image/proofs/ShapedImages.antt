@@ -1,0 +1,88 @@
+-- A layout that is read and closed has the shape of every sparse table.
+use Rattle.std.proofs.Common.{◌≡◌, ℕ, ◌+◌, ◌-◌, ◌*◌, ◌<◌, ◌≤◌, ◌==◌, not, nat_le, Option, Some, None}
+use Rattle.std.proofs.Common.{length, take, slice_index, sym, ap, subst, ◌∙◌, arith}
+use Rattle.std.proofs.Math.Seq.{take-length}
+use Rattle.std.proofs.lemmas.Bool.{and_parts, leb-true}
+use Rattle.rx_spec.specs.Causes.{id_count, max_id}
+use Rattle.rx_spec.specs.Ids.{id_of}
+use Rattle.rx_search.specs.Starts.{IsId}
+use Rattle.rx_dense.specs.Layouts.{start_entries}
+use Rattle.rx_dense.specs.Specials.{is_match_id}
+use Rattle.rx_dense_image.specs.StartTables.{IsAtMost}
+use Rattle.rx_sparse.specs.Rows.{rows_len}
+use Rattle.rx_sparse.specs.Layouts.{AreRanges, AreRows, AreStarts, IsRow, IsShaped, Layout, ids_of, row_at, row_count}
+use Rattle.rx_sparse.specs.Facts.{offset_at, rows_len-more}
+use Rattle.rx_sparse_image.specs.Closing.{is_row_id}
+use Rattle.rx_sparse_image.specs.Tested.{IsRead, IsTestedRow, IsWhole, bounds_in}
+use Rattle.rx_sparse_image.proofs.ClosedRows.{AreClosed, closed, eoi_leads, range_leads, valid_id}
+
+few_starts : (o : Option ℕ) → IsAtMost id_count o → start_entries o ≤ 12 + 6 * (max_id + 1)
+few_starts None most = omega arith
+few_starts (Some n) most = omega (arith, most)
+
+module _ (l : Layout) (read : IsRead l) (facts : AreClosed l) where
+  pub tested : (row : ℕ) → row < row_count l → IsTestedRow (bounds_in l) (id_of (ids_of l) row) (row_at l row)
+  tested row h = read.rows.each row h
+
+  -- all rows have as many bytes as the last row has behind its offset
+  pub few_bytes : rows_len l.rows ≤ max_id
+  few_bytes =
+      let row : ℕ = row_count l - 1 in
+      let two = facts.two in
+      let h : row < row_count l = omega (arith, two) in
+      let last : row + 1 ≡ row_count l = omega (arith, two) in
+      let all : take (row + 1) l.rows ≡ l.rows = ap (λ (n : ℕ). take n l.rows) last ∙ take-length l.rows in
+      omega (arith, (tested row h).next, offset_at 0 l.rows row h, rows_len-more l.rows row h, ap rows_len all)
+
+  pub few_needles : (row : ℕ) → row < row_count l → length (row_at l row).needles ≤ 3
+  few_needles row h = leb-true _ _ (and_parts (nat_le (length (row_at l row).needles) 3) _ (tested row h).needles).0
+
+  ranges_shaped : (row : ℕ) → row < row_count l → AreRanges l.classes (row_at l row).ranges
+  ranges_shaped row h =
+      let t = tested row h in
+      record { few = t.few; ordered = t.ordered; within = t.within; rising = t.rising }
+
+  row_shaped : (row : ℕ) → row < row_count l → IsRow l row
+  row_shaped row h =
+      let t = tested row h in
+      let nexts = (facts.rows row h).nexts in
+      record {
+        ranges = ranges_shaped row h;
+        nexts = range_leads (IsId (ids_of l)) (row_at l row) nexts;
+        eoi = eoi_leads (IsId (ids_of l)) (row_at l row) nexts;
+        matches = t.matches;
+        patterns = t.patterns;
+        needles = few_needles row h;
+      }
+
+  rows_shaped : AreRows l
+  rows_shaped = record { classes = read.classes; two = facts.two; few = few_bytes; rows = row_shaped }
+
+  start_row : (k : ℕ) → k < length l.starts → IsId (ids_of l) (slice_index l.starts k)
+  start_row k h =
+      let id : ℕ = slice_index l.starts k in
+      let outer = and_parts _ (not (id == l.special.quit)) (facts.starts k h) in
+      valid_id l id (and_parts (is_row_id l id) (not (is_match_id l.special id)) outer.0).0
+
+  starts_shaped : AreStarts l
+  starts_shaped = record {
+    contexts = read.table.contexts;
+    count = read.table.count;
+    small =
+        subst (λ (n : ℕ). n ≤ 12 + 6 * (max_id + 1)) (sym read.table.count)
+        (few_starts l.pattern_starts read.table.patterns);
+    start_ids = start_row;
+    universal_unanchored = facts.universal_unanchored;
+    universal_anchored = facts.universal_anchored;
+  }
+
+  pub shaped_of : IsShaped l
+  shaped_of = record {
+    rows = rows_shaped;
+    starts = starts_shaped;
+    few_patterns = (let few = read.few_patterns in omega arith);
+  }
+
+-- what can be read has the shape of a sparse table
+pub shaped : (l : Layout) → IsWhole l → IsShaped l
+shaped l whole = shaped_of l whole.read (closed (length l.rows) l whole.closed)

@@ -1,0 +1,249 @@
+-- A whole image is read again, in either order and whatever follows, and its length is told, where its rows are read
+-- again.
+use Rattle.std.proofs.Common.{◌≡◌, ℕ, ◌+◌, ◌-◌, ◌*◌, ◌/◌, ◌%◌, ◌^◌, ◌<◌, ◌≤◌, ◌&&◌, nat_le, true, List, [], ◌++◌}
+use Rattle.std.proofs.Common.{length, slice_index, Ok, refl, sym, ap, subst, ◌∙◌, append_assoc, arith, rules, inl, inr}
+use Rattle.std.specs.Int.{w32, w128}
+use Rattle.std.proofs.lemmas.Bool.{cases_lt, le-leb, lt-ltb}
+use Rattle.std.proofs.lemmas.List.{append-nil, get_or_past, length-append}
+use Rattle.rx_spec.specs.Causes.{id_count, max_id}
+use Rattle.rx_wire.specs.declared.order.Order.{Order}
+use Rattle.rx_wire.specs.Kinds.{Kind, Reads}
+use Rattle.rx_wire.specs.Fields.{bytes_at, field}
+use Rattle.rx_wire.specs.Heads.{IsLabel}
+use Rattle.rx_wire.proofs.Fields.{bytes_again, id_again, u128_again, u32_again}
+use Rattle.rx_dense.specs.declared.special.Special.{Special}
+use Rattle.rx_dense_image.specs.Heads.{head_at, head_text}
+use Rattle.rx_dense_image.specs.Rows.{AreWords, are_classes}
+use Rattle.rx_dense_image.specs.StartTables.{start_table_at, start_table_text}
+use Rattle.rx_dense_image.specs.Marks.{are_special, id_pair_at, quit_at, quit_text, special_at, special_ids_at}
+use Rattle.rx_dense_image.specs.Marks.{special_text}
+use Rattle.rx_dense_image.proofs.EachBelow.{and_of}
+use Rattle.rx_dense_image.proofs.ImageLengths.{length-special}
+use Rattle.rx_dense_image.proofs.MarksAgain.{AreSpecialIds}
+use Rattle.rx_dense_image.proofs.ReadAgain.{head_again}
+use Rattle.rx_dense_image.proofs.Strides.{classes_pass}
+use Rattle.rx_dense_image.proofs.TablesAgain.{start_table_again}
+use Rattle.rx_sparse.specs.Rows.{Row, rows_len, rows_text}
+use Rattle.rx_sparse.specs.Layouts.{IsShaped, Layout}
+use Rattle.rx_sparse.proofs.RowPlaces.{id_small}
+use Rattle.rx_sparse.proofs.RowTexts.{length-rows}
+use Rattle.rx_sparse_image.specs.declared.walk.Bounds.{Bounds}
+use Rattle.rx_sparse_image.specs.RowBytes.{RowBytes, row_bytes_at, settings_at}
+use Rattle.rx_sparse_image.specs.Walks.{rows_at}
+use Rattle.rx_sparse_image.specs.Closing.{is_closed}
+use Rattle.rx_sparse_image.specs.Images.{Parts, bounds_of, layout_of, parts_at, parts_of, reads, row_bytes_text}
+use Rattle.rx_sparse_image.specs.Images.{sparse_label, start_table_of, stored_of, text}
+use Rattle.rx_sparse_image.specs.Tested.{AreTestedRows, IsRead, IsTestedRow, IsWhole, bounds_in}
+use Rattle.rx_sparse_image.proofs.ClosedRows.{AreClosed, closed, quit_is}
+use Rattle.rx_sparse_image.proofs.ShapedImages.{shaped}
+use Rattle.rx_sparse_image.proofs.ReadLayouts.{are_tested_in}
+use Rattle.rx_sparse_image.proofs.RowsAgain.{rows_again_read}
+
+is_label : IsLabel sparse_label
+is_label = record { short = omega arith; text = search rules }
+
+-- ---- special ids and quit bytes
+
+id_pair_again : (order : Order) (first last : ℕ) → first ≤ max_id → last ≤ max_id → (rest : List ℕ)
+    → id_pair_at order (field order w32 first ++ (field order w32 last ++ rest)) ≡ Ok ((first, last), rest)
+unfolding id_pair_at
+id_pair_again order first last a b rest =
+    rw (
+      id_again Kind.StateID order first a (field order w32 last ++ rest),
+      id_again Kind.StateID order last b rest,
+    )
+    refl
+
+special_ids_again : (order : Order) (s : Special) → AreSpecialIds s
+    → Reads (special_ids_at order) (special_text order s) s
+unfolding special_ids_at
+special_ids_again order s h rest =
+    let t4 : List ℕ = field order w32 s.min_start ++ (field order w32 s.max_start ++ rest) in
+    let t3 : List ℕ = field order w32 s.min_accel ++ (field order w32 s.max_accel ++ t4) in
+    let t2 : List ℕ = field order w32 s.min_match ++ (field order w32 s.max_match ++ t3) in
+    let t1 : List ℕ = field order w32 s.max ++ (field order w32 s.quit ++ t2) in
+    let regrouped : special_text order s ++ rest ≡ t1 = simp append_assoc refl in
+    ap (special_ids_at order) regrouped
+    ∙ rw (
+      id_pair_again order s.max s.quit h.max h.quit t2,
+      id_pair_again order s.min_match s.max_match h.min_match h.max_match t3,
+      id_pair_again order s.min_accel s.max_accel h.min_accel h.max_accel t4,
+      id_pair_again order s.min_start s.max_start h.min_start h.max_start rest,
+    )
+    refl
+
+special_again : (order : Order) (len : ℕ) (s : Special) → are_special s ≡ true → s.max < len → AreSpecialIds s
+    → Reads (special_at order len) (special_text order s) s
+unfolding special_at
+special_again order len s special within ids rest =
+    let special_bytes : List ℕ = special_text order s in
+    let front : bytes_at 32 (special_bytes ++ rest) ≡ Ok (special_bytes, rest) =
+    subst (λ (n : ℕ). bytes_at n (special_bytes ++ rest) ≡ Ok (special_bytes, rest)) (length-special order s)
+    (bytes_again special_bytes rest) in
+    let read : special_ids_at order special_bytes ≡ Ok (s, []) =
+    ap (special_ids_at order) (sym (append-nil special_bytes)) ∙ special_ids_again order s ids [] in
+    rw (front, read, special, lt-ltb _ _ within) refl
+
+quit_again : (order : Order) (quit : ℕ) → quit < 2 ^ 256 → Reads (quit_at order) (quit_text order quit) quit
+unfolding quit_at
+quit_again order quit small rest =
+    let low : ℕ = quit % 2 ^ 128 in
+    let high : ℕ = quit / 2 ^ 128 in
+    let regrouped : quit_text order quit ++ rest ≡ field order w128 low ++ (field order w128 high ++ rest) =
+    append_assoc (field order w128 low) (field order w128 high) rest in
+    let whole : high * 2 ^ 128 + low ≡ quit = omega arith in
+    ap (quit_at order) regrouped
+    ∙ rw (
+      u128_again order low (omega arith) (field order w128 high ++ rest),
+      u128_again order high (omega (arith, small)) rest,
+      whole,
+    )
+    refl
+
+special_ids : (l : Layout) → IsShaped l → AreClosed l → AreSpecialIds l.special
+special_ids l shape facts =
+    let h = facts.special in
+    record {
+      max = id_small l shape l.special.max h.max;
+      quit = id_small l shape l.special.quit (quit_is l facts);
+      min_match = id_small l shape l.special.min_match h.min_match;
+      max_match = id_small l shape l.special.max_match h.max_match;
+      min_accel = id_small l shape l.special.min_accel h.min_accel;
+      max_accel = id_small l shape l.special.max_accel h.max_accel;
+      min_start = id_small l shape l.special.min_start h.min_start;
+      max_start = id_small l shape l.special.max_start h.max_start;
+    }
+
+-- ids of rows are words
+ids_words : (l : Layout) → IsShaped l → AreWords l.starts
+ids_words l shape i =
+    elim (cases_lt i (length l.starts)) [
+      | inl lt ↦ (omega (arith, id_small l shape (slice_index l.starts i) (shape.starts.start_ids i lt)))
+      | inr past ↦ (subst (λ (n : ℕ). n < 2 ^ 32) (sym (get_or_past l.starts i 0 past)) (omega arith))
+    ]
+
+-- ---- the bytes of the rows
+
+abbrev bytes_of : Order → Layout → RowBytes
+bytes_of order l = record {
+  state_len = length l.rows;
+  pattern_len = l.pattern_len;
+  classes = l.classes;
+  rows = rows_text order l.rows;
+}
+
+settings_again : (order : Order) (l : Layout) → IsRead l
+    → Reads (settings_at order) (field order w32 l.pattern_len ++ l.classes) (l.pattern_len, l.classes)
+unfolding settings_at
+settings_again order l read rest =
+    let patterns = read.few_patterns in
+    let few : nat_le l.pattern_len id_count ≡ true = le-leb _ _ patterns in
+    let pass : (nat_le l.pattern_len id_count && are_classes l.classes) ≡ true =
+    and_of _ _ few (classes_pass l.classes read.classes) in
+    let front : bytes_at 256 (l.classes ++ rest) ≡ Ok (l.classes, rest) =
+    subst (λ (n : ℕ). bytes_at n (l.classes ++ rest) ≡ Ok (l.classes, rest)) read.classes.count
+    (bytes_again l.classes rest) in
+    ap (settings_at order) (append_assoc (field order w32 l.pattern_len) l.classes rest)
+    ∙ rw (u32_again order l.pattern_len (omega (arith, patterns)) (l.classes ++ rest), front, pass) refl
+
+row_bytes_again : (order : Order) (l : Layout) → IsRead l → rows_len l.rows ≤ max_id
+    → Reads (row_bytes_at order) (row_bytes_text order l) (bytes_of order l)
+unfolding row_bytes_at
+row_bytes_again order l read few rest =
+    let rows : List ℕ = rows_text order l.rows in
+    let settings : List ℕ = field order w32 l.pattern_len ++ l.classes in
+    let t3 : List ℕ = rows ++ rest in
+    let t2 : List ℕ = field order w32 (rows_len l.rows) ++ t3 in
+    let regrouped : row_bytes_text order l ++ rest ≡ field order w32 (length l.rows) ++ (settings ++ t2) =
+    simp append_assoc refl in
+    let front : bytes_at (rows_len l.rows) t3 ≡ Ok (rows, rest) =
+    subst (λ (n : ℕ). bytes_at n t3 ≡ Ok (rows, rest)) (length-rows order l.rows) (bytes_again rows rest) in
+    ap (row_bytes_at order) regrouped
+    ∙ rw (
+      u32_again order (length l.rows) read.few_rows (settings ++ t2),
+      settings_again order l read t2,
+      u32_again order (rows_len l.rows) (omega (arith, few)) t3,
+      front,
+    )
+    refl
+
+-- ---- rows
+
+-- ---- the parts, one after another
+
+-- what each part reads, and what it leaves
+record AreRead (bytes rest : List ℕ) (p : Parts) : Type 0 where
+  pub after_head : List ℕ
+  pub after_rows : List ℕ
+  pub after_table : List ℕ
+  pub after_special : List ℕ
+  pub head_read : head_at sparse_label bytes ≡ Ok ((p.flags, p.order), after_head)
+  pub rows_read : row_bytes_at p.order after_head ≡ Ok (p.bytes, after_rows)
+  pub table_read : start_table_at p.order after_rows ≡ Ok (p.table, after_table)
+  pub special_read : special_at p.order (length p.bytes.rows) after_table ≡ Ok (p.special, after_special)
+  pub quit_read : quit_at p.order after_special ≡ Ok (p.quit, rest)
+
+parts_read : {bytes rest : List ℕ} {p : Parts} (h : AreRead bytes rest p) → parts_at bytes ≡ Ok (p, rest)
+unfolding parts_at
+parts_read h = rw (h.head_read, h.rows_read, h.table_read, h.special_read, h.quit_read) refl
+
+regrouped : (a b c d e rest : List ℕ)
+    → (a ++ (b ++ (c ++ (d ++ e)))) ++ rest ≡ a ++ (b ++ (c ++ (d ++ (e ++ rest))))
+regrouped a b c d e rest = simp append_assoc refl
+
+abbrev parts : Order → Layout → Parts
+parts order l = parts_of l.flags order (bytes_of order l) (start_table_of l) l.special l.quit
+
+parts_again : (order : Order) (l : Layout) → IsWhole l → Reads parts_at (text order l) (parts order l)
+unfolding text
+parts_again order l whole rest =
+    let read : IsRead l = whole.read in
+    let shape : IsShaped l = shaped l whole in
+    let ids : AreSpecialIds l.special = special_ids l shape (closed (length l.rows) l whole.closed) in
+    let within : l.special.max < length (rows_text order l.rows) =
+    (let low = read.within in omega (arith, low, length-rows order l.rows)) in
+    let t4 : List ℕ = quit_text order l.quit ++ rest in
+    let t3 : List ℕ = special_text order l.special ++ t4 in
+    let t2 : List ℕ = start_table_text order (start_table_of l) ++ t3 in
+    let t1 : List ℕ = row_bytes_text order l ++ t2 in
+    let all : text order l ++ rest ≡ head_text order sparse_label l.flags ++ t1 =
+    regrouped (head_text order sparse_label l.flags) (row_bytes_text order l)
+    (start_table_text order (start_table_of l)) (special_text order l.special) (quit_text order l.quit) rest in
+    let are : AreRead (text order l ++ rest) rest (parts order l) = record {
+      after_head = t1;
+      after_rows = t2;
+      after_table = t3;
+      after_special = t4;
+      head_read = ap (head_at sparse_label) all ∙ head_again sparse_label is_label order l.flags t1;
+      rows_read = row_bytes_again order l read shape.rows.few t2;
+      table_read = start_table_again order (start_table_of l) read.table (ids_words l shape) t3;
+      special_read = special_again order (length (rows_text order l.rows)) l.special read.special within ids t4;
+      quit_read = quit_again order l.quit read.quit rest;
+    } in
+    parts_read are
+
+-- ---- the whole
+
+left_of : (a b : ℕ) → a + b - b ≡ a
+left_of a b = omega arith
+
+-- an image is read where its parts and rows are, and they are closed
+pub read_by : (bytes rest : List ℕ) (p : Parts) (rows : List Row) → parts_at bytes ≡ Ok (p, rest)
+    → rows_at (bounds_of p) p.bytes.rows ≡ Ok rows → is_closed p.bytes.state_len (layout_of p rows) ≡ true
+    → reads bytes ≡ Ok (stored_of p rows, length bytes - length rest)
+unfolding reads
+read_by bytes rest p rows there rows_read test = rw (there, rows_read, test) refl
+
+pub whole_again : (order : Order) (l : Layout) → IsWhole l → (rest : List ℕ)
+    → reads (text order l ++ rest) ≡ Ok (record { layout = l; order = order }, length (text order l))
+whole_again order l whole rest =
+    let bounds : ℕ → Bounds = λ len. record (bounds_in l) { order = order; len = len } in
+    let tested : AreTestedRows (bounds (length (rows_text order l.rows))) l.rows =
+    subst (λ len. AreTestedRows (bounds len) l.rows) (sym (length-rows order l.rows))
+    (are_tested_in order whole.read.rows) in
+    let size : length (text order l ++ rest) - length rest ≡ length (text order l) =
+    ap (λ (n : ℕ). n - length rest) (length-append (text order l) rest)
+    ∙ left_of (length (text order l)) (length rest) in
+    read_by (text order l ++ rest) rest (parts order l) l.rows (parts_again order l whole rest)
+    (rows_again_read (bounds (length (rows_text order l.rows))) l.rows tested) whole.closed
+    ∙ ap (λ (n : ℕ). Ok (stored_of (parts order l) l.rows, n)) size

@@ -1,0 +1,11 @@
+use Rattle.std.proofs.Common.{◌≡◌, ◌+◌, ◌*◌, length, take}
+use Rattle.rx_dense_image.specs.Rows.{words_text}
+use Rattle.rx_dense_image.specs.Written.{IsPut}
+use Rattle.rx_sparse_image.proofs.put.put_starts.Given as goal
+
+abbrev pub invariant-loop-i : goal.invariant-loop-i
+invariant-loop-i g l = record {
+  len : length l.dst ≡ length l.fn.dst;
+  place : l.end ≡ l.at + 4 * l.i;
+  put : IsPut (words_text g.E.Endian.order (take l.i l.dfa.layout.starts)) l.fn.dst l.dst l.at l.end;
+}

@@ -1,0 +1,34 @@
+use Rattle.std.proofs.Common.{◌≡◌, ◌-◌, ◌*◌, ◌==◌, ◌&&◌, true, false, slice_index, sym, ap, ◌∙◌, arith, rules}
+use Rattle.std.proofs.Common.{below_more}
+use Rattle.rx_dense_image.proofs.EachBelow.{all_of, not_all}
+use Rattle.rx_sparse_image.specs.Walks.{is_range_at}
+use Rattle.rx_sparse_image.proofs.walk.Bounds.are_ends.Goals as goal
+
+pub loop-i-preserved : goal.loop-i-preserved
+loop-i-preserved c =
+    let ends = c.args.ends.now in
+    let stands : c.is_range_at.result ≡ true = search rules in
+    below_more (λ k. is_range_at c.args.self.now.last_class ends k ≡ true) c.loop-i.i c.loop-i.invariant
+    (sym c.is_range_at.ensures ∙ stands)
+
+pub returns-then-not-is_range_at : goal.returns-then-not-is_range_at
+returns-then-not-is_range_at c =
+    let ends = c.args.ends.now in
+    let count = c.args.count in
+    let stands : c.is_range_at.result ≡ false = search rules in
+    sym (
+    ap (λ b. b && (slice_index ends (2 * count - 2) == 0) && (slice_index ends (2 * count - 1) == 0))
+    (not_all (count - 1) (is_range_at c.args.self.now.last_class ends) c.loop-i.i (omega (arith, c.loop-i-test.true))
+    (sym c.is_range_at.ensures ∙ stands))
+    )
+
+pub returns : goal.returns
+returns c =
+    let ends = c.args.ends.now in
+    let count = c.args.count in
+    c.is_end_mark.ensures
+    ∙ sym (
+    ap (λ b. b && (slice_index ends (2 * count - 2) == 0) && (slice_index ends (2 * count - 1) == 0))
+    (all_of (count - 1) (is_range_at c.args.self.now.last_class ends)
+    (λ k lt. c.loop-i.invariant k (omega (arith, lt, c.loop-i-test.false))))
+    )

@@ -1,0 +1,6 @@
+use Rattle.std.proofs.Common.{sym, ◌∙◌}
+use Rattle.rx_dense_image.proofs.Behind.{filled}
+use Rattle.rx_sparse_image.proofs.write.fill_image.Goals as goal
+
+pub returns : goal.returns
+returns g c = filled c.put_image.ensures.put (c.requires.len ∙ sym c.put_image.ensures.place)

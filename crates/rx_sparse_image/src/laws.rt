@@ -1,0 +1,23 @@
+//! What was written is read again.
+//!
+//! Each function has an empty body, and its clauses are the laws.
+
+ghost use Rattle.std.specs.Prelude.{◌≡◌, ℕ, ◌++◌, List, Ok, length};
+ghost use Rattle.rx_wire.specs.declared.order.Order.{Order};
+ghost use Rattle.rx_sparse.specs.Facts.{IsSoundLayout};
+ghost use Rattle.rx_sparse.specs.Layouts.{IsShaped, Layout};
+ghost use Rattle.rx_sparse_image.specs.Images.{reads, text};
+ghost use Rattle.rx_sparse_image.specs.Tested.{IsWhole};
+
+/// An image of a layout that can be read is read as that layout, in either order and whatever follows, and its length
+/// is told.
+pub fn images_are_read_again()
+    ensures { (order : Order) (l : Layout) → IsWhole l → (rest : List ℕ)
+        → reads (text order l ++ rest) ≡ Ok (record { layout = l; order = order }, length (text order l)) }
+{}
+
+/// A layout that can be read has the shape of a sparse table, and is sound.
+pub fn what_can_be_read_is_sound()
+    ensures shaped { (l : Layout) → IsWhole l → IsShaped l }
+    ensures sound { (l : Layout) → IsWhole l → IsSoundLayout l }
+{}

@@ -1,0 +1,117 @@
+//! Reading of whole images.
+
+ghost use Rattle.std.specs.Prelude.{◌≡◌, IfOk};
+ghost use Rattle.rx_wire.specs.Kinds.{Gives};
+ghost use Rattle.rx_sparse.specs.Facts.{IsSoundLayout};
+ghost use Rattle.rx_sparse_image.specs.Reading.{IsReadImage, seen_image};
+ghost use Rattle.rx_sparse_image.specs.Images.{bounds_of, parts_at, reads};
+
+use crate::closing::is_closed;
+use crate::row_bytes::split_row_bytes;
+use crate::start_table::split_start_table;
+use crate::walk::{Bounds, walk};
+use rx_dense_image::both::{split_head, split_quit, split_special};
+use rx_sparse::{DFA, Parts};
+use rx_wire::DeserializeError;
+use std::alloc::Global;
+
+/// The label of sparse images.
+const LABEL: &str = "rust-regex-automata-dfa-sparse";
+
+/// The parts of an image, whose rows and start ids lie where they are.
+#[derive(Drop)]
+pub(crate) struct Image<'a> {
+    /// All parts but the bytes.
+    pub parts: Parts,
+    /// The bytes of the rows.
+    pub rows: &'a [u8],
+    /// The bytes of the ids of the start rows.
+    pub starts: &'a [u8],
+}
+
+/// Reads sparse tables where they lie: `DFA::<&[u8]>::from_bytes(alloc, bytes)`.
+pub trait SparseRead<'a> {
+    /// The table that bytes begin with, and how many of them it takes. Numbers may stand in either order, which is the
+    /// table's. The table borrows the bytes; memory serves the test that ids are those of rows.
+    ///
+    /// The error says which test fails first, or that memory ran out.
+    fn from_bytes(
+        alloc: Global,
+        slice: &'a [u8],
+    ) -> Result<(DFA<&'a [u8]>, usize), DeserializeError>
+        ensures read { Gives (λ x. (x.0, x.1)) result (reads slice.now) }
+        ensures sound { IfOk result (λ x. IsSoundLayout x.0.layout) };
+}
+
+/// The parts of an image, and the bytes after them.
+#[tactic(auto, unfolding(crate::specs::Images::parts_at))]
+fn split_image(bytes: &[u8]) -> Result<(Image<'_>, &[u8]), DeserializeError>
+    ensures read { Gives (λ x. (seen_image x.0, x.1.now)) result (parts_at bytes.now) }
+    ensures image { IfOk result (λ x. IsReadImage x.0) }
+{
+    let ((flags, order), rest) = split_head(bytes, LABEL)?;
+    let (bytes, rest) = split_row_bytes(order, rest)?;
+    let (table, rest) = split_start_table(order, rest)?;
+    let (special, rest) = split_special(order, bytes.rows.len(), rest)?;
+    let (quitset, rest) = split_quit(order, rest)?;
+    let parts = Parts {
+        order,
+        flags,
+        classes: bytes.classes,
+        pattern_len: bytes.pattern_len,
+        state_len: bytes.state_len,
+        start_kind: table.start_kind,
+        contexts: table.contexts,
+        start_pattern_len: table.pattern_starts,
+        universal_unanchored: table.universal_unanchored,
+        universal_anchored: table.universal_anchored,
+        special,
+        quitset,
+    };
+    let image = Image {
+        parts,
+        rows: bytes.rows,
+        starts: table.starts,
+    };
+    Ok((image, rest))
+}
+
+/// What the numbers of rows are held against.
+fn bounds_of(image: &Image<'_>) -> Bounds
+    ensures { result ≡ bounds_of (seen_image image.now) }
+{
+    Bounds {
+        order: image.parts.order,
+        special: image.parts.special,
+        last_class: image.parts.classes.get(255),
+        pattern_len: image.parts.pattern_len,
+        len: image.rows.len(),
+    }
+}
+
+/// The table that some bytes begin with, and how many of them it takes.
+#[tactic(auto, unfolding(crate::specs::Images::reads))]
+fn read_table(alloc: Global, bytes: &[u8]) -> Result<(DFA<&[u8]>, usize), DeserializeError>
+    ensures read { Gives (λ x. (x.0, x.1)) result (reads bytes.now) }
+    ensures sound { IfOk result (λ x. IsSoundLayout x.0.layout) }
+{
+    let (image, rest) = split_image(bytes)?;
+    let (count, rows) = walk(alloc, &bounds_of(&image), image.rows)?;
+    if count != image.parts.state_len {
+        return Err(DeserializeError::generic("another number of rows"));
+    }
+    if !is_closed(&image, &rows) {
+        return Err(DeserializeError::generic("the parts don't fit each other"));
+    }
+    let size = bytes.len().saturating_sub(rest.len());
+    Ok((DFA::from_parts(image.parts, image.rows, image.starts), size))
+}
+
+impl<'a> SparseRead<'a> for DFA<&'a [u8]> {
+    fn from_bytes(
+        alloc: Global,
+        slice: &'a [u8],
+    ) -> Result<(DFA<&'a [u8]>, usize), DeserializeError> {
+        read_table(alloc, slice)
+    }
+}
