@@ -15,7 +15,7 @@ use Rattle.rx_built_images.proofs.Whole.{whole}
 high_bytes : between 128 255 < 2 ^ 256
 high_bytes = omega arith
 
-few_quits : (nfa : Nfa) (quit : ℕ) (heuristic : Bool) → quit < 2 ^ 256 → quit_set nfa quit heuristic < 2 ^ 256
+pub few_quits : (nfa : Nfa) (quit : ℕ) (heuristic : Bool) → quit < 2 ^ 256 → quit_set nfa quit heuristic < 2 ^ 256
 few_quits nfa quit heuristic few = by_test (heuristic && has_unicode_word nfa)
   where
     by_test : (b : Bool) → (if b then bit_or quit (between 128 255) else quit) < 2 ^ 256

@@ -1,0 +1,2 @@
+-- dense tables whose sparse tables can be read
+pub mod Finished
