@@ -15,6 +15,8 @@ use rx_dense::OwnedDFA;
 use rx_expr::{Expr, thompson};
 use rx_pair::Regex;
 use rx_search::Automaton;
+use rx_sparse::DFA as SparseDFA;
+use rx_sparse_build::BuildSparse;
 use std::alloc::Global;
 
 /// Makes pairs of tables.
@@ -27,7 +29,12 @@ pub struct Builder {
 impl Builder {
     ghost use Rattle.rx_build.specs.Builders.{none_asked};
     ghost use Rattle.rx_regex_builder.specs.Pairs.{AreBothFit, AreBuilt, IsFitBy, IsOf, IsRefusedBy, PairRefused};
+    ghost use Rattle.rx_sparse.specs.Facts.{IsSoundLayout};
     ghost use Rattle.rx_regex_builder.specs.Pairs.{both_of, in_direction, in_reverse};
+    ghost use Rattle.rx_regex_builder.specs.SparsePairs.{AreBothFit as AreBothSparseFit, AreBuilt as AreBuiltSparse};
+    ghost use Rattle.rx_regex_builder.specs.SparsePairs.{IsFitBy as IsSparseFitBy, IsOf as IsSparseOf};
+    ghost use Rattle.rx_regex_builder.specs.SparsePairs.{IsRefusedBy as IsSparseRefusedBy};
+    ghost use Rattle.rx_regex_builder.specs.SparsePairs.{PairRefused as SparsePairRefused};
 
     /// With default settings: matches that split a character of UTF-8 are passed over.
     pub fn new() -> Builder
@@ -89,6 +96,42 @@ impl Builder {
         ensures safe { All IsLoopSafe exprs.now }
     {
         self.tables(direction).build_many(alloc, exprs)
+    }
+
+    /// The sparse tables of a list of expressions, as [`Builder::build_many`] builds dense ones.
+    pub fn build_many_sparse(
+        &self,
+        alloc: Global,
+        exprs: &[Expr],
+    ) -> Result<Regex<SparseDFA<Vec<u8>>>, BuildError>
+        ensures ok { IfOk result (λ regex. AreBuiltSparse (both_of self.now) exprs.now regex.forward regex.reverse) }
+        ensures fits { OnOk result (AreBothSparseFit (both_of self.now) exprs.now) }
+        ensures err { IfErr result (λ e. IsRefused (SparsePairRefused (both_of self.now) exprs.now) e.kind) }
+        // Each repetition in an expression is bounded.
+        ensures safe { All IsLoopSafe exprs.now }
+    {
+        let forward = self.build_one_sparse(alloc, exprs, Direction::Forward)?;
+        let reverse = self.build_one_sparse(alloc, exprs, Direction::Reverse)?;
+        Ok(Regex::new(forward, reverse))
+    }
+
+    /// One of these two sparse tables alone: the forward one, or the one in reverse.
+    pub fn build_one_sparse(
+        &self,
+        alloc: Global,
+        exprs: &[Expr],
+        direction: Direction,
+    ) -> Result<SparseDFA<Vec<u8>>, BuildError>
+        ensures ok { IfOk result (IsSparseOf (in_direction direction (both_of self.now)) exprs.now) }
+        // So it can be searched at once.
+        ensures sound { IfOk result (λ dfa. IsSoundLayout dfa.layout) }
+        ensures fits { OnOk result (IsSparseFitBy (in_direction direction (both_of self.now)) exprs.now) }
+        ensures err { IfErr result (λ e.
+            IsRefused (IsSparseRefusedBy (in_direction direction (both_of self.now)) exprs.now) e.kind) }
+        // Each repetition in an expression is bounded.
+        ensures safe { All IsLoopSafe exprs.now }
+    {
+        self.tables(direction).build_many_sparse(alloc, exprs)
     }
 
     /// What builds the tables of a direction.

@@ -5,12 +5,15 @@ ghost use Rattle.rx_spec.specs.Expressions.{IsLoopSafe};
 ghost use Rattle.rx_build.specs.Builders.{none_asked};
 ghost use Rattle.rx_build_error.specs.Refusals.{IsRefused};
 ghost use Rattle.rx_regex_builder.specs.Pairs.{AreBothFit, AreBuilt, PairRefused, both_of};
+ghost use Rattle.rx_regex_builder.specs.SparsePairs.{AreBothFit as AreBothSparseFit, AreBuilt as AreBuiltSparse};
+ghost use Rattle.rx_regex_builder.specs.SparsePairs.{PairRefused as SparsePairRefused};
 
 use crate::Builder;
 use rx_build::BuildError;
 use rx_dense::OwnedDFA;
 use rx_expr::Expr;
 use rx_pair::Regex;
+use rx_sparse::DFA as SparseDFA;
 use std::alloc::Global;
 
 /// Builds a pair without further settings: `Regex::new_many(alloc, &exprs)`.
@@ -23,6 +26,16 @@ pub trait RegexBuild {
         ensures err { IfErr result (λ e. IsRefused (PairRefused none_asked exprs.now) e.kind) }
         ensures safe { All IsLoopSafe exprs.now };
 
+    /// The sparse tables of a list of expressions, with the same settings.
+    fn new_many_sparse(
+        alloc: Global,
+        exprs: &[Expr],
+    ) -> Result<Regex<SparseDFA<Vec<u8>>>, BuildError>
+        ensures ok { IfOk result (λ regex. AreBuiltSparse none_asked exprs.now regex.forward regex.reverse) }
+        ensures fits { OnOk result (AreBothSparseFit none_asked exprs.now) }
+        ensures err { IfErr result (λ e. IsRefused (SparsePairRefused none_asked exprs.now) e.kind) }
+        ensures safe { All IsLoopSafe exprs.now };
+
     /// What builds pairs by other settings.
     fn builder() -> Builder
         ensures { both_of result ≡ none_asked };
@@ -31,6 +44,13 @@ pub trait RegexBuild {
 impl RegexBuild for Regex<OwnedDFA> {
     fn new_many(alloc: Global, exprs: &[Expr]) -> Result<Regex<OwnedDFA>, BuildError> {
         Builder::new().build_many(alloc, exprs)
+    }
+
+    fn new_many_sparse(
+        alloc: Global,
+        exprs: &[Expr],
+    ) -> Result<Regex<SparseDFA<Vec<u8>>>, BuildError> {
+        Builder::new().build_many_sparse(alloc, exprs)
     }
 
     fn builder() -> Builder {
