@@ -1,6 +1,6 @@
 -- What refuses a sparse table: what refuses its dense one, or that its rows are too long.
 use Rattle.std.proofs.Common.{◌≡◌, ℕ, ◌<◌, ◌≤◌, Bool, true, false, if◌then◌else◌, List, inl, inr, refl, ap, subst, ⊎_elim}
-use Rattle.std.specs.Prelude.{◌⊎◌, Result, Ok, Err, IfOk, IfErr, OnOk}
+use Rattle.std.specs.Prelude.{Result, Ok, Err, IfOk, IfErr, OnOk}
 use Rattle.rx_spec.specs.Builds.{Build}
 use Rattle.rx_spec.specs.Causes.{BuildCause, BuildFits, BuildRefused, Exceeds, HasTooLongRows, HasTooManyStates}
 use Rattle.rx_spec.specs.Causes.{IsUnsupported, max_id}
@@ -13,7 +13,7 @@ use Rattle.rx_spec.specs.declared.Form.{Form}
 use Rattle.rx_build_error.specs.Refusals.{IsRefused, TableRefused}
 use Rattle.rx_build_error.specs.declared.BuildError.{BuildError}
 use Rattle.rx_build_error.specs.declared.BuildErrorKind.{BuildErrorKind}
-use Rattle.rx_dense.specs.Layouts.{IsShaped, Layout, table_of}
+use Rattle.rx_dense.specs.Layouts.{IsShaped, Layout}
 use Rattle.rx_expr.specs.Compiles.{Fits, wanted_nfa}
 use Rattle.rx_expr.specs.Settings as thompson
 use Rattle.rx_build.specs.Built as dense

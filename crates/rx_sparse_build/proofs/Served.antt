@@ -1,7 +1,6 @@
 -- A sparse table says what its dense one says.
 use Rattle.std.proofs.Common.{◌≡◌, ℕ, ◌<◌, true, false, List, sym, ap, ◌∙◌, subst, arith}
-use Rattle.std.specs.Prelude.{Contains}
-use Rattle.rx_spec.specs.Builds.{Build, built_modes}
+use Rattle.rx_spec.specs.Builds.{Build}
 use Rattle.rx_spec.specs.Labels.{Gives, IsLeastFor}
 use Rattle.rx_spec.specs.Machines.{IsWord}
 use Rattle.rx_spec.specs.Nfas.{Nfa}
@@ -14,11 +13,11 @@ use Rattle.rx_lemmas.proofs.Words.{run-within}
 use Rattle.rx_table_lemmas.proofs.Tables.{SameSettings-sym, SameSettings-trans, table_same}
 use Rattle.rx_meaning.specs.Tables.{Serves}
 use Rattle.rx_dense.specs.Layouts as dense
-use Rattle.rx_build.specs.Built.{IsBuilt, build_of}
+use Rattle.rx_build.specs.Built.{build_of}
 use Rattle.rx_build.specs.Settings.{Settled}
 use Rattle.rx_build.proofs.Served.{built_serves}
 use Rattle.rx_sparse.specs.Facts.{IsSoundLayout}
-use Rattle.rx_sparse.specs.Layouts.{IsShaped, Layout, Stored, row_count, table_of}
+use Rattle.rx_sparse.specs.Layouts.{Layout, Stored, row_count, table_of}
 use Rattle.rx_sparse.specs.Sparse.{AreSpecialRows, sparse_of}
 use Rattle.rx_sparse.proofs.SparseTables.{same_table, sparse_sound, walks_same}
 use Rattle.rx_sparse_build.specs.Built.{IsSparse}

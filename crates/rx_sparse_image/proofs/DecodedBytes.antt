@@ -1,5 +1,5 @@
 -- Bytes that were decoded are the bytes of what was decoded: numbers, ends of ranges, and next ids.
-use Rattle.std.proofs.Common.{◌≡◌, ℕ, zero, suc, ◌+◌, ◌-◌, ◌*◌, ◌/◌, ◌^◌, ◌<◌, ◌≤◌, List, [], ◌∷◌, ◌++◌, length, take}
+use Rattle.std.proofs.Common.{◌≡◌, ℕ, zero, suc, ◌+◌, ◌-◌, ◌*◌, ◌^◌, ◌<◌, ◌≤◌, List, [], ◌∷◌, ◌++◌, length, take}
 use Rattle.std.proofs.Common.{drop, map, get_or, slice_index, refl, ap, ap₂, sym, ◌∙◌, ⊎_elim, arith, Fits, w8}
 use Rattle.std.proofs.Common.{length-drop, drop-cons}
 use Rattle.std.specs.List.{range_with_len}

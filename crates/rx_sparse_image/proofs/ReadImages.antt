@@ -1,6 +1,6 @@
 -- An image whose parts were read and whose rows were walked: another number of rows is refused, and where the parts fit
 -- each other, the layout can be read.
-use Rattle.std.proofs.Common.{◌≡◌, ℕ, true, false, Ok, Err, List, refl, sym, subst, ap, ◌∙◌}
+use Rattle.std.proofs.Common.{◌≡◌, ℕ, true, false, Ok, Err, List, refl, sym, subst, ◌∙◌}
 use Rattle.std.proofs.lemmas.Bool.{ne_eqb}
 use Rattle.rx_wire.specs.Kinds.{Kind}
 use Rattle.rx_sparse.specs.Facts.{IsSoundLayout}

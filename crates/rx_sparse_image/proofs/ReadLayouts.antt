@@ -1,5 +1,5 @@
 -- What is true of a layout that was read, and that its rows are read again in either order.
-use Rattle.std.proofs.Common.{◌≡◌, ℕ, Ok, List, length, subst, sym, ap, ◌∙◌, arith}
+use Rattle.std.proofs.Common.{◌≡◌, ℕ, Ok, List, length, subst, sym, arith}
 use Rattle.rx_wire.specs.declared.order.Order.{Order}
 use Rattle.rx_sparse.specs.Layouts.{Layout}
 use Rattle.rx_sparse.specs.Rows.{Row, rows_in, rows_text}

@@ -33,7 +33,7 @@ use Rattle.rx_sparse_image.specs.Walks.{rows_at}
 use Rattle.rx_sparse_image.specs.Closing.{is_closed}
 use Rattle.rx_sparse_image.specs.Images.{Parts, bounds_of, layout_of, parts_at, parts_of, reads, row_bytes_text}
 use Rattle.rx_sparse_image.specs.Images.{sparse_label, start_table_of, stored_of, text}
-use Rattle.rx_sparse_image.specs.Tested.{AreTestedRows, IsRead, IsTestedRow, IsWhole, bounds_in}
+use Rattle.rx_sparse_image.specs.Tested.{AreTestedRows, IsRead, IsWhole, bounds_in}
 use Rattle.rx_sparse_image.proofs.ClosedRows.{AreClosed, closed, quit_is}
 use Rattle.rx_sparse_image.proofs.ShapedImages.{shaped}
 use Rattle.rx_sparse_image.proofs.ReadLayouts.{are_tested_in}

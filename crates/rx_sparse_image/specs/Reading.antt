@@ -1,5 +1,5 @@
 -- Parts that stay where they lie, as they are seen.
-use Rattle.std.specs.Prelude.{◌≡◌, ℕ, ◌/◌, ◌%◌, ◌<◌, ◌^◌, true, nat_le, List, ◌∷◌, ◌++◌, length}
+use Rattle.std.specs.Prelude.{◌≡◌, ◌/◌, ◌%◌, ◌<◌, ◌^◌, true, nat_le, ◌∷◌, ◌++◌, length}
 use Rattle.rx_wire.specs.declared.order.Order.{Order}
 use Rattle.rx_dense_image.specs.StartTables.{IsReadStartTable, StartTable}
 use Rattle.rx_dense_image.specs.Marks.{are_special}

@@ -1,4 +1,4 @@
-use Rattle.std.proofs.Common.{◌≡◌, sym, ◌∙◌, subst}
+use Rattle.std.proofs.Common.{sym, ◌∙◌, subst}
 use Rattle.rx_wire.specs.Kinds.{FailsBy, Kind}
 use Rattle.rx_sparse.specs.Facts.{IsSoundLayout}
 use Rattle.rx_sparse.specs.Layouts.{Stored}
