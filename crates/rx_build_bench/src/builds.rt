@@ -1,5 +1,8 @@
 //! Builds that are timed.
 
+ghost use Rattle.std.specs.Prelude.{IfOk};
+ghost use Rattle.rx_order.specs.RowOrder.{IsInOrder};
+
 use crate::Fault;
 use rx_base::{MatchKind, StartKind};
 use rx_build::dense::{Builder, Config, OwnedDFA};
@@ -34,6 +37,13 @@ impl Direction {
         let config = thompson::Config::new().utf8(false);
         compiler.configure(config.reverse(self == Direction::Reverse));
         compiler
+    }
+
+    /// The NFA of some expressions.
+    fn build_nfa(self, alloc: Global, exprs: &[Expr]) -> Result<NFA, Fault> {
+        self.compiler()
+            .build_many(alloc, exprs)
+            .map_err(|error| Fault::Build(error.into()))
     }
 
     /// What makes the table, with needles and minimized where these are asked for.
@@ -97,10 +107,7 @@ pub(crate) fn measure(
     least: &mut Least,
 ) -> Result<OwnedDFA, Fault> {
     let begin = Instant::now(clock)?;
-    let nfa = direction
-        .compiler()
-        .build_many(alloc, exprs)
-        .map_err(|error| Fault::Build(error.into()))?;
+    let nfa = direction.build_nfa(alloc, exprs)?;
     least.nfa = least.nfa.min(nanoseconds(begin.elapsed(clock)?));
     let (table, time) = build(clock, alloc, &direction.builder(true, false), &nfa)?;
     least.table = least.table.min(time);
@@ -113,6 +120,15 @@ pub(crate) fn measure(
         least.rows_left = minimized.state_len();
     }
     Ok(table)
+}
+
+/// The forward table of some expressions, without needles.
+pub(crate) fn plain_table(alloc: Global, exprs: &[Expr]) -> Result<OwnedDFA, Fault>
+    ensures { IfOk result (λ dfa. IsInOrder dfa) }
+{
+    let nfa = Direction::Forward.build_nfa(alloc, exprs)?;
+    let builder = Direction::Forward.builder(false, false);
+    Ok(builder.build_from_nfa(alloc, &nfa)?)
 }
 
 /// The table of an NFA, and how long its build took.

@@ -1,5 +1,6 @@
-//! Times the builds of dense tables and searches by them: `rx_build_bench FILE REPEATS [parts]`, or
-//! `rx_build_bench FILE REPEATS find TEXT`.
+//! Times the builds of dense tables, searches by them, and the sparse tables that are made of them:
+//! `rx_build_bench FILE REPEATS [parts]`, `rx_build_bench FILE REPEATS find TEXT`, or
+//! `rx_build_bench FILE REPEATS sparse TEXT`.
 //!
 //! FILE has an expression on each line, in the syntax of `reader`. Of all of them two tables are built, REPEATS times:
 //! the forward one, by which the ends of leftmost-first matches are found, from an anchored start and an unanchored
@@ -13,8 +14,14 @@
 //! With `find` both tables are built once, and all matches in the file TEXT are gone through, REPEATS times. Standard
 //! output says how many there are and how many bytes they have, standard error the least time in microseconds.
 //!
+//! With `sparse` the forward table is built once, without needles. REPEATS times, in turns, it is made sparse, the
+//! image of the sparse table is written and read, and the file TEXT is walked through by half searches, once by each
+//! table: from where a match ends the next one is sought, up to the end of the text. Standard output says how many rows
+//! the tables have, how many bytes their images, how many ranges of classes the row with the most of them, and how many
+//! matches each table tells; standard error the least time of each part, in microseconds.
+//!
 //! Where nothing is measured, standard error says why, and the status is 2 for words that are wrong, 3 for expressions
-//! that aren't read or built, and 1 where memory, the clock, the file or an output failed.
+//! that aren't read or built, and 1 where memory, the clock, a file, an image or an output failed.
 #![tactic(auto)]
 
 mod bounds;
@@ -22,14 +29,17 @@ mod builds;
 mod class;
 mod matches;
 mod reader;
+mod sparse;
 
-use builds::{Direction, Least, Parts, measure};
+use builds::{Direction, Least, Parts, measure, plain_table};
 use matches::{Matches, time_matches};
 use reader::ReadError;
 use rx_base::MatchError;
 use rx_build::BuildError;
 use rx_build::dense::OwnedDFA;
 use rx_expr::Expr;
+use rx_wire::DeserializeError;
+use sparse::{Sizes, Turns, table_sizes, take_turns};
 use std::process::ExitCode;
 use std::rt::Clock;
 use std::{env, fs, io};
@@ -39,7 +49,7 @@ use thiserror::Error;
 #[derive(Debug, Drop, Error)]
 pub enum Fault {
     /// The words are wrong.
-    #[error("usage: rx_build_bench FILE REPEATS [parts | find TEXT]")]
+    #[error("usage: rx_build_bench FILE REPEATS [parts | find TEXT | sparse TEXT]")]
     Usage,
     /// An expression isn't read.
     #[error("{text}: {error}")]
@@ -55,7 +65,10 @@ pub enum Fault {
     /// A search ended by an error.
     #[error("{0}")]
     Search(#[from] MatchError),
-    /// Memory ran out, or the words, the clock, the file or an output failed.
+    /// The image of a table isn't read.
+    #[error("{0}")]
+    Image(#[from] DeserializeError),
+    /// Memory ran out, or the words, the clock, a file or an output failed.
     #[error("{0}")]
     Io(#[from] io::Error),
 }
@@ -66,7 +79,7 @@ impl Fault {
         match self {
             Fault::Usage => ExitCode::from(2),
             Fault::Expression { .. } | Fault::Build(_) | Fault::Search(_) => ExitCode::from(3),
-            Fault::Io(_) => ExitCode::FAILURE,
+            Fault::Image(_) | Fault::Io(_) => ExitCode::FAILURE,
         }
     }
 }
@@ -94,6 +107,10 @@ fn run(rt: &HostRuntime) -> Result<(), Fault> {
             let text = words.next().ok_or(Fault::Usage)?;
             return find_all(rt, file.as_str(), repeats, text.as_str());
         }
+        Some(word) if word.as_str() == "sparse" => {
+            let text = words.next().ok_or(Fault::Usage)?;
+            return time_sparse(rt, file.as_str(), repeats, text.as_str());
+        }
         Some(_) => return Err(Fault::Usage),
     };
     let exprs = read_file(rt, file.as_str())?;
@@ -107,6 +124,18 @@ fn find_all(rt: &HostRuntime, file: &str, repeats: u32, path: &str) -> Result<()
     let (found, time) = time_matches(rt, rt.alloc(), &exprs, repeats, &text)?;
     println!(rt; "{} matches, {} bytes", found.count, found.bytes)?;
     eprintln!(rt; "{} microseconds", time / 1000)?;
+    Ok(())
+}
+
+/// Makes the forward table sparse so many times and walks through a text by both, and says how large they are and how
+/// long that took.
+fn time_sparse(rt: &HostRuntime, file: &str, repeats: u32, path: &str) -> Result<(), Fault> {
+    let exprs = read_file(rt, file)?;
+    let text = fs::read(rt, path)?;
+    let dense = plain_table(rt.alloc(), &exprs)?;
+    tell_sizes(rt, &table_sizes(rt.alloc(), &dense)?)?;
+    let turns = take_turns(rt, rt.alloc(), &dense, repeats, &text)?;
+    tell_turns(rt, &turns)?;
     Ok(())
 }
 
@@ -177,5 +206,29 @@ fn tell_times(
         least.minimized / 1000,
         least.rows_left,
         least.minimizing()
+    )
+}
+
+/// Says how large a table and its sparse one are.
+fn tell_sizes(rt: &impl Print, sizes: &Sizes) -> io::Result<()> {
+    println!(rt;
+        "{} rows, dense {} bytes, sparse {} bytes, at most {} ranges",
+        sizes.rows, sizes.dense, sizes.sparse, sizes.ranges
+    )
+}
+
+/// Says how many matches both tables tell, and how long what was done with them took, in microseconds.
+fn tell_turns(rt: &(impl Print + Eprint), turns: &Turns) -> io::Result<()> {
+    println!(rt;
+        "matches: dense {}, sparse {}",
+        turns.dense_matches, turns.sparse_matches
+    )?;
+    eprintln!(rt;
+        "made {}, written {}, read {}, dense walk {}, sparse walk {}",
+        turns.making / 1000,
+        turns.writing / 1000,
+        turns.reading / 1000,
+        turns.dense_walk / 1000,
+        turns.sparse_walk / 1000
     )
 }
