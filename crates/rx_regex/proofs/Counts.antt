@@ -5,21 +5,51 @@ use Rattle.rx_spec.specs.Expressions.{Expression}
 use Rattle.rx_spec.specs.Labels.{IsLeastFor}
 use Rattle.rx_spec.specs.Plans.{Plan, plan_build}
 use Rattle.rx_spec.specs.Power.{IsPower}
+use Rattle.rx_spec.specs.Tables.{Table}
 use Rattle.rx_spec.specs.declared.Direction.{Direction}
-use Rattle.rx_dense.specs.Layouts.{Layout, row_count, table_of}
-use Rattle.rx_regex.specs.Rows.{CountsRows, HaveRows}
-use Rattle.rx_regex.specs.Pairs.{AreTables}
+use Rattle.rx_dense.specs.Layouts.{Layout, table_of}
+use Rattle.rx_sparse.specs.Layouts as sparse
+use Rattle.rx_sparse_build.proofs.Served.{sparse_least, sparse_power}
+use Rattle.rx_regex.specs.Images.{IsDense, IsSparse}
+use Rattle.rx_regex.specs.Pairs.{AreBuilt, AreTables, Pair, forward_table, reverse_table}
+use Rattle.rx_regex.specs.Rows.{CountsRows, HasRows, HaveRows}
+use Rattle.rx_regex.specs.Settings.{settings_of}
 
-counts : (minimize : Bool) (b : Build) (l : Layout) → (minimize ≡ false → IsPower (table_of l) b)
-    → (minimize ≡ true → IsLeastFor b (row_count l)) → CountsRows minimize b (row_count l)
-counts false b l power least =
+counts : (minimize : Bool) (b : Build) (t : Table) → (minimize ≡ false → IsPower t b)
+    → (minimize ≡ true → IsLeastFor b t.size) → CountsRows minimize b t.size
+counts false b t power least =
     let is = power refl in
     record { states = is.states; reached = is.reached; count = is.size }
-counts true b l power least = least refl
+counts true b t power least = least refl
 
-pub have_rows : {p : Plan} {es : List Expression} {f r : Layout} → AreTables p es f r
-    → HaveRows p es (row_count f) (row_count r)
-have_rows {p} {es} {f} {r} t = record {
-  forward = counts p.minimize (plan_build p Direction.Forward es) f t.built.forward.power t.built.forward.least;
-  reverse = counts p.minimize (plan_build p Direction.Reverse es) r t.built.reverse.power t.built.reverse.least;
-}
+module _ (p : Plan) (es : List Expression) where
+  dense_rows : (direction : Direction) (l : Layout) → IsDense p direction es l
+      → HasRows p direction es (table_of l).size
+  dense_rows Direction.Forward l is =
+      counts p.minimize (plan_build p Direction.Forward es) (table_of l) is.power is.least
+  dense_rows Direction.Reverse l is =
+      counts p.minimize (plan_build p Direction.Reverse es) (table_of l) is.power is.least
+
+  sparse_rows : (direction : Direction) (t : sparse.Stored) → IsSparse p direction es t
+      → HasRows p direction es (sparse.table_of t.layout).size
+  sparse_rows Direction.Forward t is =
+      counts p.minimize (plan_build p Direction.Forward es) (sparse.table_of t.layout) (sparse_power _ _ t is)
+      (sparse_least _ _ t is)
+  sparse_rows Direction.Reverse t is =
+      counts p.minimize (plan_build p Direction.Reverse es) (sparse.table_of t.layout) (sparse_power _ _ t is)
+      (sparse_least _ _ t is)
+
+  both_rows : (pair : Pair) → AreBuilt (settings_of p) es pair
+      → HaveRows p es (forward_table pair).size (reverse_table pair).size
+  both_rows (Pair.Dense f r) built = record {
+    forward = dense_rows Direction.Forward f built.forward;
+    reverse = dense_rows Direction.Reverse r built.reverse;
+  }
+  both_rows (Pair.Sparse f r) built = record {
+    forward = sparse_rows Direction.Forward f built.forward;
+    reverse = sparse_rows Direction.Reverse r built.reverse;
+  }
+
+pub have_rows : {p : Plan} {es : List Expression} {pair : Pair} → AreTables p es pair
+    → HaveRows p es (forward_table pair).size (reverse_table pair).size
+have_rows {p} {es} {pair} t = both_rows p es pair t.built

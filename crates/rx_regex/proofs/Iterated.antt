@@ -4,11 +4,10 @@ use Rattle.std.proofs.Common.{◌∷◌, Result, All, IfOk, refl, ap, ◌∙◌}
 use Rattle.std.proofs.lemmas.List.Elements.{All-weaker}
 use Rattle.rx_spec.specs.Expressions.{Expression}
 use Rattle.rx_spec.specs.Iterating.{FoundMatches, is_repeat, unless_repeat, and_then, iterate_from, iterate}
-use Rattle.rx_spec.specs.Joining.{Answer, join}
+use Rattle.rx_spec.specs.Joining.{Answer}
 use Rattle.rx_spec.specs.Plans.{Plan, outcome}
 use Rattle.rx_spec.specs.Queries.{Query, Match, MatchError, LiesIn}
-use Rattle.rx_dense.specs.Layouts.{Layout, table_of}
-use Rattle.rx_regex.specs.Pairs.{AreTables, whole}
+use Rattle.rx_regex.specs.Pairs.{AreTables, Pair, joined, whole}
 use Rattle.rx_regex.proofs.Searches.{Searched, outcome_by}
 
 abbrev from : Query → ℕ → Query
@@ -43,10 +42,10 @@ module _ (f g : Query → Answer) (q : Query) (alike : (start : ℕ) → f (whol
       ∙ continued (unless_repeat g (from q start) last_end (g (from q start))) others also
       (λ m. iterated_from n m.end (Some m.end))
 
-pub iterated_by : {p : Plan} {es : List Expression} {f r : Layout} → AreTables p es f r → (q : Query) → Searched q
-    → iterate (join (table_of f) (table_of r)) (whole q) ≡ iterate (outcome p es) q
-iterated_by {p} {es} {f} {r} t q s =
-    iterated_from (join (table_of f) (table_of r)) (outcome p es) q
+pub iterated_by : {p : Plan} {es : List Expression} {pair : Pair} → AreTables p es pair → (q : Query) → Searched q
+    → iterate (joined pair) (whole q) ≡ iterate (outcome p es) q
+iterated_by {p} {es} {pair} t q s =
+    iterated_from (joined pair) (outcome p es) q
     (λ start. outcome_by t (from q start) (record { bytes = s.bytes; within = s.within })) (q.end + 2 - q.start)
     q.start None
 

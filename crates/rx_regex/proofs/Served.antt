@@ -5,19 +5,25 @@ use Rattle.rx_spec.specs.Expressions.{Expression, IsLoopSafe}
 use Rattle.rx_spec.specs.Nfas.{Nfa, nfa_of, is_always_start_anchored}
 use Rattle.rx_spec.specs.Plans.{Plan, plan_build, plan_nfa}
 use Rattle.rx_spec.specs.Splits.{skips_splits}
+use Rattle.rx_spec.specs.Tables.{Table}
 use Rattle.rx_spec.specs.declared.Direction.{Direction}
+use Rattle.rx_spec.specs.declared.Form.{Form}
 use Rattle.rx_dense.specs.Layouts.{Layout, table_of}
+use Rattle.rx_dense.specs.declared.flags.Flags.{Flags}
 use Rattle.rx_expr.specs.Compiles.{wanted_nfa}
 use Rattle.rx_meaning.specs.Tables.{Serves, ServePlan}
 use Rattle.rx_build.specs.Builders.{Both}
 use Rattle.rx_build.specs.Built.{IsBuilt, build_of}
 use Rattle.rx_build.specs.Settings.{Settled, settled}
 use Rattle.rx_build.proofs.Served.{built_serves}
-use Rattle.rx_regex_builder.specs.Pairs.{AreBuilt, in_reverse}
+use Rattle.rx_regex_builder.specs.Pairs.{in_reverse}
+use Rattle.rx_sparse.specs.Layouts as sparse
+use Rattle.rx_sparse_build.specs.Built.{IsSparse}
+use Rattle.rx_sparse_build.proofs.Served.{sparse_serves}
 use Rattle.rx_regex.specs.Planned.{IsPlanned, planned}
-use Rattle.rx_regex.specs.Images.{IsTable}
+use Rattle.rx_regex.specs.Images as images
 use Rattle.rx_regex.specs.Settings.{settings_of}
-use Rattle.rx_regex.specs.Pairs.{AreTables}
+use Rattle.rx_regex.specs.Pairs.{AreBuilt, AreTables, Pair, forward_table, reverse_table}
 
 utf8_of : (direction : Direction) (terminator : ℕ) (utf8 : Bool) (es : List Expression)
     → (nfa_of direction terminator utf8 es).is_utf8 ≡ utf8
@@ -28,12 +34,36 @@ and_false : (x : Bool) → (x && false) ≡ false
 and_false true = refl
 and_false false = refl
 
--- a table of an NFA without UTF-8 mode passes over none
-whole : (s : Settled) (nfa : Nfa) (l : Layout) → nfa.is_utf8 ≡ false → IsBuilt s nfa l
-    → skips_splits (table_of l) ≡ false
-whole s nfa l e is =
-    ap (λ (m : Layout). m.flags.has_empty && m.flags.is_utf8) is.rest
-    ∙ (ap (λ (utf8 : Bool). nfa.has_empty && utf8) e ∙ and_false nfa.has_empty)
+-- ---- one table of an NFA
+
+-- it gives a build, begins where the NFA says, and without UTF-8 mode passes over no match
+record ServesNfa (t : Table) (s : Settled) (nfa : Nfa) : Type 0 where
+  serves : Serves t (build_of s nfa)
+  anchored : t.is_always_start_anchored ≡ is_always_start_anchored nfa
+  whole : nfa.is_utf8 ≡ false → skips_splits t ≡ false
+
+dense_serves : (s : Settled) (nfa : Nfa) (l : Layout) → IsBuilt s nfa l → ServesNfa (table_of l) s nfa
+dense_serves s nfa l is = record {
+  serves = built_serves s nfa l is;
+  anchored = ap (λ (m : Layout). m.flags.is_always_start_anchored) is.rest;
+  whole = λ e.
+      ap (λ (m : Layout). m.flags.has_empty && m.flags.is_utf8) is.rest
+      ∙ (ap (λ (utf8 : Bool). nfa.has_empty && utf8) e ∙ and_false nfa.has_empty);
+}
+
+-- its flags are those of the dense table
+sparse_serves_nfa : (s : Settled) (nfa : Nfa) (t : sparse.Stored) → IsSparse s nfa t
+    → ServesNfa (sparse.table_of t.layout) s nfa
+sparse_serves_nfa s nfa t is =
+    let dense = dense_serves s nfa is.dense is.built in
+    let flags : t.layout.flags ≡ is.dense.flags = ap (λ (x : sparse.Stored). x.layout.flags) is.sparse in
+    record {
+      serves = sparse_serves s nfa t is;
+      anchored = ap (λ (f : Flags). f.is_always_start_anchored) flags ∙ dense.anchored;
+      whole = λ e. ap (λ (f : Flags). f.has_empty && f.is_utf8) flags ∙ dense.whole e;
+    }
+
+-- ---- both tables by settings
 
 module _ (both : Both) (es : List Expression) (is : IsPlanned both) where
   abbrev back : Both
@@ -65,26 +95,32 @@ module _ (both : Both) (es : List Expression) (is : IsPlanned both) where
       ap (λ (n : Nfa). n.is_utf8) reverse_nfa
       ∙ utf8_of Direction.Reverse (planned both).line_terminator false es
 
-  pub serve_planned : (f r : Layout) → AreBuilt both es f r → ServePlan (planned both) es (table_of f) (table_of r)
-  serve_planned f r built = record {
-    forward =
-        subst (Serves (table_of f)) forward_build
-        (built_serves (settled both.dense) (wanted_nfa both.thompson es) f built.forward);
-    reverse =
-        subst (Serves (table_of r)) reverse_build
-        (built_serves (settled back.dense) (wanted_nfa back.thompson es) r built.reverse);
-    anchored =
-        ap (λ (m : Layout). m.flags.is_always_start_anchored) built.forward.rest
-        ∙ ap is_always_start_anchored forward_nfa;
-    whole = whole (settled both.dense) (wanted_nfa both.thompson es) f forward_anywhere built.forward;
-    whole_reverse = whole (settled back.dense) (wanted_nfa back.thompson es) r reverse_anywhere built.reverse;
+  serve_both : (f r : Table) → ServesNfa f (settled both.dense) (wanted_nfa both.thompson es)
+      → ServesNfa r (settled back.dense) (wanted_nfa back.thompson es) → ServePlan (planned both) es f r
+  serve_both f r forward reverse = record {
+    forward = subst (Serves f) forward_build forward.serves;
+    reverse = subst (Serves r) reverse_build reverse.serves;
+    anchored = forward.anchored ∙ ap is_always_start_anchored forward_nfa;
+    whole = forward.whole forward_anywhere;
+    whole_reverse = reverse.whole reverse_anywhere;
   }
 
-pub serve_plan : {p : Plan} {es : List Expression} {f r : Layout} → AreTables p es f r
-    → ServePlan p es (table_of f) (table_of r)
-serve_plan {p} {es} {f} {r} t =
+  pub serve_planned : (pair : Pair) → AreBuilt both es pair
+      → ServePlan (planned both) es (forward_table pair) (reverse_table pair)
+  serve_planned (Pair.Dense f r) built =
+      serve_both (table_of f) (table_of r)
+      (dense_serves (settled both.dense) (wanted_nfa both.thompson es) f built.forward)
+      (dense_serves (settled back.dense) (wanted_nfa back.thompson es) r built.reverse)
+  serve_planned (Pair.Sparse f r) built =
+      serve_both (sparse.table_of f.layout) (sparse.table_of r.layout)
+      (sparse_serves_nfa (settled both.dense) (wanted_nfa both.thompson es) f built.forward)
+      (sparse_serves_nfa (settled back.dense) (wanted_nfa back.thompson es) r built.reverse)
+
+pub serve_plan : {p : Plan} {es : List Expression} {pair : Pair} → AreTables p es pair
+    → ServePlan p es (forward_table pair) (reverse_table pair)
+serve_plan {p} {es} {pair} t =
     let is : IsPlanned (settings_of p) = record { kind = refl; forward = refl; anywhere = refl } in
-    let serve = serve_planned (settings_of p) es is f r t.built in
+    let serve = serve_planned (settings_of p) es is pair t.built in
     record {
       forward = serve.forward;
       reverse = serve.reverse;
@@ -93,13 +129,28 @@ serve_plan {p} {es} {f} {r} t =
       whole_reverse = serve.whole_reverse;
     }
 
--- two tables of a plan are its pair
-pub are_tables : {p : Plan} {es : List Expression} {f r f' r' : Layout} → f' ≡ f → r' ≡ r → All IsLoopSafe es
-    → IsTable p Direction.Forward es f → IsTable p Direction.Reverse es r → AreTables p es f' r'
-are_tables {p} {es} f_is r_is safe forward reverse = record {
+-- ---- two tables of a plan are its pair
+
+pub dense_tables : {p : Plan} {es : List Expression} {f r f' r' : Layout} → p.form ≡ Form.Dense → f' ≡ f → r' ≡ r
+    → All IsLoopSafe es → images.IsDense p Direction.Forward es f → images.IsDense p Direction.Reverse es r
+    → AreTables p es (Pair.Dense f' r')
+dense_tables {p} {es} form f_is r_is safe forward reverse = record {
+  form = sym form;
   safe = safe;
   built = record {
-    forward = subst (IsTable p Direction.Forward es) (sym f_is) forward;
-    reverse = subst (IsTable p Direction.Reverse es) (sym r_is) reverse;
+    forward = subst (images.IsDense p Direction.Forward es) (sym f_is) forward;
+    reverse = subst (images.IsDense p Direction.Reverse es) (sym r_is) reverse;
+  };
+}
+
+pub sparse_tables : {p : Plan} {es : List Expression} {f r f' r' : sparse.Stored} → p.form ≡ Form.Sparse
+    → f' ≡ f → r' ≡ r → All IsLoopSafe es → images.IsSparse p Direction.Forward es f
+    → images.IsSparse p Direction.Reverse es r → AreTables p es (Pair.Sparse f' r')
+sparse_tables {p} {es} form f_is r_is safe forward reverse = record {
+  form = sym form;
+  safe = safe;
+  built = record {
+    forward = subst (images.IsSparse p Direction.Forward es) (sym f_is) forward;
+    reverse = subst (images.IsSparse p Direction.Reverse es) (sym r_is) reverse;
   };
 }

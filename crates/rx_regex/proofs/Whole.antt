@@ -1,60 +1,133 @@
 -- Tables of a plan can be written and read again.
-use Rattle.std.proofs.Common.{◌≡◌, ℕ, ◌^◌, ◌<◌, List, [], ◌++◌, length, Ok, Result, sym, ap, ◌∙◌, subst, append-nil}
+use Rattle.std.proofs.Common.{◌≡◌, ℕ, ◌^◌, ◌<◌, List, [], length, Ok, Result, sym, ap, ◌∙◌, subst, append-nil}
 use Rattle.rx_spec.specs.Expressions.{Expression}
 use Rattle.rx_spec.specs.Plans.{Plan}
 use Rattle.rx_spec.specs.declared.Direction.{Direction}
+use Rattle.rx_spec.specs.declared.Form.{Form}
 use Rattle.rx_build.specs.Builders.{Both}
 use Rattle.rx_build.specs.Settings.{settled}
 use Rattle.rx_built_images.proofs.BuiltTables.{built_whole}
+use Rattle.rx_built_sparse_images.proofs.BuiltTables as sparse_built
 use Rattle.rx_dense.specs.Layouts.{IsShaped, Layout}
 use Rattle.rx_dense_image.specs.Images.{IsWhole, reads, text}
 use Rattle.rx_dense_image.proofs.WholeAgain.{whole_again}
 use Rattle.rx_expr.specs.Compiles.{wanted_nfa}
-use Rattle.rx_regex_builder.specs.Pairs.{IsOf, in_direction}
+use Rattle.rx_regex_builder.specs.Pairs.{in_direction}
+use Rattle.rx_regex_builder.specs.Pairs as dense_pairs
+use Rattle.rx_regex_builder.specs.SparsePairs as sparse_pairs
+use Rattle.rx_sparse.specs.Layouts.{Stored}
+use Rattle.rx_sparse_image.specs.Images as sparse
+use Rattle.rx_sparse_image.specs.Tested as sparse_tested
+use Rattle.rx_sparse_image.proofs.WholeAgain as sparse_again
 use Rattle.rx_wire.specs.Kinds.{Kind}
 use Rattle.rx_wire.specs.declared.order.Order.{Order}
-use Rattle.rx_regex.specs.Images.{IsImage, IsTable}
+use Rattle.rx_regex.specs.Images.{IsDense, IsDenseImage, IsImage, IsImageOf, IsSparse, IsSparseImage}
 use Rattle.rx_regex.specs.Settings.{settings_of}
 
--- a table by a builder that has the plan's settings
-pub is_table : (p : Plan) (direction : Direction) (es : List Expression) {both : Both} {l : Layout}
-    → both ≡ settings_of p → IsOf (in_direction direction both) es l → IsTable p direction es l
-is_table p direction es {both} {l} settings is =
-    subst (λ (b : Both). IsOf (in_direction direction b) es l) settings is
+-- a quit set of bytes, whatever the direction
+few_quits : (p : Plan) (direction : Direction) → p.quit < 2 ^ 256
+    → (settled (in_direction direction (settings_of p)).dense).quit < 2 ^ 256
+few_quits p Direction.Forward few = few
+few_quits p Direction.Reverse few = few
 
-pub table_whole : (p : Plan) (direction : Direction) (es : List Expression) (l : Layout) → p.quit < 2 ^ 256
-    → IsShaped l → IsTable p direction es l → IsWhole l
-table_whole p direction es l quit shaped is =
-    let both : Both = in_direction direction (settings_of p) in
-    built_whole (settled both.dense) (wanted_nfa both.thompson es) l (few direction) shaped is
-  where
-    few : (d : Direction) → (settled (in_direction d (settings_of p)).dense).quit < 2 ^ 256
-    few Direction.Forward = quit
-    few Direction.Reverse = quit
-
--- what was written is read again
-whole_read : (l : Layout) (order : Order) (bytes : List ℕ) → IsWhole l → bytes ≡ text order l
-    → reads bytes ≡ Ok (l, length bytes)
-whole_read l order bytes whole written =
-    ap reads (written ∙ sym (append-nil (text order l))) ∙ whole_again order l whole []
-    ∙ ap (λ (w : List ℕ). Ok (l, length w)) (sym written)
-
+-- reading of one image gives one table
 same_read : {X : Type 0} (x y : X) (m n : ℕ) (read : Result (X × ℕ) Kind) → read ≡ Ok (x, m) → read ≡ Ok (y, n)
     → x ≡ y
 same_read {X} x y m n read e f =
     let same : (x, m) ≡ (y, n) = cc in
     ap (λ (r : X × ℕ). r.0) same
 
-pub read_again : (l back : Layout) (size : ℕ) (order : Order) (bytes : List ℕ) → IsWhole l
-    → bytes ≡ text order l → reads bytes ≡ Ok (back, size) → back ≡ l
-read_again l back size order bytes whole written read =
-    same_read back l size (length bytes) (reads bytes) read (whole_read l order bytes whole written)
+-- ---- dense tables
 
-pub is_image : (p : Plan) (direction : Direction) (es : List Expression) (l : Layout) (order : Order) (bytes : List ℕ)
-    → IsTable p direction es l → IsWhole l → bytes ≡ text order l → IsImage p direction es order bytes
-is_image p direction es l order bytes table whole written = record {
+-- by a builder that has the plan's settings
+pub is_dense : (p : Plan) (direction : Direction) (es : List Expression) {both : Both} {l : Layout}
+    → both ≡ settings_of p → dense_pairs.IsOf (in_direction direction both) es l → IsDense p direction es l
+is_dense p direction es {both} {l} settings is =
+    subst (λ (b : Both). dense_pairs.IsOf (in_direction direction b) es l) settings is
+
+pub dense_whole : (p : Plan) (direction : Direction) (es : List Expression) (l : Layout) → p.quit < 2 ^ 256
+    → IsShaped l → IsDense p direction es l → IsWhole l
+dense_whole p direction es l quit shaped is =
+    let both : Both = in_direction direction (settings_of p) in
+    built_whole (settled both.dense) (wanted_nfa both.thompson es) l (few_quits p direction quit) shaped is
+
+-- what was written is read again
+dense_read : (l : Layout) (order : Order) (bytes : List ℕ) → IsWhole l → bytes ≡ text order l
+    → reads bytes ≡ Ok (l, length bytes)
+dense_read l order bytes whole written =
+    ap reads (written ∙ sym (append-nil (text order l))) ∙ whole_again order l whole []
+    ∙ ap (λ (w : List ℕ). Ok (l, length w)) (sym written)
+
+pub dense_again : (l back : Layout) (size : ℕ) (order : Order) (bytes : List ℕ) → IsWhole l
+    → bytes ≡ text order l → reads bytes ≡ Ok (back, size) → back ≡ l
+dense_again l back size order bytes whole written read =
+    same_read back l size (length bytes) (reads bytes) read (dense_read l order bytes whole written)
+
+dense_image : (p : Plan) (direction : Direction) (es : List Expression) (l : Layout) (order : Order) (bytes : List ℕ)
+    → IsDense p direction es l → IsWhole l → bytes ≡ text order l → IsDenseImage p direction es order bytes
+dense_image p direction es l order bytes table whole written = record {
   layout = l;
   table = table;
   written = written;
-  read = whole_read l order bytes whole written;
+  read = dense_read l order bytes whole written;
 }
+
+-- ---- sparse tables
+
+pub is_sparse : (p : Plan) (direction : Direction) (es : List Expression) {both : Both} {t : Stored}
+    → both ≡ settings_of p → sparse_pairs.IsOf (in_direction direction both) es t → IsSparse p direction es t
+is_sparse p direction es {both} {t} settings is =
+    subst (λ (b : Both). sparse_pairs.IsOf (in_direction direction b) es t) settings is
+
+pub sparse_whole : (p : Plan) (direction : Direction) (es : List Expression) (t : Stored) → p.quit < 2 ^ 256
+    → IsSparse p direction es t → sparse_tested.IsWhole t.layout
+sparse_whole p direction es t quit is =
+    let both : Both = in_direction direction (settings_of p) in
+    sparse_built.built_whole (settled both.dense) (wanted_nfa both.thompson es) t (few_quits p direction quit) is
+
+-- the bytes of a table that is built are little endian
+pub is_little : (p : Plan) (direction : Direction) (es : List Expression) (t : Stored) → IsSparse p direction es t
+    → t.order ≡ Order.Little
+is_little p direction es t is = ap (λ (x : Stored). x.order) is.sparse
+
+sparse_read : (t : Stored) (order : Order) (bytes : List ℕ) → sparse_tested.IsWhole t.layout
+    → bytes ≡ sparse.text order t.layout → sparse.reads bytes ≡ Ok (record t { order = order }, length bytes)
+sparse_read t order bytes whole written =
+    ap sparse.reads (written ∙ sym (append-nil (sparse.text order t.layout)))
+    ∙ sparse_again.whole_again order t.layout whole []
+    ∙ ap (λ (w : List ℕ). Ok (record t { order = order }, length w)) (sym written)
+
+pub sparse_read_again : (t back : Stored) (size : ℕ) (bytes : List ℕ) → sparse_tested.IsWhole t.layout
+    → t.order ≡ Order.Little → bytes ≡ sparse.text Order.Little t.layout → sparse.reads bytes ≡ Ok (back, size)
+    → back ≡ t
+sparse_read_again t back size bytes whole little written read =
+    same_read back (record t { order = Order.Little }) size (length bytes) (sparse.reads bytes) read
+    (sparse_read t Order.Little bytes whole written)
+    ∙ ap (λ (order : Order). record t { order = order }) (sym little)
+
+sparse_image : (p : Plan) (direction : Direction) (es : List Expression) (t : Stored) (order : Order) (bytes : List ℕ)
+    → IsSparse p direction es t → sparse_tested.IsWhole t.layout → bytes ≡ sparse.text order t.layout
+    → IsSparseImage p direction es order bytes
+sparse_image p direction es t order bytes table whole written = record {
+  stored = t;
+  table = table;
+  written = written;
+  read = sparse_read t order bytes whole written;
+}
+
+-- ---- images of a plan
+
+module _ (p : Plan) (direction : Direction) (es : List Expression) (order : Order) (bytes : List ℕ) where
+  of_form : (form : Form) → p.form ≡ form → IsImageOf form p direction es order bytes
+      → IsImage p direction es order bytes
+  of_form form e = subst (λ (f : Form). IsImageOf f p direction es order bytes) (sym e)
+
+  pub is_dense_image : (l : Layout) → p.form ≡ Form.Dense → IsDense p direction es l → IsWhole l
+      → bytes ≡ text order l → IsImage p direction es order bytes
+  is_dense_image l form table whole written =
+      of_form Form.Dense form (dense_image p direction es l order bytes table whole written)
+
+  pub is_sparse_image : (t : Stored) → p.form ≡ Form.Sparse → IsSparse p direction es t
+      → sparse_tested.IsWhole t.layout → bytes ≡ sparse.text order t.layout → IsImage p direction es order bytes
+  is_sparse_image t form table whole written =
+      of_form Form.Sparse form (sparse_image p direction es t order bytes table whole written)

@@ -3,21 +3,46 @@ use Rattle.std.specs.Prelude.{◌≡◌, ℕ, List, length, Ok}
 use Rattle.rx_spec.specs.Expressions.{Expression}
 use Rattle.rx_spec.specs.Plans.{Plan}
 use Rattle.rx_spec.specs.declared.Direction.{Direction}
+use Rattle.rx_spec.specs.declared.Form.{Form}
 use Rattle.rx_dense.specs.Layouts.{Layout}
-use Rattle.rx_dense_image.specs.Images.{reads, text}
-use Rattle.rx_regex_builder.specs.Pairs.{IsOf, in_direction}
+use Rattle.rx_dense_image.specs.Images as dense
+use Rattle.rx_regex_builder.specs.Pairs.{in_direction}
+use Rattle.rx_regex_builder.specs.Pairs as dense_pairs
+use Rattle.rx_regex_builder.specs.SparsePairs as sparse_pairs
+use Rattle.rx_sparse.specs.Layouts.{Stored}
+use Rattle.rx_sparse_image.specs.Images as sparse
 use Rattle.rx_wire.specs.declared.order.Order.{Order}
 use Rattle.rx_regex.specs.Settings.{settings_of}
 
 -- It is built of these expressions by what the plan asks for in this direction: it says of every word what the plan's
 -- build says, has as many rows as that asks for, in their order, and is accelerated and marked as asked.
-abbrev pub IsTable : Plan → Direction → List Expression → Layout → Type 0
-IsTable p direction es l = IsOf (in_direction direction (settings_of p)) es l
+abbrev pub IsDense : Plan → Direction → List Expression → Layout → Type 0
+IsDense p direction es l = dense_pairs.IsOf (in_direction direction (settings_of p)) es l
+
+-- it is the sparse table of such a one
+abbrev pub IsSparse : Plan → Direction → List Expression → Stored → Type 0
+IsSparse p direction es t = sparse_pairs.IsOf (in_direction direction (settings_of p)) es t
 
 -- Bytes are an image of such a table: they are its text, and whoever reads them has the table, all of them read.
-pub record IsImage (p : Plan) (direction : Direction) (es : List Expression) (order : Order) (bytes : List ℕ)
+pub record IsDenseImage (p : Plan) (direction : Direction) (es : List Expression) (order : Order) (bytes : List ℕ)
     : Type 0 where
   pub layout : Layout
-  pub table : IsTable p direction es layout
-  pub written : bytes ≡ text order layout
-  pub read : reads bytes ≡ Ok (layout, length bytes)
+  pub table : IsDense p direction es layout
+  pub written : bytes ≡ dense.text order layout
+  pub read : dense.reads bytes ≡ Ok (layout, length bytes)
+
+-- A sparse one is read where it lies, with its bytes in the order of the image.
+pub record IsSparseImage (p : Plan) (direction : Direction) (es : List Expression) (order : Order) (bytes : List ℕ)
+    : Type 0 where
+  pub stored : Stored
+  pub table : IsSparse p direction es stored
+  pub written : bytes ≡ sparse.text order stored.layout
+  pub read : sparse.reads bytes ≡ Ok (record stored { order = order }, length bytes)
+
+abbrev pub IsImageOf : Form → Plan → Direction → List Expression → Order → List ℕ → Type 0
+IsImageOf Form.Dense p direction es order bytes = IsDenseImage p direction es order bytes
+IsImageOf Form.Sparse p direction es order bytes = IsSparseImage p direction es order bytes
+
+-- an image of a table of the plan's form
+abbrev pub IsImage : Plan → Direction → List Expression → Order → List ℕ → Type 0
+IsImage p direction es order bytes = IsImageOf p.form p direction es order bytes

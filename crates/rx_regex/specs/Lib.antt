@@ -1,8 +1,7 @@
--- what is built so far
-pub mod Plan
 -- the settings that a plan asks for, and the tables that are built by them
 pub mod Settings
 pub mod Pairs
+pub mod Forms
 pub mod Tables
 -- one table, and images of it
 pub mod Images

@@ -2,18 +2,15 @@
 use Rattle.std.specs.Prelude.{◌≡◌, ◌≢◌, ◌≤◌, false, Option, Err, List, length, All}
 use Rattle.rx_spec.specs.Bytes.{AreBytes}
 use Rattle.rx_spec.specs.Expressions.{Expression, IsLoopSafe}
-use Rattle.rx_spec.specs.Joining.{join}
 use Rattle.rx_spec.specs.Plans.{Plan, outcome}
 use Rattle.rx_spec.specs.Queries.{Query, HalfMatch, MatchError}
 use Rattle.rx_spec.specs.declared.Direction.{Direction}
 use Rattle.rx_spec.specs.declared.Form.{Form}
 use Rattle.rx_spec.specs.declared.MatchKind.{MatchKind}
-use Rattle.rx_dense.specs.Layouts.{Layout, table_of}
 use Rattle.rx_build.specs.Builders.{Both}
 use Rattle.rx_build.specs.Settings as dense
 use Rattle.rx_expr.specs.Settings as thompson
-use Rattle.rx_regex_builder.specs.Pairs.{AreBuilt}
-use Rattle.rx_regex.specs.Pairs.{whole}
+use Rattle.rx_regex.specs.Pairs.{AreBuilt, Pair, joined, whole}
 
 -- The expressions are read forward, the preferred match is told, and it may begin and end anywhere.
 pub record IsPlanned (both : Both) : Type 0 where
@@ -21,7 +18,7 @@ pub record IsPlanned (both : Both) : Type 0 where
   pub forward : (thompson.settled both.thompson).direction ≡ Direction.Forward
   pub anywhere : (thompson.settled both.thompson).is_utf8 ≡ false
 
--- the plan that asks for these settings
+-- the plan that asks for these settings; what its search answers isn't a matter of the form
 abbrev pub planned : Both → Plan
 planned both =
     let tables = dense.settled both.dense in
@@ -43,15 +40,14 @@ planned both =
     }
 
 -- They answer what the expressions say: the leftmost match, there the lowest pattern, and its preferred end; or what
--- refuses or ends the forward search.
+-- refuses or ends the forward search. So dense tables and sparse ones answer the same.
 abbrev pub PairsFind : Type 0
-PairsFind = (both : Both) (es : List Expression) (f r : Layout) → IsPlanned both → All IsLoopSafe es
-    → AreBuilt both es f r → (q : Query) → AreBytes q.haystack → q.end ≤ length q.haystack
-    → join (table_of f) (table_of r) (whole q) ≡ outcome (planned both) es q
+PairsFind = (both : Both) (es : List Expression) (pair : Pair) → IsPlanned both → All IsLoopSafe es
+    → AreBuilt both es pair → (q : Query) → AreBytes q.haystack → q.end ≤ length q.haystack
+    → joined pair (whole q) ≡ outcome (planned both) es q
 
 -- And they never disagree, whether or not the first match met will do.
 abbrev pub PairsAgree : Type 0
-PairsAgree = (both : Both) (es : List Expression) (f r : Layout) → IsPlanned both → All IsLoopSafe es
-    → AreBuilt both es f r → (q : Query) → AreBytes q.haystack → q.end ≤ length q.haystack
-    → (end : HalfMatch) (start : Option HalfMatch)
-    → join (table_of f) (table_of r) q ≢ Err (MatchError.PairMismatch end start)
+PairsAgree = (both : Both) (es : List Expression) (pair : Pair) → IsPlanned both → All IsLoopSafe es
+    → AreBuilt both es pair → (q : Query) → AreBytes q.haystack → q.end ≤ length q.haystack
+    → (end : HalfMatch) (start : Option HalfMatch) → joined pair q ≢ Err (MatchError.PairMismatch end start)

@@ -2,9 +2,10 @@
 use Rattle.std.specs.Prelude.{List}
 use Rattle.rx_spec.specs.Expressions.{Expression}
 use Rattle.rx_spec.specs.Plans.{Plan}
+use Rattle.rx_regex.specs.Forms.{pair_of}
 use Rattle.rx_regex.specs.Pairs.{AreTables}
 use Rattle.rx_regex.specs.declared.tables.Built.{Built}
 
 -- they are those of a plan and of these expressions
 abbrev pub IsOf : Plan → List Expression → Built → Type 0
-IsOf p es built = AreTables p es built.pair.forward built.pair.reverse
+IsOf p es built = AreTables p es (pair_of built.tables)

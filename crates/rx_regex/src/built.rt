@@ -11,33 +11,37 @@ ghost use Rattle.rx_build_error.specs.Refusals.{IsRefused};
 ghost use Rattle.rx_pair.specs.Matches.{items};
 ghost use Rattle.rx_plan.specs.Plan.{plan_of};
 ghost use Rattle.rx_regex.specs.Find.{IsPaired, PlanFits, PlanRefused};
-ghost use Rattle.rx_regex.specs.Plan.{IsBuilt};
 ghost use Rattle.rx_regex.specs.Rows.{HaveRows};
 ghost use Rattle.rx_regex.specs.Pairs.{whole};
 ghost use Rattle.rx_regex.specs.Tables.{IsOf};
 
-use crate::planned::plan_table;
-use crate::tables::Built;
-use rx_base::{Direction, Input, Match, MatchError};
+use crate::built_matches::{BuiltMatches, FormMatches};
+use crate::dense_tables::dense_pair;
+use crate::sparse_tables::sparse_pair;
+use crate::tables::{Built, Tables};
+use rx_base::{Input, Match, MatchError};
 use rx_build::BuildError;
-use rx_dense::OwnedDFA;
 use rx_expr::Expr;
-use rx_pair::{FindMatches, Regex};
-use rx_plan::Plan;
+use rx_plan::{Form, Plan};
 use std::alloc::Global;
 
 impl Built {
-    /// The tables of a plan; the forward one is built, and may be refused, first.
+    /// The tables of a plan, in its form; the forward one is built, and may be refused, first.
     pub fn new(alloc: Global, exprs: &[Expr], plan: &Plan) -> Result<Built, BuildError>
-        requires { IsBuilt plan.now }
         ensures ok { IfOk result (IsOf (plan_of plan.now) exprs.now) }
         ensures fits { OnOk result (PlanFits (plan_of plan.now) exprs.now) }
         ensures err { IfErr result (λ error. IsRefused (PlanRefused (plan_of plan.now) exprs.now) error.kind) }
     {
-        let forward = plan_table(alloc, exprs, plan, Direction::Forward)?;
-        let reverse = plan_table(alloc, exprs, plan, Direction::Reverse)?;
-        let pair = Regex::new(forward, reverse);
-        Ok(Built { pair })
+        match plan.form {
+            Form::Dense => {
+                let tables = Tables::Dense(dense_pair(alloc, exprs, plan)?);
+                Ok(Built { tables })
+            }
+            Form::Sparse => {
+                let tables = Tables::Sparse(sparse_pair(alloc, exprs, plan)?);
+                Ok(Built { tables })
+            }
+        }
     }
 
     /// The leftmost match of an input, whatever it says of the first match met: that of the plan and the
@@ -50,29 +54,44 @@ impl Built {
         ensures within { IfOk result (λ found. IfSome found (LiesIn (query_of input.now))) }
         ensures paired { IfErr result IsPaired }
     {
-        self.pair.try_search(&whole_search(input))
+        let input = whole_search(input);
+        match &self.tables {
+            Tables::Dense(pair) => pair.try_search(&input),
+            Tables::Sparse(pair) => pair.try_search(&input),
+        }
     }
 
     /// The matches of an input one after another: each begins where the last one ended or later, and an empty match
     /// isn't told where the last one ended. After an error nothing more is told.
-    pub fn find_iter<'r, 'h>(&'r self, input: &Input<'h>) -> FindMatches<'r, 'h, OwnedDFA>
+    pub fn find_iter<'r, 'h>(&'r self, input: &Input<'h>) -> BuiltMatches<'r, 'h>
         requires { IsFit (query_of input.now) }
         ensures value { (p : SearchPlan) (es : List Expression) → IsOf p es self.now
             → result ≡ items (iterate (outcome p es) (query_of input.now)) }
         // Each match lies in the span.
         ensures within { All (λ item. IfOk item (LiesIn (query_of input.now))) result }
     {
-        self.pair.find_iter(&whole_search(input))
+        let input = whole_search(input);
+        match &self.tables {
+            Tables::Dense(pair) => {
+                let matches = FormMatches::Dense(pair.find_iter(&input));
+                BuiltMatches { matches }
+            }
+            Tables::Sparse(pair) => {
+                let matches = FormMatches::Sparse(pair.find_iter(&input));
+                BuiltMatches { matches }
+            }
+        }
     }
 
     /// How many rows the forward and the reverse table have.
     pub fn rows(&self) -> (u64, u64)
         ensures { (p : SearchPlan) (es : List Expression) → IsOf p es self.now → HaveRows p es result.0 result.1 }
     {
-        (
-            self.pair.forward().state_len() as u64,
-            self.pair.reverse().state_len() as u64,
-        )
+        let (forward, reverse) = match &self.tables {
+            Tables::Dense(pair) => (pair.forward().state_len(), pair.reverse().state_len()),
+            Tables::Sparse(pair) => (pair.forward().state_len(), pair.reverse().state_len()),
+        };
+        (forward as u64, reverse as u64)
     }
 }
 

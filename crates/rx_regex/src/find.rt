@@ -4,7 +4,6 @@ ghost use Rattle.std.specs.Prelude.{◌≡◌, IfOk, IfSome};
 ghost use Rattle.rx_spec.specs.Queries.{IsFit, LiesIn};
 ghost use Rattle.rx_base.specs.Input.{query_of};
 ghost use Rattle.rx_plan.specs.Plan.{plan_of};
-ghost use Rattle.rx_regex.specs.Plan.{IsBuilt};
 ghost use Rattle.rx_regex.specs.Find.{Answers, IsPaired, Tells, IsFault};
 
 use crate::error::FindFault;
@@ -31,16 +30,15 @@ pub struct Answer {
 ///
 /// The plan decides how the two tables are built, the line terminator, the quit bytes and the modes
 /// that have starts. Where it minimizes, the numbers of rows are the least of any tables that tell the
-/// same. Plans with sparse tables are not built yet. Whether the input asks for the earliest end makes no
-/// difference.
+/// same. Whether its tables are dense or sparse, or go through bytes, and whether the input asks for the
+/// earliest end, makes no difference to what is found.
 pub fn compile_and_find(
     alloc: Global,
     exprs: &[Expr],
     plan: &Plan,
     input: &Input<'_>,
 ) -> Result<Answer, FindFault>
-    requires built { IsBuilt plan.now }
-    requires fits { IsFit (query_of input.now) }
+    requires { IsFit (query_of input.now) }
     ensures answers { Answers (plan_of plan.now) exprs.now (query_of input.now) result }
     // A match lies in the span that was searched, so the haystack can be sliced by it.
     ensures within { IfOk result (λ answer. IfSome answer.found (LiesIn (query_of input.now))) }

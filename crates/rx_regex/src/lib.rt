@@ -9,13 +9,17 @@
 #![tactic(auto)]
 
 mod built;
+mod built_matches;
+mod dense_tables;
 mod error;
 mod find;
 mod image;
 pub mod laws;
 mod planned;
+mod sparse_tables;
 mod tables;
 
+pub use built_matches::BuiltMatches;
 pub use error::FindFault;
 pub use find::{Answer, compile_and_find};
 pub use image::build_image;

@@ -1,16 +1,25 @@
 //! The two tables of a plan.
 
 ghost use Rattle.rx_regex.specs.Pairs.{IsPair};
+ghost use Rattle.rx_regex.specs.Forms.{pair_of};
 
 use rx_dense::OwnedDFA;
 use rx_pair::Regex;
+use rx_sparse::DFA as SparseDFA;
+
+/// The pair of tables, in the form that a plan asks for.
+#[derive(Drop)]
+pub(crate) enum Tables {
+    Dense(Regex<OwnedDFA>),
+    Sparse(Regex<SparseDFA<Vec<u8>>>),
+}
 
 /// The two tables of a plan: forward for the end of a match, and in reverse for its start. They are searched as often
 /// as is asked for.
 #[derive(Drop)]
 pub struct Built {
-    pub(crate) pair: Regex<OwnedDFA>,
+    pub(crate) tables: Tables,
 
     // They are the tables of one plan and one list of expressions.
-    ghost tables: { ∥ IsPair pair.forward pair.reverse ∥₁ },
+    ghost planned: { ∥ IsPair (pair_of tables) ∥₁ },
 }

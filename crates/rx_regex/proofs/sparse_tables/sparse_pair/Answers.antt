@@ -1,20 +1,8 @@
 use Rattle.std.proofs.lemmas.Result.{err_from_is_err_and}
 use Rattle.rx_plan.specs.Plan.{plan_of}
 use Rattle.rx_regex.proofs.Refusals.{forward_refused, reverse_refused}
-use Rattle.rx_regex.proofs.Served.{are_tables}
-use Rattle.rx_regex.proofs.tables.Built.new.Goals as goal
-
-pub invariant_of-result : goal.invariant_of-result
-invariant_of-result c = record {
-  tables =
-      ∣ record {
-        plan = plan_of c.args.plan.now;
-        exprs = c.args.exprs.now;
-        tables =
-            are_tables c.new-pair.ensures.forward c.new-pair.ensures.reverse c.in_ok-forward.ensures.safe
-            c.in_ok-forward.ensures.ok c.in_ok-reverse.ensures.ok;
-      } ∣₁;
-}
+use Rattle.rx_regex.proofs.Served.{sparse_tables}
+use Rattle.rx_regex.proofs.sparse_tables.sparse_pair.Goals as goal
 
 pub returns-in_err-forward-clause-err : goal.returns-in_err-forward-clause-err
 returns-in_err-forward-clause-err c =
@@ -32,7 +20,7 @@ returns-in_err-reverse-clause-err c =
 
 pub returns-clause-ok : goal.returns-clause-ok
 returns-clause-ok c =
-    are_tables c.new-pair.ensures.forward c.new-pair.ensures.reverse c.in_ok-forward.ensures.safe
+    sparse_tables c.requires c.new.ensures.forward c.new.ensures.reverse c.in_ok-forward.ensures.safe
     c.in_ok-forward.ensures.ok c.in_ok-reverse.ensures.ok
 
 pub returns-clause-fits : goal.returns-clause-fits

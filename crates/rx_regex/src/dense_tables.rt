@@ -1,0 +1,75 @@
+//! Dense tables of a plan: built by the settings that it asks for, and taken through bytes where it says so.
+
+ghost use Rattle.std.specs.Prelude.{◌≡◌, ◌<◌, ◌^◌, All, IfOk, IfErr, OnOk};
+ghost use Rattle.rx_spec.specs.Expressions.{IsLoopSafe};
+ghost use Rattle.rx_spec.specs.Plans.{DirectionFits, DirectionRefused};
+ghost use Rattle.rx_spec.specs.declared.Form.{Form};
+ghost use Rattle.rx_build_error.specs.Refusals.{IsRefused};
+ghost use Rattle.rx_dense_image.specs.Images.{IsWhole};
+ghost use Rattle.rx_plan.specs.Plan.{plan_of};
+ghost use Rattle.rx_regex.specs.Find.{PlanFits, PlanRefused};
+ghost use Rattle.rx_regex.specs.Images.{IsDense};
+ghost use Rattle.rx_regex.specs.Pairs.{AreTables, Pair};
+
+use crate::planned::pair_builder;
+use rx_base::Direction;
+use rx_build::BuildError;
+use rx_dense::OwnedDFA;
+use rx_dense_image::{DenseRead, DenseWrite};
+use rx_expr::Expr;
+use rx_pair::Regex;
+use rx_plan::{Passage, Plan};
+use std::alloc::{AllocError, Global};
+
+/// Both tables. The forward one is built, and may be refused, first.
+pub(crate) fn dense_pair(
+    alloc: Global,
+    exprs: &[Expr],
+    plan: &Plan,
+) -> Result<Regex<OwnedDFA>, BuildError>
+    requires { plan.now.form ≡ Form.Dense }
+    ensures ok { IfOk result (λ pair.
+        AreTables (plan_of plan.now) exprs.now (Pair.Dense pair.forward pair.reverse)) }
+    ensures fits { OnOk result (PlanFits (plan_of plan.now) exprs.now) }
+    ensures err { IfErr result (λ error. IsRefused (PlanRefused (plan_of plan.now) exprs.now) error.kind) }
+{
+    let forward = dense_table(alloc, exprs, plan, Direction::Forward)?;
+    let reverse = dense_table(alloc, exprs, plan, Direction::Reverse)?;
+    Ok(Regex::new(forward, reverse))
+}
+
+/// The table that is searched in a direction.
+pub(crate) fn dense_table(
+    alloc: Global,
+    exprs: &[Expr],
+    plan: &Plan,
+    direction: Direction,
+) -> Result<OwnedDFA, BuildError>
+    requires { plan.now.form ≡ Form.Dense }
+    ensures ok { IfOk result (IsDense (plan_of plan.now) direction exprs.now) }
+    ensures fits { OnOk result (DirectionFits (plan_of plan.now) direction exprs.now) }
+    ensures err { IfErr result (λ error.
+        IsRefused (DirectionRefused (plan_of plan.now) direction exprs.now) error.kind) }
+    // Each repetition in an expression is bounded, and a set of bytes is a number of 256 bits.
+    ensures safe { All IsLoopSafe exprs.now }
+    ensures bytes { plan.now.quit < 2 ^ 256 }
+{
+    prove!(plan.quit.halves().1 >> 127 <= 1);
+    let table = pair_builder(plan).build_one(alloc, exprs, direction)?;
+    match plan.passage {
+        Passage::Direct => Ok(table),
+        Passage::Bytes => Ok(read_back(alloc, &table)?),
+    }
+}
+
+/// A table that was written as bytes and is read back. Only want of memory may come between.
+fn read_back(alloc: Global, table: &OwnedDFA) -> Result<OwnedDFA, AllocError>
+    requires { IsWhole table.now }
+    ensures { IfOk result (λ back. back ≡ table.now) }
+{
+    let (image, _) = table.to_bytes_little_endian(alloc)?;
+    match OwnedDFA::from_bytes(alloc, &image) {
+        Ok((back, _)) => Ok(back),
+        Err(_) => Err(AllocError),
+    }
+}

@@ -1,0 +1,79 @@
+//! Sparse tables of a plan: built by the settings that it asks for, and taken through bytes where it says so.
+
+ghost use Rattle.std.specs.Prelude.{◌≡◌, ◌<◌, ◌^◌, All, IfOk, IfErr, OnOk};
+ghost use Rattle.rx_spec.specs.Expressions.{IsLoopSafe};
+ghost use Rattle.rx_spec.specs.Plans.{DirectionFits, DirectionRefused};
+ghost use Rattle.rx_spec.specs.declared.Form.{Form};
+ghost use Rattle.rx_build_error.specs.Refusals.{IsRefused};
+ghost use Rattle.rx_plan.specs.Plan.{plan_of};
+ghost use Rattle.rx_sparse.specs.Facts.{IsSoundLayout};
+ghost use Rattle.rx_sparse_image.specs.Tested.{IsWhole};
+ghost use Rattle.rx_wire.specs.declared.order.Order.{Order};
+ghost use Rattle.rx_regex.specs.Find.{PlanFits, PlanRefused};
+ghost use Rattle.rx_regex.specs.Images.{IsSparse};
+ghost use Rattle.rx_regex.specs.Pairs.{AreTables, Pair};
+
+use crate::planned::pair_builder;
+use rx_base::Direction;
+use rx_build::BuildError;
+use rx_expr::Expr;
+use rx_pair::Regex;
+use rx_plan::{Passage, Plan};
+use rx_sparse::DFA;
+use rx_sparse_image::{SparseRead, SparseWrite};
+use std::alloc::{AllocError, Global};
+
+/// Both tables. The forward one is built, and may be refused, first.
+pub(crate) fn sparse_pair(
+    alloc: Global,
+    exprs: &[Expr],
+    plan: &Plan,
+) -> Result<Regex<DFA<Vec<u8>>>, BuildError>
+    requires { plan.now.form ≡ Form.Sparse }
+    ensures ok { IfOk result (λ pair.
+        AreTables (plan_of plan.now) exprs.now (Pair.Sparse pair.forward pair.reverse)) }
+    ensures fits { OnOk result (PlanFits (plan_of plan.now) exprs.now) }
+    ensures err { IfErr result (λ error. IsRefused (PlanRefused (plan_of plan.now) exprs.now) error.kind) }
+{
+    let forward = sparse_table(alloc, exprs, plan, Direction::Forward)?;
+    let reverse = sparse_table(alloc, exprs, plan, Direction::Reverse)?;
+    Ok(Regex::new(forward, reverse))
+}
+
+/// The table that is searched in a direction.
+pub(crate) fn sparse_table(
+    alloc: Global,
+    exprs: &[Expr],
+    plan: &Plan,
+    direction: Direction,
+) -> Result<DFA<Vec<u8>>, BuildError>
+    requires { plan.now.form ≡ Form.Sparse }
+    ensures ok { IfOk result (IsSparse (plan_of plan.now) direction exprs.now) }
+    ensures sound { IfOk result (λ table. IsSoundLayout table.layout) }
+    ensures fits { OnOk result (DirectionFits (plan_of plan.now) direction exprs.now) }
+    ensures err { IfErr result (λ error.
+        IsRefused (DirectionRefused (plan_of plan.now) direction exprs.now) error.kind) }
+    // Each repetition in an expression is bounded, and a set of bytes is a number of 256 bits.
+    ensures safe { All IsLoopSafe exprs.now }
+    ensures bytes { plan.now.quit < 2 ^ 256 }
+{
+    prove!(plan.quit.halves().1 >> 127 <= 1);
+    let table = pair_builder(plan).build_one_sparse(alloc, exprs, direction)?;
+    match plan.passage {
+        Passage::Direct => Ok(table),
+        Passage::Bytes => Ok(read_back(alloc, &table)?),
+    }
+}
+
+/// A table that was written as bytes and is read back, with bytes of its own. Only want of memory may come between.
+fn read_back(alloc: Global, table: &DFA<Vec<u8>>) -> Result<DFA<Vec<u8>>, AllocError>
+    requires whole { IsWhole table.now.layout }
+    requires little { table.now.order ≡ Order.Little }
+    ensures { IfOk result (λ back. back ≡ table.now) }
+{
+    let image = table.to_bytes_little_endian(alloc)?;
+    match DFA::<&[u8]>::from_bytes(alloc, &image) {
+        Ok((lent, _)) => lent.to_owned(alloc),
+        Err(_) => Err(AllocError),
+    }
+}
