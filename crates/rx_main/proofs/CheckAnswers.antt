@@ -1,22 +1,22 @@
 -- From what reading an image answers to the reply of `check`.
 use Rattle.std.proofs.Common.{◌≡◌, ◌≢◌, ℕ, Result, Err, refl, ap, sym, ◌∙◌}
-use Rattle.rx_dense.specs.Layouts.{Layout}
 use Rattle.rx_wire.specs.Kinds.{FailsBy, Kind}
 use Rattle.rx_main.specs.Lines.{Reply}
-use Rattle.rx_main.specs.Check.{check_reply, failed_test_reply}
+use Rattle.rx_main.specs.Check.{failed_test_reply, reading_reply}
 
--- an error that isn't want of memory is the test that fails first
-fails_exactly : (kind : Kind) (read : Result (Layout × ℕ) Kind) → FailsBy kind read → kind ≢ Kind.Memory
-    → read ≡ Err kind
-fails_exactly Kind.Generic read fails other = fails
-fails_exactly Kind.BufferTooSmall read fails other = fails
-fails_exactly (Kind.VersionMismatch expected found) read fails other = fails
-fails_exactly (Kind.EndianMismatch expected found) read fails other = fails
-fails_exactly (Kind.LabelMismatch expected) read fails other = fails
-fails_exactly (Kind.PatternID attempted) read fails other = fails
-fails_exactly (Kind.StateID attempted) read fails other = fails
-fails_exactly Kind.Memory read fails other = absurd (other refl)
+module _ {T : Type 0} (read : Result (T × ℕ) Kind) where
+  -- an error that isn't want of memory is the test that fails first
+  fails_exactly : (kind : Kind) → FailsBy kind read → kind ≢ Kind.Memory → read ≡ Err kind
+  fails_exactly Kind.Generic fails other = fails
+  fails_exactly Kind.BufferTooSmall fails other = fails
+  fails_exactly (Kind.VersionMismatch expected found) fails other = fails
+  fails_exactly (Kind.EndianMismatch expected found) fails other = fails
+  fails_exactly (Kind.LabelMismatch expected) fails other = fails
+  fails_exactly (Kind.PatternID attempted) fails other = fails
+  fails_exactly (Kind.StateID attempted) fails other = fails
+  fails_exactly Kind.Memory fails other = absurd (other refl)
 
-pub failed_test_answers : (kind : Kind) (read : Result (Layout × ℕ) Kind) (reply : Reply) → FailsBy kind read
-    → kind ≢ Kind.Memory → reply ≡ failed_test_reply kind → reply ≡ check_reply read
-failed_test_answers kind read reply fails other e = e ∙ sym (ap check_reply (fails_exactly kind read fails other))
+  pub failed_test_answers : (rows patterns : T → ℕ) (kind : Kind) (reply : Reply) → FailsBy kind read
+      → kind ≢ Kind.Memory → reply ≡ failed_test_reply kind → reply ≡ reading_reply rows patterns read
+  failed_test_answers rows patterns kind reply fails other e =
+      e ∙ sym (ap (reading_reply rows patterns) (fails_exactly kind fails other))

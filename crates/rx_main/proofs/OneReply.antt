@@ -1,31 +1,29 @@
--- At most one reply fits a command line and the bytes that were taken, but that a refused build names any cause, and
--- that an image is any of a table of the plan.
-use Rattle.std.proofs.Common.{◌≡◌, ◌⊎◌, inl, inr, ℕ, ◌+◌, ◌≤◌, Bool, true, false, List, [], length}
-use Rattle.std.proofs.Common.{Option, Some, Result, Ok, Err, refl, sym, ap, ◌∙◌, arith, subst}
+-- At most one reply fits a command line and the bytes that were taken, but that a refused build names any cause, that
+-- sparse tables may be refused by a bound, and that an image is any of a table of the plan.
+use Rattle.std.proofs.Common.{◌≡◌, inl, inr, ℕ, ◌+◌, ◌≤◌, Bool, true, false, List, [], length}
+use Rattle.std.proofs.Common.{Option, Some, Result, Ok, Err, sym, ap, ◌∙◌, arith, subst}
 use Rattle.rx_spec.specs.Expressions.{Expression}
 use Rattle.rx_spec.specs.Plans.{Plan, Cause, DirectionFits, DirectionRefused}
 use Rattle.rx_spec.specs.Queries.{Query, Match, MatchError}
 use Rattle.rx_spec.specs.declared.Direction.{Direction}
-use Rattle.rx_spec.specs.declared.Form.{Form}
 use Rattle.rx_plan.specs.Plan.{plan_of, usual}
 use Rattle.rx_regex.specs.Find.{PlanFits, PlanRefused}
-use Rattle.rx_regex.specs.Plan.{IsBuilt}
 use Rattle.rx_script.specs.Faults.{Fault}
 use Rattle.rx_script.specs.Grammar.{Spelled}
 use Rattle.rx_script.specs.Reading.{script_of}
 use Rattle.rx_script.proofs.ScriptRead.{script_read}
 use Rattle.rx_wire.specs.declared.order.Order.{Order}
 use Rattle.rx_main.specs.Commands.{Says}
-use Rattle.rx_main.specs.Lines.{Reply, IsRefusal, fault_reply, unbuilt_reply, error_reply}
-use Rattle.rx_main.specs.Scripts.{AskedReplies, BuildReplies, IsScript, IsTurnedDown, PlanReplies, ScriptReplies}
+use Rattle.rx_main.specs.Lines.{Reply, IsRefusal, fault_reply, error_reply}
+use Rattle.rx_main.specs.Scripts.{AskedReplies, BuildReplies, IsScript, PlanReplies, ScriptReplies}
 use Rattle.rx_main.specs.Find.{FindAnswers, found_reply, rows_text}
 use Rattle.rx_main.specs.Each.{EachAnswers}
 use Rattle.rx_main.specs.Image.{ImageAnswers, IsImageReply}
-use Rattle.rx_main.specs.Replies.{CommandReplies, ReadReplies, Replies, SayTheSame, most_bytes}
+use Rattle.rx_main.specs.Replies.{CommandReplies, IsBounded, ReadReplies, Replies, SayTheSame, most_bytes}
 use Rattle.rx_main.specs.declared.command.Command.{Command}
 use Rattle.rx_main.specs.declared.command.ReadCommand.{ReadCommand}
 use Rattle.rx_main.proofs.CommandWords.{spelled_once}
-use Rattle.rx_main.proofs.Refusals.{direction_refused_not, plan_refused_not}
+use Rattle.rx_main.proofs.Refusals.{direction_bounded, plan_bounded}
 use Rattle.rx_main.proofs.RowCounts.{rows_once}
 
 -- any two answers are one, or say the same
@@ -44,61 +42,50 @@ any_cause : (Refused : Cause → Type 0) (reply : Reply) → IsRefusal Refused r
     → IsRefusal (λ (cause : Cause). Unit {0}) reply
 any_cause Refused reply h = record { cause = h.cause; refused = tt; told = h.told }
 
-module _ (Refused : Cause → Type 0) (Fits : Type 0) (apart : (reply : Reply) → IsRefusal Refused reply → Fits → ⊥) where
+-- a refusal of what isn't refused is one by a bound
+module _ (Refused : Cause → Type 0) (Fits : Type 0) (p : Plan) (es : List Expression)
+    (bounded : (reply : Reply) → IsRefusal Refused reply → Fits → IsBounded p es reply) where
   built_alike : (Answers : Reply → Type 0) → AreAlike Answers → AreAlike (BuildReplies Refused Fits Answers)
   built_alike Answers alike reply other (BuildReplies.Refused h) (BuildReplies.Refused k) =
       SayTheSame.Refusals (any_cause Refused reply h) (any_cause Refused other k)
   built_alike Answers alike reply other (BuildReplies.Refused h) (BuildReplies.Answered fits k) =
-      absurd (apart reply h fits)
+      SayTheSame.Bounded p es (inl (bounded reply h fits))
   built_alike Answers alike reply other (BuildReplies.Answered fits h) (BuildReplies.Refused k) =
-      absurd (apart other k fits)
+      SayTheSame.Bounded p es (inr (bounded other k fits))
   built_alike Answers alike reply other (BuildReplies.Answered fits h) (BuildReplies.Answered also k) =
       alike reply other h k
 
-plan_alike : (p : Plan) (es : List Expression) (Answers : Reply → Type 0) → p.form ≡ Form.Dense → IsOne Answers
+plan_alike : (p : Plan) (es : List Expression) (Answers : Reply → Type 0) → IsOne Answers
     → AreAlike (PlanReplies p es Answers)
-plan_alike p es Answers dense one =
-    built_alike (PlanRefused p es) (PlanFits p es) (plan_refused_not dense) Answers (alike_if_one Answers one)
+plan_alike p es Answers one =
+    built_alike (PlanRefused p es) (PlanFits p es) p es (plan_bounded p es) Answers (alike_if_one Answers one)
 
 -- ---- scripts
 
 -- the reply to what was read
 abbrev Told : (Spelled → Reply → Type 0) → Result Spelled Fault → Reply → Type 0
 Told Answers (Err fault) reply = reply ≡ fault_reply fault.line fault.kind
-Told Answers (Ok script) reply =
-    ((IsBuilt script.plan → ⊥) × (reply ≡ unbuilt_reply)) ⊎ (IsBuilt script.plan × Answers script reply)
+Told Answers (Ok script) reply = Answers script reply
 
 module _ (with_input : Bool) (Answers : Spelled → Reply → Type 0) (text : List ℕ) where
-  script_told : (reply : Reply) (P : Spelled → Type 0)
-      → ((script : Spelled) → P script → Told Answers (Ok script) reply) → IsScript with_input text P
+  script_told : (reply : Reply) → IsScript with_input text (λ script. Answers script reply)
       → Told Answers (script_of with_input text) reply
-  script_told reply P each is =
+  script_told reply is =
       subst (λ (read : Result Spelled Fault). Told Answers read reply)
-      (sym (script_read with_input text is.script is.spelled)) (each is.script is.holds)
+      (sym (script_read with_input text is.script is.spelled)) is.holds
 
   told : (reply : Reply) → ScriptReplies with_input Answers text reply
       → Told Answers (script_of with_input text) reply
-  told reply (ScriptReplies.TurnedDown (IsTurnedDown.Bad line kind read e)) =
-      subst (λ (read : Result Spelled Fault). Told Answers read reply) (sym read) e
-  told reply (ScriptReplies.TurnedDown (IsTurnedDown.Unbuilt is e)) =
-      script_told reply _ (λ script holds. inl (holds, e)) is
-  told reply (ScriptReplies.Answered is) = script_told reply _ (λ script holds. inr holds) is
+  told reply (ScriptReplies.TurnedDown is) =
+      subst (λ (read : Result Spelled Fault). Told Answers read reply) (sym is.fault) is.told
+  told reply (ScriptReplies.Answered is) = script_told reply is
 
-  answered_alike : (script : Spelled) (reply other : Reply) → (IsBuilt script.plan → AreAlike (Answers script))
-      → Told Answers (Ok script) reply → Told Answers (Ok script) other → SayTheSame reply other
-  answered_alike script reply other alike (inl h) (inl k) = SayTheSame.Same (h.1 ∙ sym k.1)
-  answered_alike script reply other alike (inl h) (inr k) = absurd (h.0 k.0)
-  answered_alike script reply other alike (inr h) (inl k) = absurd (k.0 h.0)
-  answered_alike script reply other alike (inr h) (inr k) = alike h.0 reply other h.1 k.1
-
-  told_alike : (read : Result Spelled Fault) (reply other : Reply)
-      → ((script : Spelled) → IsBuilt script.plan → AreAlike (Answers script))
+  told_alike : (read : Result Spelled Fault) (reply other : Reply) → ((script : Spelled) → AreAlike (Answers script))
       → Told Answers read reply → Told Answers read other → SayTheSame reply other
   told_alike (Err fault) reply other alike h k = SayTheSame.Same (h ∙ sym k)
-  told_alike (Ok script) reply other alike h k = answered_alike script reply other (alike script) h k
+  told_alike (Ok script) reply other alike h k = alike script reply other h k
 
-  script_alike : ((script : Spelled) → IsBuilt script.plan → AreAlike (Answers script))
-      → AreAlike (ScriptReplies with_input Answers text)
+  script_alike : ((script : Spelled) → AreAlike (Answers script)) → AreAlike (ScriptReplies with_input Answers text)
   script_alike alike reply other h k =
       told_alike (script_of with_input text) reply other alike (told reply h) (told other k)
 
@@ -108,10 +95,9 @@ same_query : (asked : Option Query) (q other : Query) → asked ≡ Some q → a
 same_query asked q other e f = cc
 
 asked_alike : (Answers : Spelled → Query → Reply → Type 0) → ((script : Spelled) (q : Query) → IsOne (Answers script q))
-    → (script : Spelled) → IsBuilt script.plan → AreAlike (AskedReplies Answers script)
-asked_alike Answers one script built reply other h k =
-    plan_alike (plan_of script.plan) script.exprs (Answers script h.query) built.form (one script h.query) reply other
-    h.replies
+    → (script : Spelled) → AreAlike (AskedReplies Answers script)
+asked_alike Answers one script reply other h k =
+    plan_alike (plan_of script.plan) script.exprs (Answers script h.query) (one script h.query) reply other h.replies
     (subst (λ (q : Query). PlanReplies (plan_of script.plan) script.exprs (Answers script q) other)
     (same_query script.asked h.query k.query h.asked k.asked) k.replies)
 
@@ -150,12 +136,12 @@ each_once script q reply other h k = h ∙ sym k
 
 -- ---- images
 
-image_alike : (direction : Direction) (order : Order) (script : Spelled) → IsBuilt script.plan
+image_alike : (direction : Direction) (order : Order) (script : Spelled)
     → AreAlike (ImageAnswers direction order script)
-image_alike direction order script built =
+image_alike direction order script =
     let p = plan_of script.plan in
-    built_alike (DirectionRefused p direction script.exprs) (DirectionFits p direction script.exprs)
-    (direction_refused_not built.form direction) (IsImageReply p direction script.exprs order)
+    built_alike (DirectionRefused p direction script.exprs) (DirectionFits p direction script.exprs) p script.exprs
+    (direction_bounded p script.exprs direction) (IsImageReply p direction script.exprs order)
     (λ reply other h k. SayTheSame.Images p direction script.exprs order h k)
 
 -- ---- commands
@@ -167,13 +153,13 @@ read_alike ReadCommand.Each bytes =
     script_alike true (AskedReplies EachAnswers) bytes (asked_alike EachAnswers each_once)
 read_alike (ReadCommand.Image direction order) bytes =
     script_alike false (ImageAnswers direction order) bytes (image_alike direction order)
-read_alike ReadCommand.Check bytes = λ reply other h k. SayTheSame.Same (h ∙ sym k)
+read_alike (ReadCommand.Check form) bytes = λ reply other h k. SayTheSame.Same (h ∙ sym k)
 
 command_alike : (command : Command) (bytes : List ℕ) (ended also : Bool) (reply other : Reply)
     → CommandReplies command bytes ended reply → CommandReplies command bytes also other → SayTheSame reply other
 command_alike (Command.Read command) bytes ended also reply other h k = read_alike command bytes reply other h.1 k.1
 command_alike (Command.Gen count) bytes ended also reply other h k =
-    plan_alike (plan_of usual) _ _ refl (λ r s e f. e ∙ sym f) reply other h.1 k.1
+    plan_alike (plan_of usual) _ _ (λ r s e f. e ∙ sym f) reply other h.1 k.1
 
 -- a command that reads and is answered read no more than the most
 long_not : (command : ReadCommand) (other : Command) (words : List (List ℕ)) (bytes : List ℕ) (ended : Bool)

@@ -1,5 +1,5 @@
--- A refusal tells its cause, and no plan is both refused and built.
-use Rattle.std.proofs.Common.{◌≡◌, ⊎_elim, ℕ, ◌≤◌, List, Option, subst, arith}
+-- A refusal tells its cause, and no plan is both refused and built, but by a bound of the rows of sparse tables.
+use Rattle.std.proofs.Common.{◌≡◌, ◌∙◌, ⊎_elim, ℕ, ◌≤◌, Bool, true, false, List, Option, refl, ap, subst, arith}
 use Rattle.rx_spec.specs.Expressions.{Expression}
 use Rattle.rx_spec.specs.Nfas.{Nfa}
 use Rattle.rx_spec.specs.Builds.{Build}
@@ -8,12 +8,12 @@ use Rattle.rx_spec.specs.Causes.{NfaCause, BuildCause, NfaFits, NfaRefused, IsWi
 use Rattle.rx_spec.specs.Causes.{HasTooManyStates, HasTooLongRows}
 use Rattle.rx_spec.specs.Plans.{Plan, Cause, DirectionFits, DirectionRefused, plan_limits, plan_build}
 use Rattle.rx_spec.specs.declared.Direction.{Direction}
-use Rattle.rx_spec.specs.declared.Form.{Form}
 use Rattle.rx_regex.specs.Find.{PlanFits, PlanRefused}
 use Rattle.rx_build_error.specs.Refusals.{IsRefused}
 use Rattle.rx_build_error.specs.declared.BuildErrorKind.{BuildErrorKind}
 use Rattle.rx_expr.specs.declared.thompson.build_error.BuildError as nfa
-use Rattle.rx_main.specs.Lines.{Reply, IsRefusal, TellsKind}
+use Rattle.rx_main.specs.Lines.{Reply, IsRefusal, TellsKind, refusal_reply}
+use Rattle.rx_main.specs.Replies.{IsBounded}
 
 pub kind_told : (Refused : Cause → Type 0) (kind : BuildErrorKind) (reply : Reply) → TellsKind kind reply
     → IsRefused Refused kind → IsRefusal Refused reply
@@ -49,34 +49,53 @@ nfa_fits_not limit count nfa (NfaCause.ExceededSizeLimit bytes) h fits =
 supported_not : (b : Build) → IsUnsupported b → IsSupported b → ⊥
 supported_not b h supported = h.lacks (supported h.looks)
 
-sparse_not : (form : Form) → form ≡ Form.Dense → form ≡ Form.Sparse → ⊥
-sparse_not form d s = cc
+not_false : (flag : Bool) → (flag ≡ false → ⊥) → flag ≡ true
+not_false true other = refl
+not_false false other = absurd (other refl)
 
-module _ {p : Plan} {es : List Expression} (dense : p.form ≡ Form.Dense) where
-  direction_not : (direction : Direction) (cause : Cause)
-      → DirectionRefused p direction es cause → DirectionFits p direction es → ⊥
-  direction_not direction (Cause.NFA cause) h fits = nfa_fits_not _ _ _ cause h fits.nfa
-  direction_not direction (Cause.DFA BuildCause.Unsupported) h fits = supported_not _ h.1 fits.build.supported
-  direction_not direction (Cause.DFA BuildCause.TooManyStates) h fits =
+module _ (p : Plan) (es : List Expression) where
+  -- a build that fits is refused by no cause but a bound of the rows of its sparse table
+  abbrev IsByBound : Direction → Cause → Type 0
+  IsByBound direction cause =
+      (cause ≡ Cause.DFA BuildCause.TooManyStates) × (p.minimize ≡ true)
+      × HasTooLongRows (plan_limits p) (plan_build p direction es)
+
+  by_bound : (direction : Direction) (cause : Cause)
+      → DirectionRefused p direction es cause → DirectionFits p direction es → IsByBound direction cause
+  by_bound direction (Cause.NFA cause) h fits = absurd (nfa_fits_not _ _ _ cause h fits.nfa)
+  by_bound direction (Cause.DFA BuildCause.Unsupported) h fits =
+      absurd (supported_not _ h.1 fits.build.supported)
+  by_bound direction (Cause.DFA BuildCause.TooManyStates) h fits =
       ⊎_elim
-      (λ (many : HasTooManyStates (plan_limits p) (plan_build p direction es)). fits.build.states many)
-      (λ (long : HasTooLongRows (plan_limits p) (plan_build p direction es)). sparse_not p.form dense long.0)
+      (λ (many : HasTooManyStates (plan_limits p) (plan_build p direction es)). absurd (fits.build.states many))
+      (λ (long : HasTooLongRows (plan_limits p) (plan_build p direction es)).
+      (refl, not_false p.minimize (λ e. fits.build.rows e long), long))
       h.1.1
-  direction_not direction (Cause.DFA BuildCause.TooManyMatchPatternIDs) h fits = fits.build.patterns h.1.1
-  direction_not direction (Cause.DFA (BuildCause.DFAExceededSizeLimit limit)) h fits =
-      fits.build.table limit h.1.1 h.1.2
-  direction_not direction (Cause.DFA (BuildCause.DeterminizeExceededSizeLimit limit)) h fits =
-      fits.build.construction limit h.1.1 h.1.2
+  by_bound direction (Cause.DFA BuildCause.TooManyMatchPatternIDs) h fits = absurd (fits.build.patterns h.1.1)
+  by_bound direction (Cause.DFA (BuildCause.DFAExceededSizeLimit limit)) h fits =
+      absurd (fits.build.table limit h.1.1 h.1.2)
+  by_bound direction (Cause.DFA (BuildCause.DeterminizeExceededSizeLimit limit)) h fits =
+      absurd (fits.build.construction limit h.1.1 h.1.2)
 
-  pub direction_refused_not : (direction : Direction) (reply : Reply)
-      → IsRefusal (DirectionRefused p direction es) reply → DirectionFits p direction es → ⊥
-  direction_refused_not direction reply told fits = direction_not direction told.cause told.refused fits
+  bounded : (direction : Direction) (cause : Cause) (reply : Reply) → reply ≡ refusal_reply cause
+      → IsByBound direction cause → IsBounded p es reply
+  bounded direction cause reply told by = record {
+    direction = direction;
+    minimize = by.1;
+    long = by.2;
+    told = told ∙ ap refusal_reply by.0;
+  }
 
-  pub plan_refused_not : (reply : Reply) → IsRefusal (PlanRefused p es) reply → PlanFits p es → ⊥
-  plan_refused_not reply told fits =
+  pub direction_bounded : (direction : Direction) (reply : Reply)
+      → IsRefusal (DirectionRefused p direction es) reply → DirectionFits p direction es → IsBounded p es reply
+  direction_bounded direction reply is fits =
+      bounded direction is.cause reply is.told (by_bound direction is.cause is.refused fits)
+
+  pub plan_bounded : (reply : Reply) → IsRefusal (PlanRefused p es) reply → PlanFits p es → IsBounded p es reply
+  plan_bounded reply is fits =
       ⊎_elim
-      (λ (h : DirectionRefused p Direction.Forward es told.cause).
-      direction_not Direction.Forward told.cause h fits.forward)
-      (λ (h : DirectionFits p Direction.Forward es × DirectionRefused p Direction.Reverse es told.cause).
-      direction_not Direction.Reverse told.cause h.1 fits.reverse)
-      told.refused
+      (λ (h : DirectionRefused p Direction.Forward es is.cause).
+      bounded Direction.Forward is.cause reply is.told (by_bound Direction.Forward is.cause h fits.forward))
+      (λ (h : DirectionFits p Direction.Forward es × DirectionRefused p Direction.Reverse es is.cause).
+      bounded Direction.Reverse is.cause reply is.told (by_bound Direction.Reverse is.cause h.1 fits.reverse))
+      is.refused

@@ -1,12 +1,15 @@
 -- What the command `check` replies to some bytes: whether they begin with an image, or which test they fail first.
 use Rattle.std.specs.Prelude.{ℕ, ◌≡◌, List, [], ◌++◌, codes, Result, Ok, Err}
 use Rattle.std.specs.Fmt.{decimal}
-use Rattle.rx_dense.specs.Layouts.{Layout, row_count}
-use Rattle.rx_dense_image.specs.Images.{reads}
+use Rattle.rx_spec.specs.declared.Form.{Form}
+use Rattle.rx_dense.specs.Layouts as dense
+use Rattle.rx_dense_image.specs.Images as dense_images
+use Rattle.rx_sparse.specs.Layouts as sparse
+use Rattle.rx_sparse_image.specs.Images as sparse_images
 use Rattle.rx_wire.specs.Kinds.{Kind}
 use Rattle.rx_main.specs.Lines.{Reply, newline}
 
--- The word of a test. Reading wants no memory, so it never ends by the last of these.
+-- The word of a test. Want of memory is no test, and is never told.
 abbrev pub test_name : Kind → List ℕ
 test_name Kind.Generic = codes "generic"
 test_name Kind.BufferTooSmall = codes "buffer"
@@ -25,9 +28,19 @@ abbrev pub accepted_line : ℕ → ℕ → ℕ → List ℕ
 accepted_line rows patterns size =
     codes "ok " ++ (decimal rows ++ (codes " " ++ (decimal patterns ++ (codes " " ++ (decimal size ++ newline)))))
 
-abbrev pub check_reply : Result (Layout × ℕ) Kind → Reply
-check_reply (Ok (l, size)) = record { text = accepted_line (row_count l) l.pattern_len size; status = 0 }
-check_reply (Err kind) = failed_test_reply kind
+abbrev pub accepted_reply : ℕ → ℕ → ℕ → Reply
+accepted_reply rows patterns size = record { text = accepted_line rows patterns size; status = 0 }
 
-abbrev pub CheckReplies : List ℕ → Reply → Type 0
-CheckReplies bytes reply = reply ≡ check_reply (reads bytes)
+-- what is told of reading, by the numbers of rows and patterns of a table
+abbrev pub reading_reply : {T : Type 0} → (T → ℕ) → (T → ℕ) → Result (T × ℕ) Kind → Reply
+reading_reply rows patterns (Ok (table, size)) = accepted_reply (rows table) (patterns table) size
+reading_reply rows patterns (Err kind) = failed_test_reply kind
+
+-- bytes as an image of a form
+abbrev pub check_reply : Form → List ℕ → Reply
+check_reply Form.Dense bytes = reading_reply dense.row_count (λ l. l.pattern_len) (dense_images.reads bytes)
+check_reply Form.Sparse bytes =
+    reading_reply (λ t. sparse.row_count t.layout) (λ t. t.layout.pattern_len) (sparse_images.reads bytes)
+
+abbrev pub CheckReplies : Form → List ℕ → Reply → Type 0
+CheckReplies form bytes reply = reply ≡ check_reply form bytes

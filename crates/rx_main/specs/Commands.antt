@@ -2,11 +2,12 @@
 use Rattle.std.specs.Prelude.{ℕ, ◌≡◌, ◌≤◌, List, [], ◌∷◌, codes}
 use Rattle.std.specs.Fmt.{decimal}
 use Rattle.rx_spec.specs.declared.Direction.{Direction}
+use Rattle.rx_spec.specs.declared.Form.{Form}
 use Rattle.rx_wire.specs.declared.order.Order.{Order}
 use Rattle.rx_main.specs.declared.command.Command.{Command}
 use Rattle.rx_main.specs.declared.command.ReadCommand.{ReadCommand}
 
--- a direction, and an order of the bytes of a number
+-- a direction, an order of the bytes of a number, and a form of tables
 abbrev pub direction_word : Direction → List ℕ
 direction_word Direction.Forward = codes "fwd"
 direction_word Direction.Reverse = codes "rev"
@@ -15,13 +16,17 @@ abbrev pub order_word : Order → List ℕ
 order_word Order.Little = codes "le"
 order_word Order.Big = codes "be"
 
+abbrev pub form_word : Form → List ℕ
+form_word Form.Dense = codes "dense"
+form_word Form.Sparse = codes "sparse"
+
 -- the words by which a command is asked for
 abbrev pub read_words : ReadCommand → List (List ℕ)
 read_words ReadCommand.Find = codes "find" ∷ []
 read_words ReadCommand.Each = codes "each" ∷ []
 read_words (ReadCommand.Image direction order) =
     codes "image" ∷ (direction_word direction ∷ (order_word order ∷ []))
-read_words ReadCommand.Check = codes "check" ∷ (codes "dense" ∷ [])
+read_words (ReadCommand.Check form) = codes "check" ∷ (form_word form ∷ [])
 
 abbrev pub words_of : Command → List (List ℕ)
 words_of (Command.Read command) = read_words command

@@ -25,15 +25,12 @@ usage_reply = record { text = codes "usage" ++ newline; status = 2 }
 abbrev pub long_reply : Reply
 long_reply = record { text = codes "long" ++ newline; status = 2 }
 
--- a script has a fault, or is of a form that isn't built
+-- a script has a fault
 abbrev pub fault_reply : ℕ → BadKind → Reply
 fault_reply line kind = record {
   text = codes "bad " ++ (decimal line ++ (codes " " ++ (kind_name kind ++ newline)));
   status = 2;
 }
-
-abbrev pub unbuilt_reply : Reply
-unbuilt_reply = record { text = codes "unbuilt" ++ newline; status = 2 }
 
 -- ---- a build is refused
 

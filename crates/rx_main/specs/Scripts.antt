@@ -5,14 +5,12 @@ use Rattle.rx_spec.specs.Plans as plans
 use Rattle.rx_spec.specs.Queries.{Query, IsFit}
 use Rattle.rx_plan.specs.Plan.{plan_of}
 use Rattle.rx_regex.specs.Find.{PlanFits, PlanRefused}
-use Rattle.rx_regex.specs.Plan.{IsBuilt}
 use Rattle.rx_script.specs.Faults.{refused}
 use Rattle.rx_script.specs.Grammar.{Spelled, Spells}
 use Rattle.rx_script.specs.Reading.{script_of}
 use Rattle.rx_script.specs.Script.{script_read}
 use Rattle.rx_script.specs.declared.fault.BadKind.{BadKind}
-use Rattle.rx_script.specs.declared.script.Script.{Script}
-use Rattle.rx_main.specs.Lines.{Reply, fault_reply, unbuilt_reply, IsRefusal}
+use Rattle.rx_main.specs.Lines.{Reply, fault_reply, IsRefusal}
 use Rattle.rx_main.specs.declared.scripts.Reading.{Reading}
 
 -- ---- the definition
@@ -23,19 +21,18 @@ pub record IsScript (with_input : Bool) (text : List ℕ) (P : Spelled → Type 
   pub spelled : Spells with_input text script
   pub holds : P script
 
--- The reply to a text for which nothing is built: its first fault is told, or that its plan isn't built.
-pub data IsTurnedDown (with_input : Bool) (text : List ℕ) (reply : Reply) : Type 0 where
-  Bad : (line : ℕ) → (kind : BadKind) → script_of with_input text ≡ refused line kind → reply ≡ fault_reply line kind
-      → IsTurnedDown with_input text reply
-  Unbuilt : IsScript with_input text (λ script. IsBuilt script.plan → ⊥) → reply ≡ unbuilt_reply
-      → IsTurnedDown with_input text reply
+-- the reply to a text that spells no script: its first fault is told
+pub record IsTurnedDown (with_input : Bool) (text : List ℕ) (reply : Reply) : Type 0 where
+  pub line : ℕ
+  pub kind : BadKind
+  pub fault : script_of with_input text ≡ refused line kind
+  pub told : reply ≡ fault_reply line kind
 
--- The reply of a command that answers a script so: only a script whose plan is built is answered.
+-- the reply of a command that answers a script so
 pub data ScriptReplies (with_input : Bool) (Answers : Spelled → Reply → Type 0) (text : List ℕ) (reply : Reply)
     : Type 0 where
   TurnedDown : IsTurnedDown with_input text reply → ScriptReplies with_input Answers text reply
-  Answered : IsScript with_input text (λ script. IsBuilt script.plan × Answers script reply)
-      → ScriptReplies with_input Answers text reply
+  Answered : IsScript with_input text (λ script. Answers script reply) → ScriptReplies with_input Answers text reply
 
 -- The reply where something is built: why that is refused, or else an answer by what is built.
 pub data BuildReplies (Refused : plans.Cause → Type 0) (Fits : Type 0) (Answers : Reply → Type 0) (reply : Reply)
@@ -60,11 +57,7 @@ abbrev pub IsAsking : Option Query → Type 0
 IsAsking None = ⊥
 IsAsking (Some q) = IsFit q
 
--- the text spells it, and its plan is built
-pub record IsReadAs (with_input : Bool) (text : List ℕ) (script : Script) : Type 0 where
-  pub spelled : Spells with_input text (script_read script)
-  pub built : IsBuilt script.plan
-
+-- the text spells it, or no script
 abbrev pub IsRead : Bool → List ℕ → Reading → Type 0
-IsRead with_input text (Reading.Script script) = IsReadAs with_input text script
+IsRead with_input text (Reading.Script script) = Spells with_input text (script_read script)
 IsRead with_input text (Reading.TurnedDown reply) = IsTurnedDown with_input text reply

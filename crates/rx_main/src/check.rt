@@ -1,35 +1,60 @@
-//! The command `check`: whether some bytes begin with an image of a dense table.
+//! The command `check`: whether some bytes begin with an image of a table.
 
 ghost use Rattle.std.specs.Prelude.{◌≡◌, ◌≢◌, IfOk};
-ghost use Rattle.rx_dense.specs.Layouts.{row_count};
+ghost use Rattle.rx_spec.specs.declared.Form.TheVariants.{Dense, Sparse};
 ghost use Rattle.rx_wire.specs.Kinds.{Kind, kind_of};
-ghost use Rattle.rx_main.specs.Check.{CheckReplies, accepted_line, failed_test_reply};
+ghost use Rattle.rx_main.specs.Check.{CheckReplies, accepted_reply, failed_test_reply};
 
 use crate::lines::fixed_reply;
 use crate::reply::{FOUND, NOT_FOUND, Reply};
 use rx_dense::OwnedDFA;
 use rx_dense_image::DenseRead;
+use rx_regex::Form;
 use rx_search::Automaton;
+use rx_sparse::DFA as SparseDFA;
+use rx_sparse_image::SparseRead;
 use rx_wire::DeserializeErrorKind;
 use std::alloc::{AllocError, Global};
 
-/// The reply to some bytes.
-pub fn check(alloc: Global, bytes: &[u8]) -> Result<Reply, AllocError>
-    ensures { IfOk result (CheckReplies bytes.now) }
+/// The reply to some bytes, as an image of a form.
+pub fn check(alloc: Global, form: Form, bytes: &[u8]) -> Result<Reply, AllocError>
+    ensures { IfOk result (CheckReplies form bytes.now) }
+{
+    match form {
+        Form::Dense => check_dense(alloc, bytes),
+        Form::Sparse => check_sparse(alloc, bytes),
+    }
+}
+
+/// The reply to bytes as an image of a dense table.
+fn check_dense(alloc: Global, bytes: &[u8]) -> Result<Reply, AllocError>
+    ensures { IfOk result (CheckReplies Dense bytes.now) }
 {
     match OwnedDFA::from_bytes(alloc, bytes) {
-        Ok((table, size)) => accepted_reply(alloc, &table, size),
+        Ok((table, size)) => accepted_reply(alloc, table.state_len(), table.pattern_len(), size),
         Err(error) => failed_test_reply(alloc, error.kind()),
     }
 }
 
-/// The reply to an image, which takes so many bytes.
-fn accepted_reply(alloc: Global, table: &OwnedDFA, size: usize) -> Result<Reply, AllocError>
-    ensures { IfOk result (λ reply. reply
-        ≡ record { text = accepted_line (row_count table.now) table.now.pattern_len size; status = 0 }) }
+/// The reply to bytes as an image of a sparse table.
+fn check_sparse(alloc: Global, bytes: &[u8]) -> Result<Reply, AllocError>
+    ensures { IfOk result (CheckReplies Sparse bytes.now) }
 {
-    let rows = table.state_len();
-    let patterns = table.pattern_len();
+    match SparseDFA::<&[u8]>::from_bytes(alloc, bytes) {
+        Ok((table, size)) => accepted_reply(alloc, table.state_len(), table.pattern_len(), size),
+        Err(error) => failed_test_reply(alloc, error.kind()),
+    }
+}
+
+/// The reply to an image of a table of so many rows and patterns, which takes so many bytes.
+fn accepted_reply(
+    alloc: Global,
+    rows: usize,
+    patterns: usize,
+    size: usize,
+) -> Result<Reply, AllocError>
+    ensures { IfOk result (λ reply. reply ≡ accepted_reply rows patterns size) }
+{
     let text = format!(in alloc; "ok {rows} {patterns} {size}\n")?;
     Ok(Reply::new(text, FOUND))
 }

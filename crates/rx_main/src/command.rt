@@ -1,13 +1,15 @@
 //! Command lines.
 
-ghost use Rattle.std.specs.Prelude.{◌≡◌, ◌≢◌, ◌≤◌, ◌↔◌, IsTrue, MatchOption, ℕ, [], ◌∷◌, codes};
+ghost use Rattle.std.specs.Prelude.{◌≡◌, ◌≢◌, ◌≤◌, ◌↔◌, IsTrue, MatchOption, ℕ, [], ◌∷◌};
 ghost use Rattle.std.specs.Fmt.{decimal};
 ghost use Rattle.rx_spec.specs.declared.Direction.{Direction};
+ghost use Rattle.rx_spec.specs.declared.Form.{Form};
 ghost use Rattle.rx_wire.specs.declared.order.Order.{Order};
-ghost use Rattle.rx_main.specs.Commands.{Says, SaysNothing, direction_word, order_word};
+ghost use Rattle.rx_main.specs.Commands.{Says, SaysNothing, direction_word, form_word, order_word};
 
 use crate::words::Words;
 use rx_base::Direction;
+use rx_regex::Form;
 use rx_wire::Order;
 
 /// What a command line asks for.
@@ -28,8 +30,8 @@ pub enum ReadCommand {
     Each,
     /// The image of the table that a script's plan has for a direction, its numbers in an order.
     Image(Direction, Order),
-    /// Whether the bytes are an image of a dense table.
-    Check,
+    /// Whether the bytes are an image of a table of a form.
+    Check(Form),
 }
 
 /// The most patterns that are generated.
@@ -63,7 +65,8 @@ fn two_words(word: &[u8], other: &[u8]) -> Option<Command>
     ensures { MatchOption result (SaysNothing (word.now ∷ (other.now ∷ []))) (Says (word.now ∷ (other.now ∷ []))) }
 {
     if is(word, b"check") {
-        return check_of(other);
+        let form = form_of(other)?;
+        return Some(Command::Read(ReadCommand::Check(form)));
     }
     if !is(word, b"gen") {
         return None;
@@ -84,13 +87,15 @@ fn three_words(word: &[u8], direction: &[u8], order: &[u8]) -> Option<Command>
     Some(Command::Read(ReadCommand::Image(direction, order)))
 }
 
-/// The command `check` of a form.
-fn check_of(form: &[u8]) -> Option<Command>
-    ensures { MatchOption result (SaysNothing (codes "check" ∷ (form.now ∷ [])))
-        (Says (codes "check" ∷ (form.now ∷ []))) }
+fn form_of(word: &[u8]) -> Option<Form>
+    ensures { MatchOption result ((form : Form) → word.now ≢ form_word form)
+        (λ form. word.now ≡ form_word form) }
 {
-    if is(form, b"dense") {
-        return Some(Command::Read(ReadCommand::Check));
+    if is(word, b"dense") {
+        return Some(Form::Dense);
+    }
+    if is(word, b"sparse") {
+        return Some(Form::Sparse);
     }
     None
 }

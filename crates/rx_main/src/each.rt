@@ -6,7 +6,6 @@ ghost use Rattle.rx_spec.specs.Iterating.{iterate};
 ghost use Rattle.rx_spec.specs.Plans.{Plan as SearchPlan, outcome};
 ghost use Rattle.rx_spec.specs.Queries.{IsFit};
 ghost use Rattle.rx_base.specs.Input.{query_of};
-ghost use Rattle.rx_regex.specs.Plan.{IsBuilt};
 ghost use Rattle.rx_regex.specs.Tables.{IsOf};
 ghost use Rattle.rx_script.specs.Script.{script_read};
 ghost use Rattle.rx_main.specs.Scripts.{AskedReplies, IsAsking};
@@ -32,8 +31,7 @@ pub fn each(alloc: Global, text: &[u8]) -> Result<Reply, AllocError>
 
 /// The matches, or why nothing was searched.
 fn solve(alloc: Global, script: &Script) -> Result<Reply, AllocError>
-    requires built { IsBuilt script.now.plan }
-    requires asks { IsAsking (script_read script.now).asked }
+    requires { IsAsking (script_read script.now).asked }
     ensures { IfOk result (AskedReplies EachAnswers (script_read script.now)) }
 {
     let input = asked(script);

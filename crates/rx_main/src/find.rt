@@ -2,7 +2,6 @@
 
 ghost use Rattle.std.specs.Prelude.{◌≡◌, IfOk, OnOk};
 ghost use Rattle.std.specs.String.{string_bytes};
-ghost use Rattle.rx_regex.specs.Plan.{IsBuilt};
 ghost use Rattle.rx_script.specs.Script.{script_read};
 ghost use Rattle.rx_main.specs.Scripts.{AskedReplies, IsAsking};
 ghost use Rattle.rx_main.specs.Find.{FindAnswers, FindReplies, found_line, found_status};
@@ -28,8 +27,7 @@ pub fn find(alloc: Global, text: &[u8]) -> Result<Reply, AllocError>
 
 /// What is found, or why nothing was searched, or why the search has no answer.
 fn solve(alloc: Global, script: &Script) -> Result<Reply, AllocError>
-    requires built { IsBuilt script.now.plan }
-    requires asks { IsAsking (script_read script.now).asked }
+    requires { IsAsking (script_read script.now).asked }
     ensures { IfOk result (AskedReplies FindAnswers (script_read script.now)) }
 {
     let input = asked(script);

@@ -1,7 +1,6 @@
 //! The command `image`: the image of a table of a script's plan.
 
 ghost use Rattle.std.specs.Prelude.{IfOk};
-ghost use Rattle.rx_regex.specs.Plan.{IsBuilt};
 ghost use Rattle.rx_script.specs.Script.{script_read};
 ghost use Rattle.rx_main.specs.Image.{ImageAnswers, ImageReplies};
 
@@ -36,7 +35,6 @@ fn image_reply(
     direction: Direction,
     order: Order,
 ) -> Result<Reply, AllocError>
-    requires { IsBuilt script.now.plan }
     ensures { IfOk result (ImageAnswers direction order (script_read script.now)) }
 {
     match build_image(

@@ -3,7 +3,7 @@
 ghost use Rattle.std.specs.Prelude.{◌≡◌, ◌++◌, ◌<◌, ◌≤◌, IfOk, OnOk};
 ghost use Rattle.std.specs.String.{string_bytes};
 ghost use Rattle.rx_main.specs.Lines.{TellsKind, match_line, rows_line, error_line, hex_code};
-ghost use Rattle.rx_main.specs.Lines.{usage_reply, long_reply, fault_reply, unbuilt_reply, error_reply};
+ghost use Rattle.rx_main.specs.Lines.{usage_reply, long_reply, fault_reply, error_reply};
 
 use crate::reply::{FAILED, REFUSED, Reply, TURNED_DOWN};
 use rx_base::{Anchored, Match, MatchError, MatchErrorKind};
@@ -32,13 +32,6 @@ pub fn fault_reply(alloc: Global, line: u64, kind: BadKind) -> Result<Reply, All
 {
     let text = format!(in alloc; "bad {line} {kind}\n")?;
     Ok(Reply::new(text, TURNED_DOWN))
-}
-
-/// The reply to a script whose plan isn't built.
-pub fn unbuilt_reply(alloc: Global) -> Result<Reply, AllocError>
-    ensures { IfOk result (λ reply. reply ≡ unbuilt_reply) }
-{
-    fixed_reply(alloc, "unbuilt\n", TURNED_DOWN)
 }
 
 /// The reply to a build that is refused.

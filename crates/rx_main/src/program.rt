@@ -73,7 +73,7 @@ fn read_reply(alloc: Global, command: ReadCommand, bytes: &[u8]) -> Result<Reply
         ReadCommand::Find => find(alloc, bytes),
         ReadCommand::Each => each(alloc, bytes),
         ReadCommand::Image(direction, order) => image(alloc, bytes, direction, order),
-        ReadCommand::Check => check(alloc, bytes),
+        ReadCommand::Check(form) => check(alloc, form, bytes),
     }
 }
 

@@ -1,25 +1,23 @@
 //! Scripts: what every command that reads one has in common.
 
-ghost use Rattle.std.specs.Prelude.{◌≡◌, ◌↔◌, IfOk, IsTrue, Some};
+ghost use Rattle.std.specs.Prelude.{◌≡◌, IfOk, Some};
 ghost use Rattle.rx_spec.specs.Queries.{IsFit};
 ghost use Rattle.rx_base.specs.Input.{query_of};
-ghost use Rattle.rx_regex.specs.Plan.{IsBuilt};
 ghost use Rattle.rx_script.specs.Script.{script_read};
 ghost use Rattle.rx_main.specs.Scripts.{IsAsking, IsRead};
 
-use crate::lines::{fault_reply, unbuilt_reply};
+use crate::lines::fault_reply;
 use crate::reply::Reply;
 use rx_base::Input;
-use rx_regex::{Form, Plan};
 use rx_script::{Script, ScriptFault, read_script};
 use std::alloc::{AllocError, Global};
 
 /// What a text is.
 #[derive(Drop)]
 pub enum Reading {
-    /// A script whose plan is built.
+    /// A script.
     Script(Script),
-    /// Another text, and the reply to it.
+    /// No script, and the reply to it.
     TurnedDown(Reply),
 }
 
@@ -27,24 +25,13 @@ pub enum Reading {
 pub fn read(alloc: Global, text: &[u8], with_input: bool) -> Result<Reading, AllocError>
     ensures { IfOk result (IsRead with_input text.now) }
 {
-    let script = match read_script(alloc, text, with_input) {
-        Ok(script) => script,
+    match read_script(alloc, text, with_input) {
+        Ok(script) => Ok(Reading::Script(script)),
         Err(ScriptFault::Bad { line, kind }) => {
-            return Ok(Reading::TurnedDown(fault_reply(alloc, line, kind)?));
+            Ok(Reading::TurnedDown(fault_reply(alloc, line, kind)?))
         }
-        Err(ScriptFault::Memory) => return Err(AllocError),
-    };
-    if !is_built(&script.plan) {
-        return Ok(Reading::TurnedDown(unbuilt_reply(alloc)?));
+        Err(ScriptFault::Memory) => Err(AllocError),
     }
-    Ok(Reading::Script(script))
-}
-
-/// Whether a plan is built: one of sparse tables isn't.
-fn is_built(plan: &Plan) -> bool
-    ensures { IsTrue result ↔ IsBuilt plan.now }
-{
-    matches!(plan.form, Form::Dense)
 }
 
 /// What a script asks that was read with it.

@@ -9,10 +9,10 @@ pub returns-in-TurnedDown : goal.returns-in-TurnedDown
 returns-in-TurnedDown c =
     ScriptReplies.TurnedDown (subst (IsRead true c.args.text.now) c.in-TurnedDown.is c.in_ok-script.ensures)
 
-pub solve-requires-clause-asks : goal.solve-requires-clause-asks
-solve-requires-clause-asks c =
-    let is = subst (IsRead true c.args.text.now) c.in-Script.is c.in_ok-script.ensures in
-    asks c.args.text.now (script_read c.in-Script.script) is.spelled
+pub solve-requires : goal.solve-requires
+solve-requires c =
+    asks c.args.text.now (script_read c.in-Script.script)
+    (subst (IsRead true c.args.text.now) c.in-Script.is c.in_ok-script.ensures)
 
 pub returns-in-Script : goal.returns-in-Script
 returns-in-Script c =
@@ -20,5 +20,5 @@ returns-in-Script c =
     IfOk-weaker c.solve.result _ _
     (λ reply told.
     ScriptReplies.Answered
-    (record { script = script_read c.in-Script.script; spelled = is.spelled; holds = (is.built, told) }))
+    (record { script = script_read c.in-Script.script; spelled = is; holds = told }))
     c.solve.ensures

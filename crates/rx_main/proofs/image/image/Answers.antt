@@ -14,5 +14,5 @@ returns-in-Script c =
     IfOk-weaker c.image_reply.result _ _
     (λ reply told.
     ScriptReplies.Answered
-    (record { script = script_read c.in-Script.script; spelled = is.spelled; holds = (is.built, told) }))
+    (record { script = script_read c.in-Script.script; spelled = is; holds = told }))
     c.image_reply.ensures
