@@ -79,22 +79,62 @@ pub(crate) fn whole(text: &[u8]) -> Outside<'_> {
 /// A script, a status, and the lines that are wanted; slashes part lines.
 type Case = (&'static str, u8, &'static str);
 
+/// Plan words for each form of tables, and for each way that they take.
+const FORMS: [&str; 4] = ["", "bytes ", "sparse ", "bytes sparse "];
+
+/// Runs a command that reads on a script, whose plan has some more words.
+fn run_one(
+    rt: &impl Abort,
+    alloc: Global,
+    command: &str,
+    words: &str,
+    case: &Case,
+) -> Result<(), Fail> {
+    let (script, status, wanted) = case;
+    let script = match script.strip_prefix("plan ") {
+        Some(rest) => format!(in alloc; "plan {words}{rest}")?,
+        None if words.is_empty() => String::from_str(alloc, script)?,
+        None => format!(in alloc; "plan {}/{script}", words.trim_end())?,
+    };
+    let text = lines(alloc, &script)?;
+    let (told, written) = answer(rt, alloc, &[command], whole(&text))?;
+    let mut want = lines(alloc, wanted)?;
+    want.push(b'\n')?;
+    let is_wanted = told == *status && written.as_slice() == want.as_slice();
+    assert!(rt; is_wanted, "{command} {script}: {told}, {written:?}");
+    Ok(())
+}
+
 /// Runs a command that reads on scripts.
 fn run_all(rt: &impl Abort, alloc: Global, command: &str, cases: &[Case]) -> Result<(), Fail> {
-    for (script, status, wanted) in cases {
-        let text = lines(alloc, script)?;
-        let (told, written) = answer(rt, alloc, &[command], whole(&text))?;
-        let mut want = lines(alloc, wanted)?;
-        want.push(b'\n')?;
-        let is_wanted = told == *status && written.as_slice() == want.as_slice();
-        assert!(rt; is_wanted, "{command} {script}: {told}, {written:?}");
+    for case in cases {
+        run_one(rt, alloc, command, "", case)?;
     }
     Ok(())
 }
 
+/// Runs a command on scripts by tables of each form, which makes no difference.
+fn run_forms(rt: &impl Abort, alloc: Global, command: &str, cases: &[Case]) -> Result<(), Fail> {
+    for case in cases {
+        for words in FORMS {
+            run_one(rt, alloc, command, words, case)?;
+        }
+    }
+    Ok(())
+}
+
+/// `[0-9]{4}-[0-9]{2}-[0-9]{2}`
+const DATES: &str =
+    "expr cat rep 4 4 greedy cls 30-39 cat lit 2d cat rep 2 2 greedy cls 30-39 cat lit 2d rep 2 2 \
+     greedy cls 30-39/input 0 21 no/hay 323031382d31322d323420323031362d31302d3038";
+
+const MINIMIZED: &str =
+    "plan minimize/expr cat rep 4 4 greedy cls 30-39 cat lit 2d cat rep 2 2 greedy cls 30-39 cat lit 2d rep 2 2 \
+     greedy cls 30-39/input 0 21 no/hay 323031382d31322d323420323031362d31302d3038";
+
 #[test]
 fn scripts_are_answered(rt: HostRuntime) -> Result<(), Fail> {
-    run_all(
+    run_forms(
         &rt,
         rt.alloc(),
         "find",
@@ -136,12 +176,8 @@ fn scripts_are_answered(rt: HostRuntime) -> Result<(), Fail> {
                 0,
                 "match 0 0 2",
             ),
-            (
-                "expr cat rep 4 4 greedy cls 30-39 cat lit 2d cat rep 2 2 greedy cls 30-39 cat lit 2d rep 2 2 \
-                 greedy cls 30-39/input 0 21 no/hay 323031382d31322d323420323031362d31302d3038",
-                0,
-                "match 0 0 10",
-            ),
+            (DATES, 0, "match 0 0 10"),
+            (MINIMIZED, 0, "match 0 0 10"),
             (
                 "expr rep 1 inf greedy cls 30-39,41-5a,5f,61-7a/expr rep 1 inf greedy cls 00-08,0e-1f,21-ff/input 0 \
                  8 no/hay 40666f6f20626172",
@@ -222,7 +258,7 @@ fn scripts_are_answered(rt: HostRuntime) -> Result<(), Fail> {
 
 #[test]
 fn plan_words_have_an_effect(rt: HostRuntime) -> Result<(), Fail> {
-    run_all(
+    run_forms(
         &rt,
         rt.alloc(),
         "find",
@@ -305,7 +341,7 @@ fn plan_words_have_an_effect(rt: HostRuntime) -> Result<(), Fail> {
                 0,
                 "match 1 0 1",
             ),
-            // the form of tables changes no answer
+            // these words change no answer
             (
                 "plan noclasses mark/expr lit 61/input 0 3 no/hay 626162",
                 0,
@@ -328,25 +364,13 @@ fn plan_words_have_an_effect(rt: HostRuntime) -> Result<(), Fail> {
 
 #[test]
 fn matches_are_told_one_after_another(rt: HostRuntime) -> Result<(), Fail> {
-    const DATES: &str =
-        "expr cat rep 4 4 greedy cls 30-39 cat lit 2d cat rep 2 2 greedy cls 30-39 cat lit 2d rep 2 2 \
-                         greedy cls 30-39/input 0 21 no/hay 323031382d31322d323420323031362d31302d3038";
-    const MINIMIZED: &str =
-        "plan minimize/expr cat rep 4 4 greedy cls 30-39 cat lit 2d cat rep 2 2 greedy cls 30-39 \
-                             cat lit 2d rep 2 2 greedy cls 30-39/input 0 21 no/hay \
-                             323031382d31322d323420323031362d31302d3038";
-    const BY_BYTES: &str =
-        "plan bytes/expr cat rep 4 4 greedy cls 30-39 cat lit 2d cat rep 2 2 greedy cls 30-39 \
-                            cat lit 2d rep 2 2 greedy cls 30-39/input 0 21 no/hay \
-                            323031382d31322d323420323031362d31302d3038";
-    run_all(
+    run_forms(
         &rt,
         rt.alloc(),
         "each",
         &[
             (DATES, 0, "match 0 0 10/match 0 11 21"),
             (MINIMIZED, 0, "match 0 0 10/match 0 11 21"),
-            (BY_BYTES, 0, "match 0 0 10/match 0 11 21"),
             (
                 "expr rep 1 inf greedy cls 30-39,41-5a,5f,61-7a/expr rep 1 inf greedy cls 00-08,0e-1f,21-ff/input 0 \
                  8 no/hay 40666f6f20626172",
@@ -392,10 +416,13 @@ fn matches_are_told_one_after_another(rt: HostRuntime) -> Result<(), Fail> {
                 3,
                 "build dfa-size",
             ),
-            // what isn't built, and faults
-            ("plan sparse/expr eps/input 0 0 no/hay -", 2, "unbuilt"),
-            ("expr lit 61/input 2 0 no/hay -", 2, "bad 3 span"),
         ],
+    )?;
+    run_all(
+        &rt,
+        rt.alloc(),
+        "each",
+        &[("expr lit 61/input 2 0 no/hay -", 2, "bad 3 span")],
     )
 }
 
@@ -406,12 +433,9 @@ fn scripts_may_be_turned_down(rt: HostRuntime) -> Result<(), Fail> {
         rt.alloc(),
         "find",
         &[
-            // forms that aren't built
-            ("plan sparse/input 0 0 yes/hay -", 2, "unbuilt"),
-            ("plan bytes/input 0 0 yes/hay -", 1, "none"),
-            ("plan sparse bytes rows/input 0 0 yes/hay -", 2, "unbuilt"),
-            // a fault comes first
             ("plan sparse/expr eps/input 0 1 yes/hay -", 2, "bad 4 span"),
+            ("plan sparse sparse/input 0 0 yes/hay -", 2, "bad 1 plan"),
+            ("plan sparse=yes/input 0 0 yes/hay -", 2, "bad 1 plan"),
             ("expr lit 61/input 2 0 no/hay -", 2, "bad 3 span"),
             ("", 2, "bad 1 order"),
             ("/", 2, "bad 1 words"),
@@ -439,13 +463,11 @@ fn sources_have_at_most_so_many_bytes(rt: HostRuntime) -> Result<(), Fail> {
     text.push(b'\n')?;
     compare(&rt, rt.alloc(), &["find"], whole(&text), (2, "long\n"))?;
     compare(&rt, rt.alloc(), &["each"], whole(&text), (2, "long\n"))?;
-    compare(
-        &rt,
-        rt.alloc(),
-        &["check", "dense"],
-        whole(&text),
-        (2, "long\n"),
-    )
+    for form in ["dense", "sparse"] {
+        let words = ["check", form];
+        compare(&rt, rt.alloc(), &words, whole(&text), (2, "long\n"))?;
+    }
+    Ok(())
 }
 
 /// A source whose first read fails, and a sink that takes all at once.
@@ -480,7 +502,8 @@ fn other_words_are_no_command(rt: HostRuntime) -> Result<(), Fail> {
         &["image", "fwd", "me"],
         &["image", "fwd", "le", "le"],
         &["check"],
-        &["check", "sparse"],
+        &["check", "Sparse"],
+        &["check", "sparse", "x"],
         &["check", "dense", "dense"],
     ];
     for texts in table {

@@ -1,5 +1,6 @@
 //! Pairs of tables by settings: whole characters, marks and starts, and tables that don't belong together.
 
+use crate::tests::shown;
 use rx_base::{Anchored, Input, MatchErrorKind, MatchKind, PatternID, PatternSet, StartKind};
 use rx_build::dense;
 use rx_dense::OwnedDFA;
@@ -12,19 +13,8 @@ use std::process::Abort;
 use std::test::Fail;
 
 /// All matches in a haystack as text, and the error that ended them.
-fn matches(alloc: Global, regex: &Regex<OwnedDFA>, haystack: &[u8]) -> Result<String, Fail> {
-    let mut text = String::new(alloc);
-    for item in regex.find_iter(&Input::new(haystack)) {
-        match item {
-            Ok(found) => {
-                let pattern = found.pattern().as_u32();
-                let (start, end) = (found.start(), found.end());
-                text.push_str(&format!(in alloc; "{pattern} {start} {end};")?)?;
-            }
-            Err(error) => text.push_str(&format!(in alloc; "{error}")?)?,
-        }
-    }
-    Ok(text)
+fn matches<A: Automaton>(alloc: Global, regex: &Regex<A>, haystack: &[u8]) -> Result<String, Fail> {
+    shown(alloc, regex.find_iter(&Input::new(haystack)))
 }
 
 #[test]
@@ -34,10 +24,16 @@ fn a_new_pair_tells_whole_characters(rt: HostRuntime) -> Result<(), Fail> {
     let regex = Regex::<OwnedDFA>::new_many(alloc, &exprs)?;
     let told = matches(alloc, &regex, b"\xe2\x98\x83")?;
     assert!(rt; told.as_str() == "0 0 0;0 3 3;", "{told}");
+    let sparse = Regex::<OwnedDFA>::new_many_sparse(alloc, &exprs)?;
+    let told = matches(alloc, &sparse, b"\xe2\x98\x83")?;
+    assert!(rt; told.as_str() == "0 0 0;0 3 3;", "{told}");
     let mut builder = Builder::new();
     builder.thompson(thompson::Config::new().utf8(false));
     let regex = builder.build_many(alloc, &exprs)?;
     let told = matches(alloc, &regex, b"\xe2\x98\x83")?;
+    assert!(rt; told.as_str() == "0 0 0;0 1 1;0 2 2;0 3 3;", "{told}");
+    let sparse = builder.build_many_sparse(alloc, &exprs)?;
+    let told = matches(alloc, &sparse, b"\xe2\x98\x83")?;
     assert!(rt; told.as_str() == "0 0 0;0 1 1;0 2 2;0 3 3;", "{told}");
     Ok(())
 }

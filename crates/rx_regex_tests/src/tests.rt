@@ -1,10 +1,11 @@
 //! What no clause shows: that searches succeed, examples worked by hand, and how errors read.
 
-ghost use Rattle.rx_regex.specs.Plan.{IsBuilt};
+ghost use Rattle.std.specs.Iterator.{IsFinite};
 
-use rx_base::{Anchored, Direction, Input, PatternID, StartKind};
+use rx_base::{Anchored, Direction, Input, Match, MatchError, PatternID, StartKind};
+use rx_expr::Expr;
 use rx_notation::read;
-use rx_regex::{Built, Order, Passage, Plan, build_image, compile_and_find};
+use rx_regex::{Built, Form, Order, Passage, Plan, build_image, compile_and_find};
 use std::alloc::Global;
 use std::process::Abort;
 use std::test::Fail;
@@ -24,8 +25,18 @@ enum Change {
     Minimize,
     NoAccelerate,
     MarkStarts,
-    ThroughBytes,
 }
+
+/// The form of a plan's tables, and the way that they take.
+type Kind = (Form, Passage);
+
+/// No kind changes what is found.
+const KINDS: [Kind; 4] = [
+    (Form::Dense, Passage::Direct),
+    (Form::Dense, Passage::Bytes),
+    (Form::Sparse, Passage::Direct),
+    (Form::Sparse, Passage::Bytes),
+];
 
 /// Where a match may begin, and of which pattern it is.
 #[derive(Clone, Copy)]
@@ -39,10 +50,7 @@ enum Mode {
 #[derive(Clone, Copy)]
 struct Asked<'h>(&'h [u8], usize, usize, Mode);
 
-fn apply(plan: &mut Plan, change: Change)
-    requires { IsBuilt plan.old }
-    ensures { IsBuilt plan.new }
-{
+fn apply(plan: &mut Plan, change: Change) {
     match change {
         Change::LineTerminator(byte) => plan.line_terminator = byte,
         Change::Quit(byte) => plan.quit.add(byte),
@@ -56,15 +64,14 @@ fn apply(plan: &mut Plan, change: Change)
         Change::Minimize => plan.minimize = true,
         Change::NoAccelerate => plan.accelerate = false,
         Change::MarkStarts => plan.mark_starts = true,
-        Change::ThroughBytes => plan.passage = Passage::Bytes,
     }
 }
 
-/// The usual plan with at most two changes.
-fn plan_with(changes: &[Change]) -> Plan
-    ensures { IsBuilt result }
-{
+/// The usual plan for tables of a kind, with at most two changes.
+fn plan_with(kind: Kind, changes: &[Change]) -> Plan {
     let mut plan = Plan::new();
+    plan.form = kind.0;
+    plan.passage = kind.1;
     if let Some(first) = changes.first() {
         apply(&mut plan, *first);
     }
@@ -86,15 +93,14 @@ fn mode_of(mode: Mode) -> Result<Anchored, Fail> {
 fn told(
     rt: &impl Abort,
     alloc: Global,
-    patterns: &str,
-    changes: &[Change],
+    exprs: &[Expr],
+    plan: &Plan,
     asked: Asked<'_>,
 ) -> Result<String, Fail> {
-    let exprs = read(alloc, patterns)?;
     assert!(rt; Input::fits(asked.0.len(), asked.1, asked.2));
     let input = Input::new(asked.0).range(asked.1, asked.2);
     let input = input.anchored(mode_of(asked.3)?);
-    match compile_and_find(alloc, &exprs, &plan_with(changes), &input) {
+    match compile_and_find(alloc, exprs, plan, &input) {
         Ok(answer) => match answer.found {
             None => Ok(String::from_str(alloc, "none")?),
             Some(m) => {
@@ -106,7 +112,7 @@ fn told(
     }
 }
 
-/// Compares what is told of a search.
+/// Compares what is told of a search, by tables of each kind.
 fn compare(
     rt: &impl Abort,
     alloc: Global,
@@ -115,8 +121,11 @@ fn compare(
     asked: Asked<'_>,
     want: &str,
 ) -> Result<(), Fail> {
-    let told = told(rt, alloc, patterns, changes, asked)?;
-    assert!(rt; told.as_str() == want, "{patterns}: {told}");
+    let exprs = read(alloc, patterns)?;
+    for kind in KINDS {
+        let told = told(rt, alloc, &exprs, &plan_with(kind, changes), asked)?;
+        assert!(rt; told.as_str() == want, "{patterns}, {kind:?}: {told}");
+    }
     Ok(())
 }
 
@@ -243,9 +252,8 @@ fn the_plan_decides_words_starts_and_quits(rt: HostRuntime) -> Result<(), Fail> 
 }
 
 /// The numbers of rows of both tables, or why they aren't built.
-fn rows_of(alloc: Global, patterns: &str, changes: &[Change]) -> Result<String, Fail> {
-    let exprs = read(alloc, patterns)?;
-    match Built::new(alloc, &exprs, &plan_with(changes)) {
+fn rows_of(alloc: Global, exprs: &[Expr], plan: &Plan) -> Result<String, Fail> {
+    match Built::new(alloc, exprs, plan) {
         Ok(built) => {
             let (forward, reverse) = built.rows();
             Ok(format!(in alloc; "{forward} {reverse}")?)
@@ -263,8 +271,6 @@ fn tables_have_so_many_rows(rt: HostRuntime) -> Result<(), Fail> {
         ("a", &[Change::Minimize], "6 5"),
         ("a", &[Change::MarkStarts, Change::NoAccelerate], "7 5"),
         ("a", &[Change::NoClasses], "7 5"),
-        ("a", &[Change::ThroughBytes], "7 5"),
-        ("a", &[Change::ThroughBytes, Change::Minimize], "6 5"),
         ("a", &[Change::DfaLimit(164)], "7 5"),
         (
             "a",
@@ -279,8 +285,94 @@ fn tables_have_so_many_rows(rt: HostRuntime) -> Result<(), Fail> {
         ),
     ];
     for (patterns, changes, want) in rows {
-        let told = rows_of(alloc, patterns, changes)?;
-        assert!(rt; told.as_str() == *want, "{patterns}: {told}");
+        let exprs = read(alloc, patterns)?;
+        for kind in KINDS {
+            let told = rows_of(alloc, &exprs, &plan_with(kind, changes))?;
+            assert!(rt; told.as_str() == *want, "{patterns}, {kind:?}: {told}");
+        }
+    }
+    Ok(())
+}
+
+/// Matches as text, and the error that ended them.
+pub(crate) fn shown<I: Iterator<Item = Result<Match, MatchError>> + Drop>(
+    alloc: Global,
+    items: I,
+) -> Result<String, Fail>
+    requires { I.can_next items × IsFinite (I.remaining items) }
+{
+    let mut text = String::new(alloc);
+    for item in items {
+        match item {
+            Ok(found) => {
+                let pattern = found.pattern().as_u32();
+                let (start, end) = (found.start(), found.end());
+                text.push_str(&format!(in alloc; "{pattern} {start} {end};")?)?;
+            }
+            Err(error) => text.push_str(&format!(in alloc; "{error}")?)?,
+        }
+    }
+    Ok(text)
+}
+
+#[test]
+fn matches_are_told_one_after_another(rt: HostRuntime) -> Result<(), Fail> {
+    let alloc = rt.alloc();
+    let rows: &[(&str, &[Change], &str, &str)] = &[
+        (DATE, &[], "2018-12-24 2016-10-08", "0 0 10;0 11 21;"),
+        (
+            DATE,
+            &[Change::Minimize],
+            "2018-12-24 2016-10-08",
+            "0 0 10;0 11 21;",
+        ),
+        ("\\w {1,} \\S {1,}", &[], "@foo bar", "1 0 4;0 5 8;"),
+        ("<startcrlf>", &[], "\r\n", "0 0 0;0 2 2;"),
+        ("", &[], "abc", ""),
+        (
+            "a",
+            &[Change::Quit(b'z')],
+            "abbz",
+            "0 0 1;quit search after observing byte 122 at offset 3",
+        ),
+    ];
+    for (patterns, changes, haystack, want) in rows {
+        let exprs = read(alloc, patterns)?;
+        for kind in KINDS {
+            let built = Built::new(alloc, &exprs, &plan_with(kind, changes))?;
+            let input = Input::new(haystack.as_bytes());
+            let told = shown(alloc, built.find_iter(&input))?;
+            assert!(rt; told.as_str() == *want, "{patterns}, {kind:?}: {told}");
+        }
+    }
+    Ok(())
+}
+
+/// 200 literals of three letters: `xaa`, `xab` and so on to `xjt`.
+fn literals(alloc: Global) -> Result<Vec<Expr>, Fail> {
+    let mut exprs = Vec::new(alloc);
+    for first in b'a'..=b'j' {
+        for second in b'a'..=b't' {
+            exprs.push(Expr::literal(alloc, &[b'x', first, second])?)?;
+        }
+    }
+    Ok(exprs)
+}
+
+#[test]
+fn many_patterns_are_built_and_searched(rt: HostRuntime) -> Result<(), Fail> {
+    let alloc = rt.alloc();
+    let exprs = literals(alloc)?;
+    // Forward: dead and quit, a match row for each literal, two starts, and after each of both `x`, `x` and one of 10
+    // letters, or one of 200 literals: 2 + 200 + 2 + 2 * (1 + 10 + 200). In reverse there is one start, and after it
+    // one of 20 letters, one of 10 after that, and `x`: 2 + 200 + 1 + (20 + 200 + 200).
+    for kind in KINDS {
+        let plan = plan_with(kind, &[]);
+        let rows = rows_of(alloc, &exprs, &plan)?;
+        assert!(rt; rows.as_str() == "626 623", "{kind:?}: {rows}");
+        let asked = Asked(b"yxjt.xaa", 0, 8, Mode::Anywhere);
+        let told = told(&rt, alloc, &exprs, &plan, asked)?;
+        assert!(rt; told.as_str() == "199 1 4", "{kind:?}: {told}");
     }
     Ok(())
 }
@@ -288,38 +380,70 @@ fn tables_have_so_many_rows(rt: HostRuntime) -> Result<(), Fail> {
 /// The length of an image, or why its table isn't built.
 fn image_len(
     alloc: Global,
-    patterns: &str,
-    changes: &[Change],
+    exprs: &[Expr],
+    plan: &Plan,
     direction: Direction,
     order: Order,
 ) -> Result<String, Fail> {
-    let exprs = read(alloc, patterns)?;
-    match build_image(alloc, &exprs, &plan_with(changes), direction, order) {
+    match build_image(alloc, exprs, plan, direction, order) {
         Ok(image) => Ok(format!(in alloc; "{}", image.len())?),
         Err(error) => Ok(error.to_string(alloc)?),
     }
 }
 
+/// Compares the lengths of the images that a plan has, forward and in reverse, in either order.
+fn compare_len(
+    rt: &impl Abort,
+    alloc: Global,
+    patterns: &str,
+    plan: &Plan,
+    want: (&str, &str),
+) -> Result<(), Fail> {
+    let exprs = read(alloc, patterns)?;
+    for order in [Order::Little, Order::Big] {
+        let told = image_len(alloc, &exprs, plan, Direction::Forward, order)?;
+        assert!(rt; told.as_str() == want.0, "{patterns}: {told}");
+        let told = image_len(alloc, &exprs, plan, Direction::Reverse, order)?;
+        assert!(rt; told.as_str() == want.1, "{patterns} in reverse: {told}");
+    }
+    Ok(())
+}
+
+/// The table passes its limit of 132 bytes.
+const PAST_132: &str = "DFA exceeded size limit of 132 during determinization";
+
+/// In a sparse image 704 bytes aren't rows, and the starts of a pattern are 24 more. Of its rows dead and quit have 9
+/// bytes each, a match row has 17, and any other 9, with 6 more for each range and 1 for a needle.
 #[test]
 fn images_have_so_many_bytes(rt: HostRuntime) -> Result<(), Fail> {
-    let alloc = rt.alloc();
-    let rows: &[(&str, &[Change], &str, &str)] = &[
-        ("", &[], "732", "732"),
-        ("abc", &[], "1088", "952"),
-        ("a", &[Change::ThroughBytes], "848", "808"),
+    // patterns and changes; the lengths of dense images, forward and in reverse, and those of sparse ones
+    type Lengths = (&'static str, &'static str);
+    let rows: &[(&str, &[Change], Lengths, Lengths)] = &[
+        ("", &[], ("732", "732"), ("722", "722")),
+        ("abc", &[], ("1088", "952"), ("914", "799")),
+        ("a", &[], ("848", "808"), ("812", "769")),
+        ("a", &[Change::Minimize], ("832", "808"), ("797", "769")),
+        (
+            "a",
+            &[Change::PatternStarts],
+            ("872", "832"),
+            ("836", "793"),
+        ),
+        ("a", &[Change::NoAccelerate], ("840", "808"), ("811", "769")),
         (
             "a",
             &[Change::DfaLimit(132)],
-            "DFA exceeded size limit of 132 during determinization",
-            "808",
+            (PAST_132, "808"),
+            (PAST_132, "769"),
         ),
     ];
-    for (patterns, changes, forward, reverse) in rows {
-        for order in [Order::Little, Order::Big] {
-            let told = image_len(alloc, patterns, changes, Direction::Forward, order)?;
-            assert!(rt; told.as_str() == *forward, "{patterns}: {told}");
-            let told = image_len(alloc, patterns, changes, Direction::Reverse, order)?;
-            assert!(rt; told.as_str() == *reverse, "{patterns} in reverse: {told}");
+    for (patterns, changes, dense, sparse) in rows {
+        for kind in KINDS {
+            let want = match kind.0 {
+                Form::Dense => *dense,
+                Form::Sparse => *sparse,
+            };
+            compare_len(&rt, rt.alloc(), patterns, &plan_with(kind, changes), want)?;
         }
     }
     Ok(())
