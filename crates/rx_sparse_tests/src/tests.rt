@@ -4,12 +4,14 @@ ghost use Rattle.std.specs.Prelude.{IfOk};
 ghost use Rattle.rx_order.specs.RowOrder.{IsInOrder};
 ghost use Rattle.rx_sparse.specs.Facts.{IsSoundLayout};
 
-use rx_base::{Anchored, Input, MatchKind, StateID};
+use rx_base::{
+    Anchored, HalfMatch, Input, MatchError, MatchKind, PatternID, StateID, Steps, Tally,
+};
 use rx_build::dense::{Builder, Config};
 use rx_dense::{OwnedDFA, Special};
 use rx_expr::thompson;
 use rx_notation::read;
-use rx_search::{Automaton, OverlappingState};
+use rx_search::{Automaton, Cursor, OverlappingState, find_fwd_counted};
 use rx_sparse::{DFA, ToSparse};
 use rx_wire::Order;
 use std::alloc::{AllocError, Global};
@@ -204,6 +206,89 @@ fn sparse_tables_are_searched_as_dense_ones(rt: HostRuntime) -> Result<(), Fail>
     for patterns in PATTERNS {
         check(&rt, alloc, patterns, false)?;
         check(&rt, alloc, patterns, true)?;
+    }
+    Ok(())
+}
+
+/// What a counted search from a text's start tells, and its ticks.
+fn counted<A: Automaton>(dfa: &A, text: &[u8]) -> Result<(Option<HalfMatch>, u64), MatchError>
+    requires { A.IsSound dfa.now }
+{
+    let input = Input::new(text).anchored(Anchored::Yes);
+    let mut cursor = Cursor::<&A, Tally>::forward(dfa, &input)?;
+    let mut steps = Steps::new(Tally);
+    let end = find_fwd_counted(&mut cursor, &input, &mut steps)?;
+    Ok((end, steps.count()))
+}
+
+#[test]
+fn sparse_tables_skip_as_dense_ones(rt: HostRuntime) -> Result<(), Fail> {
+    let alloc = rt.alloc();
+    // A byte is read from the start row, `x` leaves its row, and so does the unit past the span.
+    let dense = build(alloc, "[^x] {0,}", false)?;
+    let (sparse, _) = made_sparse(alloc, &dense)?;
+    let want = HalfMatch::new(PatternID::new(0)?, 3);
+    for (end, ticks) in [counted(&dense, b"aaaxaa")?, counted(&sparse, b"aaaxaa")?] {
+        assert!(&rt; end == Some(want) && ticks <= 4, "{end:?} {ticks}");
+    }
+    Ok(())
+}
+
+/// The dense table in reverse of `\b[0-9]+\b`, where the words are of Unicode, so that it quits at bytes from 0x80 on.
+fn build_number(alloc: Global) -> Result<OwnedDFA, Fail>
+    ensures { IfOk result (λ dfa. IsInOrder dfa) }
+{
+    let exprs = read(alloc, r"<uword> \d {1,} <uword> . .")?;
+    let mut builder = Builder::new();
+    builder.thompson(thompson::Config::new().reverse(true));
+    builder.configure(Config::new().unicode_word_boundary(true));
+    Ok(builder.build_many(alloc, &exprs)?)
+}
+
+/// Compares the errors of a forward search and of one in reverse over a span.
+fn check_errors<A: Automaton>(
+    rt: &impl Abort,
+    alloc: Global,
+    dfa: &A,
+    span: (&[u8], usize, usize),
+    want: &str,
+) -> Result<(), Fail>
+    requires { A.IsSound dfa.now }
+{
+    let (text, start, end) = span;
+    assert!(rt; Input::fits(text.len(), start, end));
+    let input = Input::new(text).range(start, end);
+    for found in [dfa.try_search_fwd(&input), dfa.try_search_rev(&input)] {
+        match found {
+            Ok(_) => panic!(rt; "no error"),
+            Err(error) => {
+                let told = error.to_string(alloc)?;
+                assert!(rt; told.as_str() == want, "{told}");
+            }
+        }
+    }
+    Ok(())
+}
+
+#[test]
+fn sparse_tables_quit_as_dense_ones(rt: HostRuntime) -> Result<(), Fail> {
+    let alloc = rt.alloc();
+    let dense = build_number(alloc)?;
+    let (sparse, _) = made_sparse(alloc, &dense)?;
+    let cases: &[((&[u8], usize, usize), &str)] = &[
+        (
+            (b"\xce\xb2123", 2, 5),
+            "quit search after observing byte 178 at offset 1",
+        ),
+        (
+            (b"123\xce\xb2", 0, 3),
+            "quit search after observing byte 206 at offset 3",
+        ),
+    ];
+    for (span, want) in cases {
+        check_errors(&rt, alloc, &dense, *span, want)?;
+        check_errors(&rt, alloc, &sparse, *span, want)?;
+        check_errors(&rt, alloc, &sparse.as_ref(), *span, want)?;
     }
     Ok(())
 }
