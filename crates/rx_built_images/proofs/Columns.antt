@@ -4,7 +4,8 @@ use Rattle.std.proofs.lemmas.Bool.{cases_eq, ne_eqb}
 use Rattle.rx_base.specs.ByteClasses.{AreClasses, alphabet_len}
 use Rattle.rx_dense.specs.Layouts.{Layout, column}
 
-class_used : (classes : List ℕ) → AreClasses classes → (b class : ℕ) → b < 256 → class ≤ slice_index classes b
+-- each class up to that of a byte is that of some byte
+pub class_used : (classes : List ℕ) → AreClasses classes → (b class : ℕ) → b < 256 → class ≤ slice_index classes b
     → (byte : ℕ) × (byte < 256) × (slice_index classes byte ≡ class)
 class_used classes are zero class h l = (0, omega arith, omega (arith, are.first))
 class_used classes are (suc b) class h l =

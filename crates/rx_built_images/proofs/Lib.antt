@@ -2,6 +2,8 @@
 pub mod Places
 pub mod Columns
 pub mod RangeRows
+-- kinds of rows, labels and ranges of ids, by their tests
+pub mod KindTests
 -- the tests of an image: rows, special rows, start rows, lists of patterns, needles; and all together
 pub mod WholeRows
 pub mod WholeSpecial

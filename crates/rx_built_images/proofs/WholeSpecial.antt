@@ -1,15 +1,13 @@
 -- The special ids of a table in order pass the tests of an image's special ids.
-use Rattle.std.proofs.Common.{◌≡◌, ◌≢◌, ℕ, ◌+◌, ◌*◌, ◌/◌, ◌%◌, ◌<◌, ◌≤◌, Bool, true, false, ◌&&◌, ◌||◌, not, leb}
-use Rattle.std.proofs.Common.{if◌then◌else◌}
-use Rattle.std.proofs.Common.{eqb, List, length, refl, sym, ap, subst, ◌∙◌, arith, inl, inr, max}
+use Rattle.std.proofs.Common.{◌≡◌, ◌≢◌, ℕ, ◌+◌, ◌*◌, ◌/◌, ◌%◌, ◌<◌, ◌≤◌, Bool, true, false, ◌&&◌, ◌||◌, leb}
+use Rattle.std.proofs.Common.{eqb, length, refl, sym, ap, subst, ◌∙◌, arith, inl, inr, max}
 use Rattle.std.proofs.Math.Nat.{mul-mod_left}
 use Rattle.std.proofs.lemmas.Bool.{and_parts, cases_lt, cases_eq, eq-eqb, lt-ltb, ne_eqb}
 use Rattle.std.proofs.lemmas.Nat.{mul-le, pow_pos}
-use Rattle.rx_spec.specs.Machines.{Label}
 use Rattle.rx_spec.specs.Tables.{IsSound, is_match, is_match_label}
 use Rattle.rx_dense.specs.declared.special.Special.{Special}
-use Rattle.rx_dense.specs.Specials.{greatest, is_accel_id, is_in_range, is_match_id, is_quit_id, is_start_id}
-use Rattle.rx_dense.specs.Layouts.{AreRows, IsRowId, Layout, is_row_id, patterns_at, place_in_range}
+use Rattle.rx_dense.specs.Specials.{greatest, is_accel_id, is_in_range, is_start_id}
+use Rattle.rx_dense.specs.Layouts.{AreRows, IsRowId, Layout, is_row_id}
 use Rattle.rx_dense.specs.Layouts.{row_count, stride, table_of}
 use Rattle.rx_dense.proofs.Rows.{quotient, row-below}
 use Rattle.rx_dense.proofs.Shaped.{zero_id}
@@ -21,82 +19,17 @@ use Rattle.rx_dense_image.specs.Marks.{are_past_quit, are_ranges, are_special, b
 use Rattle.rx_dense_image.specs.Marks.{is_past_quit, is_range}
 use Rattle.rx_dense_image.specs.Closing.{are_named, are_special_rows, is_named, special_stand}
 use Rattle.rx_dense_image.proofs.EachBelow.{all_of, and_of}
+use Rattle.rx_built_images.proofs.KindTests.{accelerated_low, after_of, first_of, low_accelerated, low_matches, match_is}
+use Rattle.rx_built_images.proofs.KindTests.{matches_low, or_middle}
 use Rattle.rx_built_images.proofs.Places.{rows_rise}
 use Rattle.rx_built_images.proofs.WholeRows.{row_id_passes}
 
--- ---- labels and ranges by their tests
-
-match_by : (m q : Bool) (ks : List ℕ)
-    → is_match_label (if m then Label.Matches ks else (if q then Label.Quits else Label.Plain)) ≡ m
-match_by true q ks = refl
-match_by false true ks = refl
-match_by false false ks = refl
-
--- a row matches where its id is in the range of match rows
-pub match_is : (l : Layout) (row : ℕ) → is_match (table_of l) row ≡ is_match_id l.special (row * stride l)
-match_is l row =
-    let id : ℕ = row * stride l in
-    match_by (is_match_id l.special id) (is_quit_id l.special id)
-    (patterns_at l (place_in_range l l.special.min_match id))
+-- ---- ranges by their tests
 
 pub within_range : (first last id : ℕ) → first ≤ id → id ≤ last → 0 < id → is_in_range first last id ≡ true
 within_range first last id from to some =
     let other : id ≡ 0 → ⊥ = λ e. absurd (omega (arith, some, e)) in
     rw (at_most first id from, at_most id last to, ne_eqb id 0 other) refl
-
-first_of : (first last id : ℕ) → is_in_range first last id ≡ true → first ≤ id
-first_of first last id test =
-    elim (cases_lt id first) [
-      | inl less ↦ (
-          let parts = and_parts (leb first id) (leb id last) (and_parts _ (not (eqb id 0)) test).0 in
-          grind (arith, parts.0))
-      | inr le ↦ le
-    ]
-
--- ---- kinds of rows behind quit
-
-low_matches : (m a s : Bool) → high_kind m a s ≤ 3 → m ≡ true
-low_matches true a s h = refl
-low_matches false true true h = absurd (omega (arith, h))
-low_matches false true false h = absurd (omega (arith, h))
-low_matches false false true h = absurd (omega (arith, h))
-low_matches false false false h = absurd (omega (arith, h))
-
-matches_low : (m a s : Bool) → m ≡ true → high_kind m a s ≤ 3
-matches_low true true s e = omega arith
-matches_low true false s e = omega arith
-matches_low false a s e = absurd cc
-
-accelerated_low : (m a s : Bool) → a ≡ true → high_kind m a s ≤ 5
-accelerated_low true true s e = omega arith
-accelerated_low false true true e = omega arith
-accelerated_low false true false e = omega arith
-accelerated_low m false s e = absurd cc
-
-low_accelerated : (m a s : Bool) → m ≡ false → high_kind m a s ≤ 5 → a ≡ true
-low_accelerated m true s e h = refl
-low_accelerated true false s e h = absurd cc
-low_accelerated false false true e h = absurd (omega (arith, h))
-low_accelerated false false false e h = absurd (omega (arith, h))
-
-or_last : (a b : Bool) → (a || b || true) ≡ true
-or_last true b = refl
-or_last false true = refl
-or_last false false = refl
-
-or_middle : (a : Bool) → (a || true) ≡ true
-or_middle true = refl
-or_middle false = refl
-
-after_of : (first other : ℕ) → (first ≢ 0 → other ≢ 0 → other ≤ first) → begins_after first other ≡ true
-after_of first other h =
-    elim (cases_eq first 0) [
-      | inl e ↦ (rw e refl)
-      | inr some ↦ (elim (cases_eq other 0) [
-        | inl e ↦ (rw e (ap (λ (b : Bool). b || leb 0 first) (or_middle (eqb first 0))))
-        | inr more ↦ (rw (at_most other first (h some more)) (or_last (eqb first 0) (eqb other 0)))
-      ])
-    ]
 
 module _ (l : Layout) (rows : AreRows l) (sound : IsSound (table_of l)) (ordered : IsOrdered l) where
   some : 0 < stride l

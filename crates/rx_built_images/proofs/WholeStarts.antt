@@ -24,24 +24,13 @@ use Rattle.rx_dense_image.specs.StartTables.{IsAtMost, IsReadStartTable}
 use Rattle.rx_dense_image.specs.Closing.{is_start_row, is_universal, starts_stand}
 use Rattle.rx_dense_image.specs.Images.{start_table_of}
 use Rattle.rx_dense_image.proofs.EachBelow.{and_of}
+use Rattle.rx_built_images.proofs.KindTests.{plain_matches, plain_quits}
 use Rattle.rx_built_images.proofs.Places.{all_places, not_of}
 use Rattle.rx_built_images.proofs.WholeRows.{row_id_passes}
 
 few_patterns : (o : Option ℕ) → start_entries o ≤ 12 + 6 * (max_id + 1) → IsAtMost id_count o
 few_patterns None h = tt
 few_patterns (Some n) h = omega (arith, h)
-
--- a label by its two tests
-plain_matches : (m q : Bool) (ks : List ℕ)
-    → (if m then Label.Matches ks else (if q then Label.Quits else Label.Plain)) ≡ Label.Plain → m ≡ true → ⊥
-plain_matches true q ks e h = cc
-plain_matches false q ks e h = cc
-
-plain_quits : (m q : Bool) (ks : List ℕ)
-    → (if m then Label.Matches ks else (if q then Label.Quits else Label.Plain)) ≡ Label.Plain → q ≡ true → ⊥
-plain_quits true q ks e h = cc
-plain_quits false true ks e h = cc
-plain_quits false false ks e h = cc
 
 -- no row, or one
 IsRowIfSome : Layout → Option ℕ → Type 0

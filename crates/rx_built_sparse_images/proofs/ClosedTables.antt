@@ -32,18 +32,14 @@ use Rattle.rx_sparse_image.specs.Closing as closing
 use Rattle.rx_sparse_image.specs.Closing.{are_special_rows, each_row, has_needles, is_closed, is_row_id, is_start_row}
 use Rattle.rx_sparse_image.specs.Closing.{is_universal, leads_on, leaves, row_stands, rows_stand, starts_stand}
 use Rattle.rx_sparse_image.proofs.ClosedRows.{unit_leads}
-use Rattle.rx_built_sparse_images.proofs.RangesLead.{among_at, class_used}
+use Rattle.rx_built_images.proofs.Columns.{class_used}
+use Rattle.rx_built_images.proofs.KindTests.{plain_matches, plain_quits}
+use Rattle.rx_built_images.proofs.Places.{all_places, not_of}
+use Rattle.rx_built_sparse_images.proofs.RangesLead.{among_at}
 use Rattle.rx_built_sparse_images.proofs.Ready.{IsReady, back, dead_is, next_is_id, quit_is, quit_some}
 use Rattle.rx_built_sparse_images.proofs.Ready.{same_test, zero_of}
 
 -- ---- tests
-
--- each element passes where each place has one that does
-all_places : (p : ℕ → Bool) (xs : List ℕ) → ((k : ℕ) → k < length xs → p (slice_index xs k) ≡ true)
-    → list_all p xs ≡ true
-all_places p [] h = refl
-all_places p (x ∷ xs) h =
-    and_of (p x) (list_all p xs) (h 0 (omega arith)) (all_places p xs (λ k lt. h (suc k) (omega (arith, lt))))
 
 -- each row passes at its offset
 each_of : (test : ℕ → Row → Bool) (at : ℕ) (rows : List Row)
@@ -59,23 +55,6 @@ each_of test at (r ∷ rows) h =
 asked_if : (b c : Bool) → (b ≡ true → c ≡ true) → (if b then c else true) ≡ true
 asked_if true c h = h refl
 asked_if false c h = refl
-
--- what doesn't hold fails
-not_of : (b : Bool) → (b ≡ true → ⊥) → not b ≡ true
-not_of true h = absurd (h refl)
-not_of false h = refl
-
--- a plain row neither matches nor quits
-plain_matches : (m q : Bool) (ks : List ℕ)
-    → (if m then Label.Matches ks else (if q then Label.Quits else Label.Plain)) ≡ Label.Plain → m ≡ true → ⊥
-plain_matches true q ks e h = cc
-plain_matches false q ks e h = cc
-
-plain_quits : (m q : Bool) (ks : List ℕ)
-    → (if m then Label.Matches ks else (if q then Label.Quits else Label.Plain)) ≡ Label.Plain → q ≡ true → ⊥
-plain_quits true q ks e h = cc
-plain_quits false true ks e h = cc
-plain_quits false false ks e h = cc
 
 -- ---- where a start entry stands
 

@@ -1,8 +1,6 @@
--- The first class of a range leads where the range leads, and each class is that of some byte.
+-- The first class of a range leads where the range leads.
 use Rattle.std.proofs.Common.{◌≡◌, ℕ, zero, suc, ◌+◌, ◌<◌, ◌≤◌, Bool, true, false, cond, leb, List, [], ◌∷◌, length}
-use Rattle.std.proofs.Common.{get_or, slice_index, refl, ap, sym, subst, ◌∙◌, ⊎_elim, arith}
-use Rattle.std.proofs.lemmas.Bool.{cases_eq}
-use Rattle.rx_base.specs.ByteClasses.{AreClasses}
+use Rattle.std.proofs.Common.{get_or, refl, ap, subst, ◌∙◌, arith}
 use Rattle.rx_order.proofs.KindNumbers.{at_most, over}
 use Rattle.rx_dense_image.proofs.EachBelow.{and_false}
 use Rattle.rx_sparse.specs.declared.ranges.ClassRange.{ClassRange}
@@ -54,15 +52,3 @@ among_at (r ∷ ranges) are (suc i) h =
     and_false (leb r.first class) (leb class r.last) (over class r.last past) in
     ap (λ (b : Bool). cond b r.next (next_among ranges class)) no
     ∙ among_at ranges (tail r ranges are) i (omega (arith, h))
-
--- each class up to that of a byte is that of some byte
-pub class_used : (classes : List ℕ) → AreClasses classes → (b class : ℕ) → b < 256 → class ≤ slice_index classes b
-    → (byte : ℕ) × (byte < 256) × (slice_index classes byte ≡ class)
-class_used classes are zero class h l = (0, omega arith, omega (arith, are.first))
-class_used classes are (suc b) class h l =
-    ⊎_elim (λ (e : class ≡ slice_index classes (suc b)). (suc b, h, sym e))
-    (λ (ne : class ≡ slice_index classes (suc b) → ⊥).
-    let next : slice_index classes (suc b) ≤ slice_index classes b + 1 =
-    subst (λ n. slice_index classes n ≤ slice_index classes b + 1) (omega arith) (are.by_one b (omega arith)) in
-    class_used classes are b class (omega arith) (omega arith))
-    (cases_eq class (slice_index classes (suc b)))

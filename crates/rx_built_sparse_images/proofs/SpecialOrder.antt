@@ -1,13 +1,12 @@
 -- The special ids of a dense table in order are in order among themselves, as an image asks for.
-use Rattle.std.proofs.Common.{◌≡◌, ◌≢◌, ℕ, ◌*◌, ◌/◌, ◌<◌, ◌≤◌, Bool, true, false, ◌&&◌, ◌||◌, not, leb, eqb}
-use Rattle.std.proofs.Common.{if◌then◌else◌, List, refl, sym, ap, ◌∙◌, arith, inl, inr}
-use Rattle.std.proofs.lemmas.Bool.{and_parts, cases_lt, cases_eq, leb-true, lt-ltb, ne_eqb}
+use Rattle.std.proofs.Common.{◌≡◌, ◌≢◌, ℕ, ◌*◌, ◌/◌, ◌<◌, ◌≤◌, true, false, ◌&&◌, leb, eqb}
+use Rattle.std.proofs.Common.{refl, sym, ap, ◌∙◌, arith, inl, inr}
+use Rattle.std.proofs.lemmas.Bool.{and_parts, cases_lt, lt-ltb, ne_eqb}
 use Rattle.std.proofs.lemmas.Nat.{mul-le}
-use Rattle.rx_spec.specs.Machines.{Label}
 use Rattle.rx_spec.specs.Tables.{IsSound, is_match, is_match_label}
 use Rattle.rx_dense.specs.declared.special.Special.{Special}
-use Rattle.rx_dense.specs.Specials.{greatest, is_in_range, is_match_id, is_quit_id, is_start_id}
-use Rattle.rx_dense.specs.Layouts.{Layout, patterns_at, place_in_range, row_count, stride, table_of}
+use Rattle.rx_dense.specs.Specials.{greatest, is_in_range, is_start_id}
+use Rattle.rx_dense.specs.Layouts.{Layout, row_count, stride, table_of}
 use Rattle.rx_dense.proofs.Rows.{quotient, row-below}
 use Rattle.rx_order.specs.RowOrder.{IsOrdered, IsRange, is_marked, is_start_row, kind_of}
 use Rattle.rx_order.proofs.KindNumbers.{at_most, high_kind, kind_high}
@@ -15,6 +14,9 @@ use Rattle.rx_order.proofs.MarkedRows.{start_row_plain}
 use Rattle.rx_dense_image.specs.Marks.{are_past_quit, are_ranges, are_special, begin_in_order, begins_after}
 use Rattle.rx_dense_image.specs.Marks.{is_past_quit, is_range}
 use Rattle.rx_dense_image.proofs.EachBelow.{and_of}
+use Rattle.rx_built_images.proofs.KindTests.{accelerated_low, after_of, first_of, low_accelerated, low_matches, match_is}
+use Rattle.rx_built_images.proofs.KindTests.{matches_low, or_middle}
+use Rattle.rx_built_images.proofs.Places.{rows_rise}
 
 -- ---- what is asked of special ids among themselves, one by one
 
@@ -51,85 +53,7 @@ are_special_of s o =
     (and_of (are_ranges s && are_past_quit s) (begin_in_order s) (and_of (are_ranges s) (are_past_quit s) ranges pasts)
     order) most
 
--- ---- labels, ranges and kinds by their tests
-
--- a label is one of patterns where the first of its two tests holds
-match_by : (m q : Bool) (ks : List ℕ)
-    → is_match_label (if m then Label.Matches ks else (if q then Label.Quits else Label.Plain)) ≡ m
-match_by true q ks = refl
-match_by false true ks = refl
-match_by false false ks = refl
-
--- a row matches where its id is in the range of match rows
-match_is : (l : Layout) (row : ℕ) → is_match (table_of l) row ≡ is_match_id l.special (row * stride l)
-match_is l row =
-    let id : ℕ = row * stride l in
-    match_by (is_match_id l.special id) (is_quit_id l.special id)
-    (patterns_at l (place_in_range l l.special.min_match id))
-
--- an id in a range is no less than the first of the range
-from_first : (first last id : ℕ) → is_in_range first last id ≡ true → first ≤ id
-from_first first last id test =
-    leb-true first id (and_parts (leb first id) (leb id last) (and_parts _ (not (eqb id 0)) test).0).0
-
--- of the kinds behind quit, those up to 3 are of match rows, and those up to 5 of match rows and accelerated ones
-low_matches : (m a s : Bool) → high_kind m a s ≤ 3 → m ≡ true
-low_matches true a s h = refl
-low_matches false true true h = absurd (omega (arith, h))
-low_matches false true false h = absurd (omega (arith, h))
-low_matches false false true h = absurd (omega (arith, h))
-low_matches false false false h = absurd (omega (arith, h))
-
-matches_low : (m a s : Bool) → m ≡ true → high_kind m a s ≤ 3
-matches_low true true s e = omega arith
-matches_low true false s e = omega arith
-matches_low false a s e = absurd cc
-
-accelerated_low : (m a s : Bool) → a ≡ true → high_kind m a s ≤ 5
-accelerated_low true true s e = omega arith
-accelerated_low false true true e = omega arith
-accelerated_low false true false e = omega arith
-accelerated_low m false s e = absurd cc
-
-low_accelerated : (m a s : Bool) → m ≡ false → high_kind m a s ≤ 5 → a ≡ true
-low_accelerated m true s e h = refl
-low_accelerated true false s e h = absurd cc
-low_accelerated false false true e h = absurd (omega (arith, h))
-low_accelerated false false false e h = absurd (omega (arith, h))
-
--- one that holds is enough
-or_last : (a b : Bool) → (a || b || true) ≡ true
-or_last true b = refl
-or_last false true = refl
-or_last false false = refl
-
-or_middle : (a : Bool) → (a || true) ≡ true
-or_middle true = refl
-or_middle false = refl
-
--- one range begins no sooner than another where that holds of two that have rows
-after_of : (first other : ℕ) → (first ≢ 0 → other ≢ 0 → other ≤ first) → begins_after first other ≡ true
-after_of first other h =
-    elim (cases_eq first 0) [
-      | inl e ↦ (rw e refl)
-      | inr some ↦ (elim (cases_eq other 0) [
-        | inl e ↦ (rw e (ap (λ (b : Bool). b || leb 0 first) (or_middle (eqb first 0))))
-        | inr more ↦ (rw (at_most other first (h some more)) (or_last (eqb first 0) (eqb other 0)))
-      ])
-    ]
-
 -- ---- numbers of rows
-
--- rows lie as their ids do
-rows_rise : (x y s : ℕ) → x * s < y * s → x ≤ y
-rows_rise x y s lt =
-    elim (cases_lt y x) [
-      | inl less ↦ (
-          let same : s ≤ s = omega arith in
-          let le : y ≤ x = omega (arith, less) in
-          absurd (omega (arith, lt, mul-le y s x s le same)))
-      | inr le ↦ le
-    ]
 
 -- a row past the first behind dead is behind quit
 behind_quit : (row s : ℕ) → s < row * s → 1 < row
@@ -206,7 +130,7 @@ module _ (l : Layout) (sound : IsSound (table_of l)) (ordered : IsOrdered l) whe
             (match_is l y ∙ m.within) in
             let matches = low_matches (is_match (table_of l) x) ((table_of l).is_accelerated x) (is_start_row l x)
             (omega (arith, high_rises x y a.behind le m.below, low)) in
-            let from = from_first l.special.min_match l.special.max_match (x * stride l)
+            let from = first_of l.special.min_match l.special.max_match (x * stride l)
             (sym (match_is l x) ∙ matches) in
             absurd (omega (arith, less, from, a.id)))
         | inr le ↦ le
@@ -236,7 +160,7 @@ module _ (l : Layout) (sound : IsSound (table_of l)) (ordered : IsOrdered l) whe
             let accelerated = low_accelerated (is_match (table_of l) x) ((table_of l).is_accelerated x)
             (is_start_row l x) (start_plain x a.below a.within)
             (omega (arith, high_rises x y a.behind le m.below, low)) in
-            let from = from_first l.special.min_accel l.special.max_accel (x * stride l) accelerated in
+            let from = first_of l.special.min_accel l.special.max_accel (x * stride l) accelerated in
             absurd (omega (arith, less, from, a.id)))
         | inr le ↦ le
       ])
