@@ -10,12 +10,15 @@ const SEED: u64 = 0x243f_6a88_85a3_08d3;
 const FACTOR: u64 = 0x9e37_79b9_7f4a_7c15;
 
 /// A hash of a list of numbers.
+///
+/// No multiplication waits for the one before, so those of all numbers go on at once. The rotation lets every number
+/// reach every bit, and comes round after 64 numbers; the carries of the sum tell such numbers apart.
 #[tactic(auto, unfolding(crate::specs::Hash::hash_of))]
 pub(crate) fn hash_of(key: &[u32]) -> u64
     ensures { result ≡ hash_of key.now }
 {
-    key.iter().fold(
-        SEED,
-        |hash, number| (hash ^ u64::from(*number)).wrapping_mul(FACTOR),
-    )
+    key.iter().fold(SEED, |hash, number| {
+        hash.rotate_left(29)
+            .wrapping_add(u64::from(*number).wrapping_mul(FACTOR))
+    })
 }
