@@ -1,5 +1,7 @@
 -- rows while they are moved, one exchange after another
 pub mod Moved
+-- rows that lie in order already
+pub mod InPlace
 -- rows in the order of their kinds
 pub mod ByKind
 -- tables whose rows were moved and renamed

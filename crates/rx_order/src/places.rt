@@ -41,8 +41,13 @@ impl Places {
         requires order { IsPermutation (range_with_len 0 (row_count dfa.old)) order.now }
         ensures { IsReordered order.now dfa.old dfa.new }
     {
-        let Places { mut lying, mut ids } = self;
         let stride2 = dfa.stride2();
+        // Where the order rises, each row is in its place, and the table stays as it is.
+        if order.is_sorted() {
+            prove!(dfa.words().len() >> stride2 == order.len());
+            return;
+        }
+        let Places { mut lying, mut ids } = self;
         for place in 0..order.len() {
             let row = order[place] as usize;
             let other = lying[place] as usize;

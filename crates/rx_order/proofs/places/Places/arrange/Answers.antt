@@ -1,14 +1,26 @@
-use Rattle.std.proofs.Common.{◌≡◌, ◌*◌, ◌/◌, ◌^◌, ◌∙◌, ℕ, List, slice_index, ap, sym, refl, subst, arith}
+use Rattle.std.proofs.Common.{◌≡◌, ◌*◌, ◌/◌, ◌^◌, ◌∙◌, ℕ, List, slice_index, ap, sym, refl, subst, true, arith}
 use Rattle.std.proofs.Math.Nat.{mul-div_cancel}
 use Rattle.std.proofs.lemmas.List.{get_or_default}
+use Rattle.std.proofs.lemmas.List.Sorted.{non_decreasing_from_is_sorted}
 use Rattle.std.proofs.lemmas.Nat.{pow_pos}
 use Rattle.rx_remap.proofs.Places.{count_of}
 use Rattle.rx_dense.specs.Builder.{AreSwapped}
 use Rattle.rx_dense.specs.Layouts.{Layout, stride}
 use Rattle.std.specs.List.{swap}
 use Rattle.rx_order.specs.Moved.{AreMoved}
+use Rattle.rx_order.proofs.InPlace.{each_in_place, in_place}
 use Rattle.rx_order.proofs.Moved.{IsExchange, all_ids, exchanged, id_of_place, placed, turn, unmoved}
 use Rattle.rx_order.proofs.places.Places.arrange.Goals as goal
+
+pub prove-unreachable-requires : goal.prove-unreachable-requires
+prove-unreachable-requires c =
+    c.if-prove.true
+    (rw (c.words.ensures.value, c.stride2-stride2.ensures.value) (sym (count_of c.requires.order)))
+
+pub returns-then-is_sorted : goal.returns-then-is_sorted
+returns-then-is_sorted c =
+    let rises = non_decreasing_from_is_sorted c.args.order.now true c.if-is_sorted.ensures.cases in
+    in_place c.words.ensures.rows c.words.ensures.starts c.requires.unmoved (each_in_place _ c.requires.order rises)
 
 pub loop-place-init : goal.loop-place-init
 loop-place-init c = record {
