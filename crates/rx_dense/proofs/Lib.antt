@@ -6,7 +6,7 @@ pub mod AccelLists
 pub mod RowKinds
 -- what each change leaves true of a table
 pub mod Shaped
--- rows that change places
+-- rows that change places or are copied
 pub mod Swaps
 -- rows that are renamed
 pub mod Renaming

@@ -18,7 +18,7 @@ use Rattle.rx_dense.specs.Layouts.{Layout, IsRowId, AreRows, AreStarts, AreLists
 use Rattle.rx_dense.specs.Layouts.{start_entries, stride}
 use Rattle.rx_search.specs.Starts.{IsId}
 use Rattle.rx_dense.specs.declared.special.Special.{Special}
-use Rattle.rx_dense.specs.Builder.{AreSwapped, Beginning, IsOutside, initial, with_row, with_rows}
+use Rattle.rx_dense.specs.Builder.{AreSwapped, Beginning, IsCopied, IsOutside, initial, with_row, with_rows}
 use Rattle.rx_dense.proofs.Rows.{IsId-row_id, alphabet_few, multiple_within, no_more, quotient}
 
 -- ---- parts that stay
@@ -378,6 +378,27 @@ rows_apart l x y x_is y_is ne =
     (cases_eq x y))
     (cases_lt x y)
 
+-- the places of rows
+module _ (l : Layout) where
+  in_row : (id c : ℕ) → IsRowId l id → c < stride l → id + c < length l.words
+  in_row id c is low = (let below = is.below in omega arith)
+
+  same_column : (id other c : ℕ) → IsRowId l id → IsRowId l other → c < stride l
+      → (id + c) % stride l ≡ (other + c) % stride l
+  same_column id other c is other_is low =
+      at_column id c (stride l) is.whole low ∙ sym (at_column other c (stride l) other_is.whole low)
+
+  by_row : {X : Type 0} (id k : ℕ) → ((c : ℕ) → c < stride l → k ≡ id + c → X) → (IsOutside id (stride l) k → X) → X
+  by_row id k inside outside =
+      ⊎_elim
+      (λ (a : k < id). outside (inl a))
+      (λ (a : id ≤ k).
+      ⊎_elim
+      (λ (b : k < id + stride l). inside (k - id) (omega arith) (omega arith))
+      (λ (b : id + stride l ≤ k). outside (inr b))
+      (cases_lt k (id + stride l)))
+      (cases_lt k id)
+
 -- two rows have changed places
 module _ (l : Layout) (ws : List ℕ) (x y : ℕ) (h : IsShaped l) (x_is : IsRowId l x) (y_is : IsRowId l y)
     (swapped : AreSwapped (stride l) l.words ws x y) where
@@ -387,43 +408,49 @@ module _ (l : Layout) (ws : List ℕ) (x y : ℕ) (h : IsShaped l) (x_is : IsRow
       → P k (slice_index l.words j))
       → (k : ℕ) → k < length l.words → P k (slice_index ws k)
   from P old k b =
-      by_row x k
+      by_row l x k
       (λ c low e.
       subst (λ k. P k (slice_index ws k)) (sym e)
       (subst (P (x + c)) (sym (swapped.at_first c low))
-      (old (x + c) (y + c) (in_row x c x_is low) (in_row y c y_is low) (same_column x y c x_is y_is low))))
+      (old (x + c) (y + c) (in_row l x c x_is low) (in_row l y c y_is low) (same_column l x y c x_is y_is low))))
       (λ outside_x.
-      by_row y k
+      by_row l y k
       (λ c low e.
       subst (λ k. P k (slice_index ws k)) (sym e)
       (subst (P (y + c)) (sym (swapped.at_second c low))
-      (old (y + c) (x + c) (in_row y c y_is low) (in_row x c x_is low) (same_column y x c y_is x_is low))))
+      (old (y + c) (x + c) (in_row l y c y_is low) (in_row l x c x_is low) (same_column l y x c y_is x_is low))))
       (λ outside_y. subst (P k) (sym (swapped.others k outside_x outside_y)) (old k k b b refl)))
-    where
-      in_row : (id c : ℕ) → IsRowId l id → c < stride l → id + c < length l.words
-      in_row id c is low = (let below = is.below in omega arith)
-
-      same_column : (id other c : ℕ) → IsRowId l id → IsRowId l other → c < stride l
-          → (id + c) % stride l ≡ (other + c) % stride l
-      same_column id other c is other_is low =
-          at_column id c (stride l) is.whole low ∙ sym (at_column other c (stride l) other_is.whole low)
-
-      by_row : {X : Type 0} (id k : ℕ) → ((c : ℕ) → c < stride l → k ≡ id + c → X) → (IsOutside id (stride l) k → X) → X
-      by_row id k inside outside =
-          ⊎_elim
-          (λ (a : k < id). outside (inl a))
-          (λ (a : id ≤ k).
-          ⊎_elim
-          (λ (b : k < id + stride l). inside (k - id) (omega arith) (omega arith))
-          (λ (b : id + stride l ≤ k). outside (inr b))
-          (cases_lt k (id + stride l)))
-          (cases_lt k id)
 
   pub shaped_swap : IsShaped (record l { words = ws })
   shaped_swap =
       shaped_words l ws swapped.count
       (from (λ k w. IsRowId l w) (λ k j b in_j e. h.rows.next_ids j in_j))
       (from (λ k w. alphabet_len l.classes ≤ k % stride l → w ≡ 0)
+      (λ k j b in_j e past. h.rows.past_alphabet j in_j (omega (arith, e, past))))
+      h
+
+-- a row is as another one
+module _ (l : Layout) (ws : List ℕ) (from to : ℕ) (h : IsShaped l) (from_is : IsRowId l from) (to_is : IsRowId l to)
+    (copied : IsCopied (stride l) l.words ws from to) where
+  -- each word is an old one of the same column
+  as_old : (P : ℕ → ℕ → Type 0)
+      → ((k j : ℕ) → k < length l.words → j < length l.words → k % stride l ≡ j % stride l
+      → P k (slice_index l.words j))
+      → (k : ℕ) → k < length l.words → P k (slice_index ws k)
+  as_old P old k b =
+      by_row l to k
+      (λ c low e.
+      subst (λ k. P k (slice_index ws k)) (sym e)
+      (subst (P (to + c)) (sym (copied.there c low))
+      (old (to + c) (from + c) (in_row l to c to_is low) (in_row l from c from_is low)
+      (same_column l to from c to_is from_is low))))
+      (λ outside. subst (P k) (sym (copied.others k outside)) (old k k b b refl))
+
+  pub shaped_copy : IsShaped (record l { words = ws })
+  shaped_copy =
+      shaped_words l ws copied.count
+      (as_old (λ k w. IsRowId l w) (λ k j b in_j e. h.rows.next_ids j in_j))
+      (as_old (λ k w. alphabet_len l.classes ≤ k % stride l → w ≡ 0)
       (λ k j b in_j e past. h.rows.past_alphabet j in_j (omega (arith, e, past))))
       h
 

@@ -1,10 +1,10 @@
--- Rows that change places, word by word.
+-- Rows that change places or are copied, word by word.
 use Rattle.std.proofs.Common.{◌≡◌, ◌≢◌, ℕ, ◌+◌, ◌<◌, ◌≤◌, ◌⊎◌, List, length, slice_index, refl, sym, ◌∙◌}
-use Rattle.std.proofs.Common.{subst, ⊎_elim, arith}
+use Rattle.std.proofs.Common.{subst, ⊎_elim, inl, inr, arith}
 use Rattle.std.specs.Prelude.{slice_set}
 use Rattle.std.proofs.lemmas.Bool.{cases_eq}
 use Rattle.std.proofs.lemmas.List.{get_or-set_same, get_or-set_other, length-set}
-use Rattle.rx_dense.specs.Builder.{AreSwapped, IsOutside}
+use Rattle.rx_dense.specs.Builder.{AreSwapped, IsCopied, IsOutside}
 
 -- so many columns are exchanged, and the others are not
 pub record Exchange (width column : ℕ) (old new : List ℕ) (first second : ℕ) : Type 0 where
@@ -130,3 +130,66 @@ module _ (width column first second : ℕ) (old new : List ℕ) where
           (λ (a : k < row). absurd (omega arith))
           (λ (a : row + width ≤ k). absurd (omega arith))
           o
+
+-- ---- a row that is copied
+
+-- so many columns are copied, and the source has stayed
+pub record Copying (width column : ℕ) (old new : List ℕ) (from to : ℕ) : Type 0 where
+  pub count : length new ≡ length old
+  pub there : (c : ℕ) → c < column → slice_index new (to + c) ≡ slice_index old (from + c)
+  pub others : (k : ℕ) → IsOutside to width k → slice_index new k ≡ slice_index old k
+
+pub none_copied : (width from to : ℕ) (old : List ℕ) → Copying width 0 old old from to
+none_copied width from to old = record {
+  count = refl;
+  there = λ c h. absurd (omega (arith, h));
+  others = λ k o. refl;
+}
+
+pub all_copied : (width column from to : ℕ) (old new : List ℕ) → width ≤ column → Copying width column old new from to
+    → IsCopied width old new from to
+all_copied width column from to old new all h = record {
+  count = h.count;
+  there = λ c b. h.there c (omega arith);
+  others = h.others;
+}
+
+pub one_copied : (width column from to : ℕ) (old new : List ℕ) → Copying width column old new from to
+    → column < width → to + width ≤ length old → (from + width ≤ to) ⊎ (to + width ≤ from)
+    → Copying width (column + 1) old (slice_set new (to + column) (slice_index new (from + column))) from to
+one_copied width column from to old new h low fits apart = record {
+  count = length-set _ _ _ ∙ h.count;
+  there = λ c b.
+      ⊎_elim
+      (λ (e : c ≡ column).
+      subst (λ c. slice_index next (to + c) ≡ slice_index old (from + c)) (sym e)
+      (get_or-set_same new (to + column) word 0 within ∙ h.others (from + column) source))
+      (λ (ne : c ≡ column → ⊥).
+      get_or-set_other new (to + column) (to + c) word 0 (λ e. ne (omega arith)) ∙ h.there c (omega arith))
+      (cases_eq c column);
+  others = λ k o.
+      get_or-set_other new (to + column) k word 0 (outside k o) ∙ h.others k o;
+}
+  where
+    word : ℕ
+    word = slice_index new (from + column)
+
+    next : List ℕ
+    next = slice_set new (to + column) word
+
+    within : to + column < length new
+    within = let n = h.count in omega arith
+
+    source : IsOutside to width (from + column)
+    source =
+        ⊎_elim
+        (λ (a : from + width ≤ to). inl (omega arith))
+        (λ (a : to + width ≤ from). inr (omega arith))
+        apart
+
+    outside : (k : ℕ) → IsOutside to width k → k ≢ to + column
+    outside k o e =
+        ⊎_elim
+        (λ (a : k < to). absurd (omega arith))
+        (λ (a : to + width ≤ k). absurd (omega arith))
+        o

@@ -98,6 +98,12 @@ pub record AreSwapped (width : ℕ) (old new : List ℕ) (first second : ℕ) : 
   pub at_second : (c : ℕ) → c < width → slice_index new (second + c) ≡ slice_index old (first + c)
   pub others : (k : ℕ) → IsOutside first width k → IsOutside second width k → slice_index new k ≡ slice_index old k
 
+-- a row of so many words is as another one, and all other words have stayed
+pub record IsCopied (width : ℕ) (old new : List ℕ) (from to : ℕ) : Type 0 where
+  pub count : length new ≡ length old
+  pub there : (c : ℕ) → c < width → slice_index new (to + c) ≡ slice_index old (from + c)
+  pub others : (k : ℕ) → IsOutside to width k → slice_index new k ≡ slice_index old k
+
 -- the id that a list, with one for each row, has for the row of an id
 abbrev pub renamed_id : Layout → List ℕ → ℕ → ℕ
 renamed_id l ids id = slice_index ids (id / stride l)

@@ -204,6 +204,28 @@ fn rows_and_starts_change_as_the_builder_says(rt: HostRuntime) -> Result<(), Fai
 }
 
 #[test]
+fn a_copied_row_leads_where_the_other_leads(rt: HostRuntime) -> Result<(), Fail> {
+    let mut dfa = begin(rt.alloc(), classes_apart(b"xz"))?;
+    dfa.add_empty_state()?;
+    dfa.add_empty_state()?;
+    fill(&rt, &mut dfa, 2, &UNITS, &[2, 0, 2, 1, 2, 3]);
+    start_at(&rt, &mut dfa, &Anchored::No, Start::Text, 2);
+    let copies: [(usize, usize, &[[usize; 6]]); 4] = [
+        (2, 3, &[NONE, NONE, GOES, GOES]),
+        (3, 3, &[NONE, NONE, GOES, GOES]),
+        (0, 2, &[NONE, NONE, NONE, GOES]),
+        (3, 1, &[NONE, GOES, NONE, GOES]),
+    ];
+    for (from, to, rows) in copies {
+        let from_id = id(&rt, &dfa, from);
+        let to_id = id(&rt, &dfa, to);
+        dfa.copy_state(from_id, to_id);
+        check(&rt, &dfa, rows, &ONE);
+    }
+    Ok(())
+}
+
+#[test]
 fn what_is_set_is_told(rt: HostRuntime) -> Result<(), Fail> {
     let alloc = rt.alloc();
     let mut dfa = begin(alloc, classes_apart(b"xz"))?;

@@ -2,8 +2,9 @@
 
 ghost use Rattle.std.specs.Prelude.{◌≡◌, ℕ, ◌<◌, ◌≤◌, ◌⊎◌, ◌+◌, ◌*◌, ◌/◌, ◌%◌, ◌^◌, length, slice_index, map, All};
 ghost use Rattle.rx_search.specs.Starts.{IsId};
-ghost use Rattle.rx_dense.specs.Builder.{AreSwapped, IsMachineRenamed, renamed, with_renamed_row, with_rows};
-ghost use Rattle.rx_dense.specs.Layouts.{ids_of, row_count, stride};
+ghost use Rattle.rx_dense.specs.Builder.{AreSwapped, IsCopied, IsMachineRenamed, renamed};
+ghost use Rattle.rx_dense.specs.Builder.{with_renamed_row, with_rows};
+ghost use Rattle.rx_dense.specs.Layouts.{AreRows, ids_of, row_count, stride};
 
 use crate::DFA;
 use rx_base::StateID;
@@ -21,6 +22,21 @@ impl DFA<Vec<u32>> {
         }
         let width = self.stride();
         swap_rows(&mut self.words, id1.as_usize(), id2.as_usize(), width);
+    }
+
+    /// Lets a row lead where another one leads. Nothing else changes.
+    pub fn copy_state(&mut self, from: StateID, to: StateID)
+        requires from { IsId (ids_of self.old) from }
+        requires to { IsId (ids_of self.old) to }
+        ensures rest { self.new ≡ record self.old { words = self.new.words } }
+        ensures copied { IsCopied (stride self.old) self.old.words self.new.words from to }
+        ensures rows { AreRows self.new }
+    {
+        let width = self.stride();
+        if from == to {
+            return;
+        }
+        copy_row(&mut self.words, from.as_usize(), to.as_usize(), width);
     }
 
     /// Renames all rows: whatever led to a row, from a row or as a start entry, leads to the row whose id the map has
@@ -76,6 +92,18 @@ fn swap_rows(words: &mut Vec<u32>, first: usize, second: usize, width: usize)
         let kept = words[first + column];
         words[first + column] = words[second + column];
         words[second + column] = kept;
+    }
+}
+
+/// Copies a row of so many words over another one, which lies apart.
+fn copy_row(words: &mut [u32], from: usize, to: usize, width: usize)
+    requires from_within { from + width ≤ length words.old }
+    requires to_within { to + width ≤ length words.old }
+    requires apart { (from + width ≤ to) ⊎ (to + width ≤ from) }
+    ensures { IsCopied width words.old words.new from to }
+{
+    for column in 0..width {
+        words[to + column] = words[from + column];
     }
 }
 
