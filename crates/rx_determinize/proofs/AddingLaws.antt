@@ -1,6 +1,6 @@
 -- Entering a state: what is kept where it is new, and what its size passes.
 use Rattle.std.proofs.Common.{◌≡◌, ◌≢◌, ℕ, ◌+◌, ◌*◌, ◌/◌, ◌<◌, true, Some, List, [], ◌∷◌, ◌++◌}
-use Rattle.std.proofs.Common.{length, get_or, replicate, Option, length-append, refl, ap, sym, ◌∙◌, subst, arith}
+use Rattle.std.proofs.Common.{length, get_or, length-append, refl, ap, sym, ◌∙◌, subst, arith}
 use Rattle.std.proofs.lemmas.List.{length-map, map-append, length_push, get_or-map, get_or_default, length-replicate}
 use Rattle.std.proofs.Math.Nat.{mul-le-mul_left}
 use Rattle.std.proofs.lemmas.Nat.{div-mul-add, pow_pos, div-add-mod'}
@@ -19,7 +19,6 @@ use Rattle.rx_build_error.specs.declared.BuildErrorKind.{BuildErrorKind}
 use Rattle.rx_determinize.specs.Working.{Keying, Met, SizeLimits, IsWorking, IsOver, states_of}
 use Rattle.rx_determinize.specs.WorkLists.{Interns}
 use Rattle.rx_determinize.specs.Adding.{CanAdd, IsWithin, Passes, IsFull}
-use Rattle.rx_determinize.proofs.LoneLaws.{lone_more, lone_over}
 
 -- there are fewer keys than ids
 pub few_keys : {k : Keying} {limits : SizeLimits} {met : Met} {l : Layout} → IsWorking k limits met l → AreRows l
@@ -50,7 +49,6 @@ met_with k met key = record {
   keys = met.keys ++ key ∷ [];
   size = met.size + state_size (k.state_of key);
   patterns = met.patterns + length (k.state_of key).label;
-  lone = met.lone;
 }
 
 module _ {k : Keying} {limits : SizeLimits} {met : Met} {l : Layout} {key : List ℕ}
@@ -172,9 +170,6 @@ module _ {k : Keying} {limits : SizeLimits} {met : Met} {l : Layout} {key : List
       few_patterns = within.patterns;
       table = λ some. within.table;
       construction = λ some. within.construction;
-      lone =
-          lone_over (lone_more working.lone (met_with k met key) (key ∷ []) refl refl) (with_row l) refl refl
-          (omega (arith, length-append l.words (replicate (stride l) 0)));
     }
 
 -- ---- as interning answers it
@@ -216,13 +211,12 @@ is_true true e = refl
 is_true false e = absurd cc
 
 -- what was met, by its parts
-abbrev pub met_of : List (List ℕ) → ℕ → ℕ → List (Option ℕ) → Met
-met_of keys size patterns lone = record { keys = keys; size = size; patterns = patterns; lone = lone }
+abbrev pub met_of : List (List ℕ) → ℕ → ℕ → Met
+met_of keys size patterns = record { keys = keys; size = size; patterns = patterns }
 
-pub same_met : {keys others : List (List ℕ)} {size bytes patterns count : ℕ} {lone kept : List (Option ℕ)}
-    → keys ≡ others → size ≡ bytes → patterns ≡ count → lone ≡ kept
-    → met_of keys size patterns lone ≡ met_of others bytes count kept
-same_met e f g h = cc
+pub same_met : {keys others : List (List ℕ)} {size bytes patterns count : ℕ} → keys ≡ others → size ≡ bytes
+    → patterns ≡ count → met_of keys size patterns ≡ met_of others bytes count
+same_met e f g = cc
 
 pub new_key : {k : Keying} {limits : SizeLimits} {met : Met} {l : Layout} {keys : List (List ℕ)} {key : List ℕ}
     {is_new : Bool}

@@ -1,10 +1,12 @@
 -- Cells that are set, and rows that are added: to which rows the rows of a table lead then.
 use Rattle.std.proofs.Common.{◌≡◌, ◌≢◌, ℕ, ◌+◌, ◌*◌, ◌/◌, ◌<◌, length, get_or, replicate}
-use Rattle.std.proofs.Common.{ap, sym, ◌∙◌, arith}
+use Rattle.std.proofs.Common.{ap, sym, ◌∙◌, arith, inl, inr, ◌⊎◌, ◌≤◌, List, ⊎_elim}
+use Rattle.std.proofs.Math.Nat.{mul-le-mul_right}
+use Rattle.std.proofs.lemmas.Bool.{cases_lt}
 use Rattle.std.proofs.lemmas.List.{get_or-set_same, get_or-set_other, get_or_append_left}
 use Rattle.std.proofs.lemmas.Nat.{div-mul-add, pow_pos}
 use Rattle.rx_dense.proofs.Rows.{column_within, multiple_below}
-use Rattle.rx_dense.specs.Builder.{with_next, with_row}
+use Rattle.rx_dense.specs.Builder.{IsCopied, IsOutside, with_next, with_row}
 use Rattle.rx_dense.specs.Layouts.{Layout, AreRows, machine_of, row_count, stride, column}
 
 -- two places of rows are one only where the rows and the columns are
@@ -51,3 +53,25 @@ module _ (l : Layout) (rows : AreRows l) where
         (get_or-set_other l.words (r * stride l + column l unit) (q * stride l + column l other) next 0
         (λ e. let one = one_place (stride l) q (column l other) r (column l unit) (column_in other is_other)
         (column_in unit is_unit) e in apart one.0 one.1))
+
+  -- a row that is copied leads where the other one leads, and no further row changes
+  module _ (from to : ℕ) {words : List ℕ} (copied : IsCopied (stride l) l.words words (from * stride l) (to * stride l))
+    where
+      pub next_copied : (unit : ℕ) → unit < 257
+          → (machine_of (record l { words = words })).next to unit ≡ (machine_of l).next from unit
+      next_copied unit is_unit = ap (λ n. n / stride l) (copied.there (column l unit) (column_in unit is_unit))
+
+      pub next_beside : (row unit : ℕ) → unit < 257 → (row ≡ to → ⊥)
+          → (machine_of (record l { words = words })).next row unit ≡ (machine_of l).next row unit
+      next_beside row unit is_unit apart =
+          ap (λ n. n / stride l) (copied.others (row * stride l + column l unit) (outside (cases_lt row to)))
+        where
+          outside : (row < to) ⊎ (to ≤ row) → IsOutside (to * stride l) (stride l) (row * stride l + column l unit)
+          outside (inl less) =
+              let below : (row + 1) * stride l ≤ to * stride l = mul-le-mul_right (stride l) (omega arith) in
+              inl (omega (arith, below, column_in unit is_unit))
+          outside (inr past) =
+              let above : (to + 1) * stride l ≤ row * stride l =
+              mul-le-mul_right (stride l) (⊎_elim (λ (less : to < row). omega arith)
+              (λ (under : row ≤ to). absurd (apart (omega arith))) (cases_lt to row)) in
+              inr (omega (arith, above))

@@ -3,9 +3,9 @@ use Rattle.std.proofs.Common.{◌≡◌, ◌≢◌, ℕ, ◌+◌, ◌*◌, ◌/�
 use Rattle.std.proofs.Common.{length, map, get_or, replicate, length-append, length-set, refl, ap, sym, ◌∙◌, subst}
 use Rattle.std.proofs.Common.{arith, ⊎_elim}
 use Rattle.std.proofs.lemmas.List.{map-append, append-nil}
-use Rattle.std.proofs.lemmas.Bool.{cases_lt}
+use Rattle.std.proofs.lemmas.Bool.{cases_eq}
 use Rattle.std.proofs.lemmas.Option.{slice_get_within}
-use Rattle.std.specs.Prelude.{Bool, Option, IfSome, if◌then◌else◌, slice_get}
+use Rattle.std.specs.Prelude.{Bool, Option, IfSome, if◌then◌else◌, slice_get, ◌⊎◌}
 use Rattle.rx_spec.specs.Builds.{Node, Running, next_node, built_entry}
 use Rattle.rx_spec.specs.States.{State}
 use Rattle.rx_dense.specs.Builder.{with_next, with_row}
@@ -22,7 +22,6 @@ use Rattle.rx_determinize.proofs.RowIds.{row_id}
 use Rattle.rx_determinize.proofs.WorkListLaws.{row_stays, old_key, slice_get-append, does}
 use Rattle.rx_determinize.specs.Determinized.{classes_of}
 use Rattle.rx_determinize.proofs.ColumnLaws.{unit_in, unit_column, same_column}
-use Rattle.rx_determinize.proofs.LoneLaws.{lone_over}
 use Rattle.rx_determinize.proofs.CellLaws.{next_more, next_kept, next_set}
 
 -- only words are written
@@ -94,33 +93,83 @@ module _ (k : Keying) {met : Met} {l : Layout} {after : Met} {m : Layout} (grows
         quit_ends = λ unit is_unit. grows.nexts 1 unit (omega (arith, count)) is_unit ∙ old.quit_ends unit is_unit;
       }
 
-  -- the cells that were written
-  pub filling_kept : {place column : ℕ} {state : State} → row_count l ≡ length met.keys + 2
-      → ((c : ℕ) → c < column → unit_of l.classes c < 257) → IsFilling k met l place state column
-      → IsFilling k after m place state column
-  filling_kept {place} {column} {state} count units old = record {
+  -- the cells that were ready
+  pub filling_kept : {place : ℕ} {state : State} {ready before : ℕ → Type 0} → AreRows l
+      → row_count l ≡ length met.keys + 2 → ((c : ℕ) → ready c → before c) → IsFilling k met l place state before
+      → IsFilling k after m place state ready
+  filling_kept {place} {state} rows count back old = record {
     key = old.key;
     here =
         subst (λ (ks : List (List ℕ)). slice_get ks place ≡ Some old.key) (sym grows.keys)
         (slice_get-append met.keys grows.more place old.key old.here);
     stands = old.stands;
-    cells = λ c lt.
+    cells = λ c low is_ready.
+        let low_in : c < alphabet_len l.classes = subst (λ (cs : List ℕ). c < alphabet_len cs) grows.classes low in
         let unit = unit_of l.classes c in
         let there = slice_get_within met.keys place old.key old.here in
         let node = next_node k.build (Running state) unit in
         subst (λ (classes : List ℕ). IsRowOf (states_of k after) (next_node k.build (Running state) (unit_of classes c))
         ((machine_of m).next (place + 2) (unit_of classes c))) (sym grows.classes)
-        (subst (IsRowOf (states_of k after) node) (sym (grows.nexts (place + 2) unit (omega (arith, count)) (units c
-        lt)))
-        (row_kept node ((machine_of l).next (place + 2) unit) (old.cells c lt)));
+        (subst (IsRowOf (states_of k after) node)
+        (sym (grows.nexts (place + 2) unit (omega (arith, count)) (unit_in l rows.classes c low_in)))
+        (row_kept node ((machine_of l).next (place + 2) unit) (old.cells c low_in (back c is_ready))));
   }
 
--- ---- a cell that is set
+-- ---- a row that is written
 
 -- a limit that isn't passed by an equal size
 limit_kept : (limit : Option ℕ) {size bytes : ℕ} → IfSome limit (λ most. size ≤ most) → bytes ≡ size
     → IfSome limit (λ most. bytes ≤ most)
 limit_kept limit within same = subst (λ n. IfSome limit (λ most. n ≤ most)) (sym same) within
+
+-- Words of the row of a place were written, and nothing else.
+pub record IsRewritten (l : Layout) (place : ℕ) (m : Layout) : Type 0 where
+  pub over : IsWrittenOver l m
+  pub rows : AreRows m
+  pub count : length m.words ≡ length l.words
+  pub others : (row unit : ℕ) → row < row_count l → unit < 257 → (row ≡ place + 2 → ⊥)
+      → (machine_of m).next row unit ≡ (machine_of l).next row unit
+
+module _ {l : Layout} {place : ℕ} {m : Layout} (is : IsRewritten l place m) where
+  pub entering_rewritten : {k : Keying} {limits : SizeLimits} {met : Met} {starts : ℕ} → place < length met.keys
+      → IsEntering k limits met l starts place → IsEntering k limits met m starts place
+  entering_rewritten {k} {limits} {met} {starts} place_in old =
+      let count = old.working.count in
+      record {
+        rows = is.rows;
+        working = subst (IsWorking k limits met) (sym is.over) (working_over old.working);
+        within = old.within;
+        list = record {
+          reached = old.list.reached;
+          steps = λ id key there lt unit is_unit.
+              subst (IsRowOf (states_of k met) (next_node k.build (Running (k.state_of key)) unit))
+              (sym (is.others (id + 2) unit (omega (arith, count, place_in, lt)) is_unit (λ e. absurd (omega arith))))
+              (old.list.steps id key there lt unit is_unit);
+        };
+        starts = λ mode start lt.
+            subst (IsRowOf (states_of k met) (built_entry k.build mode start))
+            (sym (ap (λ (n : Layout). entry_in n mode start) is.over)) (old.starts mode start lt);
+        dead_stays = λ unit is_unit.
+            is.others 0 unit (omega (arith, count)) is_unit (λ e. absurd (omega arith)) ∙ old.dead_stays unit is_unit;
+        quit_ends = λ unit is_unit.
+            is.others 1 unit (omega (arith, count)) is_unit (λ e. absurd (omega arith)) ∙ old.quit_ends unit is_unit;
+      }
+    where
+      working_over : IsWorking k limits met l → IsWorking k limits met (record l { words = m.words })
+      working_over w = record {
+        bare = record { slices = w.bare.slices; pattern_ids = w.bare.pattern_ids; accels = w.bare.accels };
+        count = ap (λ n. n / stride l) is.count ∙ w.count;
+        distinct = w.distinct;
+        are_keys = w.are_keys;
+        reached = w.reached;
+        size = w.size;
+        patterns = w.patterns;
+        few_patterns = w.few_patterns;
+        table = λ some. limit_kept limits.table (w.table some) (ap (λ n. 4 * (n + length l.starts + 1)) is.count);
+        construction = w.construction;
+      }
+
+-- ---- a cell that is set
 
 -- the row of a place and the unit of a column lead to another row
 pub record IsSet (l : Layout) (place unit id : ℕ) (m : Layout) : Type 0 where
@@ -131,92 +180,58 @@ pub record IsSet (l : Layout) (place unit id : ℕ) (m : Layout) : Type 0 where
   pub is : m ≡ with_next l ((place + 2) * stride l) unit id
 
 module _ {l : Layout} {place unit id : ℕ} {m : Layout} (set : IsSet l place unit id m) where
-  set_rows : AreRows m
-  set_rows =
-      let row = (place + 2) * stride l in
-      subst AreRows (sym set.is)
-      (rows_set l (with_next l row unit id) row (column l unit) id refl refl refl
-      (row_id l (place + 2) set.rows set.place_in) (column_within l set.rows.classes unit set.is_unit) set.is_id
-      set.rows)
-
-  set_count : row_count m ≡ row_count l
-  set_count =
-      ap row_count set.is ∙ ap (λ n. n / stride l) (length-set l.words ((place + 2) * stride l + column l unit) id)
-
-  -- other rows lead where they led
+  -- other cells lead where they led
   others_kept : (row other : ℕ) → other < 257 → (row ≡ place + 2 → column l other ≢ column l unit)
       → (machine_of m).next row other ≡ (machine_of l).next row other
   others_kept row other is_other apart =
       ap (λ (n : Layout). (machine_of n).next row other) set.is
       ∙ next_kept l set.rows (place + 2) unit id set.place_in set.is_unit row other is_other apart
 
-  pub entering_set : {k : Keying} {limits : SizeLimits} {met : Met} {starts : ℕ}
-      → IsEntering k limits met l starts place
-      → IsEntering k limits met m starts place
-  entering_set {k} {limits} {met} {starts} old = record {
-    rows = set_rows;
-    working = subst (IsWorking k limits met) (sym set.is) (working_set old.working);
-    within = old.within;
-    list = record {
-      reached = old.list.reached;
-      steps = λ key_id key there lt other is_other.
-          subst (IsRowOf (states_of k met) (next_node k.build (Running (k.state_of key)) other))
-          (sym (others_kept (key_id + 2) other is_other (λ e. absurd (omega arith))))
-          (old.list.steps key_id key there lt other is_other);
-    };
-    starts = λ mode start lt.
-        subst (IsRowOf (states_of k met) (built_entry k.build mode start))
-        (sym (ap (λ (n : Layout). entry_in n mode start) set.is)) (old.starts mode start lt);
-    dead_stays = λ other is_other.
-        others_kept 0 other is_other (λ e. absurd (omega arith)) ∙ old.dead_stays other is_other;
-    quit_ends = λ other is_other.
-        others_kept 1 other is_other (λ e. absurd (omega arith)) ∙ old.quit_ends other is_other;
-  }
-    where
-      working_set : IsWorking k limits met l
-          → IsWorking k limits met (with_next l ((place + 2) * stride l) unit id)
-      working_set w =
-          let len = length-set l.words ((place + 2) * stride l + column l unit) id in
-          record {
-            bare = record { slices = w.bare.slices; pattern_ids = w.bare.pattern_ids; accels = w.bare.accels };
-            count = ap (λ n. n / stride l) len ∙ w.count;
-            distinct = w.distinct;
-            are_keys = w.are_keys;
-            reached = w.reached;
-            size = w.size;
-            patterns = w.patterns;
-            few_patterns = w.few_patterns;
-            table = λ some. limit_kept limits.table (w.table some) (ap (λ n. 4 * (n + length l.starts + 1)) len);
-            construction = w.construction;
-            lone =
-                lone_over w.lone (with_next l ((place + 2) * stride l) unit id) refl refl (omega (arith, len));
-          }
+  pub rewritten : IsRewritten l place m
+  rewritten =
+      let row = (place + 2) * stride l in
+      record {
+        over = written_over l m _ set.is;
+        rows =
+            subst AreRows (sym set.is)
+            (rows_set l (with_next l row unit id) row (column l unit) id refl refl refl
+            (row_id l (place + 2) set.rows set.place_in) (column_within l set.rows.classes unit set.is_unit) set.is_id
+            set.rows);
+        count = ap (λ (n : Layout). length n.words) set.is ∙ length-set l.words (row + column l unit) id;
+        others = λ other_row other is_row is_other apart.
+            others_kept other_row other is_other (λ e. absurd (apart e));
+      }
 
-  -- the column that was set
-  pub filling_set : {k : Keying} {met : Met} {state : State} {at : ℕ} → unit_of l.classes at ≡ unit
-      → ((c : ℕ) → c ≤ at → unit_of l.classes c < 257) → ((c : ℕ) → c ≤ at → column l (unit_of l.classes c) ≡ c)
+  -- the column that was set is ready
+  pub filling_set : {k : Keying} {met : Met} {state : State} {at : ℕ} {ready before : ℕ → Type 0}
+      → at < alphabet_len l.classes → unit_of l.classes at ≡ unit → ((c : ℕ) → ready c → (c ≡ at) ⊎ before c)
       → IsRowOf (states_of k met) (next_node k.build (Running state) unit) (id / stride l)
-      → IsFilling k met l place state at → IsFilling k met m place state (at + 1)
-  filling_set {k} {met} {state} {at} unit_is units columns is_row old = record {
+      → IsFilling k met l place state before → IsFilling k met m place state ready
+  filling_set {k} {met} {state} {at} {ready} {before} at_in unit_is split is_row old = record {
     key = old.key;
     here = old.here;
     stands = old.stands;
-    cells = λ c lt.
+    cells = λ c low is_ready.
+        let low_in : c < alphabet_len l.classes =
+        subst (λ (cs : List ℕ). c < alphabet_len cs) (ap (λ (n : Layout). n.classes) set.is) low in
         subst (λ (classes : List ℕ). IsRowOf (states_of k met) (next_node k.build (Running state) (unit_of classes c))
         ((machine_of m).next (place + 2) (unit_of classes c))) (sym (ap (λ (n : Layout). n.classes) set.is))
-        (⊎_elim (λ (less : c < at). before c less) (λ (over : at ≤ c). here c (omega arith)) (cases_lt c at));
+        (⊎_elim (λ (e : c ≡ at). here c e)
+        (λ (ne : c ≡ at → ⊥).
+        there c low_in ne (⊎_elim (λ (e : c ≡ at). absurd (ne e)) (λ (b : before c). b) (split c is_ready)))
+        (cases_eq c at));
   }
     where
-      before : (c : ℕ) → c < at
+      there : (c : ℕ) → c < alphabet_len l.classes → (c ≡ at → ⊥) → before c
           → IsRowOf (states_of k met) (next_node k.build (Running state) (unit_of l.classes c))
           ((machine_of m).next (place + 2) (unit_of l.classes c))
-      before c less =
-          let here = columns c (omega arith) in
-          let last = columns at (omega arith) in
+      there c low ne was =
+          let mine = unit_column l set.rows.classes c low in
+          let its = unit_column l set.rows.classes at at_in in
           subst (IsRowOf (states_of k met) (next_node k.build (Running state) (unit_of l.classes c)))
-          (sym (others_kept (place + 2) (unit_of l.classes c) (units c (omega arith))
-          (λ e same. absurd (omega (arith, here, last, same, ap (column l) unit_is)))))
-          (old.cells c less)
+          (sym (others_kept (place + 2) (unit_of l.classes c) (unit_in l set.rows.classes c low)
+          (λ e same. absurd (ne (sym mine ∙ same ∙ ap (column l) (sym unit_is) ∙ its)))))
+          (old.cells c low was)
 
       here : (c : ℕ) → c ≡ at
           → IsRowOf (states_of k met) (next_node k.build (Running state) (unit_of l.classes c))
@@ -231,12 +246,13 @@ module _ {l : Layout} {place unit id : ℕ} {m : Layout} (set : IsSet l place un
           (sym unit_at)
           (subst (IsRowOf (states_of k met) (next_node k.build (Running state) unit)) (sym led) is_row)
 
--- A state whose row is written for each column is done.
+-- A state whose row is ready in each column is done.
 pub filled : {k : Keying} {limits : SizeLimits} {met : Met} {l : Layout} {set place : ℕ} {state : State}
-    (byte_classes : Bool)
+    {ready : ℕ → Type 0} (byte_classes : Bool)
     → l.classes ≡ classes_of k.build.nfa k.build.quit byte_classes → IsEntering k limits met l set place
-    → IsFilling k met l place state (alphabet_len l.classes) → IsEntering k limits met l set (place + 1)
-filled {k} {limits} {met} {l} {set} {place} {state} byte_classes is old row =
+    → ((c : ℕ) → c < alphabet_len l.classes → ready c) → IsFilling k met l place state ready
+    → IsEntering k limits met l set (place + 1)
+filled {k} {limits} {met} {l} {set} {place} {state} {ready} byte_classes is old all row =
     let there = slice_get_within met.keys place row.key row.here in
     record {
       rows = old.rows;
@@ -262,4 +278,4 @@ filled {k} {limits} {met} {l} {set} {place} {state} byte_classes is old row =
         let led : next_in l place other ≡ next_in l place unit =
         ap (λ n. get_or l.words ((place + 2) * stride l + n) 0 / stride l) same in
         subst (λ (n : Node). IsRowOf (states_of k met) n (next_in l place unit)) node
-        (subst (IsRowOf (states_of k met) (next_node k.build (Running state) other)) led (row.cells c within))
+        (subst (IsRowOf (states_of k met) (next_node k.build (Running state) other)) led (row.cells c within (all c within)))

@@ -1,7 +1,5 @@
 -- the loop that enters all states that are reached
 pub mod WorkListLaws
--- the rows of the states to which the lead-in alone leads
-pub mod LoneLaws
 -- a state that is entered
 pub mod AddingLaws
 -- ids of rows
@@ -18,6 +16,8 @@ pub mod FillingLaws
 pub mod NextLaws
 -- a state that is stepped by each column
 pub mod SteppingLaws
+-- rows that begin as those of models
+pub mod ModelLaws
 -- nodes by their rows, and the patterns that labels name
 pub mod NodeLaws
 pub mod LabelLaws

@@ -88,11 +88,11 @@ module _ {s : Stepping} {nfa : Nfa} {settings : Settings} {byte_classes : Bool} 
       subst AreRows (sym x.begun) (shaped_initial beginning (subst AreClasses same are) few).rows
 
   -- no state was met
-  pub begun_entering : (limits : SizeLimits) (met : Met) (columns : ℕ) → met ≡ none_met columns → AreClasses
-      l.classes → NamesPatterns (length nfa.start_patterns) nfa.rows → IsEntering (keying s l) limits met l 0 0
-  begun_entering limits met columns none are names =
+  pub begun_entering : (limits : SizeLimits) (met : Met) → met ≡ none_met → AreClasses l.classes
+      → NamesPatterns (length nfa.start_patterns) nfa.rows → IsEntering (keying s l) limits met l 0 0
+  begun_entering limits met none are names =
       subst (λ (m : Met). IsEntering (keying s l) limits m l 0 0) (sym none)
-      (entering_begun (keying s l) limits beginning l columns x.begun (begun_rows are names))
+      (entering_begun (keying s l) limits beginning l x.begun (begun_rows are names))
 
   -- ---- sizes
 

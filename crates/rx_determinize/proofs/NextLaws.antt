@@ -2,7 +2,7 @@
 use Rattle.std.proofs.Common.{◌≡◌, ℕ, suc, ◌+◌, ◌*◌, ◌/◌, ◌<◌, true, false, List, refl, ap, sym, ◌∙◌, subst, arith}
 use Rattle.std.proofs.lemmas.Nat.{div-mul-add, pow_pos}
 use Rattle.std.proofs.lemmas.List.{append-nil}
-use Rattle.std.specs.Prelude.{Bool, Option, Some, Result, Ok, Err, IfOk, OnOk, IfSome, MatchBool, if◌then◌else◌}
+use Rattle.std.specs.Prelude.{Bool, Option, Some, Result, Ok, Err, IfOk, OnOk, MatchBool, if◌then◌else◌}
 use Rattle.std.specs.Prelude.{slice_get, []}
 use Rattle.rx_dense.specs.Builder.{with_row}
 use Rattle.rx_determinize.proofs.FillingLaws.{adds_over, grows_by}
@@ -13,8 +13,7 @@ use Rattle.rx_dense.proofs.Rows.{no_more}
 use Rattle.rx_dense.specs.Layouts.{Layout, AreRows, IsRowId, stride}
 use Rattle.rx_base.specs.ByteClasses.{alphabet_len}
 use Rattle.rx_dense.proofs.Shaped.{zero_id}
-use Rattle.rx_stepper.specs.Stepping.{Stepping, IsKeyOf, IsNext, stepped, unit_of}
-use Rattle.rx_stepper.specs.declared.next.Next.{Next}
+use Rattle.rx_stepper.specs.Stepping.{Stepping, IsKeyOf, stepped, unit_of}
 use Rattle.rx_determinize.specs.WorkLists.{IsRowOf, nodes}
 use Rattle.rx_determinize.specs.Working.{IsWorking, Keying, Met, SizeLimits, keying, states_of}
 use Rattle.rx_determinize.specs.Adding.{Adds, CanAdd}
@@ -37,7 +36,7 @@ key_may {s} {units} {l} {limits} {met} {key} suits working is reached = record {
   size = suits.spells.size key is.is_key;
 }
 
-in_true : {P : Type 0} (Q : Type 0) (b : Bool) → b ≡ true → P → MatchBool b P Q
+pub in_true : {P : Type 0} (Q : Type 0) (b : Bool) → b ≡ true → P → MatchBool b P Q
 in_true Q true e p = p
 in_true Q false e p = absurd cc
 
@@ -58,19 +57,16 @@ dead_stepped {k} {met} {s} {l} {column} rows within e = record {
   is_id = dead_id rows;
 }
 
--- the state of the column that was stepped last
-pub as_last : (k : Keying) {met : Met} {s : Stepping} {l : Layout} {column last_id : ℕ} {last : Option ℕ}
-    (key : List ℕ) → column < alphabet_len l.classes → IfSome last (λ other. IsStepped k met l s other last_id)
-    → IsNext s column last key Next.AsLast → IsStepped k met l s column last_id
-as_last k {met} {s} {l} {column} {last_id} {last} key within was next =
-    let led : IsStepped k met l s next.0 last_id =
-    subst (λ (o : Option ℕ). IfSome o (λ other. IsStepped k met l s other last_id)) next.1 was in
-    record {
-      column_in = within;
-      is_row =
-          subst (λ (t : State). IsRowOf (states_of k met) (Running t) (last_id / stride l)) (sym next.2) led.is_row;
-      is_id = led.is_id;
-    }
+-- the state to which another column led
+pub stepped_alike : {k : Keying} {met : Met} {s : Stepping} {l : Layout} {column other id : ℕ}
+    → column < alphabet_len l.classes → stepped s column ≡ stepped s other → IsStepped k met l s other id
+    → IsStepped k met l s column id
+stepped_alike {k} {met} {s} {l} {column} {other} {id} within same led = record {
+  column_in = within;
+  is_row =
+      subst (λ (t : State). IsRowOf (states_of k met) (Running t) (id / stride l)) (sym same) led.is_row;
+  is_id = led.is_id;
+}
 
 -- nothing is entered
 pub grows_none : (met : Met) (l : Layout) → Grows met l met l

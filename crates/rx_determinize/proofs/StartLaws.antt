@@ -30,7 +30,6 @@ use Rattle.rx_dense.proofs.Shaped.{rows_kept}
 use Rattle.rx_stepper.specs.Stepping.{Stepping}
 use Rattle.rx_determinize.specs.Filling.{Grows, IsEntering, IsStartedOver, IsWrittenOver}
 use Rattle.rx_determinize.specs.WorkLists.{IsRowOf}
-use Rattle.rx_determinize.proofs.LoneLaws.{lone_none, lone_over}
 use Rattle.rx_determinize.specs.Working.{none_met, IsWorking, Keying, Met, SizeLimits, entry_in, keying, states_of}
 use Rattle.rx_determinize.proofs.CellLaws.{one_place}
 use Rattle.rx_determinize.proofs.FillingLaws.{entering_kept}
@@ -199,7 +198,6 @@ module _ {k : Keying} {limits : SizeLimits} {met : Met} {l : Layout} {mode : Anc
         table = λ some. subst (λ n. IfSome limits.table (λ limit. 4 * (length l.words + n + 1) ≤ limit))
             (sym (count_kept l mode start id)) (w.table some);
         construction = w.construction;
-        lone = lone_over w.lone (with_start l mode start id) refl refl (omega arith);
       }
 
       here : (other : Anchored) (context : Start) → (other ≡ mode) × (context ≡ start)
@@ -307,9 +305,9 @@ zero_row l =
     ap (λ n. n / stride l) (sym zeros) ∙ div-mul-add 0 (stride l) 0 (pow_pos l.stride2)
 
 -- it has the dead row and the quit row, which lead to dead
-pub entering_begun : (k : Keying) (limits : SizeLimits) (b : Beginning) (l : Layout) (columns : ℕ) → l ≡ initial b
-    → AreRows l → IsEntering k limits (none_met columns) l 0 0
-entering_begun k limits b l columns is rows = record {
+pub entering_begun : (k : Keying) (limits : SizeLimits) (b : Beginning) (l : Layout) → l ≡ initial b
+    → AreRows l → IsEntering k limits none_met l 0 0
+entering_begun k limits b l is rows = record {
   rows = rows;
   working = record {
     bare = record {
@@ -328,7 +326,6 @@ entering_begun k limits b l columns is rows = record {
     few_patterns = omega arith;
     table = λ some. absurd (omega arith);
     construction = λ some. absurd (omega arith);
-    lone = lone_none k (none_met columns) l (32 * columns) refl;
   };
   within = omega arith;
   list = record {

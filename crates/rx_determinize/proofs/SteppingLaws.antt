@@ -1,6 +1,7 @@
 -- A state that is stepped column by column: what is kept where states are entered, and where a cell is set.
 use Rattle.std.proofs.Common.{◌≡◌, ℕ, ◌+◌, ◌*◌, ◌/◌, ◌<◌, ◌≤◌, true, false, Option, Some, None, List, []}
-use Rattle.std.proofs.Common.{length, refl, ap, ap₂, sym, ◌∙◌, subst, arith}
+use Rattle.std.proofs.Common.{length, refl, ap, ap₂, sym, ◌∙◌, subst, arith, inl, inr, ◌⊎◌, ⊎_elim}
+use Rattle.std.proofs.lemmas.Bool.{cases_lt}
 use Rattle.std.proofs.lemmas.List.{length-set}
 use Rattle.std.proofs.lemmas.List.Elements.{All-get_or}
 use Rattle.std.proofs.lemmas.Option.{get_or_from_slice_get, slice_get_within}
@@ -15,16 +16,17 @@ use Rattle.rx_dense.specs.Builder.{with_next}
 use Rattle.rx_dense.specs.Layouts.{Layout, AreRows, IsRowId, column, row_count, stride}
 use Rattle.rx_base.specs.ByteClasses.{alphabet_len}
 use Rattle.rx_build_error.specs.declared.BuildErrorKind.{BuildErrorKind}
-use Rattle.rx_stepper.specs.Stepping.{HasOneKeyEach, SpellStates, Stepping, stepped, unit_of}
+use Rattle.rx_stepper.specs.Stepping.{HasOneKeyEach, IsAlone, SpellStates, Stepping, stepped, unit_of}
 use Rattle.rx_determinize.specs.Determinized.{classes_of}
 use Rattle.rx_determinize.specs.Filling.{AreUnits, Grows, IsAnother, IsEntering, IsFilling, IsStartedOver, IsStepped}
-use Rattle.rx_determinize.specs.Filling.{IsNextRow, IsStepping, IsWrittenOver, Progress, Suits}
+use Rattle.rx_determinize.specs.Filling.{IsNextRow, IsReady, IsStepping, IsWrittenOver, Progress, Suits}
 use Rattle.rx_determinize.specs.WorkLists.{IsRowOf, nodes}
 use Rattle.rx_determinize.specs.Working.{IsOver, IsWorking, Keying, Met, SizeLimits, keying, states_of}
-use Rattle.rx_determinize.proofs.ColumnLaws.{unit_in, unit_column}
+use Rattle.rx_determinize.proofs.ColumnLaws.{unit_in}
 use Rattle.rx_determinize.proofs.NextLaws.{leads_on}
 use Rattle.rx_determinize.proofs.RowIds.{row_of_id}
-use Rattle.rx_determinize.proofs.FillingLaws.{IsSet, entering_kept, entering_set, filling_kept, filling_set}
+use Rattle.rx_determinize.proofs.FillingLaws.{IsSet, entering_kept, entering_rewritten, filling_kept}
+use Rattle.rx_determinize.proofs.FillingLaws.{filling_set, rewritten, written_over}
 
 -- ---- tables of which words were written
 
@@ -36,7 +38,7 @@ pub suits_kept : (s r : Stepping) {units others : List Unit} (l m : Layout) → 
     → m.classes ≡ l.classes → m.quit ≡ l.quit → Suits s units l → Suits r others m
 suits_kept s r {units} {others} l m another same classes quit suits =
     let nfa = ap (λ (t : Stepping). t.nfa) another in
-    let spells : SpellStates (record s { current = r.current }) =
+    let spells : SpellStates (record s { current = r.current; led_in = r.led_in }) =
     record {
       label = suits.spells.label;
       are_ids = suits.spells.are_ids;
@@ -64,7 +66,7 @@ suits_over s r l m another same is suits =
 
 -- the same state is stepped
 pub no_other : (s r : Stepping) → r ≡ s → IsAnother s r
-no_other s r same = same ∙ ap (λ (t : Stepping). record s { current = t.current }) (sym same)
+no_other s r same = same ∙ ap (λ (t : Stepping). record s { current = t.current; led_in = t.led_in }) (sym same)
 
 pub suits_started : (s r : Stepping) {units others : List Unit} (l m : Layout) → r ≡ s → others ≡ units
     → IsStartedOver l m → Suits s units l → Suits r others m
@@ -93,6 +95,26 @@ pub over_written : (s : Stepping) (limits : SizeLimits) (l m : Layout) (kind : B
 over_written s limits l m kind is over =
     over_kept (keying s l) limits l m kind (ap stride is) (ap (λ (n : Layout). length n.starts) is)
     (subst (λ (k : Keying). IsOver k limits m kind) (ap (keying s) is) over)
+
+-- ---- columns that are ready
+
+-- those of a table of which words were written were ready before
+pub ready_over : (s : Stepping) (l m : Layout) (at : Progress) → IsWrittenOver l m → (c : ℕ) → IsReady s m at c
+    → IsReady s l at c
+ready_over s l m at over c ready = subst (λ (n : Layout). IsReady s n at c) over ready
+
+-- one column more was passed
+abbrev pub next_column : Progress → Progress
+next_column at = record { place = at.place; column = at.column + 1; copied = at.copied }
+
+pub ready_next : (s : Stepping) (l m : Layout) (at : Progress) → IsWrittenOver l m → (c : ℕ)
+    → IsReady s m (next_column at) c → (c ≡ at.column) ⊎ IsReady s l at c
+ready_next s l m at over c (inl passed) =
+    ⊎_elim (λ (less : c < at.column). inr (inl less)) (λ (past : at.column ≤ c). inl (omega arith))
+    (cases_lt c at.column)
+ready_next s l m at over c (inr alone) =
+    let stays = subst (λ (n : Layout). contains n.quit (unit_of n.classes c) ≡ false) over alone.1 in
+    inr (inr (alone.0, stays, alone.2))
 
 -- ---- a state that is stepped
 
@@ -154,31 +176,53 @@ module _ {s : Stepping} {limits : SizeLimits} {met : Met} {l : Layout} {at : Pro
     -- the column is written
     pub written : (other : Option ℕ) (other_id : ℕ)
         → IfSome other (λ c. IsStepped (keying s l) met l s c other_id)
-        → IsStepping s limits met m (record { place = at.place; column = at.column + 1 }) other other_id
-    written other other_id was = record {
-      entering =
-          subst (λ (k : Keying). IsEntering k limits met m (length m.starts) at.place) (sym same_key)
-          (subst (λ n. IsEntering (keying s l) limits met m n at.place)
-          (sym (ap (λ (k : Layout). length k.starts) led.is)) (entering_set is_set stepping.entering));
-      filling =
-          subst (λ (k : Keying). IsFilling k met m at.place s.current (at.column + 1)) (sym same_key)
-          (filling_set is_set refl
-          (λ c le. let low = led.column_in in unit_in l stepping.entering.rows.classes c (omega arith))
-          (λ c le. let low = led.column_in in unit_column l stepping.entering.rows.classes c (omega arith))
-          led.is_row stepping.filling);
-      stepped_last = kept other was;
-    }
+        → IsStepping s limits met m (next_column at) other other_id
+    written other other_id was =
+        let over = written_over l m _ led.is in
+        record {
+          entering =
+              subst (λ (k : Keying). IsEntering k limits met m (length m.starts) at.place) (sym same_key)
+              (subst (λ n. IsEntering (keying s l) limits met m n at.place)
+              (sym (ap (λ (k : Layout). length k.starts) led.is))
+              (entering_rewritten (rewritten is_set) place_in stepping.entering));
+          filling =
+              subst (λ (k : Keying). IsFilling k met m at.place s.current (IsReady s m (next_column at))) (sym same_key)
+              (filling_set is_set led.column_in refl (ready_next s l m at over) led.is_row stepping.filling);
+          stepped_last = kept other was;
+        }
       where
         kept : (other : Option ℕ) → IfSome other (λ c. IsStepped (keying s l) met l s c other_id)
             → IfSome other (λ c. IsStepped (keying s m) met m s c other_id)
         kept None h = tt
         kept (Some c) h = stepped_kept c other_id h
 
+  -- columns that were ready are passed
+  pub passed_to : (column : ℕ)
+      → ((c : ℕ) → at.column ≤ c → c < column → (at.copied ≡ true)
+      × (contains l.quit (unit_of l.classes c) ≡ false) × IsAlone s c)
+      → IsStepping s limits met l (record { place = at.place; column = column; copied = at.copied }) last last_id
+  passed_to column ready = record {
+    entering = stepping.entering;
+    filling = record {
+      key = stepping.filling.key;
+      here = stepping.filling.here;
+      stands = stepping.filling.stands;
+      cells = λ c low is_ready. stepping.filling.cells c low (back c is_ready);
+    };
+    stepped_last = stepping.stepped_last;
+  }
+    where
+      back : (c : ℕ) → IsReady s l (record { place = at.place; column = column; copied = at.copied }) c
+          → IsReady s l at c
+      back c (inl below) =
+          ⊎_elim (λ (less : c < at.column). inl less) (λ (past : at.column ≤ c). inr (ready c past below))
+          (cases_lt c at.column)
+      back c (inr alone) = inr alone
+
   -- states are entered
   pub grown : {after : Met} {m : Layout} → Grows met l after m → IsWrittenOver l m → AreRows m
-      → IsWorking (keying s m) limits after m → at.column ≤ alphabet_len l.classes
-      → IsStepping s limits after m at None last_id
-  grown {after} {m} grows is rows working low =
+      → IsWorking (keying s m) limits after m → IsStepping s limits after m at None last_id
+  grown {after} {m} grows is rows working =
       let same : keying s m ≡ keying s l = ap (keying s) is in
       record {
         entering =
@@ -188,9 +232,9 @@ module _ {s : Stepping} {limits : SizeLimits} {met : Met} {l : Layout} {at : Pro
             (entering_kept (keying s l) grows rows
             (subst (λ (k : Keying). IsWorking k limits after m) same working) stepping.entering));
         filling =
-            subst (λ (k : Keying). IsFilling k after m at.place s.current at.column) (sym same)
-            (filling_kept (keying s l) grows stepping.entering.working.count
-            (λ c lt. unit_in l stepping.entering.rows.classes c (omega arith)) stepping.filling);
+            subst (λ (k : Keying). IsFilling k after m at.place s.current (IsReady s m at)) (sym same)
+            (filling_kept (keying s l) grows stepping.entering.rows stepping.entering.working.count
+            (ready_over s l m at is) stepping.filling);
         stepped_last = tt;
       }
 
@@ -238,15 +282,12 @@ module _ {s : Stepping} {limits : SizeLimits} {met : Met} {l : Layout} {at : Pro
 
   -- the state under way has its row still
   pub next_grown : IsStepping s limits after m at None last_id
-  next_grown =
-      let low : at.column < alphabet_len l.classes =
-      subst (λ (cs : List ℕ). at.column < alphabet_len cs) same_classes next.stepped.column_in in
-      grown stepping next.grows next.rest next.rows next.working (omega arith)
+  next_grown = grown stepping next.grows next.rest next.rows next.working
 
   -- the column is written, and was stepped last
   pub stepped_on : (n : Layout) → s.classes ≡ l.classes → contains l.quit (unit_of l.classes at.column) ≡ false
       → n ≡ with_next m ((at.place + 2) * stride m) (unit_of l.classes at.column) id
-      → IsStepping s limits after n (record { place = at.place; column = at.column + 1 }) (Some at.column) id
+      → IsStepping s limits after n (next_column at) (Some at.column) id
   stepped_on n classes stays is =
       let same = same_classes in
       let quit : m.quit ≡ l.quit = ap (λ (k : Layout). k.quit) next.rest in
@@ -260,27 +301,33 @@ module _ {s : Stepping} {limits : SizeLimits} {met : Met} {l : Layout} {at : Pro
 -- ---- from one state to the next
 
 -- a state is stepped by no column yet
-pub stepping_begun : (s r : Stepping) {limits : SizeLimits} {met : Met} {l : Layout} {place last_id : ℕ}
-    {key : List ℕ} → IsAnother s r → r.current ≡ s.state_of key → slice_get met.keys place ≡ Some key
+pub stepping_begun : (s r : Stepping) {limits : SizeLimits} {met : Met} {l : Layout} {place : ℕ} {key : List ℕ}
+    → IsAnother s r → r.current ≡ s.state_of key → slice_get met.keys place ≡ Some key
     → IsEntering (keying s l) limits met l (length l.starts) place
-    → IsStepping r limits met l (record { place = place; column = 0 }) None last_id
-stepping_begun s r {limits} {met} {l} {place} {last_id} {key} another current here entering =
+    → IsStepping r limits met l (record { place = place; column = 0; copied = false }) None 0
+stepping_begun s r {limits} {met} {l} {place} {key} another current here entering =
     let same : keying r l ≡ keying s l = ap (λ (t : Stepping). keying t l) another in
+    let at : Progress = record { place = place; column = 0; copied = false } in
     record {
       entering =
           subst (λ (k : Keying). IsEntering k limits met l (length l.starts) place) (sym same) entering;
       filling =
-          subst (λ (k : Keying). IsFilling k met l place r.current 0) (sym same) (record {
+          subst (λ (k : Keying). IsFilling k met l place r.current (IsReady r l at)) (sym same) (record {
             key = key;
             here = here;
             stands = sym current;
-            cells = λ c low. absurd (omega arith);
+            cells = λ c low ready. absurd (none c ready);
           });
       stepped_last = tt;
     }
+  where
+    none : (c : ℕ) → IsReady r l (record { place = place; column = 0; copied = false }) c → ⊥
+    none c (inl below) = omega arith
+    none c (inr alone) = let clash = alone.0 in cc
 
 pub another_twice : (s r t : Stepping) → IsAnother s r → IsAnother r t → IsAnother s t
-another_twice s r t first second = second ∙ ap (λ (u : Stepping). record u { current = t.current }) first
+another_twice s r t first second =
+    second ∙ ap (λ (u : Stepping). record u { current = t.current; led_in = t.led_in }) first
 
 -- what refuses a later turn refuses the construction
 pub over_back : (s r : Stepping) {limits others : SizeLimits} (l m : Layout) (kind : BuildErrorKind) → IsAnother s r

@@ -1,5 +1,5 @@
 -- A table while states are entered into it, and while the row of one of them is written.
-use Rattle.std.specs.Prelude.{ℕ, ◌≡◌, Bool, false, ◌<◌, ◌≤◌, ◌+◌, ◌/◌, ◌++◌, IfSome, Option, Some, List, []}
+use Rattle.std.specs.Prelude.{ℕ, ◌≡◌, Bool, false, ◌<◌, ◌≤◌, ◌+◌, ◌/◌, ◌++◌, ◌⊎◌, true, IfSome, Option, Some, List, []}
 use Rattle.std.specs.Prelude.{◌∷◌, length, map, slice_get}
 use Rattle.rx_spec.specs.Builds.{IsReached, Running, next_node, built_entry}
 use Rattle.rx_spec.specs.Queries.{Anchored}
@@ -11,7 +11,7 @@ use Rattle.rx_base.specs.Unit.{unit_number}
 use Rattle.rx_spec.specs.Bytes.{contains, eoi}
 use Rattle.rx_spec.specs.Classes.{representatives}
 use Rattle.rx_spec.specs.declared.Unit.{Unit}
-use Rattle.rx_stepper.specs.Stepping.{HasOneKeyEach, SpellStates, Stepping, stepped, unit_of}
+use Rattle.rx_stepper.specs.Stepping.{HasOneKeyEach, IsAlone, SpellStates, Stepping, stepped, unit_of}
 use Rattle.rx_determinize.specs.Determinized.{classes_of}
 use Rattle.rx_determinize.specs.WorkLists.{IsRowOf, IsWorkList}
 use Rattle.rx_determinize.specs.Working.{Keying, Met, SizeLimits, IsWorking, keying, states_of, next_in, entry_in}
@@ -28,14 +28,15 @@ pub record IsEntering (k : Keying) (limits : SizeLimits) (met : Met) (l : Layout
   pub dead_stays : (unit : ℕ) → unit < 257 → (machine_of l).next 0 unit ≡ 0
   pub quit_ends : (unit : ℕ) → unit < 257 → (machine_of l).next 1 unit ≡ 0
 
--- the row of a state at a place, written up to a column
-pub record IsFilling (k : Keying) (met : Met) (l : Layout) (place : ℕ) (state : State) (column : ℕ) : Type 0 where
-  pub key : List ℕ
-  pub here : slice_get met.keys place ≡ Some key
-  pub stands : k.state_of key ≡ state
-  pub cells : (c : ℕ) → c < column
-      → IsRowOf (states_of k met) (next_node k.build (Running state) (unit_of l.classes c))
-      ((machine_of l).next (place + 2) (unit_of l.classes c))
+-- the row of a state at a place, which leads where the state does by the columns that are ready
+pub record IsFilling (k : Keying) (met : Met) (l : Layout) (place : ℕ) (state : State) (ready : ℕ → Type 0) : Type 0
+  where
+    pub key : List ℕ
+    pub here : slice_get met.keys place ≡ Some key
+    pub stands : k.state_of key ≡ state
+    pub cells : (c : ℕ) → c < alphabet_len l.classes → ready c
+        → IsRowOf (states_of k met) (next_node k.build (Running state) (unit_of l.classes c))
+        ((machine_of l).next (place + 2) (unit_of l.classes c))
 
 -- More states were met, and the rows that were there are as they were.
 pub record Grows (met : Met) (l : Layout) (after : Met) (m : Layout) : Type 0 where
@@ -52,16 +53,25 @@ pub record IsStepped (k : Keying) (met : Met) (l : Layout) (s : Stepping) (colum
   pub is_row : IsRowOf (states_of k met) (Running (stepped s column)) (id / stride l)
   pub is_id : IsRowId l id
 
--- how far the construction has come: states whose rows are written, and columns of the next state
+-- how far the construction has come: states whose rows are written, and columns of the next state, whose row began as
+-- that of its model or didn't
 pub record Progress : Type 0 where
   pub place : ℕ
   pub column : ℕ
+  pub copied : Bool
+
+-- The columns that are ready: those that were passed, and where the row began as that of a model, also those by which
+-- no rows of the state's own go on, but for those of quit bytes.
+abbrev pub IsReady : Stepping → Layout → Progress → ℕ → Type 0
+IsReady s l at c =
+    (c < at.column)
+    ⊎ ((at.copied ≡ true) × (contains l.quit (unit_of l.classes c) ≡ false) × IsAlone s c)
 
 -- A state is stepped column by column. The column that was stepped last led to a row that is remembered.
 pub record IsStepping (s : Stepping) (limits : SizeLimits) (met : Met) (l : Layout) (at : Progress) (last : Option ℕ)
     (last_id : ℕ) : Type 0 where
   pub entering : IsEntering (keying s l) limits met l (length l.starts) at.place
-  pub filling : IsFilling (keying s l) met l at.place s.current at.column
+  pub filling : IsFilling (keying s l) met l at.place s.current (IsReady s l at)
   pub stepped_last : IfSome last (λ column. IsStepped (keying s l) met l s column last_id)
 
 -- the units that stand for the columns of classes, as the code has them
@@ -79,7 +89,7 @@ pub record Suits (s : Stepping) (units : List Unit) (l : Layout) : Type 0 where
 
 -- another state is stepped
 abbrev pub IsAnother : Stepping → Stepping → Type 0
-IsAnother old new = new ≡ record old { current = new.current }
+IsAnother old new = new ≡ record old { current = new.current; led_in = new.led_in }
 
 -- only words were written
 abbrev pub IsWrittenOver : Layout → Layout → Type 0

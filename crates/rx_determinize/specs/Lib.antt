@@ -3,6 +3,7 @@ pub mod Determinized
 pub mod WorkLists
 pub mod Working
 pub mod Adding
+pub mod Models
 pub mod Filling
 pub mod Matching
 pub mod Building

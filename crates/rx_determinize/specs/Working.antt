@@ -1,16 +1,15 @@
 -- What is kept while states are entered into a table.
-use Rattle.std.specs.Prelude.{ℕ, ◌≡◌, ◌<◌, ◌≤◌, ◌+◌, ◌*◌, ◌/◌, Bool, true, is_some, Option, Some, None, List, []}
-use Rattle.std.specs.Prelude.{length, map, replicate, set, slice_index_or, All, AllPairs, IfSome, ◌≢◌}
-use Rattle.rx_spec.specs.Builds.{Build, Running, IsReached}
+use Rattle.std.specs.Prelude.{ℕ, ◌≡◌, ◌<◌, ◌≤◌, ◌+◌, ◌*◌, Bool, true, is_some, Option, Some, List, []}
+use Rattle.std.specs.Prelude.{length, map, All, AllPairs, IfSome, ◌≢◌}
+use Rattle.rx_spec.specs.Builds.{Build, IsReached}
 use Rattle.rx_spec.specs.Causes.{Exceeds, max_id}
 use Rattle.rx_spec.specs.Queries.{Anchored}
 use Rattle.rx_spec.specs.Sizes.{determinizer_size, label_total, table_size, last_id}
 use Rattle.rx_spec.specs.States.{State}
 use Rattle.rx_spec.specs.declared.Start.{Start}
-use Rattle.rx_dense.specs.Layouts.{Layout, IsRowId, machine_of, row_count, stride}
-use Rattle.rx_stepper.specs.Stepping.{Stepping, lone_state}
+use Rattle.rx_dense.specs.Layouts.{Layout, machine_of, row_count, stride}
+use Rattle.rx_stepper.specs.Stepping.{Stepping}
 use Rattle.rx_build_error.specs.declared.BuildErrorKind.{BuildErrorKind}
-use Rattle.rx_determinize.specs.WorkLists.{IsRowOf}
 
 -- what a stepper steps for a table: the table's build, and what keys stand for
 pub record Keying : Type 0 where
@@ -31,42 +30,17 @@ keying s l = record {
   state_of = s.state_of;
 }
 
--- the states that were met: their keys, the bytes that all of them count for, how many patterns all labels name, and
--- the ids of the rows of those to which the lead-in alone leads, as far as they were found
+-- the states that were met: their keys, the bytes that all of them count for, and how many patterns all labels name
 pub record Met : Type 0 where
   pub keys : List (List ℕ)
   pub size : ℕ
   pub patterns : ℕ
-  pub lone : List (Option ℕ)
 
--- none was met; the table has so many columns
-abbrev pub none_met : ℕ → Met
-none_met columns = record { keys = []; size = 0; patterns = 0; lone = replicate (32 * columns) None }
+abbrev pub none_met : Met
+none_met = record { keys = []; size = 0; patterns = 0 }
 
 abbrev pub states_of : Keying → Met → List State
 states_of k met = map k.state_of met.keys
-
--- the id of the row to which the lead-in alone leads by a column, where this is known of the unit read last
-abbrev pub place_of : (context column : ℕ) → ℕ
-place_of context column = 32 * column + context
-
-abbrev pub lone_id : List (Option ℕ) → (context column : ℕ) → Option ℕ
-lone_id lone context column = slice_index_or lone (place_of context column) None
-
--- one more is kept
-abbrev pub with_lone : Met → (context column id : ℕ) → Met
-with_lone met context column id = record met { lone = set met.lone (place_of context column) (Some id) }
-
--- an id is that of the row of the state to which the lead-in alone leads
-pub record IsLone (k : Keying) (met : Met) (l : Layout) (context column id : ℕ) : Type 0 where
-  pub is_row : IsRowOf (states_of k met)
-      (Running (lone_state k.build.nfa k.build.kind l.classes context column)) (id / stride l)
-  pub is_id : IsRowId l id
-
--- those that are kept are
-abbrev pub AreLone : Keying → Met → Layout → Type 0
-AreLone k met l = (context column id : ℕ) → context < 32 → lone_id met.lone context column ≡ Some id
-    → IsLone k met l context column id
 
 -- the most bytes of a table, and of all states of its construction
 pub record SizeLimits : Type 0 where
@@ -95,7 +69,6 @@ pub record IsWorking (k : Keying) (limits : SizeLimits) (met : Met) (l : Layout)
   pub few_patterns : met.patterns ≤ max_id
   pub table : 0 < length met.keys → IfSome limits.table (λ limit. bytes_of l ≤ limit)
   pub construction : 0 < length met.keys → IfSome limits.construction (λ limit. met.size ≤ limit)
-  pub lone : AreLone k met l
 
 -- what the construction can be refused for, by some states that were met
 abbrev pub IsOver : Keying → SizeLimits → Layout → BuildErrorKind → Type 0

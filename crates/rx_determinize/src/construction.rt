@@ -1,22 +1,24 @@
 //! The construction: each state that is met is stepped once, and its row written.
 
-ghost use Rattle.std.specs.Prelude.{◌≡◌, ◌<◌, ◌+◌, [], false, IfErr, IfOk, IfSome, OnOk, length};
+ghost use Rattle.std.specs.Prelude.{◌≡◌, ℕ, ◌<◌, ◌≤◌, ◌+◌, ◌^◌, [], true, false, None, Some, IfErr, IfOk, IfSome, OnOk, length};
 ghost use Rattle.rx_spec.specs.Builds.{IsReached};
 ghost use Rattle.rx_spec.specs.Bytes.{contains};
 ghost use Rattle.rx_base.specs.ByteClasses.{alphabet_len};
 ghost use Rattle.rx_dense.specs.Layouts.{AreRows};
-ghost use Rattle.rx_stepper.specs.Stepping.{unit_of};
+ghost use Rattle.rx_stepper.specs.Stepping.{IsAlone, unit_of};
 ghost use Rattle.rx_stepper.specs.Steppers.{stepping_of};
 ghost use Rattle.rx_determinize.specs.Working.{IsWorking, IsOver, keying, none_met};
+ghost use Rattle.rx_determinize.specs.Models.{AreModels, Extends, IsKeyAt};
 ghost use Rattle.rx_determinize.specs.Filling.{AreUnits, CanStep, IsAnother, IsEntering, IsNextRow, IsStepping};
 ghost use Rattle.rx_determinize.specs.Filling.{IsWrittenOver, Suits};
 ghost use Rattle.rx_base.specs.Unit.{unit_number};
 
+use crate::models::Models;
 use crate::states::{SizeLimits, States, row_id};
 use rx_base::{ByteClasses, StateID, Unit};
 use rx_build_error::BuildError;
 use rx_dense::OwnedDFA;
-use rx_stepper::{Going, Next, Stepper};
+use rx_stepper::Stepper;
 use std::alloc::{AllocError, Global};
 
 /// What is kept from one state to the next.
@@ -45,7 +47,7 @@ impl Construction {
         classes: &ByteClasses,
         limits: SizeLimits,
     ) -> Result<Construction, AllocError>
-        ensures states { IfOk result (λ c. c.states ≡ none_met (alphabet_len classes.now)) }
+        ensures states { IfOk result (λ c. c.states ≡ none_met) }
         ensures limits { IfOk result (λ c. c.limits ≡ limits) }
         ensures units { IfOk result (λ c. AreUnits c.units.items classes.now) }
     {
@@ -54,7 +56,7 @@ impl Construction {
             units.push(unit)?;
         }
         Ok(Construction {
-            states: States::new(alloc, classes.alphabet_len())?,
+            states: States::new(alloc),
             limits,
             units,
             key: Vec::new(alloc),
@@ -62,37 +64,6 @@ impl Construction {
     }
 
     /// The row of the state to which a column leads that isn't a quit byte's.
-    fn next_row(
-        &mut self,
-        stepper: &mut Stepper<'_>,
-        dfa: &mut OwnedDFA,
-        column: usize,
-        last: Last,
-    ) -> Result<StateID, BuildError>
-        requires { CanStep (stepping_of stepper.old) self.old.limits self.old.states dfa.old self.old.units.items column
-            last.column last.id }
-        ensures found { IfOk result (IsNextRow (stepping_of stepper.old) self.old.limits self.old.states dfa.old column
-            self.new.states dfa.new) }
-        ensures kept { stepping_of stepper.new ≡ stepping_of stepper.old }
-        ensures limits { self.new.limits ≡ self.old.limits }
-        ensures units { self.new.units ≡ self.old.units }
-        ensures err { IfErr result (λ error.
-            IsOver (keying (stepping_of stepper.old) dfa.old) self.old.limits dfa.old error.kind) }
-    {
-        let context = match stepper.going(column) {
-            Going::Nothing => return Ok(StateID::ZERO),
-            Going::Own => return self.find_row(stepper, dfa, column, last),
-            Going::LeadIn(context) => context,
-        };
-        if let Some(id) = self.states.lone_row(context, column) {
-            return Ok(id);
-        }
-        let id = self.find_row(stepper, dfa, column, last)?;
-        self.states.keep_lone(context, column, id);
-        Ok(id)
-    }
-
-    /// The row of that state, by its key.
     fn find_row(
         &mut self,
         stepper: &mut Stepper<'_>,
@@ -110,33 +81,71 @@ impl Construction {
         ensures err { IfErr result (λ error.
             IsOver (keying (stepping_of stepper.old) dfa.old) self.old.limits dfa.old error.kind) }
     {
-        match stepper.next(column, last.column, &mut self.key)? {
-            Next::Dead => Ok(StateID::ZERO),
-            Next::AsLast => Ok(last.id),
-            Next::State => self.states.add(dfa, self.limits, &self.key),
+        if let Some(other) = last.column {
+            if stepper.are_alike(column, other) {
+                return Ok(last.id);
+            }
+        }
+        if stepper.next(column, &mut self.key)? {
+            self.states.add(dfa, self.limits, &self.key)
+        } else {
+            Ok(StateID::ZERO)
         }
     }
 
-    /// Writes where a column leads the state under way, whose row is that of a place among the states. Tells the column
-    /// by which the state was stepped last: this one, or where it is a quit byte's, the one before.
+    /// Writes where a column that isn't a quit byte's leads the state under way, whose row is that of a place among the
+    /// states and began as that of a model or didn't.
     fn write_column(
         &mut self,
         stepper: &mut Stepper<'_>,
         dfa: &mut OwnedDFA,
         place: usize,
         column: usize,
+        copied: bool,
         last: Last,
-    ) -> Result<Last, BuildError>
+    ) -> Result<StateID, BuildError>
         requires stepping { IsStepping (stepping_of stepper.old) self.old.limits self.old.states dfa.old
-            (record { place = place; column = column }) last.column last.id }
+            (record { place = place; column = column; copied = copied }) last.column last.id }
         requires suits { Suits (stepping_of stepper.old) self.old.units.items dfa.old }
         requires column { column < alphabet_len dfa.old.classes }
-        ensures stepping { IfOk result (λ led. IsStepping (stepping_of stepper.new) self.new.limits self.new.states
-            dfa.new (record { place = place; column = column + 1 }) led.column led.id) }
+        requires goes_on { contains dfa.old.quit (unit_of dfa.old.classes column) ≡ false }
+        ensures stepping { IfOk result (λ next. IsStepping (stepping_of stepper.new) self.new.limits self.new.states
+            dfa.new (record { place = place; column = column + 1; copied = copied }) (Some column) next) }
         ensures rest { OnOk result (IsWrittenOver dfa.old dfa.new) }
         ensures kept { stepping_of stepper.new ≡ stepping_of stepper.old }
         ensures limits { self.new.limits ≡ self.old.limits }
         ensures units { self.new.units ≡ self.old.units }
+        ensures keys { OnOk result (Extends self.old.states.keys self.new.states.keys) }
+        ensures err { IfErr result (λ error.
+            IsOver (keying (stepping_of stepper.old) dfa.old) self.old.limits dfa.old error.kind) }
+    {
+        let unit = self.units[column];
+        let next = self.find_row(stepper, dfa, column, last)?;
+        dfa.set_transition(row_id(dfa, place + 2), unit, next);
+        Ok(next)
+    }
+
+    /// Writes where a column leads the state under way, unless it is ready.
+    fn pass_column(
+        &mut self,
+        stepper: &mut Stepper<'_>,
+        dfa: &mut OwnedDFA,
+        place: usize,
+        column: usize,
+        copied: bool,
+        last: Last,
+    ) -> Result<Last, BuildError>
+        requires stepping { IsStepping (stepping_of stepper.old) self.old.limits self.old.states dfa.old
+            (record { place = place; column = column; copied = copied }) last.column last.id }
+        requires suits { Suits (stepping_of stepper.old) self.old.units.items dfa.old }
+        requires column { column < alphabet_len dfa.old.classes }
+        ensures stepping { IfOk result (λ led. IsStepping (stepping_of stepper.new) self.new.limits self.new.states
+            dfa.new (record { place = place; column = column + 1; copied = copied }) led.column led.id) }
+        ensures rest { OnOk result (IsWrittenOver dfa.old dfa.new) }
+        ensures kept { stepping_of stepper.new ≡ stepping_of stepper.old }
+        ensures limits { self.new.limits ≡ self.old.limits }
+        ensures units { self.new.units ≡ self.old.units }
+        ensures keys { OnOk result (Extends self.old.states.keys self.new.states.keys) }
         ensures err { IfErr result (λ error.
             IsOver (keying (stepping_of stepper.old) dfa.old) self.old.limits dfa.old error.kind) }
     {
@@ -146,28 +155,111 @@ impl Construction {
             dfa.set_transition(row_id(dfa, place + 2), unit, quit);
             return Ok(last);
         }
-        let next = self.next_row(stepper, dfa, column, last)?;
-        dfa.set_transition(row_id(dfa, place + 2), unit, next);
+        if copied && !stepper.has_own(column) {
+            return Ok(last);
+        }
+        let id = self.write_column(stepper, dfa, place, column, copied, last)?;
         Ok(Last {
             column: Some(column),
-            id: next,
+            id,
         })
     }
 
-    /// Writes the row of the state at a place among the states.
+    /// Writes the columns of a state's row that aren't ready: all, or where the row began as that of a model, those by
+    /// which rows of the state's own go on.
+    fn fill(
+        &mut self,
+        stepper: &mut Stepper<'_>,
+        dfa: &mut OwnedDFA,
+        place: usize,
+        copied: bool,
+    ) -> Result<(), BuildError>
+        requires stepping { IsStepping (stepping_of stepper.old) self.old.limits self.old.states dfa.old
+            (record { place = place; column = 0; copied = copied }) None 0 }
+        requires suits { Suits (stepping_of stepper.old) self.old.units.items dfa.old }
+        ensures entering { OnOk result (IsEntering (keying (stepping_of stepper.new) dfa.new) self.new.limits
+            self.new.states dfa.new (length dfa.new.starts) (place + 1)) }
+        ensures rest { OnOk result (IsWrittenOver dfa.old dfa.new) }
+        ensures kept { stepping_of stepper.new ≡ stepping_of stepper.old }
+        ensures limits { self.new.limits ≡ self.old.limits }
+        ensures units { self.new.units ≡ self.old.units }
+        ensures keys { OnOk result (Extends self.old.states.keys self.new.states.keys) }
+        ensures err { IfErr result (λ error.
+            IsOver (keying (stepping_of stepper.old) dfa.old) self.old.limits dfa.old error.kind) }
+    {
+        let mut last = Last {
+            column: None,
+            id: StateID::ZERO,
+        };
+        let skips = can_skip(dfa, copied);
+        let mut column = next_unready(stepper, 0, skips);
+        'columns: while column < self.units.len() {
+            last = self.pass_column(stepper, dfa, place, column, copied, last)?;
+            column = next_unready(stepper, column + 1, skips);
+        }
+        Ok(())
+    }
+
+    /// Lets the row of the state under way begin as that of its model, where one is known, and tells whether it does.
+    fn begin_row(
+        &self,
+        stepper: &Stepper<'_>,
+        dfa: &mut OwnedDFA,
+        place: usize,
+        models: &Models,
+    ) -> bool
+        requires stepping { IsStepping (stepping_of stepper.now) self.now.limits self.now.states dfa.old
+            (record { place = place; column = 0; copied = false }) None 0 }
+        requires models { AreModels (keying (stepping_of stepper.now) dfa.old) self.now.states dfa.old models.now place }
+        requires classes { (stepping_of stepper.now).classes ≡ dfa.old.classes }
+        ensures stepping { IsStepping (stepping_of stepper.now) self.now.limits self.now.states dfa.new
+            (record { place = place; column = 0; copied = result }) None 0 }
+        ensures rest { IsWrittenOver dfa.old dfa.new }
+    {
+        let Some(row) = models.row(stepper.led_in()) else {
+            return false;
+        };
+        let from = row_id(dfa, row);
+        let to = row_id(dfa, place + 2);
+        dfa.copy_state(from, to);
+        true
+    }
+
+    /// Keeps the row of the state under way as a model, where by no column rows of its own go on.
+    fn keep_model(&self, stepper: &Stepper<'_>, dfa: &OwnedDFA, place: usize, models: &mut Models)
+        requires rows { AreRows dfa.now }
+        requires suits { Suits (stepping_of stepper.now) self.now.units.items dfa.now }
+        requires key { IsKeyAt (stepping_of stepper.now) self.now.states place }
+        requires models { AreModels (keying (stepping_of stepper.now) dfa.now) self.now.states dfa.now models.old
+            (place + 1) }
+        requires fits { place < 2 ^ 32 }
+        ensures { AreModels (keying (stepping_of stepper.now) dfa.now) self.now.states dfa.now models.new (place + 1) }
+    {
+        if stepper.next_own(0) < self.units.len() {
+            return;
+        }
+        models.keep(stepper.led_in(), place + 2);
+    }
+
+    /// Writes the row of the state at a place among the states. It begins as that of the state's model, where one is
+    /// known, and else the state may become a model itself.
     fn step(
         &mut self,
         stepper: &mut Stepper<'_>,
         dfa: &mut OwnedDFA,
         place: usize,
+        models: &mut Models,
     ) -> Result<(), BuildError>
         requires entering { IsEntering (keying (stepping_of stepper.old) dfa.old) self.old.limits self.old.states
             dfa.old
             (length dfa.old.starts) place }
         requires suits { Suits (stepping_of stepper.old) self.old.units.items dfa.old }
         requires place { place < length self.old.states.keys }
+        requires models { AreModels (keying (stepping_of stepper.old) dfa.old) self.old.states dfa.old models.old place }
         ensures entering { OnOk result (IsEntering (keying (stepping_of stepper.new) dfa.new) self.new.limits
             self.new.states dfa.new (length dfa.new.starts) (place + 1)) }
+        ensures models { OnOk result (AreModels (keying (stepping_of stepper.new) dfa.new) self.new.states dfa.new
+            models.new (place + 1)) }
         ensures rest { OnOk result (IsWrittenOver dfa.old dfa.new) }
         ensures kept { IsAnother (stepping_of stepper.old) (stepping_of stepper.new) }
         ensures limits { self.new.limits ≡ self.old.limits }
@@ -176,12 +268,10 @@ impl Construction {
             IsOver (keying (stepping_of stepper.old) dfa.old) self.old.limits dfa.old error.kind) }
     {
         stepper.begin(self.states.key(place as u32))?;
-        let mut last = Last {
-            column: None,
-            id: StateID::ZERO,
-        };
-        'columns: for column in 0..self.units.len() {
-            last = self.write_column(stepper, dfa, place, column, last)?;
+        let copied = self.begin_row(stepper, dfa, place, models);
+        self.fill(stepper, dfa, place, copied)?;
+        if !copied {
+            self.keep_model(stepper, dfa, place, models);
         }
         Ok(())
     }
@@ -202,16 +292,45 @@ impl Construction {
         ensures err { IfErr result (λ error.
             IsOver (keying (stepping_of stepper.old) dfa.old) self.old.limits dfa.old error.kind) }
     {
+        let mut models = Models::new();
         let mut place = 0;
         'places: while place < self.states.len() {
-            self.step(stepper, dfa, place)?;
+            self.step(stepper, dfa, place, &mut models)?;
             place += 1;
         }
         Ok(())
     }
 }
 
+/// Whether the columns of a row that are ready may be passed by: it began as that of a model, and no byte quits.
+fn can_skip(dfa: &OwnedDFA, copied: bool) -> bool
+    ensures { result ≡ true → (copied ≡ true) × (dfa.now.quit ≡ 0) }
+{
+    if copied {
+        dfa.quitset().is_empty()
+    } else {
+        false
+    }
+}
+
+/// The next column from one on, or where columns are skipped by which no rows of the state's own go on, the next other
+/// one.
+#[inline]
+fn next_unready(stepper: &Stepper<'_>, column: usize, skips: bool) -> usize
+    requires { column ≤ alphabet_len (stepping_of stepper.now).classes }
+    ensures from { column ≤ result }
+    ensures within { result ≤ alphabet_len (stepping_of stepper.now).classes }
+    ensures ready { (c : ℕ) → column ≤ c → c < result → (skips ≡ true) × IsAlone (stepping_of stepper.now) c }
+{
+    if skips {
+        stepper.next_own(column)
+    } else {
+        column
+    }
+}
+
 /// Whether a table quits at a unit. It never does at the end mark.
+#[inline]
 fn is_quit(dfa: &OwnedDFA, unit: Unit) -> bool
     ensures { result ≡ contains dfa.now.quit (unit_number unit) }
 {

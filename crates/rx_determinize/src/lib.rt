@@ -7,8 +7,8 @@
 
 mod config;
 mod construction;
-mod lone_rows;
 mod matches;
+mod models;
 mod starts;
 mod states;
 

@@ -7,16 +7,15 @@ ghost use Rattle.rx_spec.specs.Causes.{max_id};
 ghost use Rattle.rx_search.specs.Starts.{IsId};
 ghost use Rattle.rx_dense.specs.Builder.{with_row};
 ghost use Rattle.rx_dense.specs.Layouts.{AreRows, IsRowId, ids_of, row_count, stride};
-ghost use Rattle.rx_determinize.specs.Working.{Keying, IsWorking, IsBare, IsOver, lone_id, none_met, with_lone};
+ghost use Rattle.rx_determinize.specs.Working.{Keying, IsWorking, IsBare, IsOver, none_met};
 ghost use Rattle.rx_determinize.specs.Adding.{Adds, CanAdd, IsFull, IsWithin, Passes};
 
-use crate::lone_rows::LoneRows;
 use rx_base::{PatternID, StateID};
 use rx_build_error::{BuildError, BuildErrorKind};
 use rx_dense::{AddError, OwnedDFA};
 use rx_interner::Interner;
 use rx_stepper::Stepper;
-use std::alloc::{AllocError, Global};
+use std::alloc::Global;
 use std::marker::Model;
 
 /// The most bytes of a table, and of the states of its construction; none is no limit.
@@ -44,8 +43,6 @@ pub(crate) struct States {
     size: u128,
     /// How many patterns the labels of all states name.
     patterns: u128,
-    /// The rows of those to which the lead-in alone leads.
-    lone: LoneRows,
 }
 
 impl Model for States {
@@ -54,24 +51,22 @@ impl Model for States {
 
     ghost Value = { Met };
 
-    ghost view = { λ s. record { keys = s.keys; size = s.size; patterns = s.patterns; lone = s.lone } };
+    ghost view = { λ s. record { keys = s.keys; size = s.size; patterns = s.patterns } };
 
     ghost invariant = { λ s. (length s.keys ≤ 2 ^ 32) × (s.size ≤ length s.keys * 2 ^ 64) × (s.patterns ≤ length
         s.keys * 2 ^ 64) };
 }
 
 impl States {
-    /// None was met. The table has so many columns.
-    pub(crate) fn new(alloc: Global, columns: usize) -> Result<States, AllocError>
-        requires { columns < 2 ^ 32 }
-        ensures { IfOk result (λ s. s ≡ none_met columns) }
+    /// None was met.
+    pub(crate) fn new(alloc: Global) -> States
+        ensures { result ≡ none_met }
     {
-        Ok(States {
+        States {
             keys: Interner::new(alloc),
             size: 0,
             patterns: 0,
-            lone: LoneRows::new(alloc, columns)?,
-        })
+        }
     }
 
     /// How many there are.
@@ -87,23 +82,6 @@ impl States {
         ensures { slice_get self.now.keys id ≡ Some result.now }
     {
         self.keys.key(id)
-    }
-
-    /// The row of the state to which the lead-in alone leads by a column, where it was found before, if this is known
-    /// of the unit read last.
-    pub(crate) fn lone_row(&self, context: u8, column: usize) -> Option<StateID>
-        requires { column < 2 ^ 32 }
-        ensures { result ≡ lone_id self.now.lone context column }
-    {
-        self.lone.get(context, column)
-    }
-
-    /// Keeps the row of the state to which the lead-in alone leads.
-    pub(crate) fn keep_lone(&mut self, context: u8, column: usize, id: StateID)
-        requires { column < 2 ^ 32 }
-        ensures { self.new ≡ with_lone self.old context column id }
-    {
-        self.lone.keep(context, column, id);
     }
 
     /// The row of a key's state, which is a new one where the state wasn't met before.

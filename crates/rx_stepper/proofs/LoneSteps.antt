@@ -3,7 +3,7 @@ use Rattle.std.proofs.Common.{◌≡◌, ℕ, zero, suc, ◌<◌, ◌++◌, ◌=
 use Rattle.std.proofs.Common.{◌∷◌, length, None, Some, refl, ap, ap₂, sym, ◌∙◌, subst, arith}
 use Rattle.std.proofs.Common.{inl}
 use Rattle.std.proofs.lemmas.Bool.{eqb-true}
-use Rattle.std.specs.Prelude.{IfSome, slice_get}
+use Rattle.std.specs.Prelude.{IfSome, MatchOption, Option, slice_get}
 use Rattle.rx_spec.specs.Builds.{is_dead_state}
 use Rattle.rx_spec.specs.Contexts.{Facts}
 use Rattle.rx_spec.specs.Nfas.{Nfa}
@@ -111,3 +111,27 @@ module _ {t : Table} {lead_in : LeadIn} {leads : List LeadSteps} {current : Curr
       let made_of = λ (a m : List ℕ). made t.nfa (a ++ []) facts (patterns_of t.nfa.rows (m ++ [])) in
       ap is_dead_state (column_made groups fits_lead fits column h None (inl none) ∙ ap₂ made_of targets matches)
       ∙ made_none t.nfa facts
+
+  -- a column by which no rows of its own go on leads where the lead-in's rows lead
+  pub alone : {column : ℕ} → column < length (units_of t.classes) → targets_in current.steps column ≡ []
+      → matches_in current.steps (group_in t column) ≡ []
+      → MatchOption current.led_in
+      (is_dead_state (step t.nfa t.kind (state_in t current) (unit_in t column)) ≡ true)
+      (λ context. (context < 32)
+      × (step t.nfa t.kind (state_in t current) (unit_in t column) ≡ lone_state t.nfa t.kind t.classes context column))
+  alone {column} h targets matches = by current.led_in refl
+    where
+      by : (o : Option ℕ) → current.led_in ≡ o
+          → MatchOption o (is_dead_state (step t.nfa t.kind (state_in t current) (unit_in t column)) ≡ true)
+          (λ context. (context < 32)
+          × (step t.nfa t.kind (state_in t current) (unit_in t column)
+          ≡ lone_state t.nfa t.kind t.classes context column))
+      by None none = dead_step column h none targets matches
+      by (Some context) some =
+          let lone : IsLone current column (group_in t column) context = record {
+            led_in = some;
+            targets = targets;
+            matches = matches;
+          } in
+          let small = lone_small groups fits_lead fits lone in
+          (small, lone_step fits_lead fits h small lone)

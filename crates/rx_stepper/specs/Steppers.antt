@@ -15,4 +15,5 @@ stepping_of s =
       is_key = is_key nfa.rows (lead_of nfa);
       state_of = spelled (lead_of nfa);
       current = spelled (lead_of nfa) s.current.key.items;
+      led_in = s.current.led_in;
     }

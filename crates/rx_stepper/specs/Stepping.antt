@@ -1,5 +1,5 @@
 -- What steps the states of an NFA, which are kept as lists of numbers, their keys.
-use Rattle.std.specs.Prelude.{ℕ, ◌≡◌, ◌≤◌, ◌<◌, ◌^◌, All, Bool, true, false, Option, Some, List, [], ◌∷◌, ◌++◌}
+use Rattle.std.specs.Prelude.{ℕ, ◌≡◌, ◌≤◌, ◌<◌, ◌^◌, All, Bool, true, false, Option, MatchOption, List, [], ◌∷◌, ◌++◌}
 use Rattle.std.specs.Prelude.{length, slice_index}
 use Rattle.rx_spec.specs.Bytes.{eoi}
 use Rattle.rx_spec.specs.Builds.{is_dead_state}
@@ -14,8 +14,6 @@ use Rattle.rx_base.specs.FactBits.{facts_with}
 use Rattle.rx_stepper.specs.Keys.{label_of, size_of}
 use Rattle.rx_stepper.specs.Leads.{lead_of}
 use Rattle.rx_stepper.specs.Steps.{rows_in}
-use Rattle.rx_stepper.specs.declared.going.Going.{Going}
-use Rattle.rx_stepper.specs.declared.next.Next.{Next}
 
 pub record Stepping : Type 0 where
   pub nfa : Nfa
@@ -25,8 +23,10 @@ pub record Stepping : Type 0 where
   -- which lists are keys, and the states that they stand for
   pub is_key : List ℕ → Bool
   pub state_of : List ℕ → State
-  -- the state that is being stepped
+  -- the state that is being stepped, and the number of what is known of the unit read last, where the lead-in's rows
+  -- follow rows of the state's own
   pub current : State
+  pub led_in : Option ℕ
 
 -- No two keys stand for one state.
 abbrev pub HasOneKeyEach : Stepping → Type 0
@@ -53,21 +53,13 @@ abbrev pub lone_state : Nfa → MatchKind → (classes : List ℕ) → (context 
 lone_state nfa kind classes context column =
     step nfa kind (rows_in (lead_of nfa) (facts_with context)) (unit_of classes column)
 
--- By which rows a column leads: by none, by the lead-in's alone, or by rows of the state's own.
-abbrev pub IsGoing : Stepping → (column : ℕ) → Going → Type 0
-IsGoing s column Going.Nothing = is_dead_state (stepped s column) ≡ true
-IsGoing s column (Going.LeadIn context) =
-    (context < 32) × (stepped s column ≡ lone_state s.nfa s.kind s.classes context column)
-IsGoing s column Going.Own = Unit {0}
+-- A column leads where the lead-in's rows lead by themselves, or where none follow, to the dead state.
+abbrev pub IsAlone : Stepping → ℕ → Type 0
+IsAlone s column = MatchOption s.led_in (is_dead_state (stepped s column) ≡ true) (λ context.
+    (context < 32) × (stepped s column ≡ lone_state s.nfa s.kind s.classes context column))
 
 -- a key stands for a state that isn't dead
 pub record IsKeyOf (s : Stepping) (key : List ℕ) (state : State) : Type 0 where
   pub is_key : s.is_key key ≡ true
   pub stands_for : s.state_of key ≡ state
   pub alive : is_dead_state state ≡ false
-
--- What a column leads to: nothing that goes on, the state of the column that was stepped last, or that of a key.
-abbrev pub IsNext : Stepping → (column : ℕ) → (last : Option ℕ) → (key : List ℕ) → Next → Type 0
-IsNext s column last key Next.Dead = is_dead_state (stepped s column) ≡ true
-IsNext s column last key Next.AsLast = (other : ℕ) × (last ≡ Some other) × (stepped s column ≡ stepped s other)
-IsNext s column last key Next.State = IsKeyOf s key (stepped s column)

@@ -1,6 +1,6 @@
 //! What steps states.
 
-ghost use Rattle.std.specs.Prelude.{◌≡◌, ◌<◌, ◌≤◌, true, MatchBool, Some, IfOk, OnOk, IfSome, length};
+ghost use Rattle.std.specs.Prelude.{◌≡◌, ℕ, ◌<◌, ◌≤◌, true, false, MatchBool, Some, IfOk, OnOk, IfSome, length};
 ghost use Rattle.std.specs.Prelude.{slice_get, slice_index, vec_capacity};
 ghost use Rattle.std.specs.Option.{option_copied};
 ghost use Rattle.rx_spec.specs.Builds.{is_dead_state};
@@ -16,11 +16,11 @@ use crate::closures::Closures;
 use crate::columns::Columns;
 use crate::current::Current;
 use crate::gathered::Gathered;
+use crate::keys;
 use crate::lead_in::LeadIn;
 use crate::lead_steps::LeadSteps;
 use crate::matches::goes_on;
 use crate::steps::Steps;
-use crate::{Going, Next, keys};
 use rx_base::{ByteClasses, Facts, MatchKind, Start, StateID};
 use rx_expr::thompson::NFA;
 use std::alloc::{AllocError, Global};
@@ -50,7 +50,7 @@ pub struct Stepper<'n> {
 impl<'n> Stepper<'n> {
     ghost use Rattle.rx_stepper.specs.Steppers.{stepping_of};
     ghost use Rattle.rx_stepper.specs.declared.lead_steps.LeadSteps.{LeadSteps};
-    ghost use Rattle.rx_stepper.specs.Stepping.{HasOneKeyEach, IsGoing, IsKeyOf, IsNext, SpellStates, stepped};
+    ghost use Rattle.rx_stepper.specs.Stepping.{HasOneKeyEach, IsAlone, IsKeyOf, SpellStates, stepped};
 
     /// What steps the states of an NFA by the columns of these classes.
     #[tactic(auto, unfolding(crate::specs::Steppers::stepping_of))]
@@ -119,7 +119,10 @@ impl<'n> Stepper<'n> {
         requires { (stepping_of self.old).is_key key.now ≡ true }
         ensures current { OnOk result ((stepping_of self.new).current ≡ (stepping_of self.old).state_of key.now) }
         ensures kept { stepping_of self.new
-            ≡ record (stepping_of self.old) { current = (stepping_of self.new).current } }
+            ≡ record (stepping_of self.old) {
+              current = (stepping_of self.new).current;
+              led_in = (stepping_of self.new).led_in;
+            } }
     {
         self.find_lead(key)?;
         match self.current.begin(
@@ -161,52 +164,52 @@ impl<'n> Stepper<'n> {
         )
     }
 
-    /// Steps the state by the unit of a column, and writes the key of the state that follows. None is written where
-    /// that state is dead, or is known to be the one to which another column led, the last that was stepped.
+    /// The number of what is known of the unit read last, where the lead-in's rows follow the state's own; none where no
+    /// others do.
     #[tactic(auto, unfolding(crate::specs::Steppers::stepping_of))]
-    pub fn next(
-        &mut self,
-        column: usize,
-        last: Option<usize>,
-        key: &mut Vec<u32>,
-    ) -> Result<Next, AllocError>
-        requires column { column < alphabet_len (stepping_of self.old).classes }
-        requires last { IfSome last (λ other. other < alphabet_len (stepping_of self.old).classes) }
-        ensures kept { stepping_of self.new ≡ stepping_of self.old }
-        ensures next { IfOk result (IsNext (stepping_of self.old) column last key.new.items) }
+    pub fn led_in(&self) -> Option<u8>
+        ensures { result ≡ (stepping_of self.now).led_in }
     {
-        if let Some(last) = last {
-            if self.are_alike(column, last) {
-                return Ok(Next::AsLast);
-            }
-        }
-        let goes_on = self.write_next(column, key)?;
-        Ok(if goes_on { Next::State } else { Next::Dead })
+        self.current.led_in
     }
 
-    /// By which rows the state goes on by a column.
+    /// Whether rows of the state's own go on by a column or match before it. Where none does, the column leads where the
+    /// lead-in's rows lead by themselves.
     #[tactic(auto, unfolding(crate::specs::Steppers::stepping_of))]
-    pub fn going(&self, column: usize) -> Going
-        requires column { column < alphabet_len (stepping_of self.now).classes }
-        ensures { IsGoing (stepping_of self.now) column result }
+    pub fn has_own(&self, column: usize) -> bool
+        requires { column < alphabet_len (stepping_of self.now).classes }
+        ensures { result ≡ false → IsAlone (stepping_of self.now) column }
     {
         let own = &self.current.steps;
         if !own.targets[column].is_empty() {
-            return Going::Own;
+            return true;
         }
         let group = self.columns.groups.of(column);
-        if !own.matches[group as usize].is_empty() {
-            return Going::Own;
-        }
-        match self.current.led_in {
-            Some(context) => Going::LeadIn(context),
-            None => Going::Nothing,
-        }
+        !own.matches[group as usize].is_empty()
     }
 
-    /// Writes the key of the state to which a column leads, and tells whether there is one.
+    /// The first column from one on by which rows of the state's own go on or match before it; the number of all columns
+    /// where there is none.
     #[tactic(auto, unfolding(crate::specs::Steppers::stepping_of))]
-    fn write_next(&mut self, column: usize, key: &mut Vec<u32>) -> Result<bool, AllocError>
+    pub fn next_own(&self, from: usize) -> usize
+        requires { from ≤ alphabet_len (stepping_of self.now).classes }
+        ensures from { from ≤ result }
+        ensures within { result ≤ alphabet_len (stepping_of self.now).classes }
+        ensures alone { (column : ℕ) → from ≤ column → column < result → IsAlone (stepping_of self.now) column }
+    {
+        let columns = self.current.steps.targets.len();
+        for column in from..columns {
+            if self.has_own(column) {
+                return column;
+            }
+        }
+        columns
+    }
+
+    /// Steps the state by the unit of a column, writes the key of the state that follows, and tells whether there is
+    /// one: the dead state has no key.
+    #[tactic(auto, unfolding(crate::specs::Steppers::stepping_of))]
+    pub fn next(&mut self, column: usize, key: &mut Vec<u32>) -> Result<bool, AllocError>
         requires { column < alphabet_len (stepping_of self.old).classes }
         ensures kept { stepping_of self.new ≡ stepping_of self.old }
         ensures key { IfOk result (λ goes_on. MatchBool goes_on
@@ -229,7 +232,7 @@ impl<'n> Stepper<'n> {
 
     /// Whether two columns surely lead to one state: no assertion tells them apart, and the same rows are led to.
     #[tactic(auto, unfolding(crate::specs::Steppers::stepping_of))]
-    fn are_alike(&self, column: usize, other: usize) -> bool
+    pub fn are_alike(&self, column: usize, other: usize) -> bool
         requires column { column < alphabet_len (stepping_of self.now).classes }
         requires other { other < alphabet_len (stepping_of self.now).classes }
         ensures { result ≡ true → stepped (stepping_of self.now) column ≡ stepped (stepping_of self.now) other }

@@ -7,7 +7,7 @@ use rx_base::{ByteClasses, Look, MatchKind, Start, Unit};
 use rx_expr::Expr;
 use rx_expr::thompson::{Compiler, Config, NFA};
 use rx_powerset::PowerState;
-use rx_stepper::{Going, Next, Stepper};
+use rx_stepper::Stepper;
 use std::alloc::{AllocError, Global};
 
 /// Whether a key tells the label and the size of a plain state.
@@ -57,11 +57,13 @@ fn columns_agree(
             return Ok(false);
         }
         let stepped = state.step(alloc, case.nfa, case.kind, unit)?;
-        let before = if column == 0 { None } else { Some(column - 1) };
-        let agrees = match stepper.next(column, before, &mut next)? {
-            Next::Dead => stepped.is_dead(),
-            Next::AsLast => stepped == last,
-            Next::State => tells(stepper, &next, &stepped),
+        if column > 0 && stepper.are_alike(column, column - 1) && stepped != last {
+            return Ok(false);
+        }
+        let agrees = if stepper.next(column, &mut next)? {
+            tells(stepper, &next, &stepped)
+        } else {
+            stepped.is_dead()
         };
         if !agrees {
             return Ok(false);
@@ -103,10 +105,10 @@ fn agree_along(
             return Ok(false);
         }
         let mut next = Vec::new(alloc);
-        match stepper.next(column, None, &mut next)? {
-            Next::State => key = next,
-            _ => return Ok(true),
+        if !stepper.next(column, &mut next)? {
+            return Ok(true);
         }
+        key = next;
         state = state.step(alloc, case.nfa, case.kind, Unit::Byte(*byte))?;
     }
     columns_agree(alloc, case, &mut stepper, &key, &state)
@@ -189,17 +191,14 @@ fn leads_alone(alloc: Global, nfa: &NFA) -> Result<bool, AllocError> {
     }
     stepper.begin(&start)?;
     let mut key = Vec::new(alloc);
-    match stepper.next(a, None, &mut key)? {
-        Next::State => {
-            stepper.begin(&key)?;
-            Ok(
-                stepper.going(a) == Going::LeadIn(0)
-                    && stepper.going(b) == Going::Own
-                    && stepper.going(other) == Going::LeadIn(0),
-            )
-        }
-        _ => Ok(false),
+    if !stepper.next(a, &mut key)? {
+        return Ok(false);
     }
+    stepper.begin(&key)?;
+    Ok(stepper.led_in() == Some(0)
+        && !stepper.has_own(a)
+        && stepper.has_own(b)
+        && !stepper.has_own(other))
 }
 
 #[test]

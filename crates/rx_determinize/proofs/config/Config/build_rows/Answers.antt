@@ -44,7 +44,7 @@ pub set_starts-requires-clause-entering : goal.set_starts-requires-clause-enteri
 set_starts-requires-clause-entering c =
     let prior = goal.at.set_starts-requires-clause-entering c in
     begun_entering (begins prior.In_ok-construction c.requires.begun.0 c.requires.begun.1)
-    c.in_ok-construction.construction.limits c.in_ok-construction.construction.states _
+    c.in_ok-construction.construction.limits c.in_ok-construction.construction.states
     c.in_ok-construction.ensures.states c.byte_classes.ensures.are_classes c.args.nfa.now.patterns
 
 pub set_starts-requires-clause-suits : goal.set_starts-requires-clause-suits

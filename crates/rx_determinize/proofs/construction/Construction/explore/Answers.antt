@@ -1,11 +1,26 @@
-use Rattle.std.proofs.Common.{◌≡◌, length, ap, ◌∙◌, subst, arith}
+use Rattle.std.proofs.Common.{◌≡◌, length, refl, ap, ◌∙◌, subst, arith}
 use Rattle.std.proofs.lemmas.Result.{err_from_is_err_and}
 use Rattle.rx_stepper.specs.Steppers.{stepping_of}
 use Rattle.rx_determinize.specs.Filling.{IsEntering}
 use Rattle.rx_determinize.specs.Working.{keying}
 use Rattle.rx_determinize.proofs.AddingLaws.{few_keys}
-use Rattle.rx_determinize.proofs.SteppingLaws.{another_twice, entering_as, over_back, over_twice, suits_over}
+use Rattle.rx_determinize.proofs.ModelLaws.{models_none}
+use Rattle.rx_determinize.proofs.SteppingLaws.{another_twice, entering_as, no_other, over_back, over_twice}
+use Rattle.rx_determinize.proofs.SteppingLaws.{suits_over}
 use Rattle.rx_determinize.proofs.construction.Construction.explore.Goals as goal
+
+pub places-init : goal.places-init
+places-init c =
+    let s = stepping_of c.args.stepper.now in
+    let l = c.args.dfa.now in
+    record {
+      entering = c.requires.entering;
+      models = models_none (keying s l) c.args.self.now.states l 0 c.new-models.result c.new-models.ensures;
+      suits = c.requires.suits;
+      rest = refl;
+      kept = no_other s s refl;
+      limits = refl;
+    }
 
 pub returns-in_err-step-clause-err : goal.returns-in_err-step-clause-err
 returns-in_err-step-clause-err c =
@@ -24,6 +39,7 @@ places-preserved c =
     let t = stepping_of c.step.new.stepper in
     record {
       entering = e.entering;
+      models = e.models;
       suits = suits_over r t c.places.dfa c.step.new.dfa c.step.ensures.kept (ap (λ us. us.items) c.step.ensures.units)
           e.rest i.suits;
       rest = over_twice c.args.dfa.now c.places.dfa c.step.new.dfa i.rest e.rest;

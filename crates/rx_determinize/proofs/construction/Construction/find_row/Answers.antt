@@ -1,11 +1,25 @@
-use Rattle.std.proofs.Common.{List, ℕ, sym, subst}
-use Rattle.rx_stepper.specs.Stepping.{IsKeyOf, IsNext, stepped}
+use Rattle.std.proofs.Common.{◌≡◌, List, ℕ, true, Option, sym, subst}
+use Rattle.std.specs.Prelude.{IfSome, MatchBool}
+use Rattle.rx_spec.specs.Builds.{is_dead_state}
+use Rattle.rx_stepper.specs.Stepping.{IsKeyOf, stepped}
 use Rattle.rx_stepper.specs.Steppers.{stepping_of}
+use Rattle.rx_determinize.specs.Filling.{IsStepped}
 use Rattle.rx_determinize.specs.Working.{keying}
 use Rattle.rx_determinize.specs.Adding.{CanAdd}
-use Rattle.rx_determinize.proofs.NextLaws.{as_last, dead_stepped, found_added, found_before, key_may, stepped_reached}
+use Rattle.rx_determinize.proofs.NextLaws.{dead_stepped, found_added, found_before, key_may, stepped_alike}
+use Rattle.rx_determinize.proofs.NextLaws.{stepped_reached}
 use Rattle.rx_determinize.proofs.construction.Construction.find_row.Goals.{After-add}
 use Rattle.rx_determinize.proofs.construction.Construction.find_row.Goals as goal
+
+pub returns-then-are_alike-clause-found : goal.returns-then-are_alike-clause-found
+returns-then-are_alike-clause-found c =
+    let s = stepping_of c.args.stepper.now in
+    let r = c.requires in
+    let last : IsStepped (keying s c.args.dfa.now) c.args.self.now.states c.args.dfa.now s c.in-Some.other c.args.last.id =
+    subst (λ (o : Option ℕ). IfSome o (λ other.
+    IsStepped (keying s c.args.dfa.now) c.args.self.now.states c.args.dfa.now s other c.args.last.id)) c.in-Some.is
+    r.stepped_last in
+    found_before r (stepped_alike r.column_in (c.are_alike.ensures c.if-are_alike.true) last)
 
 -- the key that the stepper gave is that of the state to which the column leads, which can be added
 key_is : (c : After-add)
@@ -13,8 +27,11 @@ key_is : (c : After-add)
     (stepped (stepping_of c.args.stepper.now) c.args.column)
 key_is c =
     let s = stepping_of c.args.stepper.now in
-    subst (λ (k : List ℕ). IsKeyOf s k (stepped s c.args.column)) (sym c.deref.ensures.value)
-    (subst (IsNext s c.args.column c.args.last.column c.next.new.key.items) c.in-State.is c.in_ok-next.ensures.next)
+    let state = stepped s c.args.column in
+    let key = c.next.new.key.items in
+    subst (λ (k : List ℕ). IsKeyOf s k state) (sym c.deref.ensures.value)
+    (subst (λ b. MatchBool b (IsKeyOf s key state) (is_dead_state state ≡ true)) c.if-branch.true
+    c.in_ok-next.ensures.key)
 
 can_add : (c : After-add) → CanAdd (keying (stepping_of c.args.stepper.now) c.args.dfa.now)
     c.args.self.now.limits c.args.self.now.states c.args.dfa.now c.deref.result.now
@@ -25,30 +42,24 @@ can_add c =
     key_may r.suits r.working (key_is c)
     (stepped_reached s l r.rows r.suits.classes r.reached c.args.column r.column_in r.goes_on (key_is c))
 
-pub returns-in-State-clause-found : goal.returns-in-State-clause-found
-returns-in-State-clause-found c =
-    let before = (goal.at.returns-in-State-clause-found c).After-add in
+pub returns-then-branch-clause-found : goal.returns-then-branch-clause-found
+returns-then-branch-clause-found c =
+    let before = (goal.at.returns-then-branch-clause-found c).After-add in
     found_added c.add.result c.deref.result.now c.add.new.self c.add.new.dfa c.requires (key_is before) c.add.ensures.ok
     c.add.ensures.is_row c.add.ensures.rows
     (c.add.ensures.working (keying (stepping_of c.args.stepper.now) c.args.dfa.now) (can_add before))
 
-pub returns-in-State-clause-err : goal.returns-in-State-clause-err
-returns-in-State-clause-err c =
+pub returns-then-branch-clause-err : goal.returns-then-branch-clause-err
+returns-then-branch-clause-err c =
     c.add.ensures.err (keying (stepping_of c.args.stepper.now) c.args.dfa.now)
-    (can_add (goal.at.returns-in-State-clause-err c).After-add)
+    (can_add (goal.at.returns-then-branch-clause-err c).After-add)
 
-pub returns-in-Dead-clause-found : goal.returns-in-Dead-clause-found
-returns-in-Dead-clause-found c =
+pub returns-else-branch-clause-found : goal.returns-else-branch-clause-found
+returns-else-branch-clause-found c =
     let s = stepping_of c.args.stepper.now in
     let r = c.requires in
+    let state = stepped s c.args.column in
     let dead =
-    subst (IsNext s c.args.column c.args.last.column c.next.new.key.items) c.in-Dead.is c.in_ok-next.ensures.next in
+    subst (λ b. MatchBool b (IsKeyOf s c.next.new.key.items state) (is_dead_state state ≡ true)) c.if-branch.false
+    c.in_ok-next.ensures.key in
     found_before r (dead_stepped r.rows r.column_in dead)
-
-pub returns-in-AsLast-clause-found : goal.returns-in-AsLast-clause-found
-returns-in-AsLast-clause-found c =
-    let s = stepping_of c.args.stepper.now in
-    let r = c.requires in
-    let key = c.next.new.key.items in
-    let same = subst (IsNext s c.args.column c.args.last.column key) c.in-AsLast.is c.in_ok-next.ensures.next in
-    found_before r (as_last (keying s c.args.dfa.now) key r.column_in r.stepped_last same)

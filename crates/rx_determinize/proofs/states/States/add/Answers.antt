@@ -37,7 +37,7 @@ returns-then-not-interned-clause-working c k can =
     let kept = keys_kept c.self.inside.keys c.intern.new.self c.args.key.now c.in_ok-interned.interned.is_new
     c.in_ok-interned.ensures.keys (is_old_key c.in_ok-interned.interned.is_new c.if-not-interned.true) in
     subst (λ (m : Met). IsWorking k c.args.limits m c.args.dfa.now)
-    (sym (same_met kept refl refl refl ∙ c.self.view_is)) can.working
+    (sym (same_met kept refl refl ∙ c.self.view_is)) can.working
 
 pub returns-in_err-add_row-clause-err : goal.returns-in_err-add_row-clause-err
 returns-in_err-add_row-clause-err c k can =
@@ -64,7 +64,7 @@ returns-in_err-check-clause-err c k can =
     omega (arith, ap length c.label.ensures, ap length can.label, ap (λ (m : Met). m.patterns) c.self.view_is) in
     rw (p.1, p.2)
     (over_new can.working new c.state_len-rows.ensures.rows
-    (same_met more size patterns (ap (λ (m : Met). m.lone) c.self.view_is))
+    (same_met more size patterns)
     c.in_ok-add_row.ensures.ok c.in_err-check.field-0.0.kind c.in_err-check.ensures.err)
 
 pub row_id-requires-2 : goal.row_id-requires-2
@@ -119,7 +119,7 @@ returns-clause-working c k can =
     let patterns : c.self.inside.patterns + length c.label.result.now ≡ c.args.self.now.patterns + length state.label =
     omega (arith, ap length c.label.ensures, ap length can.label, ap (λ (m : Met). m.patterns) c.self.view_is) in
     working_new can.working new c.state_len-rows.ensures.rows
-    (same_met more size patterns (ap (λ (m : Met). m.lone) c.self.view_is))
+    (same_met more size patterns)
     c.in_ok-add_row.ensures.ok c.in_ok-check.ensures.ok
 
 pub check-requires : goal.check-requires

@@ -13,8 +13,8 @@ use Rattle.rx_stepper.specs.Units.{units_of}
 use Rattle.rx_stepper.specs.declared.lead_steps.LeadSteps.{LeadSteps}
 use Rattle.rx_stepper.proofs.ColumnSteps.{IsGathered, gathered_few, gathered_made, lead_column, led_within}
 use Rattle.rx_stepper.proofs.Results.{if_ok-map, match_bool-map}
-use Rattle.rx_stepper.proofs.stepper.Stepper.write_next.Goals.{In_ok-gather, Start}
-use Rattle.rx_stepper.proofs.stepper.Stepper.write_next.Goals as goal
+use Rattle.rx_stepper.proofs.stepper.Stepper.next.Goals.{In_ok-gather, Start}
+use Rattle.rx_stepper.proofs.stepper.Stepper.next.Goals as goal
 
 within : (c : Start) → c.args.column < length (units_of c.args.self.now.classes)
 unfolding stepping_of

@@ -1,0 +1,8 @@
+use Rattle.std.proofs.Common.{ℕ, ◌<◌, ◌≤◌}
+use Rattle.rx_stepper.specs.Stepping.{IsAlone}
+use Rattle.rx_stepper.specs.Steppers.{stepping_of}
+use Rattle.rx_stepper.proofs.stepper.Stepper.next_own.Given as goal
+
+-- by the columns so far no rows of its own go on
+abbrev pub invariant-loop-column : goal.invariant-loop-column
+invariant-loop-column l = (c : ℕ) → l.from ≤ c → c < l.column → IsAlone (stepping_of l.self) c
