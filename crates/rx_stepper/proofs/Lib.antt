@@ -1,5 +1,6 @@
--- closures: thin rows, a search of the rows with stamps
+-- closures: thin rows, the members of lists, and the searches of the rows with stamps
 pub mod ThinLists
+pub mod Members
 pub mod StampedSearch
 -- the columns that rows read, and their groups
 pub mod ReadColumns
@@ -10,8 +11,7 @@ pub mod EmptyLists
 pub mod UnitCounts
 -- what decides assertions
 pub mod Decisions
--- members of lists, lists without the members of others, and rows that end with those of the lead-in
-pub mod Members
+-- lists without the members of others, and rows that end with those of the lead-in
 pub mod Without
 pub mod WrittenRows
 pub mod LedSteps

@@ -1,25 +1,30 @@
--- A turn of a search whose flags can be told from those before and the row that is met, with a stack in front of rows
--- that are still given.
+-- The searches that list a closure, with stamps for the rows that were met and a stack of those that wait.
 use Rattle.std.proofs.Common.{◌≡◌, ℕ, ◌+◌, ◌<◌, ◌≤◌, ◌==◌, ◌||◌, ◌⊎◌, inl, inr, Bool, true, false, not, if◌then◌else◌}
-use Rattle.std.proofs.Common.{List, [], ◌∷◌, ◌++◌, get_or, drop, reverse, length, refl, ap, sym, ◌∙◌, subst, arith}
-use Rattle.std.proofs.Common.{append_assoc, ⊎_elim}
+use Rattle.std.proofs.Common.{List, [], ◌∷◌, ◌++◌, get_or, drop, reverse, length, refl, ap, ap₂, sym, ◌∙◌, subst, arith}
+use Rattle.std.proofs.Common.{append_assoc, append-nil, length-append, ⊎_elim}
 use Rattle.std.proofs.Math.ListN.{drop_of_length-le}
 use Rattle.std.proofs.lemmas.Bool.{cases_lt, or_left, or_right, or_cases, eqb-true, eq-eqb}
 use Rattle.std.proofs.lemmas.List.{nil_from_length, drop_more}
 use Rattle.std.proofs.lemmas.List.Sums.{sum_by-cons}
 use Rattle.std.proofs.lemmas.Option.{slice_get_past}
 use Rattle.std.specs.Prelude.{unwrap_or}
-use Rattle.std.specs.List.{flat_map, list_any}
+use Rattle.std.specs.List.{flat_map, list_any, AllByRecursion as Every}
+use Rattle.rx_spec.specs.Causes.{id_count}
 use Rattle.rx_spec.specs.Rows.{Row}
 use Rattle.rx_spec.specs.Shallow.{IsShallow}
-use Rattle.rx_spec.specs.States.{Passing, row_at, closure}
-use Rattle.rx_powerset.specs.Closures.{own_by, branches_by, closed_rows}
+use Rattle.rx_spec.specs.States.{Passing, row_at, closure, fresh}
+use Rattle.rx_lemmas.proofs.Every.{every-append}
+use Rattle.rx_lemmas.proofs.Firsts.{by_test, fresh_alike, fresh_append, fresh_keeps, fresh_within, seen_if, seen_true}
+use Rattle.rx_powerset.specs.Closures.{own_by, branches_by}
 use Rattle.rx_powerset.proofs.Closures.{graph_of, closure_unfolds}
-use Rattle.rx_powerset.proofs.Search.{Graph, In, Listed, Notes, Searching, in_nil, search_passes, search_turns}
-use Rattle.rx_powerset.proofs.Search.{search_ends}
+use Rattle.rx_powerset.proofs.Search.{Graph, In, Listed, Notes, Searching, in_cases, in_nil}
+use Rattle.rx_powerset.proofs.Search.{search_passes, search_turns, search_ends}
 use Rattle.rx_powerset.proofs.StackSearch.{popped}
+use Rattle.rx_stepper.specs.Searches.{IsSearched, ReachesItself}
 use Rattle.rx_stepper.specs.Stamps.{is_met, unmet}
-use Rattle.rx_stepper.proofs.Members.{same_test}
+use Rattle.rx_stepper.specs.ThinRows.{IsThin, is_end, row_of_thin}
+use Rattle.rx_stepper.specs.declared.thin_row.ThinRow.{ThinRow}
+use Rattle.rx_stepper.proofs.Members.{in_here, in_left, in_right, in_split, not_in, same_test, was}
 
 not_false : (b : Bool) {first : Bool} → first ≡ not b → first ≡ false → b ≡ true
 not_false true e f = refl
@@ -28,6 +33,23 @@ not_false false e f = cc
 not_true : (b : Bool) {first : Bool} → first ≡ not b → first ≡ true → b ≡ false
 not_true true e f = cc
 not_true false e f = refl
+
+-- ---- room: no more rows can be new than there are
+
+pub count_new : (n : ℕ) {m : ℕ} (first : Bool) → n + (if first then 1 else 0) ≡ m → first ≡ true → n + 1 ≡ m
+count_new n true h e = h
+count_new n false h e = cc
+
+pub count_old : (n : ℕ) {m : ℕ} (first : Bool) → n + (if first then 1 else 0) ≡ m → first ≡ false → n ≡ m
+count_old n true h e = cc
+count_old n false h e = omega arith
+
+pub unmet_within : (stamps : List ℕ) (now : ℕ) → unmet stamps now ≤ length stamps
+unmet_within [] now = omega arith
+unmet_within (x ∷ xs) now =
+    let Few = λ (v : Bool). (if v then 0 else 1) ≤ 1 in
+    let one : (if x == now then 0 else 1) ≤ 1 = elim (x == now) as Few [ true ↦ omega arith | false ↦ omega arith ] in
+    omega (arith, sum_by-cons (λ stamp. if stamp == now then 0 else 1) x xs, unmet_within xs now)
 
 -- ---- a turn
 
@@ -46,30 +68,193 @@ notes seen after id only = record {
       (or_cases (x == id) (seen x) (sym (only x) ∙ h));
 }
 
-module _ (g : Graph) {target out stack : List ℕ} (rest tail : List ℕ) (id : ℕ) where
+module _ (g : Graph) {target out stack : List ℕ} (rest : List ℕ) (id : ℕ) where
   -- the row was met before
   pub passed_on : (seen after : ℕ → Bool) {first : Bool} → Flags seen after id
-      → Searching g target seen out (reverse stack ++ tail) → stack ≡ rest ++ id ∷ [] → first ≡ not (seen id)
-      → first ≡ false → Searching g target after out (reverse rest ++ tail)
+      → Searching g target seen out (reverse stack) → stack ≡ rest ++ id ∷ [] → first ≡ not (seen id)
+      → first ≡ false → Searching g target after out (reverse rest)
   passed_on seen after only s e f old =
-      let before = subst (λ l. Searching g target seen out (l ++ tail)) (popped rest e) s in
+      let before = subst (Searching g target seen out) (popped rest e) s in
       search_passes g (not_false (seen id) f old) (notes seen after id only) before
 
   -- it is met for the first time
   pub met_now : (seen after : ℕ → Bool) {more : List ℕ} (left : List ℕ) {first : Bool} → Flags seen after id
-      → Searching g target seen out (reverse stack ++ tail) → stack ≡ rest ++ id ∷ [] → first ≡ not (seen id)
+      → Searching g target seen out (reverse stack) → stack ≡ rest ++ id ∷ [] → first ≡ not (seen id)
       → first ≡ true → more ≡ out ++ g.own id → reverse left ≡ g.branches id ++ reverse rest
-      → Searching g target after more (reverse left ++ tail)
+      → Searching g target after more (reverse left)
   met_now seen after left only s e f new listed goes =
-      let before = subst (λ l. Searching g target seen out (l ++ tail)) (popped rest e) s in
+      let before = subst (Searching g target seen out) (popped rest e) s in
       let turned = search_turns g (not_true (seen id) f new) (notes seen after id only) before in
-      let waits = ap (λ l. l ++ tail) goes ∙ append_assoc (g.branches id) (reverse rest) tail in
       subst
-      (λ o. Searching g target after o (reverse left ++ tail))
+      (λ o. Searching g target after o (reverse left))
       (sym listed)
-      (subst (Searching g target after (out ++ g.own id)) (sym waits) turned)
+      (subst (Searching g target after (out ++ g.own id)) (sym goes) turned)
 
--- ---- the beginning
+-- ---- a search from one row: its beginning and its end
+
+module _ (rows : List Row) (pass : Passing) (shallow : IsShallow rows) {stamps found : List ℕ} {now : ℕ} where
+  pub search_from : (row : ℕ) {empty stack : List ℕ} → IsSearched rows pass stamps now found → empty ≡ []
+      → stack ≡ empty ++ row ∷ []
+      → Searching (graph_of rows pass shallow) (found ++ fresh found (closure rows pass row)) (is_met stamps now) found
+      (reverse stack)
+  search_from row {empty} {stack} s none e =
+      let one : stack ≡ row ∷ [] = e ∙ ap (λ l. l ++ row ∷ []) none in
+      subst
+      (λ l.
+      Searching (graph_of rows pass shallow) (found ++ fresh found (closure rows pass row)) (is_met stamps now) found
+      (reverse l))
+      (sym one)
+      (record {
+        whole = ap (λ l. found ++ fresh found l) (append-nil (closure rows pass row));
+        noted = s.met;
+        listed = λ p h. record {
+          above = [];
+          below = row ∷ [];
+          split = refl;
+          lighter = tt;
+          given = λ x k. inl (s.listed p h x k);
+        };
+      })
+
+  pub searched : {target : List ℕ} (stack : List ℕ) {len : ℕ} → len ≡ length stack → len ≡ 0
+      → Searching (graph_of rows pass shallow) target (is_met stamps now) found (reverse stack)
+      → Every (λ q. q < id_count) found → length found + unmet stamps now ≤ length rows
+      → (found ≡ target) × IsSearched rows pass stamps now found
+  searched {target} stack e z s ids room = (
+    search_ends g ended,
+    record {
+      met = ended.noted;
+      listed = λ p h. listed p (ended.listed p h);
+      ids = ids;
+      room = room;
+    },
+  )
+    where
+      g : Graph
+      g = graph_of rows pass shallow
+
+      ended : Searching g target (is_met stamps now) found []
+      ended =
+          subst (λ l. Searching g target (is_met stamps now) found (reverse l)) (nil_from_length stack (sym e ∙ z)) s
+
+      listed : (p : ℕ) → Listed g found [] p → (x : ℕ) → In (closure rows pass p) x → In found x
+      listed p l = go l.above l.below l.split l.given
+        where
+          go : (above below : List ℕ) → [] ≡ above ++ below
+              → ((x : ℕ) → In (g.gives p) x → In found x ⊎ In (flat_map g.gives above) x)
+              → (x : ℕ) → In (g.gives p) x → In found x
+          go [] below split given x h =
+              ⊎_elim (λ (o : In found x). o) (λ (n : In [] x). absurd (in_nil x n)) (given x h)
+          go (a ∷ above) below split given x h = absurd (cc)
+
+-- ---- a row that reaches itself alone needs no search
+
+pub itself_there : (rows : List Row) (shallow : IsShallow rows) (q : ℕ) (thin : ThinRow) {at_q : ThinRow}
+    → IsThin (row_of_thin at_q) (row_at rows q) → thin ≡ at_q → is_end thin ≡ true → ReachesItself rows q
+itself_there rows shallow q thin {at_q} thinned e ends pass =
+    closure_unfolds rows pass shallow q
+    ∙ ap₂
+    (λ a b. a ++ flat_map (closure rows pass) b)
+    (sym (is.own pass q) ∙ own thin ends)
+    (sym (is.branches pass) ∙ none thin ends)
+  where
+    is : IsThin (row_of_thin thin) (row_at rows q)
+    is = subst (λ t. IsThin (row_of_thin t) (row_at rows q)) (sym e) thinned
+
+    own : (t : ThinRow) → is_end t ≡ true → own_by pass q (row_of_thin t) ≡ q ∷ []
+    own ThinRow.Bytes h = refl
+    own (ThinRow.Split first second) h = absurd (cc)
+    own (ThinRow.Look look next) h = absurd (cc)
+    own (ThinRow.Match pattern) h = refl
+    own ThinRow.Fail h = absurd (cc)
+
+    none : (t : ThinRow) → is_end t ≡ true → branches_by pass (row_of_thin t) ≡ []
+    none ThinRow.Bytes h = refl
+    none (ThinRow.Split first second) h = absurd (cc)
+    none (ThinRow.Look look next) h = absurd (cc)
+    none (ThinRow.Match pattern) h = refl
+    none ThinRow.Fail h = absurd (cc)
+
+fresh_nil : (seen : List ℕ) → fresh seen [] ≡ []
+unfolding fresh
+fresh_nil seen = refl
+
+fresh_new : (seen : List ℕ) (q : ℕ) → was seen q ≡ false → fresh seen (q ∷ []) ≡ q ∷ []
+unfolding fresh
+fresh_new seen q e = rw e refl
+
+fresh_old : (seen : List ℕ) (q : ℕ) → was seen q ≡ true → fresh seen (q ∷ []) ≡ []
+unfolding fresh
+fresh_old seen q e = rw e refl
+
+module _ (rows : List Row) (pass : Passing) {stamps more found : List ℕ} {now later : ℕ} (q : ℕ) where
+  -- it was met before
+  pub itself_again : {first : Bool} → ReachesItself rows q → first ≡ not (is_met stamps now q) → first ≡ false
+      → Flags (is_met stamps now) (is_met more later) q → unmet more later ≡ unmet stamps now
+      → IsSearched rows pass stamps now found
+      → (found ≡ found ++ fresh found (closure rows pass q)) × IsSearched rows pass more later found
+  itself_again alone f old only count s = (
+    sym (ap (λ l. found ++ fresh found l) (alone pass) ∙ ap (λ l. found ++ l) (fresh_old found q here)
+        ∙ append-nil found),
+    record {
+      met = λ x h. n.stays x (s.met x h);
+      listed =
+          λ p h. ⊎_elim
+          (λ (e : p ≡ q). s.listed p (subst (λ r. is_met stamps now r ≡ true) (sym e) was_met))
+          (λ (e : is_met stamps now p ≡ true). s.listed p e)
+          (n.only p h);
+      ids = s.ids;
+      room = omega (arith, count, s.room);
+    },
+  )
+    where
+      n : Notes (is_met stamps now) (is_met more later) q
+      n = notes (is_met stamps now) (is_met more later) q only
+
+      was_met : is_met stamps now q ≡ true
+      was_met = not_false (is_met stamps now q) f old
+
+      here : In found q
+      here = s.listed q was_met q (subst (λ l. In l q) (sym (alone pass)) (in_here q []))
+
+  -- it is met for the first time
+  pub itself_new : {first : Bool} {out : List ℕ} → ReachesItself rows q → q < id_count
+      → first ≡ not (is_met stamps now q) → first ≡ true → Flags (is_met stamps now) (is_met more later) q
+      → unmet more later + 1 ≡ unmet stamps now → out ≡ found ++ q ∷ [] → IsSearched rows pass stamps now found
+      → (out ≡ found ++ fresh found (closure rows pass q)) × IsSearched rows pass more later out
+  itself_new alone bound f new only count e s = (
+    e ∙ sym (ap (λ l. found ++ fresh found l) (alone pass)
+        ∙ ap (λ l. found ++ l) (fresh_new found q unlisted)),
+    subst (IsSearched rows pass more later) (sym e) (record {
+      met =
+          λ x h. ⊎_elim
+          (λ (k : In found x). n.stays x (s.met x k))
+          (λ (k : In (q ∷ []) x). ⊎_elim
+          (λ (i : x ≡ q). subst (λ r. is_met more later r ≡ true) (sym i) n.now)
+          (λ (i : In [] x). absurd (in_nil x i))
+          (in_cases q x [] k))
+          (in_split found (q ∷ []) x h);
+      listed =
+          λ p h x k. ⊎_elim
+          (λ (i : p ≡ q). in_right found (q ∷ []) x
+          (subst (λ l. In l x) (ap (closure rows pass) i ∙ alone pass) k))
+          (λ (i : is_met stamps now p ≡ true). in_left found (q ∷ []) x (s.listed p i x k))
+          (n.only p h);
+      ids = every-append (λ x. x < id_count) found (q ∷ []) s.ids (bound, tt);
+      room = omega (arith, count, s.room, length-append found (q ∷ []));
+    }),
+  )
+    where
+      n : Notes (is_met stamps now) (is_met more later) q
+      n = notes (is_met stamps now) (is_met more later) q only
+
+      clash : {b : Bool} → b ≡ true → b ≡ false → ⊥
+      clash e f = cc
+
+      unlisted : was found q ≡ false
+      unlisted = not_in found q (λ h. clash (s.met q h) (not_true (is_met stamps now q) f new))
+
+-- ---- the rows that are given, one after the other
 
 -- past the last row nothing is reached
 past_end : (rows : List Row) (pass : Passing) → IsShallow rows → (q : ℕ) → length rows ≤ q → closure rows pass q ≡ []
@@ -78,87 +263,81 @@ past_end rows pass shallow q h =
     closure_unfolds rows pass shallow q
     ∙ ap (λ row. own_by pass q row ++ flat_map (closure rows pass) (branches_by pass row)) none
 
-pub begun : (rows : List Row) (pass : Passing) (shallow : IsShallow rows) (stamps from : List ℕ) {out : List ℕ}
-    (now : ℕ) → length stamps ≡ length rows → out ≡ [] → ((x : ℕ) → x < length stamps → is_met stamps now x ≡ false)
-    → Searching (graph_of rows pass shallow) (closed_rows rows pass from) (is_met stamps now) out from
-begun rows pass shallow stamps from now len none unmet =
-    subst (λ o. Searching g (closed_rows rows pass from) (is_met stamps now) o from) (sym none) (record {
-      whole = refl;
-      noted = λ x h. absurd (in_nil x h);
-      listed = λ p h. record {
-        above = [];
-        below = from;
-        split = refl;
-        lighter = tt;
-        given = λ x k. absurd (in_nil x (subst (λ l. In l x) (past_end rows pass shallow p (past p h)) k));
-      };
-    })
+pub begun : (rows : List Row) (pass : Passing) (shallow : IsShallow rows) (stamps : List ℕ) {out : List ℕ} (now : ℕ)
+    → length stamps ≡ length rows → out ≡ [] → ((x : ℕ) → x < length stamps → is_met stamps now x ≡ false)
+    → IsSearched rows pass stamps now out
+begun rows pass shallow stamps now len none new = subst (IsSearched rows pass stamps now) (sym none) (record {
+  met = λ x h. absurd (in_nil x h);
+  listed = λ p h x k. absurd (in_nil x (subst (λ l. In l x) (past_end rows pass shallow p (past p h)) k));
+  ids = tt;
+  room = omega (arith, unmet_within stamps now, len);
+})
   where
-    g : Graph
-    g = graph_of rows pass shallow
-
     past : (x : ℕ) → is_met stamps now x ≡ true → length rows ≤ x
     past x h =
         ⊎_elim
-        (λ (lt : x < length stamps). absurd (let f = unmet x lt in cc))
+        (λ (lt : x < length stamps). absurd (let f = new x lt in cc))
         (λ (le : length stamps ≤ x). subst (λ n. n ≤ x) len le)
         (cases_lt x (length stamps))
 
--- ---- the rows that are given, and the end
+-- what is new in two lists is new in the first, and then in the second
+fresh_parts : (out xs ys : List ℕ)
+    → out ++ fresh out (xs ++ ys) ≡ (out ++ fresh out xs) ++ fresh (out ++ fresh out xs) ys
+fresh_parts out xs ys =
+    ap
+    (λ l. out ++ l)
+    (fresh_append out xs ys
+    ∙ ap (λ l. fresh out xs ++ l) (fresh_alike (xs ++ out) (out ++ fresh out xs) ys same))
+    ∙ sym (append_assoc out (fresh out xs) (fresh (out ++ fresh out xs) ys))
+  where
+    to : (x : ℕ) → In (xs ++ out) x → In (out ++ fresh out xs) x
+    to x h =
+        ⊎_elim
+        (λ (k : In xs x). by_test (was out x)
+        (λ (o : In out x). in_left out (fresh out xs) x o)
+        (λ (n : was out x ≡ false). in_right out (fresh out xs) x
+        (seen_if x (fresh out xs) (fresh_keeps out xs x (seen_true x xs k)
+        (λ c. let o = seen_if x out c in absurd (cc))))))
+        (λ (k : In out x). in_left out (fresh out xs) x k)
+        (in_split xs out x h)
 
-module _ (g : Graph) {target : List ℕ} {seen : ℕ → Bool} {out : List ℕ} where
-  -- the next of the rows that are given goes onto the stack
-  pub next_given : (from : List ℕ) (i d : ℕ) {empty stack : List ℕ} → i < length from → empty ≡ []
-      → stack ≡ empty ++ get_or from i d ∷ [] → Searching g target seen out (drop i from)
-      → Searching g target seen out (reverse stack ++ drop (i + 1) from)
-  next_given from i d {empty} {stack} h none e s =
-      let one : stack ≡ get_or from i d ∷ [] = e ∙ ap (λ l. l ++ get_or from i d ∷ []) none in
+    from : (x : ℕ) → In (out ++ fresh out xs) x → In (xs ++ out) x
+    from x h =
+        ⊎_elim
+        (λ (k : In out x). in_right xs out x k)
+        (λ (k : In (fresh out xs) x). in_left xs out x
+        (seen_if x xs (fresh_within out xs x (seen_true x (fresh out xs) k))))
+        (in_split out (fresh out xs) x h)
+
+    same : (x : ℕ) → was (xs ++ out) x ≡ was (out ++ fresh out xs) x
+    same x = same_test (was (xs ++ out) x) (was (out ++ fresh out xs) x) (to x) (from x)
+
+-- what is listed and what is still new in the rows that are left makes the target
+abbrev pub Leaves : (rows : List Row) (pass : Passing) (found left target : List ℕ) → Type 0
+Leaves rows pass found left target = found ++ fresh found (flat_map (closure rows pass) left) ≡ target
+
+module _ (rows : List Row) (pass : Passing) (found : List ℕ) {target : List ℕ} (from : List ℕ) (i : ℕ) where
+  pub next_given : (q : ℕ) {more : List ℕ} → i < length from → q ≡ get_or from i q
+      → more ≡ found ++ fresh found (closure rows pass q)
+      → Leaves rows pass found (drop i from) target → Leaves rows pass more (drop (i + 1) from) target
+  next_given q {more} h is e s =
+      let front = drop_more from i q h ∙ ap (λ x. x ∷ drop (i + 1) from) (sym is) in
       subst
-      (λ l. Searching g target seen out (reverse l ++ drop (i + 1) from))
-      (sym one)
-      (subst (Searching g target seen out) (drop_more from i d h) s)
+      (λ l. Leaves rows pass l (drop (i + 1) from) target)
+      (sym e)
+      (sym (fresh_parts found (closure rows pass q) (flat_map (closure rows pass) (drop (i + 1) from)))
+      ∙ subst (λ l. Leaves rows pass found l target) front s)
 
-  -- the stack is empty
-  pub given_done : (stack tail : List ℕ) {len : ℕ} → len ≡ length stack → len ≡ 0
-      → Searching g target seen out (reverse stack ++ tail) → Searching g target seen out tail
-  given_done stack tail e z s =
-      subst (λ l. Searching g target seen out (reverse l ++ tail)) (nil_from_length stack (sym e ∙ z)) s
+  pub all_given : length from ≤ i → Leaves rows pass found (drop i from) target → found ≡ target
+  all_given h s =
+      sym (ap (λ l. found ++ l) (fresh_nil found) ∙ append-nil found)
+      ∙ subst (λ l. Leaves rows pass found l target) (drop_of_length-le from h) s
 
-  -- all are done
-  pub all_done : (from : List ℕ) (i : ℕ) → length from ≤ i → Searching g target seen out (drop i from) → out ≡ target
-  all_done from i h s = search_ends g (subst (Searching g target seen out) (drop_of_length-le from h) s)
-
-  -- and the rows that are met and stand for themselves are those that are listed
-  pub all_met : (from : List ℕ) (i : ℕ) → length from ≤ i → Searching g target seen out (drop i from)
-      → (q : ℕ) → g.gives q ≡ q ∷ [] → seen q ≡ list_any (λ x. q == x) out
-  all_met from i h s q one = met (subst (Searching g target seen out) (drop_of_length-le from h) s)
-    where
-      met : Searching g target seen out [] → seen q ≡ list_any (λ x. q == x) out
-      met e = same_test (seen q) (list_any (λ x. q == x) out) (λ t. listed (e.listed q t)) (e.noted q)
-        where
-          listed : Listed g out [] q → In out q
-          listed l = go l.above l.below l.split l.given
-            where
-              go : (above below : List ℕ) → [] ≡ above ++ below
-                  → ((x : ℕ) → In (g.gives q) x → In out x ⊎ In (flat_map g.gives above) x) → In out q
-              go [] below split given =
-                  ⊎_elim (λ (o : In out q). o) (λ (n : In [] q). absurd (in_nil q n))
-                  (given q (subst (λ l. In l q) (sym one) (or_left (q == q) false (eq-eqb q q refl))))
-              go (a ∷ above) below split given = absurd (cc)
-
--- ---- room: no more rows can be new than there are
-
-pub count_new : (n : ℕ) {m : ℕ} (first : Bool) → n + (if first then 1 else 0) ≡ m → first ≡ true → n + 1 ≡ m
-count_new n true h e = h
-count_new n false h e = cc
-
-pub count_old : (n : ℕ) {m : ℕ} (first : Bool) → n + (if first then 1 else 0) ≡ m → first ≡ false → n ≡ m
-count_old n true h e = cc
-count_old n false h e = omega arith
-
-pub unmet_within : (stamps : List ℕ) (now : ℕ) → unmet stamps now ≤ length stamps
-unmet_within [] now = omega arith
-unmet_within (x ∷ xs) now =
-    let Few = λ (v : Bool). (if v then 0 else 1) ≤ 1 in
-    let one : (if x == now then 0 else 1) ≤ 1 = elim (x == now) as Few [ true ↦ omega arith | false ↦ omega arith ] in
-    omega (arith, sum_by-cons (λ stamp. if stamp == now then 0 else 1) x xs, unmet_within xs now)
+-- and the rows that are met and reach themselves alone are those that are listed
+pub all_met : {rows : List Row} {pass : Passing} {stamps found : List ℕ} {now : ℕ}
+    → IsSearched rows pass stamps now found → (q : ℕ) → closure rows pass q ≡ q ∷ []
+    → is_met stamps now q ≡ list_any (λ x. q == x) found
+all_met {stamps = stamps} {found = found} {now = now} s q one =
+    same_test (is_met stamps now q) (was found q)
+    (λ t. s.listed q t q (subst (λ l. In l q) (sym one) (in_here q [])))
+    (s.met q)

@@ -1,8 +1,8 @@
 -- Lists of thin rows that grow at the end.
 use Rattle.std.proofs.Common.{◌≡◌, ℕ, zero, suc, ◌+◌, ◌<◌, ◌≤◌, List, [], ◌∷◌, ◌++◌, length, get_or, refl, ap, sym}
 use Rattle.std.proofs.Common.{◌∙◌, subst}
-use Rattle.std.proofs.Common.{arith, ⊎_elim}
-use Rattle.std.proofs.lemmas.Bool.{cases_lt}
+use Rattle.std.proofs.Common.{arith, ⊎_elim, true, nat_lt}
+use Rattle.std.proofs.lemmas.Bool.{cases_lt, ltb-true}
 use Rattle.std.proofs.lemmas.Option.{slice_get_past}
 use Rattle.std.specs.Prelude.{map, unwrap_or}
 use Rattle.rx_spec.specs.Rows.{Row}
@@ -17,6 +17,13 @@ pub thin_there : (thin : List ThinRow) (q : ℕ) {row : ThinRow} → q < length 
 thin_there [] q lt e = absurd (omega arith)
 thin_there (x ∷ xs) zero lt e = e
 thin_there (x ∷ xs) (suc q) lt e = thin_there xs q (omega arith) e
+
+-- a thin row that was looked up
+pub thin_found : (thin : List ThinRow) {looked : List ThinRow} {i q : ℕ} {row : ThinRow} → looked ≡ thin → i ≡ q
+    → true ≡ nat_lt i (length looked) → row ≡ get_or looked i row → row ≡ thin_at thin q
+thin_found thin {looked} {i} {q} {row} same e lt is =
+    subst (λ l. row ≡ thin_at l q) same
+    (subst (λ k. row ≡ thin_at looked k) e (thin_there looked i (ltb-true i (length looked) (sym lt)) is))
 
 thin_before : (xs : List ThinRow) (y : ThinRow) (q : ℕ) → q < length xs → thin_at xs q ≡ thin_at (xs ++ y ∷ []) q
 thin_before [] y q lt = absurd (omega arith)

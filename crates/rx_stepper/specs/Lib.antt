@@ -6,9 +6,10 @@ pub mod Keys
 pub mod Leads
 pub mod Places
 pub mod LeadIns
--- closures: rows without what they read, and the rows that were met
+-- closures: rows without what they read, the rows that were met, and the searches of the rows
 pub mod ThinRows
 pub mod Stamps
+pub mod Searches
 -- the columns that rows read, those that assertions don't tell apart, and what each needs for a step
 pub mod Units
 pub mod Columns

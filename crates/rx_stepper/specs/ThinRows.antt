@@ -1,5 +1,5 @@
 -- Rows as closures see them: what a row reads is left out.
-use Rattle.std.specs.Prelude.{ℕ, ◌≡◌, List, slice_get, unwrap_or}
+use Rattle.std.specs.Prelude.{ℕ, ◌≡◌, Bool, true, false, List, slice_get, unwrap_or}
 use Rattle.rx_spec.specs.Rows.{Row}
 use Rattle.rx_spec.specs.Contexts.{holds_read}
 use Rattle.rx_spec.specs.States as states
@@ -14,6 +14,14 @@ row_of_thin (ThinRow.Split first second) = Row.Split first second
 row_of_thin (ThinRow.Look look next) = Row.Look look next
 row_of_thin (ThinRow.Match pattern) = Row.Match pattern
 row_of_thin ThinRow.Fail = Row.Fail
+
+-- a closure lists the row itself and nothing behind it, whatever becomes of assertions
+abbrev pub is_end : ThinRow → Bool
+is_end ThinRow.Bytes = true
+is_end (ThinRow.Split first second) = false
+is_end (ThinRow.Look look next) = false
+is_end (ThinRow.Match pattern) = true
+is_end ThinRow.Fail = false
 
 -- the same as a row, but for what that reads
 pub record IsThin (thin : Row) (row : Row) : Type 0 where

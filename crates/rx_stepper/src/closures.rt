@@ -1,12 +1,14 @@
 //! The rows that are reached without reading a byte, in room that is taken once.
 
-ghost use Rattle.std.specs.Prelude.{◌≡◌, ℕ, ◌+◌, ◌<◌, ◌≤◌, ◌==◌, ◌++◌, ◌∷◌, [], length, reverse, vec_capacity, IfOk};
+ghost use Rattle.std.specs.Prelude.{◌≡◌, ℕ, ◌+◌, ◌<◌, ◌≤◌, ◌==◌, ◌++◌, ◌∷◌, [], true, length, reverse, IfOk};
+ghost use Rattle.std.specs.Prelude.{vec_capacity};
 ghost use Rattle.std.specs.List.{list_any, AllByRecursion as Every};
 ghost use Rattle.rx_spec.specs.Causes.{id_count};
 ghost use Rattle.rx_spec.specs.Contexts.{holds_read};
-ghost use Rattle.rx_spec.specs.States.{closure, row_at, is_look_row};
+ghost use Rattle.rx_spec.specs.States.{closure, fresh, row_at, is_look_row};
 ghost use Rattle.rx_powerset.specs.Closures.{own_by, branches_by, closed_rows};
 ghost use Rattle.rx_expr.specs.Nfa.{meaning};
+ghost use Rattle.rx_stepper.specs.Searches.{IsSearched, ReachesItself};
 ghost use Rattle.rx_stepper.specs.Stamps.{is_met};
 ghost use Rattle.rx_stepper.specs.ThinRows.{row_of_thin, thin_at, AreThin, passing_of};
 
@@ -88,17 +90,54 @@ impl<'n> Closures<'n> {
         self.waiting.clear();
         found.clear();
         'each: for row in from {
-            put(&mut self.waiting, *row);
-            'search: while let Some(id) = self.waiting.pop() {
-                if self.stamps.is_first(id) {
-                    enter(
-                        self.thin[id.as_usize()],
-                        id,
-                        passing,
-                        found,
-                        &mut self.waiting,
-                    );
+            if self.stops(*row) {
+                if self.stamps.is_first(*row) {
+                    put(found, *row);
                 }
+            } else {
+                self.search(*row, passing, found);
+            }
+        }
+    }
+
+    /// Whether a search that begins at a row ends there at once, so that it needs no stack, as at most rows.
+    #[inline]
+    fn stops(&self, row: StateID) -> bool
+        ensures itself { result ≡ true → ReachesItself (meaning self.now.nfa.now).rows row }
+        ensures bound { row < id_count }
+    {
+        match self.thin.get(row.as_usize()) {
+            Some(thin) => thin.is_end(),
+            None => false,
+        }
+    }
+
+    /// Lists the rows that one row reaches, but for those that are listed already.
+    fn search(&mut self, row: StateID, passing: &Passing, found: &mut Vec<StateID>)
+        requires waiting { self.old.waiting.items ≡ [] }
+        requires room { length (meaning self.old.nfa.now).rows ≤ vec_capacity found.old }
+        requires searched { let rows = (meaning self.old.nfa.now).rows in
+            let stamps = self.old.stamps in
+            IsSearched rows (passing_of passing.now) stamps.stamps.items stamps.now found.old.items }
+        ensures nfa { self.new.nfa.now ≡ self.old.nfa.now }
+        ensures waiting { self.new.waiting.items ≡ [] }
+        ensures room { vec_capacity found.old ≤ vec_capacity found.new }
+        ensures rows { let reached = closure (meaning self.old.nfa.now).rows (passing_of passing.now) row in
+            found.new.items ≡ found.old.items ++ fresh found.old.items reached }
+        ensures searched { let rows = (meaning self.old.nfa.now).rows in
+            let stamps = self.new.stamps in
+            IsSearched rows (passing_of passing.now) stamps.stamps.items stamps.now found.new.items }
+    {
+        put(&mut self.waiting, row);
+        'search: while let Some(id) = self.waiting.pop() {
+            if self.stamps.is_first(id) {
+                enter(
+                    self.thin[id.as_usize()],
+                    id,
+                    passing,
+                    found,
+                    &mut self.waiting,
+                );
             }
         }
     }

@@ -26,7 +26,7 @@ pub(crate) enum ThinRow {
 }
 
 impl ThinRow {
-    ghost use Rattle.rx_stepper.specs.ThinRows.{row_of_thin, AreThin, IsThin};
+    ghost use Rattle.rx_stepper.specs.ThinRows.{row_of_thin, is_end, AreThin, IsThin};
 
     fn new(row: &Row) -> ThinRow
         ensures { IsThin (row_of_thin result) (row_of row.now) }
@@ -37,6 +37,17 @@ impl ThinRow {
             Row::Look { look, next } => ThinRow::Look(look, next),
             Row::Match { pattern } => ThinRow::Match(pattern),
             Row::Fail => ThinRow::Fail,
+        }
+    }
+
+    /// Whether a closure lists the row itself and nothing behind it.
+    #[inline]
+    pub(crate) fn is_end(&self) -> bool
+        ensures { result ≡ is_end self.now }
+    {
+        match *self {
+            ThinRow::Bytes | ThinRow::Match(_) => true,
+            _ => false,
         }
     }
 }

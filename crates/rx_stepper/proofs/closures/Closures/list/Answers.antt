@@ -1,159 +1,106 @@
-use Rattle.std.proofs.Common.{◌≡◌, ℕ, ◌+◌, ◌<◌, ◌++◌, List, [], ◌∷◌, reverse, get_or, length, drop, refl, ap, sym}
-use Rattle.std.proofs.Common.{◌∙◌, subst, arith, length-append}
-use Rattle.std.specs.List.{flat_map, AllByRecursion as Every}
+use Rattle.std.proofs.Common.{ℕ, refl, ap, sym, ◌∙◌, subst, arith}
+use Rattle.std.specs.List.{flat_map}
 use Rattle.rx_spec.specs.Causes.{id_count}
-use Rattle.rx_spec.specs.States.{row_at, closure}
+use Rattle.rx_spec.specs.States.{closure}
 use Rattle.rx_expr.specs.Nfa.{meaning}
-use Rattle.rx_powerset.specs.Closures.{own_by, branches_by, closed_rows}
-use Rattle.rx_powerset.proofs.Closures.{graph_of, own_either}
-use Rattle.rx_powerset.proofs.StackSearch.{popped, passed_falls, met_falls}
-use Rattle.rx_powerset.proofs.StateBounds.{few_more, few_firsts}
-use Rattle.rx_stepper.specs.Stamps.{is_met}
-use Rattle.rx_stepper.specs.ThinRows.{row_of_thin, passing_of}
-use Rattle.rx_stepper.specs.declared.thin_row.ThinRow.{ThinRow}
-use Rattle.rx_stepper.proofs.StampedSearch.{begun, passed_on, met_now, all_done, all_met}
-use Rattle.rx_stepper.proofs.StampedSearch.{unmet_within, count_new, count_old}
-use Rattle.rx_stepper.proofs.ThinLists.{thin_there}
+use Rattle.rx_expr.specs.declared.thompson.nfa.NFA.{NFA}
+use Rattle.rx_powerset.specs.Closures.{closed_rows}
+use Rattle.rx_powerset.proofs.StateBounds.{few_firsts}
+use Rattle.rx_stepper.specs.ThinRows.{passing_of}
+use Rattle.rx_stepper.proofs.StampedSearch.{Leaves, begun, itself_new, itself_again, next_given, all_given, all_met}
+use Rattle.rx_stepper.proofs.StampedSearch.{count_new, count_old}
 use Rattle.rx_stepper.proofs.closures.Closures.list.Goals as goal
+use Rattle.rx_stepper.proofs.closures.Closures.list.Goals.{then-stops+then-is_first, then-stops+else-is_first}
+use Rattle.rx_stepper.proofs.closures.Closures.list.Goals.{else-stops}
 
 pub each-init : goal.each-init
 each-init c =
     let nfa = c.args.self.now.nfa.now in
     let stamps = c.begin.new.self in
-    let begins =
-    begun (meaning nfa).rows (passing_of c.args.passing.now) nfa.shallow stamps.stamps.items c.args.from.now stamps.now
-    (c.begin.ensures.len ∙ c.args.self.now.stamps_len) c.clear-2.ensures.items c.begin.ensures.none in
+    let none = c.clear-2.ensures.items in
+    let pass = passing_of c.args.passing.now in
+    let all = closed_rows (meaning nfa).rows pass c.args.from.now in
     record {
-      search = begins;
-      few = subst (Every (λ x. x < id_count)) (sym c.clear-2.ensures.items) tt;
+      searched =
+          begun (meaning nfa).rows pass nfa.shallow stamps.stamps.items stamps.now
+          (c.begin.ensures.len ∙ c.args.self.now.stamps_len) none c.begin.ensures.none;
+      left = subst (λ l. Leaves (meaning nfa).rows pass l c.args.from.now all) (sym none) refl;
       empty = c.clear.ensures.items;
-      listed =
-          omega (
-            arith,
-            ap length c.clear-2.ensures.items,
-            unmet_within stamps.stamps.items stamps.now,
-            c.begin.ensures.len,
-            c.args.self.now.stamps_len,
-          );
       found_room = omega (arith, c.clear-2.ensures.capacity, c.requires);
       found_grown = omega (arith, c.clear-2.ensures.capacity);
       nfa = refl;
     }
 
--- ---- a row that is new
-
-there : (thin : List ThinRow) {i q : ℕ} {row : ThinRow} → i ≡ q → row ≡ get_or thin i row → row ≡ get_or thin q row
-there thin {row = row} e is = subst (λ k. row ≡ get_or thin k row) e is
-
-pub search-smaller-then-is_first : goal.search-smaller-then-is_first
-search-smaller-then-is_first c =
-    let nfa = c.search.self.nfa.now in
+pub each-preserved : goal.each-preserved
+each-preserved c =
+    let left = c.each.invariant in
+    let self = c.each.self in
+    let rows = (meaning self.nfa.now).rows in
     let pass = passing_of c.args.passing.now in
-    let thin = c.search.self.thin_rows c.in-Some.id in
-    let at_id = there c.search.self.thin.items c.as_usize.ensures.value c.index.ensures in
-    let within : c.in-Some.id < length c.search.self.thin.items = omega (
-      arith,
-      c.is_first.ensures.within c.if-is_first.true,
-      c.search.self.thin_len,
-      c.search.self.stamps_len,
-    ) in
-    let row = thin_there c.search.self.thin.items c.in-Some.id within at_id in
-    let behind = c.enter.ensures.waiting ∙ ap (λ l. l ++ reverse c.pop.new.self.items)
-    (ap (λ r. branches_by pass (row_of_thin r)) row ∙ thin.branches pass) in
-    met_falls (graph_of (meaning nfa).rows pass nfa.shallow) (popped _ c.in-Some.ensures.items) behind
-
-pub search-preserved-then-is_first : goal.search-preserved-then-is_first
-search-preserved-then-is_first c =
-    let nfa = c.search.self.nfa.now in
-    let pass = passing_of c.args.passing.now in
-    let graph = graph_of (meaning nfa).rows pass nfa.shallow in
-    let before = c.search.invariant in
-    let old = c.search.self.stamps in
-    let new = c.is_first.new.self in
-    let id = c.in-Some.id in
-    let thin = c.search.self.thin_rows id in
-    let at_id = there c.search.self.thin.items c.as_usize.ensures.value c.index.ensures in
-    let within : id < length c.search.self.thin.items = omega (
-      arith,
-      c.is_first.ensures.within c.if-is_first.true,
-      c.search.self.thin_len,
-      c.search.self.stamps_len,
-    ) in
-    let row = thin_there c.search.self.thin.items id within at_id in
-    let behind = c.enter.ensures.waiting ∙ ap (λ l. l ++ reverse c.pop.new.self.items)
-    (ap (λ r. branches_by pass (row_of_thin r)) row ∙ thin.branches pass) in
-    let own = c.enter.ensures.found ∙ ap (λ l. c.search.found.items ++ l)
-    (ap (λ r. own_by pass id (row_of_thin r)) row ∙ thin.own pass id) in
-    let tail = drop (c.each.row-index + 1) c.args.from.now in
-    let popped_len = ap length c.in-Some.ensures.items ∙ length-append c.pop.new.self.items (id ∷ []) in
-    let count = count_new _ c.is_first.result c.is_first.ensures.count c.if-is_first.true in
-    record {
-      search =
-          met_now graph c.pop.new.self.items tail id (is_met old.stamps.items old.now) (is_met new.stamps.items new.now)
-          c.enter.new.waiting.items c.is_first.ensures.only before.search c.in-Some.ensures.items c.is_first.ensures.new
-          c.if-is_first.true own behind;
-      few = few_more id_count _ c.enter.ensures.bound (own_either pass id (row_at
-          (meaning nfa).rows id)) own before.few;
-      stack = omega (arith, before.stack, c.enter.ensures.waiting_len, popped_len, count);
-      listed = omega (arith, before.listed, c.enter.ensures.found_len, count);
-      found_room = omega (arith, before.found_room, c.enter.ensures.found_room);
-      found_grown = omega (arith, before.found_grown, c.enter.ensures.found_room);
-      nfa = before.nfa;
-    }
-
--- ---- a row that was met
-
-pub search-smaller : goal.search-smaller
-search-smaller c =
-    let nfa = c.search.self.nfa.now in
-    let graph = graph_of (meaning nfa).rows (passing_of c.args.passing.now) nfa.shallow in
-    passed_falls graph (popped _ c.in-Some.ensures.items)
-
-pub search-preserved : goal.search-preserved
-search-preserved c =
-    let nfa = c.search.self.nfa.now in
-    let graph = graph_of (meaning nfa).rows (passing_of c.args.passing.now) nfa.shallow in
-    let before = c.search.invariant in
-    let old = c.search.self.stamps in
-    let new = c.is_first.new.self in
-    let tail = drop (c.each.row-index + 1) c.args.from.now in
-    let popped_len = ap length c.in-Some.ensures.items ∙ length-append c.pop.new.self.items (c.in-Some.id ∷ []) in
-    let first = c.is_first.ensures in
-    let count = count_old _ c.is_first.result first.count c.if-is_first.false in
-    record {
-      search =
-          passed_on graph c.pop.new.self.items tail c.in-Some.id (is_met old.stamps.items old.now)
-          (is_met new.stamps.items new.now) first.only before.search c.in-Some.ensures.items first.new
-          c.if-is_first.false;
-      few = before.few;
-      stack = omega (arith, before.stack, popped_len, count);
-      listed = omega (arith, before.listed, count);
-      found_room = before.found_room;
-      found_grown = before.found_grown;
-      nfa = before.nfa;
-    }
-
--- ---- the end
+    let found = c.each.found.items in
+    let from = c.args.from.now in
+    let i = c.each.row-index in
+    let q = c.row-item.result in
+    elim c.if-stops.branch [
+      | then-stops+then-is_first w ↦
+          let first = w.is_first.ensures in
+          let count = count_new _ w.is_first.result first.count w.if-is_first.true in
+          let done =
+          itself_new rows pass q (c.stops.ensures.itself w.if-stops.true) c.stops.ensures.bound
+          first.new w.if-is_first.true first.only count w.put.ensures.items left.searched in
+          rw (w.self-is, w.found-is) (record {
+            searched = done.1;
+            left = next_given rows pass found from i q (omega arith) c.row-item.is done.0 left.left;
+            empty = left.empty;
+            found_room = omega (arith, left.found_room, w.put.ensures.room);
+            found_grown = omega (arith, left.found_grown, w.put.ensures.room);
+            nfa = left.nfa;
+          })
+      | then-stops+else-is_first w ↦
+          let first = w.is_first.ensures in
+          let count = count_old _ w.is_first.result first.count w.if-is_first.false in
+          let done =
+          itself_again rows pass q (c.stops.ensures.itself w.if-stops.true) first.new w.if-is_first.false first.only
+          count left.searched in
+          rw (w.self-is, w.found-is) (record {
+            searched = done.1;
+            left = next_given rows pass found from i q (omega arith) c.row-item.is done.0 left.left;
+            empty = left.empty;
+            found_room = left.found_room;
+            found_grown = left.found_grown;
+            nfa = left.nfa;
+          })
+      | else-stops w ↦
+          let done = w.search.ensures in
+          rw (w.self-is, w.found-is, done.nfa) (record {
+            searched = done.searched;
+            left = next_given rows pass found from i q (omega arith) c.row-item.is done.rows left.left;
+            empty = done.waiting;
+            found_room = omega (arith, left.found_room, done.room);
+            found_grown = omega (arith, left.found_grown, done.room);
+            nfa = left.nfa;
+          })
+    ]
 
 pub returns-clause-rows : goal.returns-clause-rows
 returns-clause-rows c =
-    let nfa = c.each.self.nfa.now in
-    let graph = graph_of (meaning nfa).rows (passing_of c.args.passing.now) nfa.shallow in
-    all_done graph c.args.from.now c.each.row-index (omega arith) c.each.invariant.search
-    ∙ ap (λ n. closed_rows (meaning n).rows (passing_of c.args.passing.now) c.args.from.now) c.each.invariant.nfa
+    let left = c.each.invariant in
+    let pass = passing_of c.args.passing.now in
+    all_given (meaning c.each.self.nfa.now).rows pass c.each.found.items c.args.from.now c.each.row-index (omega arith)
+    left.left
+    ∙ ap (λ (n : NFA). closed_rows (meaning n).rows pass c.args.from.now) left.nfa
 
 pub returns-clause-few : goal.returns-clause-few
 returns-clause-few c =
     let nfa = c.args.self.now.nfa.now in
     let reached = λ (q : ℕ). closure (meaning nfa).rows (passing_of c.args.passing.now) q in
-    few_firsts (flat_map reached c.args.from.now) id_count (returns-clause-rows c) c.each.invariant.few
+    few_firsts (flat_map reached c.args.from.now) id_count (returns-clause-rows c) c.each.invariant.searched.ids
 
 pub returns-clause-ids : goal.returns-clause-ids
-returns-clause-ids c = c.each.invariant.few
+returns-clause-ids c = c.each.invariant.searched.ids
 
 pub returns-clause-met : goal.returns-clause-met
 returns-clause-met c = λ q one.
-    let nfa = c.each.self.nfa.now in
-    let graph = graph_of (meaning nfa).rows (passing_of c.args.passing.now) nfa.shallow in
-    let one_now = ap (λ n. closure (meaning n).rows (passing_of c.args.passing.now) q) c.each.invariant.nfa ∙ one in
-    all_met graph c.args.from.now c.each.row-index (omega arith) c.each.invariant.search q one_now
+    let pass = passing_of c.args.passing.now in
+    let one_now = ap (λ (n : NFA). closure (meaning n).rows pass q) c.each.invariant.nfa ∙ one in
+    all_met c.each.invariant.searched q one_now

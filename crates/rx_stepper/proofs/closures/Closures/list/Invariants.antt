@@ -1,49 +1,21 @@
 use Rattle.std.specs.Prelude.{vec_capacity}
-use Rattle.std.proofs.Common.{◌≡◌, ◌+◌, ◌<◌, ◌≤◌, [], ◌++◌, length, drop, reverse, sum_by}
-use Rattle.std.specs.List.{AllByRecursion as Every}
-use Rattle.rx_spec.specs.Causes.{id_count}
+use Rattle.std.proofs.Common.{◌≡◌, ◌≤◌, [], length, drop}
 use Rattle.rx_powerset.specs.Closures.{closed_rows}
-use Rattle.rx_powerset.proofs.Closures.{graph_of, weight_of}
-use Rattle.rx_powerset.proofs.Search.{Searching}
 use Rattle.rx_expr.specs.Nfa.{meaning}
-use Rattle.rx_stepper.specs.Stamps.{is_met, unmet}
+use Rattle.rx_stepper.specs.Searches.{IsSearched}
 use Rattle.rx_stepper.specs.ThinRows.{passing_of}
+use Rattle.rx_stepper.proofs.StampedSearch.{Leaves}
 use Rattle.rx_stepper.proofs.closures.Closures.list.Given as goal
-
-abbrev pub invariant-search : goal.invariant-search
-invariant-search l =
-    let nfa = l.self.nfa.now in
-    let rows = (meaning nfa).rows in
-    let pass = passing_of l.passing in
-    let met = is_met l.self.stamps.stamps.items l.self.stamps.now in
-    let new = unmet l.self.stamps.stamps.items l.self.stamps.now in
-    let waiting = reverse l.self.waiting.items ++ drop (l.row-index + 1) l.from in
-    record {
-      search : Searching (graph_of rows pass nfa.shallow) (closed_rows rows pass l.from) met l.found.items waiting;
-      few : Every (λ x. x < id_count) l.found.items;
-      stack : length l.self.waiting.items + new ≤ length rows + 1;
-      listed : length l.found.items + new ≤ length rows;
-      found_room : length rows ≤ vec_capacity l.found;
-      found_grown : vec_capacity l.fn.found ≤ vec_capacity l.found;
-      nfa : l.self.nfa.now ≡ l.fn.self.nfa.now;
-    }
-
-abbrev pub decreases-search : goal.decreases-search
-decreases-search l = sum_by (weight_of (meaning l.self.nfa.now).rows) (reverse l.self.waiting.items)
 
 abbrev pub invariant-each : goal.invariant-each
 invariant-each l =
-    let nfa = l.self.nfa.now in
-    let rows = (meaning nfa).rows in
+    let rows = (meaning l.self.nfa.now).rows in
     let pass = passing_of l.passing in
-    let met = is_met l.self.stamps.stamps.items l.self.stamps.now in
-    let new = unmet l.self.stamps.stamps.items l.self.stamps.now in
-    let left = drop l.row-index l.from in
+    let stamps = l.self.stamps in
     record {
-      search : Searching (graph_of rows pass nfa.shallow) (closed_rows rows pass l.from) met l.found.items left;
-      few : Every (λ x. x < id_count) l.found.items;
+      searched : IsSearched rows pass stamps.stamps.items stamps.now l.found.items;
+      left : Leaves rows pass l.found.items (drop l.row-index l.from) (closed_rows rows pass l.from);
       empty : l.self.waiting.items ≡ [];
-      listed : length l.found.items + new ≤ length rows;
       found_room : length rows ≤ vec_capacity l.found;
       found_grown : vec_capacity l.fn.found ≤ vec_capacity l.found;
       nfa : l.self.nfa.now ≡ l.fn.self.nfa.now;

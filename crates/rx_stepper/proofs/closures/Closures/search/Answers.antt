@@ -1,0 +1,164 @@
+use Rattle.std.proofs.Common.{◌≡◌, ◌<◌, ◌++◌, List, ℕ, [], ◌∷◌, reverse, get_or, length, refl, ap, arith}
+use Rattle.std.proofs.Common.{◌∙◌, length-append, subst}
+use Rattle.rx_spec.specs.Causes.{id_count}
+use Rattle.rx_spec.specs.States.{closure, fresh, row_at}
+use Rattle.rx_expr.specs.Nfa.{meaning}
+use Rattle.rx_expr.specs.declared.thompson.nfa.NFA.{NFA}
+use Rattle.rx_powerset.specs.Closures.{own_by, branches_by}
+use Rattle.rx_powerset.proofs.Closures.{graph_of, own_either}
+use Rattle.rx_powerset.proofs.StackSearch.{popped, passed_falls, met_falls}
+use Rattle.rx_powerset.proofs.StateBounds.{few_more}
+use Rattle.rx_stepper.specs.Searches.{IsSearched}
+use Rattle.rx_stepper.specs.Stamps.{is_met}
+use Rattle.rx_stepper.specs.ThinRows.{row_of_thin, passing_of}
+use Rattle.rx_stepper.specs.declared.thin_row.ThinRow.{ThinRow}
+use Rattle.rx_stepper.proofs.StampedSearch.{search_from, searched, passed_on, met_now}
+use Rattle.rx_stepper.proofs.StampedSearch.{unmet_within, count_new, count_old}
+use Rattle.rx_stepper.proofs.ThinLists.{thin_there}
+use Rattle.rx_stepper.proofs.closures.Closures.search.Goals as goal
+
+pub search-init : goal.search-init
+search-init c =
+    let nfa = c.args.self.now.nfa.now in
+    let stamps = c.args.self.now.stamps in
+    let before = c.requires.searched in
+    record {
+      search =
+          search_from (meaning nfa).rows (passing_of c.args.passing.now) nfa.shallow c.args.row before
+          c.requires.waiting c.put.ensures.items;
+      few = before.ids;
+      stack =
+          omega (
+            arith,
+            ap length c.put.ensures.items,
+            ap length c.requires.waiting,
+            length-append c.args.self.now.waiting.items (c.args.row ∷ []),
+            unmet_within stamps.stamps.items stamps.now,
+            c.args.self.now.stamps_len,
+          );
+      listed = before.room;
+      found_room = c.requires.room;
+      found_grown = omega arith;
+      nfa = refl;
+    }
+
+-- ---- a row that is new
+
+there : (thin : List ThinRow) {i q : ℕ} {row : ThinRow} → i ≡ q → row ≡ get_or thin i row → row ≡ get_or thin q row
+there thin {row = row} e is = subst (λ k. row ≡ get_or thin k row) e is
+
+pub search-smaller-then-is_first : goal.search-smaller-then-is_first
+search-smaller-then-is_first c =
+    let nfa = c.search.self.nfa.now in
+    let pass = passing_of c.args.passing.now in
+    let thin = c.search.self.thin_rows c.in-Some.id in
+    let at_id = there c.search.self.thin.items c.as_usize.ensures.value c.index.ensures in
+    let within : c.in-Some.id < length c.search.self.thin.items = omega (
+      arith,
+      c.is_first.ensures.within c.if-is_first.true,
+      c.search.self.thin_len,
+      c.search.self.stamps_len,
+    ) in
+    let row = thin_there c.search.self.thin.items c.in-Some.id within at_id in
+    let behind = c.enter.ensures.waiting ∙ ap (λ l. l ++ reverse c.pop.new.self.items)
+    (ap (λ r. branches_by pass (row_of_thin r)) row ∙ thin.branches pass) in
+    met_falls (graph_of (meaning nfa).rows pass nfa.shallow) (popped _ c.in-Some.ensures.items) behind
+
+pub search-preserved-then-is_first : goal.search-preserved-then-is_first
+search-preserved-then-is_first c =
+    let nfa = c.search.self.nfa.now in
+    let pass = passing_of c.args.passing.now in
+    let graph = graph_of (meaning nfa).rows pass nfa.shallow in
+    let before = c.search.invariant in
+    let old = c.search.self.stamps in
+    let new = c.is_first.new.self in
+    let id = c.in-Some.id in
+    let thin = c.search.self.thin_rows id in
+    let at_id = there c.search.self.thin.items c.as_usize.ensures.value c.index.ensures in
+    let within : id < length c.search.self.thin.items = omega (
+      arith,
+      c.is_first.ensures.within c.if-is_first.true,
+      c.search.self.thin_len,
+      c.search.self.stamps_len,
+    ) in
+    let row = thin_there c.search.self.thin.items id within at_id in
+    let behind = c.enter.ensures.waiting ∙ ap (λ l. l ++ reverse c.pop.new.self.items)
+    (ap (λ r. branches_by pass (row_of_thin r)) row ∙ thin.branches pass) in
+    let own = c.enter.ensures.found ∙ ap (λ l. c.search.found.items ++ l)
+    (ap (λ r. own_by pass id (row_of_thin r)) row ∙ thin.own pass id) in
+    let popped_len = ap length c.in-Some.ensures.items ∙ length-append c.pop.new.self.items (id ∷ []) in
+    let count = count_new _ c.is_first.result c.is_first.ensures.count c.if-is_first.true in
+    record {
+      search =
+          met_now graph c.pop.new.self.items id (is_met old.stamps.items old.now) (is_met new.stamps.items new.now)
+          c.enter.new.waiting.items c.is_first.ensures.only before.search c.in-Some.ensures.items c.is_first.ensures.new
+          c.if-is_first.true own behind;
+      few = few_more id_count _ c.enter.ensures.bound (own_either pass id (row_at
+          (meaning nfa).rows id)) own before.few;
+      stack = omega (arith, before.stack, c.enter.ensures.waiting_len, popped_len, count);
+      listed = omega (arith, before.listed, c.enter.ensures.found_len, count);
+      found_room = omega (arith, before.found_room, c.enter.ensures.found_room);
+      found_grown = omega (arith, before.found_grown, c.enter.ensures.found_room);
+      nfa = before.nfa;
+    }
+
+-- ---- a row that was met
+
+pub search-smaller : goal.search-smaller
+search-smaller c =
+    let nfa = c.search.self.nfa.now in
+    let graph = graph_of (meaning nfa).rows (passing_of c.args.passing.now) nfa.shallow in
+    passed_falls graph (popped _ c.in-Some.ensures.items)
+
+pub search-preserved : goal.search-preserved
+search-preserved c =
+    let nfa = c.search.self.nfa.now in
+    let graph = graph_of (meaning nfa).rows (passing_of c.args.passing.now) nfa.shallow in
+    let before = c.search.invariant in
+    let old = c.search.self.stamps in
+    let new = c.is_first.new.self in
+    let popped_len = ap length c.in-Some.ensures.items ∙ length-append c.pop.new.self.items (c.in-Some.id ∷ []) in
+    let first = c.is_first.ensures in
+    let count = count_old _ c.is_first.result first.count c.if-is_first.false in
+    record {
+      search =
+          passed_on graph c.pop.new.self.items c.in-Some.id (is_met old.stamps.items old.now)
+          (is_met new.stamps.items new.now) first.only before.search c.in-Some.ensures.items first.new
+          c.if-is_first.false;
+      few = before.few;
+      stack = omega (arith, before.stack, popped_len, count);
+      listed = omega (arith, before.listed, count);
+      found_room = before.found_room;
+      found_grown = before.found_grown;
+      nfa = before.nfa;
+    }
+
+-- ---- the end
+
+pub returns-clause-rows : goal.returns-clause-rows
+returns-clause-rows c =
+    let nfa = c.search.self.nfa.now in
+    let left = c.search.invariant in
+    let waiting = c.search.self.waiting in
+    let pass = passing_of c.args.passing.now in
+    let stamps = c.search.self.stamps in
+    let found = c.args.found.now.items in
+    let done =
+    searched (meaning nfa).rows pass nfa.shallow {stamps = stamps.stamps.items} {now = stamps.now} waiting.items
+    waiting.ok.0 c.in_default.ensures.cases.0 left.search left.few left.listed in
+    done.0 ∙ ap (λ (n : NFA). found ++ fresh found (closure (meaning n).rows pass c.args.row)) left.nfa
+
+pub returns-clause-searched : goal.returns-clause-searched
+returns-clause-searched c =
+    let nfa = c.search.self.nfa.now in
+    let left = c.search.invariant in
+    let waiting = c.search.self.waiting in
+    let done =
+    searched (meaning nfa).rows (passing_of c.args.passing.now) nfa.shallow waiting.items waiting.ok.0
+    c.in_default.ensures.cases.0 left.search left.few left.listed in
+    let stamps = c.search.self.stamps in
+    subst
+    (λ (n : NFA).
+    IsSearched (meaning n).rows (passing_of c.args.passing.now) stamps.stamps.items stamps.now c.search.found.items)
+    left.nfa
+    done.1
