@@ -1,12 +1,13 @@
 -- Lists of thin rows that grow at the end.
 use Rattle.std.proofs.Common.{◌≡◌, ℕ, zero, suc, ◌+◌, ◌<◌, ◌≤◌, List, [], ◌∷◌, ◌++◌, length, get_or, refl, ap, sym}
 use Rattle.std.proofs.Common.{◌∙◌, subst}
-use Rattle.std.proofs.Common.{arith, ⊎_elim, true, nat_lt}
+use Rattle.std.proofs.Common.{arith, ⊎_elim, true, false, nat_lt}
 use Rattle.std.proofs.lemmas.Bool.{cases_lt, ltb-true}
 use Rattle.std.proofs.lemmas.Option.{slice_get_past}
 use Rattle.std.specs.Prelude.{map, unwrap_or}
+use Rattle.std.specs.List.{list_any}
 use Rattle.rx_spec.specs.Rows.{Row}
-use Rattle.rx_spec.specs.States.{row_at}
+use Rattle.rx_spec.specs.States.{row_at, is_look_row}
 use Rattle.rx_expr.specs.Nfa.{row_of}
 use Rattle.rx_expr.specs.declared.thompson.nfa.Row as code
 use Rattle.rx_stepper.specs.ThinRows.{row_of_thin, thin_at, IsThin, AreThin}
@@ -88,3 +89,11 @@ thin_all thin rows len each q =
     subst (IsThin (row_of_thin (thin_at thin q))) (sym none)
     (subst (λ r. IsThin (row_of_thin r) Row.Fail) (sym (thin_past thin q (omega arith))) fail_thin))
     (cases_lt q (length rows))
+
+-- ---- assertions
+
+-- where no row is an assertion, none of some rows is
+pub no_looks : (rows : List Row) (qs : List ℕ) → ((q : ℕ) → is_look_row (row_at rows q) ≡ false)
+    → false ≡ list_any (λ q. is_look_row (row_at rows q)) qs
+no_looks rows [] none = refl
+no_looks rows (q ∷ qs) none = rw (none q) (no_looks rows qs none)

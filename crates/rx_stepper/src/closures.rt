@@ -1,6 +1,6 @@
 //! The rows that are reached without reading a byte, in room that is taken once.
 
-ghost use Rattle.std.specs.Prelude.{◌≡◌, ℕ, ◌+◌, ◌<◌, ◌≤◌, ◌==◌, ◌++◌, ◌∷◌, [], true, length, reverse, IfOk};
+ghost use Rattle.std.specs.Prelude.{◌≡◌, ℕ, ◌+◌, ◌<◌, ◌≤◌, ◌==◌, ◌++◌, ◌∷◌, [], true, false, length, reverse, IfOk};
 ghost use Rattle.std.specs.Prelude.{vec_capacity};
 ghost use Rattle.std.specs.List.{list_any, AllByRecursion as Every};
 ghost use Rattle.rx_spec.specs.Causes.{id_count};
@@ -49,6 +49,9 @@ pub(crate) struct Closures<'n> {
     stamps: Stamps,
     /// The rows that are still to be looked at, the next one last.
     waiting: Vec<StateID>,
+    /// Whether some row of the NFA is an assertion.
+    asks: bool,
+    ghost looks: { asks ≡ false → (q : ℕ) → is_look_row (row_at (meaning nfa.now).rows q) ≡ false },
     ghost thin_rows: { AreThin thin.items (meaning nfa.now).rows },
     ghost thin_len: { length thin.items ≡ length (meaning nfa.now).rows },
     ghost stamps_len: { length stamps.stamps.items ≡ length (meaning nfa.now).rows },
@@ -63,11 +66,13 @@ impl<'n> Closures<'n> {
         let thin = thin_rows(alloc, nfa)?;
         let stamps = Stamps::new(alloc, thin.len())?;
         let waiting = Vec::with_capacity(alloc, thin.len() + 1)?;
+        let asks = thin.iter().any(|row| row.is_look());
         Ok(Closures {
             nfa,
             thin,
             stamps,
             waiting,
+            asks,
         })
     }
 
@@ -153,15 +158,15 @@ impl<'n> Closures<'n> {
     pub(crate) fn has_look(&self, rows: &[StateID]) -> bool
         ensures { result ≡ list_any (λ q. is_look_row (row_at (meaning self.now.nfa.now).rows q)) rows.now }
     {
-        rows.iter().any(|id| self.is_look(*id))
+        self.asks && rows.iter().any(|id| self.is_look(*id))
     }
 
     fn is_look(&self, id: StateID) -> bool
         ensures { result ≡ is_look_row (row_at (meaning self.now.nfa.now).rows id) }
     {
         match self.thin.get(id.as_usize()) {
-            Some(ThinRow::Look(..)) => true,
-            _ => false,
+            Some(thin) => thin.is_look(),
+            None => false,
         }
     }
 }

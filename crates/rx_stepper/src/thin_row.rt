@@ -2,6 +2,7 @@
 
 ghost use Rattle.std.specs.Prelude.{◌≡◌, ◌+◌, ◌<◌, ◌≤◌, ◌++◌, length, reverse, vec_capacity, IfOk};
 ghost use Rattle.rx_spec.specs.Causes.{id_count};
+ghost use Rattle.rx_spec.specs.States.{is_look_row};
 ghost use Rattle.rx_powerset.specs.Closures.{own_by, branches_by};
 ghost use Rattle.rx_expr.specs.Nfa.{meaning, row_of};
 ghost use Rattle.rx_stepper.specs.ThinRows.{row_of_thin, AreThin, IsThin};
@@ -37,6 +38,17 @@ impl ThinRow {
             Row::Look { look, next } => ThinRow::Look(look, next),
             Row::Match { pattern } => ThinRow::Match(pattern),
             Row::Fail => ThinRow::Fail,
+        }
+    }
+
+    /// Whether it is an assertion.
+    #[inline]
+    pub(crate) fn is_look(&self) -> bool
+        ensures { result ≡ is_look_row (row_of_thin self.now) }
+    {
+        match *self {
+            ThinRow::Look(..) => true,
+            _ => false,
         }
     }
 
