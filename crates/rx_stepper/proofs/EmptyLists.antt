@@ -1,10 +1,11 @@
 -- Lists of lists that are all empty.
 use Rattle.std.proofs.Common.{◌≡◌, ◌≢◌, ℕ, zero, suc, ◌+◌, ◌<◌, ◌≤◌, List, [], ◌∷◌, ◌++◌, length, map, get_or, set}
-use Rattle.std.proofs.Common.{take, drop, refl, ap, sym, ◌∙◌, arith}
-use Rattle.std.proofs.Common.{⊎_elim}
-use Rattle.std.proofs.lemmas.Bool.{cases_lt}
+use Rattle.std.proofs.Common.{take, drop, refl, ap, ap₂, sym, ◌∙◌, arith}
+use Rattle.std.proofs.Common.{⊎_elim, ◌==◌, Bool, true}
+use Rattle.std.proofs.lemmas.Bool.{cases_lt, eqb-true}
 use Rattle.std.proofs.lemmas.List.{get_or_past, length-map, map-set, get_or-map, take-append-le, take_all}
-use Rattle.std.proofs.lemmas.List.{get_or-set_same, get_or-set_other}
+use Rattle.std.proofs.lemmas.List.{get_or-set_same, get_or-set_other, nil_from_length}
+use Rattle.std.specs.List.{flat_map}
 use Rattle.rx_stepper.specs.Columns.{list_at}
 use Rattle.rx_stepper.specs.Steps.{AreEmpty}
 
@@ -58,8 +59,25 @@ module _ {X : Type 0} (f : X → List ℕ) (vs : List X) (v : ℕ) (y : X) where
   pub list_there : v < length vs → y ≡ get_or vs v y → list_at (map f vs) v ≡ f y
   list_there lt e = get_or-map f vs v y [] lt ∙ ap f (sym e)
 
+-- a list that is found empty
+pub empty_there : {X : Type 0} (f : X → List ℕ) (vs : List X) (v : ℕ) (y : X) {n : ℕ} {empty : Bool}
+    → v < length vs → y ≡ get_or vs v y → n ≡ length (f y) → empty ≡ (n == 0) → empty ≡ true
+    → list_at (map f vs) v ≡ []
+empty_there f vs v y {n} lt e len is found =
+    let none = eqb-true n 0 (sym is ∙ found) in
+    list_there f vs v y lt e ∙ nil_from_length (f y) (omega (arith, none, len))
+
 -- a list that is written back whole
 pub written_back : {X : Type 0} (new old : List X) (n : ℕ) → length new ≡ length old → n ≡ length old
     → take n (new ++ drop (length new) old) ≡ new
 written_back new old n len all =
     take-append-le n new (drop (length new) old) (omega arith) ∙ take_all n new (omega arith)
+
+-- what was added to one of its lists
+pub written_more : {X : Type 0} (f : X → List ℕ) (new : List X) {given old : List X} {n : ℕ} (leads : ℕ → List ℕ)
+    {going cut : List ℕ} (place : ℕ) → given ≡ old → length new ≡ length given → n ≡ length old → going ≡ cut
+    → list_at (map f new) place ≡ list_at (map f given) place ++ flat_map leads going
+    → list_at (map f (take n (new ++ drop (length new) old))) place ≡ list_at (map f old) place ++ flat_map leads cut
+written_more f new {given} {old} {n} leads place same len all e more =
+    ap (λ l. list_at (map f l) place) (written_back new old n (len ∙ ap length same) all) ∙ more
+    ∙ ap₂ (λ l g. list_at (map f l) place ++ flat_map leads g) same e

@@ -1,15 +1,17 @@
 -- Between two groups of the steps that are found.
 use Rattle.std.proofs.Common.{◌≡◌, ◌≢◌, ◌+◌, ◌<◌, ◌≤◌, ◌++◌, Bool, true, false, List, [], ℕ, length, map, ap, sym, ◌∙◌}
-use Rattle.std.proofs.Common.{subst, arith, ⊎_elim}
-use Rattle.std.proofs.lemmas.Bool.{cases_lt}
+use Rattle.std.proofs.Common.{subst, arith, ⊎_elim, ◌∷◌, refl}
+use Rattle.std.proofs.lemmas.Bool.{cases_lt, or_parts}
 use Rattle.std.proofs.lemmas.List.{get_or_past}
 use Rattle.std.specs.Prelude.{slice_index_or}
+use Rattle.std.specs.List.{list_any}
 use Rattle.rx_spec.specs.Contexts.{Facts}
-use Rattle.rx_spec.specs.States.{State}
+use Rattle.rx_spec.specs.Rows.{Row}
+use Rattle.rx_spec.specs.States.{State, is_match_row, row_at}
 use Rattle.rx_expr.specs.Nfa.{meaning}
 use Rattle.rx_expr.specs.declared.thompson.nfa.NFA.{NFA}
 use Rattle.rx_stepper.specs.Columns.{AreGroups, Reads, list_at}
-use Rattle.rx_stepper.specs.Steps.{AreEmpty, Stand, rows_in}
+use Rattle.rx_stepper.specs.Steps.{AreEmpty, Stand, matches_of, rows_in}
 use Rattle.rx_stepper.specs.declared.closures.Closures.{Closures}
 use Rattle.rx_stepper.specs.declared.columns.Columns.{Columns}
 use Rattle.rx_stepper.specs.declared.steps.Steps.{Steps}
@@ -42,6 +44,16 @@ pub record Between (f : Finding) (group : ℕ) (steps : Steps) (closures : Closu
       → AreGroups (meaning f.closures.nfa.now) units f.columns.groups.of.items
       → Done (stand_of f) units f.columns.groups.of.items group (map (λ v. v.items) steps.targets.items)
       (map (λ v. v.items) steps.matches.items)
+
+-- ---- rows of which none matches
+
+pub none_match : (rows : List Row) (qs : List ℕ) → list_any (λ q. is_match_row (row_at rows q)) qs ≡ false
+    → matches_of rows qs ≡ []
+none_match rows [] none = refl
+none_match rows (q ∷ qs) none =
+    let p = λ (x : ℕ). is_match_row (row_at rows x) in
+    let parts = or_parts (p q) (list_any p qs) none in
+    rw parts.0 (none_match rows qs parts.1)
 
 -- ---- rows among which none asserts: all groups have the same matches
 
@@ -93,12 +105,13 @@ module _ {lists : List (List ℕ)} {used : List Bool} {matches : List ℕ} {grou
 
 pub record PlainBetween (start now : Steps) (used : List Bool) (matches : List ℕ) (group : ℕ) : Type 0 where
   pub targets : now.targets ≡ start.targets
+  pub has : now.has_matches ≡ true
   pub told : MatchesTo (map (λ v. v.items) now.matches.items) used matches group
 
 pub plain_next : {start now s : Steps} {used : List Bool} {matches : List ℕ} {group : ℕ} (next : Steps)
     → PlainBetween start now used matches group → s ≡ next → next.targets ≡ now.targets
-    → MatchesTo (map (λ v. v.items) next.matches.items) used matches (group + 1)
+    → next.has_matches ≡ true → MatchesTo (map (λ v. v.items) next.matches.items) used matches (group + 1)
     → PlainBetween start s used matches (group + 1)
-plain_next {start} {now} {s} {used} {matches} {group} next before e targets told =
+plain_next {start} {now} {s} {used} {matches} {group} next before e targets has told =
     subst (λ v. PlainBetween start v used matches (group + 1)) (sym e)
-    (record { targets = targets ∙ before.targets; told = told })
+    (record { targets = targets ∙ before.targets; has = has; told = told })

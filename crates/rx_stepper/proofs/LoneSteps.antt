@@ -1,8 +1,7 @@
 -- A column by which the lead-in's rows alone go on leads where it leads these by themselves.
-use Rattle.std.proofs.Common.{◌≡◌, ℕ, zero, suc, ◌<◌, ◌++◌, ◌==◌, true, List, []}
+use Rattle.std.proofs.Common.{◌≡◌, ℕ, zero, suc, ◌<◌, ◌++◌, true, List, []}
 use Rattle.std.proofs.Common.{◌∷◌, length, None, Some, refl, ap, ap₂, sym, ◌∙◌, subst, arith}
 use Rattle.std.proofs.Common.{inl}
-use Rattle.std.proofs.lemmas.Bool.{eqb-true}
 use Rattle.std.specs.Prelude.{IfSome, MatchOption, Option, slice_get}
 use Rattle.rx_spec.specs.Builds.{is_dead_state}
 use Rattle.rx_spec.specs.Contexts.{Facts}
@@ -83,9 +82,6 @@ module _ {t : Table} {lead_in : LeadIn} {leads : List LeadSteps} {current : Curr
   pub lone_step : step t.nfa t.kind (state_in t current) (unit_in t column)
       ≡ lone_state t.nfa t.kind t.classes context column
   lone_step = by_state ∙ sym by_lead
-
-pub zero_by : (n : ℕ) → (n == 0) ≡ true → n ≡ 0
-zero_by n e = eqb-true n 0 e
 
 -- what is known of the unit read last is one of 32 numbers
 pub lone_small : {t : Table} {lead_in : LeadIn} {leads : List LeadSteps} {current : Current} {column group context : ℕ}

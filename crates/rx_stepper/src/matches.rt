@@ -44,6 +44,13 @@ impl<'n> Closures<'n> {
         }
     }
 
+    /// Whether some of the rows matches.
+    pub(crate) fn has_match(&self, rows: &[StateID]) -> bool
+        ensures { result ≡ list_any (λ q. is_match_row (row_at (meaning self.now.nfa.now).rows q)) rows.now }
+    {
+        rows.iter().any(|id| self.is_match(*id))
+    }
+
     /// Adds those of the rows that match.
     pub(crate) fn add_matches(
         &self,

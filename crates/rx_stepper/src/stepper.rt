@@ -184,6 +184,9 @@ impl<'n> Stepper<'n> {
         if !own.targets[column].is_empty() {
             return true;
         }
+        if !own.has_matches {
+            return false;
+        }
         let group = self.columns.groups.of(column);
         !own.matches[group as usize].is_empty()
     }

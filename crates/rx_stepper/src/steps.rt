@@ -25,7 +25,10 @@ pub(crate) struct Steps {
     pub(crate) matches: Vec<Vec<StateID>>,
     /// For each column where the rows lead that go on before its unit and read it.
     pub(crate) targets: Vec<Vec<StateID>>,
+    /// Whether some of the rows may match: where it is false the lists of matches are all empty.
+    pub(crate) has_matches: bool,
     ghost matches_len: { length matches.items ≡ 32 },
+    ghost no_matches: { has_matches ≡ false → AreEmpty (map (λ v. v.items) matches.items) },
 }
 
 impl Steps {
@@ -43,7 +46,11 @@ impl Steps {
         for column in 0..columns {
             targets.push(Vec::new(alloc))?;
         }
-        Ok(Steps { matches, targets })
+        Ok(Steps {
+            matches,
+            targets,
+            has_matches: false,
+        })
     }
 
     /// Makes them those of no rows.
@@ -52,7 +59,10 @@ impl Steps {
         ensures matches { AreEmpty (map (λ v. v.items) self.new.matches.items) }
         ensures targets { AreEmpty (map (λ v. v.items) self.new.targets.items) }
     {
-        clear_lists(&mut self.matches);
+        if self.has_matches {
+            clear_lists(&mut self.matches);
+            self.has_matches = false;
+        }
         clear_lists(&mut self.targets);
     }
 
@@ -128,6 +138,10 @@ impl Steps {
             None,
             &mut self.targets,
         )?;
+        if !closures.has_match(going) {
+            return Ok(());
+        }
+        self.has_matches = true;
         for group in 0..32 {
             if columns.groups.has(group) {
                 closures.add_matches(going, &mut self.matches[group as usize])?;
@@ -180,6 +194,7 @@ impl Steps {
         };
         closures.list(rows, &passing, reached);
         let going = closures.cut(kind, reached);
+        self.has_matches = true;
         closures.add_matches(going, &mut self.matches[group as usize])?;
         add_targets(
             &columns.reading,
