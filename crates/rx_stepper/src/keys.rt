@@ -1,7 +1,7 @@
 //! States as keys.
 
 ghost use Rattle.std.specs.Prelude.{◌≡◌, ◌≤◌, ◌<◌, ◌+◌, ◌^◌, ◌++◌, ◌∷◌, ◌==◌, ◌&&◌, if◌then◌else◌, not, All, OnOk};
-ghost use Rattle.std.specs.Prelude.{length, slice_index};
+ghost use Rattle.std.specs.Prelude.{length, slice_index, take};
 ghost use Rattle.rx_spec.specs.Causes.{max_id};
 ghost use Rattle.rx_base.specs.FactBits.{bit, facts_with};
 ghost use Rattle.rx_stepper.specs.Keys.{label_of, led_of, own_of, size_of};
@@ -105,17 +105,35 @@ pub(crate) fn write(
         ≡ head.context ∷ (length label.now ∷ (head.rows ∷ (bit head.is_led ∷ (label.now ++ own.now))))) }
     ensures label { OnOk result (All (λ k. k ≤ max_id) label.now) }
 {
-    key.clear();
-    key.reserve(4 + label.len() + own.len())?;
-    key.push(u32::from(head.context))?;
-    key.push(label.len() as u32)?;
-    key.push(head.rows)?;
-    key.push(if head.is_led { 1 } else { 0 })?;
-    for pattern in label {
-        key.push(pattern.as_u32())?;
-    }
-    for row in own {
-        key.push(row.as_u32())?;
-    }
+    key.resize(4 + label.len() + own.len(), 0)?;
+    key[0] = u32::from(head.context);
+    key[1] = label.len() as u32;
+    key[2] = head.rows;
+    key[3] = u32::from(head.is_led);
+    write_patterns(label, 4, key);
+    write_rows(own, 4 + label.len(), key);
     Ok(())
+}
+
+/// Writes the numbers of patterns from a place of a key on.
+fn write_patterns(patterns: &[PatternID], place: usize, key: &mut [u32])
+    requires { place + length patterns.now ≤ length key.old }
+    ensures len { length key.new ≡ length key.old }
+    ensures numbers { take (place + length patterns.now) key.new ≡ take place key.old ++ patterns.now }
+    ensures bound { All (λ k. k ≤ max_id) patterns.now }
+{
+    for i in 0..patterns.len() {
+        key[place + i] = patterns[i].as_u32();
+    }
+}
+
+/// Writes the numbers of rows from a place of a key on, to its end.
+fn write_rows(rows: &[StateID], place: usize, key: &mut [u32])
+    requires { place + length rows.now ≡ length key.old }
+    ensures len { length key.new ≡ length key.old }
+    ensures numbers { key.new ≡ take place key.old ++ rows.now }
+{
+    for i in 0..rows.len() {
+        key[place + i] = rows[i].as_u32();
+    }
 }
