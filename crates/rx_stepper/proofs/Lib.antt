@@ -3,6 +3,7 @@ pub mod ThinLists
 pub mod Members
 pub mod StampedSearch
 -- the columns that rows read, and their groups
+pub mod ByteWords
 pub mod ReadColumns
 pub mod GroupLists
 pub mod TargetLists

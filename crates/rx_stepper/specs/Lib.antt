@@ -12,6 +12,7 @@ pub mod Stamps
 pub mod Searches
 -- the columns that rows read, those that assertions don't tell apart, and what each needs for a step
 pub mod Units
+pub mod ByteWords
 pub mod Columns
 pub mod Steps
 pub mod Gathering

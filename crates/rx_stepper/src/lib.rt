@@ -8,6 +8,7 @@
 //! step gives the key of exactly the state of the definitions, and no two keys stand for one state.
 #![tactic(auto)]
 
+mod byte_words;
 mod closures;
 mod column_span;
 mod columns;

@@ -9,8 +9,10 @@ ghost use Rattle.rx_spec.specs.States.{row_at, target};
 ghost use Rattle.rx_stepper.specs.Columns.{AreSpans};
 ghost use Rattle.rx_base.specs.Unit.{unit_number};
 ghost use Rattle.rx_expr.specs.Nfa.{meaning, row_of};
+ghost use Rattle.rx_stepper.specs.ByteWords.{set_of_words};
 ghost use Rattle.rx_stepper.specs.Columns.{columns_of, next_of};
 
+use crate::byte_words::ByteWords;
 use crate::column_span::ColumnSpan;
 use rx_base::{ByteSet, StateID, Unit};
 use rx_expr::thompson::{NFA, Row};
@@ -94,8 +96,9 @@ fn push_columns(set: &ByteSet, units: &[Unit], columns: &mut Vec<u16>) -> Result
         let read = λ (column : ℕ). contains set.now (slice_index numbers column) in
         OnOk result (columns.new.items ≡ columns.old.items ++ filter read (range_with_len 0 (length units.now))) }
 {
+    let words = ByteWords::new(set);
     for (column, unit) in units.iter().enumerate() {
-        if reads(set, *unit) {
+        if reads(&words, *unit) {
             columns.push(column as u16)?;
         }
     }
@@ -103,8 +106,8 @@ fn push_columns(set: &ByteSet, units: &[Unit], columns: &mut Vec<u16>) -> Result
 }
 
 /// Whether a unit is in a set; the end mark is in none.
-fn reads(set: &ByteSet, unit: Unit) -> bool
-    ensures { result ≡ contains set.now (unit_number unit) }
+fn reads(set: &ByteWords, unit: Unit) -> bool
+    ensures { result ≡ contains (set_of_words set.now.words) (unit_number unit) }
 {
     match unit {
         Unit::Byte(byte) => set.contains(byte),

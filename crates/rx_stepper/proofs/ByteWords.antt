@@ -1,0 +1,61 @@
+-- A byte's bit in the words of a set.
+use Rattle.std.proofs.Common.{◌≡◌, ℕ, ◌+◌, ◌-◌, ◌*◌, ◌^◌, ◌/◌, ◌%◌, ◌<◌, ◌≤◌, ◌==◌, ◌&&◌, true, List, nat_lt, bit_and}
+use Rattle.std.proofs.Common.{ap, ap₂, sym, ◌∙◌, arith, ⊎_elim}
+use Rattle.std.proofs.lemmas.Bool.{cases_lt}
+use Rattle.std.proofs.lemmas.Bool.Decides.{nat_tests}
+use Rattle.std.proofs.lemmas.Nat.Bits.{shr_and_one, bit_at_cat_low, bit_at_cat_high}
+use Rattle.std.specs.Int.{bit_at}
+use Rattle.std.specs.Prelude.{slice_index}
+use Rattle.rx_spec.specs.Bytes.{contains}
+use Rattle.rx_stepper.specs.ByteWords.{set_of_words}
+
+module _ (words : List ℕ) (fits : (k : ℕ) → slice_index words k < 2 ^ 64) (b : ℕ) where
+  abbrev word : ℕ → ℕ
+  word k = slice_index words k
+
+  abbrev low : ℕ
+  low = word 1 * 2 ^ 64 + word 0
+
+  abbrev high : ℕ
+  high = word 3 * 2 ^ 64 + word 2
+
+  -- the bit of a byte in its word
+  at : (k r : ℕ) → b / 64 ≡ k → b % 64 ≡ r → bit_at (word (b / 64)) (b % 64) ≡ bit_at (word k) r
+  at k r e f = ap₂ (λ i j. bit_at (word i) j) e f
+
+  low_fits : low < 2 ^ 128
+  low_fits = omega (arith, fits 0, fits 1)
+
+  in_low : b < 128 → bit_at low b ≡ bit_at (word (b / 64)) (b % 64)
+  in_low h =
+      ⊎_elim
+      (λ (l : b < 64). bit_at_cat_low (word 1) 64 (word 0) b l ∙ sym (at 0 b (omega arith) (omega arith)))
+      (λ (l : 64 ≤ b).
+      bit_at_cat_high (word 1) 64 (word 0) b (fits 0) l ∙ sym (at 1 (b - 64) (omega arith) (omega arith)))
+      (cases_lt b 64)
+
+  in_high : 128 ≤ b → b < 256 → bit_at high (b - 128) ≡ bit_at (word (b / 64)) (b % 64)
+  in_high h below =
+      ⊎_elim
+      (λ (l : b < 192).
+      bit_at_cat_low (word 3) 64 (word 2) (b - 128) (omega arith)
+      ∙ sym (at 2 (b - 128) (omega arith) (omega arith)))
+      (λ (l : 192 ≤ b).
+      bit_at_cat_high (word 3) 64 (word 2) (b - 128) (fits 2) (omega arith)
+      ∙ sym (at 3 (b - 128 - 64) (omega arith) (omega arith)))
+      (cases_lt b 192)
+
+  in_word : b < 256 → bit_at (set_of_words words) b ≡ bit_at (word (b / 64)) (b % 64)
+  in_word below =
+      ⊎_elim
+      (λ (l : b < 128). bit_at_cat_low high 128 low b l ∙ in_low l)
+      (λ (l : 128 ≤ b). bit_at_cat_high high 128 low b low_fits l ∙ in_high l below)
+      (cases_lt b 128)
+
+  pub byte_there : {place : ℕ} → b < 256 → place ≡ b / 64
+      → (bit_and (slice_index words place / 2 ^ (b % 64)) 1 == 1) ≡ contains (set_of_words words) b
+  byte_there {place} below e =
+      let within : nat_lt b 256 ≡ true = grind (arith, nat_tests) in
+      ap (λ k. bit_and (word k / 2 ^ (b % 64)) 1 == 1) e
+      ∙ ap (λ n. n == 1) (shr_and_one (word (b / 64)) (b % 64) ∙ sym (in_word below))
+      ∙ ap (λ t. t && (bit_at (set_of_words words) b == 1)) (sym within)
