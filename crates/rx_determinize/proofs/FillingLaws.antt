@@ -278,4 +278,5 @@ filled {k} {limits} {met} {l} {set} {place} {state} {ready} byte_classes is old 
         let led : next_in l place other ≡ next_in l place unit =
         ap (λ n. get_or l.words ((place + 2) * stride l + n) 0 / stride l) same in
         subst (λ (n : Node). IsRowOf (states_of k met) n (next_in l place unit)) node
-        (subst (IsRowOf (states_of k met) (next_node k.build (Running state) other)) led (row.cells c within (all c within)))
+        (subst (IsRowOf (states_of k met) (next_node k.build (Running state) other)) led
+        (row.cells c within (all c within)))

@@ -1,6 +1,7 @@
 -- Rows that begin as those of models.
 use Rattle.std.proofs.Common.{◌≡◌, ℕ, ◌+◌, ◌*◌, ◌<◌, ◌≤◌, true, false, Option, None, Some, List, []}
-use Rattle.std.proofs.Common.{append_assoc, ◌++◌, length, replicate, set, refl, ap, sym, ◌∙◌, subst, arith, inl, inr, ⊎_elim}
+use Rattle.std.proofs.Common.{append_assoc, ◌++◌, length, replicate, set, refl, ap, sym, ◌∙◌, subst, arith, inl, inr}
+use Rattle.std.proofs.Common.{⊎_elim}
 use Rattle.std.proofs.lemmas.Bool.{cases_eq, cases_lt}
 use Rattle.std.proofs.lemmas.Grind.{get_or-set_at}
 use Rattle.std.proofs.lemmas.List.{get_or-replicate, get_or-set_other, get_or_past, length-replicate, length-set}
@@ -114,7 +115,8 @@ model_of_alone {s} {met} {l} {key} place here current classes alone context led_
 }
 
 -- the row of a model is written
-pub model_before : {k : Keying} {met : Met} {l : Layout} (models : List (Option ℕ)) (done : ℕ) {row : ℕ} (led_in : Option ℕ)
+pub model_before : {k : Keying} {met : Met} {l : Layout} (models : List (Option ℕ)) (done : ℕ) {row : ℕ}
+    (led_in : Option ℕ)
     → AreModels k met l models done → model_row models led_in ≡ Some row → row < done + 2
 model_before models done None are is = omega (arith, some_is is)
 model_before models done {row} (Some context) are is = (are context row is).0
@@ -212,7 +214,8 @@ stepping_copied {s} {limits} {met} {l} {m} models {place} classes are begun step
       rows = begun.rows;
       count = begun.copied.count;
       others = λ row unit within is_unit apart.
-          leads row unit ∙ next_beside l stepping.entering.rows begun.row (place + 2) begun.copied row unit is_unit apart;
+          leads row unit
+          ∙ next_beside l stepping.entering.rows begun.row (place + 2) begun.copied row unit is_unit apart;
     }
 
     cell : (c : ℕ) → c < alphabet_len m.classes → IsReady s m (start_at place) c

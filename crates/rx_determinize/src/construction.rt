@@ -1,6 +1,7 @@
 //! The construction: each state that is met is stepped once, and its row written.
 
-ghost use Rattle.std.specs.Prelude.{◌≡◌, ℕ, ◌<◌, ◌≤◌, ◌+◌, ◌^◌, [], true, false, None, Some, IfErr, IfOk, IfSome, OnOk, length};
+ghost use Rattle.std.specs.Prelude.{◌≡◌, ℕ, ◌<◌, ◌≤◌, ◌+◌, ◌^◌, [], true, false, None, Some, length};
+ghost use Rattle.std.specs.Prelude.{IfErr, IfOk, IfSome, OnOk};
 ghost use Rattle.rx_spec.specs.Builds.{IsReached};
 ghost use Rattle.rx_spec.specs.Bytes.{contains};
 ghost use Rattle.rx_base.specs.ByteClasses.{alphabet_len};
@@ -210,7 +211,8 @@ impl Construction {
     ) -> bool
         requires stepping { IsStepping (stepping_of stepper.now) self.now.limits self.now.states dfa.old
             (record { place = place; column = 0; copied = false }) None 0 }
-        requires models { AreModels (keying (stepping_of stepper.now) dfa.old) self.now.states dfa.old models.now place }
+        requires models { AreModels (keying (stepping_of stepper.now) dfa.old) self.now.states dfa.old models.now
+            place }
         requires classes { (stepping_of stepper.now).classes ≡ dfa.old.classes }
         ensures stepping { IsStepping (stepping_of stepper.now) self.now.limits self.now.states dfa.new
             (record { place = place; column = 0; copied = result }) None 0 }
@@ -255,7 +257,8 @@ impl Construction {
             (length dfa.old.starts) place }
         requires suits { Suits (stepping_of stepper.old) self.old.units.items dfa.old }
         requires place { place < length self.old.states.keys }
-        requires models { AreModels (keying (stepping_of stepper.old) dfa.old) self.old.states dfa.old models.old place }
+        requires models { AreModels (keying (stepping_of stepper.old) dfa.old) self.old.states dfa.old models.old
+            place }
         ensures entering { OnOk result (IsEntering (keying (stepping_of stepper.new) dfa.new) self.new.limits
             self.new.states dfa.new (length dfa.new.starts) (place + 1)) }
         ensures models { OnOk result (AreModels (keying (stepping_of stepper.new) dfa.new) self.new.states dfa.new

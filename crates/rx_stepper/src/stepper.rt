@@ -164,8 +164,8 @@ impl<'n> Stepper<'n> {
         )
     }
 
-    /// The number of what is known of the unit read last, where the lead-in's rows follow the state's own; none where no
-    /// others do.
+    /// The number of what is known of the unit read last, where the lead-in's rows follow the state's own; none where
+    /// no others do.
     #[tactic(auto, unfolding(crate::specs::Steppers::stepping_of))]
     pub fn led_in(&self) -> Option<u8>
         ensures { result ≡ (stepping_of self.now).led_in }
@@ -173,8 +173,8 @@ impl<'n> Stepper<'n> {
         self.current.led_in
     }
 
-    /// Whether rows of the state's own go on by a column or match before it. Where none does, the column leads where the
-    /// lead-in's rows lead by themselves.
+    /// Whether rows of the state's own go on by a column or match before it. Where none does, the column leads where
+    /// the lead-in's rows lead by themselves.
     #[tactic(auto, unfolding(crate::specs::Steppers::stepping_of))]
     pub fn has_own(&self, column: usize) -> bool
         requires { column < alphabet_len (stepping_of self.now).classes }
@@ -191,8 +191,8 @@ impl<'n> Stepper<'n> {
         !own.matches[group as usize].is_empty()
     }
 
-    /// The first column from one on by which rows of the state's own go on or match before it; the number of all columns
-    /// where there is none.
+    /// The first column from one on by which rows of the state's own go on or match before it; the number of all
+    /// columns where there is none.
     #[tactic(auto, unfolding(crate::specs::Steppers::stepping_of))]
     pub fn next_own(&self, from: usize) -> usize
         requires { from ≤ alphabet_len (stepping_of self.now).classes }

@@ -15,7 +15,8 @@ pub returns-then-are_alike-clause-found : goal.returns-then-are_alike-clause-fou
 returns-then-are_alike-clause-found c =
     let s = stepping_of c.args.stepper.now in
     let r = c.requires in
-    let last : IsStepped (keying s c.args.dfa.now) c.args.self.now.states c.args.dfa.now s c.in-Some.other c.args.last.id =
+    let last : IsStepped (keying s c.args.dfa.now) c.args.self.now.states c.args.dfa.now s c.in-Some.other
+    c.args.last.id =
     subst (λ (o : Option ℕ). IfSome o (λ other.
     IsStepped (keying s c.args.dfa.now) c.args.self.now.states c.args.dfa.now s other c.args.last.id)) c.in-Some.is
     r.stepped_last in
