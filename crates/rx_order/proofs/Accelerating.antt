@@ -40,6 +40,7 @@ use Rattle.rx_dense.specs.Specials.{is_start_id}
 use Rattle.rx_dense.proofs.Rows.{quotient, row-below}
 use Rattle.rx_order.proofs.Ordered.{start_kinds, start_row_is}
 use Rattle.rx_order.proofs.Sound.{AreLabels, HasNeedles, frame, sound}
+use Rattle.rx_order.proofs.Unskipped.{low_none}
 
 -- what the call learns of a table, and what its calls leave
 pub record IsAccelerating (old : Layout) (kinds rows ends : List ℕ) (lists : List (List ℕ)) (next new m : Layout)
@@ -75,14 +76,6 @@ quits_no_match = refl
 
 -- ---- filters
 
-none_pass : (xs : List ℕ) → filter (λ b. false) xs ≡ []
-none_pass [] = refl
-none_pass (x ∷ xs) = none_pass xs
-
-all_pass : (xs : List ℕ) → filter (λ b. true) xs ≡ xs
-all_pass [] = refl
-all_pass (x ∷ xs) = ap (λ (ys : List ℕ). x ∷ ys) (all_pass xs)
-
 needle_parts : (xs : List ℕ) → are_needles xs ≡ true → (1 ≤ length xs) × (length xs ≤ 3)
 needle_parts xs e = by_test (nat_le 1 (length xs)) (nat_le (length xs) 3) refl refl
   where
@@ -93,11 +86,6 @@ needle_parts xs e = by_test (nat_le 1 (length xs)) (nat_le (length xs) 3) refl r
     by_test false b f g =
         absurd (false≢true (sym (ap (λ (a : Bool). a && nat_le (length xs) 3 && not (list_any
         (λ byte. byte == 32) xs)) f) ∙ e))
-
-too_many : (xs : List ℕ) → 3 < length xs → are_needles xs ≡ false
-too_many xs h =
-    ap₂ (λ (a b : Bool). a && b && not (list_any (λ byte. byte == 32) xs)) (at_most 1 (length xs) (omega (arith, h)))
-    (over (length xs) 3 h)
 
 module _ {old : Layout} {kinds rows ends : List ℕ} {lists : List (List ℕ)} {next new m : Layout}
     (s : IsAccelerating old kinds rows ends lists next new m) where
@@ -320,36 +308,6 @@ module _ {old : Layout} {kinds rows ends : List ℕ} {lists : List (List ℕ)} {
           ne_eqb ((machine_of m).next place b) place other ∙ sym (ne_eqb to (row_at arranged place) ne))
           (cases_eq to (row_at arranged place))
 
-  -- dead and quit are none
-  low_none : (row : ℕ) → row ≤ 1 → are_needles (leaving (table_of old) row) ≡ false
-  low_none row low =
-      ⊎_elim
-      (λ (zero : row ≡ 0). ap (λ r. are_needles (leaving (table_of old) r)) zero ∙ ap are_needles dead_stays)
-      (λ (ne : row ≡ 0 → ⊥).
-      let one : row ≡ 1 = omega (arith, ne) in
-      ap (λ r. are_needles (leaving (table_of old) r)) one ∙ ap are_needles quit_leaves ∙ many)
-      (cases_eq row 0)
-    where
-      dead_stays : leaving (table_of old) 0 ≡ []
-      dead_stays =
-          filter_alike (λ b. not ((machine_of old).next 0 b == 0)) (λ b. false) (range_with_len 0 256)
-          (every_in_range (λ b. not ((machine_of old).next 0 b == 0) ≡ false) 0 256
-          (λ b low high. ap not (eq-eqb ((machine_of old).next 0 b) 0 (sound_old.is_table.dead_stays b (omega
-          (arith, high))))))
-          ∙ none_pass (range_with_len 0 256)
-
-      quit_leaves : leaving (table_of old) 1 ≡ range_with_len 0 256
-      quit_leaves =
-          filter_alike (λ b. not ((machine_of old).next 1 b == 1)) (λ b. true) (range_with_len 0 256)
-          (every_in_range (λ b. not ((machine_of old).next 1 b == 1) ≡ true) 0 256
-          (λ b low high.
-          let dead = sound_old.is_table.quit_ends b (omega (arith, high)) in
-          ap not (ne_eqb ((machine_of old).next 1 b) 1 (λ e. absurd (omega (arith, dead, e))))))
-          ∙ all_pass (range_with_len 0 256)
-
-      many : are_needles (range_with_len 0 256) ≡ false
-      many = too_many (range_with_len 0 256) (omega (arith, length-range_with_len 0 256))
-
   accelerated : (place : ℕ) → place < row_count m
       → (table_of m).is_accelerated place ≡ is_skippable (table_of m) place
   accelerated place b =
@@ -365,7 +323,7 @@ module _ {old : Layout} {kinds rows ends : List ℕ} {lists : List (List ℕ)} {
       ∙ ap (λ c. c && nat_le (kind_at arranged place) 5) (le-ltb 2 (kind_at arranged place) (omega
       (arith, low_kind arranged place low)))
       ∙ sym (ap (λ c. nat_lt 2 (row_count m) && c)
-      (ap are_needles (leaving_same place h) ∙ low_none (row_at arranged place) (omega (arith, row)))
+      (ap are_needles (leaving_same place h) ∙ low_none sound_old (row_at arranged place) (omega (arith, row)))
       ∙ and-false (nat_lt 2 (row_count m))))
       (cases_lt 1 place)
 

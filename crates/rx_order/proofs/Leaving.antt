@@ -50,7 +50,7 @@ pub not_false : (b : Bool) → not b ≡ false → b ≡ true
 not_false true e = refl
 not_false false e = sym e
 
-last_false : (a b : Bool) → (a && b && false) ≡ false
+pub last_false : (a b : Bool) → (a && b && false) ≡ false
 last_false true true = refl
 last_false true false = refl
 last_false false b = refl

@@ -24,5 +24,7 @@ pub mod Shuffled
 pub mod Leaving
 -- rows in order, of which it is known which match and from which a search may skip
 pub mod Sorted
+-- tables no row of which is skipped from
+pub mod Unskipped
 -- accelerated tables
 pub mod Accelerating

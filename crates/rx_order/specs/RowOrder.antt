@@ -23,6 +23,10 @@ kind_by row matches accelerated starts =
     else (if accelerated then (if starts then 5 else 4)
     else (if starts then 6 else 7))))
 
+-- those of accelerated rows
+abbrev pub is_accel_kind : ℕ → Bool
+is_accel_kind kind = nat_le 3 kind && nat_le kind 5
+
 abbrev pub kind_of : Layout → ℕ → ℕ
 kind_of l row = kind_by row (is_match (table_of l) row) ((table_of l).is_accelerated row) (is_start_row l row)
 

@@ -9,10 +9,10 @@ ghost use Rattle.rx_search.specs.Starts.{IsId};
 ghost use Rattle.rx_dense.specs.Builder.{pattern_lists};
 ghost use Rattle.rx_dense.specs.Layouts.{AreRows, AreStarts, ids_of, table_of};
 ghost use Rattle.rx_order.specs.ByKind.{AreKinds, AreSkippable, leaving_of};
-ghost use Rattle.rx_order.specs.RowOrder.{IsInOrder, IsPlain, are_needles};
+ghost use Rattle.rx_order.specs.RowOrder.{AreJoined, IsInOrder, IsPlain, are_needles};
 ghost use Rattle.rx_order.specs.Ordering.{IsAccelerated};
 
-use crate::kinds::{kind, start_rows};
+use crate::kinds::{any_accelerated, kind, start_rows};
 use crate::order::Order;
 use crate::places::Places;
 use crate::skips::needles;
@@ -23,14 +23,19 @@ use std::alloc::{AllocError, Global};
 use std::collections::BTreeMap;
 
 /// Finds the rows that one to three bytes lead elsewhere, none of them a space, keeps these bytes as the rows' needles,
-/// and puts the rows in their order anew. Where memory runs out, the table is as before.
+/// and puts the rows in their order anew. A table that has no such row stays as it is. Where memory runs out, the table
+/// is as before.
 pub fn accelerate(alloc: Global, dfa: &mut OwnedDFA) -> Result<(), AllocError>
     requires in_order { IsInOrder dfa.old }
     requires plain { IsPlain dfa.old }
+    requires joined { AreJoined dfa.old }
     ensures ok { OnOk result (IsAccelerated dfa.old dfa.new) }
     ensures err { OnErr result (dfa.new ≡ dfa.old) }
 {
     let kinds = kinds(alloc, dfa)?;
+    if !any_accelerated(&kinds) {
+        return Ok(());
+    }
     let order = Order::new(alloc, &kinds)?;
     let accels = accels(alloc, dfa, &order)?;
     let patterns = patterns(alloc, dfa, &order)?;

@@ -1,9 +1,10 @@
 //! The kinds of rows, by which their order goes.
 
 ghost use Rattle.std.specs.Prelude.{◌≡◌, ◌<◌, ◌&&◌, nat_lt, IfOk};
+ghost use Rattle.std.specs.List.{list_any};
 ghost use Rattle.rx_dense.specs.Layouts.{AreRows, AreStarts};
 ghost use Rattle.rx_order.specs.ByKind.{AreStartRows};
-ghost use Rattle.rx_order.specs.RowOrder.{kind_by};
+ghost use Rattle.rx_order.specs.RowOrder.{is_accel_kind, kind_by};
 
 use rx_dense::OwnedDFA;
 use std::alloc::{AllocError, Global};
@@ -38,4 +39,11 @@ pub(crate) fn kind(row: usize, matches: bool, accelerated: bool, starts: bool) -
         (false, false, true) => 6,
         (false, false, false) => 7,
     }
+}
+
+/// Whether there is an accelerated row, by the kinds of all rows.
+pub(crate) fn any_accelerated(kinds: &[u8]) -> bool
+    ensures { result ≡ list_any is_accel_kind kinds.now }
+{
+    kinds.iter().any(|kind| *kind >= 3 && *kind <= 5)
 }

@@ -195,10 +195,12 @@ fn leads_alone(alloc: Global, nfa: &NFA) -> Result<bool, AllocError> {
         return Ok(false);
     }
     stepper.begin(&key)?;
-    Ok(stepper.led_in() == Some(0)
-        && !stepper.has_own(a)
-        && stepper.has_own(b)
-        && !stepper.has_own(other))
+    Ok(
+        stepper.led_in() == Some(0)
+            && !stepper.has_own(a)
+            && stepper.has_own(b)
+            && !stepper.has_own(other),
+    )
 }
 
 #[test]

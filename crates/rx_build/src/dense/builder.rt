@@ -5,7 +5,7 @@ ghost use Rattle.rx_spec.specs.Builds.{Build};
 ghost use Rattle.rx_spec.specs.Causes.{BuildFits};
 ghost use Rattle.rx_spec.specs.Expressions.{IsLoopSafe};
 ghost use Rattle.rx_dense.specs.Layouts.{Layout};
-ghost use Rattle.rx_order.specs.RowOrder.{IsInOrder, IsPlain};
+ghost use Rattle.rx_order.specs.RowOrder.{AreJoined, IsInOrder, IsPlain};
 ghost use Rattle.rx_build_error.specs.Refusals.{IsRefused, TableRefused};
 ghost use Rattle.rx_expr.specs.Compiles.{wanted_nfa};
 ghost use Rattle.rx_expr.specs.Nfa.{meaning};
@@ -183,6 +183,7 @@ fn mark_starts(dfa: &mut OwnedDFA, yes: bool)
 fn find_needles(alloc: Global, dfa: &mut OwnedDFA, yes: bool) -> Result<(), AllocError>
     requires in_order { IsInOrder dfa.old }
     requires plain { IsPlain dfa.old }
+    requires joined { AreJoined dfa.old }
     ensures { (b : Build) (begun : Layout) (minimize mark : Bool) → IsMade b (marked_as minimize mark) begun dfa.old
         → OnOk result (IsMade b (record { minimize = minimize; mark_starts = mark; accelerate = yes }) begun dfa.new) }
 {

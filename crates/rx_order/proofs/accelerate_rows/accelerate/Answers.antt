@@ -1,12 +1,13 @@
-use Rattle.std.proofs.Common.{◌^◌, ◌-◌, ◌==◌, ◌∙◌, ℕ, Bool, not, List, map, slice_index, refl, ap, ap₂}
-use Rattle.std.specs.List.{range_with_len}
+use Rattle.std.proofs.Common.{◌^◌, ◌-◌, ◌==◌, ◌∙◌, ℕ, Bool, not, List, map, slice_index, refl, ap, ap₂, sym}
+use Rattle.std.specs.List.{list_any, range_with_len}
 use Rattle.rx_dense.specs.Builder.{pattern_lists}
 use Rattle.rx_dense.specs.Layouts.{Layout, stride, table_of}
 use Rattle.rx_dense.specs.declared.special.Special.{Special}
 use Rattle.rx_order.specs.ByKind.{leaving_of}
-use Rattle.rx_order.specs.RowOrder.{is_marked}
+use Rattle.rx_order.specs.RowOrder.{is_accel_kind, is_marked}
 use Rattle.rx_order.specs.SpecialIds.{special_ids}
 use Rattle.rx_order.proofs.Accelerating.{IsAccelerating, accelerating, accelerating_ends}
+use Rattle.rx_order.proofs.Unskipped.{stays}
 use Rattle.rx_order.proofs.accelerate_rows.accelerate.Goals as goal
 
 pub accels-requires : goal.accels-requires
@@ -14,7 +15,7 @@ accels-requires c = record {
   sorted = record {
     kinds = c.in_ok-kinds.kinds.items;
     kinds_are = c.in_ok-kinds.ensures.kinds;
-    by_kind = rw c.deref.ensures.value at c.in_ok-order.ensures;
+    by_kind = rw c.deref-2.ensures.value at c.in_ok-order.ensures;
     are_rows = c.in_ok-kinds.ensures.are_rows;
   };
 }
@@ -23,7 +24,7 @@ pub patterns-requires-clause-sorted : goal.patterns-requires-clause-sorted
 patterns-requires-clause-sorted c = record {
   kinds = c.in_ok-kinds.kinds.items;
   kinds_are = c.in_ok-kinds.ensures.kinds;
-  by_kind = rw c.deref.ensures.value at c.in_ok-order.ensures;
+  by_kind = rw c.deref-2.ensures.value at c.in_ok-order.ensures;
   are_rows = c.in_ok-kinds.ensures.are_rows;
 }
 
@@ -43,11 +44,11 @@ special-requires-2-clause-ids c =
       are_rows = kinds.are_rows;
       are_starts = kinds.are_starts;
       kinds_are = kinds.kinds;
-      by_kind = rw c.deref.ensures.value at c.in_ok-order.ensures;
+      by_kind = rw c.deref-2.ensures.value at c.in_ok-order.ensures;
       lists_are = c.in_ok-patterns.ensures;
       few = c.in-Ok.ensures.fits;
       next_is = c.in-Ok.ensures.ok;
-      reordered = rw c.deref-2.ensures.value at c.arrange.ensures;
+      reordered = rw c.deref-3.ensures.value at c.arrange.ensures;
       set = refl;
     } in
     rw (c.stride2.ensures.value ∙ ap (λ (k : Layout). k.stride2) c.set_accels.ensures) (accelerating_ends s)
@@ -65,11 +66,11 @@ returns-clause-ok c =
       are_rows = kinds.are_rows;
       are_starts = kinds.are_starts;
       kinds_are = kinds.kinds;
-      by_kind = rw c.deref.ensures.value at c.in_ok-order.ensures;
+      by_kind = rw c.deref-2.ensures.value at c.in_ok-order.ensures;
       lists_are = c.in_ok-patterns.ensures;
       few = c.in-Ok.ensures.fits;
       next_is = c.in-Ok.ensures.ok;
-      reordered = rw c.deref-2.ensures.value at c.arrange.ensures;
+      reordered = rw c.deref-3.ensures.value at c.arrange.ensures;
       set =
           c.set_special.ensures
           ∙ ap₂ (λ (k : Layout) (special : Special). record k { special = special })
@@ -81,3 +82,10 @@ returns-clause-ok c =
           (c.starts-marked.ensures ∙ ap (λ (special : Special). not (special.min_start == 0)) c.special.ensures));
     } in
     accelerating s
+
+-- no row gets needles
+pub returns-then-not-any_accelerated-clause-ok : goal.returns-then-not-any_accelerated-clause-ok
+returns-then-not-any_accelerated-clause-ok c =
+    let none = ap (λ (kinds : List ℕ). list_any is_accel_kind kinds) (sym c.deref.ensures.value)
+    ∙ sym c.any_accelerated.ensures ∙ c.if-not-any_accelerated.true in
+    stays c.requires.in_order c.requires.plain c.requires.joined c.in_ok-kinds.ensures.kinds none

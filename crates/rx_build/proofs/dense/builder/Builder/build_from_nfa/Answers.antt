@@ -14,6 +14,11 @@ mark_starts-requires-clause-in_order c = (c.in_ok-join_rows.ensures _ _ c.in_ok-
 pub mark_starts-requires-clause-plain : goal.mark_starts-requires-clause-plain
 mark_starts-requires-clause-plain c = (c.in_ok-join_rows.ensures _ _ c.in_ok-dfa.ensures.made).plain refl
 
+pub find_needles-requires-clause-joined : goal.find_needles-requires-clause-joined
+find_needles-requires-clause-joined c =
+    let made = c.in_ok-join_rows.ensures _ _ c.in_ok-dfa.ensures.made in
+    (c.mark_starts.ensures.made _ _ _ made).joined
+
 pub returns-clause-ok : goal.returns-clause-ok
 returns-clause-ok c =
     let s = settled (asked c.args.self.now.config) in
