@@ -5,6 +5,7 @@ pub mod StampedSearch
 -- the columns that rows read, and their groups
 pub mod ByteWords
 pub mod ReadColumns
+pub mod ListedColumns
 pub mod GroupLists
 pub mod TargetLists
 pub mod Results

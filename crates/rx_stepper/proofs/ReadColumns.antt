@@ -1,23 +1,23 @@
 -- The columns that rows read: each is named once, and more of them behind change no row's.
 use Rattle.std.proofs.Common.{◌≡◌, ℕ, zero, suc, ◌+◌, ◌<◌, ◌≤◌, ◌==◌, ◌⊎◌, inl, inr, ⊎_elim, Bool, true, false}
 use Rattle.std.proofs.Common.{List, []}
-use Rattle.std.proofs.Common.{◌∷◌, ◌++◌, Some, length, drop, refl, ap, ap₂, sym, ◌∙◌, arith, append-nil}
-use Rattle.std.proofs.Common.{append_assoc, length-append}
+use Rattle.std.proofs.Common.{◌∷◌, ◌++◌, Some, length, refl, ap, ap₂, sym, ◌∙◌, arith, append-nil}
+use Rattle.std.proofs.Common.{append_assoc, length-append, subst}
 use Rattle.std.proofs.Common.{map, get_or}
-use Rattle.std.specs.Prelude.{filter, slice_get, slice_index, slice_range, All}
+use Rattle.std.specs.Prelude.{filter, slice_get, slice_index, All}
 use Rattle.std.specs.List.{range_with_len}
 use Rattle.std.proofs.lemmas.Bool.{cases_lt, eq-eqb, ne_eqb}
-use Rattle.std.proofs.lemmas.List.{take-append-le, drop_at, get_or-map}
-use Rattle.std.proofs.lemmas.List.Elements.{filter-append, All-filter, All-nil}
+use Rattle.std.proofs.lemmas.List.{get_or-map}
+use Rattle.std.proofs.lemmas.List.Elements.{filter-append}
 use Rattle.std.proofs.lemmas.List.FromFn.{length-range_with_len, get_or-range_with_len}
-use Rattle.std.proofs.lemmas.Slice.{between_is, between_to_end}
 use Rattle.rx_spec.specs.Bytes.{contains}
 use Rattle.rx_spec.specs.Rows.{Row}
 use Rattle.rx_spec.specs.States.{row_at, target}
 use Rattle.rx_spec.specs.declared.Unit.{Unit}
 use Rattle.rx_base.specs.Unit.{unit_number}
 use Rattle.rx_lemmas.proofs.Every.{flat_map-append_of}
-use Rattle.rx_stepper.specs.Columns.{only_if, led_by, columns_of, next_of, Reads}
+use Rattle.rx_stepper.specs.Columns.{only_if, led_by, columns_of, next_of, AreSpans, Reads}
+use Rattle.rx_stepper.specs.ListedSets.{Grown, IsRowSpan}
 use Rattle.rx_stepper.specs.declared.column_span.ColumnSpan.{ColumnSpan}
 
 -- ---- one row
@@ -114,32 +114,12 @@ pub unit_there : (units : List Unit) (column : ℕ) (d : Unit) → column < leng
     → slice_index (map unit_number units) column ≡ unit_number (get_or units column d)
 unit_there units column d h = get_or-map unit_number units column d 0 h
 
-range_few : (n : ℕ) → All (λ c. c < n) (range_with_len 0 n)
+pub range_few : (n : ℕ) → All (λ c. c < n) (range_with_len 0 n)
 range_few n k d h =
     let l = length-range_with_len 0 n in
     omega (arith, get_or-range_with_len 0 n k d (omega arith))
 
-pub columns_few : (row : Row) (units : List ℕ) → All (λ c. c < length units) (columns_of row units)
-columns_few (Row.Bytes set next) units =
-    All-filter (λ c. contains set (slice_index units c)) (λ c. c < length units) (range_with_len 0 (length units))
-    (range_few (length units))
-columns_few (Row.Split first second) units = All-nil (λ c. c < length units)
-columns_few (Row.Look look next) units = All-nil (λ c. c < length units)
-columns_few (Row.Match pattern) units = All-nil (λ c. c < length units)
-columns_few Row.Fail units = All-nil (λ c. c < length units)
-
 -- ---- all rows
-
-range-more : (xs more : List ℕ) (start stop : ℕ) → stop ≤ length xs
-    → slice_range (xs ++ more) start stop ≡ slice_range xs start stop
-range-more xs more start stop within =
-    between_is (xs ++ more) start stop ∙ ap (drop start) (take-append-le stop xs more within)
-    ∙ sym (between_is xs start stop)
-
-range-added : (xs more : List ℕ) (start stop : ℕ) → start ≡ length xs → stop ≡ length (xs ++ more)
-    → slice_range (xs ++ more) start stop ≡ more
-range-added xs more start stop begins ends =
-    between_to_end (xs ++ more) start stop (omega arith) ∙ drop_at xs more start (sym begins)
 
 get-push : {X : Type 0} (xs : List X) (y : X) (k : ℕ) (x : X) → slice_get (xs ++ y ∷ []) k ≡ Some x
     → (slice_get xs k ≡ Some x) ⊎ ((k ≡ length xs) × (x ≡ y))
@@ -153,49 +133,49 @@ get-push (z ∷ xs) y (suc k) x there =
 pub record ReadsBelow (rows : List Row) (units : List ℕ) (i : ℕ) (columns : List ℕ)
     (spans : List ColumnSpan) : Type 0 where
   pub len : length spans ≡ i
-  pub within : (q : ℕ) (s : ColumnSpan) → slice_get spans q ≡ Some s → (s.start ≤ s.stop) × (s.stop ≤ length columns)
-  pub reads : (q : ℕ) (s : ColumnSpan) → slice_get spans q ≡ Some s → (column : ℕ) → column < length units
-      → led_by s.next (slice_range columns s.start s.stop) column ≡ target (slice_index units column) (row_at rows q)
+  pub each : (q : ℕ) (s : ColumnSpan) → slice_get spans q ≡ Some s → IsRowSpan units columns (row_at rows q) s
 
-module _ {rows : List Row} {units : List ℕ} {i : ℕ} {columns : List ℕ} {spans : List ColumnSpan}
-    (before : ReadsBelow rows units i columns spans) (row : Row) (s : ColumnSpan) (here : row_at rows i ≡ row)
-    (begins : s.start ≡ length columns) (ends : s.stop ≡ length (columns ++ columns_of row units))
-    (leads : s.next ≡ next_of row) where
-  pub reads_more : ReadsBelow rows units (i + 1) (columns ++ columns_of row units) (spans ++ s ∷ [])
-  reads_more = record {
-    len = omega (arith, length-append spans (s ∷ []), before.len);
-    within = λ q t there. elim (get-push spans s q t there) [
-      | inl old ↦ let k = before.within q t old in (
-        k.0,
-        omega (
-          arith,
-          k.1,
-          length-append columns
-              (columns_of row units),
-        ),
-      )
-      | inr end ↦ rw (end.1) (
-        omega (arith, begins, ends, length-append columns (columns_of row units)),
-        omega
-            (arith, ends),
-      )
-    ];
-    reads = λ q t there column h. elim (get-push spans s q t there) [
-      | inl old ↦
-          let k = before.within q t old in
-          ap (λ l. led_by t.next l column) (range-more columns (columns_of row units) t.start t.stop k.1)
-          ∙ before.reads q t old column h
-      | inr end ↦
-          let range = range-added columns (columns_of row units) s.start s.stop begins ends in
-          let place : q ≡ i = end.0 ∙ before.len in
-          ap (λ (u : ColumnSpan). led_by u.next (slice_range
-          (columns ++ columns_of row units) u.start u.stop) column) end.1
-          ∙ ap₂ (λ n l. led_by n l column) leads range
-          ∙ led_of row units column h
-          ∙ ap (target (slice_index units column)) (sym (ap (row_at rows) place ∙ here))
-    ];
-  }
+-- no row yet, then one more
+pub reads_none : {rows : List Row} {units columns : List ℕ} {spans : List ColumnSpan} → spans ≡ []
+    → ReadsBelow rows units 0 columns spans
+reads_none {rows} {units} {columns} none = rw none (record { len = refl; each = λ q s there. absurd cc })
+
+span_grown : {count : ℕ} {units before after : List ℕ} {row : Row} {s : ColumnSpan} → Grown count before after
+    → IsRowSpan units before row s → IsRowSpan units after row s
+span_grown {s = s} grown is = record {
+  order = is.order;
+  within = omega (arith, is.within, grown.longer);
+  holds = grown.same s.start s.stop is.within ∙ is.holds;
+  leads = is.leads;
+}
+
+pub reads_more : {rows : List Row} {units : List ℕ} {i count : ℕ} {before after : List ℕ} {spans more : List ColumnSpan}
+    {row : Row} {s : ColumnSpan} → ReadsBelow rows units i before spans → Grown count before after
+    → row_at rows i ≡ row → IsRowSpan units after row s → more ≡ spans ++ s ∷ []
+    → ReadsBelow rows units (i + 1) after more
+reads_more {rows} {units} {i} {count} {before} {after} {spans} {more} {row} {s} below grown here is e = rw e (record {
+  len = omega (arith, length-append spans (s ∷ []), below.len);
+  each = λ q t there. elim (get-push spans s q t there) [
+    | inl old ↦ span_grown grown (below.each q t old)
+    | inr end ↦
+        let place : q ≡ i = end.0 ∙ below.len in
+        subst (λ u. IsRowSpan units after (row_at rows q) u) (sym end.1)
+        (subst (λ r. IsRowSpan units after r s) (sym (ap (row_at rows) place ∙ here)) is)
+  ];
+})
 
 pub reads_all : {rows : List Row} {units columns : List ℕ} {i : ℕ} {spans : List ColumnSpan}
     → ReadsBelow rows units i columns spans → i ≡ length rows → Reads rows units columns spans
-reads_all below all = record { len = below.len ∙ all; reads = below.reads }
+reads_all {rows} {units} {columns} below all = record {
+  len = below.len ∙ all;
+  reads = λ q s there column h.
+      let is = below.each q s there in
+      ap₂ (λ n l. led_by n l column) is.leads is.holds ∙ led_of (row_at rows q) units column h;
+}
+
+pub are_spans : {rows : List Row} {units columns : List ℕ} {i count : ℕ} {spans : List ColumnSpan}
+    → ReadsBelow rows units i columns spans → All (λ column. column < count) columns → AreSpans count columns spans
+are_spans below few = record {
+  within = λ q s there. let is = below.each q s there in (is.order, is.within);
+  few = few;
+}

@@ -18,10 +18,13 @@ only_if holds xs = if holds then xs else []
 abbrev pub led_by : ℕ → List ℕ → ℕ → List ℕ
 led_by next columns column = flat_map (λ c. only_if (column == c) (next ∷ [])) columns
 
+-- the columns whose units are in a set
+abbrev pub read_by : ℕ → List ℕ → List ℕ
+read_by set units = filter (λ column. contains set (slice_index units column)) (range_with_len 0 (length units))
+
 -- the columns whose units a row reads, and where it leads
 abbrev pub columns_of : Row → List ℕ → List ℕ
-columns_of (Row.Bytes set next) units =
-    filter (λ column. contains set (slice_index units column)) (range_with_len 0 (length units))
+columns_of (Row.Bytes set next) units = read_by set units
 columns_of _ units = []
 
 abbrev pub next_of : Row → ℕ

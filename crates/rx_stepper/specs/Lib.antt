@@ -14,6 +14,7 @@ pub mod Searches
 pub mod Units
 pub mod ByteWords
 pub mod Columns
+pub mod ListedSets
 pub mod Steps
 pub mod Gathering
 -- how the parts of a stepper fit

@@ -18,6 +18,7 @@ mod groups;
 mod keys;
 mod lead_in;
 mod lead_steps;
+mod listed_sets;
 mod matches;
 mod reading;
 mod stamps;

@@ -6,14 +6,15 @@ ghost use Rattle.std.specs.List.{range_with_len};
 ghost use Rattle.rx_spec.specs.Bytes.{contains};
 ghost use Rattle.rx_spec.specs.Rows.{Row as NfaRow};
 ghost use Rattle.rx_spec.specs.States.{row_at, target};
-ghost use Rattle.rx_stepper.specs.Columns.{AreSpans};
+ghost use Rattle.rx_stepper.specs.Columns.{AreSpans, read_by};
 ghost use Rattle.rx_base.specs.Unit.{unit_number};
 ghost use Rattle.rx_expr.specs.Nfa.{meaning, row_of};
 ghost use Rattle.rx_stepper.specs.ByteWords.{set_of_words};
-ghost use Rattle.rx_stepper.specs.Columns.{columns_of, next_of};
+ghost use Rattle.rx_stepper.specs.ListedSets.{AreListed, Grown, IsListed, IsRowSpan};
 
 use crate::byte_words::ByteWords;
 use crate::column_span::ColumnSpan;
+use crate::listed_sets::ListedSets;
 use rx_base::{ByteSet, StateID, Unit};
 use rx_expr::thompson::{NFA, Row};
 use std::alloc::{AllocError, Global};
@@ -41,15 +42,10 @@ impl Reading {
     {
         let rows = nfa.rows();
         let mut columns = Vec::new(alloc);
+        let mut listed = ListedSets::new(alloc)?;
         let mut spans = Vec::with_capacity(alloc, rows.len())?;
         for row in rows {
-            let start = columns.len();
-            let next = push_row(row, units, &mut columns)?;
-            spans.push(ColumnSpan {
-                start,
-                stop: columns.len(),
-                next,
-            })?;
+            spans.push(span_of_row(row, units, &mut columns, &mut listed)?)?;
         }
         Ok(Reading {
             columns,
@@ -73,28 +69,61 @@ impl Reading {
     }
 }
 
-/// Adds the columns that a row reads, and tells where it leads.
-fn push_row(row: &Row, units: &[Unit], columns: &mut Vec<u16>) -> Result<StateID, AllocError>
-    requires { length units.now < 65536 }
-    ensures columns { let numbers = map unit_number units.now in
-        OnOk result (columns.new.items ≡ columns.old.items ++ columns_of (row_of row.now) numbers) }
-    ensures next { IfOk result (λ next. next ≡ next_of (row_of row.now)) }
+/// Where the columns that a row reads stand, and where it leads.
+fn span_of_row(
+    row: &Row,
+    units: &[Unit],
+    columns: &mut Vec<u16>,
+    listed: &mut ListedSets,
+) -> Result<ColumnSpan, AllocError>
+    requires units { length units.now < 65536 }
+    requires listed { AreListed (map unit_number units.now) columns.now.items listed.now.sets.items }
+    ensures columns { OnOk result (Grown (length units.now) columns.old.items columns.new.items) }
+    ensures listed { OnOk result (AreListed (map unit_number units.now) columns.new.items listed.new.sets.items) }
+    ensures span { IfOk result (λ span.
+        IsRowSpan (map unit_number units.now) columns.new.items (row_of row.now) span) }
 {
     match *row {
         Row::Bytes { set, next } => {
-            push_columns(&set, units, columns)?;
-            Ok(next)
+            let (start, stop) = span_of_set(&set, units, columns, listed)?;
+            Ok(ColumnSpan { start, stop, next })
         }
-        _ => Ok(StateID::ZERO),
+        _ => Ok(ColumnSpan {
+            start: 0,
+            stop: 0,
+            next: StateID::ZERO,
+        }),
     }
+}
+
+/// Where the columns of a set stand: where they were listed before, or else behind all others.
+fn span_of_set(
+    set: &ByteSet,
+    units: &[Unit],
+    columns: &mut Vec<u16>,
+    listed: &mut ListedSets,
+) -> Result<(usize, usize), AllocError>
+    requires units { length units.now < 65536 }
+    requires listed { AreListed (map unit_number units.now) columns.now.items listed.now.sets.items }
+    ensures columns { OnOk result (Grown (length units.now) columns.old.items columns.new.items) }
+    ensures listed { OnOk result (AreListed (map unit_number units.now) columns.new.items listed.new.sets.items) }
+    ensures span { IfOk result (λ span.
+        IsListed (map unit_number units.now) columns.new.items set.now span.0 span.1) }
+{
+    if let Some(span) = listed.get(set) {
+        return Ok(span);
+    }
+    let start = columns.len();
+    push_columns(set, units, columns)?;
+    let stop = columns.len();
+    listed.keep(set, start, stop);
+    Ok((start, stop))
 }
 
 /// Adds the columns whose units are in a set.
 fn push_columns(set: &ByteSet, units: &[Unit], columns: &mut Vec<u16>) -> Result<(), AllocError>
     requires { length units.now < 65536 }
-    ensures { let numbers = map unit_number units.now in
-        let read = λ (column : ℕ). contains set.now (slice_index numbers column) in
-        OnOk result (columns.new.items ≡ columns.old.items ++ filter read (range_with_len 0 (length units.now))) }
+    ensures { OnOk result (columns.new.items ≡ columns.old.items ++ read_by set.now (map unit_number units.now)) }
 {
     let words = ByteWords::new(set);
     for (column, unit) in units.iter().enumerate() {

@@ -1,35 +1,42 @@
-use Rattle.std.proofs.Common.{◌≡◌, ◌+◌, ◌<◌, ◌++◌, ℕ, List, length, map, ap, sym, ◌∙◌, arith, rules, subst}
-use Rattle.std.proofs.lemmas.List.{length-map}
-use Rattle.std.proofs.lemmas.List.Elements.{All-append}
+use Rattle.std.proofs.Common.{◌<◌, length, map, arith, sym, ap, subst}
 use Rattle.std.specs.Prelude.{All}
+use Rattle.std.proofs.lemmas.List.{length-map}
+use Rattle.std.proofs.lemmas.List.Elements.{All-nil}
 use Rattle.rx_base.specs.Unit.{unit_number}
-use Rattle.rx_expr.specs.Nfa.{meaning, row_of}
-use Rattle.rx_stepper.specs.Columns.{columns_of}
-use Rattle.rx_stepper.proofs.ReadColumns.{ReadsBelow, reads_more, columns_few}
+use Rattle.rx_expr.specs.Nfa.{row_of}
+use Rattle.rx_stepper.specs.ListedSets.{AreListed}
+use Rattle.rx_stepper.proofs.ReadColumns.{reads_none, reads_more, reads_all, are_spans}
 use Rattle.rx_stepper.proofs.ThinLists.{row_there}
 use Rattle.rx_stepper.proofs.reading.Reading.new.Goals as goal
 
+pub loop-row-init : goal.loop-row-init
+loop-row-init c =
+    let units = map unit_number c.args.units.now in
+    let none = sym c.new-columns.ensures.items in
+    let sets = c.in_ok-listed.listed.sets.items in
+    record {
+      reads = reads_none c.in_ok-spans.ensures.items;
+      few = subst (All (λ column. column < length c.args.units.now)) none (All-nil
+          (λ column. column < length c.args.units.now));
+      listed = subst (λ columns. AreListed units columns sets) none (c.in_ok-listed.ensures units);
+    }
+
 pub loop-row-preserved : goal.loop-row-preserved
 loop-row-preserved c =
-    let i = c.loop-row.row-index in
-    let units = map unit_number c.args.units.now in
-    let row = row_there c.rows-rows.result.now i c.row-item.result (omega arith) c.row-item.is c.rows-rows.ensures in
-    let added = c.in_ok-next.ensures.columns in
-    let spans = c.in_ok-push.ensures.items in
-    let starts : c.len-start.result ≡ length c.loop-row.columns.items = search rules in
-    let stops : c.len.result ≡ length c.push_row.new.columns.items = search rules in
-    let more =
-    reads_more c.loop-row.invariant.reads (row_of c.row-item.result)
-    (record { start = c.len-start.result; stop = c.len.result; next = c.in_ok-next.next }) row starts
-    (stops ∙ ap length added) c.in_ok-next.ensures.next in
-    let Below = λ (columns : List ℕ). ReadsBelow (meaning c.args.nfa.now).rows units (i + 1) columns in
-    let Few = All (λ column. column < length c.args.units.now) in
-    let grown = c.loop-row.columns.items ++ columns_of (row_of c.row-item.result) units in
-    let few =
-    subst (λ n. All (λ column. column < n) (columns_of (row_of c.row-item.result) units))
-    (length-map c.args.units.now unit_number) (columns_few (row_of c.row-item.result) units) in
+    let row = c.row-item.result in
+    let rows = c.rows-rows.result.now in
+    let at = row_there rows c.loop-row.row-index row (omega arith) c.row-item.is c.rows-rows.ensures in
+    let grown = c.in_ok-span_of_row.ensures.columns in
+    let span = c.in_ok-span_of_row.ensures.span in
     record {
-      reads = subst (λ l. Below l c.push.new.self.items) (sym added) (subst (Below grown) (sym spans) more);
-      few = subst Few (sym added) (All-append
-          (λ column. column < length c.args.units.now) c.loop-row.columns.items _ c.loop-row.invariant.few few);
+      reads = reads_more c.loop-row.invariant.reads grown at span c.in_ok-push.ensures.items;
+      few = grown.few c.loop-row.invariant.few;
+      listed = c.in_ok-span_of_row.ensures.listed;
     }
+
+pub invariant_of-result : goal.invariant_of-result
+invariant_of-result c = record { are_spans = are_spans c.loop-row.invariant.reads c.loop-row.invariant.few }
+
+pub returns-clause-reads : goal.returns-clause-reads
+returns-clause-reads c = reads_all c.loop-row.invariant.reads (omega
+    (arith, ap length c.rows-rows.ensures, length-map c.rows-rows.result.now row_of))

@@ -2,6 +2,7 @@ use Rattle.std.proofs.Common.{◌<◌, length, map}
 use Rattle.std.specs.Prelude.{All}
 use Rattle.rx_base.specs.Unit.{unit_number}
 use Rattle.rx_expr.specs.Nfa.{meaning}
+use Rattle.rx_stepper.specs.ListedSets.{AreListed}
 use Rattle.rx_stepper.proofs.ReadColumns.{ReadsBelow}
 use Rattle.rx_stepper.proofs.reading.Reading.new.Given as goal
 
@@ -9,4 +10,5 @@ abbrev pub invariant-loop-row : goal.invariant-loop-row
 invariant-loop-row l = record {
   reads : ReadsBelow (meaning l.nfa).rows (map unit_number l.units) l.row-index l.columns.items l.spans.items;
   few : All (λ column. column < length l.units) l.columns.items;
+  listed : AreListed (map unit_number l.units) l.columns.items l.listed.sets.items;
 }
