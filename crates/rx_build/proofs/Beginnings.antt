@@ -1,11 +1,10 @@
 -- A table that was begun for an NFA is one that may be determinized, and what that says of causes is said of the build.
-use Rattle.std.proofs.Common.{◌≡◌, ℕ, Bool, true, false, is_some, if◌then◌else◌, Option, Some, None, length, inl, inr}
+use Rattle.std.proofs.Common.{◌≡◌, ℕ, Bool, true, false, is_some, if◌then◌else◌, Some, None, length, inl}
 use Rattle.std.proofs.Common.{refl, sym, ap, ap₂, subst, ◌∙◌, ⊎_elim}
-use Rattle.std.specs.Prelude.{◌⊎◌}
 use Rattle.rx_spec.specs.Builds.{Build}
 use Rattle.rx_spec.specs.Causes.{BuildCause, BuildFits, HasTooLongRows, HasTooManyStates}
 use Rattle.rx_spec.specs.Classes.{quit_set}
-use Rattle.rx_spec.specs.Nfas.{Nfa, is_always_start_anchored}
+use Rattle.rx_spec.specs.Nfas.{Nfa}
 use Rattle.rx_spec.specs.Plans.{Cause}
 use Rattle.rx_spec.specs.declared.Form.{Form}
 use Rattle.rx_dense.specs.Builder.{initial}

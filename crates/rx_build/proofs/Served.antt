@@ -1,5 +1,5 @@
 -- A built table serves its build.
-use Rattle.std.proofs.Common.{◌≡◌, ℕ, ◌<◌, get_or, ap, ◌∙◌, zero-add}
+use Rattle.std.proofs.Common.{get_or, ap, ◌∙◌, zero-add}
 use Rattle.std.proofs.lemmas.List.FromFn.{get_or-map-range_with_len}
 use Rattle.rx_spec.specs.Bytes.{contains}
 use Rattle.rx_spec.specs.Contexts.{start_of_byte}

@@ -1,16 +1,15 @@
 -- What each step of a build keeps of a table, and adds to it.
-use Rattle.std.proofs.Common.{◌≡◌, ◌≢◌, ℕ, ◌+◌, ◌*◌, ◌/◌, ◌<◌, ◌≤◌, ◌&&◌, Bool, true, false, Some, None, Option, List}
-use Rattle.std.proofs.Common.{length, slice_index, if◌then◌else◌, refl, sym, ap, ◌∙◌, ⊎_elim, inl, inr, arith}
+use Rattle.std.proofs.Common.{◌≡◌, ℕ, ◌<◌, ◌&&◌, Bool, true, false, Some, None, List}
+use Rattle.std.proofs.Common.{if◌then◌else◌, refl, sym, ap, ◌∙◌, inl, inr, arith}
 use Rattle.std.proofs.lemmas.Bool.{false≢true, true≢false}
 use Rattle.std.specs.Prelude.{◌⊎◌}
 use Rattle.rx_spec.specs.Builds.{Build, built_modes}
 use Rattle.rx_spec.specs.Nfas.{Nfa}
-use Rattle.rx_spec.specs.Power.{IsPower}
 use Rattle.rx_dense.specs.Builder.{HasUniversalStarts, with_universal_starts}
 use Rattle.rx_dense.specs.Layouts.{Layout, row_count, table_of}
 use Rattle.rx_spec.specs.Queries.{Anchored}
 use Rattle.rx_spec.specs.declared.Start.{Start}
-use Rattle.rx_order.specs.RowOrder.{AreJoined, IsInOrder, IsPlain, is_marked, is_start_row, is_skippable}
+use Rattle.rx_order.specs.RowOrder.{IsInOrder, is_marked, is_start_row}
 use Rattle.rx_order.specs.Ordering.{IsAccelerated}
 use Rattle.rx_remap.proofs.Places.{row_at_place}
 use Rattle.rx_determinize.specs.Determinized.{IsDeterminized}
@@ -18,7 +17,7 @@ use Rattle.rx_minimize.specs.Minimized.{AreReachedRows, IsMinimized}
 use Rattle.rx_meaning.proofs.PowerTables.{power_gives, power_is_reached}
 use Rattle.rx_meaning.proofs.Reduced.{reduced_is_least}
 use Rattle.rx_build.specs.Built.{AreApart, IsBuilt, begun, build_of}
-use Rattle.rx_build.specs.Making.{IsMade, Steps, determinized, marked_as, minimized}
+use Rattle.rx_build.specs.Making.{IsMade, determinized, marked_as, minimized}
 use Rattle.rx_build.specs.Settings.{Settled}
 use Rattle.rx_build.proofs.PermutedTables.{IsMoved, moved_apart, moved_gives, moved_machine, moved_reached}
 use Rattle.rx_build.proofs.StartMarks.{none_accelerated, none_counted, range_kept, unmarked, unmarked_order}

@@ -1,5 +1,5 @@
 -- What is built by some settings, of an NFA or of expressions, and why it isn't.
-use Rattle.std.specs.Prelude.{ℕ, ◌≡◌, ◌≢◌, ◌<◌, ◌&&◌, Bool, true, false, List, length}
+use Rattle.std.specs.Prelude.{ℕ, ◌≡◌, ◌≢◌, ◌<◌, ◌&&◌, true, false, List, length}
 use Rattle.rx_spec.specs.Builds.{Build, built_modes}
 use Rattle.rx_spec.specs.Causes.{Limits, BuildFits, BuildRefused, NfaRefused}
 use Rattle.rx_spec.specs.Classes.{quit_set}

@@ -1,13 +1,13 @@
 -- Accelerated tables: a table in order, with the rows from which a search may skip put beside each other.
 use Rattle.std.proofs.Common.{◌≡◌, ℕ, ◌+◌, ◌-◌, ◌*◌, ◌/◌, ◌<◌, ◌≤◌, ◌==◌, ◌&&◌, not, nat_lt, nat_le, Bool}
-use Rattle.std.proofs.Common.{true, false, if◌then◌else◌, List, [], ◌∷◌, length, map, filter, slice_index, get_or}
+use Rattle.std.proofs.Common.{true, false, if◌then◌else◌, List, [], length, map, slice_index, get_or}
 use Rattle.std.proofs.Common.{refl, ap, ap₂, sym, ◌∙◌, subst, ⊎_elim, arith}
 use Rattle.std.specs.List.{concat, list_any, range_with_len}
 use Rattle.std.specs.List.Sorted.{IsPermutation}
 use Rattle.std.proofs.Math.Bool.{and-false}
 use Rattle.std.proofs.lemmas.Bool.{and_parts, cases_eq, cases_lt, eq-eqb, false≢true, le-ltb, leb-true, lt-ltb}
 use Rattle.std.proofs.lemmas.Bool.{ltb-true, ne_eqb}
-use Rattle.std.proofs.lemmas.List.FromFn.{get_or-map-range_with_len, length-map-range_with_len, length-range_with_len}
+use Rattle.std.proofs.lemmas.List.FromFn.{get_or-map-range_with_len, length-map-range_with_len}
 use Rattle.rx_table_lemmas.proofs.Filters.{every_in_range, filter_alike}
 use Rattle.rx_spec.specs.Causes.{max_id}
 use Rattle.rx_spec.specs.Machines.{Label}
@@ -29,7 +29,7 @@ use Rattle.rx_order.proofs.MatchRows.{HasPatterns, joined, label_of_number, list
 use Rattle.rx_order.proofs.MatchRows.{plain_label}
 use Rattle.rx_order.proofs.Ordered.{IsArranged, Sorting, accel_id, accel_is, behind_end, end, end_high}
 use Rattle.rx_order.proofs.Ordered.{ends_few, ends_quit, kind_at, low_kind, low_row, number, ordered, permuted, row_at}
-use Rattle.rx_order.proofs.KindNumbers.{high_matches, over, at_most}
+use Rattle.rx_order.proofs.KindNumbers.{high_matches, at_most}
 use Rattle.rx_order.proofs.Ordered.{from_end, high_kind_is, size_same, some, special_is}
 use Rattle.rx_order.proofs.Ordered.{stride_same, to_end}
 use Rattle.rx_order.proofs.Reordered.{IsBefore, next_below, number_below, number_of_place, numbers, row_at_number}

@@ -1,5 +1,5 @@
 -- A table no row of which gets needles stays as it is.
-use Rattle.std.proofs.Common.{◌≡◌, ℕ, zero, suc, ◌+◌, ◌*◌, ◌<◌, ◌≤◌, ◌==◌, ◌&&◌, ◌||◌, not, nat_lt, nat_le, Bool}
+use Rattle.std.proofs.Common.{◌≡◌, ℕ, zero, suc, ◌+◌, ◌*◌, ◌<◌, ◌≤◌, ◌==◌, ◌&&◌, not, nat_lt, nat_le, Bool}
 use Rattle.std.proofs.Common.{true, false, List, [], ◌∷◌, length, filter, slice_index, refl, ap, ap₂, sym, ◌∙◌, ⊎_elim}
 use Rattle.std.proofs.Common.{arith, if◌then◌else◌}
 use Rattle.std.proofs.Math.Bool.{and-false}

@@ -1,4 +1,4 @@
-use Rattle.std.proofs.Common.{◌≡◌, ℕ, ◌==◌, ◌||◌, Bool, true, false, if◌then◌else◌, refl, sym, ap, ◌∙◌}
+use Rattle.std.proofs.Common.{◌≡◌, ◌==◌, ◌||◌, Bool, true, false, if◌then◌else◌, refl, sym, ap, ◌∙◌}
 use Rattle.rx_spec.specs.Bytes.{contains}
 use Rattle.rx_base.proofs.ByteSets.{contains-add}
 use Rattle.rx_build.proofs.dense.config.with_byte.Goals as goal

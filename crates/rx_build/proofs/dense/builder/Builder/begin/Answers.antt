@@ -4,8 +4,6 @@ use Rattle.rx_dense.specs.Builder.{initial}
 use Rattle.rx_dense.specs.Layouts.{Layout}
 use Rattle.rx_determinize.specs.Determinized.{classes_of}
 use Rattle.rx_expr.specs.Nfa.{meaning}
-use Rattle.rx_build.specs.Built.{begun}
-use Rattle.rx_build.specs.Settings.{asked, settled}
 use Rattle.rx_build.proofs.dense.builder.Builder.begin.Goals as goal
 
 pub returns : goal.returns
