@@ -1,7 +1,7 @@
 -- Closures that are written behind the lead-in, or without it.
-use Rattle.std.proofs.Common.{◌≡◌, ℕ, zero, suc, ◌<◌, ◌≤◌, ◌==◌, ◌&&◌, not, Bool, true, false, if◌then◌else◌, List, []}
+use Rattle.std.proofs.Common.{◌≡◌, ℕ, zero, suc, ◌<◌, ◌≤◌, Bool, true, false, if◌then◌else◌, List, []}
 use Rattle.std.proofs.Common.{◌∷◌, ◌++◌, length, take, refl, ap, sym, ◌∙◌, subst, arith, ⊎_elim}
-use Rattle.std.proofs.lemmas.Bool.{and_parts, cases_lt, eq-eqb, eqb-true}
+use Rattle.std.proofs.lemmas.Bool.{cases_lt}
 use Rattle.std.proofs.lemmas.Option.{slice_get_past}
 use Rattle.std.proofs.lemmas.List.Elements.{recursion_from_All}
 use Rattle.std.specs.Prelude.{All, unwrap_or}
@@ -116,19 +116,6 @@ every_take P (x ∷ xs) (suc n) h = (h.0, every_take P xs n h.1)
 pub record Starts (lead : List ℕ) (row start : ℕ) : Type 0 where
   pub same : row ≡ start
   pub some : 0 < length lead
-
-pub starts : {row start : ℕ} {lead : List ℕ} {b : Bool} → b ≡ ((row == start) && not (length lead == 0)) → b ≡ true
-    → Starts lead row start
-starts {row} {start} {lead} e t =
-    let parts = and_parts (row == start) (not (length lead == 0)) (sym e ∙ t) in
-    record {
-      same = eqb-true row start parts.0;
-      some = above_zero (length lead) parts.1;
-    }
-  where
-    above_zero : (n : ℕ) → not (n == 0) ≡ true → 0 < n
-    above_zero zero h = absurd (let z : (zero == 0) ≡ true = eq-eqb zero 0 refl in cc)
-    above_zero (suc n) h = omega arith
 
 start_reaches : (nfa : Nfa) → 0 < length (lead_of nfa)
     → closed_rows nfa.rows Standing (nfa.start_unanchored ∷ []) ≡ lead_of nfa

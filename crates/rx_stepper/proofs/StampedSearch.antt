@@ -13,9 +13,9 @@ use Rattle.rx_spec.specs.Causes.{id_count}
 use Rattle.rx_spec.specs.Rows.{Row}
 use Rattle.rx_spec.specs.Shallow.{IsShallow}
 use Rattle.rx_spec.specs.States.{Passing, row_at, closure, fresh}
-use Rattle.rx_lemmas.proofs.Every.{every-append}
+use Rattle.rx_lemmas.proofs.Every.{every-append, flat_map-append_of}
 use Rattle.rx_lemmas.proofs.Firsts.{by_test, fresh_alike, fresh_append, fresh_keeps, fresh_within, seen_if, seen_true}
-use Rattle.rx_powerset.specs.Closures.{own_by, branches_by}
+use Rattle.rx_powerset.specs.Closures.{own_by, branches_by, closed_rows}
 use Rattle.rx_powerset.proofs.Closures.{graph_of, closure_unfolds}
 use Rattle.rx_powerset.proofs.Search.{Graph, In, Listed, Notes, Searching, in_cases, in_nil}
 use Rattle.rx_powerset.proofs.Search.{search_passes, search_turns, search_ends}
@@ -332,6 +332,17 @@ module _ (rows : List Row) (pass : Passing) (found : List ℕ) {target : List �
   all_given h s =
       sym (ap (λ l. found ++ l) (fresh_nil found) ∙ append-nil found)
       ∙ subst (λ l. Leaves rows pass found l target) (drop_of_length-le from h) s
+
+-- what two lists add, one after the other, is what both reach
+pub both_given : (rows : List Row) (pass : Passing) {out more found : List ℕ} (xs ys : List ℕ) → out ≡ []
+    → more ≡ out ++ fresh out (flat_map (closure rows pass) xs)
+    → found ≡ more ++ fresh more (flat_map (closure rows pass) ys) → found ≡ closed_rows rows pass (xs ++ ys)
+both_given rows pass {out} {more} xs ys none first second =
+    let given = flat_map (closure rows pass) in
+    second
+    ∙ ap (λ l. l ++ fresh l (given ys)) (first ∙ ap (λ l. l ++ fresh l (given xs)) none)
+    ∙ sym (fresh_parts [] (given xs) (given ys))
+    ∙ ap (fresh []) (sym (flat_map-append_of (closure rows pass) xs ys))
 
 -- and the rows that are met and reach themselves alone are those that are listed
 pub all_met : {rows : List Row} {pass : Passing} {stamps found : List ℕ} {now : ℕ}

@@ -2,7 +2,7 @@
 
 ghost use Rattle.std.specs.Prelude.{◌≡◌, ℕ, ◌+◌, ◌<◌, ◌≤◌, ◌==◌, ◌++◌, ◌∷◌, [], true, false, length, reverse, IfOk};
 ghost use Rattle.std.specs.Prelude.{vec_capacity};
-ghost use Rattle.std.specs.List.{list_any, AllByRecursion as Every};
+ghost use Rattle.std.specs.List.{flat_map, list_any, AllByRecursion as Every};
 ghost use Rattle.rx_spec.specs.Causes.{id_count};
 ghost use Rattle.rx_spec.specs.Contexts.{holds_read};
 ghost use Rattle.rx_spec.specs.States.{closure, fresh, row_at, is_look_row};
@@ -12,6 +12,7 @@ ghost use Rattle.rx_stepper.specs.Searches.{IsSearched, ReachesItself};
 ghost use Rattle.rx_stepper.specs.Stamps.{is_met};
 ghost use Rattle.rx_stepper.specs.ThinRows.{row_of_thin, thin_at, AreThin, passing_of};
 
+use crate::joined::Joined;
 use crate::stamps::Stamps;
 use crate::thin_row::{ThinRow, thin_rows};
 use rx_base::{Direction, Facts, Look, StateID};
@@ -91,9 +92,57 @@ impl<'n> Closures<'n> {
             → is_met self.new.stamps.stamps.items self.new.stamps.now q
             ≡ list_any (λ x. q == x) found.new.items }
     {
+        let from = Joined {
+            first: from,
+            second: &[],
+        };
+        self.list_joined(from, passing, found);
+    }
+
+    /// Lists the rows that are reached from two lists of rows, one behind the other, as `list` does from one.
+    pub(crate) fn list_joined(
+        &mut self,
+        from: Joined<'_>,
+        passing: &Passing,
+        found: &mut Vec<StateID>,
+    )
+        requires { length (meaning self.old.nfa.now).rows ≤ vec_capacity found.old }
+        ensures nfa { self.new.nfa.now ≡ self.old.nfa.now }
+        ensures room { vec_capacity found.old ≤ vec_capacity found.new }
+        ensures rows { let rows = (meaning self.old.nfa.now).rows in
+            let both = from.entry.first.now ++ from.entry.second.now in
+            found.new.items ≡ closed_rows rows (passing_of passing.now) both }
+        ensures few { length found.new.items ≤ id_count }
+        ensures ids { Every (λ q. q < id_count) found.new.items }
+        ensures met { let rows = (meaning self.old.nfa.now).rows in
+            (q : ℕ) → closure rows (passing_of passing.now) q ≡ q ∷ []
+            → is_met self.new.stamps.stamps.items self.new.stamps.now q
+            ≡ list_any (λ x. q == x) found.new.items }
+    {
         self.stamps.begin();
         self.waiting.clear();
         found.clear();
+        self.add(from.first, passing, found);
+        self.add(from.second, passing, found);
+    }
+
+    /// Lists the rows that some rows reach, but for those that are listed already.
+    fn add(&mut self, from: &[StateID], passing: &Passing, found: &mut Vec<StateID>)
+        requires waiting { self.old.waiting.items ≡ [] }
+        requires room { length (meaning self.old.nfa.now).rows ≤ vec_capacity found.old }
+        requires searched { let rows = (meaning self.old.nfa.now).rows in
+            let stamps = self.old.stamps in
+            IsSearched rows (passing_of passing.now) stamps.stamps.items stamps.now found.old.items }
+        ensures nfa { self.new.nfa.now ≡ self.old.nfa.now }
+        ensures waiting { self.new.waiting.items ≡ [] }
+        ensures room { vec_capacity found.old ≤ vec_capacity found.new }
+        ensures rows { let rows = (meaning self.old.nfa.now).rows in
+            let reached = flat_map (closure rows (passing_of passing.now)) from.now in
+            found.new.items ≡ found.old.items ++ fresh found.old.items reached }
+        ensures searched { let rows = (meaning self.old.nfa.now).rows in
+            let stamps = self.new.stamps in
+            IsSearched rows (passing_of passing.now) stamps.stamps.items stamps.now found.new.items }
+    {
         'each: for row in from {
             if self.stops(*row) {
                 if self.stamps.is_first(*row) {

@@ -1,7 +1,8 @@
 //! The rows of the unanchored start, with which the states of an unanchored search end.
 
-ghost use Rattle.std.specs.Prelude.{◌≡◌, ℕ, ◌<◌, ◌≤◌, ◌^◌, ◌==◌, ◌&&◌, ◌∷◌, [], true, false, not, Some, MatchBool};
-ghost use Rattle.std.specs.Prelude.{MatchOption, take, length, slice_get, slice_index_or, vec_capacity, IfOk, OnOk};
+ghost use Rattle.std.specs.Prelude.{◌≡◌, ℕ, ◌<◌, ◌≤◌, ◌^◌, ◌==◌, ◌&&◌, ◌++◌, ◌∷◌, [], true, false, not, Some};
+ghost use Rattle.std.specs.Prelude.{take, length, slice_get, slice_index_or, vec_capacity};
+ghost use Rattle.std.specs.Prelude.{MatchBool, MatchOption, IfOk, IfSome, OnOk};
 ghost use Rattle.std.specs.List.{list_any, AllByRecursion as Every};
 ghost use Rattle.std.specs.Str.{bytes_eq};
 ghost use Rattle.rx_spec.specs.Builds.{is_dead_state};
@@ -16,6 +17,7 @@ ghost use Rattle.rx_stepper.specs.Stamps.{is_met};
 ghost use Rattle.rx_stepper.specs.Steps.{made, IsMadeKey};
 
 use crate::closures::{Closures, Passing};
+use crate::joined::Joined;
 use crate::keys;
 use crate::matches::is_among;
 use rx_base::{PatternID, StateID};
@@ -65,7 +67,7 @@ impl LeadIn {
     pub(crate) fn write_key(
         &self,
         closures: &mut Closures<'_>,
-        from: &[StateID],
+        from: Joined<'_>,
         asked: u8,
         label: &[PatternID],
         own: &mut Vec<StateID>,
@@ -78,9 +80,10 @@ impl LeadIn {
         ensures nfa { closures.new.nfa.now ≡ closures.old.nfa.now }
         ensures room { vec_capacity own.old ≤ vec_capacity own.new }
         ensures key { let nfa = meaning closures.old.nfa.now in
+            let rows = from.entry.first.now ++ from.entry.second.now in
             IfOk result (λ goes_on. MatchBool goes_on
-            (IsMadeKey nfa from.now (facts_with asked) label.now key.new.items)
-            (is_dead_state (made nfa from.now (facts_with asked) label.now) ≡ true)) }
+            (IsMadeKey nfa rows (facts_with asked) label.now key.new.items)
+            (is_dead_state (made nfa rows (facts_with asked) label.now) ≡ true)) }
     {
         let is_led = self.close(closures, from, own);
         if keys::is_dead(is_led, own, label) {
@@ -97,26 +100,40 @@ impl LeadIn {
 
     /// Lists the rows that are reached from some rows as far as they are written, and tells whether the lead-in's
     /// others follow.
-    fn close(&self, closures: &mut Closures<'_>, from: &[StateID], own: &mut Vec<StateID>) -> bool
+    fn close(&self, closures: &mut Closures<'_>, from: Joined<'_>, own: &mut Vec<StateID>) -> bool
         requires is { IsLeadIn (meaning closures.old.nfa.now) self.now }
         requires room { length (meaning closures.old.nfa.now).rows ≤ vec_capacity own.old }
         ensures nfa { closures.new.nfa.now ≡ closures.old.nfa.now }
         ensures room { vec_capacity own.old ≤ vec_capacity own.new }
         ensures rows { let nfa = meaning closures.old.nfa.now in
-            written (lead_of nfa) (closed_rows nfa.rows Standing from.now) ≡ written_as result own.new.items }
+            written (lead_of nfa) (closed_rows nfa.rows Standing (from.entry.first.now ++ from.entry.second.now))
+            ≡ written_as result own.new.items }
         ensures few { length own.new.items ≤ id_count }
         ensures ids { Every (λ q. q < id_count) own.new.items }
     {
-        if let Some((last, front)) = from.split_last() {
-            if self.is_start(*last) {
-                closures.list(front, &Passing::Standing, own);
-                let len = self.own_len(own, self.met_len(closures));
-                own.truncate(len);
-                return true;
-            }
+        if let Some(front) = self.front(from) {
+            closures.list_joined(front, &Passing::Standing, own);
+            let len = self.own_len(own, self.met_len(closures));
+            own.truncate(len);
+            return true;
         }
-        closures.list(from, &Passing::Standing, own);
+        closures.list_joined(from, &Passing::Standing, own);
         self.split(closures, own)
+    }
+
+    /// What stands before the unanchored start, where that is the last of some rows and there is a lead-in.
+    fn front<'r>(&self, from: Joined<'r>) -> Option<Joined<'r>>
+        ensures start { IfSome result (λ front. from.entry.first.now ++ from.entry.second.now
+            ≡ (front.first.now ++ front.second.now) ++ self.now.start ∷ []) }
+        ensures some { IfSome result (λ front. 0 < length self.now.rows.items) }
+    {
+        if let Some((last, second)) = from.second.split_last() {
+            let first = from.first;
+            return self.is_start(*last).then_some(Joined { first, second });
+        }
+        let (last, first) = from.first.split_last()?;
+        self.is_start(*last)
+            .then_some(Joined { first, second: &[] })
     }
 
     /// Whether a row is the unanchored start, and there is a lead-in.

@@ -15,6 +15,7 @@ mod columns;
 mod current;
 mod gathered;
 mod groups;
+mod joined;
 mod keys;
 mod lead_in;
 mod lead_steps;

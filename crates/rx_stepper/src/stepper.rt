@@ -15,13 +15,13 @@ ghost use Rattle.rx_stepper.specs.Keys.{label_of, led_of, size_of};
 use crate::closures::Closures;
 use crate::columns::Columns;
 use crate::current::Current;
-use crate::gathered::Gathered;
-use crate::keys;
+use crate::joined::Joined;
 use crate::lead_in::LeadIn;
 use crate::lead_steps::LeadSteps;
 use crate::matches::goes_on;
 use crate::steps::Steps;
-use rx_base::{ByteClasses, Facts, MatchKind, Start, StateID};
+use crate::{gathered, keys};
+use rx_base::{ByteClasses, Facts, MatchKind, PatternID, Start, StateID};
 use rx_expr::thompson::NFA;
 use std::alloc::{AllocError, Global};
 
@@ -38,7 +38,8 @@ pub struct Stepper<'n> {
     /// What the lead-in's rows need for their steps, for each number of what is known of the unit read last.
     leads: Vec<LeadSteps>,
     current: Current,
-    gathered: Gathered,
+    /// Room for a label.
+    label: Vec<PatternID>,
     /// Room for a closure.
     reached: Vec<StateID>,
     ghost fits: { Fits (meaning closures.nfa.now) classes columns },
@@ -81,7 +82,7 @@ impl<'n> Stepper<'n> {
             lead_in,
             leads,
             current,
-            gathered: Gathered::new(alloc),
+            label: Vec::new(alloc),
             reached,
         })
     }
@@ -105,7 +106,10 @@ impl<'n> Stepper<'n> {
         let asked = nfa.asked_facts().intersect(known).to_bits();
         self.lead_in.write_key(
             &mut self.closures,
-            &[row],
+            Joined {
+                first: &[row],
+                second: &[],
+            },
             asked,
             &[],
             &mut self.reached,
@@ -221,13 +225,13 @@ impl<'n> Stepper<'n> {
     {
         let group = self.columns.groups.of(column);
         let lead = lead_steps(&self.current, &self.leads, self.kind, group);
-        self.gathered
-            .gather(&self.closures, &self.current.steps, lead, column, group)?;
+        let own = &self.current.steps;
+        gathered::write_label(&self.closures, own, lead, group, &mut self.label)?;
         self.lead_in.write_key(
             &mut self.closures,
-            &self.gathered.targets,
+            gathered::targets(own, lead, column),
             group,
-            &self.gathered.label,
+            &self.label,
             &mut self.reached,
             key,
         )

@@ -13,7 +13,8 @@ use Rattle.rx_stepper.proofs.lead_in.LeadIn.write_key.Goals as goal
 
 pub returns-then-is_dead-clause-key : goal.returns-then-is_dead-clause-key
 returns-then-is_dead-clause-key c =
-    let w : WritesRows (meaning c.args.closures.now.nfa.now) c.args.from.now c.close-is_led.new.own.items
+    let from = c.args.from.first.now ++ c.args.from.second.now in
+    let w : WritesRows (meaning c.args.closures.now.nfa.now) from c.close-is_led.new.own.items
     c.close-is_led.result = record {
       written = c.close-is_led.ensures.rows;
       ids = c.close-is_led.ensures.ids;
@@ -29,7 +30,8 @@ returns-then-is_dead-clause-key c =
 
 pub rows_len-requires-clause-once : goal.rows_len-requires-clause-once
 rows_len-requires-clause-once c =
-    let w : WritesRows (meaning c.args.closures.now.nfa.now) c.args.from.now c.close-is_led.new.own.items
+    let from = c.args.from.first.now ++ c.args.from.second.now in
+    let w : WritesRows (meaning c.args.closures.now.nfa.now) from c.close-is_led.new.own.items
     c.close-is_led.result = record {
       written = c.close-is_led.ensures.rows;
       ids = c.close-is_led.ensures.ids;
@@ -41,7 +43,8 @@ rows_len-requires-clause-once c =
 
 pub returns-clause-key : goal.returns-clause-key
 returns-clause-key c =
-    let w : WritesRows (meaning c.args.closures.now.nfa.now) c.args.from.now c.close-is_led.new.own.items
+    let from = c.args.from.first.now ++ c.args.from.second.now in
+    let w : WritesRows (meaning c.args.closures.now.nfa.now) from c.close-is_led.new.own.items
     c.close-is_led.result = record {
       written = c.close-is_led.ensures.rows;
       ids = c.close-is_led.ensures.ids;

@@ -1,4 +1,4 @@
-use Rattle.std.proofs.Common.{◌<◌, ◌^◌, ℕ, List, length, ap, ap₂, sym, ◌∙◌, subst, arith}
+use Rattle.std.proofs.Common.{◌<◌, ◌^◌, ◌++◌, ℕ, List, length, ap, sym, ◌∙◌, subst, arith}
 use Rattle.std.specs.Option.{option_copied}
 use Rattle.std.specs.Prelude.{IfSome}
 use Rattle.rx_spec.specs.Builds.{is_dead_state}
@@ -13,7 +13,7 @@ use Rattle.rx_stepper.specs.Units.{units_of}
 use Rattle.rx_stepper.specs.declared.lead_steps.LeadSteps.{LeadSteps}
 use Rattle.rx_stepper.proofs.ColumnSteps.{IsGathered, gathered_few, gathered_made, lead_column, led_within}
 use Rattle.rx_stepper.proofs.Results.{if_ok-map, match_bool-map}
-use Rattle.rx_stepper.proofs.stepper.Stepper.next.Goals.{In_ok-gather, Start}
+use Rattle.rx_stepper.proofs.stepper.Stepper.next.Goals.{After-targets, Start}
 use Rattle.rx_stepper.proofs.stepper.Stepper.next.Goals as goal
 
 within : (c : Start) → c.args.column < length (units_of c.args.self.now.classes)
@@ -26,19 +26,19 @@ table c =
     table_of (meaning self.closures.nfa.now) self.kind self.classes self.columns
 
 -- what was gathered for the column
-gathered : (c : In_ok-gather) → IsGathered (table (goal.at.In_ok-gather c).Start) c.args.self.now.leads.items
-    c.args.self.now.current c.lead_steps-lead.result c.args.column c.of-group.result c.gather.new.self.targets.items
-    c.gather.new.self.label.items
+gathered : (c : After-targets) → IsGathered (table (goal.at.After-targets c).Start) c.args.self.now.leads.items
+    c.args.self.now.current c.lead_steps-lead.result c.args.column c.of-group.result
+    (c.targets.result.first.now ++ c.targets.result.second.now) c.write_label.new.label.items
 gathered c =
     let self = c.args.self.now in
     let lead = c.lead_steps-lead.result in
     let Is = λ (l : List LeadSteps). IsLeadOf self.current l self.kind c.of-group.result (option_copied lead) in
     record {
-      within = within (goal.at.In_ok-gather c).Start;
+      within = within (goal.at.After-targets c).Start;
       group_is = c.of-group.ensures.value;
       lead_is = subst Is c.deref.ensures.value c.lead_steps-lead.ensures;
-      from_is = c.in_ok-gather.ensures.targets;
-      label_is = c.in_ok-gather.ensures.label;
+      from_is = c.targets.ensures;
+      label_is = c.in_ok-write_label.ensures;
     }
 
 pub lead_steps-lead-requires-clause-context : goal.lead_steps-lead-requires-clause-context
@@ -48,13 +48,13 @@ lead_steps-lead-requires-clause-context c =
     (sym c.deref.ensures.value)
     (led_within self.fits.groups self.fits_lead self.fits_current)
 
-pub gather-requires-clause-lead_column : goal.gather-requires-clause-lead_column
-gather-requires-clause-lead_column c =
+pub targets-requires-clause-lead_column : goal.targets-requires-clause-lead_column
+targets-requires-clause-lead_column c =
     let self = c.args.self.now in
     let lead = c.lead_steps-lead.result in
     let Is = λ (l : List LeadSteps). IsLeadOf self.current l self.kind c.of-group.result (option_copied lead) in
     lead_column self.fits.groups self.fits_lead self.fits_current c.args.column c.of-group.result
-    (within (goal.at.gather-requires-clause-lead_column c).Start) lead
+    (within (goal.at.targets-requires-clause-lead_column c).Start) lead
     (subst Is c.deref.ensures.value c.lead_steps-lead.ensures)
 
 pub write_key-requires-clause-asked : goal.write_key-requires-clause-asked
@@ -67,8 +67,8 @@ write_key-requires-clause-asked c =
 pub write_key-requires-clause-label : goal.write_key-requires-clause-label
 write_key-requires-clause-label c =
     let self = c.args.self.now in
-    let is = gathered (goal.at.write_key-requires-clause-label c).In_ok-gather in
-    subst (λ (label : List ℕ). length label < 2 ^ 32) (sym c.deref-3.ensures.value)
+    let is = gathered (goal.at.write_key-requires-clause-label c).After-targets in
+    subst (λ (label : List ℕ). length label < 2 ^ 32) (sym c.deref-2.ensures.value)
     (gathered_few is self.fits.groups self.fits_lead self.fits_current)
 
 pub invariant_of-self-2 : goal.invariant_of-self-2
@@ -87,10 +87,10 @@ pub returns-clause-key : goal.returns-clause-key
 unfolding stepping_of
 returns-clause-key c =
     let self = c.args.self.now in
-    let is = gathered (goal.at.returns-clause-key c).In_ok-gather in
+    let is = gathered (goal.at.returns-clause-key c).After-targets in
     let facts = facts_with c.of-group.result in
-    let same = ap₂ (λ (from label : List ℕ). made (meaning self.closures.nfa.now) from facts label)
-    c.deref-2.ensures.value c.deref-3.ensures.value
+    let from = c.targets.result.first.now ++ c.targets.result.second.now in
+    let same = ap (made (meaning self.closures.nfa.now) from facts) c.deref-2.ensures.value
     ∙ gathered_made is self.fits.groups self.fits_lead self.fits_current in
     if_ok-map c.write_key.result
     (λ goes key. match_bool-map goes

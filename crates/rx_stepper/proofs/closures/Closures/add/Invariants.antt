@@ -1,20 +1,24 @@
 use Rattle.std.specs.Prelude.{vec_capacity}
-use Rattle.std.proofs.Common.{◌≡◌, ◌≤◌, [], length, drop}
-use Rattle.rx_powerset.specs.Closures.{closed_rows}
+use Rattle.std.proofs.Common.{◌≡◌, ◌≤◌, ◌++◌, [], length, drop}
+use Rattle.std.specs.List.{flat_map}
+use Rattle.rx_spec.specs.States.{closure, fresh}
 use Rattle.rx_expr.specs.Nfa.{meaning}
 use Rattle.rx_stepper.specs.Searches.{IsSearched}
 use Rattle.rx_stepper.specs.ThinRows.{passing_of}
 use Rattle.rx_stepper.proofs.StampedSearch.{Leaves}
-use Rattle.rx_stepper.proofs.closures.Closures.list.Given as goal
+use Rattle.rx_stepper.proofs.closures.Closures.add.Given as goal
 
 abbrev pub invariant-each : goal.invariant-each
 invariant-each l =
     let rows = (meaning l.self.nfa.now).rows in
     let pass = passing_of l.passing in
     let stamps = l.self.stamps in
+    let before = l.fn.found.items in
     record {
       searched : IsSearched rows pass stamps.stamps.items stamps.now l.found.items;
-      left : Leaves rows pass l.found.items (drop l.row-index l.from) (closed_rows rows pass l.from);
+      left :
+          Leaves rows pass l.found.items (drop l.row-index l.from)
+          (before ++ fresh before (flat_map (closure rows pass) l.from));
       empty : l.self.waiting.items ≡ [];
       found_room : length rows ≤ vec_capacity l.found;
       found_grown : vec_capacity l.fn.found ≤ vec_capacity l.found;

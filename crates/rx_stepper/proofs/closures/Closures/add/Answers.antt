@@ -1,35 +1,24 @@
-use Rattle.std.proofs.Common.{ℕ, refl, ap, sym, ◌∙◌, subst, arith}
+use Rattle.std.proofs.Common.{refl, ap, ◌∙◌, ◌++◌, subst, arith}
 use Rattle.std.specs.List.{flat_map}
-use Rattle.rx_spec.specs.Causes.{id_count}
-use Rattle.rx_spec.specs.States.{closure}
+use Rattle.rx_spec.specs.States.{closure, fresh}
 use Rattle.rx_expr.specs.Nfa.{meaning}
 use Rattle.rx_expr.specs.declared.thompson.nfa.NFA.{NFA}
-use Rattle.rx_powerset.specs.Closures.{closed_rows}
-use Rattle.rx_powerset.proofs.StateBounds.{few_firsts}
+use Rattle.rx_stepper.specs.Searches.{IsSearched}
 use Rattle.rx_stepper.specs.ThinRows.{passing_of}
-use Rattle.rx_stepper.proofs.StampedSearch.{Leaves, begun, itself_new, itself_again, next_given, all_given, all_met}
-use Rattle.rx_stepper.proofs.StampedSearch.{count_new, count_old}
-use Rattle.rx_stepper.proofs.closures.Closures.list.Goals as goal
-use Rattle.rx_stepper.proofs.closures.Closures.list.Goals.{then-stops+then-is_first, then-stops+else-is_first}
-use Rattle.rx_stepper.proofs.closures.Closures.list.Goals.{else-stops}
+use Rattle.rx_stepper.proofs.StampedSearch.{itself_new, itself_again, next_given, all_given, count_new, count_old}
+use Rattle.rx_stepper.proofs.closures.Closures.add.Goals as goal
+use Rattle.rx_stepper.proofs.closures.Closures.add.Goals.{then-stops+then-is_first, then-stops+else-is_first}
+use Rattle.rx_stepper.proofs.closures.Closures.add.Goals.{else-stops}
 
 pub each-init : goal.each-init
-each-init c =
-    let nfa = c.args.self.now.nfa.now in
-    let stamps = c.begin.new.self in
-    let none = c.clear-2.ensures.items in
-    let pass = passing_of c.args.passing.now in
-    let all = closed_rows (meaning nfa).rows pass c.args.from.now in
-    record {
-      searched =
-          begun (meaning nfa).rows pass nfa.shallow stamps.stamps.items stamps.now
-          (c.begin.ensures.len ∙ c.args.self.now.stamps_len) none c.begin.ensures.none;
-      left = subst (λ l. Leaves (meaning nfa).rows pass l c.args.from.now all) (sym none) refl;
-      empty = c.clear.ensures.items;
-      found_room = omega (arith, c.clear-2.ensures.capacity, c.requires);
-      found_grown = omega (arith, c.clear-2.ensures.capacity);
-      nfa = refl;
-    }
+each-init c = record {
+  searched = c.requires.searched;
+  left = refl;
+  empty = c.requires.waiting;
+  found_room = c.requires.room;
+  found_grown = omega arith;
+  nfa = refl;
+}
 
 pub each-preserved : goal.each-preserved
 each-preserved c =
@@ -86,21 +75,16 @@ pub returns-clause-rows : goal.returns-clause-rows
 returns-clause-rows c =
     let left = c.each.invariant in
     let pass = passing_of c.args.passing.now in
+    let before = c.args.found.now.items in
+    let reached = λ (n : NFA). flat_map (closure (meaning n).rows pass) c.args.from.now in
     all_given (meaning c.each.self.nfa.now).rows pass c.each.found.items c.args.from.now c.each.row-index (omega arith)
     left.left
-    ∙ ap (λ (n : NFA). closed_rows (meaning n).rows pass c.args.from.now) left.nfa
+    ∙ ap (λ (n : NFA). before ++ fresh before (reached n)) left.nfa
 
-pub returns-clause-few : goal.returns-clause-few
-returns-clause-few c =
-    let nfa = c.args.self.now.nfa.now in
-    let reached = λ (q : ℕ). closure (meaning nfa).rows (passing_of c.args.passing.now) q in
-    few_firsts (flat_map reached c.args.from.now) id_count (returns-clause-rows c) c.each.invariant.searched.ids
-
-pub returns-clause-ids : goal.returns-clause-ids
-returns-clause-ids c = c.each.invariant.searched.ids
-
-pub returns-clause-met : goal.returns-clause-met
-returns-clause-met c = λ q one.
+pub returns-clause-searched : goal.returns-clause-searched
+returns-clause-searched c =
+    let left = c.each.invariant in
+    let stamps = c.each.self.stamps in
     let pass = passing_of c.args.passing.now in
-    let one_now = ap (λ (n : NFA). closure (meaning n).rows pass q) c.each.invariant.nfa ∙ one in
-    all_met c.each.invariant.searched q one_now
+    subst (λ (n : NFA). IsSearched (meaning n).rows pass stamps.stamps.items stamps.now c.each.found.items) left.nfa
+    left.searched
