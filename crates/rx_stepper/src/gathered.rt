@@ -1,10 +1,10 @@
 //! What is gathered for a column: where a state's rows lead, and its label.
 
-ghost use Rattle.std.specs.Prelude.{◌≡◌, ◌<◌, ◌++◌, [], length, OnOk, IfSome};
+ghost use Rattle.std.specs.Prelude.{◌≡◌, ◌<◌, ◌++◌, [], false, map, length, OnOk, IfSome};
 ghost use Rattle.std.specs.Option.{option_map_or};
 ghost use Rattle.rx_expr.specs.Nfa.{meaning};
 ghost use Rattle.rx_stepper.specs.Leads.{without};
-ghost use Rattle.rx_stepper.specs.Steps.{patterns_of};
+ghost use Rattle.rx_stepper.specs.Steps.{patterns_of, AreEmpty};
 ghost use Rattle.rx_stepper.specs.Gathering.{targets_in, matches_in};
 
 use crate::closures::Closures;
@@ -46,11 +46,26 @@ pub(crate) fn write_label(
         ≡ patterns_of rows (matches
         ++ option_map_or (λ steps. without matches (matches_in steps.now group)) lead.entry [])) }
 {
-    let matches = &own.matches[group as usize];
     label.clear();
+    if !own.has_matches {
+        if !may_match(lead) {
+            return Ok(());
+        }
+    }
+    let matches = &own.matches[group as usize];
     closures.add_patterns(matches, label)?;
     if let Some(lead) = lead {
         closures.add_other_patterns(&lead.matches[group as usize], matches, label)?;
     }
     Ok(())
+}
+
+/// Whether some of the lead-in's rows may match, where they go on.
+fn may_match(lead: Option<&Steps>) -> bool
+    ensures { result ≡ false → IfSome lead.entry (λ s. AreEmpty (map (λ v. v.items) s.now.matches.items)) }
+{
+    match lead {
+        Some(steps) => steps.has_matches,
+        None => false,
+    }
 }
