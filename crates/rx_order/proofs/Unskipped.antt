@@ -14,8 +14,8 @@ use Rattle.rx_dense.specs.Specials.{is_accel_id}
 use Rattle.rx_dense.specs.declared.special.Special.{Special}
 use Rattle.rx_order.specs.ByKind.{AreKinds, leaving_of}
 use Rattle.rx_order.specs.Ordering.{IsAccelerated}
-use Rattle.rx_order.specs.RowOrder.{AreJoined, IsInOrder, IsPlain, are_needles, is_accel_kind, is_skippable, is_start_row}
-use Rattle.rx_order.specs.RowOrder.{kind_by}
+use Rattle.rx_order.specs.RowOrder.{AreJoined, IsInOrder, IsPlain, are_needles, is_accel_kind}
+use Rattle.rx_order.specs.RowOrder.{is_skippable, is_start_row, kind_by}
 use Rattle.rx_order.proofs.KindNumbers.{at_most, over}
 use Rattle.rx_order.proofs.Leaving.{last_false, leaving_is}
 
