@@ -18,7 +18,7 @@ use Rattle.rx_dense.specs.Layouts.{Layout, AreRows, AreStarts, machine_of, place
 use Rattle.rx_dense.specs.Layouts.{row_count, stride, table_of}
 use Rattle.rx_dense.specs.declared.special.Special.{Special}
 use Rattle.rx_dense.proofs.Shaped.{rows_kept, starts_kept}
-use Rattle.rx_order.specs.ByKind.{AreByKind, AreKinds, leaving_of}
+use Rattle.rx_order.specs.ByKind.{AreByKind, AreKinds, leaving_of, lists_in}
 use Rattle.rx_order.specs.Moved.{IsReordered}
 use Rattle.rx_order.specs.Ordering.{IsAccelerated, IsRouted}
 use Rattle.rx_order.specs.RowOrder.{IsInOrder, IsPlain, accel_count, are_needles, is_marked, is_skippable, is_start_row}
@@ -43,19 +43,15 @@ use Rattle.rx_order.proofs.Sound.{AreLabels, HasNeedles, frame, sound}
 use Rattle.rx_order.proofs.Unskipped.{low_none}
 
 -- what the call learns of a table, and what its calls leave
-pub record IsAccelerating (old : Layout) (kinds rows ends : List ℕ) (lists : List (List ℕ)) (next new m : Layout)
-    : Type 0 where
+pub record IsAccelerating (old : Layout) (kinds rows ends : List ℕ) (next new m : Layout) : Type 0 where
   pub in_order : IsInOrder old
   pub plain : IsPlain old
   pub are_rows : AreRows old
   pub are_starts : AreStarts old
   pub kinds_are : AreKinds old (is_match (table_of old)) (λ row. are_needles (leaving_of (table_of old) row)) kinds
   pub by_kind : AreByKind kinds rows ends
-  pub lists_are : lists
-      ≡ map (λ place. patterns_of (table_of old) (slice_index rows place))
-      (range_with_len (slice_index ends 1) (slice_index ends 3 - slice_index ends 1))
-  pub few : length (concat lists) ≤ max_id
-  pub next_is : next ≡ with_patterns old lists
+  pub few : length (concat (lists_in old rows ends)) ≤ max_id
+  pub next_is : next ≡ with_patterns old (lists_in old rows ends)
   pub reordered : IsReordered rows next new
   pub set : m ≡ record new {
     accels = map (λ place. leaving_of (table_of old) (slice_index rows place))
@@ -87,8 +83,11 @@ needle_parts xs e = by_test (nat_le 1 (length xs)) (nat_le (length xs) 3) refl r
         absurd (false≢true (sym (ap (λ (a : Bool). a && nat_le (length xs) 3 && not (list_any
         (λ byte. byte == 32) xs)) f) ∙ e))
 
-module _ {old : Layout} {kinds rows ends : List ℕ} {lists : List (List ℕ)} {next new m : Layout}
-    (s : IsAccelerating old kinds rows ends lists next new m) where
+module _ {old : Layout} {kinds rows ends : List ℕ} {next new m : Layout}
+    (s : IsAccelerating old kinds rows ends next new m) where
+  abbrev lists : List (List ℕ)
+  lists = lists_in old rows ends
+
   abbrev l : Layout
   l = with_patterns old lists
 
@@ -167,8 +166,7 @@ module _ {old : Layout} {kinds rows ends : List ℕ} {lists : List (List ℕ)} {
 
   lists_count : length lists ≡ end arranged 3 - 2
   lists_count =
-      ap length s.lists_are
-      ∙ length-map-range_with_len (λ place. patterns_of (table_of old) (slice_index rows place)) (slice_index ends 1)
+      length-map-range_with_len (λ place. patterns_of (table_of old) (slice_index rows place)) (slice_index ends 1)
       (slice_index ends 3 - slice_index ends 1)
       ∙ ap (λ n. slice_index ends 3 - n) (ends_quit arranged)
 
@@ -236,8 +234,7 @@ module _ {old : Layout} {kinds rows ends : List ℕ} {lists : List (List ℕ)} {
       (cases_lt place (end arranged 3)) in
       let two = ends_quit arranged in
       let at : slice_index ends 1 + (place - 2) ≡ place = omega (arith, two) in
-      ap (λ (ls : List (List ℕ)). get_or ls (place - 2) []) s.lists_are
-      ∙ get_or-map-range_with_len (λ place. patterns_of (table_of old) (slice_index rows place)) (slice_index ends 1)
+      get_or-map-range_with_len (λ place. patterns_of (table_of old) (slice_index rows place)) (slice_index ends 1)
       (slice_index ends 3 - slice_index ends 1) (place - 2) place [] (omega (arith, two)) at
       ∙ ap (patterns_of (table_of old)) back
 

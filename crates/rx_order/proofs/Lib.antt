@@ -24,6 +24,8 @@ pub mod Shuffled
 pub mod Leaving
 -- rows in order, of which it is known which match and from which a search may skip
 pub mod Sorted
+-- match rows that stay in their places
+pub mod KeptLists
 -- tables no row of which is skipped from
 pub mod Unskipped
 -- accelerated tables

@@ -1,8 +1,10 @@
 -- Rows in the order of their kinds, which are told by numbers below 8.
-use Rattle.std.specs.Prelude.{ℕ, ◌≡◌, ◌<◌, ◌≤◌, ◌*◌, ◌==◌, Bool, false, List, length, slice_index, slice_index_or}
+use Rattle.std.specs.Prelude.{ℕ, ◌≡◌, ◌<◌, ◌≤◌, ◌-◌, ◌*◌, ◌==◌, Bool, false, List, length, map, slice_index}
+use Rattle.std.specs.Prelude.{slice_index_or}
 use Rattle.std.specs.List.{list_any, range_with_len}
 use Rattle.std.specs.List.Sorted.{IsPermutation}
 use Rattle.rx_spec.specs.Tables.{Table, is_match, leaving}
+use Rattle.rx_search.specs.Labels.{patterns_of}
 use Rattle.rx_dense.specs.Layouts.{Layout, AreRows, row_count, stride, table_of}
 use Rattle.rx_order.specs.RowOrder.{are_needles, is_start_row, kind_by}
 
@@ -34,6 +36,12 @@ pub record AreByKind (kinds rows ends : List ℕ) : Type 0 where
 -- The bytes that lead a row elsewhere. The word stands closed, since it goes over all bytes.
 unfoldable pub leaving_of : Table → ℕ → List ℕ
 leaving_of t row = leaving t row
+
+-- The patterns of the match rows, in the order in which these are to lie: they are the rows of the kinds 2 and 3.
+abbrev pub lists_in : Layout → (rows ends : List ℕ) → List (List ℕ)
+lists_in l rows ends =
+    map (λ place. patterns_of (table_of l) (slice_index rows place))
+    (range_with_len (slice_index ends 1) (slice_index ends 3 - slice_index ends 1))
 
 -- Rows of a table in the order of their kinds, with those accelerated from which a search may skip.
 pub record AreSkippable (l : Layout) (rows ends : List ℕ) : Type 0 where

@@ -1,14 +1,15 @@
 //! Rows from which a search may skip.
 
-ghost use Rattle.std.specs.Prelude.{◌≡◌, ℕ, ◌<◌, ◌-◌, All, IfOk, OnErr, OnOk, map, slice_index, true};
-ghost use Rattle.std.specs.List.{range_with_len};
+ghost use Rattle.std.specs.Prelude.{◌≡◌, ℕ, ◌<◌, ◌≤◌, ◌-◌, All, IfOk, OnErr, OnOk, length, map, slice_index, true};
+ghost use Rattle.std.specs.List.{concat, range_with_len};
+ghost use Rattle.rx_spec.specs.Causes.{max_id};
 ghost use Rattle.rx_spec.specs.Ids.{row_of};
 ghost use Rattle.rx_spec.specs.Tables.{IsSound, is_match};
 ghost use Rattle.rx_search.specs.Labels.{patterns_of};
 ghost use Rattle.rx_search.specs.Starts.{IsId};
-ghost use Rattle.rx_dense.specs.Builder.{pattern_lists};
+ghost use Rattle.rx_dense.specs.Builder.{pattern_lists, with_patterns};
 ghost use Rattle.rx_dense.specs.Layouts.{AreRows, AreStarts, ids_of, table_of};
-ghost use Rattle.rx_order.specs.ByKind.{AreKinds, AreSkippable, leaving_of};
+ghost use Rattle.rx_order.specs.ByKind.{AreKinds, AreSkippable, leaving_of, lists_in};
 ghost use Rattle.rx_order.specs.RowOrder.{AreJoined, IsInOrder, IsPlain, are_needles};
 ghost use Rattle.rx_order.specs.Ordering.{IsAccelerated};
 
@@ -38,13 +39,9 @@ pub fn accelerate(alloc: Global, dfa: &mut OwnedDFA) -> Result<(), AllocError>
     }
     let order = Order::new(alloc, &kinds)?;
     let accels = accels(alloc, dfa, &order)?;
-    let patterns = patterns(alloc, dfa, &order)?;
     let places = Places::new(alloc, dfa)?;
     let marked = dfa.special().starts();
-    match dfa.set_pattern_map(&patterns) {
-        Ok(()) => {}
-        Err(_) => return Err(AllocError),
-    }
+    move_patterns(alloc, dfa, &order)?;
     places.arrange(dfa, &order.rows);
     dfa.set_accels(accels);
     dfa.set_special(order.special(dfa.stride2(), marked));
@@ -86,6 +83,26 @@ fn accels(alloc: Global, dfa: &OwnedDFA, order: &Order) -> Result<Accels, AllocE
     Ok(accels)
 }
 
+/// Puts the patterns of the match rows in the order in which the rows are to lie. Those of rows that stay in their
+/// places stand there already.
+fn move_patterns(alloc: Global, dfa: &mut OwnedDFA, order: &Order) -> Result<(), AllocError>
+    requires in_order { IsInOrder dfa.old }
+    requires joined { AreJoined dfa.old }
+    requires sorted { AreSkippable dfa.old order.now.rows.items order.now.ends }
+    ensures ok { OnOk result (dfa.new ≡ with_patterns dfa.old (lists_in dfa.old order.now.rows.items order.now.ends)) }
+    ensures fits { OnOk result (length (concat (lists_in dfa.old order.now.rows.items order.now.ends)) ≤ max_id) }
+    ensures err { OnErr result (dfa.new ≡ dfa.old) }
+{
+    if order.keeps_matches() {
+        return Ok(());
+    }
+    let patterns = patterns(alloc, dfa, order)?;
+    match dfa.set_pattern_map(&patterns) {
+        Ok(()) => Ok(()),
+        Err(_) => Err(AllocError),
+    }
+}
+
 /// The patterns of the match rows, by the ids that the rows are to have.
 fn patterns(
     alloc: Global,
@@ -94,9 +111,8 @@ fn patterns(
 ) -> Result<BTreeMap<StateID, Vec<PatternID>>, AllocError>
     requires sound { IsSound (table_of dfa.now) }
     requires sorted { AreSkippable dfa.now order.now.rows.items order.now.ends }
-    ensures { IfOk result (λ patterns. pattern_lists patterns
-        ≡ map (λ place. patterns_of (table_of dfa.now) (slice_index order.now.rows.items place))
-        (range_with_len (slice_index order.now.ends 1) (slice_index order.now.ends 3 - slice_index order.now.ends 1))) }
+    ensures { IfOk result (λ patterns.
+        pattern_lists patterns ≡ lists_in dfa.now order.now.rows.items order.now.ends) }
 {
     let stride2 = dfa.stride2();
     let mut lists = BTreeMap::new(alloc);

@@ -1,6 +1,6 @@
 //! The order of rows by their kinds.
 
-ghost use Rattle.std.specs.Prelude.{◌≡◌, ℕ, ◌<◌, ◌≤◌, ◌+◌, ◌*◌, ◌^◌, All, IfOk, length, slice_index};
+ghost use Rattle.std.specs.Prelude.{◌≡◌, ℕ, ◌<◌, ◌≤◌, ◌+◌, ◌*◌, ◌^◌, ◌↔◌, All, IfOk, IsTrue, length, slice_index};
 ghost use Rattle.rx_spec.specs.Causes.{max_id};
 ghost use Rattle.rx_order.specs.ByKind.{AreByKind};
 ghost use Rattle.rx_order.specs.SpecialIds.{first_id, last_id, special_ids};
@@ -36,6 +36,20 @@ impl Order {
             ends[kind] = rows.len();
         }
         Ok(Order { rows, ends })
+    }
+
+    /// Whether each match row stays in its place.
+    pub(crate) fn keeps_matches(&self) -> bool
+        requires { slice_index self.now.ends 3 ≤ length self.now.rows.items }
+        ensures { IsTrue result ↔ ((place : ℕ) → slice_index self.now.ends 1 ≤ place
+            → place < slice_index self.now.ends 3 → slice_index self.now.rows.items place ≡ place) }
+    {
+        for place in self.ends[1]..self.ends[3] {
+            if self.rows[place] as usize != place {
+                return false;
+            }
+        }
+        true
     }
 
     /// The special ids of a table whose rows lie in this order, where a row has so many words as the exponent of a

@@ -1,6 +1,5 @@
 use Rattle.std.proofs.Common.{◌^◌, ◌-◌, ◌==◌, ◌∙◌, ℕ, Bool, not, List, map, slice_index, refl, ap, ap₂, sym}
 use Rattle.std.specs.List.{list_any, range_with_len}
-use Rattle.rx_dense.specs.Builder.{pattern_lists}
 use Rattle.rx_dense.specs.Layouts.{Layout, stride, table_of}
 use Rattle.rx_dense.specs.declared.special.Special.{Special}
 use Rattle.rx_order.specs.ByKind.{leaving_of}
@@ -20,8 +19,8 @@ accels-requires c = record {
   };
 }
 
-pub patterns-requires-clause-sorted : goal.patterns-requires-clause-sorted
-patterns-requires-clause-sorted c = record {
+pub move_patterns-requires-clause-sorted : goal.move_patterns-requires-clause-sorted
+move_patterns-requires-clause-sorted c = record {
   kinds = c.in_ok-kinds.kinds.items;
   kinds_are = c.in_ok-kinds.ensures.kinds;
   by_kind = rw c.deref-2.ensures.value at c.in_ok-order.ensures;
@@ -36,8 +35,8 @@ special-requires-2-clause-ids c =
     let ends = c.in_ok-order.order.ends in
     let needles = map (λ place. leaving_of (table_of c.args.dfa.now) (slice_index rows place))
     (range_with_len (slice_index ends 2) (slice_index ends 5 - slice_index ends 2)) in
-    let s : IsAccelerating c.args.dfa.now c.in_ok-kinds.kinds.items rows ends (pattern_lists c.in_ok-patterns.patterns)
-    c.set_pattern_map.new.self next
+    let s : IsAccelerating c.args.dfa.now c.in_ok-kinds.kinds.items rows ends
+    c.move_patterns.new.dfa next
     (record next { accels = needles; special = special_ids (stride next) ends (is_marked c.args.dfa.now) }) = record {
       in_order = c.requires.in_order;
       plain = c.requires.plain;
@@ -45,9 +44,8 @@ special-requires-2-clause-ids c =
       are_starts = kinds.are_starts;
       kinds_are = kinds.kinds;
       by_kind = rw c.deref-2.ensures.value at c.in_ok-order.ensures;
-      lists_are = c.in_ok-patterns.ensures;
-      few = c.in-Ok.ensures.fits;
-      next_is = c.in-Ok.ensures.ok;
+      few = c.in_ok-move_patterns.ensures.fits;
+      next_is = c.in_ok-move_patterns.ensures.ok;
       reordered = rw c.deref-3.ensures.value at c.arrange.ensures;
       set = refl;
     } in
@@ -59,17 +57,16 @@ returns-clause-ok c =
     let next = c.arrange.new.dfa in
     let rows = c.in_ok-order.order.rows.items in
     let ends = c.in_ok-order.order.ends in
-    let s : IsAccelerating c.args.dfa.now c.in_ok-kinds.kinds.items rows ends (pattern_lists c.in_ok-patterns.patterns)
-    c.set_pattern_map.new.self next c.set_special.new.self = record {
+    let s : IsAccelerating c.args.dfa.now c.in_ok-kinds.kinds.items rows ends
+    c.move_patterns.new.dfa next c.set_special.new.self = record {
       in_order = c.requires.in_order;
       plain = c.requires.plain;
       are_rows = kinds.are_rows;
       are_starts = kinds.are_starts;
       kinds_are = kinds.kinds;
       by_kind = rw c.deref-2.ensures.value at c.in_ok-order.ensures;
-      lists_are = c.in_ok-patterns.ensures;
-      few = c.in-Ok.ensures.fits;
-      next_is = c.in-Ok.ensures.ok;
+      few = c.in_ok-move_patterns.ensures.fits;
+      next_is = c.in_ok-move_patterns.ensures.ok;
       reordered = rw c.deref-3.ensures.value at c.arrange.ensures;
       set =
           c.set_special.ensures
