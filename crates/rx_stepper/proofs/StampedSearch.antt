@@ -7,7 +7,7 @@ use Rattle.std.proofs.lemmas.Bool.{cases_lt, or_left, or_right, or_cases, eqb-tr
 use Rattle.std.proofs.lemmas.List.{nil_from_length, drop_more}
 use Rattle.std.proofs.lemmas.List.Sums.{sum_by-cons}
 use Rattle.std.proofs.lemmas.Option.{slice_get_past}
-use Rattle.std.specs.Prelude.{unwrap_or}
+use Rattle.std.specs.Prelude.{unwrap_or, option_to_list, Option, Some, None, IfNone, MatchOption}
 use Rattle.std.specs.List.{flat_map, list_any, AllByRecursion as Every}
 use Rattle.rx_spec.specs.Causes.{id_count}
 use Rattle.rx_spec.specs.Rows.{Row}
@@ -20,7 +20,7 @@ use Rattle.rx_powerset.proofs.Closures.{graph_of, closure_unfolds}
 use Rattle.rx_powerset.proofs.Search.{Graph, In, Listed, Notes, Searching, in_cases, in_nil}
 use Rattle.rx_powerset.proofs.Search.{search_passes, search_turns, search_ends}
 use Rattle.rx_powerset.proofs.StackSearch.{popped}
-use Rattle.rx_stepper.specs.Searches.{IsSearched, ReachesItself}
+use Rattle.rx_stepper.specs.Searches.{IsSearched, ReachesItself, in_turn}
 use Rattle.rx_stepper.specs.Stamps.{is_met, unmet}
 use Rattle.rx_stepper.specs.ThinRows.{IsThin, is_end, row_of_thin}
 use Rattle.rx_stepper.specs.declared.thin_row.ThinRow.{ThinRow}
@@ -68,42 +68,67 @@ notes seen after id only = record {
       (or_cases (x == id) (seen x) (sym (only x) ∙ h));
 }
 
-module _ (g : Graph) {target out stack : List ℕ} (rest : List ℕ) (id : ℕ) where
-  -- the row was met before
-  pub passed_on : (seen after : ℕ → Bool) {first : Bool} → Flags seen after id
-      → Searching g target seen out (reverse stack) → stack ≡ rest ++ id ∷ [] → first ≡ not (seen id)
-      → first ≡ false → Searching g target after out (reverse rest)
-  passed_on seen after only s e f old =
-      let before = subst (Searching g target seen out) (popped rest e) s in
-      search_passes g (not_false (seen id) f old) (notes seen after id only) before
+-- the row in front gives way to those behind it, or to none
+module _ (g : Graph) {target out before : List ℕ} (rest : List ℕ) (id : ℕ) where
+  -- it was met before
+  pub passed_on : (seen after : ℕ → Bool) {first : Bool} {left : List ℕ} → Flags seen after id
+      → Searching g target seen out before → before ≡ id ∷ rest → first ≡ not (seen id) → first ≡ false
+      → left ≡ rest → Searching g target after out left
+  passed_on seen after only s e f old goes =
+      let here = subst (Searching g target seen out) e s in
+      subst
+      (Searching g target after out)
+      (sym goes)
+      (search_passes g (not_false (seen id) f old) (notes seen after id only) here)
 
   -- it is met for the first time
-  pub met_now : (seen after : ℕ → Bool) {more : List ℕ} (left : List ℕ) {first : Bool} → Flags seen after id
-      → Searching g target seen out (reverse stack) → stack ≡ rest ++ id ∷ [] → first ≡ not (seen id)
-      → first ≡ true → more ≡ out ++ g.own id → reverse left ≡ g.branches id ++ reverse rest
-      → Searching g target after more (reverse left)
-  met_now seen after left only s e f new listed goes =
-      let before = subst (Searching g target seen out) (popped rest e) s in
-      let turned = search_turns g (not_true (seen id) f new) (notes seen after id only) before in
+  pub met_now : (seen after : ℕ → Bool) {first : Bool} {more left : List ℕ} → Flags seen after id
+      → Searching g target seen out before → before ≡ id ∷ rest → first ≡ not (seen id) → first ≡ true
+      → more ≡ out ++ g.own id → left ≡ g.branches id ++ rest → Searching g target after more left
+  met_now seen after {left = left} only s e f new listed goes =
+      let here = subst (Searching g target seen out) e s in
+      let turned = search_turns g (not_true (seen id) f new) (notes seen after id only) here in
       subst
-      (λ o. Searching g target after o (reverse left))
+      (λ o. Searching g target after o left)
       (sym listed)
       (subst (Searching g target after (out ++ g.own id)) (sym goes) turned)
+
+-- ---- the row in hand, and the stack
+
+-- the row in hand is the first of those in turn
+pub hand_first : {hand : Option ℕ} {row : ℕ} (stack : List ℕ) → hand ≡ Some row
+    → in_turn hand stack ≡ row ∷ reverse stack
+hand_first stack e = ap (λ h. in_turn h stack) e
+
+-- what is taken from the top of the stack is in hand
+pub top_in_hand : (hand : Option ℕ) {stack : List ℕ} (rest : List ℕ) → stack ≡ rest ++ option_to_list hand
+    → in_turn hand rest ≡ reverse stack
+top_in_hand None rest e = sym (ap (λ l. reverse l) (e ∙ append-nil rest))
+top_in_hand (Some row) rest e = sym (popped rest e)
+
+-- where none is taken none is left
+pub none_waits : (hand : Option ℕ) (rest : List ℕ) (old : ℕ) {len : ℕ} → len ≡ length rest
+    → MatchOption hand ((old ≡ 0) × (len ≡ 0)) (λ _. len + 1 ≡ old) → IfNone hand (rest ≡ [])
+none_waits None rest old e h = nil_from_length rest (sym e ∙ h.1)
+none_waits (Some row) rest old e h = tt
+
+-- with none in hand and an empty stack none is left
+none_in_turn : (hand : Option ℕ) (stack : List ℕ) → hand ≡ None → IfNone hand (stack ≡ []) → in_turn hand stack ≡ []
+none_in_turn None stack e h = ap (λ l. reverse l) h
+none_in_turn (Some row) stack e h = absurd (cc)
 
 -- ---- a search from one row: its beginning and its end
 
 module _ (rows : List Row) (pass : Passing) (shallow : IsShallow rows) {stamps found : List ℕ} {now : ℕ} where
-  pub search_from : (row : ℕ) {empty stack : List ℕ} → IsSearched rows pass stamps now found → empty ≡ []
-      → stack ≡ empty ++ row ∷ []
+  pub search_from : (row : ℕ) {stack : List ℕ} → IsSearched rows pass stamps now found → stack ≡ []
       → Searching (graph_of rows pass shallow) (found ++ fresh found (closure rows pass row)) (is_met stamps now) found
-      (reverse stack)
-  search_from row {empty} {stack} s none e =
-      let one : stack ≡ row ∷ [] = e ∙ ap (λ l. l ++ row ∷ []) none in
+      (row ∷ reverse stack)
+  search_from row s none =
       subst
       (λ l.
       Searching (graph_of rows pass shallow) (found ++ fresh found (closure rows pass row)) (is_met stamps now) found
-      (reverse l))
-      (sym one)
+      (row ∷ reverse l))
+      (sym none)
       (record {
         whole = ap (λ l. found ++ fresh found l) (append-nil (closure rows pass row));
         noted = s.met;
@@ -116,11 +141,11 @@ module _ (rows : List Row) (pass : Passing) (shallow : IsShallow rows) {stamps f
         };
       })
 
-  pub searched : {target : List ℕ} (stack : List ℕ) {len : ℕ} → len ≡ length stack → len ≡ 0
-      → Searching (graph_of rows pass shallow) target (is_met stamps now) found (reverse stack)
+  pub searched : {target : List ℕ} (hand : Option ℕ) (stack : List ℕ) → hand ≡ None → IfNone hand (stack ≡ [])
+      → Searching (graph_of rows pass shallow) target (is_met stamps now) found (in_turn hand stack)
       → Every (λ q. q < id_count) found → length found + unmet stamps now ≤ length rows
       → (found ≡ target) × IsSearched rows pass stamps now found
-  searched {target} stack e z s ids room = (
+  searched {target} hand stack none empty s ids room = (
     search_ends g ended,
     record {
       met = ended.noted;
@@ -134,8 +159,7 @@ module _ (rows : List Row) (pass : Passing) (shallow : IsShallow rows) {stamps f
       g = graph_of rows pass shallow
 
       ended : Searching g target (is_met stamps now) found []
-      ended =
-          subst (λ l. Searching g target (is_met stamps now) found (reverse l)) (nil_from_length stack (sym e ∙ z)) s
+      ended = subst (Searching g target (is_met stamps now) found) (none_in_turn hand stack none empty) s
 
       listed : (p : ℕ) → Listed g found [] p → (x : ℕ) → In (closure rows pass p) x → In found x
       listed p l = go l.above l.below l.split l.given

@@ -1,5 +1,6 @@
 -- The searches that list a closure, one from each of the rows that are given.
-use Rattle.std.specs.Prelude.{ℕ, ◌≡◌, ◌+◌, ◌<◌, ◌≤◌, ◌==◌, true, List, [], ◌∷◌, length}
+use Rattle.std.specs.Prelude.{ℕ, ◌≡◌, ◌+◌, ◌<◌, ◌≤◌, ◌==◌, ◌++◌, true, List, [], ◌∷◌, length, reverse, Option}
+use Rattle.std.specs.Prelude.{option_to_list}
 use Rattle.std.specs.List.{list_any, AllByRecursion as Every}
 use Rattle.rx_spec.specs.Causes.{id_count}
 use Rattle.rx_spec.specs.Rows.{Row}
@@ -17,3 +18,7 @@ pub record IsSearched (rows : List Row) (pass : Passing) (stamps : List ℕ) (no
       → list_any (λ x. q == x) found ≡ true
   pub ids : Every (λ q. q < id_count) found
   pub room : length found + unmet stamps now ≤ length rows
+
+-- the rows that a search is still to look at: the one in hand, and then the stack from its top
+abbrev pub in_turn : Option ℕ → List ℕ → List ℕ
+in_turn hand stack = option_to_list hand ++ reverse stack

@@ -1,14 +1,14 @@
 //! The rows that are reached without reading a byte, in room that is taken once.
 
 ghost use Rattle.std.specs.Prelude.{◌≡◌, ℕ, ◌+◌, ◌<◌, ◌≤◌, ◌==◌, ◌++◌, ◌∷◌, [], true, false, length, reverse, IfOk};
-ghost use Rattle.std.specs.Prelude.{vec_capacity};
+ghost use Rattle.std.specs.Prelude.{vec_capacity, IfNone};
 ghost use Rattle.std.specs.List.{flat_map, list_any, AllByRecursion as Every};
 ghost use Rattle.rx_spec.specs.Causes.{id_count};
 ghost use Rattle.rx_spec.specs.Contexts.{holds_read};
 ghost use Rattle.rx_spec.specs.States.{closure, fresh, row_at, is_look_row};
 ghost use Rattle.rx_powerset.specs.Closures.{own_by, branches_by, closed_rows};
 ghost use Rattle.rx_expr.specs.Nfa.{meaning};
-ghost use Rattle.rx_stepper.specs.Searches.{IsSearched, ReachesItself};
+ghost use Rattle.rx_stepper.specs.Searches.{IsSearched, ReachesItself, in_turn};
 ghost use Rattle.rx_stepper.specs.Stamps.{is_met};
 ghost use Rattle.rx_stepper.specs.ThinRows.{row_of_thin, thin_at, AreThin, passing_of};
 
@@ -48,7 +48,7 @@ pub(crate) struct Closures<'n> {
     pub(crate) nfa: &'n NFA,
     pub(crate) thin: Vec<ThinRow>,
     stamps: Stamps,
-    /// The rows that are still to be looked at, the next one last.
+    /// The rows that a search is still to look at behind the one in hand, the next of them last.
     waiting: Vec<StateID>,
     /// Whether some row of the NFA is an assertion.
     asks: bool,
@@ -56,7 +56,7 @@ pub(crate) struct Closures<'n> {
     ghost thin_rows: { AreThin thin.items (meaning nfa.now).rows },
     ghost thin_len: { length thin.items ≡ length (meaning nfa.now).rows },
     ghost stamps_len: { length stamps.stamps.items ≡ length (meaning nfa.now).rows },
-    ghost room: { length (meaning nfa.now).rows < vec_capacity waiting },
+    ghost room: { length (meaning nfa.now).rows ≤ vec_capacity waiting },
 }
 
 impl<'n> Closures<'n> {
@@ -66,7 +66,7 @@ impl<'n> Closures<'n> {
     {
         let thin = thin_rows(alloc, nfa)?;
         let stamps = Stamps::new(alloc, thin.len())?;
-        let waiting = Vec::with_capacity(alloc, thin.len() + 1)?;
+        let waiting = Vec::with_capacity(alloc, thin.len())?;
         let asks = thin.iter().any(|row| row.is_look());
         Ok(Closures {
             nfa,
@@ -182,16 +182,19 @@ impl<'n> Closures<'n> {
             let stamps = self.new.stamps in
             IsSearched rows (passing_of passing.now) stamps.stamps.items stamps.now found.new.items }
     {
-        put(&mut self.waiting, row);
-        'search: while let Some(id) = self.waiting.pop() {
+        let mut next = Some(row);
+        'search: while let Some(id) = next {
             if self.stamps.is_first(id) {
-                enter(
+                let hand = enter(
                     self.thin[id.as_usize()],
                     id,
                     passing,
                     found,
                     &mut self.waiting,
                 );
+                next = hand_or_top(hand, &mut self.waiting);
+            } else {
+                next = self.waiting.pop();
             }
         }
     }
@@ -233,30 +236,46 @@ fn put(rows: &mut Vec<StateID>, row: StateID)
     }
 }
 
-/// Lists a row where the search ends at it, and else puts the rows behind it on the stack, the preferred on top.
+/// The row in hand, or else the one that is taken from the top of the stack.
+#[inline]
+fn hand_or_top(hand: Option<StateID>, waiting: &mut Vec<StateID>) -> Option<StateID>
+    ensures order { in_turn result waiting.new.items ≡ in_turn hand waiting.old.items }
+    ensures none { IfNone result (waiting.new.items ≡ []) }
+    ensures len { length waiting.new.items ≤ length waiting.old.items }
+    ensures room { vec_capacity waiting.old ≤ vec_capacity waiting.new }
+{
+    match hand {
+        Some(row) => Some(row),
+        None => waiting.pop(),
+    }
+}
+
+/// Lists a row where the search ends at it, and else gives the preferred of the rows behind it; the other one it puts
+/// on the stack.
 fn enter(
     row: ThinRow,
     id: StateID,
     passing: &Passing,
     found: &mut Vec<StateID>,
     waiting: &mut Vec<StateID>,
-)
+) -> Option<StateID>
     requires listed { length found.old.items < vec_capacity found.old }
-    requires stack { length waiting.old.items + 1 < vec_capacity waiting.old }
+    requires stack { length waiting.old.items < vec_capacity waiting.old }
     ensures found { found.new.items ≡ found.old.items ++ own_by (passing_of passing.now) id (row_of_thin row) }
     ensures waiting { let behind = branches_by (passing_of passing.now) (row_of_thin row) in
-        reverse waiting.new.items ≡ behind ++ reverse waiting.old.items }
+        in_turn result waiting.new.items ≡ behind ++ reverse waiting.old.items }
     ensures found_room { vec_capacity found.old ≤ vec_capacity found.new }
     ensures waiting_room { vec_capacity waiting.old ≤ vec_capacity waiting.new }
     ensures found_len { length found.new.items ≤ length found.old.items + 1 }
-    ensures waiting_len { length waiting.new.items ≤ length waiting.old.items + 2 }
+    ensures waiting_len { length waiting.new.items ≤ length waiting.old.items + 1 }
     ensures bound { id < id_count }
 {
+    let _number = id.as_usize();
     match row {
         ThinRow::Bytes | ThinRow::Match(_) => put(found, id),
         ThinRow::Split(first, second) => {
             put(waiting, second);
-            put(waiting, first);
+            return Some(first);
         }
         ThinRow::Look(look, behind) => match *passing {
             Passing::Standing => put(found, id),
@@ -264,13 +283,9 @@ fn enter(
                 last,
                 next,
                 direction,
-            } => {
-                if holds(look, last, next, direction) {
-                    put(waiting, behind);
-                }
-            }
+            } => return holds(look, last, next, direction).then_some(behind),
         },
         ThinRow::Fail => {}
     }
-    let _number = id.as_usize();
+    None
 }

@@ -1,19 +1,17 @@
-use Rattle.std.proofs.Common.{◌≡◌, ◌<◌, ◌++◌, List, ℕ, [], ◌∷◌, reverse, get_or, length, refl, ap, arith}
-use Rattle.std.proofs.Common.{◌∙◌, length-append, subst}
+use Rattle.std.proofs.Common.{◌≡◌, ◌<◌, ◌++◌, List, ℕ, reverse, ◌∷◌, get_or, length, refl, ap, arith, ◌∙◌, sym, subst}
 use Rattle.rx_spec.specs.Causes.{id_count}
 use Rattle.rx_spec.specs.States.{closure, fresh, row_at}
 use Rattle.rx_expr.specs.Nfa.{meaning}
 use Rattle.rx_expr.specs.declared.thompson.nfa.NFA.{NFA}
 use Rattle.rx_powerset.specs.Closures.{own_by, branches_by}
 use Rattle.rx_powerset.proofs.Closures.{graph_of, own_either}
-use Rattle.rx_powerset.proofs.StackSearch.{popped, passed_falls, met_falls}
+use Rattle.rx_powerset.proofs.StackSearch.{passed_falls, met_falls}
 use Rattle.rx_powerset.proofs.StateBounds.{few_more}
-use Rattle.rx_stepper.specs.Searches.{IsSearched}
 use Rattle.rx_stepper.specs.Stamps.{is_met}
 use Rattle.rx_stepper.specs.ThinRows.{row_of_thin, passing_of}
 use Rattle.rx_stepper.specs.declared.thin_row.ThinRow.{ThinRow}
-use Rattle.rx_stepper.proofs.StampedSearch.{search_from, searched, passed_on, met_now}
-use Rattle.rx_stepper.proofs.StampedSearch.{unmet_within, count_new, count_old}
+use Rattle.rx_stepper.proofs.StampedSearch.{search_from, searched, passed_on, met_now, hand_first, top_in_hand}
+use Rattle.rx_stepper.proofs.StampedSearch.{none_waits, unmet_within, count_new, count_old}
 use Rattle.rx_stepper.proofs.ThinLists.{thin_there}
 use Rattle.rx_stepper.proofs.closures.Closures.search.Goals as goal
 
@@ -25,14 +23,13 @@ search-init c =
     record {
       search =
           search_from (meaning nfa).rows (passing_of c.args.passing.now) nfa.shallow c.args.row before
-          c.requires.waiting c.put.ensures.items;
+          c.requires.waiting;
       few = before.ids;
+      none = tt;
       stack =
           omega (
             arith,
-            ap length c.put.ensures.items,
             ap length c.requires.waiting,
-            length-append c.args.self.now.waiting.items (c.args.row ∷ []),
             unmet_within stamps.stamps.items stamps.now,
             c.args.self.now.stamps_len,
           );
@@ -51,6 +48,7 @@ pub search-smaller-then-is_first : goal.search-smaller-then-is_first
 search-smaller-then-is_first c =
     let nfa = c.search.self.nfa.now in
     let pass = passing_of c.args.passing.now in
+    let stack = c.search.self.waiting.items in
     let thin = c.search.self.thin_rows c.in-Some.id in
     let at_id = there c.search.self.thin.items c.as_usize.ensures.value c.index.ensures in
     let within : c.in-Some.id < length c.search.self.thin.items = omega (
@@ -60,9 +58,9 @@ search-smaller-then-is_first c =
       c.search.self.stamps_len,
     ) in
     let row = thin_there c.search.self.thin.items c.in-Some.id within at_id in
-    let behind = c.enter.ensures.waiting ∙ ap (λ l. l ++ reverse c.pop.new.self.items)
+    let behind = c.hand_or_top-next.ensures.order ∙ c.enter-hand.ensures.waiting ∙ ap (λ l. l ++ reverse stack)
     (ap (λ r. branches_by pass (row_of_thin r)) row ∙ thin.branches pass) in
-    met_falls (graph_of (meaning nfa).rows pass nfa.shallow) (popped _ c.in-Some.ensures.items) behind
+    met_falls (graph_of (meaning nfa).rows pass nfa.shallow) (hand_first stack c.in-Some.is) behind
 
 pub search-preserved-then-is_first : goal.search-preserved-then-is_first
 search-preserved-then-is_first c =
@@ -72,6 +70,7 @@ search-preserved-then-is_first c =
     let before = c.search.invariant in
     let old = c.search.self.stamps in
     let new = c.is_first.new.self in
+    let stack = c.search.self.waiting.items in
     let id = c.in-Some.id in
     let thin = c.search.self.thin_rows id in
     let at_id = there c.search.self.thin.items c.as_usize.ensures.value c.index.ensures in
@@ -82,23 +81,24 @@ search-preserved-then-is_first c =
       c.search.self.stamps_len,
     ) in
     let row = thin_there c.search.self.thin.items id within at_id in
-    let behind = c.enter.ensures.waiting ∙ ap (λ l. l ++ reverse c.pop.new.self.items)
+    let entered = c.enter-hand.ensures in
+    let taken = c.hand_or_top-next.ensures in
+    let behind = taken.order ∙ entered.waiting ∙ ap (λ l. l ++ reverse stack)
     (ap (λ r. branches_by pass (row_of_thin r)) row ∙ thin.branches pass) in
-    let own = c.enter.ensures.found ∙ ap (λ l. c.search.found.items ++ l)
+    let own = entered.found ∙ ap (λ l. c.search.found.items ++ l)
     (ap (λ r. own_by pass id (row_of_thin r)) row ∙ thin.own pass id) in
-    let popped_len = ap length c.in-Some.ensures.items ∙ length-append c.pop.new.self.items (id ∷ []) in
     let count = count_new _ c.is_first.result c.is_first.ensures.count c.if-is_first.true in
     record {
       search =
-          met_now graph c.pop.new.self.items id (is_met old.stamps.items old.now) (is_met new.stamps.items new.now)
-          c.enter.new.waiting.items c.is_first.ensures.only before.search c.in-Some.ensures.items c.is_first.ensures.new
+          met_now graph (reverse stack) id (is_met old.stamps.items old.now) (is_met new.stamps.items new.now)
+          c.is_first.ensures.only before.search (hand_first stack c.in-Some.is) c.is_first.ensures.new
           c.if-is_first.true own behind;
-      few = few_more id_count _ c.enter.ensures.bound (own_either pass id (row_at
-          (meaning nfa).rows id)) own before.few;
-      stack = omega (arith, before.stack, c.enter.ensures.waiting_len, popped_len, count);
-      listed = omega (arith, before.listed, c.enter.ensures.found_len, count);
-      found_room = omega (arith, before.found_room, c.enter.ensures.found_room);
-      found_grown = omega (arith, before.found_grown, c.enter.ensures.found_room);
+      few = few_more id_count _ entered.bound (own_either pass id (row_at (meaning nfa).rows id)) own before.few;
+      none = taken.none;
+      stack = omega (arith, before.stack, entered.waiting_len, taken.len, count);
+      listed = omega (arith, before.listed, entered.found_len, count);
+      found_room = omega (arith, before.found_room, entered.found_room);
+      found_grown = omega (arith, before.found_grown, entered.found_room);
       nfa = before.nfa;
     }
 
@@ -108,7 +108,9 @@ pub search-smaller : goal.search-smaller
 search-smaller c =
     let nfa = c.search.self.nfa.now in
     let graph = graph_of (meaning nfa).rows (passing_of c.args.passing.now) nfa.shallow in
-    passed_falls graph (popped _ c.in-Some.ensures.items)
+    let stack = c.search.self.waiting.items in
+    let left = top_in_hand c.pop-next.result c.pop-next.new.self.items c.pop-next.ensures.items in
+    passed_falls graph (hand_first stack c.in-Some.is ∙ ap (λ l. c.in-Some.id ∷ l) (sym left))
 
 pub search-preserved : goal.search-preserved
 search-preserved c =
@@ -117,16 +119,18 @@ search-preserved c =
     let before = c.search.invariant in
     let old = c.search.self.stamps in
     let new = c.is_first.new.self in
-    let popped_len = ap length c.in-Some.ensures.items ∙ length-append c.pop.new.self.items (c.in-Some.id ∷ []) in
+    let stack = c.search.self.waiting.items in
+    let rest = c.pop-next.new.self in
     let first = c.is_first.ensures in
     let count = count_old _ c.is_first.result first.count c.if-is_first.false in
     record {
       search =
-          passed_on graph c.pop.new.self.items c.in-Some.id (is_met old.stamps.items old.now)
-          (is_met new.stamps.items new.now) first.only before.search c.in-Some.ensures.items first.new
-          c.if-is_first.false;
+          passed_on graph (reverse stack) c.in-Some.id (is_met old.stamps.items old.now)
+          (is_met new.stamps.items new.now) first.only before.search (hand_first stack c.in-Some.is) first.new
+          c.if-is_first.false (top_in_hand c.pop-next.result rest.items c.pop-next.ensures.items);
       few = before.few;
-      stack = omega (arith, before.stack, popped_len, count);
+      none = none_waits c.pop-next.result rest.items _ rest.ok.0 c.pop-next.ensures.cases;
+      stack = omega (arith, before.stack, rest.ok.0, c.search.self.waiting.ok.0, c.pop-next.ensures.len, count);
       listed = omega (arith, before.listed, count);
       found_room = before.found_room;
       found_grown = before.found_grown;
@@ -139,26 +143,10 @@ pub returns-clause-rows : goal.returns-clause-rows
 returns-clause-rows c =
     let nfa = c.search.self.nfa.now in
     let left = c.search.invariant in
-    let waiting = c.search.self.waiting in
     let pass = passing_of c.args.passing.now in
     let stamps = c.search.self.stamps in
     let found = c.args.found.now.items in
     let done =
-    searched (meaning nfa).rows pass nfa.shallow {stamps = stamps.stamps.items} {now = stamps.now} waiting.items
-    waiting.ok.0 c.in_default.ensures.cases.0 left.search left.few left.listed in
+    searched (meaning nfa).rows pass nfa.shallow {stamps = stamps.stamps.items} {now = stamps.now} c.search.next
+    c.search.self.waiting.items c.in_default.is left.none left.search left.few left.listed in
     done.0 ∙ ap (λ (n : NFA). found ++ fresh found (closure (meaning n).rows pass c.args.row)) left.nfa
-
-pub returns-clause-searched : goal.returns-clause-searched
-returns-clause-searched c =
-    let nfa = c.search.self.nfa.now in
-    let left = c.search.invariant in
-    let waiting = c.search.self.waiting in
-    let done =
-    searched (meaning nfa).rows (passing_of c.args.passing.now) nfa.shallow waiting.items waiting.ok.0
-    c.in_default.ensures.cases.0 left.search left.few left.listed in
-    let stamps = c.search.self.stamps in
-    subst
-    (λ (n : NFA).
-    IsSearched (meaning n).rows (passing_of c.args.passing.now) stamps.stamps.items stamps.now c.search.found.items)
-    left.nfa
-    done.1

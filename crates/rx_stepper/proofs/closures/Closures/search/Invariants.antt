@@ -1,11 +1,12 @@
-use Rattle.std.specs.Prelude.{vec_capacity}
-use Rattle.std.proofs.Common.{◌≡◌, ◌+◌, ◌<◌, ◌≤◌, ◌++◌, length, reverse, sum_by}
+use Rattle.std.specs.Prelude.{vec_capacity, IfNone}
+use Rattle.std.proofs.Common.{◌≡◌, ◌+◌, ◌<◌, ◌≤◌, ◌++◌, [], length, sum_by}
 use Rattle.std.specs.List.{AllByRecursion as Every}
 use Rattle.rx_spec.specs.Causes.{id_count}
 use Rattle.rx_spec.specs.States.{closure, fresh}
 use Rattle.rx_powerset.proofs.Closures.{graph_of, weight_of}
 use Rattle.rx_powerset.proofs.Search.{Searching}
 use Rattle.rx_expr.specs.Nfa.{meaning}
+use Rattle.rx_stepper.specs.Searches.{in_turn}
 use Rattle.rx_stepper.specs.Stamps.{is_met, unmet}
 use Rattle.rx_stepper.specs.ThinRows.{passing_of}
 use Rattle.rx_stepper.proofs.closures.Closures.search.Given as goal
@@ -17,11 +18,13 @@ invariant-search l =
     let pass = passing_of l.passing in
     let met = is_met l.self.stamps.stamps.items l.self.stamps.now in
     let new = unmet l.self.stamps.stamps.items l.self.stamps.now in
+    let left = in_turn l.next l.self.waiting.items in
     let target = l.fn.found.items ++ fresh l.fn.found.items (closure rows pass l.fn.row) in
     record {
-      search : Searching (graph_of rows pass nfa.shallow) target met l.found.items (reverse l.self.waiting.items);
+      search : Searching (graph_of rows pass nfa.shallow) target met l.found.items left;
       few : Every (λ x. x < id_count) l.found.items;
-      stack : length l.self.waiting.items + new ≤ length rows + 1;
+      none : IfNone l.next (l.self.waiting.items ≡ []);
+      stack : length l.self.waiting.items + new ≤ length rows;
       listed : length l.found.items + new ≤ length rows;
       found_room : length rows ≤ vec_capacity l.found;
       found_grown : vec_capacity l.fn.found ≤ vec_capacity l.found;
@@ -29,4 +32,4 @@ invariant-search l =
     }
 
 abbrev pub decreases-search : goal.decreases-search
-decreases-search l = sum_by (weight_of (meaning l.self.nfa.now).rows) (reverse l.self.waiting.items)
+decreases-search l = sum_by (weight_of (meaning l.self.nfa.now).rows) (in_turn l.next l.self.waiting.items)
