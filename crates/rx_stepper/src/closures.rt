@@ -144,12 +144,13 @@ impl<'n> Closures<'n> {
             IsSearched rows (passing_of passing.now) stamps.stamps.items stamps.now found.new.items }
     {
         'each: for row in from {
-            if self.stops(*row) {
-                if self.stamps.is_first(*row) {
-                    put(found, *row);
+            let row = *row;
+            if self.stops(row) {
+                if self.stamps.is_first(row) {
+                    put(found, row);
                 }
             } else {
-                self.search(*row, passing, found);
+                self.search(row, passing, found);
             }
         }
     }
