@@ -33,7 +33,6 @@ key_may {s} {units} {l} {limits} {met} {key} suits working is reached = record {
   is_key = is.is_key;
   reached = subst (IsReached (keying s l).build) (sym is.stands_for) reached;
   label = suits.spells.label key is.is_key;
-  size = suits.spells.size key is.is_key;
 }
 
 pub in_true : {P : Type 0} (Q : Type 0) (b : Bool) → b ≡ true → P → MatchBool b P Q

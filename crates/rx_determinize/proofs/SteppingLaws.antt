@@ -43,8 +43,6 @@ suits_kept s r {units} {others} l m another same classes quit suits =
       label = suits.spells.label;
       are_ids = suits.spells.are_ids;
       few = suits.spells.few;
-      size = suits.spells.size;
-      small = suits.spells.small;
     } in
     record {
       byte_classes = suits.byte_classes;

@@ -6,18 +6,16 @@ use Rattle.rx_dense.specs.Layouts.{Layout, stride}
 use Rattle.rx_build_error.specs.declared.BuildErrorKind.{BuildErrorKind}
 use Rattle.rx_determinize.specs.WorkLists.{Interns}
 use Rattle.rx_spec.specs.Builds.{IsReached}
-use Rattle.rx_spec.specs.Sizes.{state_size}
-use Rattle.rx_stepper.specs.Keys.{label_of, size_of}
+use Rattle.rx_stepper.specs.Keys.{label_of}
 use Rattle.rx_determinize.specs.Working.{Keying, Met, SizeLimits, IsWorking, bytes_of}
 
--- A key of a state that is reached may be added. It spells its state's label and size.
+-- A key of a state that is reached may be added. It spells its state's label.
 pub record CanAdd (k : Keying) (limits : SizeLimits) (met : Met) (l : Layout) (key : List ℕ) : Type 0 where
   pub working : IsWorking k limits met l
   pub one_key : (i j : List ℕ) → k.is_key i ≡ true → k.is_key j ≡ true → k.state_of i ≡ k.state_of j → i ≡ j
   pub is_key : k.is_key key ≡ true
   pub reached : IsReached k.build (k.state_of key)
   pub label : label_of key ≡ (k.state_of key).label
-  pub size : size_of key ≡ state_size (k.state_of key)
 
 -- A key's state has a row: that which it had, or a new one behind all others.
 pub record Adds (met : Met) (l : Layout) (key : List ℕ) (after : Met) (m : Layout) (id : ℕ) : Type 0 where

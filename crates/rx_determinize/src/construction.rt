@@ -88,7 +88,7 @@ impl Construction {
             }
         }
         if stepper.next(column, &mut self.key)? {
-            self.states.add(dfa, self.limits, &self.key)
+            self.states.add(stepper, dfa, self.limits, &self.key)
         } else {
             Ok(StateID::ZERO)
         }

@@ -136,7 +136,7 @@ impl Construction {
             return Ok(StateID::ZERO);
         };
         if stepper.start(row, start, &mut self.key)? {
-            self.states.add(dfa, self.limits, &self.key)
+            self.states.add(stepper, dfa, self.limits, &self.key)
         } else {
             Ok(StateID::ZERO)
         }

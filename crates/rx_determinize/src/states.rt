@@ -7,7 +7,8 @@ ghost use Rattle.rx_spec.specs.Causes.{max_id};
 ghost use Rattle.rx_search.specs.Starts.{IsId};
 ghost use Rattle.rx_dense.specs.Builder.{with_row};
 ghost use Rattle.rx_dense.specs.Layouts.{AreRows, IsRowId, ids_of, row_count, stride};
-ghost use Rattle.rx_determinize.specs.Working.{Keying, IsWorking, IsBare, IsOver, none_met};
+ghost use Rattle.rx_stepper.specs.Steppers.{stepping_of};
+ghost use Rattle.rx_determinize.specs.Working.{IsWorking, IsBare, IsOver, keying, none_met};
 ghost use Rattle.rx_determinize.specs.Adding.{Adds, CanAdd, IsFull, IsWithin, Passes};
 
 use rx_base::{PatternID, StateID};
@@ -26,6 +27,7 @@ pub(crate) struct SizeLimits {
 }
 
 impl Model for SizeLimits {
+    ghost use Rattle.rx_stepper.specs.Steppers.{stepping_of};
     ghost use Rattle.rx_determinize.specs.Working.{SizeLimits as Limits};
 
     ghost Value = { Limits };
@@ -47,6 +49,7 @@ pub(crate) struct States {
 
 impl Model for States {
     ghost use Rattle.std.specs.Prelude.{◌<◌, ◌≤◌, ◌*◌, ◌^◌, length};
+    ghost use Rattle.rx_stepper.specs.Steppers.{stepping_of};
     ghost use Rattle.rx_determinize.specs.Working.{Met};
 
     ghost Value = { Met };
@@ -87,19 +90,20 @@ impl States {
     /// The row of a key's state, which is a new one where the state wasn't met before.
     pub(crate) fn add(
         &mut self,
+        stepper: &Stepper<'_>,
         dfa: &mut OwnedDFA,
         limits: SizeLimits,
         key: &[u32],
     ) -> Result<StateID, BuildError>
         requires count { row_count dfa.old ≡ length self.old.keys + 2 }
-        requires bare { IsBare dfa.old }
+        requires can { CanAdd (keying (stepping_of stepper.now) dfa.old) limits self.old dfa.old key.now }
         ensures ok { IfOk result (Adds self.old dfa.old key.now self.new dfa.new) }
         ensures is_row { IfOk result (IsRowId dfa.new) }
         ensures rows { OnOk result (AreRows dfa.new) }
-        ensures working { (k : Keying) → CanAdd k limits self.old dfa.old key.now
-            → OnOk result (IsWorking k limits self.new dfa.new) }
-        ensures err { (k : Keying) → CanAdd k limits self.old dfa.old key.now
-            → IfErr result (λ error. IsOver k limits dfa.old error.kind) }
+        ensures working { OnOk result
+            (IsWorking (keying (stepping_of stepper.now) dfa.old) limits self.new dfa.new) }
+        ensures err { IfErr result (λ error.
+            IsOver (keying (stepping_of stepper.now) dfa.old) limits dfa.old error.kind) }
     {
         let rows = dfa.state_len();
         prove!(self.keys.len() + 2 == rows);
@@ -109,7 +113,7 @@ impl States {
             return Ok(row_id(dfa, row));
         }
         add_row(dfa)?;
-        self.size += u128::from(Stepper::size(key));
+        self.size += u128::from(stepper.size(key));
         self.patterns += Stepper::label(key).len() as u128;
         self.check(dfa, limits)?;
         Ok(row_id(dfa, row))

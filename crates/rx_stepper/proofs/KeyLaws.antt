@@ -16,9 +16,8 @@ use Rattle.rx_spec.specs.States.{State, row_at, firsts}
 use Rattle.rx_lemmas.proofs.Every.{every-weaker}
 use Rattle.rx_powerset.proofs.StateBounds.{few_firsts}
 use Rattle.rx_base.specs.FactBits.{bit, bits_of, facts_with}
-use Rattle.rx_spec.specs.Sizes.{state_size}
 use Rattle.rx_lemmas.proofs.Firsts.{Apart, Apart-fresh, Contains-nil, fresh_itself}
-use Rattle.rx_stepper.specs.Keys.{key_of, label_of, led_of, own_of, size_of, spelled, stands, are_closed, is_closed}
+use Rattle.rx_stepper.specs.Keys.{key_of, label_of, led_of, own_of, spelled, stands, are_closed, is_closed}
 use Rattle.rx_stepper.specs.Keys.{is_key}
 use Rattle.rx_stepper.specs.Leads.{rows_by, without, written, written_as}
 use Rattle.rx_stepper.proofs.Members.{apart_front}
@@ -154,14 +153,11 @@ module _ {rows : List Row} {lead key : List ℕ} (s : Spells rows lead key) wher
   abbrev own : List ℕ
   own = (written lead (spelled lead key).rows).own
 
-  pub key_len : length key ≡ 4 + length state.label + length own
+  pub key_len : length key ≡ 3 + length state.label + length own
   key_len = omega (arith, ap length s.is, length-append state.label own)
 
   pub label_number : get_or key 1 0 ≡ length state.label
   label_number = sym (ap (λ l. get_or l 1 0) s.is)
-
-  pub rows_number : get_or key 2 0 ≡ length state.rows
-  rows_number = sym (ap (λ l. get_or l 2 0) s.is)
 
   pub context_small : get_or key 0 0 < 32
   context_small = subst (λ l. get_or l 0 0 < 32) s.is (bits_small state.context)
@@ -178,16 +174,11 @@ module _ {rows : List Row} {lead key : List ℕ} (s : Spells rows lead key) wher
       }
       front_closed xs false c = c
 
-  rows_few : length state.rows ≤ id_count
+  pub rows_few : length state.rows ≤ id_count
   rows_few = closed_few s.closed.closed
 
-  pub spelled_size : size_of key ≡ state_size state
-  unfolding size_of
-  spelled_size = omega (arith, label_number, rows_number)
-
-  pub spelled_small : size_of key < 2 ^ 35
-  unfolding size_of
-  spelled_small = omega (arith, label_number, rows_number, rows_few, s.closed.few)
+  pub own_few : length (own_of key) ≤ id_count
+  own_few = closed_few own_closed
 
   pub ids_spelled : All (λ k. k ≤ max_id) (label_of key)
   ids_spelled = All-from_recursion (λ k. k ≤ max_id) state.label s.closed.patterns
@@ -208,7 +199,7 @@ pub record WritesState (rows : List Row) (lead : List ℕ) (s : State) (bits : �
 
 module _ {rows : List Row} {lead : List ℕ} {s : State} {bits : ℕ} {is_led : Bool} {own : List ℕ}
     (w : WritesState rows lead s bits is_led own) {key : List ℕ}
-    (e : key ≡ bits ∷ (length s.label ∷ (length s.rows ∷ (bit is_led ∷ (s.label ++ own))))) where
+    (e : key ≡ bits ∷ (length s.label ∷ (bit is_led ∷ (s.label ++ own)))) where
   spelled_rows : rows_by lead is_led own ≡ s.rows
   spelled_rows = sym (ap (λ v. rows_by lead v.is_led v.own) w.written) ∙ written_spells lead s.rows
 
@@ -230,7 +221,7 @@ module _ {rows : List Row} {lead : List ℕ} {s : State} {bits : ℕ} {is_led : 
   key_written =
       let spelt : key_of lead (spelled lead key) ≡ key =
       ap (key_of lead) spelled_is
-      ∙ ap₂ (λ b v. b ∷ (length s.label ∷ (length s.rows ∷ (bit v.is_led ∷ (s.label ++ v.own)))))
+      ∙ ap₂ (λ b v. b ∷ (length s.label ∷ (bit v.is_led ∷ (s.label ++ v.own))))
       (sym w.context.bits_are) w.written
       ∙ sym e in
       both_true (bytes_eq (key_of lead (spelled lead key)) key) (is_closed rows (spelled lead key))

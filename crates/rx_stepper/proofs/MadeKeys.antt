@@ -84,7 +84,7 @@ module _ {nfa : Nfa} {from own : List ℕ} {is_led : Bool} (w : WritesRows nfa f
   pub made_key : {asked : Facts} {label key : List ℕ} {bits : ℕ} → IsWritten bits (made nfa from asked label).context
       → Every (λ k. k ≤ max_id) label → length label < 2 ^ 32
       → is_dead_state (made nfa from asked label) ≡ false
-      → key ≡ bits ∷ (length label ∷ (length closed ∷ (bit is_led ∷ (label ++ own))))
+      → key ≡ bits ∷ (length label ∷ (bit is_led ∷ (label ++ own)))
       → IsMadeKey nfa from asked label key
   made_key {asked} {label} {key} {bits} context patterns few alive e =
       let writes : WritesState nfa.rows (lead_of nfa) (made nfa from asked label) bits is_led own = record {
@@ -110,16 +110,16 @@ module _ {nfa : Nfa} {from own : List ℕ} {is_led : Bool} (w : WritesRows nfa f
       (λ t. led_somewhere (lead_of nfa) closed (w.written ∙ ap (λ b. written_as b own) t))
 
   -- the key as it is written, from what its parts are found to be
-  pub key_made : (group : ℕ) {label key : List ℕ} {bits count : ℕ} → group ≡ bits_of (facts_with group)
+  pub key_made : (group : ℕ) {label key : List ℕ} {bits : ℕ} → group ≡ bits_of (facts_with group)
       → bits ≡ (if list_any (λ q. is_look_row (row_at nfa.rows q)) (rows_by (lead_of nfa) is_led own) then group else 0)
-      → count ≡ length (rows_by (lead_of nfa) is_led own) → All (λ k. k ≤ max_id) label → length label < 2 ^ 32
+      → All (λ k. k ≤ max_id) label → length label < 2 ^ 32
       → (not is_led && (length own == 0) && (length label == 0)) ≡ false
-      → key ≡ bits ∷ (length label ∷ (count ∷ (bit is_led ∷ (label ++ own))))
+      → key ≡ bits ∷ (length label ∷ (bit is_led ∷ (label ++ own)))
       → IsMadeKey nfa from (facts_with group) label key
-  key_made group {label} {key} {bits} {count} number asks counted patterns few alive e =
+  key_made group {label} {key} {bits} number asks patterns few alive e =
       let looks = λ (l : List ℕ). list_any (λ q. is_look_row (row_at nfa.rows q)) l in
       made_key
       (kept_written (looks closed) (facts_with group)
       (asks ∙ ap (λ l. if looks l then group else 0) rows_are) number refl)
       (recursion_from_All (λ k. k ≤ max_id) label patterns) few (dead_made (facts_with group) label ∙ alive)
-      (e ∙ ap (λ n. bits ∷ (length label ∷ (n ∷ (bit is_led ∷ (label ++ own))))) (counted ∙ ap length rows_are))
+      e

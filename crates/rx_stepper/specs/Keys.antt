@@ -1,5 +1,5 @@
 -- States as keys: lists of numbers that spell them.
-use Rattle.std.specs.Prelude.{ℕ, ◌+◌, ◌*◌, ◌^◌, ◌==◌, ◌&&◌, nat_le, nat_lt, Bool, true, false, List, ◌∷◌, ◌++◌, length}
+use Rattle.std.specs.Prelude.{ℕ, ◌^◌, ◌==◌, ◌&&◌, nat_le, nat_lt, Bool, true, false, List, ◌∷◌, ◌++◌, length}
 use Rattle.std.specs.Prelude.{take, drop, slice_index}
 use Rattle.std.specs.List.{list_all}
 use Rattle.std.specs.Str.{bytes_eq}
@@ -9,26 +9,23 @@ use Rattle.rx_spec.specs.States.{State, row_at, firsts}
 use Rattle.rx_base.specs.FactBits.{bit, bits_of, facts_with}
 use Rattle.rx_stepper.specs.Leads.{rows_by, written}
 
--- a state's key: the number of its context, how many patterns its label has, how many rows it has, whether the
--- lead-in's others are left out, the label, and the rows that are written
+-- a state's key: the number of its context, how many patterns its label has, whether the lead-in's other rows are left
+-- out, the label, and the rows that are written
 abbrev pub key_of : List ℕ → State → List ℕ
 key_of lead s =
     let w = written lead s.rows in
-    bits_of s.context ∷ (length s.label ∷ (length s.rows ∷ (bit w.is_led ∷ (s.label ++ w.own))))
+    bits_of s.context ∷ (length s.label ∷ (bit w.is_led ∷ (s.label ++ w.own)))
 
--- a key's label, and what its state counts for, by its numbers alone
+-- a key's label, by its numbers alone
 unfoldable pub label_of : List ℕ → List ℕ
-label_of key = take (slice_index key 1) (drop 4 key)
-
-unfoldable pub size_of : List ℕ → ℕ
-size_of key = 8 + 4 * (slice_index key 1 + slice_index key 2)
+label_of key = take (slice_index key 1) (drop 3 key)
 
 -- its rows that are written, and whether the lead-in's others follow
 abbrev pub own_of : List ℕ → List ℕ
-own_of key = drop (slice_index key 1) (drop 4 key)
+own_of key = drop (slice_index key 1) (drop 3 key)
 
 abbrev pub led_of : List ℕ → Bool
-led_of key = slice_index key 3 == 1
+led_of key = slice_index key 2 == 1
 
 -- the state that a list of numbers spells
 abbrev pub spelled : List ℕ → List ℕ → State

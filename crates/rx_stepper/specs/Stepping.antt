@@ -6,12 +6,11 @@ use Rattle.rx_spec.specs.Builds.{is_dead_state}
 use Rattle.rx_spec.specs.Causes.{max_id}
 use Rattle.rx_spec.specs.Classes.{representatives}
 use Rattle.rx_spec.specs.Nfas.{Nfa}
-use Rattle.rx_spec.specs.Sizes.{state_size}
 use Rattle.rx_spec.specs.States.{State, step}
 use Rattle.rx_spec.specs.declared.MatchKind.{MatchKind}
 use Rattle.rx_base.specs.ByteClasses.{ends_of}
 use Rattle.rx_base.specs.FactBits.{facts_with}
-use Rattle.rx_stepper.specs.Keys.{label_of, size_of}
+use Rattle.rx_stepper.specs.Keys.{label_of}
 use Rattle.rx_stepper.specs.Leads.{lead_of}
 use Rattle.rx_stepper.specs.Steps.{rows_in}
 
@@ -32,13 +31,11 @@ pub record Stepping : Type 0 where
 abbrev pub HasOneKeyEach : Stepping → Type 0
 HasOneKeyEach s = (j k : List ℕ) → s.is_key j ≡ true → s.is_key k ≡ true → s.state_of j ≡ s.state_of k → j ≡ k
 
--- A key spells the label of its state, whose patterns are ids, and what the state counts for.
+-- A key spells the label of its state, whose patterns are ids.
 pub record SpellStates (s : Stepping) : Type 0 where
   pub label : (key : List ℕ) → s.is_key key ≡ true → label_of key ≡ (s.state_of key).label
   pub are_ids : (key : List ℕ) → s.is_key key ≡ true → All (λ k. k ≤ max_id) (label_of key)
   pub few : (key : List ℕ) → s.is_key key ≡ true → length (label_of key) < 2 ^ 32
-  pub size : (key : List ℕ) → s.is_key key ≡ true → size_of key ≡ state_size (s.state_of key)
-  pub small : (key : List ℕ) → s.is_key key ≡ true → size_of key < 2 ^ 35
 
 -- the unit that stands for a column: the least byte of its class, and for the last column the end mark
 abbrev pub unit_of : List ℕ → ℕ → ℕ

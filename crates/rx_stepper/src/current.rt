@@ -68,7 +68,7 @@ impl Current {
         reached: &mut Vec<StateID>,
     ) -> Result<(), AllocError>
         requires context { slice_index key.now 0 < 256 }
-        requires long { 4 + slice_index key.now 1 ≤ length key.now }
+        requires long { 3 + slice_index key.now 1 ≤ length key.now }
         requires closed { are_closed (meaning closures.old.nfa.now).rows (own_of key.now) ≡ true }
         requires reading { columns.now.reading.count ≡ length self.old.steps.targets.items }
         requires groups { length columns.now.groups.of.items ≡ length self.old.steps.targets.items }

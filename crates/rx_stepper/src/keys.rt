@@ -4,18 +4,16 @@ ghost use Rattle.std.specs.Prelude.{◌≡◌, ◌≤◌, ◌<◌, ◌+◌, ◌^
 ghost use Rattle.std.specs.Prelude.{length, slice_index, take};
 ghost use Rattle.rx_spec.specs.Causes.{max_id};
 ghost use Rattle.rx_base.specs.FactBits.{bit, facts_with};
-ghost use Rattle.rx_stepper.specs.Keys.{label_of, led_of, own_of, size_of};
+ghost use Rattle.rx_stepper.specs.Keys.{label_of, led_of, own_of};
 
 use rx_base::{Facts, PatternID, StateID};
 use std::alloc::AllocError;
 
-/// What stands before a key's label and rows.
+/// What stands before a key's label and rows, beside the label's length.
 #[derive(Clone, Copy)]
 pub(crate) struct Head {
     /// The number of what is known of the unit read last.
     pub(crate) context: u8,
-    /// How many rows the state has.
-    pub(crate) rows: u32,
     /// Whether the lead-in's other rows follow those that are written.
     pub(crate) is_led: bool,
 }
@@ -25,24 +23,16 @@ pub(crate) struct Head {
 pub(crate) fn label_of(key: &[u32]) -> &[u32]
     ensures { result.now ≡ label_of key.now }
 {
-    if key.len() < 4 {
+    if key.len() < 3 {
         return &[];
     }
-    let numbers = &key[4..];
+    let numbers = &key[3..];
     let len = key[1] as usize;
     if numbers.len() <= len {
         numbers
     } else {
         &numbers[..len]
     }
-}
-
-/// What a key's state counts for: 8 bytes, and 4 for each row and each pattern.
-#[tactic(auto, unfolding(crate::specs::Keys::size_of))]
-pub(crate) fn size_of(key: &[u32]) -> u64
-    ensures { result ≡ size_of key.now }
-{
-    8 + 4 * (number(key, 1) + number(key, 2))
 }
 
 /// A number of a key; 0 past its end.
@@ -58,17 +48,17 @@ fn number(key: &[u32], place: usize) -> u64
 
 /// The rows of a key's state that are written.
 pub(crate) fn own_of(key: &[u32]) -> &[u32]
-    requires { 4 + slice_index key.now 1 ≤ length key.now }
+    requires { 3 + slice_index key.now 1 ≤ length key.now }
     ensures { result.now ≡ own_of key.now }
 {
-    &key[4..][key[1] as usize..]
+    &key[3..][key[1] as usize..]
 }
 
 /// Whether the lead-in's other rows follow them.
 pub(crate) fn is_led(key: &[u32]) -> bool
     ensures { result ≡ led_of key.now }
 {
-    number(key, 3) == 1
+    number(key, 2) == 1
 }
 
 /// What a key's state knows of the unit read last.
@@ -102,16 +92,15 @@ pub(crate) fn write(
 ) -> Result<(), AllocError>
     requires { length label.now < 2 ^ 32 }
     ensures items { OnOk result (key.new.items
-        ≡ head.context ∷ (length label.now ∷ (head.rows ∷ (bit head.is_led ∷ (label.now ++ own.now))))) }
+        ≡ head.context ∷ (length label.now ∷ (bit head.is_led ∷ (label.now ++ own.now)))) }
     ensures label { OnOk result (All (λ k. k ≤ max_id) label.now) }
 {
-    key.resize(4 + label.len() + own.len(), 0)?;
+    key.resize(3 + label.len() + own.len(), 0)?;
     key[0] = u32::from(head.context);
     key[1] = label.len() as u32;
-    key[2] = head.rows;
-    key[3] = u32::from(head.is_led);
-    write_patterns(label, 4, key);
-    write_rows(own, 4 + label.len(), key);
+    key[2] = u32::from(head.is_led);
+    write_patterns(label, 3, key);
+    write_rows(own, 3 + label.len(), key);
     Ok(())
 }
 

@@ -91,7 +91,6 @@ impl LeadIn {
         }
         let head = keys::Head {
             context: keys::kept(self.has_look(closures, own, is_led), asked),
-            rows: self.rows_len(own, is_led),
             is_led,
         };
         keys::write(head, label, own, key)?;
@@ -168,7 +167,7 @@ impl LeadIn {
         let mut met = met;
         let mut len = own.len();
         while len > 0 {
-            let place = self.place(own[len - 1]);
+            let place = self.place(own[len - 1].as_usize());
             if place >= met {
                 return len;
             }
@@ -178,12 +177,12 @@ impl LeadIn {
         0
     }
 
-    /// The place of a row, or a number past the end.
+    /// The place of a row, by its number; past the end where it has none.
     #[inline]
-    fn place(&self, row: StateID) -> usize
+    fn place(&self, row: usize) -> usize
         ensures { result ≡ slice_index_or self.now.places.items row no_place }
     {
-        match self.places.get(row.as_usize()) {
+        match self.places.get(row) {
             Some(place) => *place as usize,
             None => NO_PLACE as usize,
         }
@@ -264,22 +263,29 @@ impl LeadIn {
         }
     }
 
-    /// How many rows a state has.
-    fn rows_len(&self, own: &[StateID], is_led: bool) -> u32
+    /// Whether a row is among them, by its number.
+    fn has(&self, row: u32) -> bool
+        ensures { result ≡ list_any (λ x. row == x) self.now.rows.items }
+    {
+        self.place(row as usize) < self.rows.len()
+    }
+
+    /// How many rows a state has, by the numbers of those that are written.
+    pub(crate) fn rows_len(&self, own: &[u32], is_led: bool) -> usize
         requires once { firsts own.now ≡ own.now }
         requires few { length own.now ≤ id_count }
         ensures { result ≡ length (rows_by self.now.rows.items is_led own.now) }
     {
         if !is_led {
-            return own.len() as u32;
+            return own.len();
         }
         let mut others = self.rows.len();
         for row in own {
-            if self.place(*row) < self.rows.len() {
+            if self.has(*row) {
                 others -= 1;
             }
         }
-        (own.len() + others) as u32
+        own.len() + others
     }
 }
 

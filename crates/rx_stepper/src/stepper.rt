@@ -1,16 +1,17 @@
 //! What steps states.
 
-ghost use Rattle.std.specs.Prelude.{◌≡◌, ℕ, ◌<◌, ◌≤◌, true, false, MatchBool, Some, IfOk, OnOk, IfSome, length};
+ghost use Rattle.std.specs.Prelude.{◌≡◌, ℕ, ◌<◌, ◌≤◌, ◌^◌, true, false, MatchBool, Some, IfOk, OnOk, IfSome, length};
 ghost use Rattle.std.specs.Prelude.{slice_get, slice_index, vec_capacity};
 ghost use Rattle.std.specs.Option.{option_copied};
 ghost use Rattle.rx_spec.specs.Builds.{is_dead_state};
+ghost use Rattle.rx_spec.specs.Sizes.{state_size};
 ghost use Rattle.rx_spec.specs.States.{start_state};
 ghost use Rattle.rx_base.specs.ByteClasses.{alphabet_len};
 ghost use Rattle.rx_expr.specs.Nfa.{meaning};
 ghost use Rattle.rx_stepper.specs.Fits.{Fits, FitsCurrent, FitsLead, table_of};
 ghost use Rattle.rx_stepper.specs.Gathering.{IsLeadOf};
 ghost use Rattle.rx_base.specs.FactBits.{bits_of, facts_with};
-ghost use Rattle.rx_stepper.specs.Keys.{label_of, led_of, size_of};
+ghost use Rattle.rx_stepper.specs.Keys.{label_of, led_of};
 
 use crate::closures::Closures;
 use crate::columns::Columns;
@@ -268,10 +269,14 @@ impl<'n> Stepper<'n> {
 
     /// The bytes that a key's state counts for where a limit is set on the states of a construction: 8, and 4 for each
     /// row and each pattern.
-    pub fn size(key: &[u32]) -> u64
-        ensures { result ≡ size_of key.now }
+    #[tactic(auto, unfolding(crate::specs::Steppers::stepping_of))]
+    pub fn size(&self, key: &[u32]) -> u64
+        requires { (stepping_of self.now).is_key key.now ≡ true }
+        ensures value { result ≡ state_size ((stepping_of self.now).state_of key.now) }
+        ensures small { result < 2 ^ 35 }
     {
-        keys::size_of(key)
+        let rows = self.lead_in.rows_len(keys::own_of(key), keys::is_led(key));
+        8 + 4 * (rows + keys::label_of(key).len()) as u64
     }
 }
 

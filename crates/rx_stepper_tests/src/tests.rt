@@ -15,7 +15,7 @@ fn tells(stepper: &Stepper<'_>, key: &[u32], state: &PowerState) -> bool
     requires { (stepping_of stepper.now).is_key key.now ≡ true }
 {
     let label = Stepper::label(key);
-    if label.len() != state.pattern_len() || Stepper::size(key) != state.size() {
+    if label.len() != state.pattern_len() || stepper.size(key) != state.size() {
         return false;
     }
     for i in 0..label.len() {

@@ -3,24 +3,24 @@ use Rattle.std.proofs.lemmas.List.{take_all, nil_from_length}
 use Rattle.rx_stepper.specs.Keys.{label_of}
 use Rattle.rx_stepper.proofs.keys.label_of.Goals as goal
 
-all_numbers : (key : List ℕ) → take (length key - 4) (drop 4 key) ≡ drop 4 key
-all_numbers key = take_all (length key - 4) (drop 4 key) (omega (arith, length-drop 4 key))
+all_numbers : (key : List ℕ) → take (length key - 3) (drop 3 key) ≡ drop 3 key
+all_numbers key = take_all (length key - 3) (drop 3 key) (omega (arith, length-drop 3 key))
 
 take_none : (n : ℕ) (xs : List ℕ) → length xs ≡ 0 → [] ≡ take n xs
 take_none n xs e = sym (nil_from_length xs e) ∙ sym (take_all n xs (omega (arith, e)))
 
-pub returns-then-key-lt4 : goal.returns-then-key-lt4
+pub returns-then-key-lt3 : goal.returns-then-key-lt3
 unfolding label_of
-returns-then-key-lt4 c =
+returns-then-key-lt3 c =
     let key = c.args.key.now in
-    take_none (get_or key 1 0) (drop 4 key) (omega (arith, length-drop 4 key, c.if-key-lt4.true))
+    take_none (get_or key 1 0) (drop 3 key) (omega (arith, length-drop 3 key, c.if-key-lt3.true))
 
 pub returns-then-numbers-len : goal.returns-then-numbers-len
 unfolding label_of
 returns-then-numbers-len c =
     let key = c.args.key.now in
     all_numbers key
-    ∙ sym (take_all (get_or key 1 0) (drop 4 key)
+    ∙ sym (take_all (get_or key 1 0) (drop 3 key)
     (omega (arith, c.if-numbers-len.true, ap length (all_numbers key))))
 
 pub returns-else-numbers-len : goal.returns-else-numbers-len

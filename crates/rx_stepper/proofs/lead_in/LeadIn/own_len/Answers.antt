@@ -1,5 +1,7 @@
-use Rattle.std.proofs.Common.{◌≡◌, ◌-◌, ◌<◌, ◌≤◌, take, ap, subst, sym, ◌∙◌, arith}
+use Rattle.std.proofs.Common.{◌≡◌, ℕ, ◌-◌, ◌<◌, ◌≤◌, take, ap, subst, sym, ◌∙◌, arith}
+use Rattle.std.specs.Prelude.{slice_index_or}
 use Rattle.rx_stepper.specs.Leads.{led}
+use Rattle.rx_stepper.specs.Places.{no_place}
 use Rattle.rx_stepper.proofs.KeyLaws.{once_apart}
 use Rattle.rx_stepper.proofs.LeadPlaces.{Trimmed, last_row, least_none, trimmed_least, trimmed_more, trimmed_none}
 use Rattle.rx_stepper.proofs.lead_in.LeadIn.own_len.Goals as goal
@@ -14,9 +16,11 @@ loop-len-preserved c =
     let own = c.args.own.now in
     let t = c.loop-len.invariant in
     let l = last_row own c.loop-len.len c.loop-len-test.true t.within c.index-own-len.is in
-    subst (Trimmed lead own (c.loop-len.len - 1)) (sym c.place-place.ensures)
+    let place = c.place-place.ensures
+    ∙ ap (λ (row : ℕ). slice_index_or self.places.items row no_place) c.as_usize.ensures.value in
+    subst (Trimmed lead own (c.loop-len.len - 1)) (sym place)
     (trimmed_more self.places_are (once_apart lead self.once) (once_apart own c.requires.once) t l
-    (subst (λ p. p < c.loop-len.met) c.place-place.ensures c.if-place-met.false))
+    (subst (λ p. p < c.loop-len.met) place c.if-place-met.false))
 
 pub returns-then-place-met : goal.returns-then-place-met
 returns-then-place-met c =
@@ -25,12 +29,14 @@ returns-then-place-met c =
     let own = c.args.own.now in
     let t = c.loop-len.invariant in
     let l = last_row own c.loop-len.len c.loop-len-test.true t.within c.index-own-len.is in
+    let place = c.place-place.ensures
+    ∙ ap (λ (row : ℕ). slice_index_or self.places.items row no_place) c.as_usize.ensures.value in
     record {
       within = t.within;
       same = t.same;
       least =
           trimmed_least self.places_are (once_apart lead self.once) (once_apart own c.requires.once) t l
-          (subst (λ p. c.loop-len.met ≤ p) c.place-place.ensures c.if-place-met.true);
+          (subst (λ p. c.loop-len.met ≤ p) place c.if-place-met.true);
     }
 
 pub returns : goal.returns

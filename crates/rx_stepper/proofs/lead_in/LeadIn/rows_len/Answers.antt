@@ -1,59 +1,39 @@
-use Rattle.std.proofs.Common.{◌≡◌, ltb, true, false, length, ap, sym, ◌∙◌, arith}
-use Rattle.std.proofs.lemmas.Bool.{false_from_ne_true, lt-ltb, ltb-true}
+use Rattle.std.proofs.Common.{ℕ, length, slice_index, ap, sym, ◌∙◌, arith}
+use Rattle.std.proofs.lemmas.List.{get_or_default}
 use Rattle.rx_base.specs.FactBits.{bit}
 use Rattle.rx_stepper.specs.Leads.{rows_by}
 use Rattle.rx_stepper.proofs.KeyLaws.{once_apart}
-use Rattle.rx_stepper.proofs.LeadPlaces.{has_place}
 use Rattle.rx_stepper.proofs.LeadSplits.{shared_all, shared_left, shared_more}
-use Rattle.rx_stepper.proofs.Members.{was}
 use Rattle.rx_stepper.proofs.lead_in.LeadIn.rows_len.Goals as goal
-use Rattle.rx_stepper.proofs.lead_in.LeadIn.rows_len.Goals.{then-place-len, else-place-len}
+use Rattle.rx_stepper.proofs.lead_in.LeadIn.rows_len.Goals.{then-has, else-has}
 
 pub overflow_sub-others : goal.overflow_sub-others
 overflow_sub-others c =
     let self = c.args.self.now in
-    let q = c.row-item.result in
-    let one : was self.rows.items q ≡ true =
-    sym (has_place self.places_are q)
-    ∙ lt-ltb _ (length self.rows.items) (omega
-    (arith, c.if-place-len.true, c.place.ensures, c.len.ensures, self.rows.ok.0)) in
-    shared_left self.rows.items c.args.own.now c.loop-row.row-index (once_apart c.args.own.now c.requires.once)
-    (once_apart self.rows.items self.once) c.loop-row-test.true c.row-item.is one c.loop-row.invariant
+    let own = c.args.own.now in
+    let row : ℕ = slice_index own c.loop-row.row-index in
+    let is = get_or_default own c.loop-row.row-index 0 row c.loop-row-test.true in
+    shared_left self.rows.items own c.loop-row.row-index (once_apart own c.requires.once)
+    (once_apart self.rows.items self.once) c.loop-row-test.true is (sym c.has.ensures ∙ c.if-has.true)
+    c.loop-row.invariant
 
 pub loop-row-preserved : goal.loop-row-preserved
 loop-row-preserved c =
     let self = c.args.self.now in
     let lead = self.rows.items in
-    let q = c.row-item.result in
-    let more = shared_more lead c.args.own.now c.loop-row.row-index c.loop-row-test.true c.row-item.is in
-    elim c.if-place-len.branch [
-      | then-place-len w ↦
-          let one : was lead q ≡ true =
-          sym (has_place self.places_are q)
-          ∙ lt-ltb _ (length lead) (omega (
-            arith,
-            w.if-place-len.true,
-            c.place.ensures,
-            c.len.ensures,
-            self.rows.ok.0,
-          )) in
+    let own = c.args.own.now in
+    let row : ℕ = slice_index own c.loop-row.row-index in
+    let is = get_or_default own c.loop-row.row-index 0 row c.loop-row-test.true in
+    let more = shared_more lead own c.loop-row.row-index c.loop-row-test.true is in
+    elim c.if-has.branch [
+      | then-has w ↦
+          let one = sym c.has.ensures ∙ w.if-has.true in
           let left =
-          shared_left lead c.args.own.now c.loop-row.row-index (once_apart c.args.own.now c.requires.once)
-          (once_apart lead self.once) c.loop-row-test.true c.row-item.is one c.loop-row.invariant in
+          shared_left lead own c.loop-row.row-index (once_apart own c.requires.once) (once_apart lead self.once)
+          c.loop-row-test.true is one c.loop-row.invariant in
           omega (arith, w.others-is, c.loop-row.invariant, more, ap bit one, left)
-      | else-place-len w ↦
-          let none : was lead q ≡ false =
-          sym (has_place self.places_are q)
-          ∙ false_from_ne_true (ltb _ (length lead))
-          (λ t. omega (
-            arith,
-            ltb-true _ (length lead) t,
-            w.if-place-len.false,
-            c.place.ensures,
-            c.len.ensures,
-            self.rows.ok.0,
-          )) in
-          omega (arith, w.others-is, c.loop-row.invariant, more, ap bit none)
+      | else-has w ↦
+          omega (arith, w.others-is, c.loop-row.invariant, more, ap bit (sym c.has.ensures ∙ w.if-has.false))
     ]
 
 pub returns : goal.returns

@@ -1,14 +1,14 @@
-use Rattle.std.proofs.Common.{◌≡◌, ◌<◌, ◌==◌, ◌&&◌, not, if◌then◌else◌, List, ℕ, ◌∷◌, ◌++◌, length, ap, ap₂, sym, ◌∙◌}
+use Rattle.std.proofs.Common.{◌<◌, ◌==◌, ◌&&◌, not, if◌then◌else◌, List, ℕ, ◌∷◌, ◌++◌, length, ap, ap₂, sym, ◌∙◌}
 use Rattle.std.proofs.Common.{subst}
 use Rattle.std.proofs.lemmas.List.Elements.{recursion_from_All}
 use Rattle.std.specs.List.{list_any, AllByRecursion as Every}
 use Rattle.rx_spec.specs.Causes.{id_count}
-use Rattle.rx_spec.specs.States.{firsts, is_look_row, row_at}
+use Rattle.rx_spec.specs.States.{is_look_row, row_at}
 use Rattle.rx_base.specs.FactBits.{bit, facts_with}
 use Rattle.rx_expr.specs.Nfa.{meaning}
 use Rattle.rx_expr.specs.declared.thompson.nfa.NFA.{NFA}
 use Rattle.rx_stepper.specs.Leads.{rows_by}
-use Rattle.rx_stepper.proofs.MadeKeys.{WritesRows, dead_made, key_made, own_once}
+use Rattle.rx_stepper.proofs.MadeKeys.{WritesRows, dead_made, key_made}
 use Rattle.rx_stepper.proofs.lead_in.LeadIn.write_key.Goals as goal
 
 pub returns-then-is_dead-clause-key : goal.returns-then-is_dead-clause-key
@@ -27,19 +27,6 @@ returns-then-is_dead-clause-key c =
     ∙ ap (λ (l : List ℕ). not c.close-is_led.result && (length l == 0) && (length label == 0))
     (sym c.deref.ensures.value)
     ∙ sym c.is_dead.ensures ∙ c.if-is_dead.true
-
-pub rows_len-requires-clause-once : goal.rows_len-requires-clause-once
-rows_len-requires-clause-once c =
-    let from = c.args.from.first.now ++ c.args.from.second.now in
-    let w : WritesRows (meaning c.args.closures.now.nfa.now) from c.close-is_led.new.own.items
-    c.close-is_led.result = record {
-      written = c.close-is_led.ensures.rows;
-      ids = c.close-is_led.ensures.ids;
-      lead_ids =
-          subst (Every (λ q. q < id_count)) c.requires.is.rows
-          (recursion_from_All (λ q. q < id_count) c.args.self.now.rows.items c.requires.is.ids);
-    } in
-    subst (λ (l : List ℕ). firsts l ≡ l) (sym c.deref-3.ensures.value) (own_once w)
 
 pub returns-clause-key : goal.returns-clause-key
 returns-clause-key c =
@@ -60,15 +47,12 @@ returns-clause-key c =
     let asks =
     c.has_look.ensures
     ∙ ap₂ looks c.close-is_led.ensures.nfa (ap₂ (λ m l. rows_by m is_led l) lead c.deref-2.ensures.value) in
-    let counted =
-    c.rows_len.ensures
-    ∙ ap length (ap₂ (λ m l. rows_by m is_led l) lead c.deref-3.ensures.value) in
     let wrote = c.in_ok-write.ensures in
     let alive =
     ap (λ (l : List ℕ). not is_led && (length l == 0) && (length label == 0)) (sym c.deref.ensures.value)
     ∙ sym c.is_dead.ensures ∙ c.if-is_dead.false in
-    key_made w group c.requires.asked (c.kept.ensures ∙ ap (λ b. if b then group else 0) asks) counted wrote.label
+    key_made w group c.requires.asked (c.kept.ensures ∙ ap (λ b. if b then group else 0) asks) wrote.label
     c.requires.label alive
     (wrote.items
-    ∙ ap (λ (l : List ℕ). c.kept.result ∷ (length label ∷ (c.rows_len.result ∷ (bit is_led ∷ (label ++ l)))))
-    c.deref-4.ensures.value)
+    ∙ ap (λ (l : List ℕ). c.kept.result ∷ (length label ∷ (bit is_led ∷ (label ++ l))))
+    c.deref-3.ensures.value)

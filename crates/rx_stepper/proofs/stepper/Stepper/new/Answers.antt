@@ -7,7 +7,7 @@ use Rattle.rx_stepper.specs.Fits.{Fits, FitsCurrent, FitsLead, table_of}
 use Rattle.rx_stepper.specs.LeadIns.{IsLeadIn}
 use Rattle.rx_stepper.specs.Leads.{lead_of}
 use Rattle.rx_stepper.specs.Steppers.{stepping_of}
-use Rattle.rx_stepper.proofs.KeyLaws.{ids_spelled, one_key_each, spelled_size, spelled_small, spells}
+use Rattle.rx_stepper.proofs.KeyLaws.{ids_spelled, one_key_each, spells}
 use Rattle.rx_stepper.proofs.StepperParts.{dead_current, no_leads}
 use Rattle.rx_stepper.proofs.UnitCounts.{units_counted}
 use Rattle.rx_stepper.proofs.stepper.Stepper.new.Goals as goal
@@ -59,8 +59,6 @@ returns-clause-spells c =
       label = λ key is_key. refl;
       are_ids = λ key is_key. ids_spelled (spells nfa.rows (lead_of nfa) key is_key);
       few = λ key is_key. (spells nfa.rows (lead_of nfa) key is_key).closed.few;
-      size = λ key is_key. spelled_size (spells nfa.rows (lead_of nfa) key is_key);
-      small = λ key is_key. spelled_small (spells nfa.rows (lead_of nfa) key is_key);
     }
 
 pub returns-clause-one_key : goal.returns-clause-one_key
