@@ -19,8 +19,8 @@ use Rattle.rx_dense_image.specs.Marks.{are_past_quit, are_ranges, are_special, b
 use Rattle.rx_dense_image.specs.Marks.{is_past_quit, is_range}
 use Rattle.rx_dense_image.specs.Closing.{are_named, are_special_rows, is_named, special_stand}
 use Rattle.rx_dense_image.proofs.EachBelow.{all_of, and_of}
-use Rattle.rx_built_images.proofs.KindTests.{accelerated_low, after_of, first_of, low_accelerated, low_matches, match_is}
-use Rattle.rx_built_images.proofs.KindTests.{matches_low, or_middle}
+use Rattle.rx_built_images.proofs.KindTests.{accelerated_low, after_of, first_of, low_accelerated, low_matches}
+use Rattle.rx_built_images.proofs.KindTests.{match_is, matches_low, or_middle}
 use Rattle.rx_built_images.proofs.Places.{rows_rise}
 use Rattle.rx_built_images.proofs.WholeRows.{row_id_passes}
 

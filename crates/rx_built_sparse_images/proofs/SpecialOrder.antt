@@ -14,8 +14,8 @@ use Rattle.rx_order.proofs.MarkedRows.{start_row_plain}
 use Rattle.rx_dense_image.specs.Marks.{are_past_quit, are_ranges, are_special, begin_in_order, begins_after}
 use Rattle.rx_dense_image.specs.Marks.{is_past_quit, is_range}
 use Rattle.rx_dense_image.proofs.EachBelow.{and_of}
-use Rattle.rx_built_images.proofs.KindTests.{accelerated_low, after_of, first_of, low_accelerated, low_matches, match_is}
-use Rattle.rx_built_images.proofs.KindTests.{matches_low, or_middle}
+use Rattle.rx_built_images.proofs.KindTests.{accelerated_low, after_of, first_of, low_accelerated, low_matches}
+use Rattle.rx_built_images.proofs.KindTests.{match_is, matches_low, or_middle}
 use Rattle.rx_built_images.proofs.Places.{rows_rise}
 
 -- ---- what is asked of special ids among themselves, one by one

@@ -21,8 +21,8 @@ pub fn finished_tables_are_whole()
     ensures { (l : Layout) → IsFinished l → IsWhole (sparse_of l) }
 {}
 
-/// A built sparse table has a layout that can be read, so what is written of it is read as it was. A quit set has no bit
-/// past the last byte, which is a fact of its type.
+/// A built sparse table has a layout that can be read, so what is written of it is read as it was. A quit set has no
+/// bit past the last byte, which is a fact of its type.
 pub fn built_tables_are_whole()
     ensures { (s : Settled) (nfa : Nfa) (t : Stored) → s.quit < 2 ^ 256 → IsSparse s nfa t → IsWhole t.layout }
 {}

@@ -2,7 +2,7 @@
 use Rattle.std.proofs.Common.{◌≡◌, ℕ, suc, ◌+◌, ◌*◌, ◌/◌, ◌<◌, true, false, List, refl, ap, sym, ◌∙◌, subst, arith}
 use Rattle.std.proofs.lemmas.Nat.{div-mul-add, pow_pos}
 use Rattle.std.proofs.lemmas.List.{append-nil}
-use Rattle.std.specs.Prelude.{Bool, Option, Some, Result, Ok, Err, IfOk, OnOk, MatchBool, if◌then◌else◌}
+use Rattle.std.specs.Prelude.{Bool, Option, Some, Result, Ok, Err, IfErr, IfOk, OnOk, MatchBool, if◌then◌else◌}
 use Rattle.std.specs.Prelude.{slice_get, []}
 use Rattle.rx_dense.specs.Builder.{with_row}
 use Rattle.rx_determinize.proofs.FillingLaws.{adds_over, grows_by}
@@ -14,8 +14,9 @@ use Rattle.rx_dense.specs.Layouts.{Layout, AreRows, IsRowId, stride}
 use Rattle.rx_base.specs.ByteClasses.{alphabet_len}
 use Rattle.rx_dense.proofs.Shaped.{zero_id}
 use Rattle.rx_stepper.specs.Stepping.{Stepping, IsKeyOf, stepped, unit_of}
+use Rattle.rx_build_error.specs.declared.BuildError.{BuildError}
 use Rattle.rx_determinize.specs.WorkLists.{IsRowOf, nodes}
-use Rattle.rx_determinize.specs.Working.{IsWorking, Keying, Met, SizeLimits, keying, states_of}
+use Rattle.rx_determinize.specs.Working.{IsOver, IsWorking, Keying, Met, SizeLimits, keying, states_of}
 use Rattle.rx_determinize.specs.Adding.{Adds, CanAdd}
 use Rattle.rx_determinize.specs.Filling.{CanStep, Grows, IsNextRow, IsStepped, IsWrittenOver, Suits}
 use Rattle.rx_spec.specs.declared.Unit.{Unit}
@@ -34,6 +35,19 @@ key_may {s} {units} {l} {limits} {met} {key} suits working is reached = record {
   reached = subst (IsReached (keying s l).build) (sym is.stands_for) reached;
   label = suits.spells.label key is.is_key;
 }
+
+-- what is said of one that steps states is said of another that is the same
+module _ (l : Layout) {s t : Stepping} (same : s ≡ t) (limits : SizeLimits) where
+  pub may_by : {met : Met} {key : List ℕ} → CanAdd (keying t l) limits met l key → CanAdd (keying s l) limits met l key
+  may_by {met} {key} can = subst (λ (u : Stepping). CanAdd (keying u l) limits met l key) (sym same) can
+
+  pub working_by : {E : Type 0} (r : Result ℕ E) (met : Met) (m : Layout)
+      → OnOk r (IsWorking (keying s l) limits met m) → OnOk r (IsWorking (keying t l) limits met m)
+  working_by r met m working = subst (λ (u : Stepping). OnOk r (IsWorking (keying u l) limits met m)) same working
+
+  pub over_by : (r : Result ℕ BuildError) → IfErr r (λ error. IsOver (keying s l) limits l error.kind)
+      → IfErr r (λ error. IsOver (keying t l) limits l error.kind)
+  over_by r over = subst (λ (u : Stepping). IfErr r (λ error. IsOver (keying u l) limits l error.kind)) same over
 
 pub in_true : {P : Type 0} (Q : Type 0) (b : Bool) → b ≡ true → P → MatchBool b P Q
 in_true Q true e p = p

@@ -211,8 +211,8 @@ module _ {l : Layout} {rows ends : List ℕ} (s : AreSkippable l rows ends)
         let count : match_count l ≡ 0 =
         ap (λ b. if b then 0 else place_in_range l l.special.min_match l.special.max_match + 1)
         (eq-eqb l.special.min_match 0 none) in
-        ap (λ n. map (λ place. patterns_of (table_of l) (slice_index rows place)) (range_with_len (slice_index ends 1) n))
-        empty
+        ap (λ n. map (λ place. patterns_of (table_of l) (slice_index rows place))
+        (range_with_len (slice_index ends 1) n)) empty
         ∙ sym (ap (λ n. map (patterns_at l) (range_with_len 0 n)) count)
     lists_are (inr (past, le, is_first, is_last)) = lists_there past le is_first is_last
 

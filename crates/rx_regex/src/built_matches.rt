@@ -13,8 +13,8 @@ pub(crate) enum FormMatches<'r, 'h> {
     Sparse(FindMatches<'r, 'h, SparseDFA<Vec<u8>>>),
 }
 
-/// The matches of an input one after another, and then the error that ended them, where one did. Contracts see it as the
-/// list of what is left.
+/// The matches of an input one after another, and then the error that ended them, where one did. Contracts see it as
+/// the list of what is left.
 #[derive(Drop)]
 pub struct BuiltMatches<'r, 'h> {
     pub(crate) matches: FormMatches<'r, 'h>,

@@ -1,5 +1,6 @@
 -- What refuses a sparse table: what refuses its dense one, or that its rows are too long.
-use Rattle.std.proofs.Common.{◌≡◌, ℕ, ◌<◌, ◌≤◌, Bool, true, false, if◌then◌else◌, List, inl, inr, refl, ap, subst, ⊎_elim}
+use Rattle.std.proofs.Common.{◌≡◌, ℕ, ◌<◌, ◌≤◌, Bool, true, false, if◌then◌else◌, List, inl, inr, refl}
+use Rattle.std.proofs.Common.{ap, subst, ⊎_elim}
 use Rattle.std.specs.Prelude.{Result, Ok, Err, IfOk, IfErr, OnOk}
 use Rattle.rx_spec.specs.Builds.{Build}
 use Rattle.rx_spec.specs.Causes.{BuildCause, BuildFits, BuildRefused, Exceeds, HasTooLongRows, HasTooManyStates}

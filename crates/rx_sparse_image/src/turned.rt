@@ -6,7 +6,8 @@ ghost use Rattle.rx_wire.specs.declared.order.Order.{Order};
 ghost use Rattle.rx_wire.specs.Fields.{field};
 ghost use Rattle.rx_dense_image.specs.Written.{IsPut};
 ghost use Rattle.rx_sparse.specs.Parts.{IsWholeRow};
-ghost use Rattle.rx_sparse.specs.Rows.{patterns_len, row_in, row_len, row_text, rows_in, rows_text, words_in, words_text};
+ghost use Rattle.rx_sparse.specs.Rows.{patterns_len, row_in, row_len, row_text, rows_in, rows_text, words_in};
+ghost use Rattle.rx_sparse.specs.Rows.{words_text};
 ghost use Rattle.rx_sparse_image.specs.Turned.{AreWholeRows};
 
 use crate::row_parts::split_parts;

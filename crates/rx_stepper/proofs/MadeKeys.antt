@@ -9,7 +9,7 @@ use Rattle.rx_spec.specs.Builds.{is_dead_state}
 use Rattle.rx_spec.specs.Causes.{id_count, max_id}
 use Rattle.rx_spec.specs.Contexts.{Facts}
 use Rattle.rx_spec.specs.Nfas.{Nfa}
-use Rattle.rx_spec.specs.States.{Standing, row_at, is_look_row, firsts}
+use Rattle.rx_spec.specs.States.{Standing, row_at, is_look_row}
 use Rattle.rx_lemmas.proofs.Every.{every-append, every-weaker}
 use Rattle.rx_lemmas.proofs.Firsts.{by_test}
 use Rattle.rx_base.specs.FactBits.{bit, bits_of, facts_with}
@@ -17,7 +17,7 @@ use Rattle.rx_powerset.specs.Closures.{closed_rows}
 use Rattle.rx_stepper.specs.Leads.{lead_of, led, without, rows_by, written, written_as}
 use Rattle.rx_stepper.specs.Steps.{made, IsMadeKey}
 use Rattle.rx_stepper.proofs.Decisions.{closed_stands, firsts_twice}
-use Rattle.rx_stepper.proofs.KeyLaws.{AreClosed, IsWritten, WritesState, kept_written, key_written, once_front}
+use Rattle.rx_stepper.proofs.KeyLaws.{AreClosed, IsWritten, WritesState, kept_written, key_written}
 use Rattle.rx_stepper.proofs.KeyLaws.{spelled_is}
 use Rattle.rx_stepper.proofs.Members.{in_nil, was}
 use Rattle.rx_stepper.proofs.Without.{without_nil, without_none, without_old, without_new}
@@ -70,16 +70,6 @@ module _ {nfa : Nfa} {from own : List ℕ} {is_led : Bool} (w : WritesRows nfa f
         (every_by (λ q. q < id_count) (lead_of nfa) own is_led w.ids w.lead_ids));
     once = firsts_twice _;
   }
-
-  -- the own rows stand once
-  pub own_once : firsts own ≡ own
-  own_once = front_once own is_led rows_are
-    where
-      front_once : (xs : List ℕ) (b : Bool) → rows_by (lead_of nfa) b xs ≡ closed → firsts xs ≡ xs
-      front_once xs true e =
-          once_front xs (without xs (lead_of nfa))
-          (ap (λ l. firsts l) e ∙ are_closed.once ∙ sym e)
-      front_once xs false e = ap (λ l. firsts l) e ∙ are_closed.once ∙ sym e
 
   pub made_key : {asked : Facts} {label key : List ℕ} {bits : ℕ} → IsWritten bits (made nfa from asked label).context
       → Every (λ k. k ≤ max_id) label → length label < 2 ^ 32

@@ -176,12 +176,12 @@ fn literals_step_as_plain_states_do(rt: HostRuntime) {
     assert!(rt; agrees(alloc, &[], "ab") == Some(true));
 }
 
-/// Whether the lead-in alone goes on behind `a` by every byte but `b`.
+/// Whether the lead-in alone goes on behind `a` by every byte but `b`, and bytes of no literal lead to one state.
 fn leads_alone(alloc: Global, nfa: &NFA) -> Result<bool, AllocError> {
     let classes = nfa.byte_class_set().byte_classes();
-    let [a, b, other] = [b'a', b'b', b'x'].map(|byte| classes.get(byte) as usize);
+    let [low, a, b, high] = [b'A', b'a', b'b', b'x'].map(|byte| classes.get(byte) as usize);
     let columns = classes.alphabet_len();
-    if a >= columns || b >= columns || other >= columns {
+    if low >= columns || a >= columns || b >= columns || high >= columns {
         return Ok(false);
     }
     let mut stepper = Stepper::new(alloc, nfa, MatchKind::LeftmostFirst, &classes)?;
@@ -199,7 +199,12 @@ fn leads_alone(alloc: Global, nfa: &NFA) -> Result<bool, AllocError> {
         stepper.led_in() == Some(0)
             && !stepper.has_own(a)
             && stepper.has_own(b)
-            && !stepper.has_own(other),
+            && !stepper.has_own(high)
+            && stepper.next_own(0) == b
+            && stepper.next_own(b + 1) == columns
+            && stepper.are_alike(low, high)
+            && !stepper.are_alike(a, high)
+            && !stepper.are_alike(b, high),
     )
 }
 

@@ -11,8 +11,8 @@ use std::alloc::Global;
 use std::process::Abort;
 use std::test::Fail;
 
-/// Writes a table in both orders, reads it, writes it again, and searches what was read: so many rows and bytes, and the
-/// end of a match in `foo12345` or none.
+/// Writes a table in both orders, reads it, writes it again, and searches what was read: so many rows and bytes, and
+/// the end of a match in `foo12345` or none.
 fn check(
     rt: &impl Abort,
     alloc: Global,

@@ -130,8 +130,8 @@ pub fn never_match(alloc: Global, order: Order) -> Result<Vec<u8>, AllocError> {
 /// A row by hand: its ranges, where the end mark leads, its patterns and its needles.
 type Row = (&'static [(u8, u8, u32)], u32, &'static [u32], &'static [u8]);
 
-/// The rows of `abc`, whose classes are the bytes before `a`, `a`, `b`, `c`, and the bytes after it. Row 2 is the match.
-/// From row 3, 5, 7 and 9 on `abc` is looked for anywhere, and from row 4, 6, 8 and 10 on right there.
+/// The rows of `abc`, whose classes are the bytes before `a`, `a`, `b`, `c`, and the bytes after it. Row 2 is the
+/// match. From row 3, 5, 7 and 9 on `abc` is looked for anywhere, and from row 4, 6, 8 and 10 on right there.
 const ABC_ROWS: [Row; 11] = [
     (&[], 0, &[], &[]),
     (&[], 0, &[], &[]),

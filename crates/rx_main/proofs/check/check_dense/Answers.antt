@@ -19,7 +19,8 @@ pub returns-in-Err : goal.returns-in-Err
 returns-in-Err c =
     IfOk-weaker c.failed_test_reply.result _ _
     (λ reply told.
-    failed_test_answers (reads c.args.bytes.now) dense.row_count (λ l. l.pattern_len) c.in-Err.error reply c.in-Err.ensures.read
+    failed_test_answers (reads c.args.bytes.now) dense.row_count (λ l. l.pattern_len) c.in-Err.error reply
+    c.in-Err.ensures.read
     (subst (λ (kind : Kind). kind ≢ Kind.Memory) c.kind.ensures told.0)
     (told.1 ∙ ap failed_test_reply c.kind.ensures))
     c.failed_test_reply.ensures

@@ -1,7 +1,7 @@
 use Rattle.std.proofs.Common.{◌<◌, length, arith}
 use Rattle.rx_sparse.proofs.RowTexts.{whole_ends, whole_ids}
-use Rattle.rx_sparse_image.proofs.Pieces.{after_low, ends_there, head_there, ids_there, left_there, needles_low, needles_there}
-use Rattle.rx_sparse_image.proofs.Pieces.{patterns_there, size_low, size_within}
+use Rattle.rx_sparse_image.proofs.Pieces.{after_low, ends_there, head_there, ids_there, left_there, needles_low}
+use Rattle.rx_sparse_image.proofs.Pieces.{needles_there, patterns_there, size_low, size_within}
 use Rattle.rx_sparse_image.proofs.row_parts.split_parts.Goals as goal
 
 pub split_at-requires-2 : goal.split_at-requires-2

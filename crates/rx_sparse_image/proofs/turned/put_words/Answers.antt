@@ -34,8 +34,8 @@ loop-i-preserved g c =
     let i : ℕ = c.loop-i.i in
     let len : length words ≡ count = length-map-range_with_len (word_at order bytes) 0 count in
     let here : word_at order bytes i ≡ slice_index words i =
-    sym (get_or-map-range_with_len (word_at order bytes) 0 count i i 0 (omega (arith, c.loop-i-test.true)) (omega arith))
-    in
+    sym (get_or-map-range_with_len (word_at order bytes) 0 count i i 0 (omega (arith, c.loop-i-test.true))
+    (omega arith)) in
     record {
       len = omega (arith, c.put_word-end.ensures.len, c.loop-i.invariant.len);
       place = omega (arith, c.put_word-end.ensures.place, c.loop-i.invariant.place);

@@ -1,14 +1,14 @@
 use Rattle.std.proofs.Common.{◌≡◌, List, ℕ, true, Option, sym, subst}
-use Rattle.std.specs.Prelude.{IfErr, IfSome, MatchBool, OnOk}
+use Rattle.std.specs.Prelude.{IfSome, MatchBool}
 use Rattle.rx_spec.specs.Builds.{is_dead_state}
-use Rattle.rx_stepper.specs.Stepping.{IsKeyOf, Stepping, stepped}
+use Rattle.rx_stepper.specs.Stepping.{IsKeyOf, stepped}
 use Rattle.rx_stepper.specs.Steppers.{stepping_of}
 use Rattle.rx_determinize.specs.Filling.{IsStepped}
-use Rattle.rx_determinize.specs.Working.{IsOver, IsWorking, keying}
+use Rattle.rx_determinize.specs.Working.{keying}
 use Rattle.rx_determinize.specs.Adding.{CanAdd}
-use Rattle.rx_determinize.proofs.NextLaws.{dead_stepped, found_added, found_before, key_may, stepped_alike}
-use Rattle.rx_determinize.proofs.NextLaws.{stepped_reached}
-use Rattle.rx_determinize.proofs.construction.Construction.find_row.Goals.{After-add, After-deref}
+use Rattle.rx_determinize.proofs.NextLaws.{dead_stepped, found_added, found_before, key_may, may_by, over_by}
+use Rattle.rx_determinize.proofs.NextLaws.{stepped_alike, stepped_reached, working_by}
+use Rattle.rx_determinize.proofs.construction.Construction.find_row.Goals.{After-deref}
 use Rattle.rx_determinize.proofs.construction.Construction.find_row.Goals as goal
 
 pub returns-then-are_alike-clause-found : goal.returns-then-are_alike-clause-found
@@ -44,28 +44,18 @@ can_add c =
     (stepped_reached s l r.rows r.suits.classes r.reached c.args.column r.column_in r.goes_on (key_is c))
 
 pub add-requires-clause-can : goal.add-requires-clause-can
-add-requires-clause-can c =
-    subst (λ (s : Stepping). CanAdd (keying s c.args.dfa.now) c.args.self.now.limits c.args.self.now.states
-    c.args.dfa.now c.deref.result.now) (sym c.next.ensures.kept) (can_add c)
-
--- what steps states is as it was
-working_as : (c : After-add) → OnOk c.add.result (IsWorking (keying (stepping_of c.args.stepper.now) c.args.dfa.now)
-    c.args.self.now.limits c.add.new.self c.add.new.dfa)
-working_as c =
-    subst (λ (s : Stepping). OnOk c.add.result (IsWorking (keying s c.args.dfa.now) c.args.self.now.limits c.add.new.self
-    c.add.new.dfa)) c.next.ensures.kept c.add.ensures.working
+add-requires-clause-can c = may_by c.args.dfa.now c.next.ensures.kept c.args.self.now.limits (can_add c)
 
 pub returns-then-branch-clause-found : goal.returns-then-branch-clause-found
 returns-then-branch-clause-found c =
-    let at = goal.at.returns-then-branch-clause-found c in
-    found_added c.add.result c.deref.result.now c.add.new.self c.add.new.dfa c.requires (key_is at.After-deref) c.add.ensures.ok
-    c.add.ensures.is_row c.add.ensures.rows
-    (working_as at.After-add)
+    found_added c.add.result c.deref.result.now c.add.new.self c.add.new.dfa c.requires
+    (key_is (goal.at.returns-then-branch-clause-found c).After-deref) c.add.ensures.ok c.add.ensures.is_row
+    c.add.ensures.rows (working_by c.args.dfa.now c.next.ensures.kept c.args.self.now.limits c.add.result c.add.new.self
+    c.add.new.dfa c.add.ensures.working)
 
 pub returns-then-branch-clause-err : goal.returns-then-branch-clause-err
 returns-then-branch-clause-err c =
-    subst (λ (s : Stepping). IfErr c.add.result (λ error. IsOver (keying s c.args.dfa.now) c.args.self.now.limits
-    c.args.dfa.now error.kind)) c.next.ensures.kept c.add.ensures.err
+    over_by c.args.dfa.now c.next.ensures.kept c.args.self.now.limits c.add.result c.add.ensures.err
 
 pub returns-else-branch-clause-found : goal.returns-else-branch-clause-found
 returns-else-branch-clause-found c =

@@ -1,20 +1,20 @@
 use Rattle.std.proofs.Common.{◌≡◌, ◌/◌, Option, true, false, List, ℕ, sym, subst}
 use Rattle.std.proofs.lemmas.Bool.Decides.{when_true}
 use Rattle.std.proofs.lemmas.Result.{IfOk-weaker}
-use Rattle.std.specs.Prelude.{IfErr, IfSome, OnOk}
+use Rattle.std.specs.Prelude.{IfSome}
 use Rattle.rx_spec.specs.Builds.{IsReached, is_dead_state, start_node}
 use Rattle.rx_spec.specs.States.{start_state}
 use Rattle.rx_dense.specs.Layouts.{stride}
-use Rattle.rx_stepper.specs.Stepping.{IsKeyOf, Stepping}
+use Rattle.rx_stepper.specs.Stepping.{IsKeyOf}
 use Rattle.rx_stepper.specs.Steppers.{stepping_of}
 use Rattle.rx_determinize.specs.Adding.{Adds, CanAdd}
 use Rattle.rx_determinize.specs.Filling.{Grows}
 use Rattle.rx_determinize.specs.WorkLists.{IsRowOf}
-use Rattle.rx_determinize.specs.Working.{IsOver, IsWorking, keying, states_of}
+use Rattle.rx_determinize.specs.Working.{keying, states_of}
 use Rattle.rx_determinize.proofs.FillingLaws.{grows_by}
 use Rattle.rx_determinize.proofs.FillingLaws.{adds_over}
-use Rattle.rx_determinize.proofs.NextLaws.{both_ok, key_may, row_by, working_over}
-use Rattle.rx_determinize.proofs.construction.Construction.start_row.Goals.{After-add, After-deref}
+use Rattle.rx_determinize.proofs.NextLaws.{both_ok, key_may, may_by, over_by, row_by, working_by, working_over}
+use Rattle.rx_determinize.proofs.construction.Construction.start_row.Goals.{After-deref}
 use Rattle.rx_determinize.proofs.construction.Construction.start_row.Goals as goal
 
 -- the key that the stepper gave is that of the state in which searches start, which can be added
@@ -40,16 +40,7 @@ can_add c =
     key_may r.suits r.working (key_is c) (reached (key_is c).alive)
 
 pub add-requires-clause-can : goal.add-requires-clause-can
-add-requires-clause-can c =
-    subst (λ (s : Stepping). CanAdd (keying s c.args.dfa.now) c.args.self.now.limits c.args.self.now.states
-    c.args.dfa.now c.deref.result.now) (sym c.start.ensures.kept) (can_add c)
-
--- what steps states is as it was
-working_as : (c : After-add) → OnOk c.add.result (IsWorking (keying (stepping_of c.args.stepper.now) c.args.dfa.now)
-    c.args.self.now.limits c.add.new.self c.add.new.dfa)
-working_as c =
-    subst (λ (s : Stepping). OnOk c.add.result (IsWorking (keying s c.args.dfa.now) c.args.self.now.limits c.add.new.self
-    c.add.new.dfa)) c.start.ensures.kept c.add.ensures.working
+add-requires-clause-can c = may_by c.args.dfa.now c.start.ensures.kept c.args.self.now.limits (can_add c)
 
 pub returns-then-branch-clause-is_row : goal.returns-then-branch-clause-is_row
 returns-then-branch-clause-is_row c =
@@ -65,7 +56,8 @@ returns-then-branch-clause-working c =
     let s = stepping_of c.args.stepper.now in
     let l = c.args.dfa.now in
     both_ok c.add.result (λ id adds w. working_over s l c.add.new.dfa (adds_over adds) w) c.add.ensures.ok
-    (working_as (goal.at.returns-then-branch-clause-working c).After-add)
+    (working_by l c.start.ensures.kept c.args.self.now.limits c.add.result c.add.new.self c.add.new.dfa
+    c.add.ensures.working)
 
 pub returns-then-branch-clause-grows : goal.returns-then-branch-clause-grows
 returns-then-branch-clause-grows c =
@@ -76,5 +68,4 @@ returns-then-branch-clause-grows c =
 
 pub returns-then-branch-clause-err : goal.returns-then-branch-clause-err
 returns-then-branch-clause-err c =
-    subst (λ (s : Stepping). IfErr c.add.result (λ error. IsOver (keying s c.args.dfa.now) c.args.self.now.limits
-    c.args.dfa.now error.kind)) c.start.ensures.kept c.add.ensures.err
+    over_by c.args.dfa.now c.start.ensures.kept c.args.self.now.limits c.add.result c.add.ensures.err

@@ -38,8 +38,8 @@ pub returns-then-not-interned-clause-working : goal.returns-then-not-interned-cl
 returns-then-not-interned-clause-working c =
     let kept = keys_kept c.self.inside.keys c.intern.new.self c.args.key.now c.in_ok-interned.interned.is_new
     c.in_ok-interned.ensures.keys (is_old_key c.in_ok-interned.interned.is_new c.if-not-interned.true) in
-    subst (λ (m : Met). IsWorking (keying (stepping_of c.args.stepper.now) c.args.dfa.now) c.args.limits m c.args.dfa.now)
-    (sym (same_met kept refl refl ∙ c.self.view_is)) c.requires.can.working
+    subst (λ (m : Met). IsWorking (keying (stepping_of c.args.stepper.now) c.args.dfa.now) c.args.limits m
+    c.args.dfa.now) (sym (same_met kept refl refl ∙ c.self.view_is)) c.requires.can.working
 
 pub returns-in_err-add_row-clause-err : goal.returns-in_err-add_row-clause-err
 returns-in_err-add_row-clause-err c =
@@ -63,7 +63,13 @@ returns-in_err-check-clause-err c =
     let size : c.self.inside.size + c.from.result ≡ c.args.self.now.size + state_size state =
     omega (arith, c.from.ensures, c.size.ensures.value, ap (λ (m : Met). m.size) c.self.view_is) in
     let patterns : c.self.inside.patterns + length c.label.result.now ≡ c.args.self.now.patterns + length state.label =
-    omega (arith, ap length c.label.ensures, ap length c.requires.can.label, ap (λ (m : Met). m.patterns) c.self.view_is) in
+    omega (
+      arith,
+      ap length c.label.ensures,
+      ap length c.requires.can.label,
+      ap (λ (m : Met). m.patterns)
+          c.self.view_is,
+    ) in
     rw (p.1, p.2)
     (over_new c.requires.can.working new c.state_len-rows.ensures.rows
     (same_met more size patterns)
@@ -119,7 +125,13 @@ returns-clause-working c =
     let size : c.self.inside.size + c.from.result ≡ c.args.self.now.size + state_size state =
     omega (arith, c.from.ensures, c.size.ensures.value, ap (λ (m : Met). m.size) c.self.view_is) in
     let patterns : c.self.inside.patterns + length c.label.result.now ≡ c.args.self.now.patterns + length state.label =
-    omega (arith, ap length c.label.ensures, ap length c.requires.can.label, ap (λ (m : Met). m.patterns) c.self.view_is) in
+    omega (
+      arith,
+      ap length c.label.ensures,
+      ap length c.requires.can.label,
+      ap (λ (m : Met). m.patterns)
+          c.self.view_is,
+    ) in
     working_new c.requires.can.working new c.state_len-rows.ensures.rows
     (same_met more size patterns)
     c.in_ok-add_row.ensures.ok c.in_ok-check.ensures.ok
@@ -143,7 +155,8 @@ invariant_of-self-in_err-add_row c =
     let keys = keys_at c.self.inside.keys c.intern.new.self c.args.key.now c.in_ok-interned.interned.is_new
     c.in_ok-interned.ensures.keys (is_true c.in_ok-interned.interned.is_new c.if-not-interned.false) in
     let count = c.requires.count ∙ ap (λ (m : Met). length m.keys + 2) (sym c.self.view_is) in
-    let few = few_keys c.self.inside.keys c.intern.new.self c.args.key.now c.args.dfa.now c.state_len-rows.ensures.rows count keys in
+    let few = few_keys c.self.inside.keys c.intern.new.self c.args.key.now c.args.dfa.now
+    c.state_len-rows.ensures.rows count keys in
     (few.1, omega (arith, few.0, c.self.invariant.1), omega (arith, few.0, c.self.invariant.2))
 
 pub invariant_of-self-2 : goal.invariant_of-self-2
@@ -151,7 +164,8 @@ invariant_of-self-2 c =
     let keys = keys_at c.self.inside.keys c.intern.new.self c.args.key.now c.in_ok-interned.interned.is_new
     c.in_ok-interned.ensures.keys (is_true c.in_ok-interned.interned.is_new c.if-not-interned.false) in
     let count = c.requires.count ∙ ap (λ (m : Met). length m.keys + 2) (sym c.self.view_is) in
-    let few = few_keys c.self.inside.keys c.intern.new.self c.args.key.now c.args.dfa.now c.state_len-rows.ensures.rows count keys in (
+    let few = few_keys c.self.inside.keys c.intern.new.self c.args.key.now c.args.dfa.now
+    c.state_len-rows.ensures.rows count keys in (
       few.1,
       omega (arith, few.0, c.self.invariant.1, c.from.ensures, c.size.ensures.small),
       omega (

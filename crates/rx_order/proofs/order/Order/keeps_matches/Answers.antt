@@ -22,8 +22,10 @@ loop-place-preserved c = λ place low high.
     (cases_eq place c.loop-place.place)
 
 pub returns : goal.returns
-returns c =
-    (λ yes place low high. c.loop-place.invariant place low (omega (arith, high, c.loop-place-test.false)), λ kept. refl)
+returns c = (
+  λ yes place low high. c.loop-place.invariant place low (omega (arith, high, c.loop-place-test.false)),
+  λ kept. refl,
+)
 
 pub returns-then-index-place : goal.returns-then-index-place
 returns-then-index-place c =

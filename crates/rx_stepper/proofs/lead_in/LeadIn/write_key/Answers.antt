@@ -10,35 +10,29 @@ use Rattle.rx_expr.specs.declared.thompson.nfa.NFA.{NFA}
 use Rattle.rx_stepper.specs.Leads.{rows_by}
 use Rattle.rx_stepper.proofs.MadeKeys.{WritesRows, dead_made, key_made}
 use Rattle.rx_stepper.proofs.lead_in.LeadIn.write_key.Goals as goal
+use Rattle.rx_stepper.proofs.lead_in.LeadIn.write_key.Goals.{After-close-is_led}
+
+-- how the rows are written
+writes : (c : After-close-is_led) → WritesRows (meaning c.args.closures.now.nfa.now)
+    (c.args.from.first.now ++ c.args.from.second.now) c.close-is_led.new.own.items c.close-is_led.result
+writes c = record {
+  written = c.close-is_led.ensures.rows;
+  ids = c.close-is_led.ensures.ids;
+  lead_ids =
+      subst (Every (λ q. q < id_count)) c.requires.is.rows
+      (recursion_from_All (λ q. q < id_count) c.args.self.now.rows.items c.requires.is.ids);
+}
 
 pub returns-then-is_dead-clause-key : goal.returns-then-is_dead-clause-key
 returns-then-is_dead-clause-key c =
-    let from = c.args.from.first.now ++ c.args.from.second.now in
-    let w : WritesRows (meaning c.args.closures.now.nfa.now) from c.close-is_led.new.own.items
-    c.close-is_led.result = record {
-      written = c.close-is_led.ensures.rows;
-      ids = c.close-is_led.ensures.ids;
-      lead_ids =
-          subst (Every (λ q. q < id_count)) c.requires.is.rows
-          (recursion_from_All (λ q. q < id_count) c.args.self.now.rows.items c.requires.is.ids);
-    } in
     let label = c.args.label.now in
-    dead_made w (facts_with c.args.asked) label
+    dead_made (writes (goal.at.returns-then-is_dead-clause-key c).After-close-is_led) (facts_with c.args.asked) label
     ∙ ap (λ (l : List ℕ). not c.close-is_led.result && (length l == 0) && (length label == 0))
     (sym c.deref.ensures.value)
     ∙ sym c.is_dead.ensures ∙ c.if-is_dead.true
 
 pub returns-clause-key : goal.returns-clause-key
 returns-clause-key c =
-    let from = c.args.from.first.now ++ c.args.from.second.now in
-    let w : WritesRows (meaning c.args.closures.now.nfa.now) from c.close-is_led.new.own.items
-    c.close-is_led.result = record {
-      written = c.close-is_led.ensures.rows;
-      ids = c.close-is_led.ensures.ids;
-      lead_ids =
-          subst (Every (λ q. q < id_count)) c.requires.is.rows
-          (recursion_from_All (λ q. q < id_count) c.args.self.now.rows.items c.requires.is.ids);
-    } in
     let label = c.args.label.now in
     let is_led = c.close-is_led.result in
     let lead = c.requires.is.rows in
@@ -51,8 +45,8 @@ returns-clause-key c =
     let alive =
     ap (λ (l : List ℕ). not is_led && (length l == 0) && (length label == 0)) (sym c.deref.ensures.value)
     ∙ sym c.is_dead.ensures ∙ c.if-is_dead.false in
-    key_made w group c.requires.asked (c.kept.ensures ∙ ap (λ b. if b then group else 0) asks) wrote.label
-    c.requires.label alive
+    key_made (writes (goal.at.returns-clause-key c).After-close-is_led) group c.requires.asked
+    (c.kept.ensures ∙ ap (λ b. if b then group else 0) asks) wrote.label c.requires.label alive
     (wrote.items
     ∙ ap (λ (l : List ℕ). c.kept.result ∷ (length label ∷ (bit is_led ∷ (label ++ l))))
     c.deref-3.ensures.value)

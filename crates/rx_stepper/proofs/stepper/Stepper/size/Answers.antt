@@ -48,10 +48,12 @@ own_of-requires c =
 
 pub rows_len-rows-requires-clause-once : goal.rows_len-rows-requires-clause-once
 rows_len-rows-requires-clause-once c =
-    subst (λ (own : List ℕ). firsts own ≡ own) (sym c.own_of.ensures) (own_closed (spelt c.args.self.now c.requires)).once
+    subst (λ (own : List ℕ). firsts own ≡ own) (sym c.own_of.ensures)
+    (own_closed (spelt c.args.self.now c.requires)).once
 
 pub rows_len-rows-requires-clause-few : goal.rows_len-rows-requires-clause-few
-rows_len-rows-requires-clause-few c = omega (arith, ap length c.own_of.ensures, own_few (spelt c.args.self.now c.requires))
+rows_len-rows-requires-clause-few c =
+    omega (arith, ap length c.own_of.ensures, own_few (spelt c.args.self.now c.requires))
 
 pub overflow_add-result : goal.overflow_add-result
 overflow_add-result c = let p = parts c in omega (arith, p.rows_few, p.label_few)
