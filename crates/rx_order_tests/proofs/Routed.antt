@@ -1,0 +1,39 @@
+-- Tables that may be put in order.
+use Rattle.std.proofs.Common.{◌≡◌, ◌≢◌, ℕ, ◌+◌, ◌*◌, ◌/◌, ◌<◌, ◌≤◌, ◌==◌, Bool, if◌then◌else◌}
+use Rattle.std.proofs.Common.{List, length, map, ap, sym, ◌∙◌, subst, ⊎_elim, arith, slice_index}
+use Rattle.std.specs.List.{list_any}
+use Rattle.std.specs.Prelude.{Contains}
+use Rattle.std.proofs.Math.Nat.{zero-div}
+use Rattle.std.proofs.lemmas.Bool.{cases_lt, le-ltb, lt-ltb}
+use Rattle.std.proofs.lemmas.List.Elements.{Contains-get_or}
+use Rattle.rx_spec.specs.Queries.{Anchored}
+use Rattle.rx_spec.specs.declared.Start.{Start}
+use Rattle.rx_dense.specs.Layouts.{Layout, AreStarts, context_number, machine_of, mode_place, stride}
+use Rattle.rx_dense.proofs.Rows.{quotient, start_is_row, start_within}
+use Rattle.rx_order.proofs.MarkedRows.{Entry}
+
+-- whether some entry that is left has an id
+abbrev pub any_left : ℕ → List Entry → Bool
+any_left id entries = list_any (λ x. x == id) (map (λ (e : Entry). e.0) entries)
+
+-- no search starts in quit where no start entry has its id
+pub starts_elsewhere : (l : Layout) → AreStarts l → (quit : ℕ) → quit ≡ 1 * stride l → (Contains l.starts quit → ⊥)
+    → (mode : Anchored) (start : Start) → (machine_of l).entry mode start ≢ 1
+starts_elsewhere l starts quit is none mode start e =
+    ⊎_elim
+    (λ (has : mode_place mode < length l.starts).
+    let place : ℕ = mode_place mode + context_number start in
+    let id : ℕ = slice_index l.starts place in
+    let row = start_is_row l starts mode start has in
+    let entry : (machine_of l).entry mode start ≡ id / stride l =
+    ap (λ b. (if b then id else 0) / stride l) (lt-ltb (mode_place mode) (length l.starts) has) in
+    let there : id ≡ quit =
+    sym (quotient id (stride l) row.whole) ∙ ap (λ r. r * stride l) (sym entry ∙ e) ∙ sym is in
+    none (subst (Contains l.starts) there (Contains-get_or l.starts place 0 (start_within l starts mode start has))))
+    (λ (past : length l.starts ≤ mode_place mode).
+    let id : ℕ = slice_index l.starts (mode_place mode + context_number start) in
+    let entry : (machine_of l).entry mode start ≡ 0 =
+    ap (λ b. (if b then id else 0) / stride l) (le-ltb (mode_place mode) (length l.starts) past)
+    ∙ zero-div (stride l) in
+    absurd (omega (arith, entry, e)))
+    (cases_lt (mode_place mode) (length l.starts))

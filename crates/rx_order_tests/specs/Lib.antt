@@ -1,0 +1,2 @@
+-- what the tests know of the tables that they make
+pub mod Tables
