@@ -1,2 +1,0 @@
--- what the tests know of the tables that they make
-pub mod Tables

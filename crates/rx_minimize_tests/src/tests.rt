@@ -4,7 +4,6 @@ ghost use Rattle.std.specs.Prelude.{◌<◌};
 ghost use Rattle.rx_spec.specs.Tables.{IsSound};
 ghost use Rattle.rx_dense.specs.Layouts.{table_of};
 
-mod checks;
 mod pairs;
 mod tables;
 
@@ -14,7 +13,7 @@ use rx_minimize::{Minimizer, minimize};
 use std::alloc::Global;
 use std::process::Abort;
 use std::test::Fail;
-use tables::{Case, labels, nexts, starts, table};
+use tables::{Case, labels, nexts, starts};
 
 /// The tables, each with how many rows are left of it. A byte up to `a` leads to the first row that is named, another
 /// byte to the second, and the end mark to the third.
@@ -22,7 +21,7 @@ const CASES: [(Case, usize); 8] = [
     // dead and quit alone
     (
         Case {
-            nexts: &[0, 0, 0, 0, 0, 0],
+            rows: &[],
             matches: &[],
             unanchored: 0,
             anchored: 0,
@@ -32,7 +31,7 @@ const CASES: [(Case, usize); 8] = [
     // nothing to join: row 2 waits for an a, row 3 for another byte, and row 4 tells a match
     (
         Case {
-            nexts: &[0, 0, 0, 0, 0, 0, 3, 2, 0, 3, 4, 0, 3, 2, 0],
+            rows: &[[3, 2, 0], [3, 4, 0], [3, 2, 0]],
             matches: &[(4, &[0])],
             unanchored: 2,
             anchored: 3,
@@ -42,9 +41,16 @@ const CASES: [(Case, usize); 8] = [
     // six match rows that lead to dead, with four lists
     (
         Case {
-            nexts: &[
-                0, 0, 0, 0, 0, 0, 5, 4, 3, 10, 6, 0, 8, 9, 7, 0, 0, 0, 0, 0, 0, 0, 0, 0, 0, 0, 0,
-                0, 0, 0, 0, 0, 0,
+            rows: &[
+                [5, 4, 3],
+                [10, 6, 0],
+                [8, 9, 7],
+                [0, 0, 0],
+                [0, 0, 0],
+                [0, 0, 0],
+                [0, 0, 0],
+                [0, 0, 0],
+                [0, 0, 0],
             ],
             matches: &[
                 (5, &[0]),
@@ -62,7 +68,7 @@ const CASES: [(Case, usize); 8] = [
     // rows 3 and 4 lead to each other, as if they were dead, and anchored searches start there
     (
         Case {
-            nexts: &[0, 0, 0, 0, 0, 0, 3, 5, 4, 4, 3, 4, 4, 4, 3, 4, 3, 0],
+            rows: &[[3, 5, 4], [4, 3, 4], [4, 4, 3], [4, 3, 0]],
             matches: &[(5, &[2])],
             unanchored: 2,
             anchored: 4,
@@ -72,7 +78,7 @@ const CASES: [(Case, usize); 8] = [
     // row 3 leads to quit, and row 4 to dead
     (
         Case {
-            nexts: &[0, 0, 0, 0, 0, 0, 3, 4, 5, 1, 0, 0, 0, 0, 0, 1, 0, 0],
+            rows: &[[3, 4, 5], [1, 0, 0], [0, 0, 0], [1, 0, 0]],
             matches: &[],
             unanchored: 2,
             anchored: 2,
@@ -82,7 +88,7 @@ const CASES: [(Case, usize); 8] = [
     // starts in row 5, of which row 2 is a copy
     (
         Case {
-            nexts: &[0, 0, 0, 0, 0, 0, 3, 2, 0, 4, 5, 0, 0, 0, 0, 3, 5, 0],
+            rows: &[[3, 2, 0], [4, 5, 0], [0, 0, 0], [3, 5, 0]],
             matches: &[(4, &[1])],
             unanchored: 5,
             anchored: 2,
@@ -92,7 +98,7 @@ const CASES: [(Case, usize); 8] = [
     // a copy of the start row that is no start row
     (
         Case {
-            nexts: &[0, 0, 0, 0, 0, 0, 3, 5, 0, 4, 2, 0, 0, 0, 0, 3, 2, 0],
+            rows: &[[3, 5, 0], [4, 2, 0], [0, 0, 0], [3, 2, 0]],
             matches: &[(4, &[1])],
             unanchored: 5,
             anchored: 0,
@@ -102,9 +108,7 @@ const CASES: [(Case, usize); 8] = [
     // a match row that is left for another with other patterns at the end mark alone
     (
         Case {
-            nexts: &[
-                0, 0, 0, 0, 0, 0, 3, 4, 0, 3, 3, 5, 4, 4, 6, 0, 0, 0, 0, 0, 0,
-            ],
+            rows: &[[3, 4, 0], [3, 3, 5], [4, 4, 6], [0, 0, 0], [0, 0, 0]],
             matches: &[(3, &[0]), (4, &[0]), (5, &[1]), (6, &[2])],
             unanchored: 2,
             anchored: 2,
@@ -115,7 +119,7 @@ const CASES: [(Case, usize); 8] = [
 
 /// Asserts of a table that as few rows are left as can be, and that searches find in them what they found.
 fn check(rt: &impl Abort, alloc: Global, case: &Case, left: usize) -> Result<(), Fail> {
-    let mut dfa = table(rt, alloc, case)?;
+    let mut dfa = case.table(alloc)?;
     let before = rows(alloc, &dfa)?;
     assert_eq!(rt;
         Pairs::new(rt, alloc, &before)?.block_count(rt),
@@ -164,41 +168,34 @@ fn few_rows(rt: HostRuntime) -> Result<(), Fail> {
 
 /// Rows of which each leads to the next on any byte, twice so many as are named, and last to a match row. Each of the
 /// second half behaves like one of the first half, if that is asked for.
-fn chains(alloc: Global, count: usize, twice: bool) -> Result<Vec<usize>, Fail>
+fn chains(alloc: Global, count: usize, twice: bool) -> Result<Vec<[usize; 3]>, Fail>
     requires { count < 1000 }
 {
-    let mut nexts = Vec::new(alloc);
-    for _ in 0..6 {
-        nexts.push(0)?;
-    }
+    let mut rows = Vec::new(alloc);
     for row in 2..2 * count + 2 {
         let next = if row == count + 1 && twice {
             2 * count + 2
         } else {
             row + 1
         };
-        nexts.push(next)?;
-        nexts.push(next)?;
-        nexts.push(0)?;
+        rows.push([next, next, 0])?;
     }
-    for _ in 0..3 {
-        nexts.push(0)?;
-    }
-    Ok(nexts)
+    rows.push([0, 0, 0])?;
+    Ok(rows)
 }
 
 #[test]
 fn long_chains(rt: HostRuntime) -> Result<(), Fail> {
     let alloc = rt.alloc();
     for (twice, left) in [(false, 1003), (true, 503)] {
-        let nexts = chains(alloc, 500, twice)?;
+        let rows = chains(alloc, 500, twice)?;
         let case = Case {
-            nexts: &nexts,
+            rows: &rows,
             matches: &[(1002, &[0])],
             unanchored: 2,
             anchored: 502,
         };
-        let mut dfa = table(&rt, alloc, &case)?;
+        let mut dfa = case.table(alloc)?;
         minimize(alloc, &mut dfa)?;
         assert_eq!(rt; dfa.state_len(), left);
     }
@@ -226,7 +223,7 @@ fn check_same(
 #[test]
 fn refused_calls(rt: HostRuntime) -> Result<(), Fail> {
     let alloc = rt.alloc();
-    let mut dfa = table(&rt, alloc, &CASES[3].0)?;
+    let mut dfa = CASES[3].0.table(alloc)?;
     let before = rows(alloc, &dfa)?;
     let memory = dfa.memory_usage();
     match minimize(alloc, &mut dfa) {
@@ -239,7 +236,7 @@ fn refused_calls(rt: HostRuntime) -> Result<(), Fail> {
 #[test]
 fn refused_minimizers(rt: HostRuntime) -> Result<(), Fail> {
     let alloc = rt.alloc();
-    let mut dfa = table(&rt, alloc, &CASES[3].0)?;
+    let mut dfa = CASES[3].0.table(alloc)?;
     let before = rows(alloc, &dfa)?;
     let memory = dfa.memory_usage();
     let minimizer = Minimizer::new(alloc, &mut dfa)?;

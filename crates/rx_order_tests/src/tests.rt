@@ -4,17 +4,15 @@ ghost use Rattle.rx_spec.specs.Tables.{IsSound};
 ghost use Rattle.rx_search.specs.Starts.{IsId};
 ghost use Rattle.rx_dense.specs.Layouts.{ids_of, table_of};
 
-mod tables;
-
-use rx_base::StateID;
 use rx_base::start::Config;
+use rx_base::{StateID, Unit};
 use rx_dense::OwnedDFA;
 use rx_order::{accelerate, patterns_of_row};
 use rx_search::Automaton;
+use rx_worked_tables::{id, table};
 use std::alloc::{AllocError, Global};
 use std::process::Abort;
 use std::test::Fail;
-use tables::{id, table};
 
 /// What is special in a table: quit and the last special row, and the first and the last of the match rows, of the
 /// accelerated rows and of the start rows; and the patterns of the match rows.
@@ -27,13 +25,20 @@ struct Case<'c> {
     rows: &'c [[usize; 3]],
     /// The patterns of the match rows.
     matches: &'c [(usize, &'c [u32])],
-    /// The row in which searches start.
+    /// The row in which unanchored searches start.
     start: usize,
     shuffled: Order<'c>,
     accelerated: Order<'c>,
     /// What a search reads, and the patterns of the row to which each byte leads.
     walk: (&'c [u8], &'c [&'c [u32]]),
 }
+
+/// A space, an `a`, and the other bytes.
+const COLUMNS: [&[Unit]; 3] = [
+    &[Unit::Byte(b' ')],
+    &[Unit::Byte(b'a')],
+    &[Unit::Byte(31), Unit::Byte(b'`'), Unit::Byte(255)],
+];
 
 /// The patterns of even match rows and of odd ones, in the large table.
 const LISTS: [&[u32]; 2] = [&[0], &[1]];
@@ -85,7 +90,7 @@ fn check_order(rt: &impl Abort, alloc: Global, dfa: &OwnedDFA, order: &Order) ->
         assert_eq!(rt; range.map(|id| id.as_usize() >> stride2), *rows);
     }
     for row in 0..dfa.state_len() {
-        let id = id(rt, dfa, row);
+        let id = id(dfa, row);
         assert_eq!(rt;
             dfa.accelerator(id).as_slice() == b"a".as_slice(),
             dfa.is_accel_state(id)
@@ -131,7 +136,7 @@ fn check_walk(rt: &impl Abort, alloc: Global, dfa: &OwnedDFA, case: &Case) -> Re
 fn small_tables(rt: HostRuntime) -> Result<(), Fail> {
     let alloc = rt.alloc();
     for case in &SMALL {
-        let mut dfa = table(&rt, alloc, case.rows, case.matches, case.start)?;
+        let mut dfa = table(alloc, &COLUMNS, case.rows, case.matches, [case.start, 0])?;
         check_order(&rt, alloc, &dfa, &case.shuffled)?;
         check_walk(&rt, alloc, &dfa, case)?;
         accelerate(alloc, &mut dfa)?;
@@ -161,7 +166,7 @@ fn large_tables(rt: HostRuntime) -> Result<(), Fail> {
     for place in 2..33335 {
         accelerated.push(if place < 16669 { LISTS[1] } else { LISTS[0] })?;
     }
-    let mut dfa = table(&rt, alloc, &rows, &matches, 2)?;
+    let mut dfa = table(alloc, &COLUMNS, &rows, &matches, [2, 0])?;
     let special = [[1, 33335], [2, 33334], [0, 0], [33335, 33335]];
     check_order(&rt, alloc, &dfa, &(special, shuffled.as_slice()))?;
     accelerate(alloc, &mut dfa)?;

@@ -1,5 +1,0 @@
-use Rattle.rx_order.specs.Ordering.{AreMatches}
-use Rattle.rx_minimize_tests.proofs.tests.tables.matches.Given as goal
-
-abbrev pub invariant-loop-row : goal.invariant-loop-row
-invariant-loop-row g l = AreMatches l.dfa l.matches

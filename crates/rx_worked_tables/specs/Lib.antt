@@ -1,0 +1,2 @@
+-- what is known of the tables that are made
+pub mod Tables

@@ -1,0 +1,18 @@
+-- What is known of the tables that are made.
+use Rattle.std.specs.Prelude.{◌≡◌, None, [], length}
+use Rattle.rx_dense.specs.Layouts.{Layout}
+use Rattle.rx_order.specs.RowOrder.{AreJoined, IsInOrder, IsPlain}
+
+-- no accelerated rows, no universal starts, and start entries for two modes alone
+pub record IsBare (l : Layout) : Type 0 where
+  pub accels : l.accels ≡ []
+  pub universal_unanchored : l.universal_unanchored ≡ None
+  pub universal_anchored : l.universal_anchored ≡ None
+  pub pattern_starts : l.pattern_starts ≡ None
+  pub starts : length l.starts ≡ 12
+
+-- what is asked of a table that is accelerated or minimized
+pub record IsReady (l : Layout) : Type 0 where
+  pub in_order : IsInOrder l
+  pub plain : IsPlain l
+  pub joined : AreJoined l
