@@ -12,11 +12,16 @@ abbrev pub Writes : Option (List ℕ) → Option (List ℕ) → WriteAnswer → 
 Writes before after (Took n) piece = (0 < n) × (n ≤ length piece) × Appends before after (take n piece)
 Writes before after Failed piece = Keeps before after
 
--- What an answer says of the count of faults before and after: it rose where the write failed, and no other
--- write changed it.
+-- What an answer says of the count of faults before and after: it rose where the write failed. It never falls; a
+-- sink that tries again after a fault may have counted one and take bytes all the same.
 abbrev pub WriteCause : ℕ → ℕ → WriteAnswer → Type 0
-WriteCause before now (Took n) = now ≡ before
+WriteCause before now (Took n) = before ≤ now
 WriteCause before now Failed = Rose before now
+
+-- The count after an answer where failed writes alone are counted, each once.
+abbrev pub failed_writes : ℕ → WriteAnswer → ℕ
+failed_writes before (Took n) = before
+failed_writes before Failed = one_more before
 
 -- A sink in memory: the bytes written, how many there can be, the most that a write takes, the numbers
 -- of the writes that fail, and how many writes and faults there were.

@@ -12,12 +12,18 @@ Reads before after (Got n) buffer = (0 < n) × (n ≤ length buffer) × Consumes
 Reads before after End buffer = Keeps before after × IsAtEnd after
 Reads before after Failed buffer = Keeps before after
 
--- What an answer says of the count of faults before and after: it rose where the read failed, and no other
--- read changed it.
+-- What an answer says of the count of faults before and after: it rose where the read failed. It never falls; a
+-- source that tries again after a fault may have counted one and give bytes all the same.
 abbrev pub ReadCause : ℕ → ℕ → ReadAnswer → Type 0
-ReadCause before now (Got n) = now ≡ before
-ReadCause before now End = now ≡ before
+ReadCause before now (Got n) = before ≤ now
+ReadCause before now End = before ≤ now
 ReadCause before now Failed = Rose before now
+
+-- The count after an answer where failed reads alone are counted, each once.
+abbrev pub failed_reads : ℕ → ReadAnswer → ℕ
+failed_reads before (Got n) = before
+failed_reads before End = before
+failed_reads before Failed = one_more before
 
 -- A source in memory: the bytes left, the most that a read gives, the numbers of the reads that fail,
 -- and how many reads and faults there were.

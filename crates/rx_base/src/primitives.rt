@@ -29,6 +29,8 @@ impl Model for StateID {
     ghost inverse = { λ n. record { index = n } };
 }
 
+const _: () = prove!(StateID::SIZE == 4 && PatternID::SIZE == 4);
+
 impl StateID {
     /// The greatest id, 2^31 - 2.
     pub const MAX: StateID = StateID { index: MAX };

@@ -1,7 +1,7 @@
 //! Where bytes go.
 
 ghost use Rattle.std.specs.Prelude.{◌≡◌, ◌<◌, ◌≤◌, ℕ, [], List, Option, Some, IfOk, length, vec_capacity};
-ghost use Rattle.rx_base.specs.Sink.{Writes, WriteCause, write_answer, after_write};
+ghost use Rattle.rx_base.specs.Sink.{Writes, WriteCause, failed_writes, write_answer, after_write};
 
 use std::alloc::{AllocError, Global};
 use std::io::Write;
@@ -146,7 +146,12 @@ impl<W: Write + Drop> Sink for WriteSink<W> {
 
     ghost faults = { λ s. s.failed };
 
-    fn write(&mut self, piece: &[u8]) -> WriteAnswer {
+    fn write(&mut self, piece: &[u8]) -> WriteAnswer
+        requires { 0 < length piece.now }
+        ensures bytes { Writes (W.contents self.old.inner) (W.contents self.new.inner) result piece.now }
+        ensures cause { WriteCause self.old.failed self.new.failed result }
+        ensures counted { self.new.failed ≡ failed_writes self.old.failed result }
+    {
         match self.inner.write(piece) {
             Ok(0) => {
                 self.failed = self.failed.saturating_add(1);

@@ -1,7 +1,7 @@
 //! Where bytes come from.
 
 ghost use Rattle.std.specs.Prelude.{◌≡◌, ◌<◌, ℕ, List, Option, Some, length};
-ghost use Rattle.rx_base.specs.Source.{Reads, ReadCause, read_answer, after_read};
+ghost use Rattle.rx_base.specs.Source.{Reads, ReadCause, failed_reads, read_answer, after_read};
 
 use std::io::Read;
 use std::marker::Model;
@@ -124,7 +124,12 @@ impl<R: Read + Drop> Source for ReadSource<R> {
 
     ghost faults = { λ s. s.failed };
 
-    fn read(&mut self, buf: &mut [u8]) -> ReadAnswer {
+    fn read(&mut self, buf: &mut [u8]) -> ReadAnswer
+        requires { 0 < length buf.old }
+        ensures bytes { Reads (R.remaining self.old.inner) (R.remaining self.new.inner) result buf.new }
+        ensures cause { ReadCause self.old.failed self.new.failed result }
+        ensures counted { self.new.failed ≡ failed_reads self.old.failed result }
+    {
         match self.inner.read(buf) {
             Ok(0) => ReadAnswer::End,
             Ok(count) => ReadAnswer::Got(count),

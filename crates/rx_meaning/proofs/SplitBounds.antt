@@ -19,7 +19,8 @@ use Rattle.rx_lemmas.proofs.Firsts.{by_test, Contains-here, Contains-there, Cont
 use Rattle.rx_lemmas.proofs.ReadUnits.{narrower_bytes}
 use Rattle.rx_lemmas.proofs.Reaches.{only_one}
 use Rattle.rx_meaning.specs.Bounds.{IsInBounds, HalfUnsplitInBounds, OverlappingUnsplitQuits}
-use Rattle.rx_meaning.specs.Bounds.{OverlappingUnsplitInBounds, IsNamed, Quitting, HalfUnsplitQuits}
+use Rattle.rx_meaning.specs.Bounds.{OverlappingUnsplitInBounds, IsNamed, Quitting, QuittingAgain, HalfUnsplitQuits}
+use Rattle.rx_meaning.specs.Bounds.{narrowed}
 use Rattle.rx_meaning.proofs.TableBounds.{half_in_bounds, overlapping_in_bounds, half_quits, overlapping_quits}
 
 -- the span of a narrower query lies in the span
@@ -106,8 +107,9 @@ module _ (t : Table) (sound : IsSound t) (direction : Direction) where
       (told_again direction q (skip_splits search direction n (narrower direction q)) (search q) h e)
 
   skipping_quits : (n : ℕ) (q : Query) (byte offset : ℕ) → IsFit q → AreBytes q.haystack
-      → skip_splits search direction n q ≡ Err (MatchError.Quit byte offset) → IsNamed q byte offset × Quitting t byte
-  unfolding skip_splits
+      → skip_splits search direction n q ≡ Err (MatchError.Quit byte offset)
+      → IsNamed q byte offset × ((count : ℕ) × Quitting t direction (narrowed direction count q) byte offset)
+  unfolding skip_splits narrowed
   skipping_quits zero q byte offset fit bytes e = absurd (no_error (MatchError.Quit byte offset) e)
     where
       no_error : (error : MatchError) → ◌≡◌ {A = HalfAnswer} (Ok None) (Err error) → ⊥
@@ -115,13 +117,13 @@ module _ (t : Table) (sound : IsSound t) (direction : Direction) where
   skipping_quits (suc n) q byte offset fit bytes e =
       let again = skip_splits search direction n (narrower direction q) in
       ⊎_elim (λ (o : search q ≡ Err (MatchError.Quit byte offset)).
-      half_quits t sound direction q byte offset fit bytes o)
+      let quit = half_quits t sound direction q byte offset fit bytes o in (quit.0, (0, quit.1)))
       (λ (o : (x : HalfMatch) × (search q ≡ Ok (Some x)) × (is_narrowest direction q ≡ false)
       × (again ≡ Err (MatchError.Quit byte offset))).
       let order = (half_met t.machine t.settings direction q o.0 o.1).0 in
       let later = skipping_quits n (narrower direction q) byte offset (narrower_fits direction q order o.2 fit)
       (narrower_bytes direction q bytes) o.3 in
-      (narrower_names direction q byte offset later.0, later.1))
+      (narrower_names direction q byte offset later.0, (suc later.1.0, later.1.1)))
       (error_again direction q again (search q) (MatchError.Quit byte offset) e)
 
 pub half_unsplit_in_bounds : HalfUnsplitInBounds
@@ -134,13 +136,19 @@ half_unsplit_in_bounds t sound direction q h bytes e = by_flag (skips_splits t) 
     by_flag false e = half_in_bounds t sound direction q h bytes e
 
 pub half_unsplit_quits : HalfUnsplitQuits
-half_unsplit_quits t sound direction q byte offset fit bytes e = by_flag (skips_splits t) e
+unfolding narrowed
+half_unsplit_quits t sound direction q byte offset fit bytes e = by_flag (skips_splits t) refl e
   where
-    by_flag : (skips : Bool) → (if skips then skip_splits (half_search t.machine t.settings direction) direction
+    by_flag : (skips : Bool) → skips_splits t ≡ skips
+        → (if skips then skip_splits (half_search t.machine t.settings direction) direction
         (split_limit q) q else half_search t.machine t.settings direction q) ≡ Err (MatchError.Quit byte offset)
-        → IsNamed q byte offset × Quitting t byte
-    by_flag true e = skipping_quits t sound direction (split_limit q) q byte offset fit bytes e
-    by_flag false e = half_quits t sound direction q byte offset fit bytes e
+        → IsNamed q byte offset × QuittingAgain t direction q byte offset
+    by_flag true is e =
+        let quit = skipping_quits t sound direction (split_limit q) q byte offset fit bytes e in
+        (quit.0, record { count = quit.1.0; once = λ off. absurd (cc); quitting = quit.1.1 })
+    by_flag false is e =
+        let quit = half_quits t sound direction q byte offset fit bytes e in
+        (quit.0, record { count = 0; once = λ off. refl; quitting = quit.1 })
 
 -- an item that is left was there before
 kept_item : (q : Query) (h : HalfMatch) (items : List Item)

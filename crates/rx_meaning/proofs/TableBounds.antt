@@ -9,7 +9,7 @@ use Rattle.rx_spec.specs.Bytes.{AreBytes, contains, unit_of}
 use Rattle.rx_spec.specs.Looks.{before}
 use Rattle.rx_spec.specs.Queries.{Anchored, Query, IsFit, HalfMatch, MatchError, reading}
 use Rattle.rx_spec.specs.Machines.{Label, Settings, run}
-use Rattle.rx_spec.specs.Starts.{supports, StartError, mode_error, start_error}
+use Rattle.rx_spec.specs.Starts.{supports, StartError, mode_error, start_error, start_context, start_row}
 use Rattle.rx_spec.specs.Tables.{Table, IsTable, IsSound}
 use Rattle.rx_spec.specs.HalfSearches.{units_of, beside, beside_offset, first_offset, unit_offset, first_match}
 use Rattle.rx_spec.specs.HalfSearches.{match_error, half_search}
@@ -24,7 +24,7 @@ use Rattle.rx_lemmas.proofs.ReadUnits.{next_at_place, units_word}
 use Rattle.rx_lemmas.proofs.SilentRows.{IsRow}
 use Rattle.rx_lemmas.proofs.Words.{IsWord-take, run-within}
 use Rattle.rx_meaning.specs.Bounds.{IsInBounds, HalfInBounds, OverlappingInBounds, IsNamed, Quitting, HalfQuits}
-use Rattle.rx_meaning.specs.Bounds.{OverlappingQuits}
+use Rattle.rx_meaning.specs.Bounds.{OverlappingQuits, row_after, read_before}
 
 -- ---- what is told
 
@@ -163,17 +163,33 @@ unit_is direction q place order inside within =
     place_is Direction.Forward q place order inside h = refl
     place_is Direction.Reverse q place order inside h = omega arith
 
+-- how many units are read before a byte, by where the walk stands
+read_before_is : (direction : Direction) (q : Query) (place byte : ℕ)
+    → next_byte direction q.haystack (offset_after direction (first_offset direction q) place) ≡ Some byte
+    → read_before direction q (unit_offset direction (offset_after direction (first_offset direction q) place)) ≡ place
+read_before_is Direction.Forward q place byte there = omega arith
+read_before_is Direction.Reverse q place byte there = at_offset (q.end - place) refl there
+  where
+    at_offset : (o : ℕ) → o ≡ q.end - place → next_byte Direction.Reverse q.haystack o ≡ Some byte
+        → q.end - 1 - (q.end - place - 1) ≡ place
+    at_offset zero is e = absurd (none-some byte e)
+    at_offset (suc i) is e = omega (arith, is)
+
 module _ (t : Table) (sound : IsSound t) (direction : Direction) (q : Query) (bytes : AreBytes q.haystack)
     (fit : IsFit q) where
   abbrev table : IsTable t
   table = sound.is_table
 
+  abbrev start : ℕ
+  start = start_row t.machine t.settings (beside direction q) q.mode
+
   -- a quit in the walk
-  walk_named : (start byte offset : ℕ) → q.start ≤ q.end → start < t.size
+  walk_named : (byte offset : ℕ) → q.start ≤ q.end
       → Came t.machine start (units_of direction q)
       (LeadsToQuit t.machine direction (first_offset direction q) (MatchError.Quit byte offset))
-      → IsNamed q byte offset × Quitting t byte
-  walk_named start byte offset order inside c =
+      → IsNamed q byte offset × Quitting t direction q byte offset
+  walk_named byte offset order c =
+      let inside = table.entries q.mode (start_context t.settings (beside direction q)) in
       let l = c.leads in
       let from = came_from t sound direction q bytes start c.place inside c.within in
       let o = offset_after direction (first_offset direction q) c.place in
@@ -186,11 +202,11 @@ module _ (t : Table) (sound : IsSound t) (direction : Direction) (q : Query) (by
       let there = a_byte (next_byte direction q.haystack o) unit not_end
       (unit_is direction q c.place order fit.within c.within) in
       let same = quit_parts byte unit offset (unit_offset direction o) l.told in
-      subst (λ b. IsNamed q b offset × Quitting t b) (sym same.0) (
-        subst (λ o. IsNamed q unit o) (sym same.1)
-            (next_named direction q unit o (offset_in_span direction q c.place order c.within) there),
-        inr (row, from.0, to_quit),
-      )
+      let there_row = ap (λ n. t.machine.next (row_after t direction q n) unit)
+      (read_before_is direction q c.place unit there) ∙ to_quit in
+      subst (λ b. IsNamed q b offset × Quitting t direction q b offset) (sym same.0)
+      (subst (λ o. IsNamed q unit o × Quitting t direction q unit o) (sym same.1)
+      (next_named direction q unit o (offset_in_span direction q c.place order c.within) there, inr there_row))
     where
       quit_parts : (a b x y : ℕ) → MatchError.Quit a x ≡ MatchError.Quit b y → (a ≡ b) × (x ≡ y)
       quit_parts a b x y e = (cc, cc)
@@ -203,35 +219,35 @@ module _ (t : Table) (sound : IsSound t) (direction : Direction) (q : Query) (by
   start_named : (refused : StartError) (byte offset : ℕ) → q.start ≤ q.end
       → start_error t.settings (beside direction q) q.mode ≡ Some refused
       → MatchError.Quit byte offset ≡ match_error direction q refused
-      → IsNamed q byte offset × Quitting t byte
+      → IsNamed q byte offset × Quitting t direction q byte offset
   start_named (StartError.Quit b) byte offset order is e =
       let parts = start_quits t.settings (beside direction q) q.mode b is in
       let same = quit_parts byte b offset (beside_offset direction q) e in
-      subst (λ x. IsNamed q x offset × Quitting t x) (sym same.0)
-      (subst (λ o. IsNamed q b o) (sym same.1) (beside_named direction q b order parts.0), inl parts.1)
+      subst (λ x. IsNamed q x offset × Quitting t direction q x offset) (sym same.0)
+      (subst (λ o. IsNamed q b o) (sym same.1) (beside_named direction q b order parts.0), inl parts)
     where
       quit_parts : (a b x y : ℕ) → MatchError.Quit a x ≡ MatchError.Quit b y → (a ≡ b) × (x ≡ y)
       quit_parts a b x y e = (cc, cc)
   start_named (StartError.UnsupportedAnchored mode) byte offset order is e = absurd (cc)
 
   quit_named : (byte offset : ℕ) → half_search t.machine t.settings direction q ≡ Err (MatchError.Quit byte offset)
-      → IsNamed q byte offset × Quitting t byte
+      → IsNamed q byte offset × Quitting t direction q byte offset
   quit_named byte offset e =
       let cause = half_error t.machine t.settings direction q (MatchError.Quit byte offset) e in
       ⊎_elim
       (λ (r : (refused : StartError) × (start_error t.settings (beside direction q) q.mode ≡ Some refused)
       × (MatchError.Quit byte offset ≡ match_error direction q refused)).
       start_named r.0 byte offset cause.0 r.1 r.2)
-      (λ c. walk_named _ byte offset cause.0 (table.entries q.mode _) c)
+      (λ c. walk_named byte offset cause.0 c)
       cause.1
 
   overlapping_named : (byte offset : ℕ)
       → let ending = (overlapping t.machine t.settings direction q).ending in
       (ending ≡ Ending.Quits byte offset) ⊎ (ending ≡ Ending.Refused (MatchError.Quit byte offset))
-      → IsNamed q byte offset × Quitting t byte
+      → IsNamed q byte offset × Quitting t direction q byte offset
   overlapping_named byte offset (inl e) =
       let met = search_quit t.machine t.settings direction q byte offset e in
-      walk_named _ byte offset met.0 (table.entries q.mode _) met.1
+      walk_named byte offset met.0 met.1
   overlapping_named byte offset (inr e) =
       let r = search_refused t.machine t.settings direction q (MatchError.Quit byte offset) e in
       start_named r.1.0 byte offset r.0 r.1.1 r.1.2

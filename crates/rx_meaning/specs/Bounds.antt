@@ -1,15 +1,18 @@
 -- Where the answers of a search lie, and what they depend on.
-use Rattle.std.specs.Prelude.{ℕ, ◌≡◌, ◌+◌, ◌<◌, ◌≤◌, ◌⊎◌, true, Some, Ok, Err, List, length, slice_get, Contains, All}
+use Rattle.std.specs.Prelude.{ℕ, zero, suc, ◌≡◌, ◌+◌, ◌-◌, ◌<◌, ◌≤◌, ◌⊎◌, true, false, Some, Ok, Err, List, length}
+use Rattle.std.specs.Prelude.{take, slice_get, Contains, All}
 use Rattle.rx_spec.specs.Bytes.{AreBytes, contains}
 use Rattle.rx_spec.specs.Looks.{before, after}
 use Rattle.rx_spec.specs.Expressions.{Expression, IsLoopSafe}
 use Rattle.rx_spec.specs.Queries.{Query, IsFit, Match, HalfMatch, MatchError}
 use Rattle.rx_spec.specs.Builds.{Build}
+use Rattle.rx_spec.specs.Machines.{run}
+use Rattle.rx_spec.specs.Starts.{start_row}
 use Rattle.rx_spec.specs.Tables.{Table, IsSound}
-use Rattle.rx_spec.specs.HalfSearches.{span_bytes, half_search}
+use Rattle.rx_spec.specs.HalfSearches.{span_bytes, units_of, beside, half_search}
 use Rattle.rx_spec.specs.Overlapping.{Item, Ending, overlapping}
-use Rattle.rx_spec.specs.Splits.{half_unsplit, overlapping_unsplit}
-use Rattle.rx_spec.specs.Joining.{join}
+use Rattle.rx_spec.specs.Splits.{narrower, skips_splits, half_unsplit, overlapping_unsplit}
+use Rattle.rx_spec.specs.Joining.{back_from, join}
 use Rattle.rx_spec.specs.Iterating.{iterate}
 use Rattle.rx_spec.specs.Plans.{Plan, outcome}
 use Rattle.rx_spec.specs.declared.Direction.{Direction}
@@ -61,41 +64,69 @@ pub record IsNamed (q : Query) (byte offset : ℕ) : Type 0 where
   pub high : offset ≤ q.end
   pub there : slice_get q.haystack offset ≡ Some byte
 
--- it can't be searched, or it led some row to quit
-abbrev pub Quitting : Table → ℕ → Type 0
-Quitting t byte =
-    (contains t.settings.quit byte ≡ true) ⊎ ((row : ℕ) × (row < t.size) × (t.machine.next row byte ≡ 1))
+-- where a search stands that has read so many units
+abbrev pub row_after : Table → Direction → Query → ℕ → ℕ
+row_after t direction q count =
+    run t.machine.next (start_row t.machine t.settings (beside direction q) q.mode) (take count (units_of direction q))
+
+-- how many units a search reads before the one at an offset
+abbrev pub read_before : Direction → Query → ℕ → ℕ
+read_before Direction.Forward q offset = offset - q.start
+read_before Direction.Reverse q offset = q.end - 1 - offset
+
+-- It stands beside the span and can't be searched, or it leads to quit from the row in which the search reads it.
+abbrev pub Quitting : Table → Direction → Query → (byte offset : ℕ) → Type 0
+Quitting t direction q byte offset =
+    ((beside direction q ≡ Some byte) × (contains t.settings.quit byte ≡ true))
+    ⊎ (t.machine.next (row_after t direction q (read_before direction q offset)) byte ≡ 1)
 
 -- A sound table that quits names such a byte, where it is searched and where its start is refused.
 abbrev pub HalfQuits : Type 0
 HalfQuits = (t : Table) → IsSound t → (direction : Direction) (q : Query) (byte offset : ℕ)
     → IsFit q → AreBytes q.haystack → half_search t.machine t.settings direction q ≡ Err (MatchError.Quit byte offset)
-    → IsNamed q byte offset × Quitting t byte
+    → IsNamed q byte offset × Quitting t direction q byte offset
+
+-- the query made narrower by one, so many times
+unfoldable pub narrowed : Direction → ℕ → Query → Query
+narrowed direction zero q = q
+narrowed direction (suc n) q = narrowed direction n (narrower direction q)
+
+-- Where a match that splits a character is passed over, the search is made again over less of the span, and any of
+-- these searches may quit.
+pub record QuittingAgain (t : Table) (direction : Direction) (q : Query) (byte offset : ℕ) : Type 0 where
+  pub count : ℕ
+  pub once : skips_splits t ≡ false → count ≡ 0
+  pub quitting : Quitting t direction (narrowed direction count q) byte offset
 
 abbrev pub HalfUnsplitQuits : Type 0
 HalfUnsplitQuits = (t : Table) → IsSound t → (direction : Direction) (q : Query) (byte offset : ℕ)
     → IsFit q → AreBytes q.haystack → half_unsplit t direction q ≡ Err (MatchError.Quit byte offset)
-    → IsNamed q byte offset × Quitting t byte
+    → IsNamed q byte offset × QuittingAgain t direction q byte offset
 
 abbrev pub OverlappingQuits : Type 0
 OverlappingQuits = (t : Table) → IsSound t → (direction : Direction) (q : Query) (byte offset : ℕ)
     → IsFit q → AreBytes q.haystack
     → let ending = (overlapping t.machine t.settings direction q).ending in
     (ending ≡ Ending.Quits byte offset) ⊎ (ending ≡ Ending.Refused (MatchError.Quit byte offset))
-    → IsNamed q byte offset × Quitting t byte
+    → IsNamed q byte offset × Quitting t direction q byte offset
 
 abbrev pub OverlappingUnsplitQuits : Type 0
 OverlappingUnsplitQuits = (t : Table) → IsSound t → (direction : Direction) (q : Query) (byte offset : ℕ)
     → IsFit q → AreBytes q.haystack
     → let ending = (overlapping_unsplit t direction q).ending in
     (ending ≡ Ending.Quits byte offset) ⊎ (ending ≡ Ending.Refused (MatchError.Quit byte offset))
-    → IsNamed q byte offset × Quitting t byte
+    → IsNamed q byte offset × Quitting t direction q byte offset
 
--- Joined, one of the two does.
+-- Joined, the forward search does, or the one in reverse from the end that it told.
+pub record QuittingBack (f r : Table) (q : Query) (byte offset : ℕ) : Type 0 where
+  pub end : HalfMatch
+  pub told : half_unsplit f Direction.Forward q ≡ Ok (Some end)
+  pub quitting : QuittingAgain r Direction.Reverse (back_from q end.offset) byte offset
+
 abbrev pub JoinQuits : Type 0
 JoinQuits = (f r : Table) → IsSound f → IsSound r → (q : Query) (byte offset : ℕ) → IsFit q → AreBytes q.haystack
     → join f r q ≡ Err (MatchError.Quit byte offset)
-    → IsNamed q byte offset × (Quitting f byte ⊎ Quitting r byte)
+    → IsNamed q byte offset × (QuittingAgain f Direction.Forward q byte offset ⊎ QuittingBack f r q byte offset)
 
 -- ---- what answers depend on
 

@@ -16,8 +16,8 @@ pub fn told_in_bounds()
     ensures join { JoinInBounds }
 {}
 
-/// Where a sound table quits, it names a byte of the span or one of its two neighbours: one that can't be
-/// searched, or that led to the quit row.
+/// Where a sound table quits, it names a byte of the span or one of its two neighbours: one that stands beside the span
+/// and can't be searched, or that leads to the quit row from the very row in which the search reads it.
 pub fn quits_in_bounds()
     ensures half { HalfQuits }
     ensures half_unsplit { HalfUnsplitQuits }

@@ -6,7 +6,7 @@ abbrev pub invariant-reads : goal.invariant-reads
 invariant-reads g l = record {
   few : length l.text.items ≤ 16777217;
   bytes : Consumes (g.S.Source.left l.initial.src) (g.S.Source.left l.src) l.text.items;
-  kept : g.S.Source.faults l.src ≡ g.S.Source.faults l.initial.src;
+  counted : g.S.Source.faults l.initial.src ≤ g.S.Source.faults l.src;
 }
 
 abbrev pub decreases-reads : goal.decreases-reads

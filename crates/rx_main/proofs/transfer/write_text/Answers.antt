@@ -1,4 +1,4 @@
-use Rattle.std.proofs.Common.{◌∙◌, arith}
+use Rattle.std.proofs.Common.{arith}
 use Rattle.rx_main.proofs.Transfers.{written_more}
 use Rattle.rx_main.proofs.transfer.write_text.Goals as goal
 
@@ -9,5 +9,5 @@ writes-preserved g c = record {
       written_more c.args.text.now c.writes.at c.in-Took.count (g.K.Sink.written c.args.out.now)
       (g.K.Sink.written c.writes.out) (g.K.Sink.written c.write.new.self) c.writes.invariant.bytes
       c.in-Took.ensures.bytes.2;
-  kept = c.in-Took.ensures.cause ∙ c.writes.invariant.kept;
+  counted = omega (arith, c.writes.invariant.counted, c.in-Took.ensures.cause);
 }

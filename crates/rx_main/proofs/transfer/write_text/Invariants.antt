@@ -6,7 +6,7 @@ abbrev pub invariant-writes : goal.invariant-writes
 invariant-writes g l = record {
   within : l.at ≤ length l.text;
   bytes : Appends (g.K.Sink.written l.initial.out) (g.K.Sink.written l.out) (take l.at l.text);
-  kept : g.K.Sink.faults l.out ≡ g.K.Sink.faults l.initial.out;
+  counted : g.K.Sink.faults l.initial.out ≤ g.K.Sink.faults l.out;
 }
 
 abbrev pub decreases-writes : goal.decreases-writes
