@@ -1,6 +1,6 @@
 -- What a turn and a skip add to the units that are counted.
 use Rattle.std.proofs.Common.{◌≡◌, ℕ, ◌+◌, ◌≤◌, ◌==◌, ◌||◌, ◌&&◌, Bool, true, false, if◌then◌else◌, Some, Ok}
-use Rattle.std.proofs.Common.{List, [], ◌∷◌, refl, ap, sym, ◌∙◌, arith, drop}
+use Rattle.std.proofs.Common.{◌≢◌, List, [], ◌∷◌, length, refl, ap, sym, ◌∙◌, subst, arith, drop}
 use Rattle.std.proofs.lemmas.Bool.{or_right, eqb-true, eqb-false}
 use Rattle.rx_spec.specs.Bytes.{AreBytes}
 use Rattle.rx_spec.specs.Queries.{Query}
@@ -10,7 +10,7 @@ use Rattle.rx_spec.specs.HalfSearches.{next_offset}
 use Rattle.rx_spec.specs.declared.Direction.{Direction}
 use Rattle.rx_search.specs.Labels.{is_quit, is_quit_label}
 use Rattle.rx_search.specs.Needles.{is_nil, byte_ahead, is_read, Skips}
-use Rattle.rx_search.specs.Walks.{last_offset, units_left}
+use Rattle.rx_search.specs.Walks.{last_offset, units_left, unit_ahead}
 use Rattle.rx_search.specs.Counted.{ends_at, counts, IsReady, counted, counted_on}
 use Rattle.rx_lemmas.proofs.Firsts.{by_test}
 use Rattle.rx_search.proofs.Standing.{Standing}
@@ -67,9 +67,52 @@ module _ (t : Table) (earliest : Bool) {row unit next : ℕ} (turn : Turn t row 
       zero_more : (n : ℕ) → 0 + n ≡ n
       zero_more n = omega arith
 
+-- no unit counts more than once
+pub counted_few : (t : Table) (earliest : Bool) (row : ℕ) (units : List ℕ)
+    → counted t earliest row units ≤ length units
+counted_few t earliest row [] = omega (arith, counted-nil t earliest row)
+counted_few t earliest row (unit ∷ units) =
+    let next = t.machine.next row unit in
+    at_most (counts t row unit units) (ends_at t earliest next) (counted_few t earliest next units)
+    (counted-cons t earliest row unit units)
+  where
+    at_most : (one ended : Bool) {n later : ℕ} → later ≤ length units
+        → n ≡ (if one then 1 else 0) + (if ended then 0 else later) → n ≤ length (unit ∷ units)
+    at_most true true few e = omega (arith, e)
+    at_most true false few e = omega (arith, e, few)
+    at_most false true few e = omega (arith, e)
+    at_most false false few e = omega (arith, e, few)
+
+-- the next unit counts
+some_counted : (t : Table) (earliest : Bool) (row unit : ℕ) (units : List ℕ) → counts t row unit units ≡ true
+    → 1 ≤ counted t earliest row (unit ∷ units)
+some_counted t earliest row unit units one =
+    let later = if ends_at t earliest (t.machine.next row unit) then 0
+    else counted t earliest (t.machine.next row unit) units in
+    let sum = counted-cons t earliest row unit units ∙ ap (λ (b : Bool). (if b then 1 else 0) + later) one in
+    omega (arith, sum)
+
 pub read_counts : (t : Table) (row unit : ℕ) (units : List ℕ)
     → is_read t row unit ≡ true → counts t row unit units ≡ true
 read_counts t row unit units read = or_right (is_nil units) (is_read t row unit) read
+
+-- ---- what is left to be counted
+
+-- where what may be skipped was skipped, and at the last unit
+pub ready_counts : (t : Table) (direction : Direction) (earliest : Bool) (row : ℕ) {q : Query} {offset : ℕ}
+    → Place q offset → offset ≢ last_offset direction q → IsReady t direction q row offset
+    → 1 ≤ counted t earliest row (units_left direction q offset)
+ready_counts t direction earliest row {q} {offset} place more is_ready =
+    let unit = byte_ahead direction q.haystack offset in
+    let later = units_left direction q (next_offset direction offset) in
+    subst (λ (us : List ℕ). 1 ≤ counted t earliest row us) (sym (units_left-more direction place more))
+    (some_counted t earliest row unit later (read_counts t row unit later (is_ready more)))
+
+pub last_counts : (t : Table) (direction : Direction) (earliest : Bool) (row : ℕ) (q : Query) → q.start ≤ q.end
+    → q.end ≤ length q.haystack → 1 ≤ counted t earliest row (units_left direction q (last_offset direction q))
+last_counts t direction earliest row q order fits =
+    subst (λ (us : List ℕ). 1 ≤ counted t earliest row us) (sym (units_left-last direction q order fits))
+    (some_counted t earliest row (unit_ahead direction q.haystack (last_offset direction q)) [] refl)
 
 -- ---- turns of a search
 

@@ -21,13 +21,14 @@ use Rattle.rx_search.specs.Labels.{patterns_of}
 use Rattle.rx_search.specs.Needles.{byte_ahead, Skips}
 use Rattle.rx_search.specs.Walks.{last_offset, previous_offset, units_left, units_after, at_stop_label, next_stop}
 use Rattle.rx_search.specs.Walks.{Stop, stop_error}
-use Rattle.rx_search.specs.Walks.{IsInSpan, IsMet, bytes_left}
+use Rattle.rx_search.specs.Walks.{IsInSpan, IsMet}
 use Rattle.rx_search.specs.Counted.{IsReady, ends_at, counted, counted_on}
 use Rattle.rx_search.proofs.Standing.{Standing, match_label}
 use Rattle.rx_search.proofs.Walks.{Place, stop-nil, stop-cons, units_left-more, units_left-last, byte_there, loops}
 use Rattle.rx_search.proofs.Walks.{skip_keeps}
-use Rattle.rx_search.proofs.Walks.{rest_whole, next_place, next_left, skip_left, skip_stops}
-use Rattle.rx_search.proofs.Counting.{quiet_goes_on, match_goes_on, skip_counts}
+use Rattle.rx_search.proofs.Walks.{rest_whole, next_place, skip_stops}
+use Rattle.rx_search.proofs.Counting.{quiet_goes_on, match_goes_on, skip_counts, counted_few}
+use Rattle.rx_lemmas.proofs.WalkBounds.{units_count}
 use Rattle.rx_search.proofs.Progress.{Standpoint}
 
 -- what a stop makes of a half search that has kept a match
@@ -140,7 +141,6 @@ pub record HalfProgress (t : Table) (direction : Direction) (q : Query)
     (first now : Standpoint) (last : Option HalfMatch)
     : Type 0 where
   pub in_span : IsInSpan q now.offset
-  pub room : now.steps + bytes_left direction q now.offset ≤ first.steps + length q.haystack
   pub walked : whole_walk t.machine direction q first.row
       ≡ walk t.machine direction q.earliest now.row now.offset last (units_left direction q now.offset)
   pub is_ready : IsReady t direction q now.row now.offset
@@ -173,10 +173,11 @@ first_place Direction.Forward o =
 first_place Direction.Reverse o =
     let order = o.order in record { fits = o.fits; in_span = record { low = omega arith; high = omega arith } }
 
-all_left : (direction : Direction) {q : Query} → Open q
-    → bytes_left direction q (first_offset direction q) ≤ length q.haystack
-all_left Direction.Forward o = let fits = o.fits in omega arith
-all_left Direction.Reverse o = let fits = o.fits in omega arith
+-- no more units count than the haystack has bytes, and one more
+pub counted_in_haystack : (t : Table) (direction : Direction) (q : Query) (row : ℕ) → q.end ≤ length q.haystack
+    → counted t q.earliest row (units_of direction q) ≤ length q.haystack + 1
+counted_in_haystack t direction q row fits =
+    omega (arith, fits, counted_few t q.earliest row (units_of direction q), units_count direction q)
 
 -- where it begins, at a row that tells nothing, behind what may be skipped
 pub half_begins : {t : Table} {row : ℕ} (direction : Direction) {q : Query}
@@ -188,8 +189,6 @@ half_begins {t} {row} direction {q} o bytes s plain steps {to} skips =
     let place = first_place direction o in
     let first = first_offset direction q in
     let whole = ap (units_of direction) (rest_whole direction q) in
-    let less = skip_left direction q skips in
-    let all = all_left direction o in
     let stops = skip_stops direction q s plain bytes place skips in
     let counts = skip_counts q.earliest direction q s
     (λ alive. quiet_goes_on {t = t} {row = row} q.earliest (record { plain = plain; alive = alive }))
@@ -197,7 +196,6 @@ half_begins {t} {row} direction {q} o bytes s plain steps {to} skips =
     let here = ap (counted t q.earliest row) whole in
     record {
       in_span = skips.in_span;
-      room = omega (arith, less, all);
       walked =
           ap (walk t.machine direction q.earliest row first None) (sym whole)
           ∙ walk_stops t.machine direction q.earliest None row first (units_left direction q first)
@@ -277,26 +275,22 @@ module _ {t : Table} {direction : Direction} {q : Query} {first now : Standpoint
       pub half_on : AreBytes q.haystack → q.earliest ≡ false → offset ≢ last_offset direction q → (steps : ℕ)
           → steps + counted_on t direction q next (Ok (Some offset))
           ≤ now.steps + counted t q.earliest now.row (units_left direction q now.offset)
-          → steps + bytes_left direction q offset ≤ now.steps + bytes_left direction q now.offset + 1
           → (to : ℕ) → Skips t direction q next (next_offset direction offset) to
           → (kept : HalfMatch) → kept ≡ match_at t next (previous_offset direction to)
           → HalfProgress t direction q first (record { row = next; offset = to; steps = steps }) (Some kept)
-      half_on bytes e ne steps count room to skips kept kept_is =
+      half_on bytes e ne steps count to skips kept kept_is =
           let place : Place q offset = record { fits = o.fits; in_span = m.in_span } in
           let there = next_place direction place ne in
           let later = ap (drop 1) (units_left-more direction place ne) in
           let from = next_offset direction offset in
           let on = match_goes_on t next label (match_alive s.sound.is_table next s.below label) in
           let late = ap (λ (b : Bool). ends_at t b next) e ∙ on in
-          let left = next_left direction place ne in
-          let less = skip_left direction q skips in
           let same = ap (λ (us : List ℕ). if ends_at t q.earliest next then 0 else counted t q.earliest next us) later
           ∙ ap (λ (b : Bool). if b then 0 else counted t q.earliest next (units_left direction q from)) late in
           let counts = skip_counts q.earliest direction q s (λ alive. late) bytes o.order there skips in
           let before = ap (match_at t next) (sym (previous-next direction q place ne)) in
           record {
             in_span = skips.in_span;
-            room = omega (arith, p.room, room, left, less);
             walked =
                 goes e
                 ∙ ap₂ (λ (h : HalfMatch) (us : List ℕ). walk t.machine direction q.earliest next from (Some h) us)

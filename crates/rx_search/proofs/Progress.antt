@@ -1,6 +1,6 @@
 -- How far a walk has come that looks for its next stop, and what each turn adds.
-use Rattle.std.proofs.Common.{◌≡◌, ℕ, ◌+◌, ◌≤◌, ◌==◌, true, false, Some, Ok, refl, ap, ap₂, sym, ◌∙◌}
-use Rattle.std.proofs.Common.{subst, arith}
+use Rattle.std.proofs.Common.{◌≡◌, ◌≢◌, ℕ, ◌+◌, ◌-◌, ◌^◌, ◌<◌, ◌≤◌, ◌==◌, inl, inr, true, false, Some, Ok, length}
+use Rattle.std.proofs.Common.{refl, ap, ap₂, sym, ◌∙◌, subst, arith}
 use Rattle.rx_spec.specs.Bytes.{AreBytes}
 use Rattle.rx_spec.specs.Queries.{Query, MatchError}
 use Rattle.rx_spec.specs.Tables.{Table, is_match}
@@ -10,12 +10,12 @@ use Rattle.rx_search.specs.Labels.{is_quit}
 use Rattle.rx_search.specs.Needles.{byte_ahead, Skips}
 use Rattle.rx_search.specs.Walks.{IsInSpan, last_offset, bytes_left, units_left, units_after, next_stop, Stop}
 use Rattle.rx_search.specs.Walks.{stop_error, StopsAt}
-use Rattle.rx_search.specs.Counted.{IsReady, counted, counted_on}
-use Rattle.rx_search.proofs.Walks.{next_place, next_left, IsQuiet, Step, step_quiet, step_match, step_quits, step_ends}
+use Rattle.rx_search.specs.Counted.{HasRoom, IsReady, counted, counted_on}
+use Rattle.rx_search.proofs.Walks.{Place, next_place, next_left, IsQuiet, Step, step_quiet, step_match, step_quits, step_ends}
 use Rattle.rx_search.proofs.Walks.{LastStep, last_match, last_quits, last_ends, skip_stops, skip_left}
 use Rattle.rx_search.proofs.Counting.{step_quiet_counted, step_counted, step_match_counted, last_counted}
 use Rattle.rx_search.proofs.Counting.{last_match_counted}
-use Rattle.rx_search.proofs.Counting.{skip_counts, quiet_goes_on}
+use Rattle.rx_search.proofs.Counting.{skip_counts, quiet_goes_on, ready_counts, last_counts}
 
 -- a row, an offset, and how many steps were counted there
 pub record Standpoint : Type 0 where
@@ -50,6 +50,24 @@ module _ {t : Table} {direction : Direction} {q : Query} {first now : Standpoint
   -- what the start of the walk is to be ready for
   abbrev Ready : Type 0
   Ready = IsReady t direction q first.row first.offset
+
+  -- the counter has room for the next unit, and for the last one
+  pub has_room : HasRoom t direction q first.row first.offset first.steps → q.end ≤ length q.haystack
+      → now.offset ≢ last_offset direction q → now.steps < 2 ^ 64 - 1
+  has_room (inl (ready, room)) fits more =
+      let place : Place q now.offset = record { fits = fits; in_span = p.in_span } in
+      omega (arith, p.count ready, room, ready_counts t direction q.earliest now.row place more (p.is_ready ready))
+  has_room (inr room) fits more = omega (arith, p.room, room)
+
+  pub has_room_last : HasRoom t direction q first.row first.offset first.steps → q.end ≤ length q.haystack
+      → now.offset ≡ last_offset direction q → now.steps < 2 ^ 64 - 1
+  has_room_last (inl (ready, room)) fits over =
+      let low = p.in_span.low in
+      let high = p.in_span.high in
+      let here = ap (λ (o : ℕ). counted t q.earliest now.row (units_left direction q o)) over in
+      let order : q.start ≤ q.end = omega arith in
+      omega (arith, p.count ready, room, here, last_counts t direction q.earliest now.row q order fits)
+  has_room_last (inr room) fits over = omega (arith, p.room, room)
 
   module _ {next : ℕ} (s : Step t direction q now.row now.offset next) where
     -- a byte that leads to a quiet row, and a skip from there

@@ -1,12 +1,12 @@
 -- How many units a walk reads one by one, where it skips what may be skipped.
-use Rattle.std.specs.Prelude.{ℕ, ◌≡◌, ◌≢◌, ◌+◌, Bool, true, ◌||◌, ◌&&◌, if◌then◌else◌, List, [], ◌∷◌, Option, Some}
-use Rattle.std.specs.Prelude.{Result, Ok}
+use Rattle.std.specs.Prelude.{ℕ, ◌≡◌, ◌≢◌, ◌+◌, ◌^◌, ◌<◌, ◌⊎◌, Bool, true, ◌||◌, ◌&&◌, if◌then◌else◌, List, [], ◌∷◌}
+use Rattle.std.specs.Prelude.{Option, Some, Result, Ok}
 use Rattle.rx_spec.specs.Queries.{Query, MatchError}
 use Rattle.rx_spec.specs.Tables.{Table, is_match}
 use Rattle.rx_spec.specs.declared.Direction.{Direction}
 use Rattle.rx_search.specs.Labels.{is_quit}
 use Rattle.rx_search.specs.Needles.{is_nil, is_read, byte_ahead}
-use Rattle.rx_search.specs.Walks.{last_offset, units_after}
+use Rattle.rx_search.specs.Walks.{last_offset, bytes_left, units_left, units_after}
 
 -- whether a walk ends at a row
 abbrev pub ends_at : Table → Bool → ℕ → Bool
@@ -28,6 +28,12 @@ counted t earliest row (unit ∷ units) =
 abbrev pub IsReady : Table → Direction → Query → (row offset : ℕ) → Type 0
 IsReady t direction q row offset =
     offset ≢ last_offset direction q → is_read t row (byte_ahead direction q.haystack offset) ≡ true
+
+-- A counter has room for the units that count, where what may be skipped was skipped; or else for all that are left.
+abbrev pub HasRoom : Table → Direction → Query → (row offset steps : ℕ) → Type 0
+HasRoom t direction q row offset steps =
+    (IsReady t direction q row offset × (steps + counted t q.earliest row (units_left direction q offset) < 2 ^ 64))
+    ⊎ (steps + bytes_left direction q offset + 1 < 2 ^ 64)
 
 -- how many units count of those that are left once a walk has stopped
 abbrev pub counted_on : Table → Direction → Query → (row : ℕ) → Result (Option ℕ) MatchError → ℕ

@@ -86,8 +86,3 @@ StopsAt t direction q from row stop (Ok (Some offset)) =
     (stop ≡ Match row offset (units_after direction q offset)) × IsMet t direction q from row offset
 StopsAt t direction q from row stop (Ok None) = stop ≡ Ended
 StopsAt t direction q from row stop (Err error) = stop_error stop ≡ Some error
-
--- how many bytes of the span are left where a walk has stopped
-abbrev pub left_at_stop : Direction → Query → Result (Option ℕ) MatchError → ℕ
-left_at_stop direction q (Ok (Some offset)) = bytes_left direction q offset
-left_at_stop direction q _ = 0

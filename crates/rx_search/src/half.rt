@@ -64,8 +64,9 @@ pub fn find_rev<A: Automaton>(dfa: &A, input: &Input<'_>) -> Result<Option<HalfM
 /// The same as [`find_fwd`], from a cursor that [`Cursor::forward`] made for this input.
 ///
 /// Its ticks are at most the number of units that count of those that it reads: the bytes of the span that are
-/// read from a row without needles or that are a needle of their row, and the unit past the span. It answers no
-/// other error than a quit byte.
+/// read from a row without needles or that are a needle of their row, and the unit past the span. The counter must
+/// have room for so many. The cursor keeps its table and stands where the walk stopped; another search takes a new
+/// one. It answers no other error than a quit byte.
 #[inline(always)]
 pub fn find_fwd_counted<A: Automaton, L>(
     cursor: &mut Cursor<A, L>,
@@ -73,7 +74,10 @@ pub fn find_fwd_counted<A: Automaton, L>(
     steps: &mut Steps<L>,
 ) -> Result<Option<HalfMatch>, MatchError>
     requires fits { IsFit (query_of input.now) }
-    requires room { steps.old + length (query_of input.now).haystack + 1 < 2 ^ 64 }
+    requires room { let q = query_of input.now in
+        let t = A.table cursor.old.table in
+        let row = row_of (A.ids cursor.old.table) cursor.old.row in
+        steps.old + counted t q.earliest row (units_of Forward q) < 2 ^ 64 }
     requires fresh { let t = A.table cursor.old.table in
         IsStart t Forward (query_of input.now) (row_of (A.ids cursor.old.table) cursor.old.row) }
     ensures answer { let t = A.table cursor.old.table in
@@ -84,13 +88,14 @@ pub fn find_fwd_counted<A: Automaton, L>(
         let t = A.table cursor.old.table in
         let row = row_of (A.ids cursor.old.table) cursor.old.row in
         steps.new ≤ steps.old + counted t q.earliest row (units_of Forward q) }
+    ensures table { cursor.new.table ≡ cursor.old.table }
     ensures done { is_done (query_of input.now) ≡ true → steps.new ≡ steps.old }
 {
     half_search(cursor, input, Direction::Forward, steps)
 }
 
 /// The same as [`find_rev`], from a cursor that [`Cursor::reverse`] made for this input. Its ticks are bounded as
-/// those of [`find_fwd_counted`].
+/// those of [`find_fwd_counted`], and its cursor is left as there.
 #[inline(always)]
 pub fn find_rev_counted<A: Automaton, L>(
     cursor: &mut Cursor<A, L>,
@@ -98,7 +103,10 @@ pub fn find_rev_counted<A: Automaton, L>(
     steps: &mut Steps<L>,
 ) -> Result<Option<HalfMatch>, MatchError>
     requires fits { IsFit (query_of input.now) }
-    requires room { steps.old + length (query_of input.now).haystack + 1 < 2 ^ 64 }
+    requires room { let q = query_of input.now in
+        let t = A.table cursor.old.table in
+        let row = row_of (A.ids cursor.old.table) cursor.old.row in
+        steps.old + counted t q.earliest row (units_of Reverse q) < 2 ^ 64 }
     requires fresh { let t = A.table cursor.old.table in
         IsStart t Reverse (query_of input.now) (row_of (A.ids cursor.old.table) cursor.old.row) }
     ensures answer { let t = A.table cursor.old.table in
@@ -109,6 +117,7 @@ pub fn find_rev_counted<A: Automaton, L>(
         let t = A.table cursor.old.table in
         let row = row_of (A.ids cursor.old.table) cursor.old.row in
         steps.new ≤ steps.old + counted t q.earliest row (units_of Reverse q) }
+    ensures table { cursor.new.table ≡ cursor.old.table }
     ensures done { is_done (query_of input.now) ≡ true → steps.new ≡ steps.old }
 {
     half_search(cursor, input, Direction::Reverse, steps)
@@ -123,7 +132,10 @@ fn half_search<A: Automaton, L>(
     steps: &mut Steps<L>,
 ) -> Result<Option<HalfMatch>, MatchError>
     requires fits { IsFit (query_of input.now) }
-    requires room { steps.old + length (query_of input.now).haystack + 1 < 2 ^ 64 }
+    requires room { let q = query_of input.now in
+        let t = A.table cursor.old.table in
+        let row = row_of (A.ids cursor.old.table) cursor.old.row in
+        steps.old + counted t q.earliest row (units_of direction q) < 2 ^ 64 }
     requires fresh { let t = A.table cursor.old.table in
         IsStart t direction (query_of input.now) (row_of (A.ids cursor.old.table) cursor.old.row) }
     ensures answer { let t = A.table cursor.old.table in
@@ -134,6 +146,7 @@ fn half_search<A: Automaton, L>(
         let t = A.table cursor.old.table in
         let row = row_of (A.ids cursor.old.table) cursor.old.row in
         steps.new ≤ steps.old + counted t q.earliest row (units_of direction q) }
+    ensures table { cursor.new.table ≡ cursor.old.table }
     ensures done { is_done (query_of input.now) ≡ true → steps.new ≡ steps.old }
 {
     if input.is_done() {

@@ -7,10 +7,9 @@ ghost use Rattle.rx_spec.specs.HalfSearches.{first_offset, next_offset, unit_off
 ghost use Rattle.rx_spec.specs.Ids.{row_of};
 ghost use Rattle.rx_base.specs.Input.{query_of};
 ghost use Rattle.rx_base.specs.Unit.{unit_number};
-ghost use Rattle.rx_search.specs.Counted.{IsReady, counted, counted_on};
+ghost use Rattle.rx_search.specs.Counted.{HasRoom, IsReady, counted, counted_on};
 ghost use Rattle.rx_search.specs.Needles.{byte_ahead};
-ghost use Rattle.rx_search.specs.Walks.{IsInSpan, last_offset, bytes_left, units_left, unit_ahead, next_stop};
-ghost use Rattle.rx_search.specs.Walks.{StopsAt, left_at_stop};
+ghost use Rattle.rx_search.specs.Walks.{IsInSpan, last_offset, units_left, unit_ahead, next_stop, StopsAt};
 
 use crate::skip::skip;
 use crate::{Automaton, Cursor};
@@ -28,7 +27,8 @@ pub(crate) fn next_match<A: Automaton, L>(
 ) -> Result<Option<usize>, MatchError>
     requires in_span { IsInSpan (query_of input.now) from }
     requires within { (query_of input.now).end ≤ length (query_of input.now).haystack }
-    requires room { steps.old + bytes_left direction (query_of input.now) from + 1 < 2 ^ 64 }
+    requires room { HasRoom (A.table cursor.old.table) direction (query_of input.now)
+        (row_of (A.ids cursor.old.table) cursor.old.row) from steps.old }
     ensures table { cursor.new.table ≡ cursor.old.table }
     ensures stop { let q = query_of input.now in
         let t = A.table cursor.old.table in
@@ -36,8 +36,6 @@ pub(crate) fn next_match<A: Automaton, L>(
         (next_stop t.machine direction (row_of (A.ids cursor.old.table) cursor.old.row)
         from (units_left direction q from))
         result }
-    ensures room { let q = query_of input.now in
-        steps.new + left_at_stop direction q result ≤ steps.old + bytes_left direction q from + 1 }
     ensures counted { let q = query_of input.now in
         let t = A.table cursor.old.table in
         IsReady t direction q (row_of (A.ids cursor.old.table) cursor.old.row) from

@@ -137,7 +137,7 @@ matches-preserved g c =
     let on = half_on inv.progress r.standing r.met r.stops span bytes
     (sym c.get_earliest.ensures ∙ c.if-get_earliest.false)
     (λ e. c.if-offset-last_offset.false (e ∙ sym c.last_offset.ensures)) c.next_match.new.steps count
-    (rw c.in-Ok-Some.field-0-is at c.in-Ok-Some.ensures.room) c.skip-at-in-matches.result
+    c.skip-at-in-matches.result
     (skips_at a.table a.ids next same c.next_offset.ensures c.skip-at-in-matches.ensures.skips)
     c.new-in-matches.result
     (c.new-in-matches.ensures

@@ -9,12 +9,13 @@ use Rattle.rx_base.specs.Unit.{unit_number}
 use Rattle.rx_search.specs.Labels.{is_quit}
 use Rattle.rx_search.specs.Needles.{byte_ahead}
 use Rattle.rx_search.specs.Starts.{IsId}
-use Rattle.rx_search.specs.Walks.{IsInSpan, last_offset, unit_ahead, bytes_left}
+use Rattle.rx_search.specs.Walks.{IsInSpan, last_offset, unit_ahead}
 use Rattle.rx_search.proofs.Needles.{stays}
 use Rattle.rx_search.proofs.Walks.{stepped, Step, LastStep, Place, next_place, within_haystack}
 use Rattle.rx_search.proofs.Walks.{Turn, bytes_of, ordinary, unaccelerated, quiet, eoi_no_quit}
 use Rattle.rx_search.proofs.Cursors.{held_by, held_row, at_same, known, skips_at, turned}
-use Rattle.rx_search.proofs.Progress.{Progress, begins, progress_on, met_stop, met_count, end_count, quit_stop}
+use Rattle.rx_search.proofs.Progress.{Progress, begins, has_room, has_room_last, progress_on, met_stop, met_count}
+use Rattle.rx_search.proofs.Progress.{end_count, quit_stop}
 use Rattle.rx_search.proofs.Progress.{end_stop, last_met_stop}
 use Rattle.rx_search.proofs.Progress.{last_met_count, last_end_count, last_quit_stop, last_end_stop, quits_at}
 use Rattle.rx_search.proofs.walk.next_match.Goals as goal
@@ -40,6 +41,16 @@ byte_ahead-byte-requires g c =
     = record { fits = c.requires.within; in_span = c.bytes.invariant.progress.in_span } in
     let within = within_haystack c.args.direction place (λ e. c.bytes-test.true (e ∙ sym c.last_offset-last.ensures)) in
     omega (arith, within, ap length c.haystack-haystack.ensures)
+
+pub advance-requires : goal.advance-requires
+advance-requires g c =
+    has_room c.bytes.invariant.progress c.requires.room c.requires.within
+    (λ e. c.bytes-test.true (e ∙ sym c.last_offset-last.ensures))
+
+pub advance-requires-2 : goal.advance-requires-2
+advance-requires-2 g c =
+    has_room_last c.bytes.invariant.progress c.requires.room c.requires.within
+    (c.bytes-test.false ∙ c.last_offset-last.ensures)
 
 pub bytes-init : goal.bytes-init
 bytes-init g c = record {
@@ -103,7 +114,6 @@ returns-then-is_match g c =
     record {
       table = same;
       stop = met_stop inv.progress s is;
-      room = omega (arith, inv.progress.room, c.advance.ensures.counted);
       counted = λ r. omega (arith, met_count inv.progress s r, c.advance.ensures.counted);
     }
 
@@ -131,7 +141,6 @@ returns-then-is_quit g c =
           (c.byte_ahead-byte.ensures
           ∙ ap (λ hay. byte_ahead c.args.direction hay c.bytes.at) c.haystack-haystack.ensures)
           c.unit_offset.ensures (quit_stop inv.progress s is);
-      room = omega (arith, inv.progress.room, c.advance.ensures.counted);
       counted = λ r. omega (arith, end_count inv.progress s r, c.advance.ensures.counted);
     }
 
@@ -159,7 +168,6 @@ returns-then-is_dead g c =
     record {
       table = same;
       stop = end_stop inv.progress s no_match no_quit dead;
-      room = omega (arith, inv.progress.room, c.advance.ensures.counted);
       counted = λ r. omega (arith, end_count inv.progress s r, c.advance.ensures.counted);
     }
 
@@ -216,8 +224,6 @@ returns-then-is_match-2 g c =
     record {
       table = same;
       stop = last_met_stop inv.progress over s c.last_offset-last.ensures is;
-      room = (let here = ap (bytes_left c.args.direction q) c.bytes-test.false in
-          omega (arith, inv.progress.room, here, c.advance-2.ensures.counted));
       counted = λ r.
           omega (arith, last_met_count inv.progress over s c.last_offset-last.ensures r, c.advance-2.ensures.counted);
     }
@@ -245,7 +251,6 @@ returns-in-Eoi g c =
     record {
       table = same;
       stop = last_end_stop inv.progress over s no_match no_quit;
-      room = omega (arith, inv.progress.room, c.advance-2.ensures.counted);
       counted = λ r. omega (arith, last_end_count inv.progress over s r, c.advance-2.ensures.counted);
     }
 
@@ -270,7 +275,6 @@ returns-then-is_quit-2 g c =
       stop = quits_at c.quit-then-is_quit-2.ensures (sym (ap unit_number c.in-Byte.is))
           (c.unit_offset-then-is_quit-2.ensures ∙ ap (unit_offset c.args.direction) c.last_offset-last.ensures)
           (last_quit_stop inv.progress over s is);
-      room = omega (arith, inv.progress.room, c.advance-2.ensures.counted);
       counted = λ r. omega (arith, last_end_count inv.progress over s r, c.advance-2.ensures.counted);
     }
 
@@ -294,6 +298,5 @@ returns g c =
     record {
       table = same;
       stop = last_end_stop inv.progress over s no_match no_quit;
-      room = omega (arith, inv.progress.room, c.advance-2.ensures.counted);
       counted = λ r. omega (arith, last_end_count inv.progress over s r, c.advance-2.ensures.counted);
     }
