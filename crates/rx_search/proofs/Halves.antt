@@ -1,6 +1,6 @@
 -- What a half search tells, from stop to stop.
-use Rattle.std.proofs.Common.{◌≡◌, ◌≢◌, ℕ, ◌+◌, ◌<◌, ◌≤◌, Bool, true, false, if◌then◌else◌, Option, Some, None, Ok, Err}
-use Rattle.std.proofs.Common.{List, [], ◌∷◌, length, drop, refl, ap, ap₂, sym, ◌∙◌, arith}
+use Rattle.std.proofs.Common.{◌≡◌, ◌≢◌, ℕ, ◌+◌, ◌^◌, ◌<◌, ◌≤◌, inl, inr, Bool, true, false, Option}
+use Rattle.std.proofs.Common.{if◌then◌else◌, Some, None, Ok, Err, List, [], ◌∷◌, length, drop, refl, ap, ap₂, sym, ◌∙◌, arith}
 use Rattle.std.specs.Prelude.{slice_index}
 use Rattle.rx_spec.specs.Bytes.{AreBytes}
 use Rattle.rx_spec.specs.Queries.{Query, HalfMatch, MatchError, IsFit, is_done}
@@ -22,7 +22,7 @@ use Rattle.rx_search.specs.Needles.{byte_ahead, Skips}
 use Rattle.rx_search.specs.Walks.{last_offset, previous_offset, units_left, units_after, at_stop_label, next_stop}
 use Rattle.rx_search.specs.Walks.{Stop, stop_error}
 use Rattle.rx_search.specs.Walks.{IsInSpan, IsMet}
-use Rattle.rx_search.specs.Counted.{IsReady, ends_at, counted, counted_on}
+use Rattle.rx_search.specs.Counted.{HasRoomFor, IsReady, ends_at, counted, counted_on}
 use Rattle.rx_search.proofs.Standing.{Standing, match_label}
 use Rattle.rx_search.proofs.Walks.{Place, stop-nil, stop-cons, units_left-more, units_left-last, byte_there, loops}
 use Rattle.rx_search.proofs.Walks.{skip_keeps}
@@ -173,11 +173,12 @@ first_place Direction.Forward o =
 first_place Direction.Reverse o =
     let order = o.order in record { fits = o.fits; in_span = record { low = omega arith; high = omega arith } }
 
--- no more units count than the haystack has bytes, and one more
-pub counted_in_haystack : (t : Table) (direction : Direction) (q : Query) (row : ℕ) → q.end ≤ length q.haystack
-    → counted t q.earliest row (units_of direction q) ≤ length q.haystack + 1
-counted_in_haystack t direction q row fits =
-    omega (arith, fits, counted_few t q.earliest row (units_of direction q), units_count direction q)
+-- room for all bytes of the haystack and one more is room for the units that count
+pub counted_room : (t : Table) (direction : Direction) (q : Query) (row steps : ℕ) → q.end ≤ length q.haystack
+    → HasRoomFor t direction q row steps → steps + counted t q.earliest row (units_of direction q) < 2 ^ 64
+counted_room t direction q row steps fits (inl room) = room
+counted_room t direction q row steps fits (inr room) =
+    omega (arith, room, fits, counted_few t q.earliest row (units_of direction q), units_count direction q)
 
 -- where it begins, at a row that tells nothing, behind what may be skipped
 pub half_begins : {t : Table} {row : ℕ} (direction : Direction) {q : Query}

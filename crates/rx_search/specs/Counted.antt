@@ -1,8 +1,9 @@
 -- How many units a walk reads one by one, where it skips what may be skipped.
 use Rattle.std.specs.Prelude.{ℕ, ◌≡◌, ◌≢◌, ◌+◌, ◌^◌, ◌<◌, ◌⊎◌, Bool, true, ◌||◌, ◌&&◌, if◌then◌else◌, List, [], ◌∷◌}
-use Rattle.std.specs.Prelude.{Option, Some, Result, Ok}
+use Rattle.std.specs.Prelude.{length, Option, Some, Result, Ok}
 use Rattle.rx_spec.specs.Queries.{Query, MatchError}
 use Rattle.rx_spec.specs.Tables.{Table, is_match}
+use Rattle.rx_spec.specs.HalfSearches.{units_of}
 use Rattle.rx_spec.specs.declared.Direction.{Direction}
 use Rattle.rx_search.specs.Labels.{is_quit}
 use Rattle.rx_search.specs.Needles.{is_nil, is_read, byte_ahead}
@@ -34,6 +35,12 @@ abbrev pub HasRoom : Table → Direction → Query → (row offset steps : ℕ) 
 HasRoom t direction q row offset steps =
     (IsReady t direction q row offset × (steps + counted t q.earliest row (units_left direction q offset) < 2 ^ 64))
     ⊎ (steps + bytes_left direction q offset + 1 < 2 ^ 64)
+
+-- A counter has room for the units of a whole search that count. Where it has room for all bytes of the haystack and
+-- one more, it has.
+abbrev pub HasRoomFor : Table → Direction → Query → (row steps : ℕ) → Type 0
+HasRoomFor t direction q row steps =
+    (steps + counted t q.earliest row (units_of direction q) < 2 ^ 64) ⊎ (steps + length q.haystack + 1 < 2 ^ 64)
 
 -- how many units count of those that are left once a walk has stopped
 abbrev pub counted_on : Table → Direction → Query → (row : ℕ) → Result (Option ℕ) MatchError → ℕ

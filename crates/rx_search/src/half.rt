@@ -6,7 +6,7 @@ ghost use Rattle.rx_spec.specs.Ids.{row_of};
 ghost use Rattle.rx_spec.specs.Queries.{IsFit, is_done};
 ghost use Rattle.rx_spec.specs.declared.Direction.TheVariants.{Forward, Reverse};
 ghost use Rattle.rx_base.specs.Input.{query_of};
-ghost use Rattle.rx_search.specs.Counted.{counted};
+ghost use Rattle.rx_search.specs.Counted.{HasRoomFor, counted};
 ghost use Rattle.rx_search.specs.Starts.{IsStart};
 ghost use Rattle.rx_search.specs.Walks.{previous_offset, IsInSpan};
 
@@ -74,10 +74,8 @@ pub fn find_fwd_counted<A: Automaton, L>(
     steps: &mut Steps<L>,
 ) -> Result<Option<HalfMatch>, MatchError>
     requires fits { IsFit (query_of input.now) }
-    requires room { let q = query_of input.now in
-        let t = A.table cursor.old.table in
-        let row = row_of (A.ids cursor.old.table) cursor.old.row in
-        steps.old + counted t q.earliest row (units_of Forward q) < 2 ^ 64 }
+    requires room { HasRoomFor (A.table cursor.old.table) Forward (query_of input.now)
+        (row_of (A.ids cursor.old.table) cursor.old.row) steps.old }
     requires fresh { let t = A.table cursor.old.table in
         IsStart t Forward (query_of input.now) (row_of (A.ids cursor.old.table) cursor.old.row) }
     ensures answer { let t = A.table cursor.old.table in
@@ -103,10 +101,8 @@ pub fn find_rev_counted<A: Automaton, L>(
     steps: &mut Steps<L>,
 ) -> Result<Option<HalfMatch>, MatchError>
     requires fits { IsFit (query_of input.now) }
-    requires room { let q = query_of input.now in
-        let t = A.table cursor.old.table in
-        let row = row_of (A.ids cursor.old.table) cursor.old.row in
-        steps.old + counted t q.earliest row (units_of Reverse q) < 2 ^ 64 }
+    requires room { HasRoomFor (A.table cursor.old.table) Reverse (query_of input.now)
+        (row_of (A.ids cursor.old.table) cursor.old.row) steps.old }
     requires fresh { let t = A.table cursor.old.table in
         IsStart t Reverse (query_of input.now) (row_of (A.ids cursor.old.table) cursor.old.row) }
     ensures answer { let t = A.table cursor.old.table in

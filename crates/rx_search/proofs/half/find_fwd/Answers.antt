@@ -1,8 +1,8 @@
-use Rattle.std.proofs.Common.{rules, ◌+◌, ◌<◌, ◌^◌, length, arith}
+use Rattle.std.proofs.Common.{rules, ◌+◌, ◌<◌, ◌^◌, length, inr}
 use Rattle.rx_base.specs.Input.{query_of}
 use Rattle.rx_spec.specs.Ids.{row_of}
 use Rattle.rx_spec.specs.declared.Direction.{Direction}
-use Rattle.rx_search.proofs.Halves.{counted_in_haystack}
+use Rattle.rx_search.proofs.Halves.{counted_room}
 use Rattle.rx_search.proofs.half.find_fwd.Goals as goal
 
 pub half_search-requires-clause-room : goal.half_search-requires-clause-room
@@ -10,6 +10,5 @@ half_search-requires-clause-room g c =
     let q = query_of c.args.input.now in
     let table = c.in-Ok.cursor.table.now in
     let row = row_of (g.A.Automaton.ids table) c.in-Ok.cursor.row in
-    let most = counted_in_haystack (g.A.Automaton.table table) Direction.Forward q row c.requires.fits.within in
-    let short : length q.haystack + 1 < 2 ^ 64 = search rules in
-    omega (arith, c.new-steps.ensures, most, short)
+    let room : c.new-steps.result + length q.haystack + 1 < 2 ^ 64 = search rules in
+    counted_room (g.A.Automaton.table table) Direction.Forward q row c.new-steps.result c.requires.fits.within (inr room)
