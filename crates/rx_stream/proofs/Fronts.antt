@@ -7,8 +7,8 @@ use Rattle.std.specs.List.{flat_map}
 use Rattle.rx_spec.specs.Bytes.{eoi}
 use Rattle.rx_spec.specs.Ids.{row_of}
 use Rattle.rx_spec.specs.Machines.{Label, IsWord}
-use Rattle.rx_spec.specs.Overlapping.{Item, Ending, OverlappingMatches, none_left, at_item_label, label_items, with_items}
-use Rattle.rx_spec.specs.Overlapping.{pattern_items}
+use Rattle.rx_spec.specs.Overlapping.{Item, Ending, OverlappingMatches, none_left, at_item_label, label_items}
+use Rattle.rx_spec.specs.Overlapping.{pattern_items, with_items}
 use Rattle.rx_spec.specs.Tables.{Table}
 use Rattle.rx_spec.specs.declared.Direction.{Direction}
 use Rattle.rx_lemmas.proofs.Overlapping.{overlapping-nil, overlapping-cons, overlapping_silent}

@@ -2,7 +2,8 @@
 use Rattle.std.specs.Prelude.{ℕ, ◌≡◌, ◌≤◌, ◌<◌, ◌+◌, ◌-◌, true, false, List, ◌++◌, length, drop, slice_index}
 use Rattle.rx_spec.specs.Ids.{row_of}
 use Rattle.rx_spec.specs.Machines.{IsWord}
-use Rattle.rx_spec.specs.Overlapping.{OverlappingMatches, Ending, none_left, pattern_items, with_items, overlapping_walk}
+use Rattle.rx_spec.specs.Overlapping.{OverlappingMatches, Ending, none_left, pattern_items, with_items}
+use Rattle.rx_spec.specs.Overlapping.{overlapping_walk}
 use Rattle.rx_spec.specs.Tables.{Table, is_match}
 use Rattle.rx_spec.specs.declared.Direction.{Direction}
 use Rattle.rx_search.specs.Labels.{patterns_of, is_quit}

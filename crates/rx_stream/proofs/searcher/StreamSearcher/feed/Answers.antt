@@ -31,7 +31,8 @@ returns-in-Match-clause-fed g c =
     let held = held_by met.sound met.are_ids first c.args.self.now.sound in
     let halt = at_same a.table a.ids (λ t i. HaltsAt t i (row_of i here.place.row) c.args.piece.now c.args.from
     (Halt.Match c.in-Match.row c.in-Match.at)) c.next_pattern.ensures.table c.in-Match.ensures in
-    rw c.telling-in-Match.ensures (fed_match c.requires.open c.in_default.ensures.told (held_row held c.in-Match.row halt.0) halt.1
+    rw c.telling-in-Match.ensures
+    (fed_match c.requires.open c.in_default.ensures.told (held_row held c.in-Match.row halt.0) halt.1
     (row_at a.table a.ids (λ t row. c.match_pattern.result ≡ slice_index (patterns_of t row) 0) c.in-Match.row
     c.next_pattern.ensures.table c.match_pattern.ensures)
     c.new-found.ensures)
