@@ -1,5 +1,5 @@
 -- What a call of `feed` tells and leaves.
-use Rattle.std.proofs.Common.{◌≡◌, ℕ, ◌+◌, ◌-◌, ◌≤◌, Some, None, Option, List, [], ◌∷◌, ◌++◌, length, drop}
+use Rattle.std.proofs.Common.{◌≡◌, ℕ, ◌+◌, ◌-◌, ◌≤◌, true, Some, None, Option, List, [], ◌∷◌, ◌++◌, length, drop}
 use Rattle.std.proofs.Common.{refl, ap, sym, ◌∙◌, subst, arith}
 use Rattle.std.proofs.Math.Seq.{drop-length}
 use Rattle.std.proofs.lemmas.List.{append-nil, append_assoc}
@@ -13,7 +13,7 @@ use Rattle.rx_lemmas.proofs.Words.{IsWord-nil, IsWord-cons, IsWord-append}
 use Rattle.rx_search.specs.Labels.{patterns_of}
 use Rattle.rx_search.proofs.Standing.{Standing}
 use Rattle.rx_stream.specs.Remaining.{events, told_over, pending, units_to, now_at}
-use Rattle.rx_stream.specs.Calls.{with_event, IsFed, IsNextPattern}
+use Rattle.rx_stream.specs.Calls.{is_open, with_event, IsFed, IsNextPattern}
 use Rattle.rx_stream.specs.Pieces.{IsQuietWalk, MeetsMatch, MeetsQuit}
 use Rattle.rx_stream.specs.declared.event.Fed.{Fed}
 use Rattle.rx_stream.specs.declared.event.StreamEvent.{StreamEvent}
@@ -25,12 +25,17 @@ pub ended_word : (bytes : List ℕ) → AreBytes bytes → IsWord (bytes ++ (eoi
 ended_word bytes are =
     IsWord-append bytes (eoi ∷ []) (bytes_word bytes are) (IsWord-cons eoi [] (omega arith) IsWord-nil)
 
+pub open_stage : (s : Stage) → is_open s ≡ true → s ≡ Stage.Open
+open_stage Stage.Open e = refl
+open_stage Stage.Closed e = absurd (cc)
+open_stage Stage.Ended e = absurd (cc)
+
 -- how far a call has come
 pub record Advances (old new : Place) (piece : List ℕ) (from : ℕ) (fed : Fed) : Type 0 where
   pub low : from ≤ fed.used
   pub high : fed.used ≤ length piece
   pub was_open : old.stage ≡ Stage.Open
-  pub is_open : new.stage ≡ Stage.Open
+  pub still_open : new.stage ≡ Stage.Open
   pub taken : new.taken + from ≡ old.taken + fed.used
   pub over : fed.event ≡ None → fed.used ≡ length piece
 
@@ -40,7 +45,7 @@ pub fed_by : {t : Table} {ids : List ℕ} {old new : Place} {piece : List ℕ} {
 fed_by {t} {ids} {old} {new} {piece} {from} {fed} on read = record {
   low = on.low;
   high = on.high;
-  stage = on.is_open;
+  stays_open = ap is_open on.still_open;
   taken = on.taken;
   tells = λ more are.
       ap (λ (s : Stage). events (told_over t ids old (units_to s (drop from piece ++ more)))) on.was_open
@@ -49,12 +54,12 @@ fed_by {t} {ids} {old} {new} {piece} {from} {fed} on read = record {
       ∙ ap (λ (units : List ℕ). with_event fed.event (events (told_over t ids new units)))
       (sym (append_assoc (drop fed.used piece) more (eoi ∷ [])))
       ∙ ap (λ (s : Stage). with_event fed.event
-      (events (told_over t ids new (units_to s (drop fed.used piece ++ more))))) (sym on.is_open);
+      (events (told_over t ids new (units_to s (drop fed.used piece ++ more))))) (sym on.still_open);
   tells_now = λ more are.
       ap (λ (s : Stage). now_at s t ids old (drop from piece ++ more)) on.was_open
       ∙ read.tells more (bytes_word more are)
       ∙ ap (λ (s : Stage). with_event fed.event (now_at s t ids new (drop fed.used piece ++ more)))
-      (sym on.is_open);
+      (sym on.still_open);
   over = on.over;
   on_time = λ none.
       ap (λ (s : Stage). now_at s t ids old (drop from piece)) on.was_open
@@ -77,16 +82,16 @@ fed_pattern {t} {ids} {old} {new} {found} {piece} {from} was_open h is =
       low = omega arith;
       high = h;
       was_open = was_open;
-      is_open = ap (λ (place : Place). place.stage) is.0 ∙ was_open;
+      still_open = ap (λ (place : Place). place.stage) is.0 ∙ was_open;
       taken = ap (λ (place : Place). place.taken + from) is.0;
       over = λ e. absurd (cc);
     }) (reads_pattern t ids piece from is)
 
-still_open : {old here : Place} → old.stage ≡ Stage.Open → here ≡ old → here.stage ≡ Stage.Open
-still_open was_open same = ap (λ (place : Place). place.stage) same ∙ was_open
+open_here : {old here : Place} → old.stage ≡ Stage.Open → here ≡ old → here.stage ≡ Stage.Open
+open_here was_open same = ap (λ (place : Place). place.stage) same ∙ was_open
 
-still_none : (t : Table) (ids : List ℕ) {old here : Place} → IsNextPattern t ids old here None → pending t ids here ≡ []
-still_none t ids is = ap (pending t ids) is.0 ∙ is.1
+none_here : (t : Table) (ids : List ℕ) {old here : Place} → IsNextPattern t ids old here None → pending t ids here ≡ []
+none_here t ids is = ap (pending t ids) is.0 ∙ is.1
 
 -- If none is left, a walk goes on from the same place.
 module _ {t : Table} {ids : List ℕ} {old here : Place} {piece : List ℕ} {from : ℕ} (was_open : old.stage ≡ Stage.Open)
@@ -118,11 +123,11 @@ module _ {t : Table} {ids : List ℕ} {old here : Place} {piece : List ℕ} {fro
       (fed_by (record {
         low = omega arith;
         high = omega arith;
-        was_open = still_open was_open is.0;
-        is_open = still_open was_open is.0;
+        was_open = open_here was_open is.0;
+        still_open = open_here was_open is.0;
         taken = omega arith;
         over = λ e. absurd (cc);
-      }) (reads_match t ids (still_none t ids is) s met k first)))
+      }) (reads_match t ids (none_here t ids is) s met k first)))
 
   pub fed_quit : AreBytes piece → {next byte at : ℕ} → Standing t (row_of ids next)
       → MeetsQuit t (row_of ids here.row) piece from (row_of ids next) byte at
@@ -134,11 +139,11 @@ module _ {t : Table} {ids : List ℕ} {old here : Place} {piece : List ℕ} {fro
       from_here (fed_by (record {
         low = omega arith;
         high = omega arith;
-        was_open = still_open was_open is.0;
-        is_open = still_open was_open is.0;
+        was_open = open_here was_open is.0;
+        still_open = open_here was_open is.0;
         taken = omega arith;
         over = λ e. absurd (cc);
-      }) (reads_quit t ids (still_none t ids is) bytes s quit))
+      }) (reads_quit t ids (none_here t ids is) bytes s quit))
 
   pub fed_all : {next : ℕ} → from ≤ length piece
       → IsQuietWalk t (row_of ids here.row) piece from (row_of ids next) (length piece)
@@ -148,8 +153,8 @@ module _ {t : Table} {ids : List ℕ} {old here : Place} {piece : List ℕ} {fro
       from_here (fed_by (record {
         low = h;
         high = omega arith;
-        was_open = still_open was_open is.0;
-        is_open = still_open was_open is.0;
+        was_open = open_here was_open is.0;
+        still_open = open_here was_open is.0;
         taken = omega arith;
         over = λ e. refl;
-      }) (reads_all t ids (still_none t ids is) h walk))
+      }) (reads_all t ids (none_here t ids is) h walk))

@@ -43,7 +43,7 @@ is_new {t} {ids} {mode} row s start =
     let none : pending t ids place ≡ [] = ap label_patterns (plain_start s.sound start) in
     record {
       supported = start.allowed;
-      stage = refl;
+      begins_open = refl;
       taken = refl;
       tells = λ bytes are.
           ap events (none_pending t ids place none (bytes ++ (eoi ∷ []))

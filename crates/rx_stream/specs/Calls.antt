@@ -11,12 +11,26 @@ use Rattle.rx_stream.specs.declared.event.StreamEvent.{StreamEvent}
 use Rattle.rx_stream.specs.declared.place.Place.{Place}
 use Rattle.rx_stream.specs.declared.place.Stage.{Stage}
 
+-- ---- stages
+
+abbrev pub is_open : Stage → Bool
+is_open Stage.Open = true
+is_open _ = false
+
+abbrev pub is_ended : Stage → Bool
+is_ended Stage.Ended = true
+is_ended _ = false
+
+abbrev pub closed : Stage → Stage
+closed Stage.Open = Stage.Closed
+closed stage = stage
+
 -- ---- new
 
 -- At the beginning of a text all of it remains to be told.
 pub record IsNew (t : Table) (ids : List ℕ) (mode : Anchored) (place : Place) : Type 0 where
   pub supported : mode_error t.settings mode ≡ None
-  pub stage : place.stage ≡ Stage.Open
+  pub begins_open : is_open place.stage ≡ true
   pub taken : place.taken ≡ 0
   pub tells : (bytes : List ℕ) → AreBytes bytes → remaining t ids place bytes ≡ told t mode bytes
   pub tells_now : (bytes : List ℕ) → now t ids place bytes ≡ told_now t mode bytes
@@ -38,7 +52,7 @@ with_event (Some event) later = event ∷ later
 pub record IsFed (t : Table) (ids : List ℕ) (old new : Place) (piece : List ℕ) (from : ℕ) (fed : Fed) : Type 0 where
   pub low : from ≤ fed.used
   pub high : fed.used ≤ length piece
-  pub stage : new.stage ≡ Stage.Open
+  pub stays_open : is_open new.stage ≡ true
   pub taken : new.taken + from ≡ old.taken + fed.used
   pub tells : (more : List ℕ) → AreBytes more
       → remaining t ids old (drop from piece ++ more)
@@ -49,18 +63,6 @@ pub record IsFed (t : Table) (ids : List ℕ) (old new : Place) (piece : List �
   pub on_time : fed.event ≡ None → now t ids old (drop from piece) ≡ []
 
 -- ---- finish
-
-abbrev pub is_open : Stage → Bool
-is_open Stage.Open = true
-is_open _ = false
-
-abbrev pub is_ended : Stage → Bool
-is_ended Stage.Ended = true
-is_ended _ = false
-
-abbrev pub closed : Stage → Stage
-closed Stage.Open = Stage.Closed
-closed stage = stage
 
 -- The text is at its end: the first event that remains is told, if there is one, and no piece may follow.
 pub record IsFinished (t : Table) (ids : List ℕ) (old new : Place) (event : Option StreamEvent) : Type 0 where

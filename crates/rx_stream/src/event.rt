@@ -30,7 +30,7 @@ pub struct Fed {
 impl Fed {
     /// With an event.
     #[inline(always)]
-    pub(crate) fn telling(used: usize, event: StreamEvent) -> Fed
+    pub(crate) fn with_event(used: usize, event: StreamEvent) -> Fed
         ensures { result ≡ record { used = used; event = Some event } }
     {
         Fed {

@@ -1,10 +1,9 @@
 //! The searcher.
 
-ghost use Rattle.std.specs.Prelude.{◌≡◌, ◌≤◌, ◌+◌, ◌-◌, ◌^◌, length, MatchResult};
+ghost use Rattle.std.specs.Prelude.{◌≡◌, ◌≤◌, ◌+◌, ◌-◌, ◌^◌, true, length, MatchResult};
 ghost use Rattle.rx_base.specs.Search.{mode_of};
 ghost use Rattle.rx_search.specs.Starts.{IsId};
 ghost use Rattle.rx_stream.specs.Calls.{IsNew, IsUnsupported, IsFed, IsFinished, IsNextPattern, is_open};
-ghost use Rattle.rx_stream.specs.declared.place.Stage.TheVariants.{Open};
 
 use crate::place::{Place, Stage};
 use crate::walk::{Halt, walk};
@@ -48,7 +47,7 @@ impl<A: Automaton> StreamSearcher<A> {
     /// Reads a piece from a place in it on, up to the next event or to its end.
     #[inline]
     pub fn feed(&mut self, piece: &[u8], from: usize) -> Fed
-        requires open { self.old.place.stage ≡ Open }
+        requires open { is_open self.old.place.stage ≡ true }
         requires within { from ≤ length piece.now }
         requires room { self.old.place.taken + (length piece.now - from) ≤ 2 ^ 62 }
         ensures table { self.new.table ≡ self.old.table }
@@ -56,7 +55,7 @@ impl<A: Automaton> StreamSearcher<A> {
             piece.now from result }
     {
         if let Some(found) = self.next_pattern() {
-            return Fed::telling(from, StreamEvent::Match(found));
+            return Fed::with_event(from, StreamEvent::Match(found));
         }
         let place = self.place;
         match walk(&self.table, place.row, piece, from) {
@@ -70,7 +69,7 @@ impl<A: Automaton> StreamSearcher<A> {
                     taken: offset + 1,
                     ..place
                 };
-                Fed::telling(at + 1, StreamEvent::Match(found))
+                Fed::with_event(at + 1, StreamEvent::Match(found))
             }
             Halt::Quit { row, byte, at } => {
                 let offset = place.taken + (at - from);
@@ -79,7 +78,7 @@ impl<A: Automaton> StreamSearcher<A> {
                     taken: offset + 1,
                     ..place
                 };
-                Fed::telling(at + 1, StreamEvent::Quit { byte, offset })
+                Fed::with_event(at + 1, StreamEvent::Quit { byte, offset })
             }
             Halt::End { row } => {
                 self.place = Place {
