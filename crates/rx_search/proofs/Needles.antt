@@ -189,6 +189,15 @@ module _ (needles : List ℕ) (q : Query) (from : ℕ) (is : IsInSpan q from) (w
 
 -- ---- skips
 
+-- an accelerated row has needles
+pub some_needles : {t : Table} {row : ℕ} → Standing t row → t.is_accelerated row ≡ true
+    → is_nil (t.needles row) ≡ false
+some_needles {t} {row} s accelerated = by_list (t.needles row) (s.sound.some_needle row s.below accelerated)
+  where
+    by_list : (needles : List ℕ) → 1 ≤ length needles → is_nil needles ≡ false
+    by_list [] h = absurd (omega (arith, h))
+    by_list (a ∷ more) h = refl
+
 module _ {t : Table} {row : ℕ} (s : Standing t row) (direction : Direction) (q : Query) (from : ℕ) where
   pub stays : IsInSpan q from → t.is_accelerated row ≡ false → Skips t direction q row from from
   stays is plain = record {
@@ -206,18 +215,11 @@ module _ {t : Table} {row : ℕ} (s : Standing t row) (direction : Direction) (q
       here Direction.Forward = omega arith
       here Direction.Reverse = omega arith
 
-  some_needles : t.is_accelerated row ≡ true → is_nil (t.needles row) ≡ false
-  some_needles accelerated = by_list (t.needles row) (s.sound.some_needle row s.below accelerated)
-    where
-      by_list : (needles : List ℕ) → 1 ≤ length needles → is_nil needles ≡ false
-      by_list [] h = absurd (omega (arith, h))
-      by_list (a ∷ more) h = refl
-
   pub skips : (needles : List ℕ) (to : ℕ) → needles ≡ t.needles row → t.is_accelerated row ≡ true
       → IsNextNeedle needles direction q from to → Skips t direction q row from to
   skips needles to same accelerated next =
       let read = λ (byte : ℕ).
-      ap (λ (none : Bool). none || is_needle (t.needles row) byte) (some_needles accelerated)
+      ap (λ (none : Bool). none || is_needle (t.needles row) byte) (some_needles s accelerated)
       ∙ ap (λ (ns : List ℕ). is_needle ns byte) (sym same) in
       record {
         count = next.count;

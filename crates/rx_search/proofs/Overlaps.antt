@@ -6,7 +6,7 @@ use Rattle.std.proofs.lemmas.List.{get_or_default}
 use Rattle.std.specs.Prelude.{slice_index}
 use Rattle.rx_spec.specs.Bytes.{AreBytes}
 use Rattle.rx_spec.specs.Queries.{Query, MatchError, is_done}
-use Rattle.rx_spec.specs.Machines.{Label, Machine}
+use Rattle.rx_spec.specs.Machines.{Label, Machine, IsWord}
 use Rattle.rx_spec.specs.HalfSearches.{first_offset, next_offset, units_of}
 use Rattle.rx_spec.specs.Overlapping.{Ending, OverlappingMatches, none_left, label_items, with_items}
 use Rattle.rx_spec.specs.Overlapping.{at_item_label, overlapping_walk, remaining, overlapping, whole_overlapping_walk}
@@ -14,14 +14,15 @@ use Rattle.rx_spec.specs.Tables.{Table, is_match}
 use Rattle.rx_spec.specs.declared.Direction.{Direction}
 use Rattle.rx_lemmas.proofs.Firsts.{by_test}
 use Rattle.rx_table_lemmas.proofs.Tables.{match_alive}
-use Rattle.rx_lemmas.proofs.Overlapping.{overlapping-nil, overlapping-cons, overlapping_walks}
-use Rattle.rx_search.specs.Labels.{patterns_of}
+use Rattle.rx_lemmas.proofs.Overlapping.{overlapping-nil, overlapping-cons, overlapping_on, overlapping_walks}
+use Rattle.rx_lemmas.proofs.Words.{IsWord-head}
+use Rattle.rx_search.specs.Labels.{patterns_of, is_quit}
 use Rattle.rx_search.specs.Needles.{Skips}
 use Rattle.rx_search.specs.Starts.{IsStart}
 use Rattle.rx_search.specs.Walks.{IsInSpan, last_offset, units_left, units_after, at_stop_label, next_stop, Stop}
 use Rattle.rx_search.specs.Walks.{stop_error}
 use Rattle.rx_search.specs.OverlappingCalls.{next_call, IsTold}
-use Rattle.rx_search.proofs.Standing.{Standing, match_label}
+use Rattle.rx_search.proofs.Standing.{Standing, match_label, quit_label}
 use Rattle.rx_search.proofs.Walks.{rest_whole, skip_stops, Place, stop-nil, stop-cons, units_left-more, units_left-last}
 use Rattle.rx_search.proofs.Halves.{Open, first_place, plain_start}
 
@@ -71,7 +72,7 @@ module _ (m : Machine ℕ) (direction : Direction) where
 -- ---- calls
 
 -- the patterns of a row from one on
-patterns_left : (ks : List ℕ) (n : ℕ) → n < length ks → drop n ks ≡ slice_index ks n ∷ drop (n + 1) ks
+pub patterns_left : (ks : List ℕ) (n : ℕ) → n < length ks → drop n ks ≡ slice_index ks n ∷ drop (n + 1) ks
 patterns_left [] n h = absurd (omega (arith, h))
 patterns_left (k ∷ ks) zero h = refl
 patterns_left (k ∷ ks) (suc n) h =
@@ -187,6 +188,21 @@ module _ (t : Table) (direction : Direction) (q : Query) (row from : ℕ) where
       else overlapping_walk t.machine direction next (next_offset direction offset) (units_after direction q offset)) in
       to_stop ∙ ap (told_by_stop t.machine direction) e
       ∙ ap₂ on label (match_alive s.sound.is_table next s.below label)
+
+-- nothing is told from the quit row on
+pub quit_tells_nothing : {t : Table} {row : ℕ} → Standing t row → is_quit t row ≡ true → (direction : Direction)
+    (offset : ℕ) (units : List ℕ) → IsWord units
+    → overlapping_walk t.machine direction row offset units ≡ none_left Ending.Ended
+quit_tells_nothing {t} {row} s quits direction offset [] w = overlapping-nil t.machine direction row offset
+quit_tells_nothing {t} {row} s quits direction offset (unit ∷ units) w =
+    let table = s.sound.is_table in
+    let two = table.two in
+    let one = table.quit_only row s.below (quit_label (t.machine.label row) quits) in
+    let dead : t.machine.next row unit ≡ 0
+    = ap (λ (r : ℕ). t.machine.next r unit) one ∙ table.quit_ends unit (IsWord-head unit units w) in
+    overlapping-cons t.machine direction row unit offset units
+    ∙ ap (overlapping_on t.machine direction unit offset units) dead
+    ∙ rw (table.dead_label, table.dead_only 0 (omega arith)) refl
 
 -- where it begins, at a row that tells nothing, behind what may be skipped
 pub begun_overlapping : {t : Table} {row : ℕ} (direction : Direction) {q : Query} → Open q → AreBytes q.haystack

@@ -1,5 +1,5 @@
 -- A row of a sound table, and what soundness says of it.
-use Rattle.std.proofs.Common.{◌≡◌, ℕ, ◌<◌, true, false, List, refl, arith}
+use Rattle.std.proofs.Common.{◌≡◌, ℕ, ◌<◌, true, false, List, [], refl, arith}
 use Rattle.rx_spec.specs.Machines.{Label}
 use Rattle.rx_spec.specs.Tables.{Table, IsSound, is_match_label}
 use Rattle.rx_spec.specs.Ids.{AreIds, row_of}
@@ -29,3 +29,9 @@ pub plain_label : (label : Label) → is_match_label label ≡ false → is_quit
 plain_label Label.Plain e f = refl
 plain_label (Label.Matches ks) e f = absurd (cc)
 plain_label Label.Quits e f = absurd (cc)
+
+-- only a match row tells patterns
+pub no_patterns : (label : Label) → is_match_label label ≡ false → label_patterns label ≡ []
+no_patterns Label.Plain e = refl
+no_patterns Label.Quits e = refl
+no_patterns (Label.Matches ks) e = absurd (cc)

@@ -213,6 +213,20 @@ module _ {t : Table} {row : ℕ} (s : Standing t row) where
           = sym (or_right (is_nil (t.needles row)) (is_needle (t.needles row) byte) needle) ∙ unread in
           absurd (cc)
 
+  -- nor does such a row quit, so it is quiet if it isn't a match row
+  pub unread_quiet : (byte : ℕ) → byte < 256 → is_match t row ≡ false → is_read t row byte ≡ false → IsQuiet t row
+  unread_quiet byte below no_match unread = record {
+    plain = plain_label (t.machine.label row) no_match (false_from_ne_true (is_quit t row) stays_at_quit);
+    alive = unread_alive byte unread;
+  }
+    where
+      stays_at_quit : is_quit t row ≡ true → ⊥
+      stays_at_quit quits =
+          let one = s.sound.is_table.quit_only row s.below (quit_label (t.machine.label row) quits) in
+          let ends : t.machine.next row byte ≡ 0
+          = ap (λ (r : ℕ). t.machine.next r byte) one ∙ s.sound.is_table.quit_ends byte (omega arith) in
+          omega (arith, one, ends, loops byte below unread)
+
 -- ---- the next stop
 
 pub stop-nil : (m : Machine ℕ) (direction : Direction) (row offset : ℕ)

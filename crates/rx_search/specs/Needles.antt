@@ -1,7 +1,8 @@
 -- Needles: the bytes that lead an accelerated row elsewhere, to the next of which a search skips.
-use Rattle.std.specs.Prelude.{ℕ, ◌≡◌, ◌≢◌, ◌<◌, ◌≤◌, ◌+◌, ◌-◌, Bool, true, false, ◌==◌, ◌||◌, List, [], ◌∷◌}
-use Rattle.std.specs.Prelude.{slice_index}
+use Rattle.std.specs.Prelude.{ℕ, ◌≡◌, ◌≢◌, ◌<◌, ◌≤◌, ◌+◌, ◌-◌, Bool, true, false, ◌==◌, ◌||◌, Option, List, []}
+use Rattle.std.specs.Prelude.{◌∷◌, slice_index}
 use Rattle.std.specs.List.{list_any}
+use Rattle.memchr.specs.Find.{IsFirstByte}
 use Rattle.rx_spec.specs.Queries.{Query}
 use Rattle.rx_spec.specs.Tables.{Table}
 use Rattle.rx_spec.specs.HalfSearches.{unit_offset}
@@ -14,6 +15,10 @@ is_nil (x ∷ xs) = false
 
 abbrev pub is_needle : List ℕ → ℕ → Bool
 is_needle needles byte = list_any (λ needle. byte == needle) needles
+
+-- the place of the first needle in a haystack, if it has one
+abbrev pub IsFirstNeedle : List ℕ → List ℕ → Option ℕ → Type 0
+IsFirstNeedle needles haystack place = IsFirstByte (is_needle needles) haystack place
 
 -- ---- skips
 

@@ -4,8 +4,8 @@ ghost use Rattle.std.specs.Prelude.{◌≡◌, ◌<◌, ◌≤◌, length};
 ghost use Rattle.rx_spec.specs.Bytes.{AreBytes};
 ghost use Rattle.rx_spec.specs.Ids.{row_of};
 ghost use Rattle.rx_base.specs.Input.{query_of};
-ghost use Rattle.memchr.specs.Find.{IsFirstByte, IsLastByte};
-ghost use Rattle.rx_search.specs.Needles.{is_needle, IsNextNeedle, Skips};
+ghost use Rattle.memchr.specs.Find.{IsLastByte};
+ghost use Rattle.rx_search.specs.Needles.{is_needle, IsFirstNeedle, IsNextNeedle, Skips};
 ghost use Rattle.rx_search.specs.Walks.{IsInSpan};
 
 use crate::{Automaton, Cursor};
@@ -75,11 +75,12 @@ fn next_needle(
     }
 }
 
-/// The first place of one of at most three bytes.
+/// The place of the first byte of a haystack that is one of a row's needles, of which there are at most three. Where
+/// the row has none, no byte is.
 #[inline(always)]
-fn first_needle(needles: &[u8], haystack: &[u8]) -> Option<usize>
+pub fn first_needle(needles: &[u8], haystack: &[u8]) -> Option<usize>
     requires { length needles.now ≤ 3 }
-    ensures { IsFirstByte (is_needle needles.now) haystack.now result }
+    ensures { IsFirstNeedle needles.now haystack.now result }
 {
     match needles {
         [a] => memchr(*a, haystack),

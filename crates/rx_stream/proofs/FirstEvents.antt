@@ -1,0 +1,63 @@
+-- The first event, and a half search that stops at the first match.
+use Rattle.std.proofs.Common.{◌≡◌, ℕ, ◌+◌, ◌<◌, true, if◌then◌else◌, None, Ok}
+use Rattle.std.proofs.Common.{List, [], ◌∷◌, refl, ap, sym, ◌∙◌}
+use Rattle.rx_spec.specs.Machines.{Label, IsWord}
+use Rattle.rx_spec.specs.HalfSearches.{at_label, last_match, walk, units_of}
+use Rattle.rx_spec.specs.Overlapping.{Ending, none_left, at_item_label, overlapping_walk}
+use Rattle.rx_spec.specs.Tables.{Table, IsTable}
+use Rattle.rx_spec.specs.declared.Direction.{Direction}
+use Rattle.rx_spec.specs.declared.Start.{Start}
+use Rattle.rx_lemmas.proofs.Firsts.{by_test}
+use Rattle.rx_lemmas.proofs.HalfSearches.{half_walks}
+use Rattle.rx_lemmas.proofs.Walking.{walk-nil, walk-cons}
+use Rattle.rx_lemmas.proofs.Overlapping.{overlapping-nil, overlapping-cons, overlapping_walks}
+use Rattle.rx_lemmas.proofs.Words.{IsWord-head, IsWord-tail}
+use Rattle.rx_table_lemmas.proofs.Tables.{units_below}
+use Rattle.rx_stream.specs.Remaining.{events, whole}
+use Rattle.rx_stream.specs.Cuttings.{first_answer, FirstIsEarliest}
+use Rattle.rx_stream.proofs.New.{not_done}
+
+first_walk : {t : Table} → IsTable t → (row offset : ℕ) (units : List ℕ) → row < t.size → IsWord units
+    → walk t.machine Direction.Forward true row offset None units
+    ≡ first_answer (events (overlapping_walk t.machine Direction.Forward row offset units))
+first_walk {t} is row offset [] below w =
+    walk-nil t.machine Direction.Forward true row offset None
+    ∙ ap (λ m. first_answer (events m)) (sym (overlapping-nil t.machine Direction.Forward row offset))
+first_walk {t} is row offset (unit ∷ units) below w =
+    walk-cons t.machine Direction.Forward true row unit offset None units
+    ∙ by_label (t.machine.label next) refl
+    (first_walk is next (offset + 1) units next_below (IsWord-tail unit units w))
+    ∙ ap (λ m. first_answer (events m)) (sym (overlapping-cons t.machine Direction.Forward row unit offset units))
+  where
+    next : ℕ
+    next = t.machine.next row unit
+
+    next_below : next < t.size
+    next_below = is.nexts row unit below (IsWord-head unit units w)
+
+    by_label : (label : Label) → t.machine.label next ≡ label
+        → walk t.machine Direction.Forward true next (offset + 1) None units
+        ≡ first_answer (events (overlapping_walk t.machine Direction.Forward next (offset + 1) units))
+        → at_label (t.machine.label next) Direction.Forward true unit offset
+        (Ok (last_match (t.machine.label next) offset None))
+        (if t.machine.is_dead next then Ok (last_match (t.machine.label next) offset None)
+        else walk t.machine Direction.Forward true next (offset + 1) (last_match (t.machine.label next) offset None)
+        units)
+        ≡ first_answer (events (at_item_label (t.machine.label next) Direction.Forward unit offset
+        (if t.machine.is_dead next then none_left Ending.Ended
+        else overlapping_walk t.machine Direction.Forward next (offset + 1) units)))
+    by_label Label.Quits e later = rw e refl
+    by_label (Label.Matches []) e later = absurd (is.lists next next_below e)
+    by_label (Label.Matches (k ∷ ks)) e later = rw e refl
+    by_label Label.Plain e later =
+        by_test (t.machine.is_dead next) (λ d. rw (e, d) refl) (λ d. rw (e, d) later)
+
+pub first_is_earliest : FirstIsEarliest
+first_is_earliest t mode bytes is are supported =
+    let q = record (whole bytes mode) { earliest = true } in
+    let row = t.machine.entry mode Start.Text in
+    half_walks t.machine t.settings Direction.Forward q (not_done bytes mode) supported
+    ∙ first_walk is row 0 (units_of Direction.Forward (whole bytes mode)) (is.entries mode Start.Text)
+    (units_below Direction.Forward (whole bytes mode) are)
+    ∙ sym (ap (λ m. first_answer (events m))
+    (overlapping_walks t.machine t.settings Direction.Forward (whole bytes mode) (not_done bytes mode) supported))

@@ -1,0 +1,181 @@
+-- Walks over a piece of a text, whatever follows it.
+use Rattle.std.proofs.Common.{◌≡◌, ℕ, suc, zero, ◌+◌, ◌-◌, ◌<◌, ◌≤◌, ◌==◌, Bool, true, false, if◌then◌else◌, Some, None}
+use Rattle.std.proofs.Common.{List, ◌∷◌, ◌++◌, length, take, drop, refl, ap, sym, ◌∙◌, subst, arith, length-drop}
+use Rattle.std.proofs.Math.Seq.{drop-length, take-length}
+use Rattle.std.proofs.lemmas.Bool.{false_from_ne_true, eqb-true}
+use Rattle.std.proofs.lemmas.List.{get_or-drop}
+use Rattle.std.specs.Prelude.{slice_index}
+use Rattle.rx_spec.specs.Bytes.{AreBytes}
+use Rattle.rx_spec.specs.Machines.{Label, IsWord}
+use Rattle.rx_spec.specs.Overlapping.{OverlappingMatches, Ending, none_left, at_item_label}
+use Rattle.rx_spec.specs.Tables.{Table, is_match}
+use Rattle.rx_spec.specs.declared.Direction.{Direction}
+use Rattle.rx_lemmas.proofs.Overlapping.{overlapping-cons, overlapping_on, overlapping_silent}
+use Rattle.rx_lemmas.proofs.SilentRows.{zero_is_silent}
+use Rattle.rx_table_lemmas.proofs.Tables.{match_alive}
+use Rattle.rx_search.specs.Labels.{is_quit}
+use Rattle.rx_search.specs.Needles.{is_nil, is_needle, IsFirstNeedle, is_read}
+use Rattle.rx_search.proofs.Standing.{Standing, match_label, quit_label, plain_label}
+use Rattle.rx_search.proofs.Overlaps.{patterns_left}
+use Rattle.rx_search.proofs.Walks.{IsQuiet, Turn, loops, unread_quiet}
+use Rattle.rx_stream.specs.Pieces.{walked, IsQuietWalk, IsSkip, MeetsMatch, MeetsQuit}
+
+-- ---- a unit
+
+pub turn_to : {t : Table} {row unit next : ℕ} → next ≡ t.machine.next row unit → Standing t next
+    → Turn t row unit next
+turn_to leads s = record { leads = leads; standing = s }
+
+-- what a unit that leads to a row with a label makes of what is told
+abbrev pub on_label : Table → (next unit offset : ℕ) → List ℕ → Label → Bool → OverlappingMatches
+on_label t next unit offset units label dead =
+    at_item_label label Direction.Forward unit offset
+    (if dead then none_left Ending.Ended else walked t next (offset + 1) units)
+
+pub walk_turns : {t : Table} {row unit next : ℕ} → Turn t row unit next → (offset : ℕ) (units : List ℕ)
+    {label : Label} {dead : Bool} → t.machine.label next ≡ label → t.machine.is_dead next ≡ dead
+    → walked t row offset (unit ∷ units) ≡ on_label t next unit offset units label dead
+walk_turns {t} {row} {unit} {next} turn offset units {label} {dead} e f =
+    overlapping-cons t.machine Direction.Forward row unit offset units
+    ∙ ap (overlapping_on t.machine Direction.Forward unit offset units) (sym turn.leads)
+    ∙ ap (λ (l : Label). on_label t next unit offset units l (t.machine.is_dead next)) e
+    ∙ ap (on_label t next unit offset units label) f
+
+-- ---- walks that tell nothing
+
+pub walk_begins : (t : Table) (row : ℕ) (piece : List ℕ) (from : ℕ) → from ≤ length piece
+    → IsQuietWalk t row piece from row from
+walk_begins t row piece from h = record {
+  low = omega arith;
+  high = h;
+  quiet = λ is. refl;
+  goes_on = λ offset more w.
+      let same : offset ≡ offset + (from - from) = omega arith in
+      ap (λ (o : ℕ). walked t row o (drop from piece ++ more)) same;
+}
+
+-- what the next byte of the piece makes of one
+module _ {t : Table} {row : ℕ} {piece : List ℕ} {from here at next : ℕ} (walk : IsQuietWalk t row piece from here at)
+    (h : at < length piece) (turn : Turn t here (slice_index piece at) next) where
+  tells_by : {label : Label} {dead : Bool} → t.machine.label next ≡ label → t.machine.is_dead next ≡ dead
+      → (offset : ℕ) (more : List ℕ) → IsWord more
+      → walked t row offset (drop from piece ++ more)
+      ≡ on_label t next (slice_index piece at) (offset + (at - from)) (drop (at + 1) piece ++ more) label dead
+  tells_by e f offset more w =
+      walk.goes_on offset more w
+      ∙ ap (λ (units : List ℕ). walked t here (offset + (at - from)) (units ++ more)) (patterns_left piece at h)
+      ∙ walk_turns turn (offset + (at - from)) (drop (at + 1) piece ++ more) e f
+
+  pub walk_goes_on : IsQuiet t next → IsQuietWalk t row piece from next (at + 1)
+  walk_goes_on is = record {
+    low = (let l = walk.low in omega arith);
+    high = omega arith;
+    quiet = λ m. let no = sym (match_label (t.machine.label next) m) ∙ is.plain in absurd (cc);
+    goes_on = λ offset more w.
+        let l = walk.low in
+        let there : offset + (at - from) + 1 ≡ offset + (at + 1 - from) = omega arith in
+        tells_by is.plain is.alive offset more w
+        ∙ ap (λ (o : ℕ). walked t next o (drop (at + 1) piece ++ more)) there;
+  }
+
+  pub walk_meets_match : is_match t next ≡ true → MeetsMatch t row piece from next at
+  walk_meets_match is =
+      let label = match_label (t.machine.label next) is in
+      record {
+        low = walk.low;
+        high = h;
+        is_match = is;
+        tells = tells_by label (match_alive turn.standing.sound.is_table next turn.standing.below label);
+      }
+
+  pub walk_meets_quit : is_quit t next ≡ true → MeetsQuit t row piece from next (slice_index piece at) at
+  walk_meets_quit is = record {
+    low = walk.low;
+    high = h;
+    is_quit = is;
+    tells = tells_by (quit_label (t.machine.label next) is) refl;
+  }
+
+  -- At dead nothing is told of the rest, so the piece counts as read.
+  pub walk_ends : is_match t next ≡ false → is_quit t next ≡ false → (next == 0) ≡ true
+      → IsQuietWalk t row piece from next (length piece)
+  walk_ends no_match no_quit dead = record {
+    low = (let l = walk.low in omega arith);
+    high = omega arith;
+    quiet = λ m. let no : true ≡ false = sym m ∙ no_match in absurd (cc);
+    goes_on = λ offset more w.
+        tells_by (plain_label (t.machine.label next) no_match no_quit)
+        (turn.standing.sound.is_table.dead_only next turn.standing.below ∙ dead) offset more w
+        ∙ sym (ap (λ (r : ℕ). walked t r (offset + (length piece - from)) (drop (length piece) piece ++ more))
+        (eqb-true next 0 dead)
+        ∙ ap (λ (xs : List ℕ). walked t 0 (offset + (length piece - from)) (xs ++ more)) (drop-length piece)
+        ∙ overlapping_silent t.machine Direction.Forward 0 (offset + (length piece - from)) more w
+        (zero_is_silent t turn.standing.sound.is_table));
+  }
+
+-- ---- skips
+
+module _ {t : Table} {row : ℕ} {piece : List ℕ} {from here : ℕ} (bytes : AreBytes piece) (s : Standing t here)
+    (no_match : is_match t here ≡ false) where
+  skips_bytes : (n at : ℕ) → IsQuietWalk t row piece from here at → at + n ≤ length piece
+      → ((k : ℕ) → at ≤ k → k < at + n → is_read t here (slice_index piece k) ≡ false)
+      → IsQuietWalk t row piece from here (at + n)
+  skips_bytes zero at walk h unread =
+      let same : at ≡ at + 0 = omega arith in subst (IsQuietWalk t row piece from here) same walk
+  skips_bytes (suc n) at walk h unread =
+      let byte = slice_index piece at in
+      let below : byte < 256 = bytes at 0 (omega (arith, h)) in
+      let first = unread at (omega arith) (omega arith) in
+      let turn : Turn t here byte here = record { leads = sym (loops s byte below first); standing = s } in
+      let there : at + 1 + n ≡ at + suc n = omega arith in
+      subst (IsQuietWalk t row piece from here) there
+      (skips_bytes n (at + 1) (walk_goes_on walk (omega (arith, h)) turn (unread_quiet s byte below no_match first))
+      (omega (arith, h)) (λ k low high. unread k (omega (arith, low)) (omega (arith, high))))
+
+  pub walk_skips : {at to : ℕ} → IsQuietWalk t row piece from here at → IsSkip t here piece at to
+      → IsQuietWalk t row piece from here to
+  walk_skips {at} {to} walk skip =
+      let low = skip.low in
+      let high = skip.high in
+      let there : at + (to - at) ≡ to = omega arith in
+      subst (IsQuietWalk t row piece from here) there
+      (skips_bytes (to - at) at walk (omega arith) (λ k l h. skip.skipped k l (omega (arith, h, there))))
+
+-- the rest of a piece, as a slice of it is known
+pub rest_of_piece : (piece : List ℕ) (from : ℕ) → take (length piece - from) (drop from piece) ≡ drop from piece
+rest_of_piece piece from =
+    ap (λ (n : ℕ). take n (drop from piece)) (sym (length-drop from piece)) ∙ take-length (drop from piece)
+
+-- a byte of it that is no needle may be skipped
+unread : (t : Table) (row : ℕ) (piece : List ℕ) {needles : List ℕ} {from : ℕ} → needles ≡ t.needles row
+    → is_nil (t.needles row) ≡ false → (k : ℕ) → from ≤ k
+    → is_needle needles (slice_index (drop from piece) (k - from)) ≡ false
+    → is_read t row (slice_index piece k) ≡ false
+unread t row piece {needles} {from} same some k low e =
+    let place : from + (k - from) ≡ k = omega (arith, low) in
+    let byte = get_or-drop from piece (k - from) 0 ∙ ap (slice_index piece) place in
+    rw some (sym (ap (λ (ns : List ℕ). is_needle ns (slice_index piece k)) same)
+    ∙ sym (ap (is_needle needles) byte) ∙ e)
+
+-- a skip, as the next needle is found in the rest of a piece
+module _ {t : Table} {row : ℕ} {needles piece : List ℕ} {from : ℕ} (same : needles ≡ t.needles row)
+    (some : is_nil (t.needles row) ≡ false) (within : from ≤ length piece) where
+  pub skip_found : (at : ℕ) → IsFirstNeedle needles (drop from piece) (Some at)
+      → IsSkip t row piece from (from + at)
+  skip_found at first = record {
+    low = omega arith;
+    high = omega (arith, length-drop from piece, first.0.high);
+    skipped = λ k low high.
+        unread t row piece same some k low
+        (false_from_ne_true _ (first.0.before (k - from) (omega arith) (omega (arith, low, high))));
+  }
+
+  pub skip_none : IsFirstNeedle needles (drop from piece) None → IsSkip t row piece from (length piece)
+  skip_none none = record {
+    low = within;
+    high = omega arith;
+    skipped = λ k low high.
+        unread t row piece same some k low
+        (false_from_ne_true _
+        (none (k - from) (omega arith) (omega (arith, low, high, length-drop from piece))));
+  }

@@ -1,0 +1,15 @@
+use Rattle.std.proofs.Common.{refl}
+use Rattle.rx_spec.specs.Overlapping.{overlapping_walk}
+use Rattle.rx_stream.proofs.examples.pending_patterns.Goals as goal
+
+pub returns-clause-remaining : goal.returns-clause-remaining
+unfolding overlapping_walk
+returns-clause-remaining c = refl
+
+pub returns-clause-now : goal.returns-clause-now
+unfolding overlapping_walk
+returns-clause-now c = refl
+
+pub returns-clause-closed : goal.returns-clause-closed
+unfolding overlapping_walk
+returns-clause-closed c = refl

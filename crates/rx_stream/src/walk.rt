@@ -1,0 +1,68 @@
+//! Walks over a piece, up to the next event.
+
+ghost use Rattle.std.specs.Prelude.{◌≤◌, length};
+ghost use Rattle.rx_spec.specs.Ids.{row_of};
+ghost use Rattle.rx_search.specs.Starts.{IsId};
+ghost use Rattle.rx_stream.specs.Pieces.{HaltsAt, IsQuietWalk};
+
+use crate::skip::skip;
+use rx_base::StateID;
+use rx_search::Automaton;
+
+/// Where a walk over a piece halts, and at which row.
+#[derive(Clone, Copy, Debug)]
+pub(crate) enum Halt {
+    /// The byte at a place led to a match row.
+    Match { row: StateID, at: usize },
+    /// The byte at a place led to the quit row.
+    Quit { row: StateID, byte: u8, at: usize },
+    /// The piece has no event: it is read to its end, or the row is dead.
+    End { row: StateID },
+}
+
+/// Walks from a row over a piece, from a place in it on.
+#[inline(always)]
+pub(crate) fn walk<A: Automaton>(table: &A, start: StateID, piece: &[u8], from: usize) -> Halt
+    requires sound { A.IsSound table.now }
+    requires is_id { IsId (A.ids table.now) start }
+    requires within { from ≤ length piece.now }
+    ensures { HaltsAt (A.table table.now) (A.ids table.now) (row_of (A.ids table.now) start) piece.now from result }
+{
+    let mut row = start;
+    let mut at = skip_at_start(table, row, piece, from);
+    'bytes: while at < piece.len() {
+        let byte = piece[at];
+        row = table.next_state(row, byte);
+        if !table.is_special_state(row) {
+            at += 1;
+            continue;
+        }
+        if table.is_match_state(row) {
+            return Halt::Match { row, at };
+        }
+        if table.is_quit_state(row) {
+            return Halt::Quit { row, byte, at };
+        }
+        if table.is_dead_state(row) {
+            return Halt::End { row };
+        }
+        at = skip(table, row, piece, at + 1);
+    }
+    Halt::End { row }
+}
+
+/// Skips before the first byte is read. Nothing is skipped from a match row: it is a match again after each byte that
+/// leads it to itself.
+#[inline(always)]
+fn skip_at_start<A: Automaton>(table: &A, row: StateID, piece: &[u8], from: usize) -> usize
+    requires sound { A.IsSound table.now }
+    requires is_id { IsId (A.ids table.now) row }
+    requires within { from ≤ length piece.now }
+    ensures { IsQuietWalk (A.table table.now) (row_of (A.ids table.now) row) piece.now from
+        (row_of (A.ids table.now) row) result }
+{
+    if table.is_match_state(row) {
+        return from;
+    }
+    skip(table, row, piece, from)
+}
