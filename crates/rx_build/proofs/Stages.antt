@@ -19,6 +19,7 @@ use Rattle.rx_meaning.proofs.Reduced.{reduced_is_least}
 use Rattle.rx_build.specs.Built.{AreApart, IsBuilt, begun, build_of}
 use Rattle.rx_build.specs.Making.{IsMade, determinized, marked_as, minimized}
 use Rattle.rx_build.specs.Settings.{Settled}
+use Rattle.rx_build.proofs.LeftOut.{joined_left_out, moved_left_out, power_left_out}
 use Rattle.rx_build.proofs.PermutedTables.{IsMoved, moved_apart, moved_gives, moved_machine, moved_reached}
 use Rattle.rx_build.proofs.StartMarks.{none_accelerated, none_counted, range_kept, unmarked, unmarked_order}
 use Rattle.rx_build.proofs.StartMarks.{unmarked_plain, unmarked_row}
@@ -34,6 +35,7 @@ module _ {b : Build} {begun : Layout} where
         reached = λ row high h. power_is_reached (table_of l) b is d.power row high h;
         power = λ e. d.power;
         apart = λ e. absurd (false≢true e);
+        left_out = power_left_out b l is d.power;
         in_order = d.in_order;
         plain = λ e. d.plain;
         joined = d.joined;
@@ -62,6 +64,8 @@ module _ {b : Build} {begun : Layout} where
         reached = m.reached (built_modes b) made.reached;
         power = λ e. absurd (true≢false e);
         apart = λ e. m.apart;
+        left_out =
+            joined_left_out b old new made.in_order.sound.is_table m.in_order.sound.is_table m made.left_out;
         in_order = m.in_order;
         plain = λ e. m.plain;
         joined = m.joined;
@@ -142,6 +146,7 @@ module _ {b : Build} {begun : Layout} where
         apart = λ e x y hx hy other.
             let told = made.apart e x y hx hy other in
             record { word = told.word; is_word = told.is_word; differ = told.differ };
+        left_out = made.left_out;
         in_order = unmarked_order l made.in_order plain;
         plain = λ e. unmarked_plain l made.in_order plain;
         joined = record { slices = made.joined.slices; pattern_ids = made.joined.pattern_ids };
@@ -168,6 +173,7 @@ module _ {b : Build} {begun : Layout} where
         reached = moved_reached moved (built_modes b) made.reached;
         power = λ e. moved_machine moved b (made.power e);
         apart = λ e. moved_apart moved (made.apart e);
+        left_out = moved_left_out b old new a made.left_out;
         in_order = a.in_order;
         plain = λ e. absurd (true≢false e);
         joined = a.joined;
@@ -285,6 +291,7 @@ module _ (s : Settled) (nfa : Nfa) {l : Layout}
         reduced_is_least (build_of s nfa) (table_of (with_universal_starts l)) order_kept.sound.is_table
         (record { reached = reached_kept; apart = apart_kept e }) made.gives;
     apart = apart_kept;
+    left_out = made.left_out;
     in_order = order_kept;
     joined = record { slices = made.joined.slices; pattern_ids = made.joined.pattern_ids };
     accelerated = made.accelerated;

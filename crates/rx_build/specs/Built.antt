@@ -8,7 +8,10 @@ use Rattle.rx_spec.specs.Labels.{Gives, AreToldApart, IsLeastFor}
 use Rattle.rx_spec.specs.Nfas.{Nfa, is_always_start_anchored}
 use Rattle.rx_spec.specs.Plans.{Cause}
 use Rattle.rx_spec.specs.Power.{IsPower}
+use Rattle.rx_spec.specs.Queries.{Anchored}
+use Rattle.rx_spec.specs.Starts.{supports}
 use Rattle.rx_spec.specs.declared.Form.{Form}
+use Rattle.rx_spec.specs.declared.Start.{Start}
 use Rattle.rx_dense.specs.Builder.{initial, HasUniversalStarts, with_universal_starts}
 use Rattle.rx_dense.specs.Layouts.{Layout, row_count, table_of}
 use Rattle.rx_order.specs.RowOrder.{IsInOrder, AreJoined, accel_count, is_start_row, is_skippable}
@@ -68,8 +71,15 @@ begun s nfa = initial (record {
 abbrev pub AreApart : Layout → Type 0
 AreApart l = (x y : ℕ) → x < row_count l → y < row_count l → x ≢ y → AreToldApart (table_of l) x y
 
+-- Searches in a mode that a build leaves out start at dead.
+abbrev pub AreLeftOut : Build → Layout → Type 0
+AreLeftOut b l =
+    (mode : Anchored) (start : Start) → supports b.start_kind b.pattern_starts mode ≡ false
+    → (table_of l).machine.entry mode start ≡ 0
+
 -- The table says of every word what its build says, and each row but dead and quit is reached. Without minimizing it
--- is the build's powerset machine, with it the least table. It is sound and its rows in order; exactly the rows that
+-- is the build's powerset machine, with it the least table. Each start of a mode that was not asked for is dead. It is
+-- sound and its rows in order; exactly the rows that
 -- may be skipped from are accelerated, with needles for each and no others, and start rows are marked, where that was
 -- asked for. Its universal starts are the starts that all contexts have, as rows and as the ids that are kept.
 pub record IsBuilt (s : Settled) (nfa : Nfa) (l : Layout) : Type 0 where
@@ -78,6 +88,7 @@ pub record IsBuilt (s : Settled) (nfa : Nfa) (l : Layout) : Type 0 where
   pub power : s.minimize ≡ false → IsPower (table_of l) (build_of s nfa)
   pub least : s.minimize ≡ true → IsLeastFor (build_of s nfa) (row_count l)
   pub apart : s.minimize ≡ true → AreApart l
+  pub left_out : AreLeftOut (build_of s nfa) l
   pub in_order : IsInOrder l
   pub joined : AreJoined l
   pub accelerated : (row : ℕ) → row < row_count l

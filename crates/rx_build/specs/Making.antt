@@ -6,7 +6,7 @@ use Rattle.rx_spec.specs.Power.{IsPower}
 use Rattle.rx_dense.specs.Layouts.{Layout, row_count, table_of}
 use Rattle.rx_order.specs.RowOrder.{IsInOrder, IsPlain, AreJoined, accel_count, is_start_row, is_skippable}
 use Rattle.rx_minimize.specs.Minimized.{AreReachedRows}
-use Rattle.rx_build.specs.Built.{AreApart}
+use Rattle.rx_build.specs.Built.{AreApart, AreLeftOut}
 
 -- what was done to it since it was determinized
 pub record Steps : Type 0 where
@@ -19,6 +19,7 @@ pub record IsMade (b : Build) (s : Steps) (begun l : Layout) : Type 0 where
   pub reached : AreReachedRows (built_modes b) (table_of l)
   pub power : s.minimize ≡ false → IsPower (table_of l) b
   pub apart : s.minimize ≡ true → AreApart l
+  pub left_out : AreLeftOut b l
   pub in_order : IsInOrder l
   pub plain : s.accelerate ≡ false → IsPlain l
   pub joined : AreJoined l

@@ -250,6 +250,38 @@ fn everywhere_and_nowhere(rt: HostRuntime) -> Result<(), Fail> {
     Ok(())
 }
 
+/// Each start entry leads to dead exactly where the start kind leaves its mode out.
+fn check_starts(rt: &impl Abort, dfa: &OwnedDFA, kind: StartKind) {
+    for (id, mode, start) in dfa.starts() {
+        let built = match mode {
+            Anchored::No => kind.has_unanchored(),
+            Anchored::Yes => kind.has_anchored(),
+            Anchored::Pattern(_) => true,
+        };
+        assert!(rt;
+            (id.as_u32() != 0) == built,
+            "{kind:?}: {mode:?} {start:?} {}",
+            id.as_u32()
+        );
+    }
+}
+
+#[test]
+fn starts_that_are_left_out_are_dead(rt: HostRuntime) -> Result<(), Fail> {
+    let alloc = rt.alloc();
+    for kind in [StartKind::Both, StartKind::Unanchored, StartKind::Anchored] {
+        for patterns in ["a", "abc b"] {
+            let plain = build(alloc, patterns, &[Starts(kind)])??;
+            check_starts(&rt, &plain, kind);
+            let least = build(alloc, patterns, &[Starts(kind), Minimize])??;
+            check_starts(&rt, &least, kind);
+            let named = build(alloc, patterns, &[Starts(kind), Minimize, PatternStarts])??;
+            check_starts(&rt, &named, kind);
+        }
+    }
+    Ok(())
+}
+
 #[test]
 fn settings(rt: HostRuntime) -> Result<(), Fail> {
     let config = Config::new().unicode_word_boundary(true);

@@ -128,13 +128,6 @@ accel_of slice =
     if nat_lt (length slice) 4 then Err Kind.BufferTooSmall
     else (if nat_le (slice_index slice 0) 3 then Ok (needles_of slice) else Err Kind.Generic)
 
--- each row has a needle, or one has none
-abbrev pub HaveNeedles : List (List ℕ) → Type 0
-HaveNeedles accels = (i : ℕ) → i < length accels → 1 ≤ length (get_or accels i [])
-
-abbrev pub HasNone : List (List ℕ) → Type 0
-HasNone accels = (i : ℕ) × (i < length accels) × (length (get_or accels i []) ≡ 0)
-
 -- ---- quit bytes
 
 -- a bit for each byte, in two halves

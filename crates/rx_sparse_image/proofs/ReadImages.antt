@@ -3,7 +3,6 @@
 use Rattle.std.proofs.Common.{◌≡◌, ℕ, true, false, Ok, Err, List, refl, sym, subst, ◌∙◌}
 use Rattle.std.proofs.lemmas.Bool.{ne_eqb}
 use Rattle.rx_wire.specs.Kinds.{Kind}
-use Rattle.rx_sparse.specs.Facts.{IsSoundLayout}
 use Rattle.rx_sparse.specs.Layouts.{Layout, row_count}
 use Rattle.rx_sparse.specs.Parts.{AreParts as ArePartsOf}
 use Rattle.rx_sparse.specs.Rows.{Row, rows_in}
@@ -18,7 +17,6 @@ use Rattle.rx_sparse_image.specs.Turned.{AreWholeRows}
 use Rattle.rx_sparse_image.specs.Walks.{rows_at}
 use Rattle.rx_sparse_image.proofs.ReadLayouts.{is_read}
 use Rattle.rx_sparse_image.proofs.ShapedImages.{shaped}
-use Rattle.rx_sparse_image.proofs.SoundImages.{sound}
 
 -- ---- another number of rows
 
@@ -63,8 +61,8 @@ module _ (i : Image) (b : Bounds) (count : ℕ) (read : IsReadImage i) (walked :
       subst (λ n. AreTestedRows (bounds_of (seen_image i)) (rows_in i.parts.order n i.rows.now)) walked.told
       (subst (λ (x : Bounds). AreTestedRows x (rows_in x.order count i.rows.now)) walked.bounds walked.tested)
 
-  is_whole : IsWhole (image_layout i)
-  is_whole = record {
+  pub image_whole : IsWhole (image_layout i)
+  image_whole = record {
     read = is_read i read tested_rows;
     closed =
         subst (λ told. is_closed told (image_layout i) ≡ true)
@@ -75,8 +73,5 @@ module _ (i : Image) (b : Bounds) (count : ℕ) (read : IsReadImage i) (walked :
   parts_fit = record {
     whole = sym whole_rows.stands;
     words = read.whole;
-    shaped = shaped (image_layout i) is_whole;
+    shaped = shaped (image_layout i) image_whole;
   }
-
-  pub image_sound : IsSoundLayout (image_layout i)
-  image_sound = sound (image_layout i) is_whole

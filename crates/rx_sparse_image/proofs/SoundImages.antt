@@ -2,7 +2,7 @@
 use Rattle.std.proofs.Common.{◌≡◌, ◌≢◌, ℕ, ◌+◌, ◌*◌, ◌<◌, ◌≤◌, ◌&&◌, ◌||◌, not, Bool, true, false}
 use Rattle.std.proofs.Common.{cond, leb, eqb, ltb, Option, Some, None, List, [], ◌∷◌, length, slice_index, Contains}
 use Rattle.std.proofs.Common.{refl, sym, ap, subst, ◌∙◌, arith, inl, inr, filter}
-use Rattle.std.specs.Prelude.{IfSome, option_map}
+use Rattle.std.specs.Prelude.{IfOk, IfSome, Result, Ok, Err, option_map}
 use Rattle.std.specs.List.{list_all, range_with_len}
 use Rattle.std.specs.Str.{bytes_eq}
 use Rattle.std.proofs.lemmas.Bool.{and_parts, cases_lt, cases_eq, eq-eqb, eqb-true, le-leb, le-ltb, leb-true, lt-ltb}
@@ -26,7 +26,7 @@ use Rattle.rx_dense_image.proofs.ClosedFacts.{each_at}
 use Rattle.rx_dense_image.proofs.EachBelow.{cases_bool}
 use Rattle.rx_sparse.specs.Rows.{Row, is_some_list, next_ids, rows_len}
 use Rattle.rx_sparse.specs.Layouts.{IsShaped, Layout, ids_of, label_of_row, machine_of, next_id, row_at, row_count}
-use Rattle.rx_sparse.specs.Layouts.{start_id, table_of}
+use Rattle.rx_sparse.specs.Layouts.{Stored, start_id, table_of}
 use Rattle.rx_sparse.specs.Facts.{IsSoundLayout, length-offsets, offset_at, offsets_are_ids}
 use Rattle.rx_sparse.proofs.RowPlaces.{entry_there}
 use Rattle.rx_sparse_image.specs.Closing as closing
@@ -517,3 +517,8 @@ module _ (l : Layout) (read : IsRead l) (facts : AreClosed l) where
 -- what can be read is sound
 pub sound : (l : Layout) → IsWhole l → IsSoundLayout l
 sound l whole = sound_of l whole.read (closed (length l.rows) l whole.closed)
+
+pub sound_result : {A E : Type 0} (r : Result (Stored × A) E) → IfOk r (λ x. IsWhole x.0.layout)
+    → IfOk r (λ x. IsSoundLayout x.0.layout)
+sound_result (Ok x) whole = sound x.0.layout whole
+sound_result (Err e) whole = whole

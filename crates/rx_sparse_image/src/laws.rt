@@ -4,13 +4,17 @@
 
 ghost use Rattle.std.specs.Prelude.{◌≡◌, ℕ, ◌++◌, List, Ok, length};
 ghost use Rattle.rx_wire.specs.declared.order.Order.{Order};
+ghost use Rattle.rx_dense.specs.Layouts.{Layout as Dense};
+ghost use Rattle.rx_dense_image.specs.Images.{IsWhole as IsWholeDense};
 ghost use Rattle.rx_sparse.specs.Facts.{IsSoundLayout};
 ghost use Rattle.rx_sparse.specs.Layouts.{IsShaped, Layout};
+ghost use Rattle.rx_sparse.specs.Sparse.{AreSpecialRows};
 ghost use Rattle.rx_sparse_image.specs.Images.{reads, text};
 ghost use Rattle.rx_sparse_image.specs.Tested.{IsWhole};
 
 /// An image of a layout that can be read is read as that layout, in either order and whatever follows, and its length
-/// is told.
+/// is told. [`SparseRead::from_bytes`](crate::SparseRead::from_bytes) says of each table that it reads that its layout
+/// is such a one.
 pub fn images_are_read_again()
     ensures { (order : Order) (l : Layout) → IsWhole l → (rest : List ℕ)
         → reads (text order l ++ rest) ≡ Ok (record { layout = l; order = order }, length (text order l)) }
@@ -20,4 +24,11 @@ pub fn images_are_read_again()
 pub fn what_can_be_read_is_sound()
     ensures shaped { (l : Layout) → IsWhole l → IsShaped l }
     ensures sound { (l : Layout) → IsWhole l → IsSoundLayout l }
+{}
+
+/// The special ids of a dense table that can be read are ids of rows. So it can be made sparse, which asks for that:
+/// [`rx_dense_image`] reads such tables alone.
+#[tactic(auto, using(crate::proofs::DenseSpecial::special_rows))]
+pub fn special_ids_are_rows()
+    ensures { (l : Dense) → IsWholeDense l → AreSpecialRows l }
 {}

@@ -5,6 +5,7 @@ ghost use Rattle.rx_wire.specs.Kinds.{Gives};
 ghost use Rattle.rx_sparse.specs.Facts.{IsSoundLayout};
 ghost use Rattle.rx_sparse_image.specs.Reading.{IsReadImage, seen_image};
 ghost use Rattle.rx_sparse_image.specs.Images.{bounds_of, parts_at, reads};
+ghost use Rattle.rx_sparse_image.specs.Tested.{IsWhole};
 
 use crate::closing::is_closed;
 use crate::row_bytes::split_row_bytes;
@@ -40,6 +41,7 @@ pub trait SparseRead<'a> {
         slice: &'a [u8],
     ) -> Result<(DFA<&'a [u8]>, usize), DeserializeError>
         ensures read { Gives (λ x. (x.0, x.1)) result (reads slice.now) }
+        ensures whole { IfOk result (λ x. IsWhole x.0.layout) }
         ensures sound { IfOk result (λ x. IsSoundLayout x.0.layout) };
 }
 
@@ -93,7 +95,7 @@ fn bounds_of(image: &Image<'_>) -> Bounds
 #[tactic(auto, unfolding(crate::specs::Images::reads))]
 fn read_table(alloc: Global, bytes: &[u8]) -> Result<(DFA<&[u8]>, usize), DeserializeError>
     ensures read { Gives (λ x. (x.0, x.1)) result (reads bytes.now) }
-    ensures sound { IfOk result (λ x. IsSoundLayout x.0.layout) }
+    ensures whole { IfOk result (λ x. IsWhole x.0.layout) }
 {
     let (image, rest) = split_image(bytes)?;
     let (count, rows) = walk(alloc, &bounds_of(&image), image.rows)?;
@@ -108,6 +110,7 @@ fn read_table(alloc: Global, bytes: &[u8]) -> Result<(DFA<&[u8]>, usize), Deseri
 }
 
 impl<'a> SparseRead<'a> for DFA<&'a [u8]> {
+    #[tactic(auto, using(crate::proofs::SoundImages::sound_result))]
     fn from_bytes(
         alloc: Global,
         slice: &'a [u8],

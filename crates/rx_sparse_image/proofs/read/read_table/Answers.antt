@@ -1,9 +1,9 @@
 use Rattle.std.proofs.Common.{sym, ◌∙◌, subst}
 use Rattle.rx_wire.specs.Kinds.{FailsBy, Kind}
-use Rattle.rx_sparse.specs.Facts.{IsSoundLayout}
 use Rattle.rx_sparse.specs.Layouts.{Stored}
 use Rattle.rx_sparse_image.specs.Images.{reads}
-use Rattle.rx_sparse_image.proofs.ReadImages.{image_sound, miscounted_image, parts_fit}
+use Rattle.rx_sparse_image.specs.Tested.{IsWhole}
+use Rattle.rx_sparse_image.proofs.ReadImages.{image_whole, miscounted_image, parts_fit}
 use Rattle.rx_sparse_image.proofs.read.read_table.Goals as goal
 
 pub returns-then-count-image-clause-read : goal.returns-then-count-image-clause-read
@@ -24,10 +24,10 @@ from_parts-requires c =
     })
     (sym c.is_closed.ensures ∙ c.if-not-is_closed.false)
 
-pub returns-clause-sound : goal.returns-clause-sound
-returns-clause-sound c =
-    subst (λ (t : Stored). IsSoundLayout t.layout) (sym c.from_parts.ensures)
-    (image_sound c.in_ok-image.image c.bounds_of.result c.in_ok-count.count c.in_ok-image.ensures.image
+pub returns-clause-whole : goal.returns-clause-whole
+returns-clause-whole c =
+    subst (λ (t : Stored). IsWhole t.layout) (sym c.from_parts.ensures)
+    (image_whole c.in_ok-image.image c.bounds_of.result c.in_ok-count.count c.in_ok-image.ensures.image
     (record {
       bounds = c.bounds_of.ensures;
       told = c.if-count-image.false;
