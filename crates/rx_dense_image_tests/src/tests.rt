@@ -3,15 +3,14 @@
 
 mod images;
 
-ghost use Rattle.rx_spec.specs.Queries.{IsFit};
-ghost use Rattle.rx_base.specs.Input.{query_of};
 ghost use Rattle.rx_dense.specs.Facts.{IsSoundLayout};
 
 use images::{abc, never_match};
-use rx_base::{Anchored, HalfMatch, Input, MatchErrorKind};
+use rx_base::{Input, MatchErrorKind};
 use rx_dense::{Accel, Accels, DFA, OwnedDFA, Special};
 use rx_dense_image::{AccelImage, AccelsImage, DenseRead, DenseWrite, SpecialImage};
-use rx_search::{Automaton, OverlappingState};
+use rx_search::Automaton;
+use rx_span_checks::{Settings, check_spans};
 use rx_wire::{DeserializeError, DeserializeErrorKind, LE, Order};
 use std::alloc::{AllocError, Global};
 use std::process::Abort;
@@ -264,6 +263,21 @@ fn tell(dfa: &OwnedDFA, text: &[u8]) -> Told
     }
 }
 
+/// Compares what a search by an image tells, which must be accepted.
+fn check_told(
+    rt: &impl Abort,
+    alloc: Global,
+    image: &[u8],
+    text: &[u8],
+    wanted: Told,
+) -> Result<(), Fail> {
+    match DFA::<Vec<u32>>::from_bytes(alloc, image) {
+        Ok((dfa, _)) => assert_eq!(rt; tell(&dfa, text), wanted),
+        Err(error) => assert!(rt; false, "{wanted:?}: {error}"),
+    }
+    Ok(())
+}
+
 #[test]
 fn images_are_searched_as_they_are(rt: HostRuntime) -> Result<(), Fail> {
     let alloc = rt.alloc();
@@ -277,86 +291,35 @@ fn images_are_searched_as_they_are(rt: HostRuntime) -> Result<(), Fail> {
     for (word, text, wanted) in cases {
         let mut image = abc(alloc, Order::Little)?;
         altered(&mut image, 412, Word(*word));
-        match DFA::<Vec<u32>>::from_bytes(alloc, image.as_slice()) {
-            Ok((dfa, _)) => assert_eq!(&rt; tell(&dfa, *text), *wanted),
-            Err(error) => assert!(&rt; false, "{word}: {error}"),
-        }
+        check_told(&rt, alloc, image.as_slice(), *text, *wanted)?;
     }
-    Ok(())
+    let seven = behind_nuls(alloc, 7)?;
+    check_told(&rt, alloc, seven.as_slice(), b"xabcx", Told::Match(0, 4))?;
+    let mut longer = abc(alloc, Order::Big)?;
+    longer.extend_from_slice(b"abc")?;
+    check_told(&rt, alloc, longer.as_slice(), b"xabcx", Told::Match(0, 4))
 }
 
-/// How often an overlapping search is called: more often than it can tell a match of these images.
-const CALLS: usize = 8;
-
-/// Whether what a search tells lies in its span, and is a pattern of the table.
-fn is_within(dfa: &OwnedDFA, input: &Input<'_>, told: Option<HalfMatch>) -> bool {
-    match told {
-        None => true,
-        Some(found) => {
-            input.start() <= found.offset()
-                && found.offset() <= input.end()
-                && found.pattern().as_usize() < dfa.pattern_len()
-        }
+/// What of a table decides which errors its searches may have. Tables of these images have starts of both modes.
+fn settings(dfa: &OwnedDFA) -> Settings<'_> {
+    Settings {
+        quits: dfa.quitset(),
+        kind: dfa.start_kind(),
+        pattern_starts: dfa.starts_for_each_pattern(),
     }
 }
 
-/// Searches a span for a match, in either direction.
-fn check_halves(rt: &impl Abort, dfa: &OwnedDFA, input: &Input<'_>, at: usize)
-    requires sound { IsSoundLayout dfa.now }
-    requires fits { IsFit (query_of input.now) }
-{
-    if let Ok(told) = dfa.try_search_fwd(input) {
-        assert!(rt; is_within(dfa, input, told), "at {at}, forward");
-    }
-    if let Ok(told) = dfa.try_search_rev(input) {
-        assert!(rt; is_within(dfa, input, told), "at {at}, in reverse");
-    }
-}
-
-/// Searches a span for all matches.
-fn check_walk_fwd(rt: &impl Abort, dfa: &OwnedDFA, input: &Input<'_>, at: usize)
-    requires sound { IsSoundLayout dfa.now }
-    requires fits { IsFit (query_of input.now) }
-{
-    let mut state = OverlappingState::start();
-    'calls: for _ in 0..CALLS {
-        let _ = dfa.try_search_overlapping_fwd(input, &mut state);
-        let told = state.get_match();
-        assert!(rt; is_within(dfa, input, told), "at {at}, overlapping");
-    }
-}
-
-/// The same in reverse.
-fn check_walk_rev(rt: &impl Abort, dfa: &OwnedDFA, input: &Input<'_>, at: usize)
-    requires sound { IsSoundLayout dfa.now }
-    requires fits { IsFit (query_of input.now) }
-{
-    let mut state = OverlappingState::start();
-    'calls: for _ in 0..CALLS {
-        let _ = dfa.try_search_overlapping_rev(input, &mut state);
-        let told = state.get_match();
-        assert!(rt;
-            is_within(dfa, input, told),
-            "at {at}, overlapping in reverse"
-        );
-    }
-}
-
-/// Searches all spans of a text, anywhere and right where they begin.
-fn check_spans(rt: &impl Abort, dfa: &OwnedDFA, at: usize)
-    requires { IsSoundLayout dfa.now }
-{
-    let text = b"xabcx";
-    for end in 0..6 {
-        for start in 0..end + 1 {
-            for mode in [Anchored::No, Anchored::Yes] {
-                let input = Input::new(text).range(start, end).anchored(mode);
-                check_halves(rt, dfa, &input, at);
-                check_walk_fwd(rt, dfa, &input, at);
-                check_walk_rev(rt, dfa, &input, at);
+/// Searches all spans of some texts by an image, which must be accepted.
+fn check_searches(rt: &impl Abort, alloc: Global, image: &[u8], at: usize) -> Result<(), Fail> {
+    match DFA::<Vec<u32>>::from_bytes(alloc, image) {
+        Ok((dfa, _)) => {
+            for text in [b"xabcx".as_slice(), b"\0aabc\0".as_slice()] {
+                check_spans(alloc, &dfa, settings(&dfa), text)?;
             }
         }
+        Err(error) => assert!(rt; false, "at {at}: {error}"),
     }
+    Ok(())
 }
 
 #[test]
@@ -366,13 +329,14 @@ fn accepted_images_are_searched_within_their_spans(rt: HostRuntime) -> Result<()
         if wanted.is_ok() {
             let mut image = abc(alloc, Order::Little)?;
             altered(&mut image, *at, *change);
-            match DFA::<Vec<u32>>::from_bytes(alloc, image.as_slice()) {
-                Ok((dfa, _)) => check_spans(&rt, &dfa, *at),
-                Err(error) => assert!(&rt; false, "at {at}: {error}"),
-            }
+            check_searches(&rt, alloc, image.as_slice(), *at)?;
         }
     }
-    Ok(())
+    let seven = behind_nuls(alloc, 7)?;
+    check_searches(&rt, alloc, seven.as_slice(), 0)?;
+    let mut longer = abc(alloc, Order::Little)?;
+    longer.extend_from_slice(b"abc")?;
+    check_searches(&rt, alloc, longer.as_slice(), longer.len())
 }
 
 /// Whether a table is written as it was read, in an order.
@@ -408,24 +372,59 @@ fn what_was_read_is_written_in_either_order(rt: HostRuntime) -> Result<(), Fail>
     Ok(())
 }
 
+/// In which order a table is written.
+#[derive(Clone, Copy, Debug)]
+enum Writer {
+    Little,
+    Big,
+    Native,
+}
+
+/// How many bytes are written, or none.
+fn written(dfa: &OwnedDFA, writer: Writer, bytes: &mut [u8]) -> Option<usize> {
+    let written = match writer {
+        Writer::Little => dfa.write_to_little_endian(bytes),
+        Writer::Big => dfa.write_to_big_endian(bytes),
+        Writer::Native => dfa.write_to_native_endian(bytes),
+    };
+    written.ok()
+}
+
+/// Writes the table of an image into one byte less than it has, and with two bytes behind it.
+fn check_writer(rt: &impl Abort, alloc: Global, writer: Writer, image: &[u8]) -> Result<(), Fail> {
+    let (dfa, _) = DFA::<Vec<u32>>::from_bytes(alloc, image)?;
+    let size = dfa.write_to_len();
+    assert!(rt; size == image.len());
+    let mut short = vec![in alloc; 7u8; size.saturating_sub(1)]?;
+    let refused = written(&dfa, writer, short.as_mut_slice());
+    assert!(rt; refused.is_none(), "{writer:?}: written");
+    assert!(rt; short.iter().all(|byte| *byte == 7), "{writer:?}: changed");
+    let mut long = vec![in alloc; 7u8; size.saturating_add(2)]?;
+    let size = written(&dfa, writer, long.as_mut_slice());
+    assert!(rt; size == Some(image.len()), "{writer:?}: {size:?}");
+    assert!(rt; long.starts_with(image), "{writer:?}: written otherwise");
+    assert!(rt; long.ends_with(&[7, 7]), "{writer:?}: changed");
+    let mut exact = vec![in alloc; 7u8; image.len()]?;
+    let size = written(&dfa, writer, exact.as_mut_slice());
+    assert!(rt; size == Some(image.len()) && exact.as_slice() == image);
+    Ok(())
+}
+
 #[test]
 fn a_destination_that_is_too_short_stays_as_it_is(rt: HostRuntime) -> Result<(), Fail> {
     let alloc = rt.alloc();
-    let image = never_match(alloc, Order::Little)?;
-    let (dfa, _) = match DFA::<Vec<u32>>::from_bytes(alloc, image.as_slice()) {
-        Ok(read) => read,
-        Err(_) => return Ok(()),
-    };
-    let mut short = [7; 731];
-    assert!(&rt; dfa.write_to_little_endian(&mut short).is_err(), "written");
-    assert!(&rt; short.iter().all(|byte| *byte == 7), "changed");
-    let mut long = [7; 734];
-    match dfa.write_to_little_endian(&mut long) {
-        Ok(size) => assert!(&rt; size == 732, "{size}"),
-        Err(error) => assert!(&rt; false, "{error}"),
+    let rows = [
+        (Writer::Little, Order::Little),
+        (Writer::Big, Order::Big),
+        (Writer::Native, Order::Little),
+    ];
+    for (writer, order) in rows {
+        let abc = abc(alloc, order)?;
+        assert!(&rt; abc.len() == 1088);
+        check_writer(&rt, alloc, writer, abc.as_slice())?;
+        let never = never_match(alloc, order)?;
+        check_writer(&rt, alloc, writer, never.as_slice())?;
     }
-    assert!(&rt; long.starts_with(image.as_slice()), "written otherwise");
-    assert!(&rt; long.ends_with(&[7, 7]), "changed");
     Ok(())
 }
 

@@ -2,9 +2,10 @@
 
 mod sample;
 
-ghost use Rattle.std.specs.Prelude.{◌≡◌, ◌≤◌, length, true, false};
+ghost use Rattle.std.specs.Prelude.{◌≡◌, ◌≤◌, length, true, false, IfOk, IfSome};
 ghost use Rattle.rx_spec.specs.Queries.{IsFit};
 ghost use Rattle.rx_base.specs.Input.{query_of};
+ghost use Rattle.rx_search.specs.Walks.{IsInSpan};
 
 use Direction::{Forward, Reverse};
 use Told::{Match, Nothing, Quit, Unsupported};
@@ -15,7 +16,7 @@ use rx_base::{
 };
 use rx_search::{
     Automaton, Cursor, OverlappingState, find_fwd, find_fwd_counted, find_overlapping_fwd,
-    find_overlapping_rev, find_rev, find_rev_counted,
+    find_overlapping_rev, find_rev, find_rev_counted, skip_splits_fwd, skip_splits_rev,
 };
 use sample::{Row, Sample, make_sample};
 use std::process::Abort;
@@ -419,4 +420,80 @@ fn sets_take_the_patterns_that_are_told(rt: HostRuntime) -> Result<(), Fail> {
         assert_eq!(rt; set.len(), want);
     }
     Ok(())
+}
+
+/// A search that tells the first of some offsets which lies in the span. Where none does it gives up, or tells none.
+fn first_in_span(
+    offsets: &[usize],
+    gives_up: bool,
+    input: &Input<'_>,
+) -> Result<Option<HalfMatch>, MatchError>
+    ensures { IfOk result (λ found. IfSome found (λ h. IsInSpan (query_of input.now) h.offset)) }
+{
+    for offset in offsets {
+        if input.start() <= *offset && *offset <= input.end() {
+            return Ok(Some(HalfMatch::new(PatternID::must(1), *offset)));
+        }
+    }
+    if gives_up {
+        return Err(MatchError::quit(0xff, input.start()));
+    }
+    Ok(None)
+}
+
+/// The offset of the first match, the offsets that the search tells after it, whether it gives up past them, the
+/// span and whether it is anchored, and what is told. The match of a search is of pattern 1, the first one of pattern 7.
+type Skip = (usize, &'static [usize], bool, (usize, usize, bool), Told);
+
+/// Two snowmen have three bytes each, so a match is told at 0, 3 or 6.
+const SKIPS_FWD: [Skip; 8] = [
+    (3, &[1], true, (0, 6, false), Match(7, 3)),
+    (1, &[1, 2, 3], true, (0, 6, false), Match(1, 3)),
+    (1, &[1, 2, 4, 5, 6], true, (0, 6, false), Match(1, 6)),
+    (2, &[2, 1, 4], false, (0, 6, false), Nothing),
+    (1, &[4], false, (1, 4, false), Nothing),
+    (1, &[2, 3], true, (0, 6, true), Nothing),
+    (1, &[2], true, (0, 6, false), Quit(0xff, 3)),
+    (4, &[4], true, (2, 4, false), Quit(0xff, 5)),
+];
+
+const SKIPS_REV: [Skip; 7] = [
+    (3, &[1], true, (0, 6, false), Match(7, 3)),
+    (5, &[5, 4, 3], true, (0, 6, false), Match(1, 3)),
+    (2, &[2, 1, 0], true, (0, 6, false), Match(1, 0)),
+    (2, &[2, 1], false, (0, 6, false), Nothing),
+    (2, &[1, 0], true, (0, 2, true), Nothing),
+    (2, &[1], true, (0, 2, false), Quit(0xff, 0)),
+    (4, &[4], true, (3, 4, false), Quit(0xff, 3)),
+];
+
+/// Asserts what is told after a first match, which lies in its span.
+fn check_skip(rt: &impl Abort, text: &[u8], direction: Direction, skip: Skip) {
+    let (first, offsets, gives_up, (start, end, anchored), want) = skip;
+    let input = input(rt, Asked(text, start, end, anchored, false));
+    assert!(rt; input.start() <= first && first <= input.end());
+    let half = HalfMatch::new(PatternID::must(7), first);
+    let told = match direction {
+        Forward => skip_splits_fwd(&input, half, |at: &Input<'_>| {
+            first_in_span(offsets, gives_up, at)
+        }),
+        Reverse => skip_splits_rev(&input, half, |at: &Input<'_>| {
+            first_in_span(offsets, gives_up, at)
+        }),
+    };
+    assert_eq!(rt; tell(told), want, "{direction:?}, {first}");
+}
+
+#[test]
+fn splits_are_skipped_whatever_the_search(rt: HostRuntime) {
+    let snow = "\u{2603}\u{2603}".as_bytes();
+    for skip in SKIPS_FWD {
+        check_skip(&rt, snow, Forward, skip);
+    }
+    for skip in SKIPS_REV {
+        check_skip(&rt, snow, Reverse, skip);
+    }
+    // no span ends before 0, where this text splits a character
+    let narrowest = (0, [0].as_slice(), true, (0, 0, false), Nothing);
+    check_skip(&rt, b"\x98\x83", Reverse, narrowest);
 }
