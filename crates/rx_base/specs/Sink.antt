@@ -1,5 +1,5 @@
 -- What writing into a sink means.
-use Rattle.std.specs.Prelude.{◌≡◌, ℕ, ◌-◌, ◌<◌, ◌≤◌, ◌==◌, ◌||◌, min, Bool, if◌then◌else◌, Option, List, length, take}
+use Rattle.std.specs.Prelude.{ℕ, ◌-◌, ◌<◌, ◌≤◌, ◌==◌, ◌||◌, min, Bool, if◌then◌else◌, Option, List, length, take}
 use Rattle.std.specs.Prelude.{◌++◌}
 use Rattle.std.specs.Io.KnownBytes.{Appends, Keeps}
 use Rattle.rx_base.specs.Outside.{one_more, Rose, fails_at}

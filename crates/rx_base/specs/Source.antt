@@ -1,5 +1,5 @@
 -- What reading from a source means.
-use Rattle.std.specs.Prelude.{◌≡◌, ℕ, ◌<◌, ◌≤◌, ◌==◌, min, if◌then◌else◌, Option, List, length, take, drop}
+use Rattle.std.specs.Prelude.{ℕ, ◌<◌, ◌≤◌, ◌==◌, min, if◌then◌else◌, Option, List, length, take, drop}
 use Rattle.std.specs.Io.KnownBytes.{Consumes, Keeps, IsAtEnd}
 use Rattle.rx_base.specs.Outside.{one_more, Rose, fails_at}
 use Rattle.rx_base.specs.declared.source.ReadAnswer.{ReadAnswer}
