@@ -22,7 +22,7 @@ use std::alloc::Global;
 use std::collections::BTreeMap;
 use std::marker::Model;
 
-/// How an NFA is determinized.
+/// How an NFA is determinized. The default is [`Config::new`].
 #[derive(Clone, Debug, Drop)]
 pub struct Config {
     match_kind: MatchKind,
@@ -42,6 +42,19 @@ impl Model for Config {
       dfa_size_limit = c.dfa_size_limit;
       determinize_size_limit = c.determinize_size_limit;
     } };
+}
+
+impl Default for Config {
+    ghost is_default = { λ config. config ≡ record {
+      match_kind = LeftmostFirst;
+      quit = 0;
+      dfa_size_limit = None;
+      determinize_size_limit = None;
+    } };
+
+    fn default() -> Config {
+        Config::new()
+    }
 }
 
 impl Config {

@@ -4,7 +4,7 @@ use Rattle.rx_spec.specs.Expressions.{Expression, min_len, depth, mirror, IsLoop
 use Rattle.rx_spec.specs.Ends.{ends}
 use Rattle.rx_spec.specs.Queries.{reading}
 use Rattle.rx_spec.specs.Rows.{rows_count}
-use Rattle.rx_laws.specs.Samples.{byte, text, one_or_more, times}
+use Rattle.rx_laws.specs.Samples.{byte, range, text, one_or_more, times}
 use Rattle.rx_spec.specs.declared.Direction.{Direction}
 use Rattle.rx_spec.specs.declared.Look.{Look}
 
@@ -38,3 +38,7 @@ EndsInOrder = ends (reading Direction.Forward 10 (codes "abcd")) nested 0 ≡ 4 
 
 abbrev pub EndsInReverse : Type 0
 EndsInReverse = ends (reading Direction.Reverse 10 (codes "abcd")) (mirror nested) 0 ≡ 4 ∷ []
+
+-- A class reads a byte: at the end of a text it matches nothing, whatever it holds.
+abbrev pub NothingAtEnd : Type 0
+NothingAtEnd = ends (reading Direction.Forward 10 (codes "a")) (range 0 255) 1 ≡ []

@@ -80,6 +80,15 @@ abbrev pub LineStartAfterBoth : Type 0
 LineStartAfterBoth =
     answers (Expression.Look Look.StartCRLF ∷ []) (ask Anchored.No (13 ∷ 10 ∷ []) 1 2) (Some (match_of 0 2 2))
 
+-- a$ and a\b on the a of ab: at the span's end both see the b beyond it
+abbrev pub TextGoesOnPastSpan : Type 0
+TextGoesOnPastSpan =
+    answers (Expression.Concat (byte 97) (Expression.Look Look.End) ∷ []) (ask Anchored.No (codes "ab") 0 1) None
+
+abbrev pub WordGoesOnPastSpan : Type 0
+WordGoesOnPastSpan =
+    answers (Expression.Concat (byte 97) (Expression.Look Look.WordAscii) ∷ []) (ask Anchored.No (codes "ab") 0 1) None
+
 -- Each match, one after another: dates, words, lines and places.
 abbrev pub each : List Expression → List ℕ → FoundMatches
 each es haystack = iterate (outcome plain es) (anywhere haystack)

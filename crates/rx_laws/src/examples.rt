@@ -7,12 +7,13 @@
 ghost use Rattle.rx_laws.specs.AssertionExamples.{EndCRLFPlaces, EndLFPlaces, EndPlaces, StartCRLFPlaces};
 ghost use Rattle.rx_laws.specs.AssertionExamples.{StartLFPlaces, StartPlaces, WordEndHalfPlaces, WordEndPlaces};
 ghost use Rattle.rx_laws.specs.AssertionExamples.{WordNegatePlaces, WordPlaces, WordStartHalfPlaces, WordStartPlaces};
-ghost use Rattle.rx_laws.specs.ExpressionExamples.{EndsInOrder, EndsInReverse, MirrorOfText, NumbersOfMany, SafeLoop};
-ghost use Rattle.rx_laws.specs.ExpressionExamples.{UnsafeLoop};
+ghost use Rattle.rx_laws.specs.ExpressionExamples.{EndsInOrder, EndsInReverse, MirrorOfText, NothingAtEnd};
+ghost use Rattle.rx_laws.specs.ExpressionExamples.{NumbersOfMany, SafeLoop, UnsafeLoop};
 ghost use Rattle.rx_laws.specs.FoundExamples.{EachDate, EachLineStart, EachPlace, EachWord, GreedyRounds, LazyRounds};
 ghost use Rattle.rx_laws.specs.FoundExamples.{Leftmost, LetterFound, LineStartAfterBoth, LongerFirst, LongerPastSpan};
 ghost use Rattle.rx_laws.specs.FoundExamples.{ManyWaysToNothing, OfEmptyPattern, OfNoPattern, OfTwoPatterns};
-ghost use Rattle.rx_laws.specs.FoundExamples.{ShorterFirst, UpToByte, WordByteThatEndsLines};
+ghost use Rattle.rx_laws.specs.FoundExamples.{ShorterFirst, TextGoesOnPastSpan, UpToByte, WordByteThatEndsLines};
+ghost use Rattle.rx_laws.specs.FoundExamples.{WordGoesOnPastSpan};
 ghost use Rattle.rx_laws.specs.RowExamples.{EdgeForward, EdgeInReverse, EntriesOfLetter, RowsOfBounded, RowsOfLazyLoop};
 ghost use Rattle.rx_laws.specs.RowExamples.{RowsOfLetter, RowsOfTwo};
 ghost use Rattle.rx_laws.specs.ClassExamples.{AlphabetOfLetter, AlphabetOfLines, AlphabetOfRange, ClassOfLetter};
@@ -64,6 +65,7 @@ pub fn expressions()
     ensures mirror { MirrorOfText }
     ensures ends { EndsInOrder }
     ensures in_reverse { EndsInReverse }
+    ensures at_end { NothingAtEnd }
     ensures safe_loop { SafeLoop }
     ensures unsafe_loop { UnsafeLoop }
 {}
@@ -88,6 +90,8 @@ pub fn preference()
 pub fn found_beside()
     ensures word_byte_that_ends_lines { WordByteThatEndsLines }
     ensures line_start { LineStartAfterBoth }
+    ensures text_goes_on { TextGoesOnPastSpan }
+    ensures word_goes_on { WordGoesOnPastSpan }
 {}
 
 /// The rows of small NFAs, and where searches of the text's edge begin.

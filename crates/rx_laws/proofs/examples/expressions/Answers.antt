@@ -25,3 +25,7 @@ returns-clause-safe_loop c = (omega arith, tt)
 pub returns-clause-unsafe_loop : goal.returns-clause-unsafe_loop
 unfolding computing
 returns-clause-unsafe_loop c = λ safe. omega (arith, safe.0)
+
+pub returns-clause-at_end : goal.returns-clause-at_end
+unfolding computing
+returns-clause-at_end c = refl

@@ -9,3 +9,11 @@ returns-clause-word_byte_that_ends_lines c = refl
 pub returns-clause-line_start : goal.returns-clause-line_start
 unfolding computing
 returns-clause-line_start c = (refl, refl, refl)
+
+pub returns-clause-text_goes_on : goal.returns-clause-text_goes_on
+unfolding computing
+returns-clause-text_goes_on c = (refl, refl, refl)
+
+pub returns-clause-word_goes_on : goal.returns-clause-word_goes_on
+unfolding computing
+returns-clause-word_goes_on c = (refl, refl, refl)
