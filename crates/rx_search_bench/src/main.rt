@@ -7,7 +7,7 @@
 //! memory, the clock or an output failed.
 #![tactic(auto)]
 
-ghost use Rattle.std.specs.Prelude.{◌≤◌};
+ghost use Rattle.std.specs.Prelude.{◌≤◌, ◌^◌, length, IfOk};
 ghost use Rattle.rx_dense.specs.Facts.{IsSoundLayout};
 
 mod searches;
@@ -71,9 +71,13 @@ fn run(rt: &HostRuntime) -> Result<(), Fault> {
 }
 
 /// The number that a word spells, at most `most`.
-fn read_number(word: Option<String>, most: usize) -> Result<usize, Fault> {
-    let number = word.and_then(|word| word.as_str().parse::<usize>().ok());
-    number.filter(|number| *number <= most).ok_or(Fault::Usage)
+fn read_number(word: Option<String>, most: usize) -> Result<usize, Fault>
+    ensures { IfOk result (λ number. number ≤ most) }
+{
+    match word.and_then(|word| word.as_str().parse::<usize>().ok()) {
+        Some(number) if number <= most => Ok(number),
+        _ => Err(Fault::Usage),
+    }
 }
 
 /// Makes a search so many times, and prints what it answered and the least time that it took.
@@ -84,7 +88,8 @@ fn measure(
     text: &[u8],
     times: usize,
 ) -> io::Result<()>
-    requires { IsSoundLayout dfa.now }
+    requires sound { IsSoundLayout dfa.now }
+    requires room { length text.now ≤ 2 ^ 62 }
 {
     let mut least = Duration::MAX;
     for turn in 0..times {
