@@ -1,5 +1,4 @@
--- special rows: their ids are those of rows, and in order, as dense ids and as offsets
-pub mod SpecialOrder
+-- special rows: their offsets lie as their dense ids do
 pub mod RenamedSpecial
 -- where a row leads by its ranges
 pub mod RangesLead
@@ -7,6 +6,6 @@ pub mod RangesLead
 pub mod Ready
 pub mod TestedRows
 pub mod ClosedTables
--- so the sparse table of each dense one in order can be read, and each that is built
+-- so the sparse table of each dense one that can be read can be read too, and each that is built
 pub mod Whole
 pub mod BuiltTables

@@ -1,5 +1,5 @@
 -- Offsets lie as dense ids do, so the special ids of a sparse table are in order where those of the dense one are.
-use Rattle.std.proofs.Common.{◌≡◌, ℕ, ◌*◌, ◌/◌, ◌<◌, ◌≤◌, true, eqb, leb, ltb, sym, ap, ◌∙◌}
+use Rattle.std.proofs.Common.{◌≡◌, ℕ, ◌*◌, ◌/◌, ◌<◌, ◌≤◌, ◌&&◌, Bool, eqb, leb, ltb, refl, sym, ap, ◌∙◌}
 use Rattle.std.proofs.Common.{arith, inl, inr, max, subst}
 use Rattle.std.proofs.lemmas.Bool.{cases_eq, cases_lt, eq-eqb, le-ltb, lt-ltb, ne_eqb}
 use Rattle.std.proofs.lemmas.List.Kept.{AllPairs-from_increasing}
@@ -14,8 +14,14 @@ use Rattle.rx_dense_image.specs.Marks.{are_special, begins_after, is_past_quit, 
 use Rattle.rx_sparse.specs.Facts.{offsets_are_ids}
 use Rattle.rx_sparse.specs.Sparse.{AreSpecialRows, dense_rows, offsets_of, renamed_special}
 use Rattle.rx_sparse.proofs.SparseTables.{offsets_count, renamed_zero}
-use Rattle.rx_built_sparse_images.proofs.SpecialOrder.{AreOrdered, are_special_of}
 use Rattle.rx_sparse_build.proofs.Ordered.{greater, zero_row}
+
+-- tests that are the same one by one are the same together
+three_same : {a b c x y z : Bool} → a ≡ x → b ≡ y → c ≡ z → (a && b && c) ≡ (x && y && z)
+three_same p q r = rw (p, q, r) refl
+
+all_same : {a b c d w x y z : Bool} → a ≡ w → b ≡ x → c ≡ y → d ≡ z → (a && b && c && d) ≡ (w && x && y && z)
+all_same p q r s = rw (p, q, r, s) refl
 
 module _ (l : Layout) (rows : AreRows l) where
   abbrev renamed : ℕ → ℕ
@@ -98,47 +104,48 @@ module _ (l : Layout) (rows : AreRows l) where
 
   -- ---- special ids
 
-  -- what holds of special ids holds of their offsets
-  range_kept : (first last : ℕ) → IsRowId l first → IsRowId l last → is_range first last ≡ true
-      → is_range (renamed first) (renamed last) ≡ true
-  range_kept first last a b test = rw (zero_same first a, zero_same last b, le_same first a last b) test
+  -- what is asked of special ids is asked alike of their offsets
+  range_same : (first last : ℕ) → IsRowId l first → IsRowId l last
+      → is_range (renamed first) (renamed last) ≡ is_range first last
+  range_same first last a b = rw (zero_same first a, zero_same last b, le_same first a last b) refl
 
-  past_kept : (quit first : ℕ) → IsRowId l quit → IsRowId l first → is_past_quit quit first ≡ true
-      → is_past_quit (renamed quit) (renamed first) ≡ true
-  past_kept quit first a b test = rw (zero_same first b, lt_same quit a first b) test
+  past_same : (quit first : ℕ) → IsRowId l quit → IsRowId l first
+      → is_past_quit (renamed quit) (renamed first) ≡ is_past_quit quit first
+  past_same quit first a b = rw (zero_same first b, lt_same quit a first b) refl
 
-  after_kept : (first other : ℕ) → IsRowId l first → IsRowId l other → begins_after first other ≡ true
-      → begins_after (renamed first) (renamed other) ≡ true
-  after_kept first other a b test = rw (zero_same first a, zero_same other b, le_same other b first a) test
+  after_same : (first other : ℕ) → IsRowId l first → IsRowId l other
+      → begins_after (renamed first) (renamed other) ≡ begins_after first other
+  after_same first other a b = rw (zero_same first a, zero_same other b, le_same other b first a) refl
 
   module _ (are : AreSpecialRows l) where
     -- the greatest of the offsets is that of the greatest id
-    greatest_kept : greatest (renamed_special renamed l.special) ≡ renamed (greatest l.special)
-    greatest_kept =
+    most_same : leb (greatest (renamed_special renamed l.special)) (renamed l.special.max)
+        ≡ leb (greatest l.special) l.special.max
+    most_same =
         let s : Special = l.special in
         let m : ℕ = max s.quit s.max_match in
         let m_row = greater l rows s.quit s.max_match are.quit are.max_match in
         let n : ℕ = max m s.max_accel in
         let n_row = greater l rows m s.max_accel m_row are.max_accel in
+        let kept : greatest (renamed_special renamed s) ≡ renamed (greatest s) =
         ap (λ (k : ℕ). max (max k (renamed s.max_accel)) (renamed s.max_start))
         (max_same s.quit are.quit s.max_match are.max_match)
         ∙ ap (λ (k : ℕ). max k (renamed s.max_start)) (max_same m m_row s.max_accel are.max_accel)
-        ∙ max_same n n_row s.max_start are.max_start
+        ∙ max_same n n_row s.max_start are.max_start in
+        ap (λ (k : ℕ). leb k (renamed s.max)) kept
+        ∙ le_same (greatest s) (greater l rows n s.max_start n_row are.max_start) s.max are.max
 
-    -- special ids that are in order have offsets that pass the test of an image
-    pub special_kept : AreOrdered l.special → are_special (renamed_special renamed l.special) ≡ true
-    special_kept o =
+    -- so special ids have offsets that pass the test of an image where they pass it
+    pub special_same : are_special (renamed_special renamed l.special) ≡ are_special l.special
+    special_same =
         let s : Special = l.special in
-        are_special_of (renamed_special renamed l.special)
-        (record {
-          match_range = range_kept s.min_match s.max_match are.min_match are.max_match o.match_range;
-          accel_range = range_kept s.min_accel s.max_accel are.min_accel are.max_accel o.accel_range;
-          start_range = range_kept s.min_start s.max_start are.min_start are.max_start o.start_range;
-          match_past = past_kept s.quit s.min_match are.quit are.min_match o.match_past;
-          accel_past = past_kept s.quit s.min_accel are.quit are.min_accel o.accel_past;
-          start_past = past_kept s.quit s.min_start are.quit are.min_start o.start_past;
-          accels_after = after_kept s.min_accel s.min_match are.min_accel are.min_match o.accels_after;
-          starts_after = after_kept s.min_start s.min_match are.min_start are.min_match o.starts_after;
-          starts_last = after_kept s.min_start s.min_accel are.min_start are.min_accel o.starts_last;
-          most = ap renamed o.most ∙ sym greatest_kept;
-        })
+        all_same
+        (three_same (range_same s.min_match s.max_match are.min_match are.max_match)
+        (range_same s.min_accel s.max_accel are.min_accel are.max_accel)
+        (range_same s.min_start s.max_start are.min_start are.max_start))
+        (three_same (past_same s.quit s.min_match are.quit are.min_match)
+        (past_same s.quit s.min_accel are.quit are.min_accel) (past_same s.quit s.min_start are.quit are.min_start))
+        (three_same (after_same s.min_accel s.min_match are.min_accel are.min_match)
+        (after_same s.min_start s.min_match are.min_start are.min_match)
+        (after_same s.min_start s.min_accel are.min_start are.min_accel))
+        most_same

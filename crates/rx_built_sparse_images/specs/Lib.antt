@@ -1,2 +1,0 @@
--- dense tables whose sparse tables can be read
-pub mod Finished

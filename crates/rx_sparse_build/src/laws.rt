@@ -1,4 +1,4 @@
-//! What a built sparse table tells.
+//! What a built sparse table tells, and that tables can be made sparse.
 //!
 //! Each function has an empty body, and its clauses are the laws.
 
@@ -7,10 +7,13 @@ ghost use Rattle.rx_spec.specs.Labels.{IsLeastFor};
 ghost use Rattle.rx_spec.specs.Nfas.{Nfa};
 ghost use Rattle.rx_spec.specs.Power.{IsPower};
 ghost use Rattle.rx_meaning.specs.Tables.{Serves};
-ghost use Rattle.rx_build.specs.Built.{build_of};
+ghost use Rattle.rx_dense.specs.Layouts.{AreRows, Layout as Dense};
+ghost use Rattle.rx_order.specs.RowOrder.{IsOrdered};
+ghost use Rattle.rx_build.specs.Built.{IsBuilt, build_of};
 ghost use Rattle.rx_build.specs.Settings.{Settled};
 ghost use Rattle.rx_sparse.specs.Facts.{IsSoundLayout};
 ghost use Rattle.rx_sparse.specs.Layouts.{IsShaped, Stored, row_count, table_of};
+ghost use Rattle.rx_sparse.specs.Sparse.{AreSpecialRows};
 ghost use Rattle.rx_sparse_build.specs.Built.{IsSparse};
 
 /// A built sparse table gives its build, and its searches begin as the build's do. So it answers every search as the
@@ -27,4 +30,11 @@ pub fn built_tables_have_their_rows()
         → IsPower (table_of t.layout) (build_of s nfa) }
     ensures least { (s : Settled) (nfa : Nfa) (t : Stored) → IsSparse s nfa t → s.minimize ≡ true
         → IsLeastFor (build_of s nfa) (row_count t.layout) }
+{}
+
+/// The special ids of a table in order are ids of rows, and so are those of a built one. That is what a table must have
+/// to be made sparse. It has rows, which is a fact of its type.
+pub fn special_ids_are_rows()
+    ensures ordered { (l : Dense) → AreRows l → IsOrdered l → AreSpecialRows l }
+    ensures built { (s : Settled) (nfa : Nfa) (l : Dense) → AreRows l → IsBuilt s nfa l → AreSpecialRows l }
 {}

@@ -1,5 +1,5 @@
+use Rattle.rx_built_sparse_images.proofs.BuiltTables.{finished_whole}
 use Rattle.rx_built_sparse_images.proofs.finished_tables_are_whole.Goals as goal
-use Rattle.rx_built_sparse_images.proofs.Whole.{whole}
 
 pub returns : goal.returns
-returns c = whole
+returns c = finished_whole
