@@ -557,3 +557,42 @@ fn reads_and_writes_may_fail(rt: HostRuntime) -> Result<(), Fail> {
     }
     Ok(())
 }
+
+/// The empty pattern in the empty haystack, which has 28 bytes.
+const EMPTY: &str = "expr eps\ninput 0 0 no\nhay -\n";
+
+/// Read byte by byte, with 29 reads, of which the last tells the end; or written with so much room.
+#[test]
+fn every_read_and_every_write_may_fail(rt: HostRuntime) -> Result<(), Fail> {
+    assert!(&rt; EMPTY.len() == 28);
+    let line = "match 0 0 0\n";
+    for most in [1, 5, 100] {
+        let mut outside = Outside {
+            text: EMPTY.as_bytes(),
+            most_read: 1,
+            failing_reads: &[],
+            room: 12,
+            most_written: most,
+            failing_writes: &[],
+        };
+        for read in 1..=29 {
+            let outside = Outside {
+                failing_reads: &[read],
+                ..outside
+            };
+            compare(&rt, rt.alloc(), &["find"], outside, (5, ""))?;
+        }
+        let unread = Outside {
+            failing_reads: &[30],
+            ..outside
+        };
+        compare(&rt, rt.alloc(), &["find"], unread, (0, line))?;
+        for room in 0..=12 {
+            outside.room = room;
+            let status = if room < 12 { 6 } else { 0 };
+            let written = line.get(..room).unwrap_or("");
+            compare(&rt, rt.alloc(), &["find"], outside, (status, written))?;
+        }
+    }
+    Ok(())
+}

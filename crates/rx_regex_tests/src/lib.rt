@@ -4,4 +4,6 @@
 #[cfg(test)]
 mod pairs;
 #[cfg(test)]
+mod slow;
+#[cfg(test)]
 mod tests;

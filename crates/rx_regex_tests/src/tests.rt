@@ -40,7 +40,7 @@ const KINDS: [Kind; 4] = [
 
 /// Where a match may begin, and of which pattern it is.
 #[derive(Clone, Copy)]
-enum Mode {
+pub(crate) enum Mode {
     Anywhere,
     AtStart,
     OfPattern(usize),
@@ -48,7 +48,12 @@ enum Mode {
 
 /// What is searched: a haystack and the span in it.
 #[derive(Clone, Copy)]
-struct Asked<'h>(&'h [u8], usize, usize, Mode);
+pub(crate) struct Asked<'h>(
+    pub(crate) &'h [u8],
+    pub(crate) usize,
+    pub(crate) usize,
+    pub(crate) Mode,
+);
 
 fn apply(plan: &mut Plan, change: Change) {
     match change {
@@ -90,14 +95,15 @@ fn mode_of(mode: Mode) -> Result<Anchored, Fail> {
 }
 
 /// The pattern, the start and the end of what is found, or why nothing can be.
-fn told(
-    rt: &impl Abort,
+pub(crate) fn told(
     alloc: Global,
     exprs: &[Expr],
     plan: &Plan,
     asked: Asked<'_>,
 ) -> Result<String, Fail> {
-    assert!(rt; Input::fits(asked.0.len(), asked.1, asked.2));
+    if !Input::fits(asked.0.len(), asked.1, asked.2) {
+        return Err(Fail::new("the span isn't one of the haystack"));
+    }
     let input = Input::new(asked.0).range(asked.1, asked.2);
     let input = input.anchored(mode_of(asked.3)?);
     match compile_and_find(alloc, exprs, plan, &input) {
@@ -123,7 +129,7 @@ fn compare(
 ) -> Result<(), Fail> {
     let exprs = read(alloc, patterns)?;
     for kind in KINDS {
-        let told = told(rt, alloc, &exprs, &plan_with(kind, changes), asked)?;
+        let told = told(alloc, &exprs, &plan_with(kind, changes), asked)?;
         assert!(rt; told.as_str() == want, "{patterns}, {kind:?}: {told}");
     }
     Ok(())
@@ -371,7 +377,7 @@ fn many_patterns_are_built_and_searched(rt: HostRuntime) -> Result<(), Fail> {
         let rows = rows_of(alloc, &exprs, &plan)?;
         assert!(rt; rows.as_str() == "626 623", "{kind:?}: {rows}");
         let asked = Asked(b"yxjt.xaa", 0, 8, Mode::Anywhere);
-        let told = told(&rt, alloc, &exprs, &plan, asked)?;
+        let told = told(alloc, &exprs, &plan, asked)?;
         assert!(rt; told.as_str() == "199 1 4", "{kind:?}: {told}");
     }
     Ok(())

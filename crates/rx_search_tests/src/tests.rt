@@ -442,7 +442,8 @@ fn first_in_span(
 }
 
 /// The offset of the first match, the offsets that the search tells after it, whether it gives up past them, the
-/// span and whether it is anchored, and what is told. The match of a search is of pattern 1, the first one of pattern 7.
+/// span and whether it is anchored, and what is told. Matches of the search are of pattern 1, and the first one is of
+/// pattern 7.
 type Skip = (usize, &'static [usize], bool, (usize, usize, bool), Told);
 
 /// Two snowmen have three bytes each, so a match is told at 0, 3 or 6.

@@ -10,6 +10,7 @@ mod rows;
 use images::{abc, never_match};
 use rx_base::{Input, MatchErrorKind};
 use rx_search::Automaton;
+use rx_span_checks::{Settings, check_spans};
 use rx_sparse::DFA;
 use rx_sparse_image::{SparseRead, SparseWrite};
 use rx_wire::{DeserializeError, DeserializeErrorKind, Order};
@@ -125,6 +126,10 @@ const ALTERED: &[(usize, Change, Answer)] = &[
     (40, Word(7), ABC),
     (44, Word(8), ABC),
     (385, Word(0), ABC),
+    // another row where `a` leads: the match row, the quit row; and a quit byte
+    (365, Word(18), ABC),
+    (365, Word(9), ABC),
+    (882, Byte(1), ABC),
     // the head
     (0, Byte(0x78), Err("label")),
     (32, Word(0), Err("endian")),
@@ -206,6 +211,24 @@ fn tell(dfa: &DFA<&[u8]>, text: &[u8]) -> Told
     }
 }
 
+/// Compares what a search by an image tells, which must be accepted and be of an order.
+fn check_told(
+    rt: &impl Abort,
+    alloc: Global,
+    image: &[u8],
+    order: Order,
+    search: (&[u8], Told),
+) -> Result<(), Fail> {
+    match DFA::<&[u8]>::from_bytes(alloc, image) {
+        Ok((dfa, _)) => {
+            assert!(rt; dfa.order() == order);
+            assert_eq!(rt; tell(&dfa, search.0), search.1);
+        }
+        Err(error) => assert!(rt; false, "{error}"),
+    }
+    Ok(())
+}
+
 #[test]
 fn an_image_of_either_order_is_searched_where_it_lies(rt: HostRuntime) -> Result<(), Fail> {
     let alloc = rt.alloc();
@@ -215,15 +238,119 @@ fn an_image_of_either_order_is_searched_where_it_lies(rt: HostRuntime) -> Result
         (b"abab", Told::Nothing),
     ];
     for order in [Order::Little, Order::Big] {
-        let image = abc(alloc, order)?;
-        match DFA::<&[u8]>::from_bytes(alloc, image.as_slice()) {
-            Ok((dfa, _)) => {
-                assert!(&rt; dfa.order() == order);
-                for (text, wanted) in cases {
-                    assert_eq!(&rt; tell(&dfa, *text), *wanted);
-                }
+        let mut image = abc(alloc, order)?;
+        image.extend_from_slice(b"abc")?;
+        for search in cases {
+            check_told(&rt, alloc, &image.as_slice()[..914], order, *search)?;
+            check_told(&rt, alloc, image.as_slice(), order, *search)?;
+        }
+    }
+    for (word, wanted) in [(18, Told::Match(0, 1)), (9, Told::Quit(b'a', 1))] {
+        let mut image = abc(alloc, Order::Little)?;
+        altered(&mut image, 365, Word(word));
+        check_told(&rt, alloc, image.as_slice(), Order::Little, (b"xa", wanted))?;
+    }
+    Ok(())
+}
+
+/// What of a table decides which errors its searches may have. Tables of these images have starts of both modes.
+fn settings<'a>(dfa: &'a DFA<&[u8]>) -> Settings<'a> {
+    Settings {
+        quits: dfa.quitset(),
+        kind: dfa.start_kind(),
+        pattern_starts: dfa.starts_for_each_pattern(),
+    }
+}
+
+/// Searches all spans of some texts by an image, which must be accepted.
+fn check_searches(rt: &impl Abort, alloc: Global, image: &[u8], at: usize) -> Result<(), Fail> {
+    match DFA::<&[u8]>::from_bytes(alloc, image) {
+        Ok((dfa, _)) => {
+            for text in [b"xabcx".as_slice(), b"\0aabc\0".as_slice()] {
+                check_spans(alloc, &dfa, settings(&dfa), text)?;
             }
-            Err(error) => assert!(&rt; false, "{error}"),
+        }
+        Err(error) => assert!(rt; false, "at {at}: {error}"),
+    }
+    Ok(())
+}
+
+#[test]
+fn accepted_images_are_searched_within_their_spans(rt: HostRuntime) -> Result<(), Fail> {
+    let alloc = rt.alloc();
+    for (at, change, wanted) in ALTERED {
+        if wanted.is_ok() {
+            let mut image = abc(alloc, Order::Little)?;
+            altered(&mut image, *at, *change);
+            check_searches(&rt, alloc, image.as_slice(), *at)?;
+        }
+    }
+    for order in [Order::Little, Order::Big] {
+        let mut longer = abc(alloc, order)?;
+        longer.extend_from_slice(b"abc")?;
+        check_searches(&rt, alloc, longer.as_slice(), longer.len())?;
+    }
+    Ok(())
+}
+
+/// In which order a table is written.
+#[derive(Clone, Copy, Debug)]
+enum Writer {
+    Little,
+    Big,
+    Native,
+}
+
+/// How many bytes are written, or none.
+fn written(dfa: &DFA<&[u8]>, writer: Writer, bytes: &mut [u8]) -> Option<usize> {
+    let written = match writer {
+        Writer::Little => dfa.write_to_little_endian(bytes),
+        Writer::Big => dfa.write_to_big_endian(bytes),
+        Writer::Native => dfa.write_to_native_endian(bytes),
+    };
+    written.ok()
+}
+
+/// Writes the table of an image into one byte less than it has, and with two bytes behind it.
+fn check_writer(
+    rt: &impl Abort,
+    alloc: Global,
+    writer: Writer,
+    from: &[u8],
+    image: &[u8],
+) -> Result<(), Fail> {
+    let (dfa, _) = DFA::<&[u8]>::from_bytes(alloc, from)?;
+    let size = dfa.write_to_len();
+    assert!(rt; size == image.len());
+    let mut short = vec![in alloc; 7u8; size.saturating_sub(1)]?;
+    let refused = written(&dfa, writer, short.as_mut_slice());
+    assert!(rt; refused.is_none(), "{writer:?}: written");
+    assert!(rt; short.iter().all(|byte| *byte == 7), "{writer:?}: changed");
+    let mut long = vec![in alloc; 7u8; size.saturating_add(2)]?;
+    let size = written(&dfa, writer, long.as_mut_slice());
+    assert!(rt; size == Some(image.len()), "{writer:?}: {size:?}");
+    assert!(rt; long.starts_with(image), "{writer:?}: written otherwise");
+    assert!(rt; long.ends_with(&[7, 7]), "{writer:?}: changed");
+    let mut exact = vec![in alloc; 7u8; image.len()]?;
+    let size = written(&dfa, writer, exact.as_mut_slice());
+    assert!(rt; size == Some(image.len()) && exact.as_slice() == image);
+    Ok(())
+}
+
+#[test]
+fn a_destination_that_is_too_short_stays_as_it_is(rt: HostRuntime) -> Result<(), Fail> {
+    let alloc = rt.alloc();
+    let rows = [
+        (Writer::Little, Order::Little),
+        (Writer::Big, Order::Big),
+        (Writer::Native, Order::Little),
+    ];
+    for (writer, order) in rows {
+        let wanted = abc(alloc, order)?;
+        assert!(&rt; wanted.len() == 914);
+        for from in [Order::Little, Order::Big] {
+            let from = abc(alloc, from)?;
+            check_writer(&rt, alloc, writer, from.as_slice(), wanted.as_slice())?;
         }
     }
     Ok(())

@@ -1,7 +1,10 @@
 //! What no clause shows: that tables are made sparse, byte by byte, and that they are searched as the dense ones are.
 
 ghost use Rattle.std.specs.Prelude.{IfOk};
+ghost use Rattle.rx_spec.specs.Queries.{IsFit};
+ghost use Rattle.rx_base.specs.Input.{query_of};
 ghost use Rattle.rx_order.specs.RowOrder.{IsInOrder};
+ghost use Rattle.rx_search.specs.OverlappingCalls.{Fits};
 ghost use Rattle.rx_sparse.specs.Facts.{IsSoundLayout};
 
 use rx_base::{
@@ -158,6 +161,66 @@ fn told<A: Automaton>(alloc: Global, dfa: &A, text: &[u8]) -> Result<String, Fai
     let second = dfa.try_search_overlapping_fwd(&input, &mut state);
     let other = state.get_match();
     Ok(format!(in alloc; "{forward:?} {reverse:?} {first:?} {one:?} {second:?} {other:?}")?)
+}
+
+/// The dense table of some patterns, of which all matches are told.
+fn build_all(alloc: Global, patterns: &str) -> Result<OwnedDFA, Fail>
+    ensures { IfOk result (λ dfa. IsInOrder dfa) }
+{
+    let exprs = read(alloc, patterns)?;
+    let mut builder = Builder::new();
+    builder.configure(Config::new().match_kind(MatchKind::All));
+    Ok(builder.build_many(alloc, &exprs)?)
+}
+
+/// The next match that an overlapping search tells: its pattern and where it ends.
+fn next_told<A: Automaton>(
+    dfa: &A,
+    input: &Input<'_>,
+    state: &mut OverlappingState,
+) -> Result<Option<(u32, usize)>, MatchError>
+    requires sound { A.IsSound dfa.now }
+    requires fits { IsFit (query_of input.now) }
+    requires state { Fits (A.table dfa.now) (A.ids dfa.now) (query_of input.now) state.old }
+    ensures state { Fits (A.table dfa.now) (A.ids dfa.now) (query_of input.now) state.new }
+{
+    dfa.try_search_overlapping_fwd(input, state)?;
+    Ok(
+        state
+            .get_match()
+            .map(|found| (found.pattern().as_u32(), found.offset())),
+    )
+}
+
+/// What four calls of a forward overlapping search tell.
+fn four_told<A: Automaton>(dfa: &A, text: &[u8]) -> Result<[Option<(u32, usize)>; 4], MatchError>
+    requires { A.IsSound dfa.now }
+{
+    let input = Input::new(text);
+    let mut state = OverlappingState::start();
+    Ok([
+        next_told(dfa, &input, &mut state)?,
+        next_told(dfa, &input, &mut state)?,
+        next_told(dfa, &input, &mut state)?,
+        next_told(dfa, &input, &mut state)?,
+    ])
+}
+
+#[test]
+fn overlapping_searches_tell_sam_and_then_samwise(rt: HostRuntime) -> Result<(), Fail> {
+    let alloc = rt.alloc();
+    let dense = build_all(alloc, "Samwise Sam |")?;
+    let (sparse, _) = made_sparse(alloc, &dense)?;
+    let wanted = [Some((0, 3)), Some((0, 7)), None, None];
+    let tables = [
+        four_told(&dense, b"Samwise")?,
+        four_told(&sparse, b"Samwise")?,
+        four_told(&sparse.as_ref(), b"Samwise")?,
+    ];
+    for told in tables {
+        assert!(&rt; told == wanted, "{told:?}");
+    }
+    Ok(())
 }
 
 /// A table tells of each text what its sparse one tells, also lent and copied.

@@ -12,14 +12,14 @@ use std::process::Abort;
 use std::test::Fail;
 
 /// Writes a table in both orders, reads it, writes it again, and searches what was read: so many rows and bytes, and
-/// the end of a match in `foo12345` or none.
+/// the pattern and the end of a match in `foo12345`, or none.
 fn check(
     rt: &impl Abort,
     alloc: Global,
     dfa: &DFA<Vec<u8>>,
     rows: usize,
     size: usize,
-    end: Option<usize>,
+    wanted: Option<(u32, usize)>,
 ) -> Result<(), Fail> {
     for order in [Order::Little, Order::Big] {
         let image = match order {
@@ -40,9 +40,11 @@ fn check(
         let little = dfa.to_bytes_little_endian(alloc)?;
         assert!(rt; again.as_slice() == little.as_slice());
         let copy = read.to_owned(alloc)?;
-        let found = copy.try_search_fwd(&Input::new(b"foo12345"))?;
-        let told = found.map(|found| found.offset());
-        assert!(rt; told == end, "{told:?}");
+        let input = Input::new(b"foo12345");
+        for found in [read.try_search_fwd(&input)?, copy.try_search_fwd(&input)?] {
+            let told = found.map(|found| (found.pattern().as_u32(), found.offset()));
+            assert!(rt; told == wanted, "{told:?}");
+        }
     }
     Ok(())
 }
@@ -56,10 +58,10 @@ fn literal(alloc: Global, bytes: &[u8]) -> Result<[Expr; 1], ExprError> {
 fn built_tables_are_read_in_either_order(rt: HostRuntime) -> Result<(), Fail> {
     let alloc = rt.alloc();
     let always = DFA::<Vec<u8>>::always_match(alloc)?;
-    check(&rt, alloc, &always, 4, 754, Some(0))?;
+    check(&rt, alloc, &always, 4, 754, Some((0, 0)))?;
     let never = DFA::<Vec<u8>>::never_match(alloc)?;
     check(&rt, alloc, &never, 2, 722, None)?;
     let digits = DFA::<Vec<u8>>::new_many(alloc, &literal(alloc, b"123")?)?;
-    check(&rt, alloc, &digits, 11, 914, Some(6))?;
+    check(&rt, alloc, &digits, 11, 914, Some((0, 6)))?;
     Ok(())
 }

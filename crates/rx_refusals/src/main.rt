@@ -1,0 +1,236 @@
+//! Builds, writes, reads, copies and searches the tables of a pattern that matches everywhere and of none, in both
+//! forms. A tool refuses it memory, one allocation in a run: then the call that meets the refusal has to say so, what
+//! was there before has to be as it was, and the same calls have to succeed when they are made again.
+//!
+//! It writes a line for each table, and before it one for a call that was refused. The status is 0 where none was, 7
+//! where one was and all else is right, and 1 where something is wrong.
+#![tactic(auto)]
+
+ghost use Rattle.std.specs.Prelude.{IfOk};
+ghost use Rattle.rx_dense.specs.Facts.{IsSoundLayout as IsSoundDense};
+ghost use Rattle.rx_sparse.specs.Facts.{IsSoundLayout as IsSoundSparse};
+
+use rx_base::Input;
+use rx_build::dense::DenseBuild;
+use rx_build::{BuildError, BuildErrorKind};
+use rx_dense::{DFA, OwnedDFA};
+use rx_dense_image::{DenseRead, DenseWrite};
+use rx_search::Automaton;
+use rx_sparse::DFA as SparseDFA;
+use rx_sparse_build::SparseBuild;
+use rx_sparse_image::{SparseRead, SparseWrite};
+use rx_wire::{DeserializeError, DeserializeErrorKind};
+use std::alloc::Global;
+use std::io;
+use std::process::ExitCode;
+
+/// What went otherwise than it does with ample memory.
+#[derive(Clone, Copy, PartialEq)]
+enum Fault {
+    /// A call ran out of memory.
+    Memory(&'static str),
+    /// A call answered something else.
+    Wrong(&'static str),
+}
+
+/// The fault of a build.
+fn build_fault(error: &BuildError, call: &'static str) -> Fault {
+    match error.kind() {
+        BuildErrorKind::Memory => Fault::Memory(call),
+        _ => Fault::Wrong(call),
+    }
+}
+
+/// The fault of a read.
+fn read_fault(error: &DeserializeError, call: &'static str) -> Fault {
+    match error.kind() {
+        DeserializeErrorKind::Memory => Fault::Memory(call),
+        _ => Fault::Wrong(call),
+    }
+}
+
+/// A form of tables, and whether the pattern matches everywhere, or there is none.
+#[derive(Clone, Copy)]
+struct Case {
+    is_sparse: bool,
+    always: bool,
+}
+
+const CASES: [Case; 4] = [
+    Case {
+        is_sparse: false,
+        always: true,
+    },
+    Case {
+        is_sparse: false,
+        always: false,
+    },
+    Case {
+        is_sparse: true,
+        always: true,
+    },
+    Case {
+        is_sparse: true,
+        always: false,
+    },
+];
+
+impl Case {
+    fn name(self) -> &'static str {
+        match (self.is_sparse, self.always) {
+            (false, true) => "dense, everywhere",
+            (false, false) => "dense, nowhere",
+            (true, true) => "sparse, everywhere",
+            (true, false) => "sparse, nowhere",
+        }
+    }
+
+    /// How many bytes the image has.
+    fn size(self) -> usize {
+        match (self.is_sparse, self.always) {
+            (false, true) => 760,
+            (false, false) => 732,
+            (true, true) => 754,
+            (true, false) => 722,
+        }
+    }
+
+    /// Makes all calls.
+    fn run(self, alloc: Global) -> Result<(), Fault> {
+        if self.is_sparse {
+            self.run_sparse(alloc)
+        } else {
+            self.run_dense(alloc)
+        }
+    }
+
+    /// A fault unless a table tells a match of pattern 0 at 0, or none.
+    fn search<A: Automaton>(self, dfa: &A) -> Result<(), Fault>
+        requires { A.IsSound dfa.now }
+    {
+        let wanted = if self.always { Some((0, 0)) } else { None };
+        match dfa.try_search_fwd(&Input::new(b"foo12345")) {
+            Ok(found) => {
+                let told = found.map(|found| (found.pattern().as_u32(), found.offset()));
+                if told == wanted {
+                    Ok(())
+                } else {
+                    Err(Fault::Wrong("search"))
+                }
+            }
+            Err(_) => Err(Fault::Wrong("search")),
+        }
+    }
+
+    fn build_dense(self, alloc: Global) -> Result<OwnedDFA, Fault>
+        ensures { IfOk result IsSoundDense }
+    {
+        let built = if self.always {
+            DFA::<Vec<u32>>::always_match(alloc)
+        } else {
+            DFA::<Vec<u32>>::never_match(alloc)
+        };
+        match built {
+            Ok(dfa) => Ok(dfa),
+            Err(error) => Err(build_fault(&error, "build")),
+        }
+    }
+
+    fn run_dense(self, alloc: Global) -> Result<(), Fault> {
+        let dfa = self.build_dense(alloc)?;
+        let Ok((image, _)) = dfa.to_bytes_little_endian(alloc) else {
+            self.search(&dfa)?;
+            return Err(Fault::Memory("to_bytes"));
+        };
+        let Ok((big, _)) = dfa.to_bytes_big_endian(alloc) else {
+            self.search(&dfa)?;
+            return Err(Fault::Memory("to_bytes"));
+        };
+        if image.len() != self.size() || big.len() != self.size() {
+            return Err(Fault::Wrong("to_bytes"));
+        }
+        for bytes in [image.as_slice(), big.as_slice()] {
+            match DFA::<Vec<u32>>::from_bytes(alloc, bytes) {
+                Ok((read, size)) if size == self.size() => self.search(&read)?,
+                Ok(_) => return Err(Fault::Wrong("from_bytes")),
+                Err(error) => return Err(read_fault(&error, "from_bytes")),
+            }
+        }
+        match dfa.to_owned(alloc) {
+            Ok(copy) => self.search(&copy),
+            Err(_) => {
+                self.search(&dfa)?;
+                Err(Fault::Memory("to_owned"))
+            }
+        }
+    }
+
+    fn build_sparse(self, alloc: Global) -> Result<SparseDFA<Vec<u8>>, Fault>
+        ensures { IfOk result (λ dfa. IsSoundSparse dfa.layout) }
+    {
+        let built = if self.always {
+            SparseDFA::<Vec<u8>>::always_match(alloc)
+        } else {
+            SparseDFA::<Vec<u8>>::never_match(alloc)
+        };
+        match built {
+            Ok(dfa) => Ok(dfa),
+            Err(error) => Err(build_fault(&error, "build")),
+        }
+    }
+
+    fn run_sparse(self, alloc: Global) -> Result<(), Fault> {
+        let dfa = self.build_sparse(alloc)?;
+        let Ok(image) = dfa.to_bytes_little_endian(alloc) else {
+            self.search(&dfa)?;
+            return Err(Fault::Memory("to_bytes"));
+        };
+        let Ok(big) = dfa.to_bytes_big_endian(alloc) else {
+            self.search(&dfa)?;
+            return Err(Fault::Memory("to_bytes"));
+        };
+        if image.len() != self.size() || big.len() != self.size() {
+            return Err(Fault::Wrong("to_bytes"));
+        }
+        for bytes in [image.as_slice(), big.as_slice()] {
+            match SparseDFA::<&[u8]>::from_bytes(alloc, bytes) {
+                Ok((read, size)) if size == self.size() => self.search(&read)?,
+                Ok(_) => return Err(Fault::Wrong("from_bytes")),
+                Err(error) => return Err(read_fault(&error, "from_bytes")),
+            }
+        }
+        match dfa.to_owned(alloc) {
+            Ok(copy) => self.search(&copy),
+            Err(_) => {
+                self.search(&dfa)?;
+                Err(Fault::Memory("to_owned"))
+            }
+        }
+    }
+}
+
+/// Makes the calls of all tables, and once more those of one that was refused memory. Tells whether one was.
+fn run_all(rt: &HostRuntime) -> io::Result<Result<bool, &'static str>> {
+    let mut refused = false;
+    for case in CASES {
+        let mut answer = case.run(rt.alloc());
+        if let Err(Fault::Memory(call)) = answer {
+            println!(rt; "{}: {call} is out of memory", case.name())?;
+            refused = true;
+            answer = case.run(rt.alloc());
+        }
+        match answer {
+            Ok(()) => println!(rt; "{}: right", case.name())?,
+            Err(Fault::Memory(call)) | Err(Fault::Wrong(call)) => return Ok(Err(call)),
+        }
+    }
+    Ok(Ok(refused))
+}
+
+fn main(rt: HostRuntime) -> ExitCode {
+    match run_all(&rt) {
+        Ok(Ok(false)) => ExitCode::SUCCESS,
+        Ok(Ok(true)) => ExitCode::from(7),
+        _ => ExitCode::FAILURE,
+    }
+}
