@@ -5,6 +5,7 @@ ghost use Rattle.rx_sparse.specs.Facts.{IsSoundLayout};
 
 mod built;
 mod images;
+mod made_sparse;
 mod rows;
 
 use images::{abc, never_match};
