@@ -12,6 +12,7 @@ use rx_dense::{OwnedDFA, State};
 use rx_dense_image::DenseWrite;
 use rx_search::Automaton;
 use rx_sparse::{DFA, ToSparse};
+use rx_sparse_build::laws::special_ids_are_rows;
 use rx_sparse_image::{SparseRead, SparseWrite};
 use std::alloc::Global;
 use std::io;
@@ -127,6 +128,7 @@ fn sparse_table(alloc: Global, dense: &OwnedDFA) -> Result<(DFA<Vec<u8>>, usize)
     ensures { IfOk result (λ x. IsSoundLayout x.0.layout) }
 {
     let rows = dense.state_len();
+    special_ids_are_rows();
     Ok((dense.to_sparse(alloc)?, rows))
 }
 

@@ -5,6 +5,7 @@ ghost use Rattle.rx_sparse.specs.Facts.{IsSoundLayout};
 
 mod built;
 mod images;
+mod made_sparse;
 mod rows;
 
 use images::{abc, never_match};
@@ -238,11 +239,12 @@ fn an_image_of_either_order_is_searched_where_it_lies(rt: HostRuntime) -> Result
         (b"abab", Told::Nothing),
     ];
     for order in [Order::Little, Order::Big] {
-        let mut image = abc(alloc, order)?;
-        image.extend_from_slice(b"abc")?;
+        let alone = abc(alloc, order)?;
+        let mut followed = abc(alloc, order)?;
+        followed.extend_from_slice(b"abc")?;
         for search in cases {
-            check_told(&rt, alloc, &image.as_slice()[..914], order, *search)?;
-            check_told(&rt, alloc, image.as_slice(), order, *search)?;
+            check_told(&rt, alloc, alone.as_slice(), order, *search)?;
+            check_told(&rt, alloc, followed.as_slice(), order, *search)?;
         }
     }
     for (word, wanted) in [(18, Told::Match(0, 1)), (9, Told::Quit(b'a', 1))] {

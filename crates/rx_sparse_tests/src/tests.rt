@@ -8,7 +8,7 @@ ghost use Rattle.rx_search.specs.OverlappingCalls.{Fits};
 ghost use Rattle.rx_sparse.specs.Facts.{IsSoundLayout};
 
 use rx_base::{
-    Anchored, HalfMatch, Input, MatchError, MatchKind, PatternID, StateID, Steps, Tally,
+    Anchored, HalfMatch, Input, MatchError, MatchKind, PatternID, StartKind, StateID, Steps, Tally,
 };
 use rx_build::dense::{Builder, Config};
 use rx_dense::{OwnedDFA, Special};
@@ -16,6 +16,8 @@ use rx_expr::thompson;
 use rx_notation::read;
 use rx_search::{Automaton, Cursor, OverlappingState, find_fwd_counted};
 use rx_sparse::{DFA, ToSparse};
+use rx_sparse_build::BuildSparse;
+use rx_sparse_build::laws::special_ids_are_rows;
 use rx_wire::Order;
 use std::alloc::{AllocError, Global};
 use std::process::Abort;
@@ -40,6 +42,7 @@ fn made_sparse(alloc: Global, dense: &OwnedDFA) -> Result<(DFA<Vec<u8>>, usize),
     ensures { IfOk result (λ x. IsSoundLayout x.0.layout) }
 {
     let rows = dense.state_len();
+    special_ids_are_rows();
     Ok((dense.to_sparse(alloc)?, rows))
 }
 
@@ -269,6 +272,35 @@ fn sparse_tables_are_searched_as_dense_ones(rt: HostRuntime) -> Result<(), Fail>
     for patterns in PATTERNS {
         check(&rt, alloc, patterns, false)?;
         check(&rt, alloc, patterns, true)?;
+    }
+    Ok(())
+}
+
+/// The sparse table of `abc` with starts of a kind.
+fn with_starts(alloc: Global, kind: StartKind, minimize: bool) -> Result<DFA<Vec<u8>>, Fail> {
+    let exprs = read(alloc, "abc")?;
+    let mut builder = Builder::new();
+    builder.configure(Config::new().start_kind(kind).minimize(minimize));
+    Ok(builder.build_many_sparse(alloc, &exprs)?)
+}
+
+#[test]
+fn starts_that_are_left_out_are_dead(rt: HostRuntime) -> Result<(), Fail> {
+    let alloc = rt.alloc();
+    for kind in [StartKind::Both, StartKind::Unanchored, StartKind::Anchored] {
+        for minimize in [false, true] {
+            let dfa = with_starts(alloc, kind, minimize)?;
+            assert!(&rt; dfa.start_len() == 12, "{}", dfa.start_len());
+            for i in 0..dfa.start_len() {
+                let built = if i < 6 {
+                    kind.has_unanchored()
+                } else {
+                    kind.has_anchored()
+                };
+                let id = dfa.start_at(i).as_u32();
+                assert!(&rt; (id != 0) == built, "{kind:?} {minimize} {i}: {id}");
+            }
+        }
     }
     Ok(())
 }
