@@ -74,16 +74,6 @@ units_count l units are is =
     sym (length-map units unit_number) ∙ ap length is
     ∙ omega (arith, length_push (representatives (ends_of l.classes)) eoi, counted l are)
 
--- one more unit
-pub units_more : (units more : List Unit) (unit : Unit) (left rest : List ℕ) {all : List ℕ}
-    → more ≡ units ++ unit ∷ [] → left ≡ unit_number unit ∷ rest → map unit_number units ++ left ≡ all
-    → map unit_number more ++ rest ≡ all
-units_more units more unit left rest pushed first so_far =
-    ap (λ (us : List Unit). map unit_number us ++ rest) pushed
-    ∙ ap (λ (ns : List ℕ). ns ++ rest) (map-append unit_number units (unit ∷ []))
-    ∙ append_assoc (map unit_number units) (unit_number unit ∷ []) rest
-    ∙ ap (λ (ns : List ℕ). map unit_number units ++ ns) (sym first) ∙ so_far
-
 -- that of a column
 pub unit_is : (units : List Unit) (classes : List ℕ) {column : ℕ} {unit : Unit} → AreUnits units classes
     → column < length units → unit ≡ get_or units column unit → unit_number unit ≡ unit_of classes column

@@ -11,6 +11,7 @@ pub mod TargetLists
 pub mod Results
 pub mod EmptyLists
 pub mod UnitCounts
+pub mod UnitLists
 -- what decides assertions
 pub mod Decisions
 -- lists without the members of others, and rows that end with those of the lead-in

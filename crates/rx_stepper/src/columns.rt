@@ -45,5 +45,9 @@ impl Columns {
 fn units_of(alloc: Global, classes: &ByteClasses) -> Result<Vec<Unit>, AllocError>
     ensures { IfOk result (λ v. map unit_number v.items ≡ units_of classes.now) }
 {
-    classes.representatives().collect(alloc)
+    let mut units = Vec::with_capacity(alloc, classes.alphabet_len())?;
+    for unit in classes.representatives() {
+        units.push(unit)?;
+    }
+    Ok(units)
 }

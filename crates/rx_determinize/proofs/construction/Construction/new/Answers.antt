@@ -1,4 +1,4 @@
-use Rattle.rx_determinize.proofs.ColumnLaws.{units_more}
+use Rattle.rx_stepper.proofs.UnitLists.{units_more}
 use Rattle.rx_determinize.proofs.construction.Construction.new.Goals as goal
 
 pub loop-unit-preserved : goal.loop-unit-preserved

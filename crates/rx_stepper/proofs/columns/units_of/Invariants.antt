@@ -1,0 +1,8 @@
+use Rattle.std.proofs.Common.{◌≡◌, ◌++◌, map}
+use Rattle.rx_base.specs.Unit.{unit_number}
+use Rattle.rx_stepper.specs.Units.{units_of}
+use Rattle.rx_stepper.proofs.columns.units_of.Given as goal
+
+-- the units so far, and those that are left
+abbrev pub invariant-loop-unit : goal.invariant-loop-unit
+invariant-loop-unit l = map unit_number l.units.items ++ l.unit-iterator ≡ units_of l.classes
