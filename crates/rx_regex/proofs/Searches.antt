@@ -1,16 +1,22 @@
 -- Searches of the tables of a plan.
-use Rattle.std.proofs.Common.{◌≡◌, ◌≢◌, ◌≤◌, Option, Ok, Err, IfErr, List, length, refl}
+use Rattle.std.proofs.Common.{◌≡◌, ◌≢◌, ℕ, ◌≤◌, Option, Some, None, Ok, Err, IfErr, List, length, refl, ap, sym, ◌∙◌}
+use Rattle.std.proofs.Common.{subst}
 use Rattle.std.proofs.Math.Logic.{∥∥₁_elim}
 use mathlib.Core.HLevel.{⊥_prop}
 use Rattle.rx_spec.specs.Bytes.{AreBytes}
 use Rattle.rx_spec.specs.Expressions.{Expression}
-use Rattle.rx_spec.specs.Joining.{Answer}
-use Rattle.rx_spec.specs.Plans.{Plan, outcome}
-use Rattle.rx_spec.specs.Queries.{Query, HalfMatch, MatchError}
-use Rattle.rx_meaning.proofs.ServedSearches.{found_by_tables, tables_agree}
-use Rattle.rx_regex.specs.Find.{IsPaired}
+use Rattle.rx_spec.specs.Builds.{power, build_settings}
+use Rattle.rx_spec.specs.Found.{found}
+use Rattle.rx_spec.specs.HalfSearches.{HalfAnswer, half_search}
+use Rattle.rx_spec.specs.Joining.{Answer, with_end}
+use Rattle.rx_spec.specs.Plans.{Plan, plan_build, unless_error, outcome}
+use Rattle.rx_spec.specs.Queries.{Query, Match, HalfMatch, MatchError}
+use Rattle.rx_spec.specs.Splits.{half_unsplit}
+use Rattle.rx_spec.specs.declared.Direction.{Direction}
+use Rattle.rx_meaning.proofs.ServedSearches.{end_by_tables, found_by_tables, tables_agree}
+use Rattle.rx_regex.specs.Find.{IsPaired, PlansFindTheSame}
 use Rattle.rx_regex.specs.Pairs.{AreTables, IsPair, Pair, forward_table, joined, reverse_table, whole}
-use Rattle.rx_regex.specs.Planned.{PairsAgree, PairsFind, planned}
+use Rattle.rx_regex.specs.Planned.{PairsAgree, PairsEnd, PairsFind, planned}
 use Rattle.rx_regex.proofs.Served.{serve_plan, serve_planned}
 
 -- a query that fits a haystack of bytes
@@ -29,12 +35,22 @@ pairs_find both es pair is safe built q bytes within =
     found_by_tables (planned both) es (forward_table pair) (reverse_table pair) safe
     (serve_planned both es is pair built) q bytes within
 
--- ---- they never disagree
+-- two plans of one line terminator find the same
+told_found : (searched : HalfAnswer) {wanted told : Option Match}
+    → ◌≡◌ {A = Answer} (unless_error searched (Ok wanted)) (Ok told) → told ≡ wanted
+told_found (Ok half_match) e = cc
+told_found (Err error) e = absurd (cc)
 
-pub pairs_agree : PairsAgree
-pairs_agree both es pair is safe built q bytes within end start =
-    tables_agree (planned both) es (forward_table pair) (reverse_table pair) safe
-    (serve_planned both es is pair built) q end start bytes within
+pub same_found : PlansFindTheSame
+same_found p other es q answer other_answer same is is_other =
+    let build = plan_build p Direction.Forward es in
+    let other_build = plan_build other Direction.Forward es in
+    told_found (half_search (power build) (build_settings build) Direction.Forward (whole q)) is.found
+    ∙ ap (λ (terminator : ℕ). found es terminator q) same
+    ∙ sym (told_found
+    (half_search (power other_build) (build_settings other_build) Direction.Forward (whole q)) is_other.found)
+
+-- ---- they never disagree
 
 abbrev Agree : Answer → Type 0
 Agree answer = (end : HalfMatch) (start : Option HalfMatch) → answer ≢ Err (MatchError.PairMismatch end start)
@@ -44,6 +60,40 @@ paired (Ok found) agree = tt
 paired (Err (MatchError.Quit byte offset)) agree = tt
 paired (Err (MatchError.UnsupportedAnchored mode)) agree = tt
 paired (Err (MatchError.PairMismatch end start)) agree = agree end start refl
+
+pub pairs_end : PairsEnd
+pairs_end both es pair is safe built q bytes within end told =
+    end_by_tables (planned both) es (forward_table pair) (reverse_table pair) safe
+    (serve_planned both es is pair built) q end bytes within told
+
+pub pairs_agree : PairsAgree
+pairs_agree both es pair is safe built q bytes within error e =
+    let f = forward_table pair in
+    let r = reverse_table pair in
+    let agree : Agree (joined pair q) = λ end start mismatch.
+    tables_agree (planned both) es f r safe (serve_planned both es is pair built) q end start bytes within mismatch in (
+      by_forward (half_unsplit f Direction.Forward q) refl,
+      subst (λ answer. IfErr answer IsPaired) e (paired (joined pair q) agree),
+    )
+  where
+    back : HalfAnswer → Answer
+    back told = with_end (half_unsplit (reverse_table pair) Direction.Reverse)
+        (forward_table pair).is_always_start_anchored q told
+
+    same_error : (other : MatchError) → ◌≡◌ {A = Answer} (Err other) (Err error)
+        → ◌≡◌ {A = HalfAnswer} (Err other) (Err error)
+    same_error other e = cc
+
+    no_error : (told : Option Match) → ◌≡◌ {A = Answer} (Ok told) (Err error) → ⊥
+    no_error told e = cc
+
+    by_forward : (told : HalfAnswer) → half_unsplit (forward_table pair) Direction.Forward q ≡ told
+        → half_unsplit (forward_table pair) Direction.Forward q ≡ Err error
+    by_forward (Err other) is_told = is_told ∙ same_error other (sym (ap back is_told) ∙ e)
+    by_forward (Ok None) is_told = absurd (no_error None (sym (ap back is_told) ∙ e))
+    by_forward (Ok (Some end)) is_told =
+        let ends = pairs_end both es pair is safe built q bytes within end is_told in
+        absurd (no_error (Some (record { pattern = end.pattern; start = ends.0; end = end.offset })) (sym ends.1 ∙ e))
 
 pub paired_by : {pair : Pair} → ∥ IsPair pair ∥₁ → (q : Query) → Searched q → IfErr (joined pair q) IsPaired
 paired_by {pair} planned q s =

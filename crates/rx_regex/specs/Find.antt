@@ -67,3 +67,9 @@ Answers p es q (Err (FindFault.Build error)) =
 Answers p es q (Err (FindFault.Quit byte offset)) = EndsBy p es q (MatchError.Quit byte offset)
 Answers p es q (Err (FindFault.Unsupported mode)) = EndsBy p es q (MatchError.UnsupportedAnchored (mode_of mode))
 Answers p es q (Err FindFault.Memory) = Unit {0}
+
+-- Two plans of one line terminator find the same: no other setting changes what is found.
+abbrev pub PlansFindTheSame : Type 0
+PlansFindTheSame = (p other : Plan) (es : List Expression) (q : Query) (answer other_answer : Answer)
+    → p.line_terminator ≡ other.line_terminator → Answers p es q (Ok answer) → Answers other es q (Ok other_answer)
+    → answer.found ≡ other_answer.found

@@ -1,13 +1,25 @@
-//! What pairs of tables answer that are built by settings of a caller's own.
+//! What searches by the tables of a plan answer, and by pairs that are built by settings of a caller's own.
 //!
-//! The function has an empty body, and its clauses are the laws.
+//! Each function has an empty body, and its clauses are the laws.
 
-ghost use Rattle.rx_regex.specs.Planned.{PairsAgree, PairsFind};
+ghost use Rattle.rx_regex.specs.Find.{PlansFindTheSame};
+ghost use Rattle.rx_regex.specs.Planned.{PairsAgree, PairsEnd, PairsFind, PairsServe};
 
 /// A pair that a [`crate::Builder`] makes leftmost-first, of expressions that are read forward, with matches that may
-/// begin and end anywhere, finds the leftmost match, as a plan's tables do, and its tables never disagree.
-#[tactic(auto, using(crate::proofs::Searches::pairs_find, crate::proofs::Searches::pairs_agree))]
+/// begin and end anywhere, finds the leftmost match, as a plan's tables do. Where its forward search tells an end, also
+/// the first that it meets, it answers a match that ends there; and its errors are those of the forward search.
 pub fn planned_pairs_find()
     ensures found { PairsFind }
+    ensures end { PairsEnd }
     ensures agree { PairsAgree }
+{}
+
+/// Such a pair serves its plan, so the laws of `rx_meaning` on tables that serve a plan can be cited of it.
+pub fn planned_pairs_serve()
+    ensures { PairsServe }
+{}
+
+/// Two plans of one line terminator give the same match for the same expressions and input.
+pub fn plans_find_the_same()
+    ensures { PlansFindTheSame }
 {}
