@@ -1,7 +1,7 @@
 -- At most one reply fits a command line and the bytes that were taken, but that a refused build names any cause, that
 -- sparse tables may be refused by a bound, and that an image is any of a table of the plan.
-use Rattle.std.proofs.Common.{◌≡◌, inl, inr, ℕ, ◌+◌, ◌≤◌, Bool, true, false, List, [], length}
-use Rattle.std.proofs.Common.{Option, Some, Result, Ok, Err, sym, ap, ◌∙◌, arith, subst}
+use Rattle.std.proofs.Common.{◌≡◌, ◌⊎◌, inl, inr, ℕ, ◌+◌, ◌≤◌, Bool, true, false, List, [], length}
+use Rattle.std.proofs.Common.{Option, Some, Result, Ok, Err, refl, sym, ap, ◌∙◌, arith, subst}
 use Rattle.rx_spec.specs.Expressions.{Expression}
 use Rattle.rx_spec.specs.Plans.{Plan, Cause, DirectionFits, DirectionRefused}
 use Rattle.rx_spec.specs.Queries.{Query, Match, MatchError}
@@ -9,17 +9,18 @@ use Rattle.rx_spec.specs.declared.Direction.{Direction}
 use Rattle.rx_plan.specs.Plan.{plan_of, usual}
 use Rattle.rx_regex.specs.Find.{PlanFits, PlanRefused}
 use Rattle.rx_script.specs.Faults.{Fault}
-use Rattle.rx_script.specs.Grammar.{Spelled}
+use Rattle.rx_script.specs.Grammar.{Spelled, Spells}
 use Rattle.rx_script.specs.Reading.{script_of}
 use Rattle.rx_script.proofs.ScriptRead.{script_read}
 use Rattle.rx_wire.specs.declared.order.Order.{Order}
 use Rattle.rx_main.specs.Commands.{Says}
 use Rattle.rx_main.specs.Lines.{Reply, IsRefusal, fault_reply, error_reply}
-use Rattle.rx_main.specs.Scripts.{AskedReplies, BuildReplies, IsScript, PlanReplies, ScriptReplies}
+use Rattle.rx_main.specs.Gen.{gen_patterns}
+use Rattle.rx_main.specs.Scripts.{AskedReplies, BuildReplies, PlanReplies, ScriptReplies}
 use Rattle.rx_main.specs.Find.{FindAnswers, found_reply, rows_text}
 use Rattle.rx_main.specs.Each.{EachAnswers}
 use Rattle.rx_main.specs.Image.{ImageAnswers, IsImageReply}
-use Rattle.rx_main.specs.Replies.{CommandReplies, IsBounded, ReadReplies, Replies, SayTheSame, most_bytes}
+use Rattle.rx_main.specs.Replies.{AsksFor, CommandReplies, IsBounded, ReadReplies, Replies, SayTheSame, most_bytes}
 use Rattle.rx_main.specs.declared.command.Command.{Command}
 use Rattle.rx_main.specs.declared.command.ReadCommand.{ReadCommand}
 use Rattle.rx_main.proofs.CommandWords.{spelled_once}
@@ -30,76 +31,12 @@ use Rattle.rx_main.proofs.RowCounts.{rows_once}
 abbrev IsOne : (Reply → Type 0) → Type 0
 IsOne Answers = (reply other : Reply) → Answers reply → Answers other → reply ≡ other
 
-abbrev AreAlike : (Reply → Type 0) → Type 0
-AreAlike Answers = (reply other : Reply) → Answers reply → Answers other → SayTheSame reply other
-
-alike_if_one : (Answers : Reply → Type 0) → IsOne Answers → AreAlike Answers
-alike_if_one Answers one reply other h k = SayTheSame.Same (one reply other h k)
-
--- ---- what is built
-
 any_cause : (Refused : Cause → Type 0) (reply : Reply) → IsRefusal Refused reply
     → IsRefusal (λ (cause : Cause). Unit {0}) reply
 any_cause Refused reply h = record { cause = h.cause; refused = tt; told = h.told }
 
--- a refusal of what isn't refused is one by a bound
-module _ (Refused : Cause → Type 0) (Fits : Type 0) (p : Plan) (es : List Expression)
-    (bounded : (reply : Reply) → IsRefusal Refused reply → Fits → IsBounded p es reply) where
-  built_alike : (Answers : Reply → Type 0) → AreAlike Answers → AreAlike (BuildReplies Refused Fits Answers)
-  built_alike Answers alike reply other (BuildReplies.Refused h) (BuildReplies.Refused k) =
-      SayTheSame.Refusals (any_cause Refused reply h) (any_cause Refused other k)
-  built_alike Answers alike reply other (BuildReplies.Refused h) (BuildReplies.Answered fits k) =
-      SayTheSame.Bounded p es (inl (bounded reply h fits))
-  built_alike Answers alike reply other (BuildReplies.Answered fits h) (BuildReplies.Refused k) =
-      SayTheSame.Bounded p es (inr (bounded other k fits))
-  built_alike Answers alike reply other (BuildReplies.Answered fits h) (BuildReplies.Answered also k) =
-      alike reply other h k
-
-plan_alike : (p : Plan) (es : List Expression) (Answers : Reply → Type 0) → IsOne Answers
-    → AreAlike (PlanReplies p es Answers)
-plan_alike p es Answers one =
-    built_alike (PlanRefused p es) (PlanFits p es) p es (plan_bounded p es) Answers (alike_if_one Answers one)
-
--- ---- scripts
-
--- the reply to what was read
-abbrev Told : (Spelled → Reply → Type 0) → Result Spelled Fault → Reply → Type 0
-Told Answers (Err fault) reply = reply ≡ fault_reply fault.line fault.kind
-Told Answers (Ok script) reply = Answers script reply
-
-module _ (with_input : Bool) (Answers : Spelled → Reply → Type 0) (text : List ℕ) where
-  script_told : (reply : Reply) → IsScript with_input text (λ script. Answers script reply)
-      → Told Answers (script_of with_input text) reply
-  script_told reply is =
-      subst (λ (read : Result Spelled Fault). Told Answers read reply)
-      (sym (script_read with_input text is.script is.spelled)) is.holds
-
-  told : (reply : Reply) → ScriptReplies with_input Answers text reply
-      → Told Answers (script_of with_input text) reply
-  told reply (ScriptReplies.TurnedDown is) =
-      subst (λ (read : Result Spelled Fault). Told Answers read reply) (sym is.fault) is.told
-  told reply (ScriptReplies.Answered is) = script_told reply is
-
-  told_alike : (read : Result Spelled Fault) (reply other : Reply) → ((script : Spelled) → AreAlike (Answers script))
-      → Told Answers read reply → Told Answers read other → SayTheSame reply other
-  told_alike (Err fault) reply other alike h k = SayTheSame.Same (h ∙ sym k)
-  told_alike (Ok script) reply other alike h k = alike script reply other h k
-
-  script_alike : ((script : Spelled) → AreAlike (Answers script)) → AreAlike (ScriptReplies with_input Answers text)
-  script_alike alike reply other h k =
-      told_alike (script_of with_input text) reply other alike (told reply h) (told other k)
-
--- ---- what is asked
-
 same_query : (asked : Option Query) (q other : Query) → asked ≡ Some q → asked ≡ Some other → other ≡ q
 same_query asked q other e f = cc
-
-asked_alike : (Answers : Spelled → Query → Reply → Type 0) → ((script : Spelled) (q : Query) → IsOne (Answers script q))
-    → (script : Spelled) → AreAlike (AskedReplies Answers script)
-asked_alike Answers one script reply other h k =
-    plan_alike (plan_of script.plan) script.exprs (Answers script h.query) (one script h.query) reply other h.replies
-    (subst (λ (q : Query). PlanReplies (plan_of script.plan) script.exprs (Answers script q) other)
-    (same_query script.asked h.query k.query h.asked k.asked) k.replies)
 
 -- ---- what is found
 
@@ -134,32 +71,125 @@ find_once script q reply other (FindAnswers.Fails error e h) (FindAnswers.Fails 
 each_once : (script : Spelled) (q : Query) → IsOne (EachAnswers script q)
 each_once script q reply other h k = h ∙ sym k
 
--- ---- images
+-- ---- what was read
 
-image_alike : (direction : Direction) (order : Order) (script : Spelled)
-    → AreAlike (ImageAnswers direction order script)
-image_alike direction order script =
-    let p = plan_of script.plan in
-    built_alike (DirectionRefused p direction script.exprs) (DirectionFits p direction script.exprs) p script.exprs
-    (direction_bounded p script.exprs direction) (IsImageReply p direction script.exprs order)
-    (λ reply other h k. SayTheSame.Images p direction script.exprs order h k)
+-- the reply to what was read
+abbrev Told : (Spelled → Reply → Type 0) → Result Spelled Fault → Reply → Type 0
+Told Answers (Err fault) reply = reply ≡ fault_reply fault.line fault.kind
+Told Answers (Ok script) reply = Answers script reply
 
--- ---- commands
+module _ (with_input : Bool) (Answers : Spelled → Reply → Type 0) (text : List ℕ) where
+  told : (reply : Reply) → ScriptReplies with_input Answers text reply
+      → Told Answers (script_of with_input text) reply
+  told reply (ScriptReplies.TurnedDown is) =
+      subst (λ (read : Result Spelled Fault). Told Answers read reply) (sym is.fault) is.told
+  told reply (ScriptReplies.Answered is) =
+      subst (λ (read : Result Spelled Fault). Told Answers read reply)
+      (sym (script_read with_input text is.script is.spelled)) is.holds
 
-read_alike : (command : ReadCommand) (bytes : List ℕ) → AreAlike (ReadReplies command bytes)
-read_alike ReadCommand.Find bytes =
-    script_alike true (AskedReplies FindAnswers) bytes (asked_alike FindAnswers find_once)
-read_alike ReadCommand.Each bytes =
-    script_alike true (AskedReplies EachAnswers) bytes (asked_alike EachAnswers each_once)
-read_alike (ReadCommand.Image direction order) bytes =
-    script_alike false (ImageAnswers direction order) bytes (image_alike direction order)
-read_alike (ReadCommand.Check form) bytes = λ reply other h k. SayTheSame.Same (h ∙ sym k)
+  -- the answer to the script that the text spells
+  told_of : (script : Spelled) → Spells with_input text script → (reply : Reply)
+      → ScriptReplies with_input Answers text reply → Answers script reply
+  told_of script spelled reply h =
+      subst (λ (read : Result Spelled Fault). Told Answers read reply)
+      (script_read with_input text script spelled) (told reply h)
 
-command_alike : (command : Command) (bytes : List ℕ) (ended also : Bool) (reply other : Reply)
-    → CommandReplies command bytes ended reply → CommandReplies command bytes also other → SayTheSame reply other
-command_alike (Command.Read command) bytes ended also reply other h k = read_alike command bytes reply other h.1 k.1
-command_alike (Command.Gen count) bytes ended also reply other h k =
-    plan_alike (plan_of usual) _ _ (λ r s e f. e ∙ sym f) reply other h.1 k.1
+-- ---- replies to words and bytes
+
+module _ (words : List (List ℕ)) (bytes : List ℕ) where
+  abbrev AreAlike : (Reply → Type 0) → Type 0
+  AreAlike Answers = (reply other : Reply) → Answers reply → Answers other → SayTheSame words bytes reply other
+
+  alike_if_one : (Answers : Reply → Type 0) → IsOne Answers → AreAlike Answers
+  alike_if_one Answers one reply other h k = SayTheSame.Same (one reply other h k)
+
+  -- a build that is asked for and whose refusal is one by a bound
+  pub record IsAskedBound (p : Plan) (es : List Expression) (reply : Reply) : Type 0 where
+    pub direction : Direction
+    pub asked : AsksFor words bytes p es direction
+    pub bounded : IsBounded p es direction reply
+
+  -- a refusal of what isn't refused is one by a bound
+  module _ (Refused : Cause → Type 0) (Fits : Type 0) (p : Plan) (es : List Expression)
+      (bounded : (reply : Reply) → IsRefusal Refused reply → Fits → IsAskedBound p es reply) where
+    built_alike : (Answers : Reply → Type 0) → AreAlike Answers → AreAlike (BuildReplies Refused Fits Answers)
+    built_alike Answers alike reply other (BuildReplies.Refused h) (BuildReplies.Refused k) =
+        SayTheSame.Refusals (any_cause Refused reply h) (any_cause Refused other k)
+    built_alike Answers alike reply other (BuildReplies.Refused h) (BuildReplies.Answered fits k) =
+        let by = bounded reply h fits in SayTheSame.Bounded p es by.direction by.asked (inl by.bounded)
+    built_alike Answers alike reply other (BuildReplies.Answered fits h) (BuildReplies.Refused k) =
+        let by = bounded other k fits in SayTheSame.Bounded p es by.direction by.asked (inr by.bounded)
+    built_alike Answers alike reply other (BuildReplies.Answered fits h) (BuildReplies.Answered also k) =
+        alike reply other h k
+
+  plan_alike : (p : Plan) (es : List Expression) → ((direction : Direction) → AsksFor words bytes p es direction)
+      → (Answers : Reply → Type 0) → IsOne Answers → AreAlike (PlanReplies p es Answers)
+  plan_alike p es asks Answers one =
+      built_alike (PlanRefused p es) (PlanFits p es) p es
+      (λ reply h fits.
+      let by = plan_bounded p es reply h fits in
+      record { direction = by.0; asked = asks by.0; bounded = by.1 })
+      Answers (alike_if_one Answers one)
+
+  -- ---- scripts
+
+  script_alike : (with_input : Bool) (Answers : Spelled → Reply → Type 0)
+      → ((script : Spelled) → Spells with_input bytes script → AreAlike (Answers script))
+      → AreAlike (ScriptReplies with_input Answers bytes)
+  script_alike with_input Answers alike reply other (ScriptReplies.Answered is) k =
+      alike is.script is.spelled reply other is.holds
+      (told_of with_input Answers bytes is.script is.spelled other k)
+  script_alike with_input Answers alike reply other (ScriptReplies.TurnedDown h) (ScriptReplies.Answered is) =
+      alike is.script is.spelled reply other
+      (told_of with_input Answers bytes is.script is.spelled reply (ScriptReplies.TurnedDown h)) is.holds
+  script_alike with_input Answers alike reply other (ScriptReplies.TurnedDown h) (ScriptReplies.TurnedDown k) =
+      let same = subst (λ (read : Result Spelled Fault). Told Answers read other) h.fault
+      (told with_input Answers bytes other (ScriptReplies.TurnedDown k)) in
+      SayTheSame.Same (h.told ∙ sym same)
+
+  asked_alike : (Answers : Spelled → Query → Reply → Type 0)
+      → ((script : Spelled) (q : Query) → IsOne (Answers script q))
+      → Says words (Command.Read ReadCommand.Find) ⊎ Says words (Command.Read ReadCommand.Each)
+      → (script : Spelled) → Spells true bytes script → AreAlike (AskedReplies Answers script)
+  asked_alike Answers one says script spelled reply other h k =
+      plan_alike (plan_of script.plan) script.exprs (λ direction. AsksFor.Search script says spelled refl refl)
+      (Answers script h.query) (one script h.query) reply other h.replies
+      (subst (λ (q : Query). PlanReplies (plan_of script.plan) script.exprs (Answers script q) other)
+      (same_query script.asked h.query k.query h.asked k.asked) k.replies)
+
+  image_alike : (direction : Direction) (order : Order)
+      → Says words (Command.Read (ReadCommand.Image direction order))
+      → (script : Spelled) → Spells false bytes script → AreAlike (ImageAnswers direction order script)
+  image_alike direction order says script spelled =
+      let p = plan_of script.plan in
+      built_alike (DirectionRefused p direction script.exprs) (DirectionFits p direction script.exprs) p script.exprs
+      (λ reply h fits. record {
+        direction = direction;
+        asked = AsksFor.Image order script says spelled refl refl;
+        bounded = direction_bounded p script.exprs direction reply h fits;
+      })
+      (IsImageReply p direction script.exprs order)
+      (λ reply other h k. SayTheSame.Images direction order script says spelled h k)
+
+  -- ---- commands
+
+  read_alike : (command : ReadCommand) → Says words (Command.Read command) → AreAlike (ReadReplies command bytes)
+  read_alike ReadCommand.Find says =
+      script_alike true (AskedReplies FindAnswers) (asked_alike FindAnswers find_once (inl says))
+  read_alike ReadCommand.Each says =
+      script_alike true (AskedReplies EachAnswers) (asked_alike EachAnswers each_once (inr says))
+  read_alike (ReadCommand.Image direction order) says =
+      script_alike false (ImageAnswers direction order) (image_alike direction order says)
+  read_alike (ReadCommand.Check form) says = λ reply other h k. SayTheSame.Same (h ∙ sym k)
+
+  command_alike : (command : Command) → Says words command → (ended also : Bool) (reply other : Reply)
+      → CommandReplies command bytes ended reply → CommandReplies command bytes also other
+      → SayTheSame words bytes reply other
+  command_alike (Command.Read command) says ended also reply other h k =
+      read_alike command says reply other h.1 k.1
+  command_alike (Command.Gen count) says ended also reply other h k =
+      plan_alike (plan_of usual) (gen_patterns count) (λ direction. AsksFor.Generated count says refl refl) _
+      (λ r s e f. e ∙ sym f) reply other h.1 k.1
 
 -- a command that reads and is answered read no more than the most
 long_not : (command : ReadCommand) (other : Command) (words : List (List ℕ)) (bytes : List ℕ) (ended : Bool)
@@ -174,7 +204,8 @@ long_not command other words bytes ended reply says long also h =
 -- ---- the reply
 
 pub one_reply : (words : List (List ℕ)) (bytes : List ℕ) (ended also_ended : Bool) (reply other : Reply)
-    → Replies words bytes ended reply → Replies words bytes also_ended other → SayTheSame reply other
+    → Replies words bytes ended reply → Replies words bytes also_ended other
+    → SayTheSame words bytes reply other
 one_reply words bytes ended also reply other (Replies.Usage none e h) (Replies.Usage nothing f k) =
     SayTheSame.Same (h ∙ sym k)
 one_reply words bytes ended also reply other (Replies.Usage none e h) (Replies.Long command says long k) =
@@ -192,5 +223,5 @@ one_reply words bytes ended also reply other (Replies.Answered command says h) (
 one_reply words bytes ended also reply other (Replies.Answered command says h) (Replies.Long c s l k) =
     absurd (long_not c command words bytes ended reply s l says h)
 one_reply words bytes ended also reply other (Replies.Answered command says h) (Replies.Answered c s k) =
-    command_alike command bytes ended also reply other h
+    command_alike words bytes command says ended also reply other h
     (subst (λ (d : Command). CommandReplies d bytes also other) (spelled_once c command words s says) k)

@@ -78,24 +78,29 @@ module _ (p : Plan) (es : List Expression) where
       absurd (fits.build.construction limit h.1.1 h.1.2)
 
   bounded : (direction : Direction) (cause : Cause) (reply : Reply) → reply ≡ refusal_reply cause
-      → IsByBound direction cause → IsBounded p es reply
+      → IsByBound direction cause → IsBounded p es direction reply
   bounded direction cause reply told by = record {
-    direction = direction;
     minimize = by.1;
     long = by.2;
     told = told ∙ ap refusal_reply by.0;
   }
 
   pub direction_bounded : (direction : Direction) (reply : Reply)
-      → IsRefusal (DirectionRefused p direction es) reply → DirectionFits p direction es → IsBounded p es reply
+      → IsRefusal (DirectionRefused p direction es) reply → DirectionFits p direction es
+      → IsBounded p es direction reply
   direction_bounded direction reply is fits =
       bounded direction is.cause reply is.told (by_bound direction is.cause is.refused fits)
 
-  pub plan_bounded : (reply : Reply) → IsRefusal (PlanRefused p es) reply → PlanFits p es → IsBounded p es reply
+  pub plan_bounded : (reply : Reply) → IsRefusal (PlanRefused p es) reply → PlanFits p es
+      → (direction : Direction) × IsBounded p es direction reply
   plan_bounded reply is fits =
       ⊎_elim
-      (λ (h : DirectionRefused p Direction.Forward es is.cause).
-      bounded Direction.Forward is.cause reply is.told (by_bound Direction.Forward is.cause h fits.forward))
-      (λ (h : DirectionFits p Direction.Forward es × DirectionRefused p Direction.Reverse es is.cause).
-      bounded Direction.Reverse is.cause reply is.told (by_bound Direction.Reverse is.cause h.1 fits.reverse))
+      (λ (h : DirectionRefused p Direction.Forward es is.cause). (
+        Direction.Forward,
+        bounded Direction.Forward is.cause reply is.told (by_bound Direction.Forward is.cause h fits.forward),
+      ))
+      (λ (h : DirectionFits p Direction.Forward es × DirectionRefused p Direction.Reverse es is.cause). (
+        Direction.Reverse,
+        bounded Direction.Reverse is.cause reply is.told (by_bound Direction.Reverse is.cause h.1 fits.reverse),
+      ))
       is.refused

@@ -1,17 +1,19 @@
 -- What the program replies to a command line and the bytes that were read.
-use Rattle.std.specs.Prelude.{ℕ, ◌≡◌, ◌+◌, ◌≤◌, ◌⊎◌, Bool, true, List, [], length}
+use Rattle.std.specs.Prelude.{ℕ, ◌≡◌, ◌+◌, ◌≤◌, ◌⊎◌, Bool, true, false, List, [], length}
 use Rattle.rx_spec.specs.Expressions.{Expression}
 use Rattle.rx_spec.specs.Causes.{BuildCause, HasTooLongRows}
 use Rattle.rx_spec.specs.Plans.{Plan, Cause, plan_build, plan_limits}
 use Rattle.rx_spec.specs.declared.Direction.{Direction}
 use Rattle.rx_wire.specs.declared.order.Order.{Order}
+use Rattle.rx_plan.specs.Plan.{plan_of, usual}
+use Rattle.rx_script.specs.Grammar.{Spelled, Spells}
 use Rattle.rx_main.specs.Commands.{Says, SaysNothing}
 use Rattle.rx_main.specs.Lines.{Reply, usage_reply, long_reply, refusal_reply, IsRefusal}
 use Rattle.rx_main.specs.Find.{FindReplies}
 use Rattle.rx_main.specs.Each.{EachReplies}
 use Rattle.rx_main.specs.Image.{ImageReplies, IsImageReply}
 use Rattle.rx_main.specs.Check.{CheckReplies}
-use Rattle.rx_main.specs.Gen.{GenReplies}
+use Rattle.rx_main.specs.Gen.{GenReplies, gen_patterns}
 use Rattle.rx_main.specs.declared.command.Command.{Command}
 use Rattle.rx_main.specs.declared.command.ReadCommand.{ReadCommand}
 
@@ -44,22 +46,35 @@ pub data Replies (words : List (List ℕ)) (bytes : List ℕ) (ended : Bool) (re
   Answered : (command : Command) → Says words command → CommandReplies command bytes ended reply
       → Replies words bytes ended reply
 
+-- A build that the words and the bytes ask for: in a direction, of the plan and the expressions of their script, or of
+-- those of `gen`.
+pub data AsksFor (words : List (List ℕ)) (bytes : List ℕ) (p : Plan) (es : List Expression) (direction : Direction)
+    : Type 0 where
+  Search : (script : Spelled)
+      → Says words (Command.Read ReadCommand.Find) ⊎ Says words (Command.Read ReadCommand.Each)
+      → Spells true bytes script → p ≡ plan_of script.plan → es ≡ script.exprs → AsksFor words bytes p es direction
+  Image : (order : Order) → (script : Spelled) → Says words (Command.Read (ReadCommand.Image direction order))
+      → Spells false bytes script → p ≡ plan_of script.plan → es ≡ script.exprs → AsksFor words bytes p es direction
+  Generated : (count : ℕ) → Says words (Command.Gen count) → p ≡ plan_of usual → es ≡ gen_patterns count
+      → AsksFor words bytes p es direction
+
 -- Sparse tables with the fewest rows are refused, since a bound passes of the length of their rows. They may be built
 -- all the same.
-pub record IsBounded (p : Plan) (es : List Expression) (reply : Reply) : Type 0 where
-  pub direction : Direction
+pub record IsBounded (p : Plan) (es : List Expression) (direction : Direction) (reply : Reply) : Type 0 where
   pub minimize : p.minimize ≡ true
   pub long : HasTooLongRows (plan_limits p) (plan_build p direction es)
   pub told : reply ≡ refusal_reply (Cause.DFA BuildCause.TooManyStates)
 
--- Two replies are the same, or each says that a build is refused: where several causes hold, any of them may be told.
--- Or one says that sparse tables are refused by a bound. Or each is an image of a table of one plan, for one direction
--- and in one order of bytes: rows of one kind may lie in any order.
-pub data SayTheSame (reply other : Reply) : Type 0 where
-  Same : reply ≡ other → SayTheSame reply other
+-- Two replies to the words and the bytes are the same, or each says that a build is refused: where several causes hold,
+-- any of them may be told. Or one says that the sparse tables that are asked for are refused by a bound. Or each is an
+-- image of the table that is asked for: rows of one kind may lie in any order.
+pub data SayTheSame (words : List (List ℕ)) (bytes : List ℕ) (reply other : Reply) : Type 0 where
+  Same : reply ≡ other → SayTheSame words bytes reply other
   Refusals : IsRefusal (λ (cause : Cause). Unit {0}) reply → IsRefusal (λ (cause : Cause). Unit {0}) other
-      → SayTheSame reply other
-  Bounded : (p : Plan) → (es : List Expression) → IsBounded p es reply ⊎ IsBounded p es other
-      → SayTheSame reply other
-  Images : (p : Plan) → (direction : Direction) → (es : List Expression) → (order : Order)
-      → IsImageReply p direction es order reply → IsImageReply p direction es order other → SayTheSame reply other
+      → SayTheSame words bytes reply other
+  Bounded : (p : Plan) → (es : List Expression) → (direction : Direction) → AsksFor words bytes p es direction
+      → IsBounded p es direction reply ⊎ IsBounded p es direction other → SayTheSame words bytes reply other
+  Images : (direction : Direction) → (order : Order) → (script : Spelled)
+      → Says words (Command.Read (ReadCommand.Image direction order)) → Spells false bytes script
+      → IsImageReply (plan_of script.plan) direction script.exprs order reply
+      → IsImageReply (plan_of script.plan) direction script.exprs order other → SayTheSame words bytes reply other
