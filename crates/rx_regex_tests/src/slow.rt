@@ -210,7 +210,7 @@ fn found(
     end: usize,
     anchored: bool,
 ) -> Result<String, AllocError> {
-    for position in start..end + 1 {
+    for position in start..end.saturating_add(1) {
         if anchored && position != start {
             break;
         }
