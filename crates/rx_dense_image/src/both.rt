@@ -4,7 +4,7 @@
 //! writes one behind the bytes before a place, and answers the place after it.
 
 pub use crate::closing::{is_in_range, is_named};
-pub use crate::head::{VERSION, split_head};
+pub use crate::head::{VERSION, split_dense_head, split_head};
 pub use crate::marks::{split_quit, split_special};
 pub use crate::put::{
     ENDIANNESS, context_number, flags_word, kind_number, put_plain, put_quit, put_special,

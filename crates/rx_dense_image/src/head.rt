@@ -78,7 +78,7 @@ pub fn split_head<'a>(
 
 /// The flags of a dense image, and the order of what follows its head.
 #[tactic(auto, unfolding(crate::specs::Heads::dense_head_at))]
-pub(crate) fn split_dense_head(bytes: &[u8]) -> Result<((Flags, Order), &[u8]), DeserializeError>
+pub fn split_dense_head(bytes: &[u8]) -> Result<((Flags, Order), &[u8]), DeserializeError>
     ensures { Gives (λ x. (x.0, x.1.now)) result (dense_head_at bytes.now) }
 {
     split_head(without_nuls(bytes), LABEL)
