@@ -10,6 +10,7 @@
 #![tactic(auto)]
 
 mod head;
+pub mod laws;
 mod read;
 mod tables;
 mod write;

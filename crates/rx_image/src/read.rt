@@ -61,9 +61,7 @@ fn split_dense_pair(
     let (forward, rest) = split_dense(alloc, order, bytes)?;
     let (reverse, rest) = split_dense(alloc, order, rest)?;
     if !have_same_patterns(&forward, &reverse) {
-        return Err(DeserializeError::generic(
-            "tables of different numbers of patterns",
-        ));
+        return Err(DeserializeError::generic("tables of different numbers of patterns"));
     }
     Ok((Tables::Dense(forward, reverse), rest))
 }
@@ -80,9 +78,7 @@ fn split_sparse_pair(
     let (forward, rest) = split_sparse(alloc, order, bytes)?;
     let (reverse, rest) = split_sparse(alloc, order, rest)?;
     if !have_same_patterns(&forward, &reverse) {
-        return Err(DeserializeError::generic(
-            "tables of different numbers of patterns",
-        ));
+        return Err(DeserializeError::generic("tables of different numbers of patterns"));
     }
     Ok((Tables::Sparse(forward, reverse), rest))
 }
@@ -100,9 +96,7 @@ fn split_dense(
     let (table, len) = OwnedDFA::from_bytes(alloc, bytes)?;
     let ((_, own), _) = split_dense_head(bytes)?;
     if !is_same_order(own, order) {
-        return Err(DeserializeError::generic(
-            "a table in another order than the pair",
-        ));
+        return Err(DeserializeError::generic("a table in another order than the pair"));
     }
     Ok((table, after(len, bytes)))
 }
@@ -119,9 +113,7 @@ fn split_sparse(
 {
     let (table, len) = DFA::<&[u8]>::from_bytes(alloc, bytes)?;
     if !is_same_order(table.order(), order) {
-        return Err(DeserializeError::generic(
-            "a table in another order than the pair",
-        ));
+        return Err(DeserializeError::generic("a table in another order than the pair"));
     }
     Ok((table, after(len, bytes)))
 }

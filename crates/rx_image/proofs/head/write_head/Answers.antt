@@ -9,5 +9,11 @@ returns g c =
     (and_then c.put_word-order.ensures.put
     (and_then c.put_word-version.ensures.put
     (of_word g.E.Endian.order c.form_number.ensures c.put_word.ensures.put))))
-    (omega (arith, c.requires, c.put_plain-label.ensures.place, c.put_word-order.ensures.place,
-    c.put_word-version.ensures.place, c.put_word.ensures.place))
+    (omega (
+      arith,
+      c.requires,
+      c.put_plain-label.ensures.place,
+      c.put_word-order.ensures.place,
+      c.put_word-version.ensures.place,
+      c.put_word.ensures.place,
+    ))
