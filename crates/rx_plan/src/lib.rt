@@ -75,6 +75,8 @@ impl Plan {
 pub enum Passage {
     /// As they were built.
     Direct,
-    /// Written as bytes and read back.
+    /// Each written as bytes of its own and read back.
     Bytes,
+    /// Written as one image of both and read back.
+    Pair,
 }

@@ -13,8 +13,8 @@ use Rattle.rx_script.specs.declared.plan_words.Choices.{Choices}
 use Rattle.rx_script.specs.Pieces.{cut}
 use Rattle.rx_script.specs.Names.{plan_name, all_plan_names, plan_name_of, start_of}
 use Rattle.rx_script.specs.Tokens.{number_of, one_byte, set_of_word}
-use Rattle.rx_script.specs.Plans.{unplanned, name_of, with_word, bare_word, valued_word, with_value, plan_word}
-use Rattle.rx_script.specs.Plans.{number_of_name, place_of, unless_seen, plan_from, none_seen, plan_of}
+use Rattle.rx_script.specs.Plans.{unplanned, name_of, chosen_by, with_word, bare_word, valued_word, with_value}
+use Rattle.rx_script.specs.Plans.{plan_word, number_of_name, place_of, unless_seen, plan_from, none_seen, plan_of}
 use Rattle.rx_script.specs.Grammar.{SpellsValue, SpellsWord, SpellsWords}
 use Rattle.rx_script.specs.Grammar.{AreDistinct, with_words, SpellsPlan}
 use Rattle.rx_script.proofs.Tables.{plan_name_spelled, plan_name_read, start_spelled, start_read}
@@ -55,6 +55,7 @@ bare_spelled PlanName.NoAccelerate word e = bare {made = PlanWord.NoAccelerate} 
 bare_spelled PlanName.Mark word e = bare {made = PlanWord.Mark} (refl, refl) e
 bare_spelled PlanName.Sparse word e = bare {made = PlanWord.Sparse} (refl, refl) e
 bare_spelled PlanName.Bytes word e = bare {made = PlanWord.Bytes} (refl, refl) e
+bare_spelled PlanName.Pair word e = bare {made = PlanWord.Pair} (refl, refl) e
 bare_spelled PlanName.Rows word e = bare {made = PlanWord.Rows} (refl, refl) e
 bare_spelled PlanName.Start word e = absurd cc
 bare_spelled PlanName.Quit word e = absurd cc
@@ -101,6 +102,7 @@ valued_spelled PlanName.NoAccelerate value word e = absurd cc
 valued_spelled PlanName.Mark value word e = absurd cc
 valued_spelled PlanName.Sparse value word e = absurd cc
 valued_spelled PlanName.Bytes value word e = absurd cc
+valued_spelled PlanName.Pair value word e = absurd cc
 valued_spelled PlanName.Rows value word e = absurd cc
 
 -- a name, and what stands after it
@@ -150,6 +152,7 @@ at_place PlanName.NoAccelerate = refl
 at_place PlanName.Mark = refl
 at_place PlanName.Sparse = refl
 at_place PlanName.Bytes = refl
+at_place PlanName.Pair = refl
 at_place PlanName.Rows = refl
 
 -- a test that each name passes
@@ -239,15 +242,16 @@ tail_read PlanWord.NoAccelerate after v = nothing_after PlanName.NoAccelerate Pl
 tail_read PlanWord.Mark after v = nothing_after PlanName.Mark PlanWord.Mark after v refl
 tail_read PlanWord.Sparse after v = nothing_after PlanName.Sparse PlanWord.Sparse after v refl
 tail_read PlanWord.Bytes after v = nothing_after PlanName.Bytes PlanWord.Bytes after v refl
+tail_read PlanWord.Pair after v = nothing_after PlanName.Pair PlanWord.Pair after v refl
 tail_read PlanWord.Rows after v = nothing_after PlanName.Rows PlanWord.Rows after v refl
 
 word_read : (text : List ℕ) (word : PlanWord) → SpellsWord word text → plan_word text ≡ Some word
 word_read text word s = ap plan_word s.2 ∙ tail_read word s.0 s.1
 
--- ---- names that were seen
+-- ---- what was chosen
 
-place_small : (name : PlanName) → number_of_name name < 15
-place_small name = ltb-true _ _ (of_each (λ n. ltb (number_of_name n) 15) refl name)
+place_small : (name : PlanName) → number_of_name name < 16
+place_small name = ltb-true _ _ (of_each (λ n. ltb (number_of_name n) 16) refl name)
 
 same_place : (name other : PlanName) → number_of_name name ≡ number_of_name other → name ≡ other
 same_place name other e =
@@ -264,14 +268,14 @@ none_is_seen name = not-true _ (of_each (λ n. not (get_or none_seen (number_of_
 
 all_unseen : (words : List PlanWord) → AllByRecursion (IsUnseen none_seen) words
 all_unseen [] = tt
-all_unseen (word ∷ words) = (none_is_seen (name_of word), all_unseen words)
+all_unseen (word ∷ words) = (none_is_seen (chosen_by word), all_unseen words)
 
--- what is unseen after a word is unseen before it, and has another name
+-- what is unseen after a word is unseen before it, and chooses another thing
 seen_less
-    : (seen : List Bool) (word other : PlanWord) → length seen ≡ 15 → IsUnseen (with_seen seen word) other
-    → (name_of other ≢ name_of word) × IsUnseen seen other
+    : (seen : List Bool) (word other : PlanWord) → length seen ≡ 16 → IsUnseen (with_seen seen word) other
+    → (chosen_by other ≢ chosen_by word) × IsUnseen seen other
 seen_less seen word other len e =
-    let place : place_of word < length seen = omega (arith, len, place_small (name_of word)) in
+    let place : place_of word < length seen = omega (arith, len, place_small (chosen_by word)) in
     let seen_now = get_or-set_same seen (place_of word) true false place in
     let differ = λ (same : place_of other ≡ place_of word).
     both_ways (get_or (with_seen seen word) (place_of word) false)
@@ -280,9 +284,9 @@ seen_less seen word other len e =
     (λ same. differ (ap number_of_name same), unseen)
 
 all_less
-    : (seen : List Bool) (word : PlanWord) (words : List PlanWord) → length seen ≡ 15
+    : (seen : List Bool) (word : PlanWord) (words : List PlanWord) → length seen ≡ 16
     → AllByRecursion (IsUnseen (with_seen seen word)) words
-    → AllByRecursion (λ other. name_of other ≢ name_of word) words × AllByRecursion (IsUnseen seen) words
+    → AllByRecursion (λ other. chosen_by other ≢ chosen_by word) words × AllByRecursion (IsUnseen seen) words
 all_less seen word [] len each = (tt, tt)
 all_less seen word (other ∷ others) len each =
     let one = seen_less seen word other len each.0 in
@@ -291,11 +295,11 @@ all_less seen word (other ∷ others) len each =
 
 all_more
     : (seen : List Bool) (word : PlanWord) (words : List PlanWord)
-    → AllByRecursion (λ other. name_of other ≢ name_of word) words → AllByRecursion (IsUnseen seen) words
+    → AllByRecursion (λ other. chosen_by other ≢ chosen_by word) words → AllByRecursion (IsUnseen seen) words
     → AllByRecursion (IsUnseen (with_seen seen word)) words
 all_more seen word [] differ unseen = tt
 all_more seen word (other ∷ others) differ unseen =
-    let apart = λ (e : place_of other ≡ place_of word). differ.0 (same_place (name_of other) (name_of word) e) in
+    let apart = λ (e : place_of other ≡ place_of word). differ.0 (same_place (chosen_by other) (chosen_by word) e) in
     let one = get_or-set_other seen (place_of word) (place_of other) true false apart ∙ unseen.0 in
     (one, all_more seen word others differ.1 unseen.1)
 
@@ -324,7 +328,7 @@ record MoreWords (choices : Choices) (seen : List Bool) (texts : List (List ℕ)
 
 word_in_front
     : {choices out : Choices} {seen : List Bool} {texts : List (List ℕ)} (text : List ℕ) (word : PlanWord)
-    → length seen ≡ 15 → plan_word text ≡ Some word → IsUnseen seen word
+    → length seen ≡ 16 → plan_word text ≡ Some word → IsUnseen seen word
     → IsRead (with_word word choices) (with_seen seen word) texts out → IsRead choices seen (text ∷ texts) out
 word_in_front {seen = seen} text word len w unseen r =
     let less = all_less seen word r.words len r.unseen in
@@ -337,7 +341,7 @@ word_in_front {seen = seen} text word len w unseen r =
     }
 
 word_spelled_first
-    : {choices out : Choices} {seen : List Bool} {texts : List (List ℕ)} (text : List ℕ) → length seen ≡ 15
+    : {choices out : Choices} {seen : List Bool} {texts : List (List ℕ)} (text : List ℕ) → length seen ≡ 16
     → MoreWords choices seen texts out → plan_from choices seen (text ∷ texts) ≡ Some out
     → IsRead choices seen (text ∷ texts) out
 word_spelled_first {choices = choices} {out = out} {seen = seen} {texts = texts} text len more e =
@@ -353,7 +357,7 @@ word_spelled_first {choices = choices} {out = out} {seen = seen} {texts = texts}
       ]
 
 from_spelled
-    : (choices : Choices) (seen : List Bool) (texts : List (List ℕ)) (out : Choices) → length seen ≡ 15
+    : (choices : Choices) (seen : List Bool) (texts : List (List ℕ)) (out : Choices) → length seen ≡ 16
     → plan_from choices seen texts ≡ Some out → IsRead choices seen texts out
 from_spelled choices seen [] out len e =
     record { words = []; spelled = tt; unseen = tt; distinct = tt; made = sym (same_Some choices out e) }

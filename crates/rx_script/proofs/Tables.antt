@@ -126,6 +126,7 @@ plan_name_read PlanName.NoAccelerate = refl
 plan_name_read PlanName.Mark = refl
 plan_name_read PlanName.Sparse = refl
 plan_name_read PlanName.Bytes = refl
+plan_name_read PlanName.Pair = refl
 plan_name_read PlanName.Rows = refl
 
 pub start_read : (kind : StartKind) → start_of (start_name kind) ≡ Some kind

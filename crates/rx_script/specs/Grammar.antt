@@ -17,7 +17,7 @@ use Rattle.rx_script.specs.declared.plan_words.PlanWord.{PlanWord}
 use Rattle.rx_script.specs.declared.plan_words.Choices.{Choices}
 use Rattle.rx_script.specs.Names.{line_name, head_name, look_name, greed_name, anchored_name, plan_name, start_name}
 use Rattle.rx_script.specs.Tokens.{number_limit}
-use Rattle.rx_script.specs.Plans.{unplanned, name_of, with_word}
+use Rattle.rx_script.specs.Plans.{unplanned, name_of, chosen_by, with_word}
 
 -- What a script says: its plan and whether it asks for the row counts, its expressions, and what is asked,
 -- where that is part of it.
@@ -234,10 +234,10 @@ SpellsWords [] (text ∷ texts) = ⊥
 SpellsWords (word ∷ words) [] = ⊥
 SpellsWords (word ∷ words) (text ∷ texts) = SpellsWord word text × SpellsWords words texts
 
--- no name stands twice
+-- no name stands twice, and not both bytes and pair stand: no two words choose the same thing
 abbrev pub AreDistinct : List PlanWord → Type 0
 AreDistinct [] = Unit {0}
-AreDistinct (word ∷ words) = AllByRecursion (λ other. name_of other ≢ name_of word) words × AreDistinct words
+AreDistinct (word ∷ words) = AllByRecursion (λ other. chosen_by other ≢ chosen_by word) words × AreDistinct words
 
 abbrev pub with_words : List PlanWord → Choices → Choices
 with_words [] choices = choices

@@ -91,6 +91,7 @@ plan_name PlanName.NoAccelerate = codes "noaccel"
 plan_name PlanName.Mark = codes "mark"
 plan_name PlanName.Sparse = codes "sparse"
 plan_name PlanName.Bytes = codes "bytes"
+plan_name PlanName.Pair = codes "pair"
 plan_name PlanName.Rows = codes "rows"
 
 abbrev pub all_plan_names : List PlanName
@@ -98,7 +99,7 @@ all_plan_names =
     PlanName.Start ∷ PlanName.Patterns ∷ PlanName.NoClasses ∷ PlanName.Quit ∷ PlanName.UnicodeWord
     ∷ PlanName.LineTerminator ∷ PlanName.NfaLimit ∷ PlanName.DfaLimit ∷ PlanName.DeterminizeLimit
     ∷ PlanName.Minimize ∷ PlanName.NoAccelerate ∷ PlanName.Mark ∷ PlanName.Sparse ∷ PlanName.Bytes
-    ∷ PlanName.Rows ∷ []
+    ∷ PlanName.Pair ∷ PlanName.Rows ∷ []
 
 -- for which modes there are starts
 abbrev pub start_name : StartKind → List ℕ

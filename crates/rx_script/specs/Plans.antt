@@ -15,7 +15,7 @@ use Rattle.rx_script.specs.Tokens.{number_of, one_byte, set_of_word}
 abbrev pub unplanned : Choices
 unplanned = record { plan = usual; rows = false }
 
--- what a word is about: a name stands at most once
+-- the name of a word
 abbrev pub name_of : PlanWord → PlanName
 name_of (PlanWord.Start kind) = PlanName.Start
 name_of PlanWord.Patterns = PlanName.Patterns
@@ -31,7 +31,13 @@ name_of PlanWord.NoAccelerate = PlanName.NoAccelerate
 name_of PlanWord.Mark = PlanName.Mark
 name_of PlanWord.Sparse = PlanName.Sparse
 name_of PlanWord.Bytes = PlanName.Bytes
+name_of PlanWord.Pair = PlanName.Pair
 name_of PlanWord.Rows = PlanName.Rows
+
+-- What a word chooses, by a name: each thing is chosen at most once. Bytes and pair choose the same thing.
+abbrev pub chosen_by : PlanWord → PlanName
+chosen_by PlanWord.Pair = PlanName.Bytes
+chosen_by word = name_of word
 
 -- what it changes
 abbrev pub with_word : PlanWord → Choices → Choices
@@ -49,6 +55,7 @@ with_word PlanWord.NoAccelerate c = record c { plan = record c.plan { accelerate
 with_word PlanWord.Mark c = record c { plan = record c.plan { mark_starts = true } }
 with_word PlanWord.Sparse c = record c { plan = record c.plan { form = Form.Sparse } }
 with_word PlanWord.Bytes c = record c { plan = record c.plan { passage = Passage.Bytes } }
+with_word PlanWord.Pair c = record c { plan = record c.plan { passage = Passage.Pair } }
 with_word PlanWord.Rows c = record c { rows = true }
 
 -- ---- one word
@@ -63,6 +70,7 @@ bare_word PlanName.NoAccelerate = Some PlanWord.NoAccelerate
 bare_word PlanName.Mark = Some PlanWord.Mark
 bare_word PlanName.Sparse = Some PlanWord.Sparse
 bare_word PlanName.Bytes = Some PlanWord.Bytes
+bare_word PlanName.Pair = Some PlanWord.Pair
 bare_word PlanName.Rows = Some PlanWord.Rows
 bare_word _ = None
 
@@ -102,12 +110,13 @@ number_of_name PlanName.NoAccelerate = 10
 number_of_name PlanName.Mark = 11
 number_of_name PlanName.Sparse = 12
 number_of_name PlanName.Bytes = 13
-number_of_name PlanName.Rows = 14
+number_of_name PlanName.Pair = 14
+number_of_name PlanName.Rows = 15
 
 abbrev pub place_of : PlanWord → ℕ
-place_of word = number_of_name (name_of word)
+place_of word = number_of_name (chosen_by word)
 
--- the words one after another; a name that was seen refuses
+-- the words one after another; a word refuses that chooses what was chosen before it
 abbrev pub unless_seen : Bool → Option Choices → Option Choices
 unless_seen true rest = None
 unless_seen false rest = rest
@@ -122,7 +131,7 @@ plan_from choices seen (text ∷ texts) =
     (plan_word text)
 
 abbrev pub none_seen : List Bool
-none_seen = replicate 15 false
+none_seen = replicate 16 false
 
 -- what the words after plan say
 abbrev pub plan_of : List (List ℕ) → Option Choices

@@ -45,6 +45,7 @@ pub enum PlanName {
     Mark,
     Sparse,
     Bytes,
+    Pair,
     Rows,
 }
 
@@ -88,7 +89,7 @@ const LOOKS: [Look; 18] = [
 
 const TRUTHS: [bool; 2] = [true, false];
 
-const PLAN_NAMES: [PlanName; 15] = [
+const PLAN_NAMES: [PlanName; 16] = [
     PlanName::Start,
     PlanName::Patterns,
     PlanName::NoClasses,
@@ -103,6 +104,7 @@ const PLAN_NAMES: [PlanName; 15] = [
     PlanName::Mark,
     PlanName::Sparse,
     PlanName::Bytes,
+    PlanName::Pair,
     PlanName::Rows,
 ];
 
@@ -188,6 +190,7 @@ fn plan_name(name: PlanName) -> &'static [u8]
         PlanName::Mark => b"mark",
         PlanName::Sparse => b"sparse",
         PlanName::Bytes => b"bytes",
+        PlanName::Pair => b"pair",
         PlanName::Rows => b"rows",
     }
 }

@@ -11,7 +11,7 @@ use rx_base::{ByteSet, StartKind};
 use rx_plan::{Form, Passage, Plan};
 
 /// How many names plan words have.
-const NAMES: usize = 15;
+const NAMES: usize = 16;
 
 /// What a plan line says: a plan, and whether the row counts are asked for.
 #[derive(Drop)]
@@ -37,13 +37,14 @@ pub enum PlanWord {
     Mark,
     Sparse,
     Bytes,
+    Pair,
     Rows,
 }
 
-/// The place of the word's name among the names.
+/// The place among the names of what the word chooses. `bytes` and `pair` choose the same, so they share a place.
 fn place(word: &PlanWord) -> usize
     ensures value { result ≡ place_of word.now }
-    ensures small { result < 15 }
+    ensures small { result < 16 }
 {
     match word {
         PlanWord::Start(_) => 0,
@@ -59,8 +60,8 @@ fn place(word: &PlanWord) -> usize
         PlanWord::NoAccelerate => 10,
         PlanWord::Mark => 11,
         PlanWord::Sparse => 12,
-        PlanWord::Bytes => 13,
-        PlanWord::Rows => 14,
+        PlanWord::Bytes | PlanWord::Pair => 13,
+        PlanWord::Rows => 15,
     }
 }
 
@@ -95,6 +96,7 @@ impl Choices {
             PlanWord::Mark => plan.mark_starts = true,
             PlanWord::Sparse => plan.form = Form::Sparse,
             PlanWord::Bytes => plan.passage = Passage::Bytes,
+            PlanWord::Pair => plan.passage = Passage::Pair,
             PlanWord::Rows => self.rows = true,
         }
     }
@@ -113,6 +115,7 @@ fn bare_word(name: PlanName) -> Option<PlanWord>
         PlanName::Mark => Some(PlanWord::Mark),
         PlanName::Sparse => Some(PlanWord::Sparse),
         PlanName::Bytes => Some(PlanWord::Bytes),
+        PlanName::Pair => Some(PlanWord::Pair),
         PlanName::Rows => Some(PlanWord::Rows),
         _ => None,
     }
@@ -145,7 +148,7 @@ fn plan_word(word: &[u8]) -> Option<PlanWord>
     }
 }
 
-/// What the words after `plan` say, where each is known and no name stands twice.
+/// What the words after `plan` say, where each is known, no name stands twice, and not both `bytes` and `pair` stand.
 pub fn plan_line(words: Option<&[u8]>) -> Option<Choices>
     ensures { result ≡ plan_of (words_left words.entry) }
 {

@@ -67,6 +67,10 @@ fn the_first_fault_is_told(rt: HostRuntime) -> Result<(), Fail> {
         ("plan start=all", 1, BadKind::Plan),
         ("plan patterns=", 1, BadKind::Plan),
         ("plan rows rows", 1, BadKind::Plan),
+        ("plan pair pair", 1, BadKind::Plan),
+        ("plan bytes pair", 1, BadKind::Plan),
+        ("plan pair rows bytes", 1, BadKind::Plan),
+        ("plan pair=1", 1, BadKind::Plan),
         ("plan quit=61 quit=62", 1, BadKind::Plan),
         ("plan quit=62-61", 1, BadKind::Plan),
         ("plan quit=61=62", 1, BadKind::Plan),
@@ -184,6 +188,25 @@ fn every_plan_word_is_taken(rt: HostRuntime) -> Result<(), Fail> {
     assert!(rt; read.rows && has_every_word(&read.plan));
     let input = read.input.ok_or("no input")?;
     assert!(rt; input.mode.pattern() == Some(PatternID::new(2147483646)?));
+    Ok(())
+}
+
+#[test]
+fn one_word_at_most_says_how_tables_are_passed_on(rt: HostRuntime) -> Result<(), Fail> {
+    let cases: &[(&str, Passage)] = &[
+        ("plan", Passage::Direct),
+        ("plan bytes", Passage::Bytes),
+        ("plan pair", Passage::Pair),
+        ("plan rows pair sparse", Passage::Pair),
+    ];
+    for (text, passage) in cases {
+        let read = script(rt.alloc(), text, false)?;
+        assert!(rt;
+            read.plan.passage == *passage,
+            "{text}: {:?}",
+            read.plan.passage
+        );
+    }
     Ok(())
 }
 
