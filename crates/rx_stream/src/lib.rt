@@ -6,6 +6,7 @@
 //!
 //! Call [`StreamSearcher::feed`] with a piece until it tells nothing, each time from the place that the last call
 //! returned. Then feed the next piece. At the end of the text call [`StreamSearcher::finish`] until it tells nothing.
+//! [`skip`] is for walks of a caller's own over a piece.
 #![tactic(auto)]
 
 mod event;
@@ -13,8 +14,9 @@ pub mod examples;
 pub mod laws;
 mod place;
 mod searcher;
-mod skip;
+mod skips;
 mod walk;
 
 pub use event::{Fed, StreamEvent};
 pub use searcher::StreamSearcher;
+pub use skips::skip;

@@ -5,7 +5,7 @@ ghost use Rattle.rx_spec.specs.Ids.{row_of};
 ghost use Rattle.rx_search.specs.Starts.{IsId};
 ghost use Rattle.rx_stream.specs.Pieces.{HaltsAt, IsQuietWalk};
 
-use crate::skip::skip;
+use crate::skips::skip;
 use rx_base::StateID;
 use rx_search::Automaton;
 

@@ -11,7 +11,7 @@ use rx_search::{Automaton, first_needle};
 /// To which place in a piece a walk may pass from a row and a place, since the bytes between lead the row to itself:
 /// to the next needle, or to the end of the piece. A row without needles stays.
 #[inline(always)]
-pub(crate) fn skip<A: Automaton>(table: &A, row: StateID, piece: &[u8], from: usize) -> usize
+pub fn skip<A: Automaton>(table: &A, row: StateID, piece: &[u8], from: usize) -> usize
     requires sound { A.IsSound table.now }
     requires is_id { IsId (A.ids table.now) row }
     requires within { from ≤ length piece.now }

@@ -3,7 +3,7 @@ use Rattle.rx_search.specs.Needles.{IsFirstNeedle}
 use Rattle.rx_search.proofs.Standing.{standing}
 use Rattle.rx_search.proofs.Needles.{some_needles}
 use Rattle.rx_stream.proofs.Pieces.{skip_found, skip_none, rest_of_piece}
-use Rattle.rx_stream.proofs.skip.skip.Goals as goal
+use Rattle.rx_stream.proofs.skips.skip.Goals as goal
 
 pub returns-in-Some : goal.returns-in-Some
 returns-in-Some g c =
