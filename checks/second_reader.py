@@ -1,11 +1,12 @@
-"""A second reader of table images, written from the format's description alone.
+"""A second reader of images of tables and of pairs, written from the format's description alone.
 
-`read(form, data)` answers a Table, or raises Refused with the kind of the first test that fails. `search` and
-`join` walk tables that were read. Nothing here is shared with the program.
+`read(form, data)` and `read_pair(data)` return tables with the length of the image, or raise Refused with the kind of the
+first test that fails. `half` and `join` walk tables that were read. Nothing here is shared with the program.
 """
 
 MAX_ID = 2147483646
 LABELS = {"dense": b"rust-regex-automata-dfa-dense", "sparse": b"rust-regex-automata-dfa-sparse"}
+PAIR_LABEL = b"rust-regex-automata-pair"
 NO_NUMBER = 0xFFFFFFFF
 EOI = 256
 TEXT = 2
@@ -50,21 +51,29 @@ class Table:
 # ---- parts of both forms
 
 
-def read_head(f, form):
-    if form == "dense":
-        while f.at < 7 and f.at < len(f.data) and f.data[f.at] == 0:
-            f.at += 1
+def read_label(f, label):
     left = f.data[f.at:]
     text, nul, _ = left[:256].partition(b"\0")
     ensure(nul)
     size = (len(text) + 1 + 3) // 4 * 4
     ensure(len(left) >= size)
-    ensure(text == LABELS[form], "label")
+    ensure(text == label, "label")
     f.at += size
+
+
+def read_order_and_version(f, version):
     word = f.number()
     ensure(word in (0xFEFF, 0xFFFE0000), "endian")
     f.order = "little" if word == 0xFEFF else "big"
-    ensure(f.number() == 2, "version")
+    ensure(f.number() == version, "version")
+
+
+def read_head(f, form):
+    if form == "dense":
+        while f.at < 7 and f.at < len(f.data) and f.data[f.at] == 0:
+            f.at += 1
+    read_label(f, LABELS[form])
+    read_order_and_version(f, 2)
     f.number()
     return f.number()
 
@@ -284,12 +293,42 @@ def read(form, data):
     """A table, and how many bytes its image has."""
     f = Fields(data)
     t = read_dense(f) if form == "dense" else read_sparse(f)
+    t.order = f.order
     return t, f.at
 
 
+# ---- pairs
+
+
+def pair_head(form, order):
+    """The first 40 bytes of a pair's image."""
+    words = (0xFEFF, 3, ("dense", "sparse").index(form))
+    return PAIR_LABEL.ljust(28, b"\0") + b"".join(word.to_bytes(4, order) for word in words)
+
+
+def read_pair(data):
+    """The forward table, the one in reverse, and how many bytes the image of both has."""
+    f = Fields(data)
+    read_label(f, PAIR_LABEL)
+    read_order_and_version(f, 3)
+    number = f.number()
+    ensure(number <= 1)
+    tables = []
+    for _ in range(2):
+        t, size = read(("dense", "sparse")[number], data[f.at:])
+        ensure(t.order == f.order)
+        f.at += size
+        tables.append(t)
+    ensure(tables[0].pattern_len == tables[1].pattern_len)
+    return tables[0], tables[1], f.at
+
+
 def answer(form, data):
-    """The line of a check, and its status."""
+    """The line of a check, and its status. The form may be `pair`."""
     try:
+        if form == "pair":
+            forward, reverse, size = read_pair(data)
+            return "ok %d %d %d %d" % (forward.rows, reverse.rows, forward.pattern_len, size), 0
         t, size = read(form, data)
     except Refused as refused:
         return "refused %s" % refused.kind, 1

@@ -1,4 +1,11 @@
-//! The head of a pair image: a label, the word that tells the order, the version, and the form.
+//! The head of a pair image.
+//!
+//! | bytes | what |
+//! |---|---|
+//! | 0 to 27 | the label, a NUL, and padding |
+//! | 28 to 31 | the word 0xFEFF, which tells the order of all numbers |
+//! | 32 to 35 | the version |
+//! | 36 to 39 | the form of both tables: 0 is dense, 1 is sparse |
 
 ghost use Rattle.std.specs.Prelude.{◌≡◌, ◌↔◌, IsTrue, length, true};
 ghost use Rattle.std.specs.Int.{w32};
@@ -9,19 +16,19 @@ use rx_dense_image::both::{ENDIANNESS, put_plain, put_word};
 use rx_spec::Form;
 use rx_wire::{DeserializeError, Endian, Order, split_label, split_order};
 
-/// How many bytes the head has.
+/// The length of the head in bytes.
 pub(crate) const HEAD_LEN: usize = 40;
 
 /// The label of pair images.
 const LABEL: &str = "rust-regex-automata-pair";
 
-/// The label with its NUL and its padding.
+/// The label as it is written: with a NUL, padded with NULs to a multiple of 4 bytes.
 const PADDED_LABEL: [u8; 28] = *b"rust-regex-automata-pair\0\0\0\0";
 
-/// The version that is read and written.
+/// The version that is read and written. Images of single tables have version 2.
 const VERSION: u32 = 3;
 
-/// The number of a form.
+/// The number that stands for a form.
 fn form_number(form: Form) -> u32
     ensures { result ≡ form_number form }
 {
@@ -31,7 +38,7 @@ fn form_number(form: Form) -> u32
     }
 }
 
-/// Writes the head into a destination that it fills.
+/// Fills `dst`, of 40 bytes, with the head.
 pub(crate) fn write_head<E: Endian>(form: Form, dst: &mut [u8])
     requires { length dst.old ≡ 40 }
     ensures { dst.new ≡ head_text E.order form }
@@ -42,7 +49,7 @@ pub(crate) fn write_head<E: Endian>(form: Form, dst: &mut [u8])
     put_word::<E>(form_number(form), dst, version);
 }
 
-/// The form of a number.
+/// The form that a number stands for, or an error of kind `Generic` if it is above 1.
 fn form_of(number: u32) -> Result<Form, DeserializeError>
     ensures { GivesExactly (λ form. form) result (form_of number) }
 {
@@ -53,7 +60,8 @@ fn form_of(number: u32) -> Result<Form, DeserializeError>
     }
 }
 
-/// The order and the form of both tables, and the bytes after the head.
+/// Splits the head off: the order and the form of both tables, and the bytes after the head. No NUL may stand before
+/// the label.
 #[tactic(auto, unfolding(crate::specs::Pairs::head_at))]
 pub(crate) fn split_head(bytes: &[u8]) -> Result<((Order, Form), &[u8]), DeserializeError>
     ensures { GivesExactly (λ x. (x.0, x.1.now)) result (head_at bytes.now) }
@@ -66,7 +74,7 @@ pub(crate) fn split_head(bytes: &[u8]) -> Result<((Order, Form), &[u8]), Deseria
     Ok(((order, form), rest))
 }
 
-/// Whether two orders are one.
+/// Whether two orders are the same.
 pub(crate) fn is_same_order(order: Order, other: Order) -> bool
     ensures { result ≡ is_same_order order other }
 {

@@ -1,12 +1,16 @@
-//! One image for two tables: a forward one and one in reverse.
+//! One image for the two tables of a pair: a forward one and one in reverse.
 //!
-//! [`dense_pair`] and [`sparse_pair`] write the tables of a pair as one image, and [`read_pair`] reads it again,
-//! whoever wrote it. With the [`Tables`] that it gives a search needs no expression: build once, ship one file, and
-//! search anywhere.
+//! [`dense_pair`] and [`sparse_pair`] write both tables as one image, and [`read_pair`] reads such an image, whoever
+//! wrote it. The [`Tables`] that it returns can be searched without the expressions that they were built of: build
+//! once, ship one file, and search anywhere.
 //!
-//! The contract: an image is a head and the images of both tables, all in one order of bytes (`text` in
-//! `specs/Pairs.antt`), and one definition (`reads`) says which layouts bytes spell, or which kind of test they fail
-//! first. Both tables that are read are sound.
+//! An image is a head of 40 bytes, the image of the forward table and the image of the table in reverse. All three are
+//! in one order, little endian or big endian. The head has the label `rust-regex-automata-pair`, the order, version 3
+//! and the form. The two images are those that [`rx_dense_image`] or [`rx_sparse_image`] write.
+//!
+//! The contract: the writers return the bytes of two layouts (`text` in `specs/Pairs.antt`). The reader returns what
+//! one definition (`reads`) says of the bytes: the two layouts that they spell, or the kind of the first test that
+//! fails. Both tables that are read are sound, and can be written and read again ([`laws`]).
 #![tactic(auto)]
 
 mod head;

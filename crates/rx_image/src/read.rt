@@ -4,6 +4,9 @@ ghost use Rattle.std.specs.Prelude.{◌≡◌, ◌≤◌, ◌==◌, IfOk, drop, 
 ghost use Rattle.rx_wire.specs.Kinds.{Gives};
 ghost use Rattle.rx_dense.specs.Facts.{IsSoundLayout};
 ghost use Rattle.rx_sparse.specs.Facts.{IsSoundLayout as IsSoundSparse};
+ghost use Rattle.rx_dense_image.specs.Images.{IsWhole};
+ghost use Rattle.rx_sparse_image.specs.Tested.{IsWhole as IsWholeSparse};
+ghost use Rattle.rx_image.specs.Pairs.{AreWhole, HaveSamePatterns};
 ghost use Rattle.rx_image.specs.Pairs.{dense_at, dense_pair_at, pair_at, reads, sparse_at, sparse_pair_at};
 ghost use Rattle.rx_image.specs.Tables.{AreSound, pair_of};
 
@@ -19,13 +22,31 @@ use rx_spec::Form;
 use rx_wire::{DeserializeError, Order};
 use std::alloc::Global;
 
-/// The pair of tables that bytes begin with, and how many of them it takes. Dense tables are copied from the image,
-/// sparse ones lie in it.
+/// Reads the pair of tables that `slice` begins with. Returns it with the length of its image in bytes; the bytes after
+/// the image aren't read.
 ///
-/// The error has the kind of the first test that fails, or says that memory ran out.
+/// The image may be of either form and in either order. Dense tables are copied from it. Sparse tables borrow it, and
+/// take memory only while they are tested. Both tables are sound, so they can be searched at once. They can be written
+/// and read again.
+///
+/// # Errors
+///
+/// The error has the kind of the first test that fails, or `Memory` if memory runs out. The tests, in order:
+///
+/// | what is tested | kind |
+/// |---|---|
+/// | the label, with its NUL and padding | `Generic` if `slice` ends in it or no NUL comes, else `LabelMismatch` |
+/// | the word of the order: 0xFEFF | `BufferTooSmall`, `EndianMismatch` |
+/// | the version: 3 | `BufferTooSmall`, `VersionMismatch` |
+/// | the form: 0 or 1 | `BufferTooSmall`, `Generic` |
+/// | the image of the forward table | that of `from_bytes` of the form |
+/// | the order of that image: the pair's | `Generic` |
+/// | the image of the table in reverse, and its order | likewise |
+/// | both have the same number of patterns | `Generic` |
 #[tactic(auto, unfolding(crate::specs::Pairs::reads))]
 pub fn read_pair(alloc: Global, slice: &[u8]) -> Result<(Tables<'_>, usize), DeserializeError>
     ensures read { Gives (λ x. (pair_of x.0, x.1)) result (reads slice.now) }
+    ensures whole { IfOk result (λ x. AreWhole (pair_of x.0) × HaveSamePatterns (pair_of x.0)) }
     ensures sound { IfOk result (λ x. AreSound x.0) }
 {
     let ((order, form), rest) = split_head(slice)?;
@@ -33,7 +54,7 @@ pub fn read_pair(alloc: Global, slice: &[u8]) -> Result<(Tables<'_>, usize), Des
     Ok((tables, slice.len().saturating_sub(rest.len())))
 }
 
-/// Both tables, and the bytes after them.
+/// Both tables in a form, which must have an order, and the bytes after them.
 fn split_tables(
     alloc: Global,
     order: Order,
@@ -41,6 +62,7 @@ fn split_tables(
     bytes: &[u8],
 ) -> Result<(Tables<'_>, &[u8]), DeserializeError>
     ensures read { Gives (λ x. (pair_of x.0, x.1.now)) result (pair_at order form bytes.now) }
+    ensures whole { IfOk result (λ x. AreWhole (pair_of x.0) × HaveSamePatterns (pair_of x.0)) }
     ensures sound { IfOk result (λ x. AreSound x.0) }
 {
     match form {
@@ -49,6 +71,7 @@ fn split_tables(
     }
 }
 
+/// Two dense tables in an order, the forward one first, and the bytes after both. They must have as many patterns.
 #[tactic(auto, unfolding(crate::specs::Pairs::dense_pair_at))]
 fn split_dense_pair(
     alloc: Global,
@@ -56,6 +79,7 @@ fn split_dense_pair(
     bytes: &[u8],
 ) -> Result<(Tables<'_>, &[u8]), DeserializeError>
     ensures read { Gives (λ x. (pair_of x.0, x.1.now)) result (dense_pair_at order bytes.now) }
+    ensures whole { IfOk result (λ x. AreWhole (pair_of x.0) × HaveSamePatterns (pair_of x.0)) }
     ensures sound { IfOk result (λ x. AreSound x.0) }
 {
     let (forward, rest) = split_dense(alloc, order, bytes)?;
@@ -66,6 +90,7 @@ fn split_dense_pair(
     Ok((Tables::Dense(forward, reverse), rest))
 }
 
+/// Two sparse tables in an order, the forward one first, and the bytes after both. They must have as many patterns.
 #[tactic(auto, unfolding(crate::specs::Pairs::sparse_pair_at))]
 fn split_sparse_pair(
     alloc: Global,
@@ -73,6 +98,7 @@ fn split_sparse_pair(
     bytes: &[u8],
 ) -> Result<(Tables<'_>, &[u8]), DeserializeError>
     ensures read { Gives (λ x. (pair_of x.0, x.1.now)) result (sparse_pair_at order bytes.now) }
+    ensures whole { IfOk result (λ x. AreWhole (pair_of x.0) × HaveSamePatterns (pair_of x.0)) }
     ensures sound { IfOk result (λ x. AreSound x.0) }
 {
     let (forward, rest) = split_sparse(alloc, order, bytes)?;
@@ -83,7 +109,7 @@ fn split_sparse_pair(
     Ok((Tables::Sparse(forward, reverse), rest))
 }
 
-/// A dense table in an order, and the bytes after its image.
+/// A dense table, whose image must be in an order, and the bytes after the image.
 #[tactic(auto, unfolding(crate::specs::Pairs::dense_at))]
 fn split_dense(
     alloc: Global,
@@ -91,6 +117,7 @@ fn split_dense(
     bytes: &[u8],
 ) -> Result<(OwnedDFA, &[u8]), DeserializeError>
     ensures read { Gives (λ x. (x.0, x.1.now)) result (dense_at order bytes.now) }
+    ensures whole { IfOk result (λ x. IsWhole x.0) }
     ensures sound { IfOk result (λ x. IsSoundLayout x.0) }
 {
     let (table, len) = OwnedDFA::from_bytes(alloc, bytes)?;
@@ -101,7 +128,7 @@ fn split_dense(
     Ok((table, after(len, bytes)))
 }
 
-/// A sparse table in an order, and the bytes after its image.
+/// A sparse table, whose image must be in an order, and the bytes after the image.
 #[tactic(auto, unfolding(crate::specs::Pairs::sparse_at))]
 fn split_sparse(
     alloc: Global,
@@ -109,6 +136,7 @@ fn split_sparse(
     bytes: &[u8],
 ) -> Result<(DFA<&[u8]>, &[u8]), DeserializeError>
     ensures read { Gives (λ x. (x.0, x.1.now)) result (sparse_at order bytes.now) }
+    ensures whole { IfOk result (λ x. IsWholeSparse x.0.layout) }
     ensures sound { IfOk result (λ x. IsSoundSparse x.0.layout) }
 {
     let (table, len) = DFA::<&[u8]>::from_bytes(alloc, bytes)?;
@@ -118,7 +146,7 @@ fn split_sparse(
     Ok((table, after(len, bytes)))
 }
 
-/// The bytes after so many.
+/// The bytes after the first `len`.
 fn after(len: usize, bytes: &[u8]) -> &[u8]
     requires { len ≤ length bytes.now }
     ensures { result.now ≡ drop len bytes.now }
@@ -126,7 +154,7 @@ fn after(len: usize, bytes: &[u8]) -> &[u8]
     &bytes[len..]
 }
 
-/// Whether two tables are of as many patterns.
+/// Whether two tables have the same number of patterns.
 fn have_same_patterns<A: Automaton>(forward: &A, reverse: &A) -> bool
     ensures { result ≡ ((A.table forward.now).pattern_len == (A.table reverse.now).pattern_len) }
 {

@@ -14,7 +14,10 @@ use rx_spec::Form;
 use rx_wire::{BE, LE, Order};
 use std::alloc::{AllocError, Global};
 
-/// The image of two dense tables of as many patterns, with all numbers in one order.
+/// Writes two dense tables as one image, with all numbers in one order: a head of 40 bytes, the forward table's image
+/// and the image of the table in reverse. Both must have the same number of patterns.
+///
+/// Returns an error only if memory for the image runs out.
 #[tactic(auto, unfolding(crate::specs::Pairs::text))]
 pub fn dense_pair(
     alloc: Global,
@@ -35,8 +38,11 @@ pub fn dense_pair(
     Ok(bytes)
 }
 
-/// The image of two sparse tables of as many patterns, with all numbers in one order, whatever order the tables' own
-/// bytes have.
+/// Writes two sparse tables as one image, with all numbers in one order: a head of 40 bytes, the forward table's image
+/// and the image of the table in reverse. Both must have the same number of patterns. The bytes of either table may be
+/// in another order than the image.
+///
+/// Returns an error only if memory for the image runs out.
 #[tactic(auto, unfolding(crate::specs::Pairs::text))]
 pub fn sparse_pair<T: ByteStore>(
     alloc: Global,
@@ -57,7 +63,7 @@ pub fn sparse_pair<T: ByteStore>(
     Ok(bytes)
 }
 
-/// Room for the head and for two images of these lengths.
+/// Bytes for the head and for two images of these lengths, all 0.
 fn image_room(alloc: Global, forward: usize, reverse: usize) -> Result<Vec<u8>, AllocError>
     ensures { IfOk result (λ bytes. length bytes.items ≡ 40 + (forward + reverse)) }
 {
@@ -65,7 +71,7 @@ fn image_room(alloc: Global, forward: usize, reverse: usize) -> Result<Vec<u8>, 
     vec![in alloc; 0; HEAD_LEN.saturating_add(tables)]
 }
 
-/// Writes the head into a destination that it fills.
+/// Fills `dst`, of 40 bytes, with the head.
 fn put_head(order: Order, form: Form, dst: &mut [u8])
     requires { length dst.old ≡ 40 }
     ensures { dst.new ≡ head_text order form }
@@ -76,7 +82,7 @@ fn put_head(order: Order, form: Form, dst: &mut [u8])
     }
 }
 
-/// Writes the image of a dense table into a destination that it fills.
+/// Fills `dst` with the image of a dense table.
 fn fill_dense(order: Order, dfa: &OwnedDFA, dst: &mut [u8])
     requires { length dst.old ≡ length (dense.text order dfa.now) }
     ensures { dst.new ≡ dense.text order dfa.now }
@@ -88,7 +94,7 @@ fn fill_dense(order: Order, dfa: &OwnedDFA, dst: &mut [u8])
     prove!(written.is_ok());
 }
 
-/// Writes the image of a sparse table into a destination that it fills.
+/// Fills `dst` with the image of a sparse table.
 fn fill_sparse<T: ByteStore>(order: Order, dfa: &DFA<T>, dst: &mut [u8])
     requires { length dst.old ≡ length (sparse.text order dfa.now.layout) }
     ensures { dst.new ≡ sparse.text order dfa.now.layout }

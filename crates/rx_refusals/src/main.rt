@@ -1,5 +1,5 @@
 //! Builds, writes, reads, copies and searches the tables of a pattern that matches everywhere and of none, in both
-//! forms. A tool refuses it memory, one allocation in a run: then the call that meets the refusal has to say so, what
+//! forms, alone and as a pair. A tool refuses it memory, one allocation in a run: then the call that meets the refusal has to say so, what
 //! was there before has to be as it was, and the same calls have to succeed when they are made again.
 //!
 //! It writes a line for each table, and before it one for a call that was refused. The status is 0 where none was, 7
@@ -15,11 +15,12 @@ use rx_build::dense::DenseBuild;
 use rx_build::{BuildError, BuildErrorKind};
 use rx_dense::{DFA, OwnedDFA};
 use rx_dense_image::{DenseRead, DenseWrite};
+use rx_image::{Tables, dense_pair, read_pair, sparse_pair};
 use rx_search::Automaton;
 use rx_sparse::DFA as SparseDFA;
 use rx_sparse_build::SparseBuild;
 use rx_sparse_image::{SparseRead, SparseWrite};
-use rx_wire::{DeserializeError, DeserializeErrorKind};
+use rx_wire::{DeserializeError, DeserializeErrorKind, Order};
 use std::alloc::Global;
 use std::io;
 use std::process::ExitCode;
@@ -98,9 +99,11 @@ impl Case {
     /// Makes all calls.
     fn run(self, alloc: Global) -> Result<(), Fault> {
         if self.is_sparse {
-            self.run_sparse(alloc)
+            self.run_sparse(alloc)?;
+            self.run_sparse_pair(alloc)
         } else {
-            self.run_dense(alloc)
+            self.run_dense(alloc)?;
+            self.run_dense_pair(alloc)
         }
     }
 
@@ -205,6 +208,50 @@ impl Case {
                 self.search(&dfa)?;
                 Err(Fault::Memory("to_owned"))
             }
+        }
+    }
+
+    /// Writes a dense table in both places of a pair, and reads it again.
+    fn run_dense_pair(self, alloc: Global) -> Result<(), Fault> {
+        let dfa = self.build_dense(alloc)?;
+        for order in [Order::Little, Order::Big] {
+            let Ok(image) = dense_pair(alloc, order, &dfa, &dfa) else {
+                self.search(&dfa)?;
+                return Err(Fault::Memory("dense_pair"));
+            };
+            self.read_pair(alloc, image.as_slice())?;
+        }
+        Ok(())
+    }
+
+    /// Writes a sparse table in both places of a pair, and reads it again.
+    fn run_sparse_pair(self, alloc: Global) -> Result<(), Fault> {
+        let dfa = self.build_sparse(alloc)?;
+        for order in [Order::Little, Order::Big] {
+            let Ok(image) = sparse_pair(alloc, order, &dfa, &dfa) else {
+                self.search(&dfa)?;
+                return Err(Fault::Memory("sparse_pair"));
+            };
+            self.read_pair(alloc, image.as_slice())?;
+        }
+        Ok(())
+    }
+
+    /// Reads the image of a pair of the same table twice, and searches by both.
+    fn read_pair(self, alloc: Global, image: &[u8]) -> Result<(), Fault> {
+        match read_pair(alloc, image) {
+            Ok((_, len)) if len != self.size().saturating_mul(2).saturating_add(40) => {
+                Err(Fault::Wrong("read_pair"))
+            }
+            Ok((Tables::Dense(forward, reverse), _)) => {
+                self.search(&forward)?;
+                self.search(&reverse)
+            }
+            Ok((Tables::Sparse(forward, reverse), _)) => {
+                self.search(&forward)?;
+                self.search(&reverse)
+            }
+            Err(error) => Err(read_fault(&error, "read_pair")),
         }
     }
 }
