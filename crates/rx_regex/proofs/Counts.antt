@@ -11,7 +11,8 @@ use Rattle.rx_dense.specs.Layouts.{Layout, table_of}
 use Rattle.rx_sparse.specs.Layouts as sparse
 use Rattle.rx_sparse_build.proofs.Served.{sparse_least, sparse_power}
 use Rattle.rx_regex.specs.Images.{IsDense, IsSparse}
-use Rattle.rx_regex.specs.Pairs.{AreBuilt, AreTables, Pair, forward_table, reverse_table}
+use Rattle.rx_image.specs.Pairs.{Pair}
+use Rattle.rx_regex.specs.Pairs.{AreBuilt, AreTables, forward_table, reverse_table}
 use Rattle.rx_regex.specs.Rows.{CountsRows, HasRows, HaveRows}
 use Rattle.rx_regex.specs.Settings.{settings_of}
 

@@ -7,7 +7,8 @@ use Rattle.rx_spec.specs.Iterating.{FoundMatches, is_repeat, unless_repeat, and_
 use Rattle.rx_spec.specs.Joining.{Answer}
 use Rattle.rx_spec.specs.Plans.{Plan, outcome}
 use Rattle.rx_spec.specs.Queries.{Query, Match, MatchError, LiesIn}
-use Rattle.rx_regex.specs.Pairs.{AreTables, Pair, joined, whole}
+use Rattle.rx_image.specs.Pairs.{Pair}
+use Rattle.rx_regex.specs.Pairs.{AreTables, joined, whole}
 use Rattle.rx_regex.proofs.Searches.{Searched, outcome_by}
 
 abbrev from : Query → ℕ → Query

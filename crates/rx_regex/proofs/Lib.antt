@@ -7,5 +7,7 @@ pub mod Whole
 -- searches of them, one and all
 pub mod Searches
 pub mod Iterated
+-- images of both tables, and searches by them
+pub mod PairImages
 -- the whole search
 pub mod Faults

@@ -15,7 +15,8 @@ use Rattle.rx_spec.specs.Splits.{half_unsplit}
 use Rattle.rx_spec.specs.declared.Direction.{Direction}
 use Rattle.rx_meaning.proofs.ServedSearches.{end_by_tables, found_by_tables, tables_agree}
 use Rattle.rx_regex.specs.Find.{IsPaired, PlansFindTheSame}
-use Rattle.rx_regex.specs.Pairs.{AreTables, IsPair, Pair, forward_table, joined, reverse_table, whole}
+use Rattle.rx_image.specs.Pairs.{Pair}
+use Rattle.rx_regex.specs.Pairs.{AreTables, IsPair, forward_table, joined, reverse_table, whole}
 use Rattle.rx_regex.specs.Planned.{PairsAgree, PairsEnd, PairsFind, planned}
 use Rattle.rx_regex.proofs.Served.{serve_plan, serve_planned}
 

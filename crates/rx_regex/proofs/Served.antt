@@ -23,7 +23,8 @@ use Rattle.rx_sparse_build.proofs.Served.{sparse_serves}
 use Rattle.rx_regex.specs.Planned.{IsPlanned, planned}
 use Rattle.rx_regex.specs.Images as images
 use Rattle.rx_regex.specs.Settings.{settings_of}
-use Rattle.rx_regex.specs.Pairs.{AreBuilt, AreTables, Pair, forward_table, reverse_table}
+use Rattle.rx_image.specs.Pairs.{Pair}
+use Rattle.rx_regex.specs.Pairs.{AreBuilt, AreTables, forward_table, reverse_table}
 
 utf8_of : (direction : Direction) (terminator : ℕ) (utf8 : Bool) (es : List Expression)
     → (nfa_of direction terminator utf8 es).is_utf8 ≡ utf8

@@ -31,7 +31,7 @@ few_quits p Direction.Forward few = few
 few_quits p Direction.Reverse few = few
 
 -- reading of one image gives one table
-same_read : {X : Type 0} (x y : X) (m n : ℕ) (read : Result (X × ℕ) Kind) → read ≡ Ok (x, m) → read ≡ Ok (y, n)
+pub same_read : {X : Type 0} (x y : X) (m n : ℕ) (read : Result (X × ℕ) Kind) → read ≡ Ok (x, m) → read ≡ Ok (y, n)
     → x ≡ y
 same_read {X} x y m n read e f =
     let same : (x, m) ≡ (y, n) = cc in

@@ -1,7 +1,7 @@
 -- Pairs of tables of either form, and matches by them.
 use Rattle.std.specs.Prelude.{List, Result}
 use Rattle.rx_spec.specs.Queries.{Match, MatchError}
-use Rattle.rx_regex.specs.Pairs.{Pair}
+use Rattle.rx_image.specs.Pairs.{Pair}
 use Rattle.rx_regex.specs.declared.built_matches.FormMatches.{FormMatches}
 use Rattle.rx_regex.specs.declared.tables.Tables.{Tables}
 

@@ -1,18 +1,24 @@
--- One table of a plan, and images of it.
+-- One table of a plan and images of it, and images of both.
 use Rattle.std.specs.Prelude.{◌≡◌, ℕ, List, length, Ok}
+use Rattle.rx_spec.specs.Bytes.{AreBytes}
 use Rattle.rx_spec.specs.Expressions.{Expression}
-use Rattle.rx_spec.specs.Plans.{Plan}
+use Rattle.rx_spec.specs.Plans.{Plan, outcome}
+use Rattle.rx_spec.specs.Queries.{IsFit, Query}
 use Rattle.rx_spec.specs.declared.Direction.{Direction}
 use Rattle.rx_spec.specs.declared.Form.{Form}
 use Rattle.rx_dense.specs.Layouts.{Layout}
 use Rattle.rx_dense_image.specs.Images as dense
+use Rattle.rx_image.specs.Pairs.{Pair, in_order, reads, text}
 use Rattle.rx_regex_builder.specs.Pairs.{in_direction}
 use Rattle.rx_regex_builder.specs.Pairs as dense_pairs
 use Rattle.rx_regex_builder.specs.SparsePairs as sparse_pairs
 use Rattle.rx_sparse.specs.Layouts.{Stored}
 use Rattle.rx_sparse_image.specs.Images as sparse
 use Rattle.rx_wire.specs.declared.order.Order.{Order}
+use Rattle.rx_regex.specs.Pairs.{AreTables, joined, whole}
 use Rattle.rx_regex.specs.Settings.{settings_of}
+
+-- ---- one table
 
 -- It is built of these expressions by what the plan asks for in this direction: it says of every word what the plan's
 -- build says, has as many rows as that asks for, in their order, and is accelerated and marked as asked.
@@ -46,3 +52,19 @@ IsImageOf Form.Sparse p direction es order bytes = IsSparseImage p direction es 
 -- an image of a table of the plan's form
 abbrev pub IsImage : Plan → Direction → List Expression → Order → List ℕ → Type 0
 IsImage p direction es order bytes = IsImageOf p.form p direction es order bytes
+
+-- ---- both tables
+
+-- Bytes are an image of the two tables of a plan: they are their text, and whoever reads them has the tables, sparse
+-- ones with their bytes in the order of the image, all bytes read.
+pub record IsPairImage (p : Plan) (es : List Expression) (order : Order) (bytes : List ℕ) : Type 0 where
+  pub pair : Pair
+  pub tables : AreTables p es pair
+  pub written : bytes ≡ text order pair
+  pub read : reads bytes ≡ Ok (in_order order pair, length bytes)
+
+-- Searches by the tables that are read from such an image answer what the plan and its expressions say.
+abbrev pub ImagePairsFind : Type 0
+ImagePairsFind = (p : Plan) (es : List Expression) (order : Order) (bytes : List ℕ) → IsPairImage p es order bytes
+    → (pair : Pair) (size : ℕ) → reads bytes ≡ Ok (pair, size)
+    → (q : Query) → AreBytes q.haystack → IsFit q → joined pair (whole q) ≡ outcome p es q

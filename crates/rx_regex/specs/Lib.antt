@@ -3,7 +3,7 @@ pub mod Settings
 pub mod Pairs
 pub mod Forms
 pub mod Tables
--- one table, and images of it
+-- one table, images of it, and images of both
 pub mod Images
 -- pairs that are built as a plan's are
 pub mod Planned

@@ -8,15 +8,11 @@ use Rattle.rx_spec.specs.Tables.{Table}
 use Rattle.rx_spec.specs.declared.Form.{Form}
 use Rattle.rx_build.specs.Builders.{Both}
 use Rattle.rx_dense.specs.Layouts as dense
+use Rattle.rx_image.specs.Pairs.{Pair}
 use Rattle.rx_regex_builder.specs.Pairs as dense_pairs
 use Rattle.rx_regex_builder.specs.SparsePairs as sparse_pairs
 use Rattle.rx_sparse.specs.Layouts as sparse
 use Rattle.rx_regex.specs.Settings.{settings_of}
-
--- two tables of one form: for searches forward and in reverse
-pub data Pair : Type 0 where
-  Dense : (forward : dense.Layout) → (reverse : dense.Layout) → Pair
-  Sparse : (forward : sparse.Stored) → (reverse : sparse.Stored) → Pair
 
 abbrev pub form_of : Pair → Form
 form_of (Pair.Dense f r) = Form.Dense

@@ -15,7 +15,8 @@ use Rattle.rx_expr.specs.Settings as thompson
 use Rattle.rx_meaning.specs.Joined.{IsMatch}
 use Rattle.rx_meaning.specs.Tables.{ServePlan}
 use Rattle.rx_regex.specs.Find.{IsPaired}
-use Rattle.rx_regex.specs.Pairs.{AreBuilt, Pair, forward_table, joined, reverse_table, whole}
+use Rattle.rx_image.specs.Pairs.{Pair}
+use Rattle.rx_regex.specs.Pairs.{AreBuilt, forward_table, joined, reverse_table, whole}
 
 -- The expressions are read forward, the preferred match is told, and it may begin and end anywhere.
 pub record IsPlanned (both : Both) : Type 0 where

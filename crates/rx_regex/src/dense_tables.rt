@@ -1,4 +1,5 @@
-//! Dense tables of a plan: built by the settings that it asks for, and taken through bytes where it says so.
+//! Dense tables of a plan: built by the settings that it asks for, and taken through bytes or through an image of both
+//! where it says so.
 
 ghost use Rattle.std.specs.Prelude.{◌≡◌, ◌<◌, ◌^◌, All, IfOk, IfErr, OnOk};
 ghost use Rattle.rx_spec.specs.Expressions.{IsLoopSafe};
@@ -6,10 +7,11 @@ ghost use Rattle.rx_spec.specs.Plans.{DirectionFits, DirectionRefused};
 ghost use Rattle.rx_spec.specs.declared.Form.{Form};
 ghost use Rattle.rx_build_error.specs.Refusals.{IsRefused};
 ghost use Rattle.rx_dense_image.specs.Images.{IsWhole};
+ghost use Rattle.rx_image.specs.Pairs.{AreWhole, HaveSamePatterns, Pair};
 ghost use Rattle.rx_plan.specs.Plan.{plan_of};
 ghost use Rattle.rx_regex.specs.Find.{PlanFits, PlanRefused};
 ghost use Rattle.rx_regex.specs.Images.{IsDense};
-ghost use Rattle.rx_regex.specs.Pairs.{AreTables, Pair};
+ghost use Rattle.rx_regex.specs.Pairs.{AreTables};
 
 use crate::planned::pair_builder;
 use rx_base::Direction;
@@ -17,8 +19,10 @@ use rx_build::BuildError;
 use rx_dense::OwnedDFA;
 use rx_dense_image::{DenseRead, DenseWrite};
 use rx_expr::Expr;
+use rx_image::{Tables, read_pair};
 use rx_pair::Regex;
 use rx_plan::{Passage, Plan};
+use rx_wire::Order;
 use std::alloc::{AllocError, Global};
 
 /// Both tables. The forward one is built, and may be refused, first.
@@ -35,10 +39,13 @@ pub(crate) fn dense_pair(
 {
     let forward = dense_table(alloc, exprs, plan, Direction::Forward)?;
     let reverse = dense_table(alloc, exprs, plan, Direction::Reverse)?;
-    Ok(Regex::new(forward, reverse))
+    match plan.passage {
+        Passage::Direct | Passage::Bytes => Ok(Regex::new(forward, reverse)),
+        Passage::Pair => Ok(read_pair_back(alloc, &forward, &reverse)?),
+    }
 }
 
-/// The table that is searched in a direction.
+/// The table that is searched in a direction. Alone it isn't taken through an image of both.
 pub(crate) fn dense_table(
     alloc: Global,
     exprs: &[Expr],
@@ -57,7 +64,7 @@ pub(crate) fn dense_table(
     prove!(plan.quit.halves().1 >> 127 <= 1);
     let table = pair_builder(plan).build_one(alloc, exprs, direction)?;
     match plan.passage {
-        Passage::Direct => Ok(table),
+        Passage::Direct | Passage::Pair => Ok(table),
         Passage::Bytes => Ok(read_back(alloc, &table)?),
     }
 }
@@ -71,5 +78,23 @@ fn read_back(alloc: Global, table: &OwnedDFA) -> Result<OwnedDFA, AllocError>
     match OwnedDFA::from_bytes(alloc, &image) {
         Ok((back, _)) => Ok(back),
         Err(_) => Err(AllocError),
+    }
+}
+
+/// Tables that were written as one image and are read back. Only want of memory may come between.
+fn read_pair_back(
+    alloc: Global,
+    forward: &OwnedDFA,
+    reverse: &OwnedDFA,
+) -> Result<Regex<OwnedDFA>, AllocError>
+    requires whole { AreWhole (Pair.Dense forward.now reverse.now) }
+    requires patterns { HaveSamePatterns (Pair.Dense forward.now reverse.now) }
+    ensures forward { IfOk result (λ back. back.forward ≡ forward.now) }
+    ensures reverse { IfOk result (λ back. back.reverse ≡ reverse.now) }
+{
+    let image = rx_image::dense_pair(alloc, Order::Little, forward, reverse)?;
+    match read_pair(alloc, &image) {
+        Ok((Tables::Dense(forward, reverse), _)) => Ok(Regex::new(forward, reverse)),
+        _ => Err(AllocError),
     }
 }

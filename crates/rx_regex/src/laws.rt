@@ -1,8 +1,10 @@
-//! What searches by the tables of a plan answer, and by pairs that are built by settings of a caller's own.
+//! What searches by the tables of a plan answer, also by those that are read from an image, and by pairs that are built
+//! by settings of a caller's own.
 //!
 //! Each function has an empty body, and its clauses are the laws.
 
 ghost use Rattle.rx_regex.specs.Find.{PlansFindTheSame};
+ghost use Rattle.rx_regex.specs.Images.{ImagePairsFind};
 ghost use Rattle.rx_regex.specs.Planned.{PairsAgree, PairsEnd, PairsFind, PairsServe};
 
 /// A pair that a [`crate::Builder`] makes leftmost-first, of expressions that are read forward, with matches that may
@@ -22,4 +24,10 @@ pub fn planned_pairs_serve()
 /// Two plans of one line terminator give the same match for the same expressions and input.
 pub fn plans_find_the_same()
     ensures { PlansFindTheSame }
+{}
+
+/// The tables that are read from an image of a plan's pair find what that plan and its expressions say. So who has the
+/// image searches as [`crate::compile_and_find`] does, and needs neither.
+pub fn image_pairs_find()
+    ensures { ImagePairsFind }
 {}

@@ -1,26 +1,31 @@
-//! Sparse tables of a plan: built by the settings that it asks for, and taken through bytes where it says so.
+//! Sparse tables of a plan: built by the settings that it asks for, and taken through bytes or through an image of both
+//! where it says so.
 
 ghost use Rattle.std.specs.Prelude.{◌≡◌, ◌<◌, ◌^◌, All, IfOk, IfErr, OnOk};
 ghost use Rattle.rx_spec.specs.Expressions.{IsLoopSafe};
 ghost use Rattle.rx_spec.specs.Plans.{DirectionFits, DirectionRefused};
 ghost use Rattle.rx_spec.specs.declared.Form.{Form};
 ghost use Rattle.rx_build_error.specs.Refusals.{IsRefused};
+ghost use Rattle.rx_image.specs.Pairs.{AreWhole, HaveSamePatterns, Pair};
+ghost use Rattle.rx_image.specs.Tables.{AreSound, pair_of};
 ghost use Rattle.rx_plan.specs.Plan.{plan_of};
 ghost use Rattle.rx_sparse.specs.Facts.{IsSoundLayout};
 ghost use Rattle.rx_sparse_image.specs.Tested.{IsWhole};
 ghost use Rattle.rx_wire.specs.declared.order.Order.{Order};
 ghost use Rattle.rx_regex.specs.Find.{PlanFits, PlanRefused};
 ghost use Rattle.rx_regex.specs.Images.{IsSparse};
-ghost use Rattle.rx_regex.specs.Pairs.{AreTables, Pair};
+ghost use Rattle.rx_regex.specs.Pairs.{AreTables};
 
 use crate::planned::pair_builder;
 use rx_base::Direction;
 use rx_build::BuildError;
 use rx_expr::Expr;
+use rx_image::{Tables, read_pair};
 use rx_pair::Regex;
 use rx_plan::{Passage, Plan};
 use rx_sparse::DFA;
 use rx_sparse_image::{SparseRead, SparseWrite};
+use rx_wire::Order;
 use std::alloc::{AllocError, Global};
 
 /// Both tables. The forward one is built, and may be refused, first.
@@ -37,10 +42,13 @@ pub(crate) fn sparse_pair(
 {
     let forward = sparse_table(alloc, exprs, plan, Direction::Forward)?;
     let reverse = sparse_table(alloc, exprs, plan, Direction::Reverse)?;
-    Ok(Regex::new(forward, reverse))
+    match plan.passage {
+        Passage::Direct | Passage::Bytes => Ok(Regex::new(forward, reverse)),
+        Passage::Pair => Ok(read_pair_back(alloc, &forward, &reverse)?),
+    }
 }
 
-/// The table that is searched in a direction.
+/// The table that is searched in a direction. Alone it isn't taken through an image of both.
 pub(crate) fn sparse_table(
     alloc: Global,
     exprs: &[Expr],
@@ -60,7 +68,7 @@ pub(crate) fn sparse_table(
     prove!(plan.quit.halves().1 >> 127 <= 1);
     let table = pair_builder(plan).build_one_sparse(alloc, exprs, direction)?;
     match plan.passage {
-        Passage::Direct => Ok(table),
+        Passage::Direct | Passage::Pair => Ok(table),
         Passage::Bytes => Ok(read_back(alloc, &table)?),
     }
 }
@@ -75,5 +83,41 @@ fn read_back(alloc: Global, table: &DFA<Vec<u8>>) -> Result<DFA<Vec<u8>>, AllocE
     match DFA::<&[u8]>::from_bytes(alloc, &image) {
         Ok((lent, _)) => lent.to_owned(alloc),
         Err(_) => Err(AllocError),
+    }
+}
+
+/// Tables that were written as one image and are read back, with bytes of their own. Only want of memory may come
+/// between.
+fn read_pair_back(
+    alloc: Global,
+    forward: &DFA<Vec<u8>>,
+    reverse: &DFA<Vec<u8>>,
+) -> Result<Regex<DFA<Vec<u8>>>, AllocError>
+    requires whole { AreWhole (Pair.Sparse forward.now reverse.now) }
+    requires patterns { HaveSamePatterns (Pair.Sparse forward.now reverse.now) }
+    requires forward_little { forward.now.order ≡ Order.Little }
+    requires reverse_little { reverse.now.order ≡ Order.Little }
+    ensures forward { IfOk result (λ back. back.forward ≡ forward.now) }
+    ensures reverse { IfOk result (λ back. back.reverse ≡ reverse.now) }
+{
+    let image = rx_image::sparse_pair(alloc, Order::Little, forward, reverse)?;
+    match read_pair(alloc, &image) {
+        Ok((tables, _)) => with_own_bytes(alloc, &tables),
+        Err(_) => Err(AllocError),
+    }
+}
+
+/// Sparse tables that lie in an image, with bytes of their own.
+fn with_own_bytes(alloc: Global, tables: &Tables<'_>) -> Result<Regex<DFA<Vec<u8>>>, AllocError>
+    requires { AreSound tables.now }
+    ensures { IfOk result (λ pair. pair_of tables.now ≡ Pair.Sparse pair.forward pair.reverse) }
+{
+    match tables {
+        Tables::Sparse(forward, reverse) => {
+            let forward = forward.to_owned(alloc)?;
+            let reverse = reverse.to_owned(alloc)?;
+            Ok(Regex::new(forward, reverse))
+        }
+        Tables::Dense(..) => Err(AllocError),
     }
 }

@@ -2,6 +2,8 @@
 #![tactic(auto)]
 
 #[cfg(test)]
+mod pair_images;
+#[cfg(test)]
 mod pairs;
 #[cfg(test)]
 mod slow;

@@ -12,7 +12,7 @@ use std::test::Fail;
 
 /// What a plan has that is not usual.
 #[derive(Clone, Copy)]
-enum Change {
+pub(crate) enum Change {
     LineTerminator(u8),
     Quit(u8),
     UnicodeWord,
@@ -28,14 +28,16 @@ enum Change {
 }
 
 /// The form of a plan's tables, and the way that they take.
-type Kind = (Form, Passage);
+pub(crate) type Kind = (Form, Passage);
 
 /// No kind changes what is found.
-const KINDS: [Kind; 4] = [
+pub(crate) const KINDS: [Kind; 6] = [
     (Form::Dense, Passage::Direct),
     (Form::Dense, Passage::Bytes),
+    (Form::Dense, Passage::Pair),
     (Form::Sparse, Passage::Direct),
     (Form::Sparse, Passage::Bytes),
+    (Form::Sparse, Passage::Pair),
 ];
 
 /// Where a match may begin, and of which pattern it is.
@@ -73,7 +75,7 @@ fn apply(plan: &mut Plan, change: Change) {
 }
 
 /// The usual plan for tables of a kind, with at most two changes.
-fn plan_with(kind: Kind, changes: &[Change]) -> Plan {
+pub(crate) fn plan_with(kind: Kind, changes: &[Change]) -> Plan {
     let mut plan = Plan::new();
     plan.form = kind.0;
     plan.passage = kind.1;

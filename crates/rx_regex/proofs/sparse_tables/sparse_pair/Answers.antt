@@ -1,7 +1,13 @@
+use Rattle.std.proofs.Common.{refl}
 use Rattle.std.proofs.lemmas.Result.{err_from_is_err_and}
+use Rattle.rx_spec.specs.declared.Direction.{Direction}
+use Rattle.rx_image.specs.Pairs.{Pair}
 use Rattle.rx_plan.specs.Plan.{plan_of}
+use Rattle.rx_regex.specs.Pairs.{AreTables}
+use Rattle.rx_regex.proofs.PairImages.{sparse_pair_whole, same_patterns}
 use Rattle.rx_regex.proofs.Refusals.{forward_refused, reverse_refused}
 use Rattle.rx_regex.proofs.Served.{sparse_tables}
+use Rattle.rx_regex.proofs.Whole.{is_little}
 use Rattle.rx_regex.proofs.sparse_tables.sparse_pair.Goals as goal
 
 pub returns-in_err-forward-clause-err : goal.returns-in_err-forward-clause-err
@@ -18,10 +24,47 @@ returns-in_err-reverse-clause-err c =
     (reverse_refused (plan_of c.args.plan.now) c.args.exprs.now c.in_ok-forward.ensures.fits
     c.in_err-reverse.field-0.0.kind c.in_err-reverse.ensures.err)
 
-pub returns-clause-ok : goal.returns-clause-ok
-returns-clause-ok c =
+pub read_pair_back-requires-clause-whole : goal.read_pair_back-requires-clause-whole
+read_pair_back-requires-clause-whole c =
+    let p = plan_of c.args.plan.now in
+    let es = c.args.exprs.now in
+    let tables : AreTables p es (Pair.Sparse c.in_ok-forward.forward c.in_ok-reverse.reverse) =
+    sparse_tables c.requires refl refl c.in_ok-forward.ensures.safe c.in_ok-forward.ensures.ok
+    c.in_ok-reverse.ensures.ok in
+    sparse_pair_whole tables c.in_ok-forward.ensures.bytes
+
+pub read_pair_back-requires-clause-patterns : goal.read_pair_back-requires-clause-patterns
+read_pair_back-requires-clause-patterns c =
+    let p = plan_of c.args.plan.now in
+    let es = c.args.exprs.now in
+    let tables : AreTables p es (Pair.Sparse c.in_ok-forward.forward c.in_ok-reverse.reverse) =
+    sparse_tables c.requires refl refl c.in_ok-forward.ensures.safe c.in_ok-forward.ensures.ok
+    c.in_ok-reverse.ensures.ok in
+    same_patterns tables
+
+pub read_pair_back-requires-clause-forward_little : goal.read_pair_back-requires-clause-forward_little
+read_pair_back-requires-clause-forward_little c =
+    is_little (plan_of c.args.plan.now) Direction.Forward c.args.exprs.now c.in_ok-forward.forward c.in_ok-forward.ensures.ok
+
+pub read_pair_back-requires-clause-reverse_little : goal.read_pair_back-requires-clause-reverse_little
+read_pair_back-requires-clause-reverse_little c =
+    is_little (plan_of c.args.plan.now) Direction.Reverse c.args.exprs.now c.in_ok-reverse.reverse c.in_ok-reverse.ensures.ok
+
+pub returns-in-Direct-clause-ok : goal.returns-in-Direct-clause-ok
+returns-in-Direct-clause-ok c =
     sparse_tables c.requires c.new.ensures.forward c.new.ensures.reverse c.in_ok-forward.ensures.safe
     c.in_ok-forward.ensures.ok c.in_ok-reverse.ensures.ok
 
-pub returns-clause-fits : goal.returns-clause-fits
-returns-clause-fits c = record { forward = c.in_ok-forward.ensures.fits; reverse = c.in_ok-reverse.ensures.fits }
+pub returns-in-Direct-clause-fits : goal.returns-in-Direct-clause-fits
+returns-in-Direct-clause-fits c =
+    record { forward = c.in_ok-forward.ensures.fits; reverse = c.in_ok-reverse.ensures.fits }
+
+pub returns-in_ok-read_pair_back-in-Pair-clause-ok : goal.returns-in_ok-read_pair_back-in-Pair-clause-ok
+returns-in_ok-read_pair_back-in-Pair-clause-ok c =
+    sparse_tables c.requires c.in_ok-read_pair_back-in-Pair.ensures.forward
+    c.in_ok-read_pair_back-in-Pair.ensures.reverse c.in_ok-forward.ensures.safe c.in_ok-forward.ensures.ok
+    c.in_ok-reverse.ensures.ok
+
+pub returns-in_ok-read_pair_back-in-Pair-clause-fits : goal.returns-in_ok-read_pair_back-in-Pair-clause-fits
+returns-in_ok-read_pair_back-in-Pair-clause-fits c =
+    record { forward = c.in_ok-forward.ensures.fits; reverse = c.in_ok-reverse.ensures.fits }

@@ -1,0 +1,70 @@
+//! Images of both tables of a plan.
+
+ghost use Rattle.std.specs.Prelude.{◌≡◌, IfOk, IfErr, OnOk};
+ghost use Rattle.rx_spec.specs.declared.Form.{Form};
+ghost use Rattle.rx_build_error.specs.Refusals.{IsRefused};
+ghost use Rattle.rx_plan.specs.Plan.{plan_of};
+ghost use Rattle.rx_regex.specs.Find.{PlanFits, PlanRefused};
+ghost use Rattle.rx_regex.specs.Images.{IsPairImage};
+
+use crate::dense_tables::dense_table;
+use crate::sparse_tables::sparse_table;
+use rx_base::Direction;
+use rx_build::BuildError;
+use rx_expr::Expr;
+use rx_image::{dense_pair, sparse_pair};
+use rx_plan::{Form, Plan};
+use rx_wire::Order;
+use std::alloc::Global;
+
+/// The image of both tables of a plan, in the plan's form, its numbers in an order. The forward table is built, and may
+/// be refused, first.
+pub fn build_pair_image(
+    alloc: Global,
+    exprs: &[Expr],
+    plan: &Plan,
+    order: Order,
+) -> Result<Vec<u8>, BuildError>
+    ensures ok { IfOk result (λ image. IsPairImage (plan_of plan.now) exprs.now order image.items) }
+    ensures fits { OnOk result (PlanFits (plan_of plan.now) exprs.now) }
+    ensures err { IfErr result (λ error. IsRefused (PlanRefused (plan_of plan.now) exprs.now) error.kind) }
+{
+    match plan.form {
+        Form::Dense => dense_pair_image(alloc, exprs, plan, order),
+        Form::Sparse => sparse_pair_image(alloc, exprs, plan, order),
+    }
+}
+
+/// The image of dense tables.
+fn dense_pair_image(
+    alloc: Global,
+    exprs: &[Expr],
+    plan: &Plan,
+    order: Order,
+) -> Result<Vec<u8>, BuildError>
+    requires { plan.now.form ≡ Form.Dense }
+    ensures ok { IfOk result (λ image. IsPairImage (plan_of plan.now) exprs.now order image.items) }
+    ensures fits { OnOk result (PlanFits (plan_of plan.now) exprs.now) }
+    ensures err { IfErr result (λ error. IsRefused (PlanRefused (plan_of plan.now) exprs.now) error.kind) }
+{
+    let forward = dense_table(alloc, exprs, plan, Direction::Forward)?;
+    let reverse = dense_table(alloc, exprs, plan, Direction::Reverse)?;
+    Ok(dense_pair(alloc, order, &forward, &reverse)?)
+}
+
+/// The image of sparse tables.
+fn sparse_pair_image(
+    alloc: Global,
+    exprs: &[Expr],
+    plan: &Plan,
+    order: Order,
+) -> Result<Vec<u8>, BuildError>
+    requires { plan.now.form ≡ Form.Sparse }
+    ensures ok { IfOk result (λ image. IsPairImage (plan_of plan.now) exprs.now order image.items) }
+    ensures fits { OnOk result (PlanFits (plan_of plan.now) exprs.now) }
+    ensures err { IfErr result (λ error. IsRefused (PlanRefused (plan_of plan.now) exprs.now) error.kind) }
+{
+    let forward = sparse_table(alloc, exprs, plan, Direction::Forward)?;
+    let reverse = sparse_table(alloc, exprs, plan, Direction::Reverse)?;
+    Ok(sparse_pair(alloc, order, &forward, &reverse)?)
+}
