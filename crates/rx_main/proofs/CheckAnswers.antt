@@ -1,4 +1,4 @@
--- From what reading an image answers to the reply of `check`.
+-- From what reading an image answers to the reply to its bytes.
 use Rattle.std.proofs.Common.{◌≡◌, ◌≢◌, ℕ, Result, Err, refl, ap, sym, ◌∙◌}
 use Rattle.rx_wire.specs.Kinds.{FailsBy, Kind}
 use Rattle.rx_main.specs.Lines.{Reply}
@@ -16,7 +16,7 @@ module _ {T : Type 0} (read : Result (T × ℕ) Kind) where
   fails_exactly (Kind.StateID attempted) fails other = fails
   fails_exactly Kind.Memory fails other = absurd (other refl)
 
-  pub failed_test_answers : (rows patterns : T → ℕ) (kind : Kind) (reply : Reply) → FailsBy kind read
-      → kind ≢ Kind.Memory → reply ≡ failed_test_reply kind → reply ≡ reading_reply rows patterns read
-  failed_test_answers rows patterns kind reply fails other e =
-      e ∙ sym (ap (reading_reply rows patterns) (fails_exactly kind fails other))
+  pub failed_test_answers : (accepted : T → ℕ → Reply) (kind : Kind) (reply : Reply) → FailsBy kind read
+      → kind ≢ Kind.Memory → reply ≡ failed_test_reply kind → reply ≡ reading_reply accepted read
+  failed_test_answers accepted kind reply fails other e =
+      e ∙ sym (ap (reading_reply accepted) (fails_exactly kind fails other))

@@ -1,13 +1,18 @@
 -- The words of a command line are at most one command.
-use Rattle.std.proofs.Common.{◌≡◌, ℕ, ◌==◌, if◌then◌else◌, List, [], get_or, refl, ap, sym, ◌∙◌, arith}
+use Rattle.std.proofs.Common.{◌≡◌, ℕ, ◌==◌, if◌then◌else◌, List, [], ◌∷◌, get_or, refl, ap, sym, ◌∙◌, arith}
 use Rattle.std.specs.Str.Parse.{digits_value}
 use Rattle.std.proofs.lemmas.Fmt.{digits_value-decimal}
 use Rattle.rx_spec.specs.declared.Direction.{Direction}
 use Rattle.rx_spec.specs.declared.Form.{Form}
 use Rattle.rx_wire.specs.declared.order.Order.{Order}
-use Rattle.rx_main.specs.Commands.{Says, words_of}
+use Rattle.rx_base.specs.Search.{mode_of}
+use Rattle.rx_base.specs.declared.search.Anchored.{Anchored as Mode}
+use Rattle.std.specs.Fmt.{decimal}
+use Rattle.rx_main.specs.Lines.{mode_name}
+use Rattle.rx_main.specs.Commands.{IsMode, Says, search_words, words_of}
 use Rattle.rx_main.specs.declared.command.Command.{Command}
 use Rattle.rx_main.specs.declared.command.ReadCommand.{ReadCommand}
+use Rattle.rx_main.specs.declared.command.Search.{Search}
 use Rattle.rx_main.proofs.Counts.{own}
 
 -- the first byte of a word
@@ -23,20 +28,53 @@ order_by byte = if byte == 108 then Order.Little else Order.Big
 abbrev form_by : ℕ → Form
 form_by byte = if byte == 100 then Form.Dense else Form.Sparse
 
-abbrev image_by : List (List ℕ) → ReadCommand
-image_by words = ReadCommand.Image (direction_by (first_of words 1)) (order_by (first_of words 2))
+-- the tables of a pair have the word pair
+abbrev image_by : ℕ → Order → ReadCommand
+image_by byte order = if byte == 112 then ReadCommand.ImagePair order else ReadCommand.Image (direction_by byte) order
+
+abbrev check_by : ℕ → ReadCommand
+check_by byte = if byte == 112 then ReadCommand.CheckPair else ReadCommand.Check (form_by byte)
+
+abbrev mode_by : List ℕ → Mode
+mode_by (byte ∷ digits) =
+    if byte == 110 then Mode.No else (if byte == 121 then Mode.Yes else Mode.Pattern (digits_value 10 digits))
+mode_by [] = Mode.No
+
+abbrev number_by : List (List ℕ) → ℕ → ℕ
+number_by words i = digits_value 10 (get_or words i [])
+
+abbrev searched : ℕ → ℕ → Mode → ℕ → Search
+searched start end mode image_len = record { start = start; end = end; mode = mode; image_len = image_len }
+
+abbrev search_by : List (List ℕ) → Search
+search_by words =
+    searched (number_by words 1) (number_by words 2) (mode_by (get_or words 3 [])) (number_by words 4)
 
 -- A command is told by the first byte of its first word, and by its other words.
 abbrev command_by : ℕ → List (List ℕ) → Command
 command_by byte words =
     if byte == 102 then Command.Read ReadCommand.Find
     else (if byte == 101 then Command.Read ReadCommand.Each
-    else (if byte == 105 then Command.Read (image_by words)
-    else (if byte == 99 then Command.Read (ReadCommand.Check (form_by (first_of words 1)))
-    else Command.Gen (digits_value 10 (get_or words 1 [])))))
+    else (if byte == 105 then Command.Read (image_by (first_of words 1) (order_by (first_of words 2)))
+    else (if byte == 99 then Command.Read (check_by (first_of words 1))
+    else (if byte == 115 then Command.Read (ReadCommand.Search (search_by words))
+    else Command.Gen (number_by words 1)))))
 
 abbrev told_by : List (List ℕ) → Command
 told_by words = command_by (first_of words 0) words
+
+same_search : (s other : Search) → s.start ≡ other.start → s.end ≡ other.end → s.mode ≡ other.mode
+    → s.image_len ≡ other.image_len → s ≡ other
+same_search s other e f g h =
+    ap (λ (n : ℕ). searched n s.end s.mode s.image_len) e
+    ∙ ap (λ (n : ℕ). searched other.start n s.mode s.image_len) f
+    ∙ ap (λ (m : Mode). searched other.start other.end m s.image_len) g
+    ∙ ap (λ (n : ℕ). searched other.start other.end other.mode n) h
+
+mode_told : (mode : Mode) → IsMode (mode_of mode) → mode_by (mode_name (mode_of mode)) ≡ mode
+mode_told Mode.No is = refl
+mode_told Mode.Yes is = refl
+mode_told (Mode.Pattern k) is = ap Mode.Pattern (digits_value-decimal own k (omega (arith, is)))
 
 told : (command : Command) (words : List (List ℕ)) → Says words command → told_by (words_of command) ≡ command
 told (Command.Read ReadCommand.Find) words says = refl
@@ -45,6 +83,21 @@ told (Command.Read (ReadCommand.Image Direction.Forward Order.Little)) words say
 told (Command.Read (ReadCommand.Image Direction.Forward Order.Big)) words says = refl
 told (Command.Read (ReadCommand.Image Direction.Reverse Order.Little)) words says = refl
 told (Command.Read (ReadCommand.Image Direction.Reverse Order.Big)) words says = refl
+told (Command.Read (ReadCommand.ImagePair Order.Little)) words says = refl
+told (Command.Read (ReadCommand.ImagePair Order.Big)) words says = refl
+told (Command.Read ReadCommand.CheckPair) words says = refl
+told (Command.Read (ReadCommand.Search s)) words says =
+    let is = says.in_range in
+    let few = is.few in
+    let start = is.start in
+    let end = is.end in
+    let start_is : digits_value 10 (decimal s.start) ≡ s.start =
+    digits_value-decimal own s.start (omega (arith, start)) in
+    let end_is : digits_value 10 (decimal s.end) ≡ s.end = digits_value-decimal own s.end (omega (arith, end)) in
+    let len_is : digits_value 10 (decimal s.image_len) ≡ s.image_len =
+    digits_value-decimal own s.image_len (omega (arith, few)) in
+    ap (λ (search : Search). Command.Read (ReadCommand.Search search))
+    (same_search (search_by (search_words s)) s start_is end_is (mode_told s.mode is.mode) len_is)
 told (Command.Read (ReadCommand.Check Form.Dense)) words says = refl
 told (Command.Read (ReadCommand.Check Form.Sparse)) words says = refl
 told (Command.Gen count) words says =

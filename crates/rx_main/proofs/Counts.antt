@@ -1,4 +1,4 @@
--- The number of a command line: a word that is read as one is its decimal, and the decimal of each is read.
+-- How many words a command line has, and its numerals.
 use Rattle.std.proofs.Common.{◌≡◌, ℕ, zero, suc, ◌^◌, ◌<◌, ◌≤◌, List, [], ◌∷◌, length, get_or}
 use Rattle.std.proofs.Common.{sym, ap, ◌∙◌, subst, arith}
 use Rattle.std.specs.Prelude.{Result, Ok, Some, slice_get}
@@ -14,56 +14,6 @@ use Rattle.std.proofs.lemmas.Str.Parse.{IsNumeralModel, digit_at, numerals_by_va
 
 pub own : IsNumeralModel (AllDigits 10) (digits_value 10)
 own = numerals_by_value (AllDigits 10) tells_digits
-
--- a count, and the word for it
-pub record IsCount (word : List ℕ) (count : ℕ) : Type 0 where
-  pub some : 1 ≤ count
-  pub few : count ≤ 1000
-  pub spelled : word ≡ decimal count
-
--- it is text, begins with a digit that isn't 0, and is read
-pub count_utf8 : (word : List ℕ) (count : ℕ) → IsCount word count → IsUtf8 word
-count_utf8 word count is =
-    let few = is.few in
-    subst IsUtf8 (sym is.spelled) (IsUtf8-from_ascii (decimal count) (IsAscii-decimal count (omega arith)))
-
-pub count_first : (word : List ℕ) (count : ℕ) → IsCount word count
-    → (0 < length word) × (49 ≤ get_or word 0 0) × (get_or word 0 0 ≤ 57)
-count_first word count is =
-    let few = is.few in
-    let some = is.some in
-    let small : count < 2 ^ 64 = omega arith in
-    let long = decimal_nonempty count small in
-    let first = first_decimal count some small in
-    let digit = digit_at (decimal count) 0 (digits_decimal own count small) long in
-    subst (λ (w : List ℕ). (0 < length w) × (49 ≤ get_or w 0 0) × (get_or w 0 0 ≤ 57)) (sym is.spelled)
-    (long, omega arith, omega (arith, digit.1))
-
-pub count_read : {E : Type 0} (word : List ℕ) (count : ℕ) (read : Result ℕ E) → ParsesUnsigned 16 10 word read
-    → IsCount word count → read ≡ Ok count
-count_read word count read parses is =
-    let few = is.few in
-    parse-decimal 16 count word read (omega arith) (omega arith) is.spelled parses
-
--- what is read is the word's number
-pub count_spelled : {E : Type 0} (word : List ℕ) (count : ℕ) (read : Result ℕ E) → ParsesUnsigned 16 10 word read
-    → read ≡ Ok count → 49 ≤ get_or word 0 0 → count ≤ 1000 → IsCount word count
-count_spelled {E} word count read parses ok first few =
-    let plain = parse_plain own 16 word read parses (λ e. omega arith) in
-    let is = subst
-    (λ (r : Result ℕ E).
-    OkIff r (AllDigits 10 word × (0 < length word) × (digits_value 10 word < 2 ^ 16)) (digits_value 10 word))
-    ok plain in
-    let small : digits_value 10 word < 2 ^ 64 = omega (arith, is.0.2) in
-    let spelled : word ≡ decimal count =
-    sym (ap decimal is.1 ∙ decimal-digits_value own word is.0.0 is.0.1 (λ e. absurd (omega arith)) small) in
-    record { some = not_zero count spelled; few = few; spelled = spelled }
-  where
-    not_zero : (n : ℕ) → word ≡ decimal n → 1 ≤ n
-    not_zero zero e =
-        let zero_is : get_or word 0 0 ≡ 48 = ap (λ (w : List ℕ). get_or w 0 0) (e ∙ decimal_digit 0 (omega arith)) in
-        absurd (omega arith)
-    not_zero (suc n) e = omega arith
 
 -- ---- so many words
 
@@ -91,3 +41,19 @@ three_words (w ∷ (v ∷ (u ∷ []))) word other third n e f g =
     ap (λ x. x ∷ (v ∷ (u ∷ []))) (same_Some w word e) ∙ ap (λ x. word ∷ (x ∷ (u ∷ []))) (same_Some v other f)
     ∙ ap (λ x. word ∷ (other ∷ (x ∷ []))) (same_Some u third g)
 three_words (w ∷ (v ∷ (u ∷ (t ∷ ws)))) word other third n e f g = absurd (omega arith)
+
+pub five_words : (words : List (List ℕ)) (a b c d e : List ℕ) → length words ≡ 5
+    → slice_get words 0 ≡ Some a → slice_get words 1 ≡ Some b → slice_get words 2 ≡ Some c
+    → slice_get words 3 ≡ Some d → slice_get words 4 ≡ Some e → words ≡ a ∷ (b ∷ (c ∷ (d ∷ (e ∷ []))))
+five_words (w ∷ (x ∷ (y ∷ (z ∷ (v ∷ []))))) a b c d e n f g h i j =
+    ap (λ u. u ∷ (x ∷ (y ∷ (z ∷ (v ∷ []))))) (same_Some w a f)
+    ∙ ap (λ u. a ∷ (u ∷ (y ∷ (z ∷ (v ∷ []))))) (same_Some x b g)
+    ∙ ap (λ u. a ∷ (b ∷ (u ∷ (z ∷ (v ∷ []))))) (same_Some y c h)
+    ∙ ap (λ u. a ∷ (b ∷ (c ∷ (u ∷ (v ∷ []))))) (same_Some z d i)
+    ∙ ap (λ u. a ∷ (b ∷ (c ∷ (d ∷ (u ∷ []))))) (same_Some v e j)
+five_words [] a b c d e n f g h i j = absurd (omega arith)
+five_words (w ∷ []) a b c d e n f g h i j = absurd (omega arith)
+five_words (w ∷ (x ∷ [])) a b c d e n f g h i j = absurd (omega arith)
+five_words (w ∷ (x ∷ (y ∷ []))) a b c d e n f g h i j = absurd (omega arith)
+five_words (w ∷ (x ∷ (y ∷ (z ∷ [])))) a b c d e n f g h i j = absurd (omega arith)
+five_words (w ∷ (x ∷ (y ∷ (z ∷ (v ∷ (u ∷ ws)))))) a b c d e n f g h i j = absurd (omega arith)

@@ -1,8 +1,9 @@
 -- sources and sinks, piece by piece
 pub mod Transfers
 pub mod TakenReplies
--- the words of a command line, and its number
+-- the words of a command line, and its numerals
 pub mod Counts
+pub mod Numerals
 pub mod CommandWords
 -- builds that are refused, and the numbers of rows
 pub mod Refusals
@@ -18,5 +19,8 @@ pub mod Matches
 -- a search of the usual plan, and of generated patterns
 pub mod UsualPlan
 pub mod Generated
+-- searches by images of pairs
+pub mod SearchAnswers
+pub mod SearchFinds
 -- at most one reply fits
 pub mod OneReply

@@ -13,14 +13,15 @@ use Rattle.rx_script.specs.Grammar.{Spelled, Spells}
 use Rattle.rx_script.specs.Reading.{script_of}
 use Rattle.rx_script.proofs.ScriptRead.{script_read}
 use Rattle.rx_wire.specs.declared.order.Order.{Order}
-use Rattle.rx_main.specs.Commands.{Says}
+use Rattle.rx_main.specs.Commands.{Says, most_bytes}
 use Rattle.rx_main.specs.Lines.{Reply, IsRefusal, fault_reply, error_reply}
 use Rattle.rx_main.specs.Gen.{gen_patterns}
 use Rattle.rx_main.specs.Scripts.{AskedReplies, BuildReplies, PlanReplies, ScriptReplies}
 use Rattle.rx_main.specs.Find.{FindAnswers, found_reply, rows_text}
 use Rattle.rx_main.specs.Each.{EachAnswers}
 use Rattle.rx_main.specs.Image.{ImageAnswers, IsImageReply}
-use Rattle.rx_main.specs.Replies.{AsksFor, CommandReplies, IsBounded, ReadReplies, Replies, SayTheSame, most_bytes}
+use Rattle.rx_main.specs.PairImage.{PairImageAnswers, IsPairImageReply}
+use Rattle.rx_main.specs.Replies.{AsksFor, CommandReplies, IsBounded, ReadReplies, Replies, SayTheSame}
 use Rattle.rx_main.specs.declared.command.Command.{Command}
 use Rattle.rx_main.specs.declared.command.ReadCommand.{ReadCommand}
 use Rattle.rx_main.proofs.CommandWords.{spelled_once}
@@ -123,13 +124,13 @@ module _ (words : List (List ℕ)) (bytes : List ℕ) where
         alike reply other h k
 
   plan_alike : (p : Plan) (es : List Expression) → ((direction : Direction) → AsksFor words bytes p es direction)
-      → (Answers : Reply → Type 0) → IsOne Answers → AreAlike (PlanReplies p es Answers)
-  plan_alike p es asks Answers one =
+      → (Answers : Reply → Type 0) → AreAlike Answers → AreAlike (PlanReplies p es Answers)
+  plan_alike p es asks Answers alike =
       built_alike (PlanRefused p es) (PlanFits p es) p es
       (λ reply h fits.
       let by = plan_bounded p es reply h fits in
       record { direction = by.0; asked = asks by.0; bounded = by.1 })
-      Answers (alike_if_one Answers one)
+      Answers alike
 
   -- ---- scripts
 
@@ -153,7 +154,7 @@ module _ (words : List (List ℕ)) (bytes : List ℕ) where
       → (script : Spelled) → Spells true bytes script → AreAlike (AskedReplies Answers script)
   asked_alike Answers one says script spelled reply other h k =
       plan_alike (plan_of script.plan) script.exprs (λ direction. AsksFor.Search script says spelled refl refl)
-      (Answers script h.query) (one script h.query) reply other h.replies
+      (Answers script h.query) (alike_if_one (Answers script h.query) (one script h.query)) reply other h.replies
       (subst (λ (q : Query). PlanReplies (plan_of script.plan) script.exprs (Answers script q) other)
       (same_query script.asked h.query k.query h.asked k.asked) k.replies)
 
@@ -171,6 +172,14 @@ module _ (words : List (List ℕ)) (bytes : List ℕ) where
       (IsImageReply p direction script.exprs order)
       (λ reply other h k. SayTheSame.Images direction order script says spelled h k)
 
+  pair_alike : (order : Order) → Says words (Command.Read (ReadCommand.ImagePair order))
+      → (script : Spelled) → Spells false bytes script → AreAlike (PairImageAnswers order script)
+  pair_alike order says script spelled =
+      let p = plan_of script.plan in
+      plan_alike p script.exprs (λ direction. AsksFor.ImagePair order script says spelled refl refl)
+      (IsPairImageReply p script.exprs order)
+      (λ reply other h k. SayTheSame.PairImages order script says spelled h k)
+
   -- ---- commands
 
   read_alike : (command : ReadCommand) → Says words (Command.Read command) → AreAlike (ReadReplies command bytes)
@@ -180,6 +189,9 @@ module _ (words : List (List ℕ)) (bytes : List ℕ) where
       script_alike true (AskedReplies EachAnswers) (asked_alike EachAnswers each_once (inr says))
   read_alike (ReadCommand.Image direction order) says =
       script_alike false (ImageAnswers direction order) (image_alike direction order says)
+  read_alike (ReadCommand.ImagePair order) says = script_alike false (PairImageAnswers order) (pair_alike order says)
+  read_alike ReadCommand.CheckPair says = λ reply other h k. SayTheSame.Same (h ∙ sym k)
+  read_alike (ReadCommand.Search s) says = λ reply other h k. SayTheSame.Same (h ∙ sym k)
   read_alike (ReadCommand.Check form) says = λ reply other h k. SayTheSame.Same (h ∙ sym k)
 
   command_alike : (command : Command) → Says words command → (ended also : Bool) (reply other : Reply)
@@ -189,7 +201,7 @@ module _ (words : List (List ℕ)) (bytes : List ℕ) where
       read_alike command says reply other h.1 k.1
   command_alike (Command.Gen count) says ended also reply other h k =
       plan_alike (plan_of usual) (gen_patterns count) (λ direction. AsksFor.Generated count says refl refl) _
-      (λ r s e f. e ∙ sym f) reply other h.1 k.1
+      (λ r s e f. SayTheSame.Same (e ∙ sym f)) reply other h.1 k.1
 
 -- a command that reads and is answered read no more than the most
 long_not : (command : ReadCommand) (other : Command) (words : List (List ℕ)) (bytes : List ℕ) (ended : Bool)

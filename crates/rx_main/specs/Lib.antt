@@ -6,7 +6,9 @@ pub mod Scripts
 pub mod Find
 pub mod Each
 pub mod Image
+pub mod PairImage
 pub mod Check
+pub mod Search
 pub mod Gen
 -- what is answered, and what a run leaves
 pub mod Replies

@@ -7,19 +7,17 @@ use Rattle.rx_spec.specs.declared.Direction.{Direction}
 use Rattle.rx_wire.specs.declared.order.Order.{Order}
 use Rattle.rx_plan.specs.Plan.{plan_of, usual}
 use Rattle.rx_script.specs.Grammar.{Spelled, Spells}
-use Rattle.rx_main.specs.Commands.{Says, SaysNothing}
+use Rattle.rx_main.specs.Commands.{Says, SaysNothing, most_bytes}
 use Rattle.rx_main.specs.Lines.{Reply, usage_reply, long_reply, refusal_reply, IsRefusal}
 use Rattle.rx_main.specs.Find.{FindReplies}
 use Rattle.rx_main.specs.Each.{EachReplies}
 use Rattle.rx_main.specs.Image.{ImageReplies, IsImageReply}
-use Rattle.rx_main.specs.Check.{CheckReplies}
+use Rattle.rx_main.specs.PairImage.{PairImageReplies, IsPairImageReply}
+use Rattle.rx_main.specs.Check.{CheckPairReplies, CheckReplies}
+use Rattle.rx_main.specs.Search.{SearchReplies}
 use Rattle.rx_main.specs.Gen.{GenReplies, gen_patterns}
 use Rattle.rx_main.specs.declared.command.Command.{Command}
 use Rattle.rx_main.specs.declared.command.ReadCommand.{ReadCommand}
-
--- the most bytes that are read
-abbrev pub most_bytes : ℕ
-most_bytes = 16777216
 
 -- all bytes were read, and there are no more than that
 pub record AreRead (bytes : List ℕ) (ended : Bool) : Type 0 where
@@ -31,7 +29,10 @@ abbrev pub ReadReplies : ReadCommand → List ℕ → Reply → Type 0
 ReadReplies ReadCommand.Find bytes reply = FindReplies bytes reply
 ReadReplies ReadCommand.Each bytes reply = EachReplies bytes reply
 ReadReplies (ReadCommand.Image direction order) bytes reply = ImageReplies direction order bytes reply
+ReadReplies (ReadCommand.ImagePair order) bytes reply = PairImageReplies order bytes reply
 ReadReplies (ReadCommand.Check form) bytes reply = CheckReplies form bytes reply
+ReadReplies ReadCommand.CheckPair bytes reply = CheckPairReplies bytes reply
+ReadReplies (ReadCommand.Search s) bytes reply = SearchReplies s bytes reply
 
 abbrev pub CommandReplies : Command → List ℕ → Bool → Reply → Type 0
 CommandReplies (Command.Read command) bytes ended reply = AreRead bytes ended × ReadReplies command bytes reply
@@ -55,6 +56,8 @@ pub data AsksFor (words : List (List ℕ)) (bytes : List ℕ) (p : Plan) (es : L
       → Spells true bytes script → p ≡ plan_of script.plan → es ≡ script.exprs → AsksFor words bytes p es direction
   Image : (order : Order) → (script : Spelled) → Says words (Command.Read (ReadCommand.Image direction order))
       → Spells false bytes script → p ≡ plan_of script.plan → es ≡ script.exprs → AsksFor words bytes p es direction
+  ImagePair : (order : Order) → (script : Spelled) → Says words (Command.Read (ReadCommand.ImagePair order))
+      → Spells false bytes script → p ≡ plan_of script.plan → es ≡ script.exprs → AsksFor words bytes p es direction
   Generated : (count : ℕ) → Says words (Command.Gen count) → p ≡ plan_of usual → es ≡ gen_patterns count
       → AsksFor words bytes p es direction
 
@@ -67,7 +70,7 @@ pub record IsBounded (p : Plan) (es : List Expression) (direction : Direction) (
 
 -- Two replies to the words and the bytes are the same, or each says that a build is refused: where several causes hold,
 -- any of them may be told. Or one says that the sparse tables that are asked for are refused by a bound. Or each is an
--- image of the table that is asked for: rows of one kind may lie in any order.
+-- image of the table that is asked for, or of both: rows of one kind may lie in any order.
 pub data SayTheSame (words : List (List ℕ)) (bytes : List ℕ) (reply other : Reply) : Type 0 where
   Same : reply ≡ other → SayTheSame words bytes reply other
   Refusals : IsRefusal (λ (cause : Cause). Unit {0}) reply → IsRefusal (λ (cause : Cause). Unit {0}) other
@@ -78,3 +81,7 @@ pub data SayTheSame (words : List (List ℕ)) (bytes : List ℕ) (reply other : 
       → Says words (Command.Read (ReadCommand.Image direction order)) → Spells false bytes script
       → IsImageReply (plan_of script.plan) direction script.exprs order reply
       → IsImageReply (plan_of script.plan) direction script.exprs order other → SayTheSame words bytes reply other
+  PairImages : (order : Order) → (script : Spelled)
+      → Says words (Command.Read (ReadCommand.ImagePair order)) → Spells false bytes script
+      → IsPairImageReply (plan_of script.plan) script.exprs order reply
+      → IsPairImageReply (plan_of script.plan) script.exprs order other → SayTheSame words bytes reply other

@@ -3,12 +3,15 @@
 ghost use Rattle.std.specs.Prelude.{◌≡◌, ◌≢◌, IfOk};
 ghost use Rattle.rx_spec.specs.declared.Form.TheVariants.{Dense, Sparse};
 ghost use Rattle.rx_wire.specs.Kinds.{Kind, kind_of};
-ghost use Rattle.rx_main.specs.Check.{CheckReplies, accepted_reply, failed_test_reply};
+ghost use Rattle.rx_image.specs.Tables.{pair_of};
+ghost use Rattle.rx_main.specs.Check.{CheckPairReplies, CheckReplies, accepted_reply, failed_test_reply};
+ghost use Rattle.rx_main.specs.Check.{pair_rows_reply};
 
 use crate::lines::fixed_reply;
 use crate::reply::{FOUND, NOT_FOUND, Reply};
 use rx_dense::OwnedDFA;
 use rx_dense_image::DenseRead;
+use rx_image::{Tables, read_pair};
 use rx_regex::Form;
 use rx_search::Automaton;
 use rx_sparse::DFA as SparseDFA;
@@ -46,6 +49,40 @@ fn check_sparse(alloc: Global, bytes: &[u8]) -> Result<Reply, AllocError>
     }
 }
 
+/// The reply to bytes as an image of two tables.
+pub fn check_pair(alloc: Global, bytes: &[u8]) -> Result<Reply, AllocError>
+    ensures { IfOk result (CheckPairReplies bytes.now) }
+{
+    match read_pair(alloc, bytes) {
+        Ok((tables, size)) => accepted_pair_reply(alloc, &tables, size),
+        Err(error) => failed_test_reply(alloc, error.kind()),
+    }
+}
+
+/// The reply to an image of these tables, which takes so many bytes.
+fn accepted_pair_reply(alloc: Global, tables: &Tables<'_>, size: usize) -> Result<Reply, AllocError>
+    ensures { IfOk result (λ reply. reply ≡ pair_rows_reply (pair_of tables.now) size) }
+{
+    let (forward, reverse, patterns) = match tables {
+        Tables::Dense(forward, reverse) => {
+            (
+                forward.state_len(),
+                reverse.state_len(),
+                forward.pattern_len(),
+            )
+        }
+        Tables::Sparse(forward, reverse) => {
+            (
+                forward.state_len(),
+                reverse.state_len(),
+                forward.pattern_len(),
+            )
+        }
+    };
+    let text = format!(in alloc; "ok {forward} {reverse} {patterns} {size}\n")?;
+    Ok(Reply::new(text, FOUND))
+}
+
 /// The reply to an image of a table of so many rows and patterns, which takes so many bytes.
 fn accepted_reply(
     alloc: Global,
@@ -60,7 +97,7 @@ fn accepted_reply(
 }
 
 /// The reply to bytes that fail a test of reading.
-fn failed_test_reply(alloc: Global, kind: &DeserializeErrorKind) -> Result<Reply, AllocError>
+pub fn failed_test_reply(alloc: Global, kind: &DeserializeErrorKind) -> Result<Reply, AllocError>
     ensures { IfOk result (λ reply.
         (kind_of kind.now ≢ Kind.Memory) × (reply ≡ failed_test_reply (kind_of kind.now))) }
 {

@@ -5,11 +5,15 @@ ghost use Rattle.std.specs.Fmt.{decimal};
 ghost use Rattle.rx_spec.specs.declared.Direction.{Direction};
 ghost use Rattle.rx_spec.specs.declared.Form.{Form};
 ghost use Rattle.rx_wire.specs.declared.order.Order.{Order};
-ghost use Rattle.rx_main.specs.Commands.{Says, SaysNothing, direction_word, form_word, order_word};
+ghost use Rattle.rx_base.specs.Search.{mode_of};
+ghost use Rattle.rx_base.specs.declared.search.Anchored.{Anchored as Mode};
+ghost use Rattle.rx_main.specs.Lines.{mode_name};
+ghost use Rattle.rx_main.specs.Commands.{IsMode, Says, SaysNothing, direction_word, form_word, order_word};
 
 use crate::words::Words;
-use rx_base::Direction;
+use rx_base::{Anchored, Direction};
 use rx_regex::Form;
+use rx_script::{mode, number};
 use rx_wire::Order;
 
 /// What a command line asks for.
@@ -30,12 +34,34 @@ pub enum ReadCommand {
     Each,
     /// The image of the table that a script's plan has for a direction, its numbers in an order.
     Image(Direction, Order),
+    /// One image of both tables of a script's plan, its numbers in an order.
+    ImagePair(Order),
     /// Whether the bytes are an image of a table of a form.
     Check(Form),
+    /// Whether they are an image of two tables.
+    CheckPair,
+    /// The leftmost match by the tables of an image, in what comes behind it.
+    Search(Search),
+}
+
+/// A search by the tables of an image.
+#[derive(Clone, Copy, Debug, PartialEq, Eq)]
+pub struct Search {
+    /// The first offset of the span.
+    pub start: u32,
+    /// The offset after the span.
+    pub end: u32,
+    /// Where a match may begin.
+    pub mode: Anchored,
+    /// How many of the bytes are the image, from 1 to 16,777,216. The haystack comes behind them.
+    pub image_len: u32,
 }
 
 /// The most patterns that are generated.
-const MOST_PATTERNS: u16 = 1000;
+const MOST_PATTERNS: u32 = 1000;
+
+/// The most bytes that are read.
+const MOST_BYTES: u32 = 16_777_216;
 
 /// The command that the words are.
 pub fn command_of(words: &Words) -> Option<Command>
@@ -45,6 +71,13 @@ pub fn command_of(words: &Words) -> Option<Command>
         1 => single_word(words.word(0)),
         2 => two_words(words.word(0), words.word(1)),
         3 => three_words(words.word(0), words.word(1), words.word(2)),
+        5 => search_of(
+            words.word(0),
+            words.word(1),
+            words.word(2),
+            words.word(3),
+            words.word(4),
+        ),
         _ => None,
     }
 }
@@ -65,14 +98,17 @@ fn two_words(word: &[u8], other: &[u8]) -> Option<Command>
     ensures { MatchOption result (SaysNothing (word.now ∷ (other.now ∷ []))) (Says (word.now ∷ (other.now ∷ []))) }
 {
     if is(word, b"check") {
+        if is(other, b"pair") {
+            return Some(Command::Read(ReadCommand::CheckPair));
+        }
         let form = form_of(other)?;
         return Some(Command::Read(ReadCommand::Check(form)));
     }
     if !is(word, b"gen") {
         return None;
     }
-    let count = count_of(other)?;
-    Some(Command::Gen(count))
+    let count = number_of(other, 1, MOST_PATTERNS)?;
+    Some(Command::Gen(count as u16))
 }
 
 fn three_words(word: &[u8], direction: &[u8], order: &[u8]) -> Option<Command>
@@ -82,9 +118,35 @@ fn three_words(word: &[u8], direction: &[u8], order: &[u8]) -> Option<Command>
     if !is(word, b"image") {
         return None;
     }
-    let direction = direction_of(direction)?;
     let order = order_of(order)?;
+    if is(direction, b"pair") {
+        return Some(Command::Read(ReadCommand::ImagePair(order)));
+    }
+    let direction = direction_of(direction)?;
     Some(Command::Read(ReadCommand::Image(direction, order)))
+}
+
+fn search_of(
+    word: &[u8],
+    start: &[u8],
+    end: &[u8],
+    mode: &[u8],
+    image_len: &[u8],
+) -> Option<Command>
+    ensures { MatchOption result
+        (SaysNothing (word.now ∷ (start.now ∷ (end.now ∷ (mode.now ∷ (image_len.now ∷ []))))))
+        (Says (word.now ∷ (start.now ∷ (end.now ∷ (mode.now ∷ (image_len.now ∷ [])))))) }
+{
+    if !is(word, b"search") {
+        return None;
+    }
+    let search = Search {
+        start: number_of(start, 0, u32::MAX)?,
+        end: number_of(end, 0, u32::MAX)?,
+        mode: mode_of(mode)?,
+        image_len: number_of(image_len, 1, MOST_BYTES)?,
+    };
+    Some(Command::Read(ReadCommand::Search(search)))
 }
 
 fn form_of(word: &[u8]) -> Option<Form>
@@ -133,27 +195,38 @@ fn is(word: &[u8], text: &[u8]) -> bool
     word == text
 }
 
-/// The number of patterns that a word says in decimal, without a leading zero.
-fn count_of(word: &[u8]) -> Option<u16>
+/// The number that a word says in decimal, without a leading zero but for 0 itself, where it lies in this range.
+fn number_of(word: &[u8], least: u32, most: u32) -> Option<u32>
+    requires { most ≤ 4294967295 }
     ensures { MatchOption result
-        ((count : ℕ) → 1 ≤ count → count ≤ 1000 → word.now ≡ decimal count → ⊥)
-        (λ count. (1 ≤ count) × (count ≤ 1000) × (word.now ≡ decimal count)) }
+        ((n : ℕ) → least ≤ n → n ≤ most → word.now ≢ decimal n)
+        (λ n. (least ≤ n) × (n ≤ most) × (word.now ≡ decimal n)) }
 {
-    let [first, ..] = word else {
-        return None;
-    };
-    // neither a sign nor a zero comes first
-    if *first < b'1' {
+    match number(word) {
+        Some(number) => within(number, least, most),
+        None => None,
+    }
+}
+
+/// A number, if it lies in this range.
+fn within(number: u32, least: u32, most: u32) -> Option<u32>
+    ensures { MatchOption result ((least ≤ number) × (number ≤ most) → ⊥)
+        (λ n. (n ≡ number) × (least ≤ n) × (n ≤ most)) }
+{
+    if number < least {
         return None;
     }
-    let Ok(text) = std::str::from_utf8(word) else {
-        return None;
-    };
-    let Ok(count) = text.parse::<u16>() else {
-        return None;
-    };
-    if count > MOST_PATTERNS {
+    if number > most {
         return None;
     }
-    Some(count)
+    Some(number)
+}
+
+/// The mode that a word names.
+fn mode_of(word: &[u8]) -> Option<Anchored>
+    ensures { MatchOption result
+        ((mode : Mode) → IsMode (mode_of mode) → word.now ≢ mode_name (mode_of mode))
+        (λ mode. IsMode (mode_of mode) × (word.now ≡ mode_name (mode_of mode))) }
+{
+    mode(word)
 }

@@ -57,7 +57,7 @@ fn found_reply(alloc: Global, answer: &Answer, rows: bool) -> Result<Reply, Allo
 }
 
 /// The line of a match, or of none.
-fn found_line(alloc: Global, found: Option<Match>) -> Result<String, AllocError>
+pub fn found_line(alloc: Global, found: Option<Match>) -> Result<String, AllocError>
     ensures { IfOk result (λ text. string_bytes text ≡ found_line found) }
 {
     let mut text = String::new(alloc);
@@ -69,7 +69,7 @@ fn found_line(alloc: Global, found: Option<Match>) -> Result<String, AllocError>
 }
 
 /// The status that goes with it.
-fn found_status(found: Option<Match>) -> u8
+pub fn found_status(found: Option<Match>) -> u8
     ensures { result ≡ found_status found }
 {
     match found {

@@ -1,16 +1,22 @@
-//! A reply is determined: a law over the definitions, as a function with an empty body.
+//! Laws on what is replied. Each function has an empty body, and its clause is the law.
 
 ghost use Rattle.std.specs.Prelude.{ℕ, Bool, List};
 ghost use Rattle.rx_main.specs.Lines.{Reply};
 ghost use Rattle.rx_main.specs.Replies.{Replies, SayTheSame};
+ghost use Rattle.rx_main.specs.Search.{SearchFinds};
 
 /// At most one reply fits a command line and the bytes that were taken from the source, but for two choices. A
 /// refused build names any one of the causes that hold: then all replies that fit say that a build is refused. And
 /// rows of one kind may lie in any order in an image: then all replies that fit are images of the table of the script's
-/// plan, for the direction and in the order that the words name. So each line is written exactly where the definition of replies says that it may
-/// be, and the numbers of rows are no others.
+/// plan, or of both tables, for the direction and in the order that the words name. So each line is written exactly
+/// where the definition of replies says that it may be, and the numbers of rows are no others.
 pub fn one_reply()
     ensures { (words : List (List ℕ)) (bytes : List ℕ) (ended also_ended : Bool) (reply other : Reply)
         → Replies words bytes ended reply → Replies words bytes also_ended other
         → SayTheSame words bytes reply other }
+{}
+
+/// Over an image of both tables of a plan, which `image pair` wrote, `search` replies what `find` replies.
+pub fn search_finds()
+    ensures { SearchFinds }
 {}

@@ -17,6 +17,7 @@ mod lines;
 mod program;
 mod reply;
 mod scripts;
+mod search;
 mod transfer;
 mod words;
 

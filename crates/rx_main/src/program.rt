@@ -7,14 +7,15 @@ ghost use Rattle.rx_main.specs.Lines.{long_reply};
 ghost use Rattle.rx_main.specs.Replies.{ReadReplies};
 ghost use Rattle.rx_main.specs.Run.{Took, Answers, Breaks};
 
-use crate::check::check;
+use crate::check::{check, check_pair};
 use crate::command::{Command, ReadCommand, command_of};
 use crate::each::each;
 use crate::find::find;
 use crate::generate::generate;
-use crate::image::image;
+use crate::image::{image, pair_image};
 use crate::lines::{long_reply, usage_reply};
 use crate::reply::Reply;
+use crate::search::search;
 use crate::transfer::{TextFault, read_text, write_text};
 use crate::words::Words;
 use rx_base::{Sink, Source};
@@ -73,7 +74,10 @@ fn read_reply(alloc: Global, command: ReadCommand, bytes: &[u8]) -> Result<Reply
         ReadCommand::Find => find(alloc, bytes),
         ReadCommand::Each => each(alloc, bytes),
         ReadCommand::Image(direction, order) => image(alloc, bytes, direction, order),
+        ReadCommand::ImagePair(order) => pair_image(alloc, bytes, order),
         ReadCommand::Check(form) => check(alloc, form, bytes),
+        ReadCommand::CheckPair => check_pair(alloc, bytes),
+        ReadCommand::Search(asked) => search(alloc, &asked, bytes),
     }
 }
 

@@ -6,7 +6,7 @@ use std::process::Abort;
 use std::test::Fail;
 
 /// Compares what `image` answers to a script with a status and a line.
-fn image_answers(
+pub(crate) fn image_answers(
     rt: &impl Abort,
     alloc: Global,
     words: &[&str],
@@ -18,7 +18,7 @@ fn image_answers(
 }
 
 /// The image of a script.
-fn image(
+pub(crate) fn image(
     rt: &impl Abort,
     alloc: Global,
     direction: &str,
@@ -35,20 +35,26 @@ fn image(
 }
 
 /// Compares what `check` answers to an image of a form: it is accepted with status 0, and refused with status 1.
-fn check(rt: &impl Abort, alloc: Global, form: &str, image: &[u8], want: &str) -> Result<(), Fail> {
+pub(crate) fn check(
+    rt: &impl Abort,
+    alloc: Global,
+    form: &str,
+    image: &[u8],
+    want: &str,
+) -> Result<(), Fail> {
     let status = if want.starts_with("ok") { 0 } else { 1 };
     compare(rt, alloc, &["check", form], whole(image), (status, want))
 }
 
-const GENERIC: &str = "refused generic\n";
+pub(crate) const GENERIC: &str = "refused generic\n";
 
-const BUFFER: &str = "refused buffer\n";
+pub(crate) const BUFFER: &str = "refused buffer\n";
 
 const VERSION: &str = "refused version\n";
 
 const ENDIAN: &str = "refused endian\n";
 
-const LABEL: &str = "refused label\n";
+pub(crate) const LABEL: &str = "refused label\n";
 
 const STATE: &str = "refused state\n";
 
@@ -327,7 +333,12 @@ const ALTERED_SPARSE: &[(usize, &[u8], &str)] = &[
 ];
 
 /// An image with other bytes at a place.
-fn altered(alloc: Global, image: &[u8], at: usize, bytes: &[u8]) -> Result<Vec<u8>, AllocError> {
+pub(crate) fn altered(
+    alloc: Global,
+    image: &[u8],
+    at: usize,
+    bytes: &[u8],
+) -> Result<Vec<u8>, AllocError> {
     let mut altered = Vec::from_slice(alloc, image)?;
     if at <= altered.len() && bytes.len() <= altered.len() - at {
         altered.as_mut_slice()[at..at + bytes.len()].copy_from_slice(bytes);
@@ -368,7 +379,7 @@ fn altered_images_fail_the_first_test_that_they_break(rt: HostRuntime) -> Result
 }
 
 /// Several pieces, one after another.
-fn joined(alloc: Global, pieces: &[&[u8]]) -> Result<Vec<u8>, AllocError> {
+pub(crate) fn joined(alloc: Global, pieces: &[&[u8]]) -> Result<Vec<u8>, AllocError> {
     let mut bytes = Vec::new(alloc);
     for piece in pieces {
         bytes.extend_from_slice(piece)?;

@@ -70,7 +70,7 @@ pub(crate) fn whole(text: &[u8]) -> Outside<'_> {
         text,
         most_read: 65_536,
         failing_reads: &[],
-        room: 2000,
+        room: 4000,
         most_written: 3,
         failing_writes: &[],
     }
@@ -463,10 +463,12 @@ fn sources_have_at_most_so_many_bytes(rt: HostRuntime) -> Result<(), Fail> {
     text.push(b'\n')?;
     compare(&rt, rt.alloc(), &["find"], whole(&text), (2, "long\n"))?;
     compare(&rt, rt.alloc(), &["each"], whole(&text), (2, "long\n"))?;
-    for form in ["dense", "sparse"] {
+    for form in ["dense", "sparse", "pair"] {
         let words = ["check", form];
         compare(&rt, rt.alloc(), &words, whole(&text), (2, "long\n"))?;
     }
+    let words = ["search", "0", "0", "no", "1"];
+    compare(&rt, rt.alloc(), &words, whole(&text), (2, "long\n"))?;
     Ok(())
 }
 
@@ -505,6 +507,20 @@ fn other_words_are_no_command(rt: HostRuntime) -> Result<(), Fail> {
         &["check", "Sparse"],
         &["check", "sparse", "x"],
         &["check", "dense", "dense"],
+        &["check", "pairs"],
+        &["image", "pair"],
+        &["image", "pair", "ne"],
+        &["search"],
+        &["search", "0", "0", "no"],
+        &["search", "0", "0", "no", "0"],
+        &["search", "0", "0", "no", "16777217"],
+        &["search", "0", "0", "no", "01"],
+        &["search", "-1", "0", "no", "1"],
+        &["search", "0", "4294967296", "no", "1"],
+        &["search", "0", "0", "q0", "1"],
+        &["search", "0", "0", "p2147483647", "1"],
+        &["search", "0", "0", "no", "1", "x"],
+        &["Search", "0", "0", "no", "1"],
     ];
     for texts in table {
         compare(&rt, rt.alloc(), texts, UNREAD, (2, "usage\n"))?;

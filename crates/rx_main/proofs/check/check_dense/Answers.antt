@@ -1,9 +1,8 @@
 use Rattle.std.proofs.lemmas.Result.{IfOk-weaker}
 use Rattle.std.proofs.Common.{ap, sym, ◌∙◌, subst, ◌≢◌}
-use Rattle.rx_dense.specs.Layouts as dense
 use Rattle.rx_dense_image.specs.Images.{reads}
 use Rattle.rx_wire.specs.Kinds.{Kind}
-use Rattle.rx_main.specs.Check.{failed_test_reply, reading_reply}
+use Rattle.rx_main.specs.Check.{dense_reply, failed_test_reply, reading_reply}
 use Rattle.rx_main.proofs.CheckAnswers.{failed_test_answers}
 use Rattle.rx_main.proofs.check.check_dense.Goals as goal
 
@@ -12,14 +11,14 @@ returns-in-Ok c =
     IfOk-weaker c.accepted_reply.result _ _
     (λ reply told.
     rw (c.state_len.ensures.value, c.pattern_len.ensures) at told
-    ∙ sym (ap (reading_reply dense.row_count (λ l. l.pattern_len)) c.in-Ok.ensures.read))
+    ∙ sym (ap (reading_reply dense_reply) c.in-Ok.ensures.read))
     c.accepted_reply.ensures
 
 pub returns-in-Err : goal.returns-in-Err
 returns-in-Err c =
     IfOk-weaker c.failed_test_reply.result _ _
     (λ reply told.
-    failed_test_answers (reads c.args.bytes.now) dense.row_count (λ l. l.pattern_len) c.in-Err.error reply
+    failed_test_answers (reads c.args.bytes.now) dense_reply c.in-Err.error reply
     c.in-Err.ensures.read
     (subst (λ (kind : Kind). kind ≢ Kind.Memory) c.kind.ensures told.0)
     (told.1 ∙ ap failed_test_reply c.kind.ensures))

@@ -1,0 +1,62 @@
+-- Numbers and modes of a command line: what is read is spelled so, and what is spelled so is read.
+use Rattle.std.proofs.Common.{◌≡◌, ◌≢◌, ℕ, ◌<◌, ◌≤◌, ◌^◌, List, Option, Some, None, ap, sym, ◌∙◌, arith}
+use Rattle.std.specs.Option.{MatchOption}
+use Rattle.std.specs.Fmt.{decimal}
+use Rattle.rx_spec.specs.Queries.{Anchored}
+use Rattle.rx_base.specs.Search.{mode_of}
+use Rattle.rx_base.specs.declared.search.Anchored.{Anchored as Mode}
+use Rattle.rx_script.specs.Grammar.{SpellsMode}
+use Rattle.rx_script.specs.Tokens.{mode_word, number_of}
+use Rattle.rx_script.proofs.Modes.{mode_read, mode_spelled}
+use Rattle.rx_script.proofs.Numbers.{number_read, number_spelled}
+use Rattle.rx_main.specs.Commands.{IsMode}
+use Rattle.rx_main.specs.Lines.{mode_name}
+
+-- the decimal of a number is read
+pub no_number : (word : List ℕ) (most : ℕ) → most < 2 ^ 32 → number_of word ≡ None
+    → (n : ℕ) → n ≤ most → word ≢ decimal n
+no_number word most below none n few spelled = clash (sym none ∙ number_read word n (omega (arith, below, few), spelled))
+  where
+    clash : None ≡ Some n → ⊥
+    clash e = cc
+
+-- the number that is read is the one that is spelled
+pub other_number : (word : List ℕ) (v n : ℕ) → n < 2 ^ 32 → number_of word ≡ Some v → word ≡ decimal n → v ≡ n
+other_number word v n below read spelled = same (sym read ∙ number_read word n (below, spelled))
+  where
+    same : Some v ≡ Some n → v ≡ n
+    same e = cc
+
+-- a number that is read, or none where it lies out of a range
+pub number_within : (word : List ℕ) (least most v : ℕ) → most < 2 ^ 32 → Some v ≡ number_of word → (told : Option ℕ)
+    → MatchOption told ((least ≤ v) × (v ≤ most) → ⊥) (λ n. (n ≡ v) × (least ≤ n) × (n ≤ most))
+    → MatchOption told
+    ((n : ℕ) → least ≤ n → n ≤ most → word ≢ decimal n)
+    (λ n. (least ≤ n) × (n ≤ most) × (word ≡ decimal n))
+number_within word least most v below read None out = λ n low few spelled.
+    let same = other_number word v n (omega (arith, below, few)) (sym read) spelled in
+    out (omega (arith, same, low), omega (arith, same, few))
+number_within word least most v below read (Some n) is =
+    (is.1, is.2, (number_spelled word v (sym read)).1 ∙ ap decimal (sym is.0))
+
+mode_named : (mode : Anchored) (word : List ℕ) → SpellsMode mode word → IsMode mode × (word ≡ mode_name mode)
+mode_named Anchored.No word s = (tt, s)
+mode_named Anchored.Yes word s = (tt, s)
+mode_named (Anchored.Pattern k) word s = (s.0, s.1)
+
+named_mode : (mode : Anchored) (word : List ℕ) → IsMode mode → word ≡ mode_name mode → SpellsMode mode word
+named_mode Anchored.No word is e = e
+named_mode Anchored.Yes word is e = e
+named_mode (Anchored.Pattern k) word is e = (is, e)
+
+pub mode_by_word : (word : List ℕ) (read : Option Mode) → read ≡ mode_word word
+    → MatchOption read
+    ((mode : Mode) → IsMode (mode_of mode) → word ≢ mode_name (mode_of mode))
+    (λ mode. IsMode (mode_of mode) × (word ≡ mode_name (mode_of mode)))
+mode_by_word word None e = λ mode is spelled.
+    let read = mode_read word (mode_of mode) (named_mode (mode_of mode) word is spelled) in
+    clash read.0 (e ∙ read.1)
+  where
+    clash : (mode : Mode) → None ≡ Some mode → ⊥
+    clash mode e = cc
+mode_by_word word (Some mode) e = mode_named (mode_of mode) word (mode_spelled word mode (sym e))

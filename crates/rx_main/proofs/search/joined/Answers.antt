@@ -1,0 +1,11 @@
+use Rattle.std.proofs.Common.{ap, sym, ◌∙◌}
+use Rattle.rx_base.specs.Input.{query_of}
+use Rattle.rx_image.specs.Tables.{pair_of}
+use Rattle.rx_image.specs.declared.tables.Tables.{Tables}
+use Rattle.rx_regex.specs.Pairs.{joined}
+use Rattle.rx_main.proofs.search.joined.Goals as goal
+
+pub returns-in-Sparse : goal.returns-in-Sparse
+returns-in-Sparse c =
+    c.joined_by-in-Sparse.ensures
+    ∙ ap (λ (tables : Tables). joined (pair_of tables) (query_of c.args.input.now)) (sym c.in-Sparse.is)
