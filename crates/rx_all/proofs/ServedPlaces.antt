@@ -1,0 +1,107 @@
+-- An anchored search of a table that serves a build tells what the build tells.
+use Rattle.std.proofs.Common.{◌≡◌, ℕ, ◌<◌, true, if◌then◌else◌, Option, Some, None, [], ◌∷◌, ◌++◌, refl, ap, sym, ◌∙◌}
+use Rattle.std.proofs.Common.{subst}
+use Rattle.std.proofs.lemmas.Bool.{lt-ltb}
+use Rattle.std.proofs.lemmas.List.Elements.{Contains-append_left, Contains-append_right}
+use Rattle.std.specs.Prelude.{Contains, List}
+use Rattle.rx_spec.specs.Bytes.{contains}
+use Rattle.rx_spec.specs.Builds.{Build, build_settings, built_modes, power}
+use Rattle.rx_spec.specs.HalfSearches.{beside, first_offset, units_of}
+use Rattle.rx_spec.specs.Machines.{Settings}
+use Rattle.rx_spec.specs.Overlapping.{overlapping, overlapping_walk}
+use Rattle.rx_spec.specs.Plans.{Plan}
+use Rattle.rx_spec.specs.Expressions.{Expression}
+use Rattle.rx_spec.specs.Queries.{Anchored, Query}
+use Rattle.rx_spec.specs.Starts.{StartError, has_anchored, has_unanchored, start_context, start_error, start_row}
+use Rattle.rx_spec.specs.Tables.{Table}
+use Rattle.rx_spec.specs.declared.Direction.{Direction}
+use Rattle.rx_lemmas.proofs.Firsts.{Contains-here}
+use Rattle.rx_lemmas.proofs.HalfSearches.{Begins, Done, Refused, Started, begins, going, started}
+use Rattle.rx_lemmas.proofs.Overlapping.{overlapping_done, overlapping_refused, overlapping_walks}
+use Rattle.rx_lemmas.proofs.ReadUnits.{beside_is_byte, units_word}
+use Rattle.rx_lemmas.proofs.SilentRows.{AnyNode, IsRow, power_ends_well, table_ends_well}
+use Rattle.rx_meaning.proofs.AlikeRows.{Alike, overlapping_alike}
+use Rattle.rx_all.specs.Builds.{all_build}
+use Rattle.rx_all.specs.Matches.{IsPlaced, query_at, told_at}
+
+-- a build with anchored starts has them for the mode Yes
+yes_is_built : (b : Build) → has_anchored b.start_kind ≡ true → Contains (built_modes b) Anchored.Yes
+yes_is_built b anchored =
+    let unanchored = if has_unanchored b.start_kind then Anchored.No ∷ [] else [] in
+    let at_start = if has_anchored b.start_kind then Anchored.Yes ∷ [] else [] in
+    let here : Contains at_start Anchored.Yes =
+    subst (λ v. Contains (if v then Anchored.Yes ∷ [] else []) Anchored.Yes) (sym anchored)
+    (Contains-here Anchored.Yes []) in
+    Contains-append_left (unanchored ++ at_start) _ Anchored.Yes
+    (Contains-append_right unanchored at_start Anchored.Yes here)
+
+module _ {t : Table} {plan : Plan} {es : List Expression} {text : List ℕ} {p : ℕ} (is : IsPlaced t plan es text p) where
+  abbrev b : Build
+  b = all_build plan es
+
+  abbrev r : Settings
+  r = build_settings (all_build plan es)
+
+  abbrev q : Query
+  q = query_at text p
+
+  abbrev before : Option ℕ
+  before = beside Direction.Forward (query_at text p)
+
+  is_byte : (byte : ℕ) → before ≡ Some byte → byte < 256
+  is_byte byte e = beside_is_byte Direction.Forward q byte is.bytes e
+
+  context_same : (o : Option ℕ) → ((byte : ℕ) → o ≡ Some byte → byte < 256)
+      → start_context t.settings o ≡ start_context r o
+  context_same None h = refl
+  context_same (Some byte) h = is.serves.start_of_byte byte (h byte refl)
+
+  error_same : (o : Option ℕ) → ((byte : ℕ) → o ≡ Some byte → byte < 256)
+      → start_error t.settings o Anchored.Yes ≡ start_error r o Anchored.Yes
+  error_same None h =
+      ap (λ kind. if has_anchored kind then None else Some (StartError.UnsupportedAnchored Anchored.Yes))
+      is.serves.start_kind
+  error_same (Some byte) h =
+      ap (λ v. if v then Some (StartError.Quit byte) else (if has_anchored t.settings.start_kind then None
+      else Some (StartError.UnsupportedAnchored Anchored.Yes))) (is.serves.quit byte (h byte refl))
+      ∙ ap (λ kind. if contains r.quit byte then Some (StartError.Quit byte) else (if has_anchored kind then None
+      else Some (StartError.UnsupportedAnchored Anchored.Yes))) is.serves.start_kind
+
+  row_same : start_row t.machine t.settings before Anchored.Yes ≡ start_row t.machine r before Anchored.Yes
+  row_same = ap (t.machine.entry Anchored.Yes) (context_same before is_byte)
+
+  begun_alike : start_error r before Anchored.Yes ≡ None
+      → Alike t.machine (power (all_build plan es)) (IsRow t) AnyNode (start_row t.machine r before Anchored.Yes)
+      (start_row (power (all_build plan es)) r before Anchored.Yes)
+  begun_alike none =
+      let context = start_context r before in
+      record {
+        inside = is.serves.is_table.entries Anchored.Yes context;
+        within = tt;
+        labels = is.serves.gives Anchored.Yes
+            (yes_is_built b (started r before Anchored.Yes none).supported) context;
+      }
+
+  pub told_same : told_at t text p
+      ≡ overlapping (power (all_build plan es)) (build_settings (all_build plan es)) Direction.Forward (query_at text p)
+  told_same = by_start (begins r Direction.Forward q)
+    where
+      by_start : Begins r Direction.Forward q
+          → told_at t text p ≡ overlapping (power b) (build_settings b) Direction.Forward q
+      by_start (Done past) =
+          let d = lt-ltb q.end q.start past in
+          overlapping_done t.machine t.settings Direction.Forward q d
+          ∙ sym (overlapping_done (power b) r Direction.Forward q d)
+      by_start (Refused order error refused) =
+          overlapping_refused t.machine t.settings Direction.Forward q error (going q order)
+          (error_same before is_byte ∙ refused)
+          ∙ sym (overlapping_refused (power b) r Direction.Forward q error (going q order) refused)
+      by_start (Started order none) =
+          overlapping_walks t.machine t.settings Direction.Forward q (going q order)
+          (error_same before is_byte ∙ none)
+          ∙ ap (λ x. overlapping_walk t.machine Direction.Forward x (first_offset Direction.Forward q)
+          (units_of Direction.Forward q)) row_same
+          ∙ overlapping_alike (table_ends_well t is.serves.is_table) (power_ends_well b) Direction.Forward
+          (begun_alike none) (units_of Direction.Forward q) (units_word Direction.Forward q is.bytes)
+          (first_offset Direction.Forward q)
+          ∙ sym (overlapping_walks (power b) r Direction.Forward q (going q order) none)

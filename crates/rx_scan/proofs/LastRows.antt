@@ -1,0 +1,296 @@
+-- How far a walk from a place has come, which row it met last, and what each turn adds.
+use Rattle.std.proofs.Common.{◌≡◌, ◌≢◌, ℕ, suc, zero, ◌+◌, ◌-◌, ◌<◌, ◌≤◌, ◌==◌, true, false, Option, Some, None, Ok, Err}
+use Rattle.std.proofs.Common.{List, [], ◌∷◌, length, slice_index, refl, ap, ap₂, sym, ◌∙◌, subst, arith, ⊎_elim}
+use Rattle.std.proofs.lemmas.Bool.{le-ltb, cases_eq}
+use Rattle.std.proofs.lemmas.Option.{slice_get_past}
+use Rattle.std.specs.Option.{option_or}
+use Rattle.rx_spec.specs.Bytes.{AreBytes, unit_of}
+use Rattle.rx_spec.specs.Ids.{row_of}
+use Rattle.rx_spec.specs.Queries.{HalfMatch, MatchError, is_done}
+use Rattle.rx_spec.specs.Overlapping.{Ending, OverlappingMatches, none_left, pattern_items, overlapping_walk}
+use Rattle.rx_spec.specs.Overlapping.{whole_overlapping_walk, with_items}
+use Rattle.rx_spec.specs.Tables.{Table, is_match}
+use Rattle.rx_spec.specs.declared.Direction.{Direction}
+use Rattle.rx_lemmas.proofs.Overlapping.{overlapping_walks, overlapping_refused}
+use Rattle.rx_search.specs.Labels.{is_quit, patterns_of}
+use Rattle.rx_search.specs.Needles.{byte_ahead, is_read}
+use Rattle.rx_search.specs.Starts.{IsId, IsStart, IsRefused}
+use Rattle.rx_search.specs.Walks.{IsInSpan, units_left, units_after, next_stop, Stop}
+use Rattle.rx_search.proofs.Standing.{Standing}
+use Rattle.rx_search.proofs.Walks.{Place, Turn, Step, LastStep, IsQuiet, step_quiet, step_match, step_quits, step_ends}
+use Rattle.rx_search.proofs.Walks.{last_match, last_ends, loops, unread_quiet}
+use Rattle.rx_stream.specs.Pieces.{IsSkip}
+use Rattle.rx_search.proofs.Halves.{Open, some_pattern}
+use Rattle.rx_search.proofs.Overlaps.{told_by_stop, overlapping_stops, walk_met, walk_ended, goes_on_at, over_at}
+use Rattle.rx_all.specs.Matches.{query_at, told_at}
+use Rattle.rx_scan.specs.Tokens.{longest, longest_of, unless_ended}
+use Rattle.rx_scan.specs.Walks.{IsMet, MetIs, LastMet, longest_met}
+use Rattle.rx_scan.specs.declared.longest.MetRow.{MetRow}
+use Rattle.rx_scan.proofs.LongestMatches.{or_none, or_assoc, longest-nil, longest_append, longest_row}
+use Rattle.rx_all.proofs.PastOffsets.{AllPast, walk_past}
+
+module _ (t : Table) (ids text : List ℕ) (p : ℕ) where
+  -- what is told from a row and an offset on
+  abbrev pub told_from : ℕ → ℕ → OverlappingMatches
+  told_from row at =
+      overlapping_walk t.machine Direction.Forward row at (units_left Direction.Forward (query_at text p) at)
+
+  pub record Walked (row at : ℕ) (last : Option MetRow) : Type 0 where
+    pub low : p ≤ at
+    pub high : at ≤ length text
+    pub best : longest p (told_at t text p).items
+        ≡ option_or (longest p (told_from row at).items) (longest_met t ids p last)
+    pub ending : (told_at t text p).ending ≡ (told_from row at).ending
+    pub met : MetIs t ids p (length text) last
+    pub none_yet : at ≡ p → last ≡ None
+
+  -- where it begins
+  pub walk_begins : (row : ℕ) → p < length text → IsStart t Direction.Forward (query_at text p) row → Walked row p None
+  walk_begins row more start =
+      let q = query_at text p in
+      let goes : is_done q ≡ false = le-ltb (length text) p (omega arith) in
+      let whole : told_at t text p ≡ told_from row p
+      = overlapping_walks t.machine t.settings Direction.Forward q goes start.allowed
+      ∙ ap (whole_overlapping_walk t.machine Direction.Forward q) (sym start.row_is) in
+      record {
+        low = omega arith;
+        high = omega arith;
+        best = ap (λ (m : OverlappingMatches). longest p m.items) whole ∙ sym (or_none _);
+        ending = ap (λ (m : OverlappingMatches). m.ending) whole;
+        met = tt;
+        none_yet = λ e. refl;
+      }
+
+  pub walk_refused : (error : MatchError) → p < length text → IsRefused t Direction.Forward (query_at text p) error
+      → LastMet t ids p (length text) (told_at t text p) (Err error)
+  walk_refused error more refused =
+      let q = query_at text p in
+      let goes : is_done q ≡ false = le-ltb (length text) p (omega arith) in
+      ap (longest_of p) (overlapping_refused t.machine t.settings Direction.Forward q refused.refusal goes refused.refused)
+      ∙ ap (λ (e : MatchError). Err e) (sym refused.error_is)
+
+  module _ {row at : ℕ} {last : Option MetRow} (w : Walked row at last) where
+    in_span : IsInSpan (query_at text p) at
+    in_span = record { low = w.low; high = w.high }
+
+    pub place : Place (query_at text p) at
+    place = record { fits = omega arith; in_span = in_span }
+
+    -- what is known once it is known what is told from there on
+    best_by : {m : OverlappingMatches} → told_from row at ≡ m
+        → longest p (told_at t text p).items ≡ option_or (longest p m.items) (longest_met t ids p last)
+    best_by e = w.best ∙ ap (λ (m : OverlappingMatches). option_or (longest p m.items) (longest_met t ids p last)) e
+
+    ending_by : {m : OverlappingMatches} → told_from row at ≡ m → (told_at t text p).ending ≡ m.ending
+    ending_by e = w.ending ∙ ap (λ (m : OverlappingMatches). m.ending) e
+
+    -- nothing more is told
+    pub walk_over : told_from row at ≡ none_left Ending.Ended → LastMet t ids p (length text) (told_at t text p) (Ok last)
+    walk_over e = (
+      ap₂ unless_ended (ending_by e)
+          (best_by e ∙ ap (λ (o : Option HalfMatch). option_or o (longest_met t ids p last)) (longest-nil p)),
+      w.met,
+    )
+
+    pub walk_quits : (byte offset : ℕ) → told_from row at ≡ none_left (Ending.Quits byte offset)
+        → LastMet t ids p (length text) (told_at t text p) (Err (MatchError.Quit byte offset))
+    walk_quits byte offset e = ap (λ (x : Ending). unless_ended x (longest p (told_at t text p).items)) (ending_by e)
+
+    -- a match row is met: what was met before it counts no more
+    module _ (id : ℕ) (s : Standing t (row_of ids id)) (is : is_match t (row_of ids id) ≡ true) (is_id : IsId ids id) where
+      abbrev here : Option MetRow
+      here = Some (record { row = id; offset = at })
+
+      abbrev ks : List ℕ
+      ks = patterns_of t (row_of ids id)
+
+      outdone : option_or (longest p (pattern_items (patterns_of t (row_of ids id)) at)) (longest_met t ids p last)
+          ≡ longest p (pattern_items (patterns_of t (row_of ids id)) at)
+      outdone =
+          ⊎_elim
+          (λ (same : at ≡ p). ap (λ (l : Option MetRow). option_or (longest p (pattern_items ks at)) (longest_met t ids p l))
+          (w.none_yet same) ∙ or_none (longest p (pattern_items ks at)))
+          (λ (other : at ≢ p). by_list ks (some_pattern s is) (let low = w.low in omega (arith, low, other)))
+          (cases_eq at p)
+        where
+          by_list : (js : List ℕ) → 0 < length js → p < at
+              → option_or (longest p (pattern_items js at)) (longest_met t ids p last) ≡ longest p (pattern_items js at)
+          by_list [] some h = absurd (omega (arith, some))
+          by_list (j ∷ js) some h =
+              let e = (longest_row p at j js h).1 in
+              ap (λ (o : Option HalfMatch). option_or o (longest_met t ids p last)) e ∙ sym e
+
+      met_here : IsMet t ids p (length text) (record { row = id; offset = at })
+      met_here = record { is_id = is_id; is_match = is; from = w.low; upto = w.high }
+
+      best_behind : (later : OverlappingMatches) → told_from row at ≡ with_items (pattern_items ks at) later
+          → AllPast at later.items
+          → longest p (told_at t text p).items ≡ option_or (longest p later.items) (longest_met t ids p here)
+      best_behind later e past =
+          best_by e
+          ∙ ap (λ (o : Option HalfMatch). option_or o (longest_met t ids p last)) (longest_append p at ks later.items past)
+          ∙ or_assoc (longest p later.items) (longest p (pattern_items ks at)) (longest_met t ids p last)
+          ∙ ap (option_or (longest p later.items)) outdone
+
+      open_query : Open (query_at text p)
+      open_query = let low = w.low in let high = w.high in record { order = omega arith; fits = omega arith }
+
+      pub met_on : Step t Direction.Forward (query_at text p) row at (row_of ids id)
+          → Walked (row_of ids id) (at + 1) (Some (record { row = id; offset = at }))
+      met_on step =
+          let q = query_at text p in
+          let low = w.low in
+          let more = step.more in
+          let high = w.high in
+          let later = told_from (row_of ids id) (at + 1) in
+          let told : told_from row at ≡ with_items (pattern_items ks at) later
+          = walk_met t Direction.Forward q row at s is (step_match step is)
+          ∙ ap (with_items (pattern_items ks at)) (goes_on_at s is Direction.Forward q at open_query in_span more) in
+          record {
+            low = omega arith;
+            high = omega (arith, high, more);
+            best = best_behind later told (walk_past t.machine (row_of ids id) (at + 1) at _ (omega arith));
+            ending = ending_by told;
+            met = met_here;
+            none_yet = λ e. absurd (omega arith);
+          }
+
+      pub met_last : at ≡ length text → {unit : ℕ} → LastStep t Direction.Forward (query_at text p) row unit (row_of ids id)
+          → LastMet t ids p (length text) (told_at t text p) (Ok (Some (record { row = id; offset = at })))
+      met_last over step =
+          let q = query_at text p in
+          let none = none_left Ending.Ended in
+          let stop = subst (λ (o : ℕ). next_stop t.machine Direction.Forward row o (units_left Direction.Forward q o)
+          ≡ Stop.Match (row_of ids id) o (units_after Direction.Forward q o)) (sym over) (last_match step is) in
+          let told : told_from row at ≡ with_items (pattern_items ks at) none
+          = walk_met t Direction.Forward q row at s is stop
+          ∙ ap (with_items (pattern_items ks at)) (over_at s is Direction.Forward q at open_query in_span over) in (
+            ap₂ unless_ended (ending_by told)
+                (best_behind none told tt
+                ∙ ap (λ (o : Option HalfMatch). option_or o (longest_met t ids p here)) (longest-nil p)),
+            met_here,
+          )
+
+    -- a quiet row
+    pub quiet_on : {next : ℕ} → Step t Direction.Forward (query_at text p) row at next → IsQuiet t next
+        → Walked next (at + 1) last
+    quiet_on {next} step is =
+        let q = query_at text p in
+        let low = w.low in
+        let high = w.high in
+        let more = step.more in
+        let told : told_from row at ≡ told_from next (at + 1)
+        = overlapping_stops t.machine Direction.Forward row at (units_left Direction.Forward q at)
+        ∙ ap (told_by_stop t.machine Direction.Forward) (step_quiet step is)
+        ∙ sym (overlapping_stops t.machine Direction.Forward next (at + 1) (units_left Direction.Forward q (at + 1))) in
+        record {
+          low = omega arith;
+          high = omega (arith, high, more);
+          best = best_by told;
+          ending = ending_by told;
+          met = w.met;
+          none_yet = λ e. absurd (omega arith);
+        }
+
+    pub ends_there : {next : ℕ} → Step t Direction.Forward (query_at text p) row at next → is_match t next ≡ false
+        → is_quit t next ≡ false → (next == 0) ≡ true → LastMet t ids p (length text) (told_at t text p) (Ok last)
+    ends_there step no_match no_quit dead =
+        walk_over (walk_ended t Direction.Forward (query_at text p) row at (step_ends step no_match no_quit dead))
+
+    pub quits_there : {next : ℕ} → Step t Direction.Forward (query_at text p) row at next → is_quit t next ≡ true
+        → LastMet t ids p (length text) (told_at t text p)
+        (Err (MatchError.Quit (byte_ahead Direction.Forward text at) at))
+    quits_there step quits =
+        let q = query_at text p in
+        walk_quits (byte_ahead Direction.Forward text at) at
+        (overlapping_stops t.machine Direction.Forward row at (units_left Direction.Forward q at)
+        ∙ ap (told_by_stop t.machine Direction.Forward) (step_quits step quits))
+
+    pub ends_last : {unit next : ℕ} → at ≡ length text → LastStep t Direction.Forward (query_at text p) row unit next
+        → is_match t next ≡ false → is_quit t next ≡ false → LastMet t ids p (length text) (told_at t text p) (Ok last)
+    ends_last {unit} {next} over step no_match no_quit =
+        let q = query_at text p in
+        walk_over (walk_ended t Direction.Forward q row at
+        (subst (λ (o : ℕ). next_stop t.machine Direction.Forward row o (units_left Direction.Forward q o) ≡ Stop.Ended)
+        (sym over) (last_ends step no_match no_quit)))
+
+  -- ---- skips
+
+  module _ (id : ℕ) (s : Standing t (row_of ids id)) (bytes : AreBytes text) where
+    -- a byte that isn't read leads the row to itself
+    stays : {at : ℕ} {last : Option MetRow} → Walked (row_of ids id) at last → at < length text
+        → is_read t (row_of ids id) (slice_index text at) ≡ false
+        → Step t Direction.Forward (query_at text p) (row_of ids id) at (row_of ids id)
+    stays {at} w more unread = record {
+      place = place w;
+      more = λ e. omega (arith, e, more);
+      turn = record { leads = sym (loops s (slice_index text at) (bytes at 0 more) unread); standing = s };
+    }
+
+    quiet_bytes : (n at : ℕ) {last : Option MetRow} → is_match t (row_of ids id) ≡ false
+        → Walked (row_of ids id) at last → at + n ≤ length text
+        → ((k : ℕ) → at ≤ k → k < at + n → is_read t (row_of ids id) (slice_index text k) ≡ false)
+        → Walked (row_of ids id) (at + n) last
+    quiet_bytes zero at {last} no_match w h unread =
+        let same : at ≡ at + 0 = omega arith in subst (λ (o : ℕ). Walked (row_of ids id) o last) same w
+    quiet_bytes (suc n) at {last} no_match w h unread =
+        let more : at < length text = omega (arith, h) in
+        let first = unread at (omega arith) (omega arith) in
+        let there : at + 1 + n ≡ at + suc n = omega arith in
+        let quiet = unread_quiet s (slice_index text at) (bytes at 0 more) no_match first in
+        subst (λ (o : ℕ). Walked (row_of ids id) o last) there
+        (quiet_bytes n (at + 1) no_match (quiet_on w (stays w more first) quiet) (omega (arith, h))
+        (λ k low high. unread k (omega (arith, low)) (omega (arith, high))))
+
+    -- a quiet row skips
+    pub quiet_skips : {at to : ℕ} {last : Option MetRow} → is_match t (row_of ids id) ≡ false
+        → Walked (row_of ids id) at last → IsSkip t (row_of ids id) text at to → Walked (row_of ids id) to last
+    quiet_skips {at} {to} {last} no_match w skip =
+        let low = skip.low in
+        let high = skip.high in
+        let there : at + (to - at) ≡ to = omega arith in
+        subst (λ (o : ℕ). Walked (row_of ids id) o last) there
+        (quiet_bytes (to - at) at no_match w (omega arith) (λ k l h. skip.skipped k l (omega (arith, h, there))))
+
+    abbrev met_at : ℕ → Option MetRow
+    met_at at = Some (record { row = id; offset = at })
+
+    met_bytes : (n at : ℕ) → is_match t (row_of ids id) ≡ true → IsId ids id
+        → Walked (row_of ids id) (at + 1) (met_at at) → at + 1 + n ≤ length text
+        → ((k : ℕ) → at + 1 ≤ k → k < at + 1 + n → is_read t (row_of ids id) (slice_index text k) ≡ false)
+        → Walked (row_of ids id) (at + n + 1) (met_at (at + n))
+    met_bytes zero at is is_id w h unread =
+        let same : at ≡ at + 0 = omega arith in
+        subst (λ (o : ℕ). Walked (row_of ids id) (o + 1) (met_at o)) same w
+    met_bytes (suc n) at is is_id w h unread =
+        let more : at + 1 < length text = omega (arith, h) in
+        let first = unread (at + 1) (omega arith) (omega arith) in
+        let there : at + 1 + n ≡ at + suc n = omega arith in
+        subst (λ (o : ℕ). Walked (row_of ids id) (o + 1) (met_at o)) there
+        (met_bytes n (at + 1) is is_id (met_on w id s is is_id (stays w more first)) (omega (arith, h))
+        (λ k low high. unread k (omega (arith, low)) (omega (arith, high))))
+
+    -- a match row skips, and is met again at each place
+    pub met_skips : {at to : ℕ} → is_match t (row_of ids id) ≡ true → IsId ids id
+        → Walked (row_of ids id) (at + 1) (met_at at) → IsSkip t (row_of ids id) text (at + 1) to
+        → Walked (row_of ids id) to (met_at (to - 1))
+    met_skips {at} {to} is is_id w skip =
+        let low = skip.low in
+        let high = skip.high in
+        let n = to - (at + 1) in
+        let there : at + n ≡ to - 1 = omega arith in
+        let behind : to - 1 + 1 ≡ to = omega arith in
+        subst (λ (o : ℕ). Walked (row_of ids id) o (met_at (to - 1))) behind
+        (subst (λ (o : ℕ). Walked (row_of ids id) (o + 1) (met_at o)) there
+        (met_bytes n at is is_id w (omega arith)
+        (λ k l h. skip.skipped k l (omega (arith, h)))))
+
+-- the step by the end mark, behind the last byte
+pub end_step : {t : Table} {text : List ℕ} {p row next : ℕ} → p < length text → Turn t row 256 next
+    → LastStep t Direction.Forward (query_at text p) row 256 next
+end_step {t} {text} {p} more turn = record {
+  order = omega (arith, more);
+  fits = omega arith;
+  unit_is = sym (ap unit_of (slice_get_past text (length text) (omega arith)));
+  turn = turn;
+}

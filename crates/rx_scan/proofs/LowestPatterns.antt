@@ -1,0 +1,60 @@
+-- The lowest of some patterns, one more at a time.
+use Rattle.std.proofs.Common.{◌≡◌, ℕ, zero, suc, ◌+◌, ◌<◌, ◌≤◌, List, [], ◌∷◌, ◌++◌, length, take, refl, ap, sym, ◌∙◌, subst, arith}
+use Rattle.std.proofs.lemmas.List.Elements.{All-nil, All-cons, All-append, All-weaker, Contains-append_left}
+use Rattle.std.proofs.lemmas.List.Elements.{Contains-append_right}
+use Rattle.std.specs.Prelude.{slice_index}
+use Rattle.rx_lemmas.proofs.Firsts.{Contains-here}
+use Rattle.rx_scan.specs.Walks.{IsLowest}
+
+one : (k : ℕ) → IsLowest (k ∷ []) k
+one k = record {
+  there = Contains-here k [];
+  least = All-cons (λ (j : ℕ). k ≤ j) k [] (omega arith) (All-nil (λ (j : ℕ). k ≤ j));
+}
+
+pub lowest_first : (ks : List ℕ) → 0 < length ks → IsLowest (take 1 ks) (slice_index ks 0)
+lowest_first [] h = absurd (omega (arith, h))
+lowest_first (k ∷ ks) h = one k
+
+-- ---- one pattern more
+
+push_lower : (ks : List ℕ) (k j : ℕ) → IsLowest ks k → j ≤ k → IsLowest (ks ++ j ∷ []) j
+push_lower ks k j is h = record {
+  there = Contains-append_right ks (j ∷ []) j (Contains-here j []);
+  least = All-append (λ (x : ℕ). j ≤ x) ks (j ∷ [])
+      (All-weaker (λ (x : ℕ). k ≤ x) (λ (x : ℕ). j ≤ x) (λ x w. omega (arith, w, h)) ks is.least)
+      (All-cons (λ (x : ℕ). j ≤ x) j [] (omega arith) (All-nil (λ (x : ℕ). j ≤ x)));
+}
+
+push_higher : (ks : List ℕ) (k j : ℕ) → IsLowest ks k → k ≤ j → IsLowest (ks ++ j ∷ []) k
+push_higher ks k j is h = record {
+  there = Contains-append_left ks (j ∷ []) k is.there;
+  least = All-append (λ (x : ℕ). k ≤ x) ks (j ∷ []) is.least
+      (All-cons (λ (x : ℕ). k ≤ x) j [] h (All-nil (λ (x : ℕ). k ≤ x)));
+}
+
+more : (ks : List ℕ) (i : ℕ) → i < length ks → take (i + 1) ks ≡ take i ks ++ slice_index ks i ∷ []
+more [] i h = absurd (omega (arith, h))
+more (k ∷ ks) zero h = refl
+more (k ∷ ks) (suc i) h =
+    let e : suc i + 1 ≡ suc (i + 1) = omega arith in
+    ap (λ (n : ℕ). take n (k ∷ ks)) e ∙ ap (λ (l : List ℕ). k ∷ l) (more ks i (omega (arith, h)))
+
+module _ (ks : List ℕ) (i k : ℕ) (within : i < length ks) (is : IsLowest (take i ks) k) where
+  pub lowest_lower : slice_index ks i < k → IsLowest (take (i + 1) ks) (slice_index ks i)
+  lowest_lower h =
+      subst (λ (l : List ℕ). IsLowest l (slice_index ks i)) (sym (more ks i within))
+      (push_lower (take i ks) k (slice_index ks i) is (omega (arith, h)))
+
+  pub lowest_same : k ≤ slice_index ks i → IsLowest (take (i + 1) ks) k
+  lowest_same h =
+      subst (λ (l : List ℕ). IsLowest l k) (sym (more ks i within)) (push_higher (take i ks) k (slice_index ks i) is h)
+
+pub lowest_whole : (ks : List ℕ) (i k : ℕ) → length ks ≤ i → IsLowest (take i ks) k → IsLowest ks k
+lowest_whole ks i k h is = subst (λ (l : List ℕ). IsLowest l k) (whole ks i h) is
+  where
+    whole : (xs : List ℕ) (n : ℕ) → length xs ≤ n → take n xs ≡ xs
+    whole [] zero h = refl
+    whole [] (suc n) h = refl
+    whole (x ∷ xs) zero h = absurd (omega (arith, h))
+    whole (x ∷ xs) (suc n) h = ap (λ (l : List ℕ). x ∷ l) (whole xs n (omega (arith, h)))

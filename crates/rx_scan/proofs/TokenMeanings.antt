@@ -1,0 +1,80 @@
+-- The longest of what is told at a place is the longest match there, over a table that tells all matches.
+use Rattle.std.proofs.Common.{◌≡◌, ℕ, ◌<◌, ◌≤◌, Option, Some, None, Ok, List, refl, ap, sym, ◌∙◌, subst, arith, ⊎_elim}
+use Rattle.std.proofs.lemmas.Bool.{cases_lt}
+use Rattle.rx_spec.specs.Expressions.{Expression}
+use Rattle.rx_spec.specs.Queries.{HalfMatch}
+use Rattle.rx_spec.specs.HalfSearches.{HalfAnswer}
+use Rattle.rx_spec.specs.Overlapping.{Ending, OverlappingMatches}
+use Rattle.rx_spec.specs.Plans.{Plan}
+use Rattle.rx_spec.specs.Tables.{Table}
+use Rattle.rx_all.specs.Matches.{IsPlaced, MatchesTo, told_at}
+use Rattle.rx_all.proofs.AllMatches.{all_are_told}
+use Rattle.rx_scan.specs.Meanings.{IsLongestMatch}
+use Rattle.rx_scan.specs.Tokens.{longest, longest_of, unless_ended}
+use Rattle.rx_scan.proofs.LongestMatches.{NotAfter, longest_ends, longest_there, some_longest}
+
+module _ {t : Table} {plan : Plan} {es : List Expression} {text : List ℕ} {p : ℕ} (is : IsPlaced t plan es text p) where
+  abbrev found : OverlappingMatches
+  found = told_at t text p
+
+  -- an answer that is no error is the longest of a walk that ends
+  ended_longest : (m : Option HalfMatch) → longest_of p (told_at t text p) ≡ Ok m
+      → ((told_at t text p).ending ≡ Ending.Ended) × (longest p (told_at t text p).items ≡ m)
+  ended_longest m e = by_ending found.ending refl e
+    where
+      same : (x : Option HalfMatch) → Path HalfAnswer (Ok x) (Ok m) → x ≡ m
+      same x e = cc
+
+      by_ending : (ending : Ending) → found.ending ≡ ending → unless_ended found.ending (longest p found.items) ≡ Ok m
+          → (found.ending ≡ Ending.Ended) × (longest p found.items ≡ m)
+      by_ending Ending.Ended ended h = (
+        ended,
+        same (longest p found.items) (sym (ap (λ (x : Ending). unless_ended x (longest p found.items)) ended)
+            ∙ h),
+      )
+      by_ending (Ending.Quits byte offset) ended h =
+          absurd (let no = sym (ap (λ (x : Ending). unless_ended x (longest p found.items)) ended) ∙ h in cc)
+      by_ending (Ending.Refused error) ended h =
+          absurd (let no = sym (ap (λ (x : Ending). unless_ended x (longest p found.items)) ended) ∙ h in cc)
+
+  pub longest_is_match : (m : HalfMatch) → longest_of p (told_at t text p) ≡ Ok (Some m)
+      → IsLongestMatch es plan.line_terminator text p m
+  longest_is_match m e =
+      let told = ended_longest (Some m) e in
+      let above = longest_ends p found.items m told.1 in
+      let there = longest_there p found.items m told.1 in
+      let first : (k end : ℕ) → MatchesTo es plan.line_terminator text p k end → p < end
+      → NotAfter m (record { pattern = k; offset = end })
+      = λ k end matches past.
+      let one = some_longest p found.items (record { pattern = k; offset = end })
+      ((all_are_told t plan es text p is told.0 k end).1 matches) past in
+      subst (λ (x : HalfMatch). NotAfter x (record { pattern = k; offset = end })) (some_same one.0 (sym one.1 ∙ told.1))
+      one.2 in
+      record {
+        above = above;
+        matches = (all_are_told t plan es text p is told.0 m.pattern m.offset).0 there;
+        longest = λ k end matches.
+            ⊎_elim
+            (λ (past : p < end). (first k end matches past).longer)
+            (λ (low : end ≤ p). omega (arith, low, above))
+            (cases_lt p end);
+        lowest = λ k matches. (first k m.offset matches above).lower refl;
+      }
+    where
+      some_same : (n : HalfMatch) → Some n ≡ Some m → n ≡ m
+      some_same n e = cc
+
+  -- where there is none, no pattern has an end past the place
+  pub none_matches : longest_of p (told_at t text p) ≡ Ok None → (k end : ℕ)
+      → MatchesTo es plan.line_terminator text p k end → end ≤ p
+  none_matches e k end matches =
+      let told = ended_longest None e in
+      ⊎_elim
+      (λ (past : p < end). absurd (let one = some_longest p found.items (record { pattern = k; offset = end })
+      ((all_are_told t plan es text p is told.0 k end).1 matches) past in
+      none_some one.0 (sym told.1 ∙ one.1)))
+      (λ (low : end ≤ p). low)
+      (cases_lt p end)
+    where
+      none_some : (n : HalfMatch) → None ≡ Some n → ⊥
+      none_some n e = cc

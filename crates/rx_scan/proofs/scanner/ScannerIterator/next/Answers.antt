@@ -1,0 +1,75 @@
+use Rattle.std.proofs.Common.{◌≡◌, ◌<◌, sym, ◌∙◌, ap, subst, arith, refl, length}
+use Rattle.rx_spec.specs.Queries.{HalfMatch}
+use Rattle.rx_base.specs.MatchError.{error_of}
+use Rattle.rx_scan.specs.Tokens.{IsMeantEnd, no_more, error_end}
+use Rattle.rx_scan.specs.declared.token.ScanEnd.{ScanEnd}
+use Rattle.rx_scan.proofs.LineCounts.{feeds_few, start_before}
+use Rattle.rx_scan.proofs.TokenSteps.{over_now, token_now, token_made, no_tokens, ends_now, error_meant, stuck_meant}
+use Rattle.rx_scan.proofs.scanner.ScannerIterator.next.Goals as goal
+use Rattle.rx_scan.proofs.scanner.ScannerIterator.next.Goals.{in-Quit, in-UnsupportedAnchored, in-PairMismatch}
+
+pub returns-then-self-clause-steps : goal.returns-then-self-clause-steps
+returns-then-self-clause-steps g c =
+    let s = c.args.self.now in
+    let t = g.A.Automaton.table s.table.now in
+    let goes = sym c.is_some.ensures ∙ c.if-is_some.false in
+    over_now t s.text.now s.at s.end goes ScanEnd.Done tt (no_tokens t s.text.now s.at c.if-self.true)
+
+pub overflow_add-token : goal.overflow_add-token
+overflow_add-token g c =
+    let s = c.args.self.now in
+    let within = rw c.in-Ok-Some.field-0-is at c.in-Ok-Some.ensures.within in
+    omega (arith, s.feeds, feeds_few s.text.now s.at, within.0, c.offset-end.ensures, c.offset-end.type_inv)
+
+pub overflow_sub-token : goal.overflow_sub-token
+overflow_sub-token g c =
+    let s = c.args.self.now in
+    omega (arith, s.start, start_before s.text.now s.at)
+
+pub returns-in-Ok-Some-clause-steps : goal.returns-in-Ok-Some-clause-steps
+returns-in-Ok-Some-clause-steps g c =
+    let s = c.args.self.now in
+    let t = g.A.Automaton.table s.table.now in
+    let text = s.text.now in
+    let m : HalfMatch = c.in-Ok-Some.found in
+    let goes = sym c.is_some.ensures ∙ c.if-is_some.false in
+    let more : s.at < length text = omega (arith, s.within, c.if-self.false) in
+    let told = sym (rw c.in-Ok-Some.field-0-is at c.in-Ok-Some.ensures.value) in
+    let now = token_now t text s.at s.end goes m more c.longest.ensures.bytes told in
+    token_made t text s.at s.end m c.pattern.result c.offset-end.result s.lines.feeds s.lines.start
+    c.pattern.ensures c.offset-end.ensures s.feeds s.start now
+
+pub returns-in-Ok-Some-clause-goes : goal.returns-in-Ok-Some-clause-goes
+returns-in-Ok-Some-clause-goes g c =
+    let steps = returns-in-Ok-Some-clause-steps g c in
+    let fewer = ap length steps.first in
+    record { on = λ finite. (tt, tt, omega (arith, fewer)); keeps = tt; rests = λ finite. tt }
+
+pub returns-in-Ok-None-clause-steps : goal.returns-in-Ok-None-clause-steps
+returns-in-Ok-None-clause-steps g c =
+    let s = c.args.self.now in
+    let t = g.A.Automaton.table s.table.now in
+    let text = s.text.now in
+    let goes = sym c.is_some.ensures ∙ c.if-is_some.false in
+    let more : s.at < length text = omega (arith, s.within, c.if-self.false) in
+    let told = sym (rw c.in-Ok-None.field-0-is at c.in-Ok-None.ensures.value) in
+    over_now t text s.at s.end goes (ScanEnd.Stuck s.at)
+    (stuck_meant t text s.at more c.longest.ensures.bytes told) (ends_now t text s.at more told refl)
+
+pub returns-after-kind-clause-steps : goal.returns-after-kind-clause-steps
+returns-after-kind-clause-steps g c =
+    let s = c.args.self.now in
+    let t = g.A.Automaton.table s.table.now in
+    let text = s.text.now in
+    let goes = sym c.is_some.ensures ∙ c.if-is_some.false in
+    let more : s.at < length text = omega (arith, s.within, c.if-self.false) in
+    let why : error_end c.in-Err.error ≡ c.match-kind.self = elim c.match-kind.branch [
+      | in-Quit w ↦ ap error_end (sym c.kind.ensures ∙ ap error_of w.in-Quit.is) ∙ sym w.self-is
+      | in-UnsupportedAnchored w ↦
+          ap error_end (sym c.kind.ensures ∙ ap error_of w.in-UnsupportedAnchored.is) ∙ sym w.self-is
+      | in-PairMismatch w ↦ ap error_end (sym c.kind.ensures ∙ ap error_of w.in-PairMismatch.is) ∙ sym w.self-is
+    ] in
+    let meant : IsMeantEnd t text c.match-kind.self =
+    subst (IsMeantEnd t text) why (error_meant t text c.in-Err.error) in
+    over_now t text s.at s.end goes c.match-kind.self meant
+    (ends_now t text s.at more (sym c.in-Err.ensures.value) (ap no_more why))
