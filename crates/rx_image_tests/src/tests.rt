@@ -1,8 +1,6 @@
 //! What no clause shows: that pairs are written and read at all, which test an altered image fails, and that what was
 //! read is searched.
 
-ghost use Rattle.rx_image.specs.Pairs.{HaveSamePatterns};
-ghost use Rattle.rx_image.specs.Tables.{pair_of};
 ghost use Rattle.rx_search.specs.Starts.{IsId};
 
 mod answers;
@@ -11,15 +9,11 @@ mod pairs;
 use answers::{Answer, check, kind_name, search_if_read};
 use pairs::{FORMS, ORDERS, form_number, head, joined, pair, single};
 use rx_base::{Anchored, Direction, Input};
-use rx_dense::DFA as DenseDFA;
-use rx_dense_image::DenseRead;
-use rx_image::{Tables, dense_pair, read_pair, sparse_pair};
+use rx_image::{Tables, read_pair};
 use rx_search::Automaton;
-use rx_sparse::DFA as SparseDFA;
-use rx_sparse_image::SparseRead;
 use rx_spec::Form;
 use rx_wire::Order;
-use std::alloc::{AllocError, Global};
+use std::alloc::Global;
 use std::process::Abort;
 use std::test::Fail;
 
@@ -129,45 +123,6 @@ fn cuts_between_the_parts_of_an_image_are_refused(rt: HostRuntime) -> Result<(),
         }
     }
     Ok(())
-}
-
-/// Which kind of test some bytes fail as the image of one table.
-fn single_kind(alloc: Global, form: Form, bytes: &[u8]) -> &'static str {
-    match form {
-        Form::Dense => match DenseDFA::<Vec<u32>>::from_bytes(alloc, bytes) {
-            Ok(_) => "read",
-            Err(error) => kind_name(&error),
-        },
-        Form::Sparse => match SparseDFA::<&[u8]>::from_bytes(alloc, bytes) {
-            Ok((_table, _len)) => "read",
-            Err(error) => kind_name(&error),
-        },
-    }
-}
-
-#[test]
-fn the_label_tells_a_pair_from_a_table(rt: HostRuntime) -> Result<(), Fail> {
-    let alloc = rt.alloc();
-    for form in FORMS {
-        for order in ORDERS {
-            let table = single(alloc, form, order, Direction::Forward, "a")?;
-            check(&rt, alloc, &table, Err("label"), 0);
-            let image = pair(alloc, form, order, "a")?;
-            for reader in FORMS {
-                assert_eq!(&rt; single_kind(alloc, reader, &image), "label");
-            }
-        }
-    }
-    Ok(())
-}
-
-/// Puts bytes into an image at a place.
-fn put(image: &mut Vec<u8>, at: usize, bytes: &[u8]) {
-    for i in 0..bytes.len() {
-        if at < image.len() && i < image.len() - at {
-            image[at + i] = bytes[i];
-        }
-    }
 }
 
 /// Other bytes at some places of the little endian image of the dense pair of `a`, and the kind of the first test that
@@ -338,31 +293,6 @@ fn tables_that_do_not_belong_together_are_read(rt: HostRuntime) -> Result<(), Fa
     let image = joined(alloc, Form::Dense, Order::Little, "a", "b")?;
     check(&rt, alloc, &image, Ok((7, 5, 1, 1696)), 0);
     Ok(())
-}
-
-#[test]
-fn sparse_tables_are_written_in_another_order_than_theirs(rt: HostRuntime) -> Result<(), Fail> {
-    let alloc = rt.alloc();
-    for from in ORDERS {
-        let image = pair(alloc, Form::Sparse, from, "a [bc] ab")?;
-        let (tables, _) = read_pair(alloc, &image)?;
-        for to in ORDERS {
-            let again = written(alloc, to, &tables)?;
-            let wanted = pair(alloc, Form::Sparse, to, "a [bc] ab")?;
-            assert!(&rt; again.as_slice() == wanted.as_slice(), "{from:?} {to:?}");
-        }
-    }
-    Ok(())
-}
-
-/// The image of tables that were read.
-fn written(alloc: Global, order: Order, tables: &Tables<'_>) -> Result<Vec<u8>, AllocError>
-    requires { HaveSamePatterns (pair_of tables.now) }
-{
-    match tables {
-        Tables::Dense(forward, reverse) => dense_pair(alloc, order, forward, reverse),
-        Tables::Sparse(forward, reverse) => sparse_pair(alloc, order, forward, reverse),
-    }
 }
 
 /// Changes each byte of an image in some ways, one at a time, and searches by what is accepted. Some changes must be,
