@@ -47,13 +47,14 @@ fn build(alloc: Global, rules: &Rules) -> Result<OwnedDFA, Fail>
     Ok(builder.build_many(alloc, &exprs)?)
 }
 
-/// The sparse table of a dense one.
-fn made_sparse(alloc: Global, dense: &OwnedDFA) -> Result<DFA<Vec<u8>>, Fail>
+/// The sparse table of a dense one, and how many rows it has.
+fn made_sparse(alloc: Global, dense: &OwnedDFA) -> Result<(DFA<Vec<u8>>, usize), Fail>
     requires { IsInOrder dense.now }
-    ensures { IfOk result (λ sparse. IsSoundLayout sparse.layout) }
+    ensures { IfOk result (λ x. IsSoundLayout x.0.layout) }
 {
+    let rows = dense.state_len();
     special_ids_are_rows();
-    Ok(dense.to_sparse(alloc)?)
+    Ok((dense.to_sparse(alloc)?, rows))
 }
 
 /// The tokens of a text, each as its pattern, its span, its line and its column; and their end.
@@ -87,7 +88,8 @@ fn compare(
     texts: &[(&[u8], &str)],
 ) -> Result<(), Fail> {
     let dense = build(alloc, rules)?;
-    let sparse = made_sparse(alloc, &dense)?;
+    let (sparse, rows) = made_sparse(alloc, &dense)?;
+    assert!(rt; sparse.state_len() == rows, "{rows} rows");
     for (text, want) in texts {
         let told = shown(alloc, &dense, text)?;
         assert!(rt; told.as_str() == *want, "{told}");
