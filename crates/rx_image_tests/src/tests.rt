@@ -125,6 +125,27 @@ fn cuts_between_the_parts_of_an_image_are_refused(rt: HostRuntime) -> Result<(),
     Ok(())
 }
 
+#[test]
+fn the_image_of_a_table_is_none_of_a_pair(rt: HostRuntime) -> Result<(), Fail> {
+    let alloc = rt.alloc();
+    for form in FORMS {
+        for order in ORDERS {
+            let table = single(alloc, form, order, Direction::Forward, "a")?;
+            check(&rt, alloc, &table, Err("label"), 0);
+        }
+    }
+    Ok(())
+}
+
+/// Puts bytes into an image at a place.
+fn put(image: &mut Vec<u8>, at: usize, bytes: &[u8]) {
+    for i in 0..bytes.len() {
+        if at < image.len() && i < image.len() - at {
+            image[at + i] = bytes[i];
+        }
+    }
+}
+
 /// Other bytes at some places of the little endian image of the dense pair of `a`, and the kind of the first test that
 /// they fail. The image of its forward table begins at byte 40, and that of the other one at byte 888.
 const ALTERED: &[(&[(usize, u8)], &str)] = &[
