@@ -81,7 +81,7 @@ fn cut_images_of_pairs_are_refused(rt: HostRuntime) -> Result<(), Fail> {
         (888, GENERIC),
     ];
     for (len, want) in table {
-        check_pair(&rt, alloc, &image[..*len], want)?;
+        check_pair(&rt, alloc, image.get(..*len).unwrap_or(b""), want)?;
     }
     let single = image_of(&rt, alloc, "fwd", "le", "expr lit 616263")?;
     check_pair(&rt, alloc, &single, LABEL)
