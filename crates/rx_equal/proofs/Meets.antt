@@ -1,0 +1,192 @@
+-- Places of which pairs take care.
+use Rattle.std.proofs.Common.{
+  ℕ,
+  zero,
+  suc,
+  ◌≡◌,
+  ◌+◌,
+  ◌<◌,
+  ◌≤◌,
+  max,
+  Some,
+  None,
+  Result,
+  Ok,
+  Err,
+  Option,
+  List,
+  [],
+  ◌∷◌,
+  ◌++◌,
+  refl,
+  ap,
+  sym,
+  ◌∙◌,
+  subst,
+  arith,
+}
+use Rattle.std.proofs.lemmas.Option.{same_Some}
+use Rattle.std.proofs.Common.{Bool, true, false, if◌then◌else◌}
+use Rattle.std.proofs.lemmas.Bool.{lt-ltb, ltb-true}
+use Rattle.std.proofs.Common.{drop, length}
+use Rattle.std.proofs.Math.ListN.{drop_of_length-le}
+use Rattle.std.proofs.lemmas.List.Elements.{Contains-append_left, Contains-push}
+use Rattle.std.specs.Prelude.{Contains, nat_lt, IfSome, slice_get}
+use Rattle.std.specs.Option.{option_and_then}
+use Rattle.rx_spec.specs.Queries.{Anchored}
+use Rattle.rx_spec.specs.Starts.{StartError}
+use Rattle.rx_spec.specs.Tables.{Table}
+use Rattle.rx_base.specs.StartConfig.{StartConfig}
+use Rattle.rx_equal.specs.declared.evidence.Link.{Link}
+use Rattle.rx_equal.specs.Partings.{answer_at, IsModeOf}
+use Rattle.rx_equal.specs.Evidence.{
+  RowPair,
+  start_pair,
+  AreMet,
+  AreClosed,
+  AreEvidence,
+  pairs_from,
+  link_pair,
+  HaveEqualLabels,
+}
+use Rattle.rx_equal.specs.Pairs.{AreApart, AreRefused}
+use Rattle.rx_equal.specs.Places.{Meet, MeetMode, MeetAll, mode_at, beside_at}
+use Rattle.rx_equal.proofs.Words.{rows_begin, drop_get}
+
+module _ (t u : Table) (pairs : List RowPair) (place : StartConfig) where
+  pub met_rows : (p : RowPair) → start_pair t u place ≡ Some p → Contains pairs p → Meet t u pairs place
+  met_rows p e c =
+      let rows = rows_begin (answer_at t place) (answer_at u place) p e in
+      subst (λ o. AreMet pairs o (answer_at u place)) (sym rows.0)
+      (subst (λ o. AreMet pairs (Ok p.row) o) (sym rows.1) c)
+
+  pub rows_met : (p : RowPair) → start_pair t u place ≡ Some p → Meet t u pairs place → Contains pairs p
+  rows_met p e m =
+      let rows = rows_begin (answer_at t place) (answer_at u place) p e in
+      subst (λ o. AreMet pairs (Ok p.row) o) rows.1
+      (subst (λ o. AreMet pairs o (answer_at u place)) rows.0 m)
+
+  pub met_refused : AreRefused t u place → Meet t u pairs place
+  met_refused r =
+      subst (λ o. AreMet pairs o (answer_at u place)) (sym r.first)
+      (subst (λ o. AreMet pairs (Err r.error) o) (sym r.second) refl)
+
+pub apart_unmet : (pairs : List RowPair) (o r : Result ℕ StartError) → AreApart o r → AreMet pairs o r → ⊥
+apart_unmet pairs (Ok x) (Ok y) a m = a
+apart_unmet pairs (Err e) (Err f) a m = a m
+apart_unmet pairs (Ok x) (Err f) a m = m
+apart_unmet pairs (Err e) (Ok y) a m = m
+
+-- ---- places by their numbers
+
+mode_number : Anchored → ℕ
+mode_number Anchored.No = 0
+mode_number Anchored.Yes = 1
+mode_number (Anchored.Pattern k) = suc (suc k)
+
+mode_there : (mode : Anchored) → mode_at (mode_number mode) ≡ mode
+unfolding mode_number
+mode_there Anchored.No = refl
+mode_there Anchored.Yes = refl
+mode_there (Anchored.Pattern k) = refl
+
+mode_below : (t u : Table) (mode : Anchored) → IsModeOf t u mode → mode_number mode < max t.pattern_len u.pattern_len
+    + 3
+unfolding mode_number
+mode_below t u Anchored.No is = omega arith
+mode_below t u Anchored.Yes is = omega arith
+mode_below t u (Anchored.Pattern k) is = omega (arith, is)
+
+pub mode_is : (t u : Table) (m : ℕ) → m < max t.pattern_len u.pattern_len + 3 → IsModeOf t u (mode_at m)
+mode_is t u zero h = tt
+mode_is t u (suc zero) h = tt
+mode_is t u (suc (suc k)) h = omega (arith, h)
+
+beside_met : (t u : Table) (pairs : List RowPair) (mode : Anchored) → MeetMode t u pairs mode → (beside : Option ℕ)
+    → IfSome beside (λ byte. byte < 256) → Meet t u pairs (record { beside = beside; mode = mode })
+beside_met t u pairs mode all None h = all 256 (omega arith)
+beside_met t u pairs mode all (Some byte) h =
+    subst (λ b. Meet t u pairs (record { beside = if b then Some byte else None; mode = mode })) (lt-ltb byte 256 h)
+    (all byte (omega arith))
+
+beside_is : (n : ℕ) (b : Bool) → nat_lt n 256 ≡ b → IfSome (if b then Some n else None) (λ byte. byte < 256)
+beside_is n true e = ltb-true n 256 e
+beside_is n false e = tt
+
+module _ (t u : Table) (pairs : List RowPair) where
+  pub all_met : ((m : ℕ) → m < max t.pattern_len u.pattern_len + 3 → MeetMode t u pairs (mode_at m)) → MeetAll t u pairs
+  all_met each place is =
+      let mode = place.mode in
+      subst (λ (v : Anchored). Meet t u pairs (record { beside = place.beside; mode = v })) (mode_there mode)
+      (beside_met t u pairs (mode_at (mode_number mode)) (each (mode_number mode) (mode_below t u mode is.mode))
+      place.beside is.beside)
+
+  pub mode_met : MeetAll t u pairs → (m : ℕ) → m < max t.pattern_len u.pattern_len + 3 → MeetMode t u pairs (mode_at m)
+  mode_met all m h n b =
+      all (record { beside = beside_at n; mode = mode_at m })
+      (record { mode = mode_is t u m h; beside = beside_is n (nat_lt n 256) refl })
+
+-- ---- the pairs of links
+
+-- a link's pair comes behind the earlier ones
+pub pairs_step : (t u : Table) (link : Link) (links : List Link) (earlier : List RowPair) (p : RowPair)
+    → link_pair t u earlier link ≡ Some p
+    → pairs_from t u earlier (link ∷ links) ≡ pairs_from t u (earlier ++ p ∷ []) links
+pairs_step t u link links earlier p e =
+    ap (option_and_then (λ (q : RowPair). pairs_from t u (earlier ++ q ∷ []) links)) e
+
+pub pairs_stop : (t u : Table) (link : Link) (links : List Link) (earlier : List RowPair)
+    → link_pair t u earlier link ≡ None → pairs_from t u earlier (link ∷ links) ≡ None
+pairs_stop t u link links earlier e =
+    ap (option_and_then (λ (q : RowPair). pairs_from t u (earlier ++ q ∷ []) links)) e
+
+by_pair : (t u : Table) (link : Link) (links : List Link) (earlier pairs : List RowPair)
+    → pairs_from t u earlier (link ∷ links) ≡ Some pairs → (p : RowPair) (o : Option RowPair)
+    → link_pair t u earlier link ≡ o
+    → ((q : RowPair) → pairs_from t u (earlier ++ q ∷ []) links ≡ Some pairs → Contains pairs p) → Contains pairs p
+by_pair t u link links earlier pairs e p (Some q) is go = go q (sym (pairs_step t u link links earlier q is) ∙ e)
+by_pair t u link links earlier pairs e p None is go =
+    let stop = pairs_stop t u link links earlier is in absurd (cc)
+
+pub pairs_within : (t u : Table) (links : List Link) (earlier pairs : List RowPair)
+    → pairs_from t u earlier links ≡ Some pairs → (p : RowPair) → Contains earlier p → Contains pairs p
+pairs_within t u [] earlier pairs e p c = subst (λ ps. Contains ps p) (same_Some earlier pairs e) c
+pairs_within t u (link ∷ links) earlier pairs e p c =
+    by_pair t u link links earlier pairs e p (link_pair t u earlier link) refl
+    (λ q e. pairs_within t u links (earlier ++ q ∷ []) pairs e p (Contains-append_left earlier (q ∷ []) p c))
+
+module _ (t u : Table) (links : List Link) (earlier : List RowPair) (i : ℕ) (link : Link)
+    {whole : Option (List RowPair)}
+    (there : slice_get links i ≡ Some link) (left : pairs_from t u earlier (drop i links) ≡ whole) where
+  pub links_step : (p : RowPair) → link_pair t u earlier link ≡ Some p
+      → pairs_from t u (earlier ++ p ∷ []) (drop (i + 1) links) ≡ whole
+  links_step p e =
+      sym (pairs_step t u link (drop (i + 1) links) earlier p e)
+      ∙ ap (pairs_from t u earlier) (sym (drop_get links i link there)) ∙ left
+
+  pub links_stop : link_pair t u earlier link ≡ None → whole ≡ None
+  links_stop e =
+      sym left ∙ ap (pairs_from t u earlier) (drop_get links i link there)
+      ∙ pairs_stop t u link (drop (i + 1) links) earlier e
+
+pub links_end : (t u : Table) (links : List Link) (earlier : List RowPair) (i : ℕ) {whole : Option (List RowPair)}
+    → length links ≤ i → pairs_from t u earlier (drop i links) ≡ whole → whole ≡ Some earlier
+links_end t u links earlier i past left = sym left ∙ ap (pairs_from t u earlier) (drop_of_length-le links past)
+
+none_some : {X : Type 0} {x : X} → None ≡ Some x → ⊥
+none_some e = absurd (cc)
+
+module _ (t u : Table) (links : List Link) where
+  pub none_refuted : pairs_from t u [] links ≡ None → AreEvidence t u links → ⊥
+  none_refuted e v = none_some (sym e ∙ v.named)
+
+  pub label_of : (earlier : List RowPair) (later : List Link) (p : RowPair)
+      → pairs_from t u (earlier ++ p ∷ []) later ≡ pairs_from t u [] links → AreEvidence t u links → HaveEqualLabels
+      t u p
+  label_of earlier later p e v =
+      v.closed.labels p
+      (pairs_within t u later (earlier ++ p ∷ []) v.pairs (e ∙ v.named) p (Contains-push earlier p))
+
+pub evidence_closed : (t u : Table) (links : List Link) (pairs : List RowPair) → pairs_from t u [] links ≡ Some pairs
+    → AreEvidence t u links → AreClosed t u pairs
+evidence_closed t u links pairs e v = subst (AreClosed t u) (same_Some v.pairs pairs (sym v.named ∙ e)) v.closed

@@ -1,0 +1,84 @@
+-- Tests, and what stands in lists.
+use Rattle.std.proofs.Common.{
+  ℕ,
+  ◌≡◌,
+  ◌+◌,
+  ◌<◌,
+  ◌≤◌,
+  Bool,
+  true,
+  false,
+  not,
+  Option,
+  Some,
+  None,
+  List,
+  map,
+  refl,
+  ap,
+  sym,
+  ◌∙◌,
+  subst,
+}
+use Rattle.std.proofs.Common.{⊎_elim, arith}
+use Rattle.std.specs.Prelude.{IsTrue, slice_get, All, Contains, option_map}
+use Rattle.std.proofs.lemmas.Bool.{cases_lt}
+use Rattle.std.proofs.lemmas.List.Elements.{All-get_or}
+use Rattle.std.proofs.lemmas.Option.{
+  slice_get_within,
+  get_or_from_slice_get,
+  slice_get-get_or,
+  slice_get-map,
+  same_Some,
+}
+
+pub not_both : (b : Bool) → IsTrue (not b) → IsTrue b → ⊥
+not_both true e h = absurd (cc)
+not_both false e h = absurd (cc)
+
+pub not_intro : (b : Bool) → (IsTrue b → ⊥) → IsTrue (not b)
+not_intro true h = absurd (h refl)
+not_intro false h = refl
+
+pub false_both : (b : Bool) → b ≡ false → IsTrue b → ⊥
+false_both b e h = absurd (cc)
+
+pub from_not : (b added : Bool) → ((IsTrue b → ⊥) → IsTrue added) → added ≡ false → IsTrue b
+from_not true added h e = refl
+from_not false added h e = absurd (false_both added e (h (λ (t : false ≡ true). absurd (cc))))
+
+pub all_get : {X : Type 0} (P : X → Type 0) (xs : List X) (i : ℕ) (x : X) → All P xs → slice_get xs i ≡ Some x → P x
+all_get P xs i x all e =
+    subst P (get_or_from_slice_get xs i x x e) (All-get_or P xs i x (slice_get_within xs i x e) all)
+
+pub map_get : {X Y : Type 0} (f : X → Y) (xs : List X) (i : ℕ) (x : X) → slice_get xs i ≡ Some x
+    → slice_get (map f xs) i ≡ Some (f x)
+map_get f xs i x e = slice_get-map f xs i ∙ ap (option_map f) e
+
+pub contains_get : {X : Type 0} (xs : List X) (i : ℕ) (x : X) → slice_get xs i ≡ Some x → Contains xs x
+contains_get xs i x e = (i, slice_get_within xs i x e, get_or_from_slice_get xs i x x e)
+
+pub get_contained : {X : Type 0} (xs : List X) (x : X) (c : Contains xs x) → slice_get xs c.0 ≡ Some x
+get_contained xs x c = slice_get-get_or xs c.0 x c.1 ∙ ap (λ y. Some y) c.2
+
+-- what a mapped list contains comes from one of its items
+pub record ComesFrom {X Y : Type 0} (f : X → Y) (xs : List X) (y : Y) : Type 0 where
+  pub place : ℕ
+  pub item : X
+  pub there : slice_get xs place ≡ Some item
+  pub is : f item ≡ y
+
+by_item : {X Y : Type 0} (f : X → Y) (xs : List X) (y : Y) (i : ℕ) (o : Option X) → slice_get xs i ≡ o
+    → option_map f o ≡ Some y → ComesFrom f xs y
+by_item f xs y i (Some x) there e = record { place = i; item = x; there = there; is = same_Some (f x) y e }
+by_item f xs y i None there e = absurd (cc)
+
+pub map_contained : {X Y : Type 0} (f : X → Y) (xs : List X) (y : Y) → Contains (map f xs) y → ComesFrom f xs y
+map_contained f xs y c =
+    by_item f xs y c.0 (slice_get xs c.0) refl (sym (slice_get-map f xs c.0) ∙ get_contained (map f xs) y c)
+
+pub below_more : (P : ℕ → Type 0) (n : ℕ) → ((k : ℕ) → k < n → P k) → P n → (k : ℕ) → k < n + 1 → P k
+below_more P n below here k h =
+    ⊎_elim (λ (l : k < n). below k l)
+    (λ (l : n ≤ k). let same : n ≡ k = omega arith in subst P same here)
+    (cases_lt k n)

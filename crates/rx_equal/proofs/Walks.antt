@@ -1,0 +1,374 @@
+-- A walk over pairs: each pair that it has is reached, and where nothing is left to add it has all.
+use Rattle.std.proofs.Common.{
+  ℕ,
+  zero,
+  suc,
+  ◌≡◌,
+  ◌≢◌,
+  ◌+◌,
+  ◌<◌,
+  ◌≤◌,
+  Option,
+  Some,
+  None,
+  List,
+  [],
+  ◌∷◌,
+  ◌++◌,
+  length,
+  refl,
+  ap,
+  sym,
+  ◌∙◌,
+  subst,
+  arith,
+  get_or,
+}
+use Rattle.std.proofs.Common.{⊎_elim, ◌⊎◌, inl, inr, length-append}
+use Rattle.std.proofs.lemmas.Bool.{cases_lt}
+use Rattle.std.specs.Prelude.{Contains, slice_get, AllPairs}
+use Rattle.std.specs.Option.{option_and_then}
+use Rattle.std.proofs.lemmas.Option.{slice_get_within, slice_get-get_or, same_Some}
+use Rattle.std.proofs.lemmas.List.{get_or_append_left}
+use Rattle.std.proofs.Math.Seq.{get_or-append_seam}
+use Rattle.std.proofs.lemmas.List.Quantifiers.{all_pairs_push}
+use Rattle.rx_spec.specs.Machines.{run}
+use Rattle.rx_spec.specs.Tables.{Table}
+use Rattle.rx_base.specs.Unit.{unit_number}
+use Rattle.rx_lemmas.proofs.Words.{IsWord-nil, IsWord-cons, IsWord-append, run-nil, run-cons, run-append, run-within}
+use Rattle.rx_equal.specs.declared.evidence.Link.{Link}
+use Rattle.rx_equal.specs.Evidence.{RowPair, start_pair, next_pair, next_of, pairs_from, link_pair, AreClosed, AreMet}
+use Rattle.rx_equal.specs.Evidence.{IsReached, AreReached}
+use Rattle.rx_equal.specs.Walks.{Follows, IsWalk, IsLink, IsReachedBy, IsEqual}
+use Rattle.rx_equal.proofs.Tests.{get_contained}
+use Rattle.rx_equal.proofs.Meets.{pairs_step, rows_met}
+use Rattle.rx_equal.proofs.Closed.{nothing_parts}
+use Rattle.std.proofs.Common.{Bool, true, false, Result, Ok, Err, append_assoc}
+use Rattle.std.proofs.lemmas.List.{append-nil}
+use Rattle.std.proofs.lemmas.List.Elements.{Contains-append_left, Contains-push, Contains-push_cases}
+use Rattle.rx_spec.specs.Starts.{StartError, start_error, start_row, start_context}
+use Rattle.rx_spec.specs.Tables.{IsSound}
+use Rattle.rx_base.specs.StartConfig.{StartConfig}
+use Rattle.rx_equal.specs.Partings.{answer_at, row_or}
+use Rattle.rx_equal.specs.Evidence.{HaveEqualLabels}
+use Rattle.rx_equal.specs.Pairs.{Adds, pairs_of}
+use Rattle.rx_equal.specs.Walks.{Extends, AreLabelled, WentOn, Stepped}
+use Rattle.rx_equal.specs.declared.walk.Walk.{Walk}
+use Rattle.rx_equal.specs.Places.{Meet}
+use Rattle.std.specs.Prelude.{IsTrue}
+use Rattle.rx_equal.proofs.Words.{rows_begin}
+
+by_first : (t u : Table) (first : Link) (links : List Link) (earlier pairs : List RowPair) (link : Link) (p : RowPair)
+    → pairs_from t u earlier (first ∷ links) ≡ Some pairs → link_pair t u pairs link ≡ Some p
+    → (o : Option RowPair) → link_pair t u earlier first ≡ o
+    → ((q : RowPair) → pairs_from t u (earlier ++ q ∷ []) links ≡ Some pairs
+    → pairs_from t u (earlier ++ q ∷ []) (links ++ link ∷ []) ≡ Some (pairs ++ p ∷ []))
+    → pairs_from t u earlier (first ∷ (links ++ link ∷ [])) ≡ Some (pairs ++ p ∷ [])
+by_first t u first links earlier pairs link p e is (Some q) h go =
+    pairs_step t u first (links ++ link ∷ []) earlier q h ∙ go q (sym (pairs_step t u first links earlier q h) ∙ e)
+by_first t u first links earlier pairs link p e is None h go =
+    let stop = ap (option_and_then (λ (q : RowPair). pairs_from t u (earlier ++ q ∷ []) links)) h in absurd (cc)
+
+-- one more link
+pub named_more : (t u : Table) (links : List Link) (earlier pairs : List RowPair) (link : Link) (p : RowPair)
+    → pairs_from t u earlier links ≡ Some pairs → link_pair t u pairs link ≡ Some p
+    → pairs_from t u earlier (links ++ link ∷ []) ≡ Some (pairs ++ p ∷ [])
+named_more t u [] earlier pairs link p e is =
+    let same = same_Some earlier pairs e in
+    pairs_step t u link [] earlier p (ap (λ ps. link_pair t u ps link) same ∙ is)
+    ∙ ap (λ ps. Some (ps ++ p ∷ [])) same
+named_more t u (first ∷ links) earlier pairs link p e is =
+    by_first t u first links earlier pairs link p e is (link_pair t u earlier first) refl
+    (λ q f. named_more t u links (earlier ++ q ∷ []) pairs link p f is)
+
+none_within : {X : Type 0} (xs : List X) (i : ℕ) → i < length xs → slice_get xs i ≡ None → ⊥
+none_within [] i h e = absurd (omega (arith, h))
+none_within (x ∷ xs) i h e = let there = slice_get-get_or (x ∷ xs) i x h in absurd (cc)
+
+-- earlier pairs stay where they are
+get_more : {X : Type 0} (xs ys : List X) (i : ℕ) → i < length xs → slice_get (xs ++ ys) i ≡ slice_get xs i
+get_more [] ys i h = absurd (omega (arith, h))
+get_more {X} (x ∷ xs) ys i h =
+    let all : List X = x ∷ xs in
+    let e = length-append all ys in
+    slice_get-get_or (all ++ ys) i x (omega (arith, h, e))
+    ∙ ap (λ y. Some y) (get_or_append_left all ys x i h) ∙ sym (slice_get-get_or all i x h)
+
+get_last : {X : Type 0} (xs : List X) (x : X) → slice_get (xs ++ x ∷ []) (length xs) ≡ Some x
+get_last {X} xs x =
+    let one : List X = x ∷ [] in
+    let e = length-append xs one in
+    slice_get-get_or (xs ++ one) (length xs) x (omega (arith, e)) ∙ ap (λ y. Some y) (get_or-append_seam xs x [] x)
+
+source_below : (t u : Table) (pairs : List RowPair) (p : RowPair) (from unit : ℕ) (o : Option RowPair)
+    → slice_get pairs from ≡ o → next_of t u (slice_get pairs from) unit ≡ Some p → from < length pairs
+source_below t u pairs p from unit (Some q) e stands = slice_get_within pairs from q e
+source_below t u pairs p from unit None e stands =
+    let none = sym (ap (λ o. next_of t u o unit) e) ∙ stands in absurd (cc)
+
+link_last : (t u : Table) (pairs : List RowPair) (p : RowPair) (link : Link) → IsLink t u link
+    → link_pair t u pairs link ≡ Some p → Follows t u (pairs ++ p ∷ []) (length pairs) link
+link_last t u pairs p (Link.Start place) is stands = (is, stands ∙ sym (get_last pairs p))
+link_last t u pairs p (Link.Next from unit) is stands =
+    let below = source_below t u pairs p from (unit_number unit) (slice_get pairs from) refl stands in (
+      below,
+      is,
+      ap (λ o. next_of t u o (unit_number unit)) (get_more pairs (p ∷ []) from below) ∙ stands
+          ∙ sym (get_last pairs p),
+    )
+
+get_or_same : {X : Type 0} (xs : List X) (k : ℕ) (d e : X) → k < length xs → get_or xs k e ≡ get_or xs k d
+get_or_same xs k d e h = same_Some (get_or xs k e) (get_or xs k d)
+    (sym (slice_get-get_or xs k e h) ∙ slice_get-get_or xs k d h)
+
+-- what stands in a list with one more item: an earlier item, or the last
+at_cases : {X : Type 0} (xs : List X) (y : X) (i : ℕ) (x : X) → slice_get (xs ++ y ∷ []) i ≡ Some x
+    → (slice_get xs i ≡ Some x) ⊎ ((i ≡ length xs) × (y ≡ x))
+at_cases {X} xs y i x e =
+    let one : List X = y ∷ [] in
+    let within = slice_get_within (xs ++ one) i x e in
+    let len = length-append xs one in
+    ⊎_elim (λ (h : i < length xs). inl (sym (get_more xs one i h) ∙ e))
+    (λ (h : length xs ≤ i).
+    let last : i ≡ length xs = omega (arith, within, len, h) in
+    inr (last, same_Some y x (sym (get_last xs y) ∙ sym (ap (slice_get (xs ++ one)) last) ∙ e)))
+    (cases_lt i (length xs))
+
+follows_more : (t u : Table) (pairs more : List RowPair) (i : ℕ) (link : Link) → i < length pairs
+    → Follows t u pairs i link → Follows t u (pairs ++ more) i link
+follows_more t u pairs more i (Link.Start place) h f = (f.0, f.1 ∙ sym (get_more pairs more i h))
+follows_more t u pairs more i (Link.Next from unit) h f = (
+  f.0,
+  f.1,
+  ap (λ o. next_of t u o (unit_number unit)) (get_more pairs more from (let b = f.0 in omega (arith, b, h))) ∙ f.2
+      ∙ sym (get_more pairs more i h),
+)
+
+module _ {t u : Table} {links : List Link} {pairs : List RowPair} (walk : IsWalk t u links pairs) where
+  pub walk_more : (link : Link) (p : RowPair) → IsLink t u link → link_pair t u pairs link ≡ Some p
+      → (Contains pairs p → ⊥) → IsWalk t u (links ++ link ∷ []) (pairs ++ p ∷ [])
+  walk_more link p is stands new = record {
+    named = named_more t u links [] pairs link p walk.named stands;
+    count = length-append links (link ∷ []) ∙ ap (λ n. n + 1) walk.count ∙ sym (length-append pairs (p ∷ []));
+    follows = λ i other there.
+        ⊎_elim
+        (λ (old : slice_get links i ≡ Some other).
+        follows_more t u pairs (p ∷ []) i other
+        (let h = slice_get_within links i other old in let c = walk.count in omega (arith, h, c))
+        (walk.follows i other old))
+        (λ (last : (i ≡ length links) × (link ≡ other)).
+        subst (λ (k : ℕ). Follows t u (pairs ++ p ∷ []) k other) (sym (last.0 ∙ walk.count))
+        (subst (λ (l : Link). Follows t u (pairs ++ p ∷ []) (length pairs) l) last.1
+        (link_last t u pairs p link is stands)))
+        (at_cases links link i other there);
+    once = all_pairs_push (λ p q. p ≢ q) pairs p walk.once
+        (λ k d h same. new (k, h, get_or_same pairs k d p h ∙ same));
+  }
+
+  -- a word that is no longer than a pair's number leads to it
+  one_on : (from i : ℕ) (unit : ℕ) (p q : RowPair) → from < i → unit < 257 → next_pair t u q unit ≡ p
+      → IsReachedBy t u from q → IsReachedBy t u i p
+  one_on from i unit p q below h leads r = record {
+    place = r.place;
+    is_place = r.is_place;
+    start = r.start;
+    begins = r.begins;
+    word = r.word ++ unit ∷ [];
+    is_word = IsWord-append r.word (unit ∷ []) r.is_word (IsWord-cons unit [] h IsWord-nil);
+    leads = run-append (next_pair t u) r.start r.word (unit ∷ [])
+        ∙ run-cons (next_pair t u) (run (next_pair t u) r.start r.word) unit []
+        ∙ run-nil (next_pair t u) (next_pair t u (run (next_pair t u) r.start r.word) unit)
+        ∙ ap (λ x. next_pair t u x unit) r.leads ∙ leads;
+    short = (let e = length-append r.word (unit ∷ []) in let s = r.short in omega (arith, e, s));
+  }
+
+  by_source : (i : ℕ) (p : RowPair) → slice_get pairs i ≡ Some p
+      → ((j : ℕ) (q : RowPair) → j < i → slice_get pairs j ≡ Some q → IsReachedBy t u j q)
+      → (from unit : ℕ) → from < i → unit < 257 → (o : Option RowPair) → slice_get pairs from ≡ o
+      → next_of t u (slice_get pairs from) unit ≡ slice_get pairs i → IsReachedBy t u i p
+  by_source i p there before from unit below h (Some q) is leads =
+      one_on from i unit p q below h
+      (same_Some (next_pair t u q unit) p (sym (ap (λ o. next_of t u o unit) is) ∙ leads ∙ there))
+      (before from q below is)
+  by_source i p there before from unit below h None is leads =
+      let none = sym (ap (λ o. next_of t u o unit) is) ∙ leads ∙ there in absurd (cc)
+
+  by_link : (i : ℕ) (p : RowPair) → slice_get pairs i ≡ Some p
+      → ((j : ℕ) (q : RowPair) → j < i → slice_get pairs j ≡ Some q → IsReachedBy t u j q)
+      → (link : Link) → Follows t u pairs i link → IsReachedBy t u i p
+  by_link i p there before (Link.Start place) f = record {
+    place = place;
+    is_place = f.0;
+    start = p;
+    begins = f.1 ∙ there;
+    word = [];
+    is_word = IsWord-nil;
+    leads = run-nil (next_pair t u) p;
+    short = omega arith;
+  }
+  by_link i p there before (Link.Next from unit) f =
+      by_source i p there before from (unit_number unit) f.0 f.1 (slice_get pairs from) refl f.2
+
+  linked : (i : ℕ) → i < length links → (link : Link) × (slice_get links i ≡ Some link)
+  linked i h = by_get i h (slice_get links i) refl
+    where
+      by_get : (i : ℕ) → i < length links → (o : Option Link) → slice_get links i ≡ o
+          → (link : Link) × (slice_get links i ≡ Some link)
+      by_get i h (Some link) e = (link, e)
+      by_get i h None e = absurd (none_within links i h e)
+
+  reached_within : (limit i : ℕ) (p : RowPair) → i < limit → slice_get pairs i ≡ Some p → IsReachedBy t u i p
+  reached_within zero i p h there = absurd (omega (arith, h))
+  reached_within (suc limit) i p h there =
+      let within = slice_get_within pairs i p there in
+      let count = walk.count in
+      let inside : i < length links = omega arith in
+      by_link i p there (λ j q below e. reached_within limit j q (omega arith) e) (linked i inside).0
+      (walk.follows i (linked i inside).0 (linked i inside).1)
+
+  pub reached : (i : ℕ) (p : RowPair) → slice_get pairs i ≡ Some p → IsReachedBy t u i p
+  reached i p there = reached_within (suc i) i p (omega arith) there
+
+  pub pair_reached : (p : RowPair) → Contains pairs p → IsReached t u p
+  pair_reached p c =
+      let r = reached c.0 p (get_contained pairs p c) in record {
+        place = r.place;
+        is_place = r.is_place;
+        start = r.start;
+        begins = r.begins;
+        word = r.word;
+        is_word = r.is_word;
+        leads = r.leads;
+      }
+
+  pub are_reached : (n : ℕ) → n ≤ length pairs → AreReached t u n
+  are_reached n h = record { pairs = pairs; once = walk.once; reached = pair_reached; count = h }
+
+  pub is_equal : AreClosed t u pairs → IsEqual t u links
+  is_equal closed = record {
+    nothing = nothing_parts closed;
+    evidence = record { pairs = pairs; named = walk.named; closed = closed };
+    once = record {
+      pairs = pairs;
+      named = walk.named;
+      once = walk.once;
+      reached = pair_reached;
+      all = λ p r.
+          subst (Contains pairs) r.leads
+          (run-within (next_pair t u) (Contains pairs) (λ q unit c h. closed.nexts q unit c h) r.start r.word
+          (rows_met t u pairs r.place r.start r.begins (closed.starts r.place r.is_place)) r.is_word);
+    };
+  }
+
+-- ---- what goes on keeps
+
+pub extends_none : (pairs : List RowPair) → Extends pairs pairs
+extends_none pairs = record { more = []; all = sym (append-nil pairs) }
+
+pub extends_both : (first second third : List RowPair) → Extends first second → Extends second third → Extends first
+    third
+extends_both first second third e f = record {
+  more = e.more ++ f.more;
+  all = f.all ∙ ap (λ ps. ps ++ f.more) e.all ∙ append_assoc first e.more f.more;
+}
+
+pub extends_contains : (before after : List RowPair) → Extends before after → (p : RowPair) → Contains before p
+    → Contains after p
+extends_contains before after e p c =
+    subst (λ ps. Contains ps p) (sym e.all) (Contains-append_left before e.more p c)
+
+pub extends_get : (before after : List RowPair) → Extends before after → (i : ℕ) (p : RowPair)
+    → slice_get before i ≡ Some p → slice_get after i ≡ Some p
+extends_get before after e i p there =
+    ap (λ ps. slice_get ps i) e.all ∙ get_more before e.more i (slice_get_within before i p there) ∙ there
+
+pub adds_extends : (before : List RowPair) (p : RowPair) (added : Bool) (after : List RowPair)
+    → Adds before p added after → Extends before after
+adds_extends before p true after a = record { more = p ∷ []; all = a.1 }
+adds_extends before p false after a = record { more = []; all = a.1 ∙ sym (append-nil before) }
+
+pub adds_contains : (before : List RowPair) (p : RowPair) (added : Bool) (after : List RowPair)
+    → Adds before p added after → Contains after p
+adds_contains before p true after a = subst (λ ps. Contains ps p) (sym a.1) (Contains-push before p)
+adds_contains before p false after a = subst (λ ps. Contains ps p) (sym a.1) a.0
+
+pub adds_labels : (t u : Table) (before : List RowPair) (p : RowPair) (added : Bool) (after : List RowPair)
+    → Adds before p added after → AreLabelled t u before → (added ≡ true → HaveEqualLabels t u p) → AreLabelled t u
+    after
+adds_labels t u before p true after a labels here q c =
+    ⊎_elim (λ (old : Contains before q). labels q old) (λ (same : p ≡ q). subst (HaveEqualLabels t u) same (here refl))
+    (Contains-push_cases before p q (subst (λ ps. Contains ps q) a.1 c))
+adds_labels t u before p false after a labels here q c = labels q (subst (λ ps. Contains ps q) a.1 c)
+
+ok_or_zero : Result ℕ StartError → ℕ
+ok_or_zero (Ok x) = x
+ok_or_zero (Err e) = 0
+
+row_answered : (o : Option StartError) (row x : ℕ) → row_or o row ≡ Ok x → row ≡ x
+unfolding ok_or_zero
+row_answered None row x e = ap (λ (o : Result ℕ StartError). ok_or_zero o) e
+row_answered (Some error) row x e = absurd (cc)
+
+-- start rows tell nothing
+pub start_labels : (t u : Table) → IsSound t → IsSound u → (place : StartConfig) (p : RowPair)
+    → start_pair t u place ≡ Some p → HaveEqualLabels t u p
+start_labels t u s r place p e =
+    let rows = rows_begin (answer_at t place) (answer_at u place) p e in
+    let first = row_answered (start_error t.settings place.beside place.mode)
+    (start_row t.machine t.settings place.beside place.mode) p.row rows.0 in
+    let second = row_answered (start_error u.settings place.beside place.mode)
+    (start_row u.machine u.settings place.beside place.mode) p.other rows.1 in
+    ap t.machine.label (sym first) ∙ s.starts_plain place.mode (start_context t.settings place.beside)
+    ∙ sym (r.starts_plain place.mode (start_context u.settings place.beside)) ∙ ap u.machine.label second
+
+met_more : (before after : List RowPair) → Extends before after → (o r : Result ℕ StartError) → AreMet before o r
+    → AreMet after o r
+met_more before after e (Ok x) (Ok y) m = extends_contains before after e (record { row = x; other = y }) m
+met_more before after e (Err x) (Err y) m = m
+met_more before after e (Ok x) (Err y) m = m
+met_more before after e (Err x) (Ok y) m = m
+
+pub extends_meet : (t u : Table) (before after : List RowPair) → Extends before after → (place : StartConfig)
+    → Meet t u before place → Meet t u after place
+extends_meet t u before after e place m = met_more before after e (answer_at t place) (answer_at u place) m
+
+module _ (t : Table) (ids : List ℕ) (u : Table) (others : List ℕ) where
+  pub went_both : (first second third : Walk) → WentOn t ids u others first second → WentOn t ids u others second third
+      → WentOn t ids u others first third
+  went_both first second third e f = record {
+    walked = f.walked;
+    extends = extends_both (pairs_of ids others first.pairs) (pairs_of ids others second.pairs)
+        (pairs_of ids others third.pairs) e.extends f.extends;
+  }
+
+stepped_new : (t u : Table) (before after : List RowPair) (p : RowPair) (unit : ℕ) (equal : Bool)
+    → Adds before (next_pair t u p unit) true after → AreLabelled t u before
+    → (IsTrue equal → HaveEqualLabels t u (next_pair t u p unit))
+    → (HaveEqualLabels t u (next_pair t u p unit) → IsTrue equal) → Stepped t u p unit after equal
+stepped_new t u before after p unit true a labels to from = (
+  adds_labels t u before (next_pair t u p unit) true after a labels (λ _. to refl),
+  adds_contains before (next_pair t u p unit) true after a,
+)
+stepped_new t u before after p unit false a labels to from = λ same. (let f = from same in absurd (cc))
+
+pub stepped_by : (t u : Table) (before after : List RowPair) (p q : RowPair) (unit : ℕ) (added equal : Bool)
+    → q ≡ next_pair t u p unit → Adds before q added after → added ≡ true → AreLabelled t u before
+    → (IsTrue equal → HaveEqualLabels t u q) → (HaveEqualLabels t u q → IsTrue equal) → Stepped t u p unit after equal
+stepped_by t u before after p q unit added equal same a is labels to from =
+    stepped_new t u before after p unit equal
+    (subst (λ x. Adds before x true after) same (subst (λ v. Adds before q v after) is a)) labels
+    (λ e. subst (HaveEqualLabels t u) same (to e)) (λ h. from (subst (HaveEqualLabels t u) (sym same) h))
+
+pub extends_back : (before after : List RowPair) → Extends before after → (i : ℕ) (p : RowPair) → i < length before
+    → slice_get after i ≡ Some p → slice_get before i ≡ Some p
+extends_back before after e i p h there =
+    sym (get_more before e.more i h) ∙ sym (ap (λ ps. slice_get ps i) e.all) ∙ there
+
+no_pairs : AllPairs {X = RowPair} (λ p q. p ≢ q) []
+no_pairs i j d below h = absurd (omega (arith, h))
+
+no_link : {X : Type 0} (i : ℕ) (x : X) → slice_get [] i ≡ Some x → ⊥
+no_link {X} i x e = (let h = slice_get_within {A = X} [] i x e in absurd (omega (arith, h)))
+
+pub walk_none : (t u : Table) → IsWalk t u [] []
+walk_none t u = record { named = refl; count = refl; follows = λ i link e. absurd (no_link i link e); once = no_pairs }

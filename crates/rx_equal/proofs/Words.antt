@@ -1,0 +1,110 @@
+-- Words over pairs of rows.
+use Rattle.std.proofs.Common.{
+  ℕ,
+  suc,
+  ap₂,
+  arith,
+  ◌≡◌,
+  ◌+◌,
+  ◌≤◌,
+  Some,
+  List,
+  [],
+  ◌∷◌,
+  length,
+  map,
+  drop,
+  ap,
+  sym,
+  ◌∙◌,
+  subst,
+  drop-cons,
+}
+use Rattle.std.proofs.lemmas.Option.{slice_get_within, get_or_from_slice_get}
+use Rattle.std.specs.Prelude.{slice_get}
+use Rattle.rx_spec.specs.Machines.{run}
+use Rattle.rx_spec.specs.Tables.{Table}
+use Rattle.rx_spec.specs.declared.Unit.{Unit}
+use Rattle.rx_base.specs.Unit.{unit_number}
+use Rattle.rx_lemmas.proofs.Words.{run-nil, run-cons}
+use Rattle.std.proofs.Common.{Result, Ok, Err}
+use Rattle.std.proofs.lemmas.Option.{same_Some}
+use Rattle.std.proofs.Math.ListN.{drop_of_length-le}
+use Rattle.rx_spec.specs.Labels.{label_after}
+use Rattle.rx_spec.specs.Starts.{StartError}
+use Rattle.rx_base.specs.StartConfig.{StartConfig}
+use Rattle.rx_equal.specs.Partings.{answer_at, AreAlikeBy}
+use Rattle.rx_equal.specs.Evidence.{RowPair, next_pair, start_pair, both, HaveEqualLabels}
+
+pub drop_get : {X : Type 0} (xs : List X) (i : ℕ) (x : X) → slice_get xs i ≡ Some x → drop i xs ≡ x ∷ drop (i + 1) xs
+drop_get xs i x e =
+    let one : suc i ≡ i + 1 = omega arith in
+    drop-cons xs i x (slice_get_within xs i x e)
+    ∙ ap₂ (λ y n. y ∷ drop n xs) (get_or_from_slice_get xs i x x e) one
+
+-- one unit of a word is read
+pub word_on : (next : RowPair → ℕ → RowPair) (word : List Unit) (i : ℕ) (unit : Unit) (row led : RowPair)
+    {end : RowPair}
+    → slice_get word i ≡ Some unit → led ≡ next row (unit_number unit)
+    → run next row (map unit_number (drop i word)) ≡ end
+    → run next led (map unit_number (drop (i + 1) word)) ≡ end
+word_on next word i unit row led {end} there is left =
+    ap (λ p. run next p (map unit_number (drop (i + 1) word))) is
+    ∙ sym (run-cons next row (unit_number unit) (map unit_number (drop (i + 1) word)))
+    ∙ ap (λ w. run next row (map unit_number w)) (sym (drop_get word i unit there))
+    ∙ left
+
+-- nothing of it is left
+pub word_end : (next : RowPair → ℕ → RowPair) (word : List Unit) (i : ℕ) (row : RowPair) {end : RowPair}
+    → length word ≤ i → run next row (map unit_number (drop i word)) ≡ end → end ≡ row
+word_end next word i row {end} past left =
+    sym left ∙ ap (λ w. run next row (map unit_number w)) (drop_of_length-le word past) ∙ run-nil next row
+
+-- a word leads from a pair to the two rows to which it leads in either table
+pub run_both : (t u : Table) (p : RowPair) (word : List ℕ)
+    → run (next_pair t u) p word
+    ≡ record { row = run t.machine.next p.row word; other = run u.machine.next p.other word }
+run_both t u p [] =
+    run-nil (next_pair t u) p
+    ∙ ap (λ x. record p { row = x }) (sym (run-nil t.machine.next p.row))
+    ∙ ap (λ y. record { row = run t.machine.next p.row []; other = y }) (sym (run-nil u.machine.next p.other))
+run_both t u p (unit ∷ word) =
+    run-cons (next_pair t u) p unit word ∙ run_both t u (next_pair t u p unit) word
+    ∙ ap (λ x. record { row = x; other = run u.machine.next (u.machine.next p.other unit) word })
+    (sym (run-cons t.machine.next p.row unit word))
+    ∙ ap (λ y. record { row = run t.machine.next p.row (unit ∷ word); other = y })
+    (sym (run-cons u.machine.next p.other unit word))
+
+-- labels where a word has led from both rows
+pub labels_led : (t u : Table) (start end : RowPair) (word : List ℕ) → run (next_pair t u) start word ≡ end
+    → (label_after t.machine start.row word ≡ t.machine.label end.row)
+    × (label_after u.machine start.other word ≡ u.machine.label end.other)
+labels_led t u start end word leads =
+    let same = sym (run_both t u start word) ∙ leads in
+    (ap (λ (p : RowPair). t.machine.label p.row) same, ap (λ (p : RowPair). u.machine.label p.other) same)
+
+pub rows_begin : (o r : Result ℕ StartError) (p : RowPair) → both o r ≡ Some p → (o ≡ Ok p.row) × (r ≡ Ok p.other)
+rows_begin (Ok x) (Ok y) p e =
+    let same = same_Some (record { row = x; other = y }) p e in
+    (ap (λ (q : RowPair). Ok q.row) same, ap (λ (q : RowPair). Ok q.other) same)
+rows_begin (Ok x) (Err f) p e = absurd (cc)
+rows_begin (Err e') (Ok y) p e = absurd (cc)
+rows_begin (Err e') (Err f) p e = absurd (cc)
+
+module _ (t u : Table) (place : StartConfig) (start end : RowPair) (word : List ℕ)
+    (begins : start_pair t u place ≡ Some start) (leads : run (next_pair t u) start word ≡ end) where
+  pub alike_from_labels : HaveEqualLabels t u end → AreAlikeBy t u word (answer_at t place) (answer_at u place)
+  alike_from_labels e =
+      let rows = rows_begin (answer_at t place) (answer_at u place) start begins in
+      let led = labels_led t u start end word leads in
+      subst (λ o. AreAlikeBy t u word o (answer_at u place)) (sym rows.0)
+      (subst (λ o. AreAlikeBy t u word (Ok start.row) o) (sym rows.1) (led.0 ∙ e ∙ sym led.1))
+
+  pub labels_from_alike : AreAlikeBy t u word (answer_at t place) (answer_at u place) → HaveEqualLabels t u end
+  labels_from_alike h =
+      let rows = rows_begin (answer_at t place) (answer_at u place) start begins in
+      let led = labels_led t u start end word leads in
+      let same : label_after t.machine start.row word ≡ label_after u.machine start.other word =
+      subst (λ o. AreAlikeBy t u word (Ok start.row) o) rows.1
+      (subst (λ o. AreAlikeBy t u word o (answer_at u place)) rows.0 h) in
+      sym led.0 ∙ same ∙ led.1
