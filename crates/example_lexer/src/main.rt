@@ -1,0 +1,109 @@
+//! A lexer: writes the tokens of a source file of a small language, which comes on standard input.
+//!
+//! `example_lexer IMAGE`: the rules are in `data/lexer.patterns`, one a line; of two that match as much the earlier one
+//! wins, so keywords stand before names. Their table was built once, by `tools/script` and `image all le`, as the image
+//! `data/lexer.image`. The program has no expression at hand: it reads the image, and one loop is the lexer.
+//!
+//! Each token is a line: its line and column, its kind and its text. Spaces and comments aren't told. The status is 1 if
+//! no rule matches at some place, 2 for words that are wrong or a file that is no such image, and 3 if memory, an input
+//! or an output failed.
+#![tactic(auto)]
+
+ghost use Rattle.rx_sparse.specs.Facts.{IsSoundLayout};
+
+use rx_scan::{ScanEnd, Scanner, Token};
+use rx_sparse::DFA;
+use rx_sparse_image::SparseRead;
+use std::io::{self, BufWriter, Read, Write};
+use std::process::ExitCode;
+use std::{env, fs};
+
+/// The kinds of tokens, a name for each rule.
+const KINDS: [&str; 8] = [
+    "space", "comment", "keyword", "name", "number", "text", "operator", "mark",
+];
+
+/// How many of the rules aren't told: spaces and comments.
+const SILENT: usize = 2;
+
+/// Why the tokens of a file aren't all told.
+#[derive(Debug, Drop)]
+enum Fault {
+    /// No rule matches at this place of the source.
+    Stuck(usize),
+    /// The words are wrong, or the file isn't the image of a table.
+    Image,
+    /// Memory ran out, or an input or an output failed.
+    Io(io::Error),
+}
+
+impl From<io::Error> for Fault {
+    fn from(error: io::Error) -> Fault {
+        Fault::Io(error)
+    }
+}
+
+/// Writes the line of a token.
+fn tell<W: Write>(out: &mut W, source: &[u8], token: &Token) -> io::Result<()> {
+    let rule = token.pattern.as_usize();
+    if rule < SILENT {
+        return Ok(());
+    }
+    let kind = KINDS.get(rule).copied().unwrap_or("other");
+    write!(out, "{}:{} {kind} ", token.line, token.column)?;
+    let text = source.get(token.span.start..token.span.end);
+    out.write_all(text.unwrap_or(b""))?;
+    out.write_all(b"\n")
+}
+
+/// Writes the tokens of a source.
+fn tell_tokens<W: Write>(out: &mut W, table: &DFA<&[u8]>, source: &[u8]) -> Result<(), Fault>
+    requires { IsSoundLayout table.now.layout }
+{
+    let mut scanner = Scanner::new(table, source);
+    for token in &mut scanner {
+        tell(out, source, &token)?;
+    }
+    match scanner.end() {
+        Some(ScanEnd::Stuck { offset }) => Err(Fault::Stuck(offset)),
+        Some(ScanEnd::Quit { .. }) | Some(ScanEnd::Unsupported) => Err(Fault::Image),
+        Some(ScanEnd::Done) | None => Ok(()),
+    }
+}
+
+/// Reads the image and the source, and writes the tokens.
+fn run(rt: &HostRuntime) -> Result<(), Fault> {
+    let Some(path) = env::args(rt)?.nth(1) else {
+        return Err(Fault::Image);
+    };
+    let image = fs::read(rt, path.as_str())?;
+    let mut source = Vec::new(rt.alloc());
+    rt.reader().read_to_end(&mut source)?;
+    let mut out = BufWriter::new(rt.alloc(), io::writer(rt))?;
+    match DFA::<&[u8]>::from_bytes(rt.alloc(), &image) {
+        Ok((table, _)) => tell_tokens(&mut out, &table, &source)?,
+        Err(_) => return Err(Fault::Image),
+    }
+    out.flush()?;
+    Ok(())
+}
+
+fn main(rt: HostRuntime) -> ExitCode {
+    match run(&rt) {
+        Ok(()) => ExitCode::SUCCESS,
+        Err(Fault::Stuck(offset)) => {
+            let _ = eprintln!(rt; "no rule matches at byte {offset}");
+            ExitCode::FAILURE
+        }
+        Err(Fault::Image) => {
+            let _ = eprintln!(rt;
+                "usage: example_lexer IMAGE < SOURCE, with the image of a sparse table"
+            );
+            ExitCode::from(2)
+        }
+        Err(Fault::Io(error)) => {
+            let _ = eprintln!(rt; "{error}");
+            ExitCode::from(3)
+        }
+    }
+}

@@ -1,0 +1,124 @@
+//! A log filter: copies the lines of standard input in which a match begins to standard output. Matches are sought one
+//! after another, each behind the last one.
+//!
+//! `example_log_filter IMAGE`: the filter is in `data/upgrades.script`. Its two tables were built once, by `image pair
+//! le`, as the image `data/upgrades.pair`. The text is searched whole and not line by line, so the lines between two
+//! matches cost the walk over them and nothing else.
+//!
+//! The status is 0 if a line was copied and 1 if none was, as `grep` has it; 2 for words that are wrong or a file that
+//! is no such image, and 3 if memory, an input or an output failed.
+#![tactic(auto)]
+
+ghost use Rattle.std.specs.Prelude.{◌≤◌, length};
+ghost use Rattle.rx_image.specs.Tables.{AreSound};
+
+use memchr::{memchr, memrchr};
+use rx_base::{Input, Span};
+use rx_image::{Tables, read_pair};
+use rx_pair::Regex;
+use rx_search::Automaton;
+use std::io::{self, BufWriter, Read, Write};
+use std::process::ExitCode;
+use std::{env, fs};
+
+/// Why a text isn't filtered.
+#[derive(Debug, Drop)]
+enum Fault {
+    /// The words are wrong, or the file isn't the image of a pair.
+    Image,
+    /// Memory ran out, or an input or an output failed.
+    Io(io::Error),
+}
+
+impl From<io::Error> for Fault {
+    fn from(error: io::Error) -> Fault {
+        Fault::Io(error)
+    }
+}
+
+/// The line around a place, with the byte that ends it if there is one.
+fn line_at(text: &[u8], at: usize) -> Span
+    requires { at ≤ length text.now }
+    ensures start { result.start ≤ at }
+    ensures end { result.end ≤ length text.now }
+    ensures around { at ≤ result.end }
+{
+    let (before, after) = text.split_at(at);
+    let start = match memrchr(b'\n', before) {
+        Some(end) => end + 1,
+        None => 0,
+    };
+    let end = match memchr(b'\n', after) {
+        Some(end) => at + end + 1,
+        None => text.len(),
+    };
+    Span { start, end }
+}
+
+/// Copies the lines in which a match begins, and tells how many there are.
+fn copy_lines<A: Automaton, W: Write>(
+    out: &mut W,
+    regex: &Regex<A>,
+    text: &[u8],
+) -> Result<u64, Fault> {
+    let mut copied: u64 = 0;
+    let mut end = 0;
+    for found in regex.find_iter(&Input::new(text)) {
+        let found = match found {
+            Ok(found) => found,
+            Err(_) => return Err(Fault::Image),
+        };
+        if found.start() < end {
+            continue;
+        }
+        let line = line_at(text, found.start());
+        out.write_all(&text[line.start..line.end])?;
+        copied = copied.saturating_add(1);
+        end = line.end;
+    }
+    Ok(copied)
+}
+
+/// Copies the lines of a text by the tables of an image.
+fn filter<W: Write>(out: &mut W, tables: &Tables<'_>, text: &[u8]) -> Result<u64, Fault>
+    requires { AreSound tables.now }
+{
+    match tables {
+        Tables::Dense(forward, reverse) => copy_lines(out, &Regex::new(forward, reverse), text),
+        Tables::Sparse(forward, reverse) => copy_lines(out, &Regex::new(forward, reverse), text),
+    }
+}
+
+/// Reads the image and the text, and copies lines.
+fn run(rt: &HostRuntime) -> Result<u64, Fault> {
+    let Some(path) = env::args(rt)?.nth(1) else {
+        return Err(Fault::Image);
+    };
+    let image = fs::read(rt, path.as_str())?;
+    let mut text = Vec::new(rt.alloc());
+    rt.reader().read_to_end(&mut text)?;
+    let mut out = BufWriter::new(rt.alloc(), io::writer(rt))?;
+    let copied = match read_pair(rt.alloc(), &image) {
+        Ok((tables, _)) => filter(&mut out, &tables, &text)?,
+        Err(_) => return Err(Fault::Image),
+    };
+    out.flush()?;
+    Ok(copied)
+}
+
+fn main(rt: HostRuntime) -> ExitCode {
+    match run(&rt) {
+        Ok(0) => ExitCode::FAILURE,
+        Ok(_) => ExitCode::SUCCESS,
+        Err(Fault::Image) => {
+            let _ = eprintln!(rt;
+                "usage: example_log_filter IMAGE < TEXT, with the image of a pair of tables"
+            );
+            ExitCode::from(2)
+        }
+        Err(Fault::Io(error)) => {
+            let _ = eprintln!(rt; "{error}");
+            ExitCode::from(3)
+        }
+    }
+}
