@@ -25,7 +25,7 @@ joined_bytes (piece ∷ pieces) all =
 -- A call without an event leaves what the next pieces tell.
 module _ {t : Table} {ids : List ℕ} {old new : Place} {piece : List ℕ} {from : ℕ} {fed : Fed}
     (is : IsFed t ids old new piece from fed) where
-  silent_call : fed.event ≡ None → (more : List ℕ) → AreBytes more
+  pub silent_call : fed.event ≡ None → (more : List ℕ) → AreBytes more
       → remaining t ids old (drop from piece ++ more) ≡ remaining t ids new more
   silent_call none more are =
       is.tells more are
@@ -33,7 +33,7 @@ module _ {t : Table} {ids : List ℕ} {old new : Place} {piece : List ℕ} {from
       ∙ ap (λ (n : ℕ). remaining t ids new (drop n piece ++ more)) (is.over none)
       ∙ ap (λ (xs : List ℕ). remaining t ids new (xs ++ more)) (drop-length piece)
 
-  silent_now : fed.event ≡ None → (more : List ℕ) → AreBytes more
+  pub silent_now : fed.event ≡ None → (more : List ℕ) → AreBytes more
       → now t ids old (drop from piece ++ more) ≡ now t ids new more
   silent_now none more are =
       is.tells_now more are
@@ -41,14 +41,14 @@ module _ {t : Table} {ids : List ℕ} {old new : Place} {piece : List ℕ} {from
       ∙ ap (λ (n : ℕ). now t ids new (drop n piece ++ more)) (is.over none)
       ∙ ap (λ (xs : List ℕ). now t ids new (xs ++ more)) (drop-length piece)
 
-  told_call : {event : StreamEvent} → fed.event ≡ Some event → (more : List ℕ) → AreBytes more
+  pub told_call : {event : StreamEvent} → fed.event ≡ Some event → (more : List ℕ) → AreBytes more
       → remaining t ids old (drop from piece ++ more)
       ≡ event ∷ remaining t ids new (drop fed.used piece ++ more)
   told_call some more are =
       is.tells more are
       ∙ ap (λ (e : Option StreamEvent). with_event e (remaining t ids new (drop fed.used piece ++ more))) some
 
-  told_now : {event : StreamEvent} → fed.event ≡ Some event → (more : List ℕ) → AreBytes more
+  pub told_now : {event : StreamEvent} → fed.event ≡ Some event → (more : List ℕ) → AreBytes more
       → now t ids old (drop from piece ++ more) ≡ event ∷ now t ids new (drop fed.used piece ++ more)
   told_now some more are =
       is.tells_now more are

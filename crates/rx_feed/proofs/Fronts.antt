@@ -1,0 +1,37 @@
+-- Fronts of texts that are written one after another.
+use Rattle.std.proofs.Common.{ℕ, ◌+◌, List, ◌++◌, length, take, Option, Result, Ok, Err}
+use Rattle.std.proofs.Common.{sym, subst, arith, length-append}
+use Rattle.std.proofs.Math.Seq.{take-append-add}
+use Rattle.std.proofs.lemmas.List.{take-append-le}
+use Rattle.std.specs.Io.KnownBytes.{Appends}
+use Rattle.rx_transfer.specs.Outside.{AppendsFront}
+use Rattle.rx_transfer.proofs.Transfers.{appends_more}
+use Rattle.rx_feed.specs.Outside.{Writes}
+use Rattle.rx_feed.specs.declared.fault.Fault.{Fault}
+
+-- a text, and then a front of another
+pub front_after : (a b c : Option (List ℕ)) (xs ys : List ℕ) → Appends a b xs → AppendsFront b c ys
+    → AppendsFront a c (xs ++ ys)
+front_after a b c xs ys p front = record {
+  count = length xs + front.count;
+  part = omega (arith, front.part, length-append xs ys);
+  written =
+      subst (Appends a c) (sym (take-append-add xs ys front.count))
+      (appends_more a b c xs (take front.count ys) p front.written);
+}
+
+-- A front of a text is one of what is longer.
+pub front_more : (a b : Option (List ℕ)) (xs ys : List ℕ) → AppendsFront a b xs → AppendsFront a b (xs ++ ys)
+front_more a b xs ys front = record {
+  count = front.count;
+  part = omega (arith, front.part, length-append xs ys);
+  written = subst (Appends a b) (sym (take-append-le front.count xs ys (omega (arith, front.part)))) front.written;
+}
+
+-- a text, and then another or a front of it
+pub writes_after : (a b c : Option (List ℕ)) (xs ys : List ℕ) (status : ℕ) (result : Result ℕ Fault)
+    → Appends a b xs → Writes b c ys status result → Writes a c (xs ++ ys) status result
+writes_after a b c xs ys status (Ok told) p w = (w.0, appends_more a b c xs ys p w.1)
+writes_after a b c xs ys status (Err Fault.Source) p w = absurd w
+writes_after a b c xs ys status (Err Fault.Sink) p w = front_after a b c xs ys p w
+writes_after a b c xs ys status (Err Fault.Memory) p w = absurd w

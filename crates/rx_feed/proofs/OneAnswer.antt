@@ -1,0 +1,170 @@
+-- At most one text and one status answer what was taken.
+use Rattle.std.proofs.Common.{◌≡◌, ℕ, ◌<◌, ◌⊎◌, inl, inr, Bool, Some, None, Option, Result, Ok, Err}
+use Rattle.std.proofs.Common.{List, [], ◌∷◌, ◌++◌, length, take, drop, refl, ap, sym, ◌∙◌, subst, arith}
+use Rattle.std.proofs.Common.{append-nil}
+use Rattle.std.proofs.Math.ListN.{drop_of_length-le}
+use Rattle.std.proofs.Math.Nat.{eq-or-lt_of_le}
+use Rattle.std.proofs.Math.Seq.{take-append_seam, drop-append_seam}
+use Rattle.std.proofs.lemmas.List.{take_all}
+use Rattle.std.proofs.lemmas.List.Elements.{All-head, All-tail}
+use Rattle.std.specs.Prelude.{All}
+use Rattle.rx_spec.specs.Queries.{Anchored}
+use Rattle.rx_spec.specs.Tables.{Table}
+use Rattle.rx_wire.specs.Kinds.{Kind}
+use Rattle.rx_stream.specs.Remaining.{told_now}
+use Rattle.rx_stream.specs.declared.event.StreamEvent.{StreamEvent}
+use Rattle.rx_feed.specs.Lines.{IsMatch, lines, quit_line, refused_line}
+use Rattle.rx_feed.specs.Replies.{FeedReplies, IsOneAnswer, IsSplit, IsToldLast, StreamReplies, table_read}
+
+-- ---- events
+
+-- matches alone hold no quit byte
+no_quit : (matches later : List StreamEvent) (byte offset : ℕ)
+    → All IsMatch (matches ++ (StreamEvent.Quit byte offset ∷ later)) → ⊥
+no_quit [] later byte offset all = All-head IsMatch (StreamEvent.Quit byte offset) later all
+no_quit (event ∷ matches) later byte offset all =
+    no_quit matches later byte offset
+    (All-tail IsMatch event (matches ++ (StreamEvent.Quit byte offset ∷ later)) all)
+
+same_event : (event other : StreamEvent) (xs ys : List StreamEvent) → event ∷ xs ≡ other ∷ ys → event ≡ other
+same_event event other xs ys e = cc
+
+same_later : (event other : StreamEvent) (xs ys : List StreamEvent) → event ∷ xs ≡ other ∷ ys → xs ≡ ys
+same_later event other xs ys e = cc
+
+same_quit : (byte offset b o : ℕ) → StreamEvent.Quit byte offset ≡ StreamEvent.Quit b o
+    → (byte ≡ b) × (offset ≡ o)
+same_quit byte offset b o e = (cc, cc)
+
+-- the lines up to the first quit byte
+quit_once : (matches others xs ys : List StreamEvent) (byte offset b o : ℕ) → All IsMatch matches
+    → All IsMatch others
+    → matches ++ (StreamEvent.Quit byte offset ∷ xs) ≡ others ++ (StreamEvent.Quit b o ∷ ys)
+    → (matches ≡ others) × (byte ≡ b) × (offset ≡ o)
+quit_once [] [] xs ys byte offset b o all also e =
+    let same = same_quit byte offset b o (same_event (StreamEvent.Quit byte offset) (StreamEvent.Quit b o) xs ys e) in
+    (refl, same.0, same.1)
+quit_once [] (event ∷ others) xs ys byte offset b o all also e =
+    absurd (subst IsMatch (sym (same_event (StreamEvent.Quit byte offset) event xs
+    (others ++ (StreamEvent.Quit b o ∷ ys)) e)) (All-head IsMatch event others also))
+quit_once (event ∷ matches) [] xs ys byte offset b o all also e =
+    absurd (subst IsMatch (same_event event (StreamEvent.Quit b o) (matches ++ (StreamEvent.Quit byte offset ∷ xs)) ys
+    e) (All-head IsMatch event matches all))
+quit_once (event ∷ matches) (other ∷ others) xs ys byte offset b o all also e =
+    let rest = quit_once matches others xs ys byte offset b o (All-tail IsMatch event matches all)
+    (All-tail IsMatch other others also)
+    (same_later event other (matches ++ (StreamEvent.Quit byte offset ∷ xs)) (others ++ (StreamEvent.Quit b o ∷ ys)) e)
+    in
+    let same = same_event event other (matches ++ (StreamEvent.Quit byte offset ∷ xs))
+    (others ++ (StreamEvent.Quit b o ∷ ys)) e in
+    (ap (λ (x : StreamEvent). x ∷ matches) same ∙ ap (λ (l : List StreamEvent). other ∷ l) rest.0, rest.1, rest.2)
+
+-- ---- texts
+
+some_is_not_none : {X : Type 0} (x : Option X) (error : X) → x ≡ Some error → x ≡ None → ⊥
+some_is_not_none x error e f = absurd (cc)
+
+abbrev Same : List ℕ → List ℕ → ℕ → ℕ → Type 0
+Same text other status again = (text ≡ other) × (status ≡ again)
+
+module _ {t : Table} {mode : Anchored} {haystack : List ℕ} where
+  now_no_quit : {matches : List StreamEvent} {byte offset : ℕ} → All IsMatch (told_now t mode haystack)
+      → IsToldLast t mode haystack matches (StreamEvent.Quit byte offset) → ⊥
+  now_no_quit {matches} {byte} {offset} all is =
+      no_quit matches is.later byte offset (subst (All IsMatch) is.tells all)
+
+  stream_once : {ended also : Bool} {text other : List ℕ} {status again : ℕ}
+      → StreamReplies t mode haystack ended text status → StreamReplies t mode haystack also other again
+      → Same text other status again
+  stream_once (StreamReplies.Unsupported e none f g) (StreamReplies.Unsupported e' none' f' g') =
+      (f ∙ sym f', g ∙ sym g')
+  stream_once (StreamReplies.Unsupported e none f g) (StreamReplies.Ended e' end few all f' g') =
+      absurd (some_is_not_none _ _ e e')
+  stream_once (StreamReplies.Unsupported e none f g) (StreamReplies.Quit ms b o e' few all is f' g') =
+      absurd (some_is_not_none _ _ e e')
+  stream_once (StreamReplies.Unsupported e none f g) (StreamReplies.Long e' long few f' g') =
+      absurd (some_is_not_none _ _ e e')
+  stream_once (StreamReplies.Ended e end few all f g) (StreamReplies.Unsupported e' none f' g') =
+      absurd (some_is_not_none _ _ e' e)
+  stream_once (StreamReplies.Ended e end few all f g) (StreamReplies.Ended e' end' few' all' f' g') =
+      (f ∙ sym f', g ∙ sym g')
+  stream_once (StreamReplies.Ended e end few all f g) (StreamReplies.Quit ms b o e' few' all' is f' g') =
+      absurd (now_no_quit all is)
+  stream_once (StreamReplies.Ended e end few all f g) (StreamReplies.Long e' long few' f' g') =
+      absurd (omega (arith, few, long))
+  stream_once (StreamReplies.Quit ms b o e few all is f g) (StreamReplies.Unsupported e' none f' g') =
+      absurd (some_is_not_none _ _ e' e)
+  stream_once (StreamReplies.Quit ms b o e few all is f g) (StreamReplies.Ended e' end few' all' f' g') =
+      absurd (now_no_quit all' is)
+  stream_once (StreamReplies.Quit ms b o e few all is f g) (StreamReplies.Quit ms' b' o' e' few' all' is' f' g') =
+      let same = quit_once ms ms' is.later is'.later b o b' o' all all' (sym is.tells ∙ is'.tells) in (
+        f ∙ ap (λ (es : List StreamEvent). lines es ++ quit_line b o) same.0
+            ∙ ap (λ (n : ℕ). lines ms' ++ quit_line n o) same.1
+            ∙ ap (λ (n : ℕ). lines ms' ++ quit_line b' n) same.2 ∙ sym f',
+        g ∙ sym g',
+      )
+  stream_once (StreamReplies.Quit ms b o e few all is f g) (StreamReplies.Long e' long few' f' g') =
+      absurd (omega (arith, few, long))
+  stream_once (StreamReplies.Long e long few f g) (StreamReplies.Unsupported e' none f' g') =
+      absurd (some_is_not_none _ _ e' e)
+  stream_once (StreamReplies.Long e long few f g) (StreamReplies.Ended e' end few' all' f' g') =
+      absurd (omega (arith, few', long))
+  stream_once (StreamReplies.Long e long few f g) (StreamReplies.Quit ms b o e' few' all is f' g') =
+      absurd (omega (arith, few', long))
+  stream_once (StreamReplies.Long e long few f g) (StreamReplies.Long e' long' few' f' g') =
+      (f ∙ sym f', g ∙ sym g')
+
+-- ---- images
+
+-- the image is what is taken first
+split_is : (len : ℕ) (bytes : List ℕ) (ended : Bool) (image haystack : List ℕ) → IsSplit len bytes ended image haystack
+    → (length image ≡ len) ⊎ (length image < len) → (image ≡ take len bytes) × (haystack ≡ drop len bytes)
+split_is len bytes ended image haystack is (inr less) =
+    let none : haystack ≡ [] = (is.short less).1 in
+    let all : bytes ≡ image = is.joined ∙ ap (λ (l : List ℕ). image ++ l) none ∙ append-nil image in (
+      sym (ap (take len) all ∙ take_all len image (omega (arith, less))),
+      none ∙ sym (ap (drop len) all ∙ drop_of_length-le image (omega (arith, less))),
+    )
+split_is len bytes ended image haystack is (inl same) = (
+  sym (ap (take len) is.joined ∙ ap (λ (n : ℕ). take n (image ++ haystack)) (sym same)
+      ∙ take-append_seam image haystack),
+  sym (ap (drop len) is.joined ∙ ap (λ (n : ℕ). drop n (image ++ haystack)) (sym same)
+      ∙ drop-append_seam image haystack),
+)
+
+split_once : {len : ℕ} {bytes : List ℕ} {ended : Bool} {image haystack : List ℕ}
+    → IsSplit len bytes ended image haystack → (image ≡ take len bytes) × (haystack ≡ drop len bytes)
+split_once {len} {bytes} {ended} {image} {haystack} is =
+    split_is len bytes ended image haystack is (eq-or-lt_of_le is.few)
+
+same_table : (read : Result Table Kind) (t other : Table) → read ≡ Ok t → read ≡ Ok other → t ≡ other
+same_table read t other e f = cc
+
+same_kind : (read : Result Table Kind) (kind other : Kind) → read ≡ Err kind → read ≡ Err other → kind ≡ other
+same_kind read kind other e f = cc
+
+read_or_not : (read : Result Table Kind) (t : Table) (kind : Kind) → read ≡ Ok t → read ≡ Err kind → ⊥
+read_or_not read t kind e f = absurd (cc)
+
+pub feed_once : IsOneAnswer
+feed_once form mode len bytes ended also text other status again
+    (FeedReplies.Refused kind split e f g) (FeedReplies.Refused kind' split' e' f' g') =
+    (f ∙ ap refused_line (same_kind (table_read form bytes) kind kind' e e') ∙ sym f', g ∙ sym g')
+feed_once form mode len bytes ended also text other status again
+    (FeedReplies.Refused kind split e f g) (FeedReplies.Searched image haystack t split' e' replies) =
+    let same : bytes ≡ image = (split_once split).0 ∙ sym (split_once split').0 in
+    absurd (read_or_not (table_read form image) t kind e' (ap (table_read form) (sym same) ∙ e))
+feed_once form mode len bytes ended also text other status again
+    (FeedReplies.Searched image haystack t split e replies) (FeedReplies.Refused kind split' e' f' g') =
+    let same : bytes ≡ image = (split_once split').0 ∙ sym (split_once split).0 in
+    absurd (read_or_not (table_read form image) t kind e (ap (table_read form) (sym same) ∙ e'))
+feed_once form mode len bytes ended also text other status again
+    (FeedReplies.Searched image haystack t split e replies)
+    (FeedReplies.Searched image' haystack' t' split' e' replies') =
+    let same : image' ≡ image = (split_once split').0 ∙ sym (split_once split).0 in
+    let rest : haystack' ≡ haystack = (split_once split').1 ∙ sym (split_once split).1 in
+    let table : t' ≡ t
+    = same_table (table_read form image') t' t e' (ap (table_read form) same ∙ e) in
+    stream_once replies
+    (subst (λ (d : List ℕ). StreamReplies t mode d also other again) rest
+    (subst (λ (u : Table). StreamReplies u mode haystack' also other again) table replies'))

@@ -1,0 +1,4 @@
+-- what is read and written
+pub mod Outside
+-- words of lines
+pub mod Words
