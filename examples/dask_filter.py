@@ -1,0 +1,86 @@
+#!/usr/bin/env python3
+"""Filters large files on many machines by Dask: the lines in which a match begins, in their order.
+
+usage: examples/dask_filter.py PROGRAM IMAGE FILE.. [--cluster ADDRESS | --workers N] [--block BYTES]
+
+PROGRAM is the built log filter (crates/example_log_filter), IMAGE the image of a pair of tables. Each file is cut into
+blocks of about BYTES bytes (64 MiB), always behind the end of a line, so no line is cut in two. The image is sent once to
+each worker; a worker runs PROGRAM over one block at a time. Without --cluster a cluster of N workers (4) is started on
+this machine. PROGRAM and the files must be at the same paths on all machines.
+
+Standard output gets the lines. Needs the packages dask and distributed (Debian: python3-distributed).
+"""
+import argparse
+import functools
+import os
+import subprocess
+import sys
+import tempfile
+
+import dask.bag
+from distributed import Client, LocalCluster
+
+
+def blocks(path, size):
+    """Places in a file where lines begin, about so many bytes apart: each block as its file, its start and its end."""
+    total = os.path.getsize(path)
+    with open(path, "rb") as file:
+        start = 0
+        while start < total:
+            file.seek(min(start + size, total))
+            file.readline()
+            end = min(file.tell(), total)
+            yield path, start, end
+            start = end
+
+
+@functools.lru_cache(maxsize=1)
+def image_file(image):
+    """A file with the image on the machine that asks, made once."""
+    with tempfile.NamedTemporaryFile(prefix="filter-", suffix=".pair", delete=False) as file:
+        file.write(image)
+        return file.name
+
+
+def filtered(block, program, image):
+    """The lines of a block in which a match begins."""
+    path, start, end = block
+    with open(path, "rb") as file:
+        file.seek(start)
+        text = file.read(end - start)
+    done = subprocess.run([program, image_file(image)], input=text, stdout=subprocess.PIPE, check=False)
+    if done.returncode > 1:
+        raise RuntimeError(f"{path} from {start} to {end}: status {done.returncode}")
+    return done.stdout
+
+
+def options_of():
+    parser = argparse.ArgumentParser(description=__doc__, formatter_class=argparse.RawDescriptionHelpFormatter)
+    parser.add_argument("program")
+    parser.add_argument("image")
+    parser.add_argument("files", nargs="+")
+    parser.add_argument("--cluster")
+    parser.add_argument("--workers", type=int, default=4)
+    parser.add_argument("--block", type=int, default=64 << 20)
+    return parser.parse_args()
+
+
+def main():
+    options = options_of()
+    program = os.path.abspath(options.program)
+    with open(options.image, "rb") as file:
+        image = file.read()
+    cluster = options.cluster or LocalCluster(n_workers=options.workers, threads_per_worker=1, dashboard_address=None)
+    with Client(cluster) as client:
+        places = [block for path in options.files for block in blocks(os.path.abspath(path), options.block)]
+        if not places:
+            return
+        sent = client.scatter(image, broadcast=True)
+        bag = dask.bag.from_sequence(places, npartitions=len(places))
+        for part in client.gather(client.compute(bag.map(filtered, program, sent).to_delayed())):
+            for lines in part:
+                sys.stdout.buffer.write(lines)
+
+
+if __name__ == "__main__":
+    main()
