@@ -1,4 +1,4 @@
-//! Tests of `rx_image`: images of pairs, cut, altered, spliced, and searched.
+//! Tests of `rx_image`: they cut, alter and splice images of pairs, and search by them.
 #![tactic(auto)]
 
 #[cfg(test)]

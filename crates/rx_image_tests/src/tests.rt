@@ -1,23 +1,25 @@
-//! What no clause shows: that pairs are written and read at all, which test an altered image fails, and that what was
-//! read is searched.
+//! Tests what no contract says: that writing and reading succeed, which error an altered image gives, and that searches
+//! by a pair that was read succeed.
 
 ghost use Rattle.rx_search.specs.Starts.{IsId};
 
 mod answers;
 mod pairs;
+mod singles;
 
 use answers::{Answer, check, kind_name, search_if_read};
-use pairs::{FORMS, ORDERS, form_number, head, joined, pair, single};
+use pairs::{FORMS, ORDERS, dense_image, form_number, head, joined, pair, single, sparse_image};
 use rx_base::{Anchored, Direction, Input};
 use rx_image::{Tables, read_pair};
 use rx_search::Automaton;
 use rx_spec::Form;
 use rx_wire::Order;
+use singles::check_tables;
 use std::alloc::Global;
 use std::process::Abort;
 use std::test::Fail;
 
-/// Patterns, a form, and what reading their pair answers in either order.
+/// Patterns, a form, and what the reader answers to the image of their pair in either order.
 const PAIRS: [(&str, Form, Answer); 4] = [
     ("", Form::Dense, Ok((2, 2, 0, 1504))),
     ("", Form::Sparse, Ok((2, 2, 0, 1484))),
@@ -67,12 +69,12 @@ fn an_image_is_a_head_and_the_images_of_both_tables(rt: HostRuntime) -> Result<(
     Ok(())
 }
 
-/// What cutting an image of one table off at a place answers.
+/// The kind of error if the image of one table is cut off at a place.
 fn cut_kind(at: usize) -> &'static str {
     if at < 32 { "generic" } else { "buffer" }
 }
 
-/// What cutting an image of a pair off at a place answers, whose forward table's image has so many bytes.
+/// The kind of error if the image of a pair is cut off at a place. The forward table's image has `forward` bytes.
 fn pair_cut_kind(at: usize, forward: usize) -> &'static str {
     if at < 28 {
         "generic"
@@ -137,6 +139,16 @@ fn the_image_of_a_table_is_none_of_a_pair(rt: HostRuntime) -> Result<(), Fail> {
     Ok(())
 }
 
+#[test]
+fn the_tables_of_a_pair_are_images_of_their_own(rt: HostRuntime) -> Result<(), Fail> {
+    let alloc = rt.alloc();
+    for order in ORDERS {
+        check_tables(&rt, alloc, Form::Dense, order, (848, 808))?;
+        check_tables(&rt, alloc, Form::Sparse, order, (812, 769))?;
+    }
+    Ok(())
+}
+
 /// Puts bytes into an image at a place.
 fn put(image: &mut Vec<u8>, at: usize, bytes: &[u8]) {
     for i in 0..bytes.len() {
@@ -146,8 +158,8 @@ fn put(image: &mut Vec<u8>, at: usize, bytes: &[u8]) {
     }
 }
 
-/// Other bytes at some places of the little endian image of the dense pair of `a`, and the kind of the first test that
-/// they fail. The image of its forward table begins at byte 40, and that of the other one at byte 888.
+/// Changes of the little endian image of the dense pair of `a`, each a place and a byte, and the kind of error. The
+/// image of the forward table begins at byte 40, and that of the table in reverse at byte 888.
 const ALTERED: &[(&[(usize, u8)], &str)] = &[
     // the label, also where later fields are wrong
     (&[(0, b'x')], "label"),
@@ -201,7 +213,7 @@ fn the_padding_of_the_label_is_free(rt: HostRuntime) -> Result<(), Fail> {
     Ok(())
 }
 
-/// So many NULs.
+/// A number of NULs.
 fn nuls(alloc: Global, count: usize) -> Result<Vec<u8>, Fail> {
     Ok(vec![in alloc; 0; count]?)
 }
@@ -277,7 +289,7 @@ fn both_tables_have_as_many_patterns(rt: HostRuntime) -> Result<(), Fail> {
     Ok(())
 }
 
-/// Where the forward table of `a` finds the end of a match in `xa`, and where a table in reverse its start.
+/// Where the forward table finds the end of a match in `xa`, and where the table in reverse finds its start.
 fn ends<A: Automaton>(forward: &A, reverse: &A) -> Result<(Option<usize>, Option<usize>), Fail>
     requires forward { A.IsSound forward.now }
     requires reverse { A.IsSound reverse.now }
@@ -291,7 +303,7 @@ fn ends<A: Automaton>(forward: &A, reverse: &A) -> Result<(Option<usize>, Option
     ))
 }
 
-/// The same by the tables of an image.
+/// Does the same by the tables of an image.
 fn ends_by(alloc: Global, image: &[u8]) -> Result<(Option<usize>, Option<usize>), Fail> {
     match read_pair(alloc, image) {
         Ok((Tables::Dense(forward, reverse), _)) => ends(&forward, &reverse),
@@ -316,8 +328,43 @@ fn tables_that_do_not_belong_together_are_read(rt: HostRuntime) -> Result<(), Fa
     Ok(())
 }
 
-/// Changes each byte of an image in some ways, one at a time, and searches by what is accepted. Some changes must be,
-/// and some must not.
+/// The image of two tables in an order.
+fn written(alloc: Global, order: Order, tables: &Tables<'_>) -> Result<Vec<u8>, Fail> {
+    match tables {
+        Tables::Dense(forward, reverse) => dense_image(alloc, order, forward, reverse),
+        Tables::Sparse(forward, reverse) => sparse_image(alloc, order, forward, reverse),
+    }
+}
+
+/// Reads a pair from an image, and writes it in an order.
+fn rewritten(alloc: Global, order: Order, image: &[u8]) -> Result<Vec<u8>, Fail> {
+    match read_pair(alloc, image) {
+        Ok((tables, _)) => written(alloc, order, &tables),
+        Err(error) => Err(Fail::new(kind_name(&error))),
+    }
+}
+
+#[test]
+fn pairs_that_were_read_are_written_in_either_order(rt: HostRuntime) -> Result<(), Fail> {
+    let alloc = rt.alloc();
+    for form in FORMS {
+        for from in ORDERS {
+            let image = pair(alloc, form, from, "a [bc] ab")?;
+            for to in ORDERS {
+                let again = rewritten(alloc, to, &image)?;
+                let wanted = pair(alloc, form, to, "a [bc] ab")?;
+                assert!(&rt;
+                    again.as_slice() == wanted.as_slice(),
+                    "{form:?} {from:?} {to:?}"
+                );
+            }
+        }
+    }
+    Ok(())
+}
+
+/// Changes one byte of an image at a time, and searches by each changed image that the reader accepts. At least a
+/// hundred of them must be accepted, and at least a hundred refused.
 fn check_changes(
     rt: &impl Abort,
     alloc: Global,

@@ -1,11 +1,11 @@
-//! Images: which bytes are written, and what altered and cut ones are refused for.
+//! Images of one table: which bytes the program writes, and which error refuses an altered or cut image.
 
 use crate::tests::{answer, compare, lines, whole};
 use std::alloc::{AllocError, Global};
 use std::process::Abort;
 use std::test::Fail;
 
-/// Compares what `image` answers to a script with a status and a line.
+/// Asserts the status and the line that `image` answers to a script.
 pub(crate) fn image_answers(
     rt: &impl Abort,
     alloc: Global,
@@ -34,7 +34,7 @@ pub(crate) fn image(
     Ok(image)
 }
 
-/// Compares what `check` answers to an image of a form: it is accepted with status 0, and refused with status 1.
+/// Asserts the line that `check` answers to an image. The status is 0 if it accepts the image, and 1 if it refuses it.
 pub(crate) fn check(
     rt: &impl Abort,
     alloc: Global,
@@ -60,10 +60,10 @@ const STATE: &str = "refused state\n";
 
 const PATTERN: &str = "refused pattern\n";
 
-/// What is answered to the image of the forward table of `abc`.
+/// The answer to the image of the forward table of `abc`.
 const ABC: &str = "ok 11 1 1088\n";
 
-/// What is answered to its image where it is sparse.
+/// The answer to the image of the sparse table.
 const SPARSE_ABC: &str = "ok 11 1 914\n";
 
 fn abc(rt: &impl Abort, alloc: Global, order: &str) -> Result<Vec<u8>, Fail> {
@@ -74,9 +74,9 @@ fn sparse_abc(rt: &impl Abort, alloc: Global, order: &str) -> Result<Vec<u8>, Fa
     image(rt, alloc, "fwd", order, "plan sparse/expr lit 616263")
 }
 
-/// Directions, forms and scripts, the length of the image in either order, and what is answered to it. In a sparse
-/// image 704 bytes aren't rows, and the starts of a pattern are 24 more. Of its rows dead and quit have 9 bytes each, a
-/// match row has 17, and any other 9, with 6 more for each range and 1 for a needle.
+/// A direction, a form and a script; the length of the image in either order, and the answer to it. In a sparse image
+/// 704 bytes aren't rows, and the starts of a pattern take 24 more. The dead row and the quit row have 9 bytes each,
+/// and a match row has 17. Any other row has 9 bytes, 6 more for each range, and 1 more for a needle.
 const WRITTEN: &[(&str, &str, &str, usize, &str)] = &[
     ("fwd", "dense", "", 732, "ok 2 0 732\n"),
     ("rev", "dense", "", 732, "ok 2 0 732\n"),
@@ -184,7 +184,7 @@ fn images_are_written_and_accepted(rt: HostRuntime) -> Result<(), Fail> {
     Ok(())
 }
 
-/// The bytes of the special ids of `abc`, in big endian.
+/// Ids as numbers of four bytes in big endian.
 fn special_ids(alloc: Global, ids: &[u8]) -> Result<Vec<u8>, AllocError> {
     let mut bytes = Vec::new(alloc);
     for id in ids {
@@ -243,7 +243,7 @@ fn scripts_without_an_image_are_told(rt: HostRuntime) -> Result<(), Fail> {
     Ok(())
 }
 
-/// Places and bytes of the little endian image of `abc`, and what is answered where they stand there.
+/// Changes of the little endian image of `abc`, each a place and the bytes that are put there, and the answer.
 const ALTERED: &[(usize, &[u8], &str)] = &[
     (0, &[0x78], LABEL),
     // what is free
@@ -294,7 +294,7 @@ const ALTERED: &[(usize, &[u8], &str)] = &[
     (1012, &[0xff, 0xff, 0xff, 0x7f], STATE),
 ];
 
-/// Places and bytes of the little endian sparse image of `abc`, whose rows begin at byte 316.
+/// Changes of the little endian sparse image of `abc`, and the answer. The rows begin at byte 316.
 const ALTERED_SPARSE: &[(usize, &[u8], &str)] = &[
     (0, &[0x78], LABEL),
     // what is free: padding, unused space, flags, a range that leads to dead
@@ -332,7 +332,7 @@ const ALTERED_SPARSE: &[(usize, &[u8], &str)] = &[
     (378, &[98], GENERIC),
 ];
 
-/// An image with other bytes at a place.
+/// A copy of an image with other bytes at a place.
 pub(crate) fn altered(
     alloc: Global,
     image: &[u8],
@@ -346,7 +346,7 @@ pub(crate) fn altered(
     Ok(altered)
 }
 
-/// Compares what is answered to an image of a form where other bytes stand at some places, one after another.
+/// Asserts the answer to each change of an image.
 fn check_altered(
     rt: &impl Abort,
     alloc: Global,
@@ -378,7 +378,7 @@ fn altered_images_fail_the_first_test_that_they_break(rt: HostRuntime) -> Result
     check_altered(&rt, alloc, "sparse", &sparse_abc(&rt, alloc, "be")?, order)
 }
 
-/// Several pieces, one after another.
+/// Joins pieces of bytes.
 pub(crate) fn joined(alloc: Global, pieces: &[&[u8]]) -> Result<Vec<u8>, AllocError> {
     let mut bytes = Vec::new(alloc);
     for piece in pieces {
@@ -387,7 +387,7 @@ pub(crate) fn joined(alloc: Global, pieces: &[&[u8]]) -> Result<Vec<u8>, AllocEr
     Ok(bytes)
 }
 
-/// Compares what is answered to every cut of an image of a form.
+/// Asserts the answer to every proper prefix of an image.
 fn check_cuts(rt: &impl Abort, alloc: Global, form: &str, image: &[u8]) -> Result<(), Fail> {
     for len in 0..image.len() {
         let kind = if len < 32 { GENERIC } else { BUFFER };

@@ -1,4 +1,4 @@
-//! Tests of `rx_main`: what no clause shows of the program as a function.
+//! Tests of `rx_main`: what no contract says of the program as a function.
 #![tactic(auto)]
 
 #[cfg(test)]

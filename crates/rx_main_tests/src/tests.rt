@@ -13,8 +13,8 @@ fn words(alloc: Global, texts: &[&str]) -> Result<Words, AllocError> {
     Ok(words)
 }
 
-/// What a run reads and where it writes: a text, the most bytes of a read and the reads that fail; room, the
-/// most bytes of a write and the writes that fail.
+/// What a run reads and where it writes. A read gives at most `most_read` bytes, and a write takes at most
+/// `most_written`. In all there is room for `room` bytes. Reads and writes that fail are named by their numbers.
 #[derive(Clone, Copy)]
 pub(crate) struct Outside<'a> {
     text: &'a [u8],
@@ -25,7 +25,7 @@ pub(crate) struct Outside<'a> {
     failing_writes: &'a [u64],
 }
 
-/// The status of a run, and what it wrote.
+/// The status of a run, and the bytes that it wrote.
 pub(crate) fn answer(
     rt: &impl Abort,
     alloc: Global,
@@ -41,7 +41,7 @@ pub(crate) fn answer(
     Ok((status, Vec::from_slice(alloc, sink.bytes())?))
 }
 
-/// Compares a run with the status and the bytes that are wanted.
+/// Asserts the status of a run and the bytes that it writes.
 pub(crate) fn compare(
     rt: &impl Abort,
     alloc: Global,
@@ -55,7 +55,7 @@ pub(crate) fn compare(
     Ok(())
 }
 
-/// A text, given with a slash between two lines.
+/// A text whose lines are separated by slashes, with newlines in their place.
 pub(crate) fn lines(alloc: Global, text: &str) -> Result<Vec<u8>, AllocError> {
     let mut bytes = Vec::with_capacity(alloc, text.len())?;
     for byte in text.as_bytes() {
@@ -64,7 +64,7 @@ pub(crate) fn lines(alloc: Global, text: &str) -> Result<Vec<u8>, AllocError> {
     Ok(bytes)
 }
 
-/// What a run has that reads a text, and neither reads nor writes that fail.
+/// A run that reads a text. No read or write fails.
 pub(crate) fn whole(text: &[u8]) -> Outside<'_> {
     Outside {
         text,
@@ -76,13 +76,13 @@ pub(crate) fn whole(text: &[u8]) -> Outside<'_> {
     }
 }
 
-/// A script, a status, and the lines that are wanted; slashes part lines.
+/// A script, and the status and the lines of the answer. Slashes separate lines.
 type Case = (&'static str, u8, &'static str);
 
-/// Plan words for each form of tables, and for each way that they take.
+/// The words of plans for each form of tables, as they are built and read back from their bytes.
 const FORMS: [&str; 4] = ["", "bytes ", "sparse ", "bytes sparse "];
 
-/// Runs a command that reads on a script, whose plan has some more words.
+/// Asserts the answer of a command to a script whose plan gets some more words.
 fn run_one(
     rt: &impl Abort,
     alloc: Global,
@@ -105,7 +105,7 @@ fn run_one(
     Ok(())
 }
 
-/// Runs a command that reads on scripts.
+/// Asserts the answers of a command to scripts.
 fn run_all(rt: &impl Abort, alloc: Global, command: &str, cases: &[Case]) -> Result<(), Fail> {
     for case in cases {
         run_one(rt, alloc, command, "", case)?;
@@ -113,7 +113,7 @@ fn run_all(rt: &impl Abort, alloc: Global, command: &str, cases: &[Case]) -> Res
     Ok(())
 }
 
-/// Runs a command on scripts by tables of each form, which makes no difference.
+/// Asserts that the answers of a command to scripts are the same for each form of tables.
 fn run_forms(rt: &impl Abort, alloc: Global, command: &str, cases: &[Case]) -> Result<(), Fail> {
     for case in cases {
         for words in FORMS {
@@ -472,7 +472,7 @@ fn sources_have_at_most_so_many_bytes(rt: HostRuntime) -> Result<(), Fail> {
     Ok(())
 }
 
-/// A source whose first read fails, and a sink that takes all at once.
+/// A run whose first read fails. A write takes all bytes at once.
 const UNREAD: Outside<'static> = Outside {
     text: b"x",
     most_read: 1,
@@ -543,7 +543,7 @@ fn patterns_are_generated_and_counted(rt: HostRuntime) -> Result<(), Fail> {
 
 const SCRIPT: &str = "expr lit 61\nexpr lit 62\ninput 0 2 yes\nhay 6261\n";
 
-/// The script has 47 bytes, so the sixth read of 8 gives the last one, and the seventh tells the end.
+/// The script has 47 bytes. Reads of 8 bytes give its last byte in the sixth read, and its end in the seventh.
 #[test]
 fn reads_and_writes_may_fail(rt: HostRuntime) -> Result<(), Fail> {
     let table: &[(&[u64], &[u64], usize, usize, u8, &str)] = &[
@@ -574,10 +574,10 @@ fn reads_and_writes_may_fail(rt: HostRuntime) -> Result<(), Fail> {
     Ok(())
 }
 
-/// The empty pattern in the empty haystack, which has 28 bytes.
+/// A script of 28 bytes: the empty pattern and the empty haystack.
 const EMPTY: &str = "expr eps\ninput 0 0 no\nhay -\n";
 
-/// Read byte by byte, with 29 reads, of which the last tells the end; or written with so much room.
+/// The script is read byte by byte, in 29 reads, the last of which gives its end.
 #[test]
 fn every_read_and_every_write_may_fail(rt: HostRuntime) -> Result<(), Fail> {
     assert!(&rt; EMPTY.len() == 28);

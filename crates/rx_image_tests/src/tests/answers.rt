@@ -1,4 +1,4 @@
-//! What reading a pair answers, and searches of what was read.
+//! What the reader of pairs answers, and searches by the tables that it returns.
 
 ghost use Rattle.rx_dense.specs.Facts.{IsSoundLayout as IsSoundDense};
 ghost use Rattle.rx_sparse.specs.Facts.{IsSoundLayout as IsSoundSparse};
@@ -13,8 +13,8 @@ use std::alloc::Global;
 use std::process::Abort;
 use std::test::Fail;
 
-/// The rows of the forward table and of the one in reverse, the patterns and the bytes of the image; or the kind of the
-/// first test that fails.
+/// How many rows the forward table has, and the table in reverse, how many patterns there are, and how long the image
+/// is; or the kind of error.
 pub type Answer = Result<(usize, usize, usize, usize), &'static str>;
 
 pub fn kind_name(error: &DeserializeError) -> &'static str {
@@ -40,7 +40,7 @@ fn answer(alloc: Global, bytes: &[u8]) -> Answer {
     }
 }
 
-/// The rows of the forward table and of the one in reverse, and the patterns.
+/// How many rows the forward table has, and the table in reverse, and how many patterns there are.
 fn lens(tables: &Tables<'_>) -> (usize, usize, usize) {
     match tables {
         Tables::Dense(forward, reverse) => {
@@ -60,7 +60,7 @@ fn lens(tables: &Tables<'_>) -> (usize, usize, usize) {
     }
 }
 
-/// Asserts what reading some bytes answers. The number tells cases apart.
+/// Asserts what the reader answers to some bytes. A failure names the case by its number.
 pub fn check(rt: &impl Abort, alloc: Global, bytes: &[u8], wanted: Answer, case: usize) {
     match (answer(alloc, bytes), wanted) {
         (Ok(found), Ok(wanted)) => {
@@ -100,7 +100,7 @@ fn search_sparse(alloc: Global, table: &DFA<&[u8]>) -> Result<(), Fail>
     check_spans(alloc, table, settings, b"a")
 }
 
-/// Searches by both tables of an image, if it is accepted. Tells whether it is.
+/// Whether the reader accepts an image. If so, searches by both tables.
 pub fn search_if_read(alloc: Global, image: &[u8]) -> Result<bool, Fail> {
     match read_pair(alloc, image) {
         Ok((Tables::Dense(forward, reverse), _)) => {

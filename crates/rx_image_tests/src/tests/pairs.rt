@@ -1,4 +1,4 @@
-//! Tables of pairs that are built, and their images.
+//! Builds the tables of pairs, and writes their images.
 
 use rx_base::{Direction, MatchKind, StartKind};
 use rx_build::dense::{Builder, Config};
@@ -20,7 +20,7 @@ pub const FORMS: [Form; 2] = [Form::Dense, Form::Sparse];
 
 pub const ORDERS: [Order; 2] = [Order::Little, Order::Big];
 
-/// What builds the tables of a pair in one direction. Matches may split a character.
+/// A builder of the tables of one direction. It keeps matches that split a character.
 fn builder(direction: Direction) -> Builder {
     let mut config = Config::new();
     if direction == Direction::Reverse {
@@ -71,7 +71,7 @@ pub fn sparse_image<T: ByteStore>(
     Ok(sparse_pair(alloc, order, forward, reverse)?)
 }
 
-/// The image of the forward table of some patterns and the table in reverse of as many others.
+/// The image of two tables: a forward one of some patterns, and one in reverse of as many other patterns.
 pub fn joined(
     alloc: Global,
     form: Form,
@@ -140,7 +140,7 @@ pub fn head(alloc: Global, order: Order, version: u32, form_number: u32) -> Resu
     Ok(bytes)
 }
 
-/// The number that stands for a form in the head.
+/// The number of a form in the head.
 pub fn form_number(form: Form) -> u32 {
     match form {
         Form::Dense => 0,
