@@ -2,20 +2,17 @@
 //!
 //! Each is a function of its own that isn't inlined, so that none is built for the one table that it is given.
 
-ghost use Rattle.std.specs.Prelude.{◌<◌, ◌≤◌, ◌^◌, length, IfSome};
+ghost use Rattle.std.specs.Prelude.{◌<◌, length, IfSome};
 ghost use Rattle.rx_dense.specs.Facts.{IsSoundLayout};
 
 use memchr::{memchr, memchr2, memchr3};
-use rx_base::{Anchored, HalfMatch, Input, MatchError, Steps, Tally};
+use rx_base::{HalfMatch, Input, MatchError, Steps, Tally};
 use rx_dense::OwnedDFA;
 use rx_search::{Automaton, Cursor, find_fwd_counted};
-use rx_stream::{StreamEvent, StreamSearcher};
 
 /// All of them.
-pub const SEARCHES: [Search; 7] = [
+pub const SEARCHES: [Search; 5] = [
     Search::Forward,
-    Search::Feed(4096),
-    Search::Feed(65536),
     Search::Reverse,
     Search::Counted,
     Search::Steps,
@@ -27,8 +24,6 @@ pub const SEARCHES: [Search; 7] = [
 pub enum Search {
     /// A forward search.
     Forward,
-    /// The same of a text that is fed in pieces of so many bytes.
-    Feed(usize),
     /// A search in reverse.
     Reverse,
     /// A forward search that counts its steps, whose number isn't read.
@@ -44,8 +39,6 @@ pub enum Search {
 pub enum Answer {
     /// The match, if there is one.
     Match(Option<HalfMatch>),
-    /// The first event of a text in pieces, if it has one.
-    Event(Option<StreamEvent>),
     /// How many steps were counted.
     Steps(u64),
     /// How many needles there are.
@@ -56,11 +49,9 @@ impl Search {
     /// Searches a text.
     pub fn run(self, dfa: &OwnedDFA, text: &[u8]) -> Result<Answer, MatchError>
         requires sound { IsSoundLayout dfa.now }
-        requires room { length text.now ≤ 2 ^ 62 }
     {
         match self {
             Search::Forward => Ok(Answer::Match(search_fwd(dfa, text)?)),
-            Search::Feed(len) => Ok(Answer::Event(feed(dfa, text, len.max(1))?)),
             Search::Reverse => Ok(Answer::Match(search_rev(dfa, text)?)),
             Search::Counted => Ok(Answer::Match(search_counted(dfa, text)?)),
             Search::Steps => Ok(Answer::Steps(count_steps(dfa, text)?)),
@@ -78,24 +69,6 @@ fn search_fwd(dfa: &OwnedDFA, text: &[u8]) -> Result<Option<HalfMatch>, MatchErr
     requires { IsSoundLayout dfa.now }
 {
     dfa.try_search_fwd(&Input::new(text))
-}
-
-#[inline(never)]
-fn feed(dfa: &OwnedDFA, text: &[u8], len: usize) -> Result<Option<StreamEvent>, MatchError>
-    requires sound { IsSoundLayout dfa.now }
-    requires room { length text.now ≤ 2 ^ 62 }
-    requires some { 1 ≤ len }
-{
-    let mut searcher = StreamSearcher::<&OwnedDFA>::new(dfa, Anchored::No)?;
-    let mut start = 0;
-    'pieces: while start < text.len() {
-        let end = text.len().min(start.saturating_add(len));
-        if let Some(event) = searcher.feed(&text[start..end], 0).event {
-            return Ok(Some(event));
-        }
-        start = end;
-    }
-    Ok(searcher.finish())
 }
 
 #[inline(never)]

@@ -1,13 +1,13 @@
 use Rattle.std.proofs.Common.{◌≡◌, ◌-◌, ◌≤◌, true, length}
 use Rattle.rx_stream.specs.Calls.{is_open}
-use Rattle.rx_search_bench.proofs.searches.feed.Given as goal
+use Rattle.rx_stream_bench.proofs.feed.Given as goal
 
 abbrev pub invariant-pieces : goal.invariant-pieces
-invariant-pieces l = record {
+invariant-pieces g l = record {
   still_open : is_open l.searcher.place.stage ≡ true;
   taken : l.searcher.place.taken ≡ l.start;
   within : l.start ≤ length l.text;
 }
 
 abbrev pub decreases-pieces : goal.decreases-pieces
-decreases-pieces l = length l.text - l.start
+decreases-pieces g l = length l.text - l.start
