@@ -65,6 +65,7 @@ fn matches_are_told_in_order(rt: HostRuntime) -> Result<(), Fail> {
         &several,
         &[
             // three matches end at 2: the one that began first comes first
+            (Anchored::No, b"bab", "1 1;2 2;0 2;1 2;1 3;"),
             (Anchored::No, b"ba", "1 1;2 2;0 2;1 2;"),
             (Anchored::Yes, b"ba", "1 1;2 2;"),
         ],
