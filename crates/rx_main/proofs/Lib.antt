@@ -24,5 +24,6 @@ pub mod SearchAnswers
 pub mod SearchFinds
 -- the lines of tokens
 pub mod TokenLines
+pub mod ScanMatches
 -- at most one reply fits
 pub mod OneReply

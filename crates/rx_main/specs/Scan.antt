@@ -1,19 +1,29 @@
 -- What the command `scan` replies to its bytes: an image of a table, and behind it a text that is cut into tokens.
-use Rattle.std.specs.Prelude.{ℕ, ◌≡◌, List, ◌++◌, length, drop, codes}
+use Rattle.std.specs.Prelude.{ℕ, ◌≡◌, List, ◌++◌, length, drop, codes, All}
 use Rattle.std.specs.List.{flat_map}
 use Rattle.std.specs.Fmt.{decimal}
+use Rattle.rx_spec.specs.Bytes.{AreBytes}
+use Rattle.rx_spec.specs.Expressions.{Expression}
+use Rattle.rx_spec.specs.Plans.{Plan}
 use Rattle.rx_spec.specs.Queries.{Anchored, MatchError}
 use Rattle.rx_spec.specs.Tables.{Table}
 use Rattle.rx_spec.specs.declared.Form.{Form}
+use Rattle.rx_all.specs.Builds.{all_build}
+use Rattle.rx_all.specs.Matches.{ServesAll}
 use Rattle.rx_dense.specs.Layouts as dense
 use Rattle.rx_dense_image.specs.Images as dense_images
-use Rattle.rx_scan.specs.Tokens.{Tokens, tokens}
+use Rattle.rx_plan.specs.Plan.{plan_of}
+use Rattle.rx_regex.specs.declared.plan_table.PlanTable.{PlanTable}
+use Rattle.rx_scan.specs.Tokens.{IsLongestToken, Tokens, tokens}
 use Rattle.rx_scan.specs.declared.token.ScanEnd.{ScanEnd}
 use Rattle.rx_scan.specs.declared.token.Token.{Token}
+use Rattle.rx_script.specs.Grammar.{Spelled}
 use Rattle.rx_sparse.specs.Layouts as sparse
 use Rattle.rx_sparse_image.specs.Images as sparse_images
+use Rattle.rx_wire.specs.declared.order.Order.{Order}
 use Rattle.rx_main.specs.Lines.{Reply, error_reply, newline}
 use Rattle.rx_main.specs.Check.{reading_reply}
+use Rattle.rx_main.specs.Image.{IsImageReply}
 
 -- its pattern, its span, and the line and the column where it starts
 abbrev pub token_line : Token → List ℕ
@@ -53,3 +63,21 @@ scan_reply Form.Sparse bytes = reading_reply (sparse_scan_reply bytes) (sparse_i
 
 abbrev pub ScanReplies : Form → List ℕ → Reply → Type 0
 ScanReplies form bytes reply = reply ≡ scan_reply form bytes
+
+-- ---- the law
+
+-- The reply tells the tokens by a table that tells all matches of some expressions: each is the longest match from where
+-- the one before it ended, and of the expressions that match so far it is of the lowest.
+pub record TellsMatches (plan : Plan) (es : List Expression) (text : List ℕ) (reply : Reply) : Type 0 where
+  pub table : Table
+  pub serves : ServesAll table (all_build plan es)
+  pub told : reply ≡ scanned_reply table text
+  pub longest : All (IsLongestToken es plan.line_terminator text) (tokens table text).tokens
+
+-- Over an image that `image all` wrote of a script, `scan` tells the tokens of any text by the script's expressions.
+abbrev pub ScanTellsMatches : Type 0
+ScanTellsMatches = (script : Spelled) (order : Order) (image : Reply)
+    → IsImageReply (plan_of script.plan) PlanTable.All script.exprs order image
+    → (text : List ℕ) → AreBytes text → (reply : Reply)
+    → ScanReplies (plan_of script.plan).form (image.text ++ text) reply
+    → TellsMatches (plan_of script.plan) script.exprs text reply

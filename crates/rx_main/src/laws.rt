@@ -3,6 +3,7 @@
 ghost use Rattle.std.specs.Prelude.{ℕ, Bool, List};
 ghost use Rattle.rx_main.specs.Lines.{Reply};
 ghost use Rattle.rx_main.specs.Replies.{Replies, SayTheSame};
+ghost use Rattle.rx_main.specs.Scan.{ScanTellsMatches};
 ghost use Rattle.rx_main.specs.Search.{SearchFinds};
 
 /// At most one reply fits a command line and the bytes that were taken from the source, but for two choices. A
@@ -19,4 +20,10 @@ pub fn one_reply()
 /// Over an image of both tables of a plan, which `image pair` wrote, `search` replies what `find` replies.
 pub fn search_finds()
     ensures { SearchFinds }
+{}
+
+/// Over an image that `image all` wrote, `scan` tells the tokens of the text behind it by the script's expressions: each
+/// is the longest match from where the one before it ended, and of the lowest pattern that matches so far.
+pub fn scan_tells_matches()
+    ensures { ScanTellsMatches }
 {}

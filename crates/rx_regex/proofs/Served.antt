@@ -1,6 +1,7 @@
 -- A pair of tables that is built as a plan's is serves the plan: the tables give its builds, and pass over no match
 -- that splits a character.
 use Rattle.std.proofs.Common.{◌≡◌, ◌&&◌, ℕ, Bool, true, false, refl, sym, ap, ◌∙◌, subst, List, All}
+use Rattle.rx_spec.specs.Builds.{Build}
 use Rattle.rx_spec.specs.Expressions.{Expression, IsLoopSafe}
 use Rattle.rx_spec.specs.Nfas.{Nfa, nfa_of, is_always_start_anchored}
 use Rattle.rx_spec.specs.Plans.{Plan, plan_build, plan_nfa}
@@ -11,6 +12,7 @@ use Rattle.rx_spec.specs.declared.Form.{Form}
 use Rattle.rx_dense.specs.Layouts.{Layout, table_of}
 use Rattle.rx_dense.specs.declared.flags.Flags.{Flags}
 use Rattle.rx_expr.specs.Compiles.{wanted_nfa}
+use Rattle.rx_all.specs.Matches.{ServesAll}
 use Rattle.rx_meaning.specs.Tables.{Serves, ServePlan}
 use Rattle.rx_build.specs.Builders.{Both}
 use Rattle.rx_build.specs.Built.{IsBuilt, build_of}
@@ -22,7 +24,7 @@ use Rattle.rx_sparse_build.specs.Built.{IsSparse}
 use Rattle.rx_sparse_build.proofs.Served.{sparse_serves}
 use Rattle.rx_regex.specs.Planned.{IsPlanned, planned}
 use Rattle.rx_regex.specs.Images as images
-use Rattle.rx_regex.specs.Settings.{settings_of}
+use Rattle.rx_regex.specs.Settings.{settings_for, settings_of}
 use Rattle.rx_image.specs.Pairs.{Pair}
 use Rattle.rx_regex.specs.Pairs.{AreBuilt, AreTables, forward_table, reverse_table}
 use Rattle.rx_regex.specs.declared.plan_table.PlanTable.{PlanTable}
@@ -156,3 +158,21 @@ sparse_tables {p} {es} form f_is r_is safe forward reverse = record {
     reverse = subst (images.IsSparse p PlanTable.Reverse es) (sym r_is) reverse;
   };
 }
+
+-- ---- the table of a plan for all matches tells them
+
+serves_all : {t : Table} {b : Build} → Serves t b → ServesAll t b
+serves_all s = record {
+  is_table = s.is_table;
+  gives = s.gives;
+  start_kind = s.settings.start_kind;
+  start_of_byte = s.settings.start_of_byte;
+  quit = s.settings.quit;
+}
+
+pub all_tables_serve : images.AllTablesServe
+all_tables_serve p es =
+    let both : Both = settings_for p PlanTable.All in (
+      λ l is. serves_all (built_serves (settled both.dense) (wanted_nfa both.thompson es) l is),
+      λ t is. serves_all (sparse_serves (settled both.dense) (wanted_nfa both.thompson es) t is),
+    )

@@ -1,6 +1,6 @@
 -- Tables of a plan can be written and read again.
-use Rattle.std.proofs.Common.{◌≡◌, ℕ, ◌^◌, ◌<◌, List, [], length, Ok, Result, sym, ap, ◌∙◌, subst, append-nil}
-use Rattle.rx_spec.specs.Expressions.{Expression}
+use Rattle.std.proofs.Common.{◌≡◌, ℕ, ◌^◌, ◌<◌, List, [], ◌++◌, length, All, Ok, Result, sym, ap, ◌∙◌, subst, append-nil}
+use Rattle.rx_spec.specs.Expressions.{Expression, IsLoopSafe}
 use Rattle.rx_spec.specs.Plans.{Plan}
 use Rattle.rx_spec.specs.declared.Direction.{Direction}
 use Rattle.rx_spec.specs.declared.Form.{Form}
@@ -57,21 +57,24 @@ dense_whole p which es l quit shaped is =
     built_whole (settled both.dense) (wanted_nfa both.thompson es) l (few_quits p which quit) shaped is
 
 -- what was written is read again
-dense_read : (l : Layout) (order : Order) (bytes : List ℕ) → IsWhole l → bytes ≡ text order l
-    → reads bytes ≡ Ok (l, length bytes)
-dense_read l order bytes whole written =
-    ap reads (written ∙ sym (append-nil (text order l))) ∙ whole_again order l whole []
+dense_read : (l : Layout) (order : Order) (bytes : List ℕ) → IsWhole l → bytes ≡ text order l → (rest : List ℕ)
+    → reads (bytes ++ rest) ≡ Ok (l, length bytes)
+dense_read l order bytes whole written rest =
+    ap (λ (w : List ℕ). reads (w ++ rest)) written ∙ whole_again order l whole rest
     ∙ ap (λ (w : List ℕ). Ok (l, length w)) (sym written)
 
 pub dense_again : (l back : Layout) (size : ℕ) (order : Order) (bytes : List ℕ) → IsWhole l
     → bytes ≡ text order l → reads bytes ≡ Ok (back, size) → back ≡ l
 dense_again l back size order bytes whole written read =
-    same_read back l size (length bytes) (reads bytes) read (dense_read l order bytes whole written)
+    same_read back l size (length bytes) (reads bytes) read
+    (ap reads (sym (append-nil bytes)) ∙ dense_read l order bytes whole written [])
 
 dense_image : (p : Plan) (which : PlanTable) (es : List Expression) (l : Layout) (order : Order) (bytes : List ℕ)
-    → IsDense p which es l → IsWhole l → bytes ≡ text order l → IsDenseImage p which es order bytes
-dense_image p which es l order bytes built whole written = record {
+    → All IsLoopSafe es → IsDense p which es l → IsWhole l → bytes ≡ text order l
+    → IsDenseImage p which es order bytes
+dense_image p which es l order bytes safe built whole written = record {
   layout = l;
+  safe = safe;
   built = built;
   written = written;
   read = dense_read l order bytes whole written;
@@ -97,10 +100,10 @@ pub is_little : (p : Plan) (which : PlanTable) (es : List Expression) (t : Store
 is_little p which es t is = ap (λ (x : Stored). x.order) is.sparse
 
 sparse_read : (t : Stored) (order : Order) (bytes : List ℕ) → sparse_tested.IsWhole t.layout
-    → bytes ≡ sparse.text order t.layout → sparse.reads bytes ≡ Ok (record t { order = order }, length bytes)
-sparse_read t order bytes whole written =
-    ap sparse.reads (written ∙ sym (append-nil (sparse.text order t.layout)))
-    ∙ sparse_again.whole_again order t.layout whole []
+    → bytes ≡ sparse.text order t.layout → (rest : List ℕ)
+    → sparse.reads (bytes ++ rest) ≡ Ok (record t { order = order }, length bytes)
+sparse_read t order bytes whole written rest =
+    ap (λ (w : List ℕ). sparse.reads (w ++ rest)) written ∙ sparse_again.whole_again order t.layout whole rest
     ∙ ap (λ (w : List ℕ). Ok (record t { order = order }, length w)) (sym written)
 
 pub sparse_read_again : (t back : Stored) (size : ℕ) (bytes : List ℕ) → sparse_tested.IsWhole t.layout
@@ -108,14 +111,15 @@ pub sparse_read_again : (t back : Stored) (size : ℕ) (bytes : List ℕ) → sp
     → back ≡ t
 sparse_read_again t back size bytes whole little written read =
     same_read back (record t { order = Order.Little }) size (length bytes) (sparse.reads bytes) read
-    (sparse_read t Order.Little bytes whole written)
+    (ap sparse.reads (sym (append-nil bytes)) ∙ sparse_read t Order.Little bytes whole written [])
     ∙ ap (λ (order : Order). record t { order = order }) (sym little)
 
 sparse_image : (p : Plan) (which : PlanTable) (es : List Expression) (t : Stored) (order : Order) (bytes : List ℕ)
-    → IsSparse p which es t → sparse_tested.IsWhole t.layout → bytes ≡ sparse.text order t.layout
-    → IsSparseImage p which es order bytes
-sparse_image p which es t order bytes built whole written = record {
+    → All IsLoopSafe es → IsSparse p which es t → sparse_tested.IsWhole t.layout
+    → bytes ≡ sparse.text order t.layout → IsSparseImage p which es order bytes
+sparse_image p which es t order bytes safe built whole written = record {
   stored = t;
+  safe = safe;
   built = built;
   written = written;
   read = sparse_read t order bytes whole written;
@@ -128,12 +132,12 @@ module _ (p : Plan) (which : PlanTable) (es : List Expression) (order : Order) (
       → IsImage p which es order bytes
   of_form form e = subst (λ (f : Form). IsImageOf f p which es order bytes) (sym e)
 
-  pub is_dense_image : (l : Layout) → p.form ≡ Form.Dense → IsDense p which es l → IsWhole l
+  pub is_dense_image : (l : Layout) → p.form ≡ Form.Dense → All IsLoopSafe es → IsDense p which es l → IsWhole l
       → bytes ≡ text order l → IsImage p which es order bytes
-  is_dense_image l form table whole written =
-      of_form Form.Dense form (dense_image p which es l order bytes table whole written)
+  is_dense_image l form safe table whole written =
+      of_form Form.Dense form (dense_image p which es l order bytes safe table whole written)
 
-  pub is_sparse_image : (t : Stored) → p.form ≡ Form.Sparse → IsSparse p which es t
+  pub is_sparse_image : (t : Stored) → p.form ≡ Form.Sparse → All IsLoopSafe es → IsSparse p which es t
       → sparse_tested.IsWhole t.layout → bytes ≡ sparse.text order t.layout → IsImage p which es order bytes
-  is_sparse_image t form table whole written =
-      of_form Form.Sparse form (sparse_image p which es t order bytes table whole written)
+  is_sparse_image t form safe table whole written =
+      of_form Form.Sparse form (sparse_image p which es t order bytes safe table whole written)

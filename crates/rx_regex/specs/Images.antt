@@ -1,17 +1,20 @@
 -- One table of a plan and images of it, and images of both.
-use Rattle.std.specs.Prelude.{◌≡◌, ℕ, List, length, Ok}
+use Rattle.std.specs.Prelude.{◌≡◌, ℕ, List, length, ◌++◌, Ok, All}
 use Rattle.rx_spec.specs.Bytes.{AreBytes}
-use Rattle.rx_spec.specs.Expressions.{Expression}
+use Rattle.rx_spec.specs.Expressions.{Expression, IsLoopSafe}
 use Rattle.rx_spec.specs.Plans.{Plan, outcome}
 use Rattle.rx_spec.specs.Queries.{IsFit, Query}
 use Rattle.rx_spec.specs.declared.Form.{Form}
-use Rattle.rx_dense.specs.Layouts.{Layout}
+use Rattle.rx_dense.specs.Layouts.{Layout, table_of}
 use Rattle.rx_dense_image.specs.Images as dense
 use Rattle.rx_image.specs.Pairs.{Pair, in_order, reads, text}
+use Rattle.rx_all.specs.Builds.{all_build}
+use Rattle.rx_all.specs.Matches.{ServesAll}
 use Rattle.rx_regex_builder.specs.Pairs.{in_direction}
 use Rattle.rx_regex_builder.specs.Pairs as dense_pairs
 use Rattle.rx_regex_builder.specs.SparsePairs as sparse_pairs
 use Rattle.rx_sparse.specs.Layouts.{Stored}
+use Rattle.rx_sparse.specs.Layouts as stored
 use Rattle.rx_sparse_image.specs.Images as sparse
 use Rattle.rx_wire.specs.declared.order.Order.{Order}
 use Rattle.rx_regex.specs.Pairs.{AreTables, joined, whole}
@@ -30,21 +33,24 @@ IsDense p table es l = dense_pairs.IsOf (in_direction (direction_of table) (sett
 abbrev pub IsSparse : Plan → PlanTable → List Expression → Stored → Type 0
 IsSparse p table es t = sparse_pairs.IsOf (in_direction (direction_of table) (settings_for p table)) es t
 
--- Bytes are an image of such a table: they are its text, and whoever reads them has the table, all of them read.
+-- Bytes are an image of such a table: they are its text, and whoever reads them has the table, all of them read and none
+-- of what comes behind.
 pub record IsDenseImage (p : Plan) (table : PlanTable) (es : List Expression) (order : Order) (bytes : List ℕ)
     : Type 0 where
   pub layout : Layout
+  pub safe : All IsLoopSafe es
   pub built : IsDense p table es layout
   pub written : bytes ≡ dense.text order layout
-  pub read : dense.reads bytes ≡ Ok (layout, length bytes)
+  pub read : (rest : List ℕ) → dense.reads (bytes ++ rest) ≡ Ok (layout, length bytes)
 
 -- A sparse one is read where it lies, with its bytes in the order of the image.
 pub record IsSparseImage (p : Plan) (table : PlanTable) (es : List Expression) (order : Order) (bytes : List ℕ)
     : Type 0 where
   pub stored : Stored
+  pub safe : All IsLoopSafe es
   pub built : IsSparse p table es stored
   pub written : bytes ≡ sparse.text order stored.layout
-  pub read : sparse.reads bytes ≡ Ok (record stored { order = order }, length bytes)
+  pub read : (rest : List ℕ) → sparse.reads (bytes ++ rest) ≡ Ok (record stored { order = order }, length bytes)
 
 abbrev pub IsImageOf : Form → Plan → PlanTable → List Expression → Order → List ℕ → Type 0
 IsImageOf Form.Dense p table es order bytes = IsDenseImage p table es order bytes
@@ -53,6 +59,12 @@ IsImageOf Form.Sparse p table es order bytes = IsSparseImage p table es order by
 -- an image of a table of the plan's form
 abbrev pub IsImage : Plan → PlanTable → List Expression → Order → List ℕ → Type 0
 IsImage p table es order bytes = IsImageOf p.form p table es order bytes
+
+-- A table for all matches of some expressions tells them (`rx_all`), whatever its form.
+abbrev pub AllTablesServe : Type 0
+AllTablesServe = (p : Plan) (es : List Expression)
+    → ((l : Layout) → IsDense p PlanTable.All es l → ServesAll (table_of l) (all_build p es))
+    × ((t : Stored) → IsSparse p PlanTable.All es t → ServesAll (stored.table_of t.layout) (all_build p es))
 
 -- ---- both tables
 

@@ -4,7 +4,7 @@
 //! Each function has an empty body, and its clauses are the laws.
 
 ghost use Rattle.rx_regex.specs.Find.{PlansFindTheSame};
-ghost use Rattle.rx_regex.specs.Images.{ImagePairsFind};
+ghost use Rattle.rx_regex.specs.Images.{AllTablesServe, ImagePairsFind};
 ghost use Rattle.rx_regex.specs.Planned.{PairsAgree, PairsEnd, PairsFind, PairsServe};
 
 /// A pair that a [`crate::Builder`] makes leftmost-first, of expressions that are read forward, with matches that may
@@ -30,4 +30,10 @@ pub fn plans_find_the_same()
 /// image searches as [`crate::compile_and_find`] does, and needs neither.
 pub fn image_pairs_find()
     ensures { ImagePairsFind }
+{}
+
+/// A plan's table for all matches serves the build of all matches, so the law of `rx_all` can be cited of it: what it
+/// tells at a place are all matches of the expressions from there.
+pub fn all_tables_serve()
+    ensures { AllTablesServe }
 {}

@@ -8,3 +8,4 @@ pub mod LastRows
 pub mod TokenMeanings
 -- the tokens by the first of them
 pub mod TokenSteps
+pub mod TokensAreLongest

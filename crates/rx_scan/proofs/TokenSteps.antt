@@ -52,7 +52,7 @@ module _ (t : Table) (text : List ℕ) where
       ap (λ v. if v then then_tokens text p (answer p) (λ next. tokens_from t text n next) else no_more ScanEnd.Done)
       (le-ltb p (length text) h)
 
-  turn : (n p : ℕ) → p < length text
+  pub turn : (n p : ℕ) → p < length text
       → tokens_from t text (suc n) p ≡ then_tokens text p (answer p) (λ next. tokens_from t text n next)
   unfolding tokens_from
   turn n p h =

@@ -3,6 +3,7 @@
 use Rattle.std.specs.Prelude.{ℕ, zero, suc, ◌≡◌, ◌<◌, ◌≤◌, ◌+◌, ◌-◌, Bool, true, false, ◌==◌, ◌&&◌, ◌||◌, nat_lt}
 use Rattle.std.specs.Prelude.{if◌then◌else◌, Option, Some, None, MatchOption, IfSome, Ok, Err, List, [], ◌∷◌, length, All, ◌↔◌}
 use Rattle.std.specs.Iterator.{YieldsFirst}
+use Rattle.rx_spec.specs.Bytes.{AreBytes}
 use Rattle.rx_spec.specs.Looks.{after, is_byte}
 use Rattle.rx_spec.specs.Queries.{HalfMatch, MatchError}
 use Rattle.rx_spec.specs.HalfSearches.{HalfAnswer}
@@ -118,11 +119,15 @@ pub record Scan : Type 0 where
   pub left : Tokens
   pub is_over : Bool
 
+-- the longest match of some expressions from where the token starts, and of those that are as long that of the lowest
+abbrev pub IsLongestToken : List Expression → ℕ → List ℕ → Token → Type 0
+IsLongestToken es t text token =
+    IsLongestMatch es t text token.span.start (record { pattern = token.pattern; offset = token.span.end })
+
 -- A token of a table that tells every match of some expressions is the longest match there.
 abbrev pub IsMeant : Table → List ℕ → Token → Type 0
 IsMeant t text token = (plan : Plan) (es : List Expression) → All IsLoopSafe es → ServesAll t (all_build plan es)
-    → IsLongestMatch es plan.line_terminator text token.span.start
-    (record { pattern = token.pattern; offset = token.span.end })
+    → IsLongestToken es plan.line_terminator text token
 
 -- Where a scan is stuck, no pattern has an end past that place.
 abbrev pub IsMeantEnd : Table → List ℕ → ScanEnd → Type 0
@@ -147,3 +152,11 @@ pub record NextToken (s : Scan) (told : Option Token) (t : Scan) : Type 0 where
 
 abbrev pub end_told : Scan → Option ScanEnd
 end_told s = if s.is_over then Some s.left.end else None
+
+-- ---- the law
+
+-- all tokens of such a table are the longest matches
+abbrev pub TokensAreLongest : Type 0
+TokensAreLongest = (t : Table) (plan : Plan) (es : List Expression) (text : List ℕ) → ServesAll t (all_build plan es)
+    → All IsLoopSafe es → AreBytes text
+    → All (IsLongestToken es plan.line_terminator text) (tokens t text).tokens
