@@ -2,8 +2,8 @@
 use Rattle.std.proofs.Common.{◌≡◌, ℕ, ◌==◌, if◌then◌else◌, List, [], ◌∷◌, get_or, refl, ap, sym, ◌∙◌, arith}
 use Rattle.std.specs.Str.Parse.{digits_value}
 use Rattle.std.proofs.lemmas.Fmt.{digits_value-decimal}
-use Rattle.rx_spec.specs.declared.Direction.{Direction}
 use Rattle.rx_spec.specs.declared.Form.{Form}
+use Rattle.rx_regex.specs.declared.plan_table.PlanTable.{PlanTable}
 use Rattle.rx_wire.specs.declared.order.Order.{Order}
 use Rattle.rx_base.specs.Search.{mode_of}
 use Rattle.rx_base.specs.declared.search.Anchored.{Anchored as Mode}
@@ -19,8 +19,9 @@ use Rattle.rx_main.proofs.Counts.{own}
 abbrev first_of : List (List ℕ) → ℕ → ℕ
 first_of words i = get_or (get_or words i []) 0 0
 
-abbrev direction_by : ℕ → Direction
-direction_by byte = if byte == 102 then Direction.Forward else Direction.Reverse
+abbrev table_by : ℕ → PlanTable
+table_by byte =
+    if byte == 102 then PlanTable.Forward else (if byte == 97 then PlanTable.All else PlanTable.Reverse)
 
 abbrev order_by : ℕ → Order
 order_by byte = if byte == 108 then Order.Little else Order.Big
@@ -30,7 +31,7 @@ form_by byte = if byte == 100 then Form.Dense else Form.Sparse
 
 -- the tables of a pair have the word pair
 abbrev image_by : ℕ → Order → ReadCommand
-image_by byte order = if byte == 112 then ReadCommand.ImagePair order else ReadCommand.Image (direction_by byte) order
+image_by byte order = if byte == 112 then ReadCommand.ImagePair order else ReadCommand.Image (table_by byte) order
 
 abbrev check_by : ℕ → ReadCommand
 check_by byte = if byte == 112 then ReadCommand.CheckPair else ReadCommand.Check (form_by byte)
@@ -50,14 +51,19 @@ abbrev search_by : List (List ℕ) → Search
 search_by words =
     searched (number_by words 1) (number_by words 2) (mode_by (get_or words 3 [])) (number_by words 4)
 
--- A command is told by the first byte of its first word, and by its other words.
+-- two commands begin with the same byte
+abbrev cut_by : ℕ → List (List ℕ) → ReadCommand
+cut_by byte words =
+    if byte == 99 then ReadCommand.Scan (form_by (first_of words 1)) else ReadCommand.Search (search_by words)
+
+-- A command is told by the first bytes of its first word, and by its other words.
 abbrev command_by : ℕ → List (List ℕ) → Command
 command_by byte words =
     if byte == 102 then Command.Read ReadCommand.Find
     else (if byte == 101 then Command.Read ReadCommand.Each
     else (if byte == 105 then Command.Read (image_by (first_of words 1) (order_by (first_of words 2)))
     else (if byte == 99 then Command.Read (check_by (first_of words 1))
-    else (if byte == 115 then Command.Read (ReadCommand.Search (search_by words))
+    else (if byte == 115 then Command.Read (cut_by (get_or (get_or words 0 []) 1 0) words)
     else Command.Gen (number_by words 1)))))
 
 abbrev told_by : List (List ℕ) → Command
@@ -79,13 +85,17 @@ mode_told (Mode.Pattern k) is = ap Mode.Pattern (digits_value-decimal own k (ome
 told : (command : Command) (words : List (List ℕ)) → Says words command → told_by (words_of command) ≡ command
 told (Command.Read ReadCommand.Find) words says = refl
 told (Command.Read ReadCommand.Each) words says = refl
-told (Command.Read (ReadCommand.Image Direction.Forward Order.Little)) words says = refl
-told (Command.Read (ReadCommand.Image Direction.Forward Order.Big)) words says = refl
-told (Command.Read (ReadCommand.Image Direction.Reverse Order.Little)) words says = refl
-told (Command.Read (ReadCommand.Image Direction.Reverse Order.Big)) words says = refl
+told (Command.Read (ReadCommand.Image PlanTable.Forward Order.Little)) words says = refl
+told (Command.Read (ReadCommand.Image PlanTable.Forward Order.Big)) words says = refl
+told (Command.Read (ReadCommand.Image PlanTable.Reverse Order.Little)) words says = refl
+told (Command.Read (ReadCommand.Image PlanTable.Reverse Order.Big)) words says = refl
+told (Command.Read (ReadCommand.Image PlanTable.All Order.Little)) words says = refl
+told (Command.Read (ReadCommand.Image PlanTable.All Order.Big)) words says = refl
 told (Command.Read (ReadCommand.ImagePair Order.Little)) words says = refl
 told (Command.Read (ReadCommand.ImagePair Order.Big)) words says = refl
 told (Command.Read ReadCommand.CheckPair) words says = refl
+told (Command.Read (ReadCommand.Scan Form.Dense)) words says = refl
+told (Command.Read (ReadCommand.Scan Form.Sparse)) words says = refl
 told (Command.Read (ReadCommand.Search s)) words says =
     let is = says.in_range in
     let few = is.few in

@@ -22,5 +22,7 @@ pub mod Generated
 -- searches by images of pairs
 pub mod SearchAnswers
 pub mod SearchFinds
+-- the lines of tokens
+pub mod TokenLines
 -- at most one reply fits
 pub mod OneReply

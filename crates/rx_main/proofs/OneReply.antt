@@ -3,11 +3,12 @@
 use Rattle.std.proofs.Common.{◌≡◌, ◌⊎◌, inl, inr, ℕ, ◌+◌, ◌≤◌, Bool, true, false, List, [], length}
 use Rattle.std.proofs.Common.{Option, Some, Result, Ok, Err, refl, sym, ap, ◌∙◌, arith, subst}
 use Rattle.rx_spec.specs.Expressions.{Expression}
-use Rattle.rx_spec.specs.Plans.{Plan, Cause, DirectionFits, DirectionRefused}
+use Rattle.rx_spec.specs.Plans.{Plan, Cause}
 use Rattle.rx_spec.specs.Queries.{Query, Match, MatchError}
-use Rattle.rx_spec.specs.declared.Direction.{Direction}
 use Rattle.rx_plan.specs.Plan.{plan_of, usual}
 use Rattle.rx_regex.specs.Find.{PlanFits, PlanRefused}
+use Rattle.rx_regex.specs.PlanTables.{IsOfPair, TableFits, TableRefused}
+use Rattle.rx_regex.specs.declared.plan_table.PlanTable.{PlanTable}
 use Rattle.rx_script.specs.Faults.{Fault}
 use Rattle.rx_script.specs.Grammar.{Spelled, Spells}
 use Rattle.rx_script.specs.Reading.{script_of}
@@ -25,7 +26,7 @@ use Rattle.rx_main.specs.Replies.{AsksFor, CommandReplies, IsBounded, ReadReplie
 use Rattle.rx_main.specs.declared.command.Command.{Command}
 use Rattle.rx_main.specs.declared.command.ReadCommand.{ReadCommand}
 use Rattle.rx_main.proofs.CommandWords.{spelled_once}
-use Rattle.rx_main.proofs.Refusals.{direction_bounded, plan_bounded}
+use Rattle.rx_main.proofs.Refusals.{plan_bounded, table_bounded}
 use Rattle.rx_main.proofs.RowCounts.{rows_once}
 
 -- any two answers are one, or say the same
@@ -106,9 +107,9 @@ module _ (words : List (List ℕ)) (bytes : List ℕ) where
 
   -- a build that is asked for and whose refusal is one by a bound
   pub record IsAskedBound (p : Plan) (es : List Expression) (reply : Reply) : Type 0 where
-    pub direction : Direction
-    pub asked : AsksFor words bytes p es direction
-    pub bounded : IsBounded p es direction reply
+    pub table : PlanTable
+    pub asked : AsksFor words bytes p es table
+    pub bounded : IsBounded p es table reply
 
   -- a refusal of what isn't refused is one by a bound
   module _ (Refused : Cause → Type 0) (Fits : Type 0) (p : Plan) (es : List Expression)
@@ -117,19 +118,19 @@ module _ (words : List (List ℕ)) (bytes : List ℕ) where
     built_alike Answers alike reply other (BuildReplies.Refused h) (BuildReplies.Refused k) =
         SayTheSame.Refusals (any_cause Refused reply h) (any_cause Refused other k)
     built_alike Answers alike reply other (BuildReplies.Refused h) (BuildReplies.Answered fits k) =
-        let by = bounded reply h fits in SayTheSame.Bounded p es by.direction by.asked (inl by.bounded)
+        let by = bounded reply h fits in SayTheSame.Bounded p es by.table by.asked (inl by.bounded)
     built_alike Answers alike reply other (BuildReplies.Answered fits h) (BuildReplies.Refused k) =
-        let by = bounded other k fits in SayTheSame.Bounded p es by.direction by.asked (inr by.bounded)
+        let by = bounded other k fits in SayTheSame.Bounded p es by.table by.asked (inr by.bounded)
     built_alike Answers alike reply other (BuildReplies.Answered fits h) (BuildReplies.Answered also k) =
         alike reply other h k
 
-  plan_alike : (p : Plan) (es : List Expression) → ((direction : Direction) → AsksFor words bytes p es direction)
-      → (Answers : Reply → Type 0) → AreAlike Answers → AreAlike (PlanReplies p es Answers)
+  plan_alike : (p : Plan) (es : List Expression)
+      → ((table : PlanTable) → IsOfPair table → AsksFor words bytes p es table) → (Answers : Reply → Type 0) → AreAlike Answers → AreAlike (PlanReplies p es Answers)
   plan_alike p es asks Answers alike =
       built_alike (PlanRefused p es) (PlanFits p es) p es
       (λ reply h fits.
       let by = plan_bounded p es reply h fits in
-      record { direction = by.0; asked = asks by.0; bounded = by.1 })
+      record { table = by.0; asked = asks by.0 by.1; bounded = by.2 })
       Answers alike
 
   -- ---- scripts
@@ -153,30 +154,29 @@ module _ (words : List (List ℕ)) (bytes : List ℕ) where
       → Says words (Command.Read ReadCommand.Find) ⊎ Says words (Command.Read ReadCommand.Each)
       → (script : Spelled) → Spells true bytes script → AreAlike (AskedReplies Answers script)
   asked_alike Answers one says script spelled reply other h k =
-      plan_alike (plan_of script.plan) script.exprs (λ direction. AsksFor.Search script says spelled refl refl)
+      plan_alike (plan_of script.plan) script.exprs (λ table one. AsksFor.Search one script says spelled refl refl)
       (Answers script h.query) (alike_if_one (Answers script h.query) (one script h.query)) reply other h.replies
       (subst (λ (q : Query). PlanReplies (plan_of script.plan) script.exprs (Answers script q) other)
       (same_query script.asked h.query k.query h.asked k.asked) k.replies)
 
-  image_alike : (direction : Direction) (order : Order)
-      → Says words (Command.Read (ReadCommand.Image direction order))
-      → (script : Spelled) → Spells false bytes script → AreAlike (ImageAnswers direction order script)
-  image_alike direction order says script spelled =
+  image_alike : (table : PlanTable) (order : Order) → Says words (Command.Read (ReadCommand.Image table order))
+      → (script : Spelled) → Spells false bytes script → AreAlike (ImageAnswers table order script)
+  image_alike table order says script spelled =
       let p = plan_of script.plan in
-      built_alike (DirectionRefused p direction script.exprs) (DirectionFits p direction script.exprs) p script.exprs
+      built_alike (TableRefused p table script.exprs) (TableFits p table script.exprs) p script.exprs
       (λ reply h fits. record {
-        direction = direction;
+        table = table;
         asked = AsksFor.Image order script says spelled refl refl;
-        bounded = direction_bounded p script.exprs direction reply h fits;
+        bounded = table_bounded p script.exprs table reply h fits;
       })
-      (IsImageReply p direction script.exprs order)
-      (λ reply other h k. SayTheSame.Images direction order script says spelled h k)
+      (IsImageReply p table script.exprs order)
+      (λ reply other h k. SayTheSame.Images table order script says spelled h k)
 
   pair_alike : (order : Order) → Says words (Command.Read (ReadCommand.ImagePair order))
       → (script : Spelled) → Spells false bytes script → AreAlike (PairImageAnswers order script)
   pair_alike order says script spelled =
       let p = plan_of script.plan in
-      plan_alike p script.exprs (λ direction. AsksFor.ImagePair order script says spelled refl refl)
+      plan_alike p script.exprs (λ table one. AsksFor.ImagePair one order script says spelled refl refl)
       (IsPairImageReply p script.exprs order)
       (λ reply other h k. SayTheSame.PairImages order script says spelled h k)
 
@@ -187,11 +187,12 @@ module _ (words : List (List ℕ)) (bytes : List ℕ) where
       script_alike true (AskedReplies FindAnswers) (asked_alike FindAnswers find_once (inl says))
   read_alike ReadCommand.Each says =
       script_alike true (AskedReplies EachAnswers) (asked_alike EachAnswers each_once (inr says))
-  read_alike (ReadCommand.Image direction order) says =
-      script_alike false (ImageAnswers direction order) (image_alike direction order says)
+  read_alike (ReadCommand.Image table order) says =
+      script_alike false (ImageAnswers table order) (image_alike table order says)
   read_alike (ReadCommand.ImagePair order) says = script_alike false (PairImageAnswers order) (pair_alike order says)
   read_alike ReadCommand.CheckPair says = λ reply other h k. SayTheSame.Same (h ∙ sym k)
   read_alike (ReadCommand.Search s) says = λ reply other h k. SayTheSame.Same (h ∙ sym k)
+  read_alike (ReadCommand.Scan form) says = λ reply other h k. SayTheSame.Same (h ∙ sym k)
   read_alike (ReadCommand.Check form) says = λ reply other h k. SayTheSame.Same (h ∙ sym k)
 
   command_alike : (command : Command) → Says words command → (ended also : Bool) (reply other : Reply)
@@ -200,7 +201,7 @@ module _ (words : List (List ℕ)) (bytes : List ℕ) where
   command_alike (Command.Read command) says ended also reply other h k =
       read_alike command says reply other h.1 k.1
   command_alike (Command.Gen count) says ended also reply other h k =
-      plan_alike (plan_of usual) (gen_patterns count) (λ direction. AsksFor.Generated count says refl refl) _
+      plan_alike (plan_of usual) (gen_patterns count) (λ table one. AsksFor.Generated one count says refl refl) _
       (λ r s e f. SayTheSame.Same (e ∙ sym f)) reply other h.1 k.1
 
 -- a command that reads and is answered read no more than the most

@@ -5,10 +5,13 @@ use Rattle.rx_spec.specs.Nfas.{Nfa}
 use Rattle.rx_spec.specs.Builds.{Build}
 use Rattle.rx_spec.specs.Sizes.{nfa_size}
 use Rattle.rx_spec.specs.Causes.{NfaCause, BuildCause, NfaFits, NfaRefused, IsWithin, IsSupported, IsUnsupported}
+use Rattle.rx_spec.specs.Causes.{BuildFits, BuildRefused}
 use Rattle.rx_spec.specs.Causes.{HasTooManyStates, HasTooLongRows}
-use Rattle.rx_spec.specs.Plans.{Plan, Cause, DirectionFits, DirectionRefused, plan_limits, plan_build}
+use Rattle.rx_spec.specs.Plans.{Plan, Cause, DirectionFits, DirectionRefused, plan_limits}
 use Rattle.rx_spec.specs.declared.Direction.{Direction}
 use Rattle.rx_regex.specs.Find.{PlanFits, PlanRefused}
+use Rattle.rx_regex.specs.PlanTables.{IsOfPair, TableFits, TableRefused, table_build}
+use Rattle.rx_regex.specs.declared.plan_table.PlanTable.{PlanTable}
 use Rattle.rx_build_error.specs.Refusals.{IsRefused}
 use Rattle.rx_build_error.specs.declared.BuildErrorKind.{BuildErrorKind}
 use Rattle.rx_expr.specs.declared.thompson.build_error.BuildError as nfa
@@ -55,52 +58,58 @@ not_false false other = absurd (other refl)
 
 module _ (p : Plan) (es : List Expression) where
   -- a build that fits is refused by no cause but a bound of the rows of its sparse table
-  abbrev IsByBound : Direction → Cause → Type 0
-  IsByBound direction cause =
-      (cause ≡ Cause.DFA BuildCause.TooManyStates) × (p.minimize ≡ true)
-      × HasTooLongRows (plan_limits p) (plan_build p direction es)
+  abbrev IsByBound : Build → Cause → Type 0
+  IsByBound b cause =
+      (cause ≡ Cause.DFA BuildCause.TooManyStates) × (p.minimize ≡ true) × HasTooLongRows (plan_limits p) b
 
-  by_bound : (direction : Direction) (cause : Cause)
-      → DirectionRefused p direction es cause → DirectionFits p direction es → IsByBound direction cause
-  by_bound direction (Cause.NFA cause) h fits = absurd (nfa_fits_not _ _ _ cause h fits.nfa)
-  by_bound direction (Cause.DFA BuildCause.Unsupported) h fits =
-      absurd (supported_not _ h.1 fits.build.supported)
-  by_bound direction (Cause.DFA BuildCause.TooManyStates) h fits =
+  build_by_bound : (b : Build) (cause : BuildCause) → BuildRefused (plan_limits p) b cause
+      → BuildFits (plan_limits p) b → IsByBound b (Cause.DFA cause)
+  build_by_bound b BuildCause.Unsupported h fits = absurd (supported_not b h fits.supported)
+  build_by_bound b BuildCause.TooManyStates h fits =
       ⊎_elim
-      (λ (many : HasTooManyStates (plan_limits p) (plan_build p direction es)). absurd (fits.build.states many))
-      (λ (long : HasTooLongRows (plan_limits p) (plan_build p direction es)).
-      (refl, not_false p.minimize (λ e. fits.build.rows e long), long))
-      h.1.1
-  by_bound direction (Cause.DFA BuildCause.TooManyMatchPatternIDs) h fits = absurd (fits.build.patterns h.1.1)
-  by_bound direction (Cause.DFA (BuildCause.DFAExceededSizeLimit limit)) h fits =
-      absurd (fits.build.table limit h.1.1 h.1.2)
-  by_bound direction (Cause.DFA (BuildCause.DeterminizeExceededSizeLimit limit)) h fits =
-      absurd (fits.build.construction limit h.1.1 h.1.2)
+      (λ (many : HasTooManyStates (plan_limits p) b). absurd (fits.states many))
+      (λ (long : HasTooLongRows (plan_limits p) b).
+      (refl, not_false p.minimize (λ e. fits.rows e long), long))
+      h.1
+  build_by_bound b BuildCause.TooManyMatchPatternIDs h fits = absurd (fits.patterns h.1)
+  build_by_bound b (BuildCause.DFAExceededSizeLimit limit) h fits = absurd (fits.table limit h.1 h.2)
+  build_by_bound b (BuildCause.DeterminizeExceededSizeLimit limit) h fits =
+      absurd (fits.construction limit h.1 h.2)
 
-  bounded : (direction : Direction) (cause : Cause) (reply : Reply) → reply ≡ refusal_reply cause
-      → IsByBound direction cause → IsBounded p es direction reply
-  bounded direction cause reply told by = record {
+  by_bound : (table : PlanTable) (cause : Cause) → TableRefused p table es cause → TableFits p table es
+      → IsByBound (table_build p table es) cause
+  by_bound PlanTable.Forward (Cause.NFA cause) h fits = absurd (nfa_fits_not _ _ _ cause h fits.nfa)
+  by_bound PlanTable.Forward (Cause.DFA cause) h fits = build_by_bound _ cause h.1 fits.build
+  by_bound PlanTable.Reverse (Cause.NFA cause) h fits = absurd (nfa_fits_not _ _ _ cause h fits.nfa)
+  by_bound PlanTable.Reverse (Cause.DFA cause) h fits = build_by_bound _ cause h.1 fits.build
+  by_bound PlanTable.All (Cause.NFA cause) h fits = absurd (nfa_fits_not _ _ _ cause h fits.nfa)
+  by_bound PlanTable.All (Cause.DFA cause) h fits = build_by_bound _ cause h.1 fits.build
+
+  bounded : (table : PlanTable) (cause : Cause) (reply : Reply) → reply ≡ refusal_reply cause
+      → IsByBound (table_build p table es) cause → IsBounded p es table reply
+  bounded table cause reply told by = record {
     minimize = by.1;
     long = by.2;
     told = told ∙ ap refusal_reply by.0;
   }
 
-  pub direction_bounded : (direction : Direction) (reply : Reply)
-      → IsRefusal (DirectionRefused p direction es) reply → DirectionFits p direction es
-      → IsBounded p es direction reply
-  direction_bounded direction reply is fits =
-      bounded direction is.cause reply is.told (by_bound direction is.cause is.refused fits)
+  pub table_bounded : (table : PlanTable) (reply : Reply) → IsRefusal (TableRefused p table es) reply
+      → TableFits p table es → IsBounded p es table reply
+  table_bounded table reply is fits =
+      bounded table is.cause reply is.told (by_bound table is.cause is.refused fits)
 
   pub plan_bounded : (reply : Reply) → IsRefusal (PlanRefused p es) reply → PlanFits p es
-      → (direction : Direction) × IsBounded p es direction reply
+      → (table : PlanTable) × IsOfPair table × IsBounded p es table reply
   plan_bounded reply is fits =
       ⊎_elim
       (λ (h : DirectionRefused p Direction.Forward es is.cause). (
-        Direction.Forward,
-        bounded Direction.Forward is.cause reply is.told (by_bound Direction.Forward is.cause h fits.forward),
+        PlanTable.Forward,
+        tt,
+        bounded PlanTable.Forward is.cause reply is.told (by_bound PlanTable.Forward is.cause h fits.forward),
       ))
       (λ (h : DirectionFits p Direction.Forward es × DirectionRefused p Direction.Reverse es is.cause). (
-        Direction.Reverse,
-        bounded Direction.Reverse is.cause reply is.told (by_bound Direction.Reverse is.cause h.1 fits.reverse),
+        PlanTable.Reverse,
+        tt,
+        bounded PlanTable.Reverse is.cause reply is.told (by_bound PlanTable.Reverse is.cause h.1 fits.reverse),
       ))
       is.refused

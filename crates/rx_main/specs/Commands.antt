@@ -3,19 +3,20 @@ use Rattle.std.specs.Prelude.{ℕ, ◌≡◌, ◌≤◌, ◌<◌, ◌^◌, List,
 use Rattle.std.specs.Fmt.{decimal}
 use Rattle.rx_spec.specs.Causes.{max_id}
 use Rattle.rx_spec.specs.Queries.{Anchored}
-use Rattle.rx_spec.specs.declared.Direction.{Direction}
 use Rattle.rx_spec.specs.declared.Form.{Form}
 use Rattle.rx_base.specs.Search.{mode_of}
+use Rattle.rx_regex.specs.declared.plan_table.PlanTable.{PlanTable}
 use Rattle.rx_wire.specs.declared.order.Order.{Order}
 use Rattle.rx_main.specs.Lines.{mode_name}
 use Rattle.rx_main.specs.declared.command.Command.{Command}
 use Rattle.rx_main.specs.declared.command.ReadCommand.{ReadCommand}
 use Rattle.rx_main.specs.declared.command.Search.{Search}
 
--- a direction, an order of the bytes of a number, and a form of tables
-abbrev pub direction_word : Direction → List ℕ
-direction_word Direction.Forward = codes "fwd"
-direction_word Direction.Reverse = codes "rev"
+-- a table of a plan, an order of the bytes of a number, and a form of tables
+abbrev pub table_word : PlanTable → List ℕ
+table_word PlanTable.Forward = codes "fwd"
+table_word PlanTable.Reverse = codes "rev"
+table_word PlanTable.All = codes "all"
 
 abbrev pub order_word : Order → List ℕ
 order_word Order.Little = codes "le"
@@ -25,7 +26,7 @@ abbrev pub form_word : Form → List ℕ
 form_word Form.Dense = codes "dense"
 form_word Form.Sparse = codes "sparse"
 
--- the tables of both directions
+-- the two that are searched together
 abbrev pub pair_word : List ℕ
 pair_word = codes "pair"
 
@@ -38,12 +39,12 @@ search_words s =
 abbrev pub read_words : ReadCommand → List (List ℕ)
 read_words ReadCommand.Find = codes "find" ∷ []
 read_words ReadCommand.Each = codes "each" ∷ []
-read_words (ReadCommand.Image direction order) =
-    codes "image" ∷ (direction_word direction ∷ (order_word order ∷ []))
+read_words (ReadCommand.Image table order) = codes "image" ∷ (table_word table ∷ (order_word order ∷ []))
 read_words (ReadCommand.ImagePair order) = codes "image" ∷ (pair_word ∷ (order_word order ∷ []))
 read_words (ReadCommand.Check form) = codes "check" ∷ (form_word form ∷ [])
 read_words ReadCommand.CheckPair = codes "check" ∷ (pair_word ∷ [])
 read_words (ReadCommand.Search s) = search_words s
+read_words (ReadCommand.Scan form) = codes "scan" ∷ (form_word form ∷ [])
 
 abbrev pub words_of : Command → List (List ℕ)
 words_of (Command.Read command) = read_words command

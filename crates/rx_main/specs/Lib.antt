@@ -9,6 +9,7 @@ pub mod Image
 pub mod PairImage
 pub mod Check
 pub mod Search
+pub mod Scan
 pub mod Gen
 -- what is answered, and what a run leaves
 pub mod Replies

@@ -2,10 +2,11 @@
 use Rattle.std.specs.Prelude.{ℕ, ◌≡◌, ◌+◌, ◌≤◌, ◌⊎◌, Bool, true, false, List, [], length}
 use Rattle.rx_spec.specs.Expressions.{Expression}
 use Rattle.rx_spec.specs.Causes.{BuildCause, HasTooLongRows}
-use Rattle.rx_spec.specs.Plans.{Plan, Cause, plan_build, plan_limits}
-use Rattle.rx_spec.specs.declared.Direction.{Direction}
+use Rattle.rx_spec.specs.Plans.{Plan, Cause, plan_limits}
 use Rattle.rx_wire.specs.declared.order.Order.{Order}
 use Rattle.rx_plan.specs.Plan.{plan_of, usual}
+use Rattle.rx_regex.specs.PlanTables.{IsOfPair, table_build}
+use Rattle.rx_regex.specs.declared.plan_table.PlanTable.{PlanTable}
 use Rattle.rx_script.specs.Grammar.{Spelled, Spells}
 use Rattle.rx_main.specs.Commands.{Says, SaysNothing, most_bytes}
 use Rattle.rx_main.specs.Lines.{Reply, usage_reply, long_reply, refusal_reply, IsRefusal}
@@ -15,6 +16,7 @@ use Rattle.rx_main.specs.Image.{ImageReplies, IsImageReply}
 use Rattle.rx_main.specs.PairImage.{PairImageReplies, IsPairImageReply}
 use Rattle.rx_main.specs.Check.{CheckPairReplies, CheckReplies}
 use Rattle.rx_main.specs.Search.{SearchReplies}
+use Rattle.rx_main.specs.Scan.{ScanReplies}
 use Rattle.rx_main.specs.Gen.{GenReplies, gen_patterns}
 use Rattle.rx_main.specs.declared.command.Command.{Command}
 use Rattle.rx_main.specs.declared.command.ReadCommand.{ReadCommand}
@@ -28,11 +30,12 @@ pub record AreRead (bytes : List ℕ) (ended : Bool) : Type 0 where
 abbrev pub ReadReplies : ReadCommand → List ℕ → Reply → Type 0
 ReadReplies ReadCommand.Find bytes reply = FindReplies bytes reply
 ReadReplies ReadCommand.Each bytes reply = EachReplies bytes reply
-ReadReplies (ReadCommand.Image direction order) bytes reply = ImageReplies direction order bytes reply
+ReadReplies (ReadCommand.Image table order) bytes reply = ImageReplies table order bytes reply
 ReadReplies (ReadCommand.ImagePair order) bytes reply = PairImageReplies order bytes reply
 ReadReplies (ReadCommand.Check form) bytes reply = CheckReplies form bytes reply
 ReadReplies ReadCommand.CheckPair bytes reply = CheckPairReplies bytes reply
 ReadReplies (ReadCommand.Search s) bytes reply = SearchReplies s bytes reply
+ReadReplies (ReadCommand.Scan form) bytes reply = ScanReplies form bytes reply
 
 abbrev pub CommandReplies : Command → List ℕ → Bool → Reply → Type 0
 CommandReplies (Command.Read command) bytes ended reply = AreRead bytes ended × ReadReplies command bytes reply
@@ -47,25 +50,25 @@ pub data Replies (words : List (List ℕ)) (bytes : List ℕ) (ended : Bool) (re
   Answered : (command : Command) → Says words command → CommandReplies command bytes ended reply
       → Replies words bytes ended reply
 
--- A build that the words and the bytes ask for: in a direction, of the plan and the expressions of their script, or of
--- those of `gen`.
-pub data AsksFor (words : List (List ℕ)) (bytes : List ℕ) (p : Plan) (es : List Expression) (direction : Direction)
+-- A table that the words and the bytes ask for: of the plan and the expressions of their script, or of those of `gen`.
+pub data AsksFor (words : List (List ℕ)) (bytes : List ℕ) (p : Plan) (es : List Expression) (table : PlanTable)
     : Type 0 where
-  Search : (script : Spelled)
+  Search : IsOfPair table → (script : Spelled)
       → Says words (Command.Read ReadCommand.Find) ⊎ Says words (Command.Read ReadCommand.Each)
-      → Spells true bytes script → p ≡ plan_of script.plan → es ≡ script.exprs → AsksFor words bytes p es direction
-  Image : (order : Order) → (script : Spelled) → Says words (Command.Read (ReadCommand.Image direction order))
-      → Spells false bytes script → p ≡ plan_of script.plan → es ≡ script.exprs → AsksFor words bytes p es direction
-  ImagePair : (order : Order) → (script : Spelled) → Says words (Command.Read (ReadCommand.ImagePair order))
-      → Spells false bytes script → p ≡ plan_of script.plan → es ≡ script.exprs → AsksFor words bytes p es direction
-  Generated : (count : ℕ) → Says words (Command.Gen count) → p ≡ plan_of usual → es ≡ gen_patterns count
-      → AsksFor words bytes p es direction
+      → Spells true bytes script → p ≡ plan_of script.plan → es ≡ script.exprs → AsksFor words bytes p es table
+  Image : (order : Order) → (script : Spelled) → Says words (Command.Read (ReadCommand.Image table order))
+      → Spells false bytes script → p ≡ plan_of script.plan → es ≡ script.exprs → AsksFor words bytes p es table
+  ImagePair : IsOfPair table → (order : Order) → (script : Spelled)
+      → Says words (Command.Read (ReadCommand.ImagePair order))
+      → Spells false bytes script → p ≡ plan_of script.plan → es ≡ script.exprs → AsksFor words bytes p es table
+  Generated : IsOfPair table → (count : ℕ) → Says words (Command.Gen count) → p ≡ plan_of usual
+      → es ≡ gen_patterns count → AsksFor words bytes p es table
 
 -- Sparse tables with the fewest rows are refused, since a bound passes of the length of their rows. They may be built
 -- all the same.
-pub record IsBounded (p : Plan) (es : List Expression) (direction : Direction) (reply : Reply) : Type 0 where
+pub record IsBounded (p : Plan) (es : List Expression) (table : PlanTable) (reply : Reply) : Type 0 where
   pub minimize : p.minimize ≡ true
-  pub long : HasTooLongRows (plan_limits p) (plan_build p direction es)
+  pub long : HasTooLongRows (plan_limits p) (table_build p table es)
   pub told : reply ≡ refusal_reply (Cause.DFA BuildCause.TooManyStates)
 
 -- Two replies to the words and the bytes are the same, or each says that a build is refused: where several causes hold,
@@ -75,12 +78,12 @@ pub data SayTheSame (words : List (List ℕ)) (bytes : List ℕ) (reply other : 
   Same : reply ≡ other → SayTheSame words bytes reply other
   Refusals : IsRefusal (λ (cause : Cause). Unit {0}) reply → IsRefusal (λ (cause : Cause). Unit {0}) other
       → SayTheSame words bytes reply other
-  Bounded : (p : Plan) → (es : List Expression) → (direction : Direction) → AsksFor words bytes p es direction
-      → IsBounded p es direction reply ⊎ IsBounded p es direction other → SayTheSame words bytes reply other
-  Images : (direction : Direction) → (order : Order) → (script : Spelled)
-      → Says words (Command.Read (ReadCommand.Image direction order)) → Spells false bytes script
-      → IsImageReply (plan_of script.plan) direction script.exprs order reply
-      → IsImageReply (plan_of script.plan) direction script.exprs order other → SayTheSame words bytes reply other
+  Bounded : (p : Plan) → (es : List Expression) → (table : PlanTable) → AsksFor words bytes p es table
+      → IsBounded p es table reply ⊎ IsBounded p es table other → SayTheSame words bytes reply other
+  Images : (table : PlanTable) → (order : Order) → (script : Spelled)
+      → Says words (Command.Read (ReadCommand.Image table order)) → Spells false bytes script
+      → IsImageReply (plan_of script.plan) table script.exprs order reply
+      → IsImageReply (plan_of script.plan) table script.exprs order other → SayTheSame words bytes reply other
   PairImages : (order : Order) → (script : Spelled)
       → Says words (Command.Read (ReadCommand.ImagePair order)) → Spells false bytes script
       → IsPairImageReply (plan_of script.plan) script.exprs order reply

@@ -2,17 +2,17 @@
 
 ghost use Rattle.std.specs.Prelude.{◌≡◌, ◌≢◌, ◌≤◌, ◌↔◌, IsTrue, MatchOption, ℕ, [], ◌∷◌};
 ghost use Rattle.std.specs.Fmt.{decimal};
-ghost use Rattle.rx_spec.specs.declared.Direction.{Direction};
 ghost use Rattle.rx_spec.specs.declared.Form.{Form};
 ghost use Rattle.rx_wire.specs.declared.order.Order.{Order};
 ghost use Rattle.rx_base.specs.Search.{mode_of};
 ghost use Rattle.rx_base.specs.declared.search.Anchored.{Anchored as Mode};
+ghost use Rattle.rx_regex.specs.declared.plan_table.PlanTable.{PlanTable as Table};
 ghost use Rattle.rx_main.specs.Lines.{mode_name};
-ghost use Rattle.rx_main.specs.Commands.{IsMode, Says, SaysNothing, direction_word, form_word, order_word};
+ghost use Rattle.rx_main.specs.Commands.{IsMode, Says, SaysNothing, form_word, order_word, table_word};
 
 use crate::words::Words;
-use rx_base::{Anchored, Direction};
-use rx_regex::Form;
+use rx_base::Anchored;
+use rx_regex::{Form, PlanTable};
 use rx_script::{mode, number};
 use rx_wire::Order;
 
@@ -32,8 +32,8 @@ pub enum ReadCommand {
     Find,
     /// All matches, one after another.
     Each,
-    /// The image of the table that a script's plan has for a direction, its numbers in an order.
-    Image(Direction, Order),
+    /// The image of a table of a script's plan, its numbers in an order.
+    Image(PlanTable, Order),
     /// One image of both tables of a script's plan, its numbers in an order.
     ImagePair(Order),
     /// Whether the bytes are an image of a table of a form.
@@ -42,6 +42,8 @@ pub enum ReadCommand {
     CheckPair,
     /// The leftmost match by the tables of an image, in what comes behind it.
     Search(Search),
+    /// The tokens by the table of an image of a form, of what comes behind it.
+    Scan(Form),
 }
 
 /// A search by the tables of an image.
@@ -104,6 +106,10 @@ fn two_words(word: &[u8], other: &[u8]) -> Option<Command>
         let form = form_of(other)?;
         return Some(Command::Read(ReadCommand::Check(form)));
     }
+    if is(word, b"scan") {
+        let form = form_of(other)?;
+        return Some(Command::Read(ReadCommand::Scan(form)));
+    }
     if !is(word, b"gen") {
         return None;
     }
@@ -111,19 +117,19 @@ fn two_words(word: &[u8], other: &[u8]) -> Option<Command>
     Some(Command::Gen(count as u16))
 }
 
-fn three_words(word: &[u8], direction: &[u8], order: &[u8]) -> Option<Command>
-    ensures { MatchOption result (SaysNothing (word.now ∷ (direction.now ∷ (order.now ∷ []))))
-        (Says (word.now ∷ (direction.now ∷ (order.now ∷ [])))) }
+fn three_words(word: &[u8], table: &[u8], order: &[u8]) -> Option<Command>
+    ensures { MatchOption result (SaysNothing (word.now ∷ (table.now ∷ (order.now ∷ []))))
+        (Says (word.now ∷ (table.now ∷ (order.now ∷ [])))) }
 {
     if !is(word, b"image") {
         return None;
     }
     let order = order_of(order)?;
-    if is(direction, b"pair") {
+    if is(table, b"pair") {
         return Some(Command::Read(ReadCommand::ImagePair(order)));
     }
-    let direction = direction_of(direction)?;
-    Some(Command::Read(ReadCommand::Image(direction, order)))
+    let table = table_of(table)?;
+    Some(Command::Read(ReadCommand::Image(table, order)))
 }
 
 fn search_of(
@@ -162,15 +168,18 @@ fn form_of(word: &[u8]) -> Option<Form>
     None
 }
 
-fn direction_of(word: &[u8]) -> Option<Direction>
-    ensures { MatchOption result ((direction : Direction) → word.now ≢ direction_word direction)
-        (λ direction. word.now ≡ direction_word direction) }
+fn table_of(word: &[u8]) -> Option<PlanTable>
+    ensures { MatchOption result ((table : Table) → word.now ≢ table_word table)
+        (λ table. word.now ≡ table_word table) }
 {
     if is(word, b"fwd") {
-        return Some(Direction::Forward);
+        return Some(PlanTable::Forward);
     }
     if is(word, b"rev") {
-        return Some(Direction::Reverse);
+        return Some(PlanTable::Reverse);
+    }
+    if is(word, b"all") {
+        return Some(PlanTable::All);
     }
     None
 }

@@ -1,4 +1,4 @@
-//! The command `image`: the image of a table of a script's plan, or of both.
+//! The command `image`: the image of a table of a script's plan, or of the two that are searched together.
 
 ghost use Rattle.std.specs.Prelude.{IfOk};
 ghost use Rattle.rx_script.specs.Script.{script_read};
@@ -8,8 +8,7 @@ ghost use Rattle.rx_main.specs.PairImage.{PairImageAnswers, PairImageReplies};
 use crate::lines::refusal_reply;
 use crate::reply::{FOUND, Reply};
 use crate::scripts::{Reading, read};
-use rx_base::Direction;
-use rx_regex::{build_image, build_pair_image};
+use rx_regex::{PlanTable, build_image, build_pair_image};
 use rx_script::Script;
 use rx_wire::Order;
 use std::alloc::{AllocError, Global};
@@ -18,13 +17,13 @@ use std::alloc::{AllocError, Global};
 pub fn image(
     alloc: Global,
     text: &[u8],
-    direction: Direction,
+    table: PlanTable,
     order: Order,
 ) -> Result<Reply, AllocError>
-    ensures { IfOk result (ImageReplies direction order text.now) }
+    ensures { IfOk result (ImageReplies table order text.now) }
 {
     match read(alloc, text, false)? {
-        Reading::Script(script) => image_reply(alloc, &script, direction, order),
+        Reading::Script(script) => image_reply(alloc, &script, table, order),
         Reading::TurnedDown(reply) => Ok(reply),
     }
 }
@@ -33,18 +32,12 @@ pub fn image(
 fn image_reply(
     alloc: Global,
     script: &Script,
-    direction: Direction,
+    table: PlanTable,
     order: Order,
 ) -> Result<Reply, AllocError>
-    ensures { IfOk result (ImageAnswers direction order (script_read script.now)) }
+    ensures { IfOk result (ImageAnswers table order (script_read script.now)) }
 {
-    match build_image(
-        alloc,
-        script.exprs.as_slice(),
-        &script.plan,
-        direction,
-        order,
-    ) {
+    match build_image(alloc, script.exprs.as_slice(), &script.plan, table, order) {
         Ok(image) => Ok(Reply::from_bytes(image, FOUND)),
         Err(error) => refusal_reply(alloc, &error),
     }

@@ -8,7 +8,7 @@ ghost use Rattle.rx_main.specs.Search.{SearchFinds};
 /// At most one reply fits a command line and the bytes that were taken from the source, but for two choices. A
 /// refused build names any one of the causes that hold: then all replies that fit say that a build is refused. And
 /// rows of one kind may lie in any order in an image: then all replies that fit are images of the table of the script's
-/// plan, or of both tables, for the direction and in the order that the words name. So each line is written exactly
+/// plan, or of both tables, of the kind and in the order that the words name. So each line is written exactly
 /// where the definition of replies says that it may be, and the numbers of rows are no others.
 pub fn one_reply()
     ensures { (words : List (List ℕ)) (bytes : List ℕ) (ended also_ended : Bool) (reply other : Reply)

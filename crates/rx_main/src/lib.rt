@@ -16,6 +16,7 @@ pub mod laws;
 mod lines;
 mod program;
 mod reply;
+mod scan;
 mod scripts;
 mod search;
 mod transfer;

@@ -15,6 +15,7 @@ use crate::generate::generate;
 use crate::image::{image, pair_image};
 use crate::lines::{long_reply, usage_reply};
 use crate::reply::Reply;
+use crate::scan::scan;
 use crate::search::search;
 use crate::transfer::{TextFault, read_text, write_text};
 use crate::words::Words;
@@ -73,11 +74,12 @@ fn read_reply(alloc: Global, command: ReadCommand, bytes: &[u8]) -> Result<Reply
     match command {
         ReadCommand::Find => find(alloc, bytes),
         ReadCommand::Each => each(alloc, bytes),
-        ReadCommand::Image(direction, order) => image(alloc, bytes, direction, order),
+        ReadCommand::Image(table, order) => image(alloc, bytes, table, order),
         ReadCommand::ImagePair(order) => pair_image(alloc, bytes, order),
         ReadCommand::Check(form) => check(alloc, form, bytes),
         ReadCommand::CheckPair => check_pair(alloc, bytes),
         ReadCommand::Search(asked) => search(alloc, &asked, bytes),
+        ReadCommand::Scan(form) => scan(alloc, form, bytes),
     }
 }
 

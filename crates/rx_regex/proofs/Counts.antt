@@ -3,18 +3,19 @@ use Rattle.std.proofs.Common.{◌≡◌, Bool, true, false, refl, List}
 use Rattle.rx_spec.specs.Builds.{Build}
 use Rattle.rx_spec.specs.Expressions.{Expression}
 use Rattle.rx_spec.specs.Labels.{IsLeastFor}
-use Rattle.rx_spec.specs.Plans.{Plan, plan_build}
+use Rattle.rx_spec.specs.Plans.{Plan}
 use Rattle.rx_spec.specs.Power.{IsPower}
 use Rattle.rx_spec.specs.Tables.{Table}
-use Rattle.rx_spec.specs.declared.Direction.{Direction}
 use Rattle.rx_dense.specs.Layouts.{Layout, table_of}
 use Rattle.rx_sparse.specs.Layouts as sparse
 use Rattle.rx_sparse_build.proofs.Served.{sparse_least, sparse_power}
 use Rattle.rx_regex.specs.Images.{IsDense, IsSparse}
 use Rattle.rx_image.specs.Pairs.{Pair}
 use Rattle.rx_regex.specs.Pairs.{AreBuilt, AreTables, forward_table, reverse_table}
+use Rattle.rx_regex.specs.PlanTables.{table_build}
 use Rattle.rx_regex.specs.Rows.{CountsRows, HasRows, HaveRows}
 use Rattle.rx_regex.specs.Settings.{settings_of}
+use Rattle.rx_regex.specs.declared.plan_table.PlanTable.{PlanTable}
 
 counts : (minimize : Bool) (b : Build) (t : Table) → (minimize ≡ false → IsPower t b)
     → (minimize ≡ true → IsLeastFor b t.size) → CountsRows minimize b t.size
@@ -24,31 +25,35 @@ counts false b t power least =
 counts true b t power least = least refl
 
 module _ (p : Plan) (es : List Expression) where
-  dense_rows : (direction : Direction) (l : Layout) → IsDense p direction es l
-      → HasRows p direction es (table_of l).size
-  dense_rows Direction.Forward l is =
-      counts p.minimize (plan_build p Direction.Forward es) (table_of l) is.power is.least
-  dense_rows Direction.Reverse l is =
-      counts p.minimize (plan_build p Direction.Reverse es) (table_of l) is.power is.least
+  dense_rows : (table : PlanTable) (l : Layout) → IsDense p table es l → HasRows p table es (table_of l).size
+  dense_rows PlanTable.Forward l is =
+      counts p.minimize (table_build p PlanTable.Forward es) (table_of l) is.power is.least
+  dense_rows PlanTable.Reverse l is =
+      counts p.minimize (table_build p PlanTable.Reverse es) (table_of l) is.power is.least
+  dense_rows PlanTable.All l is =
+      counts p.minimize (table_build p PlanTable.All es) (table_of l) is.power is.least
 
-  sparse_rows : (direction : Direction) (t : sparse.Stored) → IsSparse p direction es t
-      → HasRows p direction es (sparse.table_of t.layout).size
-  sparse_rows Direction.Forward t is =
-      counts p.minimize (plan_build p Direction.Forward es) (sparse.table_of t.layout) (sparse_power _ _ t is)
+  sparse_rows : (table : PlanTable) (t : sparse.Stored) → IsSparse p table es t
+      → HasRows p table es (sparse.table_of t.layout).size
+  sparse_rows PlanTable.Forward t is =
+      counts p.minimize (table_build p PlanTable.Forward es) (sparse.table_of t.layout) (sparse_power _ _ t is)
       (sparse_least _ _ t is)
-  sparse_rows Direction.Reverse t is =
-      counts p.minimize (plan_build p Direction.Reverse es) (sparse.table_of t.layout) (sparse_power _ _ t is)
+  sparse_rows PlanTable.Reverse t is =
+      counts p.minimize (table_build p PlanTable.Reverse es) (sparse.table_of t.layout) (sparse_power _ _ t is)
+      (sparse_least _ _ t is)
+  sparse_rows PlanTable.All t is =
+      counts p.minimize (table_build p PlanTable.All es) (sparse.table_of t.layout) (sparse_power _ _ t is)
       (sparse_least _ _ t is)
 
   both_rows : (pair : Pair) → AreBuilt (settings_of p) es pair
       → HaveRows p es (forward_table pair).size (reverse_table pair).size
   both_rows (Pair.Dense f r) built = record {
-    forward = dense_rows Direction.Forward f built.forward;
-    reverse = dense_rows Direction.Reverse r built.reverse;
+    forward = dense_rows PlanTable.Forward f built.forward;
+    reverse = dense_rows PlanTable.Reverse r built.reverse;
   }
   both_rows (Pair.Sparse f r) built = record {
-    forward = sparse_rows Direction.Forward f built.forward;
-    reverse = sparse_rows Direction.Reverse r built.reverse;
+    forward = sparse_rows PlanTable.Forward f built.forward;
+    reverse = sparse_rows PlanTable.Reverse r built.reverse;
   }
 
 pub have_rows : {p : Plan} {es : List Expression} {pair : Pair} → AreTables p es pair

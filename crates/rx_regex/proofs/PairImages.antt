@@ -5,7 +5,6 @@ use Rattle.rx_spec.specs.Expressions.{Expression}
 use Rattle.rx_spec.specs.Nfas.{nfa_of}
 use Rattle.rx_spec.specs.Plans.{Plan}
 use Rattle.rx_spec.specs.Queries.{Query}
-use Rattle.rx_spec.specs.declared.Direction.{Direction}
 use Rattle.rx_build.specs.Builders.{Both}
 use Rattle.rx_dense.specs.Layouts.{IsShaped, Layout}
 use Rattle.rx_expr.specs.Compiles.{wanted_nfa}
@@ -21,6 +20,7 @@ use Rattle.rx_wire.specs.declared.order.Order.{Order}
 use Rattle.rx_regex.specs.Images.{ImagePairsFind, IsPairImage}
 use Rattle.rx_regex.specs.Pairs.{AreBuilt, AreTables, joined, whole}
 use Rattle.rx_regex.specs.Settings.{settings_of}
+use Rattle.rx_regex.specs.declared.plan_table.PlanTable.{PlanTable}
 use Rattle.rx_regex.proofs.Searches.{outcome_by}
 use Rattle.rx_regex.proofs.Whole.{dense_whole, same_read, sparse_whole}
 
@@ -53,15 +53,15 @@ same_patterns {p} {es} {pair} t = built_patterns (settings_of p) es pair t.built
 pub dense_pair_whole : {p : Plan} {es : List Expression} {f r : Layout} → AreTables p es (Pair.Dense f r)
     → p.quit < 2 ^ 256 → IsShaped f → IsShaped r → AreWhole (Pair.Dense f r)
 dense_pair_whole {p} {es} {f} {r} t quit forward reverse = (
-  dense_whole p Direction.Forward es f quit forward t.built.forward,
-  dense_whole p Direction.Reverse es r quit reverse t.built.reverse,
+  dense_whole p PlanTable.Forward es f quit forward t.built.forward,
+  dense_whole p PlanTable.Reverse es r quit reverse t.built.reverse,
 )
 
 pub sparse_pair_whole : {p : Plan} {es : List Expression} {f r : Stored} → AreTables p es (Pair.Sparse f r)
     → p.quit < 2 ^ 256 → AreWhole (Pair.Sparse f r)
 sparse_pair_whole {p} {es} {f} {r} t quit = (
-  sparse_whole p Direction.Forward es f quit t.built.forward,
-  sparse_whole p Direction.Reverse es r quit t.built.reverse,
+  sparse_whole p PlanTable.Forward es f quit t.built.forward,
+  sparse_whole p PlanTable.Reverse es r quit t.built.reverse,
 )
 
 -- ---- what was written is read again

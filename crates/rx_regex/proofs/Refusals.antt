@@ -1,8 +1,9 @@
 -- What refuses a table by a plan's settings refuses the plan.
-use Rattle.std.proofs.Common.{◌≡◌, sym, ap, subst, inl, inr, List, length}
-use Rattle.rx_spec.specs.Causes.{BuildCause, BuildFits, BuildRefused, Limits, NfaFits}
+use Rattle.std.proofs.Common.{◌≡◌, ◌∙◌, sym, ap, subst, inl, inr, List}
+use Rattle.rx_spec.specs.Causes.{BuildCause, BuildFits, BuildRefused, Limits}
 use Rattle.rx_spec.specs.Expressions.{Expression}
-use Rattle.rx_spec.specs.Plans.{Plan, Cause, DirectionFits, DirectionRefused, plan_limits, plan_build, plan_nfa}
+use Rattle.rx_spec.specs.Builds.{Build}
+use Rattle.rx_spec.specs.Plans.{Plan, Cause, DirectionFits, DirectionRefused, plan_limits}
 use Rattle.rx_spec.specs.declared.Direction.{Direction}
 use Rattle.rx_spec.specs.declared.Form.{Form}
 use Rattle.rx_build.specs.Builders.{Both}
@@ -15,87 +16,124 @@ use Rattle.rx_regex_builder.specs.Pairs.{IsFitBy, IsRefusedBy, in_direction}
 use Rattle.rx_regex_builder.specs.SparsePairs as sparse_pairs
 use Rattle.rx_sparse_build.specs.Built.{sparse_limits}
 use Rattle.rx_regex.specs.Find.{PlanRefused}
-use Rattle.rx_regex.specs.Settings.{settings_of, dense_settings}
+use Rattle.rx_regex.specs.PlanTables.{TableFits, TableRefused, direction_of, table_build}
+use Rattle.rx_regex.specs.Settings.{settings_for, table_settings}
+use Rattle.rx_regex.specs.declared.plan_table.PlanTable.{PlanTable}
+
+-- ---- settings that are the plan's
+
+pub in_its_direction : (p : Plan) (table : PlanTable) {both : Both} {direction : Direction}
+    → both ≡ settings_for p table → direction ≡ direction_of table
+    → in_direction direction both ≡ in_direction (direction_of table) (settings_for p table)
+in_its_direction p table {both} {direction} settings towards =
+    ap (λ (d : Direction). in_direction d both) towards ∙ ap (in_direction (direction_of table)) settings
 
 -- ---- one table, by limits that are the plan's
 
-module _ (p : Plan) (es : List Expression) {l : Limits} (limits_are : l ≡ plan_limits p) where
-  fits_as : (direction : Direction) → NfaFits p.nfa_limit (length es) (plan_nfa p direction es)
-      → BuildFits l (plan_build p direction es) → DirectionFits p direction es
-  fits_as direction nfa build = record {
-    nfa = nfa;
-    build = subst (λ (m : Limits). BuildFits m (plan_build p direction es)) limits_are build;
-  }
+module _ (p : Plan) {l : Limits} (limits_are : l ≡ plan_limits p) (b : Build) where
+  build_fits : BuildFits l b → BuildFits (plan_limits p) b
+  build_fits fits = subst (λ (m : Limits). BuildFits m b) limits_are fits
 
-  table_refused : (direction : Direction) (cause : BuildCause)
-      → NfaFits p.nfa_limit (length es) (plan_nfa p direction es) × BuildRefused l (plan_build p direction es) cause
-      → DirectionRefused p direction es (Cause.DFA cause)
-  table_refused direction cause r =
-      (r.0, subst (λ (m : Limits). BuildRefused m (plan_build p direction es) cause) limits_are r.1)
+  build_refused : (cause : BuildCause) → BuildRefused l b cause → BuildRefused (plan_limits p) b cause
+  build_refused cause refused = subst (λ (m : Limits). BuildRefused m b cause) limits_are refused
 
 -- ---- dense
 
 module _ (p : Plan) (es : List Expression) (dense : p.form ≡ Form.Dense) where
-  dense_limits : limits_of (settled (dense_settings p)) ≡ plan_limits p
-  dense_limits = ap (λ (form : Form). record (plan_limits p) { form = form }) (sym dense)
+  limits : (table : PlanTable) → limits_of (settled (table_settings p table)) ≡ plan_limits p
+  limits table = ap (λ (form : Form). record (plan_limits p) { form = form }) (sym dense)
 
-  settings_fit : (direction : Direction) → IsFitBy (in_direction direction (settings_of p)) es
-      → DirectionFits p direction es
-  settings_fit Direction.Forward fits = fits_as p es dense_limits Direction.Forward fits.nfa fits.build
-  settings_fit Direction.Reverse fits = fits_as p es dense_limits Direction.Reverse fits.nfa fits.build
+  settings_fit : (table : PlanTable) → IsFitBy (in_direction (direction_of table) (settings_for p table)) es
+      → TableFits p table es
+  settings_fit PlanTable.Forward fits = record {
+    nfa = fits.nfa;
+    build = build_fits p (limits PlanTable.Forward) (table_build p PlanTable.Forward es) fits.build;
+  }
+  settings_fit PlanTable.Reverse fits = record {
+    nfa = fits.nfa;
+    build = build_fits p (limits PlanTable.Reverse) (table_build p PlanTable.Reverse es) fits.build;
+  }
+  settings_fit PlanTable.All fits = record {
+    nfa = fits.nfa;
+    build = build_fits p (limits PlanTable.All) (table_build p PlanTable.All es) fits.build;
+  }
 
-  refused : (direction : Direction) (cause : Cause) → IsRefusedBy (in_direction direction (settings_of p)) es cause
-      → DirectionRefused p direction es cause
-  refused Direction.Forward (Cause.NFA cause) r = r
-  refused Direction.Forward (Cause.DFA cause) r = table_refused p es dense_limits Direction.Forward cause r
-  refused Direction.Reverse (Cause.NFA cause) r = r
-  refused Direction.Reverse (Cause.DFA cause) r = table_refused p es dense_limits Direction.Reverse cause r
+  refused : (table : PlanTable) (cause : Cause)
+      → IsRefusedBy (in_direction (direction_of table) (settings_for p table)) es cause → TableRefused p table es cause
+  refused PlanTable.Forward (Cause.NFA cause) r = r
+  refused PlanTable.Forward (Cause.DFA cause) r =
+      (r.0, build_refused p (limits PlanTable.Forward) (table_build p PlanTable.Forward es) cause r.1)
+  refused PlanTable.Reverse (Cause.NFA cause) r = r
+  refused PlanTable.Reverse (Cause.DFA cause) r =
+      (r.0, build_refused p (limits PlanTable.Reverse) (table_build p PlanTable.Reverse es) cause r.1)
+  refused PlanTable.All (Cause.NFA cause) r = r
+  refused PlanTable.All (Cause.DFA cause) r =
+      (r.0, build_refused p (limits PlanTable.All) (table_build p PlanTable.All es) cause r.1)
 
   -- by a builder that has the plan's settings
-  pub direction_fits : (direction : Direction) {both : Both} → both ≡ settings_of p
-      → IsFitBy (in_direction direction both) es → DirectionFits p direction es
-  direction_fits direction settings fits =
-      settings_fit direction (subst (λ (b : Both). IsFitBy (in_direction direction b) es) settings fits)
+  pub table_fits : (table : PlanTable) {both : Both} {direction : Direction} → both ≡ settings_for p table
+      → direction ≡ direction_of table → IsFitBy (in_direction direction both) es → TableFits p table es
+  table_fits table settings towards fits =
+      settings_fit table (subst (λ (b : Both). IsFitBy b es) (in_its_direction p table settings towards) fits)
 
-  pub direction_refused : (direction : Direction) {both : Both} → both ≡ settings_of p → (kind : BuildErrorKind)
-      → IsRefused (IsRefusedBy (in_direction direction both) es) kind → IsRefused (DirectionRefused p direction es) kind
-  direction_refused direction settings kind is =
-      refused_as (IsRefusedBy (in_direction direction (settings_of p)) es) (DirectionRefused p direction es)
-      (refused direction) kind
-      (subst (λ (b : Both). IsRefused (IsRefusedBy (in_direction direction b) es) kind) settings is)
+  pub table_refused : (table : PlanTable) {both : Both} {direction : Direction} → both ≡ settings_for p table
+      → direction ≡ direction_of table → (kind : BuildErrorKind)
+      → IsRefused (IsRefusedBy (in_direction direction both) es) kind → IsRefused (TableRefused p table es) kind
+  table_refused table settings towards kind is =
+      refused_as (IsRefusedBy (in_direction (direction_of table) (settings_for p table)) es) (TableRefused p table es)
+      (refused table) kind
+      (subst (λ (b : Both). IsRefused (IsRefusedBy b es) kind) (in_its_direction p table settings towards) is)
 
 -- ---- sparse
 
 module _ (p : Plan) (es : List Expression) (sparse : p.form ≡ Form.Sparse) where
-  limits_are : sparse_limits (settled (dense_settings p)) ≡ plan_limits p
-  limits_are = ap (λ (form : Form). record (plan_limits p) { form = form }) (sym sparse)
+  limits_are : (table : PlanTable) → sparse_limits (settled (table_settings p table)) ≡ plan_limits p
+  limits_are table = ap (λ (form : Form). record (plan_limits p) { form = form }) (sym sparse)
 
-  sparse_settings_fit : (direction : Direction) → sparse_pairs.IsFitBy (in_direction direction (settings_of p)) es
-      → DirectionFits p direction es
-  sparse_settings_fit Direction.Forward fits = fits_as p es limits_are Direction.Forward fits.nfa fits.build
-  sparse_settings_fit Direction.Reverse fits = fits_as p es limits_are Direction.Reverse fits.nfa fits.build
+  sparse_settings_fit : (table : PlanTable)
+      → sparse_pairs.IsFitBy (in_direction (direction_of table) (settings_for p table)) es → TableFits p table es
+  sparse_settings_fit PlanTable.Forward fits = record {
+    nfa = fits.nfa;
+    build = build_fits p (limits_are PlanTable.Forward) (table_build p PlanTable.Forward es) fits.build;
+  }
+  sparse_settings_fit PlanTable.Reverse fits = record {
+    nfa = fits.nfa;
+    build = build_fits p (limits_are PlanTable.Reverse) (table_build p PlanTable.Reverse es) fits.build;
+  }
+  sparse_settings_fit PlanTable.All fits = record {
+    nfa = fits.nfa;
+    build = build_fits p (limits_are PlanTable.All) (table_build p PlanTable.All es) fits.build;
+  }
 
-  sparse_refused : (direction : Direction) (cause : Cause)
-      → sparse_pairs.IsRefusedBy (in_direction direction (settings_of p)) es cause
-      → DirectionRefused p direction es cause
-  sparse_refused Direction.Forward (Cause.NFA cause) r = r
-  sparse_refused Direction.Forward (Cause.DFA cause) r = table_refused p es limits_are Direction.Forward cause r
-  sparse_refused Direction.Reverse (Cause.NFA cause) r = r
-  sparse_refused Direction.Reverse (Cause.DFA cause) r = table_refused p es limits_are Direction.Reverse cause r
+  sparse_refused : (table : PlanTable) (cause : Cause)
+      → sparse_pairs.IsRefusedBy (in_direction (direction_of table) (settings_for p table)) es cause
+      → TableRefused p table es cause
+  sparse_refused PlanTable.Forward (Cause.NFA cause) r = r
+  sparse_refused PlanTable.Forward (Cause.DFA cause) r =
+      (r.0, build_refused p (limits_are PlanTable.Forward) (table_build p PlanTable.Forward es) cause r.1)
+  sparse_refused PlanTable.Reverse (Cause.NFA cause) r = r
+  sparse_refused PlanTable.Reverse (Cause.DFA cause) r =
+      (r.0, build_refused p (limits_are PlanTable.Reverse) (table_build p PlanTable.Reverse es) cause r.1)
+  sparse_refused PlanTable.All (Cause.NFA cause) r = r
+  sparse_refused PlanTable.All (Cause.DFA cause) r =
+      (r.0, build_refused p (limits_are PlanTable.All) (table_build p PlanTable.All es) cause r.1)
 
-  pub sparse_direction_fits : (direction : Direction) {both : Both} → both ≡ settings_of p
-      → sparse_pairs.IsFitBy (in_direction direction both) es → DirectionFits p direction es
-  sparse_direction_fits direction settings fits =
-      sparse_settings_fit direction
-      (subst (λ (b : Both). sparse_pairs.IsFitBy (in_direction direction b) es) settings fits)
+  pub sparse_table_fits : (table : PlanTable) {both : Both} {direction : Direction} → both ≡ settings_for p table
+      → direction ≡ direction_of table → sparse_pairs.IsFitBy (in_direction direction both) es
+      → TableFits p table es
+  sparse_table_fits table settings towards fits =
+      sparse_settings_fit table
+      (subst (λ (b : Both). sparse_pairs.IsFitBy b es) (in_its_direction p table settings towards) fits)
 
-  pub sparse_direction_refused : (direction : Direction) {both : Both} → both ≡ settings_of p
-      → (kind : BuildErrorKind) → IsRefused (sparse_pairs.IsRefusedBy (in_direction direction both) es) kind
-      → IsRefused (DirectionRefused p direction es) kind
-  sparse_direction_refused direction settings kind is =
-      refused_as (sparse_pairs.IsRefusedBy (in_direction direction (settings_of p)) es)
-      (DirectionRefused p direction es) (sparse_refused direction) kind
-      (subst (λ (b : Both). IsRefused (sparse_pairs.IsRefusedBy (in_direction direction b) es) kind) settings is)
+  pub sparse_table_refused : (table : PlanTable) {both : Both} {direction : Direction} → both ≡ settings_for p table
+      → direction ≡ direction_of table → (kind : BuildErrorKind)
+      → IsRefused (sparse_pairs.IsRefusedBy (in_direction direction both) es) kind
+      → IsRefused (TableRefused p table es) kind
+  sparse_table_refused table settings towards kind is =
+      refused_as (sparse_pairs.IsRefusedBy (in_direction (direction_of table) (settings_for p table)) es)
+      (TableRefused p table es) (sparse_refused table) kind
+      (subst (λ (b : Both). IsRefused (sparse_pairs.IsRefusedBy b es) kind) (in_its_direction p table settings towards)
+      is)
 
 -- ---- both tables
 

@@ -25,6 +25,7 @@ use Rattle.rx_regex.specs.Images as images
 use Rattle.rx_regex.specs.Settings.{settings_of}
 use Rattle.rx_image.specs.Pairs.{Pair}
 use Rattle.rx_regex.specs.Pairs.{AreBuilt, AreTables, forward_table, reverse_table}
+use Rattle.rx_regex.specs.declared.plan_table.PlanTable.{PlanTable}
 
 utf8_of : (direction : Direction) (terminator : ℕ) (utf8 : Bool) (es : List Expression)
     → (nfa_of direction terminator utf8 es).is_utf8 ≡ utf8
@@ -133,25 +134,25 @@ serve_plan {p} {es} {pair} t =
 -- ---- two tables of a plan are its pair
 
 pub dense_tables : {p : Plan} {es : List Expression} {f r f' r' : Layout} → p.form ≡ Form.Dense → f' ≡ f → r' ≡ r
-    → All IsLoopSafe es → images.IsDense p Direction.Forward es f → images.IsDense p Direction.Reverse es r
+    → All IsLoopSafe es → images.IsDense p PlanTable.Forward es f → images.IsDense p PlanTable.Reverse es r
     → AreTables p es (Pair.Dense f' r')
 dense_tables {p} {es} form f_is r_is safe forward reverse = record {
   form = sym form;
   safe = safe;
   built = record {
-    forward = subst (images.IsDense p Direction.Forward es) (sym f_is) forward;
-    reverse = subst (images.IsDense p Direction.Reverse es) (sym r_is) reverse;
+    forward = subst (images.IsDense p PlanTable.Forward es) (sym f_is) forward;
+    reverse = subst (images.IsDense p PlanTable.Reverse es) (sym r_is) reverse;
   };
 }
 
 pub sparse_tables : {p : Plan} {es : List Expression} {f r f' r' : sparse.Stored} → p.form ≡ Form.Sparse
-    → f' ≡ f → r' ≡ r → All IsLoopSafe es → images.IsSparse p Direction.Forward es f
-    → images.IsSparse p Direction.Reverse es r → AreTables p es (Pair.Sparse f' r')
+    → f' ≡ f → r' ≡ r → All IsLoopSafe es → images.IsSparse p PlanTable.Forward es f
+    → images.IsSparse p PlanTable.Reverse es r → AreTables p es (Pair.Sparse f' r')
 sparse_tables {p} {es} form f_is r_is safe forward reverse = record {
   form = sym form;
   safe = safe;
   built = record {
-    forward = subst (images.IsSparse p Direction.Forward es) (sym f_is) forward;
-    reverse = subst (images.IsSparse p Direction.Reverse es) (sym r_is) reverse;
+    forward = subst (images.IsSparse p PlanTable.Forward es) (sym f_is) forward;
+    reverse = subst (images.IsSparse p PlanTable.Reverse es) (sym r_is) reverse;
   };
 }

@@ -22,13 +22,17 @@ use Rattle.rx_sparse_image.proofs.WholeAgain as sparse_again
 use Rattle.rx_wire.specs.Kinds.{Kind}
 use Rattle.rx_wire.specs.declared.order.Order.{Order}
 use Rattle.rx_regex.specs.Images.{IsDense, IsDenseImage, IsImage, IsImageOf, IsSparse, IsSparseImage}
-use Rattle.rx_regex.specs.Settings.{settings_of}
+use Rattle.rx_regex.specs.PlanTables.{direction_of}
+use Rattle.rx_regex.specs.Settings.{settings_for}
+use Rattle.rx_regex.specs.declared.plan_table.PlanTable.{PlanTable}
+use Rattle.rx_regex.proofs.Refusals.{in_its_direction}
 
--- a quit set of bytes, whatever the direction
-few_quits : (p : Plan) (direction : Direction) → p.quit < 2 ^ 256
-    → (settled (in_direction direction (settings_of p)).dense).quit < 2 ^ 256
-few_quits p Direction.Forward few = few
-few_quits p Direction.Reverse few = few
+-- a quit set of bytes, whichever the table
+few_quits : (p : Plan) (which : PlanTable) → p.quit < 2 ^ 256
+    → (settled (in_direction (direction_of which) (settings_for p which)).dense).quit < 2 ^ 256
+few_quits p PlanTable.Forward few = few
+few_quits p PlanTable.Reverse few = few
+few_quits p PlanTable.All few = few
 
 -- reading of one image gives one table
 pub same_read : {X : Type 0} (x y : X) (m n : ℕ) (read : Result (X × ℕ) Kind) → read ≡ Ok (x, m) → read ≡ Ok (y, n)
@@ -40,16 +44,17 @@ same_read {X} x y m n read e f =
 -- ---- dense tables
 
 -- by a builder that has the plan's settings
-pub is_dense : (p : Plan) (direction : Direction) (es : List Expression) {both : Both} {l : Layout}
-    → both ≡ settings_of p → dense_pairs.IsOf (in_direction direction both) es l → IsDense p direction es l
-is_dense p direction es {both} {l} settings is =
-    subst (λ (b : Both). dense_pairs.IsOf (in_direction direction b) es l) settings is
+pub is_dense : (p : Plan) (which : PlanTable) (es : List Expression) {both : Both} {direction : Direction} {l : Layout}
+    → both ≡ settings_for p which → direction ≡ direction_of which
+    → dense_pairs.IsOf (in_direction direction both) es l → IsDense p which es l
+is_dense p which es {l = l} settings towards is =
+    subst (λ (b : Both). dense_pairs.IsOf b es l) (in_its_direction p which settings towards) is
 
-pub dense_whole : (p : Plan) (direction : Direction) (es : List Expression) (l : Layout) → p.quit < 2 ^ 256
-    → IsShaped l → IsDense p direction es l → IsWhole l
-dense_whole p direction es l quit shaped is =
-    let both : Both = in_direction direction (settings_of p) in
-    built_whole (settled both.dense) (wanted_nfa both.thompson es) l (few_quits p direction quit) shaped is
+pub dense_whole : (p : Plan) (which : PlanTable) (es : List Expression) (l : Layout) → p.quit < 2 ^ 256
+    → IsShaped l → IsDense p which es l → IsWhole l
+dense_whole p which es l quit shaped is =
+    let both : Both = in_direction (direction_of which) (settings_for p which) in
+    built_whole (settled both.dense) (wanted_nfa both.thompson es) l (few_quits p which quit) shaped is
 
 -- what was written is read again
 dense_read : (l : Layout) (order : Order) (bytes : List ℕ) → IsWhole l → bytes ≡ text order l
@@ -63,32 +68,33 @@ pub dense_again : (l back : Layout) (size : ℕ) (order : Order) (bytes : List �
 dense_again l back size order bytes whole written read =
     same_read back l size (length bytes) (reads bytes) read (dense_read l order bytes whole written)
 
-dense_image : (p : Plan) (direction : Direction) (es : List Expression) (l : Layout) (order : Order) (bytes : List ℕ)
-    → IsDense p direction es l → IsWhole l → bytes ≡ text order l → IsDenseImage p direction es order bytes
-dense_image p direction es l order bytes table whole written = record {
+dense_image : (p : Plan) (which : PlanTable) (es : List Expression) (l : Layout) (order : Order) (bytes : List ℕ)
+    → IsDense p which es l → IsWhole l → bytes ≡ text order l → IsDenseImage p which es order bytes
+dense_image p which es l order bytes built whole written = record {
   layout = l;
-  table = table;
+  built = built;
   written = written;
   read = dense_read l order bytes whole written;
 }
 
 -- ---- sparse tables
 
-pub is_sparse : (p : Plan) (direction : Direction) (es : List Expression) {both : Both} {t : Stored}
-    → both ≡ settings_of p → sparse_pairs.IsOf (in_direction direction both) es t → IsSparse p direction es t
-is_sparse p direction es {both} {t} settings is =
-    subst (λ (b : Both). sparse_pairs.IsOf (in_direction direction b) es t) settings is
+pub is_sparse : (p : Plan) (which : PlanTable) (es : List Expression) {both : Both} {direction : Direction} {t : Stored}
+    → both ≡ settings_for p which → direction ≡ direction_of which
+    → sparse_pairs.IsOf (in_direction direction both) es t → IsSparse p which es t
+is_sparse p which es {t = t} settings towards is =
+    subst (λ (b : Both). sparse_pairs.IsOf b es t) (in_its_direction p which settings towards) is
 
-pub sparse_whole : (p : Plan) (direction : Direction) (es : List Expression) (t : Stored) → p.quit < 2 ^ 256
-    → IsSparse p direction es t → sparse_tested.IsWhole t.layout
-sparse_whole p direction es t quit is =
-    let both : Both = in_direction direction (settings_of p) in
-    sparse_built.built_whole (settled both.dense) (wanted_nfa both.thompson es) t (few_quits p direction quit) is
+pub sparse_whole : (p : Plan) (which : PlanTable) (es : List Expression) (t : Stored) → p.quit < 2 ^ 256
+    → IsSparse p which es t → sparse_tested.IsWhole t.layout
+sparse_whole p which es t quit is =
+    let both : Both = in_direction (direction_of which) (settings_for p which) in
+    sparse_built.built_whole (settled both.dense) (wanted_nfa both.thompson es) t (few_quits p which quit) is
 
 -- the bytes of a table that is built are little endian
-pub is_little : (p : Plan) (direction : Direction) (es : List Expression) (t : Stored) → IsSparse p direction es t
+pub is_little : (p : Plan) (which : PlanTable) (es : List Expression) (t : Stored) → IsSparse p which es t
     → t.order ≡ Order.Little
-is_little p direction es t is = ap (λ (x : Stored). x.order) is.sparse
+is_little p which es t is = ap (λ (x : Stored). x.order) is.sparse
 
 sparse_read : (t : Stored) (order : Order) (bytes : List ℕ) → sparse_tested.IsWhole t.layout
     → bytes ≡ sparse.text order t.layout → sparse.reads bytes ≡ Ok (record t { order = order }, length bytes)
@@ -105,29 +111,29 @@ sparse_read_again t back size bytes whole little written read =
     (sparse_read t Order.Little bytes whole written)
     ∙ ap (λ (order : Order). record t { order = order }) (sym little)
 
-sparse_image : (p : Plan) (direction : Direction) (es : List Expression) (t : Stored) (order : Order) (bytes : List ℕ)
-    → IsSparse p direction es t → sparse_tested.IsWhole t.layout → bytes ≡ sparse.text order t.layout
-    → IsSparseImage p direction es order bytes
-sparse_image p direction es t order bytes table whole written = record {
+sparse_image : (p : Plan) (which : PlanTable) (es : List Expression) (t : Stored) (order : Order) (bytes : List ℕ)
+    → IsSparse p which es t → sparse_tested.IsWhole t.layout → bytes ≡ sparse.text order t.layout
+    → IsSparseImage p which es order bytes
+sparse_image p which es t order bytes built whole written = record {
   stored = t;
-  table = table;
+  built = built;
   written = written;
   read = sparse_read t order bytes whole written;
 }
 
 -- ---- images of a plan
 
-module _ (p : Plan) (direction : Direction) (es : List Expression) (order : Order) (bytes : List ℕ) where
-  of_form : (form : Form) → p.form ≡ form → IsImageOf form p direction es order bytes
-      → IsImage p direction es order bytes
-  of_form form e = subst (λ (f : Form). IsImageOf f p direction es order bytes) (sym e)
+module _ (p : Plan) (which : PlanTable) (es : List Expression) (order : Order) (bytes : List ℕ) where
+  of_form : (form : Form) → p.form ≡ form → IsImageOf form p which es order bytes
+      → IsImage p which es order bytes
+  of_form form e = subst (λ (f : Form). IsImageOf f p which es order bytes) (sym e)
 
-  pub is_dense_image : (l : Layout) → p.form ≡ Form.Dense → IsDense p direction es l → IsWhole l
-      → bytes ≡ text order l → IsImage p direction es order bytes
+  pub is_dense_image : (l : Layout) → p.form ≡ Form.Dense → IsDense p which es l → IsWhole l
+      → bytes ≡ text order l → IsImage p which es order bytes
   is_dense_image l form table whole written =
-      of_form Form.Dense form (dense_image p direction es l order bytes table whole written)
+      of_form Form.Dense form (dense_image p which es l order bytes table whole written)
 
-  pub is_sparse_image : (t : Stored) → p.form ≡ Form.Sparse → IsSparse p direction es t
-      → sparse_tested.IsWhole t.layout → bytes ≡ sparse.text order t.layout → IsImage p direction es order bytes
+  pub is_sparse_image : (t : Stored) → p.form ≡ Form.Sparse → IsSparse p which es t
+      → sparse_tested.IsWhole t.layout → bytes ≡ sparse.text order t.layout → IsImage p which es order bytes
   is_sparse_image t form table whole written =
-      of_form Form.Sparse form (sparse_image p direction es t order bytes table whole written)
+      of_form Form.Sparse form (sparse_image p which es t order bytes table whole written)

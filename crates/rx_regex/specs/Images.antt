@@ -4,7 +4,6 @@ use Rattle.rx_spec.specs.Bytes.{AreBytes}
 use Rattle.rx_spec.specs.Expressions.{Expression}
 use Rattle.rx_spec.specs.Plans.{Plan, outcome}
 use Rattle.rx_spec.specs.Queries.{IsFit, Query}
-use Rattle.rx_spec.specs.declared.Direction.{Direction}
 use Rattle.rx_spec.specs.declared.Form.{Form}
 use Rattle.rx_dense.specs.Layouts.{Layout}
 use Rattle.rx_dense_image.specs.Images as dense
@@ -16,42 +15,44 @@ use Rattle.rx_sparse.specs.Layouts.{Stored}
 use Rattle.rx_sparse_image.specs.Images as sparse
 use Rattle.rx_wire.specs.declared.order.Order.{Order}
 use Rattle.rx_regex.specs.Pairs.{AreTables, joined, whole}
-use Rattle.rx_regex.specs.Settings.{settings_of}
+use Rattle.rx_regex.specs.PlanTables.{direction_of}
+use Rattle.rx_regex.specs.Settings.{settings_for}
+use Rattle.rx_regex.specs.declared.plan_table.PlanTable.{PlanTable}
 
 -- ---- one table
 
--- It is built of these expressions by what the plan asks for in this direction: it says of every word what the plan's
--- build says, has as many rows as that asks for, in their order, and is accelerated and marked as asked.
-abbrev pub IsDense : Plan → Direction → List Expression → Layout → Type 0
-IsDense p direction es l = dense_pairs.IsOf (in_direction direction (settings_of p)) es l
+-- It is built of these expressions by what the plan asks for of this table: it says of every word what that build says,
+-- has as many rows as that asks for, in their order, and is accelerated and marked as asked.
+abbrev pub IsDense : Plan → PlanTable → List Expression → Layout → Type 0
+IsDense p table es l = dense_pairs.IsOf (in_direction (direction_of table) (settings_for p table)) es l
 
 -- it is the sparse table of such a one
-abbrev pub IsSparse : Plan → Direction → List Expression → Stored → Type 0
-IsSparse p direction es t = sparse_pairs.IsOf (in_direction direction (settings_of p)) es t
+abbrev pub IsSparse : Plan → PlanTable → List Expression → Stored → Type 0
+IsSparse p table es t = sparse_pairs.IsOf (in_direction (direction_of table) (settings_for p table)) es t
 
 -- Bytes are an image of such a table: they are its text, and whoever reads them has the table, all of them read.
-pub record IsDenseImage (p : Plan) (direction : Direction) (es : List Expression) (order : Order) (bytes : List ℕ)
+pub record IsDenseImage (p : Plan) (table : PlanTable) (es : List Expression) (order : Order) (bytes : List ℕ)
     : Type 0 where
   pub layout : Layout
-  pub table : IsDense p direction es layout
+  pub built : IsDense p table es layout
   pub written : bytes ≡ dense.text order layout
   pub read : dense.reads bytes ≡ Ok (layout, length bytes)
 
 -- A sparse one is read where it lies, with its bytes in the order of the image.
-pub record IsSparseImage (p : Plan) (direction : Direction) (es : List Expression) (order : Order) (bytes : List ℕ)
+pub record IsSparseImage (p : Plan) (table : PlanTable) (es : List Expression) (order : Order) (bytes : List ℕ)
     : Type 0 where
   pub stored : Stored
-  pub table : IsSparse p direction es stored
+  pub built : IsSparse p table es stored
   pub written : bytes ≡ sparse.text order stored.layout
   pub read : sparse.reads bytes ≡ Ok (record stored { order = order }, length bytes)
 
-abbrev pub IsImageOf : Form → Plan → Direction → List Expression → Order → List ℕ → Type 0
-IsImageOf Form.Dense p direction es order bytes = IsDenseImage p direction es order bytes
-IsImageOf Form.Sparse p direction es order bytes = IsSparseImage p direction es order bytes
+abbrev pub IsImageOf : Form → Plan → PlanTable → List Expression → Order → List ℕ → Type 0
+IsImageOf Form.Dense p table es order bytes = IsDenseImage p table es order bytes
+IsImageOf Form.Sparse p table es order bytes = IsSparseImage p table es order bytes
 
 -- an image of a table of the plan's form
-abbrev pub IsImage : Plan → Direction → List Expression → Order → List ℕ → Type 0
-IsImage p direction es order bytes = IsImageOf p.form p direction es order bytes
+abbrev pub IsImage : Plan → PlanTable → List Expression → Order → List ℕ → Type 0
+IsImage p table es order bytes = IsImageOf p.form p table es order bytes
 
 -- ---- both tables
 

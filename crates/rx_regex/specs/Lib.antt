@@ -1,4 +1,5 @@
--- the settings that a plan asks for, and the tables that are built by them
+-- the tables of a plan, the settings that it asks for, and what is built by them
+pub mod PlanTables
 pub mod Settings
 pub mod Pairs
 pub mod Forms

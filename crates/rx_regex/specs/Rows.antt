@@ -3,9 +3,10 @@ use Rattle.std.specs.Prelude.{ℕ, ◌≡◌, ◌+◌, Bool, true, false, List, 
 use Rattle.rx_spec.specs.Expressions.{Expression}
 use Rattle.rx_spec.specs.Builds.{Build, AreReached}
 use Rattle.rx_spec.specs.Labels.{IsLeastFor}
-use Rattle.rx_spec.specs.Plans.{Plan, plan_build}
+use Rattle.rx_spec.specs.Plans.{Plan}
 use Rattle.rx_spec.specs.States.{State}
-use Rattle.rx_spec.specs.declared.Direction.{Direction}
+use Rattle.rx_regex.specs.PlanTables.{table_build}
+use Rattle.rx_regex.specs.declared.plan_table.PlanTable.{PlanTable}
 
 -- dead, quit, and one for each state that is reached
 pub record CountsReached (b : Build) (rows : ℕ) : Type 0 where
@@ -18,11 +19,11 @@ abbrev pub CountsRows : Bool → Build → ℕ → Type 0
 CountsRows false b rows = CountsReached b rows
 CountsRows true b rows = IsLeastFor b rows
 
--- the rows of one direction of a plan
-abbrev pub HasRows : Plan → Direction → List Expression → ℕ → Type 0
-HasRows p direction es rows = CountsRows p.minimize (plan_build p direction es) rows
+-- the rows of a table of a plan
+abbrev pub HasRows : Plan → PlanTable → List Expression → ℕ → Type 0
+HasRows p table es rows = CountsRows p.minimize (table_build p table es) rows
 
--- of both
+-- of the two that are searched together
 pub record HaveRows (p : Plan) (es : List Expression) (forward_rows reverse_rows : ℕ) : Type 0 where
-  pub forward : HasRows p Direction.Forward es forward_rows
-  pub reverse : HasRows p Direction.Reverse es reverse_rows
+  pub forward : HasRows p PlanTable.Forward es forward_rows
+  pub reverse : HasRows p PlanTable.Reverse es reverse_rows

@@ -5,6 +5,8 @@ use Rattle.rx_spec.specs.declared.MatchKind.{MatchKind}
 use Rattle.rx_build.specs.Builders.{Both}
 use Rattle.rx_build.specs.Settings as dense
 use Rattle.rx_expr.specs.Settings as thompson
+use Rattle.rx_regex.specs.PlanTables.{match_kind_of}
+use Rattle.rx_regex.specs.declared.plan_table.PlanTable.{PlanTable}
 
 abbrev pub dense_settings : Plan → dense.Asked
 dense_settings p = record {
@@ -31,3 +33,10 @@ thompson_settings p = record thompson.nothing_asked {
 
 abbrev pub settings_of : Plan → Both
 settings_of p = record { dense = dense_settings p; thompson = thompson_settings p }
+
+-- by these a builder makes one of the plan's tables, in the direction of that
+abbrev pub table_settings : Plan → PlanTable → dense.Asked
+table_settings p table = record (dense_settings p) { match_kind = Some (match_kind_of table) }
+
+abbrev pub settings_for : Plan → PlanTable → Both
+settings_for p table = record { dense = table_settings p table; thompson = thompson_settings p }

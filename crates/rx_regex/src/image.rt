@@ -1,16 +1,16 @@
 //! Images of the tables of a plan.
 
 ghost use Rattle.std.specs.Prelude.{◌≡◌, IfOk, IfErr, OnOk};
-ghost use Rattle.rx_spec.specs.Plans.{DirectionFits, DirectionRefused};
 ghost use Rattle.rx_build_error.specs.Refusals.{IsRefused};
 ghost use Rattle.rx_dense_image.specs.Images.{text as dense_text};
 ghost use Rattle.rx_plan.specs.Plan.{plan_of};
 ghost use Rattle.rx_sparse_image.specs.Images.{text as sparse_text};
 ghost use Rattle.rx_regex.specs.Images.{IsImage};
+ghost use Rattle.rx_regex.specs.PlanTables.{TableFits, TableRefused};
 
+use crate::PlanTable;
 use crate::dense_tables::dense_table;
 use crate::sparse_tables::sparse_table;
-use rx_base::Direction;
 use rx_build::BuildError;
 use rx_dense::OwnedDFA;
 use rx_dense_image::DenseWrite;
@@ -21,27 +21,26 @@ use rx_sparse_image::SparseWrite;
 use rx_wire::Order;
 use std::alloc::{AllocError, Global};
 
-/// The image of the table that a plan has for a direction, in the plan's form, its numbers in an order. The other table
-/// isn't built.
+/// The image of a table of a plan, in the plan's form, its numbers in an order. No other table is built.
 pub fn build_image(
     alloc: Global,
     exprs: &[Expr],
     plan: &Plan,
-    direction: Direction,
+    which: PlanTable,
     order: Order,
 ) -> Result<Vec<u8>, BuildError>
-    ensures ok { IfOk result (λ image. IsImage (plan_of plan.now) direction exprs.now order image.items) }
-    ensures fits { OnOk result (DirectionFits (plan_of plan.now) direction exprs.now) }
+    ensures ok { IfOk result (λ image. IsImage (plan_of plan.now) which exprs.now order image.items) }
+    ensures fits { OnOk result (TableFits (plan_of plan.now) which exprs.now) }
     ensures err { IfErr result (λ error.
-        IsRefused (DirectionRefused (plan_of plan.now) direction exprs.now) error.kind) }
+        IsRefused (TableRefused (plan_of plan.now) which exprs.now) error.kind) }
 {
     match plan.form {
         Form::Dense => {
-            let table = dense_table(alloc, exprs, plan, direction)?;
+            let table = dense_table(alloc, exprs, plan, which)?;
             Ok(dense_image(alloc, &table, order)?)
         }
         Form::Sparse => {
-            let table = sparse_table(alloc, exprs, plan, direction)?;
+            let table = sparse_table(alloc, exprs, plan, which)?;
             Ok(sparse_image(alloc, &table, order)?)
         }
     }

@@ -1,36 +1,36 @@
-//! What a plan asks of a builder of tables.
+//! What a plan asks of the builders of its tables.
 
 ghost use Rattle.std.specs.Prelude.{◌≡◌};
 ghost use Rattle.rx_build.specs.Settings.{asked};
 ghost use Rattle.rx_expr.specs.Settings as thompson;
 ghost use Rattle.rx_plan.specs.Plan.{plan_of};
 ghost use Rattle.rx_regex_builder.specs.Pairs.{both_of};
-ghost use Rattle.rx_regex.specs.Settings.{dense_settings, settings_of, thompson_settings};
+ghost use Rattle.rx_regex.specs.Settings.{settings_for, table_settings, thompson_settings};
 
-use rx_base::MatchKind;
+use crate::PlanTable;
 use rx_build::dense;
 use rx_expr::thompson;
 use rx_plan::Plan;
 use rx_regex_builder::Builder;
 
-/// What builds both tables of a plan.
-pub(crate) fn pair_builder(plan: &Plan) -> Builder
-    ensures { both_of result ≡ settings_of (plan_of plan.now) }
+/// What builds a table of a plan, in the direction of that.
+pub(crate) fn table_builder(plan: &Plan, table: PlanTable) -> Builder
+    ensures { both_of result ≡ settings_for (plan_of plan.now) table }
 {
     let mut builder = Builder::new();
-    builder.dense(dense_settings(plan));
+    builder.dense(table_settings(plan, table));
     builder.thompson(thompson_settings(plan));
     builder
 }
 
-/// The settings of the tables that a plan asks for.
-fn dense_settings(plan: &Plan) -> dense::Config
-    ensures { asked result ≡ dense_settings (plan_of plan.now) }
+/// The settings of a table that a plan asks for.
+fn table_settings(plan: &Plan, table: PlanTable) -> dense::Config
+    ensures { asked result ≡ table_settings (plan_of plan.now) table }
 {
     dense::Config::new()
         .accelerate(plan.accelerate)
         .minimize(plan.minimize)
-        .match_kind(MatchKind::LeftmostFirst)
+        .match_kind(table.match_kind())
         .start_kind(plan.start_kind)
         .starts_for_each_pattern(plan.pattern_starts)
         .byte_classes(plan.byte_classes)

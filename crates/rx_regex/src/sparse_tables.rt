@@ -3,7 +3,6 @@
 
 ghost use Rattle.std.specs.Prelude.{◌≡◌, ◌<◌, ◌^◌, All, IfOk, IfErr, OnOk};
 ghost use Rattle.rx_spec.specs.Expressions.{IsLoopSafe};
-ghost use Rattle.rx_spec.specs.Plans.{DirectionFits, DirectionRefused};
 ghost use Rattle.rx_spec.specs.declared.Form.{Form};
 ghost use Rattle.rx_build_error.specs.Refusals.{IsRefused};
 ghost use Rattle.rx_image.specs.Pairs.{AreWhole, HaveSamePatterns, Pair};
@@ -15,9 +14,10 @@ ghost use Rattle.rx_wire.specs.declared.order.Order.{Order};
 ghost use Rattle.rx_regex.specs.Find.{PlanFits, PlanRefused};
 ghost use Rattle.rx_regex.specs.Images.{IsSparse};
 ghost use Rattle.rx_regex.specs.Pairs.{AreTables};
+ghost use Rattle.rx_regex.specs.PlanTables.{TableFits, TableRefused};
 
-use crate::planned::pair_builder;
-use rx_base::Direction;
+use crate::PlanTable;
+use crate::planned::table_builder;
 use rx_build::BuildError;
 use rx_expr::Expr;
 use rx_image::{Tables, read_pair};
@@ -40,33 +40,33 @@ pub(crate) fn sparse_pair(
     ensures fits { OnOk result (PlanFits (plan_of plan.now) exprs.now) }
     ensures err { IfErr result (λ error. IsRefused (PlanRefused (plan_of plan.now) exprs.now) error.kind) }
 {
-    let forward = sparse_table(alloc, exprs, plan, Direction::Forward)?;
-    let reverse = sparse_table(alloc, exprs, plan, Direction::Reverse)?;
+    let forward = sparse_table(alloc, exprs, plan, PlanTable::Forward)?;
+    let reverse = sparse_table(alloc, exprs, plan, PlanTable::Reverse)?;
     match plan.passage {
         Passage::Direct | Passage::Bytes => Ok(Regex::new(forward, reverse)),
         Passage::Pair => Ok(read_pair_back(alloc, &forward, &reverse)?),
     }
 }
 
-/// The table that is searched in a direction. Alone it isn't taken through an image of both.
+/// A table of a plan. Alone it isn't taken through an image of both.
 pub(crate) fn sparse_table(
     alloc: Global,
     exprs: &[Expr],
     plan: &Plan,
-    direction: Direction,
+    which: PlanTable,
 ) -> Result<DFA<Vec<u8>>, BuildError>
     requires { plan.now.form ≡ Form.Sparse }
-    ensures ok { IfOk result (IsSparse (plan_of plan.now) direction exprs.now) }
+    ensures ok { IfOk result (IsSparse (plan_of plan.now) which exprs.now) }
     ensures sound { IfOk result (λ table. IsSoundLayout table.layout) }
-    ensures fits { OnOk result (DirectionFits (plan_of plan.now) direction exprs.now) }
+    ensures fits { OnOk result (TableFits (plan_of plan.now) which exprs.now) }
     ensures err { IfErr result (λ error.
-        IsRefused (DirectionRefused (plan_of plan.now) direction exprs.now) error.kind) }
+        IsRefused (TableRefused (plan_of plan.now) which exprs.now) error.kind) }
     // Each repetition in an expression is bounded, and a set of bytes is a number of 256 bits.
     ensures safe { All IsLoopSafe exprs.now }
     ensures bytes { plan.now.quit < 2 ^ 256 }
 {
     prove!(plan.quit.halves().1 >> 127 <= 1);
-    let table = pair_builder(plan).build_one_sparse(alloc, exprs, direction)?;
+    let table = table_builder(plan, which).build_one_sparse(alloc, exprs, which.direction())?;
     match plan.passage {
         Passage::Direct | Passage::Pair => Ok(table),
         Passage::Bytes => Ok(read_back(alloc, &table)?),

@@ -2,10 +2,10 @@
 
 ghost use Rattle.std.specs.Iterator.{IsFinite};
 
-use rx_base::{Anchored, Direction, Input, Match, MatchError, PatternID, StartKind};
+use rx_base::{Anchored, Input, Match, MatchError, PatternID, StartKind};
 use rx_expr::Expr;
 use rx_notation::read;
-use rx_regex::{Built, Form, Order, Passage, Plan, build_image, compile_and_find};
+use rx_regex::{Built, Form, Order, Passage, Plan, PlanTable, build_image, compile_and_find};
 use std::alloc::Global;
 use std::process::Abort;
 use std::test::Fail;
@@ -390,10 +390,10 @@ fn image_len(
     alloc: Global,
     exprs: &[Expr],
     plan: &Plan,
-    direction: Direction,
+    which: PlanTable,
     order: Order,
 ) -> Result<String, Fail> {
-    match build_image(alloc, exprs, plan, direction, order) {
+    match build_image(alloc, exprs, plan, which, order) {
         Ok(image) => Ok(format!(in alloc; "{}", image.len())?),
         Err(error) => Ok(error.to_string(alloc)?),
     }
@@ -409,9 +409,9 @@ fn compare_len(
 ) -> Result<(), Fail> {
     let exprs = read(alloc, patterns)?;
     for order in [Order::Little, Order::Big] {
-        let told = image_len(alloc, &exprs, plan, Direction::Forward, order)?;
+        let told = image_len(alloc, &exprs, plan, PlanTable::Forward, order)?;
         assert!(rt; told.as_str() == want.0, "{patterns}: {told}");
-        let told = image_len(alloc, &exprs, plan, Direction::Reverse, order)?;
+        let told = image_len(alloc, &exprs, plan, PlanTable::Reverse, order)?;
         assert!(rt; told.as_str() == want.1, "{patterns} in reverse: {told}");
     }
     Ok(())

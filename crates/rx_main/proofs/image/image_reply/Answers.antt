@@ -1,7 +1,7 @@
 use Rattle.std.proofs.Common.{refl}
 use Rattle.std.proofs.lemmas.Result.{IfOk-weaker}
-use Rattle.rx_spec.specs.Plans.{DirectionRefused}
 use Rattle.rx_plan.specs.Plan.{plan_of}
+use Rattle.rx_regex.specs.PlanTables.{TableRefused}
 use Rattle.rx_script.specs.Script.{script_read}
 use Rattle.rx_main.specs.Scripts.{BuildReplies}
 use Rattle.rx_main.proofs.Refusals.{kind_told}
@@ -20,6 +20,6 @@ returns-in-Err c =
     IfOk-weaker c.refusal_reply.result _ _
     (λ reply told.
     BuildReplies.Refused
-    (kind_told (DirectionRefused (plan_of script.plan) c.args.direction script.exprs) c.in-Err.error.kind reply told
+    (kind_told (TableRefused (plan_of script.plan) c.args.table script.exprs) c.in-Err.error.kind reply told
     refused))
     c.refusal_reply.ensures

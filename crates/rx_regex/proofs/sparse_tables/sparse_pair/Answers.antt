@@ -1,9 +1,9 @@
 use Rattle.std.proofs.Common.{refl}
 use Rattle.std.proofs.lemmas.Result.{err_from_is_err_and}
-use Rattle.rx_spec.specs.declared.Direction.{Direction}
 use Rattle.rx_image.specs.Pairs.{Pair}
 use Rattle.rx_plan.specs.Plan.{plan_of}
 use Rattle.rx_regex.specs.Pairs.{AreTables}
+use Rattle.rx_regex.specs.declared.plan_table.PlanTable.{PlanTable}
 use Rattle.rx_regex.proofs.PairImages.{sparse_pair_whole, same_patterns}
 use Rattle.rx_regex.proofs.Refusals.{forward_refused, reverse_refused}
 use Rattle.rx_regex.proofs.Served.{sparse_tables}
@@ -44,11 +44,11 @@ read_pair_back-requires-clause-patterns c =
 
 pub read_pair_back-requires-clause-forward_little : goal.read_pair_back-requires-clause-forward_little
 read_pair_back-requires-clause-forward_little c =
-    is_little (plan_of c.args.plan.now) Direction.Forward c.args.exprs.now c.in_ok-forward.forward c.in_ok-forward.ensures.ok
+    is_little (plan_of c.args.plan.now) PlanTable.Forward c.args.exprs.now c.in_ok-forward.forward c.in_ok-forward.ensures.ok
 
 pub read_pair_back-requires-clause-reverse_little : goal.read_pair_back-requires-clause-reverse_little
 read_pair_back-requires-clause-reverse_little c =
-    is_little (plan_of c.args.plan.now) Direction.Reverse c.args.exprs.now c.in_ok-reverse.reverse c.in_ok-reverse.ensures.ok
+    is_little (plan_of c.args.plan.now) PlanTable.Reverse c.args.exprs.now c.in_ok-reverse.reverse c.in_ok-reverse.ensures.ok
 
 pub returns-in-Direct-clause-ok : goal.returns-in-Direct-clause-ok
 returns-in-Direct-clause-ok c =
