@@ -6,4 +6,6 @@ mod images;
 #[cfg(test)]
 mod pairs;
 #[cfg(test)]
+mod scans;
+#[cfg(test)]
 mod tests;
