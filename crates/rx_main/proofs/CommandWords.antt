@@ -8,9 +8,10 @@ use Rattle.rx_wire.specs.declared.order.Order.{Order}
 use Rattle.rx_base.specs.Search.{mode_of}
 use Rattle.rx_base.specs.declared.search.Anchored.{Anchored as Mode}
 use Rattle.std.specs.Fmt.{decimal}
-use Rattle.rx_main.specs.Lines.{mode_name}
-use Rattle.rx_main.specs.Commands.{IsMode, Says, search_words, words_of}
+use Rattle.rx_transfer.specs.Words.{mode_name}
+use Rattle.rx_main.specs.Commands.{IsMode, Says, feed_words, form_word, search_words, words_of}
 use Rattle.rx_main.specs.declared.command.Command.{Command}
+use Rattle.rx_main.specs.declared.command.Feed.{Feed}
 use Rattle.rx_main.specs.declared.command.ReadCommand.{ReadCommand}
 use Rattle.rx_main.specs.declared.command.Search.{Search}
 use Rattle.rx_main.proofs.Counts.{own}
@@ -56,10 +57,20 @@ abbrev cut_by : ℕ → List (List ℕ) → ReadCommand
 cut_by byte words =
     if byte == 99 then ReadCommand.Scan (form_by (first_of words 1)) else ReadCommand.Search (search_by words)
 
+abbrev fed : Form → Mode → ℕ → Feed
+fed form mode image_len = record { form = form; mode = mode; image_len = image_len }
+
+abbrev feed_by : List (List ℕ) → Feed
+feed_by words = fed (form_by (first_of words 1)) (mode_by (get_or words 2 [])) (number_by words 3)
+
+-- `feed` and `find` begin alike
+abbrev feed_or_find : ℕ → List (List ℕ) → Command
+feed_or_find byte words = if byte == 101 then Command.Feed (feed_by words) else Command.Read ReadCommand.Find
+
 -- A command is told by the first bytes of its first word, and by its other words.
 abbrev command_by : ℕ → List (List ℕ) → Command
 command_by byte words =
-    if byte == 102 then Command.Read ReadCommand.Find
+    if byte == 102 then feed_or_find (get_or (get_or words 0 []) 1 0) words
     else (if byte == 101 then Command.Read ReadCommand.Each
     else (if byte == 105 then Command.Read (image_by (first_of words 1) (order_by (first_of words 2)))
     else (if byte == 99 then Command.Read (check_by (first_of words 1))
@@ -76,6 +87,16 @@ same_search s other e f g h =
     ∙ ap (λ (n : ℕ). searched other.start n s.mode s.image_len) f
     ∙ ap (λ (m : Mode). searched other.start other.end m s.image_len) g
     ∙ ap (λ (n : ℕ). searched other.start other.end other.mode n) h
+
+same_feed : (f other : Feed) → f.form ≡ other.form → f.mode ≡ other.mode → f.image_len ≡ other.image_len → f ≡ other
+same_feed f other e g h =
+    ap (λ (form : Form). fed form f.mode f.image_len) e
+    ∙ ap (λ (m : Mode). fed other.form m f.image_len) g
+    ∙ ap (λ (n : ℕ). fed other.form other.mode n) h
+
+form_told : (form : Form) → form_by (get_or (form_word form) 0 0) ≡ form
+form_told Form.Dense = refl
+form_told Form.Sparse = refl
 
 mode_told : (mode : Mode) → IsMode (mode_of mode) → mode_by (mode_name (mode_of mode)) ≡ mode
 mode_told Mode.No is = refl
@@ -110,6 +131,12 @@ told (Command.Read (ReadCommand.Search s)) words says =
     (same_search (search_by (search_words s)) s start_is end_is (mode_told s.mode is.mode) len_is)
 told (Command.Read (ReadCommand.Check Form.Dense)) words says = refl
 told (Command.Read (ReadCommand.Check Form.Sparse)) words says = refl
+told (Command.Feed f) words says =
+    let is = says.in_range in
+    let few = is.few in
+    let len_is : digits_value 10 (decimal f.image_len) ≡ f.image_len =
+    digits_value-decimal own f.image_len (omega (arith, few)) in
+    ap Command.Feed (same_feed (feed_by (feed_words f)) f (form_told f.form) (mode_told f.mode is.mode) len_is)
 told (Command.Gen count) words says =
     let few = says.in_range.1 in
     ap Command.Gen (digits_value-decimal own count (omega arith))

@@ -42,6 +42,18 @@ three_words (w ∷ (v ∷ (u ∷ []))) word other third n e f g =
     ∙ ap (λ x. word ∷ (other ∷ (x ∷ []))) (same_Some u third g)
 three_words (w ∷ (v ∷ (u ∷ (t ∷ ws)))) word other third n e f g = absurd (omega arith)
 
+pub four_words : (words : List (List ℕ)) (a b c d : List ℕ) → length words ≡ 4
+    → slice_get words 0 ≡ Some a → slice_get words 1 ≡ Some b → slice_get words 2 ≡ Some c
+    → slice_get words 3 ≡ Some d → words ≡ a ∷ (b ∷ (c ∷ (d ∷ [])))
+four_words (w ∷ (x ∷ (y ∷ (z ∷ [])))) a b c d n f g h i =
+    ap (λ v. v ∷ (x ∷ (y ∷ (z ∷ [])))) (same_Some w a f) ∙ ap (λ v. a ∷ (v ∷ (y ∷ (z ∷ [])))) (same_Some x b g)
+    ∙ ap (λ v. a ∷ (b ∷ (v ∷ (z ∷ [])))) (same_Some y c h) ∙ ap (λ v. a ∷ (b ∷ (c ∷ (v ∷ [])))) (same_Some z d i)
+four_words [] a b c d n f g h i = absurd (omega arith)
+four_words (w ∷ []) a b c d n f g h i = absurd (omega arith)
+four_words (w ∷ (x ∷ [])) a b c d n f g h i = absurd (omega arith)
+four_words (w ∷ (x ∷ (y ∷ []))) a b c d n f g h i = absurd (omega arith)
+four_words (w ∷ (x ∷ (y ∷ (z ∷ (v ∷ ws))))) a b c d n f g h i = absurd (omega arith)
+
 pub five_words : (words : List (List ℕ)) (a b c d e : List ℕ) → length words ≡ 5
     → slice_get words 0 ≡ Some a → slice_get words 1 ≡ Some b → slice_get words 2 ≡ Some c
     → slice_get words 3 ≡ Some d → slice_get words 4 ≡ Some e → words ≡ a ∷ (b ∷ (c ∷ (d ∷ (e ∷ []))))

@@ -1,10 +1,11 @@
--- sources and sinks, piece by piece
-pub mod Transfers
+-- replies to what was taken
 pub mod TakenReplies
 -- the words of a command line, and its numerals
 pub mod Counts
 pub mod Numerals
 pub mod CommandWords
+-- runs of `feed`
+pub mod FedReplies
 -- builds that are refused, and the numbers of rows
 pub mod Refusals
 pub mod RowCounts

@@ -10,7 +10,7 @@ use Rattle.rx_script.specs.Tokens.{mode_word, number_of}
 use Rattle.rx_script.proofs.Modes.{mode_read, mode_spelled}
 use Rattle.rx_script.proofs.Numbers.{number_read, number_spelled}
 use Rattle.rx_main.specs.Commands.{IsMode}
-use Rattle.rx_main.specs.Lines.{mode_name}
+use Rattle.rx_transfer.specs.Words.{mode_name}
 
 -- the decimal of a number is read
 pub no_number : (word : List ℕ) (most : ℕ) → most < 2 ^ 32 → number_of word ≡ None

@@ -25,6 +25,8 @@ use Rattle.rx_main.specs.PairImage.{PairImageAnswers, IsPairImageReply}
 use Rattle.rx_main.specs.Replies.{AsksFor, CommandReplies, IsBounded, ReadReplies, Replies, SayTheSame}
 use Rattle.rx_main.specs.declared.command.Command.{Command}
 use Rattle.rx_main.specs.declared.command.ReadCommand.{ReadCommand}
+use Rattle.rx_base.specs.Search.{mode_of}
+use Rattle.rx_feed.proofs.OneAnswer.{feed_once}
 use Rattle.rx_main.proofs.CommandWords.{spelled_once}
 use Rattle.rx_main.proofs.Refusals.{plan_bounded, table_bounded}
 use Rattle.rx_main.proofs.RowCounts.{rows_once}
@@ -97,6 +99,13 @@ module _ (with_input : Bool) (Answers : Spelled → Reply → Type 0) (text : Li
       (script_read with_input text script spelled) (told reply h)
 
 -- ---- replies to words and bytes
+
+abbrev reply_of : List ℕ → ℕ → Reply
+reply_of text status = record { text = text; status = status }
+
+same_reply : (reply other : Reply) → reply.text ≡ other.text → reply.status ≡ other.status → reply ≡ other
+same_reply reply other e f =
+    ap (λ (l : List ℕ). reply_of l reply.status) e ∙ ap (λ (n : ℕ). reply_of other.text n) f
 
 module _ (words : List (List ℕ)) (bytes : List ℕ) where
   abbrev AreAlike : (Reply → Type 0) → Type 0
@@ -203,6 +212,10 @@ module _ (words : List (List ℕ)) (bytes : List ℕ) where
   command_alike (Command.Gen count) says ended also reply other h k =
       plan_alike (plan_of usual) (gen_patterns count) (λ table one. AsksFor.Generated one count says refl refl) _
       (λ r s e f. SayTheSame.Same (e ∙ sym f)) reply other h.1 k.1
+  command_alike (Command.Feed f) says ended also reply other h k =
+      let same = feed_once f.form (mode_of f.mode) f.image_len bytes ended also reply.text other.text reply.status
+      other.status h k in
+      SayTheSame.Same (same_reply reply other same.0 same.1)
 
 -- a command that reads and is answered read no more than the most
 long_not : (command : ReadCommand) (other : Command) (words : List (List ℕ)) (bytes : List ℕ) (ended : Bool)

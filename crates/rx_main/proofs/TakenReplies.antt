@@ -7,7 +7,7 @@ use Rattle.rx_main.specs.Replies.{CommandReplies, Replies}
 use Rattle.rx_main.specs.Run.{Took}
 use Rattle.rx_main.specs.declared.command.Command.{Command}
 use Rattle.rx_main.specs.declared.command.ReadCommand.{ReadCommand}
-use Rattle.rx_main.proofs.Transfers.{consumes_none}
+use Rattle.rx_transfer.proofs.Transfers.{consumes_none}
 
 -- nothing
 pub took_nothing : {words : List (List ℕ)} {reply : Reply} (left : Option (List ℕ)) → Replies words [] false reply

@@ -9,19 +9,10 @@ use Rattle.rx_sparse_image.specs.Images as sparse_images
 use Rattle.rx_image.specs.Pairs as pairs
 use Rattle.rx_image.specs.Pairs.{Pair}
 use Rattle.rx_wire.specs.Kinds.{Kind}
-use Rattle.rx_main.specs.Lines.{Reply, newline}
+use Rattle.rx_transfer.specs.Words.{newline, test_name}
+use Rattle.rx_main.specs.Lines.{Reply}
 
--- The word of a test. Want of memory is no test, and is never told.
-abbrev pub test_name : Kind → List ℕ
-test_name Kind.Generic = codes "generic"
-test_name Kind.BufferTooSmall = codes "buffer"
-test_name (Kind.VersionMismatch expected found) = codes "version"
-test_name (Kind.EndianMismatch expected found) = codes "endian"
-test_name (Kind.LabelMismatch expected) = codes "label"
-test_name (Kind.PatternID attempted) = codes "pattern"
-test_name (Kind.StateID attempted) = codes "state"
-test_name Kind.Memory = []
-
+-- the test that an image fails
 abbrev pub failed_test_reply : Kind → Reply
 failed_test_reply kind = record { text = codes "refused " ++ (test_name kind ++ newline); status = 1 }
 

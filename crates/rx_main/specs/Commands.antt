@@ -7,9 +7,10 @@ use Rattle.rx_spec.specs.declared.Form.{Form}
 use Rattle.rx_base.specs.Search.{mode_of}
 use Rattle.rx_regex.specs.declared.plan_table.PlanTable.{PlanTable}
 use Rattle.rx_wire.specs.declared.order.Order.{Order}
-use Rattle.rx_main.specs.Lines.{mode_name}
+use Rattle.rx_transfer.specs.Words.{mode_name}
 use Rattle.rx_main.specs.declared.command.Command.{Command}
 use Rattle.rx_main.specs.declared.command.ReadCommand.{ReadCommand}
+use Rattle.rx_main.specs.declared.command.Feed.{Feed}
 use Rattle.rx_main.specs.declared.command.Search.{Search}
 
 -- a table of a plan, an order of the bytes of a number, and a form of tables
@@ -46,9 +47,14 @@ read_words ReadCommand.CheckPair = codes "check" ∷ (pair_word ∷ [])
 read_words (ReadCommand.Search s) = search_words s
 read_words (ReadCommand.Scan form) = codes "scan" ∷ (form_word form ∷ [])
 
+abbrev pub feed_words : Feed → List (List ℕ)
+feed_words f =
+    codes "feed" ∷ (form_word f.form ∷ (mode_name (mode_of f.mode) ∷ (decimal f.image_len ∷ [])))
+
 abbrev pub words_of : Command → List (List ℕ)
 words_of (Command.Read command) = read_words command
 words_of (Command.Gen count) = codes "gen" ∷ (decimal count ∷ [])
+words_of (Command.Feed f) = feed_words f
 
 -- the most bytes that are read
 abbrev pub most_bytes : ℕ
@@ -72,10 +78,17 @@ pub record IsSearch (s : Search) : Type 0 where
   pub some : 1 ≤ s.image_len
   pub few : s.image_len ≤ most_bytes
 
+-- an image that isn't longer than what a command reads that keeps it
+pub record IsFeed (f : Feed) : Type 0 where
+  pub mode : IsMode (mode_of f.mode)
+  pub some : 1 ≤ f.image_len
+  pub few : f.image_len ≤ most_bytes
+
 abbrev pub IsInRange : Command → Type 0
 IsInRange (Command.Gen count) = (1 ≤ count) × (count ≤ most_patterns)
 IsInRange (Command.Read (ReadCommand.Search s)) = IsSearch s
 IsInRange (Command.Read command) = Unit {0}
+IsInRange (Command.Feed f) = IsFeed f
 
 -- the words are this command
 pub record Says (words : List (List ℕ)) (command : Command) : Type 0 where

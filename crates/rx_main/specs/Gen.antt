@@ -9,7 +9,8 @@ use Rattle.rx_spec.specs.Iterating.{iterate}
 use Rattle.rx_spec.specs.Queries.{Anchored, Query, Match}
 use Rattle.rx_expr.specs.Expr.{literal_of}
 use Rattle.rx_plan.specs.Plan.{plan_of, usual}
-use Rattle.rx_main.specs.Lines.{Reply, newline}
+use Rattle.rx_transfer.specs.Words.{newline}
+use Rattle.rx_main.specs.Lines.{Reply}
 use Rattle.rx_main.specs.Scripts.{PlanReplies}
 
 -- ---- what is searched

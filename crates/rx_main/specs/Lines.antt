@@ -7,14 +7,11 @@ use Rattle.rx_spec.specs.Plans.{Cause}
 use Rattle.rx_build_error.specs.declared.BuildErrorKind.{BuildErrorKind}
 use Rattle.rx_script.specs.Faults.{kind_name}
 use Rattle.rx_script.specs.declared.fault.BadKind.{BadKind}
+use Rattle.rx_transfer.specs.Words.{hex_code, mode_name, newline}
 
 pub record Reply : Type 0 where
   pub text : List ℕ
   pub status : ℕ
-
--- how a line ends
-abbrev pub newline : List ℕ
-newline = 10 ∷ []
 
 -- ---- nothing is built
 
@@ -77,15 +74,6 @@ none_line = codes "none" ++ newline
 -- the numbers of rows of the forward and the reverse table
 abbrev pub rows_line : ℕ → ℕ → List ℕ
 rows_line forward reverse = codes "rows " ++ (decimal forward ++ (codes " " ++ (decimal reverse ++ newline)))
-
--- a lower-case hexadecimal digit
-abbrev pub hex_code : ℕ → ℕ
-hex_code digit = if nat_lt digit 10 then 48 + digit else 87 + digit
-
-abbrev pub mode_name : Anchored → List ℕ
-mode_name Anchored.No = codes "no"
-mode_name Anchored.Yes = codes "yes"
-mode_name (Anchored.Pattern k) = codes "p" ++ decimal k
 
 -- The halves of a plan never disagree, so no search of one ends by the last of these.
 abbrev pub error_line : MatchError → List ℕ

@@ -8,6 +8,8 @@ use Rattle.rx_plan.specs.Plan.{plan_of, usual}
 use Rattle.rx_regex.specs.PlanTables.{IsOfPair, table_build}
 use Rattle.rx_regex.specs.declared.plan_table.PlanTable.{PlanTable}
 use Rattle.rx_script.specs.Grammar.{Spelled, Spells}
+use Rattle.rx_base.specs.Search.{mode_of}
+use Rattle.rx_feed.specs.Replies.{FeedReplies}
 use Rattle.rx_main.specs.Commands.{Says, SaysNothing, most_bytes}
 use Rattle.rx_main.specs.Lines.{Reply, usage_reply, long_reply, refusal_reply, IsRefusal}
 use Rattle.rx_main.specs.Find.{FindReplies}
@@ -40,6 +42,8 @@ ReadReplies (ReadCommand.Scan form) bytes reply = ScanReplies form bytes reply
 abbrev pub CommandReplies : Command → List ℕ → Bool → Reply → Type 0
 CommandReplies (Command.Read command) bytes ended reply = AreRead bytes ended × ReadReplies command bytes reply
 CommandReplies (Command.Gen count) bytes ended reply = (bytes ≡ []) × GenReplies count reply
+CommandReplies (Command.Feed f) bytes ended reply =
+    FeedReplies f.form (mode_of f.mode) f.image_len bytes ended reply.text reply.status
 
 -- The reply to a command line and the bytes that were taken from the source. Where the bytes are the whole of the
 -- source, ended is true. Where there are more bytes than are read, one more was taken.

@@ -20,8 +20,9 @@ use Rattle.rx_scan.specs.declared.token.Token.{Token}
 use Rattle.rx_script.specs.Grammar.{Spelled}
 use Rattle.rx_sparse.specs.Layouts as sparse
 use Rattle.rx_sparse_image.specs.Images as sparse_images
+use Rattle.rx_transfer.specs.Words.{newline}
 use Rattle.rx_wire.specs.declared.order.Order.{Order}
-use Rattle.rx_main.specs.Lines.{Reply, error_reply, newline}
+use Rattle.rx_main.specs.Lines.{Reply, error_reply}
 use Rattle.rx_main.specs.Check.{reading_reply}
 use Rattle.rx_main.specs.Image.{IsImageReply}
 

@@ -11,7 +11,8 @@ use Rattle.rx_plan.specs.Plan.{plan_of}
 use Rattle.rx_regex.specs.Pairs.{joined}
 use Rattle.rx_script.specs.Grammar.{Spelled}
 use Rattle.rx_wire.specs.declared.order.Order.{Order}
-use Rattle.rx_main.specs.Lines.{Reply, error_reply, newline}
+use Rattle.rx_transfer.specs.Words.{newline}
+use Rattle.rx_main.specs.Lines.{Reply, error_reply}
 use Rattle.rx_main.specs.Check.{reading_reply}
 use Rattle.rx_main.specs.Find.{FindAnswers, found_reply}
 use Rattle.rx_main.specs.PairImage.{IsPairImageReply}

@@ -7,7 +7,7 @@ ghost use Rattle.rx_wire.specs.declared.order.Order.{Order};
 ghost use Rattle.rx_base.specs.Search.{mode_of};
 ghost use Rattle.rx_base.specs.declared.search.Anchored.{Anchored as Mode};
 ghost use Rattle.rx_regex.specs.declared.plan_table.PlanTable.{PlanTable as Table};
-ghost use Rattle.rx_main.specs.Lines.{mode_name};
+ghost use Rattle.rx_transfer.specs.Words.{mode_name};
 ghost use Rattle.rx_main.specs.Commands.{IsMode, Says, SaysNothing, form_word, order_word, table_word};
 
 use crate::words::Words;
@@ -23,6 +23,8 @@ pub enum Command {
     Read(ReadCommand),
     /// The matches of so many generated patterns, from 1 to 1000. Nothing is read.
     Gen(u16),
+    /// All matches of a text, which is read after an image and isn't kept.
+    Feed(Feed),
 }
 
 /// What is asked of the bytes of a source.
@@ -59,6 +61,17 @@ pub struct Search {
     pub image_len: u32,
 }
 
+/// A search of a text by the table of an image.
+#[derive(Clone, Copy, Debug, PartialEq, Eq)]
+pub struct Feed {
+    /// The form of the table.
+    pub form: Form,
+    /// Where a match may begin.
+    pub mode: Anchored,
+    /// How many bytes the image takes, from 1 to 16,777,216. The text comes behind them.
+    pub image_len: u32,
+}
+
 /// The most patterns that are generated.
 const MOST_PATTERNS: u32 = 1000;
 
@@ -73,6 +86,7 @@ pub fn command_of(words: &Words) -> Option<Command>
         1 => single_word(words.word(0)),
         2 => two_words(words.word(0), words.word(1)),
         3 => three_words(words.word(0), words.word(1), words.word(2)),
+        4 => feed_of(words.word(0), words.word(1), words.word(2), words.word(3)),
         5 => search_of(
             words.word(0),
             words.word(1),
@@ -130,6 +144,21 @@ fn three_words(word: &[u8], table: &[u8], order: &[u8]) -> Option<Command>
     }
     let table = table_of(table)?;
     Some(Command::Read(ReadCommand::Image(table, order)))
+}
+
+fn feed_of(word: &[u8], form: &[u8], mode: &[u8], image_len: &[u8]) -> Option<Command>
+    ensures { MatchOption result (SaysNothing (word.now ∷ (form.now ∷ (mode.now ∷ (image_len.now ∷ [])))))
+        (Says (word.now ∷ (form.now ∷ (mode.now ∷ (image_len.now ∷ []))))) }
+{
+    if !is(word, b"feed") {
+        return None;
+    }
+    let feed = Feed {
+        form: form_of(form)?,
+        mode: mode_of(mode)?,
+        image_len: number_of(image_len, 1, MOST_BYTES)?,
+    };
+    Some(Command::Feed(feed))
 }
 
 fn search_of(

@@ -2,7 +2,8 @@
 
 ghost use Rattle.std.specs.Prelude.{◌≡◌, ◌++◌, ◌<◌, ◌≤◌, IfOk, OnOk};
 ghost use Rattle.std.specs.String.{string_bytes};
-ghost use Rattle.rx_main.specs.Lines.{TellsKind, match_line, rows_line, error_line, hex_code};
+ghost use Rattle.rx_transfer.specs.Words.{hex_code};
+ghost use Rattle.rx_main.specs.Lines.{TellsKind, match_line, rows_line, error_line};
 ghost use Rattle.rx_main.specs.Lines.{usage_reply, long_reply, fault_reply, error_reply};
 
 use crate::reply::{FAILED, REFUSED, Reply, TURNED_DOWN};

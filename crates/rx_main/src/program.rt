@@ -1,14 +1,19 @@
 //! The program: a command line, a source and a sink.
 
-ghost use Rattle.std.specs.Prelude.{◌≡◌, ◌≢◌, ◌≤◌, ◌↔◌, IfOk, Err};
-ghost use Rattle.std.specs.Io.KnownBytes.{Keeps};
+ghost use Rattle.std.specs.Prelude.{◌≡◌, ◌≢◌, ◌<◌, ◌≤◌, ◌↔◌, ℕ, List, IfOk, IfErr, Err};
+ghost use Rattle.std.specs.Io.KnownBytes.{Appends};
 ghost use Rattle.rx_base.specs.Outside.{Rose};
+ghost use Rattle.rx_base.specs.Search.{mode_of};
+ghost use Rattle.rx_transfer.specs.Outside.{AppendsFront};
+ghost use Rattle.rx_feed.specs.Run.{FeedAnswers, FeedBreaks, FeedCut, FeedStarved};
+ghost use Rattle.rx_main.specs.Commands.{Says};
 ghost use Rattle.rx_main.specs.Lines.{long_reply};
 ghost use Rattle.rx_main.specs.Replies.{ReadReplies};
-ghost use Rattle.rx_main.specs.Run.{Took, Answers, Breaks};
+ghost use Rattle.rx_main.specs.Run.{Answers, Breaks, IsOutput, IsCut, IsNoFeed, IsStarved, Took};
+ghost use Rattle.rx_main.specs.declared.command.Command.{Command as Asked};
 
 use crate::check::{check, check_pair};
-use crate::command::{Command, ReadCommand, command_of};
+use crate::command::{Command, Feed, ReadCommand, command_of};
 use crate::each::each;
 use crate::find::find;
 use crate::generate::generate;
@@ -17,9 +22,11 @@ use crate::lines::{long_reply, usage_reply};
 use crate::reply::Reply;
 use crate::scan::scan;
 use crate::search::search;
-use crate::transfer::{TextFault, read_text, write_text};
+use crate::transfer::{TextFault, read_text};
 use crate::words::Words;
 use rx_base::{Sink, Source};
+use rx_feed::{Fault, feed};
+use rx_transfer::write_text;
 use std::alloc::{AllocError, Global};
 
 /// The status where the source failed, where the sink failed, and where memory ran out.
@@ -49,21 +56,42 @@ impl From<AllocError> for Stop {
     }
 }
 
-/// Reads what the command reads, and finds the reply.
-fn reply<S: Source>(alloc: Global, words: &Words, src: &mut S) -> Result<Reply, Stop>
-    ensures took { IfOk result (Took words.now (S.left src.old) (S.left src.new)) }
+/// What is answered to a command line.
+#[derive(Drop)]
+pub enum Output {
+    /// A reply, which is written once it is whole.
+    Reply(Reply),
+    /// Lines that are written while a text is read.
+    Feed(Feed),
+}
+
+/// Finds what is answered. Reads what the command reads, but for `feed` nothing.
+fn answer<S: Source>(alloc: Global, words: &Words, src: &mut S) -> Result<Output, Stop>
+    ensures took { IfOk result (IsOutput words.now (S.left src.old) (S.left src.new)) }
+    ensures other { IfErr result (λ stop. IsNoFeed words.now) }
     ensures failed { result ≡ Err Stop.Failed → Rose (S.faults src.old) (S.faults src.new) }
     ensures counted { S.faults src.old ≤ S.faults src.new }
 {
     let Some(command) = command_of(words) else {
-        return Ok(usage_reply(alloc)?);
+        return Ok(Output::Reply(usage_reply(alloc)?));
     };
     match command {
-        Command::Read(command) => match read_text(alloc, src) {
-            Ok(bytes) => Ok(read_reply(alloc, command, &bytes)?),
-            Err(fault) => unread_reply(alloc, fault),
-        },
-        Command::Gen(count) => Ok(generate(alloc, count)?),
+        Command::Read(command) => Ok(Output::Reply(reply(alloc, command, src)?)),
+        Command::Gen(count) => Ok(Output::Reply(generate(alloc, count)?)),
+        Command::Feed(asked) => Ok(Output::Feed(asked)),
+    }
+}
+
+/// Reads all of the source, and finds the reply.
+fn reply<S: Source>(alloc: Global, command: ReadCommand, src: &mut S) -> Result<Reply, Stop>
+    ensures took { IfOk result (λ reply. (words : List (List ℕ)) → Says words (Asked.Read command)
+        → Took words (S.left src.old) (S.left src.new) reply) }
+    ensures failed { result ≡ Err Stop.Failed → Rose (S.faults src.old) (S.faults src.new) }
+    ensures counted { S.faults src.old ≤ S.faults src.new }
+{
+    match read_text(alloc, src) {
+        Ok(bytes) => Ok(read_reply(alloc, command, &bytes)?),
+        Err(fault) => unread_reply(alloc, fault),
     }
 }
 
@@ -98,9 +126,9 @@ fn unread_reply(alloc: Global, fault: TextFault) -> Result<Reply, Stop>
 /// Runs a command line: reads what it reads from the source, and writes the lines or the image that answer it into
 /// the sink. The result is the status.
 ///
-/// With a status up to 4 all of it was written, with 6 a part of them, and with 5 and 7 nothing. 5 says
-/// that the source failed, 6 that the sink did, and 7 that memory ran out: without a fault that the source or the sink
-/// counted there is no status 5 or 6.
+/// With a status up to 4 all of it was written, with 6 a part of it, and with 7 nothing. With 5 nothing was written
+/// either, but `feed` wrote what the bytes that it took tell. 5 says that the source failed, 6 that the sink did, and 7
+/// that memory ran out: without a fault that the source or the sink counted there is no status 5 or 6.
 pub fn run<S: Source, K: Sink>(alloc: Global, words: &Words, src: &mut S, out: &mut K) -> u8
     ensures answers { result ≤ 4
         → Answers words.now (record {
@@ -110,7 +138,12 @@ pub fn run<S: Source, K: Sink>(alloc: Global, words: &Words, src: &mut S, out: &
           written_after = K.written out.new;
         }) result }
     ensures source { result ≡ 5
-        → Rose (S.faults src.old) (S.faults src.new) × Keeps (K.written out.old) (K.written out.new) }
+        → Rose (S.faults src.old) (S.faults src.new) × IsCut words.now (record {
+          left_before = S.left src.old;
+          left_after = S.left src.new;
+          written_before = K.written out.old;
+          written_after = K.written out.new;
+        }) }
     ensures sink { result ≡ 6
         → Rose (K.faults out.old) (K.faults out.new) × Breaks words.now (record {
           left_before = S.left src.old;
@@ -118,19 +151,85 @@ pub fn run<S: Source, K: Sink>(alloc: Global, words: &Words, src: &mut S, out: &
           written_before = K.written out.old;
           written_after = K.written out.new;
         }) }
-    ensures memory { result ≡ 7 → Keeps (K.written out.old) (K.written out.new) }
+    ensures memory { result ≡ 7
+        → IsStarved words.now (record {
+          left_before = S.left src.old;
+          left_after = S.left src.new;
+          written_before = K.written out.old;
+          written_after = K.written out.new;
+        }) }
     ensures few { result ≤ 7 }
     // Counts of faults never fall.
     ensures source_faults { S.faults src.old ≤ S.faults src.new }
     ensures sink_faults { K.faults out.old ≤ K.faults out.new }
 {
-    let reply = match reply(alloc, words, src) {
-        Ok(reply) => reply,
+    let answer = match answer(alloc, words, src) {
+        Ok(answer) => answer,
         Err(Stop::Failed) => return SOURCE_FAILED,
         Err(Stop::Memory) => return NO_MEMORY,
     };
+    match answer {
+        Output::Reply(reply) => write_reply(&reply, out),
+        Output::Feed(asked) => feed_status(alloc, asked, src, out),
+    }
+}
+
+/// Writes a reply. The result is the status.
+fn write_reply<K: Sink>(reply: &Reply, out: &mut K) -> u8
+    ensures whole { result ≤ 4
+        → (result ≡ reply.now.status) × Appends (K.written out.old) (K.written out.new) reply.now.text }
+    ensures broken { 4 < result
+        → (result ≡ 6) × AppendsFront (K.written out.old) (K.written out.new) reply.now.text }
+    ensures failed { 4 < result → Rose (K.faults out.old) (K.faults out.new) }
+    ensures counted { K.faults out.old ≤ K.faults out.new }
+{
     if write_text(out, reply.text()) {
         return reply.status();
     }
     SINK_FAILED
+}
+
+/// Reads an image and a text, and writes what the table of the image tells of the text. The result is the status.
+fn feed_status<S: Source, K: Sink>(alloc: Global, asked: Feed, src: &mut S, out: &mut K) -> u8
+    ensures answers { result ≤ 4
+        → FeedAnswers asked.form (mode_of asked.mode) asked.image_len (record {
+          left_before = S.left src.old;
+          left_after = S.left src.new;
+          written_before = K.written out.old;
+          written_after = K.written out.new;
+        }) result }
+    ensures source { result ≡ 5
+        → Rose (S.faults src.old) (S.faults src.new)
+        × FeedCut asked.form (mode_of asked.mode) asked.image_len (record {
+          left_before = S.left src.old;
+          left_after = S.left src.new;
+          written_before = K.written out.old;
+          written_after = K.written out.new;
+        }) }
+    ensures sink { result ≡ 6
+        → Rose (K.faults out.old) (K.faults out.new)
+        × FeedBreaks asked.form (mode_of asked.mode) asked.image_len (record {
+          left_before = S.left src.old;
+          left_after = S.left src.new;
+          written_before = K.written out.old;
+          written_after = K.written out.new;
+        }) }
+    ensures memory { result ≡ 7
+        → FeedStarved asked.image_len (record {
+          left_before = S.left src.old;
+          left_after = S.left src.new;
+          written_before = K.written out.old;
+          written_after = K.written out.new;
+        }) }
+    ensures few { result ≤ 7 }
+    ensures source_faults { S.faults src.old ≤ S.faults src.new }
+    ensures sink_faults { K.faults out.old ≤ K.faults out.new }
+{
+    let len = asked.image_len as usize;
+    match feed(alloc, asked.form, asked.mode, len, src, out) {
+        Ok(status) => status,
+        Err(Fault::Source) => SOURCE_FAILED,
+        Err(Fault::Sink) => SINK_FAILED,
+        Err(Fault::Memory) => NO_MEMORY,
+    }
 }

@@ -1,11 +1,11 @@
-//! Reading all of a source, and writing a text into a sink.
+//! Reading all of a source.
 
-ghost use Rattle.std.specs.Prelude.{◌≡◌, ◌≢◌, ◌+◌, ◌<◌, ◌≤◌, ℕ, List, length, take, IfOk, IsTrue, true, false};
-ghost use Rattle.std.specs.Io.KnownBytes.{Consumes, IsAtEnd, Appends};
+ghost use Rattle.std.specs.Prelude.{◌≡◌, ◌<◌, ◌≤◌, ℕ, List, length, IfOk};
+ghost use Rattle.std.specs.Io.KnownBytes.{Consumes, IsAtEnd};
 ghost use Rattle.rx_base.specs.Outside.{Rose};
-ghost use Rattle.rx_base.specs.Source.{Reads, ReadCause};
 
-use rx_base::{ReadAnswer, Sink, Source, WriteAnswer};
+use rx_base::{ReadAnswer, Source};
+use rx_transfer::read_front;
 use std::alloc::{AllocError, AllocFailed, Global};
 
 /// The most bytes that are read.
@@ -45,16 +45,6 @@ impl<T: Drop> From<AllocFailed<T>> for TextFault {
     fn from(_: AllocFailed<T>) -> TextFault {
         TextFault::Memory
     }
-}
-
-/// Reads into the front of a buffer.
-fn read_front<S: Source>(src: &mut S, buffer: &mut [u8], room: usize) -> ReadAnswer
-    requires some { 0 < room }
-    requires within { room ≤ length buffer.old }
-    ensures bytes { Reads (S.left src.old) (S.left src.new) result (take room buffer.new) }
-    ensures cause { ReadCause (S.faults src.old) (S.faults src.new) result }
-{
-    src.read(&mut buffer[..room])
 }
 
 /// Room for the bytes of one read.
@@ -103,23 +93,4 @@ fn read_through<S: Source>(
         }
     }
     Err(TextFault::Long)
-}
-
-/// Writes a text, and tells whether all of it was taken.
-pub fn write_text<K: Sink>(out: &mut K, text: &[u8]) -> bool
-    ensures whole { result ≡ true → Appends (K.written out.old) (K.written out.new) text.now }
-    ensures part { result ≡ false
-        → (count : ℕ) × (count < length text.now)
-        × Appends (K.written out.old) (K.written out.new) (take count text.now) }
-    ensures failed { result ≡ false → Rose (K.faults out.old) (K.faults out.new) }
-    ensures counted { K.faults out.old ≤ K.faults out.new }
-{
-    let mut at = 0;
-    'writes: while at < text.len() {
-        match out.write(&text[at..]) {
-            WriteAnswer::Took(count) => at += count,
-            WriteAnswer::Failed => return false,
-        }
-    }
-    true
 }

@@ -1,7 +1,7 @@
 use Rattle.std.proofs.Common.{subst, sym, ◌∙◌}
 use Rattle.std.specs.Option.{MatchOption}
 use Rattle.rx_main.specs.Commands.{Says, SaysNothing}
-use Rattle.rx_main.proofs.Counts.{five_words, one_word, three_words, two_words}
+use Rattle.rx_main.proofs.Counts.{five_words, four_words, one_word, three_words, two_words}
 use Rattle.rx_main.proofs.command.command_of.Goals as goal
 
 pub returns-in-1 : goal.returns-in-1
@@ -27,3 +27,10 @@ returns-in-5 c =
     c.word-in-5-4.result.now c.word-in-5-5.result.now (sym c.len.ensures ∙ c.in-5.is) c.word-in-5.ensures
     c.word-in-5-2.ensures c.word-in-5-3.ensures c.word-in-5-4.ensures c.word-in-5-5.ensures in
     subst (λ ws. MatchOption c.search_of.result (SaysNothing ws) (Says ws)) (sym words) c.search_of.ensures
+
+pub returns-in-4 : goal.returns-in-4
+returns-in-4 c =
+    let words = four_words c.args.words.now c.word-in-4.result.now c.word-in-4-2.result.now c.word-in-4-3.result.now
+    c.word-in-4-4.result.now (sym c.len.ensures ∙ c.in-4.is) c.word-in-4.ensures c.word-in-4-2.ensures
+    c.word-in-4-3.ensures c.word-in-4-4.ensures in
+    subst (λ ws. MatchOption c.feed_of.result (SaysNothing ws) (Says ws)) (sym words) c.feed_of.ensures
