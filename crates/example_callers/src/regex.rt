@@ -1,0 +1,38 @@
+//! The caller of `docs/calling/rx_regex.md`.
+
+ghost use Rattle.std.specs.Prelude.{IfOk, IfSome};
+ghost use Rattle.rx_spec.specs.Queries.{IsFit, LiesIn};
+ghost use Rattle.rx_base.specs.Input.{query_of};
+
+use rx_base::{Input, Match, MatchError};
+use rx_expr::Expr;
+use rx_regex::{BuildError, Built, Form, Order, Plan, build_pair_image};
+use std::alloc::Global;
+
+/// The smallest sparse tables, and no more than 64 KiB for each.
+fn plan() -> Plan {
+    Plan {
+        minimize: true,
+        form: Form::Sparse,
+        dfa_limit: Some(1 << 16),
+        ..Plan::new()
+    }
+}
+
+/// Tables of patterns, built once.
+pub fn build(alloc: Global, patterns: &[Expr]) -> Result<Built, BuildError> {
+    Built::new(alloc, patterns, &plan())
+}
+
+/// The same tables as one image, which `rx_image` reads.
+pub fn build_image(alloc: Global, patterns: &[Expr]) -> Result<Vec<u8>, BuildError> {
+    build_pair_image(alloc, patterns, &plan(), Order::Little)
+}
+
+/// The first match in a part of a text.
+pub fn first(tables: &Built, part: &Input<'_>) -> Result<Option<Match>, MatchError>
+    requires { IsFit (query_of part.now) }
+    ensures { IfOk result (λ found. IfSome found (LiesIn (query_of part.now))) }
+{
+    tables.search(part)
+}
