@@ -64,10 +64,7 @@ fn copy_lines<A: Automaton, W: Write>(
     let mut copied: u64 = 0;
     let mut end = 0;
     for found in regex.find_iter(&Input::new(text)) {
-        let found = match found {
-            Ok(found) => found,
-            Err(_) => return Err(Fault::Image),
-        };
+        let found = found.map_err(|_| Fault::Image)?;
         if found.start() < end {
             continue;
         }
@@ -91,9 +88,7 @@ fn filter<W: Write>(out: &mut W, tables: &Tables<'_>, text: &[u8]) -> Result<u64
 
 /// Reads the image and the text, and copies lines.
 fn run(rt: &HostRuntime) -> Result<u64, Fault> {
-    let Some(path) = env::args(rt)?.nth(1) else {
-        return Err(Fault::Image);
-    };
+    let path = env::args(rt)?.nth(1).ok_or(Fault::Image)?;
     let image = fs::read(rt, path.as_str())?;
     let mut text = Vec::new(rt.alloc());
     rt.reader().read_to_end(&mut text)?;
