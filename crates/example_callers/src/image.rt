@@ -1,5 +1,6 @@
 //! The caller of `docs/calling/rx_image.md`.
 
+ghost use Rattle.std.specs.Prelude.{◌≤◌, IfOk, IfSome, length};
 ghost use Rattle.rx_image.specs.Tables.{AreSound};
 
 use rx_base::{Input, Match, MatchError};
@@ -11,6 +12,7 @@ use std::alloc::Global;
 /// The first match of a text, by tables that were read from an image.
 pub fn first(tables: &Tables<'_>, text: &[u8]) -> Result<Option<Match>, MatchError>
     requires { AreSound tables.now }
+    ensures { IfOk result (λ found. IfSome found (λ m. m.end ≤ length text.now)) }
 {
     match tables {
         Tables::Dense(forward, reverse) => Regex::new(forward, reverse).find(&Input::new(text)),

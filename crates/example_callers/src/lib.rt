@@ -16,3 +16,5 @@ pub mod sparse;
 pub mod sparse_build;
 pub mod sparse_image;
 pub mod stream;
+#[cfg(test)]
+mod tests;

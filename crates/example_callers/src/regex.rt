@@ -1,15 +1,18 @@
 //! The caller of `docs/calling/rx_regex.md`.
 
-ghost use Rattle.std.specs.Prelude.{IfOk, IfSome};
+ghost use Rattle.std.specs.Prelude.{◌≡◌, IfOk, IfSome, List};
+ghost use Rattle.rx_spec.specs.Expressions.{Expression};
+ghost use Rattle.rx_spec.specs.Plans.{Plan as SearchPlan, outcome};
 ghost use Rattle.rx_spec.specs.Queries.{IsFit, LiesIn};
 ghost use Rattle.rx_base.specs.Input.{query_of};
+ghost use Rattle.rx_regex.specs.Tables.{IsOf};
 
 use rx_base::{Input, Match, MatchError};
 use rx_expr::Expr;
 use rx_regex::{BuildError, Built, Form, Order, Plan, build_pair_image};
 use std::alloc::Global;
 
-/// The smallest sparse tables, and no more than 64 KiB for each.
+/// Sparse tables with the fewest states. The size limit of each is 64 KiB.
 fn plan() -> Plan {
     Plan {
         minimize: true,
@@ -32,7 +35,9 @@ pub fn build_image(alloc: Global, patterns: &[Expr]) -> Result<Vec<u8>, BuildErr
 /// The first match in a part of a text.
 pub fn first(tables: &Built, part: &Input<'_>) -> Result<Option<Match>, MatchError>
     requires { IsFit (query_of part.now) }
-    ensures { IfOk result (λ found. IfSome found (LiesIn (query_of part.now))) }
+    ensures within { IfOk result (λ found. IfSome found (LiesIn (query_of part.now))) }
+    ensures answer { (p : SearchPlan) (es : List Expression) → IsOf p es tables.now
+        → result ≡ outcome p es (query_of part.now) }
 {
     tables.search(part)
 }

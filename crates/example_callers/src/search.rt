@@ -1,5 +1,7 @@
 //! The caller of `docs/calling/rx_search.md`.
 
+ghost use Rattle.std.specs.Prelude.{◌≤◌, IfOk, IfSome, length};
+
 use rx_base::{Input, MatchError, PatternSet};
 use rx_search::Automaton;
 use std::alloc::{AllocError, Global};
@@ -7,6 +9,7 @@ use std::alloc::{AllocError, Global};
 /// Where the first match of a text ends.
 pub fn first_end<A: Automaton>(table: &A, text: &[u8]) -> Result<Option<usize>, MatchError>
     requires { A.IsSound table.now }
+    ensures { IfOk result (λ end. IfSome end (λ at. at ≤ length text.now)) }
 {
     match table.try_search_fwd(&Input::new(text)) {
         Ok(Some(end)) => Ok(Some(end.offset())),
