@@ -2,6 +2,8 @@
 #![tactic(auto)]
 
 #[cfg(test)]
+mod feeds;
+#[cfg(test)]
 mod images;
 #[cfg(test)]
 mod pairs;

@@ -17,12 +17,12 @@ fn words(alloc: Global, texts: &[&str]) -> Result<Words, AllocError> {
 /// most bytes of a write and the writes that fail.
 #[derive(Clone, Copy)]
 pub(crate) struct Outside<'a> {
-    text: &'a [u8],
-    most_read: usize,
-    failing_reads: &'a [u64],
-    room: usize,
-    most_written: usize,
-    failing_writes: &'a [u64],
+    pub(crate) text: &'a [u8],
+    pub(crate) most_read: usize,
+    pub(crate) failing_reads: &'a [u64],
+    pub(crate) room: usize,
+    pub(crate) most_written: usize,
+    pub(crate) failing_writes: &'a [u64],
 }
 
 /// The status of a run, and what it wrote.
@@ -521,6 +521,16 @@ fn other_words_are_no_command(rt: HostRuntime) -> Result<(), Fail> {
         &["search", "0", "0", "p2147483647", "1"],
         &["search", "0", "0", "no", "1", "x"],
         &["Search", "0", "0", "no", "1"],
+        &["feed"],
+        &["feed", "dense", "no"],
+        &["feed", "dense", "no", "0"],
+        &["feed", "dense", "no", "16777217"],
+        &["feed", "dense", "no", "01"],
+        &["feed", "pair", "no", "1"],
+        &["feed", "dense", "all", "1"],
+        &["feed", "dense", "p2147483647", "1"],
+        &["feed", "dense", "no", "1", "x"],
+        &["Feed", "dense", "no", "1"],
     ];
     for texts in table {
         compare(&rt, rt.alloc(), texts, UNREAD, (2, "usage\n"))?;

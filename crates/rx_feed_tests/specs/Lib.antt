@@ -1,0 +1,2 @@
+-- answers, worked by hand
+pub mod Examples
