@@ -1,8 +1,8 @@
 //! An embedded searcher: tells where alarms end in a text that comes in small pieces.
 //!
 //! The table is part of the program: `image.rt` has the bytes of a sparse image, which `image all le` wrote for the
-//! patterns of `data/alarms.patterns`. It is searched where it lies. Once the image is checked nothing takes memory: the
-//! text goes through a buffer of 64 bytes, and a match may begin in one piece and end in another.
+//! patterns of `data/alarms.patterns`. It is searched where it lies. Once the image is checked nothing takes memory:
+//! the text goes through a buffer of 64 bytes, and a match may begin in one piece and end in another.
 //!
 //! Each match is a line: its pattern and the offset of its end. The status is 1 if nothing matches, 2 if the image is
 //! refused, and 3 if memory, the input or the output failed.
@@ -87,7 +87,8 @@ fn finish(rt: &HostRuntime, searcher: &mut StreamSearcher<&DFA<&[u8]>>) -> io::R
     Ok(told)
 }
 
-/// Searches standard input, piece by piece. The answer is how many matches there were, or none where the search stopped.
+/// Searches standard input, piece by piece. The answer is how many matches there were, or none where the search
+/// stopped.
 fn search(rt: &HostRuntime, table: &DFA<&[u8]>) -> io::Result<Option<u64>>
     requires { IsSoundLayout table.now.layout }
 {

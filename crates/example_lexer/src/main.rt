@@ -4,9 +4,9 @@
 //! wins, so keywords stand before names. Their table was built once, by `tools/script` and `image all le`, as the image
 //! `data/lexer.image`. The program has no expression at hand: it reads the image, and one loop is the lexer.
 //!
-//! Each token is a line: its line and column, its kind and its text. Spaces and comments aren't told. The status is 1 if
-//! no rule matches at some place, 2 for words that are wrong or a file that is no such image, and 3 if memory, an input
-//! or an output failed.
+//! Each token is a line: its line and column, its kind and its text. Spaces and comments aren't told. The status is 1
+//! if no rule matches at some place, 2 for words that are wrong or a file that is no such image, and 3 if memory, an
+//! input or an output failed.
 #![tactic(auto)]
 
 ghost use Rattle.rx_sparse.specs.Facts.{IsSoundLayout};

@@ -1,8 +1,8 @@
 //! A router: tells for each path on standard input which routes match it whole.
 //!
-//! `example_router IMAGE`: the routes are in `data/routes.patterns`, and their table was built once, by `tools/script` and
-//! `image all le`, as the image `data/routes.image`. One walk over a path tells all routes that match, however many there
-//! are.
+//! `example_router IMAGE`: the routes are in `data/routes.patterns`. Their table was built once, by `tools/script` and
+//! `image all le`, as the image `data/routes.image`. One walk over a path tells all routes that match, however many
+//! there are.
 //!
 //! Each path is a line: the path, and the names of its routes. The status is 2 for words that are wrong or a file that
 //! is no such image, and 3 if memory, an input or an output failed.

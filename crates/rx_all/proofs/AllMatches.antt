@@ -146,7 +146,8 @@ module _ (plan : Plan) (es : List Expression) (safe : All IsLoopSafe es) (text :
   -- ---- the search of the build
 
   abbrev pub found : OverlappingMatches
-  found = overlapping (power (all_build plan es)) (build_settings (all_build plan es)) Direction.Forward (query_at text p)
+  found = overlapping (power (all_build plan es)) (build_settings (all_build plan es)) Direction.Forward
+      (query_at text p)
 
   runs_first : (row : Option ℕ) (start : Start)
       → start_node (all_build plan es).nfa row start ≡ Node.Running (first_state (all_build plan es).nfa row start)
@@ -154,7 +155,8 @@ module _ (plan : Plan) (es : List Expression) (safe : All IsLoopSafe es) (text :
   runs_first (Some row) start = refl
 
   -- one that ends is a walk from the state where it begins
-  begun : found.ending ≡ Ending.Ended → found ≡ told c refl 0 0 (begin_state asked Direction.Forward) p (suc (length text - p))
+  begun : found.ending ≡ Ending.Ended → found ≡ told c refl 0 0 (begin_state asked Direction.Forward) p
+      (suc (length text - p))
   begun ended = by_start (begins (build_settings b) Direction.Forward q)
     where
       refused_not : (error : MatchError) → Ending.Refused error ≡ Ending.Ended → ⊥
@@ -172,13 +174,15 @@ module _ (plan : Plan) (es : List Expression) (safe : All IsLoopSafe es) (text :
           let context = start_of b.nfa.line_terminator (beside Direction.Forward q) in
           overlapping_walks (power b) (build_settings b) Direction.Forward q (going q order) is
           ∙ ap₂ (λ (node : Node) (us : List ℕ). overlapping_walk (power b) Direction.Forward node p us)
-          (build_start b (beside Direction.Forward q) q.mode (started (build_settings b) (beside Direction.Forward q) q.mode is)
+          (build_start b (beside Direction.Forward q) q.mode
+          (started (build_settings b) (beside Direction.Forward q) q.mode is)
           ∙ runs_first row context)
           (units_read Direction.Forward t q order (omega arith)
           ∙ sym (units_from-alike (read_in c) (reading Direction.Forward t text) p (suc (length text - p)) refl))
 
   stands : StandsAt c (begin_state asked Direction.Forward) p
-  stands = let at = begin_stands asked Direction.Forward (omega (arith, more)) in record { roots = at.roots; is = at.is }
+  stands = let at = begin_stands asked Direction.Forward (omega (arith, more)) in record
+      { roots = at.roots; is = at.is }
 
   start_is : (j place : ℕ) → gives c refl j place (begin_state asked Direction.Forward) p
       ≡ all_worth asked Direction.Forward (only j place) p
@@ -191,7 +195,8 @@ module _ (plan : Plan) (es : List Expression) (safe : All IsLoopSafe es) (text :
       → m.offset ≤ length text → p ≤ m.offset → MatchesTo es plan.line_terminator text p m.pattern m.offset
   told_matches ended m has high low =
       let whole = begun ended in
-      let is = tells c refl m.pattern m.offset (suc (length text - p)) p (begin_state asked Direction.Forward) stands low
+      let is = tells c refl m.pattern m.offset (suc (length text - p)) p (begin_state asked Direction.Forward) stands
+      low
       (omega (arith, high, more)) (sym (ap (λ (x : OverlappingMatches). x.ending) whole) ∙ ended) in
       worth_matches m.pattern m.offset
       (sym (start_is m.pattern m.offset)

@@ -1,22 +1,6 @@
 -- The keys of pairs of ids, and the rows of ids.
-use Rattle.std.proofs.Common.{
-  ℕ,
-  ◌≡◌,
-  ◌^◌,
-  ◌<◌,
-  ◌≤◌,
-  ◌==◌,
-  Bool,
-  true,
-  false,
-  Some,
-  None,
-  if◌then◌else◌,
-  List,
-  [],
-  ◌∷◌,
-  ◌++◌,
-}
+use Rattle.std.proofs.Common.{ℕ, ◌≡◌, ◌^◌, ◌<◌, ◌≤◌, ◌==◌, Bool, true, false, Some, None, if◌then◌else◌, List, []}
+use Rattle.std.proofs.Common.{◌∷◌, ◌++◌}
 use Rattle.std.proofs.Common.{length, refl, ap, ap₂, sym, ◌∙◌, arith, ⊎_elim, subst}
 use Rattle.std.specs.Prelude.{unwrap_or, nat_lt, nat_eq, cond, Contains, IsTrue, ◌↔◌}
 use Rattle.std.specs.List.{position_or_len}

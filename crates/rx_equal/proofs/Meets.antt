@@ -1,30 +1,6 @@
 -- Places of which pairs take care.
-use Rattle.std.proofs.Common.{
-  ℕ,
-  zero,
-  suc,
-  ◌≡◌,
-  ◌+◌,
-  ◌<◌,
-  ◌≤◌,
-  max,
-  Some,
-  None,
-  Result,
-  Ok,
-  Err,
-  Option,
-  List,
-  [],
-  ◌∷◌,
-  ◌++◌,
-  refl,
-  ap,
-  sym,
-  ◌∙◌,
-  subst,
-  arith,
-}
+use Rattle.std.proofs.Common.{ℕ, zero, suc, ◌≡◌, ◌+◌, ◌<◌, ◌≤◌, max, Some, None, Result, Ok, Err, Option, List, []}
+use Rattle.std.proofs.Common.{◌∷◌, ◌++◌, refl, ap, sym, ◌∙◌, subst, arith}
 use Rattle.std.proofs.lemmas.Option.{same_Some}
 use Rattle.std.proofs.Common.{Bool, true, false, if◌then◌else◌}
 use Rattle.std.proofs.lemmas.Bool.{lt-ltb, ltb-true}
@@ -39,16 +15,8 @@ use Rattle.rx_spec.specs.Tables.{Table}
 use Rattle.rx_base.specs.StartConfig.{StartConfig}
 use Rattle.rx_equal.specs.declared.evidence.Link.{Link}
 use Rattle.rx_equal.specs.Partings.{answer_at, IsModeOf}
-use Rattle.rx_equal.specs.Evidence.{
-  RowPair,
-  start_pair,
-  AreMet,
-  AreClosed,
-  AreEvidence,
-  pairs_from,
-  link_pair,
-  HaveEqualLabels,
-}
+use Rattle.rx_equal.specs.Evidence.{RowPair, start_pair, AreMet, AreClosed, AreEvidence, pairs_from, link_pair}
+use Rattle.rx_equal.specs.Evidence.{HaveEqualLabels}
 use Rattle.rx_equal.specs.Pairs.{AreApart, AreRefused}
 use Rattle.rx_equal.specs.Places.{Meet, MeetMode, MeetAll, mode_at, beside_at}
 use Rattle.rx_equal.proofs.Words.{rows_begin, drop_get}

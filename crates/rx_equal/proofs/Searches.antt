@@ -10,17 +10,8 @@ use Rattle.rx_spec.specs.HalfSearches.{beside, half_search, first_offset, units_
 use Rattle.rx_spec.specs.Overlapping.{overlapping}
 use Rattle.rx_spec.specs.Tables.{Table, IsTable}
 use Rattle.rx_spec.specs.declared.Direction.{Direction}
-use Rattle.rx_lemmas.proofs.HalfSearches.{
-  Begins,
-  Done,
-  Refused,
-  Started,
-  begins,
-  half_done,
-  half_refused,
-  half_walks,
-  going,
-}
+use Rattle.rx_lemmas.proofs.HalfSearches.{Begins, Done, Refused, Started, begins, half_done, half_refused, half_walks}
+use Rattle.rx_lemmas.proofs.HalfSearches.{going}
 use Rattle.rx_lemmas.proofs.Overlapping.{overlapping_done, overlapping_refused, overlapping_walks}
 use Rattle.rx_lemmas.proofs.ReadUnits.{beside_is_byte, units_word}
 use Rattle.rx_lemmas.proofs.SilentRows.{IsRow, table_ends_well}

@@ -1,25 +1,6 @@
 -- Words over pairs of rows.
-use Rattle.std.proofs.Common.{
-  ℕ,
-  suc,
-  ap₂,
-  arith,
-  ◌≡◌,
-  ◌+◌,
-  ◌≤◌,
-  Some,
-  List,
-  [],
-  ◌∷◌,
-  length,
-  map,
-  drop,
-  ap,
-  sym,
-  ◌∙◌,
-  subst,
-  drop-cons,
-}
+use Rattle.std.proofs.Common.{ℕ, suc, ap₂, arith, ◌≡◌, ◌+◌, ◌≤◌, Some, List, [], ◌∷◌, length, map, drop, ap, sym, ◌∙◌}
+use Rattle.std.proofs.Common.{subst, drop-cons}
 use Rattle.std.proofs.lemmas.Option.{slice_get_within, get_or_from_slice_get}
 use Rattle.std.specs.Prelude.{slice_get}
 use Rattle.rx_spec.specs.Machines.{run}

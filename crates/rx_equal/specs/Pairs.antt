@@ -1,30 +1,6 @@
 -- Pairs of ids, and what calls of two tables answer of them.
-use Rattle.std.specs.Prelude.{
-  Bool,
-  true,
-  false,
-  [],
-  ◌∷◌,
-  ◌++◌,
-  ℕ,
-  ◌≡◌,
-  ◌≢◌,
-  ◌<◌,
-  ◌^◌,
-  ◌+◌,
-  ◌*◌,
-  Some,
-  Result,
-  Ok,
-  Err,
-  List,
-  Contains,
-  IsTrue,
-  ◌↔◌,
-  nat_eq,
-  map,
-  All,
-}
+use Rattle.std.specs.Prelude.{Bool, true, false, [], ◌∷◌, ◌++◌, ℕ, ◌≡◌, ◌≢◌, ◌<◌, ◌^◌, ◌+◌, ◌*◌, Some, Result, Ok}
+use Rattle.std.specs.Prelude.{Err, List, Contains, IsTrue, ◌↔◌, nat_eq, map, All}
 use Rattle.std.specs.HashSet.{contains}
 use Rattle.rx_spec.specs.Ids.{row_of}
 use Rattle.rx_spec.specs.Starts.{StartError}

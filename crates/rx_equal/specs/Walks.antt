@@ -1,26 +1,6 @@
 -- What a walk over pairs keeps, and what it answers.
-use Rattle.std.specs.Prelude.{
-  ℕ,
-  ◌≡◌,
-  ◌≢◌,
-  ◌<◌,
-  ◌≤◌,
-  ◌+◌,
-  Option,
-  Some,
-  None,
-  Bool,
-  true,
-  false,
-  ◌++◌,
-  List,
-  [],
-  length,
-  map,
-  slice_get,
-  AllPairs,
-  Contains,
-}
+use Rattle.std.specs.Prelude.{ℕ, ◌≡◌, ◌≢◌, ◌<◌, ◌≤◌, ◌+◌, Option, Some, None, Bool, true, false, ◌++◌, List, []}
+use Rattle.std.specs.Prelude.{length, map, slice_get, AllPairs, Contains}
 use Rattle.rx_spec.specs.Machines.{IsWord, run}
 use Rattle.rx_spec.specs.Tables.{Table}
 use Rattle.rx_base.specs.StartConfig.{StartConfig}

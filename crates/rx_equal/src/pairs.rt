@@ -7,17 +7,8 @@ ghost use Rattle.rx_search.specs.Starts.{IsId, refusal_of};
 ghost use Rattle.rx_search.specs.Labels.{patterns_of};
 ghost use Rattle.rx_spec.specs.Tables.{is_match};
 ghost use Rattle.rx_equal.specs.Evidence.{HaveEqualLabels, next_pair, RowPair};
-ghost use Rattle.rx_equal.specs.Pairs.{
-  Adds,
-  is_quit_error,
-  AreKept,
-  pairs_of,
-  Begins,
-  IsPairOf,
-  rows_of,
-  knows,
-  key_of,
-};
+ghost use Rattle.rx_equal.specs.Pairs.{Adds, is_quit_error, AreKept, pairs_of, Begins, IsPairOf, rows_of, knows};
+ghost use Rattle.rx_equal.specs.Pairs.{key_of};
 ghost use Rattle.std.specs.Prelude.{List, Contains, ◌++◌, ◌∷◌, []};
 ghost use Rattle.rx_equal.specs.Pairs.{Knows};
 

@@ -4,16 +4,8 @@ ghost use Rattle.std.specs.Prelude.{◌≡◌, ◌≤◌, ◌<◌, IfOk, OnOk, S
 ghost use Rattle.rx_base.specs.Unit.{unit_number};
 ghost use Rattle.rx_equal.specs.Evidence.{link_pair};
 ghost use Rattle.rx_equal.specs.Pairs.{Adds, IsPairOf, pairs_of, rows_of};
-ghost use Rattle.rx_equal.specs.Walks.{
-  AreLabelled,
-  AreWalked,
-  IsLink,
-  IsPathTo,
-  IsVerdict,
-  LookedAt,
-  LookedAtAll,
-  LookedAtMode,
-};
+ghost use Rattle.rx_equal.specs.Walks.{AreLabelled, AreWalked, IsLink, IsPathTo, IsVerdict, LookedAt, LookedAtAll};
+ghost use Rattle.rx_equal.specs.Walks.{LookedAtMode};
 ghost use Rattle.rx_base.specs.Search.{mode_of};
 ghost use Rattle.rx_equal.specs.Evidence.{RowPair};
 ghost use Rattle.rx_equal.specs.Partings.{IsModeOf, IsPlaceOf};

@@ -1,5 +1,6 @@
 -- An image takes no more bytes than there are.
-use Rattle.std.proofs.Common.{◌≡◌, ℕ, ◌-◌, ◌≤◌, Bool, true, false, if◌then◌else◌, List, length, Result, Ok, Err, refl, ap}
+use Rattle.std.proofs.Common.{◌≡◌, ℕ, ◌-◌, ◌≤◌, Bool, true, false, if◌then◌else◌, List, length, Result, Ok, Err, refl}
+use Rattle.std.proofs.Common.{ap}
 use Rattle.std.proofs.Common.{subst, sym, arith}
 use Rattle.rx_wire.specs.Kinds.{Kind, ◌>>=◌}
 use Rattle.rx_dense.specs.Layouts as dense

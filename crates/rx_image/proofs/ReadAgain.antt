@@ -117,7 +117,8 @@ sparse_pair_again : (order : Order) (f r : sparse.Stored) → AreWhole (Pair.Spa
 unfolding sparse_pair_at
 sparse_pair_again order f r whole same rest =
     let second : List ℕ = sparse_images.text order r.layout ++ rest in
-    ap (sparse_pair_at order) (append_assoc (sparse_images.text order f.layout) (sparse_images.text order r.layout) rest)
+    ap (sparse_pair_at order)
+    (append_assoc (sparse_images.text order f.layout) (sparse_images.text order r.layout) rest)
     ∙ rw (sparse_again order f whole.0 second, sparse_again order r whole.1 rest, same_len same) refl
 
 -- ---- the pair

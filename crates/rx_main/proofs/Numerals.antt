@@ -15,7 +15,8 @@ use Rattle.rx_transfer.specs.Words.{mode_name}
 -- the decimal of a number is read
 pub no_number : (word : List ℕ) (most : ℕ) → most < 2 ^ 32 → number_of word ≡ None
     → (n : ℕ) → n ≤ most → word ≢ decimal n
-no_number word most below none n few spelled = clash (sym none ∙ number_read word n (omega (arith, below, few), spelled))
+no_number word most below none n few spelled = clash
+    (sym none ∙ number_read word n (omega (arith, below, few), spelled))
   where
     clash : None ≡ Some n → ⊥
     clash e = cc

@@ -134,7 +134,8 @@ module _ (words : List (List ℕ)) (bytes : List ℕ) where
         alike reply other h k
 
   plan_alike : (p : Plan) (es : List Expression)
-      → ((table : PlanTable) → IsOfPair table → AsksFor words bytes p es table) → (Answers : Reply → Type 0) → AreAlike Answers → AreAlike (PlanReplies p es Answers)
+      → ((table : PlanTable) → IsOfPair table → AsksFor words bytes p es table) → (Answers : Reply → Type 0)
+      → AreAlike Answers → AreAlike (PlanReplies p es Answers)
   plan_alike p es asks Answers alike =
       built_alike (PlanRefused p es) (PlanFits p es) p es
       (λ reply h fits.

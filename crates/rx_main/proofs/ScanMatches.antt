@@ -19,7 +19,8 @@ use Rattle.rx_sparse.specs.Layouts as sparse
 use Rattle.rx_wire.specs.declared.order.Order.{Order}
 use Rattle.rx_main.specs.Check.{reading_reply}
 use Rattle.rx_main.specs.Lines.{Reply}
-use Rattle.rx_main.specs.Scan.{ScanReplies, ScanTellsMatches, TellsMatches, dense_scan_reply, scanned_reply, sparse_scan_reply}
+use Rattle.rx_main.specs.Scan.{ScanReplies, ScanTellsMatches, TellsMatches, dense_scan_reply, scanned_reply}
+use Rattle.rx_main.specs.Scan.{sparse_scan_reply}
 
 module _ (p : Plan) (es : List Expression) (order : Order) (image text : List ℕ) (bytes : AreBytes text)
     (reply : Reply) where

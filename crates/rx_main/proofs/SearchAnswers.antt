@@ -1,5 +1,6 @@
 -- From what reading an image and searching by its tables answer to the reply of `search`.
-use Rattle.std.proofs.Common.{◌≡◌, ◌≢◌, ◌↔◌, ℕ, ◌+◌, ◌≤◌, Bool, true, false, ◌&&◌, if◌then◌else◌, leb, List, length, take, drop}
+use Rattle.std.proofs.Common.{◌≡◌, ◌≢◌, ◌↔◌, ℕ, ◌+◌, ◌≤◌, Bool, true, false, ◌&&◌, if◌then◌else◌, leb, List, length}
+use Rattle.std.proofs.Common.{take, drop}
 use Rattle.std.proofs.Common.{Ok, Err, refl, ap, sym, ◌∙◌, subst, ⊎_elim}
 use Rattle.std.specs.Prelude.{IsTrue, nat_le}
 use Rattle.std.proofs.lemmas.Bool.{and_parts, leb-true, le-leb}

@@ -27,7 +27,8 @@ accepted_reply rows patterns size = record { text = accepted_line rows patterns 
 -- the rows of the forward and of the reverse table, the patterns, and the bytes of the image of both
 abbrev pub accepted_pair_line : ℕ → ℕ → ℕ → ℕ → List ℕ
 accepted_pair_line forward reverse patterns size = codes "ok " ++ (decimal forward
-    ++ (codes " " ++ (decimal reverse ++ (codes " " ++ (decimal patterns ++ (codes " " ++ (decimal size ++ newline)))))))
+    ++ (codes " " ++ (decimal reverse ++
+    (codes " " ++ (decimal patterns ++ (codes " " ++ (decimal size ++ newline)))))))
 
 abbrev pub accepted_pair_reply : ℕ → ℕ → ℕ → ℕ → Reply
 accepted_pair_reply forward reverse patterns size =

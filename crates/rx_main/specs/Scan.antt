@@ -33,8 +33,8 @@ token_line t =
     ++ (decimal t.pattern ++ (codes " " ++ (decimal t.span.start ++ (codes " " ++ (decimal t.span.end
     ++ (codes " " ++ (decimal t.line ++ (codes " " ++ (decimal t.column ++ newline)))))))))
 
--- How the tokens end, after their lines: how many they are where the text is cut to its end, or where no token begins, or
--- an error.
+-- How the tokens end, after their lines: how many they are where the text is cut to its end, or where no token
+-- begins, or an error.
 abbrev pub end_reply : List ℕ → ℕ → ScanEnd → Reply
 end_reply lines count ScanEnd.Done =
     record { text = lines ++ (codes "tokens " ++ (decimal count ++ newline)); status = 0 }
@@ -67,8 +67,8 @@ ScanReplies form bytes reply = reply ≡ scan_reply form bytes
 
 -- ---- the law
 
--- The reply tells the tokens by a table that tells all matches of some expressions: each is the longest match from where
--- the one before it ended, and of the expressions that match so far it is of the lowest.
+-- The reply tells the tokens by a table that tells all matches of some expressions: each is the longest match from
+-- where the one before it ended, and of the expressions that match so far it is of the lowest.
 pub record TellsMatches (plan : Plan) (es : List Expression) (text : List ℕ) (reply : Reply) : Type 0 where
   pub table : Table
   pub serves : ServesAll table (all_build plan es)

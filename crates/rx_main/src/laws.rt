@@ -22,8 +22,8 @@ pub fn search_finds()
     ensures { SearchFinds }
 {}
 
-/// Over an image that `image all` wrote, `scan` tells the tokens of the text behind it by the script's expressions: each
-/// is the longest match from where the one before it ended, and of the lowest pattern that matches so far.
+/// Over an image that `image all` wrote, `scan` tells the tokens of the text behind it by the script's expressions:
+/// each is the longest match from where the one before it ended, and of the lowest pattern that matches so far.
 pub fn scan_tells_matches()
     ensures { ScanTellsMatches }
 {}

@@ -33,8 +33,8 @@ IsDense p table es l = dense_pairs.IsOf (in_direction (direction_of table) (sett
 abbrev pub IsSparse : Plan → PlanTable → List Expression → Stored → Type 0
 IsSparse p table es t = sparse_pairs.IsOf (in_direction (direction_of table) (settings_for p table)) es t
 
--- Bytes are an image of such a table: they are its text, and whoever reads them has the table, all of them read and none
--- of what comes behind.
+-- Bytes are an image of such a table: they are its text, and whoever reads them has the table, all of them read and
+-- none of what comes behind.
 pub record IsDenseImage (p : Plan) (table : PlanTable) (es : List Expression) (order : Order) (bytes : List ℕ)
     : Type 0 where
   pub layout : Layout

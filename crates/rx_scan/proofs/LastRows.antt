@@ -1,5 +1,6 @@
 -- How far a walk from a place has come, which row it met last, and what each turn adds.
-use Rattle.std.proofs.Common.{◌≡◌, ◌≢◌, ℕ, suc, zero, ◌+◌, ◌-◌, ◌<◌, ◌≤◌, ◌==◌, true, false, Option, Some, None, Ok, Err}
+use Rattle.std.proofs.Common.{◌≡◌, ◌≢◌, ℕ, suc, zero, ◌+◌, ◌-◌, ◌<◌, ◌≤◌, ◌==◌, true, false, Option, Some, None, Ok}
+use Rattle.std.proofs.Common.{Err}
 use Rattle.std.proofs.Common.{List, [], ◌∷◌, length, slice_index, refl, ap, ap₂, sym, ◌∙◌, subst, arith, ⊎_elim}
 use Rattle.std.proofs.lemmas.Bool.{le-ltb, cases_eq}
 use Rattle.std.proofs.lemmas.Option.{slice_get_past}
@@ -66,7 +67,8 @@ module _ (t : Table) (ids text : List ℕ) (p : ℕ) where
   walk_refused error more refused =
       let q = query_at text p in
       let goes : is_done q ≡ false = le-ltb (length text) p (omega arith) in
-      ap (longest_of p) (overlapping_refused t.machine t.settings Direction.Forward q refused.refusal goes refused.refused)
+      ap (longest_of p) (overlapping_refused t.machine t.settings Direction.Forward q refused.refusal goes
+      refused.refused)
       ∙ ap (λ (e : MatchError). Err e) (sym refused.error_is)
 
   module _ {row at : ℕ} {last : Option MetRow} (w : Walked row at last) where
@@ -85,7 +87,8 @@ module _ (t : Table) (ids text : List ℕ) (p : ℕ) where
     ending_by e = w.ending ∙ ap (λ (m : OverlappingMatches). m.ending) e
 
     -- nothing more is told
-    pub walk_over : told_from row at ≡ none_left Ending.Ended → LastMet t ids p (length text) (told_at t text p) (Ok last)
+    pub walk_over : told_from row at ≡ none_left Ending.Ended → LastMet t ids p (length text) (told_at t text p)
+        (Ok last)
     walk_over e = (
       ap₂ unless_ended (ending_by e)
           (best_by e ∙ ap (λ (o : Option HalfMatch). option_or o (longest_met t ids p last)) (longest-nil p)),
@@ -97,79 +100,84 @@ module _ (t : Table) (ids text : List ℕ) (p : ℕ) where
     walk_quits byte offset e = ap (λ (x : Ending). unless_ended x (longest p (told_at t text p).items)) (ending_by e)
 
     -- a match row is met: what was met before it counts no more
-    module _ (id : ℕ) (s : Standing t (row_of ids id)) (is : is_match t (row_of ids id) ≡ true) (is_id : IsId ids id) where
-      abbrev here : Option MetRow
-      here = Some (record { row = id; offset = at })
+    module _ (id : ℕ) (s : Standing t (row_of ids id)) (is : is_match t (row_of ids id) ≡ true) (is_id : IsId ids id)
+      where
+        abbrev here : Option MetRow
+        here = Some (record { row = id; offset = at })
 
-      abbrev ks : List ℕ
-      ks = patterns_of t (row_of ids id)
+        abbrev ks : List ℕ
+        ks = patterns_of t (row_of ids id)
 
-      outdone : option_or (longest p (pattern_items (patterns_of t (row_of ids id)) at)) (longest_met t ids p last)
-          ≡ longest p (pattern_items (patterns_of t (row_of ids id)) at)
-      outdone =
-          ⊎_elim
-          (λ (same : at ≡ p). ap (λ (l : Option MetRow). option_or (longest p (pattern_items ks at)) (longest_met t ids p l))
-          (w.none_yet same) ∙ or_none (longest p (pattern_items ks at)))
-          (λ (other : at ≢ p). by_list ks (some_pattern s is) (let low = w.low in omega (arith, low, other)))
-          (cases_eq at p)
-        where
-          by_list : (js : List ℕ) → 0 < length js → p < at
-              → option_or (longest p (pattern_items js at)) (longest_met t ids p last) ≡ longest p (pattern_items js at)
-          by_list [] some h = absurd (omega (arith, some))
-          by_list (j ∷ js) some h =
-              let e = (longest_row p at j js h).1 in
-              ap (λ (o : Option HalfMatch). option_or o (longest_met t ids p last)) e ∙ sym e
+        outdone : option_or (longest p (pattern_items (patterns_of t (row_of ids id)) at)) (longest_met t ids p last)
+            ≡ longest p (pattern_items (patterns_of t (row_of ids id)) at)
+        outdone =
+            ⊎_elim
+            (λ (same : at ≡ p). ap
+            (λ (l : Option MetRow). option_or (longest p (pattern_items ks at)) (longest_met t ids p l))
+            (w.none_yet same) ∙ or_none (longest p (pattern_items ks at)))
+            (λ (other : at ≢ p). by_list ks (some_pattern s is) (let low = w.low in omega (arith, low, other)))
+            (cases_eq at p)
+          where
+            by_list : (js : List ℕ) → 0 < length js → p < at
+                → option_or (longest p (pattern_items js at)) (longest_met t ids p last)
+                ≡ longest p (pattern_items js at)
+            by_list [] some h = absurd (omega (arith, some))
+            by_list (j ∷ js) some h =
+                let e = (longest_row p at j js h).1 in
+                ap (λ (o : Option HalfMatch). option_or o (longest_met t ids p last)) e ∙ sym e
 
-      met_here : IsMet t ids p (length text) (record { row = id; offset = at })
-      met_here = record { is_id = is_id; is_match = is; from = w.low; upto = w.high }
+        met_here : IsMet t ids p (length text) (record { row = id; offset = at })
+        met_here = record { is_id = is_id; is_match = is; from = w.low; upto = w.high }
 
-      best_behind : (later : OverlappingMatches) → told_from row at ≡ with_items (pattern_items ks at) later
-          → AllPast at later.items
-          → longest p (told_at t text p).items ≡ option_or (longest p later.items) (longest_met t ids p here)
-      best_behind later e past =
-          best_by e
-          ∙ ap (λ (o : Option HalfMatch). option_or o (longest_met t ids p last)) (longest_append p at ks later.items past)
-          ∙ or_assoc (longest p later.items) (longest p (pattern_items ks at)) (longest_met t ids p last)
-          ∙ ap (option_or (longest p later.items)) outdone
+        best_behind : (later : OverlappingMatches) → told_from row at ≡ with_items (pattern_items ks at) later
+            → AllPast at later.items
+            → longest p (told_at t text p).items ≡ option_or (longest p later.items) (longest_met t ids p here)
+        best_behind later e past =
+            best_by e
+            ∙ ap (λ (o : Option HalfMatch). option_or o (longest_met t ids p last))
+            (longest_append p at ks later.items past)
+            ∙ or_assoc (longest p later.items) (longest p (pattern_items ks at)) (longest_met t ids p last)
+            ∙ ap (option_or (longest p later.items)) outdone
 
-      open_query : Open (query_at text p)
-      open_query = let low = w.low in let high = w.high in record { order = omega arith; fits = omega arith }
+        open_query : Open (query_at text p)
+        open_query = let low = w.low in let high = w.high in record { order = omega arith; fits = omega arith }
 
-      pub met_on : Step t Direction.Forward (query_at text p) row at (row_of ids id)
-          → Walked (row_of ids id) (at + 1) (Some (record { row = id; offset = at }))
-      met_on step =
-          let q = query_at text p in
-          let low = w.low in
-          let more = step.more in
-          let high = w.high in
-          let later = told_from (row_of ids id) (at + 1) in
-          let told : told_from row at ≡ with_items (pattern_items ks at) later
-          = walk_met t Direction.Forward q row at s is (step_match step is)
-          ∙ ap (with_items (pattern_items ks at)) (goes_on_at s is Direction.Forward q at open_query in_span more) in
-          record {
-            low = omega arith;
-            high = omega (arith, high, more);
-            best = best_behind later told (walk_past t.machine (row_of ids id) (at + 1) at _ (omega arith));
-            ending = ending_by told;
-            met = met_here;
-            none_yet = λ e. absurd (omega arith);
-          }
+        pub met_on : Step t Direction.Forward (query_at text p) row at (row_of ids id)
+            → Walked (row_of ids id) (at + 1) (Some (record { row = id; offset = at }))
+        met_on step =
+            let q = query_at text p in
+            let low = w.low in
+            let more = step.more in
+            let high = w.high in
+            let later = told_from (row_of ids id) (at + 1) in
+            let told : told_from row at ≡ with_items (pattern_items ks at) later
+            = walk_met t Direction.Forward q row at s is (step_match step is)
+            ∙ ap (with_items (pattern_items ks at)) (goes_on_at s is Direction.Forward q at open_query in_span more) in
+            record {
+              low = omega arith;
+              high = omega (arith, high, more);
+              best = best_behind later told (walk_past t.machine (row_of ids id) (at + 1) at _ (omega arith));
+              ending = ending_by told;
+              met = met_here;
+              none_yet = λ e. absurd (omega arith);
+            }
 
-      pub met_last : at ≡ length text → {unit : ℕ} → LastStep t Direction.Forward (query_at text p) row unit (row_of ids id)
-          → LastMet t ids p (length text) (told_at t text p) (Ok (Some (record { row = id; offset = at })))
-      met_last over step =
-          let q = query_at text p in
-          let none = none_left Ending.Ended in
-          let stop = subst (λ (o : ℕ). next_stop t.machine Direction.Forward row o (units_left Direction.Forward q o)
-          ≡ Stop.Match (row_of ids id) o (units_after Direction.Forward q o)) (sym over) (last_match step is) in
-          let told : told_from row at ≡ with_items (pattern_items ks at) none
-          = walk_met t Direction.Forward q row at s is stop
-          ∙ ap (with_items (pattern_items ks at)) (over_at s is Direction.Forward q at open_query in_span over) in (
-            ap₂ unless_ended (ending_by told)
-                (best_behind none told tt
-                ∙ ap (λ (o : Option HalfMatch). option_or o (longest_met t ids p here)) (longest-nil p)),
-            met_here,
-          )
+        pub met_last : at ≡ length text → {unit : ℕ} → LastStep t Direction.Forward (query_at text p) row unit
+            (row_of ids id)
+            → LastMet t ids p (length text) (told_at t text p) (Ok (Some (record { row = id; offset = at })))
+        met_last over step =
+            let q = query_at text p in
+            let none = none_left Ending.Ended in
+            let stop = subst (λ (o : ℕ). next_stop t.machine Direction.Forward row o (units_left Direction.Forward q o)
+            ≡ Stop.Match (row_of ids id) o (units_after Direction.Forward q o)) (sym over) (last_match step is) in
+            let told : told_from row at ≡ with_items (pattern_items ks at) none
+            = walk_met t Direction.Forward q row at s is stop
+            ∙ ap (with_items (pattern_items ks at)) (over_at s is Direction.Forward q at open_query in_span over) in (
+              ap₂ unless_ended (ending_by told)
+                  (best_behind none told tt
+                  ∙ ap (λ (o : Option HalfMatch). option_or o (longest_met t ids p here)) (longest-nil p)),
+              met_here,
+            )
 
     -- a quiet row
     pub quiet_on : {next : ℕ} → Step t Direction.Forward (query_at text p) row at next → IsQuiet t next

@@ -1,5 +1,6 @@
 -- Lines: bytes that are no line feed change nothing.
-use Rattle.std.proofs.Common.{◌≡◌, ℕ, zero, suc, ◌+◌, ◌-◌, ◌<◌, ◌≤◌, Bool, true, false, if◌then◌else◌, Option, Some, None}
+use Rattle.std.proofs.Common.{◌≡◌, ℕ, zero, suc, ◌+◌, ◌-◌, ◌<◌, ◌≤◌, Bool, true, false, if◌then◌else◌, Option, Some}
+use Rattle.std.proofs.Common.{None}
 use Rattle.std.proofs.Common.{List, length, take, drop, refl, ap, sym, ◌∙◌, arith, length-drop, length-take-le}
 use Rattle.std.proofs.lemmas.Bool.{false_from_ne_true}
 use Rattle.std.proofs.lemmas.List.{get_or-take, get_or-drop}
@@ -91,7 +92,8 @@ module _ (text : List ℕ) where
     -- none is there
     module _ (none : IsFirstByte (is 10) (take (to - at) (drop at text)) None) where
       plain : (k : ℕ) → k < to - at → is_feed (at + k) ≡ false
-      plain = none_before (to - at) (omega arith) (λ k h. none k (omega arith) (let n = part_length in omega (arith, n, h)))
+      plain = none_before (to - at) (omega arith)
+          (λ k h. none k (omega arith) (let n = part_length in omega (arith, n, h)))
 
       there : at + (to - at) ≡ to
       there = omega (arith, ordered)

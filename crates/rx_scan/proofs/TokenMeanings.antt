@@ -48,7 +48,8 @@ module _ {t : Table} {plan : Plan} {es : List Expression} {text : List ℕ} {p :
       = λ k end matches past.
       let one = some_longest p found.items (record { pattern = k; offset = end })
       ((all_are_told t plan es text p is told.0 k end).1 matches) past in
-      subst (λ (x : HalfMatch). NotAfter x (record { pattern = k; offset = end })) (some_same one.0 (sym one.1 ∙ told.1))
+      subst (λ (x : HalfMatch). NotAfter x (record { pattern = k; offset = end }))
+      (some_same one.0 (sym one.1 ∙ told.1))
       one.2 in
       record {
         above = above;

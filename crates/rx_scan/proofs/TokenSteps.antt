@@ -1,5 +1,6 @@
 -- The tokens from a place on: the first of them, and those behind it.
-use Rattle.std.proofs.Common.{◌≡◌, ℕ, zero, suc, ◌+◌, ◌-◌, ◌<◌, ◌≤◌, Bool, true, false, if◌then◌else◌, Option, Some, None}
+use Rattle.std.proofs.Common.{◌≡◌, ℕ, zero, suc, ◌+◌, ◌-◌, ◌<◌, ◌≤◌, Bool, true, false, if◌then◌else◌, Option, Some}
+use Rattle.std.proofs.Common.{None}
 use Rattle.std.proofs.Common.{Ok, Err, List, ◌∷◌, length, refl, ap, sym, ◌∙◌, subst, arith}
 use Rattle.std.proofs.lemmas.Bool.{ltb-true, ltb-false, lt-ltb, le-ltb}
 use Rattle.std.specs.Prelude.{nat_lt, is_some}
@@ -181,7 +182,8 @@ module _ (t : Table) (text : List ℕ) (p : ℕ) (end : Option ScanEnd) (goes : 
   token_now m more bytes found =
       let behind = tokens_left t text m.offset in
       let first : tokens_left t text p ≡ record { tokens = token_at text p m ∷ behind.tokens; end = behind.end }
-      = tokens_again t text p more ∙ ap (λ (a : HalfAnswer). then_tokens text p a (λ next. tokens_left t text next)) found in
+      = tokens_again t text p more ∙ ap (λ (a : HalfAnswer). then_tokens text p a (λ next. tokens_left t text next))
+      found in
       let at : scan_of t text p end
       ≡ scanned (record { tokens = token_at text p m ∷ behind.tokens; end = behind.end }) false
       = open_scan ∙ ap (λ (left : Tokens). scanned left false) first in

@@ -11,7 +11,8 @@ use Rattle.rx_spec.specs.Tables.{Table}
 use Rattle.rx_lemmas.proofs.Firsts.{by_test}
 use Rattle.rx_all.specs.Builds.{all_build}
 use Rattle.rx_all.specs.Matches.{ServesAll, told_at}
-use Rattle.rx_scan.specs.Tokens.{IsLongestToken, Tokens, TokensAreLongest, longest_of, then_tokens, token_at, tokens_from}
+use Rattle.rx_scan.specs.Tokens.{IsLongestToken, Tokens, TokensAreLongest, longest_of, then_tokens, token_at}
+use Rattle.rx_scan.specs.Tokens.{tokens_from}
 use Rattle.rx_scan.specs.declared.token.Token.{Token}
 use Rattle.rx_scan.proofs.TokenMeanings.{longest_is_match}
 use Rattle.rx_scan.proofs.TokenSteps.{no_bytes, turn}

@@ -9,8 +9,8 @@ use Rattle.rx_scan.specs.Tokens.{tokens}
 use Rattle.rx_scan.specs.declared.token.ScanEnd.{ScanEnd}
 use Rattle.rx_scan.specs.declared.token.Token.{Token}
 
--- Row 2 is the start, rows 3, 4, 5 and 9 have read one `a`, two, three and more, and row 6 a line feed. A row tells what
--- matched before its last byte, so from these every other byte leads to a row that tells it: 7, 8 or 10.
+-- Row 2 is the start, rows 3, 4, 5 and 9 have read one `a`, two, three and more, and row 6 a line feed. A row tells
+-- what matched before its last byte, so from these every other byte leads to a row that tells it: 7, 8 or 10.
 abbrev pub next_of : ℕ → ℕ → ℕ
 next_of row unit =
     if row == 2 then (if unit == 97 then 3 else (if unit == 10 then 6 else (if unit == 122 then 1 else 0)))
@@ -54,8 +54,8 @@ abbrev pub token : ℕ → ℕ → ℕ → ℕ → ℕ → Token
 token pattern start end line column =
     record { pattern = pattern; span = record { start = start; end = end }; line = line; column = column }
 
--- The longest match is the token, whatever ends before it. Of two that are as long the lower pattern has it, and a token
--- after a line feed stands in the next line.
+-- The longest match is the token, whatever ends before it. Of two that are as long the lower pattern has it, and a
+-- token after a line feed stands in the next line.
 abbrev pub LongestThenLowest : Type 0
 LongestThenLowest =
     tokens letters (codes "aaa" ++ (10 ∷ codes "aa"))

@@ -1,7 +1,8 @@
 -- Tokens: a text is cut at the longest match that begins where the last one ended, and of the patterns that match so
 -- far the lowest has it.
 use Rattle.std.specs.Prelude.{ℕ, zero, suc, ◌≡◌, ◌<◌, ◌≤◌, ◌+◌, ◌-◌, Bool, true, false, ◌==◌, ◌&&◌, ◌||◌, nat_lt}
-use Rattle.std.specs.Prelude.{if◌then◌else◌, Option, Some, None, MatchOption, IfSome, Ok, Err, List, [], ◌∷◌, length, All, ◌↔◌}
+use Rattle.std.specs.Prelude.{if◌then◌else◌, Option, Some, None, MatchOption, IfSome, Ok, Err, List, [], ◌∷◌, length}
+use Rattle.std.specs.Prelude.{All, ◌↔◌}
 use Rattle.std.specs.Iterator.{YieldsFirst}
 use Rattle.rx_spec.specs.Bytes.{AreBytes}
 use Rattle.rx_spec.specs.Looks.{after, is_byte}

@@ -4,8 +4,8 @@
 //! TIMES times. Standard output says how many tokens there are, the sum of their patterns and of their lines, and where
 //! they end; standard error the least time in microseconds.
 //!
-//! Where nothing is measured, standard error says why, and the status is 2 for words that are wrong, and 1 where memory,
-//! the clock, a file or an output failed.
+//! Where nothing is measured, standard error says why, and the status is 2 for words that are wrong, and 1 where
+//! memory, the clock, a file or an output failed.
 #![tactic(auto)]
 
 use rx_dense::DFA;

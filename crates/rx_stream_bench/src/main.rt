@@ -1,12 +1,12 @@
-//! Times a searcher that is fed in pieces beside a forward search: `rx_stream_bench FORM IMAGE TEXT TIMES`, where FORM is
-//! `dense` or `sparse`.
+//! Times a searcher that is fed in pieces beside a forward search: `rx_stream_bench FORM IMAGE TEXT TIMES`, where
+//! FORM is `dense` or `sparse`.
 //!
-//! IMAGE is the file of an image of that form, as `image all` writes it, and TEXT a file in which nothing matches. The
-//! text is searched whole, and fed in pieces of 4096 and of 65,536 bytes, each TIMES times. Standard output says what each
-//! way answers, standard error its least time in microseconds.
+//! IMAGE is the file of an image of that form, as `image all` writes it, and TEXT a file in which nothing matches.
+//! The text is searched whole, and fed in pieces of 4096 and of 65,536 bytes, each TIMES times. Standard output says
+//! what each way answers, standard error its least time in microseconds.
 //!
-//! Where nothing is measured, standard error says why, and the status is 2 for words that are wrong, and 1 where memory,
-//! the clock, a file, an image, a search or an output failed.
+//! Where nothing is measured, standard error says why, and the status is 2 for words that are wrong, and 1 where
+//! memory, the clock, a file, an image, a search or an output failed.
 #![tactic(auto)]
 
 ghost use Rattle.std.specs.Prelude.{◌≤◌, ◌^◌, length};

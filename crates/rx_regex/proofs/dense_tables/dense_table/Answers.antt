@@ -16,12 +16,14 @@ read_back-requires c =
 
 pub returns-in-Direct-clause-fits : goal.returns-in-Direct-clause-fits
 returns-in-Direct-clause-fits c =
-    table_fits (plan_of c.args.plan.now) c.args.exprs.now c.requires c.args.which c.table_builder.ensures c.direction.ensures
+    table_fits (plan_of c.args.plan.now) c.args.exprs.now c.requires c.args.which c.table_builder.ensures
+    c.direction.ensures
     c.in_ok-table.ensures.fits
 
 pub returns-in_ok-read_back-in-Bytes-clause-fits : goal.returns-in_ok-read_back-in-Bytes-clause-fits
 returns-in_ok-read_back-in-Bytes-clause-fits c =
-    table_fits (plan_of c.args.plan.now) c.args.exprs.now c.requires c.args.which c.table_builder.ensures c.direction.ensures
+    table_fits (plan_of c.args.plan.now) c.args.exprs.now c.requires c.args.which c.table_builder.ensures
+    c.direction.ensures
     c.in_ok-table.ensures.fits
 
 pub returns-in_err-table-clause-err : goal.returns-in_err-table-clause-err

@@ -44,11 +44,13 @@ read_pair_back-requires-clause-patterns c =
 
 pub read_pair_back-requires-clause-forward_little : goal.read_pair_back-requires-clause-forward_little
 read_pair_back-requires-clause-forward_little c =
-    is_little (plan_of c.args.plan.now) PlanTable.Forward c.args.exprs.now c.in_ok-forward.forward c.in_ok-forward.ensures.ok
+    is_little (plan_of c.args.plan.now) PlanTable.Forward c.args.exprs.now c.in_ok-forward.forward
+    c.in_ok-forward.ensures.ok
 
 pub read_pair_back-requires-clause-reverse_little : goal.read_pair_back-requires-clause-reverse_little
 read_pair_back-requires-clause-reverse_little c =
-    is_little (plan_of c.args.plan.now) PlanTable.Reverse c.args.exprs.now c.in_ok-reverse.reverse c.in_ok-reverse.ensures.ok
+    is_little (plan_of c.args.plan.now) PlanTable.Reverse c.args.exprs.now c.in_ok-reverse.reverse
+    c.in_ok-reverse.ensures.ok
 
 pub returns-in-Direct-clause-ok : goal.returns-in-Direct-clause-ok
 returns-in-Direct-clause-ok c =

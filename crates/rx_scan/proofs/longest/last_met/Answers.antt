@@ -17,7 +17,8 @@ bytes-init g c =
     let t = a.table c.args.table.now in
     let ids = a.ids c.args.table.now in
     let asked : query_of c.anchored-input.result ≡ query_at c.args.text.now c.args.from = search rules in
-    let starts = subst (λ (q : Query). IsStart t Direction.Forward q (row_of ids c.in-Ok.row)) asked c.in-Ok.ensures.1 in
+    let starts = subst (λ (q : Query). IsStart t Direction.Forward q (row_of ids c.in-Ok.row)) asked
+    c.in-Ok.ensures.1 in
     record {
       is_id = c.in-Ok.ensures.0;
       walked = walk_begins t ids c.args.text.now c.args.from (row_of ids c.in-Ok.row) c.requires.more starts;
@@ -42,7 +43,8 @@ bytes-preserved-then-not-is_special_state g c =
     let standing = held_row held next c.next_state-row.ensures.is_id in
     let turn : Turn t (row_of ids c.bytes.row) (slice_index text c.bytes.at) (row_of ids next)
     = record { leads = c.next_state-row.ensures.row; standing = standing } in
-    let step : Step t Direction.Forward (query_at text c.args.from) (row_of ids c.bytes.row) c.bytes.at (row_of ids next)
+    let step : Step t Direction.Forward (query_at text c.args.from) (row_of ids c.bytes.row) c.bytes.at
+    (row_of ids next)
     = record { place = place t ids text c.args.from w; more = c.bytes-test.true; turn = turn } in
     record {
       is_id = c.next_state-row.ensures.is_id;
@@ -64,7 +66,8 @@ bytes-preserved-then-is_match_state g c =
     let standing = held_row held next is_id in
     let turn : Turn t (row_of ids c.bytes.row) (slice_index text c.bytes.at) (row_of ids next)
     = record { leads = c.next_state-row.ensures.row; standing = standing } in
-    let step : Step t Direction.Forward (query_at text c.args.from) (row_of ids c.bytes.row) c.bytes.at (row_of ids next)
+    let step : Step t Direction.Forward (query_at text c.args.from) (row_of ids c.bytes.row) c.bytes.at
+    (row_of ids next)
     = record { place = place t ids text c.args.from w; more = c.bytes-test.true; turn = turn } in
     let bytes = bytes_of text text refl (λ k. omega (arith, c.type_inv.text k)) in
     let is = sym c.is_match_state.ensures ∙ c.if-is_match_state.true in
@@ -87,7 +90,8 @@ returns-then-is_quit_state g c =
     let standing = held_row held next c.next_state-row.ensures.is_id in
     let turn : Turn t (row_of ids c.bytes.row) (slice_index text c.bytes.at) (row_of ids next)
     = record { leads = c.next_state-row.ensures.row; standing = standing } in
-    let step : Step t Direction.Forward (query_at text c.args.from) (row_of ids c.bytes.row) c.bytes.at (row_of ids next)
+    let step : Step t Direction.Forward (query_at text c.args.from) (row_of ids c.bytes.row) c.bytes.at
+    (row_of ids next)
     = record { place = place t ids text c.args.from w; more = c.bytes-test.true; turn = turn } in
     quits_there t ids text c.args.from w step (sym c.is_quit_state.ensures ∙ c.if-is_quit_state.true)
     ∙ ap (λ (e : MatchError). Err e) (sym c.quit.ensures)
@@ -105,7 +109,8 @@ returns-then-is_dead_state g c =
     let standing = held_row held next c.next_state-row.ensures.is_id in
     let turn : Turn t (row_of ids c.bytes.row) (slice_index text c.bytes.at) (row_of ids next)
     = record { leads = c.next_state-row.ensures.row; standing = standing } in
-    let step : Step t Direction.Forward (query_at text c.args.from) (row_of ids c.bytes.row) c.bytes.at (row_of ids next)
+    let step : Step t Direction.Forward (query_at text c.args.from) (row_of ids c.bytes.row) c.bytes.at
+    (row_of ids next)
     = record { place = place t ids text c.args.from w; more = c.bytes-test.true; turn = turn } in
     ends_there t ids text c.args.from w step (sym c.is_match_state.ensures ∙ c.if-is_match_state.false)
     (sym c.is_quit_state.ensures ∙ c.if-is_quit_state.false) (sym c.is_dead_state.ensures ∙ c.if-is_dead_state.true)
@@ -123,7 +128,8 @@ bytes-preserved g c =
     let standing = held_row held next c.next_state-row.ensures.is_id in
     let turn : Turn t (row_of ids c.bytes.row) (slice_index text c.bytes.at) (row_of ids next)
     = record { leads = c.next_state-row.ensures.row; standing = standing } in
-    let step : Step t Direction.Forward (query_at text c.args.from) (row_of ids c.bytes.row) c.bytes.at (row_of ids next)
+    let step : Step t Direction.Forward (query_at text c.args.from) (row_of ids c.bytes.row) c.bytes.at
+    (row_of ids next)
     = record { place = place t ids text c.args.from w; more = c.bytes-test.true; turn = turn } in
     let bytes = bytes_of text text refl (λ k. omega (arith, c.type_inv.text k)) in
     let no_match = sym c.is_match_state.ensures ∙ c.if-is_match_state.false in

@@ -16,7 +16,8 @@ returns-then-met-from-clause-value g c =
     let ks = patterns_of (g.A.Automaton.table c.args.table.now)
     (row_of (g.A.Automaton.ids c.args.table.now) c.in-Ok-Some.met.row) in
     let says = rw c.in-Ok-Some.field-0-is at c.in-Ok-Some.ensures in
-    let none = ap (λ (o : ℕ). longest c.args.from (pattern_items ks o)) c.if-met-from.true ∙ longest_here c.args.from ks in
+    let none = ap (λ (o : ℕ). longest c.args.from (pattern_items ks o)) c.if-met-from.true ∙ longest_here c.args.from
+    ks in
     sym (says.0 ∙ ap told none)
 
 pub returns-else-met-from-clause-value : goal.returns-else-met-from-clause-value
