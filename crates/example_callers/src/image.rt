@@ -20,14 +20,14 @@ pub fn first(tables: &Tables<'_>, text: &[u8]) -> Result<Option<Match>, MatchErr
     }
 }
 
-/// The first match of a text. A search that fails counts as none.
+/// What the search of a text answers, unless the image is refused.
 pub fn first_by_image(
     alloc: Global,
     image: &[u8],
     text: &[u8],
-) -> Result<Option<Match>, DeserializeError> {
+) -> Result<Result<Option<Match>, MatchError>, DeserializeError> {
     match read_pair(alloc, image) {
-        Ok((tables, _len)) => Ok(first(&tables, text).unwrap_or(None)),
+        Ok((tables, _len)) => Ok(first(&tables, text)),
         Err(error) => Err(error),
     }
 }

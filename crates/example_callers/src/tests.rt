@@ -83,7 +83,7 @@ fn pairs_find_matches(rt: HostRuntime) -> Result<(), Fail> {
     let found = found.map(|found| (found.start(), found.end()));
     assert!(&rt; found == Some((8, 11)));
     let saved = regex::build_image(alloc, &patterns)?;
-    let found = image::first_by_image(alloc, &saved, text)?;
+    let found = image::first_by_image(alloc, &saved, text)??;
     let found = found.map(|found| (found.start(), found.end()));
     assert!(&rt; found == Some((0, 1)));
     let pair = Regex::<OwnedDFA>::new_many(alloc, &patterns)?;
