@@ -5,7 +5,7 @@
 //! the text goes through a buffer of 64 bytes, and a match may begin in one piece and end in another.
 //!
 //! Each match is a line: its pattern and the offset of its end. The status is 1 if nothing matches, 2 if the image is
-//! refused, and 3 if memory, the input or the output failed.
+//! refused, a quit byte was met or the text has more than 2^40 bytes, and 3 if the input or the output failed.
 #![tactic(auto)]
 
 ghost use Rattle.std.specs.Prelude.{◌+◌, ◌≤◌, ◌^◌, length};

@@ -5,8 +5,8 @@
 //! `data/lexer.image`. The program has no expression at hand: it reads the image, and one loop is the lexer.
 //!
 //! Each token is a line: its line and column, its kind and its text. Spaces and comments aren't told. The status is 1
-//! if no rule matches at some place, 2 for words that are wrong or a file that is no such image, and 3 if memory, an
-//! input or an output failed.
+//! if no rule matches at some place; 2 for wrong words, a file that is no such image, or a table that gave up, and 3 if
+//! memory, an input or an output failed.
 #![tactic(auto)]
 
 ghost use Rattle.rx_sparse.specs.Facts.{IsSoundLayout};
@@ -14,9 +14,11 @@ ghost use Rattle.rx_sparse.specs.Facts.{IsSoundLayout};
 use rx_scan::{ScanEnd, Scanner, Token};
 use rx_sparse::DFA;
 use rx_sparse_image::SparseRead;
+use rx_wire::DeserializeError;
 use std::io::{self, BufWriter, Read, Write};
 use std::process::ExitCode;
 use std::{env, fs};
+use thiserror::Error;
 
 /// The kinds of tokens, a name for each rule.
 const KINDS: [&str; 8] = [
@@ -27,20 +29,23 @@ const KINDS: [&str; 8] = [
 const SILENT: usize = 2;
 
 /// Why the tokens of a file aren't all told.
-#[derive(Debug, Drop)]
+#[derive(Debug, Drop, Error)]
 enum Fault {
+    /// The words are wrong.
+    #[error("usage: example_lexer IMAGE < SOURCE")]
+    Usage,
+    /// The file isn't the image of a sparse table.
+    #[error("{0}")]
+    Image(#[from] DeserializeError),
     /// No rule matches at this place of the source.
+    #[error("no rule matches at byte {0}")]
     Stuck(usize),
-    /// The words are wrong, or the file isn't the image of a table.
-    Image,
+    /// The table gave up at a quit byte, or has no anchored starts.
+    #[error("the table can't scan this source")]
+    GaveUp,
     /// Memory ran out, or an input or an output failed.
-    Io(io::Error),
-}
-
-impl From<io::Error> for Fault {
-    fn from(error: io::Error) -> Fault {
-        Fault::Io(error)
-    }
+    #[error("{0}")]
+    Io(#[from] io::Error),
 }
 
 /// Writes the line of a token.
@@ -66,23 +71,21 @@ fn tell_tokens<W: Write>(out: &mut W, table: &DFA<&[u8]>, source: &[u8]) -> Resu
     }
     match scanner.end() {
         Some(ScanEnd::Stuck { offset }) => Err(Fault::Stuck(offset)),
-        Some(ScanEnd::Quit { .. }) | Some(ScanEnd::Unsupported) => Err(Fault::Image),
+        Some(ScanEnd::Quit { .. }) | Some(ScanEnd::Unsupported) => Err(Fault::GaveUp),
         Some(ScanEnd::Done) | None => Ok(()),
     }
 }
 
 /// Reads the image and the source, and writes the tokens.
 fn run(rt: &HostRuntime) -> Result<(), Fault> {
-    let Some(path) = env::args(rt)?.nth(1) else {
-        return Err(Fault::Image);
-    };
+    let path = env::args(rt)?.nth(1).ok_or(Fault::Usage)?;
     let image = fs::read(rt, path.as_str())?;
     let mut source = Vec::new(rt.alloc());
     rt.reader().read_to_end(&mut source)?;
     let mut out = BufWriter::new(rt.alloc(), io::writer(rt))?;
     match DFA::<&[u8]>::from_bytes(rt.alloc(), &image) {
         Ok((table, _)) => tell_tokens(&mut out, &table, &source)?,
-        Err(_) => return Err(Fault::Image),
+        Err(error) => return Err(Fault::Image(error)),
     }
     out.flush()?;
     Ok(())
@@ -91,19 +94,13 @@ fn run(rt: &HostRuntime) -> Result<(), Fault> {
 fn main(rt: HostRuntime) -> ExitCode {
     match run(&rt) {
         Ok(()) => ExitCode::SUCCESS,
-        Err(Fault::Stuck(offset)) => {
-            let _ = eprintln!(rt; "no rule matches at byte {offset}");
-            ExitCode::FAILURE
-        }
-        Err(Fault::Image) => {
-            let _ = eprintln!(rt;
-                "usage: example_lexer IMAGE < SOURCE, with the image of a sparse table"
-            );
-            ExitCode::from(2)
-        }
-        Err(Fault::Io(error)) => {
-            let _ = eprintln!(rt; "{error}");
-            ExitCode::from(3)
+        Err(fault) => {
+            let _ = eprintln!(rt; "{fault}");
+            match fault {
+                Fault::Stuck(_) => ExitCode::FAILURE,
+                Fault::Io(_) => ExitCode::from(3),
+                _ => ExitCode::from(2),
+            }
         }
     }
 }

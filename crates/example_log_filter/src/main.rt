@@ -1,39 +1,41 @@
-//! A log filter: copies the lines of standard input in which a match begins to standard output. Matches are sought one
-//! after another, each behind the last one.
+//! A log filter: copies the lines of standard input in which a match begins. Each match is sought behind the last one.
 //!
 //! `example_log_filter IMAGE`: the filter is in `data/upgrades.script`. Its two tables were built once, by `image pair
 //! le`, as the image `data/upgrades.pair`. The text is searched whole and not line by line, so the lines between two
 //! matches cost the walk over them and nothing else.
 //!
-//! The status is 0 if a line was copied and 1 if none was, as `grep` has it; 2 for words that are wrong or a file that
-//! is no such image, and 3 if memory, an input or an output failed.
+//! The status is 0 if a line was copied and 1 if none was, as `grep` has it; 2 for wrong words, a file that is no such
+//! image, or a search that gave up, and 3 if memory, an input or an output failed.
 #![tactic(auto)]
 
 ghost use Rattle.std.specs.Prelude.{◌≤◌, length};
 ghost use Rattle.rx_image.specs.Tables.{AreSound};
 
 use memchr::{memchr, memrchr};
-use rx_base::{Input, Span};
+use rx_base::{Input, MatchError, Span};
 use rx_image::{Tables, read_pair};
 use rx_pair::Regex;
 use rx_search::Automaton;
 use std::io::{self, BufWriter, Read, Write};
 use std::process::ExitCode;
 use std::{env, fs};
+use thiserror::Error;
 
 /// Why a text isn't filtered.
-#[derive(Debug, Drop)]
+#[derive(Debug, Drop, Error)]
 enum Fault {
-    /// The words are wrong, or the file isn't the image of a pair.
+    /// The words are wrong.
+    #[error("usage: example_log_filter IMAGE < TEXT")]
+    Usage,
+    /// The file isn't the image of a pair.
+    #[error("the file is no image of a pair of tables")]
     Image,
+    /// A search met a quit byte, or the tables don't belong together.
+    #[error("{0}")]
+    Search(#[from] MatchError),
     /// Memory ran out, or an input or an output failed.
-    Io(io::Error),
-}
-
-impl From<io::Error> for Fault {
-    fn from(error: io::Error) -> Fault {
-        Fault::Io(error)
-    }
+    #[error("{0}")]
+    Io(#[from] io::Error),
 }
 
 /// The line around a place, with the byte that ends it if there is one.
@@ -64,7 +66,7 @@ fn copy_lines<A: Automaton, W: Write>(
     let mut copied: u64 = 0;
     let mut end = 0;
     for found in regex.find_iter(&Input::new(text)) {
-        let found = found.map_err(|_| Fault::Image)?;
+        let found = found?;
         if found.start() < end {
             continue;
         }
@@ -88,15 +90,13 @@ fn filter<W: Write>(out: &mut W, tables: &Tables<'_>, text: &[u8]) -> Result<u64
 
 /// Reads the image and the text, and copies lines.
 fn run(rt: &HostRuntime) -> Result<u64, Fault> {
-    let path = env::args(rt)?.nth(1).ok_or(Fault::Image)?;
+    let path = env::args(rt)?.nth(1).ok_or(Fault::Usage)?;
     let image = fs::read(rt, path.as_str())?;
     let mut text = Vec::new(rt.alloc());
     rt.reader().read_to_end(&mut text)?;
     let mut out = BufWriter::new(rt.alloc(), io::writer(rt))?;
-    let copied = match read_pair(rt.alloc(), &image) {
-        Ok((tables, _)) => filter(&mut out, &tables, &text)?,
-        Err(_) => return Err(Fault::Image),
-    };
+    let (tables, _) = read_pair(rt.alloc(), &image).map_err(|_| Fault::Image)?;
+    let copied = filter(&mut out, &tables, &text)?;
     out.flush()?;
     Ok(copied)
 }
@@ -105,15 +105,12 @@ fn main(rt: HostRuntime) -> ExitCode {
     match run(&rt) {
         Ok(0) => ExitCode::FAILURE,
         Ok(_) => ExitCode::SUCCESS,
-        Err(Fault::Image) => {
-            let _ = eprintln!(rt;
-                "usage: example_log_filter IMAGE < TEXT, with the image of a pair of tables"
-            );
-            ExitCode::from(2)
-        }
-        Err(Fault::Io(error)) => {
-            let _ = eprintln!(rt; "{error}");
-            ExitCode::from(3)
+        Err(fault) => {
+            let _ = eprintln!(rt; "{fault}");
+            match fault {
+                Fault::Io(_) => ExitCode::from(3),
+                _ => ExitCode::from(2),
+            }
         }
     }
 }

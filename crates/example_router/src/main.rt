@@ -4,37 +4,41 @@
 //! `image all le`, as the image `data/routes.image`. One walk over a path tells all routes that match, however many
 //! there are.
 //!
-//! Each path is a line: the path, and the names of its routes. The status is 2 for words that are wrong or a file that
-//! is no such image, and 3 if memory, an input or an output failed.
+//! Each path is a line: the path, and the names of its routes. The status is 2 for wrong words, a file that is no such
+//! image, or a search that gave up, and 3 if memory, an input or an output failed.
 #![tactic(auto)]
 
 ghost use Rattle.rx_dense.specs.Facts.{IsSoundLayout};
 
-use rx_base::{Anchored, Input, PatternID, PatternSet};
+use rx_base::{Anchored, Input, MatchError, PatternID, PatternSet};
 use rx_dense::{DFA, OwnedDFA};
 use rx_dense_image::DenseRead;
 use rx_search::Automaton;
+use rx_wire::DeserializeError;
 use std::alloc::AllocError;
 use std::io::{self, BufWriter, Write};
 use std::process::ExitCode;
 use std::{env, fs};
+use thiserror::Error;
 
 /// The names of the routes, one for each pattern.
 const ROUTES: [&str; 6] = ["home", "users", "user", "posts", "post", "file"];
 
 /// Why paths aren't told their routes.
-#[derive(Debug, Drop)]
+#[derive(Debug, Drop, Error)]
 enum Fault {
-    /// The words are wrong, or the file isn't the image of a table for whole paths.
-    Image,
+    /// The words are wrong.
+    #[error("usage: example_router IMAGE < PATHS")]
+    Usage,
+    /// The file isn't the image of a dense table.
+    #[error("{0}")]
+    Image(#[from] DeserializeError),
+    /// A search met a quit byte, or the table has no anchored starts.
+    #[error("{0}")]
+    Search(#[from] MatchError),
     /// Memory ran out, or an input or an output failed.
-    Io(io::Error),
-}
-
-impl From<io::Error> for Fault {
-    fn from(error: io::Error) -> Fault {
-        Fault::Io(error)
-    }
+    #[error("{0}")]
+    Io(#[from] io::Error),
 }
 
 impl From<AllocError> for Fault {
@@ -65,12 +69,7 @@ fn route(rt: &HostRuntime, table: &OwnedDFA) -> Result<(), Fault>
         let path = path?;
         let mut matched = PatternSet::new(rt.alloc(), table.pattern_len())?;
         let input = Input::new(path.as_bytes()).anchored(Anchored::Yes);
-        if table
-            .try_which_overlapping_matches(&input, &mut matched)
-            .is_err()
-        {
-            return Err(Fault::Image);
-        }
+        table.try_which_overlapping_matches(&input, &mut matched)?;
         tell(&mut out, path.as_str(), &matched)?;
     }
     out.flush()?;
@@ -79,28 +78,21 @@ fn route(rt: &HostRuntime, table: &OwnedDFA) -> Result<(), Fault>
 
 /// Reads the image, and tells the routes of the paths that come.
 fn run(rt: &HostRuntime) -> Result<(), Fault> {
-    let Some(file) = env::args(rt)?.nth(1) else {
-        return Err(Fault::Image);
-    };
+    let file = env::args(rt)?.nth(1).ok_or(Fault::Usage)?;
     let image = fs::read(rt, file.as_str())?;
-    match DFA::<Vec<u32>>::from_bytes(rt.alloc(), &image) {
-        Ok((table, _)) => route(rt, &table),
-        Err(_) => Err(Fault::Image),
-    }
+    let (table, _) = DFA::<Vec<u32>>::from_bytes(rt.alloc(), &image)?;
+    route(rt, &table)
 }
 
 fn main(rt: HostRuntime) -> ExitCode {
     match run(&rt) {
         Ok(()) => ExitCode::SUCCESS,
-        Err(Fault::Image) => {
-            let _ = eprintln!(rt;
-                "usage: example_router IMAGE < PATHS, with the image of a dense table"
-            );
-            ExitCode::from(2)
-        }
-        Err(Fault::Io(error)) => {
-            let _ = eprintln!(rt; "{error}");
-            ExitCode::from(3)
+        Err(fault) => {
+            let _ = eprintln!(rt; "{fault}");
+            match fault {
+                Fault::Io(_) => ExitCode::from(3),
+                _ => ExitCode::from(2),
+            }
         }
     }
 }
