@@ -1,6 +1,8 @@
 -- ids, labels, starts
 pub mod Labels
 pub mod Starts
+-- bytes that aren't told apart
+pub mod Classes
 -- walks, and what they skip
 pub mod Walks
 pub mod Needles

@@ -1,6 +1,7 @@
 //! What a search asks of a table.
 
-ghost use Rattle.std.specs.Prelude.{◌≡◌, ℕ, ◌<◌, ◌≤◌, ◌==◌, List, length, slice_index, true, IfOk, IfSome, option_map};
+ghost use Rattle.std.specs.Prelude.{◌≡◌, ℕ, ◌<◌, ◌≤◌, ◌==◌, List, length, slice_index, true, IfOk, IfSome, IsTrue};
+ghost use Rattle.std.specs.Prelude.{option_map};
 ghost use Rattle.rx_spec.specs.Bytes.{eoi};
 ghost use Rattle.rx_spec.specs.Ids.{AreIds, row_of};
 ghost use Rattle.rx_spec.specs.Queries.{IsFit};
@@ -9,6 +10,7 @@ ghost use Rattle.rx_spec.specs.Tables.{Table, is_match, IsSound as IsSoundTable}
 ghost use Rattle.rx_spec.specs.declared.Direction.TheVariants.{Forward, Reverse};
 ghost use Rattle.rx_base.specs.Input.{query_of};
 ghost use Rattle.rx_base.specs.Search.{mode_of};
+ghost use Rattle.rx_search.specs.Classes.{LeadsAsPrevious};
 ghost use Rattle.rx_search.specs.Collected.{collected};
 ghost use Rattle.rx_search.specs.Labels.{is_quit, patterns_of};
 ghost use Rattle.rx_search.specs.OverlappingCalls.{Fits, next_call, IsTold};
@@ -52,6 +54,11 @@ pub trait Automaton: Drop {
         ensures is_id { IsId (ids self.now) result }
         ensures row { row_of (ids self.now) result
             ≡ (table self.now).machine.next (row_of (ids self.now) current) eoi };
+
+    /// Whether a byte leads from every row where the byte before it leads. `true` is certain; a table answers it
+    /// for bytes that it keeps in one class. `false` means nothing. Byte 0 has no byte before it.
+    fn leads_as_previous(&self, byte: u8) -> bool
+        ensures { IsTrue result → LeadsAsPrevious (table self.now) byte };
 
     /// The row in which a search starts, by the byte beside its span and its mode.
     fn start_state(&self, config: &Config) -> Result<StateID, StartError>
@@ -254,6 +261,10 @@ impl<A: Automaton> Automaton for &A {
     #[inline(always)]
     fn next_eoi_state(&self, current: StateID) -> StateID {
         (**self).next_eoi_state(current)
+    }
+
+    fn leads_as_previous(&self, byte: u8) -> bool {
+        (**self).leads_as_previous(byte)
     }
 
     fn start_state(&self, config: &Config) -> Result<StateID, StartError> {

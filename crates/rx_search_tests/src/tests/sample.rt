@@ -200,6 +200,11 @@ impl Automaton for Sample {
         self.id(self.next(self.row(current), 256))
     }
 
+    fn leads_as_previous(&self, byte: u8) -> bool {
+        let _ = (&self.told, byte);
+        false
+    }
+
     fn start_state(&self, config: &Config) -> Result<StateID, StartError> {
         if let Some(byte) = config.get_look_behind() {
             if self.quit.contains(byte) {

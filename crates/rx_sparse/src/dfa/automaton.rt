@@ -80,6 +80,11 @@ impl<T: ByteStore> Automaton for DFA<T> {
         self.state(current).next_eoi()
     }
 
+    fn leads_as_previous(&self, byte: u8) -> bool {
+        let classes = self.byte_classes();
+        byte > 0 && classes.get(byte) == classes.get(byte - 1)
+    }
+
     fn start_state(&self, config: &Config) -> Result<StateID, StartError> {
         match self.start_error(config) {
             Some(error) => Err(error),
