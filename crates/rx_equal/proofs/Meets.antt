@@ -70,7 +70,7 @@ mode_is t u zero h = tt
 mode_is t u (suc zero) h = tt
 mode_is t u (suc (suc k)) h = omega (arith, h)
 
-beside_met : (t u : Table) (pairs : List RowPair) (mode : Anchored) → MeetMode t u pairs mode → (beside : Option ℕ)
+pub beside_met : (t u : Table) (pairs : List RowPair) (mode : Anchored) → MeetMode t u pairs mode → (beside : Option ℕ)
     → IfSome beside (λ byte. byte < 256) → Meet t u pairs (record { beside = beside; mode = mode })
 beside_met t u pairs mode all None h = all 256 (omega arith)
 beside_met t u pairs mode all (Some byte) h =

@@ -12,31 +12,26 @@ use Rattle.rx_lemmas.proofs.Words.{IsWord-nil, IsWord-cons, run-nil, run-cons}
 use Rattle.rx_equal.specs.declared.evidence.Link.{Link}
 use Rattle.rx_equal.specs.Evidence.{RowPair, next_pair, next_of}
 use Rattle.rx_base.specs.StartConfig.{StartConfig}
-use Rattle.rx_equal.specs.Walks.{Follows, IsApart, IsPathTo, IsWalk}
-use Rattle.std.proofs.lemmas.Option.{same_Some, slice_get_within}
-use Rattle.rx_equal.specs.declared.evidence.Parting.{Parting}
-use Rattle.rx_equal.specs.Evidence.{HaveEqualLabels}
-use Rattle.rx_equal.proofs.Walks.{are_reached}
-use Rattle.rx_equal.proofs.Words.{labels_from_alike}
+use Rattle.rx_equal.specs.Walks.{AreLevels, Follows, IsPathTo, IsWalk}
 
 -- the units so far, the last first, lead from a pair to a pair's successor
-pub record LeadsOn (t u : Table) (pairs : List RowPair) (at unit i : ℕ) (units : List Unit) : Type 0 where
+pub record LeadsOn (t u : Table) (links : List Link) (pairs : List RowPair) (at unit i : ℕ) (units : List Unit)
+    : Type 0 where
   pub is_word : IsWord (map unit_number (reverse units))
   pub leads : (q : RowPair) → slice_get pairs i ≡ Some q → next_of t u (slice_get pairs at) unit
       ≡ Some (run (next_pair t u) q (map unit_number (reverse units)))
-  pub short : length units + i ≤ at + 1
+  pub short : (level : ℕ → ℕ) → AreLevels links level → length units + level i ≤ level at + 1
 
-pub leads_first : (t u : Table) (pairs : List RowPair) (at : ℕ) (unit : Unit) (units : List Unit) → unit_number unit
-    < 257
-    → units ≡ unit ∷ [] → LeadsOn t u pairs at (unit_number unit) at units
-leads_first t u pairs at unit units h e =
+pub leads_first : (t u : Table) (links : List Link) (pairs : List RowPair) (at : ℕ) (unit : Unit) (units : List Unit)
+    → unit_number unit < 257 → units ≡ unit ∷ [] → LeadsOn t u links pairs at (unit_number unit) at units
+leads_first t u links pairs at unit units h e =
     let n = unit_number unit in
-    subst (LeadsOn t u pairs at n at) (sym e) (record {
+    subst (LeadsOn t u links pairs at n at) (sym e) (record {
       is_word = IsWord-cons n [] h IsWord-nil;
       leads = λ q there.
           ap (λ o. next_of t u o n) there
           ∙ ap (λ p. Some p) (sym (run-cons (next_pair t u) q n [] ∙ run-nil (next_pair t u) (next_pair t u q n)));
-      short = omega arith;
+      short = λ level levels. omega arith;
     })
 
 turned : (units : List Unit) (v : Unit) → map unit_number (reverse (units ++ v ∷ [])) ≡ unit_number v ∷ map
@@ -46,47 +41,37 @@ turned units v = ap (map unit_number) (reverse-append units (v ∷ []))
 length_push : (units : List Unit) (v : Unit) → length (units ++ v ∷ []) ≡ length units + 1
 length_push units v = length-append units (v ∷ [])
 
-pub leads_back : (t u : Table) (pairs : List RowPair) (at unit i from : ℕ) (v : Unit) (units more : List Unit)
-    → LeadsOn t u pairs at unit i units → more ≡ units ++ v ∷ [] → Follows t u pairs i (Link.Next from v)
-    → LeadsOn t u pairs at unit from more
-leads_back t u pairs at unit i from v units more on e f =
-    let n = unit_number v in
-    subst (LeadsOn t u pairs at unit from) (sym e) (record {
-      is_word = subst IsWord (sym (turned units v)) (IsWord-cons n (map unit_number (reverse units)) f.1 on.is_word);
-      leads = λ r there.
-          on.leads (next_pair t u r n) (sym f.2 ∙ ap (λ o. next_of t u o n) there)
-          ∙ ap (λ p. Some p)
-          (sym (run-cons (next_pair t u) r n (map unit_number (reverse units)))
-          ∙ ap (run (next_pair t u) r) (sym (turned units v)));
-      short = (let s = on.short in let b = f.0 in let l = length_push units v in omega (arith, s, b, l));
-    })
+module _ {t u : Table} {links : List Link} {pairs : List RowPair} (walk : IsWalk t u links pairs) (at unit : ℕ) where
+  pub leads_back : (i from : ℕ) (v : Unit) (units more : List Unit) → LeadsOn t u links pairs at unit i units
+      → more ≡ units ++ v ∷ [] → slice_get links i ≡ Some (Link.Next from v)
+      → LeadsOn t u links pairs at unit from more
+  leads_back i from v units more on e there =
+      let n = unit_number v in
+      let f = walk.follows i (Link.Next from v) there in
+      subst (LeadsOn t u links pairs at unit from) (sym e) (record {
+        is_word = subst IsWord (sym (turned units v)) (IsWord-cons n (map unit_number (reverse units)) f.1 on.is_word);
+        leads = λ r here.
+            on.leads (next_pair t u r n) (sym f.2 ∙ ap (λ o. next_of t u o n) here)
+            ∙ ap (λ p. Some p)
+            (sym (run-cons (next_pair t u) r n (map unit_number (reverse units)))
+            ∙ ap (run (next_pair t u) r) (sym (turned units v)));
+        short = λ level levels.
+            (let s = on.short level levels in let b = levels i from v there in let l = length_push units v in
+            omega (arith, s, b, l));
+      })
 
--- what a start's link makes of it
-pub path_from : (t u : Table) (pairs : List RowPair) (at unit i : ℕ) (place : StartConfig) (units word : List Unit)
-    (q : RowPair) → LeadsOn t u pairs at unit i units → word ≡ reverse units → slice_get pairs i ≡ Some q
-    → Follows t u pairs i (Link.Start place)
-    → IsPathTo t u pairs at unit (record { place = place; word = word })
-path_from t u pairs at unit i place units word q on e there f = record {
-  is_place = f.0;
-  is_word = subst (λ w. IsWord (map unit_number w)) (sym e) on.is_word;
-  start = q;
-  begins = f.1 ∙ there;
-  leads = on.leads q there ∙ ap (λ w. Some (run (next_pair t u) q (map unit_number w))) (sym e);
-  short = (let s = on.short in let l = length-reverse units in let k = ap length e in omega (arith, s, l, k));
-}
-
--- a path to labels that differ is a parting
-pub apart_by : (t u : Table) (links : List Link) (pairs : List RowPair) (at unit : ℕ) (p : Parting) (q : RowPair)
-    → IsWalk t u links pairs → IsPathTo t u pairs at unit p → slice_get pairs at ≡ Some q
-    → (HaveEqualLabels t u (next_pair t u q unit) → ⊥) → IsApart t u p
-apart_by t u links pairs at unit p q walk path there differ =
-    let leads = same_Some (next_pair t u q unit) (run (next_pair t u) path.start (map unit_number p.word))
-    (sym (ap (λ o. next_of t u o unit) there) ∙ path.leads) in
-    record {
-      is_place = path.is_place;
-      is_word = path.is_word;
-      parts = λ alike. differ (labels_from_alike t u p.place path.start (next_pair t u q unit) (map unit_number p.word)
-          path.begins (sym leads) alike);
-      short = are_reached walk (length p.word)
-          (let s = path.short in let w = slice_get_within pairs at q there in omega (arith, s, w));
-    }
+  -- what a start's link makes of it
+  pub path_from : (i : ℕ) (place : StartConfig) (units word : List Unit) (q : RowPair)
+      → LeadsOn t u links pairs at unit i units → word ≡ reverse units → slice_get pairs i ≡ Some q
+      → Follows t u pairs i (Link.Start place)
+      → IsPathTo t u links pairs at unit (record { place = place; word = word })
+  path_from i place units word q on e there f = record {
+    is_place = f.0;
+    is_word = subst (λ w. IsWord (map unit_number w)) (sym e) on.is_word;
+    start = q;
+    begins = f.1 ∙ there;
+    leads = on.leads q there ∙ ap (λ w. Some (run (next_pair t u) q (map unit_number w))) (sym e);
+    short = λ level levels.
+        (let s = on.short level levels in let l = length-reverse units in let k = ap length e in
+        omega (arith, s, l, k));
+  }

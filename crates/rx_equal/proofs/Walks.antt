@@ -29,7 +29,7 @@ use Rattle.rx_base.specs.StartConfig.{StartConfig}
 use Rattle.rx_equal.specs.Partings.{answer_at, row_or}
 use Rattle.rx_equal.specs.Evidence.{HaveEqualLabels}
 use Rattle.rx_equal.specs.Pairs.{Adds, pairs_of}
-use Rattle.rx_equal.specs.Walks.{Extends, AreLabelled, WentOn, Stepped}
+use Rattle.rx_equal.specs.Walks.{AddsLink, AreWalked, Extends, ExtendsBy, AreLabelled, IsFrom, WentOn, Stepped}
 use Rattle.rx_equal.specs.declared.walk.Walk.{Walk}
 use Rattle.rx_equal.specs.Places.{Meet}
 use Rattle.std.specs.Prelude.{IsTrue}
@@ -309,13 +309,50 @@ pub extends_meet : (t u : Table) (before after : List RowPair) → Extends befor
     → Meet t u before place → Meet t u after place
 extends_meet t u before after e place m = met_more before after e (answer_at t place) (answer_at u place) m
 
-module _ (t : Table) (ids : List ℕ) (u : Table) (others : List ℕ) where
-  pub went_both : (first second third : Walk) → WentOn t ids u others first second → WentOn t ids u others second third
-      → WentOn t ids u others first third
+pub by_none : (source : Option ℕ) (links : List Link) → ExtendsBy source links links
+by_none source links = record { longer = omega arith; each = λ i link there. inl there }
+
+by_both : (source : Option ℕ) (first second third : List Link) → ExtendsBy source first second
+    → ExtendsBy source second third → ExtendsBy source first third
+by_both source first second third e f = record {
+  longer = (let h = e.longer in let k = f.longer in omega (arith, h, k));
+  each = λ i link there.
+      ⊎_elim (λ (old : slice_get second i ≡ Some link). e.each i link old)
+      (λ (new : (length second ≤ i) × IsFrom source link).
+      inr ((let h = e.longer in let k = new.0 in omega (arith, h, k)), new.1))
+      (f.each i link there);
+}
+
+pub by_added : (source : Option ℕ) (before : List Link) (link : Link) (added : Bool) (after : List Link)
+    → IsFrom source link → AddsLink before link added after → ExtendsBy source before after
+by_added source before link true after is e = record {
+  longer = (let n = length-append before (link ∷ []) in let l = ap length e in omega (arith, n, l));
+  each = λ i other there.
+      ⊎_elim (λ (old : slice_get before i ≡ Some other). inl old)
+      (λ (last : (i ≡ length before) × (link ≡ other)).
+      inr ((let h = last.0 in omega (arith, h)), subst (IsFrom source) last.1 is))
+      (at_cases before link i other (sym (ap (λ ls. slice_get ls i) e) ∙ there));
+}
+by_added source before link false after is e = subst (ExtendsBy source before) (sym e) (by_none source before)
+
+module _ (t : Table) (ids : List ℕ) (u : Table) (others : List ℕ) (source : Option ℕ) where
+  pub went_both : (first second third : Walk) → WentOn t ids u others source first second
+      → WentOn t ids u others source second third → WentOn t ids u others source first third
   went_both first second third e f = record {
     walked = f.walked;
     extends = extends_both (pairs_of ids others first.pairs) (pairs_of ids others second.pairs)
         (pairs_of ids others third.pairs) e.extends f.extends;
+    links = by_both source first.links second.links third.links e.links f.links;
+  }
+
+  pub went_by : (before after : Walk) (p : RowPair) (link : Link) (added : Bool) → AreWalked t ids u others after
+      → Adds (pairs_of ids others before.pairs) p added (pairs_of ids others after.pairs)
+      → AddsLink before.links link added after.links → IsFrom source link
+      → WentOn t ids u others source before after
+  went_by before after p link added walked adds links is = record {
+    walked = walked;
+    extends = adds_extends (pairs_of ids others before.pairs) p added (pairs_of ids others after.pairs) adds;
+    links = by_added source before.links link added after.links is links;
   }
 
 stepped_new : (t u : Table) (before after : List RowPair) (p : RowPair) (unit : ℕ) (equal : Bool)

@@ -1,6 +1,6 @@
 -- What a walk over pairs keeps, and what it answers.
 use Rattle.std.specs.Prelude.{ℕ, ◌≡◌, ◌≢◌, ◌<◌, ◌≤◌, ◌+◌, Option, Some, None, Bool, true, false, ◌++◌, List, []}
-use Rattle.std.specs.Prelude.{length, map, slice_get, AllPairs, Contains}
+use Rattle.std.specs.Prelude.{◌∷◌, ◌⊎◌, length, map, slice_get, AllPairs, Contains}
 use Rattle.rx_spec.specs.Machines.{IsWord, run}
 use Rattle.rx_spec.specs.Tables.{Table}
 use Rattle.rx_base.specs.StartConfig.{StartConfig}
@@ -51,6 +51,9 @@ pub record IsApart (t u : Table) (p : Parting) : Type 0 where
   pub is_word : IsWord (map unit_number p.word)
   pub parts : Parts t u p.place (map unit_number p.word)
   pub short : AreReached t u (length p.word)
+  -- no word that parts them is shorter
+  pub least : (place : StartConfig) (word : List ℕ) → IsPlaceOf t u place → IsWord word → Parts t u place word
+      → length p.word ≤ length word
 
 abbrev pub IsVerdict : Table → Table → Verdict → Type 0
 IsVerdict t u (Verdict.Equal links) = IsEqual t u links
@@ -68,14 +71,20 @@ abbrev pub IsLink : Table → Table → Link → Type 0
 IsLink t u (Link.Start place) = IsPlaceOf t u place
 IsLink t u (Link.Next from unit) = unit_number unit < 257
 
+-- a bound of the units that lead to the pairs of links: it rises from each pair to those that follow from it
+abbrev pub AreLevels : List Link → (ℕ → ℕ) → Type 0
+AreLevels links level =
+    (i from : ℕ) (unit : Unit) → slice_get links i ≡ Some (Link.Next from unit) → level from < level i
+
 -- a place and a word by which a pair and then a unit are reached
-pub record IsPathTo (t u : Table) (pairs : List RowPair) (at unit : ℕ) (p : Parting) : Type 0 where
+pub record IsPathTo (t u : Table) (links : List Link) (pairs : List RowPair) (at unit : ℕ) (p : Parting)
+    : Type 0 where
   pub is_place : IsPlaceOf t u p.place
   pub is_word : IsWord (map unit_number p.word)
   pub start : RowPair
   pub begins : start_pair t u p.place ≡ Some start
   pub leads : next_of t u (slice_get pairs at) unit ≡ Some (run (next_pair t u) start (map unit_number p.word))
-  pub short : length p.word ≤ at + 1
+  pub short : (level : ℕ → ℕ) → AreLevels links level → length p.word ≤ level at + 1
 
 -- earlier pairs stay where they are
 pub record Extends (before after : List RowPair) : Type 0 where
@@ -85,10 +94,29 @@ pub record Extends (before after : List RowPair) : Type 0 where
 abbrev pub AreLabelled : Table → Table → List RowPair → Type 0
 AreLabelled t u pairs = (p : RowPair) → Contains pairs p → HaveEqualLabels t u p
 
--- a walk went on
-pub record WentOn (t : Table) (ids : List ℕ) (u : Table) (others : List ℕ) (before after : Walk) : Type 0 where
+-- a link is one of a place, or leads on from the link at a number
+abbrev pub IsFrom : Option ℕ → Link → Type 0
+IsFrom None (Link.Start place) = Prim.Unit {0}
+IsFrom (Some at) (Link.Next from unit) = from ≡ at
+IsFrom source link = ⊥
+
+-- links are added, all from one source
+pub record ExtendsBy (source : Option ℕ) (before after : List Link) : Type 0 where
+  pub longer : length before ≤ length after
+  pub each : (i : ℕ) (link : Link) → slice_get after i ≡ Some link
+      → (slice_get before i ≡ Some link) ⊎ ((length before ≤ i) × IsFrom source link)
+
+-- a link is added or not
+abbrev pub AddsLink : List Link → Link → Bool → List Link → Type 0
+AddsLink before link true after = after ≡ before ++ link ∷ []
+AddsLink before link false after = after ≡ before
+
+-- a walk went on from one source
+pub record WentOn (t : Table) (ids : List ℕ) (u : Table) (others : List ℕ) (source : Option ℕ) (before after : Walk)
+    : Type 0 where
   pub walked : AreWalked t ids u others after
   pub extends : Extends (pairs_of ids others before.pairs) (pairs_of ids others after.pairs)
+  pub links : ExtendsBy source before.links after.links
 
 -- a place was looked at: pairs take care of it, or the answers can't be alike
 abbrev pub LookedAt : Table → Table → StartConfig → List RowPair → Bool → Type 0

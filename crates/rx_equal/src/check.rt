@@ -2,6 +2,7 @@
 
 ghost use Rattle.std.specs.Prelude.{◌≡◌, ◌≤◌, ◌<◌, ◌↔◌, IsTrue, IfOk, MatchOption, None, Some, Contains, map};
 ghost use Rattle.rx_base.specs.Search.{mode_of};
+ghost use Rattle.rx_equal.specs.Classes.{Represent};
 ghost use Rattle.rx_equal.specs.Evidence.{AreEvidence, RowPair, link_pair};
 ghost use Rattle.rx_equal.specs.Pairs.{AreKept, IsPairOf, pairs_of, rows_of};
 ghost use Rattle.rx_equal.specs.Partings.{NothingParts};
@@ -9,9 +10,10 @@ ghost use Rattle.rx_equal.specs.Places.{HaveNexts, Meet, MeetAll, MeetMode};
 ghost use Rattle.rx_base.specs.Unit.{unit_number};
 ghost use Rattle.rx_equal.specs.Partings.{IsModeOf, IsParting};
 
+use crate::classes::representatives;
 use crate::pairs::{Begin, Pair, Pairs, begin_at, have_equal_labels, next_of};
-use crate::places::{beside_at, mode_at, unit_at};
-use crate::{Link, Links, Parting, Place};
+use crate::places::{beside_at, mode_at, mode_count};
+use crate::{Link, Links, Parting, Place, UnitList};
 use rx_base::Anchored;
 use rx_search::Automaton;
 use std::alloc::{AllocError, Global};
@@ -79,7 +81,8 @@ pub fn check_links<A: Automaton, B: Automaton>(
         }
         known.push(&pair)?;
     }
-    if !knows_nexts(a, b, &known) {
+    let units = representatives(alloc, a, b)?;
+    if !knows_nexts(a, b, &units, &known) {
         return Ok(false);
     }
     Ok(knows_starts(a, b, &known))
@@ -107,29 +110,37 @@ fn find_pair<A: Automaton, B: Automaton>(a: &A, b: &B, known: &Pairs, link: &Lin
     }
 }
 
-/// Whether the successors of all pairs are known.
-fn knows_nexts<A: Automaton, B: Automaton>(a: &A, b: &B, known: &Pairs) -> bool
-    requires { AreKept (A.ids a.now) (B.ids b.now) known.now }
+/// Whether the successors of all pairs are known, where units represent all others.
+fn knows_nexts<A: Automaton, B: Automaton>(a: &A, b: &B, units: &UnitList, known: &Pairs) -> bool
+    requires represent { Represent (A.table a.now) (B.table b.now) units.now }
+    requires kept { AreKept (A.ids a.now) (B.ids b.now) known.now }
     ensures { let pairs = pairs_of (A.ids a.now) (B.ids b.now) known.now in
         IsTrue result ↔ ((p : RowPair) → Contains pairs p → HaveNexts (A.table a.now) (B.table b.now) pairs p) }
 {
     for i in 0..known.len() {
-        if !knows_nexts_of(a, b, known, &known.get(i)) {
+        if !knows_nexts_of(a, b, units, known, &known.get(i)) {
             return false;
         }
     }
     true
 }
 
-/// Whether the successors of a pair are known.
-fn knows_nexts_of<A: Automaton, B: Automaton>(a: &A, b: &B, known: &Pairs, pair: &Pair) -> bool
+/// Whether the successors of a pair are known, where units represent all others.
+fn knows_nexts_of<A: Automaton, B: Automaton>(
+    a: &A,
+    b: &B,
+    units: &UnitList,
+    known: &Pairs,
+    pair: &Pair,
+) -> bool
+    requires represent { Represent (A.table a.now) (B.table b.now) units.now }
     requires kept { AreKept (A.ids a.now) (B.ids b.now) known.now }
     requires ids { IsPairOf (A.ids a.now) (B.ids b.now) pair.now }
     ensures { IsTrue result ↔ HaveNexts (A.table a.now) (B.table b.now) (pairs_of (A.ids a.now) (B.ids b.now) known.now)
         (rows_of (A.ids a.now) (B.ids b.now) pair.now) }
 {
-    for n in 0..257 {
-        if !known.contains(&next_of(a, b, pair, unit_at(n))) {
+    for i in 0..units.len() {
+        if !known.contains(&next_of(a, b, pair, units.get(i))) {
             return false;
         }
     }
@@ -143,8 +154,7 @@ fn knows_starts<A: Automaton, B: Automaton>(a: &A, b: &B, known: &Pairs) -> bool
     requires other_few { (B.table b.now).pattern_len ≤ 65536 }
     ensures { IsTrue result ↔ MeetAll (A.table a.now) (B.table b.now) (pairs_of (A.ids a.now) (B.ids b.now) known.now) }
 {
-    let modes = a.pattern_len().max(b.pattern_len()) + 3;
-    for m in 0..modes {
+    for m in 0..mode_count(a, b) {
         if !knows_mode(a, b, known, &mode_at(m)) {
             return false;
         }

@@ -1,7 +1,8 @@
 //! The walk over all pairs of rows that are reached, breadth first.
 
-ghost use Rattle.std.specs.Prelude.{◌≡◌, ◌≤◌, ◌<◌, IfOk, OnOk, Some, length, slice_get};
+ghost use Rattle.std.specs.Prelude.{◌≡◌, ◌≤◌, ◌<◌, IfOk, OnOk, None, Some, length, slice_get};
 ghost use Rattle.rx_base.specs.Unit.{unit_number};
+ghost use Rattle.rx_equal.specs.Classes.{Represent};
 ghost use Rattle.rx_equal.specs.Evidence.{link_pair};
 ghost use Rattle.rx_equal.specs.Pairs.{Adds, IsPairOf, pairs_of, rows_of};
 ghost use Rattle.rx_equal.specs.Walks.{AreLabelled, AreWalked, IsLink, IsPathTo, IsVerdict, LookedAt, LookedAtAll};
@@ -9,10 +10,11 @@ ghost use Rattle.rx_equal.specs.Walks.{LookedAtMode};
 ghost use Rattle.rx_base.specs.Search.{mode_of};
 ghost use Rattle.rx_equal.specs.Evidence.{RowPair};
 ghost use Rattle.rx_equal.specs.Partings.{IsModeOf, IsPlaceOf};
-ghost use Rattle.rx_equal.specs.Walks.{Stepped, SteppedAll, WentOn};
+ghost use Rattle.rx_equal.specs.Walks.{AddsLink, Stepped, SteppedAll, WentOn};
 
+use crate::classes::representatives;
 use crate::pairs::{Begin, Pair, Pairs, begin_at, have_equal_labels, next_of};
-use crate::places::{beside_at, mode_at, unit_at};
+use crate::places::{beside_at, mode_at, mode_count};
 use crate::{Link, Links, Parting, Place, UnitList};
 use rx_base::{Anchored, Unit};
 use rx_search::Automaton;
@@ -36,9 +38,10 @@ struct Walk {
 
 /// Compares two tables.
 ///
-/// The answer is links that name each reached pair of rows once, or a place and a word that part the tables; the word
-/// is no longer than the number of reached pairs. Each table has at most 65,536 patterns. Memory grows with the pairs,
-/// of which there may be as many as rows of one table times rows of the other.
+/// The answer is links that name each reached pair of rows once, or a place and a shortest word that part the tables;
+/// the word is no longer than the number of reached pairs. Each table has at most 65,536 patterns. Each pair takes a
+/// step for each class that both tables keep. Memory grows with the pairs, of which there may be as many as rows of
+/// one table times rows of the other.
 pub fn compare<A: Automaton, B: Automaton>(
     alloc: Global,
     a: &A,
@@ -60,9 +63,10 @@ pub fn compare<A: Automaton, B: Automaton>(
             word: UnitList::new(alloc),
         }));
     }
+    let units = representatives(alloc, a, b)?;
     let mut at = 0;
     'pairs: while at < walk.pairs.len() {
-        if let Some(unit) = walk.step_all(a, b, at)? {
+        if let Some(unit) = walk.step_all(a, b, &units, at)? {
             return Ok(Verdict::Differ(walk.parting(alloc, a, b, at, unit)?));
         }
         at += 1;
@@ -85,12 +89,11 @@ impl Walk {
         requires few { (A.table a.now).pattern_len ≤ 65536 }
         requires other_few { (B.table b.now).pattern_len ≤ 65536 }
         ensures went_on { OnOk result
-            (WentOn (A.table a.now) (A.ids a.now) (B.table b.now) (B.ids b.now) self.old self.new) }
+            (WentOn (A.table a.now) (A.ids a.now) (B.table b.now) (B.ids b.now) None self.old self.new) }
         ensures looked { IfOk result
             (LookedAtAll (A.table a.now) (B.table b.now) (pairs_of (A.ids a.now) (B.ids b.now) self.new.pairs)) }
     {
-        let modes = a.pattern_len().max(b.pattern_len()) + 3;
-        for m in 0..modes {
+        for m in 0..mode_count(a, b) {
             if let Some(place) = self.begin_mode(a, b, &mode_at(m))? {
                 return Ok(Some(place));
             }
@@ -112,7 +115,7 @@ impl Walk {
             (pairs_of (A.ids a.now) (B.ids b.now) self.old.pairs) }
         requires is_mode { IsModeOf (A.table a.now) (B.table b.now) (mode_of mode.now) }
         ensures went_on { OnOk result
-            (WentOn (A.table a.now) (A.ids a.now) (B.table b.now) (B.ids b.now) self.old self.new) }
+            (WentOn (A.table a.now) (A.ids a.now) (B.table b.now) (B.ids b.now) None self.old self.new) }
         ensures looked { IfOk result
             (LookedAtMode (A.table a.now) (B.table b.now) (mode_of mode.now)
             (pairs_of (A.ids a.now) (B.ids b.now) self.new.pairs)) }
@@ -140,7 +143,7 @@ impl Walk {
             (pairs_of (A.ids a.now) (B.ids b.now) self.old.pairs) }
         requires is_place { IsPlaceOf (A.table a.now) (B.table b.now) place }
         ensures went_on { OnOk result
-            (WentOn (A.table a.now) (A.ids a.now) (B.table b.now) (B.ids b.now) self.old self.new) }
+            (WentOn (A.table a.now) (A.ids a.now) (B.table b.now) (B.ids b.now) None self.old self.new) }
         ensures looked { IfOk result
             (LookedAt (A.table a.now) (B.table b.now) place (pairs_of (A.ids a.now) (B.ids b.now) self.new.pairs)) }
     {
@@ -154,11 +157,13 @@ impl Walk {
         }
     }
 
-    /// Adds the successors of a pair, up to one whose labels differ, of which the unit is told.
+    /// Adds the successors of a pair by units that represent all others, up to one whose labels differ, of which the
+    /// unit is told.
     fn step_all<A: Automaton, B: Automaton>(
         &mut self,
         a: &A,
         b: &B,
+        units: &UnitList,
         at: usize,
     ) -> Result<Option<Unit>, AllocError>
         requires sound { A.IsSound a.now }
@@ -166,17 +171,18 @@ impl Walk {
         requires walked { AreWalked (A.table a.now) (A.ids a.now) (B.table b.now) (B.ids b.now) self.old }
         requires labels { AreLabelled (A.table a.now) (B.table b.now)
             (pairs_of (A.ids a.now) (B.ids b.now) self.old.pairs) }
+        requires represent { Represent (A.table a.now) (B.table b.now) units.now }
         requires within { at < length self.old.pairs.list.items }
         ensures went_on { OnOk result
-            (WentOn (A.table a.now) (A.ids a.now) (B.table b.now) (B.ids b.now) self.old self.new) }
+            (WentOn (A.table a.now) (A.ids a.now) (B.table b.now) (B.ids b.now) (Some at) self.old self.new) }
         ensures stepped { IfOk result (λ found. (p : RowPair)
             → slice_get (pairs_of (A.ids a.now) (B.ids b.now) self.old.pairs) at ≡ Some p
             → SteppedAll (A.table a.now) (B.table b.now) p (pairs_of (A.ids a.now) (B.ids b.now) self.new.pairs)
             found) }
     {
         let pair = self.pairs.get(at);
-        for n in 0..257 {
-            let unit = unit_at(n);
+        for i in 0..units.len() {
+            let unit = units.get(i);
             if !self.step_by(a, b, at, &pair, unit)? {
                 return Ok(Some(unit));
             }
@@ -203,7 +209,7 @@ impl Walk {
             ≡ Some (rows_of (A.ids a.now) (B.ids b.now) pair.now) }
         requires is_unit { unit_number unit < 257 }
         ensures went_on { OnOk result
-            (WentOn (A.table a.now) (A.ids a.now) (B.table b.now) (B.ids b.now) self.old self.new) }
+            (WentOn (A.table a.now) (A.ids a.now) (B.table b.now) (B.ids b.now) (Some at) self.old self.new) }
         ensures stepped { IfOk result (Stepped (A.table a.now) (B.table b.now)
             (rows_of (A.ids a.now) (B.ids b.now) pair.now) (unit_number unit)
             (pairs_of (A.ids a.now) (B.ids b.now) self.new.pairs)) }
@@ -237,6 +243,7 @@ impl Walk {
         ensures adds { IfOk result (λ added. Adds (pairs_of (A.ids a.now) (B.ids b.now) self.old.pairs)
             (rows_of (A.ids a.now) (B.ids b.now) pair.now) added
             (pairs_of (A.ids a.now) (B.ids b.now) self.new.pairs)) }
+        ensures links { IfOk result (λ added. AddsLink self.old.links link added self.new.links) }
     {
         if !self.pairs.add(pair)? {
             return Ok(false);
@@ -257,7 +264,7 @@ impl Walk {
         requires walked { AreWalked (A.table a.now) (A.ids a.now) (B.table b.now) (B.ids b.now) self.now }
         requires within { at < length self.now.links }
         requires is_unit { unit_number unit < 257 }
-        ensures { IfOk result (IsPathTo (A.table a.now) (B.table b.now)
+        ensures { IfOk result (IsPathTo (A.table a.now) (B.table b.now) self.now.links
             (pairs_of (A.ids a.now) (B.ids b.now) self.now.pairs) at (unit_number unit)) }
     {
         let mut units = Vec::new(alloc);

@@ -15,7 +15,8 @@ knows_nexts_of-requires-clause-ids g c =
     let u = b.table c.args.b.now in
     let ids = a.ids c.args.a.now in
     let others = b.ids c.args.b.now in
-    all_get (IsPairOf ids others) c.args.known.now.list.items c.loop-i.i c.get.result c.requires.are_ids c.get.ensures
+    all_get (IsPairOf ids others) c.args.known.now.list.items c.loop-i.i c.get.result
+    c.requires.kept.are_ids c.get.ensures
 
 pub returns-then-not-knows_nexts_of : goal.returns-then-not-knows_nexts_of
 returns-then-not-knows_nexts_of g c =

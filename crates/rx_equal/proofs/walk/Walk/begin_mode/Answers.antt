@@ -1,4 +1,4 @@
-use Rattle.std.proofs.Common.{ℕ, Option, ap, ◌∙◌, subst}
+use Rattle.std.proofs.Common.{ℕ, Option, None, ap, ◌∙◌, subst}
 use Rattle.rx_base.specs.Search.{mode_of}
 use Rattle.rx_equal.specs.Pairs.{pairs_of}
 use Rattle.rx_equal.specs.Places.{Meet, beside_at}
@@ -15,7 +15,7 @@ returns-then-not-branch-clause-went_on g c =
     let u = b.table c.args.b.now in
     let ids = a.ids c.args.a.now in
     let others = b.ids c.args.b.now in
-    went_both t ids u others c.args.self.now c.loop-n.self c.begin_place.new.self c.loop-n.invariant.went_on
+    went_both t ids u others None c.args.self.now c.loop-n.self c.begin_place.new.self c.loop-n.invariant.went_on
     c.in_ok-begin_place.ensures.went_on
 
 pub loop-n-preserved : goal.loop-n-preserved
@@ -32,8 +32,8 @@ loop-n-preserved g c =
     let looked = subst (LookedAt t u c.new-place.result after) c.if-not-branch.false
     c.in_ok-begin_place.ensures.looked in
     record {
-      went_on = went_both t ids u others c.args.self.now c.loop-n.self c.begin_place.new.self c.loop-n.invariant.went_on
-          c.in_ok-begin_place.ensures.went_on;
+      went_on = went_both t ids u others None c.args.self.now c.loop-n.self c.begin_place.new.self
+          c.loop-n.invariant.went_on c.in_ok-begin_place.ensures.went_on;
       labels = looked.0;
       met = below_more (λ k. Meet t u after (record { beside = beside_at k; mode = mode })) c.loop-n.n
           (λ k h. extends_meet t u before after c.in_ok-begin_place.ensures.went_on.extends

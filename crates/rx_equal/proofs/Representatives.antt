@@ -1,0 +1,85 @@
+-- Each unit leads as one of the representatives does.
+use Rattle.std.proofs.Common.{ℕ, ◌≡◌, ◌+◌, ◌-◌, ◌<◌, ◌≤◌, List, [], ◌∷◌, ◌++◌, sym, ◌∙◌, subst, arith, ap, ap₂}
+use Rattle.std.proofs.lemmas.List.Elements.{All-push, Contains-append_left, Contains-push}
+use Rattle.std.specs.Prelude.{All, Contains}
+use Rattle.rx_spec.specs.Tables.{Table}
+use Rattle.rx_spec.specs.declared.Unit.{Unit}
+use Rattle.rx_base.specs.Unit.{unit_number}
+use Rattle.rx_search.specs.Classes.{LeadsAsPrevious}
+use Rattle.rx_equal.specs.Evidence.{RowPair, next_pair}
+use Rattle.rx_equal.specs.Classes.{LeadAlike, IsRepresented, Represent}
+use Rattle.rx_equal.specs.Places.{HaveNexts}
+use Rattle.rx_equal.proofs.Tests.{below_more}
+
+-- the units below a number have representatives
+pub record RepresentBelow (t u : Table) (units : List Unit) (n : ℕ) : Type 0 where
+  pub are_units : All (λ unit. unit_number unit < 257) units
+  pub each : (unit : ℕ) → unit < n → IsRepresented t u units unit
+
+module _ {t u : Table} where
+  alike_both : (first second third : ℕ) → LeadAlike t u first second → LeadAlike t u second third
+      → LeadAlike t u first third
+  alike_both first second third e f = record {
+    first = λ row h. e.first row h ∙ f.first row h;
+    second = λ row h. e.second row h ∙ f.second row h;
+  }
+
+  stays : (units : List Unit) (v : Unit) (unit : ℕ) → IsRepresented t u units unit
+      → IsRepresented t u (units ++ v ∷ []) unit
+  stays units v unit r = record {
+    one = r.one;
+    listed = Contains-append_left units (v ∷ []) r.one r.listed;
+    alike = r.alike;
+  }
+
+  -- a unit that is listed represents itself
+  pub listed_more : (units : List Unit) (n : ℕ) (v : Unit) → unit_number v ≡ n → n < 257
+      → RepresentBelow t u units n → RepresentBelow t u (units ++ v ∷ []) (n + 1)
+  listed_more units n v is small r = record {
+    are_units = All-push (λ unit. unit_number unit < 257) units v r.are_units (omega (arith, is, small));
+    each = below_more (IsRepresented t u (units ++ v ∷ [])) n (λ k h. stays units v k (r.each k h))
+        (record {
+          one = v;
+          listed = Contains-push units v;
+          alike = record {
+            first = λ row h. ap (t.machine.next row) (sym is);
+            second = λ row h. ap (u.machine.next row) (sym is);
+          };
+        });
+  }
+
+  -- a byte that leads as the one before it is represented as that is
+  pub previous_more : (units : List Unit) (n : ℕ) → LeadsAsPrevious t n → LeadsAsPrevious u n
+      → RepresentBelow t u units n → RepresentBelow t u units (n + 1)
+  previous_more units n first second r =
+      let before = r.each (n - 1) (let p = first.positive in omega (arith, p)) in
+      record {
+        are_units = r.are_units;
+        each = below_more (IsRepresented t u units) n r.each
+            (record {
+              one = before.one;
+              listed = before.listed;
+              alike = alike_both n (n - 1) (unit_number before.one)
+                  (record { first = first.alike; second = second.alike }) before.alike;
+            });
+      }
+
+  pub none_below : RepresentBelow t u [] 0
+  none_below = record { are_units = λ i d h. absurd (omega (arith, h)); each = λ unit h. absurd (omega (arith, h)) }
+
+  pub all_represented : (units : List Unit) (n : ℕ) → 257 ≤ n → RepresentBelow t u units n → Represent t u units
+  all_represented units n h r = record {
+    are_units = r.are_units;
+    each = λ unit small. r.each unit (omega (arith, h, small));
+  }
+
+  -- where representatives lead from a pair, all units do
+  pub nexts_by : (units : List Unit) (pairs : List RowPair) (p : RowPair) → Represent t u units
+      → p.row < t.size → p.other < u.size
+      → ((v : Unit) → Contains units v → Contains pairs (next_pair t u p (unit_number v))) → HaveNexts t u pairs p
+  nexts_by units pairs p r first second known unit h =
+      let one = r.each unit h in
+      subst (Contains pairs)
+      (sym (ap₂ (λ x y. record { row = x; other = y }) (one.alike.first p.row first)
+      (one.alike.second p.other second)))
+      (known one.one one.listed)
