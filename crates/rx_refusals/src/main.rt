@@ -1,6 +1,7 @@
 //! Builds, writes, reads, copies and searches the tables of a pattern that matches everywhere and of none, in both
-//! forms, alone and as a pair. A tool refuses it memory, one allocation in a run: then the call that meets the refusal has to say so, what
-//! was there before has to be as it was, and the same calls have to succeed when they are made again.
+//! forms, alone and as a pair. A tool refuses it memory, one allocation in a run: then the call that meets the refusal
+//! has to say so, what was there before has to be as it was, and the same calls have to succeed when they are made
+//! again.
 //!
 //! It writes a line for each table, and before it one for a call that was refused. The status is 0 where none was, 7
 //! where one was and all else is right, and 1 where something is wrong.

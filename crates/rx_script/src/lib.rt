@@ -4,9 +4,9 @@
 //! first fault stands in `specs/Reading.antt`, and the laws that join the two in [`laws`]. [`read_script`]
 //! reads, and [`number`] and [`mode`] read single words of its lines.
 //!
-//! A line `plan` chooses how tables are built and searched. Of its words `bytes` and `pair`, at most one stands: `bytes`
-//! has each table written as bytes and read back before it is searched, `pair` has both written as one image of a pair
-//! and read back.
+//! A line `plan` chooses how tables are built and searched. Of its words `bytes` and `pair`, at most one stands:
+//! `bytes` has each table written as bytes and read back before it is searched, `pair` has both written as one image of
+//! a pair and read back.
 #![tactic(auto)]
 
 mod expression;

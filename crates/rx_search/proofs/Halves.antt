@@ -1,6 +1,7 @@
 -- What a half search tells, from stop to stop.
 use Rattle.std.proofs.Common.{◌≡◌, ◌≢◌, ℕ, ◌+◌, ◌^◌, ◌<◌, ◌≤◌, inl, inr, Bool, true, false, Option}
-use Rattle.std.proofs.Common.{if◌then◌else◌, Some, None, Ok, Err, List, [], ◌∷◌, length, drop, refl, ap, ap₂, sym, ◌∙◌, arith}
+use Rattle.std.proofs.Common.{if◌then◌else◌, Some, None, Ok, Err, List, [], ◌∷◌, length, drop, refl, ap, ap₂, sym}
+use Rattle.std.proofs.Common.{◌∙◌, arith}
 use Rattle.std.specs.Prelude.{slice_index}
 use Rattle.rx_spec.specs.Bytes.{AreBytes}
 use Rattle.rx_spec.specs.Queries.{Query, HalfMatch, MatchError, IsFit, is_done}

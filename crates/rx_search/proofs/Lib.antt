@@ -11,6 +11,9 @@ pub mod Halves
 pub mod InSpan
 -- cursors, which keep the table that they were made for
 pub mod Cursors
+-- walks over ordinary rows, at four places at once
+pub mod Passing
+pub mod FourWalks
 -- overlapping searches
 pub mod Overlaps
 -- matches that split a character

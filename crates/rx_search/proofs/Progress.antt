@@ -11,7 +11,8 @@ use Rattle.rx_search.specs.Needles.{byte_ahead, Skips}
 use Rattle.rx_search.specs.Walks.{IsInSpan, last_offset, bytes_left, units_left, units_after, next_stop, Stop}
 use Rattle.rx_search.specs.Walks.{stop_error, StopsAt}
 use Rattle.rx_search.specs.Counted.{HasRoom, IsReady, counted, counted_on}
-use Rattle.rx_search.proofs.Walks.{Place, next_place, next_left, IsQuiet, Step, step_quiet, step_match, step_quits, step_ends}
+use Rattle.rx_search.proofs.Walks.{Place, next_place, next_left, IsQuiet, Step, step_quiet, step_match, step_quits}
+use Rattle.rx_search.proofs.Walks.{step_ends}
 use Rattle.rx_search.proofs.Walks.{LastStep, last_match, last_quits, last_ends, skip_stops, skip_left}
 use Rattle.rx_search.proofs.Counting.{step_quiet_counted, step_counted, step_match_counted, last_counted}
 use Rattle.rx_search.proofs.Counting.{last_match_counted}

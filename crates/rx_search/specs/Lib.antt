@@ -7,6 +7,9 @@ pub mod Classes
 pub mod Walks
 pub mod Needles
 pub mod Counted
+-- walks over ordinary rows, at four places at once
+pub mod Passing
+pub mod FourWalks
 -- overlapping searches
 pub mod OverlappingCalls
 -- matches that split a character

@@ -1,16 +1,19 @@
 //! A table with one of its rows.
 
-ghost use Rattle.std.specs.Prelude.{◌≡◌, ◌+◌, ◌-◌, ◌^◌, ◌<◌, ◌==◌, length, slice_index, true, MatchResult};
+ghost use Rattle.std.specs.Prelude.{◌≡◌, ◌+◌, ◌-◌, ◌^◌, ◌<◌, ◌≤◌, ◌==◌, length, slice_index, true};
+ghost use Rattle.std.specs.Prelude.{MatchResult};
 ghost use Rattle.rx_spec.specs.Ids.{row_of};
 ghost use Rattle.rx_spec.specs.Tables.{is_match};
 ghost use Rattle.rx_spec.specs.declared.Direction.TheVariants.{Forward, Reverse};
 ghost use Rattle.rx_base.specs.Input.{query_of};
 ghost use Rattle.rx_base.specs.Unit.{unit_number};
 ghost use Rattle.rx_search.specs.Labels.{is_quit, patterns_of};
+ghost use Rattle.rx_search.specs.Passing.{Leads};
 ghost use Rattle.rx_search.specs.Starts.{IsId, IsStart, IsRefused};
 
 use crate::Automaton;
-use rx_base::{Input, MatchError, Needles, PatternID, StateID, Steps, Unit};
+use crate::parts::pass_far;
+use rx_base::{Direction, Input, MatchError, Needles, PatternID, StateID, Steps, Tally, Unit};
 use std::marker::PhantomData;
 
 /// A sound table with one of its rows, where a walk stands.
@@ -97,6 +100,22 @@ impl<A: Automaton, L> Cursor<A, L> {
         steps.tick();
     }
 
+    /// Takes the transitions on the bytes from an offset up to the first one that leads to a special row, or to an
+    /// end, and counts none of them. Answers how many there are.
+    #[inline(always)]
+    pub(crate) fn pass(&mut self, haystack: &[u8], from: usize, end: usize) -> usize
+        requires begun { from ≤ end }
+        requires within { end ≤ length haystack.now }
+        ensures table { self.new.table ≡ self.old.table }
+        ensures leads { Leads (A.table self.old.table) Forward haystack.now
+            (row_of (A.ids self.old.table) self.old.row) from (row_of (A.ids self.old.table) self.new.row) result }
+        ensures within { result ≤ end - from }
+    {
+        let passed = pass_far(&self.table, self.row, haystack, from, end);
+        self.row = passed.row;
+        passed.count
+    }
+
     /// Whether a search has more to do at the row than to go on.
     #[inline(always)]
     pub(crate) fn is_special(&self) -> bool
@@ -165,5 +184,24 @@ impl<A: Automaton, L> Cursor<A, L> {
         ensures { result ≡ (A.table self.now.table).needles (row_of (A.ids self.now.table) self.now.row) }
     {
         self.table.accelerator(self.row)
+    }
+}
+
+/// At the row in which a search of an input starts.
+#[inline(always)]
+pub(crate) fn start<'a, A: Automaton>(
+    dfa: &'a A,
+    input: &Input<'_>,
+    direction: Direction,
+) -> Result<Cursor<&'a A, Tally>, MatchError>
+    requires { A.IsSound dfa.now }
+    ensures { MatchResult result
+        (λ cursor. (cursor.table.now ≡ dfa.now)
+        × IsStart (A.table dfa.now) direction (query_of input.now) (row_of (A.ids dfa.now) cursor.row))
+        (IsRefused (A.table dfa.now) direction (query_of input.now)) }
+{
+    match direction {
+        Direction::Forward => Cursor::forward(dfa, input),
+        Direction::Reverse => Cursor::reverse(dfa, input),
     }
 }

@@ -10,12 +10,18 @@ ghost use Rattle.rx_search.specs.Counted.{HasRoomFor, counted};
 ghost use Rattle.rx_search.specs.Starts.{IsStart};
 ghost use Rattle.rx_search.specs.Walks.{previous_offset, IsInSpan};
 
+use crate::cursor::start;
 use crate::skip::skip;
-use crate::walk::{first_offset, last_offset, next_match, next_offset};
+use crate::walk::{Places, first_offset, last_offset, next_match, next_offset};
 use crate::{Automaton, Cursor};
 use rx_base::{Direction, HalfMatch, Input, MatchError, Steps, Tally};
 
+/// The shortest span, in bytes, that a forward search may read at several places at once.
+const FAR: usize = 8192;
+
 /// The end of the match that a forward search of an input tells, without UTF-8 mode.
+///
+/// It may read a long text at several places at once; the answer is that of the walk that reads byte by byte.
 #[inline]
 pub fn find_fwd<A: Automaton>(dfa: &A, input: &Input<'_>) -> Result<Option<HalfMatch>, MatchError>
     requires sound { A.IsSound dfa.now }
@@ -25,17 +31,10 @@ pub fn find_fwd<A: Automaton>(dfa: &A, input: &Input<'_>) -> Result<Option<HalfM
     // What is told lies in the span.
     ensures within { IfOk result (λ found. IfSome found (λ h. IsInSpan (query_of input.now) h.offset)) }
 {
-    if input.is_done() {
-        return Ok(None);
+    if input.end().saturating_sub(input.start()) < FAR {
+        return find(dfa, input, Direction::Forward, Places::One);
     }
-    match Cursor::<&A, Tally>::forward(dfa, input) {
-        Err(error) => Err(error),
-        Ok(cursor) => {
-            let mut cursor = cursor;
-            let mut steps = Steps::new(Tally);
-            half_search(&mut cursor, input, Direction::Forward, &mut steps)
-        }
-    }
+    find_far(dfa, input)
 }
 
 /// The start of the match that a search in reverse of an input tells, without UTF-8 mode.
@@ -48,15 +47,45 @@ pub fn find_rev<A: Automaton>(dfa: &A, input: &Input<'_>) -> Result<Option<HalfM
     // What is told lies in the span.
     ensures within { IfOk result (λ found. IfSome found (λ h. IsInSpan (query_of input.now) h.offset)) }
 {
+    find(dfa, input, Direction::Reverse, Places::One)
+}
+
+/// The forward search of a long span. It is a function of its own, so that searches of short ones stay as short as
+/// they can be.
+#[inline(never)]
+fn find_far<A: Automaton>(dfa: &A, input: &Input<'_>) -> Result<Option<HalfMatch>, MatchError>
+    requires sound { A.IsSound dfa.now }
+    requires fits { IsFit (query_of input.now) }
+    ensures answer { result
+        ≡ half_search (A.table dfa.now).machine (A.table dfa.now).settings Forward (query_of input.now) }
+    ensures within { IfOk result (λ found. IfSome found (λ h. IsInSpan (query_of input.now) h.offset)) }
+{
+    find(dfa, input, Direction::Forward, Places::Several)
+}
+
+/// The half search of an input in a direction.
+#[inline(always)]
+fn find<A: Automaton>(
+    dfa: &A,
+    input: &Input<'_>,
+    direction: Direction,
+    places: Places,
+) -> Result<Option<HalfMatch>, MatchError>
+    requires sound { A.IsSound dfa.now }
+    requires fits { IsFit (query_of input.now) }
+    ensures answer { result
+        ≡ half_search (A.table dfa.now).machine (A.table dfa.now).settings direction (query_of input.now) }
+    ensures within { IfOk result (λ found. IfSome found (λ h. IsInSpan (query_of input.now) h.offset)) }
+{
     if input.is_done() {
         return Ok(None);
     }
-    match Cursor::<&A, Tally>::reverse(dfa, input) {
+    match start(dfa, input, direction) {
         Err(error) => Err(error),
         Ok(cursor) => {
             let mut cursor = cursor;
             let mut steps = Steps::new(Tally);
-            half_search(&mut cursor, input, Direction::Reverse, &mut steps)
+            half_search(&mut cursor, input, direction, places, &mut steps)
         }
     }
 }
@@ -89,7 +118,7 @@ pub fn find_fwd_counted<A: Automaton, L>(
     ensures table { cursor.new.table ≡ cursor.old.table }
     ensures done { is_done (query_of input.now) ≡ true → steps.new ≡ steps.old }
 {
-    half_search(cursor, input, Direction::Forward, steps)
+    half_search(cursor, input, Direction::Forward, Places::One, steps)
 }
 
 /// The same as [`find_rev`], from a cursor that [`Cursor::reverse`] made for this input. Its ticks are bounded as
@@ -116,7 +145,7 @@ pub fn find_rev_counted<A: Automaton, L>(
     ensures table { cursor.new.table ≡ cursor.old.table }
     ensures done { is_done (query_of input.now) ≡ true → steps.new ≡ steps.old }
 {
-    half_search(cursor, input, Direction::Reverse, steps)
+    half_search(cursor, input, Direction::Reverse, Places::One, steps)
 }
 
 /// The half search in a direction, from the row where it starts.
@@ -125,6 +154,7 @@ fn half_search<A: Automaton, L>(
     cursor: &mut Cursor<A, L>,
     input: &Input<'_>,
     direction: Direction,
+    places: Places,
     steps: &mut Steps<L>,
 ) -> Result<Option<HalfMatch>, MatchError>
     requires fits { IsFit (query_of input.now) }
@@ -158,7 +188,7 @@ fn half_search<A: Automaton, L>(
     );
     let mut last = None;
     'matches: loop {
-        let offset = match next_match(cursor, input, direction, at, steps) {
+        let offset = match next_match(cursor, input, direction, at, places, steps) {
             Ok(Some(offset)) => offset,
             Ok(None) => return Ok(last),
             Err(error) => return Err(error),

@@ -11,6 +11,7 @@ mod automaton;
 mod cursor;
 mod half;
 mod overlapping;
+mod parts;
 mod skip;
 mod splits;
 mod start;

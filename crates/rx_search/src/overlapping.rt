@@ -13,9 +13,10 @@ ghost use Rattle.rx_search.specs.SplitSearches.{remaining_unsplit};
 ghost use Rattle.rx_search.specs.Starts.{IsStart, IsRefused};
 ghost use Rattle.rx_search.specs.Walks.{IsInSpan, units_left};
 
+use crate::cursor::start;
 use crate::skip::skip;
 use crate::splits::skips_splits;
-use crate::walk::{first_offset, last_offset, next_match, next_offset};
+use crate::walk::{Places, first_offset, last_offset, next_match, next_offset};
 use crate::{Automaton, Cursor};
 use rx_base::{Direction, HalfMatch, Input, MatchError, StateID, Steps, Tally};
 
@@ -249,25 +250,6 @@ fn tell_more<A: Automaton>(
     tell_next(&mut cursor, input, direction, at, state)
 }
 
-/// At the row in which a search of an input starts.
-#[inline(always)]
-fn start<'a, A: Automaton>(
-    dfa: &'a A,
-    input: &Input<'_>,
-    direction: Direction,
-) -> Result<Cursor<&'a A, Tally>, MatchError>
-    requires { A.IsSound dfa.now }
-    ensures { MatchResult result
-        (λ cursor. (cursor.table.now ≡ dfa.now)
-        × IsStart (A.table dfa.now) direction (query_of input.now) (row_of (A.ids dfa.now) cursor.row))
-        (IsRefused (A.table dfa.now) direction (query_of input.now)) }
-{
-    match direction {
-        Direction::Forward => Cursor::forward(dfa, input),
-        Direction::Reverse => Cursor::reverse(dfa, input),
-    }
-}
-
 /// Walks on from the cursor's row and an offset of the span, and tells the first pattern of the next match row.
 #[inline(always)]
 fn tell_next<A: Automaton>(
@@ -292,7 +274,7 @@ fn tell_next<A: Automaton>(
         (units_left direction q from)) }
 {
     let mut steps = Steps::new(Tally);
-    match next_match(cursor, input, direction, from, &mut steps) {
+    match next_match(cursor, input, direction, from, Places::Several, &mut steps) {
         Err(error) => {
             state.stage = Stage::Ended;
             Err(error)

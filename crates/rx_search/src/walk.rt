@@ -9,11 +9,22 @@ ghost use Rattle.rx_base.specs.Input.{query_of};
 ghost use Rattle.rx_base.specs.Unit.{unit_number};
 ghost use Rattle.rx_search.specs.Counted.{HasRoom, IsReady, counted, counted_on};
 ghost use Rattle.rx_search.specs.Needles.{byte_ahead};
+ghost use Rattle.rx_search.specs.Passing.{Passes};
 ghost use Rattle.rx_search.specs.Walks.{IsInSpan, last_offset, units_left, unit_ahead, next_stop, StopsAt};
 
 use crate::skip::skip;
 use crate::{Automaton, Cursor};
 use rx_base::{Direction, Input, MatchError, Steps, Unit};
+
+/// After so many bytes at one place without a special row, a walk goes on at several places at once.
+const ALONE: usize = 2048;
+
+/// At how many places of a text a walk may read at once. What is read at several isn't counted.
+#[derive(Clone, Copy, Debug)]
+pub(crate) enum Places {
+    One,
+    Several,
+}
 
 /// Walks on from the cursor's row and an offset of the span to the next match row, and answers the offset of its
 /// match, or none where the walk ends.
@@ -23,6 +34,7 @@ pub(crate) fn next_match<A: Automaton, L>(
     input: &Input<'_>,
     direction: Direction,
     from: usize,
+    places: Places,
     steps: &mut Steps<L>,
 ) -> Result<Option<usize>, MatchError>
     requires in_span { IsInSpan (query_of input.now) from }
@@ -46,11 +58,13 @@ pub(crate) fn next_match<A: Automaton, L>(
     let haystack = input.haystack();
     let last = last_offset(input, direction);
     let mut at = from;
+    let mut far = from.saturating_add(ALONE);
     'bytes: while at != last {
         let byte = byte_ahead(haystack, direction, at);
         cursor.advance(Unit::Byte(byte), steps);
         if !cursor.is_special() {
-            at = next_offset(direction, at);
+            let next = next_offset(direction, at);
+            at = pass(cursor, haystack, input, direction, places, next, far);
             continue;
         }
         if cursor.is_match() {
@@ -69,6 +83,7 @@ pub(crate) fn next_match<A: Automaton, L>(
             direction,
             next_offset(direction, at),
         );
+        far = at.saturating_add(ALONE);
     }
     let unit = unit_ahead(haystack, direction, last);
     cursor.advance(unit, steps);
@@ -83,6 +98,38 @@ pub(crate) fn next_match<A: Automaton, L>(
         return Err(MatchError::quit(byte, unit_offset(direction, last)));
     }
     Ok(None)
+}
+
+/// Passes on over bytes that lead to ordinary rows, once a forward walk that may read at several places has come to the
+/// offset `far`. `haystack` is the input's.
+#[inline(always)]
+fn pass<A: Automaton, L>(
+    cursor: &mut Cursor<A, L>,
+    haystack: &[u8],
+    input: &Input<'_>,
+    direction: Direction,
+    places: Places,
+    from: usize,
+    far: usize,
+) -> usize
+    requires haystack { haystack.now ≡ (query_of input.now).haystack }
+    requires in_span { IsInSpan (query_of input.now) from }
+    requires within { (query_of input.now).end ≤ length (query_of input.now).haystack }
+    ensures table { cursor.new.table ≡ cursor.old.table }
+    ensures passes { Passes (A.table cursor.old.table) direction (query_of input.now)
+        (row_of (A.ids cursor.old.table) cursor.old.row) from
+        (row_of (A.ids cursor.old.table) cursor.new.row) result }
+{
+    if from != far {
+        return from;
+    }
+    match direction {
+        Direction::Forward => match places {
+            Places::Several => from + cursor.pass(haystack, from, input.end()),
+            Places::One => from,
+        },
+        Direction::Reverse => from,
+    }
 }
 
 /// The first offset of a walk over a span.

@@ -1,5 +1,6 @@
 //! Each search over small tables, by examples worked by hand.
 
+mod far;
 mod sample;
 
 ghost use Rattle.std.specs.Prelude.{◌≡◌, ◌≤◌, length, true, false, IfOk, IfSome};

@@ -18,6 +18,7 @@ use Rattle.rx_search.proofs.Progress.{Progress, begins, has_room, has_room_last,
 use Rattle.rx_search.proofs.Progress.{end_count, quit_stop}
 use Rattle.rx_search.proofs.Progress.{end_stop, last_met_stop}
 use Rattle.rx_search.proofs.Progress.{last_met_count, last_end_count, last_quit_stop, last_end_stop, quits_at}
+use Rattle.rx_search.proofs.Passing.{progress_passed}
 use Rattle.rx_search.proofs.walk.next_match.Goals as goal
 
 -- the step past the span, as it is known of the unit there
@@ -86,11 +87,12 @@ bytes-preserved-then-not-is_special g c =
     let way = λ (at steps : ℕ). Progress t c.args.direction q
     (record { row = row_of ids c.args.cursor.now.row; offset = c.args.from; steps = c.args.steps.now })
     (record { row = row_of ids next; offset = at; steps = steps }) in
+    let there = subst (λ (at : ℕ). way at c.advance.new.steps) (sym c.next_offset-next.ensures)
+    (subst (λ (steps : ℕ). way (next_offset c.args.direction c.bytes.at) steps) (sym c.advance.ensures.counted) on) in
     record {
-      table = same;
-      progress = subst (λ (at : ℕ). way at c.advance.new.steps) (sym c.next_offset-at.ensures)
-          (subst (λ (steps : ℕ). way (next_offset c.args.direction c.bytes.at) steps)
-          (sym c.advance.ensures.counted) on);
+      table = c.pass-at.ensures.table ∙ same;
+      progress = progress_passed a.table a.ids held same bytes c.requires.within next c.pass-at.new.cursor.row
+          c.advance.new.self.is_id there c.pass-at.ensures.passes;
     }
 
 pub returns-then-is_match : goal.returns-then-is_match

@@ -1,0 +1,23 @@
+use Rattle.std.proofs.Common.{◌≡◌, ℕ, sym, ◌∙◌, arith}
+use Rattle.rx_spec.specs.Ids.{row_of}
+use Rattle.rx_spec.specs.declared.Direction.{Direction}
+use Rattle.rx_search.proofs.Passing.{leads_none, leads_more}
+use Rattle.rx_search.proofs.parts.pass_alone.Goals as goal
+
+pub bytes-init : goal.bytes-init
+bytes-init g c = record {
+  is_id = c.requires.is_id;
+  leads = leads_none (g.A.Automaton.table c.args.dfa.now) Direction.Forward c.args.haystack.now
+      (row_of (g.A.Automaton.ids c.args.dfa.now) c.args.row) c.args.from;
+  few = omega arith;
+}
+
+pub bytes-preserved : goal.bytes-preserved
+bytes-preserved g c = record {
+  is_id = c.next_state-next.ensures.is_id;
+  leads = leads_more (g.A.Automaton.table c.args.dfa.now) Direction.Forward c.args.haystack.now
+      (row_of (g.A.Automaton.ids c.args.dfa.now) c.next_state-next.result)
+      c.bytes.invariant.leads c.next_state-next.ensures.row
+      (sym c.is_special_state.ensures ∙ c.if-is_special_state.false);
+  few = omega (arith, c.bytes.invariant.few, c.bytes-test.true);
+}

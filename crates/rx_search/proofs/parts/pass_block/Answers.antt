@@ -1,0 +1,54 @@
+use Rattle.std.proofs.Common.{◌≡◌, ℕ, ◌+◌, subst, sym, ◌∙◌, arith}
+use Rattle.rx_spec.specs.Ids.{row_of}
+use Rattle.rx_search.specs.FourWalks.{AreWalks}
+use Rattle.rx_search.specs.declared.parts.Rows.{Rows}
+use Rattle.rx_search.proofs.FourWalks.{walks_none, walks_more}
+use Rattle.rx_search.proofs.parts.pass_block.Goals as goal
+
+pub bytes-init : goal.bytes-init
+bytes-init g c = record {
+  are_ids = record {
+    first = c.requires.is_id;
+    second = c.lead.ensures;
+    third = c.lead-2.ensures;
+    fourth = c.lead-3.ensures;
+  };
+  walks = walks_none _;
+  few = omega arith;
+}
+
+pub bytes-preserved : goal.bytes-preserved
+bytes-preserved g c =
+    let inv = c.bytes.invariant in record {
+      are_ids = c.step-next.ensures.ids;
+      walks = walks_more inv.walks c.step-next.ensures.led (c.is_one_special.ensures c.if-is_one_special.false);
+      few = omega (arith, inv.few, c.bytes-test.true);
+    }
+
+pub returns-then-is_one_special : goal.returns-then-is_one_special
+returns-then-is_one_special g c =
+    let inv = c.bytes.invariant in record {
+      is_id = inv.are_ids.first;
+      leads = inv.walks.first;
+      within = omega (arith, inv.few);
+    }
+
+pub returns : goal.returns
+returns g c =
+    let t = g.A.Automaton.table c.args.dfa.now in
+    let ids = g.A.Automaton.ids c.args.dfa.now in
+    let inv = c.bytes.invariant in
+    let full : c.bytes.count ≡ 1024 = omega (arith, inv.few, c.bytes-test.false) in
+    let entries : Rows = record {
+      first = c.args.row;
+      second = c.lead.result;
+      third = c.lead-2.result;
+      fourth = c.lead-3.result;
+    } in
+    let walks = subst (λ (n : ℕ). AreWalks t ids c.args.haystack.now c.args.from n entries c.bytes.rows) full
+    inv.walks in
+    record {
+      is_id = c.join.ensures.is_id ids inv.are_ids;
+      leads = c.join.ensures.leads t ids c.args.haystack.now c.args.from walks;
+      within = c.join.ensures.within;
+    }
