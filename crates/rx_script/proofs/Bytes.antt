@@ -28,7 +28,7 @@ below low high c lt = and_left (leb low c) (leb c high) (lt-leb low c lt)
 above : (low high c : ℕ) → high < c → within low high c ≡ false
 above low high c lt = and_right (leb low c) (leb c high) (lt-leb c high lt)
 
-digit_spelled : (c v : ℕ) → digit_of c ≡ Some v → SpellsDigit v c
+pub digit_spelled : (c v : ℕ) → digit_of c ≡ Some v → SpellsDigit v c
 digit_spelled c v e = elim (cases_Bool (within 48 57 c)) [
   | inl h ↦ let s = same_Some (c - 48) v (rw h at e) in let b = bounds 48 57 c h in inl (omega arith, omega arith)
   | inr h ↦ elim (cases_Bool (within 97 102 c)) [

@@ -11,6 +11,7 @@ pub mod LinesAt
 pub mod Tables
 pub mod Numbers
 pub mod Bytes
+pub mod Digits
 pub mod Sets
 pub mod Modes
 pub mod PlanWords

@@ -47,6 +47,11 @@ digit_of c =
     else (if nat_le 65 c && nat_le c 70 then Some (c - 55)
     else None))
 
+-- the value of a digit, 16 for none
+abbrev pub value_of : Option ℕ → ℕ
+value_of None = 16
+value_of (Some value) = value
+
 abbrev pub byte_from : Option ℕ → Option ℕ → Option ℕ
 byte_from None low = None
 byte_from (Some h) None = None

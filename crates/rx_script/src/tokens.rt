@@ -5,7 +5,7 @@ ghost use Rattle.std.specs.List.{slice_split};
 ghost use Rattle.std.specs.Str.{bytes_eq};
 ghost use Rattle.rx_spec.specs.Bytes.{between};
 ghost use Rattle.rx_script.specs.Tokens.{number_of, number_from, most_of, digit_of, byte_of, one_byte, pairs_of};
-ghost use Rattle.rx_script.specs.Tokens.{bytes_of};
+ghost use Rattle.rx_script.specs.Tokens.{bytes_of, value_of};
 ghost use Rattle.rx_script.specs.Tokens.{single, ordered, range_of, ranges_from, set_of_word, numbered_mode, mode_word};
 
 use crate::names::anchored_of;
@@ -15,6 +15,24 @@ use std::alloc::{AllocError, Global};
 
 /// A number is below this.
 const NUMBER_LIMIT: u64 = 1 << 32;
+
+/// The value of what is no hexadecimal digit.
+const NO_DIGIT: u8 = 16;
+
+/// The value of each byte as a hexadecimal digit of either case. A table reads long texts without a branch a digit.
+const HEX_VALUES: [u8; 256] = [
+    16, 16, 16, 16, 16, 16, 16, 16, 16, 16, 16, 16, 16, 16, 16, 16, 16, 16, 16, 16, 16, 16, 16, 16,
+    16, 16, 16, 16, 16, 16, 16, 16, 16, 16, 16, 16, 16, 16, 16, 16, 16, 16, 16, 16, 16, 16, 16, 16,
+    0, 1, 2, 3, 4, 5, 6, 7, 8, 9, 16, 16, 16, 16, 16, 16, 16, 10, 11, 12, 13, 14, 15, 16, 16, 16,
+    16, 16, 16, 16, 16, 16, 16, 16, 16, 16, 16, 16, 16, 16, 16, 16, 16, 16, 16, 16, 16, 16, 16, 10,
+    11, 12, 13, 14, 15, 16, 16, 16, 16, 16, 16, 16, 16, 16, 16, 16, 16, 16, 16, 16, 16, 16, 16, 16,
+    16, 16, 16, 16, 16, 16, 16, 16, 16, 16, 16, 16, 16, 16, 16, 16, 16, 16, 16, 16, 16, 16, 16, 16,
+    16, 16, 16, 16, 16, 16, 16, 16, 16, 16, 16, 16, 16, 16, 16, 16, 16, 16, 16, 16, 16, 16, 16, 16,
+    16, 16, 16, 16, 16, 16, 16, 16, 16, 16, 16, 16, 16, 16, 16, 16, 16, 16, 16, 16, 16, 16, 16, 16,
+    16, 16, 16, 16, 16, 16, 16, 16, 16, 16, 16, 16, 16, 16, 16, 16, 16, 16, 16, 16, 16, 16, 16, 16,
+    16, 16, 16, 16, 16, 16, 16, 16, 16, 16, 16, 16, 16, 16, 16, 16, 16, 16, 16, 16, 16, 16, 16, 16,
+    16, 16, 16, 16, 16, 16, 16, 16, 16, 16, 16, 16, 16, 16,
+];
 
 /// Whether a word is this text.
 fn is(word: &[u8], text: &[u8]) -> bool
@@ -62,25 +80,28 @@ pub fn most(word: &[u8]) -> Option<Option<u32>>
     number(word).map(|most| Some(most))
 }
 
-fn hex_digit(digit: u8) -> Option<u8>
-    ensures { result ≡ digit_of digit }
+/// The value of a hexadecimal digit, or `NO_DIGIT`.
+#[inline]
+fn hex_value(digit: u8) -> u8
+    ensures { result ≡ value_of (digit_of digit) }
 {
-    match digit {
-        b'0'..=b'9' => Some(digit - b'0'),
-        b'a'..=b'f' => Some(digit - b'a' + 10),
-        b'A'..=b'F' => Some(digit - b'A' + 10),
-        _ => None,
-    }
+    HEX_VALUES[digit as usize]
 }
 
 /// The byte that two hexadecimal digits say.
+#[inline]
 fn byte(high: u8, low: u8) -> Option<u8>
     ensures { result ≡ byte_of high low }
 {
-    match (hex_digit(high), hex_digit(low)) {
-        (Some(high), Some(low)) => Some(16 * high + low),
-        _ => None,
+    let high_value = hex_value(high);
+    let low_value = hex_value(low);
+    if high_value >= NO_DIGIT {
+        return None;
     }
+    if low_value >= NO_DIGIT {
+        return None;
+    }
+    Some(16 * high_value + low_value)
 }
 
 /// The byte that a word of two digits says.
