@@ -9,8 +9,9 @@ use Rattle.rx_base.specs.Search.{mode_of}
 use Rattle.rx_base.specs.declared.search.Anchored.{Anchored as Mode}
 use Rattle.std.specs.Fmt.{decimal}
 use Rattle.rx_transfer.specs.Words.{mode_name}
-use Rattle.rx_main.specs.Commands.{IsMode, Says, feed_words, form_word, search_words, words_of}
+use Rattle.rx_main.specs.Commands.{IsMode, Says, equal_words, feed_words, form_word, search_words, words_of}
 use Rattle.rx_main.specs.declared.command.Command.{Command}
+use Rattle.rx_main.specs.declared.command.Equal.{Equal}
 use Rattle.rx_main.specs.declared.command.Feed.{Feed}
 use Rattle.rx_main.specs.declared.command.ReadCommand.{ReadCommand}
 use Rattle.rx_main.specs.declared.command.Search.{Search}
@@ -67,11 +68,21 @@ feed_by words = fed (form_by (first_of words 1)) (mode_by (get_or words 2 [])) (
 abbrev feed_or_find : ℕ → List (List ℕ) → Command
 feed_or_find byte words = if byte == 101 then Command.Feed (feed_by words) else Command.Read ReadCommand.Find
 
+abbrev compared : Form → Form → ℕ → Equal
+compared form other image_len = record { form = form; other = other; image_len = image_len }
+
+abbrev equal_by : List (List ℕ) → Equal
+equal_by words = compared (form_by (first_of words 1)) (form_by (first_of words 2)) (number_by words 3)
+
+-- `each` and `equal` begin alike
+abbrev each_or_equal : ℕ → List (List ℕ) → ReadCommand
+each_or_equal byte words = if byte == 97 then ReadCommand.Each else ReadCommand.Equal (equal_by words)
+
 -- A command is told by the first bytes of its first word, and by its other words.
 abbrev command_by : ℕ → List (List ℕ) → Command
 command_by byte words =
     if byte == 102 then feed_or_find (get_or (get_or words 0 []) 1 0) words
-    else (if byte == 101 then Command.Read ReadCommand.Each
+    else (if byte == 101 then Command.Read (each_or_equal (get_or (get_or words 0 []) 1 0) words)
     else (if byte == 105 then Command.Read (image_by (first_of words 1) (order_by (first_of words 2)))
     else (if byte == 99 then Command.Read (check_by (first_of words 1))
     else (if byte == 115 then Command.Read (cut_by (get_or (get_or words 0 []) 1 0) words)
@@ -93,6 +104,13 @@ same_feed f other e g h =
     ap (λ (form : Form). fed form f.mode f.image_len) e
     ∙ ap (λ (m : Mode). fed other.form m f.image_len) g
     ∙ ap (λ (n : ℕ). fed other.form other.mode n) h
+
+same_equal : (e other : Equal) → e.form ≡ other.form → e.other ≡ other.other → e.image_len ≡ other.image_len
+    → e ≡ other
+same_equal e other f g h =
+    ap (λ (form : Form). compared form e.other e.image_len) f
+    ∙ ap (λ (form : Form). compared other.form form e.image_len) g
+    ∙ ap (λ (n : ℕ). compared other.form other.other n) h
 
 form_told : (form : Form) → form_by (get_or (form_word form) 0 0) ≡ form
 form_told Form.Dense = refl
@@ -129,6 +147,12 @@ told (Command.Read (ReadCommand.Search s)) words says =
     digits_value-decimal own s.image_len (omega (arith, few)) in
     ap (λ (search : Search). Command.Read (ReadCommand.Search search))
     (same_search (search_by (search_words s)) s start_is end_is (mode_told s.mode is.mode) len_is)
+told (Command.Read (ReadCommand.Equal e)) words says =
+    let few = says.in_range.few in
+    let len_is : digits_value 10 (decimal e.image_len) ≡ e.image_len =
+    digits_value-decimal own e.image_len (omega (arith, few)) in
+    ap (λ (equal : Equal). Command.Read (ReadCommand.Equal equal))
+    (same_equal (equal_by (equal_words e)) e (form_told e.form) (form_told e.other) len_is)
 told (Command.Read (ReadCommand.Check Form.Dense)) words says = refl
 told (Command.Read (ReadCommand.Check Form.Sparse)) words says = refl
 told (Command.Feed f) words says =

@@ -26,5 +26,9 @@ pub mod SearchFinds
 -- the lines of tokens
 pub mod TokenLines
 pub mod ScanMatches
+-- the comparison of two tables
+pub mod EqualReplies
+pub mod WordTexts
+pub mod EqualAnswers
 -- at most one reply fits
 pub mod OneReply

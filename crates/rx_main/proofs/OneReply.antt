@@ -1,5 +1,6 @@
 -- At most one reply fits a command line and the bytes that were taken, but that a refused build names any cause, that
--- sparse tables may be refused by a bound, and that an image is any of a table of the plan.
+-- sparse tables may be refused by a bound, that an image is any of a table of the plan, and that any place and word
+-- that part two tables may be told.
 use Rattle.std.proofs.Common.{◌≡◌, ◌⊎◌, inl, inr, ℕ, ◌+◌, ◌≤◌, Bool, true, false, List, [], length}
 use Rattle.std.proofs.Common.{Option, Some, Result, Ok, Err, refl, sym, ap, ◌∙◌, arith, subst}
 use Rattle.rx_spec.specs.Expressions.{Expression}
@@ -20,14 +21,17 @@ use Rattle.rx_main.specs.Gen.{gen_patterns}
 use Rattle.rx_main.specs.Scripts.{AskedReplies, BuildReplies, PlanReplies, ScriptReplies}
 use Rattle.rx_main.specs.Find.{FindAnswers, found_reply, rows_text}
 use Rattle.rx_main.specs.Each.{EachAnswers}
+use Rattle.rx_main.specs.Equal.{EqualReplies, TellsParting}
 use Rattle.rx_main.specs.Image.{ImageAnswers, IsImageReply}
 use Rattle.rx_main.specs.PairImage.{PairImageAnswers, IsPairImageReply}
 use Rattle.rx_main.specs.Replies.{AsksFor, CommandReplies, IsBounded, ReadReplies, Replies, SayTheSame}
 use Rattle.rx_main.specs.declared.command.Command.{Command}
+use Rattle.rx_main.specs.declared.command.Equal.{Equal}
 use Rattle.rx_main.specs.declared.command.ReadCommand.{ReadCommand}
 use Rattle.rx_base.specs.Search.{mode_of}
 use Rattle.rx_feed.proofs.OneAnswer.{feed_once}
 use Rattle.rx_main.proofs.CommandWords.{spelled_once}
+use Rattle.rx_main.proofs.EqualReplies.{images_once}
 use Rattle.rx_main.proofs.Refusals.{plan_bounded, table_bounded}
 use Rattle.rx_main.proofs.RowCounts.{rows_once}
 
@@ -190,6 +194,17 @@ module _ (words : List (List ℕ)) (bytes : List ℕ) where
       (IsPairImageReply p script.exprs order)
       (λ reply other h k. SayTheSame.PairImages order script says spelled h k)
 
+  -- ---- images of two tables
+
+  parting_alike : (e : Equal) → Says words (Command.Read (ReadCommand.Equal e)) → (reply other : Reply)
+      → (reply ≡ other) ⊎ (TellsParting e bytes reply × TellsParting e bytes other)
+      → SayTheSame words bytes reply other
+  parting_alike e says reply other (inl same) = SayTheSame.Same same
+  parting_alike e says reply other (inr both) = SayTheSame.Partings e says both.0 both.1
+
+  equal_alike : (e : Equal) → Says words (Command.Read (ReadCommand.Equal e)) → AreAlike (EqualReplies e bytes)
+  equal_alike e says reply other h k = parting_alike e says reply other (images_once _ _ reply other h k)
+
   -- ---- commands
 
   read_alike : (command : ReadCommand) → Says words (Command.Read command) → AreAlike (ReadReplies command bytes)
@@ -203,6 +218,7 @@ module _ (words : List (List ℕ)) (bytes : List ℕ) where
   read_alike ReadCommand.CheckPair says = λ reply other h k. SayTheSame.Same (h ∙ sym k)
   read_alike (ReadCommand.Search s) says = λ reply other h k. SayTheSame.Same (h ∙ sym k)
   read_alike (ReadCommand.Scan form) says = λ reply other h k. SayTheSame.Same (h ∙ sym k)
+  read_alike (ReadCommand.Equal e) says = equal_alike e says
   read_alike (ReadCommand.Check form) says = λ reply other h k. SayTheSame.Same (h ∙ sym k)
 
   command_alike : (command : Command) → Says words command → (ended also : Bool) (reply other : Reply)

@@ -10,6 +10,7 @@ use Rattle.rx_wire.specs.declared.order.Order.{Order}
 use Rattle.rx_transfer.specs.Words.{mode_name}
 use Rattle.rx_main.specs.declared.command.Command.{Command}
 use Rattle.rx_main.specs.declared.command.ReadCommand.{ReadCommand}
+use Rattle.rx_main.specs.declared.command.Equal.{Equal}
 use Rattle.rx_main.specs.declared.command.Feed.{Feed}
 use Rattle.rx_main.specs.declared.command.Search.{Search}
 
@@ -37,6 +38,9 @@ search_words s =
     codes "search"
     ∷ (decimal s.start ∷ (decimal s.end ∷ (mode_name (mode_of s.mode) ∷ (decimal s.image_len ∷ []))))
 
+abbrev pub equal_words : Equal → List (List ℕ)
+equal_words e = codes "equal" ∷ (form_word e.form ∷ (form_word e.other ∷ (decimal e.image_len ∷ [])))
+
 abbrev pub read_words : ReadCommand → List (List ℕ)
 read_words ReadCommand.Find = codes "find" ∷ []
 read_words ReadCommand.Each = codes "each" ∷ []
@@ -46,6 +50,7 @@ read_words (ReadCommand.Check form) = codes "check" ∷ (form_word form ∷ [])
 read_words ReadCommand.CheckPair = codes "check" ∷ (pair_word ∷ [])
 read_words (ReadCommand.Search s) = search_words s
 read_words (ReadCommand.Scan form) = codes "scan" ∷ (form_word form ∷ [])
+read_words (ReadCommand.Equal e) = equal_words e
 
 abbrev pub feed_words : Feed → List (List ℕ)
 feed_words f =
@@ -78,6 +83,11 @@ pub record IsSearch (s : Search) : Type 0 where
   pub some : 1 ≤ s.image_len
   pub few : s.image_len ≤ most_bytes
 
+-- a first image of some of the bytes that are read
+pub record IsEqual (e : Equal) : Type 0 where
+  pub some : 1 ≤ e.image_len
+  pub few : e.image_len ≤ most_bytes
+
 -- an image that isn't longer than what a command reads that keeps it
 pub record IsFeed (f : Feed) : Type 0 where
   pub mode : IsMode (mode_of f.mode)
@@ -87,6 +97,7 @@ pub record IsFeed (f : Feed) : Type 0 where
 abbrev pub IsInRange : Command → Type 0
 IsInRange (Command.Gen count) = (1 ≤ count) × (count ≤ most_patterns)
 IsInRange (Command.Read (ReadCommand.Search s)) = IsSearch s
+IsInRange (Command.Read (ReadCommand.Equal e)) = IsEqual e
 IsInRange (Command.Read command) = Unit {0}
 IsInRange (Command.Feed f) = IsFeed f
 

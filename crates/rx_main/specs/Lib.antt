@@ -10,6 +10,8 @@ pub mod PairImage
 pub mod Check
 pub mod Search
 pub mod Scan
+pub mod EqualLines
+pub mod Equal
 pub mod Gen
 -- what is answered, and what a run leaves
 pub mod Replies

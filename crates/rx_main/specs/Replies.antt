@@ -19,8 +19,10 @@ use Rattle.rx_main.specs.PairImage.{PairImageReplies, IsPairImageReply}
 use Rattle.rx_main.specs.Check.{CheckPairReplies, CheckReplies}
 use Rattle.rx_main.specs.Search.{SearchReplies}
 use Rattle.rx_main.specs.Scan.{ScanReplies}
+use Rattle.rx_main.specs.Equal.{EqualReplies, TellsParting}
 use Rattle.rx_main.specs.Gen.{GenReplies, gen_patterns}
 use Rattle.rx_main.specs.declared.command.Command.{Command}
+use Rattle.rx_main.specs.declared.command.Equal.{Equal}
 use Rattle.rx_main.specs.declared.command.ReadCommand.{ReadCommand}
 
 -- all bytes were read, and there are no more than that
@@ -38,6 +40,7 @@ ReadReplies (ReadCommand.Check form) bytes reply = CheckReplies form bytes reply
 ReadReplies ReadCommand.CheckPair bytes reply = CheckPairReplies bytes reply
 ReadReplies (ReadCommand.Search s) bytes reply = SearchReplies s bytes reply
 ReadReplies (ReadCommand.Scan form) bytes reply = ScanReplies form bytes reply
+ReadReplies (ReadCommand.Equal e) bytes reply = EqualReplies e bytes reply
 
 abbrev pub CommandReplies : Command → List ℕ → Bool → Reply → Type 0
 CommandReplies (Command.Read command) bytes ended reply = AreRead bytes ended × ReadReplies command bytes reply
@@ -77,7 +80,8 @@ pub record IsBounded (p : Plan) (es : List Expression) (table : PlanTable) (repl
 
 -- Two replies to the words and the bytes are the same, or each says that a build is refused: where several causes hold,
 -- any of them may be told. Or one says that the sparse tables that are asked for are refused by a bound. Or each is an
--- image of the table that is asked for, or of both: rows of one kind may lie in any order.
+-- image of the table that is asked for, or of both: rows of one kind may lie in any order. Or each tells a place and a
+-- word that part the tables of the images: any such may be told.
 pub data SayTheSame (words : List (List ℕ)) (bytes : List ℕ) (reply other : Reply) : Type 0 where
   Same : reply ≡ other → SayTheSame words bytes reply other
   Refusals : IsRefusal (λ (cause : Cause). Unit {0}) reply → IsRefusal (λ (cause : Cause). Unit {0}) other
@@ -92,3 +96,5 @@ pub data SayTheSame (words : List (List ℕ)) (bytes : List ℕ) (reply other : 
       → Says words (Command.Read (ReadCommand.ImagePair order)) → Spells false bytes script
       → IsPairImageReply (plan_of script.plan) script.exprs order reply
       → IsPairImageReply (plan_of script.plan) script.exprs order other → SayTheSame words bytes reply other
+  Partings : (e : Equal) → Says words (Command.Read (ReadCommand.Equal e)) → TellsParting e bytes reply
+      → TellsParting e bytes other → SayTheSame words bytes reply other

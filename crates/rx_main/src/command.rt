@@ -46,6 +46,8 @@ pub enum ReadCommand {
     Search(Search),
     /// The tokens by the table of an image of a form, of what comes behind it.
     Scan(Form),
+    /// Whether the tables of two images mean the same.
+    Equal(Equal),
 }
 
 /// A search by the tables of an image.
@@ -58,6 +60,17 @@ pub struct Search {
     /// Where a match may begin.
     pub mode: Anchored,
     /// How many of the bytes are the image, from 1 to 16,777,216. The haystack comes behind them.
+    pub image_len: u32,
+}
+
+/// A comparison of the tables of two images.
+#[derive(Clone, Copy, Debug, PartialEq, Eq)]
+pub struct Equal {
+    /// The form of the first table.
+    pub form: Form,
+    /// The form of the second table.
+    pub other: Form,
+    /// How many of the bytes are the first image, from 1 to 16,777,216. The second comes behind them.
     pub image_len: u32,
 }
 
@@ -86,7 +99,7 @@ pub fn command_of(words: &Words) -> Option<Command>
         1 => single_word(words.word(0)),
         2 => two_words(words.word(0), words.word(1)),
         3 => three_words(words.word(0), words.word(1), words.word(2)),
-        4 => feed_of(words.word(0), words.word(1), words.word(2), words.word(3)),
+        4 => four_words(words.word(0), words.word(1), words.word(2), words.word(3)),
         5 => search_of(
             words.word(0),
             words.word(1),
@@ -146,16 +159,24 @@ fn three_words(word: &[u8], table: &[u8], order: &[u8]) -> Option<Command>
     Some(Command::Read(ReadCommand::Image(table, order)))
 }
 
-fn feed_of(word: &[u8], form: &[u8], mode: &[u8], image_len: &[u8]) -> Option<Command>
-    ensures { MatchOption result (SaysNothing (word.now ∷ (form.now ∷ (mode.now ∷ (image_len.now ∷ [])))))
-        (Says (word.now ∷ (form.now ∷ (mode.now ∷ (image_len.now ∷ []))))) }
+fn four_words(word: &[u8], form: &[u8], other: &[u8], image_len: &[u8]) -> Option<Command>
+    ensures { MatchOption result (SaysNothing (word.now ∷ (form.now ∷ (other.now ∷ (image_len.now ∷ [])))))
+        (Says (word.now ∷ (form.now ∷ (other.now ∷ (image_len.now ∷ []))))) }
 {
+    if is(word, b"equal") {
+        let equal = Equal {
+            form: form_of(form)?,
+            other: form_of(other)?,
+            image_len: number_of(image_len, 1, MOST_BYTES)?,
+        };
+        return Some(Command::Read(ReadCommand::Equal(equal)));
+    }
     if !is(word, b"feed") {
         return None;
     }
     let feed = Feed {
         form: form_of(form)?,
-        mode: mode_of(mode)?,
+        mode: mode_of(other)?,
         image_len: number_of(image_len, 1, MOST_BYTES)?,
     };
     Some(Command::Feed(feed))

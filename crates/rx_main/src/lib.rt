@@ -9,6 +9,7 @@
 mod check;
 mod command;
 mod each;
+mod equal;
 mod find;
 mod generate;
 mod image;

@@ -113,7 +113,7 @@ fn push_error(text: &mut String, error: &MatchError) -> Result<(), AllocError>
 }
 
 /// A lower-case hexadecimal digit.
-fn hex_digit(digit: u8) -> char
+pub fn hex_digit(digit: u8) -> char
     requires { digit < 16 }
     ensures { result ≡ hex_code digit }
 {

@@ -15,6 +15,7 @@ ghost use Rattle.rx_main.specs.declared.command.Command.{Command as Asked};
 use crate::check::{check, check_pair};
 use crate::command::{Command, Feed, ReadCommand, command_of};
 use crate::each::each;
+use crate::equal::equal;
 use crate::find::find;
 use crate::generate::generate;
 use crate::image::{image, pair_image};
@@ -108,6 +109,7 @@ fn read_reply(alloc: Global, command: ReadCommand, bytes: &[u8]) -> Result<Reply
         ReadCommand::CheckPair => check_pair(alloc, bytes),
         ReadCommand::Search(asked) => search(alloc, &asked, bytes),
         ReadCommand::Scan(form) => scan(alloc, form, bytes),
+        ReadCommand::Equal(asked) => equal(alloc, &asked, bytes),
     }
 }
 

@@ -30,10 +30,10 @@ pub fn search(alloc: Global, search: &Search, bytes: &[u8]) -> Result<Reply, All
     }
 }
 
-/// The bytes of the image and those of the haystack.
-fn parts(image_len: u32, bytes: &[u8]) -> (&[u8], &[u8])
+/// The bytes of an image and those behind it.
+pub fn parts(image_len: u32, bytes: &[u8]) -> (&[u8], &[u8])
     ensures image { result.0.now ≡ take image_len bytes.now }
-    ensures haystack { result.1.now ≡ drop image_len bytes.now }
+    ensures behind { result.1.now ≡ drop image_len bytes.now }
 {
     let len = bytes.len().min(image_len as usize);
     bytes.split_at(len)

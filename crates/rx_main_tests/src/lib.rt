@@ -2,6 +2,8 @@
 #![tactic(auto)]
 
 #[cfg(test)]
+mod equals;
+#[cfg(test)]
 mod feeds;
 #[cfg(test)]
 mod images;

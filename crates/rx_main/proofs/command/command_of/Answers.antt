@@ -33,4 +33,4 @@ returns-in-4 c =
     let words = four_words c.args.words.now c.word-in-4.result.now c.word-in-4-2.result.now c.word-in-4-3.result.now
     c.word-in-4-4.result.now (sym c.len.ensures ∙ c.in-4.is) c.word-in-4.ensures c.word-in-4-2.ensures
     c.word-in-4-3.ensures c.word-in-4-4.ensures in
-    subst (λ ws. MatchOption c.feed_of.result (SaysNothing ws) (Says ws)) (sym words) c.feed_of.ensures
+    subst (λ ws. MatchOption c.four_words.result (SaysNothing ws) (Says ws)) (sym words) c.four_words.ensures

@@ -9,7 +9,7 @@ pub returns-in-Ok : goal.returns-in-Ok
 returns-in-Ok c =
     IfOk-weaker c.pair_reply.result _ _
     (λ reply told.
-    searched_reply c.args.search.now c.args.bytes.now reply c.parts.ensures.image c.parts.ensures.haystack
+    searched_reply c.args.search.now c.args.bytes.now reply c.parts.ensures.image c.parts.ensures.behind
     c.in-Ok.ensures.read told)
     c.pair_reply.ensures
 
