@@ -156,7 +156,7 @@ fn spans_inside_a_haystack_end_where_they_end(rt: HostRuntime) -> Result<(), Fai
             *byte = b'x';
         }
     }
-    'ends: for more in 0..200 {
+    'ends: for more in 0..190 {
         let end = 8_190 + 113 * more;
         assert_eq!(rt;
             check_far(&rt, &marked, &text, 1, end.min(29_998)),

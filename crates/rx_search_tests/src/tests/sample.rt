@@ -200,8 +200,7 @@ impl Automaton for Sample {
         self.id(self.next(self.row(current), 256))
     }
 
-    fn leads_as_previous(&self, byte: u8) -> bool {
-        let _ = (&self.told, byte);
+    fn leads_as_previous(&self, _byte: u8) -> bool {
         false
     }
 
