@@ -35,7 +35,7 @@ const SPARSE_LETTER: &str = "plan sparse/expr lit 61";
 
 /// Two scripts with the forms of their tables, and the answer to the images of their forward tables.
 ///
-/// A row of one table is reached with one row of a table that has the same rows. No quit row is reached.
+/// A row of one table is reached with one row of a table that has the same rows. The quit row is reached by quit bytes.
 const EQUAL: &[([&str; 2], &str, &str, &str)] = &[
     (
         ["dense", "dense"],
@@ -58,12 +58,18 @@ const EQUAL: &[([&str; 2], &str, &str, &str)] = &[
         "equal 10\n",
     ),
     (["dense", "sparse"], "", "plan sparse", "equal 1\n"),
-    // patterns that no search may ask for, and such that it may
+    // starts for each pattern, and quit bytes
     (
         ["dense", "sparse"],
         "plan patterns/expr lit 61",
         "plan sparse patterns noclasses/expr lit 61",
         "equal 6\n",
+    ),
+    (
+        ["dense", "sparse"],
+        "plan quit=7a/expr lit 61",
+        "plan sparse quit=7a/expr lit 61",
+        "equal 7\n",
     ),
 ];
 
