@@ -1,17 +1,19 @@
 -- How far a walk from a place has come, which row it met last, and what each turn adds.
-use Rattle.std.proofs.Common.{◌≡◌, ◌≢◌, ℕ, suc, zero, ◌+◌, ◌-◌, ◌<◌, ◌≤◌, ◌==◌, true, false, Option, Some, None, Ok}
-use Rattle.std.proofs.Common.{Err}
+use Rattle.std.proofs.Common.{◌≡◌, ◌≢◌, ℕ, suc, zero, ◌+◌, ◌-◌, ◌<◌, ◌≤◌, ◌==◌, true, false, if◌then◌else◌}
+use Rattle.std.proofs.Common.{Option, Some, None, Ok, Err}
 use Rattle.std.proofs.Common.{List, [], ◌∷◌, length, slice_index, refl, ap, ap₂, sym, ◌∙◌, subst, arith, ⊎_elim}
-use Rattle.std.proofs.lemmas.Bool.{le-ltb, cases_eq}
+use Rattle.std.proofs.lemmas.Bool.{le-ltb, cases_eq, eqb-true, eq-eqb}
 use Rattle.std.proofs.lemmas.Option.{slice_get_past}
 use Rattle.std.specs.Option.{option_or}
 use Rattle.rx_spec.specs.Bytes.{AreBytes, unit_of}
+use Rattle.rx_spec.specs.HalfSearches.{HalfAnswer}
 use Rattle.rx_spec.specs.Ids.{row_of}
 use Rattle.rx_spec.specs.Queries.{HalfMatch, MatchError, is_done}
-use Rattle.rx_spec.specs.Overlapping.{Ending, OverlappingMatches, none_left, pattern_items, overlapping_walk}
+use Rattle.rx_spec.specs.Overlapping.{Ending, OverlappingMatches, none_left, pattern_items}
 use Rattle.rx_spec.specs.Overlapping.{whole_overlapping_walk, with_items}
 use Rattle.rx_spec.specs.Tables.{Table, is_match}
 use Rattle.rx_spec.specs.declared.Direction.{Direction}
+use Rattle.rx_lemmas.proofs.Firsts.{by_test}
 use Rattle.rx_lemmas.proofs.Overlapping.{overlapping_walks, overlapping_refused}
 use Rattle.rx_search.specs.Labels.{is_quit, patterns_of}
 use Rattle.rx_search.specs.Needles.{byte_ahead, is_read}
@@ -25,28 +27,61 @@ use Rattle.rx_search.proofs.Halves.{Open, some_pattern}
 use Rattle.rx_search.proofs.Overlaps.{told_by_stop, overlapping_stops, walk_met, walk_ended, goes_on_at, over_at}
 use Rattle.rx_all.specs.Matches.{query_at, told_at}
 use Rattle.rx_scan.specs.Tokens.{longest, longest_of, unless_ended}
-use Rattle.rx_scan.specs.Walks.{IsMet, MetIs, LastMet, longest_met}
+use Rattle.rx_scan.specs.Walks.{IsMet, IsLast, LastMet, Walked, kept_met, longest_met, told_later}
 use Rattle.rx_scan.specs.declared.longest.MetRow.{MetRow}
-use Rattle.rx_scan.proofs.LongestMatches.{or_none, or_assoc, longest-nil, longest_append, longest_row}
+use Rattle.rx_scan.proofs.LongestMatches.{longest_here, or_none, or_assoc, longest-nil, longest_append, longest_row}
 use Rattle.rx_all.proofs.PastOffsets.{AllPast, walk_past}
+
+abbrev pub told : Option HalfMatch → HalfAnswer
+told m = Ok m
 
 module _ (t : Table) (ids text : List ℕ) (p : ℕ) where
   -- what is told from a row and an offset on
-  abbrev pub told_from : ℕ → ℕ → OverlappingMatches
-  told_from row at =
-      overlapping_walk t.machine Direction.Forward row at (units_left Direction.Forward (query_at text p) at)
+  abbrev told_from : ℕ → ℕ → OverlappingMatches
+  told_from row at = told_later t text p row at
 
-  pub record Walked (row at : ℕ) (last : Option MetRow) : Type 0 where
-    pub low : p ≤ at
-    pub high : at ≤ length text
-    pub best : longest p (told_at t text p).items
-        ≡ option_or (longest p (told_from row at).items) (longest_met t ids p last)
-    pub ending : (told_at t text p).ending ≡ (told_from row at).ending
-    pub met : MetIs t ids p (length text) last
-    pub none_yet : at ≡ p → last ≡ None
+  abbrev WalkedTo : ℕ → ℕ → Option MetRow → Type 0
+  WalkedTo row at last = Walked t ids text p row at last
+
+  -- ---- at the walk's beginning a match row counts for nothing
+
+  abbrev nothing_met : (met : MetRow) → (met.offset == p) ≡ true → longest_met t ids p (Some met) ≡ None
+  nothing_met met here =
+      let ks = patterns_of t (row_of ids met.row) in
+      ap (λ (o : ℕ). longest p (pattern_items ks o)) (eqb-true met.offset p here) ∙ longest_here p ks
+
+  pub walk_keeps : {row at : ℕ} (met : MetRow) → WalkedTo row at (Some met) → WalkedTo row at (kept_met p met)
+  walk_keeps {row} {at} met w =
+      by_test (met.offset == p)
+      (λ here. subst (λ v. WalkedTo row at (if v then None else Some met)) (sym here) (record {
+        low = w.low;
+        high = w.high;
+        best = w.best ∙ ap (option_or (longest p (told_from row at).items)) (nothing_met met here);
+        ending = w.ending;
+        met = tt;
+        none_yet = λ e. refl;
+      }))
+      (λ past. subst (λ v. WalkedTo row at (if v then None else Some met)) (sym past) w)
+
+  pub last_keeps : {matches : OverlappingMatches} (met : MetRow) → IsLast t ids p (length text) matches (Some met)
+      → IsLast t ids p (length text) matches (kept_met p met)
+  last_keeps {matches} met last =
+      by_test (met.offset == p)
+      (λ here. subst (λ v. IsLast t ids p (length text) matches (if v then None else Some met)) (sym here) (record {
+        best = last.best ∙ ap told (nothing_met met here);
+        met = tt;
+      }))
+      (λ past. subst (λ v. IsLast t ids p (length text) matches (if v then None else Some met)) (sym past) last)
+
+  pub walk_starts : (id : ℕ) → WalkedTo (row_of ids id) p None
+      → WalkedTo (row_of ids id) p (kept_met p (record { row = id; offset = p }))
+  walk_starts id w =
+      subst (λ v. WalkedTo (row_of ids id) p (if v then None else Some (record { row = id; offset = p })))
+      (sym (eq-eqb p p refl)) w
 
   -- where it begins
-  pub walk_begins : (row : ℕ) → p < length text → IsStart t Direction.Forward (query_at text p) row → Walked row p None
+  pub walk_begins : (row : ℕ) → p < length text → IsStart t Direction.Forward (query_at text p) row
+      → WalkedTo row p None
   walk_begins row more start =
       let q = query_at text p in
       let goes : is_done q ≡ false = le-ltb (length text) p (omega arith) in
@@ -71,7 +106,7 @@ module _ (t : Table) (ids text : List ℕ) (p : ℕ) where
       refused.refused)
       ∙ ap (λ (e : MatchError). Err e) (sym refused.error_is)
 
-  module _ {row at : ℕ} {last : Option MetRow} (w : Walked row at last) where
+  module _ {row at : ℕ} {last : Option MetRow} (w : WalkedTo row at last) where
     in_span : IsInSpan (query_at text p) at
     in_span = record { low = w.low; high = w.high }
 
@@ -87,13 +122,12 @@ module _ (t : Table) (ids text : List ℕ) (p : ℕ) where
     ending_by e = w.ending ∙ ap (λ (m : OverlappingMatches). m.ending) e
 
     -- nothing more is told
-    pub walk_over : told_from row at ≡ none_left Ending.Ended → LastMet t ids p (length text) (told_at t text p)
-        (Ok last)
-    walk_over e = (
-      ap₂ unless_ended (ending_by e)
-          (best_by e ∙ ap (λ (o : Option HalfMatch). option_or o (longest_met t ids p last)) (longest-nil p)),
-      w.met,
-    )
+    pub walk_over : told_from row at ≡ none_left Ending.Ended → IsLast t ids p (length text) (told_at t text p) last
+    walk_over e = record {
+      best = ap₂ unless_ended (ending_by e)
+          (best_by e ∙ ap (λ (o : Option HalfMatch). option_or o (longest_met t ids p last)) (longest-nil p));
+      met = w.met;
+    }
 
     pub walk_quits : (byte offset : ℕ) → told_from row at ≡ none_left (Ending.Quits byte offset)
         → LastMet t ids p (length text) (told_at t text p) (Err (MatchError.Quit byte offset))
@@ -143,7 +177,7 @@ module _ (t : Table) (ids text : List ℕ) (p : ℕ) where
         open_query = let low = w.low in let high = w.high in record { order = omega arith; fits = omega arith }
 
         pub met_on : Step t Direction.Forward (query_at text p) row at (row_of ids id)
-            → Walked (row_of ids id) (at + 1) (Some (record { row = id; offset = at }))
+            → WalkedTo (row_of ids id) (at + 1) (Some (record { row = id; offset = at }))
         met_on step =
             let q = query_at text p in
             let low = w.low in
@@ -164,7 +198,7 @@ module _ (t : Table) (ids text : List ℕ) (p : ℕ) where
 
         pub met_last : at ≡ length text → {unit : ℕ} → LastStep t Direction.Forward (query_at text p) row unit
             (row_of ids id)
-            → LastMet t ids p (length text) (told_at t text p) (Ok (Some (record { row = id; offset = at })))
+            → IsLast t ids p (length text) (told_at t text p) (Some (record { row = id; offset = at }))
         met_last over step =
             let q = query_at text p in
             let none = none_left Ending.Ended in
@@ -172,16 +206,17 @@ module _ (t : Table) (ids text : List ℕ) (p : ℕ) where
             ≡ Stop.Match (row_of ids id) o (units_after Direction.Forward q o)) (sym over) (last_match step is) in
             let told : told_from row at ≡ with_items (pattern_items ks at) none
             = walk_met t Direction.Forward q row at s is stop
-            ∙ ap (with_items (pattern_items ks at)) (over_at s is Direction.Forward q at open_query in_span over) in (
-              ap₂ unless_ended (ending_by told)
+            ∙ ap (with_items (pattern_items ks at)) (over_at s is Direction.Forward q at open_query in_span over) in
+            record {
+              best = ap₂ unless_ended (ending_by told)
                   (best_behind none told tt
-                  ∙ ap (λ (o : Option HalfMatch). option_or o (longest_met t ids p here)) (longest-nil p)),
-              met_here,
-            )
+                  ∙ ap (λ (o : Option HalfMatch). option_or o (longest_met t ids p here)) (longest-nil p));
+              met = met_here;
+            }
 
     -- a quiet row
     pub quiet_on : {next : ℕ} → Step t Direction.Forward (query_at text p) row at next → IsQuiet t next
-        → Walked next (at + 1) last
+        → WalkedTo next (at + 1) last
     quiet_on {next} step is =
         let q = query_at text p in
         let low = w.low in
@@ -201,7 +236,7 @@ module _ (t : Table) (ids text : List ℕ) (p : ℕ) where
         }
 
     pub ends_there : {next : ℕ} → Step t Direction.Forward (query_at text p) row at next → is_match t next ≡ false
-        → is_quit t next ≡ false → (next == 0) ≡ true → LastMet t ids p (length text) (told_at t text p) (Ok last)
+        → is_quit t next ≡ false → (next == 0) ≡ true → IsLast t ids p (length text) (told_at t text p) last
     ends_there step no_match no_quit dead =
         walk_over (walk_ended t Direction.Forward (query_at text p) row at (step_ends step no_match no_quit dead))
 
@@ -215,7 +250,7 @@ module _ (t : Table) (ids text : List ℕ) (p : ℕ) where
         ∙ ap (told_by_stop t.machine Direction.Forward) (step_quits step quits))
 
     pub ends_last : {unit next : ℕ} → at ≡ length text → LastStep t Direction.Forward (query_at text p) row unit next
-        → is_match t next ≡ false → is_quit t next ≡ false → LastMet t ids p (length text) (told_at t text p) (Ok last)
+        → is_match t next ≡ false → is_quit t next ≡ false → IsLast t ids p (length text) (told_at t text p) last
     ends_last {unit} {next} over step no_match no_quit =
         let q = query_at text p in
         walk_over (walk_ended t Direction.Forward q row at
@@ -226,7 +261,7 @@ module _ (t : Table) (ids text : List ℕ) (p : ℕ) where
 
   module _ (id : ℕ) (s : Standing t (row_of ids id)) (bytes : AreBytes text) where
     -- a byte that isn't read leads the row to itself
-    stays : {at : ℕ} {last : Option MetRow} → Walked (row_of ids id) at last → at < length text
+    stays : {at : ℕ} {last : Option MetRow} → WalkedTo (row_of ids id) at last → at < length text
         → is_read t (row_of ids id) (slice_index text at) ≡ false
         → Step t Direction.Forward (query_at text p) (row_of ids id) at (row_of ids id)
     stays {at} w more unread = record {
@@ -236,60 +271,60 @@ module _ (t : Table) (ids text : List ℕ) (p : ℕ) where
     }
 
     quiet_bytes : (n at : ℕ) {last : Option MetRow} → is_match t (row_of ids id) ≡ false
-        → Walked (row_of ids id) at last → at + n ≤ length text
+        → WalkedTo (row_of ids id) at last → at + n ≤ length text
         → ((k : ℕ) → at ≤ k → k < at + n → is_read t (row_of ids id) (slice_index text k) ≡ false)
-        → Walked (row_of ids id) (at + n) last
+        → WalkedTo (row_of ids id) (at + n) last
     quiet_bytes zero at {last} no_match w h unread =
-        let same : at ≡ at + 0 = omega arith in subst (λ (o : ℕ). Walked (row_of ids id) o last) same w
+        let same : at ≡ at + 0 = omega arith in subst (λ (o : ℕ). WalkedTo (row_of ids id) o last) same w
     quiet_bytes (suc n) at {last} no_match w h unread =
         let more : at < length text = omega (arith, h) in
         let first = unread at (omega arith) (omega arith) in
         let there : at + 1 + n ≡ at + suc n = omega arith in
         let quiet = unread_quiet s (slice_index text at) (bytes at 0 more) no_match first in
-        subst (λ (o : ℕ). Walked (row_of ids id) o last) there
+        subst (λ (o : ℕ). WalkedTo (row_of ids id) o last) there
         (quiet_bytes n (at + 1) no_match (quiet_on w (stays w more first) quiet) (omega (arith, h))
         (λ k low high. unread k (omega (arith, low)) (omega (arith, high))))
 
     -- a quiet row skips
     pub quiet_skips : {at to : ℕ} {last : Option MetRow} → is_match t (row_of ids id) ≡ false
-        → Walked (row_of ids id) at last → IsSkip t (row_of ids id) text at to → Walked (row_of ids id) to last
+        → WalkedTo (row_of ids id) at last → IsSkip t (row_of ids id) text at to → WalkedTo (row_of ids id) to last
     quiet_skips {at} {to} {last} no_match w skip =
         let low = skip.low in
         let high = skip.high in
         let there : at + (to - at) ≡ to = omega arith in
-        subst (λ (o : ℕ). Walked (row_of ids id) o last) there
+        subst (λ (o : ℕ). WalkedTo (row_of ids id) o last) there
         (quiet_bytes (to - at) at no_match w (omega arith) (λ k l h. skip.skipped k l (omega (arith, h, there))))
 
     abbrev met_at : ℕ → Option MetRow
     met_at at = Some (record { row = id; offset = at })
 
     met_bytes : (n at : ℕ) → is_match t (row_of ids id) ≡ true → IsId ids id
-        → Walked (row_of ids id) (at + 1) (met_at at) → at + 1 + n ≤ length text
+        → WalkedTo (row_of ids id) (at + 1) (met_at at) → at + 1 + n ≤ length text
         → ((k : ℕ) → at + 1 ≤ k → k < at + 1 + n → is_read t (row_of ids id) (slice_index text k) ≡ false)
-        → Walked (row_of ids id) (at + n + 1) (met_at (at + n))
+        → WalkedTo (row_of ids id) (at + n + 1) (met_at (at + n))
     met_bytes zero at is is_id w h unread =
         let same : at ≡ at + 0 = omega arith in
-        subst (λ (o : ℕ). Walked (row_of ids id) (o + 1) (met_at o)) same w
+        subst (λ (o : ℕ). WalkedTo (row_of ids id) (o + 1) (met_at o)) same w
     met_bytes (suc n) at is is_id w h unread =
         let more : at + 1 < length text = omega (arith, h) in
         let first = unread (at + 1) (omega arith) (omega arith) in
         let there : at + 1 + n ≡ at + suc n = omega arith in
-        subst (λ (o : ℕ). Walked (row_of ids id) (o + 1) (met_at o)) there
+        subst (λ (o : ℕ). WalkedTo (row_of ids id) (o + 1) (met_at o)) there
         (met_bytes n (at + 1) is is_id (met_on w id s is is_id (stays w more first)) (omega (arith, h))
         (λ k low high. unread k (omega (arith, low)) (omega (arith, high))))
 
     -- a match row skips, and is met again at each place
     pub met_skips : {at to : ℕ} → is_match t (row_of ids id) ≡ true → IsId ids id
-        → Walked (row_of ids id) (at + 1) (met_at at) → IsSkip t (row_of ids id) text (at + 1) to
-        → Walked (row_of ids id) to (met_at (to - 1))
+        → WalkedTo (row_of ids id) (at + 1) (met_at at) → IsSkip t (row_of ids id) text (at + 1) to
+        → WalkedTo (row_of ids id) to (met_at (to - 1))
     met_skips {at} {to} is is_id w skip =
         let low = skip.low in
         let high = skip.high in
         let n = to - (at + 1) in
         let there : at + n ≡ to - 1 = omega arith in
         let behind : to - 1 + 1 ≡ to = omega arith in
-        subst (λ (o : ℕ). Walked (row_of ids id) o (met_at (to - 1))) behind
-        (subst (λ (o : ℕ). Walked (row_of ids id) (o + 1) (met_at o)) there
+        subst (λ (o : ℕ). WalkedTo (row_of ids id) o (met_at (to - 1))) behind
+        (subst (λ (o : ℕ). WalkedTo (row_of ids id) (o + 1) (met_at o)) there
         (met_bytes n at is is_id w (omega arith)
         (λ k l h. skip.skipped k l (omega (arith, h)))))
 

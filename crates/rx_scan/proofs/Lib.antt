@@ -4,6 +4,8 @@ pub mod LineCounts
 pub mod LongestMatches
 pub mod LowestPatterns
 pub mod LastRows
+-- where tokens start
+pub mod StartsKept
 -- what is told of expressions
 pub mod TokenMeanings
 -- the tokens by the first of them

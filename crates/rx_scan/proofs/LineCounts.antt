@@ -1,8 +1,8 @@
 -- Lines: bytes that are no line feed change nothing.
-use Rattle.std.proofs.Common.{◌≡◌, ℕ, zero, suc, ◌+◌, ◌-◌, ◌<◌, ◌≤◌, Bool, true, false, if◌then◌else◌, Option, Some}
-use Rattle.std.proofs.Common.{None}
+use Rattle.std.proofs.Common.{◌≡◌, ◌≢◌, ℕ, zero, suc, ◌+◌, ◌-◌, ◌<◌, ◌≤◌, Bool, true, false, if◌then◌else◌}
+use Rattle.std.proofs.Common.{Option, Some, None, ⊎_elim}
 use Rattle.std.proofs.Common.{List, length, take, drop, refl, ap, sym, ◌∙◌, arith, length-drop, length-take-le}
-use Rattle.std.proofs.lemmas.Bool.{false_from_ne_true}
+use Rattle.std.proofs.lemmas.Bool.{false_from_ne_true, cases_eq}
 use Rattle.std.proofs.lemmas.List.{get_or-take, get_or-drop}
 use Rattle.std.proofs.lemmas.Option.{slice_get-get_or}
 use Rattle.std.specs.Prelude.{slice_index}
@@ -61,11 +61,19 @@ module _ (text : List ℕ) where
       let few = feeds_few i in
       by_test (is_feed i) (λ e. let on = feeds_on i e in omega arith) (λ e. let same = feeds_same i e in omega arith)
 
-  pub start_before : (p : ℕ) → line_start text p ≤ p
-  start_before zero = let e = start_zero in omega arith
-  start_before (suc i) =
-      let before = start_before i in
-      by_test (is_feed i) (λ e. let on = start_on i e in omega arith) (λ e. let same = start_same i e in omega arith)
+  -- a place of the line that goes on at a later one
+  pub same_line : (p q : ℕ) → line_start text q ≤ p → p ≤ q
+      → (line_feeds text q ≡ line_feeds text p) × (line_start text q ≡ line_start text p)
+  same_line p zero begun low = let e : 0 ≡ p = omega (arith, low) in (ap (line_feeds text) e, ap (line_start text) e)
+  same_line p (suc i) begun low =
+      ⊎_elim
+      (λ (e : p ≡ suc i). (ap (line_feeds text) (sym e), ap (line_start text) (sym e)))
+      (λ (other : p ≢ suc i). by_test (is_feed i)
+      (λ feed. let on = start_on i feed in absurd (omega (arith, on, begun, low, other)))
+      (λ none. let before = same_line p i (let same = start_same i none in omega (arith, same, begun))
+      (omega (arith, low, other)) in
+      (feeds_same i none ∙ before.0, start_same i none ∙ before.1)))
+      (cases_eq p (suc i))
 
   -- ---- the bytes from a place up to another
 
@@ -112,6 +120,12 @@ module _ (text : List ℕ) where
       plain_before : (k : ℕ) → k < i → is_feed (at + k) ≡ false
       plain_before =
           none_before i (let w = found_within in omega (arith, w)) (λ k h. first.0.before k (omega arith) h)
+
+      pub feeds_before : line_feeds text at ≡ line_feeds text (at + i)
+      feeds_before = sym (feeds_kept at i plain_before)
+
+      pub start_before_feed : line_start text at ≡ line_start text (at + i)
+      start_before_feed = sym (start_kept at i plain_before)
 
       feed_there : is_feed (at + i) ≡ true
       feed_there = feed_is i found_within ∙ first.1

@@ -1,31 +1,39 @@
-use Rattle.std.proofs.Common.{◌<◌, ℕ, Option, Some, Ok, sym, ◌∙◌, ap, arith}
+use Rattle.std.proofs.Common.{◌≡◌, ◌<◌, ◌==◌, true, false, if◌then◌else◌, Option, Some, None, sym, ◌∙◌, ap, subst}
+use Rattle.std.proofs.Common.{arith, length}
+use Rattle.std.proofs.lemmas.Bool.{eq-eqb, eqb-true, false_from_ne_true}
 use Rattle.rx_spec.specs.Ids.{row_of}
-use Rattle.rx_spec.specs.HalfSearches.{HalfAnswer}
-use Rattle.rx_spec.specs.Overlapping.{pattern_items}
 use Rattle.rx_spec.specs.Queries.{HalfMatch}
 use Rattle.rx_search.specs.Labels.{patterns_of}
-use Rattle.rx_scan.specs.Tokens.{longest}
-use Rattle.rx_scan.proofs.LongestMatches.{longest_here, longest_lowest}
+use Rattle.rx_all.specs.Matches.{told_at}
+use Rattle.rx_scan.specs.Walks.{IsLast, kept_met, longest_met}
+use Rattle.rx_scan.specs.declared.longest.MetRow.{MetRow}
+use Rattle.rx_scan.proofs.LastRows.{told}
+use Rattle.rx_scan.proofs.LongestMatches.{longest_lowest}
 use Rattle.rx_scan.proofs.longest.longest.Goals as goal
-
-abbrev told : Option HalfMatch → HalfAnswer
-told m = Ok m
 
 pub returns-then-met-from-clause-value : goal.returns-then-met-from-clause-value
 returns-then-met-from-clause-value g c =
-    let ks = patterns_of (g.A.Automaton.table c.args.table.now)
-    (row_of (g.A.Automaton.ids c.args.table.now) c.in-Ok-Some.met.row) in
-    let says = rw c.in-Ok-Some.field-0-is at c.in-Ok-Some.ensures in
-    let none = ap (λ (o : ℕ). longest c.args.from (pattern_items ks o)) c.if-met-from.true ∙ longest_here c.args.from
-    ks in
-    sym (says.0 ∙ ap told none)
+    let t = g.A.Automaton.table c.args.table.now in
+    let ids = g.A.Automaton.ids c.args.table.now in
+    let met : MetRow = c.in-Ok-last_met.met in
+    let none : kept_met c.args.from met ≡ None
+    = ap (λ v. if v then None else Some met) (eq-eqb met.offset c.args.from c.if-met-from.true) in
+    sym (c.in-Ok-last_met.ensures.best
+    ∙ ap (λ (last : Option MetRow). told (longest_met t ids c.args.from last)) none)
 
 pub returns-else-met-from-clause-value : goal.returns-else-met-from-clause-value
 returns-else-met-from-clause-value g c =
-    let ks = patterns_of (g.A.Automaton.table c.args.table.now)
-    (row_of (g.A.Automaton.ids c.args.table.now) c.in-Ok-Some.met.row) in
-    let says = rw c.in-Ok-Some.field-0-is at c.in-Ok-Some.ensures in
-    let from = says.1.from in
-    let above : c.args.from < c.in-Ok-Some.met.offset = omega (arith, from, c.if-met-from.false) in
-    let some = longest_lowest c.args.from c.in-Ok-Some.met.offset ks c.lowest.result above c.lowest.ensures in
-    ap (λ (m : HalfMatch). told (Some m)) c.new.ensures ∙ sym (says.0 ∙ ap told some)
+    let t = g.A.Automaton.table c.args.table.now in
+    let ids = g.A.Automaton.ids c.args.table.now in
+    let text = c.args.text.now in
+    let met : MetRow = c.in-Ok-last_met.met in
+    let some : kept_met c.args.from met ≡ Some met
+    = ap (λ v. if v then None else Some met) (false_from_ne_true (met.offset == c.args.from)
+    (λ e. c.if-met-from.false (eqb-true met.offset c.args.from e))) in
+    let last = subst (IsLast t ids c.args.from (length text) (told_at t text c.args.from)) some
+    c.in-Ok-last_met.ensures in
+    let ks = patterns_of t (row_of ids met.row) in
+    let from = last.met.from in
+    let above : c.args.from < met.offset = omega (arith, from, c.if-met-from.false) in
+    let lowest = longest_lowest c.args.from met.offset ks c.lowest.result above c.lowest.ensures in
+    ap (λ (m : HalfMatch). told (Some m)) c.new.ensures ∙ sym (last.best ∙ ap told lowest)

@@ -3,7 +3,7 @@ use Rattle.rx_spec.specs.Queries.{HalfMatch}
 use Rattle.rx_base.specs.MatchError.{error_of}
 use Rattle.rx_scan.specs.Tokens.{IsMeantEnd, no_more, error_end}
 use Rattle.rx_scan.specs.declared.token.ScanEnd.{ScanEnd}
-use Rattle.rx_scan.proofs.LineCounts.{feeds_few, start_before}
+use Rattle.rx_scan.proofs.LineCounts.{feeds_few, same_line}
 use Rattle.rx_scan.proofs.TokenSteps.{over_now, token_now, token_made, no_tokens, ends_now, error_meant, stuck_meant}
 use Rattle.rx_scan.proofs.scanner.ScannerIterator.next.Goals as goal
 use Rattle.rx_scan.proofs.scanner.ScannerIterator.next.Goals.{in-Quit, in-UnsupportedAnchored, in-PairMismatch}
@@ -19,12 +19,20 @@ pub overflow_add-token : goal.overflow_add-token
 overflow_add-token g c =
     let s = c.args.self.now in
     let within = rw c.in-Ok-Some.field-0-is at c.in-Ok-Some.ensures.within in
-    omega (arith, s.feeds, feeds_few s.text.now s.at, within.0, c.offset-end.ensures, c.offset-end.type_inv)
+    omega (
+      arith,
+      s.counted.feeds,
+      feeds_few s.text.now s.lines.known,
+      s.counted.within,
+      within.0,
+      c.offset-end.ensures,
+      c.offset-end.type_inv,
+    )
 
 pub overflow_sub-token : goal.overflow_sub-token
 overflow_sub-token g c =
     let s = c.args.self.now in
-    omega (arith, s.start, start_before s.text.now s.at)
+    omega (arith, s.begun)
 
 pub returns-in-Ok-Some-clause-steps : goal.returns-in-Ok-Some-clause-steps
 returns-in-Ok-Some-clause-steps g c =
@@ -33,11 +41,12 @@ returns-in-Ok-Some-clause-steps g c =
     let text = s.text.now in
     let m : HalfMatch = c.in-Ok-Some.found in
     let goes = sym c.is_some.ensures ∙ c.if-is_some.false in
-    let more : s.at < length text = omega (arith, s.within, c.if-self.false) in
+    let more : s.at < length text = omega (arith, s.ahead, s.counted.within, c.if-self.false) in
     let told = sym (rw c.in-Ok-Some.field-0-is at c.in-Ok-Some.ensures.value) in
     let now = token_now t text s.at s.end goes m more c.longest.ensures.bytes told in
+    let line = same_line text s.at s.lines.known (omega (arith, s.begun, s.counted.start)) s.ahead in
     token_made t text s.at s.end m c.pattern.result c.offset-end.result s.lines.feeds s.lines.start
-    c.pattern.ensures c.offset-end.ensures s.feeds s.start now
+    c.pattern.ensures c.offset-end.ensures (s.counted.feeds ∙ line.0) (s.counted.start ∙ line.1) now
 
 pub returns-in-Ok-Some-clause-goes : goal.returns-in-Ok-Some-clause-goes
 returns-in-Ok-Some-clause-goes g c =
@@ -51,7 +60,7 @@ returns-in-Ok-None-clause-steps g c =
     let t = g.A.Automaton.table s.table.now in
     let text = s.text.now in
     let goes = sym c.is_some.ensures ∙ c.if-is_some.false in
-    let more : s.at < length text = omega (arith, s.within, c.if-self.false) in
+    let more : s.at < length text = omega (arith, s.ahead, s.counted.within, c.if-self.false) in
     let told = sym (rw c.in-Ok-None.field-0-is at c.in-Ok-None.ensures.value) in
     over_now t text s.at s.end goes (ScanEnd.Stuck s.at)
     (stuck_meant t text s.at more c.longest.ensures.bytes told) (ends_now t text s.at more told refl)
@@ -62,7 +71,7 @@ returns-after-kind-clause-steps g c =
     let t = g.A.Automaton.table s.table.now in
     let text = s.text.now in
     let goes = sym c.is_some.ensures ∙ c.if-is_some.false in
-    let more : s.at < length text = omega (arith, s.within, c.if-self.false) in
+    let more : s.at < length text = omega (arith, s.ahead, s.counted.within, c.if-self.false) in
     let why : error_end c.in-Err.error ≡ c.match-kind.self = elim c.match-kind.branch [
       | in-Quit w ↦ ap error_end (sym c.kind.ensures ∙ ap error_of w.in-Quit.is) ∙ sym w.self-is
       | in-UnsupportedAnchored w ↦

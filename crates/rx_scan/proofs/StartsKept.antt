@@ -1,0 +1,75 @@
+-- Where tokens start: a start that was asked for once is that of each place behind the same byte.
+use Rattle.std.proofs.Common.{◌==◌, true, ◌≡◌, ◌≢◌, ℕ, suc, ◌-◌, ◌<◌, ◌≤◌, Option, Some, List, length, slice_index_or}
+use Rattle.std.proofs.Common.{None, slice_set, ap, sym, ◌∙◌, subst, arith, ⊎_elim}
+use Rattle.std.proofs.lemmas.Bool.{cases_eq, eq-eqb}
+use Rattle.std.specs.Prelude.{not}
+use Rattle.std.proofs.lemmas.Grind.{get_or_default_zero, get_or-set_at}
+use Rattle.std.proofs.lemmas.List.{get_or-set_other}
+use Rattle.std.proofs.lemmas.Option.{slice_get-get_or}
+use Rattle.rx_spec.specs.Bytes.{AreBytes}
+use Rattle.rx_spec.specs.Ids.{row_of}
+use Rattle.rx_spec.specs.Looks.{before}
+use Rattle.rx_spec.specs.Queries.{Anchored}
+use Rattle.rx_spec.specs.Starts.{start_error, start_row}
+use Rattle.rx_spec.specs.Tables.{Table}
+use Rattle.rx_spec.specs.declared.Direction.{Direction}
+use Rattle.rx_search.specs.Starts.{IsId, IsStart}
+use Rattle.rx_all.specs.Matches.{query_at}
+use Rattle.rx_scan.specs.Starts.{AreStarts}
+
+-- a place behind a byte
+pub record IsBehind (text kept : List ℕ) (p : ℕ) : Type 0 where
+  pub past : p ≢ 0
+  pub within : p ≤ length text
+  pub bytes : AreBytes text
+  pub whole : length kept ≡ 256
+
+module _ (t : Table) (ids text kept : List ℕ) (p : ℕ) (place : IsBehind text kept p) (are : AreStarts t ids kept) where
+  abbrev byte : ℕ
+  byte = slice_index_or text (p - 1) 0
+
+  abbrev StartsHere : ℕ → Type 0
+  StartsHere id = IsId ids id × IsStart t Direction.Forward (query_at text p) (row_of ids id)
+
+  here : before text p ≡ Some byte
+  here =
+      let within = place.within in
+      let e : p ≡ suc (p - 1) = omega (arith, place.past) in
+      ap (before text) e ∙ slice_get-get_or text (p - 1) 0 (omega (arith, place.past, within))
+
+  below : byte < 256
+  below = let within = place.within in place.bytes (p - 1) 0 (omega (arith, place.past, within))
+
+  there : byte < length kept
+  there = let below = below in omega (arith, below, place.whole)
+
+  pub start_behind : (d : ℕ) → not (slice_index_or kept byte d == 0) ≡ true → StartsHere (slice_index_or kept byte d)
+  start_behind d some =
+      let is_some : slice_index_or kept byte d ≢ 0
+      = λ e. let v : not true ≡ true = sym (ap not (eq-eqb (slice_index_or kept byte d) 0 e)) ∙ some in absurd (cc) in
+      let same = get_or_default_zero kept byte d there in
+      let s = are byte below (λ e. is_some (same ∙ e)) in
+      subst StartsHere (sym same) (
+        s.1,
+        record {
+          allowed = ap (λ (b : Option ℕ). start_error t.settings b Anchored.Yes) here ∙ s.0;
+          row_is = s.2 ∙ sym (ap (λ (b : Option ℕ). start_row t.machine t.settings b Anchored.Yes) here);
+        },
+      )
+
+  pub start_kept : (id : ℕ) → StartsHere id → AreStarts t ids (slice_set kept byte id)
+  start_kept id s b low some =
+      ⊎_elim
+      (λ (e : b ≡ byte). let is = get_or-set_at kept byte b id 0 e there in
+      subst (λ (x : ℕ). (start_error t.settings (Some b) Anchored.Yes ≡ None) × IsId ids x
+      × (row_of ids x ≡ start_row t.machine t.settings (Some b) Anchored.Yes)) (sym is)
+      (let at : Some b ≡ before text p = ap (λ (x : ℕ). Some x) e ∙ sym here in (
+        ap (λ (o : Option ℕ). start_error t.settings o Anchored.Yes) at ∙ s.1.allowed,
+        s.0,
+        s.1.row_is ∙ sym (ap (λ (o : Option ℕ). start_row t.machine t.settings o Anchored.Yes) at),
+      )))
+      (λ (other : b ≢ byte). let is = get_or-set_other kept byte b id 0 other in
+      subst (λ (x : ℕ). (start_error t.settings (Some b) Anchored.Yes ≡ None) × IsId ids x
+      × (row_of ids x ≡ start_row t.machine t.settings (Some b) Anchored.Yes)) (sym is)
+      (are b low (λ e. some (is ∙ e))))
+      (cases_eq b byte)
