@@ -1,5 +1,7 @@
 //! What no clause says: how many pairs and which words are told of tables worked by hand, and that calls succeed.
 
+mod altered;
+
 ghost use Rattle.std.specs.Prelude.{IfOk};
 ghost use Rattle.rx_spec.specs.Tables.{IsSound};
 ghost use Rattle.rx_dense.specs.Layouts.{table_of};
