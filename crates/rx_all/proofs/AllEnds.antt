@@ -15,11 +15,11 @@ use Rattle.rx_spec.specs.Overlapping.{Item, Ending, OverlappingMatches, pattern_
 use Rattle.rx_spec.specs.Overlapping.{at_item_label}
 use Rattle.rx_spec.specs.declared.Direction.{Direction}
 use Rattle.rx_spec.specs.declared.MatchKind.{MatchKind}
-use Rattle.rx_lemmas.proofs.Firsts.{by_test, Contains-here, Contains-there, Contains-cases, Contains-nil}
-use Rattle.rx_lemmas.proofs.Overlapping.{state_overlapping, overlapping_dead, overlapping_quits, overlapping_steps}
-use Rattle.rx_lemmas.proofs.ReadUnits.{unit_at, units_from, units_from-suc}
-use Rattle.rx_lemmas.proofs.SilentRows.{dead_empty}
-use Rattle.rx_lemmas.proofs.Walking.{Dead, Quits, Steps, leads}
+use Rattle.lemmas_walks.proofs.Firsts.{by_test, Contains-here, Contains-there, Contains-cases, Contains-nil}
+use Rattle.lemmas_walks.proofs.Overlapping.{state_overlapping, overlapping_dead, overlapping_quits, overlapping_steps}
+use Rattle.lemmas_walks.proofs.ReadUnits.{unit_at, units_from, units_from-suc}
+use Rattle.lemmas_walks.proofs.SilentRows.{dead_empty}
+use Rattle.lemmas_walks.proofs.Walking.{Dead, Quits, Steps, leads}
 use Rattle.rx_meaning.proofs.FirstSuccess.{first_of-nil, first_of-cons}
 use Rattle.rx_meaning.proofs.Solution.{given, given_none}
 use Rattle.rx_meaning.proofs.Closures.{first_given}

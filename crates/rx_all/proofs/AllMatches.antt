@@ -19,12 +19,12 @@ use Rattle.rx_spec.specs.Overlapping.{Item, Ending, OverlappingMatches, overlapp
 use Rattle.rx_spec.specs.Plans.{Plan}
 use Rattle.rx_spec.specs.declared.Direction.{Direction}
 use Rattle.rx_spec.specs.declared.Start.{Start}
-use Rattle.rx_lemmas.proofs.Firsts.{Contains-here, Contains-there}
-use Rattle.rx_lemmas.proofs.HalfSearches.{Begins, Done, Refused, Started, begins, going, started, build_start}
-use Rattle.rx_lemmas.proofs.Overlapping.{overlapping_walks, overlapping_refused}
-use Rattle.rx_lemmas.proofs.OverlappingBounds.{overlapping_in_span}
-use Rattle.rx_lemmas.proofs.Reaches.{reaches_sound, reaches_lie}
-use Rattle.rx_lemmas.proofs.ReadUnits.{All-got, units_from-alike, units_read}
+use Rattle.lemmas_walks.proofs.Firsts.{Contains-here, Contains-there}
+use Rattle.lemmas_walks.proofs.HalfSearches.{Begins, Done, Refused, Started, begins, going, started, build_start}
+use Rattle.lemmas_walks.proofs.Overlapping.{overlapping_walks, overlapping_refused}
+use Rattle.lemmas_walks.proofs.OverlappingBounds.{overlapping_in_span}
+use Rattle.lemmas_walks.proofs.Reaches.{reaches_sound, reaches_lie}
+use Rattle.lemmas_walks.proofs.ReadUnits.{All-got, units_from-alike, units_read}
 use Rattle.rx_meaning.proofs.NfaStarts.{one_worth, all_worth, start_gives}
 use Rattle.rx_meaning.proofs.Scan.{Scan, read_in, StandsAt, Asked, scan_of}
 use Rattle.rx_meaning.proofs.StartStates.{begin_state, first_state, begin_stands, begin_gives}

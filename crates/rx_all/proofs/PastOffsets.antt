@@ -7,9 +7,9 @@ use Rattle.rx_spec.specs.Machines.{Label, Machine}
 use Rattle.rx_spec.specs.Overlapping.{Item, Ending, OverlappingMatches, none_left, pattern_items, at_item_label}
 use Rattle.rx_spec.specs.Overlapping.{overlapping_walk}
 use Rattle.rx_spec.specs.declared.Direction.{Direction}
-use Rattle.rx_lemmas.proofs.Every.{every-append}
-use Rattle.rx_lemmas.proofs.Firsts.{Contains-cases, Contains-nil}
-use Rattle.rx_lemmas.proofs.Overlapping.{overlapping-nil, overlapping-cons}
+use Rattle.lemmas_walks.proofs.Every.{every-append}
+use Rattle.lemmas_walks.proofs.Firsts.{Contains-cases, Contains-nil}
+use Rattle.lemmas_walks.proofs.Overlapping.{overlapping-nil, overlapping-cons}
 
 abbrev pub EndsPast : ℕ → Item → Type 0
 EndsPast o Item.Skipped = Unit {0}

@@ -15,11 +15,11 @@ use Rattle.rx_spec.specs.Queries.{Anchored, Query}
 use Rattle.rx_spec.specs.Starts.{StartError, has_anchored, has_unanchored, start_context, start_error, start_row}
 use Rattle.rx_spec.specs.Tables.{Table}
 use Rattle.rx_spec.specs.declared.Direction.{Direction}
-use Rattle.rx_lemmas.proofs.Firsts.{Contains-here}
-use Rattle.rx_lemmas.proofs.HalfSearches.{Begins, Done, Refused, Started, begins, going, started}
-use Rattle.rx_lemmas.proofs.Overlapping.{overlapping_done, overlapping_refused, overlapping_walks}
-use Rattle.rx_lemmas.proofs.ReadUnits.{beside_is_byte, units_word}
-use Rattle.rx_lemmas.proofs.SilentRows.{AnyNode, IsRow, power_ends_well, table_ends_well}
+use Rattle.lemmas_walks.proofs.Firsts.{Contains-here}
+use Rattle.lemmas_walks.proofs.HalfSearches.{Begins, Done, Refused, Started, begins, going, started}
+use Rattle.lemmas_walks.proofs.Overlapping.{overlapping_done, overlapping_refused, overlapping_walks}
+use Rattle.lemmas_walks.proofs.ReadUnits.{beside_is_byte, units_word}
+use Rattle.lemmas_walks.proofs.SilentRows.{AnyNode, IsRow, power_ends_well, table_ends_well}
 use Rattle.rx_meaning.proofs.AlikeRows.{Alike, overlapping_alike}
 use Rattle.rx_all.specs.Builds.{all_build}
 use Rattle.rx_all.specs.Matches.{IsPlaced, query_at, told_at}

@@ -14,7 +14,7 @@ use Rattle.rx_spec.specs.Starts.{supports}
 use Rattle.rx_spec.specs.States.{dead_state}
 use Rattle.rx_spec.specs.Tables.{Table, IsTable}
 use Rattle.rx_spec.specs.declared.Start.{Start}
-use Rattle.rx_lemmas.proofs.SilentRows.{zero_is_silent}
+use Rattle.lemmas_walks.proofs.SilentRows.{zero_is_silent}
 use Rattle.rx_dense.specs.Layouts.{Layout, table_of}
 use Rattle.rx_minimize.specs.Minimized.{IsMinimized}
 use Rattle.rx_order.specs.Ordering.{IsAccelerated}

@@ -7,8 +7,8 @@ use Rattle.rx_spec.specs.Machines.{IsWord, run}
 use Rattle.rx_spec.specs.Power.{IsPower}
 use Rattle.rx_spec.specs.Queries.{Anchored}
 use Rattle.rx_spec.specs.Tables.{Table, IsTable}
-use Rattle.rx_lemmas.proofs.SilentRows.{IsRow}
-use Rattle.rx_lemmas.proofs.Words.{run-nil, run-cons, run-within, IsWord-head, IsWord-tail}
+use Rattle.lemmas_walks.proofs.SilentRows.{IsRow}
+use Rattle.lemmas_walks.proofs.Words.{run-nil, run-cons, run-within, IsWord-head, IsWord-tail}
 use Rattle.rx_minimize.specs.Minimized.{AnyMode, AreReachedRows}
 use Rattle.rx_order.specs.Permuted.{IsPermuted}
 use Rattle.rx_determinize.proofs.PermutedLaws.{HasMoved, moved_power, number, number_old, old_below, old_high, old_row}

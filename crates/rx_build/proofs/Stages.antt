@@ -11,7 +11,7 @@ use Rattle.rx_spec.specs.Queries.{Anchored}
 use Rattle.rx_spec.specs.declared.Start.{Start}
 use Rattle.rx_order.specs.RowOrder.{IsInOrder, is_marked, is_start_row}
 use Rattle.rx_order.specs.Ordering.{IsAccelerated}
-use Rattle.rx_remap.proofs.Places.{row_at_place}
+use Rattle.rx_order.proofs.ExchangedRows.{row_at_place}
 use Rattle.rx_determinize.specs.Determinized.{IsDeterminized}
 use Rattle.rx_minimize.specs.Minimized.{AreReachedRows, IsMinimized}
 use Rattle.rx_meaning.proofs.PowerTables.{power_gives, power_is_reached}

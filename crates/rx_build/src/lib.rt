@@ -16,5 +16,4 @@ pub mod laws;
 pub use rx_build_error::{BuildError, BuildErrorKind};
 pub use rx_determinize as determinize;
 pub use rx_minimize::Minimizer;
-pub use rx_order::{accelerate, shuffle};
-pub use rx_remap::{Remappable, Remapper};
+pub use rx_order::{Remappable, Remapper, accelerate, shuffle};

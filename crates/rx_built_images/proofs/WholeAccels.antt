@@ -9,7 +9,7 @@ use Rattle.std.proofs.lemmas.List.{get_or_past}
 use Rattle.std.proofs.lemmas.Nat.{pow_pos}
 use Rattle.std.proofs.lemmas.Slice.Eq.{bytes_eq-Decides}
 use Rattle.rx_spec.specs.Tables.{IsSound, leaving}
-use Rattle.rx_table_lemmas.proofs.Filters.{every_in_range, filter_alike}
+use Rattle.lemmas_tables.proofs.Filters.{every_in_range, filter_alike}
 use Rattle.rx_dense.specs.Layouts.{AreRows, IsRowId, Layout, column, machine_of, needles_of_id, next_id}
 use Rattle.rx_dense.specs.Layouts.{place_in_range, row_count, stride, table_of}
 use Rattle.rx_dense.proofs.Rows.{IsRowId-row, column_within, quotient}

@@ -17,5 +17,3 @@ pub mod UniversalStarts
 -- rows, transitions and start entries, as they are handed out one by one, and ranges of classes
 pub mod States
 pub mod Ranges
--- rows as lists, when two change places and when all are renamed
-pub mod RowLists

@@ -11,7 +11,7 @@ use Rattle.std.proofs.lemmas.List.{get_or-drop, get_or-take}
 use Rattle.std.proofs.lemmas.List.Sums.{passes_at_first}
 use Rattle.std.proofs.lemmas.Nat.{one_shl, pow_pos, mod-mul-add, mul-le, row_fits, le-div, div-add-mod'}
 use Rattle.rx_spec.specs.Ids.{id_of, row_of}
-use Rattle.rx_table_lemmas.proofs.Ids.{row_of-id_of, id_of-dense, dense_are_ids}
+use Rattle.lemmas_tables.proofs.Ids.{row_of-id_of, id_of-dense, dense_are_ids}
 use Rattle.rx_search.specs.Starts.{IsId}
 use Rattle.rx_dense.specs.Layouts.{Layout, IsRowId, AreRows, AreStarts, stride, row_count, ids_of, is_row_id}
 use Rattle.rx_spec.specs.Queries.{Anchored}

@@ -11,7 +11,7 @@ use Rattle.std.proofs.lemmas.List.{get_or_append_left, get_or-append_right, get_
 use Rattle.std.proofs.lemmas.Nat.{pow_pos, mod-mul-add, mul-le, div-add-mod'}
 use Rattle.std.proofs.lemmas.List.FromFn.{length-map-range_with_len}
 use Rattle.rx_spec.specs.Contexts.{start_of_byte}
-use Rattle.rx_table_lemmas.proofs.ClassNumbers.{stride_holds, stride_within}
+use Rattle.lemmas_tables.proofs.ClassNumbers.{stride_holds, stride_within}
 use Rattle.rx_spec.specs.Causes.{max_id}
 use Rattle.rx_base.specs.ByteClasses.{AreClasses, alphabet_len}
 use Rattle.rx_dense.specs.Layouts.{Layout, IsRowId, AreRows, AreStarts, AreLists, IsShaped, ids_of, row_count}

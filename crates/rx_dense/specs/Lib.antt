@@ -11,5 +11,3 @@ pub mod Parts
 pub mod Builder
 -- rows and start entries, as they are handed out one by one
 pub mod States
--- rows as lists that change places
-pub mod RowLists

@@ -16,7 +16,6 @@ mod automaton;
 mod build;
 pub(crate) mod parts;
 mod pattern_map;
-mod remappable;
 mod rows;
 pub(crate) mod starts;
 pub(crate) mod states;

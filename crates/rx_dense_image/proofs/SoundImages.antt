@@ -18,7 +18,7 @@ use Rattle.rx_spec.specs.Machines.{Label}
 use Rattle.rx_spec.specs.Queries.{Anchored}
 use Rattle.rx_spec.specs.Tables.{IsSound, IsTable, is_match, is_match_label, leaving}
 use Rattle.rx_spec.specs.declared.Start.{Start}
-use Rattle.rx_table_lemmas.proofs.Filters.{every_in_range, filter_alike}
+use Rattle.lemmas_tables.proofs.Filters.{every_in_range, filter_alike}
 use Rattle.rx_base.specs.ByteClasses.{alphabet_len}
 use Rattle.rx_dense.specs.Specials.{greatest, is_accel_id, is_in_range, is_match_id, is_quit_id, is_start_id}
 use Rattle.rx_dense.specs.Layouts.{IsRowId, IsShaped, Layout, column, context_number, is_row_id, label_of_id}

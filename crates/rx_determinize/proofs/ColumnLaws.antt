@@ -13,8 +13,8 @@ use Rattle.rx_spec.specs.Classes.{class_by, column_by, ends_class, representativ
 use Rattle.rx_spec.specs.Nfas.{Nfa}
 use Rattle.rx_base.proofs.Classes.{ends_of-class}
 use Rattle.rx_base.specs.ByteClasses.{AreClasses, ends_of, alphabet_len}
-use Rattle.rx_table_lemmas.proofs.ClassNumbers.{representatives_counted, representative_class, representative_below}
-use Rattle.rx_table_lemmas.proofs.Classes.{column_leads}
+use Rattle.lemmas_tables.proofs.ClassNumbers.{representatives_counted, representative_class, representative_below}
+use Rattle.lemmas_tables.proofs.Classes.{column_leads}
 use Rattle.rx_base.specs.Unit.{unit_number}
 use Rattle.rx_dense.specs.Layouts.{Layout, column}
 use Rattle.rx_spec.specs.declared.Unit.{Unit}

@@ -7,7 +7,7 @@ use Rattle.rx_spec.specs.Bytes.{contains}
 use Rattle.rx_spec.specs.Classes.{class_by, ends_class, parts}
 use Rattle.rx_spec.specs.Nfas.{Nfa}
 use Rattle.rx_base.proofs.Classes.{class_by-alike}
-use Rattle.rx_table_lemmas.proofs.ClassNumbers.{class_of_all}
+use Rattle.lemmas_tables.proofs.ClassNumbers.{class_of_all}
 use Rattle.rx_expr.specs.NfaRows.{rows_part}
 use Rattle.rx_determinize.specs.Determinized.{classes_of}
 

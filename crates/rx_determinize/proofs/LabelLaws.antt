@@ -12,7 +12,7 @@ use Rattle.rx_spec.specs.Starts.{supports}
 use Rattle.rx_spec.specs.States.{State, cut, decided_rows, pattern_of, row_at, step}
 use Rattle.rx_spec.specs.declared.MatchKind.{MatchKind}
 use Rattle.rx_spec.specs.declared.Start.{Start}
-use Rattle.rx_lemmas.proofs.Words.{run-within}
+use Rattle.lemmas_walks.proofs.Words.{run-within}
 use Rattle.rx_expr.specs.NfaRows.{NamesPatterns}
 
 module _ (count : ℕ) where

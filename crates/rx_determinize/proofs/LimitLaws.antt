@@ -17,7 +17,7 @@ use Rattle.rx_base.specs.ByteClasses.{AreClasses}
 use Rattle.rx_dense.specs.Builder.{Beginning}
 use Rattle.rx_dense.proofs.Shaped.{shaped_initial}
 use Rattle.rx_dense.specs.Layouts.{Layout, AreRows, start_entries, stride}
-use Rattle.rx_table_lemmas.proofs.Sizes.{determinizer_grows, exceeds_exactly, ids_grow, labels_grow, table_grows}
+use Rattle.lemmas_tables.proofs.Sizes.{determinizer_grows, exceeds_exactly, ids_grow, labels_grow, table_grows}
 use Rattle.rx_build_error.specs.Refusals.{IsRefused, TableRefused}
 use Rattle.rx_build_error.specs.declared.BuildErrorKind.{BuildErrorKind}
 use Rattle.rx_expr.specs.NfaRows.{NamesPatterns}

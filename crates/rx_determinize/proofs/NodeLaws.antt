@@ -17,7 +17,7 @@ use Rattle.rx_spec.specs.Starts.{supports}
 use Rattle.rx_spec.specs.States.{State, context_of_rows, dead_state, state_at, step}
 use Rattle.rx_spec.specs.declared.MatchKind.{MatchKind}
 use Rattle.rx_spec.specs.declared.Start.{Start}
-use Rattle.rx_lemmas.proofs.SilentRows.{dead_empty}
+use Rattle.lemmas_walks.proofs.SilentRows.{dead_empty}
 use Rattle.rx_determinize.specs.WorkLists.{nodes, IsRowOf}
 
 -- a state that is made and is dead has no facts

@@ -13,7 +13,7 @@ use Rattle.rx_spec.specs.Queries.{Anchored}
 use Rattle.rx_spec.specs.States.{State, dead_state}
 use Rattle.rx_spec.specs.Tables.{Table}
 use Rattle.rx_spec.specs.declared.Start.{Start}
-use Rattle.rx_remap.proofs.Places.{place_of-row, places_apart, row_at_place, row_below}
+use Rattle.rx_order.proofs.ExchangedRows.{place_of-row, places_apart, row_at_place, row_below}
 use Rattle.rx_dense.specs.Layouts.{Layout, table_of, row_count}
 use Rattle.rx_order.specs.Ordering.{Matches, label_by}
 use Rattle.rx_order.specs.Permuted.{IsPermuted}

@@ -2,7 +2,7 @@
 use Rattle.std.proofs.Common.{◌≡◌, ℕ, ◌*◌, ◌/◌, ◌<◌, length, ap, sym, ◌∙◌, arith}
 use Rattle.rx_spec.specs.Ids.{row_of}
 use Rattle.rx_search.specs.Starts.{IsId}
-use Rattle.rx_table_lemmas.proofs.Ids.{row_of-id_of, id_of-dense, dense_are_ids}
+use Rattle.lemmas_tables.proofs.Ids.{row_of-id_of, id_of-dense, dense_are_ids}
 use Rattle.rx_dense.proofs.Rows.{multiple_below, no_more}
 use Rattle.rx_dense.specs.Layouts.{Layout, AreRows, IsRowId, ids_of, row_count, stride}
 use Rattle.std.proofs.lemmas.Nat.{div-mul-add, mod-mul-add, pow_pos}

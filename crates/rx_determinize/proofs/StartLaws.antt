@@ -21,8 +21,8 @@ use Rattle.rx_spec.specs.Queries.{Anchored}
 use Rattle.rx_spec.specs.Starts.{has_anchored, has_unanchored}
 use Rattle.rx_spec.specs.States.{start_state}
 use Rattle.rx_spec.specs.declared.Start.{Start}
-use Rattle.rx_lemmas.proofs.Firsts.{Contains-here}
-use Rattle.rx_lemmas.proofs.Words.{IsWord-nil, run-nil}
+use Rattle.lemmas_walks.proofs.Firsts.{Contains-here}
+use Rattle.lemmas_walks.proofs.Words.{IsWord-nil, run-nil}
 use Rattle.rx_dense.specs.Builder.{Beginning, initial, with_start}
 use Rattle.rx_dense.specs.Layouts.{Layout, AreRows, column, context_number, machine_of, mode_place, row_count}
 use Rattle.rx_dense.specs.Layouts.{stride}

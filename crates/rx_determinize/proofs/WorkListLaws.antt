@@ -15,8 +15,8 @@ use Rattle.rx_spec.specs.Builds.{Build, Node, Quit, Running, dead, is_dead, is_d
 use Rattle.rx_spec.specs.Builds.{IsReached, AreReached}
 use Rattle.rx_spec.specs.Causes.{Exceeds}
 use Rattle.rx_spec.specs.declared.Start.{Start}
-use Rattle.rx_lemmas.proofs.Words.{run-append, run-nil, run-cons, IsWord-append, IsWord-cons, IsWord-nil}
-use Rattle.rx_lemmas.proofs.Words.{IsWord-head, IsWord-tail}
+use Rattle.lemmas_walks.proofs.Words.{run-append, run-nil, run-cons, IsWord-append, IsWord-cons, IsWord-nil}
+use Rattle.lemmas_walks.proofs.Words.{IsWord-head, IsWord-tail}
 use Rattle.rx_determinize.specs.WorkLists.{nodes, next_row, IsRowOf, IsWorkList, AreStartRows, Interns}
 
 pub slice_get-append : {X : Type 0} (xs ys : List X) (i : ℕ) (x : X) → slice_get xs i ≡ Some x

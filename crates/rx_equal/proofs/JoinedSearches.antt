@@ -12,7 +12,7 @@ use Rattle.rx_spec.specs.Splits.{items_unsplit}
 use Rattle.rx_spec.specs.Joining.{Answer, match_at, with_start, back_from, with_end, joined_search, join}
 use Rattle.rx_spec.specs.Iterating.{FoundMatches, is_repeat, unless_repeat, and_then, iterate_from}
 use Rattle.rx_spec.specs.declared.Direction.{Direction}
-use Rattle.rx_lemmas.proofs.ReadUnits.{narrower_bytes}
+use Rattle.lemmas_walks.proofs.ReadUnits.{narrower_bytes}
 use Rattle.rx_equal.specs.Partings.{IsModeOf}
 use Rattle.rx_equal.specs.Searches.{MeanTheSame, PairsMeanTheSame, HalfUnsplitAlike, OverlappingUnsplitAlike, JoinAlike}
 use Rattle.rx_equal.specs.Searches.{IterateAlike}

@@ -10,12 +10,13 @@ use Rattle.rx_spec.specs.HalfSearches.{beside, half_search, first_offset, units_
 use Rattle.rx_spec.specs.Overlapping.{overlapping}
 use Rattle.rx_spec.specs.Tables.{Table, IsTable}
 use Rattle.rx_spec.specs.declared.Direction.{Direction}
-use Rattle.rx_lemmas.proofs.HalfSearches.{Begins, Done, Refused, Started, begins, half_done, half_refused, half_walks}
-use Rattle.rx_lemmas.proofs.HalfSearches.{going}
-use Rattle.rx_lemmas.proofs.Overlapping.{overlapping_done, overlapping_refused, overlapping_walks}
-use Rattle.rx_lemmas.proofs.ReadUnits.{beside_is_byte, units_word}
-use Rattle.rx_lemmas.proofs.SilentRows.{IsRow, table_ends_well}
-use Rattle.rx_lemmas.proofs.Words.{IsWord-nil}
+use Rattle.lemmas_walks.proofs.HalfSearches.{Begins, Done, Refused, Started, begins}
+use Rattle.lemmas_walks.proofs.HalfSearches.{half_done, half_refused, half_walks}
+use Rattle.lemmas_walks.proofs.HalfSearches.{going}
+use Rattle.lemmas_walks.proofs.Overlapping.{overlapping_done, overlapping_refused, overlapping_walks}
+use Rattle.lemmas_walks.proofs.ReadUnits.{beside_is_byte, units_word}
+use Rattle.lemmas_walks.proofs.SilentRows.{IsRow, table_ends_well}
+use Rattle.lemmas_walks.proofs.Words.{IsWord-nil}
 use Rattle.rx_meaning.proofs.AlikeRows.{Alike, walk_alike, overlapping_alike as rows_overlapping}
 use Rattle.rx_base.specs.StartConfig.{StartConfig}
 use Rattle.rx_equal.specs.Partings.{IsModeOf, NothingParts, AreAlikeBy, row_or}

@@ -7,7 +7,7 @@ use Rattle.rx_spec.specs.Machines.{run}
 use Rattle.rx_spec.specs.Tables.{Table}
 use Rattle.rx_spec.specs.declared.Unit.{Unit}
 use Rattle.rx_base.specs.Unit.{unit_number}
-use Rattle.rx_lemmas.proofs.Words.{run-nil, run-cons}
+use Rattle.lemmas_walks.proofs.Words.{run-nil, run-cons}
 use Rattle.std.proofs.Common.{Result, Ok, Err}
 use Rattle.std.proofs.lemmas.Option.{same_Some}
 use Rattle.std.proofs.Math.ListN.{drop_of_length-le}

@@ -14,7 +14,7 @@ use Rattle.rx_spec.specs.Rows.{repeated, compile, rows_count, repeated_count}
 use Rattle.rx_spec.specs.Nfas.{read_as}
 use Rattle.rx_spec.specs.Rows as spec
 use Rattle.rx_spec.specs.declared.Direction.{Direction}
-use Rattle.rx_lemmas.proofs.Rows.{Makes, rows_counted}
+use Rattle.lemmas_walks.proofs.Rows.{Makes, rows_counted}
 use Rattle.rx_expr.specs.Compiles.{Adds, AddsRow, maker}
 use Rattle.rx_expr.specs.Nfa.{row_of}
 use Rattle.rx_expr.specs.declared.thompson.nfa.Row.{Row}

@@ -1,7 +1,7 @@
 -- What is kept of an expression is kept of its mirror.
 use Rattle.std.proofs.Common.{◌≡◌, ℕ, ◌-◌, ◌^◌, min, refl, Some, None, arith, ap, ◌∙◌, sym, subst}
 use Rattle.rx_spec.specs.Expressions.{Expression, mirror, depth, min_len, IsLoopSafe}
-use Rattle.rx_lemmas.proofs.Mirrors.{min_len-mirror, IsLoopSafe-mirror}
+use Rattle.lemmas_walks.proofs.Mirrors.{min_len-mirror, IsLoopSafe-mirror}
 use Rattle.rx_expr.specs.Expr.{form_of, IsKept}
 use Rattle.rx_expr.specs.declared.expr.Form.{Form}
 use Rattle.rx_expr.specs.declared.expr.Inner.{Inner}

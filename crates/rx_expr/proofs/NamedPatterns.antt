@@ -10,7 +10,7 @@ use Rattle.rx_spec.specs.Nfas.{lead_in, nfa_of, patterns_from, read_as, start_of
 use Rattle.rx_spec.specs.Rows.{Row, Maker, chained, choice, compile, copies, either, loop, optional, repeated}
 use Rattle.rx_spec.specs.States.{row_at}
 use Rattle.rx_spec.specs.declared.Direction.{Direction}
-use Rattle.rx_lemmas.proofs.Every.{every-append}
+use Rattle.lemmas_walks.proofs.Every.{every-append}
 use Rattle.rx_expr.specs.NfaRows.{NamesPatterns}
 use Rattle.rx_expr.proofs.PatternRows.{length-entries}
 

@@ -10,7 +10,7 @@ use Rattle.rx_spec.specs.Queries.{Anchored, MatchError}
 use Rattle.rx_spec.specs.Starts.{start_row}
 use Rattle.rx_spec.specs.Tables.{Table}
 use Rattle.rx_spec.specs.declared.Direction.{Direction}
-use Rattle.rx_lemmas.proofs.Overlapping.{overlapping-nil}
+use Rattle.lemmas_walks.proofs.Overlapping.{overlapping-nil}
 use Rattle.rx_stream.specs.Calls.{IsNew, IsUnsupported, is_open}
 use Rattle.rx_stream.specs.Remaining.{events, remaining, now, told, told_now}
 use Rattle.rx_stream.specs.declared.event.StreamEvent.{StreamEvent}

@@ -10,7 +10,7 @@ use Rattle.rx_spec.specs.States.{row_at, Passing, Standing, Tested, reach_by, re
 use Rattle.rx_spec.specs.States.{decided_rows, pattern_of, is_match_row, to_first_match, cut, target, step}
 use Rattle.rx_spec.specs.declared.Look.{Look}
 use Rattle.rx_spec.specs.declared.MatchKind.{MatchKind}
-use Rattle.rx_lemmas.proofs.Firsts.{by_test}
+use Rattle.lemmas_walks.proofs.Firsts.{by_test}
 
 abbrev bound : List Row → ℕ
 bound rows = length rows * length rows

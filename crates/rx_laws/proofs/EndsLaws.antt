@@ -6,8 +6,8 @@ use Rattle.std.proofs.lemmas.Bool.{cases_lt}
 use Rattle.rx_spec.specs.Looks.{Reading, holds_at}
 use Rattle.rx_spec.specs.Expressions.{Expression, min_len}
 use Rattle.rx_spec.specs.Ends.{class_ends, rounds, preferring, up_to, further, ends}
-use Rattle.rx_lemmas.proofs.Every.{every-append, every-weaker, every-flat_map, none_is_nil}
-use Rattle.rx_lemmas.proofs.Ends.{ends_repeat_unbounded}
+use Rattle.lemmas_walks.proofs.Every.{every-append, every-weaker, every-flat_map, none_is_nil}
+use Rattle.lemmas_walks.proofs.Ends.{ends_repeat_unbounded}
 
 -- an end of an expression of a least length, in a place where nothing is left to read
 abbrev Stays : ℕ → ℕ → ℕ → Type 0

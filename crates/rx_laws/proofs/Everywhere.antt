@@ -13,7 +13,7 @@ use Rattle.rx_spec.specs.Tables.{is_match_label}
 use Rattle.rx_laws.specs.Samples.{forward_build, state}
 use Rattle.rx_laws.specs.TableExamples.{everywhere_label, EverywhereIsTable, EverywhereIsSound, EverywhereGives}
 use Rattle.rx_laws.proofs.Computing.{computing}
-use Rattle.rx_lemmas.proofs.Firsts.{by_test, Contains-nil, Contains-cases}
+use Rattle.lemmas_walks.proofs.Firsts.{by_test, Contains-nil, Contains-cases}
 
 abbrev empty : Build
 empty = forward_build (Expression.Empty ∷ [])

@@ -10,8 +10,8 @@ use Rattle.rx_spec.specs.Queries.{Anchored, Query, Match, reading}
 use Rattle.rx_spec.specs.Found.{admits, admitted, first_of, end_within, candidate, found}
 use Rattle.rx_laws.specs.FoundLaws.{Begins, IsAdmitted, IsCandidate}
 use Rattle.rx_spec.specs.declared.Direction.{Direction}
-use Rattle.rx_lemmas.proofs.Ranges.{range_none, none_in_range}
-use Rattle.rx_lemmas.proofs.FoundLaws.{Matches, find_is, candidate_matches, candidate_none, is_found}
+use Rattle.lemmas_walks.proofs.Ranges.{range_none, none_in_range}
+use Rattle.lemmas_walks.proofs.FoundLaws.{Matches, find_is, candidate_matches, candidate_none, is_found}
 
 begins_from : (mode : Anchored) (start p k : ℕ) → admits mode start p k ≡ true → Begins mode start p k
 begins_from Anchored.No start p k e = tt

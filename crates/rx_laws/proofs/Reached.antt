@@ -13,7 +13,7 @@ use Rattle.rx_spec.specs.Machines.{run}
 use Rattle.rx_spec.specs.States.{State}
 use Rattle.rx_spec.specs.Builds.{Build, Node, dead, is_dead_state, next_node, built_entry, IsReached}
 use Rattle.rx_spec.specs.declared.Start.{Start}
-use Rattle.rx_lemmas.proofs.Firsts.{by_test, Contains-nil, Contains-cases}
+use Rattle.lemmas_walks.proofs.Firsts.{by_test, Contains-nil, Contains-cases}
 
 -- a node that is quit, dead or in the list
 abbrev pub Known : List State → Node → Type 0

@@ -10,7 +10,7 @@ use Rattle.rx_spec.specs.Rows.{rows_count}
 use Rattle.rx_spec.specs.Nfas.{patterns_from, start_of_all}
 use Rattle.rx_laws.specs.EndsLaws.{lowered}
 use Rattle.rx_laws.specs.RowsLaws.{part}
-use Rattle.rx_lemmas.proofs.Rows.{rows_counted}
+use Rattle.lemmas_walks.proofs.Rows.{rows_counted}
 
 -- nothing before a part
 straight_first : (maker : Maker) (base next : ℕ) → chained straight maker base next ≡ maker base next

@@ -20,8 +20,8 @@ use Rattle.rx_spec.specs.Overlapping.{at_item_label, overlapping_walk, overlappi
 use Rattle.rx_spec.specs.Overlapping.{overlapping}
 use Rattle.rx_laws.specs.SearchesLaws.{keep_first, HalfOfOverlapping, HalfOfOverlappingInBuild}
 use Rattle.rx_spec.specs.declared.Direction.{Direction}
-use Rattle.rx_lemmas.proofs.Firsts.{Contains-here, Contains-there}
-use Rattle.rx_table_lemmas.proofs.Tables.{units_below}
+use Rattle.lemmas_walks.proofs.Firsts.{Contains-here, Contains-there}
+use Rattle.lemmas_tables.proofs.Tables.{units_below}
 
 -- the answer, where a half match is kept already
 abbrev answer_by : Option HalfMatch → Ending → List Item → HalfAnswer

@@ -3,7 +3,7 @@ use Rattle.std.proofs.Common.{◌≡◌, ◌⊎◌, inl, inr, List, Result, Ok, 
 use Rattle.std.proofs.Common.{length}
 use Rattle.rx_spec.specs.Tables.{Table}
 use Rattle.rx_equal.specs.Evidence.{RowPair}
-use Rattle.rx_table_lemmas.proofs.Sublists.{length-within}
+use Rattle.lemmas_tables.proofs.Sublists.{length-within}
 use Rattle.rx_wire.specs.Kinds.{Kind}
 use Rattle.rx_main.specs.Equal.{AreThoseReached, CompareReplies, ImagesReply, IsDifferReply, IsEqualReply}
 use Rattle.rx_main.specs.Equal.{TellsPartingOf}

@@ -4,7 +4,7 @@ use Rattle.rx_spec.specs.Expressions.{Expression}
 use Rattle.rx_spec.specs.Builds.{Build}
 use Rattle.rx_spec.specs.Plans.{Plan, plan_build}
 use Rattle.rx_spec.specs.declared.Direction.{Direction}
-use Rattle.rx_table_lemmas.proofs.Sizes.{reached_count}
+use Rattle.lemmas_tables.proofs.Sizes.{reached_count}
 use Rattle.rx_meaning.proofs.Reduced.{least_is_one_holds}
 use Rattle.rx_regex.specs.Rows.{CountsRows, HaveRows}
 

@@ -18,9 +18,9 @@ use Rattle.rx_spec.specs.Starts.{has_unanchored, start_context, start_row}
 use Rattle.rx_spec.specs.States.{State, start_state, step}
 use Rattle.rx_spec.specs.Builds.{Build, Node, build_settings, power}
 use Rattle.rx_spec.specs.declared.Direction.{Direction}
-use Rattle.rx_lemmas.proofs.Firsts.{by_test}
-use Rattle.rx_lemmas.proofs.HalfSearches.{IsStarted, half_done, half_walks, not_refused}
-use Rattle.rx_lemmas.proofs.Walking.{Dead, Quits, Steps, goes_on, leads, state_walk, walk-nil, walk_dead, walk_steps}
+use Rattle.lemmas_walks.proofs.Firsts.{by_test}
+use Rattle.lemmas_walks.proofs.HalfSearches.{IsStarted, half_done, half_walks, not_refused}
+use Rattle.lemmas_walks.proofs.Walking.{Dead, Quits, Steps, goes_on, leads, state_walk, walk-nil, walk_dead, walk_steps}
 use Rattle.rx_plan.specs.Plan.{plan_of, usual}
 
 -- ---- half searches of a build without quit bytes

@@ -17,12 +17,12 @@ use Rattle.rx_spec.specs.HalfSearches.{beside, first_offset, units_of, walk, hal
 use Rattle.rx_spec.specs.Overlapping.{overlapping_walk, overlapping}
 use Rattle.rx_spec.specs.declared.Direction.{Direction}
 use Rattle.rx_spec.specs.declared.Start.{Start}
-use Rattle.rx_lemmas.proofs.Firsts.{Contains-here, Contains-there}
-use Rattle.rx_lemmas.proofs.HalfSearches.{Begins, Done, Refused, Started, begins, started, half_done, half_refused}
-use Rattle.rx_lemmas.proofs.HalfSearches.{half_walks, going}
-use Rattle.rx_lemmas.proofs.Overlapping.{overlapping_done, overlapping_refused, overlapping_walks}
-use Rattle.rx_lemmas.proofs.ReadUnits.{beside_is_byte, units_word}
-use Rattle.rx_lemmas.proofs.SilentRows.{IsSilent, EndsWell}
+use Rattle.lemmas_walks.proofs.Firsts.{Contains-here, Contains-there}
+use Rattle.lemmas_walks.proofs.HalfSearches.{Begins, Done, Refused, Started, begins, started, half_done, half_refused}
+use Rattle.lemmas_walks.proofs.HalfSearches.{half_walks, going}
+use Rattle.lemmas_walks.proofs.Overlapping.{overlapping_done, overlapping_refused, overlapping_walks}
+use Rattle.lemmas_walks.proofs.ReadUnits.{beside_is_byte, units_word}
+use Rattle.lemmas_walks.proofs.SilentRows.{IsSilent, EndsWell}
 use Rattle.rx_meaning.proofs.AlikeRows.{Alike, silent_alike, walk_alike, overlapping_alike}
 
 -- ---- starts

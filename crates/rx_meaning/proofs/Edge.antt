@@ -11,7 +11,7 @@ use Rattle.rx_spec.specs.Ends.{rounds, preferring, up_to, further, ends}
 use Rattle.rx_spec.specs.Edge.{reads_nothing, begins_with_edge, is_edge}
 use Rattle.rx_spec.specs.declared.Direction.{Direction}
 use Rattle.rx_spec.specs.declared.Look.{Look}
-use Rattle.rx_lemmas.proofs.Every.{every-append, every-flat_map}
+use Rattle.lemmas_walks.proofs.Every.{every-append, every-flat_map}
 
 -- each end is where it began
 abbrev Stays : (ℕ → List ℕ) → Type 0

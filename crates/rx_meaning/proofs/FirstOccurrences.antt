@@ -6,7 +6,7 @@ use Rattle.std.specs.Option.{option_or}
 use Rattle.std.specs.List.{list_any, AllByRecursion as Every}
 use Rattle.rx_spec.specs.Found.{first_of}
 use Rattle.rx_spec.specs.States.{fresh, firsts}
-use Rattle.rx_lemmas.proofs.Firsts.{seen_true}
+use Rattle.lemmas_walks.proofs.Firsts.{seen_true}
 use Rattle.rx_meaning.proofs.FirstSuccess.{or_assoc}
 
 -- After v the value o changes nothing.

@@ -5,7 +5,7 @@ use Rattle.std.specs.Prelude.{slice_get}
 use Rattle.std.specs.Option.{option_or, option_map, option_and_then}
 use Rattle.std.specs.List.{flat_map, range_with_len, AllByRecursion as Every}
 use Rattle.rx_spec.specs.Found.{first_of}
-use Rattle.rx_lemmas.proofs.Ranges.{range_push}
+use Rattle.lemmas_walks.proofs.Ranges.{range_push}
 
 module _ {V : Type 0} where
   pub or_assoc : (a b c : Option V) → option_or (option_or a b) c ≡ option_or a (option_or b c)

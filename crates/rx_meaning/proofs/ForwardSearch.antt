@@ -12,8 +12,8 @@ use Rattle.rx_spec.specs.Found.{first_of, found}
 use Rattle.rx_spec.specs.Nfas.{is_always_start_anchored}
 use Rattle.rx_spec.specs.Plans.{plan_nfa, plan_build}
 use Rattle.rx_spec.specs.declared.Direction.{Direction}
-use Rattle.rx_lemmas.proofs.Firsts.{by_test}
-use Rattle.rx_lemmas.proofs.SilentRows.{dead_empty}
+use Rattle.lemmas_walks.proofs.Firsts.{by_test}
+use Rattle.lemmas_walks.proofs.SilentRows.{dead_empty}
 use Rattle.rx_meaning.specs.Preference.{build_half_search, end_of, Preference}
 use Rattle.rx_meaning.proofs.FirstSuccess.{first_of-nil, first_of-cons, first_of-single, first_of-alike, first_of-none}
 use Rattle.rx_meaning.proofs.FirstSuccess.{range_longer}

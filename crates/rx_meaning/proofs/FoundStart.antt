@@ -11,12 +11,12 @@ use Rattle.rx_spec.specs.Ends.{ends}
 use Rattle.rx_spec.specs.Queries.{Anchored, Query, Match, is_anchored, reading, HalfMatch}
 use Rattle.rx_spec.specs.Found.{admits, admitted, first_of, candidate}
 use Rattle.rx_spec.specs.declared.Direction.{Direction}
-use Rattle.rx_lemmas.proofs.Firsts.{Contains-nil}
-use Rattle.rx_lemmas.proofs.FoundLaws.{IsFound, candidate_none, find_is}
-use Rattle.rx_lemmas.proofs.Ranges.{range_none, range_first_at}
-use Rattle.rx_lemmas.proofs.Reaches.{reaches_sound, reaches_lie}
+use Rattle.lemmas_walks.proofs.Firsts.{Contains-nil}
+use Rattle.lemmas_walks.proofs.FoundLaws.{IsFound, candidate_none, find_is}
+use Rattle.lemmas_walks.proofs.Ranges.{range_none, range_first_at}
+use Rattle.lemmas_walks.proofs.Reaches.{reaches_sound, reaches_lie}
 use Rattle.rx_meaning.specs.Mirrored.{start_if, start_to_end, least_start}
-use Rattle.rx_lemmas.proofs.ReadUnits.{All-got}
+use Rattle.lemmas_walks.proofs.ReadUnits.{All-got}
 use Rattle.rx_meaning.proofs.Scan.{Asked}
 use Rattle.rx_meaning.proofs.NfaStarts.{edge_alone}
 use Rattle.rx_meaning.proofs.OneEnd.{any_end, end_any}

@@ -12,8 +12,8 @@ use Rattle.rx_spec.specs.Ends.{ends}
 use Rattle.rx_spec.specs.Queries.{Anchored, Query, reading, HalfMatch}
 use Rattle.rx_spec.specs.Found.{admits, admitted, first_of, end_within, candidate, found}
 use Rattle.rx_spec.specs.declared.Direction.{Direction}
-use Rattle.rx_lemmas.proofs.Firsts.{by_test}
-use Rattle.rx_lemmas.proofs.Ranges.{range_none, range_alike, range_push}
+use Rattle.lemmas_walks.proofs.Firsts.{by_test}
+use Rattle.lemmas_walks.proofs.Ranges.{range_none, range_alike, range_push}
 use Rattle.rx_meaning.specs.Preference.{end_of}
 use Rattle.rx_meaning.proofs.FirstSuccess.{or_none, first_of-nil, first_of-map, first_of-alike, first_of-none}
 use Rattle.rx_meaning.proofs.FirstSuccess.{range_longer}

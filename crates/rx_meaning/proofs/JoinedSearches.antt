@@ -10,8 +10,8 @@ use Rattle.rx_spec.specs.Nfas.{is_always_start_anchored}
 use Rattle.rx_spec.specs.Builds.{Build, power, build_settings}
 use Rattle.rx_spec.specs.Plans.{plan_nfa, plan_build, unless_error}
 use Rattle.rx_spec.specs.declared.Direction.{Direction}
-use Rattle.rx_lemmas.proofs.WalkBounds.{half_is_no_mismatch}
-use Rattle.rx_lemmas.proofs.FoundLaws.{is_found}
+use Rattle.lemmas_walks.proofs.WalkBounds.{half_is_no_mismatch}
+use Rattle.lemmas_walks.proofs.FoundLaws.{is_found}
 use Rattle.rx_meaning.specs.Preference.{build_half_search, end_of}
 use Rattle.rx_meaning.specs.Joined.{plan_search, JoinedSearch, IsMatch, JoinedEnd, NeverMismatched}
 use Rattle.rx_meaning.proofs.Scan.{Asked}

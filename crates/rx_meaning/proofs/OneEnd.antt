@@ -10,9 +10,9 @@ use Rattle.std.specs.List.{list_any}
 use Rattle.rx_spec.specs.Found.{first_of}
 use Rattle.rx_spec.specs.States.{State, decided_rows}
 use Rattle.rx_spec.specs.Builds.{is_dead_state}
-use Rattle.rx_lemmas.proofs.Firsts.{by_test}
-use Rattle.rx_lemmas.proofs.ReadUnits.{unit_at}
-use Rattle.rx_lemmas.proofs.SilentRows.{dead_empty}
+use Rattle.lemmas_walks.proofs.Firsts.{by_test}
+use Rattle.lemmas_walks.proofs.ReadUnits.{unit_at}
+use Rattle.lemmas_walks.proofs.SilentRows.{dead_empty}
 use Rattle.rx_meaning.proofs.FirstSuccess.{first_of-nil, first_of-cons}
 use Rattle.rx_meaning.proofs.Solution.{given, given_none}
 use Rattle.rx_meaning.proofs.Closures.{first_given}

@@ -14,8 +14,8 @@ use Rattle.rx_spec.specs.Tables.{Table, IsTable, row_after}
 use Rattle.rx_spec.specs.Labels.{SameLabels, IsReachedRow}
 use Rattle.rx_spec.specs.Power.{node_at, IsPower}
 use Rattle.rx_spec.specs.declared.Start.{Start}
-use Rattle.rx_lemmas.proofs.SilentRows.{IsRow}
-use Rattle.rx_lemmas.proofs.Words.{run-nil, run-cons, run-within, IsWord-head, IsWord-tail}
+use Rattle.lemmas_walks.proofs.SilentRows.{IsRow}
+use Rattle.lemmas_walks.proofs.Words.{run-nil, run-cons, run-within, IsWord-head, IsWord-tail}
 use Rattle.rx_meaning.specs.Least.{PowerGives, PowerIsReached}
 
 abbrev state_of : Node → State

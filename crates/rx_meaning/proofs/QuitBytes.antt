@@ -15,12 +15,12 @@ use Rattle.rx_spec.specs.HalfSearches.{first_offset}
 use Rattle.rx_spec.specs.Joining.{back_from}
 use Rattle.rx_spec.specs.Plans.{plan_build}
 use Rattle.rx_spec.specs.declared.Direction.{Direction}
-use Rattle.rx_lemmas.proofs.QuitSets.{quits_alike}
-use Rattle.rx_lemmas.proofs.HalfSearches.{Begun, half_begun, told_same, error_not_told, IsStarted}
-use Rattle.rx_lemmas.proofs.ReadUnits.{unit_at, units_from, units_from-zero, units_from-suc, place_of, place_of-next}
-use Rattle.rx_lemmas.proofs.ReadUnits.{first_place, first_offset_is, next_at_place}
-use Rattle.rx_lemmas.proofs.Walking.{goes_on, Dead, Quits, Steps, leads, state_walk, walk-nil, walk_dead, walk_quits}
-use Rattle.rx_lemmas.proofs.Walking.{walk_steps}
+use Rattle.lemmas_walks.proofs.QuitSets.{quits_alike}
+use Rattle.lemmas_walks.proofs.HalfSearches.{Begun, half_begun, told_same, error_not_told, IsStarted}
+use Rattle.lemmas_walks.proofs.ReadUnits.{unit_at, units_from, units_from-zero, units_from-suc, place_of, place_of-next}
+use Rattle.lemmas_walks.proofs.ReadUnits.{first_place, first_offset_is, next_at_place}
+use Rattle.lemmas_walks.proofs.Walking.{goes_on, Dead, Quits, Steps, leads, state_walk, walk-nil, walk_dead, walk_quits}
+use Rattle.lemmas_walks.proofs.Walking.{walk_steps}
 use Rattle.rx_meaning.specs.Preference.{build_half_search}
 use Rattle.rx_meaning.proofs.Scan.{read_in, Asked, scan_of}
 use Rattle.rx_meaning.proofs.StartStates.{begin_state, begun_walk, query_state, started_search}

@@ -7,8 +7,9 @@ use Rattle.rx_spec.specs.Machines.{Machine, Label, IsWord}
 use Rattle.rx_spec.specs.Builds.{built_modes, power}
 use Rattle.rx_spec.specs.Tables.{Table, IsTable, row_after}
 use Rattle.rx_spec.specs.Labels.{label_after, SameLabels, IsReachedRow, IsReduced, IsLeast}
-use Rattle.rx_lemmas.proofs.SilentRows.{IsRow, zero_is_silent}
-use Rattle.rx_lemmas.proofs.Words.{run-nil, run-cons, run-append, run-within, IsWord-head, IsWord-tail, IsWord-append}
+use Rattle.lemmas_walks.proofs.SilentRows.{IsRow, zero_is_silent}
+use Rattle.lemmas_walks.proofs.Words.{run-nil, run-cons, run-append, run-within}
+use Rattle.lemmas_walks.proofs.Words.{IsWord-head, IsWord-tail, IsWord-append}
 use Rattle.rx_meaning.specs.Least.{Leastness, ReducedIsLeast, LeastIsOne}
 use Rattle.rx_meaning.proofs.Pigeonholes.{pigeons}
 

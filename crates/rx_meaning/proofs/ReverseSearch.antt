@@ -15,9 +15,9 @@ use Rattle.rx_spec.specs.Nfas.{read_as}
 use Rattle.rx_spec.specs.States.{State}
 use Rattle.rx_spec.specs.Plans.{plan_build}
 use Rattle.rx_spec.specs.declared.Direction.{Direction}
-use Rattle.rx_lemmas.proofs.Mirrors.{ends_mirrored}
-use Rattle.rx_lemmas.proofs.Ranges.{range_none, range_alike, range_push}
-use Rattle.rx_lemmas.proofs.ReadUnits.{All-got, unit_at}
+use Rattle.lemmas_walks.proofs.Mirrors.{ends_mirrored}
+use Rattle.lemmas_walks.proofs.Ranges.{range_none, range_alike, range_push}
+use Rattle.lemmas_walks.proofs.ReadUnits.{All-got, unit_at}
 use Rattle.rx_meaning.specs.Preference.{build_half_search}
 use Rattle.rx_meaning.specs.Mirrored.{MirroredSearch, StartOfEnd, start_if, start_to_end, least_start}
 use Rattle.rx_meaning.proofs.FirstSuccess.{first_of-nil, first_of-alike, first_of-map}

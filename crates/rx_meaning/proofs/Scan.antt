@@ -12,9 +12,9 @@ use Rattle.rx_spec.specs.States.{row_at, State, state_at, decided_rows, cut, tar
 use Rattle.rx_spec.specs.Builds.{Build}
 use Rattle.rx_spec.specs.Plans.{Plan, plan_build}
 use Rattle.rx_spec.specs.declared.Direction.{Direction}
-use Rattle.rx_lemmas.proofs.Facts.{unit_knows}
-use Rattle.rx_lemmas.proofs.ReadUnits.{unit_at, All-got, bytes_in_order}
-use Rattle.rx_lemmas.proofs.Shallows.{nfa_shallow}
+use Rattle.lemmas_walks.proofs.Facts.{unit_knows}
+use Rattle.lemmas_walks.proofs.ReadUnits.{unit_at, All-got, bytes_in_order}
+use Rattle.lemmas_walks.proofs.Shallows.{nfa_shallow}
 use Rattle.rx_meaning.proofs.Solution.{Valued}
 
 -- a build whose paths that read nothing are short, and the bytes that it reads, in the order of reading

@@ -14,7 +14,7 @@ use Rattle.rx_spec.specs.Joining.{Answer, match_at, with_start, back_from, with_
 use Rattle.rx_spec.specs.Iterating.{FoundMatches, is_repeat, unless_repeat, and_then, iterate_from, iterate}
 use Rattle.rx_spec.specs.Plans.{Plan, plan_build}
 use Rattle.rx_spec.specs.declared.Direction.{Direction}
-use Rattle.rx_lemmas.proofs.ReadUnits.{narrower_bytes}
+use Rattle.lemmas_walks.proofs.ReadUnits.{narrower_bytes}
 use Rattle.rx_meaning.specs.Preference.{build_half_search}
 use Rattle.rx_meaning.specs.Joined.{plan_search}
 use Rattle.rx_meaning.specs.Tables.{HalfUnsplitOfTable, OverlappingUnsplitOfTable, JoinOfTables, IterateOfTables, Flags}

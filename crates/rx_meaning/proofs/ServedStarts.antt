@@ -12,8 +12,8 @@ use Rattle.rx_spec.specs.Builds.{pattern_modes}
 use Rattle.rx_spec.specs.Tables.{Table, IsTable}
 use Rattle.rx_spec.specs.Labels.{SameLabels, pattern_start_modes, table_modes}
 use Rattle.rx_spec.specs.declared.Start.{Start}
-use Rattle.rx_lemmas.proofs.SilentRows.{IsSilent, IsRow, zero_is_silent, table_ends_well, AnyNode, dead_label}
-use Rattle.rx_lemmas.proofs.SilentRows.{power_ends_well}
+use Rattle.lemmas_walks.proofs.SilentRows.{IsSilent, IsRow, zero_is_silent, table_ends_well, AnyNode, dead_label}
+use Rattle.lemmas_walks.proofs.SilentRows.{power_ends_well}
 use Rattle.rx_meaning.specs.Tables.{Serves, HalfOfTable, OverlappingOfTable, HalfOfCopy, OverlappingOfCopy}
 use Rattle.rx_meaning.proofs.AlikeSearches.{StartsWell, half_alike, overlapping_search_alike}
 

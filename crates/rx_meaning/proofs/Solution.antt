@@ -8,7 +8,7 @@ use Rattle.rx_spec.specs.Looks.{Reading, after, holds_at}
 use Rattle.rx_spec.specs.Rows.{Row}
 use Rattle.rx_spec.specs.States.{row_at}
 use Rattle.rx_spec.specs.Shallow.{AllNext, Short, IsShallow}
-use Rattle.rx_lemmas.proofs.Patterns.{depth_of}
+use Rattle.lemmas_walks.proofs.Patterns.{depth_of}
 
 -- Rows whose paths that read nothing are short, what they read, and what a match is worth, by its pattern and
 -- the place where it ends.

@@ -17,9 +17,9 @@ use Rattle.rx_spec.specs.Iterating.{FoundMatches, is_repeat, unless_repeat, and_
 use Rattle.rx_spec.specs.Nfas.{is_always_start_anchored}
 use Rattle.rx_spec.specs.Plans.{plan_nfa, plan_build}
 use Rattle.rx_spec.specs.declared.Direction.{Direction}
-use Rattle.rx_lemmas.proofs.WalkBounds.{half_met, half_in_span}
-use Rattle.rx_lemmas.proofs.Firsts.{by_test, Contains-here, Contains-there}
-use Rattle.rx_lemmas.proofs.OverlappingBounds.{overlapping_in_span}
+use Rattle.lemmas_walks.proofs.WalkBounds.{half_met, half_in_span}
+use Rattle.lemmas_walks.proofs.Firsts.{by_test, Contains-here, Contains-there}
+use Rattle.lemmas_walks.proofs.OverlappingBounds.{overlapping_in_span}
 use Rattle.rx_meaning.specs.Bounds.{SameSpan, SpanDecidesUnsplit, SpanDecidesOverlappingUnsplit, SpanDecidesJoin}
 use Rattle.rx_meaning.specs.Bounds.{SpanDecidesIterate, SpanDecidesOutcome}
 use Rattle.rx_meaning.specs.Preference.{build_half_search}

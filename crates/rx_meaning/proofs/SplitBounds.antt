@@ -14,10 +14,10 @@ use Rattle.rx_spec.specs.Overlapping.{Item, Ending, overlapping}
 use Rattle.rx_spec.specs.Splits.{is_split, narrower, is_narrowest, unless_split, skip_splits, split_limit, skips_splits}
 use Rattle.rx_spec.specs.Splits.{item_unsplit, items_unsplit}
 use Rattle.rx_spec.specs.declared.Direction.{Direction}
-use Rattle.rx_lemmas.proofs.WalkBounds.{half_met}
-use Rattle.rx_lemmas.proofs.Firsts.{by_test, Contains-here, Contains-there, Contains-nil}
-use Rattle.rx_lemmas.proofs.ReadUnits.{narrower_bytes}
-use Rattle.rx_lemmas.proofs.Reaches.{only_one}
+use Rattle.lemmas_walks.proofs.WalkBounds.{half_met}
+use Rattle.lemmas_walks.proofs.Firsts.{by_test, Contains-here, Contains-there, Contains-nil}
+use Rattle.lemmas_walks.proofs.ReadUnits.{narrower_bytes}
+use Rattle.lemmas_walks.proofs.Reaches.{only_one}
 use Rattle.rx_meaning.specs.Bounds.{IsInBounds, HalfUnsplitInBounds, OverlappingUnsplitQuits}
 use Rattle.rx_meaning.specs.Bounds.{OverlappingUnsplitInBounds, IsNamed, Quitting, QuittingAgain, HalfUnsplitQuits}
 use Rattle.rx_meaning.specs.Bounds.{narrowed}

@@ -13,7 +13,7 @@ use Rattle.rx_spec.specs.Ends.{ends}
 use Rattle.rx_spec.specs.Found.{first_of}
 use Rattle.rx_spec.specs.Rows.{Row, compile}
 use Rattle.rx_spec.specs.Nfas.{patterns_from, start_of_all, lead_in}
-use Rattle.rx_lemmas.proofs.RowPlaces.{Stands, stands-left, stands-right}
+use Rattle.lemmas_walks.proofs.RowPlaces.{Stands, stands-left, stands-right}
 use Rattle.rx_meaning.proofs.FirstSuccess.{first_of-alike, first_of-cons, first_of-nil, first_of-single}
 use Rattle.rx_meaning.proofs.Solution.{Valued, read_by, given, given_as}
 use Rattle.rx_meaning.proofs.Parts.{compile_means}

@@ -14,11 +14,12 @@ use Rattle.rx_spec.specs.Looks.{before}
 use Rattle.rx_spec.specs.Queries.{in_order}
 use Rattle.rx_spec.specs.declared.Direction.{Direction}
 use Rattle.rx_spec.specs.declared.Start.{Start}
-use Rattle.rx_lemmas.proofs.Facts.{start_knows}
-use Rattle.rx_lemmas.proofs.HalfSearches.{IsStarted, not_refused, going, half_walks, Begun, half_begun, build_start}
-use Rattle.rx_lemmas.proofs.ReadUnits.{units_from, units_from-alike, units_read, place_of, first_place, first_offset_is}
-use Rattle.rx_lemmas.proofs.ReadUnits.{beside_at_place}
-use Rattle.rx_lemmas.proofs.Walking.{state_walk}
+use Rattle.lemmas_walks.proofs.Facts.{start_knows}
+use Rattle.lemmas_walks.proofs.HalfSearches.{IsStarted, not_refused, going, half_walks, Begun, half_begun, build_start}
+use Rattle.lemmas_walks.proofs.ReadUnits.{units_from, units_from-alike, units_read, place_of}
+use Rattle.lemmas_walks.proofs.ReadUnits.{first_place, first_offset_is}
+use Rattle.lemmas_walks.proofs.ReadUnits.{beside_at_place}
+use Rattle.lemmas_walks.proofs.Walking.{state_walk}
 use Rattle.rx_meaning.specs.Preference.{build_half_search}
 use Rattle.rx_meaning.proofs.FirstSuccess.{or_none, first_of-nil, first_of-single}
 use Rattle.rx_meaning.proofs.Solution.{given}

@@ -14,8 +14,8 @@ use Rattle.rx_spec.specs.States.{row_at, Passing, reach_by, reach, closure, firs
 use Rattle.rx_spec.specs.States.{decided_rows, holds_before}
 use Rattle.rx_spec.specs.declared.Direction.{Direction}
 use Rattle.rx_spec.specs.declared.Look.{Look}
-use Rattle.rx_lemmas.proofs.Facts.{facts_decide, kept_last, kept_cover}
-use Rattle.rx_lemmas.proofs.ReadUnits.{unit_at}
+use Rattle.lemmas_walks.proofs.Facts.{facts_decide, kept_last, kept_cover}
+use Rattle.lemmas_walks.proofs.ReadUnits.{unit_at}
 use Rattle.rx_meaning.proofs.FirstSuccess.{first_of-single, first_of-flat_map, first_of-same}
 use Rattle.rx_meaning.proofs.FirstOccurrences.{firsts_keep}
 use Rattle.rx_meaning.proofs.Solution.{Valued, given}

@@ -15,8 +15,8 @@ use Rattle.rx_spec.specs.States.{row_at, Passing, State, decided_rows, holds_bef
 use Rattle.rx_spec.specs.States.{to_first_match, cut, target, step}
 use Rattle.rx_spec.specs.declared.Look.{Look}
 use Rattle.rx_spec.specs.declared.MatchKind.{MatchKind}
-use Rattle.rx_lemmas.proofs.Firsts.{by_test}
-use Rattle.rx_lemmas.proofs.ReadUnits.{unit_at}
+use Rattle.lemmas_walks.proofs.Firsts.{by_test}
+use Rattle.lemmas_walks.proofs.ReadUnits.{unit_at}
 use Rattle.rx_meaning.proofs.FirstSuccess.{or_assoc, or_none, first_of-nil, first_of-cons, first_of-single}
 use Rattle.rx_meaning.proofs.FirstSuccess.{first_of-append, first_of-none}
 use Rattle.rx_meaning.proofs.Solution.{Valued, read_by, given, gives_at, given_solves}

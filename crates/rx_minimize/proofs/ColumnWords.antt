@@ -4,8 +4,8 @@ use Rattle.std.specs.Prelude.{Contains, slice_index}
 use Rattle.rx_spec.specs.Machines.{IsWord, run}
 use Rattle.rx_spec.specs.Labels.{BehaveAlike, AreToldApart}
 use Rattle.rx_spec.specs.Tables.{Table}
-use Rattle.rx_lemmas.proofs.Firsts.{Contains-cases, Contains-there, Contains-nil}
-use Rattle.rx_lemmas.proofs.Words.{run-nil, run-cons, run-within, IsWord-nil, IsWord-cons, IsWord-head, IsWord-tail}
+use Rattle.lemmas_walks.proofs.Firsts.{Contains-cases, Contains-there, Contains-nil}
+use Rattle.lemmas_walks.proofs.Words.{run-nil, run-cons, run-within, IsWord-nil, IsWord-cons, IsWord-head, IsWord-tail}
 use Rattle.rx_refine.specs.Moves as moves
 use Rattle.rx_refine.specs.Moves.{Moves, next_row, label_after, row_after}
 use Rattle.rx_minimize.specs.Quotient.{AreMovesByColumn}

@@ -7,7 +7,7 @@ use Rattle.rx_spec.specs.Labels.{BehaveAlike, AreToldApart, IsReachedRow, SameLa
 use Rattle.rx_spec.specs.Queries.{Anchored}
 use Rattle.rx_spec.specs.Tables.{Table, IsTable}
 use Rattle.rx_spec.specs.declared.Start.{Start}
-use Rattle.rx_lemmas.proofs.Words.{run-nil, run-cons, run-within, IsWord-nil, IsWord-cons, IsWord-head, IsWord-tail}
+use Rattle.lemmas_walks.proofs.Words.{run-nil, run-cons, run-within, IsWord-nil, IsWord-cons, IsWord-head, IsWord-tail}
 use Rattle.rx_minimize.specs.Blocks.{AreBlocks, AreRenumbered}
 use Rattle.rx_minimize.specs.Quotient.{IsQuotient}
 

@@ -14,8 +14,8 @@ use Rattle.std.proofs.lemmas.List.Sorted.{IsPermutation-refl, IsPermutation-cons
 use Rattle.std.proofs.lemmas.List.Sorted.{IsPermutation-sym}
 use Rattle.std.proofs.lemmas.List.Sorted.{IsPermutation-append_left, IsPermutation-trans, length_permutation}
 use Rattle.std.proofs.lemmas.List.Kept.{IsStrictlyIncreasing-filter}
-use Rattle.rx_table_lemmas.proofs.Filters.{range_rises}
-use Rattle.rx_remap.proofs.Places.{range_more}
+use Rattle.lemmas_tables.proofs.Filters.{range_rises}
+use Rattle.rx_order.proofs.ExchangedRows.{range_more}
 use Rattle.rx_order.specs.ByKind.{AreByKind}
 
 strictly : (xs : List ℕ) → IsStrictlyIncreasing xs → (i j : ℕ) → i < j → j < length xs

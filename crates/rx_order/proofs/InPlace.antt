@@ -8,8 +8,8 @@ use Rattle.std.proofs.lemmas.List.{map-id}
 use Rattle.std.proofs.lemmas.List.FromFn.{fill_by_all}
 use Rattle.std.proofs.lemmas.List.Elements.{All-from_get_or}
 use Rattle.std.proofs.lemmas.List.Folds.{map_fixed}
-use Rattle.rx_table_lemmas.proofs.Ids.{id_of-dense}
-use Rattle.rx_remap.proofs.Places.{count_of, places_apart, row_below}
+use Rattle.lemmas_tables.proofs.Ids.{id_of-dense}
+use Rattle.rx_order.proofs.ExchangedRows.{count_of, places_apart, row_below}
 use Rattle.rx_dense.specs.Builder.{IsMachineRenamed, renamed, renamed_id}
 use Rattle.rx_dense.specs.Layouts.{AreRows, AreStarts, IsRowId, Layout, column, ids_of, row_count, stride}
 use Rattle.rx_dense.proofs.Renaming.{same_lists, words_renamed}

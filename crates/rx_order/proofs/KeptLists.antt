@@ -14,7 +14,7 @@ use Rattle.rx_dense.specs.Builder.{slices_from, with_patterns}
 use Rattle.rx_dense.specs.Layouts.{Layout, IsRowId, patterns_at, place_in_range, row_count, stride, table_of}
 use Rattle.rx_dense.specs.Specials.{is_in_range, is_match_id, is_quit_id}
 use Rattle.rx_dense.proofs.Rows.{quotient, row-below}
-use Rattle.rx_remap.proofs.Places.{row_at_place}
+use Rattle.rx_order.proofs.ExchangedRows.{row_at_place}
 use Rattle.rx_order.specs.ByKind.{AreSkippable, leaving_of, lists_in}
 use Rattle.rx_order.specs.RowOrder.{AreJoined, IsInOrder, IsRange, are_needles, is_start_row, match_count, match_lists}
 use Rattle.rx_order.proofs.KindNumbers.{at_most, high_kind, high_matches, kind_high, label_match, none_in_range}

@@ -12,8 +12,8 @@ use Rattle.std.proofs.lemmas.List.{append-nil, append_assoc}
 use Rattle.std.proofs.lemmas.List.Elements.{filter-append}
 use Rattle.rx_spec.specs.Tables.{Table, leaving}
 use Rattle.rx_dense.specs.Accels.{takes}
-use Rattle.rx_remap.proofs.Places.{range_more}
-use Rattle.rx_table_lemmas.proofs.Filters.{filter_within, range_within}
+use Rattle.rx_order.proofs.ExchangedRows.{range_more}
+use Rattle.lemmas_tables.proofs.Filters.{filter_within, range_within}
 use Rattle.rx_spec.specs.Ids.{id_of, row_of}
 use Rattle.rx_search.specs.Starts.{IsId}
 use Rattle.rx_dense.proofs.Rows.{id_at_row}

@@ -1,3 +1,13 @@
+-- where each row lies after exchanges
+pub mod ExchangedRows
+-- tables whose rows have changed places
+pub mod Renamed
+-- the ids of the places, listed by rows
+pub mod NewIds
+-- what is exchanged or renamed stays rows
+pub mod KeptRows
+-- the rows of a dense table as lists, exchanged and renamed
+pub mod RowLists
 -- rows while they are moved, one exchange after another
 pub mod Moved
 -- rows that lie in order already

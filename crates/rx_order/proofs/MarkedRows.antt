@@ -10,7 +10,7 @@ use Rattle.std.specs.Ordering.{is_eq, nat_cmp}
 use Rattle.std.specs.Prelude.{Contains, Option, Some, None, is_some}
 use Rattle.std.proofs.lemmas.Bool.{and_parts, cases_eq, cases_lt, eq-eqb, false≢true, le-ltb, lt-ltb, ne_eqb}
 use Rattle.std.proofs.lemmas.Map.Entries.{lookup_head, lookup_tail}
-use Rattle.rx_lemmas.proofs.Firsts.{Contains-cases, Contains-here, Contains-nil, Contains-there}
+use Rattle.lemmas_walks.proofs.Firsts.{Contains-cases, Contains-here, Contains-nil, Contains-there}
 use Rattle.std.proofs.lemmas.List.{drop_all, get_or_default, get_or-set_same, get_or-set_other, length-set}
 use Rattle.std.proofs.lemmas.List.Elements.{All-head, All-tail, Contains-get_or}
 use Rattle.std.proofs.lemmas.Nat.{pow_pos}

@@ -17,7 +17,7 @@ use Rattle.rx_dense.proofs.Rows.{IsId-row_id, IsRowId-row}
 use Rattle.rx_dense.specs.Builder.{AreSwapped, IsOutside}
 use Rattle.rx_dense.specs.Layouts.{Layout, ids_of, row_count, stride}
 use Rattle.rx_order.specs.Moved.{AreMoved, AreUnmoved, LiesAt}
-use Rattle.rx_remap.proofs.Places.{count_of, places_apart, row_below}
+use Rattle.rx_order.proofs.ExchangedRows.{count_of, places_apart, row_below}
 
 -- multiples of a number are told by their factors
 pub factor : {s : ℕ} → 0 < s → (a b : ℕ) → a * s ≡ b * s → a ≡ b

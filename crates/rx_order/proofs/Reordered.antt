@@ -16,7 +16,7 @@ use Rattle.rx_spec.specs.declared.Start.{Start}
 use Rattle.rx_dense.specs.Layouts.{Layout, IsRowId, AreRows, AreStarts, column, ids_of, machine_of, mode_place}
 use Rattle.rx_dense.specs.Layouts.{row_count, stride}
 use Rattle.rx_dense.proofs.Rows.{IsRowId-row, column_within, quotient, row-below, start_is_row}
-use Rattle.rx_remap.proofs.Places.{places_apart, row_below}
+use Rattle.rx_order.proofs.ExchangedRows.{places_apart, row_below}
 use Rattle.rx_order.specs.Moved.{IsReordered}
 use Rattle.rx_order.proofs.Moved.{factor, id_count, ids_count}
 

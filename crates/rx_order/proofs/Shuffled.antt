@@ -22,7 +22,7 @@ use Rattle.std.proofs.Math.Bool.{and-false}
 use Rattle.std.proofs.Math.Nat.{mul-div_cancel}
 use Rattle.std.proofs.lemmas.List.{length-map}
 use Rattle.rx_order.specs.RowOrder.{is_start_row}
-use Rattle.rx_lemmas.proofs.Firsts.{Contains-cases, Contains-here, Contains-nil, Contains-there}
+use Rattle.lemmas_walks.proofs.Firsts.{Contains-cases, Contains-here, Contains-nil, Contains-there}
 use Rattle.rx_spec.specs.Machines.{Label}
 use Rattle.rx_dense.specs.Builder.{pattern_lists, slices_from, with_patterns}
 use Rattle.rx_dense.specs.Layouts.{Layout, AreRows, row_count, stride, table_of}

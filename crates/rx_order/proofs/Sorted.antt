@@ -15,7 +15,7 @@ use Rattle.rx_search.specs.Starts.{IsId}
 use Rattle.rx_dense.specs.Layouts.{ids_of, row_count, stride, table_of}
 use Rattle.rx_dense.specs.Layouts.{Layout, AreRows}
 use Rattle.rx_dense.proofs.Rows.{IsId-row_id, IsRowId-row, id_few, row_of-row}
-use Rattle.rx_remap.proofs.Places.{count_of, row_below}
+use Rattle.rx_order.proofs.ExchangedRows.{count_of, row_below}
 use Rattle.rx_order.specs.ByKind.{AreSkippable, leaving_of}
 use Rattle.rx_order.specs.RowOrder.{are_needles, is_start_row, kind_by}
 use Rattle.rx_order.proofs.Leaving.{at_most}

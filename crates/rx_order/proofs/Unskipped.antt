@@ -7,7 +7,7 @@ use Rattle.std.proofs.lemmas.Bool.{cases_eq, cases_lt, eq-eqb, ne_eqb, or_parts}
 use Rattle.std.proofs.lemmas.List.FromFn.{get_or-range_with_len, length-range_with_len}
 use Rattle.std.proofs.lemmas.List.Sorted.{IsPermutation-refl}
 use Rattle.std.specs.List.{list_any, range_with_len}
-use Rattle.rx_table_lemmas.proofs.Filters.{every_in_range, filter_alike}
+use Rattle.lemmas_tables.proofs.Filters.{every_in_range, filter_alike}
 use Rattle.rx_spec.specs.Tables.{IsSound, Table, is_match, leaving}
 use Rattle.rx_dense.specs.Layouts.{Layout, place_in_range, row_count, stride, table_of}
 use Rattle.rx_dense.specs.Specials.{is_accel_id}

@@ -1,3 +1,11 @@
+-- rows and start entries, and what their calls make of them
+pub mod Transitions
+-- rows that have changed places, and the names that follow them
+pub mod Renaming
+-- three rows, renamed by hand
+pub mod Examples
+-- a dense table as rows that may change places
+pub mod RowLists
 -- in which order the rows of a built table lie, and which of them are special
 pub mod RowOrder
 -- a table whose rows lie at other places

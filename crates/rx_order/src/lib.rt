@@ -8,14 +8,23 @@
 //!
 //! The contract: after either call the table is the one that it was, with its rows at other places (`IsPermuted`).
 //! [`patterns_of_row`] reads the patterns of a match row.
+//!
+//! Rows change places two at a time. What leads to them goes wrong with the first exchange: an entry names a place,
+//! and another row lies there now. So a [`Remapper`] remembers where the rows went, and renames all entries once, at
+//! the end. A table that can be treated so is a [`Remappable`]. After any exchanges and the renaming the table is the
+//! one that it was, with its rows at other places (`IsRenamed` of `specs/Renaming.antt`).
 #![tactic(auto)]
 
 mod accelerate_rows;
 mod kinds;
+pub mod laws;
 mod order;
 mod places;
+mod remappable;
+mod remapper;
 mod shuffle_rows;
 mod skips;
 
 pub use accelerate_rows::{accelerate, patterns_of_row};
+pub use remapper::{Remappable, Remapper};
 pub use shuffle_rows::shuffle;

@@ -7,9 +7,9 @@ use Rattle.rx_spec.specs.Joining.{Answer, join}
 use Rattle.rx_spec.specs.Queries.{Query, Match, MatchError, LiesIn}
 use Rattle.rx_spec.specs.Tables.{Table}
 use Rattle.rx_base.specs.Searcher.{Search}
-use Rattle.rx_table_lemmas.proofs.Iterating as iterating
-use Rattle.rx_table_lemmas.proofs.Iterating.{from_end, matches_again, matches_lie, told_next}
-use Rattle.rx_table_lemmas.proofs.Joining.{join_orderly}
+use Rattle.lemmas_tables.proofs.Iterating as iterating
+use Rattle.lemmas_tables.proofs.Iterating.{from_end, matches_again, matches_lie, told_next}
+use Rattle.lemmas_tables.proofs.Joining.{join_orderly}
 use Rattle.rx_pair.specs.Matches.{items, matches_left}
 
 -- what is left behind a match

@@ -7,8 +7,8 @@ use Rattle.std.proofs.lemmas.List.Folds.{list_any-append}
 use Rattle.std.proofs.lemmas.List.Sums.{sum_by-append, sum_by-cons}
 use Rattle.std.specs.List.{flat_map, list_any, AllByRecursion as Every}
 use Rattle.rx_spec.specs.States.{fresh}
-use Rattle.rx_lemmas.proofs.Every.{every-append, every-weaker, flat_map-append_of}
-use Rattle.rx_lemmas.proofs.Firsts.{fresh_alike}
+use Rattle.lemmas_walks.proofs.Every.{every-append, every-weaker, flat_map-append_of}
+use Rattle.lemmas_walks.proofs.Firsts.{fresh_alike}
 
 -- ---- membership, as the test that computes it
 

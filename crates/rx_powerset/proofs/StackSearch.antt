@@ -6,7 +6,7 @@ use Rattle.std.proofs.lemmas.List.{reverse-append, nil_from_length}
 use Rattle.std.specs.BTreeSet.{BTreeSet, contains, Updates}
 use Rattle.std.specs.BTreeMap.{is_at}
 use Rattle.std.specs.Ordering.{nat_cmp}
-use Rattle.rx_lemmas.proofs.Firsts.{by_test}
+use Rattle.lemmas_walks.proofs.Firsts.{by_test}
 use Rattle.rx_powerset.proofs.Search.{Graph, Notes, Searching, search_passes, search_turns, search_ends}
 use Rattle.rx_powerset.proofs.Search.{passes_falls, turns_falls}
 

@@ -8,8 +8,8 @@ use Rattle.std.specs.Prelude.{Contains}
 use Rattle.rx_spec.specs.Rows.{Row}
 use Rattle.rx_spec.specs.States.{row_at, is_match_row, to_first_match, cut, pattern_of, firsts}
 use Rattle.rx_spec.specs.declared.MatchKind.{MatchKind}
-use Rattle.rx_lemmas.proofs.Every.{every-append}
-use Rattle.rx_lemmas.proofs.Firsts.{Contains-here, Contains-there, Apart, Apart-fresh}
+use Rattle.lemmas_walks.proofs.Every.{every-append}
+use Rattle.lemmas_walks.proofs.Firsts.{Contains-here, Contains-there, Apart, Apart-fresh}
 use Rattle.rx_powerset.proofs.Search.{In, in_nil, in_cases}
 
 -- ---- rows

@@ -8,7 +8,7 @@ use Rattle.rx_spec.specs.declared.Form.{Form}
 use Rattle.rx_build.specs.Builders.{Both}
 use Rattle.rx_build.specs.Settings.{settled}
 use Rattle.rx_built_images.proofs.BuiltTables.{built_whole}
-use Rattle.rx_built_sparse_images.proofs.BuiltTables as sparse_built
+use Rattle.rx_built_images.proofs.BuiltSparseTables as sparse_built
 use Rattle.rx_dense.specs.Layouts.{IsShaped, Layout}
 use Rattle.rx_dense_image.specs.Images.{IsWhole, reads, text}
 use Rattle.rx_dense_image.proofs.WholeAgain.{whole_again}

@@ -7,9 +7,9 @@ use Rattle.std.proofs.lemmas.List.{get_or-map, length-map}
 use Rattle.std.proofs.lemmas.List.Elements.{All-cons, All-map, All-nil, All-weaker}
 use Rattle.std.proofs.lemmas.Nat.{pow_pos}
 use Rattle.std.proofs.Math.Nat.{mul-div_cancel, mul-le-mul, mul-mod_left, pow-le-pow_right}
-use Rattle.rx_remap.specs.Transitions.{Transitions, AreRows, IsRowId, with_ids, with_swapped}
+use Rattle.rx_order.specs.Transitions.{Transitions, AreRows, IsRowId, with_ids, with_swapped}
 use Rattle.rx_remap_tests.specs.Samples.{chain_of}
-use Rattle.rx_remap.proofs.Places.{map-swap}
+use Rattle.rx_order.proofs.ExchangedRows.{map-swap}
 
 pub swapped_chain : (next starts : List ℕ) (s i j : ℕ) → i < length next → j < length next
     → chain_of (swap next i j) starts s ≡ with_swapped (chain_of next starts s) i j

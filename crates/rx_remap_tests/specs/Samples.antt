@@ -1,6 +1,6 @@
 -- The tests' table, whose rows lead to one row each.
 use Rattle.std.specs.Prelude.{ℕ, List, [], ◌∷◌, map}
-use Rattle.rx_remap.specs.Transitions.{Transitions}
+use Rattle.rx_order.specs.Transitions.{Transitions}
 
 abbrev pub chain_of : (next starts : List ℕ) (stride2 : ℕ) → Transitions
 chain_of next starts stride2 = record { rows = map (λ id. id ∷ []) next; starts = starts; stride2 = stride2 }

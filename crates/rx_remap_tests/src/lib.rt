@@ -1,4 +1,4 @@
-//! Tests of `rx_remap`: renamings worked by hand.
+//! Tests of `rx_order`: renamings worked by hand.
 #![tactic(auto)]
 
 #[cfg(test)]

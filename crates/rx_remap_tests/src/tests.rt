@@ -5,7 +5,7 @@ ghost use Rattle.std.specs.Prelude.{◌≡◌, ◌<◌, length};
 mod chain;
 
 use self::chain::Chain;
-use rx_remap::{Remappable, Remapper};
+use rx_order::{Remappable, Remapper};
 use std::alloc::{AllocError, Global};
 use std::process::Abort;
 use std::test::Fail;

@@ -13,8 +13,8 @@ use Rattle.rx_spec.specs.Overlapping.{Ending, OverlappingMatches, none_left, pat
 use Rattle.rx_spec.specs.Overlapping.{whole_overlapping_walk, with_items}
 use Rattle.rx_spec.specs.Tables.{Table, is_match}
 use Rattle.rx_spec.specs.declared.Direction.{Direction}
-use Rattle.rx_lemmas.proofs.Firsts.{by_test}
-use Rattle.rx_lemmas.proofs.Overlapping.{overlapping_walks, overlapping_refused}
+use Rattle.lemmas_walks.proofs.Firsts.{by_test}
+use Rattle.lemmas_walks.proofs.Overlapping.{overlapping_walks, overlapping_refused}
 use Rattle.rx_search.specs.Labels.{is_quit, patterns_of}
 use Rattle.rx_search.specs.Needles.{byte_ahead, is_read}
 use Rattle.rx_search.specs.Starts.{IsId, IsStart, IsRefused}

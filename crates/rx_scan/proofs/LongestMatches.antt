@@ -9,7 +9,7 @@ use Rattle.std.specs.Prelude.{nat_lt, Contains}
 use Rattle.std.specs.Option.{option_or}
 use Rattle.rx_spec.specs.Queries.{HalfMatch}
 use Rattle.rx_spec.specs.Overlapping.{Item, pattern_items}
-use Rattle.rx_lemmas.proofs.Firsts.{by_test, Contains-here, Contains-there, Contains-cases, Contains-nil}
+use Rattle.lemmas_walks.proofs.Firsts.{by_test, Contains-here, Contains-there, Contains-cases, Contains-nil}
 use Rattle.rx_all.proofs.PastOffsets.{AllPast}
 use Rattle.rx_scan.specs.Tokens.{comes_before, first_of_two, longest}
 use Rattle.rx_scan.specs.Walks.{IsLowest}

@@ -4,7 +4,7 @@ use Rattle.std.proofs.Common.{subst, arith}
 use Rattle.std.proofs.lemmas.List.Elements.{All-nil, All-cons, All-append, All-weaker, Contains-append_left}
 use Rattle.std.proofs.lemmas.List.Elements.{Contains-append_right}
 use Rattle.std.specs.Prelude.{slice_index}
-use Rattle.rx_lemmas.proofs.Firsts.{Contains-here}
+use Rattle.lemmas_walks.proofs.Firsts.{Contains-here}
 use Rattle.rx_scan.specs.Walks.{IsLowest}
 
 one : (k : ℕ) → IsLowest (k ∷ []) k

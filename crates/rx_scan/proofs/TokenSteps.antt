@@ -8,14 +8,14 @@ use Rattle.rx_spec.specs.Queries.{HalfMatch, MatchError}
 use Rattle.rx_spec.specs.HalfSearches.{HalfAnswer}
 use Rattle.rx_spec.specs.Overlapping.{Ending, OverlappingMatches}
 use Rattle.rx_spec.specs.Tables.{Table}
-use Rattle.rx_lemmas.proofs.Firsts.{by_test}
+use Rattle.lemmas_walks.proofs.Firsts.{by_test}
 use Rattle.rx_all.specs.Matches.{query_at, told_at}
 use Rattle.rx_scan.specs.Tokens.{longest, longest_of, unless_ended, Tokens, no_more, token_at, then_tokens}
 use Rattle.rx_scan.specs.Tokens.{tokens_from, tokens_left, error_end, Scan, NextToken, line_feeds, line_start}
 use Rattle.rx_scan.specs.Tokens.{Cover, IsMeant, IsMeantEnd}
 use Rattle.rx_spec.specs.Bytes.{AreBytes}
 use Rattle.rx_spec.specs.declared.Direction.{Direction}
-use Rattle.rx_lemmas.proofs.OverlappingBounds.{overlapping_in_span}
+use Rattle.lemmas_walks.proofs.OverlappingBounds.{overlapping_in_span}
 use Rattle.rx_scan.proofs.TokenMeanings.{longest_is_match, none_matches}
 use Rattle.rx_scan.specs.States.{scan_of}
 use Rattle.rx_scan.specs.declared.token.ScanEnd.{ScanEnd}

@@ -8,7 +8,7 @@ use Rattle.rx_spec.specs.Expressions.{Expression, IsLoopSafe}
 use Rattle.rx_spec.specs.HalfSearches.{HalfAnswer}
 use Rattle.rx_spec.specs.Plans.{Plan}
 use Rattle.rx_spec.specs.Tables.{Table}
-use Rattle.rx_lemmas.proofs.Firsts.{by_test}
+use Rattle.lemmas_walks.proofs.Firsts.{by_test}
 use Rattle.rx_all.specs.Builds.{all_build}
 use Rattle.rx_all.specs.Matches.{ServesAll, told_at}
 use Rattle.rx_scan.specs.Tokens.{IsLongestToken, Tokens, TokensAreLongest, longest_of, then_tokens, token_at}

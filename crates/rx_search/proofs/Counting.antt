@@ -12,7 +12,7 @@ use Rattle.rx_search.specs.Labels.{is_quit, is_quit_label}
 use Rattle.rx_search.specs.Needles.{is_nil, byte_ahead, is_read, Skips}
 use Rattle.rx_search.specs.Walks.{last_offset, units_left, unit_ahead}
 use Rattle.rx_search.specs.Counted.{ends_at, counts, IsReady, counted, counted_on}
-use Rattle.rx_lemmas.proofs.Firsts.{by_test}
+use Rattle.lemmas_walks.proofs.Firsts.{by_test}
 use Rattle.rx_search.proofs.Standing.{Standing}
 use Rattle.rx_search.proofs.Walks.{Place, units_left-more, units_left-last, next_place, byte_there, IsQuiet, Turn}
 use Rattle.rx_search.proofs.Walks.{loops, unread_alive}

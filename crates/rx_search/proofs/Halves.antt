@@ -10,14 +10,14 @@ use Rattle.rx_spec.specs.Machines.{Label, Machine}
 use Rattle.rx_spec.specs.HalfSearches.{HalfAnswer, first_offset, next_offset, units_of, first_match, last_match}
 use Rattle.rx_spec.specs.HalfSearches.{at_label}
 use Rattle.rx_spec.specs.HalfSearches.{walk, whole_walk, half_search, beside}
-use Rattle.rx_lemmas.proofs.HalfSearches.{half_walks}
+use Rattle.lemmas_walks.proofs.HalfSearches.{half_walks}
 use Rattle.std.proofs.lemmas.Bool.{ltb-false}
 use Rattle.rx_search.specs.Starts.{IsStart}
 use Rattle.rx_spec.specs.Tables.{Table, IsSound, is_match}
 use Rattle.rx_spec.specs.declared.Direction.{Direction}
-use Rattle.rx_lemmas.proofs.Firsts.{by_test}
-use Rattle.rx_table_lemmas.proofs.Tables.{match_alive}
-use Rattle.rx_lemmas.proofs.Walking.{walk-nil, walk-cons}
+use Rattle.lemmas_walks.proofs.Firsts.{by_test}
+use Rattle.lemmas_tables.proofs.Tables.{match_alive}
+use Rattle.lemmas_walks.proofs.Walking.{walk-nil, walk-cons}
 use Rattle.rx_search.specs.Labels.{patterns_of}
 use Rattle.rx_search.specs.Needles.{byte_ahead, Skips}
 use Rattle.rx_search.specs.Walks.{last_offset, previous_offset, units_left, units_after, at_stop_label, next_stop}
@@ -29,7 +29,7 @@ use Rattle.rx_search.proofs.Walks.{Place, stop-nil, stop-cons, units_left-more, 
 use Rattle.rx_search.proofs.Walks.{skip_keeps}
 use Rattle.rx_search.proofs.Walks.{rest_whole, next_place, skip_stops}
 use Rattle.rx_search.proofs.Counting.{quiet_goes_on, match_goes_on, skip_counts, counted_few}
-use Rattle.rx_lemmas.proofs.WalkBounds.{units_count}
+use Rattle.lemmas_walks.proofs.WalkBounds.{units_count}
 use Rattle.rx_search.proofs.Progress.{Standpoint}
 
 -- what a stop makes of a half search that has kept a match

@@ -6,7 +6,7 @@ use Rattle.rx_spec.specs.HalfSearches.{HalfAnswer, half_search}
 use Rattle.rx_spec.specs.Splits.{half_unsplit}
 use Rattle.rx_spec.specs.Tables.{Table}
 use Rattle.rx_spec.specs.declared.Direction.{Direction}
-use Rattle.rx_table_lemmas.proofs.ToldInSpan.{half_within, unsplit_within}
+use Rattle.lemmas_tables.proofs.ToldInSpan.{half_within, unsplit_within}
 use Rattle.rx_search.specs.Walks.{IsInSpan}
 
 abbrev LiesIn : Query → HalfAnswer → Type 0

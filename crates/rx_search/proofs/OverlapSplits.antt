@@ -8,7 +8,7 @@ use Rattle.rx_spec.specs.Splits.{is_split, item_unsplit, items_unsplit, skips_sp
 use Rattle.rx_spec.specs.Tables.{Table}
 use Rattle.rx_search.specs.OverlappingCalls.{Call, ending_call, item_call, next_call}
 use Rattle.rx_search.specs.SplitSearches.{unsplit_matches}
-use Rattle.rx_lemmas.proofs.Firsts.{by_test}
+use Rattle.lemmas_walks.proofs.Firsts.{by_test}
 
 -- a call of the search that doesn't pass over splits
 pub record IsCall (before : OverlappingMatches) (result : Result (Unit {0}) MatchError) (told : Option HalfMatch)

@@ -12,10 +12,10 @@ use Rattle.rx_spec.specs.Overlapping.{Ending, OverlappingMatches, none_left, lab
 use Rattle.rx_spec.specs.Overlapping.{at_item_label, overlapping_walk, remaining, overlapping, whole_overlapping_walk}
 use Rattle.rx_spec.specs.Tables.{Table, is_match}
 use Rattle.rx_spec.specs.declared.Direction.{Direction}
-use Rattle.rx_lemmas.proofs.Firsts.{by_test}
-use Rattle.rx_table_lemmas.proofs.Tables.{match_alive}
-use Rattle.rx_lemmas.proofs.Overlapping.{overlapping-nil, overlapping-cons, overlapping_on, overlapping_walks}
-use Rattle.rx_lemmas.proofs.Words.{IsWord-head}
+use Rattle.lemmas_walks.proofs.Firsts.{by_test}
+use Rattle.lemmas_tables.proofs.Tables.{match_alive}
+use Rattle.lemmas_walks.proofs.Overlapping.{overlapping-nil, overlapping-cons, overlapping_on, overlapping_walks}
+use Rattle.lemmas_walks.proofs.Words.{IsWord-head}
 use Rattle.rx_search.specs.Labels.{patterns_of, is_quit}
 use Rattle.rx_search.specs.Needles.{Skips}
 use Rattle.rx_search.specs.Starts.{IsStart}

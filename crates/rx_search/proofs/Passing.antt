@@ -4,7 +4,7 @@ use Rattle.std.proofs.Common.{length}
 use Rattle.std.proofs.Common.{refl, ap, ap₂, sym, ◌∙◌, subst, arith, ⊎_elim}
 use Rattle.std.proofs.lemmas.Bool.{cases_lt, eqb-true}
 use Rattle.std.specs.Prelude.{◌==◌, not}
-use Rattle.rx_lemmas.proofs.Firsts.{by_test}
+use Rattle.lemmas_walks.proofs.Firsts.{by_test}
 use Rattle.rx_spec.specs.Bytes.{AreBytes}
 use Rattle.rx_spec.specs.Ids.{row_of}
 use Rattle.rx_spec.specs.Machines.{Machine}

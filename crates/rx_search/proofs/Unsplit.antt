@@ -6,7 +6,7 @@ use Rattle.std.proofs.lemmas.Bool.{eqb-false, or_right, true_from_ne_false}
 use Rattle.rx_spec.specs.Queries.{Query, HalfMatch, MatchError, IsFit, is_anchored}
 use Rattle.rx_spec.specs.HalfSearches.{HalfAnswer, half_search}
 use Rattle.rx_spec.specs.Tables.{Table}
-use Rattle.rx_table_lemmas.proofs.ToldInSpan.{half_within}
+use Rattle.lemmas_tables.proofs.ToldInSpan.{half_within}
 use Rattle.rx_spec.specs.Splits.{is_split, narrower, is_narrowest, unless_split, skip_splits, split_limit, skips_splits}
 use Rattle.rx_spec.specs.Splits.{half_unsplit}
 use Rattle.rx_spec.specs.declared.Direction.{Direction}

@@ -18,9 +18,9 @@ use Rattle.rx_spec.specs.Tables.{IsTable, IsSound, is_match_label}
 use Rattle.rx_spec.specs.Ids.{AreIds, row_of}
 use Rattle.rx_spec.specs.Starts.{has_unanchored, has_anchored}
 use Rattle.rx_spec.specs.declared.Start.{Start}
-use Rattle.rx_table_lemmas.proofs.Filters.{range_within}
-use Rattle.rx_lemmas.proofs.Firsts.{by_test}
-use Rattle.rx_table_lemmas.proofs.Ids.{dense_are_ids, id_of-dense, row_of-id_of}
+use Rattle.lemmas_tables.proofs.Filters.{range_within}
+use Rattle.lemmas_walks.proofs.Firsts.{by_test}
+use Rattle.lemmas_tables.proofs.Ids.{dense_are_ids, id_of-dense, row_of-id_of}
 use Rattle.rx_search.specs.Starts.{IsId}
 use Rattle.rx_search.specs.Labels.{is_quit_label, label_patterns}
 use Rattle.rx_search_tests.specs.Samples.{Sample, size, next_row, told_count, row_label, start_row, entry_row}

@@ -11,7 +11,7 @@ use Rattle.rx_spec.specs.Causes.{max_id}
 use Rattle.rx_spec.specs.Ids.{id_of, row_of}
 use Rattle.rx_spec.specs.Queries.{Anchored}
 use Rattle.rx_spec.specs.declared.Start.{Start}
-use Rattle.rx_table_lemmas.proofs.Ids.{row_of-id_of}
+use Rattle.lemmas_tables.proofs.Ids.{row_of-id_of}
 use Rattle.rx_dense.specs.Layouts.{context_number, mode_place, start_entries}
 use Rattle.rx_search.specs.Starts.{IsId}
 use Rattle.rx_dense.proofs.Rows.{id_at_row}

@@ -12,13 +12,13 @@ use Rattle.std.proofs.lemmas.List.Kept.{AllPairs-from_increasing}
 use Rattle.std.proofs.lemmas.Nat.{pow_pos, row_fits}
 use Rattle.rx_spec.specs.Ids.{id_of, row_of}
 use Rattle.rx_spec.specs.Machines.{IsWord, Label, run}
-use Rattle.rx_lemmas.proofs.Words.{IsWord-head, IsWord-tail, run-cons, run-nil}
+use Rattle.lemmas_walks.proofs.Words.{IsWord-head, IsWord-tail, run-cons, run-nil}
 use Rattle.rx_spec.specs.Queries.{Anchored}
 use Rattle.rx_spec.specs.Tables.{AreSame, IsTable, Table, row_after}
 use Rattle.rx_spec.specs.declared.Start.{Start}
-use Rattle.rx_lemmas.proofs.Firsts.{by_test}
-use Rattle.rx_table_lemmas.proofs.Ids.{row_of-id_of}
-use Rattle.rx_table_lemmas.proofs.Tables.{SameSettings-refl, sound_same}
+use Rattle.lemmas_walks.proofs.Firsts.{by_test}
+use Rattle.lemmas_tables.proofs.Ids.{row_of-id_of}
+use Rattle.lemmas_tables.proofs.Tables.{SameSettings-refl, sound_same}
 use Rattle.rx_base.specs.ByteClasses.{AreClasses, alphabet_len}
 use Rattle.rx_search.specs.Starts.{IsId}
 use Rattle.rx_dense.specs.Specials.{is_accel_id, is_in_range, is_match_id, is_quit_id, is_start_id}

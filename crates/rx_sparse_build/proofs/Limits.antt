@@ -24,9 +24,9 @@ use Rattle.rx_build.proofs.Beginnings.{refused_as}
 use Rattle.rx_sparse.specs.Layouts.{Stored}
 use Rattle.rx_sparse.specs.Sparse.{IsTooLong, little_sparse_of, sparse_len}
 use Rattle.rx_determinize.specs.Determinized.{classes_of}
-use Rattle.rx_sparse_sizes.specs.Measured.{IsBounded, IsMeasured}
-use Rattle.rx_sparse_sizes.proofs.Bounds.{too_long as bound_too_long}
-use Rattle.rx_sparse_sizes.proofs.Lengths.{fits as fits_rows, too_long}
+use Rattle.rx_sparse_build.specs.Measured.{IsBounded, IsMeasured}
+use Rattle.rx_sparse_build.proofs.Bounds.{too_long as bound_too_long}
+use Rattle.rx_sparse_build.proofs.Lengths.{fits as fits_rows, too_long}
 use Rattle.rx_sparse_build.specs.Built.{IsSparse, Refused, sparse_limits}
 
 -- ---- causes of the dense table

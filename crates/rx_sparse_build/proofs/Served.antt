@@ -8,9 +8,9 @@ use Rattle.rx_spec.specs.Power.{IsPower, node_at}
 use Rattle.rx_spec.specs.Queries.{Anchored}
 use Rattle.rx_spec.specs.Tables.{AreSame, IsTable, Table, row_after}
 use Rattle.rx_spec.specs.declared.Start.{Start}
-use Rattle.rx_lemmas.proofs.SilentRows.{IsRow}
-use Rattle.rx_lemmas.proofs.Words.{run-within}
-use Rattle.rx_table_lemmas.proofs.Tables.{SameSettings-sym, SameSettings-trans, table_same}
+use Rattle.lemmas_walks.proofs.SilentRows.{IsRow}
+use Rattle.lemmas_walks.proofs.Words.{run-within}
+use Rattle.lemmas_tables.proofs.Tables.{SameSettings-sym, SameSettings-trans, table_same}
 use Rattle.rx_meaning.specs.Tables.{Serves}
 use Rattle.rx_dense.specs.Layouts as dense
 use Rattle.rx_build.specs.Built.{build_of}

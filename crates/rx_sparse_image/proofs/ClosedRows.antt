@@ -8,7 +8,7 @@ use Rattle.std.proofs.lemmas.Bool.{and_parts, eqb-true, leb-true}
 use Rattle.std.proofs.lemmas.List.{get_or_default}
 use Rattle.std.proofs.lemmas.List.Folds.{Any-from_list_any}
 use Rattle.rx_spec.specs.Ids.{id_of, row_of}
-use Rattle.rx_table_lemmas.proofs.Ids.{row_of-id_of}
+use Rattle.lemmas_tables.proofs.Ids.{row_of-id_of}
 use Rattle.rx_search.specs.Starts.{IsId}
 use Rattle.rx_dense_image.proofs.ClosedFacts.{each_at}
 use Rattle.rx_sparse.specs.declared.ranges.ClassRange.{ClassRange}

@@ -14,8 +14,8 @@ use Rattle.rx_spec.specs.Machines.{Label}
 use Rattle.rx_spec.specs.Queries.{Anchored}
 use Rattle.rx_spec.specs.Tables.{IsTable, is_match, is_match_label, leaving}
 use Rattle.rx_spec.specs.declared.Start.{Start}
-use Rattle.rx_table_lemmas.proofs.Filters.{every_in_range, filter_alike}
-use Rattle.rx_table_lemmas.proofs.Ids.{id_apart, row_of-id_of}
+use Rattle.lemmas_tables.proofs.Filters.{every_in_range, filter_alike}
+use Rattle.lemmas_tables.proofs.Ids.{id_apart, row_of-id_of}
 use Rattle.rx_search.specs.Starts.{IsId}
 use Rattle.rx_dense.specs.Specials.{greatest, is_accel_id, is_in_range, is_match_id, is_quit_id, is_start_id}
 use Rattle.rx_dense.specs.Layouts.{context_number, mode_place, start_entries}

@@ -13,11 +13,11 @@ use Rattle.rx_spec.specs.States.{decided_rows}
 use Rattle.rx_spec.specs.States.{holds_before, is_look_row}
 use Rattle.rx_spec.specs.declared.Direction.{Direction}
 use Rattle.rx_spec.specs.declared.Look.{Look}
-use Rattle.rx_lemmas.proofs.Every.{every-append, flat_map-alike}
-use Rattle.rx_lemmas.proofs.Facts.{Cover, kept_cover, kept_after, kept_before}
-use Rattle.rx_lemmas.proofs.Firsts.{Contains-here, Contains-there, Contains-cases, Contains-nil, fresh_within}
-use Rattle.rx_lemmas.proofs.Firsts.{fresh_itself}
-use Rattle.rx_lemmas.proofs.Firsts.{Apart-fresh}
+use Rattle.lemmas_walks.proofs.Every.{every-append, flat_map-alike}
+use Rattle.lemmas_walks.proofs.Facts.{Cover, kept_cover, kept_after, kept_before}
+use Rattle.lemmas_walks.proofs.Firsts.{Contains-here, Contains-there, Contains-cases, Contains-nil, fresh_within}
+use Rattle.lemmas_walks.proofs.Firsts.{fresh_itself}
+use Rattle.lemmas_walks.proofs.Firsts.{Apart-fresh}
 use Rattle.rx_powerset.specs.Closures.{own_by, branches_by, closed_rows}
 use Rattle.rx_powerset.proofs.Closures.{closure_unfolds}
 use Rattle.rx_stepper.specs.Columns.{asked_of}

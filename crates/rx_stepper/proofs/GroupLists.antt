@@ -7,7 +7,7 @@ use Rattle.std.proofs.lemmas.List.{get_or_append_left, get_or-set_same, get_or-s
 use Rattle.std.proofs.Math.Seq.{get_or-append_seam}
 use Rattle.rx_spec.specs.Contexts.{Facts, both, facts_kept, unit_facts}
 use Rattle.rx_spec.specs.Nfas.{Nfa}
-use Rattle.rx_lemmas.proofs.Firsts.{by_test}
+use Rattle.lemmas_walks.proofs.Firsts.{by_test}
 use Rattle.rx_base.specs.FactBits.{bits_of, facts_with}
 use Rattle.rx_stepper.specs.Columns.{IsGroup}
 

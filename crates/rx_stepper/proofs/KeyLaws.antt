@@ -13,10 +13,10 @@ use Rattle.rx_spec.specs.Causes.{max_id, id_count}
 use Rattle.rx_spec.specs.Contexts.{Facts, no_facts}
 use Rattle.rx_spec.specs.Rows.{Row}
 use Rattle.rx_spec.specs.States.{State, row_at, firsts}
-use Rattle.rx_lemmas.proofs.Every.{every-weaker}
+use Rattle.lemmas_walks.proofs.Every.{every-weaker}
 use Rattle.rx_powerset.proofs.StateBounds.{few_firsts}
 use Rattle.rx_base.specs.FactBits.{bit, bits_of, facts_with}
-use Rattle.rx_lemmas.proofs.Firsts.{Apart, Apart-fresh, Contains-nil, fresh_itself}
+use Rattle.lemmas_walks.proofs.Firsts.{Apart, Apart-fresh, Contains-nil, fresh_itself}
 use Rattle.rx_stepper.specs.Keys.{key_of, label_of, led_of, own_of, spelled, stands, are_closed, is_closed}
 use Rattle.rx_stepper.specs.Keys.{is_key}
 use Rattle.rx_stepper.specs.Leads.{rows_by, without, written, written_as}

@@ -11,8 +11,8 @@ use Rattle.rx_spec.specs.Nfas.{Nfa, is_always_start_anchored}
 use Rattle.rx_spec.specs.Rows.{Row}
 use Rattle.rx_spec.specs.Shallow.{IsShallow}
 use Rattle.rx_spec.specs.States.{Standing, row_at, closure, firsts}
-use Rattle.rx_lemmas.proofs.Every.{every-weaker}
-use Rattle.rx_lemmas.proofs.Firsts.{Apart}
+use Rattle.lemmas_walks.proofs.Every.{every-weaker}
+use Rattle.lemmas_walks.proofs.Firsts.{Apart}
 use Rattle.rx_expr.specs.Nfa.{meaning}
 use Rattle.rx_expr.specs.declared.thompson.nfa.NFA.{NFA}
 use Rattle.rx_powerset.specs.Closures.{own_by, branches_by, closed_rows}

@@ -9,7 +9,7 @@ use Rattle.std.proofs.lemmas.Bool.{cases_lt, eqb-false, eqb-true, lt-ltb, ltb-tr
 use Rattle.std.proofs.lemmas.List.{get_or-set_same, get_or-set_other}
 use Rattle.std.specs.List.{AllByRecursion as Every}
 use Rattle.std.specs.Prelude.{Some, replicate, slice_get, slice_index_or}
-use Rattle.rx_lemmas.proofs.Firsts.{Apart, by_test, seen_true}
+use Rattle.lemmas_walks.proofs.Firsts.{Apart, by_test, seen_true}
 use Rattle.rx_stepper.specs.Leads.{without, led, IsLeast}
 use Rattle.rx_stepper.specs.Places.{no_place, ArePlaces, AreMetTo}
 use Rattle.rx_stepper.proofs.Members.{In, was, in_cases, in_nil, in_here, in_there, in_left, in_right, in_split, not_in}

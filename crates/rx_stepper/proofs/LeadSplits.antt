@@ -1,5 +1,5 @@
 -- How the code splits rows into own ones and the lead-in's others, and how many these are.
-use Rattle.rx_lemmas.proofs.Firsts.{Apart, by_test}
+use Rattle.lemmas_walks.proofs.Firsts.{Apart, by_test}
 use Rattle.std.proofs.Common.{◌≡◌, ℕ, not, ◌+◌, ◌-◌, ◌<◌, ◌≤◌, ◌==◌, Bool, true, false, List, [], ◌∷◌, ◌++◌, length}
 use Rattle.std.proofs.Common.{take, drop, get_or, sum_by, refl, ap, ap₂, sym, ◌∙◌, arith, length-append, length-drop}
 use Rattle.std.proofs.Common.{take-append-drop}

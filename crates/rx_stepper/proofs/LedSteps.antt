@@ -8,8 +8,8 @@ use Rattle.std.specs.List.{flat_map, list_any}
 use Rattle.rx_spec.specs.Rows.{Row}
 use Rattle.rx_spec.specs.States.{Passing, row_at, firsts, closure, is_match_row, to_first_match, cut, pattern_of}
 use Rattle.rx_spec.specs.declared.MatchKind.{MatchKind}
-use Rattle.rx_lemmas.proofs.Every.{flat_map-append_of}
-use Rattle.rx_lemmas.proofs.Firsts.{by_test}
+use Rattle.lemmas_walks.proofs.Every.{flat_map-append_of}
+use Rattle.lemmas_walks.proofs.Firsts.{by_test}
 use Rattle.rx_powerset.specs.Closures.{closed_rows}
 use Rattle.rx_stepper.specs.Leads.{without, led}
 use Rattle.rx_stepper.specs.Steps.{goes_on, matches_of}

@@ -10,8 +10,8 @@ use Rattle.rx_spec.specs.Causes.{id_count, max_id}
 use Rattle.rx_spec.specs.Contexts.{Facts}
 use Rattle.rx_spec.specs.Nfas.{Nfa}
 use Rattle.rx_spec.specs.States.{Standing, row_at, is_look_row}
-use Rattle.rx_lemmas.proofs.Every.{every-append, every-weaker}
-use Rattle.rx_lemmas.proofs.Firsts.{by_test}
+use Rattle.lemmas_walks.proofs.Every.{every-append, every-weaker}
+use Rattle.lemmas_walks.proofs.Firsts.{by_test}
 use Rattle.rx_base.specs.FactBits.{bit, bits_of, facts_with}
 use Rattle.rx_powerset.specs.Closures.{closed_rows}
 use Rattle.rx_stepper.specs.Leads.{lead_of, led, without, rows_by, written, written_as}

@@ -4,7 +4,7 @@ use Rattle.std.proofs.lemmas.Bool.{or_left, or_right, or_cases, eq-eqb, false_fr
 use Rattle.std.proofs.lemmas.List.Folds.{list_any-append}
 use Rattle.std.specs.Prelude.{Contains}
 use Rattle.std.specs.List.{list_any}
-use Rattle.rx_lemmas.proofs.Firsts.{Apart, seen_true, seen_if}
+use Rattle.lemmas_walks.proofs.Firsts.{Apart, seen_true, seen_if}
 pub use Rattle.rx_powerset.proofs.Search.{In, in_cases, in_nil}
 
 abbrev pub was : List ℕ → ℕ → Bool

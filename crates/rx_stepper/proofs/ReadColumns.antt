@@ -15,7 +15,7 @@ use Rattle.rx_spec.specs.Rows.{Row}
 use Rattle.rx_spec.specs.States.{row_at, target}
 use Rattle.rx_spec.specs.declared.Unit.{Unit}
 use Rattle.rx_base.specs.Unit.{unit_number}
-use Rattle.rx_lemmas.proofs.Every.{flat_map-append_of}
+use Rattle.lemmas_walks.proofs.Every.{flat_map-append_of}
 use Rattle.rx_stepper.specs.Columns.{only_if, led_by, columns_of, next_of, AreSpans, Reads}
 use Rattle.rx_stepper.specs.ListedSets.{Grown, IsRowSpan}
 use Rattle.rx_stepper.specs.declared.column_span.ColumnSpan.{ColumnSpan}

@@ -13,8 +13,9 @@ use Rattle.rx_spec.specs.Causes.{id_count}
 use Rattle.rx_spec.specs.Rows.{Row}
 use Rattle.rx_spec.specs.Shallow.{IsShallow}
 use Rattle.rx_spec.specs.States.{Passing, row_at, closure, fresh}
-use Rattle.rx_lemmas.proofs.Every.{every-append, flat_map-append_of}
-use Rattle.rx_lemmas.proofs.Firsts.{by_test, fresh_alike, fresh_append, fresh_keeps, fresh_within, seen_if, seen_true}
+use Rattle.lemmas_walks.proofs.Every.{every-append, flat_map-append_of}
+use Rattle.lemmas_walks.proofs.Firsts.{by_test, fresh_alike, fresh_append, fresh_keeps}
+use Rattle.lemmas_walks.proofs.Firsts.{fresh_within, seen_if, seen_true}
 use Rattle.rx_powerset.specs.Closures.{own_by, branches_by, closed_rows}
 use Rattle.rx_powerset.proofs.Closures.{graph_of, closure_unfolds}
 use Rattle.rx_powerset.proofs.Search.{Graph, In, Listed, Notes, Searching, in_cases, in_nil}

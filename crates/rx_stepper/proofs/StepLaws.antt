@@ -12,7 +12,7 @@ use Rattle.rx_spec.specs.States.{State, Passing, Standing, Tested, row_at, closu
 use Rattle.rx_spec.specs.States.{decided_rows, holds_before, is_look_row, is_match_row, pattern_of, target, step}
 use Rattle.rx_spec.specs.declared.MatchKind.{MatchKind}
 use Rattle.rx_base.specs.FactBits.{facts_with}
-use Rattle.rx_lemmas.proofs.Every.{flat_map-append_of, flat_map-flat_map}
+use Rattle.lemmas_walks.proofs.Every.{flat_map-append_of, flat_map-flat_map}
 use Rattle.rx_powerset.specs.Closures.{closed_rows}
 use Rattle.rx_stepper.specs.Columns.{list_at, only_if, asked_of, AreGroups, AreUsed}
 use Rattle.rx_stepper.specs.Leads.{led, without}

@@ -9,7 +9,7 @@ use Rattle.rx_spec.specs.Causes.{id_count}
 use Rattle.rx_spec.specs.Contexts.{Facts}
 use Rattle.rx_spec.specs.Rows.{Row}
 use Rattle.rx_spec.specs.States.{Tested, cut, holds_before, pattern_of, row_at}
-use Rattle.rx_lemmas.proofs.Firsts.{by_test}
+use Rattle.lemmas_walks.proofs.Firsts.{by_test}
 use Rattle.rx_base.specs.FactBits.{bits_of, facts_with}
 use Rattle.rx_powerset.specs.Closures.{closed_rows}
 use Rattle.rx_stepper.specs.Fits.{AreStepsOf, FitsCurrent, FitsLead, Table}

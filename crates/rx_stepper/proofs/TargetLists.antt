@@ -6,8 +6,8 @@ use Rattle.std.specs.List.{flat_map}
 use Rattle.std.proofs.lemmas.Bool.{eqb-true, eqb-false}
 use Rattle.std.proofs.lemmas.List.{take_more, get_or-set_same, get_or-set_other, get_or-map, length-map, map-set}
 use Rattle.std.proofs.lemmas.List.Elements.{filter-append}
-use Rattle.rx_lemmas.proofs.Every.{flat_map-append_of}
-use Rattle.rx_lemmas.proofs.Firsts.{by_test}
+use Rattle.lemmas_walks.proofs.Every.{flat_map-append_of}
+use Rattle.lemmas_walks.proofs.Firsts.{by_test}
 use Rattle.rx_stepper.specs.Columns.{led_by, list_at, only_if}
 
 -- ---- one column

@@ -7,8 +7,8 @@ use Rattle.rx_spec.specs.Bytes.{eoi}
 use Rattle.rx_spec.specs.Classes.{class_by, representatives}
 use Rattle.rx_base.specs.ByteClasses.{AreClasses, ends_of, alphabet_len}
 use Rattle.rx_base.proofs.Classes.{class_by-le}
-use Rattle.rx_lemmas.proofs.Firsts.{by_test}
-use Rattle.rx_table_lemmas.proofs.ClassNumbers.{representatives_counted}
+use Rattle.lemmas_walks.proofs.Firsts.{by_test}
+use Rattle.lemmas_tables.proofs.ClassNumbers.{representatives_counted}
 use Rattle.rx_stepper.specs.Units.{units_of}
 
 class_next : (ends : ℕ → Bool) (b : ℕ) → class_by ends (suc b) ≡ class_by ends b + (if ends b then 1 else 0)

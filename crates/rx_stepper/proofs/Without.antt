@@ -6,9 +6,10 @@ use Rattle.std.proofs.lemmas.List.Sums.{sum_by-cons}
 use Rattle.std.specs.Prelude.{Contains}
 use Rattle.std.specs.List.{flat_map}
 use Rattle.rx_spec.specs.States.{fresh, firsts}
-use Rattle.rx_lemmas.proofs.Every.{flat_map-append_of}
-use Rattle.rx_lemmas.proofs.Firsts.{by_test, fresh_append, fresh_alike, fresh_within, fresh_keeps, Apart, Contains-here}
-use Rattle.rx_lemmas.proofs.Firsts.{Contains-nil, Contains-there, seen_true, seen_if}
+use Rattle.lemmas_walks.proofs.Every.{flat_map-append_of}
+use Rattle.lemmas_walks.proofs.Firsts.{by_test, fresh_append, fresh_alike, fresh_within}
+use Rattle.lemmas_walks.proofs.Firsts.{fresh_keeps, Apart, Contains-here}
+use Rattle.lemmas_walks.proofs.Firsts.{Contains-nil, Contains-there, seen_true, seen_if}
 use Rattle.rx_base.specs.FactBits.{bit}
 use Rattle.rx_stepper.specs.Leads.{without, led}
 use Rattle.rx_stepper.proofs.Members.{In, in_cases, in_nil, was, in_here, in_there, in_left, in_right, in_split, not_in}

@@ -4,7 +4,7 @@ use Rattle.std.proofs.Common.{refl, ap, ap₂, sym, ◌∙◌, subst, arith, app
 use Rattle.std.proofs.lemmas.Bool.{false_from_ne_true}
 use Rattle.std.proofs.lemmas.Slice.Eq.{bytes_eq-Decides}
 use Rattle.std.specs.Str.{bytes_eq}
-use Rattle.rx_lemmas.proofs.Firsts.{Apart, by_test, seen_true}
+use Rattle.lemmas_walks.proofs.Firsts.{Apart, by_test, seen_true}
 use Rattle.rx_stepper.specs.Leads.{without, led, written_as, rows_by, split_by, written, IsLeast}
 use Rattle.rx_stepper.proofs.Members.{In, in_cases, in_nil, was, in_here, in_left, in_right, not_in, apart_last}
 use Rattle.rx_stepper.proofs.Without.{without_nil, without_old, without_new, without_append, without_join, without_all}

@@ -9,7 +9,7 @@ use Rattle.rx_spec.specs.Ids.{row_of}
 use Rattle.rx_spec.specs.Machines.{IsWord}
 use Rattle.rx_spec.specs.Queries.{HalfMatch}
 use Rattle.rx_spec.specs.Tables.{Table}
-use Rattle.rx_lemmas.proofs.Words.{IsWord-nil, IsWord-cons, IsWord-append}
+use Rattle.lemmas_walks.proofs.Words.{IsWord-nil, IsWord-cons, IsWord-append}
 use Rattle.rx_search.specs.Labels.{patterns_of}
 use Rattle.rx_search.proofs.Standing.{Standing}
 use Rattle.rx_stream.specs.Remaining.{events, told_over, pending, units_to, now_at}

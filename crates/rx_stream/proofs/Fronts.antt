@@ -11,9 +11,9 @@ use Rattle.rx_spec.specs.Overlapping.{Item, Ending, OverlappingMatches, none_lef
 use Rattle.rx_spec.specs.Overlapping.{pattern_items, with_items}
 use Rattle.rx_spec.specs.Tables.{Table}
 use Rattle.rx_spec.specs.declared.Direction.{Direction}
-use Rattle.rx_lemmas.proofs.Overlapping.{overlapping-nil, overlapping-cons, overlapping_silent}
-use Rattle.rx_lemmas.proofs.SilentRows.{zero_is_silent}
-use Rattle.rx_lemmas.proofs.Words.{IsWord-nil}
+use Rattle.lemmas_walks.proofs.Overlapping.{overlapping-nil, overlapping-cons, overlapping_silent}
+use Rattle.lemmas_walks.proofs.SilentRows.{zero_is_silent}
+use Rattle.lemmas_walks.proofs.Words.{IsWord-nil}
 use Rattle.rx_search.specs.Labels.{patterns_of, label_patterns}
 use Rattle.rx_stream.specs.Remaining.{events, item_events, ending_events, told_over, pending, units_to, now_at}
 use Rattle.rx_stream.specs.Cuttings.{NowIsFront, DeadTellsNothing}

@@ -11,7 +11,7 @@ use Rattle.rx_spec.specs.Queries.{Anchored, is_done}
 use Rattle.rx_spec.specs.HalfSearches.{units_of}
 use Rattle.rx_spec.specs.Tables.{Table}
 use Rattle.rx_spec.specs.declared.Direction.{Direction}
-use Rattle.rx_lemmas.proofs.Overlapping.{overlapping_walks}
+use Rattle.lemmas_walks.proofs.Overlapping.{overlapping_walks}
 use Rattle.rx_search.specs.Labels.{label_patterns}
 use Rattle.rx_search.specs.Starts.{IsStart}
 use Rattle.rx_search.proofs.Standing.{Standing}

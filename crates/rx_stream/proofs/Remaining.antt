@@ -11,9 +11,9 @@ use Rattle.rx_spec.specs.Queries.{HalfMatch}
 use Rattle.rx_spec.specs.Overlapping.{Ending, none_left, pattern_items, with_items}
 use Rattle.rx_spec.specs.Tables.{Table, is_match}
 use Rattle.rx_spec.specs.declared.Direction.{Direction}
-use Rattle.rx_lemmas.proofs.Firsts.{by_test}
-use Rattle.rx_lemmas.proofs.Overlapping.{overlapping-nil}
-use Rattle.rx_lemmas.proofs.Words.{IsWord-append}
+use Rattle.lemmas_walks.proofs.Firsts.{by_test}
+use Rattle.lemmas_walks.proofs.Overlapping.{overlapping-nil}
+use Rattle.lemmas_walks.proofs.Words.{IsWord-append}
 use Rattle.rx_search.specs.Labels.{patterns_of, label_patterns}
 use Rattle.rx_search.proofs.Standing.{Standing, quit_label, no_patterns}
 use Rattle.rx_search.proofs.Halves.{some_pattern}

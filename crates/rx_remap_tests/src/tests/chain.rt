@@ -1,10 +1,10 @@
 //! A small table of the tests' own.
 
 ghost use Rattle.std.specs.Prelude.{◌≡◌, ℕ, ◌<◌, ◌≤◌, ◌*◌, ◌/◌, ◌^◌, [], ◌∷◌, All, IfOk, length, map, slice_index};
-ghost use Rattle.rx_remap.specs.Transitions.{IsRowId};
+ghost use Rattle.rx_order.specs.Transitions.{IsRowId};
 
 use rx_base::StateID;
-use rx_remap::Remappable;
+use rx_order::Remappable;
 use std::alloc::{AllocError, Global};
 use std::marker::Model;
 use std::process::Abort;
@@ -20,7 +20,7 @@ pub(super) struct Chain {
 
 impl Model for Chain {
     ghost use Rattle.std.specs.Prelude.{ℕ};
-    ghost use Rattle.rx_remap.specs.Transitions.{Transitions, AreRows};
+    ghost use Rattle.rx_order.specs.Transitions.{Transitions, AreRows};
     ghost use Rattle.rx_remap_tests.specs.Samples.{chain_of};
 
     ghost Value = { Transitions × ℕ };

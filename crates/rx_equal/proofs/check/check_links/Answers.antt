@@ -7,7 +7,7 @@ use Rattle.rx_equal.proofs.Meets.{links_step, links_stop, links_end, none_refute
 use Rattle.rx_equal.proofs.Closed.{nothing_parts}
 use Rattle.std.proofs.Common.{drop, ⊎_elim}
 use Rattle.std.proofs.lemmas.List.Elements.{Contains-push_cases}
-use Rattle.rx_lemmas.proofs.Firsts.{Contains-nil}
+use Rattle.lemmas_walks.proofs.Firsts.{Contains-nil}
 use Rattle.rx_equal.proofs.check.check_links.Goals as goal
 
 pub loop-i-init : goal.loop-i-init

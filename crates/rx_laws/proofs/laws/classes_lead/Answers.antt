@@ -1,4 +1,4 @@
-use Rattle.rx_table_lemmas.proofs.Classes.{class_leads, column_leads}
+use Rattle.lemmas_tables.proofs.Classes.{class_leads, column_leads}
 use Rattle.rx_laws.proofs.laws.classes_lead.Goals as goal
 
 pub returns-clause-classes : goal.returns-clause-classes

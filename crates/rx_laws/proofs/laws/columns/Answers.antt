@@ -1,5 +1,5 @@
 use Rattle.std.proofs.Common.{arith}
-use Rattle.rx_table_lemmas.proofs.ClassNumbers.{column_below, column_used}
+use Rattle.lemmas_tables.proofs.ClassNumbers.{column_below, column_used}
 use Rattle.rx_laws.proofs.laws.columns.Goals as goal
 
 pub returns-clause-below : goal.returns-clause-below

@@ -2,7 +2,7 @@ use Rattle.std.proofs.Common.{◌+◌, length}
 use Rattle.std.proofs.lemmas.List.Elements.{All-from_recursion}
 use Rattle.rx_spec.specs.Expressions.{min_len}
 use Rattle.rx_spec.specs.Ends.{ends}
-use Rattle.rx_lemmas.proofs.Ends.{Lies, ends_lie}
+use Rattle.lemmas_walks.proofs.Ends.{Lies, ends_lie}
 use Rattle.rx_laws.proofs.laws.ends_lie.Goals as goal
 
 pub returns : goal.returns

@@ -1,4 +1,4 @@
-use Rattle.rx_table_lemmas.proofs.Labels.{IsLeast-unique}
+use Rattle.lemmas_tables.proofs.Labels.{IsLeast-unique}
 use Rattle.rx_laws.proofs.laws.gives_and_least.Goals as goal
 
 pub returns-clause-each_word : goal.returns-clause-each_word

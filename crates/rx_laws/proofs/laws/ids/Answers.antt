@@ -1,4 +1,4 @@
-use Rattle.rx_table_lemmas.proofs.Ids.{row_of-id_of, id_of-row_of, dense_are_ids, id_of-dense}
+use Rattle.lemmas_tables.proofs.Ids.{row_of-id_of, id_of-row_of, dense_are_ids, id_of-dense}
 use Rattle.rx_laws.proofs.laws.ids.Goals as goal
 
 pub returns-clause-row : goal.returns-clause-row

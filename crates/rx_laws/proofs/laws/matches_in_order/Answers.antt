@@ -3,7 +3,7 @@ use Rattle.rx_spec.specs.Queries.{Query}
 use Rattle.rx_spec.specs.Joining.{Answer}
 use Rattle.rx_spec.specs.Iterating.{iterate}
 use Rattle.rx_laws.specs.SearchesLaws as laws
-use Rattle.rx_table_lemmas.proofs.Iterating.{LiesIn, IsOrderly, matches_uncut, matches_again, matches_lie, matches_rise}
+use Rattle.lemmas_tables.proofs.Iterating.{LiesIn, IsOrderly, matches_uncut, matches_again, matches_lie, matches_rise}
 use Rattle.rx_laws.proofs.laws.matches_in_order.Goals as goal
 
 orderly : (search : Query → Answer) → laws.IsOrderly search → IsOrderly search

@@ -1,4 +1,4 @@
-use Rattle.rx_lemmas.proofs.Mirrors.{mirror-mirror, min_len-mirror, ends_mirrored}
+use Rattle.lemmas_walks.proofs.Mirrors.{mirror-mirror, min_len-mirror, ends_mirrored}
 use Rattle.rx_laws.proofs.laws.mirrors.Goals as goal
 
 pub returns-clause-mirrored : goal.returns-clause-mirrored

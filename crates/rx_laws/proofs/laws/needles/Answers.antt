@@ -1,4 +1,4 @@
-use Rattle.rx_table_lemmas.proofs.Tables.{leaving_exactly, leaving_rises, between_needles}
+use Rattle.lemmas_tables.proofs.Tables.{leaving_exactly, leaving_rises, between_needles}
 use Rattle.rx_laws.proofs.laws.needles.Goals as goal
 
 pub returns-clause-exactly : goal.returns-clause-exactly

@@ -1,5 +1,5 @@
-use Rattle.rx_lemmas.proofs.Overlapping.{overlapping_match, remaining-cons, remaining-nil}
-use Rattle.rx_table_lemmas.proofs.Tables.{match_alive}
+use Rattle.lemmas_walks.proofs.Overlapping.{overlapping_match, remaining-cons, remaining-nil}
+use Rattle.lemmas_tables.proofs.Tables.{match_alive}
 use Rattle.rx_laws.proofs.laws.remaining_matches.Goals as goal
 
 pub returns-clause-at_match : goal.returns-clause-at_match

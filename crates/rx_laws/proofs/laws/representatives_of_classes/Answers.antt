@@ -1,6 +1,6 @@
 use Rattle.std.proofs.Common.{arith}
-use Rattle.rx_table_lemmas.proofs.ClassNumbers.{representatives_rise, representatives_counted, representative_class}
-use Rattle.rx_table_lemmas.proofs.ClassNumbers.{representative_least}
+use Rattle.lemmas_tables.proofs.ClassNumbers.{representatives_rise, representatives_counted, representative_class}
+use Rattle.lemmas_tables.proofs.ClassNumbers.{representative_least}
 use Rattle.rx_laws.proofs.laws.representatives_of_classes.Goals as goal
 
 pub returns-clause-rise : goal.returns-clause-rise

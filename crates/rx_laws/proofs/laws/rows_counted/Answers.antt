@@ -1,6 +1,6 @@
 use Rattle.std.proofs.Common.{refl}
 use Rattle.rx_spec.specs.Rows.{rows_count}
-use Rattle.rx_lemmas.proofs.Rows.{rows_counted}
+use Rattle.lemmas_walks.proofs.Rows.{rows_counted}
 use Rattle.rx_laws.proofs.laws.rows_counted.Goals as goal
 
 pub returns-clause-counted : goal.returns-clause-counted

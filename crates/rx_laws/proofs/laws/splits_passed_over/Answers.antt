@@ -1,4 +1,4 @@
-use Rattle.rx_table_lemmas.proofs.Splits.{splits_uncut, splits_again, unsplit_again}
+use Rattle.lemmas_tables.proofs.Splits.{splits_uncut, splits_again, unsplit_again}
 use Rattle.rx_laws.proofs.laws.splits_passed_over.Goals as goal
 
 pub returns-clause-uncut : goal.returns-clause-uncut

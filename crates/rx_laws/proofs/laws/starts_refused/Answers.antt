@@ -3,7 +3,7 @@ use Rattle.rx_spec.specs.Bytes.{contains}
 use Rattle.rx_spec.specs.Queries.{Anchored}
 use Rattle.rx_spec.specs.Machines.{Settings}
 use Rattle.rx_spec.specs.Starts.{mode_error, start_error}
-use Rattle.rx_table_lemmas.proofs.Splits.{half_when_done}
+use Rattle.lemmas_tables.proofs.Splits.{half_when_done}
 use Rattle.rx_laws.proofs.laws.starts_refused.Goals as goal
 
 by_mode : (s : Settings) (beside : Option ℕ) (mode : Anchored)

@@ -2,8 +2,8 @@ use Rattle.std.proofs.Common.{List, length}
 use Rattle.rx_spec.specs.States.{State}
 use Rattle.rx_spec.specs.Sizes.{determinizer_size, label_total, start_entries, build_stride, table_size, last_id}
 use Rattle.rx_spec.specs.Causes.{max_id, sparse_length}
-use Rattle.rx_table_lemmas.proofs.Sizes.{reached_count, exceeds_exactly, determinizer_grows, labels_grow, table_grows}
-use Rattle.rx_table_lemmas.proofs.Sizes.{ids_grow, length_grows}
+use Rattle.lemmas_tables.proofs.Sizes.{reached_count, exceeds_exactly, determinizer_grows, labels_grow, table_grows}
+use Rattle.lemmas_tables.proofs.Sizes.{ids_grow, length_grows}
 use Rattle.rx_laws.proofs.laws.states_counted.Goals as goal
 
 pub returns-clause-count : goal.returns-clause-count

@@ -1,6 +1,6 @@
 use Rattle.std.proofs.Common.{arith}
 use Rattle.rx_spec.specs.Classes.{alphabet_by}
-use Rattle.rx_table_lemmas.proofs.ClassNumbers.{alphabet_within, stride_holds, stride_least, stride_within}
+use Rattle.lemmas_tables.proofs.ClassNumbers.{alphabet_within, stride_holds, stride_least, stride_within}
 use Rattle.rx_laws.proofs.laws.strides.Goals as goal
 
 pub returns-clause-holds : goal.returns-clause-holds

@@ -1,5 +1,5 @@
-use Rattle.rx_table_lemmas.proofs.ToldInSpan.{half_within, unsplit_within}
-use Rattle.rx_table_lemmas.proofs.Joining.{join_orderly}
+use Rattle.lemmas_tables.proofs.ToldInSpan.{half_within, unsplit_within}
+use Rattle.lemmas_tables.proofs.Joining.{join_orderly}
 use Rattle.rx_laws.proofs.laws.told_in_span.Goals as goal
 
 pub returns-clause-half : goal.returns-clause-half

@@ -1,5 +1,5 @@
 use Rattle.std.proofs.Common.{◌≡◌, length}
-use Rattle.rx_remap.specs.Renaming.{Fits}
+use Rattle.rx_order.specs.Renaming.{Fits}
 use Rattle.rx_remap_tests.proofs.tests.renamed.Given as goal
 
 abbrev pub invariant-loop-first : goal.invariant-loop-first

@@ -4,7 +4,7 @@ use Rattle.std.specs.Prelude.{IfSome}
 use Rattle.std.specs.Option.{option_map_or}
 use Rattle.rx_spec.specs.Rows.{Row}
 use Rattle.rx_spec.specs.States.{pattern_of, row_at}
-use Rattle.rx_lemmas.proofs.Every.{flat_map-append_of}
+use Rattle.lemmas_walks.proofs.Every.{flat_map-append_of}
 use Rattle.rx_expr.specs.Nfa.{meaning}
 use Rattle.rx_stepper.specs.Gathering.{matches_in}
 use Rattle.rx_stepper.specs.Leads.{without}

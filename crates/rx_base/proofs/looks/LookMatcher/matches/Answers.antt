@@ -1,7 +1,7 @@
 use Rattle.std.proofs.Common.{ℕ, Option, ◌∙◌, ap, ap₂, sym}
 use Rattle.rx_spec.specs.Contexts.{Facts, holds_by, facts_of}
 use Rattle.rx_spec.specs.Looks.{before, after}
-use Rattle.rx_lemmas.proofs.Facts.{facts_decide}
+use Rattle.lemmas_walks.proofs.Facts.{facts_decide}
 use Rattle.rx_base.proofs.looks.LookMatcher.matches.Goals as goal
 
 pub returns : goal.returns

@@ -1,6 +1,6 @@
 use Rattle.std.proofs.Common.{◌≤◌, ◌*◌, ap, arith}
 use Rattle.rx_base.specs.ByteClasses.{alphabet_len}
-use Rattle.rx_table_lemmas.proofs.ClassNumbers.{stride_holds, stride_within}
+use Rattle.lemmas_tables.proofs.ClassNumbers.{stride_holds, stride_within}
 use Rattle.rx_dense.proofs.Rows.{alphabet_few, stride_few, stride_shifted}
 use Rattle.rx_dense.proofs.dfa.build.two_rows.Goals as goal
 

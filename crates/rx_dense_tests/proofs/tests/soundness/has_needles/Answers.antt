@@ -5,7 +5,7 @@ use Rattle.std.specs.List.{range_with_len}
 use Rattle.std.proofs.lemmas.Bool.Decides.{Decides-eqb}
 use Rattle.std.proofs.lemmas.Slice.Eq.{slice_eq-Decides}
 use Rattle.rx_spec.specs.Ids.{row_of}
-use Rattle.rx_table_lemmas.proofs.Filters.{filter_within, range_within}
+use Rattle.lemmas_tables.proofs.Filters.{filter_within, range_within}
 use Rattle.rx_dense.specs.Layouts.{ids_of, place_in_range, table_of}
 use Rattle.rx_dense.proofs.RowKinds.{accel_first, accel_kind, needles_are}
 use Rattle.rx_dense_tests.proofs.Soundness.{filter_more, same_row}

@@ -2,7 +2,7 @@ use Rattle.std.proofs.Common.{◌≡◌, ◌∙◌, ap, subst, arith, refl, leng
 use Rattle.rx_spec.specs.Causes.{id_count}
 use Rattle.rx_spec.specs.Rows.{rows_count, repeated_count, copies, optional, loop as looped}
 use Rattle.rx_spec.specs.Rows as spec
-use Rattle.rx_lemmas.proofs.Rows.{copies_make, optional_makes, loop_makes}
+use Rattle.lemmas_walks.proofs.Rows.{copies_make, optional_makes, loop_makes}
 use Rattle.rx_expr.specs.Compiles.{maker}
 use Rattle.rx_expr.proofs.ExpressionRows.{maker_makes, length-counted, ok_row, adds_nothing}
 use Rattle.rx_expr.proofs.ExpressionRows.{adds_optional, adds_no_round, adds_loop, adds_no_copy, adds_copy, round_fits}

@@ -3,7 +3,7 @@ use Rattle.std.proofs.Math.Nat.{mul-div_cancel}
 use Rattle.std.proofs.lemmas.List.{get_or_default}
 use Rattle.std.proofs.lemmas.List.Sorted.{non_decreasing_from_is_sorted}
 use Rattle.std.proofs.lemmas.Nat.{pow_pos}
-use Rattle.rx_remap.proofs.Places.{count_of}
+use Rattle.rx_order.proofs.ExchangedRows.{count_of}
 use Rattle.rx_dense.specs.Builder.{AreSwapped}
 use Rattle.rx_dense.specs.Layouts.{Layout, stride}
 use Rattle.std.specs.List.{swap}

@@ -2,7 +2,7 @@ use Rattle.std.proofs.Common.{◌≡◌, ◌*◌, ◌^◌, ◌<◌, ◌∙◌, m
 use Rattle.std.proofs.Math.Nat.{mod-eq_of_lt}
 use Rattle.std.specs.List.{range_with_len}
 use Rattle.std.proofs.lemmas.List.FromFn.{map-range_with_len_more}
-use Rattle.rx_remap.proofs.Places.{range_more}
+use Rattle.rx_order.proofs.ExchangedRows.{range_more}
 use Rattle.rx_dense.specs.Layouts.{row_count, stride}
 use Rattle.rx_dense.proofs.Rows.{IsRowId-row}
 use Rattle.rx_order.proofs.places.Places.new.Goals as goal

@@ -3,7 +3,7 @@ use Rattle.std.proofs.Common.{length-take, take-append-drop}
 use Rattle.std.specs.List.{AllByRecursion as Every}
 use Rattle.rx_spec.specs.Causes.{id_count}
 use Rattle.rx_spec.specs.States.{firsts}
-use Rattle.rx_lemmas.proofs.Firsts.{Apart}
+use Rattle.lemmas_walks.proofs.Firsts.{Apart}
 use Rattle.rx_expr.specs.Nfa.{meaning}
 use Rattle.rx_stepper.specs.Leads.{IsLeast, lead_of, led, written, written_as}
 use Rattle.rx_stepper.specs.Stamps.{is_met}

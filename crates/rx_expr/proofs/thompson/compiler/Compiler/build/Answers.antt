@@ -2,7 +2,7 @@ use Rattle.std.proofs.Common.{arith, length, map, ◌∙◌, ap, ap₂, sym, sub
 use Rattle.rx_spec.specs.Contexts.{facts_kept}
 use Rattle.rx_spec.specs.Nfas.{Nfa}
 use Rattle.rx_spec.specs.Shallow.{IsShallow}
-use Rattle.rx_lemmas.proofs.Shallows.{nfa_shallow}
+use Rattle.lemmas_walks.proofs.Shallows.{nfa_shallow}
 use Rattle.rx_expr.specs.Compiler.{asked_by}
 use Rattle.rx_expr.specs.Compiles.{joined_count, lead_count}
 use Rattle.rx_expr.specs.NfaRows.{NamesPatterns, row_of, has_look, rows_part}

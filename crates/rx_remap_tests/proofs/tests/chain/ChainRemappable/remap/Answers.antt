@@ -1,8 +1,8 @@
 use Rattle.std.proofs.Common.{ℕ, ◌/◌, ◌^◌, ◌∙◌, [], ◌∷◌, length, ap, sym, subst, slice_index}
 use Rattle.std.proofs.lemmas.List.{length-map}
-use Rattle.rx_remap.specs.Transitions.{Transitions, AreRows, IsRowId, row_of, with_ids}
+use Rattle.rx_order.specs.Transitions.{Transitions, AreRows, IsRowId, row_of, with_ids}
 use Rattle.rx_remap_tests.specs.Samples.{chain_of}
-use Rattle.rx_remap.proofs.KeptRows.{renamed_are_rows}
+use Rattle.rx_order.proofs.KeptRows.{renamed_are_rows}
 use Rattle.rx_remap_tests.proofs.Samples.{next_within, renamed_chain}
 use Rattle.rx_remap_tests.proofs.tests.chain.ChainRemappable.remap.Goals as goal
 

@@ -1,6 +1,6 @@
 use Rattle.std.proofs.Common.{◌∙◌, ap, sym, subst}
-use Rattle.rx_remap.specs.Transitions.{Transitions, AreRows, IsRowId, row_of, with_swapped}
-use Rattle.rx_remap.proofs.KeptRows.{swapped_are_rows}
+use Rattle.rx_order.specs.Transitions.{Transitions, AreRows, IsRowId, row_of, with_swapped}
+use Rattle.rx_order.proofs.KeptRows.{swapped_are_rows}
 use Rattle.rx_remap_tests.proofs.Samples.{row_within, swapped_chain}
 use Rattle.rx_remap_tests.proofs.tests.chain.ChainRemappable.swap_states.Goals as goal
 

@@ -1,0 +1,234 @@
+//! Times the builds of dense tables, searches by them, and the sparse tables that are made of them:
+//! `bench_build FILE REPEATS [parts]`, `bench_build FILE REPEATS find TEXT`, or
+//! `bench_build FILE REPEATS sparse TEXT`.
+//!
+//! FILE has an expression on each line, in the syntax of `reader`. Of all of them two tables are built, REPEATS times:
+//! the forward one, by which the ends of leftmost-first matches are found, from an anchored start and an unanchored
+//! one; and the reverse one, which is anchored and tells all matches, by which their starts are found. Bytes are
+//! searched, UTF-8 or not.
+//!
+//! Standard output says how large the tables are, standard error the least time of each part of a build, in
+//! microseconds. With `parts` each NFA is also made into a table without needles and into a minimized one, so that the
+//! needles' part of a build can be told, and that of minimizing.
+//!
+//! With `find` both tables are built once, and all matches in the file TEXT are gone through, REPEATS times. Standard
+//! output says how many there are and how many bytes they have, standard error the least time in microseconds.
+//!
+//! With `sparse` the forward table is built once, without needles. REPEATS times, in turns, it is made sparse, the
+//! image of the sparse table is written and read, and the file TEXT is walked through by half searches, once by each
+//! table: from where a match ends the next one is sought, up to the end of the text. Standard output says how many rows
+//! the tables have, how many bytes their images, how many ranges of classes the row with the most of them, and how many
+//! matches each table tells; standard error the least time of each part, in microseconds.
+//!
+//! Where nothing is measured, standard error says why, and the status is 2 for words that are wrong, 3 for expressions
+//! that aren't read or built, and 1 where memory, the clock, a file, an image or an output failed.
+#![tactic(auto)]
+
+mod bounds;
+mod builds;
+mod class;
+mod matches;
+mod reader;
+mod sparse;
+
+use builds::{Direction, Least, Parts, measure, plain_table};
+use matches::{Matches, time_matches};
+use reader::ReadError;
+use rx_base::MatchError;
+use rx_build::BuildError;
+use rx_build::dense::OwnedDFA;
+use rx_expr::Expr;
+use rx_wire::DeserializeError;
+use sparse::{Sizes, Turns, table_sizes, take_turns};
+use std::process::ExitCode;
+use std::rt::Clock;
+use std::{env, fs, io};
+use thiserror::Error;
+
+/// Why nothing was measured.
+#[derive(Debug, Drop, Error)]
+pub enum Fault {
+    /// The words are wrong.
+    #[error("usage: bench_build FILE REPEATS [parts | find TEXT | sparse TEXT]")]
+    Usage,
+    /// An expression isn't read.
+    #[error("{text}: {error}")]
+    Expression {
+        /// How it is spelled.
+        text: String,
+        /// Why it isn't read.
+        error: ReadError,
+    },
+    /// A table isn't built.
+    #[error("{0}")]
+    Build(#[from] BuildError),
+    /// A search ended by an error.
+    #[error("{0}")]
+    Search(#[from] MatchError),
+    /// The image of a table isn't read.
+    #[error("{0}")]
+    Image(#[from] DeserializeError),
+    /// Memory ran out, or the words, the clock, a file or an output failed.
+    #[error("{0}")]
+    Io(#[from] io::Error),
+}
+
+impl Fault {
+    /// The exit status that says so.
+    fn status(&self) -> ExitCode {
+        match self {
+            Fault::Usage => ExitCode::from(2),
+            Fault::Expression { .. } | Fault::Build(_) | Fault::Search(_) => ExitCode::from(3),
+            Fault::Image(_) | Fault::Io(_) => ExitCode::FAILURE,
+        }
+    }
+}
+
+fn main(rt: HostRuntime) -> ExitCode {
+    match run(&rt) {
+        Ok(()) => ExitCode::SUCCESS,
+        Err(fault) => {
+            let _ = eprintln!(rt; "{fault}");
+            fault.status()
+        }
+    }
+}
+
+/// Measures what the words ask for.
+fn run(rt: &HostRuntime) -> Result<(), Fault> {
+    let mut words = env::args(rt)?.skip(1);
+    let file = words.next().ok_or(Fault::Usage)?;
+    let repeats = words.next().ok_or(Fault::Usage)?;
+    let repeats = repeats.as_str().parse::<u32>().map_err(|_| Fault::Usage)?;
+    let parts = match words.next() {
+        None => Parts::Whole,
+        Some(word) if word.as_str() == "parts" => Parts::Apart,
+        Some(word) if word.as_str() == "find" => {
+            let text = words.next().ok_or(Fault::Usage)?;
+            return find_all(rt, file.as_str(), repeats, text.as_str());
+        }
+        Some(word) if word.as_str() == "sparse" => {
+            let text = words.next().ok_or(Fault::Usage)?;
+            return time_sparse(rt, file.as_str(), repeats, text.as_str());
+        }
+        Some(_) => return Err(Fault::Usage),
+    };
+    let exprs = read_file(rt, file.as_str())?;
+    time_builds(rt, &exprs, repeats, parts)
+}
+
+/// Goes through all matches in a text so many times, and says how many there are and how long that took.
+fn find_all(rt: &HostRuntime, file: &str, repeats: u32, path: &str) -> Result<(), Fault> {
+    let exprs = read_file(rt, file)?;
+    let text = fs::read(rt, path)?;
+    let (found, time) = time_matches(rt, rt.alloc(), &exprs, repeats, &text)?;
+    println!(rt; "{} matches, {} bytes", found.count, found.bytes)?;
+    eprintln!(rt; "{} microseconds", time / 1000)?;
+    Ok(())
+}
+
+/// Makes the forward table sparse so many times and walks through a text by both, and says how large they are and how
+/// long that took.
+fn time_sparse(rt: &HostRuntime, file: &str, repeats: u32, path: &str) -> Result<(), Fault> {
+    let exprs = read_file(rt, file)?;
+    let text = fs::read(rt, path)?;
+    let dense = plain_table(rt.alloc(), &exprs)?;
+    tell_sizes(rt, &table_sizes(rt.alloc(), &dense)?)?;
+    let turns = take_turns(rt, rt.alloc(), &dense, repeats, &text)?;
+    tell_turns(rt, &turns)?;
+    Ok(())
+}
+
+/// Builds both tables so many times, and says how large they are and how long the builds took.
+fn time_builds(rt: &HostRuntime, exprs: &[Expr], repeats: u32, parts: Parts) -> Result<(), Fault> {
+    let alloc = rt.alloc();
+    let mut forward = Least::new();
+    let mut reverse = Least::new();
+    for turn in 0..repeats {
+        let ends = measure(rt, alloc, exprs, Direction::Forward, parts, &mut forward)?;
+        let starts = measure(rt, alloc, exprs, Direction::Reverse, parts, &mut reverse)?;
+        if turn == 0 {
+            tell_size(rt, Direction::Forward, &ends)?;
+            tell_size(rt, Direction::Reverse, &starts)?;
+        }
+    }
+    tell_times(rt, Direction::Forward, parts, &forward)?;
+    tell_times(rt, Direction::Reverse, parts, &reverse)?;
+    Ok(())
+}
+
+/// The expressions of a file, one on each line.
+fn read_file(rt: &HostRuntime, path: &str) -> Result<Vec<Expr>, Fault> {
+    let text = fs::read_to_string(rt, path)?;
+    let mut exprs = Vec::new(rt.alloc());
+    for line in text.as_str().lines() {
+        match reader::read(rt.alloc(), line) {
+            Ok(expr) => exprs.push(expr).map_err(|failed| io::Error::from(failed))?,
+            Err(error) => {
+                let text = String::from_str(rt.alloc(), line).map_err(|error| io::Error::from(
+                    error,
+                ))?;
+                return Err(Fault::Expression { text, error });
+            }
+        }
+    }
+    Ok(exprs)
+}
+
+/// Says how large a table is.
+fn tell_size(rt: &impl Print, direction: Direction, dfa: &OwnedDFA) -> io::Result<()> {
+    println!(rt;
+        "{direction:?}: {} rows, {} units, {} bytes",
+        dfa.state_len(),
+        dfa.alphabet_len(),
+        dfa.memory_usage()
+    )
+}
+
+/// Says how long the parts of the builds took, in microseconds.
+fn tell_times(
+    rt: &impl Eprint,
+    direction: Direction,
+    parts: Parts,
+    least: &Least,
+) -> io::Result<()> {
+    eprintln!(rt;
+        "{direction:?}: NFA {}, table {}",
+        least.nfa / 1000,
+        least.table / 1000
+    )?;
+    if parts == Parts::Whole {
+        return Ok(());
+    }
+    eprintln!(rt;
+        "{direction:?}: without needles {}, minimized {} to {} rows, minimizing {} ns a cell",
+        least.plain / 1000,
+        least.minimized / 1000,
+        least.rows_left,
+        least.minimizing()
+    )
+}
+
+/// Says how large a table and its sparse one are.
+fn tell_sizes(rt: &impl Print, sizes: &Sizes) -> io::Result<()> {
+    println!(rt;
+        "{} rows, dense {} bytes, sparse {} bytes, at most {} ranges",
+        sizes.rows, sizes.dense, sizes.sparse, sizes.ranges
+    )
+}
+
+/// Says how many matches both tables tell, and how long what was done with them took, in microseconds.
+fn tell_turns(rt: &(impl Print + Eprint), turns: &Turns) -> io::Result<()> {
+    println!(rt;
+        "matches: dense {}, sparse {}",
+        turns.dense_matches, turns.sparse_matches
+    )?;
+    eprintln!(rt;
+        "made {}, written {}, read {}, dense walk {}, sparse walk {}",
+        turns.making / 1000,
+        turns.writing / 1000,
+        turns.reading / 1000,
+        turns.dense_walk / 1000,
+        turns.sparse_walk / 1000
+    )
+}

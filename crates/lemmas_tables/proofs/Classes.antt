@@ -1,0 +1,349 @@
+-- Bytes of one class lead every node to one node, and so do units of one column.
+use Rattle.std.proofs.Common.{◌≡◌, ℕ, zero, suc, ◌+◌, ◌*◌, ◌<◌, ◌≤◌, ◌==◌, ◌&&◌, ◌||◌, ⊎_elim, Bool, true, false}
+use Rattle.std.proofs.Common.{if◌then◌else◌, List, [], ◌∷◌, ◌++◌, length, refl, ap, ap₂, sym, ◌∙◌, arith}
+use Rattle.std.proofs.Common.{Some}
+use Rattle.std.specs.List.{list_any, flat_map, AllByRecursion as Every}
+use Rattle.std.proofs.lemmas.Bool.{or_parts, cases_eq, cases_lt}
+use Rattle.rx_spec.specs.Bytes.{contains, is_word}
+use Rattle.rx_spec.specs.Looks.{differ}
+use Rattle.rx_spec.specs.Contexts.{Facts, facts_of, unit_facts, both, either_of, holds_by, holds_read, facts_read}
+use Rattle.rx_spec.specs.Contexts.{row_reads, facts_kept, no_facts}
+use Rattle.rx_spec.specs.Rows.{Row}
+use Rattle.rx_spec.specs.Nfas.{Nfa}
+use Rattle.rx_spec.specs.Classes.{class_by, column_by, parts, facts_part, row_parts, parts_next, ends_class}
+use Rattle.rx_spec.specs.States.{row_at, Standing, Tested, reach, reach_by, closure, firsts, State, context_of_rows}
+use Rattle.rx_spec.specs.States.{state_at}
+use Rattle.rx_spec.specs.States.{is_look_row}
+use Rattle.rx_spec.specs.States.{holds_before, decided_rows, pattern_of, cut, target, step}
+use Rattle.rx_spec.specs.Builds.{Build, Node, next_node, is_dead_state, dead}
+use Rattle.rx_spec.specs.declared.Direction.{Direction}
+use Rattle.rx_spec.specs.declared.Look.{Look}
+use Rattle.rx_spec.specs.declared.MatchKind.{MatchKind}
+use Rattle.lemmas_tables.proofs.ClassNumbers.{none_ends, class_below, column_of_byte, class_of_all}
+use Rattle.lemmas_walks.proofs.Every.{flat_map-alike, every-weaker}
+use Rattle.lemmas_walks.proofs.Facts.{Cover, kept_before, kept_after, unit_knows}
+
+-- ---- what is the same of two bytes of one class
+
+-- what a row reads of both
+abbrev RowAlike : ℕ → ℕ → ℕ → Row → Type 0
+RowAlike t a b (Row.Bytes set next) = contains set a ≡ contains set b
+RowAlike t a b (Row.Look look next) =
+    both (facts_read look) (facts_of t (Some a)) ≡ both (facts_read look) (facts_of t (Some b))
+RowAlike t a b _ = Unit {0}
+
+same_tests : (x y : Bool) → differ x y ≡ false → x ≡ y
+same_tests true true e = refl
+same_tests true false e = absurd (cc)
+same_tests false true e = absurd (cc)
+same_tests false false e = refl
+
+-- a test that tells no byte from the next one between them
+run_alike : (test : ℕ → Bool) (a b : ℕ) → a ≤ b → ((x : ℕ) → a ≤ x → x < b → parts test x (x + 1) ≡ false)
+    → test a ≡ test b
+run_alike test a zero h none = let e : a ≡ 0 = omega arith in ap test e
+run_alike test a (suc b) h none =
+    ⊎_elim
+    (λ (e : a ≡ suc b). ap test e)
+    (λ (ne : a ≡ suc b → ⊥).
+    let next : b + 1 ≡ suc b = omega arith in
+    run_alike test a b (omega arith) (λ x low high. none x low (omega arith))
+    ∙ same_tests (test b) (test (b + 1)) (none b (omega arith) (omega arith)) ∙ ap test next)
+    (cases_eq a (suc b))
+
+-- a fact that is read, and one that isn't
+fact_alike : (read : Bool) (test : ℕ → Bool) (a b : ℕ) → a ≤ b
+    → ((x : ℕ) → a ≤ x → x < b → (read && parts test x (x + 1)) ≡ false) → (read && test a) ≡ (read && test b)
+fact_alike true test a b h none = run_alike test a b h none
+fact_alike false test a b h none = refl
+
+-- none of four tests, joined as they are for the facts of a byte
+none_of_four : (a b c d : Bool) → (a || b || c || d) ≡ false
+    → (a ≡ false) × (b ≡ false) × (c ≡ false) × (d ≡ false)
+none_of_four a b c d e =
+    let last = or_parts (a || b || c) d e in
+    let third = or_parts (a || b) c last.0 in
+    let two = or_parts a b third.0 in
+    (two.0, two.1, third.1, last.1)
+
+abbrev ends_of_facts : ℕ → Facts → ℕ → (Bool × Bool × Bool × Bool)
+ends_of_facts t read x = (
+  read.line_terminator && parts (λ b. b == t) x (x + 1),
+  read.lf && parts (λ b. b == 10) x (x + 1),
+  read.cr && parts (λ b. b == 13) x (x + 1),
+  read.word && parts is_word x (x + 1),
+)
+
+facts_alike : (t : ℕ) (read : Facts) (a b : ℕ) → a ≤ b
+    → ((x : ℕ) → a ≤ x → x < b → facts_part t read x (x + 1) ≡ false)
+    → both read (facts_of t (Some a)) ≡ both read (facts_of t (Some b))
+facts_alike t read a b h none =
+    let four = λ (x : ℕ) (low : a ≤ x) (high : x < b).
+    let e = ends_of_facts t read x in none_of_four e.0 e.1 e.2 e.3 (none x low high) in
+    let terminator = fact_alike read.line_terminator (λ x. x == t) a b h (λ x low high. (four x low high).0) in
+    let lf = fact_alike read.lf (λ x. x == 10) a b h (λ x low high. (four x low high).1) in
+    let cr = fact_alike read.cr (λ x. x == 13) a b h (λ x low high. (four x low high).2) in
+    let word = fact_alike read.word is_word a b h (λ x low high. (four x low high).3) in
+    cc
+
+row_alike : (t a b : ℕ) → a ≤ b → (row : Row) → ((x : ℕ) → a ≤ x → x < b → row_parts t x (x + 1) row ≡ false)
+    → RowAlike t a b row
+row_alike t a b h (Row.Bytes set next) none = run_alike (contains set) a b h none
+row_alike t a b h (Row.Split first second) none = tt
+row_alike t a b h (Row.Look look next) none = facts_alike t (facts_read look) a b h none
+row_alike t a b h (Row.Match pattern) none = tt
+row_alike t a b h Row.Fail none = tt
+
+rows_alike : (t a b : ℕ) → a ≤ b → (rows : List Row)
+    → ((x : ℕ) → a ≤ x → x < b → list_any (row_parts t x (x + 1)) rows ≡ false) → Every (RowAlike t a b) rows
+rows_alike t a b h [] none = tt
+rows_alike t a b h (row ∷ rows) none =
+    let each = λ (x : ℕ) (low : a ≤ x) (high : x < b).
+    or_parts (row_parts t x (x + 1) row) (list_any (row_parts t x (x + 1)) rows) (none x low high) in (
+      row_alike t a b h row (λ x low high. (each x low high).0),
+      rows_alike t a b h rows (λ x low high. (each x low high).1),
+    )
+
+-- Two bytes that nothing in an NFA tells apart.
+pub record AreAlike (nfa : Nfa) (quit a b : ℕ) : Type 0 where
+  pub quits : contains quit a ≡ contains quit b
+  pub rows : Every (RowAlike nfa.line_terminator a b) nfa.rows
+
+alike_up : (nfa : Nfa) (quit a b : ℕ) → a ≤ b → ((x : ℕ) → a ≤ x → x < b → parts_next nfa quit x ≡ false)
+    → AreAlike nfa quit a b
+alike_up nfa quit a b h none =
+    let t = nfa.line_terminator in
+    let each = λ (x : ℕ) (low : a ≤ x) (high : x < b).
+    or_parts (parts (contains quit) x (x + 1)) (list_any (row_parts t x (x + 1)) nfa.rows) (none x low high) in
+    record {
+      quits = run_alike (contains quit) a b h (λ x low high. (each x low high).0);
+      rows = rows_alike t a b h nfa.rows (λ x low high. (each x low high).1);
+    }
+
+turned_row : (t a b : ℕ) (row : Row) → RowAlike t a b row → RowAlike t b a row
+turned_row t a b (Row.Bytes set next) h = sym h
+turned_row t a b (Row.Split first second) h = tt
+turned_row t a b (Row.Look look next) h = sym h
+turned_row t a b (Row.Match pattern) h = tt
+turned_row t a b Row.Fail h = tt
+
+turned : (nfa : Nfa) (quit a b : ℕ) → AreAlike nfa quit a b → AreAlike nfa quit b a
+turned nfa quit a b h = record {
+  quits = sym h.quits;
+  rows =
+      every-weaker (RowAlike nfa.line_terminator a b) (RowAlike nfa.line_terminator b a) nfa.rows
+      (turned_row nfa.line_terminator a b) h.rows;
+}
+
+pub class_alike : (nfa : Nfa) (quit a b : ℕ)
+    → class_by (ends_class nfa quit true) a ≡ class_by (ends_class nfa quit true) b → AreAlike nfa quit a b
+class_alike nfa quit a b same =
+    let ends = ends_class nfa quit true in
+    ⊎_elim
+    (λ (up : a < b). alike_up nfa quit a b (omega arith) (none_ends ends a b same))
+    (λ (down : b ≤ a). turned nfa quit b a (alike_up nfa quit b a down (none_ends ends b a (sym same))))
+    (cases_lt a b)
+
+-- ---- and so a step on either is the same
+
+-- the facts of both that are kept
+both_either : (k r x y : Facts) → both k x ≡ both k y → both r x ≡ both r y
+    → both (either_of k r) x ≡ both (either_of k r) y
+both_either k r x y e f =
+    split k r x ∙ ap₂ either_of e f ∙ sym (split k r y)
+  where
+    and_or : (a b c : Bool) → ((a || b) && c) ≡ ((a && c) || (b && c))
+    and_or true b true = refl
+    and_or true true false = refl
+    and_or true false false = refl
+    and_or false b c = refl
+
+    split : (k r x : Facts) → both (either_of k r) x ≡ either_of (both k x) (both r x)
+    split k r x =
+        let text = and_or k.text r.text x.text in
+        let terminator = and_or k.line_terminator r.line_terminator x.line_terminator in
+        let lf = and_or k.lf r.lf x.lf in
+        let cr = and_or k.cr r.cr x.cr in
+        let word = and_or k.word r.word x.word in
+        cc
+
+kept_row : (t a b : ℕ) (row : Row) → RowAlike t a b row
+    → both (row_reads row) (facts_of t (Some a)) ≡ both (row_reads row) (facts_of t (Some b))
+kept_row t a b (Row.Bytes set next) h = refl
+kept_row t a b (Row.Split first second) h = refl
+kept_row t a b (Row.Look look next) h = h
+kept_row t a b (Row.Match pattern) h = refl
+kept_row t a b Row.Fail h = refl
+
+kept_alike : (t a b : ℕ) (rows : List Row) → Every (RowAlike t a b) rows
+    → both (facts_kept rows) (facts_of t (Some a)) ≡ both (facts_kept rows) (facts_of t (Some b))
+unfolding facts_kept
+kept_alike t a b [] h = refl
+kept_alike t a b (row ∷ rows) h =
+    both_either (row_reads row) (facts_kept rows) (facts_of t (Some a)) (facts_of t (Some b)) (kept_row t a b row h.0)
+    (kept_alike t a b rows h.1)
+
+-- what holds of each row holds of the row of any number
+row_of_any : (P : Row → Type 0) → P Row.Fail → (rows : List Row) (q : ℕ) → Every P rows → P (row_at rows q)
+row_of_any P fail [] q h = fail
+row_of_any P fail (row ∷ rows) zero h = h.0
+row_of_any P fail (row ∷ rows) (suc q) h = row_of_any P fail rows q h.1
+
+covers_itself : (k : Facts) → Cover k k
+covers_itself k = record {
+  text = λ h. h;
+  line_terminator = λ h. h;
+  lf = λ h. h;
+  cr = λ h. h;
+  word = λ h. h;
+}
+
+-- an assertion that reads the same of two neighbours
+holds_alike : (direction : Direction) (look : Look) (last x y : Facts)
+    → both (facts_read look) x ≡ both (facts_read look) y → holds_read direction look last x
+    ≡ holds_read direction look last y
+holds_alike Direction.Forward look last x y e =
+    let k = facts_read look in
+    sym (kept_after look k last x (covers_itself k)) ∙ ap (holds_by look last) e
+    ∙ kept_after look k last y (covers_itself k)
+holds_alike Direction.Reverse look last x y e =
+    let k = facts_read look in
+    sym (kept_before look k x last (covers_itself k)) ∙ ap (λ z. holds_by look z last) e
+    ∙ kept_before look k y last (covers_itself k)
+
+-- tests of assertions that agree on those of a list of rows
+abbrev LookAlike : (Look → Bool) → (Look → Bool) → Row → Type 0
+LookAlike f g (Row.Look look next) = f look ≡ g look
+LookAlike f g _ = Unit {0}
+
+reach_alike : (rows : List Row) (f g : Look → Bool) → Every (LookAlike f g) rows → (n q : ℕ)
+    → reach rows (Tested f) n q ≡ reach rows (Tested g) n q
+unfolding reach
+reach_alike rows f g same zero q = refl
+reach_alike rows f g same (suc n) q =
+    step_alike_at (row_at rows q) (row_of_any (LookAlike f g) tt rows q same) (λ p. reach_alike rows f g same n p)
+  where
+    step_alike_at : (row : Row) → LookAlike f g row
+        → ((p : ℕ) → reach rows (Tested f) n p ≡ reach rows (Tested g) n p)
+        → reach_by (Tested f) (λ p. reach rows (Tested f) n p) q row
+        ≡ reach_by (Tested g) (λ p. reach rows (Tested g) n p) q row
+    step_alike_at (Row.Bytes set next) e others = refl
+    step_alike_at (Row.Split first second) e others = ap₂ (λ (xs ys : List ℕ). xs ++ ys) (others first) (others second)
+    step_alike_at (Row.Look look next) e others = ap₂ (λ holds (xs : List ℕ). if holds then xs else []) e (others next)
+    step_alike_at (Row.Match pattern) e others = refl
+    step_alike_at Row.Fail e others = refl
+
+module _ {nfa : Nfa} {quit a b : ℕ} (byte_a : a < 256) (byte_b : b < 256) (alike : AreAlike nfa quit a b) where
+  facts_same : (read : Facts)
+      → both read (facts_of nfa.line_terminator (Some a)) ≡ both read (facts_of nfa.line_terminator (Some b))
+      → both read (unit_facts nfa.line_terminator a) ≡ both read (unit_facts nfa.line_terminator b)
+  facts_same read e =
+      let t = nfa.line_terminator in
+      ap (both read) (unit_knows t a byte_a) ∙ e ∙ sym (ap (both read) (unit_knows t b byte_b))
+
+  looks_same : (s : State) → Every (LookAlike (holds_before nfa a s) (holds_before nfa b s)) nfa.rows
+  looks_same s =
+      every-weaker (RowAlike nfa.line_terminator a b) (LookAlike (holds_before nfa a s) (holds_before nfa b s)) nfa.rows
+      each alike.rows
+    where
+      each : (row : Row) → RowAlike nfa.line_terminator a b row
+          → LookAlike (holds_before nfa a s) (holds_before nfa b s) row
+      each (Row.Bytes set next) h = tt
+      each (Row.Split first second) h = tt
+      each (Row.Look look next) h =
+          let t = nfa.line_terminator in
+          holds_alike nfa.direction look s.context (unit_facts t a) (unit_facts t b) (facts_same (facts_read look) h)
+      each (Row.Match pattern) h = tt
+      each Row.Fail h = tt
+
+  decided_same : (s : State) → decided_rows nfa a s ≡ decided_rows nfa b s
+  decided_same s =
+      let f = holds_before nfa a s in
+      let g = holds_before nfa b s in
+      ap firsts (flat_map-alike (closure nfa.rows (Tested f)) (closure nfa.rows (Tested g)) s.rows
+      (λ q. reach_alike nfa.rows f g (looks_same s) (length nfa.rows * length nfa.rows + 1) q))
+
+  target_same : (q : ℕ) → target a (row_at nfa.rows q) ≡ target b (row_at nfa.rows q)
+  target_same q =
+      at_row (row_at nfa.rows q) (row_of_any (RowAlike nfa.line_terminator a b) tt nfa.rows q alike.rows)
+    where
+      at_row : (row : Row) → RowAlike nfa.line_terminator a b row → target a row ≡ target b row
+      at_row (Row.Bytes set next) e = ap (λ (is : Bool). if is then next ∷ [] else []) e
+      at_row (Row.Split first second) e = refl
+      at_row (Row.Look look next) e = refl
+      at_row (Row.Match pattern) e = refl
+      at_row Row.Fail e = refl
+
+  context_same : (qs : List ℕ)
+      → context_of_rows nfa qs (unit_facts nfa.line_terminator a)
+      ≡ context_of_rows nfa qs (unit_facts nfa.line_terminator b)
+  context_same qs =
+      let kept = kept_alike nfa.line_terminator a b nfa.rows alike.rows in
+      ap (λ (facts : Facts). if list_any (λ q. is_look_row (row_at nfa.rows q)) qs then facts else no_facts)
+      (facts_same (facts_kept nfa.rows) kept)
+
+  -- the state that a step leads to, by its parts
+  abbrev stepped : List ℕ → List ℕ → ℕ → State
+  stepped qs targets unit =
+      state_at nfa targets (unit_facts nfa.line_terminator unit) (flat_map (λ q. pattern_of (row_at nfa.rows q)) qs)
+
+  pub step_alike : (kind : MatchKind) (s : State) → step nfa kind s a ≡ step nfa kind s b
+  unfolding step
+  step_alike kind s =
+      let f = λ (q : ℕ). target a (row_at nfa.rows q) in
+      let g = λ (q : ℕ). target b (row_at nfa.rows q) in
+      let qs = cut kind nfa.rows (decided_rows nfa b s) in
+      let label = flat_map (λ q. pattern_of (row_at nfa.rows q)) qs in
+      let rows = firsts (flat_map (λ q. closure nfa.rows Standing q) (flat_map g qs)) in
+      ap (λ ds. let qs = cut kind nfa.rows ds in stepped qs (flat_map f qs) a) (decided_same s)
+      ∙ ap (λ targets. stepped qs targets a) (flat_map-alike f g qs target_same)
+      ∙ ap (λ (facts : Facts). state rows facts label) (context_same rows)
+    where
+      state : List ℕ → Facts → List ℕ → State
+      state rows facts label = record { rows = rows; context = facts; label = label }
+
+-- bytes that nothing tells apart lead every node to one node
+pub next_alike : (b : Build) (node : Node) {x y : ℕ} → x < 256 → y < 256 → AreAlike b.nfa b.quit x y
+    → next_node b node x ≡ next_node b node y
+next_alike b Node.Quit below_x below_y alike = refl
+next_alike b (Node.Running s) {x} {y} below_x below_y alike =
+    let by = λ (quits : Bool) (to : State).
+    if is_dead_state s then dead else (if quits then Node.Quit else Node.Running to) in
+    ap₂ by alike.quits (step_alike below_x below_y alike b.kind s)
+
+-- and so do bytes of one class,
+pub class_leads : (b : Build) (byte_classes : Bool) (node : Node) (x y : ℕ) → x < 256 → y < 256
+    → class_by (ends_class b.nfa b.quit byte_classes) x ≡ class_by (ends_class b.nfa b.quit byte_classes) y
+    → next_node b node x ≡ next_node b node y
+class_leads b true node x y below_x below_y same =
+    next_alike b node below_x below_y (class_alike b.nfa b.quit x y same)
+class_leads b false node x y below_x below_y same =
+    let all = class_of_all (ends_class b.nfa b.quit false) (λ n. refl) in
+    ap (next_node b node) (sym (all x) ∙ same ∙ all y)
+
+-- and units of one column.
+pub column_leads : (b : Build) (byte_classes : Bool) (node : Node) (x y : ℕ) → x < 257 → y < 257
+    → column_by (ends_class b.nfa b.quit byte_classes) x ≡ column_by (ends_class b.nfa b.quit byte_classes) y
+    → next_node b node x ≡ next_node b node y
+column_leads b byte_classes node x y below_x below_y same =
+    let ends = ends_class b.nfa b.quit byte_classes in
+    ⊎_elim
+    (λ (end_x : x ≡ 256).
+    ⊎_elim
+    (λ (end_y : y ≡ 256). ap (next_node b node) (end_x ∙ sym end_y))
+    (λ (ne : y ≡ 256 → ⊥). absurd (only_end ends y (omega arith) (ap (column_by ends) (sym end_x) ∙ same)))
+    (cases_eq y 256))
+    (λ (nx : x ≡ 256 → ⊥).
+    ⊎_elim
+    (λ (end_y : y ≡ 256). absurd (only_end ends x (omega arith) (ap (column_by ends) (sym end_y) ∙ sym same)))
+    (λ (ne : y ≡ 256 → ⊥).
+    let low_x : x < 256 = omega arith in
+    let low_y : y < 256 = omega arith in
+    class_leads b byte_classes node x y low_x low_y
+    (sym (column_of_byte ends x low_x) ∙ same ∙ column_of_byte ends y low_y))
+    (cases_eq y 256))
+    (cases_eq x 256)
+  where
+    -- the end mark shares its column with no byte
+    only_end : (ends : ℕ → Bool) (n : ℕ) → n < 256 → column_by ends 256 ≡ column_by ends n → ⊥
+    only_end ends n below e = omega (arith, column_of_byte ends n below, class_below ends n 255 (omega arith), e)

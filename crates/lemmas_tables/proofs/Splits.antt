@@ -1,0 +1,127 @@
+-- Matches that split a character are passed over without a bound: from the limit on, no number of turns cuts
+-- anything off.
+use Rattle.std.proofs.Common.{◌≡◌, ℕ, zero, suc, ◌+◌, ◌-◌, ◌≤◌, ◌||◌, Bool, true, false, if◌then◌else◌}
+use Rattle.std.proofs.Common.{Some, None, refl, ap, sym, ◌∙◌, arith}
+use Rattle.std.specs.Prelude.{Ok, Err}
+use Rattle.std.proofs.lemmas.Bool.{lt-ltb, eqb-false, or_right}
+use Rattle.rx_spec.specs.Queries.{Query, is_done, is_anchored}
+use Rattle.rx_spec.specs.Machines.{Machine, Settings}
+use Rattle.rx_spec.specs.HalfSearches.{HalfAnswer, half_search}
+use Rattle.rx_spec.specs.Splits.{is_split, narrower, is_narrowest, unless_split, skip_splits, split_limit, skips_splits}
+use Rattle.rx_spec.specs.Splits.{half_unsplit}
+use Rattle.rx_spec.specs.Tables.{Table}
+use Rattle.rx_spec.specs.declared.Direction.{Direction}
+use Rattle.lemmas_walks.proofs.Firsts.{by_test}
+
+-- a search that finds nothing where the span has nothing more to give
+abbrev pub NoneWhenDone : (Query → HalfAnswer) → Type 0
+NoneWhenDone search = (q : Query) → is_done q ≡ true → search q ≡ Ok None
+
+pub half_when_done : {R : Type 0} (m : Machine R) (s : Settings) (direction : Direction)
+    → NoneWhenDone (half_search m s direction)
+half_when_done m s direction q done = rw done refl
+
+module _ (search : Query → HalfAnswer) (none : NoneWhenDone search) where
+  -- where there is no narrower query, it isn't asked
+  no_more : (direction : Direction) (q : Query) (answer again other : HalfAnswer) → is_narrowest direction q ≡ true
+      → unless_split direction q answer again ≡ unless_split direction q answer other
+  no_more direction q (Ok None) again other e = refl
+  no_more direction q (Err error) again other e = refl
+  no_more direction q (Ok (Some half_match)) again other e =
+      let stops : (is_anchored q.mode || is_narrowest direction q) ≡ true =
+      or_right (is_anchored q.mode) (is_narrowest direction q) e in
+      ap (λ (stop : Bool). chosen stop again) stops ∙ sym (ap (λ (stop : Bool). chosen stop other) stops)
+    where
+      chosen : Bool → HalfAnswer → HalfAnswer
+      chosen stop more =
+          if is_split q.haystack half_match.offset
+          then (if stop then Ok None else more)
+          else Ok (Some half_match)
+
+  turn : (direction : Direction) (n : ℕ) (q : Query)
+      → skip_splits search direction (suc n) q
+      ≡ unless_split direction q (search q) (skip_splits search direction n (narrower direction q))
+  unfolding skip_splits
+  turn direction n q = refl
+
+  no_turn : (direction : Direction) (q : Query) → skip_splits search direction 0 q ≡ Ok None
+  unfolding skip_splits
+  no_turn direction q = refl
+
+  -- a turn gives the same with two ways to go on that are the same, where there is a narrower query
+  turn_alike : (direction : Direction) (n m : ℕ) (q : Query)
+      → (is_narrowest direction q ≡ false
+      → skip_splits search direction n (narrower direction q) ≡ skip_splits search direction m (narrower direction q))
+      → skip_splits search direction (suc n) q ≡ skip_splits search direction (suc m) q
+  turn_alike direction n m q others =
+      let more = λ (k : ℕ). skip_splits search direction k (narrower direction q) in
+      turn direction n q
+      ∙ by_test (is_narrowest direction q)
+      (λ e. no_more direction q (search q) (more n) (more m) e)
+      (λ e. ap (unless_split direction q (search q)) (others e))
+      ∙ sym (turn direction m q)
+
+  -- a narrower query has a lower limit
+  limit_falls : (direction : Direction) (q : Query) (n : ℕ) → is_narrowest direction q ≡ false → split_limit q ≤ suc n
+      → split_limit (narrower direction q) ≤ n
+  limit_falls Direction.Forward q n e h = omega arith
+  limit_falls Direction.Reverse q n e h = let some = eqb-false q.end 0 e in omega arith
+
+  one_more : (direction : Direction) (n : ℕ) (q : Query) → split_limit q ≤ n
+      → skip_splits search direction n q ≡ skip_splits search direction (suc n) q
+  one_more direction zero q h =
+      let done = none q (lt-ltb q.end q.start (omega arith)) in
+      no_turn direction q
+      ∙ sym (turn direction 0 q
+      ∙ ap (λ answer. unless_split direction q answer (skip_splits search direction 0 (narrower direction q))) done)
+  one_more direction (suc n) q h =
+      turn_alike direction n (suc n) q
+      (λ e. one_more direction n (narrower direction q) (limit_falls direction q n e h))
+
+  many_more : (direction : Direction) (more : ℕ) (q : Query)
+      → skip_splits search direction (split_limit q) q ≡ skip_splits search direction (split_limit q + more) q
+  many_more direction zero q =
+      let e : split_limit q ≡ split_limit q + 0 = omega arith in
+      ap (λ n. skip_splits search direction n q) e
+  many_more direction (suc more) q =
+      let e : suc (split_limit q + more) ≡ split_limit q + suc more = omega arith in
+      many_more direction more q ∙ one_more direction (split_limit q + more) q (omega arith)
+      ∙ ap (λ n. skip_splits search direction n q) e
+
+  -- so any number of turns from the limit on gives the same
+  pub splits_uncut : (direction : Direction) (n : ℕ) (q : Query) → split_limit q ≤ n
+      → skip_splits search direction n q ≡ skip_splits search direction (split_limit q) q
+  splits_uncut direction n q h =
+      let e : split_limit q + (n - split_limit q) ≡ n = omega arith in
+      sym (many_more direction (n - split_limit q) q ∙ ap (λ n. skip_splits search direction n q) e)
+
+  -- and a search is the one of its query, or else the one of the narrower query
+  pub splits_again : (direction : Direction) (q : Query)
+      → skip_splits search direction (split_limit q) q
+      ≡ unless_split direction q (search q)
+      (skip_splits search direction (split_limit (narrower direction q)) (narrower direction q))
+  splits_again direction q =
+      let limit = split_limit q in
+      let lower = λ (e : is_narrowest direction q ≡ false).
+      limit_falls direction q limit e (omega arith) in
+      let more = λ (n : ℕ). skip_splits search direction n (narrower direction q) in
+      one_more direction limit q (omega arith) ∙ turn direction limit q
+      ∙ by_test (is_narrowest direction q)
+      (λ e. no_more direction q (search q) (more limit) (more (split_limit (narrower direction q))) e)
+      (λ e. ap (unless_split direction q (search q)) (splits_uncut direction limit (narrower direction q) (lower e)))
+
+-- the same of a table that passes them over
+pub unsplit_again : (t : Table) (direction : Direction) (q : Query) → skips_splits t ≡ true
+    → half_unsplit t direction q
+    ≡ unless_split direction q (half_search t.machine t.settings direction q)
+    (half_unsplit t direction (narrower direction q))
+unsplit_again t direction q skips =
+    let search = half_search t.machine t.settings direction in
+    let is = λ (p : Query). unsplit_is p in
+    is q ∙ splits_again search (half_when_done t.machine t.settings direction) direction q
+    ∙ ap (unless_split direction q (search q)) (sym (is (narrower direction q)))
+  where
+    unsplit_is : (p : Query)
+        → half_unsplit t direction p
+        ≡ skip_splits (half_search t.machine t.settings direction) direction (split_limit p) p
+    unsplit_is p = rw skips refl

@@ -1,0 +1,427 @@
+-- Tables that are the same where they have a meaning: one is as sound as the other, and they answer the same.
+-- And what needles say: between them each byte leads an accelerated row to itself.
+use Rattle.std.proofs.Common.{◌≡◌, ◌≢◌, ℕ, zero, suc, ◌-◌, ◌<◌, ◌==◌, ◌||◌, ◌↔◌, Bool, true, false, not, if◌then◌else◌}
+use Rattle.std.proofs.Common.{Option, Some, None, List, [], ◌∷◌, length, reverse, drop, refl, ap, ap₂, sym, ◌∙◌}
+use Rattle.std.proofs.Common.{subst, arith}
+use Rattle.std.specs.Prelude.{Contains, All, Ok, is_some, slice_get}
+use Rattle.std.specs.List.{range_with_len}
+use Rattle.std.specs.List.Sorted.{IsStrictlyIncreasing}
+use Rattle.std.proofs.lemmas.Bool.{eqb-true, ne_eqb, not-true, eqb-false, not_from_false}
+use Rattle.std.proofs.lemmas.List.Elements.{All-contains, All-take, All-drop, All-append, All-cons, All-nil}
+use Rattle.std.proofs.lemmas.List.Elements.{All-weaker, All-head, All-tail}
+use Rattle.std.proofs.lemmas.List.Kept.{IsStrictlyIncreasing-filter}
+use Rattle.std.proofs.lemmas.List.Sorted.{All-permutation, IsPermutation-reverse}
+use Rattle.std.proofs.lemmas.Option.{slice_get_within, get_or_from_slice_get}
+use Rattle.rx_spec.specs.Bytes.{unit_of, AreBytes}
+use Rattle.rx_spec.specs.Looks.{before, after}
+use Rattle.rx_spec.specs.Queries.{Anchored, Query, HalfMatch, is_done}
+use Rattle.rx_spec.specs.Machines.{Label, Machine, IsWord, run, Settings}
+use Rattle.rx_spec.specs.Starts.{StartError, mode_error, start_error, start_row, start_context, supports}
+use Rattle.rx_spec.specs.Tables.{Table, IsTable, IsSound, is_match, is_match_label, leaving, SameSettings, AreSame}
+use Rattle.rx_spec.specs.HalfSearches.{HalfAnswer, span_bytes, units_of, beside, first_offset, next_offset, last_match}
+use Rattle.rx_spec.specs.HalfSearches.{at_label, walk, from_start, whole_walk, half_search}
+use Rattle.rx_spec.specs.Overlapping.{OverlappingMatches, Ending, none_left, at_item_label, overlapping_walk}
+use Rattle.rx_spec.specs.Overlapping.{overlapping_from, whole_overlapping_walk, overlapping}
+use Rattle.rx_spec.specs.declared.Direction.{Direction}
+use Rattle.rx_spec.specs.declared.Start.{Start}
+use Rattle.lemmas_tables.proofs.Filters.{filter_tested, filter_keeps, filter_alike, range_has}
+use Rattle.lemmas_tables.proofs.Filters.{every_in_range, range_rises}
+use Rattle.lemmas_walks.proofs.Words.{run-nil, run-cons, IsWord-head, IsWord-tail}
+use Rattle.lemmas_walks.proofs.Firsts.{by_test, Contains-here, Contains-there}
+
+-- ---- being the same is an equivalence
+
+pub SameSettings-refl : (s : Settings) → SameSettings s s
+SameSettings-refl s = record {
+  start_kind = refl;
+  pattern_starts = refl;
+  start_of_byte = λ byte h. refl;
+  quit = λ byte h. refl;
+}
+
+pub SameSettings-sym : {s r : Settings} → SameSettings s r → SameSettings r s
+SameSettings-sym same = record {
+  start_kind = sym same.start_kind;
+  pattern_starts = sym same.pattern_starts;
+  start_of_byte = λ byte h. sym (same.start_of_byte byte h);
+  quit = λ byte h. sym (same.quit byte h);
+}
+
+pub SameSettings-trans : {s r v : Settings} → SameSettings s r → SameSettings r v → SameSettings s v
+SameSettings-trans a b = record {
+  start_kind = a.start_kind ∙ b.start_kind;
+  pattern_starts = a.pattern_starts ∙ b.pattern_starts;
+  start_of_byte = λ byte h. a.start_of_byte byte h ∙ b.start_of_byte byte h;
+  quit = λ byte h. a.quit byte h ∙ b.quit byte h;
+}
+
+pub AreSame-refl : (t : Table) → AreSame t t
+AreSame-refl t = record {
+  size = refl;
+  settings = SameSettings-refl t.settings;
+  entries = λ mode start. refl;
+  nexts = λ row unit h k. refl;
+  labels = λ row h. refl;
+  deads = λ row h. refl;
+  has_empty = refl;
+  is_utf8 = refl;
+  is_always_start_anchored = refl;
+  pattern_len = refl;
+  accelerated = λ row h. refl;
+  needles = λ row h. refl;
+  starts = λ row h. refl;
+  specials = λ row h. refl;
+  universal_unanchored = refl;
+  universal_anchored = refl;
+}
+
+-- a row of the one is a row of the other
+row_moved : {t u : Table} → AreSame t u → (row : ℕ) → row < u.size → row < t.size
+row_moved same row h = let e = same.size in omega arith
+
+pub AreSame-sym : {t u : Table} → AreSame t u → AreSame u t
+AreSame-sym same = record {
+  size = sym same.size;
+  settings = SameSettings-sym same.settings;
+  entries = λ mode start. sym (same.entries mode start);
+  nexts = λ row unit h k. sym (same.nexts row unit (row_moved same row h) k);
+  labels = λ row h. sym (same.labels row (row_moved same row h));
+  deads = λ row h. sym (same.deads row (row_moved same row h));
+  has_empty = sym same.has_empty;
+  is_utf8 = sym same.is_utf8;
+  is_always_start_anchored = sym same.is_always_start_anchored;
+  pattern_len = sym same.pattern_len;
+  accelerated = λ row h. sym (same.accelerated row (row_moved same row h));
+  needles = λ row h. sym (same.needles row (row_moved same row h));
+  starts = λ row h. sym (same.starts row (row_moved same row h));
+  specials = λ row h. sym (same.specials row (row_moved same row h));
+  universal_unanchored = sym same.universal_unanchored;
+  universal_anchored = sym same.universal_anchored;
+}
+
+pub AreSame-trans : {t u v : Table} → AreSame t u → AreSame u v → AreSame t v
+AreSame-trans {t} {u} {v} a b =
+    let moved = λ (row : ℕ) (h : row < t.size). row_moved (AreSame-sym a) row h in
+    record {
+      size = a.size ∙ b.size;
+      settings = SameSettings-trans a.settings b.settings;
+      entries = λ mode start. a.entries mode start ∙ b.entries mode start;
+      nexts = λ row unit h k. a.nexts row unit h k ∙ b.nexts row unit (moved row h) k;
+      labels = λ row h. a.labels row h ∙ b.labels row (moved row h);
+      deads = λ row h. a.deads row h ∙ b.deads row (moved row h);
+      has_empty = a.has_empty ∙ b.has_empty;
+      is_utf8 = a.is_utf8 ∙ b.is_utf8;
+      is_always_start_anchored = a.is_always_start_anchored ∙ b.is_always_start_anchored;
+      pattern_len = a.pattern_len ∙ b.pattern_len;
+      accelerated = λ row h. a.accelerated row h ∙ b.accelerated row (moved row h);
+      needles = λ row h. a.needles row h ∙ b.needles row (moved row h);
+      starts = λ row h. a.starts row h ∙ b.starts row (moved row h);
+      specials = λ row h. a.specials row h ∙ b.specials row (moved row h);
+      universal_unanchored = a.universal_unanchored ∙ b.universal_unanchored;
+      universal_anchored = a.universal_anchored ∙ b.universal_anchored;
+    }
+
+-- ---- tables and soundness
+
+module _ {t u : Table} (same : AreSame t u) where
+  pub table_same : IsTable t → IsTable u
+  table_same is = record {
+    two = (let e = same.size in let two = is.two in omega arith);
+    entries = λ mode start.
+        omega (arith, same.size, same.entries mode start, is.entries mode start);
+    universal_unanchored = λ row e.
+        omega (arith, same.size, is.universal_unanchored row (same.universal_unanchored ∙ e));
+    universal_anchored = λ row e.
+        omega (arith, same.size, is.universal_anchored row (same.universal_anchored ∙ e));
+    nexts = λ row unit h k.
+        let below = row_moved same row h in
+        omega (arith, same.size, same.nexts row unit below k, is.nexts row unit below k);
+    past_last = λ n k start e h.
+        sym (same.entries (Anchored.Pattern k) start)
+        ∙ is.past_last n k start (same.settings.pattern_starts ∙ e) h;
+    dead_only = λ row h. let below = row_moved same row h in sym (same.deads row below) ∙ is.dead_only row below;
+    dead_label = sym (same.labels 0 (first is)) ∙ is.dead_label;
+    dead_stays = λ unit h. sym (same.nexts 0 unit (first is) h) ∙ is.dead_stays unit h;
+    quit_label = sym (same.labels 1 (second is)) ∙ is.quit_label;
+    quit_ends = λ unit h. sym (same.nexts 1 unit (second is) h) ∙ is.quit_ends unit h;
+    quit_only = λ row h e.
+        let below = row_moved same row h in
+        is.quit_only row below (same.labels row below ∙ e);
+    lists = λ row h e. let below = row_moved same row h in is.lists row below (same.labels row below ∙ e);
+  }
+    where
+      first : IsTable t → 0 < t.size
+      first is = let two = is.two in omega arith
+
+      second : IsTable t → 1 < t.size
+      second is = let two = is.two in omega arith
+
+  leaving_same : (row : ℕ) → row < t.size → leaving t row ≡ leaving u row
+  leaving_same row h =
+      filter_alike (λ byte. not (t.machine.next row byte == row)) (λ byte. not (u.machine.next row byte == row))
+      (range_with_len 0 256)
+      (every_in_range (λ byte. not (t.machine.next row byte == row) ≡ not (u.machine.next row byte == row)) 0 256
+      (λ byte low high. ap (λ n. not (n == row)) (same.nexts row byte h (omega arith))))
+
+  pub sound_same : IsSound t → IsSound u
+  sound_same sound = record {
+    is_table = table_same sound.is_table;
+    eoi_goes_on = λ row h e.
+        let below = row_moved same row h in
+        sound.eoi_goes_on row below (same.nexts row 256 below (omega arith) ∙ e);
+    starts_plain = λ mode start.
+        ap u.machine.label (sym (same.entries mode start))
+        ∙ sym (same.labels (t.machine.entry mode start) (sound.is_table.entries mode start))
+        ∙ sound.starts_plain mode start;
+    patterns = λ row ks k h e c.
+        let below = row_moved same row h in
+        omega (arith, same.pattern_len, sound.patterns row ks k below (same.labels row below ∙ e) c);
+    needles = λ row h e.
+        let below = row_moved same row h in
+        sym (same.needles row below) ∙ sound.needles row below (same.accelerated row below ∙ e)
+        ∙ leaving_same row below;
+    some_needle = λ row h e.
+        let below = row_moved same row h in
+        omega (
+          arith,
+          ap length (same.needles row below),
+          sound.some_needle row below (same.accelerated row below ∙ e),
+        );
+    few_needles = λ row h e.
+        let below = row_moved same row h in
+        omega (
+          arith,
+          ap length (same.needles row below),
+          sound.few_needles row below (same.accelerated row below ∙ e),
+        );
+    no_needle = λ row h e.
+        let below = row_moved same row h in
+        sym (same.needles row below) ∙ sound.no_needle row below (same.accelerated row below ∙ e);
+    special = λ row h.
+        let below = row_moved same row h in
+        let kinds = λ (match accelerated start : Bool).
+        (row == 0) || (row == 1) || match || accelerated || start in
+        sym (same.specials row below) ∙ sound.special row below
+        ∙ ap (λ (label : Label). kinds (is_match_label label) (t.is_accelerated row) (t.is_start row))
+        (same.labels row below)
+        ∙ ap₂ (kinds (is_match u row)) (same.accelerated row below) (same.starts row below);
+  }
+
+-- ---- what is read of a haystack of bytes
+
+byte_at : (haystack : List ℕ) → AreBytes haystack → (i b : ℕ) → slice_get haystack i ≡ Some b → b < 256
+byte_at haystack bytes i b e =
+    omega (arith, bytes i b (slice_get_within haystack i b e), get_or_from_slice_get haystack i b b e)
+
+pub units_below : (direction : Direction) (q : Query) → AreBytes q.haystack → IsWord (units_of direction q)
+units_below direction q bytes unit c =
+    All-contains (λ x. x < 257) (units_of direction q) unit (all direction) c
+  where
+    span : All (λ x. x < 257) (span_bytes q)
+    span =
+        All-take (λ x. x < 257) (q.end - q.start) (drop q.start q.haystack)
+        (All-drop (λ x. x < 257) q.start q.haystack
+        (All-weaker (λ x. x < 256) (λ x. x < 257) (λ x h. omega arith) q.haystack bytes))
+
+    at_place : (i : ℕ) → unit_of (slice_get q.haystack i) < 257
+    at_place i = by_place (slice_get q.haystack i) refl
+      where
+        by_place : (o : Option ℕ) → slice_get q.haystack i ≡ o → unit_of o < 257
+        by_place None e = omega arith
+        by_place (Some b) e = let h = byte_at q.haystack bytes i b e in omega arith
+
+    last : (o : Option ℕ) → unit_of o < 257 → All (λ x. x < 257) (unit_of o ∷ [])
+    last o h = All-cons (λ x. x < 257) (unit_of o) [] h (All-nil (λ x. x < 257))
+
+    before_below : (i : ℕ) → unit_of (before q.haystack i) < 257
+    before_below zero = omega arith
+    before_below (suc i) = at_place i
+
+    all : (direction : Direction) → All (λ x. x < 257) (units_of direction q)
+    all Direction.Forward =
+        All-append (λ x. x < 257) (span_bytes q) (unit_of (after q.haystack q.end) ∷ []) span
+        (last (after q.haystack q.end) (at_place q.end))
+    all Direction.Reverse =
+        All-append (λ x. x < 257) (reverse (span_bytes q)) (unit_of (before q.haystack q.start) ∷ [])
+        (All-permutation (λ x. x < 257) (span_bytes q) (reverse (span_bytes q)) (IsPermutation-reverse (span_bytes q))
+        span)
+        (last (before q.haystack q.start) (before_below q.start))
+
+beside_below : (direction : Direction) (q : Query) → AreBytes q.haystack → (byte : ℕ)
+    → beside direction q ≡ Some byte → byte < 256
+beside_below Direction.Forward q bytes byte e = at_start q.start e
+  where
+    at_start : (i : ℕ) → before q.haystack i ≡ Some byte → byte < 256
+    at_start zero e = absurd (cc)
+    at_start (suc i) e = byte_at q.haystack bytes i byte e
+beside_below Direction.Reverse q bytes byte e = byte_at q.haystack bytes q.end byte e
+
+-- ---- they answer the same
+
+-- where a walk stands: at a row, at an offset, with the last match
+record Place : Type 0 where
+  row : ℕ
+  offset : ℕ
+  last : Option HalfMatch
+
+abbrev walk_from : Machine ℕ → Direction → Bool → Place → List ℕ → HalfAnswer
+walk_from m direction earliest p units = walk m direction earliest p.row p.offset p.last units
+
+-- what a unit leads to, by its label and whether it is dead
+abbrev stepped : Direction → Bool → ℕ → Place → Label → Bool → HalfAnswer → HalfAnswer
+stepped direction earliest unit p label dead later =
+    let met = last_match label p.offset p.last in
+    at_label label direction earliest unit p.offset (Ok met) (if dead then Ok met else later)
+
+abbrev next_place : Direction → Place → Label → ℕ → Place
+next_place direction p label row =
+    record { row = row; offset = next_offset direction p.offset; last = last_match label p.offset p.last }
+
+module _ {t u : Table} (is : IsTable t) (same : AreSame t u) where
+  walk_same : (direction : Direction) (earliest : Bool) (p : Place) (units : List ℕ) → p.row < t.size → IsWord units
+      → walk_from t.machine direction earliest p units ≡ walk_from u.machine direction earliest p units
+  unfolding walk
+  walk_same direction earliest p [] h w = refl
+  walk_same direction earliest p (unit ∷ units) h w =
+      let unit_fits = IsWord-head unit units w in
+      let next = t.machine.next p.row unit in
+      let below = is.nexts p.row unit h unit_fits in
+      let go = stepped direction earliest unit p in
+      let on = λ (m : Machine ℕ) (label : Label) (r : ℕ).
+      walk_from m direction earliest (next_place direction p label r) units in
+      ap (λ label. go label (t.machine.is_dead next) (on t.machine label next)) (same.labels next below)
+      ∙ ap (λ dead. go (u.machine.label next) dead (on t.machine (u.machine.label next) next)) (same.deads next below)
+      ∙ ap (go (u.machine.label next) (u.machine.is_dead next))
+      (walk_same direction earliest (next_place direction p (u.machine.label next) next) units below
+      (IsWord-tail unit units w))
+      ∙ ap (λ r. go (u.machine.label r) (u.machine.is_dead r) (on u.machine (u.machine.label r) r))
+      (same.nexts p.row unit h unit_fits)
+
+  told_same : (direction : Direction) (row offset : ℕ) (units : List ℕ) → row < t.size → IsWord units
+      → overlapping_walk t.machine direction row offset units ≡ overlapping_walk u.machine direction row offset units
+  unfolding overlapping_walk
+  told_same direction row offset [] h w = refl
+  told_same direction row offset (unit ∷ units) h w =
+      let unit_fits = IsWord-head unit units w in
+      let next = t.machine.next row unit in
+      let below = is.nexts row unit h unit_fits in
+      let later = next_offset direction offset in
+      let go = λ (label : Label) (dead : Bool) (others : OverlappingMatches).
+      at_item_label label direction unit offset (if dead then none_left Ending.Ended else others) in
+      ap (λ label. go label (t.machine.is_dead next) (overlapping_walk t.machine direction next later units))
+      (same.labels next below)
+      ∙ ap (λ dead. go (u.machine.label next) dead (overlapping_walk t.machine direction next later units))
+      (same.deads next below)
+      ∙ ap (go (u.machine.label next) (u.machine.is_dead next))
+      (told_same direction next later units below (IsWord-tail unit units w))
+      ∙ ap (λ r. go (u.machine.label r) (u.machine.is_dead r) (overlapping_walk u.machine direction r later units))
+      (same.nexts row unit h unit_fits)
+
+  -- a start is refused alike,
+  error_same : (o : Option ℕ) (mode : Anchored) → ((byte : ℕ) → o ≡ Some byte → byte < 256)
+      → start_error t.settings o mode ≡ start_error u.settings o mode
+  error_same o mode bytes = by_byte o bytes
+    where
+      by_mode : mode_error t.settings mode ≡ mode_error u.settings mode
+      by_mode =
+          ap₂ (λ kind (patterns : Option ℕ).
+          if supports kind (is_some patterns) mode then None else Some (StartError.UnsupportedAnchored mode))
+          same.settings.start_kind same.settings.pattern_starts
+
+      by_byte : (o : Option ℕ) → ((byte : ℕ) → o ≡ Some byte → byte < 256)
+          → start_error t.settings o mode ≡ start_error u.settings o mode
+      by_byte None bytes = by_mode
+      by_byte (Some byte) bytes =
+          ap₂ (λ (quits : Bool) (error : Option StartError). if quits then Some (StartError.Quit byte) else error)
+          (same.settings.quit byte (bytes byte refl)) by_mode
+
+  -- and begins at one row
+  row_same : (o : Option ℕ) (mode : Anchored) → ((byte : ℕ) → o ≡ Some byte → byte < 256)
+      → start_row t.machine t.settings o mode ≡ start_row u.machine u.settings o mode
+  row_same None mode bytes = same.entries mode Start.Text
+  row_same (Some byte) mode bytes =
+      ap (t.machine.entry mode) (same.settings.start_of_byte byte (bytes byte refl))
+      ∙ same.entries mode (u.settings.start_of_byte byte)
+
+  pub half_same : (direction : Direction) (q : Query) → AreBytes q.haystack
+      → half_search t.machine t.settings direction q ≡ half_search u.machine u.settings direction q
+  half_same direction q bytes =
+      let o = beside direction q in
+      let below = beside_below direction q bytes in
+      let row = start_row t.machine t.settings o q.mode in
+      let place : Place = record { row = row; offset = first_offset direction q; last = None } in
+      let walked =
+      walk_same direction q.earliest place (units_of direction q)
+      (is.entries q.mode (start_context t.settings o)) (units_below direction q bytes) in
+      let answered = walked ∙ ap (whole_walk u.machine direction q) (row_same o q.mode below) in
+      ap₂ (λ (error : Option StartError) (answer : HalfAnswer).
+      if is_done q then Ok None else from_start direction q error answer)
+      (error_same o q.mode below) answered
+
+  pub overlapping_same : (direction : Direction) (q : Query) → AreBytes q.haystack
+      → overlapping t.machine t.settings direction q ≡ overlapping u.machine u.settings direction q
+  overlapping_same direction q bytes =
+      let o = beside direction q in
+      let below = beside_below direction q bytes in
+      let row = start_row t.machine t.settings o q.mode in
+      let walked =
+      told_same direction row (first_offset direction q) (units_of direction q)
+      (is.entries q.mode (start_context t.settings o)) (units_below direction q bytes) in
+      let told = walked ∙ ap (whole_overlapping_walk u.machine direction q) (row_same o q.mode below) in
+      ap₂ (λ (error : Option StartError) (matches : OverlappingMatches).
+      if is_done q then none_left Ending.Ended else overlapping_from direction q error matches)
+      (error_same o q.mode below) told
+
+-- ---- needles
+
+-- a byte leaves a row exactly where it leads elsewhere
+pub leaving_exactly : (t : Table) (row byte : ℕ) → byte < 256
+    → Contains (leaving t row) byte ↔ (t.machine.next row byte ≢ row)
+leaving_exactly t row byte below = (leaves, kept)
+  where
+    elsewhere : ℕ → Bool
+    elsewhere b = not (t.machine.next row b == row)
+
+    leaves : Contains (leaving t row) byte → t.machine.next row byte ≢ row
+    leaves c =
+        let passed = filter_tested elsewhere (range_with_len 0 256) byte c in
+        eqb-false (t.machine.next row byte) row (not-true (t.machine.next row byte == row) passed)
+
+    kept : t.machine.next row byte ≢ row → Contains (leaving t row) byte
+    kept ne =
+        filter_keeps elsewhere (range_with_len 0 256) byte (range_has 0 256 byte (omega arith) below)
+        (not_from_false (t.machine.next row byte == row) (ne_eqb (t.machine.next row byte) row ne))
+
+-- from an accelerated row, bytes that are no needles lead back to it
+pub between_needles : {t : Table} → IsSound t → (row : ℕ) → row < t.size → t.is_accelerated row ≡ true
+    → (bytes : List ℕ) → AreBytes bytes → ((b : ℕ) → Contains bytes b → Contains (t.needles row) b → ⊥)
+    → run t.machine.next row bytes ≡ row
+between_needles {t} sound row h accelerated [] bytes none = run-nil t.machine.next row
+between_needles {t} sound row h accelerated (b ∷ bs) bytes none =
+    run-cons t.machine.next row b bs
+    ∙ ap (λ r. run t.machine.next r bs) stays
+    ∙ between_needles sound row h accelerated bs (All-tail (λ x. x < 256) b bs bytes)
+    (λ c d. none c (Contains-there b bs c d))
+  where
+    stays : t.machine.next row b ≡ row
+    stays =
+        by_test (t.machine.next row b == row)
+        (λ e. eqb-true (t.machine.next row b) row e)
+        (λ e. absurd (none b (Contains-here b bs)
+        (subst (λ needles. Contains needles b) (sym (sound.needles row h accelerated))
+        ((leaving_exactly t row b (All-head (λ x. x < 256) b bs bytes)).1 (eqb-false (t.machine.next row b) row e)))))
+
+pub leaving_rises : (t : Table) (row : ℕ) → IsStrictlyIncreasing (leaving t row)
+leaving_rises t row =
+    IsStrictlyIncreasing-filter (λ byte. not (t.machine.next row byte == row)) (range_with_len 0 256)
+    (range_rises 0 256)
+
+-- a match row isn't dead
+pub match_alive : {t : Table} → IsTable t → (row : ℕ) {ks : List ℕ} → row < t.size
+    → t.machine.label row ≡ Label.Matches ks → t.machine.is_dead row ≡ false
+match_alive {t} is row {ks} below label =
+    is.dead_only row below
+    ∙ ne_eqb row 0 (λ first. plain_no_match (sym is.dead_label ∙ ap t.machine.label (sym first) ∙ label))
+  where
+    plain_no_match : Label.Plain ≡ Label.Matches ks → ⊥
+    plain_no_match e = cc

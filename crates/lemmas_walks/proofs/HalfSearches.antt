@@ -1,0 +1,132 @@
+-- A half search taken apart: it is done, its start is refused, or it is a walk.
+use Rattle.std.proofs.Common.{◌≡◌, ℕ, ◌<◌, ◌≤◌, ◌⊎◌, inl, inr, Bool, true, false, Option, Some, None, Ok, Err, length}
+use Rattle.std.proofs.Common.{refl, ap, sym, ◌∙◌}
+use Rattle.std.proofs.lemmas.Bool.{le-ltb, lt-ltb, ltb-true, ltb-false}
+use Rattle.std.specs.Prelude.{is_some, if◌then◌else◌}
+use Rattle.rx_spec.specs.Bytes.{contains, unit_of}
+use Rattle.rx_spec.specs.Queries.{Anchored, Query, is_done, HalfMatch, MatchError}
+use Rattle.rx_spec.specs.Contexts.{start_of}
+use Rattle.rx_spec.specs.Machines.{Machine, Settings}
+use Rattle.rx_spec.specs.Starts.{supports, start_context, StartError, mode_error, start_error, start_row}
+use Rattle.rx_spec.specs.Builds.{Build, dead, nfa_start, start_node, built_entry, power, build_settings}
+use Rattle.rx_spec.specs.HalfSearches.{HalfAnswer, beside, match_error, from_start, whole_walk, half_search}
+use Rattle.rx_spec.specs.declared.Direction.{Direction}
+use Rattle.lemmas_walks.proofs.Firsts.{by_test}
+
+-- ---- starts
+
+-- A start that isn't refused: the byte beside the span can be searched, and the mode has starts.
+pub record IsStarted (s : Settings) (byte : Option ℕ) (mode : Anchored) : Type 0 where
+  pub clean : contains s.quit (unit_of byte) ≡ false
+  pub supported : supports s.start_kind (is_some s.pattern_starts) mode ≡ true
+
+mode_supported : (s : Settings) (mode : Anchored) → mode_error s mode ≡ None
+    → supports s.start_kind (is_some s.pattern_starts) mode ≡ true
+mode_supported s mode e =
+    by_test (supports s.start_kind (is_some s.pattern_starts) mode) (λ t. t)
+    (λ f. let named : mode_error s mode ≡ Some (StartError.UnsupportedAnchored mode) = rw f refl in absurd (cc))
+
+pub started : (s : Settings) (byte : Option ℕ) (mode : Anchored) → start_error s byte mode ≡ None
+    → IsStarted s byte mode
+started s None mode e = record { clean = refl; supported = mode_supported s mode e }
+started s (Some b) mode e =
+    by_test (contains s.quit b)
+    (λ t. let named : start_error s (Some b) mode ≡ Some (StartError.Quit b) = rw t refl in absurd (cc))
+    (λ f. let rest : start_error s (Some b) mode ≡ mode_error s mode = rw f refl in
+    let is : IsStarted s (Some b) mode = record { clean = f; supported = mode_supported s mode (sym rest ∙ e) } in is)
+
+pub not_refused : (s : Settings) (byte : Option ℕ) (mode : Anchored) → IsStarted s byte mode
+    → start_error s byte mode ≡ None
+not_refused s None mode is = let t = is.supported in rw t refl
+not_refused s (Some b) mode is = let f = is.clean in let t = is.supported in rw (f, t) refl
+
+-- A search is done, refused, or begins.
+pub data Begins (s : Settings) (direction : Direction) (q : Query) : Type 0 where
+  Done : q.end < q.start → Begins s direction q
+  Refused : q.start ≤ q.end → (error : StartError) → start_error s (beside direction q) q.mode ≡ Some error
+      → Begins s direction q
+  Started : q.start ≤ q.end → start_error s (beside direction q) q.mode ≡ None → Begins s direction q
+
+pub begins : (s : Settings) (direction : Direction) (q : Query) → Begins s direction q
+begins s direction q =
+    by_test (is_done q) (λ d. Done (ltb-true q.end q.start d))
+    (λ d. by_error (ltb-false q.end q.start d) (start_error s (beside direction q) q.mode) refl)
+  where
+    by_error : q.start ≤ q.end → (error : Option StartError) → start_error s (beside direction q) q.mode ≡ error
+        → Begins s direction q
+    by_error order None e = Started order e
+    by_error order (Some error) e = Refused order error e
+
+-- the row where a build's search begins
+pub build_context : (b : Build) (byte : Option ℕ)
+    → start_context (build_settings b) byte ≡ start_of b.nfa.line_terminator byte
+build_context b None = refl
+build_context b (Some byte) = refl
+
+some_if : (t : Bool) (n : ℕ) → is_some (if t then Some n else None) ≡ t
+some_if true n = refl
+some_if false n = refl
+
+pub build_supports : (b : Build) (mode : Anchored)
+    → supports b.start_kind (is_some (build_settings b).pattern_starts) mode
+    ≡ supports b.start_kind b.pattern_starts mode
+build_supports b mode =
+    ap (λ t. supports b.start_kind t mode) (some_if b.pattern_starts (length b.nfa.start_patterns))
+
+pub build_start : (b : Build) (byte : Option ℕ) (mode : Anchored) → IsStarted (build_settings b) byte mode
+    → start_row (power b) (build_settings b) byte mode
+    ≡ start_node b.nfa (nfa_start b.nfa mode) (start_of b.nfa.line_terminator byte)
+build_start b byte mode is =
+    let start = start_node b.nfa (nfa_start b.nfa mode) (start_of b.nfa.line_terminator byte) in
+    ap (built_entry b mode) (build_context b byte)
+    ∙ ap (λ t. if t then start else dead) (sym (build_supports b mode) ∙ is.supported)
+
+-- ---- the search
+
+pub going : (q : Query) → q.start ≤ q.end → is_done q ≡ false
+going q order = le-ltb q.end q.start order
+
+module _ {R : Type 0} (m : Machine R) (s : Settings) (direction : Direction) (q : Query) where
+  abbrev walked : HalfAnswer
+  walked = whole_walk m direction q (start_row m s (beside direction q) q.mode)
+
+  pub half_done : is_done q ≡ true → half_search m s direction q ≡ Ok None
+  half_done d = rw d refl
+
+  pub half_refused : (error : StartError) → is_done q ≡ false → start_error s (beside direction q) q.mode ≡ Some error
+      → half_search m s direction q ≡ Err (match_error direction q error)
+  half_refused error d e = rw d (ap (λ o. from_start direction q o walked) e)
+
+  pub half_walks : is_done q ≡ false → start_error s (beside direction q) q.mode ≡ None
+      → half_search m s direction q ≡ whole_walk m direction q (start_row m s (beside direction q) q.mode)
+  half_walks d e = rw d (ap (λ o. from_start direction q o walked) e)
+
+-- answers of a search that tells, and that one is no error
+pub told_same : (a b : Option HalfMatch) → ◌≡◌ {A = HalfAnswer} (Ok a) (Ok b) → a ≡ b
+told_same a b e = cc
+
+pub error_not_told : (error : MatchError) (h : Option HalfMatch) → ◌≡◌ {A = HalfAnswer} (Err error) (Ok h) → ⊥
+error_not_told error h e = cc
+
+-- What a search that tells says of its start.
+pub record Begun {R : Type 0} (m : Machine R) (s : Settings) (direction : Direction) (q : Query) (h : Option HalfMatch)
+    : Type 0 where
+  pub order : q.start ≤ q.end
+  pub start : IsStarted s (beside direction q) q.mode
+  pub walked : whole_walk m direction q (start_row m s (beside direction q) q.mode) ≡ Ok h
+
+pub half_begun : {R : Type 0} (m : Machine R) (s : Settings) (direction : Direction) (q : Query) (h : Option HalfMatch)
+    → half_search m s direction q ≡ Ok h → ((q.end < q.start) × (h ≡ None)) ⊎ Begun m s direction q h
+half_begun m s direction q h e = by_start (begins s direction q)
+  where
+    by_start : Begins s direction q → ((q.end < q.start) × (h ≡ None)) ⊎ Begun m s direction q h
+    by_start (Done past) =
+        inl (past, sym (told_same None h (sym (half_done m s direction q (lt-ltb q.end q.start past)) ∙ e)))
+    by_start (Refused order error is) =
+        let no = half_refused m s direction q error (going q order) is in
+        absurd (error_not_told (match_error direction q error) h (sym no ∙ e))
+    by_start (Started order is) = inr (record {
+      order = order;
+      start = started s (beside direction q) q.mode is;
+      walked = sym (half_walks m s direction q (going q order) is) ∙ e;
+    })

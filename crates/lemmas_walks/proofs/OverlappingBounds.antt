@@ -1,0 +1,265 @@
+-- Where the answers of an overlapping search come from, as `WalkBounds` says it of a half search.
+use Rattle.std.proofs.Common.{◌≡◌, ℕ, ◌≤◌, ◌⊎◌, inl, inr, ⊎_elim, Bool, if◌then◌else◌, Some, List, [], ◌∷◌, refl, ap}
+use Rattle.std.proofs.Common.{sym, ◌∙◌, subst}
+use Rattle.std.proofs.lemmas.Bool.{lt-ltb}
+use Rattle.std.proofs.lemmas.List.Elements.{Contains-append_cases}
+use Rattle.std.specs.Prelude.{Contains}
+use Rattle.rx_spec.specs.Queries.{Query, HalfMatch, MatchError}
+use Rattle.rx_spec.specs.Machines.{Label, Machine, Settings}
+use Rattle.rx_spec.specs.Starts.{StartError, start_error, start_row}
+use Rattle.rx_spec.specs.HalfSearches.{units_of, beside, first_offset, next_offset, unit_offset, match_error}
+use Rattle.rx_spec.specs.Overlapping.{Item, Ending, OverlappingMatches, none_left, pattern_items, at_item_label}
+use Rattle.rx_spec.specs.Overlapping.{overlapping_walk, overlapping}
+use Rattle.rx_spec.specs.declared.Direction.{Direction}
+use Rattle.lemmas_walks.proofs.WalkBounds.{offset_in_span, offset_after-next, offset_after-zero, Came, came_first}
+use Rattle.lemmas_walks.proofs.WalkBounds.{came_later, LeadsToItem, LeadsToQuit}
+use Rattle.lemmas_walks.proofs.Firsts.{by_test, Contains-here, Contains-there, Contains-nil, Contains-cases}
+use Rattle.lemmas_walks.proofs.HalfSearches.{Begins, Done, Refused, Started, begins, going}
+use Rattle.lemmas_walks.proofs.Overlapping.{overlapping-nil, overlapping-cons, overlapping_done, overlapping_refused}
+use Rattle.lemmas_walks.proofs.Overlapping.{overlapping_walks}
+
+-- a reported item is one of the patterns at the offset
+of_patterns : (ks : List ℕ) (offset : ℕ) (h : HalfMatch) → Contains (pattern_items ks offset) (Item.Reported h)
+    → Contains ks h.pattern × (h.offset ≡ offset)
+of_patterns [] offset h c = absurd (Contains-nil (Item.Reported h) c)
+of_patterns (k ∷ ks) offset h c =
+    let here : HalfMatch = record { pattern = k; offset = offset } in
+    ⊎_elim
+    (λ (e : Item.Reported here ≡ Item.Reported h). let same = reported here h e in (
+      subst (λ (m : HalfMatch). Contains (k ∷ ks) m.pattern) same (Contains-here k ks),
+      subst (λ (m : HalfMatch). m.offset ≡ offset) same refl,
+    ))
+    (λ (d : Contains (pattern_items ks offset) (Item.Reported h)).
+    let later = of_patterns ks offset h d in (Contains-there k ks h.pattern later.0, later.1))
+    (Contains-cases (Item.Reported here) (pattern_items ks offset) (Item.Reported h) c)
+  where
+    reported : (a b : HalfMatch) → Item.Reported a ≡ Item.Reported b → a ≡ b
+    reported a b e = cc
+
+module _ {R : Type 0} (m : Machine R) (direction : Direction) where
+  -- an item is one of the label's, or comes later
+  item_or : (label : Label) (unit offset : ℕ) (later : OverlappingMatches) (h : HalfMatch)
+      → Contains (at_item_label label direction unit offset later).items (Item.Reported h)
+      → ((ks : List ℕ) × (label ≡ Label.Matches ks) × Contains (pattern_items ks offset) (Item.Reported h))
+      ⊎ Contains later.items (Item.Reported h)
+  item_or Label.Quits unit offset later h c = absurd (Contains-nil (Item.Reported h) c)
+  item_or Label.Plain unit offset later h c = inr c
+  item_or (Label.Matches ks) unit offset later h c =
+      ⊎_elim (λ (d : Contains (pattern_items ks offset) (Item.Reported h)). inl (ks, refl, d))
+      (λ (d : Contains later.items (Item.Reported h)). inr d)
+      (Contains-append_cases (pattern_items ks offset) later.items (Item.Reported h) c)
+
+  same_quit : (unit byte o offset : ℕ) → Ending.Quits unit o ≡ Ending.Quits byte offset
+      → MatchError.Quit byte offset ≡ MatchError.Quit unit o
+  same_quit unit byte o offset e = cc
+
+  -- and so is where it quits
+  quits_or : (label : Label) (unit offset : ℕ) (later : OverlappingMatches) (byte at : ℕ)
+      → (at_item_label label direction unit offset later).ending ≡ Ending.Quits byte at
+      → ((label ≡ Label.Quits) × (MatchError.Quit byte at ≡ MatchError.Quit unit (unit_offset direction offset)))
+      ⊎ (later.ending ≡ Ending.Quits byte at)
+  quits_or Label.Quits unit offset later byte at e =
+      inl (refl, same_quit unit byte (unit_offset direction offset) at e)
+  quits_or Label.Plain unit offset later byte at e = inr e
+  quits_or (Label.Matches ks) unit offset later byte at e = inr e
+
+  -- Some unit led to each item.
+  pub overlapping_met : (units : List ℕ) (row : R) (offset : ℕ) (h : HalfMatch)
+      → Contains (overlapping_walk m direction row offset units).items (Item.Reported h)
+      → Came m row units (LeadsToItem m direction offset h)
+  overlapping_met [] row offset h c =
+      absurd (Contains-nil (Item.Reported h)
+      (subst (λ (x : OverlappingMatches). Contains x.items (Item.Reported h))
+      (overlapping-nil m direction row offset) c))
+  overlapping_met (unit ∷ units) row offset h c =
+      let next = m.next row unit in
+      let here = next_offset direction offset in
+      let on = overlapping_walk m direction next here units in
+      let rest = λ (d : Bool). if d then none_left Ending.Ended else on in
+      let HasItem : OverlappingMatches → Type 0 = λ x. Contains x.items (Item.Reported h) in
+      ⊎_elim
+      (λ (k : (ks : List ℕ) × (m.label next ≡ Label.Matches ks) × Contains (pattern_items ks offset) (Item.Reported h)).
+      let is = of_patterns k.0 offset h k.2 in
+      came_first m row unit units (LeadsToItem m direction offset h) (record {
+        patterns = k.0;
+        label = k.1;
+        pattern = is.0;
+        told = is.1 ∙ offset_after-zero direction offset;
+      }))
+      (λ (d : HasItem (rest (m.is_dead next))).
+      by_test (m.is_dead next)
+      (λ e. absurd (Contains-nil (Item.Reported h) (subst (λ v. HasItem (rest v)) e d)))
+      (λ e. came_later m row unit units (LeadsToItem m direction here h) (LeadsToItem m direction offset h)
+      (λ from u place l. record {
+        patterns = l.patterns;
+        label = l.label;
+        pattern = l.pattern;
+        told = l.told ∙ offset_after-next direction offset place;
+      })
+      (overlapping_met units next here h (subst (λ v. HasItem (rest v)) e d))))
+      (item_or (m.label next) unit offset (rest (m.is_dead next)) h
+      (subst HasItem (overlapping-cons m direction row unit offset units) c))
+
+  -- And some unit led to quit.
+  pub overlapping_quit : (units : List ℕ) (row : R) (offset byte at : ℕ)
+      → (overlapping_walk m direction row offset units).ending ≡ Ending.Quits byte at
+      → Came m row units (LeadsToQuit m direction offset (MatchError.Quit byte at))
+  overlapping_quit [] row offset byte at e =
+      absurd (ended_not byte at
+      (sym (ap (λ (x : OverlappingMatches). x.ending) (overlapping-nil m direction row offset)) ∙ e))
+    where
+      ended_not : (byte at : ℕ) → Ending.Ended ≡ Ending.Quits byte at → ⊥
+      ended_not byte at e = cc
+  overlapping_quit (unit ∷ units) row offset byte at e =
+      let next = m.next row unit in
+      let here = next_offset direction offset in
+      let on = overlapping_walk m direction next here units in
+      let rest = λ (d : Bool). if d then none_left Ending.Ended else on in
+      let Quits : OverlappingMatches → Type 0 = λ x. x.ending ≡ Ending.Quits byte at in
+      ⊎_elim
+      (λ (q : (m.label next ≡ Label.Quits)
+      × (MatchError.Quit byte at ≡ MatchError.Quit unit (unit_offset direction offset))).
+      came_first m row unit units (LeadsToQuit m direction offset (MatchError.Quit byte at)) (record {
+        label = q.0;
+        told = q.1 ∙ ap (λ o. MatchError.Quit unit (unit_offset direction o)) (offset_after-zero direction offset);
+      }))
+      (λ (d : Quits (rest (m.is_dead next))).
+      by_test (m.is_dead next) (λ t. absurd (ended_not byte at (subst (λ v. Quits (rest v)) t d)))
+      (λ t. came_later m row unit units (LeadsToQuit m direction here (MatchError.Quit byte at))
+      (LeadsToQuit m direction offset (MatchError.Quit byte at))
+      (λ from u place l. record {
+        label = l.label;
+        told =
+            l.told ∙ ap (λ o. MatchError.Quit u (unit_offset direction o)) (offset_after-next direction offset place);
+      })
+      (overlapping_quit units next here byte at (subst (λ v. Quits (rest v)) t d))))
+      (quits_or (m.label next) unit offset (rest (m.is_dead next)) byte at
+      (sym (ap (λ (x : OverlappingMatches). x.ending) (overlapping-cons m direction row unit offset units)) ∙ e))
+    where
+      ended_not : (byte at : ℕ) → Ending.Ended ≡ Ending.Quits byte at → ⊥
+      ended_not byte at e = cc
+
+  -- A walk isn't refused.
+  not_refused : (units : List ℕ) (row : R) (offset : ℕ) (error : MatchError)
+      → (overlapping_walk m direction row offset units).ending ≡ Ending.Refused error → ⊥
+  not_refused [] row offset error e =
+      ended error (sym (ap (λ (x : OverlappingMatches). x.ending) (overlapping-nil m direction row offset)) ∙ e)
+    where
+      ended : (error : MatchError) → Ending.Ended ≡ Ending.Refused error → ⊥
+      ended error e = cc
+  not_refused (unit ∷ units) row offset error e =
+      let next = m.next row unit in
+      let on = overlapping_walk m direction next (next_offset direction offset) units in
+      let rest = λ (d : Bool). if d then none_left Ending.Ended else on in
+      by_label (m.label next) (rest (m.is_dead next))
+      (by_test (m.is_dead next)
+      (λ d f. ended_not (sym (ap (λ v. (rest v).ending) d) ∙ f))
+      (λ d f. not_refused units next (next_offset direction offset) error (sym (ap (λ v. (rest v).ending) d) ∙ f)))
+      (sym (ap (λ (x : OverlappingMatches). x.ending) (overlapping-cons m direction row unit offset units)) ∙ e)
+    where
+      ended_not : Ending.Ended ≡ Ending.Refused error → ⊥
+      ended_not e = cc
+
+      by_label : (label : Label) (later : OverlappingMatches) → (later.ending ≡ Ending.Refused error → ⊥)
+          → (at_item_label label direction unit offset later).ending ≡ Ending.Refused error → ⊥
+      by_label Label.Quits later other e = cc
+      by_label Label.Plain later other e = other e
+      by_label (Label.Matches ks) later other e = other e
+
+-- ---- the search
+
+module _ {R : Type 0} (m : Machine R) (s : Settings) (direction : Direction) (q : Query) where
+  abbrev CameIn : (R → ℕ → ℕ → Type 0) → Type 0
+  CameIn Leads = Came m (start_row m s (beside direction q) q.mode) (units_of direction q) Leads
+
+  abbrev HasItem : HalfMatch → OverlappingMatches → Type 0
+  HasItem h x = Contains x.items (Item.Reported h)
+
+  pub search_met : (h : HalfMatch) → Contains (overlapping m s direction q).items (Item.Reported h)
+      → (q.start ≤ q.end)
+      × Came m (start_row m s (beside direction q) q.mode) (units_of direction q)
+      (LeadsToItem m direction (first_offset direction q) h)
+  search_met h c = by_start (begins s direction q)
+    where
+      by_start : Begins s direction q
+          → (q.start ≤ q.end) × CameIn (LeadsToItem m direction (first_offset direction q) h)
+      by_start (Done past) =
+          absurd (Contains-nil (Item.Reported h)
+          (subst (HasItem h) (overlapping_done m s direction q (lt-ltb q.end q.start past)) c))
+      by_start (Refused order error is) =
+          absurd (Contains-nil (Item.Reported h)
+          (subst (HasItem h) (overlapping_refused m s direction q error (going q order) is) c))
+      by_start (Started order is) = (
+        order,
+        overlapping_met m direction (units_of direction q) (start_row m s (beside direction q) q.mode)
+            (first_offset direction q) h (subst (HasItem h) (overlapping_walks m s direction q (going q order) is) c),
+      )
+
+  pub overlapping_in_span : (h : HalfMatch) → Contains (overlapping m s direction q).items (Item.Reported h)
+      → (q.start ≤ h.offset) × (h.offset ≤ q.end)
+  overlapping_in_span h c =
+      let met = search_met h c in
+      let told = met.1.leads.told in
+      subst (λ o. (q.start ≤ o) × (o ≤ q.end)) (sym told)
+      (offset_in_span direction q met.1.place met.0 met.1.within)
+
+  -- how it ends with an error: a start that is refused, or a quit
+  pub search_quit : (byte at : ℕ) → (overlapping m s direction q).ending ≡ Ending.Quits byte at
+      → (q.start ≤ q.end)
+      × Came m (start_row m s (beside direction q) q.mode) (units_of direction q)
+      (LeadsToQuit m direction (first_offset direction q) (MatchError.Quit byte at))
+  search_quit byte at e = by_start (begins s direction q)
+    where
+      by_start : Begins s direction q
+          → (q.start ≤ q.end) × CameIn (LeadsToQuit m direction (first_offset direction q) (MatchError.Quit byte at))
+      by_start (Done past) =
+          absurd (ended_not (sym (ap (λ (x : OverlappingMatches). x.ending)
+          (overlapping_done m s direction q (lt-ltb q.end q.start past))) ∙ e))
+        where
+          ended_not : Ending.Ended ≡ Ending.Quits byte at → ⊥
+          ended_not e = cc
+      by_start (Refused order error is) =
+          absurd (refused_not (match_error direction q error) (sym (ap (λ (x : OverlappingMatches). x.ending)
+          (overlapping_refused m s direction q error (going q order) is)) ∙ e))
+        where
+          refused_not : (error : MatchError) → Ending.Refused error ≡ Ending.Quits byte at → ⊥
+          refused_not error e = cc
+      by_start (Started order is) = (
+        order,
+        overlapping_quit m direction (units_of direction q) (start_row m s (beside direction q) q.mode)
+            (first_offset direction q) byte at (sym (ap (λ (x : OverlappingMatches). x.ending)
+            (overlapping_walks m s direction q (going q order) is)) ∙ e),
+      )
+
+  pub search_refused : (error : MatchError) → (overlapping m s direction q).ending ≡ Ending.Refused error
+      → (q.start ≤ q.end)
+      × ((refused : StartError) × (start_error s (beside direction q) q.mode ≡ Some refused)
+      × (error ≡ match_error direction q refused))
+  search_refused error e = by_start (begins s direction q)
+    where
+      by_start : Begins s direction q → (q.start ≤ q.end)
+          × ((refused : StartError) × (start_error s (beside direction q) q.mode ≡ Some refused)
+          × (error ≡ match_error direction q refused))
+      by_start (Done past) =
+          absurd (ended_not (sym (ap (λ (x : OverlappingMatches). x.ending)
+          (overlapping_done m s direction q (lt-ltb q.end q.start past))) ∙ e))
+        where
+          ended_not : Ending.Ended ≡ Ending.Refused error → ⊥
+          ended_not e = cc
+      by_start (Refused order refused is) = (
+        order,
+        (
+          refused,
+          is,
+          same_error (match_error direction q refused) error
+              (sym (ap (λ (x : OverlappingMatches). x.ending)
+              (overlapping_refused m s direction q refused (going q order) is)) ∙ e),
+        ),
+      )
+        where
+          same_error : (a b : MatchError) → Ending.Refused a ≡ Ending.Refused b → b ≡ a
+          same_error a b e = cc
+      by_start (Started order is) =
+          absurd (not_refused m direction (units_of direction q) (start_row m s (beside direction q) q.mode)
+          (first_offset direction q) error (sym (ap (λ (x : OverlappingMatches). x.ending)
+          (overlapping_walks m s direction q (going q order) is)) ∙ e))

@@ -1,0 +1,25 @@
+-- In the NFA of expressions that are safe to repeat, paths that read nothing are as short as a closure asks.
+use Rattle.std.proofs.Common.{ℕ, Bool, List, [], ◌∷◌, map, All}
+use Rattle.std.specs.List.{AllByRecursion as Every}
+use Rattle.std.proofs.lemmas.List.Elements.{recursion_from_All}
+use Rattle.rx_spec.specs.Expressions.{Expression, IsLoopSafe}
+use Rattle.rx_spec.specs.Nfas.{nfa_of, read_as}
+use Rattle.rx_spec.specs.Shallow.{IsShallow}
+use Rattle.rx_spec.specs.declared.Direction.{Direction}
+use Rattle.lemmas_walks.proofs.Mirrors.{IsLoopSafe-mirror}
+use Rattle.lemmas_walks.proofs.Patterns.{nfa_deep}
+
+read_safe : (direction : Direction) (es : List Expression) → Every IsLoopSafe es
+    → Every IsLoopSafe (map (read_as direction) es)
+read_safe direction [] h = tt
+read_safe Direction.Forward (e ∷ es) h = (h.0, read_safe Direction.Forward es h.1)
+read_safe Direction.Reverse (e ∷ es) h = (IsLoopSafe-mirror e h.0, read_safe Direction.Reverse es h.1)
+
+pub nfa_shallow : (direction : Direction) (line_terminator : ℕ) (is_utf8 : Bool) (es : List Expression)
+    → All IsLoopSafe es → IsShallow (nfa_of direction line_terminator is_utf8 es).rows
+unfolding nfa_of
+nfa_shallow direction line_terminator is_utf8 es safe = record {
+  short =
+      λ q. nfa_deep direction (map (read_as direction) es)
+      (read_safe direction es (recursion_from_All IsLoopSafe es safe)) q;
+}

@@ -1,0 +1,87 @@
+-- Rows from which nothing is told any more.
+use Rattle.std.proofs.Common.{◌≡◌, ℕ, ◌<◌, ◌==◌, true, List, [], ◌∷◌, length, refl, ap, sym, ◌∙◌, subst}
+use Rattle.std.proofs.lemmas.Bool.{and_parts, eqb-true}
+use Rattle.std.proofs.lemmas.List.{nil_from_length}
+use Rattle.rx_spec.specs.Machines.{Label, label_of, Machine, IsWord, run}
+use Rattle.rx_spec.specs.States.{State}
+use Rattle.rx_spec.specs.Builds.{Build, Node, dead, is_dead, is_dead_state, next_node, node_label, power}
+use Rattle.rx_spec.specs.Tables.{Table, IsTable}
+use Rattle.lemmas_walks.proofs.Words.{IsWord-nil, IsWord-head, IsWord-tail, IsWord-cons, run-nil, run-cons}
+
+-- every word leads to a plain label
+pub record IsSilent {R : Type 0} (m : Machine R) (row : R) : Type 0 where
+  pub plain : (word : List ℕ) → IsWord word → m.label (run m.next row word) ≡ Label.Plain
+
+-- Among rows that units don't leave, the dead ones are silent.
+pub record EndsWell {R : Type 0} (m : Machine R) (In : R → Type 0) : Type 0 where
+  pub closed : (row : R) (unit : ℕ) → In row → unit < 257 → In (m.next row unit)
+  pub silent : (row : R) → In row → m.is_dead row ≡ true → IsSilent m row
+
+pub silent_label : {R : Type 0} (m : Machine R) (row : R) → IsSilent m row → m.label row ≡ Label.Plain
+silent_label m row s = ap m.label (sym (run-nil m.next row)) ∙ s.plain [] IsWord-nil
+
+pub silent_next : {R : Type 0} (m : Machine R) (row : R) (unit : ℕ) → IsSilent m row → unit < 257
+    → IsSilent m (m.next row unit)
+silent_next m row unit s h = record {
+  plain = λ word w.
+      ap m.label (sym (run-cons m.next row unit word)) ∙ s.plain (unit ∷ word) (IsWord-cons unit word h w);
+}
+
+-- a state that is dead has no rows and no label
+pub dead_empty : (s : State) → is_dead_state s ≡ true → (s.rows ≡ []) × (s.label ≡ [])
+dead_empty s e =
+    let parts = and_parts (length s.rows == 0) (length s.label == 0) e in (
+      nil_from_length s.rows (eqb-true (length s.rows) 0 parts.0),
+      nil_from_length s.label (eqb-true (length s.label) 0 parts.1),
+    )
+
+-- in a build's powerset machine, the dead nodes
+pub dead_label : (b : Build) (word : List ℕ) → node_label (run (next_node b) dead word) ≡ Label.Plain
+dead_label b [] = ap node_label (run-nil (next_node b) dead)
+dead_label b (unit ∷ word) = ap node_label (run-cons (next_node b) dead unit word) ∙ dead_label b word
+
+dead_goes_on : (b : Build) (node : Node) (unit : ℕ) → is_dead node ≡ true → next_node b node unit ≡ dead
+dead_goes_on b Node.Quit unit e = refl
+dead_goes_on b (Node.Running s) unit e = rw e refl
+
+dead_is_plain : (node : Node) → is_dead node ≡ true → node_label node ≡ Label.Plain
+dead_is_plain Node.Quit e = absurd (cc)
+dead_is_plain (Node.Running s) e = ap label_of (dead_empty s e).1
+
+dead_word : (b : Build) (node : Node) → is_dead node ≡ true → (word : List ℕ)
+    → node_label (run (next_node b) node word) ≡ Label.Plain
+dead_word b node e [] = ap node_label (run-nil (next_node b) node) ∙ dead_is_plain node e
+dead_word b node e (unit ∷ word) =
+    ap node_label (run-cons (next_node b) node unit word)
+    ∙ ap (λ n. node_label (run (next_node b) n word)) (dead_goes_on b node unit e)
+    ∙ dead_label b word
+
+abbrev pub AnyNode : Node → Type 0
+AnyNode node = Unit {0}
+
+pub power_ends_well : (b : Build) → EndsWell (power b) AnyNode
+power_ends_well b = record {
+  closed = λ node unit i h. tt;
+  silent = λ node i e. record { plain = λ word w. dead_word b node e word };
+}
+
+-- in a table, row 0
+abbrev pub IsRow : Table → ℕ → Type 0
+IsRow t row = row < t.size
+
+zero_stays : (t : Table) → IsTable t → (word : List ℕ) → IsWord word → run t.machine.next 0 word ≡ 0
+zero_stays t is [] w = run-nil t.machine.next 0
+zero_stays t is (unit ∷ word) w =
+    run-cons t.machine.next 0 unit word
+    ∙ ap (λ row. run t.machine.next row word) (is.dead_stays unit (IsWord-head unit word w))
+    ∙ zero_stays t is word (IsWord-tail unit word w)
+
+pub zero_is_silent : (t : Table) → IsTable t → IsSilent t.machine 0
+zero_is_silent t is = record { plain = λ word w. ap t.machine.label (zero_stays t is word w) ∙ is.dead_label }
+
+pub table_ends_well : (t : Table) → IsTable t → EndsWell t.machine (IsRow t)
+table_ends_well t is = record {
+  closed = λ row unit i h. is.nexts row unit i h;
+  silent = λ row i e.
+      subst (λ x. IsSilent t.machine x) (sym (eqb-true row 0 (sym (is.dead_only row i) ∙ e))) (zero_is_silent t is);
+}

@@ -1,0 +1,150 @@
+-- The rows of a table that is ready pass the tests of an image's rows, and its other parts can be read too.
+use Rattle.std.proofs.Common.{◌≡◌, ◌≢◌, ℕ, ◌+◌, ◌*◌, ◌<◌, ◌≤◌, ◌||◌, not, Bool, true, false, eqb, leb, ltb, List}
+use Rattle.std.proofs.Common.{[], ◌∷◌, Option, Some, None, length, slice_index, refl, sym, ap, subst, ◌∙◌, arith}
+use Rattle.std.specs.Prelude.{IfSome, if◌then◌else◌}
+use Rattle.std.proofs.lemmas.Bool.{eq-eqb, lt-ltb}
+use Rattle.std.proofs.lemmas.List.Elements.{Contains-get_or}
+use Rattle.rx_spec.specs.Causes.{id_count, max_id}
+use Rattle.rx_spec.specs.Ids.{id_of, row_of}
+use Rattle.rx_spec.specs.Machines.{Label}
+use Rattle.lemmas_walks.proofs.Firsts.{by_test}
+use Rattle.rx_search.specs.Starts.{IsId}
+use Rattle.rx_dense.specs.Layouts.{start_entries}
+use Rattle.rx_dense.specs.Specials.{is_accel_id, is_match_id, is_quit_id}
+use Rattle.rx_dense.proofs.Rows.{id_at_row}
+use Rattle.rx_dense_image.specs.Closing.{is_named}
+use Rattle.rx_dense_image.specs.StartTables.{IsAtMost, IsReadStartTable}
+use Rattle.rx_order.proofs.KindNumbers.{at_most}
+use Rattle.rx_sparse.specs.Rows.{Row, is_some_list, row_len, rows_len}
+use Rattle.rx_sparse.specs.Layouts.{IsRow, Layout, ids_of, row_at, row_count, table_of}
+use Rattle.rx_sparse.specs.Facts.{offset_at, rows_len-more}
+use Rattle.rx_sparse.proofs.RowLengths.{rows_len-take}
+use Rattle.rx_sparse.proofs.RowPlaces.{fits_row, id_few, id_small}
+use Rattle.rx_sparse_image.specs.Images.{start_table_of}
+use Rattle.rx_sparse_image.specs.Tested.{IsRead, IsTestedRow, bounds_in}
+use Rattle.rx_sparse_image.specs.Walks.{may_have}
+use Rattle.rx_sparse_image.proofs.Sizes.{rows_few}
+use Rattle.rx_built_images.proofs.Ready.{IsReady, back, next_is_id, row_below, second_row, special_is}
+
+-- a test, or not one that is the same
+either : (a b : Bool) → a ≡ b → (not a || b) ≡ true
+either true b e = sym e
+either false b e = refl
+
+-- a list that isn't some is empty
+no_list : (ks : List ℕ) → is_some_list ks ≡ false → length ks ≡ 0
+no_list [] e = refl
+no_list (k ∷ ks) e = absurd cc
+
+-- start entries that are few are those of few patterns
+few_starts : (o : Option ℕ) → start_entries o ≤ 12 + 6 * (max_id + 1) → IsAtMost id_count o
+few_starts None h = tt
+few_starts (Some n) h = omega (arith, h)
+
+module _ (l : Layout) (ready : IsReady l) where
+  -- ---- a row
+
+  module _ (row : ℕ) (h : row < row_count l) where
+    abbrev id : ℕ
+    id = id_of (ids_of l) row
+
+    abbrev r : Row
+    r = row_at l row
+
+    is_row : IsRow l row
+    is_row = ready.shaped.rows.rows row h
+
+    -- it ends where the rows end, or before
+    ends : id_of (ids_of l) row + row_len (row_at l row) ≤ rows_len l.rows
+    ends = omega (arith, offset_at 0 l.rows row h, rows_len-more l.rows row h, rows_len-take l.rows (row + 1))
+
+    few_bytes : rows_len l.rows ≤ max_id
+    few_bytes = ready.shaped.rows.few
+
+    -- its patterns are numbers of patterns
+    known : (i : ℕ) → i < length (row_at l row).patterns → slice_index (row_at l row).patterns i < l.pattern_len
+    known i b =
+        by_test (is_match_id l.special id)
+        (λ yes.
+        let label : (table_of l).machine.label row ≡ Label.Matches r.patterns =
+        ap (λ (m : Bool). if m then Label.Matches r.patterns
+        else (if is_quit_id l.special id then Label.Quits else Label.Plain)) yes in
+        ready.sound.patterns row r.patterns (slice_index r.patterns i) h label (Contains-get_or r.patterns i 0 b))
+        (λ no. absurd (omega (arith, b, no_list r.patterns (sym is_row.matches ∙ no))))
+
+    -- there are one to three needles of an accelerated row, and none of another
+    needles : may_have (is_accel_id l.special (id_of (ids_of l) row)) (length (row_at l row).needles) ≡ true
+    needles =
+        let n : ℕ = length r.needles in
+        let few : leb n 3 ≡ true = at_most n 3 is_row.needles in
+        by_test (is_accel_id l.special id)
+        (λ yes.
+        let some : ltb 0 n ≡ true = lt-ltb 0 n (omega (arith, ready.sound.some_needle row h yes)) in
+        rw (few, yes) some)
+        (λ no.
+        let none : eqb n 0 ≡ true = eq-eqb n 0 (ap length (ready.sound.no_needle row h no)) in
+        rw (few, no) none)
+
+    -- its end mark doesn't quit
+    eoi_apart : (row_at l row).eoi ≢ l.special.quit
+    eoi_apart e =
+        ready.sound.eoi_goes_on row h (ap (row_of (ids_of l)) (e ∙ ready.second) ∙ back l ready 1 (second_row l ready))
+
+    pub tested_row : IsTestedRow (bounds_in l) (id_of (ids_of l) row) (row_at l row)
+    tested_row =
+        let fits = fits_row l ready.shaped row h in
+        record {
+          special = either (leb id l.special.max) (is_named l.special id) (special_is l ready row h);
+          few = is_row.ranges.few;
+          ordered = is_row.ranges.ordered;
+          within = is_row.ranges.within;
+          rising = is_row.ranges.rising;
+          near = λ i b. id_few l ready.shaped _ (next_is_id l ready row h i b);
+          next_ids = fits.next_ids;
+          matches = is_row.matches;
+          few_patterns = fits.few_patterns;
+          patterns = fits.patterns;
+          known = known;
+          needles = needles;
+          eoi = eoi_apart;
+          next = omega (arith, ends, few_bytes);
+        }
+
+  -- ---- the other parts
+
+  -- a universal start is an id
+  few_id : (o : Option ℕ) → IfSome o (IsId (ids_of l)) → IsAtMost max_id o
+  few_id None is = tt
+  few_id (Some id) is = id_small l ready.shaped id is
+
+  table_read : IsReadStartTable (start_table_of l)
+  table_read =
+      let starts = ready.shaped.starts in
+      record {
+        contexts = starts.contexts;
+        patterns =
+            few_starts l.pattern_starts (subst (λ (n : ℕ). n ≤ 12 + 6 * (max_id + 1)) starts.count starts.small);
+        unanchored = few_id l.universal_unanchored starts.universal_unanchored;
+        anchored = few_id l.universal_anchored starts.universal_anchored;
+        count = starts.count;
+      }
+
+  -- the id of a row is no more than where its bytes end
+  within : (id : ℕ) → IsId (ids_of l) id → id < rows_len l.rows
+  within id is =
+      let row : ℕ = row_of (ids_of l) id in
+      let h : row < row_count l = row_below l ready id is in
+      omega (arith, id_at_row (ids_of l) id is, ends row h)
+
+  -- each part can be read
+  pub read : IsRead l
+  read = record {
+    few_rows = (let few = ready.shaped.rows.few in omega (arith, few, rows_few l.rows));
+    few_patterns = (let few = ready.shaped.few_patterns in omega (arith, few));
+    classes = ready.shaped.rows.classes;
+    rows = record { each = tested_row; len = refl };
+    table = table_read;
+    special = ready.special;
+    within = within l.special.max ready.rows.max;
+    quit = ready.quit;
+  }

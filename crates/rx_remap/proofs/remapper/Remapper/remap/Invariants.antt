@@ -1,5 +1,0 @@
-use Rattle.rx_remap.proofs.NewIds.{AreNoted}
-use Rattle.rx_remap.proofs.remapper.Remapper.remap.Given as goal
-
-abbrev pub invariant-loop-place : goal.invariant-loop-place
-invariant-loop-place g l = AreNoted l.fn.self l.place l.map.items

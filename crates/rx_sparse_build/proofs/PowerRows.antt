@@ -1,0 +1,95 @@
+-- The rows of a table that is a powerset machine are its nodes: they are different, lead alike, and are left on the
+-- same bytes.
+use Rattle.std.proofs.Common.{◌≡◌, ℕ, zero, suc, ◌<◌, ◌==◌, true, false, not, length}
+use Rattle.std.proofs.Common.{get_or, refl, ap, sym, ◌∙◌, arith, inl, inr}
+use Rattle.std.specs.Prelude.{nat_lt}
+use Rattle.std.specs.List.{range_with_len}
+use Rattle.std.proofs.lemmas.Bool.{cases_lt, cases_order, le-ltb, lt-ltb, ne_eqb}
+use Rattle.std.proofs.lemmas.List.{get_or-map}
+use Rattle.std.proofs.lemmas.List.Elements.{All-get_or}
+use Rattle.rx_spec.specs.Builds.{Build, IsReached, Node, dead, is_dead, is_dead_state, next_node}
+use Rattle.rx_spec.specs.Power.{IsPower, node_at}
+use Rattle.rx_spec.specs.Sizes.{leaving_bytes, same_node}
+use Rattle.rx_spec.specs.States.{State, dead_state}
+use Rattle.rx_spec.specs.Tables.{IsTable, Table, leaving}
+use Rattle.lemmas_tables.proofs.Filters.{every_in_range, filter_alike}
+use Rattle.rx_sparse_build.proofs.SameNodes.{same_numbers}
+
+module _ {t : Table} {b : Build} (p : IsPower t b) where
+  abbrev node : ℕ → Node
+  node row = node_at p.states row
+
+  abbrev state : ℕ → State
+  state i = get_or p.states i dead_state
+
+  -- the nodes of rows behind quit are states, none of them dead
+  node_behind : (i : ℕ) → i < length p.states → node (suc (suc i)) ≡ Node.Running (state i)
+  node_behind i h = get_or-map (λ s. Node.Running s) p.states i dead_state dead h
+
+  alive : (i : ℕ) → i < length p.states → is_dead_state (state i) ≡ false
+  alive i h = (All-get_or (IsReached b) p.states i dead_state h p.reached.only).alive
+
+  alive_behind : (i : ℕ) → i < length p.states → is_dead (node (suc (suc i))) ≡ false
+  alive_behind i h = ap is_dead (node_behind i h) ∙ alive i h
+
+  -- row 0 alone is dead
+  pub dead_is : (row : ℕ) → row < t.size → is_dead (node row) ≡ (row == 0)
+  dead_is zero h = refl
+  dead_is (suc zero) h = refl
+  dead_is (suc (suc i)) h =
+      alive_behind i (omega (arith, p.size)) ∙ sym (ne_eqb (suc (suc i)) 0 (λ e. omega (arith, e)))
+
+  -- ---- different rows have different nodes
+
+  -- quit, dead and two states are different nodes
+  quit_behind : (i : ℕ) → i < length p.states → node 1 ≡ node (suc (suc i)) → ⊥
+  quit_behind i h e = let f = e ∙ node_behind i h in cc
+
+  dead_behind : (i : ℕ) → suc (suc i) < t.size → node 0 ≡ node (suc (suc i)) → ⊥
+  dead_behind i h e = let f : true ≡ false = ap is_dead e ∙ alive_behind i (omega (arith, p.size)) in cc
+
+  state_one : (i j : ℕ) → i < j → j < length p.states → node (suc (suc i)) ≡ node (suc (suc j)) → ⊥
+  state_one i j less h e =
+      let f : Node.Running (state i) ≡ Node.Running (state j) =
+      sym (node_behind i (omega arith)) ∙ e ∙ node_behind j h in
+      p.reached.distinct i j dead_state less h (cc f)
+
+  below_apart : (x y : ℕ) → x < y → y < t.size → node x ≡ node y → ⊥
+  below_apart x zero less h e = omega (arith, less)
+  below_apart zero (suc zero) less h e = cc e
+  below_apart (suc x) (suc zero) less h e = omega (arith, less)
+  below_apart zero (suc (suc j)) less h e = dead_behind j h e
+  below_apart (suc zero) (suc (suc j)) less h e = quit_behind j (omega (arith, p.size)) e
+  below_apart (suc (suc i)) (suc (suc j)) less h e = state_one i j (omega arith) (omega (arith, p.size)) e
+
+  row_one : (x y : ℕ) → x < t.size → y < t.size → node x ≡ node y → x ≡ y
+  row_one x y hx hy e = elim (cases_order x y) [
+    | inl same ↦ same
+    | inr (inl less) ↦ absurd (below_apart x y less hy e)
+    | inr (inr more) ↦ absurd (below_apart y x more hx (sym e))
+  ]
+
+  -- so the test of two rows' nodes is that of the rows
+  pub same_rows : (x y : ℕ) → x < t.size → y < t.size → same_node (node x) (node y) ≡ (x == y)
+  same_rows x y hx hy = same_numbers x y (node x) (node y) (ap node) (row_one x y hx hy)
+
+  -- ---- the bytes that leave a row
+
+  module _ (is : IsTable t) (row : ℕ) (h : row < t.size) where
+    -- the same bytes leave it and its node
+    pub leaving_same : leaving_bytes b (node row) ≡ leaving t row
+    leaving_same =
+        filter_alike (λ byte. not (same_node (next_node b (node row) byte) (node row)))
+        (λ byte. not (t.machine.next row byte == row)) (range_with_len 0 256)
+        (every_in_range (λ byte. not (same_node (next_node b (node row) byte) (node row))
+        ≡ not (t.machine.next row byte == row)) 0 256
+        (λ byte low high.
+        ap (λ n. not (same_node n (node row))) (sym (p.nexts row byte h (omega arith)))
+        ∙ ap not (same_rows (t.machine.next row byte) row (is.nexts row byte h (omega arith)) h)))
+
+  -- there is a state where there is a row behind quit
+  pub some_state : nat_lt 0 (length p.states) ≡ nat_lt 2 t.size
+  some_state = elim (cases_lt 0 (length p.states)) [
+    | inl some ↦ lt-ltb 0 (length p.states) some ∙ sym (lt-ltb 2 t.size (omega (arith, p.size, some)))
+    | inr none ↦ le-ltb 0 (length p.states) none ∙ sym (le-ltb 2 t.size (omega (arith, p.size, none)))
+  ]

@@ -1,5 +1,0 @@
-use Rattle.rx_sparse_sizes.proofs.Bounds.{too_long}
-use Rattle.rx_sparse_sizes.proofs.laws.long_rows_have_a_long_bound.Goals as goal
-
-pub returns : goal.returns
-returns c = λ b byte_classes l is over. too_long is over

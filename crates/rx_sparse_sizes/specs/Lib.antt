@@ -1,2 +1,0 @@
--- dense tables whose sparse tables are measured
-pub mod Measured
