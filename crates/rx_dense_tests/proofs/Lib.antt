@@ -1,4 +1,0 @@
--- that a table is sound where each of its rows is
-pub mod Soundness
--- a last row that is cut off again
-pub mod Cuts

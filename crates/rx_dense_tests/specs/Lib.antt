@@ -1,2 +1,0 @@
--- what makes a dense table sound
-pub mod Soundness

@@ -1,2 +1,0 @@
--- tables that are begun
-pub mod Begun

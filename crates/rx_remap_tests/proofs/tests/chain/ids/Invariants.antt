@@ -1,5 +1,0 @@
-use Rattle.std.proofs.Common.{◌≡◌, ◌*◌, ◌^◌, map, take}
-use Rattle.rx_remap_tests.proofs.tests.chain.ids.Given as goal
-
-abbrev pub invariant-loop-row : goal.invariant-loop-row
-invariant-loop-row l = l.ids.items ≡ map (λ row. row * 2 ^ l.stride2) (take l.row-index l.rows)

@@ -1,6 +1,0 @@
-use Rattle.std.proofs.Common.{◌≡◌, length}
-use Rattle.rx_order.specs.Renaming.{Fits}
-use Rattle.rx_remap_tests.proofs.tests.renamed.Given as goal
-
-abbrev pub invariant-loop-first : goal.invariant-loop-first
-invariant-loop-first g l = record { fits : Fits l.remapper l.chain.0; four : length l.chain.0.rows ≡ 4 }

@@ -1,2 +1,0 @@
--- a table for tests
-pub mod Samples

@@ -1,5 +1,0 @@
-use Rattle.std.proofs.Common.{length}
-use Rattle.rx_span_checks.proofs.+quits_last.Given as goal
-
-abbrev pub decreases-quits_last : goal.decreases-quits_last
-decreases-quits_last g l = length l.bytes.now

@@ -1,5 +1,0 @@
-//! Tests of `rx_stream`: dense and sparse tables search texts that are cut into pieces.
-#![tactic(auto)]
-
-#[cfg(test)]
-mod tests;

@@ -1,5 +1,0 @@
-//! Tests of `rx_wire`: fields as bytes, and bytes as fields, worked by hand.
-#![tactic(auto)]
-
-#[cfg(test)]
-mod tests;

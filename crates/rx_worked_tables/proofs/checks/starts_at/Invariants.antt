@@ -1,8 +1,0 @@
-use Rattle.std.proofs.Common.{◌≡◌, ◌==◌}
-use Rattle.std.specs.List.{list_any}
-use Rattle.rx_worked_tables.proofs.Routed.{any_left}
-use Rattle.rx_worked_tables.proofs.checks.starts_at.Given as goal
-
--- the entries that were passed have other ids
-abbrev pub invariant-loop-start : goal.invariant-loop-start
-invariant-loop-start l = any_left l.id l.start-iterator ≡ list_any (λ x. x == l.id) l.dfa.starts

@@ -1,0 +1,481 @@
+//! What no clause shows: that images of tables are read at all, which test an altered one fails, and that what was
+//! read is searched.
+
+mod images;
+
+ghost use Rattle.rx_dense.specs.Facts.{IsSoundLayout};
+
+use crate::span_checks::{Settings, check_spans};
+use images::{abc, never_match};
+use rx_base::{Input, MatchErrorKind};
+use rx_dense::{Accel, Accels, DFA, OwnedDFA, Special};
+use rx_dense_image::{AccelImage, AccelsImage, DenseRead, DenseWrite, SpecialImage};
+use rx_search::Automaton;
+use rx_wire::{DeserializeError, DeserializeErrorKind, LE, Order};
+use std::alloc::{AllocError, Global};
+use std::process::Abort;
+use std::test::Fail;
+
+/// What reading answers: how many rows, patterns and bytes there are, or which kind of test fails.
+type Answer = Result<(usize, usize, usize), &'static str>;
+
+fn kind_name(error: &DeserializeError) -> &'static str {
+    match error.kind() {
+        DeserializeErrorKind::Generic { .. } => "generic",
+        DeserializeErrorKind::BufferTooSmall { .. } => "buffer",
+        DeserializeErrorKind::VersionMismatch { .. } => "version",
+        DeserializeErrorKind::EndianMismatch { .. } => "endian",
+        DeserializeErrorKind::LabelMismatch { .. } => "label",
+        DeserializeErrorKind::PatternID { .. } => "pattern",
+        DeserializeErrorKind::StateID { .. } => "state",
+        DeserializeErrorKind::Memory => "memory",
+    }
+}
+
+fn answer(alloc: Global, bytes: &[u8]) -> Answer {
+    match DFA::<Vec<u32>>::from_bytes(alloc, bytes) {
+        Ok((dfa, size)) => Ok((dfa.state_len(), dfa.pattern_len(), size)),
+        Err(error) => Err(kind_name(&error)),
+    }
+}
+
+fn check(rt: &impl Abort, alloc: Global, bytes: &[u8], wanted: Answer, at: usize) {
+    let found = answer(alloc, bytes);
+    match (found, wanted) {
+        (Ok((rows, patterns, size)), Ok(wanted)) => assert!(rt;
+            (rows, patterns, size) == wanted,
+            "at {at}: {rows} {patterns} {size}"
+        ),
+        (Err(kind), Err(wanted)) => assert!(rt; kind == wanted, "at {at}: {kind}"),
+        (Ok(_), Err(wanted)) => assert!(rt; false, "at {at}: read, not {wanted}"),
+        (Err(kind), Ok(_)) => assert!(rt; false, "at {at}: {kind}"),
+    }
+}
+
+const ABC: Answer = Ok((11, 1, 1088));
+
+#[test]
+fn images_are_read_in_either_order(rt: HostRuntime) -> Result<(), Fail> {
+    let alloc = rt.alloc();
+    for order in [Order::Little, Order::Big] {
+        let never = never_match(alloc, order)?;
+        check(&rt, alloc, never.as_slice(), Ok((2, 0, 732)), 0);
+        let image = abc(alloc, order)?;
+        check(&rt, alloc, image.as_slice(), ABC, 1);
+    }
+    Ok(())
+}
+
+/// A change of an image: another byte or another word at a place.
+#[derive(Clone, Copy)]
+enum Change {
+    Byte(u8),
+    Word(u32),
+}
+
+use Change::*;
+
+fn altered(image: &mut Vec<u8>, at: usize, change: Change) {
+    match change {
+        Byte(byte) => {
+            if at < image.len() {
+                image[at] = byte;
+            }
+        }
+        Word(word) => {
+            if at < image.len() && image.len() - at >= 4 {
+                image.as_mut_slice()[at..at + 4].copy_from_slice(&word.to_le_bytes());
+            }
+        }
+    }
+}
+
+/// Places and changes of the little endian image of `abc`, and what is answered.
+const ALTERED: &[(usize, Change, Answer)] = &[
+    (0, Byte(0x78), Err("label")),
+    // what is free: padding, unused space, flags, a wider stride, words past the alphabet, how lists share their ids
+    (30, Byte(0xFF), ABC),
+    (31, Byte(0xFF), ABC),
+    (40, Word(7), ABC),
+    (44, Word(8), ABC),
+    (336, Word(0xFFFFFFFF), ABC),
+    (928, Word(0), ABC),
+    (932, Word(16), ABC),
+    (1050, Byte(0xFF), ABC),
+    (1052, Byte(0xFF), ABC),
+    (1056, Byte(1), ABC),
+    // another row where `a` leads: the match row, the quit row
+    (412, Word(16), ABC),
+    (412, Word(8), ABC),
+    // the head
+    (32, Word(0), Err("endian")),
+    (32, Word(0x01020304), Err("endian")),
+    (36, Word(3), Err("version")),
+    // counts past the bytes
+    (48, Word(0xFFFFFFFF), Err("buffer")),
+    (1044, Word(2), Err("buffer")),
+    (988, Word(0xFFFFFFFF), Err("buffer")),
+    (1004, Word(0xFFFFFFFF), Err("buffer")),
+    // strides, classes, start tables
+    (52, Word(0), Err("generic")),
+    (52, Word(2), Err("generic")),
+    (52, Word(10), Err("generic")),
+    (56, Byte(1), Err("generic")),
+    (664, Word(3), Err("generic")),
+    (668, Byte(6), Err("generic")),
+    (924, Word(5), Err("generic")),
+    (928, Word(0x80000000), Err("generic")),
+    // rows
+    (312, Word(8), Err("generic")),
+    (344, Word(16), Err("generic")),
+    (408, Word(9), Err("generic")),
+    (408, Word(88), Err("generic")),
+    (408, Word(0x80000000), Err("generic")),
+    (428, Word(8), Err("generic")),
+    // start rows
+    (932, Word(9), Err("generic")),
+    (940, Word(16), Err("generic")),
+    (940, Word(8), Err("generic")),
+    // lists of patterns
+    (992, Word(1), Err("generic")),
+    (996, Word(0), Err("generic")),
+    (996, Word(2), Err("generic")),
+    (1000, Word(0), Err("generic")),
+    (1000, Word(0x80000000), Err("generic")),
+    (1008, Word(1), Err("generic")),
+    // special ids and needles
+    (1012, Word(80), Err("generic")),
+    (1016, Word(0), Err("generic")),
+    (1044, Word(0), Err("generic")),
+    (1048, Byte(0), Err("generic")),
+    (1048, Byte(4), Err("generic")),
+    (1049, Byte(0x62), Err("generic")),
+    (932, Word(0x7FFFFFFF), Err("state")),
+    (1012, Word(0x7FFFFFFF), Err("state")),
+];
+
+#[test]
+fn altered_images_fail_the_first_test_that_they_break(rt: HostRuntime) -> Result<(), Fail> {
+    let alloc = rt.alloc();
+    for (at, change, wanted) in ALTERED {
+        let mut image = abc(alloc, Order::Little)?;
+        altered(&mut image, *at, *change);
+        check(&rt, alloc, image.as_slice(), *wanted, *at);
+    }
+    Ok(())
+}
+
+/// What cutting an image off at a place answers.
+fn cut_kind(at: usize) -> &'static str {
+    if at < 32 { "generic" } else { "buffer" }
+}
+
+#[test]
+fn every_cut_of_an_image_is_refused(rt: HostRuntime) -> Result<(), Fail> {
+    let alloc = rt.alloc();
+    for order in [Order::Little, Order::Big] {
+        let image = abc(alloc, order)?;
+        for at in 0..image.len() {
+            check(&rt, alloc, &image.as_slice()[..at], Err(cut_kind(at)), at);
+        }
+    }
+    Ok(())
+}
+
+/// So many NULs and then the image of `abc`.
+fn behind_nuls(alloc: Global, nuls: usize) -> Result<Vec<u8>, AllocError> {
+    let image = abc(alloc, Order::Big)?;
+    let mut bytes = Vec::new(alloc);
+    for _ in 0..nuls {
+        bytes.push(0)?;
+    }
+    bytes.extend_from_slice(image.as_slice())?;
+    Ok(bytes)
+}
+
+#[test]
+fn up_to_seven_nuls_may_stand_before_an_image_and_anything_after_it(
+    rt: HostRuntime,
+) -> Result<(), Fail> {
+    let alloc = rt.alloc();
+    let seven = behind_nuls(alloc, 7)?;
+    check(&rt, alloc, seven.as_slice(), Ok((11, 1, 1095)), 7);
+    let eight = behind_nuls(alloc, 8)?;
+    check(&rt, alloc, eight.as_slice(), Err("label"), 8);
+    let mut longer = abc(alloc, Order::Little)?;
+    longer.extend_from_slice(b"abc")?;
+    check(&rt, alloc, longer.as_slice(), ABC, 0);
+    Ok(())
+}
+
+/// Why some bytes aren't read.
+fn refusal(alloc: Global, bytes: &[u8]) -> Result<(), DeserializeError> {
+    let _read = DFA::<Vec<u32>>::from_bytes(alloc, bytes)?;
+    Ok(())
+}
+
+/// The text of a refusal.
+fn refusal_text(
+    alloc: Global,
+    refused: Result<(), DeserializeError>,
+) -> Result<String, AllocError> {
+    match refused {
+        Ok(()) => format!(in alloc; "read"),
+        Err(error) => format!(in alloc; "{error}"),
+    }
+}
+
+#[test]
+fn another_word_than_those_that_tell_an_order_is_told(rt: HostRuntime) -> Result<(), Fail> {
+    let alloc = rt.alloc();
+    let mut image = abc(alloc, Order::Little)?;
+    altered(&mut image, 32, Word(0x01020304));
+    let text = refusal_text(alloc, refusal(alloc, image.as_slice()))?;
+    assert!(&rt;
+        text.as_str()
+            == "endianness mismatch: expected 0xFEFF but got 0x1020304. (Are you trying to load an object serialized \
+                with a different endianness?)",
+        "{text}"
+    );
+    Ok(())
+}
+
+/// What a search tells: a pattern and where it ends, or at which byte it quits and where.
+#[derive(Clone, Copy, Debug, PartialEq, Eq)]
+enum Told {
+    Nothing,
+    Match(u32, usize),
+    Quit(u8, usize),
+    Other,
+}
+
+/// What a search of a read image tells.
+fn tell(dfa: &OwnedDFA, text: &[u8]) -> Told
+    requires { IsSoundLayout dfa.now }
+{
+    match dfa.try_search_fwd(&Input::new(text)) {
+        Ok(None) => Told::Nothing,
+        Ok(Some(found)) => Told::Match(found.pattern().as_u32(), found.offset()),
+        Err(error) => match error.kind() {
+            MatchErrorKind::Quit { byte, offset } => Told::Quit(*byte, *offset),
+            _ => Told::Other,
+        },
+    }
+}
+
+/// Compares what a search by an image tells, which must be accepted.
+fn check_told(
+    rt: &impl Abort,
+    alloc: Global,
+    image: &[u8],
+    text: &[u8],
+    wanted: Told,
+) -> Result<(), Fail> {
+    match DFA::<Vec<u32>>::from_bytes(alloc, image) {
+        Ok((dfa, _)) => assert_eq!(rt; tell(&dfa, text), wanted),
+        Err(error) => assert!(rt; false, "{wanted:?}: {error}"),
+    }
+    Ok(())
+}
+
+#[test]
+fn images_are_searched_as_they_are(rt: HostRuntime) -> Result<(), Fail> {
+    let alloc = rt.alloc();
+    let cases: &[(u32, &[u8], Told)] = &[
+        (40, b"xyzabcxyz", Told::Match(0, 6)),
+        (40, b"abc", Told::Match(0, 3)),
+        (40, b"abab", Told::Nothing),
+        (16, b"xa", Told::Match(0, 1)),
+        (8, b"xa", Told::Quit(b'a', 1)),
+    ];
+    for (word, text, wanted) in cases {
+        let mut image = abc(alloc, Order::Little)?;
+        altered(&mut image, 412, Word(*word));
+        check_told(&rt, alloc, image.as_slice(), *text, *wanted)?;
+    }
+    let seven = behind_nuls(alloc, 7)?;
+    check_told(&rt, alloc, seven.as_slice(), b"xabcx", Told::Match(0, 4))?;
+    let mut longer = abc(alloc, Order::Big)?;
+    longer.extend_from_slice(b"abc")?;
+    check_told(&rt, alloc, longer.as_slice(), b"xabcx", Told::Match(0, 4))
+}
+
+/// What of a table decides which errors its searches may have. Tables of these images have starts of both modes.
+fn settings(dfa: &OwnedDFA) -> Settings<'_> {
+    Settings {
+        quits: dfa.quitset(),
+        kind: dfa.start_kind(),
+        pattern_starts: dfa.starts_for_each_pattern(),
+    }
+}
+
+/// Searches all spans of some texts by an image, which must be accepted.
+fn check_searches(rt: &impl Abort, alloc: Global, image: &[u8], at: usize) -> Result<(), Fail> {
+    match DFA::<Vec<u32>>::from_bytes(alloc, image) {
+        Ok((dfa, _)) => {
+            for text in [b"xabcx".as_slice(), b"\0aabc\0".as_slice()] {
+                check_spans(alloc, &dfa, settings(&dfa), text)?;
+            }
+        }
+        Err(error) => assert!(rt; false, "at {at}: {error}"),
+    }
+    Ok(())
+}
+
+#[test]
+fn accepted_images_are_searched_within_their_spans(rt: HostRuntime) -> Result<(), Fail> {
+    let alloc = rt.alloc();
+    for (at, change, wanted) in ALTERED {
+        if wanted.is_ok() {
+            let mut image = abc(alloc, Order::Little)?;
+            altered(&mut image, *at, *change);
+            check_searches(&rt, alloc, image.as_slice(), *at)?;
+        }
+    }
+    let seven = behind_nuls(alloc, 7)?;
+    check_searches(&rt, alloc, seven.as_slice(), 0)?;
+    let mut longer = abc(alloc, Order::Little)?;
+    longer.extend_from_slice(b"abc")?;
+    check_searches(&rt, alloc, longer.as_slice(), longer.len())
+}
+
+/// Whether a table is written as it was read, in an order.
+fn is_written_back(
+    alloc: Global,
+    dfa: &OwnedDFA,
+    image: &[u8],
+    order: Order,
+) -> Result<bool, AllocError> {
+    let (bytes, padding) = match order {
+        Order::Little => dfa.to_bytes_little_endian(alloc)?,
+        Order::Big => dfa.to_bytes_big_endian(alloc)?,
+    };
+    Ok(bytes.as_slice() == image && padding == 0 && dfa.write_to_len() == image.len())
+}
+
+#[test]
+fn what_was_read_is_written_in_either_order(rt: HostRuntime) -> Result<(), Fail> {
+    let alloc = rt.alloc();
+    for from in [Order::Little, Order::Big] {
+        let image = abc(alloc, from)?;
+        match DFA::<Vec<u32>>::from_bytes(alloc, image.as_slice()) {
+            Ok((dfa, _)) => {
+                for to in [Order::Little, Order::Big] {
+                    let wanted = abc(alloc, to)?;
+                    let same = is_written_back(alloc, &dfa, wanted.as_slice(), to)?;
+                    assert!(&rt; same, "written otherwise");
+                }
+            }
+            Err(error) => assert!(&rt; false, "{error}"),
+        }
+    }
+    Ok(())
+}
+
+/// In which order a table is written.
+#[derive(Clone, Copy, Debug)]
+enum Writer {
+    Little,
+    Big,
+    Native,
+}
+
+/// How many bytes are written, or none.
+fn written(dfa: &OwnedDFA, writer: Writer, bytes: &mut [u8]) -> Option<usize> {
+    let written = match writer {
+        Writer::Little => dfa.write_to_little_endian(bytes),
+        Writer::Big => dfa.write_to_big_endian(bytes),
+        Writer::Native => dfa.write_to_native_endian(bytes),
+    };
+    written.ok()
+}
+
+/// Writes the table of an image into one byte less than it has, and with two bytes behind it.
+fn check_writer(rt: &impl Abort, alloc: Global, writer: Writer, image: &[u8]) -> Result<(), Fail> {
+    let (dfa, _) = DFA::<Vec<u32>>::from_bytes(alloc, image)?;
+    let size = dfa.write_to_len();
+    assert!(rt; size == image.len());
+    let mut short = vec![in alloc; 7u8; size.saturating_sub(1)]?;
+    let refused = written(&dfa, writer, short.as_mut_slice());
+    assert!(rt; refused.is_none(), "{writer:?}: written");
+    assert!(rt; short.iter().all(|byte| *byte == 7), "{writer:?}: changed");
+    let mut long = vec![in alloc; 7u8; size.saturating_add(2)]?;
+    let size = written(&dfa, writer, long.as_mut_slice());
+    assert!(rt; size == Some(image.len()), "{writer:?}: {size:?}");
+    assert!(rt; long.starts_with(image), "{writer:?}: written otherwise");
+    assert!(rt; long.ends_with(&[7, 7]), "{writer:?}: changed");
+    let mut exact = vec![in alloc; 7u8; image.len()]?;
+    let size = written(&dfa, writer, exact.as_mut_slice());
+    assert!(rt; size == Some(image.len()) && exact.as_slice() == image);
+    Ok(())
+}
+
+#[test]
+fn a_destination_that_is_too_short_stays_as_it_is(rt: HostRuntime) -> Result<(), Fail> {
+    let alloc = rt.alloc();
+    let rows = [
+        (Writer::Little, Order::Little),
+        (Writer::Big, Order::Big),
+        (Writer::Native, Order::Little),
+    ];
+    for (writer, order) in rows {
+        let abc = abc(alloc, order)?;
+        assert!(&rt; abc.len() == 1088);
+        check_writer(&rt, alloc, writer, abc.as_slice())?;
+        let never = never_match(alloc, order)?;
+        check_writer(&rt, alloc, writer, never.as_slice())?;
+    }
+    Ok(())
+}
+
+/// How many needles an accelerator has, or which kind of test fails.
+fn accel_answer(slice: &[u8]) -> Result<usize, &'static str> {
+    match Accel::from_slice(slice) {
+        Ok(accel) => Ok(accel.len()),
+        Err(error) => Err(kind_name(&error)),
+    }
+}
+
+#[test]
+fn accelerators_are_read_and_written_alone(rt: HostRuntime) -> Result<(), Fail> {
+    let alloc = rt.alloc();
+    assert!(&rt; accel_answer(&[2, 7, 8, 9]) == Ok(2), "two needles");
+    assert!(&rt; accel_answer(&[3, 7, 8, 9, 0]) == Ok(3), "three needles");
+    assert!(&rt;
+        accel_answer(&[4, 7, 8, 9]) == Err("generic"),
+        "four needles"
+    );
+    assert!(&rt; accel_answer(&[2, 7, 8]) == Err("buffer"), "three bytes");
+    let mut accels = Accels::empty(alloc)?;
+    let mut bytes = [9; 13];
+    assert!(&rt; accels.write_to_len() == 4, "no row");
+    if let Ok(accel) = Accel::from_slice(&[2, 7, 8, 9]) {
+        accels.add(accel)?;
+    }
+    assert!(&rt; accels.validate().is_ok(), "two needles");
+    assert!(&rt; accels.write_to::<LE>(&mut bytes).is_ok(), "not written");
+    assert!(&rt;
+        bytes == [1, 0, 0, 0, 2, 7, 8, 0, 0, 0, 0, 0, 9],
+        "written otherwise"
+    );
+    accels.add(Accel::new())?;
+    assert!(&rt; accels.validate().is_ok(), "no needle");
+    Ok(())
+}
+
+#[test]
+fn special_ids_are_tested_alone(rt: HostRuntime) -> Result<(), Fail> {
+    let alloc = rt.alloc();
+    assert!(&rt; Special::new().validate().is_ok(), "no rows");
+    let image = abc(alloc, Order::Little)?;
+    match DFA::<Vec<u32>>::from_bytes(alloc, image.as_slice()) {
+        Ok((dfa, _)) => {
+            let mut special = *dfa.special();
+            assert!(&rt; special.validate().is_ok(), "as it was read");
+            special.min_match = special.quit;
+            assert!(&rt; special.validate().is_err(), "the quit row matches");
+        }
+        Err(error) => assert!(&rt; false, "{error}"),
+    }
+    Ok(())
+}

@@ -1,0 +1,16 @@
+//! Tests of images: written, cut, altered, read and searched.
+//!
+//! They show what no contract says: that calls succeed on small and on large inputs, examples worked by hand, and how
+//! errors read.
+#![tactic(auto)]
+
+#[cfg(test)]
+mod built_images;
+#[cfg(test)]
+mod dense_image;
+#[cfg(test)]
+mod pair_image;
+#[cfg(test)]
+mod span_checks;
+#[cfg(test)]
+mod sparse_image;

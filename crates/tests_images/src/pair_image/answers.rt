@@ -1,0 +1,118 @@
+//! What the reader of pairs answers, and searches by the tables that it returns.
+
+ghost use Rattle.rx_dense.specs.Facts.{IsSoundLayout as IsSoundDense};
+ghost use Rattle.rx_sparse.specs.Facts.{IsSoundLayout as IsSoundSparse};
+
+use crate::span_checks::{Settings, check_spans};
+use rx_dense::OwnedDFA;
+use rx_image::{Tables, read_pair};
+use rx_search::Automaton;
+use rx_sparse::DFA;
+use rx_wire::{DeserializeError, DeserializeErrorKind};
+use std::alloc::Global;
+use std::process::Abort;
+use std::test::Fail;
+
+/// How many rows the forward table has, and the table in reverse, how many patterns there are, and how long the image
+/// is; or the kind of error.
+pub type Answer = Result<(usize, usize, usize, usize), &'static str>;
+
+pub fn kind_name(error: &DeserializeError) -> &'static str {
+    match error.kind() {
+        DeserializeErrorKind::Generic { .. } => "generic",
+        DeserializeErrorKind::BufferTooSmall { .. } => "buffer",
+        DeserializeErrorKind::VersionMismatch { .. } => "version",
+        DeserializeErrorKind::EndianMismatch { .. } => "endian",
+        DeserializeErrorKind::LabelMismatch { .. } => "label",
+        DeserializeErrorKind::PatternID { .. } => "pattern",
+        DeserializeErrorKind::StateID { .. } => "state",
+        DeserializeErrorKind::Memory => "memory",
+    }
+}
+
+fn answer(alloc: Global, bytes: &[u8]) -> Answer {
+    match read_pair(alloc, bytes) {
+        Ok((tables, size)) => {
+            let (forward, reverse, patterns) = lens(&tables);
+            Ok((forward, reverse, patterns, size))
+        }
+        Err(error) => Err(kind_name(&error)),
+    }
+}
+
+/// How many rows the forward table has, and the table in reverse, and how many patterns there are.
+fn lens(tables: &Tables<'_>) -> (usize, usize, usize) {
+    match tables {
+        Tables::Dense(forward, reverse) => {
+            (
+                forward.state_len(),
+                reverse.state_len(),
+                forward.pattern_len(),
+            )
+        }
+        Tables::Sparse(forward, reverse) => {
+            (
+                forward.state_len(),
+                reverse.state_len(),
+                forward.pattern_len(),
+            )
+        }
+    }
+}
+
+/// Asserts what the reader answers to some bytes. A failure names the case by its number.
+pub fn check(rt: &impl Abort, alloc: Global, bytes: &[u8], wanted: Answer, case: usize) {
+    match (answer(alloc, bytes), wanted) {
+        (Ok(found), Ok(wanted)) => {
+            let (forward, reverse, patterns, size) = found;
+            assert!(rt;
+                found == wanted,
+                "case {case}: {forward} {reverse} {patterns} {size}"
+            );
+        }
+        (Err(kind), Err(wanted)) => assert!(rt; kind == wanted, "case {case}: {kind}"),
+        (Ok(_), Err(wanted)) => assert!(rt; false, "case {case}: read, not {wanted}"),
+        (Err(kind), Ok(_)) => assert!(rt; false, "case {case}: {kind}"),
+    }
+}
+
+/// Searches every span of `a` by a dense table.
+fn search_dense(alloc: Global, table: &OwnedDFA) -> Result<(), Fail>
+    requires { IsSoundDense table.now }
+{
+    let settings = Settings {
+        quits: table.quitset(),
+        kind: table.start_kind(),
+        pattern_starts: table.starts_for_each_pattern(),
+    };
+    check_spans(alloc, table, settings, b"a")
+}
+
+/// Searches every span of `a` by a sparse table.
+fn search_sparse(alloc: Global, table: &DFA<&[u8]>) -> Result<(), Fail>
+    requires { IsSoundSparse table.now.layout }
+{
+    let settings = Settings {
+        quits: table.quitset(),
+        kind: table.start_kind(),
+        pattern_starts: table.starts_for_each_pattern(),
+    };
+    check_spans(alloc, table, settings, b"a")
+}
+
+/// Whether the reader accepts an image. If so, searches by both tables.
+pub fn search_if_read(alloc: Global, image: &[u8]) -> Result<bool, Fail> {
+    match read_pair(alloc, image) {
+        Ok((Tables::Dense(forward, reverse), _)) => {
+            search_dense(alloc, &forward)?;
+            search_dense(alloc, &reverse)?;
+            Ok(true)
+        }
+        Ok((Tables::Sparse(forward, reverse), _)) => {
+            search_sparse(alloc, &forward)?;
+            search_sparse(alloc, &reverse)?;
+            Ok(true)
+        }
+        Err(_) => Ok(false),
+    }
+}

@@ -1,0 +1,359 @@
+//! What no clause shows: that images of tables are read at all, which test an altered one fails, and that what was
+//! read is searched.
+
+ghost use Rattle.rx_sparse.specs.Facts.{IsSoundLayout};
+
+mod built;
+mod images;
+mod made_sparse;
+mod rows;
+
+use crate::span_checks::{Settings, check_spans};
+use images::{abc, never_match};
+use rx_base::{Input, MatchErrorKind};
+use rx_search::Automaton;
+use rx_sparse::DFA;
+use rx_sparse_image::{SparseRead, SparseWrite};
+use rx_wire::{DeserializeError, DeserializeErrorKind, Order};
+use std::alloc::{AllocError, Global};
+use std::process::Abort;
+use std::test::Fail;
+
+/// What reading answers: how many rows, patterns and bytes there are, or which kind of test fails.
+type Answer = Result<(usize, usize, usize), &'static str>;
+
+fn kind_name(error: &DeserializeError) -> &'static str {
+    match error.kind() {
+        DeserializeErrorKind::Generic { .. } => "generic",
+        DeserializeErrorKind::BufferTooSmall { .. } => "buffer",
+        DeserializeErrorKind::VersionMismatch { .. } => "version",
+        DeserializeErrorKind::EndianMismatch { .. } => "endian",
+        DeserializeErrorKind::LabelMismatch { .. } => "label",
+        DeserializeErrorKind::PatternID { .. } => "pattern",
+        DeserializeErrorKind::StateID { .. } => "state",
+        DeserializeErrorKind::Memory => "memory",
+    }
+}
+
+fn answer(alloc: Global, bytes: &[u8]) -> Answer {
+    match DFA::<&[u8]>::from_bytes(alloc, bytes) {
+        Ok((dfa, size)) => Ok((dfa.state_len(), dfa.pattern_len(), size)),
+        Err(error) => Err(kind_name(&error)),
+    }
+}
+
+fn check(rt: &impl Abort, alloc: Global, bytes: &[u8], wanted: Answer, at: usize) {
+    let found = answer(alloc, bytes);
+    match (found, wanted) {
+        (Ok((rows, patterns, size)), Ok(wanted)) => assert!(rt;
+            (rows, patterns, size) == wanted,
+            "at {at}: {rows} {patterns} {size}"
+        ),
+        (Err(kind), Err(wanted)) => assert!(rt; kind == wanted, "at {at}: {kind}"),
+        (Ok(_), Err(wanted)) => assert!(rt; false, "at {at}: read, not {wanted}"),
+        (Err(kind), Ok(_)) => assert!(rt; false, "at {at}: {kind}"),
+    }
+}
+
+const ABC: Answer = Ok((11, 1, 914));
+
+#[test]
+fn images_are_read_in_either_order(rt: HostRuntime) -> Result<(), Fail> {
+    let alloc = rt.alloc();
+    for order in [Order::Little, Order::Big] {
+        let never = never_match(alloc, order)?;
+        check(&rt, alloc, never.as_slice(), Ok((2, 0, 722)), 0);
+        let image = abc(alloc, order)?;
+        check(&rt, alloc, image.as_slice(), ABC, 1);
+        let mut longer = image;
+        longer.extend_from_slice(b"abc")?;
+        check(&rt, alloc, longer.as_slice(), ABC, 2);
+    }
+    Ok(())
+}
+
+#[test]
+fn a_table_of_either_order_is_written_in_either(rt: HostRuntime) -> Result<(), Fail> {
+    let alloc = rt.alloc();
+    let little = abc(alloc, Order::Little)?;
+    let big = abc(alloc, Order::Big)?;
+    for image in [&little, &big] {
+        match DFA::<&[u8]>::from_bytes(alloc, image.as_slice()) {
+            Ok((dfa, _)) => {
+                assert!(&rt; dfa.write_to_len() == 914);
+                let again = dfa.to_bytes_little_endian(alloc)?;
+                assert!(&rt; again.as_slice() == little.as_slice());
+                let again = dfa.to_bytes_native_endian(alloc)?;
+                assert!(&rt; again.as_slice() == little.as_slice());
+                let again = dfa.to_bytes_big_endian(alloc)?;
+                assert!(&rt; again.as_slice() == big.as_slice());
+            }
+            Err(error) => assert!(&rt; false, "{error}"),
+        }
+    }
+    Ok(())
+}
+
+/// A change of an image: another byte, or another number of two bytes or four at a place.
+#[derive(Clone, Copy)]
+enum Change {
+    Byte(u8),
+    Half(u16),
+    Word(u32),
+}
+
+use Change::*;
+
+fn put(image: &mut Vec<u8>, at: usize, bytes: &[u8]) {
+    for i in 0..bytes.len() {
+        if at < image.len() && i < image.len() - at {
+            image[at + i] = bytes[i];
+        }
+    }
+}
+
+fn altered(image: &mut Vec<u8>, at: usize, change: Change) {
+    match change {
+        Byte(byte) => put(image, at, &[byte]),
+        Half(half) => put(image, at, &half.to_le_bytes()),
+        Word(word) => put(image, at, &word.to_le_bytes()),
+    }
+}
+
+/// Places and changes of the little endian image of `abc`, and what is answered. Its rows begin at byte 316.
+const ALTERED: &[(usize, Change, Answer)] = &[
+    // what is free: padding, unused space, flags, a range that leads to dead
+    (31, Byte(0xFF), ABC),
+    (40, Word(7), ABC),
+    (44, Word(8), ABC),
+    (385, Word(0), ABC),
+    // another row where `a` leads: the match row, the quit row; and a quit byte
+    (365, Word(18), ABC),
+    (365, Word(9), ABC),
+    (882, Byte(1), ABC),
+    // the head
+    (0, Byte(0x78), Err("label")),
+    (32, Word(0), Err("endian")),
+    (36, Word(3), Err("version")),
+    // numbers of ranges
+    (316, Half(0), Err("generic")),
+    (316, Half(258), Err("generic")),
+    (316, Half(32769), Err("generic")),
+    // where a row leads
+    (320, Word(9), Err("generic")),
+    (320, Word(210), Err("generic")),
+    (320, Word(211), Err("buffer")),
+    (320, Word(2147483647), Err("state")),
+    // needles and patterns
+    (324, Byte(1), Err("generic")),
+    (312, Word(4294967295), Err("buffer")),
+    (342, Word(1073741824), Err("buffer")),
+    (342, Word(0), Err("generic")),
+    (346, Word(2147483647), Err("pattern")),
+    (346, Word(1), Err("generic")),
+    // how many rows and patterns there are
+    (52, Word(0), Err("generic")),
+    (48, Word(10), Err("generic")),
+    // ranges, where they lead, needles
+    (357, Byte(1), Err("generic")),
+    (358, Byte(5), Err("generic")),
+    (361, Word(36), Err("generic")),
+    (378, Byte(98), Err("generic")),
+];
+
+#[test]
+fn altered_images_fail_the_first_test_that_they_break(rt: HostRuntime) -> Result<(), Fail> {
+    let alloc = rt.alloc();
+    for (at, change, wanted) in ALTERED {
+        let mut image = abc(alloc, Order::Little)?;
+        altered(&mut image, *at, *change);
+        check(&rt, alloc, image.as_slice(), *wanted, *at);
+    }
+    Ok(())
+}
+
+/// What cutting an image off at a place answers.
+fn cut_kind(at: usize) -> &'static str {
+    if at < 32 { "generic" } else { "buffer" }
+}
+
+#[test]
+fn every_cut_of_an_image_is_refused(rt: HostRuntime) -> Result<(), Fail> {
+    let alloc = rt.alloc();
+    for order in [Order::Little, Order::Big] {
+        let image = abc(alloc, order)?;
+        for at in 0..image.len() {
+            check(&rt, alloc, &image.as_slice()[..at], Err(cut_kind(at)), at);
+        }
+    }
+    Ok(())
+}
+
+/// What a search tells: a pattern and where it ends, or at which byte it quits and where.
+#[derive(Clone, Copy, Debug, PartialEq, Eq)]
+enum Told {
+    Nothing,
+    Match(u32, usize),
+    Quit(u8, usize),
+    Other,
+}
+
+/// What a search of a table tells.
+fn tell(dfa: &DFA<&[u8]>, text: &[u8]) -> Told
+    requires { IsSoundLayout dfa.now.layout }
+{
+    match dfa.try_search_fwd(&Input::new(text)) {
+        Ok(None) => Told::Nothing,
+        Ok(Some(found)) => Told::Match(found.pattern().as_u32(), found.offset()),
+        Err(error) => match error.kind() {
+            MatchErrorKind::Quit { byte, offset } => Told::Quit(*byte, *offset),
+            _ => Told::Other,
+        },
+    }
+}
+
+/// Compares what a search by an image tells, which must be accepted and be of an order.
+fn check_told(
+    rt: &impl Abort,
+    alloc: Global,
+    image: &[u8],
+    order: Order,
+    search: (&[u8], Told),
+) -> Result<(), Fail> {
+    match DFA::<&[u8]>::from_bytes(alloc, image) {
+        Ok((dfa, _)) => {
+            assert!(rt; dfa.order() == order);
+            assert_eq!(rt; tell(&dfa, search.0), search.1);
+        }
+        Err(error) => assert!(rt; false, "{error}"),
+    }
+    Ok(())
+}
+
+#[test]
+fn an_image_of_either_order_is_searched_where_it_lies(rt: HostRuntime) -> Result<(), Fail> {
+    let alloc = rt.alloc();
+    let cases: &[(&[u8], Told)] = &[
+        (b"xyzabcxyz", Told::Match(0, 6)),
+        (b"abc", Told::Match(0, 3)),
+        (b"abab", Told::Nothing),
+    ];
+    for order in [Order::Little, Order::Big] {
+        let alone = abc(alloc, order)?;
+        let mut followed = abc(alloc, order)?;
+        followed.extend_from_slice(b"abc")?;
+        for search in cases {
+            check_told(&rt, alloc, alone.as_slice(), order, *search)?;
+            check_told(&rt, alloc, followed.as_slice(), order, *search)?;
+        }
+    }
+    for (word, wanted) in [(18, Told::Match(0, 1)), (9, Told::Quit(b'a', 1))] {
+        let mut image = abc(alloc, Order::Little)?;
+        altered(&mut image, 365, Word(word));
+        check_told(&rt, alloc, image.as_slice(), Order::Little, (b"xa", wanted))?;
+    }
+    Ok(())
+}
+
+/// What of a table decides which errors its searches may have. Tables of these images have starts of both modes.
+fn settings<'a>(dfa: &'a DFA<&[u8]>) -> Settings<'a> {
+    Settings {
+        quits: dfa.quitset(),
+        kind: dfa.start_kind(),
+        pattern_starts: dfa.starts_for_each_pattern(),
+    }
+}
+
+/// Searches all spans of some texts by an image, which must be accepted.
+fn check_searches(rt: &impl Abort, alloc: Global, image: &[u8], at: usize) -> Result<(), Fail> {
+    match DFA::<&[u8]>::from_bytes(alloc, image) {
+        Ok((dfa, _)) => {
+            for text in [b"xabcx".as_slice(), b"\0aabc\0".as_slice()] {
+                check_spans(alloc, &dfa, settings(&dfa), text)?;
+            }
+        }
+        Err(error) => assert!(rt; false, "at {at}: {error}"),
+    }
+    Ok(())
+}
+
+#[test]
+fn accepted_images_are_searched_within_their_spans(rt: HostRuntime) -> Result<(), Fail> {
+    let alloc = rt.alloc();
+    for (at, change, wanted) in ALTERED {
+        if wanted.is_ok() {
+            let mut image = abc(alloc, Order::Little)?;
+            altered(&mut image, *at, *change);
+            check_searches(&rt, alloc, image.as_slice(), *at)?;
+        }
+    }
+    for order in [Order::Little, Order::Big] {
+        let mut longer = abc(alloc, order)?;
+        longer.extend_from_slice(b"abc")?;
+        check_searches(&rt, alloc, longer.as_slice(), longer.len())?;
+    }
+    Ok(())
+}
+
+/// In which order a table is written.
+#[derive(Clone, Copy, Debug)]
+enum Writer {
+    Little,
+    Big,
+    Native,
+}
+
+/// How many bytes are written, or none.
+fn written(dfa: &DFA<&[u8]>, writer: Writer, bytes: &mut [u8]) -> Option<usize> {
+    let written = match writer {
+        Writer::Little => dfa.write_to_little_endian(bytes),
+        Writer::Big => dfa.write_to_big_endian(bytes),
+        Writer::Native => dfa.write_to_native_endian(bytes),
+    };
+    written.ok()
+}
+
+/// Writes the table of an image into one byte less than it has, and with two bytes behind it.
+fn check_writer(
+    rt: &impl Abort,
+    alloc: Global,
+    writer: Writer,
+    from: &[u8],
+    image: &[u8],
+) -> Result<(), Fail> {
+    let (dfa, _) = DFA::<&[u8]>::from_bytes(alloc, from)?;
+    let size = dfa.write_to_len();
+    assert!(rt; size == image.len());
+    let mut short = vec![in alloc; 7u8; size.saturating_sub(1)]?;
+    let refused = written(&dfa, writer, short.as_mut_slice());
+    assert!(rt; refused.is_none(), "{writer:?}: written");
+    assert!(rt; short.iter().all(|byte| *byte == 7), "{writer:?}: changed");
+    let mut long = vec![in alloc; 7u8; size.saturating_add(2)]?;
+    let size = written(&dfa, writer, long.as_mut_slice());
+    assert!(rt; size == Some(image.len()), "{writer:?}: {size:?}");
+    assert!(rt; long.starts_with(image), "{writer:?}: written otherwise");
+    assert!(rt; long.ends_with(&[7, 7]), "{writer:?}: changed");
+    let mut exact = vec![in alloc; 7u8; image.len()]?;
+    let size = written(&dfa, writer, exact.as_mut_slice());
+    assert!(rt; size == Some(image.len()) && exact.as_slice() == image);
+    Ok(())
+}
+
+#[test]
+fn a_destination_that_is_too_short_stays_as_it_is(rt: HostRuntime) -> Result<(), Fail> {
+    let alloc = rt.alloc();
+    let rows = [
+        (Writer::Little, Order::Little),
+        (Writer::Big, Order::Big),
+        (Writer::Native, Order::Little),
+    ];
+    for (writer, order) in rows {
+        let wanted = abc(alloc, order)?;
+        assert!(&rt; wanted.len() == 914);
+        for from in [Order::Little, Order::Big] {
+            let from = abc(alloc, from)?;
+            check_writer(&rt, alloc, writer, from.as_slice(), wanted.as_slice())?;
+        }
+    }
+    Ok(())
+}

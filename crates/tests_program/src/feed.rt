@@ -1,0 +1,461 @@
+//! What no clause shows: that images are read and texts searched at all, that lines come as soon as they are told, and
+//! what is left where a source or a sink fails.
+
+use rx_base::{Anchored, MatchKind, MemSink, MemSource, PatternID};
+use rx_build::dense::{Builder, Config};
+use rx_dense_image::DenseWrite;
+use rx_expr::thompson;
+use rx_feed::{Fault, feed};
+use rx_sparse_build::BuildSparse;
+use rx_sparse_image::SparseWrite;
+use rx_spec::Form;
+use std::alloc::{AllocError, Global};
+use std::process::Abort;
+use std::test::Fail;
+use tests_notation::read;
+
+const FORMS: [Form; 2] = [Form::Dense, Form::Sparse];
+
+/// How many bytes a read gives, at most.
+const STEPS: [usize; 3] = [1, 3, 4096];
+
+/// The image of the table of all matches of some patterns, for which `z` quits or not.
+fn image(alloc: Global, form: Form, patterns: &str, quits: bool) -> Result<Vec<u8>, Fail> {
+    let exprs = read(alloc, patterns)?;
+    let mut config = Config::new().match_kind(MatchKind::All);
+    if quits {
+        if let Ok(changed) = Config::new().match_kind(MatchKind::All).quit(b'z', true) {
+            config = changed;
+        }
+    }
+    let mut builder = Builder::new();
+    builder.configure(config);
+    builder.thompson(thompson::Config::new().utf8(false));
+    match form {
+        Form::Dense => Ok(
+            builder
+                .build_many(alloc, &exprs)?
+                .to_bytes_little_endian(alloc)?
+                .0,
+        ),
+        Form::Sparse => Ok(
+            builder
+                .build_many_sparse(alloc, &exprs)?
+                .to_bytes_little_endian(alloc)?,
+        ),
+    }
+}
+
+/// How reads and writes go: the most bytes of each, the room for what is written, and which read and which write
+/// fails. The first is 1, and 0 is none.
+#[derive(Clone, Copy, Debug)]
+struct Outside {
+    most_read: usize,
+    failing_read: u64,
+    room: usize,
+    most_written: usize,
+    failing_write: u64,
+}
+
+const PLAIN: Outside = Outside {
+    most_read: 4096,
+    failing_read: 0,
+    room: 5000,
+    most_written: 3,
+    failing_write: 0,
+};
+
+/// Fails unless a run over some bytes, whose first so many are the image, returns and writes what is wanted.
+fn compare(
+    rt: &impl Abort,
+    alloc: Global,
+    ask: (Form, Anchored, usize),
+    bytes: &[u8],
+    outside: Outside,
+    want: Result<u8, Fault>,
+    want_lines: &[u8],
+) -> Result<(), Fail> {
+    assert!(rt; 0 < outside.most_read && 0 < outside.most_written);
+    let failing_reads = [outside.failing_read];
+    let failing_writes = [outside.failing_write];
+    let mut source = MemSource::new(bytes, outside.most_read, &failing_reads);
+    let mut sink = MemSink::new(alloc, outside.room, outside.most_written, &failing_writes)?;
+    let (form, mode, len) = ask;
+    let told = feed(alloc, form, mode, len, &mut source, &mut sink);
+    let lines = sink.bytes();
+    assert!(rt; told == want, "{form:?} {mode:?} {outside:?}: {told:?}");
+    assert!(rt;
+        lines == want_lines,
+        "{form:?} {mode:?} {outside:?}: {lines:?}"
+    );
+    Ok(())
+}
+
+/// An image and a text behind it.
+fn joined(alloc: Global, image: &[u8], text: &[u8]) -> Result<Vec<u8>, Fail> {
+    let mut bytes = Vec::from_slice(alloc, image)?;
+    bytes.extend_from_slice(text)?;
+    Ok(bytes)
+}
+
+// ---- texts of a few letters
+
+/// The next number of a row of numbers without an order.
+fn next(number: u32) -> u32 {
+    number.wrapping_mul(1_664_525).wrapping_add(1_013_904_223)
+}
+
+/// A letter by a number: mostly `a` or `b`, and rarely `z`.
+fn letter(number: u32) -> u8 {
+    match number >> 27 {
+        0..=12 => b'a',
+        13..=25 => b'b',
+        26..=30 => b'c',
+        _ => b'z',
+    }
+}
+
+/// A text of so many letters.
+fn text(alloc: Global, seed: u32, len: usize) -> Result<Vec<u8>, Fail> {
+    let mut text = Vec::new(alloc);
+    let mut number = next(seed);
+    for _ in 0..len {
+        number = next(number);
+        text.push(letter(number))?;
+    }
+    Ok(text)
+}
+
+/// Adds the lines of the matches of `ab` and `b` that end at an offset, behind two letters. The one that begins first
+/// comes first.
+fn push_matches(
+    alloc: Global,
+    lines: &mut Vec<u8>,
+    at: usize,
+    letters: (u8, u8),
+) -> Result<(), Fail> {
+    if letters.1 != b'b' {
+        return Ok(());
+    }
+    if letters.0 == b'a' {
+        lines.extend_from_slice(format!(in alloc; "match 1 {at}\n")?.as_bytes())?;
+    }
+    lines.extend_from_slice(format!(in alloc; "match 0 {at}\n")?.as_bytes())?;
+    Ok(())
+}
+
+/// The status and the lines of a text, found letter by letter. A match is told by the letter behind it, or the end.
+fn wanted(alloc: Global, text: &[u8]) -> Result<(u8, Vec<u8>), Fail> {
+    let mut lines = Vec::new(alloc);
+    let mut letters = (b' ', b' ');
+    for (at, byte) in text.iter().enumerate() {
+        if *byte == b'z' {
+            lines.extend_from_slice(format!(in alloc; "quit 7a {at}\n")?.as_bytes())?;
+            return Ok((4, lines));
+        }
+        push_matches(alloc, &mut lines, at, letters)?;
+        letters = (letters.1, *byte);
+    }
+    let len = text.len();
+    push_matches(alloc, &mut lines, len, letters)?;
+    lines.extend_from_slice(format!(in alloc; "end {len}\n")?.as_bytes())?;
+    Ok((0, lines))
+}
+
+/// Feeds a text in pieces of each length.
+fn feed_text(
+    rt: &impl Abort,
+    alloc: Global,
+    form: Form,
+    image: &[u8],
+    text: &[u8],
+) -> Result<(), Fail> {
+    let (status, lines) = wanted(alloc, text)?;
+    let bytes = joined(alloc, image, text)?;
+    for most_read in STEPS {
+        let outside = Outside { most_read, ..PLAIN };
+        compare(
+            rt,
+            alloc,
+            (form, Anchored::No, image.len()),
+            &bytes,
+            outside,
+            Ok(status),
+            &lines,
+        )?;
+    }
+    Ok(())
+}
+
+#[test]
+fn texts_are_fed_in_pieces(rt: HostRuntime) -> Result<(), Fail> {
+    let alloc = rt.alloc();
+    for form in FORMS {
+        let image = image(alloc, form, "b ab", true)?;
+        for seed in 0..40u32 {
+            let text = text(alloc, seed, seed as usize)?;
+            feed_text(&rt, alloc, form, &image, &text)?;
+        }
+    }
+    Ok(())
+}
+
+// ---- a text of two matches
+
+const TEXT: &[u8] = b"Samwise";
+
+const LINES: &[u8] = b"match 0 3\nmatch 0 7\nend 7\n";
+
+const FIRST_LINE: &[u8] = b"match 0 3\n";
+
+/// The patterns of that text.
+fn sam(alloc: Global, form: Form) -> Result<Vec<u8>, Fail> {
+    image(alloc, form, "Samwise Sam |", false)
+}
+
+#[test]
+fn lines_come_in_order(rt: HostRuntime) -> Result<(), Fail> {
+    let alloc = rt.alloc();
+    for form in FORMS {
+        let image = sam(alloc, form)?;
+        let bytes = joined(alloc, &image, TEXT)?;
+        for most_read in STEPS {
+            let outside = Outside { most_read, ..PLAIN };
+            compare(
+                &rt,
+                alloc,
+                (form, Anchored::No, image.len()),
+                &bytes,
+                outside,
+                Ok(0),
+                LINES,
+            )?;
+            compare(
+                &rt,
+                alloc,
+                (form, Anchored::Yes, image.len()),
+                &bytes,
+                outside,
+                Ok(0),
+                LINES,
+            )?;
+        }
+    }
+    Ok(())
+}
+
+/// Reads by steps of so many bytes fail one after another: those of the image, and those of the text with the one
+/// that finds its end.
+fn fail_reads(
+    rt: &impl Abort,
+    alloc: Global,
+    form: Form,
+    most_read: usize,
+    text_reads: u64,
+) -> Result<(), Fail> {
+    assert!(rt; 0 < most_read);
+    let image = sam(alloc, form)?;
+    let bytes = joined(alloc, &image, TEXT)?;
+    let image_reads = image.len().div_ceil(most_read) as u64;
+    for count in 0..text_reads {
+        let taken = (count as usize).saturating_mul(most_read);
+        let failing_read = image_reads.saturating_add(count).saturating_add(1);
+        let outside = Outside {
+            most_read,
+            failing_read,
+            ..PLAIN
+        };
+        let lines = if taken < 4 {
+            b"".as_slice()
+        } else {
+            FIRST_LINE
+        };
+        compare(
+            rt,
+            alloc,
+            (form, Anchored::No, image.len()),
+            &bytes,
+            outside,
+            Err(Fault::Source),
+            lines,
+        )?;
+    }
+    Ok(())
+}
+
+#[test]
+fn reads_of_a_text_may_fail(rt: HostRuntime) -> Result<(), Fail> {
+    let alloc = rt.alloc();
+    for form in FORMS {
+        fail_reads(&rt, alloc, form, 1, 8)?;
+        fail_reads(&rt, alloc, form, 3, 4)?;
+        fail_reads(&rt, alloc, form, 4096, 2)?;
+    }
+    Ok(())
+}
+
+#[test]
+fn reads_of_an_image_may_fail(rt: HostRuntime) -> Result<(), Fail> {
+    let alloc = rt.alloc();
+    for form in FORMS {
+        let image = sam(alloc, form)?;
+        let bytes = joined(alloc, &image, TEXT)?;
+        let most_read = 64;
+        for failing_read in 1..=image.len().div_ceil(most_read) as u64 {
+            let outside = Outside {
+                most_read,
+                failing_read,
+                ..PLAIN
+            };
+            compare(
+                &rt,
+                alloc,
+                (form, Anchored::No, image.len()),
+                &bytes,
+                outside,
+                Err(Fault::Source),
+                b"",
+            )?;
+        }
+    }
+    Ok(())
+}
+
+/// How many bytes were written before each write of three bytes, of a line at a time.
+const WRITTEN: [usize; 10] = [0, 3, 6, 9, 10, 13, 16, 19, 20, 23];
+
+#[test]
+fn writes_may_fail(rt: HostRuntime) -> Result<(), Fail> {
+    let alloc = rt.alloc();
+    for form in FORMS {
+        let image = sam(alloc, form)?;
+        let bytes = joined(alloc, &image, TEXT)?;
+        let mut failing_write = 0u64;
+        for written in WRITTEN {
+            failing_write = failing_write.saturating_add(1);
+            let lines = LINES.get(..written).unwrap_or(b"");
+            for most_read in STEPS {
+                let outside = Outside {
+                    most_read,
+                    failing_write,
+                    ..PLAIN
+                };
+                compare(
+                    &rt,
+                    alloc,
+                    (form, Anchored::No, image.len()),
+                    &bytes,
+                    outside,
+                    Err(Fault::Sink),
+                    lines,
+                )?;
+            }
+        }
+    }
+    Ok(())
+}
+
+#[test]
+fn sinks_may_be_full(rt: HostRuntime) -> Result<(), Fail> {
+    let alloc = rt.alloc();
+    for form in FORMS {
+        let image = sam(alloc, form)?;
+        let bytes = joined(alloc, &image, TEXT)?;
+        for room in 0..LINES.len() {
+            let outside = Outside {
+                room,
+                most_written: 1,
+                ..PLAIN
+            };
+            let lines = LINES.get(..room).unwrap_or(b"");
+            compare(
+                &rt,
+                alloc,
+                (form, Anchored::No, image.len()),
+                &bytes,
+                outside,
+                Err(Fault::Sink),
+                lines,
+            )?;
+        }
+    }
+    Ok(())
+}
+
+// ---- no text
+
+#[test]
+fn images_and_modes_are_refused_before_the_text(rt: HostRuntime) -> Result<(), Fail> {
+    let alloc = rt.alloc();
+    for form in FORMS {
+        let image = sam(alloc, form)?;
+        let bytes = joined(alloc, &image, TEXT)?;
+        let mode = Anchored::Pattern(PatternID::ZERO);
+        compare(
+            &rt,
+            alloc,
+            (form, mode, image.len()),
+            &bytes,
+            PLAIN,
+            Ok(4),
+            b"unsupported p0\n",
+        )?;
+        let len = image.len().saturating_sub(1);
+        compare(
+            &rt,
+            alloc,
+            (form, Anchored::No, len),
+            &bytes,
+            PLAIN,
+            Ok(1),
+            b"refused buffer\n",
+        )?;
+        let outside = Outside { room: 3, ..PLAIN };
+        compare(
+            &rt,
+            alloc,
+            (form, Anchored::No, len),
+            &bytes,
+            outside,
+            Err(Fault::Sink),
+            b"ref",
+        )?;
+    }
+    Ok(())
+}
+
+#[test]
+fn an_image_may_end_the_source(rt: HostRuntime) -> Result<(), Fail> {
+    let alloc = rt.alloc();
+    for form in FORMS {
+        let image = sam(alloc, form)?;
+        compare(
+            &rt,
+            alloc,
+            (form, Anchored::No, image.len()),
+            &image,
+            PLAIN,
+            Ok(0),
+            b"end 0\n",
+        )?;
+        compare(
+            &rt,
+            alloc,
+            (form, Anchored::No, 1_000_000),
+            &image,
+            PLAIN,
+            Ok(0),
+            b"end 0\n",
+        )?;
+        compare(
+            &rt,
+            alloc,
+            (form, Anchored::No, 4),
+            b"",
+            PLAIN,
+            Ok(1),
+            b"refused generic\n",
+        )?;
+    }
+    Ok(())
+}

@@ -1,0 +1,207 @@
+//! Pairs of tables by settings: whole characters, marks and starts, and tables that don't belong together.
+
+ghost use Rattle.std.specs.Prelude.{IfOk};
+ghost use Rattle.rx_dense.specs.Facts.{IsSoundLayout};
+
+use crate::regex::shown;
+use rx_base::{Anchored, Input, MatchErrorKind, MatchKind, PatternID, PatternSet, StartKind};
+use rx_build::dense;
+use rx_dense::OwnedDFA;
+use rx_expr::thompson;
+use rx_regex::{Builder, Plan, Regex, RegexBuild};
+use rx_search::{Automaton, OverlappingState};
+use std::alloc::Global;
+use std::process::Abort;
+use std::test::Fail;
+use tests_notation::read;
+
+/// All matches in a haystack as text, and the error that ended them.
+fn matches<A: Automaton>(alloc: Global, regex: &Regex<A>, haystack: &[u8]) -> Result<String, Fail> {
+    shown(alloc, regex.find_iter(&Input::new(haystack)))
+}
+
+#[test]
+fn a_new_pair_tells_whole_characters(rt: HostRuntime) -> Result<(), Fail> {
+    let alloc = rt.alloc();
+    let exprs = read(alloc, "_")?;
+    let regex = Regex::<OwnedDFA>::new_many(alloc, &exprs)?;
+    let told = matches(alloc, &regex, b"\xe2\x98\x83")?;
+    assert!(rt; told.as_str() == "0 0 0;0 3 3;", "{told}");
+    let sparse = Regex::<OwnedDFA>::new_many_sparse(alloc, &exprs)?;
+    let told = matches(alloc, &sparse, b"\xe2\x98\x83")?;
+    assert!(rt; told.as_str() == "0 0 0;0 3 3;", "{told}");
+    let mut builder = Builder::new();
+    builder.thompson(thompson::Config::new().utf8(false));
+    let regex = builder.build_many(alloc, &exprs)?;
+    let told = matches(alloc, &regex, b"\xe2\x98\x83")?;
+    assert!(rt; told.as_str() == "0 0 0;0 1 1;0 2 2;0 3 3;", "{told}");
+    let sparse = builder.build_many_sparse(alloc, &exprs)?;
+    let told = matches(alloc, &sparse, b"\xe2\x98\x83")?;
+    assert!(rt; told.as_str() == "0 0 0;0 1 1;0 2 2;0 3 3;", "{told}");
+    Ok(())
+}
+
+#[test]
+fn settings_hold_for_both_tables(rt: HostRuntime) -> Result<(), Fail> {
+    let alloc = rt.alloc();
+    let exprs = read(alloc, "a b")?;
+    let mut builder = Regex::<OwnedDFA>::builder();
+    builder.dense(dense::Config::new().starts_for_each_pattern(true));
+    builder.dense(dense::Config::new().specialize_start_states(true));
+    builder.thompson(thompson::Config::new().utf8(false));
+    let regex = builder.build_many(alloc, &exprs)?;
+    assert!(rt; regex.forward().pattern_len() == 2 && regex.reverse().pattern_len() == 2);
+    let second = Anchored::Pattern(PatternID::new(1)?);
+    let found = regex.find(&Input::new(b"ba").anchored(second))?;
+    assert!(rt; found.is_some() && regex.is_match(&Input::new(b"xxb"))?);
+    // In reverse every search is anchored.
+    let backward = regex.reverse().try_search_rev(&Input::new(b"ba"));
+    assert!(rt; backward.is_err());
+    Ok(())
+}
+
+/// A table of some patterns.
+#[derive(Clone, Copy)]
+enum Of {
+    /// Forward, with starts of both modes.
+    Forward(&'static str),
+    /// Forward, where searches begin anywhere.
+    Anywhere(&'static str),
+    /// In reverse with all matches told, as a pair has it: searches are anchored.
+    Reverse(&'static str),
+    /// The same with starts of both modes.
+    ReverseOfBoth(&'static str),
+}
+
+use Of::*;
+
+impl Of {
+    fn build(self, alloc: Global) -> Result<OwnedDFA, Fail>
+        ensures { IfOk result IsSoundLayout }
+    {
+        let (patterns, reverse, kind) = match self {
+            Forward(patterns) => (patterns, false, StartKind::Both),
+            Anywhere(patterns) => (patterns, false, StartKind::Unanchored),
+            Reverse(patterns) => (patterns, true, StartKind::Anchored),
+            ReverseOfBoth(patterns) => (patterns, true, StartKind::Both),
+        };
+        let mut config = dense::Config::new().start_kind(kind);
+        if reverse {
+            config = config.match_kind(MatchKind::All);
+        }
+        let mut builder = dense::Builder::new();
+        builder.configure(config);
+        builder.thompson(thompson::Config::new().reverse(reverse));
+        Ok(builder.build_many(alloc, &read(alloc, patterns)?)?)
+    }
+}
+
+/// What a pair tells of a text: a match, none, or the error, of halves that disagree both of them.
+fn told(
+    alloc: Global,
+    regex: &Regex<OwnedDFA>,
+    text: &str,
+    anchored: bool,
+) -> Result<String, Fail> {
+    let mode = if anchored {
+        Anchored::Yes
+    } else {
+        Anchored::No
+    };
+    let input = Input::new(text.as_bytes()).anchored(mode);
+    let told = match regex.try_search(&input) {
+        Ok(None) => format!(in alloc; "none")?,
+        Ok(Some(m)) => format!(in alloc; "{} {} {}", m.pattern().as_u32(), m.start(), m.end())?,
+        Err(error) => match error.kind() {
+            MatchErrorKind::PairMismatch { forward, reverse } => {
+                let end = format!(in alloc;
+                    "{} up to {}",
+                    forward.pattern().as_u32(),
+                    forward.offset()
+                )?;
+                match reverse {
+                    None => format!(in alloc; "{end}, none")?,
+                    Some(half) => {
+                        format!(in alloc;
+                            "{end}, {} from {}",
+                            half.pattern().as_u32(),
+                            half.offset()
+                        )?
+                    }
+                }
+            }
+            MatchErrorKind::UnsupportedAnchored { mode } => format!(in alloc; "no {mode:?}")?,
+            _ => format!(in alloc; "{error}")?,
+        },
+    };
+    Ok(told)
+}
+
+/// Two tables, a text, whether the search is anchored, and what is told.
+type Pair = (Of, Of, &'static str, bool, &'static str);
+
+/// The end of a forward match is kept where the match is empty, in an anchored search, and where the forward table
+/// always begins at the text's edge. Else a search of the second table in reverse, from that end, has to find the same
+/// pattern.
+const PAIRS: &[Pair] = &[
+    (Forward("a"), Reverse("b"), "xa", false, "0 up to 2, none"),
+    (Forward("a"), Reverse("b"), "ab", true, "0 0 1"),
+    (Forward("^ a ."), Reverse("b"), "ab", false, "0 0 1"),
+    (Forward("_"), Reverse("b"), "a", false, "0 0 0"),
+    // the roles of both tables swapped: the one in reverse is searched forward, and has anchored starts alone
+    (Reverse("b"), Forward("a"), "xa", false, "no No"),
+    (Reverse("b"), Forward("a"), "ba", true, "0 0 1"),
+    (Reverse("b"), Forward("a"), "xa", true, "none"),
+    (
+        ReverseOfBoth("b"),
+        Forward("a"),
+        "xb",
+        false,
+        "0 up to 2, none",
+    ),
+    (ReverseOfBoth("b"), Forward("a"), "xa", false, "none"),
+    // two forward tables: the second reads its patterns from their ends
+    (Forward("a"), Forward("a"), "xa", false, "0 1 2"),
+    (Forward("aba"), Forward("aba"), "xaba", false, "0 1 4"),
+    (
+        Forward("ab"),
+        Forward("ab"),
+        "xab",
+        false,
+        "0 up to 3, none",
+    ),
+    (Forward("ab"), Forward("ab"), "ab", true, "0 0 2"),
+    (
+        Forward("ab ba"),
+        Forward("ab ba"),
+        "xab",
+        false,
+        "0 up to 3, 1 from 1",
+    ),
+    (Forward("a"), Anywhere("a"), "xa", false, "no Yes"),
+];
+
+#[test]
+fn tables_that_do_not_belong_together_disagree(rt: HostRuntime) -> Result<(), Fail> {
+    let alloc = rt.alloc();
+    for (first, second, text, anchored, wanted) in PAIRS {
+        let (forward, reverse) = (first.build(alloc)?, second.build(alloc)?);
+        let regex = Builder::new().build_from_dfas(forward, reverse);
+        let told = told(alloc, &regex, *text, *anchored)?;
+        assert!(rt; told.as_str() == *wanted, "{text}: {told}, not {wanted}");
+    }
+    Ok(())
+}
+
+#[test]
+fn overlapping_matches_fill_a_pattern_set(rt: HostRuntime) -> Result<(), Fail> {
+    let alloc = rt.alloc();
+    let mut builder = dense::Builder::new();
+    builder.configure(dense::Config::new().match_kind(MatchKind::All));
+    let dfa = builder.build_many(alloc, &read(alloc, "Samwise Sam |")?)?;
+    let input = Input::new(b"Samwise");
+    let mut patterns = PatternSet::new(alloc, dfa.pattern_len())?;
+    dfa.try_which_overlapping_matches(&input, &mut patterns)?;
+    assert!(rt; patterns.len() == 1 && patterns.contains(PatternID::new(0)?));
+    Ok(())
+}

@@ -1,0 +1,298 @@
+//! What no clause shows: that tables are built, of how many rows and with which ids, and how refusals read.
+
+use rx_base::{Anchored, Input, MatchKind, Needles, StartKind};
+use rx_build::BuildError;
+use rx_build::dense::{Builder, Config, DFA, DenseBuild};
+use rx_dense::OwnedDFA;
+use rx_expr::thompson;
+use rx_search::Automaton;
+use std::alloc::Global;
+use std::process::Abort;
+use std::test::Fail;
+use tests_notation::read;
+
+/// What is set that is not usual.
+#[derive(Clone, Copy)]
+enum Change {
+    Minimize,
+    NoSkips,
+    Marks,
+    NoClasses,
+    PatternStarts,
+    UnicodeWord,
+    Starts(StartKind),
+    Quit(u8),
+    TableLimit(usize),
+    StatesLimit(usize),
+    NfaLimit(usize),
+    /// In reverse, all matches told and anchored, as for the starts of matches.
+    Reverse,
+}
+
+use Change::*;
+
+fn changed(config: Config, change: Change) -> Config {
+    match change {
+        Minimize => config.minimize(true),
+        NoSkips => config.accelerate(false),
+        Marks => config.specialize_start_states(true),
+        NoClasses => config.byte_classes(false),
+        PatternStarts => config.starts_for_each_pattern(true),
+        UnicodeWord => config.unicode_word_boundary(true),
+        Starts(kind) => config.start_kind(kind),
+        Quit(byte) => match config.quit(byte, true) {
+            Ok(config) => config,
+            Err(_) => Config::new(),
+        },
+        TableLimit(bytes) => config.dfa_size_limit(Some(bytes)),
+        StatesLimit(bytes) => config.determinize_size_limit(Some(bytes)),
+        NfaLimit(_) => config,
+        Reverse => config
+            .match_kind(MatchKind::All)
+            .start_kind(StartKind::Anchored),
+    }
+}
+
+fn nfa_changed(config: thompson::Config, change: Change) -> thompson::Config {
+    match change {
+        NfaLimit(bytes) => config.nfa_size_limit(Some(bytes)),
+        Reverse => config.reverse(true),
+        _ => config,
+    }
+}
+
+/// The table of some patterns.
+fn build(
+    alloc: Global,
+    patterns: &str,
+    changes: &[Change],
+) -> Result<Result<OwnedDFA, BuildError>, Fail> {
+    let exprs = read(alloc, patterns)?;
+    let mut config = Config::new();
+    let mut nfa_config = thompson::Config::new().utf8(false);
+    for change in changes {
+        config = changed(config, *change);
+        nfa_config = nfa_changed(nfa_config, *change);
+    }
+    let mut builder = Builder::new();
+    builder.configure(config);
+    builder.thompson(nfa_config);
+    Ok(builder.build_many(alloc, &exprs))
+}
+
+/// How many rows a table has, its special ids, the needles of its first accelerated row, and its universal starts.
+fn shape_of(alloc: Global, dfa: &OwnedDFA) -> Result<String, Fail> {
+    let s = dfa.special();
+    let needles = if dfa.accel_len() == 0 {
+        Needles::new(b"")
+    } else {
+        dfa.needles_at(0)
+    };
+    let unanchored = universal(dfa, Anchored::No);
+    let anchored = universal(dfa, Anchored::Yes);
+    Ok(format!(in alloc;
+        "{} rows; {}, {}, {} {}, {} {}, {} {}; {:?}; {} {}",
+        dfa.state_len(),
+        s.max.as_u32(),
+        s.quit.as_u32(),
+        s.min_match.as_u32(),
+        s.max_match.as_u32(),
+        s.min_accel.as_u32(),
+        s.max_accel.as_u32(),
+        s.min_start.as_u32(),
+        s.max_start.as_u32(),
+        needles.as_slice(),
+        unanchored,
+        anchored
+    )?)
+}
+
+/// The id of the universal start of a mode; 0 where there is none.
+fn universal(dfa: &OwnedDFA, mode: Anchored) -> u32 {
+    match dfa.universal_start_state(mode) {
+        Some(id) => id.as_u32(),
+        None => 0,
+    }
+}
+
+/// What a table looks like, or how its refusal reads.
+fn told(alloc: Global, patterns: &str, changes: &[Change]) -> Result<String, Fail> {
+    match build(alloc, patterns, changes)? {
+        Ok(dfa) => shape_of(alloc, &dfa),
+        Err(error) => Ok(format!(in alloc; "{error}")?),
+    }
+}
+
+/// Patterns with settings, and what is told of their table.
+type Case = (&'static str, &'static [Change], &'static str);
+
+fn check(rt: &impl Abort, alloc: Global, cases: &[Case]) -> Result<(), Fail> {
+    for (patterns, changes, wanted) in cases {
+        let shape = told(alloc, patterns, changes)?;
+        assert!(rt; shape.as_str() == *wanted, "{patterns}: {shape}");
+    }
+    Ok(())
+}
+
+#[test]
+fn tables(rt: HostRuntime) -> Result<(), Fail> {
+    let alloc = rt.alloc();
+    check(
+        &rt,
+        alloc,
+        &[
+            ("", &[TableLimit(0)], "2 rows; 2, 2, 0 0, 0 0, 0 0; []; 0 0"),
+            ("a", &[], "7 rows; 12, 4, 8 8, 12 12, 0 0; [97]; 12 16"),
+            (
+                "a",
+                &[Minimize],
+                "6 rows; 12, 4, 8 8, 12 12, 0 0; [97]; 12 16",
+            ),
+            ("a", &[Reverse], "5 rows; 8, 4, 8 8, 0 0, 0 0; []; 0 12"),
+            (
+                "a",
+                &[Reverse, Minimize],
+                "5 rows; 8, 4, 8 8, 0 0, 0 0; []; 0 12",
+            ),
+            (
+                "a",
+                &[NoClasses],
+                "7 rows; 1536, 512, 1024 1024, 1536 1536, 0 0; [97]; 1536 2048",
+            ),
+            (
+                "a",
+                &[Starts(StartKind::Unanchored)],
+                "5 rows; 12, 4, 8 8, 12 12, 0 0; [97]; 12 0",
+            ),
+            (
+                "a",
+                &[Quit(0x7a)],
+                "7 rows; 24, 8, 16 16, 24 24, 0 0; [97, 122]; 24 32",
+            ),
+            (
+                "abc",
+                &[NoSkips],
+                "11 rows; 16, 8, 16 16, 0 0, 0 0; []; 24 32",
+            ),
+            (
+                "abc",
+                &[NoSkips, Marks],
+                "11 rows; 32, 8, 16 16, 0 0, 24 32; []; 24 32",
+            ),
+            ("abc", &[], "11 rows; 24, 8, 16 16, 24 24, 0 0; [97]; 24 32"),
+            (
+                "abc",
+                &[Marks],
+                "11 rows; 32, 8, 16 16, 24 24, 24 32; [97]; 24 32",
+            ),
+            ("[]", &[], "4 rows; 2, 2, 0 0, 0 0, 0 0; []; 4 6"),
+            ("[]", &[Reverse], "3 rows; 2, 2, 0 0, 0 0, 0 0; []; 0 4"),
+            ("[]", &[Minimize], "2 rows; 2, 2, 0 0, 0 0, 0 0; []; 0 0"),
+            ("<word>", &[], "7 rows; 32, 16, 32 32, 0 0, 0 0; []; 0 0"),
+        ],
+    )
+}
+
+#[test]
+fn refusals(rt: HostRuntime) -> Result<(), Fail> {
+    let alloc = rt.alloc();
+    let table = "7 rows; 12, 4, 8 8, 12 12, 0 0; [97]; 12 16";
+    check(
+        &rt,
+        alloc,
+        &[
+            ("a", &[TableLimit(164)], table),
+            (
+                "a",
+                &[TableLimit(163)],
+                "DFA exceeded size limit of 163 during determinization",
+            ),
+            ("a", &[StatesLimit(72)], table),
+            (
+                "a",
+                &[StatesLimit(71)],
+                "determinization exceeded size limit of 71",
+            ),
+            ("a", &[NfaLimit(160)], table),
+            ("a", &[NfaLimit(159)], "error building NFA"),
+            (
+                "<uword>",
+                &[],
+                "unsupported regex feature for DFAs: cannot build DFAs for regexes with Unicode word boundaries; \
+                 switch to ASCII word boundaries, or heuristically enable Unicode word boundaries or use a different \
+                 regex engine",
+            ),
+            (
+                "<uword>",
+                &[UnicodeWord],
+                "7 rows; 32, 16, 32 32, 0 0, 0 0; []; 0 0",
+            ),
+        ],
+    )?;
+    match build(alloc, "a", &[StatesLimit(0)])? {
+        Ok(_) => assert!(&rt; false),
+        Err(error) => assert!(&rt; error.is_size_limit_exceeded()),
+    }
+    Ok(())
+}
+
+#[test]
+fn everywhere_and_nowhere(rt: HostRuntime) -> Result<(), Fail> {
+    let alloc = rt.alloc();
+    let input = Input::new(b"foo12345");
+    let always = DFA::<Vec<u32>>::always_match(alloc)?;
+    match always.try_search_fwd(&input)? {
+        Some(found) => assert!(&rt; found.offset() == 0 && found.pattern().as_usize() == 0),
+        None => assert!(&rt; false),
+    }
+    let never = DFA::<Vec<u32>>::never_match(alloc)?;
+    assert!(&rt; never.try_search_fwd(&input)?.is_none());
+    Ok(())
+}
+
+/// Each start entry leads to dead exactly where the start kind leaves its mode out.
+fn check_starts(rt: &impl Abort, dfa: &OwnedDFA, kind: StartKind) {
+    for (id, mode, start) in dfa.starts() {
+        let built = match mode {
+            Anchored::No => kind.has_unanchored(),
+            Anchored::Yes => kind.has_anchored(),
+            Anchored::Pattern(_) => true,
+        };
+        assert!(rt;
+            (id.as_u32() != 0) == built,
+            "{kind:?}: {mode:?} {start:?} {}",
+            id.as_u32()
+        );
+    }
+}
+
+#[test]
+fn starts_that_are_left_out_are_dead(rt: HostRuntime) -> Result<(), Fail> {
+    let alloc = rt.alloc();
+    for kind in [StartKind::Both, StartKind::Unanchored, StartKind::Anchored] {
+        for patterns in ["a", "abc b"] {
+            let plain = build(alloc, patterns, &[Starts(kind)])??;
+            check_starts(&rt, &plain, kind);
+            let least = build(alloc, patterns, &[Starts(kind), Minimize])??;
+            check_starts(&rt, &least, kind);
+            let named = build(alloc, patterns, &[Starts(kind), Minimize, PatternStarts])??;
+            check_starts(&rt, &named, kind);
+        }
+    }
+    Ok(())
+}
+
+#[test]
+fn settings(rt: HostRuntime) -> Result<(), Fail> {
+    let config = Config::new().unicode_word_boundary(true);
+    assert!(&rt; config.clone()?.quit(0xff, false).is_err());
+    match config.quit(0xff, true) {
+        Ok(config) => assert!(&rt; config.get_quit(0xff) && !config.get_quit(0x80)),
+        Err(_) => assert!(&rt; false),
+    }
+    let alloc = rt.alloc();
+    let exprs = read(alloc, "ab cd")?;
+    let many = DFA::<Vec<u32>>::new_many(alloc, &exprs)?;
+    assert!(&rt; many.is_utf8() && many.pattern_len() == 2);
+    Ok(())
+}

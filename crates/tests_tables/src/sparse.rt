@@ -1,0 +1,389 @@
+//! What no clause shows: that tables are made sparse, byte by byte, and that they are searched as the dense ones are.
+
+ghost use Rattle.std.specs.Prelude.{IfOk};
+ghost use Rattle.rx_spec.specs.Queries.{IsFit};
+ghost use Rattle.rx_base.specs.Input.{query_of};
+ghost use Rattle.rx_order.specs.RowOrder.{IsInOrder};
+ghost use Rattle.rx_search.specs.OverlappingCalls.{Fits};
+ghost use Rattle.rx_sparse.specs.Facts.{IsSoundLayout};
+
+use rx_base::{
+    Anchored, HalfMatch, Input, MatchError, MatchKind, PatternID, StartKind, StateID, Steps, Tally,
+};
+use rx_build::dense::{Builder, Config};
+use rx_dense::{OwnedDFA, Special};
+use rx_expr::thompson;
+use rx_search::{Automaton, Cursor, OverlappingState, find_fwd_counted};
+use rx_sparse::{DFA, ToSparse};
+use rx_sparse_build::BuildSparse;
+use rx_sparse_build::laws::special_ids_are_rows;
+use rx_wire::Order;
+use std::alloc::{AllocError, Global};
+use std::process::Abort;
+use std::test::Fail;
+use tests_notation::read;
+
+/// The dense table of some patterns: forward, or in reverse with all matches told.
+fn build(alloc: Global, patterns: &str, reverse: bool) -> Result<OwnedDFA, Fail>
+    ensures { IfOk result (λ dfa. IsInOrder dfa) }
+{
+    let exprs = read(alloc, patterns)?;
+    let mut builder = Builder::new();
+    builder.thompson(thompson::Config::new().utf8(false).reverse(reverse));
+    if reverse {
+        builder.configure(Config::new().match_kind(MatchKind::All));
+    }
+    Ok(builder.build_many(alloc, &exprs)?)
+}
+
+/// The sparse table of a dense one that was built, and how many rows it has.
+fn made_sparse(alloc: Global, dense: &OwnedDFA) -> Result<(DFA<Vec<u8>>, usize), Fail>
+    requires { IsInOrder dense.now }
+    ensures { IfOk result (λ x. IsSoundLayout x.0.layout) }
+{
+    let rows = dense.state_len();
+    special_ids_are_rows();
+    Ok((dense.to_sparse(alloc)?, rows))
+}
+
+/// The eight ids of special rows.
+fn ids(special: &Special) -> [u32; 8] {
+    [
+        special.max.as_u32(),
+        special.quit.as_u32(),
+        special.min_match.as_u32(),
+        special.max_match.as_u32(),
+        special.min_accel.as_u32(),
+        special.max_accel.as_u32(),
+        special.min_start.as_u32(),
+        special.max_start.as_u32(),
+    ]
+}
+
+/// A row by hand: its ranges, where the end mark leads, its patterns and its needles.
+type Row = (&'static [(u8, u8, u32)], u32, &'static [u32], &'static [u8]);
+
+/// The rows of `abc`, whose classes are the bytes before `a`, `a`, `b`, `c`, and the bytes after it. Row 2 is the
+/// match.
+/// From row 3, 5, 7 and 9 on `abc` is looked for anywhere, and from row 4, 6, 8 and 10 on right there.
+const ABC_ROWS: [Row; 11] = [
+    (&[], 0, &[], &[]),
+    (&[], 0, &[], &[]),
+    (&[], 0, &[0], &[]),
+    (&[(0, 0, 35), (1, 1, 78), (2, 4, 35)], 0, &[], b"a"),
+    (&[(1, 1, 111)], 0, &[], &[]),
+    (
+        &[(0, 0, 35), (1, 1, 78), (2, 2, 126), (3, 4, 35)],
+        0,
+        &[],
+        &[],
+    ),
+    (&[(2, 2, 165)], 0, &[], &[]),
+    (
+        &[(0, 0, 35), (1, 1, 78), (2, 2, 35), (3, 3, 180), (4, 4, 35)],
+        0,
+        &[],
+        &[],
+    ),
+    (&[(3, 3, 195)], 0, &[], &[]),
+    (&[(0, 4, 18)], 18, &[], &[]),
+    (&[(0, 4, 18)], 18, &[], &[]),
+];
+
+fn add_word(bytes: &mut Vec<u8>, word: u32) -> Result<(), AllocError> {
+    bytes.extend_from_slice(&word.to_le_bytes())
+}
+
+/// The bytes of rows, number by number. None has more than a few ranges, patterns or needles.
+fn bytes_of(alloc: Global, rows: &[Row]) -> Result<Vec<u8>, AllocError> {
+    let mut bytes = Vec::new(alloc);
+    for (ranges, eoi, patterns, needles) in rows {
+        bytes.push(ranges.len().min(100) as u8 + 1)?;
+        bytes.push(if patterns.is_empty() { 0 } else { 128 })?;
+        for (first, last, _) in *ranges {
+            bytes.extend_from_slice(&[*first, *last])?;
+        }
+        bytes.extend_from_slice(&[0, 0])?;
+        for (_, _, next) in *ranges {
+            add_word(&mut bytes, *next)?;
+        }
+        add_word(&mut bytes, *eoi)?;
+        if !patterns.is_empty() {
+            add_word(&mut bytes, patterns.len().min(100) as u32)?;
+            for pattern in *patterns {
+                add_word(&mut bytes, *pattern)?;
+            }
+        }
+        bytes.push(needles.len().min(3) as u8)?;
+        bytes.extend_from_slice(needles)?;
+    }
+    Ok(bytes)
+}
+
+#[test]
+fn the_table_of_abc_is_the_one_by_hand(rt: HostRuntime) -> Result<(), Fail> {
+    let alloc = rt.alloc();
+    let dense = build(alloc, "abc", false)?;
+    let (sparse, rows) = made_sparse(alloc, &dense)?;
+    assert!(&rt;
+        sparse.state_len() == 11 && rows == 11,
+        "{}",
+        sparse.state_len()
+    );
+    assert!(&rt; sparse.order() == Order::Little);
+    assert!(&rt;
+        sparse.memory_usage() == 210 + 48,
+        "{}",
+        sparse.memory_usage()
+    );
+    let special = ids(sparse.special());
+    assert!(&rt; special == [35, 9, 18, 18, 35, 35, 0, 0], "{:?}", special);
+    let rows = bytes_of(alloc, &ABC_ROWS)?;
+    assert!(&rt;
+        sparse.row_bytes() == rows.as_slice(),
+        "{:?}",
+        sparse.row_bytes()
+    );
+    let unanchored = sparse.universal_start_state(Anchored::No);
+    assert!(&rt; unanchored == Some(StateID::must(35)));
+    let anchored = sparse.universal_start_state(Anchored::Yes);
+    assert!(&rt; anchored == Some(StateID::must(63)));
+    Ok(())
+}
+
+/// What a forward search, one in reverse, and two calls of an overlapping one tell.
+fn told<A: Automaton>(alloc: Global, dfa: &A, text: &[u8]) -> Result<String, Fail>
+    requires { A.IsSound dfa.now }
+{
+    let input = Input::new(text);
+    let forward = dfa.try_search_fwd(&input);
+    let reverse = dfa.try_search_rev(&input);
+    let mut state = OverlappingState::start();
+    let first = dfa.try_search_overlapping_fwd(&input, &mut state);
+    let one = state.get_match();
+    let second = dfa.try_search_overlapping_fwd(&input, &mut state);
+    let other = state.get_match();
+    Ok(format!(in alloc; "{forward:?} {reverse:?} {first:?} {one:?} {second:?} {other:?}")?)
+}
+
+/// The dense table of some patterns, of which all matches are told.
+fn build_all(alloc: Global, patterns: &str) -> Result<OwnedDFA, Fail>
+    ensures { IfOk result (λ dfa. IsInOrder dfa) }
+{
+    let exprs = read(alloc, patterns)?;
+    let mut builder = Builder::new();
+    builder.configure(Config::new().match_kind(MatchKind::All));
+    Ok(builder.build_many(alloc, &exprs)?)
+}
+
+/// The next match that an overlapping search tells: its pattern and where it ends.
+fn next_told<A: Automaton>(
+    dfa: &A,
+    input: &Input<'_>,
+    state: &mut OverlappingState,
+) -> Result<Option<(u32, usize)>, MatchError>
+    requires sound { A.IsSound dfa.now }
+    requires fits { IsFit (query_of input.now) }
+    requires state { Fits (A.table dfa.now) (A.ids dfa.now) (query_of input.now) state.old }
+    ensures state { Fits (A.table dfa.now) (A.ids dfa.now) (query_of input.now) state.new }
+{
+    dfa.try_search_overlapping_fwd(input, state)?;
+    Ok(
+        state
+            .get_match()
+            .map(|found| (found.pattern().as_u32(), found.offset())),
+    )
+}
+
+/// What four calls of a forward overlapping search tell.
+fn four_told<A: Automaton>(dfa: &A, text: &[u8]) -> Result<[Option<(u32, usize)>; 4], MatchError>
+    requires { A.IsSound dfa.now }
+{
+    let input = Input::new(text);
+    let mut state = OverlappingState::start();
+    Ok([
+        next_told(dfa, &input, &mut state)?,
+        next_told(dfa, &input, &mut state)?,
+        next_told(dfa, &input, &mut state)?,
+        next_told(dfa, &input, &mut state)?,
+    ])
+}
+
+#[test]
+fn overlapping_searches_tell_sam_and_then_samwise(rt: HostRuntime) -> Result<(), Fail> {
+    let alloc = rt.alloc();
+    let dense = build_all(alloc, "Samwise Sam |")?;
+    let (sparse, _) = made_sparse(alloc, &dense)?;
+    let wanted = [Some((0, 3)), Some((0, 7)), None, None];
+    let tables = [
+        four_told(&dense, b"Samwise")?,
+        four_told(&sparse, b"Samwise")?,
+        four_told(&sparse.as_ref(), b"Samwise")?,
+    ];
+    for told in tables {
+        assert!(&rt; told == wanted, "{told:?}");
+    }
+    Ok(())
+}
+
+/// A table tells of each text what its sparse one tells, also lent and copied.
+fn check(rt: &impl Abort, alloc: Global, patterns: &str, reverse: bool) -> Result<(), Fail> {
+    let dense = build(alloc, patterns, reverse)?;
+    let (sparse, _) = made_sparse(alloc, &dense)?;
+    let copy = sparse.to_owned(alloc)?;
+    for text in TEXTS {
+        let wanted = told(alloc, &dense, text)?;
+        let found = told(alloc, &sparse, text)?;
+        assert!(rt;
+            found.as_str() == wanted.as_str(),
+            "{patterns}: {found}, not {wanted}"
+        );
+        let lent = told(alloc, &sparse.as_ref(), text)?;
+        assert!(rt;
+            lent.as_str() == wanted.as_str(),
+            "{patterns}: {lent}, not {wanted}"
+        );
+        let copied = told(alloc, &copy, text)?;
+        assert!(rt;
+            copied.as_str() == wanted.as_str(),
+            "{patterns}: {copied}, not {wanted}"
+        );
+    }
+    Ok(())
+}
+
+const TEXTS: [&[u8]; 6] = [b"", b"a", b"xyzabcxyz", b"ab abc", b"zbcbcab", b"aaaa"];
+
+const PATTERNS: [&str; 9] = [
+    "",
+    "a",
+    "abc",
+    "[]",
+    "<word>",
+    "a b {1,} . c .",
+    "abc b [a-z]",
+    "abc [^b] [b-z] {0,} .",
+    r"\w {2,3} $ .",
+];
+
+#[test]
+fn sparse_tables_are_searched_as_dense_ones(rt: HostRuntime) -> Result<(), Fail> {
+    let alloc = rt.alloc();
+    for patterns in PATTERNS {
+        check(&rt, alloc, patterns, false)?;
+        check(&rt, alloc, patterns, true)?;
+    }
+    Ok(())
+}
+
+/// The sparse table of `abc` with starts of a kind.
+fn with_starts(alloc: Global, kind: StartKind, minimize: bool) -> Result<DFA<Vec<u8>>, Fail> {
+    let exprs = read(alloc, "abc")?;
+    let mut builder = Builder::new();
+    builder.configure(Config::new().start_kind(kind).minimize(minimize));
+    Ok(builder.build_many_sparse(alloc, &exprs)?)
+}
+
+#[test]
+fn starts_that_are_left_out_are_dead(rt: HostRuntime) -> Result<(), Fail> {
+    let alloc = rt.alloc();
+    for kind in [StartKind::Both, StartKind::Unanchored, StartKind::Anchored] {
+        for minimize in [false, true] {
+            let dfa = with_starts(alloc, kind, minimize)?;
+            assert!(&rt; dfa.start_len() == 12, "{}", dfa.start_len());
+            for i in 0..dfa.start_len() {
+                let built = if i < 6 {
+                    kind.has_unanchored()
+                } else {
+                    kind.has_anchored()
+                };
+                let id = dfa.start_at(i).as_u32();
+                assert!(&rt; (id != 0) == built, "{kind:?} {minimize} {i}: {id}");
+            }
+        }
+    }
+    Ok(())
+}
+
+/// What a counted search from a text's start tells, and its ticks.
+fn counted<A: Automaton>(dfa: &A, text: &[u8]) -> Result<(Option<HalfMatch>, u64), MatchError>
+    requires { A.IsSound dfa.now }
+{
+    let input = Input::new(text).anchored(Anchored::Yes);
+    let mut cursor = Cursor::<&A, Tally>::forward(dfa, &input)?;
+    let mut steps = Steps::new(Tally);
+    let end = find_fwd_counted(&mut cursor, &input, &mut steps)?;
+    Ok((end, steps.count()))
+}
+
+#[test]
+fn sparse_tables_skip_as_dense_ones(rt: HostRuntime) -> Result<(), Fail> {
+    let alloc = rt.alloc();
+    // A byte is read from the start row, `x` leaves its row, and so does the unit past the span.
+    let dense = build(alloc, "[^x] {0,}", false)?;
+    let (sparse, _) = made_sparse(alloc, &dense)?;
+    let want = HalfMatch::new(PatternID::new(0)?, 3);
+    for (end, ticks) in [counted(&dense, b"aaaxaa")?, counted(&sparse, b"aaaxaa")?] {
+        assert!(&rt; end == Some(want) && ticks <= 4, "{end:?} {ticks}");
+    }
+    Ok(())
+}
+
+/// The dense table in reverse of `\b[0-9]+\b`, where the words are of Unicode, so that it quits at bytes from 0x80 on.
+fn build_number(alloc: Global) -> Result<OwnedDFA, Fail>
+    ensures { IfOk result (λ dfa. IsInOrder dfa) }
+{
+    let exprs = read(alloc, r"<uword> \d {1,} <uword> . .")?;
+    let mut builder = Builder::new();
+    builder.thompson(thompson::Config::new().reverse(true));
+    builder.configure(Config::new().unicode_word_boundary(true));
+    Ok(builder.build_many(alloc, &exprs)?)
+}
+
+/// Compares the errors of a forward search and of one in reverse over a span.
+fn check_errors<A: Automaton>(
+    rt: &impl Abort,
+    alloc: Global,
+    dfa: &A,
+    span: (&[u8], usize, usize),
+    want: &str,
+) -> Result<(), Fail>
+    requires { A.IsSound dfa.now }
+{
+    let (text, start, end) = span;
+    assert!(rt; Input::fits(text.len(), start, end));
+    let input = Input::new(text).range(start, end);
+    for found in [dfa.try_search_fwd(&input), dfa.try_search_rev(&input)] {
+        match found {
+            Ok(_) => panic!(rt; "no error"),
+            Err(error) => {
+                let told = error.to_string(alloc)?;
+                assert!(rt; told.as_str() == want, "{told}");
+            }
+        }
+    }
+    Ok(())
+}
+
+#[test]
+fn sparse_tables_quit_as_dense_ones(rt: HostRuntime) -> Result<(), Fail> {
+    let alloc = rt.alloc();
+    let dense = build_number(alloc)?;
+    let (sparse, _) = made_sparse(alloc, &dense)?;
+    let cases: &[((&[u8], usize, usize), &str)] = &[
+        (
+            (b"\xce\xb2123", 2, 5),
+            "quit search after observing byte 178 at offset 1",
+        ),
+        (
+            (b"123\xce\xb2", 0, 3),
+            "quit search after observing byte 206 at offset 3",
+        ),
+    ];
+    for (span, want) in cases {
+        check_errors(&rt, alloc, &dense, *span, want)?;
+        check_errors(&rt, alloc, &sparse, *span, want)?;
+        check_errors(&rt, alloc, &sparse.as_ref(), *span, want)?;
+    }
+    Ok(())
+}
