@@ -5,15 +5,33 @@ use Rattle.std.proofs.Common.{Option, Some, None, refl, sym, ap, ◌∙◌, arit
 use Rattle.std.specs.List.{slice_split, onto_first, position, position_or_len}
 use Rattle.std.proofs.lemmas.List.{take_all}
 use Rattle.std.proofs.lemmas.Bool.Decides.{nat_tests}
-use Rattle.std.proofs.lemmas.Bool.{ltb-true, ltb-false, lt-ltb}
+use Rattle.std.proofs.lemmas.Bool.{false_from_ne_true, ltb-true, ltb-false, lt-ltb}
 use Rattle.std.proofs.lemmas.Option.{cond_some}
-use Rattle.std.proofs.lemmas.List.Sums.{fails_before_first}
+use Rattle.std.proofs.lemmas.List.Sums.{fails_before_first, position_or_len_is}
 use Rattle.std.proofs.lemmas.List.Splits.{slice_split_first, slice_split_none}
+use Rattle.memchr.specs.Find.{IsFirstByte, is_byte}
 use Rattle.rx_script.specs.Pieces.{lines_of, cut, pieces_left, bytes_left}
 
 chosen_none : {A : Type 0} (b : Bool) (x : A) → cond b (Some x) None ≡ None → b ≡ false
 chosen_none true x e = absurd cc
 chosen_none false x e = refl
+
+-- a search for the first byte gives its position
+pub first_is_position
+    : (c : ℕ) (text : List ℕ) (first : Option ℕ) → IsFirstByte (is_byte c) text first
+    → first ≡ position (λ b. eqb b c) text
+first_is_position c text None nowhere =
+    let p = λ (b : ℕ). eqb b c in
+    let fails = λ (k : ℕ) (h : k < length text). false_from_ne_true _ (nowhere k (omega arith) h) in
+    let end = position_or_len_is p text (length text) 0 (omega arith) fails (λ h. absurd (omega (arith, h))) in
+    let outside : ltb (position_or_len p text) (length text) ≡ false = omega (arith, end) in
+    rw outside refl
+first_is_position c text (Some at) found =
+    let p = λ (b : ℕ). eqb b c in
+    let high = found.0.high in
+    let fails = λ (k : ℕ) (h : k < at). false_from_ne_true _ (found.0.before k (omega arith) h) in
+    let place = position_or_len_is p text at 0 (omega (arith, high)) fails (λ h. found.1) in
+    rw (place, lt-ltb at (length text) high) refl
 
 pub split_at
     : (c : ℕ) (text : List ℕ) (at : ℕ) → position (λ b. eqb b c) text ≡ Some at

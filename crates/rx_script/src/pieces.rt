@@ -4,10 +4,13 @@ ghost use Rattle.std.specs.Prelude.{◌≡◌, ℕ, ◌+◌, ◌<◌, [], ◌∷
 ghost use Rattle.std.specs.List.{slice_split, position};
 ghost use Rattle.rx_script.specs.Pieces.{cut, pieces_left, bytes_left, words_left, line_left, lines_of, is_spaced};
 
+use memchr::memchr;
+
+/// Where the first separator stands.
 fn place_of(separator: u8, text: &[u8]) -> Option<usize>
     ensures { result ≡ position (λ b. b == separator) text.now }
 {
-    text.iter().position(|byte| *byte == separator)
+    memchr(separator, text)
 }
 
 /// The text before the first separator, and the text after it, where there is one.
