@@ -5,7 +5,7 @@ use Rattle.std.proofs.Common.{Option, Some, None, refl, sym, ap, ◌∙◌, arit
 use Rattle.std.specs.List.{slice_split, onto_first, position, position_or_len}
 use Rattle.std.proofs.lemmas.List.{take_all}
 use Rattle.std.proofs.lemmas.Bool.Decides.{nat_tests}
-use Rattle.std.proofs.lemmas.Bool.{false_from_ne_true, ltb-true, ltb-false, lt-ltb}
+use Rattle.std.proofs.lemmas.Bool.{false_from_ne_true, ltb-true, ltb-false, lt-ltb, le-ltb}
 use Rattle.std.proofs.lemmas.Option.{cond_some}
 use Rattle.std.proofs.lemmas.List.Sums.{fails_before_first, position_or_len_is}
 use Rattle.std.proofs.lemmas.List.Splits.{slice_split_first, slice_split_none}
@@ -24,8 +24,7 @@ first_is_position c text None nowhere =
     let p = λ (b : ℕ). eqb b c in
     let fails = λ (k : ℕ) (h : k < length text). false_from_ne_true _ (nowhere k (omega arith) h) in
     let end = position_or_len_is p text (length text) 0 (omega arith) fails (λ h. absurd (omega (arith, h))) in
-    let outside : ltb (position_or_len p text) (length text) ≡ false = omega (arith, end) in
-    rw outside refl
+    rw (le-ltb (position_or_len p text) (length text) (omega (arith, end))) refl
 first_is_position c text (Some at) found =
     let p = λ (b : ℕ). eqb b c in
     let high = found.0.high in

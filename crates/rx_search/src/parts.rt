@@ -32,9 +32,11 @@ const MOST_ALONE: usize = 1 << 19;
 
 /// How many bytes were passed over, and the row to which they led.
 #[derive(Clone, Copy, Debug)]
-pub(crate) struct Passed {
-    pub(crate) row: StateID,
-    pub(crate) count: usize,
+pub struct Passed {
+    /// The row's id.
+    pub row: StateID,
+    /// The number of bytes.
+    pub count: usize,
 }
 
 /// The rows in which the four walks over a block stand.
@@ -47,8 +49,11 @@ struct Rows {
 }
 
 /// Passes over bytes that lead to ordinary rows, up to the first one that leads to another, or to an end.
+///
+/// It is for walks of a caller's own over long stretches, and reads them at several places at once. It pays off from
+/// some 4,096 bytes on.
 #[inline(never)]
-pub(crate) fn pass_far<A: Automaton>(
+pub fn pass_far<A: Automaton>(
     dfa: &A,
     row: StateID,
     haystack: &[u8],

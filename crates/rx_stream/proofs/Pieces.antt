@@ -6,6 +6,7 @@ use Rattle.std.proofs.lemmas.Bool.{false_from_ne_true, eqb-true}
 use Rattle.std.proofs.lemmas.List.{get_or-drop}
 use Rattle.std.specs.Prelude.{slice_index}
 use Rattle.rx_spec.specs.Bytes.{AreBytes}
+use Rattle.rx_spec.specs.Ids.{row_of}
 use Rattle.rx_spec.specs.Machines.{Label, IsWord}
 use Rattle.rx_spec.specs.Overlapping.{OverlappingMatches, Ending, none_left, at_item_label}
 use Rattle.rx_spec.specs.Tables.{Table, is_match}
@@ -17,8 +18,12 @@ use Rattle.rx_search.specs.Labels.{is_quit}
 use Rattle.rx_search.specs.Needles.{is_nil, is_needle, IsFirstNeedle, is_read}
 use Rattle.rx_search.proofs.Standing.{Standing, match_label, quit_label, plain_label}
 use Rattle.rx_search.proofs.Overlaps.{patterns_left}
-use Rattle.rx_search.proofs.Walks.{IsQuiet, Turn, loops, unread_quiet}
-use Rattle.rx_stream.specs.Pieces.{walked, IsQuietWalk, IsSkip, MeetsMatch, MeetsQuit}
+use Rattle.rx_search.specs.Passing.{row_on, Leads}
+use Rattle.rx_search.specs.Starts.{IsId}
+use Rattle.rx_search.proofs.Walks.{IsQuiet, Turn, loops, ordinary, quiet, unread_quiet}
+use Rattle.rx_stream.specs.Pieces.{walked, HaltsAt, IsMetBy, IsPassedBy, IsQuietWalk, IsSkip}
+use Rattle.rx_stream.specs.Pieces.{MeetsMatch, MeetsQuit}
+use Rattle.rx_stream.specs.declared.walk.Halt.{Halt}
 
 -- ---- a unit
 
@@ -140,6 +145,62 @@ module _ {t : Table} {row : ℕ} {piece : List ℕ} {from here : ℕ} (bytes : A
       let there : at + (to - at) ≡ to = omega arith in
       subst (IsQuietWalk t row piece from here) there
       (skips_bytes (to - at) at walk (omega arith) (λ k l h. skip.skipped k l (omega (arith, h, there))))
+
+-- ---- stretches of bytes that lead to ordinary rows
+
+module _ {t : Table} {row : ℕ} {piece : List ℕ} {from here at : ℕ} (bytes : AreBytes piece) (s : Standing t here)
+    (walk : IsQuietWalk t row piece from here at) where
+  abbrev row_after : ℕ → ℕ
+  row_after n = row_on t.machine Direction.Forward piece here at n
+
+  ordinary_bytes : (n : ℕ) → at + n ≤ length piece
+      → ((k : ℕ) → k < n → t.is_special (row_after (k + 1)) ≡ false)
+      → IsQuietWalk t row piece from (row_after n) (at + n) × Standing t (row_after n)
+  unfolding row_on
+  ordinary_bytes zero h plain =
+      let same : at ≡ at + 0 = omega arith in (subst (IsQuietWalk t row piece from here) same walk, s)
+  ordinary_bytes (suc n) h plain =
+      let before = ordinary_bytes n (omega (arith, h)) (λ k low. plain k (omega (arith, low))) in
+      let byte = slice_index piece (at + n) in
+      let below : byte < 256 = bytes (at + n) 0 (omega (arith, h)) in
+      let next = t.machine.next (row_after n) byte in
+      let size = s.sound.is_table.nexts (row_after n) byte before.1.below (omega (arith, below)) in
+      let stands : Standing t next = record { sound = s.sound; below = size } in
+      let turn : Turn t (row_after n) byte next = record { leads = refl; standing = stands } in
+      let one : n + 1 ≡ suc n = omega arith in
+      let plain_next = ap (λ (i : ℕ). t.is_special (row_after i)) (sym one) ∙ plain n (omega arith) in
+      let there : at + n + 1 ≡ at + suc n = omega arith in (
+        subst (IsQuietWalk t row piece from next) there
+            (walk_goes_on before.0 (omega (arith, h)) turn (ordinary stands plain_next)),
+        stands,
+      )
+
+  pub walk_passes : {next count : ℕ} → Leads t Direction.Forward piece here at next count
+      → at + count ≤ length piece → IsQuietWalk t row piece from next (at + count)
+  walk_passes {next} {count} leads h =
+      subst (λ (r : ℕ). IsQuietWalk t row piece from r (at + count)) (sym leads.next_is)
+      (ordinary_bytes count h leads.ordinary).0
+
+-- ---- rows at which a walk halts
+
+module _ {t : Table} {row from here at : ℕ} {piece : List ℕ} (ids : List ℕ) (id : ℕ)
+    (walk : IsQuietWalk t row piece from here at) (h : at < length piece)
+    (turn : Turn t here (slice_index piece at) (row_of ids id)) where
+  pub walk_halts : IsId ids id → (halt : Halt) → IsMetBy t ids id (slice_index piece at) at halt
+      → HaltsAt t ids row piece from halt
+  walk_halts is_id (Halt.Match next place) met =
+      rw (met.0, met.1) (is_id, walk_meets_match walk h turn met.2)
+  walk_halts is_id (Halt.Quit next byte place) met =
+      rw (met.0, met.1, met.2) (is_id, walk_meets_quit walk h turn met.3)
+  walk_halts is_id (Halt.End next) met =
+      rw met.0 (is_id, walk_ends walk h turn met.1 met.2 met.3)
+
+  -- a row from which a walk goes on, once it has skipped
+  pub walk_passes_by : {to : ℕ} → AreBytes piece → IsPassedBy t (row_of ids id)
+      → IsSkip t (row_of ids id) piece (at + 1) to → IsQuietWalk t row piece from (row_of ids id) to
+  walk_passes_by bytes by skip =
+      walk_skips bytes turn.standing by.no_match
+      (walk_goes_on walk h turn (quiet turn.standing by.no_match by.no_quit by.alive)) skip
 
 -- the rest of a piece, as a slice of it is known
 pub rest_of_piece : (piece : List ℕ) (from : ℕ) → take (length piece - from) (drop from piece) ≡ drop from piece

@@ -1,5 +1,5 @@
 -- Walks over a piece of a text, whatever follows it.
-use Rattle.std.specs.Prelude.{ℕ, ◌≡◌, ◌≤◌, ◌<◌, ◌+◌, ◌-◌, true, false, List, ◌++◌, length, drop, slice_index}
+use Rattle.std.specs.Prelude.{ℕ, ◌≡◌, ◌≤◌, ◌<◌, ◌+◌, ◌-◌, ◌==◌, true, false, List, ◌++◌, length, drop, slice_index}
 use Rattle.rx_spec.specs.Ids.{row_of}
 use Rattle.rx_spec.specs.Machines.{IsWord}
 use Rattle.rx_spec.specs.Overlapping.{OverlappingMatches, Ending, none_left, pattern_items, with_items}
@@ -46,6 +46,22 @@ pub record MeetsQuit (t : Table) (row : ℕ) (piece : List ℕ) (from next byte 
   pub is_quit : is_quit t next ≡ true
   pub tells : (offset : ℕ) (more : List ℕ) → IsWord more
       → walked t row offset (drop from piece ++ more) ≡ none_left (Ending.Quits byte (offset + (at - from)))
+
+-- A row that tells nothing, from which a walk goes on.
+pub record IsPassedBy (t : Table) (row : ℕ) : Type 0 where
+  pub no_match : is_match t row ≡ false
+  pub no_quit : is_quit t row ≡ false
+  pub alive : (row == 0) ≡ false
+
+-- A row at which a walk halts, where the byte at a place led to it.
+abbrev pub IsMetBy : Table → List ℕ → (row byte at : ℕ) → Halt → Type 0
+IsMetBy t ids row byte at (Halt.Match next place) =
+    (next ≡ row) × (place ≡ at) × (is_match t (row_of ids row) ≡ true)
+IsMetBy t ids row byte at (Halt.Quit next read place) =
+    (next ≡ row) × (read ≡ byte) × (place ≡ at) × (is_quit t (row_of ids row) ≡ true)
+IsMetBy t ids row byte at (Halt.End next) =
+    (next ≡ row) × (is_match t (row_of ids row) ≡ false) × (is_quit t (row_of ids row) ≡ false)
+    × ((row_of ids row == 0) ≡ true)
 
 -- where a walk over a piece halts
 abbrev pub HaltsAt : Table → List ℕ → ℕ → List ℕ → ℕ → Halt → Type 0

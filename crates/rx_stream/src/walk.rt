@@ -1,13 +1,13 @@
 //! Walks over a piece, up to the next event.
 
-ghost use Rattle.std.specs.Prelude.{◌≤◌, length};
+ghost use Rattle.std.specs.Prelude.{◌≤◌, MatchOption, length};
 ghost use Rattle.rx_spec.specs.Ids.{row_of};
 ghost use Rattle.rx_search.specs.Starts.{IsId};
-ghost use Rattle.rx_stream.specs.Pieces.{HaltsAt, IsQuietWalk};
+ghost use Rattle.rx_stream.specs.Pieces.{HaltsAt, IsMetBy, IsPassedBy, IsQuietWalk};
 
 use crate::skips::skip;
 use rx_base::StateID;
-use rx_search::Automaton;
+use rx_search::{Automaton, pass_far};
 
 /// Where a walk over a piece halts, and at which row.
 #[derive(Clone, Copy, Debug)]
@@ -20,9 +20,29 @@ pub(crate) enum Halt {
     End { row: StateID },
 }
 
+/// From how many bytes on a piece is read at several places at once.
+const FAR: usize = 8192;
+
+/// How many bytes are read one by one before that, and again after each special row.
+const ALONE: usize = 2048;
+
 /// Walks from a row over a piece, from a place in it on.
 #[inline(always)]
 pub(crate) fn walk<A: Automaton>(table: &A, start: StateID, piece: &[u8], from: usize) -> Halt
+    requires sound { A.IsSound table.now }
+    requires is_id { IsId (A.ids table.now) start }
+    requires within { from ≤ length piece.now }
+    ensures { HaltsAt (A.table table.now) (A.ids table.now) (row_of (A.ids table.now) start) piece.now from result }
+{
+    if piece.len() - from < FAR {
+        return walk_near(table, start, piece, from);
+    }
+    walk_far(table, start, piece, from)
+}
+
+/// Walks over a short piece.
+#[inline(always)]
+fn walk_near<A: Automaton>(table: &A, start: StateID, piece: &[u8], from: usize) -> Halt
     requires sound { A.IsSound table.now }
     requires is_id { IsId (A.ids table.now) start }
     requires within { from ≤ length piece.now }
@@ -37,18 +57,63 @@ pub(crate) fn walk<A: Automaton>(table: &A, start: StateID, piece: &[u8], from: 
             at += 1;
             continue;
         }
-        if table.is_match_state(row) {
-            return Halt::Match { row, at };
-        }
-        if table.is_quit_state(row) {
-            return Halt::Quit { row, byte, at };
-        }
-        if table.is_dead_state(row) {
-            return Halt::End { row };
+        if let Some(halt) = met(table, row, byte, at) {
+            return halt;
         }
         at = skip(table, row, piece, at + 1);
     }
     Halt::End { row }
+}
+
+/// Walks over a long piece. Where no byte has led to a special row for a while, it passes on at several places.
+#[inline(never)]
+fn walk_far<A: Automaton>(table: &A, start: StateID, piece: &[u8], from: usize) -> Halt
+    requires sound { A.IsSound table.now }
+    requires is_id { IsId (A.ids table.now) start }
+    requires within { from ≤ length piece.now }
+    ensures { HaltsAt (A.table table.now) (A.ids table.now) (row_of (A.ids table.now) start) piece.now from result }
+{
+    let mut row = start;
+    let mut at = skip_at_start(table, row, piece, from);
+    'passes: while at < piece.len() {
+        let far = at + ALONE.min(piece.len() - at);
+        'bytes: while at < far {
+            let byte = piece[at];
+            row = table.next_state(row, byte);
+            if !table.is_special_state(row) {
+                at += 1;
+                continue;
+            }
+            if let Some(halt) = met(table, row, byte, at) {
+                return halt;
+            }
+            at = skip(table, row, piece, at + 1);
+        }
+        let passed = pass_far(table, row, piece, at, piece.len());
+        row = passed.row;
+        at += passed.count;
+    }
+    Halt::End { row }
+}
+
+/// Where a walk halts whose byte at a place led to a row, unless it goes on.
+#[inline(always)]
+fn met<A: Automaton>(table: &A, row: StateID, byte: u8, at: usize) -> Option<Halt>
+    requires { IsId (A.ids table.now) row }
+    ensures { MatchOption result
+        (IsPassedBy (A.table table.now) (row_of (A.ids table.now) row))
+        (IsMetBy (A.table table.now) (A.ids table.now) row byte at) }
+{
+    if table.is_match_state(row) {
+        return Some(Halt::Match { row, at });
+    }
+    if table.is_quit_state(row) {
+        return Some(Halt::Quit { row, byte, at });
+    }
+    if table.is_dead_state(row) {
+        return Some(Halt::End { row });
+    }
+    None
 }
 
 /// Skips before the first byte is read. Nothing is skipped from a match row: it is a match again after each byte that

@@ -2,7 +2,7 @@ use Rattle.std.proofs.Common.{length, ◌-◌}
 use Rattle.rx_spec.specs.Ids.{row_of}
 use Rattle.rx_search.specs.Starts.{IsId}
 use Rattle.rx_stream.specs.Pieces.{IsQuietWalk}
-use Rattle.rx_stream.proofs.walk.walk.Given as goal
+use Rattle.rx_stream.proofs.walk.walk_near.Given as goal
 
 abbrev pub invariant-bytes : goal.invariant-bytes
 invariant-bytes g l =
