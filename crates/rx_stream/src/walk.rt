@@ -9,18 +9,18 @@ use crate::skips::skip;
 use rx_base::StateID;
 use rx_search::Automaton;
 
-/// Where a walk over a piece halts, and at which row.
+/// Where a walk over a piece stops, and in which state.
 #[derive(Clone, Copy, Debug)]
 pub(crate) enum Halt {
-    /// The byte at a place led to a match row.
+    /// The byte at a place led to a match state.
     Match { row: StateID, at: usize },
-    /// The byte at a place led to the quit row.
+    /// The byte at a place led to the quit state.
     Quit { row: StateID, byte: u8, at: usize },
-    /// The piece has no event: it is read to its end, or the row is dead.
+    /// The piece has no event: it was read to its end, or the state is dead.
     End { row: StateID },
 }
 
-/// Walks from a row over a piece, from a place in it on.
+/// Walks over a piece from a state and a place.
 #[inline(always)]
 pub(crate) fn walk<A: Automaton>(table: &A, start: StateID, piece: &[u8], from: usize) -> Halt
     requires sound { A.IsSound table.now }
@@ -51,7 +51,7 @@ pub(crate) fn walk<A: Automaton>(table: &A, start: StateID, piece: &[u8], from: 
     Halt::End { row }
 }
 
-/// Skips before the first byte is read. Nothing is skipped from a match row: it is a match again after each byte that
+/// Skips before the first byte is read. A match state isn't skipped from: it reports a match again after each byte that
 /// leads it to itself.
 #[inline(always)]
 fn skip_at_start<A: Automaton>(table: &A, row: StateID, piece: &[u8], from: usize) -> usize
