@@ -94,8 +94,8 @@ impl Construction {
         }
     }
 
-    /// Writes where a column leads the current state. The column isn't a quit byte's. `copied` is whether the row began as
-    /// a copy of its template.
+    /// Writes where a column leads the current state. The column isn't a quit byte's. `copied` is whether the row began
+    /// as a copy of its template.
     fn write_column(
         &mut self,
         stepper: &mut Stepper<'_>,
