@@ -52,8 +52,8 @@ impl Config {
         }
     }
 
-    /// Whether to accelerate states: a search skips from a state that only one to three bytes leave to the next of
-    /// these bytes. On by default.
+    /// Whether to accelerate states: from a state that only one to three bytes leave, none of them a space, a search
+    /// skips to the next of these bytes. On by default.
     pub fn accelerate(mut self, yes: bool) -> Config
         ensures { asked result ≡ record (asked self) { accelerate = Some yes } }
     {
