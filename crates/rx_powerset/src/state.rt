@@ -21,7 +21,7 @@ use std::alloc::{AllocError, Global};
 pub struct PowerState {
     /// The rows that may go on, the preferred first. Each reads a byte, matches or asserts.
     rows: Vec<StateID>,
-    /// What is known of the last unit, as far as some assertion asks for it.
+    /// The facts about the last unit that some assertion asks for.
     context: Facts,
     /// The patterns that matched before that unit, the preferred first.
     label: Vec<PatternID>,

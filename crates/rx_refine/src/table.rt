@@ -14,7 +14,7 @@ pub(crate) struct Table<'a> {
     units: usize,
     /// The number of entries from the start of one row to the start of the next.
     stride: usize,
-    /// The number of bits by which an entry is its row's number shifted left.
+    /// An entry is its row's number shifted left by this many bits.
     shift: usize,
     entries: &'a [u32],
 }
