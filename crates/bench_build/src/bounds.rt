@@ -46,7 +46,7 @@ impl Bounds {
     }
 }
 
-/// The number with a digit behind it.
+/// The number with one more digit.
 fn with_digit(number: u32, byte: u8) -> Option<u32> {
     if !byte.is_ascii_digit() {
         return None;

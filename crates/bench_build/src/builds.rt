@@ -12,16 +12,16 @@ use std::alloc::Global;
 use std::rt::Clock;
 use std::time::{Duration, Instant};
 
-/// What is built of an NFA besides the table that searches use.
+/// What is built of an NFA besides the table for searches.
 #[derive(Clone, Copy, Debug, PartialEq, Eq)]
 pub(crate) enum Parts {
     /// Nothing.
     Whole,
-    /// A table without needles, and a minimized one without needles.
+    /// A table without acceleration, and a minimized one without acceleration.
     Apart,
 }
 
-/// In which direction a text is read.
+/// The direction in which a text is read.
 #[derive(Clone, Copy, Debug, PartialEq, Eq)]
 pub(crate) enum Direction {
     /// Forward, for the ends of leftmost-first matches.
@@ -31,7 +31,7 @@ pub(crate) enum Direction {
 }
 
 impl Direction {
-    /// What makes the NFA.
+    /// The compiler of the NFA.
     fn compiler(self) -> Compiler {
         let mut compiler = Compiler::new();
         let config = thompson::Config::new().utf8(false);
@@ -46,7 +46,7 @@ impl Direction {
             .map_err(|error| Fault::Build(error.into()))
     }
 
-    /// What makes the table, with needles and minimized where these are asked for.
+    /// The builder of the table.
     fn builder(self, accelerate: bool, minimize: bool) -> Builder {
         let config = Config::new().accelerate(accelerate).minimize(minimize);
         let mut builder = Builder::new();
@@ -60,20 +60,20 @@ impl Direction {
     }
 }
 
-/// The least times of the builds in one direction, in nanoseconds, and how large the tables without needles are.
+/// The least times of the builds in one direction, in nanoseconds, and the sizes of the tables without acceleration.
 #[derive(Clone, Copy, Debug)]
 pub(crate) struct Least {
     /// The NFA.
     pub(crate) nfa: u64,
-    /// The table of it, with needles.
+    /// The accelerated table.
     pub(crate) table: u64,
-    /// The table without needles.
+    /// The table without acceleration.
     pub(crate) plain: u64,
-    /// The minimized table without needles.
+    /// The minimized table without acceleration.
     pub(crate) minimized: u64,
-    /// The cells of the table without needles: a unit of a row each.
+    /// The number of transitions of the table without acceleration, for all units of all states.
     pub(crate) cells: u64,
-    /// The rows that minimizing leaves.
+    /// The number of states that minimizing leaves.
     pub(crate) rows_left: usize,
 }
 
@@ -90,14 +90,14 @@ impl Least {
         }
     }
 
-    /// How much longer a minimized table took than one that isn't, in nanoseconds for each cell of the latter.
+    /// How much longer the minimized table took, in nanoseconds for each transition of the other one.
     pub(crate) fn minimizing(&self) -> u64 {
         let time = self.minimized.saturating_sub(self.plain);
         time.checked_div(self.cells).unwrap_or(0)
     }
 }
 
-/// Builds a table for searches, and what else is asked for, and keeps the times that are less than before.
+/// Builds a table for searches and what else is asked for. Keeps the times that are less than before.
 pub(crate) fn measure(
     clock: &impl Clock,
     alloc: Global,
@@ -122,7 +122,7 @@ pub(crate) fn measure(
     Ok(table)
 }
 
-/// The forward table of some expressions, without needles.
+/// The forward table of some expressions, without acceleration.
 pub(crate) fn plain_table(alloc: Global, exprs: &[Expr]) -> Result<OwnedDFA, Fault>
     ensures { IfOk result (λ dfa. IsInOrder dfa) }
 {
@@ -131,7 +131,7 @@ pub(crate) fn plain_table(alloc: Global, exprs: &[Expr]) -> Result<OwnedDFA, Fau
     Ok(builder.build_from_nfa(alloc, &nfa)?)
 }
 
-/// The table of an NFA, and how long its build took.
+/// The table of an NFA, and the time of its build.
 fn build(
     clock: &impl Clock,
     alloc: Global,
@@ -143,7 +143,7 @@ fn build(
     Ok((dfa, nanoseconds(begin.elapsed(clock)?)))
 }
 
-/// A time in nanoseconds, up to the greatest number.
+/// A time in nanoseconds, capped at 2^64 - 1.
 pub(crate) fn nanoseconds(time: Duration) -> u64 {
     u64::try_from(time.as_nanos()).unwrap_or(u64::MAX)
 }

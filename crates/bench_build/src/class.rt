@@ -69,7 +69,7 @@ impl Class {
         }
     }
 
-    /// The bytes of the class. A hyphen behind which nothing came is one of them.
+    /// The bytes of the class. A hyphen at its end is one of them.
     pub(crate) fn set(mut self) -> ByteSet {
         if self.is_range {
             self.set.add(b'-');
@@ -87,7 +87,7 @@ impl Class {
     }
 }
 
-/// The byte that a backslash and this one stand for.
+/// The byte that an escape spells: a backslash and this byte.
 pub(crate) fn escaped(byte: u8) -> Option<u8> {
     match byte {
         b'n' => Some(b'\n'),

@@ -1,27 +1,25 @@
-//! Times the builds of dense tables, searches by them, and the sparse tables that are made of them:
-//! `bench_build FILE REPEATS [parts]`, `bench_build FILE REPEATS find TEXT`, or
-//! `bench_build FILE REPEATS sparse TEXT`.
+//! Times builds of dense tables, searches with them, and the sparse tables that are made of them: `bench_build FILE
+//! REPEATS [parts]`, `bench_build FILE REPEATS find TEXT`, or `bench_build FILE REPEATS sparse TEXT`.
 //!
-//! FILE has an expression on each line, in the syntax of `reader`. Of all of them two tables are built, REPEATS times:
-//! the forward one, by which the ends of leftmost-first matches are found, from an anchored start and an unanchored
-//! one; and the reverse one, which is anchored and tells all matches, by which their starts are found. Bytes are
-//! searched, UTF-8 or not.
+//! FILE has an expression on each line, in the syntax of `reader`. Two tables are built of all expressions, REPEATS
+//! times: the forward one, which gives the ends of leftmost-first matches from an anchored and an unanchored start, and
+//! the reverse one, which is anchored, reports all matches and gives their starts. UTF-8 mode is off.
 //!
-//! Standard output says how large the tables are, standard error the least time of each part of a build, in
-//! microseconds. With `parts` each NFA is also made into a table without needles and into a minimized one, so that the
-//! needles' part of a build can be told, and that of minimizing.
+//! Standard output gets the sizes of the tables, standard error the least time of each part of a build, in
+//! microseconds. With `parts` each NFA is also made into a table without acceleration and into a minimized one without
+//! acceleration, which gives the times of these steps.
 //!
-//! With `find` both tables are built once, and all matches in the file TEXT are gone through, REPEATS times. Standard
-//! output says how many there are and how many bytes they have, standard error the least time in microseconds.
+//! With `find` both tables are built once, and all matches in the file TEXT are found, REPEATS times. Standard output
+//! gets the number of matches and of their bytes, standard error the least time in microseconds.
 //!
-//! With `sparse` the forward table is built once, without needles. REPEATS times, in turns, it is made sparse, the
-//! image of the sparse table is written and read, and the file TEXT is walked through by half searches, once by each
-//! table: from where a match ends the next one is sought, up to the end of the text. Standard output says how many rows
-//! the tables have, how many bytes their images, how many ranges of classes the row with the most of them, and how many
-//! matches each table tells; standard error the least time of each part, in microseconds.
+//! With `sparse` the forward table is built once, without acceleration. REPEATS times, in turns, it is made sparse, the
+//! image of the sparse table is written and read, and the file TEXT is searched by half searches with each table: each
+//! match is sought from where the last one ends. Standard output gets the number of states, the lengths of both images,
+//! the most ranges of a state, and the number of matches of each table; standard error the least time of each part, in
+//! microseconds.
 //!
-//! Where nothing is measured, standard error says why, and the status is 2 for words that are wrong, 3 for expressions
-//! that aren't read or built, and 1 where memory, the clock, a file, an image or an output failed.
+//! If nothing is measured, standard error says why. The status is 2 for wrong words, 3 if an expression can't be read
+//! or built, and 1 if memory, the clock, a file, an image or an output failed.
 #![tactic(auto)]
 
 mod bounds;
@@ -51,21 +49,21 @@ pub enum Fault {
     /// The words are wrong.
     #[error("usage: bench_build FILE REPEATS [parts | find TEXT | sparse TEXT]")]
     Usage,
-    /// An expression isn't read.
+    /// An expression can't be read.
     #[error("{text}: {error}")]
     Expression {
-        /// How it is spelled.
+        /// Its text.
         text: String,
-        /// Why it isn't read.
+        /// Why it can't be read.
         error: ReadError,
     },
-    /// A table isn't built.
+    /// A table can't be built.
     #[error("{0}")]
     Build(#[from] BuildError),
-    /// A search ended by an error.
+    /// A search ended with an error.
     #[error("{0}")]
     Search(#[from] MatchError),
-    /// The image of a table isn't read.
+    /// The image of a table was rejected.
     #[error("{0}")]
     Image(#[from] DeserializeError),
     /// Memory ran out, or the words, the clock, a file or an output failed.
@@ -74,7 +72,7 @@ pub enum Fault {
 }
 
 impl Fault {
-    /// The exit status that says so.
+    /// The exit status.
     fn status(&self) -> ExitCode {
         match self {
             Fault::Usage => ExitCode::from(2),
@@ -117,7 +115,7 @@ fn run(rt: &HostRuntime) -> Result<(), Fault> {
     time_builds(rt, &exprs, repeats, parts)
 }
 
-/// Goes through all matches in a text so many times, and says how many there are and how long that took.
+/// Finds all matches in a text `repeats` times, and prints their number and the time.
 fn find_all(rt: &HostRuntime, file: &str, repeats: u32, path: &str) -> Result<(), Fault> {
     let exprs = read_file(rt, file)?;
     let text = fs::read(rt, path)?;
@@ -127,8 +125,7 @@ fn find_all(rt: &HostRuntime, file: &str, repeats: u32, path: &str) -> Result<()
     Ok(())
 }
 
-/// Makes the forward table sparse so many times and walks through a text by both, and says how large they are and how
-/// long that took.
+/// Makes the forward table sparse `repeats` times and searches a text with both tables. Prints the sizes and the times.
 fn time_sparse(rt: &HostRuntime, file: &str, repeats: u32, path: &str) -> Result<(), Fault> {
     let exprs = read_file(rt, file)?;
     let text = fs::read(rt, path)?;
@@ -139,7 +136,7 @@ fn time_sparse(rt: &HostRuntime, file: &str, repeats: u32, path: &str) -> Result
     Ok(())
 }
 
-/// Builds both tables so many times, and says how large they are and how long the builds took.
+/// Builds both tables `repeats` times, and prints their sizes and the times.
 fn time_builds(rt: &HostRuntime, exprs: &[Expr], repeats: u32, parts: Parts) -> Result<(), Fault> {
     let alloc = rt.alloc();
     let mut forward = Least::new();
@@ -175,7 +172,7 @@ fn read_file(rt: &HostRuntime, path: &str) -> Result<Vec<Expr>, Fault> {
     Ok(exprs)
 }
 
-/// Says how large a table is.
+/// Prints the size of a table.
 fn tell_size(rt: &impl Print, direction: Direction, dfa: &OwnedDFA) -> io::Result<()> {
     println!(rt;
         "{direction:?}: {} rows, {} units, {} bytes",
@@ -185,7 +182,7 @@ fn tell_size(rt: &impl Print, direction: Direction, dfa: &OwnedDFA) -> io::Resul
     )
 }
 
-/// Says how long the parts of the builds took, in microseconds.
+/// Prints the times of the parts of the builds, in microseconds.
 fn tell_times(
     rt: &impl Eprint,
     direction: Direction,
@@ -209,7 +206,7 @@ fn tell_times(
     )
 }
 
-/// Says how large a table and its sparse one are.
+/// Prints the sizes of a table and its sparse form.
 fn tell_sizes(rt: &impl Print, sizes: &Sizes) -> io::Result<()> {
     println!(rt;
         "{} rows, dense {} bytes, sparse {} bytes, at most {} ranges",
@@ -217,7 +214,7 @@ fn tell_sizes(rt: &impl Print, sizes: &Sizes) -> io::Result<()> {
     )
 }
 
-/// Says how many matches both tables tell, and how long what was done with them took, in microseconds.
+/// Prints the number of matches by both tables and the times of what was done with them, in microseconds.
 fn tell_turns(rt: &(impl Print + Eprint), turns: &Turns) -> io::Result<()> {
     println!(rt;
         "matches: dense {}, sparse {}",

@@ -20,7 +20,7 @@ pub(crate) struct Matches {
     pub(crate) bytes: u64,
 }
 
-/// Goes through all matches in a text so many times. Answers what was found, and the least time in nanoseconds.
+/// Finds all matches in a text `repeats` times. Returns what was found, and the least time in nanoseconds.
 pub(crate) fn time_matches(
     clock: &impl Clock,
     alloc: Global,

@@ -4,14 +4,14 @@
 //! |---|---|
 //! | `ab` | one after the other |
 //! | `a\|b` | one of the two, the first preferred |
-//! | `a*` `a+` `a?` `a{2}` `a{2,}` `a{2,4}` | so many rounds, of which more are preferred |
+//! | `a*` `a+` `a?` `a{2}` `a{2,}` `a{2,4}` | a repetition, greedy |
 //! | `(a)` `(?:a)` | the same as `a` |
 //! | `[a-z_]` `[^a-z_]` | a byte of these, or any other byte |
-//! | `^` | behind the start or a line feed |
+//! | `^` | at the start of the text or after a line feed |
 //! | `\b` | at the edge of an ASCII word |
 //! | `\n` `\r` `\t` | a line feed, a carriage return, a tabulator |
 //! | `\` and a sign | this sign |
-//! | `.` `$` | refused |
+//! | `.` `$` | an error |
 //! | any other | this byte |
 
 use crate::bounds::Bounds;
@@ -22,13 +22,13 @@ use std::alloc::{AllocError, AllocFailed, Global};
 use std::mem;
 use thiserror::Error;
 
-/// Why an expression isn't read.
+/// Why an expression can't be read.
 #[derive(Clone, Copy, Debug, Error)]
 pub enum ReadError {
-    /// A form that isn't read here, or a part is missing.
+    /// A form that this reader doesn't know, or a part is missing.
     #[error("not in the syntax that is read here")]
     Syntax,
-    /// The expression is refused, or memory ran out.
+    /// The expression can't be built, or memory ran out.
     #[error("{0}")]
     Expr(#[from] ExprError),
 }
@@ -162,7 +162,7 @@ impl Reader {
         Ok(())
     }
 
-    /// Reads the first byte of a part or of what stands behind one.
+    /// Reads the first byte of a part, or the byte after one.
     fn read_first(&mut self, byte: u8) -> Result<Mode, ReadError> {
         match byte {
             b'(' => self.open(),

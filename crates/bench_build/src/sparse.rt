@@ -1,4 +1,4 @@
-//! Sparse tables that are timed, beside the dense ones that they are made of.
+//! Timing of sparse tables beside the dense tables that they are made of.
 
 ghost use Rattle.std.specs.Prelude.{IfOk};
 ghost use Rattle.rx_order.specs.RowOrder.{IsInOrder};
@@ -19,7 +19,7 @@ use std::io;
 use std::rt::Clock;
 use std::time::Instant;
 
-/// How large a dense table and its sparse one are.
+/// The sizes of a dense table and of its sparse form.
 #[derive(Clone, Copy, Debug)]
 pub(crate) struct Sizes {
     /// The rows of both.
@@ -28,26 +28,26 @@ pub(crate) struct Sizes {
     pub(crate) dense: usize,
     /// The bytes of the sparse table's image.
     pub(crate) sparse: usize,
-    /// The most ranges that a row has.
+    /// The most ranges of a state.
     pub(crate) ranges: usize,
 }
 
-/// The least time of each part, in nanoseconds, and how many matches there are.
+/// The least time of each part, in nanoseconds, and the number of matches.
 #[derive(Clone, Copy, Debug)]
 pub(crate) struct Turns {
-    /// To make the dense table sparse.
+    /// Making the dense table sparse.
     pub(crate) making: u64,
-    /// To write the image of the sparse table.
+    /// Writing the image of the sparse table.
     pub(crate) writing: u64,
-    /// To read that image.
+    /// Reading that image.
     pub(crate) reading: u64,
-    /// To walk through the text by the dense table.
+    /// Searching the text with the dense table.
     pub(crate) dense_walk: u64,
-    /// To walk through the text by the sparse table.
+    /// Searching the text with the sparse table.
     pub(crate) sparse_walk: u64,
-    /// The matches that the dense table tells.
+    /// The matches by the dense table.
     pub(crate) dense_matches: usize,
-    /// The matches that the sparse table tells.
+    /// The matches by the sparse table.
     pub(crate) sparse_matches: usize,
 }
 
@@ -66,7 +66,7 @@ impl Turns {
     }
 }
 
-/// How large a table is, and its sparse one.
+/// The sizes of a table and of its sparse form.
 pub(crate) fn table_sizes(alloc: Global, dense: &OwnedDFA) -> Result<Sizes, BuildError>
     requires { IsInOrder dense.now }
 {
@@ -79,7 +79,7 @@ pub(crate) fn table_sizes(alloc: Global, dense: &OwnedDFA) -> Result<Sizes, Buil
     })
 }
 
-/// Takes so many turns: makes a table sparse, writes the image of that and reads it, and walks through a text by both.
+/// Takes `repeats` turns: makes a table sparse, writes and reads the image, and searches a text with both tables.
 pub(crate) fn take_turns(
     clock: &impl Clock,
     alloc: Global,
@@ -96,7 +96,7 @@ pub(crate) fn take_turns(
     Ok(turns)
 }
 
-/// Takes a turn, and keeps the times that are less than before.
+/// Takes a turn. Keeps the times that are less than before.
 fn take_turn(
     clock: &impl Clock,
     alloc: Global,
@@ -132,7 +132,7 @@ fn sparse_table(alloc: Global, dense: &OwnedDFA) -> Result<(DFA<Vec<u8>>, usize)
     Ok((dense.to_sparse(alloc)?, rows))
 }
 
-/// The image of a sparse table, and how long it took to be written, in new memory.
+/// The image of a sparse table in new memory, and the time to write it.
 fn time_writing(
     clock: &impl Clock,
     alloc: Global,
@@ -145,7 +145,7 @@ fn time_writing(
     Ok((image, nanoseconds(begin.elapsed(clock)?)))
 }
 
-/// How long the image of a sparse table takes to be read.
+/// The time to read the image of a sparse table.
 fn time_reading(clock: &impl Clock, alloc: Global, image: &[u8]) -> Result<u64, Fault> {
     let begin = Instant::now(clock)?;
     let read = DFA::<&[u8]>::from_bytes(alloc, image)?;
@@ -154,7 +154,7 @@ fn time_reading(clock: &impl Clock, alloc: Global, image: &[u8]) -> Result<u64, 
     Ok(time)
 }
 
-/// How many matches a walk through a text tells, and how long it took.
+/// The number of matches in a text, and the time to find them.
 fn time_walk<A: Automaton>(clock: &impl Clock, dfa: &A, text: &[u8]) -> Result<(usize, u64), Fault>
     requires { A.IsSound dfa.now }
 {
@@ -163,8 +163,8 @@ fn time_walk<A: Automaton>(clock: &impl Clock, dfa: &A, text: &[u8]) -> Result<(
     Ok((matches, nanoseconds(begin.elapsed(clock)?)))
 }
 
-/// How many matches a text has: each is sought from where the one before it ends, and behind the last one the text is
-/// read to its end. It isn't inlined, so that no walk is built for the one table that it is given.
+/// The number of matches in a text: each is sought from where the last one ends, and after the last one the text is
+/// read to its end. It isn't inlined, so that the compiler doesn't specialize the search for one table.
 #[inline(never)]
 fn count_matches<A: Automaton>(dfa: &A, text: &[u8]) -> Result<usize, MatchError>
     requires { A.IsSound dfa.now }
@@ -181,7 +181,8 @@ fn count_matches<A: Automaton>(dfa: &A, text: &[u8]) -> Result<usize, MatchError
     Ok(matches)
 }
 
-/// Where the next match from a place on ends, or one further where the match is empty and lies at that place.
+/// Where the search for the next match begins: at the end of the match from `start` on, or one further if that match is
+/// empty and lies at `start`.
 fn next_start<A: Automaton>(dfa: &A, text: &[u8], start: usize) -> Result<Option<usize>, MatchError>
     requires { A.IsSound dfa.now }
 {

@@ -1,13 +1,13 @@
-//! Times a comparison of two tables: `bench_equal FORM IMAGE FORM IMAGE TIMES`, where FORM is `dense` or `sparse`.
+//! Times comparisons of two tables: `bench_equal FORM IMAGE FORM IMAGE TIMES`, where FORM is `dense` or `sparse`.
 //!
-//! An IMAGE is the file of an image of the form before it. The tables are compared TIMES times. Standard output says
-//! how many pairs of states there are, or how long a shortest word is that parts the tables, and whether the checkers
-//! accept it; standard error the least times in microseconds of a comparison and of a check.
+//! An IMAGE is a file with an image of the form before it. The tables are compared TIMES times. Standard output gets
+//! the number of pairs of states, or the length of a shortest word at which the tables differ, and whether the checkers
+//! accept the result. Standard error gets the least times of a comparison and of a check, in microseconds.
 //!
 //! `peer/compare.rs` writes tables and has the same comparison in plain Rust; `compare` times both in turns.
 //!
-//! Where nothing is measured, standard error says why, and the status is 2 for words that are wrong, and 1 where
-//! memory, the clock, a file or an output failed.
+//! If nothing is measured, standard error says why. The status is 2 for wrong words, and 1 if memory, the clock, a file
+//! or an output failed.
 #![tactic(auto)]
 
 ghost use Rattle.std.specs.Prelude.{◌≤◌};
@@ -35,7 +35,7 @@ enum Fault {
     /// The words are wrong.
     #[error("usage: bench_equal dense|sparse IMAGE dense|sparse IMAGE TIMES")]
     Usage,
-    /// An image wasn't read.
+    /// An image was rejected.
     #[error("{0}")]
     Refused(#[from] DeserializeError),
     /// A table has too many patterns.
@@ -121,7 +121,7 @@ fn measure_with<A: Automaton>(
     measure(rt, alloc, table, &other, times)
 }
 
-/// Compares two tables so many times, and prints what was told and the least times.
+/// Compares two tables TIMES times, and prints the result and the least times.
 fn measure<A: Automaton, B: Automaton>(
     rt: &(impl Print + Eprint + Clock),
     alloc: Global,

@@ -13,13 +13,13 @@ const STRIDE: u32 = 1 << STRIDE2;
 /// How many bytes are in a class.
 const CLASS_LEN: u32 = 16;
 
-/// How many columns a row has: one for each class and one for the end mark.
+/// How many columns a row has: one for each class and one for the end of input.
 const ALPHABET: u32 = 256 / CLASS_LEN + 1;
 
-/// The number that stands for no universal start, and for no patterns with starts of their own.
+/// The number for no universal start, and for no patterns with start rows of their own.
 const NONE: u32 = 0xFFFFFFFF;
 
-/// The little endian image of a table of so many rows, of which each but the first two leads to pseudo-random ones.
+/// The little-endian image of a table of `rows` rows. The transitions of all but the first two are pseudo-random.
 pub fn make_image(alloc: Global, rows: u32) -> Result<Vec<u8>, AllocError>
     requires some { 3 ≤ rows }
     requires few { rows ≤ 1000000 }

@@ -1,8 +1,8 @@
-//! Times reading and writing of the image of a dense table beside copies of it: `bench_image ROWS TIMES`.
+//! Times reading and writing the image of a dense table beside copies of it: `bench_image ROWS TIMES`.
 //!
-//! Each is done TIMES times, in turns, in memory that is asked for each time. Standard output says how many bytes the
-//! image has, standard error how many microseconds the shortest of each took. Where nothing is measured, standard
-//! error says why, and the status is 2 for words that are wrong, and 1 where memory, the clock or an output failed.
+//! Each is done TIMES times, in turns, in new memory each time. Standard output gets the length of the image in bytes,
+//! standard error the least time of each, in microseconds. If nothing is measured, standard error says why. The status
+//! is 2 for wrong words, and 1 if memory, the clock or an output failed.
 #![tactic(auto)]
 
 ghost use Rattle.std.specs.Prelude.{◌≤◌, IfOk};
@@ -26,7 +26,7 @@ enum Fault {
     /// The words are wrong.
     #[error("usage: bench_image ROWS TIMES, with 3 to 1000000 rows")]
     Usage,
-    /// An image wasn't read.
+    /// An image was rejected.
     #[error("{0}")]
     Refused(#[from] DeserializeError),
     /// Memory ran out.

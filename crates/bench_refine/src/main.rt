@@ -1,10 +1,9 @@
-//! Times the refinement on one table: `bench_refine KIND ROWS UNITS`, where KIND is `chain`, `random`,
-//! `twins` or `grid`.
+//! Times the refinement of one table: `bench_refine KIND ROWS UNITS`, where KIND is `chain`, `random`, `twins` or
+//! `grid`.
 //!
-//! Standard output says how many blocks there are, and the steps taken beside their limit. Standard
-//! error says how long the lists took to build, and how long the refinement took. Where nothing is
-//! measured, standard error says why, and the status is 2 for words that are wrong, 3 for an unknown kind
-//! of table, and 1 where memory, the clock or an output failed.
+//! Standard output gets the number of blocks, the steps and their limit. Standard error gets the times of building the
+//! lists and of the refinement. If nothing is measured, standard error says why. The status is 2 for wrong words, 3 for
+//! an unknown kind of table, and 1 if memory, the clock or an output failed.
 #![tactic(auto)]
 
 ghost use Rattle.std.specs.Prelude.{◌≡◌, ℕ, ◌+◌, ◌*◌, ◌<◌, ◌≤◌, ◌^◌, length, All, IfOk};

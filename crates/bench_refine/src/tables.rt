@@ -7,7 +7,7 @@ use std::alloc::{AllocError, Global};
 /// How the rows of a table lead to one another.
 #[derive(Clone, Copy, Debug, PartialEq, Eq)]
 pub enum Kind {
-    /// Each unit leads to the row behind. The last row has a label of its own.
+    /// Each unit leads to the next row. The last row has a label of its own.
     Chain,
     /// Each unit leads to some row. Labels are random too.
     Random,
@@ -55,7 +55,7 @@ pub fn labels(alloc: Global, kind: Kind, rows: usize) -> Result<Vec<u32>, AllocE
     Ok(labels)
 }
 
-/// The shorter side of a rectangle of so many rows that is as near to a square as can be.
+/// The shorter side of the rectangle of `rows` rows that is closest to a square.
 fn side_of(rows: usize) -> usize
     requires { rows ≤ 1000000 }
     ensures { result ≤ 1000 }
@@ -91,7 +91,7 @@ fn next_row(kind: Kind, rows: usize, side: usize, row: usize, unit: usize, seed:
     }
 }
 
-/// The row so many places on, or the same row where there is none.
+/// The row `by` rows after this one, or this row if there is none.
 fn step(rows: usize, row: usize, by: usize) -> usize
     requires row { row < rows }
     requires rows { rows ≤ 1000000 }

@@ -1,11 +1,11 @@
 //! Times the token scanner: `bench_scan FORM IMAGE TEXT TIMES`, where FORM is `dense` or `sparse`.
 //!
-//! IMAGE is the file of an image of that form, as `image all` writes it, and TEXT a file. The text is cut into tokens
-//! TIMES times. Standard output says how many tokens there are, the sum of their patterns and of their lines, and where
-//! they end; standard error the least time in microseconds.
+//! IMAGE is a file with an image of that form, as `image all` writes it, and TEXT is a file. The text is cut into
+//! tokens TIMES times. Standard output gets the number of tokens, the sum of their patterns and of their lines, and
+//! where they end. Standard error gets the least time in microseconds.
 //!
-//! Where nothing is measured, standard error says why, and the status is 2 for words that are wrong, and 1 where
-//! memory, the clock, a file or an output failed.
+//! If nothing is measured, standard error says why. The status is 2 for wrong words, and 1 if memory, the clock, a file
+//! or an output failed.
 #![tactic(auto)]
 
 use rx_dense::DFA;
@@ -27,7 +27,7 @@ enum Fault {
     /// The words are wrong.
     #[error("usage: bench_scan dense|sparse IMAGE TEXT TIMES")]
     Usage,
-    /// An image wasn't read.
+    /// An image was rejected.
     #[error("{0}")]
     Refused(#[from] DeserializeError),
     /// Memory ran out, or the words, the clock, a file or an output failed.
@@ -35,7 +35,7 @@ enum Fault {
     Io(#[from] io::Error),
 }
 
-/// What was told of a text.
+/// The sums over the tokens of a text.
 #[derive(Clone, Copy)]
 struct Totals {
     tokens: u64,
@@ -81,7 +81,7 @@ fn run(rt: &HostRuntime) -> Result<(), Fault> {
     Ok(())
 }
 
-/// Cuts a text into tokens, and adds up what is told of them.
+/// Cuts a text into tokens and sums up their patterns and lines.
 fn scan<A: Automaton>(table: &A, text: &[u8]) -> Totals
     requires { A.IsSound table.now }
 {
@@ -103,7 +103,7 @@ fn scan<A: Automaton>(table: &A, text: &[u8]) -> Totals
     totals
 }
 
-/// Cuts a text into tokens so many times, and prints what was told and the least time that it took.
+/// Cuts a text into tokens TIMES times, and prints the sums and the least time.
 fn measure<A: Automaton>(
     rt: &(impl Print + Eprint + Clock),
     table: &A,

@@ -1,10 +1,9 @@
-//! Times searches of one dense table: `bench_search TABLE LEN EVERY TIMES`, where TABLE is `literal`, `halves`,
-//! `one`, `two` or `three`.
+//! Times searches of one dense table: `bench_search TABLE LEN EVERY TIMES`, where TABLE is `literal`, `halves`, `one`,
+//! `two` or `three`.
 //!
-//! The text has LEN bytes; each EVERY-th is a needle, and with EVERY 0 none is. Each search is made TIMES times.
-//! Standard output says what the searches answer, standard error how many microseconds the shortest of each took.
-//! Where nothing is measured, standard error says why, and the status is 2 for words that are wrong, and 1 where
-//! memory, the clock or an output failed.
+//! The text has LEN bytes; every EVERY-th byte is a needle, or none if EVERY is 0. Each search is made TIMES times.
+//! Standard output gets the results, standard error the least time of each search in microseconds. If nothing is
+//! measured, standard error says why. The status is 2 for wrong words, and 1 if memory, the clock or an output failed.
 #![tactic(auto)]
 
 ghost use Rattle.std.specs.Prelude.{◌≤◌, IfOk};
@@ -80,7 +79,7 @@ fn read_number(word: Option<String>, most: usize) -> Result<usize, Fault>
     }
 }
 
-/// Makes a search so many times, and prints what it answered and the least time that it took.
+/// Makes a search TIMES times, and prints the result and the least time.
 fn measure(
     rt: &(impl Print + Eprint + Clock),
     search: Search,

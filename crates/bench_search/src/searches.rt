@@ -1,6 +1,6 @@
 //! The searches that are timed.
 //!
-//! Each is a function of its own that isn't inlined, so that none is built for the one table that it is given.
+//! Each is a function of its own that isn't inlined, so that the compiler doesn't specialize it for one table.
 
 ghost use Rattle.std.specs.Prelude.{◌<◌, length, IfSome};
 ghost use Rattle.rx_dense.specs.Facts.{IsSoundLayout};
@@ -26,15 +26,15 @@ pub enum Search {
     Forward,
     /// A search in reverse.
     Reverse,
-    /// A forward search that counts its steps, whose number isn't read.
+    /// A forward search that counts its steps. The count isn't read.
     Counted,
-    /// The same, whose number is read.
+    /// The same search. The count is read.
     Steps,
-    /// The needles of the row where a search starts, sought with `memchr` alone, one after another.
+    /// Finds the needles of the start state with `memchr` alone, one after another.
     Memchr,
 }
 
-/// What a search answers.
+/// The result of a search.
 #[derive(Debug, Drop)]
 pub enum Answer {
     /// The match, if there is one.

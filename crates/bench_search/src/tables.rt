@@ -14,16 +14,16 @@ use thiserror::Error;
 /// The needles of accelerated rows. No letter of a text is one.
 pub const NEEDLES: [u8; 3] = *b"xyz";
 
-/// What the rows of a table for a literal wait for, one after another.
+/// The letters that the states of the table `literal` wait for, one after another.
 const LITERAL: [u8; 7] = *b"literal";
 
 /// Half of the letters of a text.
 const HALF: [u8; 12] = *b"abcdefghijkl";
 
-/// The row that ends a search at a byte that can't be searched.
+/// The quit row.
 const QUIT: usize = 1;
 
-/// The row in which searches start.
+/// The start row.
 const HOME: usize = 2;
 
 /// Why there is no table.
@@ -37,14 +37,14 @@ pub enum TableError {
     Memory(#[from] AllocError),
 }
 
-/// What a table has to remember of the bytes that are read. None has a match row, so a search reads the whole text.
+/// What a table remembers of the bytes read. No table has a match state, so a search reads the whole text.
 #[derive(Clone, Copy, Debug)]
 pub enum Kind {
-    /// How many letters of a literal were read since the last wrong one.
+    /// The number of letters of a literal read since the last wrong one.
     Literal,
-    /// Whether the last byte was in one half of the letters, so that a text leads to and fro between two rows.
+    /// Whether the last byte was in one half of the letters, so that a text leads to and fro between two states.
     Halves,
-    /// Whether the last byte was a needle, of which there is one. The row where it wasn't is accelerated.
+    /// Whether the last byte was a needle, of which there is one. The state for the other bytes is accelerated.
     One,
     /// The same with two needles.
     Two,
@@ -66,7 +66,7 @@ impl Kind {
     }
 }
 
-/// A table that is sound.
+/// A sound table.
 pub fn make_table(alloc: Global, kind: Kind) -> Result<OwnedDFA, TableError>
     ensures { IfOk result IsSoundLayout }
 {
@@ -105,7 +105,7 @@ fn make_halves(alloc: Global) -> Result<OwnedDFA, TableError>
     Ok(dfa)
 }
 
-/// A table with so many needles.
+/// A table with `count` needles.
 fn make_accelerated(alloc: Global, count: usize) -> Result<OwnedDFA, TableError>
     requires some { 1 ≤ count }
     requires few { count ≤ 3 }
@@ -119,7 +119,7 @@ fn make_accelerated(alloc: Global, count: usize) -> Result<OwnedDFA, TableError>
     Ok(dfa)
 }
 
-/// A table of so many rows, in which each byte leads to dead, and a class for each byte.
+/// A table of `rows` rows in which each byte leads to dead, with a class for each byte.
 fn begin_table(alloc: Global, rows: usize) -> Result<OwnedDFA, TableError>
     requires some { 3 ≤ rows }
     requires few { rows ≤ 9 }
@@ -156,7 +156,7 @@ fn row_id(row: usize) -> StateID
     StateID::must(row * 512)
 }
 
-/// Lets some bytes lead from a row to `inside`, and all others to `outside`.
+/// Sets the transitions of a row: some bytes lead to `inside`, all others to `outside`.
 fn fill_row(dfa: &mut OwnedDFA, row: usize, bytes: &[u8], inside: usize, outside: usize)
     requires begun { IsBegun dfa.old }
     requires few { row_count dfa.old ≤ 9 }
@@ -190,7 +190,7 @@ fn set_quit(dfa: &mut OwnedDFA)
     dfa.set_special(special);
 }
 
-/// Names the quit row and the row in which searches start, which is accelerated with so many needles.
+/// Names the quit row and the start row, which is accelerated with `count` needles.
 fn accelerate(alloc: Global, dfa: &mut OwnedDFA, count: usize) -> Result<(), AllocError>
     requires begun { IsBegun dfa.old }
     requires rows { 3 ≤ row_count dfa.old }

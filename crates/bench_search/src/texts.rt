@@ -6,11 +6,11 @@ use crate::tables::NEEDLES;
 use std::alloc::Global;
 use std::io;
 
-/// From how many letters a text is drawn: those from `a` on, none of which is a needle.
+/// The number of letters in a text, from `a` on. None of them is a needle.
 const LETTERS: u64 = 23;
 
-/// A text of pseudo-random letters, in which each byte whose number `every` divides is the first needle. With 0 none
-/// is.
+/// A text of pseudo-random letters in which each byte whose offset is a multiple of `every` is the first needle. With
+/// `every` = 0 none is.
 pub fn make_text(alloc: Global, len: usize, every: usize) -> io::Result<Vec<u8>>
     ensures { IfOk result (λ text. length text.items ≡ len) }
 {
@@ -26,7 +26,7 @@ pub fn make_text(alloc: Global, len: usize, every: usize) -> io::Result<Vec<u8>>
     Ok(text)
 }
 
-/// A letter, by a number's high bits.
+/// A letter chosen by the high bits of a number.
 fn letter(seed: u64) -> u8 {
     b'a' + ((seed >> 33) % LETTERS) as u8
 }

@@ -1,12 +1,12 @@
-//! Times a searcher that is fed in pieces beside a forward search: `bench_stream FORM IMAGE TEXT TIMES`, where
-//! FORM is `dense` or `sparse`.
+//! Times a search of a text in pieces beside a forward search: `bench_stream FORM IMAGE TEXT TIMES`, where FORM is
+//! `dense` or `sparse`.
 //!
-//! IMAGE is the file of an image of that form, as `image all` writes it, and TEXT a file in which nothing matches.
-//! The text is searched whole, and fed in pieces of 4096 and of 65,536 bytes, each TIMES times. Standard output says
-//! what each way answers, standard error its least time in microseconds.
+//! IMAGE is a file with an image of that form, as `image all` writes it, and TEXT is a file in which nothing matches.
+//! The text is searched whole, and in pieces of 4,096 and of 65,536 bytes, each TIMES times. Standard output gets the
+//! results, standard error the least time of each in microseconds.
 //!
-//! Where nothing is measured, standard error says why, and the status is 2 for words that are wrong, and 1 where
-//! memory, the clock, a file, an image, a search or an output failed.
+//! If nothing is measured, standard error says why. The status is 2 for wrong words, and 1 if memory, the clock, a
+//! file, an image, a search or an output failed.
 #![tactic(auto)]
 
 ghost use Rattle.std.specs.Prelude.{◌≤◌, ◌^◌, length};
@@ -34,7 +34,7 @@ enum Fault {
     /// The words are wrong, or the text is too long.
     #[error("usage: bench_stream dense|sparse IMAGE TEXT TIMES")]
     Usage,
-    /// An image wasn't read.
+    /// An image was rejected.
     #[error("{0}")]
     Refused(#[from] DeserializeError),
     /// A search ended by an error.
@@ -45,7 +45,7 @@ enum Fault {
     Io(#[from] io::Error),
 }
 
-/// The ways to search a text: whole, or in pieces of so many bytes.
+/// The ways to search a text: whole, or in pieces of this length.
 const WAYS: [Option<usize>; 3] = [None, Some(4096), Some(65536)];
 
 fn main(rt: HostRuntime) -> ExitCode {
@@ -103,7 +103,7 @@ fn measure_all<A: Automaton>(
     Ok(())
 }
 
-/// Searches a text in one way so many times, and prints what was told and the least time.
+/// Searches a text in one way TIMES times, and prints the result and the least time.
 fn measure<A: Automaton>(
     rt: &(impl Print + Eprint + Clock),
     table: &A,

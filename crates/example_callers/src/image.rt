@@ -20,7 +20,7 @@ pub fn first(tables: &Tables<'_>, text: &[u8]) -> Result<Option<Match>, MatchErr
     }
 }
 
-/// What the search of a text answers, unless the image is refused.
+/// What the search of a text returns, unless the reader rejects the image.
 pub fn first_by_image(
     alloc: Global,
     image: &[u8],

@@ -1,11 +1,11 @@
-//! An embedded searcher: tells where alarms end in a text that comes in small pieces.
+//! An embedded searcher: reports where alarms end in a text that comes in small pieces.
 //!
 //! The table is part of the program: `image.rt` has the bytes of a sparse image, which `image all le` wrote for the
-//! patterns of `data/alarms.patterns`. It is searched where it lies. Once the image is checked nothing takes memory:
-//! the text goes through a buffer of 64 bytes, and a match may begin in one piece and end in another.
+//! patterns of `data/alarms.patterns`, and it is searched in place. Memory is taken only while the image is checked.
+//! The text goes through a buffer of 64 bytes, and a match may begin in one piece and end in another.
 //!
 //! Each match is a line: its pattern and the offset of its end. The status is 1 if nothing matches, 2 if the image is
-//! refused, a quit byte was met or the text has more than 2^40 bytes, and 3 if the input or the output failed.
+//! rejected, a quit byte was read or the text has more than 2^40 bytes, and 3 if the input or the output failed.
 #![tactic(auto)]
 
 ghost use Rattle.std.specs.Prelude.{◌+◌, ◌≤◌, ◌^◌, length};
@@ -21,10 +21,10 @@ use rx_stream::{StreamEvent, StreamSearcher};
 use std::io::{self, Read};
 use std::process::ExitCode;
 
-/// How many bytes a piece has, at most.
+/// The greatest length of a piece in bytes.
 const PIECE: usize = 64;
 
-/// How many bytes a text may have.
+/// The greatest length of a text in bytes.
 const MOST: u64 = 1 << 40;
 
 fn main(rt: HostRuntime) -> ExitCode {
@@ -47,8 +47,8 @@ fn tell(rt: &HostRuntime, event: &StreamEvent) -> io::Result<()> {
     Ok(())
 }
 
-/// Feeds a piece, and tells each match in it as it comes. The answer is how many there were, or none at a quit byte or
-/// behind the longest text.
+/// Feeds a piece and reports each match as it comes. Returns the number of matches, or `None` at a quit byte or after
+/// the longest text.
 fn feed(
     rt: &HostRuntime,
     searcher: &mut StreamSearcher<&DFA<&[u8]>>,
@@ -74,7 +74,7 @@ fn feed(
     Ok(None)
 }
 
-/// Tells the matches that the end of the text decides. The answer is how many there were.
+/// Reports the matches that the end of the text decides. Returns their number.
 fn finish(rt: &HostRuntime, searcher: &mut StreamSearcher<&DFA<&[u8]>>) -> io::Result<u64> {
     let mut told: u64 = 0;
     for _ in 0..MOST {
@@ -87,8 +87,7 @@ fn finish(rt: &HostRuntime, searcher: &mut StreamSearcher<&DFA<&[u8]>>) -> io::R
     Ok(told)
 }
 
-/// Searches standard input, piece by piece. The answer is how many matches there were, or none where the search
-/// stopped.
+/// Searches standard input piece by piece. Returns the number of matches, or `None` if the search stopped early.
 fn search(rt: &HostRuntime, table: &DFA<&[u8]>) -> io::Result<Option<u64>>
     requires { IsSoundLayout table.now.layout }
 {

@@ -1,12 +1,13 @@
 //! A lexer: writes the tokens of a source file of a small language, which comes on standard input.
 //!
-//! `example_lexer IMAGE`: the rules are in `data/lexer.patterns`, one a line; of two that match as much the earlier one
-//! wins, so keywords stand before names. Their table was built once, by `tools/script` and `image all le`, as the image
-//! `data/lexer.image`. The program has no expression at hand: it reads the image, and one loop is the lexer.
+//! `example_lexer IMAGE`: the rules are in `data/lexer.patterns`, one on each line. Of two rules with matches of the
+//! same length the earlier one wins, so keywords come before names. `tools/script` and `image all le` built their table
+//! once, as the image `data/lexer.image`. The program has no expressions: it reads the image, and one loop is the
+//! lexer.
 //!
-//! Each token is a line: its line and column, its kind and its text. Spaces and comments aren't told. The status is 1
-//! if no rule matches at some place; 2 for wrong words, a file that is no such image, or a table that gave up, and 3 if
-//! memory, an input or an output failed.
+//! Each token is a line: its line and column, its kind and its text. Spaces and comments are left out. The status is 1
+//! if no rule matches at some place, 2 for wrong words, a file that isn't such an image or a table that gave up, and 3
+//! if memory, an input or an output failed.
 #![tactic(auto)]
 
 ghost use Rattle.rx_sparse.specs.Facts.{IsSoundLayout};
@@ -25,10 +26,10 @@ const KINDS: [&str; 8] = [
     "space", "comment", "keyword", "name", "number", "text", "operator", "mark",
 ];
 
-/// How many of the rules aren't told: spaces and comments.
+/// The number of rules whose tokens are left out: spaces and comments.
 const SILENT: usize = 2;
 
-/// Why the tokens of a file aren't all told.
+/// Why not all tokens were written.
 #[derive(Debug, Drop, Error)]
 enum Fault {
     /// The words are wrong.

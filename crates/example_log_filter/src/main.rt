@@ -1,11 +1,11 @@
-//! A log filter: copies the lines of standard input in which a match begins. Each match is sought behind the last one.
+//! A log filter: copies the lines of standard input in which a match begins. Each match is sought after the last one.
 //!
-//! `example_log_filter IMAGE`: the filter is in `data/upgrades.script`. Its two tables were built once, by `image pair
-//! le`, as the image `data/upgrades.pair`. The text is searched whole and not line by line, so the lines between two
-//! matches cost the walk over them and nothing else.
+//! `example_log_filter IMAGE`: the filter is in `data/upgrades.script`. `image pair le` built its two tables once, as
+//! the image `data/upgrades.pair`. The text is searched whole and not line by line, so lines without a match only cost
+//! the search over them.
 //!
-//! The status is 0 if a line was copied and 1 if none was, as `grep` has it; 2 for wrong words, a file that is no such
-//! image, or a search that gave up, and 3 if memory, an input or an output failed.
+//! The status is 0 if a line was copied and 1 if none was, like `grep`'s, 2 for wrong words, a file that isn't such an
+//! image or a search that gave up, and 3 if memory, an input or an output failed.
 #![tactic(auto)]
 
 ghost use Rattle.std.specs.Prelude.{◌≤◌, length};
@@ -30,7 +30,7 @@ enum Fault {
     /// The file isn't the image of a pair.
     #[error("the file is no image of a pair of tables")]
     Image,
-    /// A search met a quit byte, or the tables don't belong together.
+    /// A search read a quit byte, or the tables don't belong together.
     #[error("{0}")]
     Search(#[from] MatchError),
     /// Memory ran out, or an input or an output failed.
@@ -57,7 +57,7 @@ fn line_at(text: &[u8], at: usize) -> Span
     Span { start, end }
 }
 
-/// Copies the lines in which a match begins, and tells how many there are.
+/// Copies the lines in which a match begins, and returns their number.
 fn copy_lines<A: Automaton, W: Write>(
     out: &mut W,
     regex: &Regex<A>,

@@ -1,11 +1,11 @@
-//! A router: tells for each path on standard input which routes match it whole.
+//! A router: prints for each path on standard input which routes match it whole.
 //!
-//! `example_router IMAGE`: the routes are in `data/routes.patterns`. Their table was built once, by `tools/script` and
-//! `image all le`, as the image `data/routes.image`. One walk over a path tells all routes that match, however many
-//! there are.
+//! `example_router IMAGE`: the routes are in `data/routes.patterns`. `tools/script` and `image all le` built their
+//! table once, as the image `data/routes.image`. One walk over a path finds all routes that match, however many there
+//! are.
 //!
-//! Each path is a line: the path, and the names of its routes. The status is 2 for wrong words, a file that is no such
-//! image, or a search that gave up, and 3 if memory, an input or an output failed.
+//! Each path is a line: the path, and the names of its routes. The status is 2 for wrong words, a file that isn't such
+//! an image or a search that gave up, and 3 if memory, an input or an output failed.
 #![tactic(auto)]
 
 ghost use Rattle.rx_dense.specs.Facts.{IsSoundLayout};
@@ -24,7 +24,7 @@ use thiserror::Error;
 /// The names of the routes, one for each pattern.
 const ROUTES: [&str; 6] = ["home", "users", "user", "posts", "post", "file"];
 
-/// Why paths aren't told their routes.
+/// Why paths weren't routed.
 #[derive(Debug, Drop, Error)]
 enum Fault {
     /// The words are wrong.
@@ -33,7 +33,7 @@ enum Fault {
     /// The file isn't the image of a dense table.
     #[error("{0}")]
     Image(#[from] DeserializeError),
-    /// A search met a quit byte, or the table has no anchored starts.
+    /// A search read a quit byte, or the table has no anchored start states.
     #[error("{0}")]
     Search(#[from] MatchError),
     /// Memory ran out, or an input or an output failed.
@@ -60,7 +60,7 @@ fn tell<W: Write>(out: &mut W, path: &str, matched: &PatternSet) -> io::Result<(
     out.write_all(b"\n")
 }
 
-/// Tells the routes of each path.
+/// Prints the routes of each path.
 fn route(rt: &HostRuntime, table: &OwnedDFA) -> Result<(), Fault>
     requires { IsSoundLayout table.now }
 {
@@ -76,7 +76,7 @@ fn route(rt: &HostRuntime, table: &OwnedDFA) -> Result<(), Fault>
     Ok(())
 }
 
-/// Reads the image, and tells the routes of the paths that come.
+/// Reads the image and routes the paths that come.
 fn run(rt: &HostRuntime) -> Result<(), Fault> {
     let file = env::args(rt)?.nth(1).ok_or(Fault::Usage)?;
     let image = fs::read(rt, file.as_str())?;

@@ -1,7 +1,7 @@
-//! The program: its arguments are the words, standard input is the source, and standard output the sink.
+//! The program: passes the command line's words, standard input and standard output to `rx_main::run`.
 //!
-//! All that it does stands in `rx_main`. The status is that of `run`; it is 7 where the arguments can't
-//! be kept, and 8 where the program isn't given any, not even its own name.
+//! The exit status is that of `run`. It is 7 if memory for the arguments runs out, and 8 if the system passes no
+//! arguments, not even the program's name.
 #![tactic(auto)]
 
 use rx_base::{ReadSource, WriteSink};
@@ -10,12 +10,12 @@ use std::alloc::{AllocError, Global};
 use std::env::{Env, FillError};
 use std::process::ExitCode;
 
-/// The status where the arguments can't be kept.
+/// The exit status if memory for the arguments runs out.
 const NO_MEMORY: u8 = 7;
-/// The status where there are no arguments.
+/// The exit status if there are no arguments.
 const NO_ARGUMENTS: u8 = 8;
 
-/// An argument, if there is one of this number.
+/// The argument at an index, or `None` if there are fewer.
 fn argument<E: Env>(env: &E, alloc: Global, index: usize) -> Result<Option<Vec<u8>>, AllocError> {
     let mut room: usize = 256;
     for _ in 0..usize::BITS {
@@ -32,7 +32,7 @@ fn argument<E: Env>(env: &E, alloc: Global, index: usize) -> Result<Option<Vec<u
     Err(AllocError)
 }
 
-/// The arguments after the program's name, or none where even that is missing.
+/// The arguments after the program's name, or `None` if even that is missing.
 fn arguments<E: Env>(env: &E, alloc: Global) -> Result<Option<Words>, AllocError> {
     if argument(env, alloc, 0)?.is_none() {
         return Ok(None);

@@ -1,4 +1,4 @@
--- The table of a plan that tells all matches, and why it is refused.
+-- The table of a plan that reports all matches, and the causes that refuse its build.
 use Rattle.std.specs.Prelude.{List, length}
 use Rattle.rx_spec.specs.Builds.{Build}
 use Rattle.rx_spec.specs.Causes.{BuildFits, BuildRefused, NfaFits, NfaRefused}

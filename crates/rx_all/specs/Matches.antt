@@ -1,4 +1,4 @@
--- All matches of some expressions from a place of a text on, and what a table that is built for them tells there.
+-- All matches of some expressions from a place of a text, and what a table built for them reports from there.
 use Rattle.std.specs.Prelude.{ℕ, ◌≡◌, ◌<◌, ◌↔◌, false, Some, List, length, slice_get, Contains, All}
 use Rattle.rx_spec.specs.Bytes.{AreBytes, contains}
 use Rattle.rx_spec.specs.Builds.{Build, build_settings}

@@ -1,4 +1,4 @@
--- What is built by some settings, of an NFA or of expressions, and why it isn't.
+-- What is built by some settings, of an NFA or of expressions (`IsBuilt`), and which causes refuse a build.
 use Rattle.std.specs.Prelude.{ℕ, ◌≡◌, ◌≢◌, ◌<◌, ◌&&◌, true, false, List, length}
 use Rattle.rx_spec.specs.Builds.{Build, built_modes}
 use Rattle.rx_spec.specs.Causes.{Limits, BuildFits, BuildRefused, NfaRefused}

@@ -1,4 +1,4 @@
--- A table on its way through a build, step by step.
+-- A table after each step of a build.
 use Rattle.std.specs.Prelude.{ℕ, ◌≡◌, ◌<◌, ◌&&◌, Bool, true, false, length}
 use Rattle.rx_spec.specs.Builds.{Build, built_modes}
 use Rattle.rx_spec.specs.Labels.{Gives}

@@ -1,4 +1,4 @@
--- Settings of the build of a dense table.
+-- Settings of a build of a dense table.
 use Rattle.std.specs.Prelude.{ℕ, ◌≡◌, ◌==◌, Bool, true, false, if◌then◌else◌, Option, None, is_some, unwrap_or}
 use Rattle.std.specs.Option.{option_or}
 use Rattle.rx_spec.specs.Bytes.{contains}

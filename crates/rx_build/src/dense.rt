@@ -1,4 +1,4 @@
-//! Dense tables of patterns, and how they are built.
+//! Dense tables: their builder and its settings.
 
 mod builder;
 mod classes;

@@ -1,13 +1,13 @@
-//! Tables of patterns: expressions or an NFA, made into a dense table.
+//! Builds dense tables of expressions or of an NFA.
 //!
-//! [`dense::Builder`] does it by the settings of a [`dense::Config`]: an NFA is determinized, its rows are joined where
-//! they behave alike, those that a search may skip from get their needles, and start rows get their marks. The parts
-//! stand in crates of their own and are handed on: [`determinize`], [`shuffle`], [`Minimizer`], [`accelerate`],
-//! [`Remapper`].
+//! [`dense::Builder`] builds by the settings of a [`dense::Config`]. It determinizes the NFA, minimizes and accelerates
+//! the table if asked to, and keeps or removes the marks of start states. Each step has a crate of its own and is
+//! exported here: [`determinize`], [`shuffle`], [`Minimizer`], [`accelerate`], [`Remapper`].
 //!
-//! The contract: a table that is built says of every word what the powerset machine of its build says, is that machine
-//! with its rows at other places unless it was minimized, and then has the fewest rows (`specs/Built.antt`). A refusal
-//! names a cause that holds. [`laws`]: it answers every search as that machine does.
+//! The contract (`specs/Built.antt`): on every word a built table reports what the powerset machine of its build
+//! reports. Without minimizing it is that machine with its states in another order. With minimizing no table that
+//! reports the same has fewer states. An error names a cause that holds. [`laws`]: a built table answers every search
+//! as that machine does.
 #![tactic(auto)]
 
 pub mod dense;

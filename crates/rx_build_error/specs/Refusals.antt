@@ -1,4 +1,4 @@
--- The causes of the definitions that refused builds name.
+-- The cause of the definitions that each kind of build error names.
 use Rattle.std.specs.Prelude.{Bool, true, false}
 use Rattle.rx_spec.specs.Builds.{Build}
 use Rattle.rx_spec.specs.Causes.{Limits, NfaCause, BuildCause, BuildRefused}

@@ -1,7 +1,7 @@
-//! Why no table is built.
+//! Why a build fails.
 //!
-//! A [`BuildError`] has a kind. Each kind but the want of memory names a cause of the definitions
-//! (`specs/Refusals.antt`), and whoever refuses a build says in its contract that this cause holds.
+//! A [`BuildError`] has a kind. Each kind but `Memory` names a cause of the definitions (`specs/Refusals.antt`), and
+//! each function that returns one says in its contract that this cause holds.
 #![tactic(auto)]
 
 ghost use Rattle.std.specs.Prelude.{◌≡◌};
@@ -11,7 +11,7 @@ use rx_expr::thompson;
 use std::alloc::AllocError;
 use thiserror::Error;
 
-/// Why a build is refused.
+/// Why a build fails.
 #[derive(Clone, Debug, Drop, Error)]
 #[error("{kind}")]
 pub struct BuildError {
@@ -19,21 +19,22 @@ pub struct BuildError {
     pub kind: BuildErrorKind,
 }
 
-/// The reasons for which a build is refused.
+/// The causes for which a build fails.
 #[derive(Clone, Debug, Drop, Error)]
 pub enum BuildErrorKind {
-    /// The NFA is refused. [`BuildErrorKind::Memory`] stands for its want of memory.
+    /// The NFA has too many patterns or states, or passes its size limit. If the NFA runs out of memory, the kind is
+    /// [`BuildErrorKind::Memory`].
     #[error("error building NFA")]
     NFA(thompson::BuildError),
-    /// An expression has a Unicode word assertion, and a byte from 0x80 on is no quit byte.
+    /// An expression has a Unicode word assertion, and some byte from 0x80 on isn't a quit byte.
     #[error("unsupported regex feature for DFAs: cannot build DFAs for regexes with Unicode word boundaries; \
              switch to ASCII word boundaries, or heuristically enable Unicode word boundaries or use a different \
              regex engine")]
     Unsupported,
-    /// A row's id would be above the greatest id.
+    /// The table needs more state ids than there are.
     #[error("number of DFA states exceeds limit of 2147483647")]
     TooManyStates,
-    /// The lists of patterns of all match rows are together longer than the greatest id.
+    /// The pattern lists of all match states are together longer than the greatest id.
     #[error("compiling DFA with total patterns in all match states exceeds limit of 2147483647")]
     TooManyMatchPatternIDs,
     /// The table would take more bytes than the limit.
@@ -42,7 +43,7 @@ pub enum BuildErrorKind {
         /// The limit, in bytes.
         limit: usize,
     },
-    /// The states of the construction would take more bytes than the limit.
+    /// The construction's states would take more bytes than the limit.
     #[error("determinization exceeded size limit of {limit}")]
     DeterminizeExceededSizeLimit {
         /// The limit, in bytes.
@@ -61,8 +62,8 @@ impl BuildError {
         &self.kind
     }
 
-    /// Whether a number or a size passes its limit: the rows, the patterns of all match rows, or the bytes of the table
-    /// or of its construction.
+    /// Whether the build failed because something is too large: too many states, too long pattern lists, or a size
+    /// limit of the table or of its construction.
     pub fn is_size_limit_exceeded(&self) -> bool
         ensures { result ≡ is_size_limit self.now.kind }
     {

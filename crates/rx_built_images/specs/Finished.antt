@@ -1,4 +1,4 @@
--- Tables that are ready to be written.
+-- Tables that are complete and can be written.
 use Rattle.std.specs.Prelude.{◌≡◌, ◌^◌, ◌<◌, length}
 use Rattle.rx_dense.specs.Builder.{with_universal_starts}
 use Rattle.rx_dense.specs.Layouts.{IsShaped, Layout}

@@ -1,4 +1,4 @@
-//! Dense tables as images: the layout of a table in order can be read again, and so can that of a built one.
+//! Dense tables: the image of a table in order, and of a built one, is read again.
 
 ghost use Rattle.std.specs.Prelude.{◌^◌, ◌<◌};
 ghost use Rattle.rx_spec.specs.Nfas.{Nfa};
@@ -8,15 +8,15 @@ ghost use Rattle.rx_build.specs.Settings.{Settled};
 ghost use Rattle.rx_dense_image.specs.Images.{IsWhole};
 ghost use Rattle.rx_built_images.specs.Finished.{IsFinished};
 
-/// A table in order that has what belongs to its rows has a layout that can be read. So an image of it is read as what
-/// it was written of, in either order of bytes and whatever follows it (`rx_dense_image::laws`).
+/// A table in order whose lists belong to its states has a layout that can be read (`IsWhole`). So an image of it is
+/// read as the table that was written, in either byte order and whatever bytes follow (`rx_dense_image::laws`).
 #[tactic(auto, using(crate::proofs::Whole::whole))]
 pub fn finished_tables_are_whole()
     ensures { (l : Layout) → IsFinished l → IsWhole l }
 {}
 
-/// A built table has a layout that can be read, so what is written of it is read as it was. A quit set has no bit past
-/// the last byte, and each table that there is has its shape (`IsShaped`): both are facts of their types.
+/// A built table has a layout that can be read. The law asks that its quit set has no bit past the last byte and that
+/// the table is well formed (`IsShaped`): both are invariants of the types.
 #[tactic(auto, using(crate::proofs::BuiltTables::built_whole))]
 pub fn built_tables_are_whole()
     ensures { (s : Settled) (nfa : Nfa) (l : Layout) → s.quit < 2 ^ 256 → IsShaped l → IsBuilt s nfa l → IsWhole l }

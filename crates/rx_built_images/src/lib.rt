@@ -1,8 +1,8 @@
-//! Built tables as images.
+//! Images of built tables are read again.
 //!
-//! The readers say which layouts they read again (`IsWhole` of `rx_dense_image` and of `rx_sparse_image`). Each
-//! function here has an empty body, and its clause is a law: the layout of a built table is one of these. [`dense`]
-//! says so of dense tables, and [`sparse`] of the sparse tables that are made of them.
+//! `IsWhole` of `rx_dense_image` and of `rx_sparse_image` states which layouts are read as they were written. The
+//! functions here have empty bodies, and their clauses are laws: the layout of a built table is such a one. [`dense`]
+//! has the laws of dense tables, [`sparse`] those of the sparse tables that are made of them.
 #![tactic(auto)]
 
 pub mod dense;

@@ -1,5 +1,5 @@
-//! Sparse tables as images: the sparse table of a dense one that can be read can be read too, and so can each that is
-//! built.
+//! Sparse tables: the image of a built one is read again, and so is that of the sparse form of any dense table that can
+//! be read.
 
 ghost use Rattle.std.specs.Prelude.{◌^◌, ◌<◌, ◌≤◌};
 ghost use Rattle.rx_spec.specs.Causes.{max_id};
@@ -13,20 +13,20 @@ ghost use Rattle.rx_sparse.specs.Sparse.{sparse_len, sparse_of};
 ghost use Rattle.rx_sparse_build.specs.Built.{IsSparse};
 ghost use Rattle.rx_sparse_image.specs.Tested.{IsWhole};
 
-/// A dense table that can be read has a sparse table that can be read, unless that is longer than there are ids. So an
-/// image of it is read as what it was written of, in either order of bytes and whatever follows it
-/// (`rx_sparse_image::laws`). What `rx_dense_image` reads is such a table, whoever wrote it.
+/// The sparse form of a dense table that can be read can be read too, unless its states have more bytes than there are
+/// ids. So an image of it is read as the table that was written, in either byte order and whatever bytes follow
+/// (`rx_sparse_image::laws`). Every table that `rx_dense_image` reads is such a dense table, whoever wrote it.
 pub fn sparse_tables_are_whole()
     ensures { (l : Layout) → IsWholeDense l → sparse_len l ≤ max_id → IsWhole (sparse_of l) }
 {}
 
-/// A dense table in order that has what belongs to its rows can be read, so its sparse table can.
+/// A dense table in order whose lists belong to its states can be read, so its sparse form can.
 pub fn finished_tables_are_whole()
     ensures { (l : Layout) → IsFinished l → sparse_len l ≤ max_id → IsWhole (sparse_of l) }
 {}
 
-/// A built sparse table has a layout that can be read, so what is written of it is read as it was. A quit set has no
-/// bit past the last byte, which is a fact of its type.
+/// A built sparse table has a layout that can be read. The law asks that its quit set has no bit past the last byte,
+/// which is an invariant of its type.
 pub fn built_tables_are_whole()
     ensures { (s : Settled) (nfa : Nfa) (t : Stored) → s.quit < 2 ^ 256 → IsSparse s nfa t → IsWhole t.layout }
 {}

@@ -1,5 +1,4 @@
--- What must hold of all parts of an image together. With it, and with what each part has from its reading, the table
--- is sound.
+-- The tests of all parts of an image together. With them and the tests of each part the table is sound.
 use Rattle.std.specs.Prelude.{ℕ, ◌+◌, ◌-◌, ◌*◌, ◌/◌, ◌==◌, ◌&&◌, ◌||◌, nat_lt, nat_le, Bool, true}
 use Rattle.std.specs.Prelude.{not, if◌then◌else◌, Option, Some, None, List, [], length, take, filter, slice_index}
 use Rattle.std.specs.Prelude.{get_or}

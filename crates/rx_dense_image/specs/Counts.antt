@@ -1,4 +1,4 @@
--- Numbers among the pattern ids that are no ids of patterns.
+-- For each prefix of the pattern ids, how many of its numbers are no ids of patterns.
 use Rattle.std.specs.Prelude.{ℕ, Bool, nat_le, List, count_by}
 
 abbrev pub is_stranger : (pattern_len id : ℕ) → Bool

@@ -1,4 +1,4 @@
--- The head of a dense image: a label, the word that tells the order, the version, an unused word, and flags.
+-- The head of a dense image: a label, the word that marks the byte order, the version, an unused word, and flags.
 use Rattle.std.specs.Prelude.{ℕ, ◌+◌, ◌==◌, Bool, if◌then◌else◌, List, ◌++◌, Result, Ok, codes, take, drop}
 use Rattle.std.specs.Int.{w32, bit_at}
 use Rattle.std.specs.List.{prefix_len}

@@ -1,4 +1,5 @@
--- Dense images: the bytes of a layout, and the layout that bytes spell, or the first test that they fail.
+-- Dense images: `text` has the bytes of a layout, `reads` the layout that bytes spell, or the first test that they
+-- fail.
 use Rattle.std.specs.Prelude.{◌≡◌, ℕ, ◌+◌, ◌-◌, ◌*◌, true, if◌then◌else◌, List, ◌++◌, length, Result, Ok, Err}
 use Rattle.rx_wire.specs.declared.order.Order.{Order}
 use Rattle.rx_wire.specs.Kinds.{Kind, ◌>>=◌}

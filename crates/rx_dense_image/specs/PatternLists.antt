@@ -1,5 +1,5 @@
--- The patterns of match rows in an image: for each match row where its patterns begin among the pattern ids, and how
--- many there are; the number of patterns; and the pattern ids.
+-- The patterns of match rows in an image: for each match row the place and the length of its list among the pattern
+-- ids; the number of patterns; and the pattern ids.
 use Rattle.std.specs.Prelude.{◌≡◌, ℕ, ◌*◌, ◌/◌, ◌%◌, ◌^◌, ◌<◌, ◌≤◌, nat_le, if◌then◌else◌, List, ◌++◌, length}
 use Rattle.std.specs.Prelude.{Result, Ok, Err}
 use Rattle.std.specs.Int.{w32}

@@ -1,4 +1,4 @@
--- The rows of a dense image: how many there are, the exponent of the stride, the class of each byte, and the words.
+-- The rows of a dense image: their number, the base-2 logarithm of the stride, the class of each byte, and the words.
 use Rattle.std.specs.Prelude.{◌≡◌, ℕ, ◌+◌, ◌-◌, ◌*◌, ◌/◌, ◌%◌, ◌^◌, ◌<◌, ◌≤◌, ◌==◌, ◌&&◌, ◌||◌, nat_lt, nat_le, Bool}
 use Rattle.std.specs.Prelude.{not}
 use Rattle.std.specs.Prelude.{if◌then◌else◌, List, ◌++◌, length, map, take, drop, slice_index, Result, Ok, Err}

@@ -1,5 +1,5 @@
--- The start table of an image: for which modes there are start rows, the start context of each byte, how many patterns
--- have starts of their own, the universal starts, and the ids of the start rows.
+-- The start table of an image: the start kind, the start context of each byte, the number of patterns with start rows
+-- of their own, the universal starts, and the ids of the start rows.
 use Rattle.std.specs.Prelude.{◌≡◌, ℕ, ◌≤◌, ◌==◌, nat_lt, nat_le, if◌then◌else◌, Option, Some, None, List, ◌++◌}
 use Rattle.std.specs.Prelude.{length, map, Result, Ok, Err}
 use Rattle.std.specs.List.{list_all}

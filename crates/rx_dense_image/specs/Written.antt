@@ -1,4 +1,4 @@
--- Parts that are written one behind another.
+-- Writing parts one after another.
 use Rattle.std.specs.Prelude.{ℕ, List, ◌++◌}
 use Rattle.rx_wire.specs.Fields.{Stands}
 

@@ -1,7 +1,7 @@
-//! What images of dense and of sparse tables have in common, to read and to write.
+//! Parts that images of dense and of sparse tables share.
 //!
-//! A `split` call reads a part at the front of bytes, and answers what it says and the bytes after it. A `put` call
-//! writes one behind the bytes before a place, and answers the place after it.
+//! A `split` function reads a part at the front of some bytes and returns it with the bytes after it. A `put` function
+//! writes a part at an index and returns the index after it.
 
 pub use crate::closing::{is_in_range, is_named};
 pub use crate::head::{VERSION, split_dense_head, split_head};

@@ -1,4 +1,4 @@
-//! Words of rows in bulk: one loop that converts, clears, stores and tests without a branch.
+//! Reads many words of rows in one loop that converts, masks, stores and tests them without a branch.
 
 ghost use Rattle.std.specs.Prelude.{◌≡◌, ℕ, ◌+◌, ◌*◌, ◌^◌, ◌<◌, ◌≤◌, ◌&&◌, bit_and, length, max, slice_index, IfOk};
 ghost use Rattle.rx_dense_image.specs.Bulk.{AreColumns, all_bits, each_below, is_clean, kept_word, may_stand};
@@ -11,23 +11,23 @@ use std::alloc::{AllocError, Global};
 /// What is wrong with some words, collected without a branch.
 #[derive(Clone, Copy, Debug)]
 pub(crate) struct Wrong {
-    /// The bits of all words. Those below the stride are clear where each word is a multiple of it.
+    /// The bits of all words. Those below the stride are clear if each word is a multiple of it.
     pub low: u32,
     /// The greatest word.
     pub greatest: u32,
-    /// All bits where some word is the one that may not stand in its column, and else none.
+    /// All bits if some word is the one that its column forbids, otherwise none.
     pub forbidden: u32,
 }
 
 impl Wrong {
-    /// Nothing is wrong with no words.
+    /// No words.
     const NOTHING: Wrong = Wrong {
         low: 0,
         greatest: 0,
         forbidden: 0,
     };
 
-    /// Together with another word, and the one that may not stand in its column.
+    /// The same with one more word and the number that its column forbids.
     #[inline(always)]
     #[tactic(auto, using(crate::proofs::Collected::one_more_word))]
     fn with(self, word: u32, forbidden: u32) -> Wrong
@@ -50,7 +50,7 @@ fn greater(a: u32, b: u32) -> u32
     if a < b { b } else { a }
 }
 
-/// All bits where told, and else none.
+/// All bits if `set`, otherwise none.
 #[inline(always)]
 pub(crate) fn all_bits(set: bool) -> u32
     ensures { result ≡ all_bits set }
@@ -58,19 +58,19 @@ pub(crate) fn all_bits(set: bool) -> u32
     if set { u32::MAX } else { 0 }
 }
 
-/// What may stand in the columns of rows: for so many words that the rows go round in them.
+/// What the columns of rows may hold, repeated for as many whole rows as fit.
 #[derive(Clone, Copy)]
 pub(crate) struct Columns<'a> {
-    /// The order of the bytes of a word.
+    /// The byte order of a word.
     pub order: Order,
-    /// The bits that a column keeps: all within the alphabet, and none past it.
+    /// The bits that a column keeps: all for a column of the alphabet, none for padding.
     pub kept: &'a [u32],
-    /// The number that may not stand in a column.
+    /// The number that a column forbids.
     pub forbidden: &'a [u32],
 }
 
 impl<'a> Columns<'a> {
-    /// The word at a place, as far as a column keeps it.
+    /// The word at an index, without the bits that its column drops.
     #[inline(always)]
     #[tactic(auto, using(crate::proofs::WordBytes::four))]
     fn word(&self, bytes: &[u8], place: usize, column: usize) -> u32
@@ -84,7 +84,7 @@ impl<'a> Columns<'a> {
             & self.kept[column]
     }
 
-    /// Reads so many words, and answers what is wrong with them. Each is stored once, in memory that isn't written
+    /// Reads the words and returns what is wrong with them. Each word is stored once, into memory that isn't written
     /// before.
     pub fn read(
         &self,

@@ -1,4 +1,4 @@
-//! What must hold of all parts of an image together.
+//! The tests of all parts of an image together.
 
 ghost use Rattle.std.specs.Prelude.{◌≡◌, ℕ, ◌+◌, ◌*◌, ◌^◌, ◌<◌, ◌≤◌, ◌==◌, IfErr, IfOk, Option, length, map, nat_lt};
 ghost use Rattle.std.specs.Prelude.{not, take};
@@ -25,7 +25,7 @@ use rx_dense::{Parts, Special};
 use rx_wire::DeserializeError;
 use std::alloc::Global;
 
-/// How many words a row has.
+/// The number of words of a row.
 #[tactic(auto, using(crate::proofs::Strides::shifted_few))]
 fn stride(parts: &Parts) -> usize
     requires { AreReadRows (rows_of (layout_of parts.now)) }
@@ -51,8 +51,8 @@ fn are_zero(words: &[u32]) -> bool
     words.iter().all(|word| *word == 0)
 }
 
-/// Whether there are two rows at least, each word is the id of a row, none leads to the quit row on the end mark, and
-/// the first two rows lead to dead. The words were tested when they were read.
+/// Whether there are at least two rows, each word is a row's id, no row leads to quit on the end of input, and the
+/// first two rows lead to dead. The words were tested as they were read (`sound`).
 fn rows_stand(parts: &Parts, sound: bool) -> bool
     requires rows { AreReadRows (rows_of (layout_of parts.now)) }
     requires sound { sound ≡ are_entries (rows_of (layout_of parts.now)) }
@@ -68,7 +68,7 @@ fn rows_stand(parts: &Parts, sound: bool) -> bool
     are_zero(&parts.words.as_slice()[..2 * stride])
 }
 
-/// Whether the special ids are those of rows, and the quit row is row 1.
+/// Whether the special ids are ids of rows, and the quit row is row 1.
 fn are_special_rows(parts: &Parts, s: &Special) -> bool
     requires { AreReadRows (rows_of (layout_of parts.now)) }
     ensures { result ≡ are_special_rows (layout_of parts.now) s.now }
@@ -90,7 +90,7 @@ pub fn is_in_range(first: StateID, last: StateID, id: usize) -> bool
     first.as_usize() <= id && id <= last.as_usize() && id != 0
 }
 
-/// Whether a row is dead, quit, or in a range.
+/// Whether a row is dead, quit or in a special range.
 pub fn is_named(s: &Special, id: usize) -> bool
     ensures { result ≡ is_named s.now id }
 {
@@ -101,7 +101,7 @@ pub fn is_named(s: &Special, id: usize) -> bool
         || is_in_range(s.min_start, s.max_start, id)
 }
 
-/// Whether each row up to the greatest special one is named.
+/// Whether each row up to the greatest special one is dead, quit or in a special range.
 fn are_named(parts: &Parts) -> bool
     requires { AreReadRows (rows_of (layout_of parts.now)) }
     ensures { result ≡ are_named (layout_of parts.now) }
@@ -116,7 +116,7 @@ fn are_named(parts: &Parts) -> bool
     true
 }
 
-/// Whether the special ids are those of rows, and the rows up to the greatest are special.
+/// Whether the special ids are ids of rows, and each row up to the greatest special one is special.
 fn special_stand(parts: &Parts) -> bool
     requires { AreReadRows (rows_of (layout_of parts.now)) }
     ensures { result ≡ special_stand (layout_of parts.now) }
@@ -124,7 +124,7 @@ fn special_stand(parts: &Parts) -> bool
     are_special_rows(parts, &parts.special) && are_named(parts)
 }
 
-/// Whether a search may start there: at a row that neither matches nor quits.
+/// Whether a search may start in a row: it neither matches nor quits.
 fn is_start_row(parts: &Parts, id: usize) -> bool
     requires { AreReadRows (rows_of (layout_of parts.now)) }
     ensures { result ≡ is_start_row (layout_of parts.now) id }
@@ -144,7 +144,7 @@ fn are_start_rows(parts: &Parts) -> bool
         .all(|id| is_start_row(parts, *id as usize))
 }
 
-/// Whether a universal start that is there is a row.
+/// Whether a universal start, if there is one, is a row.
 fn is_universal(parts: &Parts, start: Option<StateID>) -> bool
     requires { AreReadRows (rows_of (layout_of parts.now)) }
     ensures { result ≡ is_universal (layout_of parts.now) start }
@@ -155,7 +155,7 @@ fn is_universal(parts: &Parts, start: Option<StateID>) -> bool
     }
 }
 
-/// Whether searches start at rows that neither match nor quit, and universal starts are rows.
+/// Whether all start rows neither match nor quit, and universal starts are rows.
 fn starts_stand(parts: &Parts) -> bool
     requires { AreReadRows (rows_of (layout_of parts.now)) }
     ensures { result ≡ starts_stand (layout_of parts.now) }
@@ -165,7 +165,7 @@ fn starts_stand(parts: &Parts) -> bool
         && is_universal(parts, parts.universal_anchored)
 }
 
-/// How many rows a range of ids has.
+/// The number of rows of a range of ids.
 fn range_len(parts: &Parts, first: StateID, last: StateID) -> usize
     requires { AreReadRows (rows_of (layout_of parts.now)) }
     ensures { result ≡ range_len (layout_of parts.now) first last }
@@ -176,15 +176,15 @@ fn range_len(parts: &Parts, first: StateID, last: StateID) -> usize
     last.as_usize().saturating_sub(first.as_usize()) / stride(parts) + 1
 }
 
-/// Whether a number among the pattern ids is no id of a pattern.
+/// Whether a number among the pattern ids isn't the id of a pattern.
 fn is_stranger(id: u32, pattern_len: usize) -> bool
     ensures { result ≡ is_stranger pattern_len id }
 {
     id as usize >= pattern_len
 }
 
-/// How many of the first pattern ids are no ids of patterns: of the first none, of the first one, and so on. By these
-/// counts any list of them is tested at once, however often it is named.
+/// For each prefix of the pattern ids, how many of them aren't ids of patterns. With these counts each list of ids is
+/// tested at once, however many match rows name it.
 fn strangers(alloc: Global, ids: &[u32], pattern_len: usize) -> Result<Vec<u32>, DeserializeError>
     requires { length ids.now < 2 ^ 32 }
     ensures len { IfOk result (λ counts. length counts.items ≡ length ids.now + 1) }
@@ -203,7 +203,7 @@ fn strangers(alloc: Global, ids: &[u32], pattern_len: usize) -> Result<Vec<u32>,
     Ok(counts)
 }
 
-/// Whether the patterns of a match row lie among the pattern ids, aren't none, and are patterns.
+/// Whether the patterns of a match row lie among the pattern ids, are at least one, and are patterns.
 fn is_list(parts: &Parts, counts: &[u32], i: usize) -> bool
     requires i { 2 * i + 1 < length parts.now.slices.items }
     requires len { length counts.now ≡ length parts.now.pattern_ids.items + 1 }
@@ -264,7 +264,7 @@ fn next_id(parts: &Parts, id: usize, byte: u8) -> usize
     parts.words[id + parts.classes.get(byte) as usize] as usize
 }
 
-/// Whether some bytes are exactly those on which a row doesn't lead to itself, rising.
+/// Whether `needles` are exactly the bytes on which a row leads elsewhere, in rising order.
 fn are_leaving(parts: &Parts, id: usize, needles: &[u8]) -> bool
     requires rows { AreReadRows (rows_of (layout_of parts.now)) }
     requires row { IsRowId (layout_of parts.now) id }
@@ -297,7 +297,7 @@ fn has_needles(parts: &Parts, i: usize, id: usize) -> bool
     needles.len() >= 1 && are_leaving(parts, id, needles.as_slice())
 }
 
-/// Whether each accelerated row has its needles: one to three, which are the bytes on which it leads elsewhere.
+/// Whether each accelerated row has its needles: one to three bytes, exactly those on which it leads elsewhere.
 fn accels_stand(parts: &Parts) -> bool
     requires rows { AreReadRows (rows_of (layout_of parts.now)) }
     requires special { are_special_rows (layout_of parts.now) parts.now.special ≡ true }
@@ -318,7 +318,7 @@ fn accels_stand(parts: &Parts) -> bool
     true
 }
 
-/// Whether all that must hold of the parts together does.
+/// Whether all tests of the parts together succeed.
 pub(crate) fn is_closed(alloc: Global, parts: &Parts, sound: bool) -> Result<bool, DeserializeError>
     requires read { IsRead (layout_of parts.now) }
     requires sound { sound ≡ are_entries (rows_of (layout_of parts.now)) }

@@ -14,10 +14,10 @@ pub(crate) const LABEL: &str = "rust-regex-automata-dfa-dense";
 /// The version that is read and written.
 pub const VERSION: u32 = 2;
 
-/// How many NULs may stand before the label.
+/// The most NULs that may stand before the label.
 const MAX_NULS: usize = 7;
 
-/// The bytes from the label on. Of the NULs before it at most seven are passed over.
+/// The bytes from the label on. At most seven NULs before it are passed over.
 fn without_nuls(bytes: &[u8]) -> &[u8]
     ensures { result.now ≡ drop (skipped_nuls bytes.now) bytes.now }
 {
@@ -25,7 +25,7 @@ fn without_nuls(bytes: &[u8]) -> &[u8]
     &bytes[skipped..]
 }
 
-/// How many NULs stand at the front.
+/// The number of NULs at the front.
 fn nul_len(bytes: &[u8]) -> usize
     ensures value { result ≡ prefix_len (λ byte. byte == 0) bytes.now }
     ensures bound { result ≤ length bytes.now }
@@ -38,7 +38,7 @@ fn nul_len(bytes: &[u8]) -> usize
     bytes.len()
 }
 
-/// At most so many of the first bytes.
+/// The first bytes, at most `most`.
 fn first(most: usize, bytes: &[u8]) -> &[u8]
     ensures value { result.now ≡ take most bytes.now }
     ensures len { length result.now ≤ length bytes.now }
@@ -49,7 +49,7 @@ fn first(most: usize, bytes: &[u8]) -> &[u8]
     &bytes[..most]
 }
 
-/// The flags of a word. Bits that mean nothing may be set.
+/// The flags of a word. Bits without a meaning are ignored.
 fn flags_of(word: u32) -> Flags
     ensures { result ≡ flags_of word }
 {
@@ -60,7 +60,7 @@ fn flags_of(word: u32) -> Flags
     }
 }
 
-/// The flags, and the order of what follows the head.
+/// The flags, and the byte order of what follows the head.
 #[tactic(auto, unfolding(crate::specs::Heads::head_at))]
 pub fn split_head<'a>(
     bytes: &'a [u8],
@@ -76,7 +76,7 @@ pub fn split_head<'a>(
     Ok(((flags_of(word), order), rest))
 }
 
-/// The flags of a dense image, and the order of what follows its head.
+/// The flags of a dense image, and the byte order of what follows its head.
 #[tactic(auto, unfolding(crate::specs::Heads::dense_head_at))]
 pub fn split_dense_head(bytes: &[u8]) -> Result<((Flags, Order), &[u8]), DeserializeError>
     ensures { Gives (λ x. (x.0, x.1.now)) result (dense_head_at bytes.now) }

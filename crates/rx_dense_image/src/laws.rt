@@ -1,4 +1,4 @@
-//! What was written is read again.
+//! An image is read as the table that was written.
 //!
 //! Each function has an empty body, and its clauses are the laws.
 
@@ -8,15 +8,15 @@ ghost use Rattle.rx_dense.specs.Layouts.{IsShaped, Layout};
 ghost use Rattle.rx_dense.specs.Facts.{IsSoundLayout};
 ghost use Rattle.rx_dense_image.specs.Images.{IsWhole, reads, text};
 
-/// An image of a layout that can be read is read as that layout, in either order and whatever follows, and its length
-/// is told. [`DenseRead::from_bytes`](crate::DenseRead::from_bytes) says of each table that it reads that its layout is
-/// such a one.
+/// An image of a layout that can be read (`IsWhole`) is read as that layout with the image's length, in either byte
+/// order and whatever bytes follow. Every table that [`DenseRead::from_bytes`](crate::DenseRead::from_bytes) returns
+/// has such a layout.
 pub fn images_are_read_again()
     ensures { (order : Order) (l : Layout) → IsWhole l → (rest : List ℕ)
         → reads (text order l ++ rest) ≡ Ok (l, length (text order l)) }
 {}
 
-/// A layout that can be read has the shape of a dense table, and is sound.
+/// A layout that can be read has the form of a dense table, and is sound.
 pub fn what_can_be_read_is_sound()
     ensures shaped { (l : Layout) → IsWhole l → IsShaped l }
     ensures sound { (l : Layout) → IsWhole l → IsSoundLayout l }

@@ -1,11 +1,11 @@
-//! Images of dense tables: a table as bytes, in either order of its numbers' bytes, and back.
+//! Images of dense tables: writes a table as bytes, in either byte order, and reads it again.
 //!
-//! [`DenseWrite`] has the calls that write an image, and [`DenseRead::from_bytes`] reads one, in whichever order it is.
-//! [`both`] has the parts that images of sparse tables have too.
+//! [`DenseWrite`] writes an image. [`DenseRead::from_bytes`] reads one, in whichever byte order it is. [`both`] has the
+//! parts that images of sparse tables have too.
 //!
-//! The contract: an image is the bytes of a layout (`text` in `specs/Images.antt`), part by part, and one definition
-//! (`reads`) says which layout bytes spell, or which test they fail first. Writing leaves exactly these bytes, and
-//! reading answers exactly that. A table that is read is sound, so it can be searched at once, whoever wrote it.
+//! The contract: `text` in `specs/Images.antt` defines each byte of a table's image, and `reads` defines which table
+//! some bytes spell, or which test they fail first. Writers write exactly `text`, and the reader returns exactly
+//! `reads`. A table that is read is sound, so it can be searched at once, whoever wrote the image.
 #![tactic(auto)]
 
 pub mod both;

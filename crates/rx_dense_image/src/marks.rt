@@ -17,13 +17,13 @@ use rx_wire::{DeserializeError, Order, split_bytes, split_items};
 use std::alloc::Global;
 use std::marker::Model;
 
-/// How many bytes the special ids take.
+/// The length of the special ids in bytes.
 const SPECIAL_LEN: usize = 32;
 
-/// How many bytes an accelerator takes.
+/// The length of an accelerator in bytes.
 pub(crate) const ACCEL_LEN: usize = 8;
 
-/// Whether two ids are the ends of a range: both 0, or neither, and the first at most the last.
+/// Whether two ids bound a range: both are 0, or neither is and the first is at most the last.
 fn is_range(first: StateID, last: StateID) -> bool
     ensures { result ≡ is_range first last }
 {
@@ -34,14 +34,14 @@ fn is_range(first: StateID, last: StateID) -> bool
     }
 }
 
-/// Whether a range that isn't empty begins past the quit row.
+/// Whether a range is empty or begins after the quit row.
 fn is_past_quit(quit: StateID, first: StateID) -> bool
     ensures { result ≡ is_past_quit quit first }
 {
     first == StateID::ZERO || quit < first
 }
 
-/// Whether of two ranges that aren't empty one begins no sooner than the other.
+/// Whether, if both ranges have rows, one begins no sooner than the other.
 fn begins_after(first: StateID, other: StateID) -> bool
     ensures { result ≡ begins_after first other }
 {
@@ -72,7 +72,7 @@ fn begin_in_order(s: &Special) -> bool
         && begins_after(s.min_start, s.min_accel)
 }
 
-/// Whether special ids are what they must be among themselves.
+/// Whether special ids fit each other.
 pub(crate) fn are_special(s: &Special) -> bool
     ensures { result ≡ are_special s.now }
 {
@@ -115,7 +115,7 @@ fn split_special_ids(order: Order, bytes: &[u8]) -> Result<(Special, &[u8]), Des
     Ok((special, rest))
 }
 
-/// The special ids, which must be in order and stand within the words of the rows.
+/// The special ids. They must fit each other and lie within the words of the rows.
 #[tactic(auto, unfolding(crate::specs::Marks::special_at))]
 pub fn split_special(
     order: Order,
@@ -137,8 +137,8 @@ pub fn split_special(
     Ok((special, rest))
 }
 
-/// The needles of an accelerator. Where it counts more than three it is read as one that has none, which no
-/// accelerated row may have.
+/// The needles of an accelerator. One that counts more than three is read as one without needles, which no accelerated
+/// row may have.
 pub(crate) fn needles_of(bytes: &[u8]) -> Needles
     requires { 4 ≤ length bytes.now }
     ensures { result ≡ needles_of bytes.now }
@@ -151,7 +151,7 @@ pub(crate) fn needles_of(bytes: &[u8]) -> Needles
     }
 }
 
-/// The needles of an accelerator, by its place among others.
+/// The needles of an accelerator, by its index.
 fn needles_in(bytes: &[u8], i: usize) -> Needles
     requires { 8 * i + 8 ≤ length bytes.now }
     ensures { result ≡ needles_in bytes.now i }
@@ -159,7 +159,7 @@ fn needles_in(bytes: &[u8], i: usize) -> Needles
     needles_of(&bytes[ACCEL_LEN * i..])
 }
 
-/// The needles of so many accelerators. Their bytes are there, so no more memory is asked for than they take.
+/// The needles of `count` accelerators. Their bytes are known to be there, so a false count takes no memory.
 fn accels_of(alloc: Global, bytes: &[u8], count: usize) -> Result<Accels, DeserializeError>
     requires bytes { length bytes.now ≡ 8 * count }
     requires few { count < 2 ^ 32 }
@@ -201,14 +201,14 @@ pub fn split_quit(order: Order, bytes: &[u8]) -> Result<(ByteSet, &[u8]), Deseri
     Ok((ByteSet::from_halves(low, high), rest))
 }
 
-/// Marks that were read.
+/// The marks of an image.
 #[derive(Drop)]
 pub(crate) struct Marks {
-    /// Which rows are special.
+    /// The special ids.
     pub special: Special,
     /// The needles of the accelerated rows.
     pub accels: Accels,
-    /// The bytes that can't be searched.
+    /// The quit bytes.
     pub quitset: ByteSet,
 }
 

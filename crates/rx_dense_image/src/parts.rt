@@ -1,4 +1,4 @@
-//! Special ids and needles by themselves, as images have them.
+//! Reading and writing of special ids and needles alone.
 
 ghost use Rattle.std.specs.Prelude.{◌≡◌, ℕ, IsOk, List, MatchResult, length, true, false};
 ghost use Rattle.rx_wire.specs.Kinds.{GivesExactly, Kind, Writes};
@@ -11,15 +11,21 @@ use crate::put::{NeedleLists, put_accels};
 use rx_dense::{Accel, Accels, Special};
 use rx_wire::{DeserializeError, Endian, SerializeError};
 
-/// What an image asks of special ids: `special.validate()`.
+/// Tests special ids: `special.validate()`.
 pub trait SpecialImage {
     /// The special ids.
     ghost special: { Self → Special };
 
-    /// Refuses special ids that aren't what they must be among themselves. Both ends of a range are 0, or neither is,
-    /// and the first is at most the last. A range that isn't empty begins past the quit row, the accelerated rows no
-    /// sooner than the match rows, and the rows marked as starts no sooner than either. `max` is at least the quit row
-    /// and the last row of each range.
+    /// Tests whether special ids fit each other:
+    ///
+    /// - Both ends of a range are 0, or neither is and the first is at most the last.
+    /// - A range that isn't empty begins after the quit row. The accelerated rows begin no sooner than the match rows,
+    ///   and the start rows no sooner than either.
+    /// - `max` is at least the quit row and the last row of each range.
+    ///
+    /// # Errors
+    ///
+    /// `Generic` if one of these fails.
     fn validate(&self) -> Result<(), DeserializeError>
         ensures { MatchResult result (λ _. are_special (special self.now) ≡ true)
             (λ kind. (kind ≡ Kind.Generic) × (are_special (special self.now) ≡ false)) };
@@ -39,8 +45,11 @@ impl SpecialImage for Special {
 
 /// Reads the needles of one row: `Accel::from_slice(slice)`.
 pub trait AccelImage {
-    /// The needles of an accelerator: how many there are, at most three, and three bytes of which the first are the
-    /// needles.
+    /// Reads an accelerator: the number of needles, at most three, and three bytes that begin with the needles.
+    ///
+    /// # Errors
+    ///
+    /// `BufferTooSmall` if the slice has fewer than four bytes, `Generic` if the number is above three.
     fn from_slice(slice: &[u8]) -> Result<Accel, DeserializeError>
         ensures { GivesExactly (λ accel. accel) result (accel_of slice.now) };
 }
@@ -57,22 +66,22 @@ impl AccelImage for Accel {
     }
 }
 
-/// The needles of several rows as an image has them.
+/// The needles of several rows as part of an image.
 pub trait AccelsImage {
     /// The needles of each row.
     ghost accels: { Self → List (List ℕ) };
 
-    /// How many bytes they take: 4, and 8 for each row.
+    /// Their length in an image, in bytes: 4, and 8 for each row.
     fn write_to_len(&self) -> usize
         ensures { (order : Order) → result ≡ length (accels_text order (accels self.now)) };
 
-    /// Writes them at the front of `dst`, and answers how many bytes they take. Where `dst` is shorter, nothing is
-    /// written; the bytes after them stay.
+    /// Writes them at the front of `dst` and returns their length. The bytes after them are unchanged. If `dst` is
+    /// shorter, returns an error and writes nothing.
     fn write_to<E: Endian>(&self, dst: &mut [u8]) -> Result<usize, SerializeError>
         ensures { Writes (accels_text E.order (accels self.now)) dst.old dst.new result };
 
-    /// Never refuses, since accelerators are valid: each has at most three needles. Whether a row has the needles that
-    /// it must have is tested of a whole image ([`DenseRead::from_bytes`](crate::DenseRead::from_bytes)).
+    /// Always returns `Ok`, since each accelerator has at most three needles. Only the reader of a whole image tests
+    /// whether a row has its needles ([`DenseRead::from_bytes`](crate::DenseRead::from_bytes)).
     fn validate(&self) -> Result<(), DeserializeError>
         ensures { IsOk result };
 }

@@ -11,12 +11,12 @@ use rx_wire::{DeserializeError, Order};
 use std::alloc::Global;
 use std::marker::Model;
 
-/// The patterns of match rows that were read.
+/// The patterns of match rows.
 #[derive(Drop)]
 pub(crate) struct PatternLists {
-    /// Two words for each match row: where its patterns begin among the pattern ids, and how many there are.
+    /// Two words for each match row: where its patterns begin among the pattern ids, and their number.
     pub slices: Vec<u32>,
-    /// How many patterns there are.
+    /// The number of patterns.
     pub pattern_len: usize,
     /// The patterns of all match rows.
     pub pattern_ids: Vec<u32>,

@@ -1,6 +1,6 @@
-//! Parts of an image, written one behind another.
+//! Writes the parts of an image.
 //!
-//! Each call writes a part behind the bytes before a place, and answers the place after it.
+//! Each function writes a part at an index and returns the index after it.
 
 ghost use Rattle.std.specs.Prelude.{◌≡◌, ℕ, ◌+◌, ◌*◌, ◌/◌, ◌%◌, ◌^◌, ◌<◌, ◌≤◌, List, [], get_or, length, map};
 ghost use Rattle.std.specs.Int.{w32, w128};
@@ -25,10 +25,10 @@ use rx_wire::{Endian, put_bytes, put_u32, put_u128};
 /// The label with its NUL and its padding.
 const LABEL: [u8; 32] = *b"rust-regex-automata-dfa-dense\0\0\0";
 
-/// The word that tells the order.
+/// The word that marks the byte order.
 pub const ENDIANNESS: u32 = 0xFEFF;
 
-/// A number of four bytes.
+/// Writes a number of four bytes.
 pub fn put_word<E: Endian>(word: u32, dst: &mut [u8], at: usize) -> usize
     requires { at + 4 ≤ length dst.old }
     ensures len { length dst.new ≡ length dst.old }
@@ -48,7 +48,7 @@ fn put_wide<E: Endian>(number: u128, dst: &mut [u8], at: usize) -> usize
     put_u128::<E>(number, dst, at)
 }
 
-/// Bytes as they are.
+/// Writes bytes as they are.
 pub fn put_plain(bytes: &[u8], dst: &mut [u8], at: usize) -> usize
     requires { at + length bytes.now ≤ length dst.old }
     ensures len { length dst.new ≡ length dst.old }
@@ -71,7 +71,7 @@ fn put_words<E: Endian>(words: &[u32], dst: &mut [u8], at: usize) -> usize
     end
 }
 
-/// A flag as the bit of a place in a word.
+/// A flag as a bit of a word: `worth` if it is set, otherwise 0.
 fn flag(set: bool, worth: u32) -> u32
     requires { worth ≤ 4 }
     ensures value { result ≡ flag set worth }
@@ -100,7 +100,7 @@ fn put_head<E: Endian>(flags: &Flags, dst: &mut [u8], at: usize) -> usize
     put_word::<E>(flags_word(flags), dst, unused)
 }
 
-/// How many rows there are, as a word.
+/// The number of rows, as a word.
 fn row_word<T: WordStore>(dfa: &DFA<T>) -> u32
     ensures { result ≡ length dfa.now.words / 2 ^ dfa.now.stride2 }
 {
@@ -157,7 +157,7 @@ fn context_numbers<T: WordStore>(dfa: &DFA<T>) -> [u8; 256]
     numbers
 }
 
-/// How many patterns have starts of their own, as a word.
+/// The number of patterns with start rows of their own, as a word.
 fn patterns_word<T: WordStore>(dfa: &DFA<T>) -> u32
     requires { AreStarts dfa.now }
     ensures { result ≡ number_or_none dfa.now.pattern_starts }
@@ -168,7 +168,7 @@ fn patterns_word<T: WordStore>(dfa: &DFA<T>) -> u32
     }
 }
 
-/// A universal start as a word, where there is one.
+/// A universal start as a word, or the word for none.
 pub fn universal_word(start: Option<StateID>) -> u32
     ensures { result ≡ number_or_none start }
 {
@@ -196,14 +196,14 @@ fn put_start_table<E: Endian, T: WordStore>(dfa: &DFA<T>, dst: &mut [u8], at: us
     put_words::<E>(ids, dst, second)
 }
 
-/// How many match rows have patterns, as a word.
+/// The number of match rows, as a word.
 fn list_word<T: WordStore>(dfa: &DFA<T>) -> u32
     ensures { result ≡ length dfa.now.slices / 2 }
 {
     (dfa.slices().len() / 2) as u32
 }
 
-/// How many pattern ids there are, as a word.
+/// The number of pattern ids, as a word.
 fn id_word<T: WordStore>(dfa: &DFA<T>) -> u32
     requires { AreLists dfa.now }
     ensures { result ≡ length dfa.now.pattern_ids }
@@ -211,7 +211,7 @@ fn id_word<T: WordStore>(dfa: &DFA<T>) -> u32
     dfa.pattern_ids().len() as u32
 }
 
-/// How many patterns there are, as a word.
+/// The number of patterns, as a word.
 fn pattern_len_word<T: WordStore>(dfa: &DFA<T>) -> u32
     requires { AreLists dfa.now }
     ensures { result ≡ dfa.now.pattern_len }
@@ -233,7 +233,7 @@ fn put_pattern_lists<E: Endian, T: WordStore>(dfa: &DFA<T>, dst: &mut [u8], at: 
     put_words::<E>(dfa.pattern_ids(), dst, count)
 }
 
-/// The special ids.
+/// Writes the special ids.
 pub fn put_special<E: Endian>(special: &Special, dst: &mut [u8], at: usize) -> usize
     requires { at + 32 ≤ length dst.old }
     ensures len { length dst.new ≡ length dst.old }
@@ -263,7 +263,7 @@ fn accel_bytes(needles: Needles) -> [u8; 8]
     }
 }
 
-/// The needles of accelerated rows, wherever they are kept: fewer than 2^32.
+/// The needles of accelerated rows, fewer than 2^32, in any store.
 pub(crate) trait NeedleLists {
     /// The needles of each row.
     ghost lists: { Self → List (List ℕ) };
@@ -316,7 +316,7 @@ pub(crate) fn put_accels<E: Endian, L: NeedleLists>(lists: &L, dst: &mut [u8], a
     end
 }
 
-/// The quit bytes.
+/// Writes the quit bytes.
 pub fn put_quit<E: Endian>(quitset: &ByteSet, dst: &mut [u8], at: usize) -> usize
     requires { at + 32 ≤ length dst.old }
     ensures len { length dst.new ≡ length dst.old }
@@ -339,7 +339,7 @@ fn put_marks<E: Endian, T: WordStore>(dfa: &DFA<T>, dst: &mut [u8], at: usize) -
     put_quit::<E>(dfa.quitset(), dst, accels)
 }
 
-/// How many bytes an image has.
+/// The length of an image in bytes.
 pub(crate) fn image_len<T: WordStore>(dfa: &DFA<T>) -> usize
     ensures value { result ≡ image_len dfa.now }
     ensures text { (order : Order) → length (text order dfa.now) ≡ result }
@@ -349,7 +349,7 @@ pub(crate) fn image_len<T: WordStore>(dfa: &DFA<T>) -> usize
     668 + 4 * (words + lists) + 8 * dfa.accel_len()
 }
 
-/// Writes an image at the front of `dst`, and answers how many bytes it has.
+/// Writes an image at the front of `dst` and returns its length.
 pub(crate) fn put_image<E: Endian, T: WordStore>(dfa: &DFA<T>, dst: &mut [u8]) -> usize
     requires { image_len dfa.now ≤ length dst.old }
     ensures len { length dst.new ≡ length dst.old }

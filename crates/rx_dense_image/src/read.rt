@@ -1,4 +1,4 @@
-//! Reading of whole images.
+//! Reads whole images.
 
 ghost use Rattle.std.specs.Prelude.{◌≡◌, IfOk};
 ghost use Rattle.rx_wire.specs.Kinds.{Gives};
@@ -44,17 +44,21 @@ fn parts_of(flags: Flags, rows: Rows, table: StartTable, lists: PatternLists, ma
 
 /// Reads dense tables: `DFA::<Vec<u32>>::from_bytes(alloc, bytes)`.
 pub trait DenseRead {
-    /// The table that bytes begin with, and how many of them it takes. Numbers may stand in either order.
+    /// Reads the table that `slice` begins with and returns it with the length of its image. The image may be in either
+    /// byte order. At most seven NULs before the label are passed over; they count for the length.
     ///
-    /// The error says which test fails first, or that memory ran out. Before the label up to seven NULs are passed
-    /// over, and are counted.
+    /// The table is sound, and its image is read again as the same table (`IsWhole`).
+    ///
+    /// # Errors
+    ///
+    /// The kind of the first test that fails, or `Memory` if memory runs out.
     fn from_bytes(alloc: Global, slice: &[u8]) -> Result<(OwnedDFA, usize), DeserializeError>
         ensures read { Gives (λ x. (x.0, x.1)) result (reads slice.now) }
         ensures whole { IfOk result (λ x. IsWhole x.0) }
         ensures sound { IfOk result (λ x. IsSoundLayout x.0) };
 }
 
-/// The parts of a table, whether the words of its rows may stand where they do, and the bytes after the image.
+/// The parts of a table, whether each word of its rows passes its test, and the bytes after the image.
 #[tactic(auto, unfolding(crate::specs::Images::parts_at))]
 fn split_parts(alloc: Global, bytes: &[u8]) -> Result<((Parts, bool), &[u8]), DeserializeError>
     ensures read { Gives (λ x. (layout_of x.0.0, x.1.now)) result (parts_at bytes.now) }
@@ -70,7 +74,7 @@ fn split_parts(alloc: Global, bytes: &[u8]) -> Result<((Parts, bool), &[u8]), De
     Ok(((parts, sound), rest))
 }
 
-/// The table that some bytes begin with, and how many of them it takes.
+/// The table that some bytes begin with, and the length of its image.
 #[tactic(auto, unfolding(crate::specs::Images::reads))]
 fn read_table(alloc: Global, bytes: &[u8]) -> Result<(OwnedDFA, usize), DeserializeError>
     ensures read { Gives (λ x. (x.0, x.1)) result (reads bytes.now) }

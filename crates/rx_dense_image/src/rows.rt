@@ -18,17 +18,17 @@ use rx_wire::{DeserializeError, Order, split_bytes, split_items};
 use std::alloc::Global;
 use std::marker::Model;
 
-/// How many columns are kept ready: each stride divides it.
+/// The number of columns that are prepared. Each stride divides it.
 const COLUMNS: usize = 512;
 
-/// Rows that were read.
+/// The rows of an image.
 #[derive(Drop)]
 pub(crate) struct Rows {
     /// The class of each byte.
     pub classes: ByteClasses,
-    /// How many words a row has, as the exponent of a power of two.
+    /// The base-2 logarithm of a row's number of words.
     pub stride2: usize,
-    /// The words, each row's next ids and zeros up to the stride.
+    /// The words: each row's next ids, then zeros up to the stride.
     pub words: Vec<u32>,
 }
 
@@ -40,7 +40,7 @@ impl Model for Rows {
     ghost view = { λ r. record { classes = r.classes; stride2 = r.stride2; words = r.words.items } };
 }
 
-/// The classes that some bytes name, if they do.
+/// The classes that some bytes spell, or `None` if they spell none.
 pub fn classes_of(bytes: &[u8]) -> Option<ByteClasses>
     requires { length bytes.now ≡ 256 }
     ensures value { IfSome result (λ classes. classes ≡ bytes.now) }
@@ -50,7 +50,7 @@ pub fn classes_of(bytes: &[u8]) -> Option<ByteClasses>
     ByteClasses::from_bytes(bytes)
 }
 
-/// Whether rows of a stride have a column for each class and one for the end mark.
+/// Whether a row of this stride has a column for each class and one for the end of input.
 fn fits_stride(stride2: u32, classes: &ByteClasses) -> bool
     ensures { result ≡ fits_stride stride2 classes.now }
 {
@@ -68,7 +68,7 @@ fn stride(stride2: u32) -> usize
     1 << stride2
 }
 
-/// The classes that some bytes name, and the stride, which they must fit.
+/// The classes that some bytes spell, and the stride, which must have a column for each.
 fn classes_and_stride(stride2: u32, bytes: &[u8]) -> Result<(ByteClasses, usize), DeserializeError>
     requires { length bytes.now ≡ 256 }
     ensures read { Gives (λ x. x.1) result (stride_of stride2 bytes.now) }
@@ -84,7 +84,7 @@ fn classes_and_stride(stride2: u32, bytes: &[u8]) -> Result<(ByteClasses, usize)
     Ok((classes, stride(stride2)))
 }
 
-/// For each column whether its word is kept: as all bits or none.
+/// For each column, all bits if its word is kept, otherwise none.
 fn column_masks(stride: usize, alphabet: usize) -> [u32; COLUMNS]
     requires { 0 < stride }
     ensures len { length result ≡ 512 }
@@ -104,8 +104,8 @@ fn column_mask(stride: usize, alphabet: usize, column: usize) -> u32
     all_bits(column % stride < alphabet)
 }
 
-/// For each column the number that may not stand there: the id of the quit row on the end mark, and else none that
-/// is an id.
+/// For each column, the number that it forbids: in the column of the end of input the id of the quit row, elsewhere a
+/// number that is no id.
 fn column_forbidden(stride: usize, alphabet: usize) -> [u32; COLUMNS]
     requires some { 0 < stride }
     requires most { stride ≤ 512 }
@@ -133,7 +133,7 @@ fn forbidden_in(stride: usize, alphabet: usize, column: usize) -> u32
     }
 }
 
-/// Whether nothing is wrong with the words of rows, of which the last has an id.
+/// Whether nothing is wrong with the words of rows. `last` is the id of the last row.
 fn is_clean(wrong: Wrong, stride2: u32, last: usize) -> bool
     requires { stride2 ≤ 9 }
     ensures { result ≡ is_clean (2 ^ stride2) last wrong }
@@ -174,8 +174,8 @@ fn columns_of<'a>(
     }
 }
 
-/// The words of some bytes, and whether each may stand where it does. Their bytes are there, so no more memory is
-/// asked for than they take.
+/// Reads the words of rows. Also returns whether each passes its test. Their bytes are known to be there, so a false
+/// count takes no memory.
 fn row_words(
     alloc: Global,
     order: Order,
@@ -203,7 +203,8 @@ fn row_words(
     Ok((words, sound))
 }
 
-/// The words, and the bytes after them. Their count is multiplied only where the bytes are there.
+/// The words of the rows, and the bytes after them. Their number is multiplied by the stride only after the bytes are
+/// known to be there.
 #[tactic(auto, unfolding(crate::specs::Rows::cleared_words_at))]
 fn split_row_words<'a>(
     alloc: Global,
@@ -233,7 +234,7 @@ fn have_ids(greatest: usize, sound: bool) -> bool
     greatest <= StateID::MAX.as_usize() && sound
 }
 
-/// The rows, and whether each word is the id of a row and none leads to the quit row on the end mark.
+/// The rows, and whether each word is the id of a row and no row leads to quit on the end of input.
 #[tactic(auto, unfolding(crate::specs::Rows::rows_at))]
 pub(crate) fn split_rows<'a>(
     alloc: Global,

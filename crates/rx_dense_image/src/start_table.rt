@@ -16,24 +16,24 @@ use rx_wire::{DeserializeError, DeserializeErrorKind, Order, split_bytes};
 use std::alloc::Global;
 use std::marker::Model;
 
-/// The number that stands for no universal start, and for no patterns with starts of their own.
+/// The number for no universal start, and for no patterns with start rows of their own.
 pub const NONE: u32 = 0xFFFFFFFF;
 
-/// How many start contexts there are.
+/// The number of start contexts.
 pub const CONTEXTS: u32 = 6;
 
-/// A start table that was read.
+/// The start table of an image.
 #[derive(Drop)]
 pub(crate) struct StartTable {
     /// For which modes there are start rows.
     pub start_kind: StartKind,
     /// The start context of each byte.
     pub contexts: [Start; 256],
-    /// How many patterns have starts of their own, if any have.
+    /// The number of patterns with start rows of their own, if there are such.
     pub pattern_starts: Option<usize>,
-    /// The start row of an unanchored search, whatever stands beside its span.
+    /// The start row of an unanchored search if it is the same for each byte beside the span.
     pub universal_unanchored: Option<StateID>,
-    /// The start row of an anchored search, whatever stands beside its span.
+    /// The start row of an anchored search if it is the same for each byte beside the span.
     pub universal_anchored: Option<StateID>,
     /// The ids of the start rows.
     pub starts: Vec<u32>,
@@ -67,7 +67,7 @@ fn split_start_kind(order: Order, bytes: &[u8]) -> Result<(StartKind, &[u8]), De
     }
 }
 
-/// The context of a number.
+/// The context with this number.
 fn context_of(number: u8) -> Start
     ensures { result ≡ context_of number }
 {
@@ -81,7 +81,7 @@ fn context_of(number: u8) -> Start
     }
 }
 
-/// The contexts of 256 numbers.
+/// The contexts with these 256 numbers.
 fn contexts_of(numbers: &[u8]) -> [Start; 256]
     requires { length numbers.now ≡ 256 }
     ensures { result ≡ map context_of numbers.now }
@@ -137,7 +137,7 @@ pub fn split_start_kinds(
     Ok(((kind, contexts), rest))
 }
 
-/// How many patterns have starts of their own, and the bytes after it.
+/// The number of patterns with start rows of their own, and the bytes after it.
 #[tactic(auto, unfolding(crate::specs::StartTables::pattern_starts_at))]
 pub fn split_pattern_starts(
     order: Order,
@@ -176,7 +176,7 @@ pub fn split_universal<'a>(
     }
 }
 
-/// How many start entries there are, where so many patterns have starts of their own.
+/// The number of start entries if `pattern_starts` patterns have start rows of their own.
 pub fn start_entries(pattern_starts: Option<usize>) -> usize
     requires { IsAtMost id_count pattern_starts }
     ensures { result ≡ start_entries pattern_starts }

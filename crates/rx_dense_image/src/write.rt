@@ -1,4 +1,4 @@
-//! Writing of whole images.
+//! Writes whole images.
 
 ghost use Rattle.std.specs.Prelude.{◌≡◌, ℕ, List, IfOk, length};
 ghost use Rattle.rx_wire.specs.declared.order.Order.{Order};
@@ -25,7 +25,7 @@ fn write_image<E: Endian, T: WordStore>(
     Ok(put_image::<E, T>(dfa, dst))
 }
 
-/// Writes an image into a destination that it fills.
+/// Fills a destination with an image of the same length.
 fn fill_image<E: Endian, T: WordStore>(dfa: &DFA<T>, dst: &mut [u8])
     requires { length dst.old ≡ image_len dfa.now }
     ensures { dst.new ≡ text E.order dfa.now }
@@ -42,39 +42,42 @@ fn image_bytes<E: Endian, T: WordStore>(alloc: Global, dfa: &DFA<T>) -> Result<V
     Ok(bytes)
 }
 
-/// Writes dense tables. The native order is little endian.
+/// Writes dense tables. The native byte order is little endian.
 pub trait DenseWrite {
-    /// What the table is.
+    /// The layout of the table.
     ghost layout: { Self → Layout };
 
-    /// How many bytes the image has, in either order.
+    /// The length of the image in bytes, the same in both byte orders.
     fn write_to_len(&self) -> usize
         ensures { (order : Order) → result ≡ length (text order (layout self.now)) };
 
-    /// Writes the little endian image at the front of `dst`, and answers its length. Where `dst` is shorter, nothing
-    /// is written; the bytes after the image stay.
+    /// Writes the little-endian image at the front of `dst` and returns its length. The bytes after it are unchanged.
+    /// If `dst` is shorter, returns an error and writes nothing.
     fn write_to_little_endian(&self, dst: &mut [u8]) -> Result<usize, SerializeError>
         ensures { Writes (text Little (layout self.now)) dst.old dst.new result };
 
-    /// Writes the big endian image at the front of `dst`, and answers its length. Where `dst` is shorter, nothing is
-    /// written; the bytes after the image stay.
+    /// Writes the big-endian image at the front of `dst` and returns its length. The bytes after it are unchanged. If
+    /// `dst` is shorter, returns an error and writes nothing.
     fn write_to_big_endian(&self, dst: &mut [u8]) -> Result<usize, SerializeError>
         ensures { Writes (text Big (layout self.now)) dst.old dst.new result };
 
-    /// Writes the image in native order at the front of `dst`, and answers its length. Where `dst` is shorter, nothing
-    /// is written; the bytes after the image stay.
+    /// Writes the image in native order at the front of `dst` and returns its length. The bytes after it are unchanged.
+    /// If `dst` is shorter, returns an error and writes nothing.
     fn write_to_native_endian(&self, dst: &mut [u8]) -> Result<usize, SerializeError>
         ensures { Writes (text Little (layout self.now)) dst.old dst.new result };
 
-    /// The little endian image, and how many bytes of padding stand before it: none.
+    /// The little-endian image, and the number of padding bytes before it, which is 0. The only error is that memory
+    /// runs out.
     fn to_bytes_little_endian(&self, alloc: Global) -> Result<(Vec<u8>, usize), AllocError>
         ensures { IfOk result (λ x. (x.0.items ≡ text Little (layout self.now)) × (x.1 ≡ 0)) };
 
-    /// The big endian image, and how many bytes of padding stand before it: none.
+    /// The big-endian image, and the number of padding bytes before it, which is 0. The only error is that memory runs
+    /// out.
     fn to_bytes_big_endian(&self, alloc: Global) -> Result<(Vec<u8>, usize), AllocError>
         ensures { IfOk result (λ x. (x.0.items ≡ text Big (layout self.now)) × (x.1 ≡ 0)) };
 
-    /// The image in native order, and how many bytes of padding stand before it: none.
+    /// The image in native order, and the number of padding bytes before it, which is 0. The only error is that memory
+    /// runs out.
     fn to_bytes_native_endian(&self, alloc: Global) -> Result<(Vec<u8>, usize), AllocError>
         ensures { IfOk result (λ x. (x.0.items ≡ text Little (layout self.now)) × (x.1 ≡ 0)) };
 }

@@ -1,4 +1,4 @@
--- What entering a state into a table does.
+-- How a table changes when a state is added.
 use Rattle.std.specs.Prelude.{ℕ, ◌≡◌, ◌<◌, ◌≤◌, ◌+◌, ◌*◌, if◌then◌else◌, true, Some, List, length, IfSome}
 use Rattle.rx_spec.specs.Causes.{max_id}
 use Rattle.rx_dense.specs.Builder.{with_row}

@@ -1,4 +1,4 @@
--- A table whose rows are the states that are reached, before its rows are put in order.
+-- A table whose rows are the reached states, before the rows move into their order.
 use Rattle.std.specs.Prelude.{ℕ, ◌≡◌, ◌<◌, ◌≤◌, ◌+◌, List, length}
 use Rattle.std.specs.List.{concat}
 use Rattle.rx_spec.specs.Builds.{Build, AreReached, built_entry, next_node, node_label}

@@ -1,4 +1,4 @@
--- What determinizing asks of a table, and what it leaves in it.
+-- What determinizing requires of a table, and the table that it makes (`IsDeterminized`).
 use Rattle.std.specs.Prelude.{ℕ, ◌≡◌, ◌<◌, Bool, false, is_some, Option, List, length, map}
 use Rattle.std.specs.List.{range_with_len}
 use Rattle.rx_spec.specs.Builds.{Build}

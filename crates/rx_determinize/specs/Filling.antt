@@ -1,4 +1,4 @@
--- A table while states are entered into it, and while the row of one of them is written.
+-- A table while states are added, and while the row of one of them is written.
 use Rattle.std.specs.Prelude.{ℕ, ◌≡◌, Bool, false, ◌<◌, ◌≤◌, ◌+◌, ◌/◌, ◌++◌, ◌⊎◌, true, IfSome, Option, Some, List, []}
 use Rattle.std.specs.Prelude.{◌∷◌, length, map, slice_get}
 use Rattle.rx_spec.specs.Builds.{IsReached, Running, next_node, built_entry}

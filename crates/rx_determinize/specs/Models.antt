@@ -1,4 +1,4 @@
--- Rows that other rows begin as.
+-- Template rows, with which other rows begin as copies.
 use Rattle.std.specs.Prelude.{ℕ, ◌≡◌, ◌<◌, ◌+◌, ◌++◌, false, List, Option, Some, None, slice_get, slice_index_or, set}
 use Rattle.rx_spec.specs.Bytes.{contains}
 use Rattle.rx_spec.specs.States.{step}

@@ -1,4 +1,4 @@
--- What a construction keeps that enters all states that are reached, over the keys that stand for them.
+-- The invariant of a construction that adds all reached states, over the keys of these states.
 use Rattle.std.specs.Prelude.{ℕ, zero, suc, ◌≡◌, ◌<◌, Bool, List, [], ◌∷◌, ◌++◌, Some, map, slice_get, All}
 use Rattle.std.specs.Prelude.{MatchBool, if◌then◌else◌}
 use Rattle.rx_spec.specs.Queries.{Anchored}

@@ -1,4 +1,4 @@
--- What is kept while states are entered into a table.
+-- The invariant while states are added to a table.
 use Rattle.std.specs.Prelude.{ℕ, ◌≡◌, ◌<◌, ◌≤◌, ◌+◌, ◌*◌, Bool, true, is_some, Option, Some, List, []}
 use Rattle.std.specs.Prelude.{length, map, All, AllPairs, IfSome, ◌≢◌}
 use Rattle.rx_spec.specs.Builds.{Build, IsReached}

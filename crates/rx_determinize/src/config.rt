@@ -1,4 +1,4 @@
-//! What is to be determinized, and how.
+//! The settings of a determinization, and its run.
 
 ghost use Rattle.std.specs.Prelude.{◌≡◌, Bool, IfErr, IfOk, OnOk, MatchBool, None};
 ghost use Rattle.rx_spec.specs.Builds.{Build};
@@ -22,7 +22,7 @@ use std::alloc::Global;
 use std::collections::BTreeMap;
 use std::marker::Model;
 
-/// How an NFA is determinized. The default is [`Config::new`].
+/// How to determinize an NFA. The default is [`Config::new`].
 #[derive(Clone, Debug, Drop)]
 pub struct Config {
     match_kind: MatchKind,
@@ -58,7 +58,7 @@ impl Default for Config {
 }
 
 impl Config {
-    /// The leftmost match is told, every byte can be searched, and there are no limits.
+    /// Settings for leftmost-first matches, without quit bytes and limits.
     pub fn new() -> Config
         ensures { result ≡ record {
           match_kind = LeftmostFirst;
@@ -75,7 +75,7 @@ impl Config {
         }
     }
 
-    /// Which matches are told.
+    /// Sets which matches the table reports.
     pub fn match_kind(mut self, kind: MatchKind) -> Config
         ensures { result ≡ record self { match_kind = kind } }
     {
@@ -83,7 +83,7 @@ impl Config {
         self
     }
 
-    /// The bytes that can't be searched.
+    /// Sets the quit bytes.
     pub fn quit(mut self, set: ByteSet) -> Config
         ensures { result ≡ record self { quit = set } }
     {
@@ -91,7 +91,7 @@ impl Config {
         self
     }
 
-    /// The most bytes that the table may take; none is no limit.
+    /// Sets the most bytes that the table may take. `None` is no limit.
     pub fn dfa_size_limit(mut self, bytes: Option<usize>) -> Config
         ensures { result ≡ record self { dfa_size_limit = bytes } }
     {
@@ -99,7 +99,7 @@ impl Config {
         self
     }
 
-    /// The most bytes that the states of the construction may take; none is no limit.
+    /// Sets the most bytes that the construction's states may take. `None` is no limit.
     pub fn determinize_size_limit(mut self, bytes: Option<usize>) -> Config
         ensures { result ≡ record self { determinize_size_limit = bytes } }
     {
@@ -107,7 +107,8 @@ impl Config {
         self
     }
 
-    /// Determinizes an NFA into a table that was begun for it. After a refusal the table is only good to be dropped.
+    /// Determinizes an NFA into a table that was begun for it. Drop the table if this returns an error: its states may
+    /// be incomplete.
     pub fn run(&self, alloc: Global, nfa: &NFA, dfa: &mut OwnedDFA) -> Result<(), BuildError>
         requires begun { IsBegun (meaning nfa.now) self.now dfa.old }
         ensures ok { OnOk result (IsDeterminized (build_in (meaning nfa.now) self.now dfa.old) dfa.old dfa.new) }
@@ -129,8 +130,8 @@ impl Config {
         }
     }
 
-    /// Builds the rows of all states that are reached, in the order in which they are met, and sets the start entries.
-    /// Gives the patterns of the match rows, by the rows' ids.
+    /// Adds a state for each reached state of the construction, in the order in which they are found, and sets the
+    /// start entries. Returns the patterns of the match states, by state id.
     fn build_rows(
         &self,
         alloc: Global,
@@ -156,7 +157,7 @@ impl Config {
         Ok(construction.states.matches(alloc, dfa)?)
     }
 
-    /// The limits that are set.
+    /// The size limits.
     fn limits(&self) -> SizeLimits
         ensures { result ≡ record { table = self.now.dfa_size_limit; construction = self.now.determinize_size_limit } }
     {
@@ -167,7 +168,7 @@ impl Config {
     }
 }
 
-/// Whether a row of an NFA has a Unicode word assertion, and not every byte from 0x80 on is a quit byte.
+/// Whether the NFA has a Unicode word assertion while some byte from 0x80 on isn't a quit byte.
 fn is_unsupported(nfa: &NFA, quit: &ByteSet) -> bool
     ensures { (b : Build) → b.nfa ≡ meaning nfa.now → b.quit ≡ quit.now
         → MatchBool result (IsUnsupported b) (IsSupported b) }

@@ -1,4 +1,4 @@
-//! The construction: each state that is met is stepped once, and its row written.
+//! The construction: each reached state is stepped once, and its row is written.
 
 ghost use Rattle.std.specs.Prelude.{◌≡◌, ℕ, ◌<◌, ◌≤◌, ◌+◌, ◌^◌, [], true, false, None, Some, length};
 ghost use Rattle.std.specs.Prelude.{IfErr, IfOk, IfSome, OnOk};
@@ -27,22 +27,22 @@ use std::alloc::{AllocError, Global};
 pub(crate) struct Construction {
     pub(crate) states: States,
     pub(crate) limits: SizeLimits,
-    /// The unit that stands for each column.
+    /// The unit by which each column steps.
     pub(crate) units: Vec<Unit>,
     /// Room for a key.
     pub(crate) key: Vec<u32>,
 }
 
-/// The column by which a state was stepped last, and the row to which it led.
+/// The column on which a state was stepped last, and the row to which it led.
 #[derive(Clone, Copy)]
 pub(crate) struct Last {
-    /// None where it was stepped by no column.
+    /// `None` before the first step.
     pub(crate) column: Option<usize>,
     pub(crate) id: StateID,
 }
 
 impl Construction {
-    /// No state was met.
+    /// A construction without states.
     pub(crate) fn new(
         alloc: Global,
         classes: &ByteClasses,
@@ -64,7 +64,7 @@ impl Construction {
         })
     }
 
-    /// The row of the state to which a column leads that isn't a quit byte's.
+    /// The row of the state to which a column leads. The column isn't a quit byte's.
     fn find_row(
         &mut self,
         stepper: &mut Stepper<'_>,
@@ -94,8 +94,8 @@ impl Construction {
         }
     }
 
-    /// Writes where a column that isn't a quit byte's leads the state under way, whose row is that of a place among the
-    /// states and began as that of a model or didn't.
+    /// Writes where a column leads the current state. The column isn't a quit byte's. `copied` is whether the row began
+    /// as a copy of its template.
     fn write_column(
         &mut self,
         stepper: &mut Stepper<'_>,
@@ -126,7 +126,7 @@ impl Construction {
         Ok(next)
     }
 
-    /// Writes where a column leads the state under way, unless it is ready.
+    /// Writes where a column leads the current state, unless that is written already.
     fn pass_column(
         &mut self,
         stepper: &mut Stepper<'_>,
@@ -166,8 +166,8 @@ impl Construction {
         })
     }
 
-    /// Writes the columns of a state's row that aren't ready: all, or where the row began as that of a model, those by
-    /// which rows of the state's own go on.
+    /// Writes the columns of a state's row: all of them, or, if the row was copied from a template, those on which the
+    /// state's own rows continue.
     fn fill(
         &mut self,
         stepper: &mut Stepper<'_>,
@@ -201,7 +201,7 @@ impl Construction {
         Ok(())
     }
 
-    /// Lets the row of the state under way begin as that of its model, where one is known, and tells whether it does.
+    /// Copies the current state's row from its template if there is one. Returns whether it did.
     fn begin_row(
         &self,
         stepper: &Stepper<'_>,
@@ -227,7 +227,7 @@ impl Construction {
         true
     }
 
-    /// Keeps the row of the state under way as a model, where by no column rows of its own go on.
+    /// Keeps the current state's row as a template if none of its own rows continues on any column.
     fn keep_model(&self, stepper: &Stepper<'_>, dfa: &OwnedDFA, place: usize, models: &mut Models)
         requires rows { AreRows dfa.now }
         requires suits { Suits (stepping_of stepper.now) self.now.units.items dfa.now }
@@ -243,8 +243,8 @@ impl Construction {
         models.keep(stepper.led_in(), place + 2);
     }
 
-    /// Writes the row of the state at a place among the states. It begins as that of the state's model, where one is
-    /// known, and else the state may become a model itself.
+    /// Writes the row of the state at an index. It starts as a copy of the state's template if there is one; otherwise
+    /// the state may become a template itself.
     fn step(
         &mut self,
         stepper: &mut Stepper<'_>,
@@ -279,7 +279,7 @@ impl Construction {
         Ok(())
     }
 
-    /// Writes the row of each state that was met, also of those that are met on the way.
+    /// Writes the row of each state, including those that are found on the way.
     pub(crate) fn explore(
         &mut self,
         stepper: &mut Stepper<'_>,
@@ -305,7 +305,7 @@ impl Construction {
     }
 }
 
-/// Whether the columns of a row that are ready may be passed by: it began as that of a model, and no byte quits.
+/// Whether columns can be skipped: the row was copied from a template, and there are no quit bytes.
 fn can_skip(dfa: &OwnedDFA, copied: bool) -> bool
     ensures { result ≡ true → (copied ≡ true) × (dfa.now.quit ≡ 0) }
 {
@@ -316,8 +316,7 @@ fn can_skip(dfa: &OwnedDFA, copied: bool) -> bool
     }
 }
 
-/// The next column from one on, or where columns are skipped by which no rows of the state's own go on, the next other
-/// one.
+/// The next column from `column` on. With `skips` it skips columns on which none of the state's own rows continue.
 #[inline]
 fn next_unready(stepper: &Stepper<'_>, column: usize, skips: bool) -> usize
     requires { column ≤ alphabet_len (stepping_of stepper.now).classes }
@@ -332,7 +331,7 @@ fn next_unready(stepper: &Stepper<'_>, column: usize, skips: bool) -> usize
     }
 }
 
-/// Whether a table quits at a unit. It never does at the end mark.
+/// Whether a table quits at a unit. It never quits at the end of input.
 #[inline]
 fn is_quit(dfa: &OwnedDFA, unit: Unit) -> bool
     ensures { result ≡ contains dfa.now.quit (unit_number unit) }

@@ -1,8 +1,8 @@
-//! Determinizing: an NFA's powerset states become the rows of a dense table.
+//! Determinizes an NFA into a dense table.
 //!
-//! [`Config::run`] steps each state that is reached by each unit, and each state that is met for the first time
-//! becomes a row. Its contract: what is left in the table is the powerset machine of the build, its rows in the order
-//! of `rx_order`, or the build is refused by a cause that holds.
+//! [`Config::run`] steps each reached state by every unit and adds a state to the table for each new one. Its contract
+//! (`IsDeterminized`): the table is the powerset machine of the build with its states in the order of `rx_order`, or
+//! the error names a cause that holds.
 #![tactic(auto)]
 
 mod config;

@@ -1,4 +1,4 @@
-//! The patterns of match rows.
+//! The patterns of match states.
 
 ghost use Rattle.std.specs.Prelude.{◌≡◌, ◌<◌, ◌≤◌, ◌+◌, All, IfOk, OnOk, length, take};
 ghost use Rattle.rx_spec.specs.Causes.{max_id};
@@ -14,7 +14,7 @@ use std::alloc::{AllocError, Global};
 use std::collections::BTreeMap;
 
 impl States {
-    /// The patterns of each row whose state tells some, by the row's id.
+    /// The patterns of each match state, by state id.
     pub(crate) fn matches(
         &self,
         alloc: Global,
@@ -32,7 +32,7 @@ impl States {
         Ok(matches)
     }
 
-    /// Adds the label of the key at a place, where it has one.
+    /// Adds the patterns of the key at an index, if it has some.
     fn add_label(
         &self,
         alloc: Global,
@@ -59,7 +59,7 @@ impl States {
     }
 }
 
-/// Numbers of patterns as ids.
+/// Converts pattern numbers to ids.
 fn patterns(alloc: Global, label: &[u32]) -> Result<Vec<PatternID>, AllocError>
     requires { All (λ k. k ≤ max_id) label.now }
     ensures { IfOk result (λ patterns. patterns.items ≡ label.now) }

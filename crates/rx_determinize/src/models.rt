@@ -1,15 +1,15 @@
-//! The rows with which the rows of other states begin.
+//! The template rows with which the rows of other states begin.
 
 ghost use Rattle.std.specs.Prelude.{◌≡◌, length, replicate, None};
 ghost use Rattle.rx_determinize.specs.Models.{kept_in, model_row};
 
 use std::marker::Model;
 
-/// How many places there are: one for each number of facts.
+/// How many templates there can be: one for each set of facts about the last unit.
 const CONTEXTS: usize = 32;
 
-/// For each number of what is known of the unit read last the row of a state that steps by each column as the lead-in's
-/// rows do by themselves: most states step so by most columns, so that their rows begin as this one.
+/// For each set of facts about the last unit, the row of a state that steps on every column as the lead-in's rows do
+/// alone. Most states do so on most columns, so their rows begin as copies of this one.
 #[derive(Drop)]
 pub(crate) struct Models {
     rows: [Option<usize>; 32],
@@ -25,7 +25,7 @@ impl Model for Models {
 }
 
 impl Models {
-    /// None is known.
+    /// No templates.
     pub(crate) fn new() -> Models
         ensures { result ≡ replicate 32 None }
     {
@@ -34,8 +34,8 @@ impl Models {
         }
     }
 
-    /// The row of the model of the states behind whose own rows the lead-in's follow, where this is known of the unit
-    /// read last. Where none follow it is the dead row.
+    /// The template row for states that end with the lead-in, in this context. For states that don't end with the
+    /// lead-in it is the dead row.
     pub(crate) fn row(&self, led_in: Option<u8>) -> Option<usize>
         ensures { result ≡ model_row self.now led_in }
     {
@@ -48,7 +48,7 @@ impl Models {
         }
     }
 
-    /// Keeps a row as a model.
+    /// Keeps a row as a template.
     pub(crate) fn keep(&mut self, led_in: Option<u8>, row: usize)
         ensures { self.new ≡ kept_in self.old led_in row }
     {

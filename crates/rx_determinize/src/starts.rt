@@ -30,7 +30,7 @@ const STARTS: [Start; 6] = [
 ];
 
 impl Construction {
-    /// Sets the start entries of a table to the rows of the states in which searches start.
+    /// Sets the start entries of a table to the rows of the start states.
     pub(crate) fn set_starts(
         &mut self,
         stepper: &mut Stepper<'_>,
@@ -68,7 +68,7 @@ impl Construction {
         Ok(())
     }
 
-    /// Sets the start entries of one mode, in which searches start at a row of the NFA; none is dead.
+    /// Sets the start entries of one mode, whose searches start at a row of the NFA. Without one the entries are dead.
     fn set_mode(
         &mut self,
         stepper: &mut Stepper<'_>,
@@ -103,7 +103,7 @@ impl Construction {
         Ok(())
     }
 
-    /// The row of the state in which a search starts at a row of the NFA, in a start context; none is dead.
+    /// The row of the start state for a row of the NFA and a start context. Without a row of the NFA it is dead.
     fn start_row(
         &mut self,
         stepper: &mut Stepper<'_>,

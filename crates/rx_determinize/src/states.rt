@@ -1,4 +1,4 @@
-//! The states that were met, each with a row of the table.
+//! The states of the construction, each with a row of the table.
 
 ghost use Rattle.std.specs.Prelude.{◌≡◌, ◌≢◌, ◌<◌, ◌≤◌, ◌+◌, ◌*◌, ◌^◌, [], ◌∷◌, ◌++◌, if◌then◌else◌, true, false};
 ghost use Rattle.std.specs.Prelude.{length};
@@ -19,7 +19,7 @@ use rx_stepper::Stepper;
 use std::alloc::Global;
 use std::marker::Model;
 
-/// The most bytes of a table, and of the states of its construction; none is no limit.
+/// The most bytes of a table and of its construction's states. `None` is no limit.
 #[derive(Clone, Copy)]
 pub(crate) struct SizeLimits {
     pub(crate) table: Option<usize>,
@@ -37,13 +37,13 @@ impl Model for SizeLimits {
     ghost inverse = { λ l. record { table = l.table; construction = l.construction } };
 }
 
-/// The states that were met, as keys, and what they count for.
+/// The states of the construction as keys, with their sizes.
 #[derive(Drop)]
 pub(crate) struct States {
     keys: Interner,
-    /// The bytes that all states count for.
+    /// The total size of all states, in bytes.
     size: u128,
-    /// How many patterns the labels of all states name.
+    /// The total length of the pattern lists of all states.
     patterns: u128,
 }
 
@@ -61,7 +61,7 @@ impl Model for States {
 }
 
 impl States {
-    /// None was met.
+    /// No states.
     pub(crate) fn new(alloc: Global) -> States
         ensures { result ≡ none_met }
     {
@@ -72,14 +72,14 @@ impl States {
         }
     }
 
-    /// How many there are.
+    /// The number of states.
     pub(crate) fn len(&self) -> usize
         ensures { result ≡ length self.now.keys }
     {
         self.keys.len()
     }
 
-    /// The key of a state, by its place among them.
+    /// The key of a state, by its index.
     pub(crate) fn key(&self, id: u32) -> &[u32]
         requires { id < length self.now.keys }
         ensures { slice_get self.now.keys id ≡ Some result.now }
@@ -87,7 +87,7 @@ impl States {
         self.keys.key(id)
     }
 
-    /// The row of a key's state, which is a new one where the state wasn't met before.
+    /// The row of a key's state. Adds the state if it is new.
     pub(crate) fn add(
         &mut self,
         stepper: &Stepper<'_>,
@@ -119,7 +119,7 @@ impl States {
         Ok(row_id(dfa, row))
     }
 
-    /// Refuses what passes a limit.
+    /// Returns an error if a limit is passed.
     fn check(&self, dfa: &OwnedDFA, limits: SizeLimits) -> Result<(), BuildError>
         requires { IsBare dfa.now }
         ensures ok { OnOk result (IsWithin limits self.now dfa.now) }
@@ -155,7 +155,7 @@ pub(crate) fn row_id(dfa: &OwnedDFA, row: usize) -> StateID
     StateID::must(row << dfa.stride2())
 }
 
-/// Adds a last row, which leads to dead.
+/// Adds a row in which every column leads to dead.
 fn add_row(dfa: &mut OwnedDFA) -> Result<(), BuildError>
     ensures ok { OnOk result (dfa.new ≡ with_row dfa.old) }
     ensures fits { OnOk result (length dfa.old.words ≤ max_id) }

@@ -1,4 +1,4 @@
--- What the functions of the compiler add to the rows.
+-- The rows that each function of the compiler adds.
 use Rattle.std.specs.Prelude.{ℕ, zero, suc, ◌≡◌, ◌==◌, ◌+◌, length, sum_by, Bool, true, false, Option, Some, None}
 use Rattle.std.specs.Prelude.{List, [], ◌∷◌, ◌++◌, map}
 use Rattle.std.specs.List.{list_all}

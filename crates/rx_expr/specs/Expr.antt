@@ -1,4 +1,4 @@
--- What an expression of the code stands for, and what is kept of it.
+-- The expression that an expression of the code means, and what is kept beside it.
 use Rattle.std.specs.Prelude.{ℕ, zero, suc, ◌≡◌, ◌-◌, ◌^◌, ◌/◌, ◌<◌, ◌≤◌, min, List, [], ◌∷◌, length}
 use Rattle.std.specs.Prelude.{take, drop}
 use Rattle.rx_spec.specs.Bytes.{only}

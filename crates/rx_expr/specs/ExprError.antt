@@ -1,4 +1,4 @@
--- Why a constructor refuses.
+-- When each constructor returns an error.
 use Rattle.std.specs.Prelude.{ℕ, ◌<◌, Option, Some, None, ◌≡◌}
 use Rattle.rx_spec.specs.Expressions.{Expression, min_len, depth}
 use Rattle.rx_expr.specs.declared.expr.ExprError.{ExprError}

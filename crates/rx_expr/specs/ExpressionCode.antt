@@ -1,4 +1,4 @@
--- An expression as a list of numbers, in postfix order, and back: a proof tells values apart by it.
+-- An expression as a list of numbers, in postfix order, and back. Proofs distinguish expressions by it.
 use Rattle.std.specs.Prelude.{ℕ, zero, suc, ◌≡◌, Bool, true, false, Option, Some, None, List, [], ◌∷◌, ◌++◌}
 use Rattle.std.specs.Prelude.{refl}
 use Rattle.std.specs.Coded.{Coded, code_by, coded×, coded_ℕ, coded_list}

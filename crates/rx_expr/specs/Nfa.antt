@@ -1,4 +1,4 @@
--- An NFA of the code as one of the definitions.
+-- The NFA of the definitions that an NFA of the code means.
 use Rattle.std.specs.Prelude.{map}
 use Rattle.rx_spec.specs.Nfas.{Nfa}
 use Rattle.rx_expr.specs.declared.thompson.nfa.NFA.{NFA}

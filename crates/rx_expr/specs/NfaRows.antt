@@ -1,4 +1,4 @@
--- The rows of the code as those of the definitions, and facts of them that an NFA keeps.
+-- The rows of the definitions that the rows of the code mean, and facts of them that an NFA keeps.
 use Rattle.std.specs.Prelude.{ℕ, zero, suc, ◌≡◌, ◌<◌, ◌≤◌, ◌==◌, ◌+◌, ◌*◌, Bool, false, List, length}
 use Rattle.std.proofs.Common.{ap}
 use Rattle.std.specs.Coded.{×_prop, Π_prop, Unit-prop}

@@ -1,4 +1,4 @@
-//! The bounds of a repetition, and its rows.
+//! The bounds of a repetition, and how many states it has.
 
 ghost use Rattle.std.specs.Prelude.{◌≡◌, ◌^◌, ◌≤◌, min as least, IfErr, OnOk};
 ghost use Rattle.rx_spec.specs.Expressions.{IsBounded};
@@ -7,8 +7,7 @@ ghost use Rattle.rx_expr.specs.ExprError.{RefusesBounds};
 
 use crate::expr::{Expr, ExprError, ROWS_LIMIT};
 
-/// Whether the bounds of a repetition are in order, and it reads a byte in each round where it has no
-/// end.
+/// Whether `min` is at most `max`, and the body reads a byte if there is no `max`.
 pub(crate) fn check_bounds(min: u32, max: Option<u32>, body: &Expr) -> Result<(), ExprError>
     ensures ok { OnOk result (IsBounded min max body.now) }
     ensures err { IfErr result (RefusesBounds min max body.now) }
@@ -20,7 +19,7 @@ pub(crate) fn check_bounds(min: u32, max: Option<u32>, body: &Expr) -> Result<()
     }
 }
 
-/// How many rows a repetition has, whose body has so many, up to [`ROWS_LIMIT`].
+/// How many states a repetition has whose body has `body` states, capped at [`ROWS_LIMIT`].
 pub(crate) fn repeated_rows(min: u32, max: Option<u32>, body: u64) -> u64
     requires { body ≤ 2 ^ 31 }
     ensures { result ≡ least (repeated_count min max body) (2 ^ 31) }

@@ -1,4 +1,4 @@
-//! Expressions: what a pattern is made of.
+//! Expressions: the syntax trees of patterns.
 
 ghost use Rattle.std.specs.Prelude.{◌≡◌, ◌+◌, ◌-◌, ◌*◌, ◌^◌, ◌<◌, ◌≤◌, min as least, IfOk, IfErr, OnOk};
 
@@ -8,16 +8,16 @@ use std::alloc::{AllocError, Global};
 use std::marker::Model;
 use thiserror::Error;
 
-/// The deepest expression that is accepted; a leaf has depth 1.
+/// The greatest depth of an expression. A leaf has depth 1.
 const MAX_DEPTH: u32 = 200;
 
-/// No NFA has more rows; counts of rows stand still there.
+/// The cap on counts of NFA states. No NFA has more than this.
 pub(crate) const ROWS_LIMIT: u64 = 1 << 31;
 
-/// An expression: what a pattern is made of.
+/// The syntax tree of a pattern.
 ///
-/// Contracts see it as the expression of the definitions. It is made by the constructors below from
-/// its leaves up, and its parts can be looked at by [`Expr::kind`].
+/// Contracts see it as the expression of the definitions. Build it from its leaves up by the calls below, and look at
+/// its parts by [`Expr::kind`].
 #[cycle(expr)]
 #[derive(Drop)]
 pub struct Expr {
@@ -34,14 +34,14 @@ enum Node {
     Inner(Box<Inner>),
 }
 
-/// A form with what is asked of it again and again.
+/// A form with parts, with what is often asked of it.
 #[cycle(expr)]
 #[derive(Drop)]
 struct Inner {
     form: Form,
-    /// The least length of a match, up to the greatest number.
+    /// The length in bytes of the shortest match, capped at 2^64 - 1.
     min_len: u64,
-    /// How many rows its NFA has, up to [`ROWS_LIMIT`].
+    /// The number of its NFA states, capped at [`ROWS_LIMIT`].
     rows: u32,
     depth: u32,
 }
@@ -80,42 +80,42 @@ impl Model for Expr {
     ghost size_decreases = { λ a h. node_falls a.node };
 }
 
-/// An expression taken apart, one level deep.
+/// An expression, one level deep.
 #[derive(Clone, Copy)]
 pub enum ExprKind<'a> {
-    /// Matches where it stands.
+    /// Matches the empty string.
     Empty,
-    /// One byte of a set.
+    /// Matches one byte of a set.
     Class(ByteSet),
-    /// Where an assertion holds.
+    /// Matches the empty string where an assertion holds.
     Look(Look),
-    /// The first and then the second.
+    /// The first part, then the second.
     Concat(&'a Expr, &'a Expr),
-    /// The first or else the second.
+    /// The first part or the second. The first is preferred.
     Alternate(&'a Expr, &'a Expr),
     /// From `min` to `max` rounds of a body.
     Repeat {
-        /// The least rounds.
+        /// The least number of rounds.
         min: u32,
-        /// The most rounds; none where there is no end.
+        /// The greatest number of rounds. `None` is no limit.
         max: Option<u32>,
-        /// Whether a further round is preferred.
+        /// Whether a further round is preferred to stopping.
         greedy: bool,
-        /// What is repeated.
+        /// The expression that is repeated.
         body: &'a Expr,
     },
 }
 
-/// Why an expression is refused. Its parts are dropped then.
+/// Why an expression isn't built. The parts that were passed are dropped.
 #[derive(Clone, Copy, Debug, PartialEq, Eq, Error)]
 pub enum ExprError {
-    /// The most rounds of a repetition are fewer than the least.
+    /// A repetition's `max` is below its `min`.
     #[error("a repetition's most rounds are fewer than its least")]
     BadRange,
-    /// A repetition has no end, and its body may match without a byte.
+    /// A repetition without a `max` has a body that can match the empty string.
     #[error("a repetition without an end has a body that can be empty")]
     EmptyBody,
-    /// The expression would be deeper than 200.
+    /// The expression would be more than 200 deep.
     #[error("the expression is deeper than 200")]
     TooDeep,
     /// Memory ran out.
@@ -132,14 +132,14 @@ impl Expr {
     ghost use Rattle.rx_expr.specs.Expr.{form_of, kind_of, HasPartsBelow, literal_of};
     ghost use Rattle.rx_expr.specs.ExprError.{RefusesJoin, RefusesRepeat};
 
-    /// Matches where it stands, without a byte.
+    /// Matches the empty string.
     pub fn empty() -> Expr
         ensures { result ≡ Expression.Empty }
     {
         Expr { node: Node::Empty }
     }
 
-    /// One byte of a set.
+    /// Matches one byte of a set.
     pub fn class(set: ByteSet) -> Expr
         ensures { result ≡ Expression.Class set }
     {
@@ -148,7 +148,7 @@ impl Expr {
         }
     }
 
-    /// Where an assertion holds.
+    /// Matches the empty string where an assertion holds.
     pub fn look(look: Look) -> Expr
         ensures { result ≡ Expression.Look look }
     {
@@ -157,7 +157,7 @@ impl Expr {
         }
     }
 
-    /// The first and then the second.
+    /// Matches the first part, then the second.
     #[tactic(auto, unfolding(crate::specs::Expr::min_len, crate::specs::Expr::depth, crate::specs::Expr::rows_count))]
     pub fn concat(alloc: Global, first: Expr, second: Expr) -> Result<Expr, ExprError>
         ensures ok { IfOk result (λ e. e ≡ Expression.Concat first second) }
@@ -173,7 +173,7 @@ impl Expr {
         Expr::inner(alloc, Form::Concat(first, second), min_len, rows, depth)
     }
 
-    /// The first or else the second: the first is preferred.
+    /// Matches the first part or the second. The first is preferred.
     #[tactic(auto, unfolding(crate::specs::Expr::min_len, crate::specs::Expr::depth, crate::specs::Expr::rows_count))]
     pub fn alternate(alloc: Global, first: Expr, second: Expr) -> Result<Expr, ExprError>
         ensures ok { IfOk result (λ e. e ≡ Expression.Alternate first second) }
@@ -189,8 +189,8 @@ impl Expr {
         Expr::inner(alloc, Form::Alternate(first, second), min_len, rows, depth)
     }
 
-    /// From `min` to `max` rounds of a body, or with no `max` without an end; a greedy repetition
-    /// prefers a further round, a lazy one none.
+    /// Matches from `min` to `max` rounds of a body. `None` as `max` is no limit. A greedy repetition prefers a further
+    /// round, a lazy one prefers to stop.
     #[tactic(auto, unfolding(crate::specs::Expr::min_len, crate::specs::Expr::depth, crate::specs::Expr::rows_count))]
     pub fn repeat(
         alloc: Global,
@@ -230,7 +230,7 @@ impl Expr {
         Expr::class(set)
     }
 
-    /// A form with what is kept beside it.
+    /// Makes a form with parts, with what is kept beside it.
     fn inner(
         alloc: Global,
         form: Form,
@@ -258,9 +258,8 @@ impl Expr {
         })
     }
 
-    /// The bytes one after another: of no byte the empty expression, of one its class, else the
-    /// concatenation of the literals of the first half, rounded down, and of the rest. Memory alone
-    /// can be wanting.
+    /// Matches a text. The expression is balanced: the literal of the first half of the bytes, rounded down, and that
+    /// of the second, concatenated. No byte makes the empty expression, one byte its class. The only error is `Memory`.
     #[tactic(auto, unfolding(crate::specs::Expr::literal_within))]
     pub fn literal(alloc: Global, bytes: &[u8]) -> Result<Expr, ExprError>
         ensures ok { IfOk result (λ e. e ≡ literal_of bytes.now) }
@@ -278,8 +277,8 @@ impl Expr {
         }
     }
 
-    /// The expression that matches the bytes of the matches in reverse: the parts of every
-    /// concatenation are swapped. Memory alone can be wanting.
+    /// The mirrored expression, which matches the reversed matches: the parts of each concatenation are swapped. The
+    /// only error is `Memory`.
     #[cycle(mirror)]
     #[tactic(auto, unfolding(rx_spec::specs::Expressions::mirror))]
     pub fn mirror(&self, alloc: Global) -> Result<Expr, ExprError>
@@ -294,7 +293,7 @@ impl Expr {
         }
     }
 
-    /// The form and the parts, each of which is less deep.
+    /// The form and the parts. Each part is less deep.
     #[tactic(auto, unfolding(rx_spec::specs::Expressions::depth))]
     pub fn kind(&self) -> ExprKind<'_>
         ensures whole { kind_of result ≡ self.now }
@@ -322,7 +321,7 @@ impl Expr {
         }
     }
 
-    /// The least number of bytes of a match; 2^64 - 1 stands for more too.
+    /// The length in bytes of the shortest match, capped at 2^64 - 1.
     #[tactic(auto, unfolding(rx_spec::specs::Expressions::min_len))]
     pub fn min_len(&self) -> u64
         ensures value { result ≡ least (least_len self.now) (2 ^ 64 - 1) }
@@ -336,7 +335,7 @@ impl Expr {
         }
     }
 
-    /// The depth: 1 for a leaf, else one more than that of the deepest part; at most 200.
+    /// The depth, at most 200: 1 for a leaf, otherwise one more than that of the deepest part.
     #[tactic(auto, unfolding(rx_spec::specs::Expressions::depth))]
     pub fn depth(&self) -> u32
         ensures value { result ≡ depth_of self.now }
@@ -348,7 +347,7 @@ impl Expr {
         }
     }
 
-    /// How many rows the NFA has for it, up to 2^31.
+    /// The number of its NFA states, capped at 2^31.
     #[tactic(auto, unfolding(rx_spec::specs::Rows::rows_count))]
     pub(crate) fn rows_len(&self) -> u64
         ensures value { result ≡ least (rows_count self.now) (2 ^ 31) }

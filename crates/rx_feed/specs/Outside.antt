@@ -1,4 +1,4 @@
--- What is read and written, where it is known.
+-- What is read and written, if it is known.
 use Rattle.std.specs.Prelude.{ℕ, ◌≡◌, Option, List, Result, Ok, Err}
 use Rattle.std.specs.Io.KnownBytes.{Appends}
 use Rattle.rx_transfer.specs.Outside.{AppendsFront}

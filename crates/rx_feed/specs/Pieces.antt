@@ -1,4 +1,4 @@
--- What a piece of a text tells, from a place of a searcher on, and what is written of it.
+-- What a searcher reports of a piece of a text, and what is written of it.
 use Rattle.std.specs.Prelude.{ℕ, ◌≡◌, ◌+◌, true, List, [], ◌∷◌, ◌++◌, length, All}
 use Rattle.std.specs.Io.KnownBytes.{Appends}
 use Rattle.rx_spec.specs.Bytes.{AreBytes}

@@ -1,4 +1,4 @@
--- What the command `feed` answers to an image and the haystack after it.
+-- What the command `feed` replies to an image and the text after it.
 use Rattle.std.specs.Prelude.{ℕ, ◌≡◌, ◌+◌, ◌<◌, ◌≤◌, ◌^◌, Bool, true, Some, None, Result, Ok, Err}
 use Rattle.std.specs.Prelude.{List, [], ◌∷◌, ◌++◌, length, All}
 use Rattle.rx_spec.specs.Queries.{Anchored}

@@ -1,4 +1,4 @@
--- What a run of the command `feed` leaves of its source and its sink.
+-- What a run of the command `feed` has read and written, for each way in which it ends (`FeedEnds`).
 use Rattle.std.specs.Prelude.{ℕ, ◌≡◌, ◌≢◌, ◌<◌, ◌≤◌, ◌+◌, ◌⊎◌, Bool, true, false, None, Result, Ok, Err}
 use Rattle.std.specs.Prelude.{List, [], ◌++◌, length, All}
 use Rattle.std.specs.Io.KnownBytes.{Consumes, Keeps, IsAtEnd, Appends}

@@ -17,10 +17,10 @@ use rx_sparse_image::SparseRead;
 use rx_spec::Form;
 use std::alloc::Global;
 
-/// Reads an image of a form, which takes the first so many bytes of the source, and then a text up to the source's end.
-/// Writes a line for each match that the table of the image tells of the text, as soon as it tells it.
+/// Runs the command `feed`. The first `len` bytes of the source are an image in this form, the rest is the text. Writes
+/// a line for each match that the image's table reports, as soon as the text decides it, and returns the status.
 ///
-/// All memory is taken before the first byte of the text.
+/// All memory is taken before the first byte of the text is read.
 pub fn feed<S: Source, K: Sink>(
     alloc: Global,
     form: Form,

@@ -1,17 +1,17 @@
-//! Why there is no answer.
+//! Why the command fails.
 
 ghost use Rattle.std.specs.Prelude.{◌≡◌};
 
 use std::alloc::{AllocError, AllocFailed};
 
-/// Why a run has no status of its own.
+/// Why the command has no status of its own.
 #[derive(Clone, Copy, Debug, PartialEq, Eq)]
 pub enum Fault {
     /// A read failed.
     Source,
     /// A write failed.
     Sink,
-    /// Want of memory.
+    /// Memory ran out.
     Memory,
 }
 

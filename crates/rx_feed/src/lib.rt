@@ -1,10 +1,10 @@
-//! The command `feed`: a text in pieces, and the lines of what a table tells of it.
+//! The command `feed`: searches a text in pieces and writes a line for each match.
 //!
-//! [`feed`] reads an image of a table, and then a text that it doesn't keep. Each match is written as soon as the text
+//! [`feed`] reads the image of a table and then a text, which it doesn't keep. It writes each match as soon as the text
 //! decides it, so a text may be longer than memory.
 //!
-//! The contract of a run is `FeedEnds` in `specs/Run.antt`: what was read and written, for each way in which the run
-//! ends. What is answered is `FeedReplies` in `specs/Replies.antt`.
+//! The contract is `FeedEnds` in `specs/Run.antt`: what was read and written, for each way in which a run ends.
+//! `FeedReplies` in `specs/Replies.antt` defines the reply.
 #![tactic(auto)]
 
 mod command;

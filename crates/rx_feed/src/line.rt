@@ -1,4 +1,4 @@
-//! A line that is made without memory from outside.
+//! A line of output that needs no allocation.
 
 ghost use Rattle.std.specs.Prelude.{◌≡◌, ◌≤◌, ◌<◌, ◌+◌, ◌∷◌, ◌++◌, length};
 ghost use Rattle.std.specs.Fmt.{decimal};
@@ -6,10 +6,10 @@ ghost use Rattle.rx_transfer.specs.Words.{newline};
 
 use std::marker::Model;
 
-/// The most bytes of a line.
+/// The greatest length of a line in bytes.
 const ROOM: usize = 64;
 
-/// A line. It is made from its end to its front, and has room for 64 bytes.
+/// A line of at most 64 bytes. It is built from its end to its front.
 #[derive(Drop)]
 pub(crate) struct Line {
     bytes: [u8; ROOM],
@@ -27,7 +27,7 @@ impl Model for Line {
 }
 
 impl Line {
-    /// A line with nothing before its end.
+    /// An empty line, with its line feed.
     pub(crate) fn new() -> Line
         ensures { result ≡ newline }
     {
@@ -37,7 +37,7 @@ impl Line {
         }
     }
 
-    /// The line.
+    /// The bytes of the line.
     pub(crate) fn as_slice(&self) -> &[u8]
         ensures { result.now ≡ self.now }
     {

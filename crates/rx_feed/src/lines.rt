@@ -1,4 +1,4 @@
-//! The lines that are written.
+//! The lines of the output.
 
 ghost use Rattle.std.specs.Prelude.{◌≡◌, ◌≢◌, ◌<◌, MatchOption};
 ghost use Rattle.rx_base.specs.Search.{mode_of};
@@ -58,7 +58,7 @@ fn hex_digit(digit: u8) -> u8
     }
 }
 
-/// The last line of a text with so many bytes.
+/// The last line, for a text of `count` bytes.
 pub(crate) fn end_line(count: u64) -> Line
     ensures { result ≡ end_line count }
 {
@@ -68,7 +68,7 @@ pub(crate) fn end_line(count: u64) -> Line
     line
 }
 
-/// The line that says that a table has no starts for a mode.
+/// The line for a mode without start states.
 pub(crate) fn unsupported_line(mode: &Anchored) -> Line
     ensures { result ≡ unsupported_line (mode_of mode.now) }
 {
@@ -85,7 +85,7 @@ pub(crate) fn unsupported_line(mode: &Anchored) -> Line
     line
 }
 
-/// The line that names the test that an image fails. There is none where memory ran out.
+/// The line that names the test that an image fails, or `None` if memory ran out.
 pub(crate) fn refused_line(kind: &DeserializeErrorKind) -> Option<&'static str>
     ensures { MatchOption result (kind_of kind.now ≡ Kind.Memory) (λ line.
         (kind_of kind.now ≢ Kind.Memory) × (line.now ≡ refused_line (kind_of kind.now))) }

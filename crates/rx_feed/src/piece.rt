@@ -17,18 +17,18 @@ use rx_search::Automaton;
 use rx_stream::{Fed, StreamEvent, StreamSearcher};
 use rx_transfer::write_text;
 
-/// Where a piece of a text is left.
+/// How a piece ends.
 #[derive(Clone, Copy, Debug, PartialEq, Eq)]
 pub(crate) enum PieceEnd {
-    /// At its end.
+    /// It was read to its end.
     Over,
-    /// At a quit byte.
+    /// The search read a quit byte.
     Quit { byte: u8, offset: usize },
-    /// At the line of a match, which the sink didn't take.
+    /// The sink didn't take the line of a match.
     Failed,
 }
 
-/// Feeds a piece to a searcher, and writes the line of each match.
+/// Feeds a piece to a searcher and writes the line of each match.
 pub(crate) fn feed_piece<A: Automaton, K: Sink>(
     searcher: &mut StreamSearcher<A>,
     piece: &[u8],
@@ -59,7 +59,7 @@ pub(crate) fn feed_piece<A: Automaton, K: Sink>(
     }
 }
 
-/// Ends a text of so many bytes, and writes the line of each match that the end tells, and the last line.
+/// Ends a text of `count` bytes: writes the line of each match that the end decides, and the last line.
 pub(crate) fn finish<A: Automaton, K: Sink>(
     searcher: &mut StreamSearcher<A>,
     count: u64,

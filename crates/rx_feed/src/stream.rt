@@ -19,7 +19,7 @@ use rx_search::Automaton;
 use rx_stream::StreamSearcher;
 use rx_wire::DeserializeError;
 
-/// The most bytes of a text that is answered.
+/// The most bytes of a text.
 const MOST_DATA: u64 = 1 << 40;
 
 /// The most bytes of a piece.
@@ -27,8 +27,7 @@ pub(crate) const PIECE: usize = 4096;
 
 const LONG_LINE: &[u8] = b"long\n";
 
-/// Reads a text through a buffer, and writes what the table of an image tells of it; or writes which test the image
-/// fails, and reads nothing.
+/// Searches a text piece by piece with the table of an image. If the image was rejected, writes why and reads nothing.
 pub(crate) fn feed_read<A: Automaton, S: Source, K: Sink>(
     read: Result<(A, usize), DeserializeError>,
     mode: Anchored,
@@ -58,7 +57,7 @@ pub(crate) fn feed_read<A: Automaton, S: Source, K: Sink>(
     }
 }
 
-/// Writes which test an image fails.
+/// Writes the test that an image fails.
 fn refuse<K: Sink>(error: &DeserializeError, out: &mut K) -> Result<u8, Fault>
     ensures refuses { Refuses error.now (record { before = K.written out.old; after = K.written out.new }) result }
     ensures few { IfOk result (λ status. status ≤ 4) }
@@ -72,8 +71,8 @@ fn refuse<K: Sink>(error: &DeserializeError, out: &mut K) -> Result<u8, Fault>
     }
 }
 
-/// Reads a text through a buffer, and writes what a table tells of it. Where the source has ended before, the text is
-/// empty, and nothing more is read.
+/// Searches a text piece by piece with a table. If the source ended already, the text is empty and nothing more is
+/// read.
 pub(crate) fn feed_stream<A: Automaton, S: Source, K: Sink>(
     table: A,
     mode: Anchored,
@@ -111,7 +110,7 @@ pub(crate) fn feed_stream<A: Automaton, S: Source, K: Sink>(
     }
 }
 
-/// Reads a text, and writes what a new searcher tells of it.
+/// Feeds a text to a new searcher and writes what it reports.
 fn feed_pieces<A: Automaton, S: Source, K: Sink>(
     searcher: &mut StreamSearcher<A>,
     buffer: &mut [u8],

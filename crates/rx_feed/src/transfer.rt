@@ -1,4 +1,4 @@
-//! Reading an image from the front of a source, and writing an answer into a sink.
+//! Reading an image from the front of a source, and writing a reply.
 
 ghost use Rattle.std.specs.Prelude.{◌≡◌, ◌≢◌, ◌<◌, ◌≤◌, ℕ, List, length, take, IfOk, true, false, Err};
 ghost use Rattle.std.specs.Io.KnownBytes.{Consumes, IsAtEnd, Appends};
@@ -10,8 +10,7 @@ use rx_base::{ReadAnswer, Sink, Source};
 use rx_transfer::{read_front, write_text};
 use std::alloc::Global;
 
-/// The first bytes that are left, at most so many, and whether the source ended before there were so many. They are
-/// read through a buffer.
+/// Reads at most `most` bytes through a buffer. Also returns whether the source ended before that many.
 pub(crate) fn read_most<S: Source>(
     alloc: Global,
     src: &mut S,
@@ -44,7 +43,7 @@ pub(crate) fn read_most<S: Source>(
     Ok((text, false))
 }
 
-/// Writes a text, and returns a status if all of it was taken.
+/// Writes a text and returns the status if the sink took all of it.
 pub(crate) fn write_reply<K: Sink>(out: &mut K, text: &[u8], status: u8) -> Result<u8, Fault>
     ensures written { Writes (K.written out.old) (K.written out.new) text.now status result }
     ensures told { IfOk result (λ told. told ≡ status) }

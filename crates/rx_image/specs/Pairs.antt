@@ -1,4 +1,4 @@
--- Images of two tables of one form, a forward one and one in reverse: the bytes of both layouts, and the layouts that
+-- Images of a forward and a reverse table of one form: `text` has the bytes of both layouts, `reads` the layouts that
 -- bytes spell, or the first test that they fail.
 use Rattle.std.specs.Prelude.{◌≡◌, ℕ, ◌-◌, ◌==◌, Bool, true, false, if◌then◌else◌, List, ◌++◌, length, drop, codes}
 use Rattle.std.specs.Prelude.{Result, Ok, Err}

@@ -1,4 +1,4 @@
--- Two tables that were read, as the pair that they are.
+-- Two tables that were read, as a pair.
 use Rattle.rx_dense.specs.Facts as dense
 use Rattle.rx_sparse.specs.Facts as sparse
 use Rattle.rx_image.specs.Pairs.{Pair}

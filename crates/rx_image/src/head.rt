@@ -3,7 +3,7 @@
 //! | bytes | what |
 //! |---|---|
 //! | 0 to 27 | the label, a NUL, and padding |
-//! | 28 to 31 | the word 0xFEFF, which tells the order of all numbers |
+//! | 28 to 31 | the word 0xFEFF, which marks the byte order |
 //! | 32 to 35 | the version |
 //! | 36 to 39 | the form of both tables: 0 is dense, 1 is sparse |
 
@@ -60,8 +60,8 @@ fn form_of(number: u32) -> Result<Form, DeserializeError>
     }
 }
 
-/// Splits the head off: the order and the form of both tables, and the bytes after the head. No NUL may stand before
-/// the label.
+/// Splits off the head. Returns the byte order and the form of both tables, and the bytes after the head. No NUL may
+/// stand before the label.
 #[tactic(auto, unfolding(crate::specs::Pairs::head_at))]
 pub(crate) fn split_head(bytes: &[u8]) -> Result<((Order, Form), &[u8]), DeserializeError>
     ensures { GivesExactly (λ x. (x.0, x.1.now)) result (head_at bytes.now) }

@@ -1,4 +1,4 @@
-//! Reading of pair images.
+//! Reads pair images.
 
 ghost use Rattle.std.specs.Prelude.{◌≡◌, ◌≤◌, ◌==◌, IfOk, drop, length};
 ghost use Rattle.rx_wire.specs.Kinds.{Gives};
@@ -22,26 +22,26 @@ use rx_spec::Form;
 use rx_wire::{DeserializeError, Order};
 use std::alloc::Global;
 
-/// Reads the pair of tables that `slice` begins with. Returns it with the length of its image in bytes; the bytes after
-/// the image aren't read.
+/// Reads the pair of tables that `slice` begins with and returns it with the length of its image in bytes. The bytes
+/// after the image aren't read.
 ///
-/// The image may be of either form and in either order. Dense tables are copied from it. Sparse tables borrow it, and
-/// take memory only while they are tested. Both tables are sound, so they can be searched at once. They can be written
-/// and read again.
+/// The image may be of either form and in either byte order. Dense tables are copied from it. Sparse tables borrow it
+/// and take memory only while they are tested. Both tables are sound, so they can be searched at once, and they can be
+/// written and read again.
 ///
 /// # Errors
 ///
-/// The error has the kind of the first test that fails, or `Memory` if memory runs out. The tests, in order:
+/// The kind of the first test that fails, or `Memory` if memory runs out. The tests, in order:
 ///
 /// | what is tested | kind |
 /// |---|---|
 /// | the label, with its NUL and padding | `Generic` if `slice` ends in it or no NUL comes, else `LabelMismatch` |
-/// | the word of the order: 0xFEFF | `BufferTooSmall`, `EndianMismatch` |
+/// | the word of the byte order: 0xFEFF | `BufferTooSmall`, `EndianMismatch` |
 /// | the version: 3 | `BufferTooSmall`, `VersionMismatch` |
 /// | the form: 0 or 1 | `BufferTooSmall`, `Generic` |
 /// | the image of the forward table | that of `from_bytes` of the form |
-/// | the order of that image: the pair's | `Generic` |
-/// | the image of the table in reverse, and its order | likewise |
+/// | the byte order of that image: the pair's | `Generic` |
+/// | the image of the reverse table, and its byte order | likewise |
 /// | both have the same number of patterns | `Generic` |
 #[tactic(auto, unfolding(crate::specs::Pairs::reads))]
 pub fn read_pair(alloc: Global, slice: &[u8]) -> Result<(Tables<'_>, usize), DeserializeError>
@@ -54,7 +54,7 @@ pub fn read_pair(alloc: Global, slice: &[u8]) -> Result<(Tables<'_>, usize), Des
     Ok((tables, slice.len().saturating_sub(rest.len())))
 }
 
-/// Both tables in a form, which must have an order, and the bytes after them.
+/// Reads both tables, which must have the byte order `order`. Returns the bytes after them too.
 fn split_tables(
     alloc: Global,
     order: Order,
@@ -71,7 +71,7 @@ fn split_tables(
     }
 }
 
-/// Two dense tables in an order, the forward one first, and the bytes after both. They must have as many patterns.
+/// Reads two dense tables in a byte order, the forward one first. They must have the same number of patterns.
 #[tactic(auto, unfolding(crate::specs::Pairs::dense_pair_at))]
 fn split_dense_pair(
     alloc: Global,
@@ -90,7 +90,7 @@ fn split_dense_pair(
     Ok((Tables::Dense(forward, reverse), rest))
 }
 
-/// Two sparse tables in an order, the forward one first, and the bytes after both. They must have as many patterns.
+/// Reads two sparse tables in a byte order, the forward one first. They must have the same number of patterns.
 #[tactic(auto, unfolding(crate::specs::Pairs::sparse_pair_at))]
 fn split_sparse_pair(
     alloc: Global,
@@ -109,7 +109,7 @@ fn split_sparse_pair(
     Ok((Tables::Sparse(forward, reverse), rest))
 }
 
-/// A dense table, whose image must be in an order, and the bytes after the image.
+/// Reads a dense table whose image must be in a byte order. Returns the bytes after the image too.
 #[tactic(auto, unfolding(crate::specs::Pairs::dense_at))]
 fn split_dense(
     alloc: Global,
@@ -128,7 +128,7 @@ fn split_dense(
     Ok((table, after(len, bytes)))
 }
 
-/// A sparse table, whose image must be in an order, and the bytes after the image.
+/// Reads a sparse table whose image must be in a byte order. Returns the bytes after the image too.
 #[tactic(auto, unfolding(crate::specs::Pairs::sparse_at))]
 fn split_sparse(
     alloc: Global,

@@ -1,4 +1,4 @@
-//! Writing of pair images.
+//! Writes pair images.
 
 ghost use Rattle.std.specs.Prelude.{◌≡◌, ◌+◌, IfOk, length};
 ghost use Rattle.rx_dense_image.specs.Images as dense;
@@ -14,10 +14,12 @@ use rx_spec::Form;
 use rx_wire::{BE, LE, Order};
 use std::alloc::{AllocError, Global};
 
-/// Writes two dense tables as one image, with all numbers in one order: a head of 40 bytes, the forward table's image
-/// and the image of the table in reverse. Both must have the same number of patterns.
+/// Writes two dense tables as one image in a byte order: a head of 40 bytes, the image of the forward table and that of
+/// the reverse table. Requires that both have the same number of patterns.
 ///
-/// Returns an error only if memory for the image runs out.
+/// # Errors
+///
+/// `AllocError` if memory for the image runs out.
 #[tactic(auto, unfolding(crate::specs::Pairs::text))]
 pub fn dense_pair(
     alloc: Global,
@@ -38,11 +40,13 @@ pub fn dense_pair(
     Ok(bytes)
 }
 
-/// Writes two sparse tables as one image, with all numbers in one order: a head of 40 bytes, the forward table's image
-/// and the image of the table in reverse. Both must have the same number of patterns. The bytes of either table may be
-/// in another order than the image.
+/// Writes two sparse tables as one image in a byte order: a head of 40 bytes, the image of the forward table and that
+/// of the reverse table. Requires that both have the same number of patterns. The tables may be in another byte order
+/// than the image.
 ///
-/// Returns an error only if memory for the image runs out.
+/// # Errors
+///
+/// `AllocError` if memory for the image runs out.
 #[tactic(auto, unfolding(crate::specs::Pairs::text))]
 pub fn sparse_pair<T: ByteStore>(
     alloc: Global,

@@ -1,4 +1,4 @@
--- How a key is found: from the newest key of its hash over older ones.
+-- How a key is found: from the newest key of its hash to older ones.
 use Rattle.std.specs.Prelude.{ℕ, suc, ◌≡◌, ◌≢◌, ◌==◌, Option, None, Some, List, [], ◌∷◌, if◌then◌else◌, slice_get, take}
 use Rattle.std.specs.Prelude.{unwrap_or, AllPairs}
 use Rattle.std.specs.Option.{option_map, option_or}

@@ -1,4 +1,4 @@
-//! Lists of numbers, each once, by their numbers.
+//! The interner: lists of numbers, each kept once.
 
 ghost use Rattle.std.specs.Prelude.{◌≡◌, ◌≢◌, ◌<◌, ◌^◌, ◌↔◌, [], ◌∷◌, ◌++◌, if◌then◌else◌, length, slice_get, Some};
 ghost use Rattle.std.specs.Prelude.{IsTrue, IfOk, OnErr, Contains, AllPairs};
@@ -10,22 +10,22 @@ use std::collections::HashMap;
 use std::collections::hash_map::Entry;
 use std::marker::Model;
 
-/// What interning a list answers.
+/// The result of interning a list.
 #[derive(Clone, Copy, Debug, PartialEq, Eq)]
 pub struct Interned {
     /// The list's number.
     pub id: u32,
-    /// Whether the list was not there before.
+    /// Whether the list is new.
     pub is_new: bool,
 }
 
-/// Lists of numbers, each once, numbered in the order in which they came.
+/// Lists of numbers, each kept once, numbered from 0 in the order in which they were added.
 ///
-/// Contracts see it as the list of these lists, the keys.
+/// Contracts see it as the list of these lists, its keys.
 #[derive(Drop)]
 pub struct Interner {
     links: Links,
-    /// The number of the newest key of each hash.
+    /// For each hash, the number of its newest key.
     newest: HashMap<u64, u32>,
 }
 
@@ -43,7 +43,7 @@ impl Model for Interner {
 }
 
 impl Interner {
-    /// No keys.
+    /// An interner without keys.
     pub fn new(alloc: Global) -> Interner
         ensures { result ≡ [] }
     {
@@ -53,7 +53,7 @@ impl Interner {
         }
     }
 
-    /// How many keys there are.
+    /// The number of keys.
     pub fn len(&self) -> usize
         ensures value { result ≡ length self.now }
         ensures distinct { AllPairs (λ key other. key ≢ other) self.now }
@@ -61,7 +61,7 @@ impl Interner {
         self.links.len()
     }
 
-    /// The key of a number.
+    /// The key with this number.
     pub fn key(&self, id: u32) -> &[u32]
         requires { id < length self.now }
         ensures { slice_get self.now id ≡ Some result.now }
@@ -69,7 +69,7 @@ impl Interner {
         self.links.get(id).0
     }
 
-    /// The number of a key, which is added where it isn't there.
+    /// The number of a key. Adds the key if it is new.
     pub fn intern(&mut self, key: &[u32]) -> Result<Interned, AllocError>
         requires { length self.old < 2 ^ 32 }
         ensures new { IfOk result (λ r. IsTrue r.is_new ↔ ¬ Contains self.old key.now) }

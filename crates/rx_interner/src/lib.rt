@@ -1,11 +1,11 @@
-//! Numbers for lists of numbers, so that a list is kept once and compared by its number.
+//! Numbers lists of numbers, so that each list is kept once and two lists are compared by their numbers.
 //!
-//! An [`Interner`] numbers lists in the order in which they come, each list once: start with its `intern`. Contracts
-//! see it as the list of its keys, and a key's number is its place there.
+//! Start with [`Interner::intern`]. Lists get numbers from 0 in the order in which they are added. Contracts see an
+//! interner as the list of its keys; a key's number is its place there.
 //!
-//! The keys stand one behind another in one vector of words (`links.rt`). A map leads from a hash to the newest key
-//! of that hash, and each key to the next older one of its hash (`specs/Index.antt`). Keys are compared number by
-//! number, so what the hash is (`hash.rt`) decides how fast a key is found, and never which.
+//! The keys lie one after another in one vector of words (`links.rt`). A map leads from each hash to the newest key
+//! with that hash, and each key leads to the next older one (`specs/Index.antt`). Keys are compared number by number,
+//! so the hash (`hash.rt`) decides only how fast a key is found.
 #![tactic(auto)]
 
 mod hash;

@@ -9,7 +9,7 @@ ghost use Rattle.rx_interner.specs.Index.{AreChained, newest_of};
 use std::alloc::{AllocError, Global};
 use std::marker::Model;
 
-/// Where a key stands among the words, and the link that it leads to.
+/// Where a key lies among the words, and the number of the older key that it links to.
 #[derive(Clone, Copy)]
 struct Entry {
     start: usize,
@@ -40,7 +40,7 @@ impl Model for Links {
 }
 
 impl Links {
-    /// No links.
+    /// No keys.
     pub(crate) fn new(alloc: Global) -> Links
         ensures { result ≡ [] }
     {
@@ -50,14 +50,14 @@ impl Links {
         }
     }
 
-    /// How many links there are.
+    /// The number of keys.
     pub(crate) fn len(&self) -> usize
         ensures { result ≡ length self.now }
     {
         self.entries.len()
     }
 
-    /// The key of a number, and the number of its older link.
+    /// The key with this number, and the number that it links to.
     pub(crate) fn get(&self, id: u32) -> (&[u32], u32)
         requires { id < length self.now }
         ensures { slice_get self.now id ≡ Some record { key = result.0.now; older = result.1 } }
@@ -66,7 +66,7 @@ impl Links {
         (&self.words[entry.start..entry.end], entry.older)
     }
 
-    /// Adds a key that leads to an older one, or to itself, and tells its number.
+    /// Adds a key that links to an older one, or to itself, and returns its number.
     pub(crate) fn push(&mut self, key: &[u32], older: Option<u32>) -> Result<u32, AllocError>
         requires { length self.old < 2 ^ 32 }
         ensures ok { OnOk result (self.new
@@ -85,7 +85,7 @@ impl Links {
         Ok(id)
     }
 
-    /// The number of a key, which is sought from the newest key of its hash over older ones.
+    /// Finds a key: starts at the newest key of its hash and follows the links. Returns its number.
     pub(crate) fn find(&self, key: &[u32], newest: u32) -> Option<u32>
         requires chained { AreChained self.now }
         requires newest { newest_of (hash_of key.now) (keys_of self.now) ≡ Some newest }

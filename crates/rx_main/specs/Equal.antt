@@ -1,4 +1,4 @@
--- What the command `equal` replies to its bytes: two images of tables, one behind the other.
+-- What the command `equal` replies to its bytes: the images of two tables, one after the other.
 use Rattle.std.specs.Prelude.{ℕ, ◌≡◌, ◌≢◌, ◌<◌, ◌≤◌, max, Result, Ok, Err, List, length, take, drop, AllPairs, Contains}
 use Rattle.rx_spec.specs.Machines.{IsWord}
 use Rattle.rx_spec.specs.Tables.{Table}

@@ -1,5 +1,5 @@
--- What the command `gen` replies: how many matches so many literals have in a haystack of their own, and the sum of
--- the matches' pattern numbers.
+-- What the command `gen` replies: the number of matches of generated literals in a generated haystack, and the sum of
+-- their pattern numbers.
 use Rattle.std.specs.Prelude.{ℕ, ◌≡◌, ◌+◌, ◌*◌, ◌/◌, ◌%◌, false, Ok, List, [], ◌∷◌, ◌++◌, length, map, sum_by, codes}
 use Rattle.std.specs.List.{flat_map, range_with_len}
 use Rattle.std.specs.Fmt.{decimal}

@@ -1,4 +1,4 @@
--- What is answered: a text of one or more lines, and the status that goes with it.
+-- Replies: a text of one or more lines, and a status.
 use Rattle.std.specs.Prelude.{ℕ, ◌≡◌, ◌+◌, ◌/◌, ◌%◌, nat_lt, if◌then◌else◌, List, [], ◌∷◌, ◌++◌, codes}
 use Rattle.std.specs.Fmt.{decimal}
 use Rattle.rx_spec.specs.Queries.{Anchored, Match, MatchError}

@@ -1,4 +1,4 @@
--- What a run of the program leaves of its source and its sink.
+-- What a run of the program has read and written.
 use Rattle.std.specs.Prelude.{◌≡◌, ℕ, Bool, true, List, Option}
 use Rattle.std.specs.Io.KnownBytes.{Consumes, IsAtEnd, Appends, Keeps}
 use Rattle.rx_base.specs.Search.{mode_of}

@@ -1,4 +1,4 @@
--- What the command `scan` replies to its bytes: an image of a table, and behind it a text that is cut into tokens.
+-- What the command `scan` replies to its bytes: an image of a table, then a text that is cut into tokens.
 use Rattle.std.specs.Prelude.{ℕ, ◌≡◌, List, ◌++◌, length, drop, codes, All}
 use Rattle.std.specs.List.{flat_map}
 use Rattle.std.specs.Fmt.{decimal}

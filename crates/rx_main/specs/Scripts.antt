@@ -1,4 +1,4 @@
--- What any command that reads a script replies to it.
+-- What all commands that read a script reply to one with a fault.
 use Rattle.std.specs.Prelude.{ℕ, ◌≡◌, Bool, Option, Some, None, List}
 use Rattle.rx_spec.specs.Expressions.{Expression}
 use Rattle.rx_spec.specs.Plans as plans

@@ -1,4 +1,4 @@
--- What the command `search` replies to its bytes: an image of a pair of tables, and behind it a haystack.
+-- What the command `search` replies to its bytes: an image of a pair of tables, then a haystack.
 use Rattle.std.specs.Prelude.{ℕ, ◌≡◌, ◌+◌, Bool, true, false, if◌then◌else◌, ◌&&◌, nat_le, List, [], length, take, drop}
 use Rattle.std.specs.Prelude.{codes, ◌++◌, Result, Ok, Err}
 use Rattle.rx_spec.specs.Bytes.{AreBytes}

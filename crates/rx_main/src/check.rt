@@ -19,7 +19,7 @@ use rx_sparse_image::SparseRead;
 use rx_wire::DeserializeErrorKind;
 use std::alloc::{AllocError, Global};
 
-/// The reply to some bytes, as an image of a form.
+/// The reply to bytes that should be an image of a form.
 pub fn check(alloc: Global, form: Form, bytes: &[u8]) -> Result<Reply, AllocError>
     ensures { IfOk result (CheckReplies form bytes.now) }
 {
@@ -29,7 +29,7 @@ pub fn check(alloc: Global, form: Form, bytes: &[u8]) -> Result<Reply, AllocErro
     }
 }
 
-/// The reply to bytes as an image of a dense table.
+/// The reply to bytes that should be an image of a dense table.
 fn check_dense(alloc: Global, bytes: &[u8]) -> Result<Reply, AllocError>
     ensures { IfOk result (CheckReplies Dense bytes.now) }
 {
@@ -39,7 +39,7 @@ fn check_dense(alloc: Global, bytes: &[u8]) -> Result<Reply, AllocError>
     }
 }
 
-/// The reply to bytes as an image of a sparse table.
+/// The reply to bytes that should be an image of a sparse table.
 fn check_sparse(alloc: Global, bytes: &[u8]) -> Result<Reply, AllocError>
     ensures { IfOk result (CheckReplies Sparse bytes.now) }
 {
@@ -49,7 +49,7 @@ fn check_sparse(alloc: Global, bytes: &[u8]) -> Result<Reply, AllocError>
     }
 }
 
-/// The reply to bytes as an image of two tables.
+/// The reply to bytes that should be an image of a pair.
 pub fn check_pair(alloc: Global, bytes: &[u8]) -> Result<Reply, AllocError>
     ensures { IfOk result (CheckPairReplies bytes.now) }
 {
@@ -59,7 +59,7 @@ pub fn check_pair(alloc: Global, bytes: &[u8]) -> Result<Reply, AllocError>
     }
 }
 
-/// The reply to an image of these tables, which takes so many bytes.
+/// The reply to an image of these tables that takes `size` bytes.
 fn accepted_pair_reply(alloc: Global, tables: &Tables<'_>, size: usize) -> Result<Reply, AllocError>
     ensures { IfOk result (λ reply. reply ≡ pair_rows_reply (pair_of tables.now) size) }
 {
@@ -83,7 +83,7 @@ fn accepted_pair_reply(alloc: Global, tables: &Tables<'_>, size: usize) -> Resul
     Ok(Reply::new(text, FOUND))
 }
 
-/// The reply to an image of a table of so many rows and patterns, which takes so many bytes.
+/// The reply to an image of a table with this number of rows and patterns that takes `size` bytes.
 fn accepted_reply(
     alloc: Global,
     rows: usize,
@@ -96,7 +96,7 @@ fn accepted_reply(
     Ok(Reply::new(text, FOUND))
 }
 
-/// The reply to bytes that fail a test of reading.
+/// The reply to bytes that fail a test of the reader.
 pub fn failed_test_reply(alloc: Global, kind: &DeserializeErrorKind) -> Result<Reply, AllocError>
     ensures { IfOk result (λ reply.
         (kind_of kind.now ≢ Kind.Memory) × (reply ≡ failed_test_reply (kind_of kind.now))) }

@@ -19,79 +19,79 @@ use rx_wire::Order;
 /// What a command line asks for.
 #[derive(Clone, Copy, Debug, PartialEq, Eq)]
 pub enum Command {
-    /// What is read from the source is answered.
+    /// A command that reads all of the source before it replies.
     Read(ReadCommand),
-    /// The matches of so many generated patterns, from 1 to 1000. Nothing is read.
+    /// `gen`: the number of generated patterns, from 1 to 1000. Nothing is read.
     Gen(u16),
-    /// All matches of a text, which is read after an image and isn't kept.
+    /// `feed`: all matches of a text that follows an image. The text isn't kept.
     Feed(Feed),
 }
 
-/// What is asked of the bytes of a source.
+/// A command that reads all of the source.
 #[derive(Clone, Copy, Debug, PartialEq, Eq)]
 pub enum ReadCommand {
-    /// The leftmost match of a script's patterns in its haystack.
+    /// `find`: the leftmost match of a script's patterns in its haystack.
     Find,
-    /// All matches, one after another.
+    /// `each`: all matches, one after another.
     Each,
-    /// The image of a table of a script's plan, its numbers in an order.
+    /// `image`: the image of one table of a script's plan, in a byte order.
     Image(PlanTable, Order),
-    /// One image of both tables of a script's plan, its numbers in an order.
+    /// `image pair`: one image of both tables of a script's plan, in a byte order.
     ImagePair(Order),
-    /// Whether the bytes are an image of a table of a form.
+    /// `check`: whether the bytes are an image of a table of a form.
     Check(Form),
-    /// Whether they are an image of two tables.
+    /// `check pair`: whether they are an image of a pair.
     CheckPair,
-    /// The leftmost match by the tables of an image, in what comes behind it.
+    /// `search`: the leftmost match in the text after the image of a pair.
     Search(Search),
-    /// The tokens by the table of an image of a form, of what comes behind it.
+    /// `scan`: the tokens of the text after the image of a table of a form.
     Scan(Form),
-    /// Whether the tables of two images mean the same.
+    /// `equal`: whether the tables of two images mean the same.
     Equal(Equal),
 }
 
-/// A search by the tables of an image.
+/// The words of `search`.
 #[derive(Clone, Copy, Debug, PartialEq, Eq)]
 pub struct Search {
-    /// The first offset of the span.
+    /// Where the span starts.
     pub start: u32,
-    /// The offset after the span.
+    /// Where the span ends.
     pub end: u32,
-    /// Where a match may begin.
+    /// The mode of the search.
     pub mode: Anchored,
-    /// How many of the bytes are the image, from 1 to 16,777,216. The haystack comes behind them.
+    /// The length of the image in bytes, from 1 to 16,777,216. The haystack follows the image.
     pub image_len: u32,
 }
 
-/// A comparison of the tables of two images.
+/// The words of `equal`.
 #[derive(Clone, Copy, Debug, PartialEq, Eq)]
 pub struct Equal {
     /// The form of the first table.
     pub form: Form,
     /// The form of the second table.
     pub other: Form,
-    /// How many of the bytes are the first image, from 1 to 16,777,216. The second comes behind them.
+    /// The length of the first image in bytes, from 1 to 16,777,216. The second image follows it.
     pub image_len: u32,
 }
 
-/// A search of a text by the table of an image.
+/// The words of `feed`.
 #[derive(Clone, Copy, Debug, PartialEq, Eq)]
 pub struct Feed {
     /// The form of the table.
     pub form: Form,
-    /// Where a match may begin.
+    /// The mode of the search.
     pub mode: Anchored,
-    /// How many bytes the image takes, from 1 to 16,777,216. The text comes behind them.
+    /// The length of the image in bytes, from 1 to 16,777,216. The text follows the image.
     pub image_len: u32,
 }
 
-/// The most patterns that are generated.
+/// The greatest number of generated patterns.
 const MOST_PATTERNS: u32 = 1000;
 
 /// The most bytes that are read.
 const MOST_BYTES: u32 = 16_777_216;
 
-/// The command that the words are.
+/// The command that the words are, or `None` if they are none.
 pub fn command_of(words: &Words) -> Option<Command>
     ensures { MatchOption result (SaysNothing words.now) (Says words.now) }
 {
@@ -254,7 +254,7 @@ fn is(word: &[u8], text: &[u8]) -> bool
     word == text
 }
 
-/// The number that a word says in decimal, without a leading zero but for 0 itself, where it lies in this range.
+/// The number that a word spells in decimal, without leading zeros, if it lies in the range.
 fn number_of(word: &[u8], least: u32, most: u32) -> Option<u32>
     requires { most ≤ 4294967295 }
     ensures { MatchOption result
@@ -267,7 +267,7 @@ fn number_of(word: &[u8], least: u32, most: u32) -> Option<u32>
     }
 }
 
-/// A number, if it lies in this range.
+/// The number if it lies in the range.
 fn within(number: u32, least: u32, most: u32) -> Option<u32>
     ensures { MatchOption result ((least ≤ number) × (number ≤ most) → ⊥)
         (λ n. (n ≡ number) × (least ≤ n) × (n ≤ most)) }

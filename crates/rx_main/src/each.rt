@@ -29,7 +29,7 @@ pub fn each(alloc: Global, text: &[u8]) -> Result<Reply, AllocError>
     }
 }
 
-/// The matches, or why nothing was searched.
+/// The reply with the matches, or with the error of the build.
 fn solve(alloc: Global, script: &Script) -> Result<Reply, AllocError>
     requires { IsAsking (script_read script.now).asked }
     ensures { IfOk result (AskedReplies EachAnswers (script_read script.now)) }
@@ -41,7 +41,7 @@ fn solve(alloc: Global, script: &Script) -> Result<Reply, AllocError>
     }
 }
 
-/// The matches of an input, and the error that ends them, where one does.
+/// The reply with the matches of an input, and the error that ends them, if any.
 fn matches_reply(alloc: Global, built: &Built, input: &Input<'_>) -> Result<Reply, AllocError>
     requires { IsFit (query_of input.now) }
     ensures { IfOk result (λ reply. (p : SearchPlan) (es : List Expression) → IsOf p es built.now

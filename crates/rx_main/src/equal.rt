@@ -29,7 +29,7 @@ use std::fmt::Write;
 /// The most patterns of a table that is compared.
 const MOST_COMPARED: usize = 65_536;
 
-/// The reply to the images of two tables, one behind the other.
+/// The reply to the images of two tables, one after the other.
 pub fn equal(alloc: Global, asked: &Equal, bytes: &[u8]) -> Result<Reply, AllocError>
     ensures { IfOk result (EqualReplies asked.now bytes.now) }
 {
@@ -87,7 +87,7 @@ fn compare_reply<A: Automaton, B: Automaton>(
     }
 }
 
-/// The reply where nothing parts the tables, of which so many pairs of rows are reached.
+/// The reply for tables that mean the same. `count` is the number of reached pairs of rows.
 fn equal_reply(alloc: Global, count: usize) -> Result<Reply, AllocError>
     ensures { IfOk result (λ reply. reply ≡ equal_reply count) }
 {
@@ -95,7 +95,7 @@ fn equal_reply(alloc: Global, count: usize) -> Result<Reply, AllocError>
     Ok(Reply::new(text, FOUND))
 }
 
-/// The reply that tells a place and a word that part the tables.
+/// The reply for tables that differ, with a place and a word at which they differ.
 fn differ_reply(alloc: Global, parting: &Parting) -> Result<Reply, AllocError>
     ensures { IfOk result
         (λ reply. reply ≡ differ_reply parting.now.place (map unit_number parting.now.word)) }
@@ -133,7 +133,7 @@ fn push_mode(text: &mut String, mode: &Anchored) -> Result<(), AllocError>
     }
 }
 
-/// Adds the byte beside a start, if there is one.
+/// Adds the byte beside the start, if there is one.
 fn push_beside(text: &mut String, beside: Option<u8>) -> Result<(), AllocError>
     ensures { OnOk result (string_bytes text.new ≡ string_bytes text.old ++ beside_text beside) }
 {
@@ -168,7 +168,7 @@ fn push_unit(text: &mut String, unit: Unit) -> Result<(), AllocError>
     }
 }
 
-/// Adds a byte in two digits.
+/// Adds a byte as two hexadecimal digits.
 fn push_hex(text: &mut String, byte: u8) -> Result<(), AllocError>
     ensures { OnOk result (string_bytes text.new ≡ string_bytes text.old ++ hex_text byte) }
 {

@@ -25,7 +25,7 @@ pub fn find(alloc: Global, text: &[u8]) -> Result<Reply, AllocError>
     }
 }
 
-/// What is found, or why nothing was searched, or why the search has no answer.
+/// The reply with what is found, or with the error of the build or the search.
 fn solve(alloc: Global, script: &Script) -> Result<Reply, AllocError>
     requires { IsAsking (script_read script.now).asked }
     ensures { IfOk result (AskedReplies FindAnswers (script_read script.now)) }
@@ -44,7 +44,7 @@ fn solve(alloc: Global, script: &Script) -> Result<Reply, AllocError>
     }
 }
 
-/// The reply where nothing fails.
+/// The reply of a search without an error.
 fn found_reply(alloc: Global, answer: &Answer, rows: bool) -> Result<Reply, AllocError>
     ensures { IfOk result (λ reply. reply
         ≡ found_reply answer.now.found (rows_text rows answer.now.forward_rows answer.now.reverse_rows)) }
@@ -56,7 +56,7 @@ fn found_reply(alloc: Global, answer: &Answer, rows: bool) -> Result<Reply, Allo
     Ok(Reply::new(text, found_status(answer.found)))
 }
 
-/// The line of a match, or of none.
+/// The line for a match, or for none.
 pub fn found_line(alloc: Global, found: Option<Match>) -> Result<String, AllocError>
     ensures { IfOk result (λ text. string_bytes text ≡ found_line found) }
 {
@@ -68,7 +68,7 @@ pub fn found_line(alloc: Global, found: Option<Match>) -> Result<String, AllocEr
     Ok(text)
 }
 
-/// The status that goes with it.
+/// The status for a match, or for none.
 pub fn found_status(found: Option<Match>) -> u8
     ensures { result ≡ found_status found }
 {

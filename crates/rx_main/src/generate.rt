@@ -1,4 +1,4 @@
-//! The command `gen`: so many literals, searched in a haystack of their own.
+//! The command `gen`: generated literals, searched in a generated haystack.
 
 ghost use Rattle.std.specs.Prelude.{◌≡◌, ◌+◌, ◌<◌, ◌≤◌, IfOk};
 ghost use Rattle.rx_plan.specs.Plan.{plan_of, usual};
@@ -12,13 +12,13 @@ use rx_expr::Expr;
 use rx_regex::{Built, Plan};
 use std::alloc::{AllocError, Global};
 
-/// The length of a literal.
+/// The length of a literal in bytes.
 const LITERAL_LEN: usize = 6;
 
-/// How many literals the haystack has for each pattern.
+/// The number of literals in the haystack for each pattern.
 const ROUNDS: usize = 20;
 
-/// The reply for a number of patterns.
+/// The reply for `count` patterns.
 pub fn generate(alloc: Global, count: u16) -> Result<Reply, AllocError>
     requires some { 1 ≤ count }
     requires few { count ≤ 1000 }
@@ -69,7 +69,8 @@ fn patterns(alloc: Global, count: u16) -> Result<Vec<Expr>, AllocError>
     Ok(exprs)
 }
 
-/// The haystack: literals of the patterns in turn, seven apart, each with a dash behind it.
+/// The haystack: 20 literals for each pattern, each followed by a dash. The literal at index j is that of pattern
+/// (7 j + 3) mod `count`.
 fn haystack(alloc: Global, count: u16) -> Result<Vec<u8>, AllocError>
     requires some { 1 ≤ count }
     requires few { count ≤ 1000 }
@@ -85,7 +86,7 @@ fn haystack(alloc: Global, count: u16) -> Result<Vec<u8>, AllocError>
     Ok(bytes)
 }
 
-/// How many matches there are, and the sum of their pattern numbers.
+/// The reply with the number of matches and the sum of their pattern numbers.
 fn count_matches(alloc: Global, built: &Built, count: u16) -> Result<Reply, AllocError>
     requires some { 1 ≤ count }
     requires few { count ≤ 1000 }

@@ -1,4 +1,4 @@
-//! The command `image`: the image of a table of a script's plan, or of the two that are searched together.
+//! The command `image`: the image of one table of a script's plan, or of both tables that are searched together.
 
 ghost use Rattle.std.specs.Prelude.{IfOk};
 ghost use Rattle.rx_script.specs.Script.{script_read};
@@ -28,7 +28,7 @@ pub fn image(
     }
 }
 
-/// The image, or why no table is built.
+/// The reply with the image, or with the error of the build.
 fn image_reply(
     alloc: Global,
     script: &Script,
@@ -53,7 +53,7 @@ pub fn pair_image(alloc: Global, text: &[u8], order: Order) -> Result<Reply, All
     }
 }
 
-/// The image of both tables, or why one of them isn't built.
+/// The reply with the image of both tables, or with the error of the build.
 fn pair_image_reply(alloc: Global, script: &Script, order: Order) -> Result<Reply, AllocError>
     ensures { IfOk result (PairImageAnswers order (script_read script.now)) }
 {

@@ -1,4 +1,4 @@
-//! Laws on what is replied. Each function has an empty body, and its clause is the law.
+//! Laws of the replies. Each function has an empty body, and its clause is the law.
 
 ghost use Rattle.std.specs.Prelude.{ℕ, Bool, List};
 ghost use Rattle.rx_main.specs.Equal.{EqualOrDiffer};
@@ -8,35 +8,38 @@ ghost use Rattle.rx_main.specs.Replies.{Replies, SayTheSame};
 ghost use Rattle.rx_main.specs.Scan.{ScanTellsMatches};
 ghost use Rattle.rx_main.specs.Search.{SearchFinds};
 
-/// At most one reply fits a command line and the bytes that were taken from the source, but for three choices. A
-/// refused build names any one of the causes that hold: then all replies that fit say that a build is refused. Rows of
-/// one kind may lie in any order in an image: then all replies that fit are images of the table of the script's plan,
-/// or of both tables, of the kind and in the order that the words name. And of two tables that differ, any place and
-/// word that part them may be told: then all replies that fit tell such. So each line is written exactly where the
-/// definition of replies says that it may be, and the numbers of rows are no others.
+/// Any two replies that fit the same words and bytes are the same, with four exceptions (`SayTheSame`):
+///
+/// - Both say that a build is refused: any cause that holds may be named.
+/// - One says that minimized sparse tables are refused because a bound of their size is exceeded. The build may succeed
+///   all the same.
+/// - Both are images of the table, or of both tables, that the words and the script ask for: rows of one kind may lie
+///   in any order.
+/// - Both say that two tables differ: any place and word at which they differ may be named.
 pub fn one_reply()
     ensures { (words : List (List ℕ)) (bytes : List ℕ) (ended also_ended : Bool) (reply other : Reply)
         → Replies words bytes ended reply → Replies words bytes also_ended other
         → SayTheSame words bytes reply other }
 {}
 
-/// Over an image of both tables of a plan, which `image pair` wrote, `search` replies what `find` replies.
+/// If `image pair` wrote the image, `search` replies what `find` replies.
 pub fn search_finds()
     ensures { SearchFinds }
 {}
 
-/// Over an image that `image all` wrote, `scan` tells the tokens of the text behind it by the script's expressions:
-/// each is the longest match from where the one before it ended, and of the lowest pattern that matches so far.
+/// If `image all` wrote the image, `scan` reports the tokens of the text by the script's expressions: each is the
+/// longest match from where the one before it ended, of the lowest pattern that matches so far.
 pub fn scan_tells_matches()
     ensures { ScanTellsMatches }
 {}
 
-/// The line of a place and a word that part two tables, worked by hand.
+/// Lines of `equal` for tables that differ, worked by hand.
 pub fn differ_lines()
     ensures { DifferLines }
 {}
 
-/// No two tables are told both as equal and as different, and equal ones by one number of pairs.
+/// `equal` never replies of the same two tables both that they are equal and that they differ, and it gives equal
+/// tables one number of pairs.
 pub fn equal_or_differ()
     ensures { EqualOrDiffer }
 {}

@@ -1,9 +1,9 @@
-//! The program as a function: from the words of a command line and the bytes of a source to what is written, lines
-//! or an image, and the status.
+//! The program as a function: from the words of a command line and the bytes of a source to the bytes written and the
+//! status.
 //!
-//! [`run`] is the whole program. Its contract ties what is written to the words and the bytes read by
-//! the definition `Replies` of `specs/Replies.antt`, which has a file for each command. Scripts and
-//! their reader are a crate of their own, whose public names are handed on here.
+//! [`run`] is the whole program. Its contract ties what is written to the words and the bytes read by the definition
+//! `Replies` of `specs/Replies.antt`, which has a file for each command. Scripts and their reader are in `rx_script`,
+//! whose public names are exported here.
 #![tactic(auto)]
 
 mod check;

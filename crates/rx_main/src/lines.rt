@@ -1,4 +1,4 @@
-//! The lines that are written, and the replies that are one line.
+//! The lines of the replies, and the replies of one line.
 
 ghost use Rattle.std.specs.Prelude.{◌≡◌, ◌++◌, ◌<◌, ◌≤◌, IfOk, OnOk};
 ghost use Rattle.std.specs.String.{string_bytes};
@@ -13,21 +13,21 @@ use rx_script::BadKind;
 use std::alloc::{AllocError, Global};
 use std::fmt::Write;
 
-/// The reply to words that are no command.
+/// The reply to words that aren't a command.
 pub fn usage_reply(alloc: Global) -> Result<Reply, AllocError>
     ensures { IfOk result (λ reply. reply ≡ usage_reply) }
 {
     fixed_reply(alloc, "usage\n", TURNED_DOWN)
 }
 
-/// The reply to a source with more bytes than are read.
+/// The reply to a source that has too many bytes.
 pub fn long_reply(alloc: Global) -> Result<Reply, AllocError>
     ensures { IfOk result (λ reply. reply ≡ long_reply) }
 {
     fixed_reply(alloc, "long\n", TURNED_DOWN)
 }
 
-/// The reply to a script with a fault: the line of the first one, and what is wrong with it.
+/// The reply to a script with a fault: its line and its kind.
 pub fn fault_reply(alloc: Global, line: u64, kind: BadKind) -> Result<Reply, AllocError>
     ensures { IfOk result (λ reply. reply ≡ fault_reply line kind) }
 {
@@ -56,7 +56,7 @@ pub fn refusal_reply(alloc: Global, error: &BuildError) -> Result<Reply, AllocEr
     }
 }
 
-/// The reply of a search that ends by an error, after the lines of what it found before.
+/// The reply of a search that ends with an error, after the lines of the matches before it.
 pub fn error_reply(lines: String, error: &MatchError) -> Result<Reply, AllocError>
     ensures { IfOk result (λ reply. reply ≡ error_reply (string_bytes lines) error.now) }
 {
@@ -65,7 +65,7 @@ pub fn error_reply(lines: String, error: &MatchError) -> Result<Reply, AllocErro
     Ok(Reply::new(text, FAILED))
 }
 
-/// A reply that is always the same.
+/// A reply of one line.
 pub fn fixed_reply(alloc: Global, text: &str, status: u8) -> Result<Reply, AllocError>
     requires { status ≤ 4 }
     ensures { IfOk result (λ reply. reply ≡ record { text = text.now; status = status }) }
@@ -83,7 +83,7 @@ pub fn push_match(text: &mut String, found: &Match) -> Result<(), AllocError>
     writeln!(text, "match {pattern} {start} {end}")
 }
 
-/// Adds the line of the numbers of rows.
+/// Adds the line with the numbers of rows.
 pub fn push_rows(text: &mut String, forward: u64, reverse: u64) -> Result<(), AllocError>
     ensures { OnOk result (string_bytes text.new ≡ string_bytes text.old ++ rows_line forward reverse) }
 {

@@ -30,7 +30,7 @@ use rx_feed::{Fault, feed};
 use rx_transfer::write_text;
 use std::alloc::{AllocError, Global};
 
-/// The status where the source failed, where the sink failed, and where memory ran out.
+/// The status if the source fails.
 const SOURCE_FAILED: u8 = 5;
 
 const SINK_FAILED: u8 = 6;
@@ -42,7 +42,7 @@ const NO_MEMORY: u8 = 7;
 enum Stop {
     /// The source failed.
     Failed,
-    /// Want of memory.
+    /// Memory ran out.
     Memory,
 }
 
@@ -57,16 +57,16 @@ impl From<AllocError> for Stop {
     }
 }
 
-/// What is answered to a command line.
+/// What a command line produces.
 #[derive(Drop)]
 pub enum Output {
-    /// A reply, which is written once it is whole.
+    /// A reply, which is written when it is complete.
     Reply(Reply),
-    /// Lines that are written while a text is read.
+    /// The lines of `feed`, which are written while a text is read.
     Feed(Feed),
 }
 
-/// Finds what is answered. Reads what the command reads, but for `feed` nothing.
+/// Produces the output. Reads the source, except for `feed`.
 fn answer<S: Source>(alloc: Global, words: &Words, src: &mut S) -> Result<Output, Stop>
     ensures took { IfOk result (IsOutput words.now (S.left src.old) (S.left src.new)) }
     ensures other { IfErr result (λ stop. IsNoFeed words.now) }
@@ -83,7 +83,7 @@ fn answer<S: Source>(alloc: Global, words: &Words, src: &mut S) -> Result<Output
     }
 }
 
-/// Reads all of the source, and finds the reply.
+/// Reads all of the source and produces the reply.
 fn reply<S: Source>(alloc: Global, command: ReadCommand, src: &mut S) -> Result<Reply, Stop>
     ensures took { IfOk result (λ reply. (words : List (List ℕ)) → Says words (Asked.Read command)
         → Took words (S.left src.old) (S.left src.new) reply) }
@@ -113,7 +113,7 @@ fn read_reply(alloc: Global, command: ReadCommand, bytes: &[u8]) -> Result<Reply
     }
 }
 
-/// What comes of a source that isn't read to its end.
+/// The outcome for a source that wasn't read to its end.
 fn unread_reply(alloc: Global, fault: TextFault) -> Result<Reply, Stop>
     ensures told { IfOk result (λ reply. (fault ≡ TextFault.Long) × (reply ≡ long_reply)) }
     ensures failed { result ≡ Err Stop.Failed ↔ (fault ≡ TextFault.Failed) }
@@ -125,12 +125,17 @@ fn unread_reply(alloc: Global, fault: TextFault) -> Result<Reply, Stop>
     }
 }
 
-/// Runs a command line: reads what it reads from the source, and writes the lines or the image that answer it into
-/// the sink. The result is the status.
+/// Runs a command line: reads the source, writes the reply to the sink, and returns the exit status.
 ///
-/// With a status up to 4 all of it was written, with 6 a part of it, and with 7 nothing. With 5 nothing was written
-/// either, but `feed` wrote what the bytes that it took tell. 5 says that the source failed, 6 that the sink did, and 7
-/// that memory ran out: without a fault that the source or the sink counted there is no status 5 or 6.
+/// | status | what was written |
+/// |---|---|
+/// | 0 to 4 | the whole reply |
+/// | 5: the source failed | nothing; by `feed`, the lines that the bytes read decide |
+/// | 6: the sink failed | a part of the reply |
+/// | 7: memory ran out | nothing |
+///
+/// Status 5 is returned only if the source's count of faults rose, 6 only if the sink's did. No other status is
+/// returned.
 pub fn run<S: Source, K: Sink>(alloc: Global, words: &Words, src: &mut S, out: &mut K) -> u8
     ensures answers { result ≤ 4
         → Answers words.now (record {
@@ -176,7 +181,7 @@ pub fn run<S: Source, K: Sink>(alloc: Global, words: &Words, src: &mut S, out: &
     }
 }
 
-/// Writes a reply. The result is the status.
+/// Writes a reply and returns the status.
 fn write_reply<K: Sink>(reply: &Reply, out: &mut K) -> u8
     ensures whole { result ≤ 4
         → (result ≡ reply.now.status) × Appends (K.written out.old) (K.written out.new) reply.now.text }
@@ -191,7 +196,7 @@ fn write_reply<K: Sink>(reply: &Reply, out: &mut K) -> u8
     SINK_FAILED
 }
 
-/// Reads an image and a text, and writes what the table of the image tells of the text. The result is the status.
+/// Runs `feed` and returns the status.
 fn feed_status<S: Source, K: Sink>(alloc: Global, asked: Feed, src: &mut S, out: &mut K) -> u8
     ensures answers { result ≤ 4
         → FeedAnswers asked.form (mode_of asked.mode) asked.image_len (record {

@@ -1,26 +1,26 @@
-//! What is answered.
+//! Replies.
 
 ghost use Rattle.std.specs.Prelude.{◌≡◌, ◌≤◌};
 ghost use Rattle.std.specs.String.{string_bytes};
 
 use std::marker::Model;
 
-/// The status where something matches, or is counted, and where an image is written or accepted.
+/// The status if something matches, is counted, is accepted or is equal, or if an image is written.
 pub const FOUND: u8 = 0;
 
-/// The status where nothing matches, or an image is refused.
+/// The status if nothing matches, an image is rejected, a scan is stuck, or tables differ.
 pub const NOT_FOUND: u8 = 1;
 
-/// The status where the words are no command, or the source is no script that is answered.
+/// The status if the words aren't a command, or the script or the request has a fault.
 pub const TURNED_DOWN: u8 = 2;
 
-/// The status where a build is refused.
+/// The status if a build is refused.
 pub const REFUSED: u8 = 3;
 
-/// The status where a search ends by an error.
+/// The status if a search ends with an error.
 pub const FAILED: u8 = 4;
 
-/// What is written, one or more lines or an image, and the status that goes with it, at most 4.
+/// A reply: the bytes to write, which are lines or an image, and the exit status, at most 4.
 #[derive(Drop)]
 pub struct Reply {
     text: Vec<u8>,
@@ -39,7 +39,7 @@ impl Model for Reply {
 }
 
 impl Reply {
-    /// Lines and their status.
+    /// A reply of lines.
     pub fn new(lines: String, status: u8) -> Reply
         requires { status ≤ 4 }
         ensures { result ≡ record { text = string_bytes lines; status = status } }
@@ -47,7 +47,7 @@ impl Reply {
         Reply::from_bytes(lines.into_bytes(), status)
     }
 
-    /// Bytes and their status.
+    /// A reply of bytes.
     pub fn from_bytes(text: Vec<u8>, status: u8) -> Reply
         requires { status ≤ 4 }
         ensures { result ≡ record { text = text.items; status = status } }
@@ -55,7 +55,7 @@ impl Reply {
         Reply { text, status }
     }
 
-    /// What is written.
+    /// The bytes to write.
     pub fn text(&self) -> &[u8]
         ensures { result.now ≡ self.now.text }
     {

@@ -1,4 +1,4 @@
-//! The command `scan`: the tokens by the table of an image, of the text behind it.
+//! The command `scan`: the tokens of the text after an image.
 
 ghost use Rattle.std.specs.Prelude.{◌≡◌, ◌++◌, IfOk, OnOk, drop};
 ghost use Rattle.std.specs.String.{string_bytes};
@@ -20,7 +20,7 @@ use rx_sparse_image::SparseRead;
 use std::alloc::{AllocError, Global};
 use std::fmt::Write;
 
-/// The reply to an image of a table of a form and the text behind it.
+/// The reply to an image of a table of a form and the text after it.
 pub fn scan(alloc: Global, form: Form, bytes: &[u8]) -> Result<Reply, AllocError>
     ensures { IfOk result (ScanReplies form bytes.now) }
 {
@@ -50,7 +50,7 @@ fn scan_sparse(alloc: Global, bytes: &[u8]) -> Result<Reply, AllocError>
     }
 }
 
-/// The bytes behind those of the image.
+/// The bytes after the image.
 fn behind(bytes: &[u8], size: usize) -> &[u8]
     ensures { result.now ≡ drop size bytes.now }
 {
@@ -59,7 +59,7 @@ fn behind(bytes: &[u8], size: usize) -> &[u8]
     text
 }
 
-/// The tokens of a text, and how they end.
+/// The reply with the tokens of a text and how they end.
 fn scanned_reply<A: Automaton>(alloc: Global, table: &A, text: &[u8]) -> Result<Reply, AllocError>
     requires { A.IsSound table.now }
     ensures { IfOk result (λ reply. reply ≡ scanned_reply (A.table table.now) text.now) }
@@ -87,7 +87,7 @@ fn push_token(lines: &mut String, token: &Token) -> Result<(), AllocError>
     writeln!(lines, "token {pattern} {start} {end} {line} {column}")
 }
 
-/// The reply of the lines of so many tokens that end so.
+/// The reply with the lines of `count` tokens that end like this.
 fn end_reply(lines: String, count: u64, end: ScanEnd) -> Result<Reply, AllocError>
     ensures { IfOk result (λ reply. reply ≡ end_reply (string_bytes lines) count end) }
 {
@@ -101,7 +101,7 @@ fn end_reply(lines: String, count: u64, end: ScanEnd) -> Result<Reply, AllocErro
     }
 }
 
-/// The reply where the text is cut to its end.
+/// The reply for a text that is cut to its end.
 fn done_reply(lines: String, count: u64) -> Result<Reply, AllocError>
     ensures { IfOk result (λ reply. reply ≡ end_reply (string_bytes lines) count ScanEnd.Done) }
 {
@@ -110,7 +110,7 @@ fn done_reply(lines: String, count: u64) -> Result<Reply, AllocError>
     Ok(Reply::new(text, FOUND))
 }
 
-/// The reply where no token begins at an offset.
+/// The reply for a text in which no token begins at an offset.
 fn stuck_reply(lines: String, offset: usize) -> Result<Reply, AllocError>
     ensures { IfOk result (λ reply. reply ≡ end_reply (string_bytes lines) 0 (ScanEnd.Stuck offset)) }
 {

@@ -1,4 +1,4 @@
-//! Scripts: what every command that reads one has in common.
+//! What all commands that read a script share.
 
 ghost use Rattle.std.specs.Prelude.{◌≡◌, IfOk, Some};
 ghost use Rattle.rx_spec.specs.Queries.{IsFit};
@@ -12,16 +12,16 @@ use rx_base::Input;
 use rx_script::{Script, ScriptFault, read_script};
 use std::alloc::{AllocError, Global};
 
-/// What a text is.
+/// The result of reading a script.
 #[derive(Drop)]
 pub enum Reading {
     /// A script.
     Script(Script),
-    /// No script, and the reply to it.
+    /// A fault of the script, with the reply to it.
     TurnedDown(Reply),
 }
 
-/// Reads a script, with what is asked or without it.
+/// Reads a script, with its input or without.
 pub fn read(alloc: Global, text: &[u8], with_input: bool) -> Result<Reading, AllocError>
     ensures { IfOk result (IsRead with_input text.now) }
 {
@@ -34,7 +34,7 @@ pub fn read(alloc: Global, text: &[u8], with_input: bool) -> Result<Reading, All
     }
 }
 
-/// What a script asks that was read with it.
+/// The input of a script that was read with one.
 pub fn asked(script: &Script) -> Input<'_>
     requires { IsAsking (script_read script.now).asked }
     ensures query { (script_read script.now).asked ≡ Some (query_of result) }

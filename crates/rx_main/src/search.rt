@@ -1,4 +1,4 @@
-//! The command `search`: the leftmost match by the tables of an image, in the bytes behind it.
+//! The command `search`: the leftmost match in the text after the image of a pair.
 
 ghost use Rattle.std.specs.Prelude.{◌≡◌, IfOk, drop, take};
 ghost use Rattle.rx_spec.specs.Joining.{join};
@@ -19,7 +19,7 @@ use rx_regex::Regex;
 use rx_search::Automaton;
 use std::alloc::{AllocError, Global};
 
-/// The reply to an image of two tables and the haystack behind it.
+/// The reply to the image of a pair and the haystack after it.
 pub fn search(alloc: Global, search: &Search, bytes: &[u8]) -> Result<Reply, AllocError>
     ensures { IfOk result (SearchReplies search.now bytes.now) }
 {
@@ -30,7 +30,7 @@ pub fn search(alloc: Global, search: &Search, bytes: &[u8]) -> Result<Reply, All
     }
 }
 
-/// The bytes of an image and those behind it.
+/// The bytes of the image and those after it.
 pub fn parts(image_len: u32, bytes: &[u8]) -> (&[u8], &[u8])
     ensures image { result.0.now ≡ take image_len bytes.now }
     ensures behind { result.1.now ≡ drop image_len bytes.now }
@@ -39,7 +39,7 @@ pub fn parts(image_len: u32, bytes: &[u8]) -> (&[u8], &[u8])
     bytes.split_at(len)
 }
 
-/// What two tables answer, unless the span doesn't fit.
+/// The reply of a search with two tables, if the span fits.
 fn pair_reply(
     alloc: Global,
     tables: &Tables<'_>,
@@ -57,7 +57,7 @@ fn pair_reply(
     answer_reply(alloc, joined(tables, &input))
 }
 
-/// What a search by the tables of an image answers.
+/// The result of a search with the tables of an image.
 fn joined(tables: &Tables<'_>, input: &Input<'_>) -> Result<Option<Match>, MatchError>
     requires sound { AreSound tables.now }
     requires fits { IsFit (query_of input.now) }
@@ -69,7 +69,7 @@ fn joined(tables: &Tables<'_>, input: &Input<'_>) -> Result<Option<Match>, Match
     }
 }
 
-/// What a search by two tables answers.
+/// The result of a search with two tables.
 fn joined_by<A: Automaton>(
     forward: &A,
     reverse: &A,

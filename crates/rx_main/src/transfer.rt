@@ -11,17 +11,17 @@ use std::alloc::{AllocError, AllocFailed, Global};
 /// The most bytes that are read.
 pub const LIMIT: usize = 16_777_216;
 
-/// How many bytes are asked for at once, at most.
+/// The most bytes that are read at once.
 const CHUNK: usize = 65_536;
 
-/// Why a source was not read to its end.
+/// Why a source wasn't read to its end.
 #[derive(Clone, Copy, Debug, PartialEq, Eq)]
 pub enum TextFault {
-    /// It has more bytes than are read.
+    /// It has more bytes than [`LIMIT`].
     Long,
     /// A read failed.
     Failed,
-    /// Want of memory.
+    /// Memory ran out.
     Memory,
 }
 
@@ -47,14 +47,14 @@ impl<T: Drop> From<AllocFailed<T>> for TextFault {
     }
 }
 
-/// Room for the bytes of one read.
+/// A buffer for one read.
 fn new_buffer(alloc: Global) -> Result<Vec<u8>, AllocError>
     ensures { IfOk result (λ buffer. 0 < length buffer.items) }
 {
     vec![in alloc; 0; CHUNK]
 }
 
-/// All the bytes that are left, unless there are more than [`LIMIT`].
+/// Reads all bytes that are left, unless they are more than [`LIMIT`].
 pub fn read_text<S: Source>(alloc: Global, src: &mut S) -> Result<Vec<u8>, TextFault>
     ensures few { IfOk result (λ text. length text.items ≤ 16777216) }
     ensures bytes { IfOk result (λ text. Consumes (S.left src.old) (S.left src.new) text.items) }
@@ -68,7 +68,7 @@ pub fn read_text<S: Source>(alloc: Global, src: &mut S) -> Result<Vec<u8>, TextF
     read_through(alloc, src, &mut buffer)
 }
 
-/// The same, through a buffer.
+/// Reads all bytes that are left through a buffer.
 fn read_through<S: Source>(
     alloc: Global,
     src: &mut S,

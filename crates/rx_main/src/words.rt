@@ -5,7 +5,7 @@ ghost use Rattle.std.specs.Prelude.{◌≡◌, ◌<◌, ◌++◌, ◌∷◌, [],
 use std::alloc::{AllocError, Global};
 use std::marker::Model;
 
-/// The words of a command line, after the program's name.
+/// The words of a command line, without the program's name.
 #[derive(Drop)]
 pub struct Words {
     alloc: Global,
@@ -21,7 +21,7 @@ impl Model for Words {
 }
 
 impl Words {
-    /// No word yet.
+    /// No words.
     pub fn new(alloc: Global) -> Words
         ensures { result ≡ [] }
     {
@@ -40,21 +40,21 @@ impl Words {
         Ok(())
     }
 
-    /// How many words there are.
+    /// The number of words.
     pub fn len(&self) -> usize
         ensures { result ≡ length self.now }
     {
         self.texts.len()
     }
 
-    /// Whether there is none.
+    /// Whether there are no words.
     pub fn is_empty(&self) -> bool
         ensures { result ≡ (length self.now == 0) }
     {
         self.texts.is_empty()
     }
 
-    /// One of the words.
+    /// The word at an index.
     pub fn word(&self, i: usize) -> &[u8]
         requires { i < length self.now }
         ensures { slice_get self.now i ≡ Some result.now }

@@ -1,4 +1,4 @@
--- Rows that are moved to their places, renamed, and cut off.
+-- Rows that are moved to new places, renamed, and cut off.
 use Rattle.std.specs.Prelude.{ℕ, ◌≡◌, ◌<◌, ◌≤◌, ◌+◌, ◌*◌, ◌/◌, List, length, map, slice_index}
 use Rattle.rx_spec.specs.Queries.{Anchored}
 use Rattle.rx_spec.specs.declared.Start.{Start}

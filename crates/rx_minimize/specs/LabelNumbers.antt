@@ -1,4 +1,4 @@
--- Numbers for labels: one for each label that some row has.
+-- Numbers for labels, one for each label of some row.
 use Rattle.std.specs.Prelude.{ℕ, ◌≡◌, ◌↔◌, ◌<◌, ◌+◌, ◌⊎◌, Some, List, [], ◌∷◌, ◌++◌, slice_get, slice_index}
 use Rattle.rx_spec.specs.Machines.{Label}
 use Rattle.rx_spec.specs.Tables.{Table}

@@ -1,4 +1,5 @@
--- What minimizing leaves: the same labels, and any two rows told apart.
+-- What minimizing makes of a table (`IsMinimized`): it reports the same on every word, and for any two rows some word
+-- makes them report differently.
 use Rattle.std.specs.Prelude.{ℕ, ◌≡◌, ◌≢◌, ◌<◌, ◌&&◌, true, List, Contains}
 use Rattle.rx_spec.specs.Labels.{SameLabels, AreToldApart, IsReachedRow}
 use Rattle.rx_spec.specs.Queries.{Anchored}

@@ -1,4 +1,4 @@
--- A table in which rows that behave alike are one row.
+-- A table in which all rows that behave alike are one row.
 use Rattle.std.specs.Prelude.{ℕ, ◌≡◌, ◌↔◌, ◌<◌, ◌==◌, List, length, slice_index}
 use Rattle.rx_spec.specs.Queries.{Anchored}
 use Rattle.rx_spec.specs.Tables.{Table}

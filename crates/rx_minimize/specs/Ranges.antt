@@ -1,4 +1,4 @@
--- Special rows among the rows that are left, and their patterns.
+-- The special rows among the rows that are kept, and their patterns.
 use Rattle.std.specs.Prelude.{ℕ, ◌≡◌, ◌↔◌, ◌<◌, ◌≤◌, ◌⊎◌, ◌-◌, ◌*◌, true, List, length, map, slice_index}
 use Rattle.std.specs.List.{range_with_len}
 use Rattle.rx_search.specs.Labels.{patterns_of}

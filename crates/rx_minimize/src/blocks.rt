@@ -1,4 +1,4 @@
-//! Blocks of rows that behave alike.
+//! The blocks of rows that behave alike.
 
 ghost use Rattle.std.specs.Prelude.{◌≡◌, ℕ, ◌<◌, All, IfOk, length};
 ghost use Rattle.rx_spec.specs.Tables.{IsSound};
@@ -11,7 +11,7 @@ use rx_refine::{Incoming, Steps, refine};
 use rx_steps::Tally;
 use std::alloc::{AllocError, Global};
 
-/// For each row the number of its block: rows have one number exactly where they behave alike.
+/// The number of each row's block. Two rows have one number exactly if they behave alike.
 pub(crate) fn blocks(alloc: Global, dfa: &OwnedDFA) -> Result<Vec<u32>, AllocError>
     requires { IsSound (table_of dfa.now) }
     ensures blocks { IfOk result (λ blocks. AreBlocks (table_of dfa.now) blocks.items) }

@@ -13,12 +13,12 @@ use rx_interner::Interner;
 use rx_search::Automaton;
 use std::alloc::{AllocError, Global};
 
-/// The number of the label of a row that tells nothing, and of the quit row's.
+/// The number of the label of rows that report nothing, and of the quit row's.
 const PLAIN: u32 = 0;
 
 const QUIT: u32 = 1;
 
-/// For each row the number of its label: rows have one number exactly where they tell the same.
+/// The number of each row's label. Two rows have one number exactly if they report the same.
 pub(crate) fn labels(alloc: Global, dfa: &OwnedDFA) -> Result<Vec<u32>, AllocError>
     requires { IsSound (table_of dfa.now) }
     ensures count { IfOk result (λ labels. length labels.items ≡ row_count dfa.now) }
@@ -38,7 +38,7 @@ pub(crate) fn labels(alloc: Global, dfa: &OwnedDFA) -> Result<Vec<u32>, AllocErr
     Ok(labels)
 }
 
-/// The number of a row's label. The patterns of match rows are numbered as they come.
+/// The number of a row's label. Pattern lists are numbered in the order in which they are found.
 fn label(dfa: &OwnedDFA, id: StateID, lists: &mut Interner) -> Result<u32, AllocError>
     requires sound { IsSound (table_of dfa.now) }
     requires is_id { IsId (ids_of dfa.now) id }

@@ -1,14 +1,14 @@
-//! Tables with the fewest rows.
+//! Minimizes dense tables.
 //!
-//! [`minimize`] joins the rows of a dense table that behave alike, by the refinement of `rx_refine` over the table
-//! itself. Its contract: every word keeps its label, and any two rows that are left are told apart by some word
-//! (`IsMinimized`), so where every row is reached no table that says the same has fewer. [`Minimizer`] does the same in
-//! two steps: it finds the rows that behave alike, and then it joins them.
+//! [`minimize`] merges the states of a dense table that behave alike, by the refinement of `rx_refine`. Its contract
+//! (`IsMinimized`): on every word the table reports what it reported before, and for any two states that are left some
+//! word makes them report differently. So if every state is reached, no table that reports the same has fewer states.
+//! [`Minimizer`] does the same in two steps: it finds the states that behave alike, and then merges them.
 //!
-//! A table is minimized in this order: rows get numbers for what they tell (`labels`), the refinement finds the blocks
-//! of rows that behave alike (`blocks`), blocks are numbered in the order of their first rows (`numbering`), and the
-//! table keeps the first row of each block (`rows`, `ranges`, `patterns`). So dead and quit stay where they are, and
-//! the rows that are left stay in their order. All that grows is made before the first change.
+//! The steps: states get numbers for what they report (`labels`), the refinement finds the blocks of states that behave
+//! alike (`blocks`), blocks are numbered in the order of their first states (`numbering`), and the table keeps the
+//! first state of each block (`rows`, `ranges`, `patterns`). So dead and quit keep their places, and the states that
+//! are left keep their order. All memory is taken before the first change.
 #![tactic(auto)]
 
 mod blocks;

@@ -1,4 +1,4 @@
-//! Rows that behave alike become one row.
+//! Merging the states that behave alike.
 
 ghost use Rattle.std.specs.Prelude.{◌≡◌, IfOk, OnErr, OnOk};
 ghost use Rattle.rx_order.specs.RowOrder.{IsInOrder, IsPlain};
@@ -13,7 +13,7 @@ use crate::rows::join_rows;
 use rx_dense::OwnedDFA;
 use std::alloc::{AllocError, Global};
 
-/// Joins the rows of a table that behave alike. Where memory runs out, the table is as before.
+/// Merges the states of a table that behave alike. If memory runs out, the table is unchanged.
 pub fn minimize(alloc: Global, dfa: &mut OwnedDFA) -> Result<(), AllocError>
     requires in_order { IsInOrder dfa.old }
     requires plain { IsPlain dfa.old }
@@ -24,7 +24,7 @@ pub fn minimize(alloc: Global, dfa: &mut OwnedDFA) -> Result<(), AllocError>
     join_blocks(alloc, dfa, &blocks)
 }
 
-/// Leaves the first row of each block, given as a number for each row. Where memory runs out, the table is as before.
+/// Keeps the first row of each block. `blocks` has the block of each row. If memory runs out, the table is unchanged.
 fn join_blocks(alloc: Global, dfa: &mut OwnedDFA, blocks: &[u32]) -> Result<(), AllocError>
     requires { IsPartitioned dfa.old blocks.now }
     ensures ok { OnOk result (IsMinimized dfa.old dfa.new) }
@@ -44,16 +44,16 @@ fn join_blocks(alloc: Global, dfa: &mut OwnedDFA, blocks: &[u32]) -> Result<(), 
     Ok(())
 }
 
-/// A table that is to be minimized, and the blocks of its rows.
+/// A table to minimize, with the blocks of its states.
 #[derive(Drop)]
 pub struct Minimizer<'a, B = Vec<u32>> {
     dfa: &'a mut OwnedDFA,
-    /// For each row the number of its block.
+    /// The number of each row's block.
     blocks: B,
 }
 
 impl<'a> Minimizer<'a> {
-    /// Finds the rows of a table that behave alike.
+    /// Finds the states of a table that behave alike.
     pub fn new(alloc: Global, dfa: &'a mut OwnedDFA) -> Result<Minimizer<'a>, AllocError>
         requires in_order { IsInOrder dfa.old }
         requires plain { IsPlain dfa.old }
@@ -65,7 +65,7 @@ impl<'a> Minimizer<'a> {
         Ok(Minimizer { dfa, blocks })
     }
 
-    /// Joins the rows that behave alike. Where memory runs out, the table is as before.
+    /// Merges the states that behave alike. If memory runs out, the table is unchanged.
     pub fn run(self) -> Result<(), AllocError>
         requires { IsPartitioned self.dfa.now self.blocks.items }
         ensures ok { OnOk result (IsMinimized self.entry.dfa.now self.exit.0.now) }

@@ -10,14 +10,14 @@ use std::alloc::{AllocError, Global};
 /// Blocks of rows, numbered in the order of their first rows.
 #[derive(Drop)]
 pub(crate) struct Numbering {
-    /// For each row the number of its block.
+    /// The number of each row's block.
     pub(crate) numbers: Vec<u32>,
-    /// For each number the first row of its block.
+    /// For each number, the first row of its block.
     pub(crate) firsts: Vec<u32>,
 }
 
 impl Numbering {
-    /// Numbers blocks anew that are given as a number below the count of rows for each row.
+    /// Renumbers blocks in the order of their first rows. `blocks` has a number below the number of rows for each row.
     pub(crate) fn new(alloc: Global, blocks: &[u32]) -> Result<Numbering, AllocError>
         requires few { length blocks.now < 2 ^ 32 }
         requires below { All (λ block. block < length blocks.now) blocks.now }
@@ -38,7 +38,7 @@ impl Numbering {
         Ok(Numbering { numbers, firsts })
     }
 
-    /// For each row the id of the row with its block's number.
+    /// For each row, the id of the row with its block's number.
     pub(crate) fn ids(&self, alloc: Global, stride2: usize) -> Result<Vec<StateID>, AllocError>
         requires stride2 { stride2 ≤ 9 }
         requires ids { All (λ number. number * 2 ^ stride2 ≤ max_id) self.now.numbers.items }

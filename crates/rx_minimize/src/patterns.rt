@@ -1,4 +1,4 @@
-//! The patterns of the match rows that are left.
+//! The patterns of the match rows that are kept.
 
 ghost use Rattle.std.specs.Prelude.{IfOk};
 ghost use Rattle.rx_spec.specs.Tables.{IsSound};
@@ -15,7 +15,7 @@ use rx_order::patterns_of_row;
 use std::alloc::{AllocError, Global};
 use std::collections::BTreeMap;
 
-/// The patterns of the match rows among these rows, by the ids that the rows are to have.
+/// The patterns of the match rows among the rows that are kept, by the ids that the rows will have.
 pub(crate) fn patterns(
     alloc: Global,
     dfa: &OwnedDFA,

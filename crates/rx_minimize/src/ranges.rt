@@ -1,4 +1,4 @@
-//! The ranges of special rows among the rows that are left.
+//! The ranges of special rows among the rows that are kept.
 
 ghost use Rattle.std.specs.Prelude.{◌≡◌, ℕ, ◌<◌, ◌≤◌, ◌+◌, ◌*◌, ◌%◌, ◌^◌, length, slice_index};
 ghost use Rattle.rx_spec.specs.Causes.{max_id};
@@ -10,7 +10,7 @@ ghost use Rattle.rx_minimize.specs.Ranges.{AreKeptSpecials, AreEndIds, ArePlaces
 use rx_base::StateID;
 use rx_dense::{OwnedDFA, Special};
 
-/// The special ids of a table of which these rows are left. No rows are accelerated.
+/// The special ids of a table that keeps these rows. No row is accelerated.
 pub(crate) fn special(dfa: &OwnedDFA, firsts: &[u32]) -> Special
     requires few { length dfa.now.words ≤ max_id + stride dfa.now }
     requires ordered { IsOrdered dfa.now }
@@ -37,7 +37,7 @@ pub(crate) fn special(dfa: &OwnedDFA, firsts: &[u32]) -> Special
     special
 }
 
-/// The places among some rows of those whose ids lie in a range: the first, and the place behind the last.
+/// The indices of the rows whose ids lie in a range: the first, and the one after the last.
 pub(crate) fn places(rows: &[u32], first: StateID, last: StateID, stride2: usize) -> (usize, usize)
     requires rising { (j k : ℕ) → j < k → k < length rows.now → slice_index rows.now j < slice_index rows.now k }
     requires stride2 { stride2 ≤ 9 }
@@ -53,7 +53,7 @@ pub(crate) fn places(rows: &[u32], first: StateID, last: StateID, stride2: usize
     (rows_below(rows, before), rows_below(rows, behind))
 }
 
-/// How many of rising rows are below a row.
+/// How many of the rows, which rise, are below a row.
 fn rows_below(rows: &[u32], row: usize) -> usize
     requires rising { (j k : ℕ) → j < k → k < length rows.now → slice_index rows.now j < slice_index rows.now k }
     ensures within { result ≤ length rows.now }
@@ -67,7 +67,7 @@ fn rows_below(rows: &[u32], row: usize) -> usize
     below
 }
 
-/// The ids of the first and of the last row of a range of rows; 0 and 0 where it is empty.
+/// The ids of the first and the last row of a range of rows. Both are 0 if it is empty.
 fn end_ids(first: usize, end: usize, stride2: usize) -> (StateID, StateID)
     requires stride2 { stride2 ≤ 9 }
     requires ids { end * 2 ^ stride2 ≤ max_id + 2 ^ stride2 }

@@ -1,4 +1,4 @@
-//! Rows that are moved to their places, renamed, and cut off.
+//! Moving the rows that are kept, renaming them, and cutting off the rest.
 
 ghost use Rattle.std.specs.Prelude.{◌≡◌, ℕ, ◌<◌, ◌≤◌, ◌+◌, ◌*◌, length, map, slice_index};
 ghost use Rattle.rx_spec.specs.Causes.{max_id};
@@ -9,8 +9,8 @@ ghost use Rattle.rx_minimize.specs.Joined.{AreMoved, IsJoinedBy, AreNewIds};
 use rx_base::StateID;
 use rx_dense::OwnedDFA;
 
-/// Leaves these rows of a table, each at its place among them, and lets whatever led to a row lead to the row whose id
-/// the list has for it.
+/// Keeps these rows of a table, each at its index among them, and redirects every transition to the id that `ids` has
+/// for its row.
 pub(crate) fn join_rows(dfa: &mut OwnedDFA, firsts: &[u32], ids: &[StateID])
     requires rows { AreRows dfa.old }
     requires starts { AreStarts dfa.old }
@@ -24,7 +24,7 @@ pub(crate) fn join_rows(dfa: &mut OwnedDFA, firsts: &[u32], ids: &[StateID])
     dfa.truncate_states(firsts.len());
 }
 
-/// Moves each of these rows down to its place among them. What lay there lies elsewhere then.
+/// Moves each of these rows to its index among them. The rows that lay there move elsewhere.
 fn move_rows(dfa: &mut OwnedDFA, firsts: &[u32])
     requires few { length dfa.old.words ≤ max_id + stride dfa.old }
     requires firsts { AreFirsts (row_count dfa.old) firsts.now }

@@ -1,4 +1,4 @@
--- Rows in the order of their kinds, which are told by numbers below 8.
+-- Rows in the order of their kinds, which are numbers below 8.
 use Rattle.std.specs.Prelude.{ℕ, ◌≡◌, ◌<◌, ◌≤◌, ◌-◌, ◌*◌, ◌==◌, Bool, false, List, length, map, slice_index}
 use Rattle.std.specs.Prelude.{slice_index_or}
 use Rattle.std.specs.List.{list_any, range_with_len}

@@ -1,4 +1,4 @@
--- Three rows that go round by one place, so that no two have changed places with each other.
+-- Three rows that each move on by one place. No two of them exchange places with each other.
 use Rattle.std.specs.Prelude.{[], ◌∷◌}
 use Rattle.rx_order.specs.Transitions.{Transitions}
 use Rattle.rx_order.specs.Renaming.{Arrangement, IsRearranged, IsRenamed}

@@ -1,4 +1,4 @@
--- Rows that are moved one after another, and then renamed.
+-- Rows that move one after another and are then renamed.
 use Rattle.std.specs.Prelude.{ℕ, ◌≡◌, ◌<◌, ◌+◌, ◌*◌, List, length, slice_index}
 use Rattle.std.specs.List.{range_with_len}
 use Rattle.std.specs.List.Sorted.{IsPermutation}

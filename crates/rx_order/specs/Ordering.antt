@@ -1,4 +1,4 @@
--- What `shuffle` and `accelerate` leave.
+-- What `shuffle` and `accelerate` make of a table (`IsShuffled`, `IsAccelerated`).
 use Rattle.std.specs.Prelude.{ℕ, ◌≡◌, ◌≢◌, ◌<◌, ◌≤◌, ◌*◌, ◌==◌, if◌then◌else◌, Bool, Option, Some, None, is_some, List}
 use Rattle.std.specs.Prelude.{length}
 use Rattle.std.specs.Prelude.{slice_index, Contains, All, Vec}

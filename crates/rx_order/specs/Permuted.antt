@@ -1,4 +1,4 @@
--- A table whose rows lie at other places, under other numbers.
+-- A table with its rows at other places.
 use Rattle.std.specs.Prelude.{ℕ, ◌≡◌, ◌<◌, List, slice_index}
 use Rattle.std.specs.List.{range_with_len}
 use Rattle.std.specs.List.Sorted.{IsPermutation}

@@ -1,4 +1,4 @@
--- Rows that have changed places, and the names that follow them.
+-- Rows at other places, and the transitions that follow them (`IsRenamed`).
 use Rattle.std.specs.Prelude.{ℕ, ◌≡◌, ◌<◌, ◌≤◌, ◌==◌, ◌*◌, ◌/◌, ◌^◌, List, [], length, map, get_or}
 use Rattle.std.specs.List.{position_or_len, range_with_len}
 use Rattle.std.specs.List.Sorted.{IsPermutation}

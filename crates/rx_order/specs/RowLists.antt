@@ -1,4 +1,4 @@
--- A dense table as rows that may change places: for each row the ids to which its columns lead.
+-- A dense table as a list of rows: for each row the ids to which its columns lead.
 use Rattle.std.specs.Prelude.{ℕ, ◌+◌, ◌*◌, List, [], map, slice_index}
 use Rattle.std.specs.List.{range_with_len}
 use Rattle.rx_base.specs.ByteClasses.{alphabet_len}

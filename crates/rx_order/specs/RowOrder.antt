@@ -1,6 +1,6 @@
--- The order of a built table's rows, in which each kind that a search asks for is a range of ids: dead, quit, match
--- rows with the accelerated ones last, other accelerated rows with those last in which searches start, other rows in
--- which searches start, and the rest (as regex-automata has them).
+-- The order of a built table's rows, as in regex-automata. Each kind that a search tests for is a range of ids: dead,
+-- quit, match rows (the accelerated ones last), other accelerated rows (start rows last), other start rows, and the
+-- rest.
 use Rattle.std.specs.Prelude.{ℕ, ◌≡◌, ◌≤◌, ◌<◌, ◌⊎◌, ◌+◌, ◌*◌, ◌==◌, ◌&&◌, not, nat_le, nat_lt, Bool}
 use Rattle.std.specs.Prelude.{if◌then◌else◌, None, List, [], length, map}
 use Rattle.std.specs.List.{list_any, range_with_len, concat}

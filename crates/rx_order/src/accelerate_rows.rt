@@ -1,4 +1,4 @@
-//! Rows from which a search may skip.
+//! Acceleration: which states a search skips from.
 
 ghost use Rattle.std.specs.Prelude.{◌≡◌, ℕ, ◌<◌, ◌≤◌, ◌-◌, All, IfOk, OnErr, OnOk, length, map, slice_index, true};
 ghost use Rattle.std.specs.List.{concat, range_with_len};
@@ -23,9 +23,10 @@ use rx_search::Automaton;
 use std::alloc::{AllocError, Global};
 use std::collections::BTreeMap;
 
-/// Finds the rows that one to three bytes lead elsewhere, none of them a space, keeps these bytes as the rows' needles,
-/// and puts the rows in their order anew. A table that has no such row stays as it is. Where memory runs out, the table
-/// is as before.
+/// Accelerates a table. Each state that one to three bytes lead elsewhere, none of them a space, keeps these bytes as
+/// its needles, and the states move into their order again. A table without such a state stays as it is.
+///
+/// If memory runs out, the table is unchanged.
 pub fn accelerate(alloc: Global, dfa: &mut OwnedDFA) -> Result<(), AllocError>
     requires in_order { IsInOrder dfa.old }
     requires plain { IsPlain dfa.old }
@@ -48,7 +49,7 @@ pub fn accelerate(alloc: Global, dfa: &mut OwnedDFA) -> Result<(), AllocError>
     Ok(())
 }
 
-/// The kind of each row, by which rows match and from which a search may skip.
+/// The kind of each row, by whether it is a match row and whether it is accelerated.
 fn kinds(alloc: Global, dfa: &OwnedDFA) -> Result<Vec<u8>, AllocError>
     ensures kinds { IfOk result (λ kinds. AreKinds dfa.now (is_match (table_of dfa.now))
         (λ row. are_needles (leaving_of (table_of dfa.now) row)) kinds.items) }
@@ -67,7 +68,7 @@ fn kinds(alloc: Global, dfa: &OwnedDFA) -> Result<Vec<u8>, AllocError>
     Ok(kinds)
 }
 
-/// The needles of the accelerated rows, in the order in which the rows are to lie.
+/// The needles of the accelerated rows, in the new order of the rows.
 fn accels(alloc: Global, dfa: &OwnedDFA, order: &Order) -> Result<Accels, AllocError>
     requires sorted { AreSkippable dfa.now order.now.rows.items order.now.ends }
     ensures { IfOk result (λ accels. accels
@@ -83,8 +84,7 @@ fn accels(alloc: Global, dfa: &OwnedDFA, order: &Order) -> Result<Accels, AllocE
     Ok(accels)
 }
 
-/// Puts the patterns of the match rows in the order in which the rows are to lie. Those of rows that stay in their
-/// places stand there already.
+/// Moves the pattern lists of match rows into the new order. If every match row keeps its place, the lists do too.
 fn move_patterns(alloc: Global, dfa: &mut OwnedDFA, order: &Order) -> Result<(), AllocError>
     requires in_order { IsInOrder dfa.old }
     requires joined { AreJoined dfa.old }
@@ -103,7 +103,7 @@ fn move_patterns(alloc: Global, dfa: &mut OwnedDFA, order: &Order) -> Result<(),
     }
 }
 
-/// The patterns of the match rows, by the ids that the rows are to have.
+/// The patterns of the match rows, by the ids that the rows will have.
 fn patterns(
     alloc: Global,
     dfa: &OwnedDFA,
@@ -124,7 +124,7 @@ fn patterns(
     Ok(lists)
 }
 
-/// The patterns of a match row.
+/// The patterns of a match state. Requires a sound table.
 pub fn patterns_of_row(
     alloc: Global,
     dfa: &OwnedDFA,

@@ -1,4 +1,4 @@
-//! The kinds of rows, by which their order goes.
+//! The kinds of rows, which decide their order.
 
 ghost use Rattle.std.specs.Prelude.{◌≡◌, ◌<◌, ◌&&◌, nat_lt, IfOk};
 ghost use Rattle.std.specs.List.{list_any};
@@ -9,7 +9,7 @@ ghost use Rattle.rx_order.specs.RowOrder.{is_accel_kind, kind_by};
 use rx_dense::OwnedDFA;
 use std::alloc::{AllocError, Global};
 
-/// Of each row, whether some search starts there.
+/// For each row, whether some search starts there.
 pub(crate) fn start_rows(alloc: Global, dfa: &OwnedDFA) -> Result<Vec<bool>, AllocError>
     ensures rows { IfOk result (λ starts. AreStartRows dfa.now starts.items) }
     ensures are_rows { IfOk result (λ _. AreRows dfa.now) }
@@ -41,7 +41,7 @@ pub(crate) fn kind(row: usize, matches: bool, accelerated: bool, starts: bool) -
     }
 }
 
-/// Whether there is an accelerated row, by the kinds of all rows.
+/// Whether some kind is that of an accelerated row.
 pub(crate) fn any_accelerated(kinds: &[u8]) -> bool
     ensures { result ≡ list_any is_accel_kind kinds.now }
 {

@@ -1,18 +1,17 @@
-//! The order of a table's rows.
+//! The order of a table's rows, and calls that move rows.
 //!
-//! A search asks of most rows only whether they are special: dead, quit, a match row, accelerated, or a start row.
-//! So the rows of a built table lie in an order in which each of these kinds is a range of ids
-//! (`specs/RowOrder.antt`). [`shuffle`] puts the rows of a table in that order once it is known which of them match,
-//! and [`accelerate`] finds the rows that few bytes lead away from, which searches skip from, and orders the rows
-//! anew.
+//! Most checks of a search ask only whether a state is special: dead, quit, a match state, accelerated or a start
+//! state. So the rows of a built table lie in an order in which each of these kinds is a range of ids
+//! (`specs/RowOrder.antt`). [`shuffle`] moves the rows into that order once the match states are known. [`accelerate`]
+//! finds the states that few bytes leave, from which searches skip, and moves the rows into their order again.
 //!
-//! The contract: after either call the table is the one that it was, with its rows at other places (`IsPermuted`).
-//! [`patterns_of_row`] reads the patterns of a match row.
+//! The contract: after either call the table is the same with its rows at other places (`IsPermuted`).
+//! [`patterns_of_row`] returns the patterns of a match state.
 //!
-//! Rows change places two at a time. What leads to them goes wrong with the first exchange: an entry names a place,
-//! and another row lies there now. So a [`Remapper`] remembers where the rows went, and renames all entries once, at
-//! the end. A table that can be treated so is a [`Remappable`]. After any exchanges and the renaming the table is the
-//! one that it was, with its rows at other places (`IsRenamed` of `specs/Renaming.antt`).
+//! Rows move by exchanges of two. An exchange makes transitions wrong: they name a place, and another row lies there
+//! after it. So a [`Remapper`] records where the rows went and renames all transitions once, at the end. A table that
+//! it can rename is [`Remappable`]. After any exchanges and the renaming the table is the same with its rows at other
+//! places (`IsRenamed` of `specs/Renaming.antt`).
 #![tactic(auto)]
 
 mod accelerate_rows;

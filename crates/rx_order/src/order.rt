@@ -9,17 +9,17 @@ use rx_base::StateID;
 use rx_dense::Special;
 use std::alloc::{AllocError, Global};
 
-/// Which row is to lie at each place, so that rows lie in the order of their kinds.
+/// Which row will lie at each place, with the rows in the order of their kinds.
 #[derive(Drop)]
 pub(crate) struct Order {
     /// The row at each place.
     pub(crate) rows: Vec<u32>,
-    /// For each kind the place behind its last row.
+    /// For each kind, the place after its last row.
     pub(crate) ends: [usize; 8],
 }
 
 impl Order {
-    /// The order of rows by their kinds, numbers below 8. Rows of one kind keep their order.
+    /// The order of rows by their kinds, which are numbers below 8. Rows of one kind keep their order.
     pub(crate) fn new(alloc: Global, kinds: &[u8]) -> Result<Order, AllocError>
         requires few { length kinds.now < 2 ^ 32 }
         requires kinds { All (λ kind. kind < 8) kinds.now }
@@ -38,7 +38,7 @@ impl Order {
         Ok(Order { rows, ends })
     }
 
-    /// Whether each match row stays in its place.
+    /// Whether each match row keeps its place.
     pub(crate) fn keeps_matches(&self) -> bool
         requires { slice_index self.now.ends 3 ≤ length self.now.rows.items }
         ensures { IsTrue result ↔ ((place : ℕ) → slice_index self.now.ends 1 ≤ place
@@ -52,8 +52,8 @@ impl Order {
         true
     }
 
-    /// The special ids of a table whose rows lie in this order, where a row has so many words as the exponent of a
-    /// power of two says. Start rows are marked or not.
+    /// The special ids of a table whose rows lie in this order. A row has 2^`stride2` words. `marked` is whether start
+    /// rows are marked.
     pub(crate) fn special(&self, stride2: usize, marked: bool) -> Special
         requires stride2 { stride2 ≤ 9 }
         requires ids { (kind : ℕ) → kind < 8 → slice_index self.now.ends kind * 2 ^ stride2 ≤ max_id + 2 ^ stride2 }
@@ -80,8 +80,8 @@ impl Order {
         special
     }
 
-    /// The first and the last id of the rows behind those of one kind, up to those of another; 0 and 0 where there are
-    /// none.
+    /// The first and last id of the rows after those of kind `before`, up to those of kind `last`. Both are 0 if there
+    /// are none.
     fn ids(&self, before: usize, last: usize, stride2: usize) -> (StateID, StateID)
         requires before { before < 8 }
         requires last { last < 8 }

@@ -1,4 +1,4 @@
-//! Rows on their way to other places.
+//! The places of rows while they move.
 
 ghost use Rattle.std.specs.Prelude.{◌≡◌, ℕ, ◌<◌, ◌*◌, IfOk};
 ghost use Rattle.std.specs.List.{range_with_len};
@@ -10,17 +10,17 @@ use rx_base::StateID;
 use rx_dense::OwnedDFA;
 use std::alloc::{AllocError, Global};
 
-/// Where the rows of a table lie while they are moved.
+/// Where the rows of a table lie while they move.
 #[derive(Drop)]
 pub(crate) struct Places {
     /// The row that lies at each place.
     lying: Vec<u32>,
-    /// For each row the id of its place.
+    /// For each row, the id of its place.
     ids: Vec<StateID>,
 }
 
 impl Places {
-    /// Every row of a table in its own place.
+    /// Each row at its own place.
     pub(crate) fn new(alloc: Global, dfa: &OwnedDFA) -> Result<Places, AllocError>
         ensures { IfOk result (λ places. AreUnmoved dfa.now places.lying.items places.ids.items) }
     {
@@ -35,7 +35,7 @@ impl Places {
         Ok(Places { lying, ids })
     }
 
-    /// Moves each row to its place in an order, which has the row that is to lie at each place, and renames all rows.
+    /// Moves each row to its place in an order and renames all rows. `order` has the row that will lie at each place.
     pub(crate) fn arrange(self, dfa: &mut OwnedDFA, order: &[u32])
         requires unmoved { AreUnmoved dfa.old self.lying.items self.ids.items }
         requires order { IsPermutation (range_with_len 0 (row_count dfa.old)) order.now }

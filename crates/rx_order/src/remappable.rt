@@ -1,4 +1,4 @@
-//! A dense table as one whose rows can change places.
+//! Dense tables are `Remappable`.
 
 use crate::Remappable;
 use rx_base::StateID;

@@ -1,4 +1,4 @@
-//! The trait of a table whose rows can change places, and the record of where they went.
+//! Tables whose rows can move, and the record of where their rows went.
 
 ghost use Rattle.std.specs.Prelude.{◌≡◌, ◌<◌, ◌≤◌, ◌*◌, ◌^◌, All, IfOk, OnErr, OnOk, length, slice_index};
 ghost use Rattle.std.specs.List.{swap};
@@ -10,9 +10,9 @@ use rx_base::StateID;
 use std::alloc::{AllocError, Global};
 use std::marker::Model;
 
-/// A table whose rows can change places and be renamed.
+/// A table whose rows can be exchanged and renamed.
 ///
-/// It is seen as its `transitions`, a list of rows of ids and a list of start entries, and as its `rest`, which
+/// Contracts see it as its `transitions`, a list of rows of ids and a list of start entries, and as its `rest`, which
 /// these calls don't change. The id of a row is its number shifted left by `stride2`.
 pub trait Remappable {
     ghost transitions: { Self → Transitions };
@@ -21,17 +21,17 @@ pub trait Remappable {
 
     ghost rest: { Self → Rest };
 
-    /// How many rows there are.
+    /// The number of rows.
     fn state_len(&self) -> usize
         ensures value { result ≡ length (transitions self.now).rows }
         ensures rows { AreRows (transitions self.now) };
 
-    /// The exponent of the power of two by which ids lie apart.
+    /// The shift between a row's number and its id, at most 30.
     fn stride2(&self) -> usize
         ensures value { result ≡ (transitions self.now).stride2 }
         ensures bound { result ≤ 30 };
 
-    /// Lets each of two rows lead where the other led. What leads to them stays as it is.
+    /// Exchanges the transitions of two rows. Transitions that lead to these rows don't change.
     fn swap_states(&mut self, id1: StateID, id2: StateID)
         requires id1 { IsRowId (transitions self.old) id1 }
         requires id2 { IsRowId (transitions self.old) id2 }
@@ -39,7 +39,7 @@ pub trait Remappable {
             (row_of (transitions self.old) id1) (row_of (transitions self.old) id2) }
         ensures rest { rest self.new ≡ rest self.old };
 
-    /// Replaces every entry and every start entry by the id that the map has at the number of its row.
+    /// Replaces each id, among transitions and start entries, by the entry of `map` at the number of its row.
     fn remap(&mut self, map: &[StateID])
         requires count { length map.now ≡ length (transitions self.old).rows }
         requires ids { All (IsRowId (transitions self.old)) map.now }
@@ -48,9 +48,9 @@ pub trait Remappable {
         ensures rest { rest self.new ≡ rest self.old };
 }
 
-/// Where the rows of a table went that have changed places, so that they can be renamed at once.
+/// The record of where the rows of a table went, for renaming them all at once.
 ///
-/// Contracts see it as an `Arrangement`, the list that tells which old row lies at each place.
+/// Contracts see it as an `Arrangement`: for each place, the old row that lies there.
 #[derive(Drop)]
 pub struct Remapper {
     rows: Vec<u32>,
@@ -68,7 +68,7 @@ impl Model for Remapper {
 }
 
 impl Remapper {
-    /// Every row in its own place.
+    /// The record of a table whose rows haven't moved.
     pub fn new<R: Remappable>(alloc: Global, r: &R) -> Result<Remapper, AllocError>
         ensures unmoved { IfOk result (λ a. a ≡ unmoved (R.transitions r.now)) }
         ensures fits { IfOk result (λ a. Fits a (R.transitions r.now)) }
@@ -83,7 +83,7 @@ impl Remapper {
         Ok(Remapper { rows, stride2 })
     }
 
-    /// Exchanges two rows. What leads to them stays as it is until the table is renamed.
+    /// Exchanges two rows. Transitions that lead to them stay as they are until `remap`.
     pub fn swap<R: Remappable>(&mut self, r: &mut R, id1: StateID, id2: StateID)
         requires fits { Fits self.old (R.transitions r.old) }
         requires id1 { IsRowId (R.transitions r.old) id1 }
@@ -105,8 +105,8 @@ impl Remapper {
         self.rows.swap(first, second);
     }
 
-    /// Renames every entry and every start entry to the place where its old row lies now. Where memory runs out, the
-    /// rows lie where they were exchanged to, and nothing is renamed.
+    /// Renames all transitions and start entries to the new places of their rows. If memory runs out, the rows stay
+    /// where the exchanges put them and nothing is renamed.
     pub fn remap<R: Remappable>(self, alloc: Global, r: &mut R) -> Result<(), AllocError>
         requires fits { Fits self (R.transitions r.old) }
         ensures ok { OnOk result (R.transitions r.new ≡ with_ids (new_id self) (R.transitions r.old)) }

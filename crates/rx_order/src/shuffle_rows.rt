@@ -1,4 +1,4 @@
-//! Rows in their order, once it is known which of them match.
+//! Shuffling: the rows move into their order once the match states are known.
 
 ghost use Rattle.std.specs.Prelude.{◌≡◌, ℕ, ◌<◌, ◌≤◌, Err, IfOk, OnErr, OnOk, All, false, length};
 ghost use Rattle.std.specs.Prelude.{slice_index_or};
@@ -21,8 +21,10 @@ use rx_dense::{OwnedDFA, PatternMapError};
 use std::alloc::{AllocError, Global};
 use std::collections::BTreeMap;
 
-/// Puts the rows of a table in their order, gives the match rows their patterns, by the rows' ids, and marks each row
-/// in which a search starts. Where it is refused, the table is as before.
+/// Moves the rows of a table into their order, gives the match states their patterns (`matches`, by state id), and
+/// marks each state in which a search starts.
+///
+/// On an error the table is unchanged: memory ran out, or the pattern lists are together longer than the greatest id.
 pub fn shuffle(
     alloc: Global,
     dfa: &mut OwnedDFA,
@@ -45,7 +47,7 @@ pub fn shuffle(
     Ok(())
 }
 
-/// The kind of each row, by which of them match. No row is accelerated.
+/// The kind of each row, by whether it is a match row. No row is accelerated.
 fn kinds(
     alloc: Global,
     dfa: &OwnedDFA,
@@ -68,7 +70,7 @@ fn kinds(
     Ok(kinds)
 }
 
-/// Of each row, whether it matches.
+/// For each row, whether it is a match row.
 fn match_rows(
     alloc: Global,
     dfa: &OwnedDFA,

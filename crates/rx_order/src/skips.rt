@@ -1,4 +1,4 @@
-//! The bytes at which a search that skips from a row stops.
+//! The needles of a row: the bytes at which a search that skips from it stops.
 
 ghost use Rattle.std.specs.Prelude.{◌≡◌, IfSome, is_some};
 ghost use Rattle.rx_spec.specs.Ids.{row_of};
@@ -11,9 +11,10 @@ use rx_base::StateID;
 use rx_dense::{Accel, OwnedDFA};
 use rx_search::Automaton;
 
-/// The bytes that lead a row elsewhere, where a search may skip to them: there are one to three, and none is a space.
+/// The needles of a row, or `None` if a search can't skip from it. They are the bytes that lead elsewhere: one to
+/// three, none of them a space.
 ///
-/// A row is given up at the first byte that is one too many, so most rows take a few steps.
+/// The loop over the bytes ends at the first byte that is one too many, so most rows take a few steps.
 pub(crate) fn needles(dfa: &OwnedDFA, id: StateID) -> Option<Accel>
     requires { IsId (ids_of dfa.now) id }
     ensures value { IfSome result (λ accel. accel ≡ leaving_of (table_of dfa.now) (row_of (ids_of dfa.now) id)) }

@@ -1,4 +1,4 @@
--- What is told of a match, and of all of them.
+-- What a search of a pair and its iterator return.
 use Rattle.std.specs.Prelude.{◌+◌, ◌-◌, Bool, Option, Some, None, is_some, Result, Ok, Err, List, [], ◌∷◌, ◌++◌, map}
 use Rattle.rx_spec.specs.HalfSearches.{HalfAnswer}
 use Rattle.rx_spec.specs.Iterating.{FoundMatches, iterate_from}

@@ -1,4 +1,4 @@
-//! Matches one after another.
+//! The iterator over the matches of an input.
 
 ghost use Rattle.std.specs.Prelude.{◌≡◌, All, IfOk, IfSome, Some};
 ghost use Rattle.rx_spec.specs.Iterating.{iterate, unless_repeat};
@@ -12,10 +12,10 @@ use rx_base::{Input, Match, MatchError, Searcher};
 use rx_search::Automaton;
 use std::marker::Model;
 
-/// The matches of an input one after another, and then the error that ended them, where one did.
+/// The matches of an input one after another, then the error that ended them, if any.
 ///
-/// Each begins where the last one ended or later, and an empty match isn't told where the last one ended. Contracts
-/// see it as the list of what is left.
+/// Each match begins where the last one ended or later. An empty match that would begin where the last match ended is
+/// left out. Contracts see the iterator as the list of the items that are left.
 #[derive(Drop)]
 pub struct FindMatches<'r, 'h, A: Automaton> {
     regex: &'r Regex<A>,
@@ -37,7 +37,7 @@ impl<'r, 'h, A: Automaton> Model for FindMatches<'r, 'h, A> {
 }
 
 impl<'r, 'h, A: Automaton> FindMatches<'r, 'h, A> {
-    /// All matches of an input.
+    /// An iterator over all matches of an input.
     pub(crate) fn new(regex: &'r Regex<A>, input: &Input<'h>) -> FindMatches<'r, 'h, A>
         requires { IsFit (query_of input.now) }
         ensures value { result
@@ -83,8 +83,8 @@ impl<'r, 'h, A: Automaton> Iterator for FindMatches<'r, 'h, A> {
     }
 }
 
-/// The next match: past an empty one where the last match ended, the search is made again, one later. What is left to
-/// search begins where it ends.
+/// The next match. If it is empty and lies where the last match ended, searches again from the next place. The rest of
+/// the input begins where the match ends.
 fn next_match<A: Automaton>(
     regex: &Regex<A>,
     searcher: &mut Searcher<'_>,

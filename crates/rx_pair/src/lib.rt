@@ -1,11 +1,10 @@
-//! Whole matches over two tables: one that is searched forward for the end of a match, and one that is searched in
-//! reverse for its start.
+//! Whole matches by two tables: a forward table gives a match's end, a reverse table its start.
 //!
-//! A [`Regex`] holds both. [`Regex::try_search`] answers the leftmost match of an input, and [`Regex::find_iter`] those
-//! that follow one after another ([`FindMatches`]).
+//! A [`Regex`] holds both. [`Regex::try_search`] returns the leftmost match of an input, and [`Regex::find_iter`] all
+//! matches one after another ([`FindMatches`]).
 //!
-//! The contract: whatever the two tables are, a search answers what the definitions' half searches of them answer,
-//! joined, and the iterator gives each match once and ends (`specs/Matches.antt`).
+//! The contract: whatever the two tables are, a search returns what the half searches of the definitions return of
+//! them, joined. The iterator yields each match once and ends (`specs/Matches.antt`).
 #![tactic(auto)]
 
 mod find_matches;

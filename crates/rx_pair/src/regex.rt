@@ -13,10 +13,10 @@ use crate::FindMatches;
 use rx_base::{Anchored, HalfMatch, Input, Match, MatchError, MatchErrorKind, Span};
 use rx_search::Automaton;
 
-/// Two sound tables that are searched together: forward for the end of a match, and in reverse for its start.
+/// Two sound tables that are searched together: forward for the end of a match, in reverse for its start.
 ///
-/// Any two tables make a pair. Where they aren't of the same patterns, a search may find an end that has no start, and
-/// says so by an error.
+/// Any two tables make a pair. If they aren't tables of the same patterns, a search may find an end without a start and
+/// then returns the error `PairMismatch`.
 #[derive(Drop)]
 pub struct Regex<A: Automaton> {
     forward: A,
@@ -26,7 +26,7 @@ pub struct Regex<A: Automaton> {
 }
 
 impl<A: Automaton> Regex<A> {
-    /// The pair of two tables, whatever they are of. Both must be sound.
+    /// Makes a pair of any two sound tables.
     pub fn new(forward: A, reverse: A) -> Regex<A>
         requires forward { A.IsSound forward }
         requires reverse { A.IsSound reverse }
@@ -36,7 +36,7 @@ impl<A: Automaton> Regex<A> {
         Regex { forward, reverse }
     }
 
-    /// The table that is searched forward.
+    /// The forward table.
     pub fn forward(&self) -> &A
         ensures table { result.now ≡ self.now.forward }
         ensures sound { A.IsSound self.now.forward }
@@ -44,7 +44,7 @@ impl<A: Automaton> Regex<A> {
         &self.forward
     }
 
-    /// The table that is searched in reverse.
+    /// The reverse table.
     pub fn reverse(&self) -> &A
         ensures table { result.now ≡ self.now.reverse }
         ensures sound { A.IsSound self.now.reverse }
@@ -52,7 +52,7 @@ impl<A: Automaton> Regex<A> {
         &self.reverse
     }
 
-    /// How many patterns there are. Both tables must have as many.
+    /// The number of patterns. Requires that both tables have the same number.
     pub fn pattern_len(&self) -> usize
         requires { (A.table self.now.forward).pattern_len ≡ (A.table self.now.reverse).pattern_len }
         ensures { result ≡ (A.table self.now.forward).pattern_len }
@@ -60,7 +60,7 @@ impl<A: Automaton> Regex<A> {
         self.forward.pattern_len()
     }
 
-    /// Whether an input has a match: the forward search ends at the first end that it meets.
+    /// Whether an input has a match. The forward search stops at the first end that it reads.
     pub fn is_match(&self, input: &Input<'_>) -> Result<bool, MatchError>
         requires { IsFit (query_of input.now) }
         ensures { result ≡ is_found (half_unsplit (A.table self.now.forward) Direction.Forward
@@ -76,7 +76,7 @@ impl<A: Automaton> Regex<A> {
         }
     }
 
-    /// The leftmost match of an input, as [`Regex::try_search`] answers it.
+    /// The leftmost match of an input, as [`Regex::try_search`] returns it.
     pub fn find(&self, input: &Input<'_>) -> Result<Option<Match>, MatchError>
         requires { IsFit (query_of input.now) }
         ensures answer { result ≡ join (A.table self.now.forward) (A.table self.now.reverse) (query_of input.now) }
@@ -86,8 +86,8 @@ impl<A: Automaton> Regex<A> {
         self.try_search(input)
     }
 
-    /// The matches of an input one after another: each begins where the last one ended or later, and an empty match
-    /// isn't told where the last one ended. After an error nothing more is told.
+    /// The matches of an input one after another. Each begins where the last one ended or later, and an empty match
+    /// where the last one ended is left out. After an error the iterator yields nothing.
     pub fn find_iter<'r, 'h>(&'r self, input: &Input<'h>) -> FindMatches<'r, 'h, A>
         requires { IsFit (query_of input.now) }
         ensures value { result
@@ -98,11 +98,11 @@ impl<A: Automaton> Regex<A> {
         FindMatches::new(self, input)
     }
 
-    /// The leftmost match of an input, or where the input says so the first one met.
+    /// The leftmost match of an input. If the input asks for the earliest match, the first whose end is read.
     ///
-    /// The forward search tells its end. An end at the span's start is an empty match there; an anchored search begins
-    /// there, and so does every match that must begin at the text's edge. Else the reverse search tells the start, from
-    /// the end back. Where it tells none, or one of another pattern, the error is `PairMismatch`.
+    /// The forward search gives the end. The start is the span's start if the end is there too, if the search is
+    /// anchored, or if every match must begin at the edge of the haystack. Otherwise the reverse search gives the
+    /// start, back from the end. If it gives none, or one of another pattern, the error is `PairMismatch`.
     pub fn try_search(&self, input: &Input<'_>) -> Result<Option<Match>, MatchError>
         requires { IsFit (query_of input.now) }
         ensures answer { result ≡ join (A.table self.now.forward) (A.table self.now.reverse) (query_of input.now) }
@@ -134,7 +134,7 @@ impl<A: Automaton> Regex<A> {
     }
 }
 
-/// The match from a start to an end that was told.
+/// The match from a start to an end.
 fn match_from(start: usize, end: &HalfMatch) -> Match
     requires { start ≤ end.now.offset }
     ensures { Ok (Some result) ≡ match_at end.now.pattern start end.now.offset }
@@ -146,7 +146,7 @@ fn match_from(start: usize, end: &HalfMatch) -> Match
     Match::new(end.pattern(), span)
 }
 
-/// The input for the start of a match that ends at a place.
+/// The input of the reverse search for the start of a match with this end.
 fn input_before<'h>(input: &Input<'h>, end: usize) -> Input<'h>
     requires ordered { (query_of input.now).start ≤ end }
     requires within { end ≤ length (query_of input.now).haystack }

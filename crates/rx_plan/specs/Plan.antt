@@ -1,4 +1,4 @@
--- A plan of the code as one of the definitions.
+-- The plan of the definitions that a plan of the code means.
 use Rattle.std.specs.Prelude.{true, false, None}
 use Rattle.rx_spec.specs.Plans as plans
 use Rattle.rx_spec.specs.declared.Form.{Form}

@@ -1,7 +1,7 @@
-//! Plans: how a list of expressions is built into tables, and what the tables are.
+//! Plans: the settings by which `rx_regex` builds and searches the tables of a list of expressions.
 //!
-//! A [`Plan`] is plain data. Contracts see it as a plan of the definitions, by `plan_of` of
-//! `specs/Plan.antt`; what is built of it, and why a build is refused, is said there.
+//! A [`Plan`] is plain data. Contracts see it as a plan of the definitions, by `plan_of` of `specs/Plan.antt`. The
+//! definitions of plans (`Plans` in `rx_spec`) say what is built of it and why a build fails.
 #![tactic(auto)]
 
 ghost use Rattle.std.specs.Prelude.{◌≡◌, None, true, false};
@@ -12,42 +12,42 @@ ghost use Rattle.rx_plan.specs.Plan.{usual};
 use rx_base::{ByteSet, StartKind};
 pub use rx_spec::Form;
 
-/// How the expressions are built into tables, and what the tables are.
+/// How to build the tables of a list of expressions, and in which form.
 #[derive(Clone, Copy, Debug)]
 pub struct Plan {
-    /// For which modes of a search there are starts.
+    /// For which modes of a search there are start states.
     pub start_kind: StartKind,
-    /// Whether each pattern has starts of its own.
+    /// Whether each pattern has start states of its own.
     pub pattern_starts: bool,
-    /// Whether bytes that nothing tells apart share a column.
+    /// Whether bytes that a table treats alike share a column.
     pub byte_classes: bool,
-    /// The bytes at which a search gives up with an error.
+    /// The quit bytes: a search that reads one ends with an error.
     pub quit: ByteSet,
-    /// Whether bytes from 0x80 on are quit bytes too where an expression has a Unicode word assertion.
+    /// Whether bytes from 0x80 on are quit bytes if an expression has a Unicode word assertion.
     pub unicode_word: bool,
-    /// The byte that ends a line for the line assertions.
+    /// The line terminator of the line assertions.
     pub line_terminator: u8,
-    /// The most bytes that an NFA may take, at 40 a row.
+    /// The most bytes that an NFA may take, at 40 bytes a state.
     pub nfa_limit: Option<usize>,
     /// The most bytes that a table may take.
     pub dfa_limit: Option<usize>,
-    /// The most bytes that the states of a construction may take.
+    /// The most bytes that a construction's states may take.
     pub determinize_limit: Option<usize>,
-    /// Whether tables have the fewest rows.
+    /// Whether the tables have the fewest states.
     pub minimize: bool,
-    /// Whether rows that few bytes lead away from are skipped from.
+    /// Whether states are accelerated: searches skip from states that few bytes leave.
     pub accelerate: bool,
-    /// Whether start rows are marked.
+    /// Whether start states are marked.
     pub mark_starts: bool,
-    /// How the rows are kept.
+    /// The form of the tables: dense or sparse.
     pub form: Form,
-    /// How the tables come to be searched.
+    /// Whether the tables are searched as built, or written and read back before.
     pub passage: Passage,
 }
 
 impl Plan {
-    /// The usual plan: starts for both modes, but none of each pattern's own, no quit bytes, lines that
-    /// end with `\n`, no limits, and dense tables searched as they were built.
+    /// The default plan: start states for both modes but not for single patterns, byte classes, no quit bytes, the line
+    /// terminator `\n`, no limits, and dense tables that are searched as built.
     pub fn new() -> Plan
         ensures { result ≡ usual }
     {
@@ -70,13 +70,13 @@ impl Plan {
     }
 }
 
-/// How the tables come to be searched.
+/// What happens to the tables between their build and a search.
 #[derive(Clone, Copy, Debug, PartialEq, Eq)]
 pub enum Passage {
-    /// As they were built.
+    /// Nothing.
     Direct,
-    /// Each written as bytes of its own and read back.
+    /// Each table is written as an image of its own and read back.
     Bytes,
-    /// Written as one image of both and read back.
+    /// Both tables are written as one image and read back.
     Pair,
 }

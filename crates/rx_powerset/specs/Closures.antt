@@ -1,5 +1,4 @@
--- The rows that are reached without reading a byte: what one row gives to a search for them, and all that some
--- rows reach.
+-- The rows that are reached without reading a byte: the step of one row, and all that some rows reach.
 use Rattle.std.specs.Prelude.{ℕ, if◌then◌else◌, List, [], ◌∷◌}
 use Rattle.std.specs.List.{flat_map}
 use Rattle.rx_spec.specs.Contexts.{holds_read}

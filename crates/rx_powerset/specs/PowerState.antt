@@ -1,4 +1,4 @@
--- A powerset state of the code as that of the definitions.
+-- The state of the definitions that a powerset state of the code means.
 use Rattle.rx_spec.specs.States.{State}
 use Rattle.rx_powerset.specs.declared.state.PowerState.{PowerState}
 

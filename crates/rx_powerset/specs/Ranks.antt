@@ -1,4 +1,4 @@
--- How states compare: by their rows, then by what is known, then by their labels.
+-- The order of states: by their rows, then by what is known of the last unit, then by their patterns.
 use Rattle.std.specs.Cmp.Lexicographic.{slice_cmp}
 use Rattle.std.specs.Ordering.{ordering_then, nat_cmp, bool_cmp}
 use Rattle.std.specs.declared.cmp.Ordering.{Ordering}

@@ -1,4 +1,4 @@
-//! The rows that are reached without reading a byte.
+//! The NFA states that are reached without reading a byte.
 
 ghost use Rattle.std.specs.Prelude.{◌≡◌, ◌++◌, ◌<◌, ◌≤◌, length, reverse, OnOk, IfOk};
 ghost use Rattle.rx_spec.specs.Contexts.{holds_read};
@@ -11,12 +11,12 @@ use rx_expr::thompson::{NFA, Row};
 use std::alloc::{AllocError, Global};
 use std::collections::BTreeSet;
 
-/// What becomes of an assertion that is met.
+/// What to do with an assertion.
 #[derive(Clone, Copy)]
 pub(crate) enum Passing {
-    /// It stands for itself.
+    /// Keep it: it is decided when the next unit is known.
     Standing,
-    /// It is passed where it holds between the unit read last and the next one.
+    /// Pass it if it holds between the last unit and the next one.
     Tested {
         last: Facts,
         next: Facts,
@@ -24,7 +24,7 @@ pub(crate) enum Passing {
     },
 }
 
-/// The row of a number; past the end, one that goes on nowhere.
+/// The row of an id. An id past the end has a row that goes on nowhere.
 #[inline]
 pub(crate) fn row_at(nfa: &NFA, id: StateID) -> Row
     ensures row { row_of result ≡ row_at (meaning nfa.now).rows id }
@@ -46,8 +46,7 @@ fn holds(look: Look, last: Facts, next: Facts, direction: Direction) -> bool
     }
 }
 
-/// The rows that are reached from some rows without reading a byte: the preferred first, and each
-/// once.
+/// The rows that are reached from `from` without reading a byte: each once, the preferred first.
 pub(crate) fn closed(
     alloc: Global,
     nfa: &NFA,
@@ -68,8 +67,7 @@ pub(crate) fn closed(
     Ok(found)
 }
 
-/// Lists a row where the search ends at it, and else puts the rows behind it on the stack, the
-/// preferred on top.
+/// Lists a row that ends the search. Otherwise pushes the rows behind it on the stack, the preferred on top.
 fn visit(
     nfa: &NFA,
     id: StateID,

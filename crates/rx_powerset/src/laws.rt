@@ -1,4 +1,4 @@
-//! What callers stand on, as functions whose contracts are the laws.
+//! Laws of states, as functions whose contracts are the laws.
 
 ghost use Rattle.std.specs.Prelude.{◌≡◌, ◌↔◌, IsTrue};
 ghost use Rattle.rx_powerset.specs.PowerState.{state_of};
@@ -6,14 +6,14 @@ ghost use Rattle.rx_powerset.specs.PowerState.{state_of};
 use crate::PowerState;
 use std::cmp::Ordering;
 
-/// Two states are equal exactly where their three parts are.
+/// Compares two states. They are equal exactly if their three parts are.
 pub fn equal(a: &PowerState, b: &PowerState) -> bool
     ensures { IsTrue result ↔ (state_of a.now ≡ state_of b.now) }
 {
     a == b
 }
 
-/// Two states are of one rank exactly where their three parts are equal.
+/// Compares two states by their order. They have the same rank exactly if their three parts are equal.
 pub fn same_rank(a: &PowerState, b: &PowerState) -> bool
     ensures { IsTrue result ↔ (state_of a.now ≡ state_of b.now) }
 {

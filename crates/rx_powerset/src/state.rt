@@ -16,12 +16,12 @@ use rx_base::{ByteSet, Facts, MatchKind, PatternID, Start, StateID, Unit};
 use rx_expr::thompson::{NFA, Row};
 use std::alloc::{AllocError, Global};
 
-/// A state of the powerset automaton of an NFA.
+/// A powerset state of an NFA.
 #[derive(PartialEq, Eq, PartialOrd, Ord, Hash, Drop)]
 pub struct PowerState {
-    /// The rows that may go on, the preferred first: each reads a byte, matches or asserts.
+    /// The rows that may go on, the preferred first. Each reads a byte, matches or asserts.
     rows: Vec<StateID>,
-    /// What is known of the unit read last, as far as some assertion asks for it.
+    /// The facts about the last unit that some assertion asks for.
     context: Facts,
     /// The patterns that matched before that unit, the preferred first.
     label: Vec<PatternID>,
@@ -32,7 +32,7 @@ pub struct PowerState {
 impl PowerState {
     ghost use Rattle.rx_powerset.specs.PowerState.{state_of};
 
-    /// The state in which nothing goes on and nothing matched.
+    /// The dead state: no row goes on and no pattern matched.
     pub fn dead(alloc: Global) -> PowerState
         ensures { state_of result ≡ dead_state }
     {
@@ -43,7 +43,7 @@ impl PowerState {
         }
     }
 
-    /// The state in which a search starts at a row, in a start context.
+    /// The start state for a row of the NFA and a start context.
     pub fn start(
         alloc: Global,
         nfa: &NFA,
@@ -56,10 +56,10 @@ impl PowerState {
         PowerState::at(alloc, nfa, &[row], known, Vec::new(alloc))
     }
 
-    /// The state after a unit is read.
+    /// The state after a unit.
     ///
-    /// The assertions of this one are decided by the unit, matches are told and, leftmost-first, cut
-    /// off what is less preferred, and the rows that are left read the unit.
+    /// The unit decides the assertions of this state. Rows that match give the patterns of the next state and,
+    /// leftmost-first, cut off the less preferred rows. The rows that are left read the unit.
     pub fn step(
         &self,
         alloc: Global,
@@ -82,7 +82,7 @@ impl PowerState {
         PowerState::at(alloc, nfa, &targets, known, label)
     }
 
-    /// The state whose rows are reached from some rows.
+    /// The state of the rows that are reached from some rows without reading a byte.
     fn at(
         alloc: Global,
         nfa: &NFA,
@@ -106,15 +106,14 @@ impl PowerState {
         })
     }
 
-    /// The bytes that the state counts for where a limit is set on the states of a construction: 8,
-    /// and 4 for each row and each pattern.
+    /// The size of the state in bytes, as limits count it: 8, and 4 for each row and each pattern.
     pub fn size(&self) -> u64
         ensures { result ≡ state_size (state_of self.now) }
     {
         8 + 4 * self.rows.len() as u64 + 4 * self.label.len() as u64
     }
 
-    /// Whether nothing goes on and nothing matched: whatever is read, no match is told any more.
+    /// Whether the state is dead: no row goes on and no pattern matched, so no match is reported from here on.
     #[inline]
     pub fn is_dead(&self) -> bool
         ensures { result ≡ is_dead_state (state_of self.now) }
@@ -122,14 +121,14 @@ impl PowerState {
         self.rows.is_empty() && self.label.is_empty()
     }
 
-    /// How many patterns matched.
+    /// The number of patterns that matched.
     pub fn pattern_len(&self) -> usize
         ensures { result ≡ length (state_of self.now).label }
     {
         self.label.len()
     }
 
-    /// A pattern that matched, by its place among them.
+    /// A pattern that matched, by its index.
     pub fn pattern(&self, i: usize) -> PatternID
         requires { i < length (state_of self.now).label }
         ensures { result ≡ slice_index (state_of self.now).label i }
@@ -138,7 +137,7 @@ impl PowerState {
     }
 }
 
-/// Whether some of the rows is an assertion.
+/// Whether some row is an assertion.
 fn has_look(nfa: &NFA, rows: &[StateID]) -> bool
     ensures { result ≡ list_any (λ q. is_look_row (row_at (meaning nfa.now).rows q)) rows.now }
 {
@@ -163,7 +162,7 @@ fn is_match(nfa: &NFA, id: StateID) -> bool
     }
 }
 
-/// The rows that go on: leftmost-first none behind the first match.
+/// The rows that go on: leftmost-first, those up to the first match.
 fn cut<'r>(nfa: &NFA, kind: MatchKind, rows: &'r [StateID]) -> &'r [StateID]
     ensures { result.now ≡ cut kind (meaning nfa.now).rows rows.now }
 {
@@ -173,7 +172,7 @@ fn cut<'r>(nfa: &NFA, kind: MatchKind, rows: &'r [StateID]) -> &'r [StateID]
     }
 }
 
-/// The rows up to the first match, that one included.
+/// The rows up to the first match, with that one.
 fn to_first_match<'r>(nfa: &NFA, rows: &'r [StateID]) -> &'r [StateID]
     ensures { result.now ≡ to_first_match (meaning nfa.now).rows rows.now }
 {
@@ -206,7 +205,7 @@ fn add_pattern(nfa: &NFA, id: StateID, patterns: &mut Vec<PatternID>) -> Result<
     Ok(())
 }
 
-/// Where the rows lead that read a unit.
+/// The rows that are reached by reading a unit.
 fn targets(
     alloc: Global,
     nfa: &NFA,
@@ -223,7 +222,7 @@ fn targets(
     Ok(targets)
 }
 
-/// Adds the row behind one that reads a unit.
+/// Adds the row that follows one that reads the unit.
 fn add_target(
     nfa: &NFA,
     id: StateID,
@@ -241,7 +240,7 @@ fn add_target(
     Ok(())
 }
 
-/// Whether a unit is in a set; the end mark is in none.
+/// Whether a unit is in a set. The end of input is in none.
 fn reads(set: &ByteSet, unit: Unit) -> bool
     ensures { result ≡ contains set.now (unit_number unit) }
 {

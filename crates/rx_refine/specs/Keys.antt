@@ -1,4 +1,4 @@
--- Which rows a unit leads into the blocks that it takes, where it takes many at once.
+-- The rows that a unit leads into the blocks that it processes, if it processes many at once.
 use Rattle.std.specs.Prelude.{ℕ, zero, suc, ◌≡◌, ◌<◌, ◌+◌, cond, List, length, slice_index, leb}
 use Rattle.rx_refine.specs.Moves.{Moves, next_row, sources}
 use Rattle.rx_refine.specs.Parts.{Parts, SplitsByKey}

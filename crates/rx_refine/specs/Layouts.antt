@@ -1,4 +1,4 @@
--- Tables of next rows as they lie in memory, and their columns.
+-- Tables of next rows in memory, and their columns.
 use Rattle.std.specs.Prelude.{ℕ, ◌≡◌, ◌<◌, ◌≤◌, ◌+◌, ◌*◌, ◌/◌, ◌^◌, List, [], length, slice_index, slice_index_or}
 
 -- Rows begin so many entries apart. Each has an entry for each unit, and may have more behind these. An entry is

@@ -1,4 +1,4 @@
--- Tables of rows, the rows that behave alike in one, and words that tell two rows apart.
+-- Tables of rows and units, the rows that behave alike, and words that distinguish two rows.
 use Rattle.std.specs.Prelude.{ℕ, ◌≡◌, ◌↔◌, ◌≢◌, ◌<◌, ◌≤◌, ◌*◌, ◌^◌, List, [], length, slice_index, slice_index_or}
 use Rattle.std.specs.Prelude.{fold, Contains}
 use Rattle.std.specs.Int.Digits.{digits_of}

@@ -1,4 +1,4 @@
--- Numbers for the rows of a table by which they are grouped into blocks anew.
+-- Numbers for the rows of a table by which they are grouped into blocks again.
 use Rattle.std.specs.Prelude.{ℕ, ◌≡◌, ◌<◌, ◌≤◌, ◌+◌, ◌-◌, ◌*◌, ◌⊎◌, true, false, List, length, slice_index, count_by}
 use Rattle.std.specs.Prelude.{eqb, Contains}
 use Rattle.rx_refine.specs.Places.{how_many}

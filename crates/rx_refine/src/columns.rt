@@ -1,4 +1,4 @@
-//! The columns of a table: for each unit the rows to which it leads.
+//! The columns of a table: for each unit, the rows to which it leads.
 
 ghost use Rattle.std.specs.Prelude.{◌≡◌, ℕ, ◌+◌, ◌*◌, ◌<◌, ◌≤◌, [], ◌++◌, length, slice_index, slice_index_or};
 ghost use Rattle.std.specs.Prelude.{slice_range, IfOk, OnOk};
@@ -8,15 +8,14 @@ use crate::table::Table;
 use std::alloc::{AllocError, Global};
 use std::marker::Model;
 
-/// About so many cells of a table are transposed at a time: 16 KiB, so that they and what they are copied
-/// from stay in a processor's first-level cache. So the table is read once and in order, and each column
-/// is written in order.
+/// How many cells of a table are transposed at a time, about: 16 KiB. They and their source stay in the first-level
+/// cache of a processor, so the table is read in order and each column is written in order.
 const CELLS: usize = 4096;
 
-/// At least so many rows are transposed at a time. That is a line of the cache for each column.
+/// The least number of rows that are transposed at a time: one cache line for each column.
 const LEAST_ROWS: usize = 16;
 
-/// At most so many rows are transposed at a time. More make no difference.
+/// The greatest number of rows that are transposed at a time. More make no difference.
 const MOST_ROWS: usize = 64;
 
 /// A column of a table.
@@ -36,7 +35,7 @@ impl Model for Column {
 }
 
 impl Column {
-    /// A column without cells, with room for so many.
+    /// An empty column with room for `rows` cells.
     fn with_capacity(alloc: Global, rows: usize) -> Result<Column, AllocError>
         ensures { IfOk result (λ column. column ≡ []) }
     {
@@ -59,7 +58,7 @@ impl Column {
     }
 }
 
-/// For each unit the rows to which it leads.
+/// For each unit, the rows to which it leads.
 pub(crate) fn columns_of(alloc: Global, table: &Table<'_>) -> Result<Vec<Column>, AllocError>
     ensures { IfOk result (λ columns. AreColumns table.now table.now.rows columns.items) }
 {
@@ -79,8 +78,7 @@ pub(crate) fn columns_of(alloc: Global, table: &Table<'_>) -> Result<Vec<Column>
     Ok(columns)
 }
 
-/// How many rows of a table of so many units are transposed at a time. Within the bounds this is a matter of
-/// speed alone.
+/// How many rows of a table with `units` units are transposed at a time. Only speed depends on it.
 fn rows_at_once(units: usize) -> usize
     ensures least { 16 ≤ result }
     ensures most { result ≤ 64 }
@@ -88,7 +86,7 @@ fn rows_at_once(units: usize) -> usize
     (CELLS / units.max(1)).max(LEAST_ROWS).min(MOST_ROWS)
 }
 
-/// So many columns without cells, each with room for so many rows.
+/// Empty columns, one for each unit, each with room for `rows` cells.
 fn empty_columns(alloc: Global, rows: usize, units: usize) -> Result<Vec<Column>, AllocError>
     ensures len { IfOk result (λ columns. length columns.items ≡ units) }
     ensures empty { IfOk result (λ columns. (unit : ℕ) → slice_index_or columns.items unit [] ≡ []) }
@@ -100,7 +98,7 @@ fn empty_columns(alloc: Global, rows: usize, units: usize) -> Result<Vec<Column>
     Ok(columns)
 }
 
-/// Adds so many cells to each column. They stand in `transposed`, column after column.
+/// Adds `count` cells to each column. `transposed` has them column after column.
 fn add_cells(count: usize, transposed: &[u32], columns: &mut [Column]) -> Result<(), AllocError>
     requires room { length columns.old * count ≤ length transposed.now }
     ensures { IfOk result (λ _. (unit : ℕ) → unit < length columns.old

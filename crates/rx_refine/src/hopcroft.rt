@@ -1,4 +1,4 @@
-//! The refinement.
+//! Hopcroft's refinement.
 
 ghost use Rattle.std.specs.Prelude.{◌≡◌, ℕ, ◌+◌, ◌<◌, ◌≤◌, ◌^◌, ◌++◌, length, slice_index, All, IfOk, OnOk};
 ghost use Rattle.std.specs.List.{flat_map, sum_by};
@@ -15,16 +15,15 @@ use crate::partition::Partition;
 use rx_steps::Steps;
 use std::alloc::{AllocError, Global};
 
-/// For each row the number of its block. Two rows are in one block exactly where they behave alike for
-/// the labels `first`: every word of units leads from both to rows with equal labels.
+/// The number of each row's block. Two rows are in one block exactly if they behave alike for the labels `first`: every
+/// word of units leads from both to rows with equal labels.
 ///
-/// For each unit the blocks are taken in the order of their numbers. Where a block is taken for a unit,
-/// each block is split into the rows that the unit leads into the taken block and those that it
-/// doesn't. The smaller part of a split gets a new number, so it is taken later; the larger part keeps
-/// its number, so it is taken later where it wasn't taken yet. Where many rows wait for a unit, it
-/// takes all their blocks at once: each block is split by the blocks into which the unit leads its rows.
-/// Where few wait, one unit takes them all before the next unit does, since its lists stay near then.
-/// Rows that are all apart can't be split further, and nothing more is read.
+/// For each unit the blocks are processed in the order of their numbers. Processing a block for a unit splits each
+/// block into the rows that the unit leads into the processed block and the others. The smaller part gets a new number,
+/// so it is processed later. The larger part keeps its number, so it is processed later unless it was already. If many
+/// rows are left for a unit, all their blocks are processed at once: each block is split by the blocks into which the
+/// unit leads its rows. If few are left, one unit processes them all before the next unit does, because its lists are
+/// in the cache then. The loop ends early when every block has one row.
 pub fn refine<L>(
     alloc: Global,
     incoming: &Incoming<L>,
@@ -85,8 +84,8 @@ pub fn refine<L>(
     Ok(partition.into_blocks())
 }
 
-/// Splits each block by the blocks from `taken` on into which the unit leads its rows. The result is the
-/// number of blocks that there were: the unit has taken these.
+/// Splits each block by the blocks from `taken` on into which the unit leads its rows. Returns the number of blocks
+/// before the split: the unit has processed these.
 fn take_all<L>(
     incoming: &Incoming<L>,
     unit: usize,
@@ -115,7 +114,7 @@ fn take_all<L>(
     Ok(end)
 }
 
-/// For each unit how many blocks it took: none yet.
+/// For each unit, the number of blocks that it has processed: zero.
 fn none_taken(alloc: Global, units: usize) -> Result<Vec<usize>, AllocError>
     ensures len { IfOk result (λ taken. length taken.items ≡ units) }
     ensures none { IfOk result (λ taken. (unit : ℕ) → unit < units → slice_index taken.items unit ≡ 0) }

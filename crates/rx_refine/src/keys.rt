@@ -1,4 +1,4 @@
-//! Into which block a unit leads each row.
+//! The block into which a unit leads each row.
 
 ghost use Rattle.std.specs.Prelude.{◌≡◌, ℕ, ◌+◌, ◌<◌, ◌≤◌, ◌^◌, length, slice_index, cond};
 ghost use Rattle.rx_refine.specs.Moves.{Moves, AreMoves, sources};
@@ -9,8 +9,8 @@ use crate::lists::Incoming;
 use crate::numbers::clear;
 use rx_steps::Steps;
 
-/// Puts into `keys` the block into which the unit leads each row, and 0 where that is a block below
-/// `taken`. The lists of the rows in the other blocks are read, in the order of the rows.
+/// Writes the block into which the unit leads each row to `keys`, or 0 if that block is below `taken`. Reads the lists
+/// of the rows in the other blocks, in the order of the rows.
 pub(crate) fn read_keys<L>(
     incoming: &Incoming<L>,
     blocks: &[u32],
@@ -38,7 +38,7 @@ pub(crate) fn read_keys<L>(
     }
 }
 
-/// Gives the rows that the unit leads to `row` a key.
+/// Gives a key to the rows that the unit leads to `row`.
 fn set_keys<L>(
     incoming: &Incoming<L>,
     row: usize,

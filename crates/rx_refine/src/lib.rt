@@ -1,16 +1,14 @@
-//! Which rows of a table behave alike, by Hopcroft's refinement with the smaller halves.
+//! Finds the rows of a table that behave alike, by Hopcroft's refinement.
 //!
-//! A table has rows, units that lead from each row to a next row, and a label for each row. Two rows
-//! behave alike where every word of units leads from both to rows with equal labels. [`refine`] gives
-//! each row the number of its block, and two rows have one number exactly where they behave alike. It
-//! reads the table by the lists of rows that lead to a row ([`Incoming`]) alone, each read is counted
-//! ([`Steps`]), and the count is bounded: at most twice the units times the rows times the number of
-//! binary digits of the number of rows.
+//! A table has rows, units that lead from each row to a next row, and a label for each row. Two rows behave alike if
+//! every word of units leads from both to rows with equal labels. [`refine`] returns the number of each row's block;
+//! two rows have one number exactly if they behave alike. It reads the table only by the lists of rows that lead to a
+//! row ([`Incoming`]). Each read is counted ([`Steps`]), and the count is bounded: at most twice the units times the
+//! rows times the number of binary digits of the number of rows.
 //!
-//! What these words mean stands in `specs/Moves.antt`. Start with [`refine`], whose body is the
-//! algorithm; `partition.rt` has the blocks as ranges of one permuted vector, `keys.rt` and `numbers.rt`
-//! how many blocks are taken at once, `columns.rt` the columns of a table, and `groups.rt` the lists of
-//! rows by two passes of counting.
+//! `specs/Moves.antt` has the definitions. Start with [`refine`], whose body is the algorithm. `partition.rt` has the
+//! blocks as ranges of one permuted vector, `keys.rt` and `numbers.rt` process many blocks at once, `columns.rt`
+//! transposes a table, and `groups.rt` groups rows by counting.
 #![tactic(auto)]
 
 mod columns;

@@ -11,14 +11,14 @@ use rx_steps::Steps;
 use std::alloc::{AllocError, Global};
 use std::marker::{Model, PhantomData};
 
-/// Which rows of a table lead to a row on a unit. Each read is counted by a ledger `L`.
+/// The rows of a table that lead to a row on a unit. A ledger `L` counts each read.
 ///
 /// Contracts see the table: its rows, its units and the next row for each.
 #[derive(Drop)]
 pub struct Incoming<L> {
     rows: usize,
     units: usize,
-    /// For each unit the rows, grouped by the row to which the unit leads.
+    /// For each unit, the rows grouped by the row to which the unit leads.
     lists: Vec<Groups>,
     ledger: PhantomData<L>,
 }
@@ -35,8 +35,7 @@ impl<L> Model for Incoming<L> {
 }
 
 impl<L> Incoming<L> {
-    /// The lists of the table in which unit `unit` leads from row `row` to
-    /// `next[row * units + unit]`.
+    /// The lists of a table in which the unit `unit` leads from the row `row` to the row `next[row * units + unit]`.
     pub fn new(
         alloc: Global,
         rows: usize,
@@ -55,10 +54,9 @@ impl<L> Incoming<L> {
         Incoming::from_table(alloc, &Table::from_rows(rows, units, next))
     }
 
-    /// The lists of a dense table, read where it lies: its rows are `1 << stride2` entries apart, and unit
-    /// `unit` leads from row `row` to the row with the identifier `table[(row << stride2) + unit]`, which
-    /// is the row's number, shifted left by `stride2`. What stands behind the entries of a row's units is
-    /// not read.
+    /// The lists of a dense table, read in place. Its rows are `1 << stride2` entries apart. The unit `unit` leads from
+    /// the row `row` to the row with the id `table[(row << stride2) + unit]`; a row's id is its number shifted left by
+    /// `stride2`. Padding after the entries of a row isn't read.
     pub fn from_ids(
         alloc: Global,
         rows: usize,
@@ -103,7 +101,7 @@ impl<L> Incoming<L> {
         })
     }
 
-    /// How many rows lead to `row` on `unit`. This is one step.
+    /// The number of rows that lead to `row` on `unit`. Counts one step.
     pub fn count(&self, row: usize, unit: usize, steps: &mut Steps<L>) -> usize
         requires row { row < self.now.rows }
         requires unit { unit < self.now.units }
@@ -115,7 +113,7 @@ impl<L> Incoming<L> {
         self.lists[unit].rows_of(row).len()
     }
 
-    /// The `i`-th row, in rising order and from 0 on, that leads to `row` on `unit`. This is one step.
+    /// The row at the index `i`, in rising order, among those that lead to `row` on `unit`. Counts one step.
     pub fn source(&self, row: usize, unit: usize, i: usize, steps: &mut Steps<L>) -> usize
         requires row { row < self.now.rows }
         requires unit { unit < self.now.units }
@@ -128,7 +126,7 @@ impl<L> Incoming<L> {
         self.lists[unit].rows_of(row)[i] as usize
     }
 
-    /// How many rows the table has.
+    /// The number of rows of the table.
     pub fn rows(&self) -> usize
         ensures rows { result ≡ self.now.rows }
         ensures moves { AreMoves self.now }
@@ -136,7 +134,7 @@ impl<L> Incoming<L> {
         self.rows
     }
 
-    /// How many units the table has.
+    /// The number of units of the table.
     pub fn units(&self) -> usize
         ensures units { result ≡ self.now.units }
         ensures moves { AreMoves self.now }
@@ -145,7 +143,7 @@ impl<L> Incoming<L> {
     }
 }
 
-/// For each unit the rows, grouped by the row to which the unit leads.
+/// For each unit, the rows grouped by the row to which the unit leads.
 fn lists_of(alloc: Global, table: &Table<'_>) -> Result<Vec<Groups>, AllocError>
     ensures { IfOk result (λ lists. AreColumns table.now table.now.rows lists.items) }
 {

@@ -4,10 +4,9 @@ ghost use Rattle.std.specs.Prelude.{◌≡◌, ℕ, ◌+◌, ◌*◌, ◌<◌, �
 ghost use Rattle.rx_refine.specs.Parts.{is_in};
 ghost use Rattle.rx_refine.specs.Numbers.{how_many_have, NumbersRows};
 
-/// Gives the rows of a block that have one key one number. The key that most rows have, where more than
-/// half of them have it, keeps the number that they have. Each other key gets a number of its own, from
-/// `first` on. The result is the number behind the last. `names` is room to work in: what it holds is
-/// below `first` at first, and below the result in the end.
+/// Gives the rows of a block with one key one number. If more than half of the rows have one key, they keep the number
+/// that they have. Each other key gets a new number, from `first` on. Returns the number after the last new one.
+/// `names` is room to work in: its numbers are below `first` before the call, and below the result after it.
 pub(crate) fn number_rows(
     members: &[u32],
     keys: &[u32],
@@ -41,8 +40,8 @@ pub(crate) fn number_rows(
     count
 }
 
-/// The key of one of the rows: the one that more than half of them have, where there is such a key. Of
-/// two rows with different keys neither is counted, so such a key is left over.
+/// The key of one of the rows. If more than half of the rows have one key, it is that one: a vote drops pairs of rows
+/// with different keys, and such a key is left over.
 fn leading_key(members: &[u32], keys: &[u32]) -> u32
     requires { All (λ row. row < length keys.now) members.now }
     ensures some { 0 < length members.now
@@ -65,7 +64,7 @@ fn leading_key(members: &[u32], keys: &[u32]) -> u32
     leading
 }
 
-/// Makes all numbers 0.
+/// Sets all numbers to 0.
 pub(crate) fn clear(numbers: &mut [u32])
     ensures len { length numbers.new ≡ length numbers.old }
     ensures zeros { All (λ number. number ≡ 0) numbers.new }

@@ -1,20 +1,20 @@
-//! A table of next rows as it lies in memory.
+//! A table of next rows in memory.
 
 ghost use Rattle.std.specs.Prelude.{◌≡◌, ℕ, ◌+◌, ◌*◌, ◌/◌, ◌<◌, ◌≤◌, ◌^◌, length, slice_index, All};
 ghost use Rattle.rx_refine.specs.Layouts.{IsLayout, next_at};
 
 use std::marker::Model;
 
-/// The next rows of a table, read where they lie.
+/// The next rows of a table, read in place.
 ///
 /// Contracts see a layout.
 #[derive(Drop)]
 pub(crate) struct Table<'a> {
     rows: usize,
     units: usize,
-    /// How many entries there are from the first of a row to the first of the next one.
+    /// The number of entries from the start of one row to the start of the next.
     stride: usize,
-    /// By how many bits the number of a row is shifted left in its entry.
+    /// An entry is its row's number shifted left by this many bits.
     shift: usize,
     entries: &'a [u32],
 }
@@ -32,7 +32,7 @@ impl<'a> Model for Table<'a> {
 }
 
 impl<'a> Table<'a> {
-    /// Rows that stand one behind the other, each with an entry for each unit. An entry is the number of a row.
+    /// A table of rows without padding, each with an entry for each unit. An entry is the number of a row.
     pub(crate) fn from_rows(rows: usize, units: usize, entries: &'a [u32]) -> Table<'a>
         requires few { rows ≤ 2 ^ 31 }
         requires cells { length entries.now ≡ rows * units }
@@ -48,8 +48,8 @@ impl<'a> Table<'a> {
         }
     }
 
-    /// Rows that begin a power of two apart. Of each row the first entries are read, one for each unit, and
-    /// an entry is the number of a row, shifted left by the exponent.
+    /// A table of rows that are a power of two apart. Only the first entries of each row are read, one for each unit.
+    /// An entry is the number of a row, shifted left by the exponent.
     pub(crate) fn from_ids(
         rows: usize,
         units: usize,
@@ -74,7 +74,7 @@ impl<'a> Table<'a> {
         }
     }
 
-    /// How many rows there are.
+    /// The number of rows.
     pub(crate) fn rows(&self) -> usize
         ensures rows { result ≡ self.now.rows }
         ensures layout { IsLayout self.now }
@@ -82,7 +82,7 @@ impl<'a> Table<'a> {
         self.rows
     }
 
-    /// How many units there are.
+    /// The number of units.
     pub(crate) fn units(&self) -> usize
         ensures units { result ≡ self.now.units }
         ensures layout { IsLayout self.now }
@@ -100,7 +100,7 @@ impl<'a> Table<'a> {
         self.entries[row * self.stride + unit] >> self.shift
     }
 
-    /// Copies the next rows of so many rows from `first` on, so that they stand unit after unit.
+    /// Copies the next rows of `count` rows from `first` on, unit after unit.
     pub(crate) fn transpose(&self, first: usize, count: usize, transposed: &mut [u32])
         requires rows { first + count ≤ self.now.rows }
         requires room { count * self.now.units ≤ length transposed.old }

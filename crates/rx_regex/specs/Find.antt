@@ -1,4 +1,4 @@
--- What a search for a match answers, and why it has no answer.
+-- What a search for a match returns, and the causes of its errors.
 use Rattle.std.specs.Prelude.{◌≡◌, ◌≢◌, ◌⊎◌, Result, Ok, Err, List}
 use Rattle.rx_spec.specs.Expressions.{Expression}
 use Rattle.rx_spec.specs.Queries.{Query, MatchError}

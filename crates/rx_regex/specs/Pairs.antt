@@ -1,4 +1,4 @@
--- Two tables that are those of a plan, dense or sparse.
+-- The two tables of a plan, dense or sparse.
 use Rattle.std.specs.Prelude.{◌≡◌, false, List, All}
 use Rattle.rx_spec.specs.Expressions.{Expression, IsLoopSafe}
 use Rattle.rx_spec.specs.Joining.{Answer, join}

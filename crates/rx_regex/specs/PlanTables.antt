@@ -1,4 +1,4 @@
--- The tables that a plan has for a list of expressions: two that are searched together, and one that tells all matches.
+-- The tables of a plan: two that are searched together, and one that reports all matches.
 use Rattle.std.specs.Prelude.{List}
 use Rattle.rx_spec.specs.Builds.{Build}
 use Rattle.rx_spec.specs.Expressions.{Expression}

@@ -1,4 +1,4 @@
--- Pairs of tables that are built as a plan's are.
+-- Pairs of tables that are built as a plan's are, by settings of a caller.
 use Rattle.std.specs.Prelude.{ℕ, ◌≡◌, ◌≤◌, false, Some, Ok, Err, List, length, All}
 use Rattle.rx_spec.specs.Bytes.{AreBytes}
 use Rattle.rx_spec.specs.Expressions.{Expression, IsLoopSafe}

@@ -1,4 +1,4 @@
--- The tables of a plan, as they are kept.
+-- The tables of a plan in memory.
 use Rattle.std.specs.Prelude.{List}
 use Rattle.rx_spec.specs.Expressions.{Expression}
 use Rattle.rx_spec.specs.Plans.{Plan}

@@ -1,4 +1,4 @@
-//! How the two tables of a plan are built and searched.
+//! Building and searching the two tables of a plan.
 
 ghost use Rattle.std.specs.Prelude.{◌≡◌, All, IfOk, IfErr, IfSome, OnOk, List};
 ghost use Rattle.rx_spec.specs.Bytes.{AreBytes};
@@ -26,7 +26,7 @@ use rx_plan::{Form, Plan};
 use std::alloc::Global;
 
 impl Built {
-    /// The tables of a plan, in its form; the forward one is built, and may be refused, first.
+    /// Builds the tables of a plan, in its form. The forward table is built first, so its error is returned first.
     pub fn new(alloc: Global, exprs: &[Expr], plan: &Plan) -> Result<Built, BuildError>
         ensures ok { IfOk result (IsOf (plan_of plan.now) exprs.now) }
         ensures fits { OnOk result (PlanFits (plan_of plan.now) exprs.now) }
@@ -44,8 +44,8 @@ impl Built {
         }
     }
 
-    /// The leftmost match of an input, whatever it says of the first match met: that of the plan and the
-    /// expressions of which these are the tables. An error is never that the two tables disagree.
+    /// The leftmost match of an input, as the plan and the expressions define it. Ignores the input's `earliest`. The
+    /// error is never `PairMismatch`.
     pub fn search(&self, input: &Input<'_>) -> Result<Option<Match>, MatchError>
         requires { IsFit (query_of input.now) }
         ensures answer { (p : SearchPlan) (es : List Expression) → IsOf p es self.now
@@ -61,8 +61,8 @@ impl Built {
         }
     }
 
-    /// The matches of an input one after another: each begins where the last one ended or later, and an empty match
-    /// isn't told where the last one ended. After an error nothing more is told.
+    /// The matches of an input one after another. Each begins where the last one ended or later, and an empty match
+    /// where the last one ended is left out. An error is the last item.
     pub fn find_iter<'r, 'h>(&'r self, input: &Input<'h>) -> BuiltMatches<'r, 'h>
         requires { IsFit (query_of input.now) }
         ensures value { (p : SearchPlan) (es : List Expression) → IsOf p es self.now
@@ -83,7 +83,7 @@ impl Built {
         }
     }
 
-    /// How many rows the forward and the reverse table have.
+    /// The number of states of the forward and of the reverse table.
     pub fn rows(&self) -> (u64, u64)
         ensures { (p : SearchPlan) (es : List Expression) → IsOf p es self.now → HaveRows p es result.0 result.1 }
     {
@@ -95,7 +95,7 @@ impl Built {
     }
 }
 
-/// The search of a plan: for the preferred end, and not for the first that is met.
+/// The input without `earliest`: a plan's search returns the preferred end, not the first that it reads.
 fn whole_search<'h>(input: &Input<'h>) -> Input<'h>
     requires { IsFit (query_of input.now) }
     ensures asked { query_of result ≡ whole (query_of input.now) }

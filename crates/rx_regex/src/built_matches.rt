@@ -1,4 +1,4 @@
-//! Matches of a plan's tables, one after another.
+//! The iterator over the matches by a plan's tables.
 
 use rx_base::{Match, MatchError};
 use rx_dense::OwnedDFA;
@@ -6,15 +6,15 @@ use rx_pair::FindMatches;
 use rx_sparse::DFA as SparseDFA;
 use std::marker::Model;
 
-/// The matches by tables of one form or the other.
+/// The matches by dense or by sparse tables.
 #[derive(Drop)]
 pub(crate) enum FormMatches<'r, 'h> {
     Dense(FindMatches<'r, 'h, OwnedDFA>),
     Sparse(FindMatches<'r, 'h, SparseDFA<Vec<u8>>>),
 }
 
-/// The matches of an input one after another, and then the error that ended them, where one did. Contracts see it as
-/// the list of what is left.
+/// The matches of an input one after another, then the error that ended them, if any. Contracts see the iterator as the
+/// list of the items that are left.
 #[derive(Drop)]
 pub struct BuiltMatches<'r, 'h> {
     pub(crate) matches: FormMatches<'r, 'h>,

@@ -1,5 +1,4 @@
-//! Dense tables of a plan: built by the settings that it asks for, and taken through bytes or through an image of both
-//! where it says so.
+//! Dense tables of a plan: built by its settings, and written and read back if it asks for that.
 
 ghost use Rattle.std.specs.Prelude.{◌≡◌, ◌<◌, ◌^◌, All, IfOk, IfErr, OnOk};
 ghost use Rattle.rx_spec.specs.Expressions.{IsLoopSafe};
@@ -25,7 +24,7 @@ use rx_plan::{Passage, Plan};
 use rx_wire::Order;
 use std::alloc::{AllocError, Global};
 
-/// Both tables. The forward one is built, and may be refused, first.
+/// Builds both tables. The forward table is built first, so its error is returned first.
 pub(crate) fn dense_pair(
     alloc: Global,
     exprs: &[Expr],
@@ -45,7 +44,7 @@ pub(crate) fn dense_pair(
     }
 }
 
-/// A table of a plan. Alone it isn't taken through an image of both.
+/// Builds one table of a plan. `Passage::Pair` has no effect on it.
 pub(crate) fn dense_table(
     alloc: Global,
     exprs: &[Expr],
@@ -69,7 +68,7 @@ pub(crate) fn dense_table(
     }
 }
 
-/// A table that was written as bytes and is read back. Only want of memory may come between.
+/// Writes a table as an image and reads it back. The only error is that memory runs out.
 fn read_back(alloc: Global, table: &OwnedDFA) -> Result<OwnedDFA, AllocError>
     requires { IsWhole table.now }
     ensures { IfOk result (λ back. back ≡ table.now) }
@@ -81,7 +80,7 @@ fn read_back(alloc: Global, table: &OwnedDFA) -> Result<OwnedDFA, AllocError>
     }
 }
 
-/// Tables that were written as one image and are read back. Only want of memory may come between.
+/// Writes two tables as one image and reads them back. The only error is that memory runs out.
 fn read_pair_back(
     alloc: Global,
     forward: &OwnedDFA,

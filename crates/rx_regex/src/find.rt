@@ -1,4 +1,4 @@
-//! The search for a match.
+//! One search of a list of expressions.
 
 ghost use Rattle.std.specs.Prelude.{◌≡◌, IfOk, IfSome};
 ghost use Rattle.rx_spec.specs.Queries.{IsFit, LiesIn};
@@ -14,24 +14,23 @@ use rx_expr::Expr;
 use rx_plan::Plan;
 use std::alloc::Global;
 
-/// What a search answers.
+/// The result of a search without an error.
 #[derive(Clone, Copy, Debug)]
 pub struct Answer {
-    /// The match, where there is one.
+    /// The match, if there is one.
     pub found: Option<Match>,
-    /// The rows of the forward table.
+    /// The number of states of the forward table.
     pub forward_rows: u64,
-    /// The rows of the reverse table.
+    /// The number of states of the reverse table.
     pub reverse_rows: u64,
 }
 
-/// Finds the leftmost match of a list of expressions in an input: the least place in the span where a
-/// pattern matches within the span, there the lowest pattern, and of it the preferred end.
+/// Builds the tables of a list of expressions and finds the leftmost match in an input: it begins at the least place in
+/// the span where a pattern matches within the span, is of the lowest pattern there, and has the preferred end.
 ///
-/// The plan decides how the two tables are built, the line terminator, the quit bytes and the modes
-/// that have starts. Where it minimizes, the numbers of rows are the least of any tables that tell the
-/// same. Whether its tables are dense or sparse, or go through bytes, and whether the input asks for the
-/// earliest end, makes no difference to what is found.
+/// The plan sets how the tables are built, the line terminator, the quit bytes and the modes with start states. If it
+/// minimizes, no tables that report the same have fewer states. The form of the tables, their passage through images
+/// and the input's `earliest` don't change what is found.
 pub fn compile_and_find(
     alloc: Global,
     exprs: &[Expr],
@@ -60,7 +59,7 @@ pub fn compile_and_find(
     }
 }
 
-/// A build that is refused, as a fault of the search.
+/// The fault for a build that is refused.
 fn build_fault(error: BuildError) -> FindFault
     ensures { IsFault error.kind result }
 {
@@ -70,7 +69,7 @@ fn build_fault(error: BuildError) -> FindFault
     }
 }
 
-/// A search that ends by an error, as a fault of the whole search.
+/// The fault for a search that ends with an error.
 fn search_fault(error: MatchError) -> FindFault
     requires { IsPaired error }
     ensures { Tells result error }

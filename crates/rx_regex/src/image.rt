@@ -21,7 +21,7 @@ use rx_sparse_image::SparseWrite;
 use rx_wire::Order;
 use std::alloc::{AllocError, Global};
 
-/// The image of a table of a plan, in the plan's form, its numbers in an order. No other table is built.
+/// Builds one table of a plan, in the plan's form, and returns its image in a byte order.
 pub fn build_image(
     alloc: Global,
     exprs: &[Expr],
@@ -46,7 +46,7 @@ pub fn build_image(
     }
 }
 
-/// The bytes of a dense table, its numbers in an order.
+/// The image of a dense table, in a byte order.
 fn dense_image(alloc: Global, table: &OwnedDFA, order: Order) -> Result<Vec<u8>, AllocError>
     ensures { IfOk result (λ image. image.items ≡ dense_text order table.now) }
 {
@@ -56,7 +56,7 @@ fn dense_image(alloc: Global, table: &OwnedDFA, order: Order) -> Result<Vec<u8>,
     }
 }
 
-/// The bytes of a sparse table, its numbers in an order.
+/// The image of a sparse table, in a byte order.
 fn sparse_image(
     alloc: Global,
     table: &SparseDFA<Vec<u8>>,

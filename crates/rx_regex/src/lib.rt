@@ -1,11 +1,13 @@
-//! Searches for the matches of a list of expressions, by tables that are built of them.
+//! Builds tables of a list of expressions and finds their matches.
 //!
-//! [`compile_and_find`] takes expressions, a [`Plan`] and an input, and answers the leftmost match, there the lowest
-//! pattern and its preferred end, with the numbers of rows of the two tables; or it says why it can't. Its contract
-//! says what is found without an automaton, and names one only in the causes of errors. It is two steps: a plan's
-//! tables are [`Built`], and then searched. Who searches more than once keeps the [`Built`], or makes a [`Regex`] by
-//! settings of its own ([`laws`]: what that finds). [`build_image`] builds one table of a plan alone, and writes it
-//! as bytes that can be kept. [`build_pair_image`] writes both as one image, from which `rx_image` reads them.
+//! [`compile_and_find`] takes expressions, a [`Plan`] and an input, and returns the leftmost match with the sizes of
+//! the two tables, or an error. Its contract says what is found without an automaton; only the causes of errors mention
+//! one. It builds a plan's tables ([`Built`]) and searches them.
+//!
+//! - To search more than once, keep the [`Built`], or make a [`Regex`] by settings of your own ([`laws`] say what it
+//!   finds).
+//! - [`build_image`] builds one table of a plan and returns its image.
+//! - [`build_pair_image`] returns one image of both tables, which `rx_image` reads.
 #![tactic(auto)]
 
 mod built;

@@ -17,8 +17,8 @@ use rx_plan::{Form, Plan};
 use rx_wire::Order;
 use std::alloc::Global;
 
-/// The image of both tables of a plan, in the plan's form, its numbers in an order. The forward table is built, and may
-/// be refused, first.
+/// Builds both tables of a plan, in the plan's form, and returns one image of them in a byte order. The forward table
+/// is built first, so its error is returned first.
 pub fn build_pair_image(
     alloc: Global,
     exprs: &[Expr],

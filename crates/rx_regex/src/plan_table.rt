@@ -5,14 +5,14 @@ ghost use Rattle.rx_regex.specs.PlanTables.{direction_of, match_kind_of};
 
 use rx_base::{Direction, MatchKind};
 
-/// A table that a plan has. The first two are searched together; the third is for scanning.
+/// A table of a plan. The first two are searched together; the third is for scanners and streams.
 #[derive(Clone, Copy, Debug, PartialEq, Eq)]
 pub enum PlanTable {
-    /// It is searched forward, and tells the preferred match.
+    /// Searched forward; reports the preferred match.
     Forward,
-    /// It is searched in reverse, and tells all matches.
+    /// Searched in reverse; reports all matches.
     Reverse,
-    /// It is searched forward, and tells all matches.
+    /// Searched forward; reports all matches.
     All,
 }
 
@@ -27,7 +27,7 @@ impl PlanTable {
         }
     }
 
-    /// Which matches it tells by the settings of both tables, which in reverse are replaced.
+    /// The match kind in the settings of a pair, which are overwritten for the reverse table.
     pub(crate) fn match_kind(self) -> MatchKind
         ensures { result ≡ match_kind_of self }
     {

@@ -1,4 +1,4 @@
-//! What a plan asks of the builders of its tables.
+//! The settings that a plan gives to the builders of its tables.
 
 ghost use Rattle.std.specs.Prelude.{◌≡◌};
 ghost use Rattle.rx_build.specs.Settings.{asked};
@@ -13,7 +13,7 @@ use rx_expr::thompson;
 use rx_plan::Plan;
 use rx_regex_builder::Builder;
 
-/// What builds a table of a plan, in the direction of that.
+/// The builder of a table of a plan.
 pub(crate) fn table_builder(plan: &Plan, table: PlanTable) -> Builder
     ensures { both_of result ≡ settings_for (plan_of plan.now) table }
 {
@@ -23,7 +23,7 @@ pub(crate) fn table_builder(plan: &Plan, table: PlanTable) -> Builder
     builder
 }
 
-/// The settings of a table that a plan asks for.
+/// The settings of a table.
 fn table_settings(plan: &Plan, table: PlanTable) -> dense::Config
     ensures { asked result ≡ table_settings (plan_of plan.now) table }
 {
@@ -41,7 +41,7 @@ fn table_settings(plan: &Plan, table: PlanTable) -> dense::Config
         .determinize_size_limit(plan.determinize_limit)
 }
 
-/// The settings of the NFAs. Matches begin and end at any byte.
+/// The settings of the NFAs. UTF-8 mode is off.
 fn thompson_settings(plan: &Plan) -> thompson::Config
     ensures { thompson.asked result ≡ thompson_settings (plan_of plan.now) }
 {

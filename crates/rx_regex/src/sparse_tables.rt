@@ -1,5 +1,4 @@
-//! Sparse tables of a plan: built by the settings that it asks for, and taken through bytes or through an image of both
-//! where it says so.
+//! Sparse tables of a plan: built by its settings, and written and read back if it asks for that.
 
 ghost use Rattle.std.specs.Prelude.{◌≡◌, ◌<◌, ◌^◌, All, IfOk, IfErr, OnOk};
 ghost use Rattle.rx_spec.specs.Expressions.{IsLoopSafe};
@@ -28,7 +27,7 @@ use rx_sparse_image::{SparseRead, SparseWrite};
 use rx_wire::Order;
 use std::alloc::{AllocError, Global};
 
-/// Both tables. The forward one is built, and may be refused, first.
+/// Builds both tables. The forward table is built first, so its error is returned first.
 pub(crate) fn sparse_pair(
     alloc: Global,
     exprs: &[Expr],
@@ -48,7 +47,7 @@ pub(crate) fn sparse_pair(
     }
 }
 
-/// A table of a plan. Alone it isn't taken through an image of both.
+/// Builds one table of a plan. `Passage::Pair` has no effect on it.
 pub(crate) fn sparse_table(
     alloc: Global,
     exprs: &[Expr],
@@ -73,7 +72,7 @@ pub(crate) fn sparse_table(
     }
 }
 
-/// A table that was written as bytes and is read back, with bytes of its own. Only want of memory may come between.
+/// Writes a table as an image and reads it back into memory of its own. The only error is that memory runs out.
 fn read_back(alloc: Global, table: &DFA<Vec<u8>>) -> Result<DFA<Vec<u8>>, AllocError>
     requires whole { IsWhole table.now.layout }
     requires little { table.now.order ≡ Order.Little }
@@ -86,8 +85,7 @@ fn read_back(alloc: Global, table: &DFA<Vec<u8>>) -> Result<DFA<Vec<u8>>, AllocE
     }
 }
 
-/// Tables that were written as one image and are read back, with bytes of their own. Only want of memory may come
-/// between.
+/// Writes two tables as one image and reads them back into memory of their own. The only error is that memory runs out.
 fn read_pair_back(
     alloc: Global,
     forward: &DFA<Vec<u8>>,
@@ -107,7 +105,7 @@ fn read_pair_back(
     }
 }
 
-/// Sparse tables that lie in an image, with bytes of their own.
+/// Copies sparse tables out of an image.
 fn with_own_bytes(alloc: Global, tables: &Tables<'_>) -> Result<Regex<DFA<Vec<u8>>>, AllocError>
     requires { AreSound tables.now }
     ensures { IfOk result (λ pair. pair_of tables.now ≡ Pair.Sparse pair.forward pair.reverse) }

@@ -7,15 +7,15 @@ use rx_dense::OwnedDFA;
 use rx_pair::Regex;
 use rx_sparse::DFA as SparseDFA;
 
-/// The pair of tables, in the form that a plan asks for.
+/// The pair of tables, in the form that a plan sets.
 #[derive(Drop)]
 pub(crate) enum Tables {
     Dense(Regex<OwnedDFA>),
     Sparse(Regex<SparseDFA<Vec<u8>>>),
 }
 
-/// The two tables of a plan: forward for the end of a match, and in reverse for its start. They are searched as often
-/// as is asked for.
+/// The two tables of a plan: forward for the end of a match, in reverse for its start. Build them once and search them
+/// any number of times.
 #[derive(Drop)]
 pub struct Built {
     pub(crate) tables: Tables,

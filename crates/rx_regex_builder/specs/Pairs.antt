@@ -1,4 +1,4 @@
--- The two tables of one list of expressions.
+-- The two tables of a list of expressions, and the causes that refuse them.
 use Rattle.std.specs.Prelude.{true, false, Some, List, ◌⊎◌}
 use Rattle.rx_spec.specs.Expressions.{Expression}
 use Rattle.rx_spec.specs.Plans.{Cause}

@@ -1,4 +1,5 @@
--- The two sparse tables of one list of expressions: by the settings of dense ones, and refused for one cause more.
+-- The two sparse tables of a list of expressions. The settings are those of dense tables; there is one more cause that
+-- refuses them.
 use Rattle.std.specs.Prelude.{List, ◌⊎◌}
 use Rattle.rx_spec.specs.Expressions.{Expression}
 use Rattle.rx_spec.specs.Plans.{Cause}

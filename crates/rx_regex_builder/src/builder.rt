@@ -19,7 +19,7 @@ use rx_sparse::DFA as SparseDFA;
 use rx_sparse_build::BuildSparse;
 use std::alloc::Global;
 
-/// Makes pairs of tables.
+/// Builds pairs of tables.
 #[derive(Clone, Debug, Default, Drop)]
 pub struct Builder {
     dense: Config,
@@ -36,7 +36,7 @@ impl Builder {
     ghost use Rattle.rx_regex_builder.specs.SparsePairs.{IsRefusedBy as IsSparseRefusedBy};
     ghost use Rattle.rx_regex_builder.specs.SparsePairs.{PairRefused as SparsePairRefused};
 
-    /// With default settings: matches that split a character of UTF-8 are passed over.
+    /// A builder with default settings. UTF-8 mode is on: searches pass over matches that split a character.
     pub fn new() -> Builder
         ensures { both_of result ≡ none_asked }
     {
@@ -46,7 +46,7 @@ impl Builder {
         }
     }
 
-    /// Takes these settings of the NFAs, and keeps those that they don't set.
+    /// Sets what `config` sets and keeps the other settings of the NFAs.
     pub fn thompson(&mut self, config: thompson::Config) -> &mut Builder
         ensures value { both_of result.now
             ≡ record (both_of self.old) { thompson = nfa.overwritten (both_of self.old).thompson (nfa.asked config) } }
@@ -56,7 +56,7 @@ impl Builder {
         self
     }
 
-    /// Takes these settings of the tables, and keeps those that they don't set.
+    /// Sets what `config` sets and keeps the other settings of the tables.
     pub fn dense(&mut self, config: Config) -> &mut Builder
         ensures value { both_of result.now
             ≡ record (both_of self.old) { dense = overwritten (both_of self.old).dense (asked config) } }
@@ -66,9 +66,9 @@ impl Builder {
         self
     }
 
-    /// The tables of a list of expressions, the first of which is pattern 0. The forward one is built, and may be
-    /// refused, first. The one in reverse is of the mirrored expressions: it tells all matches, from a known end, and
-    /// marks no start row.
+    /// Builds the tables of a list of expressions. The first expression is pattern 0. The forward table is built first,
+    /// so its error is returned first. The reverse table is built of the mirrored expressions: it reports all matches,
+    /// has only anchored start states, and marks none of them.
     pub fn build_many(&self, alloc: Global, exprs: &[Expr]) -> Result<Regex<OwnedDFA>, BuildError>
         ensures ok { IfOk result (λ regex. AreBuilt (both_of self.now) exprs.now regex.forward regex.reverse) }
         ensures fits { OnOk result (AreBothFit (both_of self.now) exprs.now) }
@@ -81,7 +81,7 @@ impl Builder {
         Ok(Regex::new(forward, reverse))
     }
 
-    /// One of these two tables alone: the forward one, or the one in reverse.
+    /// Builds one of these two tables alone.
     pub fn build_one(
         &self,
         alloc: Global,
@@ -98,7 +98,7 @@ impl Builder {
         self.tables(direction).build_many(alloc, exprs)
     }
 
-    /// The sparse tables of a list of expressions, as [`Builder::build_many`] builds dense ones.
+    /// Builds the sparse tables of a list of expressions. The settings apply as in [`Builder::build_many`].
     pub fn build_many_sparse(
         &self,
         alloc: Global,
@@ -115,7 +115,7 @@ impl Builder {
         Ok(Regex::new(forward, reverse))
     }
 
-    /// One of these two sparse tables alone: the forward one, or the one in reverse.
+    /// Builds one of these two sparse tables alone.
     pub fn build_one_sparse(
         &self,
         alloc: Global,
@@ -134,7 +134,7 @@ impl Builder {
         self.tables(direction).build_many_sparse(alloc, exprs)
     }
 
-    /// What builds the tables of a direction.
+    /// The builder of the tables of a direction.
     fn tables(&self, direction: Direction) -> dense::Builder
         ensures { tables.both_of result ≡ in_direction direction (both_of self.now) }
     {
@@ -144,7 +144,7 @@ impl Builder {
         }
     }
 
-    /// What builds tables that are searched forward: by these settings.
+    /// The builder of forward tables: by these settings.
     fn forward_tables(&self) -> dense::Builder
         ensures { tables.both_of result ≡ both_of self.now }
     {
@@ -153,7 +153,7 @@ impl Builder {
         table_builder(dense, thompson)
     }
 
-    /// What builds tables that are searched in reverse: they tell all matches, from a known end, and mark no start row.
+    /// The builder of reverse tables: they report all matches, have only anchored start states, and mark none of them.
     fn reverse_tables(&self) -> dense::Builder
         ensures { tables.both_of result ≡ in_reverse (both_of self.now) }
     {
@@ -168,7 +168,7 @@ impl Builder {
         )
     }
 
-    /// The pair of two tables, whatever they are of. Both must be sound.
+    /// Makes a pair of any two sound tables.
     pub fn build_from_dfas<A: Automaton>(&self, forward: A, reverse: A) -> Regex<A>
         requires forward { A.IsSound forward }
         requires reverse { A.IsSound reverse }

@@ -1,10 +1,10 @@
-//! Pairs of tables of patterns, by settings.
+//! Builds pairs of tables by settings.
 //!
-//! A [`Builder`] makes both tables of one list of expressions: one that is searched forward, and one of the mirrored
-//! expressions that is searched in reverse. [`RegexBuild`] has the calls without further settings.
+//! A [`Builder`] builds both tables of a list of expressions: a forward table, and a reverse table of the mirrored
+//! expressions. [`RegexBuild`] has calls that build by default settings.
 //!
-//! The contract: both are tables of these expressions by one list of settings, but for what a table in reverse needs
-//! (`specs/Pairs.antt`). A refusal names a cause that holds, of the forward table or else of the other one.
+//! The contract: both tables are built of these expressions by one list of settings, except for what a reverse table
+//! needs (`specs/Pairs.antt`). An error names a cause that holds, of the forward table or otherwise of the reverse one.
 #![tactic(auto)]
 
 mod builder;

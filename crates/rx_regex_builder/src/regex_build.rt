@@ -1,4 +1,4 @@
-//! Calls that build a pair with default settings.
+//! Calls that build a pair by default settings.
 
 ghost use Rattle.std.specs.Prelude.{◌≡◌, All, IfOk, IfErr, OnOk};
 ghost use Rattle.rx_spec.specs.Expressions.{IsLoopSafe};
@@ -16,17 +16,17 @@ use rx_pair::Regex;
 use rx_sparse::DFA as SparseDFA;
 use std::alloc::Global;
 
-/// Builds a pair without further settings: `Regex::new_many(alloc, &exprs)`.
+/// Builds a pair by default settings: `Regex::new_many(alloc, &exprs)`.
 pub trait RegexBuild {
-    /// The tables of a list of expressions, the first of which is pattern 0. Matches that split a character of UTF-8
-    /// are passed over.
+    /// Builds the tables of a list of expressions. The first expression is pattern 0. UTF-8 mode is on: searches pass
+    /// over matches that split a character.
     fn new_many(alloc: Global, exprs: &[Expr]) -> Result<Regex<OwnedDFA>, BuildError>
         ensures ok { IfOk result (λ regex. AreBuilt none_asked exprs.now regex.forward regex.reverse) }
         ensures fits { OnOk result (AreBothFit none_asked exprs.now) }
         ensures err { IfErr result (λ e. IsRefused (PairRefused none_asked exprs.now) e.kind) }
         ensures safe { All IsLoopSafe exprs.now };
 
-    /// The sparse tables of a list of expressions, with the same settings.
+    /// Builds the sparse tables of a list of expressions, by the same settings.
     fn new_many_sparse(
         alloc: Global,
         exprs: &[Expr],
@@ -36,7 +36,7 @@ pub trait RegexBuild {
         ensures err { IfErr result (λ e. IsRefused (SparsePairRefused none_asked exprs.now) e.kind) }
         ensures safe { All IsLoopSafe exprs.now };
 
-    /// What builds pairs by other settings.
+    /// A builder, for other settings.
     fn builder() -> Builder
         ensures { both_of result ≡ none_asked };
 }

@@ -1,4 +1,4 @@
--- What a scanner keeps of the line that goes on.
+-- What a scanner knows of the current line.
 use Rattle.std.specs.Prelude.{ℕ, ◌≡◌, ◌≤◌, List, length}
 use Rattle.rx_scan.specs.Tokens.{line_feeds, line_start}
 use Rattle.rx_scan.specs.declared.lines.Lines.{Lines}

@@ -1,4 +1,4 @@
--- What a token is of expressions: the longest match, and of those that are as long the one of the lowest pattern.
+-- What a token is of expressions: the longest match, of the lowest pattern with a match of that length.
 use Rattle.std.specs.Prelude.{ℕ, ◌<◌, ◌≤◌, List}
 use Rattle.rx_spec.specs.Expressions.{Expression}
 use Rattle.rx_spec.specs.Queries.{HalfMatch}

@@ -1,4 +1,4 @@
--- What a scanner keeps of where tokens start.
+-- The start states that a scanner keeps.
 use Rattle.std.specs.Prelude.{ℕ, ◌≢◌, ◌<◌, List, Some, Ok, slice_index}
 use Rattle.rx_spec.specs.Queries.{Anchored}
 use Rattle.rx_spec.specs.Tables.{Table}

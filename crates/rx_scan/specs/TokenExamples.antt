@@ -1,5 +1,5 @@
--- Tokens of short texts by a table of eleven rows, worked by hand: pattern 0 is `aa`, pattern 1 one or more `a`, and
--- pattern 2 a line feed. At `z` it quits.
+-- Tokens of short texts by a table of eleven rows, worked by hand. Pattern 0 is `aa`, pattern 1 one or more `a`,
+-- pattern 2 a line feed. It quits at `z`.
 use Rattle.std.specs.Prelude.{ℕ, ◌≡◌, ◌==◌, ◌||◌, false, if◌then◌else◌, None, [], ◌∷◌, ◌++◌, codes}
 use Rattle.rx_spec.specs.Contexts.{start_of_byte}
 use Rattle.rx_spec.specs.Machines.{Label}

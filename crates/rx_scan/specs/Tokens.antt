@@ -1,5 +1,5 @@
--- Tokens: a text is cut at the longest match that begins where the last one ended, and of the patterns that match so
--- far the lowest has it.
+-- Tokens: a text is cut at the longest match that begins where the last one ended, of the lowest pattern that matches
+-- so far.
 use Rattle.std.specs.Prelude.{ℕ, zero, suc, ◌≡◌, ◌<◌, ◌≤◌, ◌+◌, ◌-◌, Bool, true, false, ◌==◌, ◌&&◌, ◌||◌, nat_lt}
 use Rattle.std.specs.Prelude.{if◌then◌else◌, Option, Some, None, MatchOption, IfSome, Ok, Err, List, [], ◌∷◌, length}
 use Rattle.std.specs.Prelude.{All, ◌↔◌}

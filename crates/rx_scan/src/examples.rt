@@ -1,7 +1,6 @@
 //! Worked examples: tokens of short texts, which the definition computes.
 //!
-//! The function has an empty body, and each of its clauses is an example. They are spelled out in
-//! `specs/TokenExamples.antt`.
+//! The function has an empty body, and each clause is an example. `specs/TokenExamples.antt` spells them out.
 
 ghost use Rattle.rx_scan.specs.TokenExamples.{LongestThenLowest, NothingLeft, QuitTakesAll, StuckBehind};
 

@@ -1,4 +1,4 @@
-//! The longest match that begins at a place, in one walk.
+//! Finds the longest match that begins at a place, in one walk.
 
 ghost use Rattle.std.specs.Prelude.{◌≡◌, ℕ, ◌<◌, ◌≤◌, List, length, true, Ok, IfOk, IfSome};
 ghost use Rattle.rx_spec.specs.Bytes.{AreBytes};
@@ -17,15 +17,15 @@ use rx_base::{HalfMatch, MatchError, PatternID, StateID};
 use rx_search::Automaton;
 use rx_stream::skip;
 
-/// A match row that a walk came to, and the offset of its matches: where this is the walk's beginning, none was met
-/// that tells a match that isn't empty, and the row says nothing.
+/// The last match state of a walk, and the offset at which its matches end. If the offset is where the walk begins, the
+/// walk met no match that isn't empty, and the row has no meaning.
 #[derive(Clone, Copy)]
 struct MetRow {
     row: StateID,
     offset: usize,
 }
 
-/// How far a walk has come: its row, the offset of the byte that it reads next, and the match row that it met last.
+/// A walk so far: its state, the offset of the byte that it reads next, and its last match state.
 #[derive(Clone, Copy)]
 struct Walk {
     row: StateID,
@@ -33,7 +33,7 @@ struct Walk {
     last: MetRow,
 }
 
-/// The longest match that begins at a place of a text and isn't empty, and there the lowest pattern.
+/// The longest match that begins at a place of a text and isn't empty, of the lowest pattern.
 #[inline]
 pub(crate) fn longest<A: Automaton>(
     table: &A,
@@ -64,7 +64,7 @@ pub(crate) fn longest<A: Automaton>(
     }
 }
 
-/// The last match row of the walk from a place of a text and the row where it starts.
+/// The last match state of the walk from a place of a text and a start state.
 #[inline(always)]
 fn last_met<A: Automaton>(
     table: &A,
@@ -118,8 +118,8 @@ fn last_met<A: Automaton>(
     }
 }
 
-/// The walk up to the text's end, or to where the next byte leads to an accelerated, a dead or the quit row: most rows
-/// of a lexer are match rows and none of these, and this loop calls nothing.
+/// Walks to the end of the text, or up to a byte that leads to an accelerated, a dead or the quit state. Most states of
+/// a lexer are match states and none of these, and this loop calls no function.
 #[inline(always)]
 fn go_on<A: Automaton>(table: &A, text: &[u8], walk: Walk) -> Walk
     requires sound { A.IsSound table.now }
@@ -153,7 +153,7 @@ fn go_on<A: Automaton>(table: &A, text: &[u8], walk: Walk) -> Walk
     Walk { row, at, last }
 }
 
-/// The last match row of a walk that has come to the text's end, with the one to which the end mark leads.
+/// The last match state of a walk at the end of the text, after the step on the end of input.
 #[inline(always)]
 fn last_at_end<A: Automaton>(table: &A, walk: Walk) -> MetRow
     requires sound { A.IsSound table.now }
@@ -171,7 +171,8 @@ fn last_at_end<A: Automaton>(table: &A, walk: Walk) -> MetRow
     walk.last
 }
 
-/// Whether a row is a match row. LLVM simplifies it before it inlines it, so that the walk's loop copies no rows.
+/// Whether a state is a match state. A function of its own, so that LLVM simplifies it before it inlines it, and the
+/// loop of the walk copies no states.
 #[inline]
 fn is_match_row<A: Automaton>(table: &A, row: StateID) -> bool
     requires { IsId (A.ids table.now) row }
@@ -180,7 +181,7 @@ fn is_match_row<A: Automaton>(table: &A, row: StateID) -> bool
     table.is_match_state(row)
 }
 
-/// The lowest pattern of a match row.
+/// The lowest pattern of a match state.
 #[inline(always)]
 fn lowest<A: Automaton>(table: &A, row: StateID) -> PatternID
     requires sound { A.IsSound table.now }

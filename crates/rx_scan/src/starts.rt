@@ -1,4 +1,4 @@
-//! In which states tokens start.
+//! The start states of tokens.
 
 ghost use Rattle.std.specs.Prelude.{◌≡◌, ◌≤◌, length};
 ghost use Rattle.rx_spec.specs.declared.Direction.TheVariants.{Forward};
@@ -10,7 +10,7 @@ use rx_base::{Anchored, Input, MatchError, StateID};
 use rx_search::Automaton;
 use std::marker::Model;
 
-/// The state in which a token starts after each byte, as far as one was asked for; 0 after any other.
+/// The start state of a token after each byte, for the bytes that occurred; 0 for the others.
 ///
 /// Contracts see it as the list of the 256 ids.
 #[derive(Drop)]
@@ -30,7 +30,7 @@ impl Model for Starts {
 impl Starts {
     ghost use Rattle.std.specs.Prelude.{replicate};
 
-    /// None was asked for.
+    /// No start states.
     pub(crate) fn new() -> Starts
         ensures { result ≡ replicate 256 0 }
     {
@@ -39,7 +39,7 @@ impl Starts {
         }
     }
 
-    /// The state in which a token starts at a place of a text.
+    /// The start state of a token at a place of a text.
     #[inline(always)]
     pub(crate) fn at<A: Automaton>(
         &mut self,
@@ -70,7 +70,7 @@ impl Starts {
     }
 }
 
-/// The state in which a match that begins at a place of a text starts.
+/// The start state of an anchored search at a place of a text.
 fn start_at<A: Automaton>(table: &A, text: &[u8], from: usize) -> Result<StateID, MatchError>
     requires within { from ≤ length text.now }
     ensures { StartsSearch (A.table table.now) (A.ids table.now) Forward (query_at text.now from) result }

@@ -1,4 +1,4 @@
--- The grammar of scripts: how a script is spelled. No reader occurs in it.
+-- The grammar of scripts: how a script is spelled. It mentions no reader.
 use Rattle.std.specs.Prelude.{◌≡◌, ◌≢◌, ◌⊎◌, ℕ, ◌+◌, ◌*◌, ◌<◌, ◌≤◌, Bool, true, false, List, [], ◌∷◌, ◌++◌, length}
 use Rattle.std.specs.Prelude.{map}
 use Rattle.std.specs.Prelude.{codes, bit_or, Option, Some, None}

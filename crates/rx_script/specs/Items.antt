@@ -1,4 +1,4 @@
--- The words of an expression: read into items from the left, and made into expressions from the right.
+-- The words of an expression: read into items from left to right, and made into expressions from right to left.
 use Rattle.std.specs.Prelude.{ℕ, ◌+◌, ◌-◌, Bool, false, ◌==◌, nat_lt, if◌then◌else◌, List, [], ◌∷◌, ◌++◌}
 use Rattle.std.specs.Prelude.{Option, Some, None, Result, Ok}
 use Rattle.std.specs.Option.{option_to_list}

@@ -1,4 +1,4 @@
--- The tables of words: each thing has one name, and a word is looked up among the names.
+-- The names of the words of a script. A word is looked up among them.
 use Rattle.std.specs.Prelude.{ℕ, Bool, true, false, List, [], ◌∷◌, codes, find, Option}
 use Rattle.std.specs.Str.{bytes_eq}
 use Rattle.rx_spec.specs.declared.Look.{Look}

@@ -1,4 +1,4 @@
--- Text in pieces: the lines of a text, and the words of a line.
+-- The lines of a text, and the words of a line.
 use Rattle.std.specs.Prelude.{ℕ, ◌+◌, Bool, true, false, not, ◌==◌, ◌&&◌, nat_le, if◌then◌else◌, List, [], ◌∷◌, length}
 use Rattle.std.specs.Prelude.{Option, Some, None, option_map}
 use denote.Ref.{Bor}

@@ -1,4 +1,4 @@
--- What the words of a plan line say.
+-- What the words of a plan line set.
 use Rattle.std.specs.Prelude.{ℕ, Bool, true, false, List, [], ◌∷◌, Option, Some, None, option_map}
 use Rattle.std.specs.Prelude.{option_and_then, replicate, slice_index_or, slice_set}
 use Rattle.rx_spec.specs.declared.Form.{Form}

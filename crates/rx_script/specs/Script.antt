@@ -1,4 +1,4 @@
--- The parts of a script that the code holds, as the definitions have them.
+-- The script of the definitions that a script of the code means.
 use Rattle.std.specs.Prelude.{ℕ, ◌<◌, false, length, option_map}
 use Rattle.rx_base.specs.Search.{mode_of}
 use Rattle.rx_spec.specs.Queries.{Query}

@@ -1,4 +1,4 @@
--- What single words of a script say, read from left to right: numbers, bytes, sets of bytes, modes.
+-- What single words of a script spell: numbers, bytes, sets of bytes, modes.
 use Rattle.std.specs.Prelude.{ℕ, ◌+◌, ◌-◌, ◌*◌, ◌^◌, Bool, true, false, ◌==◌, ◌&&◌, nat_le, nat_lt, if◌then◌else◌}
 use Rattle.std.specs.Prelude.{bit_or}
 use Rattle.std.specs.Prelude.{List, [], ◌∷◌, length, codes, Option, Some, None, option_map, option_and_then}

@@ -1,8 +1,8 @@
-//! The expressions of a script.
+//! Reads the expressions of a script.
 //!
-//! The words are read from the left into items: a leaf, or a form that wants parts. The count of
-//! expressions that are still to begin says where the words must end. Then the items are made into
-//! expressions from the right, over a list of finished parts, so nothing recurses along the input.
+//! The words are read from left to right into items: a leaf, or a form that needs parts. A count of the expressions
+//! that are still to begin says where the words must end. Then expressions are made of the items from right to left,
+//! over a stack of finished parts, so nothing recurses along the input.
 
 ghost use Rattle.std.specs.Prelude.{◌≡◌, ◌+◌, ◌^◌, ◌<◌, ◌≤◌, ◌∷◌, [], ◌++◌, length, reverse, option_map, IfOk, IfErr};
 ghost use Rattle.std.specs.Prelude.{OnOk, MatchOption};
@@ -22,7 +22,7 @@ use crate::tokens::{bytes, most, number, set};
 use rx_expr::{Expr, ExprError};
 use std::alloc::Global;
 
-/// A leaf, or a form that wants the parts after it.
+/// A leaf, or a form that needs the parts after it.
 #[derive(Drop)]
 pub enum Item {
     Leaf(Expr),
@@ -35,7 +35,7 @@ pub enum Item {
     },
 }
 
-/// What the next word is to be.
+/// What the next word must be.
 #[derive(Clone, Copy)]
 pub enum Awaited {
     /// The first word of an expression.
@@ -46,22 +46,22 @@ pub enum Awaited {
     Set,
     /// The name of an assertion.
     Name,
-    /// The least rounds of a repetition.
+    /// The least number of rounds of a repetition.
     Least,
-    /// The most rounds, after the least.
+    /// The greatest number of rounds, after the least.
     Most(u32),
-    /// Whether it is greedy, after both.
+    /// Whether it is greedy, after both numbers.
     Greed(u32, Option<u32>),
 }
 
-/// What a word gives.
+/// The result of reading a word.
 #[derive(Drop)]
 pub struct Taken {
-    /// What is awaited next.
+    /// What the next word must be.
     pub awaited: Awaited,
-    /// How many expressions are still to begin.
+    /// The number of expressions that are still to begin.
     pub missing: u64,
-    /// The item that the word completes, if it does.
+    /// The item that the word completes, if it completes one.
     pub item: Option<Item>,
 }
 
@@ -120,7 +120,7 @@ fn awaiting(awaited: Awaited, missing: u64) -> Taken
     }
 }
 
-/// The expression of these bytes.
+/// The literal of these bytes.
 fn literal(alloc: Global, bytes: &[u8]) -> Result<Expr, ScriptFault>
     ensures { Gives (λ e. e) result (Ok (literal_of bytes.now)) }
 {
@@ -190,7 +190,7 @@ fn keep(items: &mut Vec<Item>, item: Option<Item>) -> Result<(), ScriptFault>
     Ok(())
 }
 
-/// The items of the words, where they are exactly one expression.
+/// The items of the words, which must be exactly one expression.
 fn items(alloc: Global, line: u64, words: Option<&[u8]>) -> Result<Vec<Item>, ScriptFault>
     ensures { Gives (λ v. v.items) result (items_at line Awaited.Head 1 (words_left words.entry)) }
 {
@@ -220,7 +220,7 @@ fn is_whole(awaited: Awaited, missing: u64) -> bool
     }
 }
 
-/// What is wrong where a constructor refuses.
+/// The fault for an error of a constructor.
 fn refusal(line: u64, error: ExprError) -> ScriptFault
     ensures { result ≡ refusal_of line error }
 {
@@ -233,7 +233,7 @@ fn refusal(line: u64, error: ExprError) -> ScriptFault
     ScriptFault::Bad { line, kind }
 }
 
-/// The two parts finished last, the last one first.
+/// The two parts that were finished last, the last one first.
 fn two(parts: &mut Vec<Expr>) -> Option<(Expr, Expr)>
     ensures { MatchOption result
         (length parts.old.items < 2)
@@ -282,7 +282,7 @@ fn repeat(
     }
 }
 
-/// Finishes an item: its parts are those finished last.
+/// Finishes an item: its parts are those that were finished last.
 fn finish(alloc: Global, line: u64, item: Item, parts: &mut Vec<Expr>) -> Result<(), ScriptFault>
     ensures { Gives (λ _. reverse parts.new.items) result (finished line item (reverse parts.old.items)) }
 {
@@ -298,7 +298,7 @@ fn finish(alloc: Global, line: u64, item: Item, parts: &mut Vec<Expr>) -> Result
     }
 }
 
-/// The expressions that items make, the last one first.
+/// The expressions that the items make, the last one first.
 fn made(alloc: Global, line: u64, items: Vec<Item>) -> Result<Vec<Expr>, ScriptFault>
     ensures { Gives (λ v. reverse v.items) result (made_onto line items.items []) }
 {
@@ -321,7 +321,7 @@ fn single(line: u64, parts: Vec<Expr>) -> Result<Expr, ScriptFault>
     Err(bad(line))
 }
 
-/// The one expression that the words after `expr` are.
+/// The expression that the words after `expr` spell.
 #[tactic(auto, unfolding(crate::specs::Items::expression_at))]
 pub fn expression(alloc: Global, line: u64, words: Option<&[u8]>) -> Result<Expr, ScriptFault>
     ensures { Gives (λ e. e) result (expression_at line (words_left words.entry)) }

@@ -1,4 +1,4 @@
-//! What can be wrong with a script.
+//! The faults of a script.
 
 ghost use Rattle.std.specs.Prelude.{◌≡◌, Some};
 ghost use Rattle.rx_script.specs.declared.fault.ScriptFault.TheVariants.{Memory};
@@ -6,26 +6,26 @@ ghost use Rattle.rx_script.specs.declared.fault.ScriptFault.TheVariants.{Memory}
 use std::alloc::{AllocError, AllocFailed};
 use std::fmt;
 
-/// What is wrong with a line of a script: the first test that it fails, in this order.
+/// The fault of a line: the first test that it fails, in this order.
 #[derive(Clone, Copy, Debug, PartialEq, Eq)]
 pub enum BadKind {
-    /// It isn't words parted by one space each.
+    /// It isn't words with one space between two.
     Words,
-    /// Its first word isn't one that may stand there, or a line that is needed is missing.
+    /// A line that starts with this word may not stand there, or a line that is needed is missing.
     Order,
-    /// A word of the plan isn't known, or its name stands twice.
+    /// A word isn't a plan word, or a name occurs twice.
     Plan,
     /// The words aren't exactly one expression.
     Expr,
-    /// A repetition has a greatest number of rounds below its least.
+    /// The greatest number of rounds of a repetition is below the least.
     BadRange,
-    /// A repetition without end has a body that can match no byte.
+    /// A repetition without a greatest number of rounds has a body that can match the empty string.
     EmptyBody,
-    /// An expression is too deep.
+    /// An expression is more than 200 deep.
     TooDeep,
-    /// The span or the mode isn't in form.
+    /// The words aren't a span and a mode.
     Input,
-    /// The haystack isn't in form.
+    /// The words aren't a haystack.
     Hay,
     /// The span doesn't fit the haystack.
     Span,
@@ -52,17 +52,17 @@ impl fmt::Display for BadKind {
     }
 }
 
-/// Why a script wasn't read.
+/// Why a script isn't read.
 #[derive(Debug, Drop)]
 pub enum ScriptFault {
-    /// The first fault: the line, from 1 on, and what is wrong with it.
+    /// The first fault of the script.
     Bad {
-        /// The number of the line.
+        /// The number of the line, from 1.
         line: u64,
-        /// What is wrong.
+        /// The fault of the line.
         kind: BadKind,
     },
-    /// Want of memory.
+    /// Memory ran out.
     Memory,
 }
 

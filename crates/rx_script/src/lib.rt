@@ -1,12 +1,12 @@
-//! Scripts: a plan, expressions, and what is asked of them, as lines of words.
+//! Scripts: a plan, expressions and an input, as lines of words.
 //!
-//! What a script is stands in `specs/Grammar.antt`, which knows no reader. The reading function with its
-//! first fault stands in `specs/Reading.antt`, and the laws that join the two in [`laws`]. [`read_script`]
-//! reads, and [`number`] and [`mode`] read single words of its lines.
+//! `specs/Grammar.antt` defines what a script is, without a reader. `specs/Reading.antt` defines the reading function
+//! with the first fault of a text, and [`laws`] prove that the two agree. [`read_script`] reads a script; [`number`]
+//! and [`mode`] read single words.
 //!
-//! A line `plan` chooses how tables are built and searched. Of its words `bytes` and `pair`, at most one stands:
-//! `bytes` has each table written as bytes and read back before it is searched, `pair` has both written as one image of
-//! a pair and read back.
+//! A line `plan` sets how tables are built and searched. Of its words `bytes` and `pair` at most one may occur: `bytes`
+//! has each table written as an image and read back before a search, `pair` has both written as one image and read
+//! back.
 #![tactic(auto)]
 
 mod expression;

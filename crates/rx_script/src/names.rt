@@ -1,4 +1,4 @@
-//! The tables of words: each thing has one name, and a word is looked up among the names.
+//! The names of the words of a script, and look-ups by name.
 
 ghost use Rattle.std.specs.Prelude.{◌≡◌};
 ghost use Rattle.rx_script.specs.Names.{line_name, head_name, look_name, greed_name, anchored_name, plan_name};
@@ -7,7 +7,7 @@ ghost use Rattle.rx_script.specs.Names.{line_kind, head_of, look_of, greed_of, a
 
 use rx_base::{Look, StartKind};
 
-/// What the first word of a line says that the line is.
+/// The kind of a line, by its first word.
 #[derive(Clone, Copy, Debug, PartialEq, Eq)]
 pub enum LineKind {
     Plan,
@@ -16,7 +16,7 @@ pub enum LineKind {
     Hay,
 }
 
-/// What the first word of an expression says.
+/// The kind of an expression, by its first word.
 #[derive(Clone, Copy, Debug, PartialEq, Eq)]
 pub enum Head {
     Empty,
@@ -28,7 +28,7 @@ pub enum Head {
     Repeat,
 }
 
-/// What a word of a plan line is about.
+/// The setting of a plan word, by its name.
 #[derive(Clone, Copy, Debug, PartialEq, Eq)]
 pub enum PlanName {
     Start,
@@ -213,7 +213,7 @@ pub fn line_kind(word: &[u8]) -> Option<LineKind>
     LINES.iter().copied().find(|kind| word == line_name(*kind))
 }
 
-/// What the first word of an expression says.
+/// The kind of an expression with this first word.
 #[tactic(auto, unfolding(crate::specs::Names::head_of))]
 pub fn head_of(word: &[u8]) -> Option<Head>
     ensures { result ≡ head_of word.now }
@@ -221,7 +221,7 @@ pub fn head_of(word: &[u8]) -> Option<Head>
     HEADS.iter().copied().find(|head| word == head_name(*head))
 }
 
-/// The assertion of a name.
+/// The assertion with this name.
 #[tactic(auto, unfolding(crate::specs::Names::look_of))]
 pub fn look_of(word: &[u8]) -> Option<Look>
     ensures { result ≡ look_of word.now }
@@ -229,7 +229,7 @@ pub fn look_of(word: &[u8]) -> Option<Look>
     LOOKS.iter().copied().find(|look| word == look_name(*look))
 }
 
-/// Whether a repetition prefers a further round.
+/// Whether the word says greedy or lazy: `true` for greedy.
 #[tactic(auto, unfolding(crate::specs::Names::greed_of))]
 pub fn greed_of(word: &[u8]) -> Option<bool>
     ensures { result ≡ greed_of word.now }
@@ -240,7 +240,7 @@ pub fn greed_of(word: &[u8]) -> Option<bool>
         .find(|greedy| word == greed_name(*greedy))
 }
 
-/// Whether a search that names no pattern is anchored.
+/// Whether the word says anchored (`yes`) or unanchored (`no`).
 #[tactic(auto, unfolding(crate::specs::Names::anchored_of))]
 pub fn anchored_of(word: &[u8]) -> Option<bool>
     ensures { result ≡ anchored_of word.now }
@@ -251,7 +251,7 @@ pub fn anchored_of(word: &[u8]) -> Option<bool>
         .find(|anchored| word == anchored_name(*anchored))
 }
 
-/// What a word of a plan line is about, by its name.
+/// The setting of a plan word with this name.
 #[tactic(auto, unfolding(crate::specs::Names::plan_name_of))]
 pub fn plan_name_of(word: &[u8]) -> Option<PlanName>
     ensures { result ≡ plan_name_of word.now }
@@ -262,7 +262,7 @@ pub fn plan_name_of(word: &[u8]) -> Option<PlanName>
         .find(|name| word == plan_name(*name))
 }
 
-/// The start kind of a name.
+/// The start kind with this name.
 #[tactic(auto, unfolding(crate::specs::Names::start_of))]
 pub fn start_of(word: &[u8]) -> Option<StartKind>
     ensures { result ≡ start_of word.now }

@@ -1,4 +1,4 @@
-//! Text in pieces: lines and words.
+//! Splits text into lines and words.
 
 ghost use Rattle.std.specs.Prelude.{◌≡◌, ℕ, ◌+◌, ◌<◌, [], ◌∷◌, ◌==◌, length, true, option_map, MatchOption, IfSome};
 ghost use Rattle.std.specs.List.{slice_split, position};
@@ -13,7 +13,7 @@ fn place_of(separator: u8, text: &[u8]) -> Option<usize>
     memchr(separator, text)
 }
 
-/// The text before the first separator, and the text after it, where there is one.
+/// The text before the first separator, and the text after it, or `None` if there is no separator.
 pub fn cut(separator: u8, text: &[u8]) -> (&[u8], Option<&[u8]>)
     ensures parts { (result.0.now, option_map (λ t. t.now) result.1) ≡ cut separator text.now }
     ensures pieces { slice_split (λ b. b == separator) text.now
@@ -26,7 +26,7 @@ pub fn cut(separator: u8, text: &[u8]) -> (&[u8], Option<&[u8]>)
     }
 }
 
-/// The first line, and the lines after it; none where no byte is left.
+/// The first line and the lines after it, or `None` if no byte is left.
 pub fn next_line(text: &[u8]) -> Option<(&[u8], &[u8])>
     ensures lines { MatchOption result
         (lines_of text.now ≡ [])
@@ -43,7 +43,7 @@ pub fn next_line(text: &[u8]) -> Option<(&[u8], &[u8])>
     }
 }
 
-/// The next word of a line, and what is left of the line; none where nothing is left.
+/// The next word of a line and the rest of the line, or `None` if nothing is left.
 pub fn next_word(rest: Option<&[u8]>) -> Option<(&[u8], Option<&[u8]>)>
     ensures words { MatchOption result
         (words_left rest.entry ≡ [])

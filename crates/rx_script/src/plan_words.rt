@@ -10,10 +10,10 @@ use crate::tokens::{number, one_byte, set};
 use rx_base::{ByteSet, StartKind};
 use rx_plan::{Form, Passage, Plan};
 
-/// How many names plan words have.
+/// The number of names of plan words.
 const NAMES: usize = 16;
 
-/// What a plan line says: a plan, and whether the row counts are asked for.
+/// What a plan line sets: a plan, and whether the sizes of the tables are reported.
 #[derive(Drop)]
 pub struct Choices {
     pub plan: Plan,
@@ -41,7 +41,7 @@ pub enum PlanWord {
     Rows,
 }
 
-/// The place among the names of what the word chooses. `bytes` and `pair` choose the same, so they share a place.
+/// The index of the setting that a word sets. `bytes` and `pair` set the same, so they share one.
 fn place(word: &PlanWord) -> usize
     ensures value { result ≡ place_of word.now }
     ensures small { result < 16 }
@@ -66,7 +66,7 @@ fn place(word: &PlanWord) -> usize
 }
 
 impl Choices {
-    /// What holds without a plan line.
+    /// The settings without a plan line.
     pub fn new() -> Choices
         ensures { result ≡ unplanned }
     {
@@ -76,7 +76,7 @@ impl Choices {
         }
     }
 
-    /// Takes what a word says.
+    /// Sets what a word says.
     fn choose(&mut self, word: PlanWord)
         ensures { self.new ≡ with_word word self.old }
     {
@@ -102,7 +102,7 @@ impl Choices {
     }
 }
 
-/// A name that stands without a value.
+/// The word with this name and no value.
 fn bare_word(name: PlanName) -> Option<PlanWord>
     ensures { result ≡ bare_word name }
 {
@@ -121,7 +121,7 @@ fn bare_word(name: PlanName) -> Option<PlanWord>
     }
 }
 
-/// A name that has a value.
+/// The word with this name and this value.
 fn valued_word(name: PlanName, value: &[u8]) -> Option<PlanWord>
     ensures { result ≡ valued_word name value.now }
 {
@@ -148,7 +148,8 @@ fn plan_word(word: &[u8]) -> Option<PlanWord>
     }
 }
 
-/// What the words after `plan` say, where each is known, no name stands twice, and not both `bytes` and `pair` stand.
+/// The settings of the words after `plan`, or `None` if a word isn't known, a name occurs twice, or both `bytes` and
+/// `pair` occur.
 pub fn plan_line(words: Option<&[u8]>) -> Option<Choices>
     ensures { result ≡ plan_of (words_left words.entry) }
 {

@@ -1,4 +1,4 @@
-//! Scripts: a plan, expressions, and what is asked of them.
+//! Scripts and their reader.
 
 ghost use Rattle.std.specs.Prelude.{◌≡◌, ◌+◌, ◌^◌, ◌<◌, ◌≤◌, length, true, option_map, IfOk, IfSome};
 ghost use Rattle.rx_script.specs.declared.fault.BadKind.{BadKind};
@@ -42,7 +42,7 @@ impl Model for Exprs {
 }
 
 impl Exprs {
-    /// The expressions, pattern 0 first.
+    /// The expressions. The first one is pattern 0.
     pub fn as_slice(&self) -> &[Expr]
         ensures { result.now ≡ self.now }
     {
@@ -73,14 +73,14 @@ impl Hay {
     }
 }
 
-/// What a script asks: a haystack, a span of it, and where a match may begin.
+/// The input of a script: a haystack, a span and a mode.
 #[derive(Drop)]
 pub struct ScriptInput {
-    /// The first offset of the span.
+    /// Where the span starts.
     pub start: usize,
-    /// The offset after it.
+    /// Where the span ends.
     pub end: usize,
-    /// Where a match may begin.
+    /// The mode of the search.
     pub mode: Anchored,
     /// The haystack.
     pub haystack: Hay,
@@ -89,13 +89,13 @@ pub struct ScriptInput {
 /// A script.
 #[derive(Drop)]
 pub struct Script {
-    /// What is built.
+    /// The plan.
     pub plan: Plan,
-    /// Whether the row counts are asked for.
+    /// Whether the sizes of the tables are reported.
     pub rows: bool,
     /// The expressions.
     pub exprs: Exprs,
-    /// What is asked, where that is part of the script.
+    /// The input, if the script has one.
     pub input: Option<ScriptInput>,
 }
 
@@ -105,7 +105,7 @@ fn bad(line: u64, kind: BadKind) -> ScriptFault
     ScriptFault::Bad { line, kind }
 }
 
-/// The kind of a line and the words after the first one.
+/// The kind of a line, and the words after its first one.
 fn words(number: u64, line: &[u8]) -> Result<(Option<LineKind>, Option<&[u8]>), ScriptFault>
     ensures { Gives (λ x. (x.0, words_left x.1)) result (line_at number line.now) }
 {
@@ -124,7 +124,7 @@ struct Asked {
     mode: Anchored,
 }
 
-/// What the words after `input` say: two numbers and a mode.
+/// The span and the mode that the words after `input` spell.
 fn input_words(words: Option<&[u8]>) -> Option<Asked>
     ensures { result ≡ input_words (words_left words.entry) }
 {
@@ -156,7 +156,7 @@ fn hay_words(alloc: Global, words: Option<&[u8]>) -> Result<Option<Vec<u8>>, All
     }
 }
 
-/// Refuses a line where none may follow.
+/// Returns a fault if a line follows.
 fn nothing(number: u64, text: &[u8]) -> Result<(), ScriptFault>
     ensures { Gives (λ _. tt) result (nothing_at number (lines_of text.now)) }
 {
@@ -169,7 +169,7 @@ fn nothing(number: u64, text: &[u8]) -> Result<(), ScriptFault>
     }
 }
 
-/// What is asked, where the words after `hay` spell a haystack that the span fits, and no line follows.
+/// The input, if the words after `hay` spell a haystack that the span fits, and no line follows.
 #[tactic(auto, unfolding(crate::specs::Reading::asked_at))]
 fn asked_input(
     alloc: Global,
@@ -230,7 +230,7 @@ fn input_line(
     hay_line(alloc, number + 1, span, text)
 }
 
-/// What the next line is, with the text after it.
+/// The next line by its kind, with the text after it.
 #[derive(Drop)]
 enum NextLine<'a> {
     Expr(Expr, &'a [u8]),
@@ -270,7 +270,7 @@ fn next_part(
     }
 }
 
-/// Reads the expressions and what is asked, from the line of this number on.
+/// Reads the expressions and the input, from the line with this number on.
 fn parts(
     alloc: Global,
     with_input: bool,
@@ -299,7 +299,7 @@ fn parts(
     }
 }
 
-/// Reads the plan line, if the first line is one, with the text after it.
+/// Reads the plan line if the first line is one. Returns the text after it too.
 #[tactic(auto, unfolding(crate::specs::Reading::plan_at))]
 fn plan_part(text: &[u8]) -> Result<Option<(Choices, &[u8])>, ScriptFault>
     ensures given { Gives (λ o. option_map (λ p. (p.0, lines_of p.1.now)) o) result (plan_at (lines_of text.now)) }
@@ -348,9 +348,9 @@ fn read_whole(alloc: Global, text: &[u8], with_input: bool) -> Result<Script, Sc
     }
 }
 
-/// Reads a script, with what is asked or without it.
+/// Reads a script. `with_input` is whether it must have an input; otherwise it must have none.
 ///
-/// `Bad` carries the first fault of the text.
+/// `Bad` has the first fault of the text.
 pub fn read_script(alloc: Global, text: &[u8], with_input: bool) -> Result<Script, ScriptFault>
     // What is read is what the text spells.
     ensures found { IfOk result (λ script. Spells with_input text.now (script_read script)) }

@@ -1,4 +1,4 @@
-//! Single words of a script: numbers, bytes, sets of bytes, modes.
+//! Reads single words of a script: numbers, bytes, sets of bytes and modes.
 
 ghost use Rattle.std.specs.Prelude.{◌≡◌, ◌≤◌, ◌==◌, option_map, bit_or, IfOk, IfSome};
 ghost use Rattle.std.specs.List.{slice_split};
@@ -13,13 +13,14 @@ use crate::pieces::cut;
 use rx_base::{Anchored, ByteSet, PatternID};
 use std::alloc::{AllocError, Global};
 
-/// A number is below this.
+/// The limit of numbers: each number is below it.
 const NUMBER_LIMIT: u64 = 1 << 32;
 
-/// The value of what is no hexadecimal digit.
+/// The value of a byte that isn't a hexadecimal digit.
 const NO_DIGIT: u8 = 16;
 
-/// The value of each byte as a hexadecimal digit of either case. A table reads long texts without a branch a digit.
+/// The value of each byte as a hexadecimal digit of either case. A table, so that long texts are read without a branch
+/// for each digit.
 const HEX_VALUES: [u8; 256] = [
     16, 16, 16, 16, 16, 16, 16, 16, 16, 16, 16, 16, 16, 16, 16, 16, 16, 16, 16, 16, 16, 16, 16, 16,
     16, 16, 16, 16, 16, 16, 16, 16, 16, 16, 16, 16, 16, 16, 16, 16, 16, 16, 16, 16, 16, 16, 16, 16,
@@ -41,7 +42,7 @@ fn is(word: &[u8], text: &[u8]) -> bool
     word == text
 }
 
-/// The number that decimal digits say, below 2^32 and without a leading zero but for 0 itself.
+/// The number that a word spells in decimal, below 2^32 and without leading zeros.
 pub fn number(word: &[u8]) -> Option<u32>
     ensures { result ≡ number_of word.now }
 {
@@ -69,7 +70,7 @@ fn digits(word: &[u8]) -> Option<u32>
     Some(value as u32)
 }
 
-/// The most rounds of a repetition: a number, or no end.
+/// The greatest number of rounds of a repetition: a number, or `inf` for no limit.
 #[tactic(auto, unfolding(crate::specs::Tokens::most_of))]
 pub fn most(word: &[u8]) -> Option<Option<u32>>
     ensures { result ≡ most_of word.now }
@@ -88,7 +89,7 @@ fn hex_value(digit: u8) -> u8
     HEX_VALUES[digit as usize]
 }
 
-/// The byte that two hexadecimal digits say.
+/// The byte that two hexadecimal digits spell.
 #[inline]
 fn byte(high: u8, low: u8) -> Option<u8>
     ensures { result ≡ byte_of high low }
@@ -104,7 +105,7 @@ fn byte(high: u8, low: u8) -> Option<u8>
     Some(16 * high_value + low_value)
 }
 
-/// The byte that a word of two digits says.
+/// The byte that a word of two hexadecimal digits spells.
 pub fn one_byte(word: &[u8]) -> Option<u8>
     ensures { result ≡ one_byte word.now }
 {
@@ -114,7 +115,7 @@ pub fn one_byte(word: &[u8]) -> Option<u8>
     }
 }
 
-/// The bytes that pairs of hexadecimal digits say, at least one, or a dash for none.
+/// The bytes that a word spells: pairs of hexadecimal digits, at least one, or `-` for no byte.
 #[tactic(auto, unfolding(crate::specs::Tokens::bytes_of))]
 pub fn bytes(alloc: Global, word: &[u8]) -> Result<Option<Vec<u8>>, AllocError>
     ensures { IfOk result (λ o. option_map (λ v. v.items) o ≡ bytes_of word.now) }
@@ -177,7 +178,7 @@ fn range(piece: &[u8]) -> Option<(u8, u8)>
     }
 }
 
-/// The set of bytes that the word `none` says, or bytes and ranges of bytes with commas between.
+/// The set of bytes that a word spells: `none`, or bytes and ranges of bytes with commas between them.
 #[tactic(auto, unfolding(crate::specs::Tokens::set_of_word))]
 pub fn set(word: &[u8]) -> Option<ByteSet>
     ensures { result ≡ set_of_word word.now }
@@ -227,7 +228,7 @@ fn numbered_mode(word: &[u8]) -> Option<Anchored>
     }
 }
 
-/// The mode of an input.
+/// The mode that a word spells.
 #[tactic(auto, unfolding(crate::specs::Tokens::mode_word))]
 pub fn mode(word: &[u8]) -> Option<Anchored>
     ensures { result ≡ mode_word word.now }

@@ -1,5 +1,5 @@
--- A sparse table as it lies in memory: a record of lists and numbers, whatever the order of its bytes, and the table
--- of the definitions that it means. What an image of a table spells is the same record.
+-- A sparse table in memory: a record of lists and numbers, the same for either byte order, and the table of the
+-- definitions that it means. An image of a table spells the same record.
 use Rattle.std.specs.Prelude.{ℕ, ◌≡◌, ◌<◌, ◌≤◌, ◌==◌, ◌+◌, ◌*◌, nat_lt, nat_le}
 use Rattle.std.specs.Prelude.{if◌then◌else◌, Option, None, IfSome, option_map, List, length, slice_index}
 use Rattle.std.specs.Prelude.{get_or}

@@ -1,4 +1,4 @@
--- How the rows of a dense table are read, and their ids renamed.
+-- How the rows of a dense table are read and their ids renamed.
 use Rattle.std.specs.Prelude.{ℕ, ◌≡◌, ◌<◌, ◌≤◌, ◌/◌, ◌^◌, List, length, slice_index}
 use Rattle.rx_spec.specs.declared.Unit.{Unit as U}
 use Rattle.rx_sparse.specs.declared.offsets.Offsets.{Offsets}

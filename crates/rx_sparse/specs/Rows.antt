@@ -1,5 +1,5 @@
--- Rows of a sparse table: for each range of byte classes that lead to one row the id of that row, where ids are byte
--- offsets; and the bytes of rows, in either order.
+-- Rows of a sparse table: ranges of byte classes with the id of the row to which each leads, where ids are byte
+-- offsets; and the bytes of rows, in either byte order.
 use Rattle.std.specs.Prelude.{ℕ, zero, suc, ◌+◌, ◌-◌, ◌*◌, ◌/◌, ◌%◌, ◌&&◌, nat_le, Bool, true, false, if◌then◌else◌}
 use Rattle.std.specs.Prelude.{List, [], ◌∷◌, ◌++◌, length, map, take, drop, slice_index}
 use Rattle.std.specs.List.{flat_map, range_with_len}

@@ -1,4 +1,4 @@
--- The sparse table of a dense one: the same rows in the same order, each by its ranges, and offsets for all ids.
+-- The sparse form of a dense table: the same rows in the same order, each by its ranges, with offsets as ids.
 use Rattle.std.specs.Prelude.{ℕ, ◌<◌, ◌-◌, ◌&&◌, List, [], length, map, filter, slice_index}
 use Rattle.std.specs.Prelude.{Option, option_map, if◌then◌else◌}
 use Rattle.std.specs.List.{range_with_len}

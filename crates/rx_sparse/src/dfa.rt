@@ -21,10 +21,10 @@ use rx_wire::Order;
 use std::alloc::{AllocError, Global};
 use std::marker::Model;
 
-/// A sparse table: a row has the ranges of byte classes that lead to one row, and the id of that row.
+/// A sparse table: each state has ranges of byte classes, and for each range the id of the state to which it leads.
 ///
-/// An id is the offset of a row's first byte. Contracts see the table as a `Layout`, the record of its lists and
-/// numbers, with the order of the bytes, whatever store keeps these.
+/// A state's id is the offset of its first byte. Contracts see the table as a `Layout`, a record of its lists and
+/// numbers, with the byte order of its numbers, for any store of the bytes.
 #[derive(Drop)]
 pub struct DFA<T: ByteStore> {
     parts: Parts,
@@ -44,7 +44,7 @@ impl<T: ByteStore> Model for DFA<T> {
 }
 
 impl<T: ByteStore> DFA<T> {
-    /// The table of these parts and bytes, which must fit each other.
+    /// The table of these parts and bytes. Requires that they fit each other.
     pub fn from_parts(parts: Parts, rows: T, starts: T) -> DFA<T>
         requires { AreParts parts (T.list rows) (T.list starts) }
         ensures { result ≡ stored parts (T.list rows) (T.list starts) }
@@ -56,21 +56,21 @@ impl<T: ByteStore> DFA<T> {
         }
     }
 
-    /// The order of the bytes of rows and start entries.
+    /// The byte order of the states and the start entries.
     pub fn order(&self) -> Order
         ensures { result ≡ self.now.order }
     {
         self.parts.order
     }
 
-    /// For which modes there are start rows.
+    /// For which modes the table has start states.
     pub fn start_kind(&self) -> StartKind
         ensures { result ≡ self.now.layout.start_kind }
     {
         self.parts.start_kind
     }
 
-    /// Whether patterns have starts of their own.
+    /// Whether patterns have start states of their own.
     pub fn starts_for_each_pattern(&self) -> bool
         ensures { result ≡ is_some self.now.layout.pattern_starts }
     {
@@ -85,57 +85,57 @@ impl<T: ByteStore> DFA<T> {
         &self.parts.classes
     }
 
-    /// The bytes that the rows and the start entries take.
+    /// The length in bytes of the states and the start entries.
     pub fn memory_usage(&self) -> usize
         ensures { result ≡ memory_usage self.now.layout }
     {
         self.rows.bytes().len() + self.starts.bytes().len()
     }
 
-    /// How many rows there are.
+    /// The number of states.
     pub fn state_len(&self) -> usize
         ensures { result ≡ row_count self.now.layout }
     {
         self.parts.state_len
     }
 
-    /// The bytes that can't be searched.
+    /// The quit bytes.
     pub fn quitset(&self) -> &ByteSet
         ensures { result.now ≡ self.now.layout.quit }
     {
         &self.parts.quitset
     }
 
-    /// What is known of the patterns.
+    /// The flags of the patterns.
     pub fn flags(&self) -> &Flags
         ensures { result.now ≡ self.now.layout.flags }
     {
         &self.parts.flags
     }
 
-    /// Which rows are special.
+    /// The special states.
     pub fn special(&self) -> &Special
         ensures { result.now ≡ self.now.layout.special }
     {
         &self.parts.special
     }
 
-    /// The start context of a byte that stands beside a span.
+    /// The start context of the byte beside a span.
     pub fn start_context(&self, byte: u8) -> Start
         ensures { result ≡ get_or self.now.layout.contexts byte NonWordByte }
     {
         self.parts.contexts[byte as usize]
     }
 
-    /// How many patterns have starts of their own, if any have.
+    /// The number of patterns with start states of their own, if there are such.
     pub fn start_pattern_len(&self) -> Option<usize>
         ensures { result ≡ self.now.layout.pattern_starts }
     {
         self.parts.start_pattern_len
     }
 
-    /// The start rows of an unanchored search and of an anchored one, whatever stands beside its span, where there are
-    /// such.
+    /// The universal starts: the start state of an unanchored and of an anchored search if it is the same for each byte
+    /// beside the span.
     pub fn universal_starts(&self) -> (Option<StateID>, Option<StateID>)
         ensures unanchored { result.0 ≡ self.now.layout.universal_unanchored }
         ensures anchored { result.1 ≡ self.now.layout.universal_anchored }
@@ -147,7 +147,7 @@ impl<T: ByteStore> DFA<T> {
         )
     }
 
-    /// The same table, lent.
+    /// The same table, borrowed.
     pub fn as_ref(&self) -> DFA<&[u8]>
         ensures { result ≡ self.now }
     {
@@ -158,7 +158,7 @@ impl<T: ByteStore> DFA<T> {
         }
     }
 
-    /// A table of its own bytes that is the same.
+    /// The same table in new memory.
     pub fn to_owned(&self, alloc: Global) -> Result<DFA<Vec<u8>>, AllocError>
         ensures { IfOk result (λ dfa. dfa ≡ self.now) }
     {
@@ -169,7 +169,7 @@ impl<T: ByteStore> DFA<T> {
         })
     }
 
-    /// The row of an id, decoded.
+    /// The state with this id, decoded.
     #[inline(always)]
     pub fn state(&self, id: StateID) -> State<'_>
         requires { IsId (ids_of self.now.layout) id }
@@ -180,7 +180,7 @@ impl<T: ByteStore> DFA<T> {
         State::at(self.parts.order, bytes)
     }
 
-    /// The bytes of the rows.
+    /// The bytes of the states.
     #[inline(always)]
     pub fn row_bytes(&self) -> &[u8]
         ensures { result.now ≡ rows_text self.now.order self.now.layout.rows }
@@ -188,8 +188,8 @@ impl<T: ByteStore> DFA<T> {
         self.rows.bytes()
     }
 
-    /// How many start entries there are: six for the contexts of an unanchored search, six for those of an anchored
-    /// one, and six for each pattern that has starts of its own.
+    /// The number of start entries: six for an unanchored search, one for each context, six for an anchored one, and
+    /// six for each pattern with start states of its own.
     pub fn start_len(&self) -> usize
         ensures value { result ≡ length self.now.layout.starts }
         ensures shaped { IsShaped self.now.layout }
@@ -197,7 +197,7 @@ impl<T: ByteStore> DFA<T> {
         self.starts.bytes().len() / 4
     }
 
-    /// A start entry, by its place.
+    /// The start entry at an index.
     pub fn start_at(&self, i: usize) -> StateID
         requires { i < length self.now.layout.starts }
         ensures { result ≡ slice_index self.now.layout.starts i }
@@ -205,7 +205,7 @@ impl<T: ByteStore> DFA<T> {
         StateID::must(word_at(self.parts.order, self.starts.bytes(), i) as usize)
     }
 
-    /// The start row of a mode and a context. A pattern without starts of its own starts at the dead row.
+    /// The start state of a mode and a context. A pattern without start states of its own starts at the dead state.
     pub(crate) fn start(&self, mode: Anchored, start: Start) -> StateID
         ensures value { result ≡ start_id self.now.layout (mode_of mode) start }
         ensures is_id { IsId (ids_of self.now.layout) result }
@@ -218,7 +218,7 @@ impl<T: ByteStore> DFA<T> {
     }
 }
 
-/// The place of the first start entry of a mode.
+/// The index of the first start entry of a mode.
 fn mode_place(mode: Anchored) -> usize
     ensures value { result ≡ mode_place (mode_of mode) }
     ensures bound { result < 2 ^ 34 }
@@ -230,7 +230,7 @@ fn mode_place(mode: Anchored) -> usize
     }
 }
 
-/// The place of a start context among the six start entries of a mode.
+/// The index of a start context among the six start entries of a mode.
 fn context_number(start: Start) -> usize
     ensures value { result ≡ context_number start }
     ensures bound { result < 6 }

@@ -1,4 +1,4 @@
-//! What is true of all sparse tables.
+//! Laws of all sparse tables.
 //!
 //! Each function has an empty body, and its clauses are the laws.
 
@@ -17,10 +17,9 @@ ghost use Rattle.rx_sparse.specs.Parts.{FitsBytes};
 ghost use Rattle.rx_sparse.specs.Rows.{Row, no_row, rows_in, rows_text};
 ghost use Rattle.rx_sparse.specs.Sparse.{AreSpecialRows, sparse_len, sparse_of};
 
-/// The sparse table of a dense one is the same table: the rows by their numbers, what they tell and where they lead,
-/// the settings, the marks and the needles. So it is as sound, and a walk of it reaches the row of the same number on
-/// every word, with end marks anywhere in it. It has the shape of a sparse table where its rows have no more bytes than
-/// there are ids.
+/// The sparse form of a dense table is the same table: states by their numbers, what they report and where they lead,
+/// settings, marks and needles. So it is as sound, and a walk over any word leads to the state with the same number,
+/// even if end of input occurs inside the word. It is well formed if its states have no more bytes than there are ids.
 pub fn a_sparse_table_is_the_dense_one()
     ensures same { (l : Dense) → IsShapedDense l → AreSpecialRows l → AreSame (dense_table l) (table_of (sparse_of l)) }
     ensures walks { (l : Dense) → IsShapedDense l → AreSpecialRows l → IsSoundDense l
@@ -31,7 +30,7 @@ pub fn a_sparse_table_is_the_dense_one()
         → IsShaped (sparse_of l) }
 {}
 
-/// The bytes of rows spell these rows, in either order.
+/// The bytes of states spell these states, in either byte order.
 pub fn rows_are_read_again()
     ensures { (order : Order) (rows : List Row)
         → ((i : ℕ) → i < length rows → FitsBytes (get_or rows i no_row))

@@ -1,11 +1,11 @@
-//! Sparse tables in memory: a row has the ranges of byte classes that lead to one row, and where they lead.
+//! Sparse tables: each state has ranges of byte classes and the state to which each range leads.
 //!
-//! Start with [`DFA`], the table, and its `Automaton` calls. It keeps the bytes of its rows in a [`ByteStore`], owned
-//! or borrowed, in either order. [`State`] is a row that is decoded. [`ToSparse`] makes one of a dense table.
+//! Start with [`DFA`], the table, and its `Automaton` calls. It keeps its bytes in a [`ByteStore`], owned or borrowed,
+//! in either byte order. [`State`] is a decoded state. [`ToSparse`] makes a sparse table of a dense one.
 //!
-//! The contract: a table is seen as a `Layout` with the order of its bytes (`specs/Layouts.antt`), of which one
-//! function makes the table of the definitions. What bytes a row has stands in `specs/Rows.antt`, and what the sparse
-//! table of a dense one is in `specs/Sparse.antt`.
+//! The contract: a table is seen as a `Layout` with the order of its bytes (`specs/Layouts.antt`), and one function
+//! makes the table of the definitions of it. `specs/Rows.antt` defines the bytes of a state, and `specs/Sparse.antt`
+//! the sparse form of a dense table.
 #![tactic(auto)]
 
 mod dfa;

@@ -1,19 +1,19 @@
-//! Where the rows of a sparse table begin.
+//! The offsets of the rows of a sparse table.
 
 ghost use Rattle.std.specs.Prelude.{◌≡◌, ◌<◌, ◌≤◌, ◌/◌, ◌^◌, ℕ, length, slice_index};
 ghost use Rattle.rx_spec.specs.Causes.{max_id};
 ghost use Rattle.rx_sparse.specs.Reading.{offset_in};
 
-/// The offset of each row of a dense table.
+/// The offset of each row of a dense table in its sparse form.
 #[derive(Drop)]
 pub(crate) struct Offsets {
     ids: Vec<u32>,
-    /// How many words a row of the dense table has, as the exponent of a power of two.
+    /// The base-2 logarithm of the number of words of a row of the dense table.
     stride2: usize,
 }
 
 impl Offsets {
-    /// These offsets, of the rows of a dense table with such a stride.
+    /// These offsets, for a dense table with this stride.
     pub(crate) fn new(ids: Vec<u32>, stride2: usize) -> Offsets
         ensures ids { result.ids ≡ ids }
         ensures stride2 { result.stride2 ≡ stride2 }

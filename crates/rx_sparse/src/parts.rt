@@ -1,34 +1,34 @@
-//! What a table has beside the bytes of its rows and start entries.
+//! The parts of a table other than the bytes of its states and start entries.
 
 use rx_base::{ByteClasses, ByteSet, Start, StartKind, StateID};
 use rx_dense::{Flags, Special};
 use rx_wire::Order;
 
-/// The parts of a sparse table, but for the bytes of its rows and start entries.
+/// The parts of a sparse table other than the bytes of its states and start entries.
 #[derive(Clone, Copy, Debug)]
 pub struct Parts {
-    /// The order of the bytes of rows and start entries.
+    /// The byte order of the states and start entries.
     pub order: Order,
-    /// What is known of the patterns.
+    /// The flags of the patterns.
     pub flags: Flags,
     /// The class of each byte.
     pub classes: ByteClasses,
-    /// How many patterns there are.
+    /// The number of patterns.
     pub pattern_len: usize,
-    /// How many rows there are.
+    /// The number of states.
     pub state_len: usize,
-    /// For which modes there are start rows.
+    /// For which modes the table has start states.
     pub start_kind: StartKind,
     /// The start context of each byte.
     pub contexts: [Start; 256],
-    /// How many patterns have starts of their own, if any have.
+    /// The number of patterns with start states of their own, if there are such.
     pub start_pattern_len: Option<usize>,
-    /// The start row of an unanchored search, whatever stands beside its span.
+    /// The start state of an unanchored search if it is the same for each byte beside the span.
     pub universal_unanchored: Option<StateID>,
-    /// The start row of an anchored search, whatever stands beside its span.
+    /// The start state of an anchored search if it is the same for each byte beside the span.
     pub universal_anchored: Option<StateID>,
-    /// Which rows are special.
+    /// The special states.
     pub special: Special,
-    /// The bytes that can't be searched.
+    /// The quit bytes.
     pub quitset: ByteSet,
 }

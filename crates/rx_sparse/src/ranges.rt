@@ -1,4 +1,4 @@
-//! Ranges of classes that lead to one row.
+//! Ranges of classes that lead to one state.
 
 ghost use Rattle.std.specs.Prelude.{◌≡◌, ◌-◌, IfOk, length, slice_index};
 ghost use Rattle.rx_sparse.specs.Sparse.{ranges_of};
@@ -8,18 +8,18 @@ use rx_base::Unit;
 use rx_dense::State;
 use std::alloc::AllocError;
 
-/// The classes from a first to a last one, and the id of the row where they lead.
+/// A range of classes and the id of the state to which they lead.
 #[derive(Clone, Copy, Debug)]
 pub struct ClassRange {
     /// The first class.
     pub first: u8,
     /// The last class.
     pub last: u8,
-    /// Where they lead.
+    /// The id of the state to which they lead.
     pub next: u32,
 }
 
-/// The class that stands as a unit. The end mark is none, and has 0.
+/// The class of a unit that stands for a class. End of input has none; the result for it is 0.
 fn class_of(unit: Unit) -> u8
     ensures { result ≡ class_of unit }
 {
@@ -29,8 +29,7 @@ fn class_of(unit: Unit) -> u8
     }
 }
 
-/// Puts the maximal ranges of a row of a dense table that don't lead to dead in the place of others, and answers where
-/// the end mark leads.
+/// Replaces `ranges` by the maximal ranges of a dense state that don't lead to dead. Returns where end of input leads.
 pub(crate) fn read_ranges(row: &State<'_>, ranges: &mut Vec<ClassRange>) -> Result<u32, AllocError>
     ensures ranges { IfOk result (λ _. ranges.new.items ≡ ranges_of row.now.next_ids) }
     ensures eoi { IfOk result (λ eoi. eoi ≡ slice_index row.now.next_ids (length row.now.next_ids - 1)) }

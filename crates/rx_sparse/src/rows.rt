@@ -1,4 +1,4 @@
-//! Rows of dense tables by their ranges, and the bytes that they have in a sparse table.
+//! Dense rows as ranges, and their bytes in a sparse table.
 
 ghost use Rattle.std.specs.Prelude.{◌≡◌, ◌<◌, ◌≤◌, ◌^◌, ◌++◌, if◌then◌else◌, ◌+◌, ◌*◌, IfOk, length};
 ghost use Rattle.std.specs.Int.{w32};
@@ -19,8 +19,8 @@ use rx_dense::{DFA, WordStore};
 use rx_search::Automaton;
 use std::alloc::AllocError;
 
-/// A row of a dense table that was read: its ranges, where the end mark leads, its patterns and its needles. Its ids
-/// are those of the dense table.
+/// A row of a dense table: its ranges, where end of input leads, its patterns and its needles. Its ids are those of the
+/// dense table.
 #[derive(Drop)]
 pub(crate) struct ReadRow<'d, 'r> {
     ranges: &'r [ClassRange],
@@ -29,7 +29,7 @@ pub(crate) struct ReadRow<'d, 'r> {
     needles: Needles,
 }
 
-/// A row of an id, with its ranges and where the end mark leads.
+/// Reads a row: its ranges and where end of input leads.
 pub(crate) fn read_row<'d, 'r, T: WordStore>(
     dfa: &'d DFA<T>,
     id: StateID,
@@ -53,7 +53,7 @@ pub(crate) fn read_row<'d, 'r, T: WordStore>(
     }
 }
 
-/// The patterns of a row, where it is a match row.
+/// The patterns of a row. Only match rows have some.
 fn patterns<T: WordStore>(dfa: &DFA<T>, id: StateID) -> &[u32]
     requires sound { IsSoundLayout dfa.now }
     requires is_id { IsId (ids_of dfa.now) id }
@@ -66,7 +66,7 @@ fn patterns<T: WordStore>(dfa: &DFA<T>, id: StateID) -> &[u32]
     }
 }
 
-/// How many bytes patterns take, with their count.
+/// The length in bytes of patterns with their count.
 fn patterns_len(patterns: &[u32]) -> usize
     ensures { result ≡ (if is_some_list patterns.now then 4 + 4 * length patterns.now else 0) }
 {
@@ -78,7 +78,7 @@ fn patterns_len(patterns: &[u32]) -> usize
 }
 
 impl<'d, 'r> ReadRow<'d, 'r> {
-    /// How many bytes the row has.
+    /// The length of the row in bytes.
     pub(crate) fn len(&self) -> usize
         requires { length self.now.ranges.now ≤ 256 }
         ensures { result ≡ row_len (read_row self.now) }
@@ -86,7 +86,7 @@ impl<'d, 'r> ReadRow<'d, 'r> {
         2 + 6 * (self.ranges.len() + 1) + patterns_len(self.patterns) + 1 + self.needles.len()
     }
 
-    /// How many ranges there are with that of the end mark, and in the highest bit whether the row tells patterns.
+    /// The number of ranges with that of end of input. The highest bit is set for a match row.
     fn head_number(&self) -> u16
         requires { length self.now.ranges.now ≤ 256 }
         ensures { result ≡ head_number (read_row self.now) }
@@ -99,7 +99,7 @@ impl<'d, 'r> ReadRow<'d, 'r> {
         }
     }
 
-    /// Adds the bytes of the row to others, with offsets for its ids.
+    /// Adds the bytes of the row, with offsets for its ids.
     pub(crate) fn add_to(&self, offsets: &Offsets, bytes: &mut Vec<u8>) -> Result<(), AllocError>
         requires few { length self.now.ranges.now ≤ 256 }
         requires few_patterns { length self.now.patterns.now < 2 ^ 32 }
@@ -115,7 +115,7 @@ impl<'d, 'r> ReadRow<'d, 'r> {
         bytes.extend_from_slice(self.needles.as_slice())
     }
 
-    /// Adds the offsets of the rows to which the ranges and the end mark lead.
+    /// Adds the offsets of the rows to which the ranges and end of input lead.
     fn add_next_ids(&self, offsets: &Offsets, bytes: &mut Vec<u8>) -> Result<(), AllocError>
         requires { HaveOffsets offsets.now (next_ids (read_row self.now)) }
         ensures { IfOk result (λ _. bytes.new.items
@@ -129,7 +129,7 @@ impl<'d, 'r> ReadRow<'d, 'r> {
     }
 }
 
-/// Adds the first and the last class of each range, and those of the end mark, which are 0.
+/// Adds the first and last class of each range, then two zeros for end of input.
 fn add_ends(ranges: &[ClassRange], bytes: &mut Vec<u8>) -> Result<(), AllocError>
     ensures { IfOk result (λ _. bytes.new.items ≡ bytes.old.items ++ ends_text ranges.now) }
 {
@@ -146,7 +146,7 @@ pub(crate) fn add_word(word: u32, bytes: &mut Vec<u8>) -> Result<(), AllocError>
     bytes.extend_from_slice(&word.to_le_bytes())
 }
 
-/// Adds how many patterns there are, and the patterns, where there are some.
+/// Adds the number of patterns and the patterns, if there are some.
 fn add_patterns(patterns: &[u32], bytes: &mut Vec<u8>) -> Result<(), AllocError>
     requires { length patterns.now < 2 ^ 32 }
     ensures { IfOk result (λ _. bytes.new.items ≡ bytes.old.items ++ patterns_text Little patterns.now) }

@@ -1,4 +1,4 @@
-//! Rows, decoded.
+//! Decoded states.
 
 ghost use Rattle.std.specs.Prelude.{◌≡◌, ◌<◌, ◌≤◌, ◌+◌, ◌*◌, ◌^◌, ◌&&◌, nat_le, get_or, length, slice_index};
 ghost use Rattle.std.specs.Int.{w16};
@@ -11,16 +11,16 @@ use rx_base::{Needles, PatternID, StateID};
 use rx_wire::Order;
 use std::marker::Model;
 
-/// A row, decoded: its parts, lent from the bytes of the table.
+/// A decoded state: its parts, borrowed from the bytes of the table.
 ///
-/// Contracts see it as a `Row`: its ranges, where the end mark leads, its patterns and its needles.
+/// Contracts see it as a `Row`: its ranges, where end of input leads, its patterns and its needles.
 #[derive(Clone, Debug, Drop)]
 pub struct State<'a> {
     order: Order,
     is_match: bool,
-    /// The first and the last class of each range, and of the end mark.
+    /// The first and last class of each range and of end of input.
     ends: &'a [u8],
-    /// The ids to which the ranges and the end mark lead.
+    /// The ids to which the ranges and end of input lead.
     next_ids: &'a [u8],
     /// The patterns, the needles, and the bytes after the row.
     rest: &'a [u8],
@@ -37,7 +37,7 @@ impl<'a> Model for State<'a> {
     ghost invariant = { λ s. IsDecoded s.order s.is_match s.ends.now s.next_ids.now s.rest.now };
 }
 
-/// The number of two bytes.
+/// The number that two bytes spell.
 #[inline(always)]
 #[tactic(auto, using(crate::proofs::WordBytes::two))]
 fn head_number(order: Order, bytes: &[u8]) -> usize
@@ -48,7 +48,7 @@ fn head_number(order: Order, bytes: &[u8]) -> usize
     order.u16_from_bytes([bytes[0], bytes[1]]) as usize
 }
 
-/// The word at a place.
+/// The word at an index.
 #[inline(always)]
 #[tactic(auto, using(crate::proofs::WordBytes::four))]
 pub(crate) fn word_at(order: Order, bytes: &[u8], i: usize) -> u32
@@ -59,7 +59,7 @@ pub(crate) fn word_at(order: Order, bytes: &[u8], i: usize) -> u32
     order.u32_from_bytes([bytes[at], bytes[at + 1], bytes[at + 2], bytes[at + 3]])
 }
 
-/// Whether a range, by its place, has a class.
+/// Whether the range at an index has a class.
 #[inline(always)]
 fn has_class(ends: &[u8], i: usize, class: u8) -> bool
     requires { 2 * i + 1 < length ends.now }
@@ -69,7 +69,7 @@ fn has_class(ends: &[u8], i: usize, class: u8) -> bool
     ends[2 * i] <= class && class <= ends[2 * i + 1]
 }
 
-/// How many bytes the patterns of a row take, with their count.
+/// The length in bytes of a row's patterns with their count.
 #[inline(always)]
 fn patterns_len(order: Order, is_match: bool, rest: &[u8]) -> usize
     requires { patterns_len order is_match rest.now < length rest.now }
@@ -83,7 +83,7 @@ fn patterns_len(order: Order, is_match: bool, rest: &[u8]) -> usize
 }
 
 impl<'a> State<'a> {
-    /// The row at the front of some bytes.
+    /// The state that some bytes begin with.
     #[inline(always)]
     pub(crate) fn at(order: Order, bytes: &'a [u8]) -> State<'a>
         requires { IsWholeRow order bytes.now }
@@ -103,14 +103,14 @@ impl<'a> State<'a> {
         }
     }
 
-    /// How many ranges there are, beside the end mark.
+    /// The number of ranges, without that of end of input.
     pub fn range_len(&self) -> usize
         ensures { result ≡ length self.now.ranges }
     {
         self.ends.len() / 2 - 1
     }
 
-    /// A range, by its place.
+    /// The range at an index.
     #[inline(always)]
     pub fn range(&self, i: usize) -> ClassRange
         requires { i < length self.now.ranges }
@@ -124,7 +124,7 @@ impl<'a> State<'a> {
         }
     }
 
-    /// The row to which a class leads: dead, where no range has it.
+    /// The state to which a class leads. It is dead if no range has the class.
     #[inline(always)]
     pub fn next(&self, class: u8) -> StateID
         ensures { result ≡ next_among self.now.ranges class }
@@ -138,7 +138,7 @@ impl<'a> State<'a> {
         StateID::ZERO
     }
 
-    /// The row to which the end mark leads.
+    /// The state to which end of input leads.
     #[inline(always)]
     pub fn next_eoi(&self) -> StateID
         ensures { result ≡ self.now.eoi }
@@ -147,7 +147,7 @@ impl<'a> State<'a> {
         StateID::must(word_at(self.order, self.next_ids, last) as usize)
     }
 
-    /// How many patterns a match row tells. Any other row has none.
+    /// The number of patterns of a match state. Any other state has none.
     #[inline(always)]
     pub fn pattern_len(&self) -> usize
         ensures { result ≡ length self.now.patterns }
@@ -159,7 +159,7 @@ impl<'a> State<'a> {
         }
     }
 
-    /// A pattern, by its place among those of the row.
+    /// The pattern at an index among those of the state.
     #[inline(always)]
     pub fn pattern(&self, i: usize) -> PatternID
         requires { i < length self.now.patterns }
@@ -168,7 +168,7 @@ impl<'a> State<'a> {
         PatternID::must(word_at(self.order, self.rest, i + 1) as usize)
     }
 
-    /// The needles of an accelerated row. Any other row has none.
+    /// The needles of an accelerated state. Any other state has none.
     #[inline(always)]
     pub fn needles(&self) -> Needles
         ensures { result ≡ self.now.needles }

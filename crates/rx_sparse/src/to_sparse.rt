@@ -1,4 +1,4 @@
-//! Dense tables, made sparse.
+//! Makes sparse tables of dense ones.
 
 ghost use Rattle.std.specs.Prelude.{◌≡◌, ◌<◌, ◌≤◌, ◌+◌, ◌^◌, ◌++◌, [], ◌∷◌, IfOk, IfErr, OnOk, length};
 ghost use Rattle.rx_spec.specs.Causes.{max_id};
@@ -29,14 +29,16 @@ use rx_search::Automaton;
 use rx_wire::Order;
 use std::alloc::{AllocError, Global};
 
-/// Makes dense tables sparse.
+/// Makes a sparse table of a dense one.
 pub trait ToSparse {
-    /// What the dense table is.
+    /// The layout of the dense table.
     ghost layout: { Self → Dense };
 
-    /// The sparse table with the same rows in the same order, in little endian.
+    /// The sparse table with the same states in the same order, in little endian.
     ///
-    /// It is refused exactly where the rows would have more bytes than there are ids, or where memory runs out.
+    /// # Errors
+    ///
+    /// `TooManyStates` exactly if the states would have more bytes than there are ids, or `Memory` if memory runs out.
     fn to_sparse(&self, alloc: Global) -> Result<DFA<Vec<u8>>, BuildError>
         requires sound { IsSoundDense (layout self.now) }
         requires special { AreSpecialRows (layout self.now) }
@@ -60,7 +62,7 @@ impl<T: WordStore> ToSparse for DenseDFA<T> {
     }
 }
 
-/// Where each row begins, and how many bytes all rows have.
+/// The offset of each row, and the length of all rows in bytes.
 fn row_offsets<T: WordStore>(
     alloc: Global,
     dfa: &DenseDFA<T>,
@@ -80,7 +82,7 @@ fn row_offsets<T: WordStore>(
     Ok((Offsets::new(ids, dfa.stride2()), len))
 }
 
-/// Adds the offset of a row, and answers where the next one begins.
+/// Adds the offset of a row and returns that of the next one.
 fn add_offset<T: WordStore>(
     dfa: &DenseDFA<T>,
     row: &State<'_>,
@@ -110,7 +112,7 @@ fn add_offset<T: WordStore>(
     }
 }
 
-/// The bytes of all rows, of which there are so many.
+/// The bytes of all rows, of the length `len`.
 fn row_bytes<T: WordStore>(
     alloc: Global,
     dfa: &DenseDFA<T>,
@@ -191,7 +193,7 @@ fn parts<T: WordStore>(dfa: &DenseDFA<T>, offsets: &Offsets) -> Parts
     }
 }
 
-/// How many patterns there are: no more than ids, as the lists of patterns need it.
+/// The number of patterns, at most the number of ids, which the pattern lists need.
 fn pattern_len<T: WordStore>(dfa: &DenseDFA<T>) -> usize
     ensures value { result ≡ dfa.now.pattern_len }
     ensures lists { AreLists dfa.now }

@@ -1,4 +1,5 @@
--- What sparse tables are built by some settings, of an NFA or of expressions, and why they aren't.
+-- The sparse tables that are built by some settings, of an NFA or of expressions (`IsSparse`), and the causes that
+-- refuse a build.
 use Rattle.std.specs.Prelude.{◌≡◌, ◌≤◌, List, length}
 use Rattle.rx_spec.specs.Causes.{BuildFits, BuildRefused, Limits, NfaRefused, max_id}
 use Rattle.rx_spec.specs.Expressions.{Expression}

@@ -1,4 +1,4 @@
--- Dense tables whose sparse tables are measured: what is known of a table that is built, with or without minimizing.
+-- Dense tables whose sparse forms are measured: what holds of a built table, with or without minimizing.
 use Rattle.std.specs.Prelude.{ℕ, ◌≡◌, ◌≢◌, ◌<◌, ◌&&◌, Bool, map, Contains}
 use Rattle.std.specs.List.{range_with_len}
 use Rattle.rx_spec.specs.Builds.{Build, built_modes}

@@ -1,4 +1,4 @@
-//! Sparse tables by the settings of a builder of dense ones.
+//! Builds sparse tables by the settings of a builder of dense ones.
 
 ghost use Rattle.std.specs.Prelude.{◌≡◌, ◌<◌, ◌^◌, All, IfOk, IfErr, OnOk};
 ghost use Rattle.rx_spec.specs.Causes.{BuildFits};
@@ -21,12 +21,12 @@ use rx_expr::thompson::NFA;
 use rx_sparse::{DFA, ToSparse};
 use std::alloc::Global;
 
-/// Makes sparse tables of expressions or of an NFA.
+/// Builds sparse tables of expressions or of an NFA.
 pub trait BuildSparse {
-    /// The settings of the tables and those of their NFAs.
+    /// The settings of the tables and those of the NFAs.
     ghost both: { Self → Both };
 
-    /// The sparse table of a list of expressions, the first of which is pattern 0.
+    /// Builds the sparse table of a list of expressions. The first expression is pattern 0.
     fn build_many_sparse(&self, alloc: Global, exprs: &[Expr]) -> Result<DFA<Vec<u8>>, BuildError>
         ensures ok { IfOk result (IsSparse (settled (both self.now).dense)
             (wanted_nfa (both self.now).thompson exprs.now)) }
@@ -38,7 +38,7 @@ pub trait BuildSparse {
         // Each repetition in an expression is bounded.
         ensures safe { All IsLoopSafe exprs.now };
 
-    /// The sparse table of an NFA.
+    /// Builds the sparse table of an NFA.
     fn build_sparse_from_nfa(&self, alloc: Global, nfa: &NFA) -> Result<DFA<Vec<u8>>, BuildError>
         ensures ok { IfOk result (IsSparse (settled (both self.now).dense) (meaning nfa.now)) }
         ensures sound { IfOk result (λ dfa. IsSoundLayout dfa.layout) }
@@ -62,7 +62,7 @@ impl BuildSparse for dense::Builder {
     }
 }
 
-/// A built table, made sparse.
+/// The sparse form of a built table.
 fn made_sparse(alloc: Global, table: OwnedDFA) -> Result<DFA<Vec<u8>>, BuildError>
     requires { IsInOrder table }
     ensures ok { (s : Settled) (nfa : Nfa) → IsBuilt s nfa table → IfOk result (IsSparse s nfa) }

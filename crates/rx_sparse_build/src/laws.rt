@@ -1,4 +1,4 @@
-//! What a built sparse table tells, and that tables can be made sparse.
+//! What a built sparse table reports, and that dense tables can be made sparse.
 //!
 //! Each function has an empty body, and its clauses are the laws.
 
@@ -16,15 +16,15 @@ ghost use Rattle.rx_sparse.specs.Layouts.{IsShaped, Stored, row_count, table_of}
 ghost use Rattle.rx_sparse.specs.Sparse.{AreSpecialRows};
 ghost use Rattle.rx_sparse_build.specs.Built.{IsSparse};
 
-/// A built sparse table gives its build, and its searches begin as the build's do. So it answers every search as the
-/// powerset machine of its build does. It is sound.
+/// A built sparse table answers every search as the powerset machine of its build does. It is sound.
 pub fn built_tables_serve()
     ensures serves { (s : Settled) (nfa : Nfa) (t : Stored) → IsSparse s nfa t
         → Serves (table_of t.layout) (build_of s nfa) }
     ensures sound { (s : Settled) (nfa : Nfa) (t : Stored) → IsSparse s nfa t → IsSoundLayout t.layout }
 {}
 
-/// It has the rows of the build's powerset machine, or where its rows are joined, as few as can be.
+/// A built sparse table has the states of the build's powerset machine, or with minimizing as few as any table of the
+/// build can have.
 pub fn built_tables_have_their_rows()
     ensures power { (s : Settled) (nfa : Nfa) (t : Stored) → IsSparse s nfa t → s.minimize ≡ false
         → IsPower (table_of t.layout) (build_of s nfa) }
@@ -32,8 +32,8 @@ pub fn built_tables_have_their_rows()
         → IsLeastFor (build_of s nfa) (row_count t.layout) }
 {}
 
-/// The special ids of a table in order are ids of rows, and so are those of a built one. That is what a table must have
-/// to be made sparse. It has rows, which is a fact of its type.
+/// The special ids of a dense table in order are ids of rows, and so are those of a built one. `to_sparse` requires
+/// that. `AreRows` states that the table has rows, which is an invariant of its type.
 pub fn special_ids_are_rows()
     ensures ordered { (l : Dense) → AreRows l → IsOrdered l → AreSpecialRows l }
     ensures built { (s : Settled) (nfa : Nfa) (l : Dense) → AreRows l → IsBuilt s nfa l → AreSpecialRows l }

@@ -1,11 +1,12 @@
-//! Sparse tables of patterns, and how they are built.
+//! Builds sparse tables.
 //!
-//! [`SparseBuild`] has the calls without further settings: `DFA::<Vec<u8>>::new_many(alloc, &exprs)`. [`BuildSparse`]
-//! has those of a dense builder: its settings, and a sparse table. Either way a dense table is built and made sparse.
+//! [`SparseBuild`] has calls that build by default settings: `DFA::<Vec<u8>>::new_many(alloc, &exprs)`. [`BuildSparse`]
+//! adds calls to a dense builder that build a sparse table by its settings. Either way a dense table is built and made
+//! sparse.
 //!
-//! The contract: the table is the sparse one of a dense table that is built (`specs/Built.antt`). A refusal names a
-//! cause that holds, of which one more may: its rows have more bytes than there are ids. [`laws`] say that such a table
-//! serves its build as the dense one does, with as many rows. [`row_lengths`] say how long its rows are, by the states
+//! The contract: the table is the sparse form of a built dense table (`specs/Built.antt`). An error names a cause that
+//! holds; there is one more cause than for dense tables: the states have more bytes than there are ids. [`laws`]: such
+//! a table answers as the dense one does, with as many states. [`row_lengths`]: how long its states are, by the states
 //! of the build.
 #![tactic(auto)]
 

@@ -1,4 +1,4 @@
-//! How long the rows of a sparse table are, by the states of the build whose table it is.
+//! The length of the rows of a sparse table, by the states of the build.
 //!
 //! Each function has an empty body, and its clauses are the laws.
 
@@ -11,8 +11,8 @@ ghost use Rattle.rx_dense.specs.Layouts.{Layout};
 ghost use Rattle.rx_sparse.specs.Sparse.{sparse_len};
 ghost use Rattle.rx_sparse_build.specs.Measured.{IsBounded, IsMeasured};
 
-/// The rows of a table that is its build's powerset machine have as many bytes as its states are counted, and no other
-/// states that are reached are counted as more.
+/// The rows of a table that is its build's powerset machine have as many bytes as the definition `sparse_size` counts
+/// for its states. Any other distinct reached states count at most as much.
 pub fn rows_are_as_long_as_their_states()
     ensures exactly { (b : Build) (byte_classes accelerate : Bool) (l : Layout)
         → (is : IsMeasured b byte_classes accelerate l)
@@ -22,7 +22,7 @@ pub fn rows_are_as_long_as_their_states()
         → sparse_size b byte_classes accelerate states ≤ sparse_len l }
 {}
 
-/// So they are too long exactly where the states are.
+/// So the rows have more bytes than there are ids exactly if some reached states count more.
 pub fn long_rows_are_long_states()
     ensures passed { (b : Build) (byte_classes accelerate : Bool) (l : Layout)
         → IsMeasured b byte_classes accelerate l → max_id < sparse_len l
@@ -32,7 +32,8 @@ pub fn long_rows_are_long_states()
         → Exceeds b (sparse_size b byte_classes accelerate) max_id → ⊥ }
 {}
 
-/// Where any two rows are told apart, rows that are too long have states whose bound is.
+/// If a word distinguishes any two rows and the rows have more bytes than there are ids, then the bound `sparse_bound`
+/// of some reached states exceeds the ids too.
 pub fn long_rows_have_a_long_bound()
     ensures { (b : Build) (byte_classes : Bool) (l : Layout)
         → IsBounded b byte_classes l → max_id < sparse_len l → Exceeds b (sparse_bound b byte_classes) max_id }

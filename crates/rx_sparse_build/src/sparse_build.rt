@@ -1,4 +1,4 @@
-//! Calls that build a sparse table with default settings.
+//! Calls that build a sparse table by default settings.
 
 ghost use Rattle.std.specs.Prelude.{◌≡◌, IfOk, IfErr, OnOk, All};
 ghost use Rattle.rx_spec.specs.Expressions.{IsLoopSafe};
@@ -19,9 +19,9 @@ use rx_expr::thompson::NFA;
 use rx_sparse::DFA;
 use std::alloc::Global;
 
-/// Builds a sparse table without further settings: `DFA::<Vec<u8>>::new_many(alloc, &exprs)`.
+/// Builds a sparse table by default settings: `DFA::<Vec<u8>>::new_many(alloc, &exprs)`.
 pub trait SparseBuild {
-    /// The table of a list of expressions, the first of which is pattern 0.
+    /// Builds the table of a list of expressions. The first expression is pattern 0.
     fn new_many(alloc: Global, exprs: &[Expr]) -> Result<DFA<Vec<u8>>, BuildError>
         ensures ok { IfOk result
             (IsSparse (settled nothing_asked) (wanted_nfa thompson.nothing_asked exprs.now)) }
@@ -32,7 +32,7 @@ pub trait SparseBuild {
             (λ e. IsRefused (Refused (settled nothing_asked) thompson.nothing_asked exprs.now) e.kind) }
         ensures safe { All IsLoopSafe exprs.now };
 
-    /// The table of one pattern that matches everywhere, without a byte.
+    /// The table of one pattern that matches the empty string everywhere.
     fn always_match(alloc: Global) -> Result<DFA<Vec<u8>>, BuildError>
         ensures ok { IfOk result (IsSparse (settled nothing_asked) always_match) }
         ensures sound { IfOk result (λ dfa. IsSoundLayout dfa.layout) }

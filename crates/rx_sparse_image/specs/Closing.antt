@@ -1,5 +1,4 @@
--- What must hold of all parts of an image together. With it, and with what each part has from its reading, the table
--- is sound.
+-- The tests of all parts of an image together. With them and the tests of each part the table is sound.
 use Rattle.std.specs.Prelude.{ℕ, ◌+◌, ◌==◌, ◌&&◌, ◌||◌, nat_le, Bool, true, not, if◌then◌else◌, Option, Some, None}
 use Rattle.std.specs.Prelude.{List, [], ◌∷◌, filter}
 use Rattle.std.specs.List.{list_all, list_any, range_with_len}

@@ -1,4 +1,5 @@
--- Sparse images: the bytes of a layout, and the layout that bytes spell, or the first test that they fail.
+-- Sparse images: `text` has the bytes of a layout, `reads` the layout that bytes spell, or the first test that they
+-- fail.
 use Rattle.std.specs.Prelude.{ℕ, ◌+◌, ◌-◌, ◌*◌, if◌then◌else◌, List, ◌++◌, length, slice_index, codes}
 use Rattle.std.specs.Prelude.{Result, Ok, Err}
 use Rattle.std.specs.Int.{w32}

@@ -1,4 +1,4 @@
--- Parts that stay where they lie, as they are seen.
+-- Parts of an image that stay where they are.
 use Rattle.std.specs.Prelude.{◌≡◌, ◌/◌, ◌%◌, ◌<◌, ◌^◌, true, nat_le, ◌∷◌, ◌++◌, length}
 use Rattle.rx_wire.specs.declared.order.Order.{Order}
 use Rattle.rx_dense_image.specs.StartTables.{IsReadStartTable, StartTable}

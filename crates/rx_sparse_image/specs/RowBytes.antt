@@ -1,5 +1,5 @@
--- The rows of a sparse image, before any of them is read: how many there are, the number of patterns, the class of each
--- byte, how many bytes the rows have, and these bytes.
+-- The rows of a sparse image before any of them is tested: the number of rows and of patterns, the class of each byte,
+-- the length of the rows in bytes, and these bytes.
 use Rattle.std.specs.Prelude.{ℕ, ◌^◌, ◌<◌, ◌≤◌, ◌&&◌, nat_le, if◌then◌else◌, List, length, Result, Ok, Err}
 use Rattle.std.specs.Int.{w32}
 use Rattle.rx_spec.specs.Causes.{id_count}

@@ -1,4 +1,4 @@
--- Where rows begin, as a mark for each place.
+-- The places where rows begin, as a mark for each place.
 use Rattle.std.specs.Prelude.{◌≡◌, ℕ, ◌==◌, Bool, true, false, List, get_or, slice_set}
 use Rattle.std.specs.List.{list_any}
 use Rattle.rx_sparse_image.specs.declared.row_sets.RowSet.{RowSet}

@@ -1,4 +1,4 @@
--- What is true of rows that passed their tests, and of a layout that can be read.
+-- What holds of rows that passed their tests, and of a layout that can be read.
 use Rattle.std.specs.Prelude.{◌≡◌, ◌≢◌, ℕ, ◌+◌, ◌<◌, ◌≤◌, ◌^◌, true, List, get_or, length, slice_index}
 use Rattle.rx_spec.specs.Causes.{id_count, max_id}
 use Rattle.rx_spec.specs.Ids.{id_of}

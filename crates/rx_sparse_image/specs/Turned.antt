@@ -1,4 +1,4 @@
--- Rows whose bytes are known, so that they can be written in another order.
+-- Rows with known bytes, which can be written in another byte order.
 use Rattle.std.specs.Prelude.{◌≡◌, ℕ, ◌<◌, List, get_or}
 use Rattle.rx_wire.specs.declared.order.Order.{Order}
 use Rattle.rx_sparse.specs.Parts.{FitsBytes}

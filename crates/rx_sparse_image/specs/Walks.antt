@@ -1,4 +1,4 @@
--- The rows of an image, one behind another, each with the tests that it must pass by itself.
+-- The rows of an image, one after another, each with its own tests.
 use Rattle.std.specs.Prelude.{ℕ, zero, suc, ◌+◌, ◌-◌, ◌*◌, ◌%◌, ◌==◌, ◌&&◌, ◌||◌, nat_lt, nat_le, Bool, not}
 use Rattle.std.specs.Prelude.{if◌then◌else◌, List, [], ◌∷◌, length, slice_index, drop, Result, Ok, Err}
 use Rattle.std.specs.List.{list_all, range_with_len}

@@ -1,4 +1,4 @@
-//! What must hold of all parts of an image together.
+//! The tests of all parts of an image together.
 
 ghost use Rattle.std.specs.Prelude.{◌≡◌, ◌==◌};
 ghost use Rattle.std.specs.List.{list_all};
@@ -19,7 +19,7 @@ use rx_base::StateID;
 use rx_dense::Special;
 use rx_dense_image::both::{is_in_range, word_at};
 
-/// Whether each range and the end mark lead to a row.
+/// Whether each range and end of input lead to a row.
 fn leads_to_rows(image: &Image<'_>, rows: &RowSet, row: &RowParts<'_>) -> bool
     requires parts { AreParts image.now.parts.order row.now }
     ensures { Marks rows.now (ids_of (image_layout image.now))
@@ -33,7 +33,7 @@ fn leads_to_rows(image: &Image<'_>, rows: &RowSet, row: &RowParts<'_>) -> bool
     true
 }
 
-/// Whether each range and the end mark lead to dead.
+/// Whether each range and end of input lead to dead.
 fn leads_to_dead(image: &Image<'_>, row: &RowParts<'_>) -> bool
     requires { AreParts image.now.parts.order row.now }
     ensures { result ≡ list_all (λ id. id == 0) (next_ids (row_of image.now.parts.order row.now)) }
@@ -46,7 +46,7 @@ fn leads_to_dead(image: &Image<'_>, row: &RowParts<'_>) -> bool
     true
 }
 
-/// Whether a row may lead where it does: dead and quit lead to dead alone.
+/// Whether a row leads where it may: dead and quit must lead only to dead.
 fn leads_on(image: &Image<'_>, at: usize, row: &RowParts<'_>) -> bool
     requires { AreParts image.now.parts.order row.now }
     ensures { result ≡ leads_on image.now.parts.special at (row_of image.now.parts.order row.now) }
@@ -58,7 +58,7 @@ fn leads_on(image: &Image<'_>, at: usize, row: &RowParts<'_>) -> bool
     }
 }
 
-/// Whether some bytes are exactly those on which a row doesn't lead to itself, rising.
+/// Whether `needles` are exactly the bytes on which a row leads elsewhere, in rising order.
 fn are_leaving(image: &Image<'_>, at: usize, row: &RowParts<'_>, needles: &[u8]) -> bool
     requires { AreParts image.now.parts.order row.now }
     ensures { result
@@ -80,7 +80,7 @@ fn are_leaving(image: &Image<'_>, at: usize, row: &RowParts<'_>, needles: &[u8])
     met == needles.len()
 }
 
-/// Whether the needles of an accelerated row are those bytes.
+/// Whether an accelerated row has exactly those bytes as needles.
 fn has_needles(image: &Image<'_>, at: usize, row: &RowParts<'_>) -> bool
     requires { AreParts image.now.parts.order row.now }
     ensures { result ≡ has_needles (image_layout image.now) at (row_of image.now.parts.order row.now) }
@@ -93,7 +93,7 @@ fn has_needles(image: &Image<'_>, at: usize, row: &RowParts<'_>) -> bool
     }
 }
 
-/// Whether a row may stand where it does.
+/// Whether a row passes its tests.
 fn row_stands(image: &Image<'_>, rows: &RowSet, at: usize, row: &RowParts<'_>) -> bool
     requires { AreParts image.now.parts.order row.now }
     ensures { Marks rows.now (ids_of (image_layout image.now))
@@ -102,7 +102,7 @@ fn row_stands(image: &Image<'_>, rows: &RowSet, at: usize, row: &RowParts<'_>) -
     leads_to_rows(image, rows, row) && leads_on(image, at, row) && has_needles(image, at, row)
 }
 
-/// Whether each row may stand where it does.
+/// Whether each row passes its tests.
 fn each_row(image: &Image<'_>, rows: &RowSet) -> bool
     requires { AreWholeRows image.now.parts.order image.now.parts.state_len image.now.rows.now }
     ensures { Marks rows.now (ids_of (image_layout image.now))
@@ -120,7 +120,7 @@ fn each_row(image: &Image<'_>, rows: &RowSet) -> bool
     true
 }
 
-/// Whether there are two rows at least, the second is quit, and each may stand where it does.
+/// Whether there are at least two rows, the second is quit, and each passes its tests.
 fn rows_stand(image: &Image<'_>, rows: &RowSet) -> bool
     requires { AreWholeRows image.now.parts.order image.now.parts.state_len image.now.rows.now }
     ensures { Marks rows.now (ids_of (image_layout image.now)) → result ≡ rows_stand (image_layout image.now) }
@@ -133,7 +133,7 @@ fn rows_stand(image: &Image<'_>, rows: &RowSet) -> bool
     image.parts.special.quit.as_usize() == second && each_row(image, rows)
 }
 
-/// Whether the special ids are those of rows.
+/// Whether the special ids are ids of rows.
 fn are_special_rows(rows: &RowSet, s: &Special) -> bool
     ensures { (l : Layout) → Marks rows.now (ids_of l) → result ≡ are_special_rows l s.now }
 {
@@ -146,7 +146,7 @@ fn are_special_rows(rows: &RowSet, s: &Special) -> bool
         && rows.has(s.max_start.as_usize())
 }
 
-/// Whether a search may start there: at a row that neither matches nor quits.
+/// Whether a search may start in a row: it neither matches nor quits.
 fn is_start_row(image: &Image<'_>, rows: &RowSet, id: usize) -> bool
     ensures { Marks rows.now (ids_of (image_layout image.now)) → result ≡ is_start_row (image_layout image.now) id }
 {
@@ -156,7 +156,7 @@ fn is_start_row(image: &Image<'_>, rows: &RowSet, id: usize) -> bool
         && id != special.quit.as_usize()
 }
 
-/// Whether searches start at rows that neither match nor quit.
+/// Whether all start rows neither match nor quit.
 fn are_start_rows(image: &Image<'_>, rows: &RowSet) -> bool
     ensures { Marks rows.now (ids_of (image_layout image.now))
         → result ≡ list_all (is_start_row (image_layout image.now)) (image_layout image.now).starts }
@@ -170,7 +170,7 @@ fn are_start_rows(image: &Image<'_>, rows: &RowSet) -> bool
     true
 }
 
-/// Whether a universal start that is there is a row.
+/// Whether a universal start, if there is one, is a row.
 fn is_universal(rows: &RowSet, start: Option<StateID>) -> bool
     ensures { (l : Layout) → Marks rows.now (ids_of l) → result ≡ is_universal l start }
 {
@@ -180,7 +180,7 @@ fn is_universal(rows: &RowSet, start: Option<StateID>) -> bool
     }
 }
 
-/// Whether searches start at rows that neither match nor quit, and universal starts are rows.
+/// Whether all start rows neither match nor quit, and universal starts are rows.
 fn starts_stand(image: &Image<'_>, rows: &RowSet) -> bool
     ensures { Marks rows.now (ids_of (image_layout image.now)) → result ≡ starts_stand (image_layout image.now) }
 {
@@ -189,7 +189,7 @@ fn starts_stand(image: &Image<'_>, rows: &RowSet) -> bool
         && is_universal(rows, image.parts.universal_anchored)
 }
 
-/// Whether all that must hold of the parts together does. As many rows were met as the image tells.
+/// Whether all tests of the parts together succeed, and the number of rows is the one that the image states.
 pub(crate) fn is_closed(image: &Image<'_>, rows: &RowSet) -> bool
     requires rows { AreWholeRows image.now.parts.order image.now.parts.state_len image.now.rows.now }
     requires marks { Marks rows.now (ids_of (image_layout image.now)) }

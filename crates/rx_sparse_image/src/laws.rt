@@ -1,4 +1,4 @@
-//! What was written is read again.
+//! An image is read as the table that was written.
 //!
 //! Each function has an empty body, and its clauses are the laws.
 
@@ -12,22 +12,22 @@ ghost use Rattle.rx_sparse.specs.Sparse.{AreSpecialRows};
 ghost use Rattle.rx_sparse_image.specs.Images.{reads, text};
 ghost use Rattle.rx_sparse_image.specs.Tested.{IsWhole};
 
-/// An image of a layout that can be read is read as that layout, in either order and whatever follows, and its length
-/// is told. [`SparseRead::from_bytes`](crate::SparseRead::from_bytes) says of each table that it reads that its layout
-/// is such a one.
+/// An image of a layout that can be read (`IsWhole`) is read as that layout with the image's length, in either byte
+/// order and whatever bytes follow. Every table that [`SparseRead::from_bytes`](crate::SparseRead::from_bytes) returns
+/// has such a layout.
 pub fn images_are_read_again()
     ensures { (order : Order) (l : Layout) → IsWhole l → (rest : List ℕ)
         → reads (text order l ++ rest) ≡ Ok (record { layout = l; order = order }, length (text order l)) }
 {}
 
-/// A layout that can be read has the shape of a sparse table, and is sound.
+/// A layout that can be read has the form of a sparse table, and is sound.
 pub fn what_can_be_read_is_sound()
     ensures shaped { (l : Layout) → IsWhole l → IsShaped l }
     ensures sound { (l : Layout) → IsWhole l → IsSoundLayout l }
 {}
 
-/// The special ids of a dense table that can be read are ids of rows. So it can be made sparse, which asks for that:
-/// [`rx_dense_image`] reads such tables alone.
+/// The special ids of a dense table that can be read are ids of rows, which `to_sparse` requires. [`rx_dense_image`]
+/// reads only such tables.
 #[tactic(auto, using(crate::proofs::DenseSpecial::special_rows))]
 pub fn special_ids_are_rows()
     ensures { (l : Dense) → IsWholeDense l → AreSpecialRows l }

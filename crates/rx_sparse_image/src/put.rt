@@ -1,6 +1,6 @@
-//! Parts of an image, written one behind another.
+//! Writes the parts of an image.
 //!
-//! Each call writes a part behind the bytes before a place, and answers the place after it.
+//! Each function writes a part at an index and returns the index after it.
 
 ghost use Rattle.std.specs.Prelude.{◌≡◌, ◌+◌, ◌*◌, ◌≤◌, length, map};
 ghost use Rattle.rx_wire.specs.declared.order.Order.{Order};
@@ -42,7 +42,7 @@ fn put_head<E: Endian>(flags: &Flags, dst: &mut [u8], at: usize) -> usize
     put_word::<E>(flags_word(flags), dst, unused)
 }
 
-/// How many rows there are, as a word.
+/// The number of rows, as a word.
 fn row_word<T: ByteStore>(dfa: &DFA<T>) -> u32
     requires { IsShaped dfa.now.layout }
     ensures { result ≡ length dfa.now.layout.rows }
@@ -50,7 +50,7 @@ fn row_word<T: ByteStore>(dfa: &DFA<T>) -> u32
     dfa.state_len() as u32
 }
 
-/// How many patterns there are, as a word.
+/// The number of patterns, as a word.
 fn pattern_len_word<T: ByteStore>(dfa: &DFA<T>) -> u32
     requires { IsShaped dfa.now.layout }
     ensures { result ≡ dfa.now.layout.pattern_len }
@@ -58,7 +58,7 @@ fn pattern_len_word<T: ByteStore>(dfa: &DFA<T>) -> u32
     dfa.pattern_len() as u32
 }
 
-/// How many bytes the rows have, as a word.
+/// The length of the rows in bytes, as a word.
 fn len_word<T: ByteStore>(dfa: &DFA<T>) -> u32
     requires { IsShaped dfa.now.layout }
     ensures { result ≡ rows_len dfa.now.layout.rows }
@@ -103,7 +103,7 @@ fn context_numbers<T: ByteStore>(dfa: &DFA<T>) -> [u8; 256]
     numbers
 }
 
-/// How many patterns have starts of their own, as a word.
+/// The number of patterns with start rows of their own, as a word.
 fn patterns_word<T: ByteStore>(dfa: &DFA<T>) -> u32
     requires { IsShaped dfa.now.layout }
     ensures { result ≡ number_or_none dfa.now.layout.pattern_starts }
@@ -146,7 +146,7 @@ fn put_start_table<E: Endian, T: ByteStore>(dfa: &DFA<T>, dst: &mut [u8], at: us
     put_starts::<E, T>(dfa, dst, second)
 }
 
-/// How many bytes an image has.
+/// The length of an image in bytes.
 pub(crate) fn image_len<T: ByteStore>(dfa: &DFA<T>) -> usize
     ensures value { result ≡ image_len dfa.now.layout }
     ensures text { (order : Order) → length (text order dfa.now.layout) ≡ result }
@@ -155,7 +155,7 @@ pub(crate) fn image_len<T: ByteStore>(dfa: &DFA<T>) -> usize
     656 + dfa.row_bytes().len() + 4 * dfa.start_len()
 }
 
-/// Writes an image at the front of `dst`, and answers how many bytes it has.
+/// Writes an image at the front of `dst` and returns its length.
 pub(crate) fn put_image<E: Endian, T: ByteStore>(
     order: Order,
     dfa: &DFA<T>,

@@ -1,4 +1,4 @@
-//! Reading of whole images.
+//! Reads whole images.
 
 ghost use Rattle.std.specs.Prelude.{◌≡◌, IfOk};
 ghost use Rattle.rx_wire.specs.Kinds.{Gives};
@@ -19,7 +19,7 @@ use std::alloc::Global;
 /// The label of sparse images.
 const LABEL: &str = "rust-regex-automata-dfa-sparse";
 
-/// The parts of an image, whose rows and start ids lie where they are.
+/// The parts of an image. The bytes of rows and start ids stay where they are.
 #[derive(Drop)]
 pub(crate) struct Image<'a> {
     /// All parts but the bytes.
@@ -30,12 +30,15 @@ pub(crate) struct Image<'a> {
     pub starts: &'a [u8],
 }
 
-/// Reads sparse tables where they lie: `DFA::<&[u8]>::from_bytes(alloc, bytes)`.
+/// Reads sparse tables in place: `DFA::<&[u8]>::from_bytes(alloc, bytes)`.
 pub trait SparseRead<'a> {
-    /// The table that bytes begin with, and how many of them it takes. Numbers may stand in either order, which is the
-    /// table's. The table borrows the bytes; memory serves the test that ids are those of rows.
+    /// Reads the table that `slice` begins with and returns it with the length of its image. The image may be in either
+    /// byte order, which the table keeps. The table borrows the image; memory is taken only while the reader tests that
+    /// every transition leads to a state.
     ///
-    /// The error says which test fails first, or that memory ran out.
+    /// # Errors
+    ///
+    /// The kind of the first test that fails, or `Memory` if memory runs out.
     fn from_bytes(
         alloc: Global,
         slice: &'a [u8],
@@ -78,7 +81,7 @@ fn split_image(bytes: &[u8]) -> Result<(Image<'_>, &[u8]), DeserializeError>
     Ok((image, rest))
 }
 
-/// What the numbers of rows are held against.
+/// The bounds of the numbers in rows.
 fn bounds_of(image: &Image<'_>) -> Bounds
     ensures { result ≡ bounds_of (seen_image image.now) }
 {
@@ -91,7 +94,7 @@ fn bounds_of(image: &Image<'_>) -> Bounds
     }
 }
 
-/// The table that some bytes begin with, and how many of them it takes.
+/// The table that some bytes begin with, and the length of its image.
 #[tactic(auto, unfolding(crate::specs::Images::reads))]
 fn read_table(alloc: Global, bytes: &[u8]) -> Result<(DFA<&[u8]>, usize), DeserializeError>
     ensures read { Gives (λ x. (x.0, x.1)) result (reads bytes.now) }

@@ -1,4 +1,4 @@
-//! The rows of an image before any is read, and what stands before them.
+//! The rows of an image before they are tested, and what comes before them.
 
 ghost use Rattle.std.specs.Prelude.{◌≡◌, ◌≤◌, ◌^◌, ◌<◌, IfOk, length};
 ghost use Rattle.rx_spec.specs.Causes.{id_count};
@@ -10,12 +10,12 @@ use rx_dense_image::both::{classes_of, count_of};
 use rx_wire::{DeserializeError, Order, split_bytes};
 use std::marker::Model;
 
-/// Rows that weren't read yet.
+/// Rows that aren't tested yet.
 #[derive(Drop)]
 pub(crate) struct RowBytes<'a> {
-    /// How many rows an image tells.
+    /// The number of rows that the image states.
     pub state_len: usize,
-    /// How many patterns there are.
+    /// The number of patterns.
     pub pattern_len: usize,
     /// The class of each byte.
     pub classes: ByteClasses,
@@ -36,7 +36,7 @@ impl<'a> Model for RowBytes<'a> {
     } };
 }
 
-/// The classes that some bytes name. The number of patterns before them is tested first.
+/// The classes that some bytes spell. Tests the number of patterns, which comes before them, first.
 fn tested_classes(pattern_len: usize, bytes: &[u8]) -> Result<ByteClasses, DeserializeError>
     requires { length bytes.now ≡ 256 }
     ensures read { Gives (λ classes. classes) result (tested_classes pattern_len bytes.now) }
@@ -66,7 +66,7 @@ fn split_settings(
     Ok(((count_of(pattern_len), classes), rest))
 }
 
-/// The rows that aren't read yet, and the bytes after them.
+/// The rows, untested, and the bytes after them.
 #[tactic(auto, unfolding(crate::specs::RowBytes::row_bytes_at))]
 pub(crate) fn split_row_bytes(
     order: Order,

@@ -1,4 +1,4 @@
-//! The parts of a row, as they lie in bytes.
+//! The parts of a row in memory.
 
 ghost use Rattle.std.specs.Prelude.{◌≡◌, ◌+◌, ◌-◌, ◌*◌, ◌/◌, ◌<◌, ◌≤◌, ◌∷◌, drop, length, map};
 ghost use Rattle.std.specs.List.{range_with_len};
@@ -14,19 +14,19 @@ use rx_wire::Order;
 /// The bytes of a row, part by part.
 #[derive(Clone, Copy)]
 pub(crate) struct RowParts<'a> {
-    /// How many ranges there are with that of the end mark, and in the highest bit whether there are patterns.
+    /// The number of ranges with that of end of input. The highest bit is set for a match row.
     pub head: u16,
-    /// The first and the last class of each range, and of the end mark.
+    /// The first and last class of each range and of end of input.
     pub ends: &'a [u8],
-    /// The ids to which the ranges and the end mark lead.
+    /// The ids to which the ranges and end of input lead.
     pub next_ids: &'a [u8],
-    /// How many patterns there are, and the patterns: of no match row a byte.
+    /// The number of patterns and the patterns. Empty unless the row is a match row.
     pub patterns: &'a [u8],
-    /// How many needles there are, and the needles.
+    /// The number of needles and the needles.
     pub needles: &'a [u8],
 }
 
-/// The number of two bytes.
+/// The number that two bytes spell.
 #[tactic(auto, using(rx_sparse::proofs::WordBytes::two))]
 fn head_number(order: Order, bytes: &[u8]) -> u16
     requires { length bytes.now ≡ 2 }
@@ -35,7 +35,7 @@ fn head_number(order: Order, bytes: &[u8]) -> u16
     order.u16_from_bytes([bytes[0], bytes[1]])
 }
 
-/// How many bytes the patterns of a row take, with their count.
+/// The length in bytes of a row's patterns with their count.
 fn patterns_len(order: Order, is_match: bool, rest: &[u8]) -> usize
     requires { patterns_len order is_match rest.now < length rest.now }
     ensures { result ≡ patterns_len order is_match rest.now }
@@ -47,7 +47,7 @@ fn patterns_len(order: Order, is_match: bool, rest: &[u8]) -> usize
     }
 }
 
-/// The parts of the row at the front of some bytes, and the bytes after it.
+/// The parts of the row that some bytes begin with, and the bytes after it.
 pub(crate) fn split_parts(order: Order, bytes: &[u8]) -> (RowParts<'_>, &[u8])
     requires { IsWholeRow order bytes.now }
     ensures head { result.0.head ≡ head_number (row_in order bytes.now) }
@@ -76,14 +76,14 @@ pub(crate) fn split_parts(order: Order, bytes: &[u8]) -> (RowParts<'_>, &[u8])
 }
 
 impl<'a> RowParts<'a> {
-    /// How many ranges there are, with that of the end mark.
+    /// The number of ranges, with that of end of input.
     pub(crate) fn len(&self) -> usize
         ensures { result ≡ length self.now.ends.now / 2 }
     {
         self.ends.len() / 2
     }
 
-    /// The id to which a range leads, by its place. That of the end mark is the last.
+    /// The id to which the range at an index leads. That of end of input is the last.
     pub(crate) fn next_id(&self, order: Order, i: usize) -> usize
         requires { 4 * i + 4 ≤ length self.now.next_ids.now }
         ensures { result ≡ word_at order self.now.next_ids.now i }
@@ -91,7 +91,7 @@ impl<'a> RowParts<'a> {
         word_at(order, self.next_ids, i) as usize
     }
 
-    /// The id to which a class leads: 0, where no range has it.
+    /// The id to which a class leads, or 0 if no range has the class.
     pub(crate) fn next(&self, order: Order, class: u8) -> usize
         requires some { 2 ≤ length self.now.ends.now }
         requires words { length self.now.next_ids.now ≡ 2 * length self.now.ends.now }

@@ -1,4 +1,4 @@
-//! Where rows begin.
+//! The set of places where rows begin.
 
 ghost use Rattle.std.specs.Prelude.{◌≡◌, ◌<◌, IfOk, length, replicate, false, true};
 ghost use Rattle.rx_sparse_image.specs.RowSets.{begins_at, marked};
@@ -8,12 +8,12 @@ use std::alloc::{AllocError, Global};
 /// The places at which rows begin.
 #[derive(Drop)]
 pub(crate) struct RowSet {
-    /// Whether a row begins at a place.
+    /// For each place, whether a row begins there.
     begins: Vec<bool>,
 }
 
 impl RowSet {
-    /// No row begins in so many bytes.
+    /// The empty set of places in `len` bytes.
     pub(crate) fn new(alloc: Global, len: usize) -> Result<RowSet, AllocError>
         ensures { IfOk result (λ rows. rows.begins.items ≡ replicate len false) }
     {
@@ -22,7 +22,7 @@ impl RowSet {
         })
     }
 
-    /// A row begins at a place.
+    /// Adds a place.
     pub(crate) fn insert(&mut self, at: usize)
         requires { at < length self.old.begins.items }
         ensures { self.new.begins.items ≡ marked self.old.begins.items at }

@@ -1,4 +1,4 @@
-//! The start table of an image, whose ids stay where they lie.
+//! The start table of an image, whose ids stay where they are.
 
 ghost use Rattle.std.specs.Prelude.{◌≡◌, ◌*◌, ◌/◌, ◌%◌, IfOk, length};
 ghost use Rattle.rx_wire.specs.Kinds.{Gives};
@@ -13,24 +13,24 @@ use rx_dense_image::both::{
 };
 use rx_wire::{DeserializeError, Order, split_items};
 
-/// A start table that was read.
+/// The start table of an image.
 #[derive(Drop)]
 pub(crate) struct StartTable<'a> {
     /// For which modes there are start rows.
     pub start_kind: StartKind,
     /// The start context of each byte.
     pub contexts: [Start; 256],
-    /// How many patterns have starts of their own, if any have.
+    /// The number of patterns with start rows of their own, if there are such.
     pub pattern_starts: Option<usize>,
-    /// The start row of an unanchored search, whatever stands beside its span.
+    /// The start row of an unanchored search if it is the same for each byte beside the span.
     pub universal_unanchored: Option<StateID>,
-    /// The start row of an anchored search, whatever stands beside its span.
+    /// The start row of an anchored search if it is the same for each byte beside the span.
     pub universal_anchored: Option<StateID>,
     /// The bytes of the ids of the start rows.
     pub starts: &'a [u8],
 }
 
-/// The bytes of so many ids of start rows, and the bytes after them.
+/// The bytes of `count` ids of start rows, and the bytes after them.
 #[tactic(auto, unfolding(rx_dense_image::specs::Rows::words_at))]
 fn split_start_ids<'a>(
     order: Order,

@@ -1,4 +1,4 @@
-//! Rows, written in another order of their numbers' bytes.
+//! Writes rows in another byte order.
 
 ghost use Rattle.std.specs.Prelude.{◌≡◌, ◌+◌, ◌/◌, ◌%◌, ◌<◌, ◌≤◌, drop, length};
 ghost use Rattle.std.specs.Int.{w16};
@@ -24,7 +24,7 @@ fn put_half<E: Endian>(number: u16, dst: &mut [u8], at: usize) -> usize
     at + 2
 }
 
-/// Words, each from its bytes in an order.
+/// Writes words that are in the byte order `order`.
 fn put_words<E: Endian>(order: Order, words: &[u8], dst: &mut [u8], at: usize) -> usize
     requires whole { length words.now % 4 ≡ 0 }
     requires fits { at + length words.now ≤ length dst.old }
@@ -41,7 +41,7 @@ fn put_words<E: Endian>(order: Order, words: &[u8], dst: &mut [u8], at: usize) -
     end
 }
 
-/// The row at the front of some bytes. Answers the bytes after it, too.
+/// Writes the row that some bytes begin with. Returns the bytes after it too.
 fn put_row<'a, E: Endian>(
     order: Order,
     bytes: &'a [u8],
@@ -63,7 +63,7 @@ fn put_row<'a, E: Endian>(
     (put_plain(row.needles, dst, end), rest)
 }
 
-/// So many rows, from their bytes in an order.
+/// Writes rows that are in the byte order `order`.
 pub(crate) fn put_rows<E: Endian>(
     order: Order,
     count: usize,

@@ -1,4 +1,4 @@
-//! The rows of an image, one behind another, each with the tests that it must pass by itself.
+//! Walks over the rows of an image and applies the tests of each row alone.
 
 ghost use Rattle.std.specs.Prelude.{◌≡◌, ◌+◌, ◌-◌, ◌*◌, ◌<◌, ◌≤◌, ◌==◌, ◌&&◌, IfOk, drop, length, slice_index};
 ghost use Rattle.rx_wire.specs.Kinds.{Gives, GivesExactly};
@@ -18,22 +18,22 @@ use rx_dense_image::both::{is_in_range, is_named, word_at};
 use rx_wire::{DeserializeError, DeserializeErrorKind, Order, split_bytes, split_items};
 use std::alloc::Global;
 
-/// What the numbers of a row are held against.
+/// The bounds of the numbers in rows.
 #[derive(Clone, Copy)]
 pub(crate) struct Bounds {
-    /// The order of their bytes.
+    /// The byte order of the numbers.
     pub order: Order,
-    /// Which rows are special.
+    /// The special ids.
     pub special: Special,
     /// The greatest class of a byte.
     pub last_class: u8,
-    /// How many patterns there are.
+    /// The number of patterns.
     pub pattern_len: usize,
-    /// How many bytes all rows have.
+    /// The length of all rows in bytes.
     pub len: usize,
 }
 
-/// Whether the last of so many ranges stands for the end mark.
+/// Whether the last of `count` ranges is that of end of input.
 fn is_end_mark(count: usize, ends: &[u8]) -> bool
     requires some { 1 ≤ count }
     requires len { length ends.now ≡ 2 * count }
@@ -55,14 +55,14 @@ impl Bounds {
         is_in_range(self.special.min_accel, self.special.max_accel, at)
     }
 
-    /// Whether the row at a place is dead, quit or in a range, where it is special.
+    /// Whether the row at a place, if its id is special, is dead, quit or in a range.
     fn may_be_special(&self, at: usize) -> bool
         ensures { result ≡ may_be_special self.now at }
     {
         at > self.special.max.as_usize() || is_named(&self.special, at)
     }
 
-    /// Whether a row may have so many ranges and patterns or none.
+    /// Whether a row may have this number of ranges, and patterns or none.
     fn is_head(&self, at: usize, head: usize) -> bool
         ensures { result ≡ is_head self.now at head }
     {
@@ -80,7 +80,7 @@ impl Bounds {
         }
     }
 
-    /// Whether the count of a row's needles is there, and may be.
+    /// Whether the number of a row's needles is there and allowed.
     fn has_count(&self, at: usize, bytes: &[u8]) -> bool
         ensures { result ≡ has_count (is_accel_id self.now.special at) bytes.now }
     {
@@ -97,7 +97,7 @@ impl Bounds {
         }
     }
 
-    /// The number that tells how many ranges the row at a place has and whether it has patterns, and the bytes after
+    /// The number that states how many ranges the row at a place has and whether it has patterns, and the bytes after
     /// it.
     #[tactic(auto, unfolding(crate::specs::Walks::head_at))]
     fn split_head<'a>(
@@ -120,7 +120,7 @@ impl Bounds {
         Ok((head, rest))
     }
 
-    /// Whether a range, by its place, is one of byte classes and begins behind the one before it.
+    /// Whether the range at an index is one of byte classes and begins after the range before it.
     fn is_range_at(&self, ends: &[u8], i: usize) -> bool
         requires { 2 * i + 1 < length ends.now }
         ensures { result ≡ is_range_at self.now.last_class ends.now i }
@@ -130,7 +130,7 @@ impl Bounds {
         first <= last && last <= self.last_class && (i == 0 || ends[2 * i - 1] < first)
     }
 
-    /// Whether so many ranges rise over byte classes, and the last stands for the end mark.
+    /// Whether `count` ranges rise over byte classes, and the last is that of end of input.
     fn are_ends(&self, count: usize, ends: &[u8]) -> bool
         requires some { 1 ≤ count }
         requires len { length ends.now ≡ 2 * count }
@@ -144,7 +144,7 @@ impl Bounds {
         is_end_mark(count, ends)
     }
 
-    /// The ends of so many ranges, and the bytes after them.
+    /// The first and last classes of `count` ranges, and the bytes after them.
     #[tactic(auto, unfolding(crate::specs::Walks::ends_at))]
     fn split_ends<'a>(
         &self,
@@ -177,7 +177,7 @@ impl Bounds {
         }
     }
 
-    /// So many ids of next rows, and the bytes after them.
+    /// The ids of `count` next rows, and the bytes after them.
     #[tactic(auto, unfolding(crate::specs::Walks::next_ids_at))]
     fn split_next_ids<'a>(
         &self,
@@ -259,7 +259,7 @@ impl Bounds {
         split_bytes(count, &bytes[1..], "needles")
     }
 
-    /// Tests that the end mark doesn't lead to quit, and that the next row's place is an id.
+    /// Tests that end of input doesn't lead to quit, and that the place of the next row is an id.
     fn test_row(&self, eoi: u32, next: usize) -> Result<(), DeserializeError>
         ensures { GivesExactly (λ _. next) result (tested_next self.now eoi next) }
     {
@@ -296,7 +296,7 @@ impl Bounds {
     }
 }
 
-/// Tests all rows, and answers how many there are and where they begin.
+/// Tests all rows. Returns their number and where they begin.
 pub(crate) fn walk(
     alloc: Global,
     bounds: &Bounds,

@@ -1,4 +1,4 @@
-//! Writing of whole images.
+//! Writes whole images.
 
 ghost use Rattle.std.specs.Prelude.{◌≡◌, List, IfOk, length};
 ghost use Rattle.rx_wire.specs.declared.order.Order.{Order};
@@ -27,7 +27,7 @@ fn write_image<E: Endian, T: ByteStore>(
     Ok(put_image::<E, T>(order, dfa, dst))
 }
 
-/// Writes an image into a destination that it fills.
+/// Fills a destination with an image of the same length.
 fn fill_image<E: Endian, T: ByteStore>(order: Order, dfa: &DFA<T>, dst: &mut [u8])
     requires order { order ≡ E.order }
     requires shaped { IsShaped dfa.now.layout }
@@ -51,39 +51,39 @@ fn image_bytes<E: Endian, T: ByteStore>(
     Ok(bytes)
 }
 
-/// Writes sparse tables, in whichever order they are. The native order is little endian.
+/// Writes sparse tables, whatever their byte order. The native byte order is little endian.
 pub trait SparseWrite {
-    /// What the table is.
+    /// The layout of the table.
     ghost layout: { Self → Layout };
 
-    /// How many bytes the image has, in either order.
+    /// The length of the image in bytes, the same in both byte orders.
     fn write_to_len(&self) -> usize
         ensures { (order : Order) → result ≡ length (text order (layout self.now)) };
 
-    /// Writes the little endian image at the front of `dst`, and answers its length. Where `dst` is shorter, nothing
-    /// is written; the bytes after the image stay.
+    /// Writes the little-endian image at the front of `dst` and returns its length. The bytes after it are unchanged.
+    /// If `dst` is shorter, returns an error and writes nothing.
     fn write_to_little_endian(&self, dst: &mut [u8]) -> Result<usize, SerializeError>
         ensures { Writes (text Little (layout self.now)) dst.old dst.new result };
 
-    /// Writes the big endian image at the front of `dst`, and answers its length. Where `dst` is shorter, nothing is
-    /// written; the bytes after the image stay.
+    /// Writes the big-endian image at the front of `dst` and returns its length. The bytes after it are unchanged. If
+    /// `dst` is shorter, returns an error and writes nothing.
     fn write_to_big_endian(&self, dst: &mut [u8]) -> Result<usize, SerializeError>
         ensures { Writes (text Big (layout self.now)) dst.old dst.new result };
 
-    /// Writes the image in native order at the front of `dst`, and answers its length. Where `dst` is shorter, nothing
-    /// is written; the bytes after the image stay.
+    /// Writes the image in native order at the front of `dst` and returns its length. The bytes after it are unchanged.
+    /// If `dst` is shorter, returns an error and writes nothing.
     fn write_to_native_endian(&self, dst: &mut [u8]) -> Result<usize, SerializeError>
         ensures { Writes (text Little (layout self.now)) dst.old dst.new result };
 
-    /// The little endian image.
+    /// The little-endian image. The only error is that memory runs out.
     fn to_bytes_little_endian(&self, alloc: Global) -> Result<Vec<u8>, AllocError>
         ensures { IfOk result (λ bytes. bytes.items ≡ text Little (layout self.now)) };
 
-    /// The big endian image.
+    /// The big-endian image. The only error is that memory runs out.
     fn to_bytes_big_endian(&self, alloc: Global) -> Result<Vec<u8>, AllocError>
         ensures { IfOk result (λ bytes. bytes.items ≡ text Big (layout self.now)) };
 
-    /// The image in native order.
+    /// The image in native order. The only error is that memory runs out.
     fn to_bytes_native_endian(&self, alloc: Global) -> Result<Vec<u8>, AllocError>
         ensures { IfOk result (λ bytes. bytes.items ≡ text Little (layout self.now)) };
 }

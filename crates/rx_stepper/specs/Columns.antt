@@ -1,4 +1,4 @@
--- Which columns rows read, and which columns are of one group: those whose units the assertions don't tell apart.
+-- The columns that rows read, and groups of columns: no assertion distinguishes the units of a group.
 use Rattle.std.specs.Prelude.{ℕ, ◌≡◌, ◌<◌, ◌≤◌, ◌==◌, Bool, true, false, if◌then◌else◌, Option, Some, None, List, []}
 use Rattle.std.specs.Prelude.{◌∷◌, length, filter, All, slice_get, slice_index, slice_index_or, slice_range}
 use Rattle.std.specs.List.{flat_map, range_with_len}

@@ -1,5 +1,5 @@
--- The parts of a stepper fit: the columns are those of its NFA and classes, and the state that is being stepped and the
--- lead-in have what its columns need.
+-- The parts of a stepper fit each other: the columns are those of its NFA and classes, and the current state and the
+-- lead-in have what the columns need.
 use Rattle.std.specs.Prelude.{ℕ, ◌≡◌, true, Some, None, if◌then◌else◌, List, length, slice_get, slice_index, map}
 use Rattle.rx_spec.specs.Nfas.{Nfa}
 use Rattle.rx_spec.specs.declared.MatchKind.{MatchKind}

@@ -1,4 +1,5 @@
--- Rows that end with those of the unanchored start, the lead-in's, and what of them has to be written.
+-- The lead-in: the rows of the unanchored start, with which most states of an unanchored search end, and which of them
+-- must be written.
 use Rattle.std.specs.Prelude.{ℕ, ◌≡◌, ◌==◌, Bool, true, false, if◌then◌else◌, List, [], ◌∷◌, ◌++◌}
 use Rattle.std.specs.List.{list_any}
 use Rattle.std.specs.Str.{bytes_eq}

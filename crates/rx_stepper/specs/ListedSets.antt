@@ -1,4 +1,4 @@
--- Sets of bytes whose columns stand listed among those of all rows.
+-- Sets of bytes whose columns are listed among those of all rows.
 use Rattle.std.specs.Prelude.{ℕ, ◌≡◌, ◌<◌, ◌≤◌, List, length, All, slice_range}
 use Rattle.rx_spec.specs.Rows.{Row}
 use Rattle.rx_stepper.specs.Columns.{read_by, columns_of, next_of}

@@ -1,4 +1,4 @@
--- Where the rows of a list stand in it.
+-- The indices of rows in a list.
 use Rattle.std.specs.Prelude.{ℕ, ◌≡◌, ◌<◌, ◌≤◌, Bool, true, false, Some, List, length, slice_get, slice_index_or}
 
 -- what stands for no place: no list of rows is as long

@@ -1,4 +1,4 @@
--- The searches that list a closure, one from each of the rows that are given.
+-- The searches that list a closure, one from each given row.
 use Rattle.std.specs.Prelude.{ℕ, ◌≡◌, ◌+◌, ◌<◌, ◌≤◌, ◌==◌, ◌++◌, true, List, [], ◌∷◌, length, reverse, Option}
 use Rattle.std.specs.Prelude.{option_to_list}
 use Rattle.std.specs.List.{list_any, AllByRecursion as Every}

@@ -1,4 +1,4 @@
--- A stepper of the code as what it steps.
+-- The `Stepping` that a stepper of the code means.
 use Rattle.rx_expr.specs.Nfa.{meaning}
 use Rattle.rx_stepper.specs.Keys.{is_key, spelled}
 use Rattle.rx_stepper.specs.Leads.{lead_of}

@@ -1,4 +1,4 @@
--- What steps the states of an NFA, which are kept as lists of numbers, their keys.
+-- Steps of the states of an NFA, which are kept as lists of numbers, their keys.
 use Rattle.std.specs.Prelude.{ℕ, ◌≡◌, ◌≤◌, ◌<◌, ◌^◌, All, Bool, true, false, Option, MatchOption, List, [], ◌∷◌, ◌++◌}
 use Rattle.std.specs.Prelude.{length, slice_index}
 use Rattle.rx_spec.specs.Bytes.{eoi}

@@ -1,4 +1,4 @@
--- What the columns of a table need for the steps of some rows, and the state that follows.
+-- What the steps of some rows need on each column, and the state that follows.
 use Rattle.std.specs.Prelude.{ℕ, ◌≡◌, ◌<◌, ◌≤◌, Bool, true, false, if◌then◌else◌, List, [], ◌∷◌, length, filter}
 use Rattle.std.specs.Prelude.{slice_index}
 use Rattle.std.specs.List.{flat_map, list_any}

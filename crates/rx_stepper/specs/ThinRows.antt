@@ -1,4 +1,4 @@
--- Rows as closures see them: what a row reads is left out.
+-- Rows as closures need them, without the bytes that they read.
 use Rattle.std.specs.Prelude.{ℕ, ◌≡◌, Bool, true, false, List, slice_get, unwrap_or}
 use Rattle.rx_spec.specs.Rows.{Row}
 use Rattle.rx_spec.specs.Contexts.{holds_read}

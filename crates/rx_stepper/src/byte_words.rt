@@ -6,7 +6,7 @@ ghost use Rattle.rx_stepper.specs.ByteWords.{set_of_words};
 
 use rx_base::ByteSet;
 
-/// A set of bytes as words: a bit for each byte, 64 to a word, so that one shift tests a byte.
+/// A set of bytes as four words of 64 bits, so that one shift tests a byte.
 #[derive(Clone, Copy)]
 pub(crate) struct ByteWords {
     words: [u64; 4],

@@ -1,4 +1,4 @@
-//! The rows that are reached without reading a byte, in room that is taken once.
+//! Closures: the NFA rows that are reached without reading a byte, in memory that is taken once.
 
 ghost use Rattle.std.specs.Prelude.{◌≡◌, ℕ, ◌+◌, ◌<◌, ◌≤◌, ◌==◌, ◌++◌, ◌∷◌, [], true, false, length, reverse, IfOk};
 ghost use Rattle.std.specs.Prelude.{vec_capacity, IfNone};
@@ -19,12 +19,12 @@ use rx_base::{Direction, Facts, Look, StateID};
 use rx_expr::thompson::NFA;
 use std::alloc::{AllocError, Global};
 
-/// What becomes of an assertion that is met.
+/// What to do with an assertion.
 #[derive(Clone, Copy)]
 pub(crate) enum Passing {
-    /// It stands for itself.
+    /// Keep it: it is decided when the next unit is known.
     Standing,
-    /// It is passed where it holds between the unit read last and the next one.
+    /// Pass it if it holds between the last unit and the next one.
     Tested {
         last: Facts,
         next: Facts,
@@ -42,13 +42,13 @@ fn holds(look: Look, last: Facts, next: Facts, direction: Direction) -> bool
     }
 }
 
-/// What lists closures of an NFA's rows.
+/// Lists closures of an NFA's rows.
 #[derive(Drop)]
 pub(crate) struct Closures<'n> {
     pub(crate) nfa: &'n NFA,
     pub(crate) thin: Vec<ThinRow>,
     stamps: Stamps,
-    /// The rows that a search is still to look at behind the one in hand, the next of them last.
+    /// The rows that the search still has to visit after the current one, the next of them last.
     waiting: Vec<StateID>,
     /// Whether some row of the NFA is an assertion.
     asks: bool,
@@ -60,7 +60,7 @@ pub(crate) struct Closures<'n> {
 }
 
 impl<'n> Closures<'n> {
-    /// Takes the room that closures of an NFA's rows need.
+    /// Takes the memory that closures of an NFA's rows need.
     pub(crate) fn new(alloc: Global, nfa: &'n NFA) -> Result<Closures<'n>, AllocError>
         ensures { IfOk result (λ c. c.nfa.now ≡ nfa.now) }
     {
@@ -77,8 +77,8 @@ impl<'n> Closures<'n> {
         })
     }
 
-    /// Lists the rows that are reached from some rows without reading a byte: the preferred first, and each once. The
-    /// list must have room for all rows. Those of them that are listed themselves are told by `is_met`.
+    /// Lists the rows that are reached from `from` without reading a byte: each once, the preferred first. `found` must
+    /// have room for all rows. Afterwards `is_met` says which rows were listed that stand for themselves.
     pub(crate) fn list(&mut self, from: &[StateID], passing: &Passing, found: &mut Vec<StateID>)
         requires { length (meaning self.old.nfa.now).rows ≤ vec_capacity found.old }
         ensures nfa { self.new.nfa.now ≡ self.old.nfa.now }
@@ -99,7 +99,7 @@ impl<'n> Closures<'n> {
         self.list_joined(from, passing, found);
     }
 
-    /// Lists the rows that are reached from two lists of rows, one behind the other, as `list` does from one.
+    /// Lists the rows that are reached from two lists of rows, the second after the first, as `list` does from one.
     pub(crate) fn list_joined(
         &mut self,
         from: Joined<'_>,
@@ -126,7 +126,7 @@ impl<'n> Closures<'n> {
         self.add(from.second, passing, found);
     }
 
-    /// Lists the rows that some rows reach, but for those that are listed already.
+    /// Lists the rows that some rows reach and that aren't listed yet.
     fn add(&mut self, from: &[StateID], passing: &Passing, found: &mut Vec<StateID>)
         requires waiting { self.old.waiting.items ≡ [] }
         requires room { length (meaning self.old.nfa.now).rows ≤ vec_capacity found.old }
@@ -155,7 +155,7 @@ impl<'n> Closures<'n> {
         }
     }
 
-    /// Whether a search that begins at a row ends there at once, so that it needs no stack, as at most rows.
+    /// Whether a search ends at this row at once, as at most rows, and so needs no stack.
     #[inline]
     fn stops(&self, row: StateID) -> bool
         ensures itself { result ≡ true → ReachesItself (meaning self.now.nfa.now).rows row }
@@ -167,7 +167,7 @@ impl<'n> Closures<'n> {
         }
     }
 
-    /// Lists the rows that one row reaches, but for those that are listed already.
+    /// Lists the rows that one row reaches and that aren't listed yet.
     fn search(&mut self, row: StateID, passing: &Passing, found: &mut Vec<StateID>)
         requires waiting { self.old.waiting.items ≡ [] }
         requires room { length (meaning self.old.nfa.now).rows ≤ vec_capacity found.old }
@@ -200,7 +200,7 @@ impl<'n> Closures<'n> {
         }
     }
 
-    /// Whether a row that stands for itself was listed last.
+    /// Whether a row that stands for itself was listed by the last call.
     pub(crate) fn is_met(&self, row: StateID) -> bool
         ensures { result ≡ is_met self.now.stamps.stamps.items self.now.stamps.now row }
     {
@@ -224,7 +224,7 @@ impl<'n> Closures<'n> {
     }
 }
 
-/// Puts a row at the end, where there is room.
+/// Adds a row at the end. There must be room.
 #[inline]
 fn put(rows: &mut Vec<StateID>, row: StateID)
     requires { length rows.old.items < vec_capacity rows.old }
@@ -237,7 +237,7 @@ fn put(rows: &mut Vec<StateID>, row: StateID)
     }
 }
 
-/// The row in hand, or else the one that is taken from the top of the stack.
+/// The current row, or the one on top of the stack, which is removed.
 #[inline]
 fn hand_or_top(hand: Option<StateID>, waiting: &mut Vec<StateID>) -> Option<StateID>
     ensures order { in_turn result waiting.new.items ≡ in_turn hand waiting.old.items }
@@ -251,8 +251,7 @@ fn hand_or_top(hand: Option<StateID>, waiting: &mut Vec<StateID>) -> Option<Stat
     }
 }
 
-/// Lists a row where the search ends at it, and else gives the preferred of the rows behind it; the other one it puts
-/// on the stack.
+/// Lists a row that ends the search. Otherwise returns the preferred row behind it and pushes the other on the stack.
 fn enter(
     row: ThinRow,
     id: StateID,

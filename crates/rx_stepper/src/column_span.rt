@@ -1,8 +1,8 @@
-//! Where the columns of a row stand.
+//! The columns that a row reads, as a range.
 
 use rx_base::StateID;
 
-/// Where the columns that a row reads stand among those of all rows, and where it leads.
+/// The range of a row's columns among those of all rows, and the row that follows.
 #[derive(Clone, Copy)]
 pub(crate) struct ColumnSpan {
     pub(crate) start: usize,

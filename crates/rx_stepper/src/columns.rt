@@ -12,7 +12,7 @@ use rx_base::{ByteClasses, Unit};
 use rx_expr::thompson::NFA;
 use std::alloc::{AllocError, Global};
 
-/// What rows and assertions make of the columns of a table.
+/// What the rows and assertions of an NFA make of the columns of a table.
 #[derive(Drop)]
 pub(crate) struct Columns {
     pub(crate) reading: Reading,
@@ -22,7 +22,7 @@ pub(crate) struct Columns {
 impl Columns {
     ghost use Rattle.rx_stepper.specs.Units.{units_of};
 
-    /// Those of an NFA, where these classes have a column each and the end mark has one.
+    /// The columns of an NFA's table: one for each class and one for the end of input.
     pub(crate) fn new(
         alloc: Global,
         nfa: &NFA,
@@ -41,7 +41,7 @@ impl Columns {
     }
 }
 
-/// The units that stand for the columns: the least byte of each class, and the end mark.
+/// The units that stand for the columns: the least byte of each class, and the end of input.
 fn units_of(alloc: Global, classes: &ByteClasses) -> Result<Vec<Unit>, AllocError>
     ensures { IfOk result (λ v. map unit_number v.items ≡ units_of classes.now) }
 {

@@ -1,4 +1,4 @@
-//! The state that is being stepped.
+//! The current state of a stepper.
 
 ghost use Rattle.std.specs.Prelude.{◌≡◌, ℕ, List, All, true, ◌<◌, ◌≤◌, ◌+◌, ◌++◌, if◌then◌else◌, [], Some, None, map};
 ghost use Rattle.std.specs.Prelude.{length, slice_index, vec_capacity, IfOk, OnOk};
@@ -16,15 +16,15 @@ use crate::steps::Steps;
 use rx_base::{MatchKind, StateID};
 use std::alloc::{AllocError, Global};
 
-/// A state, and what the columns of a table need for the steps of the rows that are written in its key.
+/// A state, and for each column what the steps of the rows in its key need.
 #[derive(Drop)]
 pub(crate) struct Current {
-    /// Its key; none where it is dead.
+    /// Its key. Empty for the dead state.
     pub(crate) key: Vec<u32>,
-    /// The rows that are written.
+    /// The rows in its key.
     rows: Vec<StateID>,
     pub(crate) steps: Steps,
-    /// The number of what is known of the unit read last, where the lead-in's other rows follow those that are written.
+    /// The number of the facts about the last unit, if the other rows of the lead-in follow those in the key.
     pub(crate) led_in: Option<u8>,
 }
 
@@ -58,7 +58,7 @@ impl Current {
         self.led_in = None;
     }
 
-    /// Makes it the state of a key, and finds what its columns need.
+    /// Makes it the state of a key, and finds what the steps need.
     pub(crate) fn begin(
         &mut self,
         closures: &mut Closures<'_>,

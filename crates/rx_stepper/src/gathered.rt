@@ -1,4 +1,4 @@
-//! What is gathered for a column: where a state's rows lead, and its label.
+//! What is collected for a column: the rows that follow, and the label.
 
 ghost use Rattle.std.specs.Prelude.{◌≡◌, ◌<◌, ◌++◌, [], false, map, length, OnOk, IfSome};
 ghost use Rattle.std.specs.Option.{option_map_or};
@@ -13,7 +13,7 @@ use crate::steps::Steps;
 use rx_base::PatternID;
 use std::alloc::AllocError;
 
-/// Where a column leads the own rows, and behind that where it leads the lead-in's, where they go on.
+/// The rows to which a column leads the own rows, and after them those to which it leads the lead-in's, if these go on.
 pub(crate) fn targets<'s>(own: &'s Steps, lead: Option<&'s Steps>, column: usize) -> Joined<'s>
     requires column { column < length own.now.targets.items }
     requires lead_column { IfSome lead (λ steps. column < length steps.now.targets.items) }
@@ -30,8 +30,8 @@ pub(crate) fn targets<'s>(own: &'s Steps, lead: Option<&'s Steps>, column: usize
     }
 }
 
-/// Writes the patterns that match before the units of a group, over those that were written last: those of the own
-/// rows, and the others of the lead-in's where they go on.
+/// Replaces the label by the patterns that match before the units of a group: those of the own rows, and then the
+/// others of the lead-in's rows, if these go on.
 pub(crate) fn write_label(
     closures: &Closures<'_>,
     own: &Steps,
@@ -60,7 +60,7 @@ pub(crate) fn write_label(
     Ok(())
 }
 
-/// Whether some of the lead-in's rows may match, where they go on.
+/// Whether some row of the lead-in may match, if these go on.
 fn may_match(lead: Option<&Steps>) -> bool
     ensures { result ≡ false → IfSome lead.entry (λ s. AreEmpty (map (λ v. v.items) s.now.matches.items)) }
 {

@@ -1,4 +1,4 @@
-//! Which columns the assertions tell apart.
+//! Groups of columns that the assertions treat alike.
 
 ghost use Rattle.std.specs.Prelude.{◌≡◌, ℕ, ◌<◌, All, map, length, slice_index, slice_index_or, false, IfOk};
 ghost use Rattle.rx_base.specs.Unit.{unit_number};
@@ -9,16 +9,16 @@ use rx_base::{Facts, Unit};
 use rx_expr::thompson::NFA;
 use std::alloc::{AllocError, Global};
 
-/// How many groups there can be: one for each number of facts.
+/// The greatest number of groups: one for each set of facts.
 pub(crate) const GROUPS: usize = 32;
 
-/// The columns by what assertions ask of their units: the columns of a group are one to every assertion. A group is the
-/// number of these facts.
+/// The columns by what assertions ask of their units. No assertion distinguishes two columns of a group. A group is the
+/// number of its facts.
 #[derive(Drop)]
 pub(crate) struct Groups {
     /// The group of each column.
     of: Vec<u8>,
-    /// For each group whether it has a column.
+    /// For each group, whether it has a column.
     used: Vec<bool>,
     ghost below: { All (λ group. group < 32) of.items },
     ghost used_len: { length used.items ≡ 32 },
@@ -26,7 +26,7 @@ pub(crate) struct Groups {
 }
 
 impl Groups {
-    /// The groups of the columns that have these units.
+    /// The groups of the columns with these units.
     pub(crate) fn new(alloc: Global, nfa: &NFA, units: &[Unit]) -> Result<Groups, AllocError>
         ensures { IfOk result (λ g. AreGroups (meaning nfa.now) (map unit_number units.now) g.of.items) }
     {
@@ -60,7 +60,7 @@ impl Groups {
         self.used[group as usize]
     }
 
-    /// Whether a column is of a group, where one is named.
+    /// Whether a column is of a group, or no group is given.
     #[inline]
     pub(crate) fn takes(&self, only: Option<u8>, column: usize) -> bool
         requires { column < length self.now.of.items }

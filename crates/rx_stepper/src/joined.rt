@@ -1,4 +1,4 @@
-//! Two lists of rows, one behind the other.
+//! Two lists of rows that count as one.
 
 use rx_base::StateID;
 

@@ -9,12 +9,12 @@ ghost use Rattle.rx_stepper.specs.Keys.{label_of, led_of, own_of};
 use rx_base::{Facts, PatternID, StateID};
 use std::alloc::AllocError;
 
-/// What stands before a key's label and rows, beside the label's length.
+/// What a key has before its label and rows, beside the label's length.
 #[derive(Clone, Copy)]
 pub(crate) struct Head {
-    /// The number of what is known of the unit read last.
+    /// The number of the facts about the last unit.
     pub(crate) context: u8,
-    /// Whether the lead-in's other rows follow those that are written.
+    /// Whether the other rows of the lead-in follow those in the key.
     pub(crate) is_led: bool,
 }
 
@@ -35,7 +35,7 @@ pub(crate) fn label_of(key: &[u32]) -> &[u32]
     }
 }
 
-/// A number of a key; 0 past its end.
+/// The number at an index of a key, or 0 past its end.
 fn number(key: &[u32], place: usize) -> u64
     ensures value { result ≡ slice_index key.now place }
     ensures bound { result < 2 ^ 32 }
@@ -46,7 +46,7 @@ fn number(key: &[u32], place: usize) -> u64
     }
 }
 
-/// The rows of a key's state that are written.
+/// The rows that are written in a key.
 pub(crate) fn own_of(key: &[u32]) -> &[u32]
     requires { 3 + slice_index key.now 1 ≤ length key.now }
     ensures { result.now ≡ own_of key.now }
@@ -54,14 +54,14 @@ pub(crate) fn own_of(key: &[u32]) -> &[u32]
     &key[3..][key[1] as usize..]
 }
 
-/// Whether the lead-in's other rows follow them.
+/// Whether the other rows of the lead-in follow them.
 pub(crate) fn is_led(key: &[u32]) -> bool
     ensures { result ≡ led_of key.now }
 {
     number(key, 2) == 1
 }
 
-/// What a key's state knows of the unit read last.
+/// The facts about the last unit.
 pub(crate) fn context_of(key: &[u32]) -> Facts
     requires { slice_index key.now 0 < 256 }
     ensures { result ≡ facts_with (slice_index key.now 0) }
@@ -69,14 +69,14 @@ pub(crate) fn context_of(key: &[u32]) -> Facts
     Facts::from_bits(number(key, 0) as u8)
 }
 
-/// Whether a state is dead that has these rows, the lead-in's or none behind them, and this label.
+/// Whether a state with these rows, followed by the lead-in's or not, and this label is dead.
 pub(crate) fn is_dead(is_led: bool, own: &[StateID], label: &[PatternID]) -> bool
     ensures { result ≡ (not is_led && (length own.now == 0) && (length label.now == 0)) }
 {
     !is_led && own.is_empty() && label.is_empty()
 }
 
-/// The number of the context that is kept beside rows, where it matters: none beside rows of which none asserts.
+/// The number of the facts to keep beside rows. It is 0 if no row asserts, since the facts don't matter then.
 pub(crate) fn kept(asks: bool, context: u8) -> u8
     ensures { result ≡ (if asks then context else 0) }
 {
@@ -104,7 +104,7 @@ pub(crate) fn write(
     Ok(())
 }
 
-/// Writes the numbers of patterns from a place of a key on.
+/// Writes the numbers of patterns from an index of a key on.
 fn write_patterns(patterns: &[PatternID], place: usize, key: &mut [u32])
     requires { place + length patterns.now ≤ length key.old }
     ensures len { length key.new ≡ length key.old }
@@ -116,7 +116,7 @@ fn write_patterns(patterns: &[PatternID], place: usize, key: &mut [u32])
     }
 }
 
-/// Writes the numbers of rows from a place of a key on, to its end.
+/// Writes the numbers of rows from an index of a key on, to its end.
 fn write_rows(rows: &[StateID], place: usize, key: &mut [u32])
     requires { place + length rows.now ≡ length key.old }
     ensures len { length key.new ≡ length key.old }

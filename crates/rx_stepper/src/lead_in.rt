@@ -1,4 +1,4 @@
-//! The rows of the unanchored start, with which the states of an unanchored search end.
+//! The lead-in: the rows of the unanchored start, with which most states of an unanchored search end.
 
 ghost use Rattle.std.specs.Prelude.{◌≡◌, ℕ, ◌<◌, ◌≤◌, ◌^◌, ◌==◌, ◌&&◌, ◌++◌, ◌∷◌, [], true, false, not, Some};
 ghost use Rattle.std.specs.Prelude.{take, length, slice_get, slice_index_or, vec_capacity};
@@ -23,14 +23,14 @@ use crate::matches::is_among;
 use rx_base::{PatternID, StateID};
 use std::alloc::{AllocError, Global};
 
-/// The rows of the unanchored start, which are written once for all states that end with them.
+/// The rows of the unanchored start. The keys of states that end with them don't repeat them.
 #[derive(Drop)]
 pub(crate) struct LeadIn {
     /// Where an unanchored search starts.
     pub(crate) start: StateID,
-    /// The rows that are reached from there without reading a byte; none where every search is anchored.
+    /// The rows that are reached from the unanchored start without reading a byte. Empty if every search is anchored.
     pub(crate) rows: Vec<StateID>,
-    /// For each row of the NFA its place among them, or a number past their end.
+    /// For each row of the NFA, its index among them, or a number past their end.
     places: Vec<u32>,
     /// Whether one of them asserts.
     pub(crate) asks: bool,
@@ -42,7 +42,7 @@ pub(crate) struct LeadIn {
 impl LeadIn {
     ghost use Rattle.rx_stepper.specs.LeadIns.{IsLeadIn};
 
-    /// That of an NFA. The list must have room for all its rows.
+    /// The lead-in of an NFA. `reached` must have room for all its rows.
     pub(crate) fn new(
         alloc: Global,
         closures: &mut Closures<'_>,
@@ -62,8 +62,8 @@ impl LeadIn {
         })
     }
 
-    /// Writes the key of the state that is reached from some rows, with what assertions ask for of the unit read last
-    /// and a label, and tells whether there is one: the dead state has no key.
+    /// Writes the key of the state that is reached from some rows, with facts about the last unit and a label. Returns
+    /// whether there is a key: the dead state has none.
     pub(crate) fn write_key(
         &self,
         closures: &mut Closures<'_>,
@@ -97,8 +97,8 @@ impl LeadIn {
         Ok(true)
     }
 
-    /// Lists the rows that are reached from some rows as far as they are written, and tells whether the lead-in's
-    /// others follow.
+    /// Lists the rows of the closure of some rows that must be written. Returns whether the other rows of the lead-in
+    /// follow.
     fn close(&self, closures: &mut Closures<'_>, from: Joined<'_>, own: &mut Vec<StateID>) -> bool
         requires is { IsLeadIn (meaning closures.old.nfa.now) self.now }
         requires room { length (meaning closures.old.nfa.now).rows ≤ vec_capacity own.old }
@@ -120,7 +120,7 @@ impl LeadIn {
         self.split(closures, own)
     }
 
-    /// What stands before the unanchored start, where that is the last of some rows and there is a lead-in.
+    /// The rows before the unanchored start, if it is the last of some rows and there is a lead-in.
     fn front<'r>(&self, from: Joined<'r>) -> Option<Joined<'r>>
         ensures start { IfSome result (λ front. from.entry.first.now ++ from.entry.second.now
             ≡ (front.first.now ++ front.second.now) ++ self.now.start ∷ []) }
@@ -135,14 +135,14 @@ impl LeadIn {
             .then_some(Joined { first, second: &[] })
     }
 
-    /// Whether a row is the unanchored start, and there is a lead-in.
+    /// Whether a row is the unanchored start and there is a lead-in.
     fn is_start(&self, row: StateID) -> bool
         ensures { result ≡ ((row == self.now.start) && not (length self.now.rows.items == 0)) }
     {
         row == self.start && !self.rows.is_empty()
     }
 
-    /// How many of its rows, from the first on, were listed last.
+    /// The number of the lead-in's rows, from the first on, that were listed last.
     fn met_len(&self, closures: &Closures<'_>) -> usize
         ensures { let stamps = closures.now.stamps in
             AreMetTo (is_met stamps.stamps.items stamps.now) self.now.rows.items result }
@@ -155,8 +155,8 @@ impl LeadIn {
         self.rows.len()
     }
 
-    /// How many rows have to be written before the lead-in's others: the last ones that would come again at once have
-    /// not. The first rows of the lead-in are among them, as many as is told.
+    /// How many rows must be written so that they and the other rows of the lead-in make the same list. Trailing rows
+    /// that the lead-in adds again are left out. `met` is how many of the lead-in's first rows are among `own`.
     fn own_len(&self, own: &[StateID], met: usize) -> usize
         requires once { firsts own.now ≡ own.now }
         requires met { AreMetTo (λ q. list_any (λ x. q == x) own.now) self.now.rows.items met }
@@ -177,7 +177,7 @@ impl LeadIn {
         0
     }
 
-    /// The place of a row, by its number; past the end where it has none.
+    /// The index of a row in the lead-in, or a number past its end.
     #[inline]
     fn place(&self, row: usize) -> usize
         ensures { result ≡ slice_index_or self.now.places.items row no_place }
@@ -188,10 +188,11 @@ impl LeadIn {
         }
     }
 
-    /// Takes off what follows the least front of rows behind which the lead-in's others follow, where there is one.
+    /// Cuts off the rows of the lead-in at the end of a list: the shortest front of rows remains after which the other
+    /// rows of the lead-in follow. Returns whether there is such a front.
     ///
-    /// The rows that a compiled NFA reaches from others than the unanchored start have not the lead-in's last one, and
-    /// need no search.
+    /// From rows other than the unanchored start a compiled NFA never reaches the last row of the lead-in, so then
+    /// there is nothing to search.
     fn split(&self, closures: &Closures<'_>, own: &mut Vec<StateID>) -> bool
         requires { let stamps = closures.now.stamps in
             Every (λ q. is_met stamps.stamps.items stamps.now q ≡ list_any (λ x. q == x) own.old.items)
@@ -217,7 +218,7 @@ impl LeadIn {
         }
     }
 
-    /// How many rows stand before the lead-in's others, at the least.
+    /// The least number of rows before the other rows of the lead-in.
     fn split_len(&self, rows: &[StateID]) -> Option<usize>
         ensures { let lead = self.now.rows.items in
             MatchOption result (split_by lead [] rows.now ≡ written_as false rows.now)
@@ -231,7 +232,7 @@ impl LeadIn {
         None
     }
 
-    /// Whether rows are the lead-in's that aren't among some own ones.
+    /// Whether `rows` are those of the lead-in that aren't among `own`.
     fn follows(&self, own: &[StateID], rows: &[StateID]) -> bool
         ensures { result ≡ bytes_eq (without own.now self.now.rows.items) rows.now }
     {
@@ -250,7 +251,7 @@ impl LeadIn {
         place == rows.len()
     }
 
-    /// Whether a state's rows assert.
+    /// Whether some row of a state asserts.
     fn has_look(&self, closures: &Closures<'_>, own: &[StateID], is_led: bool) -> bool
         requires { IsLeadIn (meaning closures.now.nfa.now) self.now }
         ensures { result ≡ list_any (λ q. is_look_row (row_at (meaning closures.now.nfa.now).rows q))
@@ -263,14 +264,14 @@ impl LeadIn {
         }
     }
 
-    /// Whether a row is among them, by its number.
+    /// Whether a row is in the lead-in, by its number.
     fn has(&self, row: u32) -> bool
         ensures { result ≡ list_any (λ x. row == x) self.now.rows.items }
     {
         self.place(row as usize) < self.rows.len()
     }
 
-    /// How many rows a state has, by the numbers of those that are written.
+    /// The number of rows of a state whose key has the rows `own`.
     pub(crate) fn rows_len(&self, own: &[u32], is_led: bool) -> usize
         requires once { firsts own.now ≡ own.now }
         requires few { length own.now ≤ id_count }
@@ -289,10 +290,10 @@ impl LeadIn {
     }
 }
 
-/// What stands for no place.
+/// The index of a row that isn't in the lead-in.
 const NO_PLACE: u32 = u32::MAX;
 
-/// Lists the rows of an NFA's unanchored start; none where every search is anchored.
+/// Lists the rows of an NFA's unanchored start. Lists none if every search is anchored.
 fn list_lead_in(closures: &mut Closures<'_>, reached: &mut Vec<StateID>)
     requires { length (meaning closures.old.nfa.now).rows ≤ vec_capacity reached.old }
     ensures nfa { closures.new.nfa.now ≡ closures.old.nfa.now }
@@ -309,7 +310,7 @@ fn list_lead_in(closures: &mut Closures<'_>, reached: &mut Vec<StateID>)
     }
 }
 
-/// The places of rows, for so many rows as there are.
+/// For each row of the NFA, its index in the lead-in.
 fn places_of(alloc: Global, rows: &[StateID], count: usize) -> Result<Vec<u32>, AllocError>
     requires within { Every (λ q. q < count) rows.now }
     requires once { firsts rows.now ≡ rows.now }

@@ -1,4 +1,4 @@
-//! What the lead-in's rows add to the steps of states.
+//! What the rows of the lead-in add to the steps of states.
 
 ghost use Rattle.std.specs.Prelude.{◌≡◌, ℕ, List, true, false, ◌<◌, ◌≤◌, map, length, vec_capacity, All, IfOk, OnOk};
 ghost use Rattle.rx_expr.specs.Nfa.{meaning};
@@ -12,19 +12,19 @@ use crate::steps::Steps;
 use rx_base::{Facts, MatchKind, StateID};
 use std::alloc::{AllocError, Global};
 
-/// How many contexts there can be: one for each number of facts.
+/// The number of contexts: one for each set of facts.
 const CONTEXTS: usize = 32;
 
-/// What the lead-in's rows need for their steps where one thing is known of the unit read last.
+/// What the steps of the lead-in's rows need, for one set of facts about the last unit.
 #[derive(Drop)]
 pub(crate) struct LeadSteps {
     pub(crate) steps: Steps,
-    /// Whether they were found, which is when they are first asked for.
+    /// Whether they are found. They are found when they are first needed.
     pub(crate) are_found: bool,
 }
 
 impl LeadSteps {
-    /// None was found.
+    /// Steps that aren't found yet.
     fn new(alloc: Global, columns: usize) -> Result<LeadSteps, AllocError>
         ensures columns { IfOk result (λ l. length l.steps.targets.items ≡ columns) }
         ensures none { IfOk result (λ l. l.are_found ≡ false) }
@@ -35,7 +35,7 @@ impl LeadSteps {
         })
     }
 
-    /// Those of all contexts, of which none was found.
+    /// Steps for all contexts, none of them found yet.
     pub(crate) fn of_contexts(alloc: Global, columns: usize) -> Result<Vec<LeadSteps>, AllocError>
         ensures len { IfOk result (λ v. length v.items ≡ 32) }
         ensures columns { IfOk result (λ v. All (λ l. length l.steps.targets.items ≡ columns) v.items) }
@@ -48,7 +48,7 @@ impl LeadSteps {
         Ok(leads)
     }
 
-    /// Finds them where they weren't found before.
+    /// Finds the steps unless they are found already.
     pub(crate) fn find(
         &mut self,
         closures: &mut Closures<'_>,

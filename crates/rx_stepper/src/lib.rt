@@ -1,10 +1,13 @@
-//! Steps of powerset states, for a construction that steps each state by every unit.
+//! Steps powerset states, for a construction that steps each state by every unit.
 //!
-//! A construction meets the same state many times and keeps each once, so states are kept as *keys*, lists of
-//! numbers that are compared and hashed as they stand. A [`Stepper`] steps the state of one key by all columns of a
-//! table: start with [`Stepper::begin`] and [`Stepper::next`].
+//! A construction reaches the same state many times and keeps it once. So states are kept as *keys*, lists of numbers
+//! that are compared and hashed as they are. A [`Stepper`] steps the state of one key on all columns of a table: start
+//! with [`Stepper::begin`] and [`Stepper::next`].
 //!
-//! The contract: a stepper is seen as a `Stepping` (`specs/Stepping.antt`), which says what state a key stands for; a
+//! Most states of an unanchored search end with the same NFA rows, those of the unanchored start. They are called the
+//! *lead-in* and aren't repeated in keys.
+//!
+//! The contract: a stepper is seen as a `Stepping` (`specs/Stepping.antt`), which says which state a key stands for. A
 //! step gives the key of exactly the state of the definitions, and no two keys stand for one state.
 #![tactic(auto)]
 

@@ -1,4 +1,4 @@
-//! Sets of bytes whose columns were listed before.
+//! Sets of bytes whose columns are listed already.
 
 ghost use Rattle.std.specs.Prelude.{◌≡◌, ◌<◌, ℕ, List, [], length, IfOk, IfSome};
 ghost use Rattle.rx_stepper.specs.ListedSets.{IsListed, AreListed};
@@ -6,10 +6,10 @@ ghost use Rattle.rx_stepper.specs.ListedSets.{IsListed, AreListed};
 use rx_base::ByteSet;
 use std::alloc::{AllocError, Global};
 
-/// How many places there are, one for each byte.
+/// The number of places: one for each byte.
 const PLACES: usize = 256;
 
-/// A set, and where its columns stand among those of all rows.
+/// A set, and the range of its columns among those of all rows.
 #[derive(Clone, Copy)]
 pub(crate) struct ListedSet {
     pub(crate) set: ByteSet,
@@ -17,7 +17,7 @@ pub(crate) struct ListedSet {
     pub(crate) stop: usize,
 }
 
-/// For each byte the set that was listed last of those that begin with it.
+/// For each byte, the last listed set whose least byte it is.
 #[derive(Drop)]
 pub(crate) struct ListedSets {
     sets: Vec<ListedSet>,
@@ -25,7 +25,7 @@ pub(crate) struct ListedSets {
 }
 
 impl ListedSets {
-    /// No set but the empty one, whose columns are none.
+    /// Only the empty set, which has no columns.
     pub(crate) fn new(alloc: Global) -> Result<ListedSets, AllocError>
         ensures { (units : List ℕ) → IfOk result (λ listed. AreListed units [] listed.sets.items) }
     {
@@ -39,7 +39,7 @@ impl ListedSets {
         })
     }
 
-    /// Where the columns of a set stand, if it is still known.
+    /// The range of a set's columns, if it is still known.
     #[inline]
     pub(crate) fn get(&self, set: &ByteSet) -> Option<(usize, usize)>
         ensures { (units columns : List ℕ) → AreListed units columns self.now.sets.items
@@ -53,7 +53,7 @@ impl ListedSets {
         }
     }
 
-    /// Keeps where the columns of a set stand, in the place of another set that begins with the same byte.
+    /// Keeps the range of a set's columns. Replaces the last set with the same least byte.
     pub(crate) fn keep(&mut self, set: &ByteSet, start: usize, stop: usize)
         ensures { (units columns : List ℕ) → AreListed units columns self.old.sets.items
             → IsListed units columns set.now start stop → AreListed units columns self.new.sets.items }

@@ -13,7 +13,7 @@ use rx_base::{MatchKind, PatternID, StateID};
 use std::alloc::AllocError;
 
 impl<'n> Closures<'n> {
-    /// The rows that go on: leftmost-first none behind the first match.
+    /// The rows that go on: leftmost-first, those up to the first match.
     pub(crate) fn cut<'r>(&self, kind: MatchKind, rows: &'r [StateID]) -> &'r [StateID]
         ensures { result.now ≡ cut kind (meaning self.now.nfa.now).rows rows.now }
     {
@@ -23,7 +23,7 @@ impl<'n> Closures<'n> {
         }
     }
 
-    /// The rows up to the first match, that one included.
+    /// The rows up to the first match, with that one.
     fn to_first_match<'r>(&self, rows: &'r [StateID]) -> &'r [StateID]
         ensures { result.now ≡ to_first_match (meaning self.now.nfa.now).rows rows.now }
     {
@@ -44,14 +44,14 @@ impl<'n> Closures<'n> {
         }
     }
 
-    /// Whether some of the rows matches.
+    /// Whether some row is a match.
     pub(crate) fn has_match(&self, rows: &[StateID]) -> bool
         ensures { result ≡ list_any (λ q. is_match_row (row_at (meaning self.now.nfa.now).rows q)) rows.now }
     {
         rows.iter().any(|id| self.is_match(*id))
     }
 
-    /// Adds those of the rows that match.
+    /// Adds the rows that match.
     pub(crate) fn add_matches(
         &self,
         rows: &[StateID],
@@ -83,7 +83,7 @@ impl<'n> Closures<'n> {
         Ok(())
     }
 
-    /// Adds the patterns that rows match which aren't among some others.
+    /// Adds the patterns that rows match, except those of some other rows.
     pub(crate) fn add_other_patterns(
         &self,
         rows: &[StateID],
@@ -120,7 +120,7 @@ pub(crate) fn is_among(rows: &[StateID], row: StateID) -> bool
     rows.iter().any(|other| row == *other)
 }
 
-/// Whether less preferred rows go on too where these matched: leftmost-first none does behind a match.
+/// Whether less preferred rows go on too after these matches. Leftmost-first they don't if there is a match.
 pub(crate) fn goes_on(kind: MatchKind, matches: &[StateID]) -> bool
     ensures { result ≡ goes_on kind matches.now }
 {

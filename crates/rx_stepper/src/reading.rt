@@ -1,4 +1,4 @@
-//! Which columns rows read.
+//! The columns that rows read.
 
 ghost use Rattle.std.specs.Prelude.{◌≡◌, ℕ, ◌+◌, ◌<◌, ◌≤◌, ◌++◌, List};
 ghost use Rattle.std.specs.Prelude.{map, filter, length, slice_index, All, IfOk, OnOk};
@@ -22,10 +22,10 @@ use std::alloc::{AllocError, Global};
 /// The columns that each row reads.
 #[derive(Drop)]
 pub(crate) struct Reading {
-    /// Those of all rows, one row behind another.
+    /// The columns of all rows, one row after another.
     columns: Vec<u16>,
     spans: Vec<ColumnSpan>,
-    /// How many columns there are.
+    /// The number of columns.
     count: usize,
     ghost are_spans: { AreSpans count columns.items spans.items },
 }
@@ -33,7 +33,7 @@ pub(crate) struct Reading {
 impl Reading {
     ghost use Rattle.rx_stepper.specs.Columns.{led_by, Reads};
 
-    /// The columns that the rows of an NFA read, where these are the units of all columns.
+    /// The columns that the rows of an NFA read, if `units` are the units of the columns.
     pub(crate) fn new(alloc: Global, nfa: &NFA, units: &[Unit]) -> Result<Reading, AllocError>
         requires { length units.now < 65536 }
         ensures count { IfOk result (λ r. r.count ≡ length units.now) }
@@ -54,7 +54,7 @@ impl Reading {
         })
     }
 
-    /// The columns that a row reads, and where it leads. A row past the end reads none.
+    /// The columns that a row reads, and the row that follows. A row past the end reads none.
     #[inline]
     pub(crate) fn of(&self, row: StateID) -> (&[u16], StateID)
         ensures columns { All (λ column. column < self.now.count) result.0.now }
@@ -69,7 +69,7 @@ impl Reading {
     }
 }
 
-/// Where the columns that a row reads stand, and where it leads.
+/// The range of the columns that a row reads, and the row that follows.
 fn span_of_row(
     row: &Row,
     units: &[Unit],
@@ -96,7 +96,7 @@ fn span_of_row(
     }
 }
 
-/// Where the columns of a set stand: where they were listed before, or else behind all others.
+/// The range of the columns of a set. Lists them after all others if they aren't listed yet.
 fn span_of_set(
     set: &ByteSet,
     units: &[Unit],
@@ -134,7 +134,7 @@ fn push_columns(set: &ByteSet, units: &[Unit], columns: &mut Vec<u16>) -> Result
     Ok(())
 }
 
-/// Whether a unit is in a set; the end mark is in none.
+/// Whether a unit is in a set. The end of input is in none.
 fn reads(set: &ByteWords, unit: Unit) -> bool
     ensures { result ≡ contains (set_of_words set.now.words) (unit_number unit) }
 {

@@ -1,4 +1,4 @@
-//! Marks on rows, which are all taken off at once.
+//! Marks on rows that are all removed at once.
 
 ghost use Rattle.std.specs.Prelude.{◌≡◌, ℕ, ◌+◌, ◌<◌, ◌==◌, ◌||◌, true, false, not, if◌then◌else◌, length, IfOk};
 ghost use Rattle.rx_stepper.specs.Stamps.{is_met, AreStamps, unmet};
@@ -6,7 +6,7 @@ ghost use Rattle.rx_stepper.specs.Stamps.{is_met, AreStamps, unmet};
 use rx_base::StateID;
 use std::alloc::{AllocError, Global};
 
-/// Which rows a closure has met: those whose stamp is the number of the closure.
+/// The rows that a closure has met: those whose stamp is the number of the closure.
 #[derive(Drop)]
 pub(crate) struct Stamps {
     stamps: Vec<u32>,
@@ -15,7 +15,7 @@ pub(crate) struct Stamps {
 }
 
 impl Stamps {
-    /// Room for so many rows.
+    /// Stamps for `rows` rows.
     pub(crate) fn new(alloc: Global, rows: usize) -> Result<Stamps, AllocError>
         ensures { IfOk result (λ s. length s.stamps.items ≡ rows) }
     {
@@ -25,7 +25,7 @@ impl Stamps {
         })
     }
 
-    /// Begins a closure: no row was met.
+    /// Begins a closure: no row is met.
     pub(crate) fn begin(&mut self)
         ensures len { length self.new.stamps.items ≡ length self.old.stamps.items }
         ensures none { (row : ℕ) → row < length self.new.stamps.items
@@ -38,7 +38,7 @@ impl Stamps {
         self.now += 1;
     }
 
-    /// Whether a row was met. A row past the end counts as met.
+    /// Whether a row is met. A row past the end counts as met.
     #[inline]
     pub(crate) fn is_met(&self, row: StateID) -> bool
         ensures { result ≡ is_met self.entry.now.stamps.items self.entry.now.now row }
@@ -49,7 +49,7 @@ impl Stamps {
         }
     }
 
-    /// Notes a row as met, and tells whether it is met for the first time. A row past the end counts as met.
+    /// Marks a row as met. Returns whether it wasn't before. A row past the end counts as met.
     #[inline]
     pub(crate) fn is_first(&mut self, row: StateID) -> bool
         ensures new { result ≡ not (is_met self.old.stamps.items self.old.now row) }
@@ -72,7 +72,7 @@ impl Stamps {
     }
 }
 
-/// Makes all numbers 0.
+/// Sets all numbers to 0.
 fn clear(numbers: &mut [u32])
     ensures len { length numbers.new ≡ length numbers.old }
     ensures zeros { AreStamps numbers.new 0 }

@@ -1,4 +1,4 @@
-//! What steps states.
+//! The stepper.
 
 ghost use Rattle.std.specs.Prelude.{◌≡◌, ℕ, ◌<◌, ◌≤◌, ◌^◌, true, false, MatchBool, Some, IfOk, OnOk, IfSome, length};
 ghost use Rattle.std.specs.Prelude.{slice_get, slice_index, vec_capacity};
@@ -26,7 +26,7 @@ use rx_base::{ByteClasses, Facts, MatchKind, PatternID, Start, StateID};
 use rx_expr::thompson::NFA;
 use std::alloc::{AllocError, Global};
 
-/// What steps the states of an NFA, with room that is kept from one state to the next.
+/// Steps the states of an NFA. Keeps its memory from one state to the next.
 ///
 /// Contracts see it as a `Stepping`, by `stepping_of`.
 #[derive(Drop)]
@@ -36,12 +36,12 @@ pub struct Stepper<'n> {
     kind: MatchKind,
     classes: ByteClasses,
     lead_in: LeadIn,
-    /// What the lead-in's rows need for their steps, for each number of what is known of the unit read last.
+    /// What the steps of the lead-in's rows need, for each set of facts about the last unit.
     leads: Vec<LeadSteps>,
     current: Current,
-    /// Room for a label.
+    /// Memory for a label.
     label: Vec<PatternID>,
-    /// Room for a closure.
+    /// Memory for a closure.
     reached: Vec<StateID>,
     ghost fits: { Fits (meaning closures.nfa.now) classes columns },
     ghost fits_lead: { FitsLead (table_of (meaning closures.nfa.now) kind classes columns) lead_in leads.items },
@@ -54,7 +54,7 @@ impl<'n> Stepper<'n> {
     ghost use Rattle.rx_stepper.specs.declared.lead_steps.LeadSteps.{LeadSteps};
     ghost use Rattle.rx_stepper.specs.Stepping.{HasOneKeyEach, IsAlone, IsKeyOf, SpellStates, stepped};
 
-    /// What steps the states of an NFA by the columns of these classes.
+    /// A stepper of an NFA for a table with these classes.
     #[tactic(auto, unfolding(crate::specs::Steppers::stepping_of))]
     pub fn new(
         alloc: Global,
@@ -88,8 +88,8 @@ impl<'n> Stepper<'n> {
         })
     }
 
-    /// Writes the key of the state in which a search starts at a row of the NFA, in a start context, and tells whether
-    /// there is one: the dead state has no key.
+    /// Writes the key of the start state for a row of the NFA and a start context. Returns whether there is a key: the
+    /// dead state has none.
     #[tactic(auto, unfolding(crate::specs::Steppers::stepping_of))]
     pub fn start(
         &mut self,
@@ -118,7 +118,7 @@ impl<'n> Stepper<'n> {
         )
     }
 
-    /// Begins to step the state of a key.
+    /// Makes the state of a key the current one.
     #[tactic(auto, unfolding(crate::specs::Steppers::stepping_of))]
     pub fn begin(&mut self, key: &[u32]) -> Result<(), AllocError>
         requires { (stepping_of self.old).is_key key.now ≡ true }
@@ -145,8 +145,7 @@ impl<'n> Stepper<'n> {
         }
     }
 
-    /// Finds what the lead-in's rows need for their steps where they follow a key's own rows, unless that was found
-    /// before.
+    /// Finds what the steps of the lead-in's rows need if they follow a key's own rows.
     #[tactic(auto, unfolding(crate::specs::Steppers::stepping_of))]
     fn find_lead(&mut self, key: &[u32]) -> Result<(), AllocError>
         requires { slice_index key.now 0 < 256 }
@@ -169,8 +168,8 @@ impl<'n> Stepper<'n> {
         )
     }
 
-    /// The number of what is known of the unit read last, where the lead-in's rows follow the state's own; none where
-    /// no others do.
+    /// The number of the facts about the last unit if the lead-in's rows follow the current state's own rows, otherwise
+    /// `None`.
     #[tactic(auto, unfolding(crate::specs::Steppers::stepping_of))]
     pub fn led_in(&self) -> Option<u8>
         ensures { result ≡ (stepping_of self.now).led_in }
@@ -178,8 +177,8 @@ impl<'n> Stepper<'n> {
         self.current.led_in
     }
 
-    /// Whether rows of the state's own go on by a column or match before it. Where none does, the column leads where
-    /// the lead-in's rows lead by themselves.
+    /// Whether some of the current state's own rows goes on by a column or matches before it. If none does, the column
+    /// leads where the lead-in's rows lead alone.
     #[tactic(auto, unfolding(crate::specs::Steppers::stepping_of))]
     pub fn has_own(&self, column: usize) -> bool
         requires { column < alphabet_len (stepping_of self.now).classes }
@@ -196,8 +195,7 @@ impl<'n> Stepper<'n> {
         !own.matches[group as usize].is_empty()
     }
 
-    /// The first column from one on by which rows of the state's own go on or match before it; the number of all
-    /// columns where there is none.
+    /// The first column from `from` on for which `has_own` holds, or the number of columns if there is none.
     #[tactic(auto, unfolding(crate::specs::Steppers::stepping_of))]
     pub fn next_own(&self, from: usize) -> usize
         requires { from ≤ alphabet_len (stepping_of self.now).classes }
@@ -214,8 +212,8 @@ impl<'n> Stepper<'n> {
         columns
     }
 
-    /// Steps the state by the unit of a column, writes the key of the state that follows, and tells whether there is
-    /// one: the dead state has no key.
+    /// Steps the current state by the unit of a column and writes the key of the state that follows. Returns whether
+    /// there is a key: the dead state has none.
     #[tactic(auto, unfolding(crate::specs::Steppers::stepping_of))]
     pub fn next(&mut self, column: usize, key: &mut Vec<u32>) -> Result<bool, AllocError>
         requires { column < alphabet_len (stepping_of self.old).classes }
@@ -238,7 +236,8 @@ impl<'n> Stepper<'n> {
         )
     }
 
-    /// Whether two columns surely lead to one state: no assertion tells them apart, and the same rows are led to.
+    /// Whether two columns certainly lead to the same state: no assertion distinguishes them, and they lead to the same
+    /// rows. `false` says nothing.
     #[tactic(auto, unfolding(crate::specs::Steppers::stepping_of))]
     pub fn are_alike(&self, column: usize, other: usize) -> bool
         requires column { column < alphabet_len (stepping_of self.now).classes }
@@ -259,16 +258,15 @@ impl<'n> Stepper<'n> {
         }
     }
 
-    /// The patterns that matched before the unit that led to a key's state. Of numbers that are no key it is none, or
-    /// some of them.
+    /// The patterns of a key's state, which matched before its last unit. For numbers that aren't a key it returns some
+    /// of them, or none.
     pub fn label(key: &[u32]) -> &[u32]
         ensures { result.now ≡ label_of key.now }
     {
         keys::label_of(key)
     }
 
-    /// The bytes that a key's state counts for where a limit is set on the states of a construction: 8, and 4 for each
-    /// row and each pattern.
+    /// The size of a key's state in bytes, as limits count it: 8, and 4 for each row and each pattern.
     #[tactic(auto, unfolding(crate::specs::Steppers::stepping_of))]
     pub fn size(&self, key: &[u32]) -> u64
         requires { (stepping_of self.now).is_key key.now ≡ true }
@@ -280,8 +278,8 @@ impl<'n> Stepper<'n> {
     }
 }
 
-/// What the lead-in's rows need for their steps, where they follow those that are written and go on before the units of
-/// a group: leftmost-first they don't behind a match.
+/// What the steps of the lead-in's rows need, if they follow the current state's own rows and go on before the units of
+/// a group. Leftmost-first they don't go on after a match.
 fn lead_steps<'l>(
     current: &Current,
     leads: &'l [LeadSteps],
@@ -299,7 +297,7 @@ fn lead_steps<'l>(
     Some(&leads[context as usize].steps)
 }
 
-/// Whether two lists are equal: most aren't equally long.
+/// Whether two lists are equal. Most have different lengths.
 fn are_equal(rows: &[StateID], others: &[StateID]) -> bool
     ensures { result ≡ true → rows.now ≡ others.now }
 {

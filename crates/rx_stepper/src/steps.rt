@@ -1,4 +1,4 @@
-//! What the columns of a table need for the steps of some rows.
+//! What the steps of some rows need on each column.
 
 ghost use Rattle.std.specs.Prelude.{◌≡◌, ℕ, List, true, ◌<◌, ◌≤◌, ◌≢◌, ◌++◌, Some, map, length, slice_index};
 ghost use Rattle.std.specs.Prelude.{slice_index_or, false, vec_capacity, IfOk, OnOk};
@@ -18,21 +18,21 @@ use crate::targets::add_targets;
 use rx_base::{Facts, MatchKind, StateID};
 use std::alloc::{AllocError, Global};
 
-/// What the columns of a table need for the steps of some rows.
+/// What the steps of some rows need on each column.
 #[derive(Drop)]
 pub(crate) struct Steps {
-    /// For each group of columns the rows that match before a unit of it, and go on.
+    /// For each group of columns, the rows that match before its units and go on.
     pub(crate) matches: Vec<Vec<StateID>>,
-    /// For each column where the rows lead that go on before its unit and read it.
+    /// For each column, the rows that follow those that go on before its unit and read it.
     pub(crate) targets: Vec<Vec<StateID>>,
-    /// Whether some of the rows may match: where it is false the lists of matches are all empty.
+    /// Whether some row may match. If not, the lists of matches are all empty.
     pub(crate) has_matches: bool,
     ghost matches_len: { length matches.items ≡ 32 },
     ghost no_matches: { has_matches ≡ false → AreEmpty (map (λ v. v.items) matches.items) },
 }
 
 impl Steps {
-    /// Those of no rows.
+    /// The steps of no rows.
     pub(crate) fn new(alloc: Global, columns: usize) -> Result<Steps, AllocError>
         ensures columns { IfOk result (λ s. length s.targets.items ≡ columns) }
         ensures matches { IfOk result (λ s. AreEmpty (map (λ v. v.items) s.matches.items)) }
@@ -53,7 +53,7 @@ impl Steps {
         })
     }
 
-    /// Makes them those of no rows.
+    /// Makes them the steps of no rows.
     pub(crate) fn clear(&mut self)
         ensures columns { length self.new.targets.items ≡ length self.old.targets.items }
         ensures matches { AreEmpty (map (λ v. v.items) self.new.matches.items) }
@@ -66,7 +66,7 @@ impl Steps {
         clear_lists(&mut self.targets);
     }
 
-    /// Finds those of some rows, where this is known of the unit read last.
+    /// Finds the steps of some rows, with these facts about the last unit.
     pub(crate) fn find(
         &mut self,
         closures: &mut Closures<'_>,
@@ -105,7 +105,7 @@ impl Steps {
 }
 
 impl Steps {
-    /// Adds those of rows among which none asserts, so that they go on before one unit as before another.
+    /// Adds the steps of rows of which none asserts, so that the same rows go on before every unit.
     fn add_plain(
         &mut self,
         closures: &Closures<'_>,
@@ -150,7 +150,7 @@ impl Steps {
         Ok(())
     }
 
-    /// Adds those of the columns of a group: its facts decide the assertions.
+    /// Adds the steps on the columns of a group, whose facts decide the assertions.
     fn add_group(
         &mut self,
         closures: &mut Closures<'_>,
@@ -206,7 +206,7 @@ impl Steps {
     }
 }
 
-/// Takes all out of each list.
+/// Empties each list.
 fn clear_lists(lists: &mut [Vec<StateID>])
     ensures len { length lists.new ≡ length lists.old }
     ensures empty { AreEmpty (map (λ v. v.items) lists.new) }

@@ -1,4 +1,4 @@
-//! Where the rows of a state lead on all columns at once.
+//! The rows that follow on all columns at once.
 
 ghost use Rattle.std.specs.Prelude.{◌≡◌, ℕ, ◌<◌, ◌++◌, List, map, filter, length, slice_index, All, OnOk};
 ghost use Rattle.std.specs.List.{flat_map};
@@ -11,8 +11,8 @@ use crate::reading::Reading;
 use rx_base::StateID;
 use std::alloc::AllocError;
 
-/// Adds where some rows lead to the lists of the columns that they read, as far as these are of a group, where one is
-/// named.
+/// Adds the rows that follow some rows to the lists of the columns that they read. If a group is given, only columns of
+/// that group count.
 pub(crate) fn add_targets(
     reading: &Reading,
     groups: &Groups,
@@ -37,7 +37,7 @@ pub(crate) fn add_targets(
     Ok(())
 }
 
-/// Adds a row to the lists of these columns, as far as they are of a group, where one is named.
+/// Adds a row to the lists of these columns. If a group is given, only columns of that group count.
 #[inline]
 fn push_each(
     columns: &[u16],

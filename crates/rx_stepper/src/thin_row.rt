@@ -1,4 +1,4 @@
-//! Rows as closures see them.
+//! NFA rows as closures need them.
 
 ghost use Rattle.std.specs.Prelude.{◌≡◌, ◌+◌, ◌<◌, ◌≤◌, ◌++◌, length, reverse, vec_capacity, IfOk};
 ghost use Rattle.rx_spec.specs.Causes.{id_count};
@@ -11,12 +11,12 @@ use rx_base::{Look, PatternID, StateID};
 use rx_expr::thompson::{NFA, Row};
 use std::alloc::{AllocError, Global};
 
-/// A row of an NFA without the set that it reads, so that many lie side by side.
+/// A row of an NFA without the set that it reads, so that a row takes little memory.
 #[derive(Clone, Copy)]
 pub(crate) enum ThinRow {
     /// It reads a byte.
     Bytes,
-    /// It goes on at both rows without reading a byte, the first preferred.
+    /// Goes on at both rows without reading a byte. The first is preferred.
     Split(StateID, StateID),
     /// It goes on where an assertion holds.
     Look(Look, StateID),
@@ -52,7 +52,7 @@ impl ThinRow {
         }
     }
 
-    /// Whether a closure lists the row itself and nothing behind it.
+    /// Whether a closure lists the row itself and goes no further.
     #[inline]
     pub(crate) fn is_end(&self) -> bool
         ensures { result ≡ is_end self.now }

@@ -1,4 +1,4 @@
--- What the calls of a searcher that is fed in pieces do.
+-- What each call of a stream searcher returns and leaves.
 use Rattle.std.specs.Prelude.{ℕ, ◌≡◌, ◌≤◌, ◌+◌, Bool, true, false, Option, Some, None, List, []}
 use Rattle.std.specs.Prelude.{◌∷◌, ◌++◌, length, drop}
 use Rattle.rx_spec.specs.Bytes.{AreBytes}

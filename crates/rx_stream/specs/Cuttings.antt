@@ -1,4 +1,4 @@
--- A text cut into pieces: how a caller feeds them and finishes, and what all calls together tell.
+-- Texts cut into pieces: how a caller feeds and finishes them, and what all calls together report.
 use Rattle.std.specs.Prelude.{ℕ, ◌≡◌, Some, None, Ok, Err, true, List, [], ◌∷◌, ◌++◌, drop, All}
 use Rattle.std.specs.List.{concat}
 use Rattle.rx_spec.specs.Bytes.{AreBytes}

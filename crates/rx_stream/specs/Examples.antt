@@ -1,4 +1,4 @@
--- Worked examples: what remains to be told at places of one small table.
+-- Worked examples: what is left to report at places of one small table.
 use Rattle.std.specs.Prelude.{◌≡◌, ℕ, ◌==◌, ◌||◌, Bool, false, if◌then◌else◌, None, List, [], ◌∷◌, codes}
 use Rattle.std.specs.List.{range_with_len}
 use Rattle.rx_spec.specs.Bytes.{only}

@@ -1,4 +1,4 @@
--- What a searcher that is fed in pieces has still to tell, by the walk of overlapping searches.
+-- What a stream searcher has left to report, by the walk of overlapping searches.
 use Rattle.std.specs.Prelude.{ℕ, false, None, List, [], ◌∷◌, ◌++◌, length, drop}
 use Rattle.std.specs.List.{flat_map}
 use Rattle.rx_spec.specs.Bytes.{eoi}

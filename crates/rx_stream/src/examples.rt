@@ -1,4 +1,4 @@
-//! Worked examples: what remains to be told at places of a small table, which the definitions compute.
+//! Worked examples: what is left to report at places of a small table, which the definitions compute.
 
 ghost use Rattle.rx_stream.specs.Examples.{AllRemains, EndRemains, NothingAfterQuit, NothingBeforeEnd, NowOfStart};
 ghost use Rattle.rx_stream.specs.Examples.{PendingAtClose, PendingNow, PendingRemains, QuitTold, QuitToldNow};
@@ -11,14 +11,14 @@ pub fn whole_texts()
     ensures whole { ToldOfWhole }
 {}
 
-/// From a match row with a pattern that isn't told yet.
+/// From a match state with a pattern that isn't reported yet.
 pub fn pending_patterns()
     ensures remaining { PendingRemains }
     ensures now { PendingNow }
     ensures closed { PendingAtClose }
 {}
 
-/// After the end mark.
+/// After the end of input.
 pub fn ends()
     ensures remaining { EndRemains }
     ensures now { NothingBeforeEnd }

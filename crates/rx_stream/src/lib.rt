@@ -1,12 +1,12 @@
-//! A searcher that is fed a text in pieces.
+//! Searches a text that comes in pieces.
 //!
-//! A [`StreamSearcher`] tells every match of a text in order, and keeps none of the text: its state is a table, one of
-//! its rows and a few numbers. However the text is cut into pieces, it tells what an overlapping search of the whole
-//! text tells.
+//! A [`StreamSearcher`] reports every match of a text in order and keeps none of the text: it holds a table, the id of
+//! a state and a few numbers. However the text is cut into pieces, it reports what an overlapping search of the whole
+//! text reports.
 //!
-//! Call [`StreamSearcher::feed`] with a piece until it tells nothing, each time from the place that the last call
-//! returned. Then feed the next piece. At the end of the text call [`StreamSearcher::finish`] until it tells nothing.
-//! [`skip`] is for walks of a caller's own over a piece.
+//! Call [`StreamSearcher::feed`] with a piece until it returns no event, each time from the place that the last call
+//! returned. Then feed the next piece. At the end of the text call [`StreamSearcher::finish`] until it returns no
+//! event. [`skip`] is for walks of your own over a piece.
 #![tactic(auto)]
 
 mod event;

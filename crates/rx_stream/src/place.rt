@@ -1,23 +1,23 @@
-//! Where a searcher stands in its text.
+//! The state of a searcher.
 
 ghost use Rattle.std.specs.Prelude.{◌≡◌};
 ghost use Rattle.rx_stream.specs.Calls.{closed, is_ended};
 
 use rx_base::StateID;
 
-/// How far a text has come.
+/// How far the text has come.
 #[derive(Clone, Copy, Debug, PartialEq, Eq)]
 pub(crate) enum Stage {
     /// More pieces may come.
     Open,
-    /// All pieces came. The end mark isn't read yet.
+    /// All pieces have come. End of input isn't read yet.
     Closed,
-    /// The end mark is read.
+    /// End of input is read.
     Ended,
 }
 
 impl Stage {
-    /// The stage once no more pieces come.
+    /// The stage after the last piece.
     pub(crate) fn closed(self) -> Stage
         ensures { result ≡ closed self }
     {
@@ -28,7 +28,7 @@ impl Stage {
         }
     }
 
-    /// Whether the end mark is read.
+    /// Whether end of input is read.
     pub(crate) fn is_ended(self) -> bool
         ensures { result ≡ is_ended self }
     {
@@ -36,16 +36,16 @@ impl Stage {
     }
 }
 
-/// The row that a searcher has reached, and what it has told and read.
+/// The state of the table that a searcher has reached, and what it has reported and read.
 #[derive(Clone, Copy, Debug)]
 pub(crate) struct Place {
-    /// The row's id.
+    /// The id of the state.
     pub(crate) row: StateID,
-    /// How many of the row's patterns are told.
+    /// The number of the state's patterns that are reported.
     pub(crate) told: usize,
     /// Where the matches of these patterns end.
     pub(crate) offset: usize,
-    /// How many bytes are read.
+    /// The number of bytes read.
     pub(crate) taken: usize,
     pub(crate) stage: Stage,
 }

@@ -21,7 +21,8 @@ pub struct StreamSearcher<A: Automaton> {
 }
 
 impl<A: Automaton> StreamSearcher<A> {
-    /// A searcher at the beginning of a text, or `UnsupportedAnchored` if the table has no starts for the mode.
+    /// A searcher at the beginning of a text. Requires a sound table, owned or borrowed. Returns `UnsupportedAnchored`
+    /// if the table has no start states for the mode.
     pub fn new(table: A, mode: Anchored) -> Result<StreamSearcher<A>, MatchError>
         requires { A.IsSound table }
         ensures { MatchResult result
@@ -44,7 +45,8 @@ impl<A: Automaton> StreamSearcher<A> {
         }
     }
 
-    /// Reads a piece from a place in it on, up to the next event or to its end.
+    /// Reads a piece from the place `from` up to the next event or to its end. Requires that the searcher is open, that
+    /// `from` is at most the length of the piece, and that the text has at most 2^62 bytes with this piece.
     #[inline]
     pub fn feed(&mut self, piece: &[u8], from: usize) -> Fed
         requires open { is_open self.old.place.stage ≡ true }
@@ -94,7 +96,7 @@ impl<A: Automaton> StreamSearcher<A> {
         }
     }
 
-    /// Ends the text, and returns the next event that is left. From then on no piece may be fed.
+    /// Ends the text and returns the next event that is left. After that no piece may be fed.
     pub fn finish(&mut self) -> Option<StreamEvent>
         ensures table { self.new.table ≡ self.old.table }
         ensures finished { IsFinished (A.table self.old.table) (A.ids self.old.table) self.old.place self.new.place
@@ -121,21 +123,21 @@ impl<A: Automaton> StreamSearcher<A> {
         }
     }
 
-    /// Whether more pieces may be fed.
+    /// Whether a piece may be fed.
     pub fn is_open(&self) -> bool
         ensures { result ≡ is_open self.now.place.stage }
     {
         self.place.stage == Stage::Open
     }
 
-    /// How many bytes are read.
+    /// The number of bytes read.
     pub fn taken(&self) -> u64
         ensures { result ≡ self.now.place.taken }
     {
         self.place.taken as u64
     }
 
-    /// The match of the row's next pattern, if the row is a match row with a pattern that isn't told yet.
+    /// The match of the state's next pattern, if the state is a match state with a pattern that isn't reported yet.
     #[inline(always)]
     fn next_pattern(&mut self) -> Option<HalfMatch>
         ensures table { self.new.table ≡ self.old.table }

@@ -1,4 +1,4 @@
-//! Skips from accelerated rows to the next needle.
+//! Skips from accelerated states to the next needle.
 
 ghost use Rattle.std.specs.Prelude.{◌≤◌, length};
 ghost use Rattle.rx_spec.specs.Ids.{row_of};
@@ -8,8 +8,8 @@ ghost use Rattle.rx_stream.specs.Pieces.{IsSkip};
 use rx_base::StateID;
 use rx_search::{Automaton, first_needle};
 
-/// To which place in a piece a walk may pass from a row and a place, since the bytes between lead the row to itself:
-/// to the next needle, or to the end of the piece. A row without needles stays.
+/// The place in a piece up to which an accelerated state leads to itself: the next needle, or the end of the piece. For
+/// a state without needles it is `from`.
 #[inline(always)]
 pub fn skip<A: Automaton>(table: &A, row: StateID, piece: &[u8], from: usize) -> usize
     requires sound { A.IsSound table.now }

@@ -9,24 +9,24 @@ use crate::skips::skip;
 use rx_base::StateID;
 use rx_search::{Automaton, pass_far};
 
-/// Where a walk over a piece halts, and at which row.
+/// Where a walk over a piece stops, and in which state.
 #[derive(Clone, Copy, Debug)]
 pub(crate) enum Halt {
-    /// The byte at a place led to a match row.
+    /// The byte at a place led to a match state.
     Match { row: StateID, at: usize },
-    /// The byte at a place led to the quit row.
+    /// The byte at a place led to the quit state.
     Quit { row: StateID, byte: u8, at: usize },
-    /// The piece has no event: it is read to its end, or the row is dead.
+    /// The piece has no event: it was read to its end, or the state is dead.
     End { row: StateID },
 }
 
 /// From how many bytes on a piece is read at several places at once.
 const FAR: usize = 8192;
 
-/// How many bytes are read one by one before that, and again after each special row.
+/// How many bytes are read one by one at first, and again after each special state.
 const ALONE: usize = 2048;
 
-/// Walks from a row over a piece, from a place in it on.
+/// Walks over a piece from a state and a place.
 #[inline(always)]
 pub(crate) fn walk<A: Automaton>(table: &A, start: StateID, piece: &[u8], from: usize) -> Halt
     requires sound { A.IsSound table.now }
@@ -65,7 +65,7 @@ fn walk_near<A: Automaton>(table: &A, start: StateID, piece: &[u8], from: usize)
     Halt::End { row }
 }
 
-/// Walks over a long piece. Where no byte has led to a special row for a while, it passes on at several places.
+/// Walks over a long piece. Where no byte has led to a special state for a while, it reads at several places.
 #[inline(never)]
 fn walk_far<A: Automaton>(table: &A, start: StateID, piece: &[u8], from: usize) -> Halt
     requires sound { A.IsSound table.now }
@@ -96,7 +96,7 @@ fn walk_far<A: Automaton>(table: &A, start: StateID, piece: &[u8], from: usize) 
     Halt::End { row }
 }
 
-/// Where a walk halts whose byte at a place led to a row, unless it goes on.
+/// Where a walk stops whose byte at a place led to a special state, or `None` if it goes on.
 #[inline(always)]
 fn met<A: Automaton>(table: &A, row: StateID, byte: u8, at: usize) -> Option<Halt>
     requires { IsId (A.ids table.now) row }
@@ -116,7 +116,7 @@ fn met<A: Automaton>(table: &A, row: StateID, byte: u8, at: usize) -> Option<Hal
     None
 }
 
-/// Skips before the first byte is read. Nothing is skipped from a match row: it is a match again after each byte that
+/// Skips before the first byte is read. A match state isn't skipped from: it reports a match again after each byte that
 /// leads it to itself.
 #[inline(always)]
 fn skip_at_start<A: Automaton>(table: &A, row: StateID, piece: &[u8], from: usize) -> usize

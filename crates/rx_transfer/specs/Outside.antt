@@ -1,4 +1,4 @@
--- What a run leaves of its source and its sink.
+-- What a run has read and written.
 use Rattle.std.specs.Prelude.{ℕ, ◌<◌, Option, List, length, take}
 use Rattle.std.specs.Io.KnownBytes.{Appends}
 

@@ -1,6 +1,6 @@
-//! What commands share: reading from a source, writing into a sink, and words of the lines that they write.
+//! What the commands share: reading from a source, writing to a sink, and words of their lines.
 //!
-//! [`write_text`] writes a text whole, or up to where the sink fails. The words stand in `specs/Words.antt`.
+//! [`write_text`] writes a text whole, or up to where the sink fails. `specs/Words.antt` defines the words.
 #![tactic(auto)]
 
 ghost use Rattle.std.specs.Prelude.{◌≡◌, ◌<◌, ◌≤◌, length, take, true, false};
@@ -11,7 +11,7 @@ ghost use Rattle.rx_transfer.specs.Outside.{AppendsFront};
 
 use rx_base::{ReadAnswer, Sink, Source, WriteAnswer};
 
-/// Reads into the front of a buffer.
+/// Reads at most `room` bytes into the front of a buffer.
 pub fn read_front<S: Source>(src: &mut S, buffer: &mut [u8], room: usize) -> ReadAnswer
     requires some { 0 < room }
     requires within { room ≤ length buffer.old }
@@ -21,7 +21,7 @@ pub fn read_front<S: Source>(src: &mut S, buffer: &mut [u8], room: usize) -> Rea
     src.read(&mut buffer[..room])
 }
 
-/// Writes a text, and tells whether all of it was taken.
+/// Writes a text. Returns whether the sink took all of it.
 pub fn write_text<K: Sink>(out: &mut K, text: &[u8]) -> bool
     ensures whole { result ≡ true → Appends (K.written out.old) (K.written out.new) text.now }
     ensures part { result ≡ false → AppendsFront (K.written out.old) (K.written out.new) text.now }

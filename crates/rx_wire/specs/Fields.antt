@@ -1,4 +1,4 @@
--- Numbers of images, in either order, and bytes as they are.
+-- Numbers of images, in either byte order, and plain bytes.
 use Rattle.std.specs.Prelude.{◌≡◌, ℕ, List, ◌++◌, length, take, drop, nat_lt, nat_le, Result, Ok, Err, if◌then◌else◌}
 use Rattle.std.specs.Int.{Width, w32, byte_len, to_le_bytes, to_be_bytes, from_le_bytes, from_be_bytes}
 use Rattle.rx_spec.specs.Causes.{max_id}

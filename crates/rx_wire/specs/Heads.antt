@@ -1,4 +1,4 @@
--- Labels, and the words that tell an image's order and version.
+-- Labels, and the words that mark an image's byte order and version.
 use Rattle.std.specs.Prelude.{◌≡◌, ℕ, ◌+◌, ◌-◌, ◌%◌, ◌≤◌, ◌==◌, nat_lt, Bool, true, not, List, ◌++◌, length, take, drop}
 use Rattle.std.specs.Prelude.{replicate, Result, Ok, Err, if◌then◌else◌}
 use Rattle.std.specs.List.{list_all, prefix_len}

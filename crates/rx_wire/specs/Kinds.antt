@@ -1,4 +1,4 @@
--- Why an image isn't read, and what it means that bytes are read or written.
+-- Why an image can't be read, and what it means to read or write bytes.
 use Rattle.std.specs.Prelude.{◌≡◌, ℕ, ◌<◌, List, ◌++◌, length, drop, Result, Ok, Err}
 use Rattle.rx_wire.specs.declared.error.DeserializeErrorKind.{DeserializeErrorKind}
 use Rattle.rx_wire.specs.declared.error.DeserializeErrorKind.TheVariants as kinds

@@ -1,4 +1,4 @@
-//! The words that tell an image's order and its version.
+//! The word that marks an image's byte order, and its version.
 
 ghost use Rattle.std.specs.Prelude.{◌≡◌, IfOk, drop};
 ghost use Rattle.std.specs.Int.{w32};
@@ -9,12 +9,12 @@ ghost use Rattle.rx_wire.specs.declared.order.Order.TheVariants.{Little};
 
 use crate::{DeserializeError, DeserializeErrorKind, Endian, Order, SerializeError};
 
-/// The word that tells the order, and the same word with its bytes turned round.
+/// The word that marks the byte order, and the same word with its bytes reversed.
 const WORD: u32 = 0xFEFF;
 
 const TURNED_WORD: u32 = 0xFFFE0000;
 
-/// That the word isn't one that tells an order.
+/// The error for a word that marks no byte order.
 fn mismatch(found: u32) -> DeserializeErrorKind
     ensures { result ≡ DeserializeErrorKind.EndianMismatch endianness_word found }
 {
@@ -24,7 +24,8 @@ fn mismatch(found: u32) -> DeserializeErrorKind
     }
 }
 
-/// Writes the word that tells the order at the front of `dst`, and answers its size.
+/// Writes the word that marks the byte order at the front of `dst` and returns its size, 4. If `dst` is shorter,
+/// returns an error and writes nothing.
 pub fn write_endianness_check<E: Endian>(dst: &mut [u8]) -> Result<usize, SerializeError>
     ensures { Writes (field E.order w32 endianness_word) dst.old dst.new result }
 {
@@ -37,7 +38,7 @@ pub fn write_endianness_check<E: Endian>(dst: &mut [u8]) -> Result<usize, Serial
     Ok(4)
 }
 
-/// The size of the word that tells the order, which must be that of a little endian image.
+/// Reads the word that marks the byte order, which must be that of a little-endian image. Returns its size, 4.
 #[tactic(auto, unfolding(crate::specs::Heads::endianness_check_at, crate::specs::Fields::number_at))]
 pub fn read_endianness_check(slice: &[u8]) -> Result<usize, DeserializeError>
     ensures read { GivesExactly (λ _. (endianness_word, drop 4 slice.now)) result (endianness_check_at slice.now) }
@@ -50,7 +51,7 @@ pub fn read_endianness_check(slice: &[u8]) -> Result<usize, DeserializeError>
     Ok(size)
 }
 
-/// The order of what follows, and the bytes after the word that tells it.
+/// Splits off the word that marks the byte order. Returns the byte order and the bytes after the word.
 #[tactic(auto, unfolding(crate::specs::Heads::order_at))]
 pub fn split_order(bytes: &[u8]) -> Result<(Order, &[u8]), DeserializeError>
     ensures { GivesExactly (λ x. (x.0, x.1.now)) result (order_at bytes.now) }
@@ -63,7 +64,7 @@ pub fn split_order(bytes: &[u8]) -> Result<(Order, &[u8]), DeserializeError>
     }
 }
 
-/// The order of what follows the word at the front of `slice`, and the word's size.
+/// Reads the word that marks the byte order. Returns the byte order and the word's size, 4.
 #[tactic(auto, unfolding(crate::specs::Heads::order_at, crate::specs::Fields::number_at))]
 pub fn read_order(slice: &[u8]) -> Result<(Order, usize), DeserializeError>
     ensures read { GivesExactly (λ x. (x.0, drop 4 slice.now)) result (order_at slice.now) }
@@ -73,7 +74,8 @@ pub fn read_order(slice: &[u8]) -> Result<(Order, usize), DeserializeError>
     Ok((order, 4))
 }
 
-/// Writes a version at the front of `dst`, and answers its size.
+/// Writes a version at the front of `dst` and returns its size, 4. If `dst` is shorter, returns an error and writes
+/// nothing.
 pub fn write_version<E: Endian>(version: u32, dst: &mut [u8]) -> Result<usize, SerializeError>
     ensures { Writes (field E.order w32 version) dst.old dst.new result }
 {
@@ -86,7 +88,7 @@ pub fn write_version<E: Endian>(version: u32, dst: &mut [u8]) -> Result<usize, S
     Ok(4)
 }
 
-/// The size of a little endian version, which must be the expected one.
+/// Reads a little-endian version, which must be the expected one. Returns its size, 4.
 pub fn read_version(slice: &[u8], expected: u32) -> Result<usize, DeserializeError>
     ensures read { GivesExactly (λ _. (expected, drop 4 slice.now)) result (version_at expected Little slice.now) }
     ensures size { IfOk result (λ size. size ≡ 4) }

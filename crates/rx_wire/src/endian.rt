@@ -1,4 +1,4 @@
-//! Numbers written in the order of a type.
+//! Writing numbers in a byte order that is a type.
 
 ghost use Rattle.std.specs.Prelude.{◌≡◌, ◌≤◌, ◌++◌, length, drop};
 ghost use Rattle.std.specs.Int.{w16, w32, w128};
@@ -6,22 +6,22 @@ ghost use Rattle.rx_wire.specs.Fields.{field};
 ghost use Rattle.rx_wire.specs.declared.order.Order.{Order};
 ghost use Rattle.rx_wire.specs.declared.order.Order.TheVariants.{Little, Big};
 
-/// An order in which the bytes of numbers are written: [`LE`] or [`BE`].
+/// A byte order for writing: [`LE`] or [`BE`].
 pub trait Endian {
-    /// The order.
+    /// The byte order.
     ghost order: { Order };
 
-    /// Writes a number of two bytes at the front of `dst`. The bytes after it stay.
+    /// Writes a number of two bytes at the front of `dst`. The bytes after it are unchanged.
     fn write_u16(n: u16, dst: &mut [u8])
         requires { 2 ≤ length dst.old }
         ensures { dst.new ≡ field order w16 n ++ drop 2 dst.old };
 
-    /// Writes a number of four bytes at the front of `dst`. The bytes after it stay.
+    /// Writes a number of four bytes at the front of `dst`. The bytes after it are unchanged.
     fn write_u32(n: u32, dst: &mut [u8])
         requires { 4 ≤ length dst.old }
         ensures { dst.new ≡ field order w32 n ++ drop 4 dst.old };
 
-    /// Writes a number of 16 bytes at the front of `dst`. The bytes after it stay.
+    /// Writes a number of 16 bytes at the front of `dst`. The bytes after it are unchanged.
     fn write_u128(n: u128, dst: &mut [u8])
         requires { 16 ≤ length dst.old }
         ensures { dst.new ≡ field order w128 n ++ drop 16 dst.old };

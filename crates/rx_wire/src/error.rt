@@ -1,4 +1,4 @@
-//! Why an image isn't read or written.
+//! Why an image can't be read or written.
 
 ghost use Rattle.std.specs.Prelude.{◌≡◌};
 ghost use Rattle.rx_wire.specs.Kinds.{Kind, kind_of};
@@ -8,15 +8,15 @@ use std::alloc::AllocError;
 use std::marker::Model;
 use thiserror::Error;
 
-/// The destination is too small, and nothing was written.
+/// The destination is too short. Nothing was written.
 #[derive(Debug, Drop, Error)]
 #[error("destination buffer is too small to write {what}")]
 pub struct SerializeError {
-    /// What was to be written.
+    /// The field or part that doesn't fit.
     pub what: &'static str,
 }
 
-/// Why an image isn't read: the first test that it fails.
+/// Why an image is rejected: the first test that it fails.
 ///
 /// Contracts see it as its kind, without the texts that name the test or the field.
 #[derive(Debug, Drop, Error)]
@@ -34,7 +34,7 @@ impl Model for DeserializeError {
 }
 
 impl DeserializeError {
-    /// The error of a kind.
+    /// The error of this kind.
     pub fn new(kind: DeserializeErrorKind) -> DeserializeError
         ensures { result ≡ kind_of kind }
     {
@@ -48,14 +48,14 @@ impl DeserializeError {
         &self.kind
     }
 
-    /// A test without a kind of its own failed.
+    /// The error of a test without a kind of its own.
     pub fn generic(msg: &'static str) -> DeserializeError
         ensures { result ≡ Kind.Generic }
     {
         DeserializeError::new(DeserializeErrorKind::Generic { msg })
     }
 
-    /// A field doesn't fit the bytes that are left.
+    /// The error of a field that doesn't fit the bytes that are left.
     pub fn buffer_too_small(what: &'static str) -> DeserializeError
         ensures { result ≡ Kind.BufferTooSmall }
     {
@@ -71,43 +71,43 @@ impl From<AllocError> for DeserializeError {
     }
 }
 
-/// The kinds of errors of reading.
+/// The kinds of errors of readers.
 #[derive(Debug, Drop, Error)]
 pub enum DeserializeErrorKind {
-    /// A test without a kind of its own.
+    /// A test without a kind of its own failed.
     #[error("{msg}")]
     Generic {
-        /// Which one.
+        /// Names the test.
         msg: &'static str,
     },
     /// A field doesn't fit the bytes that are left.
     #[error("buffer is too small to read {what}")]
     BufferTooSmall {
-        /// Which one.
+        /// Names the field.
         what: &'static str,
     },
-    /// The version isn't the one that is read.
+    /// The version isn't the expected one.
     #[error("unsupported version: expected version {expected} but found version {found}")]
     VersionMismatch {
-        /// The version that is read.
+        /// The expected version.
         expected: u32,
-        /// The number that stands there.
+        /// The version of the image.
         found: u32,
     },
-    /// The word that tells the order of an image's numbers isn't one.
+    /// The word that marks the byte order has another value.
     #[error("endianness mismatch: expected 0x{expected:X} but got 0x{found:X}. (Are you trying to load an object \
              serialized with a different endianness?)")]
     EndianMismatch {
         /// The word of little endian images, 0xFEFF.
         expected: u32,
-        /// The number that stands there, read as little endian.
+        /// The word of the image, read as little endian.
         found: u32,
     },
-    /// The label is another.
+    /// The label is another one.
     #[error("label mismatch: start of serialized object should contain a NUL terminated \"{expected}\" label, but \
              a different label was found")]
     LabelMismatch {
-        /// The label that is read.
+        /// The expected label.
         expected: &'static str,
     },
     /// A number is above the greatest id of a pattern.
@@ -115,18 +115,18 @@ pub enum DeserializeErrorKind {
     PatternID {
         /// The number.
         err: IdError,
-        /// Where it stands.
+        /// Names the field.
         what: &'static str,
     },
-    /// A number is above the greatest id of a row.
+    /// A number is above the greatest id of a state.
     #[error("failed to read state ID for {what}: {err}")]
     StateID {
         /// The number.
         err: IdError,
-        /// Where it stands.
+        /// Names the field.
         what: &'static str,
     },
-    /// Memory ran out. The readers of this crate never answer it, since they take none.
+    /// Memory ran out. The readers of this crate never return it, since they allocate nothing.
     #[error("out of memory")]
     Memory,
 }

@@ -8,10 +8,10 @@ ghost use Rattle.rx_wire.specs.Heads.{IsLabel, is_text, label_at, label_text, pa
 
 use crate::{DeserializeError, DeserializeErrorKind, SerializeError};
 
-/// How many bytes a label and its NUL have at most.
+/// The greatest length of a label with its NUL.
 const MAX_LEN: usize = 256;
 
-/// What a number lacks to a multiple of 4.
+/// The number of bytes from `n` to the next multiple of 4.
 pub fn padding_len(n: usize) -> usize
     ensures value { result ≡ padding n }
     ensures small { result ≤ 3 }
@@ -19,7 +19,7 @@ pub fn padding_len(n: usize) -> usize
     (4 - n % 4) % 4
 }
 
-/// How many bytes stand before the first NUL.
+/// The number of bytes before the first NUL.
 fn text_len(bytes: &[u8]) -> usize
     ensures value { result ≡ prefix_len is_text bytes.now }
     ensures bound { result ≤ length bytes.now }
@@ -32,7 +32,7 @@ fn text_len(bytes: &[u8]) -> usize
     bytes.len()
 }
 
-/// At most so many of the first bytes.
+/// The first bytes, at most `most`.
 fn first(most: usize, bytes: &[u8]) -> &[u8]
     ensures value { result.now ≡ take most bytes.now }
     ensures len { length result.now ≤ most }
@@ -50,7 +50,8 @@ fn is_label(text: &[u8], label: &str) -> bool
     text == label.as_bytes()
 }
 
-/// The size of the label at the front of `slice`, its NUL and its padding counted. The label must be the expected one.
+/// Reads the label that `slice` begins with, which must be the expected one. Returns its size with the NUL and the
+/// padding.
 #[tactic(auto, unfolding(crate::specs::Heads::label_at))]
 pub fn read_label(slice: &[u8], expected: &'static str) -> Result<usize, DeserializeError>
     ensures read { GivesExactly (λ size. (size, drop size slice.now)) result (label_at expected.now slice.now) }
@@ -75,7 +76,8 @@ pub fn read_label(slice: &[u8], expected: &'static str) -> Result<usize, Deseria
     Ok(size)
 }
 
-/// The size of the label, which must be the expected one, and the bytes after it.
+/// Splits off the label, which must be the expected one. Returns its size with the NUL and the padding, and the bytes
+/// after it.
 #[tactic(auto, unfolding(crate::specs::Heads::label_at))]
 pub fn split_label<'a>(
     bytes: &'a [u8],
@@ -87,7 +89,8 @@ pub fn split_label<'a>(
     Ok((size, &bytes[size..]))
 }
 
-/// The bytes that a label takes: its own, a NUL, and NULs up to a multiple of 4. It has at most 255 bytes, none a NUL.
+/// The size of a label in an image: its own bytes, a NUL, and NULs up to a multiple of 4. Requires at most 255 bytes,
+/// none of them a NUL.
 pub fn write_label_len(label: &str) -> usize
     requires { IsLabel label.now }
     ensures value { result ≡ length (label_text label.now) }
@@ -96,7 +99,8 @@ pub fn write_label_len(label: &str) -> usize
     label.len() + 1 + padding_len(label.len() + 1)
 }
 
-/// Writes a label at the front of `dst`, and answers its size. It has at most 255 bytes, none of them a NUL.
+/// Writes a label at the front of `dst` and returns its size. Requires at most 255 bytes, none of them a NUL. If `dst`
+/// is shorter, returns an error and writes nothing.
 pub fn write_label(label: &str, dst: &mut [u8]) -> Result<usize, SerializeError>
     requires { IsLabel label.now }
     ensures { Writes (label_text label.now) dst.old dst.new result }

@@ -12,7 +12,7 @@ ghost use Rattle.rx_wire.specs.Fields.{bytes_at, field, id_at, number_at};
 ghost use Rattle.rx_wire.specs.Heads.{IsLabel, endianness_check_at, endianness_word, label_at, label_text, order_at};
 ghost use Rattle.rx_wire.specs.Heads.{padded, version_at};
 
-/// Numbers, in either order.
+/// Numbers, in either byte order.
 #[tactic(auto, using(crate::proofs::Fields::numbers_again))]
 pub fn numbers_are_read_back()
     ensures two { (order : Order) (n : ℕ) → n < 2 ^ 16 → Reads (number_at order w16) (field order w16 n) n }
@@ -20,7 +20,7 @@ pub fn numbers_are_read_back()
     ensures sixteen { (order : Order) (n : ℕ) → n < 2 ^ 128 → Reads (number_at order w128) (field order w128 n) n }
 {}
 
-/// Ids, in either order, and bytes as they are.
+/// Ids in either byte order, and plain bytes.
 #[tactic(auto, using(crate::proofs::Fields::id_again, crate::proofs::Fields::bytes_again))]
 pub fn ids_and_bytes_are_read_back()
     ensures id { (kind : ℕ → Kind) (order : Order) (n : ℕ)
@@ -28,7 +28,7 @@ pub fn ids_and_bytes_are_read_back()
     ensures bytes { (bytes : List ℕ) → Reads (bytes_at (length bytes)) bytes bytes }
 {}
 
-/// Labels, the word that tells the order, and versions.
+/// Labels, the word that marks the byte order, and versions.
 #[tactic(auto, using(crate::proofs::Heads::checks_again))]
 pub fn checks_are_read_back()
     ensures label { (label : List ℕ)

@@ -1,9 +1,9 @@
-//! The fields of images: numbers in either order of their bytes, labels, the words that tell an image's order and
-//! version, and why an image isn't read or written.
+//! The fields of images: numbers in either byte order, labels, the words that mark an image's byte order and version,
+//! and the errors of readers and writers.
 //!
-//! A field's bytes have one definition, with the order as a variable (`specs/Fields.antt`, `specs/Heads.antt`). A
-//! reader takes a field from the front of some bytes, or names the first test that they fail. What was written is
-//! read back, whatever follows it ([`laws`]). Start with [`Order`] and [`Endian`].
+//! One definition gives the bytes of each field, with the byte order as a parameter (`specs/Fields.antt`,
+//! `specs/Heads.antt`). A reader takes a field from the front of some bytes, or returns the first test that they fail.
+//! What was written is read back, whatever bytes follow ([`laws`]). Start with [`Order`] and [`Endian`].
 #![tactic(auto)]
 
 mod checks;

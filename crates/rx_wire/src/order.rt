@@ -1,4 +1,4 @@
-//! The order of a number's bytes, and numbers in either.
+//! Byte orders for reading, and numbers in either order.
 
 ghost use Rattle.std.specs.Prelude.{◌≡◌, IfOk, drop};
 ghost use Rattle.std.specs.Int.{w16, w32, w128};
@@ -9,7 +9,7 @@ ghost use Rattle.rx_wire.specs.Heads.{version_at};
 use crate::error::{DeserializeError, DeserializeErrorKind};
 use rx_base::{PatternID, StateID};
 
-/// The order of the bytes of an image's numbers.
+/// The byte order of an image's numbers.
 #[derive(Clone, Copy, Debug, PartialEq, Eq)]
 pub enum Order {
     /// The lowest byte first.
@@ -54,7 +54,7 @@ impl Order {
     }
 }
 
-/// Fields at the front of some bytes, each with the bytes after it.
+/// Splits a field off the front of some bytes. Returns it with the bytes after it.
 impl Order {
     /// A number of two bytes, and the bytes after it.
     #[tactic(auto, unfolding(crate::specs::Fields::number_at))]
@@ -109,7 +109,7 @@ impl Order {
         Ok((self.u128_from_bytes(number), rest))
     }
 
-    /// The id of a row, and the bytes after it.
+    /// The id of a state, and the bytes after it.
     #[tactic(auto, unfolding(crate::specs::Fields::id_at))]
     pub fn split_state_id<'a>(
         self,
@@ -141,7 +141,7 @@ impl Order {
         }
     }
 
-    /// The bytes after the version, which must be the expected one.
+    /// The bytes after a version, which must be the expected one.
     #[tactic(auto, unfolding(crate::specs::Heads::version_at))]
     pub fn split_version<'a>(
         self,
@@ -161,9 +161,9 @@ impl Order {
     }
 }
 
-/// Fields at the front of some bytes, each with its size.
+/// Reads a field at the front of some bytes. Returns it with its size.
 impl Order {
-    /// A number of two bytes, and their count.
+    /// A number of two bytes, and its size.
     #[tactic(auto, unfolding(crate::specs::Fields::number_at))]
     pub fn try_read_u16(
         self,
@@ -177,7 +177,7 @@ impl Order {
         Ok((number, 2))
     }
 
-    /// A number of four bytes, and their count.
+    /// A number of four bytes, and its size.
     #[tactic(auto, unfolding(crate::specs::Fields::number_at))]
     pub fn try_read_u32(
         self,
@@ -191,7 +191,7 @@ impl Order {
         Ok((number, 4))
     }
 
-    /// A number of 16 bytes, and their count.
+    /// A number of 16 bytes, and its size.
     #[tactic(auto, unfolding(crate::specs::Fields::number_at))]
     pub fn try_read_u128(
         self,
@@ -205,7 +205,7 @@ impl Order {
         Ok((number, 16))
     }
 
-    /// The id of a row, and the count of its bytes.
+    /// The id of a state, and its size.
     #[tactic(auto, unfolding(crate::specs::Fields::id_at, crate::specs::Fields::number_at))]
     pub fn try_read_state_id(
         self,
@@ -219,7 +219,7 @@ impl Order {
         Ok((id, StateID::SIZE))
     }
 
-    /// The id of a pattern, and the count of its bytes.
+    /// The id of a pattern, and its size.
     #[tactic(auto, unfolding(crate::specs::Fields::id_at, crate::specs::Fields::number_at))]
     pub fn try_read_pattern_id(
         self,
@@ -233,7 +233,7 @@ impl Order {
         Ok((id, PatternID::SIZE))
     }
 
-    /// The count of the version's bytes. The version must be the expected one.
+    /// Reads a version, which must be the expected one. Returns its size.
     #[tactic(auto, unfolding(crate::specs::Heads::version_at, crate::specs::Fields::number_at))]
     pub fn read_version(self, slice: &[u8], expected: u32) -> Result<usize, DeserializeError>
         ensures read { GivesExactly (λ _. (expected, drop 4 slice.now)) result (version_at expected self slice.now) }

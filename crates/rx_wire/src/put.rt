@@ -1,4 +1,4 @@
-//! Fields written one after another.
+//! Writes fields one after another.
 
 ghost use Rattle.std.specs.Prelude.{◌≡◌, ℕ, ◌+◌, ◌≤◌, ◌++◌, List, length};
 ghost use Rattle.std.specs.Int.{w32, w128};
@@ -6,7 +6,7 @@ ghost use Rattle.rx_wire.specs.Fields.{Stands, field};
 
 use crate::Endian;
 
-/// Writes a number of four bytes behind the bytes before a place, and answers the place after it.
+/// Writes a number of four bytes at the index `at` and returns the index after it.
 pub fn put_u32<E: Endian>(n: u32, dst: &mut [u8], at: usize) -> usize
     requires { at + 4 ≤ length dst.old }
     ensures len { length dst.new ≡ length dst.old }
@@ -18,7 +18,7 @@ pub fn put_u32<E: Endian>(n: u32, dst: &mut [u8], at: usize) -> usize
     at + 4
 }
 
-/// Writes a number of 16 bytes behind the bytes before a place, and answers the place after it.
+/// Writes a number of 16 bytes at the index `at` and returns the index after it.
 pub fn put_u128<E: Endian>(n: u128, dst: &mut [u8], at: usize) -> usize
     requires { at + 16 ≤ length dst.old }
     ensures len { length dst.new ≡ length dst.old }
@@ -30,7 +30,7 @@ pub fn put_u128<E: Endian>(n: u128, dst: &mut [u8], at: usize) -> usize
     at + 16
 }
 
-/// Writes some bytes behind the bytes before a place, and answers the place after them.
+/// Writes bytes at the index `at` and returns the index after them.
 pub fn put_bytes(bytes: &[u8], dst: &mut [u8], at: usize) -> usize
     requires { at + length bytes.now ≤ length dst.old }
     ensures len { length dst.new ≡ length dst.old }

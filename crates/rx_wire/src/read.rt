@@ -1,4 +1,4 @@
-//! Bytes as they are, and numbers of little endian images.
+//! Plain bytes, and numbers of little-endian images.
 
 ghost use Rattle.std.specs.Prelude.{◌≡◌, ◌*◌, ◌<◌, IfOk, length, drop};
 ghost use Rattle.std.specs.Int.{w16, w32, w128};
@@ -9,7 +9,7 @@ ghost use Rattle.rx_wire.specs.declared.order.Order.TheVariants.{Little};
 use crate::{DeserializeError, Order};
 use rx_base::{PatternID, StateID};
 
-/// So many bytes, and the bytes after them.
+/// The first `len` bytes, and the bytes after them.
 #[tactic(auto, unfolding(crate::specs::Fields::bytes_at))]
 pub fn split_bytes<'a>(
     count: usize,
@@ -25,8 +25,8 @@ pub fn split_bytes<'a>(
     Ok(bytes.split_at(count))
 }
 
-/// The bytes of so many items of a size, and the bytes after them. The count may be any: it is multiplied only where
-/// the bytes are there.
+/// The bytes of `count` items of a size, and the bytes after them. The count may be any number: it is multiplied only
+/// after the bytes are known to be there.
 #[tactic(auto, unfolding(crate::specs::Fields::bytes_at))]
 pub fn split_items<'a>(
     count: usize,
@@ -44,7 +44,7 @@ pub fn split_items<'a>(
     Ok(bytes.split_at(size * count))
 }
 
-/// A little endian number of two bytes, and their count.
+/// A little-endian number of two bytes, and its size.
 pub fn try_read_u16(slice: &[u8], what: &'static str) -> Result<(u16, usize), DeserializeError>
     ensures read { GivesExactly (λ x. (x.0, drop 2 slice.now)) result (number_at Little w16 slice.now) }
     ensures size { IfOk result (λ x. x.1 ≡ 2) }
@@ -52,7 +52,7 @@ pub fn try_read_u16(slice: &[u8], what: &'static str) -> Result<(u16, usize), De
     Order::Little.try_read_u16(slice, what)
 }
 
-/// A little endian number of four bytes, and their count.
+/// A little-endian number of four bytes, and its size.
 pub fn try_read_u32(slice: &[u8], what: &'static str) -> Result<(u32, usize), DeserializeError>
     ensures read { GivesExactly (λ x. (x.0, drop 4 slice.now)) result (number_at Little w32 slice.now) }
     ensures size { IfOk result (λ x. x.1 ≡ 4) }
@@ -60,7 +60,7 @@ pub fn try_read_u32(slice: &[u8], what: &'static str) -> Result<(u32, usize), De
     Order::Little.try_read_u32(slice, what)
 }
 
-/// A little endian number of 16 bytes, and their count.
+/// A little-endian number of 16 bytes, and its size.
 pub fn try_read_u128(slice: &[u8], what: &'static str) -> Result<(u128, usize), DeserializeError>
     ensures read { GivesExactly (λ x. (x.0, drop 16 slice.now)) result (number_at Little w128 slice.now) }
     ensures size { IfOk result (λ x. x.1 ≡ 16) }
@@ -68,7 +68,7 @@ pub fn try_read_u128(slice: &[u8], what: &'static str) -> Result<(u128, usize), 
     Order::Little.try_read_u128(slice, what)
 }
 
-/// The little endian id of a row, and the count of its bytes.
+/// The little-endian id of a state, and its size.
 pub fn try_read_state_id(
     slice: &[u8],
     what: &'static str,
@@ -79,7 +79,7 @@ pub fn try_read_state_id(
     Order::Little.try_read_state_id(slice, what)
 }
 
-/// The little endian id of a pattern, and the count of its bytes.
+/// The little-endian id of a pattern, and its size.
 pub fn try_read_pattern_id(
     slice: &[u8],
     what: &'static str,

@@ -1,7 +1,8 @@
-//! Searches of each span of a text, and whether what they tell can be, whatever the table means.
+//! Searches every span of a text and tests whether the results are possible, whatever the table means.
 //!
-//! A match ends or begins in its span and is of a pattern of the table. A quit names a byte of the span or one of its
-//! two neighbours, which is a quit byte or leads the walk to the quit row. A mode is refused where it has no starts.
+//! A match must end or begin in its span and be of a pattern of the table. A quit error must name a byte of the span or
+//! beside it, and that byte must be a quit byte or lead the search to the quit state. An `UnsupportedAnchored` error
+//! must name a mode without start states.
 
 ghost use Rattle.rx_spec.specs.Queries.{IsFit};
 ghost use Rattle.rx_base.specs.Input.{query_of};
@@ -16,24 +17,24 @@ use rx_search::{Automaton, OverlappingState};
 use std::alloc::{AllocError, Global};
 use std::test::Fail;
 
-/// What of a table's settings decides which errors a search may have.
+/// The settings of a table that decide which errors a search may return.
 #[derive(Clone, Copy)]
 pub struct Settings<'a> {
-    /// The bytes at which searches give up.
+    /// The quit bytes.
     pub quits: &'a ByteSet,
-    /// Which modes have starts.
+    /// For which modes the table has start states.
     pub kind: StartKind,
-    /// Whether each pattern has starts of its own.
+    /// Whether each pattern has start states of its own.
     pub pattern_starts: bool,
 }
 
-/// What a search tells.
+/// The result of a search.
 type Answer = Result<Option<HalfMatch>, MatchError>;
 
 /// How often an overlapping search is called.
 const CALLS: usize = 8;
 
-/// In which modes each span is searched, and whether the first match will do.
+/// The modes of the searches, and whether they stop at the first match.
 const KINDS: [(Anchored, bool); 5] = [
     (Anchored::No, false),
     (Anchored::No, true),
@@ -42,7 +43,7 @@ const KINDS: [(Anchored, bool); 5] = [
     (Anchored::Pattern(PatternID::ZERO), false),
 ];
 
-/// Searches all spans of a text in all modes, in both directions, for one match and for all.
+/// Searches all spans of a text in all modes and both directions, for one match and for all.
 pub fn check_spans<A: Automaton>(
     alloc: Global,
     dfa: &A,
@@ -85,7 +86,7 @@ fn check_span<A: Automaton>(
     check_calls_rev(alloc, dfa, settings, input, &mut state, CALLS)
 }
 
-/// Calls a forward overlapping search so many times.
+/// Calls a forward overlapping search several times.
 fn check_calls_fwd<A: Automaton>(
     alloc: Global,
     dfa: &A,
@@ -107,7 +108,7 @@ fn check_calls_fwd<A: Automaton>(
     check_calls_fwd(alloc, dfa, settings, input, state, calls - 1)
 }
 
-/// The same in reverse.
+/// Calls a reverse overlapping search several times.
 fn check_calls_rev<A: Automaton>(
     alloc: Global,
     dfa: &A,
@@ -129,7 +130,7 @@ fn check_calls_rev<A: Automaton>(
     check_calls_rev(alloc, dfa, settings, input, state, calls - 1)
 }
 
-/// What a call of an overlapping search tells.
+/// The result of a call of an overlapping search.
 fn told_by(called: Result<(), MatchError>, found: Option<HalfMatch>) -> Answer {
     match called {
         Ok(()) => Ok(found),
@@ -137,7 +138,7 @@ fn told_by(called: Result<(), MatchError>, found: Option<HalfMatch>) -> Answer {
     }
 }
 
-/// An error where what a search tells can't be.
+/// Returns an error if the result of a search isn't possible.
 fn check<A: Automaton>(
     alloc: Global,
     dfa: &A,
@@ -178,14 +179,14 @@ fn is_within<A: Automaton>(dfa: &A, input: &Input<'_>, found: &HalfMatch) -> boo
         && found.pattern().as_usize() < dfa.pattern_len()
 }
 
-/// Whether a byte stands at an offset that is in the span or right beside it.
+/// Whether the byte at an offset has this value, and the offset is in the span or right beside it.
 fn is_beside(input: &Input<'_>, byte: u8, offset: usize) -> bool {
     input.start() <= offset.saturating_add(1)
         && offset <= input.end()
         && input.haystack().get(offset) == Some(&byte)
 }
 
-/// Whether a mode has starts.
+/// Whether a mode has start states.
 fn has_starts(settings: Settings<'_>, mode: Anchored) -> bool {
     match mode {
         Anchored::No => settings.kind.has_unanchored(),
@@ -194,7 +195,7 @@ fn has_starts(settings: Settings<'_>, mode: Anchored) -> bool {
     }
 }
 
-/// Whether the byte at an offset leads a search's walk to the quit row.
+/// Whether the byte at an offset leads a search to the quit state.
 fn leads_to_quit<A: Automaton>(
     alloc: Global,
     dfa: &A,
@@ -213,7 +214,7 @@ fn leads_to_quit<A: Automaton>(
     }
 }
 
-/// The bytes that a walk over a span reads up to an offset.
+/// The bytes that a search over a span reads up to an offset.
 fn walked(
     alloc: Global,
     input: &Input<'_>,
@@ -236,7 +237,7 @@ fn walked(
     Ok(bytes)
 }
 
-/// Whether the last of some bytes leads from a row to the quit row, and none before it does.
+/// Whether the last of some bytes leads from a state to the quit state, and none before it does.
 fn quits_last<A: Automaton>(dfa: &A, id: StateID, bytes: &[u8]) -> bool
     requires { IsId (A.ids dfa.now) id }
 {

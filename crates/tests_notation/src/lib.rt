@@ -1,18 +1,18 @@
-//! Expressions as short texts, so that tables of tests can give them. Only tests use this.
+//! Expressions as short texts, for tables of tests. Only tests use this.
 //!
-//! A text is words with one space between two, and each form stands behind its parts: `a b . c |` is
-//! either `ab` or `c`. What is joined to nothing at the end is a pattern, so `a b` is two patterns.
+//! A text is words with one space between two, in postfix order: `a b . c |` is either `ab` or `c`. Each expression
+//! that is left at the end is a pattern, so `a b` is two patterns.
 //!
 //! | word | what it is |
 //! |---|---|
 //! | `_` | the empty expression |
 //! | `.` | the last two, one after the other |
 //! | `\|` | one of the last two |
-//! | `{2,4}` `{2,}` | from 2 to 4 rounds of the last one, or from 2 rounds on |
-//! | `{2,4}?` `{2,}?` | the same, with fewer rounds preferred |
-//! | `[ab]` `[^ab]` | a byte of these, or any other byte |
-//! | `\d` `\w` `\S` | a digit; a digit, a letter or `_`; a byte that is no white space |
-//! | `^` `$` `<word>` | where an assertion holds |
+//! | `{2,4}` `{2,}` | from 2 to 4 rounds of the last one, or at least 2 rounds |
+//! | `{2,4}?` `{2,}?` | the same, but lazy |
+//! | `[ab]` `[^ab]` | one of these bytes, or any other byte |
+//! | `\d` `\w` `\S` | a digit; a digit, a letter or `_`; a byte that isn't white space |
+//! | `^` `$` `<word>` | an assertion |
 //! | any other | these bytes |
 #![tactic(auto)]
 
@@ -53,7 +53,7 @@ pub fn word_of(wanted: Look) -> &'static str {
     "no word"
 }
 
-/// Reads patterns.
+/// Reads a list of patterns.
 pub fn read(alloc: Global, text: &str) -> Result<Vec<Expr>, Fail> {
     let mut parts = Vec::new(alloc);
     if !text.is_empty() {
@@ -70,7 +70,7 @@ pub fn read_one(alloc: Global, text: &str) -> Result<Expr, Fail> {
     last(&mut read(alloc, text)?)
 }
 
-/// The expression of a word, whose parts are taken from those read so far.
+/// The expression of a word. Takes its parts from the expressions read so far.
 fn part_of(alloc: Global, word: &str, parts: &mut Vec<Expr>) -> Result<Expr, Fail> {
     match word.as_bytes() {
         b"_" => Ok(Expr::empty()),
@@ -93,7 +93,7 @@ fn last(parts: &mut Vec<Expr>) -> Result<Expr, Fail> {
     Ok(parts.pop().ok_or("a part is missing")?)
 }
 
-/// So many rounds as `2,4` or `2,` says.
+/// The repetition with the bounds that `2,4` or `2,` spells.
 fn repeated(alloc: Global, bounds: &[u8], greedy: bool, body: Expr) -> Result<Expr, Fail> {
     let (mut min, mut max) = (0u32, None);
     for byte in bounds {
@@ -107,7 +107,7 @@ fn repeated(alloc: Global, bounds: &[u8], greedy: bool, body: Expr) -> Result<Ex
     Ok(Expr::repeat(alloc, min, max, greedy, body)?)
 }
 
-/// The number with a digit behind it.
+/// The number with one more digit.
 fn with_digit(number: u32, digit: u8) -> u32 {
     number
         .wrapping_mul(10)
@@ -127,7 +127,7 @@ fn leaf(alloc: Global, word: &str) -> Result<Expr, Fail> {
     }
 }
 
-/// The bytes of a class, if the word is one.
+/// The bytes of a class, or `None` if the word isn't one.
 fn class_of(word: &[u8]) -> Option<ByteSet> {
     let mut set = ByteSet::empty();
     for byte in 0..=255 {
@@ -138,7 +138,7 @@ fn class_of(word: &[u8]) -> Option<ByteSet> {
     Some(set)
 }
 
-/// Whether a byte is in the class of a word, if the word is one.
+/// Whether a byte is in the class of a word, or `None` if the word isn't one.
 fn is_in_class(word: &[u8], byte: u8) -> Option<bool> {
     match word {
         b"\\d" => Some(byte.is_ascii_digit()),

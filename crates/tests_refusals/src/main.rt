@@ -1,10 +1,10 @@
-//! Builds, writes, reads, copies and searches the tables of a pattern that matches everywhere and of none, in both
-//! forms, alone and as a pair. A tool refuses it memory, one allocation in a run: then the call that meets the refusal
-//! has to say so, what was there before has to be as it was, and the same calls have to succeed when they are made
-//! again.
+//! Builds, writes, reads, copies and searches the tables of a pattern that matches everywhere and of no pattern, in
+//! both forms, alone and as a pair. `checks/refusals` makes one allocation fail in each run. Then the call that needs
+//! it must report that memory ran out, everything from before must be unchanged, and the same calls must succeed when
+//! they are made again.
 //!
-//! It writes a line for each table, and before it one for a call that was refused. The status is 0 where none was, 7
-//! where one was and all else is right, and 1 where something is wrong.
+//! It writes a line for each table, and before it one for a call that ran out of memory. The status is 0 if none did, 7
+//! if one did and all else is right, and 1 if something is wrong.
 #![tactic(auto)]
 
 ghost use Rattle.std.specs.Prelude.{IfOk};
@@ -26,12 +26,12 @@ use std::alloc::Global;
 use std::io;
 use std::process::ExitCode;
 
-/// What went otherwise than it does with ample memory.
+/// A result that differs from that with enough memory.
 #[derive(Clone, Copy, PartialEq)]
 enum Fault {
     /// A call ran out of memory.
     Memory(&'static str),
-    /// A call answered something else.
+    /// A call returned something else.
     Wrong(&'static str),
 }
 
@@ -51,7 +51,7 @@ fn read_fault(error: &DeserializeError, call: &'static str) -> Fault {
     }
 }
 
-/// A form of tables, and whether the pattern matches everywhere, or there is none.
+/// A form of tables, and whether their pattern matches everywhere or there is none.
 #[derive(Clone, Copy)]
 struct Case {
     is_sparse: bool,
@@ -87,7 +87,7 @@ impl Case {
         }
     }
 
-    /// How many bytes the image has.
+    /// The length of the image in bytes.
     fn size(self) -> usize {
         match (self.is_sparse, self.always) {
             (false, true) => 760,
@@ -108,7 +108,7 @@ impl Case {
         }
     }
 
-    /// A fault unless a table tells a match of pattern 0 at 0, or none.
+    /// A fault unless a table reports a match of pattern 0 at 0, or none if there is no pattern.
     fn search<A: Automaton>(self, dfa: &A) -> Result<(), Fault>
         requires { A.IsSound dfa.now }
     {
@@ -212,7 +212,7 @@ impl Case {
         }
     }
 
-    /// Writes a dense table in both places of a pair, and reads it again.
+    /// Writes a dense table as both tables of a pair, and reads the pair.
     fn run_dense_pair(self, alloc: Global) -> Result<(), Fault> {
         let dfa = self.build_dense(alloc)?;
         for order in [Order::Little, Order::Big] {
@@ -225,7 +225,7 @@ impl Case {
         Ok(())
     }
 
-    /// Writes a sparse table in both places of a pair, and reads it again.
+    /// Writes a sparse table as both tables of a pair, and reads the pair.
     fn run_sparse_pair(self, alloc: Global) -> Result<(), Fault> {
         let dfa = self.build_sparse(alloc)?;
         for order in [Order::Little, Order::Big] {
@@ -238,7 +238,7 @@ impl Case {
         Ok(())
     }
 
-    /// Reads the image of a pair of the same table twice, and searches by both.
+    /// Reads the image of a pair of the same table twice, and searches with both.
     fn read_pair(self, alloc: Global, image: &[u8]) -> Result<(), Fault> {
         match read_pair(alloc, image) {
             Ok((_, len)) if len != self.size().saturating_mul(2).saturating_add(40) => {
@@ -257,7 +257,7 @@ impl Case {
     }
 }
 
-/// Makes the calls of all tables, and once more those of one that was refused memory. Tells whether one was.
+/// Makes the calls of all tables, and repeats those of a table for which memory ran out. Returns whether it did.
 fn run_all(rt: &HostRuntime) -> io::Result<Result<bool, &'static str>> {
     let mut refused = false;
     for case in CASES {

@@ -1,4 +1,4 @@
--- What is known of the tables that are made.
+-- What is known of the tables that are made by hand.
 use Rattle.std.specs.Prelude.{◌≡◌, None, [], length}
 use Rattle.rx_dense.specs.Layouts.{Layout}
 use Rattle.rx_order.specs.RowOrder.{AreJoined, IsInOrder, IsPlain}

@@ -1,4 +1,4 @@
-//! Whether a table may be put in order, tested row by row.
+//! Tests, row by row, whether a table may be put in order.
 
 ghost use Rattle.std.specs.Prelude.{◌≡◌, ℕ, ◌<◌, Contains, IfOk, true, false};
 ghost use Rattle.rx_spec.specs.Ids.{row_of};
@@ -33,7 +33,7 @@ pub(crate) fn id_or_fail(dfa: &OwnedDFA, row: usize) -> Result<StateID, Fail>
     Ok(id(dfa, row))
 }
 
-/// Whether dead and quit lead to dead, no row leads to quit at the end mark, and no search starts there.
+/// Whether dead and quit lead to dead, no row leads to quit on end of input, and no search starts in dead or quit.
 pub(crate) fn is_routed(dfa: &OwnedDFA) -> bool
     requires { IsBare dfa.now }
     ensures { result ≡ true → IsRouted (table_of dfa.now) }

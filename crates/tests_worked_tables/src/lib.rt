@@ -1,4 +1,4 @@
-//! Dense tables worked by hand, so that tests can give their rows. Only tests use this.
+//! Dense tables worked by hand, for tests that list their rows. Only tests use this.
 //!
 //! Rows are named by their numbers. Row 0 is dead, and row 1 is quit.
 #![tactic(auto)]
@@ -28,9 +28,9 @@ const STARTS: [Start; 6] = [
     Start::CustomLineTerminator,
 ];
 
-/// A table of three patterns, sound and put in order. Of each row behind quit it is given where three columns lead; a
-/// column is the last byte of each of its classes, or the end mark. The match rows are given with their patterns.
-/// Unanchored searches start in the first of two rows, and anchored ones in the second.
+/// A table of three patterns, sound and in order. For each row after quit, `rows` has the targets of three columns; a
+/// column is given by the last byte of each of its classes, or end of input. `matches` has the match rows with their
+/// patterns. Unanchored searches start in the first of two rows, anchored ones in the second.
 pub fn table(
     alloc: Global,
     columns: &[&[Unit]; 3],
@@ -56,7 +56,7 @@ pub fn table(
     Ok(dfa)
 }
 
-/// The dead row and the quit row, with three patterns and the classes of the columns.
+/// The dead and the quit row, with three patterns and the classes of the columns.
 fn begin(alloc: Global, columns: &[&[Unit]; 3]) -> Result<OwnedDFA, AllocError>
     ensures { IfOk result IsBare }
 {
@@ -85,7 +85,7 @@ fn begin(alloc: Global, columns: &[&[Unit]; 3]) -> Result<OwnedDFA, AllocError>
     )
 }
 
-/// Lets the columns of a row lead to other rows.
+/// Sets the targets of a row's columns.
 fn fill(
     dfa: &mut OwnedDFA,
     columns: &[&[Unit]; 3],
@@ -105,7 +105,7 @@ fn fill(
     Ok(())
 }
 
-/// Lets unanchored and anchored searches start in these rows.
+/// Makes unanchored and anchored searches start in these rows.
 fn start_in(dfa: &mut OwnedDFA, rows: [usize; 2]) -> Result<(), Fail>
     requires { IsBare dfa.old }
     ensures { OnOk result (IsBare dfa.new) }

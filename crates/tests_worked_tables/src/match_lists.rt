@@ -11,7 +11,7 @@ use std::alloc::Global;
 use std::collections::BTreeMap;
 use std::test::Fail;
 
-/// The patterns of match rows, in which no search starts, by the rows' ids.
+/// The patterns of match rows, by the rows' ids. No search starts in these rows.
 pub(crate) fn lists(
     alloc: Global,
     dfa: &OwnedDFA,
@@ -34,7 +34,7 @@ pub(crate) fn lists(
     Ok(lists)
 }
 
-/// Patterns of a table, one at least.
+/// Patterns of a table, at least one.
 fn list(alloc: Global, dfa: &OwnedDFA, patterns: &[u32]) -> Result<Vec<PatternID>, Fail>
     ensures some { IfOk result (λ list. 0 < length list.items) }
     ensures below { IfOk result (λ list. All (λ k. k < dfa.now.pattern_len) list.items) }

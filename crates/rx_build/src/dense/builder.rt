@@ -21,7 +21,7 @@ use rx_expr::thompson::{self, Compiler, NFA};
 use rx_minimize::minimize;
 use std::alloc::{AllocError, Global};
 
-/// Makes dense tables of expressions or of an NFA.
+/// Builds dense tables of expressions or of an NFA.
 #[derive(Clone, Debug, Default, Drop)]
 pub struct Builder {
     config: Config,
@@ -34,7 +34,7 @@ impl Builder {
     ghost use Rattle.rx_build.specs.Built.{AreFit, IsBuilt, Refused, begun, build_of, limits_of, settings_with};
     ghost use Rattle.rx_expr.specs.Settings as thompson;
 
-    /// With default settings.
+    /// A builder with default settings.
     pub fn new() -> Builder
         ensures { both_of result ≡ none_asked }
     {
@@ -44,7 +44,7 @@ impl Builder {
         }
     }
 
-    /// Takes these settings of the table, and keeps those that they don't set.
+    /// Sets what `config` sets and keeps the other settings of the table.
     pub fn configure(&mut self, config: Config) -> &mut Builder
         ensures value { both_of result.now
             ≡ record (both_of self.old) { dense = overwritten (both_of self.old).dense (asked config) } }
@@ -54,7 +54,7 @@ impl Builder {
         self
     }
 
-    /// Takes these settings of the NFA, and keeps those that they don't set.
+    /// Sets what `config` sets and keeps the other settings of the NFA.
     pub fn thompson(&mut self, config: thompson::Config) -> &mut Builder
         ensures value { both_of result.now
             ≡ record (both_of self.old) {
@@ -66,7 +66,12 @@ impl Builder {
         self
     }
 
-    /// The table of a list of expressions, the first of which is pattern 0.
+    /// Builds the table of a list of expressions. The first expression is pattern 0.
+    ///
+    /// # Errors
+    ///
+    /// A `BuildError` whose cause holds, or `Memory` if memory runs out. If it succeeds, none of the other causes
+    /// holds.
     pub fn build_many(&self, alloc: Global, exprs: &[Expr]) -> Result<OwnedDFA, BuildError>
         ensures ok { IfOk result (λ dfa. IsBuilt (settled (both_of self.now).dense)
             (wanted_nfa (both_of self.now).thompson exprs.now) dfa) }
@@ -81,7 +86,12 @@ impl Builder {
         self.build_from_nfa(alloc, &nfa)
     }
 
-    /// The table of an NFA.
+    /// Builds the table of an NFA.
+    ///
+    /// # Errors
+    ///
+    /// A `BuildError` whose cause holds, or `Memory` if memory runs out. If it succeeds, none of the other causes
+    /// holds.
     pub fn build_from_nfa(&self, alloc: Global, nfa: &NFA) -> Result<OwnedDFA, BuildError>
         ensures ok { IfOk result (IsBuilt (settled (both_of self.now).dense) (meaning nfa.now)) }
         ensures fits { OnOk result (BuildFits (limits_of (settled (both_of self.now).dense))
@@ -97,7 +107,7 @@ impl Builder {
         Ok(dfa)
     }
 
-    /// The table of an NFA before its rows are joined and searches may skip. All start rows are marked.
+    /// The table before it is minimized and accelerated. All start states are marked.
     fn determinized(&self, alloc: Global, nfa: &NFA) -> Result<OwnedDFA, BuildError>
         ensures made { IfOk result (IsMade (build_of (settled (asked self.now.config)) (meaning nfa.now)) determinized
             (begun (settled (asked self.now.config)) (meaning nfa.now))) }
@@ -116,7 +126,7 @@ impl Builder {
         Ok(dfa)
     }
 
-    /// A table for an NFA that has no rows but dead and quit.
+    /// A table with the NFA's classes and start kinds that has only the dead and the quit state.
     fn begin(&self, alloc: Global, nfa: &NFA, quit: ByteSet) -> Result<OwnedDFA, AllocError>
         requires { quit ≡ (build_of (settled (asked self.now.config)) (meaning nfa.now)).quit }
         ensures { IfOk result (λ dfa. dfa ≡ begun (settled (asked self.now.config)) (meaning nfa.now)) }
@@ -138,7 +148,7 @@ impl Builder {
         )
     }
 
-    /// What determinizes by these settings.
+    /// The settings of the determinization.
     fn determinizer(&self, quit: ByteSet) -> determinize::Config
         ensures { result ≡ settings_with (settled (asked self.now.config)) quit }
     {
@@ -150,7 +160,7 @@ impl Builder {
     }
 }
 
-/// Joins the rows that behave alike, where that is asked for.
+/// Minimizes the table if asked to.
 fn join_rows(alloc: Global, dfa: &mut OwnedDFA, yes: bool) -> Result<(), AllocError>
     requires in_order { IsInOrder dfa.old }
     requires plain { IsPlain dfa.old }
@@ -163,7 +173,7 @@ fn join_rows(alloc: Global, dfa: &mut OwnedDFA, yes: bool) -> Result<(), AllocEr
     Ok(())
 }
 
-/// Leaves start rows marked, or none.
+/// Keeps the marks of start states, or removes them.
 fn mark_starts(dfa: &mut OwnedDFA, yes: bool)
     requires in_order { IsInOrder dfa.old }
     requires plain { IsPlain dfa.old }
@@ -179,7 +189,7 @@ fn mark_starts(dfa: &mut OwnedDFA, yes: bool)
     }
 }
 
-/// Finds the rows from which searches may skip, where that is asked for.
+/// Accelerates the table if asked to.
 fn find_needles(alloc: Global, dfa: &mut OwnedDFA, yes: bool) -> Result<(), AllocError>
     requires in_order { IsInOrder dfa.old }
     requires plain { IsPlain dfa.old }

@@ -1,4 +1,4 @@
-//! The columns of a table, and the bytes at which its searches quit.
+//! The byte classes of a table and its quit bytes.
 
 ghost use Rattle.std.specs.Prelude.{◌≡◌, ℕ, ◌<◌, IfOk, true};
 ghost use Rattle.rx_spec.specs.Classes.{has_unicode_word, quit_set};
@@ -9,15 +9,15 @@ use rx_base::{ByteClasses, ByteSet};
 use rx_expr::thompson::NFA;
 use std::alloc::AllocError;
 
-/// Whether some row has a Unicode word assertion.
+/// Whether some state of the NFA has a Unicode word assertion.
 fn has_unicode_word(nfa: &NFA) -> bool
     ensures { result ≡ has_unicode_word (meaning nfa.now) }
 {
     nfa.look_set_any().contains_word_unicode()
 }
 
-/// The quit bytes in effect: those that were set, and every byte from 0x80 on where Unicode word assertions are looked
-/// for by ASCII alone and some row has one.
+/// The quit bytes in effect: those that are set, and every byte from 0x80 on if `unicode_word` is set and the NFA has a
+/// Unicode word assertion.
 pub(super) fn quit_bytes(nfa: &NFA, set: &ByteSet, unicode_word: bool) -> ByteSet
     ensures { result ≡ quit_set (meaning nfa.now) set.now unicode_word }
 {
@@ -28,8 +28,8 @@ pub(super) fn quit_bytes(nfa: &NFA, set: &ByteSet, unicode_word: bool) -> ByteSe
     }
 }
 
-/// The class of each byte: bytes that neither a row nor the quit set tells apart have one class, or without byte
-/// classes each byte its own.
+/// The class of each byte. Bytes that no state of the NFA and no quit byte distinguishes share a class. Without byte
+/// classes each byte has its own.
 pub(super) fn byte_classes(
     nfa: &NFA,
     quit: &ByteSet,

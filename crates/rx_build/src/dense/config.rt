@@ -6,7 +6,7 @@ ghost use Rattle.rx_spec.specs.Bytes.{contains};
 use rx_base::{ByteSet, MatchKind, StartKind};
 use thiserror::Error;
 
-/// Settings of the build of a dense table. What isn't set has its default.
+/// Settings for building a dense table. A setting that isn't set has its default.
 #[derive(Clone, Debug, Default, Drop)]
 pub struct Config {
     accelerate: Option<bool>,
@@ -22,7 +22,7 @@ pub struct Config {
     determinize_size_limit: Option<Option<usize>>,
 }
 
-/// A byte from 0x80 on stays a quit byte where Unicode word boundaries are taken for ASCII ones.
+/// The error of [`Config::quit`]: the byte is at least 0x80, and `unicode_word_boundary` needs it as a quit byte.
 #[derive(Clone, Copy, Debug, Error)]
 #[error("the byte {byte:#04x} stays a quit byte while Unicode word boundaries are looked for by ASCII alone")]
 pub struct QuitRefused {
@@ -33,7 +33,7 @@ pub struct QuitRefused {
 impl Config {
     ghost use Rattle.rx_build.specs.Settings.{asked, nothing_asked, settled, overwritten, SetsQuit};
 
-    /// Nothing is set.
+    /// Settings of which none is set.
     pub fn new() -> Config
         ensures { asked result ≡ nothing_asked }
     {
@@ -52,7 +52,8 @@ impl Config {
         }
     }
 
-    /// Whether searches skip from rows that few bytes lead elsewhere. By default they do.
+    /// Whether to accelerate states: from a state that only one to three bytes leave, none of them a space, a search
+    /// skips to the next of these bytes. On by default.
     pub fn accelerate(mut self, yes: bool) -> Config
         ensures { asked result ≡ record (asked self) { accelerate = Some yes } }
     {
@@ -60,7 +61,7 @@ impl Config {
         self
     }
 
-    /// Whether the table has the fewest rows that it can have. By default it may have more.
+    /// Whether to build the table with the fewest states. Off by default.
     pub fn minimize(mut self, yes: bool) -> Config
         ensures { asked result ≡ record (asked self) { minimize = Some yes } }
     {
@@ -68,7 +69,7 @@ impl Config {
         self
     }
 
-    /// Which matches are told: by default the preferred one of those that start leftmost.
+    /// Which matches the table reports. `LeftmostFirst` by default: the preferred one of those that start leftmost.
     pub fn match_kind(mut self, kind: MatchKind) -> Config
         ensures { asked result ≡ record (asked self) { match_kind = Some kind } }
     {
@@ -76,7 +77,7 @@ impl Config {
         self
     }
 
-    /// For which modes there are starts: by default for both, with an anchor and without.
+    /// For which modes the table has start states. `Both` by default: anchored and unanchored.
     pub fn start_kind(mut self, kind: StartKind) -> Config
         ensures { asked result ≡ record (asked self) { start_kind = Some kind } }
     {
@@ -84,7 +85,7 @@ impl Config {
         self
     }
 
-    /// Whether each pattern has starts of its own, for anchored searches for it alone. By default none has.
+    /// Whether each pattern has start states of its own, for anchored searches of that pattern alone. Off by default.
     pub fn starts_for_each_pattern(mut self, yes: bool) -> Config
         ensures { asked result ≡ record (asked self) { pattern_starts = Some yes } }
     {
@@ -92,7 +93,7 @@ impl Config {
         self
     }
 
-    /// Whether bytes that nothing tells apart share a column. By default they do.
+    /// Whether bytes that the table treats alike share a column. On by default.
     pub fn byte_classes(mut self, yes: bool) -> Config
         ensures { asked result ≡ record (asked self) { byte_classes = Some yes } }
     {
@@ -100,8 +101,9 @@ impl Config {
         self
     }
 
-    /// Whether Unicode word assertions are looked for by ASCII bytes alone, where a search quits at any byte from 0x80
-    /// on. By default expressions that have any are refused.
+    /// Whether Unicode word assertions are decided by ASCII word bytes. A search then quits at any byte from 0x80 on if
+    /// an expression has such an assertion. Off by default: the build then returns `Unsupported` for such expressions,
+    /// unless all these bytes are quit bytes.
     pub fn unicode_word_boundary(mut self, yes: bool) -> Config
         ensures { asked result ≡ record (asked self) { unicode_word = Some yes } }
     {
@@ -109,8 +111,9 @@ impl Config {
         self
     }
 
-    /// Whether a search quits at a byte. By default it quits at none. While Unicode word boundaries are looked for by
-    /// ASCII alone, a byte from 0x80 on can't be made an ordinary one.
+    /// Makes a byte a quit byte or an ordinary one. There are no quit bytes by default.
+    ///
+    /// Returns [`QuitRefused`] if it would make a byte from 0x80 on ordinary while `unicode_word_boundary` is on.
     pub fn quit(mut self, byte: u8, yes: bool) -> Result<Config, QuitRefused>
         ensures ok { IfOk result (λ c. SetsQuit (asked self) byte yes (asked c)) }
         ensures err { IfErr result (λ e. e.byte ≡ byte) }
@@ -123,8 +126,7 @@ impl Config {
         Ok(self)
     }
 
-    /// The bytes at which a search quits, all at once. Those that Unicode word boundaries ask for are quit bytes
-    /// besides.
+    /// Sets all quit bytes at once. The quit bytes that `unicode_word_boundary` needs are added to them.
     pub fn quit_bytes(mut self, set: ByteSet) -> Config
         ensures { asked result ≡ record (asked self) { quit = Some set } }
     {
@@ -132,7 +134,7 @@ impl Config {
         self
     }
 
-    /// Whether start rows are marked, so that a search can tell them. By default they aren't.
+    /// Whether start states are marked, so that a search can recognize them. Off by default.
     pub fn specialize_start_states(mut self, yes: bool) -> Config
         ensures { asked result ≡ record (asked self) { mark_starts = Some yes } }
     {
@@ -140,7 +142,7 @@ impl Config {
         self
     }
 
-    /// The most bytes that the table may take; none is no limit, which is the default.
+    /// The most bytes that the table may take. `None`, the default, is no limit.
     pub fn dfa_size_limit(mut self, bytes: Option<usize>) -> Config
         ensures { asked result ≡ record (asked self) { dfa_size_limit = Some bytes } }
     {
@@ -148,7 +150,7 @@ impl Config {
         self
     }
 
-    /// The most bytes that the states of the construction may take; none is no limit, which is the default.
+    /// The most bytes that the construction's states may take. `None`, the default, is no limit.
     pub fn determinize_size_limit(mut self, bytes: Option<usize>) -> Config
         ensures { asked result ≡ record (asked self) { determinize_size_limit = Some bytes } }
     {
@@ -156,63 +158,63 @@ impl Config {
         self
     }
 
-    /// Whether searches skip from rows that few bytes lead elsewhere.
+    /// Whether states are accelerated.
     pub fn get_accelerate(&self) -> bool
         ensures { result ≡ (settled (asked self.now)).accelerate }
     {
         self.accelerate.unwrap_or(true)
     }
 
-    /// Whether the table has the fewest rows that it can have.
+    /// Whether the table has the fewest states.
     pub fn get_minimize(&self) -> bool
         ensures { result ≡ (settled (asked self.now)).minimize }
     {
         self.minimize.unwrap_or(false)
     }
 
-    /// Which matches are told.
+    /// Which matches the table reports.
     pub fn get_match_kind(&self) -> MatchKind
         ensures { result ≡ (settled (asked self.now)).match_kind }
     {
         self.match_kind.unwrap_or(MatchKind::LeftmostFirst)
     }
 
-    /// For which modes there are starts.
+    /// For which modes the table has start states.
     pub fn get_starts(&self) -> StartKind
         ensures { result ≡ (settled (asked self.now)).start_kind }
     {
         self.start_kind.unwrap_or(StartKind::Both)
     }
 
-    /// Whether each pattern has starts of its own.
+    /// Whether each pattern has start states of its own.
     pub fn get_starts_for_each_pattern(&self) -> bool
         ensures { result ≡ (settled (asked self.now)).pattern_starts }
     {
         self.pattern_starts.unwrap_or(false)
     }
 
-    /// Whether bytes that nothing tells apart share a column.
+    /// Whether bytes that the table treats alike share a column.
     pub fn get_byte_classes(&self) -> bool
         ensures { result ≡ (settled (asked self.now)).byte_classes }
     {
         self.byte_classes.unwrap_or(true)
     }
 
-    /// Whether Unicode word assertions are looked for by ASCII bytes alone.
+    /// Whether Unicode word assertions are decided by ASCII word bytes.
     pub fn get_unicode_word_boundary(&self) -> bool
         ensures { result ≡ (settled (asked self.now)).unicode_word }
     {
         self.unicode_word.unwrap_or(false)
     }
 
-    /// Whether a byte was made a quit byte. Those of Unicode word assertions aren't among these.
+    /// Whether a byte was set as a quit byte. The bytes that `unicode_word_boundary` adds don't count.
     pub fn get_quit(&self, byte: u8) -> bool
         ensures { result ≡ contains (settled (asked self.now)).quit byte }
     {
         self.get_quit_bytes().contains(byte)
     }
 
-    /// Whether start rows are marked.
+    /// Whether start states are marked.
     pub fn get_specialize_start_states(&self) -> bool
         ensures { result ≡ (settled (asked self.now)).mark_starts }
     {
@@ -226,21 +228,21 @@ impl Config {
         self.dfa_size_limit.unwrap_or(None)
     }
 
-    /// The most bytes that the states of the construction may take.
+    /// The most bytes that the construction's states may take.
     pub fn get_determinize_size_limit(&self) -> Option<usize>
         ensures { result ≡ (settled (asked self.now)).determinize_size_limit }
     {
         self.determinize_size_limit.unwrap_or(None)
     }
 
-    /// The bytes that were made quit bytes.
+    /// The bytes that were set as quit bytes.
     pub fn get_quit_bytes(&self) -> ByteSet
         ensures { result ≡ (settled (asked self.now)).quit }
     {
         self.quit.unwrap_or(ByteSet::empty())
     }
 
-    /// These settings, and those of `later` where it sets any.
+    /// These settings, overwritten by those that `later` sets.
     pub fn overwrite(&self, later: &Config) -> Config
         ensures { asked result ≡ overwritten (asked self.now) (asked later.now) }
     {
@@ -260,7 +262,7 @@ impl Config {
     }
 }
 
-/// A set with a byte, or without it.
+/// The set with a byte added or removed.
 fn with_byte(mut set: ByteSet, byte: u8, yes: bool) -> ByteSet
     ensures { (other : ℕ) → contains result other ≡ (if other == byte then yes else contains set other) }
 {

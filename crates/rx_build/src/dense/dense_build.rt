@@ -1,4 +1,4 @@
-//! Calls that build a dense table with default settings.
+//! Calls that build a dense table by default settings.
 
 ghost use Rattle.std.specs.Prelude.{◌≡◌, IfOk, IfErr, OnOk, All};
 ghost use Rattle.rx_spec.specs.Expressions.{IsLoopSafe};
@@ -18,9 +18,9 @@ use rx_expr::Expr;
 use rx_expr::thompson::NFA;
 use std::alloc::Global;
 
-/// Builds a dense table without further settings: `DFA::<Vec<u32>>::new_many(alloc, &exprs)`.
+/// Builds a dense table by default settings: `DFA::<Vec<u32>>::new_many(alloc, &exprs)`.
 pub trait DenseBuild {
-    /// The table of a list of expressions, the first of which is pattern 0.
+    /// Builds the table of a list of expressions. The first expression is pattern 0.
     fn new_many(alloc: Global, exprs: &[Expr]) -> Result<OwnedDFA, BuildError>
         ensures ok { IfOk result
             (IsBuilt (settled nothing_asked) (wanted_nfa thompson.nothing_asked exprs.now)) }
@@ -29,7 +29,7 @@ pub trait DenseBuild {
             (λ e. IsRefused (Refused (settled nothing_asked) thompson.nothing_asked exprs.now) e.kind) }
         ensures safe { All IsLoopSafe exprs.now };
 
-    /// The table of one pattern that matches everywhere, without a byte.
+    /// The table of one pattern that matches the empty string everywhere.
     fn always_match(alloc: Global) -> Result<OwnedDFA, BuildError>
         ensures ok { IfOk result (IsBuilt (settled nothing_asked) always_match) }
         ensures err { IfErr result (λ e. IsRefused (TableRefused (limits_of (settled nothing_asked))

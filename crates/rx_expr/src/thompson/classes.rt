@@ -1,4 +1,4 @@
-//! Which bytes the rows of an NFA tell apart.
+//! Which bytes the states of an NFA distinguish.
 
 ghost use Rattle.std.specs.Prelude.{◌≡◌, ℕ, ◌+◌, ◌<◌, ◌||◌, map};
 ghost use Rattle.rx_spec.specs.Bytes.{contains};
@@ -9,7 +9,7 @@ ghost use Rattle.rx_expr.specs.NfaRows.{row_of, EndsClasses};
 use super::nfa::Row;
 use rx_base::{ByteClassSet, Look};
 
-/// The bytes that some row tells apart from the next byte.
+/// The bytes that some state distinguishes from the next byte.
 pub(super) fn byte_class_set(rows: &[Row], line_terminator: u8) -> ByteClassSet
     ensures { EndsClasses result line_terminator (map row_of rows.now) }
 {
@@ -21,7 +21,7 @@ pub(super) fn byte_class_set(rows: &[Row], line_terminator: u8) -> ByteClassSet
 }
 
 impl Row {
-    /// Tells apart the bytes that the row tells apart.
+    /// Marks the bytes that the state distinguishes from the next byte.
     fn add_to_classes(&self, line_terminator: u8, classes: &mut ByteClassSet)
         ensures { (b : ℕ) → b < 255 → contains classes.new b
             ≡ (contains classes.old b || row_parts line_terminator b (b + 1) (row_of self.now)) }
@@ -34,7 +34,7 @@ impl Row {
     }
 }
 
-/// Tells apart the bytes that an assertion tells apart.
+/// Marks the bytes that an assertion distinguishes from the next byte.
 fn add_look(look: Look, line_terminator: u8, classes: &mut ByteClassSet)
     ensures { (b : ℕ) → b < 255 → contains classes.new b
         ≡ (contains classes.old b || facts_part line_terminator (facts_read look) b (b + 1)) }

@@ -1,4 +1,4 @@
-//! The compiler.
+//! The compiler of NFAs.
 
 ghost use Rattle.std.specs.Prelude.{◌≡◌, ◌^◌, min, length, IfOk, IfErr, OnOk, All};
 ghost use Rattle.rx_spec.specs.Expressions.{IsLoopSafe};
@@ -17,14 +17,14 @@ use crate::expr::{Expr, ROWS_LIMIT};
 use rx_base::{LookMatcher, PatternID, StateID};
 use std::alloc::{AllocError, Global};
 
-/// Makes NFAs of expressions.
+/// Compiles expressions into an NFA.
 #[derive(Clone, Debug, Default, Drop)]
 pub struct Compiler {
     config: Config,
 }
 
 impl Compiler {
-    /// With default settings.
+    /// A compiler with default settings.
     pub fn new() -> Compiler
         ensures { asked_by result ≡ nothing_asked }
     {
@@ -33,7 +33,7 @@ impl Compiler {
         }
     }
 
-    /// Takes these settings, and keeps those that they don't set.
+    /// Sets what `config` sets and keeps the other settings.
     pub fn configure(&mut self, config: Config) -> &mut Compiler
         ensures value { asked_by result.now ≡ overwritten (asked_by self.old) (asked config) }
         ensures same_reference { result.ghost_name ≡ self.entry.ghost_name }
@@ -42,7 +42,7 @@ impl Compiler {
         self
     }
 
-    /// How many rows the NFA of these expressions has; 2^31 stands for more too.
+    /// The number of states of the NFA of these expressions, capped at 2^31.
     pub fn rows_len(&self, exprs: &[Expr]) -> u64
         ensures value { result ≡ min (length (wanted_nfa (asked_by self.now) exprs.now).rows) (2 ^ 31) }
         // Each repetition in an expression is bounded.
@@ -52,10 +52,10 @@ impl Compiler {
         rows.min(ROWS_LIMIT)
     }
 
-    /// The NFA of a list of expressions, the first of which is pattern 0.
+    /// Compiles a list of expressions. The first expression is pattern 0.
     ///
-    /// What is refused by its numbers is refused before any memory is taken, and then the room for
-    /// all rows is taken at once.
+    /// Too many patterns or states and a passed size limit are found before any memory is taken. Then the memory for
+    /// all states is taken at once.
     pub fn build_many(&self, alloc: Global, exprs: &[Expr]) -> Result<NFA, BuildError>
         ensures ok { IfOk result (λ nfa. meaning nfa ≡ wanted_nfa (asked_by self.now) exprs.now) }
         ensures fits { OnOk result (Fits (asked_by self.now) exprs.now) }

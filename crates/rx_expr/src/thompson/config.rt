@@ -1,11 +1,11 @@
-//! Settings of the construction.
+//! Settings of the compiler.
 
 ghost use Rattle.std.specs.Prelude.{◌≡◌, Some};
 ghost use Rattle.std.specs.Option.{option_or};
 
 use rx_base::Direction;
 
-/// Settings of the construction. What isn't set has its default.
+/// Settings of the compiler. A setting that isn't set has its default.
 #[derive(Clone, Debug, Default, Drop)]
 pub struct Config {
     reverse: Option<bool>,
@@ -17,7 +17,7 @@ pub struct Config {
 impl Config {
     ghost use Rattle.rx_expr.specs.Settings.{asked, nothing_asked, settled, overwritten, is_reverse};
 
-    /// Nothing is set.
+    /// Settings of which none is set.
     pub fn new() -> Config
         ensures { asked result ≡ nothing_asked }
     {
@@ -29,7 +29,7 @@ impl Config {
         }
     }
 
-    /// Whether the haystack is read backward. By default it isn't.
+    /// Whether the NFA reads the haystack in reverse. Off by default.
     pub fn reverse(mut self, yes: bool) -> Config
         ensures { asked result ≡ record (asked self) { reverse = Some yes } }
     {
@@ -37,7 +37,7 @@ impl Config {
         self
     }
 
-    /// Whether matches inside a UTF-8 encoded character are passed over. By default they are.
+    /// UTF-8 mode: whether searches pass over matches that split a character. On by default.
     pub fn utf8(mut self, yes: bool) -> Config
         ensures { asked result ≡ record (asked self) { is_utf8 = Some yes } }
     {
@@ -45,7 +45,7 @@ impl Config {
         self
     }
 
-    /// The most bytes that the rows may take, at 40 a row; none is no limit, which is the default.
+    /// The most bytes that the states may take, at 40 bytes a state. `None`, the default, is no limit.
     pub fn nfa_size_limit(mut self, bytes: Option<usize>) -> Config
         ensures { asked result ≡ record (asked self) { size_limit = Some bytes } }
     {
@@ -53,7 +53,7 @@ impl Config {
         self
     }
 
-    /// The byte that ends a line for the line assertions. By default `\n`.
+    /// The line terminator of the line assertions. `\n` by default.
     pub fn line_terminator(mut self, byte: u8) -> Config
         ensures { asked result ≡ record (asked self) { line_terminator = Some byte } }
     {
@@ -61,14 +61,14 @@ impl Config {
         self
     }
 
-    /// Whether the haystack is read backward.
+    /// Whether the NFA reads the haystack in reverse.
     pub fn get_reverse(&self) -> bool
         ensures { result ≡ is_reverse (settled (asked self.now)).direction }
     {
         self.reverse.unwrap_or(false)
     }
 
-    /// In which direction the haystack is read.
+    /// The direction in which the NFA reads the haystack.
     pub(crate) fn direction(&self) -> Direction
         ensures { result ≡ (settled (asked self.now)).direction }
     {
@@ -79,28 +79,28 @@ impl Config {
         }
     }
 
-    /// Whether matches inside a character are passed over.
+    /// Whether searches pass over matches that split a character.
     pub fn get_utf8(&self) -> bool
         ensures { result ≡ (settled (asked self.now)).is_utf8 }
     {
         self.utf8.unwrap_or(true)
     }
 
-    /// The most bytes that the rows may take.
+    /// The most bytes that the states may take.
     pub fn get_nfa_size_limit(&self) -> Option<usize>
         ensures { result ≡ (settled (asked self.now)).size_limit }
     {
         self.nfa_size_limit.unwrap_or(None)
     }
 
-    /// The byte that ends a line.
+    /// The line terminator.
     pub fn get_line_terminator(&self) -> u8
         ensures { result ≡ (settled (asked self.now)).line_terminator }
     {
         self.line_terminator.unwrap_or(b'\n')
     }
 
-    /// These settings, and those of `later` where it sets any.
+    /// These settings, overwritten by those that `later` sets.
     pub fn overwrite(&self, later: &Config) -> Config
         ensures { asked result ≡ overwritten (asked self.now) (asked later.now) }
     {

@@ -1,4 +1,4 @@
-//! Whether expressions must begin with the edge of the haystack.
+//! Whether all matches must begin at the edge of the haystack.
 
 ghost use Rattle.std.specs.Prelude.{◌≡◌, ◌||◌, ◌&&◌};
 ghost use Rattle.rx_spec.specs.Edge.{reads_nothing as reads_none, begins_with_edge as begins, is_edge as edge};
@@ -8,14 +8,14 @@ ghost use Rattle.rx_expr.specs.Compiles.{all_at_edge, has_no_round};
 use crate::expr::{Expr, ExprKind};
 use rx_base::{Direction, Look};
 
-/// Whether every expression must begin with the edge where reading begins, by its form.
+/// Whether, by their form, all expressions can only match from the edge at which reading begins.
 pub(super) fn all_begin_with_edge(exprs: &[Expr], direction: Direction) -> bool
     ensures { result ≡ all_at_edge direction exprs.now }
 {
     exprs.iter().all(|expr| begins_with_edge(expr, direction))
 }
 
-/// Whether an expression reads no byte, by its form.
+/// Whether, by its form, an expression matches only the empty string.
 fn reads_nothing(expr: &Expr) -> bool
     ensures { result ≡ reads_none expr.now }
 {
@@ -38,7 +38,7 @@ fn is_zero(max: Option<u32>) -> bool
     }
 }
 
-/// Whether an expression must begin with the edge, by its form.
+/// Whether, by its form, an expression can only match from the edge at which reading begins.
 #[cycle(begins)]
 fn begins_with_edge(expr: &Expr, direction: Direction) -> bool
     ensures { result ≡ begins direction (read_as direction expr.now) }
@@ -69,7 +69,7 @@ fn is_edge(look: Look, direction: Direction) -> bool
     }
 }
 
-/// Whether what is read first begins with the edge, or reads nothing before what does.
+/// Whether the part that is read first begins at the edge, or reads nothing and the other part begins there.
 #[cycle(begins)]
 fn either_begins(front: &Expr, back: &Expr, direction: Direction) -> bool
     ensures { let first = read_as direction front.now in

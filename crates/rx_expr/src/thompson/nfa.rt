@@ -1,4 +1,4 @@
-//! The NFA: rows and where they are entered.
+//! The NFA: its states, which are called rows, and its starts.
 
 ghost use Rattle.std.specs.Prelude.{◌≡◌, ℕ, ◌||◌, ◌==◌, ◌<◌, ◌≤◌, not, [], ◌∷◌, length, slice_get, map, false, IfErr};
 ghost use Rattle.std.specs.Prelude.{IfOk};
@@ -18,28 +18,28 @@ use rx_base::{
 };
 use std::alloc::{AllocError, Global};
 
-/// A row of an NFA.
+/// A state of an NFA.
 #[derive(Clone, Copy, Debug)]
 pub enum Row {
-    /// Reads a byte of the set and goes on at a row.
+    /// Reads a byte of a set and goes on to another state.
     Bytes {
-        /// Which bytes are read.
+        /// The bytes that it reads.
         set: ByteSet,
-        /// Where it goes on.
+        /// The state that follows.
         next: StateID,
     },
-    /// Goes on at both rows without reading a byte, the first preferred.
+    /// Goes on to two states without reading a byte. The first is preferred.
     Split {
-        /// The preferred row.
+        /// The preferred state.
         first: StateID,
-        /// The other row.
+        /// The other state.
         second: StateID,
     },
-    /// Goes on where an assertion holds, without reading a byte.
+    /// Goes on without reading a byte if an assertion holds.
     Look {
         /// The assertion.
         look: Look,
-        /// Where it goes on.
+        /// The state that follows.
         next: StateID,
     },
     /// A match of a pattern.
@@ -47,11 +47,11 @@ pub enum Row {
         /// The pattern.
         pattern: PatternID,
     },
-    /// Goes on nowhere.
+    /// Goes on to no state.
     Fail,
 }
 
-/// A nondeterministic automaton: the rows that [`super::Compiler`] makes of expressions.
+/// The NFA that [`super::Compiler`] makes of expressions.
 #[derive(Drop)]
 pub struct NFA {
     pub(super) rows: Vec<Row>,
@@ -62,11 +62,11 @@ pub struct NFA {
     pub(super) look_matcher: LookMatcher,
     pub(super) has_empty: bool,
     pub(super) utf8: bool,
-    /// What some assertion of the rows asks of a neighbour.
+    /// The facts about a neighbouring byte that some assertion asks for.
     pub(super) asked: Facts,
-    /// The assertions that the rows have.
+    /// The assertions that the states have.
     pub(super) look_set_any: LookSet,
-    /// The bytes that some row tells apart from the next byte.
+    /// The bytes that some state distinguishes from the next byte.
     pub(super) byte_class_set: ByteClassSet,
     ghost facts_are: { asked ≡ facts_kept (map row_of rows.items) },
     ghost looks_are: { HoldsLooks look_set_any (map row_of rows.items) },
@@ -79,7 +79,7 @@ pub struct NFA {
     pub ghost shallow: { IsShallow (map row_of rows.items) } by { IsShallow-prop (map row_of rows.items) },
 }
 
-/// What some assertion of the rows asks of a neighbour.
+/// The facts about a neighbouring byte that some assertion of the states asks for.
 pub(super) fn asked_facts(rows: &[Row]) -> Facts
     ensures { result ≡ facts_kept (map row_of rows.now) }
 {
@@ -90,7 +90,7 @@ pub(super) fn asked_facts(rows: &[Row]) -> Facts
     asked
 }
 
-/// The assertions that the rows have.
+/// The assertions that the states have.
 pub(super) fn look_set_any(rows: &[Row]) -> LookSet
     ensures { (look : Look) → holds_look result look ≡ has_look (map row_of rows.now) look }
 {
@@ -102,7 +102,7 @@ pub(super) fn look_set_any(rows: &[Row]) -> LookSet
 }
 
 impl Row {
-    /// The set with the row's assertion too, where it has one.
+    /// The set with the state's assertion, if it has one.
     fn insert_into(&self, looks: LookSet) -> LookSet
         ensures { (look : Look) → holds_look result look ≡ (holds_look looks look || asserts look (row_of self.now)) }
     {
@@ -112,7 +112,7 @@ impl Row {
         }
     }
 
-    /// What it asks of a neighbour.
+    /// The facts about a neighbouring byte that its assertion asks for.
     fn asked_facts(&self) -> Facts
         ensures { result ≡ row_reads (row_of self.now) }
     {
@@ -127,7 +127,7 @@ impl NFA {
     ghost use Rattle.rx_expr.specs.Nfa.{meaning};
     ghost use Rattle.rx_expr.specs.Settings.{is_reverse};
 
-    /// The NFA of one pattern that matches everywhere, without a byte.
+    /// The NFA of one pattern that matches the empty string everywhere.
     pub fn always_match(alloc: Global) -> Result<NFA, BuildError>
         ensures ok { IfOk result (λ nfa. meaning nfa ≡ always_match) }
         ensures err { IfErr result (λ e. e ≡ BuildError.Memory) }
@@ -144,7 +144,7 @@ impl NFA {
         NFA::of_row(alloc, Row::Fail, &[]).map_err(|_| BuildError::Memory)
     }
 
-    /// An NFA of one row, in which every search starts, with the starts of its patterns.
+    /// An NFA of one state, in which every search starts, with the start states of its patterns.
     fn of_row(alloc: Global, row: Row, start_patterns: &[StateID]) -> Result<NFA, AllocError>
         requires shallow { IsShallow (row_of row ∷ []) }
         requires patterns { NamesPatterns (length start_patterns.now) (row_of row ∷ []) }
@@ -178,49 +178,49 @@ impl NFA {
         })
     }
 
-    /// The rows, by their numbers.
+    /// The states, by id.
     pub fn rows(&self) -> &[Row]
         ensures { map row_of result.now ≡ (meaning self.now).rows }
     {
         &self.rows
     }
 
-    /// Where an anchored search starts.
+    /// The start state of an anchored search.
     pub fn start_anchored(&self) -> StateID
         ensures { result ≡ (meaning self.now).start_anchored }
     {
         self.start_anchored
     }
 
-    /// Where an unanchored search starts.
+    /// The start state of an unanchored search.
     pub fn start_unanchored(&self) -> StateID
         ensures { result ≡ (meaning self.now).start_unanchored }
     {
         self.start_unanchored
     }
 
-    /// Where a search for one pattern starts; none past the list.
+    /// The start state of an anchored search of one pattern, or `None` if there is no such pattern.
     pub fn start_pattern(&self, pid: PatternID) -> Option<StateID>
         ensures { result ≡ slice_get (meaning self.now).start_patterns pid }
     {
         self.start_patterns.get(pid.as_usize()).copied()
     }
 
-    /// How many patterns there are.
+    /// The number of patterns.
     pub fn pattern_len(&self) -> usize
         ensures { result ≡ length (meaning self.now).start_patterns }
     {
         self.start_patterns.len()
     }
 
-    /// In which direction the haystack is read.
+    /// The direction in which it reads the haystack.
     pub fn direction(&self) -> Direction
         ensures { result ≡ (meaning self.now).direction }
     {
         self.direction
     }
 
-    /// Whether the haystack is read backward.
+    /// Whether it reads the haystack in reverse.
     pub fn is_reverse(&self) -> bool
         ensures { result ≡ is_reverse (meaning self.now).direction }
     {
@@ -234,21 +234,21 @@ impl NFA {
         self.look_matcher.get_line_terminator()
     }
 
-    /// What decides the assertions.
+    /// The matcher that decides the assertions.
     pub fn look_matcher(&self) -> &LookMatcher
         ensures { result.now ≡ (meaning self.now).line_terminator }
     {
         &self.look_matcher
     }
 
-    /// The assertions that some row has.
+    /// The assertions that some state has.
     pub fn look_set_any(&self) -> LookSet
         ensures { (look : Look) → holds_look result look ≡ has_look (meaning self.now).rows look }
     {
         self.look_set_any
     }
 
-    /// The bytes that some row tells apart from the next byte, which end a class of bytes.
+    /// The bytes that some state distinguishes from the next byte. Each of them ends a byte class.
     pub fn byte_class_set(&self) -> &ByteClassSet
         ensures { (b : ℕ) → b < 255
             → contains result.now b ≡ rows_part (meaning self.now).line_terminator (meaning self.now).rows b }
@@ -256,29 +256,29 @@ impl NFA {
         &self.byte_class_set
     }
 
-    /// The facts of a neighbour that some assertion of the rows asks for.
+    /// The facts about a neighbouring byte that some assertion asks for.
     pub fn asked_facts(&self) -> Facts
         ensures { result ≡ facts_kept (meaning self.now).rows }
     {
         self.asked
     }
 
-    /// Whether some pattern matches without a byte.
+    /// Whether some pattern can match the empty string.
     pub fn has_empty(&self) -> bool
         ensures { result ≡ (meaning self.now).has_empty }
     {
         self.has_empty
     }
 
-    /// Whether matches inside a UTF-8 encoded character are passed over.
+    /// Whether searches pass over matches that split a character of UTF-8.
     pub fn is_utf8(&self) -> bool
         ensures { result ≡ (meaning self.now).is_utf8 }
     {
         self.utf8
     }
 
-    /// Whether every match begins at the edge of the haystack where reading begins, so that both
-    /// starts are one row.
+    /// Whether every match begins at the edge at which reading begins. The anchored and the unanchored start are then
+    /// one state.
     pub fn is_always_start_anchored(&self) -> bool
         ensures { result ≡ is_always_start_anchored (meaning self.now) }
     {

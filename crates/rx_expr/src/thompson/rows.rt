@@ -1,4 +1,4 @@
-//! The rows of one expression.
+//! The states of one expression.
 
 ghost use Rattle.std.specs.Prelude.{◌≡◌, ◌+◌, ◌*◌, ◌≤◌, ◌++◌, ◌∷◌, [], IfOk, length, ◌<◌, slice_set};
 ghost use Rattle.rx_spec.specs.Rows.{rows_count, repeated_count, chained, either, repeated};
@@ -11,7 +11,7 @@ use crate::expr::{Expr, ExprKind};
 use rx_base::{Direction, StateID};
 use std::alloc::AllocError;
 
-/// The id of a number that is known to be one.
+/// The id of a number that is in range.
 pub(super) fn id_of(n: usize) -> StateID
     requires { n < StateID.LIMIT }
     ensures { result ≡ n }
@@ -22,7 +22,7 @@ pub(super) fn id_of(n: usize) -> StateID
     }
 }
 
-/// Adds a row, and gives its id.
+/// Adds a state and returns its id.
 pub(super) fn push(rows: &mut Vec<Row>, row: Row) -> Result<StateID, AllocError>
     requires { length rows.old.items < StateID.LIMIT }
     ensures { IfOk result (AddsRow row rows.old.items rows.new.items) }
@@ -32,7 +32,7 @@ pub(super) fn push(rows: &mut Vec<Row>, row: Row) -> Result<StateID, AllocError>
     Ok(id)
 }
 
-/// A Split of a body and of what comes behind it: the greedy have the body first.
+/// A split between a body and what follows it. A greedy one prefers the body.
 fn choice(greedy: bool, body: StateID, next: StateID) -> Row
     ensures { row_of result ≡ chosen greedy body next }
 {
@@ -49,9 +49,9 @@ fn choice(greedy: bool, body: StateID, next: StateID) -> Row
     }
 }
 
-/// Adds an expression's rows before `next`, and gives the row where they are entered.
+/// Adds the states of an expression before `next` and returns the state where they are entered.
 ///
-/// A part that has no rows is passed over, so that the time is that of the rows that are made.
+/// Parts without states are passed over, so the time is that of the states that are added.
 #[cycle(compile)]
 pub(super) fn compile(
     rows: &mut Vec<Row>,
@@ -85,7 +85,7 @@ pub(super) fn compile(
     }
 }
 
-/// The least rounds before the further ones, which are made first.
+/// Adds the states of a repetition. Those of the optional rounds are added first.
 #[cycle(compile)]
 fn repeat(
     rows: &mut Vec<Row>,
@@ -113,7 +113,7 @@ fn repeat(
     }
 }
 
-/// What is read first before what is read behind it, which is made first.
+/// Adds the states of a concatenation. Those of the part that is read last are added first.
 #[cycle(compile)]
 fn concat(
     rows: &mut Vec<Row>,
@@ -130,7 +130,7 @@ fn concat(
     compile(rows, front, direction, behind)
 }
 
-/// Both, and a Split of them.
+/// Adds the states of both parts and a split of them.
 #[cycle(compile)]
 fn alternate(
     rows: &mut Vec<Row>,
@@ -148,7 +148,7 @@ fn alternate(
     push(rows, Row::Split { first, second })
 }
 
-/// So many copies of a body, the last made first.
+/// Adds `count` copies of a body, the last copy first.
 #[cycle(compile)]
 fn repeat_exactly(
     rows: &mut Vec<Row>,
@@ -170,7 +170,7 @@ fn repeat_exactly(
     Ok(entry)
 }
 
-/// So many optional rounds of a body, the last made first.
+/// Adds `count` optional copies of a body, the last copy first.
 #[cycle(compile)]
 fn repeat_up_to(
     rows: &mut Vec<Row>,
@@ -191,7 +191,7 @@ fn repeat_up_to(
     Ok(entry)
 }
 
-/// A Split that the body leads back to.
+/// Adds a split that the body leads back to.
 #[cycle(compile)]
 fn repeat_forever(
     rows: &mut Vec<Row>,
@@ -209,7 +209,7 @@ fn repeat_forever(
     Ok(split)
 }
 
-/// Puts a row in the place of another.
+/// Replaces a state.
 fn put(rows: &mut Vec<Row>, index: usize, row: Row)
     requires { index < length rows.old.items }
     ensures { rows.new.items ≡ slice_set rows.old.items index row }

@@ -1,4 +1,4 @@
-//! The rows of all patterns, and their starts.
+//! The states of all patterns, and their starts.
 
 ghost use Rattle.std.specs.Prelude.{◌≡◌, ◌==◌, ◌+◌, ◌-◌, ◌^◌, ◌<◌, ◌≤◌, [], min, length, IfOk, OnOk, All};
 ghost use Rattle.std.specs.List.{list_any};
@@ -14,7 +14,7 @@ use crate::expr::{Expr, ROWS_LIMIT};
 use rx_base::{ByteSet, Direction, PatternID, StateID};
 use std::alloc::AllocError;
 
-/// Whether some expression may match without a byte.
+/// Whether some expression can match the empty string.
 pub(super) fn any_empty(exprs: &[Expr]) -> bool
     ensures { result ≡ list_any (λ e. min_len e == 0) exprs.now }
 {
@@ -27,7 +27,7 @@ fn is_empty(expr: &Expr) -> bool
     expr.min_len() == 0
 }
 
-/// How many rows the patterns have, up to [`ROWS_LIMIT`].
+/// The number of states of all patterns, capped at [`ROWS_LIMIT`].
 pub(super) fn patterns_len(exprs: &[Expr]) -> u64
     ensures value { result ≡ min (patterns_count exprs.now) (2 ^ 31) }
     ensures safe { All IsLoopSafe exprs.now }
@@ -39,7 +39,7 @@ pub(super) fn patterns_len(exprs: &[Expr]) -> u64
     rows
 }
 
-/// How many rows the starts have, up to [`ROWS_LIMIT`] and two more.
+/// The number of states of the starts, capped at [`ROWS_LIMIT`] plus two.
 pub(super) fn starts_len(exprs: &[Expr], direction: Direction) -> u64
     ensures value { let joined = joined_count (length exprs.now) in
         result ≡ min joined (2 ^ 31) + lead_count (all_at_edge direction exprs.now) }
@@ -56,7 +56,7 @@ pub(super) fn starts_len(exprs: &[Expr], direction: Direction) -> u64
     }
 }
 
-/// Adds for each expression its match row, and the rows before it, to no rows.
+/// Adds the states of each expression and its match state to an empty list.
 pub(super) fn add_patterns(
     rows: &mut Vec<Row>,
     starts: &mut Vec<StateID>,
@@ -77,7 +77,7 @@ pub(super) fn add_patterns(
     Ok(())
 }
 
-/// The id of a number that is known to be one.
+/// The pattern id of a number that is in range.
 fn pattern_of(n: usize) -> PatternID
     requires { n < PatternID.LIMIT }
     ensures { result ≡ n }
@@ -88,7 +88,7 @@ fn pattern_of(n: usize) -> PatternID
     }
 }
 
-/// Adds the Splits that join the starts, the last pair first.
+/// Adds the splits that join the starts, the last pair first.
 pub(super) fn join_starts(rows: &mut Vec<Row>, starts: &[StateID]) -> Result<StateID, AllocError>
     requires { length rows.old.items + joined_count (length starts.now) ≤ StateID.LIMIT }
     ensures { IfOk result (AddsJoined starts.now rows.old.items rows.new.items) }
@@ -106,8 +106,8 @@ pub(super) fn join_starts(rows: &mut Vec<Row>, starts: &[StateID]) -> Result<Sta
     Ok(start)
 }
 
-/// Adds a Split of the anchored start and of a row that reads any byte and leads back, unless every
-/// match begins at the edge.
+/// Adds a split of the anchored start and a state that reads any byte and leads back to the split. Adds nothing if
+/// every match begins at the edge.
 pub(super) fn lead_in_rows(
     rows: &mut Vec<Row>,
     at_edge: bool,

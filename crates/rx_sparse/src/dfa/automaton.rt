@@ -1,4 +1,4 @@
-//! The table as an automaton.
+//! Sparse tables are automata.
 
 ghost use Rattle.std.specs.Prelude.{◌≡◌, nat_le, option_map};
 ghost use Rattle.rx_spec.specs.Ids.{row_of};
@@ -16,7 +16,7 @@ use rx_dense::Special;
 use rx_search::{Automaton, StartError};
 
 impl<T: ByteStore> DFA<T> {
-    /// The start context that the byte beside a span gives, where there is one.
+    /// The start context for the byte beside a span, if there is one.
     fn context_beside(&self, byte: Option<u8>) -> Start
         ensures { result ≡ start_context (settings_of self.now.layout) byte }
     {
@@ -26,7 +26,7 @@ impl<T: ByteStore> DFA<T> {
         }
     }
 
-    /// Why a search beside a byte and in a mode doesn't start.
+    /// Why a search in a mode beside a byte doesn't start.
     fn start_error(&self, config: &Config) -> Option<StartError>
         ensures { option_map refusal_of result
             ≡ start_error (settings_of self.now.layout) config.now.beside config.now.mode }
@@ -43,7 +43,7 @@ impl<T: ByteStore> DFA<T> {
         }
     }
 
-    /// That a mode has no starts.
+    /// The error of a mode without start states.
     fn mode_error(&self, mode: Anchored) -> Option<StartError>
         ensures { option_map refusal_of result ≡ mode_error (settings_of self.now.layout) (mode_of mode) }
     {
@@ -170,7 +170,7 @@ impl<T: ByteStore> Automaton for DFA<T> {
     ghost sound = { λ s h. h };
 }
 
-/// Whether an id lies in a range of ids. Row 0, which is dead, lies in none.
+/// Whether an id lies in a range of ids. The dead state's id, 0, lies in none.
 #[inline(always)]
 fn is_in_range(first: StateID, last: StateID, id: StateID) -> bool
     ensures { result ≡ is_in_range first last id }
@@ -178,7 +178,7 @@ fn is_in_range(first: StateID, last: StateID, id: StateID) -> bool
     first <= id && id <= last && id != StateID::ZERO
 }
 
-/// Whether an id is that of the quit row, whatever range it lies in.
+/// Whether an id is that of the quit state, whatever range it lies in.
 #[inline(always)]
 fn is_quit_id(special: &Special, id: StateID) -> bool
     ensures { result ≡ is_quit_id special.now id }
@@ -186,7 +186,7 @@ fn is_quit_id(special: &Special, id: StateID) -> bool
     id == special.quit && id != StateID::ZERO
 }
 
-/// Whether an id is at most that of the last special row.
+/// Whether an id is at most that of the last special state.
 #[inline(always)]
 fn is_special_id(special: &Special, id: StateID) -> bool
     ensures { result ≡ nat_le id special.now.max }
