@@ -88,6 +88,7 @@ fn walk_far<A: Automaton>(table: &A, start: StateID, piece: &[u8], from: usize) 
                 return halt;
             }
             at = skip(table, row, piece, at + 1);
+            continue 'passes;
         }
         let passed = pass_far(table, row, piece, at, piece.len());
         row = passed.row;

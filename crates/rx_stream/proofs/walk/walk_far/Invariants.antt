@@ -1,4 +1,4 @@
-use Rattle.std.proofs.Common.{length, ◌-◌}
+use Rattle.std.proofs.Common.{length, ◌-◌, ◌≤◌}
 use Rattle.rx_spec.specs.Ids.{row_of}
 use Rattle.rx_search.specs.Starts.{IsId}
 use Rattle.rx_stream.specs.Pieces.{IsQuietWalk}
@@ -18,10 +18,12 @@ decreases-passes g l = length l.piece - l.at
 abbrev pub invariant-bytes : goal.invariant-bytes
 invariant-bytes g l =
     let a = g.A.Automaton in
-    let table = l.fn.table in
-    IsId (a.ids table) l.row
-    × IsQuietWalk (a.table table) (row_of (a.ids table) l.fn.start) l.fn.piece l.fn.from
-    (row_of (a.ids table) l.row) l.at
+    let table = l.fn.table in record {
+      is_id : IsId (a.ids table) l.row;
+      walk : IsQuietWalk (a.table table) (row_of (a.ids table) l.fn.start) l.fn.piece l.fn.from
+          (row_of (a.ids table) l.row) l.at;
+      on : l.passes.at ≤ l.at;
+    }
 
 abbrev pub decreases-bytes : goal.decreases-bytes
 decreases-bytes g l = length l.piece - l.at

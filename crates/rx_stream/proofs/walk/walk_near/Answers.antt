@@ -19,19 +19,21 @@ pub returns-in-Some : goal.returns-in-Some
 returns-in-Some g c =
     let met = g.met.A.Automaton in
     let table = c.args.table.now in
+    let ids = g.A.Automaton.ids table in
     let next = c.next_state-row.ensures in
     let s = standing c.next_state-row.result (met.sound table c.requires.sound) (met.are_ids table) next.is_id in
-    walk_halts (g.A.Automaton.ids table) c.next_state-row.result c.bytes.invariant.1 c.bytes-test.true
+    walk_halts ids c.next_state-row.result c.bytes.invariant.1 c.bytes-test.true
     (turn_to next.row s) next.is_id c.in-Some.halt (rw c.in-Some.is at c.met.ensures)
 
 pub bytes-preserved : goal.bytes-preserved
 bytes-preserved g c =
     let met = g.met.A.Automaton in
     let table = c.args.table.now in
+    let ids = g.A.Automaton.ids table in
     let next = c.next_state-row.ensures in
     let s = standing c.next_state-row.result (met.sound table c.requires.sound) (met.are_ids table) next.is_id in
     let bytes = bytes_of c.args.piece.now c.args.piece.now refl (λ k. omega (arith, c.type_inv.piece k)) in (
       next.is_id,
-      walk_passes_by (g.A.Automaton.ids table) c.next_state-row.result c.bytes.invariant.1 c.bytes-test.true
+      walk_passes_by ids c.next_state-row.result c.bytes.invariant.1 c.bytes-test.true
           (turn_to next.row s) bytes (rw c.in_default.is at c.met.ensures) c.skip-at.ensures,
     )
