@@ -12,7 +12,7 @@ ghost use Rattle.rx_search.specs.Passing.{Leads};
 ghost use Rattle.rx_search.specs.Starts.{IsId, IsStart, IsRefused};
 
 use crate::Automaton;
-use crate::parts::pass_far;
+use crate::parts::{Passed, pass_on};
 use rx_base::{Direction, Input, MatchError, Needles, PatternID, StateID, Steps, Tally, Unit};
 use std::marker::PhantomData;
 
@@ -111,7 +111,11 @@ impl<A: Automaton, L> Cursor<A, L> {
             (row_of (A.ids self.old.table) self.old.row) from (row_of (A.ids self.old.table) self.new.row) result }
         ensures within { result ≤ end - from }
     {
-        let passed = pass_far(&self.table, self.row, haystack, from, end);
+        let mut passed = Passed {
+            row: self.row,
+            count: 0,
+        };
+        pass_on(&self.table, &mut passed, haystack, from, end);
         self.row = passed.row;
         passed.count
     }

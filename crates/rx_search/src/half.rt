@@ -32,7 +32,7 @@ pub fn find_fwd<A: Automaton>(dfa: &A, input: &Input<'_>) -> Result<Option<HalfM
     ensures within { IfOk result (λ found. IfSome found (λ h. IsInSpan (query_of input.now) h.offset)) }
 {
     if input.end().saturating_sub(input.start()) < FAR {
-        return find(dfa, input, Direction::Forward, Places::One);
+        return find_near(dfa, input);
     }
     find_far(dfa, input)
 }
@@ -50,8 +50,19 @@ pub fn find_rev<A: Automaton>(dfa: &A, input: &Input<'_>) -> Result<Option<HalfM
     find(dfa, input, Direction::Reverse, Places::One)
 }
 
-/// The forward search of a long span. It is a function of its own, so that searches of short ones stay as short as
-/// they can be.
+/// The forward search of a short span.
+#[inline(never)]
+fn find_near<A: Automaton>(dfa: &A, input: &Input<'_>) -> Result<Option<HalfMatch>, MatchError>
+    requires sound { A.IsSound dfa.now }
+    requires fits { IsFit (query_of input.now) }
+    ensures answer { result
+        ≡ half_search (A.table dfa.now).machine (A.table dfa.now).settings Forward (query_of input.now) }
+    ensures within { IfOk result (λ found. IfSome found (λ h. IsInSpan (query_of input.now) h.offset)) }
+{
+    find(dfa, input, Direction::Forward, Places::One)
+}
+
+/// The forward search of a long span. Each of both is a function of its own, and so as short as it can be.
 #[inline(never)]
 fn find_far<A: Automaton>(dfa: &A, input: &Input<'_>) -> Result<Option<HalfMatch>, MatchError>
     requires sound { A.IsSound dfa.now }

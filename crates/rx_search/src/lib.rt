@@ -22,7 +22,7 @@ pub use automaton::Automaton;
 pub use cursor::Cursor;
 pub use half::{find_fwd, find_fwd_counted, find_rev, find_rev_counted};
 pub use overlapping::{OverlappingState, find_overlapping_fwd, find_overlapping_rev};
-pub use parts::{Passed, pass_far};
+pub use parts::{Passed, pass_on};
 pub use skip::first_needle;
 pub use splits::{skip_splits_fwd, skip_splits_rev};
 pub use start::StartError;

@@ -24,8 +24,9 @@ const BLOCK: usize = 4 * PART;
 /// How many bytes before its part a walk begins.
 const LEAD: usize = 32;
 
-/// How many bytes are read at one place after a block that wasn't passed over.
-const ALONE: usize = 2048;
+/// How many bytes a walk reads at one place before it goes on at several, at first and after a block that wasn't
+/// passed over.
+pub(crate) const ALONE: usize = 2048;
 
 /// The most that they become, where block after block isn't.
 const MOST_ALONE: usize = 1 << 19;
@@ -48,18 +49,34 @@ struct Rows {
     fourth: StateID,
 }
 
-/// Passes over bytes that lead to ordinary rows, up to the first one that leads to another, or to an end.
+/// Passes over bytes from `passed.row` up to the first one that leads to a special row, or to an end, and writes how
+/// many and where they led.
 ///
-/// It is for walks of a caller's own over long stretches, and reads them at several places at once. It pays off from
-/// some 4,096 bytes on.
+/// It is for walks of a caller's own over long stretches, and reads them at several places at once: that pays off from
+/// some 4,096 bytes on. It writes to memory and returns nothing: a row that comes back in a register would cost the
+/// loop of the caller one instruction more in its chain of loads.
 #[inline(never)]
-pub fn pass_far<A: Automaton>(
+pub fn pass_on<A: Automaton>(
     dfa: &A,
-    row: StateID,
+    passed: &mut Passed,
     haystack: &[u8],
     from: usize,
     end: usize,
-) -> Passed
+)
+    requires is_id { IsId (A.ids dfa.now) passed.old.row }
+    requires begun { from ≤ end }
+    requires within { end ≤ length haystack.now }
+    ensures is_id { IsId (A.ids dfa.now) passed.new.row }
+    ensures leads { Leads (A.table dfa.now) Forward haystack.now (row_of (A.ids dfa.now) passed.old.row) from
+        (row_of (A.ids dfa.now) passed.new.row) passed.new.count }
+    ensures within { passed.new.count ≤ end - from }
+{
+    *passed = pass_far(dfa, passed.row, haystack, from, end);
+}
+
+/// Passes over bytes that lead to ordinary rows, up to the first one that leads to another, or to an end.
+#[inline(always)]
+fn pass_far<A: Automaton>(dfa: &A, row: StateID, haystack: &[u8], from: usize, end: usize) -> Passed
     requires is_id { IsId (A.ids dfa.now) row }
     requires begun { from ≤ end }
     requires within { end ≤ length haystack.now }

@@ -12,12 +12,10 @@ ghost use Rattle.rx_search.specs.Needles.{byte_ahead};
 ghost use Rattle.rx_search.specs.Passing.{Passes};
 ghost use Rattle.rx_search.specs.Walks.{IsInSpan, last_offset, units_left, unit_ahead, next_stop, StopsAt};
 
+use crate::parts::ALONE;
 use crate::skip::skip;
 use crate::{Automaton, Cursor};
 use rx_base::{Direction, Input, MatchError, Steps, Unit};
-
-/// After so many bytes at one place without a special row, a walk goes on at several places at once.
-const ALONE: usize = 2048;
 
 /// At how many places of a text a walk may read at once. What is read at several isn't counted.
 #[derive(Clone, Copy, Debug)]

@@ -7,7 +7,7 @@ ghost use Rattle.rx_stream.specs.Pieces.{HaltsAt, IsMetBy, IsPassedBy, IsQuietWa
 
 use crate::skips::skip;
 use rx_base::StateID;
-use rx_search::{Automaton, pass_far};
+use rx_search::{Automaton, Passed, pass_on};
 
 /// Where a walk over a piece stops, and in which state.
 #[derive(Clone, Copy, Debug)]
@@ -90,7 +90,8 @@ fn walk_far<A: Automaton>(table: &A, start: StateID, piece: &[u8], from: usize) 
             at = skip(table, row, piece, at + 1);
             continue 'passes;
         }
-        let passed = pass_far(table, row, piece, at, piece.len());
+        let mut passed = Passed { row, count: 0 };
+        pass_on(table, &mut passed, piece, at, piece.len());
         row = passed.row;
         at += passed.count;
     }

@@ -47,7 +47,7 @@ passes-preserved g c =
     let walk = c.bytes.invariant in
     let s = standing c.bytes.row (met.sound table c.requires.sound) (met.are_ids table) walk.is_id in
     let bytes = bytes_of c.args.piece.now c.args.piece.now refl (λ k. omega (arith, c.type_inv.piece k)) in
-    let passed = c.pass_far-passed.ensures in (
+    let passed = c.pass_on.ensures in (
       passed.is_id,
       walk_passes bytes s walk.walk passed.leads (let high = walk.walk.high in omega (arith, high, passed.within)),
     )
