@@ -18,6 +18,7 @@
 mod check;
 mod classes;
 mod evidence;
+pub mod examples;
 pub mod laws;
 mod pairs;
 mod places;

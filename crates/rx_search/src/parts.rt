@@ -56,13 +56,7 @@ struct Rows {
 /// some 4,096 bytes on. It writes to memory and returns nothing: a row that comes back in a register would cost the
 /// loop of the caller one instruction more in its chain of loads.
 #[inline(never)]
-pub fn pass_on<A: Automaton>(
-    dfa: &A,
-    passed: &mut Passed,
-    haystack: &[u8],
-    from: usize,
-    end: usize,
-)
+pub fn pass_on<A: Automaton>(dfa: &A, passed: &mut Passed, haystack: &[u8], from: usize, end: usize)
     requires is_id { IsId (A.ids dfa.now) passed.old.row }
     requires begun { from ≤ end }
     requires within { end ≤ length haystack.now }

@@ -1,0 +1,107 @@
+-- Starts of all modes: those of patterns past the last part nothing.
+use Rattle.std.proofs.Common.{ℕ, ◌≡◌, ◌<◌, ◌≤◌, max, Bool, true, false, if◌then◌else◌, Option, Some, None, Result}
+use Rattle.std.proofs.Common.{Ok, Err, List, refl, ap, sym, ◌∙◌, subst, arith, ⊎_elim}
+use Rattle.std.proofs.lemmas.Bool.{cases_lt}
+use Rattle.std.specs.Prelude.{is_some, IfSome}
+use Rattle.rx_spec.specs.Bytes.{contains}
+use Rattle.rx_spec.specs.Queries.{Anchored}
+use Rattle.rx_spec.specs.Machines.{IsWord, Settings}
+use Rattle.rx_spec.specs.Starts.{StartError, start_context, start_error}
+use Rattle.rx_spec.specs.Tables.{Table, IsTable}
+use Rattle.rx_spec.specs.declared.Start.{Start}
+use Rattle.lemmas_walks.proofs.SilentRows.{zero_is_silent}
+use Rattle.rx_base.specs.StartConfig.{StartConfig}
+use Rattle.rx_equal.specs.Partings.{AreAlikeBy, NothingParts, answer_at}
+use Rattle.rx_equal.specs.PartingsLaws.{HasOwnStarts, NoStartParts, NothingPartsPassedOn}
+use Rattle.rx_equal.proofs.PartingsLaws.{equal_refusals}
+use Rattle.rx_equal.proofs.Refusals.{answers_error, answers_row}
+
+-- a pattern that isn't refused has starts
+supported_by : (v : Bool) (error : StartError) → (if v then None else Some error) ≡ None → v ≡ true
+supported_by true error e = refl
+supported_by false error e = absurd (cc)
+
+quits_by : (quits v : Bool) (quit error : StartError)
+    → (if quits then Some quit else (if v then None else Some error)) ≡ None → v ≡ true
+quits_by true v quit error e = absurd (cc)
+quits_by false v quit error e = supported_by v error e
+
+have_starts : (s : Settings) (beside : Option ℕ) (k : ℕ) → start_error s beside (Anchored.Pattern k) ≡ None
+    → is_some s.pattern_starts ≡ true
+have_starts s None k e =
+    supported_by (is_some s.pattern_starts) (StartError.UnsupportedAnchored (Anchored.Pattern k)) e
+have_starts s (Some byte) k e =
+    quits_by (contains s.quit byte) (is_some s.pattern_starts) (StartError.Quit byte)
+    (StartError.UnsupportedAnchored (Anchored.Pattern k)) e
+
+-- past the last pattern its starts are dead
+dead_by : (t : Table) → IsTable t → HasOwnStarts t → (k : ℕ) (start : Start) (o : Option ℕ)
+    → t.settings.pattern_starts ≡ o → is_some o ≡ true → t.pattern_len < k
+    → t.machine.entry (Anchored.Pattern k) start ≡ 0
+dead_by t is own k start (Some n) e has past = let few = own n e in is.past_last n k start e (omega (arith, few, past))
+dead_by t is own k start None e has past = absurd (cc)
+
+dead_answer : (t : Table) → IsTable t → HasOwnStarts t → (beside : Option ℕ) (k : ℕ)
+    → start_error t.settings beside (Anchored.Pattern k) ≡ None → t.pattern_len < k
+    → answer_at t (record { beside = beside; mode = Anchored.Pattern k }) ≡ Ok 0
+dead_answer t is own beside k e past =
+    answers_row t (record { beside = beside; mode = Anchored.Pattern k }) 0 e
+    (sym (dead_by t is own k (start_context t.settings beside) t.settings.pattern_starts refl
+    (have_starts t.settings beside k e) past))
+
+module _ (t u : Table) (is : IsTable t) (other_is : IsTable u) (own : HasOwnStarts t) (other_own : HasOwnStarts u)
+    (nothing : NothingParts t u) where
+  past_last : (beside : Option ℕ) (k : ℕ) (o : Option StartError)
+      → start_error t.settings beside (Anchored.Pattern k) ≡ o → max t.pattern_len u.pattern_len < k
+      → (word : List ℕ) → IsWord word
+      → AreAlikeBy t u word (answer_at t (record { beside = beside; mode = Anchored.Pattern k }))
+      (answer_at u (record { beside = beside; mode = Anchored.Pattern k }))
+  past_last beside k (Some error) e past word w =
+      let place : StartConfig = record { beside = beside; mode = Anchored.Pattern k } in
+      let f = sym (equal_refusals t u nothing beside (Anchored.Pattern k)) ∙ e in
+      subst (λ answer. AreAlikeBy t u word answer (answer_at u place)) (sym (answers_error t place error e))
+      (subst (AreAlikeBy t u word (Err error)) (sym (answers_error u place error f)) refl)
+  past_last beside k None e past word w =
+      let place : StartConfig = record { beside = beside; mode = Anchored.Pattern k } in
+      let f = sym (equal_refusals t u nothing beside (Anchored.Pattern k)) ∙ e in
+      subst (λ answer. AreAlikeBy t u word answer (answer_at u place))
+      (sym (dead_answer t is own beside k e (omega (arith, past))))
+      (subst (AreAlikeBy t u word (Ok 0)) (sym (dead_answer u other_is other_own beside k f (omega (arith, past))))
+      ((zero_is_silent t is).plain word w ∙ sym ((zero_is_silent u other_is).plain word w)))
+
+  by_mode : (beside : Option ℕ) (mode : Anchored) → IfSome beside (λ byte. byte < 256) → (word : List ℕ)
+      → IsWord word
+      → AreAlikeBy t u word (answer_at t (record { beside = beside; mode = mode }))
+      (answer_at u (record { beside = beside; mode = mode }))
+  by_mode beside Anchored.No h word w =
+      nothing (record { beside = beside; mode = Anchored.No }) (record { mode = tt; beside = h }) word w
+  by_mode beside Anchored.Yes h word w =
+      nothing (record { beside = beside; mode = Anchored.Yes }) (record { mode = tt; beside = h }) word w
+  by_mode beside (Anchored.Pattern k) h word w =
+      ⊎_elim
+      (λ (past : max t.pattern_len u.pattern_len < k).
+      past_last beside k (start_error t.settings beside (Anchored.Pattern k)) refl past word w)
+      (λ (within : k ≤ max t.pattern_len u.pattern_len).
+      nothing (record { beside = beside; mode = Anchored.Pattern k }) (record { mode = within; beside = h }) word w)
+      (cases_lt (max t.pattern_len u.pattern_len) k)
+
+pub no_start_parts : NoStartParts
+no_start_parts t u is other_is own other_own nothing place h word w =
+    by_mode t u is other_is own other_own nothing place.beside place.mode h word w
+
+-- ---- what equals an equal table
+
+alike_passed_on : (t u v : Table) (word : List ℕ) (a b c : Result ℕ StartError) → AreAlikeBy t u word a b
+    → AreAlikeBy u v word b c → AreAlikeBy t v word a c
+alike_passed_on t u v word (Ok x) (Ok y) (Ok z) e f = e ∙ f
+alike_passed_on t u v word (Err error) (Err other) (Err last) e f = e ∙ f
+alike_passed_on t u v word (Ok x) (Err other) c e f = absurd e
+alike_passed_on t u v word (Err error) (Ok y) c e f = absurd e
+alike_passed_on t u v word (Ok x) (Ok y) (Err last) e f = absurd f
+alike_passed_on t u v word (Err error) (Err other) (Ok z) e f = absurd f
+
+pub nothing_parts_passed_on : NothingPartsPassedOn
+nothing_parts_passed_on t u v is other_is last_is own other_own last_own first second place within word w =
+    alike_passed_on t u v word (answer_at t place) (answer_at u place) (answer_at v place)
+    (no_start_parts t u is other_is own other_own first place within.beside word w)
+    (no_start_parts u v other_is last_is other_own last_own second place within.beside word w)

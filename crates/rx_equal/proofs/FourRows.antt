@@ -1,0 +1,178 @@
+-- The tables of the examples: they are sound, and which of their pairs of rows are closed.
+use Rattle.std.proofs.Common.{ℕ, ◌≡◌, ◌<◌, ◌==◌, ◌&&◌, ◌⊎◌, Bool, true, false, if◌then◌else◌, Option, Some, None}
+use Rattle.std.proofs.Common.{Ok, Err, List, [], ◌∷◌, refl, ap, ap₂, sym, ◌∙◌, subst, arith, ⊎_elim}
+use Rattle.std.proofs.lemmas.Bool.{eqb-true}
+use Rattle.std.proofs.lemmas.List.Elements.{All-contains, All-from_recursion}
+use Rattle.std.specs.Prelude.{nat_lt, All, Contains, IfSome}
+use Rattle.rx_spec.specs.Bytes.{contains}
+use Rattle.rx_spec.specs.Queries.{Anchored}
+use Rattle.rx_spec.specs.Machines.{Label, label_of}
+use Rattle.rx_spec.specs.Starts.{StartError}
+use Rattle.rx_spec.specs.Tables.{Table, IsTable, IsSound}
+use Rattle.rx_spec.specs.declared.Start.{Start}
+use Rattle.lemmas_walks.proofs.Firsts.{Contains-here, Contains-there, Contains-nil, Contains-cases}
+use Rattle.rx_base.specs.StartConfig.{StartConfig}
+use Rattle.rx_equal.specs.Partings.{IsPlaceOf, answer_at, row_or}
+use Rattle.rx_equal.specs.Evidence.{RowPair, AreClosed, AreMet, HaveEqualLabels, next_pair}
+use Rattle.rx_equal.specs.Examples.{four_rows, start_of_mode, told_by}
+
+-- a row by whether it is the start and the unit a byte
+abbrev next_by : ℕ → Bool → Bool → ℕ
+next_by to byte start = if byte && start then to else 0
+
+next_within : (to : ℕ) (byte start : Bool) → to < 4 → next_by to byte start < 4
+next_within to true true h = h
+next_within to true false h = omega arith
+next_within to false start h = omega arith
+
+next_dead : (to : ℕ) (byte : Bool) → next_by to byte false ≡ 0
+next_dead to true = refl
+next_dead to false = refl
+
+start_within : (mode : Anchored) → start_of_mode mode < 4
+start_within Anchored.No = omega arith
+start_within Anchored.Yes = omega arith
+start_within (Anchored.Pattern k) = omega arith
+
+-- a label by whether its row is quit or the last
+abbrev label_by : List ℕ → Bool → Bool → Label
+label_by told quit last = if quit then Label.Quits else (if last then label_of told else Label.Plain)
+
+quits_at : (told : List ℕ) (row : ℕ) (quit last : Bool) → (row == 1) ≡ quit → label_by told quit last ≡ Label.Quits
+    → row ≡ 1
+quits_at told row true last is e = eqb-true row 1 is
+quits_at [] row false true is e = absurd (cc)
+quits_at (k ∷ ks) row false true is e = absurd (cc)
+quits_at told row false false is e = absurd (cc)
+
+lists_some : (told : List ℕ) (quit last : Bool) → label_by told quit last ≡ Label.Matches [] → ⊥
+lists_some told true last e = cc
+lists_some [] false true e = cc
+lists_some (k ∷ ks) false true e = cc
+lists_some told false false e = cc
+
+same_patterns : (ks js : List ℕ) → Label.Matches ks ≡ Label.Matches js → ks ≡ js
+same_patterns ks js e = cc
+
+patterns_below : (n : ℕ) (told : List ℕ) (quit last : Bool) (ks : List ℕ) (k : ℕ) → All (λ j. j < n) told
+    → label_by told quit last ≡ Label.Matches ks → Contains ks k → k < n
+patterns_below n told true last ks k all e c = absurd (cc)
+patterns_below n [] false true ks k all e c = absurd (cc)
+patterns_below n (j ∷ js) false true ks k all e c =
+    All-contains (λ (i : ℕ). i < n) (j ∷ js) k all
+    (subst (λ xs. Contains xs k) (sym (same_patterns (j ∷ js) ks e)) c)
+patterns_below n told false false ks k all e c = absurd (cc)
+
+starts_plain : (told : List ℕ) (mode : Anchored) → told_by told (start_of_mode mode) ≡ Label.Plain
+starts_plain told Anchored.No = refl
+starts_plain told Anchored.Yes = refl
+starts_plain told (Anchored.Pattern k) = refl
+
+module _ (n : ℕ) (pattern_starts : Option ℕ) (to : ℕ) (told : List ℕ) (within : to < 4) (all : All (λ k. k < n) told)
+  where
+    is_table : IsTable (four_rows n pattern_starts to told)
+    is_table = record {
+      two = omega arith;
+      entries = λ mode start. start_within mode;
+      universal_unanchored = λ row e. absurd (cc);
+      universal_anchored = λ row e. absurd (cc);
+      nexts = λ row unit h k. next_within to (nat_lt unit 256) (row == 2) within;
+      past_last = λ n k start e h. refl;
+      dead_only = λ row h. refl;
+      dead_label = refl;
+      dead_stays = λ unit h. next_dead to (nat_lt unit 256);
+      quit_label = refl;
+      quit_ends = λ unit h. next_dead to (nat_lt unit 256);
+      quit_only = λ row h e. quits_at told row (row == 1) (row == 3) refl e;
+      lists = λ row h e. lists_some told (row == 1) (row == 3) e;
+    }
+
+    pub four_rows_sound : IsSound (four_rows n pattern_starts to told)
+    four_rows_sound = record {
+      is_table = is_table;
+      eoi_goes_on = λ row h e. (let zero_is_one : 0 ≡ 1 = e in omega arith);
+      starts_plain = λ mode start. starts_plain told mode;
+      patterns = λ row ks k h e c. patterns_below n told (row == 1) (row == 3) ks k all e c;
+      needles = λ row h e. absurd (cc);
+      some_needle = λ row h e. absurd (cc);
+      few_needles = λ row h e. absurd (cc);
+      no_needle = λ row h e. refl;
+      special = λ row h. refl;
+    }
+
+-- ---- closed pairs of two tables: their starts, where a byte leads from there, and dead
+
+abbrev pair : ℕ → ℕ → RowPair
+pair row other = record { row = row; other = other }
+
+abbrev pub three_pairs : ℕ → ℕ → List RowPair
+three_pairs to other = pair 2 2 ∷ pair to other ∷ pair 0 0 ∷ []
+
+by_three : (P : RowPair → Type 0) (to other : ℕ) → P (pair 2 2) → P (pair to other) → P (pair 0 0) → (p : RowPair)
+    → Contains (three_pairs to other) p → P p
+by_three P to other start byte dead p c =
+    All-contains P (three_pairs to other) p (All-from_recursion P (three_pairs to other) (start, (byte, (dead, tt)))) c
+
+dead_there : (to other : ℕ) → Contains (three_pairs to other) (pair 0 0)
+dead_there to other = (2, omega arith, refl)
+
+from_start : (to other : ℕ) (byte : Bool)
+    → Contains (three_pairs to other) (pair (next_by to byte true) (next_by other byte true))
+from_start to other true = (1, omega arith, refl)
+from_start to other false = dead_there to other
+
+from_others : (to other : ℕ) (byte start other_start : Bool) → start ≡ false → other_start ≡ false
+    → Contains (three_pairs to other) (pair (next_by to byte start) (next_by other byte other_start))
+from_others to other true false false e f = dead_there to other
+from_others to other false start other_start e f = dead_there to other
+from_others to other true true other_start e f = absurd (cc)
+from_others to other true start true e f = absurd (cc)
+
+-- the answers of two tables that have no starts of patterns
+abbrev error_by : Bool → Anchored → Option StartError
+error_by supported mode = if supported then None else Some (StartError.UnsupportedAnchored mode)
+
+module _ (n to other : ℕ) (told others : List ℕ) (labels : told_by told to ≡ told_by others other)
+    (on : (to == 2) ≡ false) (other_on : (other == 2) ≡ false) where
+  abbrev t : Table
+  t = four_rows n None to told
+
+  abbrev u : Table
+  u = four_rows n None other others
+
+  nexts : (unit : ℕ) (p : RowPair) → Contains (three_pairs to other) p
+      → Contains (three_pairs to other) (next_pair t u p unit)
+  nexts unit =
+      let byte = nat_lt unit 256 in
+      by_three (λ p. Contains (three_pairs to other) (next_pair t u p unit)) to other (from_start to other byte)
+      (from_others to other byte (to == 2) (other == 2) on other_on) (from_others to other byte false false refl refl)
+
+  at_byte : (byte : ℕ) (quits : Bool) (mode : Anchored)
+      → AreMet (three_pairs to other) (row_or (if quits then Some (StartError.Quit byte) else None) 2)
+      (row_or (if quits then Some (StartError.Quit byte) else None) 2)
+  at_byte byte true mode = refl
+  at_byte byte false mode = (0, omega arith, refl)
+
+  at_pattern : (byte : ℕ) (quits : Bool) (mode : Anchored)
+      → AreMet (three_pairs to other)
+      (row_or (if quits then Some (StartError.Quit byte) else Some (StartError.UnsupportedAnchored mode)) 0)
+      (row_or (if quits then Some (StartError.Quit byte) else Some (StartError.UnsupportedAnchored mode)) 0)
+  at_pattern byte true mode = refl
+  at_pattern byte false mode = refl
+
+  starts : (beside : Option ℕ) (mode : Anchored)
+      → AreMet (three_pairs to other) (answer_at t (record { beside = beside; mode = mode }))
+      (answer_at u (record { beside = beside; mode = mode }))
+  starts None Anchored.No = (0, omega arith, refl)
+  starts None Anchored.Yes = (0, omega arith, refl)
+  starts None (Anchored.Pattern k) = refl
+  starts (Some byte) Anchored.No = at_byte byte (contains 0 byte) Anchored.No
+  starts (Some byte) Anchored.Yes = at_byte byte (contains 0 byte) Anchored.Yes
+  starts (Some byte) (Anchored.Pattern k) = at_pattern byte (contains 0 byte) (Anchored.Pattern k)
+
+  pub three_closed : AreClosed t u (three_pairs to other)
+  three_closed = record {
+    labels = by_three (HaveEqualLabels t u) to other refl labels refl;
+    nexts = λ p unit c h. nexts unit p c;
+    starts = λ place is. starts place.beside place.mode;
+  }

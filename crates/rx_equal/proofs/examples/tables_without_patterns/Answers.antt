@@ -1,0 +1,55 @@
+use Rattle.std.proofs.Common.{ℕ, ◌≡◌, Bool, true, false, if◌then◌else◌, Option, Some, None, List, refl, ap, arith}
+use Rattle.rx_spec.specs.Bytes.{contains}
+use Rattle.rx_spec.specs.Queries.{Anchored}
+use Rattle.rx_spec.specs.Starts.{StartError}
+use Rattle.rx_spec.specs.Tables.{Table}
+use Rattle.rx_equal.specs.Partings.{AreAlikeBy, IsParting, answer_at}
+use Rattle.rx_equal.specs.Examples.{no_patterns}
+use Rattle.rx_equal.proofs.PartingsLaws.{alike_same, starts_of_no_pattern}
+use Rattle.rx_equal.proofs.examples.tables_without_patterns.Goals as goal
+
+abbrev t : Table
+t = no_patterns (Some 0)
+
+abbrev u : Table
+u = no_patterns None
+
+pub returns-clause-parts : goal.returns-clause-parts
+returns-clause-parts c = starts_of_no_pattern t u 0 refl refl
+
+-- both begin in a mode of no pattern, or quit by one byte
+abbrev AlikeIn : Anchored → Type 0
+AlikeIn mode = (beside : Option ℕ) (word : List ℕ)
+    → AreAlikeBy t u word (answer_at t (record { beside = beside; mode = mode }))
+    (answer_at u (record { beside = beside; mode = mode }))
+
+no_alike : AlikeIn Anchored.No
+no_alike None word = refl
+no_alike (Some byte) word =
+    alike_same t u word (answer_at t (record { beside = Some byte; mode = Anchored.No })) refl
+
+yes_alike : AlikeIn Anchored.Yes
+yes_alike None word = refl
+yes_alike (Some byte) word =
+    alike_same t u word (answer_at t (record { beside = Some byte; mode = Anchored.Yes })) refl
+
+alone : (beside : Option ℕ) (mode : Anchored) (word : List ℕ)
+    → IsParting t u (record { beside = beside; mode = mode }) word → mode ≡ Anchored.Pattern 0
+alone beside Anchored.No word parting = absurd (parting.1 (no_alike beside word))
+alone beside Anchored.Yes word parting = absurd (parting.1 (yes_alike beside word))
+alone beside (Anchored.Pattern k) word parting =
+    let within = parting.0 in let same : k ≡ 0 = omega (arith, within) in ap (λ i. Anchored.Pattern i) same
+
+pub returns-clause-alone : goal.returns-clause-alone
+returns-clause-alone c = λ place word parting. alone place.beside place.mode word parting
+
+pub returns-clause-dead_starts : goal.returns-clause-dead_starts
+returns-clause-dead_starts c = λ place is word w. by_byte place.beside place.mode word
+  where
+    by_byte : (beside : Option ℕ) (mode : Anchored) (word : List ℕ)
+        → AreAlikeBy t (no_patterns (Some 5)) word (answer_at t (record { beside = beside; mode = mode }))
+        (answer_at (no_patterns (Some 5)) (record { beside = beside; mode = mode }))
+    by_byte None mode word =
+        alike_same t (no_patterns (Some 5)) word (answer_at t (record { beside = None; mode = mode })) refl
+    by_byte (Some byte) mode word =
+        alike_same t (no_patterns (Some 5)) word (answer_at t (record { beside = Some byte; mode = mode })) refl
