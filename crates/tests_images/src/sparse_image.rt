@@ -314,7 +314,8 @@ fn written(dfa: &DFA<&[u8]>, writer: Writer, bytes: &mut [u8]) -> Option<usize> 
     written.ok()
 }
 
-/// Writes the table of an image to a buffer that is one byte too short, and to one with two bytes more.
+/// Writes the table of an image to a buffer that is one byte too short, to one with two bytes more, and to one that
+/// fits.
 fn check_writer(
     rt: &impl Abort,
     alloc: Global,

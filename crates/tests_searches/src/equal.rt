@@ -167,7 +167,7 @@ fn tables_that_differ(rt: HostRuntime) -> Result<(), Fail> {
     check_differ(&rt, alloc, &one, &other, &[Unit::Byte(b'b')], Unit::Eoi)?;
     let both = make(alloc, &COLUMNS, &ROWS, &[0, 1])?;
     check_differ(&rt, alloc, &one, &both, &[Unit::Byte(b'b')], Unit::Eoi)?;
-    // the classes of either table set `b` to `m` apart from other bytes
+    // `b` to `m` have the class of `a` in one table, and that of the bytes after `m` in the other
     let wider = make(alloc, &WIDER, &ROWS, &[0])?;
     check_differ(
         &rt,

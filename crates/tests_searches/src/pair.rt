@@ -12,7 +12,7 @@ use std::process::Abort;
 use std::test::Fail;
 use tests_notation::read;
 
-/// The pair of some patterns. With `utf8`, searches skip empty matches that split a character. `quit` is a quit byte.
+/// The pair of some patterns. With `utf8`, searches pass over matches that split a character. `quit` is a quit byte.
 fn build(
     alloc: Global,
     patterns: &str,

@@ -17,7 +17,7 @@ enum Change {
     Doubled,
     /// Before the link at an index, or to the end.
     MovedTo(usize),
-    /// Gives the link another earlier link.
+    /// Continues from the pair of the link at an index.
     From(u64),
 }
 
