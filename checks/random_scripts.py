@@ -1,6 +1,6 @@
-"""Random scripts, and the program that is asked for their answers.
+"""Random scripts, and the program that runs them.
 
-The program is the one that the repository builds, or that of the variable PROGRAM.
+The program is the one that the repository builds, unless the variable PROGRAM names another.
 """
 
 import os
@@ -21,7 +21,7 @@ def run(words, data):
 
 
 def expression(r, depth):
-    """An expression, and how many bytes its matches have at least: no body without a byte is repeated for ever."""
+    """An expression and the least length of its matches. A body that can be empty is never repeated without a bound."""
     kind = r.randrange(10) if depth else r.randrange(4)
     if kind == 0:
         if r.random() < 0.3:
@@ -45,7 +45,7 @@ def expression(r, depth):
 
 
 def plan_words(r, names):
-    """Words of a plan: some of these names, and settings with a value."""
+    """Words of a plan: some of these names, and some settings with a value."""
     words = [name for name in names if r.random() < 0.25]
     if r.random() < 0.3:
         words.append("start=%s" % r.choice(["both", "unanchored", "anchored"]))
@@ -60,7 +60,7 @@ def plan_words(r, names):
 
 
 def plan_line(words):
-    """The line of a plan, where it has words."""
+    """The line of a plan. Without words there is none."""
     return ["plan %s" % " ".join(words)] if words else []
 
 
@@ -79,12 +79,12 @@ def question(r):
 
 
 def numbers(defaults):
-    """The numbers on the command line, and defaults for those that aren't given."""
+    """The numbers on the command line, with defaults for the missing ones."""
     given = [int(word) for word in sys.argv[1:]]
     return given + defaults[len(given):]
 
 
 def each_seed(compare, seed, count):
-    """What a function answers for so many random scripts, several at once; each has its own seed."""
+    """The results of a function for this many seeds, several at once."""
     with ThreadPoolExecutor(max_workers=os.cpu_count()) as pool:
         yield from pool.map(compare, ("%d-%d" % (seed, k) for k in range(count)))

@@ -1,7 +1,7 @@
 """A second reader of images of tables and of pairs, written from the format's description alone.
 
-`read(form, data)` and `read_pair(data)` return tables with the length of the image, or raise Refused with the kind of the
-first test that fails. `half` and `join` walk tables that were read. Nothing here is shared with the program.
+`read(form, data)` and `read_pair(data)` return tables and the length of the image, or raise Refused with the kind of the
+first test that fails. `half` and `join` search with tables that were read. Nothing here is shared with the program.
 """
 
 MAX_ID = 2147483646
@@ -13,7 +13,7 @@ TEXT = 2
 
 
 class Refused(Exception):
-    """The first test fails that has this kind."""
+    """The image fails a test; `kind` is that of the first such test."""
 
     def __init__(self, kind):
         super().__init__(kind)
@@ -26,7 +26,7 @@ def ensure(holds, kind="generic"):
 
 
 class Fields:
-    """Fields one after another."""
+    """The fields of an image, read one after another."""
 
     def __init__(self, data):
         self.data, self.at, self.order = data, 0, "little"
@@ -45,7 +45,7 @@ class Fields:
 
 
 class Table:
-    """A table by row numbers: `next(row, unit)`, labels, entries and settings."""
+    """A table that was read: transitions (`next_id`), patterns, needles, start ids and settings."""
 
 
 # ---- parts of both forms
@@ -132,7 +132,7 @@ def is_in(span, number):
 
 
 def close(t, ids):
-    """What must hold of all parts together: ids are those of the rows, in order."""
+    """The tests of all parts together. `ids` has the ids of the rows, in order."""
     ensure(len(ids) >= 2)
     ensure(ids[-1] <= MAX_ID)
     rows = set(ids)
@@ -290,7 +290,7 @@ def read_sparse(f):
 
 
 def read(form, data):
-    """A table, and how many bytes its image has."""
+    """A table, and the length of its image."""
     f = Fields(data)
     t = read_dense(f) if form == "dense" else read_sparse(f)
     t.order = f.order
@@ -307,7 +307,7 @@ def pair_head(form, order):
 
 
 def read_pair(data):
-    """The forward table, the one in reverse, and how many bytes the image of both has."""
+    """The forward table, the reverse table, and the length of the image of both."""
     f = Fields(data)
     read_label(f, PAIR_LABEL)
     read_order_and_version(f, 3)
@@ -324,7 +324,7 @@ def read_pair(data):
 
 
 def answer(form, data):
-    """The line of a check, and its status. The form may be `pair`."""
+    """The line and the status of `check`. The form may be `pair`."""
     try:
         if form == "pair":
             forward, reverse, size = read_pair(data)
@@ -335,15 +335,15 @@ def answer(form, data):
     return "ok %d %d %d" % (t.rows, t.pattern_len, size), 0
 
 
-# ---- searches of what was read: an outcome is None, a match, or an error's line
+# ---- searches: the result is None, a match, or an error's line
 
 
 class Stop(Exception):
-    """A search ends by an error, which has this line."""
+    """A search ends with an error, which has this line."""
 
 
 def half(t, h, start, end, mode, forward):
-    """The pattern and the offset that a half search tells. A mode is `no`, `yes` or a pattern's number."""
+    """The pattern and the offset that a half search reports. A mode is `no`, `yes` or a pattern's number."""
     if start > end:
         return None
     near = start - 1 if forward else end
@@ -376,7 +376,7 @@ def half(t, h, start, end, mode, forward):
 
 
 def join(forward, reverse, h, start, end, mode):
-    """The line that a search by both tables answers."""
+    """The line of a search by both tables."""
     try:
         found = half(forward, h, start, end, mode, True)
         if found is None:

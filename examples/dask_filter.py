@@ -1,14 +1,14 @@
 #!/usr/bin/env python3
-"""Filters large files on many machines by Dask: the lines in which a match begins, in their order.
+"""Filters large files on many machines by Dask: writes the lines in which a match begins, in order.
 
 usage: examples/dask_filter.py PROGRAM IMAGE FILE.. [--cluster ADDRESS | --workers N] [--block BYTES]
 
-PROGRAM is the built log filter (crates/example_log_filter), IMAGE the image of a pair of tables. Each file is cut into
-blocks of about BYTES bytes (64 MiB), always behind the end of a line, so no line is cut in two. The image is sent once to
-each worker; a worker runs PROGRAM over one block at a time. Without --cluster a cluster of N workers (4) is started on
-this machine. PROGRAM and the files must be at the same paths on all machines.
+PROGRAM is the built log filter (crates/example_log_filter), and IMAGE is the image of a pair of tables. The script cuts
+each file into blocks of about BYTES bytes (64 MiB by default), always after the end of a line, so no line is cut in two.
+It sends the image once to each worker, and a worker runs PROGRAM over one block at a time. Without --cluster it starts a
+cluster of N workers (4 by default) on this machine. PROGRAM and the files must have the same paths on all machines.
 
-Standard output gets the lines. Needs the packages dask and distributed (Debian: python3-distributed).
+The lines go to standard output. Needs the packages dask and distributed (Debian: python3-distributed).
 """
 import argparse
 import functools
@@ -22,7 +22,7 @@ from distributed import Client, LocalCluster
 
 
 def blocks(path, size):
-    """Places in a file where lines begin, about so many bytes apart: each block as its file, its start and its end."""
+    """The blocks of a file, each as its path, its start and its end: at least `size` bytes, up to the end of a line."""
     total = os.path.getsize(path)
     with open(path, "rb") as file:
         start = 0
@@ -36,7 +36,7 @@ def blocks(path, size):
 
 @functools.lru_cache(maxsize=1)
 def image_file(image):
-    """A file with the image on the machine that asks, made once."""
+    """The path of a file with the image, which each process writes once."""
     with tempfile.NamedTemporaryFile(prefix="filter-", suffix=".pair", delete=False) as file:
         file.write(image)
         return file.name

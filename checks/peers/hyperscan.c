@@ -1,5 +1,5 @@
-// Every end of a match with its start by Hyperscan, of the patterns of a file: hyperscan PATTERNS TEXT ROUNDS.
-// Prints how many there are, and the least time of a round in microseconds.
+// Finds every end of a match, with its start, by Hyperscan. The patterns are the lines of a file:
+// hyperscan PATTERNS TEXT ROUNDS. Prints the number of ends, and the least time of a round in microseconds.
 #include <hs/hs.h>
 #include <stdio.h>
 #include <stdlib.h>

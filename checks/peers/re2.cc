@@ -1,5 +1,5 @@
-// All matches of a text by RE2, of the patterns of a file joined by `|`: re2 PATTERNS TEXT ROUNDS.
-// Prints how many there are, and the least time of a round in microseconds.
+// Finds all matches in a text by RE2. The patterns are the lines of a file, joined by `|`: re2 PATTERNS TEXT ROUNDS.
+// Prints the number of matches, and the least time of a round in microseconds.
 #include <re2/re2.h>
 
 #include <algorithm>

@@ -1,4 +1,4 @@
-//! What no clause shows: that calls succeed, examples worked by hand, and how errors read.
+//! Tests of expressions and their NFAs, with examples worked by hand, and of the texts of errors.
 
 mod shown;
 
@@ -12,7 +12,7 @@ use std::process::Abort;
 use std::test::Fail;
 use tests_notation::{read, read_one};
 
-/// Compares an expression with its text, and its least length and its depth with those wanted.
+/// Compares an expression with its text, its least length and its depth.
 fn compare(
     rt: &impl Abort,
     alloc: Global,
@@ -26,7 +26,7 @@ fn compare(
     Ok(())
 }
 
-/// Compares the mirror of an expression, and the mirror of that, which is the expression again.
+/// Compares the mirror of an expression. The mirror of the mirror must be the expression itself.
 fn compare_mirrors(
     rt: &impl Abort,
     alloc: Global,
@@ -100,7 +100,7 @@ fn literals_are_told(rt: HostRuntime) -> Result<(), Fail> {
     Ok(())
 }
 
-/// So deep an expression above a leaf. No byte is read but at the leaf.
+/// An expression of this depth around a leaf. Only the leaf reads a byte.
 fn deep(alloc: Global, depth: u32, leaf: &str) -> Result<Expr, Fail> {
     let mut expr = read_one(alloc, leaf)?;
     for _level in 1..depth {
@@ -109,7 +109,7 @@ fn deep(alloc: Global, depth: u32, leaf: &str) -> Result<Expr, Fail> {
     Ok(expr)
 }
 
-/// Why a repetition of so deep a body is refused.
+/// Why `repeat` rejects a body of this depth, if it does.
 fn repeat_refused(
     alloc: Global,
     bounds: (u32, Option<u32>),
@@ -120,13 +120,13 @@ fn repeat_refused(
     Ok(Expr::repeat(alloc, bounds.0, bounds.1, true, body).err())
 }
 
-/// Why so deep an expression is refused as the first of two.
+/// Why `concat` rejects an expression of this depth as its first part, if it does.
 fn concat_refused(alloc: Global, levels: u32) -> Result<Option<ExprError>, Fail> {
     let first = deep(alloc, levels, "[^]")?;
     Ok(Expr::concat(alloc, first, Expr::class(ByteSet::full())).err())
 }
 
-/// Why so deep an expression is refused as an alternative.
+/// Why `alternate` rejects an expression of this depth as its second part, if it does.
 fn alternate_refused(alloc: Global, levels: u32) -> Result<Option<ExprError>, Fail> {
     let second = deep(alloc, levels, "[^]")?;
     Ok(Expr::alternate(alloc, Expr::class(ByteSet::full()), second).err())
@@ -169,7 +169,7 @@ fn the_first_cause_of_a_refusal_is_told(rt: HostRuntime) -> Result<(), Fail> {
     Ok(())
 }
 
-/// The limit that the NFA of these expressions is said to exceed.
+/// The limit in the error, if the NFA of these expressions exceeds its size limit.
 fn exceeded(alloc: Global, compiler: &Compiler, exprs: &[Expr]) -> Option<usize> {
     match compiler.build_many(alloc, exprs) {
         Err(BuildError::ExceededSizeLimit { limit }) => Some(limit),
@@ -177,7 +177,7 @@ fn exceeded(alloc: Global, compiler: &Compiler, exprs: &[Expr]) -> Option<usize>
     }
 }
 
-/// Whether an NFA of so many rows is built within 40 bytes for each, and refused within one less.
+/// Whether an NFA of this many states is built with a limit of 40 bytes a state, and rejected with one byte less.
 fn is_limited(
     alloc: Global,
     compiler: &mut Compiler,
@@ -193,7 +193,7 @@ fn is_limited(
     Ok(told == Some(less) && again.rows().len() as u64 == count)
 }
 
-/// Compares an NFA's rows with those wanted, and how many they are with what is foretold.
+/// Compares the states of an NFA, and checks that `rows_len` returns their number.
 fn compare_rows(
     rt: &impl Abort,
     alloc: Global,
@@ -242,7 +242,7 @@ fn rows_are_those_worked_by_hand(rt: HostRuntime) -> Result<(), Fail> {
     Ok(())
 }
 
-/// Compares an NFA of one row, and whether it has an empty match.
+/// Compares an NFA of one state, and whether it has an empty match.
 fn compare_row(
     rt: &impl Abort,
     alloc: Global,
@@ -256,7 +256,7 @@ fn compare_row(
     Ok(())
 }
 
-/// Whether it reads forward, and lines end with `\n`.
+/// Whether an NFA reads forward and its lines end with `\n`.
 fn is_plain(nfa: &NFA) -> bool {
     !nfa.is_reverse() && nfa.line_terminator() == b'\n'
 }
@@ -268,7 +268,7 @@ fn one_row_matches_everywhere_or_nowhere(rt: HostRuntime) -> Result<(), Fail> {
     compare_row(&rt, alloc, &NFA::never_match(alloc)?, "fail 0=0", false)
 }
 
-/// The classes that the rows of an expression tell apart, and perhaps those of ASCII from the others.
+/// The classes of bytes that the NFA of an expression tells apart, and optionally ASCII from the other bytes.
 fn classes_of(alloc: Global, text: &str, tells_ascii: bool) -> Result<ByteClasses, Fail> {
     let mut compiler = Compiler::new();
     compiler.configure(Config::new().line_terminator(b'x'));
@@ -309,7 +309,7 @@ fn classes_end_where_rows_tell_bytes_apart(rt: HostRuntime) -> Result<(), Fail> 
     Ok(())
 }
 
-/// How many rows are foretold, and why they are refused within a limit.
+/// What `rows_len` returns, and the error of a build with a limit.
 fn rows_refused(alloc: Global, text: &str, limit: Option<usize>) -> Result<(u64, String), Fail> {
     let exprs = read(alloc, text)?;
     let mut compiler = Compiler::new();
@@ -349,7 +349,7 @@ fn too_many_rows_are_refused_at_once(rt: HostRuntime) -> Result<(), Fail> {
     Ok(())
 }
 
-/// Compares how an error reads.
+/// Compares the text of an error.
 fn says(rt: &impl Abort, alloc: Global, error: &impl Display, want: &str) -> Result<(), Fail> {
     let told = error.to_string(alloc)?;
     assert!(rt; told.as_str() == want, "{told}");
@@ -394,12 +394,12 @@ fn refusals_say_why(rt: HostRuntime) -> Result<(), Fail> {
     Ok(())
 }
 
-/// Whether these are the limit and the line terminator.
+/// Whether a configuration has this limit and this line terminator.
 fn has_limits(config: &Config, limit: Option<usize>, terminator: u8) -> bool {
     config.get_nfa_size_limit() == limit && config.get_line_terminator() == terminator
 }
 
-/// Whether an NFA of the assertion of the end tells it, with `x` as its line terminator.
+/// Whether this is an NFA of the assertion `End` alone, with `x` as line terminator.
 fn is_of_end(nfa: &NFA) -> Result<bool, Fail> {
     let is_one = nfa.pattern_len() == 1 && nfa.start_pattern(PatternID::new(1)?).is_none();
     let is_end = nfa.look_set_any() == LookSet::empty().insert(Look::End);
@@ -428,8 +428,8 @@ fn settings_hold_until_others_come(rt: HostRuntime) -> Result<(), Fail> {
     Ok(())
 }
 
-/// Compares what a new compiler builds, and what it builds of a setting with a limit of 79 bytes, once there
-/// is no limit.
+/// Compares what a new compiler builds. Then sets a configuration with a limit of 79 bytes, removes only the limit, and
+/// checks that the other settings hold.
 fn compare_settings(
     rt: &impl Abort,
     alloc: Global,

@@ -1,7 +1,7 @@
 //! Tests of expressions, their states and steps, and scripts.
 //!
-//! They show what no contract says: that calls succeed on small and on large inputs, examples worked by hand, and how
-//! errors read.
+//! They test what no contract states: that calls succeed on small and on large inputs, examples worked by hand, and the
+//! texts of errors.
 #![tactic(auto)]
 
 #[cfg(test)]

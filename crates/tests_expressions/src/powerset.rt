@@ -1,4 +1,4 @@
-//! What no clause shows: that calls succeed, and examples worked by hand.
+//! Tests of the plain powerset states, with examples worked by hand.
 
 use rx_base::{MatchKind, Start, Unit};
 use rx_expr::thompson::{Compiler, Config};
@@ -9,7 +9,7 @@ use std::process::Abort;
 use std::test::Fail;
 use tests_notation::read;
 
-/// How a text is read: which matches are told, in which direction, from which context.
+/// How a text is read: which matches are reported, whether in reverse, and the start context.
 #[derive(Clone, Copy)]
 struct Way(MatchKind, bool, Start);
 
@@ -17,8 +17,8 @@ const FORWARD: Way = Way(MatchKind::LeftmostFirst, false, Start::Text);
 
 const ALL_FORWARD: Way = Way(MatchKind::All, false, Start::Text);
 
-/// The patterns that are told after each byte that is read and after the end mark: a digit each, and
-/// a dot behind each unit. The search is anchored.
+/// The patterns that are reported after each byte and after end of input: a digit for each pattern, and a dot after
+/// each unit. The search is anchored.
 fn told(alloc: Global, patterns: &str, way: Way, units: &str) -> Result<String, Fail> {
     let exprs = read(alloc, patterns)?;
     let mut compiler = Compiler::new();
@@ -42,7 +42,7 @@ fn show(state: &PowerState, out: &mut String) -> Result<(), Fail> {
     Ok(out.push('.')?)
 }
 
-/// Compares what is told of some texts.
+/// Compares which patterns are reported in some texts.
 fn compare(rt: &impl Abort, alloc: Global, rows: &[(&str, Way, &str, &str)]) -> Result<(), Fail> {
     for (patterns, way, units, want) in rows {
         let told = told(alloc, patterns, *way, units)?;
@@ -54,10 +54,10 @@ fn compare(rt: &impl Abort, alloc: Global, rows: &[(&str, Way, &str, &str)]) -> 
 #[test]
 fn matches_are_told_by_preference_or_all(rt: HostRuntime) -> Result<(), Fail> {
     let rows: &[(&str, Way, &str, &str)] = &[
-        // the preferred match cuts off the rest
+        // only the preferred matches are reported
         ("ab abc", FORWARD, "abcd", "..0..."),
         ("abc ab", FORWARD, "abcd", "..1.0.."),
-        // all matches are told
+        // all matches are reported
         ("ab abc", ALL_FORWARD, "abc", "..0.1."),
         ("a a", ALL_FORWARD, "a", ".01."),
     ];
@@ -70,7 +70,7 @@ fn assertions_see_both_neighbours(rt: HostRuntime) -> Result<(), Fail> {
         ("<word> a . <word> .", FORWARD, "a b", ".0..."),
         ("<word> a . <word> .", FORWARD, "ab", "..."),
         ("<word> a . <word> .", FORWARD, "a", ".0."),
-        // backward what was read last stands behind
+        // in reverse, the byte that was read last comes after the position
         (
             "^ a . $ .",
             Way(MatchKind::All, true, Start::Text),

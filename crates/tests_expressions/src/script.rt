@@ -1,4 +1,4 @@
-//! What no clause shows: that scripts are read, and faults worked by hand.
+//! Tests that scripts are read, and of faults worked by hand.
 
 use rx_base::{Anchored, ByteSet, Look, PatternID, StartKind};
 use rx_expr::{Expr, ExprKind};
@@ -8,7 +8,7 @@ use std::alloc::{AllocError, Global};
 use std::process::Abort;
 use std::test::Fail;
 
-/// The text of a script that is given with a slash between two lines.
+/// The text of a script in which slashes stand for newlines.
 fn text(alloc: Global, script: &str) -> Result<Vec<u8>, AllocError> {
     let mut text = Vec::with_capacity(alloc, script.len())?;
     for byte in script.as_bytes() {
@@ -26,12 +26,12 @@ fn fault(alloc: Global, script: &str, with_input: bool) -> Result<Option<(u64, B
     }
 }
 
-/// The script, which has no fault.
+/// The script. Fails if it has a fault.
 fn script(alloc: Global, script: &str, with_input: bool) -> Result<Script, Fail> {
     Ok(read_script(alloc, &text(alloc, script)?, with_input)?)
 }
 
-/// Compares the first fault of a script with the one wanted.
+/// Compares the first fault of a script.
 fn compare(
     rt: &impl Abort,
     alloc: Global,
@@ -139,7 +139,7 @@ fn an_input_stands_where_it_is_asked_for(rt: HostRuntime) -> Result<(), Fail> {
     Ok(())
 }
 
-/// Adds a word so often.
+/// Appends a word this many times.
 fn push_repeated(text: &mut String, word: &str, count: u32) -> Result<(), AllocError> {
     for _ in 0..count {
         text.push_str(word)?;
@@ -162,7 +162,7 @@ fn expressions_are_at_most_200_deep(rt: HostRuntime) -> Result<(), Fail> {
     Ok(())
 }
 
-/// Whether a plan is the one of `every_plan_word_is_taken`, whose quit bytes are 0x00 and 0x7a to 0x7c.
+/// Whether a plan is that of `every_plan_word_is_taken`. Its quit bytes are 0x00 and 0x7a to 0x7c.
 fn has_every_word(plan: &Plan) -> bool {
     let starts = (plan.start_kind, plan.pattern_starts, plan.mark_starts);
     let bytes = (plan.byte_classes, plan.line_terminator, plan.unicode_word);
@@ -210,7 +210,7 @@ fn one_word_at_most_says_how_tables_are_passed_on(rt: HostRuntime) -> Result<(),
     Ok(())
 }
 
-/// The assertion that a script's one expression is.
+/// The assertion, if a script's only expression is one.
 fn look_of(alloc: Global, name: &str) -> Result<Option<Look>, Fail> {
     let read = script(alloc, &format!(in alloc; "expr look {name}")?, false)?;
     match read.exprs.as_slice() {
@@ -254,7 +254,7 @@ fn every_assertion_has_a_name(rt: HostRuntime) -> Result<(), Fail> {
     Ok(())
 }
 
-/// Whether a script asks for the span from 1 to 65536 of a haystack whose bytes are 0 and 255 in turn.
+/// Whether a script's span is 1 to 65536, in a haystack of alternating bytes 0 and 255.
 fn asks_for_long(input: &ScriptInput) -> bool {
     let haystack = input.haystack.as_slice();
     (input.start, input.end, input.mode) == (1, 65536, Anchored::Yes)

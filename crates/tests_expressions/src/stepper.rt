@@ -1,4 +1,4 @@
-//! What no clause shows: that calls succeed, and that keys step as the plain states do, column by column.
+//! Tests that the stepper's keys step as the plain powerset states do, column by column.
 
 ghost use Rattle.std.specs.Prelude.{◌≡◌, true};
 ghost use Rattle.rx_stepper.specs.Steppers.{stepping_of};
@@ -10,7 +10,7 @@ use rx_powerset::PowerState;
 use rx_stepper::Stepper;
 use std::alloc::{AllocError, Global};
 
-/// Whether a key tells the label and the size of a plain state.
+/// Whether a key has the label and the size of a plain state.
 fn tells(stepper: &Stepper<'_>, key: &[u32], state: &PowerState) -> bool
     requires { (stepping_of stepper.now).is_key key.now ≡ true }
 {
@@ -26,7 +26,7 @@ fn tells(stepper: &Stepper<'_>, key: &[u32], state: &PowerState) -> bool
     true
 }
 
-/// What is stepped: an NFA by the columns of some classes.
+/// What is stepped: an NFA, over the columns of some classes.
 #[derive(Clone, Copy)]
 struct Case<'n> {
     nfa: &'n NFA,
@@ -34,7 +34,7 @@ struct Case<'n> {
     classes: &'n ByteClasses,
 }
 
-/// Whether a key and a plain state step alike by every column.
+/// Whether a key and a plain state step alike in every column.
 fn columns_agree(
     alloc: Global,
     case: &Case<'_>,
@@ -74,7 +74,7 @@ fn columns_agree(
     Ok(column == columns)
 }
 
-/// Whether the states along a word are stepped by every column as plain ones are.
+/// Whether every state along a word steps like the plain state in every column.
 fn agree_along(
     alloc: Global,
     case: &Case<'_>,
@@ -114,8 +114,8 @@ fn agree_along(
     columns_agree(alloc, case, &mut stepper, &key, &state)
 }
 
-/// Whether all ways to step an NFA agree along a word: both kinds, the classes of the NFA and of single bytes, both
-/// starts, and three contexts.
+/// Whether all ways to step an NFA agree along a word: both kinds of matches, the NFA's classes and single bytes, both
+/// start states, and three contexts.
 fn nfa_agrees(alloc: Global, nfa: &NFA, word: &[u8]) -> Option<bool> {
     let all = [
         nfa.byte_class_set().byte_classes(),
@@ -136,7 +136,7 @@ fn nfa_agrees(alloc: Global, nfa: &NFA, word: &[u8]) -> Option<bool> {
     Some(true)
 }
 
-/// Whether the NFAs of expressions that read forward and backward agree along a word.
+/// Whether the forward and the reverse NFA of expressions agree along a word.
 fn agrees(alloc: Global, exprs: &[Expr], word: &str) -> Option<bool> {
     for reverse in [false, true] {
         let mut compiler = Compiler::new();
@@ -155,7 +155,7 @@ fn literal(alloc: Global, bytes: &str) -> Option<Expr> {
     Expr::literal(alloc, bytes.as_bytes()).ok()
 }
 
-/// A letter, repeated, with an assertion before it and one behind it.
+/// A repeated letter with an assertion before and one after it.
 fn between(alloc: Global, before: Look, letter: &str, behind: Look) -> Option<Expr> {
     let body = Expr::repeat(alloc, 1, None, true, literal(alloc, letter)?).ok()?;
     let front = Expr::concat(alloc, Expr::look(before), body).ok()?;
@@ -176,7 +176,7 @@ fn literals_step_as_plain_states_do(rt: HostRuntime) {
     assert!(rt; agrees(alloc, &[], "ab") == Some(true));
 }
 
-/// Whether the lead-in alone goes on behind `a` by every byte but `b`, and bytes of no literal lead to one state.
+/// Whether after `a` only the lead-in continues on every byte but `b`, and all bytes of no literal lead to one state.
 fn leads_alone(alloc: Global, nfa: &NFA) -> Result<bool, AllocError> {
     let classes = nfa.byte_class_set().byte_classes();
     let [low, a, b, high] = [b'A', b'a', b'b', b'x'].map(|byte| classes.get(byte) as usize);

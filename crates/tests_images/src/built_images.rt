@@ -1,5 +1,4 @@
-//! What no clause shows: that tables are built, written and read at all, how long their images are, and what they
-//! answer.
+//! Tests that tables are built, written and read, of the lengths of their images, and of searches.
 
 ghost use Rattle.std.specs.Prelude.{IfOk};
 ghost use Rattle.rx_dense.specs.Facts.{IsSoundLayout};
@@ -16,7 +15,7 @@ use std::process::Abort;
 use std::test::Fail;
 use tests_notation::read;
 
-/// What is set that is not usual.
+/// A setting that differs from the usual configuration.
 #[derive(Clone, Copy)]
 enum Change {
     Minimize,
@@ -62,7 +61,7 @@ fn build(alloc: Global, patterns: &str, changes: &[Change]) -> Result<OwnedDFA, 
     Ok(builder.build_many(alloc, &exprs)?)
 }
 
-/// What a search of a table answers: the pattern and where a match of it ends, nothing, or the error.
+/// The result of a search: the pattern and the end of a match, `none`, or the error.
 fn answer(alloc: Global, dfa: &OwnedDFA, mode: Mode, text: &str) -> Result<String, Fail>
     requires { IsSoundLayout dfa.now }
 {
@@ -84,7 +83,7 @@ fn image(alloc: Global, dfa: &OwnedDFA, order: Order) -> Result<Vec<u8>, AllocEr
     Ok(bytes)
 }
 
-/// How long the image of a table is, and its special ids.
+/// The length of a table's image, and its special ids.
 fn shape(alloc: Global, dfa: &OwnedDFA) -> Result<String, AllocError> {
     let s = dfa.special();
     format!(in alloc;
@@ -101,15 +100,15 @@ fn shape(alloc: Global, dfa: &OwnedDFA) -> Result<String, AllocError> {
     )
 }
 
-/// In which mode a text is searched; what is answered.
+/// The mode and the text of a search, and its result.
 type Search = (Mode, &'static str, &'static str);
 
-/// A mode of a search.
+/// The mode of a search.
 #[derive(Clone, Copy)]
 enum Mode {
     Anywhere,
     AtStart,
-    /// At the start, for a pattern alone.
+    /// At the start, for one pattern.
     Alone(usize),
 }
 
@@ -125,8 +124,8 @@ impl Mode {
     }
 }
 
-/// Writes a table in an order, reads it, writes it again, and searches what was read. The bytes are the same, and the
-/// answer is.
+/// Writes a table in an order, reads it, writes it again, and searches what was read. Asserts that the bytes and the
+/// results are the same.
 fn check_image(
     rt: &impl Abort,
     alloc: Global,
@@ -169,7 +168,7 @@ fn check(
     check_image(rt, alloc, dfa, Order::Big, search)
 }
 
-/// Patterns, settings, what their table is like, and a search.
+/// Patterns, settings, the shape of their table, and a search.
 type Case = (&'static str, &'static [Change], &'static str, Search);
 
 const CASES: &[Case] = &[

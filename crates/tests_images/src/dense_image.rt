@@ -1,5 +1,5 @@
-//! What no clause shows: that images of tables are read at all, which test an altered one fails, and that what was
-//! read is searched.
+//! Tests of images of dense tables: that they are read, which error an altered image gives, and that the tables that
+//! were read are searched.
 
 mod images;
 
@@ -16,7 +16,7 @@ use std::alloc::{AllocError, Global};
 use std::process::Abort;
 use std::test::Fail;
 
-/// What reading answers: how many rows, patterns and bytes there are, or which kind of test fails.
+/// The result of a read: the numbers of states, patterns and bytes, or the kind of the error.
 type Answer = Result<(usize, usize, usize), &'static str>;
 
 fn kind_name(error: &DeserializeError) -> &'static str {
@@ -66,7 +66,7 @@ fn images_are_read_in_either_order(rt: HostRuntime) -> Result<(), Fail> {
     Ok(())
 }
 
-/// A change of an image: another byte or another word at a place.
+/// A change of an image: another byte or another word at an offset.
 #[derive(Clone, Copy)]
 enum Change {
     Byte(u8),
@@ -90,10 +90,10 @@ fn altered(image: &mut Vec<u8>, at: usize, change: Change) {
     }
 }
 
-/// Places and changes of the little endian image of `abc`, and what is answered.
+/// Offsets in the little endian image of `abc`, changes, and the result of reading the changed image.
 const ALTERED: &[(usize, Change, Answer)] = &[
     (0, Byte(0x78), Err("label")),
-    // what is free: padding, unused space, flags, a wider stride, words past the alphabet, how lists share their ids
+    // accepted: padding, unused space, flags, a wider stride, words past the alphabet, how lists share their ids
     (30, Byte(0xFF), ABC),
     (31, Byte(0xFF), ABC),
     (40, Word(7), ABC),
@@ -104,7 +104,7 @@ const ALTERED: &[(usize, Change, Answer)] = &[
     (1050, Byte(0xFF), ABC),
     (1052, Byte(0xFF), ABC),
     (1056, Byte(1), ABC),
-    // another row where `a` leads: the match row, the quit row
+    // another target of `a`: the match row, the quit row
     (412, Word(16), ABC),
     (412, Word(8), ABC),
     // the head
@@ -136,7 +136,7 @@ const ALTERED: &[(usize, Change, Answer)] = &[
     (932, Word(9), Err("generic")),
     (940, Word(16), Err("generic")),
     (940, Word(8), Err("generic")),
-    // lists of patterns
+    // pattern lists
     (992, Word(1), Err("generic")),
     (996, Word(0), Err("generic")),
     (996, Word(2), Err("generic")),
@@ -165,7 +165,7 @@ fn altered_images_fail_the_first_test_that_they_break(rt: HostRuntime) -> Result
     Ok(())
 }
 
-/// What cutting an image off at a place answers.
+/// The kind of error if an image is cut off at an offset.
 fn cut_kind(at: usize) -> &'static str {
     if at < 32 { "generic" } else { "buffer" }
 }
@@ -182,7 +182,7 @@ fn every_cut_of_an_image_is_refused(rt: HostRuntime) -> Result<(), Fail> {
     Ok(())
 }
 
-/// So many NULs and then the image of `abc`.
+/// The image of `abc` after this many zero bytes.
 fn behind_nuls(alloc: Global, nuls: usize) -> Result<Vec<u8>, AllocError> {
     let image = abc(alloc, Order::Big)?;
     let mut bytes = Vec::new(alloc);
@@ -208,13 +208,13 @@ fn up_to_seven_nuls_may_stand_before_an_image_and_anything_after_it(
     Ok(())
 }
 
-/// Why some bytes aren't read.
+/// The error of a read, if it fails.
 fn refusal(alloc: Global, bytes: &[u8]) -> Result<(), DeserializeError> {
     let _read = DFA::<Vec<u32>>::from_bytes(alloc, bytes)?;
     Ok(())
 }
 
-/// The text of a refusal.
+/// The text of the error of a read.
 fn refusal_text(
     alloc: Global,
     refused: Result<(), DeserializeError>,
@@ -226,7 +226,7 @@ fn refusal_text(
 }
 
 #[test]
-fn another_word_than_those_that_tell_an_order_is_told(rt: HostRuntime) -> Result<(), Fail> {
+fn the_error_shows_an_unknown_word_of_the_order(rt: HostRuntime) -> Result<(), Fail> {
     let alloc = rt.alloc();
     let mut image = abc(alloc, Order::Little)?;
     altered(&mut image, 32, Word(0x01020304));
@@ -240,7 +240,7 @@ fn another_word_than_those_that_tell_an_order_is_told(rt: HostRuntime) -> Result
     Ok(())
 }
 
-/// What a search tells: a pattern and where it ends, or at which byte it quits and where.
+/// The result of a search: no match, the pattern and the end of a match, a quit byte and its offset, or another error.
 #[derive(Clone, Copy, Debug, PartialEq, Eq)]
 enum Told {
     Nothing,
@@ -249,7 +249,7 @@ enum Told {
     Other,
 }
 
-/// What a search of a read image tells.
+/// The result of a search of a table that was read.
 fn tell(dfa: &OwnedDFA, text: &[u8]) -> Told
     requires { IsSoundLayout dfa.now }
 {
@@ -263,7 +263,7 @@ fn tell(dfa: &OwnedDFA, text: &[u8]) -> Told
     }
 }
 
-/// Compares what a search by an image tells, which must be accepted.
+/// Compares the result of a search by an image. The reader must accept the image.
 fn check_told(
     rt: &impl Abort,
     alloc: Global,
@@ -300,7 +300,7 @@ fn images_are_searched_as_they_are(rt: HostRuntime) -> Result<(), Fail> {
     check_told(&rt, alloc, longer.as_slice(), b"xabcx", Told::Match(0, 4))
 }
 
-/// What of a table decides which errors its searches may have. Tables of these images have starts of both modes.
+/// The settings of a table that decide which errors a search may return.
 fn settings(dfa: &OwnedDFA) -> Settings<'_> {
     Settings {
         quits: dfa.quitset(),
@@ -309,7 +309,7 @@ fn settings(dfa: &OwnedDFA) -> Settings<'_> {
     }
 }
 
-/// Searches all spans of some texts by an image, which must be accepted.
+/// Searches all spans of some texts by an image. The reader must accept the image.
 fn check_searches(rt: &impl Abort, alloc: Global, image: &[u8], at: usize) -> Result<(), Fail> {
     match DFA::<Vec<u32>>::from_bytes(alloc, image) {
         Ok((dfa, _)) => {
@@ -339,7 +339,7 @@ fn accepted_images_are_searched_within_their_spans(rt: HostRuntime) -> Result<()
     check_searches(&rt, alloc, longer.as_slice(), longer.len())
 }
 
-/// Whether a table is written as it was read, in an order.
+/// Whether a table that was read from an image is written in an order as that order's image.
 fn is_written_back(
     alloc: Global,
     dfa: &OwnedDFA,
@@ -372,7 +372,7 @@ fn what_was_read_is_written_in_either_order(rt: HostRuntime) -> Result<(), Fail>
     Ok(())
 }
 
-/// In which order a table is written.
+/// The byte order of a write.
 #[derive(Clone, Copy, Debug)]
 enum Writer {
     Little,
@@ -380,7 +380,7 @@ enum Writer {
     Native,
 }
 
-/// How many bytes are written, or none.
+/// The number of bytes written, or `None` for an error.
 fn written(dfa: &OwnedDFA, writer: Writer, bytes: &mut [u8]) -> Option<usize> {
     let written = match writer {
         Writer::Little => dfa.write_to_little_endian(bytes),
@@ -390,7 +390,8 @@ fn written(dfa: &OwnedDFA, writer: Writer, bytes: &mut [u8]) -> Option<usize> {
     written.ok()
 }
 
-/// Writes the table of an image into one byte less than it has, and with two bytes behind it.
+/// Writes the table of an image to a buffer that is one byte too short, to one with two bytes more, and to one that
+/// fits.
 fn check_writer(rt: &impl Abort, alloc: Global, writer: Writer, image: &[u8]) -> Result<(), Fail> {
     let (dfa, _) = DFA::<Vec<u32>>::from_bytes(alloc, image)?;
     let size = dfa.write_to_len();
@@ -428,7 +429,7 @@ fn a_destination_that_is_too_short_stays_as_it_is(rt: HostRuntime) -> Result<(),
     Ok(())
 }
 
-/// How many needles an accelerator has, or which kind of test fails.
+/// The number of an accelerator's needles, or the kind of the error.
 fn accel_answer(slice: &[u8]) -> Result<usize, &'static str> {
     match Accel::from_slice(slice) {
         Ok(accel) => Ok(accel.len()),

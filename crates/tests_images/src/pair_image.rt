@@ -69,12 +69,12 @@ fn an_image_is_a_head_and_the_images_of_both_tables(rt: HostRuntime) -> Result<(
     Ok(())
 }
 
-/// The kind of error if the image of one table is cut off at a place.
+/// The kind of error if the image of one table is cut off at an offset.
 fn cut_kind(at: usize) -> &'static str {
     if at < 32 { "generic" } else { "buffer" }
 }
 
-/// The kind of error if the image of a pair is cut off at a place. The forward table's image has `forward` bytes.
+/// The kind of error if the image of a pair is cut off at an offset. The forward table's image has `forward` bytes.
 fn pair_cut_kind(at: usize, forward: usize) -> &'static str {
     if at < 28 {
         "generic"
@@ -149,7 +149,7 @@ fn the_tables_of_a_pair_are_images_of_their_own(rt: HostRuntime) -> Result<(), F
     Ok(())
 }
 
-/// Puts bytes into an image at a place.
+/// Puts bytes into an image at an offset.
 fn put(image: &mut Vec<u8>, at: usize, bytes: &[u8]) {
     for i in 0..bytes.len() {
         if at < image.len() && i < image.len() - at {
@@ -158,10 +158,10 @@ fn put(image: &mut Vec<u8>, at: usize, bytes: &[u8]) {
     }
 }
 
-/// Changes of the little endian image of the dense pair of `a`, each a place and a byte, and the kind of error. The
-/// image of the forward table begins at byte 40, and that of the table in reverse at byte 888.
+/// Changes of the little endian image of the dense pair of `a`, each an offset and a byte, and the kind of error. The
+/// image of the forward table begins at byte 40, and that of the reverse table at byte 888.
 const ALTERED: &[(&[(usize, u8)], &str)] = &[
-    // the label, also where later fields are wrong
+    // the label, also if later fields are wrong
     (&[(0, b'x')], "label"),
     (&[(0, b'x'), (28, 0)], "label"),
     (&[(24, b'x')], "label"),
@@ -172,7 +172,7 @@ const ALTERED: &[(&[(usize, u8)], &str)] = &[
     (&[(32, 2)], "version"),
     (&[(35, 3)], "version"),
     (&[(32, 2), (36, 2)], "version"),
-    // the form: another one, and the other one
+    // the form: an unknown one, and sparse
     (&[(36, 2)], "generic"),
     (&[(39, 1)], "generic"),
     (&[(36, 2), (40, b'x')], "generic"),
@@ -182,7 +182,7 @@ const ALTERED: &[(&[(usize, u8)], &str)] = &[
     (&[(72, 0)], "endian"),
     (&[(76, 3)], "version"),
     (&[(76, 3), (888, b'x')], "version"),
-    // the table in reverse
+    // the reverse table
     (&[(888, b'x')], "label"),
     (&[(920, 0)], "endian"),
     (&[(924, 3)], "version"),
@@ -213,7 +213,7 @@ fn the_padding_of_the_label_is_free(rt: HostRuntime) -> Result<(), Fail> {
     Ok(())
 }
 
-/// A number of NULs.
+/// This many zero bytes.
 fn nuls(alloc: Global, count: usize) -> Result<Vec<u8>, Fail> {
     Ok(vec![in alloc; 0; count]?)
 }
@@ -257,7 +257,7 @@ fn all_three_parts_are_in_one_order(rt: HostRuntime) -> Result<(), Fail> {
                     let is_one = first == second && second == third;
                     let wanted = if is_one { wanted } else { Err("generic") };
                     check(&rt, alloc, &bytes, wanted, 0);
-                    // The order of the forward table is tested before the table in reverse.
+                    // The order of the forward table is checked before the reverse table is.
                     if first != second {
                         let short = cut(&bytes, bytes.len().saturating_sub(40));
                         check(&rt, alloc, short, Err("generic"), 1);
@@ -280,7 +280,7 @@ fn both_tables_have_as_many_patterns(rt: HostRuntime) -> Result<(), Fail> {
                 let reverse = single(alloc, form, order, Direction::Reverse, second)?;
                 let bytes = spliced(head, &forward, &reverse)?;
                 check(&rt, alloc, &bytes, Err("generic"), 0);
-                // The table in reverse is read before they are compared.
+                // The reverse table is read before the two are compared.
                 let short = cut(&bytes, bytes.len().saturating_sub(1));
                 check(&rt, alloc, short, Err("buffer"), 1);
             }
@@ -289,7 +289,7 @@ fn both_tables_have_as_many_patterns(rt: HostRuntime) -> Result<(), Fail> {
     Ok(())
 }
 
-/// Where the forward table finds the end of a match in `xa`, and where the table in reverse finds its start.
+/// The end of the match that the forward table finds in `xa`, and the start that the reverse table finds.
 fn ends<A: Automaton>(forward: &A, reverse: &A) -> Result<(Option<usize>, Option<usize>), Fail>
     requires forward { A.IsSound forward.now }
     requires reverse { A.IsSound reverse.now }
@@ -303,7 +303,7 @@ fn ends<A: Automaton>(forward: &A, reverse: &A) -> Result<(Option<usize>, Option
     ))
 }
 
-/// Does the same by the tables of an image.
+/// The same by the tables of an image.
 fn ends_by(alloc: Global, image: &[u8]) -> Result<(Option<usize>, Option<usize>), Fail> {
     match read_pair(alloc, image) {
         Ok((Tables::Dense(forward, reverse), _)) => ends(&forward, &reverse),
@@ -364,7 +364,7 @@ fn pairs_that_were_read_are_written_in_either_order(rt: HostRuntime) -> Result<(
 }
 
 /// Changes one byte of an image at a time, and searches by each changed image that the reader accepts. At least a
-/// hundred of them must be accepted, and at least a hundred refused.
+/// hundred of them must be accepted, and at least a hundred rejected.
 fn check_changes(
     rt: &impl Abort,
     alloc: Global,

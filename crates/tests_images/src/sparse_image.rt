@@ -1,5 +1,5 @@
-//! What no clause shows: that images of tables are read at all, which test an altered one fails, and that what was
-//! read is searched.
+//! Tests of images of sparse tables: that they are read, which error an altered image gives, and that the tables that
+//! were read are searched.
 
 ghost use Rattle.rx_sparse.specs.Facts.{IsSoundLayout};
 
@@ -19,7 +19,7 @@ use std::alloc::{AllocError, Global};
 use std::process::Abort;
 use std::test::Fail;
 
-/// What reading answers: how many rows, patterns and bytes there are, or which kind of test fails.
+/// The result of a read: the numbers of states, patterns and bytes, or the kind of the error.
 type Answer = Result<(usize, usize, usize), &'static str>;
 
 fn kind_name(error: &DeserializeError) -> &'static str {
@@ -94,7 +94,7 @@ fn a_table_of_either_order_is_written_in_either(rt: HostRuntime) -> Result<(), F
     Ok(())
 }
 
-/// A change of an image: another byte, or another number of two bytes or four at a place.
+/// A change of an image: another byte, or another number of two or four bytes, at an offset.
 #[derive(Clone, Copy)]
 enum Change {
     Byte(u8),
@@ -120,14 +120,15 @@ fn altered(image: &mut Vec<u8>, at: usize, change: Change) {
     }
 }
 
-/// Places and changes of the little endian image of `abc`, and what is answered. Its rows begin at byte 316.
+/// Offsets in the little endian image of `abc`, changes, and the result of reading the changed image. The rows begin at
+/// byte 316.
 const ALTERED: &[(usize, Change, Answer)] = &[
-    // what is free: padding, unused space, flags, a range that leads to dead
+    // accepted: padding, unused space, flags, a range that leads to dead
     (31, Byte(0xFF), ABC),
     (40, Word(7), ABC),
     (44, Word(8), ABC),
     (385, Word(0), ABC),
-    // another row where `a` leads: the match row, the quit row; and a quit byte
+    // another target of `a`: the match row, the quit row; and a quit byte
     (365, Word(18), ABC),
     (365, Word(9), ABC),
     (882, Byte(1), ABC),
@@ -139,7 +140,7 @@ const ALTERED: &[(usize, Change, Answer)] = &[
     (316, Half(0), Err("generic")),
     (316, Half(258), Err("generic")),
     (316, Half(32769), Err("generic")),
-    // where a row leads
+    // targets of a row
     (320, Word(9), Err("generic")),
     (320, Word(210), Err("generic")),
     (320, Word(211), Err("buffer")),
@@ -151,10 +152,10 @@ const ALTERED: &[(usize, Change, Answer)] = &[
     (342, Word(0), Err("generic")),
     (346, Word(2147483647), Err("pattern")),
     (346, Word(1), Err("generic")),
-    // how many rows and patterns there are
+    // numbers of rows and patterns
     (52, Word(0), Err("generic")),
     (48, Word(10), Err("generic")),
-    // ranges, where they lead, needles
+    // ranges, their targets, needles
     (357, Byte(1), Err("generic")),
     (358, Byte(5), Err("generic")),
     (361, Word(36), Err("generic")),
@@ -172,7 +173,7 @@ fn altered_images_fail_the_first_test_that_they_break(rt: HostRuntime) -> Result
     Ok(())
 }
 
-/// What cutting an image off at a place answers.
+/// The kind of error if an image is cut off at an offset.
 fn cut_kind(at: usize) -> &'static str {
     if at < 32 { "generic" } else { "buffer" }
 }
@@ -189,7 +190,7 @@ fn every_cut_of_an_image_is_refused(rt: HostRuntime) -> Result<(), Fail> {
     Ok(())
 }
 
-/// What a search tells: a pattern and where it ends, or at which byte it quits and where.
+/// The result of a search: no match, the pattern and the end of a match, a quit byte and its offset, or another error.
 #[derive(Clone, Copy, Debug, PartialEq, Eq)]
 enum Told {
     Nothing,
@@ -198,7 +199,7 @@ enum Told {
     Other,
 }
 
-/// What a search of a table tells.
+/// The result of a search of a table.
 fn tell(dfa: &DFA<&[u8]>, text: &[u8]) -> Told
     requires { IsSoundLayout dfa.now.layout }
 {
@@ -212,7 +213,7 @@ fn tell(dfa: &DFA<&[u8]>, text: &[u8]) -> Told
     }
 }
 
-/// Compares what a search by an image tells, which must be accepted and be of an order.
+/// Compares the result of a search by an image. The reader must accept the image, and its order must be `order`.
 fn check_told(
     rt: &impl Abort,
     alloc: Global,
@@ -255,7 +256,7 @@ fn an_image_of_either_order_is_searched_where_it_lies(rt: HostRuntime) -> Result
     Ok(())
 }
 
-/// What of a table decides which errors its searches may have. Tables of these images have starts of both modes.
+/// The settings of a table that decide which errors a search may return.
 fn settings<'a>(dfa: &'a DFA<&[u8]>) -> Settings<'a> {
     Settings {
         quits: dfa.quitset(),
@@ -264,7 +265,7 @@ fn settings<'a>(dfa: &'a DFA<&[u8]>) -> Settings<'a> {
     }
 }
 
-/// Searches all spans of some texts by an image, which must be accepted.
+/// Searches all spans of some texts by an image. The reader must accept the image.
 fn check_searches(rt: &impl Abort, alloc: Global, image: &[u8], at: usize) -> Result<(), Fail> {
     match DFA::<&[u8]>::from_bytes(alloc, image) {
         Ok((dfa, _)) => {
@@ -295,7 +296,7 @@ fn accepted_images_are_searched_within_their_spans(rt: HostRuntime) -> Result<()
     Ok(())
 }
 
-/// In which order a table is written.
+/// The byte order of a write.
 #[derive(Clone, Copy, Debug)]
 enum Writer {
     Little,
@@ -303,7 +304,7 @@ enum Writer {
     Native,
 }
 
-/// How many bytes are written, or none.
+/// The number of bytes written, or `None` for an error.
 fn written(dfa: &DFA<&[u8]>, writer: Writer, bytes: &mut [u8]) -> Option<usize> {
     let written = match writer {
         Writer::Little => dfa.write_to_little_endian(bytes),
@@ -313,7 +314,8 @@ fn written(dfa: &DFA<&[u8]>, writer: Writer, bytes: &mut [u8]) -> Option<usize> 
     written.ok()
 }
 
-/// Writes the table of an image into one byte less than it has, and with two bytes behind it.
+/// Writes the table of an image to a buffer that is one byte too short, to one with two bytes more, and to one that
+/// fits.
 fn check_writer(
     rt: &impl Abort,
     alloc: Global,

@@ -1,5 +1,5 @@
--- Worked examples of answers: short texts, and a table that tells all matches of the letter a, which is pattern 0 and
--- pattern 1, and for which z quits. A match is told by the letter behind it, or by the end.
+-- Worked examples of the lines of `feed` for short texts. The table is for all matches of the letter a, which is
+-- pattern 0 and pattern 1, and z is a quit byte. A match is reported after the next letter, or at the end.
 use Rattle.std.specs.Prelude.{ℕ, false, true, List, [], ◌++◌, codes}
 use Rattle.rx_spec.specs.Queries.{Anchored}
 use Rattle.rx_transfer.specs.Words.{newline}
@@ -20,10 +20,10 @@ abbrev pub EndsText : Type 0
 EndsText =
     StreamReplies letter Anchored.No (codes "aa") true (first_lines ++ (last_lines ++ line (codes "end 2"))) 0
 
--- The match that ends at a quit byte isn't told.
+-- A quit byte right after a match hides the match.
 abbrev pub QuitsText : Type 0
 QuitsText = StreamReplies letter Anchored.No (codes "aaz") false (first_lines ++ line (codes "quit 7a 2")) 4
 
--- The table has no starts for a pattern alone.
+-- The table has no start states for a single pattern.
 abbrev pub RefusesMode : Type 0
 RefusesMode = StreamReplies letter (Anchored.Pattern 0) [] false (line (codes "unsupported p0")) 4

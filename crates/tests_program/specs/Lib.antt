@@ -1,2 +1,2 @@
--- answers, worked by hand
+-- examples of the lines of `feed`, worked by hand
 pub mod Examples

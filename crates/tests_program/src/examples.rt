@@ -1,8 +1,9 @@
-//! Worked examples: what is answered to short texts, which the definitions compute.
+//! Worked examples: the lines of `feed` for short texts, which the definitions compute. The body is empty, and the
+//! contract is the example.
 
 ghost use Rattle.tests_program.specs.Examples.{EndsText, QuitsText, RefusesMode};
 
-/// A text that ends, a text with a quit byte, and a mode without starts.
+/// A text that ends, a text with a quit byte, and a mode without start states.
 pub fn answers()
     ensures ended { EndsText }
     ensures quit { QuitsText }

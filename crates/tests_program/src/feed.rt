@@ -1,5 +1,5 @@
-//! What no clause shows: that images are read and texts searched at all, that lines come as soon as they are told, and
-//! what is left where a source or a sink fails.
+//! Tests of feeding a text in pieces: that images are read and texts searched, that lines are written in order, and
+//! what is written before a source or a sink fails.
 
 use rx_base::{Anchored, MatchKind, MemSink, MemSource, PatternID};
 use rx_build::dense::{Builder, Config};
@@ -16,10 +16,10 @@ use tests_notation::read;
 
 const FORMS: [Form; 2] = [Form::Dense, Form::Sparse];
 
-/// How many bytes a read gives, at most.
+/// The most bytes that a read gives.
 const STEPS: [usize; 3] = [1, 3, 4096];
 
-/// The image of the table of all matches of some patterns, for which `z` quits or not.
+/// The image of the table for all matches of some patterns. If `quits` is set, `z` is a quit byte.
 fn image(alloc: Global, form: Form, patterns: &str, quits: bool) -> Result<Vec<u8>, Fail> {
     let exprs = read(alloc, patterns)?;
     let mut config = Config::new().match_kind(MatchKind::All);
@@ -46,8 +46,8 @@ fn image(alloc: Global, form: Form, patterns: &str, quits: bool) -> Result<Vec<u
     }
 }
 
-/// How reads and writes go: the most bytes of each, the room for what is written, and which read and which write
-/// fails. The first is 1, and 0 is none.
+/// How reads and writes go: the most bytes of each, the room for what is written, and the numbers of the read and the
+/// write that fail. The first is 1, and 0 is none.
 #[derive(Clone, Copy, Debug)]
 struct Outside {
     most_read: usize,
@@ -65,7 +65,7 @@ const PLAIN: Outside = Outside {
     failing_write: 0,
 };
 
-/// Fails unless a run over some bytes, whose first so many are the image, returns and writes what is wanted.
+/// Asserts the result and the lines of a run over some bytes. The first of them, as many as `ask` says, are the image.
 fn compare(
     rt: &impl Abort,
     alloc: Global,
@@ -91,7 +91,7 @@ fn compare(
     Ok(())
 }
 
-/// An image and a text behind it.
+/// An image and a text after it.
 fn joined(alloc: Global, image: &[u8], text: &[u8]) -> Result<Vec<u8>, Fail> {
     let mut bytes = Vec::from_slice(alloc, image)?;
     bytes.extend_from_slice(text)?;
@@ -100,12 +100,12 @@ fn joined(alloc: Global, image: &[u8], text: &[u8]) -> Result<Vec<u8>, Fail> {
 
 // ---- texts of a few letters
 
-/// The next number of a row of numbers without an order.
+/// The next number of a pseudo-random sequence.
 fn next(number: u32) -> u32 {
     number.wrapping_mul(1_664_525).wrapping_add(1_013_904_223)
 }
 
-/// A letter by a number: mostly `a` or `b`, and rarely `z`.
+/// The letter of a number: mostly `a` or `b`, sometimes `c`, rarely `z`.
 fn letter(number: u32) -> u8 {
     match number >> 27 {
         0..=12 => b'a',
@@ -115,7 +115,7 @@ fn letter(number: u32) -> u8 {
     }
 }
 
-/// A text of so many letters.
+/// A text of this many letters.
 fn text(alloc: Global, seed: u32, len: usize) -> Result<Vec<u8>, Fail> {
     let mut text = Vec::new(alloc);
     let mut number = next(seed);
@@ -126,7 +126,7 @@ fn text(alloc: Global, seed: u32, len: usize) -> Result<Vec<u8>, Fail> {
     Ok(text)
 }
 
-/// Adds the lines of the matches of `ab` and `b` that end at an offset, behind two letters. The one that begins first
+/// Adds the lines of the matches of `ab` and `b` that end at an offset after two letters. The one that began first
 /// comes first.
 fn push_matches(
     alloc: Global,
@@ -144,7 +144,8 @@ fn push_matches(
     Ok(())
 }
 
-/// The status and the lines of a text, found letter by letter. A match is told by the letter behind it, or the end.
+/// The status and the lines of a text, found letter by letter. The letter after a match, or the end, completes the
+/// match.
 fn wanted(alloc: Global, text: &[u8]) -> Result<(u8, Vec<u8>), Fail> {
     let mut lines = Vec::new(alloc);
     let mut letters = (b' ', b' ');
@@ -208,7 +209,7 @@ const LINES: &[u8] = b"match 0 3\nmatch 0 7\nend 7\n";
 
 const FIRST_LINE: &[u8] = b"match 0 3\n";
 
-/// The patterns of that text.
+/// The image of the patterns of that text.
 fn sam(alloc: Global, form: Form) -> Result<Vec<u8>, Fail> {
     image(alloc, form, "Samwise Sam |", false)
 }
@@ -244,8 +245,8 @@ fn lines_come_in_order(rt: HostRuntime) -> Result<(), Fail> {
     Ok(())
 }
 
-/// Reads by steps of so many bytes fail one after another: those of the image, and those of the text with the one
-/// that finds its end.
+/// Lets one read after another fail, in reads of this many bytes: every read of the text, and the read that finds its
+/// end. The text takes `text_reads` reads, the last included.
 fn fail_reads(
     rt: &impl Abort,
     alloc: Global,
@@ -321,7 +322,7 @@ fn reads_of_an_image_may_fail(rt: HostRuntime) -> Result<(), Fail> {
     Ok(())
 }
 
-/// How many bytes were written before each write of three bytes, of a line at a time.
+/// For each write, in pieces of three bytes and a line at a time, the number of bytes written before it.
 const WRITTEN: [usize; 10] = [0, 3, 6, 9, 10, 13, 16, 19, 20, 23];
 
 #[test]

@@ -1,7 +1,7 @@
-//! Tests of the program and what it is made of: scripts answered, streams fed.
+//! Tests of the program and its parts: replies to scripts, images and texts.
 //!
-//! They show what no contract says: that calls succeed on small and on large inputs, examples worked by hand, and how
-//! errors read.
+//! They test what no contract states: that calls succeed on small and on large inputs, examples worked by hand, and the
+//! texts of errors.
 #![tactic(auto)]
 
 pub mod examples;

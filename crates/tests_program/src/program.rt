@@ -20,7 +20,8 @@ fn words(alloc: Global, texts: &[&str]) -> Result<Words, AllocError> {
 }
 
 /// What a run reads and where it writes. A read gives at most `most_read` bytes, and a write takes at most
-/// `most_written`. In all there is room for `room` bytes. Reads and writes that fail are named by their numbers.
+/// `most_written`. All writes together have room for `room` bytes. The reads and writes that fail are given by their
+/// numbers, from 1.
 #[derive(Clone, Copy)]
 pub(crate) struct Outside<'a> {
     pub(crate) text: &'a [u8],
@@ -61,7 +62,7 @@ pub(crate) fn compare(
     Ok(())
 }
 
-/// A text whose lines are separated by slashes, with newlines in their place.
+/// A text in which slashes stand for newlines.
 pub(crate) fn lines(alloc: Global, text: &str) -> Result<Vec<u8>, AllocError> {
     let mut bytes = Vec::with_capacity(alloc, text.len())?;
     for byte in text.as_bytes() {
@@ -82,13 +83,13 @@ pub(crate) fn whole(text: &[u8]) -> Outside<'_> {
     }
 }
 
-/// A script, and the status and the lines of the answer. Slashes separate lines.
+/// A script, and the status and the lines of the reply. Slashes stand for newlines.
 type Case = (&'static str, u8, &'static str);
 
-/// The words of plans for each form of tables, as they are built and read back from their bytes.
+/// The words of plans for dense and sparse tables, as they are built and as they are read from their bytes.
 const FORMS: [&str; 4] = ["", "bytes ", "sparse ", "bytes sparse "];
 
-/// Asserts the answer of a command to a script whose plan gets some more words.
+/// Asserts the reply of a command to a script with more words in its plan.
 fn run_one(
     rt: &impl Abort,
     alloc: Global,
@@ -111,7 +112,7 @@ fn run_one(
     Ok(())
 }
 
-/// Asserts the answers of a command to scripts.
+/// Asserts the replies of a command to scripts.
 fn run_all(rt: &impl Abort, alloc: Global, command: &str, cases: &[Case]) -> Result<(), Fail> {
     for case in cases {
         run_one(rt, alloc, command, "", case)?;
@@ -119,7 +120,7 @@ fn run_all(rt: &impl Abort, alloc: Global, command: &str, cases: &[Case]) -> Res
     Ok(())
 }
 
-/// Asserts that the answers of a command to scripts are the same for each form of tables.
+/// Asserts that a command's replies to scripts are the same for each form of tables.
 fn run_forms(rt: &impl Abort, alloc: Global, command: &str, cases: &[Case]) -> Result<(), Fail> {
     for case in cases {
         for words in FORMS {
@@ -269,7 +270,7 @@ fn plan_words_have_an_effect(rt: HostRuntime) -> Result<(), Fail> {
         rt.alloc(),
         "find",
         &[
-            // row counts
+            // numbers of rows
             (
                 "plan rows dfa=0/input 0 3 no/hay 616263",
                 1,
@@ -347,7 +348,7 @@ fn plan_words_have_an_effect(rt: HostRuntime) -> Result<(), Fail> {
                 0,
                 "match 1 0 1",
             ),
-            // these words change no answer
+            // these words change no reply
             (
                 "plan noclasses mark/expr lit 61/input 0 3 no/hay 626162",
                 0,
@@ -395,13 +396,13 @@ fn matches_are_told_one_after_another(rt: HostRuntime) -> Result<(), Fail> {
             ),
             ("expr lit 61/input 0 2 no/hay 6262", 1, "none"),
             ("expr lit 61/input 1 0 yes/hay 61", 1, "none"),
-            // the numbers of rows aren't told
+            // the numbers of rows aren't reported
             (
                 "plan rows/expr lit 61/input 0 1 no/hay 61",
                 0,
                 "match 0 0 1",
             ),
-            // matches before an error are told
+            // matches before an error are reported
             (
                 "plan quit=7a/expr lit 61/input 0 4 no/hay 6162627a",
                 4,
@@ -433,7 +434,7 @@ fn matches_are_told_one_after_another(rt: HostRuntime) -> Result<(), Fail> {
 }
 
 #[test]
-fn scripts_may_be_turned_down(rt: HostRuntime) -> Result<(), Fail> {
+fn scripts_with_faults_are_rejected(rt: HostRuntime) -> Result<(), Fail> {
     run_all(
         &rt,
         rt.alloc(),
@@ -457,7 +458,7 @@ fn scripts_may_be_turned_down(rt: HostRuntime) -> Result<(), Fail> {
 }
 
 #[test]
-fn sources_have_at_most_so_many_bytes(rt: HostRuntime) -> Result<(), Fail> {
+fn sources_have_at_most_16_mib(rt: HostRuntime) -> Result<(), Fail> {
     let mut text = vec![in rt.alloc(); b'\n'; 16_777_216]?;
     compare(
         &rt,
@@ -559,7 +560,7 @@ fn patterns_are_generated_and_counted(rt: HostRuntime) -> Result<(), Fail> {
 
 const SCRIPT: &str = "expr lit 61\nexpr lit 62\ninput 0 2 yes\nhay 6261\n";
 
-/// The script has 47 bytes. Reads of 8 bytes give its last byte in the sixth read, and its end in the seventh.
+/// The script has 47 bytes. With reads of 8 bytes, the sixth gives its last byte, and the seventh its end.
 #[test]
 fn reads_and_writes_may_fail(rt: HostRuntime) -> Result<(), Fail> {
     let table: &[(&[u64], &[u64], usize, usize, u8, &str)] = &[
@@ -593,7 +594,7 @@ fn reads_and_writes_may_fail(rt: HostRuntime) -> Result<(), Fail> {
 /// A script of 28 bytes: the empty pattern and the empty haystack.
 const EMPTY: &str = "expr eps\ninput 0 0 no\nhay -\n";
 
-/// The script is read byte by byte, in 29 reads, the last of which gives its end.
+/// The script is read byte by byte, in 29 reads. The last one gives its end.
 #[test]
 fn every_read_and_every_write_may_fail(rt: HostRuntime) -> Result<(), Fail> {
     assert!(&rt; EMPTY.len() == 28);

@@ -1,4 +1,4 @@
-//! What no clause shows: that searches succeed, examples worked by hand, and how errors read.
+//! Tests of building and searching by a plan: examples worked by hand, the lengths of images, and the texts of errors.
 
 mod pair_images;
 mod pairs;
@@ -14,7 +14,7 @@ use std::process::Abort;
 use std::test::Fail;
 use tests_notation::read;
 
-/// What a plan has that is not usual.
+/// A setting that differs from the usual plan.
 #[derive(Clone, Copy)]
 pub(crate) enum Change {
     LineTerminator(u8),
@@ -31,10 +31,10 @@ pub(crate) enum Change {
     MarkStarts,
 }
 
-/// The form of a plan's tables, and the way that they take.
+/// The form of a plan's tables, and how they are passed on before they are searched.
 pub(crate) type Kind = (Form, Passage);
 
-/// No kind changes what is found.
+/// Every kind of tables. All find the same.
 pub(crate) const KINDS: [Kind; 6] = [
     (Form::Dense, Passage::Direct),
     (Form::Dense, Passage::Bytes),
@@ -44,7 +44,7 @@ pub(crate) const KINDS: [Kind; 6] = [
     (Form::Sparse, Passage::Pair),
 ];
 
-/// Where a match may begin, and of which pattern it is.
+/// Where a match may begin, and of which pattern it may be.
 #[derive(Clone, Copy)]
 pub(crate) enum Mode {
     Anywhere,
@@ -100,7 +100,7 @@ fn mode_of(mode: Mode) -> Result<Anchored, Fail> {
     }
 }
 
-/// The pattern, the start and the end of what is found, or why nothing can be.
+/// The pattern, the start and the end of the match, `none`, or the error.
 pub(crate) fn told(
     alloc: Global,
     exprs: &[Expr],
@@ -124,7 +124,7 @@ pub(crate) fn told(
     }
 }
 
-/// Compares what is told of a search, by tables of each kind.
+/// Compares the result of a search by tables of each kind.
 fn compare(
     rt: &impl Abort,
     alloc: Global,
@@ -141,7 +141,7 @@ fn compare(
     Ok(())
 }
 
-/// Compares what the usual plan tells of searches for a match anywhere in a span.
+/// Compares the results of unanchored searches of a span by the usual plan.
 fn compare_usual(
     rt: &impl Abort,
     alloc: Global,
@@ -208,7 +208,7 @@ fn of_patterns_the_lowest_is_told(rt: HostRuntime) -> Result<(), Fail> {
     Ok(())
 }
 
-/// `\b[0-9]+\b`, where the words are of Unicode.
+/// `\b[0-9]+\b` with Unicode word boundaries.
 const NUMBER: &str = "<uword> \\d {1,} <uword> . .";
 
 #[test]
@@ -263,7 +263,7 @@ fn the_plan_decides_words_starts_and_quits(rt: HostRuntime) -> Result<(), Fail> 
     Ok(())
 }
 
-/// The numbers of rows of both tables, or why they aren't built.
+/// The numbers of rows of both tables, or the error of the build.
 fn rows_of(alloc: Global, exprs: &[Expr], plan: &Plan) -> Result<String, Fail> {
     match Built::new(alloc, exprs, plan) {
         Ok(built) => {
@@ -275,7 +275,7 @@ fn rows_of(alloc: Global, exprs: &[Expr], plan: &Plan) -> Result<String, Fail> {
 }
 
 #[test]
-fn tables_have_so_many_rows(rt: HostRuntime) -> Result<(), Fail> {
+fn numbers_of_rows_are_those_worked_by_hand(rt: HostRuntime) -> Result<(), Fail> {
     let alloc = rt.alloc();
     let rows: &[(&str, &[Change], &str)] = &[
         ("", &[Change::DfaLimit(0)], "2 2"),
@@ -306,7 +306,7 @@ fn tables_have_so_many_rows(rt: HostRuntime) -> Result<(), Fail> {
     Ok(())
 }
 
-/// Matches as text, and the error that ended them.
+/// Matches as text, and the error that ended them, if there was one.
 pub(crate) fn shown<I: Iterator<Item = Result<Match, MatchError>> + Drop>(
     alloc: Global,
     items: I,
@@ -375,9 +375,9 @@ fn literals(alloc: Global) -> Result<Vec<Expr>, Fail> {
 fn many_patterns_are_built_and_searched(rt: HostRuntime) -> Result<(), Fail> {
     let alloc = rt.alloc();
     let exprs = literals(alloc)?;
-    // Forward: dead and quit, a match row for each literal, two starts, and after each of both `x`, `x` and one of 10
-    // letters, or one of 200 literals: 2 + 200 + 2 + 2 * (1 + 10 + 200). In reverse there is one start, and after it
-    // one of 20 letters, one of 10 after that, and `x`: 2 + 200 + 1 + (20 + 200 + 200).
+    // Forward: dead and quit, a match row for each literal, and two start rows. After each start row come `x`, `x` and
+    // one of 10 letters, and one of 200 literals: 2 + 200 + 2 + 2 * (1 + 10 + 200). In reverse there is one start row.
+    // After it come one of 20 letters, one of 10 before that, and `x`: 2 + 200 + 1 + (20 + 200 + 200).
     for kind in KINDS {
         let plan = plan_with(kind, &[]);
         let rows = rows_of(alloc, &exprs, &plan)?;
@@ -389,7 +389,7 @@ fn many_patterns_are_built_and_searched(rt: HostRuntime) -> Result<(), Fail> {
     Ok(())
 }
 
-/// The length of an image, or why its table isn't built.
+/// The length of an image, or the error of the build.
 fn image_len(
     alloc: Global,
     exprs: &[Expr],
@@ -403,7 +403,7 @@ fn image_len(
     }
 }
 
-/// Compares the lengths of the images that a plan has, forward and in reverse, in either order.
+/// Compares the lengths of the forward and the reverse image of a plan, in either order.
 fn compare_len(
     rt: &impl Abort,
     alloc: Global,
@@ -421,13 +421,14 @@ fn compare_len(
     Ok(())
 }
 
-/// The table passes its limit of 132 bytes.
+/// The error of a table that exceeds its limit of 132 bytes.
 const PAST_132: &str = "DFA exceeded size limit of 132 during determinization";
 
-/// In a sparse image 704 bytes aren't rows, and the starts of a pattern are 24 more. Of its rows dead and quit have 9
-/// bytes each, a match row has 17, and any other 9, with 6 more for each range and 1 for a needle.
+/// In a sparse image 704 bytes aren't rows, and the start states of a pattern take 24 more. The dead row and the quit
+/// row have 9 bytes each, and a match row has 17. Any other row has 9 bytes, 6 more for each range, and 1 more for a
+/// needle.
 #[test]
-fn images_have_so_many_bytes(rt: HostRuntime) -> Result<(), Fail> {
+fn lengths_of_images_are_those_worked_by_hand(rt: HostRuntime) -> Result<(), Fail> {
     // patterns and changes; the lengths of dense images, forward and in reverse, and those of sparse ones
     type Lengths = (&'static str, &'static str);
     let rows: &[(&str, &[Change], Lengths, Lengths)] = &[

@@ -1,4 +1,5 @@
--- Every sample is sound, and how its rows are named, labelled and left: the laws of the trait, and what its calls need.
+-- Every sample is sound. How its rows are named and labelled and which bytes leave them: the laws of the trait, and
+-- what its calls require.
 use Rattle.std.proofs.Common.{suc, zero, ◌++◌, get_or, length-append, append-nil, map-id}
 use Rattle.std.proofs.lemmas.List.Sums.{passes_at_first}
 use Rattle.std.proofs.lemmas.List.FromFn.{filter_of_map_range_with_len_more, length-range_with_len}

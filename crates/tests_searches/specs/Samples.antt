@@ -1,4 +1,4 @@
--- A small table for tests, which is sound whatever its rows hold.
+-- A small table for tests. It is sound whatever its rows hold.
 use Rattle.std.specs.Prelude.{ℕ, ◌+◌, ◌-◌, ◌*◌, ◌==◌, ◌||◌, ◌&&◌, Bool, true, false, not, nat_lt, nat_le, min}
 use Rattle.std.specs.Prelude.{if◌then◌else◌}
 use Rattle.std.specs.Prelude.{Some, None, List, [], length, filter, slice_index, slice_index_or}
@@ -11,8 +11,8 @@ use Rattle.rx_spec.specs.Ids.{dense_ids}
 use Rattle.rx_spec.specs.declared.Start.{Start}
 use Rattle.rx_spec.specs.declared.StartKind.{StartKind}
 
--- Rows from 2 on: 257 next rows for each, how many patterns each tells, those from 0 on, and which are to be
--- accelerated if they can.
+-- Rows from 2 on: 257 next rows for each, the number of patterns that each reports, which are those from 0 on, and
+-- whether the row is accelerated if it can be.
 pub record Sample : Type 0 where
   pub next : List ℕ
   pub told : List ℕ
@@ -27,7 +27,7 @@ pub record Sample : Type 0 where
 abbrev pub size : Sample → ℕ
 size s = 2 + length s.told
 
--- a next row that is none, or that would quit on the end mark, is dead
+-- a next row that doesn't exist, or that would quit at end of input, is dead
 abbrev pub kept : Sample → (unit row : ℕ) → ℕ
 kept s unit row = if nat_le (size s) row || (row == 1 && unit == 256) then 0 else row
 
@@ -40,7 +40,7 @@ told_count s row = if nat_lt row 2 then 0 else min (slice_index s.told (row - 2)
 abbrev pub row_label : Sample → ℕ → Label
 row_label s row = if row == 1 then Label.Quits else label_of (range_with_len 0 (told_count s row))
 
--- a start row that is none, quit or a match row is dead
+-- a start row that doesn't exist, quit, and a match row are replaced by dead
 abbrev pub start_row : Sample → ℕ
 start_row s =
     if nat_le (size s) s.start || (s.start == 1) || nat_lt 0 (told_count s s.start) then 0 else s.start
@@ -49,7 +49,7 @@ abbrev pub entry_row : Sample → Anchored → Start → ℕ
 entry_row s (Anchored.Pattern k) context = if nat_lt k s.patterns then start_row s else 0
 entry_row s mode context = start_row s
 
--- the bytes below a number that lead a row elsewhere, and all of them
+-- the bytes below a number that leave a row, and all bytes that leave it
 unfoldable pub leaving_below : Sample → (row end : ℕ) → List ℕ
 leaving_below s row end = filter (λ byte. not (next_row s row byte == row)) (range_with_len 0 end)
 

@@ -1,10 +1,10 @@
-//! Callers that slice a haystack by each match.
+//! A caller that slices a haystack by each match.
 
 use rx_base::{Input, MatchError};
 use rx_pair::Regex;
 use rx_search::Automaton;
 
-/// How many bytes the matches of a text have, and the longest of them.
+/// The total length of the matches in a text, and the longest of them.
 pub fn matched<'h, A: Automaton>(
     regex: &Regex<A>,
     text: &'h [u8],

@@ -1,4 +1,4 @@
-//! What no clause says: how many pairs and which words are told of tables worked by hand, and that calls succeed.
+//! Tests of the comparison of tables worked by hand: the numbers of pairs, and the words by which tables differ.
 
 mod altered;
 
@@ -18,17 +18,17 @@ use std::process::Abort;
 use std::test::Fail;
 use tests_worked_tables::table;
 
-/// Bytes up to `a`, the other bytes, and the end mark.
+/// Bytes up to `a`, the other bytes, and end of input.
 const COLUMNS: [&[Unit]; 3] = [&[Unit::Byte(b'a')], &[Unit::Byte(255)], &[Unit::Eoi]];
 
 /// The same with bytes up to `m`.
 const WIDER: [&[Unit]; 3] = [&[Unit::Byte(b'm')], &[Unit::Byte(255)], &[Unit::Eoi]];
 
-/// Rows behind quit: row 2 waits for an `a`, row 3 for another byte, and row 4 tells a match. Searches start in row 2,
-/// anchored ones in row 3.
+/// The rows after quit: row 2 waits for an `a`, row 3 for another byte, and row 4 is the match row. Unanchored searches
+/// start in row 2, anchored ones in row 3.
 const ROWS: [[usize; 3]; 3] = [[3, 2, 0], [3, 4, 0], [3, 2, 0]];
 
-/// A table of these columns and rows, whose row 4 tells these patterns.
+/// A table with these columns and rows. Row 4 reports these patterns.
 fn make(
     alloc: Global,
     columns: &[&[Unit]; 3],
@@ -40,7 +40,7 @@ fn make(
     table(alloc, columns, rows, &[(4, patterns)], [2, 3])
 }
 
-/// What is told of two tables.
+/// The result of comparing two tables.
 fn verdict(
     rt: &impl Abort,
     alloc: Global,
@@ -54,7 +54,7 @@ fn verdict(
     compare(alloc, a, b)
 }
 
-/// Whether links are evidence that two tables mean the same.
+/// Whether links are evidence that two tables are equal.
 fn are_evidence(
     rt: &impl Abort,
     alloc: Global,
@@ -80,7 +80,7 @@ fn without(alloc: Global, links: &Links, left_out: usize) -> Result<Links, Alloc
     Ok(others)
 }
 
-/// Asserts that two tables mean the same, with so many pairs, and that all links but the last are no evidence.
+/// Asserts that two tables are equal, with this many pairs, and that all links but the last are no evidence.
 fn check_equal(
     rt: &impl Abort,
     alloc: Global,
@@ -119,8 +119,8 @@ fn equal_tables(rt: HostRuntime) -> Result<(), Fail> {
     Ok(())
 }
 
-/// Asserts that two tables differ, first at an anchored start and by this word, and that the word with a byte more
-/// doesn't part them.
+/// Asserts that two tables differ, first at an anchored start and by this word, and that they don't differ by the word
+/// with one more unit.
 fn check_differ(
     rt: &impl Abort,
     alloc: Global,
@@ -167,7 +167,7 @@ fn tables_that_differ(rt: HostRuntime) -> Result<(), Fail> {
     check_differ(&rt, alloc, &one, &other, &[Unit::Byte(b'b')], Unit::Eoi)?;
     let both = make(alloc, &COLUMNS, &ROWS, &[0, 1])?;
     check_differ(&rt, alloc, &one, &both, &[Unit::Byte(b'b')], Unit::Eoi)?;
-    // `b` to `m` are told apart from both sides
+    // `b` to `m` have the class of `a` in one table, and that of the bytes after `m` in the other
     let wider = make(alloc, &WIDER, &ROWS, &[0])?;
     check_differ(
         &rt,
@@ -185,7 +185,7 @@ fn links_are_kept(rt: HostRuntime) -> Result<(), Fail> {
     let alloc = rt.alloc();
     let one = make(alloc, &COLUMNS, &ROWS, &[0])?;
     let mut links = Links::new(alloc);
-    // no links, a start alone, and a link that names none before it
+    // no links, a start alone, and a link that names no earlier link
     assert!(rt; !are_evidence(&rt, alloc, &one, &one, &links)?);
     let start = Link::Start(Place::new(Anchored::No, None));
     links.push(start)?;

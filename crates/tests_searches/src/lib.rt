@@ -1,7 +1,7 @@
-//! Tests of searches: of spans, in pieces, for tokens, by pairs, and equality of tables.
+//! Tests of searches: over spans, in pieces, for tokens and by pairs, and of the equality of tables.
 //!
-//! They show what no contract says: that calls succeed on small and on large inputs, examples worked by hand, and how
-//! errors read.
+//! They test what no contract states: that calls succeed on small and on large inputs, examples worked by hand, and the
+//! texts of errors.
 #![tactic(auto)]
 
 mod callers;

@@ -1,4 +1,4 @@
-//! What no clause shows: that pairs are built, matches that were found by hand, and how errors read.
+//! Tests that pairs are built, of matches found by hand, and of the texts of errors.
 
 use crate::matched;
 use rx_base::{Anchored, Input, Match, MatchKind, PatternID, StartKind};
@@ -12,7 +12,7 @@ use std::process::Abort;
 use std::test::Fail;
 use tests_notation::read;
 
-/// The pair of some patterns: whether matches that split a character are passed over, and a quit byte.
+/// The pair of some patterns. With `utf8`, searches pass over matches that split a character. `quit` is a quit byte.
 fn build(
     alloc: Global,
     patterns: &str,
@@ -40,7 +40,7 @@ fn show(alloc: Global, found: &Match) -> Result<String, Fail> {
     Ok(format!(in alloc; "{pattern} {} {};", found.start(), found.end())?)
 }
 
-/// All matches in a haystack as text, and the error that ended them.
+/// All matches in a haystack as text, and the error that ended the search, if there was one.
 fn shown(alloc: Global, regex: &Regex<OwnedDFA>, haystack: &[u8]) -> Result<String, Fail> {
     let mut text = String::new(alloc);
     for item in regex.find_iter(&Input::new(haystack)) {
@@ -52,7 +52,7 @@ fn shown(alloc: Global, regex: &Regex<OwnedDFA>, haystack: &[u8]) -> Result<Stri
     Ok(text)
 }
 
-/// What a pair is built of, a haystack, and its matches.
+/// Patterns, whether UTF-8 mode is on, a quit byte, a haystack, and its matches.
 type Case = (&'static str, bool, Option<u8>, &'static str, &'static str);
 
 fn check(rt: &impl Abort, alloc: Global, cases: &[Case]) -> Result<(), Fail> {

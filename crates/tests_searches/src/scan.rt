@@ -1,4 +1,4 @@
-//! Texts that were cut by hand, and a comparison of dense and sparse tables over longer ones.
+//! Tests of tokens, with texts cut by hand, and of longer texts by dense and sparse tables.
 
 ghost use Rattle.std.specs.Prelude.{IfOk};
 ghost use Rattle.rx_order.specs.RowOrder.{IsInOrder};
@@ -17,7 +17,7 @@ use std::process::Abort;
 use std::test::Fail;
 use tests_notation::read;
 
-/// Patterns, and what is set of their table that is not usual.
+/// Patterns, a literal that the notation of tests can't give, and the settings of their table.
 #[derive(Clone, Copy)]
 struct Rules {
     patterns: &'static str,
@@ -26,7 +26,7 @@ struct Rules {
     starts: StartKind,
 }
 
-/// The table of some patterns, and of a literal that the notation can't say, which tells all matches.
+/// The table of some rules, for all matches.
 fn build(alloc: Global, rules: &Rules) -> Result<OwnedDFA, Fail>
     ensures { IfOk result (λ dfa. IsInOrder dfa) }
 {
@@ -47,7 +47,7 @@ fn build(alloc: Global, rules: &Rules) -> Result<OwnedDFA, Fail>
     Ok(builder.build_many(alloc, &exprs)?)
 }
 
-/// The sparse table of a dense one, and how many rows it has.
+/// The sparse table of a dense one, and the number of its rows.
 fn made_sparse(alloc: Global, dense: &OwnedDFA) -> Result<(DFA<Vec<u8>>, usize), Fail>
     requires { IsInOrder dense.now }
     ensures { IfOk result (λ x. IsSoundLayout x.0.layout) }
@@ -57,7 +57,7 @@ fn made_sparse(alloc: Global, dense: &OwnedDFA) -> Result<(DFA<Vec<u8>>, usize),
     Ok((dense.to_sparse(alloc)?, rows))
 }
 
-/// The tokens of a text, each as its pattern, its span, its line and its column; and their end.
+/// The tokens of a text, each as its pattern, its span, its line and its column, and how they end.
 fn shown<A: Automaton>(alloc: Global, table: &A, text: &[u8]) -> Result<String, AllocError>
     requires { A.IsSound table.now }
 {
@@ -80,7 +80,7 @@ fn shown<A: Automaton>(alloc: Global, table: &A, text: &[u8]) -> Result<String, 
     Ok(out)
 }
 
-/// Compares what is told of texts over the dense and the sparse table of some rules.
+/// Compares the tokens of texts by the dense and the sparse table of some rules.
 fn compare(
     rt: &impl Abort,
     alloc: Global,
@@ -122,7 +122,7 @@ fn numbers_and_words(rt: HostRuntime) -> Result<(), Fail> {
     )
 }
 
-/// A keyword has the lower number, so it wins over a word of its length, and a longer word wins over it.
+/// A keyword has the lower number, so it wins over a word of its length. A longer word wins over the keyword.
 #[test]
 fn keywords(rt: HostRuntime) -> Result<(), Fail> {
     let rules = Rules {
@@ -143,7 +143,7 @@ fn keywords(rt: HostRuntime) -> Result<(), Fail> {
     )
 }
 
-/// A pattern that matches nothing makes no token, and a walk reads on past its last match.
+/// An empty match makes no token. The scanner reads on past the last match, so a quit byte there hides the token.
 #[test]
 fn empty_matches_and_quit_bytes(rt: HostRuntime) -> Result<(), Fail> {
     let rules = Rules {
@@ -220,7 +220,7 @@ fn lines_and_columns(rt: HostRuntime) -> Result<(), Fail> {
     )
 }
 
-/// In a comment all bytes but one lead the row to itself, so the walk skips to the end of the line.
+/// In a comment, all bytes but `x` lead the row to itself, so the scanner skips to the next `x`.
 #[test]
 fn skipped_bytes_are_part_of_a_token(rt: HostRuntime) -> Result<(), Fail> {
     let comments = Rules {

@@ -1,4 +1,4 @@
-//! Each search over small tables, by examples worked by hand.
+//! Tests of each search over small tables, by examples worked by hand.
 
 mod far;
 mod sample;
@@ -23,7 +23,7 @@ use sample::{Row, Sample, make_sample};
 use std::process::Abort;
 use std::test::Fail;
 
-/// `Sam` or `Samwise`, with all matches told.
+/// `Sam` or `Samwise`, for all matches.
 const SAMWISE: [Row<'static>; 10] = [
     Row(&[(b'S', b'S', 3)], 2, 2, 0, true),
     Row(&[(b'S', b'S', 3), (b'a', b'a', 4)], 2, 2, 0, false),
@@ -37,20 +37,20 @@ const SAMWISE: [Row<'static>; 10] = [
     Row(&[(b'S', b'S', 3), (b'a', b'a', 4)], 2, 2, 1, false),
 ];
 
-/// `[^x]*` from the start of the span, the longest.
+/// `[^x]*` from the start of the span, the longest match.
 const NO_X: [Row<'static>; 3] = [
     Row(&[(b'x', b'x', 4)], 3, 4, 0, true),
     Row(&[(b'x', b'x', 4)], 3, 4, 1, true),
     Row(&[], 0, 0, 1, false),
 ];
 
-/// Digits up to the edge, without bytes from 0x80 on.
+/// Digits up to the end of input. Bytes from 0x80 on are quit bytes.
 const DIGITS: [Row<'static>; 2] = [
     Row(&[(b'0', b'9', 2), (0x80, 0xff, 1)], 0, 3, 0, false),
     Row(&[], 0, 0, 1, false),
 ];
 
-/// Nothing, at once; and nothing, everywhere.
+/// The empty match, at the start only; and the empty match everywhere.
 const NOTHING: [Row<'static>; 2] = [Row(&[], 3, 3, 0, false), Row(&[], 0, 0, 3, false)];
 
 const NOTHING_EVERYWHERE: [Row<'static>; 2] = [Row(&[], 3, 3, 0, false), Row(&[], 3, 3, 1, false)];
@@ -74,7 +74,8 @@ const THREE: [Row<'static>; 3] = [
     Row(&[], 0, 0, 1, false),
 ];
 
-/// What is searched: a haystack, the span in it, whether it is anchored, and whether the first match will do.
+/// What is searched: a haystack, the span in it, whether the search is anchored, and whether it stops at the first
+/// match.
 #[derive(Clone, Copy)]
 struct Asked<'h>(&'h [u8], usize, usize, bool, bool);
 
@@ -90,7 +91,7 @@ fn input<'h>(rt: &impl Abort, asked: Asked<'h>) -> Input<'h>
     input
 }
 
-/// What a search tells: a pattern and an offset, none, a quit byte and its offset, or that the mode has no starts.
+/// The result of a search: a pattern and an offset, no match, a quit byte and its offset, or an unsupported mode.
 #[derive(Clone, Copy, Debug, PartialEq)]
 enum Told {
     Match(u32, usize),
@@ -110,7 +111,7 @@ fn tell(answer: Result<Option<HalfMatch>, MatchError>) -> Told {
     }
 }
 
-/// What a half search tells, without UTF-8 mode and in it.
+/// The result of a half search, without UTF-8 mode and in it.
 fn half(table: &Sample, input: &Input<'_>, direction: Direction) -> (Told, Told)
     requires { IsFit (query_of input.now) }
 {
@@ -126,7 +127,7 @@ fn half(table: &Sample, input: &Input<'_>, direction: Direction) -> (Told, Told)
     }
 }
 
-/// What a counted search tells, and its ticks.
+/// The result of a counted search, and its ticks.
 fn counted(table: &Sample, input: &Input<'_>, direction: Direction) -> (Told, u64)
     requires { IsFit (query_of input.now) }
 {
@@ -152,7 +153,7 @@ fn counted(table: &Sample, input: &Input<'_>, direction: Direction) -> (Told, u6
     }
 }
 
-/// Asserts what the searches tell of a text, and the ticks of the counted one.
+/// Asserts the results of the searches of a text, and the ticks of the counted search.
 fn check_half(
     rt: &impl Abort,
     table: &Sample,
@@ -172,7 +173,7 @@ fn check_half(
     assert_eq!(rt; count, ticks);
 }
 
-/// Asserts what the calls of an overlapping search tell, one after another.
+/// Asserts the results of successive calls of an overlapping search.
 fn check_overlapping(
     rt: &impl Abort,
     table: &Sample,
@@ -423,7 +424,7 @@ fn sets_take_the_patterns_that_are_told(rt: HostRuntime) -> Result<(), Fail> {
     Ok(())
 }
 
-/// A search that tells the first of some offsets which lies in the span. Where none does it gives up, or tells none.
+/// A search that reports the first of some offsets that lies in the span. If none does, it quits or reports no match.
 fn first_in_span(
     offsets: &[usize],
     gives_up: bool,
@@ -442,12 +443,12 @@ fn first_in_span(
     Ok(None)
 }
 
-/// The offset of the first match, the offsets that the search tells after it, whether it gives up past them, the
-/// span and whether it is anchored, and what is told. Matches of the search are of pattern 1, and the first one is of
-/// pattern 7.
+/// The offset of the first match, the offsets that the search may report after it, whether it quits if none lies in the
+/// span, the span and whether it is anchored, and the result. The first match is of pattern 7, and those of the search
+/// are of pattern 1.
 type Skip = (usize, &'static [usize], bool, (usize, usize, bool), Told);
 
-/// Two snowmen have three bytes each, so a match is told at 0, 3 or 6.
+/// Two snowmen of three bytes each: only matches at 0, 3 or 6 don't split a character.
 const SKIPS_FWD: [Skip; 8] = [
     (3, &[1], true, (0, 6, false), Match(7, 3)),
     (1, &[1, 2, 3], true, (0, 6, false), Match(1, 3)),
@@ -469,7 +470,7 @@ const SKIPS_REV: [Skip; 7] = [
     (4, &[4], true, (3, 4, false), Quit(0xff, 3)),
 ];
 
-/// Asserts what is told after a first match, which lies in its span.
+/// Asserts the result after a first match in the span.
 fn check_skip(rt: &impl Abort, text: &[u8], direction: Direction, skip: Skip) {
     let (first, offsets, gives_up, (start, end, anchored), want) = skip;
     let input = input(rt, Asked(text, start, end, anchored, false));

@@ -1,4 +1,4 @@
-//! However a text is cut, its pieces tell what an overlapping search of the whole text tells.
+//! Tests that the pieces of a text report what an overlapping search of the whole text reports, however it is cut.
 
 mod built;
 mod cuts;
@@ -11,7 +11,7 @@ use std::alloc::Global;
 use std::process::Abort;
 use std::test::Fail;
 
-/// A table that has starts for every mode and no quit byte.
+/// A table that has start states for every mode and no quit byte.
 const USUAL: Rules = Rules {
     patterns: "",
     quit: None,
@@ -22,7 +22,7 @@ const USUAL: Rules = Rules {
 /// A mode, a text, and the events of a search.
 type Row = (Anchored, &'static [u8], &'static str);
 
-/// Asserts which events the dense table and the sparse table of some rules tell.
+/// Asserts the events of the dense and the sparse table of some rules.
 fn check(rt: &impl Abort, alloc: Global, rules: &Rules, rows: &[Row]) -> Result<(), Fail> {
     let dense = dense(alloc, rules)?;
     for (mode, text, wanted) in rows {
@@ -64,7 +64,7 @@ fn matches_are_told_in_order(rt: HostRuntime) -> Result<(), Fail> {
         alloc,
         &several,
         &[
-            // three matches end at 2: the one that began first comes first
+            // three matches end at 2; the one that began first comes first
             (Anchored::No, b"bab", "1 1;2 2;0 2;1 2;1 3;"),
             (Anchored::No, b"ba", "1 1;2 2;0 2;1 2;"),
             (Anchored::Yes, b"ba", "1 1;2 2;"),
@@ -84,7 +84,7 @@ fn nothing_is_told_after_a_quit_byte(rt: HostRuntime) -> Result<(), Fail> {
         rt.alloc(),
         &rules,
         &[
-            // a match is known one byte later, and here that byte quits
+            // a match is known one byte later, and here that byte is a quit byte
             (Anchored::No, b"az", "quit 122 1;"),
             (Anchored::No, b"abz", "0 1;quit 122 2;"),
             (Anchored::No, b"zaa", "quit 122 0;"),
@@ -183,7 +183,7 @@ const CASES: &[(Rules, &[u8], &[u8])] = &[
         b"abab",
         b"ab",
     ),
-    // a match that only the end of the text decides
+    // a match that depends on the end of the text
     (
         Rules {
             patterns: "a $ . <word> b .",

@@ -1,4 +1,4 @@
--- A table that is begun as a case has it.
+-- The first table of a build, before its states are added.
 use Rattle.std.proofs.Common.{◌≡◌, ℕ, Bool, true, false, Some, None, List, length, refl, ap, ap₂, sym, ◌∙◌, subst}
 use Rattle.std.specs.Prelude.{if◌then◌else◌, is_some}
 use Rattle.rx_spec.specs.Nfas.{Nfa}

@@ -1,4 +1,4 @@
--- The tests' table: what is done to its list of ids is done to its rows.
+-- The table of the tests of renaming: a change of its list of ids is the same change of its rows.
 use Rattle.std.proofs.Common.{◌≡◌, ℕ, ◌*◌, ◌/◌, ◌^◌, ◌<◌, ◌≤◌, List, [], ◌∷◌, length, get_or, map, refl, ap, ◌∙◌}
 use Rattle.std.proofs.Common.{subst, arith, lit<}
 use Rattle.std.specs.Prelude.{All}
@@ -39,7 +39,7 @@ module _ (next starts : List ℕ) (s : ℕ) (h : AreRows (chain_of next starts s
   pub starts_within : All (λ id. id / 2 ^ s < length next) starts
   starts_within k d low = row_within next starts s (get_or starts k d) (h.starts k d low)
 
--- a chain of so few rows
+-- a chain of at most 100 rows
 module _ (next starts : List ℕ) (s : ℕ) (small : s ≤ 9) (few : length next ≤ 100) where
   few_rows : Transitions
   few_rows = chain_of (map (λ row. row * 2 ^ s) next) (map (λ row. row * 2 ^ s) starts) s

@@ -1,4 +1,4 @@
--- A last row that is cut off again.
+-- A last row that is added and removed again.
 use Rattle.std.proofs.Common.{◌≡◌, ℕ, ◌+◌, ◌*◌, ◌<◌, ◌++◌, ◌∙◌, length, slice_index, arith}
 use Rattle.std.specs.Prelude.{replicate}
 use Rattle.std.proofs.lemmas.List.{get_or-set_other, get_or_append_left}

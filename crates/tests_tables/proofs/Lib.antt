@@ -1,8 +1,8 @@
--- that a table is sound where each of its rows is
+-- a table is sound if each of its rows is
 pub mod Soundness
--- a last row that is cut off again
+-- a last row that is removed again
 pub mod Cuts
 -- rows in a chain
 pub mod Chains
--- tables that are begun
+-- the first table of a build
 pub mod Begun

@@ -1,4 +1,4 @@
--- That a table is sound where each of its rows is.
+-- A table is sound if each of its rows is.
 use Rattle.std.proofs.Common.{◌≡◌, ℕ, ◌+◌, ◌*◌, ◌/◌, ◌%◌, ◌<◌, ◌≤◌, ◌==◌, Bool, true, false}
 use Rattle.std.proofs.Common.{Option, Some, None, if◌then◌else◌, List, [], ◌∷◌, ◌++◌, length, filter, map-id, get_or}
 use Rattle.std.proofs.Common.{slice_index, refl, ap, ap₂, sym, ◌∙◌, subst, arith, ⊎_elim, All}
@@ -45,7 +45,7 @@ quit_label Label.Plain q = absurd (cc)
 quit_label (Label.Matches ks) q = absurd (cc)
 quit_label Label.Quits q = refl
 
--- the list that a match row tells
+-- the list that a match row reports
 pub told_patterns : (l : Layout) (id : ℕ) → IsId (ids_of l) id → is_match (table_of l) (row_of (ids_of l) id) ≡ true
     → (ks : List ℕ) → (table_of l).machine.label (row_of (ids_of l) id) ≡ Label.Matches ks
     → ks ≡ patterns_at l (place_in_range l l.special.min_match id)
@@ -57,9 +57,9 @@ all_below-contains xs bound k e c =
     ltb-true k bound
     (All-contains (λ x. nat_lt x bound ≡ true) xs k (AllPass-from_list_all (λ x. nat_lt x bound) xs e) c)
 
--- ---- the bytes that lead elsewhere
+-- ---- the bytes that leave a row
 
--- ids are equal where their rows are
+-- ids are equal if their rows are
 pub same_row : (l : Layout) (x y : ℕ) → IsId (ids_of l) x → IsId (ids_of l) y
     → (x == y) ≡ (row_of (ids_of l) x == row_of (ids_of l) y)
 same_row l x y x_is y_is =

@@ -1,4 +1,4 @@
--- The tests' table, whose rows lead to one row each.
+-- The table of the tests of renaming. Each of its rows leads to one row.
 use Rattle.std.specs.Prelude.{ℕ, List, [], ◌∷◌, map}
 use Rattle.rx_order.specs.Transitions.{Transitions}
 

@@ -1,4 +1,4 @@
--- What makes a dense table sound, row by row, beside what is true of every dense table.
+-- What makes a dense table sound, row by row, besides what holds for every dense table.
 use Rattle.std.specs.Prelude.{ℕ, ◌≡◌, ◌≢◌, ◌<◌, ◌≤◌, ◌/◌, ◌==◌, ◌||◌, true, List, [], length, get_or, Contains}
 use Rattle.rx_spec.specs.Machines.{Label}
 use Rattle.rx_spec.specs.Tables.{Table, is_match, leaving}
@@ -6,15 +6,15 @@ use Rattle.rx_spec.specs.declared.Start.{Start}
 use Rattle.rx_base.specs.declared.search.Anchored.{Anchored as Mode}
 use Rattle.rx_dense.specs.Layouts.{Layout, patterns_at, stride, table_of}
 
--- the match rows of a table tell these lists, one after another
+-- the match rows of a table report these lists, in order
 abbrev pub TellsLists : Layout → List (List ℕ) → Type 0
 TellsLists l lists = (i : ℕ) → i < length lists → patterns_at l i ≡ get_or lists i []
 
--- a start entry leads to a row that tells nothing
+-- a start entry leads to a row that is neither a match row nor quit
 abbrev pub StartsPlain : Layout → ℕ × Mode × Start → Type 0
 StartsPlain l entry = (table_of l).machine.label (entry.0 / stride l) ≡ Label.Plain
 
--- the patterns that a match row may tell
+-- the patterns that a match row may report
 pub record IsPatternList (pattern_len : ℕ) (patterns : List ℕ) : Type 0 where
   pub some : patterns ≢ []
   pub below : (k : ℕ) → Contains patterns k → k < pattern_len

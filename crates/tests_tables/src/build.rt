@@ -1,4 +1,4 @@
-//! What no clause shows: that tables are built, of how many rows and with which ids, and how refusals read.
+//! Tests of building tables: the numbers of states, the special ids, and the texts of errors.
 
 use rx_base::{Anchored, Input, MatchKind, Needles, StartKind};
 use rx_build::BuildError;
@@ -11,7 +11,7 @@ use std::process::Abort;
 use std::test::Fail;
 use tests_notation::read;
 
-/// What is set that is not usual.
+/// A setting that differs from the usual configuration.
 #[derive(Clone, Copy)]
 enum Change {
     Minimize,
@@ -25,7 +25,7 @@ enum Change {
     TableLimit(usize),
     StatesLimit(usize),
     NfaLimit(usize),
-    /// In reverse, all matches told and anchored, as for the starts of matches.
+    /// In reverse, anchored and for all matches, as a search for the starts of matches needs.
     Reverse,
 }
 
@@ -61,7 +61,7 @@ fn nfa_changed(config: thompson::Config, change: Change) -> thompson::Config {
     }
 }
 
-/// The table of some patterns.
+/// The table of some patterns, or the error of the build.
 fn build(
     alloc: Global,
     patterns: &str,
@@ -80,7 +80,7 @@ fn build(
     Ok(builder.build_many(alloc, &exprs))
 }
 
-/// How many rows a table has, its special ids, the needles of its first accelerated row, and its universal starts.
+/// The number of states, the special ids, the needles of the first accelerated state, and the universal starts.
 fn shape_of(alloc: Global, dfa: &OwnedDFA) -> Result<String, Fail> {
     let s = dfa.special();
     let needles = if dfa.accel_len() == 0 {
@@ -107,7 +107,7 @@ fn shape_of(alloc: Global, dfa: &OwnedDFA) -> Result<String, Fail> {
     )?)
 }
 
-/// The id of the universal start of a mode; 0 where there is none.
+/// The id of the universal start state of a mode, or 0 if there is none.
 fn universal(dfa: &OwnedDFA, mode: Anchored) -> u32 {
     match dfa.universal_start_state(mode) {
         Some(id) => id.as_u32(),
@@ -115,7 +115,7 @@ fn universal(dfa: &OwnedDFA, mode: Anchored) -> u32 {
     }
 }
 
-/// What a table looks like, or how its refusal reads.
+/// The shape of a table, or the text of the build's error.
 fn told(alloc: Global, patterns: &str, changes: &[Change]) -> Result<String, Fail> {
     match build(alloc, patterns, changes)? {
         Ok(dfa) => shape_of(alloc, &dfa),
@@ -123,7 +123,7 @@ fn told(alloc: Global, patterns: &str, changes: &[Change]) -> Result<String, Fai
     }
 }
 
-/// Patterns with settings, and what is told of their table.
+/// Patterns, settings, and the shape of their table or the error.
 type Case = (&'static str, &'static [Change], &'static str);
 
 fn check(rt: &impl Abort, alloc: Global, cases: &[Case]) -> Result<(), Fail> {
@@ -250,7 +250,7 @@ fn everywhere_and_nowhere(rt: HostRuntime) -> Result<(), Fail> {
     Ok(())
 }
 
-/// Each start entry leads to dead exactly where the start kind leaves its mode out.
+/// Asserts that the start states of a mode are dead exactly if the start kind leaves the mode out.
 fn check_starts(rt: &impl Abort, dfa: &OwnedDFA, kind: StartKind) {
     for (id, mode, start) in dfa.starts() {
         let built = match mode {

@@ -1,4 +1,4 @@
-//! Dense tables worked by hand.
+//! Tests of dense tables worked by hand.
 
 mod soundness;
 mod tables;
@@ -28,7 +28,7 @@ use tables::{
     remap, remap_state, special, start_all_at, start_at, worked,
 };
 
-/// The units of a row where `x` and `z` are classes of their own: a byte of each class, and the end mark.
+/// The units of a row whose classes keep `x` and `z` apart: a byte of each class, and end of input.
 const UNITS: [Unit; 6] = [
     Unit::Byte(b'a'),
     Unit::Byte(b'x'),
@@ -45,17 +45,17 @@ enum Step<'s> {
     AddAndCut,
     Fill(usize, &'s [usize]),
     Connect(usize, u8, usize),
-    /// The mode is named by its place among the modes.
+    /// The mode is given by its index in `modes`.
     StartAt(usize, Start, usize),
     Swap(usize, usize),
     Remap(&'s [usize]),
     RemapState(usize, &'s [usize]),
 }
 
-/// Start entries, as ids: those of each mode.
+/// The start entries, as ids: those of each mode.
 type Entries = [[usize; 6]; 5];
 
-/// Ids of next rows, and of start rows. An id is 8 times its row.
+/// The ids of next rows, or of start rows. An id is 8 times its row.
 const NONE: [usize; 6] = [0; 6];
 
 const GOES: [usize; 6] = [16, 0, 16, 8, 16, 24];
@@ -110,7 +110,7 @@ fn apply(rt: &impl Abort, alloc: Global, dfa: &mut OwnedDFA, step: Step<'_>) -> 
     Ok(())
 }
 
-/// Asserts where the rows of a table lead, and in which rows searches start.
+/// Asserts the targets of all rows and the start rows.
 fn check(rt: &impl Abort, dfa: &OwnedDFA, rows: &[[usize; 6]], entries: &Entries) {
     assert_eq!(rt; dfa.state_len(), rows.len());
     let mut states = dfa.states();
@@ -133,7 +133,7 @@ fn check(rt: &impl Abort, dfa: &OwnedDFA, rows: &[[usize; 6]], entries: &Entries
     assert!(rt; starts.next().is_none() && starts.next().is_none());
 }
 
-/// Asserts where a row leads, class by class and last at the end mark.
+/// Asserts the targets of a row, class by class and last at end of input.
 fn check_row(rt: &impl Abort, state: &State<'_>, row: &[usize; 6]) {
     let mut transitions = state.transitions();
     let units = [0, 1, 2, 3, 4].map(|class| Unit::Byte(class));
@@ -226,7 +226,7 @@ fn a_copied_row_leads_where_the_other_leads(rt: HostRuntime) -> Result<(), Fail>
 }
 
 #[test]
-fn what_is_set_is_told(rt: HostRuntime) -> Result<(), Fail> {
+fn settings_are_returned(rt: HostRuntime) -> Result<(), Fail> {
     let alloc = rt.alloc();
     let mut dfa = begin(alloc, classes_apart(b"xz"))?;
     assert!(rt; dfa.start_kind() == StartKind::Both && dfa.starts_for_each_pattern());
@@ -303,8 +303,8 @@ fn each_stride_has_its_columns(rt: HostRuntime) -> Result<(), Fail> {
     Ok(())
 }
 
-/// Asserts that the last of three rows stays on the bytes of the last class, which begins at this one, goes to quit
-/// at the end mark, and to dead else.
+/// Asserts that the last of three rows stays on the bytes of the last class, which begins at `last`, goes to quit at
+/// end of input, and to dead on other bytes.
 fn check_columns(rt: &impl Abort, dfa: &OwnedDFA, last: u8) {
     let row = id(rt, dfa, 2);
     let quit = id(rt, dfa, 1);
@@ -363,8 +363,7 @@ fn ranges_are_maximal(rt: HostRuntime) -> Result<(), Fail> {
     Ok(())
 }
 
-/// Asserts the ranges of a row, by their classes and next ids, and then the next id at the end mark, if it isn't
-/// dead.
+/// Asserts the ranges of a row, as classes and next ids, and then the next id at end of input if it isn't dead.
 fn check_ranges(rt: &impl Abort, state: &State<'_>, want: &[(u8, u8, usize)], eoi: usize) {
     let mut ranges = state.sparse_transitions();
     for (first, last, next) in want {
@@ -383,7 +382,7 @@ fn check_ranges(rt: &impl Abort, state: &State<'_>, want: &[(u8, u8, usize)], eo
     assert!(rt; ranges.next().is_none() && ranges.next().is_none());
 }
 
-/// What a search tells: a pattern and an offset, none, a quit byte and its offset, or that the mode has no starts.
+/// The result of a search: a pattern and an offset, no match, a quit byte and its offset, or an unsupported mode.
 #[derive(Clone, Copy, Debug, PartialEq)]
 enum Told {
     Match(u32, usize),
@@ -499,7 +498,7 @@ fn a_worked_table_is_searched(rt: HostRuntime) -> Result<(), Fail> {
     Ok(())
 }
 
-/// Asserts the patterns that a row tells, and its needles.
+/// Asserts the patterns and the needles of a row.
 fn check_told(rt: &impl Abort, dfa: &OwnedDFA, row: usize, patterns: &[u32], needles: &[u8])
     requires { IsSoundLayout dfa.now }
 {
@@ -518,7 +517,7 @@ fn check_told(rt: &impl Abort, dfa: &OwnedDFA, row: usize, patterns: &[u32], nee
     }
 }
 
-/// Asserts what the calls of an overlapping search tell, one after another.
+/// Asserts the results of successive calls of an overlapping search.
 fn check_walk_fwd(rt: &impl Abort, dfa: &OwnedDFA, input: &Input<'_>, want: &[Told])
     requires sound { IsSoundLayout dfa.now }
     requires fits { IsFit (query_of input.now) }
@@ -560,7 +559,7 @@ fn views_and_copies_answer_as_their_source(rt: HostRuntime) -> Result<(), Fail> 
     Ok(())
 }
 
-/// Which kinds of row an id is that of.
+/// Which kinds of state an id names.
 fn kinds<T: WordStore>(dfa: &DFA<T>, id: StateID) -> [bool; 6]
     requires { IsId (ids_of dfa.now) id }
 {
@@ -574,7 +573,7 @@ fn kinds<T: WordStore>(dfa: &DFA<T>, id: StateID) -> [bool; 6]
     ]
 }
 
-/// Asserts that the calls of a copy with a row answer as those of its source.
+/// Asserts that calls that take a row return the same for a copy and its source.
 fn check_rows<T: WordStore>(rt: &impl Abort, source: &OwnedDFA, copy: &DFA<T>)
     requires same { copy.now ≡ source.now }
     requires sound { IsSoundLayout source.now }
@@ -600,7 +599,7 @@ fn check_rows<T: WordStore>(rt: &impl Abort, source: &OwnedDFA, copy: &DFA<T>)
     }
 }
 
-/// Asserts the same of the calls without a row.
+/// Asserts the same of calls that take no row.
 fn check_starts<T: WordStore>(rt: &impl Abort, source: &OwnedDFA, copy: &DFA<T>) {
     for mode in &modes() {
         let universal = source.universal_start_state(*mode);
@@ -619,7 +618,7 @@ fn check_starts<T: WordStore>(rt: &impl Abort, source: &OwnedDFA, copy: &DFA<T>)
     assert_eq!(rt; copy.memory_usage(), source.memory_usage());
 }
 
-/// Asserts the same of the searches.
+/// Asserts the same of searches.
 fn check_searches<T: WordStore>(
     rt: &impl Abort,
     alloc: Global,

@@ -1,4 +1,4 @@
-//! What no clause shows: that builds succeed, on small and on large inputs.
+//! Tests that determinizing succeeds, on small and on large inputs, and gives the table of the plain powerset states.
 
 mod build;
 mod slow;
@@ -12,7 +12,7 @@ use std::alloc::Global;
 use std::process::Abort;
 use std::test::Fail;
 
-/// One pattern, forward, with starts for all modes.
+/// One pattern, forward, with start states for all modes.
 const FORWARD: Case<'static> = Case {
     patterns: "a",
     kind: MatchKind::LeftmostFirst,
@@ -23,7 +23,7 @@ const FORWARD: Case<'static> = Case {
     byte_classes: true,
 };
 
-/// Compares the tables of some patterns, built in one way, with states that are stepped one by one.
+/// Compares the tables of some patterns, built with these settings, with states that are stepped one by one.
 fn compare(rt: &impl Abort, alloc: Global, way: &Case<'_>, texts: &[&str]) -> Result<(), Fail> {
     for patterns in texts {
         let case = Case {
@@ -93,7 +93,7 @@ fn starts_quit_bytes_and_classes(rt: HostRuntime) -> Result<(), Fail> {
     compare(&rt, rt.alloc(), &way, &["a ab"])
 }
 
-/// Whether a build is refused for this reason.
+/// The error of a build, if it fails.
 fn refused(alloc: Global, case: &Case<'_>, config: Config) -> Result<Option<BuildErrorKind>, Fail> {
     match determinized(alloc, case, config)? {
         Ok(_) => Ok(None),
@@ -121,7 +121,7 @@ fn limits_are_exact(rt: HostRuntime) -> Result<(), Fail> {
         Some(BuildErrorKind::DeterminizeExceededSizeLimit { limit: 71 })
     );
     assert!(rt; is_refused);
-    // a table without states passes no limit
+    // a table without states exceeds no limit
     let none = Case {
         patterns: "",
         ..FORWARD
@@ -192,7 +192,7 @@ fn a_thousand_literals(rt: HostRuntime) -> Result<(), Fail> {
     let Ok(dfa) = determinized(alloc, &case, Config::new())? else {
         return Err(Fail::from("refused"));
     };
-    // a state for each word of up to three digits, and one for each pattern that is told
+    // a state for each word of up to three digits, and one for each pattern that is reported
     assert_eq!(rt; dfa.state_len(), 2 + 1 + 10 + 100 + 1000 + 1000);
     Ok(())
 }

@@ -1,7 +1,7 @@
 //! Tests of tables: dense and sparse, put in order, minimized, determinized and built.
 //!
-//! They show what no contract says: that calls succeed on small and on large inputs, examples worked by hand, and how
-//! errors read.
+//! They test what no contract states: that calls succeed on small and on large inputs, examples worked by hand, and the
+//! texts of errors.
 #![tactic(auto)]
 
 #[cfg(test)]

@@ -1,4 +1,4 @@
-//! What no clause says: how many rows are left of tables worked by hand, and that calls succeed.
+//! Tests of minimizing: how many states are left of tables worked by hand, and that calls succeed.
 
 ghost use Rattle.std.specs.Prelude.{◌<◌};
 ghost use Rattle.rx_spec.specs.Tables.{IsSound};
@@ -15,8 +15,8 @@ use std::process::Abort;
 use std::test::Fail;
 use tables::{Case, labels, nexts, starts};
 
-/// The tables, each with how many rows are left of it. A byte up to `a` leads to the first row that is named, another
-/// byte to the second, and the end mark to the third.
+/// The tables, each with the number of rows that are left. A row gives the target of the bytes up to `a`, that of the
+/// other bytes, and that of end of input.
 const CASES: [(Case, usize); 8] = [
     // dead and quit alone
     (
@@ -28,7 +28,7 @@ const CASES: [(Case, usize); 8] = [
         },
         2,
     ),
-    // nothing to join: row 2 waits for an a, row 3 for another byte, and row 4 tells a match
+    // nothing to merge: row 2 waits for an a, row 3 for another byte, and row 4 is a match row
     (
         Case {
             rows: &[[3, 2, 0], [3, 4, 0], [3, 2, 0]],
@@ -38,7 +38,7 @@ const CASES: [(Case, usize); 8] = [
         },
         5,
     ),
-    // six match rows that lead to dead, with four lists
+    // six match rows that lead to dead, with four pattern lists
     (
         Case {
             rows: &[
@@ -65,7 +65,7 @@ const CASES: [(Case, usize); 8] = [
         },
         9,
     ),
-    // rows 3 and 4 lead to each other, as if they were dead, and anchored searches start there
+    // rows 3 and 4 lead to each other and never match, so they behave like dead; anchored searches start there
     (
         Case {
             rows: &[[3, 5, 4], [4, 3, 4], [4, 4, 3], [4, 3, 0]],
@@ -85,7 +85,7 @@ const CASES: [(Case, usize); 8] = [
         },
         4,
     ),
-    // starts in row 5, of which row 2 is a copy
+    // searches start in row 5, which behaves like row 2
     (
         Case {
             rows: &[[3, 2, 0], [4, 5, 0], [0, 0, 0], [3, 5, 0]],
@@ -95,7 +95,7 @@ const CASES: [(Case, usize); 8] = [
         },
         5,
     ),
-    // a copy of the start row that is no start row
+    // a copy of the start row in which no search starts
     (
         Case {
             rows: &[[3, 5, 0], [4, 2, 0], [0, 0, 0], [3, 2, 0]],
@@ -105,7 +105,7 @@ const CASES: [(Case, usize); 8] = [
         },
         5,
     ),
-    // a match row that is left for another with other patterns at the end mark alone
+    // only end of input leads from one match row to another with other patterns
     (
         Case {
             rows: &[[3, 4, 0], [3, 3, 5], [4, 4, 6], [0, 0, 0], [0, 0, 0]],
@@ -117,7 +117,7 @@ const CASES: [(Case, usize); 8] = [
     ),
 ];
 
-/// Asserts of a table that as few rows are left as can be, and that searches find in them what they found.
+/// Asserts that minimizing leaves as few rows as possible, and that the start rows behave as they did before.
 fn check(rt: &impl Abort, alloc: Global, case: &Case, left: usize) -> Result<(), Fail> {
     let mut dfa = case.table(alloc)?;
     let before = rows(alloc, &dfa)?;
@@ -166,8 +166,8 @@ fn few_rows(rt: HostRuntime) -> Result<(), Fail> {
     Ok(())
 }
 
-/// Rows of which each leads to the next on any byte, twice so many as are named, and last to a match row. Each of the
-/// second half behaves like one of the first half, if that is asked for.
+/// A chain of `2 * count` rows: each leads to the next on any byte, and the last to a match row. If `twice` is set,
+/// there are two chains to the match row, and each row of the second behaves like one of the first.
 fn chains(alloc: Global, count: usize, twice: bool) -> Result<Vec<[usize; 3]>, Fail>
     requires { count < 1000 }
 {
@@ -202,7 +202,7 @@ fn long_chains(rt: HostRuntime) -> Result<(), Fail> {
     Ok(())
 }
 
-/// Asserts of a table that it has these rows and takes so much memory.
+/// Asserts that a table has these rows and uses this much memory.
 fn check_same(
     rt: &impl Abort,
     alloc: Global,
@@ -221,7 +221,7 @@ fn check_same(
 }
 
 #[test]
-fn refused_calls(rt: HostRuntime) -> Result<(), Fail> {
+fn minimizing_succeeds_or_changes_nothing(rt: HostRuntime) -> Result<(), Fail> {
     let alloc = rt.alloc();
     let mut dfa = CASES[3].0.table(alloc)?;
     let before = rows(alloc, &dfa)?;
@@ -234,7 +234,7 @@ fn refused_calls(rt: HostRuntime) -> Result<(), Fail> {
 }
 
 #[test]
-fn refused_minimizers(rt: HostRuntime) -> Result<(), Fail> {
+fn a_minimizer_succeeds_or_changes_nothing(rt: HostRuntime) -> Result<(), Fail> {
     let alloc = rt.alloc();
     let mut dfa = CASES[3].0.table(alloc)?;
     let before = rows(alloc, &dfa)?;

@@ -1,4 +1,4 @@
-//! What no clause shows: tables worked by hand, and that calls succeed on small and on large inputs.
+//! Tests of the order of rows and of acceleration, on tables worked by hand and on a large one.
 
 ghost use Rattle.rx_spec.specs.Tables.{IsSound};
 ghost use Rattle.rx_search.specs.Starts.{IsId};
@@ -14,14 +14,14 @@ use std::process::Abort;
 use std::test::Fail;
 use tests_worked_tables::{id, table};
 
-/// What is special in a table: quit and the last special row, and the first and the last of the match rows, of the
-/// accelerated rows and of the start rows; and the patterns of the match rows.
+/// The special rows of a table: quit and the last special row, then the first and the last match row, accelerated row
+/// and start row. And the patterns of the match rows.
 type Order<'c> = ([[usize; 2]; 4], &'c [&'c [u32]]);
 
-/// A table to be made, and what is to come of it. Rows are named by their numbers.
+/// A table to build, and its special rows before and after it is accelerated. Rows are named by their numbers.
 #[derive(Clone, Copy, Debug)]
 struct Case<'c> {
-    /// Where a space, an `a`, and the other bytes lead, for each row behind quit.
+    /// The targets of a space, an `a`, and the other bytes, for each row after quit.
     rows: &'c [[usize; 3]],
     /// The patterns of the match rows.
     matches: &'c [(usize, &'c [u32])],
@@ -29,7 +29,7 @@ struct Case<'c> {
     start: usize,
     shuffled: Order<'c>,
     accelerated: Order<'c>,
-    /// What a search reads, and the patterns of the row to which each byte leads.
+    /// The bytes that a search reads, and the patterns of the row after each byte.
     walk: (&'c [u8], &'c [&'c [u32]]),
 }
 
@@ -40,12 +40,12 @@ const COLUMNS: [&[Unit]; 3] = [
     &[Unit::Byte(31), Unit::Byte(b'`'), Unit::Byte(255)],
 ];
 
-/// The patterns of even match rows and of odd ones, in the large table.
+/// The patterns of even and of odd match rows in the large table.
 const LISTS: [&[u32]; 2] = [&[0], &[1]];
 
 /// Tables worked by hand.
 const SMALL: [Case; 3] = [
-    // from each row many bytes lead elsewhere, so none is accelerated; match rows lie between others
+    // many bytes leave each row, so no row is accelerated; match rows lie between others
     Case {
         rows: &[[0, 3, 4], [0, 5, 2], [0, 2, 0], [0, 0, 6], [2, 3, 4]],
         matches: &[(3, &[1]), (5, &[0, 2])],
@@ -54,7 +54,7 @@ const SMALL: [Case; 3] = [
         accelerated: ([[1, 4], [2, 3], [0, 0], [4, 4]], &[&[1], &[0, 2]]),
         walk: (b"aax a ", &[&[1], &[0, 2], &[], &[], &[1], &[]]),
     },
-    // an `a` alone leads from the start row and from row 4 elsewhere, and match rows keep their places
+    // only an `a` leaves the start row and row 4, and match rows keep their places
     Case {
         rows: &[[2, 3, 2], [0, 4, 0], [4, 5, 4], [2, 0, 0]],
         matches: &[(3, &[0]), (5, &[1, 0])],
@@ -63,7 +63,7 @@ const SMALL: [Case; 3] = [
         accelerated: ([[1, 5], [2, 3], [4, 5], [5, 5]], &[&[0], &[1, 0]]),
         walk: (b"xaa a a", &[&[], &[0], &[], &[], &[1, 0], &[], &[0]]),
     },
-    // the first match row is accelerated and changes places with the second; a space leads from the start row elsewhere
+    // the first match row is accelerated and changes places with the second; a space leaves the start row
     Case {
         rows: &[[3, 4, 2], [3, 4, 3], [0, 5, 0], [5, 2, 5]],
         matches: &[(3, &[2]), (4, &[0, 1]), (5, &[1])],
@@ -74,7 +74,7 @@ const SMALL: [Case; 3] = [
     },
 ];
 
-/// Asserts what is special in a table. An `a` alone leads elsewhere from each accelerated row.
+/// Asserts the special rows of a table. Only an `a` leaves each accelerated row.
 fn check_order(rt: &impl Abort, alloc: Global, dfa: &OwnedDFA, order: &Order) -> Result<(), Fail>
     requires { IsSound (table_of dfa.now) }
 {
@@ -101,7 +101,7 @@ fn check_order(rt: &impl Abort, alloc: Global, dfa: &OwnedDFA, order: &Order) ->
     Ok(())
 }
 
-/// Whether a row tells these patterns.
+/// Whether a row has these patterns.
 fn tells(alloc: Global, dfa: &OwnedDFA, id: StateID, patterns: &[u32]) -> Result<bool, AllocError>
     requires sound { IsSound (table_of dfa.now) }
     requires is_id { IsId (ids_of dfa.now) id }
@@ -146,8 +146,8 @@ fn small_tables(rt: HostRuntime) -> Result<(), Fail> {
     Ok(())
 }
 
-/// An `a` leads from each row to the next, and other bytes leave even rows as they are. Every third row tells a
-/// pattern: 0 if it is even, and 1 if it is odd.
+/// An `a` leads from each row to the next. Other bytes lead even rows to themselves and odd rows to dead. Every third
+/// row is a match row: of pattern 0 if it is even, and of pattern 1 if it is odd.
 #[test]
 fn large_tables(rt: HostRuntime) -> Result<(), Fail> {
     let alloc = rt.alloc();

@@ -1,4 +1,4 @@
-//! What no clause says: renamings worked by hand, and that each call succeeds.
+//! Tests of renaming rows, worked by hand.
 
 ghost use Rattle.std.specs.Prelude.{◌≡◌, ◌<◌, length};
 
@@ -10,8 +10,8 @@ use std::alloc::{AllocError, Global};
 use std::process::Abort;
 use std::test::Fail;
 
-/// Exchanges rows of a table, two at a time, and renames it. Its rows lead to 0, 1, 1 and 2, and searches start at 3
-/// and 1.
+/// Exchanges rows of a table, two at a time, and renames them. The table's rows lead to 0, 1, 1 and 2, and its searches
+/// start at 3 and 1.
 fn renamed(
     rt: &impl Abort,
     alloc: Global,

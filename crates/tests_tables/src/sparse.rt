@@ -1,4 +1,4 @@
-//! What no clause shows: that tables are made sparse, byte by byte, and that they are searched as the dense ones are.
+//! Tests that dense tables are made sparse, byte by byte, and that searches of both report the same.
 
 ghost use Rattle.std.specs.Prelude.{IfOk};
 ghost use Rattle.rx_spec.specs.Queries.{IsFit};
@@ -23,7 +23,7 @@ use std::process::Abort;
 use std::test::Fail;
 use tests_notation::read;
 
-/// The dense table of some patterns: forward, or in reverse with all matches told.
+/// The dense table of some patterns: forward, or in reverse for all matches.
 fn build(alloc: Global, patterns: &str, reverse: bool) -> Result<OwnedDFA, Fail>
     ensures { IfOk result (λ dfa. IsInOrder dfa) }
 {
@@ -36,7 +36,7 @@ fn build(alloc: Global, patterns: &str, reverse: bool) -> Result<OwnedDFA, Fail>
     Ok(builder.build_many(alloc, &exprs)?)
 }
 
-/// The sparse table of a dense one that was built, and how many rows it has.
+/// The sparse table of a dense one that was built, and the number of its rows.
 fn made_sparse(alloc: Global, dense: &OwnedDFA) -> Result<(DFA<Vec<u8>>, usize), Fail>
     requires { IsInOrder dense.now }
     ensures { IfOk result (λ x. IsSoundLayout x.0.layout) }
@@ -46,7 +46,7 @@ fn made_sparse(alloc: Global, dense: &OwnedDFA) -> Result<(DFA<Vec<u8>>, usize),
     Ok((dense.to_sparse(alloc)?, rows))
 }
 
-/// The eight ids of special rows.
+/// The eight special ids.
 fn ids(special: &Special) -> [u32; 8] {
     [
         special.max.as_u32(),
@@ -60,12 +60,11 @@ fn ids(special: &Special) -> [u32; 8] {
     ]
 }
 
-/// A row by hand: its ranges, where the end mark leads, its patterns and its needles.
+/// A row worked by hand: its ranges, the target of end of input, its patterns and its needles.
 type Row = (&'static [(u8, u8, u32)], u32, &'static [u32], &'static [u8]);
 
-/// The rows of `abc`, whose classes are the bytes before `a`, `a`, `b`, `c`, and the bytes after it. Row 2 is the
-/// match.
-/// From row 3, 5, 7 and 9 on `abc` is looked for anywhere, and from row 4, 6, 8 and 10 on right there.
+/// The rows of `abc`. The classes are the bytes before `a`, `a`, `b`, `c`, and the bytes after it. Row 2 is the match
+/// row. Rows 3, 5, 7 and 9 search for `abc` unanchored, and rows 4, 6, 8 and 10 anchored.
 const ABC_ROWS: [Row; 11] = [
     (&[], 0, &[], &[]),
     (&[], 0, &[], &[]),
@@ -94,7 +93,7 @@ fn add_word(bytes: &mut Vec<u8>, word: u32) -> Result<(), AllocError> {
     bytes.extend_from_slice(&word.to_le_bytes())
 }
 
-/// The bytes of rows, number by number. None has more than a few ranges, patterns or needles.
+/// The bytes of rows, number by number. No row has more than a few ranges, patterns or needles.
 fn bytes_of(alloc: Global, rows: &[Row]) -> Result<Vec<u8>, AllocError> {
     let mut bytes = Vec::new(alloc);
     for (ranges, eoi, patterns, needles) in rows {
@@ -151,7 +150,7 @@ fn the_table_of_abc_is_the_one_by_hand(rt: HostRuntime) -> Result<(), Fail> {
     Ok(())
 }
 
-/// What a forward search, one in reverse, and two calls of an overlapping one tell.
+/// The results of a forward search, a reverse search, and two calls of an overlapping search.
 fn told<A: Automaton>(alloc: Global, dfa: &A, text: &[u8]) -> Result<String, Fail>
     requires { A.IsSound dfa.now }
 {
@@ -166,7 +165,7 @@ fn told<A: Automaton>(alloc: Global, dfa: &A, text: &[u8]) -> Result<String, Fai
     Ok(format!(in alloc; "{forward:?} {reverse:?} {first:?} {one:?} {second:?} {other:?}")?)
 }
 
-/// The dense table of some patterns, of which all matches are told.
+/// The dense table of some patterns, for all matches.
 fn build_all(alloc: Global, patterns: &str) -> Result<OwnedDFA, Fail>
     ensures { IfOk result (λ dfa. IsInOrder dfa) }
 {
@@ -176,7 +175,7 @@ fn build_all(alloc: Global, patterns: &str) -> Result<OwnedDFA, Fail>
     Ok(builder.build_many(alloc, &exprs)?)
 }
 
-/// The next match that an overlapping search tells: its pattern and where it ends.
+/// The next match of an overlapping search: its pattern and its end.
 fn next_told<A: Automaton>(
     dfa: &A,
     input: &Input<'_>,
@@ -195,7 +194,7 @@ fn next_told<A: Automaton>(
     )
 }
 
-/// What four calls of a forward overlapping search tell.
+/// The results of four calls of a forward overlapping search.
 fn four_told<A: Automaton>(dfa: &A, text: &[u8]) -> Result<[Option<(u32, usize)>; 4], MatchError>
     requires { A.IsSound dfa.now }
 {
@@ -226,7 +225,7 @@ fn overlapping_searches_tell_sam_and_then_samwise(rt: HostRuntime) -> Result<(),
     Ok(())
 }
 
-/// A table tells of each text what its sparse one tells, also lent and copied.
+/// Asserts that a sparse table reports the same as its dense table in each text, also if it is borrowed or copied.
 fn check(rt: &impl Abort, alloc: Global, patterns: &str, reverse: bool) -> Result<(), Fail> {
     let dense = build(alloc, patterns, reverse)?;
     let (sparse, _) = made_sparse(alloc, &dense)?;
@@ -276,7 +275,7 @@ fn sparse_tables_are_searched_as_dense_ones(rt: HostRuntime) -> Result<(), Fail>
     Ok(())
 }
 
-/// The sparse table of `abc` with starts of a kind.
+/// The sparse table of `abc` with start states of a kind.
 fn with_starts(alloc: Global, kind: StartKind, minimize: bool) -> Result<DFA<Vec<u8>>, Fail> {
     let exprs = read(alloc, "abc")?;
     let mut builder = Builder::new();
@@ -305,7 +304,7 @@ fn starts_that_are_left_out_are_dead(rt: HostRuntime) -> Result<(), Fail> {
     Ok(())
 }
 
-/// What a counted search from a text's start tells, and its ticks.
+/// The result of a counted search from the start of a text, and its ticks.
 fn counted<A: Automaton>(dfa: &A, text: &[u8]) -> Result<(Option<HalfMatch>, u64), MatchError>
     requires { A.IsSound dfa.now }
 {
@@ -319,7 +318,7 @@ fn counted<A: Automaton>(dfa: &A, text: &[u8]) -> Result<(Option<HalfMatch>, u64
 #[test]
 fn sparse_tables_skip_as_dense_ones(rt: HostRuntime) -> Result<(), Fail> {
     let alloc = rt.alloc();
-    // A byte is read from the start row, `x` leaves its row, and so does the unit past the span.
+    // Three steps: a byte is read from the start row, `x` leaves that row, and so does the unit after the span.
     let dense = build(alloc, "[^x] {0,}", false)?;
     let (sparse, _) = made_sparse(alloc, &dense)?;
     let want = HalfMatch::new(PatternID::new(0)?, 3);
@@ -329,7 +328,7 @@ fn sparse_tables_skip_as_dense_ones(rt: HostRuntime) -> Result<(), Fail> {
     Ok(())
 }
 
-/// The dense table in reverse of `\b[0-9]+\b`, where the words are of Unicode, so that it quits at bytes from 0x80 on.
+/// The reverse dense table of `\b[0-9]+\b` with Unicode word boundaries. It quits at bytes from 0x80 on.
 fn build_number(alloc: Global) -> Result<OwnedDFA, Fail>
     ensures { IfOk result (λ dfa. IsInOrder dfa) }
 {
@@ -340,7 +339,7 @@ fn build_number(alloc: Global) -> Result<OwnedDFA, Fail>
     Ok(builder.build_many(alloc, &exprs)?)
 }
 
-/// Compares the errors of a forward search and of one in reverse over a span.
+/// Compares the errors of a forward and a reverse search over a span.
 fn check_errors<A: Automaton>(
     rt: &impl Abort,
     alloc: Global,

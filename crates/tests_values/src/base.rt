@@ -1,5 +1,5 @@
-//! What no clause shows: the tables of assertions, ids, classes and searches worked by hand, and that each
-//! call does what its name says.
+//! Tests of assertions, ids, byte classes, sets and searches, worked by hand, and that each call does what its name
+//! says.
 
 mod assertions;
 mod classes;
@@ -15,7 +15,7 @@ use std::alloc::{AllocError, Global};
 use std::process::Abort;
 use std::test::Fail;
 
-/// The number of a row's id, or the one that was refused.
+/// The number of a state's id, or the number that was rejected.
 fn state_number(n: usize) -> Result<usize, u64> {
     match StateID::new(n) {
         Ok(id) => Ok(id.as_usize()),
@@ -23,7 +23,7 @@ fn state_number(n: usize) -> Result<usize, u64> {
     }
 }
 
-/// The number of a pattern's id, or the one that was refused.
+/// The number of a pattern's id, or the number that was rejected.
 fn pattern_number(n: usize) -> Result<usize, u64> {
     match PatternID::new(n) {
         Ok(id) => Ok(id.as_usize()),
@@ -62,13 +62,13 @@ fn look_sets_hold_what_was_put_in(rt: HostRuntime) {
     assert!(rt; !ends.contains_word_unicode() && ends == LookSet::default().insert(Look::End));
 }
 
-/// Adds a pattern, and says whether it is new.
+/// Adds a pattern and returns whether it is new.
 fn insert(rt: &impl Abort, set: &mut PatternSet, pattern: usize) -> bool {
     assert!(rt; pattern < set.capacity() && pattern < 1000000);
     set.insert(PatternID::must(pattern))
 }
 
-/// Adds patterns to an empty set, each of which is new or not, and compares how many it has then.
+/// Adds patterns to an empty set. Checks for each whether it is new, and at the end how many the set has.
 fn set_of(
     rt: &impl Abort,
     alloc: Global,
@@ -148,7 +148,7 @@ fn a_start_kind_has_its_modes(rt: HostRuntime) {
     }
 }
 
-/// The bytes beside a span from which a search reads forward and in reverse.
+/// The bytes beside a span that decide the start states of a forward search and of a reverse search.
 fn beside(input: &Input<'_>) -> (Option<u8>, Option<u8>) {
     (
         Config::from_input_forward(input).get_look_behind(),

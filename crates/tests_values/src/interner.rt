@@ -1,4 +1,4 @@
-//! Lists that are numbered and found again.
+//! Tests that lists are numbered and found again.
 
 use rx_interner::{Interned, Interner};
 use std::test::Fail;

@@ -1,7 +1,7 @@
-//! Tests of values below the tables: bytes, ids, sets, fields, lists and partitions.
+//! Tests of the values below the tables: bytes, ids, sets, fields, lists and partitions.
 //!
-//! They show what no contract says: that calls succeed on small and on large inputs, examples worked by hand, and how
-//! errors read.
+//! They test what no contract states: that calls succeed on small and on large inputs, examples worked by hand, and the
+//! texts of errors.
 #![tactic(auto)]
 
 #[cfg(test)]

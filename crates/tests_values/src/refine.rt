@@ -1,7 +1,7 @@
-//! What no clause says: worked tables, and that a call has an answer. Each answer is compared with that
-//! of the plain refinement, and the steps with the limit.
+//! Tests of the refinement on tables worked by hand, all small tables, and random ones. Each result is compared with a
+//! plain refinement, and the number of steps with its limit.
 //!
-//! What a refinement asks of a table is asserted of each, so tables can come from anywhere.
+//! The tests assert the requirements of the refinement for each table, so a table can come from anywhere.
 
 mod plain;
 
@@ -15,7 +15,7 @@ use std::alloc::{AllocError, Global};
 use std::process::Abort;
 use std::test::Fail;
 
-/// A table: how many units there are, for each row the next row at each unit, and the rows' labels.
+/// A table: the number of units, the next row of each row for each unit, and the label of each row.
 #[derive(Clone, Copy)]
 struct Table<'a> {
     units: usize,
@@ -35,7 +35,7 @@ fn are_below(numbers: &[u32], bound: usize) -> bool
     true
 }
 
-/// The blocks of a table, and how many steps they took.
+/// The block of each row, and the number of steps.
 fn refined(
     alloc: Global,
     incoming: &Incoming<Tally>,
@@ -52,8 +52,8 @@ fn refined(
     Ok((blocks, steps.count()))
 }
 
-/// The blocks, each named by its first row, and how many steps they took. They are those of the plain
-/// refinement, and the steps are within the limit.
+/// The block of each row, named by its first row, and the number of steps. Asserts that the blocks are those of the
+/// plain refinement and that the steps are within the limit.
 fn compared(rt: &impl Abort, alloc: Global, table: Table<'_>) -> Result<(Vec<u32>, u64), Fail> {
     let Table {
         units,
@@ -76,8 +76,8 @@ fn compared(rt: &impl Abort, alloc: Global, table: Table<'_>) -> Result<(Vec<u32
     Ok((named, steps))
 }
 
-/// The greatest block. The blocks and the steps are the same where the rows stand one behind the other, and
-/// where they are so far apart and hold identifiers.
+/// The greatest block number. Asserts that blocks and steps are the same for rows without gaps and for the same rows as
+/// ids, `1 << stride2` entries apart.
 fn compared_in_place(
     rt: &impl Abort,
     alloc: Global,
@@ -104,8 +104,7 @@ fn compared_in_place(
     Ok(told.0.iter().max().copied())
 }
 
-/// The table with rows `stride` entries apart and identifiers of rows. The entries behind those of the units
-/// are no identifiers.
+/// The table as ids, with rows `stride` entries apart. The entries after the units of a row aren't ids.
 fn padded(
     alloc: Global,
     rows: usize,
@@ -131,7 +130,7 @@ fn padded(
     Ok(table)
 }
 
-/// For each row the first row with its number.
+/// For each row, the first row with its number.
 fn named_by_first(alloc: Global, numbers: &[u32]) -> Result<Vec<u32>, Fail> {
     let mut named = Vec::with_capacity(alloc, numbers.len())?;
     for number in numbers {
@@ -154,7 +153,7 @@ fn digits(alloc: Global, code: u64, base: u32, count: usize) -> Result<Vec<u32>,
     Ok(digits)
 }
 
-/// Worked tables, the last of which has no rows, no blocks and no steps.
+/// Tables worked by hand. The last one has no rows, so no blocks and no steps.
 #[test]
 fn worked_tables(rt: HostRuntime) -> Result<(), Fail> {
     let rows: &[(usize, &[u32], &[u32], &[u32], u64)] = &[
@@ -182,8 +181,8 @@ fn worked_tables(rt: HostRuntime) -> Result<(), Fail> {
     Ok(())
 }
 
-/// Every table of up to three rows and two units and of four rows and one unit, and one in 97 of four rows
-/// and two units. Blocks of so few rows are taken one by one.
+/// Every table of up to three rows and two units, every one of four rows and one unit, and one in 97 of four rows and
+/// two units. With so few rows, the refinement processes blocks one by one.
 #[test]
 fn small_tables(rt: HostRuntime) -> Result<(), Fail> {
     let shapes: &[(u32, usize, u64, u64, u64)] = &[
@@ -213,7 +212,7 @@ fn small_tables(rt: HostRuntime) -> Result<(), Fail> {
     Ok(())
 }
 
-/// Compares so many tables with these labels, whose codes are so far apart.
+/// Compares this many tables with these labels. The code of a table is `step` more than that of the one before.
 fn compare_labelled(
     rt: &impl Abort,
     alloc: Global,
@@ -267,8 +266,8 @@ fn random_numbers(
     Ok(numbers)
 }
 
-/// A table in which each class of a smaller table has several rows: row `class + classes * copy` leads
-/// to some row of the class to which the class leads.
+/// A table in which each class of a smaller table has several rows: row `class + classes * copy` leads to some row of
+/// the class that the class leads to.
 fn copied(
     alloc: Global,
     seed: &mut u64,
@@ -288,7 +287,7 @@ fn copied(
     Ok(rows)
 }
 
-/// The labels of such a table's rows.
+/// The labels of the rows of such a table.
 fn copied_labels(alloc: Global, copies: u32, labels: &[u32]) -> Result<Vec<u32>, AllocError> {
     let mut rows = Vec::new(alloc);
     for _ in 0..copies {
@@ -297,7 +296,7 @@ fn copied_labels(alloc: Global, copies: u32, labels: &[u32]) -> Result<Vec<u32>,
     Ok(rows)
 }
 
-/// Compares a random table, and one in which each of its rows has several copies.
+/// Compares a random table, and a table in which each of its rows has several copies.
 fn compare_copies(
     rt: &impl Abort,
     alloc: Global,
@@ -348,7 +347,7 @@ fn tables_with_copies(rt: HostRuntime) -> Result<(), Fail> {
     Ok(())
 }
 
-/// Random tables of some hundred rows. Their blocks are taken at once, as long as many rows wait.
+/// Random tables of some hundred rows. The refinement processes many blocks at once while many rows wait.
 #[test]
 fn large_random_tables(rt: HostRuntime) -> Result<(), Fail> {
     let mut seed = 11;
@@ -362,7 +361,7 @@ fn large_random_tables(rt: HostRuntime) -> Result<(), Fail> {
     Ok(())
 }
 
-/// The rows of a chain: each leads to the one behind it, and the last one to itself.
+/// The rows of a chain: each leads to the next one, and the last one to itself.
 fn chain_rows(alloc: Global, rows: u32) -> Result<Vec<u32>, AllocError> {
     let mut next = Vec::with_capacity(alloc, rows as usize)?;
     for row in 0..rows {
@@ -380,8 +379,8 @@ fn last_labelled(alloc: Global, rows: u32) -> Result<Vec<u32>, AllocError> {
     Ok(labels)
 }
 
-/// In a chain the rounds are as many as the rows. Behind the first its blocks are taken one by one. The rows
-/// of a long chain are all apart too.
+/// A chain needs as many rounds as it has rows. After the first round, the refinement processes its blocks one by one.
+/// The rows of a long chain are all in different blocks too.
 #[test]
 fn chains(rt: HostRuntime) -> Result<(), Fail> {
     let alloc = rt.alloc();
@@ -419,7 +418,7 @@ fn chains(rt: HostRuntime) -> Result<(), Fail> {
     Ok(())
 }
 
-/// Tables are read where they lie, with no, some and much room behind the units of a row.
+/// Tables of ids are read in place, with no gap, a small one and a large one after the units of a row.
 #[test]
 fn tables_in_place(rt: HostRuntime) -> Result<(), Fail> {
     let rows: &[(usize, usize, &[u32], &[u32])] = &[

@@ -1,4 +1,5 @@
-//! What no clause shows: the bytes and the texts themselves, and that each call succeeds.
+//! Tests of reading and writing numbers, labels, byte orders and versions: the bytes, the texts of errors, and that
+//! calls succeed.
 
 ghost use Rattle.std.specs.Prelude.{◌≡◌, ◌≤◌, length};
 ghost use Rattle.rx_wire.specs.Heads.{IsLabel};
@@ -14,7 +15,7 @@ use std::alloc::Global;
 use std::process::Abort;
 use std::test::Fail;
 
-/// What a reader answers: a number and its size, or the text of an error.
+/// The result of a read: a number and its size, or the text of an error.
 type Answer = Result<(u128, usize), &'static str>;
 
 const SHORT: Answer = Err("buffer is too small to read a");
@@ -27,10 +28,10 @@ const PATTERN: Answer = Err(
     "failed to read pattern ID for a: 2147483647 is above the greatest id, 2147483646",
 );
 
-/// Bytes, and a number that they begin with, little endian and big endian. It is refused where they are too few.
+/// Bytes that readers take a number from, in either order. A reader rejects a prefix that is too short.
 const SIXTEEN: [u8; 17] = [1, 2, 3, 4, 5, 6, 7, 8, 9, 10, 11, 12, 13, 14, 15, 16, 17];
 
-/// That a reader answers so.
+/// Asserts the result of a read.
 fn check(
     rt: &impl Abort,
     alloc: Global,
@@ -215,7 +216,7 @@ fn orders_and_versions(rt: HostRuntime) -> Result<(), Fail> {
         "endianness mismatch: expected 0xFEFF but got 0x1020304. (Are you trying to load an object \
                      serialized with a different endianness?)",
     );
-    // the order is told as 0 or 1 here
+    // 0 stands for little endian and 1 for big endian
     let words: &[(&[u8], Answer, Answer)] = &[
         (&[0xFF, 0xFE, 0], short, short),
         (&[0xFF, 0xFE, 0, 0, 1], Ok((0xFEFF, 4)), Ok((0, 4))),
@@ -272,7 +273,7 @@ fn orders_and_versions(rt: HostRuntime) -> Result<(), Fail> {
     Ok(())
 }
 
-/// That numbers are written in an order as the front of 18 bytes, and that the others stay.
+/// Asserts that numbers are written into the first of 18 bytes, and that the other bytes stay as they are.
 fn check_numbers<E: Endian>(rt: &impl Abort, two: &[u8], four: &[u8], sixteen: &[u8]) {
     let mut dst = [9; 18];
     E::write_u16(0x0102, &mut dst);
@@ -283,7 +284,7 @@ fn check_numbers<E: Endian>(rt: &impl Abort, two: &[u8], four: &[u8], sixteen: &
     assert!(rt; &dst[..16] == sixteen && dst[16..].iter().all(|byte| *byte == 9));
 }
 
-/// That the words of order and version are written into four bytes or more, and not into three.
+/// Asserts that the words for order and version are written into four bytes or more, and not into three.
 fn check_words<E: Endian>(
     rt: &impl Abort,
     alloc: Global,
@@ -313,7 +314,7 @@ fn check_words<E: Endian>(
     Ok(())
 }
 
-/// That a writer is refused with a text.
+/// Asserts that a writer returns an error with this text.
 fn check_refused(
     rt: &impl Abort,
     alloc: Global,
@@ -342,7 +343,7 @@ fn numbers_are_written_in_either_order(rt: HostRuntime) -> Result<(), Fail> {
     Ok(())
 }
 
-/// That a label is written into as many bytes as it takes, and not into fewer, and that it is read again.
+/// Asserts that a label is written if all its bytes fit, and not if one is missing, and that it can be read again.
 fn check_label(rt: &impl Abort, alloc: Global, label: &'static str, size: usize) -> Result<(), Fail>
     requires { IsLabel label.now }
 {

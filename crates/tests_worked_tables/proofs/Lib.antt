@@ -1,6 +1,6 @@
--- tables that may be put in order
+-- tables whose rows can be put in order
 pub mod Routed
--- lists of patterns, one row's after another
+-- pattern lists, one after another
 pub mod MatchLists
--- tables that are made
+-- tables that are built
 pub mod Ready

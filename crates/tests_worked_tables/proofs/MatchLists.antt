@@ -1,4 +1,4 @@
--- Lists of patterns, one row's after another.
+-- Pattern lists, one after another.
 use Rattle.std.proofs.Common.{◌≡◌, ℕ, ◌*◌, ◌<◌, Bool, true, false, cond, All, Vec, Global, Some, length}
 use Rattle.std.proofs.Common.{refl, ap, sym, ◌∙◌, subst, inl, inr, ◌⊎◌, ⊎_elim, arith}
 use Rattle.std.specs.BTreeMap.{Updates, get, is_at}
@@ -13,7 +13,7 @@ use Rattle.rx_dense.proofs.Rows.{id-times}
 use Rattle.rx_order.specs.Ordering.{AreMatches, Matches}
 use Rattle.rx_order.proofs.MarkedRows.{is_at_number}
 
--- the patterns of a row behind quit in which no search starts
+-- the patterns of a row after quit in which no search starts
 pub record IsMatch (l : Layout) (id : ℕ) (patterns : Vec ℕ Global) : Type 0 where
   pub row : IsRowId l id
   pub behind : stride l < id
@@ -21,7 +21,7 @@ pub record IsMatch (l : Layout) (id : ℕ) (patterns : Vec ℕ Global) : Type 0 
   pub some : 0 < length patterns.items
   pub below : All (λ k. k < l.pattern_len) patterns.items
 
--- a row behind quit has a greater id
+-- a row after quit has a greater id
 pub behind_quit : (l : Layout) (id row : ℕ) → IsId (ids_of l) id → row_of (ids_of l) id ≡ row → 1 < row → stride l < id
 behind_quit l id row is own high =
     let fits = row_fits 1 (stride l) row (stride l) high (omega arith) in

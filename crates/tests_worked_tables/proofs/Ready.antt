@@ -1,4 +1,4 @@
--- Tables that are made.
+-- Tables that are built.
 use Rattle.std.proofs.Common.{◌≤◌, length, ap, ◌∙◌}
 use Rattle.std.specs.List.{concat}
 use Rattle.rx_spec.specs.Causes.{max_id}

@@ -1,4 +1,4 @@
--- Tables that may be put in order.
+-- Tables whose rows can be put in order.
 use Rattle.std.proofs.Common.{◌≡◌, ◌≢◌, ℕ, ◌+◌, ◌*◌, ◌/◌, ◌<◌, ◌≤◌, ◌==◌, Bool, if◌then◌else◌}
 use Rattle.std.proofs.Common.{List, length, map, ap, sym, ◌∙◌, subst, ⊎_elim, arith, slice_index}
 use Rattle.std.specs.List.{list_any}
@@ -12,11 +12,11 @@ use Rattle.rx_dense.specs.Layouts.{Layout, AreStarts, context_number, machine_of
 use Rattle.rx_dense.proofs.Rows.{quotient, start_is_row, start_within}
 use Rattle.rx_order.proofs.MarkedRows.{Entry}
 
--- whether some entry that is left has an id
+-- whether some remaining entry has an id
 abbrev pub any_left : ℕ → List Entry → Bool
 any_left id entries = list_any (λ x. x == id) (map (λ (e : Entry). e.0) entries)
 
--- no search starts in quit where no start entry has its id
+-- no search starts in quit if no start entry has its id
 pub starts_elsewhere : (l : Layout) → AreStarts l → (quit : ℕ) → quit ≡ 1 * stride l → (Contains l.starts quit → ⊥)
     → (mode : Anchored) (start : Start) → (machine_of l).entry mode start ≢ 1
 starts_elsewhere l starts quit is none mode start e =

@@ -1,2 +1,2 @@
--- what is known of the tables that are made
+-- what holds for the tables that are worked by hand
 pub mod Tables

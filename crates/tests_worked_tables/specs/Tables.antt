@@ -1,9 +1,9 @@
--- What is known of the tables that are made by hand.
+-- What holds for the tables that are worked by hand.
 use Rattle.std.specs.Prelude.{◌≡◌, None, [], length}
 use Rattle.rx_dense.specs.Layouts.{Layout}
 use Rattle.rx_order.specs.RowOrder.{AreJoined, IsInOrder, IsPlain}
 
--- no accelerated rows, no universal starts, and start entries for two modes alone
+-- no accelerated rows, no universal starts, and start entries for two modes only
 pub record IsBare (l : Layout) : Type 0 where
   pub accels : l.accels ≡ []
   pub universal_unanchored : l.universal_unanchored ≡ None
@@ -11,7 +11,7 @@ pub record IsBare (l : Layout) : Type 0 where
   pub pattern_starts : l.pattern_starts ≡ None
   pub starts : length l.starts ≡ 12
 
--- what is asked of a table that is accelerated or minimized
+-- what acceleration and minimizing require of a table
 pub record IsReady (l : Layout) : Type 0 where
   pub in_order : IsInOrder l
   pub plain : IsPlain l

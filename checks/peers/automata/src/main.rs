@@ -1,5 +1,5 @@
-//! All matches of a text by dense tables of regex-automata, of the patterns of a file joined by `|`:
-//! `automata PATTERNS TEXT ROUNDS`. Prints how many there are, and the least time of a round in microseconds.
+//! Finds all matches in a text by dense tables of regex-automata. The patterns are the lines of a file, joined by `|`:
+//! `automata PATTERNS TEXT ROUNDS`. Prints the number of matches, and the least time of a round in microseconds.
 use regex_automata::RegexBuilder;
 use std::time::Instant;
 

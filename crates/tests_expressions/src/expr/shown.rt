@@ -1,4 +1,4 @@
-//! Expressions and NFAs as lines of text, so that tables of tests can give them.
+//! Expressions and NFAs as lines of text, for tables of tests.
 
 use rx_base::{ByteSet, PatternID};
 use rx_expr::thompson::{NFA, Row};
@@ -7,7 +7,7 @@ use std::alloc::{AllocError, Global};
 use std::test::Fail;
 use tests_notation::word_of;
 
-/// Writes an expression in the words in which it is read, after what its kinds tell.
+/// Writes an expression in the notation in which it is read, from what its kind gives.
 fn write_expr(expr: &Expr, out: &mut String) -> Result<(), AllocError> {
     match expr.kind() {
         ExprKind::Empty => out.push('_'),
@@ -50,7 +50,7 @@ fn write_bounds(
     }
 }
 
-/// Writes a byte as it is, and several in brackets.
+/// Writes a single byte as it is, and several in brackets.
 fn write_class(set: ByteSet, out: &mut String) -> Result<(), AllocError> {
     let (low, high) = set.halves();
     if low.count_ones() + high.count_ones() == 1 {
@@ -61,7 +61,7 @@ fn write_class(set: ByteSet, out: &mut String) -> Result<(), AllocError> {
     out.push(']')
 }
 
-/// Writes the letters of a set, and of the set of every byte a point.
+/// Writes the letters of a set, or a point for the set of every byte.
 fn write_set(set: ByteSet, out: &mut String) -> Result<(), AllocError> {
     if set == ByteSet::full() {
         return out.push('.');
@@ -80,7 +80,7 @@ pub(super) fn shown(alloc: Global, expr: &Expr) -> Result<String, AllocError> {
     Ok(out)
 }
 
-/// Writes a row with the rows where it goes on: a Split between them, a match behind a `#`.
+/// Writes a state with its next states: the two of a Split with a bar between them, the pattern of a match after `#`.
 fn write_row(row: &Row, out: &mut String) -> Result<(), AllocError> {
     match *row {
         Row::Bytes { set, next } => {
@@ -94,7 +94,8 @@ fn write_row(row: &Row, out: &mut String) -> Result<(), AllocError> {
     }
 }
 
-/// The rows in order, both starts with whether they are always one, and the starts of the patterns.
+/// The states in order, then the anchored and the unanchored start state, then the start states of the patterns. The
+/// sign between the first two is `=` if they are always one, and `:` otherwise.
 pub(super) fn shown_nfa(alloc: Global, nfa: &NFA) -> Result<String, Fail> {
     let mut out = String::new(alloc);
     for row in nfa.rows() {

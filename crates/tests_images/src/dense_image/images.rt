@@ -1,9 +1,9 @@
-//! Images, put together number by number.
+//! Images of dense tables, put together number by number.
 
 use rx_wire::Order;
 use std::alloc::{AllocError, Global};
 
-/// The place of an image that is put together.
+/// An image that is being put together.
 #[derive(Drop)]
 pub struct Maker {
     order: Order,
@@ -41,14 +41,14 @@ impl Maker {
         Ok(())
     }
 
-    /// Label, order, version, unused space and flags: matches of no byte are none, and UTF-8 isn't asked for.
+    /// Label, order, version, unused space and flags: no empty match, and no UTF-8 mode.
     fn head(&mut self, flags: u32) -> Result<(), AllocError> {
         self.bytes
             .extend_from_slice(b"rust-regex-automata-dfa-dense\0\0\0")?;
         self.words(&[0xFEFF, 2, 0, flags])
     }
 
-    /// The contexts that bytes give: a line feed, a carriage return, the bytes of words, and all others.
+    /// The start contexts of bytes: a line feed, a carriage return, the bytes of words, and all others.
     fn contexts(&mut self) -> Result<(), AllocError> {
         self.byte(0, 10)?;
         self.byte(3, 1)?;
@@ -65,7 +65,7 @@ impl Maker {
         self.byte(0, 133)
     }
 
-    /// A start table of both modes, each of which starts at one row.
+    /// A start table of both modes. Each mode has one start row in every context.
     fn starts(&mut self, unanchored: u32, anchored: u32) -> Result<(), AllocError> {
         self.word(0)?;
         self.contexts()?;
@@ -80,7 +80,7 @@ impl Maker {
     }
 }
 
-/// The table of no pattern: two rows, which lead to dead.
+/// The table of no pattern: two rows that lead to dead.
 pub fn never_match(alloc: Global, order: Order) -> Result<Vec<u8>, AllocError> {
     let mut image = Maker::new(alloc, order);
     image.head(0)?;
@@ -95,8 +95,8 @@ pub fn never_match(alloc: Global, order: Order) -> Result<Vec<u8>, AllocError> {
     Ok(image.bytes)
 }
 
-/// Rows of six columns in eight words: the bytes before `a`, `a`, `b`, `c`, the bytes after it, and the end mark. Row 2
-/// is the match. From row 3, 5, 7 and 9 on `abc` is looked for anywhere, and from row 4, 6, 8 and 10 on right there.
+/// Rows of six columns in eight words: the bytes before `a`, `a`, `b`, `c`, the bytes after it, and end of input. Row 2
+/// is the match row. Rows 3, 5, 7 and 9 search for `abc` unanchored, and rows 4, 6, 8 and 10 anchored.
 const ABC_ROWS: [[u32; 6]; 11] = [
     [0, 0, 0, 0, 0, 0],
     [0, 0, 0, 0, 0, 0],
@@ -111,7 +111,7 @@ const ABC_ROWS: [[u32; 6]; 11] = [
     [16, 16, 16, 16, 16, 16],
 ];
 
-/// The table of `abc`.
+/// The image of the table of `abc`.
 pub fn abc(alloc: Global, order: Order) -> Result<Vec<u8>, AllocError> {
     let mut image = Maker::new(alloc, order);
     image.head(0)?;

@@ -1,4 +1,4 @@
-//! What the reader of pairs answers, and searches by the tables that it returns.
+//! The result of reading a pair, and searches by the tables that were read.
 
 ghost use Rattle.rx_dense.specs.Facts.{IsSoundLayout as IsSoundDense};
 ghost use Rattle.rx_sparse.specs.Facts.{IsSoundLayout as IsSoundSparse};
@@ -13,8 +13,8 @@ use std::alloc::Global;
 use std::process::Abort;
 use std::test::Fail;
 
-/// How many rows the forward table has, and the table in reverse, how many patterns there are, and how long the image
-/// is; or the kind of error.
+/// The numbers of states of the forward table and of the reverse table, the number of patterns and the length of the
+/// image, or the kind of the error.
 pub type Answer = Result<(usize, usize, usize, usize), &'static str>;
 
 pub fn kind_name(error: &DeserializeError) -> &'static str {
@@ -40,7 +40,7 @@ fn answer(alloc: Global, bytes: &[u8]) -> Answer {
     }
 }
 
-/// How many rows the forward table has, and the table in reverse, and how many patterns there are.
+/// The numbers of states of the forward table and of the reverse table, and the number of patterns.
 fn lens(tables: &Tables<'_>) -> (usize, usize, usize) {
     match tables {
         Tables::Dense(forward, reverse) => {
@@ -60,7 +60,7 @@ fn lens(tables: &Tables<'_>) -> (usize, usize, usize) {
     }
 }
 
-/// Asserts what the reader answers to some bytes. A failure names the case by its number.
+/// Asserts the result of reading some bytes. A failure names the case by its number.
 pub fn check(rt: &impl Abort, alloc: Global, bytes: &[u8], wanted: Answer, case: usize) {
     match (answer(alloc, bytes), wanted) {
         (Ok(found), Ok(wanted)) => {

@@ -71,7 +71,7 @@ pub fn sparse_image<T: ByteStore>(
     Ok(sparse_pair(alloc, order, forward, reverse)?)
 }
 
-/// The image of two tables: a forward one of some patterns, and one in reverse of as many other patterns.
+/// The image of two tables: a forward one of some patterns, and a reverse one of as many other patterns.
 pub fn joined(
     alloc: Global,
     form: Form,

@@ -13,7 +13,7 @@ use std::alloc::Global;
 use std::process::Abort;
 use std::test::Fail;
 
-/// How many rows and patterns a table has, and how long its image is; or the kind of error.
+/// The numbers of states and patterns of a table and the length of its image, or the kind of the error.
 type Answer = Result<(usize, usize, usize), &'static str>;
 
 fn dense_answer(alloc: Global, bytes: &[u8]) -> Answer {
@@ -37,7 +37,7 @@ fn answer(alloc: Global, form: Form, bytes: &[u8]) -> Answer {
     }
 }
 
-/// Asserts what the reader of a form answers to an image from a place on. The reader of the other form must refuse the
+/// Asserts the result of a form's reader on an image from an offset on. The reader of the other form must reject the
 /// label.
 fn check_place(
     rt: &impl Abort,
@@ -55,8 +55,8 @@ fn check_place(
     }
 }
 
-/// Asserts that the reader of one table reads each table of the pair of `a` where its image begins, and refuses the
-/// label of the pair. `lens` are the lengths of both images.
+/// Asserts that the reader of one table reads each table of the pair of `a` from the offset of its image, and rejects
+/// the label of the pair. `lens` has the lengths of both images.
 pub fn check_tables(
     rt: &impl Abort,
     alloc: Global,

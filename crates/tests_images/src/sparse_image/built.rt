@@ -1,4 +1,4 @@
-//! Sparse tables that are built, as images.
+//! Tests that sparse tables that were built are written and read.
 
 use rx_base::Input;
 use rx_expr::{Expr, ExprError};
@@ -11,8 +11,8 @@ use std::alloc::Global;
 use std::process::Abort;
 use std::test::Fail;
 
-/// Writes a table in both orders, reads it, writes it again, and searches what was read: so many rows and bytes, and
-/// the pattern and the end of a match in `foo12345`, or none.
+/// Writes a table in both orders, reads it, writes it again, and searches what was read. The image has this many rows
+/// and bytes, and `wanted` has the pattern and the end of the match in `foo12345`, if there is one.
 fn check(
     rt: &impl Abort,
     alloc: Global,

@@ -1,9 +1,9 @@
-//! Images, put together number by number.
+//! Images of sparse tables, put together number by number.
 
 use rx_wire::Order;
 use std::alloc::{AllocError, Global};
 
-/// The place of an image that is put together.
+/// An image that is being put together.
 #[derive(Drop)]
 pub struct Maker {
     order: Order,
@@ -48,14 +48,14 @@ impl Maker {
         Ok(())
     }
 
-    /// Label, order, version, unused space and flags: matches of no byte are none, and UTF-8 isn't asked for.
+    /// Label, order, version, unused space and flags: no empty match, and no UTF-8 mode.
     fn head(&mut self, flags: u32) -> Result<(), AllocError> {
         self.bytes
             .extend_from_slice(b"rust-regex-automata-dfa-sparse\0\0")?;
         self.words(&[0xFEFF, 2, 0, flags])
     }
 
-    /// A row: the ranges with where they lead, where the end mark leads, the patterns and the needles.
+    /// A row: its ranges and their targets, the target of end of input, the patterns and the needles.
     fn row(&mut self, row: &Row) -> Result<(), AllocError> {
         let (ranges, eoi, patterns, needles) = row;
         let count = ranges.len().min(256) as u16 + 1;
@@ -80,7 +80,7 @@ impl Maker {
         self.bytes.extend_from_slice(*needles)
     }
 
-    /// The contexts that bytes give: a line feed, a carriage return, the bytes of words, and all others.
+    /// The start contexts of bytes: a line feed, a carriage return, the bytes of words, and all others.
     fn contexts(&mut self) -> Result<(), AllocError> {
         self.byte(0, 10)?;
         self.byte(3, 1)?;
@@ -97,7 +97,7 @@ impl Maker {
         self.byte(0, 133)
     }
 
-    /// A start table of both modes, each of which starts at one row.
+    /// A start table of both modes. Each mode has one start row in every context.
     fn starts(&mut self, unanchored: u32, anchored: u32) -> Result<(), AllocError> {
         self.word(0)?;
         self.contexts()?;
@@ -112,7 +112,7 @@ impl Maker {
     }
 }
 
-/// The table of no pattern: two rows, which lead to dead.
+/// The table of no pattern: two rows that lead to dead.
 pub fn never_match(alloc: Global, order: Order) -> Result<Vec<u8>, AllocError> {
     let mut image = Maker::new(alloc, order);
     image.head(0)?;
@@ -127,11 +127,11 @@ pub fn never_match(alloc: Global, order: Order) -> Result<Vec<u8>, AllocError> {
     Ok(image.bytes)
 }
 
-/// A row by hand: its ranges, where the end mark leads, its patterns and its needles.
+/// A row worked by hand: its ranges, the target of end of input, its patterns and its needles.
 type Row = (&'static [(u8, u8, u32)], u32, &'static [u32], &'static [u8]);
 
-/// The rows of `abc`, whose classes are the bytes before `a`, `a`, `b`, `c`, and the bytes after it. Row 2 is the
-/// match. From row 3, 5, 7 and 9 on `abc` is looked for anywhere, and from row 4, 6, 8 and 10 on right there.
+/// The rows of `abc`. The classes are the bytes before `a`, `a`, `b`, `c`, and the bytes after it. Row 2 is the match
+/// row. Rows 3, 5, 7 and 9 search for `abc` unanchored, and rows 4, 6, 8 and 10 anchored.
 const ABC_ROWS: [Row; 11] = [
     (&[], 0, &[], &[]),
     (&[], 0, &[], &[]),
@@ -156,7 +156,7 @@ const ABC_ROWS: [Row; 11] = [
     (&[(0, 4, 18)], 18, &[], &[]),
 ];
 
-/// The table of `abc`.
+/// The image of the table of `abc`.
 pub fn abc(alloc: Global, order: Order) -> Result<Vec<u8>, AllocError> {
     let mut image = Maker::new(alloc, order);
     image.head(0)?;

@@ -1,4 +1,4 @@
-//! Sparse tables of dense images, as they were written and altered.
+//! Tests of sparse tables made from dense images, as written and altered.
 
 ghost use Rattle.std.specs.Prelude.{IfOk};
 ghost use Rattle.rx_dense.specs.Facts.{IsSoundLayout as IsSoundDense};
@@ -18,23 +18,24 @@ use std::alloc::{AllocError, Global};
 use std::process::Abort;
 use std::test::Fail;
 
-/// Words that are changed in the little endian dense image of `abc`, of 1088 bytes. With each line it is read.
+/// Changes of words in the little endian dense image of `abc`, which has 1088 bytes. The reader accepts each changed
+/// image.
 const ALTERED: [&[(usize, u32)]; 10] = [
     &[],
-    // from a start row `a` leads to the match row, or to quit
+    // `a` leads from a start row to the match row, or to quit
     &[(412, 16)],
     &[(412, 8)],
     // another row is the universal start, or none is
     &[(932, 16)],
     &[(932, 0xFFFFFFFF)],
-    // a search starts elsewhere, or at dead
+    // another start row, or dead as one
     &[(940, 56)],
     &[(964, 0)],
-    // starts for no pattern
+    // start states for no pattern
     &[(928, 0)],
-    // start rows are marked, of which one is accelerated
+    // a range of start rows, one of them accelerated
     &[(1012, 32), (1036, 24), (1040, 32)],
-    // the row behind `abc` leads to itself, and so it looks for no match
+    // the row after `abc` leads to itself, so it searches for no match
     &[(600, 72)],
 ];
 
@@ -64,7 +65,7 @@ fn made_sparse(alloc: Global, dense: &OwnedDFA) -> Result<DFA<Vec<u8>>, Fail>
     Ok(dense.to_sparse(alloc)?)
 }
 
-/// What a forward search, one in reverse, and an overlapping one tell.
+/// The results of a forward search, a reverse search, and an overlapping search.
 fn told<A: Automaton>(alloc: Global, dfa: &A, text: &[u8]) -> Result<String, AllocError>
     requires { A.IsSound dfa.now }
 {
@@ -81,7 +82,7 @@ fn told<A: Automaton>(alloc: Global, dfa: &A, text: &[u8]) -> Result<String, All
 
 const TEXTS: [&[u8]; 5] = [b"", b"xa", b"abab", b"xyzabcxyz", b"\xFFabc"];
 
-/// Writes the sparse table of a dense one in both orders, reads it, and searches it and what was read.
+/// Writes the sparse table of a dense one in both orders, reads it, and compares searches of the three.
 fn check(rt: &impl Abort, alloc: Global, dense: &OwnedDFA, at: usize) -> Result<(), Fail>
     requires whole { IsWhole dense.now }
     requires sound { IsSoundDense dense.now }

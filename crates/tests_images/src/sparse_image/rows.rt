@@ -1,4 +1,4 @@
-//! Rows and starts of a table, decoded where they lie, in either order.
+//! Tests that rows and start rows are decoded in the image, in either byte order.
 
 ghost use Rattle.rx_search.specs.Starts.{IsId};
 ghost use Rattle.rx_sparse.specs.Layouts.{ids_of};
@@ -13,7 +13,7 @@ use std::alloc::{AllocError, Global};
 use std::process::Abort;
 use std::test::Fail;
 
-/// A row as text: its ranges and where they lead, where the end mark leads, its patterns and its needles.
+/// A row as text: its ranges and their targets, the target of end of input, its patterns and its needles.
 fn row_text<T: ByteStore>(alloc: Global, dfa: &DFA<T>, id: StateID) -> Result<String, AllocError>
     requires { IsId (ids_of dfa.now.layout) id }
 {
@@ -57,7 +57,7 @@ fn starts_text<T: ByteStore>(alloc: Global, dfa: &DFA<T>) -> Result<String, Allo
     Ok(text)
 }
 
-/// Compares a table with the one of `abc`: its order, its starts, and the rows that `abcx` leads through.
+/// Compares a table with that of `abc`: its order, its start rows, and the rows that a search of `abcx` visits.
 fn check<T: ByteStore>(
     rt: &impl Abort,
     alloc: Global,

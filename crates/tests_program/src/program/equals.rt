@@ -1,4 +1,4 @@
-//! Comparisons of the tables of two images, one behind the other.
+//! Tests of `equal`, which compares the tables of two images, one after the other.
 
 use crate::program::images::{BUFFER, GENERIC, LABEL, altered, image as image_of, joined};
 use crate::program::{Outside, answer, compare, whole};
@@ -15,7 +15,7 @@ fn forward(rt: &impl Abort, alloc: Global, script: &str) -> Result<Vec<u8>, Fail
     image_of(rt, alloc, "fwd", "le", script)
 }
 
-/// Compares what `equal` answers to two images of forms, of which the first takes all of its part.
+/// Compares the reply of `equal` to two images of these forms. The first image fills its part.
 fn equal(
     rt: &impl Abort,
     alloc: Global,
@@ -33,9 +33,9 @@ const LETTER: &str = "expr lit 61";
 
 const SPARSE_LETTER: &str = "plan sparse/expr lit 61";
 
-/// Two scripts with the forms of their tables, and the answer to the images of their forward tables.
+/// The forms of two tables, their scripts, and the reply to the images of their forward tables.
 ///
-/// A row of one table is reached with one row of a table that has the same rows. The quit row is reached by quit bytes.
+/// If two tables have the same rows, each row that is reached makes one pair. Quit bytes reach the quit row.
 const EQUAL: &[([&str; 2], &str, &str, &str)] = &[
     (
         ["dense", "dense"],
@@ -58,7 +58,7 @@ const EQUAL: &[([&str; 2], &str, &str, &str)] = &[
         "equal 10\n",
     ),
     (["dense", "sparse"], "", "plan sparse", "equal 1\n"),
-    // starts for each pattern, and quit bytes
+    // start states for each pattern, and quit bytes
     (
         ["dense", "sparse"],
         "plan patterns/expr lit 61",
@@ -98,16 +98,16 @@ fn an_order_of_bytes_parts_nothing(rt: HostRuntime) -> Result<(), Fail> {
     )
 }
 
-/// Two scripts, and the start of the line that tells how their tables differ.
+/// Two scripts, and the beginning of the line that names a difference of their tables.
 const APART: &[(&str, &str, &str)] = &[
     (LETTER, "expr lit 62", "differ no "),
     // another pattern
     (LETTER, "expr lit 62/expr lit 61", "differ no "),
-    // one has starts that the other hasn't
+    // one has start states that the other lacks
     (LETTER, "plan start=unanchored/expr lit 61", "differ yes "),
     (LETTER, "plan start=anchored/expr lit 61", "differ no "),
     (LETTER, "plan patterns/expr lit 61", "differ p0 "),
-    // a byte beside a start that a table gives up at, and one that is read
+    // a byte before the start that is a quit byte of one table only
     (LETTER, "plan quit=00/expr lit 61", "differ no 00 -\n"),
     (LETTER, "plan quit=7a/expr lit 61", "differ no 7a -\n"),
 ];
@@ -139,7 +139,7 @@ fn digit(byte: u8) -> u8 {
     }
 }
 
-/// The byte that two digits name.
+/// The byte that two hexadecimal digits name.
 fn byte_of(text: &str) -> Option<u8> {
     match text.as_bytes() {
         [high, low] => Some((digit(*high) << 4) | digit(*low)),
@@ -217,10 +217,10 @@ fn tables_with_too_many_patterns_are_not_compared(rt: HostRuntime) -> Result<(),
     equal(&rt, alloc, &forms, &[&many, &image], (2, "wide\n"))?;
     equal(&rt, alloc, &forms, &[&image, &many], (2, "wide\n"))?;
     equal(&rt, alloc, &forms, &[&many, &many], (2, "wide\n"))?;
-    // an image that is refused is told before
+    // a rejected image is reported first
     equal(&rt, alloc, &forms, &[&many, b"x"], (1, GENERIC))?;
     equal(&rt, alloc, &forms, &[b"x", &many], (1, GENERIC))?;
-    // numbers of patterns alone part nothing
+    // tables that differ only in their number of patterns are equal
     let some = with_patterns(alloc, &image, 300)?;
     equal(&rt, alloc, &forms, &[&some, &image], (0, "equal 10\n"))
 }
@@ -239,7 +239,7 @@ fn what_is_no_image_of_its_form_is_refused(rt: HostRuntime) -> Result<(), Fail> 
         (["dense", "dense"], [&dense, b""], GENERIC),
         (["dense", "dense"], [cut, &dense], BUFFER),
         (["dense", "dense"], [&dense, cut], BUFFER),
-        // the first image's error is told
+        // the error of the first image is reported
         (["dense", "dense"], [cut, b"x"], BUFFER),
         (["dense", "dense"], [b"x", cut], GENERIC),
         (["sparse", "dense"], [&dense, cut], LABEL),
@@ -251,7 +251,7 @@ fn what_is_no_image_of_its_form_is_refused(rt: HostRuntime) -> Result<(), Fail> 
 }
 
 #[test]
-fn the_first_image_has_so_many_bytes(rt: HostRuntime) -> Result<(), Fail> {
+fn the_length_says_where_the_second_image_begins(rt: HostRuntime) -> Result<(), Fail> {
     let alloc = rt.alloc();
     let image = forward(&rt, alloc, LETTER)?;
     assert!(&rt; image.len() == 848);
@@ -308,7 +308,7 @@ fn reads_and_writes_of_a_comparison_may_fail(rt: HostRuntime) -> Result<(), Fail
     let image = forward(&rt, alloc, LETTER)?;
     let bytes = joined(alloc, &[&image, &image])?;
     assert!(&rt; bytes.len() == 1696);
-    // reads of 1000 bytes: two give bytes, and the third gives the end
+    // with reads of 1000 bytes, two give bytes, and the third gives the end
     let table: &[(&[u64], &[u64], usize, u8, &str)] = &[
         (&[1], &[], 100, 5, ""),
         (&[2], &[], 100, 5, ""),

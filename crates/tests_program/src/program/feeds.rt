@@ -1,14 +1,14 @@
-//! Texts that are fed in pieces, after an image.
+//! Tests of `feed`: texts that come in pieces after an image.
 
 use crate::program::{Outside, answer, compare, lines, whole};
 use std::alloc::Global;
 use std::process::Abort;
 use std::test::Fail;
 
-/// How many bytes the image part has in the words of these tests.
+/// The length of the image part in these tests.
 const IMAGE_LEN: usize = 4096;
 
-/// The image of a table of a script, with so many zeros behind it that the image part is full.
+/// The image of a script's table, with zeros after it that fill the image part.
 fn image_part(rt: &impl Abort, alloc: Global, table: &str, script: &str) -> Result<Vec<u8>, Fail> {
     let script = lines(alloc, script)?;
     let (status, image) = answer(rt, alloc, &["image", table, "le"], whole(&script))?;
@@ -36,7 +36,7 @@ const SECOND: &[&str] = &["feed", "dense", "p1", "4096"];
 
 const LINES: &str = "match 0 3\nmatch 0 7\nend 7\n";
 
-/// A table and a script; the words, and the text behind the image; the status and the lines.
+/// A table and a script; the words and the text after the image; the status and the lines.
 const FED: &[(&str, &str, &[&str], &str, u8, &str)] = &[
     ("all", SAM, DENSE, "Samwise", 0, LINES),
     ("all", SPARSE_SAM, SPARSE, "Samwise", 0, LINES),

@@ -1,11 +1,11 @@
-//! Images of one table: which bytes the program writes, and which error refuses an altered or cut image.
+//! Tests of images of one table: their bytes, and the error of an altered or cut image.
 
 use crate::program::{answer, compare, lines, whole};
 use std::alloc::{AllocError, Global};
 use std::process::Abort;
 use std::test::Fail;
 
-/// Asserts the status and the line that `image` answers to a script.
+/// Asserts the status and the line of `image` for a script.
 pub(crate) fn image_answers(
     rt: &impl Abort,
     alloc: Global,
@@ -34,7 +34,7 @@ pub(crate) fn image(
     Ok(image)
 }
 
-/// Asserts the line that `check` answers to an image. The status is 0 if it accepts the image, and 1 if it refuses it.
+/// Asserts the reply of `check` to an image. The status is 0 if it accepts the image, and 1 if it rejects it.
 pub(crate) fn check(
     rt: &impl Abort,
     alloc: Global,
@@ -60,10 +60,10 @@ const STATE: &str = "refused state\n";
 
 const PATTERN: &str = "refused pattern\n";
 
-/// The answer to the image of the forward table of `abc`.
+/// The reply to the image of the forward table of `abc`.
 const ABC: &str = "ok 11 1 1088\n";
 
-/// The answer to the image of the sparse table.
+/// The reply to the image of the sparse table.
 const SPARSE_ABC: &str = "ok 11 1 914\n";
 
 fn abc(rt: &impl Abort, alloc: Global, order: &str) -> Result<Vec<u8>, Fail> {
@@ -74,9 +74,9 @@ fn sparse_abc(rt: &impl Abort, alloc: Global, order: &str) -> Result<Vec<u8>, Fa
     image(rt, alloc, "fwd", order, "plan sparse/expr lit 616263")
 }
 
-/// A direction, a form and a script; the length of the image in either order, and the answer to it. In a sparse image
-/// 704 bytes aren't rows, and the starts of a pattern take 24 more. The dead row and the quit row have 9 bytes each,
-/// and a match row has 17. Any other row has 9 bytes, 6 more for each range, and 1 more for a needle.
+/// A direction, a form and a script, the length of the image in either order, and the reply to it. In a sparse image
+/// 704 bytes aren't rows, and the start states of a pattern take 24 more. The dead row and the quit row have 9 bytes
+/// each, and a match row has 17. Any other row has 9 bytes, 6 more for each range, and 1 more for a needle.
 const WRITTEN: &[(&str, &str, &str, usize, &str)] = &[
     ("fwd", "dense", "", 732, "ok 2 0 732\n"),
     ("rev", "dense", "", 732, "ok 2 0 732\n"),
@@ -184,7 +184,7 @@ fn images_are_written_and_accepted(rt: HostRuntime) -> Result<(), Fail> {
     Ok(())
 }
 
-/// Ids as numbers of four bytes in big endian.
+/// Ids as big endian numbers of four bytes.
 fn special_ids(alloc: Global, ids: &[u8]) -> Result<Vec<u8>, AllocError> {
     let mut bytes = Vec::new(alloc);
     for id in ids {
@@ -210,7 +210,7 @@ fn ids_of_special_rows_are_those_of_abc(rt: HostRuntime) -> Result<(), Fail> {
 #[test]
 fn scripts_without_an_image_are_told(rt: HostRuntime) -> Result<(), Fail> {
     let table: &[(&str, &str, u8, &str)] = &[
-        // the forward table alone is refused, or the one in reverse too
+        // the limit stops only the forward table, or the reverse table too
         ("fwd", "plan dfa=163/expr lit 61", 3, "build dfa-size\n"),
         ("fwd", "plan dfa=132/expr lit 61", 3, "build dfa-size\n"),
         ("rev", "plan dfa=131/expr lit 61", 3, "build dfa-size\n"),
@@ -243,10 +243,10 @@ fn scripts_without_an_image_are_told(rt: HostRuntime) -> Result<(), Fail> {
     Ok(())
 }
 
-/// Changes of the little endian image of `abc`, each a place and the bytes that are put there, and the answer.
+/// Changes of the little endian image of `abc`, each an offset and the bytes to write there, and the reply.
 const ALTERED: &[(usize, &[u8], &str)] = &[
     (0, &[0x78], LABEL),
-    // what is free
+    // accepted changes
     (30, &[0xff], ABC),
     (31, &[0xff], ABC),
     (40, &[7, 0, 0, 0], ABC),
@@ -294,10 +294,10 @@ const ALTERED: &[(usize, &[u8], &str)] = &[
     (1012, &[0xff, 0xff, 0xff, 0x7f], STATE),
 ];
 
-/// Changes of the little endian sparse image of `abc`, and the answer. The rows begin at byte 316.
+/// Changes of the little endian sparse image of `abc`, and the reply. The rows begin at byte 316.
 const ALTERED_SPARSE: &[(usize, &[u8], &str)] = &[
     (0, &[0x78], LABEL),
-    // what is free: padding, unused space, flags, a range that leads to dead
+    // accepted: padding, unused space, flags, a range that leads to dead
     (31, &[0xff], SPARSE_ABC),
     (40, &[7, 0, 0, 0], SPARSE_ABC),
     (44, &[8, 0, 0, 0], SPARSE_ABC),
@@ -306,7 +306,7 @@ const ALTERED_SPARSE: &[(usize, &[u8], &str)] = &[
     (32, &[0, 0, 0, 0], ENDIAN),
     (32, &[4, 3, 2, 1], ENDIAN),
     (36, &[3, 0, 0, 0], VERSION),
-    // how many rows and patterns there are, and how long the rows are
+    // numbers of rows and patterns, and the length of the rows
     (48, &[10, 0, 0, 0], GENERIC),
     (52, &[0, 0, 0, 0], GENERIC),
     (312, &[0xff, 0xff, 0xff, 0xff], BUFFER),
@@ -314,7 +314,7 @@ const ALTERED_SPARSE: &[(usize, &[u8], &str)] = &[
     (316, &[0, 0], GENERIC),
     (316, &[2, 1], GENERIC),
     (316, &[1, 0x80], GENERIC),
-    // where dead leads, and its needles: only to itself, and none
+    // dead leads only to itself and has no needles
     (320, &[9, 0, 0, 0], GENERIC),
     (320, &[210, 0, 0, 0], GENERIC),
     (320, &[211, 0, 0, 0], BUFFER),
@@ -325,14 +325,14 @@ const ALTERED_SPARSE: &[(usize, &[u8], &str)] = &[
     (342, &[0, 0, 0, 0], GENERIC),
     (346, &[0xff, 0xff, 0xff, 0x7f], PATTERN),
     (346, &[1, 0, 0, 0], GENERIC),
-    // the ranges of the start row, where they lead, and its needle
+    // the ranges of the start row, their targets, and its needle
     (357, &[0x01], GENERIC),
     (358, &[0x05], GENERIC),
     (361, &[36, 0, 0, 0], GENERIC),
     (378, &[98], GENERIC),
 ];
 
-/// A copy of an image with other bytes at a place.
+/// A copy of an image with other bytes at an offset.
 pub(crate) fn altered(
     alloc: Global,
     image: &[u8],
@@ -346,7 +346,7 @@ pub(crate) fn altered(
     Ok(altered)
 }
 
-/// Asserts the answer to each change of an image.
+/// Asserts the reply to each change of an image.
 fn check_altered(
     rt: &impl Abort,
     alloc: Global,
@@ -365,14 +365,14 @@ fn altered_images_fail_the_first_test_that_they_break(rt: HostRuntime) -> Result
     let alloc = rt.alloc();
     let image = abc(&rt, alloc, "le")?;
     check_altered(&rt, alloc, "dense", &image, ALTERED)?;
-    // no search begins at a match row
+    // no search starts in a match row
     for start in 0..12 {
         let image = altered(alloc, &image, 940 + 4 * start, &[16, 0, 0, 0])?;
         check(&rt, alloc, "dense", &image, GENERIC)?;
     }
     let image = sparse_abc(&rt, alloc, "le")?;
     check_altered(&rt, alloc, "sparse", &image, ALTERED_SPARSE)?;
-    // none of the two orders
+    // neither of the two orders
     let order: &[(usize, &[u8], &str)] = &[(32, &[4, 3, 2, 1], ENDIAN)];
     check_altered(&rt, alloc, "dense", &abc(&rt, alloc, "be")?, order)?;
     check_altered(&rt, alloc, "sparse", &sparse_abc(&rt, alloc, "be")?, order)
@@ -387,7 +387,7 @@ pub(crate) fn joined(alloc: Global, pieces: &[&[u8]]) -> Result<Vec<u8>, AllocEr
     Ok(bytes)
 }
 
-/// Asserts the answer to every proper prefix of an image.
+/// Asserts the reply to every proper prefix of an image.
 fn check_cuts(rt: &impl Abort, alloc: Global, form: &str, image: &[u8]) -> Result<(), Fail> {
     for len in 0..image.len() {
         let kind = if len < 32 { GENERIC } else { BUFFER };
@@ -425,7 +425,7 @@ fn images_with_more_or_fewer_bytes_are_told(rt: HostRuntime) -> Result<(), Fail>
     let alloc = rt.alloc();
     let dense = abc(&rt, alloc, "le")?;
     let sparse = sparse_abc(&rt, alloc, "le")?;
-    // only before dense images zeros may stand
+    // zeros may stand only before dense images
     let rows: &[(&str, &Vec<u8>, usize, &[u8], &str)] = &[
         ("dense", &dense, 7, b"", "ok 11 1 1095\n"),
         ("dense", &dense, 8, b"", LABEL),
@@ -439,7 +439,7 @@ fn images_with_more_or_fewer_bytes_are_told(rt: HostRuntime) -> Result<(), Fail>
         let image = joined(alloc, &[before, image, after])?;
         check(&rt, alloc, form, &image, answer)?;
     }
-    // no row matches, although there is a pattern
+    // there is a pattern, but no row matches
     assert!(&rt; dense.len() == 1088);
     let (front, rest) = dense.as_slice().split_at(988);
     let none = joined(

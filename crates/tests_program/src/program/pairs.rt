@@ -1,5 +1,4 @@
-//! Images of pairs: how long they are, which error refuses an altered, cut or spliced image, and what searches by an
-//! image answer.
+//! Tests of images of pairs: their lengths, the error of an altered, cut or spliced image, and searches by an image.
 
 use crate::program::images::{
     BUFFER, GENERIC, LABEL, altered, check, image as image_of, image_answers, joined,
@@ -14,12 +13,12 @@ fn pair(rt: &impl Abort, alloc: Global, order: &str, script: &str) -> Result<Vec
     image_of(rt, alloc, "pair", order, script)
 }
 
-/// Asserts what `check pair` answers.
+/// Asserts the reply of `check pair`.
 fn check_pair(rt: &impl Abort, alloc: Global, image: &[u8], want: &str) -> Result<(), Fail> {
     check(rt, alloc, "pair", image, want)
 }
 
-/// A script, the length of the image in either order, and the answer to it.
+/// A script, the length of the image in either order, and the reply to it.
 const WRITTEN: &[(&str, usize, &str)] = &[
     ("", 1504, "ok 2 2 0 1504\n"),
     ("plan sparse", 1484, "ok 2 2 0 1484\n"),
@@ -88,8 +87,8 @@ fn cut_images_of_pairs_are_refused(rt: HostRuntime) -> Result<(), Fail> {
     check_pair(&rt, alloc, &single, LABEL)
 }
 
-/// Changes of the little endian image of `a`, each a place and the bytes that are put there, and the answer. The image
-/// of the forward table begins at byte 40, and that of the table in reverse at byte 888.
+/// Changes of the little endian image of `a`, each an offset and the bytes to write there, and the reply. The image of
+/// the forward table begins at byte 40, and that of the reverse table at byte 888.
 const ALTERED: &[(usize, &[u8], &str)] = &[
     (0, &[0x78], LABEL),
     (27, &[0xff], "ok 7 5 1 1696\n"),
@@ -131,7 +130,7 @@ fn spliced(
     Ok(joined(alloc, &[head, &forward, &reverse])?)
 }
 
-/// A forward table, a table in reverse, and the answer to the head of a pair with both images.
+/// A forward table, a reverse table, and the reply to the head of a pair with both images.
 const SPLICED: &[(Table, Table, &str)] = &[
     (LETTER, LETTER, "ok 7 5 1 1696\n"),
     // another order
@@ -157,7 +156,7 @@ fn tables_of_a_pair_have_one_order_and_as_many_patterns(rt: HostRuntime) -> Resu
     Ok(())
 }
 
-/// Asserts what `search` answers to an image with a haystack after it. The words are the span and the mode.
+/// Asserts the reply of `search` to an image with a haystack after it. `words` has the span and the mode.
 fn search(
     rt: &impl Abort,
     alloc: Global,
@@ -172,7 +171,7 @@ fn search(
     compare(rt, alloc, &words, whole(&bytes), want)
 }
 
-/// A script, a span and a mode, a haystack, and the status and the line of the answer.
+/// A script, a span and a mode, a haystack, and the status and the line of the reply.
 type Searched = (
     &'static str,
     [&'static str; 3],
@@ -233,7 +232,7 @@ const SEARCHED: &[Searched] = &[
     ),
 ];
 
-/// Asserts the answer of a search by the image of a script in one order.
+/// Asserts the reply of a search by the image of a script in one order.
 fn search_in_order(
     rt: &impl Abort,
     alloc: Global,
@@ -245,7 +244,7 @@ fn search_in_order(
     search(rt, alloc, &row.1, &image, row.2, (row.3, row.4))
 }
 
-/// Asserts the answer of a search by the image of a script in either order.
+/// Asserts the reply of a search by the image of a script in both orders.
 fn search_in_orders(
     rt: &impl Abort,
     alloc: Global,
@@ -256,7 +255,7 @@ fn search_in_orders(
     search_in_order(rt, alloc, "be", script, row)
 }
 
-/// The script that asks for sparse tables too.
+/// The script, with the word `sparse` added to its plan.
 fn sparse(alloc: Global, script: &str) -> Result<String, AllocError> {
     match script.strip_prefix("plan ") {
         Some(rest) => format!(in alloc; "plan sparse {rest}"),
@@ -283,8 +282,8 @@ fn tables_of_different_patterns_mismatch(rt: HostRuntime) -> Result<(), Fail> {
     search(&rt, alloc, &["0", "2", "no"], &image, b"xa", want)
 }
 
-/// Asserts which error `search` answers if the image part has the given length. The span is wrong too, but the image is
-/// tested first.
+/// Asserts the error of `search` if the image part has the given length. The span is wrong too, but the image is
+/// checked first.
 fn refused(
     rt: &impl Abort,
     alloc: Global,

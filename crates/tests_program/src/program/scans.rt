@@ -1,4 +1,4 @@
-//! Tokens by images for all matches: what `image all` writes, and what `scan` tells of the text behind it.
+//! Tests of `image all` and of `scan`: the images, and the tokens of the text after an image.
 
 use crate::program::images::{
     BUFFER, GENERIC, LABEL, check, image as image_of, image_answers, joined,
@@ -13,7 +13,7 @@ fn all(rt: &impl Abort, alloc: Global, order: &str, script: &str) -> Result<Vec<
     image_of(rt, alloc, "all", order, script)
 }
 
-/// Compares what `scan` answers to an image and the text behind it.
+/// Compares the reply of `scan` to an image and the text after it.
 fn scan(
     rt: &impl Abort,
     alloc: Global,
@@ -26,7 +26,7 @@ fn scan(
     compare(rt, alloc, &["scan", form], whole(&bytes), want)
 }
 
-/// Compares what `scan` answers to a text by tables of some expressions, dense and sparse, in either order.
+/// Compares the reply of `scan` to a text by the tables of some expressions, dense and sparse, in either order.
 fn compare_scans(
     rt: &impl Abort,
     alloc: Global,
@@ -126,8 +126,8 @@ fn quit_bytes_and_unsupported_starts_end_the_tokens(rt: HostRuntime) -> Result<(
     Ok(())
 }
 
-/// Forms, scripts, the length of the image for all matches in either order, and what is answered to it. A match doesn't
-/// end the walk of `a`, so there are two rows more than in the image that tells the preferred match.
+/// Forms, scripts, the length of the image for all matches in either order, and the reply of `check`. A search for all
+/// matches goes on after a match of `a`, so there are two rows more than in the image for the preferred match.
 const WRITTEN: &[(&str, &str, usize, &str)] = &[
     ("dense", "", 732, "ok 2 0 732\n"),
     ("sparse", "plan sparse", 722, "ok 2 0 722\n"),
@@ -160,9 +160,9 @@ fn images_for_all_matches_are_written_and_accepted(rt: HostRuntime) -> Result<()
     Ok(())
 }
 
-/// The way that tables go before they are searched changes no image.
+/// The words `bytes` and `pair` of a plan change no image.
 #[test]
-fn images_for_all_matches_go_no_way(rt: HostRuntime) -> Result<(), Fail> {
+fn words_for_reading_tables_back_change_no_image(rt: HostRuntime) -> Result<(), Fail> {
     let alloc = rt.alloc();
     let direct = all(&rt, alloc, "le", WORDS)?;
     for plan in ["bytes", "pair"] {
@@ -174,7 +174,7 @@ fn images_for_all_matches_go_no_way(rt: HostRuntime) -> Result<(), Fail> {
 }
 
 #[test]
-fn only_causes_of_its_own_build_refuse_it(rt: HostRuntime) -> Result<(), Fail> {
+fn only_errors_of_its_own_build_are_reported(rt: HostRuntime) -> Result<(), Fail> {
     let table: &[(&str, u8, &str)] = &[
         ("plan dfa=131/expr lit 61", 3, "build dfa-size\n"),
         ("plan nfa=39/expr eps", 3, "build nfa\n"),

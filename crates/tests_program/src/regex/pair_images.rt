@@ -1,4 +1,5 @@
-//! Images of both tables of a plan: how long they are, what is found by what is read of them, and what refuses them.
+//! Tests of images of both tables of a plan: their lengths, searches by the tables that are read, and the errors of
+//! builds.
 
 use crate::regex::{Change, KINDS, plan_with, shown};
 use rx_base::Input;
@@ -10,8 +11,8 @@ use std::process::Abort;
 use std::test::Fail;
 use tests_notation::read;
 
-/// The lengths of a pair image and of what is read of it, and the matches by its tables in a haystack; or why the
-/// tables aren't built.
+/// The length of a pair image, the length that its reader returns, and the matches of its tables in a haystack. Or the
+/// error of the build.
 fn searched(
     alloc: Global,
     exprs: &[Expr],
@@ -36,7 +37,7 @@ fn searched(
     Ok(format!(in alloc; "{} {len} {matches}", image.len())?)
 }
 
-/// Compares what is told of the pair images of a plan in either order.
+/// Compares the results by the pair images of a plan in either order.
 fn compare(
     rt: &impl Abort,
     alloc: Global,
@@ -53,13 +54,13 @@ fn compare(
     Ok(())
 }
 
-/// The table passes its limit of 132 bytes.
+/// The error of a table that exceeds its limit of 132 bytes.
 const PAST_132: &str = "DFA exceeded size limit of 132 during determinization";
 
 /// The head has 40 bytes, and the images of both tables follow.
 #[test]
 fn the_tables_that_are_read_find_the_matches(rt: HostRuntime) -> Result<(), Fail> {
-    // patterns, changes and a haystack; what is told of dense images and of sparse ones
+    // patterns, changes and a haystack; the results by dense images and by sparse ones
     type Row = (
         &'static str,
         &'static [Change],

@@ -1,4 +1,4 @@
-//! Pairs of tables by settings: whole characters, marks and starts, and tables that don't belong together.
+//! Tests of the settings of pairs, and of tables that don't belong together.
 
 ghost use Rattle.std.specs.Prelude.{IfOk};
 ghost use Rattle.rx_dense.specs.Facts.{IsSoundLayout};
@@ -15,7 +15,7 @@ use std::process::Abort;
 use std::test::Fail;
 use tests_notation::read;
 
-/// All matches in a haystack as text, and the error that ended them.
+/// All matches in a haystack as text, and the error that ended the search, if there was one.
 fn matches<A: Automaton>(alloc: Global, regex: &Regex<A>, haystack: &[u8]) -> Result<String, Fail> {
     shown(alloc, regex.find_iter(&Input::new(haystack)))
 }
@@ -54,7 +54,7 @@ fn settings_hold_for_both_tables(rt: HostRuntime) -> Result<(), Fail> {
     let second = Anchored::Pattern(PatternID::new(1)?);
     let found = regex.find(&Input::new(b"ba").anchored(second))?;
     assert!(rt; found.is_some() && regex.is_match(&Input::new(b"xxb"))?);
-    // In reverse every search is anchored.
+    // in reverse, every search is anchored
     let backward = regex.reverse().try_search_rev(&Input::new(b"ba"));
     assert!(rt; backward.is_err());
     Ok(())
@@ -63,13 +63,13 @@ fn settings_hold_for_both_tables(rt: HostRuntime) -> Result<(), Fail> {
 /// A table of some patterns.
 #[derive(Clone, Copy)]
 enum Of {
-    /// Forward, with starts of both modes.
+    /// Forward, with start states for both modes.
     Forward(&'static str),
-    /// Forward, where searches begin anywhere.
+    /// Forward, with unanchored start states only.
     Anywhere(&'static str),
-    /// In reverse with all matches told, as a pair has it: searches are anchored.
+    /// In reverse, for all matches and with anchored start states only, as in a pair.
     Reverse(&'static str),
-    /// The same with starts of both modes.
+    /// The same with start states for both modes.
     ReverseOfBoth(&'static str),
 }
 
@@ -96,7 +96,7 @@ impl Of {
     }
 }
 
-/// What a pair tells of a text: a match, none, or the error, of halves that disagree both of them.
+/// The result of a search by a pair: a match, none, or the error. A mismatch shows both halves.
 fn told(
     alloc: Global,
     regex: &Regex<OwnedDFA>,
@@ -137,18 +137,17 @@ fn told(
     Ok(told)
 }
 
-/// Two tables, a text, whether the search is anchored, and what is told.
+/// Two tables, a text, whether the search is anchored, and its result.
 type Pair = (Of, Of, &'static str, bool, &'static str);
 
-/// The end of a forward match is kept where the match is empty, in an anchored search, and where the forward table
-/// always begins at the text's edge. Else a search of the second table in reverse, from that end, has to find the same
-/// pattern.
+/// A search keeps the end of a forward match if the match is empty, if the search is anchored, or if the forward table
+/// is always anchored. Otherwise a reverse search of the second table from that end must find the same pattern.
 const PAIRS: &[Pair] = &[
     (Forward("a"), Reverse("b"), "xa", false, "0 up to 2, none"),
     (Forward("a"), Reverse("b"), "ab", true, "0 0 1"),
     (Forward("^ a ."), Reverse("b"), "ab", false, "0 0 1"),
     (Forward("_"), Reverse("b"), "a", false, "0 0 0"),
-    // the roles of both tables swapped: the one in reverse is searched forward, and has anchored starts alone
+    // with swapped roles, the reverse table is searched forward, and it has only anchored start states
     (Reverse("b"), Forward("a"), "xa", false, "no No"),
     (Reverse("b"), Forward("a"), "ba", true, "0 0 1"),
     (Reverse("b"), Forward("a"), "xa", true, "none"),

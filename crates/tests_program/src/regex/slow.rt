@@ -1,5 +1,5 @@
-//! Matches by what expressions mean: for each position of a haystack the list of their ends from there, the preferred
-//! first. No automaton is made.
+//! Compares searches with what expressions mean: for each position of a haystack, the list of their ends from there,
+//! the preferred first. It builds no automaton.
 
 use crate::regex::{Asked, Mode, told};
 use rx_base::Look;
@@ -9,7 +9,7 @@ use std::alloc::{AllocError, Global};
 use std::test::Fail;
 use tests_notation::{read, read_one};
 
-/// The ends from each position, from 0 on.
+/// For each position from 0 on, the ends of a match that starts there.
 type Ends = Vec<Vec<usize>>;
 
 /// The ends from a position.
@@ -20,7 +20,7 @@ fn from_position(ends: &Ends, position: usize) -> &[usize] {
     }
 }
 
-/// Whether an assertion holds between two bytes, each of which may be absent.
+/// Whether an assertion holds between two bytes. Either may be absent.
 fn holds(look: Look, terminator: u8, before: Option<u8>, after: Option<u8>) -> bool {
     let is_word = |byte: Option<u8>| match byte {
         Some(byte) => byte.is_ascii_alphanumeric() || byte == b'_',
@@ -51,7 +51,7 @@ fn holds(look: Look, terminator: u8, before: Option<u8>, after: Option<u8>) -> b
     }
 }
 
-/// A haystack and the byte that ends its lines.
+/// A haystack and its line terminator.
 #[derive(Clone, Copy)]
 struct Text<'h> {
     haystack: &'h [u8],
@@ -118,7 +118,7 @@ fn alternated(alloc: Global, first: &Ends, second: &Ends) -> Result<Ends, AllocE
     Ok(ends)
 }
 
-/// Each position itself.
+/// Each position, with itself as its only end.
 fn positions(alloc: Global, count: usize) -> Result<Ends, AllocError> {
     let mut ends = Vec::new(alloc);
     for position in 0..count {
@@ -127,7 +127,7 @@ fn positions(alloc: Global, count: usize) -> Result<Ends, AllocError> {
     Ok(ends)
 }
 
-/// A further round before stopping, or after it.
+/// One more round before stopping, or after it if `greedy` is off.
 fn with_choice(alloc: Global, more: &Ends, greedy: bool) -> Result<Ends, AllocError> {
     let stop = positions(alloc, more.len())?;
     if greedy {
@@ -137,7 +137,8 @@ fn with_choice(alloc: Global, more: &Ends, greedy: bool) -> Result<Ends, AllocEr
     }
 }
 
-/// Rounds of a body without an end, from 0 on, where each round reads a byte: so as many as there are positions do.
+/// The ends of any number of rounds of a body, from 0 on. Each round reads a byte, so as many rounds as there are
+/// positions are enough.
 fn without_end(alloc: Global, greedy: bool, body: &Ends) -> Result<Ends, AllocError> {
     let mut ends = positions(alloc, body.len())?;
     for _ in 0..body.len() {
@@ -152,7 +153,8 @@ fn digit(byte: u8) -> u8 {
     byte.wrapping_sub(b'0') % 10
 }
 
-/// The ends of so many rounds of a body as `{1,2}` or `{1,}` says, with a `?` behind it where fewer are preferred.
+/// The ends of a repetition of a body. The bounds are written as `{1,2}` or `{1,}`, with a `?` after it if fewer rounds
+/// are preferred.
 fn repeated(alloc: Global, bounds: &[u8], body: &Ends) -> Result<Ends, Fail> {
     let (min, max, greedy) = match bounds {
         [b'{', min, b',', b'}'] => (digit(*min), None, true),
@@ -180,7 +182,7 @@ fn last(parts: &mut Vec<Ends>) -> Result<Ends, Fail> {
     Ok(parts.pop().ok_or("a part is missing")?)
 }
 
-/// The ends of each of some patterns, whose literals have one byte each.
+/// The ends of each of some patterns. Their literals have one byte each.
 fn ends_of(alloc: Global, patterns: &str, text: Text<'_>) -> Result<Vec<Ends>, Fail> {
     let mut parts = Vec::new(alloc);
     for word in patterns.split(' ') {
@@ -201,8 +203,7 @@ fn ends_of(alloc: Global, patterns: &str, text: Text<'_>) -> Result<Vec<Ends>, F
     Ok(parts)
 }
 
-/// The least start in a span from which a pattern has an end within it, there the lowest pattern, and its first such
-/// end.
+/// The leftmost match in a span, of the lowest pattern there, with the first of its ends that lies in the span.
 fn found(
     alloc: Global,
     patterns: &[Ends],
@@ -225,7 +226,7 @@ fn found(
     format!(in alloc; "none")
 }
 
-/// Patterns with assertions, each of the 18 in one of them, and the byte that ends lines.
+/// Patterns and the line terminator. Each of the 18 assertions is in one of them.
 const PATTERNS: &[(&str, u8)] = &[
     ("^ a . b $ . | [^x] $ .", b'\n'),
     ("<startlf> [ab] . <endlf> . <startcrlf> <endcrlf> .", b'\n'),
@@ -243,7 +244,7 @@ const PATTERNS: &[(&str, u8)] = &[
 
 const HAYSTACK: &[u8] = b"a\r\nb a";
 
-/// Compares what is told of all spans with what the patterns mean.
+/// Compares the results of searches of all spans with what the patterns mean.
 fn check(alloc: Global, patterns: &str, terminator: u8, form: Form) -> Result<(), Fail> {
     let exprs = read(alloc, patterns)?;
     let haystack = HAYSTACK;

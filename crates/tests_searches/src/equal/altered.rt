@@ -1,5 +1,5 @@
-//! Evidence with a link taken out, doubled, moved or with another earlier link: the checker accepts it exactly where a
-//! plain walk over the rows, which are worked by hand, finds it whole.
+//! Tests of altered evidence. A link is removed, doubled, moved, or given another earlier link. The checker must accept
+//! the links exactly if a plain walk over the rows finds them whole.
 
 use super::{COLUMNS, ROWS, are_evidence, make, verdict};
 use rx_base::{Anchored, Unit};
@@ -7,21 +7,21 @@ use rx_equal::{Link, Links, Verdict};
 use std::alloc::{AllocError, Global};
 use std::test::Fail;
 
-/// Rows that mean the same as `ROWS`: row 5 is a copy of row 2.
+/// Rows that report the same as `ROWS`: row 5 is a copy of row 2.
 const MORE: [[usize; 3]; 4] = [[3, 5, 0], [3, 4, 0], [3, 5, 0], [3, 2, 0]];
 
-/// What is done to a list of links.
+/// A change of a list of links.
 #[derive(Clone, Copy)]
 enum Change {
     TakenOut,
     Doubled,
-    /// Before the link at a place, or to the end.
+    /// Before the link at an index, or to the end.
     MovedTo(usize),
-    /// From the pair of the link at a place.
+    /// Continues from the pair of the link at an index.
     From(u64),
 }
 
-/// A list of links of which the one at a place, `link`, is changed.
+/// A list of links in which the one at `at`, which is `link`, is changed.
 fn altered(
     alloc: Global,
     links: &Links,
@@ -58,7 +58,7 @@ fn altered(
     Ok(others)
 }
 
-/// A link from the pair of another; a start stays.
+/// A link with another earlier link. A start stays as it is.
 fn from_another(link: &Link, from: u64) -> Link {
     match link {
         Link::Start(place) => Link::Start(*place),
@@ -75,7 +75,7 @@ fn column(unit: &Unit) -> usize {
     }
 }
 
-/// The row to which a column leads. Row 0 leads to itself, and so does what is no row.
+/// The row that a column leads to: 0 for the dead row, the quit row, and a number that is no row.
 fn next(rows: &[[usize; 3]], row: usize, column: usize) -> usize {
     if row < 2 {
         return 0;
@@ -102,7 +102,7 @@ fn contains(pairs: &[Rows], sought: &Rows) -> bool {
     false
 }
 
-/// The pairs that links name, or none where one names nothing.
+/// The pairs that links name, or `None` if some link names no pair.
 fn named(
     alloc: Global,
     a: &[[usize; 3]],
@@ -127,7 +127,7 @@ fn named(
     Ok(Some(pairs))
 }
 
-/// Whether pairs tell the same, each of them, and have both starts and all successors.
+/// Whether the two rows of each pair report the same, and the pairs contain both starts and all their successors.
 fn are_whole(a: &[[usize; 3]], b: &[[usize; 3]], pairs: &[Rows]) -> bool {
     for pair in pairs {
         if (pair.0 == 4) != (pair.1 == 4) {

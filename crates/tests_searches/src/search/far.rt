@@ -1,4 +1,4 @@
-//! Forward searches of long spans, which may read at several places at once, beside the counted search.
+//! Tests of forward searches over long spans, which may read at several places at once, beside the counted search.
 
 use super::sample::{Row, Sample, make_sample};
 use super::{Asked, Told, counted, half, input};
@@ -7,7 +7,7 @@ use std::alloc::{AllocError, Global};
 use std::process::Abort;
 use std::test::Fail;
 
-/// From any row `x` leads to a match, `q` to quit, `d` to dead and `a` to an accelerated row.
+/// From rows 2 and 3, `x` leads to a match row, `q` to quit, `d` to dead and `a` to an accelerated row.
 const MARKED: [Row<'static>; 4] = [
     Row(
         &[
@@ -37,7 +37,7 @@ const MARKED: [Row<'static>; 4] = [
     Row(&[(b'x', b'x', 3)], 2, 2, 0, false),
 ];
 
-/// `x` leads to a match after an even number of `b`: what a walk began with is never forgotten.
+/// `x` leads to a match row after an even number of `b`. The walk depends on every byte from its start on.
 const EVEN: [Row<'static>; 3] = [
     Row(&[(b'b', b'b', 3), (b'x', b'x', 4)], 2, 2, 0, false),
     Row(&[(b'b', b'b', 2)], 3, 3, 0, false),
@@ -47,7 +47,7 @@ const EVEN: [Row<'static>; 3] = [
 /// No match.
 const NONE: [Row<'static>; 1] = [Row(&[], 2, 2, 0, false)];
 
-/// So many times one byte.
+/// A text of one byte, repeated.
 fn repeat(alloc: Global, byte: u8, len: usize) -> Result<Vec<u8>, AllocError> {
     let mut text = Vec::with_capacity(alloc, len)?;
     'bytes: for _ in 0..len {
@@ -56,7 +56,7 @@ fn repeat(alloc: Global, byte: u8, len: usize) -> Result<Vec<u8>, AllocError> {
     Ok(text)
 }
 
-/// Asserts that the forward search of a span tells what the counted one does.
+/// Asserts that the forward search of a span and the counted search have the same result, and returns it.
 fn check_far(rt: &impl Abort, table: &Sample, text: &[u8], start: usize, end: usize) -> Told {
     let input = input(rt, Asked(text, start, end, false, false));
     let (told, _) = half(table, &input, Forward);
@@ -72,7 +72,8 @@ fn a_special_row_at_each_place_of_a_block_is_met(rt: HostRuntime) -> Result<(), 
     let mut text = repeat(alloc, b'.', 12_000)?;
     'places: for at in 2_000..6_300 {
         for mark in [b'x', b'q', b'd', b'a'] {
-            // the parts' first and last bytes are among the places, the other marks are put at each seventh alone
+            // the offsets include the first and the last byte of each part; marks other than `x` stand only at every
+            // seventh
             if mark != b'x' && at % 7 != 0 {
                 continue;
             }

@@ -1,4 +1,4 @@
-//! A small table for tests, as rows of vectors.
+//! A small table for tests, with its rows in vectors.
 
 ghost use Rattle.std.specs.Prelude.{◌≡◌, ◌<◌, ◌≤◌, length, MatchOption, true, false};
 ghost use Rattle.rx_spec.specs.Ids.{row_of, AreIds};
@@ -14,14 +14,14 @@ use std::alloc::{AllocError, Global};
 use std::marker::Model;
 use std::process::Abort;
 
-/// Rows from 2 on, each with 257 next rows and the number of patterns that it tells, those from 0 on.
+/// Rows from 2 on. Each has 257 next rows and the number of its patterns, which are those from 0 on.
 ///
-/// What would make the table unsound is read as dead, so every sample is sound.
+/// Whatever would make the table unsound is read as dead, so every sample is sound.
 #[derive(Drop)]
 pub(super) struct Sample {
     pub(super) next: Vec<u32>,
     pub(super) told: Vec<u32>,
-    /// The rows that are accelerated if few bytes leave them.
+    /// The rows that are accelerated if at most three bytes leave them.
     pub(super) skips: Vec<bool>,
     pub(super) start: u32,
     pub(super) patterns: u32,
@@ -60,7 +60,7 @@ impl Sample {
         2 + self.told.len()
     }
 
-    /// The row to which a unit leads.
+    /// The row that a unit leads to.
     fn next(&self, row: usize, unit: usize) -> usize
         requires row { row ≤ 1002 }
         requires unit { unit < 257 }
@@ -79,7 +79,7 @@ impl Sample {
 }
 
 impl Sample {
-    /// How many patterns a row tells.
+    /// The number of patterns that a row reports.
     fn told(&self, row: usize) -> usize
         requires { row ≤ 1002 }
         ensures value { result ≡ told_count self.now row }
@@ -110,7 +110,7 @@ impl Sample {
         start
     }
 
-    /// The bytes that leave a row, if they are at most three.
+    /// The bytes that leave a row, if there are at most three.
     fn leaving(&self, row: usize) -> Option<Needles>
         requires { row ≤ 1002 }
         ensures { MatchOption result (3 < length (leaving_of self.now row))
@@ -303,8 +303,8 @@ impl Automaton for Sample {
     ghost sound = { λ s h. sample_is_sound s };
 }
 
-/// A row to be: ranges of bytes with their next rows, the next row of the other bytes and that of the end mark, how
-/// many patterns it tells, and whether it is accelerated if it can be.
+/// A row to build: ranges of bytes with their targets, the target of the other bytes, the target of end of input, the
+/// number of patterns, and whether the row is accelerated if it can be.
 #[derive(Clone, Copy)]
 pub(super) struct Row<'a>(
     pub(super) &'a [(u8, u8, u32)],
@@ -314,7 +314,7 @@ pub(super) struct Row<'a>(
     pub(super) bool,
 );
 
-/// The sample of rows from 2 on, which is the start row, with starts for every mode.
+/// The sample with these rows from 2 on. Searches of every mode start in row 2.
 pub(super) fn make_sample(
     rt: &impl Abort,
     alloc: Global,

@@ -1,4 +1,4 @@
-//! Builds tables, and reads them again from their images.
+//! Builds tables, and reads them from their images.
 
 ghost use Rattle.std.specs.Prelude.{IfOk};
 ghost use Rattle.rx_dense.specs.Facts.{IsSoundLayout};
@@ -27,7 +27,7 @@ pub(super) struct Rules {
     pub(super) pattern_starts: bool,
 }
 
-/// A builder of tables that tell all matches, also those that split a character.
+/// A builder of tables for all matches, also those that split a character.
 fn builder(rules: &Rules) -> Builder {
     let mut config = Config::new()
         .match_kind(MatchKind::All)
@@ -76,7 +76,7 @@ fn sparse_images(alloc: Global, rules: &Rules) -> Result<(Vec<u8>, Vec<u8>), Fai
     Ok((little, big))
 }
 
-/// Reads a dense table from an image, and checks how it searches a text and random texts of some letters.
+/// Reads a dense table from an image, and checks its searches of a text and of random texts of some letters.
 fn check_dense(
     rt: &impl Abort,
     alloc: Global,
@@ -93,7 +93,7 @@ fn check_dense(
     }
 }
 
-/// Does the same with a sparse table, which is searched in the image.
+/// The same with a sparse table, which is searched in the image.
 fn check_sparse(
     rt: &impl Abort,
     alloc: Global,
@@ -110,8 +110,8 @@ fn check_sparse(
     }
 }
 
-/// Checks how the dense table of some rules, read from an image of either order, searches a text and random texts of
-/// some letters.
+/// Checks searches of a text and of random texts of some letters, by the dense table of some rules that was read from
+/// an image of either order.
 pub(super) fn check_dense_images(
     rt: &impl Abort,
     alloc: Global,
@@ -124,7 +124,7 @@ pub(super) fn check_dense_images(
     check_dense(rt, alloc, &big, text, letters)
 }
 
-/// Does the same with the sparse table.
+/// The same with the sparse table.
 pub(super) fn check_sparse_images(
     rt: &impl Abort,
     alloc: Global,

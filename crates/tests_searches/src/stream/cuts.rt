@@ -19,7 +19,7 @@ const MODES: [Anchored; 3] = [
 /// The lengths of pieces.
 const LENGTHS: [usize; 3] = [1, 3, 4096];
 
-/// Asserts which events a text tells in pieces of the given lengths.
+/// Asserts the events of a text in pieces of the given lengths.
 fn check_told<A: Automaton>(
     rt: &impl Abort,
     alloc: Global,
@@ -40,7 +40,7 @@ fn check_told<A: Automaton>(
     Ok(())
 }
 
-/// Asserts which events a text tells in pieces of one length.
+/// Asserts the events of a text in pieces of one length.
 fn check_length<A: Automaton>(
     rt: &impl Abort,
     alloc: Global,
@@ -55,7 +55,7 @@ fn check_length<A: Automaton>(
     check_told(rt, alloc, table, mode, text, &[length], wanted)
 }
 
-/// Asserts which events a text tells if it is cut at one place.
+/// Asserts the events of a text that is cut at one place.
 fn check_place<A: Automaton>(
     rt: &impl Abort,
     alloc: Global,
@@ -70,7 +70,7 @@ fn check_place<A: Automaton>(
     check_told(rt, alloc, table, mode, text, &[at, text.len()], wanted)
 }
 
-/// Asserts which events a text tells in pieces of random lengths.
+/// Asserts the events of a text in pieces of random lengths.
 fn check_random<A: Automaton>(
     rt: &impl Abort,
     alloc: Global,
@@ -86,7 +86,7 @@ fn check_random<A: Automaton>(
     check_told(rt, alloc, table, mode, text, &lengths, wanted)
 }
 
-/// Asserts which events a text tells, whether the pieces have one byte, three, or all.
+/// Asserts the events of a text in pieces of one byte, of three, and of the whole text.
 pub(super) fn check_worked<A: Automaton>(
     rt: &impl Abort,
     alloc: Global,
@@ -103,7 +103,7 @@ pub(super) fn check_worked<A: Automaton>(
     Ok(())
 }
 
-/// Asserts in every mode that a text tells the same events however it is cut.
+/// Asserts in every mode that a text has the same events however it is cut.
 pub(super) fn check_cuts<A: Automaton>(
     rt: &impl Abort,
     alloc: Global,
@@ -118,7 +118,7 @@ pub(super) fn check_cuts<A: Automaton>(
     Ok(())
 }
 
-/// Asserts in one mode that a text tells the events of an overlapping search, whether it is cut into pieces of one
+/// Asserts in one mode that a text has the events of an overlapping search, whether it is cut into pieces of one
 /// length, at any place, or at random.
 fn check_mode<A: Automaton>(
     rt: &impl Abort,
@@ -140,7 +140,7 @@ fn check_mode<A: Automaton>(
     Ok(())
 }
 
-/// Asserts that random texts of some letters tell the same events however they are cut.
+/// Asserts that random texts of some letters have the same events however they are cut.
 pub(super) fn check_random_texts<A: Automaton>(
     rt: &impl Abort,
     alloc: Global,

@@ -1,7 +1,7 @@
 //! The events of a text as a line: those of its pieces, and those of an overlapping search of the whole text.
 //!
-//! A match is written as its pattern and the offset where it ends (`0 3;`), and a quit byte as its number and its
-//! offset (`quit 122 1;`). For a mode without starts the line is `unsupported`.
+//! A match is written as its pattern and its end (`0 3;`), and a quit byte as its value and its offset (`quit 122 1;`).
+//! For a mode without start states the line is `unsupported`.
 
 ghost use Rattle.std.specs.Prelude.{◌≤◌, length};
 ghost use Rattle.rx_spec.specs.Queries.{IsFit};
@@ -15,7 +15,7 @@ use std::alloc::{AllocError, Global};
 use std::process::Abort;
 use std::test::Fail;
 
-/// A bound on calls. No text of these tests needs as many.
+/// A bound on the number of calls. No text of these tests needs as many.
 const MOST: usize = 1000;
 
 /// Writes a match.
@@ -48,7 +48,7 @@ fn write_error(alloc: Global, out: &mut String, error: &MatchError) -> Result<()
     }
 }
 
-/// The events of a text that is fed in pieces. The lengths of the pieces are given, and repeat if the text is longer.
+/// The events of a text that is fed in pieces. The lengths of the pieces repeat if the text is longer.
 pub(super) fn told_in_pieces<A: Automaton>(
     rt: &impl Abort,
     alloc: Global,
@@ -119,7 +119,7 @@ fn feed_piece<A: Automaton>(
     Ok(())
 }
 
-/// Ends a text, and asks for events until none is left.
+/// Ends a text, and takes events until there are no more.
 fn finish<A: Automaton>(
     rt: &impl Abort,
     alloc: Global,

@@ -1,4 +1,4 @@
-//! Whether a table may be searched, tested row by row.
+//! Checks row by row whether a table is sound.
 
 ghost use Rattle.std.specs.Prelude.{◌≡◌, ℕ, ◌<◌, ◌≤◌, ◌==◌, ◌||◌, ◌/◌, true, List, All};
 ghost use Rattle.rx_spec.specs.Ids.{row_of};
@@ -16,7 +16,7 @@ use rx_dense::{Accel, Accels, OwnedDFA};
 use rx_search::Automaton;
 use std::collections::BTreeMap;
 
-/// The patterns of match rows, by the rows' ids.
+/// The pattern lists of the match rows, by the rows' ids.
 pub(super) type Lists = BTreeMap<StateID, Vec<PatternID>>;
 
 /// The id of a row.
@@ -37,7 +37,7 @@ fn row_of_id(dfa: &OwnedDFA, id: StateID) -> usize
     id.as_usize() >> dfa.stride2()
 }
 
-/// Which row of a range of rows that begins at `first` an id is that of.
+/// The index of an id's row in a range of rows that begins at `first`.
 fn place_in_range(dfa: &OwnedDFA, first: StateID, id: StateID) -> usize
     requires { first ≤ id }
     ensures { result ≡ place_in_range dfa.now first id }
@@ -45,7 +45,7 @@ fn place_in_range(dfa: &OwnedDFA, first: StateID, id: StateID) -> usize
     (id.as_usize() - first.as_usize()) >> dfa.stride2()
 }
 
-/// Whether a table is sound, with these patterns and needles of its rows.
+/// Whether a table with these pattern lists and needles is sound.
 pub(super) fn is_sound(dfa: &OwnedDFA, lists: &Lists, accels: &Accels) -> bool
     requires lists { TellsLists dfa.now (pattern_lists lists.now) }
     requires accels { accels.now ≡ dfa.now.accels }
@@ -90,7 +90,7 @@ fn leads_to_dead(dfa: &OwnedDFA, id: StateID) -> bool
     dfa.is_dead_state(dfa.next_eoi_state(id))
 }
 
-/// Whether each start entry is a row that tells nothing.
+/// Whether no start entry is a match row or quit.
 fn starts_are_plain(dfa: &OwnedDFA) -> bool
     ensures starts { AreStarts dfa.now }
     ensures plain { result ≡ true → All (StartsPlain dfa.now) (starts_of dfa.now) }
@@ -103,7 +103,7 @@ fn starts_are_plain(dfa: &OwnedDFA) -> bool
     true
 }
 
-/// Whether an id is one of a row that tells nothing.
+/// Whether the row of an id is neither a match row nor quit.
 fn is_plain(dfa: &OwnedDFA, id: StateID) -> bool
     ensures { result ≡ true → (table_of dfa.now).machine.label (id / stride dfa.now) ≡ Label.Plain }
 {
@@ -118,7 +118,7 @@ fn is_plain(dfa: &OwnedDFA, id: StateID) -> bool
     !dfa.is_quit_state(id)
 }
 
-/// Whether a row may be searched.
+/// Whether a row is sound.
 fn is_sound_row(dfa: &OwnedDFA, lists: &Lists, accels: &Accels, id: StateID) -> bool
     requires lists { TellsLists dfa.now (pattern_lists lists.now) }
     requires accels { accels.now ≡ dfa.now.accels }
@@ -142,7 +142,7 @@ fn is_sound_row(dfa: &OwnedDFA, lists: &Lists, accels: &Accels, id: StateID) -> 
     has_needles(dfa, accels, id)
 }
 
-/// Whether a search has more to do at a row than to go on.
+/// Whether a row is dead, quit, a match row, accelerated or a start row.
 fn has_more_to_do(dfa: &OwnedDFA, id: StateID) -> bool
     requires { IsId (ids_of dfa.now) id }
     ensures { let row = row_of (ids_of dfa.now) id in let table = table_of dfa.now in result
@@ -156,7 +156,7 @@ fn has_more_to_do(dfa: &OwnedDFA, id: StateID) -> bool
         || dfa.is_start_state(id)
 }
 
-/// Whether a row tells no patterns, or a list of them.
+/// Whether a row is no match row, or its pattern list is valid.
 fn tells_patterns(dfa: &OwnedDFA, lists: &Lists, id: StateID) -> bool
     requires lists { TellsLists dfa.now (pattern_lists lists.now) }
     requires is_id { IsId (ids_of dfa.now) id }
@@ -174,7 +174,7 @@ fn tells_patterns(dfa: &OwnedDFA, lists: &Lists, id: StateID) -> bool
     are_pattern_lists(lists, dfa.pattern_len())
 }
 
-/// Whether each list has patterns, and only some of so many.
+/// Whether each list has at least one pattern, and only patterns below `pattern_len`.
 fn are_pattern_lists(lists: &Lists, pattern_len: usize) -> bool
     ensures { result ≡ true → All (IsPatternList pattern_len) (pattern_lists lists.now) }
 {
@@ -186,7 +186,7 @@ fn are_pattern_lists(lists: &Lists, pattern_len: usize) -> bool
     true
 }
 
-/// Whether a list has patterns, and only some of so many.
+/// Whether a list has at least one pattern, and only patterns below `pattern_len`.
 fn is_pattern_list(list: &[PatternID], pattern_len: usize) -> bool
     ensures { result ≡ true → IsPatternList pattern_len list.now }
 {
@@ -196,7 +196,7 @@ fn is_pattern_list(list: &[PatternID], pattern_len: usize) -> bool
     list.iter().all(|id| id.as_usize() < pattern_len)
 }
 
-/// Whether a row isn't accelerated, or has the bytes as its needles that lead elsewhere.
+/// Whether a row isn't accelerated, or its needles are exactly the bytes that leave it.
 fn has_needles(dfa: &OwnedDFA, accels: &Accels, id: StateID) -> bool
     requires accels { accels.now ≡ dfa.now.accels }
     requires is_id { IsId (ids_of dfa.now) id }

@@ -1,4 +1,4 @@
-//! How the tests make tables: rows are named by their numbers.
+//! Builds the tables of the tests. Rows are named by their numbers.
 
 ghost use Rattle.std.specs.Prelude.{◌≡◌, ◌<◌, ◌-◌, ◌^◌, length, All, IfOk, true};
 ghost use Rattle.rx_search.specs.Starts.{IsId};
@@ -27,7 +27,7 @@ pub(super) const STARTS: [Start; 6] = [
     Start::CustomLineTerminator,
 ];
 
-/// The units of a row of [`worked`]: a byte of each class, and the end mark.
+/// The units of a row of [`worked`]: a byte of each class, and end of input.
 const UNITS: [Unit; 7] = [
     Unit::Byte(b'.'),
     Unit::Byte(b'a'),
@@ -38,7 +38,7 @@ const UNITS: [Unit; 7] = [
     Unit::Eoi,
 ];
 
-/// Where the rows of [`worked`] from 2 on lead.
+/// The next rows of the rows of [`worked`] from 2 on.
 const ROWS: [[usize; 7]; 5] = [
     [4, 4, 4, 4, 1, 4, 4],
     [0, 0, 0, 0, 1, 0, 0],
@@ -47,13 +47,13 @@ const ROWS: [[usize; 7]; 5] = [
     [3, 3, 2, 3, 1, 3, 3],
 ];
 
-/// The rows in which the searches of [`worked`] start, by their modes.
+/// The start rows of [`worked`], by mode.
 const BEGINNINGS: [usize; 5] = [5, 6, 5, 0, 6];
 
 /// The patterns of the match rows of [`worked`].
 const PATTERNS: [(usize, &[u32]); 3] = [(2, &[0]), (4, &[2, 1]), (3, &[0])];
 
-/// The modes of a table with starts for three patterns, in the order of its start entries.
+/// The modes of a table with start states for three patterns, in the order of its start entries.
 pub(super) fn modes() -> [Anchored; 5] {
     [
         Anchored::No,
@@ -73,8 +73,8 @@ pub(super) fn classes_apart(bytes: &[u8]) -> ByteClasses {
     ends.byte_classes()
 }
 
-/// The dead row and the quit row, with three patterns that have starts of their own. A `z` can't be searched, and `y`
-/// ends lines.
+/// A table of the dead and the quit row, with start states for each of three patterns. `z` is a quit byte, and `y` ends
+/// lines.
 pub(super) fn begin(alloc: Global, classes: ByteClasses) -> Result<OwnedDFA, AllocError> {
     let mut quitset = ByteSet::empty();
     quitset.add(b'z');
@@ -104,14 +104,14 @@ pub(super) fn id(rt: &impl Abort, dfa: &OwnedDFA, row: usize) -> StateID
     id_of_row(dfa, row)
 }
 
-/// Lets a unit lead from a row to another.
+/// Sets the target of a row on a unit.
 pub(super) fn connect(rt: &impl Abort, dfa: &mut OwnedDFA, from: usize, unit: Unit, to: usize) {
     let from = id(rt, dfa, from);
     let to = id(rt, dfa, to);
     dfa.set_transition(from, unit, to);
 }
 
-/// Lets some units lead from a row to others, each to its own.
+/// Sets the targets of a row on some units.
 pub(super) fn fill(
     rt: &impl Abort,
     dfa: &mut OwnedDFA,
@@ -124,7 +124,7 @@ pub(super) fn fill(
     }
 }
 
-/// Lets searches of a mode and a context start in a row.
+/// Sets the start row of a mode in a context.
 pub(super) fn start_at(
     rt: &impl Abort,
     dfa: &mut OwnedDFA,
@@ -137,7 +137,7 @@ pub(super) fn start_at(
     dfa.set_start_state(*mode, start, id);
 }
 
-/// The place of the first start entry of a mode.
+/// The index of the first start entry of a mode.
 fn mode_place(mode: Anchored) -> usize
     ensures { result ≡ mode_place (mode_of mode) }
 {
@@ -156,14 +156,14 @@ fn has_starts(dfa: &OwnedDFA, mode: &Anchored) -> bool
     mode_place(*mode) < dfa.starts().count()
 }
 
-/// Lets all searches of a mode start in a row.
+/// Sets the start row of a mode in every context.
 pub(super) fn start_all_at(rt: &impl Abort, dfa: &mut OwnedDFA, mode: &Anchored, row: usize) {
     for start in STARTS.iter() {
         start_at(rt, dfa, mode, *start, row);
     }
 }
 
-/// Adds a row that leads to itself at the end mark, and cuts it off.
+/// Adds a row that leads to itself at end of input, and removes it again.
 pub(super) fn add_and_cut(rt: &impl Abort, dfa: &mut OwnedDFA) -> Result<(), AddError> {
     let len = dfa.state_len();
     assert!(rt; has_starts(dfa, &Anchored::Yes));
@@ -189,7 +189,7 @@ fn ids(
     Ok(ids)
 }
 
-/// Renames all rows: each gets the id of the row that stands at its number.
+/// Renames all rows. `rows` has the new row of each row.
 pub(super) fn remap(
     rt: &impl Abort,
     alloc: Global,
@@ -202,7 +202,7 @@ pub(super) fn remap(
     Ok(())
 }
 
-/// Renames what one row leads to.
+/// Renames the targets of one row.
 pub(super) fn remap_state(
     rt: &impl Abort,
     alloc: Global,
@@ -217,7 +217,7 @@ pub(super) fn remap_state(
     Ok(())
 }
 
-/// Special rows: quit, and a first and a last row for match rows, accelerated ones and starts.
+/// The special ids: quit, and the first and the last of the match rows, the accelerated rows and the start rows.
 pub(super) fn special(
     rt: &impl Abort,
     dfa: &OwnedDFA,
@@ -237,7 +237,7 @@ pub(super) fn special(
     special
 }
 
-/// Needles: at most three bytes that aren't spaces and differ.
+/// The needles of a row: at most three different bytes, none of them a space.
 pub(super) fn accel(rt: &impl Abort, needles: &[u8]) -> Accel {
     let mut accel = Accel::new();
     for needle in needles {
@@ -259,7 +259,7 @@ pub(super) fn accels(alloc: Global, rows: &[Accel]) -> Result<Accels, AllocError
     Ok(accels)
 }
 
-/// Lists of patterns, by the rows that tell them.
+/// Pattern lists, by the ids of their rows.
 pub(super) fn lists(
     rt: &impl Abort,
     alloc: Global,
@@ -277,7 +277,7 @@ pub(super) fn lists(
     Ok(lists)
 }
 
-/// Sets what the special rows of a table tell, which makes it a sound one.
+/// Sets the patterns and the needles of a table, and asserts that it is sound.
 fn finish(
     rt: &impl Abort,
     alloc: Global,
@@ -294,11 +294,11 @@ fn finish(
     Ok(())
 }
 
-/// A table that looks for `a` (pattern 0) and `ab` with whatever follows (patterns 2 and 1), and quits at `z`.
+/// A table that searches for `a` (pattern 0) and for `ab` with any unit after it (patterns 2 and 1). It quits at `z`.
 ///
-/// Row 2 tells pattern 0 where `ab` was read, row 3 where another unit follows `a`, and row 4 tells the patterns 2
-/// and 1. Searches start in row 5, which waits for `a`, and anchored ones, as those for pattern 2, in row 6, where it
-/// was read. Those for pattern 1 start at dead.
+/// Row 2 reports pattern 0 after `ab`, row 3 reports it after `a` and another unit, and row 4 reports patterns 2 and 1.
+/// Row 5 waits for an `a`, and row 6 is the row after it. Unanchored searches and those for pattern 0 start in row 5,
+/// anchored searches and those for pattern 2 in row 6, and those for pattern 1 in dead.
 pub(super) fn worked(rt: &impl Abort, alloc: Global) -> Result<OwnedDFA, Fail>
     ensures { IfOk result IsSoundLayout }
 {

@@ -1,4 +1,4 @@
-//! Builds of patterns that are given as texts.
+//! Builds the tables of patterns that are given as texts.
 
 ghost use Rattle.std.specs.Prelude.{◌≡◌, IfOk};
 ghost use Rattle.rx_dense.specs.Facts.{IsSoundLayout};
@@ -14,7 +14,7 @@ use std::alloc::{AllocError, Global};
 use std::test::Fail;
 use tests_notation::read;
 
-/// What is built.
+/// The patterns and the settings of a table.
 #[derive(Clone, Copy)]
 pub(super) struct Case<'t> {
     pub(super) patterns: &'t str,
@@ -34,7 +34,7 @@ impl Case<'_> {
         Ok(compiler.build_many(alloc, &read(alloc, self.patterns)?)?)
     }
 
-    /// The bytes that can't be searched.
+    /// The quit bytes.
     pub(super) fn quit(&self) -> ByteSet {
         let mut quit = ByteSet::empty();
         for byte in self.quit {
@@ -44,8 +44,8 @@ impl Case<'_> {
     }
 }
 
-/// The class of each byte: bytes that neither a row nor the quit set tells apart have one class, or without byte
-/// classes each byte its own.
+/// The class of each byte. Bytes have one class if neither the NFA nor the quit set tells them apart. Without byte
+/// classes each byte has its own.
 fn byte_classes(nfa: &NFA, quit: &ByteSet, byte_classes: bool) -> Result<ByteClasses, AllocError>
     ensures { IfOk result (λ classes. classes ≡ classes_of (meaning nfa.now) quit.now byte_classes) }
 {
@@ -61,7 +61,7 @@ fn byte_classes(nfa: &NFA, quit: &ByteSet, byte_classes: bool) -> Result<ByteCla
     Ok(classes)
 }
 
-/// The table of a case, by a configuration that gives the limits.
+/// The table of a case. The configuration gives the limits.
 pub(super) fn determinized(
     alloc: Global,
     case: &Case<'_>,

@@ -1,4 +1,4 @@
-//! Tables beside states that are stepped one by one, by every unit, and kept in a list.
+//! Compares tables with plain powerset states that are stepped one by one on every unit and kept in a list.
 
 ghost use Rattle.std.specs.Prelude.{◌<◌};
 ghost use Rattle.rx_dense.specs.Facts.{IsSoundLayout};
@@ -25,7 +25,7 @@ fn id_of(dfa: &OwnedDFA, row: usize) -> StateID
     StateID::must(row << dfa.stride2())
 }
 
-/// The id of a row, which there must be.
+/// The id of a row. Asserts that the row exists.
 fn id_of_row(rt: &impl Abort, dfa: &OwnedDFA, row: usize) -> StateID
     ensures { IsId (ids_of dfa.now) result }
 {
@@ -33,7 +33,7 @@ fn id_of_row(rt: &impl Abort, dfa: &OwnedDFA, row: usize) -> StateID
     id_of(dfa, row)
 }
 
-/// The row to which a unit leads.
+/// The row that a unit leads to.
 fn next_row(rt: &impl Abort, dfa: &OwnedDFA, row: usize, unit: Unit) -> usize {
     let id = id_of_row(rt, dfa, row);
     let next = match unit {
@@ -43,7 +43,7 @@ fn next_row(rt: &impl Abort, dfa: &OwnedDFA, row: usize, unit: Unit) -> usize {
     next.as_usize() >> dfa.stride2()
 }
 
-/// Whether a row tells the patterns of a state.
+/// Whether a row reports the patterns of a state.
 fn tells(rt: &impl Abort, dfa: &OwnedDFA, row: usize, state: &PowerState) -> bool
     requires { IsSoundLayout dfa.now }
 {
@@ -65,7 +65,7 @@ fn tells(rt: &impl Abort, dfa: &OwnedDFA, row: usize, state: &PowerState) -> boo
     true
 }
 
-/// The states that were met, each with the row that it should have.
+/// The states that were found, each with its row.
 #[derive(Drop)]
 struct Met {
     states: Vec<PowerState>,
@@ -73,7 +73,7 @@ struct Met {
 }
 
 impl Met {
-    /// Whether a row can be that of a state.
+    /// Whether a row can be that of a state. A new state is added with its row.
     fn fits(&mut self, state: PowerState, row: usize) -> Result<bool, Fail> {
         if state.is_dead() {
             return Ok(row == 0);
@@ -92,7 +92,7 @@ impl Met {
     }
 }
 
-/// The row of the NFA in which searches of a mode start, where the table of a case has starts for them.
+/// The NFA state in which searches of a mode start, if the table of a case has start states for the mode.
 fn start_row(case: &Case<'_>, nfa: &NFA, mode: Anchored) -> Option<StateID> {
     match mode {
         Anchored::No if case.start_kind.has_unanchored() => Some(nfa.start_unanchored()),
@@ -133,7 +133,7 @@ fn unit(number: usize) -> Unit {
     }
 }
 
-/// Whether a state is stepped by every unit as its row is.
+/// Whether a state steps on every unit as its row does.
 fn row_agrees(
     rt: &impl Abort,
     alloc: Global,
@@ -168,7 +168,8 @@ fn row_agrees(
     Ok(true)
 }
 
-/// Whether the table of a case is the one of its states: each has one row, and the rows lead and tell as the states do.
+/// Whether the table of a case is that of its states: each state has one row, and the rows lead and report as the
+/// states do.
 pub(super) fn agrees(rt: &impl Abort, alloc: Global, case: &Case<'_>) -> Result<bool, Fail> {
     let nfa = case.nfa(alloc)?;
     let Ok(dfa) = determinized(alloc, case, Config::new())? else {

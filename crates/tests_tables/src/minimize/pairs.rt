@@ -1,13 +1,13 @@
-//! A slow second way to find the rows that behave alike: the table of all pairs is filled.
+//! A slow second way to find the rows that behave alike. It fills the table of all pairs of rows.
 
 use std::alloc::{AllocError, Global};
 use std::process::Abort;
 use std::test::Fail;
 
-/// There are fewer rows than this.
+/// Every table here has fewer rows than this.
 const MOST_ROWS: usize = 1000;
 
-/// The rows of a table: three numbers of next rows for each, what each tells, and the rows in which searches start.
+/// The rows of a table: three next rows for each, the label of each, and the rows in which searches start.
 #[derive(Drop)]
 pub(super) struct Rows {
     pub(super) nexts: Vec<usize>,
@@ -16,7 +16,7 @@ pub(super) struct Rows {
 }
 
 impl Rows {
-    /// These rows, and others behind them.
+    /// These rows, and the rows of another table after them.
     pub(super) fn beside(
         &self,
         rt: &impl Abort,
@@ -41,7 +41,7 @@ impl Rows {
         })
     }
 
-    /// The next row by one of three columns.
+    /// The next row in one of three columns.
     fn next(&self, rt: &impl Abort, row: usize, column: usize) -> usize {
         assert!(rt; row < MOST_ROWS && column < 3);
         let place = 3 * row + column;
@@ -50,7 +50,7 @@ impl Rows {
     }
 }
 
-/// Which pairs of rows a word tells apart.
+/// For each pair of rows, whether some word tells them apart.
 #[derive(Drop)]
 pub(super) struct Pairs {
     count: usize,
@@ -58,7 +58,7 @@ pub(super) struct Pairs {
 }
 
 impl Pairs {
-    /// Rows with different labels are told apart, and then those that lead to rows that are.
+    /// At first, rows with different labels are apart. Then rows are apart if they lead to rows that are.
     pub(super) fn new(rt: &impl Abort, alloc: Global, rows: &Rows) -> Result<Pairs, Fail> {
         let count = rows.labels.len();
         assert!(rt; count < MOST_ROWS);
@@ -79,7 +79,7 @@ impl Pairs {
         Ok(pairs)
     }
 
-    /// Tells rows apart that lead to rows that are told apart.
+    /// Marks rows as apart if they lead to rows that are apart.
     fn fill(&mut self, rt: &impl Abort, rows: &Rows) {
         for x in 0..self.count {
             for y in 0..self.count {
@@ -109,7 +109,7 @@ impl Pairs {
         self.apart[place]
     }
 
-    /// How many rows are told apart from each one before.
+    /// The number of rows that are apart from every row before them.
     pub(super) fn block_count(&self, rt: &impl Abort) -> usize {
         let mut count = 0;
         for row in 0..self.count {
@@ -120,7 +120,7 @@ impl Pairs {
         count
     }
 
-    /// Whether a row is told apart from each one before.
+    /// Whether a row is apart from every row before it.
     fn is_first(&self, rt: &impl Abort, row: usize) -> bool {
         for other in 0..row {
             if !self.are_apart(rt, other, row) {

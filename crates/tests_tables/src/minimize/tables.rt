@@ -1,4 +1,4 @@
-//! The tables of the tests, and how they are read: rows are named by their numbers.
+//! The tables of the tests of minimizing. Rows are named by their numbers.
 
 ghost use Rattle.std.specs.Prelude.{IfOk};
 ghost use Rattle.rx_spec.specs.Tables.{IsSound};
@@ -13,13 +13,13 @@ use std::alloc::{AllocError, Global};
 use std::test::Fail;
 use tests_worked_tables::{id, table};
 
-/// Bytes up to `a`, the other bytes, and the end mark.
+/// Bytes up to `a`, the other bytes, and end of input.
 const COLUMNS: [&[Unit]; 3] = [&[Unit::Byte(b'a')], &[Unit::Byte(255)], &[Unit::Eoi]];
 
-/// A table to be made.
+/// A table to build.
 #[derive(Clone, Copy, Debug)]
 pub(super) struct Case<'c> {
-    /// The next rows, for each row behind quit.
+    /// The next rows of each row after quit.
     pub(super) rows: &'c [[usize; 3]],
     /// The patterns of the match rows.
     pub(super) matches: &'c [(usize, &'c [u32])],
@@ -29,7 +29,7 @@ pub(super) struct Case<'c> {
 }
 
 impl Case<'_> {
-    /// The table, its rows put in order.
+    /// The table, with its rows in order.
     pub(super) fn table(&self, alloc: Global) -> Result<OwnedDFA, Fail>
         ensures { IfOk result IsReady }
     {
@@ -54,7 +54,7 @@ pub(super) fn nexts(alloc: Global, dfa: &OwnedDFA) -> Result<Vec<usize>, AllocEr
     Ok(nexts)
 }
 
-/// What each row tells: nothing, 3 for quit, or its patterns.
+/// The label of each row: empty, 3 for quit, or the patterns.
 pub(super) fn labels(alloc: Global, dfa: &OwnedDFA) -> Result<Vec<Vec<u32>>, AllocError>
     requires { IsSound (table_of dfa.now) }
 {
@@ -65,7 +65,7 @@ pub(super) fn labels(alloc: Global, dfa: &OwnedDFA) -> Result<Vec<Vec<u32>>, All
     Ok(labels)
 }
 
-/// What a row tells.
+/// The label of a row.
 fn label(alloc: Global, dfa: &OwnedDFA, id: StateID) -> Result<Vec<u32>, AllocError>
     requires sound { IsSound (table_of dfa.now) }
     requires is_id { IsId (ids_of dfa.now) id }
@@ -80,7 +80,7 @@ fn label(alloc: Global, dfa: &OwnedDFA, id: StateID) -> Result<Vec<u32>, AllocEr
     Ok(label)
 }
 
-/// The rows of all start entries.
+/// The start rows of all modes and contexts.
 pub(super) fn starts(alloc: Global, dfa: &OwnedDFA) -> Result<Vec<usize>, AllocError> {
     let mut starts = Vec::new(alloc);
     for (id, _, _) in dfa.starts() {

@@ -1,4 +1,4 @@
-//! A small table of the tests' own.
+//! A small table for the tests of renaming.
 
 ghost use Rattle.std.specs.Prelude.{◌≡◌, ℕ, ◌<◌, ◌≤◌, ◌*◌, ◌/◌, ◌^◌, [], ◌∷◌, All, IfOk, length, map, slice_index};
 ghost use Rattle.rx_order.specs.Transitions.{IsRowId};
@@ -9,7 +9,7 @@ use std::alloc::{AllocError, Global};
 use std::marker::Model;
 use std::process::Abort;
 
-/// A table whose rows lead to one row each, and a name, which has nothing to do with its rows.
+/// A table in which each row leads to one row. The name stands for everything that renaming must leave as it is.
 #[derive(Drop)]
 pub(super) struct Chain {
     pub(super) next: Vec<StateID>,
@@ -31,7 +31,7 @@ impl Model for Chain {
 }
 
 impl Chain {
-    /// The table of rows that lead to these.
+    /// The table whose rows lead to `next`.
     pub(super) fn new(
         rt: &impl Abort,
         alloc: Global,
@@ -90,7 +90,7 @@ impl Remappable for Chain {
     }
 }
 
-/// The ids of rows.
+/// The ids of some rows.
 fn ids(alloc: Global, stride2: usize, rows: &[usize]) -> Result<Vec<StateID>, AllocError>
     requires rows { All (λ row. row < 100) rows.now }
     requires stride2 { stride2 ≤ 9 }
@@ -103,7 +103,7 @@ fn ids(alloc: Global, stride2: usize, rows: &[usize]) -> Result<Vec<StateID>, Al
     Ok(ids)
 }
 
-/// Replaces ids by those that a map has at the numbers of their rows.
+/// Replaces each id by the new id of its row.
 fn rename(ids: &mut Vec<StateID>, stride2: usize, new_ids: &[StateID])
     requires within { All (λ id. id / 2 ^ stride2 < length new_ids.now) ids.old.items }
     requires stride2 { stride2 ≤ 30 }

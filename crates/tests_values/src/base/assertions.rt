@@ -1,9 +1,9 @@
-//! The tables of assertions.
+//! Tests of the 18 assertions, against tables worked by hand.
 
 use rx_base::{Look, LookMatcher};
 use std::process::Abort;
 
-/// Whether an assertion holds at these offsets of a haystack, a digit each, and at no other.
+/// Whether an assertion holds at these offsets of a haystack and at no other. `offsets` has a digit for each.
 fn holds_at(look: Look, haystack: &[u8], offsets: &str) -> bool {
     let matcher = LookMatcher::default();
     for (at, digit) in b"0123456789".iter().enumerate() {
@@ -15,7 +15,7 @@ fn holds_at(look: Look, haystack: &[u8], offsets: &str) -> bool {
     haystack.len() < 10
 }
 
-/// Compares where assertions hold with the cells of their rows, one for each haystack.
+/// Compares where each assertion holds with the cells of its row. A cell lists the offsets in one haystack.
 fn compare(rt: &impl Abort, haystacks: &[&str], table: &[(Look, &[&str])]) {
     for (look, cells) in table {
         assert!(rt; cells.len() == haystacks.len());

@@ -1,9 +1,8 @@
-//! Sets of bytes, and classes worked by hand.
+//! Tests of byte sets and byte classes, worked by hand.
 
 use rx_base::{ByteClassSet, ByteClasses, ByteSet, Unit};
 
-/// Whether the classes begin at these bytes and at no other, so that the iterators yield what they should
-/// and then end.
+/// Whether the classes begin at these bytes and at no other. Checks both the classes and their iterators.
 fn begin_at(classes: &ByteClasses, firsts: &[u8]) -> bool {
     let mut seen = 0usize;
     for unit in classes.representatives() {
@@ -19,7 +18,7 @@ fn begin_at(classes: &ByteClasses, firsts: &[u8]) -> bool {
     seen == firsts.len().saturating_add(1) && classes.alphabet_len() == seen
 }
 
-/// Whether the bytes of a byte's class are those from it on up to the next class.
+/// Whether the class of a byte begins at `first` and ends before the next class begins.
 fn class_begins_at(classes: &ByteClasses, first: u8) -> bool {
     let class = classes.get(first);
     let mut last = None;
@@ -38,7 +37,7 @@ fn class_begins_at(classes: &ByteClasses, first: u8) -> bool {
     }
 }
 
-/// Whether bytes are in the classes of these numbers.
+/// Whether the bytes are in the classes with these numbers.
 fn have_numbers(classes: &ByteClasses, numbers: &[(u8, u8)]) -> bool {
     for (byte, number) in numbers {
         if classes.get(*byte) != *number {
@@ -58,7 +57,8 @@ fn classes_of_ranges(ranges: &[(u8, u8)]) -> ByteClasses {
     set.byte_classes()
 }
 
-/// The bytes of a text, and perhaps every byte, no byte, and those that are not ASCII.
+/// The classes of these sets: the bytes of a text, and optionally the set of every byte, the empty set, and the
+/// non-ASCII bytes.
 fn classes_of_sets(bytes: &[u8], with_full: bool, with_others: bool) -> ByteClasses {
     let mut named = ByteSet::empty();
     for byte in bytes {
@@ -110,8 +110,8 @@ fn classes_of_sets_are_those_of_the_table(rt: HostRuntime) {
     assert!(rt; have_numbers(&classes, &[(0x7f, 8), (0x80, 9)]));
 }
 
-/// How many classes there are, the end mark's among them, where all but the first have one byte, and the
-/// exponent of their stride.
+/// The number of classes, with the one for end of input, and the exponent of their stride. All classes but one have a
+/// single byte.
 fn sizes(len: usize) -> (usize, usize) {
     let mut set = ByteClassSet::empty();
     for byte in 0..255 {
@@ -136,7 +136,7 @@ fn the_least_and_the_most_classes_have_their_strides(rt: HostRuntime) {
     }
 }
 
-/// Whether bytes are classes: two that meet at 97, with one byte changed.
+/// Whether these 256 bytes are read as classes: 0 up to byte 96, 1 from 97 on, and one byte changed.
 fn is_read(at: u8, class: u8) -> bool {
     let mut bytes = [0; 256];
     for (byte, class) in bytes.iter_mut().enumerate() {
@@ -150,7 +150,7 @@ fn is_read(at: u8, class: u8) -> bool {
 }
 
 #[test]
-fn bytes_are_read_as_classes_where_they_are_some(rt: HostRuntime) {
+fn only_valid_bytes_are_read_as_classes(rt: HostRuntime) {
     let table: &[(u8, u8, bool)] = &[
         (0, 0, true),
         (0, 1, false),

@@ -1,4 +1,4 @@
-//! Sources and sinks, in memory and over the standard traits, with calls that fail.
+//! Tests of sources and sinks: in memory, over std's traits, and with calls that fail.
 
 use rx_base::{MemSink, MemSource, ReadAnswer, ReadSource, Sink, Source, WriteAnswer, WriteSink};
 use std::io;
@@ -6,7 +6,7 @@ use std::io::{ErrorKind, Read};
 use std::process::Abort;
 use std::test::Fail;
 
-/// Compares what a sink tells of each piece.
+/// Compares what a sink returns for each piece.
 fn compare_writes(rt: &impl Abort, sink: &mut impl Sink, want: &[(&[u8], WriteAnswer)]) {
     for (piece, answer) in want {
         assert!(rt; !piece.is_empty());
@@ -40,7 +40,7 @@ fn a_writer_takes_bytes_while_it_has_room(rt: HostRuntime) {
     assert!(rt; room.as_slice() == b"abc".as_slice());
 }
 
-/// Compares what a source tells at each read, and the buffer's first bytes then.
+/// Compares what a source returns for each read, and the first bytes of the buffer after it.
 fn compare_reads(
     rt: &impl Abort,
     source: &mut impl Source,

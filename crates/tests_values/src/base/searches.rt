@@ -1,4 +1,4 @@
-//! Matches, errors and searchers worked by hand.
+//! Tests of matches, errors and searchers, worked by hand.
 
 use rx_base::{
     Anchored, HalfMatch, Input, Match, MatchError, MatchErrorKind, Needles, PatternID, Searcher,
@@ -13,7 +13,7 @@ fn found(start: usize, end: usize) -> Option<Match> {
     }
 }
 
-/// The bytes of a match that ends within a haystack.
+/// The bytes of a match. Requires that the match ends in the haystack.
 fn matched<'h>(haystack: &'h [u8], m: &Match) -> &'h [u8] {
     if m.end() <= haystack.len() {
         &haystack[m.start()..m.end()]

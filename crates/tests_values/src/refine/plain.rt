@@ -1,12 +1,11 @@
-//! A plain, slow refinement, to compare with.
+//! A plain, slow refinement to compare with.
 
 ghost use Rattle.std.specs.Prelude.{◌≡◌, ℕ, ◌*◌, ◌<◌, ◌≤◌, length, All, IfOk};
 
 use std::alloc::{AllocError, Global};
 
-/// For each row the first row that behaves alike, by the definition: at first rows are alike that have
-/// one label; then, as long as this changes something, rows are alike that were so and whose next rows
-/// were.
+/// For each row, the first row that behaves alike, by the definition: at first two rows are alike if they have the same
+/// label. Then rows that are alike stay so only if their next rows are alike, until a round changes nothing.
 pub(crate) fn first_alike_rows(
     alloc: Global,
     units: usize,
@@ -29,7 +28,7 @@ pub(crate) fn first_alike_rows(
     Ok(blocks)
 }
 
-/// For each row the first row that is alike and whose next rows are.
+/// For each row, the first row that is alike and whose next rows are alike.
 fn split_once(
     alloc: Global,
     units: usize,
@@ -48,7 +47,7 @@ fn split_once(
     Ok(finer)
 }
 
-/// The first row that is alike and whose next rows are.
+/// The first row that is alike and whose next rows are alike.
 fn first_alike(row: usize, units: usize, next: &[u32], blocks: &[u32]) -> usize
     requires cells { length next.now ≡ length blocks.now * units }
     requires nexts { All (λ row. row < length blocks.now) next.now }
@@ -63,7 +62,7 @@ fn first_alike(row: usize, units: usize, next: &[u32], blocks: &[u32]) -> usize
     row
 }
 
-/// Whether each unit leads from both rows to rows that are alike.
+/// Whether each unit leads both rows to rows that are alike.
 fn next_alike(row: usize, other: usize, units: usize, next: &[u32], blocks: &[u32]) -> bool
     requires cells { length next.now ≡ length blocks.now * units }
     requires nexts { All (λ row. row < length blocks.now) next.now }

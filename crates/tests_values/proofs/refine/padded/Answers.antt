@@ -4,7 +4,7 @@ use Rattle.std.proofs.lemmas.Bool.{cases_eq, cases_lt}
 use Rattle.std.proofs.lemmas.Nat.{mul-add-lt, div-mul-add}
 use Rattle.tests_values.proofs.refine.padded.Goals as goal
 
--- an entry is an identifier, where it is the one that is written or was an identifier
+-- an entry is an id if it is the one that is written, or if it was an id
 id-set : (table : List ℕ) {place next : ℕ} (stride : ℕ) {rows : ℕ} (other : ℕ) → place < length table → 0 < stride
     → next < rows → ((other ≡ place → ⊥) → get_or table other 0 / stride < rows)
     → get_or (set table place (next * stride)) other 0 / stride < rows

@@ -4,7 +4,7 @@ use Rattle.rx_dense.specs.Builder.{pattern_lists}
 use Rattle.tests_tables.specs.Soundness.{IsPatternList}
 use Rattle.tests_tables.proofs.dense.soundness.are_pattern_lists.Given as goal
 
--- all lists are of patterns where those that are left are
+-- all are pattern lists if the remaining ones are
 abbrev pub invariant-loop-list : goal.invariant-loop-list
 invariant-loop-list l = All (IsPatternList l.pattern_len) (map vec_items l.list-iterator)
     → All (IsPatternList l.pattern_len) (pattern_lists l.lists)

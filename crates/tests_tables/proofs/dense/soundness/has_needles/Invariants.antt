@@ -4,7 +4,7 @@ use Rattle.rx_spec.specs.Ids.{row_of}
 use Rattle.rx_dense.specs.Layouts.{ids_of, table_of}
 use Rattle.tests_tables.proofs.dense.soundness.has_needles.Given as goal
 
--- the needles so far are the bytes so far that lead elsewhere
+-- the needles so far are the bytes so far that leave the row
 abbrev pub invariant-loop-byte : goal.invariant-loop-byte
 invariant-loop-byte l =
     let row = row_of (ids_of l.dfa) l.id in
