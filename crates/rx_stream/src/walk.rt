@@ -76,7 +76,8 @@ fn walk_far<A: Automaton>(table: &A, start: StateID, piece: &[u8], from: usize) 
     let mut row = start;
     let mut at = skip_at_start(table, row, piece, from);
     'passes: while at < piece.len() {
-        let far = at + ALONE.min(piece.len() - at);
+        let begun = at;
+        let far = begun + ALONE.min(piece.len() - begun);
         'bytes: while at < far {
             let byte = piece[at];
             row = table.next_state(row, byte);

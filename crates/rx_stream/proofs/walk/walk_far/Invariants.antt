@@ -22,7 +22,7 @@ invariant-bytes g l =
       is_id : IsId (a.ids table) l.row;
       walk : IsQuietWalk (a.table table) (row_of (a.ids table) l.fn.start) l.fn.piece l.fn.from
           (row_of (a.ids table) l.row) l.at;
-      on : l.passes.at ≤ l.at;
+      on : l.begun ≤ l.at;
     }
 
 abbrev pub decreases-bytes : goal.decreases-bytes
