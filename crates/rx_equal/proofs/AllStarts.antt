@@ -1,6 +1,6 @@
 -- Starts of all modes: those of patterns past the last part nothing.
 use Rattle.std.proofs.Common.{ℕ, ◌≡◌, ◌<◌, ◌≤◌, max, Bool, true, false, if◌then◌else◌, Option, Some, None, Result}
-use Rattle.std.proofs.Common.{Ok, Err, List, refl, ap, sym, ◌∙◌, subst, arith, ⊎_elim}
+use Rattle.std.proofs.Common.{Ok, Err, List, refl, sym, ◌∙◌, subst, arith, ⊎_elim}
 use Rattle.std.proofs.lemmas.Bool.{cases_lt}
 use Rattle.std.specs.Prelude.{is_some, IfSome}
 use Rattle.rx_spec.specs.Bytes.{contains}

@@ -1,18 +1,15 @@
 -- The tables of the examples: they are sound, and which of their pairs of rows are closed.
-use Rattle.std.proofs.Common.{ℕ, ◌≡◌, ◌<◌, ◌==◌, ◌&&◌, ◌⊎◌, Bool, true, false, if◌then◌else◌, Option, Some, None}
-use Rattle.std.proofs.Common.{Ok, Err, List, [], ◌∷◌, refl, ap, ap₂, sym, ◌∙◌, subst, arith, ⊎_elim}
+use Rattle.std.proofs.Common.{ℕ, ◌≡◌, ◌<◌, ◌==◌, ◌&&◌, Bool, true, false, if◌then◌else◌, Option, Some, None}
+use Rattle.std.proofs.Common.{List, [], ◌∷◌, refl, sym, subst, arith}
 use Rattle.std.proofs.lemmas.Bool.{eqb-true}
 use Rattle.std.proofs.lemmas.List.Elements.{All-contains, All-from_recursion}
-use Rattle.std.specs.Prelude.{nat_lt, All, Contains, IfSome}
+use Rattle.std.specs.Prelude.{nat_lt, All, Contains}
 use Rattle.rx_spec.specs.Bytes.{contains}
 use Rattle.rx_spec.specs.Queries.{Anchored}
 use Rattle.rx_spec.specs.Machines.{Label, label_of}
 use Rattle.rx_spec.specs.Starts.{StartError}
 use Rattle.rx_spec.specs.Tables.{Table, IsTable, IsSound}
-use Rattle.rx_spec.specs.declared.Start.{Start}
-use Rattle.lemmas_walks.proofs.Firsts.{Contains-here, Contains-there, Contains-nil, Contains-cases}
-use Rattle.rx_base.specs.StartConfig.{StartConfig}
-use Rattle.rx_equal.specs.Partings.{IsPlaceOf, answer_at, row_or}
+use Rattle.rx_equal.specs.Partings.{answer_at, row_or}
 use Rattle.rx_equal.specs.Evidence.{RowPair, AreClosed, AreMet, HaveEqualLabels, next_pair}
 use Rattle.rx_equal.specs.Examples.{four_rows, start_of_mode, told_by}
 

@@ -1,19 +1,18 @@
 -- Laws of partings: a table itself, two tables turned, and what equal tables refuse.
-use Rattle.std.proofs.Common.{ℕ, ◌≡◌, ◌≤◌, max, Bool, true, false, if◌then◌else◌, Option, Some, None, Result, Ok, Err}
+use Rattle.std.proofs.Common.{ℕ, ◌≡◌, Bool, true, false, if◌then◌else◌, Option, Some, None, Result, Ok, Err}
 use Rattle.std.proofs.Common.{List, [], refl, ap, ap₂, sym, ◌∙◌, arith}
 use Rattle.std.proofs.lemmas.Bool.{ltb-true}
 use Rattle.std.specs.Prelude.{◌<◌, is_some, nat_lt}
 use Rattle.rx_spec.specs.Bytes.{contains}
 use Rattle.rx_spec.specs.Queries.{Anchored}
-use Rattle.rx_spec.specs.Machines.{Machine, Settings}
+use Rattle.rx_spec.specs.Machines.{Machine}
 use Rattle.rx_spec.specs.Starts.{StartError, has_anchored, has_unanchored, mode_error, start_error, start_row, supports}
 use Rattle.rx_spec.specs.Tables.{Table}
 use Rattle.rx_spec.specs.Labels.{label_after}
 use Rattle.rx_spec.specs.declared.StartKind.{StartKind}
 use Rattle.lemmas_walks.proofs.Firsts.{by_test}
 use Rattle.lemmas_walks.proofs.Words.{IsWord-nil}
-use Rattle.rx_base.specs.StartConfig.{StartConfig}
-use Rattle.rx_equal.specs.Partings.{AreAlikeBy, IsModeOf, IsPlaceOf, NothingParts, answer_at, row_or}
+use Rattle.rx_equal.specs.Partings.{AreAlikeBy, IsModeOf, NothingParts, answer_at, row_or}
 use Rattle.rx_equal.specs.PartingsLaws.{BothHavePatternStarts, EqualQuitBytes, EqualRefusals, EqualStartKinds}
 use Rattle.rx_equal.specs.PartingsLaws.{NothingPartsItself, NothingPartsTurned, PartingTurned, StartsOfNoPattern}
 

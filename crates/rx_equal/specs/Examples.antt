@@ -12,15 +12,17 @@ use Rattle.rx_equal.specs.declared.evidence.Link.{Link}
 use Rattle.rx_equal.specs.Partings.{IsParting, NothingParts}
 use Rattle.rx_equal.specs.Evidence.{AreEvidence}
 
--- A table of four rows: dead, quit, the start, and a row that tells a list of patterns. From the start every byte leads
--- to one row; all else leads to dead, where the starts of patterns are too.
+-- the start row of a mode: patterns have dead ones
 abbrev pub start_of_mode : Anchored → ℕ
 start_of_mode (Anchored.Pattern k) = 0
 start_of_mode mode = 2
 
+-- quit, a row that tells a list of patterns, and two that tell nothing
 abbrev pub told_by : List ℕ → ℕ → Label
 told_by told row = if row == 1 then Label.Quits else (if row == 3 then label_of told else Label.Plain)
 
+-- A table of four rows: dead, quit, the start, and a row that tells a list of patterns. Every byte leads from the start
+-- to one row. The end of input leads to dead, and so does every unit from another row.
 abbrev pub four_rows : ℕ → Option ℕ → ℕ → List ℕ → Table
 four_rows pattern_len pattern_starts to told = record {
   size = 4;
@@ -48,7 +50,7 @@ four_rows pattern_len pattern_starts to told = record {
   universal_anchored = None;
 }
 
--- it is one that may be searched
+-- such a table is sound
 abbrev pub FourRowsAreSound : Type 0
 FourRowsAreSound = (pattern_len : ℕ) (pattern_starts : Option ℕ) (to : ℕ) (told : List ℕ)
     → to < 4 → All (λ k. k < pattern_len) told → IsSound (four_rows pattern_len pattern_starts to told)
@@ -57,7 +59,7 @@ FourRowsAreSound = (pattern_len : ℕ) (pattern_starts : Option ℕ) (to : ℕ) 
 abbrev pub at_edge : StartConfig
 at_edge = record { beside = None; mode = Anchored.No }
 
--- ---- Two tables without patterns: one has starts of patterns, namely for none, and the other hasn't.
+-- ---- Two tables without patterns: one has pattern starts, for 0 patterns, and the other has none.
 
 abbrev pub no_patterns : Option ℕ → Table
 no_patterns pattern_starts = four_rows 0 pattern_starts 0 []
@@ -66,17 +68,17 @@ abbrev pub PatternZeroParts : Type 0
 PatternZeroParts =
     IsParting (no_patterns (Some 0)) (no_patterns None) (record { beside = None; mode = Anchored.Pattern 0 }) []
 
--- in another mode no word parts them
+-- no word parts them in another mode
 abbrev pub PatternZeroAlone : Type 0
 PatternZeroAlone = (place : StartConfig) (word : List ℕ)
     → IsParting (no_patterns (Some 0)) (no_patterns None) place word → place.mode ≡ Anchored.Pattern 0
 
--- For how many patterns there are starts doesn't count, where these are dead.
+-- It doesn't count how many patterns have starts if these are dead.
 abbrev pub MoreDeadStarts : Type 0
 MoreDeadStarts = NothingParts (no_patterns (Some 0)) (no_patterns (Some 5))
 
--- ---- Two tables of two patterns that tell a match after the same words, but not of the same patterns, or in another
--- ---- order. Each word parts them that a byte begins and nothing follows.
+-- ---- Two tables of two patterns. Both tell a match after one byte, but of different patterns, or in another order. So
+-- ---- a word of one byte parts them.
 
 abbrev pub telling : List ℕ → Table
 telling told = four_rows 2 None 3 told
@@ -87,19 +89,19 @@ WhichPatternParts = IsParting (telling (0 ∷ [])) (telling (1 ∷ [])) at_edge 
 abbrev pub OrderParts : Type 0
 OrderParts = IsParting (telling (0 ∷ 1 ∷ [])) (telling (1 ∷ 0 ∷ [])) at_edge (97 ∷ [])
 
--- before a byte neither tells a pattern
+-- the empty word doesn't
 abbrev pub NoByteNoParting : Type 0
 NoByteNoParting = ¬ IsParting (telling (0 ∷ [])) (telling (1 ∷ [])) at_edge []
 
--- one quits where the other is dead
+-- one table quits where the other is dead
 abbrev pub QuitParts : Type 0
 QuitParts = IsParting (four_rows 0 None 1 []) (four_rows 0 None 0 []) at_edge (97 ∷ [])
 
--- one goes on to a row that tells nothing, where the other is dead
+-- one table goes on to a row that tells nothing, where the other is dead: that doesn't count
 abbrev pub SilentRowIsDead : Type 0
 SilentRowIsDead = NothingParts (four_rows 0 None 3 []) (four_rows 0 None 0 [])
 
--- ---- Links: the starts, where a byte leads from there, and where the end of input does.
+-- ---- Links for a table and itself: the start rows, where a byte leads from them, and where the end of input leads.
 
 abbrev pub three_links : List Link
 three_links = Link.Start at_edge ∷ Link.Next 0 (Unit.Byte 97) ∷ Link.Next 0 Unit.Eoi ∷ []
@@ -110,7 +112,7 @@ one_pattern = telling (0 ∷ [])
 abbrev pub ThreeLinksSuffice : Type 0
 ThreeLinksSuffice = AreEvidence one_pattern one_pattern three_links
 
--- Less is no evidence, though the tables are equal: without the starts, or without one pair of successors.
+-- Less is no evidence, although the tables are equal: the start rows are missing, or where the end of input leads.
 abbrev pub NoStartNoEvidence : Type 0
 NoStartNoEvidence = ¬ AreEvidence one_pattern one_pattern []
 
@@ -118,7 +120,7 @@ abbrev pub NoNextNoEvidence : Type 0
 NoNextNoEvidence =
     ¬ AreEvidence one_pattern one_pattern (Link.Start at_edge ∷ Link.Next 0 (Unit.Byte 97) ∷ [])
 
--- nor are links one of which names no earlier one, or whose rows tell different things
+-- Links are no evidence either if one of them refers to no earlier link, or if the rows tell different patterns.
 abbrev pub NoPairNoEvidence : Type 0
 NoPairNoEvidence = ¬ AreEvidence one_pattern one_pattern (Link.Next 0 (Unit.Byte 97) ∷ three_links)
 

@@ -1,4 +1,4 @@
-use Rattle.std.proofs.Common.{ℕ, ◌≡◌, List, [], ◌∷◌, refl}
+use Rattle.std.proofs.Common.{◌≡◌, [], ◌∷◌, refl}
 use Rattle.rx_spec.specs.Machines.{Label, run}
 use Rattle.rx_equal.proofs.Closed.{nothing_parts}
 use Rattle.rx_equal.proofs.FourRows.{three_closed}

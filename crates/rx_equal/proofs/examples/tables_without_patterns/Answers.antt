@@ -1,7 +1,5 @@
-use Rattle.std.proofs.Common.{ℕ, ◌≡◌, Bool, true, false, if◌then◌else◌, Option, Some, None, List, refl, ap, arith}
-use Rattle.rx_spec.specs.Bytes.{contains}
+use Rattle.std.proofs.Common.{ℕ, ◌≡◌, Option, Some, None, List, refl, ap, arith}
 use Rattle.rx_spec.specs.Queries.{Anchored}
-use Rattle.rx_spec.specs.Starts.{StartError}
 use Rattle.rx_spec.specs.Tables.{Table}
 use Rattle.rx_equal.specs.Partings.{AreAlikeBy, IsParting, answer_at}
 use Rattle.rx_equal.specs.Examples.{no_patterns}
