@@ -13,12 +13,12 @@ use Rattle.rx_spec.specs.Queries.{Query}
 use Rattle.rx_spec.specs.HalfSearches.{next_offset}
 use Rattle.rx_spec.specs.declared.Direction.{Direction}
 use Rattle.rx_search.specs.Needles.{byte_ahead, offset_after}
-use Rattle.rx_search.specs.Passing.{row_on, Leads, Passes}
+use Rattle.rx_search.specs.Passing.{row_on, IsFarthest, Leads, Passes}
 use Rattle.rx_search.specs.Starts.{IsId}
-use Rattle.rx_search.specs.Walks.{IsInSpan, last_offset, bytes_left, units_left, next_stop}
-use Rattle.rx_search.specs.Counted.{IsReady, counts, counted, ends_at}
+use Rattle.rx_search.specs.Walks.{last_offset, bytes_left, units_left, next_stop}
+use Rattle.rx_search.specs.Counted.{IsReady, counts, counted}
 use Rattle.rx_search.proofs.Standing.{Standing}
-use Rattle.rx_search.proofs.Walks.{Place, next_place, next_left, Turn, Step, step_quiet, step_units, IsQuiet}
+use Rattle.rx_search.proofs.Walks.{Place, next_place, next_left, Turn, Step, step_quiet, step_units}
 use Rattle.rx_search.proofs.Walks.{ordinary, unaccelerated, byte_there}
 use Rattle.rx_search.proofs.Counting.{counted-cons, quiet_goes_on}
 use Rattle.rx_search.proofs.Needles.{stays}
@@ -63,17 +63,30 @@ module _ (t : Table) (direction : Direction) (haystack : List ℕ) where
   unfolding row_on
   leads_none row offset = record { next_is = refl; ordinary = λ k h. absurd (omega (arith, h)) }
 
+  -- the row to which the next byte leads
+  next_on : {row offset next count : ℕ} (more : ℕ) → Leads t direction haystack row offset next count
+      → more ≡ t.machine.next next (byte_ahead direction haystack (offset_after direction offset count))
+      → more ≡ row_on t.machine direction haystack row offset (count + 1)
+  unfolding row_on
+  next_on {row} {offset} {next} {count} more l leads =
+      let one : suc count ≡ count + 1 = omega arith in
+      leads ∙ ap (λ (r : ℕ). t.machine.next r (byte_ahead direction haystack (offset_after direction offset count)))
+      l.next_is ∙ ap (row_on t.machine direction haystack row offset) one
+
+  -- it is special
+  pub leads_no_further : {row offset next count bytes : ℕ} (more : ℕ) → Leads t direction haystack row offset next count
+      → more ≡ t.machine.next next (byte_ahead direction haystack (offset_after direction offset count))
+      → t.is_special more ≡ true
+      → IsFarthest t direction haystack row offset count bytes
+  leads_no_further more l leads special = record { stops = λ _. ap t.is_special (sym (next_on more l leads)) ∙ special }
+
   -- one byte more
   pub leads_more : {row offset next count : ℕ} (more : ℕ) → Leads t direction haystack row offset next count
       → more ≡ t.machine.next next (byte_ahead direction haystack (offset_after direction offset count))
       → t.is_special more ≡ false
       → Leads t direction haystack row offset more (count + 1)
-  unfolding row_on
   leads_more {row} {offset} {next} {count} more l leads plain =
-      let one : suc count ≡ count + 1 = omega arith in
-      let there : more ≡ row_on t.machine direction haystack row offset (count + 1)
-      = leads ∙ ap (λ (r : ℕ). t.machine.next r (byte_ahead direction haystack (offset_after direction offset count)))
-      l.next_is ∙ ap (row_on t.machine direction haystack row offset) one in
+      let there = next_on more l leads in
       record {
         next_is = there;
         ordinary = λ k h.
@@ -86,28 +99,40 @@ module _ (t : Table) (direction : Direction) (haystack : List ℕ) where
             (cases_lt k count);
       }
 
+  joined_on : {row offset mid n : ℕ} → Leads t direction haystack row offset mid n → (i : ℕ)
+      → row_on t.machine direction haystack mid (offset_after direction offset n) i
+      ≡ row_on t.machine direction haystack row offset (n + i)
+  joined_on {row} {offset} {mid} {n} l i =
+      ap (λ (r : ℕ). row_on t.machine direction haystack r (offset_after direction offset n) i) l.next_is
+      ∙ row_on-add t.machine direction haystack row offset n i
+
   -- where a walk goes on from the row and the offset that another has reached, both are one
   pub leads_on : {row offset mid n next k : ℕ} → Leads t direction haystack row offset mid n
       → Leads t direction haystack mid (offset_after direction offset n) next k
       → Leads t direction haystack row offset next (n + k)
   leads_on {row} {offset} {mid} {n} {next} {k} l more = record {
-    next_is = more.next_is ∙ joined k;
+    next_is = more.next_is ∙ joined_on l k;
     ordinary = λ j h.
         ⊎_elim
         (λ (before : j < n). l.ordinary j before)
         (λ (behind : n ≤ j).
         let same : n + ((j - n) + 1) ≡ j + 1 = omega (arith, behind) in
         ap (λ (i : ℕ). t.is_special (row_on t.machine direction haystack row offset i)) (sym same)
-        ∙ ap t.is_special (sym (joined ((j - n) + 1)))
+        ∙ ap t.is_special (sym (joined_on l ((j - n) + 1)))
         ∙ more.ordinary (j - n) (omega (arith, h, behind)))
         (cases_lt j n);
   }
-    where
-      joined : (i : ℕ) → row_on t.machine direction haystack mid (offset_after direction offset n) i
-          ≡ row_on t.machine direction haystack row offset (n + i)
-      joined i =
-          ap (λ (r : ℕ). row_on t.machine direction haystack r (offset_after direction offset n) i) l.next_is
-          ∙ row_on-add t.machine direction haystack row offset n i
+
+  -- both stop where the later one does
+  pub no_further_on : {row offset mid n k bytes all : ℕ} → Leads t direction haystack row offset mid n
+      → IsFarthest t direction haystack mid (offset_after direction offset n) k bytes → k < bytes
+      → IsFarthest t direction haystack row offset (n + k) all
+  no_further_on {row} {offset} {mid} {n} {k} l farthest more =
+      let same : n + (k + 1) ≡ n + k + 1 = omega arith in record {
+        stops = λ _.
+            ap (λ (i : ℕ). t.is_special (row_on t.machine direction haystack row offset i)) (sym same)
+            ∙ ap t.is_special (sym (joined_on l (k + 1))) ∙ farthest.stops more;
+      }
 
   -- a walk that begins elsewhere than where another has come, but at the same row
   pub leads_through : {row offset first entry start next n k : ℕ} → Leads t direction haystack row offset first n

@@ -1,5 +1,5 @@
 -- Walks over bytes that lead to ordinary rows alone.
-use Rattle.std.specs.Prelude.{ℕ, zero, suc, ◌≡◌, ◌<◌, ◌≤◌, ◌+◌, false, List}
+use Rattle.std.specs.Prelude.{ℕ, zero, suc, ◌≡◌, ◌<◌, ◌≤◌, ◌+◌, false, true, List}
 use Rattle.rx_spec.specs.Machines.{Machine}
 use Rattle.rx_spec.specs.Tables.{Table}
 use Rattle.rx_spec.specs.Queries.{Query}
@@ -19,6 +19,11 @@ pub record Leads (t : Table) (direction : Direction) (haystack : List ℕ) (row 
   pub next_is : next ≡ row_on t.machine direction haystack row offset count
   pub ordinary : (k : ℕ) → k < count
       → t.is_special (row_on t.machine direction haystack row offset (k + 1)) ≡ false
+
+-- Of the bytes from an offset on so many are passed over, all of them or up to one that leads to a special row.
+pub record IsFarthest (t : Table) (direction : Direction) (haystack : List ℕ) (row offset count bytes : ℕ) : Type 0
+  where
+    pub stops : count < bytes → t.is_special (row_on t.machine direction haystack row offset (count + 1)) ≡ true
 
 -- A walk passes from a row and an offset of a span to others, over bytes that lead to ordinary rows.
 pub record Passes (t : Table) (direction : Direction) (q : Query) (row from next to : ℕ) : Type 0 where

@@ -60,6 +60,9 @@ pub trait Automaton: Drop {
     fn leads_as_previous(&self, byte: u8) -> bool
         ensures { IsTrue result → LeadsAsPrevious (table self.now) byte };
 
+    /// Whether walks over a long text are faster if they read it at several places at once. This changes no answer.
+    fn prefers_several_places(&self) -> bool;
+
     /// The row in which a search starts, by the byte beside its span and its mode.
     fn start_state(&self, config: &Config) -> Result<StateID, StartError>
         ensures { Starts (table self.now) (ids self.now) config.now result };
@@ -265,6 +268,11 @@ impl<A: Automaton> Automaton for &A {
 
     fn leads_as_previous(&self, byte: u8) -> bool {
         (**self).leads_as_previous(byte)
+    }
+
+    #[inline(always)]
+    fn prefers_several_places(&self) -> bool {
+        (**self).prefers_several_places()
     }
 
     fn start_state(&self, config: &Config) -> Result<StateID, StartError> {

@@ -13,6 +13,7 @@ ghost use Rattle.rx_search.specs.Starts.{IsId, IsStart, IsRefused};
 
 use crate::Automaton;
 use crate::parts::{Passed, pass_on};
+use crate::walk::Places;
 use rx_base::{Direction, Input, MatchError, Needles, PatternID, StateID, Steps, Tally, Unit};
 use std::marker::PhantomData;
 
@@ -98,6 +99,15 @@ impl<A: Automaton, L> Cursor<A, L> {
         };
         self.row = row;
         steps.tick();
+    }
+
+    /// At how many places a walk of the table reads where nothing is counted.
+    #[inline(always)]
+    pub(crate) fn places(&self) -> Places {
+        match self.table.prefers_several_places() {
+            true => Places::Several,
+            false => Places::One,
+        }
     }
 
     /// Takes the transitions on the bytes from an offset up to the first one that leads to a special row, or to an

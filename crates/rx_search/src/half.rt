@@ -31,7 +31,7 @@ pub fn find_fwd<A: Automaton>(dfa: &A, input: &Input<'_>) -> Result<Option<HalfM
     // What is told lies in the span.
     ensures within { IfOk result (λ found. IfSome found (λ h. IsInSpan (query_of input.now) h.offset)) }
 {
-    if input.end().saturating_sub(input.start()) < FAR {
+    if !dfa.prefers_several_places() || input.end().saturating_sub(input.start()) < FAR {
         return find_near(dfa, input);
     }
     find_far(dfa, input)
@@ -50,7 +50,7 @@ pub fn find_rev<A: Automaton>(dfa: &A, input: &Input<'_>) -> Result<Option<HalfM
     find(dfa, input, Direction::Reverse, Places::One)
 }
 
-/// The forward search of a short span.
+/// The forward search at one place.
 #[inline(never)]
 fn find_near<A: Automaton>(dfa: &A, input: &Input<'_>) -> Result<Option<HalfMatch>, MatchError>
     requires sound { A.IsSound dfa.now }
@@ -62,7 +62,7 @@ fn find_near<A: Automaton>(dfa: &A, input: &Input<'_>) -> Result<Option<HalfMatc
     find(dfa, input, Direction::Forward, Places::One)
 }
 
-/// The forward search of a long span. Each of both is a function of its own, and so as short as it can be.
+/// The forward search at several places. It is a function of its own, so that the loop of [`find_near`] stays short.
 #[inline(never)]
 fn find_far<A: Automaton>(dfa: &A, input: &Input<'_>) -> Result<Option<HalfMatch>, MatchError>
     requires sound { A.IsSound dfa.now }

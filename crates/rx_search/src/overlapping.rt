@@ -16,7 +16,7 @@ ghost use Rattle.rx_search.specs.Walks.{IsInSpan, units_left};
 use crate::cursor::start;
 use crate::skip::skip;
 use crate::splits::skips_splits;
-use crate::walk::{Places, first_offset, last_offset, next_match, next_offset};
+use crate::walk::{first_offset, last_offset, next_match, next_offset};
 use crate::{Automaton, Cursor};
 use rx_base::{Direction, HalfMatch, Input, MatchError, StateID, Steps, Tally};
 
@@ -274,7 +274,8 @@ fn tell_next<A: Automaton>(
         (units_left direction q from)) }
 {
     let mut steps = Steps::new(Tally);
-    match next_match(cursor, input, direction, from, Places::Several, &mut steps) {
+    let places = cursor.places();
+    match next_match(cursor, input, direction, from, places, &mut steps) {
         Err(error) => {
             state.stage = Stage::Ended;
             Err(error)

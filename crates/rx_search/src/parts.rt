@@ -9,7 +9,7 @@ ghost use Rattle.std.specs.Prelude.{◌≡◌, ◌+◌, ◌-◌, ◌*◌, ◌<�
 ghost use Rattle.rx_spec.specs.Ids.{row_of};
 ghost use Rattle.rx_spec.specs.declared.Direction.TheVariants.{Forward};
 ghost use Rattle.rx_search.specs.FourWalks.{AreIdsOf, AreLed, AreOrdinary, JoinsTo};
-ghost use Rattle.rx_search.specs.Passing.{Leads};
+ghost use Rattle.rx_search.specs.Passing.{IsFarthest, Leads};
 ghost use Rattle.rx_search.specs.Starts.{IsId};
 
 use crate::Automaton;
@@ -64,6 +64,8 @@ pub fn pass_on<A: Automaton>(dfa: &A, passed: &mut Passed, haystack: &[u8], from
     ensures leads { Leads (A.table dfa.now) Forward haystack.now (row_of (A.ids dfa.now) passed.old.row) from
         (row_of (A.ids dfa.now) passed.new.row) passed.new.count }
     ensures within { passed.new.count ≤ end - from }
+    ensures farthest { IsFarthest (A.table dfa.now) Forward haystack.now (row_of (A.ids dfa.now) passed.old.row) from
+        passed.new.count (end - from) }
 {
     *passed = pass_far(dfa, passed.row, haystack, from, end);
 }
@@ -78,6 +80,8 @@ fn pass_far<A: Automaton>(dfa: &A, row: StateID, haystack: &[u8], from: usize, e
     ensures leads { Leads (A.table dfa.now) Forward haystack.now (row_of (A.ids dfa.now) row) from
         (row_of (A.ids dfa.now) result.row) result.count }
     ensures within { result.count ≤ end - from }
+    ensures farthest { IsFarthest (A.table dfa.now) Forward haystack.now (row_of (A.ids dfa.now) row) from
+        result.count (end - from) }
 {
     let mut passed = Passed { row, count: 0 };
     let mut alone = ALONE;
@@ -144,6 +148,8 @@ fn pass_alone<A: Automaton>(
     ensures leads { Leads (A.table dfa.now) Forward haystack.now (row_of (A.ids dfa.now) row) from
         (row_of (A.ids dfa.now) result.row) result.count }
     ensures within { result.count ≤ bytes }
+    ensures farthest { IsFarthest (A.table dfa.now) Forward haystack.now (row_of (A.ids dfa.now) row) from
+        result.count bytes }
 {
     let mut here = row;
     let mut count = 0;

@@ -34,7 +34,7 @@ pub(crate) fn walk<A: Automaton>(table: &A, start: StateID, piece: &[u8], from: 
     requires within { from ≤ length piece.now }
     ensures { HaltsAt (A.table table.now) (A.ids table.now) (row_of (A.ids table.now) start) piece.now from result }
 {
-    if piece.len() - from < FAR {
+    if !table.prefers_several_places() || piece.len() - from < FAR {
         return walk_near(table, start, piece, from);
     }
     walk_far(table, start, piece, from)

@@ -85,6 +85,11 @@ impl<T: ByteStore> Automaton for DFA<T> {
         byte > 0 && classes.get(byte) == classes.get(byte - 1)
     }
 
+    #[inline(always)]
+    fn prefers_several_places(&self) -> bool {
+        false
+    }
+
     fn start_state(&self, config: &Config) -> Result<StateID, StartError> {
         match self.start_error(config) {
             Some(error) => Err(error),

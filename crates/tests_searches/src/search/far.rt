@@ -1,8 +1,11 @@
-//! Tests of forward searches over long spans, which may read at several places at once, beside the counted search.
+//! Tests of forward searches over long spans, which may read at several places at once, beside the counted search; and
+//! of long pieces of a text.
 
 use super::sample::{Row, Sample, make_sample};
 use super::{Asked, Told, counted, half, input};
 use rx_base::Direction::Forward;
+use rx_base::{Anchored, HalfMatch, PatternID};
+use rx_stream::{Fed, StreamEvent, StreamSearcher};
 use std::alloc::{AllocError, Global};
 use std::process::Abort;
 use std::test::Fail;
@@ -170,5 +173,52 @@ fn spans_inside_a_haystack_end_where_they_end(rt: HostRuntime) -> Result<(), Fai
         check_far(&rt, &marked, &text, 1, 30_000),
         Told::Match(0, 29_999)
     );
+    Ok(())
+}
+
+/// The first event of a text that comes in one piece of at most 12,000 bytes. `None` if the table has no start state.
+fn first_event(rt: &impl Abort, table: &Sample, text: &[u8]) -> Option<Fed> {
+    match StreamSearcher::<&Sample>::new(table, Anchored::No) {
+        Err(_) => None,
+        Ok(new) => {
+            let mut searcher = new;
+            assert!(rt; searcher.is_open());
+            assert!(rt; searcher.taken() == 0 && text.len() <= 12_000);
+            Some(searcher.feed(text, 0))
+        }
+    }
+}
+
+#[test]
+fn a_long_piece_is_read_up_to_a_special_row_at_each_place(rt: HostRuntime) -> Result<(), Fail> {
+    let alloc = rt.alloc();
+    let table = make_sample(&rt, alloc, &MARKED)?;
+    let mut text = repeat(alloc, b'.', 12_000)?;
+    'places: for at in 2_000..6_300 {
+        let found = StreamEvent::Match(HalfMatch::new(PatternID::ZERO, at));
+        let quit = StreamEvent::Quit {
+            byte: b'q',
+            offset: at,
+        };
+        for (mark, event) in [
+            (b'x', Some(found)),
+            (b'q', Some(quit)),
+            (b'd', None),
+            (b'a', None),
+        ] {
+            // marks other than `x` stand only at every seventh place
+            if mark != b'x' && at % 7 != 0 {
+                continue;
+            }
+            if let Some(byte) = text.get_mut(at) {
+                *byte = mark;
+            }
+            let used = if event.is_some() { at + 1 } else { 12_000 };
+            assert_eq!(rt; first_event(&rt, &table, &text), Some(Fed { used, event }));
+        }
+        if let Some(byte) = text.get_mut(at) {
+            *byte = b'.';
+        }
+    }
     Ok(())
 }

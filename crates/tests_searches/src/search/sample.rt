@@ -204,6 +204,10 @@ impl Automaton for Sample {
         false
     }
 
+    fn prefers_several_places(&self) -> bool {
+        true
+    }
+
     fn start_state(&self, config: &Config) -> Result<StateID, StartError> {
         if let Some(byte) = config.get_look_behind() {
             if self.quit.contains(byte) {

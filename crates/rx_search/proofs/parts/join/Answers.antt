@@ -1,4 +1,4 @@
-use Rattle.std.proofs.Common.{◌≡◌, sym, ◌∙◌, arith}
+use Rattle.std.proofs.Common.{arith}
 use Rattle.rx_search.proofs.FourWalks.{through_two, through_three, through_four}
 use Rattle.rx_search.proofs.Passing.{same_id}
 use Rattle.rx_search.proofs.parts.join.Goals as goal

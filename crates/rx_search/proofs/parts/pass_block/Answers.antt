@@ -1,5 +1,4 @@
-use Rattle.std.proofs.Common.{◌≡◌, ℕ, ◌+◌, subst, sym, ◌∙◌, arith}
-use Rattle.rx_spec.specs.Ids.{row_of}
+use Rattle.std.proofs.Common.{◌≡◌, ℕ, subst, arith}
 use Rattle.rx_search.specs.FourWalks.{AreWalks}
 use Rattle.rx_search.specs.declared.parts.Rows.{Rows}
 use Rattle.rx_search.proofs.FourWalks.{walks_none, walks_more}

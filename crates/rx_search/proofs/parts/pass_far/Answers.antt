@@ -1,7 +1,7 @@
-use Rattle.std.proofs.Common.{◌≡◌, ℕ, ◌+◌, sym, ◌∙◌, arith}
+use Rattle.std.proofs.Common.{arith}
 use Rattle.rx_spec.specs.Ids.{row_of}
 use Rattle.rx_spec.specs.declared.Direction.{Direction}
-use Rattle.rx_search.proofs.Passing.{leads_none, leads_on}
+use Rattle.rx_search.proofs.Passing.{leads_none, leads_on, no_further_on}
 use Rattle.rx_search.proofs.parts.pass_far.Goals as goal
 
 pub turns-init : goal.turns-init
@@ -32,6 +32,17 @@ returns-then-more-bytes-clause-leads g c =
     let inv = c.turns.invariant in
     leads_on t Direction.Forward hay
     (leads_on t Direction.Forward hay inv.leads c.pass_block_within-block.ensures.leads) c.pass_alone-more.ensures.leads
+
+pub returns-then-more-bytes-clause-farthest : goal.returns-then-more-bytes-clause-farthest
+returns-then-more-bytes-clause-farthest g c =
+    let t = g.A.Automaton.table c.args.dfa.now in
+    let walk = leads_on t Direction.Forward c.args.haystack.now c.turns.invariant.leads
+    c.pass_block_within-block.ensures.leads in
+    no_further_on t Direction.Forward c.args.haystack.now walk c.pass_alone-more.ensures.farthest
+    (omega (arith, c.if-more-bytes.true))
+
+pub returns-clause-farthest : goal.returns-clause-farthest
+returns-clause-farthest g c = record { stops = λ h. absurd (omega (arith, h, c.turns-test.false)) }
 
 pub turns-preserved : goal.turns-preserved
 turns-preserved g c =
