@@ -12,6 +12,8 @@ pub mod Swaps
 pub mod Renaming
 -- lists of patterns
 pub mod PatternLists
+-- what is made ahead of the match rows
+pub mod Marks
 -- universal starts
 pub mod UniversalStarts
 -- rows, transitions and start entries, as they are handed out one by one, and ranges of classes

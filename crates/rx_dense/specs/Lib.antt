@@ -7,6 +7,8 @@ pub mod Layouts
 pub mod Facts
 -- the parts of which a table is made
 pub mod Parts
+-- what is made ahead of the match rows
+pub mod Marks
 -- what a builder's calls make of a table
 pub mod Builder
 -- rows and start entries, as they are handed out one by one

@@ -10,10 +10,12 @@ ghost use Rattle.rx_search.specs.Starts.{IsId};
 ghost use Rattle.rx_dense.specs.Accels.{accel_lists};
 ghost use Rattle.rx_dense.specs.Layouts.{AreLists, AreRows, AreStarts, IsRowId, context_number, ids_of, is_row_id};
 ghost use Rattle.rx_dense.specs.Layouts.{mode_place};
+ghost use Rattle.rx_dense.specs.Marks.{AreMarks};
 ghost use Rattle.rx_dense.specs.Layouts.{place_in_range, row_count, start_id, stride};
 
 mod automaton;
 mod build;
+mod marks;
 pub(crate) mod parts;
 mod pattern_map;
 mod rows;
@@ -44,10 +46,14 @@ pub struct DFA<T: WordStore> {
     universal_anchored: Option<StateID>,
     slices: T,
     pattern_ids: T,
+    marks: T,
     pattern_len: usize,
     accels: T,
     quitset: ByteSet,
     flags: Flags,
+    // Of each match row its first pattern, and whether a search may end there; or nothing.
+    ghost marked: { AreMarks (T.list words) (alphabet_len classes) (2 ^ stride2) special.min_match (T.list slices)
+        (T.list pattern_ids) (T.list marks) },
 }
 
 /// A dense table that owns its words, as a builder makes it.
@@ -180,6 +186,7 @@ impl<T: WordStore> DFA<T> {
             universal_anchored: self.universal_anchored,
             slices: self.slices.words(),
             pattern_ids: self.pattern_ids.words(),
+            marks: self.marks.words(),
             pattern_len: self.pattern_len,
             accels: self.accels.words(),
             quitset: self.quitset,
@@ -204,6 +211,7 @@ impl<T: WordStore> DFA<T> {
             universal_anchored: self.universal_anchored,
             slices: Vec::from_slice(alloc, self.slices.words())?,
             pattern_ids: Vec::from_slice(alloc, self.pattern_ids.words())?,
+            marks: Vec::from_slice(alloc, self.marks.words())?,
             pattern_len: self.pattern_len,
             accels: Vec::from_slice(alloc, self.accels.words())?,
             quitset: self.quitset,
@@ -212,7 +220,7 @@ impl<T: WordStore> DFA<T> {
     }
 
     /// The bytes that the words take: those of the rows, the start entries, two words for each match row, the
-    /// pattern ids, and one word and two for each accelerated row.
+    /// pattern ids, and one word and two for each accelerated row. What is made ahead for searches isn't counted.
     pub fn memory_usage(&self) -> usize
         ensures { result ≡ memory_usage self.now }
     {

@@ -85,7 +85,8 @@ fn read_table(alloc: Global, bytes: &[u8]) -> Result<(OwnedDFA, usize), Deserial
         return Err(DeserializeError::generic("the parts don't fit each other"));
     }
     let size = bytes.len().saturating_sub(rest.len());
-    Ok((DFA::from_parts(parts), size))
+    let table = DFA::from_parts(parts).with_marks()?;
+    Ok((table, size))
 }
 
 impl DenseRead for DFA<Vec<u32>> {

@@ -6,7 +6,7 @@ use Rattle.std.specs.Prelude.{slice_index}
 use Rattle.rx_spec.specs.Bytes.{AreBytes}
 use Rattle.rx_spec.specs.Queries.{Query, HalfMatch, MatchError, IsFit, is_done}
 use Rattle.rx_spec.specs.Starts.{start_context}
-use Rattle.rx_spec.specs.Machines.{Label, Machine}
+use Rattle.rx_spec.specs.Machines.{Label, Machine, IsWord}
 use Rattle.rx_spec.specs.HalfSearches.{HalfAnswer, first_offset, next_offset, units_of, first_match, last_match}
 use Rattle.rx_spec.specs.HalfSearches.{at_label}
 use Rattle.rx_spec.specs.HalfSearches.{walk, whole_walk, half_search, beside}
@@ -16,11 +16,12 @@ use Rattle.rx_search.specs.Starts.{IsStart}
 use Rattle.rx_spec.specs.Tables.{Table, IsSound, is_match}
 use Rattle.rx_spec.specs.declared.Direction.{Direction}
 use Rattle.lemmas_walks.proofs.Firsts.{by_test}
-use Rattle.lemmas_tables.proofs.Tables.{match_alive}
+use Rattle.lemmas_tables.proofs.Tables.{match_alive, units_below}
+use Rattle.lemmas_walks.proofs.Words.{IsWord-head}
 use Rattle.lemmas_walks.proofs.Walking.{walk-nil, walk-cons}
-use Rattle.rx_search.specs.Labels.{patterns_of}
+use Rattle.rx_search.specs.Labels.{patterns_of, IsFinal}
 use Rattle.rx_search.specs.Needles.{byte_ahead, Skips}
-use Rattle.rx_search.specs.Walks.{last_offset, previous_offset, units_left, units_after, at_stop_label, next_stop}
+use Rattle.rx_search.specs.Walks.{rest, last_offset, previous_offset, units_left, units_after, at_stop_label, next_stop}
 use Rattle.rx_search.specs.Walks.{Stop, stop_error}
 use Rattle.rx_search.specs.Walks.{IsInSpan, IsMet}
 use Rattle.rx_search.specs.Counted.{HasRoomFor, IsReady, ends_at, counted, counted_on}
@@ -136,17 +137,54 @@ match_skip {t} {row} direction q s is bytes late p skips =
     (first_is (patterns_of t row) o ∙ ap (match_at t row) (sym (previous-next direction q place ne))))
     p skips
 
+-- ---- final rows
+
+-- behind a row that leads to the dead row alone the last match stays
+walk_final : {t : Table} {row : ℕ} → Standing t row → IsFinal t row → (direction : Direction) (earliest : Bool)
+    (offset : ℕ) (last : HalfMatch) (units : List ℕ) → IsWord units
+    → walk t.machine direction earliest row offset (Some last) units ≡ Ok (Some last)
+walk_final {t} {row} s final direction earliest offset last [] word =
+    walk-nil t.machine direction earliest row offset (Some last)
+walk_final {t} {row} s final direction earliest offset last (unit ∷ units) word =
+    let on = λ (r : ℕ) (label : Label) (dead : Bool).
+    let met = last_match label offset (Some last) in
+    at_label label direction earliest unit offset (Ok met)
+    (if dead then Ok met else walk t.machine direction earliest r (next_offset direction offset) met units) in
+    let two = s.below in
+    walk-cons t.machine direction earliest row unit offset (Some last) units
+    ∙ ap (λ (r : ℕ). on r (t.machine.label r) (t.machine.is_dead r)) (final.to_dead unit (IsWord-head unit units word))
+    ∙ ap₂ (on 0) s.sound.is_table.dead_label (s.sound.is_table.dead_only 0 (omega (arith, two)))
+
+bytes_on : (direction : Direction) (q : Query) (from : ℕ) → AreBytes q.haystack
+    → AreBytes (rest direction q from).haystack
+bytes_on Direction.Forward q from bytes = bytes
+bytes_on Direction.Reverse q from bytes = bytes
+
 -- ---- how far a half search has come
 
+-- what is left of it, from a standpoint on and with the match that was told last
+abbrev pub walk_left : Table → Direction → Query → Standpoint → Option HalfMatch → HalfAnswer
+walk_left t direction q now last =
+    walk t.machine direction q.earliest now.row now.offset last (units_left direction q now.offset)
+
 pub record HalfProgress (t : Table) (direction : Direction) (q : Query)
-    (first now : Standpoint) (last : Option HalfMatch)
+    (first now : Standpoint) (met last : Option HalfMatch)
     : Type 0 where
   pub in_span : IsInSpan q now.offset
-  pub walked : whole_walk t.machine direction q first.row
-      ≡ walk t.machine direction q.earliest now.row now.offset last (units_left direction q now.offset)
+  pub walked : walk_left t direction q first met ≡ walk_left t direction q now last
   pub is_ready : IsReady t direction q now.row now.offset
   pub count : now.steps + counted t q.earliest now.row (units_left direction q now.offset)
-      ≤ first.steps + counted t q.earliest first.row (units_of direction q)
+      ≤ first.steps + counted t q.earliest first.row (units_left direction q first.offset)
+
+pub stands : {t : Table} {direction : Direction} {q : Query} (first : Standpoint) (met : Option HalfMatch)
+    → IsInSpan q first.offset → IsReady t direction q first.row first.offset
+    → HalfProgress t direction q first first met met
+stands first met in_span ready = record {
+  in_span = in_span;
+  walked = refl;
+  is_ready = ready;
+  count = omega arith;
+}
 
 -- a span that isn't done
 pub record Open (q : Query) : Type 0 where
@@ -155,6 +193,12 @@ pub record Open (q : Query) : Type 0 where
 
 pub open_span : {q : Query} → IsFit q → is_done q ≡ false → Open q
 open_span {q} fits goes = record { order = ltb-false q.end q.start goes; fits = fits.within }
+
+pub open_at : {q : Query} {offset : ℕ} → IsFit q → IsInSpan q offset → Open q
+open_at fits in_span =
+    let low = in_span.low in
+    let high = in_span.high in
+    record { order = omega arith; fits = fits.within }
 
 -- the row where it starts, and what the whole walk from there is
 pub plain_start : {t : Table} {direction : Direction} {q : Query} {row : ℕ} → IsSound t → IsStart t direction q row
@@ -182,12 +226,16 @@ counted_room t direction q row steps fits (inr room) =
     omega (arith, room, fits, counted_few t q.earliest row (units_of direction q), units_count direction q)
 
 -- where it begins, at a row that tells nothing, behind what may be skipped
+pub record Begins (t : Table) (direction : Direction) (q : Query) (row to : ℕ) : Type 0 where
+  pub walked : whole_walk t.machine direction q row
+      ≡ walk t.machine direction q.earliest row to None (units_left direction q to)
+  pub count : counted t q.earliest row (units_left direction q to) ≤ counted t q.earliest row (units_of direction q)
+
 pub half_begins : {t : Table} {row : ℕ} (direction : Direction) {q : Query}
     → Open q → AreBytes q.haystack → Standing t row
-    → t.machine.label row ≡ Label.Plain → (steps : ℕ) {to : ℕ} → Skips t direction q row (first_offset direction q) to
-    → HalfProgress t direction q (record { row = row; offset = first_offset direction q; steps = steps })
-    (record { row = row; offset = to; steps = steps }) None
-half_begins {t} {row} direction {q} o bytes s plain steps {to} skips =
+    → t.machine.label row ≡ Label.Plain → {to : ℕ} → Skips t direction q row (first_offset direction q) to
+    → Begins t direction q row to
+half_begins {t} {row} direction {q} o bytes s plain {to} skips =
     let place = first_place direction o in
     let first = first_offset direction q in
     let whole = ap (units_of direction) (rest_whole direction q) in
@@ -197,32 +245,30 @@ half_begins {t} {row} direction {q} o bytes s plain steps {to} skips =
     bytes o.order place skips in
     let here = ap (counted t q.earliest row) whole in
     record {
-      in_span = skips.in_span;
       walked =
           ap (walk t.machine direction q.earliest row first None) (sym whole)
           ∙ walk_stops t.machine direction q.earliest None row first (units_left direction q first)
           ∙ ap (by_stop t.machine direction q.earliest None) stops
           ∙ sym (walk_stops t.machine direction q.earliest None row to (units_left direction q to));
-      is_ready = skips.is_ready;
       count = omega (arith, counts, here);
     }
 
-module _ {t : Table} {direction : Direction} {q : Query} {first now : Standpoint} {last : Option HalfMatch}
-    (p : HalfProgress t direction q first now last) where
+module _ {t : Table} {direction : Direction} {q : Query} {first now : Standpoint} {met last : Option HalfMatch}
+    (p : HalfProgress t direction q first now met last) where
   abbrev here : Stop
   here = next_stop t.machine direction now.row now.offset (units_left direction q now.offset)
 
-  to_stop : whole_walk t.machine direction q first.row ≡ by_stop t.machine direction q.earliest last here
+  to_stop : walk_left t direction q first met ≡ by_stop t.machine direction q.earliest last here
   to_stop = p.walked ∙ walk_stops t.machine direction q.earliest last now.row now.offset
       (units_left direction q now.offset)
 
   pub half_ended : next_stop t.machine direction now.row now.offset (units_left direction q now.offset) ≡ Stop.Ended
-      → whole_walk t.machine direction q first.row ≡ Ok last
+      → walk_left t direction q first met ≡ Ok last
   half_ended e = to_stop ∙ ap (by_stop t.machine direction q.earliest last) e
 
   pub half_fails : (error : MatchError)
       → stop_error (next_stop t.machine direction now.row now.offset (units_left direction q now.offset)) ≡ Some error
-      → whole_walk t.machine direction q first.row ≡ Err error
+      → walk_left t direction q first met ≡ Err error
   half_fails error e = to_stop ∙ by_kind here e
     where
       by_kind : (stop : Stop) → stop_error stop ≡ Some error
@@ -245,7 +291,7 @@ module _ {t : Table} {direction : Direction} {q : Query} {first now : Standpoint
         else walk t.machine direction q.earliest next (next_offset direction offset)
         kept (units_after direction q offset))
 
-    met_on : whole_walk t.machine direction q first.row ≡ goes_on (Some (match_at t next offset)) q.earliest false
+    met_on : walk_left t direction q first met ≡ goes_on (Some (match_at t next offset)) q.earliest false
     met_on =
         to_stop ∙ ap (by_stop t.machine direction q.earliest last) stops
         ∙ ap (λ (l : Label). goes_on (last_match l offset last) q.earliest (t.machine.is_dead next)) label
@@ -254,18 +300,18 @@ module _ {t : Table} {direction : Direction} {q : Query} {first now : Standpoint
         ∙ ap (goes_on (Some (match_at t next offset)) q.earliest) (match_alive s.sound.is_table next s.below label)
 
     pub half_earliest : q.earliest ≡ true
-        → whole_walk t.machine direction q first.row ≡ Ok (Some (match_at t next offset))
+        → walk_left t direction q first met ≡ Ok (Some (match_at t next offset))
     half_earliest e = met_on ∙ ap (λ (b : Bool). goes_on (Some (match_at t next offset)) b false) e
 
     goes : q.earliest ≡ false
-        → whole_walk t.machine direction q first.row
+        → walk_left t direction q first met
         ≡ walk t.machine direction q.earliest next (next_offset direction offset) (Some (match_at t next offset))
         (units_after direction q offset)
     goes e = met_on ∙ ap (λ (b : Bool). goes_on (Some (match_at t next offset)) b false) e
 
     module _ (o : Open q) where
       pub half_last : q.earliest ≡ false → offset ≡ last_offset direction q
-          → whole_walk t.machine direction q first.row ≡ Ok (Some (match_at t next offset))
+          → walk_left t direction q first met ≡ Ok (Some (match_at t next offset))
       half_last e over =
           let none = ap (units_after direction q) over ∙ ap (drop 1) (units_left-last direction q o.order o.fits) in
           goes e
@@ -273,13 +319,25 @@ module _ {t : Table} {direction : Direction} {q : Query} {first now : Standpoint
           (Some (match_at t next offset))) none
           ∙ walk-nil t.machine direction q.earliest next (next_offset direction offset) (Some (match_at t next offset))
 
+      -- nor is one told behind a row that leads to the dead row alone
+      pub half_final : AreBytes q.haystack → q.earliest ≡ false → offset ≢ last_offset direction q → IsFinal t next
+          → walk_left t direction q first met ≡ Ok (Some (match_at t next offset))
+      half_final bytes e ne final =
+          let place : Place q offset = record { fits = o.fits; in_span = m.in_span } in
+          let from = next_offset direction offset in
+          goes e
+          ∙ ap (walk t.machine direction q.earliest next from (Some (match_at t next offset)))
+          (ap (drop 1) (units_left-more direction place ne))
+          ∙ walk_final s final direction q.earliest from (match_at t next offset) (units_left direction q from)
+          (units_below direction (rest direction q from) (bytes_on direction q from bytes))
+
       -- behind it and what may be skipped there the search goes on
       pub half_on : AreBytes q.haystack → q.earliest ≡ false → offset ≢ last_offset direction q → (steps : ℕ)
           → steps + counted_on t direction q next (Ok (Some offset))
           ≤ now.steps + counted t q.earliest now.row (units_left direction q now.offset)
           → (to : ℕ) → Skips t direction q next (next_offset direction offset) to
           → (kept : HalfMatch) → kept ≡ match_at t next (previous_offset direction to)
-          → HalfProgress t direction q first (record { row = next; offset = to; steps = steps }) (Some kept)
+          → HalfProgress t direction q first (record { row = next; offset = to; steps = steps }) met (Some kept)
       half_on bytes e ne steps count to skips kept kept_is =
           let place : Place q offset = record { fits = o.fits; in_span = m.in_span } in
           let there = next_place direction place ne in

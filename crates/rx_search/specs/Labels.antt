@@ -1,5 +1,5 @@
 -- What a label says of its row.
-use Rattle.std.specs.Prelude.{ℕ, Bool, true, false, List, []}
+use Rattle.std.specs.Prelude.{◌≡◌, ℕ, ◌<◌, Bool, true, false, List, []}
 use Rattle.rx_spec.specs.Machines.{Label}
 use Rattle.rx_spec.specs.Tables.{Table}
 
@@ -17,3 +17,7 @@ label_patterns _ = []
 
 abbrev pub patterns_of : Table → ℕ → List ℕ
 patterns_of t row = label_patterns (t.machine.label row)
+
+-- from the row every byte and the end mark lead to the dead row, so nothing is told behind it
+pub record IsFinal (t : Table) (row : ℕ) : Type 0 where
+  pub to_dead : (unit : ℕ) → unit < 257 → t.machine.next row unit ≡ 0

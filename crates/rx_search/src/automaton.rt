@@ -12,7 +12,7 @@ ghost use Rattle.rx_base.specs.Input.{query_of};
 ghost use Rattle.rx_base.specs.Search.{mode_of};
 ghost use Rattle.rx_search.specs.Classes.{LeadsAsPrevious};
 ghost use Rattle.rx_search.specs.Collected.{collected};
-ghost use Rattle.rx_search.specs.Labels.{is_quit, patterns_of};
+ghost use Rattle.rx_search.specs.Labels.{is_quit, patterns_of, IsFinal};
 ghost use Rattle.rx_search.specs.OverlappingCalls.{Fits, next_call, IsTold};
 ghost use Rattle.rx_search.specs.SplitSearches.{remaining_unsplit};
 ghost use Rattle.rx_search.specs.Starts.{IsId, universal_start, Starts, StartsSearch};
@@ -120,6 +120,14 @@ pub trait Automaton: Drop {
         requires is_match { is_match (table self.now) (row_of (ids self.now) id) ≡ true }
         requires within { index < length (patterns_of (table self.now) (row_of (ids self.now) id)) }
         ensures { result ≡ slice_index (patterns_of (table self.now) (row_of (ids self.now) id)) index };
+
+    /// Whether every byte and the end mark lead from a match row to the dead row. `true` is certain: a search may
+    /// end at the row. `false` means nothing.
+    fn is_final_match(&self, id: StateID) -> bool
+        requires sound { IsSound self.now }
+        requires is_id { IsId (ids self.now) id }
+        requires is_match { is_match (table self.now) (row_of (ids self.now) id) ≡ true }
+        ensures { IsTrue result → IsFinal (table self.now) (row_of (ids self.now) id) };
 
     /// Whether some pattern matches without a byte.
     fn has_empty(&self) -> bool
@@ -325,6 +333,11 @@ impl<A: Automaton> Automaton for &A {
     #[inline(always)]
     fn match_pattern(&self, id: StateID, index: usize) -> PatternID {
         (**self).match_pattern(id, index)
+    }
+
+    #[inline(always)]
+    fn is_final_match(&self, id: StateID) -> bool {
+        (**self).is_final_match(id)
     }
 
     fn has_empty(&self) -> bool {

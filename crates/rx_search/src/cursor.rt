@@ -1,13 +1,13 @@
 //! A table with one of its rows.
 
 ghost use Rattle.std.specs.Prelude.{◌≡◌, ◌+◌, ◌-◌, ◌^◌, ◌<◌, ◌≤◌, ◌==◌, length, slice_index, true};
-ghost use Rattle.std.specs.Prelude.{MatchResult};
+ghost use Rattle.std.specs.Prelude.{MatchResult, IsTrue};
 ghost use Rattle.rx_spec.specs.Ids.{row_of};
 ghost use Rattle.rx_spec.specs.Tables.{is_match};
 ghost use Rattle.rx_spec.specs.declared.Direction.TheVariants.{Forward, Reverse};
 ghost use Rattle.rx_base.specs.Input.{query_of};
 ghost use Rattle.rx_base.specs.Unit.{unit_number};
-ghost use Rattle.rx_search.specs.Labels.{is_quit, patterns_of};
+ghost use Rattle.rx_search.specs.Labels.{is_quit, patterns_of, IsFinal};
 ghost use Rattle.rx_search.specs.Passing.{Leads};
 ghost use Rattle.rx_search.specs.Starts.{IsId, IsStart, IsRefused};
 
@@ -190,6 +190,15 @@ impl<A: Automaton, L> Cursor<A, L> {
             result ≡ slice_index (patterns_of (A.table self.now.table) row) index }
     {
         self.table.match_pattern(self.row, index)
+    }
+
+    /// Whether the row, which must be a match row, is known to lead to the dead row alone.
+    #[inline(always)]
+    pub(crate) fn is_final_match(&self) -> bool
+        requires { is_match (A.table self.now.table) (row_of (A.ids self.now.table) self.now.row) ≡ true }
+        ensures { IsTrue result → IsFinal (A.table self.now.table) (row_of (A.ids self.now.table) self.now.row) }
+    {
+        self.table.is_final_match(self.row)
     }
 
     /// The bytes that lead elsewhere from the row where it is accelerated, and else none.

@@ -1,20 +1,20 @@
 //! Half searches: forward they tell the end of a match, in reverse its start.
 
-ghost use Rattle.std.specs.Prelude.{◌≡◌, ◌+◌, ◌-◌, ◌<◌, ◌≤◌, ◌^◌, length, true, IfOk, IfSome};
-ghost use Rattle.rx_spec.specs.HalfSearches.{half_search, units_of};
+ghost use Rattle.std.specs.Prelude.{◌≡◌, ◌+◌, ◌-◌, ◌<◌, ◌≤◌, ◌^◌, length, true, IfOk, IfSome, None};
+ghost use Rattle.rx_spec.specs.HalfSearches.{half_search, units_of, walk};
 ghost use Rattle.rx_spec.specs.Ids.{row_of};
 ghost use Rattle.rx_spec.specs.Queries.{IsFit, is_done};
 ghost use Rattle.rx_spec.specs.declared.Direction.TheVariants.{Forward, Reverse};
 ghost use Rattle.rx_base.specs.Input.{query_of};
-ghost use Rattle.rx_search.specs.Counted.{HasRoomFor, counted};
-ghost use Rattle.rx_search.specs.Starts.{IsStart};
-ghost use Rattle.rx_search.specs.Walks.{previous_offset, IsInSpan};
+ghost use Rattle.rx_search.specs.Counted.{HasRoomFor, IsReady, counted};
+ghost use Rattle.rx_search.specs.Starts.{IsId, IsStart};
+ghost use Rattle.rx_search.specs.Walks.{previous_offset, units_left, IsInSpan};
 
 use crate::cursor::start;
 use crate::skip::skip;
 use crate::walk::{Places, first_offset, last_offset, next_match, next_offset};
 use crate::{Automaton, Cursor};
-use rx_base::{Direction, HalfMatch, Input, MatchError, Steps, Tally};
+use rx_base::{Direction, HalfMatch, Input, MatchError, StateID, Steps, Tally};
 
 /// The shortest span, in bytes, that a forward search may read at several places at once.
 const FAR: usize = 8192;
@@ -48,6 +48,67 @@ pub fn find_rev<A: Automaton>(dfa: &A, input: &Input<'_>) -> Result<Option<HalfM
     ensures within { IfOk result (λ found. IfSome found (λ h. IsInSpan (query_of input.now) h.offset)) }
 {
     find(dfa, input, Direction::Reverse, Places::One)
+}
+
+/// The rest of a forward search from a row and an offset of the span, up to which it told no match.
+#[inline]
+pub fn find_fwd_from<A: Automaton>(
+    dfa: &A,
+    input: &Input<'_>,
+    row: StateID,
+    at: usize,
+) -> Result<Option<HalfMatch>, MatchError>
+    requires sound { A.IsSound dfa.now }
+    requires is_id { IsId (A.ids dfa.now) row }
+    requires fits { IsFit (query_of input.now) }
+    requires in_span { IsInSpan (query_of input.now) at }
+    requires ready { IsReady (A.table dfa.now) Forward (query_of input.now) (row_of (A.ids dfa.now) row) at }
+    ensures { let q = query_of input.now in
+        result ≡ walk (A.table dfa.now).machine Forward q.earliest (row_of (A.ids dfa.now) row) at None
+        (units_left Forward q at) }
+{
+    let mut cursor = Cursor::<&A, Tally>::at(dfa, row);
+    let mut steps = Steps::new(Tally);
+    search_on(
+        &mut cursor,
+        input,
+        Direction::Forward,
+        at,
+        None,
+        Places::One,
+        &mut steps,
+    )
+}
+
+/// The rest of a search in reverse from a row and an offset of the span, where the match `met` was told last.
+#[inline]
+pub fn find_rev_from<A: Automaton>(
+    dfa: &A,
+    input: &Input<'_>,
+    row: StateID,
+    at: usize,
+    met: Option<HalfMatch>,
+) -> Result<Option<HalfMatch>, MatchError>
+    requires sound { A.IsSound dfa.now }
+    requires is_id { IsId (A.ids dfa.now) row }
+    requires fits { IsFit (query_of input.now) }
+    requires in_span { IsInSpan (query_of input.now) at }
+    requires ready { IsReady (A.table dfa.now) Reverse (query_of input.now) (row_of (A.ids dfa.now) row) at }
+    ensures { let q = query_of input.now in
+        result ≡ walk (A.table dfa.now).machine Reverse q.earliest (row_of (A.ids dfa.now) row) at met
+        (units_left Reverse q at) }
+{
+    let mut cursor = Cursor::<&A, Tally>::at(dfa, row);
+    let mut steps = Steps::new(Tally);
+    search_on(
+        &mut cursor,
+        input,
+        Direction::Reverse,
+        at,
+        met,
+        Places::One,
+        &mut steps,
+    )
 }
 
 /// The forward search at one place.
@@ -189,15 +250,48 @@ fn half_search<A: Automaton, L>(
     if input.is_done() {
         return Ok(None);
     }
-    let haystack = input.haystack();
-    let mut at = skip(
+    let from = skip(
         cursor,
-        haystack,
+        input.haystack(),
         input,
         direction,
         first_offset(input, direction),
     );
-    let mut last = None;
+    search_on(cursor, input, direction, from, None, places, steps)
+}
+
+/// The rest of a half search from the cursor's row and an offset of the span, where the match `met` was told last.
+#[inline(always)]
+fn search_on<A: Automaton, L>(
+    cursor: &mut Cursor<A, L>,
+    input: &Input<'_>,
+    direction: Direction,
+    from: usize,
+    met: Option<HalfMatch>,
+    places: Places,
+    steps: &mut Steps<L>,
+) -> Result<Option<HalfMatch>, MatchError>
+    requires fits { IsFit (query_of input.now) }
+    requires in_span { IsInSpan (query_of input.now) from }
+    requires ready { IsReady (A.table cursor.old.table) direction (query_of input.now)
+        (row_of (A.ids cursor.old.table) cursor.old.row) from }
+    requires room { let q = query_of input.now in
+        let t = A.table cursor.old.table in
+        let row = row_of (A.ids cursor.old.table) cursor.old.row in
+        steps.old + counted t q.earliest row (units_left direction q from) < 2 ^ 64 }
+    ensures answer { let q = query_of input.now in
+        let m = (A.table cursor.old.table).machine in
+        let row = row_of (A.ids cursor.old.table) cursor.old.row in
+        result ≡ walk m direction q.earliest row from met (units_left direction q from) }
+    ensures counted { let q = query_of input.now in
+        let t = A.table cursor.old.table in
+        let row = row_of (A.ids cursor.old.table) cursor.old.row in
+        steps.new ≤ steps.old + counted t q.earliest row (units_left direction q from) }
+    ensures table { cursor.new.table ≡ cursor.old.table }
+{
+    let haystack = input.haystack();
+    let mut at = from;
+    let mut last = met;
     'matches: loop {
         let offset = match next_match(cursor, input, direction, at, places, steps) {
             Ok(Some(offset)) => offset,
@@ -209,6 +303,9 @@ fn half_search<A: Automaton, L>(
             return Ok(Some(HalfMatch::new(pattern, offset)));
         }
         if offset == last_offset(input, direction) {
+            return Ok(Some(HalfMatch::new(pattern, offset)));
+        }
+        if cursor.is_final_match() {
             return Ok(Some(HalfMatch::new(pattern, offset)));
         }
         at = skip(

@@ -20,7 +20,9 @@ mod which;
 
 pub use automaton::Automaton;
 pub use cursor::Cursor;
-pub use half::{find_fwd, find_fwd_counted, find_rev, find_rev_counted};
+pub use half::{
+    find_fwd, find_fwd_counted, find_fwd_from, find_rev, find_rev_counted, find_rev_from,
+};
 pub use overlapping::{OverlappingState, find_overlapping_fwd, find_overlapping_rev};
 pub use parts::{Passed, pass_on};
 pub use skip::first_needle;

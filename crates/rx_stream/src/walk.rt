@@ -40,7 +40,7 @@ pub(crate) fn walk<A: Automaton>(table: &A, start: StateID, piece: &[u8], from: 
     walk_far(table, start, piece, from)
 }
 
-/// Walks over a short piece.
+/// Walks at one place: over a short piece, or over any piece where a table doesn't prefer several places.
 #[inline(always)]
 fn walk_near<A: Automaton>(table: &A, start: StateID, piece: &[u8], from: usize) -> Halt
     requires sound { A.IsSound table.now }

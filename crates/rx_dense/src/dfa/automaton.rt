@@ -178,7 +178,20 @@ impl<T: WordStore> Automaton for DFA<T> {
 
     #[inline(always)]
     fn match_pattern(&self, id: StateID, index: usize) -> PatternID {
+        if index == 0 {
+            if let Some((pattern, _)) = self.mark(id) {
+                return pattern;
+            }
+        }
         PatternID::must(self.patterns(id)[index] as usize)
+    }
+
+    #[inline(always)]
+    fn is_final_match(&self, id: StateID) -> bool {
+        match self.mark(id) {
+            Some((_, is_final)) => is_final,
+            None => false,
+        }
     }
 
     fn has_empty(&self) -> bool {

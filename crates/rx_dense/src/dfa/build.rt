@@ -82,6 +82,7 @@ impl DFA<Vec<u32>> {
             universal_anchored: None,
             slices: Vec::new(alloc),
             pattern_ids: Vec::new(alloc),
+            marks: Vec::new(alloc),
             pattern_len,
             accels: Vec::new(alloc),
             quitset,
@@ -103,6 +104,7 @@ impl DFA<Vec<u32>> {
             return Err(AddError::TooManyStates);
         }
         let row = empty_row(self.stride());
+        self.marks.clear();
         match self.words.extend_from_slice(row) {
             Ok(()) => {}
             Err(_) => return Err(AddError::Memory),
@@ -117,6 +119,7 @@ impl DFA<Vec<u32>> {
         ensures { self.new ≡ with_next self.old from (unit_number unit) to }
     {
         let column = self.column(unit);
+        self.marks.clear();
         self.words[from.as_usize() + column] = to.as_u32();
     }
 
@@ -154,6 +157,7 @@ impl DFA<Vec<u32>> {
     pub fn set_special(&mut self, special: Special)
         ensures { self.new ≡ record self.old { special = special } }
     {
+        self.marks.clear();
         self.special = special;
     }
 

@@ -51,6 +51,7 @@ impl DFA<Vec<u32>> {
         ensures { result ≡ layout_of parts }
     {
         let contexts = parts.contexts;
+        let marks = Vec::new(*parts.words.allocator());
         DFA {
             words: parts.words,
             classes: parts.classes,
@@ -64,6 +65,7 @@ impl DFA<Vec<u32>> {
             universal_anchored: parts.universal_anchored,
             slices: parts.slices,
             pattern_ids: parts.pattern_ids,
+            marks,
             pattern_len: parts.pattern_len,
             accels: parts.accels.into_words(),
             quitset: parts.quitset,

@@ -33,6 +33,7 @@ impl DFA<Vec<u32>> {
         let alloc = *self.slices.allocator();
         let slices = slices(alloc, map)?;
         let pattern_ids = joined(alloc, map, len)?;
+        self.marks.clear();
         self.slices = slices;
         self.pattern_ids = pattern_ids;
         Ok(())

@@ -21,6 +21,7 @@ impl DFA<Vec<u32>> {
             return;
         }
         let width = self.stride();
+        self.marks.clear();
         swap_rows(&mut self.words, id1.as_usize(), id2.as_usize(), width);
     }
 
@@ -36,6 +37,7 @@ impl DFA<Vec<u32>> {
         if from == to {
             return;
         }
+        self.marks.clear();
         copy_row(&mut self.words, from.as_usize(), to.as_usize(), width);
     }
 
@@ -49,6 +51,7 @@ impl DFA<Vec<u32>> {
     {
         let stride2 = self.stride2();
         let alphabet_len = self.alphabet_len();
+        self.marks.clear();
         rename_rows(&mut self.words, map, stride2, alphabet_len);
         rename(&mut self.starts, map, stride2);
     }
@@ -64,6 +67,7 @@ impl DFA<Vec<u32>> {
         let stride2 = self.stride2();
         let first = id.as_usize();
         let end = first + self.alphabet_len();
+        self.marks.clear();
         rename(&mut self.words[first..end], map, stride2);
     }
 
@@ -77,6 +81,7 @@ impl DFA<Vec<u32>> {
         ensures { self.new ≡ with_rows self.old len }
     {
         let width = self.stride();
+        self.marks.clear();
         self.words.truncate(len * width);
     }
 }

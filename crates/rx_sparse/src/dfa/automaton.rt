@@ -153,6 +153,11 @@ impl<T: ByteStore> Automaton for DFA<T> {
         self.state(id).pattern(index)
     }
 
+    #[inline(always)]
+    fn is_final_match(&self, _id: StateID) -> bool {
+        false
+    }
+
     fn has_empty(&self) -> bool {
         self.flags().has_empty
     }

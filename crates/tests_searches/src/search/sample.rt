@@ -283,6 +283,10 @@ impl Automaton for Sample {
         PatternID::must(index)
     }
 
+    fn is_final_match(&self, _id: StateID) -> bool {
+        false
+    }
+
     fn has_empty(&self) -> bool {
         true
     }

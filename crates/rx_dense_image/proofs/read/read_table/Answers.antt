@@ -6,3 +6,8 @@ use Rattle.rx_dense_image.proofs.read.read_table.Goals as goal
 pub from_parts-requires : goal.from_parts-requires
 from_parts-requires c =
     shaped (layout_of c.in_ok-parts.parts) (record { read = c.in_ok-parts.ensures.parts; closed = search rules })
+
+pub returns-clause-whole : goal.returns-clause-whole
+returns-clause-whole c =
+    rw (c.in_ok-table.ensures, c.from_parts.ensures)
+    (record { read = c.in_ok-parts.ensures.parts; closed = search rules })

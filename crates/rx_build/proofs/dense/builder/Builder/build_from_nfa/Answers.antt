@@ -36,4 +36,5 @@ returns-clause-ok c =
     made in
     let is = c.set_universal_starts.ensures.value in
     let has = subst (λ (l : Layout). HasUniversalStarts (table_of l)) is c.set_universal_starts.ensures.rows in
-    subst (IsBuilt s nfa) (sym is) (built_with_starts s nfa by_settings has)
+    let built = subst (IsBuilt s nfa) (sym is) (built_with_starts s nfa by_settings has) in
+    subst (IsBuilt s nfa) (sym c.in_ok-with_marks.ensures) built

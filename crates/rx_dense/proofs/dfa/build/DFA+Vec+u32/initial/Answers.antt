@@ -1,10 +1,14 @@
-use Rattle.std.proofs.Common.{refl}
+use Rattle.std.proofs.Common.{refl, tt}
 use Rattle.rx_dense.specs.Builder.{Beginning}
+use Rattle.rx_dense.proofs.Marks.{unmarked}
 use Rattle.rx_dense.proofs.Shaped.{shaped_initial}
 use Rattle.rx_dense.proofs.dfa.build.DFA+Vec+u32.initial.Goals as goal
 
 pub invariant_of-result : goal.invariant_of-result
-invariant_of-result c =
+invariant_of-result c = (rw c.new-4.ensures.items (unmarked _ _ _ _ _ _), tt)
+
+pub invariant_of-result-2 : goal.invariant_of-result-2
+invariant_of-result-2 c =
     let b : Beginning = record {
       classes = c.args.classes;
       pattern_len = c.args.pattern_len;
@@ -24,7 +28,7 @@ invariant_of-result c =
       c.new.ensures,
       c.new-2.ensures.items,
       c.new-3.ensures.items,
-      c.new-4.ensures.items,
+      c.new-5.ensures.items,
       c.stride2.ensures,
     )
     (shaped_initial b c.two_rows.ensures.are_classes c.requires)
@@ -41,7 +45,7 @@ returns c =
       c.new.ensures,
       c.new-2.ensures.items,
       c.new-3.ensures.items,
-      c.new-4.ensures.items,
+      c.new-5.ensures.items,
       c.stride2.ensures,
     )
     refl

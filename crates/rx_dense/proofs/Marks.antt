@@ -1,0 +1,144 @@
+-- Marks of match rows: they stay true while they are made, and searches may go by them.
+use Rattle.std.proofs.Common.{◌≡◌, ◌∙◌, ℕ, ◌+◌, ◌-◌, ◌*◌, ◌/◌, ◌%◌, ◌^◌, ◌<◌, ◌≤◌, ◌==◌, true, List, [], ◌∷◌}
+use Rattle.std.proofs.Common.{◌++◌, length, take, drop, slice_index, ap, sym, subst, ⊎_elim, arith, length-drop}
+use Rattle.std.proofs.Common.{length-take-le, length-append, get_or, nat_lt}
+use Rattle.std.proofs.Math.Nat.{add-mul, mul-div_cancel, zero-div}
+use Rattle.std.specs.List.{list_all, slice_range}
+use Rattle.std.proofs.lemmas.Bool.{cases_eq, cases_lt, ltb-true, ne_eqb}
+use Rattle.std.proofs.Math.Seq.{get_or-append_seam}
+use Rattle.std.proofs.lemmas.List.{get_or-drop, get_or-take, get_or_append_left, get_or_default}
+use Rattle.std.proofs.lemmas.List.Folds.{list_all_at}
+use Rattle.std.proofs.lemmas.Nat.{le-div, pow_pos}
+use Rattle.rx_spec.specs.Ids.{row_of}
+use Rattle.rx_spec.specs.Tables.{is_match}
+use Rattle.rx_base.specs.ByteClasses.{alphabet_len}
+use Rattle.rx_search.specs.Labels.{IsFinal, patterns_of}
+use Rattle.rx_search.specs.Starts.{IsId}
+use Rattle.rx_search.proofs.Halves.{some_pattern}
+use Rattle.rx_dense.specs.Facts.{IsSoundLayout}
+use Rattle.rx_dense.specs.Layouts.{Layout, AreLists, AreRows, column, ids_of, place_in_range, stride, table_of}
+use Rattle.rx_dense.specs.Marks.{AreMarks, IsMark, first_pattern}
+use Rattle.rx_dense.proofs.RowKinds.{match_first, match_patterns, match_place, pattern_at, pattern_ids}
+use Rattle.rx_dense.proofs.Rows.{IsRowId-id, column_within, id-times, part_is, quotient, row-is_below}
+
+-- ---- while they are made
+
+module _ (words : List ℕ) (alphabet_len stride min_match : ℕ) (slices pattern_ids : List ℕ) where
+  -- none are made
+  pub unmarked : AreMarks words alphabet_len stride min_match slices pattern_ids []
+  unmarked = record { aligned = λ some. absurd (omega (arith, some)); each = λ i below. absurd (omega (arith, below)) }
+
+  -- one more is made
+  pub marked_more : (marks : List ℕ) (mark : ℕ) → min_match % stride ≡ 0
+      → AreMarks words alphabet_len stride min_match slices pattern_ids marks
+      → IsMark words alphabet_len stride min_match slices pattern_ids (length marks) mark
+      → AreMarks words alphabet_len stride min_match slices pattern_ids (marks ++ mark ∷ [])
+  marked_more marks mark aligned are is = record {
+    aligned = λ _. aligned;
+    each = λ i below.
+        let count = length-append marks (mark ∷ []) in
+        ⊎_elim
+        (λ (before : i < length marks).
+        subst (IsMark words alphabet_len stride min_match slices pattern_ids i)
+        (sym (get_or_append_left marks (mark ∷ []) 0 i before)) (are.each i before))
+        (λ (last : length marks ≤ i).
+        let here : length marks ≡ i = omega (arith, count, below, last) in
+        subst (λ (k : ℕ). IsMark words alphabet_len stride min_match slices pattern_ids k
+        (slice_index (marks ++ mark ∷ []) k)) here
+        (subst (IsMark words alphabet_len stride min_match slices pattern_ids (length marks))
+        (sym (get_or-append_seam marks mark [] 0)) is))
+        (cases_lt i (length marks));
+  }
+
+-- ---- rows that lead to the dead row
+
+zero_each : (xs : List ℕ) → list_all (λ id. id == 0) xs ≡ true → (k : ℕ) → k < length xs → slice_index xs k ≡ 0
+zero_each xs all k below =
+    ⊎_elim
+    (λ (is : slice_index xs k ≡ 0). is)
+    (λ (ne : slice_index xs k ≡ 0 → ⊥).
+    let none = list_all_at (λ id. id == 0) xs k 0 below (ne_eqb (slice_index xs k) 0 ne) in
+    absurd (cc))
+    (cases_eq (slice_index xs k) 0)
+
+pub zeros_from : (words : List ℕ) (first len : ℕ) → first + len ≤ length words
+    → list_all (λ id. id == 0) (slice_range words first (first + len)) ≡ true
+    → (k : ℕ) → k < len → slice_index words (first + k) ≡ 0
+zeros_from words first len fits all k below =
+    let part = take len (drop first words) in
+    let count : length part ≡ len = length-take-le len (drop first words) (simp length-drop (omega (arith, fits))) in
+    let zeros = rw (part_is words first len) at all in
+    sym (get_or-take len (drop first words) k 0 below ∙ get_or-drop first words k 0)
+    ∙ zero_each part zeros k (omega (arith, count, below))
+
+-- ---- what they say to a search
+
+-- a multiple of the stride, from another one on
+from_first : (s first id : ℕ) → 0 < s → first % s ≡ 0 → id % s ≡ 0 → first ≤ id → first + (id - first) / s * s ≡ id
+from_first s first id some whole_first whole order =
+    let a = quotient id s whole in
+    let b = quotient first s whole_first in
+    let below : first / s ≤ id / s = le-div (first / s) id s some (omega (arith, b, order)) in
+    let parts = add-mul (id / s - first / s) (first / s) s in
+    let joined : id / s - first / s + first / s ≡ id / s = omega (arith, below) in
+    let again = ap (λ (x : ℕ). x * s) joined in
+    let far : id - first ≡ (id / s - first / s) * s = omega (arith, a, b, parts, again) in
+    let rows : (id - first) / s ≡ id / s - first / s =
+    ap (λ (x : ℕ). x / s) far ∙ mul-div_cancel (id / s - first / s) some in
+    let back = ap (λ (x : ℕ). x * s) rows in
+    omega (arith, far, back, order)
+
+-- the marks of a layout
+abbrev pub HasMarks : Layout → List ℕ → Type 0
+HasMarks l marks =
+    AreMarks l.words (alphabet_len l.classes) (stride l) l.special.min_match l.slices l.pattern_ids marks
+
+-- the mark of a row, as it is looked up
+pub record Found (l : Layout) (marks : List ℕ) (id mark : ℕ) : Type 0 where
+  pub has : place_in_range l l.special.min_match id < length marks
+  pub mark_is : mark ≡ slice_index marks (place_in_range l l.special.min_match id)
+
+pub found : (l : Layout) (marks : List ℕ) (id : ℕ) {place mark : ℕ} {words : List ℕ}
+    → place ≡ place_in_range l l.special.min_match id → words ≡ marks → nat_lt place (length words) ≡ true
+    → mark ≡ get_or words place mark → Found l marks id mark
+found l marks id {place} {mark} {words} here same some is =
+    let there = ltb-true place (length words) some in
+    let again = is ∙ get_or_default words place mark 0 there in
+    record { has = rw (here, same) at there; mark_is = rw (here, same) at again }
+
+module _ (l : Layout) (id : ℕ) (is : IsId (ids_of l) id) (sound : IsSoundLayout l)
+    (e : is_match (table_of l) (row_of (ids_of l) id) ≡ true) {marks : List ℕ}
+    (are : HasMarks l marks) (has : place_in_range l l.special.min_match id < length marks) where
+  abbrev i : ℕ
+  i = place_in_range l l.special.min_match id
+
+  pub mark_first : AreLists l
+      → slice_index marks (place_in_range l l.special.min_match id) % 2 ^ 31
+      ≡ slice_index (patterns_of (table_of l) (row_of (ids_of l) id)) 0
+  mark_first lists =
+      let row = row_of (ids_of l) id in
+      let some : 0 < length (patterns_of (table_of l) row) =
+      some_pattern (record { sound = sound; below = row-is_below l id is }) e in
+      let same = match_patterns l id is e in
+      let here = pattern_at l lists i (match_place l id is sound e) 0
+      (subst (λ (ks : List ℕ). 0 < length ks) same some)
+      ∙ ap (λ (ks : List ℕ). slice_index ks 0) (sym same) in
+      let first : first_pattern l.slices l.pattern_ids i ≡ slice_index (patterns_of (table_of l) row) 0 =
+      ap (slice_index l.pattern_ids) (let none : slice_index l.slices (2 * i) ≡ slice_index l.slices (2 * i) + 0 =
+      omega arith in none) ∙ here in
+      let few = pattern_ids l id is sound lists e 0 some in
+      (are.each i has).first (omega (arith, first, few)) ∙ first
+
+  pub mark_final : AreRows l → 2 ^ 31 ≤ slice_index marks (place_in_range l l.special.min_match id)
+      → IsFinal (table_of l) (row_of (ids_of l) id)
+  mark_final rows final = record {
+    to_dead = λ unit below.
+        let at = column l unit in
+        let there : l.special.min_match + i * stride l ≡ id =
+        from_first (stride l) l.special.min_match id (pow_pos l.stride2)
+        (are.aligned (omega (arith, has))) (IsRowId-id l id is).whole (match_first l id is e) in
+        let zero = (are.each i has).final final at (column_within l rows.classes unit below) in
+        ap (λ (x : ℕ). slice_index l.words (x + at) / stride l) (id-times l id is ∙ sym there)
+        ∙ ap (λ (x : ℕ). x / stride l) zero
+        ∙ zero-div (stride l);
+  }
