@@ -168,23 +168,17 @@ walk_left t direction q now last =
     walk t.machine direction q.earliest now.row now.offset last (units_left direction q now.offset)
 
 pub record HalfProgress (t : Table) (direction : Direction) (q : Query)
-    (first now : Standpoint) (met last : Option HalfMatch)
+    (first now : Standpoint) (last : Option HalfMatch)
     : Type 0 where
   pub in_span : IsInSpan q now.offset
-  pub walked : walk_left t direction q first met ≡ walk_left t direction q now last
+  pub walked : walk_left t direction q first None ≡ walk_left t direction q now last
   pub is_ready : IsReady t direction q now.row now.offset
   pub count : now.steps + counted t q.earliest now.row (units_left direction q now.offset)
       ≤ first.steps + counted t q.earliest first.row (units_left direction q first.offset)
 
-pub stands : {t : Table} {direction : Direction} {q : Query} (first : Standpoint) (met : Option HalfMatch)
-    → IsInSpan q first.offset → IsReady t direction q first.row first.offset
-    → HalfProgress t direction q first first met met
-stands first met in_span ready = record {
-  in_span = in_span;
-  walked = refl;
-  is_ready = ready;
-  count = omega arith;
-}
+pub stands : {t : Table} {direction : Direction} {q : Query} (first : Standpoint) → IsInSpan q first.offset
+    → IsReady t direction q first.row first.offset → HalfProgress t direction q first first None
+stands first in_span ready = record { in_span = in_span; walked = refl; is_ready = ready; count = omega arith }
 
 -- a span that isn't done
 pub record Open (q : Query) : Type 0 where
@@ -253,22 +247,22 @@ half_begins {t} {row} direction {q} o bytes s plain {to} skips =
       count = omega (arith, counts, here);
     }
 
-module _ {t : Table} {direction : Direction} {q : Query} {first now : Standpoint} {met last : Option HalfMatch}
-    (p : HalfProgress t direction q first now met last) where
+module _ {t : Table} {direction : Direction} {q : Query} {first now : Standpoint} {last : Option HalfMatch}
+    (p : HalfProgress t direction q first now last) where
   abbrev here : Stop
   here = next_stop t.machine direction now.row now.offset (units_left direction q now.offset)
 
-  to_stop : walk_left t direction q first met ≡ by_stop t.machine direction q.earliest last here
+  to_stop : walk_left t direction q first None ≡ by_stop t.machine direction q.earliest last here
   to_stop = p.walked ∙ walk_stops t.machine direction q.earliest last now.row now.offset
       (units_left direction q now.offset)
 
   pub half_ended : next_stop t.machine direction now.row now.offset (units_left direction q now.offset) ≡ Stop.Ended
-      → walk_left t direction q first met ≡ Ok last
+      → walk_left t direction q first None ≡ Ok last
   half_ended e = to_stop ∙ ap (by_stop t.machine direction q.earliest last) e
 
   pub half_fails : (error : MatchError)
       → stop_error (next_stop t.machine direction now.row now.offset (units_left direction q now.offset)) ≡ Some error
-      → walk_left t direction q first met ≡ Err error
+      → walk_left t direction q first None ≡ Err error
   half_fails error e = to_stop ∙ by_kind here e
     where
       by_kind : (stop : Stop) → stop_error stop ≡ Some error
@@ -291,7 +285,7 @@ module _ {t : Table} {direction : Direction} {q : Query} {first now : Standpoint
         else walk t.machine direction q.earliest next (next_offset direction offset)
         kept (units_after direction q offset))
 
-    met_on : walk_left t direction q first met ≡ goes_on (Some (match_at t next offset)) q.earliest false
+    met_on : walk_left t direction q first None ≡ goes_on (Some (match_at t next offset)) q.earliest false
     met_on =
         to_stop ∙ ap (by_stop t.machine direction q.earliest last) stops
         ∙ ap (λ (l : Label). goes_on (last_match l offset last) q.earliest (t.machine.is_dead next)) label
@@ -300,18 +294,18 @@ module _ {t : Table} {direction : Direction} {q : Query} {first now : Standpoint
         ∙ ap (goes_on (Some (match_at t next offset)) q.earliest) (match_alive s.sound.is_table next s.below label)
 
     pub half_earliest : q.earliest ≡ true
-        → walk_left t direction q first met ≡ Ok (Some (match_at t next offset))
+        → walk_left t direction q first None ≡ Ok (Some (match_at t next offset))
     half_earliest e = met_on ∙ ap (λ (b : Bool). goes_on (Some (match_at t next offset)) b false) e
 
     goes : q.earliest ≡ false
-        → walk_left t direction q first met
+        → walk_left t direction q first None
         ≡ walk t.machine direction q.earliest next (next_offset direction offset) (Some (match_at t next offset))
         (units_after direction q offset)
     goes e = met_on ∙ ap (λ (b : Bool). goes_on (Some (match_at t next offset)) b false) e
 
     module _ (o : Open q) where
       pub half_last : q.earliest ≡ false → offset ≡ last_offset direction q
-          → walk_left t direction q first met ≡ Ok (Some (match_at t next offset))
+          → walk_left t direction q first None ≡ Ok (Some (match_at t next offset))
       half_last e over =
           let none = ap (units_after direction q) over ∙ ap (drop 1) (units_left-last direction q o.order o.fits) in
           goes e
@@ -321,7 +315,7 @@ module _ {t : Table} {direction : Direction} {q : Query} {first now : Standpoint
 
       -- nor is one told behind a row that leads to the dead row alone
       pub half_final : AreBytes q.haystack → q.earliest ≡ false → offset ≢ last_offset direction q → IsFinal t next
-          → walk_left t direction q first met ≡ Ok (Some (match_at t next offset))
+          → walk_left t direction q first None ≡ Ok (Some (match_at t next offset))
       half_final bytes e ne final =
           let place : Place q offset = record { fits = o.fits; in_span = m.in_span } in
           let from = next_offset direction offset in
@@ -337,7 +331,7 @@ module _ {t : Table} {direction : Direction} {q : Query} {first now : Standpoint
           ≤ now.steps + counted t q.earliest now.row (units_left direction q now.offset)
           → (to : ℕ) → Skips t direction q next (next_offset direction offset) to
           → (kept : HalfMatch) → kept ≡ match_at t next (previous_offset direction to)
-          → HalfProgress t direction q first (record { row = next; offset = to; steps = steps }) met (Some kept)
+          → HalfProgress t direction q first (record { row = next; offset = to; steps = steps }) (Some kept)
       half_on bytes e ne steps count to skips kept kept_is =
           let place : Place q offset = record { fits = o.fits; in_span = m.in_span } in
           let there = next_place direction place ne in

@@ -74,20 +74,18 @@ pub fn find_fwd_from<A: Automaton>(
         input,
         Direction::Forward,
         at,
-        None,
         Places::One,
         &mut steps,
     )
 }
 
-/// The rest of a search in reverse from a row and an offset of the span, where the match `met` was told last.
+/// The rest of a search in reverse from a row and an offset of the span, up to which it told no match.
 #[inline]
 pub fn find_rev_from<A: Automaton>(
     dfa: &A,
     input: &Input<'_>,
     row: StateID,
     at: usize,
-    met: Option<HalfMatch>,
 ) -> Result<Option<HalfMatch>, MatchError>
     requires sound { A.IsSound dfa.now }
     requires is_id { IsId (A.ids dfa.now) row }
@@ -95,7 +93,7 @@ pub fn find_rev_from<A: Automaton>(
     requires in_span { IsInSpan (query_of input.now) at }
     requires ready { IsReady (A.table dfa.now) Reverse (query_of input.now) (row_of (A.ids dfa.now) row) at }
     ensures { let q = query_of input.now in
-        result ≡ walk (A.table dfa.now).machine Reverse q.earliest (row_of (A.ids dfa.now) row) at met
+        result ≡ walk (A.table dfa.now).machine Reverse q.earliest (row_of (A.ids dfa.now) row) at None
         (units_left Reverse q at) }
 {
     let mut cursor = Cursor::<&A, Tally>::at(dfa, row);
@@ -105,7 +103,6 @@ pub fn find_rev_from<A: Automaton>(
         input,
         Direction::Reverse,
         at,
-        met,
         Places::One,
         &mut steps,
     )
@@ -257,17 +254,16 @@ fn half_search<A: Automaton, L>(
         direction,
         first_offset(input, direction),
     );
-    search_on(cursor, input, direction, from, None, places, steps)
+    search_on(cursor, input, direction, from, places, steps)
 }
 
-/// The rest of a half search from the cursor's row and an offset of the span, where the match `met` was told last.
+/// The rest of a half search from the cursor's row and an offset of the span, up to which it told no match.
 #[inline(always)]
 fn search_on<A: Automaton, L>(
     cursor: &mut Cursor<A, L>,
     input: &Input<'_>,
     direction: Direction,
     from: usize,
-    met: Option<HalfMatch>,
     places: Places,
     steps: &mut Steps<L>,
 ) -> Result<Option<HalfMatch>, MatchError>
@@ -282,7 +278,7 @@ fn search_on<A: Automaton, L>(
     ensures answer { let q = query_of input.now in
         let m = (A.table cursor.old.table).machine in
         let row = row_of (A.ids cursor.old.table) cursor.old.row in
-        result ≡ walk m direction q.earliest row from met (units_left direction q from) }
+        result ≡ walk m direction q.earliest row from None (units_left direction q from) }
     ensures counted { let q = query_of input.now in
         let t = A.table cursor.old.table in
         let row = row_of (A.ids cursor.old.table) cursor.old.row in
@@ -291,7 +287,7 @@ fn search_on<A: Automaton, L>(
 {
     let haystack = input.haystack();
     let mut at = from;
-    let mut last = met;
+    let mut last = None;
     'matches: loop {
         let offset = match next_match(cursor, input, direction, at, places, steps) {
             Ok(Some(offset)) => offset,

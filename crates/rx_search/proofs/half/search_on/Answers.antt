@@ -22,7 +22,7 @@ matches-init g c = record {
   table = refl;
   bytes = bytes_of c.haystack-haystack.result.now (query_of c.args.input.now).haystack c.haystack-haystack.ensures
       (λ k. omega (arith, c.type_inv.haystack k));
-  progress = stands _ c.args.met c.requires.in_span c.requires.ready;
+  progress = stands _ c.requires.in_span c.requires.ready;
 }
 
 pub returns-in-Ok-None-clause-answer : goal.returns-in-Ok-None-clause-answer

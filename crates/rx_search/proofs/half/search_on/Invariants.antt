@@ -14,7 +14,7 @@ invariant-matches g l =
       bytes : AreBytes q.haystack;
       progress : HalfProgress (g.A.Automaton.table l.fn.cursor.table) l.direction q
           (record { row = row_of ids l.fn.cursor.row; offset = l.fn.from; steps = l.fn.steps })
-          (record { row = row_of ids l.cursor.row; offset = l.at; steps = l.steps }) l.fn.met l.last;
+          (record { row = row_of ids l.cursor.row; offset = l.at; steps = l.steps }) l.last;
     }
 
 abbrev pub decreases-matches : goal.decreases-matches
