@@ -7,6 +7,7 @@
 //! them, joined. The iterator yields each match once and ends (`specs/Matches.antt`).
 #![tactic(auto)]
 
+mod beside;
 mod find_matches;
 mod regex;
 

@@ -219,6 +219,19 @@ counted_room t direction q row steps fits (inl room) = room
 counted_room t direction q row steps fits (inr room) =
     omega (arith, room, fits, counted_few t q.earliest row (units_of direction q), units_count direction q)
 
+-- it is room for those that are left, too
+pub room_left : (t : Table) (direction : Direction) {q : Query} (offset row steps : ℕ)
+    → q.end ≤ length q.haystack → IsInSpan q offset → steps + length q.haystack + 1 < 2 ^ 64
+    → steps + counted t q.earliest row (units_left direction q offset) < 2 ^ 64
+room_left t direction {q} offset row steps fits in_span room =
+    omega (arith, room, counted_few t q.earliest row (units_left direction q offset), few direction)
+  where
+    few : (d : Direction) → length (units_left d q offset) ≤ length q.haystack + 1
+    few Direction.Forward =
+        omega (arith, fits, in_span.low, units_count Direction.Forward (rest Direction.Forward q offset))
+    few Direction.Reverse =
+        omega (arith, fits, in_span.high, units_count Direction.Reverse (rest Direction.Reverse q offset))
+
 -- where it begins, at a row that tells nothing, behind what may be skipped
 pub record Begins (t : Table) (direction : Direction) (q : Query) (row to : ℕ) : Type 0 where
   pub walked : whole_walk t.machine direction q row

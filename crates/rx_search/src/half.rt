@@ -1,6 +1,6 @@
 //! Half searches: forward they tell the end of a match, in reverse its start.
 
-ghost use Rattle.std.specs.Prelude.{◌≡◌, ◌+◌, ◌-◌, ◌<◌, ◌≤◌, ◌^◌, length, true, IfOk, IfSome, None};
+ghost use Rattle.std.specs.Prelude.{◌≡◌, ◌+◌, ◌-◌, ◌<◌, ◌≤◌, ◌^◌, true, IfOk, IfSome, None};
 ghost use Rattle.rx_spec.specs.HalfSearches.{half_search, units_of, walk};
 ghost use Rattle.rx_spec.specs.Ids.{row_of};
 ghost use Rattle.rx_spec.specs.Queries.{IsFit, is_done};
@@ -51,6 +51,8 @@ pub fn find_rev<A: Automaton>(dfa: &A, input: &Input<'_>) -> Result<Option<HalfM
 }
 
 /// The rest of a forward search from a row and an offset of the span, up to which it told no match.
+///
+/// It may read a long text at several places at once, as [`find_fwd`] may.
 #[inline]
 pub fn find_fwd_from<A: Automaton>(
     dfa: &A,
@@ -67,16 +69,10 @@ pub fn find_fwd_from<A: Automaton>(
         result ≡ walk (A.table dfa.now).machine Forward q.earliest (row_of (A.ids dfa.now) row) at None
         (units_left Forward q at) }
 {
-    let mut cursor = Cursor::<&A, Tally>::at(dfa, row);
-    let mut steps = Steps::new(Tally);
-    search_on(
-        &mut cursor,
-        input,
-        Direction::Forward,
-        at,
-        Places::One,
-        &mut steps,
-    )
+    if dfa.prefers_several_places() && input.end().saturating_sub(at) >= FAR {
+        return find_far_from(dfa, input, row, at);
+    }
+    find_from(dfa, input, Direction::Forward, row, at, Places::One)
 }
 
 /// The rest of a search in reverse from a row and an offset of the span, up to which it told no match.
@@ -96,16 +92,7 @@ pub fn find_rev_from<A: Automaton>(
         result ≡ walk (A.table dfa.now).machine Reverse q.earliest (row_of (A.ids dfa.now) row) at None
         (units_left Reverse q at) }
 {
-    let mut cursor = Cursor::<&A, Tally>::at(dfa, row);
-    let mut steps = Steps::new(Tally);
-    search_on(
-        &mut cursor,
-        input,
-        Direction::Reverse,
-        at,
-        Places::One,
-        &mut steps,
-    )
+    find_from(dfa, input, Direction::Reverse, row, at, Places::One)
 }
 
 /// The forward search at one place.
@@ -130,6 +117,50 @@ fn find_far<A: Automaton>(dfa: &A, input: &Input<'_>) -> Result<Option<HalfMatch
     ensures within { IfOk result (λ found. IfSome found (λ h. IsInSpan (query_of input.now) h.offset)) }
 {
     find(dfa, input, Direction::Forward, Places::Several)
+}
+
+/// The rest of a forward search at several places, in a function of its own as [`find_far`] is.
+#[inline(never)]
+fn find_far_from<A: Automaton>(
+    dfa: &A,
+    input: &Input<'_>,
+    row: StateID,
+    at: usize,
+) -> Result<Option<HalfMatch>, MatchError>
+    requires sound { A.IsSound dfa.now }
+    requires is_id { IsId (A.ids dfa.now) row }
+    requires fits { IsFit (query_of input.now) }
+    requires in_span { IsInSpan (query_of input.now) at }
+    requires ready { IsReady (A.table dfa.now) Forward (query_of input.now) (row_of (A.ids dfa.now) row) at }
+    ensures { let q = query_of input.now in
+        result ≡ walk (A.table dfa.now).machine Forward q.earliest (row_of (A.ids dfa.now) row) at None
+        (units_left Forward q at) }
+{
+    find_from(dfa, input, Direction::Forward, row, at, Places::Several)
+}
+
+/// The rest of the half search of an input in a direction, from a row and an offset of the span.
+#[inline(always)]
+fn find_from<A: Automaton>(
+    dfa: &A,
+    input: &Input<'_>,
+    direction: Direction,
+    row: StateID,
+    at: usize,
+    places: Places,
+) -> Result<Option<HalfMatch>, MatchError>
+    requires sound { A.IsSound dfa.now }
+    requires is_id { IsId (A.ids dfa.now) row }
+    requires fits { IsFit (query_of input.now) }
+    requires in_span { IsInSpan (query_of input.now) at }
+    requires ready { IsReady (A.table dfa.now) direction (query_of input.now) (row_of (A.ids dfa.now) row) at }
+    ensures { let q = query_of input.now in
+        result ≡ walk (A.table dfa.now).machine direction q.earliest (row_of (A.ids dfa.now) row) at None
+        (units_left direction q at) }
+{
+    let mut cursor = Cursor::<&A, Tally>::at(dfa, row);
+    let mut steps = Steps::new(Tally);
+    search_on(&mut cursor, input, direction, at, places, &mut steps)
 }
 
 /// The half search of an input in a direction.
