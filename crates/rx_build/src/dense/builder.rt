@@ -104,7 +104,8 @@ impl Builder {
         mark_starts(&mut dfa, self.config.get_specialize_start_states());
         find_needles(alloc, &mut dfa, self.config.get_accelerate())?;
         dfa.set_universal_starts();
-        Ok(dfa.with_marks()?)
+        let table = dfa.with_marks()?;
+        Ok(table)
     }
 
     /// The table before it is minimized and accelerated. All start states are marked.

@@ -37,4 +37,4 @@ returns-clause-ok c =
     let is = c.set_universal_starts.ensures.value in
     let has = subst (λ (l : Layout). HasUniversalStarts (table_of l)) is c.set_universal_starts.ensures.rows in
     let built = subst (IsBuilt s nfa) (sym is) (built_with_starts s nfa by_settings has) in
-    subst (IsBuilt s nfa) (sym c.in_ok-with_marks.ensures) built
+    subst (IsBuilt s nfa) (sym c.in_ok-table.ensures) built
