@@ -14,7 +14,8 @@ pub record IsMark (words : List ℕ) (alphabet_len stride min_match : ℕ) (slic
   pub final : 2 ^ 31 ≤ mark → (column : ℕ) → column < alphabet_len
       → slice_index words (min_match + i * stride + column) ≡ 0
 
--- Either no marks are made, or one for each match row. The id of the first match row is then that of a row.
+-- What the marks that a table keeps say of its match rows, from the first one on. A table may keep none. Where it keeps
+-- some, the id of the first match row is that of a row.
 pub record AreMarks (words : List ℕ) (alphabet_len stride min_match : ℕ) (slices pattern_ids marks : List ℕ)
     : Type 0 where
   pub aligned : 0 < length marks → min_match % stride ≡ 0

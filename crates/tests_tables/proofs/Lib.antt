@@ -1,5 +1,3 @@
--- a table is sound if each of its rows is
-pub mod Soundness
 -- a last row that is removed again
 pub mod Cuts
 -- rows in a chain

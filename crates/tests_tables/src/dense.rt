@@ -1,25 +1,27 @@
 //! Tests of dense tables worked by hand.
 
-mod soundness;
 mod tables;
 
-ghost use Rattle.std.specs.Prelude.{◌≡◌};
+ghost use Rattle.std.specs.Prelude.{◌≡◌, IfOk};
 ghost use Rattle.rx_spec.specs.Queries.{IsFit};
 ghost use Rattle.rx_base.specs.Input.{query_of};
 ghost use Rattle.rx_search.specs.Starts.{IsId};
 ghost use Rattle.rx_dense.specs.Facts.{IsSoundLayout};
 ghost use Rattle.rx_dense.specs.Layouts.{ids_of};
+ghost use Rattle.rx_order.specs.RowOrder.{IsInOrder};
 
 use Step::{Add, AddAndCut, Connect, Fill, Remap, RemapState, StartAt, Swap};
 use Told::{Match, Nothing, Quit, Unsupported};
 use rx_base::start::Config;
 use rx_base::{
-    Anchored, ByteClassSet, ByteClasses, HalfMatch, Input, MatchError, MatchErrorKind, PatternID,
-    PatternSet, Start, StartKind, StateID, Unit,
+    Anchored, ByteClassSet, ByteClasses, ByteSet, HalfMatch, Input, MatchError, MatchErrorKind,
+    PatternID, PatternSet, Start, StartKind, StateID, Unit,
 };
+use rx_build::dense;
 use rx_dense::{Accels, AddError, DFA, OwnedDFA, PatternMapError, State, WordStore};
+use rx_expr::thompson;
 use rx_search::{Automaton, OverlappingState};
-use std::alloc::Global;
+use std::alloc::{AllocError, Global};
 use std::collections::BTreeMap;
 use std::process::Abort;
 use std::test::Fail;
@@ -418,133 +420,58 @@ fn input<'h>(rt: &impl Abort, haystack: &'h str, start: usize, end: usize) -> In
     Input::new(haystack).range(start, end)
 }
 
+/// The table of some patterns, with start states for each, that quits at some bytes.
+fn built(alloc: Global, patterns: &str, quit: &[u8]) -> Result<OwnedDFA, Fail>
+    ensures { IfOk result (λ dfa. IsInOrder dfa) }
+{
+    let exprs = read(alloc, patterns)?;
+    let mut quitset = ByteSet::empty();
+    for byte in quit {
+        quitset.add(*byte);
+    }
+    let config = dense::Config::new().starts_for_each_pattern(true);
+    let mut builder = dense::Builder::new();
+    builder.configure(config.quit_bytes(quitset));
+    builder.thompson(thompson::Config::new().utf8(false));
+    Ok(builder.build_many(alloc, &exprs)?)
+}
+
 #[test]
-fn a_worked_table_is_searched(rt: HostRuntime) -> Result<(), Fail> {
-    let dfa = worked(&rt, rt.alloc())?;
-    assert_eq!(rt; dfa.memory_usage(), 4 * (56 + 30 + 6 + 4 + 1 + 4));
-    let rows: [(usize, &[u32], &[u8]); 7] = [
-        (0, &[], b""),
-        (1, &[], b""),
-        (2, &[0], b""),
-        (3, &[0], b""),
-        (4, &[2, 1], b"z"),
-        (5, &[], b"az"),
-        (6, &[], b""),
+fn searches_may_end_where_a_match_state_leads_to_dead(rt: HostRuntime) -> Result<(), Fail> {
+    let alloc = rt.alloc();
+    let cases: [(&str, &[u8], &[bool]); 4] = [
+        ("a", b"", &[true]),
+        ("a", b"z", &[false]),
+        ("a b", b"", &[true, true]),
+        ("a {1,}", b"", &[false, true]),
     ];
-    for (row, patterns, needles) in rows {
-        check_told(&rt, &dfa, row, patterns, needles);
-    }
-    let halves = [
-        ("", 0, 0, 0, Nothing, Nothing),
-        ("a", 0, 1, 0, Match(0, 1), Match(0, 0)),
-        ("aa", 0, 2, 0, Match(0, 1), Match(0, 1)),
-        ("xab", 0, 3, 0, Match(2, 3), Match(0, 1)),
-        ("cba", 0, 3, 0, Match(0, 3), Match(2, 0)),
-        ("acb", 0, 3, 0, Match(0, 1), Match(0, 0)),
-        ("cab", 1, 3, 0, Match(2, 3), Match(0, 1)),
-        ("ab", 0, 1, 0, Match(0, 1), Match(0, 0)),
-        ("ab", 1, 2, 0, Nothing, Nothing),
-        ("ab", 2, 1, 0, Nothing, Nothing),
-        ("abz", 0, 3, 0, Quit(b'z', 2), Quit(b'z', 2)),
-        ("abz", 0, 2, 0, Quit(b'z', 2), Quit(b'z', 2)),
-        ("zab", 1, 3, 0, Quit(b'z', 0), Quit(b'z', 0)),
-        (".....ab.....", 0, 12, 0, Match(2, 12), Match(0, 5)),
-        ("b", 0, 1, 1, Match(2, 1), Match(2, 0)),
-        ("ab", 0, 2, 2, Match(2, 2), Match(0, 0)),
-        ("ab", 0, 2, 3, Nothing, Nothing),
-        ("b", 0, 1, 4, Match(2, 1), Match(2, 0)),
-    ];
-    for (haystack, start, end, mode, forward, reverse) in halves {
-        let mode = modes().get(mode).copied().unwrap_or(Anchored::No);
-        let input = input(&rt, haystack, start, end).anchored(mode);
-        assert_eq!(rt; tell(dfa.try_search_fwd(&input)), forward, "{haystack}");
-        assert_eq!(rt; tell(dfa.try_search_rev(&input)), reverse, "{haystack}");
-    }
-    let walks: [(&str, &[Told], &[Told]); 5] = [
-        ("", &[Nothing, Nothing], &[Nothing, Nothing]),
-        (
-            "ab",
-            &[Match(0, 1), Match(2, 2), Match(1, 2), Nothing],
-            &[Match(0, 0), Nothing, Nothing],
-        ),
-        (
-            "ba",
-            &[Match(0, 2), Nothing],
-            &[Match(0, 1), Match(2, 0), Match(1, 0), Nothing],
-        ),
-        (
-            "xabx",
-            &[
-                Match(0, 2),
-                Match(2, 3),
-                Match(1, 3),
-                Match(2, 4),
-                Match(1, 4),
-                Nothing,
-            ],
-            &[Match(0, 1), Nothing],
-        ),
-        (
-            "abz",
-            &[Match(0, 1), Quit(b'z', 2), Nothing],
-            &[Quit(b'z', 2), Nothing],
-        ),
-    ];
-    for (haystack, forward, reverse) in walks {
-        let input = input(&rt, haystack, 0, haystack.len());
-        check_walk_fwd(&rt, &dfa, &input, forward);
-        check_walk_rev(&rt, &dfa, &input, reverse);
+    for (patterns, quit, want) in cases {
+        let dfa = built(alloc, patterns, quit)?;
+        let finals = final_matches(&rt, alloc, &dfa)?;
+        assert!(rt; finals.as_slice() == want, "{patterns}: {finals:?}");
     }
     Ok(())
 }
 
-/// Asserts the patterns and the needles of a row.
-fn check_told(rt: &impl Abort, dfa: &OwnedDFA, row: usize, patterns: &[u32], needles: &[u8])
+/// Whether a search may end at each match state: first those where it may not.
+fn final_matches(rt: &impl Abort, alloc: Global, dfa: &OwnedDFA) -> Result<Vec<bool>, AllocError>
     requires { IsSoundLayout dfa.now }
 {
-    let id = id(rt, dfa, row);
-    assert_eq!(rt; dfa.is_accel_state(id), !needles.is_empty());
-    assert_eq!(rt; dfa.accelerator(id).as_slice(), needles);
-    if !dfa.is_match_state(id) {
-        assert!(rt; patterns.is_empty());
-        return;
+    let mut finals = Vec::new(alloc);
+    for row in 0..dfa.state_len() {
+        let id = id(rt, dfa, row);
+        if dfa.is_match_state(id) {
+            finals.push(dfa.is_final_match(id))?;
+        }
     }
-    let len = dfa.match_len(id);
-    assert_eq!(rt; len, patterns.len());
-    for index in 0..len {
-        let pattern = dfa.match_pattern(id, index).as_u32();
-        assert_eq!(rt; patterns.get(index), Some(&pattern));
-    }
-}
-
-/// Asserts the results of successive calls of an overlapping search.
-fn check_walk_fwd(rt: &impl Abort, dfa: &OwnedDFA, input: &Input<'_>, want: &[Told])
-    requires sound { IsSoundLayout dfa.now }
-    requires fits { IsFit (query_of input.now) }
-{
-    let mut state = OverlappingState::start();
-    for one in want {
-        let call = dfa.try_search_overlapping_fwd(input, &mut state);
-        assert_eq!(rt; call_told(call, state.get_match()), *one);
-    }
-}
-
-/// The same in reverse.
-fn check_walk_rev(rt: &impl Abort, dfa: &OwnedDFA, input: &Input<'_>, want: &[Told])
-    requires sound { IsSoundLayout dfa.now }
-    requires fits { IsFit (query_of input.now) }
-{
-    let mut state = OverlappingState::start();
-    for one in want {
-        let call = dfa.try_search_overlapping_rev(input, &mut state);
-        assert_eq!(rt; call_told(call, state.get_match()), *one);
-    }
+    finals.sort()?;
+    Ok(finals)
 }
 
 #[test]
 fn views_and_copies_answer_as_their_source(rt: HostRuntime) -> Result<(), Fail> {
     let alloc = rt.alloc();
-    let dfa = worked(&rt, alloc)?;
+    let dfa = built(alloc, "a ab [^z] . b", b"z")?;
     let copy = dfa.to_owned(alloc)?;
     let view = copy.as_ref();
     check_rows(&rt, &dfa, &copy);

@@ -20,8 +20,10 @@ use std::alloc::AllocError;
 const FINAL: u32 = 1 << 31;
 
 impl DFA<Vec<u32>> {
-    /// The same table, whose searches are told of a match row by one word its first pattern and whether they may end
-    /// there. A later change of rows or patterns drops these words, and nothing else.
+    /// The same table, which keeps one word for each match state: its first pattern, and whether a search may end
+    /// there. Searches read this word in place of the lists. A later change of states or patterns drops the words.
+    ///
+    /// If memory runs out, the table is dropped.
     pub fn with_marks(self) -> Result<OwnedDFA, AllocError>
         ensures { IfOk result (λ dfa. dfa ≡ self) }
     {
@@ -36,11 +38,13 @@ impl DFA<Vec<u32>> {
         ensures { let l = self.now in IfOk result (λ marks. AreMarks l.words (alphabet_len l.classes) (stride l)
             l.special.min_match l.slices l.pattern_ids marks.items) }
     {
-        let mut marks = Vec::new(*self.slices.allocator());
+        let alloc = *self.slices.allocator();
         if self.special.min_match.as_usize() % self.stride() != 0 {
-            return Ok(marks);
+            return Ok(Vec::new(alloc));
         }
-        for place in 0..self.slices().len() / 2 {
+        let count = self.slices().len() / 2;
+        let mut marks = Vec::with_capacity(alloc, count)?;
+        for place in 0..count {
             marks.push(self.made_mark(place))?;
         }
         Ok(marks)

@@ -2,11 +2,9 @@
 
 ghost use Rattle.std.specs.Prelude.{◌≡◌, ◌<◌, ◌-◌, ◌^◌, length, All, IfOk, true};
 ghost use Rattle.rx_search.specs.Starts.{IsId};
-ghost use Rattle.rx_dense.specs.Facts.{IsSoundLayout};
 ghost use Rattle.rx_base.specs.Search.{mode_of};
-ghost use Rattle.rx_dense.specs.Layouts.{AreStarts, ids_of, mode_place};
+ghost use Rattle.rx_dense.specs.Layouts.{AreStarts, ids_of, mode_place, row_count};
 
-use super::soundness::{Lists, id_of_row, is_sound};
 use rx_base::{
     Anchored, ByteClassSet, ByteClasses, ByteSet, LookMatcher, PatternID, Start, StartKind,
     StateID, Unit,
@@ -26,32 +24,6 @@ pub(super) const STARTS: [Start; 6] = [
     Start::LineCR,
     Start::CustomLineTerminator,
 ];
-
-/// The units of a row of [`worked`]: a byte of each class, and end of input.
-const UNITS: [Unit; 7] = [
-    Unit::Byte(b'.'),
-    Unit::Byte(b'a'),
-    Unit::Byte(b'b'),
-    Unit::Byte(b'c'),
-    Unit::Byte(b'z'),
-    Unit::Byte(0xff),
-    Unit::Eoi,
-];
-
-/// The next rows of the rows of [`worked`] from 2 on.
-const ROWS: [[usize; 7]; 5] = [
-    [4, 4, 4, 4, 1, 4, 4],
-    [0, 0, 0, 0, 1, 0, 0],
-    [4, 4, 4, 4, 1, 4, 4],
-    [5, 6, 5, 5, 1, 5, 0],
-    [3, 3, 2, 3, 1, 3, 3],
-];
-
-/// The start rows of [`worked`], by mode.
-const BEGINNINGS: [usize; 5] = [5, 6, 5, 0, 6];
-
-/// The patterns of the match rows of [`worked`].
-const PATTERNS: [(usize, &[u32]); 3] = [(2, &[0]), (4, &[2, 1]), (3, &[0])];
 
 /// The modes of a table with start states for three patterns, in the order of its start entries.
 pub(super) fn modes() -> [Anchored; 5] {
@@ -97,6 +69,15 @@ pub(super) fn begin(alloc: Global, classes: ByteClasses) -> Result<OwnedDFA, All
 }
 
 /// The id of a row.
+fn id_of_row(dfa: &OwnedDFA, row: usize) -> StateID
+    requires { row < row_count dfa.now }
+    ensures { IsId (ids_of dfa.now) result }
+{
+    let _ = dfa.state_len();
+    StateID::must(row << dfa.stride2())
+}
+
+/// The id of a row, if there is such a row.
 pub(super) fn id(rt: &impl Abort, dfa: &OwnedDFA, row: usize) -> StateID
     ensures { IsId (ids_of dfa.now) result }
 {
@@ -265,7 +246,7 @@ pub(super) fn lists(
     alloc: Global,
     dfa: &OwnedDFA,
     rows: &[(usize, &[u32])],
-) -> Result<Lists, Fail> {
+) -> Result<BTreeMap<StateID, Vec<PatternID>>, Fail> {
     let mut lists = BTreeMap::new(alloc);
     for (row, patterns) in rows {
         let mut list = Vec::new(alloc);
@@ -275,49 +256,4 @@ pub(super) fn lists(
         lists.insert(id(rt, dfa, *row), list)?;
     }
     Ok(lists)
-}
-
-/// Sets the patterns and the needles of a table, and asserts that it is sound.
-fn finish(
-    rt: &impl Abort,
-    alloc: Global,
-    dfa: &mut OwnedDFA,
-    lists: &Lists,
-    needles: &[Accel],
-) -> Result<(), Fail>
-    ensures { IfOk result (λ _. IsSoundLayout dfa.new) }
-{
-    assert!(rt; needles.len() < 100);
-    dfa.set_accels(accels(alloc, needles)?);
-    dfa.set_pattern_map(lists)?;
-    assert!(rt; is_sound(dfa, lists, &accels(alloc, needles)?));
-    Ok(())
-}
-
-/// A table that searches for `a` (pattern 0) and for `ab` with any unit after it (patterns 2 and 1). It quits at `z`.
-///
-/// Row 2 reports pattern 0 after `ab`, row 3 reports it after `a` and another unit, and row 4 reports patterns 2 and 1.
-/// Row 5 waits for an `a`, and row 6 is the row after it. Unanchored searches and those for pattern 0 start in row 5,
-/// anchored searches and those for pattern 2 in row 6, and those for pattern 1 in dead.
-pub(super) fn worked(rt: &impl Abort, alloc: Global) -> Result<OwnedDFA, Fail>
-    ensures { IfOk result IsSoundLayout }
-{
-    let mut dfa = begin(alloc, classes_apart(b"abz"))?;
-    for _ in 2..7 {
-        dfa.add_empty_state()?;
-    }
-    for (row, nexts) in (2..7usize).zip(ROWS.iter()) {
-        fill(rt, &mut dfa, row, &UNITS, nexts);
-    }
-    for (mode, row) in modes().iter().zip(&BEGINNINGS) {
-        start_all_at(rt, &mut dfa, mode, *row);
-    }
-    dfa.set_universal_starts();
-    dfa.set_special(special(rt, &dfa, (2, 4), (4, 5), (5, 5)));
-    let lists = lists(rt, alloc, &dfa, &PATTERNS)?;
-    let mut needles = Vec::new(alloc);
-    needles.push(accel(rt, b"z"))?;
-    needles.push(accel(rt, b"az"))?;
-    finish(rt, alloc, &mut dfa, &lists, &needles)?;
-    Ok(dfa)
 }
