@@ -1,54 +1,45 @@
 -- A table of which the first row of each block is left: where its rows lead, and what they tell.
-use Rattle.std.proofs.Common.{◌≡◌, ◌≢◌, ℕ, ◌+◌, ◌-◌, ◌*◌, ◌/◌, ◌<◌, ◌≤◌, ◌==◌, ⊎_elim, if◌then◌else◌}
-use Rattle.std.proofs.Common.{Bool, true, false, List, [], length, map, refl, ap, sym, ◌∙◌, arith, slice_index, get_or}
-use Rattle.std.specs.List.{concat, range_with_len}
+use Rattle.std.proofs.Common.{◌≡◌, ℕ, ◌+◌, ◌-◌, ◌*◌, ◌/◌, ◌<◌, ◌≤◌, ⊎_elim, if◌then◌else◌}
+use Rattle.std.proofs.Common.{Bool, true, false, List, [], length, map, nat_le, nat_lt, refl, ap, sym, ◌∙◌, subst}
+use Rattle.std.proofs.Common.{arith, slice_index, get_or}
+use Rattle.std.specs.List.{concat}
 use Rattle.std.proofs.Math.Nat.{mul-div_cancel}
-use Rattle.std.proofs.lemmas.Bool.{cases_eq, cases_lt, eq-eqb, le-ltb, ne_eqb}
+use Rattle.std.proofs.lemmas.Bool.{and_parts, cases_eq, cases_lt, eq-eqb, le-ltb, leb-true, ltb-true, ne_eqb}
 use Rattle.std.proofs.lemmas.List.{get_or-map, length-map}
-use Rattle.std.proofs.lemmas.List.FromFn.{fill_by_all, get_or-map-range_with_len, length-map-range_with_len}
+use Rattle.std.proofs.lemmas.List.FromFn.{get_or-map-range_with_len, length-map-range_with_len}
 use Rattle.std.proofs.lemmas.Nat.{pow_pos}
 use Rattle.rx_spec.specs.Causes.{max_id}
 use Rattle.rx_spec.specs.Machines.{Label}
 use Rattle.rx_spec.specs.Queries.{Anchored}
-use Rattle.rx_spec.specs.Tables.{Table, is_match}
+use Rattle.rx_spec.specs.Tables.{Table}
 use Rattle.rx_spec.specs.declared.Start.{Start}
 use Rattle.rx_search.specs.Labels.{patterns_of}
 use Rattle.rx_dense.specs.Builder.{slices_from, with_patterns}
-use Rattle.rx_dense.specs.Layouts.{Layout, AreStarts, context_number, machine_of, mode_place, patterns_at}
-use Rattle.rx_dense.specs.Layouts.{place_in_range}
-use Rattle.rx_dense.specs.Layouts.{row_count, stride, table_of}
-use Rattle.rx_dense.specs.Specials.{is_match_id, is_quit_id}
-use Rattle.rx_dense.specs.declared.special.Special.{Special}
-use Rattle.rx_dense.proofs.PatternLists.{patterns_are}
-use Rattle.rx_order.specs.RowOrder.{AreJoined, IsInOrder, IsPlain, match_count, match_lists}
-use Rattle.rx_order.proofs.KindNumbers.{label_match}
-use Rattle.rx_order.proofs.MatchRows.{matching_label, place_from, plain_label}
-use Rattle.rx_order.proofs.Moved.{factor}
-use Rattle.rx_minimize.specs.Blocks.{AreBlocks, AreRenumbered}
+use Rattle.rx_dense.specs.Layouts.{Layout, AreStarts, context_number, machine_of, mode_place, row_count, stride, table_of}
+use Rattle.rx_order.specs.ByKind.{lists_in}
+use Rattle.rx_order.specs.RowOrder.{AreJoined, is_marked, match_lists}
+use Rattle.rx_order.specs.SpecialIds.{AreKindEnds, special_ids}
+use Rattle.rx_order.proofs.KindRanges.{HasSpecials, ends_quit, is_between, from_end}
+use Rattle.rx_order.proofs.MatchRows.{HasPatterns, label_at, matching_label, plain_label}
+use Rattle.rx_order.proofs.MatchRows as MatchRows
 use Rattle.rx_minimize.specs.Joined.{IsJoinedBy}
 use Rattle.rx_minimize.specs.Quotient.{IsQuotient}
-use Rattle.rx_minimize.specs.Ranges.{AreKeptPatterns, AreKeptSpecials}
-use Rattle.rx_minimize.proofs.KeptRanges.{AreKeptRows, SamePlaces, ends_are, inside_parts, kept_test, no_ends}
-use Rattle.rx_minimize.proofs.KeptRanges.{not_dead, rows_inside, same_places, times_above}
-use Rattle.rx_minimize.proofs.Quotients.{AreNumbered, first_below, first_number, first_one, first_zero, number_one}
-use Rattle.rx_minimize.proofs.Quotients.{number_zero}
+use Rattle.rx_minimize.proofs.KeptKinds.{IsKept, kind_at, kind_ends, match_kind}
+use Rattle.rx_minimize.proofs.KeptKinds as KeptKinds
+use Rattle.rx_minimize.proofs.Quotients.{AreNumbered, first_below, first_number, first_one, number_one, number_zero}
 
 -- what is known of a table, and what the calls leave of it
-pub record IsMinimizing (old : Layout) (blocks numbers firsts ids : List ℕ) (lists : List (List ℕ)) (special : Special)
-    (new : Layout) : Type 0 where
-  pub in_order : IsInOrder old
-  pub plain : IsPlain old
+pub record IsMinimizing (old : Layout) (blocks numbers firsts ids ends : List ℕ) (lists : List (List ℕ)) (new : Layout)
+    : Type 0 where
+  pub kept : IsKept old blocks numbers firsts ends
   pub are_starts : AreStarts old
-  pub are_blocks : AreBlocks (table_of old) blocks
-  pub renumbered : AreRenumbered blocks numbers firsts
   pub ids_are : ids ≡ map (λ number. number * stride old) numbers
-  pub patterns : AreKeptPatterns old firsts lists
+  pub patterns : lists ≡ lists_in old firsts ends
   pub few : length (concat lists) ≤ max_id
   pub joined : IsJoinedBy (with_patterns old lists) firsts ids new
-  pub specials : AreKeptSpecials old firsts special
 
-module _ {old : Layout} {blocks numbers firsts ids : List ℕ} {lists : List (List ℕ)} {special : Special} {new : Layout}
-    (s : IsMinimizing old blocks numbers firsts ids lists special new) where
+module _ {old : Layout} {blocks numbers firsts ids ends : List ℕ} {lists : List (List ℕ)} {new : Layout}
+    (s : IsMinimizing old blocks numbers firsts ids ends lists new) where
   abbrev pub before : Table
   before = table_of old
 
@@ -59,7 +50,7 @@ module _ {old : Layout} {blocks numbers firsts ids : List ℕ} {lists : List (Li
     starts = new.starts;
     slices = slices_from 0 lists;
     pattern_ids = concat lists;
-    special = special;
+    special = special_ids (stride old) ends (is_marked old);
   }
 
   abbrev pub after : Table
@@ -72,24 +63,16 @@ module _ {old : Layout} {blocks numbers firsts ids : List ℕ} {lists : List (Li
   number = slice_index numbers
 
   pub numbered : AreNumbered before blocks numbers firsts
-  numbered = record { is = s.in_order.sound.is_table; are = s.are_blocks; renumbered = s.renumbered }
+  numbered = KeptKinds.numbered s.kept
 
   pub some : 0 < stride old
   some = pow_pos old.stride2
-
-  pub kept_rows : AreKeptRows (stride old) firsts
-  kept_rows = record {
-    some = some;
-    dead = first_zero numbered;
-    quit = first_one numbered;
-    rising = s.renumbered.are_firsts.rising;
-  }
 
   pub size : row_count left ≡ length firsts
   size = ap (λ n. n / stride old) s.joined.count ∙ mul-div_cancel (length firsts) some
 
   numbers_len : length numbers ≡ row_count old
-  numbers_len = s.renumbered.count ∙ s.are_blocks.count
+  numbers_len = s.kept.renumbered.count ∙ s.kept.are_blocks.count
 
   -- ---- where rows lead
 
@@ -106,7 +89,7 @@ module _ {old : Layout} {blocks numbers firsts ids : List ℕ} {lists : List (Li
   next_is row unit h u =
       ap (λ (k : Layout). (machine_of k).next row unit) (sym s.joined.rest) ∙ s.joined.nexts row unit h u
       ∙ leads (before.machine.next (first row) unit)
-      (s.in_order.sound.is_table.nexts (first row) unit (first_below numbered row h) u)
+      (s.kept.in_order.sound.is_table.nexts (first row) unit (first_below numbered row h) u)
 
   pub starts_len : length new.starts ≡ length old.starts
   starts_len = ap length s.joined.starts ∙ length-map old.starts (λ id. slice_index ids (id / stride old))
@@ -122,7 +105,7 @@ module _ {old : Layout} {blocks numbers firsts ids : List ℕ} {lists : List (Li
       ⊎_elim
       (λ (has : mode_place mode < length old.starts).
       ap (λ (k : Layout). (machine_of k).entry mode start) (sym s.joined.rest) ∙ s.joined.entries mode start has
-      ∙ leads (before.machine.entry mode start) (s.in_order.sound.is_table.entries mode start))
+      ∙ leads (before.machine.entry mode start) (s.kept.in_order.sound.is_table.entries mode start))
       (λ (none : length old.starts ≤ mode_place mode).
       let here : after.machine.entry mode start ≡ 0 =
       ap (λ b. (if b then slice_index new.starts (mode_place mode + context_number start) else 0) / stride old)
@@ -135,136 +118,71 @@ module _ {old : Layout} {blocks numbers firsts ids : List ℕ} {lists : List (Li
       here ∙ sym (ap number there ∙ number_zero numbered))
       (cases_lt (mode_place mode) (length old.starts))
 
-  -- ---- match rows
+  -- ---- kinds
 
-  pub kept_matches : (k : ℕ) → k < length firsts
-      → is_match_id special (k * stride old) ≡ is_match_id old.special (first k * stride old)
-  kept_matches k h = kept_test kept_rows s.specials.matches k h
+  pub specials : HasSpecials left (is_marked old) (kind_at s.kept) ends
+  specials = record {
+    are = subst (λ n. AreKindEnds n (kind_at s.kept) ends) (sym size) (kind_ends s.kept);
+    special = refl;
+  }
 
-  pub match_before : (row : ℕ) → is_match before row ≡ is_match_id old.special (row * stride old)
-  match_before row =
-      label_match (is_match_id old.special (row * stride old)) (is_quit_id old.special (row * stride old))
-      (patterns_at old (place_in_range old old.special.min_match (row * stride old)))
-
-  abbrev from : ℕ
-  from = s.specials.matches.from
-
-  abbrev end : ℕ
-  end = s.specials.matches.end
+  -- ---- patterns
 
   abbrev list_of : ℕ → List ℕ
-  list_of k = patterns_of before (first k)
+  list_of place = patterns_of before (first place)
 
-  same : SamePlaces from end s.patterns.from s.patterns.end
-  same = same_places s.specials.matches.places s.patterns.places
-
-  lists_count : length lists ≡ end - from
-  lists_count =
-      ap length s.patterns.lists_are
-      ∙ length-map-range_with_len list_of s.patterns.from (s.patterns.end - s.patterns.from) ∙ sym same.count
-
-  list_is : (k : ℕ) → from ≤ k → k < end → get_or lists (k - from) [] ≡ list_of k
-  list_is k low high =
-      let count = same.count in
-      let begins : s.patterns.from ≡ from = same.first (omega arith) in
-      ap (λ (ls : List (List ℕ)). get_or ls (k - from) []) s.patterns.lists_are
-      ∙ get_or-map-range_with_len list_of s.patterns.from (s.patterns.end - s.patterns.from) (k - from) k []
-      (omega (arith, count)) (omega (arith, begins))
-
-  patterns_there : (i : ℕ) → i < length lists → patterns_at left i ≡ get_or lists i []
-  patterns_there i h = patterns_are old lists i h
-
-  place_is : (k : ℕ) → from ≤ k → k < end → place_in_range left special.min_match (k * stride old) ≡ k - from
-  place_is k low high =
-      let ends = ends_are kept_rows s.specials.matches (omega arith) in
-      ap (λ first. (k * stride old - first) / stride old) ends.0 ∙ place_from from k (stride old) some low
-
-  count_is : match_count left ≡ length lists
-  count_is =
-      ⊎_elim
-      (λ (h : from < end).
-      let ends = ends_are kept_rows s.specials.matches h in
-      let last : place_in_range left special.min_match special.max_match ≡ end - 1 - from =
-      ap (place_in_range left special.min_match) ends.1 ∙ place_is (end - 1) (omega arith) (omega arith) in
-      let behind = match_behind h in
-      let above = times_above (stride old) 0 from some behind in
-      let other : special.min_match ≡ 0 → ⊥ = λ e. absurd (omega (arith, e, ends.0, above)) in
-      ap (λ b. if b then 0 else place_in_range left special.min_match special.max_match + 1)
-      (ne_eqb special.min_match 0 other)
-      ∙ omega (arith, last, lists_count))
-      (λ (h : end ≤ from).
-      let ends = no_ends kept_rows s.specials.matches h in
-      ap (λ b. if b then 0 else place_in_range left special.min_match special.max_match + 1)
-      (eq-eqb special.min_match 0 ends.0)
-      ∙ omega (arith, lists_count))
-      (cases_lt from end)
-    where
-      match_behind : from < end → 0 < from
-      match_behind h =
-          let within = s.specials.matches.places.within in
-          not_dead kept_rows s.specials.matches from (omega arith) (omega arith) h
+  has_patterns : HasPatterns ends left lists
+  has_patterns = record {
+    count =
+        ap length s.patterns
+        ∙ length-map-range_with_len list_of (slice_index ends 1) (slice_index ends 3 - slice_index ends 1)
+        ∙ ap (λ from. slice_index ends 3 - from) (ends_quit specials.are);
+    slices = refl;
+    pattern_ids = refl;
+  }
 
   pub lists_are : match_lists left ≡ lists
-  lists_are =
-      ap (λ n. map (patterns_at left) (range_with_len 0 n)) count_is
-      ∙ sym (fill_by_all (patterns_at left) lists (length lists) [] refl (λ k h. sym (patterns_there k h)))
+  lists_are = MatchRows.lists_are specials has_patterns
 
   pub joined_lists : AreJoined left
-  joined_lists = record {
-    slices = ap (slices_from 0) (sym lists_are);
-    pattern_ids = ap concat (sym lists_are);
-  }
+  joined_lists = MatchRows.joined specials has_patterns
 
   -- ---- labels
 
-  quit_test : (row : ℕ) → is_quit_id special (row * stride old) ≡ (row == 1)
-  quit_test row =
-      let quit : special.quit ≡ 1 * stride old = omega (arith, s.specials.quit) in
-      ⊎_elim
-      (λ (e : row ≡ 1).
-      let here : row * stride old ≡ special.quit = ap (λ r. r * stride old) e ∙ sym quit in
-      let other : row * stride old ≡ 0 → ⊥ = λ z. absurd (omega (arith, z, here, quit, some)) in
-      rw (eq-eqb _ _ here, ne_eqb _ _ other, eq-eqb row 1 e) refl)
-      (λ (ne : row ≡ 1 → ⊥).
-      let other : row * stride old ≡ special.quit → ⊥ = λ e. ne (factor some row 1 (e ∙ quit)) in
-      rw (ne_eqb _ _ other, ne_eqb row 1 ne) refl)
-      (cases_eq row 1)
-
   pub label_is : (row : ℕ) → row < length firsts → after.machine.label row ≡ before.machine.label (first row)
-  label_is row h = by_match (is_match_id special (row * stride old)) refl
+  label_is row h =
+      label_at specials has_patterns row (omega (arith, size))
+      ∙ ⊎_elim
+      (λ (one : row ≡ 1).
+      rw (eq-eqb row 1 one)
+      (sym (ap (λ r. before.machine.label (first r)) one ∙ ap before.machine.label (first_one numbered)
+      ∙ s.kept.in_order.sound.is_table.quit_label)))
+      (λ (ne : row ≡ 1 → ⊥). rw (ne_eqb row 1 ne) (by_match ne (is_between 1 3 (kind_at s.kept row)) refl))
+      (cases_eq row 1)
     where
-      plain_row : row ≢ 1 → is_match_id special (row * stride old) ≡ false
-          → before.machine.label (first row) ≡ Label.Plain
-      plain_row ne e =
-          plain_label (before.machine.label (first row)) (match_before (first row) ∙ sym (kept_matches row h) ∙ e)
-          (λ quits.
-          let one = s.in_order.sound.is_table.quit_only (first row) (first_below numbered row h) quits in
-          ne (sym (first_number numbered row h) ∙ ap number one ∙ number_one numbered))
+      there : is_between 1 3 (kind_at s.kept row) ≡ true → (slice_index ends 1 ≤ row) × (row < slice_index ends 3)
+      there e =
+          let kinds = and_parts (nat_lt 1 (kind_at s.kept row)) (nat_le (kind_at s.kept row) 3) e in
+          let before_three = s.kept.to_end row 3 h (omega arith) ∙ kinds.1 in
+          let behind_one = from_end specials.are row 1 (omega (arith, size)) (omega arith) ∙ kinds.0 in
+          (leb-true (slice_index ends 1) row behind_one, ltb-true row (slice_index ends 3) before_three)
 
-      by_match : (b : Bool) → is_match_id special (row * stride old) ≡ b
-          → after.machine.label row ≡ before.machine.label (first row)
-      by_match true e =
-          let at = rows_inside kept_rows s.specials.matches row
-          (inside_parts special.min_match special.max_match (row * stride old) e) in
-          let matches : is_match before (first row) ≡ true = match_before (first row) ∙ sym (kept_matches row h) ∙ e in
-          ap (λ b. if b then Label.Matches (patterns_at left (place_in_range left special.min_match (row * stride old)))
-          else (if is_quit_id special (row * stride old) then Label.Quits else Label.Plain)) e
-          ∙ ap Label.Matches
-          (ap (patterns_at left) (place_is row at.0 at.1)
-          ∙ patterns_there (row - from) (omega (arith, lists_count, at.0, at.1)) ∙ list_is row at.0 at.1)
-          ∙ sym (matching_label (before.machine.label (first row)) matches)
-      by_match false e =
-          ap (λ b. if b then Label.Matches (patterns_at left (place_in_range left special.min_match (row * stride old)))
-          else (if is_quit_id special (row * stride old) then Label.Quits else Label.Plain)) e
-          ∙ ap (λ b. if b then Label.Quits else Label.Plain) (quit_test row)
-          ∙ ⊎_elim
-          (λ (one : row ≡ 1).
-          ap (λ b. if b then Label.Quits else Label.Plain) (eq-eqb row 1 one)
-          ∙ sym (ap (λ r. before.machine.label (first r)) one ∙ ap before.machine.label (first_one numbered)
-          ∙ s.in_order.sound.is_table.quit_label))
-          (λ (ne : row ≡ 1 → ⊥).
-          ap (λ b. if b then Label.Quits else Label.Plain) (ne_eqb row 1 ne) ∙ sym (plain_row ne e))
-          (cases_eq row 1)
+      by_match : (row ≡ 1 → ⊥) → (b : Bool) → is_between 1 3 (kind_at s.kept row) ≡ b
+          → (if b then Label.Matches (get_or lists (row - 2) []) else Label.Plain) ≡ before.machine.label (first row)
+      by_match ne true e =
+          let at = there e in
+          let two = ends_quit specials.are in
+          let list : get_or lists (row - 2) [] ≡ list_of row =
+          ap (λ (ls : List (List ℕ)). get_or ls (row - 2) []) s.patterns
+          ∙ get_or-map-range_with_len list_of (slice_index ends 1) (slice_index ends 3 - slice_index ends 1) (row - 2) row
+          [] (omega (arith, at.0, at.1, two)) (omega (arith, at.0, two)) in
+          ap Label.Matches list
+          ∙ sym (matching_label (before.machine.label (first row)) (sym (match_kind s.kept row) ∙ e))
+      by_match ne false e =
+          sym (plain_label (before.machine.label (first row)) (sym (match_kind s.kept row) ∙ e)
+          (λ quits.
+          let one = s.kept.in_order.sound.is_table.quit_only (first row) (first_below numbered row h) quits in
+          ne (sym (first_number numbered row h) ∙ ap number one ∙ number_one numbered)))
 
   pub quotient : IsQuotient before numbers firsts after
   quotient = record {

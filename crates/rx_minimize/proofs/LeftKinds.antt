@@ -1,62 +1,37 @@
 -- The rows that are left: their kinds, their order, and which of them are special.
-use Rattle.std.proofs.Common.{◌≡◌, ◌≢◌, ℕ, ◌*◌, ◌/◌, ◌<◌, ◌≤◌, ◌==◌, ◌&&◌, ◌||◌, not, nat_lt, nat_le, ⊎_elim}
-use Rattle.std.proofs.Common.{Bool, true, false, List, length, refl, ap, ap₂, sym, ◌∙◌, subst, arith}
-use Rattle.std.proofs.Common.{inl, slice_index}
+use Rattle.std.proofs.Common.{◌≡◌, ℕ, ◌*◌, ◌/◌, ◌<◌, ◌≤◌, ◌==◌, ◌&&◌, ◌||◌, nat_lt, ⊎_elim}
+use Rattle.std.proofs.Common.{Bool, true, false, List, length, refl, ap, ap₂, sym, ◌∙◌, subst, arith, slice_index}
+use Rattle.std.specs.Cmp.{both_ways}
 use Rattle.std.specs.List.{list_any}
 use Rattle.std.specs.Prelude.{Contains}
 use Rattle.std.proofs.Math.Nat.{mul-div_cancel}
-use Rattle.std.proofs.lemmas.Bool.{and_from, and_parts, cases_eq, cases_lt, eqb-false, eqb-true, false≢true}
-use Rattle.std.proofs.lemmas.Bool.{le-ltb, leb-false, lt-ltb, ne_eqb}
+use Rattle.std.proofs.lemmas.Bool.{and_from, and_parts, cases_eq, cases_lt, false≢true, le-ltb, lt-ltb}
 use Rattle.std.proofs.lemmas.List.{get_or-map, get_or_default}
 use Rattle.std.proofs.lemmas.List.Elements.{Contains-get_or}
 use Rattle.rx_spec.specs.Tables.{is_match, is_match_label}
-use Rattle.rx_dense.specs.Layouts.{Layout, IsRowId, row_count, stride}
-use Rattle.rx_dense.specs.Specials.{is_in_range, is_start_id}
-use Rattle.rx_dense.specs.declared.special.Special.{Special}
+use Rattle.rx_dense.specs.Layouts.{Layout, row_count, stride}
+use Rattle.rx_dense.specs.Specials.{is_in_range}
 use Rattle.rx_dense.proofs.Rows.{quotient, row-below}
-use Rattle.rx_order.specs.RowOrder.{IsOrdered, is_marked, is_start_row, kind_of}
-use Rattle.rx_order.proofs.KindNumbers.{any_of, at_most, high_kind, kind_high, kind_low, none_in_range, over}
+use Rattle.rx_order.specs.RowOrder.{IsOrdered, is_marked, is_start_row, kind_by, kind_of}
+use Rattle.rx_order.proofs.KindNumbers.{high_kind, kind_accels, kind_high, kind_starts, none_in_range}
+use Rattle.rx_order.proofs.KindRanges.{accel_id, is_between}
+use Rattle.rx_order.proofs.KindRanges as KindRanges
 use Rattle.rx_order.proofs.MarkedRows.{any_contains, any_has}
 use Rattle.rx_order.proofs.MarkedRows.{start_row_plain}
 use Rattle.rx_order.proofs.Moved.{factor}
-use Rattle.rx_minimize.proofs.KeptRanges.{ends_are, inside_parts, is_range, kept_test, no_ends, not_dead}
-use Rattle.rx_minimize.proofs.KeptRanges.{past_range, same_test, times_above, was_inside}
-use Rattle.rx_minimize.proofs.JoinedTables.{IsMinimizing, after, before, first, id_is, kept_matches, kept_rows}
-use Rattle.rx_minimize.proofs.JoinedTables.{label_is, left, number}
-use Rattle.rx_minimize.proofs.JoinedTables.{match_before, numbered, size, some, starts_len}
-use Rattle.rx_minimize.proofs.Quotients.{first_below, first_number, first_one, first_zero, label_first, number_one}
-use Rattle.rx_minimize.proofs.Quotients.{number_zero}
+use Rattle.rx_minimize.proofs.JoinedTables.{IsMinimizing, after, before, first, id_is, label_is, left, number}
+use Rattle.rx_minimize.proofs.JoinedTables.{numbered, size, some, specials, starts_len}
+use Rattle.rx_minimize.proofs.KeptKinds.{first_high, first_low, kind_at}
+use Rattle.rx_minimize.proofs.Quotients.{first_number, label_first, number_one, number_zero}
 
-module _ {old : Layout} {blocks numbers firsts ids : List ℕ} {lists : List (List ℕ)} {special : Special} {new : Layout}
-    (s : IsMinimizing old blocks numbers firsts ids lists special new) where
+module _ {old : Layout} {blocks numbers firsts ids ends : List ℕ} {lists : List (List ℕ)} {new : Layout}
+    (s : IsMinimizing old blocks numbers firsts ids ends lists new) where
   width : 0 < stride old
   width = some s
 
-  pub first_low : (k : ℕ) → k ≤ 1 → first s k ≡ k
-  first_low k h =
-      ⊎_elim
-      (λ (zero : k ≡ 0). ap (first s) zero ∙ first_zero (numbered s) ∙ sym zero)
-      (λ (ne : k ≡ 0 → ⊥).
-      let one : k ≡ 1 = omega (arith, ne) in
-      ap (first s) one ∙ first_one (numbered s) ∙ sym one)
-      (cases_eq k 0)
-
-  rises : (j k : ℕ) → j < k → k < length firsts → first s j < first s k
-  rises = s.renumbered.are_firsts.rising
-
-  pub first_high : (k : ℕ) → 1 < k → k < length firsts → 1 < first s k
-  first_high k high h = omega (arith, rises 1 k high h, first_one (numbered s))
-
-  -- ---- accelerated rows
-
   none_before : (row : ℕ) → (before s).is_accelerated row ≡ false
   none_before row =
-      ap₂ (λ (a b : ℕ). is_in_range a b (row * stride old)) s.plain.min_accel s.plain.max_accel
-      ∙ none_in_range (row * stride old)
-
-  pub none_accelerated : (row : ℕ) → (after s).is_accelerated row ≡ false
-  none_accelerated row =
-      ap₂ (λ (a b : ℕ). is_in_range a b (row * stride old)) s.specials.min_accel s.specials.max_accel
+      ap₂ (λ (a b : ℕ). is_in_range a b (row * stride old)) s.kept.plain.min_accel s.kept.plain.max_accel
       ∙ none_in_range (row * stride old)
 
   -- ---- start rows
@@ -85,24 +60,24 @@ module _ {old : Layout} {blocks numbers firsts ids : List ℕ} {lists : List (Li
       let above = and_parts (nat_lt 1 row) (list_any (λ id. id == row * stride old) old.starts) e in
       let behind : 1 < row = behind_one in
       let least : first s k ≤ row =
-      omega (arith, ap (first s) is, s.renumbered.first_least row (omega (arith, count))) in
-      let rise = s.in_order.ordered.kinds (first s k) row least low in
+      omega (arith, ap (first s) is, s.kept.renumbered.first_least row (omega (arith, count))) in
+      let rise = s.kept.in_order.ordered.kinds (first s k) row least low in
       let label : is_match (before s) (first s k) ≡ false =
       ap is_match_label (ap (λ j. (before s).machine.label (first s j)) (sym is) ∙ label_first (numbered s) row low
-      ∙ start_row_plain old s.in_order.sound row e) in
+      ∙ start_row_plain old s.kept.in_order.sound row e) in
       let kind : kind_of old row ≡ 6 =
       kind_high row (is_match (before s) row) ((before s).is_accelerated row) (is_start_row old row) behind
       ∙ ap (λ b. high_kind b ((before s).is_accelerated row) (is_start_row old row))
-      (ap is_match_label (start_row_plain old s.in_order.sound row e))
+      (ap is_match_label (start_row_plain old s.kept.in_order.sound row e))
       ∙ ap₂ (λ (a b : Bool). high_kind false a b) (none_before row) e in
       let own : kind_of old (first s k) ≡ high_kind false false (is_start_row old (first s k)) =
       kind_high (first s k) (is_match (before s) (first s k)) ((before s).is_accelerated (first s k))
-      (is_start_row old (first s k)) (first_high k high h)
+      (is_start_row old (first s k)) (first_high s.kept k high h)
       ∙ ap₂ (λ (a b : Bool). high_kind a b (is_start_row old (first s k))) label (none_before (first s k)) in
       by_start (is_start_row old (first s k)) (omega (arith, rise, kind, own))
     where
       count : length blocks ≡ row_count old
-      count = s.are_blocks.count
+      count = s.kept.are_blocks.count
 
       behind_one : 1 < row
       behind_one =
@@ -125,11 +100,11 @@ module _ {old : Layout} {blocks numbers firsts ids : List ℕ} {lists : List (Li
   start_row_is k h =
       ⊎_elim
       (λ (high : 1 < k).
-      same_test (is_start_row (left s) k) (is_start_row old (first s k)) (there high) (here high))
+      both_ways (is_start_row (left s) k) (is_start_row old (first s k)) (there high) (here high))
       (λ (low : k ≤ 1).
       ap (λ b. b && list_any (λ id. id == k * stride old) new.starts) (le-ltb 1 k low)
       ∙ sym (ap (λ b. b && list_any (λ id. id == first s k * stride old) old.starts)
-      (le-ltb 1 (first s k) (omega (arith, first_low k low)))))
+      (le-ltb 1 (first s k) (omega (arith, first_low s.kept k low)))))
       (cases_lt 1 k)
     where
       there : 1 < k → is_start_row (left s) k ≡ true → is_start_row old (first s k) ≡ true
@@ -182,169 +157,64 @@ module _ {old : Layout} {blocks numbers firsts ids : List ℕ} {lists : List (Li
 
   -- ---- kinds
 
+  low_start : (row : ℕ) → row ≤ 1 → is_start_row old row ≡ false
+  low_start row h = ap (λ b. b && list_any (λ id. id == row * stride old) old.starts) (le-ltb 1 row h)
+
+  pub none_accelerated : (k : ℕ) → k < length firsts → (after s).is_accelerated k ≡ false
+  none_accelerated k h =
+      let row : ℕ = first s k in
+      accel_id (specials s) k (omega (arith, size s))
+      ∙ kind_accels row (is_match (before s) row) ((before s).is_accelerated row) (is_start_row old row)
+      (λ low. none_before row)
+      ∙ none_before row
+
   match_is : (k : ℕ) → k < length firsts → is_match (after s) k ≡ is_match (before s) (first s k)
   match_is k h = ap is_match_label (label_is s k h)
 
-  kind_is : (k : ℕ) → k < length firsts → kind_of (left s) k ≡ kind_of old (first s k)
-  kind_is k h =
-      ⊎_elim
+  kind_is : (k : ℕ) → k < row_count (left s) → kind_of (left s) k ≡ kind_at s.kept k
+  kind_is k b =
+      let h : k < length firsts = omega (arith, size s) in
+      ap₂ (λ (a b : Bool). kind_by k a b (is_start_row (left s) k)) (match_is k h)
+      (none_accelerated k h ∙ sym (none_before (first s k)))
+      ∙ ap (kind_by k (is_match (before s) (first s k)) ((before s).is_accelerated (first s k))) (start_row_is k h)
+      ∙ ⊎_elim
       (λ (high : 1 < k).
-      kind_high k (is_match (after s) k) ((after s).is_accelerated k) (is_start_row (left s) k) high
-      ∙ ap₂ (λ (a b : Bool). high_kind a b (is_start_row (left s) k)) (match_is k h)
-      (none_accelerated k ∙ sym (none_before (first s k)))
-      ∙ ap (high_kind (is_match (before s) (first s k)) ((before s).is_accelerated (first s k))) (start_row_is k h)
+      kind_high k (is_match (before s) (first s k)) ((before s).is_accelerated (first s k))
+      (is_start_row old (first s k)) high
       ∙ sym (kind_high (first s k) (is_match (before s) (first s k)) ((before s).is_accelerated (first s k))
-      (is_start_row old (first s k)) (first_high k high h)))
+      (is_start_row old (first s k)) (first_high s.kept k high h)))
       (λ (low : k ≤ 1).
-      kind_low k (is_match (after s) k) ((after s).is_accelerated k) (is_start_row (left s) k) low
-      ∙ sym (first_low k low)
-      ∙ sym (kind_low (first s k) (is_match (before s) (first s k)) ((before s).is_accelerated (first s k))
-      (is_start_row old (first s k)) (omega (arith, first_low k low))))
+      ap (λ row. kind_by row (is_match (before s) (first s k)) ((before s).is_accelerated (first s k))
+      (is_start_row old (first s k))) (sym (first_low s.kept k low)))
       (cases_lt 1 k)
 
-  -- ---- marked rows
-
-  kept_starts : (k : ℕ) → k < length firsts
-      → is_start_id special (k * stride old) ≡ is_start_id old.special (first s k * stride old)
-  kept_starts k h = kept_test (kept_rows s) s.specials.starts k h
-
-  pub marked : (k : ℕ) → k < length firsts → (after s).is_start k ≡ (is_marked old && is_start_row (left s) k)
-  marked k h =
-      kept_starts k h ∙ s.in_order.ordered.marks (first s k) (first_below (numbered s) k h)
-      ∙ ap (λ b. is_marked old && b) (sym (start_row_is k h))
-
-  -- the places of the rows that are marked
-  abbrev from : ℕ
-  from = s.specials.starts.from
-
-  abbrev end : ℕ
-  end = s.specials.starts.end
-
-  within : end ≤ length firsts
-  within = s.specials.starts.places.within
-
-  marks : (k : ℕ) → k < length firsts → (after s).is_start k ≡ (is_marked (left s) && is_start_row (left s) k)
-  marks k h =
-      ⊎_elim
-      (λ (has : from < end).
-      marked k h
-      ∙ ap (λ b. b && is_start_row (left s) k) (was_marked has ∙ sym (is_left has)))
-      (λ (none : end ≤ from).
-      let ends = no_ends (kept_rows s) s.specials.starts none in
-      ap₂ (λ (a b : ℕ). is_in_range a b (k * stride old)) ends.0 ends.1 ∙ none_in_range (k * stride old)
-      ∙ sym (ap (λ n. not (n == 0) && is_start_row (left s) k) ends.0))
-      (cases_lt from end)
+  start_kind : (k : ℕ) → k < row_count (left s) → is_between 4 6 (kind_at s.kept k) ≡ is_start_row (left s) k
+  start_kind k b =
+      let row : ℕ = first s k in
+      kind_starts row (is_match (before s) row) ((before s).is_accelerated row) (is_start_row old row) (low_start row)
+      (plain_start row)
+      ∙ sym (start_row_is k (omega (arith, size s)))
     where
-      is_left : from < end → is_marked (left s) ≡ true
-      is_left has =
-          let ends = ends_are (kept_rows s) s.specials.starts has in
-          let above = not_dead (kept_rows s) s.specials.starts from (omega (arith, within, has))
-          (omega arith) has in
-          let other : special.min_start ≡ 0 → ⊥ =
-          λ e. absurd (omega (arith, e, ends.0, times_above (stride old) 0 from width above)) in
-          ap not (ne_eqb special.min_start 0 other)
-
-      was_marked : from < end → is_marked old ≡ true
-      was_marked has =
-          let there = was_inside (kept_rows s) s.specials.starts from (omega (arith, within, has))
-          (omega arith) has in
-          ⊎_elim
-          (λ (none : (old.special.min_start ≡ 0) × (old.special.max_start ≡ 0)).
-          absurd (there.some (omega (arith, there.to, none.1))))
-          (λ (range : (stride old < old.special.min_start) × (old.special.min_start ≤ old.special.max_start)
-          × IsRowId old old.special.min_start × IsRowId old old.special.max_start).
-          let other : old.special.min_start ≡ 0 → ⊥ = λ e. absurd (omega (arith, e, range.0)) in
-          ap not (ne_eqb old.special.min_start 0 other))
-          s.in_order.ordered.starts
+      plain_start : (row : ℕ) → is_match (before s) row ≡ true → is_start_row old row ≡ false
+      plain_start row matches = by_start (is_start_row old row) refl
+        where
+          by_start : (b : Bool) → is_start_row old row ≡ b → b ≡ false
+          by_start false e = refl
+          by_start true e =
+              absurd (false≢true (sym (ap is_match_label (start_row_plain old s.kept.in_order.sound row e)) ∙ matches))
 
   -- ---- the order
 
-  rises_or_same : (j k : ℕ) → j ≤ k → k < length firsts → first s j ≤ first s k
-  rises_or_same j k le h =
-      ⊎_elim
-      (λ (less : j < k). omega (arith, rises j k less h))
-      (λ (same : k ≤ j). let e : j ≡ k = omega arith in omega (arith, ap (first s) e))
-      (cases_lt j k)
+  pub marked : (k : ℕ) → k < length firsts → (after s).is_start k ≡ (is_marked old && is_start_row (left s) k)
+  marked k h = KindRanges.start_is (specials s) kind_is start_kind k (omega (arith, size s))
 
   pub ordered : IsOrdered (left s)
-  ordered = record {
-    kinds = λ x y le b.
-        let y_in : y < length firsts = omega (arith, size s) in
-        let x_in : x < length firsts = omega arith in
-        subst (λ n. n ≤ kind_of (left s) y) (sym (kind_is x x_in))
-        (subst (λ n. kind_of old (first s x) ≤ n) (sym (kind_is y y_in))
-        (s.in_order.ordered.kinds (first s x) (first s y) (rises_or_same x y le y_in)
-        (first_below (numbered s) y y_in)));
-    quit = s.specials.quit;
-    matches =
-        is_range (kept_rows s) s.specials.matches old s.in_order.ordered.matches (left s) refl refl
-        (size s);
-    accels = inl (s.specials.min_accel, s.specials.max_accel);
-    starts =
-        is_range (kept_rows s) s.specials.starts old s.in_order.ordered.starts (left s) refl refl
-        (size s);
-    max = s.specials.max;
-    marks = λ row b. marks row (omega (arith, size s));
-  }
-
-  -- ---- special rows
-
-  -- a row that wasn't special lay behind all special ones
-  behind_special : (k : ℕ) → k < length firsts → 1 < k → is_match (after s) k ≡ false → (after s).is_start k ≡ false
-      → old.special.max < first s k * stride old
-  behind_special k h high no_match no_start =
-      let row : ℕ = first s k in
-      let past = first_high k high h in
-      let zero : row ≡ 0 → ⊥ = λ e. absurd (omega (arith, e, past)) in
-      let one : row ≡ 1 → ⊥ = λ e. absurd (omega (arith, e, past)) in
-      let ordinary : nat_le (row * stride old) old.special.max ≡ false =
-      s.in_order.sound.special row (first_below (numbered s) k h)
-      ∙ ap₂ (λ (a b : Bool). a || b || is_match (before s) row || (before s).is_accelerated row
-      || (before s).is_start row)
-      (ne_eqb row 0 zero) (ne_eqb row 1 one)
-      ∙ ap₂ (λ (a b : Bool). a || b || (before s).is_start row) (sym (match_is k h) ∙ no_match) (none_before row)
-      ∙ sym (kept_starts k h) ∙ no_start in
-      leb-false (row * stride old) old.special.max ordinary
-
-  none_special : (k : ℕ) → k < length firsts → 1 < k → is_match (after s) k ≡ false → (after s).is_start k ≡ false
-      → special.max < k * stride old
-  none_special k h high no_match no_start =
-      let behind = behind_special k h high no_match no_start in
-      let old_max = s.in_order.ordered.max in
-      let above : 0 < k = omega arith in
-      let matches =
-      past_range (kept_rows s) s.specials.matches k h above (omega (arith, behind, old_max)) in
-      let starts =
-      past_range (kept_rows s) s.specials.starts k h above (omega (arith, behind, old_max)) in
-      let quit = times_above (stride old) 1 k width high in
-      omega (arith, s.specials.max, s.specials.quit, s.specials.max_accel, matches, starts, quit)
+  ordered = KindRanges.ordered (specials s) kind_is start_kind
 
   pub special_is : (k : ℕ) → k < length firsts
       → (after s).is_special k
       ≡ ((k == 0) || (k == 1) || is_match (after s) k || (after s).is_accelerated k || (after s).is_start k)
-  special_is k h =
-      let last = s.specials.max in
-      any_of (nat_le (k * stride old) special.max) (k == 0) (k == 1) (is_match (after s) k)
-      ((after s).is_accelerated k) ((after s).is_start k)
-      (λ t.
-      let zero : k ≡ 0 = eqb-true k 0 t in
-      let none : k * stride old ≡ 0 = ap (λ j. j * stride old) zero ∙ omega arith in
-      at_most (k * stride old) special.max (omega (arith, none)))
-      (λ t.
-      let one : k ≡ 1 = eqb-true k 1 t in
-      let there : k * stride old ≡ stride old = ap (λ j. j * stride old) one ∙ omega arith in
-      at_most (k * stride old) special.max (omega (arith, there, last, s.specials.quit)))
-      (λ t.
-      let in_old : is_match (before s) (first s k) ≡ true = sym (match_is k h) ∙ t in
-      let within = inside_parts special.min_match special.max_match (k * stride old)
-      (kept_matches s k h ∙ sym (match_before s (first s k)) ∙ in_old) in
-      at_most (k * stride old) special.max (omega (arith, within.to, last)))
-      (λ t. absurd (false≢true (sym (none_accelerated k) ∙ t)))
-      (λ t.
-      let within = inside_parts special.min_start special.max_start (k * stride old) t in
-      at_most (k * stride old) special.max (omega (arith, within.to, last)))
-      (λ zero one no_match no_accel no_start.
-      let not_zero : k ≢ 0 = eqb-false k 0 zero in
-      let not_one : k ≢ 1 = eqb-false k 1 one in
-      let high : 1 < k = omega (arith, not_zero, not_one) in
-      over (k * stride old) special.max (none_special k h high no_match no_start))
+  special_is k h = KindRanges.special_rows (specials s) k (omega (arith, size s))
+
+  pub no_accels : ((left s).special.min_accel ≡ 0) × ((left s).special.max_accel ≡ 0)
+  no_accels = KindRanges.no_accels (specials s) (λ row h. none_accelerated row (omega (arith, size s)))

@@ -16,8 +16,10 @@ pub mod MovedRows
 pub mod NewIds
 -- rows that are renamed, moved and cut off
 pub mod JoinedRows
--- ranges of special rows among the rows that are left
-pub mod KeptRanges
+-- where the kinds of the rows that are left end
+pub mod KeptEnds
+-- the kinds of the rows that are left
+pub mod KeptKinds
 -- a table of which the first row of each block is left
 pub mod JoinedTables
 -- the kinds of its rows, and their order

@@ -7,26 +7,25 @@ use Rattle.std.proofs.lemmas.Bool.{false≢true}
 use Rattle.rx_spec.specs.Causes.{max_id}
 use Rattle.rx_spec.specs.Tables.{IsSound, IsTable}
 use Rattle.rx_dense.specs.Layouts.{Layout, place_in_range, row_count, stride, universal_row}
-use Rattle.rx_dense.specs.declared.special.Special.{Special}
 use Rattle.rx_minimize.specs.Minimized.{AnyMode, IsMinimized}
 use Rattle.rx_minimize.proofs.JoinedTables.{IsMinimizing, after, before, first, joined_lists, left, lists_are}
 use Rattle.rx_minimize.proofs.JoinedTables.{number, numbered}
 use Rattle.rx_minimize.proofs.JoinedTables.{quotient, size}
-use Rattle.rx_minimize.proofs.LeftKinds.{marked, none_accelerated, ordered, special_is, start_row_is}
+use Rattle.rx_minimize.proofs.LeftKinds.{marked, no_accels, none_accelerated, ordered, special_is, start_row_is}
 use Rattle.rx_minimize.proofs.Quotients.{first_below, label_first, number_below, number_is_one, quotient_apart}
 use Rattle.rx_minimize.proofs.Quotients.{quotient_is_table}
 use Rattle.rx_minimize.proofs.Quotients.{quotient_reached, quotient_same}
 
-module _ {old : Layout} {blocks numbers firsts ids : List ℕ} {lists : List (List ℕ)} {special : Special} {new : Layout}
-    (s : IsMinimizing old blocks numbers firsts ids lists special new) where
+module _ {old : Layout} {blocks numbers firsts ids ends : List ℕ} {lists : List (List ℕ)} {new : Layout}
+    (s : IsMinimizing old blocks numbers firsts ids ends lists new) where
   no_universal : (row : ℕ) → (after s).universal_unanchored ≡ Some row → row < (after s).size
   no_universal row e =
-      let none = sym (ap (universal_row (left s)) s.plain.universal_unanchored) ∙ e in
+      let none = sym (ap (universal_row (left s)) s.kept.plain.universal_unanchored) ∙ e in
       absurd cc
 
   no_universal_anchored : (row : ℕ) → (after s).universal_anchored ≡ Some row → row < (after s).size
   no_universal_anchored row e =
-      let none = sym (ap (universal_row (left s)) s.plain.universal_anchored) ∙ e in
+      let none = sym (ap (universal_row (left s)) s.kept.plain.universal_anchored) ∙ e in
       absurd cc
 
   is_table : IsTable (after s)
@@ -41,22 +40,22 @@ module _ {old : Layout} {blocks numbers firsts ids : List ℕ} {lists : List (Li
     eoi_goes_on = λ row h e.
         let low = first_below (numbered s) row (in_firsts h) in
         let next = (before s).machine.next (first s row) 256 in
-        s.in_order.sound.eoi_goes_on (first s row) low
-        (number_is_one (numbered s) next (s.in_order.sound.is_table.nexts (first s row) 256 low (omega arith))
+        s.kept.in_order.sound.eoi_goes_on (first s row) low
+        (number_is_one (numbered s) next (s.kept.in_order.sound.is_table.nexts (first s row) 256 low (omega arith))
         (sym ((quotient s).nexts row 256 h (omega arith)) ∙ e));
     starts_plain = λ mode start.
         let row = (before s).machine.entry mode start in
-        let low = s.in_order.sound.is_table.entries mode start in
+        let low = s.kept.in_order.sound.is_table.entries mode start in
         ap (after s).machine.label ((quotient s).entries mode start)
         ∙ (quotient s).labels (number s row) (omega (arith, size s, number_below (numbered s) row low))
-        ∙ label_first (numbered s) row low ∙ s.in_order.sound.starts_plain mode start;
+        ∙ label_first (numbered s) row low ∙ s.kept.in_order.sound.starts_plain mode start;
     patterns = λ row ks k h e c.
-        s.in_order.sound.patterns (first s row) ks k (first_below (numbered s) row (in_firsts h))
+        s.kept.in_order.sound.patterns (first s row) ks k (first_below (numbered s) row (in_firsts h))
         (sym ((quotient s).labels row h) ∙ e) c;
-    needles = λ row h e. absurd (false≢true (sym (none_accelerated s row) ∙ e));
-    some_needle = λ row h e. absurd (false≢true (sym (none_accelerated s row) ∙ e));
-    few_needles = λ row h e. absurd (false≢true (sym (none_accelerated s row) ∙ e));
-    no_needle = λ row h e. ap (λ b. if b then get_or old.accels (place_in_range (left s) special.min_accel
+    needles = λ row h e. absurd (false≢true (sym (none_accelerated s row (in_firsts h)) ∙ e));
+    some_needle = λ row h e. absurd (false≢true (sym (none_accelerated s row (in_firsts h)) ∙ e));
+    few_needles = λ row h e. absurd (false≢true (sym (none_accelerated s row (in_firsts h)) ∙ e));
+    no_needle = λ row h e. ap (λ b. if b then get_or old.accels (place_in_range (left s) (left s).special.min_accel
         (row * stride old)) [] else []) e;
     special = λ row h. special_is s row (in_firsts h);
   }
@@ -72,11 +71,11 @@ module _ {old : Layout} {blocks numbers firsts ids : List ℕ} {lists : List (Li
       few = subst (λ (ls : List (List ℕ)). length (concat ls) ≤ max_id) (sym (lists_are s)) s.few;
     };
     plain = record {
-      accels = s.plain.accels;
-      min_accel = s.specials.min_accel;
-      max_accel = s.specials.max_accel;
-      universal_unanchored = s.plain.universal_unanchored;
-      universal_anchored = s.plain.universal_anchored;
+      accels = s.kept.plain.accels;
+      min_accel = (no_accels s).0;
+      max_accel = (no_accels s).1;
+      universal_unanchored = s.kept.plain.universal_unanchored;
+      universal_anchored = s.kept.plain.universal_anchored;
     };
     joined = joined_lists s;
     marked = λ row h. marked s row (in_firsts h);

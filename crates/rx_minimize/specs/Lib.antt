@@ -10,5 +10,3 @@ pub mod Partitioned
 pub mod Quotient
 -- how it is made: rows that are moved, renamed and cut off
 pub mod Joined
--- its special rows and their patterns
-pub mod Ranges

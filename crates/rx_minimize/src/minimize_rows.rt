@@ -6,11 +6,11 @@ ghost use Rattle.rx_minimize.specs.Minimized.{IsMinimized};
 ghost use Rattle.rx_minimize.specs.Partitioned.{IsPartitioned};
 
 use crate::blocks::blocks;
+use crate::kinds::ends;
 use crate::numbering::Numbering;
-use crate::patterns::patterns;
-use crate::ranges::special;
 use crate::rows::join_rows;
 use rx_dense::OwnedDFA;
+use rx_order::{patterns_of_rows, special};
 use std::alloc::{AllocError, Global};
 
 /// Merges the states of a table that behave alike. If memory runs out, the table is unchanged.
@@ -31,9 +31,10 @@ fn join_blocks(alloc: Global, dfa: &mut OwnedDFA, blocks: &[u32]) -> Result<(), 
     ensures err { OnErr result (dfa.new ≡ dfa.old) }
 {
     let numbering = Numbering::new(alloc, blocks)?;
-    let patterns = patterns(alloc, dfa, &numbering.firsts)?;
+    let ends = ends(alloc, dfa, &numbering.firsts)?;
+    let patterns = patterns_of_rows(alloc, dfa, &numbering.firsts, &ends)?;
     let ids = numbering.ids(alloc, dfa.stride2())?;
-    let special = special(dfa, &numbering.firsts);
+    let special = special(&ends, dfa.stride2(), dfa.special().starts());
     // The lists that are left aren't longer than those that there were.
     match dfa.set_pattern_map(&patterns) {
         Ok(()) => {}

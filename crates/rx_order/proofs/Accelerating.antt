@@ -38,7 +38,7 @@ use Rattle.std.proofs.lemmas.Nat.{row_fits}
 use Rattle.rx_dense.specs.Layouts.{IsRowId}
 use Rattle.rx_dense.specs.Specials.{is_start_id}
 use Rattle.rx_dense.proofs.Rows.{quotient, row-below}
-use Rattle.rx_order.proofs.Ordered.{start_kinds, start_row_is}
+use Rattle.rx_order.proofs.Ordered.{specials, start_kinds, start_row_is}
 use Rattle.rx_order.proofs.Sound.{AreLabels, HasNeedles, frame, sound}
 use Rattle.rx_order.proofs.Unskipped.{low_none}
 
@@ -170,7 +170,7 @@ module _ {old : Layout} {kinds rows ends : List ℕ} {next new m : Layout}
       (slice_index ends 3 - slice_index ends 1)
       ∙ ap (λ n. slice_index ends 3 - n) (ends_quit arranged)
 
-  has_patterns : HasPatterns sorting m lists
+  has_patterns : HasPatterns sorting.ends m lists
   has_patterns = record {
     count = lists_count;
     slices =
@@ -510,8 +510,8 @@ module _ {old : Layout} {kinds rows ends : List ℕ} {next new m : Layout}
     in_order = record {
       sound = sound arranged routed told labels_are has_needles;
       ordered = ordered arranged;
-      few = subst (λ (ls : List (List ℕ)). length (concat ls) ≤ max_id) (sym (lists_are arranged has_patterns)) s.few;
+      few = subst (λ (ls : List (List ℕ)). length (concat ls) ≤ max_id) (sym (lists_are (specials arranged) has_patterns)) s.few;
     };
-    joined = joined arranged has_patterns;
+    joined = joined (specials arranged) has_patterns;
     rest = frame arranged;
   }

@@ -200,6 +200,27 @@ high_starts false true false plain = refl
 high_starts false false true plain = refl
 high_starts false false false plain = refl
 
+-- so with the kinds of all rows, where dead and quit don't match and aren't accelerated
+module _ (row : ℕ) (m a s : Bool) where
+  by_kind : (from to : ℕ) (test : Bool) → 1 ≤ from → (row ≤ 1 → test ≡ false)
+      → (nat_lt from (high_kind m a s) && nat_le (high_kind m a s) to) ≡ test
+      → (nat_lt from (kind_by row m a s) && nat_le (kind_by row m a s) to) ≡ test
+  by_kind from to test some low high =
+      ⊎_elim
+      (λ (h : 1 < row). rw (kind_high row m a s h) high)
+      (λ (h : row ≤ 1). rw (kind_low row m a s h, le-ltb from row (omega arith)) (sym (low h)))
+      (cases_lt 1 row)
+
+  pub kind_matches : (row ≤ 1 → m ≡ false) → (nat_lt 1 (kind_by row m a s) && nat_le (kind_by row m a s) 3) ≡ m
+  kind_matches low = by_kind 1 3 m (omega arith) low (high_matches m a s)
+
+  pub kind_accels : (row ≤ 1 → a ≡ false) → (nat_lt 2 (kind_by row m a s) && nat_le (kind_by row m a s) 5) ≡ a
+  kind_accels low = by_kind 2 5 a (omega arith) low (high_accels m a s)
+
+  pub kind_starts : (row ≤ 1 → s ≡ false) → (m ≡ true → s ≡ false)
+      → (nat_lt 4 (kind_by row m a s) && nat_le (kind_by row m a s) 6) ≡ s
+  kind_starts low plain = by_kind 4 6 s (omega arith) low (high_starts m a s plain)
+
 -- a label is that of a match row where its id is in the range
 pub label_match : (m q : Bool) (ks : List ℕ)
     → is_match_label (if m then Label.Matches ks else (if q then Label.Quits else Label.Plain)) ≡ m

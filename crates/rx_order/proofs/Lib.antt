@@ -18,6 +18,8 @@ pub mod ByKind
 pub mod Reordered
 -- kinds as numbers, and ranges of ids
 pub mod KindNumbers
+-- where the ends of kinds tell the special ids
+pub mod KindRanges
 -- which rows and ids are special
 pub mod Ordered
 -- rows that are marked by their ids

@@ -4,9 +4,10 @@ use Rattle.std.proofs.Common.{Bool, true, false, if◌then◌else◌, List, [], 
 use Rattle.std.proofs.Common.{refl, ap, ap₂, sym, ◌∙◌, subst, ⊎_elim, arith}
 use Rattle.std.specs.List.{concat, range_with_len}
 use Rattle.std.proofs.Math.Nat.{add-mul, mul-div_cancel}
-use Rattle.std.proofs.lemmas.Bool.{and_parts, cases_eq, cases_lt, eq-eqb, false≢true, le-ltb, leb-true, lt-ltb}
+use Rattle.std.proofs.lemmas.Bool.{and_parts, cases_eq, cases_lt, eq-eqb, false≢true, le-ltb, lt-ltb}
 use Rattle.std.proofs.lemmas.Bool.{ltb-true, ne_eqb}
 use Rattle.std.proofs.lemmas.List.FromFn.{fill_by_all}
+use Rattle.std.proofs.lemmas.Nat.{pow_pos}
 use Rattle.rx_spec.specs.Machines.{Label}
 use Rattle.rx_spec.specs.Tables.{is_match_label}
 use Rattle.rx_search.specs.Labels.{label_patterns}
@@ -17,11 +18,11 @@ use Rattle.rx_dense.specs.declared.special.Special.{Special}
 use Rattle.rx_dense.proofs.PatternLists.{patterns_are}
 use Rattle.rx_order.specs.RowOrder.{AreJoined, is_start_row, match_count, match_lists}
 use Rattle.rx_order.proofs.Moved.{factor}
-use Rattle.rx_order.proofs.Ordered.{IsArranged, Sorting, behind_end, end, ends_quit, kind_at, low_kind, low_row}
-use Rattle.rx_order.proofs.Ordered.{match_id}
 use Rattle.rx_order.proofs.KindNumbers.{high_matches}
-use Rattle.rx_order.proofs.Ordered.{high_kind_is, high_row, number, quit, row_at, some, special_is}
-use Rattle.rx_order.proofs.Ordered.{stride_same}
+use Rattle.rx_order.proofs.KindRanges.{HasSpecials, ends_quit, is_between, low_kind, match_id}
+use Rattle.rx_order.proofs.Ordered.{IsArranged, Sorting, high_kind_is, high_row, kind_at, low_row, number, quit, row_at}
+use Rattle.rx_order.proofs.Ordered.{size_same, specials}
+use Rattle.rx_order.proofs.Ordered as Ordered
 use Rattle.rx_order.proofs.Reordered.{number_below, row_at_number}
 
 cases_le : (a b : ℕ) → (a ≤ b) ⊎ (b < a)
@@ -51,15 +52,18 @@ place_from from to width some h =
         sym (add-mul (a - b) b s) ∙ ap (λ n. n * s) whole
 
 -- the patterns of all match rows are given, in the order of the rows
-pub record HasPatterns (x : Sorting) (m : Layout) (lists : List (List ℕ)) : Type 0 where
-  pub count : length lists ≡ slice_index x.ends 3 - 2
+pub record HasPatterns (ends : List ℕ) (m : Layout) (lists : List (List ℕ)) : Type 0 where
+  pub count : length lists ≡ slice_index ends 3 - 2
   pub slices : m.slices ≡ slices_from 0 lists
   pub pattern_ids : m.pattern_ids ≡ concat lists
 
-module _ {x : Sorting} {l new m : Layout} (a : IsArranged x l new m) {lists : List (List ℕ)}
-    (has : HasPatterns x m lists) where
-  w : 0 < stride l
-  w = some a
+module _ {m : Layout} {marked : Bool} {kind_at : ℕ → ℕ} {ends : List ℕ} (s : HasSpecials m marked kind_at ends)
+    {lists : List (List ℕ)} (has : HasPatterns ends m lists) where
+  abbrev end : ℕ → ℕ
+  end kind = slice_index ends kind
+
+  w : 0 < stride m
+  w = pow_pos m.stride2
 
   pub patterns_there : (i : ℕ) → i < length lists → patterns_at m i ≡ get_or lists i []
   patterns_there i h =
@@ -67,48 +71,46 @@ module _ {x : Sorting} {l new m : Layout} (a : IsArranged x l new m) {lists : Li
       has.slices has.pattern_ids
       ∙ patterns_are m lists i h
 
-  min_is : 2 < end a 3 → m.special.min_match ≡ 2 * stride l
+  min_is : 2 < end 3 → m.special.min_match ≡ 2 * stride m
   min_is h =
-      ap (λ (s : Special). s.min_match) (special_is a)
-      ∙ ap₂ (λ (from : ℕ) (b : Bool). if b then from * stride l else 0) (ends_quit a)
-      (lt-ltb (end a 1) (end a 3) (omega (arith, ends_quit a)))
+      ap (λ (x : Special). x.min_match) s.special
+      ∙ ap₂ (λ (from : ℕ) (b : Bool). if b then from * stride m else 0) (ends_quit s.are)
+      (lt-ltb (end 1) (end 3) (omega (arith, ends_quit s.are)))
 
-  max_is : 2 < end a 3 → m.special.max_match ≡ (end a 3 - 1) * stride l
+  max_is : 2 < end 3 → m.special.max_match ≡ (end 3 - 1) * stride m
   max_is h =
-      ap (λ (s : Special). s.max_match) (special_is a)
-      ∙ ap (λ (b : Bool). if b then (end a 3 - 1) * stride l else 0)
-      (lt-ltb (end a 1) (end a 3) (omega (arith, ends_quit a)))
+      ap (λ (x : Special). x.max_match) s.special
+      ∙ ap (λ (b : Bool). if b then (end 3 - 1) * stride m else 0)
+      (lt-ltb (end 1) (end 3) (omega (arith, ends_quit s.are)))
 
-  none_is : end a 3 ≤ 2 → m.special.min_match ≡ 0
+  none_is : end 3 ≤ 2 → m.special.min_match ≡ 0
   none_is h =
-      ap (λ (s : Special). s.min_match) (special_is a)
-      ∙ ap (λ (b : Bool). if b then end a 1 * stride l else 0)
-      (le-ltb (end a 1) (end a 3) (omega (arith, ends_quit a)))
+      ap (λ (x : Special). x.min_match) s.special
+      ∙ ap (λ (b : Bool). if b then end 1 * stride m else 0)
+      (le-ltb (end 1) (end 3) (omega (arith, ends_quit s.are)))
 
   -- which match row lies at a place
-  pub place_is : (place : ℕ) → 2 ≤ place → place < end a 3
+  place_is : (place : ℕ) → 2 ≤ place → place < end 3
       → place_in_range m m.special.min_match (place * stride m) ≡ place - 2
   place_is place low high =
-      ap₂ (λ (first w : ℕ). (place * w - first) / w) (min_is (omega arith)) (stride_same a)
-      ∙ place_from 2 place (stride l) w low
+      ap (λ first. (place * stride m - first) / stride m) (min_is (omega arith)) ∙ place_from 2 place (stride m) w low
 
-  pub count_is : match_count m ≡ length lists
+  count_is : match_count m ≡ length lists
   count_is =
       ⊎_elim
-      (λ (h : 2 < end a 3).
-      let above : 0 < 2 * stride l = omega (arith, w) in
+      (λ (h : 2 < end 3).
+      let above : 0 < 2 * stride m = omega (arith, w) in
       let other : m.special.min_match ≡ 0 → ⊥ = λ e. absurd (omega (arith, e, min_is h)) in
-      let last : place_in_range m m.special.min_match m.special.max_match ≡ end a 3 - 1 - 2 =
-      ap (place_in_range m m.special.min_match) (max_is h ∙ ap (λ w. (end a 3 - 1) * w) (sym (stride_same a)))
-      ∙ place_is (end a 3 - 1) (omega arith) (omega arith) in
+      let last : place_in_range m m.special.min_match m.special.max_match ≡ end 3 - 1 - 2 =
+      ap (place_in_range m m.special.min_match) (max_is h) ∙ place_is (end 3 - 1) (omega arith) (omega arith) in
       ap (λ b. if b then 0 else place_in_range m m.special.min_match m.special.max_match + 1)
       (ne_eqb m.special.min_match 0 other)
       ∙ omega (arith, last, has.count))
-      (λ (h : end a 3 ≤ 2).
+      (λ (h : end 3 ≤ 2).
       ap (λ b. if b then 0 else place_in_range m m.special.min_match m.special.max_match + 1)
       (eq-eqb m.special.min_match 0 (none_is h))
       ∙ omega (arith, has.count))
-      (cases_lt 2 (end a 3))
+      (cases_lt 2 (end 3))
 
   pub lists_are : match_lists m ≡ lists
   lists_are =
@@ -125,66 +127,57 @@ module _ {x : Sorting} {l new m : Layout} (a : IsArranged x l new m) {lists : Li
 
   quit_id : (place : ℕ) → is_quit_id m.special (place * stride m) ≡ (place == 1)
   quit_id place =
-      let quit : m.special.quit ≡ 1 * stride m =
-      omega (arith, ap (λ (s : Special). s.quit) (special_is a), stride_same a) in
-      let some_stride : 0 < stride m = omega (arith, w, stride_same a) in
+      let quit : m.special.quit ≡ 1 * stride m = omega (arith, ap (λ (x : Special). x.quit) s.special) in
       ⊎_elim
       (λ (e : place ≡ 1).
       let here : place * stride m ≡ m.special.quit = ap (λ p. p * stride m) e ∙ sym quit in
-      let other : place * stride m ≡ 0 → ⊥ = λ z. absurd (omega (arith, z, here, quit, some_stride)) in
+      let other : place * stride m ≡ 0 → ⊥ = λ z. absurd (omega (arith, z, here, quit, w)) in
       rw (eq-eqb _ _ here, ne_eqb _ _ other, eq-eqb place 1 e) refl)
       (λ (ne : place ≡ 1 → ⊥).
-      let other : place * stride m ≡ m.special.quit → ⊥ = λ e. ne (factor some_stride place 1 (e ∙ quit)) in
+      let other : place * stride m ≡ m.special.quit → ⊥ = λ e. ne (factor w place 1 (e ∙ quit)) in
       rw (ne_eqb _ _ other, ne_eqb place 1 ne) refl)
       (cases_eq place 1)
 
-  inside_end : (p : ℕ) → p < row_count l → kind_at a p ≤ 3 → p < end a 3
-  inside_end p b low =
-      ⊎_elim
-      (λ (h : p < end a 3). h)
-      (λ (h : end a 3 ≤ p). absurd (omega (arith, behind_end a p 3 b (omega arith) h)))
-      (cases_lt p (end a 3))
-
-  high_place : (p : ℕ) → 1 < kind_at a p → 2 ≤ p
-  high_place p high =
-      ⊎_elim
-      (λ (h : p ≤ 1). absurd (omega (arith, low_kind a p h)))
-      (λ (h : 1 < p). omega arith)
-      (cases_le p 1)
-
   -- what a row tells at its place
-  pub label_at : (place : ℕ) → place < row_count l
+  pub label_at : (place : ℕ) → place < row_count m
       → (table_of m).machine.label place
       ≡ (if place == 1 then Label.Quits
-      else (if nat_lt 1 (kind_at a place) && nat_le (kind_at a place) 3 then Label.Matches (get_or lists (place - 2) [])
-      else Label.Plain))
+      else (if is_between 1 3 (kind_at place) then Label.Matches (get_or lists (place - 2) []) else Label.Plain))
   label_at place h =
-      let told : ℕ → Label = λ i. Label.Matches (patterns_at m i) in
       let i : ℕ = place_in_range m m.special.min_match (place * stride m) in
       ap₂ (λ (b q : Bool). if b then Label.Matches (patterns_at m i) else (if q then Label.Quits else Label.Plain))
-      (match_id a place h) (quit_id place)
+      (match_id s place h) (quit_id place)
       ∙ ⊎_elim
       (λ (e : place ≡ 1).
-      let low : kind_at a place ≡ 1 = low_kind a place (omega arith) ∙ e in
-      rw (eq-eqb place 1 e, le-ltb 1 (kind_at a place) (omega (arith, low))) refl)
-      (λ (ne : place ≡ 1 → ⊥). rw (ne_eqb place 1 ne) (by_match (nat_lt 1 (kind_at a place) && nat_le
-      (kind_at a place) 3) refl))
+      let low : kind_at place ≡ 1 = low_kind s.are place (omega arith) ∙ e in
+      rw (eq-eqb place 1 e, le-ltb 1 (kind_at place) (omega (arith, low))) refl)
+      (λ (ne : place ≡ 1 → ⊥). rw (ne_eqb place 1 ne) (by_match (is_between 1 3 (kind_at place)) refl))
       (cases_eq place 1)
     where
-      by_match : (b : Bool) → (nat_lt 1 (kind_at a place) && nat_le (kind_at a place) 3) ≡ b
+      by_match : (b : Bool) → is_between 1 3 (kind_at place) ≡ b
           → (if b then Label.Matches (patterns_at m (place_in_range m m.special.min_match (place * stride m)))
           else Label.Plain)
           ≡ (if b then Label.Matches (get_or lists (place - 2) []) else Label.Plain)
       by_match false e = refl
       by_match true e =
-          let kinds = and_parts (nat_lt 1 (kind_at a place)) (nat_le (kind_at a place) 3) e in
-          let low : 1 < kind_at a place = ltb-true 1 (kind_at a place) kinds.0 in
-          let inside = inside_end place h (leb-true (kind_at a place) 3 kinds.1) in
-          let behind : 2 ≤ place = high_place place low in
+          let kinds = and_parts (nat_lt 1 (kind_at place)) (nat_le (kind_at place) 3) e in
+          let test = are_to_end ∙ kinds.1 in
+          let inside : place < end 3 = ltb-true place (end 3) test in
+          let behind : 2 ≤ place =
+          ⊎_elim
+          (λ (low : place ≤ 1).
+          absurd (omega (arith, low_kind s.are place low, ltb-true 1 (kind_at place) kinds.0)))
+          (λ (high : 1 < place). high)
+          (cases_le place 1) in
           ap Label.Matches
           (ap (patterns_at m) (place_is place behind inside)
           ∙ patterns_there (place - 2) (omega (arith, has.count)))
+        where
+          are_to_end : nat_lt place (end 3) ≡ nat_le (kind_at place) 3
+          are_to_end = s.are.to_end place 3 h (omega arith)
 
+module _ {x : Sorting} {l new m : Layout} (a : IsArranged x l new m) {lists : List (List ℕ)}
+    (has : HasPatterns x.ends m lists) where
   -- what a row tells that lies there
   pub label_of_number : (row : ℕ) → row < row_count l
       → (table_of m).machine.label (number a row)
@@ -195,9 +188,9 @@ module _ {x : Sorting} {l new m : Layout} (a : IsArranged x l new m) {lists : Li
       let below = number_below a.reordered a.before row h in
       let back = row_at_number a.reordered a.before row h in
       let quits : (number a row == 1) ≡ (row == 1) = same_quit in
-      let matches : (nat_lt 1 (kind_at a place) && nat_le (kind_at a place) 3) ≡ (nat_lt 1 row && x.matches row) =
+      let matches : is_between 1 3 (kind_at a place) ≡ (nat_lt 1 row && x.matches row) =
       same_match below back in
-      label_at (number a row) below
+      label_at (specials a) has (number a row) (omega (arith, below, size_same a))
       ∙ ap₂ (λ (q b : Bool). if q then Label.Quits
       else (if b then Label.Matches (get_or lists (number a row - 2) []) else Label.Plain)) quits matches
     where
@@ -212,20 +205,20 @@ module _ {x : Sorting} {l new m : Layout} (a : IsArranged x l new m) {lists : Li
           (cases_eq row 1)
 
       same_match : number a row < row_count l → row_at a (number a row) ≡ row
-          → (nat_lt 1 (kind_at a (number a row)) && nat_le (kind_at a (number a row)) 3)
+          → is_between 1 3 (kind_at a (number a row))
           ≡ (nat_lt 1 row && x.matches row)
       same_match below back =
           ⊎_elim
           (λ (low : number a row ≤ 1).
           let here : row ≡ number a row = sym back ∙ low_row a (number a row) low in
           rw (
-            le-ltb 1 (kind_at a (number a row)) (omega (arith, low_kind a (number a row) low)),
+            le-ltb 1 (kind_at a (number a row)) (omega (arith, Ordered.low_kind a (number a row) low)),
             le-ltb 1 row (omega (arith, here)),
           )
           refl)
           (λ (high : 1 < number a row).
           let above : 1 < row = subst (λ r. 1 < r) back (high_row a (number a row) below high) in
-          ap (λ k. nat_lt 1 k && nat_le k 3) (high_kind_is a (number a row) below high)
+          ap (is_between 1 3) (high_kind_is a (number a row) below high)
           ∙ high_matches (x.matches (row_at a (number a row))) (x.accelerated (row_at a (number a row)))
           (is_start_row l (row_at a (number a row)))
           ∙ ap x.matches back

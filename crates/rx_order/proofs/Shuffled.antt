@@ -45,18 +45,18 @@ use Rattle.rx_dense.proofs.Shaped.{rows_kept, starts_kept}
 use Rattle.rx_order.specs.ByKind.{AreByKind, AreKinds}
 use Rattle.rx_order.specs.Moved.{IsReordered}
 use Rattle.rx_order.specs.SpecialIds.{special_ids}
-use Rattle.rx_order.proofs.Ordered.{ends_few}
+use Rattle.rx_order.proofs.Ordered.{ends_few, specials}
 use Rattle.rx_order.proofs.Reordered.{IsBefore, stride_is}
 use Rattle.rx_spec.specs.Queries.{Anchored}
 use Rattle.rx_spec.specs.Tables.{IsSound}
 use Rattle.rx_spec.specs.declared.Start.{Start}
-use Rattle.rx_dense.specs.declared.special.Special.{Special}
 use Rattle.rx_dense.specs.Layouts.{context_number, machine_of, mode_place}
 use Rattle.rx_order.proofs.MatchRows.{joined}
 use Rattle.rx_order.proofs.Sound.{AreLabels, frame, sound}
-use Rattle.rx_order.proofs.Ordered.{accel_id, accel_is, end_high, ordered, permuted, size_same, special_is, start_is}
+use Rattle.rx_order.proofs.Ordered.{accel_id, accel_is, ordered, permuted, size_same, start_is}
 use Rattle.rx_order.proofs.Reordered.{numbers, zero_div}
 use Rattle.rx_order.proofs.KindNumbers.{kind_high}
+use Rattle.rx_order.proofs.KindRanges.{no_accels}
 use Rattle.rx_order.proofs.Ordered.{kind_at, low_kind, number, row_at, some}
 use Rattle.rx_order.proofs.Reordered.{number_below, number_of_place, row_at_number}
 
@@ -293,7 +293,7 @@ module _ {old : Layout} {matches : Matches} {x : Sorting} {new m : Layout} (s : 
       length-map (values matches) vec_items ∙ length-values_of matches.entries ∙ sym (length-keys_of matches.entries)
       ∙ ap length keys_are ∙ ids_count
 
-  pub has_patterns : HasPatterns x m (pattern_lists matches)
+  pub has_patterns : HasPatterns x.ends m (pattern_lists matches)
   has_patterns = record { count = lists_count; slices = s.slices; pattern_ids = s.pattern_ids }
 
   -- the list of a row's patterns
@@ -345,31 +345,6 @@ module _ {old : Layout} {matches : Matches} {x : Sorting} {new m : Layout} (s : 
 
   -- ---- what is left
 
-  no_kind : (b c : Bool) → 2 < high_kind b false c → high_kind b false c ≤ 5 → ⊥
-  no_kind true c low high = omega arith
-  no_kind false true low high = omega arith
-  no_kind false false low high = omega arith
-
-  no_accels : nat_lt (end a 2) (end a 5) ≡ false
-  no_accels =
-      ⊎_elim
-      (λ (h : end a 2 < end a 5).
-      let at = before_end a (end a 2) 5 (omega arith) h in
-      let past = behind_end a (end a 2) 2 at.0 (omega arith) (omega arith) in
-      let high : 1 < end a 2 = end_high a 2 (omega arith) (omega arith) in
-      let kind = high_kind_is a (end a 2) at.0 high
-      ∙ ap (λ (f : ℕ → Bool). high_kind (x.matches (row_at a (end a 2))) (f (row_at a (end a 2)))
-      (is_start_row old (row_at a (end a 2))))
-      s.none_accelerated in
-      absurd (no_kind (x.matches (row_at a (end a 2))) (is_start_row old (row_at a (end a 2)))
-      (omega (arith, kind, past)) (omega (arith, kind, at.1))))
-      (λ (h : end a 5 ≤ end a 2). le-ltb (end a 2) (end a 5) h)
-      (cases_lt (end a 2) (end a 5))
-
-  no_accel_id : m.special.min_accel ≡ 0
-  no_accel_id = ap (λ (k : Special). k.min_accel) (special_is a)
-      ∙ ap (λ b. if b then end a 2 * stride old else 0) no_accels
-
   no_accelerated : (row : ℕ) → row < row_count m → (table_of m).is_accelerated row ≡ false
   no_accelerated row h =
       let low : row < row_count old = omega (arith, size_same a) in
@@ -395,12 +370,8 @@ module _ {old : Layout} {matches : Matches} {x : Sorting} {new m : Layout} (s : 
     ordered = ordered a;
     marked = λ row h.
         start_is a row (omega (arith, size_same a)) ∙ ap (λ b. b && is_start_row m row) s.marked;
-    unaccelerated = (
-      no_accel_id,
-      ap (λ (k : Special). k.max_accel) (special_is a)
-          ∙ ap (λ b. if b then (end a 5 - 1) * stride old else 0) no_accels,
-    );
-    joined = joined a has_patterns;
+    unaccelerated = no_accels (specials a) no_accelerated;
+    joined = joined (specials a) has_patterns;
     rest =
         frame a
         ∙ ap (λ (accels : List (List ℕ)). record old {

@@ -16,7 +16,7 @@ use Rattle.rx_dense.specs.Layouts.{ids_of, row_count, stride, table_of}
 use Rattle.rx_dense.specs.Layouts.{Layout, AreRows}
 use Rattle.rx_dense.proofs.Rows.{IsId-row_id, IsRowId-row, id_few, row_of-row}
 use Rattle.rx_order.proofs.ExchangedRows.{count_of, row_below}
-use Rattle.rx_order.specs.ByKind.{AreSkippable, leaving_of}
+use Rattle.rx_order.specs.ByKind.{AreSkippable, HaveMatches, leaving_of}
 use Rattle.rx_order.specs.RowOrder.{are_needles, is_start_row, kind_by}
 use Rattle.rx_order.proofs.Leaving.{at_most}
 use Rattle.rx_order.proofs.KindNumbers.{high_accels, high_kind, high_matches, kind_high, kind_low}
@@ -27,6 +27,17 @@ pub record IsNumbered (l : Layout) (row : ℕ) : Type 0 where
   pub row_is : row_of (ids_of l) (row * stride l) ≡ row
   pub few : row * stride l ≤ max_id
   pub shifted : row * stride l % 18446744073709551616 ≡ row * stride l
+
+pub row_numbered : (l : Layout) → AreRows l → (row : ℕ) → row < row_count l → IsNumbered l row
+row_numbered l are row h =
+    let is = IsRowId-row l row h in
+    let few = id_few l are (row * stride l) is in
+    record {
+      is_id = IsId-row_id l (row * stride l) is;
+      row_is = row_of-row l row h;
+      few = few;
+      shifted = mod-eq_of_lt (omega (arith, few));
+    }
 
 -- a row's number is at most the greatest id
 pub number_few : (l : Layout) → AreRows l → (row : ℕ) → row < row_count l → row ≤ max_id
@@ -68,15 +79,7 @@ module _ {l : Layout} {rows ends : List ℕ} (s : AreSkippable l rows ends) wher
   row_in place h = row_below permutation place h
 
   pub numbered : (row : ℕ) → row < row_count l → IsNumbered l row
-  numbered row h =
-      let is = IsRowId-row l row h in
-      let few = id_few l s.are_rows (row * stride l) is in
-      record {
-        is_id = IsId-row_id l (row * stride l) is;
-        row_is = row_of-row l row h;
-        few = few;
-        shifted = mod-eq_of_lt (omega (arith, few));
-      }
+  numbered row h = row_numbered l s.are_rows row h
 
   high_row : (place : ℕ) → place < row_count l → 1 < slice_index s.kinds (slice_index rows place)
       → slice_index s.kinds (slice_index rows place)
@@ -126,3 +129,20 @@ module _ {l : Layout} {rows ends : List ℕ} (s : AreSkippable l rows ends) wher
       ∙ ap (λ k. nat_lt 1 k && nat_le k 3) (sym is)
       ∙ ap₂ (λ (b c : Bool). b && c) (lt-ltb 1 (slice_index s.kinds (slice_index rows place)) above)
       (at_most (slice_index s.kinds (slice_index rows place)) 3 within)
+
+  pub have_matches : HaveMatches l rows ends
+  have_matches =
+      let ends_in : slice_index ends 3 ≤ length rows =
+      ⊎_elim
+      (λ (past : length rows < slice_index ends 3).
+      absurd (omega (arith, place_below (length rows) 3 (omega arith) past, rows_count)))
+      (λ (within : slice_index ends 3 ≤ length rows). within)
+      (cases_lt (length rows) (slice_index ends 3)) in
+      record {
+        are_rows = s.are_rows;
+        few = omega (arith, rows_count);
+        below = λ place h. row_in place (omega (arith, rows_count));
+        from = ends_rise 1 3 (omega arith) (omega arith);
+        to = ends_in;
+        matches = matching;
+      }

@@ -1,5 +1,5 @@
 -- Rows in the order of their kinds, which are numbers below 8.
-use Rattle.std.specs.Prelude.{ℕ, ◌≡◌, ◌<◌, ◌≤◌, ◌-◌, ◌*◌, ◌==◌, Bool, false, List, length, map, slice_index}
+use Rattle.std.specs.Prelude.{ℕ, ◌≡◌, ◌<◌, ◌≤◌, ◌-◌, ◌*◌, ◌==◌, Bool, true, false, List, length, map, slice_index}
 use Rattle.std.specs.Prelude.{slice_index_or}
 use Rattle.std.specs.List.{list_any, range_with_len}
 use Rattle.std.specs.List.Sorted.{IsPermutation}
@@ -42,6 +42,16 @@ abbrev pub lists_in : Layout → (rows ends : List ℕ) → List (List ℕ)
 lists_in l rows ends =
     map (λ place. patterns_of (table_of l) (slice_index rows place))
     (range_with_len (slice_index ends 1) (slice_index ends 3 - slice_index ends 1))
+
+-- Rows of a table, of which those at the places of the kinds 2 and 3 are match rows.
+pub record HaveMatches (l : Layout) (rows ends : List ℕ) : Type 0 where
+  pub are_rows : AreRows l
+  pub few : length rows ≤ row_count l
+  pub below : (place : ℕ) → place < length rows → slice_index rows place < row_count l
+  pub from : slice_index ends 1 ≤ slice_index ends 3
+  pub to : slice_index ends 3 ≤ length rows
+  pub matches : (place : ℕ) → slice_index ends 1 ≤ place → place < slice_index ends 3
+      → is_match (table_of l) (slice_index rows place) ≡ true
 
 -- Rows of a table in the order of their kinds, with those accelerated from which a search may skip.
 pub record AreSkippable (l : Layout) (rows ends : List ℕ) : Type 0 where

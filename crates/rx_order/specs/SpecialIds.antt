@@ -1,5 +1,5 @@
 -- The special ids of a table whose rows lie in the order of their kinds.
-use Rattle.std.specs.Prelude.{ℕ, ◌-◌, ◌*◌, Bool, nat_lt, if◌then◌else◌, List, slice_index}
+use Rattle.std.specs.Prelude.{ℕ, ◌≡◌, ◌<◌, ◌≤◌, ◌-◌, ◌*◌, Bool, nat_le, nat_lt, if◌then◌else◌, List, slice_index}
 use Rattle.rx_dense.specs.declared.special.Special.{Special}
 use Rattle.rx_dense.specs.Specials.{greatest}
 
@@ -26,3 +26,14 @@ special_ids width ends marked =
       max_start = if marked then last_id width (end 4) (end 6) else 0;
     } in
     record special { max = greatest special }
+
+-- The rows of a table lie by their kinds: dead first, then quit, then the others. A list has the place behind the last
+-- row of each kind or a lower one.
+pub record AreKindEnds (size : ℕ) (kind_at : ℕ → ℕ) (ends : List ℕ) : Type 0 where
+  pub two : 2 ≤ size
+  pub dead : kind_at 0 ≡ 0
+  pub quit : kind_at 1 ≡ 1
+  pub others : (row : ℕ) → 1 < row → row < size → 1 < kind_at row
+  pub within : (kind : ℕ) → kind < 8 → slice_index ends kind ≤ size
+  pub to_end : (row kind : ℕ) → row < size → kind < 8
+      → nat_lt row (slice_index ends kind) ≡ nat_le (kind_at row) kind

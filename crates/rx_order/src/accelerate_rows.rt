@@ -1,27 +1,24 @@
 //! Acceleration: which states a search skips from.
 
-ghost use Rattle.std.specs.Prelude.{◌≡◌, ℕ, ◌<◌, ◌≤◌, ◌-◌, All, IfOk, OnErr, OnOk, length, map, slice_index, true};
+ghost use Rattle.std.specs.Prelude.{◌≡◌, ◌<◌, ◌≤◌, ◌-◌, All, IfOk, OnErr, OnOk, length, map, slice_index};
 ghost use Rattle.std.specs.List.{concat, range_with_len};
 ghost use Rattle.rx_spec.specs.Causes.{max_id};
-ghost use Rattle.rx_spec.specs.Ids.{row_of};
-ghost use Rattle.rx_spec.specs.Tables.{IsSound, is_match};
-ghost use Rattle.rx_search.specs.Labels.{patterns_of};
-ghost use Rattle.rx_search.specs.Starts.{IsId};
-ghost use Rattle.rx_dense.specs.Builder.{pattern_lists, with_patterns};
-ghost use Rattle.rx_dense.specs.Layouts.{AreRows, AreStarts, ids_of, table_of};
+ghost use Rattle.rx_spec.specs.Tables.{is_match};
+ghost use Rattle.rx_dense.specs.Builder.{with_patterns};
+ghost use Rattle.rx_dense.specs.Layouts.{AreRows, AreStarts, table_of};
 ghost use Rattle.rx_order.specs.ByKind.{AreKinds, AreSkippable, leaving_of, lists_in};
 ghost use Rattle.rx_order.specs.RowOrder.{AreJoined, IsInOrder, IsPlain, are_needles};
 ghost use Rattle.rx_order.specs.Ordering.{IsAccelerated};
 
 use crate::kinds::{any_accelerated, kind, start_rows};
-use crate::order::Order;
+use crate::order::{Order, special};
+use crate::patterns::patterns_of_rows;
 use crate::places::Places;
 use crate::skips::needles;
-use rx_base::{PatternID, StateID};
+use rx_base::StateID;
 use rx_dense::{Accels, OwnedDFA};
 use rx_search::Automaton;
 use std::alloc::{AllocError, Global};
-use std::collections::BTreeMap;
 
 /// Accelerates a table. Each state that one to three bytes lead elsewhere, none of them a space, keeps these bytes as
 /// its needles, and the states move into their order again. A table without such a state stays as it is.
@@ -45,7 +42,7 @@ pub fn accelerate(alloc: Global, dfa: &mut OwnedDFA) -> Result<(), AllocError>
     move_patterns(alloc, dfa, &order)?;
     places.arrange(dfa, &order.rows);
     dfa.set_accels(accels);
-    dfa.set_special(order.special(dfa.stride2(), marked));
+    dfa.set_special(special(&order.ends, dfa.stride2(), marked));
     Ok(())
 }
 
@@ -96,49 +93,9 @@ fn move_patterns(alloc: Global, dfa: &mut OwnedDFA, order: &Order) -> Result<(),
     if order.keeps_matches() {
         return Ok(());
     }
-    let patterns = patterns(alloc, dfa, order)?;
+    let patterns = patterns_of_rows(alloc, dfa, &order.rows, &order.ends)?;
     match dfa.set_pattern_map(&patterns) {
         Ok(()) => Ok(()),
         Err(_) => Err(AllocError),
     }
-}
-
-/// The patterns of the match rows, by the ids that the rows will have.
-fn patterns(
-    alloc: Global,
-    dfa: &OwnedDFA,
-    order: &Order,
-) -> Result<BTreeMap<StateID, Vec<PatternID>>, AllocError>
-    requires sound { IsSound (table_of dfa.now) }
-    requires sorted { AreSkippable dfa.now order.now.rows.items order.now.ends }
-    ensures { IfOk result (λ patterns.
-        pattern_lists patterns ≡ lists_in dfa.now order.now.rows.items order.now.ends) }
-{
-    let stride2 = dfa.stride2();
-    let mut lists = BTreeMap::new(alloc);
-    for place in order.ends[1]..order.ends[3] {
-        let id = StateID::must((order.rows[place] as usize) << stride2);
-        let list = patterns_of_row(alloc, dfa, id)?;
-        lists.insert(StateID::must(place << stride2), list)?;
-    }
-    Ok(lists)
-}
-
-/// The patterns of a match state. Requires a sound table.
-pub fn patterns_of_row(
-    alloc: Global,
-    dfa: &OwnedDFA,
-    id: StateID,
-) -> Result<Vec<PatternID>, AllocError>
-    requires sound { IsSound (table_of dfa.now) }
-    requires is_id { IsId (ids_of dfa.now) id }
-    requires is_match { is_match (table_of dfa.now) (row_of (ids_of dfa.now) id) ≡ true }
-    ensures { IfOk result (λ list. list.items ≡ patterns_of (table_of dfa.now) (row_of (ids_of dfa.now) id)) }
-{
-    let count = dfa.match_len(id);
-    let mut list = Vec::with_capacity(alloc, count)?;
-    for index in 0..count {
-        list.push(dfa.match_pattern(id, index))?;
-    }
-    Ok(list)
 }

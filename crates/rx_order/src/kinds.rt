@@ -10,7 +10,7 @@ use rx_dense::OwnedDFA;
 use std::alloc::{AllocError, Global};
 
 /// For each row, whether some search starts there.
-pub(crate) fn start_rows(alloc: Global, dfa: &OwnedDFA) -> Result<Vec<bool>, AllocError>
+pub fn start_rows(alloc: Global, dfa: &OwnedDFA) -> Result<Vec<bool>, AllocError>
     ensures rows { IfOk result (λ starts. AreStartRows dfa.now starts.items) }
     ensures are_rows { IfOk result (λ _. AreRows dfa.now) }
     ensures are_starts { IfOk result (λ _. AreStarts dfa.now) }
@@ -24,7 +24,7 @@ pub(crate) fn start_rows(alloc: Global, dfa: &OwnedDFA) -> Result<Vec<bool>, All
 }
 
 /// The kind of a row, by whether it is a match row, whether it is accelerated, and whether some search starts there.
-pub(crate) fn kind(row: usize, matches: bool, accelerated: bool, starts: bool) -> u8
+pub fn kind(row: usize, matches: bool, accelerated: bool, starts: bool) -> u8
     ensures value { result ≡ kind_by row matches accelerated (nat_lt 1 row && starts) }
     ensures below { result < 8 }
 {

@@ -18,12 +18,16 @@ mod accelerate_rows;
 mod kinds;
 pub mod laws;
 mod order;
+mod patterns;
 mod places;
 mod remappable;
 mod remapper;
 mod shuffle_rows;
 mod skips;
 
-pub use accelerate_rows::{accelerate, patterns_of_row};
+pub use accelerate_rows::accelerate;
+pub use kinds::{kind, start_rows};
+pub use order::special;
+pub use patterns::{patterns_of_row, patterns_of_rows};
 pub use remapper::{Remappable, Remapper};
 pub use shuffle_rows::shuffle;

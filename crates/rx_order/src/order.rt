@@ -51,55 +51,48 @@ impl Order {
         }
         true
     }
+}
 
-    /// The special ids of a table whose rows lie in this order. A row has 2^`stride2` words. `marked` is whether start
-    /// rows are marked.
-    pub(crate) fn special(&self, stride2: usize, marked: bool) -> Special
-        requires stride2 { stride2 ≤ 9 }
-        requires ids { (kind : ℕ) → kind < 8 → slice_index self.now.ends kind * 2 ^ stride2 ≤ max_id + 2 ^ stride2 }
-        ensures { result ≡ special_ids (2 ^ stride2) self.now.ends marked }
-    {
-        let (min_match, max_match) = self.ids(1, 3, stride2);
-        let (min_accel, max_accel) = self.ids(2, 5, stride2);
-        let (min_start, max_start) = if marked {
-            self.ids(4, 6, stride2)
-        } else {
-            (StateID::ZERO, StateID::ZERO)
-        };
-        let mut special = Special {
-            max: StateID::ZERO,
-            quit: StateID::must(1 << stride2),
-            min_match,
-            max_match,
-            min_accel,
-            max_accel,
-            min_start,
-            max_start,
-        };
-        special.set_max();
-        special
-    }
+/// The special ids of a table whose rows lie in the order of their kinds. `ends` has for each kind the place after the
+/// last row of that kind or a lower one. A row has 2^`stride2` words. `marked` is whether start rows are marked.
+pub fn special(ends: &[usize; 8], stride2: usize, marked: bool) -> Special
+    requires stride2 { stride2 ≤ 9 }
+    requires ids { (kind : ℕ) → kind < 8 → slice_index ends.now kind * 2 ^ stride2 ≤ max_id + 2 ^ stride2 }
+    ensures { result ≡ special_ids (2 ^ stride2) ends.now marked }
+{
+    let (min_match, max_match) = ids(ends[1], ends[3], stride2);
+    let (min_accel, max_accel) = ids(ends[2], ends[5], stride2);
+    let (min_start, max_start) = if marked {
+        ids(ends[4], ends[6], stride2)
+    } else {
+        (StateID::ZERO, StateID::ZERO)
+    };
+    let mut special = Special {
+        max: StateID::ZERO,
+        quit: StateID::must(1 << stride2),
+        min_match,
+        max_match,
+        min_accel,
+        max_accel,
+        min_start,
+        max_start,
+    };
+    special.set_max();
+    special
+}
 
-    /// The first and last id of the rows after those of kind `before`, up to those of kind `last`. Both are 0 if there
-    /// are none.
-    fn ids(&self, before: usize, last: usize, stride2: usize) -> (StateID, StateID)
-        requires before { before < 8 }
-        requires last { last < 8 }
-        requires stride2 { stride2 ≤ 9 }
-        requires ids { (kind : ℕ) → kind < 8 → slice_index self.now.ends kind * 2 ^ stride2 ≤ max_id + 2 ^ stride2 }
-        ensures first { result.0 ≡ first_id (2 ^ stride2) (slice_index self.now.ends before)
-            (slice_index self.now.ends last) }
-        ensures last { result.1 ≡ last_id (2 ^ stride2) (slice_index self.now.ends before)
-            (slice_index self.now.ends last) }
-    {
-        let from = self.ends[before];
-        let to = self.ends[last];
-        if from >= to {
-            return (StateID::ZERO, StateID::ZERO);
-        }
-        (
-            StateID::must(from << stride2),
-            StateID::must((to - 1) << stride2),
-        )
+/// The ids of the first and the last row from one place up to another. Both are 0 if there are none.
+fn ids(from: usize, to: usize, stride2: usize) -> (StateID, StateID)
+    requires stride2 { stride2 ≤ 9 }
+    requires ids { to * 2 ^ stride2 ≤ max_id + 2 ^ stride2 }
+    ensures first { result.0 ≡ first_id (2 ^ stride2) from to }
+    ensures last { result.1 ≡ last_id (2 ^ stride2) from to }
+{
+    if from >= to {
+        return (StateID::ZERO, StateID::ZERO);
     }
+    (
+        StateID::must(from << stride2),
+        StateID::must((to - 1) << stride2),
+    )
 }

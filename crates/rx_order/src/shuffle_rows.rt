@@ -14,7 +14,7 @@ ghost use Rattle.rx_order.specs.RowOrder.{match_lists};
 ghost use Rattle.rx_order.specs.Ordering.{AreMatches, IsRouted, IsShuffled, is_match_row};
 
 use crate::kinds::{kind, start_rows};
-use crate::order::Order;
+use crate::order::{Order, special};
 use crate::places::Places;
 use rx_base::{PatternID, StateID};
 use rx_dense::{OwnedDFA, PatternMapError};
@@ -43,7 +43,7 @@ pub fn shuffle(
     let places = Places::new(alloc, dfa)?;
     dfa.set_pattern_map(&matches)?;
     places.arrange(dfa, &order.rows);
-    dfa.set_special(order.special(dfa.stride2(), true));
+    dfa.set_special(special(&order.ends, dfa.stride2(), true));
     Ok(())
 }
 

@@ -1,17 +1,44 @@
-use Rattle.std.proofs.Common.{◌≡◌, ◌*◌, ◌∙◌, length, map, refl, ap, sym, subst, arith}
+use Rattle.std.proofs.Common.{◌≡◌, ◌*◌, ◌^◌, ◌==◌, ◌∙◌, ℕ, Bool, not, length, map, slice_index, refl, ap, ap₂, sym, subst}
+use Rattle.std.proofs.Common.{arith}
 use Rattle.rx_dense.specs.Builder.{pattern_lists, with_patterns}
 use Rattle.rx_dense.specs.Layouts.{AreRows, AreStarts, Layout, stride, table_of}
+use Rattle.rx_dense.specs.declared.special.Special.{Special}
 use Rattle.rx_dense.proofs.Shaped.{rows_kept, starts_kept}
+use Rattle.rx_order.specs.RowOrder.{is_marked}
+use Rattle.rx_order.specs.SpecialIds.{special_ids}
 use Rattle.rx_minimize.specs.Joined.{AreNewIds}
 use Rattle.rx_minimize.specs.Minimized.{IsMinimized}
 use Rattle.rx_minimize.proofs.JoinedTables.{IsMinimizing}
 use Rattle.rx_minimize.proofs.Minimizing.{minimized}
-use Rattle.rx_minimize.proofs.NewIds.{new_ids, numbers_few}
+use Rattle.rx_minimize.proofs.KeptKinds.{IsKept, have_matches}
+use Rattle.rx_minimize.proofs.NewIds.{are_firsts, ends_few, new_ids, numbers_few}
 use Rattle.rx_minimize.proofs.Quotients.{AreNumbered, two_firsts}
 use Rattle.rx_minimize.proofs.minimize_rows.join_blocks.Goals as goal
 
 pub ids-requires-clause-ids : goal.ids-requires-clause-ids
 ids-requires-clause-ids c = rw c.stride2.ensures.value (numbers_few c.requires c.in_ok-numbering.ensures)
+
+pub patterns_of_rows-requires-clause-places : goal.patterns_of_rows-requires-clause-places
+patterns_of_rows-requires-clause-places c =
+    let kept : IsKept c.args.dfa.now c.args.blocks.now c.in_ok-numbering.numbering.numbers.items
+    c.in_ok-numbering.numbering.firsts.items c.in_ok-ends.ends = record {
+      in_order = c.requires.in_order;
+      plain = c.requires.plain;
+      are_blocks = c.requires.are_blocks;
+      renumbered = c.in_ok-numbering.ensures;
+      within = rw c.deref.ensures.value at c.in_ok-ends.ensures.within;
+      to_end = rw c.deref.ensures.value at c.in_ok-ends.ensures.to_end;
+    } in
+    rw c.deref-2.ensures.value (have_matches kept c.requires.rows)
+
+pub special-special-requires-clause-ids : goal.special-special-requires-clause-ids
+special-special-requires-clause-ids c =
+    let l : Layout = c.args.dfa.now in
+    rw c.stride2-2.ensures.value
+    (λ kind h.
+    ends_few l c.requires.rows.few (are_firsts c.requires c.in_ok-numbering.ensures)
+    (slice_index c.in_ok-ends.ends kind)
+    ((rw c.deref.ensures.value at c.in_ok-ends.ensures.within) kind h))
 
 pub join_rows-requires-clause-rows : goal.join_rows-requires-clause-rows
 join_rows-requires-clause-rows c =
@@ -55,20 +82,28 @@ pub returns-clause-ok : goal.returns-clause-ok
 returns-clause-ok c =
     let l : Layout = c.args.dfa.now in
     let lists = pattern_lists c.in_ok-patterns.patterns in
-    let special = c.special-special.result in
     let s : IsMinimizing l c.args.blocks.now c.in_ok-numbering.numbering.numbers.items
-    c.in_ok-numbering.numbering.firsts.items c.in_ok-ids.ids.items lists special c.join_rows.new.dfa =
+    c.in_ok-numbering.numbering.firsts.items c.in_ok-ids.ids.items c.in_ok-ends.ends lists c.join_rows.new.dfa =
     record {
-      in_order = c.requires.in_order;
-      plain = c.requires.plain;
+      kept = record {
+        in_order = c.requires.in_order;
+        plain = c.requires.plain;
+        are_blocks = c.requires.are_blocks;
+        renumbered = c.in_ok-numbering.ensures;
+        within = rw c.deref.ensures.value at c.in_ok-ends.ensures.within;
+        to_end = rw c.deref.ensures.value at c.in_ok-ends.ensures.to_end;
+      };
       are_starts = c.requires.starts;
-      are_blocks = c.requires.are_blocks;
-      renumbered = c.in_ok-numbering.ensures;
       ids_are = rw c.stride2.ensures.value at c.in_ok-ids.ensures;
-      patterns = rw c.deref.ensures.value at c.in_ok-patterns.ensures;
+      patterns = rw c.deref-2.ensures.value at c.in_ok-patterns.ensures;
       few = c.in-Ok.ensures.fits;
       joined = rw (c.in-Ok.ensures.ok, c.deref-3.ensures.value, c.deref-4.ensures.value) at c.join_rows.ensures;
-      specials = rw c.deref-2.ensures.value at c.special-special.ensures;
     } in
+    let special : c.special-special.result ≡ special_ids (stride l) c.in_ok-ends.ends (is_marked l) =
+    c.special-special.ensures
+    ∙ ap₂ (λ (w : ℕ) (b : Bool). special_ids (2 ^ w) c.in_ok-ends.ends b) c.stride2-2.ensures.value
+    (c.starts.ensures ∙ ap (λ (x : Special). not (x.min_start == 0)) c.special.ensures) in
     subst (IsMinimized l)
-    (sym (c.set_special.ensures ∙ ap (λ (k : Layout). record k { special = special }) s.joined.rest)) (minimized s)
+    (sym (c.set_special.ensures
+    ∙ ap₂ (λ (k : Layout) (x : Special). record k { special = x }) s.joined.rest special))
+    (minimized s)

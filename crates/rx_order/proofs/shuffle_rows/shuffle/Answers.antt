@@ -4,6 +4,7 @@ use Rattle.rx_spec.specs.Causes.{max_id}
 use Rattle.rx_dense.specs.declared.special.Special.{Special}
 use Rattle.rx_order.specs.SpecialIds.{special_ids}
 use Rattle.rx_order.proofs.MatchRows.{lists_are}
+use Rattle.rx_order.proofs.Ordered.{specials}
 use Rattle.rx_order.proofs.Shuffled.{IsShuffling, has_patterns, is_shuffle, shuffled, shuffled_sound, shuffling_ends}
 use Rattle.rx_order.proofs.shuffle_rows.shuffle.Goals as goal
 
@@ -54,6 +55,6 @@ returns c =
       fits = c.in_ok-set_pattern_map.ensures.fits;
       joined_len =
           subst (λ (lists : List (List ℕ)). length (concat lists) ≤ max_id)
-          (sym (lists_are is.arranged (has_patterns is))) c.in_ok-set_pattern_map.ensures.fits;
+          (sym (lists_are (specials is.arranged) (has_patterns is))) c.in_ok-set_pattern_map.ensures.fits;
       too_many = search rules;
     }

@@ -2,9 +2,9 @@ use Rattle.std.proofs.Common.{slice_index}
 use Rattle.rx_search.specs.Labels.{patterns_of}
 use Rattle.rx_dense.specs.Layouts.{stride, table_of}
 use Rattle.rx_order.proofs.InsertedLists.{AreInserted}
-use Rattle.rx_order.proofs.accelerate_rows.patterns.Given as goal
+use Rattle.rx_order.proofs.patterns.patterns_of_rows.Given as goal
 
 abbrev pub invariant-loop-place : goal.invariant-loop-place
 invariant-loop-place l =
-    AreInserted (λ place. patterns_of (table_of l.dfa) (slice_index l.order.rows.items place)) (stride l.dfa)
-    (slice_index l.order.ends 1) l.place l.lists
+    AreInserted (λ place. patterns_of (table_of l.dfa) (slice_index l.rows place)) (stride l.dfa)
+    (slice_index l.ends 1) l.place l.lists

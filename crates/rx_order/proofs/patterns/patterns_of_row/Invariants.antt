@@ -2,7 +2,7 @@ use Rattle.std.proofs.Common.{◌≡◌, take}
 use Rattle.rx_spec.specs.Ids.{row_of}
 use Rattle.rx_search.specs.Labels.{patterns_of}
 use Rattle.rx_dense.specs.Layouts.{ids_of, table_of}
-use Rattle.rx_order.proofs.accelerate_rows.patterns_of_row.Given as goal
+use Rattle.rx_order.proofs.patterns.patterns_of_row.Given as goal
 
 abbrev pub invariant-loop-index : goal.invariant-loop-index
 invariant-loop-index l =

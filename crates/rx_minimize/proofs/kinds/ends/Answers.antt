@@ -1,0 +1,66 @@
+use Rattle.std.proofs.Common.{◌≡◌, ◌*◌, ◌==◌, ◌&&◌, ◌∙◌, ℕ, Bool, false, nat_lt, slice_index, ap, ap₂, sym, subst}
+use Rattle.std.proofs.Common.{arith}
+use Rattle.std.specs.List.{list_any}
+use Rattle.std.proofs.lemmas.List.{get_or_default}
+use Rattle.rx_spec.specs.Ids.{row_of}
+use Rattle.rx_spec.specs.Tables.{is_match}
+use Rattle.rx_search.specs.Starts.{IsId}
+use Rattle.rx_dense.specs.Layouts.{Layout, ids_of, stride, table_of}
+use Rattle.rx_order.specs.RowOrder.{kind_by, kind_of}
+use Rattle.rx_order.proofs.Sorted.{row_numbered}
+use Rattle.rx_minimize.proofs.KeptEnds.{AreEndsUpTo, kind_ended, place_begun, place_ended}
+use Rattle.rx_minimize.proofs.kinds.ends.Goals as goal
+
+pub is_match_state-is_match-requires : goal.is_match_state-is_match-requires
+is_match_state-is_match-requires c =
+    let l : Layout = c.args.dfa.now in
+    let row : ℕ = slice_index c.args.firsts.now c.rows.place in
+    let low = c.requires.firsts.below c.rows.place c.rows-test.true in
+    let n = row_numbered l c.in_ok-starts.ensures.are_rows row low in
+    let id : c.must-id.result ≡ row * stride l = c.must-id.ensures ∙ rw c.stride2-stride2.ensures.value n.shifted in
+    subst (IsId (ids_of l)) (sym id) n.is_id
+
+pub is_accel_state-is_accel-requires : goal.is_accel_state-is_accel-requires
+is_accel_state-is_accel-requires c =
+    let l : Layout = c.args.dfa.now in
+    let row : ℕ = slice_index c.args.firsts.now c.rows.place in
+    let low = c.requires.firsts.below c.rows.place c.rows-test.true in
+    let n = row_numbered l c.in_ok-starts.ensures.are_rows row low in
+    let id : c.must-id.result ≡ row * stride l = c.must-id.ensures ∙ rw c.stride2-stride2.ensures.value n.shifted in
+    subst (IsId (ids_of l)) (sym id) n.is_id
+
+pub kinds-init : goal.kinds-init
+kinds-init c =
+    let l : Layout = c.args.dfa.now in
+    let row : ℕ = slice_index c.args.firsts.now c.rows.place in
+    let starts = c.in_ok-starts.ensures.rows in
+    let low = c.requires.firsts.below c.rows.place c.rows-test.true in
+    let n = row_numbered l c.in_ok-starts.ensures.are_rows row low in
+    let id : c.must-id.result ≡ row * stride l = c.must-id.ensures ∙ rw c.stride2-stride2.ensures.value n.shifted in
+    let own : row_of (ids_of l) c.must-id.result ≡ row = ap (row_of (ids_of l)) id ∙ n.row_is in
+    let matches : c.is_match_state-is_match.result ≡ is_match (table_of l) row =
+    c.is_match_state-is_match.ensures ∙ ap (is_match (table_of l)) own in
+    let accel : c.is_accel_state-is_accel.result ≡ (table_of l).is_accelerated row =
+    c.is_accel_state-is_accel.ensures ∙ ap (λ r. (table_of l).is_accelerated r) own in
+    let flag : c.index.result.now ≡ list_any (λ id. id == row * stride l) l.starts =
+    c.index.ensures
+    ∙ get_or_default c.in_ok-starts.starts.items row c.index.result.now false (omega (arith, starts.count, low))
+    ∙ starts.starts_are row low in
+    let kind : c.kind-other.result ≡ kind_of l row =
+    c.kind-other.ensures.value
+    ∙ ap₂ (λ (m a : Bool). kind_by row m a (nat_lt 1 row && c.index.result.now)) matches accel
+    ∙ ap (λ s. kind_by row (is_match (table_of l) row) ((table_of l).is_accelerated row) (nat_lt 1 row && s)) flag in
+    subst (AreEndsUpTo l c.args.firsts.now c.rows.ends c.rows.place) (sym kind) (place_begun c.rows.invariant)
+
+pub kinds-preserved : goal.kinds-preserved
+kinds-preserved c =
+    kind_ended c.requires.ordered c.requires.firsts c.rows-test.true c.kinds.other c.kinds-test.true c.kinds.invariant
+
+pub rows-preserved : goal.rows-preserved
+rows-preserved c =
+    let last : c.kinds.other ≡ 8 = omega (arith, c.kinds-test.false, c.kinds.auto.other-end) in
+    place_ended (subst (AreEndsUpTo c.args.dfa.now c.args.firsts.now c.kinds.ends c.rows.place) last c.kinds.invariant)
+
+pub returns-clause-to_end : goal.returns-clause-to_end
+returns-clause-to_end c =
+    λ place kind h b. c.rows.invariant.to_end place kind (omega (arith, h, c.rows-test.false)) b
