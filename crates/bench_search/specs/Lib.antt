@@ -1,2 +1,0 @@
--- tables that are being made
-pub mod Begun
