@@ -27,8 +27,9 @@ use std::process::Abort;
 use std::test::Fail;
 use tables::{
     STARTS, accel, accels, add_and_cut, begin, classes_apart, connect, fill, id, lists, modes,
-    remap, remap_state, special, start_all_at, start_at, worked,
+    remap, remap_state, special, start_all_at, start_at,
 };
+use tests_notation::read;
 
 /// The units of a row whose classes keep `x` and `z` apart: a byte of each class, and end of input.
 const UNITS: [Unit; 6] = [
