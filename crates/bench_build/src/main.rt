@@ -1,7 +1,7 @@
 //! Times builds of dense tables, searches with them, and the sparse tables that are made of them: `bench_build FILE
 //! REPEATS [parts]`, `bench_build FILE REPEATS find TEXT`, or `bench_build FILE REPEATS sparse TEXT`.
 //!
-//! FILE has an expression on each line, in the syntax of `reader`. Two tables are built of all expressions, REPEATS
+//! FILE is a script without an input; its plan isn't used. Two tables are built of all expressions, REPEATS
 //! times: the forward one, which gives the ends of leftmost-first matches from an anchored and an unanchored start, and
 //! the reverse one, which is anchored, reports all matches and gives their starts. UTF-8 mode is off.
 //!
@@ -18,26 +18,24 @@
 //! the most ranges of a state, and the number of matches of each table; standard error the least time of each part, in
 //! microseconds.
 //!
-//! If nothing is measured, standard error says why. The status is 2 for wrong words, 3 if an expression can't be read
-//! or built, and 1 if memory, the clock, a file, an image or an output failed.
+//! If nothing is measured, standard error says why. The status is 2 for wrong words, 3 if the script can't be read or
+//! an expression can't be built, and 1 if memory, the clock, a file, an image or an output failed.
 #![tactic(auto)]
 
-mod bounds;
 mod builds;
-mod class;
 mod matches;
-mod reader;
 mod sparse;
 
 use builds::{Direction, Least, Parts, measure, plain_table};
 use matches::{Matches, time_matches};
-use reader::ReadError;
 use rx_base::MatchError;
 use rx_build::BuildError;
 use rx_build::dense::OwnedDFA;
 use rx_expr::Expr;
+use rx_script::{BadKind, Exprs, ScriptFault, read_script};
 use rx_wire::DeserializeError;
 use sparse::{Sizes, Turns, table_sizes, take_turns};
+use std::alloc::AllocError;
 use std::process::ExitCode;
 use std::rt::Clock;
 use std::{env, fs, io};
@@ -49,13 +47,13 @@ pub enum Fault {
     /// The words are wrong.
     #[error("usage: bench_build FILE REPEATS [parts | find TEXT | sparse TEXT]")]
     Usage,
-    /// An expression can't be read.
-    #[error("{text}: {error}")]
-    Expression {
-        /// Its text.
-        text: String,
-        /// Why it can't be read.
-        error: ReadError,
+    /// The script has a fault.
+    #[error("line {line}: bad {kind}")]
+    Script {
+        /// The number of the line, from 1.
+        line: u64,
+        /// The fault of the line.
+        kind: BadKind,
     },
     /// A table can't be built.
     #[error("{0}")]
@@ -76,7 +74,7 @@ impl Fault {
     fn status(&self) -> ExitCode {
         match self {
             Fault::Usage => ExitCode::from(2),
-            Fault::Expression { .. } | Fault::Build(_) | Fault::Search(_) => ExitCode::from(3),
+            Fault::Script { .. } | Fault::Build(_) | Fault::Search(_) => ExitCode::from(3),
             Fault::Image(_) | Fault::Io(_) => ExitCode::FAILURE,
         }
     }
@@ -112,14 +110,14 @@ fn run(rt: &HostRuntime) -> Result<(), Fault> {
         Some(_) => return Err(Fault::Usage),
     };
     let exprs = read_file(rt, file.as_str())?;
-    time_builds(rt, &exprs, repeats, parts)
+    time_builds(rt, exprs.as_slice(), repeats, parts)
 }
 
 /// Finds all matches in a text `repeats` times, and prints their number and the time.
 fn find_all(rt: &HostRuntime, file: &str, repeats: u32, path: &str) -> Result<(), Fault> {
     let exprs = read_file(rt, file)?;
     let text = fs::read(rt, path)?;
-    let (found, time) = time_matches(rt, rt.alloc(), &exprs, repeats, &text)?;
+    let (found, time) = time_matches(rt, rt.alloc(), exprs.as_slice(), repeats, &text)?;
     println!(rt; "{} matches, {} bytes", found.count, found.bytes)?;
     eprintln!(rt; "{} microseconds", time / 1000)?;
     Ok(())
@@ -129,7 +127,7 @@ fn find_all(rt: &HostRuntime, file: &str, repeats: u32, path: &str) -> Result<()
 fn time_sparse(rt: &HostRuntime, file: &str, repeats: u32, path: &str) -> Result<(), Fault> {
     let exprs = read_file(rt, file)?;
     let text = fs::read(rt, path)?;
-    let dense = plain_table(rt.alloc(), &exprs)?;
+    let dense = plain_table(rt.alloc(), exprs.as_slice())?;
     tell_sizes(rt, &table_sizes(rt.alloc(), &dense)?)?;
     let turns = take_turns(rt, rt.alloc(), &dense, repeats, &text)?;
     tell_turns(rt, &turns)?;
@@ -154,22 +152,14 @@ fn time_builds(rt: &HostRuntime, exprs: &[Expr], repeats: u32, parts: Parts) -> 
     Ok(())
 }
 
-/// The expressions of a file, one on each line.
-fn read_file(rt: &HostRuntime, path: &str) -> Result<Vec<Expr>, Fault> {
-    let text = fs::read_to_string(rt, path)?;
-    let mut exprs = Vec::new(rt.alloc());
-    for line in text.as_str().lines() {
-        match reader::read(rt.alloc(), line) {
-            Ok(expr) => exprs.push(expr).map_err(|failed| io::Error::from(failed))?,
-            Err(error) => {
-                let text = String::from_str(rt.alloc(), line).map_err(|error| io::Error::from(
-                    error,
-                ))?;
-                return Err(Fault::Expression { text, error });
-            }
-        }
+/// The expressions of a script.
+fn read_file(rt: &HostRuntime, path: &str) -> Result<Exprs, Fault> {
+    let text = fs::read(rt, path)?;
+    match read_script(rt.alloc(), &text, false) {
+        Ok(script) => Ok(script.exprs),
+        Err(ScriptFault::Bad { line, kind }) => Err(Fault::Script { line, kind }),
+        Err(ScriptFault::Memory) => Err(Fault::Io(io::Error::from(AllocError))),
     }
-    Ok(exprs)
 }
 
 /// Prints the size of a table.
