@@ -15,7 +15,8 @@ use Rattle.rx_spec.specs.Tables.{Table}
 use Rattle.rx_spec.specs.declared.Start.{Start}
 use Rattle.rx_search.specs.Labels.{patterns_of}
 use Rattle.rx_dense.specs.Builder.{slices_from, with_patterns}
-use Rattle.rx_dense.specs.Layouts.{Layout, AreStarts, context_number, machine_of, mode_place, row_count, stride, table_of}
+use Rattle.rx_dense.specs.Layouts.{Layout, AreStarts, context_number, machine_of, mode_place, row_count, stride}
+use Rattle.rx_dense.specs.Layouts.{table_of}
 use Rattle.rx_order.specs.ByKind.{lists_in}
 use Rattle.rx_order.specs.RowOrder.{AreJoined, is_marked, match_lists}
 use Rattle.rx_order.specs.SpecialIds.{AreKindEnds, special_ids}
@@ -174,8 +175,8 @@ module _ {old : Layout} {blocks numbers firsts ids ends : List ℕ} {lists : Lis
           let two = ends_quit specials.are in
           let list : get_or lists (row - 2) [] ≡ list_of row =
           ap (λ (ls : List (List ℕ)). get_or ls (row - 2) []) s.patterns
-          ∙ get_or-map-range_with_len list_of (slice_index ends 1) (slice_index ends 3 - slice_index ends 1) (row - 2) row
-          [] (omega (arith, at.0, at.1, two)) (omega (arith, at.0, two)) in
+          ∙ get_or-map-range_with_len list_of (slice_index ends 1) (slice_index ends 3 - slice_index ends 1) (row - 2)
+          row [] (omega (arith, at.0, at.1, two)) (omega (arith, at.0, two)) in
           ap Label.Matches list
           ∙ sym (matching_label (before.machine.label (first row)) (sym (match_kind s.kept row) ∙ e))
       by_match ne false e =

@@ -41,7 +41,8 @@ module _ {l : Layout} {firsts ends : List ℕ} {place : ℕ} where
         le-ltb place (slice_index ends k) (are.within k h)
         ∙ ⊎_elim
         (λ (low : k < kept_kind l firsts place). rw (over (kept_kind l firsts place) k low) refl)
-        (λ (high : kept_kind l firsts place ≤ k). rw (at_most (kept_kind l firsts place) k high, le-ltb k (kept_kind l firsts place) high) refl)
+        (λ (high : kept_kind l firsts place ≤ k).
+        rw (at_most (kept_kind l firsts place) k high, le-ltb k (kept_kind l firsts place) high) refl)
         (cases_lt k (kept_kind l firsts place));
   }
 
@@ -52,7 +53,8 @@ module _ {l : Layout} {firsts ends : List ℕ} {place : ℕ} where
     to_end = λ p k h b.
         ⊎_elim
         (λ (e : p ≡ place).
-        rw e (are.here k b ∙ ap (λ t. nat_le (kept_kind l firsts place) k && t) (lt-ltb k 8 b) ∙ and-true (nat_le (kept_kind l firsts place) k)))
+        rw e (are.here k b ∙ ap (λ t. nat_le (kept_kind l firsts place) k && t) (lt-ltb k 8 b)
+        ∙ and-true (nat_le (kept_kind l firsts place) k)))
         (λ (ne : p ≡ place → ⊥). are.to_end p k (omega arith) b)
         (cases_eq p place);
   }
@@ -84,7 +86,8 @@ module _ {l : Layout} {firsts ends : List ℕ} {place : ℕ} where
         (λ (e : k ≡ other).
         rw (e, same)
         (lt-ltb place (place + 1) (omega arith)
-        ∙ sym (ap₂ (λ (a b : Bool). a && b) (at_most (kept_kind l firsts place) other are.from) (lt-ltb other (other + 1) (omega arith)))))
+        ∙ sym (ap₂ (λ (a b : Bool). a && b) (at_most (kept_kind l firsts place) other are.from)
+        (lt-ltb other (other + 1) (omega arith)))))
         (λ (ne : k ≡ other → ⊥).
         rw (others k ne) (are.here k c ∙ ap (λ t. nat_le (kept_kind l firsts place) k && t) (same_test k ne)))
         (cases_eq k other);

@@ -510,7 +510,9 @@ module _ {old : Layout} {kinds rows ends : List ℕ} {next new m : Layout}
     in_order = record {
       sound = sound arranged routed told labels_are has_needles;
       ordered = ordered arranged;
-      few = subst (λ (ls : List (List ℕ)). length (concat ls) ≤ max_id) (sym (lists_are (specials arranged) has_patterns)) s.few;
+      few =
+          subst (λ (ls : List (List ℕ)). length (concat ls) ≤ max_id)
+          (sym (lists_are (specials arranged) has_patterns)) s.few;
     };
     joined = joined (specials arranged) has_patterns;
     rest = frame arranged;

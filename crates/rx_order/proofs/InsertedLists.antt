@@ -7,7 +7,8 @@ use Rattle.std.specs.Map.{keys_of, values_of}
 use Rattle.std.specs.Ordering.{nat_cmp}
 use Rattle.std.specs.Vec.{vec_items}
 use Rattle.std.proofs.lemmas.Bool.{le-ltb, ne_eqb}
-use Rattle.std.proofs.lemmas.List.Elements.{All-head, All-push, All-tail, All-weaker}
+use Rattle.std.proofs.lemmas.List.Elements.{All-from_get_or, All-head, All-tail}
+use Rattle.std.proofs.lemmas.List.FromFn.{get_or-map-range_with_len, length-map-range_with_len}
 use Rattle.std.proofs.lemmas.List.FromFn.{map-range_with_len_more}
 use Rattle.std.proofs.lemmas.Nat.{row_fits}
 use Rattle.rx_dense.specs.Builder.{pattern_lists}
@@ -36,7 +37,21 @@ keys_last (e ∷ entries) k v = ap (λ (rest : List ℕ). e.0 ∷ rest) (keys_la
 -- The lists of places from one on stand at the ids of the places.
 pub record AreInserted (list_of : ℕ → List ℕ) (width from place : ℕ) (lists : Matches) : Type 0 where
   pub lists_are : pattern_lists lists ≡ map list_of (range_with_len from (place - from))
-  pub keys_below : All (λ key. key < place * width) (keys lists)
+  pub keys_are : keys lists ≡ map (λ place. place * width) (range_with_len from (place - from))
+
+-- so the next place has a greater id
+keys_below : {list_of : ℕ → List ℕ} {width from place : ℕ} {lists : Matches}
+    → AreInserted list_of width from place lists → 0 < width → from ≤ place
+    → All (λ key. key < place * width) (keys lists)
+keys_below {width = width} {from = from} {place = place} h some behind =
+    let ids : List ℕ = map (λ place. place * width) (range_with_len from (place - from)) in
+    subst (All (λ key. key < place * width)) (sym h.keys_are)
+    (All-from_get_or (λ key. key < place * width) ids 0
+    (λ k low.
+    let within : k < place - from =
+    omega (arith, low, length-map-range_with_len (λ place. place * width) from (place - from)) in
+    let at = get_or-map-range_with_len (λ place. place * width) from (place - from) k (from + k) 0 within refl in
+    omega (arith, at, row_fits (from + k) width place width (omega arith) (omega arith), some)))
 
 pub one_inserted : {list_of : ℕ → List ℕ} {width from place : ℕ} {lists new : Matches} (id : ℕ) (list : Vec ℕ Global)
     → AreInserted list_of width from place lists → 0 < width → from ≤ place → id ≡ place * width
@@ -45,10 +60,8 @@ pub one_inserted : {list_of : ℕ → List ℕ} {width from place : ℕ} {lists 
 one_inserted {list_of} {width} {from} {place} {lists} {new} id list h some behind id_is list_is inserted =
     let more : place + 1 - from ≡ place - from + 1 = omega arith in
     let last : from + (place - from) ≡ place = omega arith in
-    let above : place * width < (place + 1) * width =
-    omega (arith, row_fits place width (place + 1) width (omega arith) (omega arith), some) in
     let below : All (λ key. key < id) (keys lists) =
-    subst (λ k. All (λ key. key < k) (keys lists)) (sym id_is) h.keys_below in
+    subst (λ k. All (λ key. key < k) (keys lists)) (sym id_is) (keys_below h some behind) in
     let entries : new.entries ≡ lists.entries ++ (id, list) ∷ [] =
     inserted ∙ inserted_last lists.entries id list below in
     record {
@@ -57,11 +70,9 @@ one_inserted {list_of} {width} {from} {place} {lists} {new} id list h some behin
           ∙ ap₂ (λ (xs : List (List ℕ)) (y : List ℕ). xs ++ y ∷ []) h.lists_are list_is
           ∙ sym (ap (λ n. map list_of (range_with_len from n)) more
           ∙ map-range_with_len_more list_of from (place - from) place last);
-      keys_below =
-          subst (All (λ key. key < (place + 1) * width))
-          (sym (ap keys_of entries ∙ keys_last lists.entries id list))
-          (All-push (λ key. key < (place + 1) * width) (keys lists) id
-          (All-weaker (λ key. key < place * width) (λ key. key < (place + 1) * width) (λ k l. omega (arith, l, above))
-          (keys lists) h.keys_below)
-          (omega (arith, id_is, above)));
+      keys_are =
+          ap keys_of entries ∙ keys_last lists.entries id list
+          ∙ ap₂ (λ (xs : List ℕ) (y : ℕ). xs ++ y ∷ []) h.keys_are id_is
+          ∙ sym (ap (λ n. map (λ place. place * width) (range_with_len from n)) more
+          ∙ map-range_with_len_more (λ place. place * width) from (place - from) place last);
     }

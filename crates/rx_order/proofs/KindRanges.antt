@@ -1,6 +1,7 @@
 -- Special ids of a table whose rows lie by their kinds: tests of ids are tests of kinds.
-use Rattle.std.proofs.Common.{◌≡◌, ℕ, ◌-◌, ◌*◌, ◌<◌, ◌≤◌, ◌==◌, ◌&&◌, ◌||◌, not, nat_lt, nat_le, Bool, true, false}
-use Rattle.std.proofs.Common.{if◌then◌else◌, List, slice_index, refl, ap, ap₂, sym, ◌∙◌, subst, ⊎_elim, inl, inr, arith}
+use Rattle.std.proofs.Common.{◌≡◌, ℕ, zero, suc, ◌-◌, ◌*◌, ◌<◌, ◌≤◌, ◌==◌, ◌&&◌, ◌||◌, not, nat_lt, nat_le}
+use Rattle.std.proofs.Common.{Bool, true, false, if◌then◌else◌, List, slice_index, refl, ap, ap₂, sym, ◌∙◌, subst}
+use Rattle.std.proofs.Common.{⊎_elim, inl, inr, arith}
 use Rattle.std.specs.Prelude.{max}
 use Rattle.std.proofs.lemmas.Bool.{cases_eq, cases_lt, false≢true, le-ltb, lt-ltb, ne_eqb}
 use Rattle.std.proofs.lemmas.Bool.Decides.{nat_tests}
@@ -233,32 +234,24 @@ module _ {m : Layout} {marked : Bool} {kind_at : ℕ → ℕ} {ends : List ℕ} 
 
   -- ---- the table's rows
 
-  zero_kind : (row : ℕ) → row < row_count m → (kind_at row == 0) ≡ (row == 0)
-  zero_kind row h =
-      ⊎_elim
-      (λ (e : row ≡ 0). rw (e, has.are.dead) refl)
-      (λ (ne : row ≡ 0 → ⊥). ne_eqb (kind_at row) 0 (λ zero. other ne zero) ∙ sym (ne_eqb row 0 ne))
-      (cases_eq row 0)
-    where
-      other : (row ≡ 0 → ⊥) → kind_at row ≡ 0 → ⊥
-      other ne zero =
-          ⊎_elim
-          (λ (high : 1 < row). omega (arith, has.are.others row high h, zero))
-          (λ (low : row ≤ 1). let one : row ≡ 1 = omega (arith, ne) in omega (arith, ap kind_at one, has.are.quit, zero))
-          (cases_lt 1 row)
+  -- dead and quit have the kinds 0 and 1, and no other row does
+  first_kinds : (row : ℕ) → row ≤ 1 → kind_at row ≡ row
+  first_kinds zero h = has.are.dead
+  first_kinds (suc zero) h = has.are.quit
+  first_kinds (suc (suc row)) h = absurd (omega (arith, h))
 
-  one_kind : (row : ℕ) → row < row_count m → (kind_at row == 1) ≡ (row == 1)
-  one_kind row h =
+  first_kind : (low : ℕ) → low ≤ 1 → (row : ℕ) → row < row_count m → (kind_at row == low) ≡ (row == low)
+  first_kind low first row h =
       ⊎_elim
-      (λ (e : row ≡ 1). rw (e, has.are.quit) refl)
-      (λ (ne : row ≡ 1 → ⊥). ne_eqb (kind_at row) 1 (λ one. other ne one) ∙ sym (ne_eqb row 1 ne))
-      (cases_eq row 1)
+      (λ (e : row ≡ low). rw (e, first_kinds low first) refl)
+      (λ (ne : row ≡ low → ⊥). ne_eqb (kind_at row) low (λ is. other ne is) ∙ sym (ne_eqb row low ne))
+      (cases_eq row low)
     where
-      other : (row ≡ 1 → ⊥) → kind_at row ≡ 1 → ⊥
-      other ne one =
+      other : (row ≡ low → ⊥) → kind_at row ≡ low → ⊥
+      other ne is =
           ⊎_elim
-          (λ (high : 1 < row). omega (arith, has.are.others row high h, one))
-          (λ (low : row ≤ 1). let zero : row ≡ 0 = omega (arith, ne) in omega (arith, ap kind_at zero, has.are.dead, one))
+          (λ (high : 1 < row). omega (arith, has.are.others row high h, is, first))
+          (λ (up_to : row ≤ 1). omega (arith, first_kinds row up_to, is, ne))
           (cases_lt 1 row)
 
   pub match_by_id : (row : ℕ) → is_match (table_of m) row ≡ is_match_id m.special (row * stride m)
@@ -274,7 +267,7 @@ module _ {m : Layout} {marked : Bool} {kind_at : ℕ → ℕ} {ends : List ℕ} 
       special_test row h
       ∙ ap₂ (λ (a b : Bool). a || b || is_between 1 3 (kind_at row) || is_between 2 5 (kind_at row)
       || (marked && is_between 4 6 (kind_at row)))
-      (zero_kind row h) (one_kind row h)
+      (first_kind 0 (omega arith) row h) (first_kind 1 (omega arith) row h)
       ∙ ap₂ (λ (a b : Bool). (row == 0) || (row == 1) || a || b || (marked && is_between 4 6 (kind_at row)))
       (sym (match_by_id row ∙ match_id row h)) (sym (accel_id row h))
       ∙ ap (λ (a : Bool). (row == 0) || (row == 1) || is_match (table_of m) row || (table_of m).is_accelerated row || a)
@@ -318,7 +311,8 @@ module _ {m : Layout} {marked : Bool} {kind_at : ℕ → ℕ} {ends : List ℕ} 
         (λ (none : last 6 ≤ last 4).
         rw (le-ltb (last 4) (last 6) none)
         (sym (starts row h)
-        ∙ sym (ap₂ (λ (b c : Bool). b && c) (from_end has.are row 4 h (omega arith)) (has.are.to_end row 6 h (omega arith)))
+        ∙ sym (ap₂ (λ (b c : Bool). b && c) (from_end has.are row 4 h (omega arith))
+        (has.are.to_end row 6 h (omega arith)))
         ∙ ⊎_elim
         (λ (low : row < last 4). rw (over (last 4) row low) refl)
         (λ (past : last 4 ≤ row). rw (at_most (last 4) row past, le-ltb row (last 6) (omega arith)) refl)

@@ -14,6 +14,8 @@ pub mod Moved
 pub mod InPlace
 -- rows in the order of their kinds
 pub mod ByKind
+-- a walk over the rows of a table
+pub mod DepthFirst
 -- tables whose rows were moved and renamed
 pub mod Reordered
 -- kinds as numbers, and ranges of ids

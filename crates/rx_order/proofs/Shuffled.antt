@@ -35,14 +35,17 @@ use Rattle.rx_order.specs.Ordering.{label_of_patterns}
 use Rattle.rx_order.proofs.MarkedRows.{any_contains, any_has, has_key, is_at_number}
 use Rattle.rx_order.proofs.Moved.{factor}
 use Rattle.rx_order.proofs.MatchRows.{HasPatterns, label_of_number}
+use Rattle.rx_order.proofs.ExchangedRows.{places_apart, row_below}
 use Rattle.rx_order.proofs.KindNumbers.{high_kind}
+use Rattle.std.proofs.lemmas.List.FromFn.{length-range_with_len}
+use Rattle.std.proofs.lemmas.List.Sorted.{length_permutation}
 use Rattle.rx_order.proofs.Ordered.{IsArranged, Sorting, before_end, behind_end, end, end_within, high_at}
 use Rattle.rx_order.proofs.Ordered.{high_kind_is}
 use Rattle.rx_spec.specs.Causes.{max_id}
 use Rattle.std.specs.List.Sorted.{IsPermutation}
 use Rattle.rx_dense.specs.Layouts.{AreStarts}
 use Rattle.rx_dense.proofs.Shaped.{rows_kept, starts_kept}
-use Rattle.rx_order.specs.ByKind.{AreByKind, AreKinds}
+use Rattle.rx_order.specs.ByKind.{AreByKind, AreKinds, AreRanked}
 use Rattle.rx_order.specs.Moved.{IsReordered}
 use Rattle.rx_order.specs.SpecialIds.{special_ids}
 use Rattle.rx_order.proofs.Ordered.{ends_few, specials}
@@ -151,6 +154,10 @@ pub record IsShuffle (old : Layout) (matches : Matches) (x : Sorting) (new m : L
   pub slices : m.slices ≡ slices_from 0 (pattern_lists matches)
   pub pattern_ids : m.pattern_ids ≡ concat (pattern_lists matches)
   pub accels : m.accels ≡ old.accels
+  -- match rows keep their order
+  pub rise : (low high : ℕ) → low < high → high < row_count old
+      → slice_index x.kinds (slice_index x.rows low) ≡ 2 → slice_index x.kinds (slice_index x.rows high) ≡ 2
+      → slice_index x.rows low < slice_index x.rows high
 
 module _ {old : Layout} {matches : Matches} {x : Sorting} {new m : Layout} (s : IsShuffle old matches x new m) where
   abbrev a : IsArranged x (with_patterns old (pattern_lists matches)) new m
@@ -239,8 +246,7 @@ module _ {old : Layout} {matches : Matches} {x : Sorting} {new m : Layout} (s : 
       let second = match_place (i + 1 + 2) (omega arith) (omega arith) in
       let within = end_within a 3 (omega arith) in
       let rises : row_at a (i + 2) < row_at a (i + 1 + 2) =
-      a.by_kind.stable (i + 2) (i + 1 + 2) (omega arith) (omega (arith, a.kinds.count))
-      (first.1 ∙ sym second.1) in
+      s.rise (i + 2) (i + 1 + 2) (omega arith) (omega arith) first.1 second.1 in
       let at = id_at i 0 (omega arith) in
       let behind = id_at (i + 1) 0 more in
       omega (
@@ -492,7 +498,7 @@ module _ {old : Layout} {matches : Matches} {x : Sorting} {new m : Layout} (s : 
 -- ---- what the call makes
 
 -- by what it learns of a table and what its calls leave
-pub record IsShuffling (old : Layout) (matches : Matches) (kinds rows ends : List ℕ)
+pub record IsShuffling (old : Layout) (matches : Matches) (kinds ranks rows ends : List ℕ)
     (next new m : Layout) : Type 0 where
   pub are : AreMatches old matches
   pub ordered : IsOrdered nat_cmp matches
@@ -500,12 +506,14 @@ pub record IsShuffling (old : Layout) (matches : Matches) (kinds rows ends : Lis
   pub are_starts : AreStarts old
   pub kinds_are : AreKinds old (is_match_row old matches) (λ row. false) kinds
   pub by_kind : AreByKind kinds rows ends
+  pub ranked : AreRanked kinds ranks rows
+  pub match_ranks : (row : ℕ) → row < row_count old → slice_index kinds row ≡ 2 → slice_index ranks row ≡ row
   pub next_is : next ≡ with_patterns old (pattern_lists matches)
   pub reordered : IsReordered rows next new
   pub set : m ≡ record new { special = special_ids (stride new) ends true }
 
-module _ {old : Layout} {matches : Matches} {kinds rows ends : List ℕ} {next new m : Layout}
-    (s : IsShuffling old matches kinds rows ends next new m) where
+module _ {old : Layout} {matches : Matches} {kinds ranks rows ends : List ℕ} {next new m : Layout}
+    (s : IsShuffling old matches kinds ranks rows ends next new m) where
   abbrev pub l : Layout
   l = with_patterns old (pattern_lists matches)
 
@@ -545,6 +553,20 @@ module _ {old : Layout} {matches : Matches} {kinds rows ends : List ℕ} {next n
           by_start true some_start =
               absurd ((s.are.rows (row * stride old) v h).2 (any_contains (row * stride old) old.starts some_start))
 
+  -- Their ranks are their numbers, and no two places have one row.
+  rise : (low high : ℕ) → low < high → high < row_count old
+      → slice_index kinds (slice_index rows low) ≡ 2 → slice_index kinds (slice_index rows high) ≡ 2
+      → slice_index rows low < slice_index rows high
+  rise low high l h first second =
+      let long = length_permutation (range_with_len 0 (row_count old)) rows before.order
+      ∙ length-range_with_len 0 (row_count old) in
+      let ranks_rise = s.ranked low high (omega arith) (omega (arith, long)) (first ∙ sym second) in
+      let below = row_below before.order low (omega arith) in
+      let behind = row_below before.order high h in
+      let apart : slice_index rows low ≡ slice_index rows high → ⊥ = λ e.
+      absurd (omega (arith, places_apart before.order low high (omega arith) h e)) in
+      omega (arith, ranks_rise, s.match_ranks _ below first, s.match_ranks _ behind second, apart)
+
   pub is_shuffle : IsShuffle old matches sorting new m
   is_shuffle = record {
     are = s.are;
@@ -575,6 +597,7 @@ module _ {old : Layout} {matches : Matches} {kinds rows ends : List ℕ} {next n
     accels =
         ap (λ (k : Layout). k.accels) set_is ∙ ap (λ (k : Layout). k.accels) reordered.is
         ∙ ap (λ (k : Layout). k.accels) reordered.moved.rest;
+    rise = rise;
   }
 
   pub shuffling_ends : (kind : ℕ) → kind < 8 → slice_index ends kind * stride new ≤ max_id + stride new

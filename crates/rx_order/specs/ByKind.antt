@@ -21,7 +21,7 @@ pub record AreStartRows (l : Layout) (starts : List Bool) : Type 0 where
       → slice_index_or starts row false ≡ list_any (λ id. id == row * stride l) l.starts
 
 -- One list has the kind of each row, the other the row at each place. The rows of a kind end before the place that a
--- third list has for it, and lie in their old order.
+-- third list has for it.
 pub record AreByKind (kinds rows ends : List ℕ) : Type 0 where
   pub permutation : IsPermutation (range_with_len 0 (length kinds)) rows
   pub count : length ends ≡ 8
@@ -29,9 +29,13 @@ pub record AreByKind (kinds rows ends : List ℕ) : Type 0 where
       → (place < length kinds) × (slice_index kinds (slice_index rows place) ≤ kind)
   pub behind : (place kind : ℕ) → place < length kinds → kind < 8 → slice_index ends kind ≤ place
       → kind < slice_index kinds (slice_index rows place)
-  pub stable : (x y : ℕ) → x < y → y < length kinds
-      → slice_index kinds (slice_index rows x) ≡ slice_index kinds (slice_index rows y)
-      → slice_index rows x < slice_index rows y
+
+-- within a kind the ranks of the rows don't fall from place to place
+abbrev pub AreRanked : (kinds ranks rows : List ℕ) → Type 0
+AreRanked kinds ranks rows =
+    (x y : ℕ) → x ≤ y → y < length rows
+    → slice_index kinds (slice_index rows x) ≡ slice_index kinds (slice_index rows y)
+    → slice_index ranks (slice_index rows x) ≤ slice_index ranks (slice_index rows y)
 
 -- The bytes that lead a row elsewhere. The word stands closed, since it goes over all bytes.
 unfoldable pub leaving_of : Table → ℕ → List ℕ

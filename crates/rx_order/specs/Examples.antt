@@ -1,7 +1,8 @@
--- Three rows that each move on by one place. No two of them exchange places with each other.
-use Rattle.std.specs.Prelude.{[], ◌∷◌}
+-- Three rows that each move on by one place, so that no two of them exchange places. And five rows by their kinds.
+use Rattle.std.specs.Prelude.{[], ◌∷◌, List, ℕ, slice_index}
 use Rattle.rx_order.specs.Transitions.{Transitions}
 use Rattle.rx_order.specs.Renaming.{Arrangement, IsRearranged, IsRenamed}
+use Rattle.rx_order.specs.SpecialIds.{AreKindEnds}
 
 -- Ids are even. Row 0 leads to itself, row 1 on to row 2, and row 2 back to row 1 and on to itself.
 abbrev pub three_rows : Transitions
@@ -23,3 +24,13 @@ ThreeRearranged = IsRearranged last_first three_rows three_rearranged
 
 abbrev pub ThreeRenamed : Type 0
 ThreeRenamed = IsRenamed last_first three_rows three_renamed
+
+-- dead, quit, two match rows, and a row that isn't special
+abbrev pub five_kinds : List ℕ
+five_kinds = 0 ∷ 1 ∷ 2 ∷ 2 ∷ 7 ∷ []
+
+abbrev pub five_ends : List ℕ
+five_ends = 1 ∷ 2 ∷ 4 ∷ 4 ∷ 4 ∷ 4 ∷ 4 ∷ 5 ∷ []
+
+abbrev pub FiveByKind : Type 0
+FiveByKind = AreKindEnds 5 (slice_index five_kinds) five_ends

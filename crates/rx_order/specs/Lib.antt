@@ -14,6 +14,8 @@ pub mod Permuted
 pub mod Ordering
 -- rows while they are moved
 pub mod Moved
+-- rows with what decides their places
+pub mod Ranks
 -- rows in the order of their kinds
 pub mod ByKind
 -- which ids are special then

@@ -14,6 +14,7 @@ use crate::kinds::{any_accelerated, kind, start_rows};
 use crate::order::{Order, special};
 use crate::patterns::patterns_of_rows;
 use crate::places::Places;
+use crate::ranks::numbers;
 use crate::skips::needles;
 use rx_base::StateID;
 use rx_dense::{Accels, OwnedDFA};
@@ -35,7 +36,8 @@ pub fn accelerate(alloc: Global, dfa: &mut OwnedDFA) -> Result<(), AllocError>
     if !any_accelerated(&kinds) {
         return Ok(());
     }
-    let order = Order::new(alloc, &kinds)?;
+    let numbers = numbers(alloc, kinds.len())?;
+    let order = Order::new(alloc, &kinds, &numbers)?;
     let accels = accels(alloc, dfa, &order)?;
     let places = Places::new(alloc, dfa)?;
     let marked = dfa.special().starts();

@@ -20,6 +20,7 @@ pub mod laws;
 mod order;
 mod patterns;
 mod places;
+mod ranks;
 mod remappable;
 mod remapper;
 mod shuffle_rows;

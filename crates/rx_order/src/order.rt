@@ -1,8 +1,11 @@
 //! The order of rows by their kinds.
 
-ghost use Rattle.std.specs.Prelude.{◌≡◌, ℕ, ◌<◌, ◌≤◌, ◌+◌, ◌*◌, ◌^◌, ◌↔◌, All, IfOk, IsTrue, length, slice_index};
+ghost use Rattle.std.specs.Prelude.{◌≡◌, ℕ, ◌<◌, ◌≤◌, ◌+◌, ◌*◌, ◌^◌, ◌↔◌, All, IfOk, IsTrue, length, map};
+ghost use Rattle.std.specs.Prelude.{slice_index};
+ghost use Rattle.std.specs.List.{range_with_len};
 ghost use Rattle.rx_spec.specs.Causes.{max_id};
-ghost use Rattle.rx_order.specs.ByKind.{AreByKind};
+ghost use Rattle.rx_order.specs.ByKind.{AreByKind, AreRanked};
+ghost use Rattle.rx_order.specs.Ranks.{ranked_row};
 ghost use Rattle.rx_order.specs.SpecialIds.{first_id, last_id, special_ids};
 
 use rx_base::StateID;
@@ -18,22 +21,38 @@ pub(crate) struct Order {
     pub(crate) ends: [usize; 8],
 }
 
+/// A row with what decides its place.
+#[derive(Clone, Copy)]
+struct Ranked {
+    kind: u8,
+    rank: u32,
+    number: u32,
+}
+
+impl Ranked {
+    /// Rises from kind to kind, and within a kind from rank to rank.
+    fn key(&self) -> u64
+        ensures { result ≡ self.now.kind * 2 ^ 32 + self.now.rank }
+    {
+        (u64::from(self.kind) << 32) + u64::from(self.rank)
+    }
+}
+
 impl Order {
-    /// The order of rows by their kinds, which are numbers below 8. Rows of one kind keep their order.
-    pub(crate) fn new(alloc: Global, kinds: &[u8]) -> Result<Order, AllocError>
+    /// The order of rows by their kinds, which are numbers below 8. Rows of one kind lie by their ranks.
+    pub(crate) fn new(alloc: Global, kinds: &[u8], ranks: &[u32]) -> Result<Order, AllocError>
         requires few { length kinds.now < 2 ^ 32 }
         requires kinds { All (λ kind. kind < 8) kinds.now }
-        ensures { IfOk result (λ order. AreByKind kinds.now order.rows.items order.ends) }
+        requires ranks { length ranks.now ≡ length kinds.now }
+        ensures by_kind { IfOk result (λ order. AreByKind kinds.now order.rows.items order.ends) }
+        ensures ranked { IfOk result (λ order. AreRanked kinds.now ranks.now order.rows.items) }
     {
-        let mut rows = Vec::with_capacity(alloc, kinds.len())?;
+        let mut sorted = unsorted(alloc, kinds, ranks)?;
+        sorted.sort_unstable_by_key(|row| row.key());
+        let rows = sorted.iter().map(|row| row.number).collect(alloc)?;
         let mut ends = [0; 8];
         for kind in 0..8 {
-            for row in 0..kinds.len() {
-                if kinds[row] as usize == kind {
-                    rows.push(row as u32)?;
-                }
-            }
-            ends[kind] = rows.len();
+            ends[kind] = sorted.partition_point(|row| row.kind as usize <= kind);
         }
         Ok(Order { rows, ends })
     }
@@ -51,6 +70,24 @@ impl Order {
         }
         true
     }
+}
+
+/// The rows by their numbers, each with its kind and its rank.
+fn unsorted(alloc: Global, kinds: &[u8], ranks: &[u32]) -> Result<Vec<Ranked>, AllocError>
+    requires few { length kinds.now < 2 ^ 32 }
+    requires ranks { length ranks.now ≡ length kinds.now }
+    ensures { IfOk result (λ rows. rows.items
+        ≡ map (ranked_row kinds.now ranks.now) (range_with_len 0 (length kinds.now))) }
+{
+    let mut rows = Vec::with_capacity(alloc, kinds.len())?;
+    for number in 0..kinds.len() {
+        rows.push(Ranked {
+            kind: kinds[number],
+            rank: ranks[number],
+            number: number as u32,
+        })?;
+    }
+    Ok(rows)
 }
 
 /// The special ids of a table whose rows lie in the order of their kinds. `ends` has for each kind the place after the

@@ -1,12 +1,14 @@
 //! The patterns of match rows.
 
-ghost use Rattle.std.specs.Prelude.{◌≡◌, IfOk, true};
+ghost use Rattle.std.specs.Prelude.{◌≡◌, ◌-◌, ◌*◌, IfOk, map, slice_index, true};
+ghost use Rattle.std.specs.BTreeMap.{keys};
+ghost use Rattle.std.specs.List.{range_with_len};
 ghost use Rattle.rx_spec.specs.Ids.{row_of};
 ghost use Rattle.rx_spec.specs.Tables.{IsSound, is_match};
 ghost use Rattle.rx_search.specs.Labels.{patterns_of};
 ghost use Rattle.rx_search.specs.Starts.{IsId};
 ghost use Rattle.rx_dense.specs.Builder.{pattern_lists};
-ghost use Rattle.rx_dense.specs.Layouts.{ids_of, table_of};
+ghost use Rattle.rx_dense.specs.Layouts.{ids_of, stride, table_of};
 ghost use Rattle.rx_order.specs.ByKind.{HaveMatches, lists_in};
 
 use rx_base::{PatternID, StateID};
@@ -25,7 +27,9 @@ pub fn patterns_of_rows(
 ) -> Result<BTreeMap<StateID, Vec<PatternID>>, AllocError>
     requires sound { IsSound (table_of dfa.now) }
     requires places { HaveMatches dfa.now rows.now ends.now }
-    ensures { IfOk result (λ patterns. pattern_lists patterns ≡ lists_in dfa.now rows.now ends.now) }
+    ensures lists { IfOk result (λ patterns. pattern_lists patterns ≡ lists_in dfa.now rows.now ends.now) }
+    ensures ids { IfOk result (λ patterns. keys patterns ≡ map (λ place. place * stride dfa.now)
+        (range_with_len (slice_index ends.now 1) (slice_index ends.now 3 - slice_index ends.now 1))) }
 {
     let stride2 = dfa.stride2();
     let mut lists = BTreeMap::new(alloc);

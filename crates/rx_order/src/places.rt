@@ -6,6 +6,7 @@ ghost use Rattle.std.specs.List.Sorted.{IsPermutation};
 ghost use Rattle.rx_dense.specs.Layouts.{row_count};
 ghost use Rattle.rx_order.specs.Moved.{AreUnmoved, IsReordered};
 
+use crate::ranks::numbers;
 use rx_base::StateID;
 use rx_dense::OwnedDFA;
 use std::alloc::{AllocError, Global};
@@ -26,10 +27,9 @@ impl Places {
     {
         let count = dfa.state_len();
         let stride2 = dfa.stride2();
-        let mut lying = Vec::with_capacity(alloc, count)?;
+        let lying = numbers(alloc, count)?;
         let mut ids = Vec::with_capacity(alloc, count)?;
         for row in 0..count {
-            lying.push(row as u32)?;
             ids.push(StateID::must(row << stride2))?;
         }
         Ok(Places { lying, ids })

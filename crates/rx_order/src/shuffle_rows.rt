@@ -16,6 +16,7 @@ ghost use Rattle.rx_order.specs.Ordering.{AreMatches, IsRouted, IsShuffled, is_m
 use crate::kinds::{kind, start_rows};
 use crate::order::{Order, special};
 use crate::places::Places;
+use crate::ranks::depth_first;
 use rx_base::{PatternID, StateID};
 use rx_dense::{OwnedDFA, PatternMapError};
 use std::alloc::{AllocError, Global};
@@ -39,7 +40,8 @@ pub fn shuffle(
     ensures too_many { result ≡ Err PatternMapError.TooMany → max_id < length (concat (pattern_lists matches)) }
 {
     let kinds = kinds(alloc, dfa, &matches)?;
-    let order = Order::new(alloc, &kinds)?;
+    let ranks = depth_first(alloc, dfa, &kinds)?;
+    let order = Order::new(alloc, &kinds, &ranks)?;
     let places = Places::new(alloc, dfa)?;
     dfa.set_pattern_map(&matches)?;
     places.arrange(dfa, &order.rows);

@@ -1,5 +1,5 @@
-use Rattle.std.proofs.Common.{◌≡◌, ◌*◌, ◌^◌, ◌==◌, ◌∙◌, ℕ, Bool, not, length, map, slice_index, refl, ap, ap₂, sym, subst}
-use Rattle.std.proofs.Common.{arith}
+use Rattle.std.proofs.Common.{◌≡◌, ◌*◌, ◌^◌, ◌==◌, ◌∙◌, ℕ, Bool, not, length, map, slice_index, refl, ap, ap₂, sym}
+use Rattle.std.proofs.Common.{subst, arith}
 use Rattle.rx_dense.specs.Builder.{pattern_lists, with_patterns}
 use Rattle.rx_dense.specs.Layouts.{AreRows, AreStarts, Layout, stride, table_of}
 use Rattle.rx_dense.specs.declared.special.Special.{Special}
@@ -95,7 +95,7 @@ returns-clause-ok c =
       };
       are_starts = c.requires.starts;
       ids_are = rw c.stride2.ensures.value at c.in_ok-ids.ensures;
-      patterns = rw c.deref-2.ensures.value at c.in_ok-patterns.ensures;
+      patterns = rw c.deref-2.ensures.value at c.in_ok-patterns.ensures.lists;
       few = c.in-Ok.ensures.fits;
       joined = rw (c.in-Ok.ensures.ok, c.deref-3.ensures.value, c.deref-4.ensures.value) at c.join_rows.ensures;
     } in

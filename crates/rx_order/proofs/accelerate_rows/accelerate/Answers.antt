@@ -1,5 +1,7 @@
-use Rattle.std.proofs.Common.{◌^◌, ◌-◌, ◌==◌, ◌∙◌, ℕ, Bool, not, List, map, slice_index, refl, ap, ap₂, sym}
+use Rattle.std.proofs.Common.{◌^◌, ◌-◌, ◌==◌, ◌∙◌, ℕ, Bool, not, List, length, map, slice_index, refl, ap, ap₂, sym}
+use Rattle.std.proofs.Common.{arith}
 use Rattle.std.specs.List.{list_any, range_with_len}
+use Rattle.std.proofs.lemmas.List.FromFn.{length-range_with_len}
 use Rattle.rx_dense.specs.Layouts.{Layout, stride, table_of}
 use Rattle.rx_dense.specs.declared.special.Special.{Special}
 use Rattle.rx_order.specs.ByKind.{leaving_of}
@@ -9,12 +11,23 @@ use Rattle.rx_order.proofs.Accelerating.{IsAccelerating, accelerating, accelerat
 use Rattle.rx_order.proofs.Unskipped.{stays}
 use Rattle.rx_order.proofs.accelerate_rows.accelerate.Goals as goal
 
+pub new-requires-clause-ranks : goal.new-requires-clause-ranks
+new-requires-clause-ranks c =
+    rw (c.deref-2.ensures.value, c.deref-3.ensures.value)
+    (omega (
+      arith,
+      ap length c.in_ok-numbers.ensures,
+      length-range_with_len 0 c.len.result,
+      c.len.ensures,
+      c.in_ok-kinds.kinds.ok.0,
+    ))
+
 pub accels-requires : goal.accels-requires
 accels-requires c = record {
   sorted = record {
     kinds = c.in_ok-kinds.kinds.items;
     kinds_are = c.in_ok-kinds.ensures.kinds;
-    by_kind = rw c.deref-2.ensures.value at c.in_ok-order.ensures;
+    by_kind = rw c.deref-2.ensures.value at c.in_ok-order.ensures.by_kind;
     are_rows = c.in_ok-kinds.ensures.are_rows;
   };
 }
@@ -23,7 +36,7 @@ pub move_patterns-requires-clause-sorted : goal.move_patterns-requires-clause-so
 move_patterns-requires-clause-sorted c = record {
   kinds = c.in_ok-kinds.kinds.items;
   kinds_are = c.in_ok-kinds.ensures.kinds;
-  by_kind = rw c.deref-2.ensures.value at c.in_ok-order.ensures;
+  by_kind = rw c.deref-2.ensures.value at c.in_ok-order.ensures.by_kind;
   are_rows = c.in_ok-kinds.ensures.are_rows;
 }
 
@@ -43,10 +56,10 @@ special-requires-2-clause-ids c =
       are_rows = kinds.are_rows;
       are_starts = kinds.are_starts;
       kinds_are = kinds.kinds;
-      by_kind = rw c.deref-2.ensures.value at c.in_ok-order.ensures;
+      by_kind = rw c.deref-2.ensures.value at c.in_ok-order.ensures.by_kind;
       few = c.in_ok-move_patterns.ensures.fits;
       next_is = c.in_ok-move_patterns.ensures.ok;
-      reordered = rw c.deref-3.ensures.value at c.arrange.ensures;
+      reordered = rw c.deref-4.ensures.value at c.arrange.ensures;
       set = refl;
     } in
     rw (c.stride2.ensures.value ∙ ap (λ (k : Layout). k.stride2) c.set_accels.ensures) (accelerating_ends s)
@@ -64,10 +77,10 @@ returns-clause-ok c =
       are_rows = kinds.are_rows;
       are_starts = kinds.are_starts;
       kinds_are = kinds.kinds;
-      by_kind = rw c.deref-2.ensures.value at c.in_ok-order.ensures;
+      by_kind = rw c.deref-2.ensures.value at c.in_ok-order.ensures.by_kind;
       few = c.in_ok-move_patterns.ensures.fits;
       next_is = c.in_ok-move_patterns.ensures.ok;
-      reordered = rw c.deref-3.ensures.value at c.arrange.ensures;
+      reordered = rw c.deref-4.ensures.value at c.arrange.ensures;
       set =
           c.set_special.ensures
           ∙ ap₂ (λ (k : Layout) (special : Special). record k { special = special })

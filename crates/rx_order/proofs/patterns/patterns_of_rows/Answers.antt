@@ -68,8 +68,14 @@ loop-place-preserved c =
 
 pub returns : goal.returns
 returns c =
+    let l = c.args.dfa.now in
     let from = slice_index c.args.ends.now 1 in
-    let f = λ (place : ℕ). patterns_of (table_of c.args.dfa.now) (slice_index c.args.rows.now place) in
+    let f = λ (place : ℕ). patterns_of (table_of l) (slice_index c.args.rows.now place) in
     let rises = c.requires.places.from in
     let last : c.loop-place.place ≡ slice_index c.args.ends.now 3 = omega (arith, c.loop-place.auto.place-end rises) in
-    c.loop-place.invariant.lists_are ∙ ap (λ n. map f (range_with_len from (n - from))) last
+    record {
+      lists = c.loop-place.invariant.lists_are ∙ ap (λ n. map f (range_with_len from (n - from))) last;
+      ids =
+          c.loop-place.invariant.keys_are
+          ∙ ap (λ n. map (λ place. place * stride l) (range_with_len from (n - from))) last;
+    }

@@ -1,64 +1,57 @@
-use Rattle.std.proofs.Common.{◌≡◌, ℕ, ◌+◌, ◌∙◌, ◌++◌, length, slice_index, slice_set, ap, sym, refl, subst, ⊎_elim}
-use Rattle.std.proofs.Common.{arith, ◌==◌, filter, Vec, Global}
-use Rattle.std.specs.List.{range_with_len}
+use Rattle.std.proofs.Common.{◌≡◌, ◌∙◌, ⊎_elim, nat_le, slice_index, slice_set, map, refl}
+use Rattle.std.proofs.Common.{sym, subst, arith, rules}
+use Rattle.std.specs.List.Sorted.{IsPermutation}
 use Rattle.std.proofs.lemmas.Bool.{cases_eq}
 use Rattle.std.proofs.lemmas.List.{get_or-set_same, get_or-set_other, length-set}
-use Rattle.rx_order.proofs.ByKind.{by_kind, row_kept, row_passed, rows_below, rows_more, no_rows_below}
-use Rattle.rx_order.proofs.order.Order.new.Goals.{then-kinds-row+in_ok-push, else-kinds-row}
+use Rattle.std.proofs.lemmas.List.Sorted.{IsNonDecreasingBy-from_sort_by_key, IsPartitionPoint-from_clause}
+use Rattle.rx_order.proofs.ByKind.{IsEnd, by_kind, is_end, key, ranked}
 use Rattle.rx_order.proofs.order.Order.new.Goals as goal
 
 pub loop-kind-init : goal.loop-kind-init
-loop-kind-init c = record {
-  rows = c.in_ok-rows.ensures.items ∙ sym (no_rows_below c.args.kinds.now);
-  count = refl;
-  ends = λ k h. absurd (omega (arith, h));
-}
-
-pub loop-row-preserved : goal.loop-row-preserved
-loop-row-preserved c =
-    let front = rows_below c.args.kinds.now c.loop-kind.kind in
-    elim c.if-kinds-row.branch [
-      | then-kinds-row+in_ok-push w ↦
-          let rows = ap (λ (v : Vec ℕ Global). v.items) w.rows-is in
-          rows ∙ w.in_ok-push.ensures.items
-          ∙ row_kept c.args.kinds.now front c.loop-row.rows.items c.loop-kind.kind c.loop-row.row c.loop-row.invariant
-          w.if-kinds-row.true
-      | else-kinds-row w ↦
-          let rows = ap (λ (v : Vec ℕ Global). v.items) w.rows-is in
-          rows
-          ∙ row_passed c.args.kinds.now front c.loop-row.rows.items c.loop-kind.kind c.loop-row.row c.loop-row.invariant
-          w.if-kinds-row.false
-    ]
+loop-kind-init c =
+    let sort = c.sort_unstable_by_key.ensures in
+    record {
+      sorted = record {
+        permutation =
+            subst (λ rows. IsPermutation rows c.sort_unstable_by_key.new.self.items) c.in_ok-sorted.ensures
+            sort.permutation;
+        rises = IsNonDecreasingBy-from_sort_by_key key _ sort.sorted (λ a r q k. search rules);
+        few = λ row. omega (arith, c.type_inv.ranks row);
+      };
+      count = refl;
+      ends = λ kind h. absurd (omega (arith, h));
+    }
 
 pub loop-kind-preserved : goal.loop-kind-preserved
 loop-kind-preserved c =
-    let kinds = c.args.kinds.now in
-    let kind = c.loop-kind.kind in
-    let all : c.loop-row.row ≡ length kinds = omega arith in
-    let rows : c.loop-row.rows.items ≡ rows_below kinds (kind + 1) =
-    subst (λ n. c.loop-row.rows.items
-    ≡ rows_below kinds kind ++ filter (λ row. slice_index kinds row == kind) (range_with_len 0 n))
-    all c.loop-row.invariant
-    ∙ sym (rows_more kinds kind) in
-    let len : c.len.result ≡ length (rows_below kinds (kind + 1)) =
-    omega (arith, c.len.ensures, c.loop-row.rows.ok.0, ap length rows) in
+    let are = c.loop-kind.invariant in
+    let kind = c.loop-kind.kind-counter in
+    let end = c.partition_point.result in
+    let sorted = c.sort_unstable_by_key.new.self.items in
+    let within = rw c.deref-in-loop-kind.ensures.value at c.partition_point.ensures.bound in
+    let parted = rw c.deref-in-loop-kind.ensures.value at c.partition_point.ensures.partitioned in
     record {
-      rows = rows;
-      count = length-set c.loop-kind.ends kind c.len.result ∙ c.loop-kind.invariant.count;
+      sorted = are.sorted;
+      count = length-set c.loop-kind.ends kind end ∙ are.count;
       ends = λ k h.
           ⊎_elim
           (λ (e : k ≡ kind).
-          subst (λ k. slice_index (slice_set c.loop-kind.ends kind c.len.result) k ≡ length (rows_below kinds (k + 1)))
-          (sym e)
-          (get_or-set_same c.loop-kind.ends kind c.len.result 0 (omega (arith, c.loop-kind.invariant.count)) ∙ len))
+          subst (λ k. IsEnd sorted k (slice_index (slice_set c.loop-kind.ends kind end) k)) (sym e)
+          (rw (get_or-set_same c.loop-kind.ends kind end 0 (omega (arith, are.count)))
+          (is_end are.sorted kind end within
+          (λ may. IsPartitionPoint-from_clause (λ row. nat_le row.kind kind) sorted end parted may
+          (λ a r q k. search rules)))))
           (λ (ne : k ≡ kind → ⊥).
-          get_or-set_other c.loop-kind.ends kind k c.len.result 0 ne ∙ c.loop-kind.invariant.ends k (omega arith))
+          rw (get_or-set_other c.loop-kind.ends kind k end 0 ne) (are.ends k (omega arith)))
           (cases_eq k kind);
     }
 
 pub returns : goal.returns
 returns c =
-    let all : c.loop-kind.kind ≡ 8 = omega arith in
-    by_kind c.args.kinds.now c.loop-kind.rows.items c.loop-kind.ends
-    (c.loop-kind.invariant.rows ∙ ap (rows_below c.args.kinds.now) all) c.loop-kind.invariant.count
-    (λ kind h. c.loop-kind.invariant.ends kind (omega arith)) c.requires.kinds
+    let are = c.loop-kind.invariant in
+    let sorted = c.sort_unstable_by_key.new.self.items in
+    let rows : c.in_ok-rows.rows.items ≡ map (λ row. row.number) sorted = search rules in
+    record {
+      by_kind = rw rows (by_kind are.sorted c.loop-kind.ends are.count (λ kind h. are.ends kind (omega arith)));
+      ranked = rw rows (ranked are.sorted);
+    }

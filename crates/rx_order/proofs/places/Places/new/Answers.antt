@@ -2,7 +2,6 @@ use Rattle.std.proofs.Common.{◌≡◌, ◌*◌, ◌^◌, ◌<◌, ◌∙◌, m
 use Rattle.std.proofs.Math.Nat.{mod-eq_of_lt}
 use Rattle.std.specs.List.{range_with_len}
 use Rattle.std.proofs.lemmas.List.FromFn.{map-range_with_len_more}
-use Rattle.rx_order.proofs.ExchangedRows.{range_more}
 use Rattle.rx_dense.specs.Layouts.{row_count, stride}
 use Rattle.rx_dense.proofs.Rows.{IsRowId-row}
 use Rattle.rx_order.proofs.places.Places.new.Goals as goal
@@ -17,21 +16,17 @@ loop-row-preserved c =
     let fits : row * stride c.args.dfa.now < 2 ^ 64 = omega arith in
     let id : c.must.result ≡ row * 2 ^ c.args.dfa.now.stride2 =
     c.must.ensures ∙ rw c.stride2-stride2.ensures.value (mod-eq_of_lt fits) in
-    record {
-      lying = c.in_ok-push.ensures.items ∙ rw c.loop-row.invariant.lying (sym (range_more row));
-      ids =
-          c.in_ok-push-2.ensures.items
-          ∙ rw (c.loop-row.invariant.ids, id)
-          (sym (map-range_with_len_more (λ row. row * 2 ^ c.args.dfa.now.stride2) 0 row row (omega arith)));
-    }
+    c.in_ok-push.ensures.items
+    ∙ rw (c.loop-row.invariant, id)
+    (sym (map-range_with_len_more (λ row. row * 2 ^ c.args.dfa.now.stride2) 0 row row (omega arith)))
 
 pub returns : goal.returns
 returns c =
     let count = c.state_len-count.ensures.value in
     let all : c.loop-row.row ≡ row_count c.args.dfa.now = omega arith in
     record {
-      rows = c.loop-row.invariant.lying ∙ ap (range_with_len 0) all;
+      rows = c.in_ok-lying.ensures ∙ ap (range_with_len 0) count;
       places =
-          c.loop-row.invariant.ids
+          c.loop-row.invariant
           ∙ ap (λ n. map (λ row. row * 2 ^ c.args.dfa.now.stride2) (range_with_len 0 n)) all;
     }

@@ -3,7 +3,4 @@ use Rattle.std.specs.List.{range_with_len}
 use Rattle.rx_order.proofs.places.Places.new.Given as goal
 
 abbrev pub invariant-loop-row : goal.invariant-loop-row
-invariant-loop-row l = record {
-  lying : l.lying.items ≡ range_with_len 0 l.row;
-  ids : l.ids.items ≡ map (λ row. row * 2 ^ l.dfa.stride2) (range_with_len 0 l.row);
-}
+invariant-loop-row l = l.ids.items ≡ map (λ row. row * 2 ^ l.dfa.stride2) (range_with_len 0 l.row)

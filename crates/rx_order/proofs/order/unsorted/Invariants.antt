@@ -1,0 +1,7 @@
+use Rattle.std.proofs.Common.{◌≡◌, map}
+use Rattle.std.specs.List.{range_with_len}
+use Rattle.rx_order.specs.Ranks.{ranked_row}
+use Rattle.rx_order.proofs.order.unsorted.Given as goal
+
+abbrev pub invariant-loop-number : goal.invariant-loop-number
+invariant-loop-number l = l.rows.items ≡ map (ranked_row l.kinds l.ranks) (range_with_len 0 l.number)
