@@ -1,11 +1,13 @@
 -- A walk over the rows of a table, as deep as it can go.
 use Rattle.std.proofs.Common.{◌≡◌, ℕ, ◌+◌, ◌-◌, ◌*◌, ◌/◌, ◌%◌, ◌<◌, ◌≤◌, ◌^◌, ◌++◌, [], ◌∷◌, List, All, Some, length}
-use Rattle.std.proofs.Common.{slice_index, slice_set, ◌∙◌, subst, ⊎_elim, arith}
+use Rattle.std.proofs.Common.{slice_index, slice_set, ◌∙◌, ap, subst, ⊎_elim, arith}
 use Rattle.std.proofs.Math.Nat.{mod-eq_of_lt}
 use Rattle.std.proofs.lemmas.Bool.{cases_eq}
 use Rattle.std.proofs.lemmas.List.{get_or-set_other}
-use Rattle.std.proofs.lemmas.List.Elements.{All-pop, All-push}
+use Rattle.std.proofs.lemmas.List.Elements.{All-pop}
+use Rattle.std.proofs.lemmas.List.FromFn.{get_or-range_with_len}
 use Rattle.std.proofs.lemmas.Nat.{pow_pos}
+use Rattle.std.specs.List.{range_with_len}
 use Rattle.rx_base.specs.ByteClasses.{alphabet_len}
 use Rattle.rx_dense.specs.Layouts.{Layout, AreRows, row_count, stride}
 use Rattle.rx_dense.proofs.Rows.{multiple_below, row-below, stride_few}
@@ -17,47 +19,40 @@ IsLeft l p = (p.0 < row_count l) × (0 < p.1) × (p.1 ≤ alphabet_len l.classes
 abbrev pub AreLeft : Layout → List (ℕ × ℕ) → Type 0
 AreLeft l left = All (IsLeft l) left
 
--- a row that was found is added with all its columns
-pub found_left : (l : Layout) (left : List (ℕ × ℕ)) (row columns : ℕ) → AreLeft l left → row < row_count l
-    → columns ≡ alphabet_len l.classes → AreLeft l (left ++ (row, columns) ∷ [])
-found_left l left row columns all h e =
-    All-push (IsLeft l) left (row, columns) all (h, omega (arith, e), omega (arith, e))
+-- a row that was found has all its columns
+pub found_row : (l : Layout) (row columns : ℕ) → row < row_count l → columns ≡ alphabet_len l.classes
+    → IsLeft l (row, columns)
+found_row l row columns h e = (h, omega (arith, e), omega (arith, e))
 
--- the last column that is left of the row that was added last
-pub record IsStep (l : Layout) (others : List (ℕ × ℕ)) (row count : ℕ) : Type 0 where
-  pub left : AreLeft l others
-  pub below : row < row_count l
-  pub some : 0 < count
-  pub few : count ≤ alphabet_len l.classes
+-- the row that was added last, and those before it
+pub last_left : (l : Layout) (left others : List (ℕ × ℕ)) (row count : ℕ) → AreLeft l left
+    → left ≡ others ++ (row, count) ∷ [] → AreLeft l others × IsLeft l (row, count)
+last_left l left others row count all e = All-pop (IsLeft l) left others (Some (row, count)) e all
+
+-- the last column that is left of a row
+pub record IsStep (l : Layout) (row count : ℕ) : Type 0 where
   pub place : row * stride l % 2 ^ 64 ≡ row * stride l
   pub fits : row * stride l + count < 2 ^ 32
   pub within : row * stride l + (count - 1) < length l.words
   pub next : slice_index l.words (row * stride l + (count - 1)) / stride l < row_count l
 
-pub step : {l : Layout} {left rest : List (ℕ × ℕ)} → AreRows l → AreLeft l left → (row count : ℕ)
-    → left ≡ rest ++ (row, count) ∷ [] → IsStep l rest row count
-step {l} {left} {rest} are all row count e =
-    let popped = All-pop (IsLeft l) left rest (Some (row, count)) e all in
-    let own = popped.1 in
+pub step : {l : Layout} → AreRows l → (row count : ℕ) → IsLeft l (row, count) → IsStep l row count
+step {l} are row count own =
     let whole = multiple_below row (stride l) (length l.words) (pow_pos l.stride2) own.0 in
     let narrow = stride_few l.stride2 are.exponent in
     let within : row * stride l + (count - 1) < length l.words = omega (arith, whole, own.1, own.2, are.fits) in
     record {
-      left = popped.0;
-      below = own.0;
-      some = own.1;
-      few = own.2;
       place = mod-eq_of_lt (omega (arith, whole, are.few, narrow));
       fits = omega (arith, whole, own.1, own.2, are.fits, are.few, narrow);
       within = within;
       next = row-below l _ (are.next_ids (row * stride l + (count - 1)) within);
     }
 
--- the columns before it are still left
-pub column_left : {l : Layout} {others : List (ℕ × ℕ)} {row count : ℕ} → IsStep l others row count → 0 < count - 1
-    → AreLeft l (others ++ (row, count - 1) ∷ [])
-column_left {l} {others} {row} {count} s some =
-    All-push (IsLeft l) others (row, count - 1) s.left (s.below, some, omega (arith, s.few))
+-- the ranks of rows that no walk comes to
+pub numbered : (ranks : List ℕ) (n row : ℕ) → ranks ≡ range_with_len 0 n → row < n → slice_index ranks row ≡ row
+numbered ranks n row e h =
+    let first : 0 + row ≡ row = omega arith in
+    ap (λ (all : List ℕ). slice_index all row) e ∙ get_or-range_with_len 0 n row 0 (omega (arith, h)) ∙ first
 
 -- a row that isn't a match row gets a rank
 pub ranks_kept : (kinds ranks : List ℕ) (n next rank : ℕ)

@@ -43,22 +43,27 @@ pub(crate) fn depth_first(
             left.push((row, columns))?;
         }
     }
+    let Some((mut row, mut count)) = left.pop() else {
+        return Ok(ranks);
+    };
     for step in 0..words.len() {
-        let Some((row, count)) = left.pop() else {
-            break;
-        };
-        let column = count - 1;
-        if column > 0 {
-            left.push((row, column))?;
-        }
-        let next = words[(row << stride2) + column] as usize >> stride2;
+        count -= 1;
+        let next = words[(row << stride2) + count] as usize >> stride2;
         if !found[next] {
             found[next] = true;
-            left.push((next, columns))?;
             // No row is accelerated yet, so 2 is the kind of all match rows.
             if kinds[next] != 2 {
                 ranks[next] = step as u32;
             }
+            if count > 0 {
+                left.push((row, count))?;
+            }
+            (row, count) = (next, columns);
+        } else if count == 0 {
+            let Some(other) = left.pop() else {
+                break;
+            };
+            (row, count) = other;
         }
     }
     Ok(ranks)
