@@ -2,7 +2,7 @@
 
 ghost use Rattle.std.specs.Prelude.{◌≡◌, ◌≤◌, ◌==◌, ◌||◌, true, length, All, IfOk, IfSome, None, Ok, Some};
 ghost use Rattle.rx_spec.specs.Iterating.{iterate};
-ghost use Rattle.rx_spec.specs.Joining.{back_from, join, match_at, with_start};
+ghost use Rattle.rx_spec.specs.Joining.{back_from, join, match_at, with_end, with_start};
 ghost use Rattle.rx_spec.specs.Queries.{IsFit, LiesIn, is_anchored};
 ghost use Rattle.rx_spec.specs.Splits.{half_unsplit};
 ghost use Rattle.rx_spec.specs.declared.Direction.{Direction};
@@ -112,16 +112,31 @@ impl<A: Automaton> Regex<A> {
         // A match lies in the span.
         ensures within { IfOk result (λ found. IfSome found (LiesIn (query_of input.now))) }
     {
-        let end = match self.forward.try_search_fwd(input) {
-            Ok(Some(end)) => end,
-            Ok(None) => return Ok(None),
-            Err(error) => return Err(error),
-        };
-        if self.starts_at_span(input, &end) {
-            return Ok(Some(match_from(input.start(), &end)));
+        match self.forward.try_search_fwd(input) {
+            Ok(Some(end)) => self.match_with_end(input, &end),
+            Ok(None) => Ok(None),
+            Err(error) => Err(error),
+        }
+    }
+
+    /// The match with this end: what [`Regex::try_search`] returns if the forward search of the input gives the end.
+    pub fn match_with_end(
+        &self,
+        input: &Input<'_>,
+        end: &HalfMatch,
+    ) -> Result<Option<Match>, MatchError>
+        requires fits { IsFit (query_of input.now) }
+        requires in_span { IsInSpan (query_of input.now) end.now.offset }
+        ensures answer { result
+            ≡ with_end (half_unsplit (A.table self.now.reverse) Direction.Reverse)
+            (A.table self.now.forward).is_always_start_anchored (query_of input.now) (Ok (Some end.now)) }
+        ensures within { IfOk result (λ found. IfSome found (LiesIn (query_of input.now))) }
+    {
+        if self.starts_at_span(input, end) {
+            return Ok(Some(match_from(input.start(), end)));
         }
         let before = input_before(input, end.offset());
-        with_start(&end, self.reverse.try_search_rev(&before))
+        with_start(end, self.reverse.try_search_rev(&before))
     }
 
     /// As [`Regex::try_search`], where the forward search may be under way. Afterwards that of the rest, behind the
