@@ -9,6 +9,7 @@ pub mod equal;
 pub mod expr;
 pub mod image;
 pub mod pair;
+pub mod prefilter;
 pub mod regex;
 pub mod scan;
 pub mod search;

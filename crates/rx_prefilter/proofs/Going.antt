@@ -1,0 +1,28 @@
+-- Forward searches that told nothing yet.
+use Rattle.std.proofs.Common.{◌≡◌, ◌≢◌, ℕ, ◌+◌, slice_index, ◌∙◌, arith}
+use Rattle.rx_spec.specs.Queries.{Query, IsFit}
+use Rattle.rx_spec.specs.Tables.{Table}
+use Rattle.rx_search.proofs.Standing.{Standing}
+use Rattle.rx_search.proofs.Walks.{IsQuiet}
+use Rattle.rx_prefilter.specs.Literals.{IsGoing}
+use Rattle.rx_prefilter.proofs.Looking.{walk_on}
+
+-- one byte on, to a row that tells nothing either
+pub going_on : {t : Table} {q : Query} {row offset next : ℕ} → Standing t next → IsQuiet t next → IsFit q
+    → IsGoing t q row offset → offset ≢ q.end → next ≡ t.machine.next row (slice_index q.haystack offset)
+    → IsGoing t q next (offset + 1)
+going_on {t} {q} {row} {offset} {next} s quiet fits going more leads =
+    let low = going.in_span.low in
+    let high = going.in_span.high in
+    record {
+      in_span = record { low = omega (arith, low); high = omega (arith, high, more) };
+      answer =
+          going.answer
+          ∙ walk_on
+          (record {
+            place = record { fits = fits.within; in_span = going.in_span };
+            more = more;
+            turn = record { leads = leads; standing = s };
+          })
+          quiet;
+    }

@@ -1,0 +1,12 @@
+-- how much of a literal was read last
+pub mod Begun
+-- walks that look for a literal
+pub mod Looking
+-- the rows that stand for a literal's first bytes
+pub mod RowsOf
+-- two pieces of a literal that are compared
+pub mod Pieces
+-- where a literal occurs in a piece of a haystack
+pub mod Occurring
+-- forward searches that told nothing yet
+pub mod Going

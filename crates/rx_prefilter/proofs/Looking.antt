@@ -1,0 +1,145 @@
+-- Walks from the row of a literal: they tell nothing before the literal was read.
+use Rattle.std.proofs.Common.{◌≡◌, ◌≢◌, ℕ, suc, zero, ◌+◌, ◌-◌, ◌<◌, ◌≤◌, Bool, true, false, Ok, None, List, [], ◌∷◌}
+use Rattle.std.proofs.Common.{length, slice_index, if◌then◌else◌, ap, refl, sym, ◌∙◌, subst, ⊎_elim, arith}
+use Rattle.std.proofs.lemmas.Bool.{cases_Bool, cases_lt}
+use Rattle.rx_spec.specs.Bytes.{AreBytes, eoi}
+use Rattle.rx_spec.specs.HalfSearches.{HalfAnswer, at_label, last_match, walk}
+use Rattle.rx_spec.specs.Machines.{IsWord, Label}
+use Rattle.rx_spec.specs.Queries.{Query}
+use Rattle.rx_spec.specs.Tables.{IsSound, Table}
+use Rattle.rx_spec.specs.declared.Direction.{Direction}
+use Rattle.lemmas_tables.proofs.Tables.{units_below}
+use Rattle.lemmas_walks.proofs.Walking.{walk-cons, walk-nil}
+use Rattle.lemmas_walks.proofs.Words.{IsWord-head}
+use Rattle.rx_search.specs.Walks.{last_offset, rest, unit_ahead, units_left}
+use Rattle.rx_search.proofs.Halves.{by_stop, walk_stops}
+use Rattle.rx_search.proofs.Standing.{Standing}
+use Rattle.rx_search.proofs.Walks.{IsQuiet, Place, Step, byte_there, step_quiet, units_left-last}
+use Rattle.rx_prefilter.specs.Literals.{IsLiteral}
+use Rattle.rx_prefilter.proofs.Begun.{Begun, MostBegun, begun_more, begun_on, none_begun}
+
+-- a walk over what is left of a span, forward
+abbrev pub walk_from : Table → Query → (row offset : ℕ) → HalfAnswer
+walk_from t q row offset =
+    walk t.machine Direction.Forward q.earliest row offset None (units_left Direction.Forward q offset)
+
+-- one byte on, to a row that tells nothing
+pub walk_on : {t : Table} {q : Query} {row offset next : ℕ} → Step t Direction.Forward q row offset next → IsQuiet t next
+    → walk_from t q row offset ≡ walk_from t q next (offset + 1)
+walk_on {t} {q} {row} {offset} {next} step quiet =
+    walk_stops t.machine Direction.Forward q.earliest None row offset (units_left Direction.Forward q offset)
+    ∙ ap (by_stop t.machine Direction.Forward q.earliest None) (step_quiet step quiet)
+    ∙ sym (walk_stops t.machine Direction.Forward q.earliest None next (offset + 1)
+    (units_left Direction.Forward q (offset + 1)))
+
+-- the last unit, if it leads to a row that tells nothing
+pub walk_ends : (t : Table) (row unit offset : ℕ) (earliest : Bool) → t.machine.label (t.machine.next row unit) ≡ Label.Plain
+    → walk t.machine Direction.Forward earliest row offset None (unit ∷ []) ≡ Ok None
+walk_ends t row unit offset earliest plain =
+    let next = t.machine.next row unit in
+    let on = λ (label : Label) (dead : Bool).
+    let met = last_match label offset None in
+    at_label label Direction.Forward earliest unit offset (Ok met)
+    (if dead then Ok met else walk t.machine Direction.Forward earliest next (offset + 1) met []) in
+    walk-cons t.machine Direction.Forward earliest row unit offset None []
+    ∙ ap (λ (l : Label). on l (t.machine.is_dead next)) plain
+    ∙ ⊎_elim (λ (dead : t.machine.is_dead next ≡ true). ap (on Label.Plain) dead)
+    (λ (alive : t.machine.is_dead next ≡ false).
+    ap (on Label.Plain) alive ∙ walk-nil t.machine Direction.Forward earliest next (offset + 1) None)
+    (cases_Bool (t.machine.is_dead next))
+
+-- where a walk stands that hasn't read the literal yet
+pub record IsBefore (t : Table) (literal : List ℕ) (at : ℕ → ℕ) (q : Query) (from to : ℕ) : Type 0 where
+  pub k : ℕ
+  pub most : MostBegun q.haystack literal from to k
+  pub walked : walk_from t q (at 0) from ≡ walk_from t q (at k) to
+
+module _ {t : Table} {literal : List ℕ} {at : ℕ → ℕ} (sound : IsSound t) (is : IsLiteral t literal at)
+    (below : (k : ℕ) → k ≤ length literal → at k < t.size) where
+  stands : (k : ℕ) → k ≤ length literal → Standing t (at k)
+  stands k h = record { sound = sound; below = below k h }
+
+  module _ {q : Query} (bytes : AreBytes q.haystack) {from : ℕ} (p : Place q from) where
+    -- as long as the literal ends nowhere
+    pub before : (d to : ℕ) → from + d ≡ to → to ≤ q.end
+        → ((end : ℕ) → end ≤ to → Begun q.haystack literal from end (length literal) → ⊥)
+        → IsBefore t literal at q from to
+    before zero to e high none =
+        let here : from ≡ to = omega (arith, e) in
+        subst (IsBefore t literal at q from) here
+        (record { k = 0; most = none_begun q.haystack literal from is.some; walked = refl })
+    before (suc d) to e high none =
+        let last = to - 1 in
+        let there : last + 1 ≡ to = omega (arith, e) in
+        let b = before d last (omega (arith, e)) (omega (arith, e, high)) (λ end h. none end (omega (arith, e, h))) in
+        subst (IsBefore t literal at q from) there
+        (step last b (omega (arith, e, high)) (omega (arith, e)) (none (last + 1) (omega (arith, e))))
+      where
+        step : (o : ℕ) → IsBefore t literal at q from o → o < q.end → from ≤ o
+            → (Begun q.haystack literal from (o + 1) (length literal) → ⊥) → IsBefore t literal at q from (o + 1)
+        step o b more low none =
+            let more_left : o ≢ last_offset Direction.Forward q = λ over. omega (arith, over, more) in
+            let first = p.in_span.low in
+            let place : Place q o = record {
+              fits = p.fits;
+              in_span = record { low = omega (arith, first, low); high = omega (arith, more) };
+            } in
+            let byte = slice_index q.haystack o in
+            let l = is.leads b.k byte b.most.fewer (byte_there Direction.Forward place bytes more_left) in
+            let on = begun_on q.haystack literal from b.most refl l.is_longest in
+            let fewer : l.len < length literal =
+            ⊎_elim (λ (low : l.len < length literal). low)
+            (λ (high : length literal ≤ l.len).
+            let within = l.is_longest.within in
+            let all : l.len ≡ length literal = omega (arith, high, within) in
+            absurd (none (subst (Begun q.haystack literal from (o + 1)) all on)))
+            (cases_lt l.len (length literal)) in
+            let row = stands l.len l.is_longest.within in
+            record {
+              k = l.len;
+              most = begun_more q.haystack literal from b.most refl l.is_longest fewer;
+              walked =
+                  b.walked
+                  ∙ walk_on (record { place = place; more = more_left; turn = record { leads = sym l.there; standing = row } })
+                  (record { plain = is.plain l.len l.is_longest.within; alive = is.alive l.len fewer });
+            }
+
+    -- up to the last byte of the first one
+    pub found : (place : ℕ) → from + place + length literal ≤ q.end
+        → Begun q.haystack literal from (from + place + length literal - 1) (length literal - 1)
+        → ((end : ℕ) → end < from + place + length literal → Begun q.haystack literal from end (length literal) → ⊥)
+        → walk_from t q (at 0) from ≡ walk_from t q (at (length literal - 1)) (from + place + length literal - 1)
+    found place high begun none =
+        let some = is.some in
+        let to = from + place + length literal - 1 in
+        let b = before (place + length literal - 1) to (omega (arith, some)) (omega (arith, high, some))
+        (λ end h. none end (omega (arith, h, some))) in
+        let fewer = b.most.fewer in
+        let most = b.most.most (length literal - 1) (omega (arith, some)) begun in
+        let all : b.k ≡ length literal - 1 = omega (arith, fewer, most, some) in
+        b.walked ∙ ap (λ (k : ℕ). walk_from t q (at k) to) all
+
+    -- if it ends nowhere in the span
+    pub nowhere : ((end : ℕ) → end ≤ q.end → Begun q.haystack literal from end (length literal) → ⊥)
+        → walk_from t q (at 0) from ≡ Ok None
+    nowhere none =
+        let low = p.in_span.low in
+        let high = p.in_span.high in
+        let b = before (q.end - from) q.end (omega (arith, high)) (omega arith) none in
+        let unit = unit_ahead Direction.Forward q.haystack q.end in
+        let last = units_left-last Direction.Forward q (omega (arith, low, high)) p.fits in
+        let word = subst IsWord last (units_below Direction.Forward (rest Direction.Forward q q.end) bytes) in
+        b.walked
+        ∙ ap (walk t.machine Direction.Forward q.earliest (at b.k) q.end None) last
+        ∙ walk_ends t (at b.k) unit q.end q.earliest (silent b.k b.most.fewer unit (IsWord-head unit [] word))
+      where
+        silent : (k : ℕ) → k < length literal → (unit : ℕ) → unit < 257
+            → t.machine.label (t.machine.next (at k) unit) ≡ Label.Plain
+        silent k h unit below =
+            ⊎_elim
+            (λ (low : unit < 256).
+            let l = is.leads k unit h low in ap t.machine.label l.there ∙ is.plain l.len l.is_longest.within)
+            (λ (high : 256 ≤ unit).
+            let over : unit ≡ eoi = omega (arith, high, below) in
+            ap (λ (u : ℕ). t.machine.label (t.machine.next (at k) u)) over ∙ is.silent k h)
+            (cases_lt unit 256)

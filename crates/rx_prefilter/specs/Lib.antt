@@ -1,0 +1,2 @@
+-- literals with which the matches of a search begin
+pub mod Literals
