@@ -13,8 +13,9 @@ use crate::command::Search;
 use crate::find::{found_line, found_status};
 use crate::lines::{error_reply, fixed_reply};
 use crate::reply::{Reply, TURNED_DOWN};
-use rx_base::{Input, Match, MatchError};
+use rx_base::Input;
 use rx_image::{Tables, read_pair};
+use rx_prefilter::{Answer, try_search};
 use rx_regex::Regex;
 use rx_search::Automaton;
 use std::alloc::{AllocError, Global};
@@ -54,40 +55,40 @@ fn pair_reply(
         return fixed_reply(alloc, "span\n", TURNED_DOWN);
     }
     let input = Input::new(haystack).range(start, end).anchored(search.mode);
-    answer_reply(alloc, joined(tables, &input))
+    let answer = joined(alloc, tables, &input)?;
+    answer_reply(alloc, answer)
 }
 
-/// The result of a search with the tables of an image.
-fn joined(tables: &Tables<'_>, input: &Input<'_>) -> Result<Option<Match>, MatchError>
+/// What a search with the tables of an image gives.
+fn joined(alloc: Global, tables: &Tables<'_>, input: &Input<'_>) -> Result<Answer, AllocError>
     requires sound { AreSound tables.now }
     requires fits { IsFit (query_of input.now) }
-    ensures { result ≡ joined (pair_of tables.now) (query_of input.now) }
+    ensures { IfOk result (λ answer. answer ≡ joined (pair_of tables.now) (query_of input.now)) }
 {
     match tables {
-        Tables::Dense(forward, reverse) => joined_by(forward, reverse, input),
-        Tables::Sparse(forward, reverse) => joined_by(forward, reverse, input),
+        Tables::Dense(forward, reverse) => joined_by(alloc, forward, reverse, input),
+        Tables::Sparse(forward, reverse) => joined_by(alloc, forward, reverse, input),
     }
 }
 
-/// The result of a search with two tables.
+/// What a search with two tables gives.
 fn joined_by<A: Automaton>(
+    alloc: Global,
     forward: &A,
     reverse: &A,
     input: &Input<'_>,
-) -> Result<Option<Match>, MatchError>
+) -> Result<Answer, AllocError>
     requires forward { A.IsSound forward.now }
     requires reverse { A.IsSound reverse.now }
     requires fits { IsFit (query_of input.now) }
-    ensures { result ≡ join (A.table forward.now) (A.table reverse.now) (query_of input.now) }
+    ensures { IfOk result (λ answer. answer
+        ≡ join (A.table forward.now) (A.table reverse.now) (query_of input.now)) }
 {
-    Regex::new(forward, reverse).try_search(input)
+    try_search(alloc, &Regex::new(forward, reverse), input)
 }
 
 /// The reply of a search: a match, none, or its error.
-fn answer_reply(
-    alloc: Global,
-    answer: Result<Option<Match>, MatchError>,
-) -> Result<Reply, AllocError>
+fn answer_reply(alloc: Global, answer: Answer) -> Result<Reply, AllocError>
     ensures { IfOk result (λ reply. reply ≡ answer_reply answer) }
 {
     match answer {

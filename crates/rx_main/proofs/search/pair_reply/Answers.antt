@@ -25,5 +25,5 @@ returns c =
     let fit : IsFit q = subst IsFit same (search rules) in
     IfOk-weaker c.answer_reply.result _ _
     (λ reply told.
-    told ∙ ap answer_reply (c.joined.ensures ∙ ap (joined pair) same) ∙ sym (fit_reply pair q fit))
+    told ∙ ap answer_reply (c.in_ok-answer.ensures ∙ ap (joined pair) same) ∙ sym (fit_reply pair q fit))
     c.answer_reply.ensures
