@@ -32,3 +32,5 @@ pub mod WordTexts
 pub mod EqualAnswers
 -- at most one reply fits
 pub mod OneReply
+-- searches with an image that searches for one literal
+pub mod LiteralImages

@@ -9,6 +9,8 @@ pub mod Image
 pub mod PairImage
 pub mod Check
 pub mod Search
+-- the search for a literal in a text that isn't kept
+pub mod Seek
 pub mod Scan
 pub mod EqualLines
 pub mod Equal

@@ -20,6 +20,7 @@ mod reply;
 mod scan;
 mod scripts;
 mod search;
+mod seek;
 mod transfer;
 mod words;
 

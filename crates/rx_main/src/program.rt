@@ -1,7 +1,7 @@
 //! The program: a command line, a source and a sink.
 
-ghost use Rattle.std.specs.Prelude.{◌≡◌, ◌≢◌, ◌<◌, ◌≤◌, ◌↔◌, ℕ, List, IfOk, IfErr, Err};
-ghost use Rattle.std.specs.Io.KnownBytes.{Appends};
+ghost use Rattle.std.specs.Prelude.{◌≡◌, ◌≢◌, ◌<◌, ◌≤◌, ◌↔◌, ℕ, List, length, IfOk, IfErr, Err};
+ghost use Rattle.std.specs.Io.KnownBytes.{Appends, Consumes};
 ghost use Rattle.rx_base.specs.Outside.{Rose};
 ghost use Rattle.rx_base.specs.Search.{mode_of};
 ghost use Rattle.rx_transfer.specs.Outside.{AppendsFront};
@@ -23,7 +23,8 @@ use crate::lines::{long_reply, usage_reply};
 use crate::reply::Reply;
 use crate::scan::scan;
 use crate::search::search;
-use crate::transfer::{TextFault, read_text};
+use crate::seek::seek_reply;
+use crate::transfer::{TextFault, new_buffer, read_rest};
 use crate::words::Words;
 use rx_base::{Sink, Source};
 use rx_feed::{Fault, feed};
@@ -90,10 +91,32 @@ fn reply<S: Source>(alloc: Global, command: ReadCommand, src: &mut S) -> Result<
     ensures failed { result ≡ Err Stop.Failed → Rose (S.faults src.old) (S.faults src.new) }
     ensures counted { S.faults src.old ≤ S.faults src.new }
 {
-    match read_text(alloc, src) {
-        Ok(bytes) => Ok(read_reply(alloc, command, &bytes)?),
+    match whole_reply(alloc, command, src) {
+        Ok(reply) => Ok(reply),
         Err(fault) => unread_reply(alloc, fault),
     }
+}
+
+/// The reply to a source that can be read to its end.
+fn whole_reply<S: Source>(
+    alloc: Global,
+    command: ReadCommand,
+    src: &mut S,
+) -> Result<Reply, TextFault>
+    ensures took { IfOk result (λ reply. (words : List (List ℕ)) → Says words (Asked.Read command)
+        → Took words (S.left src.old) (S.left src.new) reply) }
+    ensures long { result ≡ Err TextFault.Long
+        → (bytes : List ℕ) × (length bytes ≡ 16777217) × Consumes (S.left src.old) (S.left src.new) bytes }
+    ensures failed { result ≡ Err TextFault.Failed → Rose (S.faults src.old) (S.faults src.new) }
+    ensures counted { S.faults src.old ≤ S.faults src.new }
+{
+    let mut buffer = new_buffer(alloc)?;
+    let mut text = Vec::new(alloc);
+    if let Some(reply) = seek_reply(alloc, command, src, &mut buffer, &mut text)? {
+        return Ok(reply);
+    }
+    read_rest(src, &mut buffer, &mut text)?;
+    Ok(read_reply(alloc, command, &text)?)
 }
 
 /// The reply of a command to the bytes of the source.

@@ -88,7 +88,7 @@ fn joined_by<A: Automaton>(
 }
 
 /// The reply of a search: a match, none, or its error.
-fn answer_reply(alloc: Global, answer: Answer) -> Result<Reply, AllocError>
+pub fn answer_reply(alloc: Global, answer: Answer) -> Result<Reply, AllocError>
     ensures { IfOk result (λ reply. reply ≡ answer_reply answer) }
 {
     match answer {

@@ -1,10 +1,11 @@
 //! Reading all of a source.
 
-ghost use Rattle.std.specs.Prelude.{◌≡◌, ◌<◌, ◌≤◌, ℕ, List, length, IfOk};
+ghost use Rattle.std.specs.Prelude.{◌≡◌, ◌≢◌, ◌<◌, ◌≤◌, ◌++◌, ℕ, List, length, true, false, IfOk, Err};
 ghost use Rattle.std.specs.Io.KnownBytes.{Consumes, IsAtEnd};
 ghost use Rattle.rx_base.specs.Outside.{Rose};
 
 use rx_base::{ReadAnswer, Source};
+use rx_seek::Fault;
 use rx_transfer::read_front;
 use std::alloc::{AllocError, AllocFailed, Global};
 
@@ -23,6 +24,21 @@ pub enum TextFault {
     Failed,
     /// Memory ran out.
     Memory,
+}
+
+impl From<Fault> for TextFault {
+    ghost use Rattle.std.specs.Prelude.{◌≡◌};
+    ghost use Rattle.rx_main.specs.Seek.{text_fault};
+
+    ghost from_gives = { λ fault e. e ≡ text_fault fault };
+
+    fn from(fault: Fault) -> TextFault {
+        match fault {
+            Fault::Long => TextFault::Long,
+            Fault::Failed => TextFault::Failed,
+            Fault::Memory => TextFault::Memory,
+        }
+    }
 }
 
 impl From<AllocError> for TextFault {
@@ -47,50 +63,64 @@ impl<T: Drop> From<AllocFailed<T>> for TextFault {
     }
 }
 
-/// A buffer for one read.
-fn new_buffer(alloc: Global) -> Result<Vec<u8>, AllocError>
-    ensures { IfOk result (λ buffer. 0 < length buffer.items) }
+/// A buffer for reads of 64 KiB.
+pub fn new_buffer(alloc: Global) -> Result<Vec<u8>, AllocError>
+    ensures { IfOk result (λ buffer. length buffer.items ≡ 65536) }
 {
     vec![in alloc; 0; CHUNK]
 }
 
-/// Reads all bytes that are left, unless they are more than [`LIMIT`].
-pub fn read_text<S: Source>(alloc: Global, src: &mut S) -> Result<Vec<u8>, TextFault>
-    ensures few { IfOk result (λ text. length text.items ≤ 16777216) }
-    ensures bytes { IfOk result (λ text. Consumes (S.left src.old) (S.left src.new) text.items) }
-    ensures end { IfOk result (λ text. IsAtEnd (S.left src.new)) }
-    ensures long { result ≡ Err TextFault.Long
-        → (bytes : List ℕ) × (length bytes ≡ 16777217) × Consumes (S.left src.old) (S.left src.new) bytes }
-    ensures failed { result ≡ Err TextFault.Failed → Rose (S.faults src.old) (S.faults src.new) }
-    ensures counted { S.faults src.old ≤ S.faults src.new }
-{
-    let mut buffer = new_buffer(alloc)?;
-    read_through(alloc, src, &mut buffer)
-}
-
-/// Reads all bytes that are left through a buffer.
-fn read_through<S: Source>(
-    alloc: Global,
+/// Reads on through a buffer until a text has `most` bytes. Returns whether the source ended before.
+pub fn read_up_to<S: Source>(
     src: &mut S,
     buffer: &mut [u8],
-) -> Result<Vec<u8>, TextFault>
-    requires { 0 < length buffer.old }
-    ensures few { IfOk result (λ text. length text.items ≤ 16777216) }
-    ensures bytes { IfOk result (λ text. Consumes (S.left src.old) (S.left src.new) text.items) }
-    ensures end { IfOk result (λ text. IsAtEnd (S.left src.new)) }
-    ensures long { result ≡ Err TextFault.Long
-        → (bytes : List ℕ) × (length bytes ≡ 16777217) × Consumes (S.left src.old) (S.left src.new) bytes }
+    text: &mut Vec<u8>,
+    most: usize,
+) -> Result<bool, TextFault>
+    requires some { 0 < length buffer.old }
+    requires fits { length text.old.items ≤ most }
+    ensures few { IfOk result (λ ended. length text.new.items ≤ most) }
+    ensures bytes { IfOk result (λ ended. (read : List ℕ) × (text.new.items ≡ text.old.items ++ read)
+        × Consumes (S.left src.old) (S.left src.new) read) }
+    ensures end { IfOk result (λ ended. ended ≡ true → IsAtEnd (S.left src.new)) }
+    ensures short { IfOk result (λ ended. ended ≡ true → length text.new.items < most) }
+    ensures whole { IfOk result (λ ended. ended ≡ false → length text.new.items ≡ most) }
+    ensures not_long { result ≢ Err TextFault.Long }
+    ensures failed { result ≡ Err TextFault.Failed → Rose (S.faults src.old) (S.faults src.new) }
+    ensures counted { S.faults src.old ≤ S.faults src.new }
+    // The buffer keeps its length.
+    ensures buffer { length buffer.new ≡ length buffer.old }
+{
+    'reads: while text.len() < most {
+        let room = buffer.len().min(most - text.len());
+        match read_front(src, buffer, room) {
+            ReadAnswer::Got(count) => text.extend_from_slice(&buffer[..count])?,
+            ReadAnswer::End => return Ok(true),
+            ReadAnswer::Failed => return Err(TextFault::Failed),
+        }
+    }
+    Ok(false)
+}
+
+/// Reads all bytes that are left to the end of a text, unless it then has more than [`LIMIT`].
+pub fn read_rest<S: Source>(
+    src: &mut S,
+    buffer: &mut [u8],
+    text: &mut Vec<u8>,
+) -> Result<(), TextFault>
+    requires some { 0 < length buffer.old }
+    requires fits { length text.old.items ≤ 16777217 }
+    ensures few { IfOk result (λ done. length text.new.items ≤ 16777216) }
+    ensures bytes { IfOk result (λ done. (read : List ℕ) × (text.new.items ≡ text.old.items ++ read)
+        × Consumes (S.left src.old) (S.left src.new) read) }
+    ensures end { IfOk result (λ done. IsAtEnd (S.left src.new)) }
+    ensures long { result ≡ Err TextFault.Long → (read : List ℕ) × (length (text.old.items ++ read) ≡ 16777217)
+        × Consumes (S.left src.old) (S.left src.new) read }
     ensures failed { result ≡ Err TextFault.Failed → Rose (S.faults src.old) (S.faults src.new) }
     ensures counted { S.faults src.old ≤ S.faults src.new }
 {
-    let mut text = Vec::new(alloc);
-    'reads: while text.len() <= LIMIT {
-        let room = buffer.len().min(LIMIT + 1 - text.len());
-        match read_front(src, buffer, room) {
-            ReadAnswer::Got(count) => text.extend_from_slice(&buffer[..count])?,
-            ReadAnswer::End => return Ok(text),
-            ReadAnswer::Failed => return Err(TextFault::Failed),
-        }
+    if text.len() <= LIMIT && read_up_to(src, buffer, text, LIMIT + 1)? {
+        return Ok(());
     }
     Err(TextFault::Long)
 }

@@ -87,7 +87,8 @@ module _ (hay literal : List ℕ) (from : ℕ) where
             ⊎_elim (λ (none : i < 1). omega (arith, none))
             (λ (some : 1 ≤ i).
             let one : i ≡ i - 1 + 1 = omega (arith, some) in
-            let before = m.most (i - 1) (omega (arith, low)) (earlier (i - 1) (subst (Begun hay literal from (to + 1)) one b)) in
+            let before = m.most (i - 1) (omega (arith, low))
+            (earlier (i - 1) (subst (Begun hay literal from (to + 1)) one b)) in
             omega (arith, some, before))
             (cases_lt i 1)
 

@@ -10,3 +10,9 @@ pub mod Pieces
 pub mod Occurring
 -- forward searches that told nothing yet
 pub mod Going
+-- walks that tell one match at a row
+pub mod Telling
+-- walks in reverse over a literal
+pub mod Backwards
+-- searches with a pair of tables that search for one literal
+pub mod LiteralSearches

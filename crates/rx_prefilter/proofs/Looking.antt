@@ -3,7 +3,7 @@ use Rattle.std.proofs.Common.{◌≡◌, ◌≢◌, ℕ, suc, zero, ◌+◌, ◌
 use Rattle.std.proofs.Common.{length, slice_index, if◌then◌else◌, ap, refl, sym, ◌∙◌, subst, ⊎_elim, arith}
 use Rattle.std.proofs.lemmas.Bool.{cases_Bool, cases_lt}
 use Rattle.rx_spec.specs.Bytes.{AreBytes, eoi}
-use Rattle.rx_spec.specs.HalfSearches.{HalfAnswer, at_label, last_match, walk}
+use Rattle.rx_spec.specs.HalfSearches.{HalfAnswer, at_label, last_match, next_offset, walk}
 use Rattle.rx_spec.specs.Machines.{IsWord, Label}
 use Rattle.rx_spec.specs.Queries.{Query}
 use Rattle.rx_spec.specs.Tables.{IsSound, Table}
@@ -24,16 +24,20 @@ walk_from t q row offset =
     walk t.machine Direction.Forward q.earliest row offset None (units_left Direction.Forward q offset)
 
 -- one byte on, to a row that tells nothing
-pub walk_on : {t : Table} {q : Query} {row offset next : ℕ} → Step t Direction.Forward q row offset next → IsQuiet t next
-    → walk_from t q row offset ≡ walk_from t q next (offset + 1)
-walk_on {t} {q} {row} {offset} {next} step quiet =
-    walk_stops t.machine Direction.Forward q.earliest None row offset (units_left Direction.Forward q offset)
-    ∙ ap (by_stop t.machine Direction.Forward q.earliest None) (step_quiet step quiet)
-    ∙ sym (walk_stops t.machine Direction.Forward q.earliest None next (offset + 1)
-    (units_left Direction.Forward q (offset + 1)))
+pub walk_on : {t : Table} {direction : Direction} {q : Query} {row offset next : ℕ} → Step t direction q row offset next
+    → IsQuiet t next
+    → walk t.machine direction q.earliest row offset None (units_left direction q offset)
+    ≡ walk t.machine direction q.earliest next (next_offset direction offset) None
+    (units_left direction q (next_offset direction offset))
+walk_on {t} {direction} {q} {row} {offset} {next} step quiet =
+    let to = next_offset direction offset in
+    walk_stops t.machine direction q.earliest None row offset (units_left direction q offset)
+    ∙ ap (by_stop t.machine direction q.earliest None) (step_quiet step quiet)
+    ∙ sym (walk_stops t.machine direction q.earliest None next to (units_left direction q to))
 
 -- the last unit, if it leads to a row that tells nothing
-pub walk_ends : (t : Table) (row unit offset : ℕ) (earliest : Bool) → t.machine.label (t.machine.next row unit) ≡ Label.Plain
+pub walk_ends : (t : Table) (row unit offset : ℕ) (earliest : Bool)
+    → t.machine.label (t.machine.next row unit) ≡ Label.Plain
     → walk t.machine Direction.Forward earliest row offset None (unit ∷ []) ≡ Ok None
 walk_ends t row unit offset earliest plain =
     let next = t.machine.next row unit in
@@ -100,7 +104,8 @@ module _ {t : Table} {literal : List ℕ} {at : ℕ → ℕ} (sound : IsSound t)
               most = begun_more q.haystack literal from b.most refl l.is_longest fewer;
               walked =
                   b.walked
-                  ∙ walk_on (record { place = place; more = more_left; turn = record { leads = sym l.there; standing = row } })
+                  ∙ walk_on
+                  (record { place = place; more = more_left; turn = record { leads = sym l.there; standing = row } })
                   (record { plain = is.plain l.len l.is_longest.within; alive = is.alive l.len fewer });
             }
 

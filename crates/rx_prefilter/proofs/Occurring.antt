@@ -1,5 +1,6 @@
 -- Where a literal occurs in a piece of a haystack, and where it was read in the haystack.
-use Rattle.std.proofs.Common.{◌≡◌, ℕ, ◌+◌, ◌-◌, ◌<◌, ◌≤◌, List, None, Some, length, take, drop, slice_index, ap, sym, ◌∙◌}
+use Rattle.std.proofs.Common.{◌≡◌, ℕ, ◌+◌, ◌-◌, ◌<◌, ◌≤◌, List, None, Some, length, take, drop, slice_index, ap, sym}
+use Rattle.std.proofs.Common.{◌∙◌}
 use Rattle.std.proofs.Common.{length-drop, length-take-le, arith}
 use Rattle.std.proofs.lemmas.List.{get_or-drop, get_or-take}
 use Rattle.memchr.specs.Find.{FindsNeedle, OccursAt}
@@ -9,10 +10,10 @@ module _ (hay literal : List ℕ) {from end : ℕ} (order : from ≤ end) (fits 
   abbrev pub piece : List ℕ
   piece = take (end - from) (drop from hay)
 
-  piece_len : length piece ≡ end - from
+  pub piece_len : length piece ≡ end - from
   piece_len = length-take-le (end - from) (drop from hay) (rw (length-drop from hay) (omega (arith, fits, order)))
 
-  piece_at : (k : ℕ) → k < end - from → slice_index piece k ≡ slice_index hay (from + k)
+  pub piece_at : (k : ℕ) → k < end - from → slice_index piece k ≡ slice_index hay (from + k)
   piece_at k h = get_or-take (end - from) (drop from hay) k 0 h ∙ get_or-drop from hay k 0
 
   -- where all of it was read last, it occurs

@@ -6,6 +6,8 @@
 #![tactic(auto)]
 
 mod literal;
+mod only;
 mod search;
 
+pub use only::{OnlyLiteral, only_literal};
 pub use search::{Answer, try_search};

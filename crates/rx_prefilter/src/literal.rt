@@ -113,7 +113,7 @@ fn is_literal<A: Automaton>(dfa: &A, literal: &[u8], rows: &[StateID]) -> bool
 }
 
 /// Whether a row is neither a match row nor the quit row.
-fn tells_nothing<A: Automaton>(dfa: &A, id: StateID) -> bool
+pub(crate) fn tells_nothing<A: Automaton>(dfa: &A, id: StateID) -> bool
     requires sound { A.IsSound dfa.now }
     requires is_id { IsId (A.ids dfa.now) id }
     ensures { IsTrue result

@@ -38,7 +38,7 @@ enum Passed {
 /// The leftmost match of an input, as [`Regex::try_search`] returns it.
 ///
 /// Over a span of 64 KiB or more, a literal of two bytes or more with which each match begins is looked for first. This
-/// changes no answer. The table is read once for it, which takes about as long as a walk over 100 KiB.
+/// changes no answer. For it, all transitions of the states on the literal's way are read twice.
 pub fn try_search<A: Automaton>(
     alloc: Global,
     regex: &Regex<A>,

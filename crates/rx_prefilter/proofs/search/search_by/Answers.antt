@@ -21,7 +21,10 @@ returns-in_default-clause-answer g c =
     let sound = g.met.A.Automaton.sound c.args.dfa.now c.requires.sound in
     let is = c.requires.literal in
     let count = is.rows.count in
-    let place : Place q c.literals.at = record { fits = c.requires.fits.within; in_span = c.literals.invariant.in_span } in
+    let place : Place q c.literals.at = record {
+      fits = c.requires.fits.within;
+      in_span = c.literals.invariant.in_span;
+    } in
     let none = rw (c.end.ensures, c.haystack.ensures, c.new-finder.ensures, c.deref.ensures.value)
     at c.in_default.ensures.place in
     let hay : AreBytes q.haystack = rw c.haystack.ensures at c.next_place.ensures.bytes in

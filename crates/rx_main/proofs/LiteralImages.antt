@@ -1,0 +1,93 @@
+-- Searches of a text with an image that searches for one literal.
+use Rattle.std.proofs.Common.{◌≡◌, ℕ, ◌+◌, ◌<◌, ◌≤◌, min, List, ◌++◌, length, take, drop, Option, Some, None, Ok, Err}
+use Rattle.std.proofs.Common.{ap, sym, ◌-◌, ◌∙◌, false, refl, subst, arith, length-append}
+use Rattle.std.proofs.Math.Seq.{drop-append_seam, take-append_seam}
+use Rattle.std.specs.Prelude.{IfOk, IfSome, Result, option_map}
+use Rattle.std.specs.Io.KnownBytes.{Consumes}
+use Rattle.rx_spec.specs.Queries.{Anchored, IsFit, is_anchored}
+use Rattle.rx_base.specs.Search.{mode_of}
+use Rattle.rx_image.specs.Pairs.{Pair, reads}
+use Rattle.rx_prefilter.specs.OnlyLiterals.{IsFirstPlace, SearchesFor, literal_match}
+use Rattle.rx_prefilter.specs.declared.only.OnlyLiteral.{OnlyLiteral}
+use Rattle.rx_regex.specs.Pairs.{forward_table, reverse_table}
+use Rattle.rx_seek.specs.Seeking.{IsSought}
+use Rattle.rx_seek.specs.declared.Fault.{Fault}
+use Rattle.rx_transfer.proofs.Transfers.{consumes_more}
+use Rattle.rx_main.specs.Lines.{Reply}
+use Rattle.rx_main.specs.Search.{SearchReplies, answer_reply, asked, pair_reply, span_reply}
+use Rattle.rx_main.specs.Seek.{IsLiteralImage, text_fault}
+use Rattle.rx_main.specs.declared.transfer.TextFault.{TextFault}
+use Rattle.rx_main.specs.declared.command.Search.{Search}
+use Rattle.rx_main.proofs.SearchAnswers.{fit_reply, searched_reply, span_told}
+
+-- the literal of tables that were read
+pub of_tables : {E : Type 0} (image : List ℕ) (pair : Pair) {size : ℕ} → reads image ≡ Ok (pair, size)
+    → (result : Result (Option OnlyLiteral) E)
+    → IfOk result (λ found. IfSome found (λ only.
+    SearchesFor (forward_table pair) (reverse_table pair) only.bytes.items only.pattern))
+    → IfOk result (λ found. IfSome found (λ only. 0 < length only.bytes.items))
+    → IfOk result (λ found. IfSome found (λ only. IsLiteralImage image only.bytes.items only.pattern))
+of_tables image pair {size} read (Ok (Some only)) searches some =
+    record { pair = pair; size = size; read = read; some = some; answers = searches }
+of_tables image pair read (Ok None) searches some = tt
+of_tables image pair read (Err error) searches some = tt
+
+-- why the text behind the image wasn't read to its end
+pub long_fault : (fault : Fault) → TextFault.Long ≡ text_fault fault → fault ≡ Fault.Long
+long_fault Fault.Long e = refl
+long_fault Fault.Failed e = absurd (cc)
+long_fault Fault.Memory e = absurd (cc)
+
+-- a mode without an anchor
+pub unanchored : (mode : Anchored) → is_anchored mode ≡ false → mode ≡ Anchored.No
+unanchored Anchored.No e = refl
+unanchored Anchored.Yes e = absurd (cc)
+unanchored (Anchored.Pattern k) e = absurd (cc)
+
+-- an image and too much text behind it
+pub long_behind : (before after now : Option (List ℕ)) (image text : List ℕ) → Consumes before after image
+    → Consumes after now text → length image ≤ 131072 → length text ≡ 16777216 - length image + 1
+    → (bytes : List ℕ) × (length bytes ≡ 16777217) × Consumes before now bytes
+long_behind before after now image text first rest few many =
+    let all = length-append image text in
+    (image ++ text, omega (arith, all, few, many), consumes_more before after now image text first rest)
+
+-- where it was found it ends within the text
+pub ends_within : {text literal : List ℕ} {start end len : ℕ} (place : Option ℕ)
+    → IsSought text literal start end len place → len ≤ 16777216
+    → IfSome place (λ at. at + length literal ≤ 16777216)
+ends_within None sought few = tt
+ends_within (Some at) sought few =
+    let fits = sought.first.1.fits in
+    let count = sought.count in
+    omega (arith, fits, count, few)
+
+module _ (s : Search) (image text literal : List ℕ) {pattern len : ℕ} {place : Option ℕ}
+    (size : length image ≡ s.image_len) (mode : mode_of s.mode ≡ Anchored.No)
+    (is : IsLiteralImage image literal pattern) (sought : IsSought text literal s.start s.end len place) where
+  by_pair : (reply : Reply) → reply ≡ pair_reply is.pair (asked s text) → SearchReplies s (image ++ text) reply
+  by_pair reply told =
+      searched_reply s (image ++ text) reply
+      (subst (λ (n : ℕ). image ≡ take n (image ++ text)) size (sym (take-append_seam image text)))
+      (subst (λ (n : ℕ). text ≡ drop n (image ++ text)) size (sym (drop-append_seam image text))) is.read told
+
+  -- the span fits
+  pub found_told : s.end ≤ len → s.start ≤ s.end + 1 → (reply : Reply)
+      → reply ≡ answer_reply (Ok (option_map (literal_match pattern (length literal)) place))
+      → SearchReplies s (image ++ text) reply
+  found_told high order reply told =
+      let count = sought.count in
+      let fit : IsFit (asked s text) = record { within = omega (arith, count, high); ordered = order } in
+      let all : min s.end len ≡ s.end = omega (arith, high) in
+      let first = subst (λ (end : ℕ). IsFirstPlace text literal s.start end place) all sought.first in
+      by_pair reply
+      (told ∙ sym (ap answer_reply (is.answers (asked s text) fit sought.bytes mode place first))
+      ∙ sym (fit_reply is.pair (asked s text) fit))
+
+  -- it doesn't
+  pub unfit_told : ((s.end ≤ len) × (s.start ≤ s.end + 1) → ⊥) → (reply : Reply) → reply ≡ span_reply
+      → SearchReplies s (image ++ text) reply
+  unfit_told out reply told =
+      let count = sought.count in
+      by_pair reply
+      (told ∙ sym (span_told is.pair (asked s text) (λ fit. out (omega (arith, fit.0, count), fit.1))))

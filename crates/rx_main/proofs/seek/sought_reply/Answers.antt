@@ -1,0 +1,27 @@
+use Rattle.std.proofs.Common.{◌∙◌, Option, [], ap, rules}
+use Rattle.std.proofs.lemmas.Result.{IfOk-weaker}
+use Rattle.rx_spec.specs.Queries.{Match}
+use Rattle.rx_main.specs.Find.{found_reply}
+use Rattle.rx_main.proofs.LiteralImages.{ends_within, found_told, unfit_told}
+use Rattle.rx_main.proofs.seek.sought_reply.Goals as goal
+
+pub returns-then-not-fits : goal.returns-then-not-fits
+returns-then-not-fits c =
+    IfOk-weaker c.fixed_reply.result _ _
+    (λ reply told image text size mode is sought.
+    unfit_told c.args.search.now image text c.args.literal.now.bytes.items size mode is sought
+    (λ fit. let yes = c.fits.ensures.1 fit in absurd (search rules)) reply told)
+    c.fixed_reply.ensures
+
+pub match_at-requires : goal.match_at-requires
+match_at-requires c =
+    ends_within c.args.sought.now.place c.requires.sought.1 c.requires.few
+
+pub returns : goal.returns
+returns c =
+    IfOk-weaker c.answer_reply.result _ _
+    (λ reply told image text size mode is sought.
+    found_told c.args.search.now image text c.args.literal.now.bytes.items size mode is sought
+    (c.fits.ensures.0 c.if-not-fits.false).0 (c.fits.ensures.0 c.if-not-fits.false).1 reply
+    (told ∙ ap (λ (found : Option Match). found_reply found []) c.match_at.ensures))
+    c.answer_reply.ensures
