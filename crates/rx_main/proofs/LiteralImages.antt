@@ -46,7 +46,7 @@ unanchored (Anchored.Pattern k) e = absurd (cc)
 
 -- an image and too much text behind it
 pub long_behind : (before after now : Option (List ℕ)) (image text : List ℕ) → Consumes before after image
-    → Consumes after now text → length image ≤ 131072 → length text ≡ 16777216 - length image + 1
+    → Consumes after now text → length image ≤ 262144 → length text ≡ 16777216 - length image + 1
     → (bytes : List ℕ) × (length bytes ≡ 16777217) × Consumes before now bytes
 long_behind before after now image text first rest few many =
     let all = length-append image text in

@@ -25,7 +25,7 @@ use std::alloc::{AllocError, Global};
 
 /// The longest image, in bytes, of which the program asks whether it searches for one literal. One of a literal of 32
 /// bytes is shorter.
-const LONGEST: usize = 1 << 17;
+const LONGEST: usize = 1 << 18;
 
 /// The reply, if the command is `search` and its image searches for one literal. Otherwise `None`, and what was read is
 /// in the text.
