@@ -9,7 +9,7 @@ use rx_feed::{Fault, feed};
 use rx_sparse_build::BuildSparse;
 use rx_sparse_image::SparseWrite;
 use rx_spec::Form;
-use std::alloc::{AllocError, Global};
+use std::alloc::Global;
 use std::process::Abort;
 use std::test::Fail;
 use tests_notation::read;

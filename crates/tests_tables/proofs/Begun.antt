@@ -1,10 +1,10 @@
 -- The first table of a build, before its states are added.
-use Rattle.std.proofs.Common.{◌≡◌, ℕ, Bool, true, false, Some, None, List, length, refl, ap, ap₂, sym, ◌∙◌, subst}
+use Rattle.std.proofs.Common.{◌≡◌, ℕ, Bool, true, false, Some, None, length, refl, ap, sym, ◌∙◌}
 use Rattle.std.specs.Prelude.{if◌then◌else◌, is_some}
 use Rattle.rx_spec.specs.Nfas.{Nfa}
 use Rattle.rx_dense.specs.Builder.{Beginning, initial}
 use Rattle.rx_dense.specs.Layouts.{Layout}
-use Rattle.rx_determinize.specs.Determinized.{IsBegun, IsBegunWith, Settings, classes_of}
+use Rattle.rx_determinize.specs.Determinized.{IsBegun, Settings, classes_of}
 
 -- what is begun with the parts of an NFA
 pub record BeginsWith (nfa : Nfa) (s : Settings) (byte_classes : Bool) (b : Beginning) : Type 0 where

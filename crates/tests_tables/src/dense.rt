@@ -2,25 +2,18 @@
 
 mod tables;
 
-ghost use Rattle.std.specs.Prelude.{◌≡◌, IfOk};
-ghost use Rattle.rx_spec.specs.Queries.{IsFit};
-ghost use Rattle.rx_base.specs.Input.{query_of};
-ghost use Rattle.rx_search.specs.Starts.{IsId};
+ghost use Rattle.std.specs.Prelude.{IfOk};
 ghost use Rattle.rx_dense.specs.Facts.{IsSoundLayout};
-ghost use Rattle.rx_dense.specs.Layouts.{ids_of};
 ghost use Rattle.rx_order.specs.RowOrder.{IsInOrder};
 
 use Step::{Add, AddAndCut, Connect, Fill, Remap, RemapState, StartAt, Swap};
-use Told::{Match, Nothing, Quit, Unsupported};
-use rx_base::start::Config;
 use rx_base::{
-    Anchored, ByteClassSet, ByteClasses, ByteSet, HalfMatch, Input, MatchError, MatchErrorKind,
-    PatternID, PatternSet, Start, StartKind, StateID, Unit,
+    Anchored, ByteClassSet, ByteClasses, ByteSet, PatternID, Start, StartKind, StateID, Unit,
 };
 use rx_build::dense;
-use rx_dense::{Accels, AddError, DFA, OwnedDFA, PatternMapError, State, WordStore};
+use rx_dense::{Accels, AddError, OwnedDFA, PatternMapError, State};
 use rx_expr::thompson;
-use rx_search::{Automaton, OverlappingState};
+use rx_search::Automaton;
 use std::alloc::{AllocError, Global};
 use std::collections::BTreeMap;
 use std::process::Abort;
@@ -385,42 +378,6 @@ fn check_ranges(rt: &impl Abort, state: &State<'_>, want: &[(u8, u8, usize)], eo
     assert!(rt; ranges.next().is_none() && ranges.next().is_none());
 }
 
-/// The result of a search: a pattern and an offset, no match, a quit byte and its offset, or an unsupported mode.
-#[derive(Clone, Copy, Debug, PartialEq)]
-enum Told {
-    Match(u32, usize),
-    Nothing,
-    Quit(u8, usize),
-    Unsupported,
-}
-
-fn tell(answer: Result<Option<HalfMatch>, MatchError>) -> Told {
-    match answer {
-        Ok(None) => Nothing,
-        Ok(Some(found)) => Match(found.pattern().as_u32(), found.offset()),
-        Err(error) => match error.kind() {
-            MatchErrorKind::Quit { byte, offset } => Quit(*byte, *offset),
-            _ => Unsupported,
-        },
-    }
-}
-
-fn call_told(call: Result<(), MatchError>, found: Option<HalfMatch>) -> Told {
-    match call {
-        Ok(()) => tell(Ok(found)),
-        Err(error) => tell(Err(error)),
-    }
-}
-
-/// What is searched: a haystack and the span in it.
-fn input<'h>(rt: &impl Abort, haystack: &'h str, start: usize, end: usize) -> Input<'h>
-    ensures { IsFit (query_of result) }
-{
-    let haystack = haystack.as_bytes();
-    assert!(rt; Input::fits(haystack.len(), start, end));
-    Input::new(haystack).range(start, end)
-}
-
 /// The table of some patterns, with start states for each, that quits at some bytes.
 fn built(alloc: Global, patterns: &str, quit: &[u8]) -> Result<OwnedDFA, Fail>
     ensures { IfOk result (λ dfa. IsInOrder dfa) }
@@ -467,129 +424,6 @@ fn final_matches(rt: &impl Abort, alloc: Global, dfa: &OwnedDFA) -> Result<Vec<b
     }
     finals.sort()?;
     Ok(finals)
-}
-
-#[test]
-fn views_and_copies_answer_as_their_source(rt: HostRuntime) -> Result<(), Fail> {
-    let alloc = rt.alloc();
-    let dfa = built(alloc, "a ab [^z] . b", b"z")?;
-    let copy = dfa.to_owned(alloc)?;
-    let view = copy.as_ref();
-    check_rows(&rt, &dfa, &copy);
-    check_rows(&rt, &dfa, &view);
-    check_starts(&rt, &dfa, &copy);
-    check_starts(&rt, &dfa, &view);
-    for (haystack, start, end) in [("abc", 0, 3), ("abz", 0, 3), ("zab", 1, 3), ("ba", 0, 2)] {
-        let input = input(&rt, haystack, start, end);
-        check_searches(&rt, alloc, &input, &dfa, &copy)?;
-        check_searches(&rt, alloc, &input, &dfa, &view)?;
-    }
-    Ok(())
-}
-
-/// Which kinds of state an id names.
-fn kinds<T: WordStore>(dfa: &DFA<T>, id: StateID) -> [bool; 6]
-    requires { IsId (ids_of dfa.now) id }
-{
-    [
-        dfa.is_special_state(id),
-        dfa.is_dead_state(id),
-        dfa.is_quit_state(id),
-        dfa.is_match_state(id),
-        dfa.is_start_state(id),
-        dfa.is_accel_state(id),
-    ]
-}
-
-/// Asserts that calls that take a row return the same for a copy and its source.
-fn check_rows<T: WordStore>(rt: &impl Abort, source: &OwnedDFA, copy: &DFA<T>)
-    requires same { copy.now ≡ source.now }
-    requires sound { IsSoundLayout source.now }
-{
-    assert_eq!(rt; copy.state_len(), source.state_len());
-    for row in 0..source.state_len() {
-        let id = id(rt, source, row);
-        for byte in 0..=255u8 {
-            assert_eq!(rt; copy.next_state(id, byte), source.next_state(id, byte));
-        }
-        assert_eq!(rt; copy.next_eoi_state(id), source.next_eoi_state(id));
-        assert_eq!(rt; kinds(copy, id), kinds(source, id));
-        let needles = source.accelerator(id);
-        assert_eq!(rt; copy.accelerator(id).as_slice(), needles.as_slice());
-        if source.is_match_state(id) {
-            let len = source.match_len(id);
-            assert_eq!(rt; copy.match_len(id), len);
-            for index in 0..len {
-                let pattern = source.match_pattern(id, index);
-                assert_eq!(rt; copy.match_pattern(id, index), pattern);
-            }
-        }
-    }
-}
-
-/// Asserts the same of calls that take no row.
-fn check_starts<T: WordStore>(rt: &impl Abort, source: &OwnedDFA, copy: &DFA<T>) {
-    for mode in &modes() {
-        let universal = source.universal_start_state(*mode);
-        assert_eq!(rt; copy.universal_start_state(*mode), universal);
-        for byte in [None, Some(b'a'), Some(b'z')] {
-            let config = Config::new().look_behind(byte).anchored(*mode);
-            let start = source.start_state(&config).ok();
-            assert_eq!(rt; copy.start_state(&config).ok(), start);
-        }
-    }
-    assert_eq!(rt; copy.pattern_len(), source.pattern_len());
-    assert_eq!(rt; copy.has_empty(), source.has_empty());
-    assert_eq!(rt; copy.is_utf8(), source.is_utf8());
-    let anchored = source.is_always_start_anchored();
-    assert_eq!(rt; copy.is_always_start_anchored(), anchored);
-    assert_eq!(rt; copy.memory_usage(), source.memory_usage());
-}
-
-/// Asserts the same of searches.
-fn check_searches<T: WordStore>(
-    rt: &impl Abort,
-    alloc: Global,
-    input: &Input<'_>,
-    source: &OwnedDFA,
-    copy: &DFA<T>,
-) -> Result<(), Fail>
-    requires same { copy.now ≡ source.now }
-    requires sound { IsSoundLayout source.now }
-    requires fits { IsFit (query_of input.now) }
-{
-    let start = source.start_state_forward(input).ok();
-    assert_eq!(rt; copy.start_state_forward(input).ok(), start);
-    let start = source.start_state_reverse(input).ok();
-    assert_eq!(rt; copy.start_state_reverse(input).ok(), start);
-    let forward = tell(source.try_search_fwd(input));
-    assert_eq!(rt; tell(copy.try_search_fwd(input)), forward);
-    let reverse = tell(source.try_search_rev(input));
-    assert_eq!(rt; tell(copy.try_search_rev(input)), reverse);
-    let mut set = PatternSet::new(alloc, 3)?;
-    let mut copied = PatternSet::new(alloc, 3)?;
-    assert!(rt; source.pattern_len() <= set.capacity());
-    assert!(rt; source.pattern_len() <= copied.capacity());
-    let which = source.try_which_overlapping_matches(input, &mut set);
-    let told = copy.try_which_overlapping_matches(input, &mut copied);
-    assert_eq!(rt; told.is_ok(), which.is_ok());
-    for pattern in 0..3 {
-        let pattern = PatternID::must(pattern);
-        assert_eq!(rt; copied.contains(pattern), set.contains(pattern));
-    }
-    let mut state = OverlappingState::start();
-    let call = source.try_search_overlapping_fwd(input, &mut state);
-    let forward = call_told(call, state.get_match());
-    let mut state = OverlappingState::start();
-    let call = copy.try_search_overlapping_fwd(input, &mut state);
-    assert_eq!(rt; call_told(call, state.get_match()), forward);
-    let mut state = OverlappingState::start();
-    let call = source.try_search_overlapping_rev(input, &mut state);
-    let reverse = call_told(call, state.get_match());
-    let mut state = OverlappingState::start();
-    let call = copy.try_search_overlapping_rev(input, &mut state);
-    assert_eq!(rt; call_told(call, state.get_match()), reverse);
-    Ok(())
 }
 
 #[test]
@@ -650,5 +484,6 @@ fn large_tables_are_made(rt: HostRuntime) -> Result<(), Fail> {
     let copy = dfa.to_owned(alloc)?;
     let words = 3000 * 512 + 30 + 2 * 2000 + 100 * 2000 + 1 + 2 * 2000;
     assert_eq!(rt; copy.memory_usage(), 4 * words);
+    assert_eq!(rt; copy.as_ref().memory_usage(), 4 * words);
     Ok(())
 }

@@ -1,6 +1,6 @@
 //! Tests of renaming rows, worked by hand.
 
-ghost use Rattle.std.specs.Prelude.{◌≡◌, ◌<◌, length};
+ghost use Rattle.std.specs.Prelude.{◌<◌};
 
 mod chain;
 

@@ -1,4 +1,4 @@
-//! Tests that dense tables are made sparse, byte by byte, and that searches of both report the same.
+//! Tests that dense tables are made sparse, byte by byte, and searched.
 
 ghost use Rattle.std.specs.Prelude.{IfOk};
 ghost use Rattle.rx_spec.specs.Queries.{IsFit};
@@ -23,16 +23,14 @@ use std::process::Abort;
 use std::test::Fail;
 use tests_notation::read;
 
-/// The dense table of some patterns: forward, or in reverse for all matches.
-fn build(alloc: Global, patterns: &str, reverse: bool) -> Result<OwnedDFA, Fail>
+/// The dense table of some patterns.
+fn build(alloc: Global, patterns: &str, kind: MatchKind) -> Result<OwnedDFA, Fail>
     ensures { IfOk result (λ dfa. IsInOrder dfa) }
 {
     let exprs = read(alloc, patterns)?;
     let mut builder = Builder::new();
-    builder.thompson(thompson::Config::new().utf8(false).reverse(reverse));
-    if reverse {
-        builder.configure(Config::new().match_kind(MatchKind::All));
-    }
+    builder.thompson(thompson::Config::new().utf8(false));
+    builder.configure(Config::new().match_kind(kind));
     Ok(builder.build_many(alloc, &exprs)?)
 }
 
@@ -122,7 +120,7 @@ fn bytes_of(alloc: Global, rows: &[Row]) -> Result<Vec<u8>, AllocError> {
 #[test]
 fn the_table_of_abc_is_the_one_by_hand(rt: HostRuntime) -> Result<(), Fail> {
     let alloc = rt.alloc();
-    let dense = build(alloc, "abc", false)?;
+    let dense = build(alloc, "abc", MatchKind::LeftmostFirst)?;
     let (sparse, rows) = made_sparse(alloc, &dense)?;
     assert!(&rt;
         sparse.state_len() == 11 && rows == 11,
@@ -148,31 +146,6 @@ fn the_table_of_abc_is_the_one_by_hand(rt: HostRuntime) -> Result<(), Fail> {
     let anchored = sparse.universal_start_state(Anchored::Yes);
     assert!(&rt; anchored == Some(StateID::must(63)));
     Ok(())
-}
-
-/// The results of a forward search, a reverse search, and two calls of an overlapping search.
-fn told<A: Automaton>(alloc: Global, dfa: &A, text: &[u8]) -> Result<String, Fail>
-    requires { A.IsSound dfa.now }
-{
-    let input = Input::new(text);
-    let forward = dfa.try_search_fwd(&input);
-    let reverse = dfa.try_search_rev(&input);
-    let mut state = OverlappingState::start();
-    let first = dfa.try_search_overlapping_fwd(&input, &mut state);
-    let one = state.get_match();
-    let second = dfa.try_search_overlapping_fwd(&input, &mut state);
-    let other = state.get_match();
-    Ok(format!(in alloc; "{forward:?} {reverse:?} {first:?} {one:?} {second:?} {other:?}")?)
-}
-
-/// The dense table of some patterns, for all matches.
-fn build_all(alloc: Global, patterns: &str) -> Result<OwnedDFA, Fail>
-    ensures { IfOk result (λ dfa. IsInOrder dfa) }
-{
-    let exprs = read(alloc, patterns)?;
-    let mut builder = Builder::new();
-    builder.configure(Config::new().match_kind(MatchKind::All));
-    Ok(builder.build_many(alloc, &exprs)?)
 }
 
 /// The next match of an overlapping search: its pattern and its end.
@@ -211,7 +184,7 @@ fn four_told<A: Automaton>(dfa: &A, text: &[u8]) -> Result<[Option<(u32, usize)>
 #[test]
 fn overlapping_searches_tell_sam_and_then_samwise(rt: HostRuntime) -> Result<(), Fail> {
     let alloc = rt.alloc();
-    let dense = build_all(alloc, "Samwise Sam |")?;
+    let dense = build(alloc, "Samwise Sam |", MatchKind::All)?;
     let (sparse, _) = made_sparse(alloc, &dense)?;
     let wanted = [Some((0, 3)), Some((0, 7)), None, None];
     let tables = [
@@ -221,56 +194,6 @@ fn overlapping_searches_tell_sam_and_then_samwise(rt: HostRuntime) -> Result<(),
     ];
     for told in tables {
         assert!(&rt; told == wanted, "{told:?}");
-    }
-    Ok(())
-}
-
-/// Asserts that a sparse table reports the same as its dense table in each text, also if it is borrowed or copied.
-fn check(rt: &impl Abort, alloc: Global, patterns: &str, reverse: bool) -> Result<(), Fail> {
-    let dense = build(alloc, patterns, reverse)?;
-    let (sparse, _) = made_sparse(alloc, &dense)?;
-    let copy = sparse.to_owned(alloc)?;
-    for text in TEXTS {
-        let wanted = told(alloc, &dense, text)?;
-        let found = told(alloc, &sparse, text)?;
-        assert!(rt;
-            found.as_str() == wanted.as_str(),
-            "{patterns}: {found}, not {wanted}"
-        );
-        let lent = told(alloc, &sparse.as_ref(), text)?;
-        assert!(rt;
-            lent.as_str() == wanted.as_str(),
-            "{patterns}: {lent}, not {wanted}"
-        );
-        let copied = told(alloc, &copy, text)?;
-        assert!(rt;
-            copied.as_str() == wanted.as_str(),
-            "{patterns}: {copied}, not {wanted}"
-        );
-    }
-    Ok(())
-}
-
-const TEXTS: [&[u8]; 6] = [b"", b"a", b"xyzabcxyz", b"ab abc", b"zbcbcab", b"aaaa"];
-
-const PATTERNS: [&str; 9] = [
-    "",
-    "a",
-    "abc",
-    "[]",
-    "<word>",
-    "a b {1,} . c .",
-    "abc b [a-z]",
-    "abc [^b] [b-z] {0,} .",
-    r"\w {2,3} $ .",
-];
-
-#[test]
-fn sparse_tables_are_searched_as_dense_ones(rt: HostRuntime) -> Result<(), Fail> {
-    let alloc = rt.alloc();
-    for patterns in PATTERNS {
-        check(&rt, alloc, patterns, false)?;
-        check(&rt, alloc, patterns, true)?;
     }
     Ok(())
 }
@@ -319,70 +242,11 @@ fn counted<A: Automaton>(dfa: &A, text: &[u8]) -> Result<(Option<HalfMatch>, u64
 fn sparse_tables_skip_as_dense_ones(rt: HostRuntime) -> Result<(), Fail> {
     let alloc = rt.alloc();
     // Three steps: a byte is read from the start row, `x` leaves that row, and so does the unit after the span.
-    let dense = build(alloc, "[^x] {0,}", false)?;
+    let dense = build(alloc, "[^x] {0,}", MatchKind::LeftmostFirst)?;
     let (sparse, _) = made_sparse(alloc, &dense)?;
     let want = HalfMatch::new(PatternID::new(0)?, 3);
     for (end, ticks) in [counted(&dense, b"aaaxaa")?, counted(&sparse, b"aaaxaa")?] {
         assert!(&rt; end == Some(want) && ticks <= 4, "{end:?} {ticks}");
-    }
-    Ok(())
-}
-
-/// The reverse dense table of `\b[0-9]+\b` with Unicode word boundaries. It quits at bytes from 0x80 on.
-fn build_number(alloc: Global) -> Result<OwnedDFA, Fail>
-    ensures { IfOk result (λ dfa. IsInOrder dfa) }
-{
-    let exprs = read(alloc, r"<uword> \d {1,} <uword> . .")?;
-    let mut builder = Builder::new();
-    builder.thompson(thompson::Config::new().reverse(true));
-    builder.configure(Config::new().unicode_word_boundary(true));
-    Ok(builder.build_many(alloc, &exprs)?)
-}
-
-/// Compares the errors of a forward and a reverse search over a span.
-fn check_errors<A: Automaton>(
-    rt: &impl Abort,
-    alloc: Global,
-    dfa: &A,
-    span: (&[u8], usize, usize),
-    want: &str,
-) -> Result<(), Fail>
-    requires { A.IsSound dfa.now }
-{
-    let (text, start, end) = span;
-    assert!(rt; Input::fits(text.len(), start, end));
-    let input = Input::new(text).range(start, end);
-    for found in [dfa.try_search_fwd(&input), dfa.try_search_rev(&input)] {
-        match found {
-            Ok(_) => panic!(rt; "no error"),
-            Err(error) => {
-                let told = error.to_string(alloc)?;
-                assert!(rt; told.as_str() == want, "{told}");
-            }
-        }
-    }
-    Ok(())
-}
-
-#[test]
-fn sparse_tables_quit_as_dense_ones(rt: HostRuntime) -> Result<(), Fail> {
-    let alloc = rt.alloc();
-    let dense = build_number(alloc)?;
-    let (sparse, _) = made_sparse(alloc, &dense)?;
-    let cases: &[((&[u8], usize, usize), &str)] = &[
-        (
-            (b"\xce\xb2123", 2, 5),
-            "quit search after observing byte 178 at offset 1",
-        ),
-        (
-            (b"123\xce\xb2", 0, 3),
-            "quit search after observing byte 206 at offset 3",
-        ),
-    ];
-    for (span, want) in cases {
-        check_errors(&rt, alloc, &dense, *span, want)?;
-        check_errors(&rt, alloc, &sparse, *span, want)?;
-        check_errors(&rt, alloc, &sparse.as_ref(), *span, want)?;
     }
     Ok(())
 }

@@ -8,8 +8,8 @@ use rx_base::{Anchored, Input, MatchErrorKind, MatchKind, PatternID, PatternSet,
 use rx_build::dense;
 use rx_dense::OwnedDFA;
 use rx_expr::thompson;
-use rx_regex::{Builder, Plan, Regex, RegexBuild};
-use rx_search::{Automaton, OverlappingState};
+use rx_regex::{Builder, Regex, RegexBuild};
+use rx_search::Automaton;
 use std::alloc::Global;
 use std::process::Abort;
 use std::test::Fail;

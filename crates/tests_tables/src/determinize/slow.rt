@@ -6,7 +6,7 @@ ghost use Rattle.rx_dense.specs.Layouts.{ids_of, row_count};
 ghost use Rattle.rx_search.specs.Starts.{IsId};
 
 use super::build::{Case, determinized};
-use rx_base::{Anchored, ByteSet, PatternID, StateID, Unit};
+use rx_base::{Anchored, StateID, Unit};
 use rx_dense::OwnedDFA;
 use rx_determinize::Config;
 use rx_expr::thompson::NFA;

@@ -1,6 +1,6 @@
 //! A small table for the tests of renaming.
 
-ghost use Rattle.std.specs.Prelude.{◌≡◌, ℕ, ◌<◌, ◌≤◌, ◌*◌, ◌/◌, ◌^◌, [], ◌∷◌, All, IfOk, length, map, slice_index};
+ghost use Rattle.std.specs.Prelude.{◌≡◌, ℕ, ◌<◌, ◌≤◌, ◌*◌, ◌/◌, ◌^◌, All, IfOk, length, map, slice_index};
 ghost use Rattle.rx_order.specs.Transitions.{IsRowId};
 
 use rx_base::StateID;
