@@ -1,6 +1,6 @@
 //! A router: prints for each path on standard input which routes match it whole.
 //!
-//! `example_router IMAGE`: the routes are in `data/routes.patterns`. `tools/script` and `image all le` built their
+//! `example_router IMAGE`: the routes are in `data/routes.patterns`. `examples/script` and `image all le` built their
 //! table once, as the image `data/routes.image`. One walk over a path finds all routes that match, however many there
 //! are.
 //!
