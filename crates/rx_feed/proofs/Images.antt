@@ -1,18 +1,19 @@
 -- Images before a text: from what was read of both to what is answered.
 use Rattle.std.proofs.Common.{◌≡◌, ◌≢◌, ℕ, ◌<◌, ◌≤◌, inl, inr, Bool, true, false, Option, Result, Ok, Err}
-use Rattle.std.proofs.Common.{List, [], ◌++◌, length, refl, ap, sym, ◌∙◌, subst, arith, append-nil}
+use Rattle.std.proofs.Common.{List, [], ◌++◌, ◌+◌, length, length-append, refl, ap, sym, ◌∙◌, subst, arith, append-nil}
 use Rattle.std.specs.Io.KnownBytes.{Consumes, IsAtEnd, Keeps}
 use Rattle.rx_spec.specs.Queries.{Anchored}
 use Rattle.rx_spec.specs.Tables.{Table}
 use Rattle.rx_spec.specs.declared.Form.{Form}
 use Rattle.rx_wire.specs.Kinds.{FailsBy, Gives, Kind}
 use Rattle.rx_feed.specs.Lines.{refused_line}
-use Rattle.rx_feed.specs.Outside.{Writes}
+use Rattle.rx_feed.specs.Outside.{Writes, source_fault}
 use Rattle.rx_feed.specs.Replies.{FeedReplies, IsSplit, read_table, table_read}
 use Rattle.rx_feed.specs.Run.{FeedBreaks, FeedCut, FeedEnds, Refuses, StreamBreaks}
 use Rattle.rx_feed.specs.Run.{ReadEnds, StreamEnds, Takes, TakesTable, TakesText, written_by}
 use Rattle.rx_feed.specs.declared.fault.Fault.{Fault}
 use Rattle.rx_transfer.specs.Outside.{Ends}
+use Rattle.rx_transfer.specs.declared.reading.ReadFault.{ReadFault}
 use Rattle.rx_transfer.proofs.Transfers.{consumes_more}
 
 -- an error that isn't want of memory is the test that fails first
@@ -64,21 +65,26 @@ behind left ends = record {
   written_after = ends.written_after;
 }
 
+-- what was read first
+pub read_first : {before now read : List ℕ} → before ≡ [] → now ≡ before ++ read → read ≡ now
+read_first {read = read} empty told = sym (told ∙ ap (λ (l : List ℕ). l ++ read) empty)
+
 -- the image could not be read
-pub feed_unread : (run : Run) (fault : Fault) → fault ≢ Fault.Sink
-    → (fault ≡ Fault.Source
-    → (bytes : List ℕ) × (length bytes < run.len) × Consumes run.ends.left_before run.ends.left_after bytes)
-    → (fault ≡ Fault.Memory
-    → (bytes : List ℕ) × (length bytes ≤ run.len) × Consumes run.ends.left_before run.ends.left_after bytes)
+pub feed_unread : (run : Run) {before now : List ℕ} (fault : ReadFault) → before ≡ []
+    → (fault ≡ ReadFault.Failed → (read : List ℕ) × (now ≡ before ++ read) × (length now < run.len)
+    × Consumes run.ends.left_before run.ends.left_after read)
+    → (fault ≡ ReadFault.Memory → (read : List ℕ) × (length before + length read ≤ run.len)
+    × Consumes run.ends.left_before run.ends.left_after read)
     → Keeps run.ends.written_before run.ends.written_after
-    → FeedEnds run.form run.mode run.len run.ends (Err fault)
-feed_unread run Fault.Source other cut starved kept =
+    → FeedEnds run.form run.mode run.len run.ends (Err (source_fault fault))
+feed_unread run {before} ReadFault.Failed empty cut starved kept =
     let read = cut refl in
-    FeedCut.InImage read.0 read.1 read.2 kept
-feed_unread run Fault.Sink other cut starved kept = absurd (other refl)
-feed_unread run Fault.Memory other cut starved kept =
+    let len = ap length empty in
+    FeedCut.InImage read.0 (omega (arith, ap length read.1, length-append before read.0, len, read.2)) read.3 kept
+feed_unread run ReadFault.Memory empty cut starved kept =
     let read = starved refl in
-    record { image = read.0; few = read.1; taken = read.2; kept = kept }
+    let len = ap length empty in
+    record { image = read.0; few = omega (arith, len, read.1); taken = read.2; kept = kept }
 
 module _ (run : Run) {image : List ℕ} {over : Bool} {left : Option (List ℕ)}
     (is : IsImage run.len run.ends.left_before left image over) where

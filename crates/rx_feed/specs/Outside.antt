@@ -2,6 +2,7 @@
 use Rattle.std.specs.Prelude.{ℕ, ◌≡◌, Option, List, Result, Ok, Err}
 use Rattle.std.specs.Io.KnownBytes.{Appends}
 use Rattle.rx_transfer.specs.Outside.{AppendsFront}
+use Rattle.rx_transfer.specs.declared.reading.ReadFault.{ReadFault}
 use Rattle.rx_feed.specs.declared.fault.Fault.{Fault}
 
 -- what was written before and after
@@ -20,3 +21,8 @@ abbrev pub Writes : Option (List ℕ) → Option (List ℕ) → List ℕ → ℕ
 Writes before after text status (Ok told) = (told ≡ status) × Appends before after text
 Writes before after text status (Err Fault.Sink) = AppendsFront before after text
 Writes before after text status (Err fault) = ⊥
+
+-- why the source couldn't be read
+abbrev pub source_fault : ReadFault → Fault
+source_fault ReadFault.Failed = Fault.Source
+source_fault ReadFault.Memory = Fault.Memory

@@ -8,13 +8,13 @@ ghost use Rattle.rx_feed.specs.Run.{FeedEnds};
 
 use crate::fault::Fault;
 use crate::stream::{PIECE, feed_read};
-use crate::transfer::read_most;
 use rx_base::{Anchored, Sink, Source};
 use rx_dense::OwnedDFA;
 use rx_dense_image::DenseRead;
 use rx_sparse::DFA as SparseDFA;
 use rx_sparse_image::SparseRead;
 use rx_spec::Form;
+use rx_transfer::read_up_to;
 use std::alloc::Global;
 
 /// Runs the command `feed`. The first `len` bytes of the source are an image in this form, the rest is the text. Writes
@@ -42,7 +42,8 @@ pub fn feed<S: Source, K: Sink>(
     ensures sink_faults { K.faults out.old ≤ K.faults out.new }
 {
     let mut buffer = [0; PIECE];
-    let (image, over) = read_most(alloc, src, &mut buffer, len)?;
+    let mut image = Vec::new(alloc);
+    let over = read_up_to(src, &mut buffer, &mut image, len)?;
     match form {
         Form::Dense => {
             let read = OwnedDFA::from_bytes(alloc, &image);

@@ -11,12 +11,10 @@ use Rattle.rx_prefilter.specs.OnlyLiterals.{IsFirstPlace, SearchesFor, literal_m
 use Rattle.rx_prefilter.specs.declared.only.OnlyLiteral.{OnlyLiteral}
 use Rattle.rx_regex.specs.Pairs.{forward_table, reverse_table}
 use Rattle.rx_seek.specs.Seeking.{IsSought}
-use Rattle.rx_seek.specs.declared.Fault.{Fault}
 use Rattle.rx_transfer.proofs.Transfers.{consumes_more}
 use Rattle.rx_main.specs.Lines.{Reply}
 use Rattle.rx_main.specs.Search.{SearchReplies, answer_reply, asked, pair_reply, span_reply}
-use Rattle.rx_main.specs.Seek.{IsLiteralImage, text_fault}
-use Rattle.rx_main.specs.declared.transfer.TextFault.{TextFault}
+use Rattle.rx_main.specs.Seek.{IsLiteralImage}
 use Rattle.rx_main.specs.declared.command.Search.{Search}
 use Rattle.rx_main.proofs.SearchAnswers.{fit_reply, searched_reply, span_told}
 
@@ -31,12 +29,6 @@ of_tables image pair {size} read (Ok (Some only)) searches some =
     record { pair = pair; size = size; read = read; some = some; answers = searches }
 of_tables image pair read (Ok None) searches some = tt
 of_tables image pair read (Err error) searches some = tt
-
--- why the text behind the image wasn't read to its end
-pub long_fault : (fault : Fault) → TextFault.Long ≡ text_fault fault → fault ≡ Fault.Long
-long_fault Fault.Long e = refl
-long_fault Fault.Failed e = absurd (cc)
-long_fault Fault.Memory e = absurd (cc)
 
 -- a mode without an anchor
 pub unanchored : (mode : Anchored) → is_anchored mode ≡ false → mode ≡ Anchored.No

@@ -2,9 +2,8 @@
 use Rattle.std.proofs.Common.{◌≡◌, ℕ, Bool, false, List, ◌++◌, length, take, drop, Ok}
 use Rattle.std.proofs.Common.{refl, sym, ap, ◌∙◌}
 use Rattle.std.proofs.Math.Seq.{drop-append_seam, take-append_seam}
-use Rattle.rx_spec.specs.Bytes.{AreBytes}
 use Rattle.rx_spec.specs.Plans.{outcome}
-use Rattle.rx_spec.specs.Queries.{IsFit, Query}
+use Rattle.rx_spec.specs.Queries.{Query}
 use Rattle.rx_image.specs.Pairs.{Pair, in_order, reads}
 use Rattle.rx_plan.specs.Plan.{plan_of}
 use Rattle.rx_regex.specs.Pairs.{joined}

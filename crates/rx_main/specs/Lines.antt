@@ -1,7 +1,7 @@
 -- Replies: a text of one or more lines, and a status.
-use Rattle.std.specs.Prelude.{ℕ, ◌≡◌, ◌+◌, ◌/◌, ◌%◌, nat_lt, if◌then◌else◌, List, [], ◌∷◌, ◌++◌, codes}
+use Rattle.std.specs.Prelude.{ℕ, ◌≡◌, ◌/◌, ◌%◌, List, ◌∷◌, ◌++◌, codes}
 use Rattle.std.specs.Fmt.{decimal}
-use Rattle.rx_spec.specs.Queries.{Anchored, Match, MatchError}
+use Rattle.rx_spec.specs.Queries.{Match, MatchError}
 use Rattle.rx_spec.specs.Causes.{BuildCause, NfaCause}
 use Rattle.rx_spec.specs.Plans.{Cause}
 use Rattle.rx_build_error.specs.declared.BuildErrorKind.{BuildErrorKind}

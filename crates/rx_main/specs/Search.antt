@@ -1,9 +1,8 @@
 -- What the command `search` replies to its bytes: an image of a pair of tables, then a haystack.
-use Rattle.std.specs.Prelude.{ℕ, ◌≡◌, ◌+◌, Bool, true, false, if◌then◌else◌, ◌&&◌, nat_le, List, [], length, take, drop}
-use Rattle.std.specs.Prelude.{codes, ◌++◌, Result, Ok, Err}
+use Rattle.std.specs.Prelude.{ℕ, ◌≡◌, ◌+◌, Bool, false, if◌then◌else◌, ◌&&◌, nat_le, List, [], length, take, drop}
+use Rattle.std.specs.Prelude.{codes, ◌++◌, Ok, Err}
 use Rattle.rx_spec.specs.Bytes.{AreBytes}
 use Rattle.rx_spec.specs.Joining.{Answer}
-use Rattle.rx_spec.specs.Plans.{outcome}
 use Rattle.rx_spec.specs.Queries.{IsFit, Query}
 use Rattle.rx_base.specs.Search.{mode_of}
 use Rattle.rx_image.specs.Pairs.{Pair, reads}

@@ -5,8 +5,6 @@ use Rattle.rx_spec.specs.Queries.{Anchored, IsFit, Query}
 use Rattle.rx_image.specs.Pairs.{Pair, reads}
 use Rattle.rx_prefilter.specs.OnlyLiterals.{IsFirstPlace, literal_match}
 use Rattle.rx_regex.specs.Pairs.{joined}
-use Rattle.rx_seek.specs.declared.Fault.{Fault}
-use Rattle.rx_main.specs.declared.transfer.TextFault.{TextFault}
 
 -- The image of a pair of tables that search for one literal and for nothing else: a search that may begin anywhere
 -- answers where it first lies in the span.
@@ -18,9 +16,3 @@ pub record IsLiteralImage (image literal : List ℕ) (pattern : ℕ) : Type 0 wh
   pub answers : (q : Query) → IsFit q → AreBytes q.haystack → q.mode ≡ Anchored.No → (place : Option ℕ)
       → IsFirstPlace q.haystack literal q.start q.end place
       → joined pair q ≡ Ok (option_map (literal_match pattern (length literal)) place)
-
--- why a text wasn't read to its end
-abbrev pub text_fault : Fault → TextFault
-text_fault Fault.Long = TextFault.Long
-text_fault Fault.Failed = TextFault.Failed
-text_fault Fault.Memory = TextFault.Memory

@@ -1,6 +1,6 @@
 //! The command `find`: the leftmost match of a script's patterns in its haystack.
 
-ghost use Rattle.std.specs.Prelude.{◌≡◌, IfOk, OnOk};
+ghost use Rattle.std.specs.Prelude.{◌≡◌, IfOk};
 ghost use Rattle.std.specs.String.{string_bytes};
 ghost use Rattle.rx_script.specs.Script.{script_read};
 ghost use Rattle.rx_main.specs.Scripts.{AskedReplies, IsAsking};

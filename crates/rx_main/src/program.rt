@@ -1,6 +1,6 @@
 //! The program: a command line, a source and a sink.
 
-ghost use Rattle.std.specs.Prelude.{◌≡◌, ◌≢◌, ◌<◌, ◌≤◌, ◌↔◌, ℕ, List, length, IfOk, IfErr, Err};
+ghost use Rattle.std.specs.Prelude.{◌≡◌, ◌<◌, ◌≤◌, ◌↔◌, ℕ, List, length, IfOk, IfErr, Err};
 ghost use Rattle.std.specs.Io.KnownBytes.{Appends, Consumes};
 ghost use Rattle.rx_base.specs.Outside.{Rose};
 ghost use Rattle.rx_base.specs.Search.{mode_of};
@@ -24,11 +24,11 @@ use crate::reply::Reply;
 use crate::scan::scan;
 use crate::search::search;
 use crate::seek::seek_reply;
-use crate::transfer::{TextFault, new_buffer, read_rest};
+use crate::transfer::read_rest;
 use crate::words::Words;
 use rx_base::{Sink, Source};
 use rx_feed::{Fault, feed};
-use rx_transfer::write_text;
+use rx_transfer::{TextFault, new_buffer, write_text};
 use std::alloc::{AllocError, Global};
 
 /// The status if the source fails.

@@ -15,12 +15,13 @@ use crate::command::{ReadCommand, Search};
 use crate::lines::fixed_reply;
 use crate::reply::{Reply, TURNED_DOWN};
 use crate::search::answer_reply;
-use crate::transfer::{LIMIT, TextFault, read_up_to};
+use crate::transfer::LIMIT;
 use rx_base::{Input, Match, Source, Span};
 use rx_image::{Tables, read_pair};
 use rx_prefilter::{OnlyLiteral, only_literal};
 use rx_regex::Regex;
 use rx_seek::{Sought, seek};
+use rx_transfer::{TextFault, read_up_to};
 use std::alloc::{AllocError, Global};
 
 /// The longest image, in bytes, of which the program asks whether it searches for one literal. One of a literal of 32

@@ -1,15 +1,11 @@
 -- Walks in reverse over a literal.
-use Rattle.std.proofs.Common.{◌≡◌, ℕ, ◌+◌, ◌-◌, ◌<◌, List, length, slice_index, ap, refl, sym, ◌∙◌, arith}
+use Rattle.std.proofs.Common.{◌≡◌, ℕ, ◌+◌, ◌-◌, ◌<◌, List, length, slice_index, ap, sym, ◌∙◌, arith}
 use Rattle.rx_spec.specs.Tables.{Table}
 use Rattle.rx_spec.specs.declared.Direction.{Direction}
 use Rattle.rx_search.proofs.Standing.{Standing}
 use Rattle.rx_search.proofs.Walks.{IsQuiet, Step}
 use Rattle.rx_prefilter.specs.OnlyLiterals.{LeadsBack, back_walk}
 use Rattle.rx_prefilter.proofs.Looking.{walk_on}
-
--- none of it
-pub back_none : (t : Table) (literal : List ℕ) (start : ℕ) → LeadsBack t literal start (length literal) start
-back_none t literal start q at lies = refl
 
 -- one byte more of it
 pub back_more : {t : Table} {literal : List ℕ} (start : ℕ) {left row next : ℕ} → Standing t next → IsQuiet t next

@@ -16,3 +16,5 @@ pub mod Telling
 pub mod Backwards
 -- searches with a pair of tables that search for one literal
 pub mod LiteralSearches
+-- worked examples
+pub mod Examples

@@ -5,6 +5,7 @@
 //! that were read from images. `specs/Literals.antt` defines when a literal may be looked for.
 #![tactic(auto)]
 
+pub mod laws;
 mod literal;
 mod only;
 mod search;

@@ -1,6 +1,6 @@
 //! Pairs of tables that search for one literal and for nothing else.
 
-ghost use Rattle.std.specs.Prelude.{◌≡◌, ◌≤◌, ◌<◌, ◌+◌, ◌&&◌, ℕ, length, IfOk, IfSome, IsTrue, Some};
+ghost use Rattle.std.specs.Prelude.{◌≡◌, ◌<◌, ◌&&◌, length, IfOk, IfSome, IsTrue, Some};
 ghost use Rattle.rx_spec.specs.Ids.{row_of};
 ghost use Rattle.rx_spec.specs.Splits.{skips_splits};
 ghost use Rattle.rx_base.specs.Search.{mode_of};

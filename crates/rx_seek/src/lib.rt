@@ -11,32 +11,12 @@ ghost use Rattle.rx_base.specs.Outside.{Rose};
 ghost use Rattle.rx_base.specs.Source.{Reads, ReadCause};
 ghost use Rattle.rx_seek.specs.Seeking.{IsFirstShown, IsSought};
 
+pub mod laws;
+
 use memchr::memmem::Finder;
 use rx_base::{ReadAnswer, Source, Span};
-use rx_transfer::read_front;
-use std::alloc::{AllocError, Global};
-
-/// Why a source wasn't read to its end.
-#[derive(Clone, Copy, Debug, PartialEq, Eq)]
-pub enum Fault {
-    /// It has more bytes than were allowed.
-    Long,
-    /// A read failed.
-    Failed,
-    /// Memory ran out.
-    Memory,
-}
-
-impl From<AllocError> for Fault {
-    ghost use Rattle.std.specs.Prelude.{◌≡◌};
-    ghost use Rattle.rx_seek.specs.declared.Fault.TheVariants.{Memory};
-
-    ghost from_gives = { λ _ e. e ≡ Memory };
-
-    fn from(_: AllocError) -> Fault {
-        Fault::Memory
-    }
-}
+use rx_transfer::{CHUNK, TextFault, read_front};
+use std::alloc::Global;
 
 /// What was read of a source in which a literal was looked for.
 #[derive(Clone, Copy, Debug)]
@@ -47,9 +27,6 @@ pub struct Sought {
     pub place: Option<usize>,
 }
 
-/// The most bytes of a read.
-const CHUNK: usize = 65_536;
-
 /// Reads a source to its end, and looks for a literal in a span of what it reads.
 pub fn seek<S: Source>(
     alloc: Global,
@@ -57,16 +34,16 @@ pub fn seek<S: Source>(
     literal: &[u8],
     span: &Span,
     most: usize,
-) -> Result<Sought, Fault>
+) -> Result<Sought, TextFault>
     requires literal { 0 < length literal.now }
     requires most { most ≤ 16777216 }
     ensures sought { IfOk result (λ s. (text : List ℕ) × Consumes (S.left src.old) (S.left src.new) text
         × IsSought text literal.now span.now.start span.now.end s.len s.place) }
     ensures end { IfOk result (λ s. IsAtEnd (S.left src.new)) }
     ensures few { IfOk result (λ s. s.len ≤ most) }
-    ensures long { result ≡ Err Fault.Long
+    ensures long { result ≡ Err TextFault.Long
         → (text : List ℕ) × (length text ≡ most + 1) × Consumes (S.left src.old) (S.left src.new) text }
-    ensures failed { result ≡ Err Fault.Failed → Rose (S.faults src.old) (S.faults src.new) }
+    ensures failed { result ≡ Err TextFault.Failed → Rose (S.faults src.old) (S.faults src.new) }
     ensures counted { S.faults src.old ≤ S.faults src.new }
 {
     let mut buffer = vec![in alloc; 0; literal.len() + CHUNK]?;
@@ -80,7 +57,7 @@ fn seek_through<S: Source>(
     literal: &[u8],
     span: &Span,
     most: usize,
-) -> Result<Sought, Fault>
+) -> Result<Sought, TextFault>
     requires literal { 0 < length literal.now }
     requires most { most ≤ 16777216 }
     requires room { length buffer.old ≡ length literal.now + 65536 }
@@ -88,9 +65,9 @@ fn seek_through<S: Source>(
         × IsSought text literal.now span.now.start span.now.end s.len s.place) }
     ensures end { IfOk result (λ s. IsAtEnd (S.left src.new)) }
     ensures few { IfOk result (λ s. s.len ≤ most) }
-    ensures long { result ≡ Err Fault.Long
+    ensures long { result ≡ Err TextFault.Long
         → (text : List ℕ) × (length text ≡ most + 1) × Consumes (S.left src.old) (S.left src.new) text }
-    ensures failed { result ≡ Err Fault.Failed → Rose (S.faults src.old) (S.faults src.new) }
+    ensures failed { result ≡ Err TextFault.Failed → Rose (S.faults src.old) (S.faults src.new) }
     ensures counted { S.faults src.old ≤ S.faults src.new }
 {
     let finder = Finder::new(literal);
@@ -104,7 +81,7 @@ fn seek_through<S: Source>(
         let count = match read_behind(src, buffer, kept, room) {
             ReadAnswer::Got(count) => count,
             ReadAnswer::End => return Ok(sought),
-            ReadAnswer::Failed => return Err(Fault::Failed),
+            ReadAnswer::Failed => return Err(TextFault::Failed),
         };
         let shown = kept + count;
         let base = sought.len - kept;
@@ -113,7 +90,7 @@ fn seek_through<S: Source>(
         kept = shown.min(literal.len() - 1);
         buffer.copy_within(shown - kept..shown, 0);
     }
-    Err(Fault::Long)
+    Err(TextFault::Long)
 }
 
 /// Reads at most `room` bytes into a buffer, behind the first ones, which stay.

@@ -1,25 +1,18 @@
 //! What the commands share: reading from a source, writing to a sink, and words of their lines.
 //!
-//! [`write_text`] writes a text whole, or up to where the sink fails. `specs/Words.antt` defines the words.
+//! [`read_up_to`] reads a text on to a length, and [`write_text`] writes a text whole, or up to where the sink fails.
+//! `specs/Words.antt` defines the words.
 #![tactic(auto)]
 
-ghost use Rattle.std.specs.Prelude.{◌≡◌, ◌<◌, ◌≤◌, length, take, true, false};
+ghost use Rattle.std.specs.Prelude.{◌≡◌, ◌≤◌, true, false};
 ghost use Rattle.std.specs.Io.KnownBytes.{Appends};
 ghost use Rattle.rx_base.specs.Outside.{Rose};
-ghost use Rattle.rx_base.specs.Source.{Reads, ReadCause};
 ghost use Rattle.rx_transfer.specs.Outside.{AppendsFront};
 
-use rx_base::{ReadAnswer, Sink, Source, WriteAnswer};
+mod reading;
 
-/// Reads at most `room` bytes into the front of a buffer.
-pub fn read_front<S: Source>(src: &mut S, buffer: &mut [u8], room: usize) -> ReadAnswer
-    requires some { 0 < room }
-    requires within { room ≤ length buffer.old }
-    ensures bytes { Reads (S.left src.old) (S.left src.new) result (take room buffer.new) }
-    ensures cause { ReadCause (S.faults src.old) (S.faults src.new) result }
-{
-    src.read(&mut buffer[..room])
-}
+pub use reading::{CHUNK, ReadFault, TextFault, new_buffer, read_front, read_up_to};
+use rx_base::{Sink, WriteAnswer};
 
 /// Writes a text. Returns whether the sink took all of it.
 pub fn write_text<K: Sink>(out: &mut K, text: &[u8]) -> bool

@@ -1,6 +1,6 @@
 use Rattle.std.proofs.Common.{◌≡◌, ap, sym, subst, ◌∙◌, rules}
 use Rattle.std.proofs.lemmas.Result.{IfOk-weaker}
-use Rattle.rx_spec.specs.Queries.{IsFit, Query}
+use Rattle.rx_spec.specs.Queries.{IsFit}
 use Rattle.rx_base.specs.Input.{query_of}
 use Rattle.rx_image.specs.Tables.{pair_of}
 use Rattle.rx_regex.specs.Pairs.{joined}

@@ -1,18 +1,20 @@
-use Rattle.std.proofs.Common.{◌≤◌, ◌++◌, length, take, arith, length-append, length-take}
+use Rattle.std.proofs.Common.{◌≤◌, ◌+◌, ◌++◌, ap, length, take, arith, length-append, length-take}
 use Rattle.rx_transfer.proofs.Transfers.{consumes_more}
-use Rattle.rx_feed.proofs.transfer.read_most.Goals as goal
+use Rattle.rx_transfer.proofs.reading.read_up_to.Goals as goal
 
--- what was read and is not kept
+-- what was read and isn't kept
 pub returns-in_err-extend_from_slice-in-Got-clause-starved :
     goal.returns-in_err-extend_from_slice-in-Got-clause-starved
 returns-in_err-extend_from_slice-in-Got-clause-starved g c = λ memory.
-    let kept = c.reads.text.items in
+    let kept = c.reads.invariant.bytes in
     let front = take c.min-room.result c.read_front.new.buffer in
     let read = take c.in-Got.count front in
-    let few : length (kept ++ read) ≤ c.args.most
+    let few : length c.args.text.now.items + length (kept.0 ++ read) ≤ c.args.most
     = omega (
       arith,
-      length-append kept read,
+      ap length kept.1,
+      length-append c.args.text.now.items kept.0,
+      length-append kept.0 read,
       length-take c.in-Got.count front,
       c.in-Got.ensures.bytes.1,
       length-take c.min-room.result c.read_front.new.buffer,
@@ -20,9 +22,9 @@ returns-in_err-extend_from_slice-in-Got-clause-starved g c = λ memory.
       c.len-in-reads.ensures,
       c.reads.invariant.few,
     ) in (
-      kept ++ read,
+      kept.0 ++ read,
       few,
       consumes_more (g.S.Source.left c.args.src.now) (g.S.Source.left c.reads.src)
           (g.S.Source.left c.read_front.new.src)
-          kept read c.reads.invariant.bytes c.in-Got.ensures.bytes.2,
+          kept.0 read kept.2 c.in-Got.ensures.bytes.2,
     )
