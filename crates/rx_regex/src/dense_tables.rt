@@ -4,6 +4,7 @@ ghost use Rattle.std.specs.Prelude.{◌≡◌, ◌<◌, ◌^◌, All, IfOk, IfEr
 ghost use Rattle.rx_spec.specs.Expressions.{IsLoopSafe};
 ghost use Rattle.rx_spec.specs.declared.Form.{Form};
 ghost use Rattle.rx_build_error.specs.Refusals.{IsRefused};
+ghost use Rattle.rx_dense.specs.Layouts.{IsShaped};
 ghost use Rattle.rx_dense_image.specs.Images.{IsWhole};
 ghost use Rattle.rx_image.specs.Pairs.{AreWhole, HaveSamePatterns, Pair};
 ghost use Rattle.rx_plan.specs.Plan.{plan_of};
@@ -24,7 +25,8 @@ use rx_plan::{Passage, Plan};
 use rx_wire::Order;
 use std::alloc::{AllocError, Global};
 
-/// Builds both tables. The forward table is built first, so its error is returned first.
+/// Builds both tables and reads them back if the plan asks for that. The forward table is built first, so its error is
+/// returned first.
 pub(crate) fn dense_pair(
     alloc: Global,
     exprs: &[Expr],
@@ -36,12 +38,31 @@ pub(crate) fn dense_pair(
     ensures fits { OnOk result (PlanFits (plan_of plan.now) exprs.now) }
     ensures err { IfErr result (λ error. IsRefused (PlanRefused (plan_of plan.now) exprs.now) error.kind) }
 {
+    let built = build_dense(alloc, exprs, plan)?;
+    match plan.passage {
+        Passage::Direct | Passage::Bytes => Ok(built),
+        Passage::Pair => Ok(read_pair_back(alloc, built.forward(), built.reverse())?),
+    }
+}
+
+/// Builds both tables. `Passage::Pair` has no effect on them.
+pub(crate) fn build_dense(
+    alloc: Global,
+    exprs: &[Expr],
+    plan: &Plan,
+) -> Result<Regex<OwnedDFA>, BuildError>
+    requires { plan.now.form ≡ Form.Dense }
+    ensures ok { IfOk result (λ pair.
+        AreTables (plan_of plan.now) exprs.now (Pair.Dense pair.forward pair.reverse)) }
+    // They can be written and read again.
+    ensures whole { IfOk result (λ pair. AreWhole (Pair.Dense pair.forward pair.reverse)) }
+    ensures patterns { IfOk result (λ pair. HaveSamePatterns (Pair.Dense pair.forward pair.reverse)) }
+    ensures fits { OnOk result (PlanFits (plan_of plan.now) exprs.now) }
+    ensures err { IfErr result (λ error. IsRefused (PlanRefused (plan_of plan.now) exprs.now) error.kind) }
+{
     let forward = dense_table(alloc, exprs, plan, PlanTable::Forward)?;
     let reverse = dense_table(alloc, exprs, plan, PlanTable::Reverse)?;
-    match plan.passage {
-        Passage::Direct | Passage::Bytes => Ok(Regex::new(forward, reverse)),
-        Passage::Pair => Ok(read_pair_back(alloc, &forward, &reverse)?),
-    }
+    Ok(Regex::new(forward, reverse))
 }
 
 /// Builds one table of a plan. `Passage::Pair` has no effect on it.
@@ -53,6 +74,7 @@ pub(crate) fn dense_table(
 ) -> Result<OwnedDFA, BuildError>
     requires { plan.now.form ≡ Form.Dense }
     ensures ok { IfOk result (IsDense (plan_of plan.now) which exprs.now) }
+    ensures shaped { IfOk result IsShaped }
     ensures fits { OnOk result (TableFits (plan_of plan.now) which exprs.now) }
     ensures err { IfErr result (λ error.
         IsRefused (TableRefused (plan_of plan.now) which exprs.now) error.kind) }

@@ -7,9 +7,8 @@ ghost use Rattle.rx_plan.specs.Plan.{plan_of};
 ghost use Rattle.rx_regex.specs.Find.{PlanFits, PlanRefused};
 ghost use Rattle.rx_regex.specs.Images.{IsPairImage};
 
-use crate::PlanTable;
-use crate::dense_tables::dense_table;
-use crate::sparse_tables::sparse_table;
+use crate::dense_tables::build_dense;
+use crate::sparse_tables::build_sparse;
 use rx_build::BuildError;
 use rx_expr::Expr;
 use rx_image::{dense_pair, sparse_pair};
@@ -47,9 +46,8 @@ fn dense_pair_image(
     ensures fits { OnOk result (PlanFits (plan_of plan.now) exprs.now) }
     ensures err { IfErr result (λ error. IsRefused (PlanRefused (plan_of plan.now) exprs.now) error.kind) }
 {
-    let forward = dense_table(alloc, exprs, plan, PlanTable::Forward)?;
-    let reverse = dense_table(alloc, exprs, plan, PlanTable::Reverse)?;
-    Ok(dense_pair(alloc, order, &forward, &reverse)?)
+    let built = build_dense(alloc, exprs, plan)?;
+    Ok(dense_pair(alloc, order, built.forward(), built.reverse())?)
 }
 
 /// The image of sparse tables.
@@ -64,7 +62,6 @@ fn sparse_pair_image(
     ensures fits { OnOk result (PlanFits (plan_of plan.now) exprs.now) }
     ensures err { IfErr result (λ error. IsRefused (PlanRefused (plan_of plan.now) exprs.now) error.kind) }
 {
-    let forward = sparse_table(alloc, exprs, plan, PlanTable::Forward)?;
-    let reverse = sparse_table(alloc, exprs, plan, PlanTable::Reverse)?;
-    Ok(sparse_pair(alloc, order, &forward, &reverse)?)
+    let built = build_sparse(alloc, exprs, plan)?;
+    Ok(sparse_pair(alloc, order, built.forward(), built.reverse())?)
 }

@@ -27,7 +27,8 @@ use rx_sparse_image::{SparseRead, SparseWrite};
 use rx_wire::Order;
 use std::alloc::{AllocError, Global};
 
-/// Builds both tables. The forward table is built first, so its error is returned first.
+/// Builds both tables and reads them back if the plan asks for that. The forward table is built first, so its error is
+/// returned first.
 pub(crate) fn sparse_pair(
     alloc: Global,
     exprs: &[Expr],
@@ -39,12 +40,31 @@ pub(crate) fn sparse_pair(
     ensures fits { OnOk result (PlanFits (plan_of plan.now) exprs.now) }
     ensures err { IfErr result (λ error. IsRefused (PlanRefused (plan_of plan.now) exprs.now) error.kind) }
 {
+    let built = build_sparse(alloc, exprs, plan)?;
+    match plan.passage {
+        Passage::Direct | Passage::Bytes => Ok(built),
+        Passage::Pair => Ok(read_pair_back(alloc, built.forward(), built.reverse())?),
+    }
+}
+
+/// Builds both tables. `Passage::Pair` has no effect on them.
+pub(crate) fn build_sparse(
+    alloc: Global,
+    exprs: &[Expr],
+    plan: &Plan,
+) -> Result<Regex<DFA<Vec<u8>>>, BuildError>
+    requires { plan.now.form ≡ Form.Sparse }
+    ensures ok { IfOk result (λ pair.
+        AreTables (plan_of plan.now) exprs.now (Pair.Sparse pair.forward pair.reverse)) }
+    // They can be written and read again.
+    ensures whole { IfOk result (λ pair. AreWhole (Pair.Sparse pair.forward pair.reverse)) }
+    ensures patterns { IfOk result (λ pair. HaveSamePatterns (Pair.Sparse pair.forward pair.reverse)) }
+    ensures fits { OnOk result (PlanFits (plan_of plan.now) exprs.now) }
+    ensures err { IfErr result (λ error. IsRefused (PlanRefused (plan_of plan.now) exprs.now) error.kind) }
+{
     let forward = sparse_table(alloc, exprs, plan, PlanTable::Forward)?;
     let reverse = sparse_table(alloc, exprs, plan, PlanTable::Reverse)?;
-    match plan.passage {
-        Passage::Direct | Passage::Bytes => Ok(Regex::new(forward, reverse)),
-        Passage::Pair => Ok(read_pair_back(alloc, &forward, &reverse)?),
-    }
+    Ok(Regex::new(forward, reverse))
 }
 
 /// Builds one table of a plan. `Passage::Pair` has no effect on it.
