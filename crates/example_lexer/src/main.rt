@@ -1,8 +1,8 @@
 //! A lexer: writes the tokens of a source file of a small language, which comes on standard input.
 //!
 //! `example_lexer IMAGE`: the rules are in `data/lexer.patterns`, one on each line. Of two rules with matches of the
-//! same length the earlier one wins, so keywords come before names. `examples/script` and `image all le` built their table
-//! once, as the image `data/lexer.image`. The program has no expressions: it reads the image, and one loop is the
+//! same length the earlier one wins, so keywords come before names. `examples/script` and `image all le` built their
+//! table once, as the image `data/lexer.image`. The program has no expressions: it reads the image, and one loop is the
 //! lexer.
 //!
 //! Each token is a line: its line and column, its kind and its text. Spaces and comments are left out. The status is 1

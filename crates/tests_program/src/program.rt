@@ -1,6 +1,8 @@
 //! Tests of the program where a read or a write fails: the status, and what is written before. `checks/answers` tests
 //! the replies of the built program.
 
+mod partings;
+
 use rx_base::{MemSink, MemSource};
 use rx_main::*;
 use std::alloc::{AllocError, Global};
