@@ -29,13 +29,15 @@ use Rattle.rx_dense.specs.Layouts.{start_entries, stride, table_of}
 use Rattle.rx_expr.specs.NfaRows.{NamesPatterns}
 use Rattle.rx_order.specs.Ordering.{AreMatches, IsRouted, Matches, label_by, label_of_patterns}
 use Rattle.rx_stepper.specs.Keys.{label_of}
-use Rattle.rx_stepper.specs.Stepping.{SpellStates, Stepping}
+use Rattle.rx_stepper.specs.Stepping.{Stepping}
 use Rattle.rx_determinize.specs.Building.{HasStates}
-use Rattle.rx_determinize.specs.Filling.{IsEntering}
+use Rattle.rx_determinize.specs.Constructions.{Work}
+use Rattle.rx_determinize.specs.Filling.{HasEntries, IsEntering}
 use Rattle.rx_determinize.specs.Matching.{AreLabels, IsLabelAt, patterns_told}
 use Rattle.rx_determinize.specs.WorkLists.{IsRowOf, nodes}
-use Rattle.rx_determinize.specs.Working.{Keying, Met, SizeLimits, entry_in, keying, states_of}
+use Rattle.rx_determinize.specs.Working.{Keying, Met, entry_in, keying, states_of}
 use Rattle.rx_determinize.proofs.LabelLaws.{reached_named}
+use Rattle.rx_determinize.proofs.ModeLaws.{entries_twelve}
 use Rattle.rx_determinize.proofs.NodeLaws.{entry_goes_on, entry_plain, entry_whole, eoi_goes_on, next_whole}
 use Rattle.rx_determinize.proofs.NodeLaws.{node_of_row, quit_of_row}
 use Rattle.rx_determinize.proofs.RowIds.{row_id, row_of_id}
@@ -43,15 +45,19 @@ use Rattle.rx_determinize.proofs.StartLaws.{number_low, place_of, start_of_place
 use Rattle.rx_determinize.proofs.WorkListLaws.{ends}
 
 -- Each state that was met is stepped. A table has start entries for the patterns of the NFA, or for none.
-pub record IsBuilt (s : Stepping) (limits : SizeLimits) (met : Met) (l : Layout) : Type 0 where
-  pub entering : IsEntering (keying s l) limits met l (length l.starts) (length met.keys)
-  pub spells : SpellStates s
-  pub named : NamesPatterns (length s.nfa.start_patterns) s.nfa.rows
-  pub pattern_len : l.pattern_len ≡ length s.nfa.start_patterns
-  pub entries : length l.starts ≡ start_entries l.pattern_starts
-  pub patterns : (n : ℕ) → l.pattern_starts ≡ Some n → n ≡ length s.nfa.start_patterns
+pub record IsBuilt (w : Work) (l : Layout) : Type 0 where
+  pub entering : IsEntering w l (length l.starts) (length w.met.keys)
+  pub named : NamesPatterns (length w.stepping.nfa.start_patterns) w.stepping.nfa.rows
+  pub pattern_len : l.pattern_len ≡ length w.stepping.nfa.start_patterns
+  pub entries : HasEntries (length w.stepping.nfa.start_patterns) l
 
-module _ {s : Stepping} {limits : SizeLimits} {met : Met} {l : Layout} (built : IsBuilt s limits met l) where
+module _ {w : Work} {l : Layout} (built : IsBuilt w l) where
+  abbrev s : Stepping
+  s = w.stepping
+
+  abbrev met : Met
+  met = w.met
+
   abbrev k : Keying
   k = keying s l
 
@@ -62,7 +68,7 @@ module _ {s : Stepping} {limits : SizeLimits} {met : Met} {l : Layout} (built : 
   states = states_of k met
 
   count : row_count l ≡ length met.keys + 2
-  count = built.entering.working.count
+  count = built.entering.serves.working.count
 
   pub states_count : length states ≡ length met.keys
   states_count = length-map met.keys s.state_of
@@ -82,7 +88,7 @@ module _ {s : Stepping} {limits : SizeLimits} {met : Met} {l : Layout} (built : 
   -- a pattern past the last starts at dead
   past_last : (n j : ℕ) (start : Start) → l.pattern_starts ≡ Some n → n ≤ j → entry_in l (Anchored.Pattern j) start ≡ 0
   past_last n j start e h =
-      let all : length l.starts ≡ 12 + 6 * n = built.entries ∙ ap start_entries e in
+      let all : length l.starts ≡ 12 + 6 * n = built.entries.count ∙ ap start_entries e in
       dead_entry j start (omega arith)
 
   -- a mode without starts
@@ -93,22 +99,18 @@ module _ {s : Stepping} {limits : SizeLimits} {met : Met} {l : Layout} (built : 
       by None e =
           ap (λ (c : Option ℕ). if is_some c then start_node s.nfa (slice_get s.nfa.start_patterns j) start else dead) e
       by (Some n) e =
-          let all : length l.starts ≡ 12 + 6 * n = built.entries ∙ ap start_entries e in
-          let own = built.patterns n e in
+          let all : length l.starts ≡ 12 + 6 * n = built.entries.count ∙ ap start_entries e in
+          let own = subst (λ (o : Option ℕ). IfSome o (λ m. m ≡ length s.nfa.start_patterns)) e built.entries.own in
           let far : length s.nfa.start_patterns ≤ j = omega arith in
           ap (λ (c : Option ℕ). if is_some c then start_node s.nfa (slice_get s.nfa.start_patterns j) start else dead) e
           ∙ ap (λ (row : Option ℕ). start_node s.nfa row start) (slice_get_past s.nfa.start_patterns j far)
 
   twelve : 12 ≤ length l.starts
-  twelve = omega (arith, built.entries, at l.pattern_starts)
-    where
-      at : (p : Option ℕ) → 12 ≤ start_entries p
-      at None = omega arith
-      at (Some n) = omega arith
+  twelve = entries_twelve built.entries
 
   in_place : (mode : Anchored) (start : Start) → place_of mode start < length l.starts
       → IsRowOf states (built_entry b mode start) (entry_in l mode start)
-  in_place mode start low = built.entering.starts mode start low
+  in_place mode start low = built.entering.written.starts mode start low
 
   starts : (mode : Anchored) (start : Start) → IsRowOf states (built_entry b mode start) (entry_in l mode start)
   starts Anchored.No start = in_place Anchored.No start (omega (arith, twelve, number_low start))
@@ -130,13 +132,13 @@ module _ {s : Stepping} {limits : SizeLimits} {met : Met} {l : Layout} (built : 
     where
       -- entries come by six
       by_six : (p : Option ℕ) → l.pattern_starts ≡ p → (m : ℕ) × (length l.starts ≡ 12 + 6 * m)
-      by_six None e = (0, built.entries ∙ ap start_entries e)
-      by_six (Some n) e = (n, built.entries ∙ ap start_entries e)
+      by_six None e = (0, built.entries.count ∙ ap start_entries e)
+      by_six (Some n) e = (n, built.entries.count ∙ ap start_entries e)
 
   -- ---- rows
 
   pub reached : AreReached b states
-  reached = ends built.entering.list starts (omega arith) built.entering.working.distinct
+  reached = ends built.entering.written.list starts (omega arith) built.entering.serves.working.distinct
 
   low_row : (node : Node) (row : ℕ) → IsRowOf states node row → row < row_count l
   low_row node row is_row = ⊎_elim dies lives (cases_Bool (is_dead node))
@@ -173,8 +175,8 @@ module _ {s : Stepping} {limits : SizeLimits} {met : Met} {l : Layout} (built : 
 
   next_row : (row unit : ℕ) → row < row_count l → unit < 257
       → IsRowOf states (next_node b (node_at states row) unit) ((machine_of l).next row unit)
-  next_row zero unit low is_unit = built.entering.dead_stays unit is_unit
-  next_row (suc zero) unit low is_unit = built.entering.quit_ends unit is_unit
+  next_row zero unit low is_unit = built.entering.written.dead_stays unit is_unit
+  next_row (suc zero) unit low is_unit = built.entering.written.quit_ends unit is_unit
   next_row (suc (suc i)) unit low is_unit =
       let key = get_or met.keys i [] in
       let there = key_at i low in
@@ -182,7 +184,7 @@ module _ {s : Stepping} {limits : SizeLimits} {met : Met} {l : Layout} (built : 
       (sym (node_is i key there))
       (subst (λ row. IsRowOf states (next_node b (Running (s.state_of key)) unit) ((machine_of l).next row unit))
       (same_row i)
-      (built.entering.list.steps i key there (slice_get_within met.keys i key there) unit is_unit))
+      (built.entering.written.list.steps i key there (slice_get_within met.keys i key there) unit is_unit))
 
   -- ---- what rows tell
 
@@ -191,9 +193,9 @@ module _ {s : Stepping} {limits : SizeLimits} {met : Met} {l : Layout} (built : 
     named_by key i there =
         let low = slice_get_within met.keys i key there in
         let here = get_or_from_slice_get met.keys i key [] there in
-        built.spells.label key
+        built.entering.serves.spells.label key
         (subst (λ (j : List ℕ). s.is_key j ≡ true) here
-        (All-get_or (λ j. s.is_key j ≡ true) met.keys i [] low built.entering.working.are_keys))
+        (All-get_or (λ j. s.is_key j ≡ true) met.keys i [] low built.entering.serves.working.are_keys))
 
     some_width : 0 < stride l
     some_width = pow_pos l.stride2
@@ -275,7 +277,7 @@ module _ {s : Stepping} {limits : SizeLimits} {met : Met} {l : Layout} (built : 
       rows = λ id v e.
           let is = labels.only id v e in
           let low = slice_get_within met.keys is.place is.key is.there in (
-            subst (IsRowId l) (sym is.id_is) (row_id l (is.place + 2) built.entering.rows (omega (arith, low, count))),
+            subst (IsRowId l) (sym is.id_is) (row_id l (is.place + 2) built.entering.serves.rows (omega (arith, low, count))),
             high_id id v.items is,
             no_start_match id v.items is,
           );
@@ -287,7 +289,7 @@ module _ {s : Stepping} {limits : SizeLimits} {met : Met} {l : Layout} (built : 
           subst (λ (j : List ℕ). IsReached b (s.state_of j))
           (get_or_from_slice_get met.keys is.place is.key [] is.there)
           (All-get_or (λ j. IsReached b (s.state_of j)) met.keys is.place [] low
-          built.entering.working.reached) in
+          built.entering.serves.working.reached) in
           let below : All (λ j. j < length s.nfa.start_patterns) state.label =
           reached_named (length s.nfa.start_patterns) b built.named state own in (
             is.some,
@@ -300,8 +302,8 @@ module _ {s : Stepping} {limits : SizeLimits} {met : Met} {l : Layout} (built : 
     routed : IsRouted (table_of l)
     routed = record {
       past_last = past_last;
-      dead_stays = built.entering.dead_stays;
-      quit_ends = built.entering.quit_ends;
+      dead_stays = built.entering.written.dead_stays;
+      quit_ends = built.entering.written.quit_ends;
       eoi_goes_on = λ row low one. eoi row low one;
       starts = λ mode start one.
           entry_goes_on b mode start
@@ -309,8 +311,8 @@ module _ {s : Stepping} {limits : SizeLimits} {met : Met} {l : Layout} (built : 
     }
       where
         eoi : (row : ℕ) → row < row_count l → (machine_of l).next row 256 ≡ 1 → ⊥
-        eoi zero low one = absurd (omega (arith, one, built.entering.dead_stays 256 (omega arith)))
-        eoi (suc zero) low one = absurd (omega (arith, one, built.entering.quit_ends 256 (omega arith)))
+        eoi zero low one = absurd (omega (arith, one, built.entering.written.dead_stays 256 (omega arith)))
+        eoi (suc zero) low one = absurd (omega (arith, one, built.entering.written.quit_ends 256 (omega arith)))
         eoi (suc (suc i)) low one =
             let key = get_or met.keys i [] in
             let node : next_node b (node_at states (suc (suc i))) 256 ≡ Quit =
@@ -326,8 +328,8 @@ module _ {s : Stepping} {limits : SizeLimits} {met : Met} {l : Layout} (built : 
           arith,
           labels.count,
           same_total met.keys (λ i key there. named_by key i there),
-          built.entering.working.patterns,
-          built.entering.working.few_patterns,
+          built.entering.serves.working.patterns,
+          built.entering.serves.working.few_patterns,
         )
       where
         same_total : (keys : List (List ℕ)) → ((i : ℕ) (key : List ℕ) → slice_get keys i ≡ Some key

@@ -1,9 +1,9 @@
 -- The columns of a table and the units that stand for them.
-use Rattle.std.proofs.Common.{◌≡◌, ℕ, ◌+◌, ◌<◌, ◌≤◌, Bool, false, List, [], ◌∷◌, ◌++◌, length, get_or}
-use Rattle.std.proofs.Common.{refl, ap, sym, ◌∙◌, arith, ⊎_elim, eqb, cond, map, append_assoc}
+use Rattle.std.proofs.Common.{◌≡◌, ℕ, ◌+◌, ◌<◌, ◌≤◌, Bool, false, List, [], ◌∷◌, length, get_or}
+use Rattle.std.proofs.Common.{refl, ap, sym, ◌∙◌, arith, ⊎_elim, eqb, cond}
 use Rattle.std.proofs.lemmas.Bool.{cases_lt, cases_eq}
 use Rattle.std.proofs.lemmas.Bool.Decides.{nat_tests}
-use Rattle.std.proofs.lemmas.List.{get_or-map, get_or_append_left, get_or_push, length-map, length_push, map-append}
+use Rattle.std.proofs.lemmas.List.{get_or-map, get_or_append_left, get_or_push, length-map, length_push}
 use Rattle.std.proofs.lemmas.List.FromFn.{get_or-map-range_with_len}
 use Rattle.std.proofs.lemmas.Nat.Bits.{bit_at-zero}
 use Rattle.std.specs.Prelude.{slice_index, nat_lt, true, ◌&&◌, ◌==◌}
@@ -20,7 +20,7 @@ use Rattle.rx_dense.specs.Layouts.{Layout, column}
 use Rattle.rx_spec.specs.declared.Unit.{Unit}
 use Rattle.rx_stepper.specs.Stepping.{unit_of}
 use Rattle.rx_determinize.specs.Determinized.{classes_of}
-use Rattle.rx_determinize.specs.Filling.{AreUnits}
+use Rattle.rx_determinize.specs.Constructions.{AreUnits}
 
 column_of_byte : (l : Layout) (unit : ℕ) → unit < 256 → column l unit ≡ slice_index l.classes unit
 column_of_byte l unit h = let ne : eqb unit 256 ≡ false = grind (arith, nat_tests) in

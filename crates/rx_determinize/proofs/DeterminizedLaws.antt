@@ -10,7 +10,7 @@ use Rattle.rx_order.specs.Ordering.{IsRouted, IsShuffled, Matches}
 use Rattle.rx_order.specs.RowOrder.{match_lists}
 use Rattle.rx_determinize.specs.Building.{HasStates}
 use Rattle.rx_determinize.specs.Determinized.{IsDeterminized}
-use Rattle.rx_determinize.specs.Filling.{IsStartedOver}
+use Rattle.rx_determinize.specs.Constructions.{IsStartedOver}
 use Rattle.rx_determinize.proofs.PermutedLaws.{permuted_power}
 
 -- what shuffling leaves

@@ -15,19 +15,15 @@ use Rattle.rx_dense.proofs.Rows.{column_within}
 use Rattle.rx_dense.proofs.Shaped.{rows_set}
 use Rattle.rx_stepper.specs.Stepping.{unit_of}
 use Rattle.rx_determinize.specs.WorkLists.{IsRowOf}
-use Rattle.rx_determinize.specs.Working.{Keying, Met, SizeLimits, IsWorking, states_of, next_in, entry_in}
+use Rattle.rx_determinize.specs.Working.{Keying, Met, SizeLimits, IsWorking, keying, states_of, next_in, entry_in}
 use Rattle.rx_determinize.specs.Adding.{Adds}
-use Rattle.rx_determinize.specs.Filling.{Grows, IsEntering, IsFilling, IsWrittenOver}
+use Rattle.rx_determinize.specs.Constructions.{IsWrittenOver, Work, keys_in}
+use Rattle.rx_determinize.specs.Filling.{AreWritten, Grows, IsEntering, IsFilling}
+use Rattle.rx_determinize.proofs.ContinuesLaws.{continues_over, serves_later, started_over, written_over}
 use Rattle.rx_determinize.proofs.RowIds.{row_id}
 use Rattle.rx_determinize.proofs.WorkListLaws.{row_stays, old_key, slice_get-append, does}
-use Rattle.rx_determinize.specs.Determinized.{classes_of}
 use Rattle.rx_determinize.proofs.ColumnLaws.{unit_in, unit_column, same_column}
 use Rattle.rx_determinize.proofs.CellLaws.{next_more, next_kept, next_set}
-
--- only words are written
-pub written_over : (l m : Layout) (words : List ℕ) → m ≡ record l { words = words } → IsWrittenOver l m
-written_over l m words is =
-    is ∙ ap (λ (ws : List ℕ). record l { words = ws }) (sym (ap (λ (n : Layout). n.words) is))
 
 pub adds_over : {met after : Met} {l m : Layout} {key : List ℕ} {id : ℕ} → Adds met l key after m id → IsWrittenOver l m
 adds_over {met} {after} {l} {m} adds = at adds.interns.is_new adds.layout
@@ -67,13 +63,11 @@ module _ (k : Keying) {met : Met} {l : Layout} {after : Met} {m : Layout} (grows
       (sym (ap (map k.state_of) grows.keys ∙ map-append k.state_of met.keys grows.more))
       (row_stays (states_of k met) (map k.state_of grows.more) node row is_row)
 
-  pub entering_kept : {limits : SizeLimits} {set done : ℕ} → AreRows m → IsWorking k limits after m
-      → IsEntering k limits met l set done → IsEntering k limits after m set done
-  entering_kept {limits} {set} {done} rows working old =
-      let count = old.working.count in
+  pub written_kept : {limits : SizeLimits} {set done : ℕ} → IsWorking k limits met l → IsWorking k limits after m
+      → AreWritten k met l set done → AreWritten k after m set done
+  written_kept {limits} {set} {done} before working old =
+      let count = before.count in
       record {
-        rows = rows;
-        working = working;
         within = omega (arith, ap length grows.keys, length-append met.keys grows.more, old.within);
         list = record {
           reached = working.reached;
@@ -131,32 +125,32 @@ pub record IsRewritten (l : Layout) (place : ℕ) (m : Layout) : Type 0 where
       → (machine_of m).next row unit ≡ (machine_of l).next row unit
 
 module _ {l : Layout} {place : ℕ} {m : Layout} (is : IsRewritten l place m) where
-  pub entering_rewritten : {k : Keying} {limits : SizeLimits} {met : Met} {starts : ℕ} → place < length met.keys
-      → IsEntering k limits met l starts place → IsEntering k limits met m starts place
-  entering_rewritten {k} {limits} {met} {starts} place_in old =
-      let count = old.working.count in
-      record {
-        rows = is.rows;
-        working = subst (IsWorking k limits met) (sym is.over) (working_over old.working);
-        within = old.within;
-        list = record {
-          reached = old.list.reached;
-          steps = λ id key there lt unit is_unit.
-              subst (IsRowOf (states_of k met) (next_node k.build (Running (k.state_of key)) unit))
-              (sym (is.others (id + 2) unit (omega (arith, count, place_in, lt)) is_unit (λ e. absurd (omega arith))))
-              (old.list.steps id key there lt unit is_unit);
-        };
-        starts = λ mode start lt.
-            subst (IsRowOf (states_of k met) (built_entry k.build mode start))
-            (sym (ap (λ (n : Layout). entry_in n mode start) is.over)) (old.starts mode start lt);
-        dead_stays = λ unit is_unit.
-            is.others 0 unit (omega (arith, count)) is_unit (λ e. absurd (omega arith)) ∙ old.dead_stays unit is_unit;
-        quit_ends = λ unit is_unit.
-            is.others 1 unit (omega (arith, count)) is_unit (λ e. absurd (omega arith)) ∙ old.quit_ends unit is_unit;
-      }
+  pub written_beside : {k : Keying} {met : Met} {set done : ℕ} → done ≤ place → place < length met.keys
+      → row_count l ≡ length met.keys + 2 → AreWritten k met l set done → AreWritten k met m set done
+  written_beside {k} {met} before place_in count old = record {
+    within = old.within;
+    list = record {
+      reached = old.list.reached;
+      steps = λ id key there lt unit is_unit.
+          subst (IsRowOf (states_of k met) (next_node k.build (Running (k.state_of key)) unit))
+          (sym (is.others (id + 2) unit (omega (arith, count, place_in, lt, before)) is_unit
+          (λ e. absurd (omega arith)))) (old.list.steps id key there lt unit is_unit);
+    };
+    starts = λ mode start lt.
+        subst (IsRowOf (states_of k met) (built_entry k.build mode start))
+        (sym (ap (λ (n : Layout). entry_in n mode start) is.over)) (old.starts mode start lt);
+    dead_stays = λ unit is_unit.
+        is.others 0 unit (omega (arith, count)) is_unit (λ e. absurd (omega arith)) ∙ old.dead_stays unit is_unit;
+    quit_ends = λ unit is_unit.
+        is.others 1 unit (omega (arith, count)) is_unit (λ e. absurd (omega arith)) ∙ old.quit_ends unit is_unit;
+  }
+
+  working_beside : {k : Keying} {limits : SizeLimits} {met : Met} → IsWorking k limits met l
+      → IsWorking k limits met m
+  working_beside {k} {limits} {met} w = subst (IsWorking k limits met) (sym is.over) over
     where
-      working_over : IsWorking k limits met l → IsWorking k limits met (record l { words = m.words })
-      working_over w = record {
+      over : IsWorking k limits met (record l { words = m.words })
+      over = record {
         bare = record { slices = w.bare.slices; pattern_ids = w.bare.pattern_ids; accels = w.bare.accels };
         count = ap (λ n. n / stride l) is.count ∙ w.count;
         distinct = w.distinct;
@@ -167,6 +161,20 @@ module _ {l : Layout} {place : ℕ} {m : Layout} (is : IsRewritten l place m) wh
         few_patterns = w.few_patterns;
         table = λ some. limit_kept limits.table (w.table some) (ap (λ n. 4 * (n + length l.starts + 1)) is.count);
         construction = w.construction;
+      }
+
+  -- the rows that are written are those before it
+  pub entering_beside : {w : Work} {set : ℕ} → place < length w.met.keys → IsEntering w l set place
+      → IsEntering w m set place
+  entering_beside {w} {set} place_in old =
+      let same : keys_in w m ≡ keys_in w l = ap (keying w.stepping) is.over in
+      record {
+        serves =
+            serves_later (continues_over w (started_over is.over)) old.serves is.rows
+            (subst (λ (k : Keying). IsWorking k w.limits w.met m) (sym same) (working_beside old.serves.working));
+        written =
+            subst (λ (k : Keying). AreWritten k w.met m set place) (sym same)
+            (written_beside (omega arith) place_in old.serves.working.count old.written);
       }
 
 -- ---- a cell that is set
@@ -247,36 +255,38 @@ module _ {l : Layout} {place unit id : ℕ} {m : Layout} (set : IsSet l place un
           (subst (IsRowOf (states_of k met) (next_node k.build (Running state) unit)) (sym led) is_row)
 
 -- A state whose row is ready in each column is done.
-pub filled : {k : Keying} {limits : SizeLimits} {met : Met} {l : Layout} {set place : ℕ} {state : State}
-    {ready : ℕ → Type 0} (byte_classes : Bool)
-    → l.classes ≡ classes_of k.build.nfa k.build.quit byte_classes → IsEntering k limits met l set place
-    → ((c : ℕ) → c < alphabet_len l.classes → ready c) → IsFilling k met l place state ready
-    → IsEntering k limits met l set (place + 1)
-filled {k} {limits} {met} {l} {set} {place} {state} {ready} byte_classes is old all row =
-    let there = slice_get_within met.keys place row.key row.here in
+pub filled : {w : Work} {l : Layout} {set place : ℕ} {state : State} {ready : ℕ → Type 0} → IsEntering w l set place
+    → ((c : ℕ) → c < alphabet_len l.classes → ready c) → IsFilling (keys_in w l) w.met l place state ready
+    → IsEntering w l set (place + 1)
+filled {w} {l} {set} {place} {state} {ready} old all row =
+    let there = slice_get_within w.met.keys place row.key row.here in
     record {
-      rows = old.rows;
-      working = old.working;
-      within = omega arith;
-      list = does old.list row.here known;
-      starts = old.starts;
-      dead_stays = old.dead_stays;
-      quit_ends = old.quit_ends;
+      serves = old.serves;
+      written = record {
+        within = omega arith;
+        list = does old.written.list row.here known;
+        starts = old.written.starts;
+        dead_stays = old.written.dead_stays;
+        quit_ends = old.written.quit_ends;
+      };
     }
   where
     known : (unit : ℕ) → unit < 257
-        → IsRowOf (states_of k met) (next_node k.build (Running (k.state_of row.key)) unit) (next_in l place unit)
+        → IsRowOf (states_of (keys_in w l) w.met)
+        (next_node (keys_in w l).build (Running (w.stepping.state_of row.key)) unit) (next_in l place unit)
     known unit is_unit =
+        let k = keys_in w l in
+        let s = old.serves in
         let c = column l unit in
         let other = unit_of l.classes c in
-        let within : c < alphabet_len l.classes = column_within l old.rows.classes unit is_unit in
-        let other_in = unit_in l old.rows.classes c within in
-        let same : column l other ≡ column l unit = unit_column l old.rows.classes c within in
+        let within : c < alphabet_len l.classes = column_within l s.rows.classes unit is_unit in
+        let other_in = unit_in l s.rows.classes c within in
+        let same : column l other ≡ column l unit = unit_column l s.rows.classes c within in
         let node : next_node k.build (Running state) other ≡ next_node k.build (Running (k.state_of row.key)) unit =
-        same_column l k.build byte_classes is (Running state) other unit other_in is_unit same
+        same_column l k.build s.byte_classes s.are_classes (Running state) other unit other_in is_unit same
         ∙ ap (λ (s : State). next_node k.build (Running s) unit) (sym row.stands) in
         let led : next_in l place other ≡ next_in l place unit =
         ap (λ n. get_or l.words ((place + 2) * stride l + n) 0 / stride l) same in
-        subst (λ (n : Node). IsRowOf (states_of k met) n (next_in l place unit)) node
-        (subst (IsRowOf (states_of k met) (next_node k.build (Running state) other)) led
+        subst (λ (n : Node). IsRowOf (states_of k w.met) n (next_in l place unit)) node
+        (subst (IsRowOf (states_of k w.met) (next_node k.build (Running state) other)) led
         (row.cells c within (all c within)))

@@ -10,6 +10,8 @@ pub mod CellLaws
 pub mod ColumnLaws
 -- the classes with which a table is begun
 pub mod Columns
+-- a construction that goes on
+pub mod ContinuesLaws
 -- rows that are written
 pub mod FillingLaws
 -- the state to which a column leads

@@ -22,14 +22,16 @@ use Rattle.rx_build_error.specs.Refusals.{IsRefused, TableRefused}
 use Rattle.rx_build_error.specs.declared.BuildErrorKind.{BuildErrorKind}
 use Rattle.rx_expr.specs.NfaRows.{NamesPatterns}
 use Rattle.rx_order.specs.Ordering.{Matches}
-use Rattle.rx_stepper.specs.Stepping.{SpellStates, Stepping}
+use Rattle.rx_stepper.specs.Stepping.{HasOneKeyEach, SpellStates, Stepping}
+use Rattle.rx_determinize.specs.Constructions.{AreUnits, Continues, IsRefusal, Work, keys_in}
 use Rattle.rx_determinize.specs.Determinized.{IsBegunWith, Settings, build_in, classes_of, limits_of}
 use Rattle.rx_determinize.specs.Building.{HasStates}
-use Rattle.rx_determinize.specs.Filling.{IsEntering, IsStartedOver}
+use Rattle.rx_determinize.specs.Filling.{AreWritten, HasEntries, IsEntering}
 use Rattle.rx_determinize.specs.Matching.{AreLabels}
-use Rattle.rx_determinize.specs.Working.{none_met, IsOver, Keying, Met, SizeLimits, keying, states_of}
+use Rattle.rx_determinize.specs.Working.{none_met, IsOver, IsWorking, Keying, Met, SizeLimits, keying, states_of}
+use Rattle.rx_determinize.proofs.ContinuesLaws.{same_keys}
 use Rattle.rx_determinize.proofs.BuiltLaws.{IsBuilt, has_states, reached, rows_count, states_count}
-use Rattle.rx_determinize.proofs.StartLaws.{entering_begun}
+use Rattle.rx_determinize.proofs.StartLaws.{working_begun, written_begun}
 
 -- the limits of settings
 abbrev pub limits_in : Settings → SizeLimits
@@ -50,14 +52,18 @@ beginning_of nfa settings byte_classes l = record {
   flags = l.flags;
 }
 
--- a table that is begun, and what steps states for it
-pub record Begins (s : Stepping) (nfa : Nfa) (settings : Settings) (byte_classes : Bool) (l : Layout) : Type 0 where
+-- a table that is begun, and the construction for it
+pub record Begins (w : Work) (nfa : Nfa) (settings : Settings) (byte_classes : Bool) (l : Layout) : Type 0 where
   pub begun : IsBegunWith nfa settings byte_classes l
-  pub nfa_is : s.nfa ≡ nfa
-  pub kind_is : s.kind ≡ settings.match_kind
+  pub nfa_is : w.stepping.nfa ≡ nfa
+  pub kind_is : w.stepping.kind ≡ settings.match_kind
+  pub limits_are : w.limits ≡ limits_in settings
 
-module _ {s : Stepping} {nfa : Nfa} {settings : Settings} {byte_classes : Bool} {l : Layout}
-    (x : Begins s nfa settings byte_classes l) where
+module _ {w : Work} {nfa : Nfa} {settings : Settings} {byte_classes : Bool} {l : Layout}
+    (x : Begins w nfa settings byte_classes l) where
+  abbrev s : Stepping
+  s = w.stepping
+
   abbrev b : Build
   b = build_in nfa settings l
 
@@ -88,11 +94,26 @@ module _ {s : Stepping} {nfa : Nfa} {settings : Settings} {byte_classes : Bool} 
       subst AreRows (sym x.begun) (shaped_initial beginning (subst AreClasses same are) few).rows
 
   -- no state was met
-  pub begun_entering : (limits : SizeLimits) (met : Met) → met ≡ none_met → AreClasses l.classes
-      → NamesPatterns (length nfa.start_patterns) nfa.rows → IsEntering (keying s l) limits met l 0 0
-  begun_entering limits met none are names =
-      subst (λ (m : Met). IsEntering (keying s l) limits m l 0 0) (sym none)
-      (entering_begun (keying s l) limits beginning l x.begun (begun_rows are names))
+  pub begun_entering : w.met ≡ none_met → AreClasses l.classes → AreUnits w.units l.classes
+      → s.classes ≡ l.classes → HasOneKeyEach s → SpellStates s
+      → NamesPatterns (length nfa.start_patterns) nfa.rows → IsEntering w l 0 0
+  begun_entering none are units classes one_key spells names = record {
+    serves = record {
+      rows = begun_rows are names;
+      working =
+          subst (λ (m : Met). IsWorking (keys_in w l) w.limits m l) (sym none)
+          (working_begun (keys_in w l) w.limits beginning l x.begun);
+      byte_classes = byte_classes;
+      are_classes = classes_are;
+      classes = classes;
+      units = units;
+      one_key = one_key;
+      spells = spells;
+    };
+    written =
+        subst (λ (m : Met). AreWritten (keys_in w l) m l 0 0) (sym none)
+        (written_begun (keys_in w l) beginning l x.begun);
+  }
 
   -- ---- sizes
 
@@ -109,27 +130,18 @@ module _ {s : Stepping} {nfa : Nfa} {settings : Settings} {byte_classes : Bool} 
       ∙ length-replicate _ 0
       ∙ ap (λ (n : Layout). start_entries n.pattern_starts) (sym x.begun)
 
-  pub patterns_are : (n : ℕ) → l.pattern_starts ≡ Some n → n ≡ length s.nfa.start_patterns
-  patterns_are n e =
-      at (is_some l.pattern_starts) (sym (ap (λ (k : Layout). k.pattern_starts) x.begun) ∙ e)
-      ∙ ap (λ (m : Nfa). length m.start_patterns) (sym x.nfa_is)
+  pub has_entries : HasEntries (length nfa.start_patterns) l
+  has_entries = record {
+    count = entries_are;
+    own =
+        subst (λ (o : Option ℕ). IfSome o (λ n. n ≡ length nfa.start_patterns))
+        (sym (ap (λ (n : Layout). n.pattern_starts) x.begun)) (at (is_some l.pattern_starts));
+  }
     where
-      at : (c : Bool) → (if c then Some (length nfa.start_patterns) else None) ≡ Some n → n ≡ length nfa.start_patterns
-      at true e = cc
-      at false e = absurd (cc)
-
-  pub start_patterns_are : IfSome l.pattern_starts (λ n. n ≡ length nfa.start_patterns)
-  start_patterns_are =
-      at l.pattern_starts (λ n e. patterns_are n e ∙ ap (λ (m : Nfa). length m.start_patterns) x.nfa_is)
-    where
-      at : (o : Option ℕ) → ((n : ℕ) → o ≡ Some n → n ≡ length nfa.start_patterns)
-          → IfSome o (λ n. n ≡ length nfa.start_patterns)
-      at None f = tt
-      at (Some n) f = f n refl
-
-  pub all_patterns : l.pattern_len ≡ length s.nfa.start_patterns
-  all_patterns =
-      ap (λ (n : Layout). n.pattern_len) x.begun ∙ ap (λ (m : Nfa). length m.start_patterns) (sym x.nfa_is)
+      at : (c : Bool) → IfSome (if c then Some (length nfa.start_patterns) else None)
+          (λ n. n ≡ length nfa.start_patterns)
+      at true = refl
+      at false = tt
 
   starts_are : length l.starts ≡ sizes.start_entries b
   starts_are =
@@ -143,11 +155,11 @@ module _ {s : Stepping} {nfa : Nfa} {settings : Settings} {byte_classes : Bool} 
 
   -- ---- a build that is refused
 
-  pub refused : (kind : BuildErrorKind) → (IsUnsupported b → ⊥) → IsOver (keying s l) (limits_in settings) l kind
+  pub refused : (kind : BuildErrorKind) → (IsUnsupported b → ⊥) → IsRefusal w l kind
       → IsRefused (TableRefused (limits_of settings byte_classes) b) kind
   refused kind supported over =
       at kind (subst (λ (other : Build). IsOver (record (keying s l) { build = other }) (limits_in settings) l kind)
-      build_is over)
+      build_is (subst (λ (limits : SizeLimits). IsOver (keying s l) limits l kind) x.limits_are over))
     where
       k : Keying
       k = record { build = b; is_key = s.is_key; state_of = s.state_of }
@@ -174,41 +186,52 @@ module _ {s : Stepping} {nfa : Nfa} {settings : Settings} {byte_classes : Bool} 
   -- ---- a build that is done
 
   -- what the construction leaves
-  pub built_of : {met : Met} (m : Layout) {limits : SizeLimits} → IsStartedOver l m
-      → IsEntering (keying s m) limits met m (length m.starts) (length met.keys) → SpellStates s
-      → NamesPatterns (length nfa.start_patterns) nfa.rows → IsBuilt s limits met m
-  built_of {met} m {limits} over entering spells names =
-      let own = ap (λ (n : Layout). n.pattern_starts) over.rest in
+  pub built_of : {v : Work} {m : Layout} → Continues w l v m → IsEntering v m (length m.starts) (length v.met.keys)
+      → NamesPatterns (length nfa.start_patterns) nfa.rows → IsBuilt v m
+  built_of {v} {m} later entering names =
+      let own = ap (λ (n : Layout). n.pattern_starts) later.over.rest in
+      let same : v.stepping.nfa ≡ nfa = ap (λ (t : Stepping). t.nfa) later.stepping ∙ x.nfa_is in
       record {
         entering = entering;
-        spells = spells;
-        named =
-            subst (λ (n : Nfa). NamesPatterns (length n.start_patterns) n.rows) (sym x.nfa_is) names;
-        pattern_len = ap (λ (n : Layout). n.pattern_len) over.rest ∙ all_patterns;
-        entries = over.count ∙ entries_are ∙ ap start_entries (sym own);
-        patterns = λ n e. patterns_are n (sym own ∙ e);
+        named = subst (λ (n : Nfa). NamesPatterns (length n.start_patterns) n.rows) (sym same) names;
+        pattern_len =
+            ap (λ (n : Layout). n.pattern_len) later.over.rest ∙ ap (λ (n : Layout). n.pattern_len) x.begun
+            ∙ ap (λ (n : Nfa). length n.start_patterns) (sym same);
+        entries =
+            subst (λ (n : Nfa). HasEntries (length n.start_patterns) m) (sym same)
+            (record {
+              count = later.over.count ∙ has_entries.count ∙ ap start_entries (sym own);
+              own =
+                  subst (λ (o : Option ℕ). IfSome o (λ n. n ≡ length nfa.start_patterns)) (sym own) has_entries.own;
+            });
       }
 
-  module _ {met : Met} {m : Layout} (over : IsStartedOver l m) (built : IsBuilt s (limits_in settings) met m) where
-    abbrev states : List State
-    states = states_of (keying s m) met
+  module _ {v : Work} {m : Layout} (later : Continues w l v m) (built : IsBuilt v m) where
+    abbrev met : Met
+    met = v.met
 
-    same_build : (keying s m).build ≡ b
-    same_build = ap (λ (n : Layout). (keying s n).build) over.rest ∙ build_is
+    abbrev states : List State
+    states = states_of (keys_in v m) met
+
+    same_build : (keys_in v m).build ≡ b
+    same_build = ap (λ (k : Keying). k.build) (same_keys later) ∙ build_is
+
+    limits_then : v.limits ≡ limits_in settings
+    limits_then = later.limits ∙ x.limits_are
 
     all_reached : AreReached b states
     all_reached = subst (λ (c : Build). AreReached c states) same_build (reached built)
 
     width : stride m ≡ build_stride b byte_classes
-    width = ap stride over.rest ∙ stride_is
+    width = ap stride later.over.rest ∙ stride_is
 
     starts : length m.starts ≡ sizes.start_entries b
-    starts = over.count ∙ starts_are
+    starts = later.over.count ∙ starts_are
 
     words : (length states + 2) * build_stride b byte_classes ≡ length m.words
     words =
         ap₂ (λ (n w : ℕ). n * w) (sym (rows_count built)) (sym width)
-        ∙ omega (arith, div-add-mod' (length m.words) (stride m), built.entering.rows.whole)
+        ∙ omega (arith, div-add-mod' (length m.words) (stride m), built.entering.serves.rows.whole)
 
     keys : length states ≡ length met.keys
     keys = states_count built
@@ -222,15 +245,15 @@ module _ {s : Stepping} {nfa : Nfa} {settings : Settings} {byte_classes : Bool} 
       states = λ e.
           let w : ℕ = build_stride b byte_classes in
           let passed = (exceeds_exactly b (λ xs. last_id (length xs) w) max_id states (ids_grow w) all_reached).0 e in
-          absurd (omega (arith, passed.1, words, width, built.entering.rows.few));
+          absurd (omega (arith, passed.1, words, width, built.entering.serves.rows.few));
       rows = λ _ e. absurd (cc e.0);
       patterns = λ e.
           let passed = (exceeds_exactly b label_total max_id states labels_grow all_reached).0 e in
           absurd (omega (
             arith,
             passed.1,
-            built.entering.working.patterns,
-            built.entering.working.few_patterns,
+            built.entering.serves.working.patterns,
+            built.entering.serves.working.few_patterns,
           ));
       table = λ limit is e.
           let w : ℕ = build_stride b byte_classes in
@@ -238,15 +261,17 @@ module _ {s : Stepping} {nfa : Nfa} {settings : Settings} {byte_classes : Bool} 
           let passed = (exceeds_exactly b (λ xs. table_size (length xs) w n) limit states (table_grows w n)
           all_reached).0 e in
           let some : 0 < length met.keys = omega (arith, passed.0, keys) in
-          let low = at_limit (limits_in settings).table limit (4 * (length m.words + length m.starts + 1)) is
-          (built.entering.working.table some) in
+          let low = at_limit v.limits.table limit (4 * (length m.words + length m.starts + 1))
+          (ap (λ (c : SizeLimits). c.table) limits_then ∙ is)
+          (built.entering.serves.working.table some) in
           absurd (omega (arith, passed.1, words, starts, low));
       construction = λ limit is e.
           let passed = (exceeds_exactly b determinizer_size limit states determinizer_grows all_reached).0 e in
           let some : 0 < length met.keys = omega (arith, passed.0, keys) in
-          let low = at_limit (limits_in settings).construction limit met.size is
-          (built.entering.working.construction some) in
-          absurd (omega (arith, passed.1, built.entering.working.size, low));
+          let low = at_limit v.limits.construction limit met.size
+          (ap (λ (c : SizeLimits). c.construction) limits_then ∙ is)
+          (built.entering.serves.working.construction some) in
+          absurd (omega (arith, passed.1, built.entering.serves.working.size, low));
     }
       where
         at_limit : (o : Option ℕ) (limit size : ℕ) → o ≡ Some limit → IfSome o (λ most. size ≤ most) → size ≤ limit

@@ -1,6 +1,6 @@
 -- Rows that begin as those of models.
 use Rattle.std.proofs.Common.{◌≡◌, ℕ, ◌+◌, ◌*◌, ◌<◌, ◌≤◌, true, false, Option, None, Some, List, []}
-use Rattle.std.proofs.Common.{append_assoc, ◌++◌, length, replicate, set, refl, ap, sym, ◌∙◌, subst, arith, inl, inr}
+use Rattle.std.proofs.Common.{length, replicate, set, refl, ap, sym, ◌∙◌, subst, arith, inl, inr}
 use Rattle.std.proofs.Common.{⊎_elim}
 use Rattle.std.proofs.lemmas.Bool.{cases_eq, cases_lt}
 use Rattle.std.proofs.lemmas.Grind.{get_or-set_at}
@@ -15,13 +15,15 @@ use Rattle.rx_base.specs.ByteClasses.{alphabet_len}
 use Rattle.rx_dense.specs.Builder.{IsCopied}
 use Rattle.rx_dense.specs.Layouts.{Layout, AreRows, machine_of, stride}
 use Rattle.rx_stepper.specs.Stepping.{IsAlone, Stepping, lone_state, stepped, unit_of}
-use Rattle.rx_determinize.specs.Filling.{IsEntering, IsReady, IsStepping, IsWrittenOver, Progress}
-use Rattle.rx_determinize.specs.Models.{AreModels, Extends, IsAllAlone, IsModel, kept_in, model_row}
+use Rattle.rx_determinize.specs.Constructions.{Continues, IsWrittenOver, Serves, Work, keys_in}
+use Rattle.rx_determinize.specs.Filling.{IsEntering, IsReady, IsStepping, begun_at, none_stepped}
+use Rattle.rx_determinize.specs.Models.{AreModels, IsAllAlone, IsKeyAt, IsModel, kept_in, model_row}
 use Rattle.rx_determinize.specs.WorkLists.{IsRowOf, nodes}
-use Rattle.rx_determinize.specs.Working.{Keying, Met, SizeLimits, keying, states_of}
+use Rattle.rx_determinize.specs.Working.{Keying, Met, keying, states_of}
 use Rattle.rx_determinize.proofs.CellLaws.{next_beside, next_copied}
 use Rattle.rx_determinize.proofs.ColumnLaws.{unit_in}
-use Rattle.rx_determinize.proofs.FillingLaws.{IsRewritten, entering_rewritten}
+use Rattle.rx_determinize.proofs.ContinuesLaws.{same_keys}
+use Rattle.rx_determinize.proofs.FillingLaws.{IsRewritten, entering_beside}
 use Rattle.rx_determinize.proofs.NextLaws.{goes_on, in_true, leads_on}
 use Rattle.rx_determinize.proofs.SteppingLaws.{current_reached}
 use Rattle.rx_determinize.proofs.WorkListLaws.{slice_get-append}
@@ -45,17 +47,12 @@ models_none k met l done models none context place kept =
     (cases_lt context 32))
     (ap (λ (ms : List (Option ℕ)). slice_index_or ms context None) (sym none) ∙ kept))
 
-pub extends_twice : (keys more all : List (List ℕ)) → Extends keys more → Extends more all → Extends keys all
-extends_twice keys more all first second = (
-  first.0 ++ second.0,
-  second.1 ∙ ap (λ (ks : List (List ℕ)). ks ++ second.0) first.1 ∙ append_assoc keys first.0 second.0,
-)
-
 -- more states are met, and the row of one more is written
-pub models_kept : {k : Keying} {met after : Met} {l m : Layout} (models : List (Option ℕ)) (done : ℕ)
-    → Extends met.keys after.keys → IsWrittenOver l m → AreModels k met l models done
-    → AreModels k after m models (done + 1)
-models_kept {k} {met} {after} {l} {m} models done more over are context row kept =
+pub models_later : {w v : Work} {l m : Layout} (models : List (Option ℕ)) (done : ℕ) → Continues w l v m
+    → AreModels (keys_in w l) w.met l models done → AreModels (keys_in v m) v.met m models (done + 1)
+models_later {w} {v} {l} {m} models done later are =
+    let k = keys_in w l in
+    subst (λ (j : Keying). AreModels j v.met m models (done + 1)) (sym (same_keys later)) (λ context row kept.
     let was = are context row kept in
     let model = was.1 in
     let In = λ (n : Layout). (column : ℕ) → column < alphabet_len n.classes
@@ -68,11 +65,11 @@ models_kept {k} {met} {after} {l} {m} models done more over are context row kept
         row_is = model.row_is;
         key = model.key;
         here =
-            subst (λ (ks : List (List ℕ)). slice_get ks model.place ≡ Some model.key) (sym more.1)
-            (slice_get-append met.keys more.0 model.place model.key model.here);
-        steps = subst In (sym over) model.steps;
+            subst (λ (ks : List (List ℕ)). slice_get ks model.place ≡ Some model.key) (sym later.keys.1)
+            (slice_get-append w.met.keys later.keys.0 model.place model.key model.here);
+        steps = subst In (sym later.over.rest) model.steps;
       },
-    )
+    ))
 
 -- one more is kept
 pub model_added : {k : Keying} {met : Met} {l : Layout} (models : List (Option ℕ)) (led_in : Option ℕ) (done row : ℕ)
@@ -97,22 +94,23 @@ model_added {k} {met} {l} models (Some context) done row below is are = λ other
     (cases_eq other context)
 
 -- a state that goes on by no rows of its own is one
-pub model_of_alone : {s : Stepping} {met : Met} {l : Layout} {key : List ℕ} (place : ℕ)
-    → slice_get met.keys place ≡ Some key → s.current ≡ s.state_of key → s.classes ≡ l.classes → IsAllAlone s l
-    → (context : ℕ) → s.led_in ≡ Some context → IsModel (keying s l) met l context (place + 2)
-model_of_alone {s} {met} {l} {key} place here current classes alone context led_in = record {
-  place = place;
-  row_is = refl;
-  key = key;
-  here = here;
-  steps = λ column low stays.
-      let Is = λ (o : Option ℕ). MatchOption o (is_dead_state (stepped s column) ≡ true) (λ c.
-      (c < 32) × (stepped s column ≡ lone_state s.nfa s.kind s.classes c column)) in
-      let alike = subst Is led_in (alone column low) in
-      ap (λ (t : State). step s.nfa s.kind t (unit_of l.classes column)) (sym current)
-      ∙ ap (λ (cs : List ℕ). step s.nfa s.kind s.current (unit_of cs column)) (sym classes) ∙ alike.1
-      ∙ ap (λ (cs : List ℕ). lone_state s.nfa s.kind cs context column) classes;
-}
+pub model_of_alone : {w : Work} {l : Layout} (place : ℕ) → IsKeyAt w place → Serves w l → IsAllAlone w.stepping l
+    → (context : ℕ) → w.stepping.led_in ≡ Some context → IsModel (keys_in w l) w.met l context (place + 2)
+model_of_alone {w} {l} place at serves alone context led_in =
+    let s = w.stepping in
+    record {
+      place = place;
+      row_is = refl;
+      key = at.key;
+      here = at.here;
+      steps = λ column low stays.
+          let Is = λ (o : Option ℕ). MatchOption o (is_dead_state (stepped s column) ≡ true) (λ c.
+          (c < 32) × (stepped s column ≡ lone_state s.nfa s.kind s.classes c column)) in
+          let alike = subst Is led_in (alone column low) in
+          ap (λ (t : State). step s.nfa s.kind t (unit_of l.classes column)) (sym at.current)
+          ∙ ap (λ (cs : List ℕ). step s.nfa s.kind s.current (unit_of cs column)) (sym serves.classes) ∙ alike.1
+          ∙ ap (λ (cs : List ℕ). lone_state s.nfa s.kind cs context column) serves.classes;
+    }
 
 -- the row of a model is written
 pub model_before : {k : Keying} {met : Met} {l : Layout} (models : List (Option ℕ)) (done : ℕ) {row : ℕ}
@@ -121,55 +119,68 @@ pub model_before : {k : Keying} {met : Met} {l : Layout} (models : List (Option 
 model_before models done None are is = omega (arith, some_is is)
 model_before models done {row} (Some context) are is = (are context row is).0
 
-module _ (s : Stepping) {limits : SizeLimits} {met : Met} (l : Layout) {set done : ℕ} (models : List (Option ℕ))
-    (entering : IsEntering (keying s l) limits met l set done) (are : AreModels (keying s l) met l models done) where
-  module _ (classes : s.classes ≡ l.classes) (reached : IsReached (keying s l).build s.current) (column : ℕ)
-      (low : column < alphabet_len l.classes) (stays : contains l.quit (unit_of l.classes column) ≡ false) where
-    abbrev unit : ℕ
-    unit = unit_of l.classes column
+module _ {w : Work} {l : Layout} {set done : ℕ} (models : List (Option ℕ)) (entering : IsEntering w l set done)
+    (are : AreModels (keys_in w l) w.met l models done) where
+  -- the state of a place steps to the node that a row of the table stands for
+  state_row : (place : ℕ) (key : List ℕ) → slice_get w.met.keys place ≡ Some key → place < done → (column : ℕ)
+      → column < alphabet_len l.classes → contains l.quit (unit_of l.classes column) ≡ false
+      → IsRowOf (states_of (keys_in w l) w.met)
+      (Running (step w.stepping.nfa w.stepping.kind (w.stepping.state_of key) (unit_of l.classes column)))
+      ((machine_of l).next (place + 2) (unit_of l.classes column))
+  state_row place key here below column low stays =
+      let b = (keys_in w l).build in
+      let state = w.stepping.state_of key in
+      let unit = unit_of l.classes column in
+      let serves = entering.serves in
+      let found : IsReached b state =
+      subst (λ (k : List ℕ). IsReached b (w.stepping.state_of k)) (get_or_from_slice_get w.met.keys place key [] here)
+      (All-get_or (λ k. IsReached b (w.stepping.state_of k)) w.met.keys place []
+      (slice_get_within w.met.keys place key here) serves.working.reached) in
+      subst (λ (n : Node). IsRowOf (states_of (keys_in w l) w.met) n ((machine_of l).next (place + 2) unit))
+      (goes_on b state unit found.alive stays)
+      (entering.written.list.steps place key here below unit (unit_in l serves.rows.classes column low))
 
-    abbrev states : List State
-    states = states_of (keying s l) met
-
-    -- the state of a place steps to the node that a row of the table stands for
-    state_row : (place : ℕ) (key : List ℕ) → slice_get met.keys place ≡ Some key → place < done
-        → IsRowOf states (Running (step s.nfa s.kind (s.state_of key) unit)) ((machine_of l).next (place + 2) unit)
-    state_row place key here below =
-        let b = (keying s l).build in
-        let found : IsReached b (s.state_of key) =
-        subst (λ (k : List ℕ). IsReached b (s.state_of k)) (get_or_from_slice_get met.keys place key [] here)
-        (All-get_or (λ k. IsReached b (s.state_of k)) met.keys place [] (slice_get_within met.keys place key here)
-        entering.working.reached) in
-        subst (λ (n : Node). IsRowOf states n ((machine_of l).next (place + 2) unit))
-        (goes_on b (s.state_of key) unit found.alive stays)
-        (entering.list.steps place key here below unit (unit_in l entering.rows.classes column low))
-
-    -- The model's row leads by a column by which no rows of the state's own go on where the state leads.
-    pub model_leads : {row : ℕ} → model_row models s.led_in ≡ Some row → IsAlone s column
-        → IsRowOf states (next_node (keying s l).build (Running s.current) unit) ((machine_of l).next row unit)
-    model_leads {row} is alone =
-        subst (λ (n : Node). IsRowOf states n ((machine_of l).next row unit))
-        (sym (leads_on s l entering.rows classes reached column low stays)) (by s.led_in is alone)
-      where
-        by : (o : Option ℕ) → model_row models o ≡ Some row
-            → MatchOption o (is_dead_state (stepped s column) ≡ true) (λ c.
-            (c < 32) × (stepped s column ≡ lone_state s.nfa s.kind s.classes c column))
-            → IsRowOf states (Running (stepped s column)) ((machine_of l).next row unit)
-        by None zero dead =
-            let ends : (machine_of l).next row unit ≡ 0 =
-            ap (λ r. (machine_of l).next r unit) (sym (some_is zero))
-            ∙ entering.dead_stays unit (unit_in l entering.rows.classes column low) in
-            subst (IsRowOf states (Running (stepped s column))) (sym ends)
-            (in_true (slice_get (nodes states) 0 ≡ Some (Running (stepped s column))) (is_dead_state (stepped s column))
-            dead refl)
-        by (Some context) some lone =
-            let model = (are context row some).1 in
-            let same : step s.nfa s.kind (s.state_of model.key) unit ≡ stepped s column =
-            model.steps column low stays
-            ∙ ap (λ (cs : List ℕ). lone_state s.nfa s.kind cs context column) (sym classes) ∙ sym lone.1 in
-            subst (λ r. IsRowOf states (Running (stepped s column)) ((machine_of l).next r unit)) (sym model.row_is)
-            (subst (λ (t : State). IsRowOf states (Running t) ((machine_of l).next (model.place + 2) unit)) same
-            (state_row model.place model.key model.here (omega (arith, (are context row some).0, model.row_is))))
+  -- The model's row leads by a column by which no rows of the state's own go on where the state leads.
+  pub model_leads : IsReached (keys_in w l).build w.stepping.current → (column : ℕ)
+      → column < alphabet_len l.classes → contains l.quit (unit_of l.classes column) ≡ false → {row : ℕ}
+      → model_row models w.stepping.led_in ≡ Some row → IsAlone w.stepping column
+      → IsRowOf (states_of (keys_in w l) w.met)
+      (next_node (keys_in w l).build (Running w.stepping.current) (unit_of l.classes column))
+      ((machine_of l).next row (unit_of l.classes column))
+  model_leads reached column low stays {row} is alone =
+      subst (λ (n : Node). IsRowOf (states_of (keys_in w l) w.met) n
+      ((machine_of l).next row (unit_of l.classes column)))
+      (sym (leads_on w.stepping l entering.serves.rows entering.serves.classes reached column low stays))
+      (by w.stepping.led_in is alone)
+    where
+      by : (o : Option ℕ) → model_row models o ≡ Some row
+          → MatchOption o (is_dead_state (stepped w.stepping column) ≡ true) (λ c.
+          (c < 32) × (stepped w.stepping column
+          ≡ lone_state w.stepping.nfa w.stepping.kind w.stepping.classes c column))
+          → IsRowOf (states_of (keys_in w l) w.met) (Running (stepped w.stepping column))
+          ((machine_of l).next row (unit_of l.classes column))
+      by None zero dead =
+          let unit = unit_of l.classes column in
+          let states = states_of (keys_in w l) w.met in
+          let state = stepped w.stepping column in
+          let ends : (machine_of l).next row unit ≡ 0 =
+          ap (λ r. (machine_of l).next r unit) (sym (some_is zero))
+          ∙ entering.written.dead_stays unit (unit_in l entering.serves.rows.classes column low) in
+          subst (IsRowOf states (Running state)) (sym ends)
+          (in_true (slice_get (nodes states) 0 ≡ Some (Running state)) (is_dead_state state) dead refl)
+      by (Some context) some lone =
+          let s = w.stepping in
+          let unit = unit_of l.classes column in
+          let states = states_of (keys_in w l) w.met in
+          let model = (are context row some).1 in
+          let same : step s.nfa s.kind (s.state_of model.key) unit ≡ stepped s column =
+          model.steps column low stays
+          ∙ ap (λ (cs : List ℕ). lone_state s.nfa s.kind cs context column) (sym entering.serves.classes)
+          ∙ sym lone.1 in
+          subst (λ r. IsRowOf states (Running (stepped s column)) ((machine_of l).next r unit)) (sym model.row_is)
+          (subst (λ (t : State). IsRowOf states (Running t) ((machine_of l).next (model.place + 2) unit)) same
+          (state_row model.place model.key model.here (omega (arith, (are context row some).0, model.row_is)) column
+          low stays))
 
 -- the row of the state under way was copied from that of its model
 pub record IsBegun (s : Stepping) (l : Layout) (models : List (Option ℕ)) (place : ℕ) (m : Layout) : Type 0 where
@@ -179,26 +190,22 @@ pub record IsBegun (s : Stepping) (l : Layout) (models : List (Option ℕ)) (pla
   pub copied : IsCopied (stride l) l.words m.words (row * stride l) ((place + 2) * stride l)
   pub rows : AreRows m
 
-abbrev pub start_at : ℕ → Progress
-start_at place = record { place = place; column = 0; copied = true }
-
-pub stepping_copied : {s : Stepping} {limits : SizeLimits} {met : Met} {l m : Layout} (models : List (Option ℕ))
-    {place : ℕ} → s.classes ≡ l.classes → AreModels (keying s l) met l models place → IsBegun s l models place m
-    → IsStepping s limits met l (record { place = place; column = 0; copied = false }) None 0
-    → IsStepping s limits met m (start_at place) None 0
-stepping_copied {s} {limits} {met} {l} {m} models {place} classes are begun stepping =
-    let same : keying s m ≡ keying s l = ap (keying s) begun.over in
+pub stepping_copied : {w : Work} {l m : Layout} (models : List (Option ℕ)) {place : ℕ}
+    → AreModels (keys_in w l) w.met l models place → IsBegun w.stepping l models place m
+    → IsStepping w l (begun_at place false) none_stepped → IsStepping w m (begun_at place true) none_stepped
+stepping_copied {w} {l} {m} models {place} are begun stepping =
+    let same : keys_in w m ≡ keys_in w l = ap (keying w.stepping) begun.over in
     record {
       entering =
-          subst (λ (k : Keying). IsEntering k limits met m (length m.starts) place) (sym same)
-          (subst (λ n. IsEntering (keying s l) limits met m n place)
-          (sym (ap (λ (k : Layout). length k.starts) begun.over))
-          (entering_rewritten rewritten (slice_get_within met.keys place stepping.filling.key stepping.filling.here)
-          stepping.entering));
+          subst (λ n. IsEntering w m n place) (sym (ap (λ (k : Layout). length k.starts) begun.over))
+          (entering_beside rewritten
+          (slice_get_within w.met.keys place stepping.filling.key stepping.filling.here) stepping.entering);
       filling = record {
         key = stepping.filling.key;
         here = stepping.filling.here;
-        stands = subst (λ (k : Keying). k.state_of stepping.filling.key ≡ s.current) (sym same) stepping.filling.stands;
+        stands =
+            subst (λ (k : Keying). k.state_of stepping.filling.key ≡ w.stepping.current) (sym same)
+            stepping.filling.stands;
         cells = λ c low ready. cell c low ready;
       };
       stepped_last = tt;
@@ -215,11 +222,12 @@ stepping_copied {s} {limits} {met} {l} {m} models {place} classes are begun step
       count = begun.copied.count;
       others = λ row unit within is_unit apart.
           leads row unit
-          ∙ next_beside l stepping.entering.rows begun.row (place + 2) begun.copied row unit is_unit apart;
+          ∙ next_beside l stepping.entering.serves.rows begun.row (place + 2) begun.copied row unit is_unit apart;
     }
 
-    cell : (c : ℕ) → c < alphabet_len m.classes → IsReady s m (start_at place) c
-        → IsRowOf (states_of (keying s m) met) (next_node (keying s m).build (Running s.current) (unit_of m.classes c))
+    cell : (c : ℕ) → c < alphabet_len m.classes → IsReady w.stepping m (begun_at place true) c
+        → IsRowOf (states_of (keys_in w m) w.met)
+        (next_node (keys_in w m).build (Running w.stepping.current) (unit_of m.classes c))
         ((machine_of m).next (place + 2) (unit_of m.classes c))
     cell c low (inl passed) = absurd (omega arith)
     cell c low (inr alone) =
@@ -228,14 +236,14 @@ stepping_copied {s} {limits} {met} {l} {m} models {place} classes are begun step
         let stays : contains l.quit (unit_of l.classes c) ≡ false =
         subst (λ (n : Layout). contains n.quit (unit_of n.classes c) ≡ false) begun.over alone.1 in
         let led =
-        model_leads s l models stepping.entering are classes (current_reached stepping) c low_in stays begun.is_model
-        alone.2 in
-        let At = λ (n : Layout). IsRowOf (states_of (keying s n) met)
-        (next_node (keying s n).build (Running s.current) (unit_of n.classes c))
+        model_leads models stepping.entering are (current_reached stepping) c low_in stays begun.is_model alone.2 in
+        let At = λ (n : Layout). IsRowOf (states_of (keys_in w n) w.met)
+        (next_node (keys_in w n).build (Running w.stepping.current) (unit_of n.classes c))
         ((machine_of m).next (place + 2) (unit_of n.classes c)) in
+        let rows = stepping.entering.serves.rows in
         subst At (sym begun.over)
-        (subst (IsRowOf (states_of (keying s l) met)
-        (next_node (keying s l).build (Running s.current) (unit_of l.classes c)))
+        (subst (IsRowOf (states_of (keys_in w l) w.met)
+        (next_node (keys_in w l).build (Running w.stepping.current) (unit_of l.classes c)))
         (sym (leads (place + 2) (unit_of l.classes c)
-        ∙ next_copied l stepping.entering.rows begun.row (place + 2) begun.copied (unit_of l.classes c)
-        (unit_in l stepping.entering.rows.classes c low_in))) led)
+        ∙ next_copied l rows begun.row (place + 2) begun.copied (unit_of l.classes c)
+        (unit_in l rows.classes c low_in))) led)

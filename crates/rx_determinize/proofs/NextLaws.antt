@@ -2,12 +2,12 @@
 use Rattle.std.proofs.Common.{◌≡◌, ℕ, suc, ◌+◌, ◌*◌, ◌/◌, ◌<◌, true, false, List, refl, ap, sym, ◌∙◌, subst, arith}
 use Rattle.std.proofs.lemmas.Nat.{div-mul-add, pow_pos}
 use Rattle.std.proofs.lemmas.List.{append-nil}
-use Rattle.std.specs.Prelude.{Bool, Option, Some, Result, Ok, Err, IfErr, IfOk, OnOk, MatchBool, if◌then◌else◌}
+use Rattle.std.specs.Prelude.{Bool, Some, Result, Ok, Err, IfErr, IfOk, OnOk, MatchBool, if◌then◌else◌}
 use Rattle.std.specs.Prelude.{slice_get, []}
 use Rattle.rx_dense.specs.Builder.{with_row}
 use Rattle.rx_determinize.proofs.FillingLaws.{adds_over, grows_by}
 use Rattle.rx_spec.specs.Bytes.{contains}
-use Rattle.rx_spec.specs.Builds.{Build, Running, IsReached, is_dead_state, next_node}
+use Rattle.rx_spec.specs.Builds.{Build, Node, Running, IsReached, is_dead_state, next_node}
 use Rattle.rx_spec.specs.States.{State, step}
 use Rattle.rx_dense.proofs.Rows.{no_more}
 use Rattle.rx_dense.specs.Layouts.{Layout, AreRows, IsRowId, stride}
@@ -18,22 +18,22 @@ use Rattle.rx_build_error.specs.declared.BuildError.{BuildError}
 use Rattle.rx_determinize.specs.WorkLists.{IsRowOf, nodes}
 use Rattle.rx_determinize.specs.Working.{IsOver, IsWorking, Keying, Met, SizeLimits, keying, states_of}
 use Rattle.rx_determinize.specs.Adding.{Adds, CanAdd}
-use Rattle.rx_determinize.specs.Filling.{CanStep, Grows, IsNextRow, IsStepped, IsWrittenOver, Suits}
-use Rattle.rx_spec.specs.declared.Unit.{Unit}
+use Rattle.rx_determinize.specs.Constructions.{IsWrittenOver, Serves, Work, keys_in}
+use Rattle.rx_determinize.specs.Filling.{FindsRow, Grows, IsStepped}
+use Rattle.rx_determinize.proofs.ContinuesLaws.{continues_grown, serves_later}
 use Rattle.rx_determinize.proofs.WorkListLaws.{interned_row, reached_step}
 use Rattle.rx_determinize.proofs.ColumnLaws.{unit_in}
 use Rattle.rx_determinize.proofs.StartLaws.{zero_row}
 
 -- The key of a state that is reached may be added.
-pub key_may : {s : Stepping} {units : List Unit} {l : Layout} {limits : SizeLimits} {met : Met} {key : List ℕ}
-    {state : State} → Suits s units l → IsWorking (keying s l) limits met l → IsKeyOf s key state
-    → IsReached (keying s l).build state → CanAdd (keying s l) limits met l key
-key_may {s} {units} {l} {limits} {met} {key} suits working is reached = record {
-  working = working;
-  one_key = suits.one_key;
+pub key_may : {w : Work} {l : Layout} {key : List ℕ} {state : State} → Serves w l → IsKeyOf w.stepping key state
+    → IsReached (keys_in w l).build state → CanAdd (keys_in w l) w.limits w.met l key
+key_may {w} {l} {key} serves is reached = record {
+  working = serves.working;
+  one_key = serves.one_key;
   is_key = is.is_key;
-  reached = subst (IsReached (keying s l).build) (sym is.stands_for) reached;
-  label = suits.spells.label key is.is_key;
+  reached = subst (IsReached (keys_in w l).build) (sym is.stands_for) reached;
+  label = serves.spells.label key is.is_key;
 }
 
 -- what is said of one that steps states is said of another that is the same
@@ -62,24 +62,12 @@ dead_is_row states s l e =
 pub dead_id : {l : Layout} → AreRows l → IsRowId l 0
 dead_id {l} rows = let two = rows.two in zero_id l (omega arith)
 
-pub dead_stepped : {k : Keying} {met : Met} {s : Stepping} {l : Layout} {column : ℕ} → AreRows l
-    → column < alphabet_len l.classes → is_dead_state (stepped s column) ≡ true → IsStepped k met l s column 0
-dead_stepped {k} {met} {s} {l} {column} rows within e = record {
-  column_in = within;
-  is_row = dead_is_row (states_of k met) (stepped s column) l e;
-  is_id = dead_id rows;
-}
-
 -- the state to which another column led
-pub stepped_alike : {k : Keying} {met : Met} {s : Stepping} {l : Layout} {column other id : ℕ}
-    → column < alphabet_len l.classes → stepped s column ≡ stepped s other → IsStepped k met l s other id
-    → IsStepped k met l s column id
-stepped_alike {k} {met} {s} {l} {column} {other} {id} within same led = record {
-  column_in = within;
-  is_row =
-      subst (λ (t : State). IsRowOf (states_of k met) (Running t) (id / stride l)) (sym same) led.is_row;
-  is_id = led.is_id;
-}
+pub stepped_alike : {w : Work} {l : Layout} (column other : ℕ) {id : ℕ}
+    → stepped w.stepping column ≡ stepped w.stepping other → IsStepped w l other id
+    → IsRowOf (states_of (keys_in w l) w.met) (Running (stepped w.stepping column)) (id / stride l)
+stepped_alike {w} {l} column other {id} same led =
+    subst (λ (t : State). IsRowOf (states_of (keys_in w l) w.met) (Running t) (id / stride l)) (sym same) led.is_row
 
 -- nothing is entered
 pub grows_none : (met : Met) (l : Layout) → Grows met l met l
@@ -151,46 +139,38 @@ row_by s {l} {m} {met} {after} {key} {id} is adds =
     (subst (λ (state : State). IsRowOf (states_of (keying s l) after) (Running state) (id / stride l)) is.stands_for
     (added_row (keying s l) adds (ap is_dead_state is.stands_for ∙ is.alive)))
 
--- the state of a column's key has the row that it was given
-pub stepped_by : (s : Stepping) {l m : Layout} {met after : Met} {key : List ℕ} {id : ℕ} → AreRows l
-    → (column : ℕ) → column < alphabet_len l.classes → IsKeyOf s key (stepped s column) → Adds met l key after m id
-    → IsRowId m id → IsStepped (keying s m) after m s column id
-stepped_by s {l} {m} {met} {after} {key} {id} rows column within is adds is_id = record {
-  column_in = rw (grows_by rows adds).classes within;
-  is_row =
-      rw (adds_stride adds)
-      (subst (λ (state : State). IsRowOf (states_of (keying s l) after) (Running state) (id / stride l)) is.stands_for
-      (added_row (keying s l) adds (ap is_dead_state is.stands_for ∙ is.alive)));
-  is_id = is_id;
-}
-
 -- ---- the row that was found
 
 -- nothing was entered for it
-pub found_before : {s : Stepping} {limits : SizeLimits} {met : Met} {l : Layout} {units : List Unit} {column id : ℕ}
-    {last : Option ℕ} {last_id : ℕ} → CanStep s limits met l units column last last_id
-    → IsStepped (keying s l) met l s column id → IsNextRow s limits met l column met l id
-found_before {met = met} {l = l} can stepped = record {
-  grows = grows_none met l;
-  rest = refl;
-  rows = can.rows;
-  working = can.working;
-  stepped = stepped;
-}
+pub found_before : {w v : Work} {l : Layout} {node : Node} {id : ℕ} → v ≡ w → Serves w l
+    → IsRowOf (states_of (keys_in w l) w.met) node (id / stride l) → IsRowId l id → FindsRow w l node v l id
+found_before {w} {v} {l} {node} {id} is serves is_row is_id =
+    subst (λ (u : Work). FindsRow w l node u l id) (sym is)
+    (record {
+      same = refl;
+      over = refl;
+      grows = grows_none w.met l;
+      serves = serves;
+      is_row = is_row;
+      is_id = is_id;
+    })
 
 -- a key was added
-pub found_added : {s : Stepping} {limits : SizeLimits} {met : Met} {l : Layout} {units : List Unit} {column : ℕ}
-    {last : Option ℕ} {last_id : ℕ} {E : Type 0} (r : Result ℕ E) (key : List ℕ) (after : Met) (m : Layout)
-    → CanStep s limits met l units column last last_id → IsKeyOf s key (stepped s column)
-    → IfOk r (Adds met l key after m) → IfOk r (IsRowId m) → OnOk r (AreRows m)
-    → OnOk r (IsWorking (keying s l) limits after m) → IfOk r (IsNextRow s limits met l column after m)
-found_added {s} {l = l} {column = column} (Ok id) key after m can at adds is_id rows working =
+pub found_added : {w v : Work} {l : Layout} {E : Type 0} (r : Result ℕ E) {key : List ℕ} {state : State} (m : Layout)
+    → v ≡ record w { met = v.met } → Serves w l → IsKeyOf w.stepping key state → IfOk r (Adds w.met l key v.met m)
+    → IfOk r (IsRowId m) → OnOk r (AreRows m) → OnOk r (IsWorking (keys_in w l) w.limits v.met m)
+    → IfOk r (FindsRow w l (Running state) v m)
+found_added {w} {v} {l} (Ok id) {key} {state} m is serves at adds is_id rows working =
     let over = adds_over adds in
-    record {
-      grows = grows_by can.rows adds;
-      rest = over;
-      rows = rows;
-      working = working_over s l m over working;
-      stepped = stepped_by s can.rows column can.column_in at adds is_id;
-    }
-found_added (Err e) key after m can at adds is_id rows working = tt
+    let grows = grows_by serves.rows adds in
+    let later = continues_grown w v.met (grows.more, grows.keys) over in
+    subst (λ (u : Work). FindsRow w l (Running state) u m id) (sym is)
+    (record {
+      same = refl;
+      over = over;
+      grows = grows;
+      serves = serves_later later serves rows (working_over w.stepping l m over working);
+      is_row = row_by w.stepping at adds;
+      is_id = is_id;
+    })
+found_added (Err e) m is serves at adds is_id rows working = tt

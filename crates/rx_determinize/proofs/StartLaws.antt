@@ -1,7 +1,7 @@
 -- Start entries that are set, and the states in which searches start.
 use Rattle.std.proofs.Common.{◌≡◌, ◌≢◌, ℕ, zero, suc, ◌+◌, ◌*◌, ◌/◌, ◌%◌, ◌<◌, ◌≤◌, Bool, true, false, Option, Some}
 use Rattle.std.proofs.Common.{None}
-use Rattle.std.proofs.Common.{List, [], ◌∷◌, ◌++◌, length, get_or, replicate, slice_index, refl, ap, ap₂, sym, ◌∙◌}
+use Rattle.std.proofs.Common.{[], ◌∷◌, ◌++◌, length, get_or, replicate, slice_index, refl, ap, sym, ◌∙◌}
 use Rattle.std.proofs.Common.{subst}
 use Rattle.std.proofs.Common.{arith, ⊎_elim}
 use Rattle.std.proofs.lemmas.Bool.{cases_eq, cases_lt, lt-ltb}
@@ -11,8 +11,8 @@ use Rattle.std.proofs.lemmas.List.Elements.{All-nil, Contains-append_left, Conta
 use Rattle.std.proofs.lemmas.List.FromFn.{get_or-map-range_with_len, length-map-range_with_len}
 use Rattle.std.proofs.lemmas.Nat.{div-add-mod', div-mul-add, pow_pos}
 use Rattle.std.proofs.lemmas.Option.{slice_get_within}
-use Rattle.std.specs.Prelude.{Contains, IfSome, if◌then◌else◌, nat_lt, slice_get, slice_set}
-use Rattle.rx_spec.specs.Builds.{Build, Node, IsReached, built_entry, built_modes, is_dead_state, pattern_modes}
+use Rattle.std.specs.Prelude.{Contains, IfSome, if◌then◌else◌, nat_lt, slice_get}
+use Rattle.rx_spec.specs.Builds.{Build, IsReached, built_entry, built_modes, is_dead_state, pattern_modes}
 use Rattle.rx_spec.specs.Builds.{dead, next_node, start_node}
 use Rattle.rx_spec.specs.Nfas.{Nfa}
 use Rattle.rx_spec.specs.Contexts.{all_starts as all_contexts}
@@ -24,15 +24,16 @@ use Rattle.rx_spec.specs.declared.Start.{Start}
 use Rattle.lemmas_walks.proofs.Firsts.{Contains-here}
 use Rattle.lemmas_walks.proofs.Words.{IsWord-nil, run-nil}
 use Rattle.rx_dense.specs.Builder.{Beginning, initial, with_start}
-use Rattle.rx_dense.specs.Layouts.{Layout, AreRows, column, context_number, machine_of, mode_place, row_count}
+use Rattle.rx_dense.specs.Layouts.{Layout, column, context_number, machine_of, mode_place, row_count}
 use Rattle.rx_dense.specs.Layouts.{stride}
 use Rattle.rx_dense.proofs.Shaped.{rows_kept}
-use Rattle.rx_stepper.specs.Stepping.{Stepping}
-use Rattle.rx_determinize.specs.Filling.{Grows, IsEntering, IsStartedOver, IsWrittenOver}
+use Rattle.rx_determinize.specs.Constructions.{Continues, IsStartedOver, Work, keys_in}
+use Rattle.rx_determinize.specs.Filling.{AreWritten, FindsRow, IsEntering}
 use Rattle.rx_determinize.specs.WorkLists.{IsRowOf}
 use Rattle.rx_determinize.specs.Working.{none_met, IsWorking, Keying, Met, SizeLimits, entry_in, keying, states_of}
 use Rattle.rx_determinize.proofs.CellLaws.{one_place}
-use Rattle.rx_determinize.proofs.FillingLaws.{entering_kept}
+use Rattle.rx_determinize.proofs.ContinuesLaws.{continues_found, continues_over, continues_twice, serves_later}
+use Rattle.rx_determinize.proofs.FillingLaws.{written_kept}
 
 -- ---- the place of a start entry
 
@@ -162,13 +163,11 @@ pub record IsStart (k : Keying) (met : Met) (l : Layout) (mode : Anchored) (star
   pub is_row : IsRowOf (states_of k met) (built_entry k.build mode start) (id / stride l)
   pub place_in : place_of mode start < length l.starts
 
-module _ {k : Keying} {limits : SizeLimits} {met : Met} {l : Layout} {mode : Anchored} {start : Start} {id : ℕ}
+module _ {k : Keying} {met : Met} {l : Layout} {mode : Anchored} {start : Start} {id : ℕ}
     (leads : IsStart k met l mode start id) where
-  starts_more : {done : ℕ} → IsEntering k limits met l (place_of mode start) done
-      → IsEntering k limits met (with_start l mode start id) (place_of mode start + 1) done
+  starts_more : {done : ℕ} → AreWritten k met l (place_of mode start) done
+      → AreWritten k met (with_start l mode start id) (place_of mode start + 1) done
   starts_more {done} old = record {
-    rows = rows_kept l (with_start l mode start id) refl refl refl old.rows;
-    working = working;
     within = old.within;
     list = old.list;
     starts = λ other context lt. ⊎_elim
@@ -182,24 +181,6 @@ module _ {k : Keying} {limits : SizeLimits} {met : Met} {l : Layout} {mode : Anc
     quit_ends = old.quit_ends;
   }
     where
-      w : IsWorking k limits met l
-      w = old.working
-
-      working : IsWorking k limits met (with_start l mode start id)
-      working = record {
-        bare = record { slices = w.bare.slices; pattern_ids = w.bare.pattern_ids; accels = w.bare.accels };
-        count = w.count;
-        distinct = w.distinct;
-        are_keys = w.are_keys;
-        reached = w.reached;
-        size = w.size;
-        patterns = w.patterns;
-        few_patterns = w.few_patterns;
-        table = λ some. subst (λ n. IfSome limits.table (λ limit. 4 * (length l.words + n + 1) ≤ limit))
-            (sym (count_kept l mode start id)) (w.table some);
-        construction = w.construction;
-      }
-
       here : (other : Anchored) (context : Start) → (other ≡ mode) × (context ≡ start)
           → IsRowOf (states_of k met) (built_entry k.build other context)
           (entry_in (with_start l mode start id) other context)
@@ -211,30 +192,35 @@ module _ {k : Keying} {limits : SizeLimits} {met : Met} {l : Layout} {mode : Anc
           (subst (IsRowOf (states_of k met) (built_entry k.build mode start))
           (sym (entry_set l mode start id leads.place_in)) leads.is_row))
 
--- the same where the table is known by an equation
-pub entering_start : (s : Stepping) {limits : SizeLimits} {met : Met} {l m : Layout} {mode : Anchored} {start : Start}
-    {id done : ℕ} → IsStart (keying s l) met l mode start id → m ≡ with_start l mode start id
-    → IsEntering (keying s l) limits met l (place_of mode start) done
-    → IsEntering (keying s m) limits met m (place_of mode start + 1) done
-entering_start s {limits} {met} {l} {m} {mode} {start} {id} {done} leads is old =
-    subst (λ (n : Layout). IsEntering (keying s n) limits met n (place_of mode start + 1) done) (sym is)
-    (starts_more leads old)
-
--- ---- tables whose start entries are set
-
-pub started_over : (l m : Layout) (words starts : List ℕ) → m ≡ record l { words = words; starts = starts }
-    → length starts ≡ length l.starts → IsStartedOver l m
-started_over l m words starts is count = record {
-  rest =
-      is ∙ ap₂ (λ (ws ss : List ℕ). record l { words = ws; starts = ss }) (sym (ap (λ (n : Layout). n.words) is))
-      (sym (ap (λ (n : Layout). n.starts) is));
-  count = ap (λ (n : Layout). length n.starts) is ∙ count;
+working_started : {k : Keying} {limits : SizeLimits} {met : Met} (l : Layout) (mode : Anchored) (start : Start)
+    (id : ℕ) → IsWorking k limits met l → IsWorking k limits met (with_start l mode start id)
+working_started {limits = limits} l mode start id w = record {
+  bare = record { slices = w.bare.slices; pattern_ids = w.bare.pattern_ids; accels = w.bare.accels };
+  count = w.count;
+  distinct = w.distinct;
+  are_keys = w.are_keys;
+  reached = w.reached;
+  size = w.size;
+  patterns = w.patterns;
+  few_patterns = w.few_patterns;
+  table = λ some. subst (λ n. IfSome limits.table (λ limit. 4 * (length l.words + n + 1) ≤ limit))
+      (sym (count_kept l mode start id)) (w.table some);
+  construction = w.construction;
 }
 
-pub started_twice : (l m n : Layout) → IsStartedOver l m → IsStartedOver m n → IsStartedOver l n
-started_twice l m n first second = record {
-  rest = second.rest ∙ ap (λ (k : Layout). record k { words = n.words; starts = n.starts }) first.rest;
-  count = second.count ∙ first.count;
+started_with : (l : Layout) (mode : Anchored) (start : Start) (id : ℕ) → IsStartedOver l (with_start l mode start id)
+started_with l mode start id = record { rest = refl; count = count_kept l mode start id }
+
+-- the start entry is set
+entering_started : {w : Work} {l : Layout} {mode : Anchored} {start : Start} {id done : ℕ}
+    → IsStart (keys_in w l) w.met l mode start id → IsEntering w l (place_of mode start) done
+    → IsEntering w (with_start l mode start id) (place_of mode start + 1) done
+entering_started {w} {l} {mode} {start} {id} leads old = record {
+  serves =
+      serves_later (continues_over w (started_with l mode start id)) old.serves
+      (rows_kept l (with_start l mode start id) refl refl refl old.serves.rows)
+      (working_started l mode start id old.serves.working);
+  written = starts_more leads old.written;
 }
 
 -- ---- the modes of a build
@@ -305,28 +291,35 @@ zero_row l =
     ap (λ n. n / stride l) (sym zeros) ∙ div-mul-add 0 (stride l) 0 (pow_pos l.stride2)
 
 -- it has the dead row and the quit row, which lead to dead
-pub entering_begun : (k : Keying) (limits : SizeLimits) (b : Beginning) (l : Layout) → l ≡ initial b
-    → AreRows l → IsEntering k limits none_met l 0 0
-entering_begun k limits b l is rows = record {
-  rows = rows;
-  working = record {
-    bare = record {
-      slices = ap (λ (n : Layout). n.slices) is;
-      pattern_ids = ap (λ (n : Layout). n.pattern_ids) is;
-      accels = ap (λ (n : Layout). n.accels) is;
-    };
-    count =
-        ap row_count is ∙ ap (λ n. n / stride (initial b)) (words ∙ two) ∙ div-mul-add 2 (stride (initial b)) 0
-        (pow_pos (initial b).stride2);
-    distinct = λ i j d less low. absurd (omega arith);
-    are_keys = All-nil (λ key. k.is_key key ≡ true);
-    reached = All-nil (λ key. IsReached k.build (k.state_of key));
-    size = refl;
-    patterns = refl;
-    few_patterns = omega arith;
-    table = λ some. absurd (omega arith);
-    construction = λ some. absurd (omega arith);
+pub working_begun : (k : Keying) (limits : SizeLimits) (b : Beginning) (l : Layout) → l ≡ initial b
+    → IsWorking k limits none_met l
+working_begun k limits b l is = record {
+  bare = record {
+    slices = ap (λ (n : Layout). n.slices) is;
+    pattern_ids = ap (λ (n : Layout). n.pattern_ids) is;
+    accels = ap (λ (n : Layout). n.accels) is;
   };
+  count =
+      ap row_count is ∙ ap (λ n. n / stride (initial b)) (words ∙ two) ∙ div-mul-add 2 (stride (initial b)) 0
+      (pow_pos (initial b).stride2);
+  distinct = λ i j d less low. absurd (omega arith);
+  are_keys = All-nil (λ key. k.is_key key ≡ true);
+  reached = All-nil (λ key. IsReached k.build (k.state_of key));
+  size = refl;
+  patterns = refl;
+  few_patterns = omega arith;
+  table = λ some. absurd (omega arith);
+  construction = λ some. absurd (omega arith);
+}
+  where
+    words : length (initial b).words ≡ 2 * stride (initial b)
+    words = length-replicate (2 * stride (initial b)) 0
+
+    two : 2 * stride (initial b) ≡ 2 * stride (initial b) + 0
+    two = omega arith
+
+pub written_begun : (k : Keying) (b : Beginning) (l : Layout) → l ≡ initial b → AreWritten k none_met l 0 0
+written_begun k b l is = record {
   within = omega arith;
   list = record {
     reached = All-nil (λ key. IsReached k.build (k.state_of key));
@@ -337,12 +330,6 @@ entering_begun k limits b l is rows = record {
   quit_ends = λ unit is_unit. to_dead 1 unit;
 }
   where
-    words : length (initial b).words ≡ 2 * stride (initial b)
-    words = length-replicate (2 * stride (initial b)) 0
-
-    two : 2 * stride (initial b) ≡ 2 * stride (initial b) + 0
-    two = omega arith
-
     to_dead : (row unit : ℕ) → (machine_of l).next row unit ≡ 0
     to_dead row unit =
         ap (λ (n : Layout). (machine_of n).next row unit) is
@@ -352,45 +339,52 @@ entering_begun k limits b l is rows = record {
 
 -- ---- a start row that was found
 
--- the row of the node in which a search starts
-pub record IsStartRow (s : Stepping) (limits : SizeLimits) (met : Met) (l : Layout) (node : Node) (after : Met)
-    (m : Layout) (id : ℕ) : Type 0 where
-  pub grows : Grows met l after m
-  pub rest : IsWrittenOver l m
-  pub rows : AreRows m
-  pub working : IsWorking (keying s m) limits after m
-  pub is_row : IsRowOf (states_of (keying s m) after) node (id / stride m)
+module _ {w : Work} {after : Met} {l m : Layout} (mode : Anchored) (start : Start) {id : ℕ}
+    (found : FindsRow w l (built_entry (keys_in w l).build mode start) (record w { met = after }) m id) where
+  -- a state is entered, and then a start entry set
+  set_after : IsEntering w l (place_of mode start) 0 → place_of mode start < length l.starts
+      → IsEntering (record w { met = after }) (with_start m mode start id) (place_of mode start + 1) 0
+  set_after entering low =
+      let same : keys_in w m ≡ keys_in w l = ap (keying w.stepping) found.over in
+      let grown : IsEntering (record w { met = after }) m (place_of mode start) 0 = record {
+        serves = found.serves;
+        written =
+            subst (λ (k : Keying). AreWritten k after m (place_of mode start) 0) (sym same)
+            (written_kept (keys_in w l) found.grows entering.serves.working
+            (subst (λ (k : Keying). IsWorking k w.limits after m) same found.serves.working) entering.written);
+      } in
+      entering_started
+      (record {
+        is_row =
+            subst (λ (k : Keying). IsRowOf (states_of (keys_in w m) after) (built_entry k.build mode start)
+            (id / stride m)) (sym same) found.is_row;
+        place_in = omega (arith, ap (λ (k : Layout). length k.starts) found.over);
+      })
+      grown
 
--- a state is entered, and then a start entry set
-pub start_set : (s : Stepping) {limits : SizeLimits} {met after : Met} {l m n : Layout} (mode : Anchored) (start :
-    Start)
-    {id : ℕ} → IsEntering (keying s l) limits met l (place_of mode start) 0
-    → IsStartRow s limits met l (built_entry (keying s l).build mode start) after m id
-    → place_of mode start < length l.starts → n ≡ with_start m mode start id
-    → IsEntering (keying s n) limits after n (place_of mode start + 1) 0
-start_set s {limits} {met} {after} {l} {m} {n} mode start {id} entering found low is =
-    let same : keying s m ≡ keying s l = ap (keying s) found.rest in
-    let count : length m.starts ≡ length l.starts = ap (λ (k : Layout). length k.starts) found.rest in
-    let working : IsWorking (keying s l) limits after m =
-    subst (λ (k : Keying). IsWorking k limits after m) same found.working in
-    let grown : IsEntering (keying s m) limits after m (place_of mode start) 0 =
-    subst (λ (k : Keying). IsEntering k limits after m (place_of mode start) 0) (sym same)
-    (entering_kept (keying s l) found.grows found.rows working entering) in
-    let leads : IsStart (keying s m) after m mode start id = record {
-      is_row =
-          subst (λ (k : Keying). IsRowOf (states_of (keying s m) after) (built_entry k.build mode start) (id / stride
-          m))
-          (sym same) found.is_row;
-      place_in = omega (arith, count);
-    } in
-    entering_start s leads is grown
+-- how an entry is set
+pub record SetsStart (w : Work) (l : Layout) (mode : Anchored) (start : Start) (v : Work) (n : Layout) : Type 0 where
+  pub between : Layout
+  pub id : ℕ
+  pub found : FindsRow w l (built_entry (keys_in w l).build mode start) v between id
+  pub is : n ≡ with_start between mode start id
 
-pub started_by : (l m n : Layout) (mode : Anchored) (start : Start) (id : ℕ) → IsWrittenOver l m
-    → n ≡ with_start m mode start id → IsStartedOver l n
-started_by l m n mode start id rest is =
-    let starts : List ℕ = slice_set m.starts (place_of mode start) id in
-    started_over l n m.words starts (is ∙ ap (λ (k : Layout). record k { starts = starts }) rest)
-    (length-set m.starts (place_of mode start) id ∙ ap (λ (k : Layout). length k.starts) rest)
+module _ {w v : Work} {l n : Layout} {mode : Anchored} {start : Start} (sets : SetsStart w l mode start v n) where
+  pub start_set : IsEntering w l (place_of mode start) 0 → place_of mode start < length l.starts
+      → IsEntering v n (place_of mode start + 1) 0
+  start_set entering low =
+      let node = built_entry (keys_in w l).build mode start in
+      let found = subst (λ (u : Work). FindsRow w l node u sets.between sets.id) sets.found.same sets.found in
+      subst (λ (u : Work). IsEntering u n (place_of mode start + 1) 0) (sym sets.found.same)
+      (subst (λ (k : Layout). IsEntering (record w { met = v.met }) k (place_of mode start + 1) 0) (sym sets.is)
+      (set_after mode start found entering low))
+
+  pub start_continues : Continues w l v n
+  start_continues =
+      let last : Continues v sets.between v n =
+      subst (λ (k : Layout). Continues v sets.between v k) (sym sets.is)
+      (continues_over v (started_with sets.between mode start sets.id)) in
+      continues_twice (continues_found sets.found) last
 
 -- the state in which a search starts is reached
 pub row_reached : (b : Build) (mode : Anchored) (start : Start) (row : Option ℕ)

@@ -1,32 +1,69 @@
 -- A table while states are added, and while the row of one of them is written.
-use Rattle.std.specs.Prelude.{ℕ, ◌≡◌, Bool, false, ◌<◌, ◌≤◌, ◌+◌, ◌/◌, ◌++◌, ◌⊎◌, true, IfSome, Option, Some, List, []}
-use Rattle.std.specs.Prelude.{◌∷◌, length, map, slice_get}
-use Rattle.rx_spec.specs.Builds.{IsReached, Running, next_node, built_entry}
+use Rattle.std.specs.Prelude.{ℕ, ◌≡◌, false, ◌<◌, ◌≤◌, ◌+◌, ◌/◌, ◌++◌, ◌⊎◌, true, IfSome, Option, Some, None, List}
+use Rattle.std.specs.Prelude.{Bool, Contains, length, slice_get}
+use Rattle.rx_spec.specs.Builds.{Node, Running, built_entry, built_modes, next_node, start_node}
+use Rattle.rx_spec.specs.Bytes.{contains}
 use Rattle.rx_spec.specs.Queries.{Anchored}
 use Rattle.rx_spec.specs.States.{State}
 use Rattle.rx_spec.specs.declared.Start.{Start}
-use Rattle.rx_dense.specs.Layouts.{Layout, AreRows, IsRowId, context_number, machine_of, mode_place, row_count, stride}
-use Rattle.rx_base.specs.ByteClasses.{alphabet_len, ends_of}
-use Rattle.rx_base.specs.Unit.{unit_number}
-use Rattle.rx_spec.specs.Bytes.{contains, eoi}
-use Rattle.rx_spec.specs.Classes.{representatives}
-use Rattle.rx_spec.specs.declared.Unit.{Unit}
-use Rattle.rx_stepper.specs.Stepping.{HasOneKeyEach, IsAlone, SpellStates, Stepping, stepped, unit_of}
-use Rattle.rx_determinize.specs.Determinized.{classes_of}
+use Rattle.rx_base.specs.ByteClasses.{alphabet_len}
+use Rattle.rx_dense.specs.Layouts.{Layout, IsRowId, context_number, machine_of, mode_place, row_count, start_entries}
+use Rattle.rx_dense.specs.Layouts.{stride}
+use Rattle.rx_stepper.specs.Stepping.{IsAlone, Stepping, stepped, unit_of}
+use Rattle.rx_determinize.specs.Constructions.{IsWrittenOver, Serves, Work, keys_in}
 use Rattle.rx_determinize.specs.WorkLists.{IsRowOf, IsWorkList}
-use Rattle.rx_determinize.specs.Working.{Keying, Met, SizeLimits, IsWorking, keying, states_of, next_in, entry_in}
+use Rattle.rx_determinize.specs.Working.{Keying, Met, states_of, next_in, entry_in}
+use Rattle.rx_determinize.specs.declared.construction.Last.{Last}
+use Rattle.rx_determinize.specs.declared.construction.Progress.{Progress}
 
--- The first start entries are set, and the rows of the first states that were met are written; dead and quit lead to
+-- The rows of the first states that were met are written, and the first start entries are set; dead and quit lead to
 -- dead.
-pub record IsEntering (k : Keying) (limits : SizeLimits) (met : Met) (l : Layout) (set done : ℕ) : Type 0 where
-  pub rows : AreRows l
-  pub working : IsWorking k limits met l
+pub record AreWritten (k : Keying) (met : Met) (l : Layout) (set done : ℕ) : Type 0 where
   pub within : done ≤ length met.keys
   pub list : IsWorkList k.build k.state_of (next_in l) met.keys done
   pub starts : (mode : Anchored) (start : Start) → mode_place mode + context_number start < set
       → IsRowOf (states_of k met) (built_entry k.build mode start) (entry_in l mode start)
   pub dead_stays : (unit : ℕ) → unit < 257 → (machine_of l).next 0 unit ≡ 0
   pub quit_ends : (unit : ℕ) → unit < 257 → (machine_of l).next 1 unit ≡ 0
+
+-- a construction that has come so far
+pub record IsEntering (w : Work) (l : Layout) (set done : ℕ) : Type 0 where
+  pub serves : Serves w l
+  pub written : AreWritten (keys_in w l) w.met l set done
+
+-- ---- a row that is found
+
+-- More states were met, and the rows that were there are as they were.
+pub record Grows (met : Met) (l : Layout) (after : Met) (m : Layout) : Type 0 where
+  pub more : List (List ℕ)
+  pub keys : after.keys ≡ met.keys ++ more
+  pub classes : m.classes ≡ l.classes
+  pub nexts : (row unit : ℕ) → row < row_count l → unit < 257
+      → (machine_of m).next row unit ≡ (machine_of l).next row unit
+  pub entries : (mode : Anchored) (start : Start) → entry_in m mode start ≡ entry_in l mode start
+
+-- the row of a node, which is a new one where its state wasn't met before
+pub record FindsRow (w : Work) (l : Layout) (node : Node) (v : Work) (m : Layout) (id : ℕ) : Type 0 where
+  pub same : v ≡ record w { met = v.met }
+  pub over : IsWrittenOver l m
+  pub grows : Grows w.met l v.met m
+  pub serves : Serves v m
+  pub is_row : IsRowOf (states_of (keys_in v m) v.met) node (id / stride m)
+  pub is_id : IsRowId m id
+
+-- ---- start entries
+
+-- a table has an entry for each mode and context, with the patterns of the NFA or without
+pub record HasEntries (patterns : ℕ) (l : Layout) : Type 0 where
+  pub count : length l.starts ≡ start_entries l.pattern_starts
+  pub own : IfSome l.pattern_starts (λ n. n ≡ patterns)
+
+-- searches of a mode start at a row of the NFA, or at none
+pub record StartsAt (w : Work) (l : Layout) (mode : Anchored) (row : Option ℕ) : Type 0 where
+  pub entry : (start : Start) → built_entry (keys_in w l).build mode start ≡ start_node w.stepping.nfa row start
+  pub built : IfSome row (λ _. Contains (built_modes (keys_in w l).build) mode)
+
+-- ---- a row that is written
 
 -- the row of a state at a place, which leads where the state does by the columns that are ready
 pub record IsFilling (k : Keying) (met : Met) (l : Layout) (place : ℕ) (state : State) (ready : ℕ → Type 0) : Type 0
@@ -38,27 +75,11 @@ pub record IsFilling (k : Keying) (met : Met) (l : Layout) (place : ℕ) (state 
         → IsRowOf (states_of k met) (next_node k.build (Running state) (unit_of l.classes c))
         ((machine_of l).next (place + 2) (unit_of l.classes c))
 
--- More states were met, and the rows that were there are as they were.
-pub record Grows (met : Met) (l : Layout) (after : Met) (m : Layout) : Type 0 where
-  pub more : List (List ℕ)
-  pub keys : after.keys ≡ met.keys ++ more
-  pub classes : m.classes ≡ l.classes
-  pub nexts : (row unit : ℕ) → row < row_count l → unit < 257
-      → (machine_of m).next row unit ≡ (machine_of l).next row unit
-  pub entries : (mode : Anchored) (start : Start) → entry_in m mode start ≡ entry_in l mode start
-
 -- the row of the state that a column leads to
-pub record IsStepped (k : Keying) (met : Met) (l : Layout) (s : Stepping) (column id : ℕ) : Type 0 where
+pub record IsStepped (w : Work) (l : Layout) (column id : ℕ) : Type 0 where
   pub column_in : column < alphabet_len l.classes
-  pub is_row : IsRowOf (states_of k met) (Running (stepped s column)) (id / stride l)
+  pub is_row : IsRowOf (states_of (keys_in w l) w.met) (Running (stepped w.stepping column)) (id / stride l)
   pub is_id : IsRowId l id
-
--- how far the construction has come: states whose rows are written, and columns of the next state, whose row began as
--- that of its model or didn't
-pub record Progress : Type 0 where
-  pub place : ℕ
-  pub column : ℕ
-  pub copied : Bool
 
 -- The columns that are ready: those that were passed, and where the row began as that of a model, also those by which
 -- no rows of the state's own go on, but for those of quit bytes.
@@ -68,54 +89,18 @@ IsReady s l at c =
     ⊎ ((at.copied ≡ true) × (contains l.quit (unit_of l.classes c) ≡ false) × IsAlone s c)
 
 -- A state is stepped column by column. The column that was stepped last led to a row that is remembered.
-pub record IsStepping (s : Stepping) (limits : SizeLimits) (met : Met) (l : Layout) (at : Progress) (last : Option ℕ)
-    (last_id : ℕ) : Type 0 where
-  pub entering : IsEntering (keying s l) limits met l (length l.starts) at.place
-  pub filling : IsFilling (keying s l) met l at.place s.current (IsReady s l at)
-  pub stepped_last : IfSome last (λ column. IsStepped (keying s l) met l s column last_id)
+pub record IsStepping (w : Work) (l : Layout) (at : Progress) (last : Last) : Type 0 where
+  pub entering : IsEntering w l (length l.starts) at.place
+  pub filling : IsFilling (keys_in w l) w.met l at.place w.stepping.current (IsReady w.stepping l at)
+  pub stepped_last : IfSome last.column (λ column. IsStepped w l column last.id)
 
--- the units that stand for the columns of classes, as the code has them
-abbrev pub AreUnits : List Unit → List ℕ → Type 0
-AreUnits units classes = map unit_number units ≡ representatives (ends_of classes) ++ eoi ∷ []
+-- no column was passed, and none stepped
+abbrev pub begun_at : ℕ → Bool → Progress
+begun_at place copied = record { place = place; column = 0; copied = copied }
 
--- What steps states by the columns of a table: these are the classes of the NFA's bytes, or one for each byte.
-pub record Suits (s : Stepping) (units : List Unit) (l : Layout) : Type 0 where
-  pub byte_classes : Bool
-  pub are_classes : l.classes ≡ classes_of s.nfa l.quit byte_classes
-  pub classes : s.classes ≡ l.classes
-  pub are_units : AreUnits units l.classes
-  pub one_key : HasOneKeyEach s
-  pub spells : SpellStates s
+abbrev pub none_stepped : Last
+none_stepped = record { column = None; id = 0 }
 
--- another state is stepped
-abbrev pub IsAnother : Stepping → Stepping → Type 0
-IsAnother old new = new ≡ record old { current = new.current; led_in = new.led_in }
-
--- only words were written
-abbrev pub IsWrittenOver : Layout → Layout → Type 0
-IsWrittenOver old new = new ≡ record old { words = new.words }
-
--- words and start entries were written
-pub record IsStartedOver (old new : Layout) : Type 0 where
-  pub rest : new ≡ record old { words = new.words; starts = new.starts }
-  pub count : length new.starts ≡ length old.starts
-
--- The state under way may be stepped by a column that isn't a quit byte's.
-pub record CanStep (s : Stepping) (limits : SizeLimits) (met : Met) (l : Layout) (units : List Unit) (column : ℕ)
-    (last : Option ℕ) (last_id : ℕ) : Type 0 where
-  pub working : IsWorking (keying s l) limits met l
-  pub rows : AreRows l
-  pub suits : Suits s units l
-  pub reached : IsReached (keying s l).build s.current
-  pub column_in : column < alphabet_len l.classes
-  pub goes_on : contains l.quit (unit_of l.classes column) ≡ false
-  pub stepped_last : IfSome last (λ other. IsStepped (keying s l) met l s other last_id)
-
--- the row that was found for the state to which it leads, which is a new one where the state wasn't met before
-pub record IsNextRow (s : Stepping) (limits : SizeLimits) (met : Met) (l : Layout) (column : ℕ) (after : Met)
-    (m : Layout) (id : ℕ) : Type 0 where
-  pub grows : Grows met l after m
-  pub rest : IsWrittenOver l m
-  pub rows : AreRows m
-  pub working : IsWorking (keying s m) limits after m
-  pub stepped : IsStepped (keying s m) after m s column id
+-- one column more was passed
+abbrev pub next_column : Progress → Progress
+next_column at = record { place = at.place; column = at.column + 1; copied = at.copied }

@@ -3,7 +3,8 @@ pub mod Determinized
 pub mod WorkLists
 pub mod Working
 pub mod Adding
-pub mod Models
+pub mod Constructions
 pub mod Filling
+pub mod Models
 pub mod Matching
 pub mod Building

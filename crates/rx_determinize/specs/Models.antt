@@ -1,10 +1,13 @@
 -- Template rows, with which other rows begin as copies.
-use Rattle.std.specs.Prelude.{ℕ, ◌≡◌, ◌<◌, ◌+◌, ◌++◌, false, List, Option, Some, None, slice_get, slice_index_or, set}
+use Rattle.std.specs.Prelude.{ℕ, ◌≡◌, ◌<◌, ◌+◌, false, List, Option, Some, None, length, slice_get, slice_index_or}
+use Rattle.std.specs.Prelude.{set}
 use Rattle.rx_spec.specs.Bytes.{contains}
 use Rattle.rx_spec.specs.States.{step}
 use Rattle.rx_base.specs.ByteClasses.{alphabet_len}
 use Rattle.rx_dense.specs.Layouts.{Layout}
 use Rattle.rx_stepper.specs.Stepping.{Stepping, IsAlone, lone_state, unit_of}
+use Rattle.rx_determinize.specs.Constructions.{Work, keys_in}
+use Rattle.rx_determinize.specs.Filling.{IsEntering}
 use Rattle.rx_determinize.specs.Working.{Keying, Met}
 
 -- the row of the model of a context; where no lead-in's rows follow, the dead row
@@ -15,10 +18,6 @@ model_row models (Some context) = slice_index_or models context None
 abbrev pub kept_in : List (Option ℕ) → (led_in : Option ℕ) → ℕ → List (Option ℕ)
 kept_in models None row = models
 kept_in models (Some context) row = set models context (Some row)
-
--- more keys may follow
-abbrev pub Extends : List (List ℕ) → List (List ℕ) → Type 0
-Extends keys all = (more : List (List ℕ)) × (all ≡ keys ++ more)
 
 -- The state of a row steps as the lead-in's rows do by themselves where this is known of the unit read last, by each
 -- column that isn't a quit byte's.
@@ -37,11 +36,16 @@ AreModels k met l models done = (context row : ℕ) → slice_index_or models co
     → (row < done + 2) × IsModel k met l context row
 
 -- the state that is being stepped is that of a place
-pub record IsKeyAt (s : Stepping) (met : Met) (place : ℕ) : Type 0 where
+pub record IsKeyAt (w : Work) (place : ℕ) : Type 0 where
   pub key : List ℕ
-  pub here : slice_get met.keys place ≡ Some key
-  pub current : s.current ≡ s.state_of key
+  pub here : slice_get w.met.keys place ≡ Some key
+  pub current : w.stepping.current ≡ w.stepping.state_of key
 
 -- a state goes on by no rows of its own
 abbrev pub IsAllAlone : Stepping → Layout → Type 0
 IsAllAlone s l = (column : ℕ) → column < alphabet_len l.classes → IsAlone s column
+
+-- The start entries are set, and the rows of the first states are written, of which some are models.
+pub record IsExploring (w : Work) (l : Layout) (rows : List (Option ℕ)) (done : ℕ) : Type 0 where
+  pub entering : IsEntering w l (length l.starts) done
+  pub models : AreModels (keys_in w l) w.met l rows done

@@ -7,7 +7,7 @@ ghost use Rattle.rx_spec.specs.declared.MatchKind.TheVariants.{LeftmostFirst};
 ghost use Rattle.rx_expr.specs.Nfa.{meaning};
 ghost use Rattle.rx_build_error.specs.Refusals.{IsRefused, TableRefused};
 ghost use Rattle.rx_determinize.specs.Building.{HasStates};
-ghost use Rattle.rx_determinize.specs.Filling.{IsStartedOver};
+ghost use Rattle.rx_determinize.specs.Constructions.{IsStartedOver};
 ghost use Rattle.rx_determinize.specs.Determinized.{IsBegun, IsBegunWith, IsDeterminized, build_in, limits_of};
 
 use crate::construction::Construction;
@@ -150,10 +150,10 @@ impl Config {
             dfa.old)) error.kind) }
     {
         let classes = *dfa.byte_classes();
-        let mut stepper = Stepper::new(alloc, nfa, self.match_kind, &classes)?;
-        let mut construction = Construction::new(alloc, &classes, self.limits())?;
-        construction.set_starts(&mut stepper, nfa, dfa)?;
-        construction.explore(&mut stepper, dfa)?;
+        let stepper = Stepper::new(alloc, nfa, self.match_kind, &classes)?;
+        let mut construction = Construction::new(alloc, stepper, &classes, self.limits())?;
+        construction.set_starts(nfa, dfa)?;
+        construction.explore(dfa)?;
         Ok(construction.states.matches(alloc, dfa)?)
     }
 

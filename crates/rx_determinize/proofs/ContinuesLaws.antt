@@ -1,0 +1,163 @@
+-- A construction that goes on: what it had is there still, and what refuses it later refuses it.
+use Rattle.std.proofs.Common.{◌≡◌, ℕ, List, ◌++◌, append_assoc, length, refl, ap, ap₂, sym, ◌∙◌}
+use Rattle.std.proofs.Common.{subst, []}
+use Rattle.std.proofs.lemmas.List.{append-nil}
+use Rattle.rx_spec.specs.Builds.{Node}
+use Rattle.rx_spec.specs.Causes.{Exceeds, max_id}
+use Rattle.rx_spec.specs.Nfas.{Nfa}
+use Rattle.rx_spec.specs.Sizes.{last_id, table_size}
+use Rattle.rx_spec.specs.declared.Unit.{Unit}
+use Rattle.rx_dense.specs.Layouts.{Layout, AreRows, stride}
+use Rattle.rx_build_error.specs.declared.BuildErrorKind.{BuildErrorKind}
+use Rattle.rx_stepper.specs.Stepping.{HasOneKeyEach, SpellStates, Stepping}
+use Rattle.rx_determinize.specs.Constructions.{AreUnits, Continues, Extends, IsAnother, IsRefusal, IsStartedOver}
+use Rattle.rx_determinize.specs.Constructions.{IsWrittenOver, Serves, Work, keys_in}
+use Rattle.rx_determinize.specs.Determinized.{classes_of}
+use Rattle.rx_determinize.specs.Filling.{FindsRow}
+use Rattle.rx_determinize.specs.Working.{IsOver, IsWorking, Keying, Met, SizeLimits, keying}
+
+-- ---- tables of which words and start entries were written
+
+pub written_over : (l m : Layout) (words : List ℕ) → m ≡ record l { words = words } → IsWrittenOver l m
+written_over l m words is =
+    is ∙ ap (λ (ws : List ℕ). record l { words = ws }) (sym (ap (λ (n : Layout). n.words) is))
+
+pub over_twice : (l m n : Layout) → IsWrittenOver l m → IsWrittenOver m n → IsWrittenOver l n
+over_twice l m n first second = second ∙ ap (λ (k : Layout). record k { words = n.words }) first
+
+pub started_over : {l m : Layout} → IsWrittenOver l m → IsStartedOver l m
+started_over {l} {m} over = record {
+  rest =
+      over
+      ∙ ap (λ (ss : List ℕ). record l { words = m.words; starts = ss }) (sym (ap (λ (n : Layout). n.starts) over));
+  count = ap (λ (n : Layout). length n.starts) over;
+}
+
+pub started_twice : (l m n : Layout) → IsStartedOver l m → IsStartedOver m n → IsStartedOver l n
+started_twice l m n first second = record {
+  rest = second.rest ∙ ap (λ (k : Layout). record k { words = n.words; starts = n.starts }) first.rest;
+  count = second.count ∙ first.count;
+}
+
+-- ---- what goes on
+
+no_other : (s r : Stepping) → r ≡ s → IsAnother s r
+no_other s r same = same ∙ ap (λ (t : Stepping). record s { current = t.current; led_in = t.led_in }) (sym same)
+
+another_twice : (s r t : Stepping) → IsAnother s r → IsAnother r t → IsAnother s t
+another_twice s r t first second =
+    second ∙ ap (λ (u : Stepping). record u { current = t.current; led_in = t.led_in }) first
+
+extends_twice : (keys more all : List (List ℕ)) → Extends keys more → Extends more all → Extends keys all
+extends_twice keys more all first second = (
+  first.0 ++ second.0,
+  second.1 ∙ ap (λ (ks : List (List ℕ)). ks ++ second.0) first.1 ∙ append_assoc keys first.0 second.0,
+)
+
+-- words and start entries were written
+pub continues_over : (w : Work) {l m : Layout} → IsStartedOver l m → Continues w l w m
+continues_over w {l} {m} over = record {
+  stepping = refl;
+  limits = refl;
+  units = refl;
+  keys = ([], sym (append-nil w.met.keys));
+  over = over;
+}
+
+pub continues_none : (w : Work) (l : Layout) → Continues w l w l
+continues_none w l = continues_over w (record { rest = refl; count = refl })
+
+pub continues_twice : {w v u : Work} {l m n : Layout} → Continues w l v m → Continues v m u n → Continues w l u n
+continues_twice {w} {v} {u} {l} {m} {n} first second = record {
+  stepping = another_twice w.stepping v.stepping u.stepping first.stepping second.stepping;
+  limits = second.limits ∙ first.limits;
+  units = second.units ∙ first.units;
+  keys = extends_twice w.met.keys v.met.keys u.met.keys first.keys second.keys;
+  over = started_twice l m n first.over second.over;
+}
+
+-- more states were met, and words were written
+pub continues_grown : (w : Work) (after : Met) {l m : Layout} → Extends w.met.keys after.keys → IsWrittenOver l m
+    → Continues w l (record w { met = after }) m
+continues_grown w after more over = record {
+  stepping = refl;
+  limits = refl;
+  units = refl;
+  keys = more;
+  over = started_over over;
+}
+
+-- another state is stepped
+pub continues_other : (w : Work) (r : Stepping) (l : Layout) → IsAnother w.stepping r
+    → Continues w l (record w { stepping = r }) l
+continues_other w r l another = record {
+  stepping = another;
+  limits = refl;
+  units = refl;
+  keys = ([], sym (append-nil w.met.keys));
+  over = record { rest = refl; count = refl };
+}
+
+pub continues_found : {w v : Work} {l m : Layout} {node : Node} {id : ℕ} → FindsRow w l node v m id → Continues w l v m
+continues_found {w} {v} found = record {
+  stepping = no_other w.stepping v.stepping (ap (λ (u : Work). u.stepping) found.same);
+  limits = ap (λ (u : Work). u.limits) found.same;
+  units = ap (λ (u : Work). u.units) found.same;
+  keys = (found.grows.more, found.grows.keys);
+  over = started_over found.over;
+}
+
+module _ {w v : Work} {l m : Layout} (later : Continues w l v m) where
+  -- keys stand for what they stood for, and the table is built of the same
+  pub same_keys : keys_in v m ≡ keys_in w l
+  same_keys = ap (λ (t : Stepping). keying t m) later.stepping ∙ ap (keying w.stepping) later.over.rest
+
+  pub same_classes : m.classes ≡ l.classes
+  same_classes = ap (λ (n : Layout). n.classes) later.over.rest
+
+  pub same_quit : m.quit ≡ l.quit
+  same_quit = ap (λ (n : Layout). n.quit) later.over.rest
+
+  pub serves_later : Serves w l → AreRows m → IsWorking (keys_in v m) v.limits v.met m → Serves v m
+  serves_later serves rows working =
+      let nfa = ap (λ (t : Stepping). t.nfa) later.stepping in
+      let spells : SpellStates (record w.stepping { current = v.stepping.current; led_in = v.stepping.led_in }) =
+      record { label = serves.spells.label; are_ids = serves.spells.are_ids; few = serves.spells.few } in
+      record {
+        rows = rows;
+        working = working;
+        byte_classes = serves.byte_classes;
+        are_classes =
+            same_classes ∙ serves.are_classes
+            ∙ ap₂ (λ (n : Nfa) (q : ℕ). classes_of n q serves.byte_classes) (sym nfa) (sym same_quit);
+        classes = ap (λ (t : Stepping). t.classes) later.stepping ∙ serves.classes ∙ sym same_classes;
+        units =
+            subst (λ (us : List Unit). AreUnits us m.classes) (sym later.units)
+            (subst (AreUnits w.units) (sym same_classes) serves.units);
+        one_key = subst HasOneKeyEach (sym later.stepping) serves.one_key;
+        spells = subst SpellStates (sym later.stepping) spells;
+      }
+
+  pub refused_later : (kind : BuildErrorKind) → IsRefusal v m kind → IsRefusal w l kind
+  refused_later kind refusal =
+      at kind
+      (subst (λ (k : Keying). IsOver k w.limits m kind) same_keys
+      (subst (λ (c : SizeLimits). IsOver (keys_in v m) c m kind) later.limits refusal))
+    where
+      width : stride m ≡ stride l
+      width = ap stride later.over.rest
+
+      at : (kind : BuildErrorKind) → IsOver (keys_in w l) w.limits m kind → IsOver (keys_in w l) w.limits l kind
+      at (BuildErrorKind.NFA error) over = over
+      at BuildErrorKind.Unsupported over = over
+      at BuildErrorKind.TooManyStates over =
+          subst (λ n. Exceeds (keys_in w l).build (λ states. last_id (length states) n) max_id) width over
+      at BuildErrorKind.TooManyMatchPatternIDs over = over
+      at (BuildErrorKind.DFAExceededSizeLimit limit) over = (
+        over.0,
+        subst (λ n. Exceeds (keys_in w l).build (λ states. table_size (length states) n (length l.starts)) limit) width
+            (subst (λ n. Exceeds (keys_in w l).build (λ states. table_size (length states) (stride m) n) limit) later.over.count
+            over.1),
+      )
+      at (BuildErrorKind.DeterminizeExceededSizeLimit limit) over = over
+      at BuildErrorKind.Memory over = tt
