@@ -207,7 +207,7 @@ module _ {t u : Table} {links : List Link} {pairs : List RowPair} (walk : IsWalk
         record {
           place = here.place;
           below = here.below;
-          there = extends_get pairs later extends here.place p here.there;
+          there = extends_get extends here.place p here.there;
         });
   }
 

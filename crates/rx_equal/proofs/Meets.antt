@@ -4,9 +4,10 @@ use Rattle.std.proofs.Common.{◌∷◌, ◌++◌, refl, ap, sym, ◌∙◌, sub
 use Rattle.std.proofs.lemmas.Option.{same_Some}
 use Rattle.std.proofs.Common.{Bool, true, false, if◌then◌else◌}
 use Rattle.std.proofs.lemmas.Bool.{lt-ltb, ltb-true}
-use Rattle.std.proofs.Common.{drop, length}
+use Rattle.std.proofs.Common.{drop, length, ⊎_elim}
+use Rattle.lemmas_walks.proofs.Firsts.{Contains-nil}
 use Rattle.std.proofs.Math.ListN.{drop_of_length-le}
-use Rattle.std.proofs.lemmas.List.Elements.{Contains-append_left, Contains-push}
+use Rattle.std.proofs.lemmas.List.Elements.{Contains-append_left, Contains-push, Contains-push_cases}
 use Rattle.std.specs.Prelude.{Contains, nat_lt, IfSome, slice_get}
 use Rattle.std.specs.Option.{option_and_then}
 use Rattle.rx_spec.specs.Queries.{Anchored}
@@ -123,38 +124,57 @@ pairs_within t u (link ∷ links) earlier pairs e p c =
     by_pair t u link links earlier pairs e p (link_pair t u earlier link) refl
     (λ q e. pairs_within t u links (earlier ++ q ∷ []) pairs e p (Contains-append_left earlier (q ∷ []) p c))
 
-module _ (t u : Table) (links : List Link) (earlier : List RowPair) (i : ℕ) (link : Link)
-    {whole : Option (List RowPair)}
-    (there : slice_get links i ≡ Some link) (left : pairs_from t u earlier (drop i links) ≡ whole) where
-  pub links_step : (p : RowPair) → link_pair t u earlier link ≡ Some p
-      → pairs_from t u (earlier ++ p ∷ []) (drop (i + 1) links) ≡ whole
-  links_step p e =
-      sym (pairs_step t u link (drop (i + 1) links) earlier p e)
-      ∙ ap (pairs_from t u earlier) (sym (drop_get links i link there)) ∙ left
+-- the links below a number name pairs, whose labels are equal
+pub record AreNamed (t u : Table) (links : List Link) (i : ℕ) (pairs : List RowPair) : Type 0 where
+  pub left : pairs_from t u pairs (drop i links) ≡ pairs_from t u [] links
+  pub labels : (p : RowPair) → Contains pairs p → HaveEqualLabels t u p
 
-  pub links_stop : link_pair t u earlier link ≡ None → whole ≡ None
-  links_stop e =
-      sym left ∙ ap (pairs_from t u earlier) (drop_get links i link there)
-      ∙ pairs_stop t u link (drop (i + 1) links) earlier e
-
-pub links_end : (t u : Table) (links : List Link) (earlier : List RowPair) (i : ℕ) {whole : Option (List RowPair)}
-    → length links ≤ i → pairs_from t u earlier (drop i links) ≡ whole → whole ≡ Some earlier
-links_end t u links earlier i past left = sym left ∙ ap (pairs_from t u earlier) (drop_of_length-le links past)
+pub named_none : (t u : Table) (links : List Link) {pairs : List RowPair} → pairs ≡ [] → AreNamed t u links 0 pairs
+named_none t u links none = record {
+  left = ap (λ ps. pairs_from t u ps links) none;
+  labels = λ p there. absurd (Contains-nil p (subst (λ ps. Contains ps p) none there));
+}
 
 none_some : {X : Type 0} {x : X} → None ≡ Some x → ⊥
 none_some e = absurd (cc)
 
-module _ (t u : Table) (links : List Link) where
-  pub none_refuted : pairs_from t u [] links ≡ None → AreEvidence t u links → ⊥
-  none_refuted e v = none_some (sym e ∙ v.named)
-
-  pub label_of : (earlier : List RowPair) (later : List Link) (p : RowPair)
-      → pairs_from t u (earlier ++ p ∷ []) later ≡ pairs_from t u [] links → AreEvidence t u links → HaveEqualLabels
-      t u p
-  label_of earlier later p e v =
-      v.closed.labels p
-      (pairs_within t u later (earlier ++ p ∷ []) v.pairs (e ∙ v.named) p (Contains-push earlier p))
-
-pub evidence_closed : (t u : Table) (links : List Link) (pairs : List RowPair) → pairs_from t u [] links ≡ Some pairs
+pub evidence_closed : {t u : Table} {links : List Link} {pairs : List RowPair} → pairs_from t u [] links ≡ Some pairs
     → AreEvidence t u links → AreClosed t u pairs
-evidence_closed t u links pairs e v = subst (AreClosed t u) (same_Some v.pairs pairs (sym v.named ∙ e)) v.closed
+evidence_closed {t} {u} {links} {pairs} named v =
+    subst (AreClosed t u) (same_Some v.pairs pairs (sym v.named ∙ named)) v.closed
+
+module _ {t u : Table} {links : List Link} {i : ℕ} {pairs : List RowPair} (named : AreNamed t u links i pairs) where
+  pub named_all : length links ≤ i → pairs_from t u [] links ≡ Some pairs
+  named_all past = sym named.left ∙ ap (pairs_from t u pairs) (drop_of_length-le links past)
+
+  pub named_closed : length links ≤ i → AreEvidence t u links → AreClosed t u pairs
+  named_closed past v = evidence_closed (named_all past) v
+
+  pub named_stop : (link : Link) → slice_get links i ≡ Some link → link_pair t u pairs link ≡ None
+      → AreEvidence t u links → ⊥
+  named_stop link there e v =
+      none_some (sym (pairs_stop t u link (drop (i + 1) links) pairs e)
+      ∙ ap (pairs_from t u pairs) (sym (drop_get links i link there)) ∙ named.left ∙ v.named)
+
+  module _ (link : Link) (p : RowPair) (there : slice_get links i ≡ Some link)
+      (names : link_pair t u pairs link ≡ Some p) where
+    left_more : pairs_from t u (pairs ++ p ∷ []) (drop (i + 1) links) ≡ pairs_from t u [] links
+    left_more =
+        sym (pairs_step t u link (drop (i + 1) links) pairs p names)
+        ∙ ap (pairs_from t u pairs) (sym (drop_get links i link there)) ∙ named.left
+
+    pub named_equal : AreEvidence t u links → HaveEqualLabels t u p
+    named_equal v =
+        v.closed.labels p
+        (pairs_within t u (drop (i + 1) links) (pairs ++ p ∷ []) v.pairs (left_more ∙ v.named) p
+        (Contains-push pairs p))
+
+    pub named_link : {more : List RowPair} → HaveEqualLabels t u p → more ≡ pairs ++ p ∷ []
+        → AreNamed t u links (i + 1) more
+    named_link equal is = record {
+      left = ap (λ ps. pairs_from t u ps (drop (i + 1) links)) is ∙ left_more;
+      labels = λ q c.
+          ⊎_elim (λ (old : Contains pairs q). named.labels q old)
+          (λ (same : p ≡ q). subst (HaveEqualLabels t u) same equal)
+          (Contains-push_cases pairs p q (subst (λ ps. Contains ps q) is c));
+    }

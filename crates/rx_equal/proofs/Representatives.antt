@@ -1,7 +1,7 @@
 -- Each unit leads as one of the representatives does.
 use Rattle.std.proofs.Common.{ℕ, ◌≡◌, ◌+◌, ◌-◌, ◌<◌, ◌≤◌, List, [], ◌∷◌, ◌++◌, sym, ◌∙◌, subst, arith, ap, ap₂}
 use Rattle.std.proofs.lemmas.List.Elements.{All-push, Contains-append_left, Contains-push}
-use Rattle.std.specs.Prelude.{All, Contains}
+use Rattle.std.specs.Prelude.{All, Contains, slice_get}
 use Rattle.rx_spec.specs.Tables.{Table}
 use Rattle.rx_spec.specs.declared.Unit.{Unit}
 use Rattle.rx_base.specs.Unit.{unit_number}
@@ -9,7 +9,11 @@ use Rattle.rx_search.specs.Classes.{LeadsAsPrevious}
 use Rattle.rx_equal.specs.Evidence.{RowPair, next_pair}
 use Rattle.rx_equal.specs.Classes.{LeadAlike, IsRepresented, Represent}
 use Rattle.rx_equal.specs.Places.{HaveNexts}
-use Rattle.rx_equal.proofs.Tests.{below_more}
+use Rattle.rx_equal.proofs.Tests.{EachBelow, all_get, below_more, each_contained}
+use Rattle.std.proofs.Common.{Some, length}
+use Rattle.rx_spec.specs.Ids.{AreIds}
+use Rattle.rx_equal.specs.Pairs.{IsPairOf, rows_of}
+use Rattle.rx_equal.specs.declared.pairs.Pair.{Pair}
 
 -- the units below a number have representatives
 pub record RepresentBelow (t u : Table) (units : List Unit) (n : ℕ) : Type 0 where
@@ -73,13 +77,19 @@ module _ {t u : Table} where
     each = λ unit small. r.each unit (omega (arith, h, small));
   }
 
+  pub unit_of : {units : List Unit} {v : Unit} → Represent t u units → (i : ℕ) → slice_get units i ≡ Some v
+      → unit_number v < 257
+  unit_of {units} r i there = all_get (λ v. unit_number v < 257) units i r.are_units there
+
   -- where representatives lead from a pair, all units do
-  pub nexts_by : (units : List Unit) (pairs : List RowPair) (p : RowPair) → Represent t u units
-      → p.row < t.size → p.other < u.size
-      → ((v : Unit) → Contains units v → Contains pairs (next_pair t u p (unit_number v))) → HaveNexts t u pairs p
-  nexts_by units pairs p r first second known unit h =
+  pub nexts_by : {units : List Unit} {n : ℕ} {ids others : List ℕ} {p : Pair} (pairs : List RowPair)
+      → Represent t u units → AreIds t.size ids → AreIds u.size others → IsPairOf ids others p
+      → EachBelow (λ v. Contains pairs (next_pair t u (rows_of ids others p) (unit_number v))) units n
+      → length units ≤ n → HaveNexts t u pairs (rows_of ids others p)
+  nexts_by {units} {n} {ids} {others} {p} pairs r are others_are is known past unit h =
+      let q = rows_of ids others p in
       let one = r.each unit h in
-      subst (Contains pairs)
-      (sym (ap₂ (λ x y. record { row = x; other = y }) (one.alike.first p.row first)
-      (one.alike.second p.other second)))
-      (known one.one one.listed)
+      let first = one.alike.first q.row (omega (arith, is.first, are.count)) in
+      let second = one.alike.second q.other (omega (arith, is.second, others_are.count)) in
+      subst (Contains pairs) (sym (ap₂ (λ x y. record { row = x; other = y }) first second))
+      (each_contained (λ v. Contains pairs (next_pair t u q (unit_number v))) units known past one.one one.listed)

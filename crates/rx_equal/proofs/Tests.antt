@@ -1,8 +1,9 @@
 -- Tests, and what stands in lists.
 use Rattle.std.proofs.Common.{ℕ, ◌≡◌, ◌+◌, ◌<◌, ◌≤◌, Bool, true, false, not, Option, Some, None, List, map, refl, ap}
+use Rattle.std.proofs.Common.{length}
 use Rattle.std.proofs.Common.{sym, ◌∙◌, subst}
 use Rattle.std.proofs.Common.{⊎_elim, arith}
-use Rattle.std.specs.Prelude.{IsTrue, slice_get, All, Contains, option_map}
+use Rattle.std.specs.Prelude.{◌↔◌, IsTrue, slice_get, All, Contains, option_map}
 use Rattle.std.proofs.lemmas.Bool.{cases_lt}
 use Rattle.std.proofs.lemmas.List.Elements.{All-get_or}
 use Rattle.std.proofs.lemmas.Option.{slice_get_within, get_or_from_slice_get, slice_get-get_or, slice_get-map}
@@ -16,20 +17,24 @@ pub not_intro : (b : Bool) → (IsTrue b → ⊥) → IsTrue (not b)
 not_intro true h = absurd (h refl)
 not_intro false h = refl
 
-pub false_both : (b : Bool) → b ≡ false → IsTrue b → ⊥
+false_both : (b : Bool) → b ≡ false → IsTrue b → ⊥
 false_both b e h = absurd (cc)
+
+-- a test is false, and so is what would make it true
+pub false_by : {P Q : Type 0} {b : Bool} → b ≡ false → (IsTrue b ↔ Q) → (P → Q) → IsTrue false ↔ P
+false_by {b = b} e tests from = (λ t. absurd (cc), λ p. absurd (false_both b e (tests.1 (from p))))
 
 pub from_not : (b added : Bool) → ((IsTrue b → ⊥) → IsTrue added) → added ≡ false → IsTrue b
 from_not true added h e = refl
 from_not false added h e = absurd (false_both added e (h (λ (t : false ≡ true). absurd (cc))))
 
-pub all_get : {X : Type 0} (P : X → Type 0) (xs : List X) (i : ℕ) (x : X) → All P xs → slice_get xs i ≡ Some x → P x
-all_get P xs i x all e =
+pub all_get : {X : Type 0} (P : X → Type 0) (xs : List X) (i : ℕ) {x : X} → All P xs → slice_get xs i ≡ Some x → P x
+all_get P xs i {x} all e =
     subst P (get_or_from_slice_get xs i x x e) (All-get_or P xs i x (slice_get_within xs i x e) all)
 
-pub map_get : {X Y : Type 0} (f : X → Y) (xs : List X) (i : ℕ) (x : X) → slice_get xs i ≡ Some x
+pub map_get : {X Y : Type 0} (f : X → Y) (xs : List X) (i : ℕ) {x : X} → slice_get xs i ≡ Some x
     → slice_get (map f xs) i ≡ Some (f x)
-map_get f xs i x e = slice_get-map f xs i ∙ ap (option_map f) e
+map_get f xs i e = slice_get-map f xs i ∙ ap (option_map f) e
 
 pub contains_get : {X : Type 0} (xs : List X) (i : ℕ) (x : X) → slice_get xs i ≡ Some x → Contains xs x
 contains_get xs i x e = (i, slice_get_within xs i x e, get_or_from_slice_get xs i x x e)
@@ -58,3 +63,20 @@ below_more P n below here k h =
     ⊎_elim (λ (l : k < n). below k l)
     (λ (l : n ≤ k). let same : n ≡ k = omega arith in subst P same here)
     (cases_lt k n)
+
+-- what holds of the item at a place holds of each item there
+pub got : {X : Type 0} (P : X → Type 0) {o : Option X} {x : X} → o ≡ Some x → P x → (y : X) → o ≡ Some y → P y
+got P {o} {x} there h y e = subst P (same_Some x y (sym there ∙ e)) h
+
+-- the items below a place
+abbrev pub EachBelow : {X : Type 0} → (X → Type 0) → List X → ℕ → Type 0
+EachBelow {X} P xs n = (k : ℕ) → k < n → (x : X) → slice_get xs k ≡ Some x → P x
+
+pub each_more : {X : Type 0} (P : X → Type 0) (xs : List X) (n : ℕ) {x : X} → EachBelow P xs n
+    → slice_get xs n ≡ Some x → P x → EachBelow P xs (n + 1)
+each_more {X} P xs n below there h =
+    below_more (λ k. (x : X) → slice_get xs k ≡ Some x → P x) n below (got P there h)
+
+pub each_contained : {X : Type 0} (P : X → Type 0) (xs : List X) {n : ℕ} → EachBelow P xs n → length xs ≤ n → (x : X)
+    → Contains xs x → P x
+each_contained P xs below past x c = below c.0 (let h = c.1 in omega (arith, h, past)) x (get_contained xs x c)

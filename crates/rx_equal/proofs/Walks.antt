@@ -17,7 +17,8 @@ use Rattle.rx_equal.specs.declared.evidence.Link.{Link}
 use Rattle.rx_equal.specs.Evidence.{RowPair, start_pair, next_pair, next_of, pairs_from, link_pair, AreClosed, AreMet}
 use Rattle.rx_equal.specs.Evidence.{IsReached, AreReached}
 use Rattle.rx_equal.specs.Walks.{Follows, IsWalk, IsLink, IsReachedBy, IsEqual}
-use Rattle.rx_equal.proofs.Tests.{get_contained}
+use Rattle.rx_equal.proofs.Sides.{Sides}
+use Rattle.rx_equal.proofs.Tests.{below_more, get_contained}
 use Rattle.rx_equal.proofs.Meets.{pairs_step, rows_met}
 use Rattle.rx_equal.proofs.Closed.{nothing_parts}
 use Rattle.std.proofs.Common.{Bool, true, false, Result, Ok, Err, append_assoc}
@@ -242,22 +243,33 @@ module _ {t u : Table} {links : List Link} {pairs : List RowPair} (walk : IsWalk
 pub extends_none : (pairs : List RowPair) → Extends pairs pairs
 extends_none pairs = record { more = []; all = sym (append-nil pairs) }
 
-pub extends_both : (first second third : List RowPair) → Extends first second → Extends second third → Extends first
-    third
-extends_both first second third e f = record {
+pub extends_both : {first second third : List RowPair} → Extends first second → Extends second third
+    → Extends first third
+extends_both {first} e f = record {
   more = e.more ++ f.more;
   all = f.all ∙ ap (λ ps. ps ++ f.more) e.all ∙ append_assoc first e.more f.more;
 }
 
-pub extends_contains : (before after : List RowPair) → Extends before after → (p : RowPair) → Contains before p
-    → Contains after p
-extends_contains before after e p c =
-    subst (λ ps. Contains ps p) (sym e.all) (Contains-append_left before e.more p c)
+module _ {before after : List RowPair} (e : Extends before after) where
+  pub extends_contains : (p : RowPair) → Contains before p → Contains after p
+  extends_contains p c = subst (λ ps. Contains ps p) (sym e.all) (Contains-append_left before e.more p c)
 
-pub extends_get : (before after : List RowPair) → Extends before after → (i : ℕ) (p : RowPair)
-    → slice_get before i ≡ Some p → slice_get after i ≡ Some p
-extends_get before after e i p there =
-    ap (λ ps. slice_get ps i) e.all ∙ get_more before e.more i (slice_get_within before i p there) ∙ there
+  pub extends_get : (i : ℕ) (p : RowPair) → slice_get before i ≡ Some p → slice_get after i ≡ Some p
+  extends_get i p there =
+      ap (λ ps. slice_get ps i) e.all ∙ get_more before e.more i (slice_get_within before i p there) ∙ there
+
+  pub extends_back : (i : ℕ) (p : RowPair) → i < length before → slice_get after i ≡ Some p
+      → slice_get before i ≡ Some p
+  extends_back i p h there = sym (get_more before e.more i h) ∙ sym (ap (λ ps. slice_get ps i) e.all) ∙ there
+
+  met_more : (o r : Result ℕ StartError) → AreMet before o r → AreMet after o r
+  met_more (Ok x) (Ok y) m = extends_contains (record { row = x; other = y }) m
+  met_more (Err x) (Err y) m = m
+  met_more (Ok x) (Err y) m = m
+  met_more (Err x) (Ok y) m = m
+
+  pub extends_meet : (t u : Table) (place : StartConfig) → Meet t u before place → Meet t u after place
+  extends_meet t u place m = met_more (answer_at t place) (answer_at u place) m
 
 pub adds_extends : (before : List RowPair) (p : RowPair) (added : Bool) (after : List RowPair)
     → Adds before p added after → Extends before after
@@ -298,23 +310,12 @@ start_labels t u s r place p e =
     ap t.machine.label (sym first) ∙ s.starts_plain place.mode (start_context t.settings place.beside)
     ∙ sym (r.starts_plain place.mode (start_context u.settings place.beside)) ∙ ap u.machine.label second
 
-met_more : (before after : List RowPair) → Extends before after → (o r : Result ℕ StartError) → AreMet before o r
-    → AreMet after o r
-met_more before after e (Ok x) (Ok y) m = extends_contains before after e (record { row = x; other = y }) m
-met_more before after e (Err x) (Err y) m = m
-met_more before after e (Ok x) (Err y) m = m
-met_more before after e (Err x) (Ok y) m = m
-
-pub extends_meet : (t u : Table) (before after : List RowPair) → Extends before after → (place : StartConfig)
-    → Meet t u before place → Meet t u after place
-extends_meet t u before after e place m = met_more before after e (answer_at t place) (answer_at u place) m
-
 pub by_none : (source : Option ℕ) (links : List Link) → ExtendsBy source links links
 by_none source links = record { longer = omega arith; each = λ i link there. inl there }
 
-by_both : (source : Option ℕ) (first second third : List Link) → ExtendsBy source first second
+by_both : {source : Option ℕ} {first second third : List Link} → ExtendsBy source first second
     → ExtendsBy source second third → ExtendsBy source first third
-by_both source first second third e f = record {
+by_both {source} {first} {second} e f = record {
   longer = (let h = e.longer in let k = f.longer in omega (arith, h, k));
   each = λ i link there.
       ⊎_elim (λ (old : slice_get second i ≡ Some link). e.each i link old)
@@ -335,14 +336,13 @@ by_added source before link true after is e = record {
 }
 by_added source before link false after is e = subst (ExtendsBy source before) (sym e) (by_none source before)
 
-module _ (t : Table) (ids : List ℕ) (u : Table) (others : List ℕ) (source : Option ℕ) where
-  pub went_both : (first second third : Walk) → WentOn t ids u others source first second
+module _ {t : Table} {ids : List ℕ} {u : Table} {others : List ℕ} {source : Option ℕ} where
+  pub went_both : {first second third : Walk} → WentOn t ids u others source first second
       → WentOn t ids u others source second third → WentOn t ids u others source first third
-  went_both first second third e f = record {
+  went_both e f = record {
     walked = f.walked;
-    extends = extends_both (pairs_of ids others first.pairs) (pairs_of ids others second.pairs)
-        (pairs_of ids others third.pairs) e.extends f.extends;
-    links = by_both source first.links second.links third.links e.links f.links;
+    extends = extends_both e.extends f.extends;
+    links = by_both e.links f.links;
   }
 
   pub went_by : (before after : Walk) (p : RowPair) (link : Link) (added : Bool) → AreWalked t ids u others after
@@ -354,6 +354,24 @@ module _ (t : Table) (ids : List ℕ) (u : Table) (others : List ℕ) (source : 
     extends = adds_extends (pairs_of ids others before.pairs) p added (pairs_of ids others after.pairs) adds;
     links = by_added source before.links link added after.links is links;
   }
+
+-- a walk went on from one source: labels stayed equal, and for each number below one it was done what had to be
+pub record GoesOn (s : Sides) (source : Option ℕ) (Done : List RowPair → ℕ → Type 0) (n : ℕ) (before after : Walk)
+    : Type 0 where
+  pub went_on : WentOn s.t s.ids s.u s.others source before after
+  pub labels : AreLabelled s.t s.u (pairs_of s.ids s.others after.pairs)
+  pub done : (k : ℕ) → k < n → Done (pairs_of s.ids s.others after.pairs) k
+
+pub goes_more : {s : Sides} {source : Option ℕ} {n : ℕ} {before here after : Walk} (Done : List RowPair → ℕ → Type 0)
+    → ((x y : List RowPair) → Extends x y → (k : ℕ) → Done x k → Done y k) → GoesOn s source Done n before here
+    → WentOn s.t s.ids s.u s.others source here after → AreLabelled s.t s.u (pairs_of s.ids s.others after.pairs)
+    → Done (pairs_of s.ids s.others after.pairs) n → GoesOn s source Done (n + 1) before after
+goes_more {s} {n = n} {here = here} {after = after} Done stays g on labels last = record {
+  went_on = went_both g.went_on on;
+  labels = labels;
+  done = below_more (Done (pairs_of s.ids s.others after.pairs)) n (λ k h. stays (pairs_of s.ids s.others here.pairs)
+      (pairs_of s.ids s.others after.pairs) on.extends k (g.done k h)) last;
+}
 
 stepped_new : (t u : Table) (before after : List RowPair) (p : RowPair) (unit : ℕ) (equal : Bool)
     → Adds before (next_pair t u p unit) true after → AreLabelled t u before
@@ -372,11 +390,6 @@ stepped_by t u before after p q unit added equal same a is labels to from =
     stepped_new t u before after p unit equal
     (subst (λ x. Adds before x true after) same (subst (λ v. Adds before q v after) is a)) labels
     (λ e. subst (HaveEqualLabels t u) same (to e)) (λ h. from (subst (HaveEqualLabels t u) (sym same) h))
-
-pub extends_back : (before after : List RowPair) → Extends before after → (i : ℕ) (p : RowPair) → i < length before
-    → slice_get after i ≡ Some p → slice_get before i ≡ Some p
-extends_back before after e i p h there =
-    sym (get_more before e.more i h) ∙ sym (ap (λ ps. slice_get ps i) e.all) ∙ there
 
 no_pairs : AllPairs {X = RowPair} (λ p q. p ≢ q) []
 no_pairs i j d below h = absurd (omega (arith, h))

@@ -1,31 +1,22 @@
-use Rattle.std.proofs.Common.{ℕ, zero, suc, ◌≡◌, Some, None, List, [], ◌∷◌, refl, ap, sym, ◌∙◌, subst}
+use Rattle.std.proofs.Common.{ℕ, zero, suc, ◌≡◌, Some, None, List, [], ◌∷◌, refl, ap, sym, ◌∙◌}
 use Rattle.std.proofs.Common.{arith}
-use Rattle.std.proofs.lemmas.Option.{same_Some}
 use Rattle.std.specs.Prelude.{Contains}
 use Rattle.rx_spec.specs.Machines.{Label}
-use Rattle.rx_spec.specs.Tables.{Table}
-use Rattle.rx_spec.specs.declared.Unit.{Unit}
 use Rattle.lemmas_walks.proofs.Firsts.{Contains-nil}
-use Rattle.rx_equal.specs.declared.evidence.Link.{Link}
-use Rattle.rx_equal.specs.Evidence.{RowPair, AreClosed, AreEvidence, pairs_from}
-use Rattle.rx_equal.specs.Examples.{at_edge, one_pattern, telling, three_links}
+use Rattle.rx_equal.specs.Evidence.{RowPair}
+use Rattle.rx_equal.specs.Examples.{at_edge}
 use Rattle.rx_equal.proofs.FourRows.{three_closed, three_pairs}
+use Rattle.rx_equal.proofs.Meets.{evidence_closed}
 use Rattle.rx_equal.proofs.examples.evidence.Goals as goal
 
 pub returns-clause-whole : goal.returns-clause-whole
 returns-clause-whole c =
     record { pairs = three_pairs 3 3; named = refl; closed = three_closed 2 3 3 (0 ∷ []) (0 ∷ []) refl refl refl }
 
--- the pairs of links that are evidence are closed
-closed_of : (t u : Table) (links : List Link) (pairs : List RowPair) → pairs_from t u [] links ≡ Some pairs
-    → AreEvidence t u links → AreClosed t u pairs
-closed_of t u links pairs e evidence =
-    subst (AreClosed t u) (sym (same_Some pairs evidence.pairs (sym e ∙ evidence.named))) evidence.closed
-
 pub returns-clause-no_start : goal.returns-clause-no_start
 returns-clause-no_start c = λ evidence.
     Contains-nil (record { row = 2; other = 2 })
-    ((closed_of one_pattern one_pattern [] [] refl evidence).starts at_edge (record { mode = tt; beside = tt }))
+    ((evidence_closed {pairs = []} refl evidence).starts at_edge (record { mode = tt; beside = tt }))
 
 abbrev two_pairs : List RowPair
 two_pairs = record { row = 2; other = 2 } ∷ record { row = 3; other = 3 } ∷ []
@@ -43,8 +34,7 @@ no_dead (suc (suc k), h, e) = omega (arith, h)
 
 pub returns-clause-no_next : goal.returns-clause-no_next
 returns-clause-no_next c = λ evidence.
-    no_dead ((closed_of one_pattern one_pattern (Link.Start at_edge ∷ Link.Next 0 (Unit.Byte 97) ∷ []) two_pairs refl
-    evidence).nexts (record { row = 2; other = 2 }) 256 (0, omega arith, refl) (omega arith))
+    no_dead ((evidence_closed {pairs = two_pairs} refl evidence).nexts (record { row = 2; other = 2 }) 256 (0, omega arith, refl) (omega arith))
 
 no_pairs : (pairs : List RowPair) → None ≡ Some pairs → ⊥
 no_pairs pairs e = cc
@@ -57,5 +47,5 @@ first_is_no_second e = cc
 
 pub returns-clause-other_pattern : goal.returns-clause-other_pattern
 returns-clause-other_pattern c = λ evidence.
-    first_is_no_second ((closed_of one_pattern (telling (1 ∷ [])) three_links (three_pairs 3 3) refl evidence).labels
+    first_is_no_second ((evidence_closed {pairs = three_pairs 3 3} refl evidence).labels
     (record { row = 3; other = 3 }) (1, omega arith, refl))

@@ -3,22 +3,17 @@ use Rattle.std.specs.Prelude.{nat_eq}
 use Rattle.std.specs.HashSet.{contains}
 use Rattle.rx_equal.specs.Pairs.{pairs_of, key_of}
 use Rattle.rx_equal.proofs.Tests.{from_not}
-use Rattle.rx_equal.proofs.Kept.{rows_more, ids_more, knows_more, knows_same}
+use Rattle.rx_equal.proofs.Kept.{kept_more, knows_same, rows_more}
 use Rattle.rx_equal.proofs.pairs.Pairs.add.Goals as goal
 
 pub returns : goal.returns
 returns c = λ ids others kept is.
-    let items = c.args.self.now.list.items in
-    let more = c.push.new.self.items in
-    let e = c.in_ok-push.ensures.items in (
-      record {
-        are_ids = ids_more ids others items more c.args.pair.now e kept.are_ids is;
-        set_is = knows_more ids others c.insert.new.self items more c.args.pair.now e
-            (c.in_ok-insert.ensures.known ids others (pairs_of ids others c.args.self.now) is kept.set_is);
-      },
+    let before = c.args.self.now in
+    let more = c.in_ok-push.ensures.items in (
+      kept_more kept is more (c.in_ok-insert.ensures.known ids others (pairs_of ids others before) is kept.set_is),
       (
         λ there. c.in_ok-insert.ensures.added.0 c.if-not-branch.false ((kept.set_is c.args.pair.now is).1 there),
-        rows_more ids others items more c.args.pair.now e,
+        rows_more ids others before.list.items c.push.new.self.items c.args.pair.now more,
       ),
     )
 
