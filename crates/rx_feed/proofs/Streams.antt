@@ -74,7 +74,7 @@ pub record HasRead (t : Table) (ids : List ℕ) (old here : Place) (ends : Ends)
 pub has_read_none : (t : Table) (ids : List ℕ) (place : Place) (left written : Option (List ℕ))
     → is_open place.stage ≡ true → now t ids place [] ≡ []
     → HasRead t ids place place
-    (record { left_before = left; left_after = left; written_before = written; written_after = written })
+    (ends_by left left written written)
 has_read_none t ids place left written still none = record {
   haystack = [];
   bytes = All-nil (λ b. b < 256);
@@ -82,29 +82,26 @@ has_read_none t ids place left written still none = record {
   read = read_none t ids place written still none;
 }
 
+-- a piece was read: so many bytes, and no more than a piece has
+pub record IsPiece (left left' : Option (List ℕ)) (count : ℕ) (piece : List ℕ) : Type 0 where
+  pub bytes : AreBytes piece
+  pub taken : Consumes left left' piece
+  pub len : length piece ≡ count
+  pub short : count ≤ most_of_piece
+
 -- from one call to the next: what is left and what was written
 module _ {t : Table} {ids : List ℕ} {old here : Place} {left_before left : Option (List ℕ)}
     {written_before written : Option (List ℕ)}
-    (has : HasRead t ids old here (record {
-      left_before = left_before;
-      left_after = left;
-      written_before = written_before;
-      written_after = written;
-    })) where
+    (has : HasRead t ids old here (ends_by left_before left written_before written)) where
   -- the next piece
-  pub has_read_more : {new : Place} (piece : List ℕ) (left' written' : Option (List ℕ)) → AreBytes piece
-      → Consumes left left' piece → IsRead t ids here new piece (record { before = written; after = written' })
-      → HasRead t ids old new (record {
-        left_before = left_before;
-        left_after = left';
-        written_before = written_before;
-        written_after = written';
-      })
-  has_read_more {new} piece left' written' bytes taken read = record {
+  pub has_read_more : {new : Place} {piece : List ℕ} {count : ℕ} {left' written' : Option (List ℕ)}
+      → IsPiece left left' count piece → IsRead t ids here new piece (record { before = written; after = written' })
+      → HasRead t ids old new (ends_by left_before left' written_before written')
+  has_read_more {piece = piece} {left' = left'} got read = record {
     haystack = has.haystack ++ piece;
-    bytes = All-append (λ b. b < 256) has.haystack piece has.bytes bytes;
-    taken = consumes_more left_before left left' has.haystack piece has.taken taken;
-    read = read_more has.read bytes read;
+    bytes = All-append (λ b. b < 256) has.haystack piece has.bytes got.bytes;
+    taken = consumes_more left_before left left' has.haystack piece has.taken got.taken;
+    read = read_more has.read got.bytes read;
   }
 
   module _ {mode : Anchored} (new : IsNew t ids mode old) where
@@ -128,12 +125,7 @@ module _ {t : Table} {ids : List ℕ} {old here : Place} {left_before left : Opt
         → count ≡ length has.haystack → length has.haystack ≤ most_data → (over ≡ true → has.haystack ≡ [])
         → Keeps left left' → IsAtEnd left'
         → Writes written written' (lines (remaining t ids here []) ++ end_line count) 0 result
-        → StreamEnds t mode over (record {
-          left_before = left_before;
-          left_after = left';
-          written_before = written_before;
-          written_after = written';
-        }) result
+        → StreamEnds t mode over (ends_by left_before left' written_before written') result
     stream_ended left' written' over count result same few short kept at_end w =
         let told_lines : List ℕ = lines (now t ids old has.haystack) in
         let rest : List ℕ = lines (remaining t ids here []) in
@@ -157,12 +149,7 @@ module _ {t : Table} {ids : List ℕ} {old here : Place} {left_before left : Opt
 
     -- the source fails
     pub stream_cut : (left' : Option (List ℕ)) → length has.haystack ≤ most_data → Keeps left left'
-        → StreamCut t mode false (record {
-          left_before = left_before;
-          left_after = left';
-          written_before = written_before;
-          written_after = written;
-        })
+        → StreamCut t mode false (ends_by left_before left' written_before written)
     stream_cut left' few kept = record {
       haystack = has.haystack;
       taken = consumes_kept left_before left left' has.haystack has.taken kept;
@@ -179,12 +166,7 @@ module _ {t : Table} {ids : List ℕ} {old here : Place} {left_before left : Opt
     -- too many bytes were taken
     pub stream_long : (written' : Option (List ℕ)) (result : Result ℕ Fault) → most_data < length has.haystack
         → length has.haystack ≤ most_data + most_of_piece → Writes written written' long_line 2 result
-        → StreamEnds t mode false (record {
-          left_before = left_before;
-          left_after = left;
-          written_before = written_before;
-          written_after = written';
-        }) result
+        → StreamEnds t mode false (ends_by left_before left written_before written') result
     stream_long written' result long few w =
         let takes : TakesText false (ends_by left_before left written_before written') has.haystack false = record {
           takes = record { taken = has.taken; at_end = λ e. absurd (cc) };
@@ -195,31 +177,34 @@ module _ {t : Table} {ids : List ℕ} {old here : Place} {left_before left : Opt
 
     -- ---- the last piece
 
-    module _ (piece : List ℕ) (left' written' : Option (List ℕ)) (bytes : AreBytes piece)
-        (taken : Consumes left left' piece) where
+    module _ {taken count : ℕ} {piece : List ℕ} {left' : Option (List ℕ)} (so_far : taken ≡ length has.haystack)
+        (got : IsPiece left left' count piece) where
       abbrev all : List ℕ
       all = has.haystack ++ piece
 
       all_taken : Consumes left_before left' all
-      all_taken = consumes_more left_before left left' has.haystack piece has.taken taken
+      all_taken = consumes_more left_before left left' has.haystack piece has.taken got.taken
+
+      all_len : length all ≡ taken + count
+      all_len = omega (arith, length-append has.haystack piece, got.len, so_far)
 
       -- the last piece tells an event after others
       tells_last : (told_here later : List StreamEvent) (event : StreamEvent)
           → now t ids here piece ≡ told_here ++ (event ∷ later)
           → told_now t mode all ≡ (now t ids old has.haystack ++ told_here) ++ (event ∷ later)
       tells_last told_here later event tells =
-          sym (new.tells_now all) ∙ has.read.tells_now piece bytes
+          sym (new.tells_now all) ∙ has.read.tells_now piece got.bytes
           ∙ ap (λ (es : List StreamEvent). now t ids old has.haystack ++ es) tells
           ∙ sym (append_assoc (now t ids old has.haystack) told_here (event ∷ later))
 
-      told_last : (told_here later : List StreamEvent) (event : StreamEvent) → length piece ≤ most_of_piece
+      told_last : (told_here later : List StreamEvent) (event : StreamEvent)
           → now t ids here piece ≡ told_here ++ (event ∷ later)
           → IsToldLast t mode all (now t ids old has.haystack ++ told_here) event
-      told_last told_here later event short tells = record {
+      told_last told_here later event tells = record {
         before = has.haystack;
         last = piece;
         joined = refl;
-        short = short;
+        short = omega (arith, got.len, got.short);
         earlier = omega (arith, ap length now_is, length-append (now t ids old has.haystack) told_here);
         later = later;
         tells = tells_last told_here later event tells;
@@ -234,23 +219,18 @@ module _ {t : Table} {ids : List ℕ} {old here : Place} {left_before left : Opt
           has.read.lines p)
 
       -- the sink fails in it
-      pub stream_broken : length piece ≤ most_of_piece → length all ≤ most_data + most_of_piece
+      pub stream_broken : {written' : Option (List ℕ)} → taken ≤ most_data
           → IsBroken t ids here piece (record { before = written; after = written' })
-          → StreamBreaks t mode false (record {
-            left_before = left_before;
-            left_after = left';
-            written_before = written_before;
-            written_after = written';
-          })
-      stream_broken short few is =
+          → StreamBreaks t mode false (ends_by left_before left' written_before written')
+      stream_broken few is =
           StreamBreaks.AtEvent all all_taken refl
           (record {
             supported = new.supported;
-            few = few;
+            few = omega (arith, all_len, got.short, few);
             told = now t ids old has.haystack ++ is.told;
             event = is.event;
             is_match = is.is_match;
-            last = told_last is.told is.later is.event short is.tells;
+            last = told_last is.told is.later is.event is.tells;
             lines = record {
               between = is.lines.between;
               whole = lines_after is.told is.lines.between is.lines.whole;
@@ -259,8 +239,8 @@ module _ {t : Table} {ids : List ℕ} {old here : Place} {left_before left : Opt
           })
 
       -- it holds a quit byte
-      module _ {byte offset : ℕ} (is : MeetsQuit t ids here piece (record { before = written; after = written' })
-          byte offset) where
+      module _ {written' : Option (List ℕ)} {byte offset : ℕ}
+          (is : MeetsQuit t ids here piece (record { before = written; after = written' }) byte offset) where
         takes_all : (last : Option (List ℕ))
             → TakesText false (ends_by left_before left' written_before last) all false
         takes_all last = record {
@@ -279,32 +259,24 @@ module _ {t : Table} {ids : List ℕ} {old here : Place} {left_before left : Opt
         quit_lines : Appends written_before written' (now_lines t mode all)
         quit_lines = subst (Appends written_before written') quit_lines_are (lines_after is.told written' is.lines)
 
-        pub stream_quit : (last : Option (List ℕ)) (result : Result ℕ Fault) → length piece ≤ most_of_piece
-            → length all ≤ most_data → Writes written' last (quit_line byte offset) 4 result
-            → StreamEnds t mode false (record {
-              left_before = left_before;
-              left_after = left';
-              written_before = written_before;
-              written_after = last;
-            }) result
-        stream_quit last result short few w =
+        pub stream_quit : (last : Option (List ℕ)) (result : Result ℕ Fault) → taken + count ≤ most_data
+            → Writes written' last (quit_line byte offset) 4 result
+            → StreamEnds t mode false (ends_by left_before left' written_before last) result
+        stream_quit last result few w =
             stream_answer {status = 4} written' (quit_line byte offset) result (takes_all last)
-            (StreamReplies.Quit (now t ids old has.haystack ++ is.told) byte offset new.supported few quit_matches
-            (told_last is.told [] (StreamEvent.Quit byte offset) short is.tells)
+            (StreamReplies.Quit (now t ids old has.haystack ++ is.told) byte offset new.supported
+            (omega (arith, all_len, few)) quit_matches
+            (told_last is.told [] (StreamEvent.Quit byte offset) is.tells)
             (ap (λ (l : List ℕ). l ++ quit_line byte offset) (sym quit_lines_are)) refl)
             quit_lines w
 
-        pub stream_long_quit : (last : Option (List ℕ)) (result : Result ℕ Fault) → most_data < length all
-            → length all ≤ most_data + most_of_piece → Writes written' last long_line 2 result
-            → StreamEnds t mode false (record {
-              left_before = left_before;
-              left_after = left';
-              written_before = written_before;
-              written_after = last;
-            }) result
+        pub stream_long_quit : (last : Option (List ℕ)) (result : Result ℕ Fault) → most_data < taken + count
+            → taken ≤ most_data → Writes written' last long_line 2 result
+            → StreamEnds t mode false (ends_by left_before left' written_before last) result
         stream_long_quit last result long few w =
             stream_answer {status = 2} written' long_line result (takes_all last)
-            (StreamReplies.Long new.supported long few refl refl) quit_lines w
+            (StreamReplies.Long new.supported (omega (arith, all_len, long)) (omega (arith, all_len, got.short, few)) refl
+            refl) quit_lines w
 
 -- ---- no piece is read
 
