@@ -27,9 +27,6 @@ times_whole a i s whole some =
     let e : a + i * s ≡ (a / s + i) * s = omega (arith, quotient a s whole) in
     ap (λ (n : ℕ). n % s) e ∙ mul-mod_left (a / s + i) s
 
-within_last : (a b i s : ℕ) → 0 < s → i < (b - a) / s + 1 → i ≡ 0 → a + i * s ≡ a
-within_last a b i s some lt e = rw e (omega arith)
-
 up_to : (d i s : ℕ) → 0 < s → i < d / s + 1 → i * s ≤ d
 up_to d i s some lt = grind arith
 

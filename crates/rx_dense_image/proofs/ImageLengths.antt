@@ -20,7 +20,7 @@ use Rattle.rx_dense_image.specs.Marks.{Marks, accel_text, accels_text, marks_tex
 use Rattle.rx_dense_image.specs.Images.{image_len, marks_of, pattern_lists_of, start_table_of, text}
 
 -- behind a field of four bytes
-word_then : (order : Order) (n : ℕ) (rest : List ℕ) → length (field order w32 n ++ rest) ≡ 4 + length rest
+pub word_then : (order : Order) (n : ℕ) (rest : List ℕ) → length (field order w32 n ++ rest) ≡ 4 + length rest
 word_then order n rest = omega (arith, length-append (field order w32 n) rest, length-field_32 order n)
 
 pub length-words : (order : Order) (words : List ℕ) → length (words_text order words) ≡ 4 * length words
@@ -30,16 +30,16 @@ length-words order (w ∷ ws) =
     ∙ length-append (field order w32 w) (words_text order ws)
     ∙ omega (arith, length-field_32 order w, length-words order ws)
 
-length-head : (order : Order) (flags : Flags) → length (head_text order dense_label flags) ≡ 48
-length-head order flags =
+pub length-head : (order : Order) (name : List ℕ) (flags : Flags) → length (label_text name) ≡ 32
+    → length (head_text order name flags) ≡ 48
+length-head order name flags label =
     let t4 : List ℕ = field order w32 (flags_word flags) in
     let t3 : List ℕ = field order w32 0 ++ t4 in
     let t2 : List ℕ = field order w32 dense_version ++ t3 in
     let t1 : List ℕ = field order w32 endianness_word ++ t2 in
-    let label : length (label_text dense_label) ≡ 32 = refl in
     omega (
       arith,
-      length-append (label_text dense_label) t1,
+      length-append (label_text name) t1,
       label,
       word_then order endianness_word t2,
       word_then order dense_version t3,
@@ -61,7 +61,7 @@ length-rows order rows classes =
       length-words order rows.words,
     )
 
-length-start_table : (order : Order) (table : StartTable) → length table.contexts ≡ 256
+pub length-start_table : (order : Order) (table : StartTable) → length table.contexts ≡ 256
     → length (start_table_text order table) ≡ 276 + 4 * length table.starts
 length-start_table order table contexts =
     let t5 : List ℕ = words_text order table.starts in
@@ -120,6 +120,15 @@ pub length-accels : (order : Order) (accels : List (List ℕ)) → length (accel
 length-accels order accels =
     omega (arith, word_then order (length accels) (flat_map accel_text accels), length-each accels)
 
+pub length-quit : (order : Order) (quit : ℕ) → length (quit_text order quit) ≡ 32
+length-quit order quit =
+    omega (
+      arith,
+      length-append (field order w128 (quit % 2 ^ 128)) (field order w128 (quit / 2 ^ 128)),
+      length-field_128 order (quit % 2 ^ 128),
+      length-field_128 order (quit / 2 ^ 128),
+    )
+
 length-marks : (order : Order) (marks : Marks) → length (marks_text order marks) ≡ 68 + 8 * length marks.accels
 length-marks order marks =
     let quit : List ℕ = quit_text order marks.quit in
@@ -131,9 +140,7 @@ length-marks order marks =
       length-append accels quit,
       word_then order (length marks.accels) (flat_map accel_text marks.accels),
       length-each marks.accels,
-      length-append (field order w128 (marks.quit % 2 ^ 128)) (field order w128 (marks.quit / 2 ^ 128)),
-      length-field_128 order (marks.quit % 2 ^ 128),
-      length-field_128 order (marks.quit / 2 ^ 128),
+      length-quit order marks.quit,
     )
 
 pub length-text : (order : Order) (l : Layout) → length l.classes ≡ 256 → length l.contexts ≡ 256
@@ -147,7 +154,7 @@ length-text order l classes contexts =
     omega (
       arith,
       length-append (head_text order dense_label l.flags) t1,
-      length-head order l.flags,
+      length-head order dense_label l.flags refl,
       length-append (rows_text order (rows_of l)) t2,
       length-rows order (rows_of l) classes,
       length-append (start_table_text order (start_table_of l)) t3,

@@ -12,9 +12,11 @@ pub mod Accelerators
 pub mod StrangerCounts
 pub mod AccelRows
 pub mod LeavingBytes
--- what the closing tests say, and so: what is read is a dense table, and sound
+-- what the closing tests say, and so: what is read is a dense table, and sound; what tests of
+-- special ids say
 pub mod ClosedFacts
 pub mod ShapedImages
+pub mod SpecialTests
 pub mod SoundImages
 -- writing: parts that stand one behind another, quit bytes in two halves, how many bytes parts have
 pub mod Behind

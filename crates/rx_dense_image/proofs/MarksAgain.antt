@@ -1,6 +1,6 @@
 -- What was written is read again: special ids, needles and quit bytes.
 use Rattle.std.proofs.Common.{◌≡◌, ℕ, zero, suc, ◌+◌, ◌*◌, ◌/◌, ◌%◌, ◌^◌, ◌<◌, ◌≤◌, List, [], ◌∷◌, ◌++◌, length}
-use Rattle.std.proofs.Common.{get_or, drop, map, Ok, refl, sym, ap, subst, ◌∙◌, append_assoc, arith, rules}
+use Rattle.std.proofs.Common.{get_or, drop, map, true, Ok, refl, sym, ap, subst, ◌∙◌, append_assoc, arith, rules}
 use Rattle.std.specs.List.{flat_map, range_with_len}
 use Rattle.std.specs.Int.{w32, w128}
 use Rattle.std.proofs.lemmas.Bool.{lt-ltb}
@@ -13,8 +13,8 @@ use Rattle.rx_wire.specs.Kinds.{Kind, Reads}
 use Rattle.rx_wire.specs.Fields.{bytes_at, field}
 use Rattle.rx_wire.proofs.Fields.{bytes_again, id_again, u128_again, u32_again}
 use Rattle.rx_dense.specs.declared.special.Special.{Special}
-use Rattle.rx_dense_image.specs.Marks.{AreReadMarks, Marks, accel_text, accels_at, accels_text, id_pair_at, marks_at}
-use Rattle.rx_dense_image.specs.Marks.{marks_text}
+use Rattle.rx_dense_image.specs.Marks.{AreReadMarks, Marks, accel_text, accels_at, accels_text, are_special, id_pair_at}
+use Rattle.rx_dense_image.specs.Marks.{marks_at, marks_text}
 use Rattle.rx_dense_image.specs.Marks.{needles_in, needles_of, quit_at, quit_text, special_at, special_ids_at}
 use Rattle.rx_dense_image.specs.Marks.{special_text}
 use Rattle.rx_dense_image.proofs.ImageLengths.{length-accel, length-each, length-special}
@@ -61,17 +61,16 @@ special_ids_again order s h rest =
     )
     refl
 
-special_again : (order : Order) (word_len : ℕ) (marks : Marks) → AreReadMarks word_len marks
-    → AreSpecialIds marks.special → Reads (special_at order word_len) (special_text order marks.special) marks.special
+pub special_again : (order : Order) (len : ℕ) (s : Special) → are_special s ≡ true → s.max < len → AreSpecialIds s
+    → Reads (special_at order len) (special_text order s) s
 unfolding special_at
-special_again order word_len marks h ids rest =
-    let text : List ℕ = special_text order marks.special in
+special_again order len s special within ids rest =
+    let text : List ℕ = special_text order s in
     let front : bytes_at 32 (text ++ rest) ≡ Ok (text, rest) =
-    subst (λ (n : ℕ). bytes_at n (text ++ rest) ≡ Ok (text, rest)) (length-special order marks.special)
-    (bytes_again text rest) in
-    let read : special_ids_at order text ≡ Ok (marks.special, []) =
-    ap (special_ids_at order) (sym (append-nil text)) ∙ special_ids_again order marks.special ids [] in
-    rw (front, read, h.special, lt-ltb _ _ h.within) refl
+    subst (λ (n : ℕ). bytes_at n (text ++ rest) ≡ Ok (text, rest)) (length-special order s) (bytes_again text rest) in
+    let read : special_ids_at order text ≡ Ok (s, []) =
+    ap (special_ids_at order) (sym (append-nil text)) ∙ special_ids_again order s ids [] in
+    rw (front, read, special, lt-ltb _ _ within) refl
 
 -- ---- needles
 
@@ -125,7 +124,7 @@ accels_again order word_len marks h rest =
 
 -- ---- quit bytes
 
-quit_again : (order : Order) (quit : ℕ) → quit < 2 ^ 256 → Reads (quit_at order) (quit_text order quit) quit
+pub quit_again : (order : Order) (quit : ℕ) → quit < 2 ^ 256 → Reads (quit_at order) (quit_text order quit) quit
 unfolding quit_at
 quit_again order quit small rest =
     let low : ℕ = quit % 2 ^ 128 in
@@ -155,7 +154,7 @@ marks_again order word_len marks h ids rest =
     (append_assoc (accels_text order marks.accels) (quit_text order marks.quit) rest) in
     ap (marks_at order word_len) regrouped
     ∙ rw (
-      special_again order word_len marks h ids t1,
+      special_again order word_len marks.special h.special h.within ids t1,
       accels_again order word_len marks h t2,
       quit_again order marks.quit h.quit rest,
     )

@@ -4,6 +4,7 @@ use Rattle.std.proofs.Common.{ltb}
 use Rattle.std.proofs.Common.{leb, eqb, Option, Some, None, List, [], length, drop, get_or, slice_index}
 use Rattle.std.proofs.Common.{Contains, refl, sym, ap, subst, ◌∙◌, arith, inl, inr}
 use Rattle.std.specs.Prelude.{Result, Ok, Err, IfOk}
+use Rattle.std.specs.Cmp.{both_ways}
 use Rattle.std.specs.List.{list_all, range_with_len}
 use Rattle.std.specs.Str.{bytes_eq}
 use Rattle.std.proofs.Math.Nat.{mul-div_cancel}
@@ -31,100 +32,22 @@ use Rattle.rx_dense_image.specs.Marks.{are_past_quit, are_ranges, are_special, b
 use Rattle.rx_dense_image.specs.Closing.{has_needles, is_list, is_named, leaves, leaving_id, range_len}
 use Rattle.rx_dense_image.specs.Images.{IsRead, IsWhole}
 use Rattle.rx_dense_image.proofs.EachBelow.{cases_bool}
+use Rattle.rx_dense_image.proofs.SpecialTests.{accel_range, alike, and_never, label_by, lists_by, match_range, matches_by}
+use Rattle.rx_dense_image.proofs.SpecialTests.{named_few, no_match, not_true, plain_by, quits_by, quits_only_by}
+use Rattle.rx_dense_image.proofs.SpecialTests.{range_begins, within_of}
 use Rattle.rx_dense_image.proofs.ClosedFacts.{AreClosed, closed}
 use Rattle.rx_dense_image.proofs.ShapedImages.{shaped_of}
 use Rattle.rx_dense_image.proofs.LeavingBytes.{leaving_is}
 
--- ---- labels by the two tests
-
-label_by : Bool → Bool → List ℕ → Label
-label_by m q ks = cond m (Label.Matches ks) (cond q Label.Quits Label.Plain)
-
+-- a label by the two tests
 is_label : (l : Layout) (id : ℕ) → label_of_id l id
     ≡ label_by (is_match_id l.special id) (is_quit_id l.special id)
     (patterns_at l (place_in_range l l.special.min_match id))
 unfolding label_by
 is_label l id = refl
 
-plain_by : (m q : Bool) (ks : List ℕ) → m ≡ false → q ≡ false → label_by m q ks ≡ Label.Plain
-unfolding label_by
-plain_by m q ks e f = rw (e, f) refl
-
-quits_by : (m q : Bool) (ks : List ℕ) → m ≡ false → q ≡ true → label_by m q ks ≡ Label.Quits
-unfolding label_by
-quits_by m q ks e f = rw (e, f) refl
-
-quits_only_by : (m q : Bool) (ks : List ℕ) → label_by m q ks ≡ Label.Quits → q ≡ true
-unfolding label_by
-quits_only_by true q ks e = absurd cc
-quits_only_by false true ks e = refl
-quits_only_by false false ks e = absurd cc
-
-matches_by : (m q : Bool) (ks : List ℕ) → is_match_label (label_by m q ks) ≡ m
-unfolding label_by
-matches_by true q ks = refl
-matches_by false true ks = refl
-matches_by false false ks = refl
-
-lists_by : (m q : Bool) (ks xs : List ℕ) → label_by m q ks ≡ Label.Matches xs → (m ≡ true) × (ks ≡ xs)
-unfolding label_by
-lists_by true q ks xs e = (refl, cc)
-lists_by false true ks xs e = absurd cc
-lists_by false false ks xs e = absurd cc
-
--- ---- tests of numbers
-
-and_never : (b : Bool) → (b && false) ≡ false
-and_never true = refl
-and_never false = refl
-
-false_of : (b : Bool) → (b ≡ true → ⊥) → b ≡ false
-false_of true h = absurd (h refl)
-false_of false h = refl
-
-not_true : (b : Bool) → not b ≡ true → b ≡ false
-not_true true h = absurd cc
-not_true false h = refl
-
--- what a range of ids says of an id
-pub record IsWithin (first last id : ℕ) : Type 0 where
-  pub from : first ≤ id
-  pub to : id ≤ last
-  pub some : 0 < id
-
-within_of : (first last id : ℕ) → is_in_range first last id ≡ true → IsWithin first last id
-within_of first last id test =
-    let outer = and_parts _ (not (eqb id 0)) test in
-    let inner = and_parts (leb first id) (leb id last) outer.0 in
-    record { from = leb-true _ _ inner.0; to = leb-true _ _ inner.1; some = above id outer.1 }
-  where
-    above : (id : ℕ) → not (eqb id 0) ≡ true → 0 < id
-    above id h = grind arith
-
--- a range that has an id begins above 0
-range_begins : (first last : ℕ) → is_range first last ≡ true → 0 < last → 0 < first
-range_begins first last test some =
-    elim (cases_eq first 0) [
-      | inl none ↦ (
-          let e : eqb last 0 ≡ true = sym (ap (λ (b : Bool). cond b (eqb last 0) (leb first last)) (eq-eqb _ _ none))
-          ∙ test in
-          absurd (omega (arith, some, eqb-true _ _ e)))
-      | inr there ↦ (omega (arith, there))
-    ]
-
-past_quit : (quit first : ℕ) → is_past_quit quit first ≡ true → 0 < first → quit < first
-past_quit quit first test some =
-    let none : eqb first 0 ≡ false = ne_eqb first 0 (λ e. absurd (omega (arith, some, e))) in
-    ltb-true _ _ (sym (ap (λ (b : Bool). b || ltb quit first) none) ∙ test)
-
 division : (d m s : ℕ) → 0 < s → d ≤ m → d / s < m / s + 1
 division d m s some le = grind arith
-
-same_test : (a b : Bool) → (a ≡ true → b ≡ true) → (b ≡ true → a ≡ true) → a ≡ b
-same_test true true f g = refl
-same_test true false f g = sym (f refl)
-same_test false true f g = g refl
-same_test false false f g = refl
 
 module _ (l : Layout) (read : IsRead l) (facts : AreClosed l) where
   s : ℕ
@@ -136,41 +59,6 @@ module _ (l : Layout) (read : IsRead l) (facts : AreClosed l) where
   some : 0 < stride l
   some = pow_pos l.stride2
 
-  -- ---- special ids
-
-  special : are_special l.special ≡ true
-  special = read.marks.special
-
-  ranges : are_ranges l.special ≡ true
-  ranges =
-      (and_parts (are_ranges l.special) (are_past_quit l.special)
-      (and_parts _ (begin_in_order l.special)
-      (and_parts _ (leb (greatest l.special) l.special.max) read.marks.special).0).0).0
-
-  pasts : are_past_quit l.special ≡ true
-  pasts =
-      (and_parts (are_ranges l.special) (are_past_quit l.special)
-      (and_parts _ (begin_in_order l.special)
-      (and_parts _ (leb (greatest l.special) l.special.max) read.marks.special).0).0).1
-
-  most : greatest l.special ≤ l.special.max
-  most = leb-true _ _ (and_parts _ (leb (greatest l.special) l.special.max) read.marks.special).1
-
-  match_range : is_range l.special.min_match l.special.max_match ≡ true
-  match_range =
-      (and_parts (is_range l.special.min_match l.special.max_match) (is_range l.special.min_accel l.special.max_accel)
-      (and_parts _ (is_range l.special.min_start l.special.max_start) ranges).0).0
-
-  accel_range : is_range l.special.min_accel l.special.max_accel ≡ true
-  accel_range =
-      (and_parts (is_range l.special.min_match l.special.max_match) (is_range l.special.min_accel l.special.max_accel)
-      (and_parts _ (is_range l.special.min_start l.special.max_start) ranges).0).1
-
-  match_past : is_past_quit l.special.quit l.special.min_match ≡ true
-  match_past =
-      (and_parts (is_past_quit l.special.quit l.special.min_match) (is_past_quit l.special.quit l.special.min_accel)
-      (and_parts _ (is_past_quit l.special.quit l.special.min_start) pasts).0).0
-
   -- ---- rows 0 and 1
 
   zero_row : IsRowId l 0
@@ -179,18 +67,10 @@ module _ (l : Layout) (read : IsRead l) (facts : AreClosed l) where
     below = let two = shape.rows.two in omega (arith, two);
   }
 
-  no_match : (id : ℕ) → id ≤ l.special.quit → is_match_id l.special id ≡ false
-  no_match id le =
-      false_of (is_match_id l.special id) (λ test.
-      let h = within_of l.special.min_match l.special.max_match id test in
-      let first = range_begins l.special.min_match l.special.max_match match_range (omega (arith, h.some, h.to)) in
-      let past = past_quit l.special.quit l.special.min_match match_past first in
-      absurd (omega (arith, past, h.from, le)))
-
   zero_label : label_of_id l 0 ≡ Label.Plain
   zero_label =
       is_label l 0
-      ∙ plain_by (is_match_id l.special 0) (is_quit_id l.special 0) _ (no_match 0 (omega arith))
+      ∙ plain_by (is_match_id l.special 0) (is_quit_id l.special 0) _ (no_match l.special read.marks.special 0 (omega arith))
       (and_never (eqb 0 l.special.quit))
 
   -- a word of the first two rows
@@ -323,7 +203,7 @@ module _ (l : Layout) (read : IsRead l) (facts : AreClosed l) where
       ap (label_of_id l) one
       ∙ is_label l (stride l)
       ∙ quits_by (is_match_id l.special (stride l)) (is_quit_id l.special (stride l)) _
-      (no_match (stride l) (omega (arith, facts.special.quit))) quits
+      (no_match l.special read.marks.special (stride l) (omega (arith, facts.special.quit))) quits
 
   quits_only : (row : ℕ) → label_of_id l (row * stride l) ≡ Label.Quits → row ≡ 1
   quits_only row e =
@@ -351,7 +231,8 @@ module _ (l : Layout) (read : IsRead l) (facts : AreClosed l) where
       (omega (
         arith,
         facts.list_count,
-        range_place l.special.min_match l.special.max_match id match_range test,
+        range_place l.special.min_match l.special.max_match id
+        (match_range l.special read.marks.special) test,
       ))
 
   list_some : (i : ℕ) → is_list l i ≡ true → 0 < length (patterns_at l i)
@@ -404,7 +285,8 @@ module _ (l : Layout) (read : IsRead l) (facts : AreClosed l) where
       (omega (
         arith,
         facts.accel_count,
-        range_place l.special.min_accel l.special.max_accel id accel_range test,
+        range_place l.special.min_accel l.special.max_accel id
+        (accel_range l.special read.marks.special) test,
       ))
 
   -- the needles that are kept for an accelerated row
@@ -461,7 +343,7 @@ module _ (l : Layout) (read : IsRead l) (facts : AreClosed l) where
       same byte u =
           let next : ℕ = next_id l (row * stride l) byte in
           let back = quotient next (stride l) (next_row row byte lt u).whole in
-          same_test (eqb next (row * stride l)) (eqb (next / stride l) row)
+          both_ways (eqb next (row * stride l)) (eqb (next / stride l) row)
           (λ e. eq-eqb _ _ (ap (λ (n : ℕ). n / stride l) (eqb-true _ _ e) ∙ mul-div_cancel row some))
           (λ e. eq-eqb _ _ (sym back ∙ ap (λ (n : ℕ). n * stride l) (eqb-true _ _ e)))
 
@@ -496,10 +378,10 @@ module _ (l : Layout) (read : IsRead l) (facts : AreClosed l) where
   named_is row =
       let id : ℕ = row * stride l in
       let zero : eqb id 0 ≡ eqb row 0 =
-      same_test (eqb id 0) (eqb row 0) (λ e. eq-eqb _ _ (row_zero row (eqb-true _ _ e)))
+      both_ways (eqb id 0) (eqb row 0) (λ e. eq-eqb _ _ (row_zero row (eqb-true _ _ e)))
       (λ e. eq-eqb _ _ (ap (λ (n : ℕ). n * stride l) (eqb-true _ _ e) ∙ omega arith)) in
       let one : eqb id l.special.quit ≡ eqb row 1 =
-      same_test (eqb id l.special.quit) (eqb row 1)
+      both_ways (eqb id l.special.quit) (eqb row 1)
       (λ e. eq-eqb _ _ (row_one row (eqb-true _ _ e ∙ facts.special.quit)))
       (λ e. eq-eqb _ _
       (ap (λ (n : ℕ). n * stride l) (eqb-true _ _ e) ∙ omega (arith, facts.special.quit))) in
@@ -508,45 +390,17 @@ module _ (l : Layout) (read : IsRead l) (facts : AreClosed l) where
       ∙ matches_by (is_match_id l.special id) (is_quit_id l.special id)
       (patterns_at l (place_in_range l l.special.min_match id))) in
       alike zero one matches (is_accel_id l.special id) (is_start_id l.special id)
-    where
-      alike : {a b c d e f : Bool} → a ≡ b → c ≡ d → e ≡ f → (g h : Bool)
-          → (a || c || e || g || h) ≡ (b || d || f || g || h)
-      alike p q r g h = cc
 
   special_is : (row : ℕ) → leb (row * stride l) l.special.max ≡ is_named l.special (row * stride l)
   special_is row =
       let id : ℕ = row * stride l in
-      same_test (leb id l.special.max) (is_named l.special id)
+      both_ways (leb id l.special.max) (is_named l.special id)
       (λ e.
       let le = leb-true _ _ e in
       let below : row * stride l / stride l < l.special.max / stride l + 1 =
       division (row * stride l) l.special.max (stride l) some le in
       facts.named row (omega (arith, below, mul-div_cancel row some)))
-      (λ e. le-leb id l.special.max (named_few id e))
-    where
-      ends : (l.special.quit ≤ l.special.max) × (l.special.max_match ≤ l.special.max)
-          × (l.special.max_accel ≤ l.special.max) × (l.special.max_start ≤ l.special.max)
-      ends = (omega (arith, most), omega (arith, most), omega (arith, most), omega (arith, most))
-
-      named_few : (id : ℕ) → is_named l.special id ≡ true → id ≤ l.special.max
-      named_few id e =
-          elim (cases_bool (eqb id 0)) [
-            | inl zero ↦ (omega (arith, eqb-true _ _ zero))
-            | inr a ↦ (elim (cases_bool (eqb id l.special.quit)) [
-              | inl quit ↦ (omega (arith, eqb-true _ _ quit, ends.0))
-              | inr b ↦ (elim (cases_bool (is_match_id l.special id)) [
-                | inl m ↦ (omega (arith, (within_of _ _ id m).to, ends.1))
-                | inr c ↦ (elim (cases_bool (is_accel_id l.special id)) [
-                  | inl m ↦ (omega (arith, (within_of _ _ id m).to, ends.2))
-                  | inr d ↦ (omega (arith, (within_of _ _ id (last_of a b c d e)).to, ends.3))
-                ])
-              ])
-            ])
-          ]
-        where
-          last_of : {a b c d f : Bool} → a ≡ false → b ≡ false → c ≡ false → d ≡ false
-              → (a || b || c || d || f) ≡ true → f ≡ true
-          last_of p q r t h = cc
+      (λ e. le-leb id l.special.max (named_few l.special read.marks.special id e))
 
   -- ---- all together
 

@@ -114,9 +114,6 @@ module _ {order : Order} {p : RowParts} (are : AreParts order p) where
   pub id_within : (i : ℕ) → i < length p.ends.now / 2 → 4 * i + 4 ≤ length p.next_ids.now
   id_within i h = omega (arith, h, ids_len)
 
-  pub needles_some : 1 ≤ length p.needles.now
-  needles_some = omega (arith, ap length are.needles)
-
   pub needles_there : drop 1 p.needles.now ≡ (row_of order p).needles
   needles_there = ap (drop 1) are.needles
 

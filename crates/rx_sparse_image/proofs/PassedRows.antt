@@ -26,12 +26,6 @@ use Rattle.rx_sparse_image.proofs.TestedRows.{IsPassedRow, fits_tested, passed_r
 
 -- ---- one row more
 
--- one row more has its bytes more
-rows_len-push : (rows : List Row) (row : Row) → rows_len (rows ++ row ∷ []) ≡ rows_len rows + row_len row
-unfolding rows_len
-rows_len-push [] row = omega arith
-rows_len-push (r ∷ rows) row = omega (arith, rows_len-push rows row)
-
 -- its offset is how many bytes those before it have
 offsets-push : (at : ℕ) (rows : List Row) (row : Row)
     → offsets_from at (rows ++ row ∷ []) ≡ offsets_from at rows ++ (at + rows_len rows) ∷ []

@@ -14,11 +14,6 @@ module _ {order : Order} {count : ℕ} {bytes : List ℕ} (are : AreWholeRows or
   abbrev rows : List Row
   rows = rows_in order count bytes
 
-  -- what is ahead of a row is no longer than all
-  pub ahead_within : (i : ℕ) {rest : List ℕ} → rest ≡ drop (rows_len (take i (rows_in order count bytes))) bytes
-      → length rest ≤ length bytes
-  ahead_within i here = omega (arith, ap length here, length-drop (rows_len (take i rows)) bytes)
-
   module _ (i : ℕ) (h : i < count) {rest : List ℕ}
       (here : rest ≡ drop (rows_len (take i (rows_in order count bytes))) bytes) where
     pub whole_here : IsWholeRow order rest

@@ -12,7 +12,7 @@ use Rattle.rx_dense_image.specs.Heads.{dense_version, flags_word, head_text}
 use Rattle.rx_dense_image.specs.Rows.{words_text}
 use Rattle.rx_dense_image.specs.StartTables.{StartTable, context_count, kind_number, number_or_none, start_table_text}
 use Rattle.rx_dense_image.specs.Marks.{quit_text, special_text}
-use Rattle.rx_dense_image.proofs.ImageLengths.{length-special, length-words}
+use Rattle.rx_dense_image.proofs.ImageLengths.{length-head, length-quit, length-special, length-start_table, word_then}
 use Rattle.rx_sparse.specs.Layouts.{IsShaped, Layout}
 use Rattle.rx_sparse.specs.Rows.{Row, rows_len, rows_text}
 use Rattle.rx_sparse.proofs.RowTexts.{length-rows}
@@ -23,27 +23,6 @@ pub rows_few : (rows : List Row) → length rows ≤ rows_len rows
 unfolding rows_len
 rows_few [] = omega arith
 rows_few (row ∷ rows) = omega (arith, rows_few rows)
-
--- behind a field of four bytes
-word_then : (order : Order) (n : ℕ) (rest : List ℕ) → length (field order w32 n ++ rest) ≡ 4 + length rest
-word_then order n rest = omega (arith, length-append (field order w32 n) rest, length-field_32 order n)
-
-length-head : (order : Order) (flags : Flags) → length (head_text order sparse_label flags) ≡ 48
-length-head order flags =
-    let t4 : List ℕ = field order w32 (flags_word flags) in
-    let t3 : List ℕ = field order w32 0 ++ t4 in
-    let t2 : List ℕ = field order w32 dense_version ++ t3 in
-    let t1 : List ℕ = field order w32 endianness_word ++ t2 in
-    let label : length (label_text sparse_label) ≡ 32 = refl in
-    omega (
-      arith,
-      length-append (label_text sparse_label) t1,
-      label,
-      word_then order endianness_word t2,
-      word_then order dense_version t3,
-      word_then order 0 t4,
-      length-field_32 order (flags_word flags),
-    )
 
 length-row_bytes : (order : Order) (l : Layout) → length l.classes ≡ 256
     → length (row_bytes_text order l) ≡ 268 + rows_len l.rows
@@ -61,37 +40,6 @@ length-row_bytes order l classes =
       length-rows order l.rows,
     )
 
-length-start_table : (order : Order) (table : StartTable) → length table.contexts ≡ 256
-    → length (start_table_text order table) ≡ 276 + 4 * length table.starts
-length-start_table order table contexts =
-    let t5 : List ℕ = words_text order table.starts in
-    let t4 : List ℕ = field order w32 (number_or_none table.universal_anchored) ++ t5 in
-    let t3 : List ℕ = field order w32 (number_or_none table.universal_unanchored) ++ t4 in
-    let t2 : List ℕ = field order w32 (number_or_none table.pattern_starts) ++ t3 in
-    let t1 : List ℕ = field order w32 context_count ++ t2 in
-    let numbers : List ℕ = map context_number table.contexts in
-    omega (
-      arith,
-      word_then order (kind_number table.start_kind) (numbers ++ t1),
-      length-append numbers t1,
-      length-map table.contexts context_number,
-      contexts,
-      word_then order context_count t2,
-      word_then order (number_or_none table.pattern_starts) t3,
-      word_then order (number_or_none table.universal_unanchored) t4,
-      word_then order (number_or_none table.universal_anchored) t5,
-      length-words order table.starts,
-    )
-
-length-quit : (order : Order) (quit : ℕ) → length (quit_text order quit) ≡ 32
-length-quit order quit =
-    omega (
-      arith,
-      length-append (field order w128 (quit % 2 ^ 128)) (field order w128 (quit / 2 ^ 128)),
-      length-field_128 order (quit % 2 ^ 128),
-      length-field_128 order (quit / 2 ^ 128),
-    )
-
 pub length-text : (order : Order) (l : Layout) → IsShaped l → length (text order l) ≡ image_len l
 unfolding text
 length-text order l shaped =
@@ -102,7 +50,7 @@ length-text order l shaped =
     omega (
       arith,
       length-append (head_text order sparse_label l.flags) t1,
-      length-head order l.flags,
+      length-head order sparse_label l.flags refl,
       length-append (row_bytes_text order l) t2,
       length-row_bytes order l classes,
       length-append (start_table_text order (start_table_of l)) t3,

@@ -3,6 +3,7 @@ use Rattle.std.proofs.Common.{◌≡◌, ◌≢◌, ℕ, ◌+◌, ◌*◌, ◌<�
 use Rattle.std.proofs.Common.{cond, leb, eqb, ltb, Option, Some, None, List, [], ◌∷◌, length, slice_index, Contains}
 use Rattle.std.proofs.Common.{refl, sym, ap, subst, ◌∙◌, arith, inl, inr, filter}
 use Rattle.std.specs.Prelude.{IfOk, IfSome, Result, Ok, Err, option_map}
+use Rattle.std.specs.Cmp.{both_ways}
 use Rattle.std.specs.List.{list_all, range_with_len}
 use Rattle.std.specs.Str.{bytes_eq}
 use Rattle.std.proofs.lemmas.Bool.{and_parts, cases_lt, cases_eq, eq-eqb, eqb-true, le-leb, le-ltb, leb-true, lt-ltb}
@@ -23,6 +24,8 @@ use Rattle.rx_dense.proofs.Rows.{id_at_row}
 use Rattle.rx_dense_image.specs.Closing.{is_named}
 use Rattle.rx_dense_image.specs.Marks.{are_past_quit, are_ranges, begin_in_order, is_past_quit, is_range}
 use Rattle.rx_dense_image.proofs.ClosedFacts.{each_at}
+use Rattle.rx_dense_image.proofs.SpecialTests.{alike, and_never, label_by, lists_by, matches_by, named_few, no_match}
+use Rattle.rx_dense_image.proofs.SpecialTests.{not_true, plain_by, quits_by, quits_only_by}
 use Rattle.rx_dense_image.proofs.EachBelow.{cases_bool}
 use Rattle.rx_sparse.specs.Rows.{Row, is_some_list, next_ids, rows_len}
 use Rattle.rx_sparse.specs.Layouts.{IsShaped, Layout, ids_of, label_of_row, machine_of, next_id, row_at, row_count}
@@ -35,61 +38,11 @@ use Rattle.rx_sparse_image.specs.Tested.{IsRead, IsWhole}
 use Rattle.rx_sparse_image.proofs.ClosedRows.{AreClosed, closed, unit_leads}
 use Rattle.rx_sparse_image.proofs.ShapedImages.{few_needles, shaped_of, tested}
 
--- ---- labels by the two tests
-
-label_by : Bool → Bool → List ℕ → Label
-label_by m q ks = cond m (Label.Matches ks) (cond q Label.Quits Label.Plain)
-
+-- a label by the two tests
 is_label : (l : Layout) (id : ℕ) (row : Row) → label_of_row l.special id row
     ≡ label_by (is_match_id l.special id) (is_quit_id l.special id) row.patterns
 unfolding label_by
 is_label l id row = refl
-
-plain_by : (m q : Bool) (ks : List ℕ) → m ≡ false → q ≡ false → label_by m q ks ≡ Label.Plain
-unfolding label_by
-plain_by m q ks e f = rw (e, f) refl
-
-quits_by : (m q : Bool) (ks : List ℕ) → m ≡ false → q ≡ true → label_by m q ks ≡ Label.Quits
-unfolding label_by
-quits_by m q ks e f = rw (e, f) refl
-
-quits_only_by : (m q : Bool) (ks : List ℕ) → label_by m q ks ≡ Label.Quits → q ≡ true
-unfolding label_by
-quits_only_by true q ks e = absurd cc
-quits_only_by false true ks e = refl
-quits_only_by false false ks e = absurd cc
-
-matches_by : (m q : Bool) (ks : List ℕ) → is_match_label (label_by m q ks) ≡ m
-unfolding label_by
-matches_by true q ks = refl
-matches_by false true ks = refl
-matches_by false false ks = refl
-
-lists_by : (m q : Bool) (ks xs : List ℕ) → label_by m q ks ≡ Label.Matches xs → (m ≡ true) × (ks ≡ xs)
-unfolding label_by
-lists_by true q ks xs e = (refl, cc)
-lists_by false true ks xs e = absurd cc
-lists_by false false ks xs e = absurd cc
-
--- ---- tests of numbers and lists
-
-and_never : (b : Bool) → (b && false) ≡ false
-and_never true = refl
-and_never false = refl
-
-false_of : (b : Bool) → (b ≡ true → ⊥) → b ≡ false
-false_of true h = absurd (h refl)
-false_of false h = refl
-
-not_true : (b : Bool) → not b ≡ true → b ≡ false
-not_true true h = absurd cc
-not_true false h = refl
-
-same_test : (a b : Bool) → (a ≡ true → b ≡ true) → (b ≡ true → a ≡ true) → a ≡ b
-same_test true true f g = refl
-same_test true false f g = sym (f refl)
-same_test false true f g = g refl
-same_test false false f g = refl
 
 some_list : (ks : List ℕ) → is_some_list ks ≡ true → ks ≡ [] → ⊥
 some_list [] test e = cc
@@ -98,38 +51,6 @@ some_list (k ∷ ks) test e = cc
 no_list : (ks : List ℕ) → length ks ≡ 0 → ks ≡ []
 no_list [] e = refl
 no_list (k ∷ ks) e = absurd (omega (arith, e))
-
--- what a range of ids says of an id
-record IsWithin (first last id : ℕ) : Type 0 where
-  pub from : first ≤ id
-  pub to : id ≤ last
-  pub some : 0 < id
-
-within_of : (first last id : ℕ) → is_in_range first last id ≡ true → IsWithin first last id
-within_of first last id test =
-    let outer = and_parts _ (not (eqb id 0)) test in
-    let inner = and_parts (leb first id) (leb id last) outer.0 in
-    record { from = leb-true _ _ inner.0; to = leb-true _ _ inner.1; some = above id outer.1 }
-  where
-    above : (id : ℕ) → not (eqb id 0) ≡ true → 0 < id
-    above id h = grind arith
-
--- a range that has an id begins above 0
-range_begins : (first last : ℕ) → is_range first last ≡ true → 0 < last → 0 < first
-range_begins first last test some =
-    elim (cases_eq first 0) [
-      | inl none ↦ (
-          let e : eqb last 0 ≡ true = sym (ap (λ (b : Bool). cond b (eqb last 0) (leb first last)) (eq-eqb _ _ none))
-          ∙ test in
-          absurd (omega (arith, some, eqb-true _ _ e)))
-      | inr there ↦ (omega (arith, there))
-    ]
-
--- and past quit
-past_quit : (quit first : ℕ) → is_past_quit quit first ≡ true → 0 < first → quit < first
-past_quit quit first test some =
-    let none : eqb first 0 ≡ false = ne_eqb first 0 (λ e. absurd (omega (arith, some, e))) in
-    ltb-true _ _ (sym (ap (λ (b : Bool). b || ltb quit first) none) ∙ test)
 
 -- ---- bytes that leave a row
 
@@ -190,42 +111,6 @@ module _ (l : Layout) (read : IsRead l) (facts : AreClosed l) where
       (offsets_are_ids l.rows).rising 0 (omega (arith, count, second_row)) in
       omega (arith, up, facts.quit)
 
-  -- ---- special ids
-
-  ranges : are_ranges l.special ≡ true
-  ranges =
-      (and_parts (are_ranges l.special) (are_past_quit l.special)
-      (and_parts _ (begin_in_order l.special)
-      (and_parts _ (leb (greatest l.special) l.special.max) read.special).0).0).0
-
-  pasts : are_past_quit l.special ≡ true
-  pasts =
-      (and_parts (are_ranges l.special) (are_past_quit l.special)
-      (and_parts _ (begin_in_order l.special)
-      (and_parts _ (leb (greatest l.special) l.special.max) read.special).0).0).1
-
-  most : greatest l.special ≤ l.special.max
-  most = leb-true _ _ (and_parts _ (leb (greatest l.special) l.special.max) read.special).1
-
-  match_range : is_range l.special.min_match l.special.max_match ≡ true
-  match_range =
-      (and_parts (is_range l.special.min_match l.special.max_match) (is_range l.special.min_accel l.special.max_accel)
-      (and_parts _ (is_range l.special.min_start l.special.max_start) ranges).0).0
-
-  match_past : is_past_quit l.special.quit l.special.min_match ≡ true
-  match_past =
-      (and_parts (is_past_quit l.special.quit l.special.min_match) (is_past_quit l.special.quit l.special.min_accel)
-      (and_parts _ (is_past_quit l.special.quit l.special.min_start) pasts).0).0
-
-  -- dead and quit are no match rows
-  no_match : (id : ℕ) → id ≤ l.special.quit → is_match_id l.special id ≡ false
-  no_match id le =
-      false_of (is_match_id l.special id) (λ test.
-      let h = within_of l.special.min_match l.special.max_match id test in
-      let first = range_begins l.special.min_match l.special.max_match match_range (omega (arith, h.some, h.to)) in
-      let past = past_quit l.special.quit l.special.min_match match_past first in
-      absurd (omega (arith, past, h.from, le)))
-
   -- ---- labels
 
   label_is : (row : ℕ) → (table_of l).machine.label row
@@ -238,7 +123,7 @@ module _ (l : Layout) (read : IsRead l) (facts : AreClosed l) where
       ap (is_quit_id l.special) first_id ∙ and_never (eqb 0 l.special.quit) in
       label_is 0
       ∙ plain_by (is_match_id l.special (id_of ids 0)) (is_quit_id l.special (id_of ids 0)) (row_at l 0).patterns
-      (no_match (id_of ids 0) (omega (arith, first_id))) no_quit
+      (no_match l.special read.special (id_of ids 0) (omega (arith, first_id))) no_quit
 
   quit_label : (table_of l).machine.label 1 ≡ Label.Quits
   quit_label =
@@ -247,7 +132,7 @@ module _ (l : Layout) (read : IsRead l) (facts : AreClosed l) where
       let quits : is_quit_id l.special (id_of ids 1) ≡ true = rw (same, there) refl in
       label_is 1
       ∙ quits_by (is_match_id l.special (id_of ids 1)) (is_quit_id l.special (id_of ids 1)) (row_at l 1).patterns
-      (no_match (id_of ids 1) (omega (arith, facts.quit))) quits
+      (no_match l.special read.special (id_of ids 1) (omega (arith, facts.quit))) quits
 
   quit_only : (row : ℕ) → row < row_count l → (table_of l).machine.label row ≡ Label.Quits → row ≡ 1
   quit_only row h e =
@@ -392,7 +277,7 @@ module _ (l : Layout) (read : IsRead l) (facts : AreClosed l) where
           ≡ eqb (row_of ids (next_id l.classes (row_at l row) byte)) row
       same byte =
           let next : ℕ = next_id l.classes (row_at l row) byte in
-          same_test (eqb next (id_of ids row)) (eqb (row_of ids next) row)
+          both_ways (eqb next (id_of ids row)) (eqb (row_of ids next) row)
           (λ e. eq-eqb _ _ (ap (row_of ids) (eqb-true _ _ e) ∙ back row h))
           (λ e. eq-eqb _ _ (sym (id_at_row ids next (next_is row byte h)) ∙ ap (id_of ids) (eqb-true _ _ e)))
 
@@ -436,51 +321,22 @@ module _ (l : Layout) (read : IsRead l) (facts : AreClosed l) where
   named_is row h =
       let id : ℕ = id_of ids row in
       let dead : eqb id 0 ≡ eqb row 0 =
-      same_test (eqb id 0) (eqb row 0) (λ e. eq-eqb _ _ (row_zero row h (eqb-true _ _ e)))
+      both_ways (eqb id 0) (eqb row 0) (λ e. eq-eqb _ _ (row_zero row h (eqb-true _ _ e)))
       (λ e. eq-eqb _ _ (ap (id_of ids) (eqb-true _ _ e) ∙ first_id)) in
       let quits : eqb id l.special.quit ≡ eqb row 1 =
-      same_test (eqb id l.special.quit) (eqb row 1) (λ e. eq-eqb _ _ (row_one row h (eqb-true _ _ e)))
+      both_ways (eqb id l.special.quit) (eqb row 1) (λ e. eq-eqb _ _ (row_one row h (eqb-true _ _ e)))
       (λ e. eq-eqb _ _ (ap (id_of ids) (eqb-true _ _ e) ∙ sym facts.quit)) in
       let matches : is_match_id l.special id ≡ is_match (table_of l) row =
       sym (ap is_match_label (label_is row)
       ∙ matches_by (is_match_id l.special id) (is_quit_id l.special id) (row_at l row).patterns) in
       alike dead quits matches (is_accel_id l.special id) (is_start_id l.special id)
-    where
-      alike : {a b c d e f : Bool} → a ≡ b → c ≡ d → e ≡ f → (g h : Bool)
-          → (a || c || e || g || h) ≡ (b || d || f || g || h)
-      alike p q r g h = cc
-
-  -- a named id is at most the greatest
-  named_few : (id : ℕ) → is_named l.special id ≡ true → id ≤ l.special.max
-  named_few id e =
-      elim (cases_bool (eqb id 0)) [
-        | inl none ↦ (omega (arith, eqb-true _ _ none))
-        | inr a ↦ (elim (cases_bool (eqb id l.special.quit)) [
-          | inl quit ↦ (omega (arith, eqb-true _ _ quit, tops.0))
-          | inr b ↦ (elim (cases_bool (is_match_id l.special id)) [
-            | inl m ↦ (omega (arith, (within_of _ _ id m).to, tops.1))
-            | inr c ↦ (elim (cases_bool (is_accel_id l.special id)) [
-              | inl m ↦ (omega (arith, (within_of _ _ id m).to, tops.2))
-              | inr d ↦ (omega (arith, (within_of _ _ id (last_of a b c d e)).to, tops.3))
-            ])
-          ])
-        ])
-      ]
-    where
-      tops : (l.special.quit ≤ l.special.max) × (l.special.max_match ≤ l.special.max)
-          × (l.special.max_accel ≤ l.special.max) × (l.special.max_start ≤ l.special.max)
-      tops = (omega (arith, most), omega (arith, most), omega (arith, most), omega (arith, most))
-
-      last_of : {a b c d f : Bool} → a ≡ false → b ≡ false → c ≡ false → d ≡ false
-          → (a || b || c || d || f) ≡ true → f ≡ true
-      last_of p q r t h = cc
 
   special_is : (row : ℕ) → row < row_count l → leb (id_of ids row) l.special.max ≡ is_named l.special (id_of ids row)
   special_is row h =
       let id : ℕ = id_of ids row in
-      same_test (leb id l.special.max) (is_named l.special id)
+      both_ways (leb id l.special.max) (is_named l.special id)
       (λ e. sym (ap (λ (b : Bool). not b || is_named l.special id) e) ∙ (tested l read facts row h).special)
-      (λ e. le-leb id l.special.max (named_few id e))
+      (λ e. le-leb id l.special.max (named_few l.special read.special id e))
 
   -- ---- all together
 

@@ -18,8 +18,7 @@ use Rattle.rx_dense_image.specs.StartTables.{start_table_at, start_table_text}
 use Rattle.rx_dense_image.specs.Marks.{are_special, id_pair_at, quit_at, quit_text, special_at, special_ids_at}
 use Rattle.rx_dense_image.specs.Marks.{special_text}
 use Rattle.rx_dense_image.proofs.EachBelow.{and_of}
-use Rattle.rx_dense_image.proofs.ImageLengths.{length-special}
-use Rattle.rx_dense_image.proofs.MarksAgain.{AreSpecialIds}
+use Rattle.rx_dense_image.proofs.MarksAgain.{AreSpecialIds, quit_again, special_again}
 use Rattle.rx_dense_image.proofs.ReadAgain.{head_again}
 use Rattle.rx_dense_image.proofs.Strides.{classes_pass}
 use Rattle.rx_dense_image.proofs.TablesAgain.{start_table_again}
@@ -42,63 +41,7 @@ use Rattle.rx_sparse_image.proofs.RowsAgain.{rows_again_read}
 is_label : IsLabel sparse_label
 is_label = record { short = omega arith; text = search rules }
 
--- ---- special ids and quit bytes
-
-id_pair_again : (order : Order) (first last : ℕ) → first ≤ max_id → last ≤ max_id → (rest : List ℕ)
-    → id_pair_at order (field order w32 first ++ (field order w32 last ++ rest)) ≡ Ok ((first, last), rest)
-unfolding id_pair_at
-id_pair_again order first last a b rest =
-    rw (
-      id_again Kind.StateID order first a (field order w32 last ++ rest),
-      id_again Kind.StateID order last b rest,
-    )
-    refl
-
-special_ids_again : (order : Order) (s : Special) → AreSpecialIds s
-    → Reads (special_ids_at order) (special_text order s) s
-unfolding special_ids_at
-special_ids_again order s h rest =
-    let t4 : List ℕ = field order w32 s.min_start ++ (field order w32 s.max_start ++ rest) in
-    let t3 : List ℕ = field order w32 s.min_accel ++ (field order w32 s.max_accel ++ t4) in
-    let t2 : List ℕ = field order w32 s.min_match ++ (field order w32 s.max_match ++ t3) in
-    let t1 : List ℕ = field order w32 s.max ++ (field order w32 s.quit ++ t2) in
-    let regrouped : special_text order s ++ rest ≡ t1 = simp append_assoc refl in
-    ap (special_ids_at order) regrouped
-    ∙ rw (
-      id_pair_again order s.max s.quit h.max h.quit t2,
-      id_pair_again order s.min_match s.max_match h.min_match h.max_match t3,
-      id_pair_again order s.min_accel s.max_accel h.min_accel h.max_accel t4,
-      id_pair_again order s.min_start s.max_start h.min_start h.max_start rest,
-    )
-    refl
-
-special_again : (order : Order) (len : ℕ) (s : Special) → are_special s ≡ true → s.max < len → AreSpecialIds s
-    → Reads (special_at order len) (special_text order s) s
-unfolding special_at
-special_again order len s special within ids rest =
-    let special_bytes : List ℕ = special_text order s in
-    let front : bytes_at 32 (special_bytes ++ rest) ≡ Ok (special_bytes, rest) =
-    subst (λ (n : ℕ). bytes_at n (special_bytes ++ rest) ≡ Ok (special_bytes, rest)) (length-special order s)
-    (bytes_again special_bytes rest) in
-    let read : special_ids_at order special_bytes ≡ Ok (s, []) =
-    ap (special_ids_at order) (sym (append-nil special_bytes)) ∙ special_ids_again order s ids [] in
-    rw (front, read, special, lt-ltb _ _ within) refl
-
-quit_again : (order : Order) (quit : ℕ) → quit < 2 ^ 256 → Reads (quit_at order) (quit_text order quit) quit
-unfolding quit_at
-quit_again order quit small rest =
-    let low : ℕ = quit % 2 ^ 128 in
-    let high : ℕ = quit / 2 ^ 128 in
-    let regrouped : quit_text order quit ++ rest ≡ field order w128 low ++ (field order w128 high ++ rest) =
-    append_assoc (field order w128 low) (field order w128 high) rest in
-    let whole : high * 2 ^ 128 + low ≡ quit = omega arith in
-    ap (quit_at order) regrouped
-    ∙ rw (
-      u128_again order low (omega arith) (field order w128 high ++ rest),
-      u128_again order high (omega (arith, small)) rest,
-      whole,
-    )
-    refl
+-- ---- special ids
 
 special_ids : (l : Layout) → IsShaped l → AreClosed l → AreSpecialIds l.special
 special_ids l shape facts =

@@ -1,0 +1,152 @@
+-- What the tests of special ids say: of the label of a row, and of the rows in a range.
+use Rattle.std.proofs.Common.{◌≡◌, ℕ, ◌<◌, ◌≤◌, ◌&&◌, ◌||◌, not, Bool, true, false, cond, ltb, leb, eqb, List, refl}
+use Rattle.std.proofs.Common.{sym, ap, ◌∙◌, arith, inl, inr}
+use Rattle.std.proofs.lemmas.Bool.{and_parts, cases_eq, eq-eqb, eqb-true, leb-true, ltb-true, ne_eqb}
+use Rattle.rx_spec.specs.Machines.{Label}
+use Rattle.rx_spec.specs.Tables.{is_match_label}
+use Rattle.rx_dense.specs.Specials.{greatest, is_accel_id, is_in_range, is_match_id}
+use Rattle.rx_dense.specs.declared.special.Special.{Special}
+use Rattle.rx_dense_image.specs.Closing.{is_named}
+use Rattle.rx_dense_image.specs.Marks.{are_past_quit, are_ranges, are_special, begin_in_order, is_past_quit, is_range}
+use Rattle.rx_dense_image.proofs.EachBelow.{cases_bool}
+
+-- ---- labels by the two tests
+
+unfoldable pub label_by : Bool → Bool → List ℕ → Label
+label_by m q ks = cond m (Label.Matches ks) (cond q Label.Quits Label.Plain)
+
+pub plain_by : (m q : Bool) (ks : List ℕ) → m ≡ false → q ≡ false → label_by m q ks ≡ Label.Plain
+unfolding label_by
+plain_by m q ks e f = rw (e, f) refl
+
+pub quits_by : (m q : Bool) (ks : List ℕ) → m ≡ false → q ≡ true → label_by m q ks ≡ Label.Quits
+unfolding label_by
+quits_by m q ks e f = rw (e, f) refl
+
+pub quits_only_by : (m q : Bool) (ks : List ℕ) → label_by m q ks ≡ Label.Quits → q ≡ true
+unfolding label_by
+quits_only_by true q ks e = absurd cc
+quits_only_by false true ks e = refl
+quits_only_by false false ks e = absurd cc
+
+pub matches_by : (m q : Bool) (ks : List ℕ) → is_match_label (label_by m q ks) ≡ m
+unfolding label_by
+matches_by true q ks = refl
+matches_by false true ks = refl
+matches_by false false ks = refl
+
+pub lists_by : (m q : Bool) (ks xs : List ℕ) → label_by m q ks ≡ Label.Matches xs → (m ≡ true) × (ks ≡ xs)
+unfolding label_by
+lists_by true q ks xs e = (refl, cc)
+lists_by false true ks xs e = absurd cc
+lists_by false false ks xs e = absurd cc
+
+-- ---- ranges of ids
+
+pub and_never : (b : Bool) → (b && false) ≡ false
+and_never true = refl
+and_never false = refl
+
+pub false_of : (b : Bool) → (b ≡ true → ⊥) → b ≡ false
+false_of true h = absurd (h refl)
+false_of false h = refl
+
+pub not_true : (b : Bool) → not b ≡ true → b ≡ false
+not_true true h = absurd cc
+not_true false h = refl
+
+-- what a range of ids says of an id
+pub record IsWithin (first last id : ℕ) : Type 0 where
+  pub from : first ≤ id
+  pub to : id ≤ last
+  pub some : 0 < id
+
+pub within_of : (first last id : ℕ) → is_in_range first last id ≡ true → IsWithin first last id
+within_of first last id test =
+    let outer = and_parts _ (not (eqb id 0)) test in
+    let inner = and_parts (leb first id) (leb id last) outer.0 in
+    record { from = leb-true _ _ inner.0; to = leb-true _ _ inner.1; some = above id outer.1 }
+  where
+    above : (id : ℕ) → not (eqb id 0) ≡ true → 0 < id
+    above id h = grind arith
+
+-- a range that has an id begins above 0
+pub range_begins : (first last : ℕ) → is_range first last ≡ true → 0 < last → 0 < first
+range_begins first last test some =
+    elim (cases_eq first 0) [
+      | inl none ↦ (
+          let e : eqb last 0 ≡ true = sym (ap (λ (b : Bool). cond b (eqb last 0) (leb first last)) (eq-eqb _ _ none))
+          ∙ test in
+          absurd (omega (arith, some, eqb-true _ _ e)))
+      | inr there ↦ (omega (arith, there))
+    ]
+
+-- and past quit
+pub past_quit : (quit first : ℕ) → is_past_quit quit first ≡ true → 0 < first → quit < first
+past_quit quit first test some =
+    let none : eqb first 0 ≡ false = ne_eqb first 0 (λ e. absurd (omega (arith, some, e))) in
+    ltb-true _ _ (sym (ap (λ (b : Bool). b || ltb quit first) none) ∙ test)
+
+-- ---- special ids that pass the test
+
+module _ (s : Special) (test : are_special s ≡ true) where
+  ordered : ((are_ranges s && are_past_quit s) && begin_in_order s) ≡ true
+  ordered = (and_parts _ (leb (greatest s) s.max) test).0
+
+  ranges : are_ranges s ≡ true
+  ranges = (and_parts (are_ranges s) (are_past_quit s) (and_parts _ (begin_in_order s) ordered).0).0
+
+  pasts : are_past_quit s ≡ true
+  pasts = (and_parts (are_ranges s) (are_past_quit s) (and_parts _ (begin_in_order s) ordered).0).1
+
+  most : greatest s ≤ s.max
+  most = leb-true _ _ (and_parts _ (leb (greatest s) s.max) test).1
+
+  first_ranges : (is_range s.min_match s.max_match && is_range s.min_accel s.max_accel) ≡ true
+  first_ranges = (and_parts _ (is_range s.min_start s.max_start) ranges).0
+
+  pub match_range : is_range s.min_match s.max_match ≡ true
+  match_range = (and_parts (is_range s.min_match s.max_match) (is_range s.min_accel s.max_accel) first_ranges).0
+
+  pub accel_range : is_range s.min_accel s.max_accel ≡ true
+  accel_range = (and_parts (is_range s.min_match s.max_match) (is_range s.min_accel s.max_accel) first_ranges).1
+
+  match_past : is_past_quit s.quit s.min_match ≡ true
+  match_past =
+      (and_parts (is_past_quit s.quit s.min_match) (is_past_quit s.quit s.min_accel)
+      (and_parts _ (is_past_quit s.quit s.min_start) pasts).0).0
+
+  -- dead and quit are no match rows
+  pub no_match : (id : ℕ) → id ≤ s.quit → is_match_id s id ≡ false
+  no_match id le =
+      false_of (is_match_id s id) (λ in_range.
+      let h = within_of s.min_match s.max_match id in_range in
+      let first = range_begins s.min_match s.max_match match_range (omega (arith, h.some, h.to)) in
+      let past = past_quit s.quit s.min_match match_past first in
+      absurd (omega (arith, past, h.from, le)))
+
+  -- a named id is at most the greatest
+  pub named_few : (id : ℕ) → is_named s id ≡ true → id ≤ s.max
+  named_few id e =
+      elim (cases_bool (eqb id 0)) [
+        | inl zero ↦ (omega (arith, eqb-true _ _ zero))
+        | inr a ↦ (elim (cases_bool (eqb id s.quit)) [
+          | inl quit ↦ (omega (arith, eqb-true _ _ quit, most))
+          | inr b ↦ (elim (cases_bool (is_match_id s id)) [
+            | inl m ↦ (omega (arith, (within_of _ _ id m).to, most))
+            | inr c ↦ (elim (cases_bool (is_accel_id s id)) [
+              | inl m ↦ (omega (arith, (within_of _ _ id m).to, most))
+              | inr d ↦ (omega (arith, (within_of _ _ id (last_of a b c d e)).to, most))
+            ])
+          ])
+        ])
+      ]
+    where
+      last_of : {a b c d f : Bool} → a ≡ false → b ≡ false → c ≡ false → d ≡ false
+          → (a || b || c || d || f) ≡ true → f ≡ true
+      last_of p q r t h = cc
+
+-- tests of equal parts
+pub alike : {a b c d e f : Bool} → a ≡ b → c ≡ d → e ≡ f → (g h : Bool)
+    → (a || c || e || g || h) ≡ (b || d || f || g || h)
+alike p q r g h = cc
