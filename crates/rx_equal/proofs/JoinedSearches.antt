@@ -13,6 +13,7 @@ use Rattle.rx_spec.specs.Joining.{Answer, match_at, with_start, back_from, with_
 use Rattle.rx_spec.specs.Iterating.{FoundMatches, is_repeat, unless_repeat, and_then, iterate_from}
 use Rattle.rx_spec.specs.declared.Direction.{Direction}
 use Rattle.lemmas_walks.proofs.ReadUnits.{narrower_bytes}
+use Rattle.rx_meaning.proofs.IteratedSearches as iterated
 use Rattle.rx_equal.specs.Partings.{IsModeOf}
 use Rattle.rx_equal.specs.Searches.{MeanTheSame, PairsMeanTheSame, HalfUnsplitAlike, OverlappingUnsplitAlike, JoinAlike}
 use Rattle.rx_equal.specs.Searches.{IterateAlike}
@@ -98,34 +99,7 @@ join_alike f r g s same q bytes is = join_in f r g s same q.mode is q bytes refl
 
 -- ---- one after another
 
-and_then_alike : (o : Answer) (f g : Match → FoundMatches) → ((m : Match) → f m ≡ g m) → and_then o f ≡ and_then o g
-and_then_alike (Ok None) f g e = refl
-and_then_alike (Ok (Some m)) f g e =
-    ap (λ (others : FoundMatches). record { matches = m ∷ others.matches; error = others.error }) (e m)
-and_then_alike (Err error) f g e = refl
-
-module _ (mode : Anchored) (f g : Query → Answer) (alike : AlikeIn mode f g) where
-  unrepeated_alike : (q : Query) → AreBytes q.haystack → q.mode ≡ mode → (last_end : Option ℕ)
-      (o : Answer) → unless_repeat f q last_end o ≡ unless_repeat g q last_end o
-  unrepeated_alike q bytes is last_end (Ok (Some m)) =
-      ap (λ (o : Answer). if is_repeat last_end m then o else Ok (Some m))
-      (alike (record q { start = q.start + 1 }) bytes is)
-  unrepeated_alike q bytes is last_end (Ok None) = refl
-  unrepeated_alike q bytes is last_end (Err error) = refl
-
-  iterate_from_alike : (n : ℕ) (q : Query) → AreBytes q.haystack → q.mode ≡ mode → (last_end : Option ℕ)
-      → iterate_from f n q last_end ≡ iterate_from g n q last_end
-  unfolding iterate_from
-  iterate_from_alike zero q bytes is last_end = refl
-  iterate_from_alike (suc n) q bytes is last_end =
-      let after = λ (search : Query → Answer) (m : Match).
-      iterate_from search n (record q { start = m.end }) (Some m.end) in
-      ap (λ (o : Answer). and_then o (after f))
-      (ap (unless_repeat f q last_end) (alike q bytes is) ∙ unrepeated_alike q bytes is last_end (g q))
-      ∙ and_then_alike (unless_repeat g q last_end (g q)) (after f) (after g)
-      (λ m. iterate_from_alike n (record q { start = m.end }) bytes is (Some m.end))
-
 pub iterate_alike : IterateAlike
 iterate_alike f r g s same q bytes is =
-    iterate_from_alike q.mode (join f r) (join g s) (join_in f r g s same q.mode is) (q.end + 2 - q.start) q bytes refl
-    None
+    iterated.iterate_alike (join f r) (join g s) q q
+    (λ start. join_in f r g s same q.mode is (record q { start = start }) bytes refl) refl refl

@@ -21,6 +21,7 @@ use Rattle.rx_spec.specs.declared.Direction.{Direction}
 use Rattle.lemmas_walks.proofs.Firsts.{by_test}
 use Rattle.lemmas_walks.proofs.HalfSearches.{IsStarted, half_done, half_walks, not_refused}
 use Rattle.lemmas_walks.proofs.Walking.{Dead, Quits, Steps, goes_on, leads, state_walk, walk-nil, walk_dead, walk_steps}
+use Rattle.rx_meaning.proofs.IteratedSearches.{iterate_alike}
 use Rattle.rx_plan.specs.Plan.{plan_of, usual}
 
 -- ---- half searches of a build without quit bytes
@@ -97,39 +98,11 @@ outcome_usual es q any =
 
 -- ---- one after another
 
--- Two searches that answer alike where a match may begin anywhere give the same matches there.
-module _ (f g : Query → Answer) (alike : (q : Query) → q.mode ≡ Anchored.No → f q ≡ g q) where
-  unless_alike : (q : Query) (last_end : Option ℕ) (answer : Answer) → q.mode ≡ Anchored.No
-      → unless_repeat f q last_end answer ≡ unless_repeat g q last_end answer
-  unless_alike q last_end (Ok (Some m)) any =
-      ap (λ (again : Answer). if is_repeat last_end m then again else Ok (Some m))
-      (alike (record q { start = q.start + 1 }) any)
-  unless_alike q last_end (Ok None) any = refl
-  unless_alike q last_end (Err error) any = refl
-
-  and_then_alike : (answer : Answer) (h k : Match → FoundMatches) → ((m : Match) → h m ≡ k m)
-      → and_then answer h ≡ and_then answer k
-  and_then_alike (Ok None) h k same = refl
-  and_then_alike (Ok (Some m)) h k same =
-      ap (λ (others : FoundMatches). record { matches = m ∷ others.matches; error = others.error }) (same m)
-  and_then_alike (Err error) h k same = refl
-
-  iterated_alike : (n : ℕ) (q : Query) (last_end : Option ℕ) → q.mode ≡ Anchored.No
-      → iterate_from f n q last_end ≡ iterate_from g n q last_end
-  unfolding iterate_from
-  iterated_alike zero q last_end any = refl
-  iterated_alike (suc n) q last_end any =
-      let rest = λ (search : Query → Answer) (m : Match).
-      iterate_from search n (record q { start = m.end }) (Some m.end) in
-      ap (λ (answer : Answer). and_then (unless_repeat f q last_end answer) (rest f)) (alike q any)
-      ∙ ap (λ (answer : Answer). and_then answer (rest f)) (unless_alike q last_end (g q) any)
-      ∙ and_then_alike (unless_repeat g q last_end (g q)) (rest f) (rest g)
-      (λ m. iterated_alike n (record q { start = m.end }) (Some m.end) any)
-
 pub iterated_usual : (es : List Expression) (q : Query) → q.mode ≡ Anchored.No
     → iterate (outcome (plan_of usual) es) q ≡ iterate (found_by es) q
 iterated_usual es q any =
-    iterated_alike (outcome (plan_of usual) es) (found_by es) (outcome_usual es) _ q None any
+    iterate_alike (outcome (plan_of usual) es) (found_by es) q q
+    (λ start. outcome_usual es (record q { start = start }) any) refl refl
 
 -- so few matches, and no error ends them
 pub record AreFew (found : FoundMatches) (n : ℕ) : Type 0 where

@@ -33,6 +33,7 @@ pub mod JoinedSearches
 -- rows from which every word leads to equal labels: searches from them, and so over tables, answer alike (tables)
 pub mod AlikeRows
 pub mod AlikeSearches
+pub mod IteratedSearches
 pub mod ServedStarts
 pub mod ServedSearches
 -- where answers lie, and what they depend on (bounds)

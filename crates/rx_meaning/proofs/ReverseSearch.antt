@@ -3,6 +3,7 @@ use Rattle.std.proofs.Common.{◌≡◌, ℕ, suc, ◌+◌, ◌-◌, ◌<◌, �
 use Rattle.std.proofs.Common.{Some, None, Ok, List, [], ◌∷◌, length, refl, ap, ap₂, sym, ◌∙◌, arith}
 use Rattle.std.proofs.lemmas.List.{length-reverse}
 use Rattle.std.proofs.lemmas.Option.{slice_get-map}
+use Rattle.std.specs.Cmp.{both_ways}
 use Rattle.std.specs.Prelude.{slice_get}
 use Rattle.std.specs.Option.{option_or, option_map, option_and_then}
 use Rattle.std.specs.List.{list_any, range_with_len}
@@ -96,7 +97,7 @@ pattern_mirrored t hay end p k e safe within =
     let forward = ends (reading Direction.Forward t hay) e p in
     let back = ends (reading Direction.Reverse t hay) (mirror e) (length hay - end) in
     let same : list_any (λ j. j == length hay - p) back ≡ list_any (λ j. j == end) forward
-    = same_tests (list_any (λ j. j == length hay - p) back) (list_any (λ j. j == end) forward)
+    = both_ways (list_any (λ j. j == length hay - p) back) (list_any (λ j. j == end) forward)
     (λ h. end_any end forward (both.1 (any_end (length hay - p) back h)))
     (λ h. end_any (length hay - p) back (both.0 (any_end end forward h))) in
     ap (option_map (half_at p)) (ends_exactly (length hay - p) k back ∙ ap (λ v. if v then Some k else None) same)
@@ -105,11 +106,6 @@ pattern_mirrored t hay end p k e safe within =
       | true ↦ refl
       | false ↦ refl
     ])
-  where
-    same_tests : (a b : Bool) → (a ≡ true → b ≡ true) → (b ≡ true → a ≡ true) → a ≡ b
-    same_tests true b f g = sym (f refl)
-    same_tests false true f g = g refl
-    same_tests false false f g = refl
 
 module _ (a : Asked) where
   abbrev size : ℕ

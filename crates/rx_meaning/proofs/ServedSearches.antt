@@ -21,6 +21,7 @@ use Rattle.rx_meaning.specs.Tables.{HalfUnsplitOfTable, OverlappingUnsplitOfTabl
 use Rattle.rx_meaning.specs.Tables.{build_half_unsplit, flags_of, build_join, ServePlan, FoundByTables, EndByTables}
 use Rattle.rx_meaning.specs.Tables.{TablesAgree, HalfUnsplitOfCopy, OverlappingUnsplitOfCopy, JoinOfCopies}
 use Rattle.rx_meaning.specs.Tables.{IterateOfCopies}
+use Rattle.rx_meaning.proofs.IteratedSearches.{iterate_alike}
 use Rattle.rx_meaning.proofs.JoinedSearches.{joined_search_holds, joined_end_holds, never_mismatched_holds}
 use Rattle.rx_meaning.proofs.ServedStarts.{half_of_table_holds, overlapping_of_table_holds, half_of_copy_holds}
 use Rattle.rx_meaning.proofs.ServedStarts.{overlapping_of_copy_holds}
@@ -117,42 +118,17 @@ join_of_copies f g r s c d flags q bytes =
 
 -- ---- one after another
 
-and_then_alike : (o : Answer) (f g : Match → FoundMatches) → ((m : Match) → f m ≡ g m) → and_then o f ≡ and_then o g
-and_then_alike (Ok None) f g e = refl
-and_then_alike (Ok (Some m)) f g e =
-    ap (λ (others : FoundMatches). record { matches = m ∷ others.matches; error = others.error }) (e m)
-and_then_alike (Err error) f g e = refl
-
-unrepeated_alike : (f g : Query → Answer) → AnswerAlike f g → (q : Query) → AreBytes q.haystack → (last_end : Option ℕ)
-    (o : Answer) → unless_repeat f q last_end o ≡ unless_repeat g q last_end o
-unrepeated_alike f g alike q bytes last_end (Ok (Some m)) =
-    ap (λ (o : Answer). if is_repeat last_end m then o else Ok (Some m))
-    (alike (record q { start = q.start + 1 }) bytes)
-unrepeated_alike f g alike q bytes last_end (Ok None) = refl
-unrepeated_alike f g alike q bytes last_end (Err error) = refl
-
-iterate_from_alike : (f g : Query → Answer) → AnswerAlike f g → (n : ℕ) (q : Query) → AreBytes q.haystack
-    → (last_end : Option ℕ) → iterate_from f n q last_end ≡ iterate_from g n q last_end
-unfolding iterate_from
-iterate_from_alike f g alike zero q bytes last_end = refl
-iterate_from_alike f g alike (suc n) q bytes last_end =
-    let after = λ (search : Query → Answer) (m : Match).
-    iterate_from search n (record q { start = m.end }) (Some m.end) in
-    ap (λ (o : Answer). and_then o (after f))
-    (ap (unless_repeat f q last_end) (alike q bytes) ∙ unrepeated_alike f g alike q bytes last_end (g q))
-    ∙ and_then_alike (unless_repeat g q last_end (g q)) (after f) (after g)
-    (λ m. iterate_from_alike f g alike n (record q { start = m.end }) bytes (Some m.end))
-
-iterate_alike : (f g : Query → Answer) → AnswerAlike f g → (q : Query) → AreBytes q.haystack → iterate f q ≡ iterate g q
-iterate_alike f g alike q bytes = iterate_from_alike f g alike (q.end + 2 - q.start) q bytes None
+iterated_alike : (f g : Query → Answer) → AnswerAlike f g → (q : Query) → AreBytes q.haystack
+    → iterate f q ≡ iterate g q
+iterated_alike f g alike q bytes = iterate_alike f g q q (λ start. alike (record q { start = start }) bytes) refl refl
 
 pub iterate_of_tables : IterateOfTables
 iterate_of_tables f r b c serves serves_reverse q bytes =
-    iterate_alike (join f r) (build_join (flags_of f r) b c) (join_of_tables f r b c serves serves_reverse) q bytes
+    iterated_alike (join f r) (build_join (flags_of f r) b c) (join_of_tables f r b c serves serves_reverse) q bytes
 
 pub iterate_of_copies : IterateOfCopies
 iterate_of_copies f g r s c d flags q bytes =
-    iterate_alike (join f r) (join g s) (join_of_copies f g r s c d flags) q bytes
+    iterated_alike (join f r) (join g s) (join_of_copies f g r s c d flags) q bytes
 
 -- ---- the tables of a plan
 

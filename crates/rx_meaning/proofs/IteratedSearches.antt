@@ -1,0 +1,43 @@
+-- Two searches that answer alike from each start give the same matches one after another.
+use Rattle.std.proofs.Common.{◌≡◌, ◌+◌, ◌-◌, ℕ, zero, suc, if◌then◌else◌, Option, Some, None, Ok, Err, ◌∷◌, refl, ap}
+use Rattle.std.proofs.Common.{◌∙◌}
+use Rattle.rx_spec.specs.Iterating.{FoundMatches, is_repeat, unless_repeat, and_then, iterate_from, iterate}
+use Rattle.rx_spec.specs.Joining.{Answer}
+use Rattle.rx_spec.specs.Queries.{Query, Match}
+
+abbrev pub from : Query → ℕ → Query
+from q start = record q { start = start }
+
+and_then_alike : (o : Answer) (f g : Match → FoundMatches) → ((m : Match) → f m ≡ g m) → and_then o f ≡ and_then o g
+and_then_alike (Ok None) f g e = refl
+and_then_alike (Ok (Some m)) f g e =
+    ap (λ (others : FoundMatches). record { matches = m ∷ others.matches; error = others.error }) (e m)
+and_then_alike (Err error) f g e = refl
+
+-- the second search may ask for something else than the first
+module _ (f g : Query → Answer) (q r : Query) (alike : (start : ℕ) → f (from q start) ≡ g (from r start)) where
+  unrepeated_alike : (start : ℕ) (last_end : Option ℕ) (answer : Answer)
+      → unless_repeat f (from q start) last_end answer ≡ unless_repeat g (from r start) last_end answer
+  unrepeated_alike start last_end (Ok (Some m)) =
+      ap (λ (again : Answer). if is_repeat last_end m then again else Ok (Some m)) (alike (start + 1))
+  unrepeated_alike start last_end (Ok None) = refl
+  unrepeated_alike start last_end (Err error) = refl
+
+  iterate_from_alike : (n start : ℕ) (last_end : Option ℕ)
+      → iterate_from f n (from q start) last_end ≡ iterate_from g n (from r start) last_end
+  unfolding iterate_from
+  iterate_from_alike zero start last_end = refl
+  iterate_from_alike (suc n) start last_end =
+      let after = λ (m : Match). iterate_from f n (from q m.end) (Some m.end) in
+      let others = λ (m : Match). iterate_from g n (from r m.end) (Some m.end) in
+      ap (λ (answer : Answer). and_then answer after)
+      (ap (unless_repeat f (from q start) last_end) (alike start)
+      ∙ unrepeated_alike start last_end (g (from r start)))
+      ∙ and_then_alike (unless_repeat g (from r start) last_end (g (from r start))) after others
+      (λ m. iterate_from_alike n m.end (Some m.end))
+
+  pub iterate_alike : q.start ≡ r.start → q.end ≡ r.end → iterate f q ≡ iterate g r
+  iterate_alike start end =
+      ap (λ n. iterate_from f n q None) (ap (λ e. e + 2 - q.start) end ∙ ap (λ s. r.end + 2 - s) start)
+      ∙ ap (λ s. iterate_from f (r.end + 2 - r.start) (from q s) None) start
+      ∙ iterate_from_alike (r.end + 2 - r.start) r.start None
