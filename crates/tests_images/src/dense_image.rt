@@ -3,34 +3,17 @@
 
 mod images;
 
-ghost use Rattle.rx_dense.specs.Facts.{IsSoundLayout};
-
+use crate::image_checks::Change::{self, Byte, Word};
+use crate::image_checks::{Answer, Told, altered, compare, cut_kind, kind_name, tell};
 use crate::span_checks::{Settings, check_spans};
 use images::{abc, never_match};
-use rx_base::{Input, MatchErrorKind};
 use rx_dense::{Accel, Accels, DFA, OwnedDFA, Special};
 use rx_dense_image::{AccelImage, AccelsImage, DenseRead, DenseWrite, SpecialImage};
 use rx_search::Automaton;
-use rx_wire::{DeserializeError, DeserializeErrorKind, LE, Order};
+use rx_wire::{DeserializeError, LE, Order};
 use std::alloc::{AllocError, Global};
 use std::process::Abort;
 use std::test::Fail;
-
-/// The result of a read: the numbers of states, patterns and bytes, or the kind of the error.
-type Answer = Result<(usize, usize, usize), &'static str>;
-
-fn kind_name(error: &DeserializeError) -> &'static str {
-    match error.kind() {
-        DeserializeErrorKind::Generic { .. } => "generic",
-        DeserializeErrorKind::BufferTooSmall { .. } => "buffer",
-        DeserializeErrorKind::VersionMismatch { .. } => "version",
-        DeserializeErrorKind::EndianMismatch { .. } => "endian",
-        DeserializeErrorKind::LabelMismatch { .. } => "label",
-        DeserializeErrorKind::PatternID { .. } => "pattern",
-        DeserializeErrorKind::StateID { .. } => "state",
-        DeserializeErrorKind::Memory => "memory",
-    }
-}
 
 fn answer(alloc: Global, bytes: &[u8]) -> Answer {
     match DFA::<Vec<u32>>::from_bytes(alloc, bytes) {
@@ -40,16 +23,7 @@ fn answer(alloc: Global, bytes: &[u8]) -> Answer {
 }
 
 fn check(rt: &impl Abort, alloc: Global, bytes: &[u8], wanted: Answer, at: usize) {
-    let found = answer(alloc, bytes);
-    match (found, wanted) {
-        (Ok((rows, patterns, size)), Ok(wanted)) => assert!(rt;
-            (rows, patterns, size) == wanted,
-            "at {at}: {rows} {patterns} {size}"
-        ),
-        (Err(kind), Err(wanted)) => assert!(rt; kind == wanted, "at {at}: {kind}"),
-        (Ok(_), Err(wanted)) => assert!(rt; false, "at {at}: read, not {wanted}"),
-        (Err(kind), Ok(_)) => assert!(rt; false, "at {at}: {kind}"),
-    }
+    compare(rt, answer(alloc, bytes), wanted, at);
 }
 
 const ABC: Answer = Ok((11, 1, 1088));
@@ -64,30 +38,6 @@ fn images_are_read_in_either_order(rt: HostRuntime) -> Result<(), Fail> {
         check(&rt, alloc, image.as_slice(), ABC, 1);
     }
     Ok(())
-}
-
-/// A change of an image: another byte or another word at an offset.
-#[derive(Clone, Copy)]
-enum Change {
-    Byte(u8),
-    Word(u32),
-}
-
-use Change::*;
-
-fn altered(image: &mut Vec<u8>, at: usize, change: Change) {
-    match change {
-        Byte(byte) => {
-            if at < image.len() {
-                image[at] = byte;
-            }
-        }
-        Word(word) => {
-            if at < image.len() && image.len() - at >= 4 {
-                image.as_mut_slice()[at..at + 4].copy_from_slice(&word.to_le_bytes());
-            }
-        }
-    }
 }
 
 /// Offsets in the little endian image of `abc`, changes, and the result of reading the changed image.
@@ -165,11 +115,6 @@ fn altered_images_fail_the_first_test_that_they_break(rt: HostRuntime) -> Result
     Ok(())
 }
 
-/// The kind of error if an image is cut off at an offset.
-fn cut_kind(at: usize) -> &'static str {
-    if at < 32 { "generic" } else { "buffer" }
-}
-
 #[test]
 fn every_cut_of_an_image_is_refused(rt: HostRuntime) -> Result<(), Fail> {
     let alloc = rt.alloc();
@@ -238,29 +183,6 @@ fn the_error_shows_an_unknown_word_of_the_order(rt: HostRuntime) -> Result<(), F
         "{text}"
     );
     Ok(())
-}
-
-/// The result of a search: no match, the pattern and the end of a match, a quit byte and its offset, or another error.
-#[derive(Clone, Copy, Debug, PartialEq, Eq)]
-enum Told {
-    Nothing,
-    Match(u32, usize),
-    Quit(u8, usize),
-    Other,
-}
-
-/// The result of a search of a table that was read.
-fn tell(dfa: &OwnedDFA, text: &[u8]) -> Told
-    requires { IsSoundLayout dfa.now }
-{
-    match dfa.try_search_fwd(&Input::new(text)) {
-        Ok(None) => Told::Nothing,
-        Ok(Some(found)) => Told::Match(found.pattern().as_u32(), found.offset()),
-        Err(error) => match error.kind() {
-            MatchErrorKind::Quit { byte, offset } => Told::Quit(*byte, *offset),
-            _ => Told::Other,
-        },
-    }
 }
 
 /// Compares the result of a search by an image. The reader must accept the image.

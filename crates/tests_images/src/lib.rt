@@ -9,6 +9,10 @@ mod built_images;
 #[cfg(test)]
 mod dense_image;
 #[cfg(test)]
+mod image_bytes;
+#[cfg(test)]
+mod image_checks;
+#[cfg(test)]
 mod pair_image;
 #[cfg(test)]
 mod span_checks;

@@ -7,7 +7,8 @@ mod answers;
 mod pairs;
 mod singles;
 
-use answers::{Answer, check, kind_name, search_if_read};
+use crate::image_checks::kind_name;
+use answers::{Answer, check, search_if_read};
 use pairs::{FORMS, ORDERS, dense_image, form_number, head, joined, pair, single, sparse_image};
 use rx_base::{Anchored, Direction, Input};
 use rx_image::{Tables, read_pair};

@@ -1,39 +1,22 @@
 //! Tests of images of sparse tables: that they are read, which error an altered image gives, and that the tables that
 //! were read are searched.
 
-ghost use Rattle.rx_sparse.specs.Facts.{IsSoundLayout};
-
 mod built;
 mod images;
 mod made_sparse;
 mod rows;
 
+use crate::image_checks::Change::{self, Byte, Half, Word};
+use crate::image_checks::{Answer, Told, altered, compare, cut_kind, kind_name, tell};
 use crate::span_checks::{Settings, check_spans};
 use images::{abc, never_match};
-use rx_base::{Input, MatchErrorKind};
 use rx_search::Automaton;
 use rx_sparse::DFA;
 use rx_sparse_image::{SparseRead, SparseWrite};
-use rx_wire::{DeserializeError, DeserializeErrorKind, Order};
+use rx_wire::Order;
 use std::alloc::{AllocError, Global};
 use std::process::Abort;
 use std::test::Fail;
-
-/// The result of a read: the numbers of states, patterns and bytes, or the kind of the error.
-type Answer = Result<(usize, usize, usize), &'static str>;
-
-fn kind_name(error: &DeserializeError) -> &'static str {
-    match error.kind() {
-        DeserializeErrorKind::Generic { .. } => "generic",
-        DeserializeErrorKind::BufferTooSmall { .. } => "buffer",
-        DeserializeErrorKind::VersionMismatch { .. } => "version",
-        DeserializeErrorKind::EndianMismatch { .. } => "endian",
-        DeserializeErrorKind::LabelMismatch { .. } => "label",
-        DeserializeErrorKind::PatternID { .. } => "pattern",
-        DeserializeErrorKind::StateID { .. } => "state",
-        DeserializeErrorKind::Memory => "memory",
-    }
-}
 
 fn answer(alloc: Global, bytes: &[u8]) -> Answer {
     match DFA::<&[u8]>::from_bytes(alloc, bytes) {
@@ -43,16 +26,7 @@ fn answer(alloc: Global, bytes: &[u8]) -> Answer {
 }
 
 fn check(rt: &impl Abort, alloc: Global, bytes: &[u8], wanted: Answer, at: usize) {
-    let found = answer(alloc, bytes);
-    match (found, wanted) {
-        (Ok((rows, patterns, size)), Ok(wanted)) => assert!(rt;
-            (rows, patterns, size) == wanted,
-            "at {at}: {rows} {patterns} {size}"
-        ),
-        (Err(kind), Err(wanted)) => assert!(rt; kind == wanted, "at {at}: {kind}"),
-        (Ok(_), Err(wanted)) => assert!(rt; false, "at {at}: read, not {wanted}"),
-        (Err(kind), Ok(_)) => assert!(rt; false, "at {at}: {kind}"),
-    }
+    compare(rt, answer(alloc, bytes), wanted, at);
 }
 
 const ABC: Answer = Ok((11, 1, 914));
@@ -92,32 +66,6 @@ fn a_table_of_either_order_is_written_in_either(rt: HostRuntime) -> Result<(), F
         }
     }
     Ok(())
-}
-
-/// A change of an image: another byte, or another number of two or four bytes, at an offset.
-#[derive(Clone, Copy)]
-enum Change {
-    Byte(u8),
-    Half(u16),
-    Word(u32),
-}
-
-use Change::*;
-
-fn put(image: &mut Vec<u8>, at: usize, bytes: &[u8]) {
-    for i in 0..bytes.len() {
-        if at < image.len() && i < image.len() - at {
-            image[at + i] = bytes[i];
-        }
-    }
-}
-
-fn altered(image: &mut Vec<u8>, at: usize, change: Change) {
-    match change {
-        Byte(byte) => put(image, at, &[byte]),
-        Half(half) => put(image, at, &half.to_le_bytes()),
-        Word(word) => put(image, at, &word.to_le_bytes()),
-    }
 }
 
 /// Offsets in the little endian image of `abc`, changes, and the result of reading the changed image. The rows begin at
@@ -173,11 +121,6 @@ fn altered_images_fail_the_first_test_that_they_break(rt: HostRuntime) -> Result
     Ok(())
 }
 
-/// The kind of error if an image is cut off at an offset.
-fn cut_kind(at: usize) -> &'static str {
-    if at < 32 { "generic" } else { "buffer" }
-}
-
 #[test]
 fn every_cut_of_an_image_is_refused(rt: HostRuntime) -> Result<(), Fail> {
     let alloc = rt.alloc();
@@ -188,29 +131,6 @@ fn every_cut_of_an_image_is_refused(rt: HostRuntime) -> Result<(), Fail> {
         }
     }
     Ok(())
-}
-
-/// The result of a search: no match, the pattern and the end of a match, a quit byte and its offset, or another error.
-#[derive(Clone, Copy, Debug, PartialEq, Eq)]
-enum Told {
-    Nothing,
-    Match(u32, usize),
-    Quit(u8, usize),
-    Other,
-}
-
-/// The result of a search of a table.
-fn tell(dfa: &DFA<&[u8]>, text: &[u8]) -> Told
-    requires { IsSoundLayout dfa.now.layout }
-{
-    match dfa.try_search_fwd(&Input::new(text)) {
-        Ok(None) => Told::Nothing,
-        Ok(Some(found)) => Told::Match(found.pattern().as_u32(), found.offset()),
-        Err(error) => match error.kind() {
-            MatchErrorKind::Quit { byte, offset } => Told::Quit(*byte, *offset),
-            _ => Told::Other,
-        },
-    }
 }
 
 /// Compares the result of a search by an image. The reader must accept the image, and its order must be `order`.

@@ -3,12 +3,12 @@
 ghost use Rattle.rx_dense.specs.Facts.{IsSoundLayout as IsSoundDense};
 ghost use Rattle.rx_sparse.specs.Facts.{IsSoundLayout as IsSoundSparse};
 
+use crate::image_checks::kind_name;
 use crate::span_checks::{Settings, check_spans};
 use rx_dense::OwnedDFA;
 use rx_image::{Tables, read_pair};
 use rx_search::Automaton;
 use rx_sparse::DFA;
-use rx_wire::{DeserializeError, DeserializeErrorKind};
 use std::alloc::Global;
 use std::process::Abort;
 use std::test::Fail;
@@ -16,19 +16,6 @@ use std::test::Fail;
 /// The numbers of states of the forward table and of the reverse table, the number of patterns and the length of the
 /// image, or the kind of the error.
 pub type Answer = Result<(usize, usize, usize, usize), &'static str>;
-
-pub fn kind_name(error: &DeserializeError) -> &'static str {
-    match error.kind() {
-        DeserializeErrorKind::Generic { .. } => "generic",
-        DeserializeErrorKind::BufferTooSmall { .. } => "buffer",
-        DeserializeErrorKind::VersionMismatch { .. } => "version",
-        DeserializeErrorKind::EndianMismatch { .. } => "endian",
-        DeserializeErrorKind::LabelMismatch { .. } => "label",
-        DeserializeErrorKind::PatternID { .. } => "pattern",
-        DeserializeErrorKind::StateID { .. } => "state",
-        DeserializeErrorKind::Memory => "memory",
-    }
-}
 
 fn answer(alloc: Global, bytes: &[u8]) -> Answer {
     match read_pair(alloc, bytes) {

@@ -1,7 +1,7 @@
 //! Reads the tables of a pair by the readers of one table.
 
-use super::answers::kind_name;
 use super::pairs::{FORMS, pair};
+use crate::image_checks::{Answer, kind_name};
 use rx_dense::OwnedDFA;
 use rx_dense_image::DenseRead;
 use rx_search::Automaton;
@@ -12,9 +12,6 @@ use rx_wire::Order;
 use std::alloc::Global;
 use std::process::Abort;
 use std::test::Fail;
-
-/// The numbers of states and patterns of a table and the length of its image, or the kind of the error.
-type Answer = Result<(usize, usize, usize), &'static str>;
 
 fn dense_answer(alloc: Global, bytes: &[u8]) -> Answer {
     match OwnedDFA::from_bytes(alloc, bytes) {
