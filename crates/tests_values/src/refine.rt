@@ -1,14 +1,11 @@
-//! Tests of the refinement on tables worked by hand, all small tables, and random ones. Each result is compared with a
-//! plain refinement, and the number of steps with its limit.
+//! Tests of the refinement on tables worked by hand and on long chains, of row numbers and of ids. The number of steps is
+//! compared with its limit.
 //!
 //! The tests assert the requirements of the refinement for each table, so a table can come from anywhere.
-
-mod plain;
 
 ghost use Rattle.std.specs.Prelude.{◌≡◌, ℕ, ◌+◌, ◌*◌, ◌/◌, ◌<◌, ◌≤◌, ◌^◌, length, slice_index, All, IfOk, IsTrue};
 ghost use Rattle.rx_refine.specs.Moves.{AreMoves};
 
-use crate::refine::plain::first_alike_rows;
 use rx_refine::*;
 use rx_steps::Tally;
 use std::alloc::{AllocError, Global};
@@ -52,8 +49,7 @@ fn refined(
     Ok((blocks, steps.count()))
 }
 
-/// The block of each row, named by its first row, and the number of steps. Asserts that the blocks are those of the
-/// plain refinement and that the steps are within the limit.
+/// The block of each row, named by its first row, and the number of steps. Asserts that the steps are within the limit.
 fn compared(rt: &impl Abort, alloc: Global, table: Table<'_>) -> Result<(Vec<u32>, u64), Fail> {
     let Table {
         units,
@@ -65,15 +61,10 @@ fn compared(rt: &impl Abort, alloc: Global, table: Table<'_>) -> Result<(Vec<u32
     assert!(rt; next.len() == rows * units && are_below(next, rows) && are_below(labels, rows));
     let incoming = Incoming::new(alloc, rows, units, next)?;
     let (blocks, steps) = refined(alloc, &incoming, labels)?;
-    let named = named_by_first(alloc, &blocks)?;
-    let wanted = first_alike_rows(alloc, units, next, labels)?;
     let digits = usize::BITS - rows.leading_zeros();
     let limit = (2 * units * rows) as u64 * u64::from(digits);
-    assert!(rt;
-        named.as_slice() == wanted.as_slice() && steps <= limit,
-        "{next:?} {labels:?}: {named:?}, {wanted:?}"
-    );
-    Ok((named, steps))
+    assert!(rt; steps <= limit, "{next:?} {labels:?}: {steps}");
+    Ok((named_by_first(alloc, &blocks)?, steps))
 }
 
 /// The greatest block number. Asserts that blocks and steps are the same for rows without gaps and for the same rows as
@@ -140,19 +131,6 @@ fn named_by_first(alloc: Global, numbers: &[u32]) -> Result<Vec<u32>, Fail> {
     Ok(named)
 }
 
-/// The digits of a number in a base, the least first.
-fn digits(alloc: Global, code: u64, base: u32, count: usize) -> Result<Vec<u32>, AllocError>
-    requires { 0 < base }
-{
-    let mut digits = Vec::with_capacity(alloc, count)?;
-    let mut rest = code;
-    for _ in 0..count {
-        digits.push((rest % u64::from(base)) as u32)?;
-        rest /= u64::from(base);
-    }
-    Ok(digits)
-}
-
 /// Tables worked by hand. The last one has no rows, so no blocks and no steps.
 #[test]
 fn worked_tables(rt: HostRuntime) -> Result<(), Fail> {
@@ -177,186 +155,6 @@ fn worked_tables(rt: HostRuntime) -> Result<(), Fail> {
             named.as_slice() == *want && steps <= *most,
             "{named:?} in {steps}"
         );
-    }
-    Ok(())
-}
-
-/// Every table of up to three rows and two units, every one of four rows and one unit, and one in 97 of four rows and
-/// two units. With so few rows, the refinement processes blocks one by one.
-#[test]
-fn small_tables(rt: HostRuntime) -> Result<(), Fail> {
-    let shapes: &[(u32, usize, u64, u64, u64)] = &[
-        (1, 0, 1, 1, 1),
-        (2, 0, 4, 1, 1),
-        (3, 0, 27, 1, 1),
-        (4, 0, 256, 1, 1),
-        (1, 1, 1, 1, 1),
-        (1, 2, 1, 1, 1),
-        (2, 1, 4, 4, 1),
-        (2, 2, 4, 16, 1),
-        (3, 1, 27, 27, 1),
-        (3, 2, 27, 729, 1),
-        (4, 1, 256, 256, 1),
-        (4, 2, 256, 675, 97),
-    ];
-    for (rows, units, labellings, tables, step) in shapes {
-        assert!(rt; 0 < *rows && *rows <= 4);
-        for labelling in 0..*labellings {
-            let labels = digits(rt.alloc(), labelling, *rows, *rows as usize)?;
-            let named = named_by_first(rt.alloc(), &labels)?;
-            if named.as_slice() == labels.as_slice() {
-                compare_labelled(&rt, rt.alloc(), *units, &labels, *tables, *step)?;
-            }
-        }
-    }
-    Ok(())
-}
-
-/// Compares this many tables with these labels. The code of a table is `step` more than that of the one before.
-fn compare_labelled(
-    rt: &impl Abort,
-    alloc: Global,
-    units: usize,
-    labels: &[u32],
-    tables: u64,
-    step: u64,
-) -> Result<(), Fail> {
-    let rows = labels.len();
-    assert!(rt; 0 < rows && rows <= 4 && units <= 2);
-    for table in 0..tables {
-        let code = table.wrapping_mul(step);
-        let next = digits(alloc, code, rows as u32, rows * units)?;
-        let next = &next;
-        compared(
-            rt,
-            alloc,
-            Table {
-                units,
-                next,
-                labels,
-            },
-        )?;
-    }
-    Ok(())
-}
-
-/// A pseudo-random number below the bound.
-fn random_below(seed: &mut u64, bound: u32) -> u32
-    requires { 0 < bound }
-{
-    *seed = seed
-        .wrapping_mul(6364136223846793005)
-        .wrapping_add(1442695040888963407);
-    ((*seed >> 33) % u64::from(bound)) as u32
-}
-
-/// Pseudo-random numbers below the bound.
-fn random_numbers(
-    alloc: Global,
-    seed: &mut u64,
-    bound: u32,
-    count: u32,
-) -> Result<Vec<u32>, AllocError>
-    requires { 0 < bound }
-{
-    let mut numbers = Vec::with_capacity(alloc, count as usize)?;
-    for _ in 0..count {
-        numbers.push(random_below(seed, bound))?;
-    }
-    Ok(numbers)
-}
-
-/// A table in which each class of a smaller table has several rows: row `class + classes * copy` leads to some row of
-/// the class that the class leads to.
-fn copied(
-    alloc: Global,
-    seed: &mut u64,
-    classes: u32,
-    copies: u32,
-    next: &[u32],
-) -> Result<Vec<u32>, AllocError>
-    requires { 0 < copies }
-{
-    let mut rows = Vec::new(alloc);
-    for _ in 0..copies {
-        for class in next {
-            let copy = random_below(seed, copies);
-            rows.push(classes.wrapping_mul(copy).wrapping_add(*class))?;
-        }
-    }
-    Ok(rows)
-}
-
-/// The labels of the rows of such a table.
-fn copied_labels(alloc: Global, copies: u32, labels: &[u32]) -> Result<Vec<u32>, AllocError> {
-    let mut rows = Vec::new(alloc);
-    for _ in 0..copies {
-        rows.extend_from_slice(labels)?;
-    }
-    Ok(rows)
-}
-
-/// Compares a random table, and a table in which each of its rows has several copies.
-fn compare_copies(
-    rt: &impl Abort,
-    alloc: Global,
-    seed: &mut u64,
-    classes: u32,
-    copies: u32,
-    units: u32,
-) -> Result<(), Fail>
-    requires classes { 0 < classes }
-    requires copies { 0 < copies }
-{
-    let next = random_numbers(alloc, seed, classes, classes.wrapping_mul(units))?;
-    let labels = random_numbers(alloc, seed, classes.min(2), classes)?;
-    compare_table(rt, alloc, units, &next, &labels)?;
-    let next = copied(alloc, seed, classes, copies, &next)?;
-    let labels = copied_labels(alloc, copies, &labels)?;
-    compare_table(rt, alloc, units, &next, &labels)
-}
-
-fn compare_table(
-    rt: &impl Abort,
-    alloc: Global,
-    units: u32,
-    next: &[u32],
-    labels: &[u32],
-) -> Result<(), Fail> {
-    let units = units as usize;
-    compared(
-        rt,
-        alloc,
-        Table {
-            units,
-            next,
-            labels,
-        },
-    )?;
-    Ok(())
-}
-
-#[test]
-fn tables_with_copies(rt: HostRuntime) -> Result<(), Fail> {
-    let mut seed = 7;
-    for classes in 1..33 {
-        for units in 1..4 {
-            compare_copies(&rt, rt.alloc(), &mut seed, classes, 10, units)?;
-        }
-    }
-    Ok(())
-}
-
-/// Random tables of some hundred rows. The refinement processes many blocks at once while many rows wait.
-#[test]
-fn large_random_tables(rt: HostRuntime) -> Result<(), Fail> {
-    let mut seed = 11;
-    let sizes: &[(u32, u32)] = &[(100, 1), (100, 2), (300, 1), (300, 2)];
-    for (rows, units) in sizes {
-        assert!(rt; 0 < *rows);
-        let next = random_numbers(rt.alloc(), &mut seed, *rows, rows.wrapping_mul(*units))?;
-        let labels = random_numbers(rt.alloc(), &mut seed, 2, *rows)?;
-        compare_table(&rt, rt.alloc(), *units, &next, &labels)?;
     }
     Ok(())
 }
@@ -442,46 +240,5 @@ fn tables_in_place(rt: HostRuntime) -> Result<(), Fail> {
             *stride2,
         )?;
     }
-    let mut seed = 13;
-    let sizes: &[u32] = &[1, 7, 60];
-    for rows in sizes {
-        for units in 1..6 {
-            compare_random_in_place(&rt, rt.alloc(), &mut seed, *rows, units)?;
-        }
-    }
-    Ok(())
-}
-
-fn compare_random_in_place(
-    rt: &impl Abort,
-    alloc: Global,
-    seed: &mut u64,
-    rows: u32,
-    units: u32,
-) -> Result<(), Fail> {
-    assert!(rt; 0 < rows);
-    let next = &random_numbers(alloc, seed, rows, rows.wrapping_mul(units))?;
-    let labels = &random_numbers(alloc, seed, rows.min(3), rows)?;
-    let units = units as usize;
-    compared_in_place(
-        rt,
-        alloc,
-        Table {
-            units,
-            next,
-            labels,
-        },
-        3,
-    )?;
-    compared_in_place(
-        rt,
-        alloc,
-        Table {
-            units,
-            next,
-            labels,
-        },
-        9,
-    )?;
     Ok(())
 }
