@@ -12,7 +12,7 @@ use Rattle.rx_dense.specs.Specials.{greatest, is_in_range, is_match_id, is_quit_
 use Rattle.rx_dense.proofs.Rows.{quotient, row-below}
 use Rattle.rx_dense.proofs.Shaped.{id_kept}
 use Rattle.rx_order.specs.RowOrder.{IsInOrder, IsPlain, IsRange, accel_count, is_start_row}
-use Rattle.rx_order.proofs.KindNumbers.{at_most, high_kind, kind_high, over}
+use Rattle.rx_order.proofs.KindNumbers.{at_most, high_kind, kind_high, label_match, over}
 
 -- ---- no row is accelerated
 
@@ -76,14 +76,8 @@ module _ (l : Layout) (order : IsInOrder l) (plain : IsPlain l) where
 
   match_by_id : (row : ℕ) → is_match (table_of l) row ≡ is_match_id l.special (row * stride l)
   match_by_id row =
-      by_id (is_match_id l.special (row * stride l)) (is_quit_id l.special (row * stride l))
+      label_match (is_match_id l.special (row * stride l)) (is_quit_id l.special (row * stride l))
       (patterns_at l (place_in_range l l.special.min_match (row * stride l)))
-    where
-      by_id : (m q : Bool) (ks : List ℕ)
-          → is_match_label (if m then Label.Matches ks else (if q then Label.Quits else Label.Plain)) ≡ m
-      by_id true q ks = refl
-      by_id false true ks = refl
-      by_id false false ks = refl
 
   -- a row behind quit whose id isn't above the last match row's is a match row
   matches_first : (row : ℕ) → 1 < row → row < row_count l → row * stride l ≤ l.special.max_match

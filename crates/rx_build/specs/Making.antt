@@ -9,12 +9,12 @@ use Rattle.rx_minimize.specs.Minimized.{AreReachedRows}
 use Rattle.rx_build.specs.Built.{AreApart, AreLeftOut}
 
 -- what was done to it since it was determinized
-pub record Steps : Type 0 where
+pub record Stage : Type 0 where
   pub minimize : Bool
   pub mark_starts : Bool
   pub accelerate : Bool
 
-pub record IsMade (b : Build) (s : Steps) (begun l : Layout) : Type 0 where
+pub record IsMade (b : Build) (s : Stage) (begun l : Layout) : Type 0 where
   pub gives : Gives (table_of l) b
   pub reached : AreReachedRows (built_modes b) (table_of l)
   pub power : s.minimize ≡ false → IsPower (table_of l) b
@@ -37,11 +37,11 @@ pub record IsMade (b : Build) (s : Steps) (begun l : Layout) : Type 0 where
   }
 
 -- just determinized, minimized or not, its start rows marked or not
-abbrev pub determinized : Steps
+abbrev pub determinized : Stage
 determinized = record { minimize = false; mark_starts = true; accelerate = false }
 
-abbrev pub minimized : Bool → Steps
+abbrev pub minimized : Bool → Stage
 minimized joined = record { minimize = joined; mark_starts = true; accelerate = false }
 
-abbrev pub marked_as : Bool → Bool → Steps
+abbrev pub marked_as : Bool → Bool → Stage
 marked_as joined marked = record { minimize = joined; mark_starts = marked; accelerate = false }

@@ -2,6 +2,7 @@
 use Rattle.std.proofs.Common.{◌≡◌, ℕ, suc, ◌+◌, ◌/◌, ◌%◌, ◌<◌, ◌&&◌, ◌||◌, not, Bool, true, false}
 use Rattle.std.proofs.Common.{leb, eqb, Option, Some, None, List, [], ◌∷◌, length, filter, get_or, slice_index, refl}
 use Rattle.std.proofs.Common.{sym, ap, subst, ◌∙◌, arith, inl, inr}
+use Rattle.std.specs.Cmp.{both_ways}
 use Rattle.std.specs.Prelude.{IfSome, if◌then◌else◌}
 use Rattle.std.specs.List.{list_all, range_with_len}
 use Rattle.std.specs.Str.{bytes_eq}
@@ -32,12 +33,12 @@ use Rattle.rx_sparse_image.specs.Closing as closing
 use Rattle.rx_sparse_image.specs.Closing.{are_special_rows, each_row, has_needles, is_closed, is_row_id, is_start_row}
 use Rattle.rx_sparse_image.specs.Closing.{is_universal, leads_on, leaves, row_stands, rows_stand, starts_stand}
 use Rattle.rx_sparse_image.proofs.ClosedRows.{unit_leads}
-use Rattle.rx_built_images.proofs.Columns.{class_used}
+use Rattle.rx_order.proofs.UsedColumns.{class_used}
 use Rattle.rx_built_images.proofs.KindTests.{plain_matches, plain_quits}
 use Rattle.rx_built_images.proofs.Places.{all_places, not_of}
 use Rattle.rx_built_images.proofs.RangesLead.{among_at}
 use Rattle.rx_built_images.proofs.Ready.{IsReady, back, dead_is, next_is_id, quit_is, quit_some}
-use Rattle.rx_built_images.proofs.Ready.{same_test, zero_of}
+use Rattle.rx_built_images.proofs.Ready.{zero_of}
 
 -- ---- tests
 
@@ -172,7 +173,7 @@ module _ (l : Layout) (ready : IsReady l) where
         ≡ eqb ((machine_of l).next row byte) row
     stays_same byte =
         let next : ℕ = next_id l.classes r byte in
-        same_test (eqb next id) (eqb (row_of (ids_of l) next) row)
+        both_ways (eqb next id) (eqb (row_of (ids_of l) next) row)
         (λ e. eq-eqb _ _ (ap (row_of (ids_of l)) (eqb-true _ _ e) ∙ back l ready row h))
         (λ e.
         eq-eqb _ _ (sym (id_at_row (ids_of l) next (next_is byte)) ∙ ap (id_of (ids_of l)) (eqb-true _ _ e)))

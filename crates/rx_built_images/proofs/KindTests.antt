@@ -6,23 +6,16 @@ use Rattle.rx_spec.specs.Machines.{Label}
 use Rattle.rx_spec.specs.Tables.{is_match, is_match_label}
 use Rattle.rx_dense.specs.Specials.{is_in_range, is_match_id, is_quit_id}
 use Rattle.rx_dense.specs.Layouts.{Layout, patterns_at, place_in_range, stride, table_of}
-use Rattle.rx_order.proofs.KindNumbers.{at_most, high_kind}
+use Rattle.rx_order.proofs.KindNumbers.{at_most, high_kind, label_match}
 use Rattle.rx_dense_image.specs.Marks.{begins_after}
 
 -- ---- labels
-
--- a label is one of patterns where the first of its two tests holds
-match_by : (m q : Bool) (ks : List ℕ)
-    → is_match_label (if m then Label.Matches ks else (if q then Label.Quits else Label.Plain)) ≡ m
-match_by true q ks = refl
-match_by false true ks = refl
-match_by false false ks = refl
 
 -- a row matches where its id is in the range of match rows
 pub match_is : (l : Layout) (row : ℕ) → is_match (table_of l) row ≡ is_match_id l.special (row * stride l)
 match_is l row =
     let id : ℕ = row * stride l in
-    match_by (is_match_id l.special id) (is_quit_id l.special id)
+    label_match (is_match_id l.special id) (is_quit_id l.special id)
     (patterns_at l (place_in_range l l.special.min_match id))
 
 -- a plain row neither matches nor quits

@@ -1,6 +1,5 @@
--- tests of all elements and rows of places, columns, and rows of a range of ids
+-- tests of all elements and rows of places, and rows of a range of ids
 pub mod Places
-pub mod Columns
 pub mod RangeRows
 -- kinds of rows, labels and ranges of ids, by their tests
 pub mod KindTests

@@ -2,6 +2,7 @@
 use Rattle.std.proofs.Common.{◌≡◌, ℕ, ◌<◌, ◌≤◌, ◌^◌, ◌||◌, Bool, true, false, leb, eqb, List, [], ◌∷◌, length}
 use Rattle.std.proofs.Common.{slice_index, refl, sym, ap, subst, ◌∙◌, ⊎_elim, arith}
 use Rattle.std.proofs.lemmas.Bool.{cases_lt, eq-eqb, eqb-true}
+use Rattle.std.specs.Cmp.{both_ways}
 use Rattle.std.specs.Prelude.{if◌then◌else◌}
 use Rattle.rx_spec.specs.Ids.{id_of, row_of}
 use Rattle.rx_spec.specs.Machines.{Label}
@@ -12,6 +13,8 @@ use Rattle.rx_dense.specs.Specials.{is_accel_id, is_match_id, is_quit_id, is_sta
 use Rattle.rx_dense.proofs.Rows.{id_at_row}
 use Rattle.rx_dense_image.specs.Closing.{is_named}
 use Rattle.rx_dense_image.specs.Marks.{are_special}
+use Rattle.rx_order.proofs.KindNumbers.{label_match}
+use Rattle.rx_dense_image.proofs.SpecialTests.{alike}
 use Rattle.rx_sparse.specs.Rows.{Row, next_ids, rows_len}
 use Rattle.rx_sparse.specs.Layouts.{IsRow, IsShaped, Layout, ids_of, row_at, row_count, table_of}
 use Rattle.rx_sparse.specs.Facts.{IsSoundLayout, length-offsets, offset_at, offsets_are_ids}
@@ -27,20 +30,6 @@ pub record IsReady (l : Layout) : Type 0 where
   pub rows : AreSpecialRows l
   pub special : are_special l.special ≡ true
   pub quit : l.quit < 2 ^ 256
-
--- tests that follow from each other are the same
-pub same_test : (a b : Bool) → (a ≡ true → b ≡ true) → (b ≡ true → a ≡ true) → a ≡ b
-same_test true true f g = refl
-same_test true false f g = sym (f refl)
-same_test false true f g = g refl
-same_test false false f g = refl
-
--- a label is one of patterns where the first of its two tests holds
-match_by : (m q : Bool) (ks : List ℕ)
-    → is_match_label (if m then Label.Matches ks else (if q then Label.Quits else Label.Plain)) ≡ m
-match_by true q ks = refl
-match_by false true ks = refl
-match_by false false ks = refl
 
 module _ (l : Layout) (ready : IsReady l) where
   abbrev ids : List ℕ
@@ -81,13 +70,13 @@ module _ (l : Layout) (ready : IsReady l) where
   -- dead and quit, by ids as by rows
   pub dead_is : (row : ℕ) → row < row_count l → eqb (id_of (ids_of l) row) 0 ≡ eqb row 0
   dead_is row h =
-      same_test (eqb (id_of ids row) 0) (eqb row 0)
+      both_ways (eqb (id_of ids row) 0) (eqb row 0)
       (λ e. eq-eqb _ _ (same_row row 0 h first_row (eqb-true _ _ e ∙ sym first_id)))
       (λ e. eq-eqb _ _ (ap (id_of ids) (eqb-true _ _ e) ∙ first_id))
 
   pub quit_is : (row : ℕ) → row < row_count l → eqb (id_of (ids_of l) row) l.special.quit ≡ eqb row 1
   quit_is row h =
-      same_test (eqb (id_of ids row) l.special.quit) (eqb row 1)
+      both_ways (eqb (id_of ids row) l.special.quit) (eqb row 1)
       (λ e. eq-eqb _ _ (same_row row 1 h second_row (eqb-true _ _ e ∙ ready.second)))
       (λ e. eq-eqb _ _ (ap (id_of ids) (eqb-true _ _ e) ∙ sym ready.second))
 
@@ -97,7 +86,7 @@ module _ (l : Layout) (ready : IsReady l) where
   match_is : (row : ℕ) → is_match (table_of l) row ≡ is_match_id l.special (id_of (ids_of l) row)
   match_is row =
       let id : ℕ = id_of ids row in
-      match_by (is_match_id l.special id) (is_quit_id l.special id) (row_at l row).patterns
+      label_match (is_match_id l.special id) (is_quit_id l.special id) (row_at l row).patterns
 
   -- the rows up to the greatest special one are dead, quit, and those in a range
   pub special_is : (row : ℕ) → row < row_count l
@@ -107,10 +96,6 @@ module _ (l : Layout) (ready : IsReady l) where
       ready.sound.special row h
       ∙ alike (sym (dead_is row h)) (sym (quit_is row h)) (match_is row) (is_accel_id l.special id)
       (is_start_id l.special id)
-    where
-      alike : {a b c d e f : Bool} → a ≡ b → c ≡ d → e ≡ f → (g h : Bool)
-          → (a || c || e || g || h) ≡ (b || d || f || g || h)
-      alike p q r g h = cc
 
   -- ---- where a row leads
 

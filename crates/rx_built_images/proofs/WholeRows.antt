@@ -16,7 +16,7 @@ use Rattle.rx_order.proofs.KindNumbers.{at_most}
 use Rattle.rx_dense_image.specs.Rows.{AreReadRows, are_entries, have_ids, is_entry, rows_of}
 use Rattle.rx_dense_image.specs.Closing.{lead_to_dead, rows_stand}
 use Rattle.rx_dense_image.proofs.EachBelow.{all_of, and_of}
-use Rattle.rx_built_images.proofs.Columns.{column_used}
+use Rattle.rx_order.proofs.UsedColumns.{column_used}
 use Rattle.rx_built_images.proofs.Places.{all_places, not_both, row_below}
 
 -- the id of a row passes the test

@@ -15,6 +15,7 @@ use Rattle.rx_order.specs.RowOrder.{IsOrdered, IsRange, is_marked, is_start_row,
 use Rattle.rx_order.proofs.KindNumbers.{at_most, high_kind, kind_high}
 use Rattle.rx_order.proofs.MarkedRows.{start_row_plain}
 use Rattle.rx_order.proofs.Moved.{factor}
+use Rattle.rx_dense_image.proofs.SpecialTests.{alike}
 use Rattle.rx_dense_image.specs.Marks.{are_past_quit, are_ranges, are_special, begin_in_order, begins_after}
 use Rattle.rx_dense_image.specs.Marks.{is_past_quit, is_range}
 use Rattle.rx_dense_image.specs.Closing.{are_named, are_special_rows, is_named, special_stand}
@@ -271,10 +272,6 @@ module _ (l : Layout) (rows : AreRows l) (sound : IsSound (table_of l)) (ordered
             ne_eqb (row * stride l) l.special.quit (λ e. ne (factor some row 1 (e ∙ omega (arith, ordered.quit))))
             ∙ sym (ne_eqb row 1 ne))
       ]
-
-  alike : {a b c d e f : Bool} → a ≡ b → c ≡ d → e ≡ f → (g h : Bool)
-      → (a || c || e || g || h) ≡ (b || d || f || g || h)
-  alike p q r g h = cc
 
   named_is : (row : ℕ) → row < row_count l → is_named l.special (row * stride l) ≡ (table_of l).is_special row
   named_is row below =

@@ -182,12 +182,6 @@ pub is_old_key : (b : Bool) → not b ≡ true → b ≡ false
 is_old_key true e = absurd cc
 is_old_key false e = refl
 
--- a key that was there
-pub old_interns : (before after : List (List ℕ)) (key : List ℕ) (id : ℕ) (is_new : Bool)
-    → after ≡ (if is_new then before ++ key ∷ [] else before) → slice_get after id ≡ Some key
-    → Interns before key id after
-old_interns before after key id is_new keys here = record { is_new = is_new; keys = keys; here = here }
-
 pub keys_at : (before after : List (List ℕ)) (key : List ℕ) (b : Bool)
     → after ≡ (if b then before ++ key ∷ [] else before) → b ≡ true → after ≡ before ++ key ∷ []
 keys_at before after key true keys e = keys
@@ -197,14 +191,6 @@ pub keys_kept : (before after : List (List ℕ)) (key : List ℕ) (b : Bool)
     → after ≡ (if b then before ++ key ∷ [] else before) → b ≡ false → after ≡ before
 keys_kept before after key true keys e = absurd cc
 keys_kept before after key false keys e = keys
-
-pub row_of_new : (l : Layout) (b : Bool) → b ≡ true → with_row l ≡ (if b then with_row l else l)
-row_of_new l true e = refl
-row_of_new l false e = absurd cc
-
-pub row_of_old : (l : Layout) (b : Bool) → b ≡ false → l ≡ (if b then with_row l else l)
-row_of_old l true e = absurd cc
-row_of_old l false e = refl
 
 pub is_true : (b : Bool) → not b ≡ false → b ≡ true
 is_true true e = refl

@@ -27,9 +27,6 @@ column_of_byte l unit h = let ne : eqb unit 256 ≡ false = grind (arith, nat_te
     ap (λ b. cond b (slice_index l.classes 255 + 1) (slice_index l.classes unit)) ne
 
 module _ (l : Layout) (are : AreClasses l.classes) where
-  least_bytes : List ℕ
-  least_bytes = representatives (ends_of l.classes)
-
   counted : length (representatives (ends_of l.classes)) ≡ slice_index l.classes 255 + 1
   counted =
       representatives_counted (ends_of l.classes)
@@ -80,14 +77,6 @@ pub unit_is : (units : List Unit) (classes : List ℕ) {column : ℕ} {unit : Un
 unit_is units classes {column} {unit} is low here =
     ap unit_number here ∙ sym (get_or-map unit_number units column unit 0 low)
     ∙ ap (λ (us : List ℕ). slice_index us column) is
-
--- nothing is in the set of no bytes
-pub in_none : (unit : ℕ) → contains 0 unit ≡ false
-in_none unit = rw (bit_at-zero unit) (none (nat_lt unit 256))
-  where
-    none : (b : Bool) → (b && (0 == 1)) ≡ false
-    none true = refl
-    none false = refl
 
 -- the column of a table with an NFA's classes
 pub column_is : (l : Layout) (nfa : Nfa) (quit : ℕ) (byte_classes : Bool) → l.classes ≡ classes_of nfa quit byte_classes

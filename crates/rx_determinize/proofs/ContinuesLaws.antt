@@ -22,9 +22,6 @@ pub written_over : (l m : Layout) (words : List ℕ) → m ≡ record l { words 
 written_over l m words is =
     is ∙ ap (λ (ws : List ℕ). record l { words = ws }) (sym (ap (λ (n : Layout). n.words) is))
 
-pub over_twice : (l m n : Layout) → IsWrittenOver l m → IsWrittenOver m n → IsWrittenOver l n
-over_twice l m n first second = second ∙ ap (λ (k : Layout). record k { words = n.words }) first
-
 pub started_over : {l m : Layout} → IsWrittenOver l m → IsStartedOver l m
 started_over {l} {m} over = record {
   rest =

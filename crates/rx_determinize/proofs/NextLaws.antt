@@ -116,12 +116,6 @@ added_row k {met} {after} {l} {m} {key} {id} adds alive =
     ) in
     subst (IsRowOf (states_of k after) (Running (k.state_of key))) row (interned_row k.state_of adds.interns alive)
 
--- facts of one answer
-pub both_ok : {T E : Type 0} (r : Result T E) {P Q R : T → Type 0} → ((x : T) → P x → Q x → R x) → IfOk r P → IfOk r Q
-    → IfOk r R
-both_ok (Ok x) both p q = both x p q
-both_ok (Err e) both p q = tt
-
 -- ids lie as far apart as they did
 adds_stride : {met after : Met} {l m : Layout} {key : List ℕ} {id : ℕ} → Adds met l key after m id → stride m ≡ stride l
 adds_stride {met} {after} {l} {m} adds = ap stride adds.layout ∙ at adds.interns.is_new

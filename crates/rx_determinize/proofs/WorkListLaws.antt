@@ -240,17 +240,3 @@ module _ {b : Build} {state_of : List ℕ → State} {next : ℕ → ℕ → ℕ
     reached = All-map (IsReached b) state_of keys work.reached;
     over = over;
   }
-
--- keys that differ stand for states that differ
-pub distinct_states : (state_of : List ℕ → State) (IsKey : List ℕ → Type 0)
-    → ((k l : List ℕ) → IsKey k → IsKey l → state_of k ≡ state_of l → k ≡ l) → (keys : List (List ℕ)) → All IsKey keys
-    → AllPairs (λ x y. x ≢ y) keys → AllPairs (λ x y. x ≢ y) (map state_of keys)
-distinct_states state_of IsKey apart keys are_keys distinct i j d lt within e =
-    let there : j < length keys = simp length-map at within in
-    let state : (k : ℕ) → k < length keys → get_or (map state_of keys) k d ≡ state_of (get_or keys k []) = λ k l.
-    get_or_from_slice_get (map state_of keys) k (state_of (get_or keys k [])) d
-    (state_at state_of keys k (slice_get-get_or keys k [] l)) in
-    let is_key : (k : ℕ) → k < length keys → IsKey (get_or keys k []) = λ k l. All-get_or IsKey keys k [] l are_keys in
-    distinct i j [] lt there
-    (apart (get_or keys i []) (get_or keys j []) (is_key i (omega arith)) (is_key j there)
-    (sym (state i (omega arith)) ∙ e ∙ state j there))

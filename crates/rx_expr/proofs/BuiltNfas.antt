@@ -67,18 +67,18 @@ capped p j l hp hs hr hn = omega arith
 -- ---- what it is
 
 -- what the steps added, one after another, and where the NFA is entered
-pub record Steps (direction : Direction) (es : List Expression) (first mid last : List Row) (starts : List ℕ)
+pub record AddsAll (direction : Direction) (es : List Expression) (first mid last : List Row) (starts : List ℕ)
     (anchored unanchored : ℕ) : Type 0 where
   pub patterns : AddsPatterns direction es first starts
   pub joined : AddsJoined starts first mid anchored
   pub led : Adds (lead_in (all_at_edge direction es)) mid last anchored unanchored
 
-pub steps_of : {direction : Direction} {es : List Expression} {first mid last : List Row} {starts given : List ℕ}
+pub adds_all : {direction : Direction} {es : List Expression} {first mid last : List Row} {starts given : List ℕ}
     {anchored unanchored : ℕ} {at_edge : Bool} → AddsPatterns direction es first starts → given ≡ starts
     → AddsJoined given first mid anchored → at_edge ≡ all_at_edge direction es
     → Adds (lead_in at_edge) mid last anchored unanchored
-    → Steps direction es first mid last starts anchored unanchored
-steps_of {first = first} {mid = mid} {anchored = anchored} patterns same joined edge led = record {
+    → AddsAll direction es first mid last starts anchored unanchored
+adds_all {first = first} {mid = mid} {anchored = anchored} patterns same joined edge led = record {
   patterns = patterns;
   joined = subst (λ (xs : List ℕ). AddsJoined xs first mid anchored) same joined;
   led = adds_same (ap lead_in edge) led;
@@ -86,7 +86,7 @@ steps_of {first = first} {mid = mid} {anchored = anchored} patterns same joined 
 
 pub nfa_made : {direction : Direction} {es : List Expression} {first mid last : List Row} {starts : List ℕ}
     {anchored unanchored : ℕ} {has_empty : Bool} (terminator : ℕ) (utf8 : Bool)
-    → Steps direction es first mid last starts anchored unanchored → has_empty ≡ list_any (λ e. min_len e == 0) es
+    → AddsAll direction es first mid last starts anchored unanchored → has_empty ≡ list_any (λ e. min_len e == 0) es
     → record {
       rows = map row_of last;
       start_anchored = anchored;

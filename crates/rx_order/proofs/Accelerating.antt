@@ -67,9 +67,6 @@ plain_no_match label e = ap is_match_label e
 plain_apart : Label.Plain ≡ Label.Quits → ⊥
 plain_apart e = cc
 
-quits_no_match : is_match_label Label.Quits ≡ false
-quits_no_match = refl
-
 -- ---- filters
 
 needle_parts : (xs : List ℕ) → are_needles xs ≡ true → (1 ≤ length xs) × (length xs ≤ 3)
@@ -182,9 +179,6 @@ module _ {old : Layout} {kinds rows ends : List ℕ} {next new m : Layout}
   }
 
   -- ---- what each row tells
-
-  size_old : 2 ≤ row_count old
-  size_old = two_rows arranged.reordered arranged.before
 
   match_high : (row : ℕ) → row < row_count old → is_match (table_of old) row ≡ true → 1 < row
   match_high row h e =

@@ -132,12 +132,6 @@ high_below false true false = omega arith
 high_below false false true = omega arith
 high_below false false false = omega arith
 
-pub kind_dead : (m a s : Bool) → kind_by 0 m a s ≡ 0
-kind_dead m a s = refl
-
-pub kind_quit : (m a s : Bool) → kind_by 1 m a s ≡ 1
-kind_quit m a s = refl
-
 pub kind_small : (row : ℕ) (m a s : Bool) → kind_by row m a s < 8
 kind_small row m a s =
     ⊎_elim

@@ -44,3 +44,5 @@ pub mod KeptLists
 pub mod Unskipped
 -- accelerated tables
 pub mod Accelerating
+-- the units of each column
+pub mod UsedColumns

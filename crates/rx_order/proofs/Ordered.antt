@@ -92,15 +92,6 @@ module _ {x : Sorting} {l new m : Layout} (a : IsArranged x l new m) where
       ≡ kind_by (row_at place) (x.matches (row_at place)) (x.accelerated (row_at place)) (is_start_row l (row_at place))
   kind_is place h = a.kinds.kinds_are (row_at place) (row_of_place a.reordered a.before place h)
 
-  pub kind_below : (place : ℕ) → place < row_count l → kind_at place < 8
-  kind_below place h =
-      omega (
-        arith,
-        kind_is place h,
-        kind_small (row_at place) (x.matches (row_at place)) (x.accelerated (row_at place))
-            (is_start_row l (row_at place)),
-      )
-
   -- the first kinds are those of dead and quit
   quit_kind : (place : ℕ) → place < row_count l → kind_at place ≤ 1 → row_at place ≤ 1
   quit_kind place h low =

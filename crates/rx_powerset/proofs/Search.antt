@@ -5,6 +5,7 @@ use Rattle.std.proofs.Common.{refl, ap, sym, ◌∙◌, subst, arith, append_ass
 use Rattle.std.proofs.lemmas.Bool.{or_left, or_right, or_cases, eqb-true, eq-eqb, false_from_ne_true}
 use Rattle.std.proofs.lemmas.List.Folds.{list_any-append}
 use Rattle.std.proofs.lemmas.List.Sums.{sum_by-append, sum_by-cons}
+use Rattle.std.specs.Cmp.{both_ways}
 use Rattle.std.specs.List.{flat_map, list_any, AllByRecursion as Every}
 use Rattle.rx_spec.specs.States.{fresh}
 use Rattle.lemmas_walks.proofs.Every.{every-append, every-weaker, flat_map-append_of}
@@ -64,15 +65,10 @@ fresh_skips seen [] ys h = refl
 fresh_skips seen (x ∷ xs) ys h =
     fresh_old seen (xs ++ ys) x (h x (in_here x xs)) ∙ fresh_skips seen xs ys (λ y c. h y (in_there x y xs c))
 
-same_test : (a b : Bool) → (a ≡ true → b ≡ true) → (b ≡ true → a ≡ true) → a ≡ b
-same_test true b f g = sym (f refl)
-same_test false true f g = g refl
-same_test false false f g = refl
-
 -- one more is seen, whether it is noted in front or behind
 noted_behind : (x : ℕ) (xs : List ℕ) (y : ℕ)
     → list_any (λ z. y == z) (x ∷ xs) ≡ list_any (λ z. y == z) (xs ++ x ∷ [])
-noted_behind x xs y = same_test (test (x ∷ xs)) (test (xs ++ x ∷ [])) to from
+noted_behind x xs y = both_ways (test (x ∷ xs)) (test (xs ++ x ∷ [])) to from
   where
     test : List ℕ → Bool
     test zs = list_any (λ z. y == z) zs

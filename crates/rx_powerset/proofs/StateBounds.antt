@@ -48,7 +48,7 @@ few_more {q} {own = own} n out lt is e h =
 
 -- ---- patterns
 
-first_few : (rows : List Row) (xs : List ℕ) → length (to_first_match rows xs) ≤ length xs
+pub first_few : (rows : List Row) (xs : List ℕ) → length (to_first_match rows xs) ≤ length xs
 unfolding to_first_match
 first_few rows [] = omega arith
 first_few rows (x ∷ xs) =
@@ -60,7 +60,7 @@ cut_few : (kind : MatchKind) (rows : List Row) (xs : List ℕ) → length (cut k
 cut_few MatchKind.All rows xs = omega arith
 cut_few MatchKind.LeftmostFirst rows xs = first_few rows xs
 
-pattern_few : (row : Row) → length (pattern_of row) ≤ 1
+pub pattern_few : (row : Row) → length (pattern_of row) ≤ 1
 pattern_few (Row.Bytes set next) = omega arith
 pattern_few (Row.Split first second) = omega arith
 pattern_few (Row.Look look next) = omega arith

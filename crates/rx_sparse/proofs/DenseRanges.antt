@@ -30,10 +30,6 @@ use Rattle.rx_sparse.proofs.RowTexts.{length-map}
 differs : (a b : ℕ) → a ≢ b → (a == b) ≡ false
 differs a b h = ne_eqb a b h
 
-negated : (b : Bool) → not b ≡ true → b ≡ false
-negated true h = absurd (cc)
-negated false h = refl
-
 module _ (next_ids : List ℕ) where
   abbrev id_at : ℕ → ℕ
   id_at class = slice_index next_ids class

@@ -202,9 +202,6 @@ module _ (l : dense.Layout) (rows : dense.AreRows l) where
       (cases_lt x y))
       (cases_eq x y)
 
-  zero_times : 0 * stride l ≡ 0
-  zero_times = omega arith
-
   -- ---- special rows
 
   module _ (row : ℕ) (h : row < size) where

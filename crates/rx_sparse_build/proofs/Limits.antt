@@ -57,16 +57,6 @@ table_refused s b kind = refused_as (TableRefused (limits_of s) b) (TableRefused
     each (Cause.NFA cause) r = r
     each (Cause.DFA cause) r = build_refused s b cause r
 
--- of expressions
-module _ (s : Settled) (a : thompson.Asked) (es : List Expression) where
-  dense_cause : (cause : Cause) → dense.Refused s a es cause → Refused s a es cause
-  dense_cause (Cause.NFA cause) r = r
-  dense_cause (Cause.DFA cause) r = (r.0, build_refused s _ cause r.1)
-
-  pub dense_refused : (kind : BuildErrorKind) → IsRefused (dense.Refused s a es) kind
-      → IsRefused (Refused s a es) kind
-  dense_refused kind = refused_as (dense.Refused s a es) (Refused s a es) dense_cause kind
-
 -- ---- the length of the rows
 
 -- two lists of limits that differ in the size by a choice

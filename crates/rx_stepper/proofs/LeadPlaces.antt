@@ -7,13 +7,14 @@ use Rattle.std.proofs.lemmas.List.{take_more}
 use Rattle.std.proofs.Common.{ltb, set}
 use Rattle.std.proofs.lemmas.Bool.{cases_lt, eqb-false, eqb-true, lt-ltb, ltb-true}
 use Rattle.std.proofs.lemmas.List.{get_or-set_same, get_or-set_other}
+use Rattle.std.specs.Cmp.{both_ways}
 use Rattle.std.specs.List.{AllByRecursion as Every}
 use Rattle.std.specs.Prelude.{Some, replicate, slice_get, slice_index_or}
 use Rattle.lemmas_walks.proofs.Firsts.{Apart, by_test, seen_true}
 use Rattle.rx_stepper.specs.Leads.{without, led, IsLeast}
 use Rattle.rx_stepper.specs.Places.{no_place, ArePlaces, AreMetTo}
 use Rattle.rx_stepper.proofs.Members.{In, was, in_cases, in_nil, in_here, in_there, in_left, in_right, in_split, not_in}
-use Rattle.rx_stepper.proofs.Members.{apart_front, apart_last, same_test}
+use Rattle.rx_stepper.proofs.Members.{apart_front, apart_last}
 use Rattle.rx_stepper.proofs.WrittenRows.{comes_again, comes_from, dropped}
 
 -- ---- a list about a place
@@ -50,8 +51,8 @@ in_front (x ∷ xs) (suc n) q i =
 some_same : {x y : ℕ} → Some x ≡ Some y → x ≡ y
 some_same e = cc
 
-both_ways : {b : Bool} → b ≡ false → b ≡ true → ⊥
-both_ways e f = cc
+not_both : {b : Bool} → b ≡ false → b ≡ true → ⊥
+not_both e f = cc
 
 left_at : (xs ys : List ℕ) (i : ℕ) → i < length xs → slice_get (xs ++ ys) i ≡ Some (get_or xs i 0)
 left_at [] ys i h = absurd (omega arith)
@@ -220,12 +221,12 @@ module _ {lead own places : List ℕ} (places_are : ArePlaces lead places) (lead
         let there_is : was (take len own) q ≡ true =
         subst (λ m. In m q) (sym e) (in_left other (y ∷ []) q (from.3 q (below from.0 (y ∷ from.1) met lt
         (left_at from.0 (y ∷ from.1) met lt)))) in
-        absurd (both_ways (t.front_met.next q at) there_is))
+        absurd (not_both (t.front_met.next q at) there_is))
         (λ (ge : length from.0 ≤ met).
         let met_is : met ≡ length from.0 = omega (arith, x_place, stops, ge) in
         let there_is : was (take len own) y ≡ true =
         subst (λ m. In m y) (sym e) (in_right other (y ∷ []) y (in_here y [])) in
-        absurd (both_ways (t.front_met.next y (ap (slice_get lead) met_is ∙ y_at)) there_is))
+        absurd (not_both (t.front_met.next y (ap (slice_get lead) met_is ∙ y_at)) there_is))
         (cases_lt met (length from.0));
   }
 
@@ -253,7 +254,7 @@ at_in (x ∷ xs) (suc place) {q} e = in_there x q xs (at_in xs place e)
 pub has_place : {rows places : List ℕ} → ArePlaces rows places → (q : ℕ)
     → ltb (slice_index_or places q no_place) (length rows) ≡ was rows q
 has_place {rows} {places} p q =
-    same_test (ltb (slice_index_or places q no_place) (length rows)) (was rows q)
+    both_ways (ltb (slice_index_or places q no_place) (length rows)) (was rows q)
     (λ t. at_in rows (slice_index_or places q no_place)
     (p.is_there q (ltb-true (slice_index_or places q no_place) (length rows) t)))
     (λ i. let t = in_at rows q i in

@@ -10,12 +10,13 @@ use Rattle.std.proofs.lemmas.Slice.Eq.{bytes_eq-Decides}
 use Rattle.std.proofs.lemmas.List.Sums.{sum_by-append, sum_by-cons}
 use Rattle.std.proofs.Common.{subst, ⊎_elim}
 use Rattle.std.proofs.lemmas.List.{get_or_default}
+use Rattle.std.specs.Cmp.{both_ways}
 use Rattle.std.specs.Prelude.{None, Some, slice_get}
 use Rattle.std.specs.List.{AllByRecursion as Every}
 use Rattle.std.specs.Str.{bytes_eq}
 use Rattle.rx_base.specs.FactBits.{bit}
 use Rattle.rx_stepper.specs.Leads.{Written, led, split_by, without, written, written_as}
-use Rattle.rx_stepper.proofs.Members.{In, in_cases, in_nil, was, same_test}
+use Rattle.rx_stepper.proofs.Members.{In, in_cases, in_nil, was}
 use Rattle.rx_stepper.proofs.LeadPlaces.{at_or}
 use Rattle.rx_stepper.proofs.Without.{length_without, without_nil, without_old, without_new}
 use Rattle.rx_stepper.proofs.WrittenRows.{split_here, split_later, split_nowhere}
@@ -132,7 +133,7 @@ module _ (own lead : List ℕ) (i : ℕ) {q : ℕ} (rows : List ℕ) (place : �
     pub follows_next : x ≡ q → bytes_eq (without own (drop i lead)) (drop place rows)
         ≡ bytes_eq (without own (drop (i + 1) lead)) (drop (place + 1) rows)
     follows_next same =
-        same_test _ _
+        both_ways _ _
         (λ t. (bytes_eq-Decides _ _).1
         (tail_same (sym first_left ∙ (bytes_eq-Decides (without own (drop i lead)) (drop place rows)).0 t ∙ rest)))
         (λ t. (bytes_eq-Decides _ _).1
@@ -149,7 +150,7 @@ pub follows_ends : (own lead rows : List ℕ) {i : ℕ} (place : ℕ) → length
 follows_ends own lead rows {i} place past within =
     ap (λ l. bytes_eq (without own l) (drop place rows)) (drop_of_length-le lead past)
     ∙ ap (λ l. bytes_eq l (drop place rows)) (without_nil own)
-    ∙ same_test _ _
+    ∙ both_ways _ _
     (λ t. let none = (bytes_eq-Decides [] (drop place rows)).0 t in
     eq-eqb place (length rows) (omega (arith, ap length none, length-drop place rows)))
     (λ t. let all = eqb-true place (length rows) t in

@@ -65,7 +65,8 @@ listed_still sets grown are = λ k d h.
       holds = grown.same _ _ is.within ∙ is.holds;
     }
 
-in_none : (unit : ℕ) → contains 0 unit ≡ false
+-- nothing is in the set of no bytes
+pub in_none : (unit : ℕ) → contains 0 unit ≡ false
 in_none unit = rw (bit_at-zero unit) (none (nat_lt unit 256))
   where
     none : (b : Bool) → (b && (0 == 1)) ≡ false

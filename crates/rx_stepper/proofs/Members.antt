@@ -29,11 +29,6 @@ pub not_in : (xs : List ℕ) (x : ℕ) → (In xs x → ⊥) → was xs x ≡ fa
 not_in xs x h = false_from_ne_true (was xs x) h
 
 -- tests that hold together
-pub same_test : (a b : Bool) → (a ≡ true → b ≡ true) → (b ≡ true → a ≡ true) → a ≡ b
-same_test true b f g = sym (f refl)
-same_test false true f g = g refl
-same_test false false f g = refl
-
 -- the last of a list whose members stand apart doesn't stand before
 pub apart_last : (front : List ℕ) (x : ℕ) → Apart (front ++ x ∷ []) → In front x → ⊥
 apart_last [] x a i = in_nil x i

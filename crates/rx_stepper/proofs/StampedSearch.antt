@@ -7,6 +7,7 @@ use Rattle.std.proofs.lemmas.Bool.{cases_lt, or_left, or_right, or_cases, eqb-tr
 use Rattle.std.proofs.lemmas.List.{nil_from_length, drop_more}
 use Rattle.std.proofs.lemmas.List.Sums.{sum_by-cons}
 use Rattle.std.proofs.lemmas.Option.{slice_get_past}
+use Rattle.std.specs.Cmp.{both_ways}
 use Rattle.std.specs.Prelude.{unwrap_or, option_to_list, Option, Some, None, IfNone, MatchOption}
 use Rattle.std.specs.List.{flat_map, list_any, AllByRecursion as Every}
 use Rattle.rx_spec.specs.Causes.{id_count}
@@ -25,7 +26,7 @@ use Rattle.rx_stepper.specs.Searches.{IsSearched, ReachesItself, in_turn}
 use Rattle.rx_stepper.specs.Stamps.{is_met, unmet}
 use Rattle.rx_stepper.specs.ThinRows.{IsThin, is_end, row_of_thin}
 use Rattle.rx_stepper.specs.declared.thin_row.ThinRow.{ThinRow}
-use Rattle.rx_stepper.proofs.Members.{in_here, in_left, in_right, in_split, not_in, same_test, was}
+use Rattle.rx_stepper.proofs.Members.{in_here, in_left, in_right, in_split, not_in, was}
 
 not_false : (b : Bool) {first : Bool} → first ≡ not b → first ≡ false → b ≡ true
 not_false true e f = refl
@@ -335,7 +336,7 @@ fresh_parts out xs ys =
         (in_split out (fresh out xs) x h)
 
     same : (x : ℕ) → was (xs ++ out) x ≡ was (out ++ fresh out xs) x
-    same x = same_test (was (xs ++ out) x) (was (out ++ fresh out xs) x) (to x) (from x)
+    same x = both_ways (was (xs ++ out) x) (was (out ++ fresh out xs) x) (to x) (from x)
 
 -- what is listed and what is still new in the rows that are left makes the target
 abbrev pub Leaves : (rows : List Row) (pass : Passing) (found left target : List ℕ) → Type 0
@@ -374,6 +375,6 @@ pub all_met : {rows : List Row} {pass : Passing} {stamps found : List ℕ} {now 
     → IsSearched rows pass stamps now found → (q : ℕ) → closure rows pass q ≡ q ∷ []
     → is_met stamps now q ≡ list_any (λ x. q == x) found
 all_met {stamps = stamps} {found = found} {now = now} s q one =
-    same_test (is_met stamps now q) (was found q)
+    both_ways (is_met stamps now q) (was found q)
     (λ t. s.listed q t q (subst (λ l. In l q) (sym one) (in_here q [])))
     (s.met q)

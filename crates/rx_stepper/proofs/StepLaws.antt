@@ -14,6 +14,7 @@ use Rattle.rx_spec.specs.declared.MatchKind.{MatchKind}
 use Rattle.rx_base.specs.FactBits.{facts_with}
 use Rattle.lemmas_walks.proofs.Every.{flat_map-append_of, flat_map-flat_map}
 use Rattle.rx_powerset.specs.Closures.{closed_rows}
+use Rattle.rx_powerset.proofs.StateBounds.{first_few}
 use Rattle.rx_stepper.specs.Columns.{list_at, only_if, asked_of, AreGroups, AreUsed}
 use Rattle.rx_stepper.specs.Leads.{led, without}
 use Rattle.rx_stepper.specs.Steps.{Stand, going, going_by, goes_on, matches_of, patterns_of, rows_in, made, IsStep}
@@ -177,14 +178,6 @@ plain_steps s units groups used targets matches {going'} e plain len are few ms 
       matches_are = here ∙ ap (matches_of s.nfa.rows) goes;
       few = omega (arith, ap length here, few);
     }
-
-first_few : (rows : List Row) (qs : List ℕ) → length (to_first_match rows qs) ≤ length qs
-unfolding to_first_match
-first_few rows [] = omega arith
-first_few rows (q ∷ qs) =
-    let h = first_few rows qs in
-    let Few = λ (v : Bool). length (if v then q ∷ [] else (q ∷ to_first_match rows qs)) ≤ length (q ∷ qs) in
-    elim (is_match_row (row_at rows q)) as Few [ true ↦ omega arith | false ↦ omega arith ]
 
 -- no more rows match than there are
 pub few_told : (kind : MatchKind) (rows : List Row) (qs : List ℕ)

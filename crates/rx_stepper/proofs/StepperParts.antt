@@ -12,6 +12,7 @@ use Rattle.rx_spec.specs.States.{Tested, cut, holds_before, pattern_of, row_at}
 use Rattle.lemmas_walks.proofs.Firsts.{by_test}
 use Rattle.rx_base.specs.FactBits.{bits_of, facts_with}
 use Rattle.rx_powerset.specs.Closures.{closed_rows}
+use Rattle.rx_powerset.proofs.StateBounds.{pattern_few}
 use Rattle.rx_stepper.specs.Fits.{AreStepsOf, FitsCurrent, FitsLead, Table}
 use Rattle.rx_stepper.specs.Gathering.{Follows, IsLeadOf, matches_in, targets_in}
 use Rattle.rx_stepper.specs.Keys.{led_of, own_of, spelled}
@@ -210,17 +211,9 @@ few_patterns rows (q ∷ qs) =
     omega (
       arith,
       length-append (pattern_of (row_at rows q)) (patterns_of rows qs),
-      one
-          (row_at rows q),
+      pattern_few (row_at rows q),
       few_patterns rows qs,
     )
-  where
-    one : (r : Row) → length (pattern_of r) ≤ 1
-    one (Row.Bytes set next) = omega arith
-    one (Row.Split first second) = omega arith
-    one (Row.Look look next) = omega arith
-    one (Row.Match pattern) = omega arith
-    one Row.Fail = omega arith
 
 few_without : (seen xs : List ℕ) → length (without seen xs) ≤ length xs
 few_without seen [] = omega (arith, ap length (without_nil seen))

@@ -3,6 +3,7 @@ use Rattle.std.proofs.Common.{◌≡◌, ℕ, ◌+◌, ◌==◌, Bool, true, fal
 use Rattle.std.proofs.Common.{subst, arith, append-nil, ⊎_elim, ◌||◌, sum_by}
 use Rattle.std.proofs.lemmas.Bool.{or_left, eqb-true, eqb-false, eq-eqb}
 use Rattle.std.proofs.lemmas.List.Sums.{sum_by-cons}
+use Rattle.std.specs.Cmp.{both_ways}
 use Rattle.std.specs.Prelude.{Contains}
 use Rattle.std.specs.List.{flat_map}
 use Rattle.rx_spec.specs.States.{fresh, firsts}
@@ -13,7 +14,6 @@ use Rattle.lemmas_walks.proofs.Firsts.{Contains-nil, Contains-there, seen_true, 
 use Rattle.rx_base.specs.FactBits.{bit}
 use Rattle.rx_stepper.specs.Leads.{without, led}
 use Rattle.rx_stepper.proofs.Members.{In, in_cases, in_nil, was, in_here, in_there, in_left, in_right, in_split, not_in}
-use Rattle.rx_stepper.proofs.Members.{same_test}
 
 -- ---- its equations
 
@@ -125,7 +125,7 @@ without_keeps seen (y ∷ ys) x i new =
 
 seen_again : (y : ℕ) (seen : List ℕ) → In seen y → (x : ℕ) → was seen x ≡ was (y ∷ seen) x
 seen_again y seen e x =
-    same_test (was seen x) (was (y ∷ seen) x) (λ h. in_there y x seen h)
+    both_ways (was seen x) (was (y ∷ seen) x) (λ h. in_there y x seen h)
     (λ h. ⊎_elim (λ (s : x ≡ y). subst (In seen) (sym s) e) (λ (o : In seen x). o) (in_cases y x seen h))
 
 -- where more was seen
@@ -146,7 +146,7 @@ fresh_without a seen (y ∷ ys) =
 
 firsts_members : (xs : List ℕ) (x : ℕ) → was xs x ≡ was (firsts xs) x
 firsts_members xs x =
-    same_test (was xs x) (was (firsts xs) x)
+    both_ways (was xs x) (was (firsts xs) x)
     (λ h. seen_if x (firsts xs) (fresh_keeps [] xs x (seen_true x xs h) (Contains-nil x)))
     (λ h. seen_if x xs (fresh_within [] xs x (seen_true x (firsts xs) h)))
 
@@ -272,7 +272,7 @@ length_without (x ∷ own) lead a b =
   where
     one : (y : ℕ) → (y ≡ x → ⊥) → was (without (x ∷ []) lead) y ≡ was lead y
     one y other =
-        same_test (was (without (x ∷ []) lead) y) (was lead y) (without_within (x ∷ []) lead y)
+        both_ways (was (without (x ∷ []) lead) y) (was lead y) (without_within (x ∷ []) lead y)
         (λ i. without_keeps (x ∷ []) lead y i (not_in (x ∷ []) y (λ j.
         ⊎_elim (λ (s : y ≡ x). other s) (λ (o : In [] y). in_nil y o) (in_cases x y [] j))))
 

@@ -1,7 +1,7 @@
 use Rattle.std.proofs.Common.{refl, ap, sym, ◌∙◌}
 use Rattle.rx_spec.specs.Bytes.{contains}
 use Rattle.rx_base.specs.Unit.{unit_number}
-use Rattle.rx_determinize.proofs.ColumnLaws.{in_none}
+use Rattle.rx_stepper.proofs.ListedColumns.{in_none}
 use Rattle.rx_determinize.proofs.construction.is_quit.Goals as goal
 
 pub returns-then-is_empty : goal.returns-then-is_empty

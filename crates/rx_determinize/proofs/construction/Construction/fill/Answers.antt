@@ -4,7 +4,8 @@ use Rattle.rx_spec.specs.Bytes.{contains}
 use Rattle.rx_base.specs.ByteClasses.{alphabet_len}
 use Rattle.rx_stepper.specs.Stepping.{unit_of}
 use Rattle.rx_determinize.specs.Constructions.{work_of}
-use Rattle.rx_determinize.proofs.ColumnLaws.{in_none, units_count}
+use Rattle.rx_stepper.proofs.ListedColumns.{in_none}
+use Rattle.rx_determinize.proofs.ColumnLaws.{units_count}
 use Rattle.rx_determinize.proofs.ContinuesLaws.{continues_none, continues_twice, refused_later, same_classes, same_quit}
 use Rattle.rx_determinize.proofs.FillingLaws.{filled}
 use Rattle.rx_determinize.proofs.SteppingLaws.{passed_to}

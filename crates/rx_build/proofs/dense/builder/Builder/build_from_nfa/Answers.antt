@@ -3,7 +3,7 @@ use Rattle.rx_dense.specs.Builder.{HasUniversalStarts}
 use Rattle.rx_dense.specs.Layouts.{Layout, table_of}
 use Rattle.rx_expr.specs.Nfa.{meaning}
 use Rattle.rx_build.specs.Built.{IsBuilt, begun, build_of}
-use Rattle.rx_build.specs.Making.{IsMade, Steps}
+use Rattle.rx_build.specs.Making.{IsMade, Stage}
 use Rattle.rx_build.specs.Settings.{asked, settled}
 use Rattle.rx_build.proofs.Stages.{built_with_starts}
 use Rattle.rx_build.proofs.dense.builder.Builder.build_from_nfa.Goals as goal
@@ -27,7 +27,7 @@ returns-clause-ok c =
     let marked = c.mark_starts.ensures.made _ _ _ joined in
     let made = c.in_ok-find_needles.ensures _ _ _ _ marked in
     let by_settings =
-    subst (λ (steps : Steps). IsMade (build_of s nfa) steps (begun s nfa) c.find_needles.new.dfa)
+    subst (λ (stage : Stage). IsMade (build_of s nfa) stage (begun s nfa) c.find_needles.new.dfa)
     (λ i. record {
       minimize = c.get_minimize.ensures i;
       mark_starts = c.get_specialize_start_states.ensures i;

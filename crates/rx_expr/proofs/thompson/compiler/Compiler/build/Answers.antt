@@ -8,7 +8,7 @@ use Rattle.rx_expr.specs.Compiles.{joined_count, lead_count}
 use Rattle.rx_expr.specs.NfaRows.{NamesPatterns, row_of, has_look, rows_part}
 use Rattle.rx_expr.proofs.PatternRows.{length-added_patterns, length-starts}
 use Rattle.rx_expr.proofs.JoinedStarts.{length-joined}
-use Rattle.rx_expr.proofs.BuiltNfas.{rows_fit, steps_of, nfa_made, nfa_same}
+use Rattle.rx_expr.proofs.BuiltNfas.{rows_fit, adds_all, nfa_made, nfa_same}
 use Rattle.rx_expr.proofs.NamedPatterns.{nfa_names_patterns}
 use Rattle.rx_expr.proofs.thompson.compiler.Compiler.build.Goals as goal
 
@@ -41,7 +41,7 @@ invariant_of-result c =
     let joined = c.in_ok-start_anchored.ensures in
     let led = c.in_ok-start_unanchored.ensures in
     let edge = c.all_begin_with_edge.ensures in
-    let steps = steps_of c.in_ok-add_patterns.ensures c.deref.ensures.value joined edge led in
+    let steps = adds_all c.in_ok-add_patterns.ensures c.deref.ensures.value joined edge led in
     let made = nfa_made c.new.result c.get_utf8.result steps c.any_empty.ensures in
     let shallow = nfa_shallow c.direction-direction.result c.new.result c.get_utf8.result c.args.exprs.now in
     let patterns = nfa_names_patterns c.direction-direction.result c.new.result c.get_utf8.result c.args.exprs.now in
@@ -66,7 +66,7 @@ returns c =
     let joined = c.in_ok-start_anchored.ensures in
     let led = c.in_ok-start_unanchored.ensures in
     let edge = c.all_begin_with_edge.ensures in
-    let steps = steps_of c.in_ok-add_patterns.ensures c.deref.ensures.value joined edge led in
+    let steps = adds_all c.in_ok-add_patterns.ensures c.deref.ensures.value joined edge led in
     let terminator = c.new.ensures ∙ c.get_line_terminator-line_terminator.ensures in
     nfa_made c.new.result c.get_utf8.result steps c.any_empty.ensures
     ∙ nfa_same c.args.exprs.now c.direction-direction.ensures terminator c.get_utf8.ensures
