@@ -14,10 +14,10 @@ use Rattle.rx_spec.specs.Overlapping.{whole_overlapping_walk, with_items}
 use Rattle.rx_spec.specs.Tables.{Table, is_match}
 use Rattle.rx_spec.specs.declared.Direction.{Direction}
 use Rattle.lemmas_walks.proofs.Firsts.{by_test}
-use Rattle.lemmas_walks.proofs.Overlapping.{overlapping_walks, overlapping_refused}
+use Rattle.lemmas_walks.proofs.Overlapping.{overlapping_walks}
 use Rattle.rx_search.specs.Labels.{is_quit, patterns_of}
 use Rattle.rx_search.specs.Needles.{byte_ahead, is_read}
-use Rattle.rx_search.specs.Starts.{IsId, IsStart, IsRefused}
+use Rattle.rx_search.specs.Starts.{IsId, IsStart}
 use Rattle.rx_search.specs.Walks.{IsInSpan, units_left, units_after, next_stop, Stop}
 use Rattle.rx_search.proofs.Standing.{Standing}
 use Rattle.rx_search.proofs.Walks.{Place, Turn, Step, LastStep, IsQuiet, step_quiet, step_match, step_quits, step_ends}
@@ -26,7 +26,7 @@ use Rattle.rx_stream.specs.Pieces.{IsSkip}
 use Rattle.rx_search.proofs.Halves.{Open, some_pattern}
 use Rattle.rx_search.proofs.Overlaps.{told_by_stop, overlapping_stops, walk_met, walk_ended, goes_on_at, over_at}
 use Rattle.rx_all.specs.Matches.{query_at, told_at}
-use Rattle.rx_scan.specs.Tokens.{longest, longest_of, unless_ended}
+use Rattle.rx_scan.specs.Tokens.{longest, unless_ended}
 use Rattle.rx_scan.specs.Walks.{IsMet, IsLast, LastMet, Walked, kept_met, longest_met, told_later}
 use Rattle.rx_scan.specs.declared.longest.MetRow.{MetRow}
 use Rattle.rx_scan.proofs.LongestMatches.{longest_here, or_none, or_assoc, longest-nil, longest_append, longest_row}
@@ -35,57 +35,54 @@ use Rattle.rx_all.proofs.PastOffsets.{AllPast, walk_past}
 abbrev pub told : Option HalfMatch → HalfAnswer
 told m = Ok m
 
-module _ (t : Table) (ids text : List ℕ) (p : ℕ) where
-  -- what is told from a row and an offset on
-  abbrev told_from : ℕ → ℕ → OverlappingMatches
-  told_from row at = told_later t text p row at
+-- ---- at the walk's beginning a match row counts for nothing
 
-  abbrev WalkedTo : ℕ → ℕ → Option MetRow → Type 0
-  WalkedTo row at last = Walked t ids text p row at last
+nothing_met : (t : Table) (ids : List ℕ) (p : ℕ) (met : MetRow) → (met.offset == p) ≡ true
+    → longest_met t ids p (Some met) ≡ None
+nothing_met t ids p met here =
+    let ks = patterns_of t (row_of ids met.row) in
+    ap (λ (o : ℕ). longest p (pattern_items ks o)) (eqb-true met.offset p here) ∙ longest_here p ks
 
-  -- ---- at the walk's beginning a match row counts for nothing
+pub last_keeps : {t : Table} {ids : List ℕ} {p end : ℕ} {matches : OverlappingMatches} (met : MetRow)
+    → IsLast t ids p end matches (Some met) → IsLast t ids p end matches (kept_met p met)
+last_keeps {t} {ids} {p} {end} {matches} met last =
+    by_test (met.offset == p)
+    (λ here. subst (λ v. IsLast t ids p end matches (if v then None else Some met)) (sym here) (record {
+      best = last.best ∙ ap told (nothing_met t ids p met here);
+      met = tt;
+    }))
+    (λ past. subst (λ v. IsLast t ids p end matches (if v then None else Some met)) (sym past) last)
 
-  abbrev nothing_met : (met : MetRow) → (met.offset == p) ≡ true → longest_met t ids p (Some met) ≡ None
-  nothing_met met here =
-      let ks = patterns_of t (row_of ids met.row) in
-      ap (λ (o : ℕ). longest p (pattern_items ks o)) (eqb-true met.offset p here) ∙ longest_here p ks
+abbrev met_at : ℕ → ℕ → Option MetRow
+met_at id at = Some (record { row = id; offset = at })
 
-  pub walk_keeps : {row at : ℕ} (met : MetRow) → WalkedTo row at (Some met) → WalkedTo row at (kept_met p met)
+module _ {t : Table} {ids text : List ℕ} {p : ℕ} where
+  pub walk_keeps : {row at : ℕ} (met : MetRow) → Walked t ids text p row at (Some met) → Walked t ids text p row at (kept_met p met)
   walk_keeps {row} {at} met w =
       by_test (met.offset == p)
-      (λ here. subst (λ v. WalkedTo row at (if v then None else Some met)) (sym here) (record {
+      (λ here. subst (λ v. Walked t ids text p row at (if v then None else Some met)) (sym here) (record {
         low = w.low;
         high = w.high;
-        best = w.best ∙ ap (option_or (longest p (told_from row at).items)) (nothing_met met here);
+        best = w.best ∙ ap (option_or (longest p (told_later t text p row at).items)) (nothing_met t ids p met here);
         ending = w.ending;
         met = tt;
         none_yet = λ e. refl;
       }))
-      (λ past. subst (λ v. WalkedTo row at (if v then None else Some met)) (sym past) w)
+      (λ past. subst (λ v. Walked t ids text p row at (if v then None else Some met)) (sym past) w)
 
-  pub last_keeps : {matches : OverlappingMatches} (met : MetRow) → IsLast t ids p (length text) matches (Some met)
-      → IsLast t ids p (length text) matches (kept_met p met)
-  last_keeps {matches} met last =
-      by_test (met.offset == p)
-      (λ here. subst (λ v. IsLast t ids p (length text) matches (if v then None else Some met)) (sym here) (record {
-        best = last.best ∙ ap told (nothing_met met here);
-        met = tt;
-      }))
-      (λ past. subst (λ v. IsLast t ids p (length text) matches (if v then None else Some met)) (sym past) last)
-
-  pub walk_starts : (id : ℕ) → WalkedTo (row_of ids id) p None
-      → WalkedTo (row_of ids id) p (kept_met p (record { row = id; offset = p }))
+  pub walk_starts : (id : ℕ) → Walked t ids text p (row_of ids id) p None
+      → Walked t ids text p (row_of ids id) p (kept_met p (record { row = id; offset = p }))
   walk_starts id w =
-      subst (λ v. WalkedTo (row_of ids id) p (if v then None else Some (record { row = id; offset = p })))
+      subst (λ v. Walked t ids text p (row_of ids id) p (if v then None else Some (record { row = id; offset = p })))
       (sym (eq-eqb p p refl)) w
 
   -- where it begins
   pub walk_begins : (row : ℕ) → p < length text → IsStart t Direction.Forward (query_at text p) row
-      → WalkedTo row p None
+      → Walked t ids text p row p None
   walk_begins row more start =
       let q = query_at text p in
       let goes : is_done q ≡ false = le-ltb (length text) p (omega arith) in
-      let whole : told_at t text p ≡ told_from row p
+      let whole : told_at t text p ≡ told_later t text p row p
       = overlapping_walks t.machine t.settings Direction.Forward q goes start.allowed
       ∙ ap (whole_overlapping_walk t.machine Direction.Forward q) (sym start.row_is) in
       record {
@@ -97,16 +94,7 @@ module _ (t : Table) (ids text : List ℕ) (p : ℕ) where
         none_yet = λ e. refl;
       }
 
-  pub walk_refused : (error : MatchError) → p < length text → IsRefused t Direction.Forward (query_at text p) error
-      → LastMet t ids p (length text) (told_at t text p) (Err error)
-  walk_refused error more refused =
-      let q = query_at text p in
-      let goes : is_done q ≡ false = le-ltb (length text) p (omega arith) in
-      ap (longest_of p) (overlapping_refused t.machine t.settings Direction.Forward q refused.refusal goes
-      refused.refused)
-      ∙ ap (λ (e : MatchError). Err e) (sym refused.error_is)
-
-  module _ {row at : ℕ} {last : Option MetRow} (w : WalkedTo row at last) where
+  module _ {row at : ℕ} {last : Option MetRow} (w : Walked t ids text p row at last) where
     in_span : IsInSpan (query_at text p) at
     in_span = record { low = w.low; high = w.high }
 
@@ -114,22 +102,22 @@ module _ (t : Table) (ids text : List ℕ) (p : ℕ) where
     place = record { fits = omega arith; in_span = in_span }
 
     -- what is known once it is known what is told from there on
-    best_by : {m : OverlappingMatches} → told_from row at ≡ m
+    best_by : {m : OverlappingMatches} → told_later t text p row at ≡ m
         → longest p (told_at t text p).items ≡ option_or (longest p m.items) (longest_met t ids p last)
     best_by e = w.best ∙ ap (λ (m : OverlappingMatches). option_or (longest p m.items) (longest_met t ids p last)) e
 
-    ending_by : {m : OverlappingMatches} → told_from row at ≡ m → (told_at t text p).ending ≡ m.ending
+    ending_by : {m : OverlappingMatches} → told_later t text p row at ≡ m → (told_at t text p).ending ≡ m.ending
     ending_by e = w.ending ∙ ap (λ (m : OverlappingMatches). m.ending) e
 
     -- nothing more is told
-    pub walk_over : told_from row at ≡ none_left Ending.Ended → IsLast t ids p (length text) (told_at t text p) last
+    pub walk_over : told_later t text p row at ≡ none_left Ending.Ended → IsLast t ids p (length text) (told_at t text p) last
     walk_over e = record {
       best = ap₂ unless_ended (ending_by e)
           (best_by e ∙ ap (λ (o : Option HalfMatch). option_or o (longest_met t ids p last)) (longest-nil p));
       met = w.met;
     }
 
-    pub walk_quits : (byte offset : ℕ) → told_from row at ≡ none_left (Ending.Quits byte offset)
+    pub walk_quits : (byte offset : ℕ) → told_later t text p row at ≡ none_left (Ending.Quits byte offset)
         → LastMet t ids p (length text) (told_at t text p) (Err (MatchError.Quit byte offset))
     walk_quits byte offset e = ap (λ (x : Ending). unless_ended x (longest p (told_at t text p).items)) (ending_by e)
 
@@ -163,7 +151,7 @@ module _ (t : Table) (ids text : List ℕ) (p : ℕ) where
         met_here : IsMet t ids p (length text) (record { row = id; offset = at })
         met_here = record { is_id = is_id; is_match = is; from = w.low; upto = w.high }
 
-        best_behind : (later : OverlappingMatches) → told_from row at ≡ with_items (pattern_items ks at) later
+        best_behind : (later : OverlappingMatches) → told_later t text p row at ≡ with_items (pattern_items ks at) later
             → AllPast at later.items
             → longest p (told_at t text p).items ≡ option_or (longest p later.items) (longest_met t ids p here)
         best_behind later e past =
@@ -177,14 +165,14 @@ module _ (t : Table) (ids text : List ℕ) (p : ℕ) where
         open_query = let low = w.low in let high = w.high in record { order = omega arith; fits = omega arith }
 
         pub met_on : Step t Direction.Forward (query_at text p) row at (row_of ids id)
-            → WalkedTo (row_of ids id) (at + 1) (Some (record { row = id; offset = at }))
+            → Walked t ids text p (row_of ids id) (at + 1) (Some (record { row = id; offset = at }))
         met_on step =
             let q = query_at text p in
             let low = w.low in
             let more = step.more in
             let high = w.high in
-            let later = told_from (row_of ids id) (at + 1) in
-            let told : told_from row at ≡ with_items (pattern_items ks at) later
+            let later = told_later t text p (row_of ids id) (at + 1) in
+            let told : told_later t text p row at ≡ with_items (pattern_items ks at) later
             = walk_met t Direction.Forward q row at s is (step_match step is)
             ∙ ap (with_items (pattern_items ks at)) (goes_on_at s is Direction.Forward q at open_query in_span more) in
             record {
@@ -204,7 +192,7 @@ module _ (t : Table) (ids text : List ℕ) (p : ℕ) where
             let none = none_left Ending.Ended in
             let stop = subst (λ (o : ℕ). next_stop t.machine Direction.Forward row o (units_left Direction.Forward q o)
             ≡ Stop.Match (row_of ids id) o (units_after Direction.Forward q o)) (sym over) (last_match step is) in
-            let told : told_from row at ≡ with_items (pattern_items ks at) none
+            let told : told_later t text p row at ≡ with_items (pattern_items ks at) none
             = walk_met t Direction.Forward q row at s is stop
             ∙ ap (with_items (pattern_items ks at)) (over_at s is Direction.Forward q at open_query in_span over) in
             record {
@@ -216,13 +204,13 @@ module _ (t : Table) (ids text : List ℕ) (p : ℕ) where
 
     -- a quiet row
     pub quiet_on : {next : ℕ} → Step t Direction.Forward (query_at text p) row at next → IsQuiet t next
-        → WalkedTo next (at + 1) last
+        → Walked t ids text p next (at + 1) last
     quiet_on {next} step is =
         let q = query_at text p in
         let low = w.low in
         let high = w.high in
         let more = step.more in
-        let told : told_from row at ≡ told_from next (at + 1)
+        let told : told_later t text p row at ≡ told_later t text p next (at + 1)
         = overlapping_stops t.machine Direction.Forward row at (units_left Direction.Forward q at)
         ∙ ap (told_by_stop t.machine Direction.Forward) (step_quiet step is)
         ∙ sym (overlapping_stops t.machine Direction.Forward next (at + 1) (units_left Direction.Forward q (at + 1))) in
@@ -261,7 +249,7 @@ module _ (t : Table) (ids text : List ℕ) (p : ℕ) where
 
   module _ (id : ℕ) (s : Standing t (row_of ids id)) (bytes : AreBytes text) where
     -- a byte that isn't read leads the row to itself
-    stays : {at : ℕ} {last : Option MetRow} → WalkedTo (row_of ids id) at last → at < length text
+    stays : {at : ℕ} {last : Option MetRow} → Walked t ids text p (row_of ids id) at last → at < length text
         → is_read t (row_of ids id) (slice_index text at) ≡ false
         → Step t Direction.Forward (query_at text p) (row_of ids id) at (row_of ids id)
     stays {at} w more unread = record {
@@ -271,60 +259,57 @@ module _ (t : Table) (ids text : List ℕ) (p : ℕ) where
     }
 
     quiet_bytes : (n at : ℕ) {last : Option MetRow} → is_match t (row_of ids id) ≡ false
-        → WalkedTo (row_of ids id) at last → at + n ≤ length text
+        → Walked t ids text p (row_of ids id) at last → at + n ≤ length text
         → ((k : ℕ) → at ≤ k → k < at + n → is_read t (row_of ids id) (slice_index text k) ≡ false)
-        → WalkedTo (row_of ids id) (at + n) last
+        → Walked t ids text p (row_of ids id) (at + n) last
     quiet_bytes zero at {last} no_match w h unread =
-        let same : at ≡ at + 0 = omega arith in subst (λ (o : ℕ). WalkedTo (row_of ids id) o last) same w
+        let same : at ≡ at + 0 = omega arith in subst (λ (o : ℕ). Walked t ids text p (row_of ids id) o last) same w
     quiet_bytes (suc n) at {last} no_match w h unread =
         let more : at < length text = omega (arith, h) in
         let first = unread at (omega arith) (omega arith) in
         let there : at + 1 + n ≡ at + suc n = omega arith in
         let quiet = unread_quiet s (slice_index text at) (bytes at 0 more) no_match first in
-        subst (λ (o : ℕ). WalkedTo (row_of ids id) o last) there
+        subst (λ (o : ℕ). Walked t ids text p (row_of ids id) o last) there
         (quiet_bytes n (at + 1) no_match (quiet_on w (stays w more first) quiet) (omega (arith, h))
         (λ k low high. unread k (omega (arith, low)) (omega (arith, high))))
 
     -- a quiet row skips
     pub quiet_skips : {at to : ℕ} {last : Option MetRow} → is_match t (row_of ids id) ≡ false
-        → WalkedTo (row_of ids id) at last → IsSkip t (row_of ids id) text at to → WalkedTo (row_of ids id) to last
+        → Walked t ids text p (row_of ids id) at last → IsSkip t (row_of ids id) text at to → Walked t ids text p (row_of ids id) to last
     quiet_skips {at} {to} {last} no_match w skip =
         let low = skip.low in
         let high = skip.high in
         let there : at + (to - at) ≡ to = omega arith in
-        subst (λ (o : ℕ). WalkedTo (row_of ids id) o last) there
+        subst (λ (o : ℕ). Walked t ids text p (row_of ids id) o last) there
         (quiet_bytes (to - at) at no_match w (omega arith) (λ k l h. skip.skipped k l (omega (arith, h, there))))
 
-    abbrev met_at : ℕ → Option MetRow
-    met_at at = Some (record { row = id; offset = at })
-
     met_bytes : (n at : ℕ) → is_match t (row_of ids id) ≡ true → IsId ids id
-        → WalkedTo (row_of ids id) (at + 1) (met_at at) → at + 1 + n ≤ length text
+        → Walked t ids text p (row_of ids id) (at + 1) (met_at id at) → at + 1 + n ≤ length text
         → ((k : ℕ) → at + 1 ≤ k → k < at + 1 + n → is_read t (row_of ids id) (slice_index text k) ≡ false)
-        → WalkedTo (row_of ids id) (at + n + 1) (met_at (at + n))
+        → Walked t ids text p (row_of ids id) (at + n + 1) (met_at id (at + n))
     met_bytes zero at is is_id w h unread =
         let same : at ≡ at + 0 = omega arith in
-        subst (λ (o : ℕ). WalkedTo (row_of ids id) (o + 1) (met_at o)) same w
+        subst (λ (o : ℕ). Walked t ids text p (row_of ids id) (o + 1) (met_at id o)) same w
     met_bytes (suc n) at is is_id w h unread =
         let more : at + 1 < length text = omega (arith, h) in
         let first = unread (at + 1) (omega arith) (omega arith) in
         let there : at + 1 + n ≡ at + suc n = omega arith in
-        subst (λ (o : ℕ). WalkedTo (row_of ids id) (o + 1) (met_at o)) there
+        subst (λ (o : ℕ). Walked t ids text p (row_of ids id) (o + 1) (met_at id o)) there
         (met_bytes n (at + 1) is is_id (met_on w id s is is_id (stays w more first)) (omega (arith, h))
         (λ k low high. unread k (omega (arith, low)) (omega (arith, high))))
 
     -- a match row skips, and is met again at each place
     pub met_skips : {at to : ℕ} → is_match t (row_of ids id) ≡ true → IsId ids id
-        → WalkedTo (row_of ids id) (at + 1) (met_at at) → IsSkip t (row_of ids id) text (at + 1) to
-        → WalkedTo (row_of ids id) to (met_at (to - 1))
+        → Walked t ids text p (row_of ids id) (at + 1) (met_at id at) → IsSkip t (row_of ids id) text (at + 1) to
+        → Walked t ids text p (row_of ids id) to (met_at id (to - 1))
     met_skips {at} {to} is is_id w skip =
         let low = skip.low in
         let high = skip.high in
         let n = to - (at + 1) in
         let there : at + n ≡ to - 1 = omega arith in
         let behind : to - 1 + 1 ≡ to = omega arith in
-        subst (λ (o : ℕ). WalkedTo (row_of ids id) o (met_at (to - 1))) behind
-        (subst (λ (o : ℕ). WalkedTo (row_of ids id) (o + 1) (met_at o)) there
+        subst (λ (o : ℕ). Walked t ids text p (row_of ids id) o (met_at id (to - 1))) behind
+        (subst (λ (o : ℕ). Walked t ids text p (row_of ids id) (o + 1) (met_at id o)) there
         (met_bytes n at is is_id w (omega arith)
         (λ k l h. skip.skipped k l (omega (arith, h)))))
 

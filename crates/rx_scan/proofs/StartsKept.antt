@@ -24,7 +24,8 @@ pub record IsBehind (text kept : List ℕ) (p : ℕ) : Type 0 where
   pub bytes : AreBytes text
   pub whole : length kept ≡ 256
 
-module _ (t : Table) (ids text kept : List ℕ) (p : ℕ) (place : IsBehind text kept p) (are : AreStarts t ids kept) where
+module _ (t : Table) (ids : List ℕ) {text kept : List ℕ} {p : ℕ} (place : IsBehind text kept p)
+    (are : AreStarts t ids kept) where
   abbrev byte : ℕ
   byte = slice_index_or text (p - 1) 0
 

@@ -31,16 +31,16 @@ bytes-preserved g c =
       walk = λ p begun.
           let w = inv.walk p begun in
           let step : Step t Direction.Forward (query_at text p) (row_of ids c.bytes.row) at (row_of ids next)
-          = record { place = place t ids text p w; more = c.bytes-test.true; turn = turn } in
+          = record { place = place w; more = c.bytes-test.true; turn = turn } in
           elim c.if-is_match_row.branch [
             | then-is_match_row+else-is_accel_state b ↦
                 subst (λ (m : MetRow). Walked t ids text p (row_of ids next) (at + 1) (kept_met p m)) (sym b.last-is)
-                (walk_keeps t ids text p (record { row = next; offset = at })
-                (met_on t ids text p w next standing
+                (walk_keeps (record { row = next; offset = at })
+                (met_on w next standing
                 (sym c.is_match_row.ensures ∙ b.if-is_match_row.true) is_id step))
             | else-is_match_row+else-is_special_state b ↦
                 subst (λ (m : MetRow). Walked t ids text p (row_of ids next) (at + 1) (kept_met p m)) (sym b.last-is)
-                (quiet_on t ids text p w step
+                (quiet_on w step
                 (ordinary standing (sym b.is_special_state.ensures ∙ b.if-is_special_state.false)))
           ];
     }
