@@ -20,31 +20,20 @@ key_tells p q hp hq e =
     let o : p.other ≡ q.other = omega arith in
     ap₂ (λ (i o : ℕ). record { id = i; other = o }) i o
 
+-- a first place that is within a list
+first_is : (k n : ℕ) (within : Bool) → unwrap_or (if within then Some k else None) n < n
+    → unwrap_or (if within then Some k else None) n ≡ k
+first_is k n true h = refl
+first_is k n false h = absurd (omega (arith, h))
+
 -- a number that is an id stands at its row
 pub id_at_row : (ids : List ℕ) (id : ℕ) → IsId ids id → id_of ids (row_of ids id) ≡ id
-id_at_row ids id is = at_place (position_or_len (λ other. other == id) ids) refl
-  where
-    n : ℕ
-    n = length ids
-
-    choice : ℕ → ℕ
-    choice k = unwrap_or (if nat_lt k n then Some k else None) n
-
-    at_place : (k : ℕ) → k ≡ position_or_len (λ other. other == id) ids → id_of ids (row_of ids id) ≡ id
-    at_place k e =
-        ⊎_elim
-        (λ (h : k < n).
-        let there : choice k ≡ k = ap (λ (b : Bool). unwrap_or (if b then Some k else None) n) (lt-ltb k n h) in
-        let place : row_of ids id ≡ k = ap choice (sym e) ∙ there in
-        let below : position_or_len (λ other. other == id) ids < n = subst (λ x. x < n) e h in
-        ap (id_of ids) (place ∙ e)
-        ∙ eqb-true (id_of ids (position_or_len (λ other. other == id) ids)) id
-        (passes_at_first (λ other. other == id) ids 0 below))
-        (λ (h : n ≤ k).
-        let past : row_of ids id ≡ n =
-        ap choice (sym e) ∙ ap (λ (b : Bool). unwrap_or (if b then Some k else None) n) (le-ltb k n h) in
-        absurd (omega (arith, past, is)))
-        (cases_lt k n)
+id_at_row ids id is =
+    let first = position_or_len (λ other. other == id) ids in
+    let place = first_is first (length ids) (nat_lt first (length ids)) is in
+    ap (id_of ids) place
+    ∙ eqb-true (id_of ids first) id
+    (passes_at_first (λ other. other == id) ids 0 (subst (λ k. k < length ids) place is))
 
 pub id_tells : (ids : List ℕ) (x y : ℕ) → IsId ids x → IsId ids y → row_of ids x ≡ row_of ids y → x ≡ y
 id_tells ids x y hx hy e = sym (id_at_row ids x hx) ∙ ap (id_of ids) e ∙ id_at_row ids y hy

@@ -5,7 +5,7 @@ use Rattle.rx_equal.proofs.Meets.{named_all, named_closed, named_link, named_non
 use Rattle.rx_equal.proofs.Sides.{sides}
 use Rattle.rx_equal.proofs.Tests.{false_by}
 use Rattle.rx_equal.proofs.check.check_links.Given as given
-use Rattle.rx_equal.proofs.check.check_links.Goals.{After-knows_nexts}
+use Rattle.rx_equal.proofs.check.check_links.Goals.{In_ok-units}
 use Rattle.rx_equal.proofs.check.check_links.Goals as goal
 
 pub loop-i-init : goal.loop-i-init
@@ -38,19 +38,19 @@ loop-i-preserved g c =
     }
 
 -- all links were looked at
-past : (g : given.Over) (c : After-knows_nexts g) → length c.args.links.now ≤ c.loop-i.i
+past : (g : given.Over) (c : In_ok-units g) → length c.args.links.now ≤ c.loop-i.i
 past g c = omega (arith, c.loop-i-test.false, c.len-i-end.ensures)
 
 pub returns-then-not-knows_nexts-clause-exact : goal.returns-then-not-knows_nexts-clause-exact
 returns-then-not-knows_nexts-clause-exact g c =
-    let end = past g (goal.at.returns-then-not-knows_nexts-clause-exact g c).After-knows_nexts in
+    let end = past g (goal.at.returns-then-not-knows_nexts-clause-exact g c).In_ok-units in
     false_by c.if-not-knows_nexts.true c.knows_nexts.ensures
     (λ v p there unit h. (named_closed c.loop-i.invariant.named end v).nexts p unit there h)
 
 pub returns-clause-exact : goal.returns-clause-exact
 returns-clause-exact g c =
     let s = sides g.A.Automaton g.B.Automaton c.args.a.now c.args.b.now in
-    let end = past g (goal.at.returns-clause-exact g c).After-knows_nexts in (
+    let end = past g (goal.at.returns-clause-exact g c).In_ok-units in (
       λ yes. record {
         pairs = _;
         named = named_all c.loop-i.invariant.named end;
