@@ -133,32 +133,6 @@ serve_plan {p} {es} {pair} t =
       whole_reverse = serve.whole_reverse;
     }
 
--- ---- two tables of a plan are its pair
-
-pub dense_tables : {p : Plan} {es : List Expression} {f r f' r' : Layout} → p.form ≡ Form.Dense → f' ≡ f → r' ≡ r
-    → All IsLoopSafe es → images.IsDense p PlanTable.Forward es f → images.IsDense p PlanTable.Reverse es r
-    → AreTables p es (Pair.Dense f' r')
-dense_tables {p} {es} form f_is r_is safe forward reverse = record {
-  form = sym form;
-  safe = safe;
-  built = record {
-    forward = subst (images.IsDense p PlanTable.Forward es) (sym f_is) forward;
-    reverse = subst (images.IsDense p PlanTable.Reverse es) (sym r_is) reverse;
-  };
-}
-
-pub sparse_tables : {p : Plan} {es : List Expression} {f r f' r' : sparse.Stored} → p.form ≡ Form.Sparse
-    → f' ≡ f → r' ≡ r → All IsLoopSafe es → images.IsSparse p PlanTable.Forward es f
-    → images.IsSparse p PlanTable.Reverse es r → AreTables p es (Pair.Sparse f' r')
-sparse_tables {p} {es} form f_is r_is safe forward reverse = record {
-  form = sym form;
-  safe = safe;
-  built = record {
-    forward = subst (images.IsSparse p PlanTable.Forward es) (sym f_is) forward;
-    reverse = subst (images.IsSparse p PlanTable.Reverse es) (sym r_is) reverse;
-  };
-}
-
 -- ---- the table of a plan for all matches tells them
 
 serves_all : {t : Table} {b : Build} → Serves t b → ServesAll t b

@@ -6,6 +6,8 @@ pub mod Forms
 pub mod Tables
 -- one table, images of it, and images of both
 pub mod Images
+-- tables that can be written and read back
+pub mod Written
 -- pairs that are built as a plan's are
 pub mod Planned
 -- how many rows they have

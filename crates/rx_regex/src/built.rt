@@ -16,8 +16,7 @@ ghost use Rattle.rx_regex.specs.Pairs.{whole};
 ghost use Rattle.rx_regex.specs.Tables.{IsOf};
 
 use crate::built_matches::{BuiltMatches, FormMatches};
-use crate::dense_tables::dense_pair;
-use crate::sparse_tables::sparse_pair;
+use crate::form::planned_pair;
 use crate::tables::{Built, Tables};
 use rx_base::{Input, Match, MatchError};
 use rx_build::BuildError;
@@ -34,11 +33,11 @@ impl Built {
     {
         match plan.form {
             Form::Dense => {
-                let tables = Tables::Dense(dense_pair(alloc, exprs, plan)?);
+                let tables = Tables::Dense(planned_pair(alloc, exprs, plan)?);
                 Ok(Built { tables })
             }
             Form::Sparse => {
-                let tables = Tables::Sparse(sparse_pair(alloc, exprs, plan)?);
+                let tables = Tables::Sparse(planned_pair(alloc, exprs, plan)?);
                 Ok(Built { tables })
             }
         }

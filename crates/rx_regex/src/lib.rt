@@ -15,6 +15,7 @@ mod built_matches;
 mod dense_tables;
 mod error;
 mod find;
+mod form;
 mod image;
 pub mod laws;
 mod pair_image;
