@@ -275,8 +275,8 @@ module _ {t : Table} {ids : List ℕ} {old here : Place} {left_before left : Opt
             → StreamEnds t mode false (ends_by left_before left' written_before last) result
         stream_long_quit last result long few w =
             stream_answer {status = 2} written' long_line result (takes_all last)
-            (StreamReplies.Long new.supported (omega (arith, all_len, long)) (omega (arith, all_len, got.short, few)) refl
-            refl) quit_lines w
+            (StreamReplies.Long new.supported (omega (arith, all_len, long)) (omega (arith, all_len, got.short, few))
+            refl refl) quit_lines w
 
 -- ---- no piece is read
 

@@ -57,7 +57,8 @@ abbrev met_at : ℕ → ℕ → Option MetRow
 met_at id at = Some (record { row = id; offset = at })
 
 module _ {t : Table} {ids text : List ℕ} {p : ℕ} where
-  pub walk_keeps : {row at : ℕ} (met : MetRow) → Walked t ids text p row at (Some met) → Walked t ids text p row at (kept_met p met)
+  pub walk_keeps : {row at : ℕ} (met : MetRow) → Walked t ids text p row at (Some met)
+      → Walked t ids text p row at (kept_met p met)
   walk_keeps {row} {at} met w =
       by_test (met.offset == p)
       (λ here. subst (λ v. Walked t ids text p row at (if v then None else Some met)) (sym here) (record {
@@ -110,7 +111,8 @@ module _ {t : Table} {ids text : List ℕ} {p : ℕ} where
     ending_by e = w.ending ∙ ap (λ (m : OverlappingMatches). m.ending) e
 
     -- nothing more is told
-    pub walk_over : told_later t text p row at ≡ none_left Ending.Ended → IsLast t ids p (length text) (told_at t text p) last
+    pub walk_over : told_later t text p row at ≡ none_left Ending.Ended
+        → IsLast t ids p (length text) (told_at t text p) last
     walk_over e = record {
       best = ap₂ unless_ended (ending_by e)
           (best_by e ∙ ap (λ (o : Option HalfMatch). option_or o (longest_met t ids p last)) (longest-nil p));
@@ -275,7 +277,8 @@ module _ {t : Table} {ids text : List ℕ} {p : ℕ} where
 
     -- a quiet row skips
     pub quiet_skips : {at to : ℕ} {last : Option MetRow} → is_match t (row_of ids id) ≡ false
-        → Walked t ids text p (row_of ids id) at last → IsSkip t (row_of ids id) text at to → Walked t ids text p (row_of ids id) to last
+        → Walked t ids text p (row_of ids id) at last → IsSkip t (row_of ids id) text at to
+        → Walked t ids text p (row_of ids id) to last
     quiet_skips {at} {to} {last} no_match w skip =
         let low = skip.low in
         let high = skip.high in

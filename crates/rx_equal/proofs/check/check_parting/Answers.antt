@@ -32,10 +32,10 @@ returns-after-loop-i g c =
       λ yes. (
         c.is_mode.ensures.0 c.if-not-is_mode.false,
         λ alike. not_both c.have_equal_labels.result yes
-            (equal.1 (labels_from_alike s.t s.u c.args.parting.now.place (rows c.in-Rows.start) (rows c.loop-i.pair) word
-            begins leads alike)),
+            (equal.1 (labels_from_alike s.t s.u c.args.parting.now.place (rows c.in-Rows.start) (rows c.loop-i.pair)
+            word begins leads alike)),
       ),
       λ parting. not_intro c.have_equal_labels.result (λ yes. parting.1
-          (alike_from_labels s.t s.u c.args.parting.now.place (rows c.in-Rows.start) (rows c.loop-i.pair) word begins leads
-          (equal.0 yes))),
+          (alike_from_labels s.t s.u c.args.parting.now.place (rows c.in-Rows.start) (rows c.loop-i.pair) word begins
+          leads (equal.0 yes))),
     )

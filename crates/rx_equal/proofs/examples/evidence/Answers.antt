@@ -34,7 +34,8 @@ no_dead (suc (suc k), h, e) = omega (arith, h)
 
 pub returns-clause-no_next : goal.returns-clause-no_next
 returns-clause-no_next c = λ evidence.
-    no_dead ((evidence_closed {pairs = two_pairs} refl evidence).nexts (record { row = 2; other = 2 }) 256 (0, omega arith, refl) (omega arith))
+    no_dead ((evidence_closed {pairs = two_pairs} refl evidence).nexts (record { row = 2; other = 2 }) 256
+    (0, omega arith, refl) (omega arith))
 
 no_pairs : (pairs : List RowPair) → None ≡ Some pairs → ⊥
 no_pairs pairs e = cc
