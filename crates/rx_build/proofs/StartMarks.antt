@@ -1,11 +1,10 @@
 -- Tables in which no row is accelerated, and those in which no start row is marked any more.
 use Rattle.std.proofs.Common.{◌≡◌, ◌≢◌, ℕ, zero, suc, ◌+◌, ◌*◌, ◌/◌, ◌<◌, ◌≤◌, ◌==◌, ◌&&◌, ◌||◌, ◌⊎◌, not}
-use Rattle.std.proofs.Common.{nat_le, ◌^◌, Bool, true, false, if◌then◌else◌, List, length, refl, sym, ap, ap₂}
+use Rattle.std.proofs.Common.{nat_le, ◌^◌, Bool, true, false, if◌then◌else◌, length, refl, sym, ap, ap₂}
 use Rattle.std.proofs.Common.{subst, ◌∙◌, ⊎_elim, inl, inr, arith}
 use Rattle.std.proofs.lemmas.Bool.{and_parts, cases_eq, cases_lt, eq-eqb, leb-true, true≢false, ne_eqb}
 use Rattle.std.proofs.lemmas.Nat.{mul-le, pow_pos}
-use Rattle.rx_spec.specs.Machines.{Label}
-use Rattle.rx_spec.specs.Tables.{is_match, is_match_label}
+use Rattle.rx_spec.specs.Tables.{is_match}
 use Rattle.rx_dense.specs.declared.special.Special.{Special}
 use Rattle.rx_dense.specs.Layouts.{Layout, IsRowId, patterns_at, place_in_range, row_count, stride, table_of}
 use Rattle.rx_dense.specs.Specials.{greatest, is_in_range, is_match_id, is_quit_id}

@@ -3,7 +3,7 @@ use Rattle.std.proofs.Common.{◌≡◌, ◌≢◌, ℕ, ◌*◌, ◌≤◌, Boo
 use Rattle.std.proofs.Common.{if◌then◌else◌, inl, inr}
 use Rattle.std.proofs.lemmas.Bool.{and_parts, cases_eq, leb-true}
 use Rattle.rx_spec.specs.Machines.{Label}
-use Rattle.rx_spec.specs.Tables.{is_match, is_match_label}
+use Rattle.rx_spec.specs.Tables.{is_match}
 use Rattle.rx_dense.specs.Specials.{is_in_range, is_match_id, is_quit_id}
 use Rattle.rx_dense.specs.Layouts.{Layout, patterns_at, place_in_range, stride, table_of}
 use Rattle.rx_order.proofs.KindNumbers.{at_most, high_kind, label_match}

@@ -21,18 +21,19 @@ use Rattle.rx_spec.specs.Tables.{IsSound, IsTable, is_match, is_match_label, lea
 use Rattle.rx_spec.specs.declared.Start.{Start}
 use Rattle.lemmas_tables.proofs.Filters.{every_in_range, filter_alike}
 use Rattle.rx_base.specs.ByteClasses.{alphabet_len}
-use Rattle.rx_dense.specs.Specials.{greatest, is_accel_id, is_in_range, is_match_id, is_quit_id, is_start_id}
+use Rattle.rx_dense.specs.Specials.{is_accel_id, is_in_range, is_match_id, is_quit_id, is_start_id}
 use Rattle.rx_dense.specs.Layouts.{IsRowId, IsShaped, Layout, column, context_number, is_row_id, label_of_id}
 use Rattle.rx_dense.specs.Layouts.{machine_of}
 use Rattle.rx_dense.specs.Layouts.{mode_place, needles_of_id, next_id, patterns_at, place_in_range, row_count}
 use Rattle.rx_dense.specs.Layouts.{start_entries, start_id}
 use Rattle.rx_dense.specs.Layouts.{stride, table_of, universal_row}
 use Rattle.rx_dense.proofs.Rows.{IsRowId-row, column_within, quotient, row-below, start_within, valid_id}
-use Rattle.rx_dense_image.specs.Marks.{are_past_quit, are_ranges, are_special, begin_in_order, is_past_quit, is_range}
+use Rattle.rx_dense_image.specs.Marks.{is_range}
 use Rattle.rx_dense_image.specs.Closing.{has_needles, is_list, is_named, leaves, leaving_id, range_len}
 use Rattle.rx_dense_image.specs.Images.{IsRead, IsWhole}
 use Rattle.rx_dense_image.proofs.EachBelow.{cases_bool}
-use Rattle.rx_dense_image.proofs.SpecialTests.{accel_range, alike, and_never, label_by, lists_by, match_range, matches_by}
+use Rattle.rx_dense_image.proofs.SpecialTests.{accel_range, alike, and_never, label_by, lists_by, match_range}
+use Rattle.rx_dense_image.proofs.SpecialTests.{matches_by}
 use Rattle.rx_dense_image.proofs.SpecialTests.{named_few, no_match, not_true, plain_by, quits_by, quits_only_by}
 use Rattle.rx_dense_image.proofs.SpecialTests.{range_begins, within_of}
 use Rattle.rx_dense_image.proofs.ClosedFacts.{AreClosed, closed}
@@ -70,7 +71,8 @@ module _ (l : Layout) (read : IsRead l) (facts : AreClosed l) where
   zero_label : label_of_id l 0 ≡ Label.Plain
   zero_label =
       is_label l 0
-      ∙ plain_by (is_match_id l.special 0) (is_quit_id l.special 0) _ (no_match l.special read.marks.special 0 (omega arith))
+      ∙ plain_by (is_match_id l.special 0) (is_quit_id l.special 0) _
+      (no_match l.special read.marks.special 0 (omega arith))
       (and_never (eqb 0 l.special.quit))
 
   -- a word of the first two rows

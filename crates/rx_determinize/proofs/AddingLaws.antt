@@ -1,5 +1,5 @@
 -- Entering a state: what is kept where it is new, and what its size passes.
-use Rattle.std.proofs.Common.{◌≡◌, ◌≢◌, ℕ, ◌+◌, ◌*◌, ◌/◌, ◌<◌, true, Some, List, [], ◌∷◌, ◌++◌}
+use Rattle.std.proofs.Common.{◌≡◌, ◌≢◌, ℕ, ◌+◌, ◌*◌, ◌/◌, ◌<◌, true, List, [], ◌∷◌, ◌++◌}
 use Rattle.std.proofs.Common.{length, get_or, length-append, refl, ap, sym, ◌∙◌, subst, arith}
 use Rattle.std.proofs.lemmas.List.{length-map, map-append, length_push, get_or-map, get_or_default, length-replicate}
 use Rattle.std.proofs.Math.Nat.{mul-le-mul_left}
@@ -7,7 +7,7 @@ use Rattle.std.proofs.lemmas.Nat.{div-mul-add, pow_pos, div-add-mod'}
 use Rattle.std.proofs.lemmas.List.Elements.{All-append, All-cons, All-nil, All-get_or, All-map}
 use Rattle.std.proofs.lemmas.List.Quantifiers.{all_pairs_push}
 use Rattle.std.proofs.lemmas.List.Sums.{sum_by_push}
-use Rattle.std.specs.Prelude.{All, AllPairs, Contains, IsTrue, ◌↔◌, Bool, false, not, if◌then◌else◌, slice_get}
+use Rattle.std.specs.Prelude.{All, AllPairs, Contains, IsTrue, ◌↔◌, Bool, false, not, if◌then◌else◌}
 use Rattle.rx_spec.specs.Builds.{IsReached}
 use Rattle.rx_spec.specs.Causes.{Exceeds, max_id}
 use Rattle.rx_spec.specs.Sizes.{state_size, determinizer_size, label_total, table_size}
@@ -17,7 +17,6 @@ use Rattle.rx_dense.specs.Builder.{with_row}
 use Rattle.rx_dense.specs.Layouts.{Layout, AreRows, row_count, stride}
 use Rattle.rx_build_error.specs.declared.BuildErrorKind.{BuildErrorKind}
 use Rattle.rx_determinize.specs.Working.{Keying, Met, SizeLimits, IsWorking, IsOver, states_of}
-use Rattle.rx_determinize.specs.WorkLists.{Interns}
 use Rattle.rx_determinize.specs.Adding.{CanAdd, IsWithin, Passes, IsFull}
 
 -- there are fewer keys than ids

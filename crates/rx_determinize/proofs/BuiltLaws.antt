@@ -277,7 +277,8 @@ module _ {w : Work} {l : Layout} (built : IsBuilt w l) where
       rows = λ id v e.
           let is = labels.only id v e in
           let low = slice_get_within met.keys is.place is.key is.there in (
-            subst (IsRowId l) (sym is.id_is) (row_id l (is.place + 2) built.entering.serves.rows (omega (arith, low, count))),
+            subst (IsRowId l) (sym is.id_is)
+                (row_id l (is.place + 2) built.entering.serves.rows (omega (arith, low, count))),
             high_id id v.items is,
             no_start_match id v.items is,
           );

@@ -1,13 +1,12 @@
 -- The columns of a table and the units that stand for them.
 use Rattle.std.proofs.Common.{◌≡◌, ℕ, ◌+◌, ◌<◌, ◌≤◌, Bool, false, List, [], ◌∷◌, length, get_or}
-use Rattle.std.proofs.Common.{refl, ap, sym, ◌∙◌, arith, ⊎_elim, eqb, cond}
+use Rattle.std.proofs.Common.{ap, sym, ◌∙◌, arith, ⊎_elim, eqb, cond}
 use Rattle.std.proofs.lemmas.Bool.{cases_lt, cases_eq}
 use Rattle.std.proofs.lemmas.Bool.Decides.{nat_tests}
 use Rattle.std.proofs.lemmas.List.{get_or-map, get_or_append_left, get_or_push, length-map, length_push}
 use Rattle.std.proofs.lemmas.List.FromFn.{get_or-map-range_with_len}
-use Rattle.std.proofs.lemmas.Nat.Bits.{bit_at-zero}
-use Rattle.std.specs.Prelude.{slice_index, nat_lt, true, ◌&&◌, ◌==◌}
-use Rattle.rx_spec.specs.Bytes.{contains, eoi}
+use Rattle.std.specs.Prelude.{slice_index}
+use Rattle.rx_spec.specs.Bytes.{eoi}
 use Rattle.rx_spec.specs.Builds.{Build, Node, next_node}
 use Rattle.rx_spec.specs.Classes.{class_by, column_by, ends_class, representatives}
 use Rattle.rx_spec.specs.Nfas.{Nfa}

@@ -153,8 +153,8 @@ module _ {w v : Work} {l m : Layout} (later : Continues w l v m) where
       at (BuildErrorKind.DFAExceededSizeLimit limit) over = (
         over.0,
         subst (λ n. Exceeds (keys_in w l).build (λ states. table_size (length states) n (length l.starts)) limit) width
-            (subst (λ n. Exceeds (keys_in w l).build (λ states. table_size (length states) (stride m) n) limit) later.over.count
-            over.1),
+            (subst (λ n. Exceeds (keys_in w l).build (λ states. table_size (length states) (stride m) n) limit)
+            later.over.count over.1),
       )
       at (BuildErrorKind.DeterminizeExceededSizeLimit limit) over = over
       at BuildErrorKind.Memory over = tt

@@ -10,7 +10,7 @@ use Rattle.rx_spec.specs.Builds.{Build, AreReached}
 use Rattle.rx_spec.specs.Causes.{BuildFits, Exceeds, IsSupported, IsUnsupported, max_id}
 use Rattle.rx_spec.specs.Classes.{class_by, ends_class, stride2_of}
 use Rattle.rx_spec.specs.Nfas.{Nfa}
-use Rattle.rx_spec.specs.Sizes.{build_alphabet, build_stride, determinizer_size, label_total, last_id, table_size}
+use Rattle.rx_spec.specs.Sizes.{build_stride, determinizer_size, label_total, last_id, table_size}
 use Rattle.rx_spec.specs.Sizes as sizes
 use Rattle.rx_spec.specs.States.{State}
 use Rattle.rx_base.specs.ByteClasses.{AreClasses}

@@ -23,7 +23,8 @@ use Rattle.rx_determinize.proofs.ColumnLaws.{unit_in}
 use Rattle.rx_determinize.proofs.ContinuesLaws.{continues_other, same_keys, serves_later, written_over}
 use Rattle.rx_determinize.proofs.NextLaws.{leads_on}
 use Rattle.rx_determinize.proofs.RowIds.{row_of_id}
-use Rattle.rx_determinize.proofs.FillingLaws.{IsSet, entering_beside, filling_kept, filling_set, rewritten, written_kept}
+use Rattle.rx_determinize.proofs.FillingLaws.{IsSet, entering_beside, filling_kept, filling_set, rewritten}
+use Rattle.rx_determinize.proofs.FillingLaws.{written_kept}
 
 -- ---- columns that are ready
 

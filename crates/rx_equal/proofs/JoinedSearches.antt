@@ -1,16 +1,15 @@
 -- Searches that are made of half searches are alike in a mode where these are: with matches inside a character passed
 -- over, joined, and one after another. Each asks only queries of its own mode, and of the anchored one in reverse.
-use Rattle.std.proofs.Common.{◌≡◌, ℕ, suc, zero, ◌+◌, ◌-◌, ◌==◌, ◌||◌, Bool, true, false, if◌then◌else◌, Option, Some}
-use Rattle.std.proofs.Common.{None, Ok, Err, ◌∷◌, refl, ap, ap₂, sym, ◌∙◌, subst}
+use Rattle.std.proofs.Common.{◌≡◌, ℕ, suc, zero, ◌-◌, ◌==◌, ◌||◌, Bool, true, false, if◌then◌else◌, Some}
+use Rattle.std.proofs.Common.{None, Ok, Err, refl, ap, ap₂, sym, ◌∙◌, subst}
 use Rattle.rx_spec.specs.Bytes.{AreBytes}
-use Rattle.rx_spec.specs.Queries.{Anchored, Query, Match, is_anchored}
+use Rattle.rx_spec.specs.Queries.{Anchored, Query, is_anchored}
 use Rattle.rx_spec.specs.Tables.{Table}
 use Rattle.rx_spec.specs.HalfSearches.{HalfAnswer, half_search}
 use Rattle.rx_spec.specs.Overlapping.{OverlappingMatches}
 use Rattle.rx_spec.specs.Splits.{narrower, unless_split, skip_splits, split_limit, skips_splits, half_unsplit}
 use Rattle.rx_spec.specs.Splits.{items_unsplit}
-use Rattle.rx_spec.specs.Joining.{Answer, match_at, with_start, back_from, with_end, joined_search, join}
-use Rattle.rx_spec.specs.Iterating.{FoundMatches, is_repeat, unless_repeat, and_then, iterate_from}
+use Rattle.rx_spec.specs.Joining.{match_at, with_start, back_from, with_end, joined_search, join}
 use Rattle.rx_spec.specs.declared.Direction.{Direction}
 use Rattle.lemmas_walks.proofs.ReadUnits.{narrower_bytes}
 use Rattle.rx_meaning.proofs.IteratedSearches as iterated

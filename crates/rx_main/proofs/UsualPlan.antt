@@ -1,7 +1,7 @@
 -- A search by the usual plan that may begin anywhere has no error: no byte is a quit byte, and there are starts.
 use Rattle.std.proofs.Common.{◌≡◌, ℕ, ◌+◌, zero, suc, Bool, true, false, List, [], ◌∷◌, Option, Some, None}
-use Rattle.std.proofs.Common.{refl, ap, sym, ◌∙◌, ◌-◌, ◌≤◌, length, subst, arith, ltb, if◌then◌else◌}
-use Rattle.std.specs.Prelude.{Ok, Err}
+use Rattle.std.proofs.Common.{refl, ap, sym, ◌∙◌, ◌-◌, ◌≤◌, length, subst, arith, ltb}
+use Rattle.std.specs.Prelude.{Ok}
 use Rattle.std.proofs.Math.Bool.{and-false}
 use Rattle.std.proofs.lemmas.Nat.Bits.{bit_at-zero}
 use Rattle.rx_spec.specs.Bytes.{contains, unit_of}

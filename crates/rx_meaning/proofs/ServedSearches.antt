@@ -1,17 +1,17 @@
 -- Searches that are made of half searches are alike where these are: with matches inside a character passed over,
 -- joined, and one after another.
-use Rattle.std.proofs.Common.{◌≡◌, ℕ, suc, zero, ◌+◌, ◌-◌, ◌==◌, ◌||◌, Bool, true, false, if◌then◌else◌, Option, Some}
-use Rattle.std.proofs.Common.{None, Ok, Err, List, ◌∷◌, refl, ap, ap₂, sym, ◌∙◌}
+use Rattle.std.proofs.Common.{◌≡◌, ℕ, suc, zero, ◌-◌, ◌==◌, ◌||◌, Bool, true, false, if◌then◌else◌, Some}
+use Rattle.std.proofs.Common.{None, Ok, Err, List, refl, ap, ap₂, sym, ◌∙◌}
 use Rattle.rx_spec.specs.Bytes.{AreBytes}
 use Rattle.rx_spec.specs.Expressions.{Expression}
-use Rattle.rx_spec.specs.Queries.{Query, Match, is_anchored}
+use Rattle.rx_spec.specs.Queries.{Query, is_anchored}
 use Rattle.rx_spec.specs.Tables.{Table}
 use Rattle.rx_spec.specs.HalfSearches.{HalfAnswer, half_search}
 use Rattle.rx_spec.specs.Overlapping.{OverlappingMatches}
 use Rattle.rx_spec.specs.Splits.{narrower, unless_split, skip_splits, split_limit, skips_splits, half_unsplit}
 use Rattle.rx_spec.specs.Splits.{items_unsplit}
 use Rattle.rx_spec.specs.Joining.{Answer, match_at, with_start, back_from, with_end, joined_search, join}
-use Rattle.rx_spec.specs.Iterating.{FoundMatches, is_repeat, unless_repeat, and_then, iterate_from, iterate}
+use Rattle.rx_spec.specs.Iterating.{iterate}
 use Rattle.rx_spec.specs.Plans.{Plan, plan_build}
 use Rattle.rx_spec.specs.declared.Direction.{Direction}
 use Rattle.lemmas_walks.proofs.ReadUnits.{narrower_bytes}

@@ -1,12 +1,11 @@
 -- A dense table as the refinement sees it: its columns are the units.
-use Rattle.std.proofs.Common.{◌≡◌, ◌≢◌, ◌<◌, ◌≤◌, ◌+◌, ◌*◌, ◌/◌, ◌^◌, ◌∙◌, ℕ, zero, suc, List, length, sym, subst}
-use Rattle.std.proofs.Common.{⊎_elim, arith}
-use Rattle.std.proofs.lemmas.Bool.{cases_eq, ne_eqb}
+use Rattle.std.proofs.Common.{◌≡◌, ◌<◌, ◌≤◌, ◌+◌, ◌*◌, ◌/◌, ◌^◌, ◌∙◌, ℕ, List, length, sym}
+use Rattle.std.proofs.Common.{arith}
 use Rattle.std.proofs.lemmas.Int.Digits.{length-digits_of-le}
 use Rattle.std.proofs.lemmas.Nat.{mul-le}
 use Rattle.std.specs.Prelude.{IfOk, Result, Ok, Err, slice_index}
 use Rattle.rx_spec.specs.Tables.{IsTable}
-use Rattle.rx_base.specs.ByteClasses.{AreClasses, alphabet_len}
+use Rattle.rx_base.specs.ByteClasses.{alphabet_len}
 use Rattle.rx_refine.specs.Moves.{Moves, next_row, read_limit, binary_digits, AreAlikeByNumber, AreToldByNumber}
 use Rattle.rx_dense.specs.Layouts.{AreRows, Layout, column, row_count, stride, table_of}
 use Rattle.rx_dense.proofs.Rows.{column_within, row-below, multiple_below}

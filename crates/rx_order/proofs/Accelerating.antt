@@ -33,7 +33,7 @@ use Rattle.rx_order.proofs.KindNumbers.{high_matches, at_most}
 use Rattle.rx_order.proofs.Ordered.{from_end, high_kind_is, size_same, some, special_is}
 use Rattle.rx_order.proofs.Ordered.{stride_same, to_end}
 use Rattle.rx_order.proofs.Reordered.{IsBefore, next_below, number_below, number_of_place, numbers, row_at_number}
-use Rattle.rx_order.proofs.Reordered.{row_of_place, stride_is, two_rows}
+use Rattle.rx_order.proofs.Reordered.{row_of_place, stride_is}
 use Rattle.std.proofs.lemmas.Nat.{row_fits}
 use Rattle.rx_dense.specs.Layouts.{IsRowId}
 use Rattle.rx_dense.specs.Specials.{is_start_id}

@@ -20,7 +20,7 @@ use Rattle.rx_order.proofs.Reordered.{IsBefore, any_start, entry_of, next_of_row
 use Rattle.rx_order.proofs.Reordered.{numbers}
 use Rattle.rx_order.proofs.Reordered.{permutation, row_at_number, row_of_place, size, stride_is, two_rows}
 use Rattle.rx_order.proofs.KindNumbers.{high_kind, at_most, over, kind_high, high_above}
-use Rattle.rx_order.proofs.KindNumbers.{kind_small, row_first, row_dead, high_matches, high_accels, high_starts}
+use Rattle.rx_order.proofs.KindNumbers.{row_first, row_dead, high_matches, high_accels, high_starts}
 use Rattle.rx_order.proofs.KindRanges.{HasSpecials, is_between}
 use Rattle.rx_order.proofs.KindRanges as KindRanges
 

@@ -1,10 +1,9 @@
 -- The matches that the tables of a plan tell one after another.
-use Rattle.std.proofs.Common.{◌≡◌, ◌+◌, ◌-◌, ℕ, zero, suc, if◌then◌else◌, Option, Some, None, Ok, Err, List}
-use Rattle.std.proofs.Common.{◌∷◌, Result, All, IfOk, refl, ap, ◌∙◌}
+use Rattle.std.proofs.Common.{◌≡◌, ◌-◌, Ok, Err, List}
+use Rattle.std.proofs.Common.{Result, All, IfOk, refl}
 use Rattle.std.proofs.lemmas.List.Elements.{All-weaker}
 use Rattle.rx_spec.specs.Expressions.{Expression}
-use Rattle.rx_spec.specs.Iterating.{FoundMatches, is_repeat, unless_repeat, and_then, iterate_from, iterate}
-use Rattle.rx_spec.specs.Joining.{Answer}
+use Rattle.rx_spec.specs.Iterating.{iterate}
 use Rattle.rx_spec.specs.Plans.{Plan, outcome}
 use Rattle.rx_spec.specs.Queries.{Query, Match, MatchError, LiesIn}
 use Rattle.rx_meaning.proofs.IteratedSearches.{from, iterate_alike}

@@ -1,14 +1,13 @@
 -- A pair of tables that is built as a plan's is serves the plan: the tables give its builds, and pass over no match
 -- that splits a character.
-use Rattle.std.proofs.Common.{◌≡◌, ◌&&◌, ℕ, Bool, true, false, refl, sym, ap, ◌∙◌, subst, List, All}
+use Rattle.std.proofs.Common.{◌≡◌, ◌&&◌, ℕ, Bool, true, false, refl, ap, ◌∙◌, subst, List, All}
 use Rattle.rx_spec.specs.Builds.{Build}
-use Rattle.rx_spec.specs.Expressions.{Expression, IsLoopSafe}
+use Rattle.rx_spec.specs.Expressions.{Expression}
 use Rattle.rx_spec.specs.Nfas.{Nfa, nfa_of, is_always_start_anchored}
 use Rattle.rx_spec.specs.Plans.{Plan, plan_build, plan_nfa}
 use Rattle.rx_spec.specs.Splits.{skips_splits}
 use Rattle.rx_spec.specs.Tables.{Table}
 use Rattle.rx_spec.specs.declared.Direction.{Direction}
-use Rattle.rx_spec.specs.declared.Form.{Form}
 use Rattle.rx_dense.specs.Layouts.{Layout, table_of}
 use Rattle.rx_dense.specs.declared.flags.Flags.{Flags}
 use Rattle.rx_expr.specs.Compiles.{wanted_nfa}

@@ -1,16 +1,11 @@
 -- How many bytes the parts of an image have.
-use Rattle.std.proofs.Common.{◌≡◌, ℕ, ◌+◌, ◌*◌, ◌/◌, ◌%◌, ◌^◌, ◌≤◌, List, [], ◌∷◌, ◌++◌, length, map, refl, arith}
-use Rattle.std.specs.Int.{w32, w128}
-use Rattle.std.proofs.lemmas.List.{length-append, length-map}
+use Rattle.std.proofs.Common.{◌≡◌, ℕ, ◌+◌, ◌≤◌, List, [], ◌∷◌, ◌++◌, length, refl, arith}
+use Rattle.std.specs.Int.{w32}
+use Rattle.std.proofs.lemmas.List.{length-append}
 use Rattle.rx_wire.specs.declared.order.Order.{Order}
 use Rattle.rx_wire.specs.Fields.{field}
-use Rattle.rx_wire.specs.Heads.{endianness_word, label_text}
-use Rattle.rx_wire.proofs.Fields.{length-field_32, length-field_128}
-use Rattle.rx_dense.specs.declared.flags.Flags.{Flags}
-use Rattle.rx_dense.specs.Layouts.{context_number}
-use Rattle.rx_dense_image.specs.Heads.{dense_version, flags_word, head_text}
-use Rattle.rx_dense_image.specs.Rows.{words_text}
-use Rattle.rx_dense_image.specs.StartTables.{StartTable, context_count, kind_number, number_or_none, start_table_text}
+use Rattle.rx_dense_image.specs.Heads.{head_text}
+use Rattle.rx_dense_image.specs.StartTables.{start_table_text}
 use Rattle.rx_dense_image.specs.Marks.{quit_text, special_text}
 use Rattle.rx_dense_image.proofs.ImageLengths.{length-head, length-quit, length-special, length-start_table, word_then}
 use Rattle.rx_sparse.specs.Layouts.{IsShaped, Layout}

@@ -6,7 +6,7 @@ use Rattle.std.specs.Prelude.{IfOk, IfSome, Result, Ok, Err, option_map}
 use Rattle.std.specs.Cmp.{both_ways}
 use Rattle.std.specs.List.{list_all, range_with_len}
 use Rattle.std.specs.Str.{bytes_eq}
-use Rattle.std.proofs.lemmas.Bool.{and_parts, cases_lt, cases_eq, eq-eqb, eqb-true, le-leb, le-ltb, leb-true, lt-ltb}
+use Rattle.std.proofs.lemmas.Bool.{and_parts, cases_lt, eq-eqb, eqb-true, le-leb, le-ltb, lt-ltb}
 use Rattle.std.proofs.lemmas.Bool.{ltb-true, ne_eqb}
 use Rattle.std.proofs.lemmas.List.{get_or_default}
 use Rattle.std.proofs.lemmas.Slice.Eq.{bytes_eq-Decides}
@@ -18,15 +18,13 @@ use Rattle.rx_spec.specs.declared.Start.{Start}
 use Rattle.lemmas_tables.proofs.Filters.{every_in_range, filter_alike}
 use Rattle.lemmas_tables.proofs.Ids.{id_apart, row_of-id_of}
 use Rattle.rx_search.specs.Starts.{IsId}
-use Rattle.rx_dense.specs.Specials.{greatest, is_accel_id, is_in_range, is_match_id, is_quit_id, is_start_id}
+use Rattle.rx_dense.specs.Specials.{is_accel_id, is_match_id, is_quit_id, is_start_id}
 use Rattle.rx_dense.specs.Layouts.{context_number, mode_place, start_entries}
 use Rattle.rx_dense.proofs.Rows.{id_at_row}
 use Rattle.rx_dense_image.specs.Closing.{is_named}
-use Rattle.rx_dense_image.specs.Marks.{are_past_quit, are_ranges, begin_in_order, is_past_quit, is_range}
 use Rattle.rx_dense_image.proofs.ClosedFacts.{each_at}
 use Rattle.rx_dense_image.proofs.SpecialTests.{alike, and_never, label_by, lists_by, matches_by, named_few, no_match}
 use Rattle.rx_dense_image.proofs.SpecialTests.{not_true, plain_by, quits_by, quits_only_by}
-use Rattle.rx_dense_image.proofs.EachBelow.{cases_bool}
 use Rattle.rx_sparse.specs.Rows.{Row, is_some_list, next_ids, rows_len}
 use Rattle.rx_sparse.specs.Layouts.{IsShaped, Layout, ids_of, label_of_row, machine_of, next_id, row_at, row_count}
 use Rattle.rx_sparse.specs.Layouts.{Stored, start_id, table_of}

@@ -1,21 +1,20 @@
 -- A whole image is read again, in either order and whatever follows, and its length is told, where its rows are read
 -- again.
-use Rattle.std.proofs.Common.{◌≡◌, ℕ, ◌+◌, ◌-◌, ◌*◌, ◌/◌, ◌%◌, ◌^◌, ◌<◌, ◌≤◌, ◌&&◌, nat_le, true, List, [], ◌++◌}
+use Rattle.std.proofs.Common.{◌≡◌, ℕ, ◌+◌, ◌-◌, ◌^◌, ◌<◌, ◌≤◌, ◌&&◌, nat_le, true, List, ◌++◌}
 use Rattle.std.proofs.Common.{length, slice_index, Ok, refl, sym, ap, subst, ◌∙◌, append_assoc, arith, rules, inl, inr}
-use Rattle.std.specs.Int.{w32, w128}
-use Rattle.std.proofs.lemmas.Bool.{cases_lt, le-leb, lt-ltb}
-use Rattle.std.proofs.lemmas.List.{append-nil, get_or_past, length-append}
+use Rattle.std.specs.Int.{w32}
+use Rattle.std.proofs.lemmas.Bool.{cases_lt, le-leb}
+use Rattle.std.proofs.lemmas.List.{get_or_past, length-append}
 use Rattle.rx_spec.specs.Causes.{id_count, max_id}
 use Rattle.rx_wire.specs.declared.order.Order.{Order}
-use Rattle.rx_wire.specs.Kinds.{Kind, Reads}
+use Rattle.rx_wire.specs.Kinds.{Reads}
 use Rattle.rx_wire.specs.Fields.{bytes_at, field}
 use Rattle.rx_wire.specs.Heads.{IsLabel}
-use Rattle.rx_wire.proofs.Fields.{bytes_again, id_again, u128_again, u32_again}
-use Rattle.rx_dense.specs.declared.special.Special.{Special}
+use Rattle.rx_wire.proofs.Fields.{bytes_again, u32_again}
 use Rattle.rx_dense_image.specs.Heads.{head_at, head_text}
 use Rattle.rx_dense_image.specs.Rows.{AreWords, are_classes}
 use Rattle.rx_dense_image.specs.StartTables.{start_table_at, start_table_text}
-use Rattle.rx_dense_image.specs.Marks.{are_special, id_pair_at, quit_at, quit_text, special_at, special_ids_at}
+use Rattle.rx_dense_image.specs.Marks.{quit_at, quit_text, special_at}
 use Rattle.rx_dense_image.specs.Marks.{special_text}
 use Rattle.rx_dense_image.proofs.EachBelow.{and_of}
 use Rattle.rx_dense_image.proofs.MarksAgain.{AreSpecialIds, quit_again, special_again}

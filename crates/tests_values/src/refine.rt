@@ -1,5 +1,5 @@
-//! Tests of the refinement on tables worked by hand and on long chains, of row numbers and of ids. The number of steps is
-//! compared with its limit.
+//! Tests of the refinement on tables worked by hand and on long chains, of row numbers and of ids. The number of steps
+//! is compared with its limit.
 //!
 //! The tests assert the requirements of the refinement for each table, so a table can come from anywhere.
 

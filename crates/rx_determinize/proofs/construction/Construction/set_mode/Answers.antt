@@ -8,7 +8,6 @@ use Rattle.rx_determinize.specs.Filling.{IsEntering}
 use Rattle.rx_determinize.proofs.ContinuesLaws.{continues_none, continues_twice, refused_later}
 use Rattle.rx_determinize.proofs.ModeLaws.{context_set, mode_reached, starts_later}
 use Rattle.rx_determinize.proofs.StartLaws.{SetsStart, context_at, start_continues, start_set}
-use Rattle.rx_determinize.proofs.construction.Construction.set_mode.Goals.{After-set_start_state}
 use Rattle.rx_determinize.proofs.construction.Construction.set_mode.Goals as goal
 
 pub contexts-init : goal.contexts-init

@@ -9,7 +9,8 @@ use Rattle.rx_expr.specs.Nfa.{meaning}
 use Rattle.rx_determinize.specs.Constructions.{Continues, work_of}
 use Rattle.rx_determinize.specs.Filling.{IsEntering}
 use Rattle.rx_determinize.proofs.ContinuesLaws.{continues_twice, refused_later}
-use Rattle.rx_determinize.proofs.ModeLaws.{entries_with, entries_without, starts_at_no, starts_at_pattern, starts_at_yes}
+use Rattle.rx_determinize.proofs.ModeLaws.{entries_with, entries_without, starts_at_no, starts_at_pattern}
+use Rattle.rx_determinize.proofs.ModeLaws.{starts_at_yes}
 use Rattle.rx_determinize.proofs.ModeLaws.{entries_twelve, starts_later}
 use Rattle.rx_determinize.proofs.construction.Construction.set_starts.Goals.{In_ok-set_mode-2}
 use Rattle.rx_determinize.proofs.construction.Construction.set_starts.Goals as goal

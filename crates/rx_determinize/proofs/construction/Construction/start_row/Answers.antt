@@ -20,8 +20,8 @@ pub returns-in_default-clause-found : goal.returns-in_default-clause-found
 returns-in_default-clause-found c =
     let w = work_of c.args.self.now in
     let l = c.args.dfa.now in
-    let found : FindsRow w l dead w l 0 = found_before refl c.requires.serves (zero_row l) (dead_id c.requires.serves.rows)
-    in
+    let serves = c.requires.serves in
+    let found : FindsRow w l dead w l 0 = found_before refl serves (zero_row l) (dead_id serves.rows) in
     subst (λ (row : Option ℕ). FindsRow w l (start_node w.stepping.nfa row c.args.start) w l 0) (sym c.in_default.is)
     found
 

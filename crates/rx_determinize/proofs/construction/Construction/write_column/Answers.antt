@@ -4,7 +4,8 @@ use Rattle.rx_dense.specs.Builder.{with_next}
 use Rattle.rx_dense.proofs.Rows.{IsId-row_id}
 use Rattle.rx_stepper.specs.Stepping.{unit_of}
 use Rattle.rx_determinize.specs.Constructions.{work_of}
-use Rattle.rx_determinize.proofs.ContinuesLaws.{continues_found, continues_over, continues_twice, started_over, written_over}
+use Rattle.rx_determinize.proofs.ContinuesLaws.{continues_found, continues_over, continues_twice, started_over}
+use Rattle.rx_determinize.proofs.ContinuesLaws.{written_over}
 use Rattle.rx_determinize.proofs.ColumnLaws.{unit_is, units_count}
 use Rattle.rx_determinize.proofs.SteppingLaws.{row_there, stepped_on}
 use Rattle.rx_determinize.proofs.construction.Construction.write_column.Goals.{Start}
