@@ -234,7 +234,7 @@ module _ (l : Layout) (read : IsRead l) (facts : AreClosed l) where
         arith,
         facts.list_count,
         range_place l.special.min_match l.special.max_match id
-        (match_range l.special read.marks.special) test,
+            (match_range l.special read.marks.special) test,
       ))
 
   list_some : (i : ℕ) → is_list l i ≡ true → 0 < length (patterns_at l i)
@@ -288,7 +288,7 @@ module _ (l : Layout) (read : IsRead l) (facts : AreClosed l) where
         arith,
         facts.accel_count,
         range_place l.special.min_accel l.special.max_accel id
-        (accel_range l.special read.marks.special) test,
+            (accel_range l.special read.marks.special) test,
       ))
 
   -- the needles that are kept for an accelerated row

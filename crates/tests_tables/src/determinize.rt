@@ -28,7 +28,10 @@ fn check_built(rt: &impl Abort, alloc: Global, way: &Case<'_>, texts: &[&str]) -
             patterns: *patterns,
             ..*way
         };
-        assert!(rt; refused(alloc, &case, Config::new())?.is_none(), "{patterns}");
+        assert!(rt;
+            refused(alloc, &case, Config::new())?.is_none(),
+            "{patterns}"
+        );
     }
     Ok(())
 }
