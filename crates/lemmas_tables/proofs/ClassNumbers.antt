@@ -1,7 +1,7 @@
 -- The numbers of byte classes, by any test of where they end: columns, least bytes, strides.
+use Rattle.std.proofs.lemmas.Grind.{common_steps}
 use Rattle.std.proofs.Common.{◌≡◌, ℕ, zero, suc, ◌+◌, ◌<◌, ◌≤◌, ◌^◌, ⊎_elim, Bool, true, false, if◌then◌else◌, List, []}
-use Rattle.std.proofs.Common.{◌∷◌}
-use Rattle.std.proofs.Common.{◌++◌, length, get_or, refl, ap, sym, ◌∙◌, subst, arith, append-nil}
+use Rattle.std.proofs.Common.{◌∷◌, ◌++◌, length, get_or, refl, ap, sym, ◌∙◌, subst, arith, append-nil}
 use Rattle.std.specs.Prelude.{filter, All, nat_le, slice_index}
 use Rattle.std.specs.List.{range_with_len}
 use Rattle.std.specs.List.Sorted.{IsStrictlyIncreasing}
@@ -35,15 +35,10 @@ module _ (ends : ℕ → Bool) where
   class_rises b = omega (arith, class_suc b)
 
   pub class_step : (b : ℕ) → class_by ends (suc b) ≤ class_by ends b + 1
-  class_step b =
-      by_test (ends b)
-      (λ e. omega (arith, class_moves b e))
-      (λ e. omega (arith, class_stays b e))
+  class_step b = grind (arith, common_steps, by_test, class_moves, class_stays)
 
   pub class_below : (a b : ℕ) → a ≤ b → class_by ends a ≤ class_by ends b
-  class_below a zero h =
-      let e : a ≡ 0 = omega arith in
-      subst (λ c. class_by ends c ≤ class_by ends 0) (sym e) (omega arith)
+  class_below a zero h = grind (arith, common_steps)
   class_below a (suc b) h =
       ⊎_elim
       (λ (e : a ≡ suc b). subst (λ c. class_by ends c ≤ class_by ends (suc b)) (sym e) (omega arith))
@@ -83,17 +78,10 @@ module _ (ends : ℕ → Bool) where
   -- ---- columns
 
   pub column_of_byte : (b : ℕ) → b < 256 → column_by ends b ≡ class_by ends b
-  column_of_byte b h =
-      ap (λ (is : Bool). if is then class_by ends 255 + 1 else class_by ends b) (ne_eqb b 256 (λ e. omega arith))
+  column_of_byte b h = grind (arith, common_steps, ne_eqb)
 
   pub column_below : (unit : ℕ) → unit < 257 → column_by ends unit < alphabet_by ends
-  column_below unit h =
-      ⊎_elim
-      (λ (e : unit ≡ 256). subst (λ u. column_by ends u < alphabet_by ends) (sym e) (omega arith))
-      (λ (ne : unit ≡ 256 → ⊥).
-      let below : unit < 256 = omega arith in
-      omega (arith, column_of_byte unit below, class_below unit 255 (omega arith)))
-      (cases_eq unit 256)
+  column_below unit h = grind (arith, common_steps, column_of_byte, class_below, cases_eq)
 
   pub column_used : (column : ℕ) → column < alphabet_by ends
       → (unit : ℕ) × (unit < 257) × (column_by ends unit ≡ column)
@@ -131,14 +119,7 @@ module _ (ends : ℕ → Bool) where
     classes : (k : ℕ) → k < length bytes → class_by ends (get_or bytes k 0) ≡ k
 
   are_least : (b : ℕ) → AreLeast b (least_below ends (b + 1))
-  are_least zero = subst (AreLeast 0) (sym (least_more 0)) at_zero
-    where
-      at_zero : AreLeast 0 (0 ∷ [])
-      at_zero = record { count = omega (arith, class_zero ends); classes = only_zero }
-        where
-          only_zero : (k : ℕ) → k < 1 → class_by ends (get_or (0 ∷ []) k 0) ≡ k
-          only_zero zero h = class_zero ends
-          only_zero (suc k) h = absurd (omega arith)
+  are_least zero = grind (arith, common_steps, least_more, class_zero)
   are_least (suc b) =
       let before = are_least b in
       let one : suc b ≡ b + 1 = omega arith in
@@ -203,12 +184,7 @@ module _ (ends : ℕ → Bool) where
   -- none below it has its class
   begins_above : (b a : ℕ) → begins_class ends b ≡ true → class_by ends a ≡ class_by ends b → b ≤ a
   begins_above zero a begins same = omega arith
-  begins_above (suc b) a begins same =
-      ⊎_elim
-      (λ (below : a < suc b).
-      absurd (omega (arith, class_moves ends b begins, class_below ends a b (omega arith))))
-      (λ (above : suc b ≤ a). above)
-      (cases_lt a (suc b))
+  begins_above (suc b) a begins same = grind (arith, common_steps, class_moves, class_below, cases_lt)
 
   pub representative_least : (k a : ℕ) → k < length (representatives ends) → class_by ends a ≡ k
       → slice_index (representatives ends) k ≤ a
@@ -237,12 +213,7 @@ record IsExponent (len k more exponent : ℕ) : Type 0 where
 
 exponent_is : (len k more : ℕ) → IsExponent len k more (least_exponent len k more)
 unfolding least_exponent
-exponent_is len k zero = record {
-  from = omega arith;
-  upto = omega arith;
-  holds = λ h. absurd (omega arith);
-  least = λ j low high. absurd (omega arith);
-}
+exponent_is len k zero = grind (arith, common_steps)
 exponent_is len k (suc more) =
     by_test (nat_le len (2 ^ k))
     (λ e. rw e record {
@@ -268,36 +239,10 @@ exponent_is len k (suc more) =
 
 -- the stride of an alphabet holds it, no lower power of two does, and its exponent is 1 to 9
 pub stride_holds : (len : ℕ) → len ≤ 512 → len ≤ 2 ^ stride2_of len
-stride_holds len small =
-    let h = exponent_is len 0 9 in
-    let k = stride2_of len in
-    ⊎_elim
-    (λ (below : k < 9). h.holds below)
-    (λ (top : 9 ≤ k).
-    let high = h.upto in
-    let nine : k ≡ 9 = omega arith in
-    subst (λ i. len ≤ 2 ^ i) (sym nine) small)
-    (cases_lt k 9)
+stride_holds len small = grind (arith, common_steps, exponent_is, cases_lt)
 
 pub stride_least : (len k : ℕ) → len ≤ 2 ^ k → stride2_of len ≤ k
-stride_least len k holds =
-    ⊎_elim
-    (λ (below : k < stride2_of len).
-    let under = (exponent_is len 0 9).least k (omega arith) below in
-    absurd (omega arith))
-    (λ (upto : stride2_of len ≤ k). upto)
-    (cases_lt k (stride2_of len))
+stride_least len k holds = grind (arith, common_steps, exponent_is, cases_lt)
 
 pub stride_within : (len : ℕ) → 2 ≤ len → (1 ≤ stride2_of len) × (stride2_of len ≤ 9)
-stride_within len two =
-    let h = exponent_is len 0 9 in
-    let high = h.upto in
-    let k = stride2_of len in (
-      ⊎_elim
-          (λ (none : k ≡ 0).
-          let one : len ≤ 2 ^ 0 = subst (λ i. len ≤ 2 ^ i) none (h.holds (omega arith)) in
-          absurd (omega arith))
-          (λ (ne : k ≡ 0 → ⊥). let some : 1 ≤ k = omega arith in some)
-          (cases_eq k 0),
-      omega arith,
-    )
+stride_within len two = grind (arith, common_steps, exponent_is, cases_eq)

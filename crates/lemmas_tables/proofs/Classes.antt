@@ -1,21 +1,19 @@
 -- Bytes of one class lead every node to one node, and so do units of one column.
-use Rattle.std.proofs.Common.{◌≡◌, ℕ, zero, suc, ◌+◌, ◌*◌, ◌<◌, ◌≤◌, ◌==◌, ◌&&◌, ◌||◌, ⊎_elim, Bool, true, false}
-use Rattle.std.proofs.Common.{if◌then◌else◌, List, [], ◌∷◌, ◌++◌, length, refl, ap, ap₂, sym, ◌∙◌, arith}
-use Rattle.std.proofs.Common.{Some}
+use Rattle.std.proofs.Common.{rules, ◌≡◌, ℕ, zero, suc, ◌+◌, ◌*◌, ◌<◌, ◌≤◌, ◌==◌, ◌&&◌, ◌||◌, ⊎_elim, Bool, true, false}
+use Rattle.std.proofs.Common.{if◌then◌else◌, List, [], ◌∷◌, ◌++◌, length, refl, ap, ap₂, sym, ◌∙◌, arith, Some}
+use Rattle.std.proofs.lemmas.Grind.{common_steps}
 use Rattle.std.specs.List.{list_any, flat_map, AllByRecursion as Every}
 use Rattle.std.proofs.lemmas.Bool.{or_parts, cases_eq, cases_lt}
 use Rattle.rx_spec.specs.Bytes.{contains, is_word}
 use Rattle.rx_spec.specs.Looks.{differ}
-use Rattle.rx_spec.specs.Contexts.{Facts, facts_of, unit_facts, both, either_of, holds_by, holds_read, facts_read}
-use Rattle.rx_spec.specs.Contexts.{row_reads, facts_kept, no_facts}
+use Rattle.rx_spec.specs.Contexts.{Facts, facts_of, unit_facts, both, either_of, holds_read, facts_read, row_reads}
+use Rattle.rx_spec.specs.Contexts.{facts_kept}
 use Rattle.rx_spec.specs.Rows.{Row}
 use Rattle.rx_spec.specs.Nfas.{Nfa}
 use Rattle.rx_spec.specs.Classes.{class_by, column_by, parts, facts_part, row_parts, parts_next, ends_class}
-use Rattle.rx_spec.specs.States.{row_at, Standing, Tested, reach, reach_by, closure, firsts, State, context_of_rows}
-use Rattle.rx_spec.specs.States.{state_at}
-use Rattle.rx_spec.specs.States.{is_look_row}
-use Rattle.rx_spec.specs.States.{holds_before, decided_rows, pattern_of, cut, target, step}
-use Rattle.rx_spec.specs.Builds.{Build, Node, next_node, is_dead_state, dead}
+use Rattle.rx_spec.specs.States.{row_at, Tested, reach, reach_by, closure, firsts, State, context_of_rows, state_at}
+use Rattle.rx_spec.specs.States.{holds_before, decided_rows, pattern_of, target, step}
+use Rattle.rx_spec.specs.Builds.{Build, Node, next_node}
 use Rattle.rx_spec.specs.declared.Direction.{Direction}
 use Rattle.rx_spec.specs.declared.Look.{Look}
 use Rattle.rx_spec.specs.declared.MatchKind.{MatchKind}
@@ -60,11 +58,7 @@ fact_alike false test a b h none = refl
 -- none of four tests, joined as they are for the facts of a byte
 none_of_four : (a b c d : Bool) → (a || b || c || d) ≡ false
     → (a ≡ false) × (b ≡ false) × (c ≡ false) × (d ≡ false)
-none_of_four a b c d e =
-    let last = or_parts (a || b || c) d e in
-    let third = or_parts (a || b) c last.0 in
-    let two = or_parts a b third.0 in
-    (two.0, two.1, third.1, last.1)
+none_of_four a b c d e = grind (arith, common_steps, or_parts)
 
 abbrev ends_of_facts : ℕ → Facts → ℕ → (Bool × Bool × Bool × Bool)
 ends_of_facts t read x = (
@@ -128,12 +122,7 @@ turned_row t a b (Row.Match pattern) h = tt
 turned_row t a b Row.Fail h = tt
 
 turned : (nfa : Nfa) (quit a b : ℕ) → AreAlike nfa quit a b → AreAlike nfa quit b a
-turned nfa quit a b h = record {
-  quits = sym h.quits;
-  rows =
-      every-weaker (RowAlike nfa.line_terminator a b) (RowAlike nfa.line_terminator b a) nfa.rows
-      (turned_row nfa.line_terminator a b) h.rows;
-}
+turned nfa quit a b h = grind (arith, common_steps, every-weaker, turned_row)
 
 pub class_alike : (nfa : Nfa) (quit a b : ℕ)
     → class_by (ends_class nfa quit true) a ≡ class_by (ends_class nfa quit true) b → AreAlike nfa quit a b
@@ -149,23 +138,7 @@ class_alike nfa quit a b same =
 -- the facts of both that are kept
 both_either : (k r x y : Facts) → both k x ≡ both k y → both r x ≡ both r y
     → both (either_of k r) x ≡ both (either_of k r) y
-both_either k r x y e f =
-    split k r x ∙ ap₂ either_of e f ∙ sym (split k r y)
-  where
-    and_or : (a b c : Bool) → ((a || b) && c) ≡ ((a && c) || (b && c))
-    and_or true b true = refl
-    and_or true true false = refl
-    and_or true false false = refl
-    and_or false b c = refl
-
-    split : (k r x : Facts) → both (either_of k r) x ≡ either_of (both k x) (both r x)
-    split k r x =
-        let text = and_or k.text r.text x.text in
-        let terminator = and_or k.line_terminator r.line_terminator x.line_terminator in
-        let lf = and_or k.lf r.lf x.lf in
-        let cr = and_or k.cr r.cr x.cr in
-        let word = and_or k.word r.word x.word in
-        cc
+both_either k r x y e f = grind (arith, common_steps)
 
 kept_row : (t a b : ℕ) (row : Row) → RowAlike t a b row
     → both (row_reads row) (facts_of t (Some a)) ≡ both (row_reads row) (facts_of t (Some b))
@@ -190,26 +163,14 @@ row_of_any P fail (row ∷ rows) zero h = h.0
 row_of_any P fail (row ∷ rows) (suc q) h = row_of_any P fail rows q h.1
 
 covers_itself : (k : Facts) → Cover k k
-covers_itself k = record {
-  text = λ h. h;
-  line_terminator = λ h. h;
-  lf = λ h. h;
-  cr = λ h. h;
-  word = λ h. h;
-}
+covers_itself k = grind (arith, common_steps)
 
 -- an assertion that reads the same of two neighbours
 holds_alike : (direction : Direction) (look : Look) (last x y : Facts)
     → both (facts_read look) x ≡ both (facts_read look) y → holds_read direction look last x
     ≡ holds_read direction look last y
-holds_alike Direction.Forward look last x y e =
-    let k = facts_read look in
-    sym (kept_after look k last x (covers_itself k)) ∙ ap (holds_by look last) e
-    ∙ kept_after look k last y (covers_itself k)
-holds_alike Direction.Reverse look last x y e =
-    let k = facts_read look in
-    sym (kept_before look k x last (covers_itself k)) ∙ ap (λ z. holds_by look z last) e
-    ∙ kept_before look k y last (covers_itself k)
+holds_alike Direction.Forward look last x y e = grind (arith, common_steps, kept_after, covers_itself)
+holds_alike Direction.Reverse look last x y e = grind (arith, common_steps, kept_before, covers_itself)
 
 -- tests of assertions that agree on those of a list of rows
 abbrev LookAlike : (Look → Bool) → (Look → Bool) → Row → Type 0
@@ -237,24 +198,10 @@ module _ {nfa : Nfa} {quit a b : ℕ} (byte_a : a < 256) (byte_b : b < 256) (ali
   facts_same : (read : Facts)
       → both read (facts_of nfa.line_terminator (Some a)) ≡ both read (facts_of nfa.line_terminator (Some b))
       → both read (unit_facts nfa.line_terminator a) ≡ both read (unit_facts nfa.line_terminator b)
-  facts_same read e =
-      let t = nfa.line_terminator in
-      ap (both read) (unit_knows t a byte_a) ∙ e ∙ sym (ap (both read) (unit_knows t b byte_b))
+  facts_same read e = grind (arith, common_steps, unit_knows)
 
   looks_same : (s : State) → Every (LookAlike (holds_before nfa a s) (holds_before nfa b s)) nfa.rows
-  looks_same s =
-      every-weaker (RowAlike nfa.line_terminator a b) (LookAlike (holds_before nfa a s) (holds_before nfa b s)) nfa.rows
-      each alike.rows
-    where
-      each : (row : Row) → RowAlike nfa.line_terminator a b row
-          → LookAlike (holds_before nfa a s) (holds_before nfa b s) row
-      each (Row.Bytes set next) h = tt
-      each (Row.Split first second) h = tt
-      each (Row.Look look next) h =
-          let t = nfa.line_terminator in
-          holds_alike nfa.direction look s.context (unit_facts t a) (unit_facts t b) (facts_same (facts_read look) h)
-      each (Row.Match pattern) h = tt
-      each Row.Fail h = tt
+  looks_same s = grind (arith, common_steps, every-weaker, holds_alike, facts_same)
 
   decided_same : (s : State) → decided_rows nfa a s ≡ decided_rows nfa b s
   decided_same s =
@@ -264,23 +211,12 @@ module _ {nfa : Nfa} {quit a b : ℕ} (byte_a : a < 256) (byte_b : b < 256) (ali
       (λ q. reach_alike nfa.rows f g (looks_same s) (length nfa.rows * length nfa.rows + 1) q))
 
   target_same : (q : ℕ) → target a (row_at nfa.rows q) ≡ target b (row_at nfa.rows q)
-  target_same q =
-      at_row (row_at nfa.rows q) (row_of_any (RowAlike nfa.line_terminator a b) tt nfa.rows q alike.rows)
-    where
-      at_row : (row : Row) → RowAlike nfa.line_terminator a b row → target a row ≡ target b row
-      at_row (Row.Bytes set next) e = ap (λ (is : Bool). if is then next ∷ [] else []) e
-      at_row (Row.Split first second) e = refl
-      at_row (Row.Look look next) e = refl
-      at_row (Row.Match pattern) e = refl
-      at_row Row.Fail e = refl
+  target_same q = grind (arith, common_steps, row_of_any)
 
   context_same : (qs : List ℕ)
       → context_of_rows nfa qs (unit_facts nfa.line_terminator a)
       ≡ context_of_rows nfa qs (unit_facts nfa.line_terminator b)
-  context_same qs =
-      let kept = kept_alike nfa.line_terminator a b nfa.rows alike.rows in
-      ap (λ (facts : Facts). if list_any (λ q. is_look_row (row_at nfa.rows q)) qs then facts else no_facts)
-      (facts_same (facts_kept nfa.rows) kept)
+  context_same qs = grind (arith, common_steps, kept_alike, facts_same)
 
   -- the state that a step leads to, by its parts
   abbrev stepped : List ℕ → List ℕ → ℕ → State
@@ -289,61 +225,24 @@ module _ {nfa : Nfa} {quit a b : ℕ} (byte_a : a < 256) (byte_b : b < 256) (ali
 
   pub step_alike : (kind : MatchKind) (s : State) → step nfa kind s a ≡ step nfa kind s b
   unfolding step
-  step_alike kind s =
-      let f = λ (q : ℕ). target a (row_at nfa.rows q) in
-      let g = λ (q : ℕ). target b (row_at nfa.rows q) in
-      let qs = cut kind nfa.rows (decided_rows nfa b s) in
-      let label = flat_map (λ q. pattern_of (row_at nfa.rows q)) qs in
-      let rows = firsts (flat_map (λ q. closure nfa.rows Standing q) (flat_map g qs)) in
-      ap (λ ds. let qs = cut kind nfa.rows ds in stepped qs (flat_map f qs) a) (decided_same s)
-      ∙ ap (λ targets. stepped qs targets a) (flat_map-alike f g qs target_same)
-      ∙ ap (λ (facts : Facts). state rows facts label) (context_same rows)
-    where
-      state : List ℕ → Facts → List ℕ → State
-      state rows facts label = record { rows = rows; context = facts; label = label }
+  step_alike kind s = search (rules, decided_same, flat_map-alike, target_same, context_same)
 
 -- bytes that nothing tells apart lead every node to one node
 pub next_alike : (b : Build) (node : Node) {x y : ℕ} → x < 256 → y < 256 → AreAlike b.nfa b.quit x y
     → next_node b node x ≡ next_node b node y
 next_alike b Node.Quit below_x below_y alike = refl
-next_alike b (Node.Running s) {x} {y} below_x below_y alike =
-    let by = λ (quits : Bool) (to : State).
-    if is_dead_state s then dead else (if quits then Node.Quit else Node.Running to) in
-    ap₂ by alike.quits (step_alike below_x below_y alike b.kind s)
+next_alike b (Node.Running s) {x} {y} below_x below_y alike = grind (arith, common_steps, step_alike)
 
 -- and so do bytes of one class,
 pub class_leads : (b : Build) (byte_classes : Bool) (node : Node) (x y : ℕ) → x < 256 → y < 256
     → class_by (ends_class b.nfa b.quit byte_classes) x ≡ class_by (ends_class b.nfa b.quit byte_classes) y
     → next_node b node x ≡ next_node b node y
-class_leads b true node x y below_x below_y same =
-    next_alike b node below_x below_y (class_alike b.nfa b.quit x y same)
-class_leads b false node x y below_x below_y same =
-    let all = class_of_all (ends_class b.nfa b.quit false) (λ n. refl) in
-    ap (next_node b node) (sym (all x) ∙ same ∙ all y)
+class_leads b true node x y below_x below_y same = grind (arith, common_steps, next_alike, class_alike)
+class_leads b false node x y below_x below_y same = grind (arith, common_steps, class_of_all)
 
 -- and units of one column.
 pub column_leads : (b : Build) (byte_classes : Bool) (node : Node) (x y : ℕ) → x < 257 → y < 257
     → column_by (ends_class b.nfa b.quit byte_classes) x ≡ column_by (ends_class b.nfa b.quit byte_classes) y
     → next_node b node x ≡ next_node b node y
 column_leads b byte_classes node x y below_x below_y same =
-    let ends = ends_class b.nfa b.quit byte_classes in
-    ⊎_elim
-    (λ (end_x : x ≡ 256).
-    ⊎_elim
-    (λ (end_y : y ≡ 256). ap (next_node b node) (end_x ∙ sym end_y))
-    (λ (ne : y ≡ 256 → ⊥). absurd (only_end ends y (omega arith) (ap (column_by ends) (sym end_x) ∙ same)))
-    (cases_eq y 256))
-    (λ (nx : x ≡ 256 → ⊥).
-    ⊎_elim
-    (λ (end_y : y ≡ 256). absurd (only_end ends x (omega arith) (ap (column_by ends) (sym end_y) ∙ sym same)))
-    (λ (ne : y ≡ 256 → ⊥).
-    let low_x : x < 256 = omega arith in
-    let low_y : y < 256 = omega arith in
-    class_leads b byte_classes node x y low_x low_y
-    (sym (column_of_byte ends x low_x) ∙ same ∙ column_of_byte ends y low_y))
-    (cases_eq y 256))
-    (cases_eq x 256)
-  where
-    -- the end mark shares its column with no byte
-    only_end : (ends : ℕ → Bool) (n : ℕ) → n < 256 → column_by ends 256 ≡ column_by ends n → ⊥
-    only_end ends n below e = omega (arith, column_of_byte ends n below, class_below ends n 255 (omega arith), e)
+    grind (arith, common_steps, cases_eq, class_leads, column_of_byte, class_below)

@@ -1,7 +1,7 @@
 -- The members of a list that pass a test, and of a range of numbers.
+use Rattle.std.proofs.lemmas.Grind.{common_steps}
 use Rattle.std.proofs.Common.{◌≡◌, ℕ, zero, suc, ◌+◌, ◌-◌, ◌<◌, ◌≤◌, Bool, true, false, List, [], ◌∷◌, refl, ap, sym}
-use Rattle.std.proofs.Common.{◌∙◌}
-use Rattle.std.proofs.Common.{subst, ⊎_elim, arith}
+use Rattle.std.proofs.Common.{◌∙◌, subst, ⊎_elim, arith}
 use Rattle.std.specs.Prelude.{Contains, filter, cond}
 use Rattle.std.specs.List.{range_with_len, AllByRecursion as Every}
 use Rattle.std.specs.List.Sorted.{IsStrictlyIncreasing}
@@ -38,10 +38,7 @@ filter_alike p q (x ∷ xs) same =
     ∙ ap (λ rest. cond (q x) (x ∷ rest) rest) (filter_alike p q xs same.1)
 
 pub range_within : (a n x : ℕ) → Contains (range_with_len a n) x → (a ≤ x) × (x < a + n)
-range_within a n x (k, h, e) =
-    let l = length-range_with_len a n in
-    let is : x ≡ a + k = sym e ∙ get_or-range_with_len a n k x (omega arith) in
-    (omega arith, omega arith)
+range_within a n x (k, h, e) = grind (arith, common_steps, length-range_with_len, get_or-range_with_len)
 
 pub range_has : (a n x : ℕ) → a ≤ x → x < a + n → Contains (range_with_len a n) x
 range_has a n x low high =
@@ -58,10 +55,4 @@ every_in_range P a (suc n) f = (
 )
 
 pub range_rises : (a n : ℕ) → IsStrictlyIncreasing (range_with_len a n)
-range_rises a n k h =
-    let l = length-range_with_len a n in
-    omega (
-      arith,
-      get_or-range_with_len a n k 0 (omega arith),
-      get_or-range_with_len a n (k + 1) 0 (omega arith),
-    )
+range_rises a n k h = grind (arith, common_steps, length-range_with_len, get_or-range_with_len)

@@ -1,6 +1,7 @@
 -- Rows and their ids: the one names the other, and those of a dense table are multiples of its stride.
-use Rattle.std.proofs.Common.{◌≡◌, ℕ, ◌+◌, ◌*◌, ◌^◌, ◌<◌, ◌==◌, ◌⊎◌, Some, None, Bool, if◌then◌else◌, List}
-use Rattle.std.proofs.Common.{length, refl, ap, sym, ◌∙◌, ⊎_elim, arith}
+use Rattle.std.proofs.lemmas.Grind.{common_steps}
+use Rattle.std.proofs.Common.{◌≡◌, ℕ, ◌*◌, ◌^◌, ◌<◌, ◌==◌, ◌⊎◌, Some, None, Bool, if◌then◌else◌, List, length, refl, ap}
+use Rattle.std.proofs.Common.{sym, ◌∙◌, ⊎_elim, arith}
 use Rattle.std.specs.Prelude.{Contains, unwrap_or, nat_lt}
 use Rattle.std.specs.List.{position_or_len}
 use Rattle.std.proofs.lemmas.Bool.{ne_eqb, eq-eqb, lt-ltb, cases_order}
@@ -51,20 +52,7 @@ id_of-row_of {size} {ids} are id (k, h, e) =
 -- ---- dense tables
 
 pub id_of-dense : (size stride2 row : ℕ) → row < size → id_of (dense_ids size stride2) row ≡ row * 2 ^ stride2
-id_of-dense size stride2 row h =
-    let none : 0 + row ≡ row = omega arith in
-    get_or-map-range_with_len (λ r. r * 2 ^ stride2) 0 size row row 0 h none
+id_of-dense size stride2 row h = grind (arith, common_steps, get_or-map-range_with_len)
 
 pub dense_are_ids : (size stride2 : ℕ) → AreIds size (dense_ids size stride2)
-dense_are_ids size stride2 = record {
-  count = length-map-range_with_len (λ r. r * 2 ^ stride2) 0 size;
-  rising = λ k h.
-      let n = length-map-range_with_len (λ r. r * 2 ^ stride2) 0 size in
-      let next : (k + 1) * 2 ^ stride2 ≡ k * 2 ^ stride2 + 2 ^ stride2 = omega arith in
-      omega (
-        arith,
-        id_of-dense size stride2 k (omega arith),
-        id_of-dense size stride2 (k + 1) (omega arith),
-        pow_pos stride2,
-      );
-}
+dense_are_ids size stride2 = grind (arith, common_steps, length-map-range_with_len, id_of-dense, pow_pos)

@@ -1,6 +1,7 @@
 -- The matches one after another: they rise, and no bound cuts anything off.
-use Rattle.std.proofs.Common.{◌≡◌, ℕ, zero, suc, ◌+◌, ◌-◌, ◌<◌, ◌≤◌, ◌==◌, true, false, Option, Some, None, List}
-use Rattle.std.proofs.Common.{[], ◌∷◌, refl, ap, sym, ◌∙◌, subst, arith, ⊎_elim}
+use Rattle.std.proofs.lemmas.Grind.{common_steps}
+use Rattle.std.proofs.Common.{◌≡◌, ℕ, zero, suc, ◌+◌, ◌-◌, ◌<◌, ◌≤◌, true, false, Option, Some, None, List, [], refl}
+use Rattle.std.proofs.Common.{ap, sym, ◌∙◌, subst, arith}
 use Rattle.std.specs.Prelude.{Ok, Err, All, AllPairs}
 use Rattle.std.proofs.lemmas.Bool.{lt-ltb, eq-eqb, and_from, cases_eq}
 use Rattle.std.proofs.lemmas.List.Elements.{All-nil, All-cons, All-weaker}
@@ -41,62 +42,11 @@ module _ {search : Query → Answer} (orderly : IsOrderly search) where
   not_repeated : (q : Query) (last_end : Option ℕ) (m : Match) → LiesIn q m → is_repeat last_end m ≡ false
       → IsNext q last_end m
   not_repeated q None m lies e = record { lies = lies; later = λ same. absurd (cc) }
-  not_repeated q (Some last) m lies e = record {
-    lies = lies;
-    later = λ same.
-        ⊎_elim
-        (λ (here : m.end ≡ q.start). absurd (repeats here (some_same same)))
-        (λ (ne : m.end ≡ q.start → ⊥).
-        let low = lies.from in
-        let mid = lies.ordered in
-        let above : q.start < m.end = omega arith in
-        above)
-        (cases_eq m.end q.start);
-  }
-    where
-      some_same : Some last ≡ Some q.start → last ≡ q.start
-      some_same same = cc
-
-      repeats : m.end ≡ q.start → last ≡ q.start → ⊥
-      repeats here same =
-          let low = lies.from in
-          let mid = lies.ordered in
-          let empty : m.start ≡ m.end = omega arith in
-          let at_last : m.end ≡ last = omega arith in
-          let is : is_repeat (Some last) m ≡ true =
-          and_from (m.start == m.end) (m.end == last) (eq-eqb m.start m.end empty) (eq-eqb m.end last at_last) in
-          cc
+  not_repeated q (Some last) m lies e = grind (arith, common_steps, cases_eq, and_from, eq-eqb)
 
   next_is : (q : Query) (last_end : Option ℕ) (m : Match) → told_next search q last_end ≡ Ok (Some m)
       → IsNext q last_end m
-  next_is q last_end m e = by_answer (search q) refl e
-    where
-      found_same : (x y : Match) → Some x ≡ Some y → x ≡ y
-      found_same x y e = cc
-
-      told_same : (x y : Option Match) → Path Answer (Ok x) (Ok y) → x ≡ y
-      told_same x y e = cc
-
-      by_answer : (answer : Answer) → search q ≡ answer → unless_repeat search q last_end answer ≡ Ok (Some m)
-          → IsNext q last_end m
-      by_answer (Ok None) is e = absurd (cc)
-      by_answer (Err error) is e = absurd (cc)
-      by_answer (Ok (Some found)) is e =
-          by_test (is_repeat last_end found)
-          (λ again.
-          let later = record q { start = q.start + 1 } in
-          let lies = orderly.lies later m (rw again at e) in
-          let low = lies.from in
-          let mid = lies.ordered in
-          let high = lies.upto in
-          record {
-            lies = record { from = omega arith; ordered = mid; upto = high };
-            later = λ same. omega arith;
-          })
-          (λ kept.
-          let same : Path Answer (Ok (Some found)) (Ok (Some m)) = rw kept at e in
-          subst (IsNext q last_end) (found_same found m (told_same (Some found) (Some m) same))
-          (not_repeated q last_end found (orderly.lies q found is) kept))
+  next_is q last_end m e = grind (arith, common_steps, by_test, not_repeated)
 
   -- ---- no bound cuts anything off
 
@@ -113,31 +63,20 @@ module _ {search : Query → Answer} (orderly : IsOrderly search) where
 
   done_turn : (n : ℕ) (q : Query) (last_end : Option ℕ) → q.end < q.start
       → iterate_from search (suc n) q last_end ≡ record { matches = []; error = None }
-  done_turn n q last_end past =
-      let done = orderly.none_when_done q (lt-ltb q.end q.start past) in
-      turn n q last_end
-      ∙ ap (λ answer. and_then (unless_repeat search q last_end answer)
-      (λ found. iterate_from search n (from_end q found) (Some found.end))) done
+  done_turn n q last_end past = grind (arith, common_steps, lt-ltb, turn)
 
   -- two ways to go on that are the same after what is found
   and_then_alike : (answer : Answer) (f g : Match → FoundMatches)
       → ((m : Match) → answer ≡ Ok (Some m) → f m ≡ g m) → and_then answer f ≡ and_then answer g
   and_then_alike (Ok None) f g same = refl
-  and_then_alike (Ok (Some m)) f g same =
-      ap (λ (others : FoundMatches). record { matches = m ∷ others.matches; error = others.error }) (same m refl)
+  and_then_alike (Ok (Some m)) f g same = grind (arith, common_steps)
   and_then_alike (Err error) f g same = refl
 
   turn_alike : (n k : ℕ) (q : Query) (last_end : Option ℕ)
       → ((m : Match) → IsNext q last_end m
       → iterate_from search n (from_end q m) (Some m.end) ≡ iterate_from search k (from_end q m) (Some m.end))
       → iterate_from search (suc n) q last_end ≡ iterate_from search (suc k) q last_end
-  turn_alike n k q last_end same =
-      turn n q last_end
-      ∙ and_then_alike (told_next search q last_end)
-      (λ found. iterate_from search n (from_end q found) (Some found.end))
-      (λ found. iterate_from search k (from_end q found) (Some found.end))
-      (λ m e. same m (next_is q last_end m e))
-      ∙ sym (turn k q last_end)
+  turn_alike n k q last_end same = grind (arith, common_steps, turn, and_then_alike, next_is)
 
   -- where the last match ended at the query's start, the limit is one lower
   one_more_after : (n : ℕ) (q : Query) → q.end + 1 - q.start ≤ n
@@ -162,9 +101,7 @@ module _ {search : Query → Answer} (orderly : IsOrderly search) where
 
   many_more : (more : ℕ) (q : Query) (last_end : Option ℕ)
       → iterate_from search (match_limit q) q last_end ≡ iterate_from search (match_limit q + more) q last_end
-  many_more zero q last_end =
-      let e : match_limit q ≡ match_limit q + 0 = omega arith in
-      ap (λ n. iterate_from search n q last_end) e
+  many_more zero q last_end = grind (arith, common_steps)
   many_more (suc more) q last_end =
       let e : suc (match_limit q + more) ≡ match_limit q + suc more = omega arith in
       many_more more q last_end ∙ one_more (match_limit q + more) q last_end (omega arith)
@@ -182,17 +119,7 @@ module _ {search : Query → Answer} (orderly : IsOrderly search) where
       → iterate_from search (match_limit q) q last_end
       ≡ and_then (told_next search q last_end)
       (λ found. iterate_from search (match_limit (from_end q found)) (from_end q found) (Some found.end))
-  matches_again q last_end =
-      let limit = match_limit q in
-      one_more limit q last_end (omega arith) ∙ turn limit q last_end
-      ∙ and_then_alike (told_next search q last_end)
-      (λ found. iterate_from search limit (from_end q found) (Some found.end))
-      (λ found. iterate_from search (match_limit (from_end q found)) (from_end q found) (Some found.end))
-      (λ m e.
-      let is = next_is q last_end m e in
-      let low = is.lies.from in
-      let mid = is.lies.ordered in
-      matches_uncut limit (from_end q m) (Some m.end) (omega arith))
+  matches_again q last_end = grind (arith, common_steps, one_more, turn, and_then_alike, next_is, matches_uncut)
 
   -- ---- the matches lie in the span, and each is past the ones before it
 
@@ -205,9 +132,7 @@ module _ {search : Query → Answer} (orderly : IsOrderly search) where
 
   matches_are : (n : ℕ) (q : Query) (last_end : Option ℕ)
       → AreMatches q last_end (iterate_from search n q last_end).matches
-  matches_are zero q last_end =
-      subst (λ (found : FoundMatches). AreMatches q last_end found.matches) (sym (no_turn q last_end))
-      record { each = All-nil (IsNext q last_end); rising = λ i j d h k. absurd (omega arith) }
+  matches_are zero q last_end = grind (arith, common_steps, no_turn)
   matches_are (suc n) q last_end =
       subst (λ (found : FoundMatches). AreMatches q last_end found.matches) (sym (turn n q last_end))
       (by_answer (told_next search q last_end) refl (λ m. matches_are n (from_end q m) (Some m.end)))

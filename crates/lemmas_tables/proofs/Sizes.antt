@@ -1,17 +1,16 @@
 -- The sizes that limits are compared with only grow with the states; so one is passed by some states that are
 -- reached exactly where it is passed by all.
-use Rattle.std.proofs.Common.{◌≡◌, ◌≢◌, ℕ, ◌+◌, ◌*◌, ◌<◌, ◌≤◌, ◌↔◌, ◌&&◌, Bool, true, false, if◌then◌else◌, List, []}
-use Rattle.std.proofs.Common.{◌∷◌, length, map, refl, ap, sym, ◌∙◌, subst, arith}
-use Rattle.std.specs.Prelude.{Contains, AllPairs, sum_by, nat_lt}
+use Rattle.std.proofs.Common.{rules, ◌≡◌, ◌≢◌, ℕ, ◌<◌, ◌≤◌, ◌↔◌, ◌&&◌, Bool, true, false, if◌then◌else◌, List, [], ◌∷◌}
+use Rattle.std.proofs.Common.{length, map, refl, ap, sym, subst, arith}
+use Rattle.std.proofs.lemmas.Grind.{common_steps}
+use Rattle.std.specs.Prelude.{Contains, AllPairs, sum_by}
 use Rattle.std.proofs.lemmas.Bool.{lt-ltb, ltb-true}
-use Rattle.std.proofs.lemmas.List.Elements.{All-contains}
 use Rattle.std.proofs.lemmas.List.Sums.{sum_by-cons, sum_by-le-sum_by}
 use Rattle.std.proofs.lemmas.Nat.{mul-le}
 use Rattle.rx_spec.specs.States.{State}
-use Rattle.rx_spec.specs.Builds.{Build, Node, dead, IsReached, AreReached}
-use Rattle.rx_spec.specs.Sizes.{state_size, determinizer_size, label_total, table_size, last_id, build_alphabet}
-use Rattle.rx_spec.specs.Sizes.{leaving_bytes, is_skippable_node, needle_count}
-use Rattle.rx_spec.specs.Sizes.{sparse_row_size, sparse_size, sparse_bound}
+use Rattle.rx_spec.specs.Builds.{Build, Node, dead, AreReached}
+use Rattle.rx_spec.specs.Sizes.{state_size, determinizer_size, label_total, table_size, last_id, leaving_bytes}
+use Rattle.rx_spec.specs.Sizes.{is_skippable_node, needle_count, sparse_row_size, sparse_size, sparse_bound}
 use Rattle.rx_spec.specs.Causes.{Exceeds, Limits, sparse_length}
 use Rattle.lemmas_walks.proofs.Firsts.{by_test}
 use Rattle.lemmas_tables.proofs.Sublists.{sum_by-within, length-within}
@@ -31,31 +30,18 @@ pub labels_grow : OnlyGrows label_total
 labels_grow = sum_by-within (λ s. length s.label)
 
 pub table_grows : (stride entries : ℕ) → OnlyGrows (λ states. table_size (length states) stride entries)
-table_grows stride entries xs ys apart within =
-    let count = count_grows xs ys apart within in
-    let rows : (length xs + 2) * stride ≤ (length ys + 2) * stride =
-    mul-le (length xs + 2) stride (length ys + 2) stride (omega arith) (omega arith) in
-    omega arith
+table_grows stride entries xs ys apart within = grind (arith, common_steps, count_grows, mul-le)
 
 pub ids_grow : (stride : ℕ) → OnlyGrows (λ states. last_id (length states) stride)
-ids_grow stride xs ys apart within =
-    let count = count_grows xs ys apart within in
-    mul-le (length xs + 1) stride (length ys + 1) stride (omega arith) (omega arith)
+ids_grow stride xs ys apart within = grind (arith, common_steps, count_grows, mul-le)
 
 pub bound_grows : (b : Build) (byte_classes : Bool) → OnlyGrows (sparse_bound b byte_classes)
-bound_grows b byte_classes xs ys apart within =
-    let count = count_grows xs ys apart within in
-    let labels = labels_grow xs ys apart within in
-    let row = 6 * build_alphabet b byte_classes + 10 in
-    let rows : (length xs + 2) * row ≤ (length ys + 2) * row =
-    mul-le (length xs + 2) row (length ys + 2) row (omega arith) (omega arith) in
-    omega arith
+bound_grows b byte_classes xs ys apart within = grind (arith, common_steps, count_grows, labels_grow, mul-le)
 
 module _ (b : Build) (byte_classes accelerate : Bool) where
   sum_by-map : {X Y : Type 0} (f : Y → ℕ) (g : X → Y) (xs : List X) → sum_by f (map g xs) ≡ sum_by (λ x. f (g x)) xs
   sum_by-map f g [] = refl
-  sum_by-map f g (x ∷ xs) =
-      omega (arith, sum_by-cons f (g x) (map g xs), sum_by-map f g xs, sum_by-cons (λ y. f (g y)) x xs)
+  sum_by-map f g (x ∷ xs) = grind (arith, common_steps, sum_by-cons)
 
   -- a row has needles only where there is a state
   abbrev needles_where : Node → Bool → ℕ
@@ -64,20 +50,7 @@ module _ (b : Build) (byte_classes accelerate : Bool) where
 
   needles_grow : (xs ys : List State) → length xs ≤ length ys → (node : Node)
       → needle_count b accelerate xs node ≤ needle_count b accelerate ys node
-  needles_grow xs ys count node =
-      by_test (nat_lt 0 (length xs))
-      (λ e.
-      let more = ltb-true 0 (length xs) e in
-      let same : needle_count b accelerate xs node ≡ needle_count b accelerate ys node =
-      ap (needles_where node) (e ∙ sym (lt-ltb 0 (length ys) (omega arith))) in
-      omega arith)
-      (λ e. subst (λ some. needles_where node some ≤ needle_count b accelerate ys node) (sym e) (none accelerate))
-    where
-      none : (wanted : Bool)
-          → (if wanted && false && is_skippable_node b node then length (leaving_bytes b node) else 0)
-          ≤ needle_count b accelerate ys node
-      none true = omega arith
-      none false = omega arith
+  needles_grow xs ys count node = grind (arith, common_steps, by_test, ltb-true, lt-ltb)
 
   row_grows : (xs ys : List State) → length xs ≤ length ys → (node : Node)
       → sparse_row_size b byte_classes accelerate xs node ≤ sparse_row_size b byte_classes accelerate ys node
@@ -123,31 +96,9 @@ length_grows l b =
 
 -- two lists of all states that are reached have one length
 pub reached_count : (b : Build) (xs ys : List State) → AreReached b xs → AreReached b ys → length xs ≡ length ys
-reached_count b xs ys r s =
-    let up = length-within xs ys r.distinct (λ z c. s.all z (All-contains (IsReached b) xs z r.only c)) in
-    let down = length-within ys xs s.distinct (λ z c. r.all z (All-contains (IsReached b) ys z s.only c)) in
-    omega arith
+reached_count b xs ys r s = search (rules, length-within)
 
 -- Some states that are reached pass a limit exactly where all of them do.
 pub exceeds_exactly : (b : Build) (size : List State → ℕ) (limit : ℕ) (states : List State) → OnlyGrows size
     → AreReached b states → Exceeds b size limit ↔ ((0 < length states) × (limit < size states))
-exceeds_exactly b size limit states grows all = (passed, some)
-  where
-    passed : Exceeds b size limit → (0 < length states) × (limit < size states)
-    passed e =
-        let within = λ (s : State) (c : Contains e.states s).
-        all.all s (All-contains (IsReached b) e.states s e.reached c) in
-        let more = grows e.states states e.distinct within in
-        let count = count_grows e.states states e.distinct within in
-        let one = e.some in
-        let over = e.over in
-        (omega arith, omega arith)
-
-    some : (0 < length states) × (limit < size states) → Exceeds b size limit
-    some h = record {
-      states = states;
-      some = h.0;
-      distinct = all.distinct;
-      reached = all.only;
-      over = h.1;
-    }
+exceeds_exactly b size limit states grows all = search (rules, count_grows)

@@ -1,13 +1,13 @@
 -- Matches that split a character are passed over without a bound: from the limit on, no number of turns cuts
 -- anything off.
-use Rattle.std.proofs.Common.{◌≡◌, ℕ, zero, suc, ◌+◌, ◌-◌, ◌≤◌, ◌||◌, Bool, true, false, if◌then◌else◌}
-use Rattle.std.proofs.Common.{Some, None, refl, ap, sym, ◌∙◌, arith}
+use Rattle.std.proofs.lemmas.Grind.{common_steps}
+use Rattle.std.proofs.Common.{◌≡◌, ℕ, zero, suc, ◌+◌, ◌-◌, ◌≤◌, true, false, Some, None, refl, ap, sym, ◌∙◌, arith}
 use Rattle.std.specs.Prelude.{Ok, Err}
 use Rattle.std.proofs.lemmas.Bool.{lt-ltb, eqb-false, or_right}
-use Rattle.rx_spec.specs.Queries.{Query, is_done, is_anchored}
+use Rattle.rx_spec.specs.Queries.{Query, is_done}
 use Rattle.rx_spec.specs.Machines.{Machine, Settings}
 use Rattle.rx_spec.specs.HalfSearches.{HalfAnswer, half_search}
-use Rattle.rx_spec.specs.Splits.{is_split, narrower, is_narrowest, unless_split, skip_splits, split_limit, skips_splits}
+use Rattle.rx_spec.specs.Splits.{narrower, is_narrowest, unless_split, skip_splits, split_limit, skips_splits}
 use Rattle.rx_spec.specs.Splits.{half_unsplit}
 use Rattle.rx_spec.specs.Tables.{Table}
 use Rattle.rx_spec.specs.declared.Direction.{Direction}
@@ -27,16 +27,7 @@ module _ (search : Query → HalfAnswer) (none : NoneWhenDone search) where
       → unless_split direction q answer again ≡ unless_split direction q answer other
   no_more direction q (Ok None) again other e = refl
   no_more direction q (Err error) again other e = refl
-  no_more direction q (Ok (Some half_match)) again other e =
-      let stops : (is_anchored q.mode || is_narrowest direction q) ≡ true =
-      or_right (is_anchored q.mode) (is_narrowest direction q) e in
-      ap (λ (stop : Bool). chosen stop again) stops ∙ sym (ap (λ (stop : Bool). chosen stop other) stops)
-    where
-      chosen : Bool → HalfAnswer → HalfAnswer
-      chosen stop more =
-          if is_split q.haystack half_match.offset
-          then (if stop then Ok None else more)
-          else Ok (Some half_match)
+  no_more direction q (Ok (Some half_match)) again other e = grind (arith, common_steps, or_right)
 
   turn : (direction : Direction) (n : ℕ) (q : Query)
       → skip_splits search direction (suc n) q
@@ -53,13 +44,7 @@ module _ (search : Query → HalfAnswer) (none : NoneWhenDone search) where
       → (is_narrowest direction q ≡ false
       → skip_splits search direction n (narrower direction q) ≡ skip_splits search direction m (narrower direction q))
       → skip_splits search direction (suc n) q ≡ skip_splits search direction (suc m) q
-  turn_alike direction n m q others =
-      let more = λ (k : ℕ). skip_splits search direction k (narrower direction q) in
-      turn direction n q
-      ∙ by_test (is_narrowest direction q)
-      (λ e. no_more direction q (search q) (more n) (more m) e)
-      (λ e. ap (unless_split direction q (search q)) (others e))
-      ∙ sym (turn direction m q)
+  turn_alike direction n m q others = grind (arith, common_steps, turn, by_test, no_more)
 
   -- a narrower query has a lower limit
   limit_falls : (direction : Direction) (q : Query) (n : ℕ) → is_narrowest direction q ≡ false → split_limit q ≤ suc n
@@ -69,20 +54,14 @@ module _ (search : Query → HalfAnswer) (none : NoneWhenDone search) where
 
   one_more : (direction : Direction) (n : ℕ) (q : Query) → split_limit q ≤ n
       → skip_splits search direction n q ≡ skip_splits search direction (suc n) q
-  one_more direction zero q h =
-      let done = none q (lt-ltb q.end q.start (omega arith)) in
-      no_turn direction q
-      ∙ sym (turn direction 0 q
-      ∙ ap (λ answer. unless_split direction q answer (skip_splits search direction 0 (narrower direction q))) done)
+  one_more direction zero q h = grind (arith, common_steps, lt-ltb, no_turn, turn)
   one_more direction (suc n) q h =
       turn_alike direction n (suc n) q
       (λ e. one_more direction n (narrower direction q) (limit_falls direction q n e h))
 
   many_more : (direction : Direction) (more : ℕ) (q : Query)
       → skip_splits search direction (split_limit q) q ≡ skip_splits search direction (split_limit q + more) q
-  many_more direction zero q =
-      let e : split_limit q ≡ split_limit q + 0 = omega arith in
-      ap (λ n. skip_splits search direction n q) e
+  many_more direction zero q = grind (arith, common_steps)
   many_more direction (suc more) q =
       let e : suc (split_limit q + more) ≡ split_limit q + suc more = omega arith in
       many_more direction more q ∙ one_more direction (split_limit q + more) q (omega arith)
@@ -100,28 +79,11 @@ module _ (search : Query → HalfAnswer) (none : NoneWhenDone search) where
       → skip_splits search direction (split_limit q) q
       ≡ unless_split direction q (search q)
       (skip_splits search direction (split_limit (narrower direction q)) (narrower direction q))
-  splits_again direction q =
-      let limit = split_limit q in
-      let lower = λ (e : is_narrowest direction q ≡ false).
-      limit_falls direction q limit e (omega arith) in
-      let more = λ (n : ℕ). skip_splits search direction n (narrower direction q) in
-      one_more direction limit q (omega arith) ∙ turn direction limit q
-      ∙ by_test (is_narrowest direction q)
-      (λ e. no_more direction q (search q) (more limit) (more (split_limit (narrower direction q))) e)
-      (λ e. ap (unless_split direction q (search q)) (splits_uncut direction limit (narrower direction q) (lower e)))
+  splits_again direction q = grind (arith, common_steps, limit_falls, one_more, turn, by_test, no_more, splits_uncut)
 
 -- the same of a table that passes them over
 pub unsplit_again : (t : Table) (direction : Direction) (q : Query) → skips_splits t ≡ true
     → half_unsplit t direction q
     ≡ unless_split direction q (half_search t.machine t.settings direction q)
     (half_unsplit t direction (narrower direction q))
-unsplit_again t direction q skips =
-    let search = half_search t.machine t.settings direction in
-    let is = λ (p : Query). unsplit_is p in
-    is q ∙ splits_again search (half_when_done t.machine t.settings direction) direction q
-    ∙ ap (unless_split direction q (search q)) (sym (is (narrower direction q)))
-  where
-    unsplit_is : (p : Query)
-        → half_unsplit t direction p
-        ≡ skip_splits (half_search t.machine t.settings direction) direction (split_limit p) p
-    unsplit_is p = rw skips refl
+unsplit_again t direction q skips = grind (arith, common_steps, splits_again, half_when_done)

@@ -1,14 +1,15 @@
 -- Tables that are the same where they have a meaning: one is as sound as the other, and they answer the same.
 -- And what needles say: between them each byte leads an accelerated row to itself.
-use Rattle.std.proofs.Common.{◌≡◌, ◌≢◌, ℕ, zero, suc, ◌-◌, ◌<◌, ◌==◌, ◌||◌, ◌↔◌, Bool, true, false, not, if◌then◌else◌}
-use Rattle.std.proofs.Common.{Option, Some, None, List, [], ◌∷◌, length, reverse, drop, refl, ap, ap₂, sym, ◌∙◌}
-use Rattle.std.proofs.Common.{subst, arith}
-use Rattle.std.specs.Prelude.{Contains, All, Ok, is_some, slice_get}
+use Rattle.std.proofs.Common.{rules, ◌≡◌, ◌≢◌, ℕ, zero, suc, ◌-◌, ◌<◌, ◌==◌, ◌||◌, ◌↔◌, Bool, true, false, not}
+use Rattle.std.proofs.Common.{if◌then◌else◌, Option, Some, None, List, [], ◌∷◌, length, reverse, drop, refl, ap, ap₂}
+use Rattle.std.proofs.Common.{sym, ◌∙◌, subst, arith}
+use Rattle.std.proofs.lemmas.Grind.{common_steps}
+use Rattle.std.specs.Prelude.{Contains, All, Ok, slice_get}
 use Rattle.std.specs.List.{range_with_len}
 use Rattle.std.specs.List.Sorted.{IsStrictlyIncreasing}
 use Rattle.std.proofs.lemmas.Bool.{eqb-true, ne_eqb, not-true, eqb-false, not_from_false}
-use Rattle.std.proofs.lemmas.List.Elements.{All-contains, All-take, All-drop, All-append, All-cons, All-nil}
-use Rattle.std.proofs.lemmas.List.Elements.{All-weaker, All-head, All-tail}
+use Rattle.std.proofs.lemmas.List.Elements.{All-contains, All-take, All-drop, All-append, All-cons, All-nil, All-weaker}
+use Rattle.std.proofs.lemmas.List.Elements.{All-head, All-tail}
 use Rattle.std.proofs.lemmas.List.Kept.{IsStrictlyIncreasing-filter}
 use Rattle.std.proofs.lemmas.List.Sorted.{All-permutation, IsPermutation-reverse}
 use Rattle.std.proofs.lemmas.Option.{slice_get_within, get_or_from_slice_get}
@@ -16,7 +17,7 @@ use Rattle.rx_spec.specs.Bytes.{unit_of, AreBytes}
 use Rattle.rx_spec.specs.Looks.{before, after}
 use Rattle.rx_spec.specs.Queries.{Anchored, Query, HalfMatch, is_done}
 use Rattle.rx_spec.specs.Machines.{Label, Machine, IsWord, run, Settings}
-use Rattle.rx_spec.specs.Starts.{StartError, mode_error, start_error, start_row, start_context, supports}
+use Rattle.rx_spec.specs.Starts.{StartError, start_error, start_row, start_context}
 use Rattle.rx_spec.specs.Tables.{Table, IsTable, IsSound, is_match, is_match_label, leaving, SameSettings, AreSame}
 use Rattle.rx_spec.specs.HalfSearches.{HalfAnswer, span_bytes, units_of, beside, first_offset, next_offset, last_match}
 use Rattle.rx_spec.specs.HalfSearches.{at_label, walk, from_start, whole_walk, half_search}
@@ -24,102 +25,34 @@ use Rattle.rx_spec.specs.Overlapping.{OverlappingMatches, Ending, none_left, at_
 use Rattle.rx_spec.specs.Overlapping.{overlapping_from, whole_overlapping_walk, overlapping}
 use Rattle.rx_spec.specs.declared.Direction.{Direction}
 use Rattle.rx_spec.specs.declared.Start.{Start}
-use Rattle.lemmas_tables.proofs.Filters.{filter_tested, filter_keeps, filter_alike, range_has}
-use Rattle.lemmas_tables.proofs.Filters.{every_in_range, range_rises}
+use Rattle.lemmas_tables.proofs.Filters.{filter_tested, filter_keeps, filter_alike, range_has, every_in_range}
+use Rattle.lemmas_tables.proofs.Filters.{range_rises}
 use Rattle.lemmas_walks.proofs.Words.{run-nil, run-cons, IsWord-head, IsWord-tail}
 use Rattle.lemmas_walks.proofs.Firsts.{by_test, Contains-here, Contains-there}
 
 -- ---- being the same is an equivalence
 
 pub SameSettings-refl : (s : Settings) → SameSettings s s
-SameSettings-refl s = record {
-  start_kind = refl;
-  pattern_starts = refl;
-  start_of_byte = λ byte h. refl;
-  quit = λ byte h. refl;
-}
+SameSettings-refl s = grind (arith, common_steps)
 
 pub SameSettings-sym : {s r : Settings} → SameSettings s r → SameSettings r s
-SameSettings-sym same = record {
-  start_kind = sym same.start_kind;
-  pattern_starts = sym same.pattern_starts;
-  start_of_byte = λ byte h. sym (same.start_of_byte byte h);
-  quit = λ byte h. sym (same.quit byte h);
-}
+SameSettings-sym same = grind (arith, common_steps)
 
 pub SameSettings-trans : {s r v : Settings} → SameSettings s r → SameSettings r v → SameSettings s v
-SameSettings-trans a b = record {
-  start_kind = a.start_kind ∙ b.start_kind;
-  pattern_starts = a.pattern_starts ∙ b.pattern_starts;
-  start_of_byte = λ byte h. a.start_of_byte byte h ∙ b.start_of_byte byte h;
-  quit = λ byte h. a.quit byte h ∙ b.quit byte h;
-}
+SameSettings-trans a b = grind (arith, common_steps)
 
 pub AreSame-refl : (t : Table) → AreSame t t
-AreSame-refl t = record {
-  size = refl;
-  settings = SameSettings-refl t.settings;
-  entries = λ mode start. refl;
-  nexts = λ row unit h k. refl;
-  labels = λ row h. refl;
-  deads = λ row h. refl;
-  has_empty = refl;
-  is_utf8 = refl;
-  is_always_start_anchored = refl;
-  pattern_len = refl;
-  accelerated = λ row h. refl;
-  needles = λ row h. refl;
-  starts = λ row h. refl;
-  specials = λ row h. refl;
-  universal_unanchored = refl;
-  universal_anchored = refl;
-}
+AreSame-refl t = grind (arith, common_steps)
 
 -- a row of the one is a row of the other
 row_moved : {t u : Table} → AreSame t u → (row : ℕ) → row < u.size → row < t.size
 row_moved same row h = let e = same.size in omega arith
 
 pub AreSame-sym : {t u : Table} → AreSame t u → AreSame u t
-AreSame-sym same = record {
-  size = sym same.size;
-  settings = SameSettings-sym same.settings;
-  entries = λ mode start. sym (same.entries mode start);
-  nexts = λ row unit h k. sym (same.nexts row unit (row_moved same row h) k);
-  labels = λ row h. sym (same.labels row (row_moved same row h));
-  deads = λ row h. sym (same.deads row (row_moved same row h));
-  has_empty = sym same.has_empty;
-  is_utf8 = sym same.is_utf8;
-  is_always_start_anchored = sym same.is_always_start_anchored;
-  pattern_len = sym same.pattern_len;
-  accelerated = λ row h. sym (same.accelerated row (row_moved same row h));
-  needles = λ row h. sym (same.needles row (row_moved same row h));
-  starts = λ row h. sym (same.starts row (row_moved same row h));
-  specials = λ row h. sym (same.specials row (row_moved same row h));
-  universal_unanchored = sym same.universal_unanchored;
-  universal_anchored = sym same.universal_anchored;
-}
+AreSame-sym same = grind (arith, common_steps, row_moved)
 
 pub AreSame-trans : {t u v : Table} → AreSame t u → AreSame u v → AreSame t v
-AreSame-trans {t} {u} {v} a b =
-    let moved = λ (row : ℕ) (h : row < t.size). row_moved (AreSame-sym a) row h in
-    record {
-      size = a.size ∙ b.size;
-      settings = SameSettings-trans a.settings b.settings;
-      entries = λ mode start. a.entries mode start ∙ b.entries mode start;
-      nexts = λ row unit h k. a.nexts row unit h k ∙ b.nexts row unit (moved row h) k;
-      labels = λ row h. a.labels row h ∙ b.labels row (moved row h);
-      deads = λ row h. a.deads row h ∙ b.deads row (moved row h);
-      has_empty = a.has_empty ∙ b.has_empty;
-      is_utf8 = a.is_utf8 ∙ b.is_utf8;
-      is_always_start_anchored = a.is_always_start_anchored ∙ b.is_always_start_anchored;
-      pattern_len = a.pattern_len ∙ b.pattern_len;
-      accelerated = λ row h. a.accelerated row h ∙ b.accelerated row (moved row h);
-      needles = λ row h. a.needles row h ∙ b.needles row (moved row h);
-      starts = λ row h. a.starts row h ∙ b.starts row (moved row h);
-      specials = λ row h. a.specials row h ∙ b.specials row (moved row h);
-      universal_unanchored = a.universal_unanchored ∙ b.universal_unanchored;
-      universal_anchored = a.universal_anchored ∙ b.universal_anchored;
-    }
+AreSame-trans {t} {u} {v} a b = grind (arith, common_steps, row_moved)
 
 -- ---- tables and soundness
 
@@ -210,8 +143,7 @@ module _ {t u : Table} (same : AreSame t u) where
 -- ---- what is read of a haystack of bytes
 
 byte_at : (haystack : List ℕ) → AreBytes haystack → (i b : ℕ) → slice_get haystack i ≡ Some b → b < 256
-byte_at haystack bytes i b e =
-    omega (arith, bytes i b (slice_get_within haystack i b e), get_or_from_slice_get haystack i b b e)
+byte_at haystack bytes i b e = search (rules, slice_get_within, get_or_from_slice_get)
 
 pub units_below : (direction : Direction) (q : Query) → AreBytes q.haystack → IsWord (units_of direction q)
 units_below direction q bytes unit c =
@@ -249,11 +181,7 @@ units_below direction q bytes unit c =
 
 beside_below : (direction : Direction) (q : Query) → AreBytes q.haystack → (byte : ℕ)
     → beside direction q ≡ Some byte → byte < 256
-beside_below Direction.Forward q bytes byte e = at_start q.start e
-  where
-    at_start : (i : ℕ) → before q.haystack i ≡ Some byte → byte < 256
-    at_start zero e = absurd (cc)
-    at_start (suc i) e = byte_at q.haystack bytes i byte e
+beside_below Direction.Forward q bytes byte e = grind (arith, common_steps, byte_at)
 beside_below Direction.Reverse q bytes byte e = byte_at q.haystack bytes q.end byte e
 
 -- ---- they answer the same
@@ -320,20 +248,7 @@ module _ {t u : Table} (is : IsTable t) (same : AreSame t u) where
   -- a start is refused alike,
   error_same : (o : Option ℕ) (mode : Anchored) → ((byte : ℕ) → o ≡ Some byte → byte < 256)
       → start_error t.settings o mode ≡ start_error u.settings o mode
-  error_same o mode bytes = by_byte o bytes
-    where
-      by_mode : mode_error t.settings mode ≡ mode_error u.settings mode
-      by_mode =
-          ap₂ (λ kind (patterns : Option ℕ).
-          if supports kind (is_some patterns) mode then None else Some (StartError.UnsupportedAnchored mode))
-          same.settings.start_kind same.settings.pattern_starts
-
-      by_byte : (o : Option ℕ) → ((byte : ℕ) → o ≡ Some byte → byte < 256)
-          → start_error t.settings o mode ≡ start_error u.settings o mode
-      by_byte None bytes = by_mode
-      by_byte (Some byte) bytes =
-          ap₂ (λ (quits : Bool) (error : Option StartError). if quits then Some (StartError.Quit byte) else error)
-          (same.settings.quit byte (bytes byte refl)) by_mode
+  error_same o mode bytes = grind (arith, common_steps)
 
   -- and begins at one row
   row_same : (o : Option ℕ) (mode : Anchored) → ((byte : ℕ) → o ≡ Some byte → byte < 256)
@@ -419,9 +334,4 @@ leaving_rises t row =
 -- a match row isn't dead
 pub match_alive : {t : Table} → IsTable t → (row : ℕ) {ks : List ℕ} → row < t.size
     → t.machine.label row ≡ Label.Matches ks → t.machine.is_dead row ≡ false
-match_alive {t} is row {ks} below label =
-    is.dead_only row below
-    ∙ ne_eqb row 0 (λ first. plain_no_match (sym is.dead_label ∙ ap t.machine.label (sym first) ∙ label))
-  where
-    plain_no_match : Label.Plain ≡ Label.Matches ks → ⊥
-    plain_no_match e = cc
+match_alive {t} is row {ks} below label = grind (arith, common_steps, ne_eqb)

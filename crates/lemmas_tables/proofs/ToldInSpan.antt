@@ -1,12 +1,12 @@
 -- What a half search tells lies in the span of its query, and so where splits are passed over.
-use Rattle.std.proofs.Common.{◌≡◌, ℕ, zero, suc, ◌≤◌, ◌||◌, Bool, true, false, if◌then◌else◌, Option, Some, None, refl}
-use Rattle.std.proofs.Common.{ap, ◌∙◌, arith}
+use Rattle.std.proofs.Common.{rules, ◌≡◌, ℕ, zero, suc, ◌≤◌, ◌||◌, Bool, true, false, if◌then◌else◌, Option, Some, None}
+use Rattle.std.proofs.Common.{refl, ◌∙◌, arith}
+use Rattle.std.proofs.lemmas.Grind.{common_steps}
 use Rattle.std.specs.Prelude.{Ok, Err}
 use Rattle.rx_spec.specs.Queries.{Query, HalfMatch, is_anchored}
 use Rattle.rx_spec.specs.Machines.{Machine, Settings}
 use Rattle.rx_spec.specs.HalfSearches.{HalfAnswer, half_search}
-use Rattle.rx_spec.specs.Splits.{is_split, narrower, is_narrowest, unless_split, skip_splits, split_limit, skips_splits}
-use Rattle.rx_spec.specs.Splits.{half_unsplit}
+use Rattle.rx_spec.specs.Splits.{is_split, narrower, is_narrowest, unless_split, skip_splits, half_unsplit}
 use Rattle.rx_spec.specs.Tables.{Table}
 use Rattle.rx_spec.specs.declared.Direction.{Direction}
 use Rattle.lemmas_walks.proofs.WalkBounds.{half_in_span}
@@ -26,28 +26,18 @@ some_told e = cc
 
 pub half_within : {R : Type 0} (m : Machine R) (s : Settings) (direction : Direction)
     → TellsWithin (half_search m s direction)
-half_within m s direction q h e =
-    let lies = half_in_span m s direction q h e in record { from = lies.0; upto = lies.1 }
+half_within m s direction q h e = grind (arith, common_steps, half_in_span)
 
 -- ---- where splits are passed over
 
 module _ (search : Query → HalfAnswer) (direction : Direction) where
   wider : (direction : Direction) (q : Query) (h : HalfMatch) → IsIn (narrower direction q) h → IsIn q h
-  wider Direction.Forward q h is =
-      let low = is.from in
-      let high = is.upto in
-      record { from = omega arith; upto = omega arith }
-  wider Direction.Reverse q h is =
-      let low = is.from in
-      let high = is.upto in
-      record { from = omega arith; upto = omega arith }
+  wider Direction.Forward q h is = grind (arith, common_steps)
+  wider Direction.Reverse q h is = grind (arith, common_steps)
 
   pub splits_within : TellsWithin search → (n : ℕ) → TellsWithin (skip_splits search direction n)
   unfolding skip_splits
-  splits_within within zero q h e = absurd (no_more (some_told e))
-    where
-      no_more : None ≡ Some h → ⊥
-      no_more e = cc
+  splits_within within zero q h e = grind (arith, common_steps, some_told)
   splits_within within (suc n) q h e =
       by_answer (search q) refl e (λ again. wider direction q h (splits_within within n (narrower direction q) h again))
     where
@@ -71,27 +61,10 @@ module _ (search : Query → HalfAnswer) (direction : Direction) where
   pub splits_when_done : NoneWhenDone search → (n : ℕ) → NoneWhenDone (skip_splits search direction n)
   unfolding skip_splits
   splits_when_done none zero q done = refl
-  splits_when_done none (suc n) q done =
-      ap (λ answer. unless_split direction q answer (skip_splits search direction n (narrower direction q)))
-      (none q done)
+  splits_when_done none (suc n) q done = grind (arith, common_steps)
 
 pub unsplit_within : (t : Table) (direction : Direction) → TellsWithin (half_unsplit t direction)
-unsplit_within t direction q h e =
-    let search = half_search t.machine t.settings direction in
-    let within = half_within t.machine t.settings direction in
-    by_skipping (skips_splits t) e (splits_within search direction within (split_limit q) q h) (within q h)
-  where
-    by_skipping : {x y : HalfAnswer} (skips : Bool) → (if skips then x else y) ≡ Ok (Some h)
-        → (x ≡ Ok (Some h) → IsIn q h) → (y ≡ Ok (Some h) → IsIn q h) → IsIn q h
-    by_skipping true e f g = f e
-    by_skipping false e f g = g e
+unsplit_within t direction q h e = search (rules, half_within, splits_within)
 
 pub unsplit_when_done : (t : Table) (direction : Direction) → NoneWhenDone (half_unsplit t direction)
-unsplit_when_done t direction q done =
-    let search = half_search t.machine t.settings direction in
-    let none = half_when_done t.machine t.settings direction in
-    by_skipping (skips_splits t) (splits_when_done search direction none (split_limit q) q done) (none q done)
-  where
-    by_skipping : {x y : HalfAnswer} (skips : Bool) → x ≡ Ok None → y ≡ Ok None → (if skips then x else y) ≡ Ok None
-    by_skipping true e f = e
-    by_skipping false e f = f
+unsplit_when_done t direction q done = grind (arith, common_steps, half_when_done, splits_when_done)

@@ -1,10 +1,10 @@
 -- Laws of the places where matches end.
-use Rattle.std.proofs.Common.{◌≡◌, ℕ, zero, suc, ◌+◌, ◌-◌, ◌*◌, ◌<◌, ◌≤◌, min, Bool, true, false, Option, Some, None}
-use Rattle.std.proofs.Common.{List, [], ◌∷◌, ◌++◌, length, slice_get, if◌then◌else◌, refl, ap, sym, ◌∙◌, arith, le_refl}
-use Rattle.std.proofs.Common.{append-nil}
+use Rattle.std.proofs.lemmas.Grind.{common_steps}
+use Rattle.std.proofs.Common.{[], ◌≡◌, ℕ, zero, suc, ◌+◌, ◌-◌, ◌*◌, ◌<◌, ◌≤◌, min, Bool, true, false, Option, Some}
+use Rattle.std.proofs.Common.{None, List, ◌∷◌, ◌++◌, length, slice_get, if◌then◌else◌, refl, ap, sym, ◌∙◌, arith}
+use Rattle.std.proofs.Common.{le_refl, append-nil}
 use Rattle.std.proofs.lemmas.Option.{slice_get_within}
 use Rattle.std.specs.List.{flat_map, AllByRecursion as Every}
-use Rattle.rx_spec.specs.Bytes.{contains}
 use Rattle.rx_spec.specs.Looks.{Reading, after, holds_at}
 use Rattle.rx_spec.specs.Expressions.{Expression, min_len}
 use Rattle.rx_spec.specs.Ends.{class_ends, rounds, preferring, up_to, further, ends}
@@ -45,8 +45,7 @@ abbrev pub Advances : ℕ → ℕ → (ℕ → List ℕ) → Type 0
 Advances n m body = (i : ℕ) → i ≤ n → Every (Lies n (i + m)) (body i)
 
 lies-from : (n low high : ℕ) (xs : List ℕ) → low ≤ high → Every (Lies n high) xs → Every (Lies n low) xs
-lies-from n low high xs h every =
-    every-weaker (Lies n high) (Lies n low) xs (λ j lies. (omega (arith, lies.0, h), lies.1)) every
+lies-from n low high xs h every = grind (arith, common_steps, every-weaker)
 
 pub rounds_lie : (n m : ℕ) (body : ℕ → List ℕ) → Advances n m body → (k : ℕ) → Advances n (k * m) (rounds body k)
 unfolding rounds
@@ -75,10 +74,8 @@ up_to_lies n greedy body h (suc k) i within =
 further_lies : (r : Reading) (least : ℕ) (most : Option ℕ) (greedy : Bool) (body : ℕ → List ℕ)
     → Advances (length r.units) 0 body → (i : ℕ) → i ≤ length r.units
     → Every (Lies (length r.units) i) (further r least most greedy body i)
-further_lies r least None greedy body h i within =
-    up_to_lies (length r.units) greedy body h (length r.units - i) i within
-further_lies r least (Some most) greedy body h i within =
-    up_to_lies (length r.units) greedy body h (most - least) i within
+further_lies r least None greedy body h i within = grind (arith, common_steps, up_to_lies)
+further_lies r least (Some most) greedy body h i within = grind (arith, common_steps, up_to_lies)
 
 weaker_advance : (n m : ℕ) (body : ℕ → List ℕ) → Advances n m body → Advances n 0 body
 weaker_advance n m body h i within = lies-from n (i + 0) (i + m) (body i) (omega arith) (h i within)
@@ -86,11 +83,7 @@ weaker_advance n m body h i within = lies-from n (i + 0) (i + m) (body i) (omega
 class_lies : (set : ℕ) (units : List ℕ) (i : ℕ) (byte : Option ℕ) → slice_get units i ≡ byte
     → Every (Lies (length units) (i + 1)) (class_ends set byte i)
 class_lies set units i None e = tt
-class_lies set units i (Some byte) e =
-    elim (contains set byte) as (λ v. Every (Lies (length units) (i + 1)) (if v then (i + 1) ∷ [] else [])) [
-      | true ↦ ((le_refl (i + 1), omega (arith, slice_get_within units i byte e)), tt)
-      | false ↦ tt
-    ]
+class_lies set units i (Some byte) e = grind (arith, common_steps, le_refl, slice_get_within)
 
 -- Every end of a match that begins at a place lies at least the least length past it, and within what
 -- is read.
@@ -125,8 +118,7 @@ ends_lie r (Expression.Repeat least most greedy body) i within =
 
 -- More rounds than there is room for change nothing.
 nothing_past : (n i : ℕ) (body : ℕ → List ℕ) → Advances n 1 body → i ≤ n → n ≤ i + 0 → body i ≡ []
-nothing_past n i body h within full =
-    none_is_nil (Lies n (i + 1)) (body i) (λ j lies. omega (arith, lies.0, lies.1, full)) (h i within)
+nothing_past n i body h within full = grind (arith, common_steps, none_is_nil)
 
 preferring_nothing : (greedy : Bool) (more : List ℕ) (i : ℕ) → more ≡ [] → preferring greedy more i ≡ i ∷ []
 preferring_nothing true more i e = ap (λ l. l ++ (i ∷ [])) e
@@ -150,9 +142,7 @@ module _ (n : ℕ) (greedy : Bool) (body : ℕ → List ℕ) (h : Advances n 1 b
 -- A body that reads at least a byte.
 pub advances_one : (r : Reading) (body : Expression) → 0 < min_len body
     → Advances (length r.units) 1 (λ i. ends r body i)
-advances_one r body reads i within =
-    lies-from (length r.units) (i + 1) (i + min_len body) (ends r body i) (omega (arith, reads))
-    (ends_lie r body i within)
+advances_one r body reads i within = grind (arith, common_steps, lies-from, ends_lie)
 
 -- one bound less
 abbrev pub lowered : Option ℕ → Option ℕ
@@ -162,9 +152,7 @@ lowered (Some most) = Some (most - 1)
 further_lowered : (r : Reading) (n : ℕ) (most : Option ℕ) (greedy : Bool) (body : ℕ → List ℕ) (i : ℕ)
     → further r (suc n) most greedy body i ≡ further r n (lowered most) greedy body i
 further_lowered r n None greedy body i = refl
-further_lowered r n (Some most) greedy body i =
-    let e : most - suc n ≡ most - 1 - n = omega arith in
-    ap (λ k. up_to greedy body k i) e
+further_lowered r n (Some most) greedy body i = grind (arith, common_steps)
 
 -- a least number of rounds above 0: a round, and then the rest
 pub ends_repeat_more : (r : Reading) (n : ℕ) (most : Option ℕ) (greedy : Bool) (body : Expression) (i : ℕ)
@@ -172,15 +160,7 @@ pub ends_repeat_more : (r : Reading) (n : ℕ) (most : Option ℕ) (greedy : Boo
     ≡ flat_map (λ j. ends r (Expression.Repeat n (lowered most) greedy body) j) (ends r body i)
 unfolding ends rounds
 ends_repeat_more r n most greedy body i =
-    flat_map-flat_map (λ j. rounds (λ k. ends r body k) n j)
-    (λ j. further r (suc n) most greedy (λ k. ends r body k) j) (ends r body i)
-    ∙ flat_map-alike
-    (λ j. flat_map (λ l. further r (suc n) most greedy (λ k. ends r body k) l) (rounds (λ k. ends r body k) n j))
-    (λ j. flat_map (λ l. further r n (lowered most) greedy (λ k. ends r body k) l) (rounds (λ k. ends r body k) n j))
-    (ends r body i)
-    (λ j. flat_map-alike (λ l. further r (suc n) most greedy (λ k. ends r body k) l)
-    (λ l. further r n (lowered most) greedy (λ k. ends r body k) l) (rounds (λ k. ends r body k) n j)
-    (λ l. further_lowered r n most greedy (λ k. ends r body k) l))
+    grind (arith, common_steps, flat_map-flat_map, flat_map-alike, further_lowered)
 
 -- no rounds at all
 pub ends_repeat_none : (r : Reading) (greedy : Bool) (body : Expression) (i : ℕ)
@@ -193,16 +173,7 @@ pub ends_repeat_optional : (r : Reading) (most : ℕ) (greedy : Bool) (body : Ex
     → ends r (Expression.Repeat 0 (Some (suc most)) greedy body) i
     ≡ preferring greedy (flat_map (λ j. ends r (Expression.Repeat 0 (Some most) greedy body) j) (ends r body i)) i
 unfolding ends rounds up_to
-ends_repeat_optional r most greedy body i =
-    let above : suc most - 0 ≡ suc most = omega arith in
-    let same : most ≡ most - 0 = omega arith in
-    append-nil (up_to greedy (λ k. ends r body k) (suc most - 0) i)
-    ∙ ap (λ n. up_to greedy (λ k. ends r body k) n i) above
-    ∙ ap (λ more. preferring greedy more i)
-    (flat_map-alike (λ j. up_to greedy (λ k. ends r body k) most j)
-    (λ j. up_to greedy (λ k. ends r body k) (most - 0) j ++ []) (ends r body i)
-    (λ j. ap (λ n. up_to greedy (λ k. ends r body k) n j) same
-    ∙ sym (append-nil (up_to greedy (λ k. ends r body k) (most - 0) j))))
+ends_repeat_optional r most greedy body i = grind (arith, common_steps, append-nil, flat_map-alike)
 
 -- without an end: a further one, or none
 pub ends_repeat_unbounded : (r : Reading) (greedy : Bool) (body : Expression) (i : ℕ) → 0 < min_len body

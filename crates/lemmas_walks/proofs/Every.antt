@@ -1,19 +1,12 @@
 -- What holds of each element of a list, by recursion on the list.
-use Rattle.std.proofs.Common.{◌≡◌, List, [], ◌∷◌, ◌++◌, refl, ap, ap₂, sym, ◌∙◌, append_assoc}
+use Rattle.std.proofs.Common.{[], arith, ◌≡◌, List, ◌∷◌, ◌++◌, refl, ap, ap₂, ◌∙◌, append_assoc}
+use Rattle.std.proofs.lemmas.Grind.{common_steps}
 use Rattle.std.specs.List.{flat_map, AllByRecursion as Every}
 
 module _ {X : Type 0} where
   pub every-append : (P : X → Type 0) (xs ys : List X) → Every P xs → Every P ys → Every P (xs ++ ys)
   every-append P [] ys h k = k
   every-append P (x ∷ xs) ys h k = (h.0, every-append P xs ys h.1 k)
-
-  pub every-append_left : (P : X → Type 0) (xs ys : List X) → Every P (xs ++ ys) → Every P xs
-  every-append_left P [] ys h = tt
-  every-append_left P (x ∷ xs) ys h = (h.0, every-append_left P xs ys h.1)
-
-  pub every-append_right : (P : X → Type 0) (xs ys : List X) → Every P (xs ++ ys) → Every P ys
-  every-append_right P [] ys h = h
-  every-append_right P (x ∷ xs) ys h = every-append_right P xs ys h.1
 
   pub every-weaker : (P Q : X → Type 0) (xs : List X) → ((x : X) → P x → Q x) → Every P xs → Every Q xs
   every-weaker P Q [] f h = tt
@@ -38,8 +31,7 @@ flat_map-same P f g (x ∷ xs) e h = ap₂ (λ a b. a ++ b) (e x h.0) (flat_map-
 pub flat_map-append_of : {X A : Type 0} (f : X → List A) (xs ys : List X)
     → flat_map f (xs ++ ys) ≡ flat_map f xs ++ flat_map f ys
 flat_map-append_of f [] ys = refl
-flat_map-append_of f (x ∷ xs) ys =
-    ap (λ l. f x ++ l) (flat_map-append_of f xs ys) ∙ sym (append_assoc (f x) (flat_map f xs) (flat_map f ys))
+flat_map-append_of f (x ∷ xs) ys = grind (arith, common_steps, append_assoc)
 
 -- one behind another
 pub flat_map-flat_map : {X Y A : Type 0} (f : X → List Y) (g : Y → List A) (xs : List X)

@@ -1,13 +1,12 @@
 -- What facts of two neighbours decide: every assertion, and no more facts are needed than are kept.
-use Rattle.std.proofs.Common.{◌≡◌, ℕ, suc, zero, ◌<◌, ◌==◌, Bool, true, false, Option, Some, None, List, [], ◌∷◌, refl}
-use Rattle.std.proofs.Common.{ap, sym, ◌∙◌, subst, arith}
-use Rattle.std.proofs.lemmas.Bool.{or_left, or_right, eqb-true, ne_eqb}
+use Rattle.std.proofs.lemmas.Grind.{common_steps}
+use Rattle.std.proofs.Common.{[], ◌≡◌, ℕ, suc, zero, ◌<◌, true, Option, Some, None, List, ◌∷◌, refl, ◌∙◌, arith}
+use Rattle.std.proofs.lemmas.Bool.{or_right, eqb-true, ne_eqb}
 use Rattle.std.specs.Prelude.{Contains}
-use Rattle.rx_spec.specs.Bytes.{unit_of, is_word}
 use Rattle.rx_spec.specs.Looks.{holds}
 use Rattle.rx_spec.specs.Rows.{Row}
 use Rattle.rx_spec.specs.Contexts.{Facts, facts_of, unit_facts, both, either_of, holds_by, holds_read, facts_read}
-use Rattle.rx_spec.specs.Contexts.{row_reads, facts_kept, start_of, start_of_byte, start_facts}
+use Rattle.rx_spec.specs.Contexts.{row_reads, facts_kept, start_of, start_facts}
 use Rattle.rx_spec.specs.declared.Direction.{Direction}
 use Rattle.rx_spec.specs.declared.Look.{Look}
 use Rattle.rx_spec.specs.declared.Start.{Start}
@@ -32,41 +31,17 @@ pub record Cover (k r : Facts) : Type 0 where
   pub cr : r.cr ≡ true → k.cr ≡ true
   pub word : r.word ≡ true → k.word ≡ true
 
-pub Cover-left : (k r : Facts) → Cover (either_of k r) k
-Cover-left k r =
-    record {
-      text = λ h. or_left k.text r.text h;
-      line_terminator = λ h. or_left k.line_terminator r.line_terminator h;
-      lf = λ h. or_left k.lf r.lf h;
-      cr = λ h. or_left k.cr r.cr h;
-      word = λ h. or_left k.word r.word h;
-    }
-
 pub Cover-right : (k j r : Facts) → Cover k r → Cover (either_of j k) r
-Cover-right k j r c =
-    record {
-      text = λ h. or_right j.text k.text (c.text h);
-      line_terminator = λ h. or_right j.line_terminator k.line_terminator (c.line_terminator h);
-      lf = λ h. or_right j.lf k.lf (c.lf h);
-      cr = λ h. or_right j.cr k.cr (c.cr h);
-      word = λ h. or_right j.word k.word (c.word h);
-    }
+Cover-right k j r c = grind (arith, common_steps, or_right)
 
 -- Dropping facts that an assertion doesn't read changes nothing, on either side.
 pub kept_before : (look : Look) (k x y : Facts) → Cover k (facts_read look)
     → holds_by look (both k x) y ≡ holds_by look x y
 kept_before Look.Start k x y c = let text : k.text ≡ true = c.text refl in simp (text)
 kept_before Look.End k x y c = refl
-kept_before Look.StartLF k x y c =
-    let text : k.text ≡ true = c.text refl in
-    let line_terminator : k.line_terminator ≡ true = c.line_terminator refl in
-    simp (text, line_terminator)
+kept_before Look.StartLF k x y c = grind (arith, common_steps)
 kept_before Look.EndLF k x y c = refl
-kept_before Look.StartCRLF k x y c =
-    let text : k.text ≡ true = c.text refl in
-    let lf : k.lf ≡ true = c.lf refl in
-    let cr : k.cr ≡ true = c.cr refl in
-    simp (text, lf, cr)
+kept_before Look.StartCRLF k x y c = grind (arith, common_steps)
 kept_before Look.EndCRLF k x y c = let cr : k.cr ≡ true = c.cr refl in simp (cr)
 kept_before Look.WordAscii k x y c = let word : k.word ≡ true = c.word refl in simp (word)
 kept_before Look.WordAsciiNegate k x y c = let word : k.word ≡ true = c.word refl in simp (word)
@@ -86,16 +61,9 @@ pub kept_after : (look : Look) (k x y : Facts) → Cover k (facts_read look)
 kept_after Look.Start k x y c = refl
 kept_after Look.End k x y c = let text : k.text ≡ true = c.text refl in simp (text)
 kept_after Look.StartLF k x y c = refl
-kept_after Look.EndLF k x y c =
-    let text : k.text ≡ true = c.text refl in
-    let line_terminator : k.line_terminator ≡ true = c.line_terminator refl in
-    simp (text, line_terminator)
+kept_after Look.EndLF k x y c = grind (arith, common_steps)
 kept_after Look.StartCRLF k x y c = let lf : k.lf ≡ true = c.lf refl in simp (lf)
-kept_after Look.EndCRLF k x y c =
-    let text : k.text ≡ true = c.text refl in
-    let lf : k.lf ≡ true = c.lf refl in
-    let cr : k.cr ≡ true = c.cr refl in
-    simp (text, lf, cr)
+kept_after Look.EndCRLF k x y c = grind (arith, common_steps)
 kept_after Look.WordAscii k x y c = let word : k.word ≡ true = c.word refl in simp (word)
 kept_after Look.WordAsciiNegate k x y c = let word : k.word ≡ true = c.word refl in simp (word)
 kept_after Look.WordUnicode k x y c = let word : k.word ≡ true = c.word refl in simp (word)
@@ -124,37 +92,14 @@ pub kept_cover : (rows : List Row) (look : Look) (next : ℕ) → Contains rows 
     → Cover (facts_kept rows) (facts_read look)
 unfolding facts_kept
 kept_cover [] look next (n, h, e) = absurd (omega arith)
-kept_cover (row ∷ rows) look next (zero, h, e) =
-    subst (λ r. Cover (either_of (row_reads r) (facts_kept rows)) (facts_read look)) (sym e)
-    (Cover-left (facts_read look) (facts_kept rows))
+kept_cover (row ∷ rows) look next (zero, h, e) = grind (arith, common_steps)
 kept_cover (row ∷ rows) look next (suc n, h, e) =
     Cover-right (facts_kept rows) (row_reads row) (facts_read look) (kept_cover rows look next (n, omega arith, e))
 
 -- what is known in a start context is what is true of the neighbour
 pub start_knows : (t : ℕ) (x : Option ℕ) → start_facts t (start_of t x) ≡ facts_of t x
 start_knows t None = refl
-start_knows t (Some b) = go (b == 10) refl (b == 13) refl (b == t) refl (is_word b) refl
-  where
-    go : (lf : Bool) → (b == 10) ≡ lf → (cr : Bool) → (b == 13) ≡ cr → (own : Bool) → (b == t) ≡ own → (word : Bool)
-        → is_word b ≡ word → start_facts t (start_of_byte t b) ≡ facts_of t (Some b)
-    go true lf _ _ _ _ _ _ =
-        let e : b ≡ 10 = eqb-true b 10 lf in
-        let is : start_of_byte t b ≡ Start.LineLF = rw lf refl in
-        ap (start_facts t) is ∙ ap (λ (x : ℕ). facts_of t (Some x)) (sym e)
-    go false lf true cr _ _ _ _ =
-        let e : b ≡ 13 = eqb-true b 13 cr in
-        let is : start_of_byte t b ≡ Start.LineCR = rw (lf, cr) refl in
-        ap (start_facts t) is ∙ ap (λ (x : ℕ). facts_of t (Some x)) (sym e)
-    go false lf false cr true own _ _ =
-        let e : b ≡ t = eqb-true b t own in
-        let is : start_of_byte t b ≡ Start.CustomLineTerminator = rw (lf, cr, own) refl in
-        ap (start_facts t) is ∙ ap (λ (x : ℕ). facts_of t (Some x)) (sym e)
-    go false lf false cr false own true word = rw (lf, cr, own, word) refl
-    go false lf false cr false own false word = rw (lf, cr, own, word) refl
-
--- a unit tells as much as the byte, or its absence
-pub unit_knows_none : (t : ℕ) → unit_facts t (unit_of None) ≡ facts_of t None
-unit_knows_none t = refl
+start_knows t (Some b) = grind (arith, common_steps, eqb-true)
 
 pub unit_knows : (t b : ℕ) → b < 256 → unit_facts t b ≡ facts_of t (Some b)
 unit_knows t b h = rw (ne_eqb b 256 (omega arith))

@@ -1,5 +1,6 @@
 -- First occurrences: they keep order and membership, and repeat nothing.
-use Rattle.std.proofs.Common.{◌≡◌, ◌≢◌, ℕ, suc, zero, ◌==◌, ◌⊎◌, inl, inr, Bool, true, false, ◌||◌, List, [], ◌∷◌, ◌++◌}
+use Rattle.std.proofs.lemmas.Grind.{common_steps}
+use Rattle.std.proofs.Common.{[], ◌≡◌, ◌≢◌, ℕ, suc, zero, ◌==◌, ◌⊎◌, inl, inr, Bool, true, false, ◌||◌, List, ◌∷◌, ◌++◌}
 use Rattle.std.proofs.Common.{refl, ap, sym, ◌∙◌, subst, arith, ⊎_elim}
 use Rattle.std.proofs.lemmas.Bool.{or_left, or_right, eqb-true, eqb-false, eq-eqb, or_cases, false_from_ne_true}
 use Rattle.std.proofs.lemmas.List.{get_or_default}
@@ -31,9 +32,7 @@ seen_true x (y ∷ ys) h =
 
 pub seen_if : (x : ℕ) (seen : List ℕ) → Contains seen x → list_any (λ y. x == y) seen ≡ true
 seen_if x [] c = absurd (Contains-nil x c)
-seen_if x (y ∷ ys) c =
-    ⊎_elim (λ (e : y ≡ x). or_left (x == y) (list_any (λ z. x == z) ys) (eq-eqb x y (sym e)))
-    (λ (e : Contains ys x). or_right (x == y) (list_any (λ z. x == z) ys) (seen_if x ys e)) (Contains-cases y ys x c)
+seen_if x (y ∷ ys) c = grind (arith, common_steps, or_left, eq-eqb, or_right)
 
 pub unseen : (x : ℕ) (seen : List ℕ) → (Contains seen x → ⊥) → list_any (λ y. x == y) seen ≡ false
 unseen x seen new = false_from_ne_true (list_any (λ y. x == y) seen) (λ h. new (seen_true x seen h))
@@ -145,12 +144,7 @@ or_swap false b c = refl
 
 was_append : (xs ys : List ℕ) (x : ℕ) → was (xs ++ ys) x ≡ (was xs x || was ys x)
 was_append [] ys x = refl
-was_append (z ∷ zs) ys x =
-    ap (λ (b : Bool). (x == z) || b) (was_append zs ys x) ∙ or_assoc (x == z) (was zs x) (was ys x)
-  where
-    or_assoc : (a b c : Bool) → (a || (b || c)) ≡ ((a || b) || c)
-    or_assoc true b c = refl
-    or_assoc false b c = refl
+was_append (z ∷ zs) ys x = grind (arith, common_steps)
 
 pub fresh_append : (seen xs ys : List ℕ) → fresh seen (xs ++ ys) ≡ fresh seen xs ++ fresh (xs ++ seen) ys
 fresh_append seen [] ys = ap (λ (l : List ℕ). l ++ fresh seen ys) (sym (fresh_nil seen))

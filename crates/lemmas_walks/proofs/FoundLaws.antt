@@ -1,5 +1,6 @@
 -- What is found: the least start, there the lowest pattern, and its first end.
-use Rattle.std.proofs.Common.{◌≡◌, ℕ, ◌+◌, ◌-◌, ◌<◌, ◌≤◌, ⊎_elim, Bool, true, false, Option, Some, None, List, [], ◌∷◌}
+use Rattle.std.proofs.lemmas.Grind.{common_steps}
+use Rattle.std.proofs.Common.{[], ◌≡◌, ℕ, ◌+◌, ◌-◌, ◌<◌, ◌≤◌, ⊎_elim, Bool, true, false, Option, Some, None, List, ◌∷◌}
 use Rattle.std.proofs.Common.{length, refl, ap, sym, ◌∙◌, subst, arith}
 use Rattle.std.proofs.lemmas.Bool.{le-leb}
 use Rattle.std.specs.Prelude.{slice_get, Contains, find, nat_le}
@@ -22,16 +23,6 @@ find_is p (y ∷ ys) x e = by_test (p y)
   where
     some_same : (a b : ℕ) → Some a ≡ Some b → a ≡ b
     some_same a b e = cc
-
-find_no : (p : ℕ → Bool) (xs : List ℕ) (x : ℕ) → find p xs ≡ None → Contains xs x → p x ≡ true → ⊥
-find_no p [] x e c t = Contains-nil x c
-find_no p (y ∷ ys) x e c t = by_test (p y)
-    (λ s. some_none y (sym (rw s refl) ∙ e))
-    (λ f. ⊎_elim (λ (same : y ≡ x). let u : p y ≡ true = subst (λ z. p z ≡ true) (sym same) t in absurd (cc))
-    (λ (d : Contains ys x). find_no p ys x (sym (rw f refl) ∙ e) d t) (Contains-cases y ys x c))
-  where
-    some_none : (y : ℕ) → Some y ≡ None → ⊥
-    some_none y e = cc
 
 find_some : (p : ℕ → Bool) (xs : List ℕ) (x : ℕ) → Contains xs x → p x ≡ true → (y : ℕ) × (find p xs ≡ Some y)
 find_some p [] x c t = absurd (Contains-nil x c)
@@ -59,13 +50,7 @@ of_end : (k p : ℕ) (hit : Match) (end : Option ℕ)
     → option_map (λ j. record { pattern = k; start = p; end = j }) end ≡ Some hit
     → (end ≡ Some hit.end) × (hit.pattern ≡ k) × (hit.start ≡ p)
 of_end k p hit None e = absurd (cc)
-of_end k p hit (Some j) e =
-    let made : Match = record { pattern = k; start = p; end = j } in
-    let same = hit_same made hit e in (
-      ap (λ (h : Match). Some h.end) same,
-      ap (λ (h : Match). h.pattern) (sym same),
-      ap (λ (h : Match). h.start) (sym same),
-    )
+of_end k p hit (Some j) e = grind (arith, common_steps, hit_same)
 
 abbrev ending : List Expression → ℕ → Query → ℕ → ℕ → Expression → Option Match
 ending es t q p k e =
@@ -82,19 +67,7 @@ candidate_out es t q p k a = rw a refl
 
 pub candidate_matches : (es : List Expression) (t : ℕ) (q : Query) (p k : ℕ) (hit : Match)
     → candidate es t q p k ≡ Some hit → Matches es t q p k hit
-candidate_matches es t q p k hit e = by_test (admitted q (length es) p k)
-    (λ a. of_pattern (slice_get es k) refl a (sym (candidate_in es t q p k a) ∙ e))
-    (λ a. absurd (none_some hit (sym (candidate_out es t q p k a) ∙ e)))
-  where
-    none_some : (hit : Match) → None ≡ Some hit → ⊥
-    none_some hit e = cc
-
-    of_pattern : (o : Option Expression) → slice_get es k ≡ o → admitted q (length es) p k ≡ true
-        → option_and_then (ending es t q p k) o ≡ Some hit → Matches es t q p k hit
-    of_pattern None g a e = absurd (none_some hit e)
-    of_pattern (Some x) g a e =
-        let found = of_end k p hit (end_within (reading Direction.Forward t q.haystack) x q.end p) e in
-        record { is_admitted = a; expression = x; there = g; end = found.0; pattern = found.1; start = found.2 }
+candidate_matches es t q p k hit e = grind (arith, common_steps, by_test, candidate_in, candidate_out, of_end)
 
 -- where no match is a candidate, none ends within the span
 module _ (es : List Expression) (t : ℕ) (q : Query) (p k : ℕ) where

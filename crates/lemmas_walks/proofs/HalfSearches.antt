@@ -1,6 +1,6 @@
 -- A half search taken apart: it is done, its start is refused, or it is a walk.
-use Rattle.std.proofs.Common.{◌≡◌, ℕ, ◌<◌, ◌≤◌, ◌⊎◌, inl, inr, Bool, true, false, Option, Some, None, Ok, Err, length}
-use Rattle.std.proofs.Common.{refl, ap, sym, ◌∙◌}
+use Rattle.std.proofs.Common.{arith, ◌≡◌, ℕ, ◌<◌, ◌≤◌, ◌⊎◌, Bool, true, false, Option, Some, None, Ok, Err, refl, ap}
+use Rattle.std.proofs.lemmas.Grind.{common_steps}
 use Rattle.std.proofs.lemmas.Bool.{le-ltb, lt-ltb, ltb-true, ltb-false}
 use Rattle.std.specs.Prelude.{is_some, if◌then◌else◌}
 use Rattle.rx_spec.specs.Bytes.{contains, unit_of}
@@ -8,7 +8,7 @@ use Rattle.rx_spec.specs.Queries.{Anchored, Query, is_done, HalfMatch, MatchErro
 use Rattle.rx_spec.specs.Contexts.{start_of}
 use Rattle.rx_spec.specs.Machines.{Machine, Settings}
 use Rattle.rx_spec.specs.Starts.{supports, start_context, StartError, mode_error, start_error, start_row}
-use Rattle.rx_spec.specs.Builds.{Build, dead, nfa_start, start_node, built_entry, power, build_settings}
+use Rattle.rx_spec.specs.Builds.{Build, nfa_start, start_node, power, build_settings}
 use Rattle.rx_spec.specs.HalfSearches.{HalfAnswer, beside, match_error, from_start, whole_walk, half_search}
 use Rattle.rx_spec.specs.declared.Direction.{Direction}
 use Rattle.lemmas_walks.proofs.Firsts.{by_test}
@@ -22,18 +22,12 @@ pub record IsStarted (s : Settings) (byte : Option ℕ) (mode : Anchored) : Type
 
 mode_supported : (s : Settings) (mode : Anchored) → mode_error s mode ≡ None
     → supports s.start_kind (is_some s.pattern_starts) mode ≡ true
-mode_supported s mode e =
-    by_test (supports s.start_kind (is_some s.pattern_starts) mode) (λ t. t)
-    (λ f. let named : mode_error s mode ≡ Some (StartError.UnsupportedAnchored mode) = rw f refl in absurd (cc))
+mode_supported s mode e = grind (arith, common_steps, by_test)
 
 pub started : (s : Settings) (byte : Option ℕ) (mode : Anchored) → start_error s byte mode ≡ None
     → IsStarted s byte mode
 started s None mode e = record { clean = refl; supported = mode_supported s mode e }
-started s (Some b) mode e =
-    by_test (contains s.quit b)
-    (λ t. let named : start_error s (Some b) mode ≡ Some (StartError.Quit b) = rw t refl in absurd (cc))
-    (λ f. let rest : start_error s (Some b) mode ≡ mode_error s mode = rw f refl in
-    let is : IsStarted s (Some b) mode = record { clean = f; supported = mode_supported s mode (sym rest ∙ e) } in is)
+started s (Some b) mode e = grind (arith, common_steps, by_test, mode_supported)
 
 pub not_refused : (s : Settings) (byte : Option ℕ) (mode : Anchored) → IsStarted s byte mode
     → start_error s byte mode ≡ None
@@ -70,16 +64,12 @@ some_if false n = refl
 pub build_supports : (b : Build) (mode : Anchored)
     → supports b.start_kind (is_some (build_settings b).pattern_starts) mode
     ≡ supports b.start_kind b.pattern_starts mode
-build_supports b mode =
-    ap (λ t. supports b.start_kind t mode) (some_if b.pattern_starts (length b.nfa.start_patterns))
+build_supports b mode = grind (arith, common_steps, some_if)
 
 pub build_start : (b : Build) (byte : Option ℕ) (mode : Anchored) → IsStarted (build_settings b) byte mode
     → start_row (power b) (build_settings b) byte mode
     ≡ start_node b.nfa (nfa_start b.nfa mode) (start_of b.nfa.line_terminator byte)
-build_start b byte mode is =
-    let start = start_node b.nfa (nfa_start b.nfa mode) (start_of b.nfa.line_terminator byte) in
-    ap (built_entry b mode) (build_context b byte)
-    ∙ ap (λ t. if t then start else dead) (sym (build_supports b mode) ∙ is.supported)
+build_start b byte mode is = grind (arith, common_steps, build_context, build_supports)
 
 -- ---- the search
 
@@ -117,16 +107,17 @@ pub record Begun {R : Type 0} (m : Machine R) (s : Settings) (direction : Direct
 
 pub half_begun : {R : Type 0} (m : Machine R) (s : Settings) (direction : Direction) (q : Query) (h : Option HalfMatch)
     → half_search m s direction q ≡ Ok h → ((q.end < q.start) × (h ≡ None)) ⊎ Begun m s direction q h
-half_begun m s direction q h e = by_start (begins s direction q)
-  where
-    by_start : Begins s direction q → ((q.end < q.start) × (h ≡ None)) ⊎ Begun m s direction q h
-    by_start (Done past) =
-        inl (past, sym (told_same None h (sym (half_done m s direction q (lt-ltb q.end q.start past)) ∙ e)))
-    by_start (Refused order error is) =
-        let no = half_refused m s direction q error (going q order) is in
-        absurd (error_not_told (match_error direction q error) h (sym no ∙ e))
-    by_start (Started order is) = inr (record {
-      order = order;
-      start = started s (beside direction q) q.mode is;
-      walked = sym (half_walks m s direction q (going q order) is) ∙ e;
-    })
+half_begun m s direction q h e =
+    grind (
+      arith,
+      common_steps,
+      begins,
+      told_same,
+      half_done,
+      lt-ltb,
+      half_refused,
+      going,
+      error_not_told,
+      started,
+      half_walks,
+    )

@@ -1,7 +1,8 @@
 -- Two readings that are mirrors of one another: what matches from i to j in the one, matches backward
 -- from j to i in the other.
-use Rattle.std.proofs.Common.{◌≡◌, ℕ, suc, zero, ◌+◌, ◌-◌, ◌<◌, ◌≤◌, ◌↔◌, inl, inr, true, Option, Some, None, List, []}
-use Rattle.std.proofs.Common.{◌∷◌, length, reverse, refl, ap, sym, ◌∙◌, subst, arith, ⊎_elim}
+use Rattle.std.proofs.lemmas.Grind.{common_steps}
+use Rattle.std.proofs.Common.{[], ◌≡◌, ℕ, suc, zero, ◌+◌, ◌-◌, ◌<◌, ◌≤◌, ◌↔◌, inl, inr, Option, Some, None, List, ◌∷◌}
+use Rattle.std.proofs.Common.{length, reverse, refl, ap, sym, ◌∙◌, subst, arith}
 use Rattle.std.proofs.lemmas.Bool.{cases_lt}
 use Rattle.std.proofs.lemmas.List.{get_or-reverse, length-reverse}
 use Rattle.std.proofs.lemmas.Option.{slice_get-get_or, slice_get_past}
@@ -12,9 +13,8 @@ use Rattle.rx_spec.specs.Ends.{ends}
 use Rattle.rx_spec.specs.Queries.{reading}
 use Rattle.rx_spec.specs.declared.Look.{Look}
 use Rattle.rx_spec.specs.declared.Direction.{Direction}
-use Rattle.lemmas_walks.proofs.Reaches.{pair, IsIn, IsIn-within, Rounds, Rounds-push}
-use Rattle.lemmas_walks.proofs.Reaches.{Reaches, reaches_lie, reaches_sound}
-use Rattle.lemmas_walks.proofs.Reaches.{reaches_complete}
+use Rattle.lemmas_walks.proofs.Reaches.{pair, IsIn, IsIn-within, Rounds, Rounds-push, Reaches, reaches_lie}
+use Rattle.lemmas_walks.proofs.Reaches.{reaches_sound, reaches_complete}
 
 -- two readings of one haystack, one against the other
 pub record Mirrored (r s : Reading) : Type 0 where
@@ -52,21 +52,13 @@ reverse_at (x ∷ xs) k h =
 
 pub before_is_after : (hay : List ℕ) (i : ℕ) → i ≤ length hay → after (reverse hay) (length hay - i) ≡ before hay i
 before_is_after hay zero h = slice_get_past (reverse hay) (length hay - 0) (rw length-reverse (omega arith))
-before_is_after hay (suc k) h =
-    let e : length hay - 1 - (length hay - suc k) ≡ k = omega arith in
-    reverse_at hay (length hay - suc k) (omega arith) ∙ ap (slice_get hay) e
+before_is_after hay (suc k) h = grind (arith, common_steps, reverse_at)
 
 before_at : (hay : List ℕ) (i k : ℕ) → i ≡ suc k → before hay i ≡ slice_get hay k
 before_at hay i k e = rw e refl
 
 pub after_is_before : (hay : List ℕ) (i : ℕ) → i ≤ length hay → before (reverse hay) (length hay - i) ≡ after hay i
-after_is_before hay i h =
-    ⊎_elim (λ (l : i < length hay). let e : length hay - i ≡ suc (length hay - 1 - i) = omega arith in
-    let back : length hay - 1 - (length hay - 1 - i) ≡ i = omega arith in
-    before_at (reverse hay) (length hay - i) (length hay - 1 - i) e ∙ reverse_at hay (length hay - 1 - i) (omega arith)
-    ∙ ap (slice_get hay) back)
-    (λ (l : length hay ≤ i). let e : length hay - i ≡ 0 = omega arith in rw e (sym (slice_get_past hay i l)))
-    (cases_lt i (length hay))
+after_is_before hay i h = grind (arith, common_steps, before_at, reverse_at, slice_get_past, cases_lt)
 
 -- an assertion between two places is the same, from whichever end it is read
 pub look_mirrored : (t : ℕ) (hay : List ℕ) (look : Look) (i : ℕ) → i ≤ length hay
@@ -76,13 +68,7 @@ look_mirrored t hay look i h = rw (before_is_after hay i h, after_is_before hay 
 
 pub Mirrored-readings : (t : ℕ) (hay : List ℕ)
     → Mirrored (reading Direction.Forward t hay) (reading Direction.Reverse t hay)
-Mirrored-readings t hay = record {
-  lengths = length-reverse hay;
-  bytes =
-      λ i h. let e : length hay - 1 - (length hay - (i + 1)) ≡ i = omega arith in
-      reverse_at hay (length hay - (i + 1)) (omega arith) ∙ ap (slice_get hay) e;
-  looks = λ look i h. look_mirrored t hay look i h;
-}
+Mirrored-readings t hay = grind (arith, common_steps, length-reverse, reverse_at, look_mirrored)
 
 -- the mirror's form
 pub min_len-mirror : (e : Expression) → min_len (mirror e) ≡ min_len e
@@ -136,10 +122,7 @@ turned r s (Expression.Class set) i j m within (e, is) =
       omega arith,
       subst (λ k. IsIn set (after s.units (length r.units - k))) (sym e) (subst (IsIn set) (sym (m.bytes i there)) is),
     )
-turned r s (Expression.Look look) i j m within (e, holds) = (
-  ap (λ k. length r.units - k) (sym e),
-  subst (λ k. holds_at s look (length r.units - k) ≡ true) e (m.looks look i within ∙ holds),
-)
+turned r s (Expression.Look look) i j m within (e, holds) = grind (arith, common_steps)
 turned r s (Expression.Concat a b) i j m within (k, x, y) =
     let middle = reaches_lie r a i k within x in
     (length r.units - k, turned r s b k j m middle.1 y, turned r s a i k m within x)

@@ -1,5 +1,6 @@
 -- What a unit does to an overlapping search, as `Walking` says it of a half search.
-use Rattle.std.proofs.Common.{◌≡◌, ℕ, true, false, if◌then◌else◌, Some, None, List, [], ◌∷◌, refl, ap, sym, ◌∙◌}
+use Rattle.std.proofs.Common.{[], arith, ◌≡◌, ℕ, true, false, if◌then◌else◌, Some, None, List, ◌∷◌, refl, ap, ◌∙◌}
+use Rattle.std.proofs.lemmas.Grind.{common_steps}
 use Rattle.rx_spec.specs.Bytes.{contains}
 use Rattle.rx_spec.specs.Queries.{Query, is_done}
 use Rattle.rx_spec.specs.Machines.{Label, label_of, Machine, IsWord, Settings}
@@ -38,13 +39,6 @@ module _ {R : Type 0} (m : Machine R) (direction : Direction) where
   unfolding overlapping_walk
   overlapping-cons row unit offset units = refl
 
-  -- a row that tells nothing passes over to the next unit
-  pub overlapping_plain : (row : R) (unit offset : ℕ) (units : List ℕ) → m.is_dead (m.next row unit) ≡ false
-      → m.label (m.next row unit) ≡ Label.Plain
-      → overlapping_walk m direction row offset (unit ∷ units)
-      ≡ overlapping_walk m direction (m.next row unit) (next_offset direction offset) units
-  overlapping_plain row unit offset units alive label = overlapping-cons row unit offset units ∙ rw (label, alive) refl
-
   -- a match row tells its patterns, and then what is told from there on
   pub overlapping_match : (row : R) (unit offset : ℕ) (units : List ℕ) {ks : List ℕ}
       → m.is_dead (m.next row unit) ≡ false
@@ -68,9 +62,7 @@ module _ {R : Type 0} (m : Machine R) (direction : Direction) where
       → (m.is_dead next ≡ true
       → overlapping_walk m direction next (next_offset direction offset) units ≡ none_left Ending.Ended)
       → overlapping_on unit offset units next ≡ overlapping_through unit offset units next
-  overlapping_passes unit offset units next stays =
-      ap (at_item_label (m.label next) direction unit offset)
-      (by_test (m.is_dead next) (λ e. rw e (sym (stays e))) (λ e. rw e refl))
+  overlapping_passes unit offset units next stays = grind (arith, common_steps, by_test)
 
   pub overlapping_silent : (row : R) (offset : ℕ) (units : List ℕ) → IsWord units → IsSilent m row
       → overlapping_walk m direction row offset units ≡ none_left Ending.Ended
@@ -89,10 +81,7 @@ module _ {R : Type 0} (m : Machine R) (direction : Direction) where
       → (m.is_dead (m.next row unit) ≡ true → IsSilent m (m.next row unit))
       → overlapping_walk m direction row offset (unit ∷ units) ≡ overlapping_through unit offset units (m.next row unit)
   overlapping-more row unit offset units w silent =
-      let next = m.next row unit in
-      overlapping-cons row unit offset units
-      ∙ overlapping_passes unit offset units next
-      (λ e. overlapping_silent next (next_offset direction offset) units w (silent e))
+      grind (arith, common_steps, overlapping-cons, overlapping_passes, overlapping_silent)
 
 -- over a build's powerset machine: dead, quit, or on to a step of the state
 module _ (b : Build) (direction : Direction) where
@@ -102,16 +91,12 @@ module _ (b : Build) (direction : Direction) where
   pub overlapping_dead : (s : State) (offset : ℕ) (units : List ℕ) → is_dead_state s ≡ true
       → state_overlapping s offset units ≡ none_left Ending.Ended
   overlapping_dead s offset [] e = overlapping-nil (power b) direction (Node.Running s) offset
-  overlapping_dead s offset (unit ∷ units) e =
-      overlapping-cons (power b) direction (Node.Running s) unit offset units
-      ∙ ap (overlapping_on (power b) direction unit offset units) (next_dead b s unit e)
+  overlapping_dead s offset (unit ∷ units) e = grind (arith, common_steps, overlapping-cons, next_dead)
 
   pub overlapping_quits : (s : State) (unit offset : ℕ) (units : List ℕ)
       → is_dead_state s ≡ false → contains b.quit unit ≡ true
       → state_overlapping s offset (unit ∷ units) ≡ none_left (Ending.Quits unit (unit_offset direction offset))
-  overlapping_quits s unit offset units e f =
-      overlapping-cons (power b) direction (Node.Running s) unit offset units
-      ∙ ap (overlapping_on (power b) direction unit offset units) (next_quits b s unit e f)
+  overlapping_quits s unit offset units e f = grind (arith, common_steps, overlapping-cons, next_quits)
 
   pub overlapping_steps : (s : State) (unit offset : ℕ) (units : List ℕ)
       → is_dead_state s ≡ false → contains b.quit unit ≡ false
@@ -119,11 +104,7 @@ module _ (b : Build) (direction : Direction) where
       ≡ at_item_label (label_of (step b.nfa b.kind s unit).label) direction unit offset
       (state_overlapping (step b.nfa b.kind s unit) (next_offset direction offset) units)
   overlapping_steps s unit offset units e f =
-      let next = step b.nfa b.kind s unit in
-      overlapping-cons (power b) direction (Node.Running s) unit offset units
-      ∙ ap (overlapping_on (power b) direction unit offset units) (next_steps b s unit e f)
-      ∙ overlapping_passes (power b) direction unit offset units (Node.Running next)
-      (λ over. overlapping_dead next (next_offset direction offset) units over)
+      grind (arith, common_steps, overlapping-cons, next_steps, overlapping_passes, overlapping_dead)
 
 -- the search: done, refused, or a walk
 module _ {R : Type 0} (m : Machine R) (s : Settings) (direction : Direction) (q : Query) where

@@ -1,8 +1,8 @@
 -- Where the answers of an overlapping search come from, as `WalkBounds` says it of a half search.
-use Rattle.std.proofs.Common.{◌≡◌, ℕ, ◌≤◌, ◌⊎◌, inl, inr, ⊎_elim, Bool, if◌then◌else◌, Some, List, [], ◌∷◌, refl, ap}
-use Rattle.std.proofs.Common.{sym, ◌∙◌, subst}
+use Rattle.std.proofs.Common.{[], arith, rules, ◌≡◌, ℕ, ◌≤◌, ◌⊎◌, inr, ⊎_elim, Bool, if◌then◌else◌, Some, List, ◌∷◌}
+use Rattle.std.proofs.Common.{refl, ap, sym, ◌∙◌, subst}
+use Rattle.std.proofs.lemmas.Grind.{common_steps}
 use Rattle.std.proofs.lemmas.Bool.{lt-ltb}
-use Rattle.std.proofs.lemmas.List.Elements.{Contains-append_cases}
 use Rattle.std.specs.Prelude.{Contains}
 use Rattle.rx_spec.specs.Queries.{Query, HalfMatch, MatchError}
 use Rattle.rx_spec.specs.Machines.{Label, Machine, Settings}
@@ -14,7 +14,7 @@ use Rattle.rx_spec.specs.declared.Direction.{Direction}
 use Rattle.lemmas_walks.proofs.WalkBounds.{offset_in_span, offset_after-next, offset_after-zero, Came, came_first}
 use Rattle.lemmas_walks.proofs.WalkBounds.{came_later, LeadsToItem, LeadsToQuit}
 use Rattle.lemmas_walks.proofs.Firsts.{by_test, Contains-here, Contains-there, Contains-nil, Contains-cases}
-use Rattle.lemmas_walks.proofs.HalfSearches.{Begins, Done, Refused, Started, begins, going}
+use Rattle.lemmas_walks.proofs.HalfSearches.{Refused, begins, going}
 use Rattle.lemmas_walks.proofs.Overlapping.{overlapping-nil, overlapping-cons, overlapping_done, overlapping_refused}
 use Rattle.lemmas_walks.proofs.Overlapping.{overlapping_walks}
 
@@ -44,10 +44,7 @@ module _ {R : Type 0} (m : Machine R) (direction : Direction) where
       ⊎ Contains later.items (Item.Reported h)
   item_or Label.Quits unit offset later h c = absurd (Contains-nil (Item.Reported h) c)
   item_or Label.Plain unit offset later h c = inr c
-  item_or (Label.Matches ks) unit offset later h c =
-      ⊎_elim (λ (d : Contains (pattern_items ks offset) (Item.Reported h)). inl (ks, refl, d))
-      (λ (d : Contains later.items (Item.Reported h)). inr d)
-      (Contains-append_cases (pattern_items ks offset) later.items (Item.Reported h) c)
+  item_or (Label.Matches ks) unit offset later h c = grind (arith, common_steps)
 
   same_quit : (unit byte o offset : ℕ) → Ending.Quits unit o ≡ Ending.Quits byte offset
       → MatchError.Quit byte offset ≡ MatchError.Quit unit o
@@ -58,8 +55,7 @@ module _ {R : Type 0} (m : Machine R) (direction : Direction) where
       → (at_item_label label direction unit offset later).ending ≡ Ending.Quits byte at
       → ((label ≡ Label.Quits) × (MatchError.Quit byte at ≡ MatchError.Quit unit (unit_offset direction offset)))
       ⊎ (later.ending ≡ Ending.Quits byte at)
-  quits_or Label.Quits unit offset later byte at e =
-      inl (refl, same_quit unit byte (unit_offset direction offset) at e)
+  quits_or Label.Quits unit offset later byte at e = grind (arith, common_steps, same_quit)
   quits_or Label.Plain unit offset later byte at e = inr e
   quits_or (Label.Matches ks) unit offset later byte at e = inr e
 
@@ -67,10 +63,7 @@ module _ {R : Type 0} (m : Machine R) (direction : Direction) where
   pub overlapping_met : (units : List ℕ) (row : R) (offset : ℕ) (h : HalfMatch)
       → Contains (overlapping_walk m direction row offset units).items (Item.Reported h)
       → Came m row units (LeadsToItem m direction offset h)
-  overlapping_met [] row offset h c =
-      absurd (Contains-nil (Item.Reported h)
-      (subst (λ (x : OverlappingMatches). Contains x.items (Item.Reported h))
-      (overlapping-nil m direction row offset) c))
+  overlapping_met [] row offset h c = grind (arith, common_steps, overlapping-nil)
   overlapping_met (unit ∷ units) row offset h c =
       let next = m.next row unit in
       let here = next_offset direction offset in
@@ -104,12 +97,7 @@ module _ {R : Type 0} (m : Machine R) (direction : Direction) where
   pub overlapping_quit : (units : List ℕ) (row : R) (offset byte at : ℕ)
       → (overlapping_walk m direction row offset units).ending ≡ Ending.Quits byte at
       → Came m row units (LeadsToQuit m direction offset (MatchError.Quit byte at))
-  overlapping_quit [] row offset byte at e =
-      absurd (ended_not byte at
-      (sym (ap (λ (x : OverlappingMatches). x.ending) (overlapping-nil m direction row offset)) ∙ e))
-    where
-      ended_not : (byte at : ℕ) → Ending.Ended ≡ Ending.Quits byte at → ⊥
-      ended_not byte at e = cc
+  overlapping_quit [] row offset byte at e = grind (arith, common_steps, overlapping-nil)
   overlapping_quit (unit ∷ units) row offset byte at e =
       let next = m.next row unit in
       let here = next_offset direction offset in
@@ -142,11 +130,7 @@ module _ {R : Type 0} (m : Machine R) (direction : Direction) where
   -- A walk isn't refused.
   not_refused : (units : List ℕ) (row : R) (offset : ℕ) (error : MatchError)
       → (overlapping_walk m direction row offset units).ending ≡ Ending.Refused error → ⊥
-  not_refused [] row offset error e =
-      ended error (sym (ap (λ (x : OverlappingMatches). x.ending) (overlapping-nil m direction row offset)) ∙ e)
-    where
-      ended : (error : MatchError) → Ending.Ended ≡ Ending.Refused error → ⊥
-      ended error e = cc
+  not_refused [] row offset error e = grind (arith, common_steps, overlapping-nil)
   not_refused (unit ∷ units) row offset error e =
       let next = m.next row unit in
       let on = overlapping_walk m direction next (next_offset direction offset) units in
@@ -179,20 +163,17 @@ module _ {R : Type 0} (m : Machine R) (s : Settings) (direction : Direction) (q 
       → (q.start ≤ q.end)
       × Came m (start_row m s (beside direction q) q.mode) (units_of direction q)
       (LeadsToItem m direction (first_offset direction q) h)
-  search_met h c = by_start (begins s direction q)
-    where
-      by_start : Begins s direction q
-          → (q.start ≤ q.end) × CameIn (LeadsToItem m direction (first_offset direction q) h)
-      by_start (Done past) =
-          absurd (Contains-nil (Item.Reported h)
-          (subst (HasItem h) (overlapping_done m s direction q (lt-ltb q.end q.start past)) c))
-      by_start (Refused order error is) =
-          absurd (Contains-nil (Item.Reported h)
-          (subst (HasItem h) (overlapping_refused m s direction q error (going q order) is) c))
-      by_start (Started order is) = (
-        order,
-        overlapping_met m direction (units_of direction q) (start_row m s (beside direction q) q.mode)
-            (first_offset direction q) h (subst (HasItem h) (overlapping_walks m s direction q (going q order) is) c),
+  search_met h c =
+      grind (
+        arith,
+        common_steps,
+        begins,
+        overlapping_done,
+        lt-ltb,
+        overlapping_refused,
+        going,
+        overlapping_met,
+        overlapping_walks,
       )
 
   pub overlapping_in_span : (h : HalfMatch) → Contains (overlapping m s direction q).items (Item.Reported h)
@@ -208,58 +189,22 @@ module _ {R : Type 0} (m : Machine R) (s : Settings) (direction : Direction) (q 
       → (q.start ≤ q.end)
       × Came m (start_row m s (beside direction q) q.mode) (units_of direction q)
       (LeadsToQuit m direction (first_offset direction q) (MatchError.Quit byte at))
-  search_quit byte at e = by_start (begins s direction q)
-    where
-      by_start : Begins s direction q
-          → (q.start ≤ q.end) × CameIn (LeadsToQuit m direction (first_offset direction q) (MatchError.Quit byte at))
-      by_start (Done past) =
-          absurd (ended_not (sym (ap (λ (x : OverlappingMatches). x.ending)
-          (overlapping_done m s direction q (lt-ltb q.end q.start past))) ∙ e))
-        where
-          ended_not : Ending.Ended ≡ Ending.Quits byte at → ⊥
-          ended_not e = cc
-      by_start (Refused order error is) =
-          absurd (refused_not (match_error direction q error) (sym (ap (λ (x : OverlappingMatches). x.ending)
-          (overlapping_refused m s direction q error (going q order) is)) ∙ e))
-        where
-          refused_not : (error : MatchError) → Ending.Refused error ≡ Ending.Quits byte at → ⊥
-          refused_not error e = cc
-      by_start (Started order is) = (
-        order,
-        overlapping_quit m direction (units_of direction q) (start_row m s (beside direction q) q.mode)
-            (first_offset direction q) byte at (sym (ap (λ (x : OverlappingMatches). x.ending)
-            (overlapping_walks m s direction q (going q order) is)) ∙ e),
+  search_quit byte at e =
+      grind (
+        arith,
+        common_steps,
+        begins,
+        overlapping_done,
+        lt-ltb,
+        overlapping_refused,
+        going,
+        overlapping_quit,
+        overlapping_walks,
       )
 
   pub search_refused : (error : MatchError) → (overlapping m s direction q).ending ≡ Ending.Refused error
       → (q.start ≤ q.end)
       × ((refused : StartError) × (start_error s (beside direction q) q.mode ≡ Some refused)
       × (error ≡ match_error direction q refused))
-  search_refused error e = by_start (begins s direction q)
-    where
-      by_start : Begins s direction q → (q.start ≤ q.end)
-          × ((refused : StartError) × (start_error s (beside direction q) q.mode ≡ Some refused)
-          × (error ≡ match_error direction q refused))
-      by_start (Done past) =
-          absurd (ended_not (sym (ap (λ (x : OverlappingMatches). x.ending)
-          (overlapping_done m s direction q (lt-ltb q.end q.start past))) ∙ e))
-        where
-          ended_not : Ending.Ended ≡ Ending.Refused error → ⊥
-          ended_not e = cc
-      by_start (Refused order refused is) = (
-        order,
-        (
-          refused,
-          is,
-          same_error (match_error direction q refused) error
-              (sym (ap (λ (x : OverlappingMatches). x.ending)
-              (overlapping_refused m s direction q refused (going q order) is)) ∙ e),
-        ),
-      )
-        where
-          same_error : (a b : MatchError) → Ending.Refused a ≡ Ending.Refused b → b ≡ a
-          same_error a b e = cc
-      by_start (Started order is) =
-          absurd (not_refused m direction (units_of direction q) (start_row m s (beside direction q) q.mode)
-          (first_offset direction q) error (sym (ap (λ (x : OverlappingMatches). x.ending)
-          (overlapping_walks m s direction q (going q order) is)) ∙ e))
+  search_refused error e =
+      search (rules, begins, overlapping_done, lt-ltb, overlapping_refused, going, not_refused, overlapping_walks)

@@ -1,6 +1,7 @@
 -- Paths of an expression's rows that read nothing are no longer than the square of the number of rows.
-use Rattle.std.proofs.Common.{◌≡◌, ℕ, zero, suc, ◌+◌, ◌-◌, ◌*◌, ◌<◌, ◌≤◌, Bool, true, false, Option, Some, None, List}
-use Rattle.std.proofs.Common.{[], ◌∷◌, ◌++◌, length, sym, subst, arith, length-append, ◌⊎◌, inl, inr, ⊎_elim}
+use Rattle.std.proofs.lemmas.Grind.{common_steps}
+use Rattle.std.proofs.Common.{[], ◌≡◌, ℕ, zero, suc, ◌+◌, ◌-◌, ◌*◌, ◌<◌, ◌≤◌, Bool, true, false, Option, Some, None}
+use Rattle.std.proofs.Common.{List, ◌∷◌, ◌++◌, length, subst, arith, length-append, ◌⊎◌, inl, inr, ⊎_elim}
 use Rattle.rx_spec.specs.Expressions.{Expression, min_len, IsLoopSafe, IsBounded}
 use Rattle.rx_spec.specs.Rows.{Row, Maker, straight, row_to, chained, either, choice, copies, optional, loop, repeated}
 use Rattle.rx_spec.specs.Rows.{compile, repeated_count, rows_count}
@@ -18,9 +19,7 @@ square_le (suc n) = omega arith
 pub short_at : (rows : List Row) (n q : ℕ) (row : Row) → row_at rows q ≡ row → AllNext (λ p. Short rows n p) row
     → Short rows (n + 1) q
 unfolding Short
-short_at rows n q row e h =
-    let above : suc n ≡ n + 1 = omega arith in
-    subst (λ m. Short rows m q) above (subst (λ x. AllNext (λ p. Short rows n p) x) (sym e) h)
+short_at rows n q row e h = grind (arith, common_steps)
 
 factors : (m n : ℕ) → 0 < m * n → (0 < m) × (0 < n)
 factors zero n h = absurd (omega (arith, h))
@@ -49,19 +48,16 @@ module _ (rows : List Row) where
 
   each_more : (base : ℕ) (xs : List Row) (n m : ℕ) → EachFrom (λ q. Short rows n q) base xs → n ≤ m
       → EachFrom (λ q. Short rows m q) base xs
-  each_more base xs n m h le =
-      each-weaker (λ q. Short rows n q) (λ q. Short rows m q) base xs (λ q k. short-more rows n m q le k) h
+  each_more base xs n m h le = grind (arith, common_steps, each-weaker, short-more)
 
   -- a row that stands after others
   last_short : (base n q : ℕ) (front : List Row) (row : Row) → Stands rows base (front ++ (row ∷ []))
       → base + length front ≡ q → AllNext (λ p. Short rows n p) row → Short rows (n + 1) q
-  last_short base n q front row stands e h =
-      short_at rows n q row (subst (λ p. row_at rows p ≡ row) e (stands-right rows base front (row ∷ []) stands).0) h
+  last_short base n q front row stands e h = grind (arith, common_steps, short_at, stands-right)
 
   each_last : (base n q : ℕ) (front : List Row) (row : Row) → EachFrom (λ p. Short rows n p) base front
       → q ≡ base + length front → Short rows n q → EachFrom (λ p. Short rows n p) base (front ++ (row ∷ []))
-  each_last base n q front row h e k =
-      each-append (λ p. Short rows n p) base front (row ∷ []) h (subst (λ p. Short rows n p) e k, tt)
+  each_last base n q front row h e k = grind (arith, common_steps, each-append)
 
   both_next : (greedy : Bool) (body next n : ℕ) → Short rows n body → Short rows n next
       → AllNext (λ p. Short rows n p) (choice greedy body next)
@@ -71,26 +67,17 @@ module _ (rows : List Row) where
   -- ---- the kinds of part
 
   straight_lengthens : Lengthens straight 0
-  straight_lengthens = record {
-    entry = λ base next n stands h. more next n (n + 0) h (omega arith);
-    each = λ base next n stands h. tt;
-  }
+  straight_lengthens = grind (arith, common_steps, more)
 
   class_lengthens : (set : ℕ) → Lengthens (row_to (Row.Bytes set)) 1
-  class_lengthens set = record {
-    entry = λ base next n stands h. short_at rows n base (Row.Bytes set next) stands.0 tt;
-    each = λ base next n stands h. (short_at rows n base (Row.Bytes set next) stands.0 tt, tt);
-  }
+  class_lengthens set = grind (arith, common_steps, short_at)
 
   class_stops : (set : ℕ) → Stops (row_to (Row.Bytes set)) 1
   class_stops set =
       record { entry = λ base next stands. short_at rows 0 base (Row.Bytes set next) stands.0 tt }
 
   look_lengthens : (look : Look) → Lengthens (row_to (Row.Look look)) 1
-  look_lengthens look = record {
-    entry = λ base next n stands h. short_at rows n base (Row.Look look next) stands.0 h;
-    each = λ base next n stands h. (short_at rows n base (Row.Look look next) stands.0 h, tt);
-  }
+  look_lengthens look = grind (arith, common_steps, short_at)
 
   chained_lengthens : {first second : Maker} {c d : ℕ} → Lengthens first c → Lengthens second d
       → Lengthens (chained first second) (c + d)
@@ -244,14 +231,7 @@ module _ (rows : List Row) where
 
   chained_stops : {first : Maker} {c : ℕ} (second : Maker) (d : ℕ) → Stops first c
       → Stops (chained first second) (c + d)
-  chained_stops {first} {c} second d f = record {
-    entry = λ base next stands.
-        let after = second base next in
-        let before = first (base + length after.rows) after.entry in
-        more before.entry c (c + d)
-        (f.entry (base + length after.rows) after.entry (stands-right rows base after.rows before.rows stands))
-        (omega arith);
-  }
+  chained_stops {first} {c} second d f = grind (arith, common_steps, more, stands-right)
 
   then_stops : {first second : Maker} {c d : ℕ} → Lengthens first c → Stops second d
       → Stops (chained first second) (c + d)
@@ -266,17 +246,8 @@ module _ (rows : List Row) where
 
   either_stops : {first second : Maker} {c d : ℕ} → Stops first c → Stops second d
       → Stops (either first second) (c + d + 1)
-  either_stops {first} {second} {c} {d} f s = record {
-    entry = λ base next stands.
-        let a = first base next in
-        let b = second (base + length a.rows) next in
-        let front = stands-left rows base (a.rows ++ b.rows) (Row.Split a.entry b.entry ∷ []) stands in
-        let left = f.entry base next (stands-left rows base a.rows b.rows front) in
-        let right = s.entry (base + length a.rows) next (stands-right rows base a.rows b.rows front) in
-        last_short base (c + d) (base + length a.rows + length b.rows) (a.rows ++ b.rows) (Row.Split a.entry b.entry)
-        stands (omega (arith, length-append a.rows b.rows))
-        (more a.entry c (c + d) left (omega arith), more b.entry d (c + d) right (omega arith));
-  }
+  either_stops {first} {second} {c} {d} f s =
+      grind (arith, common_steps, stands-left, stands-right, last_short, length-append, more)
 
   copies_stop : {body : Maker} {c : ℕ} → Lengthens body c → Stops body c → (n : ℕ) → 0 < n
       → Stops (copies n body) (n * c)

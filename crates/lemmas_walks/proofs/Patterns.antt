@@ -1,5 +1,6 @@
 -- What the start rows of an NFA give, and how deep all its rows are.
-use Rattle.std.proofs.Common.{◌≡◌, ℕ, zero, suc, ◌+◌, ◌*◌, ◌<◌, ◌≤◌, Bool, true, false, List, [], ◌∷◌, ◌++◌, length}
+use Rattle.std.proofs.lemmas.Grind.{common_steps}
+use Rattle.std.proofs.Common.{[], ◌≡◌, ℕ, zero, suc, ◌+◌, ◌*◌, ◌<◌, ◌≤◌, Bool, true, false, List, ◌∷◌, ◌++◌, length}
 use Rattle.std.proofs.Common.{refl, sym, subst, arith, le_refl, length-append, ⊎_elim}
 use Rattle.std.proofs.lemmas.Bool.{cases_lt}
 use Rattle.std.proofs.lemmas.Nat.{mul-le}
@@ -47,9 +48,7 @@ stands_at rows a b xs e h = subst (λ q. Stands rows q xs) e h
 
 each_at : (rows : List Row) (a b : ℕ) {n m : ℕ} (xs : List Row) → a ≡ b → n ≤ m
     → EachFrom (λ q. Short rows n q) a xs → EachFrom (λ q. Short rows m q) b xs
-each_at rows a b {n} {m} xs e le h =
-    subst (λ q. EachFrom (λ x. Short rows m x) q xs) e
-    (each-weaker (λ q. Short rows n q) (λ q. Short rows m q) a xs (λ q k. short-more rows n m q le k) h)
+each_at rows a b {n} {m} xs e le h = grind (arith, common_steps, each-weaker, short-more)
 
 -- Depths: each entry of a pattern by the number of the patterns' rows, each row by its square.
 module _ (rows : List Row) where
@@ -96,9 +95,7 @@ module _ (rows : List Row) where
       → Short rows (m + length (start_of_all base entries).rows) (start_of_all base entries).entry
       × EachFrom (DeepFor (m + length (start_of_all base entries).rows)) base (start_of_all base entries).rows
   unfolding start_of_all
-  joined_depths m [] base h stands =
-      let fails = short_at rows m base Row.Fail stands.0 tt in
-      (fails, (fails, tt))
+  joined_depths m [] base h stands = grind (arith, common_steps, short_at)
   joined_depths m (entry ∷ []) base h stands = (short-more rows m (m + 0) entry (omega arith) h.0, tt)
   joined_depths m (entry ∷ (next ∷ entries)) base h stands =
       let others = start_of_all base (next ∷ entries) in

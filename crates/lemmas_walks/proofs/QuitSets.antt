@@ -1,11 +1,11 @@
 -- The rows of both directions have the same Unicode word assertions, so both builds have one quit set.
-use Rattle.std.proofs.Common.{◌≡◌, ℕ, suc, zero, ◌+◌, ◌-◌, Bool, true, false, ◌||◌, Option, Some, None, List, [], ◌∷◌}
-use Rattle.std.proofs.Common.{◌++◌, map, length, refl, ap, ap₂, sym, ◌∙◌}
-use Rattle.std.specs.List.{list_any, list_all}
+use Rattle.std.proofs.Common.{[], arith, rules, ◌≡◌, ℕ, suc, zero, ◌+◌, ◌-◌, Bool, true, false, ◌||◌, Option, Some}
+use Rattle.std.proofs.Common.{None, List, ◌∷◌, ◌++◌, map, length, refl, ap, ap₂, ◌∙◌}
+use Rattle.std.proofs.lemmas.Grind.{common_steps}
+use Rattle.std.specs.List.{list_any}
 use Rattle.rx_spec.specs.Expressions.{Expression, mirror}
 use Rattle.rx_spec.specs.Rows.{Row, Maker, chained, either, choice, copies, optional, loop, repeated, compile}
 use Rattle.rx_spec.specs.Nfas.{patterns_from, start_of_all, lead_in, nfa_of, read_as}
-use Rattle.rx_spec.specs.Edge.{begins_with_edge}
 use Rattle.rx_spec.specs.Classes.{looks_for_unicode_word}
 use Rattle.rx_spec.specs.Plans.{Plan, plan_build}
 use Rattle.rx_spec.specs.Looks.{is_unicode_word}
@@ -16,13 +16,7 @@ any_unicode rows = list_any looks_for_unicode_word rows
 
 any_append : (xs ys : List Row) → any_unicode (xs ++ ys) ≡ (any_unicode xs || any_unicode ys)
 any_append [] ys = refl
-any_append (x ∷ xs) ys =
-    ap (λ (b : Bool). looks_for_unicode_word x || b) (any_append xs ys)
-    ∙ or_assoc (looks_for_unicode_word x) (any_unicode xs) (any_unicode ys)
-  where
-    or_assoc : (a b c : Bool) → (a || (b || c)) ≡ ((a || b) || c)
-    or_assoc true b c = refl
-    or_assoc false b c = refl
+any_append (x ∷ xs) ys = grind (arith, common_steps)
 
 or_false : (a : Bool) → (a || false) ≡ a
 or_false true = refl
@@ -72,20 +66,11 @@ unicode_mirror (Expression.Repeat least most greedy body) = ap (rounds_of least 
 
 chained_asserts : (first second : Maker) (a b : Bool) → Asserts first a → Asserts second b
     → Asserts (chained first second) (a || b)
-chained_asserts first second a b f s base next =
-    let behind = second base next in
-    let front = first (base + length behind.rows) behind.entry in
-    any_append behind.rows front.rows
-    ∙ ap₂ (λ (x y : Bool). x || y) (s base next) (f (base + length behind.rows) behind.entry) ∙ or_comm b a
+chained_asserts first second a b f s base next = grind (arith, common_steps, any_append, or_comm)
 
 either_asserts : (first second : Maker) (a b : Bool) → Asserts first a → Asserts second b
     → Asserts (either first second) (a || b)
-either_asserts first second a b f s base next =
-    let x = first base next in
-    let y = second (base + length x.rows) next in
-    let last : List Row = Row.Split x.entry y.entry ∷ [] in
-    any_append (x.rows ++ y.rows) last ∙ or_false (any_unicode (x.rows ++ y.rows)) ∙ any_append x.rows y.rows
-    ∙ ap₂ (λ (x y : Bool). x || y) (f base next) (s (base + length x.rows) next)
+either_asserts first second a b f s base next = grind (arith, common_steps, any_append, or_false)
 
 some_more : (n : ℕ) (b : Bool) → (some_of n b || b) ≡ b
 some_more zero b = refl
@@ -117,9 +102,7 @@ optional_asserts greedy body b h (suc n) base next =
     (h (base + length inner.rows) inner.entry) ∙ some_more n b
 
 loop_asserts : (greedy : Bool) (body : Maker) (b : Bool) → Asserts body b → Asserts (loop greedy body) b
-loop_asserts greedy body b h base next =
-    let round = body (base + 1) base in
-    choice_plain greedy round.entry next round.rows ∙ h (base + 1) base
+loop_asserts greedy body b h base next = grind (arith, common_steps, choice_plain)
 
 repeated_asserts : (least : ℕ) (most : Option ℕ) (greedy : Bool) (body : Maker) (b : Bool) → Asserts body b
     → Asserts (repeated least most greedy body) (rounds_of least most b)
@@ -127,9 +110,7 @@ repeated_asserts least None greedy body b h base next =
     chained_asserts (copies least body) (loop greedy body) (some_of least b) b (copies_assert body b h least)
     (loop_asserts greedy body b h) base next ∙ some_more least b
 repeated_asserts least (Some most) greedy body b h base next =
-    chained_asserts (copies least body) (optional greedy (most - least) body) (some_of least b)
-    (some_of (most - least) b) (copies_assert body b h least)
-    (optional_asserts greedy body b h (most - least)) base next
+    grind (arith, common_steps, chained_asserts, copies_assert, optional_asserts)
 
 compile_asserts : (e : Expression) → Asserts (compile e) (unicode_in e)
 unfolding compile unicode_in
@@ -172,19 +153,7 @@ nfa_asserts : (direction : Direction) (t : ℕ) (utf8 : Bool) (es : List Express
     → any_unicode (nfa_of direction t utf8 es).rows ≡ list_any unicode_in (map (read_as direction) es)
 unfolding nfa_of
 nfa_asserts direction t utf8 es =
-    let read = map (read_as direction) es in
-    let patterns = patterns_from 0 0 read in
-    let anchored = start_of_all (length patterns.rows) patterns.entries in
-    let base = length patterns.rows + length anchored.rows in
-    let unanchored = lead_in (list_all (begins_with_edge direction) read) base anchored.entry in
-    any_append (patterns.rows ++ anchored.rows) unanchored.rows
-    ∙ ap (λ (x : Bool). any_unicode (patterns.rows ++ anchored.rows) || x)
-    (lead_in_plain (list_all (begins_with_edge direction) read) base anchored.entry)
-    ∙ or_false (any_unicode (patterns.rows ++ anchored.rows))
-    ∙ any_append patterns.rows anchored.rows
-    ∙ ap (λ (x : Bool). any_unicode patterns.rows || x) (joined_plain (length patterns.rows) patterns.entries)
-    ∙ or_false (any_unicode patterns.rows)
-    ∙ patterns_assert 0 0 read
+    grind (arith, common_steps, any_append, lead_in_plain, or_false, joined_plain, patterns_assert)
 
 read_alike : (es : List Expression)
     → list_any unicode_in (map (read_as Direction.Reverse) es)
@@ -196,8 +165,7 @@ read_alike (e ∷ es) = ap₂ (λ (x y : Bool). x || y) (unicode_mirror e) (read
 pub unicode_alike : (t : ℕ) (utf8 : Bool) (es : List Expression)
     → list_any looks_for_unicode_word (nfa_of Direction.Reverse t utf8 es).rows
     ≡ list_any looks_for_unicode_word (nfa_of Direction.Forward t utf8 es).rows
-unicode_alike t utf8 es =
-    nfa_asserts Direction.Reverse t utf8 es ∙ read_alike es ∙ sym (nfa_asserts Direction.Forward t utf8 es)
+unicode_alike t utf8 es = search (rules, nfa_asserts, read_alike)
 
 -- and so one quit set
 pub quits_alike : (w : Plan) (es : List Expression)

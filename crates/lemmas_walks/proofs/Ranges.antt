@@ -1,4 +1,5 @@
 -- The first success among numbers in a row.
+use Rattle.std.proofs.lemmas.Grind.{common_steps}
 use Rattle.std.proofs.Common.{◌≡◌, ℕ, suc, zero, ◌+◌, ◌<◌, ◌⊎◌, inl, inr, ⊎_elim, Option, Some, None, refl, ap, ap₂}
 use Rattle.std.proofs.Common.{sym, ◌∙◌, subst, arith}
 use Rattle.std.specs.Option.{option_or}
@@ -32,14 +33,10 @@ module _ {V : Type 0} (f : ℕ → Option V) where
   shifted_back a k v e = subst (λ p. f p ≡ v) (sym (next_place a k)) e
 
   here : (a : ℕ) (v : Option V) → f a ≡ v → f (a + 0) ≡ v
-  here a v e =
-      let z : a + 0 ≡ a = omega arith in
-      subst (λ p. f p ≡ v) (sym z) e
+  here a v e = grind (arith, common_steps)
 
   here_back : (a : ℕ) (v : Option V) → f (a + 0) ≡ v → f a ≡ v
-  here_back a v e =
-      let z : a + 0 ≡ a = omega arith in
-      subst (λ p. f p ≡ v) z e
+  here_back a v e = grind (arith, common_steps)
 
   or_cases_some : (o p : Option V) (v : V) → option_or o p ≡ Some v → (o ≡ Some v) ⊎ ((o ≡ None) × (p ≡ Some v))
   or_cases_some None p v e = inr (refl, e)
@@ -88,8 +85,7 @@ module _ {V : Type 0} (f : ℕ → Option V) where
 
   pub none_in_range : (a n : ℕ) → first_of f (range_with_len a n) ≡ None → (k : ℕ) → k < n → f (a + k) ≡ None
   none_in_range a zero e k h = absurd (omega arith)
-  none_in_range a (suc n) e zero h =
-      here a None (or_none_both (f a) (first_of f (range_with_len (a + 1) n)) (sym (range_cons a n) ∙ e)).0
+  none_in_range a (suc n) e zero h = grind (arith, common_steps, here, or_none_both, range_cons)
   none_in_range a (suc n) e (suc k) h =
       shifted a k None
       (none_in_range (a + 1) n
@@ -98,8 +94,7 @@ module _ {V : Type 0} (f : ℕ → Option V) where
   pub range_first_at : (place a n : ℕ) (v : V) → place < n → f (a + place) ≡ Some v
       → ((k : ℕ) → k < place → f (a + k) ≡ None) → first_of f (range_with_len a n) ≡ Some v
   range_first_at place a zero v within g none = absurd (omega arith)
-  range_first_at zero a (suc n) v within g none =
-      range_cons a n ∙ ap (λ o. option_or o (first_of f (range_with_len (a + 1) n))) (here_back a (Some v) g)
+  range_first_at zero a (suc n) v within g none = grind (arith, common_steps, range_cons, here_back)
   range_first_at (suc place) a (suc n) v within g none =
       range_cons a n
       ∙ ap₂ option_or (here_back a None (none 0 (omega arith)))

@@ -1,11 +1,11 @@
 -- The textbook meaning of an expression, with no order: from which place to which it matches. It is
 -- what the lists of ends hold.
-use Rattle.std.proofs.Common.{◌≡◌, ℕ, suc, zero, ◌+◌, ◌*◌, ◌-◌, ◌<◌, ◌≤◌, ◌⊎◌, inl, inr, Bool, true, false, Option}
-use Rattle.std.proofs.Common.{Some, None, List, [], ◌∷◌, length, refl, sym, subst, arith, ⊎_elim}
+use Rattle.std.proofs.lemmas.Grind.{common_steps}
+use Rattle.std.proofs.Common.{[], ◌≡◌, ℕ, suc, zero, ◌+◌, ◌*◌, ◌-◌, ◌<◌, ◌≤◌, ◌⊎◌, inl, inr, Bool, true, false, Option}
+use Rattle.std.proofs.Common.{Some, None, List, ◌∷◌, length, refl, sym, subst, arith, ⊎_elim}
 use Rattle.std.proofs.lemmas.List.Elements.{Contains-append_left, Contains-append_right, Contains-append_cases}
 use Rattle.std.specs.Prelude.{Contains, slice_get}
 use Rattle.std.specs.List.{flat_map}
-use Rattle.rx_spec.specs.Bytes.{contains}
 use Rattle.rx_spec.specs.Looks.{Reading, after, holds_at}
 use Rattle.rx_spec.specs.Expressions.{Expression, min_len, IsLoopSafe, IsBounded}
 use Rattle.rx_spec.specs.Ends.{ends, class_ends, rounds, up_to, further, preferring}
@@ -23,9 +23,7 @@ times_more a b m h = grind arith
 
 -- rounds, one behind the other
 pub Rounds-append : (R : ℕ → ℕ → Type 0) (m n i k j : ℕ) → Rounds R m i k → Rounds R n k j → Rounds R (m + n) i j
-Rounds-append R zero n i k j a b =
-    let e : 0 + n ≡ n = omega arith in
-    subst (λ x. Rounds R x i j) (sym e) (subst (λ x. Rounds R n x j) (sym a) b)
+Rounds-append R zero n i k j a b = grind (arith, common_steps)
 Rounds-append R (suc m) n i k j (l, a, b) c =
     let e : suc m + n ≡ suc (m + n) = omega arith in
     subst (λ x. Rounds R x i j) (sym e) (l, a, Rounds-append R m n l k j b c)
@@ -35,9 +33,7 @@ Rounds-push R zero i k j a b = (j, subst (λ x. R x j) (sym a) b, refl)
 Rounds-push R (suc n) i k j (l, a, c) b = (l, a, Rounds-push R n l k j c b)
 
 pub Rounds-split : (R : ℕ → ℕ → Type 0) (m n i j : ℕ) → Rounds R (m + n) i j → (k : ℕ) × Rounds R m i k × Rounds R n k j
-Rounds-split R zero n i j a =
-    let e : 0 + n ≡ n = omega arith in
-    (i, refl, subst (λ x. Rounds R x i j) e a)
+Rounds-split R zero n i j a = grind (arith, common_steps)
 Rounds-split R (suc m) n i j a =
     let e : suc m + n ≡ suc (m + n) = omega arith in
     go (subst (λ x. Rounds R x i j) e a) (λ k c. Rounds-split R m n k j c)
@@ -112,9 +108,7 @@ one x y e = (0, omega arith, e)
 -- the lists of ends hold what is reached, part by part
 class_sound : (set : ℕ) (byte : Option ℕ) (i j : ℕ) → Contains (class_ends set byte i) j → (j ≡ i + 1) × IsIn set byte
 class_sound set None i j c = absurd (Contains-nil j c)
-class_sound set (Some b) i j c = by_test (contains set b)
-    (λ e. (sym (only_one (i + 1) j (rw e at c)), e))
-    (λ e. absurd (Contains-nil j (rw e at c)))
+class_sound set (Some b) i j c = grind (arith, common_steps, by_test, only_one)
 
 class_complete : (set : ℕ) (byte : Option ℕ) (i j : ℕ) → j ≡ i + 1 → IsIn set byte → Contains (class_ends set byte i) j
 class_complete set None i j e h = absurd h
@@ -141,11 +135,8 @@ rounds_complete body (suc n) i j (k, c, d) =
 
 preferring_cases : (greedy : Bool) (more : List ℕ) (i j : ℕ) → Contains (preferring greedy more i) j
     → Contains more j ⊎ (i ≡ j)
-preferring_cases true more i j c =
-    ⊎_elim (λ (d : Contains more j). inl d) (λ (d : Contains (i ∷ []) j). inr (only_one i j d))
-    (Contains-append_cases more (i ∷ []) j c)
-preferring_cases false more i j c =
-    ⊎_elim (λ (e : i ≡ j). inr e) (λ (d : Contains more j). inl d) (Contains-cases i more j c)
+preferring_cases true more i j c = grind (arith, common_steps, only_one)
+preferring_cases false more i j c = grind (arith, common_steps)
 
 preferring_more : (greedy : Bool) (more : List ℕ) (i j : ℕ) → Contains more j → Contains (preferring greedy more i) j
 preferring_more true more i j c = Contains-append_left more (i ∷ []) j c
@@ -174,8 +165,7 @@ up_to_complete : (greedy : Bool) (body : ℕ → List ℕ) (n m i j : ℕ) → m
 unfolding up_to
 up_to_complete greedy body zero zero i j h e = one i j e
 up_to_complete greedy body zero (suc m) i j h e = absurd (omega arith)
-up_to_complete greedy body (suc n) zero i j h e =
-    preferring_none greedy (flat_map (λ k. up_to greedy body n k) (body i)) i j e
+up_to_complete greedy body (suc n) zero i j h e = grind (arith, common_steps, preferring_none)
 up_to_complete greedy body (suc n) (suc m) i j h (k, c, d) =
     preferring_more greedy (flat_map (λ l. up_to greedy body n l) (body i)) i j
     (flat_map_into (λ l. up_to greedy body n l) (body i) k j c (up_to_complete greedy body n m k j (omega arith) d))
@@ -192,12 +182,7 @@ module _ (R S : ℕ → ℕ → Type 0) (limit : ℕ) (h : (i j : ℕ) → i ≤
       (k, first.0, Rounds-within n k j first.1 b)
 
 room : (i n L j limit : ℕ) → 0 < L → i + n * L ≤ j → j ≤ limit → n ≤ limit - i
-room i n L j limit pos h k =
-    let more = times_more_than n L pos in
-    omega (arith, more)
-  where
-    times_more_than : (n L : ℕ) → 0 < L → n ≤ n * L
-    times_more_than n L pos = grind arith
+room i n L j limit pos h k = grind (arith, common_steps)
 
 -- what may follow the rounds that must be
 module _ (r : Reading) (least : ℕ) (greedy : Bool) (e : Expression) (body : ℕ → List ℕ) where

@@ -1,6 +1,7 @@
 -- The units that a search reads: those of the reading of its haystack, from the place where it begins.
-use Rattle.std.proofs.Common.{◌≡◌, ℕ, suc, zero, ◌+◌, ◌-◌, ◌<◌, ◌≤◌, Option, Some, None, List, [], ◌∷◌, ◌++◌, length}
-use Rattle.std.proofs.Common.{drop, reverse, get_or, refl, ap, ap₂, sym, ◌∙◌, subst, arith}
+use Rattle.std.proofs.Common.{[], rules, ◌≡◌, ℕ, suc, zero, ◌+◌, ◌-◌, ◌<◌, ◌≤◌, Option, Some, None, List, ◌∷◌, ◌++◌}
+use Rattle.std.proofs.Common.{length, drop, reverse, get_or, refl, ap, ap₂, sym, ◌∙◌, subst, arith}
+use Rattle.std.proofs.lemmas.Grind.{common_steps}
 use Rattle.std.proofs.lemmas.List.{get_or-take, get_or-drop, get_or-reverse, length-reverse, length-drop}
 use Rattle.std.proofs.lemmas.List.{length-take-le}
 use Rattle.std.proofs.lemmas.List.Elements.{All-take, All-drop, All-contains}
@@ -32,11 +33,6 @@ pub units_from-suc : (r : Reading) (i n : ℕ) → units_from r i (suc n) ≡ un
 unfolding units_from
 units_from-suc r i n = refl
 
-pub length-units_from : (r : Reading) (i n : ℕ) → length (units_from r i n) ≡ n
-unfolding units_from
-length-units_from r i zero = refl
-length-units_from r i (suc n) = ap suc (length-units_from r (i + 1) n)
-
 pub get_or-units_from : (r : Reading) (i n k d : ℕ) → k < n → get_or (units_from r i n) k d ≡ unit_at r (i + k)
 unfolding units_from
 get_or-units_from r i zero k d h = absurd (omega arith)
@@ -49,8 +45,7 @@ get_or-units_from r i (suc n) (suc k) d h =
 pub units_from-alike : (r s : Reading) (i n : ℕ) → r.units ≡ s.units → units_from r i n ≡ units_from s i n
 unfolding units_from
 units_from-alike r s i zero e = refl
-units_from-alike r s i (suc n) e =
-    ap₂ (λ u us. u ∷ us) (ap (λ units. unit_of (after units i)) e) (units_from-alike r s (i + 1) n e)
+units_from-alike r s i (suc n) e = grind (arith, common_steps)
 
 -- a list and one unit more, read from its first on
 spelled : (r : Reading) (xs : List ℕ) (last i : ℕ)
@@ -129,26 +124,13 @@ span_at q k b h =
 
 span_back : (q : Query) (k : ℕ) → q.end ≤ length q.haystack → k < q.end - q.start
     → slice_get (reverse (span_bytes q)) k ≡ after (reverse q.haystack) (length q.haystack - q.end + k)
-span_back q k b h =
-    let n = span_length q (omega arith) b in
-    let place : q.start + (length (span_bytes q) - 1 - k) ≡ length q.haystack - 1 - (length q.haystack - q.end + k)
-    = omega (arith, n) in
-    reverse_at (span_bytes q) k (omega (arith, n))
-    ∙ span_at q (length (span_bytes q) - 1 - k) b (omega (arith, n))
-    ∙ ap (slice_get q.haystack) place
-    ∙ sym (reverse_at q.haystack (length q.haystack - q.end + k) (omega arith))
+span_back q k b h = grind (arith, common_steps, span_length, reverse_at, span_at)
 
 -- The units of a search are those of the reading, from the place where it begins.
 pub units_read : (direction : Direction) (t : ℕ) (q : Query) → q.start ≤ q.end → q.end ≤ length q.haystack
     → units_of direction q
     ≡ units_from (reading direction t q.haystack) (first_place direction q) (suc (q.end - q.start))
-units_read Direction.Forward t q a b =
-    let n = span_length q a b in
-    let r = reading Direction.Forward t q.haystack in
-    let past : q.end ≡ q.start + length (span_bytes q) = omega (arith, n) in
-    spelled r (span_bytes q) (unit_of (after q.haystack q.end)) q.start
-    (λ k h. span_at q k b (subst (λ m. k < m) n h)) (ap (unit_at r) past)
-    ∙ ap (λ m. units_from r q.start (suc m)) n
+units_read Direction.Forward t q a b = grind (arith, common_steps, span_length, spelled, span_at)
 units_read Direction.Reverse t q a b =
     let n = length-reverse (span_bytes q) ∙ span_length q a b in
     let r = reading Direction.Reverse t q.haystack in
@@ -170,9 +152,7 @@ next_byte_is : (direction : Direction) (q : Query) (d : ℕ) → q.start < q.end
     → next_byte direction q.haystack (first_offset direction q)
     ≡ Some (get_or q.haystack (unit_offset direction (first_offset direction q)) d)
 next_byte_is Direction.Forward q d a b = slice_get-get_or q.haystack q.start d (omega arith)
-next_byte_is Direction.Reverse q d a b =
-    let one : q.end ≡ suc (q.end - 1) = omega arith in
-    ap (before q.haystack) one ∙ slice_get-get_or q.haystack (q.end - 1) d (omega arith)
+next_byte_is Direction.Reverse q d a b = search (rules, slice_get-get_or)
 
 narrower_reads : (direction : Direction) (t : ℕ) (q : Query) → q.start < q.end → q.end ≤ length q.haystack
     → units_of direction (narrower direction q)
@@ -208,13 +188,7 @@ units_of-more direction q d a b =
 pub units_of-last : (direction : Direction) (q : Query) → q.start ≡ q.end → q.end ≤ length q.haystack
     → units_of direction q ≡ unit_of (next_byte direction q.haystack (first_offset direction q)) ∷ []
 units_of-last direction q a b =
-    let r = reading direction 0 q.haystack in
-    let first = first_place direction q in
-    let none : q.end - q.start ≡ 0 = omega arith in
-    let here = first_within direction q (omega arith) b in
-    units_read direction 0 q (omega arith) b ∙ ap (λ n. units_from r first (suc n)) none
-    ∙ units_from-suc r first 0 ∙ ap (λ us. unit_at r first ∷ us) (units_from-zero r (first + 1))
-    ∙ ap (λ byte. unit_of byte ∷ []) (next_at_place direction q.haystack (first_offset direction q) here)
+    grind (arith, common_steps, first_within, units_read, units_from-suc, units_from-zero, next_at_place)
 
 -- ---- bytes
 
@@ -223,10 +197,7 @@ pub All-got : {X : Type 0} (P : X → Type 0) (xs : List X) (i : ℕ) (x : X) �
 All-got P xs i x h e = subst P (get_or_from_slice_get xs i x x e) (h i x (slice_get_within xs i x e))
 
 pub bytes_reversed : (bytes : List ℕ) → AreBytes bytes → AreBytes (reverse bytes)
-bytes_reversed bytes h = λ k d l.
-    let n = length-reverse bytes in
-    let within : k < length bytes = omega (arith, n, l) in
-    subst (λ b. b < 256) (sym (get_or-reverse bytes k d within)) (h (length bytes - 1 - k) d (omega arith))
+bytes_reversed bytes h = grind (arith, common_steps, length-reverse, get_or-reverse)
 
 pub bytes_in_order : (direction : Direction) (haystack : List ℕ) → AreBytes haystack
     → AreBytes (in_order direction haystack)

@@ -1,6 +1,7 @@
 -- Rows that stand in a list of rows from a number on.
-use Rattle.std.proofs.Common.{◌≡◌, ℕ, zero, suc, ◌+◌, ◌<◌, ◌≤◌, List, [], ◌∷◌, ◌++◌, length, refl, ap, ◌∙◌, subst}
-use Rattle.std.proofs.Common.{arith, drop, ⊎_elim}
+use Rattle.std.proofs.lemmas.Grind.{common_steps}
+use Rattle.std.proofs.Common.{[], ◌≡◌, ℕ, zero, suc, ◌+◌, ◌<◌, ◌≤◌, List, ◌∷◌, ◌++◌, length, refl, ap, subst, arith}
+use Rattle.std.proofs.Common.{drop, ⊎_elim}
 use Rattle.std.proofs.lemmas.Bool.{cases_lt}
 use Rattle.rx_spec.specs.Rows.{Row}
 use Rattle.rx_spec.specs.States.{row_at}
@@ -70,9 +71,7 @@ one_dropped : (x : Row) (xs : List Row) (y : Row) (ys : List Row) → x ∷ xs �
 one_dropped x xs y ys e = ap tail_of e
 
 suc_dropped : (x : Row) (xs : List Row) (i : ℕ) (ys : List Row) → drop (i + 1) xs ≡ ys → drop (suc i + 1) (x ∷ xs) ≡ ys
-suc_dropped x xs i ys e =
-    let above : suc i + 1 ≡ suc (i + 1) = omega arith in
-    ap (λ n. drop n (x ∷ xs)) above ∙ e
+suc_dropped x xs i ys e = grind (arith, common_steps)
 
 got_next : (xs : List Row) (i : ℕ) (y : Row) (ys : List Row) → drop i xs ≡ y ∷ ys
     → (row_at xs i ≡ y) × (drop (i + 1) xs ≡ ys)

@@ -1,5 +1,6 @@
 -- How many rows an expression has.
-use Rattle.std.proofs.Common.{◌≡◌, ℕ, zero, suc, ◌+◌, ◌-◌, ◌*◌, Bool, Option, Some, None, List, [], ◌∷◌, ◌++◌, length}
+use Rattle.std.proofs.lemmas.Grind.{common_steps}
+use Rattle.std.proofs.Common.{[], ◌≡◌, ℕ, zero, suc, ◌+◌, ◌-◌, ◌*◌, Bool, Option, Some, None, List, ◌∷◌, ◌++◌, length}
 use Rattle.std.proofs.Common.{refl, arith, length-append}
 use Rattle.rx_spec.specs.Expressions.{Expression}
 use Rattle.rx_spec.specs.Rows.{Row, Maker, chained, either, choice, copies, optional, loop, repeated, compile}
@@ -11,24 +12,11 @@ Makes maker count = (base next : ℕ) → length (maker base next).rows ≡ coun
 
 pub chained_makes : (first second : Maker) (c d : ℕ) → Makes first c → Makes second d
     → Makes (chained first second) (c + d)
-chained_makes first second c d f s base next =
-    let behind = second base next in
-    let front = first (base + length behind.rows) behind.entry in
-    omega (arith, length-append behind.rows front.rows, s base next, f (base + length behind.rows) behind.entry)
+chained_makes first second c d f s base next = grind (arith, common_steps, length-append)
 
 pub either_makes : (first second : Maker) (c d : ℕ) → Makes first c → Makes second d
     → Makes (either first second) (c + d + 1)
-either_makes first second c d f s base next =
-    let a = first base next in
-    let b = second (base + length a.rows) next in
-    let last : List Row = Row.Split a.entry b.entry ∷ [] in
-    omega (
-      arith,
-      length-append (a.rows ++ b.rows) last,
-      length-append a.rows b.rows,
-      f base next,
-      s (base + length a.rows) next,
-    )
+either_makes first second c d f s base next = grind (arith, common_steps, length-append)
 
 pub copies_make : (body : Maker) (c : ℕ) → Makes body c → (n : ℕ) → Makes (copies n body) (n * c)
 unfolding copies
@@ -58,20 +46,9 @@ loop_makes greedy body c h base next = omega (arith, h (base + 1) base)
 pub repeated_makes : (least : ℕ) (most : Option ℕ) (greedy : Bool) (body : Maker) (c : ℕ) → Makes body c
     → Makes (repeated least most greedy body) (repeated_count least most c)
 repeated_makes least None greedy body c h base next =
-    let first = copies_make body c h least in
-    let rest = loop_makes greedy body c h in
-    omega (
-      arith,
-      chained_makes (copies least body) (loop greedy body) (least * c) (c + 1) first rest base next,
-    )
+    grind (arith, common_steps, copies_make, loop_makes, chained_makes)
 repeated_makes least (Some most) greedy body c h base next =
-    let n = most - least in
-    let first = copies_make body c h least in
-    let rest = optional_makes greedy body c h n in
-    omega (
-      arith,
-      chained_makes (copies least body) (optional greedy n body) (least * c) (n * (c + 1)) first rest base next,
-    )
+    grind (arith, common_steps, copies_make, optional_makes, chained_makes)
 
 -- An expression's rows are as many as its count says, wherever they stand.
 pub rows_counted : (e : Expression) → Makes (compile e) (rows_count e)

@@ -1,5 +1,6 @@
 -- In the NFA of expressions that are safe to repeat, paths that read nothing are as short as a closure asks.
-use Rattle.std.proofs.Common.{ℕ, Bool, List, [], ◌∷◌, map, All}
+use Rattle.std.proofs.Common.{[], arith, ℕ, Bool, List, ◌∷◌, map, All}
+use Rattle.std.proofs.lemmas.Grind.{common_steps}
 use Rattle.std.specs.List.{AllByRecursion as Every}
 use Rattle.std.proofs.lemmas.List.Elements.{recursion_from_All}
 use Rattle.rx_spec.specs.Expressions.{Expression, IsLoopSafe}
@@ -18,8 +19,5 @@ read_safe Direction.Reverse (e ∷ es) h = (IsLoopSafe-mirror e h.0, read_safe D
 pub nfa_shallow : (direction : Direction) (line_terminator : ℕ) (is_utf8 : Bool) (es : List Expression)
     → All IsLoopSafe es → IsShallow (nfa_of direction line_terminator is_utf8 es).rows
 unfolding nfa_of
-nfa_shallow direction line_terminator is_utf8 es safe = record {
-  short =
-      λ q. nfa_deep direction (map (read_as direction) es)
-      (read_safe direction es (recursion_from_All IsLoopSafe es safe)) q;
-}
+nfa_shallow direction line_terminator is_utf8 es safe =
+    grind (arith, common_steps, nfa_deep, read_safe, recursion_from_All)

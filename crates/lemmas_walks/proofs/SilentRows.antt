@@ -1,5 +1,6 @@
 -- Rows from which nothing is told any more.
-use Rattle.std.proofs.Common.{◌≡◌, ℕ, ◌<◌, ◌==◌, true, List, [], ◌∷◌, length, refl, ap, sym, ◌∙◌, subst}
+use Rattle.std.proofs.Common.{[], arith, rules, ◌≡◌, ℕ, ◌<◌, true, List, ◌∷◌, refl, ap, sym, ◌∙◌}
+use Rattle.std.proofs.lemmas.Grind.{common_steps}
 use Rattle.std.proofs.lemmas.Bool.{and_parts, eqb-true}
 use Rattle.std.proofs.lemmas.List.{nil_from_length}
 use Rattle.rx_spec.specs.Machines.{Label, label_of, Machine, IsWord, run}
@@ -29,11 +30,7 @@ silent_next m row unit s h = record {
 
 -- a state that is dead has no rows and no label
 pub dead_empty : (s : State) → is_dead_state s ≡ true → (s.rows ≡ []) × (s.label ≡ [])
-dead_empty s e =
-    let parts = and_parts (length s.rows == 0) (length s.label == 0) e in (
-      nil_from_length s.rows (eqb-true (length s.rows) 0 parts.0),
-      nil_from_length s.label (eqb-true (length s.label) 0 parts.1),
-    )
+dead_empty s e = grind (arith, common_steps, and_parts, nil_from_length, eqb-true)
 
 -- in a build's powerset machine, the dead nodes
 pub dead_label : (b : Build) (word : List ℕ) → node_label (run (next_node b) dead word) ≡ Label.Plain
@@ -51,19 +48,13 @@ dead_is_plain (Node.Running s) e = ap label_of (dead_empty s e).1
 dead_word : (b : Build) (node : Node) → is_dead node ≡ true → (word : List ℕ)
     → node_label (run (next_node b) node word) ≡ Label.Plain
 dead_word b node e [] = ap node_label (run-nil (next_node b) node) ∙ dead_is_plain node e
-dead_word b node e (unit ∷ word) =
-    ap node_label (run-cons (next_node b) node unit word)
-    ∙ ap (λ n. node_label (run (next_node b) n word)) (dead_goes_on b node unit e)
-    ∙ dead_label b word
+dead_word b node e (unit ∷ word) = search (rules, run-cons, dead_goes_on, dead_label)
 
 abbrev pub AnyNode : Node → Type 0
 AnyNode node = Unit {0}
 
 pub power_ends_well : (b : Build) → EndsWell (power b) AnyNode
-power_ends_well b = record {
-  closed = λ node unit i h. tt;
-  silent = λ node i e. record { plain = λ word w. dead_word b node e word };
-}
+power_ends_well b = search (rules, dead_word)
 
 -- in a table, row 0
 abbrev pub IsRow : Table → ℕ → Type 0
@@ -80,8 +71,4 @@ pub zero_is_silent : (t : Table) → IsTable t → IsSilent t.machine 0
 zero_is_silent t is = record { plain = λ word w. ap t.machine.label (zero_stays t is word w) ∙ is.dead_label }
 
 pub table_ends_well : (t : Table) → IsTable t → EndsWell t.machine (IsRow t)
-table_ends_well t is = record {
-  closed = λ row unit i h. is.nexts row unit i h;
-  silent = λ row i e.
-      subst (λ x. IsSilent t.machine x) (sym (eqb-true row 0 (sym (is.dead_only row i) ∙ e))) (zero_is_silent t is);
-}
+table_ends_well t is = grind (arith, common_steps, eqb-true, zero_is_silent)

@@ -1,23 +1,23 @@
 -- Where the answers of a walk come from: a match from a unit that led to its label, and a quit likewise. So a told
 -- offset lies in the span.
-use Rattle.std.proofs.Common.{◌≡◌, ℕ, suc, ◌+◌, ◌-◌, ◌<◌, ◌≤◌, ◌⊎◌, inl, inr, ⊎_elim, Bool, Option, Some, None, Ok, Err}
-use Rattle.std.proofs.Common.{if◌then◌else◌, List, [], ◌∷◌, length, take, drop, reverse, get_or, refl, ap, sym, ◌∙◌}
-use Rattle.std.proofs.Common.{subst, arith, length-append}
+use Rattle.std.proofs.Common.{[], rules, ◌≡◌, ℕ, suc, ◌+◌, ◌-◌, ◌<◌, ◌≤◌, ◌⊎◌, inl, inr, ⊎_elim, Bool, Option, Some, Ok}
+use Rattle.std.proofs.Common.{Err, if◌then◌else◌, List, ◌∷◌, length, take, get_or, refl, ap, sym, ◌∙◌, subst, arith}
+use Rattle.std.proofs.Common.{length-append}
+use Rattle.std.proofs.lemmas.Grind.{common_steps}
 use Rattle.std.proofs.lemmas.Bool.{lt-ltb}
 use Rattle.std.proofs.lemmas.List.{length-take, length-reverse}
 use Rattle.std.proofs.lemmas.Option.{none-some, same_Some}
 use Rattle.std.specs.Prelude.{Contains}
-use Rattle.rx_spec.specs.Bytes.{unit_of}
 use Rattle.rx_spec.specs.Looks.{before, after}
 use Rattle.rx_spec.specs.Queries.{Query, HalfMatch, MatchError}
 use Rattle.rx_spec.specs.Machines.{Label, Machine, run, Settings}
 use Rattle.rx_spec.specs.Starts.{StartError, start_error, start_row}
-use Rattle.rx_spec.specs.HalfSearches.{HalfAnswer, span_bytes, units_of, beside, first_offset, next_offset, unit_offset}
+use Rattle.rx_spec.specs.HalfSearches.{HalfAnswer, units_of, beside, first_offset, next_offset, unit_offset}
 use Rattle.rx_spec.specs.HalfSearches.{first_match, last_match, at_label, match_error, walk, half_search}
 use Rattle.rx_spec.specs.declared.Direction.{Direction}
 use Rattle.lemmas_walks.proofs.Firsts.{by_test}
-use Rattle.lemmas_walks.proofs.HalfSearches.{Begun, half_begun, Begins, Done, Refused, Started, begins, half_done}
-use Rattle.lemmas_walks.proofs.HalfSearches.{half_refused, half_walks, going, told_same, error_not_told}
+use Rattle.lemmas_walks.proofs.HalfSearches.{half_begun, begins, half_done, half_refused, half_walks, going, told_same}
+use Rattle.lemmas_walks.proofs.HalfSearches.{error_not_told}
 use Rattle.lemmas_walks.proofs.Walking.{walk-nil, walk-cons}
 use Rattle.lemmas_walks.proofs.Words.{run-nil, run-cons}
 
@@ -74,11 +74,7 @@ module _ {R : Type 0} (m : Machine R) where
 
   pub came_first : (row : R) (unit : ℕ) (units : List ℕ) (P : R → ℕ → ℕ → Type 0) → P row unit 0
       → Came m row (unit ∷ units) P
-  came_first row unit units P h = record {
-    place = 0;
-    within = omega arith;
-    leads = subst (λ x. P x unit 0) (sym (run-nil m.next row)) h;
-  }
+  came_first row unit units P h = grind (arith, common_steps, run-nil)
 
 module _ {R : Type 0} (m : Machine R) (direction : Direction) (earliest : Bool) where
   -- how a label answers: with a match that is told, with a quit, or as the walk goes on
@@ -92,33 +88,22 @@ module _ {R : Type 0} (m : Machine R) (direction : Direction) (earliest : Bool) 
   told_or : (label : Label) (unit offset : ℕ) (now later : HalfAnswer) (h : HalfMatch)
       → at_label label direction earliest unit offset now later ≡ Ok (Some h)
       → (now ≡ Ok (Some h)) ⊎ (later ≡ Ok (Some h))
-  told_or Label.Quits unit offset now later h e =
-      absurd (error_not_told (MatchError.Quit unit (unit_offset direction offset)) (Some h) e)
+  told_or Label.Quits unit offset now later h e = grind (arith, common_steps, error_not_told)
   told_or Label.Plain unit offset now later h e = inr e
-  told_or (Label.Matches ks) unit offset now later h e =
-      by_test earliest (λ t. inl (sym (ap (λ v. if v then now else later) t) ∙ e))
-      (λ f. inr (sym (ap (λ v. if v then now else later) f) ∙ e))
+  told_or (Label.Matches ks) unit offset now later h e = grind (arith, common_steps, by_test)
 
   quit_or : (label : Label) (unit offset : ℕ) (kept : Option HalfMatch) (later : HalfAnswer) (error : MatchError)
       → at_label label direction earliest unit offset (Ok kept) later ≡ Err error
       → ((label ≡ Label.Quits) × (error ≡ MatchError.Quit unit (unit_offset direction offset))) ⊎ (later ≡ Err error)
-  quit_or Label.Quits unit offset kept later error e = inl (refl, same_error e)
-    where
-      same_error : ◌≡◌ {A = HalfAnswer} (Err (MatchError.Quit unit (unit_offset direction offset))) (Err error)
-          → error ≡ MatchError.Quit unit (unit_offset direction offset)
-      same_error e = cc
+  quit_or Label.Quits unit offset kept later error e = grind (arith, common_steps)
   quit_or Label.Plain unit offset kept later error e = inr e
-  quit_or (Label.Matches ks) unit offset kept later error e =
-      by_test earliest
-      (λ t. absurd (error_not_told error kept (sym (sym (ap (λ v. if v then Ok kept else later) t) ∙ e))))
-      (λ f. inr (sym (ap (λ v. if v then Ok kept else later) f) ∙ e))
+  quit_or (Label.Matches ks) unit offset kept later error e = grind (arith, common_steps, by_test, error_not_told)
 
   -- A match that is told was told before, or some unit led to it.
   pub walk_met : (units : List ℕ) (row : R) (offset : ℕ) (last : Option HalfMatch) (h : HalfMatch)
       → walk m direction earliest row offset last units ≡ Ok (Some h)
       → (last ≡ Some h) ⊎ Came m row units (LeadsToMatch m direction offset h)
-  walk_met [] row offset last h w =
-      inl (told_same last (Some h) (sym (walk-nil m direction earliest row offset last) ∙ w))
+  walk_met [] row offset last h w = grind (arith, common_steps, told_same, walk-nil)
   walk_met (unit ∷ units) row offset last h w =
       let next = m.next row unit in
       let met = last_match (m.label next) offset last in
@@ -155,8 +140,7 @@ module _ {R : Type 0} (m : Machine R) (direction : Direction) (earliest : Bool) 
   pub walk_quit : (units : List ℕ) (row : R) (offset : ℕ) (last : Option HalfMatch) (error : MatchError)
       → walk m direction earliest row offset last units ≡ Err error
       → Came m row units (LeadsToQuit m direction offset error)
-  walk_quit [] row offset last error w =
-      absurd (error_not_told error last (sym w ∙ walk-nil m direction earliest row offset last))
+  walk_quit [] row offset last error w = grind (arith, common_steps, error_not_told, walk-nil)
   walk_quit (unit ∷ units) row offset last error w =
       let next = m.next row unit in
       let met = last_match (m.label next) offset last in
@@ -185,29 +169,16 @@ module _ {R : Type 0} (m : Machine R) (direction : Direction) (earliest : Bool) 
 
 -- no more units than the span has bytes, and one
 pub units_count : (direction : Direction) (q : Query) → length (units_of direction q) ≤ q.end - q.start + 1
-units_count Direction.Forward q =
-    omega (
-      arith,
-      length-append (span_bytes q) (unit_of (after q.haystack q.end) ∷ []),
-      length-take (q.end - q.start) (drop q.start q.haystack),
-    )
-units_count Direction.Reverse q =
-    omega (
-      arith,
-      length-append (reverse (span_bytes q)) (unit_of (before q.haystack q.start) ∷ []),
-      length-reverse (span_bytes q),
-      length-take (q.end - q.start) (drop q.start q.haystack),
-    )
+units_count Direction.Forward q = grind (arith, common_steps, length-append, length-take)
+units_count Direction.Reverse q = grind (arith, common_steps, length-append, length-reverse, length-take)
 
 -- so the offsets where the walk stands lie in the span
 pub offset_in_span : (direction : Direction) (q : Query) (place : ℕ) → q.start ≤ q.end
     → place < length (units_of direction q)
     → (q.start ≤ offset_after direction (first_offset direction q) place)
     × (offset_after direction (first_offset direction q) place ≤ q.end)
-offset_in_span Direction.Forward q place order within =
-    let few = units_count Direction.Forward q in (omega arith, omega arith)
-offset_in_span Direction.Reverse q place order within =
-    let few = units_count Direction.Reverse q in (omega arith, omega arith)
+offset_in_span Direction.Forward q place order within = grind (arith, common_steps, units_count)
+offset_in_span Direction.Reverse q place order within = grind (arith, common_steps, units_count)
 
 module _ {R : Type 0} (m : Machine R) (s : Settings) (direction : Direction) (q : Query) where
   -- what some unit of the walk leads to
@@ -216,15 +187,7 @@ module _ {R : Type 0} (m : Machine R) (s : Settings) (direction : Direction) (q 
 
   pub half_met : (h : HalfMatch) → half_search m s direction q ≡ Ok (Some h)
       → (q.start ≤ q.end) × CameIn (LeadsToMatch m direction (first_offset direction q) h)
-  half_met h e =
-      ⊎_elim (λ (d : (q.end < q.start) × (Some h ≡ None)). absurd (none-some h (sym d.1)))
-      (λ (g : Begun m s direction q (Some h)). (
-        g.order,
-        ⊎_elim (λ (n : None ≡ Some h). absurd (none-some h n)) (λ c. c)
-            (walk_met m direction q.earliest (units_of direction q) (start_row m s (beside direction q) q.mode)
-            (first_offset direction q) None h g.walked),
-      ))
-      (half_begun m s direction q (Some h) e)
+  half_met h e = search (rules, none-some, walk_met, half_begun)
 
   -- Its error is that of its start, or a quit.
   pub half_error : (error : MatchError) → half_search m s direction q ≡ Err error
@@ -232,31 +195,18 @@ module _ {R : Type 0} (m : Machine R) (s : Settings) (direction : Direction) (q 
       × (((refused : StartError) × (start_error s (beside direction q) q.mode ≡ Some refused)
       × (error ≡ match_error direction q refused))
       ⊎ CameIn (LeadsToQuit m direction (first_offset direction q) error))
-  half_error error e = by_start (begins s direction q)
-    where
-      same_error : (a b : MatchError) → ◌≡◌ {A = HalfAnswer} (Err a) (Err b) → b ≡ a
-      same_error a b e = cc
-
-      by_start : Begins s direction q → (q.start ≤ q.end)
-          × (((refused : StartError) × (start_error s (beside direction q) q.mode ≡ Some refused)
-          × (error ≡ match_error direction q refused))
-          ⊎ CameIn (LeadsToQuit m direction (first_offset direction q) error))
-      by_start (Done past) =
-          absurd (error_not_told error None (sym e ∙ half_done m s direction q (lt-ltb q.end q.start past)))
-      by_start (Refused order refused is) = (
-        order,
-        inl (
-          refused,
-          is,
-          same_error (match_error direction q refused) error
-              (sym (half_refused m s direction q refused (going q order) is) ∙ e),
-        ),
-      )
-      by_start (Started order is) = (
-        order,
-        inr (walk_quit m direction q.earliest (units_of direction q)
-            (start_row m s (beside direction q) q.mode) (first_offset direction q) None error
-            (sym (half_walks m s direction q (going q order) is) ∙ e)),
+  half_error error e =
+      grind (
+        arith,
+        common_steps,
+        begins,
+        error_not_told,
+        half_done,
+        lt-ltb,
+        half_refused,
+        going,
+        walk_quit,
+        half_walks,
       )
 
   pub half_in_span : (h : HalfMatch) → half_search m s direction q ≡ Ok (Some h)

@@ -1,7 +1,8 @@
 -- What a unit does to a walk: over any machine, over one whose dead rows are silent, and over a build's
 -- powerset machine.
-use Rattle.std.proofs.Common.{◌≡◌, ℕ, Bool, true, false, if◌then◌else◌, Option, Ok, Err, List, [], ◌∷◌, refl, ap, sym}
+use Rattle.std.proofs.Common.{[], arith, ◌≡◌, ℕ, Bool, true, false, if◌then◌else◌, Option, Ok, Err, List, ◌∷◌, refl, ap}
 use Rattle.std.proofs.Common.{◌∙◌}
+use Rattle.std.proofs.lemmas.Grind.{common_steps}
 use Rattle.rx_spec.specs.Bytes.{contains}
 use Rattle.rx_spec.specs.Queries.{HalfMatch, MatchError}
 use Rattle.rx_spec.specs.Machines.{label_of, Machine, IsWord}
@@ -44,10 +45,7 @@ module _ {R : Type 0} (m : Machine R) (direction : Direction) (earliest : Bool) 
       → (m.is_dead next ≡ true → (kept : Option HalfMatch)
       → walk m direction earliest next (next_offset direction offset) kept units ≡ Ok kept)
       → walk_on unit offset last units next ≡ walk_through unit offset last units next
-  walk_passes unit offset last units next stays =
-      let met = last_match (m.label next) offset last in
-      ap (at_label (m.label next) direction earliest unit offset (Ok met))
-      (by_test (m.is_dead next) (λ e. rw e (sym (stays e met))) (λ e. rw e refl))
+  walk_passes unit offset last units next stays = grind (arith, common_steps, by_test)
 
   pub walk_silent : (row : R) (offset : ℕ) (last : Option HalfMatch) (units : List ℕ) → IsWord units → IsSilent m row
       → walk m direction earliest row offset last units ≡ Ok last
@@ -66,11 +64,7 @@ module _ {R : Type 0} (m : Machine R) (direction : Direction) (earliest : Bool) 
   pub walk-more : (row : R) (unit offset : ℕ) (last : Option HalfMatch) (units : List ℕ) → IsWord units
       → (m.is_dead (m.next row unit) ≡ true → IsSilent m (m.next row unit))
       → walk m direction earliest row offset last (unit ∷ units) ≡ walk_through unit offset last units (m.next row unit)
-  walk-more row unit offset last units w silent =
-      let next = m.next row unit in
-      walk-cons row unit offset last units
-      ∙ walk_passes unit offset last units next
-      (λ e kept. walk_silent next (next_offset direction offset) kept units w (silent e))
+  walk-more row unit offset last units w silent = grind (arith, common_steps, walk-cons, walk_passes, walk_silent)
 
 -- a search for the last match goes on at every label of a state
 pub goes_on : (label : List ℕ) (direction : Direction) (unit offset : ℕ) (now later : HalfAnswer)
@@ -85,9 +79,7 @@ pub data Leads (b : Build) (s : State) (unit : ℕ) : Type 0 where
   Steps : is_dead_state s ≡ false → contains b.quit unit ≡ false → Leads b s unit
 
 pub leads : (b : Build) (s : State) (unit : ℕ) → Leads b s unit
-leads b s unit =
-    by_test (is_dead_state s) (λ e. Dead e)
-    (λ e. by_test (contains b.quit unit) (λ f. Quits e f) (λ f. Steps e f))
+leads b s unit = grind (arith, common_steps, by_test)
 
 pub next_dead : (b : Build) (s : State) (unit : ℕ) → is_dead_state s ≡ true → next_node b (Node.Running s) unit ≡ dead
 next_dead b s unit e = rw e refl
@@ -109,17 +101,13 @@ module _ (b : Build) (direction : Direction) (earliest : Bool) where
   pub walk_dead : (s : State) (offset : ℕ) (last : Option HalfMatch) (units : List ℕ) → is_dead_state s ≡ true
       → state_walk s offset last units ≡ Ok last
   walk_dead s offset last [] e = walk-nil (power b) direction earliest (Node.Running s) offset last
-  walk_dead s offset last (unit ∷ units) e =
-      walk-cons (power b) direction earliest (Node.Running s) unit offset last units
-      ∙ ap (walk_on (power b) direction earliest unit offset last units) (next_dead b s unit e)
+  walk_dead s offset last (unit ∷ units) e = grind (arith, common_steps, walk-cons, next_dead)
 
   -- quit: the unit and its offset are told
   pub walk_quits : (s : State) (unit offset : ℕ) (last : Option HalfMatch) (units : List ℕ)
       → is_dead_state s ≡ false → contains b.quit unit ≡ true
       → state_walk s offset last (unit ∷ units) ≡ Err (MatchError.Quit unit (unit_offset direction offset))
-  walk_quits s unit offset last units e f =
-      walk-cons (power b) direction earliest (Node.Running s) unit offset last units
-      ∙ ap (walk_on (power b) direction earliest unit offset last units) (next_quits b s unit e f)
+  walk_quits s unit offset last units e f = grind (arith, common_steps, walk-cons, next_quits)
 
   -- on: what the step's label makes of the walk from there
   abbrev pub walk_after : (unit offset : ℕ) → Option HalfMatch → List ℕ → State → HalfAnswer
@@ -131,9 +119,4 @@ module _ (b : Build) (direction : Direction) (earliest : Bool) where
   pub walk_steps : (s : State) (unit offset : ℕ) (last : Option HalfMatch) (units : List ℕ)
       → is_dead_state s ≡ false → contains b.quit unit ≡ false
       → state_walk s offset last (unit ∷ units) ≡ walk_after unit offset last units (step b.nfa b.kind s unit)
-  walk_steps s unit offset last units e f =
-      let next = step b.nfa b.kind s unit in
-      walk-cons (power b) direction earliest (Node.Running s) unit offset last units
-      ∙ ap (walk_on (power b) direction earliest unit offset last units) (next_steps b s unit e f)
-      ∙ walk_passes (power b) direction earliest unit offset last units (Node.Running next)
-      (λ over kept. walk_dead next (next_offset direction offset) kept units over)
+  walk_steps s unit offset last units e f = grind (arith, common_steps, walk-cons, next_steps, walk_passes, walk_dead)

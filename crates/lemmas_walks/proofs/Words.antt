@@ -1,9 +1,7 @@
 -- Words of units, and the rows to which they lead.
-use Rattle.std.proofs.Common.{◌≡◌, ℕ, ◌<◌, List, [], ◌∷◌, ◌++◌, refl, ap, sym, ◌∙◌, subst, ⊎_elim, take, get_or}
+use Rattle.std.proofs.Common.{[], ◌≡◌, ℕ, ◌<◌, List, ◌∷◌, ◌++◌, refl, ap, sym, ◌∙◌, subst, ⊎_elim, take, get_or}
 use Rattle.std.proofs.lemmas.List.Elements.{Contains-append_cases, Contains-get_or, All-contains, All-take}
-use Rattle.std.proofs.lemmas.List.Elements.{All-from_recursion}
 use Rattle.std.specs.Prelude.{Contains}
-use Rattle.std.specs.List.{AllByRecursion as Every}
 use Rattle.rx_spec.specs.Machines.{IsWord, run}
 use Rattle.lemmas_walks.proofs.Firsts.{Contains-here, Contains-there, Contains-nil, Contains-cases}
 
@@ -23,9 +21,6 @@ IsWord-tail unit word w v c = w v (Contains-there unit word v c)
 pub IsWord-append : (v w : List ℕ) → IsWord v → IsWord w → IsWord (v ++ w)
 IsWord-append v w hv hw unit c =
     ⊎_elim (λ (d : Contains v unit). hv unit d) (λ (d : Contains w unit). hw unit d) (Contains-append_cases v w unit c)
-
-pub IsWord-each : (word : List ℕ) → Every (λ u. u < 257) word → IsWord word
-IsWord-each word h unit c = All-contains (λ u. u < 257) word unit (All-from_recursion (λ u. u < 257) word h) c
 
 pub IsWord-take : (n : ℕ) (word : List ℕ) → IsWord word → IsWord (take n word)
 IsWord-take n word w unit c =

@@ -1,7 +1,7 @@
 -- Over a build of the kind All an overlapping search tells exactly the ends of all patterns.
 use Rattle.std.proofs.Common.{◌≡◌, ◌≢◌, ℕ, zero, suc, ◌+◌, ◌<◌, ◌≤◌, ◌==◌, ◌&&◌, Bool, true, false, if◌then◌else◌}
-use Rattle.std.proofs.Common.{Option, Some, None, List, [], ◌∷◌, refl, ap, sym, ◌∙◌, subst, arith}
-use Rattle.std.proofs.Common.{⊎_elim, ◌⊎◌, inl, inr}
+use Rattle.std.proofs.Common.{Option, Some, None, List, [], ◌∷◌, refl, ap, sym, ◌∙◌, subst, arith, ⊎_elim, ◌⊎◌, inl}
+use Rattle.std.proofs.Common.{inr}
 use Rattle.std.proofs.lemmas.Bool.{eq-eqb, ne_eqb, eqb-true, and_right, and_from, and_parts, cases_eq}
 use Rattle.std.proofs.lemmas.List.Elements.{Contains-append_left, Contains-append_right, Contains-append_cases}
 use Rattle.std.specs.Prelude.{Contains}
@@ -11,8 +11,7 @@ use Rattle.rx_spec.specs.Found.{first_of}
 use Rattle.rx_spec.specs.Machines.{label_of}
 use Rattle.rx_spec.specs.States.{State, decided_rows, cut, step}
 use Rattle.rx_spec.specs.Builds.{Node, is_dead_state, power}
-use Rattle.rx_spec.specs.Overlapping.{Item, Ending, OverlappingMatches, pattern_items, with_items}
-use Rattle.rx_spec.specs.Overlapping.{at_item_label}
+use Rattle.rx_spec.specs.Overlapping.{Item, Ending, OverlappingMatches, pattern_items, with_items, at_item_label}
 use Rattle.rx_spec.specs.declared.Direction.{Direction}
 use Rattle.rx_spec.specs.declared.MatchKind.{MatchKind}
 use Rattle.lemmas_walks.proofs.Firsts.{by_test, Contains-here, Contains-there, Contains-cases, Contains-nil}

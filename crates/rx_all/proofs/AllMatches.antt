@@ -1,6 +1,6 @@
 -- What is told at a place over a table of the kind All: exactly the matches of all patterns from there.
-use Rattle.std.proofs.Common.{◌≡◌, ℕ, zero, suc, ◌+◌, ◌-◌, ◌<◌, ◌≤◌, Option, Some, None}
-use Rattle.std.proofs.Common.{List, length, refl, ap, ap₂, sym, ◌∙◌, subst, arith, ⊎_elim, ◌⊎◌, inl, inr}
+use Rattle.std.proofs.Common.{◌≡◌, ℕ, zero, suc, ◌+◌, ◌-◌, ◌<◌, ◌≤◌, Option, Some, None, List, length, refl, ap, ap₂}
+use Rattle.std.proofs.Common.{sym, ◌∙◌, subst, arith, ⊎_elim, ◌⊎◌, inl, inr}
 use Rattle.std.proofs.lemmas.List.{map-id}
 use Rattle.std.proofs.lemmas.Option.{option_and_then_some, slice_get_within}
 use Rattle.std.specs.Prelude.{slice_get, Contains, All}
@@ -13,8 +13,7 @@ use Rattle.rx_spec.specs.Queries.{Anchored, Query, reading, HalfMatch, MatchErro
 use Rattle.rx_spec.specs.Contexts.{start_of}
 use Rattle.rx_spec.specs.Found.{first_of}
 use Rattle.rx_spec.specs.Builds.{Build, Node, nfa_start, start_node, power, build_settings}
-use Rattle.rx_spec.specs.HalfSearches.{beside}
-use Rattle.rx_spec.specs.HalfSearches.{match_error}
+use Rattle.rx_spec.specs.HalfSearches.{beside, match_error}
 use Rattle.rx_spec.specs.Overlapping.{Item, Ending, OverlappingMatches, overlapping, overlapping_walk}
 use Rattle.rx_spec.specs.Plans.{Plan}
 use Rattle.rx_spec.specs.declared.Direction.{Direction}

@@ -1,17 +1,17 @@
 -- A set of bytes, a number of 256 bits, by its two halves of 128, and its bytes after a change.
-use Rattle.std.proofs.Common.{ℕ, ◌≡◌, ◌≢◌, ◌+◌, ◌-◌, ◌*◌, ◌^◌, ◌/◌, ◌%◌, ◌<◌, ◌≤◌, ◌⊎◌, refl, sym, ◌∙◌, ap, subst}
-use Rattle.std.proofs.Common.{arith}
-use Rattle.std.proofs.Common.{inl, inr, bit_or, bit_and, Bool, true, false, ◌==◌, ◌&&◌, ◌||◌, not, nat_le, nat_lt, max}
+use Rattle.std.proofs.Common.{rules, ℕ, ◌≡◌, ◌≢◌, ◌+◌, ◌-◌, ◌*◌, ◌^◌, ◌/◌, ◌%◌, ◌<◌, ◌≤◌, ◌⊎◌, refl, sym, ◌∙◌, ap}
+use Rattle.std.proofs.Common.{subst, arith, inl, inr, bit_or, bit_and, true, ◌==◌, ◌&&◌, ◌||◌, not, nat_le, nat_lt, max}
 use Rattle.std.proofs.Common.{ap₂, bit_xor, suc, zero}
+use Rattle.std.proofs.lemmas.Grind.{common_steps}
 use Rattle.std.specs.Int.{w128, bit_at}
 use Rattle.std.specs.Int.Bits.{or_zero_r, and_lt}
 use Rattle.std.proofs.Math.Bool.{and-true, and-false}
 use Rattle.std.proofs.lemmas.Bool.Decides.{nat_tests, eqb_tells}
 use Rattle.std.proofs.lemmas.Nat.{or_block, or_lt, one_shl, pow_below, pow-add, xor_lt}
 use Rattle.std.proofs.lemmas.Nat.Bits.{shr_and_one, bit_at-lt, bit_at_or, bit_at-pow_same, bit_at-pow_other}
-use Rattle.std.proofs.lemmas.Nat.Bits.{bit_at_above, bit_at-suc, bit_at_xor}
-use Rattle.std.proofs.lemmas.Nat.Bits.{bit_at_cat_low, bit_at_cat_high, bit_at_clear_same, bit_at_clear_other}
-use Rattle.std.proofs.lemmas.Nat.Bits.{bit_at_mask_below, bit_at_mask_inside, bit_at_mask_above}
+use Rattle.std.proofs.lemmas.Nat.Bits.{bit_at_above, bit_at-suc, bit_at_xor, bit_at_cat_low, bit_at_cat_high}
+use Rattle.std.proofs.lemmas.Nat.Bits.{bit_at_clear_same, bit_at_clear_other, bit_at_mask_below, bit_at_mask_inside}
+use Rattle.std.proofs.lemmas.Nat.Bits.{bit_at_mask_above}
 use Rattle.rx_spec.specs.Bytes.{contains, only, between}
 use Rattle.rx_spec.specs.Looks.{differ}
 use Rattle.rx_spec.specs.Classes.{parts}
@@ -28,9 +28,7 @@ half_or_other b = grind arith
 
 -- ---- a byte is in the set where its bit is set in its half
 byte_in : (set b n : ℕ) → b < 256 → n ≡ bit_at set b → (n == 1) ≡ contains set b
-byte_in set b n is_byte e =
-    let within : nat_lt b 256 ≡ true = grind (arith, nat_tests) in
-    ap (λ m. m == 1) e ∙ ap (λ t. t && (bit_at set b == 1)) (sym within)
+byte_in set b n is_byte e = grind (arith, common_steps, nat_tests)
 
 pub contains-low : (high low b : ℕ) → b < 128 → (bit_and (low / 2 ^ b) 1 == 1) ≡ contains (joined high low) b
 contains-low high low b below =
@@ -38,9 +36,7 @@ contains-low high low b below =
 
 pub contains-high : (high low b : ℕ) → low < 2 ^ 128 → 128 ≤ b → b < 256
     → (bit_and (high / 2 ^ (b - 128)) 1 == 1) ≡ contains (joined high low) b
-contains-high high low b fits from below =
-    byte_in (joined high low) b _ below
-    (shr_and_one high (b - 128) ∙ sym (bit_at_cat_high high 128 low b fits from))
+contains-high high low b fits from below = search (rules, byte_in, shr_and_one, bit_at_cat_high)
 
 -- ---- the union of two sets is made by halves
 pub joined-or : (h l h' l' : ℕ) → l < 2 ^ 128 → l' < 2 ^ 128
@@ -86,14 +82,7 @@ joined-or_high high low b fits from below =
 -- ---- one byte less
 without : (set changed b : ℕ) → bit_at changed b ≡ 0 → ((c : ℕ) → c ≢ b → bit_at changed c ≡ bit_at set c)
     → (c : ℕ) → contains changed c ≡ (contains set c && not (c == b))
-without set changed b gone kept c = elim (eqb_tells c b) [
-  | inl same ↦
-      ap (λ n. nat_lt c 256 && (n == 1)) (ap (λ j. bit_at changed j) same.1 ∙ gone) ∙ and-false (nat_lt c 256)
-      ∙ sym (ap (λ t. contains set c && not t) same.0 ∙ and-false (contains set c))
-  | inr other ↦
-      ap (λ n. nat_lt c 256 && (n == 1)) (kept c other.1)
-      ∙ sym (ap (λ t. contains set c && not t) other.0 ∙ and-true (contains set c))
-]
+without set changed b gone kept c = grind (arith, common_steps, eqb_tells, and-false, and-true)
 
 -- a half without a bit
 abbrev pub cleared : ℕ → ℕ → ℕ
@@ -154,64 +143,23 @@ or_bit : (x y : ℕ) → x < 2 → y < 2 → (max x y == 1) ≡ ((x == 1) || (y 
 or_bit x y h k = grind (arith, nat_tests)
 
 pub contains-or : (set other b : ℕ) → contains (bit_or set other) b ≡ (contains set b || contains other b)
-contains-or set other b =
-    ap (λ n. nat_lt b 256 && (n == 1)) (bit_at_or set other b)
-    ∙ ap (λ t. nat_lt b 256 && t) (or_bit (bit_at set b) (bit_at other b) (bit_at-lt set b) (bit_at-lt other b))
-    ∙ over (nat_lt b 256) (bit_at set b == 1) (bit_at other b == 1)
-  where
-    over : (t x y : Bool) → (t && (x || y)) ≡ ((t && x) || (t && y))
-    over true x y = refl
-    over false x y = refl
+contains-or set other b = grind (arith, common_steps, bit_at_or, or_bit, bit_at-lt)
 
 pub contains-only : (byte b : ℕ) → byte < 256 → contains (only byte) b ≡ (b == byte)
-contains-only byte b h = elim (eqb_tells b byte) [
-  | inl same ↦
-      let within : nat_lt b 256 ≡ true = grind (arith, nat_tests, same.1) in
-      let set : bit_at (2 ^ byte) b ≡ 1 = ap (λ k. bit_at (2 ^ byte) k) same.1 ∙ bit_at-pow_same byte in
-      ap₂ (λ (t : Bool) (n : ℕ). t && (n == 1)) within set ∙ sym same.0
-  | inr other ↦
-      ap (λ n. nat_lt b 256 && (n == 1)) (bit_at-pow_other byte b other.1) ∙ and-false (nat_lt b 256) ∙ sym other.0
-]
+contains-only byte b h = grind (arith, common_steps, eqb_tells, nat_tests, bit_at-pow_same, bit_at-pow_other, and-false)
 
 pub contains-add : (set byte b : ℕ) → byte < 256 → contains (bit_or set (only byte)) b ≡ (contains set b || (b == byte))
-contains-add set byte b h =
-    contains-or set (only byte) b ∙ ap (λ t. contains set b || t) (contains-only byte b h)
+contains-add set byte b h = grind (arith, common_steps, contains-or, contains-only)
 
 pub contains-between : (first last b : ℕ) → last < 256
     → contains (between first last) b ≡ (nat_le first b && nat_le b last)
-contains-between first last b h = elim (place first last b) [
-  | inl before ↦
-      let low : nat_le first b ≡ false = grind (arith, nat_tests) in
-      ap (λ n. nat_lt b 256 && (n == 1)) (bit_at_mask_below first (last + 1) b before) ∙ and-false (nat_lt b 256)
-      ∙ sym (ap (λ t. t && nat_le b last) low)
-  | inr from ↦ elim from [
-    | inl inside ↦
-        let low : nat_le first b ≡ true = grind (arith, nat_tests, inside) in
-        let high : nat_le b last ≡ true = grind (arith, nat_tests, inside) in
-        let within : nat_lt b 256 ≡ true = grind (arith, nat_tests, inside) in
-        ap₂ (λ (t : Bool) (n : ℕ). t && (n == 1)) within (bit_at_mask_inside first (last + 1) b inside.0 inside.1)
-        ∙ sym (ap₂ (λ (t u : Bool). t && u) low high)
-    | inr after ↦
-        let high : nat_le b last ≡ false = grind (arith, nat_tests) in
-        ap (λ n. nat_lt b 256 && (n == 1)) (bit_at_mask_above first (last + 1) b after) ∙ and-false (nat_lt b 256)
-        ∙ sym (ap (λ t. nat_le first b && t) high ∙ and-false (nat_le first b))
-  ]
-]
-  where
-    place : (first last b : ℕ) → (b < first) ⊎ (((first ≤ b) × (b < last + 1)) ⊎ (last + 1 ≤ b))
-    place first last b = grind arith
+contains-between first last b h =
+    grind (arith, common_steps, nat_tests, bit_at_mask_below, and-false, bit_at_mask_inside, bit_at_mask_above)
 
 -- the bytes where a range is told apart from what is beside it: the one before it, and its last one
 pub parts-between : (first last b : ℕ) → first ≤ last → last < 256
     → parts (contains (between first last)) b (b + 1) ≡ ((b + 1 == first) || (b == last))
-parts-between first last b h k =
-    ap₂ (λ (t u : Bool). differ t u) (contains-between first last b k) (contains-between first last (b + 1) k)
-    ∙ edges first last b h
-  where
-    edges : (first last b : ℕ) → first ≤ last
-        → differ (nat_le first b && nat_le b last) (nat_le first (b + 1) && nat_le (b + 1) last)
-        ≡ ((b + 1 == first) || (b == last))
-    edges first last b h = grind (arith, nat_tests)
+parts-between first last b h k = grind (arith, common_steps, contains-between, nat_tests)
 
 -- ---- the bytes that a set tells apart from the next one
 

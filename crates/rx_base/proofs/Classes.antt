@@ -1,14 +1,13 @@
 -- The classes that end at some bytes, and the bytes of which each is the first.
-use Rattle.std.proofs.Common.{ℕ, zero, suc, ◌≡◌, ◌≢◌, ◌+◌, ◌-◌, ◌^◌, ◌<◌, ◌≤◌, ◌⊎◌, refl, sym, ◌∙◌, ap, ap₂, subst}
-use Rattle.std.proofs.Common.{arith}
-use Rattle.std.proofs.Common.{inl, inr, add-one, Bool, true, false, ◌==◌, ◌||◌, not, nat_le, cond, bit_or}
-use Rattle.std.proofs.Common.{List, [], ◌∷◌, ◌++◌, length, get_or, filter, replicate}
-use Rattle.std.specs.List.{range_with_len}
+use Rattle.std.proofs.Common.{rules, ℕ, zero, suc, ◌≡◌, ◌≢◌, ◌+◌, ◌-◌, ◌^◌, ◌<◌, ◌≤◌, refl, sym, ◌∙◌, ap, ap₂, arith}
+use Rattle.std.proofs.Common.{inl, inr, add-one, Bool, true, false, ◌==◌, ◌||◌, not, nat_le, cond, bit_or, List, ◌∷◌}
+use Rattle.std.proofs.Common.{length, get_or, replicate}
+use Rattle.std.proofs.lemmas.Grind.{common_steps}
 use Rattle.std.proofs.Math.Bool.{or_assoc}
 use Rattle.std.proofs.lemmas.Bool.{eq-eqb}
 use Rattle.std.proofs.lemmas.Bool.Decides.{nat_tests, eqb_tells}
 use Rattle.std.proofs.lemmas.List.{get_or-replicate, length-replicate}
-use Rattle.rx_spec.specs.Bytes.{contains, only, between, eoi}
+use Rattle.rx_spec.specs.Bytes.{contains, only, between}
 use Rattle.rx_spec.specs.Classes.{class_by, begins_class, parts, least_exponent}
 use Rattle.rx_base.specs.ByteClasses.{AreClasses, ends_of, alphabet_len, bytes_from, representatives_from}
 use Rattle.rx_base.specs.ByteClasses.{elements_from}
@@ -47,13 +46,7 @@ class_by-alike ends others (suc b) h =
 -- ---- the list of all classes
 module _ (ends : ℕ → Bool) (classes : List ℕ) (by : (b : ℕ) → b < 256 → get_or classes b 0 ≡ class_by ends b) where
   pub AreClasses-class_by : length classes ≡ 256 → AreClasses classes
-  AreClasses-class_by count = record {
-    count = count;
-    first = by 0 (omega arith) ∙ class_by-zero ends;
-    rises = λ b h. omega (arith, by b (omega arith), by (b + 1) (omega arith), class_by-next ends b);
-    by_one = λ b h.
-        omega (arith, by b (omega arith), by (b + 1) (omega arith), class_by-next ends b, one_or_none (ends b));
-  }
+  AreClasses-class_by count = grind (arith, common_steps, class_by-zero, class_by-next, one_or_none)
 
 -- such a list has the classes that end where it rises
 pub ends_of-class : (classes : List ℕ) → AreClasses classes → (b : ℕ) → b < 256
@@ -81,26 +74,15 @@ ends_of-class classes are (suc b) h =
 -- ---- the bytes from one on that pass a test
 bytes_from-cons : (test : ℕ → Bool) (at : ℕ) → at < 256
     → bytes_from test at ≡ cond (test at) (at ∷ bytes_from test (at + 1)) (bytes_from test (at + 1))
-bytes_from-cons test at h = ap (λ n. filter test (range_with_len at n)) more
-  where
-    more : 256 - at ≡ suc (256 - (at + 1))
-    more = omega arith
+bytes_from-cons test at h = grind (arith, common_steps)
 
 pub bytes_from-pass : (test : ℕ → Bool) (at : ℕ) → at < 256 → test at ≡ true
     → bytes_from test at ≡ at ∷ bytes_from test (at + 1)
-bytes_from-pass test at h e =
-    bytes_from-cons test at h ∙ ap (λ t. cond t (at ∷ bytes_from test (at + 1)) (bytes_from test (at + 1))) e
+bytes_from-pass test at h e = grind (arith, common_steps, bytes_from-cons)
 
 pub bytes_from-skip : (test : ℕ → Bool) (at : ℕ) → at < 256 → test at ≡ false
     → bytes_from test at ≡ bytes_from test (at + 1)
-bytes_from-skip test at h e =
-    bytes_from-cons test at h ∙ ap (λ t. cond t (at ∷ bytes_from test (at + 1)) (bytes_from test (at + 1))) e
-
-pub bytes_from-end : (test : ℕ → Bool) (at : ℕ) → 256 ≤ at → bytes_from test at ≡ []
-bytes_from-end test at h = ap (λ n. filter test (range_with_len at n)) none
-  where
-    none : 256 - at ≡ 0
-    none = omega arith
+bytes_from-skip test at h e = grind (arith, common_steps, bytes_from-cons)
 
 -- ---- one class of all bytes, and the classes of single bytes
 abbrev pub zeros : List ℕ
@@ -110,94 +92,54 @@ pub zero_at : (b : ℕ) → b < 256 → get_or zeros b 0 ≡ 0
 zero_at b h = get_or-replicate 256 b 0 0 h
 
 pub AreClasses-zeros : AreClasses zeros
-AreClasses-zeros = record {
-  count = length-replicate {A = ℕ} 256 0;
-  first = zero_at 0 (omega arith);
-  rises = λ b h. omega (arith, zero_at b (omega arith), zero_at (b + 1) (omega arith));
-  by_one = λ b h. omega (arith, zero_at b (omega arith), zero_at (b + 1) (omega arith));
-}
-
-pub AreClasses-singletons : (classes : List ℕ) → length classes ≡ 256 → ((b : ℕ) → b < 256 → get_or classes b 0 ≡ b)
-    → AreClasses classes
-AreClasses-singletons classes count each = record {
-  count = count;
-  first = each 0 (omega arith);
-  rises = λ b h. omega (arith, each b (omega arith), each (b + 1) (omega arith));
-  by_one = λ b h. omega (arith, each b (omega arith), each (b + 1) (omega arith));
-}
+AreClasses-zeros = search (rules, length-replicate, zero_at)
 
 -- ---- what the iterators have left, from one byte to the next
 pub elements_from-pass : (classes : List ℕ) (class at : ℕ) → at < 256 → get_or classes at 0 ≡ class
     → elements_from classes class at ≡ at ∷ elements_from classes class (at + 1)
-elements_from-pass classes class at h e =
-    bytes_from-pass (λ b. get_or classes b 0 == class) at h (eq-eqb (get_or classes at 0) class e)
+elements_from-pass classes class at h e = grind (arith, common_steps, bytes_from-pass, eq-eqb)
 
 pub elements_from-skip : (classes : List ℕ) (class at : ℕ) → at < 256 → get_or classes at 0 ≢ class
     → elements_from classes class at ≡ elements_from classes class (at + 1)
-elements_from-skip classes class at h ne =
-    let other : (get_or classes at 0 == class) ≡ false = grind (arith, nat_tests) in
-    bytes_from-skip (λ b. get_or classes b 0 == class) at h other
+elements_from-skip classes class at h ne = grind (arith, common_steps, nat_tests, bytes_from-skip)
 
 -- the end mark is left as long as a byte is
 eoi_left : (at : ℕ) → at < 256 → nat_le at 256 ≡ nat_le (at + 1) 256
-eoi_left at h =
-    let now : nat_le at 256 ≡ true = grind (arith, nat_tests) in
-    let then_too : nat_le (at + 1) 256 ≡ true = grind (arith, nat_tests) in
-    now ∙ sym then_too
+eoi_left at h = grind (arith, common_steps, nat_tests)
 
 pub representatives_from-pass : (classes : List ℕ) (at : ℕ) → at < 256 → begins_class (ends_of classes) at ≡ true
     → representatives_from classes at ≡ at ∷ representatives_from classes (at + 1)
-representatives_from-pass classes at h e =
-    ap₂ (λ (xs : List ℕ) (t : Bool). xs ++ cond t (eoi ∷ []) [])
-    (bytes_from-pass (begins_class (ends_of classes)) at h e) (eoi_left at h)
+representatives_from-pass classes at h e = grind (arith, common_steps, bytes_from-pass, eoi_left)
 
 pub representatives_from-skip : (classes : List ℕ) (at : ℕ) → at < 256 → begins_class (ends_of classes) at ≡ false
     → representatives_from classes at ≡ representatives_from classes (at + 1)
-representatives_from-skip classes at h e =
-    ap₂ (λ (xs : List ℕ) (t : Bool). xs ++ cond t (eoi ∷ []) [])
-    (bytes_from-skip (begins_class (ends_of classes)) at h e) (eoi_left at h)
+representatives_from-skip classes at h e = grind (arith, common_steps, bytes_from-skip, eoi_left)
 
 -- ---- the bytes that end a class, once a range is told apart
 module _ (old ends : ℕ) where
   pub ends-with_range : (first last b : ℕ) → first ≤ last → last < 256
       → contains ends b ≡ (contains old b || (b + 1 == first))
       → contains (bit_or ends (only last)) b ≡ (contains old b || parts (contains (between first last)) b (b + 1))
-  ends-with_range first last b ordered fits before =
-      contains-add ends last b fits
-      ∙ ap (λ t. t || (b == last)) before
-      ∙ or_assoc (contains old b) (b + 1 == first) (b == last)
-      ∙ ap (λ t. contains old b || t) (sym (parts-between first last b ordered fits))
+  ends-with_range first last b ordered fits before = grind (arith, common_steps, contains-add, or_assoc, parts-between)
 
 -- ---- the least exponent
 pub least_exponent-next : (len k more : ℕ) → 2 ^ k < len → 0 < more
     → least_exponent len k more ≡ least_exponent len (k + 1) (more - 1)
 unfolding least_exponent
 least_exponent-next len k zero h m = absurd (omega arith)
-least_exponent-next len k (suc more) h m =
-    let above : nat_le len (2 ^ k) ≡ false = grind (arith, nat_tests) in
-    let one_less : more ≡ suc more - 1 = omega arith in
-    ap (λ t. cond t k (least_exponent len (k + 1) more)) above ∙ ap (λ n. least_exponent len (k + 1) n) one_less
+least_exponent-next len k (suc more) h m = grind (arith, common_steps, nat_tests)
 
 pub least_exponent-here : (len k more : ℕ) → len ≤ 2 ^ k → least_exponent len k more ≡ k
 unfolding least_exponent
 least_exponent-here len k zero h = refl
-least_exponent-here len k (suc more) h =
-    let within : nat_le len (2 ^ k) ≡ true = grind (arith, nat_tests) in
-    ap (λ t. cond t k (least_exponent len (k + 1) more)) within
+least_exponent-here len k (suc more) h = grind (arith, common_steps, nat_tests)
 
 pub alphabet_len-le : (classes : List ℕ) → AreClasses classes → alphabet_len classes ≤ 257
-alphabet_len-le classes are =
-    omega (arith, ends_of-class classes are 255 (omega arith), class_by-le (ends_of classes) 255)
+alphabet_len-le classes are = grind (arith, common_steps, ends_of-class, class_by-le)
 
 -- an exponent that is too small is below 9
 pub exponent-below : (len k : ℕ) → k ≤ 9 → 2 ^ k < len → len ≤ 257 → k < 9
-exponent-below len k h less most = elim (split k h) [
-  | inl below ↦ below
-  | inr nine ↦ absurd (omega (arith, subst (λ n. 2 ^ n < len) nine less))
-]
-  where
-    split : (k : ℕ) → k ≤ 9 → (k < 9) ⊎ (k ≡ 9)
-    split k h = grind arith
+exponent-below len k h less most = grind (arith, common_steps)
 
 -- ---- classes that are read byte by byte
 pub record RiseBelow (classes : List ℕ) (n : ℕ) : Type 0 where

@@ -1,6 +1,7 @@
 -- A set of assertions with one bit changed, how many it has, and the assertions of Unicode words in it.
-use Rattle.std.proofs.Common.{ℕ, zero, suc, ◌≡◌, ◌≢◌, ◌+◌, ◌-◌, ◌*◌, ◌^◌, ◌/◌, ◌%◌, ◌<◌, refl, sym, ◌∙◌, ap, subst}
-use Rattle.std.proofs.Common.{arith, List, [], ◌∷◌, get_or, bit_or, bit_and, Bool, true, false, ◌==◌, w32, cond}
+use Rattle.std.proofs.lemmas.Grind.{common_steps}
+use Rattle.std.proofs.Common.{[], ℕ, zero, suc, ◌≡◌, ◌≢◌, ◌+◌, ◌-◌, ◌*◌, ◌^◌, ◌/◌, ◌%◌, ◌<◌, refl, sym, ◌∙◌, ap, subst}
+use Rattle.std.proofs.Common.{arith, List, ◌∷◌, get_or, bit_or, bit_and, Bool, true, false, ◌==◌, w32, cond}
 use Rattle.std.specs.Int.{bit_at}
 use Rattle.std.specs.Int.Count.{ones}
 use Rattle.std.specs.List.{count_by}
@@ -96,10 +97,7 @@ swapped : (a b c d : ℕ) → a ≡ b + c → c ≡ d → a ≡ d + b
 swapped a b c d p q = omega arith
 
 ones-up : (n k i : ℕ) → n / 2 ^ i < 2 ^ k → ones (n / 2 ^ i) ≡ count_by (held n) (up i k)
-ones-up n zero i h = ap ones (zero_of (n / 2 ^ i) h) ∙ ones-bit 0 (omega arith)
-  where
-    zero_of : (m : ℕ) → m < 2 ^ 0 → m ≡ 0
-    zero_of m h = omega arith
+ones-up n zero i h = grind (arith, common_steps, ones-bit)
 ones-up n (suc k) i h =
     let m = n / 2 ^ i in
     let first = cond (held n i) 1 0 in
@@ -155,6 +153,4 @@ place_of Look.WordEndHalfUnicode u = (5, omega arith, refl)
 place_of _ u = absurd (false≢true u)
 
 pub no_word_look : (set : ℕ) → NoneOfFirst set 6 → HasWordLook set → false ≡ true
-no_word_look set none has =
-    let place = place_of has.0 has.1 in
-    sym (none place.0 place.1) ∙ ap (λ look. holds_look set look) place.2 ∙ has.2
+no_word_look set none has = grind (arith, common_steps, place_of)

@@ -1,19 +1,19 @@
 -- A table that was begun for an NFA is one that may be determinized, and what that says of causes is said of the build.
-use Rattle.std.proofs.Common.{◌≡◌, ℕ, Bool, true, false, is_some, if◌then◌else◌, Some, None, length, inl}
-use Rattle.std.proofs.Common.{refl, sym, ap, ap₂, subst, ◌∙◌, ⊎_elim}
+use Rattle.std.proofs.Common.{arith, ◌≡◌, ℕ, Bool, true, false, is_some, if◌then◌else◌, Some, None, length, refl, sym}
+use Rattle.std.proofs.Common.{ap₂, subst, ◌∙◌}
+use Rattle.std.proofs.lemmas.Grind.{common_steps}
 use Rattle.rx_spec.specs.Builds.{Build}
-use Rattle.rx_spec.specs.Causes.{BuildCause, BuildFits, HasTooLongRows, HasTooManyStates}
+use Rattle.rx_spec.specs.Causes.{BuildCause, BuildFits}
 use Rattle.rx_spec.specs.Classes.{quit_set}
 use Rattle.rx_spec.specs.Nfas.{Nfa}
 use Rattle.rx_spec.specs.Plans.{Cause}
 use Rattle.rx_spec.specs.declared.Form.{Form}
-use Rattle.rx_dense.specs.Builder.{initial}
 use Rattle.rx_dense.specs.Layouts.{Layout}
-use Rattle.rx_build_error.specs.Refusals.{IsNfaRefused, IsRefused, TableRefused}
+use Rattle.rx_build_error.specs.Refusals.{IsRefused, TableRefused}
 use Rattle.rx_build_error.specs.declared.BuildErrorKind.{BuildErrorKind}
 use Rattle.rx_expr.specs.declared.thompson.build_error.BuildError as nfa
 use Rattle.rx_determinize.specs.Determinized as determinize
-use Rattle.rx_determinize.specs.Determinized.{IsBegunWith, IsDeterminized, Settings, build_in, classes_of}
+use Rattle.rx_determinize.specs.Determinized.{IsBegunWith, IsDeterminized, Settings, build_in}
 use Rattle.rx_build.specs.Built.{begun, build_of, limits_of, settings_with}
 use Rattle.rx_build.specs.Making.{IsMade, determinized}
 use Rattle.rx_build.specs.Settings.{Settled}
@@ -28,26 +28,10 @@ module _ (s : Settled) (nfa : Nfa) where
   has_starts = some_if s.pattern_starts (length nfa.start_patterns)
 
   is_begun : IsBegunWith nfa (settings_with s (quit_set nfa s.quit s.unicode_word)) s.byte_classes (begun s nfa)
-  is_begun =
-      ap (λ (starts : Bool). initial (record {
-        classes = classes_of nfa (quit_set nfa s.quit s.unicode_word) s.byte_classes;
-        pattern_len = length nfa.start_patterns;
-        start_kind = s.start_kind;
-        line_terminator = nfa.line_terminator;
-        pattern_starts = starts;
-        quit = quit_set nfa s.quit s.unicode_word;
-        flags = (begun s nfa).flags;
-      })) has_starts
+  is_begun = grind (arith, common_steps, has_starts)
 
   same_build : build_in nfa (settings_with s (quit_set nfa s.quit s.unicode_word)) (begun s nfa) ≡ build_of s nfa
-  same_build =
-      ap (λ (starts : Bool). record {
-        nfa = nfa;
-        kind = s.match_kind;
-        start_kind = s.start_kind;
-        pattern_starts = starts;
-        quit = quit_set nfa s.quit s.unicode_word;
-      }) (sym has_starts)
+  same_build = grind (arith, common_steps, has_starts)
 
 -- ---- limits of dense tables, which have no rows of ranges
 
@@ -56,28 +40,14 @@ not_sparse e = cc
 
 fits_alike : (s : Settled) (quit : ℕ) (b : Build)
     → BuildFits (determinize.limits_of (settings_with s quit) s.byte_classes) b → BuildFits (limits_of s) b
-fits_alike s quit b fits = record {
-  supported = fits.supported;
-  states = fits.states;
-  rows = λ e rows. absurd (not_sparse rows.0);
-  patterns = fits.patterns;
-  table = fits.table;
-  construction = fits.construction;
-}
+fits_alike s quit b fits = grind (arith, common_steps, not_sparse)
 
 table_refused_alike : (s : Settled) (quit : ℕ) (b : Build) (cause : Cause)
     → TableRefused (determinize.limits_of (settings_with s quit) s.byte_classes) b cause
     → TableRefused (limits_of s) b cause
 table_refused_alike s quit b (Cause.NFA cause) r = r
 table_refused_alike s quit b (Cause.DFA BuildCause.Unsupported) r = r
-table_refused_alike s quit b (Cause.DFA BuildCause.TooManyStates) r =
-    let l = determinize.limits_of (settings_with s quit) s.byte_classes in (
-      r.0,
-      ⊎_elim
-          (λ (states : HasTooManyStates l b). inl states)
-          (λ (rows : HasTooLongRows l b). absurd (not_sparse rows.0))
-          r.1,
-    )
+table_refused_alike s quit b (Cause.DFA BuildCause.TooManyStates) r = grind (arith, common_steps, not_sparse)
 table_refused_alike s quit b (Cause.DFA BuildCause.TooManyMatchPatternIDs) r = r
 table_refused_alike s quit b (Cause.DFA (BuildCause.DFAExceededSizeLimit limit)) r = r
 table_refused_alike s quit b (Cause.DFA (BuildCause.DeterminizeExceededSizeLimit limit)) r = r
@@ -85,13 +55,7 @@ table_refused_alike s quit b (Cause.DFA (BuildCause.DeterminizeExceededSizeLimit
 -- a refusal names the same cause in another relation of causes
 pub refused_as : (P Q : Cause → Type 0) → ((cause : Cause) → P cause → Q cause) → (kind : BuildErrorKind)
     → IsRefused P kind → IsRefused Q kind
-refused_as P Q f (BuildErrorKind.NFA error) r = by_nfa error r
-  where
-    by_nfa : (error : nfa.BuildError) → IsNfaRefused P error → IsNfaRefused Q error
-    by_nfa (nfa.BuildError.TooManyPatterns given) r = f _ r
-    by_nfa (nfa.BuildError.TooManyStates given) r = f _ r
-    by_nfa (nfa.BuildError.ExceededSizeLimit limit) r = f _ r
-    by_nfa nfa.BuildError.Memory r = r
+refused_as P Q f (BuildErrorKind.NFA error) r = grind (arith, common_steps)
 refused_as P Q f BuildErrorKind.Unsupported r = f _ r
 refused_as P Q f BuildErrorKind.TooManyStates r = f _ r
 refused_as P Q f BuildErrorKind.TooManyMatchPatternIDs r = f _ r
@@ -116,10 +80,7 @@ pub record IsBegunBy (s : Settled) (nfa : Nfa) (settings : Settings) (l : Layout
 pub begun_by : {s : Settled} {nfa : Nfa} {settings : Settings} {l : Layout} {quit set : ℕ} {unicode_word : Bool}
     → quit ≡ quit_set nfa set unicode_word → set ≡ s.quit → unicode_word ≡ s.unicode_word
     → settings ≡ settings_with s quit → l ≡ begun s nfa → IsBegunBy s nfa settings l
-begun_by {s = s} {nfa = nfa} told set_is word_is settings_are layout_is = record {
-  settings_are = settings_are ∙ ap (settings_with s) (told ∙ ap₂ (quit_set nfa) set_is word_is);
-  layout_is = layout_is;
-}
+begun_by {s = s} {nfa = nfa} told set_is word_is settings_are layout_is = grind (arith, common_steps)
 
 module _ {s : Settled} {nfa : Nfa} {settings : Settings} {l : Layout} (by : IsBegunBy s nfa settings l) where
   pub begun_with : IsBegunWith nfa settings s.byte_classes l

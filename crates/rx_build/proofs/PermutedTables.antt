@@ -1,5 +1,6 @@
 -- Tables whose rows lie at other places tell the same of every word: they give what they gave, and a powerset machine
 -- is one still.
+use Rattle.std.proofs.lemmas.Grind.{common_steps}
 use Rattle.std.proofs.Common.{◌≡◌, ◌≢◌, ℕ, ◌<◌, List, [], ◌∷◌, slice_index, ap, sym, ◌∙◌, arith}
 use Rattle.rx_spec.specs.Builds.{Build}
 use Rattle.rx_spec.specs.Labels.{AreToldApart, Gives, SameLabels, label_after}
@@ -45,13 +46,10 @@ module _ {t u : Table} (m : IsMoved t u) where
 
   told : (row : ℕ) (word : List ℕ) → row < t.size → IsWord word
       → label_after u.machine (new_row row) word ≡ label_after t.machine row word
-  told row word h w =
-      ap u.machine.label (led row word h w) ∙ m.labels (run t.machine.next row word) (row_there row word h w)
+  told row word h w = grind (arith, common_steps, led, row_there)
 
   pub moved_labels : SameLabels AnyMode u.machine t.machine
-  moved_labels mode begins start word w =
-      ap (λ r. label_after u.machine r word) (m.permuted.entries mode start)
-      ∙ told (t.machine.entry mode start) word (m.is_table.entries mode start) w
+  moved_labels mode begins start word w = grind (arith, common_steps, told)
 
   pub moved_gives : (b : Build) → Gives t b → Gives u b
   moved_gives b gives mode built start word w = moved_labels mode tt start word w ∙ gives mode built start word w

@@ -1,13 +1,13 @@
 -- Tables in which no row is accelerated, and those in which no start row is marked any more.
-use Rattle.std.proofs.Common.{◌≡◌, ◌≢◌, ℕ, zero, suc, ◌+◌, ◌*◌, ◌/◌, ◌<◌, ◌≤◌, ◌==◌, ◌&&◌, ◌||◌, ◌⊎◌, not}
-use Rattle.std.proofs.Common.{nat_le, ◌^◌, Bool, true, false, if◌then◌else◌, length, refl, sym, ap, ap₂}
-use Rattle.std.proofs.Common.{subst, ◌∙◌, ⊎_elim, inl, inr, arith}
+use Rattle.std.proofs.lemmas.Grind.{common_steps}
+use Rattle.std.proofs.Common.{◌≡◌, ◌≢◌, ℕ, zero, suc, ◌+◌, ◌*◌, ◌/◌, ◌<◌, ◌≤◌, ◌==◌, ◌&&◌, ◌||◌, ◌⊎◌, not, nat_le, ◌^◌}
+use Rattle.std.proofs.Common.{Bool, true, false, length, refl, sym, ap, ap₂, subst, ◌∙◌, ⊎_elim, inl, inr, arith}
 use Rattle.std.proofs.lemmas.Bool.{and_parts, cases_eq, cases_lt, eq-eqb, leb-true, true≢false, ne_eqb}
 use Rattle.std.proofs.lemmas.Nat.{mul-le, pow_pos}
 use Rattle.rx_spec.specs.Tables.{is_match}
 use Rattle.rx_dense.specs.declared.special.Special.{Special}
-use Rattle.rx_dense.specs.Layouts.{Layout, IsRowId, patterns_at, place_in_range, row_count, stride, table_of}
-use Rattle.rx_dense.specs.Specials.{greatest, is_in_range, is_match_id, is_quit_id}
+use Rattle.rx_dense.specs.Layouts.{Layout, IsRowId, row_count, stride, table_of}
+use Rattle.rx_dense.specs.Specials.{greatest, is_in_range, is_match_id}
 use Rattle.rx_dense.proofs.Rows.{quotient, row-below}
 use Rattle.rx_dense.proofs.Shaped.{id_kept}
 use Rattle.rx_order.specs.RowOrder.{IsInOrder, IsPlain, IsRange, accel_count, is_start_row}
@@ -20,23 +20,13 @@ and_none true = refl
 and_none false = refl
 
 empty_range : (id : ℕ) → is_in_range 0 0 id ≡ false
-empty_range id =
-    ⊎_elim
-    (λ (e : id ≡ 0). subst (λ n. is_in_range 0 0 n ≡ false) (sym e) refl)
-    (λ (n : id ≢ 0).
-    ap (λ b. nat_le 0 id && b && not (id == 0)) (over id 0 (omega arith))
-    ∙ ap (λ b. b && not (id == 0)) (and_none (nat_le 0 id)))
-    (cases_eq id 0)
+empty_range id = grind (arith, common_steps, over, and_none, cases_eq)
 
 pub none_accelerated : (l : Layout) → IsPlain l → (row : ℕ) → (table_of l).is_accelerated row ≡ false
-none_accelerated l plain row =
-    ap₂ (λ (a b : ℕ). is_in_range a b (row * stride l)) plain.min_accel plain.max_accel ∙ empty_range (row * stride l)
+none_accelerated l plain row = grind (arith, common_steps, empty_range)
 
 pub none_counted : (l : Layout) → IsPlain l → length l.accels ≡ accel_count l
-none_counted l plain =
-    ap length plain.accels
-    ∙ sym (ap (λ b. if b then 0 else place_in_range l l.special.min_accel l.special.max_accel + 1)
-    (eq-eqb l.special.min_accel 0 plain.min_accel))
+none_counted l plain = grind (arith, common_steps, eq-eqb)
 
 -- ---- ranges of ids
 
@@ -74,9 +64,7 @@ module _ (l : Layout) (order : IsInOrder l) (plain : IsPlain l) where
   not_accelerated = none_accelerated l plain
 
   match_by_id : (row : ℕ) → is_match (table_of l) row ≡ is_match_id l.special (row * stride l)
-  match_by_id row =
-      label_match (is_match_id l.special (row * stride l)) (is_quit_id l.special (row * stride l))
-      (patterns_at l (place_in_range l l.special.min_match (row * stride l)))
+  match_by_id row = grind (arith, common_steps, label_match)
 
   -- a row behind quit whose id isn't above the last match row's is a match row
   matches_first : (row : ℕ) → 1 < row → row < row_count l → row * stride l ≤ l.special.max_match
@@ -236,10 +224,4 @@ module _ (l : Layout) (order : IsInOrder l) (plain : IsPlain l) where
       or_none false = refl
 
   pub unmarked_plain : IsPlain (unmarked l)
-  unmarked_plain = record {
-    accels = plain.accels;
-    min_accel = plain.min_accel;
-    max_accel = plain.max_accel;
-    universal_unanchored = plain.universal_unanchored;
-    universal_anchored = plain.universal_anchored;
-  }
+  unmarked_plain = grind (arith, common_steps)

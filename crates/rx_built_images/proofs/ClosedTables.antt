@@ -1,7 +1,8 @@
 -- A table that is ready passes what must hold of all parts of an image together.
-use Rattle.std.proofs.Common.{◌≡◌, ℕ, suc, ◌+◌, ◌/◌, ◌%◌, ◌<◌, ◌&&◌, ◌||◌, not, Bool, true, false}
-use Rattle.std.proofs.Common.{leb, eqb, Option, Some, None, List, [], ◌∷◌, length, filter, get_or, slice_index, refl}
-use Rattle.std.proofs.Common.{sym, ap, subst, ◌∙◌, arith, inl, inr}
+use Rattle.std.proofs.lemmas.Grind.{common_steps}
+use Rattle.std.proofs.Common.{◌≡◌, ℕ, suc, ◌+◌, ◌/◌, ◌%◌, ◌<◌, ◌&&◌, ◌||◌, not, Bool, true, false, leb, eqb, Option}
+use Rattle.std.proofs.Common.{Some, None, List, [], ◌∷◌, length, filter, get_or, slice_index, refl, sym, ap, subst, ◌∙◌}
+use Rattle.std.proofs.Common.{arith, inl, inr}
 use Rattle.std.specs.Cmp.{both_ways}
 use Rattle.std.specs.Prelude.{IfSome, if◌then◌else◌}
 use Rattle.std.specs.List.{list_all, range_with_len}
@@ -19,14 +20,13 @@ use Rattle.lemmas_tables.proofs.Filters.{every_in_range, filter_alike}
 use Rattle.rx_search.specs.Starts.{IsId}
 use Rattle.rx_dense.specs.Layouts.{context_number, mode_place}
 use Rattle.rx_dense.specs.Specials.{is_accel_id, is_match_id, is_quit_id}
-use Rattle.rx_dense.specs.declared.special.Special.{Special}
 use Rattle.rx_dense.proofs.Rows.{id_at_row}
 use Rattle.rx_dense_image.proofs.EachBelow.{and_of, cases_bool}
 use Rattle.rx_order.proofs.KindNumbers.{at_most}
 use Rattle.rx_order.proofs.MarkedRows.{context_at, context_at-number, mode_at, mode_at-place}
 use Rattle.rx_sparse.specs.Rows.{Row, next_among, next_ids, no_range, no_row, offsets_from, row_len}
-use Rattle.rx_sparse.specs.Layouts.{Layout, ids_of, label_of_row, machine_of, next_id, row_at, row_count}
-use Rattle.rx_sparse.specs.Layouts.{start_id, table_of}
+use Rattle.rx_sparse.specs.Layouts.{Layout, ids_of, label_of_row, machine_of, next_id, row_at, row_count, start_id}
+use Rattle.rx_sparse.specs.Layouts.{table_of}
 use Rattle.rx_sparse.proofs.RowPlaces.{next_on_byte, zero_is_id}
 use Rattle.rx_sparse.proofs.RowTexts.{eoi_there, length-next_ids, next_there}
 use Rattle.rx_sparse_image.specs.Closing as closing
@@ -37,8 +37,7 @@ use Rattle.rx_order.proofs.UsedColumns.{class_used}
 use Rattle.rx_built_images.proofs.KindTests.{plain_matches, plain_quits}
 use Rattle.rx_built_images.proofs.Places.{all_places, not_of}
 use Rattle.rx_built_images.proofs.RangesLead.{among_at}
-use Rattle.rx_built_images.proofs.Ready.{IsReady, back, dead_is, next_is_id, quit_is, quit_some}
-use Rattle.rx_built_images.proofs.Ready.{zero_of}
+use Rattle.rx_built_images.proofs.Ready.{IsReady, back, dead_is, next_is_id, quit_is, quit_some, zero_of}
 
 -- ---- tests
 
@@ -214,20 +213,7 @@ module _ (l : Layout) (ready : IsReady l) where
   -- ---- special rows
 
   special_pass : are_special_rows l l.special ≡ true
-  special_pass =
-      let s : Special = l.special in
-      let passes : (id : ℕ) → IsId (ids_of l) id → is_row_id l id ≡ true = row_id_passes in
-      let are = ready.rows in
-      rw (
-        passes s.max are.max,
-        passes s.min_match are.min_match,
-        passes s.max_match are.max_match,
-        passes s.min_accel are.min_accel,
-        passes s.max_accel are.max_accel,
-        passes s.min_start are.min_start,
-        passes s.max_start are.max_start,
-      )
-      refl
+  special_pass = grind (arith, common_steps, row_id_passes)
 
   -- ---- start rows
 
@@ -262,20 +248,9 @@ module _ (l : Layout) (ready : IsReady l) where
   universal_passes (Some id) is = row_id_passes id is
 
   starts_pass : starts_stand l ≡ true
-  starts_pass =
-      let starts = ready.shaped.starts in
-      and_of (list_all (is_start_row l) l.starts && is_universal l l.universal_unanchored)
-      (is_universal l l.universal_anchored)
-      (and_of (list_all (is_start_row l) l.starts) (is_universal l l.universal_unanchored)
-      (all_places (is_start_row l) l.starts start_passes)
-      (universal_passes l.universal_unanchored starts.universal_unanchored))
-      (universal_passes l.universal_anchored starts.universal_anchored)
+  starts_pass = grind (arith, common_steps, and_of, all_places, start_passes, universal_passes)
 
   -- ---- all together
 
   pub closed : is_closed (length l.rows) l ≡ true
-  closed =
-      let told : eqb (row_count l) (length l.rows) ≡ true = eq-eqb _ _ refl in
-      and_of (eqb (row_count l) (length l.rows) && rows_stand l && are_special_rows l l.special) (starts_stand l)
-      (and_of (eqb (row_count l) (length l.rows) && rows_stand l) (are_special_rows l l.special)
-      (and_of (eqb (row_count l) (length l.rows)) (rows_stand l) told rows_pass) special_pass) starts_pass
+  closed = grind (arith, common_steps, eq-eqb, and_of, rows_pass, special_pass, starts_pass)

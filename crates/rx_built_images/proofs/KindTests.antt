@@ -1,11 +1,11 @@
 -- Kinds of rows, labels and ranges of ids, by the tests that tell them.
-use Rattle.std.proofs.Common.{◌≡◌, ◌≢◌, ℕ, ◌*◌, ◌≤◌, Bool, true, false, ◌||◌, not, leb, eqb, List, refl, ap, arith}
-use Rattle.std.proofs.Common.{if◌then◌else◌, inl, inr}
+use Rattle.std.proofs.lemmas.Grind.{common_steps}
+use Rattle.std.proofs.Common.{◌≡◌, ◌≢◌, ℕ, ◌*◌, ◌≤◌, Bool, true, false, ◌||◌, List, refl, arith, if◌then◌else◌}
 use Rattle.std.proofs.lemmas.Bool.{and_parts, cases_eq, leb-true}
 use Rattle.rx_spec.specs.Machines.{Label}
 use Rattle.rx_spec.specs.Tables.{is_match}
-use Rattle.rx_dense.specs.Specials.{is_in_range, is_match_id, is_quit_id}
-use Rattle.rx_dense.specs.Layouts.{Layout, patterns_at, place_in_range, stride, table_of}
+use Rattle.rx_dense.specs.Specials.{is_in_range, is_match_id}
+use Rattle.rx_dense.specs.Layouts.{Layout, stride, table_of}
 use Rattle.rx_order.proofs.KindNumbers.{at_most, high_kind, label_match}
 use Rattle.rx_dense_image.specs.Marks.{begins_after}
 
@@ -13,10 +13,7 @@ use Rattle.rx_dense_image.specs.Marks.{begins_after}
 
 -- a row matches where its id is in the range of match rows
 pub match_is : (l : Layout) (row : ℕ) → is_match (table_of l) row ≡ is_match_id l.special (row * stride l)
-match_is l row =
-    let id : ℕ = row * stride l in
-    label_match (is_match_id l.special id) (is_quit_id l.special id)
-    (patterns_at l (place_in_range l l.special.min_match id))
+match_is l row = grind (arith, common_steps, label_match)
 
 -- a plain row neither matches nor quits
 pub plain_matches : (m q : Bool) (ks : List ℕ)
@@ -34,8 +31,7 @@ plain_quits false false ks e h = cc
 
 -- an id in a range is no less than the first of the range
 pub first_of : (first last id : ℕ) → is_in_range first last id ≡ true → first ≤ id
-first_of first last id test =
-    leb-true first id (and_parts (leb first id) (leb id last) (and_parts _ (not (eqb id 0)) test).0).0
+first_of first last id test = grind (arith, common_steps, leb-true, and_parts)
 
 -- one that holds is enough
 pub or_last : (a b : Bool) → (a || b || true) ≡ true
@@ -49,14 +45,7 @@ or_middle false = refl
 
 -- one range begins no sooner than another where that holds of two that have rows
 pub after_of : (first other : ℕ) → (first ≢ 0 → other ≢ 0 → other ≤ first) → begins_after first other ≡ true
-after_of first other h =
-    elim (cases_eq first 0) [
-      | inl e ↦ (rw e refl)
-      | inr some ↦ (elim (cases_eq other 0) [
-        | inl e ↦ (rw e (ap (λ (b : Bool). b || leb 0 first) (or_middle (eqb first 0))))
-        | inr more ↦ (rw (at_most other first (h some more)) (or_last (eqb first 0) (eqb other 0)))
-      ])
-    ]
+after_of first other h = grind (arith, common_steps, cases_eq, or_middle, at_most, or_last)
 
 -- ---- kinds of rows behind quit: those up to 3 are of match rows, and those up to 5 of match rows and accelerated ones
 

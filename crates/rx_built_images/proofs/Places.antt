@@ -1,6 +1,7 @@
 -- Tests of all elements by their places, and numbers that are multiples of another.
-use Rattle.std.proofs.Common.{◌≡◌, ℕ, suc, ◌*◌, ◌/◌, ◌%◌, ◌<◌, ◌≤◌, Bool, true, false, ◌&&◌, not, List}
-use Rattle.std.proofs.Common.{[], ◌∷◌, length, get_or, refl, arith, inl, inr}
+use Rattle.std.proofs.lemmas.Grind.{common_steps}
+use Rattle.std.proofs.Common.{◌≡◌, ℕ, suc, ◌*◌, ◌/◌, ◌%◌, ◌<◌, ◌≤◌, Bool, true, false, ◌&&◌, not, List, [], ◌∷◌, length}
+use Rattle.std.proofs.Common.{get_or, refl, arith}
 use Rattle.std.specs.List.{list_all}
 use Rattle.std.proofs.Math.Nat.{div-mul-le_self}
 use Rattle.std.proofs.lemmas.Bool.{cases_lt}
@@ -26,21 +27,8 @@ not_of false h = refl
 
 -- the row of a place
 pub row_below : (k n s : ℕ) → n % s ≡ 0 → k < n → k / s < n / s
-row_below k n s whole lt =
-    elim (cases_lt (k / s) (n / s)) [
-      | inl less ↦ less
-      | inr more ↦ (
-          let same : s ≤ s = omega arith in
-          absurd (omega (arith, lt, quotient n s whole, mul-le (n / s) s (k / s) s more same, div-mul-le_self k s)))
-    ]
+row_below k n s whole lt = grind (arith, common_steps, cases_lt, quotient, mul-le, div-mul-le_self)
 
 -- rows lie as their ids do
 pub rows_rise : (x y s : ℕ) → x * s < y * s → x ≤ y
-rows_rise x y s lt =
-    elim (cases_lt y x) [
-      | inl less ↦ (
-          let same : s ≤ s = omega arith in
-          let le : y ≤ x = omega (arith, less) in
-          absurd (omega (arith, lt, mul-le y s x s le same)))
-      | inr le ↦ le
-    ]
+rows_rise x y s lt = grind (arith, common_steps, cases_lt, mul-le)

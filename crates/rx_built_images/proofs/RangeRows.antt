@@ -1,6 +1,7 @@
 -- The rows of a range of ids, one after another.
-use Rattle.std.proofs.Common.{◌≡◌, ℕ, ◌+◌, ◌-◌, ◌*◌, ◌/◌, ◌<◌, ◌≤◌, true, if◌then◌else◌, ap, ap₂, sym, ◌∙◌, arith}
-use Rattle.std.proofs.Common.{inl, inr}
+use Rattle.std.proofs.lemmas.Grind.{common_steps}
+use Rattle.std.proofs.Common.{◌≡◌, ℕ, ◌+◌, ◌-◌, ◌*◌, ◌/◌, ◌<◌, ◌≤◌, true, if◌then◌else◌, ap, ap₂, sym, ◌∙◌, arith, inl}
+use Rattle.std.proofs.Common.{inr}
 use Rattle.std.proofs.lemmas.Bool.{cases_lt, eq-eqb, ne_eqb}
 use Rattle.std.proofs.lemmas.Nat.{mul-le, pow_pos}
 use Rattle.rx_dense.specs.Specials.{is_in_range}
@@ -19,10 +20,7 @@ pub record IsRowAt (l : Layout) (first last i row : ℕ) : Type 0 where
 
 pub range_at : (l : Layout) (first last : ℕ) → IsRange l first last → (i : ℕ) → i < range_len l first last
     → IsRowAt l first last i (first / stride l + i)
-range_at l first last (inl (none, last_none)) i lt =
-    let e : range_len l first last ≡ 0 =
-    ap (λ b. if b then 0 else (last - first) / stride l + 1) (eq-eqb first 0 none) in
-    absurd (omega (arith, lt, e))
+range_at l first last (inl (none, last_none)) i lt = grind (arith, common_steps, eq-eqb)
 range_at l first last (inr (past, le, is_first, is_last)) i lt =
     let s : ℕ = stride l in
     let some : 0 < stride l = pow_pos l.stride2 in

@@ -1,13 +1,14 @@
 -- What is known of a sparse table that is ready to be written: rows and their ids, and which ids are special.
-use Rattle.std.proofs.Common.{◌≡◌, ℕ, ◌<◌, ◌≤◌, ◌^◌, true, leb, eqb, List, [], ◌∷◌, length}
-use Rattle.std.proofs.Common.{slice_index, sym, ap, subst, ◌∙◌, ⊎_elim, arith}
+use Rattle.std.proofs.lemmas.Grind.{common_steps}
+use Rattle.std.proofs.Common.{◌≡◌, ℕ, ◌<◌, ◌≤◌, ◌^◌, true, leb, eqb, List, [], ◌∷◌, length, slice_index, sym, ap, subst}
+use Rattle.std.proofs.Common.{◌∙◌, ⊎_elim, arith}
 use Rattle.std.proofs.lemmas.Bool.{cases_lt, eq-eqb, eqb-true}
 use Rattle.std.specs.Cmp.{both_ways}
 use Rattle.rx_spec.specs.Ids.{id_of, row_of}
 use Rattle.rx_spec.specs.Tables.{is_match}
 use Rattle.lemmas_tables.proofs.Ids.{id_apart, row_of-id_of}
 use Rattle.rx_search.specs.Starts.{IsId}
-use Rattle.rx_dense.specs.Specials.{is_accel_id, is_match_id, is_quit_id, is_start_id}
+use Rattle.rx_dense.specs.Specials.{is_accel_id, is_match_id, is_start_id}
 use Rattle.rx_dense.proofs.Rows.{id_at_row}
 use Rattle.rx_dense_image.specs.Closing.{is_named}
 use Rattle.rx_dense_image.specs.Marks.{are_special}
@@ -60,10 +61,7 @@ module _ (l : Layout) (ready : IsReady l) where
 
   -- quit isn't dead
   pub quit_some : 0 < l.special.quit
-  quit_some =
-      let up : id_of ids 0 < id_of ids 1 = (offsets_are_ids l.rows).rising 0 (omega (arith, count, second_row)) in
-      let second = ready.second in
-      omega (arith, up, second)
+  quit_some = grind (arith, common_steps, count, second_row)
 
   -- dead and quit, by ids as by rows
   pub dead_is : (row : ℕ) → row < row_count l → eqb (id_of (ids_of l) row) 0 ≡ eqb row 0
@@ -73,18 +71,13 @@ module _ (l : Layout) (ready : IsReady l) where
       (λ e. eq-eqb _ _ (ap (id_of ids) (eqb-true _ _ e) ∙ first_id))
 
   pub quit_is : (row : ℕ) → row < row_count l → eqb (id_of (ids_of l) row) l.special.quit ≡ eqb row 1
-  quit_is row h =
-      both_ways (eqb (id_of ids row) l.special.quit) (eqb row 1)
-      (λ e. eq-eqb _ _ (same_row row 1 h second_row (eqb-true _ _ e ∙ ready.second)))
-      (λ e. eq-eqb _ _ (ap (id_of ids) (eqb-true _ _ e) ∙ sym ready.second))
+  quit_is row h = grind (arith, common_steps, eq-eqb, same_row, second_row, eqb-true)
 
   -- ---- special rows
 
   -- a row matches where its id is in the range of match rows
   match_is : (row : ℕ) → is_match (table_of l) row ≡ is_match_id l.special (id_of (ids_of l) row)
-  match_is row =
-      let id : ℕ = id_of ids row in
-      label_match (is_match_id l.special id) (is_quit_id l.special id) (row_at l row).patterns
+  match_is row = grind (arith, common_steps, label_match)
 
   -- the rows up to the greatest special one are dead, quit, and those in a range
   pub special_is : (row : ℕ) → row < row_count l

@@ -1,6 +1,7 @@
 -- The rows of a table that is ready pass the tests of an image's rows, and its other parts can be read too.
-use Rattle.std.proofs.Common.{◌≡◌, ◌≢◌, ℕ, ◌+◌, ◌*◌, ◌<◌, ◌≤◌, ◌||◌, not, Bool, true, false, eqb, leb, ltb, List}
-use Rattle.std.proofs.Common.{[], ◌∷◌, Option, Some, None, length, slice_index, refl, sym, ap, subst, ◌∙◌, arith}
+use Rattle.std.proofs.lemmas.Grind.{common_steps}
+use Rattle.std.proofs.Common.{◌≡◌, ◌≢◌, ℕ, ◌+◌, ◌*◌, ◌<◌, ◌≤◌, ◌||◌, not, Bool, true, false, eqb, leb, ltb, List, []}
+use Rattle.std.proofs.Common.{◌∷◌, Option, Some, None, length, slice_index, refl, sym, ap, ◌∙◌, arith}
 use Rattle.std.specs.Prelude.{IfSome, if◌then◌else◌}
 use Rattle.std.proofs.lemmas.Bool.{eq-eqb, lt-ltb}
 use Rattle.std.proofs.lemmas.List.Elements.{Contains-get_or}
@@ -118,16 +119,7 @@ module _ (l : Layout) (ready : IsReady l) where
   few_id (Some id) is = id_small l ready.shaped id is
 
   table_read : IsReadStartTable (start_table_of l)
-  table_read =
-      let starts = ready.shaped.starts in
-      record {
-        contexts = starts.contexts;
-        patterns =
-            few_starts l.pattern_starts (subst (λ (n : ℕ). n ≤ 12 + 6 * (max_id + 1)) starts.count starts.small);
-        unanchored = few_id l.universal_unanchored starts.universal_unanchored;
-        anchored = few_id l.universal_anchored starts.universal_anchored;
-        count = starts.count;
-      }
+  table_read = grind (arith, common_steps, few_starts, few_id)
 
   -- the id of a row is no more than where its bytes end
   within : (id : ℕ) → IsId (ids_of l) id → id < rows_len l.rows

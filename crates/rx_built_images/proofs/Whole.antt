@@ -4,8 +4,7 @@ use Rattle.rx_spec.specs.Tables.{IsSound}
 use Rattle.std.proofs.lemmas.Nat.{pow_pos}
 use Rattle.rx_dense.specs.Layouts.{AreRows, Layout, table_of}
 use Rattle.rx_order.specs.RowOrder.{IsOrdered}
-use Rattle.rx_dense_image.specs.Closing.{accels_stand, is_closed, lists_stand, rows_stand, special_stand}
-use Rattle.rx_dense_image.specs.Closing.{starts_stand}
+use Rattle.rx_dense_image.specs.Closing.{accels_stand, is_closed, lists_stand, rows_stand, special_stand, starts_stand}
 use Rattle.rx_dense_image.specs.Images.{IsWhole}
 use Rattle.rx_dense_image.proofs.EachBelow.{and_of}
 use Rattle.rx_built_images.specs.Finished.{IsFinished}

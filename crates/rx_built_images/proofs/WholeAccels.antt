@@ -1,7 +1,8 @@
 -- The needles of a sound table's accelerated rows pass the tests of an image's needles.
-use Rattle.std.proofs.Common.{◌≡◌, ℕ, ◌+◌, ◌*◌, ◌/◌, ◌^◌, ◌<◌, ◌≤◌, Bool, true, ◌&&◌, not, leb, eqb, List, []}
-use Rattle.std.proofs.Common.{length, get_or, sym, ap, subst, ◌∙◌, arith, inl, inr, if◌then◌else◌}
-use Rattle.std.specs.List.{list_all, range_with_len}
+use Rattle.std.proofs.lemmas.Grind.{common_steps}
+use Rattle.std.proofs.Common.{◌≡◌, ℕ, ◌+◌, ◌*◌, ◌/◌, ◌^◌, ◌<◌, ◌≤◌, Bool, true, ◌&&◌, not, leb, eqb, List, [], length}
+use Rattle.std.proofs.Common.{get_or, sym, ap, subst, ◌∙◌, arith, inl, inr, if◌then◌else◌}
+use Rattle.std.specs.List.{range_with_len}
 use Rattle.std.specs.Str.{bytes_eq}
 use Rattle.std.proofs.Math.Nat.{mul-div_cancel}
 use Rattle.std.proofs.lemmas.Bool.{cases_lt, cases_eq, eq-eqb, ne_eqb}
@@ -10,8 +11,8 @@ use Rattle.std.proofs.lemmas.Nat.{pow_pos}
 use Rattle.std.proofs.lemmas.Slice.Eq.{bytes_eq-Decides}
 use Rattle.rx_spec.specs.Tables.{IsSound, leaving}
 use Rattle.lemmas_tables.proofs.Filters.{every_in_range, filter_alike}
-use Rattle.rx_dense.specs.Layouts.{AreRows, IsRowId, Layout, column, machine_of, needles_of_id, next_id}
-use Rattle.rx_dense.specs.Layouts.{place_in_range, row_count, stride, table_of}
+use Rattle.rx_dense.specs.Layouts.{AreRows, IsRowId, Layout, column, machine_of, needles_of_id, next_id, place_in_range}
+use Rattle.rx_dense.specs.Layouts.{row_count, stride, table_of}
 use Rattle.rx_dense.proofs.Rows.{IsRowId-row, column_within, quotient}
 use Rattle.rx_order.specs.RowOrder.{IsRange}
 use Rattle.rx_order.proofs.KindNumbers.{at_most}
@@ -98,10 +99,7 @@ module _ (l : Layout) (rows : AreRows l) (sound : IsSound (table_of l))
       ((bytes_eq-Decides needles leave).1 same)
 
   pub accels_closed : accels_stand l ≡ true
-  accels_closed =
-      and_of (eqb (length l.accels) (range_len l l.special.min_accel l.special.max_accel))
-      (list_all (has_needles l) (range_with_len 0 (length l.accels))) (eq-eqb _ _ count)
-      (all_of (length l.accels) (has_needles l) needles_pass)
+  accels_closed = grind (arith, common_steps, and_of, eq-eqb, all_of, needles_pass)
 
   pub accels_read : length l.accels < 2 ^ 32 → AreReadAccels l.accels
   accels_read few = record {

@@ -1,7 +1,8 @@
 -- The lists of patterns of a sound table's match rows pass the tests of an image's lists.
-use Rattle.std.proofs.Common.{◌≡◌, ℕ, suc, ◌+◌, ◌*◌, ◌/◌, ◌%◌, ◌^◌, ◌<◌, ◌≤◌, Bool, true, false, ◌&&◌, not}
-use Rattle.std.proofs.Common.{leb, ltb, eqb, List, [], ◌∷◌, length, get_or, slice_index, refl, sym, ap, subst, ◌∙◌}
-use Rattle.std.proofs.Common.{arith, inl, inr, if◌then◌else◌}
+use Rattle.std.proofs.lemmas.Grind.{common_steps}
+use Rattle.std.proofs.Common.{◌≡◌, ℕ, suc, ◌+◌, ◌*◌, ◌/◌, ◌%◌, ◌^◌, ◌<◌, ◌≤◌, Bool, true, false, ◌&&◌, not, leb, ltb}
+use Rattle.std.proofs.Common.{eqb, List, [], ◌∷◌, length, get_or, slice_index, refl, ap, subst, ◌∙◌, arith, inl, inr}
+use Rattle.std.proofs.Common.{if◌then◌else◌}
 use Rattle.std.specs.List.{concat, list_all}
 use Rattle.std.proofs.lemmas.Bool.{and_parts, cases_lt, cases_eq, eq-eqb, lt-ltb, ltb-true, ne_eqb}
 use Rattle.std.proofs.lemmas.List.{get_or_past}
@@ -11,15 +12,13 @@ use Rattle.std.proofs.lemmas.List.Folds.{list_all-append}
 use Rattle.rx_spec.specs.Machines.{Label}
 use Rattle.rx_spec.specs.Tables.{IsSound}
 use Rattle.rx_dense.specs.Builder.{slices_from}
-use Rattle.rx_dense.specs.Specials.{is_match_id, is_quit_id}
-use Rattle.rx_dense.specs.Layouts.{AreLists, IsShaped, Layout, label_of_id, patterns_at, place_in_range}
-use Rattle.rx_dense.specs.Layouts.{stride, table_of}
+use Rattle.rx_dense.specs.Layouts.{AreLists, IsShaped, Layout, label_of_id, patterns_at, stride, table_of}
 use Rattle.rx_dense.proofs.RowKinds.{patterns_len}
 use Rattle.rx_order.specs.RowOrder.{AreJoined, IsRange, match_count, match_lists}
 use Rattle.rx_order.proofs.KindNumbers.{at_most}
 use Rattle.rx_dense_image.specs.Rows.{AreWords}
 use Rattle.rx_dense_image.specs.PatternLists.{AreReadLists}
-use Rattle.rx_dense_image.specs.Closing.{are_lists, is_list, lists_stand, range_len}
+use Rattle.rx_dense_image.specs.Closing.{is_list, lists_stand, range_len}
 use Rattle.rx_dense_image.specs.Images.{pattern_lists_of}
 use Rattle.rx_dense_image.proofs.ClosedFacts.{each_at}
 use Rattle.rx_dense_image.proofs.EachBelow.{all_of, and_of}
@@ -39,11 +38,7 @@ matches_where false q ks e = absurd cc
 
 -- numbers below a bound are words
 words_below : (xs : List ℕ) → ((i : ℕ) → i < length xs → slice_index xs i < 2 ^ 32) → AreWords xs
-words_below xs below i =
-    elim (cases_lt i (length xs)) [
-      | inl lt ↦ below i lt
-      | inr past ↦ (subst (λ (n : ℕ). n < 2 ^ 32) (sym (get_or_past xs i 0 past)) (omega arith))
-    ]
+words_below xs below i = grind (arith, common_steps, cases_lt, get_or_past)
 
 module _ (l : Layout) (shaped : IsShaped l) (sound : IsSound (table_of l)) (matches : IsRange l l.special.min_match
     l.special.max_match) (joined : AreJoined l) where
@@ -51,15 +46,10 @@ module _ (l : Layout) (shaped : IsShaped l) (sound : IsSound (table_of l)) (matc
   lists = shaped.lists
 
   count : length l.slices ≡ 2 * match_count l
-  count =
-      ap length joined.slices
-      ∙ slices_len 0 (match_lists l)
-      ∙ ap (λ (n : ℕ). 2 * n) (length-map-range_with_len (patterns_at l) 0 (match_count l))
+  count = grind (arith, common_steps, slices_len, length-map-range_with_len)
 
   list_count : length l.slices / 2 ≡ range_len l l.special.min_match l.special.max_match
-  list_count =
-      let same : match_count l ≡ range_len l l.special.min_match l.special.max_match = refl in
-      omega (arith, count, same)
+  list_count = grind (arith, common_steps, count)
 
   row_at : (i : ℕ) → i < match_count l
       → IsRowAt l l.special.min_match l.special.max_match i (l.special.min_match / stride l + i)
@@ -67,12 +57,7 @@ module _ (l : Layout) (shaped : IsShaped l) (sound : IsSound (table_of l)) (matc
 
   label_at : (i : ℕ) → i < match_count l
       → label_of_id l ((l.special.min_match / stride l + i) * stride l) ≡ Label.Matches (patterns_at l i)
-  label_at i lt =
-      let at = row_at i lt in
-      let id : ℕ = (l.special.min_match / stride l + i) * stride l in
-      matches_where (is_match_id l.special id) (is_quit_id l.special id)
-      (patterns_at l (place_in_range l l.special.min_match id)) at.within
-      ∙ ap (λ (k : ℕ). Label.Matches (patterns_at l k)) at.place
+  label_at i lt = grind (arith, common_steps, row_at, matches_where)
 
   -- the list of each match row
   list_passes : (i : ℕ) → i < match_count l → is_list l i ≡ true
@@ -108,10 +93,7 @@ module _ (l : Layout) (shaped : IsShaped l) (sound : IsSound (table_of l)) (matc
       begins_of first len all le other = omega (arith, le, other)
 
   pub lists_closed : lists_stand l ≡ true
-  lists_closed =
-      and_of (eqb (length l.slices / 2) (range_len l l.special.min_match l.special.max_match)) (are_lists l)
-      (eq-eqb _ _ list_count)
-      (all_of (length l.slices / 2) (is_list l) (λ i lt. list_passes i (omega (arith, lt, count))))
+  lists_closed = grind (arith, common_steps, and_of, eq-eqb, list_count, all_of, list_passes, count)
 
   -- ---- read
 

@@ -1,19 +1,18 @@
 -- The rows of a sound table pass the tests of an image's rows.
-use Rattle.std.proofs.Common.{◌≡◌, ℕ, zero, suc, ◌+◌, ◌-◌, ◌*◌, ◌/◌, ◌%◌, ◌^◌, ◌<◌, ◌≤◌, true, not, ◌&&◌, leb, eqb}
-use Rattle.std.proofs.Common.{length, take, slice_index, sym, ap, subst, ◌∙◌, arith, inl, inr}
-use Rattle.std.specs.List.{list_all, range_with_len}
+use Rattle.std.proofs.lemmas.Grind.{common_steps}
+use Rattle.std.proofs.Common.{◌≡◌, ℕ, zero, suc, ◌+◌, ◌-◌, ◌*◌, ◌/◌, ◌%◌, ◌^◌, ◌<◌, ◌≤◌, true, not, ◌&&◌, eqb, length}
+use Rattle.std.proofs.Common.{slice_index, sym, ap, subst, ◌∙◌, arith, inl, inr}
 use Rattle.std.proofs.Math.Nat.{div-le_self, mul-div_cancel, mul-mod_left}
 use Rattle.std.proofs.lemmas.Bool.{cases_lt, cases_eq, eq-eqb, eqb-true, lt-ltb}
 use Rattle.std.proofs.lemmas.List.{get_or-take, length-take}
 use Rattle.std.proofs.lemmas.Nat.{div-add-mod', pow_pos}
-use Rattle.rx_spec.specs.Causes.{max_id}
 use Rattle.rx_spec.specs.Tables.{IsSound}
 use Rattle.rx_base.specs.ByteClasses.{alphabet_len}
-use Rattle.rx_dense.specs.Layouts.{AreRows, IsRowId, Layout, column, is_row_id, machine_of, next_id, row_count}
-use Rattle.rx_dense.specs.Layouts.{stride, table_of}
+use Rattle.rx_dense.specs.Layouts.{AreRows, IsRowId, Layout, column, is_row_id, machine_of, next_id, row_count, stride}
+use Rattle.rx_dense.specs.Layouts.{table_of}
 use Rattle.rx_dense.proofs.Rows.{quotient, stride_few}
 use Rattle.rx_order.proofs.KindNumbers.{at_most}
-use Rattle.rx_dense_image.specs.Rows.{AreReadRows, are_entries, have_ids, is_entry, rows_of}
+use Rattle.rx_dense_image.specs.Rows.{AreReadRows, is_entry, rows_of}
 use Rattle.rx_dense_image.specs.Closing.{lead_to_dead, rows_stand}
 use Rattle.rx_dense_image.proofs.EachBelow.{all_of, and_of}
 use Rattle.rx_order.proofs.UsedColumns.{column_used}
@@ -55,10 +54,7 @@ module _ (l : Layout) (rows : AreRows l) (sound : IsSound (table_of l)) where
   -- a word is what its row's column leads to
   word_is : (k unit : ℕ) → column l unit ≡ k % stride l
       → next_id l (k / stride l * stride l) unit ≡ slice_index l.words k
-  word_is k unit e =
-      let place : k / stride l * stride l + column l unit ≡ k =
-      ap (λ (n : ℕ). k / stride l * stride l + n) e ∙ div-add-mod' k (stride l) in
-      ap (slice_index l.words) place
+  word_is k unit e = grind (arith, common_steps, div-add-mod')
 
   eoi_goes_on : (k : ℕ) → k < length l.words → k % stride l ≡ alphabet_len l.classes - 1
       → slice_index l.words k ≡ stride l → ⊥
@@ -106,19 +102,7 @@ module _ (l : Layout) (rows : AreRows l) (sound : IsSound (table_of l)) where
       ]
 
   dead_rows : lead_to_dead l ≡ true
-  dead_rows =
-      all_places (λ word. eqb word 0) (take (2 * stride l) l.words)
-      (λ k lt.
-      let low : k < 2 * stride l = omega (arith, lt, length-take (2 * stride l) l.words) in
-      eq-eqb _ _ (get_or-take (2 * stride l) l.words k 0 low ∙ dead_word k low))
+  dead_rows = grind (arith, common_steps, all_places, length-take, eq-eqb, get_or-take, dead_word)
 
   pub rows_closed : rows_stand l ≡ true
-  rows_closed =
-      let ids : have_ids (rows_of l) ≡ true =
-      at_most (length l.words - stride l) max_id (omega (arith, rows.few)) in
-      let entries : are_entries (rows_of l) ≡ true =
-      and_of (have_ids (rows_of l)) (list_all (is_entry (rows_of l)) (range_with_len 0 (length l.words))) ids
-      (all_of (length l.words) (is_entry (rows_of l)) entry) in
-      and_of (leb 2 (row_count l) && are_entries (rows_of l)) (lead_to_dead l)
-      (and_of (leb 2 (row_count l)) (are_entries (rows_of l)) (at_most 2 (row_count l) sound.is_table.two) entries)
-      dead_rows
+  rows_closed = grind (arith, common_steps, at_most, and_of, all_of, entry, dead_rows)

@@ -1,14 +1,14 @@
 -- The special ids of a table in order pass the tests of an image's special ids.
-use Rattle.std.proofs.Common.{◌≡◌, ◌≢◌, ℕ, ◌+◌, ◌*◌, ◌/◌, ◌%◌, ◌<◌, ◌≤◌, true, false, ◌&&◌, leb}
-use Rattle.std.proofs.Common.{eqb, length, refl, sym, ap, subst, ◌∙◌, arith, inl, inr, max}
+use Rattle.std.proofs.lemmas.Grind.{common_steps}
+use Rattle.std.proofs.Common.{◌≡◌, ◌≢◌, ℕ, ◌+◌, ◌*◌, ◌/◌, ◌%◌, ◌<◌, ◌≤◌, true, false, ◌&&◌, leb, eqb, length, refl, sym}
+use Rattle.std.proofs.Common.{ap, subst, ◌∙◌, arith, inl, inr, max}
 use Rattle.std.proofs.Math.Nat.{mul-mod_left}
 use Rattle.std.proofs.lemmas.Bool.{and_parts, cases_lt, cases_eq, eq-eqb, lt-ltb, ne_eqb}
 use Rattle.std.proofs.lemmas.Nat.{mul-le, pow_pos}
 use Rattle.rx_spec.specs.Tables.{IsSound, is_match, is_match_label}
 use Rattle.rx_dense.specs.declared.special.Special.{Special}
 use Rattle.rx_dense.specs.Specials.{greatest, is_accel_id, is_in_range, is_start_id}
-use Rattle.rx_dense.specs.Layouts.{AreRows, IsRowId, Layout, is_row_id}
-use Rattle.rx_dense.specs.Layouts.{row_count, stride, table_of}
+use Rattle.rx_dense.specs.Layouts.{AreRows, IsRowId, Layout, is_row_id, row_count, stride, table_of}
 use Rattle.rx_dense.proofs.Rows.{quotient, row-below}
 use Rattle.rx_dense.proofs.Shaped.{zero_id}
 use Rattle.rx_order.specs.RowOrder.{IsOrdered, IsRange, is_marked, is_start_row, kind_of}
@@ -28,9 +28,7 @@ use Rattle.rx_built_images.proofs.WholeRows.{row_id_passes}
 -- ---- ranges by their tests
 
 pub within_range : (first last id : ℕ) → first ≤ id → id ≤ last → 0 < id → is_in_range first last id ≡ true
-within_range first last id from to some =
-    let other : id ≡ 0 → ⊥ = λ e. absurd (omega (arith, some, e)) in
-    rw (at_most first id from, at_most id last to, ne_eqb id 0 other) refl
+within_range first last id from to some = grind (arith, common_steps, at_most, ne_eqb)
 
 module _ (l : Layout) (rows : AreRows l) (sound : IsSound (table_of l)) (ordered : IsOrdered l) where
   some : 0 < stride l
@@ -56,14 +54,11 @@ module _ (l : Layout) (rows : AreRows l) (sound : IsSound (table_of l)) (ordered
 
   range_passes : (first last : ℕ) → IsRange l first last → is_range first last ≡ true
   range_passes first last (inl (e, f)) = rw (e, f) refl
-  range_passes first last (inr (past, le, is_first, is_last)) =
-      let other : first ≡ 0 → ⊥ = λ e. absurd (omega (arith, past, e)) in
-      rw (ne_eqb first 0 other) (at_most first last le)
+  range_passes first last (inr (past, le, is_first, is_last)) = grind (arith, common_steps, ne_eqb, at_most)
 
   past_passes : (first last : ℕ) → IsRange l first last → is_past_quit l.special.quit first ≡ true
   past_passes first last (inl (e, f)) = rw e refl
-  past_passes first last (inr (past, le, is_first, is_last)) =
-      rw (lt-ltb l.special.quit first (omega (arith, past, ordered.quit))) (or_middle (eqb first 0))
+  past_passes first last (inr (past, le, is_first, is_last)) = grind (arith, common_steps, lt-ltb, or_middle)
 
   first_row : (first last : ℕ) → IsRange l first last → IsRowId l first
   first_row first last (inl (e, f)) = subst (IsRowId l) (sym e) zero_row
@@ -110,8 +105,7 @@ module _ (l : Layout) (rows : AreRows l) (sound : IsSound (table_of l)) (ordered
 
   kind_is : (row : ℕ) → 1 < row → kind_of l row
       ≡ high_kind (is_match (table_of l) row) ((table_of l).is_accelerated row) (is_start_row l row)
-  kind_is row behind =
-      kind_high row (is_match (table_of l) row) ((table_of l).is_accelerated row) (is_start_row l row) behind
+  kind_is row behind = grind (arith, common_steps, kind_high)
 
   -- of rows behind quit, one that lies no later than a match row is one
   matches_before : (x y : ℕ) → 1 < x → x ≤ y → y < row_count l → is_match (table_of l) y ≡ true

@@ -1,7 +1,6 @@
 -- The start rows of a sound table pass the tests of an image's start rows.
-use Rattle.std.proofs.Common.{◌≡◌, ℕ, ◌+◌, ◌*◌, ◌/◌, ◌%◌, ◌<◌, ◌≤◌}
-use Rattle.std.proofs.Common.{Bool, true, false, ◌&&◌, not, eqb, Option, Some, None}
-use Rattle.std.proofs.Common.{if◌then◌else◌, length, slice_index, refl, sym, ap, subst, ◌∙◌, arith, inl, inr}
+use Rattle.std.proofs.Common.{◌≡◌, ℕ, ◌+◌, ◌*◌, ◌/◌, ◌%◌, ◌<◌, ◌≤◌, Bool, true, false, ◌&&◌, not, eqb, Option, Some}
+use Rattle.std.proofs.Common.{None, if◌then◌else◌, length, slice_index, refl, sym, ap, subst, ◌∙◌, arith, inl, inr}
 use Rattle.std.proofs.Common.{List}
 use Rattle.std.specs.List.{list_all}
 use Rattle.std.proofs.lemmas.Bool.{cases_lt, eq-eqb, eqb-true, le-ltb, lt-ltb, ne_eqb}
@@ -15,8 +14,8 @@ use Rattle.rx_spec.specs.declared.Start.{Start}
 use Rattle.rx_base.specs.Search.{mode_of}
 use Rattle.rx_dense.specs.Builder.{common_start, with_universal_starts}
 use Rattle.rx_dense.specs.Specials.{is_match_id, is_quit_id}
-use Rattle.rx_dense.specs.Layouts.{IsRowId, IsShaped, Layout, context_number, is_row_id, label_of_id}
-use Rattle.rx_dense.specs.Layouts.{mode_place, patterns_at, place_in_range, start_entries, start_id, stride, table_of}
+use Rattle.rx_dense.specs.Layouts.{IsRowId, IsShaped, Layout, context_number, is_row_id, label_of_id, mode_place}
+use Rattle.rx_dense.specs.Layouts.{patterns_at, place_in_range, start_entries, start_id, stride, table_of}
 use Rattle.rx_dense.proofs.Rows.{id_few, quotient, start_is_row}
 use Rattle.rx_dense.proofs.Shaped.{zero_id}
 use Rattle.rx_order.proofs.MarkedRows.{context_at, context_at-number, mode_at, mode_at-place}

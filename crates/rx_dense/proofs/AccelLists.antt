@@ -1,31 +1,23 @@
 -- Needles as they are kept in words.
+use Rattle.std.proofs.lemmas.Grind.{common_steps}
 use Rattle.std.proofs.Common.{◌≡◌, ℕ, ◌+◌, ◌-◌, ◌*◌, ◌/◌, ◌%◌, ◌<◌, List, [], ◌∷◌, ◌++◌, length, get_or, slice_index}
 use Rattle.std.proofs.Common.{ap, sym, ◌∙◌, arith, length-append, map}
 use Rattle.std.specs.List.{range_with_len}
 use Rattle.std.proofs.lemmas.List.{get_or_append_left, get_or-append_right}
-use Rattle.std.proofs.lemmas.List.FromFn.{length-map-range_with_len, get_or-map-range_with_len}
-use Rattle.std.proofs.lemmas.List.FromFn.{fill_by_all, map-range_with_len_more}
+use Rattle.std.proofs.lemmas.List.FromFn.{length-map-range_with_len, get_or-map-range_with_len, fill_by_all}
+use Rattle.std.proofs.lemmas.List.FromFn.{map-range_with_len_more}
 use Rattle.rx_dense.specs.Accels.{accel_lists, word_needles}
 
 pub accel_lists_len : (words : List ℕ) → length (accel_lists words) ≡ length words / 2
-accel_lists_len words =
-    length-map-range_with_len (λ i. word_needles (slice_index words (2 * i))) 0 (length words / 2)
+accel_lists_len words = grind (arith, common_steps, length-map-range_with_len)
 
 pub accel_lists_at : (words : List ℕ) (i : ℕ) → i < length (accel_lists words)
     → get_or (accel_lists words) i [] ≡ word_needles (slice_index words (2 * i))
-accel_lists_at words i h =
-    let n = accel_lists_len words in
-    let start : 0 + i ≡ i = omega arith in
-    get_or-map-range_with_len (λ i. word_needles (slice_index words (2 * i))) 0 (length words / 2) i i []
-    (omega arith) start
+accel_lists_at words i h = grind (arith, common_steps, accel_lists_len, get_or-map-range_with_len)
 
 word_at : (words : List ℕ) (word rest : ℕ) → length words % 2 ≡ 0
     → slice_index (words ++ word ∷ rest ∷ []) (2 * (length words / 2)) ≡ word
-word_at words word rest even =
-    let place : length words ≡ 2 * (length words / 2) = omega arith in
-    let none : 2 * (length words / 2) - 2 * (length words / 2) ≡ 0 = omega arith in
-    get_or-append_right words (word ∷ rest ∷ []) (2 * (length words / 2)) (2 * (length words / 2)) 0 place (omega arith)
-    ∙ ap (slice_index (word ∷ rest ∷ [])) none
+word_at words word rest even = grind (arith, common_steps, get_or-append_right)
 
 -- two words more are the needles of one row more
 pub accel_lists_push : (words : List ℕ) (word rest : ℕ) → length words % 2 ≡ 0

@@ -1,7 +1,8 @@
 -- Marks of match rows: they stay true while they are made, and searches may go by them.
-use Rattle.std.proofs.Common.{◌≡◌, ◌∙◌, ℕ, ◌+◌, ◌-◌, ◌*◌, ◌/◌, ◌%◌, ◌^◌, ◌<◌, ◌≤◌, ◌==◌, true, List, [], ◌∷◌}
-use Rattle.std.proofs.Common.{◌++◌, length, take, drop, slice_index, ap, sym, subst, ⊎_elim, arith, length-drop}
-use Rattle.std.proofs.Common.{length-take-le, length-append, get_or, nat_lt}
+use Rattle.std.proofs.lemmas.Grind.{common_steps}
+use Rattle.std.proofs.Common.{◌≡◌, ◌∙◌, ℕ, ◌+◌, ◌-◌, ◌*◌, ◌/◌, ◌%◌, ◌^◌, ◌<◌, ◌≤◌, ◌==◌, true, List, [], ◌∷◌, ◌++◌}
+use Rattle.std.proofs.Common.{length, take, drop, slice_index, ap, sym, subst, arith, length-drop, length-take-le}
+use Rattle.std.proofs.Common.{length-append, get_or, nat_lt}
 use Rattle.std.proofs.Math.Nat.{add-mul, mul-div_cancel, zero-div}
 use Rattle.std.specs.List.{list_all, slice_range}
 use Rattle.std.proofs.lemmas.Bool.{cases_eq, cases_lt, ltb-true, ne_eqb}
@@ -33,33 +34,13 @@ module _ (words : List ℕ) (alphabet_len stride min_match : ℕ) (slices patter
       → AreMarks words alphabet_len stride min_match slices pattern_ids marks
       → IsMark words alphabet_len stride min_match slices pattern_ids (length marks) mark
       → AreMarks words alphabet_len stride min_match slices pattern_ids (marks ++ mark ∷ [])
-  marked_more marks mark aligned are is = record {
-    aligned = λ _. aligned;
-    each = λ i below.
-        let count = length-append marks (mark ∷ []) in
-        ⊎_elim
-        (λ (before : i < length marks).
-        subst (IsMark words alphabet_len stride min_match slices pattern_ids i)
-        (sym (get_or_append_left marks (mark ∷ []) 0 i before)) (are.each i before))
-        (λ (last : length marks ≤ i).
-        let here : length marks ≡ i = omega (arith, count, below, last) in
-        subst (λ (k : ℕ). IsMark words alphabet_len stride min_match slices pattern_ids k
-        (slice_index (marks ++ mark ∷ []) k)) here
-        (subst (IsMark words alphabet_len stride min_match slices pattern_ids (length marks))
-        (sym (get_or-append_seam marks mark [] 0)) is))
-        (cases_lt i (length marks));
-  }
+  marked_more marks mark aligned are is =
+      grind (arith, common_steps, length-append, pattern_ids, get_or_append_left, get_or-append_seam, cases_lt)
 
 -- ---- rows that lead to the dead row
 
 zero_each : (xs : List ℕ) → list_all (λ id. id == 0) xs ≡ true → (k : ℕ) → k < length xs → slice_index xs k ≡ 0
-zero_each xs all k below =
-    ⊎_elim
-    (λ (is : slice_index xs k ≡ 0). is)
-    (λ (ne : slice_index xs k ≡ 0 → ⊥).
-    let none = list_all_at (λ id. id == 0) xs k 0 below (ne_eqb (slice_index xs k) 0 ne) in
-    absurd (cc))
-    (cases_eq (slice_index xs k) 0)
+zero_each xs all k below = grind (arith, common_steps, list_all_at, ne_eqb, cases_eq)
 
 pub zeros_from : (words : List ℕ) (first len : ℕ) → first + len ≤ length words
     → list_all (λ id. id == 0) (slice_range words first (first + len)) ≡ true
@@ -101,10 +82,7 @@ pub record Found (l : Layout) (marks : List ℕ) (id mark : ℕ) : Type 0 where
 pub found : (l : Layout) (marks : List ℕ) (id : ℕ) {place mark : ℕ} {words : List ℕ}
     → place ≡ place_in_range l l.special.min_match id → words ≡ marks → nat_lt place (length words) ≡ true
     → mark ≡ get_or words place mark → Found l marks id mark
-found l marks id {place} {mark} {words} here same some is =
-    let there = ltb-true place (length words) some in
-    let again = is ∙ get_or_default words place mark 0 there in
-    record { has = rw (here, same) at there; mark_is = rw (here, same) at again }
+found l marks id {place} {mark} {words} here same some is = grind (arith, common_steps, ltb-true, get_or_default)
 
 module _ (l : Layout) (id : ℕ) (is : IsId (ids_of l) id) (sound : IsSoundLayout l)
     (e : is_match (table_of l) (row_of (ids_of l) id) ≡ true) {marks : List ℕ}

@@ -1,6 +1,7 @@
 -- Lists of patterns, joined, and where each of them stands.
+use Rattle.std.proofs.lemmas.Grind.{common_steps}
 use Rattle.std.proofs.Common.{◌≡◌, ℕ, zero, suc, ◌+◌, ◌*◌, ◌^◌, ◌<◌, ◌≤◌, List, [], ◌∷◌, ◌++◌, length, take, drop}
-use Rattle.std.proofs.Common.{get_or, slice_index, ◌∙◌, ap, arith, refl, append_assoc, length-append}
+use Rattle.std.proofs.Common.{get_or, slice_index, arith, refl, append_assoc, length-append}
 use Rattle.std.specs.Prelude.{Vec}
 use Rattle.std.specs.BTreeMap.{BTreeMap, btree_map_len, values}
 use Rattle.std.specs.List.{concat}
@@ -22,15 +23,11 @@ length-slices_from start [] = refl
 length-slices_from start (list ∷ lists) = omega (arith, length-slices_from (start + length list) lists)
 
 behind_first : (x y : ℕ) (words : List ℕ) (i : ℕ) → slice_index (x ∷ y ∷ words) (2 * suc i) ≡ slice_index words (2 * i)
-behind_first x y words i =
-    let next : 2 * suc i ≡ suc (suc (2 * i)) = omega arith in
-    ap (slice_index (x ∷ y ∷ words)) next
+behind_first x y words i = grind (arith, common_steps)
 
 behind_second : (x y : ℕ) (words : List ℕ) (i : ℕ)
     → slice_index (x ∷ y ∷ words) (2 * suc i + 1) ≡ slice_index words (2 * i + 1)
-behind_second x y words i =
-    let next : 2 * suc i + 1 ≡ suc (suc (2 * i + 1)) = omega arith in
-    ap (slice_index (x ∷ y ∷ words)) next
+behind_second x y words i = grind (arith, common_steps)
 
 -- no list ends behind the joined lists
 slice_within : (start : ℕ) (lists : List (List ℕ)) (i : ℕ) → i < length lists
@@ -52,9 +49,7 @@ slice_is : (front : List ℕ) (lists : List (List ℕ)) (i : ℕ) → i < length
     → take (slice_index (slices_from (length front) lists) (2 * i + 1))
     (drop (slice_index (slices_from (length front) lists) (2 * i)) (front ++ concat lists)) ≡ get_or lists i []
 slice_is front [] i h = absurd (omega arith)
-slice_is front (list ∷ lists) zero h =
-    ap (take (length list)) (drop_at front (list ++ concat lists) (length front) refl)
-    ∙ take_at list (concat lists) (length list) refl
+slice_is front (list ∷ lists) zero h = grind (arith, common_steps, drop_at, take_at)
 slice_is front (list ∷ lists) (suc i) h =
     let start : length (front ++ list) ≡ length front + length list = length-append front list in
     rw (

@@ -1,7 +1,8 @@
 -- Ranges of classes that lead to one row, as they are handed out one by one.
-use Rattle.std.proofs.Common.{◌≡◌, ◌≢◌, ℕ, zero, suc, ◌+◌, ◌-◌, ◌<◌, ◌≤◌, ◌==◌, ◌&&◌, ◌||◌, not, nat_le, Bool}
-use Rattle.std.proofs.Common.{true, false, cond, List, [], ◌∷◌, ◌++◌, length, drop, slice_index, ap, ap₂, sym, ◌∙◌}
-use Rattle.std.proofs.Common.{arith, map, filter, length-drop, length-take-le}
+use Rattle.std.proofs.lemmas.Grind.{common_steps}
+use Rattle.std.proofs.Common.{◌≡◌, ◌≢◌, ℕ, zero, suc, ◌+◌, ◌-◌, ◌<◌, ◌≤◌, ◌==◌, ◌&&◌, ◌||◌, not, nat_le, Bool, true}
+use Rattle.std.proofs.Common.{false, cond, List, [], ◌∷◌, ◌++◌, length, drop, slice_index, ap, ap₂, sym, ◌∙◌, arith}
+use Rattle.std.proofs.Common.{map, filter, length-drop, length-take-le}
 use Rattle.std.specs.Prelude.{slice_range}
 use Rattle.std.specs.List.{prefix_len, range_with_len}
 use Rattle.std.proofs.Math.Bool.{or-true}
@@ -11,16 +12,12 @@ use Rattle.std.proofs.lemmas.List.{get_or-take, get_or-drop}
 use Rattle.std.proofs.lemmas.List.Folds.{length-prefix_len}
 use Rattle.std.proofs.lemmas.List.Sums.{prefix_len-drop_yes, prefix_len-le-length, prefix_len_passes, prefix_len_stops}
 use Rattle.rx_spec.specs.declared.Unit.{Unit}
-use Rattle.rx_dense.specs.States.{begins_range, eoi_range_from, is_live, range_end, range_of}
-use Rattle.rx_dense.specs.States.{sparse_transitions_from}
+use Rattle.rx_dense.specs.States.{begins_range, eoi_range_from, is_live, range_end, range_of, sparse_transitions_from}
 
 -- ---- tests
 
 within : (a b : ℕ) → a ≤ b → nat_le a b ≡ true
 within a b h = grind (arith, nat_tests)
-
-past : (a b : ℕ) → b < a → nat_le a b ≡ false
-past a b h = grind (arith, nat_tests)
 
 differs : (a b : ℕ) → a ≢ b → (a == b) ≡ false
 differs a b h = grind (arith, nat_tests)
@@ -28,9 +25,7 @@ differs a b h = grind (arith, nat_tests)
 -- numbers that fail a test are passed over
 passed_over : (test : ℕ → Bool) (end at n : ℕ) → at + n ≤ end → ((c : ℕ) → at ≤ c → c < at + n → test c ≡ false)
     → filter test (range_with_len at (end - at)) ≡ filter test (range_with_len (at + n) (end - (at + n)))
-passed_over test end at zero h fails =
-    let same : at ≡ at + 0 = omega arith in
-    ap (λ a. filter test (range_with_len a (end - a))) same
+passed_over test end at zero h fails = grind (arith, common_steps)
 passed_over test end at (suc n) h fails =
     let rest : List ℕ = filter test (range_with_len (at + 1) (end - (at + 1))) in
     let more : end - at ≡ suc (end - (at + 1)) = omega arith in

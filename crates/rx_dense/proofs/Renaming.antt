@@ -1,16 +1,15 @@
 -- Rows that are renamed: entries give way to the ids that a list has for their rows.
-use Rattle.std.proofs.Common.{◌≡◌, ℕ, ◌+◌, ◌-◌, ◌*◌, ◌/◌, ◌%◌, ◌^◌, ◌<◌, ◌≤◌, ◌⊎◌, List, length, map, take, drop}
-use Rattle.std.proofs.Common.{All, Bool, true, false, slice_index, refl, ◌∙◌, ⊎_elim, arith, inl, inr, ap, sym, subst}
+use Rattle.std.proofs.lemmas.Grind.{common_steps}
+use Rattle.std.proofs.Common.{◌≡◌, ℕ, ◌+◌, ◌-◌, ◌*◌, ◌/◌, ◌%◌, ◌^◌, ◌<◌, ◌≤◌, ◌⊎◌, List, length, map, take, drop, All}
+use Rattle.std.proofs.Common.{Bool, true, false, slice_index, refl, ◌∙◌, ⊎_elim, arith, inl, inr, ap, sym, subst}
 use Rattle.std.proofs.Common.{length-drop, length-take-le}
-use Rattle.std.proofs.lemmas.Bool.{cases_lt}
+use Rattle.std.proofs.lemmas.Bool.{cases_lt, lt-ltb, le-ltb, eq-eqb, ne_eqb, cases_eq}
 use Rattle.std.proofs.lemmas.List.{places, get_or-map, get_or-drop, get_or-take, length-map}
 use Rattle.std.proofs.lemmas.List.Elements.{All-get_or, All-from_get_or}
 use Rattle.std.proofs.lemmas.Nat.{mod-mul-add, div-mul-add, div-add-mod', pow_pos}
 use Rattle.std.specs.List.{range_with_len}
 use Rattle.std.specs.Prelude.{◌==◌, if◌then◌else◌}
-use Rattle.std.proofs.lemmas.Bool.{lt-ltb, le-ltb, eq-eqb, ne_eqb, cases_eq}
 use Rattle.std.proofs.lemmas.List.FromFn.{fill_by_all, length-map-range_with_len, get_or-map-range_with_len}
-use Rattle.rx_spec.specs.Ids.{dense_ids}
 use Rattle.rx_base.specs.ByteClasses.{alphabet_len}
 use Rattle.rx_search.specs.Starts.{IsId}
 use Rattle.rx_dense.specs.Builder.{IsMachineRenamed, IsOutside, renamed_id, renamed_word, renamed, with_renamed_row}
@@ -31,13 +30,7 @@ module _ {words part : List ℕ} {first n : ℕ} (is : IsPart words part first n
   length-part = (let count = is.count in let within = is.within in grind (arith, places))
 
   pub part_outside : (k : ℕ) → IsOutside first n k → slice_index (put_mid first n words part) k ≡ slice_index words k
-  part_outside k outside =
-      let count = is.count in
-      let within = is.within in
-      ⊎_elim
-      (λ (h : k < first). grind (arith, places))
-      (λ (h : first + n ≤ k). grind (arith, places))
-      outside
+  part_outside k outside = grind (arith, common_steps, places)
 
   pub part_inside : (k : ℕ) → first ≤ k → k < first + n
       → slice_index (put_mid first n words part) k ≡ slice_index part (k - first)
@@ -53,10 +46,7 @@ module _ {rename : ℕ → ℕ} {words part : List ℕ} {first n : ℕ} (renamed
   taken = (let within = renamed.within in length-take-le n (drop first words) (omega (arith, length-drop first words)))
 
   pub renamed_part : IsPart words part first n
-  renamed_part = record {
-    count = ap length renamed.ids ∙ length-map (take n (drop first words)) rename ∙ taken;
-    within = renamed.within;
-  }
+  renamed_part = grind (arith, common_steps, length-map, taken)
 
   pub renamed_inside : (k : ℕ) → first ≤ k → k < first + n
       → slice_index (put_mid first n words part) k ≡ rename (slice_index words k)
@@ -157,8 +147,7 @@ shaped_by l word each h =
 -- rows keep their ids
 pub same_ids : (l : Layout) (word : ℕ → ℕ)
     → ids_of (record l { words = map word (range_with_len 0 (length l.words)) }) ≡ ids_of l
-same_ids l word =
-    ap (λ n. dense_ids (n / stride l) l.stride2) (length-map-range_with_len word 0 (length l.words))
+same_ids l word = grind (arith, common_steps, length-map-range_with_len)
 
 -- A list has an id for each row.
 module _ (l : Layout) (ids : List ℕ) (count : length ids ≡ row_count l) (are : All (IsId (ids_of l)) ids)
@@ -299,7 +288,4 @@ module _ (l : Layout) (ids part : List ℕ) (id : ℕ) (is : IsRowId l id) (fits
 
 pub same_lists : {k l : Layout} {ws vs starts others : List ℕ} → k ≡ l → ws ≡ vs → starts ≡ others
     → record k { words = ws; starts = starts } ≡ record l { words = vs; starts = others }
-same_lists {k} {l} {ws} {vs} {starts} {others} same words entries =
-    ap (λ (l : Layout). record l { words = ws; starts = starts }) same
-    ∙ ap (λ (ws : List ℕ). record l { words = ws; starts = starts }) words
-    ∙ ap (λ (starts : List ℕ). record l { words = vs; starts = starts }) entries
+same_lists {k} {l} {ws} {vs} {starts} {others} same words entries = grind (arith, common_steps)

@@ -1,7 +1,8 @@
 -- Kinds of rows by their ids, with the patterns of match rows and the needles of accelerated ones.
-use Rattle.std.proofs.Common.{◌≡◌, ℕ, ◌+◌, ◌*◌, ◌/◌, ◌<◌, ◌≤◌, ◌&&◌, not, nat_le, Bool, true, false}
-use Rattle.std.proofs.Common.{if◌then◌else◌, List, [], length, take, drop, get_or, slice_index, refl, ap, sym, ◌∙◌}
-use Rattle.std.proofs.Common.{⊎_elim, arith, length-drop, length-take-le, Some, None}
+use Rattle.std.proofs.lemmas.Grind.{common_steps}
+use Rattle.std.proofs.Common.{◌≡◌, ℕ, ◌+◌, ◌*◌, ◌/◌, ◌<◌, ◌≤◌, ◌&&◌, not, nat_le, Bool, true, false, if◌then◌else◌}
+use Rattle.std.proofs.Common.{List, [], length, take, drop, get_or, slice_index, refl, ap, sym, ◌∙◌, ⊎_elim, arith}
+use Rattle.std.proofs.Common.{length-drop, length-take-le, Some, None}
 use Rattle.std.proofs.lemmas.Bool.{cases_lt, leb-true, and_parts}
 use Rattle.std.proofs.lemmas.List.{get_or-drop, get_or-take, get_or_past}
 use Rattle.std.proofs.lemmas.List.Elements.{Contains-get_or}
@@ -160,21 +161,11 @@ module _ (l : Layout) (id : ℕ) (is : IsId (ids_of l) id) where
 
 module _ (l : Layout) (lists : AreLists l) (i : ℕ) (h : 2 * i + 1 < length l.slices) where
   pub patterns_len : length (patterns_at l i) ≡ slice_index l.slices (2 * i + 1)
-  patterns_len =
-      length-take-le (slice_index l.slices (2 * i + 1)) (drop (slice_index l.slices (2 * i)) l.pattern_ids)
-      (simp length-drop (omega (arith, lists.within i h)))
-
-  pub pattern_within : (k : ℕ) → k < length (patterns_at l i) → slice_index l.slices (2 * i) + k < length l.pattern_ids
-  pattern_within k b = omega (arith, patterns_len, lists.within i h)
+  patterns_len = grind (arith, common_steps, length-take-le, length-drop)
 
   pub pattern_at : (k : ℕ) → k < length (patterns_at l i)
       → slice_index l.pattern_ids (slice_index l.slices (2 * i) + k) ≡ slice_index (patterns_at l i) k
-  pattern_at k b =
-      let below : k < slice_index l.slices (2 * i + 1) = omega (arith, patterns_len) in
-      sym (
-      get_or-take (slice_index l.slices (2 * i + 1)) (drop (slice_index l.slices (2 * i)) l.pattern_ids) k 0 below
-      ∙ get_or-drop (slice_index l.slices (2 * i)) l.pattern_ids k 0
-      )
+  pattern_at k b = grind (arith, common_steps, patterns_len, get_or-take, get_or-drop)
 
 -- ---- universal starts
 
@@ -190,8 +181,7 @@ no_universal l mode e = sym (universal_is l mode ∙ ap (universal_row l) e)
 
 pub invalid_universal : (l : Layout) (mode : Anchored) (id : ℕ) → universal_id l mode ≡ Some id → is_row_id l id ≡ false
     → None ≡ universal_start (table_of l) mode
-invalid_universal l mode id e invalid =
-    sym (universal_is l mode ∙ ap (universal_row l) e ∙ ap (λ b. if b then Some (id / stride l) else None) invalid)
+invalid_universal l mode id e invalid = grind (arith, common_steps, universal_is)
 
 pub universal_at : (l : Layout) → AreRows l → (mode : Anchored) (id : ℕ) → universal_id l mode ≡ Some id
     → is_row_id l id ≡ true → Some (row_of (ids_of l) id) ≡ universal_start (table_of l) mode

@@ -1,10 +1,8 @@
 -- Rows and their ids: the id of a row is its number times the stride.
-use Rattle.std.proofs.Common.{◌≡◌, ℕ, zero, suc, ◌+◌, ◌-◌, ◌*◌, ◌/◌, ◌%◌, ◌^◌, ◌<◌, ◌≤◌, ◌==◌, Option, Some, None, Bool}
-use Rattle.std.proofs.Common.{true, List, take, drop}
-use Rattle.std.proofs.Common.{length, refl, ap, sym, ◌∙◌, subst, ⊎_elim, arith, slice_index, if◌then◌else◌}
-use Rattle.std.specs.Prelude.{unwrap_or, nat_lt}
-use Rattle.std.proofs.Common.{◌-◌, take, drop, length-take, length-drop}
-use Rattle.std.specs.List.{position_or_len}
+use Rattle.std.proofs.lemmas.Grind.{common_steps}
+use Rattle.std.proofs.Common.{◌≡◌, ℕ, zero, suc, ◌+◌, ◌-◌, ◌*◌, ◌/◌, ◌%◌, ◌^◌, ◌<◌, ◌≤◌, ◌==◌, Option, true, List, take}
+use Rattle.std.proofs.Common.{drop, length, ap, sym, ◌∙◌, subst, ⊎_elim, arith, slice_index, length-take, length-drop}
+use Rattle.std.specs.Prelude.{nat_lt}
 use Rattle.std.proofs.Math.Nat.{mul-div_cancel, pow-le-pow_right}
 use Rattle.std.proofs.lemmas.Bool.{and_parts, eq-eqb, eqb-true, ne_eqb, lt-ltb, ltb-true, le-ltb, cases_lt, cases_eq}
 use Rattle.std.proofs.lemmas.List.{get_or-drop, get_or-take}
@@ -13,10 +11,10 @@ use Rattle.std.proofs.lemmas.Nat.{one_shl, pow_pos, mod-mul-add, mul-le, row_fit
 use Rattle.rx_spec.specs.Ids.{id_of, row_of}
 use Rattle.lemmas_tables.proofs.Ids.{row_of-id_of, id_of-dense, dense_are_ids}
 use Rattle.rx_search.specs.Starts.{IsId}
-use Rattle.rx_dense.specs.Layouts.{Layout, IsRowId, AreRows, AreStarts, stride, row_count, ids_of, is_row_id}
+use Rattle.rx_dense.specs.Layouts.{Layout, IsRowId, AreRows, AreStarts, stride, row_count, ids_of, is_row_id, column}
+use Rattle.rx_dense.specs.Layouts.{context_number, mode_place, start_entries}
 use Rattle.rx_spec.specs.Queries.{Anchored}
 use Rattle.rx_spec.specs.declared.Start.{Start}
-use Rattle.rx_dense.specs.Layouts.{column, context_number, mode_place, start_entries}
 use Rattle.rx_base.specs.ByteClasses.{AreClasses, alphabet_len}
 use Rattle.rx_spec.specs.Causes.{max_id}
 
@@ -29,14 +27,10 @@ pub no_more : (x : ℕ) → x + 0 ≡ x
 no_more x = omega arith
 
 quotient_below : (x s n : ℕ) → 0 < s → x % s ≡ 0 → x + s ≤ n → x / s < n / s
-quotient_below x s n some h below =
-    let q = quotient x s h in
-    let next : (x / s + 1) * s ≤ n = omega (arith, q, below) in
-    omega (arith, le-div (x / s + 1) n s some next)
+quotient_below x s n some h below = grind (arith, common_steps, quotient, le-div)
 
 pub multiple_below : (row s n : ℕ) → 0 < s → row < n / s → row * s + s ≤ n
-multiple_below row s n some h =
-    omega (arith, div-add-mod' n s, row_fits row s (n / s) s h (omega arith))
+multiple_below row s n some h = grind (arith, common_steps, div-add-mod', row_fits)
 
 -- a multiple of s below another is below it by s
 pub multiple_within : (x s n : ℕ) → x % s ≡ 0 → n % s ≡ 0 → x < n → x + s ≤ n
@@ -52,9 +46,7 @@ multiple_within x s n h k below =
 
 -- a part of a list, from a place up to another
 pub part_is : (xs : List ℕ) (start len : ℕ) → take (start + len - start) (drop start xs) ≡ take len (drop start xs)
-part_is xs start len =
-    let same : start + len - start ≡ len = omega arith in
-    ap (λ n. take n (drop start xs)) same
+part_is xs start len = grind (arith, common_steps)
 
 -- ---- strides
 
@@ -68,28 +60,7 @@ stride_few s h = pow-le-pow_right (let some : 0 < 2 = omega arith in some) h
 
 -- a number that is an id stands at its row
 pub id_at_row : (ids : List ℕ) (id : ℕ) → IsId ids id → id_of ids (row_of ids id) ≡ id
-id_at_row ids id is = at_place (position_or_len (λ other. other == id) ids) refl
-  where
-    n : ℕ
-    n = length ids
-
-    choice : ℕ → ℕ
-    choice k = unwrap_or (if nat_lt k n then Some k else None) n
-
-    at_place : (k : ℕ) → k ≡ position_or_len (λ other. other == id) ids → id_of ids (row_of ids id) ≡ id
-    at_place k e =
-        ⊎_elim
-        (λ (h : k < n).
-        let there : choice k ≡ k = ap (λ (b : Bool). unwrap_or (if b then Some k else None) n) (lt-ltb k n h) in
-        let place : row_of ids id ≡ k = ap choice (sym e) ∙ there in
-        let below : position_or_len (λ other. other == id) ids < n = subst (λ x. x < n) e h in
-        let passes = passes_at_first (λ other. other == id) ids 0 below in
-        ap (id_of ids) (place ∙ e) ∙ eqb-true _ _ passes)
-        (λ (h : n ≤ k).
-        let past : choice k ≡ n = ap (λ (b : Bool). unwrap_or (if b then Some k else None) n) (le-ltb k n h) in
-        let place : row_of ids id ≡ n = ap choice (sym e) ∙ past in
-        absurd (omega (arith, place, is)))
-        (cases_lt k n)
+id_at_row ids id is = grind (arith, common_steps, lt-ltb, passes_at_first, eqb-true, le-ltb, cases_lt)
 
 -- ---- in a dense table
 
@@ -182,19 +153,14 @@ module _ (words : List ℕ) (column id : ℕ) (h : id + column < length words) w
 
   pub from_column_is : slice_index (take (length words - column) (drop column words)) id
       ≡ slice_index words (id + column)
-  from_column_is =
-      let turned : column + id ≡ id + column = omega arith in
-      get_or-take (length words - column) (drop column words) id 0 (omega arith) ∙ get_or-drop column words id 0
-      ∙ ap (slice_index words) turned
+  from_column_is = grind (arith, common_steps, get_or-take, get_or-drop)
 
 -- ---- columns
 
 -- a byte's class is a column before the last
 module _ (classes : List ℕ) (are : AreClasses classes) where
   class_below : (n b : ℕ) → b ≤ n → n < 256 → slice_index classes b ≤ slice_index classes n
-  class_below zero b h k =
-      let e : b ≡ 0 = omega arith in
-      subst (λ x. slice_index classes x ≤ slice_index classes 0) (sym e) (omega arith)
+  class_below zero b h k = grind (arith, common_steps)
   class_below (suc n) b h k =
       ⊎_elim
       (λ (e : b ≡ suc n). subst (λ x. slice_index classes x ≤ slice_index classes (suc n)) (sym e) (omega arith))
@@ -225,41 +191,18 @@ module _ (classes : List ℕ) (are : AreClasses classes) where
 -- so is that of the end mark within the alphabet
 pub column_within : (l : Layout) → AreClasses l.classes → (unit : ℕ) → unit < 257
     → column l unit < alphabet_len l.classes
-column_within l are unit h =
-    ⊎_elim
-    (λ (eoi : unit ≡ 256). rw (eq-eqb _ _ eoi) (omega arith))
-    (λ (byte : unit ≡ 256 → ⊥). rw (ne_eqb _ _ byte) (class_column l.classes are unit (omega arith)))
-    (cases_eq unit 256)
+column_within l are unit h = grind (arith, common_steps, eq-eqb, ne_eqb, class_column, cases_eq)
 
 -- ---- start entries
 
 place_within : (mode : Anchored) (start : Start) (pattern_starts : Option ℕ)
     → mode_place mode < start_entries pattern_starts
     → mode_place mode + context_number start < start_entries pattern_starts
-place_within mode start pattern_starts h = omega (arith, context_below start, whole mode pattern_starts h)
-  where
-    context_below : (start : Start) → context_number start < 6
-    context_below Start.NonWordByte = omega arith
-    context_below Start.WordByte = omega arith
-    context_below Start.Text = omega arith
-    context_below Start.LineLF = omega arith
-    context_below Start.LineCR = omega arith
-    context_below Start.CustomLineTerminator = omega arith
-
-    whole : (mode : Anchored) (pattern_starts : Option ℕ) → mode_place mode < start_entries pattern_starts
-        → mode_place mode + 6 ≤ start_entries pattern_starts
-    whole Anchored.No None h = omega arith
-    whole Anchored.No (Some n) h = omega arith
-    whole Anchored.Yes None h = omega arith
-    whole Anchored.Yes (Some n) h = omega arith
-    whole (Anchored.Pattern k) None h = omega arith
-    whole (Anchored.Pattern k) (Some n) h = omega arith
+place_within mode start pattern_starts h = grind (arith, common_steps)
 
 pub start_within : (l : Layout) → AreStarts l → (mode : Anchored) (start : Start) → mode_place mode < length l.starts
     → mode_place mode + context_number start < length l.starts
-start_within l starts mode start h =
-    subst (λ n. mode_place mode + context_number start < n) (sym starts.count)
-    (place_within mode start l.pattern_starts (subst (λ n. mode_place mode < n) starts.count h))
+start_within l starts mode start h = grind (arith, common_steps, place_within)
 
 pub start_is_row : (l : Layout) → AreStarts l → (mode : Anchored) (start : Start) → mode_place mode < length l.starts
     → IsRowId l (slice_index l.starts (mode_place mode + context_number start))

@@ -1,8 +1,8 @@
 -- What each change leaves true of a table.
-use Rattle.std.proofs.Common.{◌≡◌, ℕ, ◌+◌, ◌-◌, ◌*◌, ◌/◌, ◌%◌, ◌^◌, ◌<◌, ◌≤◌, ◌≢◌, ◌⊎◌, Option, Some, None, Bool}
-use Rattle.std.proofs.Common.{true, false, if◌then◌else◌, List, ◌++◌}
-use Rattle.std.proofs.Common.{length, slice_index, refl, ap, sym, ◌∙◌, subst, ⊎_elim, arith, length-append}
-use Rattle.std.proofs.Common.{length-take-le, inl, inr}
+use Rattle.std.proofs.lemmas.Grind.{common_steps}
+use Rattle.std.proofs.Common.{◌≡◌, ℕ, ◌+◌, ◌-◌, ◌*◌, ◌%◌, ◌^◌, ◌<◌, ◌≤◌, ◌≢◌, ◌⊎◌, Option, Some, None, Bool, true}
+use Rattle.std.proofs.Common.{false, if◌then◌else◌, List, ◌++◌, length, slice_index, refl, ap, sym, ◌∙◌, subst, ⊎_elim}
+use Rattle.std.proofs.Common.{arith, length-append, length-take-le, inl, inr}
 use Rattle.std.specs.Prelude.{slice_set, replicate}
 use Rattle.std.proofs.Math.Nat.{pow-le-pow_right}
 use Rattle.std.proofs.lemmas.Bool.{cases_eq, cases_lt}
@@ -47,43 +47,21 @@ rows_kept l m c s w h = record {
 
 pub starts_kept : (l m : Layout) → m.stride2 ≡ l.stride2 → length l.words ≤ length m.words → m.contexts ≡ l.contexts
     → m.pattern_starts ≡ l.pattern_starts → m.starts ≡ l.starts → AreStarts l → AreStarts m
-starts_kept l m s w c p e h = record {
-  contexts = rw c h.contexts;
-  count = rw (e, p) h.count;
-  small = rw e h.small;
-  start_ids = λ k b.
-      let there : k < length l.starts = omega (arith, ap length e) in
-      subst (λ (ids : List ℕ). IsRowId m (slice_index ids k)) (sym e) (id_kept l m _ s w (h.start_ids k there));
-}
+starts_kept l m s w c p e h = grind (arith, common_steps, id_kept)
 
 pub lists_kept : (l m : Layout) → m.pattern_len ≡ l.pattern_len → m.slices ≡ l.slices → m.pattern_ids ≡ l.pattern_ids
     → length m.accels ≡ length l.accels
     → AreLists l → AreLists m
-lists_kept l m n s p a h = record {
-  few_patterns = rw n h.few_patterns;
-  pairs = rw s h.pairs;
-  few_rows = rw s h.few_rows;
-  few = rw p h.few;
-  within = λ i b. rw (s, p) (h.within i (rw s at b));
-  few_accels = rw a h.few_accels;
-}
+lists_kept l m n s p a h = grind (arith, common_steps)
 
 -- ---- another entry
 
 at_column : (id column s : ℕ) → id % s ≡ 0 → column < s → (id + column) % s ≡ column
-at_column id column s whole h =
-    let q = quotient id s whole in
-    subst (λ x. (x + column) % s ≡ column) q (mod-mul-add (id / s) s column h)
+at_column id column s whole h = grind (arith, common_steps, quotient, mod-mul-add)
 
 set_keeps : (P : ℕ → ℕ → Type 0) (l : List ℕ) (at v : ℕ) → at < length l → P at v
     → ((k : ℕ) → k < length l → P k (slice_index l k)) → (k : ℕ) → k < length l → P k (slice_index (slice_set l at v) k)
-set_keeps P l at v within new old k b =
-    ⊎_elim
-    (λ (e : k ≡ at).
-    subst (λ k. P k (slice_index (slice_set l at v) k)) (sym e)
-    (subst (P at) (sym (get_or-set_same l at v 0 within)) new))
-    (λ (ne : k ≡ at → ⊥). subst (P k) (sym (get_or-set_other l at k v 0 ne)) (old k b))
-    (cases_eq k at)
+set_keeps P l at v within new old k b = grind (arith, common_steps, get_or-set_same, get_or-set_other, cases_eq)
 
 -- a word of a row within the alphabet
 pub rows_set : (l m : Layout) (id column next : ℕ) → m.classes ≡ l.classes → m.stride2 ≡ l.stride2
@@ -119,34 +97,15 @@ rows_set l m id column next c s w is within next_is h =
 pub starts_set : (l m : Layout) (place id : ℕ) → m.stride2 ≡ l.stride2 → m.words ≡ l.words → m.contexts ≡ l.contexts
     → m.pattern_starts ≡ l.pattern_starts → m.starts ≡ slice_set l.starts place id → place < length l.starts
     → IsRowId l id → AreStarts l → AreStarts m
-starts_set l m place id s w c p e within is h =
-    let count : length m.starts ≡ length l.starts = ap length e ∙ length-set l.starts place id in
-    let same : length l.words ≤ length m.words = omega (arith, ap length w) in
-    record {
-      contexts = rw c h.contexts;
-      count = rw (count, p) h.count;
-      small = rw count h.small;
-      start_ids = λ k b.
-          let there : k < length l.starts = omega arith in
-          subst (λ (ids : List ℕ). IsRowId m (slice_index ids k)) (sym e)
-          (id_kept l m _ s same (set_keeps (λ k x. IsRowId l x) l.starts place id within is h.start_ids k there));
-    }
+starts_set l m place id s w c p e within is h = grind (arith, common_steps, length-set, id_kept, set_keeps)
 
 -- ---- a row more
 
 pub zero_id : (l : Layout) → stride l ≤ length l.words → IsRowId l 0
-zero_id l h =
-    let zeros : 0 * stride l + 0 ≡ 0 = omega arith in
-    record {
-      whole = subst (λ x. x % stride l ≡ 0) zeros (mod-mul-add 0 (stride l) 0 (pow_pos l.stride2));
-      below = omega arith;
-    }
+zero_id l h = grind (arith, common_steps, mod-mul-add, pow_pos)
 
 more_whole : (n s : ℕ) → 0 < s → n % s ≡ 0 → (n + s) % s ≡ 0
-more_whole n s some h =
-    let q = quotient n s h in
-    let e : (n / s + 1) * s + 0 ≡ n + s = omega (arith, q) in
-    subst (λ x. x % s ≡ 0) e (mod-mul-add (n / s + 1) s 0 some)
+more_whole n s some h = grind (arith, common_steps, quotient, mod-mul-add)
 
 pub rows_more : (l m : Layout) → m.classes ≡ l.classes → m.stride2 ≡ l.stride2
     → m.words ≡ l.words ++ replicate (stride l) 0 → length l.words ≤ max_id → AreRows l → AreRows m
@@ -273,11 +232,7 @@ new_id l h =
 -- ---- a table that is begun
 
 zero_at : (n k : ℕ) → slice_index (replicate n 0) k ≡ 0
-zero_at n k =
-    ⊎_elim
-    (λ (h : k < n). get_or-replicate n k 0 0 h)
-    (λ (h : n ≤ k). get_or_past (replicate n 0) k 0 (omega (arith, length-replicate n (let x : ℕ = 0 in x))))
-    (cases_lt k n)
+zero_at n k = grind (arith, common_steps, get_or-replicate, get_or_past, length-replicate, cases_lt)
 
 pub shaped_initial : (b : Beginning) → AreClasses b.classes → b.pattern_len ≤ 2147483647 → IsShaped (initial b)
 shaped_initial b are small =
@@ -368,15 +323,7 @@ shaped_starts l ids count are h =
 
 -- two rows that aren't one lie apart
 pub rows_apart : (l : Layout) (x y : ℕ) → IsRowId l x → IsRowId l y → x ≢ y → (x + stride l ≤ y) ⊎ (y + stride l ≤ x)
-rows_apart l x y x_is y_is ne =
-    ⊎_elim
-    (λ (h : x < y). inl (multiple_within x (stride l) y x_is.whole y_is.whole h))
-    (λ (h : y ≤ x).
-    ⊎_elim
-    (λ (e : x ≡ y). absurd (ne e))
-    (λ (other : x ≡ y → ⊥). inr (multiple_within y (stride l) x y_is.whole x_is.whole (omega arith)))
-    (cases_eq x y))
-    (cases_lt x y)
+rows_apart l x y x_is y_is ne = grind (arith, common_steps, multiple_within, cases_eq, cases_lt)
 
 -- the places of rows
 module _ (l : Layout) where
@@ -385,8 +332,7 @@ module _ (l : Layout) where
 
   same_column : (id other c : ℕ) → IsRowId l id → IsRowId l other → c < stride l
       → (id + c) % stride l ≡ (other + c) % stride l
-  same_column id other c is other_is low =
-      at_column id c (stride l) is.whole low ∙ sym (at_column other c (stride l) other_is.whole low)
+  same_column id other c is other_is low = grind (arith, common_steps, at_column)
 
   by_row : {X : Type 0} (id k : ℕ) → ((c : ℕ) → c < stride l → k ≡ id + c → X) → (IsOutside id (stride l) k → X) → X
   by_row id k inside outside =

@@ -1,7 +1,8 @@
 -- Rows and transitions as they are handed out one by one.
-use Rattle.std.proofs.Common.{◌≡◌, ℕ, suc, ◌+◌, ◌-◌, ◌*◌, ◌/◌, ◌%◌, ◌<◌, ◌≤◌, Option, Some, None, List, [], ◌∷◌}
-use Rattle.std.proofs.Common.{length, take, drop, get_or, slice_index, refl, ap, ap₂, sym, ◌∙◌, subst, true, cond}
-use Rattle.std.proofs.Common.{arith, map, length-append, length-drop, length-take-le}
+use Rattle.std.proofs.lemmas.Grind.{common_steps}
+use Rattle.std.proofs.Common.{◌≡◌, ℕ, suc, ◌+◌, ◌-◌, ◌*◌, ◌/◌, ◌%◌, ◌<◌, ◌≤◌, Option, Some, None, List, [], ◌∷◌, length}
+use Rattle.std.proofs.Common.{take, drop, get_or, slice_index, refl, ap, ap₂, sym, ◌∙◌, true, cond, arith, map}
+use Rattle.std.proofs.Common.{length-append, length-drop, length-take-le}
 use Rattle.std.specs.Prelude.{nat_lt, unwrap_or}
 use Rattle.std.specs.List.{flat_map, range_with_len}
 use Rattle.std.proofs.Math.Nat.{mod-eq_of_lt}
@@ -25,10 +26,7 @@ use Rattle.rx_dense.proofs.Rows.{IsRowId-row, alphabet_few, id_few}
 
 module _ (l : Layout) (row : ℕ) (h : row < row_count l) where
   pub rows_from-next : rows_from l row ≡ row_at l row ∷ rows_from l (row + 1)
-  rows_from-next = ap (λ n. map (row_at l) (range_with_len row n)) more
-    where
-      more : row_count l - row ≡ suc (row_count l - (row + 1))
-      more = omega arith
+  rows_from-next = grind (arith, common_steps)
 
   module _ (rows : AreRows l) where
     pub first_few : row * stride l ≤ max_id
@@ -78,20 +76,10 @@ transitions_from-next next_ids column h =
 -- a mode by the place where its entries begin, and a context by its number
 mode_at : (pattern_starts : Option ℕ) (mode : Mode) (group : ℕ) → mode_place (mode_of mode) ≡ 6 * group
     → group < length (start_modes pattern_starts) → get_or (start_modes pattern_starts) group mode ≡ mode
-mode_at pattern_starts Mode.No group e h =
-    let first : 0 ≡ group = omega arith in
-    subst (λ g. get_or (start_modes pattern_starts) g Mode.No ≡ Mode.No) first refl
-mode_at pattern_starts Mode.Yes group e h =
-    let second : 1 ≡ group = omega arith in
-    subst (λ g. get_or (start_modes pattern_starts) g Mode.Yes ≡ Mode.Yes) second refl
+mode_at pattern_starts Mode.No group e h = grind (arith, common_steps)
+mode_at pattern_starts Mode.Yes group e h = grind (arith, common_steps)
 mode_at pattern_starts (Mode.Pattern k) group e h =
-    let own : ℕ = unwrap_or pattern_starts 0 in
-    let own_count : length (map (λ k. Mode.Pattern k) (range_with_len 0 own)) ≡ own =
-    length-map-range_with_len (λ k. Mode.Pattern k) 0 own in
-    let later : suc (suc k) ≡ group = omega arith in
-    let start : 0 + k ≡ k = omega arith in
-    subst (λ g. get_or (start_modes pattern_starts) g (Mode.Pattern k) ≡ Mode.Pattern k) later
-    (get_or-map-range_with_len (λ k. Mode.Pattern k) 0 own k k (Mode.Pattern k) (omega (arith, own_count)) start)
+    grind (arith, common_steps, length-map-range_with_len, get_or-map-range_with_len)
 
 start_at : (start : Start) → get_or all_starts (context_number start) start ≡ start
 start_at Start.NonWordByte = refl

@@ -1,6 +1,7 @@
 -- Universal starts, as ids and as rows.
-use Rattle.std.proofs.Common.{◌≡◌, ℕ, ◌*◌, ◌/◌, ◌<◌, ◌≤◌, ◌==◌, ◌&&◌, Bool, true, false, Some, None, List}
-use Rattle.std.proofs.Common.{[], ◌∷◌, if◌then◌else◌, length, refl, ap, sym, ◌∙◌, ⊎_elim, arith}
+use Rattle.std.proofs.lemmas.Grind.{common_steps}
+use Rattle.std.proofs.Common.{◌≡◌, ℕ, ◌/◌, ◌<◌, ◌≤◌, ◌==◌, Bool, true, false, Some, None, List, [], ◌∷◌, if◌then◌else◌}
+use Rattle.std.proofs.Common.{length, refl, ap, ◌∙◌, ⊎_elim, arith}
 use Rattle.std.specs.List.{list_all}
 use Rattle.std.proofs.lemmas.Bool.{cases_eq, cases_lt, eq-eqb, ne_eqb, lt-ltb, le-ltb}
 use Rattle.std.proofs.lemmas.Nat.{pow_pos}
@@ -16,23 +17,12 @@ use Rattle.rx_dense.proofs.Shaped.{zero_id}
 
 -- two ids are one exactly where their rows are
 same_row : (l : Layout) (x y : ℕ) → IsRowId l x → IsRowId l y → (x == y) ≡ (x / stride l == y / stride l)
-same_row l x y x_is y_is =
-    ⊎_elim
-    (λ (e : x ≡ y). eq-eqb x y e ∙ sym (eq-eqb _ _ (ap (λ id. id / stride l) e)))
-    (λ (ne : x ≡ y → ⊥).
-    ne_eqb x y ne
-    ∙ sym
-    (ne_eqb _ _
-    (λ (e : x / stride l ≡ y / stride l).
-    ne
-    (sym (quotient x (stride l) x_is.whole) ∙ ap (λ row. row * stride l) e ∙ quotient y (stride l) y_is.whole))))
-    (cases_eq x y)
+same_row l x y x_is y_is = grind (arith, common_steps, eq-eqb, ne_eqb, quotient, cases_eq)
 
 -- a test of all starts goes by the tests of each
 list_all_same : {X : Type 0} (p q : X → Bool) → ((x : X) → p x ≡ q x) → (xs : List X) → list_all p xs ≡ list_all q xs
 list_all_same p q same [] = refl
-list_all_same p q same (x ∷ xs) =
-    ap (λ b. b && list_all p xs) (same x) ∙ ap (λ b. q x && b) (list_all_same p q same xs)
+list_all_same p q same (x ∷ xs) = grind (arith, common_steps)
 
 module _ (l : Layout) (h : IsShaped l) where
   start_id_is : (mode : Anchored) (start : Start) → IsRowId l (start_id l mode start)
@@ -45,10 +35,7 @@ module _ (l : Layout) (h : IsShaped l) where
       (cases_lt (mode_place mode) (length l.starts))
 
   valid : (id : ℕ) → IsRowId l id → is_row_id l id ≡ true
-  valid id is =
-      let some = pow_pos l.stride2 in
-      let below = is.below in
-      rw (eq-eqb _ _ is.whole) (lt-ltb _ _ (omega arith))
+  valid id is = grind (arith, common_steps, pow_pos, eq-eqb, lt-ltb)
 
   row_if : (mode : Anchored) (b : Bool)
       → universal_row l (if b then Some (start_id l mode Start.NonWordByte) else None)

@@ -1,6 +1,7 @@
 -- The rows of a range of accelerated rows.
-use Rattle.std.proofs.Common.{◌≡◌, ℕ, ◌+◌, ◌-◌, ◌*◌, ◌/◌, ◌%◌, ◌<◌, ◌≤◌, Bool, true, false, eqb, cond, length}
-use Rattle.std.proofs.Common.{ap, ◌∙◌, arith, inl, inr}
+use Rattle.std.proofs.lemmas.Grind.{common_steps}
+use Rattle.std.proofs.Common.{◌≡◌, ℕ, ◌+◌, ◌-◌, ◌*◌, ◌/◌, ◌%◌, ◌<◌, ◌≤◌, Bool, true, false, eqb, cond, length, ap, ◌∙◌}
+use Rattle.std.proofs.Common.{arith, inl, inr}
 use Rattle.std.proofs.lemmas.Bool.{and_parts, eqb-true, ltb-true}
 use Rattle.std.proofs.lemmas.Nat.{pow_pos}
 use Rattle.std.proofs.Math.Nat.{mul-mod_left}
@@ -13,13 +14,7 @@ use Rattle.rx_dense_image.proofs.EachBelow.{cases_bool}
 
 -- a number that passes the test is the id of a row
 pub row_id_of : (l : Layout) → AreReadRows (rows_of l) → (id : ℕ) → is_row_id l id ≡ true → IsRowId l id
-row_id_of l read id test =
-    let parts = and_parts (eqb (id % stride l) 0) _ test in
-    let whole = eqb-true _ _ parts.0 in
-    record {
-      whole = whole;
-      below = multiple_within id (stride l) (length l.words) whole read.whole (ltb-true _ _ parts.1);
-    }
+row_id_of l read id test = grind (arith, common_steps, and_parts, eqb-true, multiple_within, ltb-true)
 
 -- a row of a range
 times_whole : (a i s : ℕ) → a % s ≡ 0 → 0 < s → (a + i * s) % s ≡ 0
@@ -74,24 +69,7 @@ pub record AreSpecialRows (l : Layout) : Type 0 where
   pub max_start : is_row_id l l.special.max_start ≡ true
 
 pub special_rows : (l : Layout) → are_special_rows l l.special ≡ true → AreSpecialRows l
-special_rows l test =
-    let h8 = and_parts _ (is_row_id l l.special.max_start) test in
-    let h7 = and_parts _ (is_row_id l l.special.min_start) h8.0 in
-    let h6 = and_parts _ (is_row_id l l.special.max_accel) h7.0 in
-    let h5 = and_parts _ (is_row_id l l.special.min_accel) h6.0 in
-    let h4 = and_parts _ (is_row_id l l.special.max_match) h5.0 in
-    let h3 = and_parts _ (is_row_id l l.special.min_match) h4.0 in
-    let h2 = and_parts (is_row_id l l.special.max) (eqb l.special.quit (stride l)) h3.0 in
-    record {
-      max = h2.0;
-      quit = eqb-true _ _ h2.1;
-      min_match = h3.1;
-      max_match = h4.1;
-      min_accel = h5.1;
-      max_accel = h6.1;
-      min_start = h7.1;
-      max_start = h8.1;
-    }
+special_rows l test = grind (arith, common_steps, and_parts, eqb-true)
 
 pub first_accel : (l : Layout) → AreReadRows (rows_of l) → are_special_rows l l.special ≡ true
     → IsRowId l l.special.min_accel

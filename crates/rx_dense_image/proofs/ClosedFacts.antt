@@ -1,17 +1,15 @@
 -- What the closing tests say, as facts.
-use Rattle.std.proofs.Common.{◌≡◌, ℕ, ◌+◌, ◌-◌, ◌*◌, ◌/◌, ◌<◌, ◌≤◌, Bool, true, leb, eqb, List, length}
-use Rattle.std.proofs.Common.{take, slice_index, get_or}
+use Rattle.std.proofs.Common.{arith, ◌≡◌, ℕ, ◌+◌, ◌-◌, ◌*◌, ◌/◌, ◌<◌, ◌≤◌, Bool, true, leb, eqb, List, length, take}
+use Rattle.std.proofs.Common.{slice_index, get_or}
+use Rattle.std.proofs.lemmas.Grind.{common_steps}
 use Rattle.std.specs.List.{list_all, range_with_len}
 use Rattle.std.proofs.lemmas.Bool.{and_parts, eqb-true, leb-true}
-use Rattle.std.proofs.lemmas.List.Elements.{All-get_or}
-use Rattle.std.proofs.lemmas.List.Sums.{AllPass-from_list_all}
 use Rattle.rx_spec.specs.Causes.{max_id}
 use Rattle.rx_dense.specs.Layouts.{Layout, row_count, stride}
 use Rattle.rx_dense_image.specs.Rows.{are_entries, have_ids, is_entry, rows_of}
 use Rattle.rx_dense_image.specs.Closing.{accels_stand, are_lists, are_named, are_special_rows, has_needles, is_closed}
-use Rattle.rx_dense_image.specs.Closing.{is_list}
-use Rattle.rx_dense_image.specs.Closing.{is_named, is_start_row, is_universal, lead_to_dead, lists_stand, range_len}
-use Rattle.rx_dense_image.specs.Closing.{rows_stand, special_stand, starts_stand}
+use Rattle.rx_dense_image.specs.Closing.{is_list, is_named, is_start_row, is_universal, lead_to_dead, lists_stand}
+use Rattle.rx_dense_image.specs.Closing.{range_len, rows_stand, special_stand, starts_stand}
 use Rattle.rx_dense_image.proofs.EachBelow.{all_at}
 use Rattle.rx_dense_image.proofs.AccelRows.{AreSpecialRows, special_rows}
 
@@ -29,8 +27,7 @@ pub record AreClosed (l : Layout) : Type 0 where
   pub needles : (i : ℕ) → i < length l.accels → has_needles l i ≡ true
 
 pub each_at : (p : ℕ → Bool) (xs : List ℕ) (k : ℕ) → list_all p xs ≡ true → k < length xs → p (get_or xs k 0) ≡ true
-each_at p xs k test lt =
-    All-get_or (λ x. p x ≡ true) xs k 0 lt (AllPass-from_list_all p xs test)
+each_at p xs k test lt = grind (arith, common_steps)
 
 pub closed : (l : Layout) → is_closed l ≡ true → AreClosed l
 closed l test =

@@ -1,6 +1,7 @@
 -- The test of words without a branch, collected word by word.
-use Rattle.std.proofs.Common.{◌≡◌, ℕ, zero, suc, ◌%◌, ◌^◌, max, Bool, true, false, not, ◌&&◌, leb}
-use Rattle.std.proofs.Common.{eqb, bit_or, refl, ap, ◌∙◌, arith}
+use Rattle.std.proofs.lemmas.Grind.{common_steps}
+use Rattle.std.proofs.Common.{◌≡◌, ℕ, zero, suc, ◌%◌, ◌^◌, max, Bool, true, false, not, ◌&&◌, leb, eqb, bit_or, refl}
+use Rattle.std.proofs.Common.{ap, ◌∙◌, arith}
 use Rattle.std.proofs.lemmas.Nat.{le_or_l, le_or_r, or_mod}
 use Rattle.rx_dense_image.specs.Bulk.{all_bits, may_stand}
 
@@ -37,13 +38,4 @@ pub one_more_word : (s last forbidden low greatest met x : ℕ)
     && eqb (bit_or met (all_bits (eqb x forbidden))) 0)
     ≡ ((((eqb (low % 2 ^ s) 0) && leb greatest last) && eqb met 0) && may_stand (2 ^ s) last forbidden x)
 one_more_word s last forbidden low greatest met x =
-    let e = all_bits (eqb x forbidden) in
-    ap (λ (b : Bool). (b && leb (max greatest x) last) && eqb (bit_or met e) 0) (or_whole s low x)
-    ∙ ap (λ (b : Bool). ((eqb (low % 2 ^ s) 0 && eqb (x % 2 ^ s) 0) && b) && eqb (bit_or met e) 0)
-    (max_within greatest x last)
-    ∙ ap
-    (λ (b : Bool).
-    ((eqb (low % 2 ^ s) 0 && eqb (x % 2 ^ s) 0) && (leb greatest last && leb x last)) && b)
-    (or_none met e ∙ ap (λ (b : Bool). eqb met 0 && b) (no_bits (eqb x forbidden)))
-    ∙ shuffle (eqb (low % 2 ^ s) 0) (eqb (x % 2 ^ s) 0) (leb greatest last) (leb x last) (eqb met 0)
-    (not (eqb x forbidden))
+    grind (arith, common_steps, bit_or, or_whole, max_within, or_none, no_bits, shuffle)

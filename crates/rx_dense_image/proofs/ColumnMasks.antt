@@ -1,7 +1,7 @@
 -- The columns of rows go round with the rows, and what stands in them is what the rows are asked for.
+use Rattle.std.proofs.lemmas.Grind.{common_steps}
 use Rattle.std.proofs.Common.{◌≡◌, ℕ, zero, suc, ◌+◌, ◌-◌, ◌*◌, ◌%◌, ◌^◌, ◌<◌, ◌≤◌, Bool, true, false, cond, not, ◌&&◌}
-use Rattle.std.proofs.Common.{ltb, leb, eqb, List, length, get_or, take, drop, slice_index, bit_and, refl, sym, ap}
-use Rattle.std.proofs.Common.{◌∙◌, arith, inl, inr}
+use Rattle.std.proofs.Common.{ltb, leb, eqb, List, length, get_or, take, drop, bit_and, refl, ◌∙◌, arith, inl, inr}
 use Rattle.std.specs.Prelude.{◌⊎◌}
 use Rattle.std.specs.Int.{w32}
 use Rattle.std.specs.List.{list_all, range_with_len}
@@ -12,10 +12,9 @@ use Rattle.rx_wire.specs.declared.order.Order.{Order}
 use Rattle.rx_wire.specs.Fields.{number}
 use Rattle.rx_base.specs.ByteClasses.{alphabet_len}
 use Rattle.rx_dense.proofs.Rows.{multiple_within}
-use Rattle.rx_dense_image.specs.Rows.{Rows, are_entries, cleared, have_ids, is_entry, word_at}
-use Rattle.rx_dense_image.specs.Bulk.{AreOf, column_forbidden, may_stand, stand_below}
+use Rattle.rx_dense_image.specs.Rows.{Rows, are_entries, cleared, is_entry, word_at}
+use Rattle.rx_dense_image.specs.Bulk.{AreOf, column_forbidden, may_stand, stand_below, kept_word, word_stands}
 use Rattle.rx_dense_image.specs.declared.bulk.Columns.{Columns}
-use Rattle.rx_dense_image.specs.Bulk.{kept_word, word_stands}
 use Rattle.rx_dense_image.proofs.EachBelow.{all_below, cases_bool}
 use Rattle.rx_dense_image.proofs.WordBytes.{below_cong}
 
@@ -43,11 +42,7 @@ IsBytes-drop : (n : ℕ) (bytes : List ℕ) → IsBytes bytes → IsBytes (drop 
 IsBytes-drop n bytes h i = rw get_or-drop (h (n + i))
 
 IsBytes-take : (n : ℕ) (bytes : List ℕ) → IsBytes bytes → IsBytes (take n bytes)
-IsBytes-take n bytes h i =
-    elim (cases_lt i n) [
-      | inl lt ↦ rw (get_or-take n bytes i 0 lt) (h i)
-      | inr le ↦ rw (get_or_past (take n bytes) i 0 (omega (arith, length-take n bytes))) (omega arith)
-    ]
+IsBytes-take n bytes h i = grind (arith, common_steps, cases_lt, get_or-take, get_or_past, length-take)
 
 number_small : (order : Order) (bytes : List ℕ) → IsBytes bytes → number order w32 bytes < 2 ^ 32
 number_small Order.Little bytes fits = omega (arith, fits 0, fits 1, fits 2, fits 3)
@@ -77,21 +72,11 @@ module _ {c : Columns} {s alphabet : ℕ} (of : AreOf c s alphabet) where
   -- what is kept of a word is the cleared word
   pub kept_cleared : (bytes : List ℕ) → IsBytes bytes → (k : ℕ)
       → kept_word c bytes k ≡ cleared (2 ^ s) alphabet k (word_at c.order bytes k)
-  kept_cleared bytes fits k =
-      ap (λ (n : ℕ). bit_and (word_at c.order bytes k) (slice_index c.kept.now (k % n))) of.len
-      ∙ ap (λ (m : ℕ). bit_and (word_at c.order bytes k) m)
-      (of.kept (k % 512) (rest_below k)
-      ∙ ap (λ (n : ℕ). cond (ltb n alphabet) 4294967295 0) (rounds s k of.exponent))
-      ∙ kept_or_none (ltb (k % 2 ^ s) alphabet) (word_at c.order bytes k) (word_small c.order bytes k fits)
+  kept_cleared bytes fits k = grind (arith, common_steps, bit_and, rest_below, rounds, kept_or_none, word_small)
 
   pub stands_column : (last : ℕ) (bytes : List ℕ) (k w : ℕ) → w ≡ kept_word c bytes k
       → word_stands s last c bytes k ≡ may_stand (2 ^ s) last (column_forbidden (2 ^ s) alphabet k) w
-  stands_column last bytes k w same =
-      ap (λ (x : ℕ). may_stand (2 ^ s) last (slice_index c.forbidden.now (k % length c.kept.now)) x) (sym same)
-      ∙ ap (λ (n : ℕ). may_stand (2 ^ s) last (slice_index c.forbidden.now (k % n)) w) of.len
-      ∙ ap (λ (f : ℕ). may_stand (2 ^ s) last f w)
-      (of.forbidden (k % 512) (rest_below k)
-      ∙ ap (λ (n : ℕ). cond (eqb n (alphabet - 1)) (2 ^ s) 4294967295) (rounds s k of.exponent))
+  stands_column last bytes k w same = grind (arith, common_steps, rest_below, rounds)
 
 -- ---- what stands in the columns is what rows are asked for
 
@@ -103,13 +88,7 @@ le_lt_not x n s past some fits = grind arith
 
 -- an id is at most that of the last row exactly where it stands within the words
 at_most_last : (x n s : ℕ) → 0 < s → 0 < n → n % s ≡ 0 → x % s ≡ 0 → leb x (n - s) ≡ ltb x n
-at_most_last x n s some words whole of =
-    let zero_of : 0 % s ≡ 0 = omega (arith, some) in
-    let fits : 0 + s ≤ n = multiple_within 0 s n zero_of whole words in
-    elim (cases_lt x n) [
-      | inl below ↦ le_lt x n s below (multiple_within x s n of whole below)
-      | inr past ↦ le_lt_not x n s past some (omega (arith, fits))
-    ]
+at_most_last x n s some words whole of = grind (arith, common_steps, multiple_within, cases_lt, le_lt, le_lt_not)
 
 no_id : (x n : ℕ) → leb x n ≡ true → n < 4294967295 → eqb x 4294967295 ≡ false
 no_id x n le small = grind arith
@@ -122,34 +101,14 @@ forbidden_or_not false x s n le small = rw (no_id x n le small) refl
 stands_entry : (x n s : ℕ) (b : Bool) → 0 < s → 0 < n → n % s ≡ 0 → n - s ≤ 2147483646
     → may_stand s (n - s) (cond b s 4294967295) x ≡ (((eqb (x % s) 0) && ltb x n) && not (b && eqb x s))
 stands_entry x n s b some words whole small =
-    elim (cases_bool (eqb (x % s) 0)) [
-      | inl of ↦ (
-          let most : leb x (n - s) ≡ ltb x n = at_most_last x n s some words whole (eqb-true _ _ of) in
-          elim (cases_bool (leb x (n - s))) [
-            | inl le ↦ (
-                let first : ltb x n ≡ true = sym most ∙ le in
-                rw (of, le, first) (forbidden_or_not b x s (n - s) le (omega (arith, small))))
-            | inr gt ↦ (
-                let first : ltb x n ≡ false = sym most ∙ gt in
-                rw (of, gt, first) refl)
-          ])
-      | inr off ↦ rw off refl
-    ]
+    grind (arith, common_steps, cases_bool, at_most_last, eqb-true, forbidden_or_not)
 
 -- all words stand where each is an entry
 pub stand_entries : (rows : Rows) → length rows.words % 2 ^ rows.stride2 ≡ 0
     → length rows.words - 2 ^ rows.stride2 ≤ 2147483646
     → stand_below (2 ^ rows.stride2) (alphabet_len rows.classes) (length rows.words - 2 ^ rows.stride2) rows.words
     ≡ list_all (is_entry rows) (range_with_len 0 (length rows.words))
-stand_entries rows whole small =
-    let n : ℕ = length rows.words in
-    let s : ℕ = 2 ^ rows.stride2 in
-    let a : ℕ = alphabet_len rows.classes in
-    below_cong n (λ k. may_stand s (n - s) (column_forbidden s a k) (slice_index rows.words k)) (is_entry rows)
-    (λ k lt.
-    stands_entry (slice_index rows.words k) n s (eqb (k % s) (a - 1)) (pow_pos rows.stride2) (omega (arith, lt)) whole
-    small)
-    ∙ all_below n (is_entry rows)
+stand_entries rows whole small = grind (arith, common_steps, below_cong, stands_entry, pow_pos, all_below)
 
 le_false : (g : ℕ) → 2147483646 < g → leb g 2147483646 ≡ false
 le_false g lt = grind arith
@@ -165,19 +124,4 @@ pub record IsFound (rows : Rows) (last : ℕ) (sound : Bool) : Type 0 where
 
 pub found_entries : {rows : Rows} {last : ℕ} {sound : Bool} → IsFound rows last sound
     → (leb last 2147483646 && sound) ≡ are_entries rows
-found_entries {rows} {last} {sound} found =
-    let s : ℕ = 2 ^ rows.stride2 in
-    let a : ℕ = alphabet_len rows.classes in
-    let same : have_ids rows ≡ leb last 2147483646 =
-    ap (λ (g : ℕ). leb g 2147483646) (sym found.is_last) in
-    let entries : Bool = list_all (is_entry rows) (range_with_len 0 (length rows.words)) in
-    elim (small_or last) [
-      | inl small ↦ (
-          let is : sound ≡ entries =
-          found.is_sound
-          ∙ ap (λ (m : ℕ). stand_below s a m rows.words) found.is_last
-          ∙ stand_entries rows found.whole (omega (arith, small, found.is_last)) in
-          ap (λ (b : Bool). leb last 2147483646 && b) is ∙ ap (λ (b : Bool). b && entries) (sym same))
-      | inr big ↦ (
-          ap (λ (b : Bool). b && sound) big ∙ sym (ap (λ (b : Bool). b && entries) (same ∙ big)))
-    ]
+found_entries {rows} {last} {sound} found = grind (arith, common_steps, small_or, stand_entries)

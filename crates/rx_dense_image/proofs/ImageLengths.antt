@@ -1,20 +1,20 @@
 -- How many bytes the parts of an image have.
-use Rattle.std.proofs.Common.{◌≡◌, ℕ, ◌+◌, ◌*◌, ◌/◌, ◌%◌, ◌^◌, List, [], ◌∷◌, ◌++◌, length, map, replicate, refl, ap}
-use Rattle.std.proofs.Common.{◌∙◌, arith}
+use Rattle.std.proofs.lemmas.Grind.{common_steps}
+use Rattle.std.proofs.Common.{◌≡◌, ℕ, ◌+◌, ◌*◌, List, [], ◌∷◌, ◌++◌, length, replicate, refl, ap, ◌∙◌, arith}
 use Rattle.std.specs.List.{flat_map}
-use Rattle.std.specs.Int.{w32, w128}
+use Rattle.std.specs.Int.{w32}
 use Rattle.std.proofs.lemmas.List.{length-append, length-map, length-take-le}
 use Rattle.std.proofs.lemmas.List.Concat.{flat_map-cons}
 use Rattle.rx_wire.specs.declared.order.Order.{Order}
 use Rattle.rx_wire.specs.Fields.{field}
-use Rattle.rx_wire.specs.Heads.{endianness_word, label_text}
+use Rattle.rx_wire.specs.Heads.{label_text}
 use Rattle.rx_wire.proofs.Fields.{length-field_32, length-field_128}
 use Rattle.rx_dense.specs.declared.flags.Flags.{Flags}
 use Rattle.rx_dense.specs.declared.special.Special.{Special}
-use Rattle.rx_dense.specs.Layouts.{Layout, context_number}
-use Rattle.rx_dense_image.specs.Heads.{dense_label, dense_version, flags_word, head_text}
+use Rattle.rx_dense.specs.Layouts.{Layout}
+use Rattle.rx_dense_image.specs.Heads.{dense_label, head_text}
 use Rattle.rx_dense_image.specs.Rows.{Rows, rows_of, rows_text, words_text}
-use Rattle.rx_dense_image.specs.StartTables.{StartTable, context_count, kind_number, number_or_none, start_table_text}
+use Rattle.rx_dense_image.specs.StartTables.{StartTable, start_table_text}
 use Rattle.rx_dense_image.specs.PatternLists.{PatternLists, pattern_lists_text}
 use Rattle.rx_dense_image.specs.Marks.{Marks, accel_text, accels_text, marks_text, quit_text, special_text}
 use Rattle.rx_dense_image.specs.Images.{image_len, marks_of, pattern_lists_of, start_table_of, text}
@@ -32,82 +32,27 @@ length-words order (w ∷ ws) =
 
 pub length-head : (order : Order) (name : List ℕ) (flags : Flags) → length (label_text name) ≡ 32
     → length (head_text order name flags) ≡ 48
-length-head order name flags label =
-    let t4 : List ℕ = field order w32 (flags_word flags) in
-    let t3 : List ℕ = field order w32 0 ++ t4 in
-    let t2 : List ℕ = field order w32 dense_version ++ t3 in
-    let t1 : List ℕ = field order w32 endianness_word ++ t2 in
-    omega (
-      arith,
-      length-append (label_text name) t1,
-      label,
-      word_then order endianness_word t2,
-      word_then order dense_version t3,
-      word_then order 0 t4,
-      length-field_32 order (flags_word flags),
-    )
+length-head order name flags label = grind (arith, common_steps, length-append, word_then, length-field_32)
 
 length-rows : (order : Order) (rows : Rows) → length rows.classes ≡ 256
     → length (rows_text order rows) ≡ 264 + 4 * length rows.words
-length-rows order rows classes =
-    let t2 : List ℕ = rows.classes ++ words_text order rows.words in
-    let t1 : List ℕ = field order w32 rows.stride2 ++ t2 in
-    omega (
-      arith,
-      word_then order (length rows.words / 2 ^ rows.stride2) t1,
-      word_then order rows.stride2 t2,
-      length-append rows.classes (words_text order rows.words),
-      classes,
-      length-words order rows.words,
-    )
+length-rows order rows classes = grind (arith, common_steps, word_then, length-append, length-words)
 
 pub length-start_table : (order : Order) (table : StartTable) → length table.contexts ≡ 256
     → length (start_table_text order table) ≡ 276 + 4 * length table.starts
 length-start_table order table contexts =
-    let t5 : List ℕ = words_text order table.starts in
-    let t4 : List ℕ = field order w32 (number_or_none table.universal_anchored) ++ t5 in
-    let t3 : List ℕ = field order w32 (number_or_none table.universal_unanchored) ++ t4 in
-    let t2 : List ℕ = field order w32 (number_or_none table.pattern_starts) ++ t3 in
-    let t1 : List ℕ = field order w32 context_count ++ t2 in
-    let numbers : List ℕ = map context_number table.contexts in
-    omega (
-      arith,
-      word_then order (kind_number table.start_kind) (numbers ++ t1),
-      length-append numbers t1,
-      length-map table.contexts context_number,
-      contexts,
-      word_then order context_count t2,
-      word_then order (number_or_none table.pattern_starts) t3,
-      word_then order (number_or_none table.universal_unanchored) t4,
-      word_then order (number_or_none table.universal_anchored) t5,
-      length-words order table.starts,
-    )
+    grind (arith, common_steps, word_then, length-append, length-map, length-words)
 
 length-pattern_lists : (order : Order) (lists : PatternLists)
     → length (pattern_lists_text order lists) ≡ 12 + 4 * length lists.slices + 4 * length lists.pattern_ids
-length-pattern_lists order lists =
-    let t3 : List ℕ = words_text order lists.pattern_ids in
-    let t2 : List ℕ = field order w32 (length lists.pattern_ids) ++ t3 in
-    let t1 : List ℕ = field order w32 lists.pattern_len ++ t2 in
-    omega (
-      arith,
-      word_then order (length lists.slices / 2) (words_text order lists.slices ++ t1),
-      length-append (words_text order lists.slices) t1,
-      length-words order lists.slices,
-      word_then order lists.pattern_len t2,
-      word_then order (length lists.pattern_ids) t3,
-      length-words order lists.pattern_ids,
-    )
+length-pattern_lists order lists = grind (arith, common_steps, word_then, length-append, length-words)
 
 pub length-special : (order : Order) (s : Special) → length (special_text order s) ≡ 32
 length-special Order.Little s = refl
 length-special Order.Big s = refl
 
 pub length-accel : (needles : List ℕ) → length (accel_text needles) ≡ 8
-length-accel needles =
-    let zeros : List ℕ = replicate 7 0 in
-    let seven : length zeros ≡ 7 = refl in
-    length-take-le 8 (length needles ∷ (needles ++ zeros)) (omega (arith, length-append needles zeros, seven))
+length-accel needles = grind (arith, common_steps, replicate, length-take-le, length-append)
 
 pub length-each : (accels : List (List ℕ)) → length (flat_map accel_text accels) ≡ 8 * length accels
 length-each [] = refl
@@ -117,31 +62,14 @@ length-each (a ∷ accels) =
     ∙ omega (arith, length-accel a, length-each accels)
 
 pub length-accels : (order : Order) (accels : List (List ℕ)) → length (accels_text order accels) ≡ 4 + 8 * length accels
-length-accels order accels =
-    omega (arith, word_then order (length accels) (flat_map accel_text accels), length-each accels)
+length-accels order accels = grind (arith, common_steps, word_then, length-each)
 
 pub length-quit : (order : Order) (quit : ℕ) → length (quit_text order quit) ≡ 32
-length-quit order quit =
-    omega (
-      arith,
-      length-append (field order w128 (quit % 2 ^ 128)) (field order w128 (quit / 2 ^ 128)),
-      length-field_128 order (quit % 2 ^ 128),
-      length-field_128 order (quit / 2 ^ 128),
-    )
+length-quit order quit = grind (arith, common_steps, length-append, length-field_128)
 
 length-marks : (order : Order) (marks : Marks) → length (marks_text order marks) ≡ 68 + 8 * length marks.accels
 length-marks order marks =
-    let quit : List ℕ = quit_text order marks.quit in
-    let accels : List ℕ = accels_text order marks.accels in
-    omega (
-      arith,
-      length-append (special_text order marks.special) (accels ++ quit),
-      length-special order marks.special,
-      length-append accels quit,
-      word_then order (length marks.accels) (flat_map accel_text marks.accels),
-      length-each marks.accels,
-      length-quit order marks.quit,
-    )
+    grind (arith, common_steps, length-append, length-special, word_then, length-each, length-quit)
 
 pub length-text : (order : Order) (l : Layout) → length l.classes ≡ 256 → length l.contexts ≡ 256
     → length (text order l) ≡ image_len l

@@ -1,7 +1,8 @@
 -- Needles that are compared byte by byte with the bytes that leave a row.
+use Rattle.std.proofs.lemmas.Grind.{common_steps}
 use Rattle.std.proofs.Common.{◌≡◌, ◌≢◌, ℕ, zero, suc, ◌+◌, ◌-◌, ◌<◌, ◌≤◌, Bool, true, false, not, eqb, List, [], ◌∷◌}
-use Rattle.std.proofs.Common.{◌++◌}
-use Rattle.std.proofs.Common.{length, get_or, take, filter, refl, sym, ap, ◌∙◌, arith, inl, inr, add-one, if◌then◌else◌}
+use Rattle.std.proofs.Common.{◌++◌, length, get_or, take, filter, refl, sym, ap, ◌∙◌, arith, inl, inr, add-one}
+use Rattle.std.proofs.Common.{if◌then◌else◌}
 use Rattle.std.specs.List.{range_with_len}
 use Rattle.std.specs.Str.{bytes_eq}
 use Rattle.std.proofs.Math.Seq.{take-length}
@@ -58,10 +59,7 @@ met_more {needles} {p} {met} {byte} h passes lt is = record {
 -- ---- the test of all bytes
 
 range_split : (n m a : ℕ) → range_with_len a (n + m) ≡ range_with_len a n ++ range_with_len (a + n) m
-range_split zero m a =
-    let e : 0 + m ≡ m = omega arith in
-    let f : a ≡ a + 0 = omega arith in
-    ap (range_with_len a) e ∙ ap (λ (x : ℕ). range_with_len x m) f
+range_split zero m a = grind (arith, common_steps)
 range_split (suc n) m a =
     let e : suc n + m ≡ suc (n + m) = omega arith in
     let f : a + 1 + n ≡ a + suc n = omega arith in
@@ -70,11 +68,7 @@ range_split (suc n) m a =
     (range_split n m (a + 1) ∙ ap (λ (x : ℕ). range_with_len (a + 1) n ++ range_with_len x m) f)
 
 differ : (xs ys : List ℕ) → xs ≢ ys → bytes_eq xs ys ≡ false
-differ xs ys ne =
-    elim (cases_bool (bytes_eq xs ys)) [
-      | inl same ↦ absurd (ne ((bytes_eq-Decides xs ys).0 same))
-      | inr not ↦ not
-    ]
+differ xs ys ne = grind (arith, common_steps, cases_bool, bytes_eq-Decides)
 
 module _ {needles : List ℕ} {p : ℕ → Bool} {met byte : ℕ} (h : AreMet needles p met byte) (lt : byte < 256)
     (passes : p byte ≡ true) where
@@ -83,9 +77,6 @@ module _ {needles : List ℕ} {p : ℕ → Bool} {met byte : ℕ} (h : AreMet ne
 
   front_len : length (filter p (range_with_len 0 byte)) ≡ met
   front_len = ap length (sym h.front) ∙ length-take-le met needles h.within
-
-  more : List ℕ
-  more = filter p (range_with_len (byte + 1) (255 - byte))
 
   whole : filter p (range_with_len 0 256)
       ≡ filter p (range_with_len 0 byte) ++ (byte ∷ filter p (range_with_len (byte + 1) (255 - byte)))
@@ -106,30 +97,16 @@ module _ {needles : List ℕ} {p : ℕ → Bool} {met byte : ℕ} (h : AreMet ne
 
   -- the byte stands among those that pass where the needles that were met end
   stands : get_or (filter p (range_with_len 0 256)) met 0 ≡ byte
-  stands =
-      let zero_more : met - met ≡ 0 = omega arith in
-      ap (λ (t : List ℕ). get_or t met 0) whole
-      ∙ get_or-append_right (filter p (range_with_len 0 byte))
-      (byte ∷ filter p (range_with_len (byte + 1) (255 - byte))) met met 0 front_len (omega arith)
-      ∙ ap (λ (k : ℕ). get_or (byte ∷ filter p (range_with_len (byte + 1) (255 - byte))) k 0) zero_more
+  stands = grind (arith, common_steps, whole, get_or-append_right, front_len)
 
   longer : met < length (filter p (range_with_len 0 256))
-  longer =
-      omega (
-        arith,
-        ap length whole,
-        length-append (filter p (range_with_len 0 byte)) (byte ∷ filter p (range_with_len (byte + 1) (255 - byte))),
-        front_len,
-      )
+  longer = grind (arith, common_steps, whole, length-append, front_len)
 
   pub too_few : length needles ≤ met → bytes_eq needles (filter p (range_with_len 0 256)) ≡ false
-  too_few le =
-      differ needles (filter p (range_with_len 0 256)) (λ e. absurd (omega (arith, le, ap length e, longer)))
+  too_few le = grind (arith, common_steps, differ, longer)
 
   pub another : get_or needles met 0 ≢ byte → bytes_eq needles (filter p (range_with_len 0 256)) ≡ false
-  another ne =
-      differ needles (filter p (range_with_len 0 256))
-      (λ e. absurd (ne (ap (λ (t : List ℕ). get_or t met 0) e ∙ stands)))
+  another ne = grind (arith, common_steps, differ, stands)
 
 pub all_met : {needles : List ℕ} {p : ℕ → Bool} {met byte : ℕ} → AreMet needles p met byte → byte ≡ 256
     → eqb met (length needles) ≡ bytes_eq needles (filter p (range_with_len 0 256))

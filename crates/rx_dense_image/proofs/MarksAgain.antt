@@ -1,22 +1,22 @@
 -- What was written is read again: special ids, needles and quit bytes.
-use Rattle.std.proofs.Common.{◌≡◌, ℕ, zero, suc, ◌+◌, ◌*◌, ◌/◌, ◌%◌, ◌^◌, ◌<◌, ◌≤◌, List, [], ◌∷◌, ◌++◌, length}
-use Rattle.std.proofs.Common.{get_or, drop, map, true, Ok, refl, sym, ap, subst, ◌∙◌, append_assoc, arith, rules}
+use Rattle.std.proofs.lemmas.Grind.{common_steps}
+use Rattle.std.proofs.Common.{◌≡◌, ℕ, zero, suc, ◌+◌, ◌*◌, ◌^◌, ◌<◌, ◌≤◌, List, [], ◌∷◌, ◌++◌, length, get_or, drop}
+use Rattle.std.proofs.Common.{map, true, Ok, refl, sym, ap, subst, ◌∙◌, append_assoc, arith, rules}
 use Rattle.std.specs.List.{flat_map, range_with_len}
-use Rattle.std.specs.Int.{w32, w128}
+use Rattle.std.specs.Int.{w32}
 use Rattle.std.proofs.lemmas.Bool.{lt-ltb}
 use Rattle.std.proofs.lemmas.List.{append-nil, drop-drop, drop_at}
 use Rattle.std.proofs.lemmas.List.Concat.{flat_map-cons}
 use Rattle.std.proofs.lemmas.List.FromFn.{fill_by_all}
 use Rattle.rx_spec.specs.Causes.{max_id}
 use Rattle.rx_wire.specs.declared.order.Order.{Order}
-use Rattle.rx_wire.specs.Kinds.{Kind, Reads}
+use Rattle.rx_wire.specs.Kinds.{Reads}
 use Rattle.rx_wire.specs.Fields.{bytes_at, field}
 use Rattle.rx_wire.proofs.Fields.{bytes_again, id_again, u128_again, u32_again}
 use Rattle.rx_dense.specs.declared.special.Special.{Special}
 use Rattle.rx_dense_image.specs.Marks.{AreReadMarks, Marks, accel_text, accels_at, accels_text, are_special, id_pair_at}
-use Rattle.rx_dense_image.specs.Marks.{marks_at, marks_text}
-use Rattle.rx_dense_image.specs.Marks.{needles_in, needles_of, quit_at, quit_text, special_at, special_ids_at}
-use Rattle.rx_dense_image.specs.Marks.{special_text}
+use Rattle.rx_dense_image.specs.Marks.{marks_at, marks_text, needles_in, needles_of, quit_at, quit_text, special_at}
+use Rattle.rx_dense_image.specs.Marks.{special_ids_at, special_text}
 use Rattle.rx_dense_image.proofs.ImageLengths.{length-accel, length-each, length-special}
 
 -- ---- special ids
@@ -36,30 +36,12 @@ id_pair_again : (order : Order) (first last : ℕ) → first ≤ max_id → last
     → (rest : List ℕ)
     → id_pair_at order (field order w32 first ++ (field order w32 last ++ rest)) ≡ Ok ((first, last), rest)
 unfolding id_pair_at
-id_pair_again order first last a b rest =
-    rw (
-      id_again Kind.StateID order first a (field order w32 last ++ rest),
-      id_again Kind.StateID order last b rest,
-    )
-    refl
+id_pair_again order first last a b rest = grind (arith, common_steps, id_again)
 
 special_ids_again : (order : Order) (s : Special) → AreSpecialIds s
     → Reads (special_ids_at order) (special_text order s) s
 unfolding special_ids_at
-special_ids_again order s h rest =
-    let t4 : List ℕ = field order w32 s.min_start ++ (field order w32 s.max_start ++ rest) in
-    let t3 : List ℕ = field order w32 s.min_accel ++ (field order w32 s.max_accel ++ t4) in
-    let t2 : List ℕ = field order w32 s.min_match ++ (field order w32 s.max_match ++ t3) in
-    let t1 : List ℕ = field order w32 s.max ++ (field order w32 s.quit ++ t2) in
-    let regrouped : special_text order s ++ rest ≡ t1 = simp append_assoc refl in
-    ap (special_ids_at order) regrouped
-    ∙ rw (
-      id_pair_again order s.max s.quit h.max h.quit t2,
-      id_pair_again order s.min_match s.max_match h.min_match h.max_match t3,
-      id_pair_again order s.min_accel s.max_accel h.min_accel h.max_accel t4,
-      id_pair_again order s.min_start s.max_start h.min_start h.max_start rest,
-    )
-    refl
+special_ids_again order s h rest = grind (arith, common_steps, append_assoc, id_pair_again)
 
 pub special_again : (order : Order) (len : ℕ) (s : Special) → are_special s ≡ true → s.max < len → AreSpecialIds s
     → Reads (special_at order len) (special_text order s) s
@@ -126,19 +108,7 @@ accels_again order word_len marks h rest =
 
 pub quit_again : (order : Order) (quit : ℕ) → quit < 2 ^ 256 → Reads (quit_at order) (quit_text order quit) quit
 unfolding quit_at
-quit_again order quit small rest =
-    let low : ℕ = quit % 2 ^ 128 in
-    let high : ℕ = quit / 2 ^ 128 in
-    let regrouped : quit_text order quit ++ rest ≡ field order w128 low ++ (field order w128 high ++ rest) =
-    append_assoc (field order w128 low) (field order w128 high) rest in
-    let whole : high * 2 ^ 128 + low ≡ quit = omega arith in
-    ap (quit_at order) regrouped
-    ∙ rw (
-      u128_again order low (omega arith) (field order w128 high ++ rest),
-      u128_again order high (omega (arith, small)) rest,
-      whole,
-    )
-    refl
+quit_again order quit small rest = grind (arith, common_steps, append_assoc, u128_again)
 
 -- ---- all of them
 

@@ -1,6 +1,6 @@
 -- Words past the alphabet are cleared, and the rows that were read are as each part says.
-use Rattle.std.proofs.Common.{◌≡◌, ℕ, ◌+◌, ◌*◌, ◌/◌, ◌%◌, ◌^◌, ◌<◌, ◌≤◌, List, length, map, slice_index, refl, sym, ap}
-use Rattle.std.proofs.Common.{subst, ◌∙◌, arith, inl, inr}
+use Rattle.std.proofs.lemmas.Grind.{common_steps}
+use Rattle.std.proofs.Common.{◌≡◌, ℕ, ◌*◌, ◌/◌, ◌%◌, ◌^◌, ◌<◌, ◌≤◌, List, length, map, sym, ap, subst, ◌∙◌, arith}
 use Rattle.std.specs.List.{range_with_len}
 use Rattle.std.proofs.Math.Nat.{mul-div_cancel, mul-mod_left}
 use Rattle.std.proofs.lemmas.Bool.{cases_lt, le-ltb}
@@ -9,22 +9,14 @@ use Rattle.std.proofs.lemmas.List.FromFn.{get_or-map-range_with_len, length-map-
 use Rattle.std.proofs.lemmas.Nat.{pow_pos}
 use Rattle.rx_wire.specs.declared.order.Order.{Order}
 use Rattle.rx_base.specs.ByteClasses.{AreClasses, alphabet_len}
-use Rattle.rx_dense_image.specs.Rows.{ArePadded, AreWords, word_at, words_of, AreReadRows, IsStride, Rows, cleared}
+use Rattle.rx_dense_image.specs.Rows.{ArePadded, AreWords, words_of, AreReadRows, IsStride, Rows, cleared}
 use Rattle.rx_dense_image.proofs.ColumnMasks.{IsBytes, word_small}
 
 -- words that were cleared
 pub padded : (stride alphabet count : ℕ) (word : ℕ → ℕ) (words : List ℕ)
     → words ≡ map (λ k. cleared stride alphabet k (word k)) (range_with_len 0 count) → ArePadded stride alphabet words
 padded stride alphabet count word words is =
-    let f : ℕ → ℕ = λ k. cleared stride alphabet k (word k) in
-    let len : length words ≡ count = ap length is ∙ length-map-range_with_len f 0 count in
-    record {
-      zero = λ k lt past.
-          let e : 0 + k ≡ k = omega arith in
-          ap (λ (t : List ℕ). slice_index t k) is
-          ∙ get_or-map-range_with_len f 0 count k k 0 (omega (arith, lt, len)) e
-          ∙ rw (le-ltb _ _ past) refl;
-    }
+    grind (arith, common_steps, length-map-range_with_len, get_or-map-range_with_len, le-ltb)
 
 -- so many rows of a stride
 pub record AreCounted (rows : Rows) (bytes : List ℕ) (count stride : ℕ) : Type 0 where
@@ -59,14 +51,12 @@ read_rows {rows} {bytes} {count} {stride} h =
 pub words_fit : (order : Order) (bytes : List ℕ) (count : ℕ) (words : List ℕ) → IsBytes bytes
     → words ≡ words_of order bytes count → AreWords words
 words_fit order bytes count words fits is i =
-    let len : length words ≡ count = ap length is ∙ length-map-range_with_len (word_at order bytes) 0 count in
-    elim (cases_lt i count) [
-      | inl lt ↦ (
-          let e : 0 + i ≡ i = omega arith in
-          let at : slice_index words i ≡ word_at order bytes i =
-          ap (λ (t : List ℕ). slice_index t i) is
-          ∙ get_or-map-range_with_len (word_at order bytes) 0 count i i 0 lt e in
-          subst (λ (n : ℕ). n < 2 ^ 32) (sym at) (word_small order bytes i fits))
-      | inr past ↦ (
-          subst (λ (n : ℕ). n < 2 ^ 32) (sym (get_or_past words i 0 (omega (arith, len, past)))) (omega arith))
-    ]
+    grind (
+      arith,
+      common_steps,
+      length-map-range_with_len,
+      cases_lt,
+      get_or-map-range_with_len,
+      word_small,
+      get_or_past,
+    )

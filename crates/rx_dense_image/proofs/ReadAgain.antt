@@ -1,8 +1,8 @@
 -- What was written is read again, whatever follows: heads, words and rows.
-use Rattle.std.proofs.Common.{◌≡◌, ℕ, zero, suc, ◌+◌, ◌*◌, ◌/◌, ◌%◌, ◌^◌, ◌<◌, ◌≤◌, Bool, true, false, List}
-use Rattle.std.proofs.Common.{[], ◌∷◌, ◌++◌, length, get_or, take, drop, map, slice_index, Ok, refl, sym, ap, subst}
-use Rattle.std.proofs.Common.{◌∙◌}
-use Rattle.std.proofs.Common.{append_assoc, arith, rules, inl, inr}
+use Rattle.std.proofs.lemmas.Grind.{common_steps}
+use Rattle.std.proofs.Common.{◌≡◌, ℕ, zero, suc, ◌+◌, ◌*◌, ◌%◌, ◌^◌, ◌<◌, ◌≤◌, Bool, true, false, List, [], ◌∷◌, ◌++◌}
+use Rattle.std.proofs.Common.{length, get_or, take, drop, map, slice_index, Ok, refl, sym, ap, subst, ◌∙◌, append_assoc}
+use Rattle.std.proofs.Common.{arith, rules}
 use Rattle.std.specs.List.{range_with_len}
 use Rattle.std.specs.Int.{w32}
 use Rattle.std.proofs.lemmas.Bool.{cases_lt, le-ltb, lt-ltb, le-leb}
@@ -12,16 +12,15 @@ use Rattle.std.proofs.lemmas.List.FromFn.{fill_by_all}
 use Rattle.rx_wire.specs.declared.order.Order.{Order}
 use Rattle.rx_wire.specs.Kinds.{Reads}
 use Rattle.rx_wire.specs.Fields.{bytes_at, field, number}
-use Rattle.rx_wire.specs.Heads.{IsLabel, endianness_word, label_text}
+use Rattle.rx_wire.specs.Heads.{IsLabel}
 use Rattle.rx_wire.proofs.Fields.{again32, bytes_again, length-field_32, u32_again}
 use Rattle.rx_wire.proofs.Heads.{label_again, order_again, version_again}
-use Rattle.rx_base.specs.ByteClasses.{alphabet_len}
 use Rattle.rx_dense.specs.declared.flags.Flags.{Flags}
 use Rattle.rx_dense.proofs.Rows.{quotient}
 use Rattle.rx_dense_image.specs.Heads.{dense_head_at, dense_label, flags_of, flags_word, head_at, head_text}
 use Rattle.rx_dense_image.specs.Heads.{skipped_nuls}
-use Rattle.rx_dense_image.specs.Rows.{AreReadRows, AreWords, Rows, cleared, cleared_words_at, fits_stride}
-use Rattle.rx_dense_image.specs.Rows.{rows_at, rows_text, word_at, words_at, words_of, words_text}
+use Rattle.rx_dense_image.specs.Rows.{AreReadRows, AreWords, Rows, cleared, cleared_words_at, rows_at, rows_text}
+use Rattle.rx_dense_image.specs.Rows.{word_at, words_at, words_of, words_text}
 use Rattle.rx_dense_image.proofs.EachBelow.{and_of}
 use Rattle.rx_dense_image.proofs.ImageLengths.{length-words}
 use Rattle.rx_dense_image.proofs.Strides.{classes_pass}
@@ -54,23 +53,17 @@ pub head_again : (label : List ℕ) → IsLabel label → (order : Order) (flags
     → Reads (head_at label) (head_text order label flags) (flags, order)
 unfolding head_at
 head_again label h order flags rest =
-    let word : ℕ = flags_word flags in
-    let small : word < 2 ^ 32 = flags_small flags.has_empty flags.is_utf8 flags.is_always_start_anchored in
-    let t4 : List ℕ = field order w32 word ++ rest in
-    let t3 : List ℕ = field order w32 0 ++ t4 in
-    let t2 : List ℕ = field order w32 2 ++ t3 in
-    let t1 : List ℕ = field order w32 endianness_word ++ t2 in
-    let regrouped : head_text order label flags ++ rest ≡ label_text label ++ t1 = simp append_assoc refl in
-    ap (head_at label) regrouped
-    ∙ rw (
-      label_again label h t1,
-      order_again order t2,
-      version_again 2 order (omega arith) t3,
-      u32_again order 0 (omega arith) t4,
-      u32_again order word small rest,
-      flags_again flags.has_empty flags.is_utf8 flags.is_always_start_anchored,
+    grind (
+      arith,
+      common_steps,
+      flags_small,
+      append_assoc,
+      label_again,
+      order_again,
+      version_again,
+      u32_again,
+      flags_again,
     )
-    refl
 
 is_label : IsLabel dense_label
 is_label = record { short = omega arith; text = search rules }
@@ -132,11 +125,7 @@ words_again order words small rest =
     rw (front_again order words rest, ← same) refl
 
 cleared_word : (stride alphabet k word : ℕ) → (alphabet ≤ k % stride → word ≡ 0) → word ≡ cleared stride alphabet k word
-cleared_word stride alphabet k word padded =
-    elim (cases_lt (k % stride) alphabet) [
-      | inl within ↦ rw (lt-ltb _ _ within) refl
-      | inr past ↦ rw (le-ltb _ _ past) (padded past)
-    ]
+cleared_word stride alphabet k word padded = grind (arith, common_steps, cases_lt, lt-ltb, le-ltb)
 
 cleared_words_again : (order : Order) (stride alphabet : ℕ) (words : List ℕ) → AreWords words
     → ((k : ℕ) → k < length words → alphabet ≤ k % stride → slice_index words k ≡ 0)
@@ -158,28 +147,15 @@ pub rows_again : (order : Order) (rows : Rows) → AreReadRows rows → AreWords
     → Reads (rows_at order) (rows_text order rows) rows
 unfolding rows_at
 rows_again order rows h small rest =
-    let stride : ℕ = 2 ^ rows.stride2 in
-    let count : ℕ = length rows.words / stride in
-    let t3 : List ℕ = words_text order rows.words ++ rest in
-    let t2 : List ℕ = rows.classes ++ t3 in
-    let t1 : List ℕ = field order w32 rows.stride2 ++ t2 in
-    let regrouped : rows_text order rows ++ rest ≡ field order w32 count ++ t1 = simp append_assoc refl in
-    let classes : bytes_at 256 t2 ≡ Ok (rows.classes, t3) =
-    subst (λ (n : ℕ). bytes_at n t2 ≡ Ok (rows.classes, t3)) h.classes.count (bytes_again rows.classes t3) in
-    let fits : fits_stride rows.stride2 rows.classes ≡ true =
-    and_of _ _ (and_of _ _ (le-leb _ _ h.some) (le-leb _ _ h.exponent)) (le-leb _ _ h.fits) in
-    let words : cleared_words_at order stride (alphabet_len rows.classes) (count * stride) t3 ≡ Ok (rows.words, rest) =
-    subst
-    (λ (n : ℕ). cleared_words_at order stride (alphabet_len rows.classes) n t3 ≡ Ok (rows.words, rest))
-    (sym (quotient (length rows.words) stride h.whole))
-    (cleared_words_again order stride (alphabet_len rows.classes) rows.words small h.padded.zero rest) in
-    ap (rows_at order) regrouped
-    ∙ rw (
-      u32_again order count h.few t1,
-      u32_again order rows.stride2 (omega (arith, h.exponent)) t2,
-      classes,
-      classes_pass rows.classes h.classes,
-      fits,
-      words,
+    grind (
+      arith,
+      common_steps,
+      append_assoc,
+      bytes_again,
+      and_of,
+      le-leb,
+      quotient,
+      cleared_words_again,
+      u32_again,
+      classes_pass,
     )
-    refl

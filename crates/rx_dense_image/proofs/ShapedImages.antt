@@ -1,11 +1,12 @@
 -- A layout that is read and closed has the shape of every dense table.
-use Rattle.std.proofs.Common.{◌≡◌, ℕ, ◌+◌, ◌*◌, ◌/◌, ◌%◌, ◌<◌, ◌≤◌, not, ltb, eqb, Option, Some, None}
-use Rattle.std.proofs.Common.{length, slice_index, sym, subst, arith}
+use Rattle.std.proofs.lemmas.Grind.{common_steps}
+use Rattle.std.proofs.Common.{◌≡◌, ℕ, ◌+◌, ◌*◌, ◌/◌, ◌%◌, ◌<◌, ◌≤◌, not, ltb, eqb, Option, Some, None, length}
+use Rattle.std.proofs.Common.{slice_index, sym, subst, arith}
 use Rattle.std.proofs.lemmas.Bool.{and_parts, leb-true}
 use Rattle.std.proofs.lemmas.Nat.{mul-le}
 use Rattle.rx_spec.specs.Causes.{id_count, max_id}
-use Rattle.rx_dense.specs.Layouts.{AreLists, AreRows, AreStarts, IsRowId, IsShaped, Layout, is_row_id}
-use Rattle.rx_dense.specs.Layouts.{start_entries, stride}
+use Rattle.rx_dense.specs.Layouts.{AreLists, AreRows, AreStarts, IsRowId, IsShaped, Layout, is_row_id, start_entries}
+use Rattle.rx_dense.specs.Layouts.{stride}
 use Rattle.rx_dense.proofs.Rows.{quotient}
 use Rattle.rx_dense_image.specs.StartTables.{IsAtMost}
 use Rattle.rx_dense_image.specs.Images.{IsRead, IsWhole}
@@ -13,8 +14,7 @@ use Rattle.rx_dense_image.proofs.AccelRows.{row_id_of}
 use Rattle.rx_dense_image.proofs.ClosedFacts.{AreClosed, closed}
 
 two_rows : (n s : ℕ) → n % s ≡ 0 → 2 ≤ n / s → 2 * s ≤ n
-two_rows n s whole two =
-    let same : s ≤ s = omega arith in omega (arith, quotient n s whole, mul-le 2 s (n / s) s two same)
+two_rows n s whole two = grind (arith, common_steps, quotient, mul-le)
 
 few_starts : (o : Option ℕ) → IsAtMost id_count o → start_entries o ≤ 12 + 6 * (max_id + 1)
 few_starts None most = omega arith

@@ -1,15 +1,15 @@
 -- A layout that is read and closed is a sound table.
+use Rattle.std.proofs.lemmas.Grind.{common_steps}
 use Rattle.std.proofs.Common.{◌≡◌, ◌≢◌, ℕ, ◌+◌, ◌-◌, ◌*◌, ◌/◌, ◌%◌, ◌<◌, ◌≤◌, ◌&&◌, ◌||◌, not, Bool, true, false, cond}
-use Rattle.std.proofs.Common.{ltb}
-use Rattle.std.proofs.Common.{leb, eqb, Option, Some, None, List, [], length, drop, get_or, slice_index}
-use Rattle.std.proofs.Common.{Contains, refl, sym, ap, subst, ◌∙◌, arith, inl, inr}
+use Rattle.std.proofs.Common.{ltb, leb, eqb, Option, Some, None, List, [], length, drop, get_or, slice_index, Contains}
+use Rattle.std.proofs.Common.{refl, sym, ap, subst, ◌∙◌, arith, inl, inr}
 use Rattle.std.specs.Prelude.{Result, Ok, Err, IfOk}
 use Rattle.std.specs.Cmp.{both_ways}
 use Rattle.std.specs.List.{list_all, range_with_len}
 use Rattle.std.specs.Str.{bytes_eq}
 use Rattle.std.proofs.Math.Nat.{mul-div_cancel}
-use Rattle.std.proofs.lemmas.Bool.{and_parts, cases_lt, cases_eq, eq-eqb, eqb-true, le-leb, le-ltb, leb-true}
-use Rattle.std.proofs.lemmas.Bool.{lt-ltb, ltb-true, ne_eqb}
+use Rattle.std.proofs.lemmas.Bool.{and_parts, cases_lt, cases_eq, eq-eqb, eqb-true, le-leb, le-ltb, leb-true, lt-ltb}
+use Rattle.std.proofs.lemmas.Bool.{ltb-true, ne_eqb}
 use Rattle.std.proofs.lemmas.List.{get_or-take, length-drop, length-take}
 use Rattle.std.proofs.lemmas.List.Elements.{All-contains}
 use Rattle.std.proofs.lemmas.List.Sums.{AllPass-from_list_all}
@@ -23,19 +23,16 @@ use Rattle.lemmas_tables.proofs.Filters.{every_in_range, filter_alike}
 use Rattle.rx_base.specs.ByteClasses.{alphabet_len}
 use Rattle.rx_dense.specs.Specials.{is_accel_id, is_in_range, is_match_id, is_quit_id, is_start_id}
 use Rattle.rx_dense.specs.Layouts.{IsRowId, IsShaped, Layout, column, context_number, is_row_id, label_of_id}
-use Rattle.rx_dense.specs.Layouts.{machine_of}
-use Rattle.rx_dense.specs.Layouts.{mode_place, needles_of_id, next_id, patterns_at, place_in_range, row_count}
-use Rattle.rx_dense.specs.Layouts.{start_entries, start_id}
-use Rattle.rx_dense.specs.Layouts.{stride, table_of, universal_row}
+use Rattle.rx_dense.specs.Layouts.{machine_of, mode_place, needles_of_id, next_id, patterns_at, place_in_range}
+use Rattle.rx_dense.specs.Layouts.{row_count, start_id, stride, table_of, universal_row}
 use Rattle.rx_dense.proofs.Rows.{IsRowId-row, column_within, quotient, row-below, start_within, valid_id}
 use Rattle.rx_dense_image.specs.Marks.{is_range}
 use Rattle.rx_dense_image.specs.Closing.{has_needles, is_list, is_named, leaves, leaving_id, range_len}
 use Rattle.rx_dense_image.specs.Images.{IsRead, IsWhole}
 use Rattle.rx_dense_image.proofs.EachBelow.{cases_bool}
 use Rattle.rx_dense_image.proofs.SpecialTests.{accel_range, alike, and_never, label_by, lists_by, match_range}
-use Rattle.rx_dense_image.proofs.SpecialTests.{matches_by}
-use Rattle.rx_dense_image.proofs.SpecialTests.{named_few, no_match, not_true, plain_by, quits_by, quits_only_by}
-use Rattle.rx_dense_image.proofs.SpecialTests.{range_begins, within_of}
+use Rattle.rx_dense_image.proofs.SpecialTests.{matches_by, named_few, no_match, not_true, plain_by, quits_by}
+use Rattle.rx_dense_image.proofs.SpecialTests.{quits_only_by, range_begins, within_of}
 use Rattle.rx_dense_image.proofs.ClosedFacts.{AreClosed, closed}
 use Rattle.rx_dense_image.proofs.ShapedImages.{shaped_of}
 use Rattle.rx_dense_image.proofs.LeavingBytes.{leaving_is}
@@ -69,11 +66,7 @@ module _ (l : Layout) (read : IsRead l) (facts : AreClosed l) where
   }
 
   zero_label : label_of_id l 0 ≡ Label.Plain
-  zero_label =
-      is_label l 0
-      ∙ plain_by (is_match_id l.special 0) (is_quit_id l.special 0) _
-      (no_match l.special read.marks.special 0 (omega arith))
-      (and_never (eqb 0 l.special.quit))
+  zero_label = grind (arith, common_steps, is_label, plain_by, no_match, and_never)
 
   -- a word of the first two rows
   dead_word : (k : ℕ) → k < 2 * stride l → slice_index l.words k ≡ 0
@@ -197,22 +190,10 @@ module _ (l : Layout) (read : IsRead l) (facts : AreClosed l) where
       sym (mul-div_cancel row some) ∙ ap (λ (n : ℕ). n / stride l) (e ∙ sym one) ∙ mul-div_cancel 1 some
 
   quit_label_is : label_of_id l (1 * stride l) ≡ Label.Quits
-  quit_label_is =
-      let one : 1 * stride l ≡ stride l = omega arith in
-      let same : eqb (stride l) l.special.quit ≡ true = eq-eqb _ _ (sym facts.special.quit) in
-      let there : eqb (stride l) 0 ≡ false = ne_eqb (stride l) 0 (λ e. absurd (omega (arith, some, e))) in
-      let quits : is_quit_id l.special (stride l) ≡ true = rw (same, there) refl in
-      ap (label_of_id l) one
-      ∙ is_label l (stride l)
-      ∙ quits_by (is_match_id l.special (stride l)) (is_quit_id l.special (stride l)) _
-      (no_match l.special read.marks.special (stride l) (omega (arith, facts.special.quit))) quits
+  quit_label_is = grind (arith, common_steps, eq-eqb, ne_eqb, some, is_label, quits_by, no_match)
 
   quits_only : (row : ℕ) → label_of_id l (row * stride l) ≡ Label.Quits → row ≡ 1
-  quits_only row e =
-      let id : ℕ = row * stride l in
-      let quits = quits_only_by (is_match_id l.special id) (is_quit_id l.special id) _ (sym (is_label l id) ∙ e) in
-      let same = eqb-true _ _ (and_parts (eqb id l.special.quit) (not (eqb id 0)) quits).0 in
-      row_one row (same ∙ facts.special.quit)
+  quits_only row e = grind (arith, common_steps, quits_only_by, is_label, eqb-true, and_parts, row_one)
 
   -- the place of a row in a range is below how many rows the range has
   range_place : (first last id : ℕ) → is_range first last ≡ true → is_in_range first last id ≡ true
@@ -294,10 +275,7 @@ module _ (l : Layout) (read : IsRead l) (facts : AreClosed l) where
   -- the needles that are kept for an accelerated row
   kept_needles : (row : ℕ) → is_accel_id l.special (row * stride l) ≡ true → needles_of_id l (row * stride l)
       ≡ get_or l.accels (place_in_range l l.special.min_accel (row * stride l)) []
-  kept_needles row test =
-      ap
-      (λ (b : Bool).
-      cond b (get_or l.accels (place_in_range l l.special.min_accel (row * stride l)) []) []) test
+  kept_needles row test = grind (arith, common_steps)
 
   accel_id_is : (row : ℕ) → is_accel_id l.special (row * stride l) ≡ true
       → l.special.min_accel + place_in_range l l.special.min_accel (row * stride l) * stride l ≡ row * stride l
@@ -408,12 +386,7 @@ module _ (l : Layout) (read : IsRead l) (facts : AreClosed l) where
 
   past_last_of : (n k : ℕ) (start : Start) → l.pattern_starts ≡ Some n → n ≤ k
       → start_id l (Anchored.Pattern k) start / stride l ≡ 0
-  past_last_of n k start e le =
-      let len : length l.starts ≡ 12 + 6 * n =
-      shape.starts.count ∙ ap (λ (o : Option ℕ). start_entries o) e in
-      let past : ltb (12 + 6 * k) (length l.starts) ≡ false = le-ltb _ _ (omega (arith, le, len)) in
-      zero_over (start_id l (Anchored.Pattern k) start)
-      (ap (λ (b : Bool). cond b (slice_index l.starts (12 + 6 * k + context_number start)) 0) past)
+  past_last_of n k start e le = grind (arith, common_steps, le-ltb, zero_over)
 
   is_table_of : IsTable (table_of l)
   is_table_of = record {

@@ -1,10 +1,10 @@
 -- What the tests of special ids say: of the label of a row, and of the rows in a range.
-use Rattle.std.proofs.Common.{◌≡◌, ℕ, ◌<◌, ◌≤◌, ◌&&◌, ◌||◌, not, Bool, true, false, cond, ltb, leb, eqb, List, refl}
-use Rattle.std.proofs.Common.{sym, ap, ◌∙◌, arith, inl, inr}
+use Rattle.std.proofs.lemmas.Grind.{common_steps}
+use Rattle.std.proofs.Common.{◌≡◌, ℕ, ◌<◌, ◌≤◌, ◌&&◌, ◌||◌, not, Bool, true, false, cond, leb, List, refl, arith}
 use Rattle.std.proofs.lemmas.Bool.{and_parts, cases_eq, eq-eqb, eqb-true, leb-true, ltb-true, ne_eqb}
 use Rattle.rx_spec.specs.Machines.{Label}
 use Rattle.rx_spec.specs.Tables.{is_match_label}
-use Rattle.rx_dense.specs.Specials.{greatest, is_accel_id, is_in_range, is_match_id}
+use Rattle.rx_dense.specs.Specials.{greatest, is_in_range, is_match_id}
 use Rattle.rx_dense.specs.declared.special.Special.{Special}
 use Rattle.rx_dense_image.specs.Closing.{is_named}
 use Rattle.rx_dense_image.specs.Marks.{are_past_quit, are_ranges, are_special, begin_in_order, is_past_quit, is_range}
@@ -62,30 +62,15 @@ pub record IsWithin (first last id : ℕ) : Type 0 where
   pub some : 0 < id
 
 pub within_of : (first last id : ℕ) → is_in_range first last id ≡ true → IsWithin first last id
-within_of first last id test =
-    let outer = and_parts _ (not (eqb id 0)) test in
-    let inner = and_parts (leb first id) (leb id last) outer.0 in
-    record { from = leb-true _ _ inner.0; to = leb-true _ _ inner.1; some = above id outer.1 }
-  where
-    above : (id : ℕ) → not (eqb id 0) ≡ true → 0 < id
-    above id h = grind arith
+within_of first last id test = grind (arith, common_steps, and_parts, leb-true)
 
 -- a range that has an id begins above 0
 pub range_begins : (first last : ℕ) → is_range first last ≡ true → 0 < last → 0 < first
-range_begins first last test some =
-    elim (cases_eq first 0) [
-      | inl none ↦ (
-          let e : eqb last 0 ≡ true = sym (ap (λ (b : Bool). cond b (eqb last 0) (leb first last)) (eq-eqb _ _ none))
-          ∙ test in
-          absurd (omega (arith, some, eqb-true _ _ e)))
-      | inr there ↦ (omega (arith, there))
-    ]
+range_begins first last test some = grind (arith, common_steps, cases_eq, eq-eqb, eqb-true)
 
 -- and past quit
 pub past_quit : (quit first : ℕ) → is_past_quit quit first ≡ true → 0 < first → quit < first
-past_quit quit first test some =
-    let none : eqb first 0 ≡ false = ne_eqb first 0 (λ e. absurd (omega (arith, some, e))) in
-    ltb-true _ _ (sym (ap (λ (b : Bool). b || ltb quit first) none) ∙ test)
+past_quit quit first test some = grind (arith, common_steps, ne_eqb, ltb-true)
 
 -- ---- special ids that pass the test
 
@@ -112,39 +97,15 @@ module _ (s : Special) (test : are_special s ≡ true) where
   accel_range = (and_parts (is_range s.min_match s.max_match) (is_range s.min_accel s.max_accel) first_ranges).1
 
   match_past : is_past_quit s.quit s.min_match ≡ true
-  match_past =
-      (and_parts (is_past_quit s.quit s.min_match) (is_past_quit s.quit s.min_accel)
-      (and_parts _ (is_past_quit s.quit s.min_start) pasts).0).0
+  match_past = grind (arith, common_steps, and_parts, pasts)
 
   -- dead and quit are no match rows
   pub no_match : (id : ℕ) → id ≤ s.quit → is_match_id s id ≡ false
-  no_match id le =
-      false_of (is_match_id s id) (λ in_range.
-      let h = within_of s.min_match s.max_match id in_range in
-      let first = range_begins s.min_match s.max_match match_range (omega (arith, h.some, h.to)) in
-      let past = past_quit s.quit s.min_match match_past first in
-      absurd (omega (arith, past, h.from, le)))
+  no_match id le = grind (arith, common_steps, false_of, within_of, range_begins, match_range, past_quit, match_past)
 
   -- a named id is at most the greatest
   pub named_few : (id : ℕ) → is_named s id ≡ true → id ≤ s.max
-  named_few id e =
-      elim (cases_bool (eqb id 0)) [
-        | inl zero ↦ (omega (arith, eqb-true _ _ zero))
-        | inr a ↦ (elim (cases_bool (eqb id s.quit)) [
-          | inl quit ↦ (omega (arith, eqb-true _ _ quit, most))
-          | inr b ↦ (elim (cases_bool (is_match_id s id)) [
-            | inl m ↦ (omega (arith, (within_of _ _ id m).to, most))
-            | inr c ↦ (elim (cases_bool (is_accel_id s id)) [
-              | inl m ↦ (omega (arith, (within_of _ _ id m).to, most))
-              | inr d ↦ (omega (arith, (within_of _ _ id (last_of a b c d e)).to, most))
-            ])
-          ])
-        ])
-      ]
-    where
-      last_of : {a b c d f : Bool} → a ≡ false → b ≡ false → c ≡ false → d ≡ false
-          → (a || b || c || d || f) ≡ true → f ≡ true
-      last_of p q r t h = cc
+  named_few id e = grind (arith, common_steps, cases_bool, eqb-true, most, within_of)
 
 -- tests of equal parts
 pub alike : {a b c d e f : Bool} → a ≡ b → c ≡ d → e ≡ f → (g h : Bool)

@@ -1,6 +1,7 @@
 -- Lists of pattern ids, tested by counts of numbers that are no ids of patterns.
+use Rattle.std.proofs.lemmas.Grind.{common_steps}
 use Rattle.std.proofs.Common.{◌≡◌, ℕ, ◌+◌, ◌*◌, ◌<◌, ◌≤◌, Bool, true, false, cond, not, ◌&&◌, ltb, leb, eqb, List, []}
-use Rattle.std.proofs.Common.{◌∷◌, length, take, drop, refl, ap, ap₂, slice_index, ◌∙◌, arith}
+use Rattle.std.proofs.Common.{◌∷◌, length, take, drop, refl, ap₂, slice_index, ◌∙◌, arith}
 use Rattle.std.specs.List.{list_all}
 use Rattle.std.proofs.Math.Seq.{take-add}
 use Rattle.std.proofs.lemmas.Bool.{lt-ltb, ne_eqb, le-leb}
@@ -10,23 +11,16 @@ use Rattle.rx_dense.specs.Layouts.{Layout}
 use Rattle.rx_dense_image.specs.Closing.{is_list}
 use Rattle.rx_dense_image.specs.Counts.{is_stranger, strangers}
 
-one_or_none : (b : Bool) → eqb (cond b 1 0) 0 ≡ not b
-one_or_none true = refl
-one_or_none false = refl
-
 no_stranger : (n id : ℕ) → eqb (cond (is_stranger n id) 1 0) 0 ≡ ltb id n
 no_stranger n id = grind arith
 
 all_same : (p q : ℕ → Bool) → ((x : ℕ) → p x ≡ q x) → (xs : List ℕ) → list_all p xs ≡ list_all q xs
 all_same p q same [] = refl
-all_same p q same (x ∷ xs) =
-    ap (λ (b : Bool). b && list_all p xs) (same x) ∙ ap (λ (b : Bool). q x && b) (all_same p q same xs)
+all_same p q same (x ∷ xs) = grind (arith, common_steps)
 
 -- no stranger is counted where all are ids of patterns
 pub none_counted : (n : ℕ) (ids : List ℕ) → eqb (strangers n ids) 0 ≡ list_all (λ id. ltb id n) ids
-none_counted n ids =
-    sum_by-zero (λ id. cond (is_stranger n id) 1 0) ids
-    ∙ all_same (λ id. eqb (cond (is_stranger n id) 1 0) 0) (λ id. ltb id n) (no_stranger n) ids
+none_counted n ids = grind (arith, common_steps, sum_by-zero, all_same, no_stranger)
 
 same_more : (a b : ℕ) → eqb a (a + b) ≡ eqb b 0
 same_more a b = grind arith
@@ -35,14 +29,7 @@ same_more a b = grind arith
 pub counts_same : (n first len : ℕ) (ids : List ℕ)
     → eqb (strangers n (take first ids)) (strangers n (take (first + len) ids))
     ≡ list_all (λ id. ltb id n) (take len (drop first ids))
-counts_same n first len ids =
-    let f : ℕ → ℕ = λ id. cond (is_stranger n id) 1 0 in
-    let both : strangers n (take (first + len) ids)
-    ≡ strangers n (take first ids) + strangers n (take len (drop first ids)) =
-    ap (strangers n) (take-add first len ids) ∙ sum_by-append f (take first ids) (take len (drop first ids)) in
-    ap (λ (m : ℕ). eqb (strangers n (take first ids)) m) both
-    ∙ same_more (strangers n (take first ids)) (strangers n (take len (drop first ids)))
-    ∙ none_counted n (take len (drop first ids))
+counts_same n first len ids = grind (arith, common_steps, take-add, sum_by-append, same_more, none_counted)
 
 -- ---- the list of a match row
 

@@ -1,7 +1,7 @@
 -- Strides, and classes.
-use Rattle.std.proofs.Common.{◌≡◌, ℕ, ◌^◌, ◌%◌, ◌*◌, ◌<◌, ◌≤◌, ◌+◌, ◌==◌, Bool, true, false, List, length, slice_index}
-use Rattle.std.proofs.Common.{arith}
-use Rattle.std.proofs.Common.{sym, subst, is_some, Option, Some, None, IsSome, ◌↔◌, refl}
+use Rattle.std.proofs.lemmas.Grind.{common_steps}
+use Rattle.std.proofs.Common.{◌≡◌, ℕ, ◌^◌, ◌%◌, ◌*◌, ◌≤◌, ◌+◌, ◌==◌, Bool, true, false, List, length, slice_index}
+use Rattle.std.proofs.Common.{arith, sym, is_some, Option, Some, None, IsSome, ◌↔◌, refl}
 use Rattle.std.specs.List.{list_all, range_with_len}
 use Rattle.std.proofs.Math.Nat.{pow-le-pow_right}
 use Rattle.std.proofs.lemmas.Bool.{and_parts, eq-eqb, eqb-true}
@@ -11,9 +11,7 @@ use Rattle.rx_dense_image.specs.Rows.{are_classes, follows}
 use Rattle.rx_dense_image.proofs.EachBelow.{all_at, all_of, and_of}
 
 pub shifted_few : (s : ℕ) → s ≤ 9 → 1 * 2 ^ s % 18446744073709551616 ≤ 512
-shifted_few s h =
-    let few : 2 ^ s ≤ 512 = pow-le-pow_right (let some : 0 < 2 = omega arith in some) h in
-    subst (λ (n : ℕ). n ≤ 512) (sym (one_shl s 64 (omega arith))) few
+shifted_few s h = grind (arith, common_steps, pow-le-pow_right, one_shl)
 
 -- ---- the test of classes
 

@@ -1,6 +1,7 @@
 -- What was written is read again: start tables, and the lists of match rows.
-use Rattle.std.proofs.Common.{◌≡◌, ℕ, ◌*◌, ◌/◌, ◌%◌, ◌<◌, ◌≤◌, true, false, ltb, leb, eqb, Option, Some, None}
-use Rattle.std.proofs.Common.{List, [], ◌∷◌, ◌++◌, length, map, Ok, refl, ap, subst, ◌∙◌, append_assoc, arith}
+use Rattle.std.proofs.lemmas.Grind.{common_steps}
+use Rattle.std.proofs.Common.{◌≡◌, ℕ, ◌*◌, ◌/◌, ◌%◌, ◌<◌, ◌≤◌, true, false, ltb, eqb, Option, Some, None, List, [], ◌∷◌}
+use Rattle.std.proofs.Common.{◌++◌, length, map, Ok, refl, ap, subst, ◌∙◌, append_assoc, arith}
 use Rattle.std.specs.List.{list_all}
 use Rattle.std.specs.Int.{w32}
 use Rattle.std.proofs.lemmas.List.{length-map}
@@ -15,8 +16,7 @@ use Rattle.rx_wire.proofs.Fields.{bytes_again, u32_again}
 use Rattle.rx_dense.specs.Layouts.{context_number, start_entries}
 use Rattle.rx_dense_image.specs.Rows.{AreWords, words_at, words_text}
 use Rattle.rx_dense_image.specs.StartTables.{IsAtMost, IsReadStartTable, StartTable, context_count, context_count_at}
-use Rattle.rx_dense_image.specs.StartTables.{context_of}
-use Rattle.rx_dense_image.specs.StartTables.{contexts_at, kind_number, number_or_none, pattern_starts_at}
+use Rattle.rx_dense_image.specs.StartTables.{context_of, contexts_at, kind_number, number_or_none, pattern_starts_at}
 use Rattle.rx_dense_image.specs.StartTables.{start_kind_at, start_kinds_at, start_table_at, start_table_text}
 use Rattle.rx_dense_image.specs.StartTables.{universal_at}
 use Rattle.rx_dense_image.specs.PatternLists.{AreReadLists, PatternLists, pattern_len_at, pattern_lists_at}
@@ -43,19 +43,13 @@ pattern_starts_again : (order : Order) (o : Option ℕ) → IsAtMost id_count o
     → Reads (pattern_starts_at order) (field order w32 (number_or_none o)) o
 unfolding pattern_starts_at
 pattern_starts_again order None most rest = rw (u32_again order 4294967295 (omega arith) rest) refl
-pattern_starts_again order (Some n) most rest =
-    let other : eqb n 4294967295 ≡ false = apart n 4294967295 (omega (arith, most)) in
-    let few : leb n id_count ≡ true = le-leb n id_count most in
-    rw (u32_again order n (omega (arith, most)) rest, other, few) refl
+pattern_starts_again order (Some n) most rest = grind (arith, common_steps, apart, le-leb, u32_again)
 
 universal_again : (order : Order) (o : Option ℕ) → IsAtMost max_id o
     → Reads (universal_at order) (field order w32 (number_or_none o)) o
 unfolding universal_at
 universal_again order None most rest = rw (u32_again order 4294967295 (omega arith) rest) refl
-universal_again order (Some n) most rest =
-    let other : eqb n 4294967295 ≡ false = apart n 4294967295 (omega (arith, most)) in
-    let few : leb n max_id ≡ true = le-leb n max_id most in
-    rw (u32_again order n (omega (arith, most)) rest, other, few) refl
+universal_again order (Some n) most rest = grind (arith, common_steps, apart, le-leb, u32_again)
 
 -- ---- contexts
 
@@ -103,17 +97,7 @@ start_kinds_again : (order : Order) (kind : StartKind) (contexts : List Start) �
     (kind, contexts)
 unfolding start_kinds_at
 start_kinds_again order kind contexts len rest =
-    let t2 : List ℕ = field order w32 context_count ++ rest in
-    let t1 : List ℕ = map context_number contexts ++ t2 in
-    let regrouped : (field order w32 (kind_number kind)
-    ++ (map context_number contexts ++ field order w32 context_count)) ++ rest
-    ≡ field order w32 (kind_number kind) ++ t1 =
-    append_assoc (field order w32 (kind_number kind)) (map context_number contexts ++ field order w32 context_count)
-    rest
-    ∙ ap (λ (t : List ℕ). field order w32 (kind_number kind) ++ t)
-    (append_assoc (map context_number contexts) (field order w32 context_count) rest) in
-    ap (start_kinds_at order) regrouped
-    ∙ rw (start_kind_again order kind t1, contexts_again contexts len t2, context_count_again order rest) refl
+    grind (arith, common_steps, append_assoc, start_kind_again, contexts_again, context_count_again)
 
 pub start_table_again : (order : Order) (table : StartTable) → IsReadStartTable table → AreWords table.starts
     → Reads (start_table_at order) (start_table_text order table) table
@@ -144,9 +128,7 @@ start_table_again order table h small rest =
 
 pattern_len_again : (order : Order) (n : ℕ) → n ≤ id_count → Reads (pattern_len_at order) (field order w32 n) n
 unfolding pattern_len_at
-pattern_len_again order n most rest =
-    let few : leb n id_count ≡ true = le-leb n id_count most in
-    rw (u32_again order n (omega (arith, most)) rest, few) refl
+pattern_len_again order n most rest = grind (arith, common_steps, le-leb, u32_again)
 
 pairs_whole : (n : ℕ) → n % 2 ≡ 0 → n ≡ 2 * (n / 2)
 pairs_whole n h = omega (arith, h)
@@ -155,21 +137,4 @@ pub pattern_lists_again : (order : Order) (lists : PatternLists) → AreReadList
     → Reads (pattern_lists_at order) (pattern_lists_text order lists) lists
 unfolding pattern_lists_at
 pattern_lists_again order lists h rest =
-    let rows : ℕ = length lists.slices / 2 in
-    let t4 : List ℕ = words_text order lists.pattern_ids ++ rest in
-    let t3 : List ℕ = field order w32 (length lists.pattern_ids) ++ t4 in
-    let t2 : List ℕ = field order w32 lists.pattern_len ++ t3 in
-    let t1 : List ℕ = words_text order lists.slices ++ t2 in
-    let regrouped : pattern_lists_text order lists ++ rest ≡ field order w32 rows ++ t1 = simp append_assoc refl in
-    let slices : words_at order (2 * rows) t1 ≡ Ok (lists.slices, t2) =
-    subst (λ (n : ℕ). words_at order n t1 ≡ Ok (lists.slices, t2)) (pairs_whole (length lists.slices) h.pairs)
-    (words_again order lists.slices h.words t2) in
-    ap (pattern_lists_at order) regrouped
-    ∙ rw (
-      u32_again order rows (omega (arith, h.few_rows)) t1,
-      slices,
-      pattern_len_again order lists.pattern_len h.few_patterns t3,
-      u32_again order (length lists.pattern_ids) h.few t4,
-      words_again order lists.pattern_ids h.ids rest,
-    )
-    refl
+    grind (arith, common_steps, append_assoc, pairs_whole, words_again, u32_again, pattern_len_again)

@@ -1,6 +1,7 @@
 -- A whole image is read again, in either order, whatever follows, and its length is told.
-use Rattle.std.proofs.Common.{◌≡◌, ℕ, ◌+◌, ◌-◌, ◌^◌, ◌<◌, ◌≤◌, true, List, ◌++◌, length, slice_index, Ok}
-use Rattle.std.proofs.Common.{refl, sym, ap, subst, ◌∙◌, append_assoc, arith, inl, inr}
+use Rattle.std.proofs.lemmas.Grind.{common_steps}
+use Rattle.std.proofs.Common.{◌≡◌, ℕ, ◌+◌, ◌-◌, ◌^◌, ◌<◌, ◌≤◌, true, List, ◌++◌, length, slice_index, Ok, refl, sym, ap}
+use Rattle.std.proofs.Common.{subst, ◌∙◌, append_assoc, arith, inl, inr}
 use Rattle.std.proofs.lemmas.Bool.{cases_lt}
 use Rattle.std.proofs.lemmas.List.{get_or_past, length-append}
 use Rattle.rx_spec.specs.Causes.{max_id}
@@ -36,20 +37,7 @@ special_few : (l : Layout) → AreRows l → (id : ℕ) → is_row_id l id ≡ t
 special_few l rows id test = id_few l rows id (valid_id l rows id test)
 
 special_ids : (l : Layout) → AreRows l → AreSpecialRows l → AreSpecialIds l.special
-special_ids l rows h = record {
-  max = special_few l rows l.special.max h.max;
-  quit =
-      (let two = rows.two in
-      let few = rows.few in
-      let quit = h.quit in
-      omega arith);
-  min_match = special_few l rows l.special.min_match h.min_match;
-  max_match = special_few l rows l.special.max_match h.max_match;
-  min_accel = special_few l rows l.special.min_accel h.min_accel;
-  max_accel = special_few l rows l.special.max_accel h.max_accel;
-  min_start = special_few l rows l.special.min_start h.min_start;
-  max_start = special_few l rows l.special.max_start h.max_start;
-}
+special_ids l rows h = grind (arith, common_steps, special_few)
 
 -- ---- the parts, one after another
 
@@ -120,8 +108,4 @@ left_of a b = omega arith
 pub whole_again : (order : Order) (l : Layout) → IsWhole l → (rest : List ℕ)
     → reads (text order l ++ rest) ≡ Ok (l, length (text order l))
 unfolding reads
-whole_again order l whole rest =
-    let size : length (text order l ++ rest) - length rest ≡ length (text order l) =
-    ap (λ (n : ℕ). n - length rest) (length-append (text order l) rest)
-    ∙ left_of (length (text order l)) (length rest) in
-    rw (parts_again order l whole rest, whole.closed, size) refl
+whole_again order l whole rest = grind (arith, common_steps, length-append, left_of, parts_again)

@@ -1,6 +1,7 @@
 -- Entering a state: what is kept where it is new, and what its size passes.
-use Rattle.std.proofs.Common.{◌≡◌, ◌≢◌, ℕ, ◌+◌, ◌*◌, ◌/◌, ◌<◌, true, List, [], ◌∷◌, ◌++◌}
-use Rattle.std.proofs.Common.{length, get_or, length-append, refl, ap, sym, ◌∙◌, subst, arith}
+use Rattle.std.proofs.lemmas.Grind.{common_steps}
+use Rattle.std.proofs.Common.{◌≡◌, ◌≢◌, ℕ, ◌+◌, ◌*◌, ◌/◌, ◌<◌, true, List, [], ◌∷◌, ◌++◌, length, get_or, length-append}
+use Rattle.std.proofs.Common.{refl, ap, sym, ◌∙◌, subst, arith}
 use Rattle.std.proofs.lemmas.List.{length-map, map-append, length_push, get_or-map, get_or_default, length-replicate}
 use Rattle.std.proofs.Math.Nat.{mul-le-mul_left}
 use Rattle.std.proofs.lemmas.Nat.{div-mul-add, pow_pos, div-add-mod'}
@@ -75,15 +76,10 @@ module _ {k : Keying} {limits : SizeLimits} {met : Met} {l : Layout} {key : List
       (All-nil (λ j. IsReached k.build (k.state_of j))))
 
   pub size_is : (met_with k met key).size ≡ determinizer_size (states_of k (met_with k met key))
-  size_is =
-      ap (λ n. n + state_size (k.state_of key)) working.size
-      ∙ sym (sum_by_push state_size (states_of k met) (k.state_of key)) ∙ ap determinizer_size (sym all_states)
+  size_is = grind (arith, common_steps, sum_by_push, all_states)
 
   pub patterns_are : (met_with k met key).patterns ≡ label_total (states_of k (met_with k met key))
-  patterns_are =
-      ap (λ n. n + length (k.state_of key).label) working.patterns
-      ∙ sym (sum_by_push (λ (s : State). length s.label) (states_of k met) (k.state_of key))
-      ∙ ap label_total (sym all_states)
+  patterns_are = grind (arith, common_steps, sum_by_push, all_states)
 
   count : length (states_of k (met_with k met key)) ≡ length met.keys + 1
   count = simp (length-map, length_push) refl

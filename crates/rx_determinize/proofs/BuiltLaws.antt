@@ -1,7 +1,7 @@
 -- A table that has a row for each state that was met, all of which are stepped, has the states that are reached.
-use Rattle.std.proofs.Common.{◌≡◌, ℕ, zero, suc, ◌+◌, ◌*◌, ◌/◌, ◌<◌, ◌≤◌, Bool, true, false, Option}
-use Rattle.std.proofs.Common.{Some, None, List, [], ◌∷◌, length, map, get_or, slice_index, refl, ap, sym, ◌∙◌, subst}
-use Rattle.std.proofs.Common.{arith, ⊎_elim}
+use Rattle.std.proofs.lemmas.Grind.{common_steps}
+use Rattle.std.proofs.Common.{◌≡◌, ℕ, zero, suc, ◌+◌, ◌*◌, ◌/◌, ◌<◌, ◌≤◌, Bool, true, false, Option, Some, None, List}
+use Rattle.std.proofs.Common.{[], ◌∷◌, length, map, get_or, slice_index, refl, ap, sym, ◌∙◌, subst, arith, ⊎_elim}
 use Rattle.std.proofs.lemmas.Bool.{cases_Bool, cases_lt, le-ltb, lt-ltb, ne_eqb}
 use Rattle.std.proofs.lemmas.Bool.Decides.{when_false, when_true}
 use Rattle.std.proofs.lemmas.List.{get_or-map, get_or_default, length-map}
@@ -12,10 +12,10 @@ use Rattle.std.proofs.lemmas.Option.{get_or_from_slice_get, slice_get-get_or, sl
 use Rattle.std.specs.BTreeMap.{get}
 use Rattle.std.specs.List.{concat}
 use Rattle.std.specs.Ordering.{nat_cmp}
-use Rattle.std.specs.Prelude.{All, Contains, IfSome, Vec, if◌then◌else◌, is_some, slice_get, sum_by}
+use Rattle.std.specs.Prelude.{All, Contains, IfSome, Vec, if◌then◌else◌, slice_get, sum_by}
 use Rattle.std.specs.declared.alloc.Global.{Global}
 use Rattle.rx_spec.specs.Builds.{Build, Node, Quit, Running, dead, AreReached, IsReached, built_entry, is_dead}
-use Rattle.rx_spec.specs.Builds.{next_node, node_label, start_node}
+use Rattle.rx_spec.specs.Builds.{next_node, node_label}
 use Rattle.rx_spec.specs.Causes.{max_id}
 use Rattle.rx_spec.specs.Machines.{Label, label_of as label_from}
 use Rattle.rx_spec.specs.Power.{node_at}
@@ -24,8 +24,7 @@ use Rattle.rx_spec.specs.Sizes.{label_total}
 use Rattle.rx_spec.specs.States.{State, dead_state}
 use Rattle.rx_spec.specs.declared.Start.{Start}
 use Rattle.rx_dense.specs.Builder.{pattern_lists}
-use Rattle.rx_dense.specs.Layouts.{Layout, IsRowId, machine_of, mode_place, row_count}
-use Rattle.rx_dense.specs.Layouts.{start_entries, stride, table_of}
+use Rattle.rx_dense.specs.Layouts.{Layout, IsRowId, machine_of, mode_place, row_count, start_entries, stride, table_of}
 use Rattle.rx_expr.specs.NfaRows.{NamesPatterns}
 use Rattle.rx_order.specs.Ordering.{AreMatches, IsRouted, Matches, label_by, label_of_patterns}
 use Rattle.rx_stepper.specs.Keys.{label_of}
@@ -80,30 +79,15 @@ module _ {w : Work} {l : Layout} (built : IsBuilt w l) where
 
   dead_entry : (j : ℕ) (start : Start) → length l.starts ≤ 12 + 6 * j
       → entry_in l (Anchored.Pattern j) start ≡ 0
-  dead_entry j start past =
-      ap (λ (c : Bool). (if c then slice_index l.starts (place_of (Anchored.Pattern j) start) else 0) / stride l)
-      (le-ltb (12 + 6 * j) (length l.starts) past)
-      ∙ zero_row l
+  dead_entry j start past = grind (arith, common_steps, place_of, le-ltb, zero_row)
 
   -- a pattern past the last starts at dead
   past_last : (n j : ℕ) (start : Start) → l.pattern_starts ≡ Some n → n ≤ j → entry_in l (Anchored.Pattern j) start ≡ 0
-  past_last n j start e h =
-      let all : length l.starts ≡ 12 + 6 * n = built.entries.count ∙ ap start_entries e in
-      dead_entry j start (omega arith)
+  past_last n j start e h = grind (arith, common_steps, dead_entry)
 
   -- a mode without starts
   no_start : (j : ℕ) (start : Start) → length l.starts ≤ 12 + 6 * j → built_entry b (Anchored.Pattern j) start ≡ dead
-  no_start j start past = by l.pattern_starts refl
-    where
-      by : (p : Option ℕ) → l.pattern_starts ≡ p → built_entry b (Anchored.Pattern j) start ≡ dead
-      by None e =
-          ap (λ (c : Option ℕ). if is_some c then start_node s.nfa (slice_get s.nfa.start_patterns j) start else dead) e
-      by (Some n) e =
-          let all : length l.starts ≡ 12 + 6 * n = built.entries.count ∙ ap start_entries e in
-          let own = subst (λ (o : Option ℕ). IfSome o (λ m. m ≡ length s.nfa.start_patterns)) e built.entries.own in
-          let far : length s.nfa.start_patterns ≤ j = omega arith in
-          ap (λ (c : Option ℕ). if is_some c then start_node s.nfa (slice_get s.nfa.start_patterns j) start else dead) e
-          ∙ ap (λ (row : Option ℕ). start_node s.nfa row start) (slice_get_past s.nfa.start_patterns j far)
+  no_start j start past = grind (arith, common_steps, slice_get_past)
 
   twelve : 12 ≤ length l.starts
   twelve = entries_twelve built.entries

@@ -1,6 +1,7 @@
 -- Cells that are set, and rows that are added: to which rows the rows of a table lead then.
-use Rattle.std.proofs.Common.{◌≡◌, ◌≢◌, ℕ, ◌+◌, ◌*◌, ◌/◌, ◌<◌, length, get_or, replicate}
-use Rattle.std.proofs.Common.{ap, sym, ◌∙◌, arith, inl, inr, ◌⊎◌, ◌≤◌, List, ⊎_elim}
+use Rattle.std.proofs.lemmas.Grind.{common_steps}
+use Rattle.std.proofs.Common.{◌≡◌, ◌≢◌, ℕ, ◌+◌, ◌*◌, ◌/◌, ◌<◌, length, get_or, replicate, ap, sym, ◌∙◌, arith, inl, inr}
+use Rattle.std.proofs.Common.{◌⊎◌, ◌≤◌, List, ⊎_elim}
 use Rattle.std.proofs.Math.Nat.{mul-le-mul_right}
 use Rattle.std.proofs.lemmas.Bool.{cases_lt}
 use Rattle.std.proofs.lemmas.List.{get_or-set_same, get_or-set_other, get_or_append_left}
@@ -17,13 +18,7 @@ one_place s r c q d c_in d_in e =
 
 module _ (l : Layout) (rows : AreRows l) where
   place_within : (r unit : ℕ) → r < row_count l → unit < 257 → r * stride l + column l unit < length l.words
-  place_within r unit within is_unit =
-      omega (
-        arith,
-        multiple_below r (stride l) (length l.words) (pow_pos l.stride2) within,
-        column_within l rows.classes unit is_unit,
-        rows.fits,
-      )
+  place_within r unit within is_unit = grind (arith, common_steps, multiple_below, pow_pos, column_within)
 
   column_in : (unit : ℕ) → unit < 257 → column l unit < stride l
   column_in unit is_unit = omega (arith, column_within l rows.classes unit is_unit, rows.fits)
@@ -31,10 +26,7 @@ module _ (l : Layout) (rows : AreRows l) where
   -- a row that is added changes no other
   pub next_more : (r unit : ℕ) → r < row_count l → unit < 257
       → (machine_of (with_row l)).next r unit ≡ (machine_of l).next r unit
-  next_more r unit within is_unit =
-      ap (λ n. n / stride l)
-      (get_or_append_left l.words (replicate (stride l) 0) 0 (r * stride l + column l unit)
-      (place_within r unit within is_unit))
+  next_more r unit within is_unit = grind (arith, common_steps, get_or_append_left, replicate, place_within)
 
   module _ (r unit next : ℕ) (within : r < row_count l) (is_unit : unit < 257) where
     -- the units of a column lead where it was set to

@@ -1,6 +1,7 @@
 -- The columns of a table and the units that stand for them.
-use Rattle.std.proofs.Common.{◌≡◌, ℕ, ◌+◌, ◌<◌, ◌≤◌, Bool, false, List, [], ◌∷◌, length, get_or}
-use Rattle.std.proofs.Common.{ap, sym, ◌∙◌, arith, ⊎_elim, eqb, cond}
+use Rattle.std.proofs.lemmas.Grind.{common_steps}
+use Rattle.std.proofs.Common.{◌≡◌, ℕ, ◌+◌, ◌<◌, ◌≤◌, Bool, false, List, [], ◌∷◌, length, get_or, ap, sym, ◌∙◌, arith}
+use Rattle.std.proofs.Common.{⊎_elim, eqb, cond}
 use Rattle.std.proofs.lemmas.Bool.{cases_lt, cases_eq}
 use Rattle.std.proofs.lemmas.Bool.Decides.{nat_tests}
 use Rattle.std.proofs.lemmas.List.{get_or-map, get_or_append_left, get_or_push, length-map, length_push}
@@ -22,8 +23,7 @@ use Rattle.rx_determinize.specs.Determinized.{classes_of}
 use Rattle.rx_determinize.specs.Constructions.{AreUnits}
 
 column_of_byte : (l : Layout) (unit : ℕ) → unit < 256 → column l unit ≡ slice_index l.classes unit
-column_of_byte l unit h = let ne : eqb unit 256 ≡ false = grind (arith, nat_tests) in
-    ap (λ b. cond b (slice_index l.classes 255 + 1) (slice_index l.classes unit)) ne
+column_of_byte l unit h = grind (arith, common_steps, nat_tests)
 
 module _ (l : Layout) (are : AreClasses l.classes) where
   counted : length (representatives (ends_of l.classes)) ≡ slice_index l.classes 255 + 1

@@ -1,6 +1,6 @@
 -- A construction that goes on: what it had is there still, and what refuses it later refuses it.
-use Rattle.std.proofs.Common.{◌≡◌, ℕ, List, ◌++◌, append_assoc, length, refl, ap, ap₂, sym, ◌∙◌}
-use Rattle.std.proofs.Common.{subst, []}
+use Rattle.std.proofs.Common.{arith, ◌≡◌, ℕ, List, append_assoc, length, refl, ap, ap₂, sym, ◌∙◌, subst, []}
+use Rattle.std.proofs.lemmas.Grind.{common_steps}
 use Rattle.std.proofs.lemmas.List.{append-nil}
 use Rattle.rx_spec.specs.Builds.{Node}
 use Rattle.rx_spec.specs.Causes.{Exceeds, max_id}
@@ -19,22 +19,13 @@ use Rattle.rx_determinize.specs.Working.{IsOver, IsWorking, Keying, Met, SizeLim
 -- ---- tables of which words and start entries were written
 
 pub written_over : (l m : Layout) (words : List ℕ) → m ≡ record l { words = words } → IsWrittenOver l m
-written_over l m words is =
-    is ∙ ap (λ (ws : List ℕ). record l { words = ws }) (sym (ap (λ (n : Layout). n.words) is))
+written_over l m words is = grind (arith, common_steps)
 
 pub started_over : {l m : Layout} → IsWrittenOver l m → IsStartedOver l m
-started_over {l} {m} over = record {
-  rest =
-      over
-      ∙ ap (λ (ss : List ℕ). record l { words = m.words; starts = ss }) (sym (ap (λ (n : Layout). n.starts) over));
-  count = ap (λ (n : Layout). length n.starts) over;
-}
+started_over {l} {m} over = grind (arith, common_steps)
 
 pub started_twice : (l m n : Layout) → IsStartedOver l m → IsStartedOver m n → IsStartedOver l n
-started_twice l m n first second = record {
-  rest = second.rest ∙ ap (λ (k : Layout). record k { words = n.words; starts = n.starts }) first.rest;
-  count = second.count ∙ first.count;
-}
+started_twice l m n first second = grind (arith, common_steps)
 
 -- ---- what goes on
 
@@ -42,67 +33,34 @@ no_other : (s r : Stepping) → r ≡ s → IsAnother s r
 no_other s r same = same ∙ ap (λ (t : Stepping). record s { current = t.current; led_in = t.led_in }) (sym same)
 
 another_twice : (s r t : Stepping) → IsAnother s r → IsAnother r t → IsAnother s t
-another_twice s r t first second =
-    second ∙ ap (λ (u : Stepping). record u { current = t.current; led_in = t.led_in }) first
+another_twice s r t first second = grind (arith, common_steps)
 
 extends_twice : (keys more all : List (List ℕ)) → Extends keys more → Extends more all → Extends keys all
-extends_twice keys more all first second = (
-  first.0 ++ second.0,
-  second.1 ∙ ap (λ (ks : List (List ℕ)). ks ++ second.0) first.1 ∙ append_assoc keys first.0 second.0,
-)
+extends_twice keys more all first second = grind (arith, common_steps, append_assoc)
 
 -- words and start entries were written
 pub continues_over : (w : Work) {l m : Layout} → IsStartedOver l m → Continues w l w m
-continues_over w {l} {m} over = record {
-  stepping = refl;
-  limits = refl;
-  units = refl;
-  keys = ([], sym (append-nil w.met.keys));
-  over = over;
-}
+continues_over w {l} {m} over = grind (arith, common_steps, append-nil)
 
 pub continues_none : (w : Work) (l : Layout) → Continues w l w l
 continues_none w l = continues_over w (record { rest = refl; count = refl })
 
 pub continues_twice : {w v u : Work} {l m n : Layout} → Continues w l v m → Continues v m u n → Continues w l u n
-continues_twice {w} {v} {u} {l} {m} {n} first second = record {
-  stepping = another_twice w.stepping v.stepping u.stepping first.stepping second.stepping;
-  limits = second.limits ∙ first.limits;
-  units = second.units ∙ first.units;
-  keys = extends_twice w.met.keys v.met.keys u.met.keys first.keys second.keys;
-  over = started_twice l m n first.over second.over;
-}
+continues_twice {w} {v} {u} {l} {m} {n} first second =
+    grind (arith, common_steps, another_twice, extends_twice, started_twice)
 
 -- more states were met, and words were written
 pub continues_grown : (w : Work) (after : Met) {l m : Layout} → Extends w.met.keys after.keys → IsWrittenOver l m
     → Continues w l (record w { met = after }) m
-continues_grown w after more over = record {
-  stepping = refl;
-  limits = refl;
-  units = refl;
-  keys = more;
-  over = started_over over;
-}
+continues_grown w after more over = grind (arith, common_steps, started_over)
 
 -- another state is stepped
 pub continues_other : (w : Work) (r : Stepping) (l : Layout) → IsAnother w.stepping r
     → Continues w l (record w { stepping = r }) l
-continues_other w r l another = record {
-  stepping = another;
-  limits = refl;
-  units = refl;
-  keys = ([], sym (append-nil w.met.keys));
-  over = record { rest = refl; count = refl };
-}
+continues_other w r l another = grind (arith, common_steps, append-nil)
 
 pub continues_found : {w v : Work} {l m : Layout} {node : Node} {id : ℕ} → FindsRow w l node v m id → Continues w l v m
-continues_found {w} {v} found = record {
-  stepping = no_other w.stepping v.stepping (ap (λ (u : Work). u.stepping) found.same);
-  limits = ap (λ (u : Work). u.limits) found.same;
-  units = ap (λ (u : Work). u.units) found.same;
-  keys = (found.grows.more, found.grows.keys);
-  over = started_over found.over;
-}
+continues_found {w} {v} found = grind (arith, common_steps, no_other, started_over)
 
 module _ {w v : Work} {l m : Layout} (later : Continues w l v m) where
   -- keys stand for what they stood for, and the table is built of the same

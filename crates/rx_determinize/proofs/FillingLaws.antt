@@ -1,7 +1,7 @@
 -- What stays true of a table in which rows are written: where a row is added, and where a cell is set.
-use Rattle.std.proofs.Common.{◌≡◌, ◌≢◌, ℕ, ◌+◌, ◌*◌, ◌/◌, ◌<◌, ◌≤◌, true, false, Some, List, [], ◌∷◌, ◌++◌}
-use Rattle.std.proofs.Common.{length, map, get_or, replicate, length-append, length-set, refl, ap, sym, ◌∙◌, subst}
-use Rattle.std.proofs.Common.{arith, ⊎_elim}
+use Rattle.std.proofs.lemmas.Grind.{common_steps}
+use Rattle.std.proofs.Common.{◌≡◌, ◌≢◌, ℕ, ◌+◌, ◌*◌, ◌/◌, ◌<◌, ◌≤◌, true, false, Some, List, [], ◌∷◌, ◌++◌, length, map}
+use Rattle.std.proofs.Common.{get_or, replicate, length-append, length-set, refl, ap, sym, ◌∙◌, subst, arith, ⊎_elim}
 use Rattle.std.proofs.lemmas.List.{map-append, append-nil}
 use Rattle.std.proofs.lemmas.Bool.{cases_eq}
 use Rattle.std.proofs.lemmas.Option.{slice_get_within}
@@ -26,11 +26,7 @@ use Rattle.rx_determinize.proofs.ColumnLaws.{unit_in, unit_column, same_column}
 use Rattle.rx_determinize.proofs.CellLaws.{next_more, next_kept, next_set}
 
 pub adds_over : {met after : Met} {l m : Layout} {key : List ℕ} {id : ℕ} → Adds met l key after m id → IsWrittenOver l m
-adds_over {met} {after} {l} {m} adds = at adds.interns.is_new adds.layout
-  where
-    at : (is_new : Bool) → m ≡ (if is_new then with_row l else l) → IsWrittenOver l m
-    at true is = written_over l m (l.words ++ replicate (stride l) 0) is
-    at false is = written_over l m l.words is
+adds_over {met} {after} {l} {m} adds = grind (arith, common_steps, written_over, replicate)
 
 -- a state that is entered
 pub grows_by : {met after : Met} {l m : Layout} {key : List ℕ} {id : ℕ} → AreRows l → Adds met l key after m id

@@ -1,6 +1,7 @@
 -- The labels of reached states name patterns of the NFA.
-use Rattle.std.proofs.Common.{◌≡◌, ℕ, ◌<◌, Bool, true, false, Option, Some, None, List, [], ◌∷◌, refl, subst}
-use Rattle.std.proofs.lemmas.List.Elements.{All-append, All-cons, All-nil}
+use Rattle.std.proofs.Common.{arith, ◌≡◌, ℕ, ◌<◌, Bool, true, false, Option, Some, None, List, [], ◌∷◌, refl, subst}
+use Rattle.std.proofs.lemmas.Grind.{common_steps}
+use Rattle.std.proofs.lemmas.List.Elements.{All-append, All-nil}
 use Rattle.std.specs.Prelude.{All, if◌then◌else◌}
 use Rattle.std.specs.List.{flat_map}
 use Rattle.rx_spec.specs.Bytes.{contains}
@@ -21,8 +22,7 @@ module _ (count : ℕ) where
 
   pattern_named : (rows : List Row) (q : ℕ) (row : Row) → NamesPatterns count rows → row_at rows q ≡ row
       → AreBelow (pattern_of row)
-  pattern_named rows q (Row.Match k) names e =
-      All-cons (λ k. k < count) k [] (names.named q k e) (All-nil (λ k. k < count))
+  pattern_named rows q (Row.Match k) names e = grind (arith, common_steps)
   pattern_named rows q (Row.Bytes set next) names e = All-nil (λ k. k < count)
   pattern_named rows q (Row.Split first second) names e = All-nil (λ k. k < count)
   pattern_named rows q (Row.Look look next) names e = All-nil (λ k. k < count)

@@ -1,14 +1,13 @@
 -- What refuses a build, and that nothing does where its table is built.
-use Rattle.std.proofs.Common.{◌≡◌, ℕ, ◌+◌, ◌*◌, ◌^◌, ◌<◌, ◌≤◌, inl, Bool, true, false, Option, Some, None, List}
-use Rattle.std.proofs.Common.{length}
-use Rattle.std.proofs.Common.{slice_index, refl, ap, ap₂, sym, ◌∙◌, subst, arith}
+use Rattle.std.proofs.lemmas.Grind.{common_steps}
+use Rattle.std.proofs.Common.{◌≡◌, ℕ, ◌+◌, ◌*◌, ◌<◌, ◌≤◌, inl, Bool, Option, Some, List, length, ap, ap₂, sym, ◌∙◌}
+use Rattle.std.proofs.Common.{subst, arith}
 use Rattle.std.proofs.lemmas.List.{length-replicate}
 use Rattle.std.proofs.lemmas.List.FromFn.{get_or-map-range_with_len}
 use Rattle.std.proofs.lemmas.Nat.{div-add-mod'}
-use Rattle.std.specs.Prelude.{IfSome, if◌then◌else◌, is_some}
+use Rattle.std.specs.Prelude.{IfSome, is_some}
 use Rattle.rx_spec.specs.Builds.{Build, AreReached}
 use Rattle.rx_spec.specs.Causes.{BuildFits, Exceeds, IsSupported, IsUnsupported, max_id}
-use Rattle.rx_spec.specs.Classes.{class_by, ends_class, stride2_of}
 use Rattle.rx_spec.specs.Nfas.{Nfa}
 use Rattle.rx_spec.specs.Sizes.{build_stride, determinizer_size, label_total, last_id, table_size}
 use Rattle.rx_spec.specs.Sizes as sizes
@@ -71,13 +70,7 @@ module _ {w : Work} {nfa : Nfa} {settings : Settings} {byte_classes : Bool} {l :
   quit_is = ap (λ (n : Layout). n.quit) x.begun
 
   pub build_is : (keying s l).build ≡ b
-  build_is = λ i. record {
-    nfa = x.nfa_is i;
-    kind = x.kind_is i;
-    start_kind = l.start_kind;
-    pattern_starts = is_some l.pattern_starts;
-    quit = quit_is i;
-  }
+  build_is = grind (arith, common_steps, quit_is)
 
   pub classes_are : l.classes ≡ classes_of s.nfa l.quit byte_classes
   classes_are =
@@ -118,40 +111,16 @@ module _ {w : Work} {nfa : Nfa} {settings : Settings} {byte_classes : Bool} {l :
   -- ---- sizes
 
   pub stride_is : stride l ≡ build_stride b byte_classes
-  stride_is =
-      let ends = ends_class nfa settings.quit byte_classes in
-      let last : slice_index (classes_of nfa settings.quit byte_classes) 255 ≡ class_by ends 255 =
-      get_or-map-range_with_len (class_by ends) 0 256 255 255 0 (omega arith) (omega arith) in
-      ap stride x.begun ∙ ap (λ n. 2 ^ stride2_of (n + 2)) last
+  stride_is = grind (arith, common_steps, get_or-map-range_with_len)
 
   pub entries_are : length l.starts ≡ start_entries l.pattern_starts
-  entries_are =
-      ap (λ (n : Layout). length n.starts) x.begun
-      ∙ length-replicate _ 0
-      ∙ ap (λ (n : Layout). start_entries n.pattern_starts) (sym x.begun)
+  entries_are = grind (arith, common_steps, length-replicate)
 
   pub has_entries : HasEntries (length nfa.start_patterns) l
-  has_entries = record {
-    count = entries_are;
-    own =
-        subst (λ (o : Option ℕ). IfSome o (λ n. n ≡ length nfa.start_patterns))
-        (sym (ap (λ (n : Layout). n.pattern_starts) x.begun)) (at (is_some l.pattern_starts));
-  }
-    where
-      at : (c : Bool) → IfSome (if c then Some (length nfa.start_patterns) else None)
-          (λ n. n ≡ length nfa.start_patterns)
-      at true = refl
-      at false = tt
+  has_entries = grind (arith, common_steps, entries_are)
 
   starts_are : length l.starts ≡ sizes.start_entries b
-  starts_are =
-      entries_are ∙ ap start_entries (ap (λ (n : Layout). n.pattern_starts) x.begun) ∙ at (is_some l.pattern_starts)
-    where
-      at : (c : Bool)
-          → start_entries (if c then Some (length nfa.start_patterns) else None)
-          ≡ 12 + (if c then 6 * length nfa.start_patterns else 0)
-      at true = refl
-      at false = omega arith
+  starts_are = grind (arith, common_steps, entries_are)
 
   -- ---- a build that is refused
 

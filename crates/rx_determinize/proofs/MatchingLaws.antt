@@ -1,15 +1,16 @@
 -- The patterns of match rows, key by key.
-use Rattle.std.proofs.Common.{◌≡◌, ◌≢◌, ℕ, ◌+◌, ◌*◌, ◌<◌, ◌≤◌, Option, Some, None, List, []}
-use Rattle.std.proofs.Common.{◌∷◌, ◌++◌, length, map, take, length-append, refl, ap, sym, ◌∙◌, subst, arith, ⊎_elim}
+use Rattle.std.proofs.lemmas.Grind.{common_steps}
+use Rattle.std.proofs.Common.{◌≡◌, ◌≢◌, ℕ, ◌+◌, ◌*◌, ◌<◌, ◌≤◌, Option, Some, None, List, [], ◌∷◌, ◌++◌, length, map}
+use Rattle.std.proofs.Common.{take, length-append, refl, ap, sym, ◌∙◌, subst, arith, ⊎_elim}
 use Rattle.std.proofs.lemmas.Bool.{cases_eq, cases_lt, ne_eqb}
 use Rattle.std.proofs.lemmas.List.{length_push, get_or_push, length-take-le, take_more}
 use Rattle.std.proofs.lemmas.List.Folds.{concat-append}
 use Rattle.std.proofs.lemmas.List.Sums.{sum_by_push}
 use Rattle.std.proofs.lemmas.Nat.{pow_pos, row_fits}
 use Rattle.std.proofs.lemmas.Option.{get_or_from_slice_get, slice_get-get_or, slice_get_within}
-use Rattle.std.specs.BTreeMap.{Updates, get, insert_entry, is_at}
+use Rattle.std.specs.BTreeMap.{Updates, get, insert_entry}
 use Rattle.std.specs.List.{concat}
-use Rattle.std.specs.Map.{keys_of, lookup, values_of}
+use Rattle.std.specs.Map.{keys_of, values_of}
 use Rattle.std.specs.Ordering.{nat_cmp}
 use Rattle.std.specs.Prelude.{All, Vec, slice_get, sum_by}
 use Rattle.std.specs.Vec.{vec_items}
@@ -26,22 +27,10 @@ use Rattle.rx_determinize.proofs.WorkListLaws.{old_key, slice_get-append}
 
 -- the rows of two places are apart
 pub one_row : (l : Layout) (p q : ℕ) → (p + 2) * stride l ≡ (q + 2) * stride l → p ≡ q
-one_row l p q e =
-    let some = pow_pos l.stride2 in
-    let ids : (p + 2) * stride l + 0 ≡ (q + 2) * stride l + 0 = omega arith in
-    let one = one_place (stride l) (p + 2) 0 (q + 2) 0 some some ids in
-    omega (arith, one.0)
+one_row l p q e = grind (arith, common_steps, pow_pos, one_place)
 
 pub labels_none : (l : Layout) (matches : Matches) → matches.entries ≡ [] → AreLabels [] l matches
-labels_none l matches empty = record {
-  told = λ place key there. absurd (cc);
-  only = λ id patterns there.
-      let none : get nat_cmp matches id ≡ None = ap (lookup (is_at (nat_cmp id))) empty in
-      absurd (cc);
-  count =
-      let none : concat (pattern_lists matches) ≡ [] = ap (λ es. concat (map vec_items (values_of es))) empty in
-      omega (arith, ap length none);
-}
+labels_none l matches empty = grind (arith, common_steps)
 
 -- the last key, or one before it
 last_or_before : (keys : List (List ℕ)) (key other : List ℕ) (place : ℕ)
@@ -64,27 +53,11 @@ module _ {keys : List (List ℕ)} {l : Layout} {matches : Matches} (are : AreLab
   -- what is told of earlier keys stays
   own : (other : ℕ) (patterns : List ℕ) → IsLabelAt keys l other patterns
       → IsLabelAt (keys ++ key ∷ []) l other patterns
-  own other patterns is = record {
-    place = is.place;
-    key = is.key;
-    there = slice_get-append keys (key ∷ []) is.place is.key is.there;
-    id_is = is.id_is;
-    label = is.label;
-    some = is.some;
-  }
+  own other patterns is = grind (arith, common_steps, slice_get-append)
 
   -- the ids of earlier rows are lower
   lower : (other : ℕ) (patterns : List ℕ) → IsLabelAt keys l other patterns → other < id
-  lower other patterns is =
-      let low = slice_get_within keys is.place is.key is.there in
-      omega (
-        arith,
-        is.id_is,
-        low,
-        row_fits (is.place + 2) (stride l) (length keys + 2) (stride l) (omega arith)
-            (omega arith),
-        pow_pos l.stride2,
-      )
+  lower other patterns is = grind (arith, common_steps, slice_get_within, row_fits, pow_pos)
 
   -- a key without a label
   pub labels_skip : label_of key ≡ [] → AreLabels (keys ++ key ∷ []) l matches

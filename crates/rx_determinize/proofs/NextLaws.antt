@@ -1,10 +1,9 @@
 -- The state to which a column leads.
+use Rattle.std.proofs.lemmas.Grind.{common_steps}
 use Rattle.std.proofs.Common.{◌≡◌, ℕ, suc, ◌+◌, ◌*◌, ◌/◌, ◌<◌, true, false, List, refl, ap, sym, ◌∙◌, subst, arith}
 use Rattle.std.proofs.lemmas.Nat.{div-mul-add, pow_pos}
 use Rattle.std.proofs.lemmas.List.{append-nil}
-use Rattle.std.specs.Prelude.{Bool, Some, Result, Ok, Err, IfErr, IfOk, OnOk, MatchBool, if◌then◌else◌}
-use Rattle.std.specs.Prelude.{slice_get, []}
-use Rattle.rx_dense.specs.Builder.{with_row}
+use Rattle.std.specs.Prelude.{Bool, Result, Ok, Err, IfErr, IfOk, OnOk, MatchBool, []}
 use Rattle.rx_determinize.proofs.FillingLaws.{adds_over, grows_by}
 use Rattle.rx_spec.specs.Bytes.{contains}
 use Rattle.rx_spec.specs.Builds.{Build, Node, Running, IsReached, is_dead_state, next_node}
@@ -15,7 +14,7 @@ use Rattle.rx_base.specs.ByteClasses.{alphabet_len}
 use Rattle.rx_dense.proofs.Shaped.{zero_id}
 use Rattle.rx_stepper.specs.Stepping.{Stepping, IsKeyOf, stepped, unit_of}
 use Rattle.rx_build_error.specs.declared.BuildError.{BuildError}
-use Rattle.rx_determinize.specs.WorkLists.{IsRowOf, nodes}
+use Rattle.rx_determinize.specs.WorkLists.{IsRowOf}
 use Rattle.rx_determinize.specs.Working.{IsOver, IsWorking, Keying, Met, SizeLimits, keying, states_of}
 use Rattle.rx_determinize.specs.Adding.{Adds, CanAdd}
 use Rattle.rx_determinize.specs.Constructions.{IsWrittenOver, Serves, Work, keys_in}
@@ -56,8 +55,7 @@ in_true Q false e p = absurd cc
 -- a dead state has row 0
 pub dead_is_row : (states : List State) (s : State) (l : Layout) → is_dead_state s ≡ true
     → IsRowOf states (Running s) (0 / stride l)
-dead_is_row states s l e =
-    in_true (slice_get (nodes states) (0 / stride l) ≡ Some (Running s)) (is_dead_state s) e (zero_row l)
+dead_is_row states s l e = grind (arith, common_steps, in_true, zero_row)
 
 pub dead_id : {l : Layout} → AreRows l → IsRowId l 0
 dead_id {l} rows = let two = rows.two in zero_id l (omega arith)
@@ -66,18 +64,11 @@ dead_id {l} rows = let two = rows.two in zero_id l (omega arith)
 pub stepped_alike : {w : Work} {l : Layout} (column other : ℕ) {id : ℕ}
     → stepped w.stepping column ≡ stepped w.stepping other → IsStepped w l other id
     → IsRowOf (states_of (keys_in w l) w.met) (Running (stepped w.stepping column)) (id / stride l)
-stepped_alike {w} {l} column other {id} same led =
-    subst (λ (t : State). IsRowOf (states_of (keys_in w l) w.met) (Running t) (id / stride l)) (sym same) led.is_row
+stepped_alike {w} {l} column other {id} same led = grind (arith, common_steps)
 
 -- nothing is entered
 pub grows_none : (met : Met) (l : Layout) → Grows met l met l
-grows_none met l = record {
-  more = [];
-  keys = sym (append-nil met.keys);
-  classes = refl;
-  nexts = λ row unit within is_unit. refl;
-  entries = λ mode start. refl;
-}
+grows_none met l = grind (arith, common_steps, append-nil)
 
 -- what stays so, if the table is as it was but for its words
 pub working_over : (s : Stepping) {limits : SizeLimits} {met : Met} (l m : Layout) → IsWrittenOver l m
@@ -118,11 +109,7 @@ added_row k {met} {after} {l} {m} {key} {id} adds alive =
 
 -- ids lie as far apart as they did
 adds_stride : {met after : Met} {l m : Layout} {key : List ℕ} {id : ℕ} → Adds met l key after m id → stride m ≡ stride l
-adds_stride {met} {after} {l} {m} adds = ap stride adds.layout ∙ at adds.interns.is_new
-  where
-    at : (is_new : Bool) → stride (if is_new then with_row l else l) ≡ stride l
-    at true = refl
-    at false = refl
+adds_stride {met} {after} {l} {m} adds = grind (arith, common_steps)
 
 -- the state of a key has the row that it was given
 pub row_by : (s : Stepping) {l m : Layout} {met after : Met} {key : List ℕ} {id : ℕ} {state : State}
@@ -138,16 +125,7 @@ row_by s {l} {m} {met} {after} {key} {id} is adds =
 -- nothing was entered for it
 pub found_before : {w v : Work} {l : Layout} {node : Node} {id : ℕ} → v ≡ w → Serves w l
     → IsRowOf (states_of (keys_in w l) w.met) node (id / stride l) → IsRowId l id → FindsRow w l node v l id
-found_before {w} {v} {l} {node} {id} is serves is_row is_id =
-    subst (λ (u : Work). FindsRow w l node u l id) (sym is)
-    (record {
-      same = refl;
-      over = refl;
-      grows = grows_none w.met l;
-      serves = serves;
-      is_row = is_row;
-      is_id = is_id;
-    })
+found_before {w} {v} {l} {node} {id} is serves is_row is_id = grind (arith, common_steps, grows_none)
 
 -- a key was added
 pub found_added : {w v : Work} {l : Layout} {E : Type 0} (r : Result ℕ E) {key : List ℕ} {state : State} (m : Layout)

@@ -1,4 +1,5 @@
 -- A table whose rows lie at other places is the same powerset machine.
+use Rattle.std.proofs.lemmas.Grind.{common_steps}
 use Rattle.std.proofs.Common.{◌≡◌, ℕ, zero, suc, ◌+◌, ◌-◌, ◌<◌, ◌≤◌, ◌==◌, List, length, map, get_or, slice_index, refl}
 use Rattle.std.proofs.Common.{ap, sym, subst, ◌∙◌, ⊎_elim, arith}
 use Rattle.std.proofs.lemmas.Bool.{cases_lt}
@@ -119,11 +120,7 @@ module _ {b : Build} {states : List State} {numbers : List ℕ} {t u : Table} (h
 
   -- a row's place behind dead and quit, before and after
   old_place : (i : ℕ) → i < count → (old_row p (i + 2) - 2 < count) × (old_row p (i + 2) - 2 + 2 ≡ old_row p (i + 2))
-  old_place i low =
-      let within : i + 2 < t.size = omega (arith, h.size) in
-      let high = old_high p (i + 2) (omega arith) within in
-      let below = old_below p (i + 2) within in
-      (omega (arith, h.size), omega arith)
+  old_place i low = grind (arith, common_steps, old_high, old_below)
 
   moved_at : (i : ℕ) (d : State) → i < count → get_or moved i d ≡ get_or states (old_row p (i + 2) - 2) d
   unfolding moved state_at

@@ -1,4 +1,5 @@
 -- The ids of a table's rows.
+use Rattle.std.proofs.lemmas.Grind.{common_steps}
 use Rattle.std.proofs.Common.{◌≡◌, ℕ, ◌*◌, ◌/◌, ◌<◌, length, ap, sym, ◌∙◌, arith}
 use Rattle.rx_spec.specs.Ids.{row_of}
 use Rattle.rx_search.specs.Starts.{IsId}
@@ -15,8 +16,7 @@ row_of-row l row within =
 
 -- it is an id
 pub row_is_id : (l : Layout) (row : ℕ) → row < row_count l → IsId (ids_of l) (row * stride l)
-row_is_id l row within =
-    omega (arith, row_of-row l row within, (dense_are_ids (row_count l) l.stride2).count)
+row_is_id l row within = grind (arith, common_steps, row_of-row, dense_are_ids)
 
 -- the id of a row is that of a row
 pub row_id : (l : Layout) (row : ℕ) → AreRows l → row < row_count l → IsRowId l (row * stride l)
@@ -27,5 +27,4 @@ row_id l row rows within = record {
 
 -- the row of its id, by division
 pub row_of_id : (l : Layout) (row : ℕ) → row * stride l / stride l ≡ row
-row_of_id l row =
-    ap (λ n. n / stride l) (sym (no_more (row * stride l))) ∙ div-mul-add row (stride l) 0 (pow_pos l.stride2)
+row_of_id l row = grind (arith, common_steps, no_more, div-mul-add, pow_pos)

@@ -1,19 +1,18 @@
 -- Start entries that are set, and the states in which searches start.
-use Rattle.std.proofs.Common.{◌≡◌, ◌≢◌, ℕ, zero, suc, ◌+◌, ◌*◌, ◌/◌, ◌%◌, ◌<◌, ◌≤◌, Bool, true, false, Option, Some}
-use Rattle.std.proofs.Common.{None}
-use Rattle.std.proofs.Common.{[], ◌∷◌, ◌++◌, length, get_or, replicate, slice_index, refl, ap, sym, ◌∙◌}
-use Rattle.std.proofs.Common.{subst}
-use Rattle.std.proofs.Common.{arith, ⊎_elim}
+use Rattle.std.proofs.lemmas.Grind.{common_steps}
+use Rattle.std.proofs.Common.{◌≡◌, ◌≢◌, ℕ, zero, suc, ◌+◌, ◌*◌, ◌/◌, ◌%◌, ◌<◌, Bool, true, false, Option, Some, None}
+use Rattle.std.proofs.Common.{[], ◌∷◌, ◌++◌, length, get_or, replicate, slice_index, refl, ap, sym, ◌∙◌, subst, arith}
+use Rattle.std.proofs.Common.{⊎_elim}
 use Rattle.std.proofs.lemmas.Bool.{cases_eq, cases_lt, lt-ltb}
-use Rattle.std.proofs.lemmas.List.{get_or-set_other, get_or-set_same, get_or-replicate, get_or_past}
-use Rattle.std.proofs.lemmas.List.{length-replicate, length-set}
-use Rattle.std.proofs.lemmas.List.Elements.{All-nil, Contains-append_left, Contains-append_right}
+use Rattle.std.proofs.lemmas.List.{get_or-set_other, get_or-set_same, get_or-replicate, get_or_past, length-replicate}
+use Rattle.std.proofs.lemmas.List.{length-set}
+use Rattle.std.proofs.lemmas.List.Elements.{Contains-append_left, Contains-append_right}
 use Rattle.std.proofs.lemmas.List.FromFn.{get_or-map-range_with_len, length-map-range_with_len}
 use Rattle.std.proofs.lemmas.Nat.{div-add-mod', div-mul-add, pow_pos}
 use Rattle.std.proofs.lemmas.Option.{slice_get_within}
 use Rattle.std.specs.Prelude.{Contains, IfSome, if◌then◌else◌, nat_lt, slice_get}
-use Rattle.rx_spec.specs.Builds.{Build, IsReached, built_entry, built_modes, is_dead_state, pattern_modes}
-use Rattle.rx_spec.specs.Builds.{dead, next_node, start_node}
+use Rattle.rx_spec.specs.Builds.{Build, IsReached, built_entry, built_modes, is_dead_state, pattern_modes, dead}
+use Rattle.rx_spec.specs.Builds.{next_node, start_node}
 use Rattle.rx_spec.specs.Nfas.{Nfa}
 use Rattle.rx_spec.specs.Contexts.{all_starts as all_contexts}
 use Rattle.std.specs.Bool.{then_some}
@@ -24,8 +23,7 @@ use Rattle.rx_spec.specs.declared.Start.{Start}
 use Rattle.lemmas_walks.proofs.Firsts.{Contains-here}
 use Rattle.lemmas_walks.proofs.Words.{IsWord-nil, run-nil}
 use Rattle.rx_dense.specs.Builder.{Beginning, initial, with_start}
-use Rattle.rx_dense.specs.Layouts.{Layout, column, context_number, machine_of, mode_place, row_count}
-use Rattle.rx_dense.specs.Layouts.{stride}
+use Rattle.rx_dense.specs.Layouts.{Layout, context_number, mode_place, stride}
 use Rattle.rx_dense.proofs.Shaped.{rows_kept}
 use Rattle.rx_determinize.specs.Constructions.{Continues, IsStartedOver, Work, keys_in}
 use Rattle.rx_determinize.specs.Filling.{AreWritten, FindsRow, IsEntering}
@@ -91,12 +89,17 @@ place_of mode start = mode_place mode + context_number start
 one_start : (mode other : Anchored) (start context : Start) → place_of mode start ≡ place_of other context
     → (mode ≡ other) × (start ≡ context)
 one_start mode other start context e =
-    let places : group mode * 6 + context_number start ≡ group other * 6 + context_number context =
-    omega (arith, place_of_group mode, place_of_group other, e) in
-    let one = one_place 6 (group mode) (context_number start) (group other) (context_number context)
-    (number_low start) (number_low context) places in (
-      sym (mode_of_group mode) ∙ ap mode_at one.0 ∙ mode_of_group other,
-      sym (start_of_number start) ∙ ap start_at one.1 ∙ start_of_number context,
+    grind (
+      arith,
+      common_steps,
+      group,
+      place_of_group,
+      one_place,
+      number_low,
+      mode_of_group,
+      mode_at,
+      start_of_number,
+      start_at,
     )
 
 group_of_mode : (n : ℕ) → group (mode_at n) ≡ n
@@ -144,19 +147,11 @@ module _ (l : Layout) (mode : Anchored) (start : Start) (id : ℕ) where
   chosen other n x = (if nat_lt (mode_place other) n then x else 0) / stride l
 
   entry_set : place_of mode start < length l.starts → entry_in set_at mode start ≡ id / stride l
-  entry_set low =
-      let there : mode_place mode < length l.starts = omega arith in
-      ap (λ n. chosen mode n (slice_index set_at.starts (place_of mode start))) count_kept
-      ∙ ap (λ (b : Bool). (if b then slice_index set_at.starts (place_of mode start) else 0) / stride l)
-      (lt-ltb (mode_place mode) (length l.starts) there)
-      ∙ ap (λ n. n / stride l) (get_or-set_same l.starts (place_of mode start) id 0 low)
+  entry_set low = grind (arith, common_steps, count_kept, lt-ltb, get_or-set_same)
 
   entry_kept : (other : Anchored) (context : Start) → place_of other context ≢ place_of mode start
       → entry_in set_at other context ≡ entry_in l other context
-  entry_kept other context apart =
-      ap (λ n. chosen other n (slice_index set_at.starts (place_of other context))) count_kept
-      ∙ ap (chosen other (length l.starts))
-      (get_or-set_other l.starts (place_of mode start) (place_of other context) id 0 apart)
+  entry_kept other context apart = grind (arith, common_steps, count_kept, get_or-set_other)
 
 -- a start entry leads to its row
 pub record IsStart (k : Keying) (met : Met) (l : Layout) (mode : Anchored) (start : Start) (id : ℕ) : Type 0 where
@@ -194,19 +189,7 @@ module _ {k : Keying} {met : Met} {l : Layout} {mode : Anchored} {start : Start}
 
 working_started : {k : Keying} {limits : SizeLimits} {met : Met} (l : Layout) (mode : Anchored) (start : Start)
     (id : ℕ) → IsWorking k limits met l → IsWorking k limits met (with_start l mode start id)
-working_started {limits = limits} l mode start id w = record {
-  bare = record { slices = w.bare.slices; pattern_ids = w.bare.pattern_ids; accels = w.bare.accels };
-  count = w.count;
-  distinct = w.distinct;
-  are_keys = w.are_keys;
-  reached = w.reached;
-  size = w.size;
-  patterns = w.patterns;
-  few_patterns = w.few_patterns;
-  table = λ some. subst (λ n. IfSome limits.table (λ limit. 4 * (length l.words + n + 1) ≤ limit))
-      (sym (count_kept l mode start id)) (w.table some);
-  construction = w.construction;
-}
+working_started {limits = limits} l mode start id w = grind (arith, common_steps, count_kept)
 
 started_with : (l : Layout) (mode : Anchored) (start : Start) (id : ℕ) → IsStartedOver l (with_start l mode start id)
 started_with l mode start id = record { rest = refl; count = count_kept l mode start id }
@@ -226,14 +209,7 @@ entering_started {w} {l} {mode} {start} {id} leads old = record {
 -- ---- the modes of a build
 
 pub has_no : (b : Build) → has_unanchored b.start_kind ≡ true → Contains (built_modes b) Anchored.No
-has_no b e =
-    let front = (if has_unanchored b.start_kind then Anchored.No ∷ [] else []) in
-    let middle = (if has_anchored b.start_kind then Anchored.Yes ∷ [] else []) in
-    let last = (if b.pattern_starts then pattern_modes (length b.nfa.start_patterns) else []) in
-    Contains-append_left (front ++ middle) last Anchored.No
-    (Contains-append_left front middle Anchored.No
-    (subst (λ (c : Bool). Contains (if c then Anchored.No ∷ [] else []) Anchored.No) (sym e)
-    (Contains-here Anchored.No [])))
+has_no b e = grind (arith, common_steps)
 
 pub has_yes : (b : Build) → has_anchored b.start_kind ≡ true → Contains (built_modes b) Anchored.Yes
 has_yes b e =
@@ -279,63 +255,18 @@ start_reached b mode start row built is alive = record {
 -- ---- a table that is begun
 
 zero_word : (n k : ℕ) → slice_index (replicate n 0) k ≡ 0
-zero_word n k =
-    ⊎_elim
-    (λ (h : k < n). get_or-replicate n k 0 0 h)
-    (λ (h : n ≤ k). get_or_past (replicate n 0) k 0 (omega (arith, length-replicate n (let x : ℕ = 0 in x))))
-    (cases_lt k n)
+zero_word n k = grind (arith, common_steps, get_or-replicate, get_or_past, replicate, length-replicate, cases_lt)
 
 pub zero_row : (l : Layout) → 0 / stride l ≡ 0
-zero_row l =
-    let zeros : 0 * stride l + 0 ≡ 0 = omega arith in
-    ap (λ n. n / stride l) (sym zeros) ∙ div-mul-add 0 (stride l) 0 (pow_pos l.stride2)
+zero_row l = grind (arith, common_steps, div-mul-add, pow_pos)
 
 -- it has the dead row and the quit row, which lead to dead
 pub working_begun : (k : Keying) (limits : SizeLimits) (b : Beginning) (l : Layout) → l ≡ initial b
     → IsWorking k limits none_met l
-working_begun k limits b l is = record {
-  bare = record {
-    slices = ap (λ (n : Layout). n.slices) is;
-    pattern_ids = ap (λ (n : Layout). n.pattern_ids) is;
-    accels = ap (λ (n : Layout). n.accels) is;
-  };
-  count =
-      ap row_count is ∙ ap (λ n. n / stride (initial b)) (words ∙ two) ∙ div-mul-add 2 (stride (initial b)) 0
-      (pow_pos (initial b).stride2);
-  distinct = λ i j d less low. absurd (omega arith);
-  are_keys = All-nil (λ key. k.is_key key ≡ true);
-  reached = All-nil (λ key. IsReached k.build (k.state_of key));
-  size = refl;
-  patterns = refl;
-  few_patterns = omega arith;
-  table = λ some. absurd (omega arith);
-  construction = λ some. absurd (omega arith);
-}
-  where
-    words : length (initial b).words ≡ 2 * stride (initial b)
-    words = length-replicate (2 * stride (initial b)) 0
-
-    two : 2 * stride (initial b) ≡ 2 * stride (initial b) + 0
-    two = omega arith
+working_begun k limits b l is = grind (arith, common_steps, div-mul-add, pow_pos, length-replicate)
 
 pub written_begun : (k : Keying) (b : Beginning) (l : Layout) → l ≡ initial b → AreWritten k none_met l 0 0
-written_begun k b l is = record {
-  within = omega arith;
-  list = record {
-    reached = All-nil (λ key. IsReached k.build (k.state_of key));
-    steps = λ id key there low. absurd (omega arith);
-  };
-  starts = λ mode start low. absurd (omega arith);
-  dead_stays = λ unit is_unit. to_dead 0 unit;
-  quit_ends = λ unit is_unit. to_dead 1 unit;
-}
-  where
-    to_dead : (row unit : ℕ) → (machine_of l).next row unit ≡ 0
-    to_dead row unit =
-        ap (λ (n : Layout). (machine_of n).next row unit) is
-        ∙ ap (λ n. n / stride (initial b))
-        (zero_word (2 * stride (initial b)) (row * stride (initial b) + column (initial b) unit))
-        ∙ zero_row (initial b)
+written_begun k b l is = grind (arith, common_steps, zero_word, zero_row)
 
 -- ---- a start row that was found
 
@@ -380,11 +311,7 @@ module _ {w v : Work} {l n : Layout} {mode : Anchored} {start : Start} (sets : S
       (set_after mode start found entering low))
 
   pub start_continues : Continues w l v n
-  start_continues =
-      let last : Continues v sets.between v n =
-      subst (λ (k : Layout). Continues v sets.between v k) (sym sets.is)
-      (continues_over v (started_with sets.between mode start sets.id)) in
-      continues_twice (continues_found sets.found) last
+  start_continues = grind (arith, common_steps, continues_over, started_with, continues_twice, continues_found)
 
 -- the state in which a search starts is reached
 pub row_reached : (b : Build) (mode : Anchored) (start : Start) (row : Option ℕ)
@@ -433,8 +360,7 @@ anchored_built b = where_some (has_anchored b.start_kind) b.nfa.start_anchored _
 
 pub pattern_row : (b : Build) (k : ℕ) (start : Start) → b.pattern_starts ≡ true
     → built_entry b (Anchored.Pattern k) start ≡ start_node b.nfa (slice_get b.nfa.start_patterns k) start
-pattern_row b k start e =
-    ap (λ (c : Bool). if c then start_node b.nfa (slice_get b.nfa.start_patterns k) start else dead) e
+pattern_row b k start e = grind (arith, common_steps)
 
 pub pattern_built : (b : Build) (k : ℕ) → b.pattern_starts ≡ true → (row : Option ℕ)
     → slice_get b.nfa.start_patterns k ≡ row → IfSome row (λ _. Contains (built_modes b) (Anchored.Pattern k))

@@ -1,6 +1,7 @@
 -- A state that is stepped column by column: what is kept where states are entered, and where a cell is set.
-use Rattle.std.proofs.Common.{◌≡◌, ℕ, ◌+◌, ◌*◌, ◌/◌, ◌<◌, ◌≤◌, true, false, Option, Some, None, List, []}
-use Rattle.std.proofs.Common.{length, refl, ap, sym, ◌∙◌, subst, arith, inl, inr, ◌⊎◌, ⊎_elim}
+use Rattle.std.proofs.lemmas.Grind.{common_steps}
+use Rattle.std.proofs.Common.{◌≡◌, ℕ, ◌+◌, ◌*◌, ◌/◌, ◌<◌, ◌≤◌, true, false, Option, Some, None, List, [], length, refl}
+use Rattle.std.proofs.Common.{ap, sym, ◌∙◌, subst, arith, inl, inr, ◌⊎◌, ⊎_elim}
 use Rattle.std.proofs.lemmas.Bool.{cases_lt}
 use Rattle.std.proofs.lemmas.List.{length-set}
 use Rattle.std.proofs.lemmas.List.Elements.{All-get_or}
@@ -30,9 +31,7 @@ use Rattle.rx_determinize.proofs.FillingLaws.{written_kept}
 
 ready_next : (s : Stepping) (l m : Layout) (at : Progress) → IsWrittenOver l m → (c : ℕ)
     → IsReady s m (next_column at) c → (c ≡ at.column) ⊎ IsReady s l at c
-ready_next s l m at over c (inl passed) =
-    ⊎_elim (λ (less : c < at.column). inr (inl less)) (λ (past : at.column ≤ c). inl (omega arith))
-    (cases_lt c at.column)
+ready_next s l m at over c (inl passed) = grind (arith, common_steps, cases_lt)
 ready_next s l m at over c (inr alone) =
     let stays = subst (λ (n : Layout). contains n.quit (unit_of n.classes c) ≡ false) over alone.1 in
     inr (inr (alone.0, stays, alone.2))
@@ -231,8 +230,7 @@ module _ {w : Work} {l : Layout} {at : Progress} {last : Last} (stepping : IsSte
 module _ {w v : Work} {l : Layout} {at : Progress} {last : Last} (stepping : IsStepping w l at last) {m : Layout}
     {id : ℕ} (found : FindsRow w l (Running (stepped w.stepping at.column)) v m id) where
   found_with : FindsRow w l (Running (stepped w.stepping at.column)) (record w { met = v.met }) m id
-  found_with =
-      subst (λ (u : Work). FindsRow w l (Running (stepped w.stepping at.column)) u m id) found.same found
+  found_with = grind (arith, common_steps)
 
   pub row_there : at.place + 2 < row_count m
   row_there = found_row stepping found_with

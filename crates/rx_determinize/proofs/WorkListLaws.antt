@@ -1,4 +1,5 @@
 -- The loop that enters all states that are reached: what a step keeps, and what holds where it ends.
+use Rattle.std.proofs.lemmas.Grind.{common_steps}
 use Rattle.std.proofs.Common.{◌≡◌, ◌≢◌, ℕ, zero, suc, ◌+◌, ◌<◌, ◌≤◌, Bool, true, false, Some, List, [], ◌∷◌, ◌++◌}
 use Rattle.std.proofs.Common.{length, map, get_or, refl, ap, sym, ◌∙◌, subst, arith, ⊎_elim}
 use Rattle.std.proofs.lemmas.List.{length-map, map-append}
@@ -10,9 +11,9 @@ use Rattle.std.specs.Option.{option_map}
 use Rattle.std.specs.Prelude.{All, AllPairs, Contains, slice_get, if◌then◌else◌, MatchBool}
 use Rattle.rx_spec.specs.Queries.{Anchored}
 use Rattle.rx_spec.specs.Machines.{run, IsWord}
-use Rattle.rx_spec.specs.States.{State, dead_state}
-use Rattle.rx_spec.specs.Builds.{Build, Node, Quit, Running, dead, is_dead, is_dead_state, next_node, built_entry}
-use Rattle.rx_spec.specs.Builds.{IsReached, AreReached}
+use Rattle.rx_spec.specs.States.{State}
+use Rattle.rx_spec.specs.Builds.{Build, Node, Quit, Running, is_dead_state, next_node, built_entry, IsReached}
+use Rattle.rx_spec.specs.Builds.{AreReached}
 use Rattle.rx_spec.specs.Causes.{Exceeds}
 use Rattle.rx_spec.specs.declared.Start.{Start}
 use Rattle.lemmas_walks.proofs.Words.{run-append, run-nil, run-cons, IsWord-append, IsWord-cons, IsWord-nil}
@@ -28,16 +29,7 @@ slice_get-append (z ∷ xs) ys (suc i) x there = slice_get-append xs ys i x ther
 -- rows stay
 pub row_stays : (states more : List State) (node : Node) (row : ℕ) → IsRowOf states node row
     → IsRowOf (states ++ more) node row
-row_stays states more node row is_row = at (is_dead node) is_row
-  where
-    stays : slice_get (nodes states) row ≡ Some node → slice_get (nodes (states ++ more)) row ≡ Some node
-    stays there = ap (λ l. slice_get (dead ∷ Quit ∷ l) row) (map-append Running states more) ∙ slice_get-append
-        (nodes states) (map Running more) row node there
-
-    at : (b : Bool) → MatchBool b (row ≡ 0) (slice_get (nodes states) row ≡ Some node)
-        → MatchBool b (row ≡ 0) (slice_get (nodes (states ++ more)) row ≡ Some node)
-    at true h = h
-    at false h = stays h
+row_stays states more node row is_row = grind (arith, common_steps, map-append, slice_get-append)
 
 -- a step of a reached state is reached
 pub reached_step : {b : Build} {s t : State} (unit : ℕ) → unit < 257 → next_node b (Running s) unit ≡ Running t
@@ -127,9 +119,7 @@ pub interned_row : {key : List ℕ} {id : ℕ} {before after : List (List ℕ)} 
     → Interns before key id after → is_dead_state (state_of key) ≡ false
     → IsRowOf (map state_of after) (Running (state_of key)) (suc (suc id))
 interned_row {key} {id} {before} {after} state_of interns alive =
-    in_false (suc (suc id) ≡ 0) (is_dead_state (state_of key)) alive
-    (slice_get-map Running (map state_of after) id
-    ∙ ap (option_map Running) (state_at state_of after id interns.here))
+    grind (arith, common_steps, in_false, slice_get-map, state_at)
 
 map_at : {X Y : Type 0} (f : X → Y) (xs : List X) (i : ℕ) (y : Y) → slice_get (map f xs) i ≡ Some y
     → (x : X) × (slice_get xs i ≡ Some x) × (f x ≡ y)
@@ -150,37 +140,18 @@ record HasKey (state_of : List ℕ → State) (keys : List (List ℕ)) (s : Stat
 
 key_of_row : (state_of : List ℕ → State) (keys : List (List ℕ)) (s : State) (row : ℕ) → is_dead_state s ≡ false
     → IsRowOf (map state_of keys) (Running s) row → HasKey state_of keys s row
-key_of_row state_of keys s row alive is_row =
-    at row (when_false (row ≡ 0) (slice_get (nodes (map state_of keys)) row ≡ Some (Running s)) alive is_row)
-  where
-    at : (row : ℕ) → slice_get (nodes (map state_of keys)) row ≡ Some (Running s) → HasKey state_of keys s row
-    at zero there = let e : dead_state ≡ s = cc in absurd (cc (alive, ap is_dead_state e))
-    at (suc zero) there = absurd cc
-    at (suc (suc id)) there =
-        let t = map_at Running (map state_of keys) id (Running s) there in
-        let u = map_at state_of keys id t.0 t.1 in
-        let e : t.0 ≡ s = cc in
-        record { id = id; key = u.0; row_is = refl; there = u.1; stands = u.2 ∙ e }
+key_of_row state_of keys s row alive is_row = grind (arith, common_steps, when_false, map_at)
 
 module _ {b : Build} {state_of : List ℕ → State} {next : ℕ → ℕ → ℕ} {keys : List (List ℕ)} {done : ℕ}
     (work : IsWorkList b state_of next keys done) where
   -- other rows that are the same as far as they are done
   pub same_rows : (later : ℕ → ℕ → ℕ) → ((id unit : ℕ) → id < done → unit < 257 → later id unit ≡ next id unit)
       → IsWorkList b state_of later keys done
-  same_rows later same_next = record {
-    reached = work.reached;
-    steps = λ id key there lt unit is_unit.
-        rw (same_next id unit lt is_unit) (work.steps id key there lt unit is_unit);
-  }
+  same_rows later same_next = grind (arith, common_steps)
 
   step_row : length keys ≤ done → (node : Node) (row unit : ℕ) → unit < 257 → IsRowOf (map state_of keys) node row
       → IsRowOf (map state_of keys) (next_node b node unit) (next_row next row unit)
-  step_row all Quit row unit is_unit is_row = at row is_row
-    where
-      at : (row : ℕ) → slice_get (nodes (map state_of keys)) row ≡ Some Quit → next_row next row unit ≡ 0
-      at zero there = refl
-      at (suc zero) there = refl
-      at (suc (suc id)) there = absurd (cc (map_at Running (map state_of keys) id Quit there).2)
+  step_row all Quit row unit is_unit is_row = grind (arith, common_steps, map_at)
   step_row all (Running s) row unit is_unit is_row = ⊎_elim dies lives (cases_Bool (is_dead_state s))
     where
       dies : is_dead_state s ≡ true

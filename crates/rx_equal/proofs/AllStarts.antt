@@ -1,12 +1,12 @@
 -- Starts of all modes: those of patterns past the last part nothing.
-use Rattle.std.proofs.Common.{ℕ, ◌≡◌, ◌<◌, ◌≤◌, max, Bool, true, false, if◌then◌else◌, Option, Some, None, Result}
-use Rattle.std.proofs.Common.{Ok, Err, List, refl, sym, ◌∙◌, subst, arith, ⊎_elim}
+use Rattle.std.proofs.lemmas.Grind.{common_steps}
+use Rattle.std.proofs.Common.{ℕ, ◌≡◌, ◌<◌, ◌≤◌, max, Bool, true, false, if◌then◌else◌, Option, Some, None, Result, Ok}
+use Rattle.std.proofs.Common.{Err, List, refl, sym, ◌∙◌, subst, arith, ⊎_elim}
 use Rattle.std.proofs.lemmas.Bool.{cases_lt}
 use Rattle.std.specs.Prelude.{is_some, IfSome}
-use Rattle.rx_spec.specs.Bytes.{contains}
 use Rattle.rx_spec.specs.Queries.{Anchored}
 use Rattle.rx_spec.specs.Machines.{IsWord, Settings}
-use Rattle.rx_spec.specs.Starts.{StartError, start_context, start_error}
+use Rattle.rx_spec.specs.Starts.{StartError, start_error}
 use Rattle.rx_spec.specs.Tables.{Table, IsTable}
 use Rattle.rx_spec.specs.declared.Start.{Start}
 use Rattle.lemmas_walks.proofs.SilentRows.{zero_is_silent}
@@ -28,11 +28,8 @@ quits_by false v quit error e = supported_by v error e
 
 have_starts : (s : Settings) (beside : Option ℕ) (k : ℕ) → start_error s beside (Anchored.Pattern k) ≡ None
     → is_some s.pattern_starts ≡ true
-have_starts s None k e =
-    supported_by (is_some s.pattern_starts) (StartError.UnsupportedAnchored (Anchored.Pattern k)) e
-have_starts s (Some byte) k e =
-    quits_by (contains s.quit byte) (is_some s.pattern_starts) (StartError.Quit byte)
-    (StartError.UnsupportedAnchored (Anchored.Pattern k)) e
+have_starts s None k e = grind (arith, common_steps, supported_by)
+have_starts s (Some byte) k e = grind (arith, common_steps, quits_by)
 
 -- past the last pattern its starts are dead
 dead_by : (t : Table) → IsTable t → HasOwnStarts t → (k : ℕ) (start : Start) (o : Option ℕ)
@@ -44,10 +41,7 @@ dead_by t is own k start None e has past = absurd (cc)
 dead_answer : (t : Table) → IsTable t → HasOwnStarts t → (beside : Option ℕ) (k : ℕ)
     → start_error t.settings beside (Anchored.Pattern k) ≡ None → t.pattern_len < k
     → answer_at t (record { beside = beside; mode = Anchored.Pattern k }) ≡ Ok 0
-dead_answer t is own beside k e past =
-    answers_row t (record { beside = beside; mode = Anchored.Pattern k }) 0 e
-    (sym (dead_by t is own k (start_context t.settings beside) t.settings.pattern_starts refl
-    (have_starts t.settings beside k e) past))
+dead_answer t is own beside k e past = grind (arith, common_steps, answers_row, dead_by, have_starts)
 
 module _ (t u : Table) (is : IsTable t) (other_is : IsTable u) (own : HasOwnStarts t) (other_own : HasOwnStarts u)
     (nothing : NothingParts t u) where
@@ -56,11 +50,7 @@ module _ (t u : Table) (is : IsTable t) (other_is : IsTable u) (own : HasOwnStar
       → (word : List ℕ) → IsWord word
       → AreAlikeBy t u word (answer_at t (record { beside = beside; mode = Anchored.Pattern k }))
       (answer_at u (record { beside = beside; mode = Anchored.Pattern k }))
-  past_last beside k (Some error) e past word w =
-      let place : StartConfig = record { beside = beside; mode = Anchored.Pattern k } in
-      let f = sym (equal_refusals t u nothing beside (Anchored.Pattern k)) ∙ e in
-      subst (λ answer. AreAlikeBy t u word answer (answer_at u place)) (sym (answers_error t place error e))
-      (subst (AreAlikeBy t u word (Err error)) (sym (answers_error u place error f)) refl)
+  past_last beside k (Some error) e past word w = grind (arith, common_steps, equal_refusals, answers_error)
   past_last beside k None e past word w =
       let place : StartConfig = record { beside = beside; mode = Anchored.Pattern k } in
       let f = sym (equal_refusals t u nothing beside (Anchored.Pattern k)) ∙ e in
@@ -86,8 +76,7 @@ module _ (t u : Table) (is : IsTable t) (other_is : IsTable u) (own : HasOwnStar
       (cases_lt (max t.pattern_len u.pattern_len) k)
 
 pub no_start_parts : NoStartParts
-no_start_parts t u is other_is own other_own nothing place h word w =
-    by_mode t u is other_is own other_own nothing place.beside place.mode h word w
+no_start_parts t u is other_is own other_own nothing place h word w = grind (arith, common_steps, by_mode)
 
 -- ---- what equals an equal table
 

@@ -1,5 +1,6 @@
 -- What the walk that compares two tables keeps, and what it answers.
-use Rattle.std.proofs.Common.{ℕ, ◌≡◌, ◌+◌, ◌<◌, ◌≤◌, Option, None, Some, List, [], get_or, length, sym, subst, arith}
+use Rattle.std.proofs.lemmas.Grind.{common_steps}
+use Rattle.std.proofs.Common.{ℕ, ◌≡◌, ◌+◌, ◌<◌, ◌≤◌, Option, None, Some, List, [], get_or, length, subst, arith}
 use Rattle.std.specs.Prelude.{slice_get}
 use Rattle.std.proofs.lemmas.List.{length-map}
 use Rattle.std.proofs.lemmas.Option.{slice_get-get_or}
@@ -10,8 +11,7 @@ use Rattle.rx_equal.specs.declared.walk.Walk.{Walk}
 use Rattle.rx_equal.specs.Evidence.{RowPair, next_pair}
 use Rattle.rx_equal.specs.Pairs.{AreKept, pairs_of, rows_of}
 use Rattle.rx_equal.specs.Places.{HaveNexts, MeetAll}
-use Rattle.rx_equal.specs.Walks.{AreLabelled, AreWalked, IsApart, IsEqual, IsPathTo, IsWalk, LookedAtAll, SteppedAll}
-use Rattle.rx_equal.specs.Walks.{ExtendsBy, WentOn}
+use Rattle.rx_equal.specs.Walks.{AreLabelled, AreWalked, IsApart, IsEqual, IsPathTo, LookedAtAll, SteppedAll, WentOn}
 use Rattle.rx_base.specs.StartConfig.{StartConfig}
 use Rattle.rx_equal.proofs.Layers.{Layers, ahead, apart_by, layers_first, layers_on}
 use Rattle.rx_equal.proofs.Sides.{Sides}
@@ -32,25 +32,13 @@ pub record IsUnderWay (s : Sides) (w : Walk) (at : ℕ) : Type 0 where
 
 pub walked_none : {s : Sides} {w : Walk} → AreKept s.ids s.others w.pairs → pairs_in s w ≡ [] → w.links ≡ []
     → AreWalked s.t s.ids s.u s.others w
-walked_none {s} {w} kept none no_links = record {
-  kept = kept;
-  walk = subst (λ ps. IsWalk s.t s.u w.links ps) (sym none)
-      (subst (λ ls. IsWalk s.t s.u ls []) (sym no_links) (walk_none s.t s.u));
-}
+walked_none {s} {w} kept none no_links = grind (arith, common_steps, walk_none)
 
 -- all places were looked at, and the tables differ at none of them
 pub way_begins : {s : Sides} {before w : Walk} {found : Option StartConfig} → before.links ≡ []
     → WentOn s.t s.ids s.u s.others None before w → LookedAtAll s.t s.u (pairs_in s w) found → found ≡ None
     → IsUnderWay s w 0
-way_begins {s} {before} {w} no_links went looked none =
-    let all = subst (LookedAtAll s.t s.u (pairs_in s w)) none looked in
-    record {
-      walked = went.walked;
-      labels = all.0;
-      met = all.1;
-      layers = layers_first went.walked.walk all.1 (subst (λ ls. ExtendsBy None ls w.links) no_links went.links);
-      nexts = λ k h. absurd (omega (arith, h));
-    }
+way_begins {s} {before} {w} no_links went looked none = grind (arith, common_steps, layers_first)
 
 -- the length of the list of ids is that of the pairs
 count_in : (s : Sides) (w : Walk) → length (pairs_in s w) ≡ length w.pairs.list.items

@@ -1,8 +1,8 @@
 -- The tables of the examples: they are sound, and which of their pairs of rows are closed.
-use Rattle.std.proofs.Common.{ℕ, ◌≡◌, ◌<◌, ◌==◌, ◌&&◌, Bool, true, false, if◌then◌else◌, Option, Some, None}
-use Rattle.std.proofs.Common.{List, [], ◌∷◌, refl, sym, subst, arith}
+use Rattle.std.proofs.lemmas.Grind.{common_steps}
+use Rattle.std.proofs.Common.{ℕ, ◌≡◌, ◌<◌, ◌==◌, ◌&&◌, Bool, true, false, if◌then◌else◌, Option, Some, None, List, []}
+use Rattle.std.proofs.Common.{◌∷◌, refl, arith}
 use Rattle.std.proofs.lemmas.Bool.{eqb-true}
-use Rattle.std.proofs.lemmas.List.Elements.{All-contains, All-from_recursion}
 use Rattle.std.specs.Prelude.{nat_lt, All, Contains}
 use Rattle.rx_spec.specs.Bytes.{contains}
 use Rattle.rx_spec.specs.Queries.{Anchored}
@@ -55,9 +55,7 @@ patterns_below : (n : ℕ) (told : List ℕ) (quit last : Bool) (ks : List ℕ) 
     → label_by told quit last ≡ Label.Matches ks → Contains ks k → k < n
 patterns_below n told true last ks k all e c = absurd (cc)
 patterns_below n [] false true ks k all e c = absurd (cc)
-patterns_below n (j ∷ js) false true ks k all e c =
-    All-contains (λ (i : ℕ). i < n) (j ∷ js) k all
-    (subst (λ xs. Contains xs k) (sym (same_patterns (j ∷ js) ks e)) c)
+patterns_below n (j ∷ js) false true ks k all e c = grind (arith, common_steps, same_patterns)
 patterns_below n told false false ks k all e c = absurd (cc)
 
 starts_plain : (told : List ℕ) (mode : Anchored) → told_by told (start_of_mode mode) ≡ Label.Plain
@@ -107,8 +105,7 @@ three_pairs to other = pair 2 2 ∷ pair to other ∷ pair 0 0 ∷ []
 
 by_three : (P : RowPair → Type 0) (to other : ℕ) → P (pair 2 2) → P (pair to other) → P (pair 0 0) → (p : RowPair)
     → Contains (three_pairs to other) p → P p
-by_three P to other start byte dead p c =
-    All-contains P (three_pairs to other) p (All-from_recursion P (three_pairs to other) (start, (byte, (dead, tt)))) c
+by_three P to other start byte dead p c = grind (arith, common_steps)
 
 dead_there : (to other : ℕ) → Contains (three_pairs to other) (pair 0 0)
 dead_there to other = (2, omega arith, refl)

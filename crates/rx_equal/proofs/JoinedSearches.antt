@@ -1,15 +1,16 @@
 -- Searches that are made of half searches are alike in a mode where these are: with matches inside a character passed
 -- over, joined, and one after another. Each asks only queries of its own mode, and of the anchored one in reverse.
-use Rattle.std.proofs.Common.{◌≡◌, ℕ, suc, zero, ◌-◌, ◌==◌, ◌||◌, Bool, true, false, if◌then◌else◌, Some}
-use Rattle.std.proofs.Common.{None, Ok, Err, refl, ap, ap₂, sym, ◌∙◌, subst}
+use Rattle.std.proofs.Common.{arith, ◌≡◌, ℕ, suc, zero, ◌-◌, Bool, true, false, if◌then◌else◌, Some, None, Ok, Err}
+use Rattle.std.proofs.Common.{refl, ap, ap₂, ◌∙◌}
+use Rattle.std.proofs.lemmas.Grind.{common_steps}
 use Rattle.rx_spec.specs.Bytes.{AreBytes}
-use Rattle.rx_spec.specs.Queries.{Anchored, Query, is_anchored}
+use Rattle.rx_spec.specs.Queries.{Anchored, Query}
 use Rattle.rx_spec.specs.Tables.{Table}
 use Rattle.rx_spec.specs.HalfSearches.{HalfAnswer, half_search}
 use Rattle.rx_spec.specs.Overlapping.{OverlappingMatches}
 use Rattle.rx_spec.specs.Splits.{narrower, unless_split, skip_splits, split_limit, skips_splits, half_unsplit}
 use Rattle.rx_spec.specs.Splits.{items_unsplit}
-use Rattle.rx_spec.specs.Joining.{match_at, with_start, back_from, with_end, joined_search, join}
+use Rattle.rx_spec.specs.Joining.{with_end, joined_search, join}
 use Rattle.rx_spec.specs.declared.Direction.{Direction}
 use Rattle.lemmas_walks.proofs.ReadUnits.{narrower_bytes}
 use Rattle.rx_meaning.proofs.IteratedSearches as iterated
@@ -43,16 +44,13 @@ unsplit skips search direction q = if skips then skip_splits search direction (s
 
 unsplit_alike : (skips : Bool) (mode : Anchored) (g h : Query → HalfAnswer) → AlikeIn mode g h
     → (direction : Direction) → AlikeIn mode (unsplit skips g direction) (unsplit skips h direction)
-unsplit_alike true mode g h alike direction q bytes is =
-    skips_alike mode g h alike direction (split_limit q) q bytes is
+unsplit_alike true mode g h alike direction q bytes is = grind (arith, common_steps, skips_alike)
 unsplit_alike false mode g h alike direction q bytes is = alike q bytes is
 
 module _ (t u : Table) (same : MeanTheSame t u) (direction : Direction) where
   tables_alike : (mode : Anchored) → IsModeOf t u mode
       → AlikeIn mode (half_search t.machine t.settings direction) (half_search u.machine u.settings direction)
-  tables_alike mode is q bytes e =
-      half_alike t u same.is_table same.other_is_table same.nothing direction q bytes
-      (subst (IsModeOf t u) (sym e) is)
+  tables_alike mode is q bytes e = grind (arith, common_steps, half_alike)
 
   half_unsplit_in : (mode : Anchored) → IsModeOf t u mode
       → AlikeIn mode (half_unsplit t direction) (half_unsplit u direction)
@@ -68,18 +66,14 @@ abbrev sifted : Bool → Query → OverlappingMatches → OverlappingMatches
 sifted skips q matches = if skips then items_unsplit q matches else matches
 
 pub overlapping_unsplit_alike : OverlappingUnsplitAlike
-overlapping_unsplit_alike t u same direction q bytes is =
-    ap₂ (λ v. sifted v q) same.skips
-    (overlapping_alike t u same.is_table same.other_is_table same.nothing direction q bytes is)
+overlapping_unsplit_alike t u same direction q bytes is = grind (arith, common_steps, overlapping_alike)
 
 -- ---- joined
 
 with_end_alike : (g h : Query → HalfAnswer) → AlikeIn Anchored.Yes g h → (always : Bool) (q : Query)
     → AreBytes q.haystack → (o : HalfAnswer) → with_end g always q o ≡ with_end h always q o
 with_end_alike g h alike always q bytes (Ok None) = refl
-with_end_alike g h alike always q bytes (Ok (Some end)) =
-    ap (λ (o : HalfAnswer). if (end.offset == q.start) || is_anchored q.mode || always
-    then match_at end.pattern q.start end.offset else with_start end o) (alike (back_from q end.offset) bytes refl)
+with_end_alike g h alike always q bytes (Ok (Some end)) = grind (arith, common_steps)
 with_end_alike g h alike always q bytes (Err error) = refl
 
 module _ (f r g s : Table) (same : PairsMeanTheSame f r g s) (mode : Anchored) (is : IsModeOf f g mode) where

@@ -1,9 +1,8 @@
 -- The keys of pairs of ids, and the rows of ids.
-use Rattle.std.proofs.Common.{ℕ, ◌≡◌, ◌^◌, ◌<◌, ◌==◌, Bool, true, false, Some, None, if◌then◌else◌, List, []}
-use Rattle.std.proofs.Common.{◌∷◌, ◌++◌}
-use Rattle.std.proofs.Common.{length, refl, ap, ap₂, sym, ◌∙◌, arith, ⊎_elim, subst}
-use Rattle.std.specs.Prelude.{unwrap_or, nat_lt, nat_eq, cond, Contains, IsTrue, ◌↔◌}
-use Rattle.std.specs.List.{position_or_len}
+use Rattle.std.proofs.lemmas.Grind.{common_steps}
+use Rattle.std.proofs.Common.{ℕ, ◌≡◌, ◌^◌, ◌<◌, Bool, true, false, Some, None, if◌then◌else◌, List, [], ◌∷◌, ◌++◌, refl}
+use Rattle.std.proofs.Common.{ap, sym, ◌∙◌, arith, ⊎_elim, subst}
+use Rattle.std.specs.Prelude.{unwrap_or, nat_eq, cond, Contains, IsTrue, ◌↔◌}
 use Rattle.std.proofs.lemmas.Bool.{eqb-true}
 use Rattle.std.proofs.lemmas.Bool.Decides.{eqb_tells}
 use Rattle.std.proofs.lemmas.List.Sums.{passes_at_first}
@@ -15,10 +14,7 @@ use Rattle.rx_equal.specs.declared.pairs.Pair.{Pair}
 use Rattle.rx_equal.specs.Pairs.{key_of, rows_of, IsPairOf}
 
 pub key_tells : (p q : Pair) → p.other < 2 ^ 32 → q.other < 2 ^ 32 → key_of p ≡ key_of q → p ≡ q
-key_tells p q hp hq e =
-    let i : p.id ≡ q.id = omega arith in
-    let o : p.other ≡ q.other = omega arith in
-    ap₂ (λ (i o : ℕ). record { id = i; other = o }) i o
+key_tells p q hp hq e = grind (arith, common_steps)
 
 -- a first place that is within a list
 first_is : (k n : ℕ) (within : Bool) → unwrap_or (if within then Some k else None) n < n
@@ -28,12 +24,7 @@ first_is k n false h = absurd (omega (arith, h))
 
 -- a number that is an id stands at its row
 pub id_at_row : (ids : List ℕ) (id : ℕ) → IsId ids id → id_of ids (row_of ids id) ≡ id
-id_at_row ids id is =
-    let first = position_or_len (λ other. other == id) ids in
-    let place = first_is first (length ids) (nat_lt first (length ids)) is in
-    ap (id_of ids) place
-    ∙ eqb-true (id_of ids first) id
-    (passes_at_first (λ other. other == id) ids 0 (subst (λ k. k < length ids) place is))
+id_at_row ids id is = grind (arith, common_steps, first_is, eqb-true, passes_at_first)
 
 pub id_tells : (ids : List ℕ) (x y : ℕ) → IsId ids x → IsId ids y → row_of ids x ≡ row_of ids y → x ≡ y
 id_tells ids x y hx hy e = sym (id_at_row ids x hx) ∙ ap (id_of ids) e ∙ id_at_row ids y hy
@@ -41,10 +32,7 @@ id_tells ids x y hx hy e = sym (id_at_row ids x hx) ∙ ap (id_of ids) e ∙ id_
 module _ (ids others : List ℕ) where
   pub rows_tell : (p q : Pair) → IsPairOf ids others p → IsPairOf ids others q
       → rows_of ids others p ≡ rows_of ids others q → p ≡ q
-  rows_tell p q hp hq e =
-      ap₂ (λ (i o : ℕ). record { id = i; other = o })
-      (id_tells ids p.id q.id hp.first hq.first (ap (λ (r : RowPair). r.row) e))
-      (id_tells others p.other q.other hp.second hq.second (ap (λ (r : RowPair). r.other) e))
+  rows_tell p q hp hq e = grind (arith, common_steps, id_tells)
 
   -- one more key, and one more pair
   pub known_more : (f g : ℕ → Bool) (pairs : List RowPair) (added : Pair) → IsPairOf ids others added

@@ -1,50 +1,31 @@
 -- Places of which pairs take care.
-use Rattle.std.proofs.Common.{ℕ, zero, suc, ◌≡◌, ◌+◌, ◌<◌, ◌≤◌, max, Some, None, Result, Ok, Err, Option, List, []}
-use Rattle.std.proofs.Common.{◌∷◌, ◌++◌, refl, ap, sym, ◌∙◌, subst, arith}
+use Rattle.std.proofs.lemmas.Grind.{common_steps}
+use Rattle.std.proofs.Common.{ℕ, zero, suc, ◌≡◌, ◌+◌, ◌<◌, ◌≤◌, max, Some, None, Ok, Option, List, [], ◌∷◌, ◌++◌, refl}
+use Rattle.std.proofs.Common.{ap, sym, ◌∙◌, subst, arith, drop, length, ⊎_elim}
 use Rattle.std.proofs.lemmas.Option.{same_Some}
-use Rattle.std.proofs.Common.{Bool, true, false, if◌then◌else◌}
-use Rattle.std.proofs.lemmas.Bool.{lt-ltb, ltb-true}
-use Rattle.std.proofs.Common.{drop, length, ⊎_elim}
-use Rattle.lemmas_walks.proofs.Firsts.{Contains-nil}
+use Rattle.std.proofs.lemmas.Bool.{lt-ltb}
 use Rattle.std.proofs.Math.ListN.{drop_of_length-le}
 use Rattle.std.proofs.lemmas.List.Elements.{Contains-append_left, Contains-push, Contains-push_cases}
-use Rattle.std.specs.Prelude.{Contains, nat_lt, IfSome, slice_get}
-use Rattle.std.specs.Option.{option_and_then}
+use Rattle.std.specs.Prelude.{Contains, IfSome, slice_get}
 use Rattle.rx_spec.specs.Queries.{Anchored}
-use Rattle.rx_spec.specs.Starts.{StartError}
 use Rattle.rx_spec.specs.Tables.{Table}
 use Rattle.rx_base.specs.StartConfig.{StartConfig}
 use Rattle.rx_equal.specs.declared.evidence.Link.{Link}
 use Rattle.rx_equal.specs.Partings.{answer_at, IsModeOf}
 use Rattle.rx_equal.specs.Evidence.{RowPair, start_pair, AreMet, AreClosed, AreEvidence, pairs_from, link_pair}
 use Rattle.rx_equal.specs.Evidence.{HaveEqualLabels}
-use Rattle.rx_equal.specs.Pairs.{AreApart, AreRefused}
-use Rattle.rx_equal.specs.Places.{Meet, MeetMode, MeetAll, mode_at, beside_at}
+use Rattle.rx_equal.specs.Places.{Meet, MeetMode, MeetAll, mode_at}
 use Rattle.rx_equal.proofs.Words.{rows_begin, drop_get}
 
 module _ (t u : Table) (pairs : List RowPair) (place : StartConfig) where
   pub met_rows : (p : RowPair) → start_pair t u place ≡ Some p → Contains pairs p → Meet t u pairs place
-  met_rows p e c =
-      let rows = rows_begin (answer_at t place) (answer_at u place) p e in
-      subst (λ o. AreMet pairs o (answer_at u place)) (sym rows.0)
-      (subst (λ o. AreMet pairs (Ok p.row) o) (sym rows.1) c)
+  met_rows p e c = grind (arith, common_steps, rows_begin)
 
   pub rows_met : (p : RowPair) → start_pair t u place ≡ Some p → Meet t u pairs place → Contains pairs p
   rows_met p e m =
       let rows = rows_begin (answer_at t place) (answer_at u place) p e in
       subst (λ o. AreMet pairs (Ok p.row) o) rows.1
       (subst (λ o. AreMet pairs o (answer_at u place)) rows.0 m)
-
-  pub met_refused : AreRefused t u place → Meet t u pairs place
-  met_refused r =
-      subst (λ o. AreMet pairs o (answer_at u place)) (sym r.first)
-      (subst (λ o. AreMet pairs (Err r.error) o) (sym r.second) refl)
-
-pub apart_unmet : (pairs : List RowPair) (o r : Result ℕ StartError) → AreApart o r → AreMet pairs o r → ⊥
-apart_unmet pairs (Ok x) (Ok y) a m = a
-apart_unmet pairs (Err e) (Err f) a m = a m
-apart_unmet pairs (Ok x) (Err f) a m = m
-apart_unmet pairs (Err e) (Ok y) a m = m
 
 -- ---- places by their numbers
 
@@ -74,13 +55,7 @@ mode_is t u (suc (suc k)) h = omega (arith, h)
 pub beside_met : (t u : Table) (pairs : List RowPair) (mode : Anchored) → MeetMode t u pairs mode → (beside : Option ℕ)
     → IfSome beside (λ byte. byte < 256) → Meet t u pairs (record { beside = beside; mode = mode })
 beside_met t u pairs mode all None h = all 256 (omega arith)
-beside_met t u pairs mode all (Some byte) h =
-    subst (λ b. Meet t u pairs (record { beside = if b then Some byte else None; mode = mode })) (lt-ltb byte 256 h)
-    (all byte (omega arith))
-
-beside_is : (n : ℕ) (b : Bool) → nat_lt n 256 ≡ b → IfSome (if b then Some n else None) (λ byte. byte < 256)
-beside_is n true e = ltb-true n 256 e
-beside_is n false e = tt
+beside_met t u pairs mode all (Some byte) h = grind (arith, common_steps, lt-ltb)
 
 module _ (t u : Table) (pairs : List RowPair) where
   pub all_met : ((m : ℕ) → m < max t.pattern_len u.pattern_len + 3 → MeetMode t u pairs (mode_at m)) → MeetAll t u pairs
@@ -90,32 +65,24 @@ module _ (t u : Table) (pairs : List RowPair) where
       (beside_met t u pairs (mode_at (mode_number mode)) (each (mode_number mode) (mode_below t u mode is.mode))
       place.beside is.beside)
 
-  pub mode_met : MeetAll t u pairs → (m : ℕ) → m < max t.pattern_len u.pattern_len + 3 → MeetMode t u pairs (mode_at m)
-  mode_met all m h n b =
-      all (record { beside = beside_at n; mode = mode_at m })
-      (record { mode = mode_is t u m h; beside = beside_is n (nat_lt n 256) refl })
-
 -- ---- the pairs of links
 
 -- a link's pair comes behind the earlier ones
 pub pairs_step : (t u : Table) (link : Link) (links : List Link) (earlier : List RowPair) (p : RowPair)
     → link_pair t u earlier link ≡ Some p
     → pairs_from t u earlier (link ∷ links) ≡ pairs_from t u (earlier ++ p ∷ []) links
-pairs_step t u link links earlier p e =
-    ap (option_and_then (λ (q : RowPair). pairs_from t u (earlier ++ q ∷ []) links)) e
+pairs_step t u link links earlier p e = grind (arith, common_steps)
 
 pub pairs_stop : (t u : Table) (link : Link) (links : List Link) (earlier : List RowPair)
     → link_pair t u earlier link ≡ None → pairs_from t u earlier (link ∷ links) ≡ None
-pairs_stop t u link links earlier e =
-    ap (option_and_then (λ (q : RowPair). pairs_from t u (earlier ++ q ∷ []) links)) e
+pairs_stop t u link links earlier e = grind (arith, common_steps)
 
 by_pair : (t u : Table) (link : Link) (links : List Link) (earlier pairs : List RowPair)
     → pairs_from t u earlier (link ∷ links) ≡ Some pairs → (p : RowPair) (o : Option RowPair)
     → link_pair t u earlier link ≡ o
     → ((q : RowPair) → pairs_from t u (earlier ++ q ∷ []) links ≡ Some pairs → Contains pairs p) → Contains pairs p
 by_pair t u link links earlier pairs e p (Some q) is go = go q (sym (pairs_step t u link links earlier q is) ∙ e)
-by_pair t u link links earlier pairs e p None is go =
-    let stop = pairs_stop t u link links earlier is in absurd (cc)
+by_pair t u link links earlier pairs e p None is go = grind (arith, common_steps, pairs_stop)
 
 pub pairs_within : (t u : Table) (links : List Link) (earlier pairs : List RowPair)
     → pairs_from t u earlier links ≡ Some pairs → (p : RowPair) → Contains earlier p → Contains pairs p
@@ -130,18 +97,14 @@ pub record AreNamed (t u : Table) (links : List Link) (i : ℕ) (pairs : List Ro
   pub labels : (p : RowPair) → Contains pairs p → HaveEqualLabels t u p
 
 pub named_none : (t u : Table) (links : List Link) {pairs : List RowPair} → pairs ≡ [] → AreNamed t u links 0 pairs
-named_none t u links none = record {
-  left = ap (λ ps. pairs_from t u ps links) none;
-  labels = λ p there. absurd (Contains-nil p (subst (λ ps. Contains ps p) none there));
-}
+named_none t u links none = grind (arith, common_steps)
 
 none_some : {X : Type 0} {x : X} → None ≡ Some x → ⊥
 none_some e = absurd (cc)
 
 pub evidence_closed : {t u : Table} {links : List Link} {pairs : List RowPair} → pairs_from t u [] links ≡ Some pairs
     → AreEvidence t u links → AreClosed t u pairs
-evidence_closed {t} {u} {links} {pairs} named v =
-    subst (AreClosed t u) (same_Some v.pairs pairs (sym v.named ∙ named)) v.closed
+evidence_closed {t} {u} {links} {pairs} named v = grind (arith, common_steps, same_Some)
 
 module _ {t u : Table} {links : List Link} {i : ℕ} {pairs : List RowPair} (named : AreNamed t u links i pairs) where
   pub named_all : length links ≤ i → pairs_from t u [] links ≡ Some pairs
@@ -152,9 +115,7 @@ module _ {t u : Table} {links : List Link} {i : ℕ} {pairs : List RowPair} (nam
 
   pub named_stop : (link : Link) → slice_get links i ≡ Some link → link_pair t u pairs link ≡ None
       → AreEvidence t u links → ⊥
-  named_stop link there e v =
-      none_some (sym (pairs_stop t u link (drop (i + 1) links) pairs e)
-      ∙ ap (pairs_from t u pairs) (sym (drop_get links i link there)) ∙ named.left ∙ v.named)
+  named_stop link there e v = grind (arith, common_steps, none_some, pairs_stop, drop_get)
 
   module _ (link : Link) (p : RowPair) (there : slice_get links i ≡ Some link)
       (names : link_pair t u pairs link ≡ Some p) where

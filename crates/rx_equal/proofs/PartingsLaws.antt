@@ -1,6 +1,7 @@
 -- Laws of partings: a table itself, two tables turned, and what equal tables refuse.
-use Rattle.std.proofs.Common.{ℕ, ◌≡◌, Bool, true, false, if◌then◌else◌, Option, Some, None, Result, Ok, Err}
-use Rattle.std.proofs.Common.{List, [], refl, ap, ap₂, sym, ◌∙◌, arith}
+use Rattle.std.proofs.lemmas.Grind.{common_steps}
+use Rattle.std.proofs.Common.{ℕ, ◌≡◌, Bool, true, false, if◌then◌else◌, Option, Some, None, Result, Ok, Err, List, []}
+use Rattle.std.proofs.Common.{refl, ap, ap₂, sym, arith}
 use Rattle.std.proofs.lemmas.Bool.{ltb-true}
 use Rattle.std.specs.Prelude.{◌<◌, is_some, nat_lt}
 use Rattle.rx_spec.specs.Bytes.{contains}
@@ -40,15 +41,10 @@ mode_turned t u Anchored.Yes is = tt
 mode_turned t u (Anchored.Pattern k) is = omega (arith, is)
 
 pub nothing_parts_turned : NothingPartsTurned
-nothing_parts_turned t u nothing place is word w =
-    alike_turned t u word (answer_at t place) (answer_at u place)
-    (nothing place (record { mode = mode_turned u t place.mode is.mode; beside = is.beside }) word w)
+nothing_parts_turned t u nothing place is word w = grind (arith, common_steps, alike_turned, mode_turned)
 
 pub parting_turned : PartingTurned
-parting_turned t u place word parting = (
-  mode_turned t u place.mode parting.0,
-  λ alike. parting.1 (alike_turned u t word (answer_at u place) (answer_at t place) alike),
-)
+parting_turned t u place word parting = grind (arith, common_steps, mode_turned, alike_turned)
 
 -- ---- refusals
 
@@ -96,9 +92,7 @@ supports_in t mode = supports t.settings.start_kind (is_some t.settings.pattern_
 supported : (t u : Table) (mode : Anchored)
     → AreAlikeBy t u [] (answer_at t (record { beside = None; mode = mode }))
     (answer_at u (record { beside = None; mode = mode })) → supports_in t mode ≡ supports_in u mode
-supported t u mode alike =
-    supports_alike t u [] (start_row t.machine t.settings None mode) (start_row u.machine u.settings None mode) mode
-    (supports_in t mode) (supports_in u mode) alike
+supported t u mode alike = grind (arith, common_steps, supports_alike)
 
 module _ (t u : Table) (nothing : NothingParts t u) where
   supported_in : (mode : Anchored) → IsModeOf t u mode → supports_in t mode ≡ supports_in u mode
@@ -152,7 +146,4 @@ not_some : true ≡ false → ⊥
 not_some e = cc
 
 pub starts_of_no_pattern : StartsOfNoPattern
-starts_of_no_pattern t u n has none = (
-  omega arith,
-  λ alike. not_some (sym (ap is_some has) ∙ supported t u (Anchored.Pattern 0) alike ∙ ap is_some none),
-)
+starts_of_no_pattern t u n has none = grind (arith, common_steps, not_some, supported)

@@ -1,14 +1,14 @@
 -- The word from a place to a pair, read from the pair's link back to a start.
+use Rattle.std.proofs.lemmas.Grind.{common_steps}
 use Rattle.std.proofs.Common.{ℕ, ◌≡◌, ◌+◌, ◌<◌, ◌≤◌, Some, List, [], ◌∷◌, ◌++◌, length, map, reverse, ap, sym, ◌∙◌}
-use Rattle.std.proofs.Common.{subst, arith}
-use Rattle.std.proofs.Common.{length-append}
+use Rattle.std.proofs.Common.{subst, arith, length-append}
 use Rattle.std.proofs.lemmas.List.{reverse-append, length-reverse}
 use Rattle.std.specs.Prelude.{slice_get}
 use Rattle.rx_spec.specs.Machines.{IsWord, run}
 use Rattle.rx_spec.specs.Tables.{Table}
 use Rattle.rx_spec.specs.declared.Unit.{Unit}
 use Rattle.rx_base.specs.Unit.{unit_number}
-use Rattle.lemmas_walks.proofs.Words.{IsWord-nil, IsWord-cons, run-nil, run-cons}
+use Rattle.lemmas_walks.proofs.Words.{IsWord-cons, run-nil, run-cons}
 use Rattle.rx_equal.specs.declared.evidence.Link.{Link}
 use Rattle.rx_equal.specs.Evidence.{RowPair, next_pair, next_of}
 use Rattle.rx_base.specs.StartConfig.{StartConfig}
@@ -24,15 +24,7 @@ pub record LeadsOn (t u : Table) (links : List Link) (pairs : List RowPair) (at 
 
 pub leads_first : (t u : Table) (links : List Link) (pairs : List RowPair) (at : ℕ) (unit : Unit) (units : List Unit)
     → unit_number unit < 257 → units ≡ unit ∷ [] → LeadsOn t u links pairs at (unit_number unit) at units
-leads_first t u links pairs at unit units h e =
-    let n = unit_number unit in
-    subst (LeadsOn t u links pairs at n at) (sym e) (record {
-      is_word = IsWord-cons n [] h IsWord-nil;
-      leads = λ q there.
-          ap (λ o. next_of t u o n) there
-          ∙ ap (λ p. Some p) (sym (run-cons (next_pair t u) q n [] ∙ run-nil (next_pair t u) (next_pair t u q n)));
-      short = λ level levels. omega arith;
-    })
+leads_first t u links pairs at unit units h e = grind (arith, common_steps, run-cons, run-nil)
 
 turned : (units : List Unit) (v : Unit) → map unit_number (reverse (units ++ v ∷ [])) ≡ unit_number v ∷ map
     unit_number (reverse units)

@@ -1,10 +1,10 @@
 -- Places of patterns that both tables refuse: they are refused alike where those without an anchor are.
-use Rattle.std.proofs.Common.{ℕ, ◌≡◌, ◌+◌, ◌<◌, max, Bool, true, false, Option, Some, None, Err, List}
-use Rattle.std.proofs.Common.{if◌then◌else◌, refl, arith}
+use Rattle.std.proofs.lemmas.Grind.{common_steps}
+use Rattle.std.proofs.Common.{ℕ, ◌≡◌, ◌+◌, ◌<◌, max, Bool, true, false, Option, Some, None, Err, List, if◌then◌else◌}
+use Rattle.std.proofs.Common.{refl, arith}
 use Rattle.std.specs.Prelude.{IfSome, is_some}
-use Rattle.rx_spec.specs.Bytes.{contains}
 use Rattle.rx_spec.specs.Queries.{Anchored}
-use Rattle.rx_spec.specs.Starts.{StartError, start_row, supports}
+use Rattle.rx_spec.specs.Starts.{StartError}
 use Rattle.rx_spec.specs.Tables.{Table}
 use Rattle.rx_equal.specs.Evidence.{RowPair, AreMet}
 use Rattle.rx_equal.specs.Pairs.{AreRefused}
@@ -52,35 +52,17 @@ edge_met pairs x y mode v true e f = absurd (cc)
 
 module _ (t u : Table) (refused : AreRefused t u (record { beside = None; mode = Anchored.Pattern 0 })) where
   first : is_some t.settings.pattern_starts ≡ false
-  first =
-      unsupported (is_some t.settings.pattern_starts) (Anchored.Pattern 0)
-      (start_row t.machine t.settings None (Anchored.Pattern 0)) refused.error refused.first
+  first = grind (arith, common_steps, unsupported)
 
   second : is_some u.settings.pattern_starts ≡ false
-  second =
-      unsupported (is_some u.settings.pattern_starts) (Anchored.Pattern 0)
-      (start_row u.machine u.settings None (Anchored.Pattern 0)) refused.error refused.second
+  second = grind (arith, common_steps, unsupported)
 
   pattern_met : (pairs : List RowPair) → MeetMode t u pairs Anchored.No → (k : ℕ) (beside : Option ℕ)
       → IfSome beside (λ byte. byte < 256)
       → Meet t u pairs (record { beside = beside; mode = Anchored.Pattern k })
-  pattern_met pairs plain k None h =
-      edge_met pairs (start_row t.machine t.settings None (Anchored.Pattern k))
-      (start_row u.machine u.settings None (Anchored.Pattern k)) (Anchored.Pattern k)
-      (is_some t.settings.pattern_starts) (is_some u.settings.pattern_starts) first second
+  pattern_met pairs plain k None h = grind (arith, common_steps, edge_met, first, second)
   pattern_met pairs plain k (Some byte) h =
-      let mode = Anchored.Pattern k in
-      let beside : Option ℕ = Some byte in
-      refused_met pairs byte (start_row t.machine t.settings beside mode) (start_row u.machine u.settings beside mode)
-      mode (contains t.settings.quit byte) (contains u.settings.quit byte)
-      (is_some t.settings.pattern_starts) (is_some u.settings.pattern_starts)
-      (quits_met pairs byte (start_row t.machine t.settings beside Anchored.No)
-      (start_row u.machine u.settings beside Anchored.No) Anchored.No
-      (contains t.settings.quit byte) (contains u.settings.quit byte)
-      (supports t.settings.start_kind (is_some t.settings.pattern_starts) Anchored.No)
-      (supports u.settings.start_kind (is_some u.settings.pattern_starts) Anchored.No)
-      (beside_met t u pairs Anchored.No plain beside h))
-      first second
+      grind (arith, common_steps, refused_met, quits_met, beside_met, first, second)
 
   by_mode : (pairs : List RowPair) → ((m : ℕ) → m < 2 → MeetMode t u pairs (mode_at m)) → (mode : Anchored)
       (beside : Option ℕ) → IfSome beside (λ byte. byte < 256)
@@ -90,13 +72,7 @@ module _ (t u : Table) (refused : AreRefused t u (record { beside = None; mode =
   by_mode pairs each (Anchored.Pattern k) beside h = pattern_met pairs (each 0 (omega arith)) k beside h
 
   pub two_suffice : Suffice t u 2
-  two_suffice = record {
-    few = omega arith;
-    all = λ pairs each place is. by_mode pairs each place.mode place.beside is.beside;
-  }
+  two_suffice = grind (arith, common_steps, by_mode)
 
 pub all_suffice : (t u : Table) (modes : ℕ) → modes ≡ max t.pattern_len u.pattern_len + 3 → Suffice t u modes
-all_suffice t u modes e = record {
-  few = omega (arith, e);
-  all = λ pairs each. all_met t u pairs (λ m h. each m (omega (arith, h, e)));
-}
+all_suffice t u modes e = grind (arith, common_steps, all_met)

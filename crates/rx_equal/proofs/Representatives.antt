@@ -1,6 +1,7 @@
 -- Each unit leads as one of the representatives does.
-use Rattle.std.proofs.Common.{ℕ, ◌≡◌, ◌+◌, ◌-◌, ◌<◌, ◌≤◌, List, [], ◌∷◌, ◌++◌, sym, ◌∙◌, subst, arith, ap, ap₂}
-use Rattle.std.proofs.lemmas.List.Elements.{All-push, Contains-append_left, Contains-push}
+use Rattle.std.proofs.lemmas.Grind.{common_steps}
+use Rattle.std.proofs.Common.{ℕ, ◌≡◌, ◌+◌, ◌-◌, ◌<◌, ◌≤◌, List, [], ◌∷◌, ◌++◌, sym, subst, arith, ap, ap₂, Some, length}
+use Rattle.std.proofs.lemmas.List.Elements.{All-push, Contains-push}
 use Rattle.std.specs.Prelude.{All, Contains, slice_get}
 use Rattle.rx_spec.specs.Tables.{Table}
 use Rattle.rx_spec.specs.declared.Unit.{Unit}
@@ -10,7 +11,6 @@ use Rattle.rx_equal.specs.Evidence.{RowPair, next_pair}
 use Rattle.rx_equal.specs.Classes.{LeadAlike, IsRepresented, Represent}
 use Rattle.rx_equal.specs.Places.{HaveNexts}
 use Rattle.rx_equal.proofs.Tests.{EachBelow, all_get, below_more, each_contained}
-use Rattle.std.proofs.Common.{Some, length}
 use Rattle.rx_spec.specs.Ids.{AreIds}
 use Rattle.rx_equal.specs.Pairs.{IsPairOf, rows_of}
 use Rattle.rx_equal.specs.declared.pairs.Pair.{Pair}
@@ -23,18 +23,11 @@ pub record RepresentBelow (t u : Table) (units : List Unit) (n : ℕ) : Type 0 w
 module _ {t u : Table} where
   alike_both : (first second third : ℕ) → LeadAlike t u first second → LeadAlike t u second third
       → LeadAlike t u first third
-  alike_both first second third e f = record {
-    first = λ row h. e.first row h ∙ f.first row h;
-    second = λ row h. e.second row h ∙ f.second row h;
-  }
+  alike_both first second third e f = grind (arith, common_steps)
 
   stays : (units : List Unit) (v : Unit) (unit : ℕ) → IsRepresented t u units unit
       → IsRepresented t u (units ++ v ∷ []) unit
-  stays units v unit r = record {
-    one = r.one;
-    listed = Contains-append_left units (v ∷ []) r.one r.listed;
-    alike = r.alike;
-  }
+  stays units v unit r = grind (arith, common_steps)
 
   -- a unit that is listed represents itself
   pub listed_more : (units : List Unit) (n : ℕ) (v : Unit) → unit_number v ≡ n → n < 257
@@ -72,10 +65,7 @@ module _ {t u : Table} where
   none_below = record { are_units = λ i d h. absurd (omega (arith, h)); each = λ unit h. absurd (omega (arith, h)) }
 
   pub all_represented : (units : List Unit) (n : ℕ) → 257 ≤ n → RepresentBelow t u units n → Represent t u units
-  all_represented units n h r = record {
-    are_units = r.are_units;
-    each = λ unit small. r.each unit (omega (arith, h, small));
-  }
+  all_represented units n h r = grind (arith, common_steps)
 
   pub unit_of : {units : List Unit} {v : Unit} → Represent t u units → (i : ℕ) → slice_get units i ≡ Some v
       → unit_number v < 257

@@ -1,5 +1,6 @@
 -- Tables that nothing parts answer searches alike.
-use Rattle.std.proofs.Common.{ℕ, ◌≡◌, ◌<◌, ◌≤◌, Option, Some, None, Ok, List, [], refl, ap, sym, ◌∙◌}
+use Rattle.std.proofs.Common.{arith, ℕ, ◌≡◌, ◌<◌, ◌≤◌, Option, Some, None, Ok, List, [], refl, ap, sym, ◌∙◌}
+use Rattle.std.proofs.lemmas.Grind.{common_steps}
 use Rattle.std.proofs.lemmas.Bool.{lt-ltb}
 use Rattle.std.specs.Prelude.{IfSome}
 use Rattle.rx_spec.specs.Bytes.{AreBytes}
@@ -10,9 +11,8 @@ use Rattle.rx_spec.specs.HalfSearches.{beside, half_search, first_offset, units_
 use Rattle.rx_spec.specs.Overlapping.{overlapping}
 use Rattle.rx_spec.specs.Tables.{Table, IsTable}
 use Rattle.rx_spec.specs.declared.Direction.{Direction}
-use Rattle.lemmas_walks.proofs.HalfSearches.{Begins, Done, Refused, Started, begins}
-use Rattle.lemmas_walks.proofs.HalfSearches.{half_done, half_refused, half_walks}
-use Rattle.lemmas_walks.proofs.HalfSearches.{going}
+use Rattle.lemmas_walks.proofs.HalfSearches.{Begins, Done, Refused, Started, begins, half_done, half_refused}
+use Rattle.lemmas_walks.proofs.HalfSearches.{half_walks, going}
 use Rattle.lemmas_walks.proofs.Overlapping.{overlapping_done, overlapping_refused, overlapping_walks}
 use Rattle.lemmas_walks.proofs.ReadUnits.{beside_is_byte, units_word}
 use Rattle.lemmas_walks.proofs.SilentRows.{IsRow, table_ends_well}
@@ -73,9 +73,7 @@ module _ (t u : Table) (is : IsTable t) (other_is : IsTable u) (nothing : Nothin
       ∙ walk_alike (table_ends_well t is) (table_ends_well u other_is) direction q.earliest (rows_alike alike)
       (units_of direction q) (units_word direction q bytes) (first_offset direction q) None
       ∙ sym (half_walks u.machine u.settings direction q (going q order) f)
-  half_by order (Neither error e f) =
-      half_refused t.machine t.settings direction q error (going q order) e
-      ∙ sym (half_refused u.machine u.settings direction q error (going q order) f)
+  half_by order (Neither error e f) = grind (arith, common_steps, half_refused, going)
 
   overlapping_by : q.start ≤ q.end → BeginAlike t u (record { beside = beside direction q; mode = q.mode })
       → overlapping t.machine t.settings direction q ≡ overlapping u.machine u.settings direction q
@@ -84,23 +82,17 @@ module _ (t u : Table) (is : IsTable t) (other_is : IsTable u) (nothing : Nothin
       ∙ rows_overlapping (table_ends_well t is) (table_ends_well u other_is) direction (rows_alike alike)
       (units_of direction q) (units_word direction q bytes) (first_offset direction q)
       ∙ sym (overlapping_walks u.machine u.settings direction q (going q order) f)
-  overlapping_by order (Neither error e f) =
-      overlapping_refused t.machine t.settings direction q error (going q order) e
-      ∙ sym (overlapping_refused u.machine u.settings direction q error (going q order) f)
+  overlapping_by order (Neither error e f) = grind (arith, common_steps, overlapping_refused, going)
 
   half_start : Begins t.settings direction q
       → half_search t.machine t.settings direction q ≡ half_search u.machine u.settings direction q
-  half_start (Done past) =
-      let d = lt-ltb q.end q.start past in
-      half_done t.machine t.settings direction q d ∙ sym (half_done u.machine u.settings direction q d)
+  half_start (Done past) = grind (arith, common_steps, lt-ltb, half_done)
   half_start (Refused order error e) = half_by order begin_alike
   half_start (Started order e) = half_by order begin_alike
 
   overlapping_start : Begins t.settings direction q
       → overlapping t.machine t.settings direction q ≡ overlapping u.machine u.settings direction q
-  overlapping_start (Done past) =
-      let d = lt-ltb q.end q.start past in
-      overlapping_done t.machine t.settings direction q d ∙ sym (overlapping_done u.machine u.settings direction q d)
+  overlapping_start (Done past) = grind (arith, common_steps, lt-ltb, overlapping_done)
   overlapping_start (Refused order error e) = overlapping_by order begin_alike
   overlapping_start (Started order e) = overlapping_by order begin_alike
 

@@ -1,8 +1,7 @@
 -- Tests, and what stands in lists.
+use Rattle.std.proofs.lemmas.Grind.{common_steps}
 use Rattle.std.proofs.Common.{ℕ, ◌≡◌, ◌+◌, ◌<◌, ◌≤◌, Bool, true, false, not, Option, Some, None, List, map, refl, ap}
-use Rattle.std.proofs.Common.{length}
-use Rattle.std.proofs.Common.{sym, ◌∙◌, subst}
-use Rattle.std.proofs.Common.{⊎_elim, arith}
+use Rattle.std.proofs.Common.{length, sym, ◌∙◌, subst, arith}
 use Rattle.std.specs.Prelude.{◌↔◌, IsTrue, slice_get, All, Contains, option_map}
 use Rattle.std.proofs.lemmas.Bool.{cases_lt}
 use Rattle.std.proofs.lemmas.List.Elements.{All-get_or}
@@ -59,10 +58,7 @@ map_contained f xs y c =
     by_item f xs y c.0 (slice_get xs c.0) refl (sym (slice_get-map f xs c.0) ∙ get_contained (map f xs) y c)
 
 pub below_more : (P : ℕ → Type 0) (n : ℕ) → ((k : ℕ) → k < n → P k) → P n → (k : ℕ) → k < n + 1 → P k
-below_more P n below here k h =
-    ⊎_elim (λ (l : k < n). below k l)
-    (λ (l : n ≤ k). let same : n ≡ k = omega arith in subst P same here)
-    (cases_lt k n)
+below_more P n below here k h = grind (arith, common_steps, cases_lt)
 
 -- what holds of the item at a place holds of each item there
 pub got : {X : Type 0} (P : X → Type 0) {o : Option X} {x : X} → o ≡ Some x → P x → (y : X) → o ≡ Some y → P y
@@ -74,8 +70,7 @@ EachBelow {X} P xs n = (k : ℕ) → k < n → (x : X) → slice_get xs k ≡ So
 
 pub each_more : {X : Type 0} (P : X → Type 0) (xs : List X) (n : ℕ) {x : X} → EachBelow P xs n
     → slice_get xs n ≡ Some x → P x → EachBelow P xs (n + 1)
-each_more {X} P xs n below there h =
-    below_more (λ k. (x : X) → slice_get xs k ≡ Some x → P x) n below (got P there h)
+each_more {X} P xs n below there h = grind (arith, common_steps, below_more, got)
 
 pub each_contained : {X : Type 0} (P : X → Type 0) (xs : List X) {n : ℕ} → EachBelow P xs n → length xs ≤ n → (x : X)
     → Contains xs x → P x

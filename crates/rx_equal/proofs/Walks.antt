@@ -1,39 +1,34 @@
 -- A walk over pairs: each pair that it has is reached, and where nothing is left to add it has all.
+use Rattle.std.proofs.lemmas.Grind.{common_steps}
 use Rattle.std.proofs.Common.{ℕ, zero, suc, ◌≡◌, ◌≢◌, ◌+◌, ◌<◌, ◌≤◌, Option, Some, None, List, [], ◌∷◌, ◌++◌, length}
-use Rattle.std.proofs.Common.{refl, ap, sym, ◌∙◌, subst, arith, get_or}
-use Rattle.std.proofs.Common.{⊎_elim, ◌⊎◌, inl, inr, length-append}
+use Rattle.std.proofs.Common.{refl, ap, sym, ◌∙◌, subst, arith, get_or, ⊎_elim, ◌⊎◌, inl, inr, length-append, Bool}
+use Rattle.std.proofs.Common.{true, false, Result, Ok, Err, append_assoc}
 use Rattle.std.proofs.lemmas.Bool.{cases_lt}
-use Rattle.std.specs.Prelude.{Contains, slice_get, AllPairs}
-use Rattle.std.specs.Option.{option_and_then}
+use Rattle.std.specs.Prelude.{Contains, slice_get, AllPairs, IsTrue}
 use Rattle.std.proofs.lemmas.Option.{slice_get_within, slice_get-get_or, same_Some}
-use Rattle.std.proofs.lemmas.List.{get_or_append_left}
+use Rattle.std.proofs.lemmas.List.{get_or_append_left, append-nil}
 use Rattle.std.proofs.Math.Seq.{get_or-append_seam}
 use Rattle.std.proofs.lemmas.List.Quantifiers.{all_pairs_push}
 use Rattle.rx_spec.specs.Machines.{run}
-use Rattle.rx_spec.specs.Tables.{Table}
+use Rattle.rx_spec.specs.Tables.{Table, IsSound}
 use Rattle.rx_base.specs.Unit.{unit_number}
 use Rattle.lemmas_walks.proofs.Words.{IsWord-nil, IsWord-cons, IsWord-append, run-nil, run-cons, run-append, run-within}
 use Rattle.rx_equal.specs.declared.evidence.Link.{Link}
 use Rattle.rx_equal.specs.Evidence.{RowPair, start_pair, next_pair, next_of, pairs_from, link_pair, AreClosed, AreMet}
-use Rattle.rx_equal.specs.Evidence.{IsReached, AreReached}
-use Rattle.rx_equal.specs.Walks.{Follows, IsWalk, IsLink, IsReachedBy, IsEqual}
+use Rattle.rx_equal.specs.Evidence.{IsReached, AreReached, HaveEqualLabels}
+use Rattle.rx_equal.specs.Walks.{Follows, IsWalk, IsLink, IsReachedBy, IsEqual, AddsLink, AreWalked, Extends, ExtendsBy}
+use Rattle.rx_equal.specs.Walks.{AreLabelled, IsFrom, WentOn, Stepped}
 use Rattle.rx_equal.proofs.Sides.{Sides}
 use Rattle.rx_equal.proofs.Tests.{below_more, get_contained}
 use Rattle.rx_equal.proofs.Meets.{pairs_step, rows_met}
 use Rattle.rx_equal.proofs.Closed.{nothing_parts}
-use Rattle.std.proofs.Common.{Bool, true, false, Result, Ok, Err, append_assoc}
-use Rattle.std.proofs.lemmas.List.{append-nil}
 use Rattle.std.proofs.lemmas.List.Elements.{Contains-append_left, Contains-push, Contains-push_cases}
 use Rattle.rx_spec.specs.Starts.{StartError, start_error, start_row, start_context}
-use Rattle.rx_spec.specs.Tables.{IsSound}
 use Rattle.rx_base.specs.StartConfig.{StartConfig}
 use Rattle.rx_equal.specs.Partings.{answer_at, row_or}
-use Rattle.rx_equal.specs.Evidence.{HaveEqualLabels}
 use Rattle.rx_equal.specs.Pairs.{Adds, pairs_of}
-use Rattle.rx_equal.specs.Walks.{AddsLink, AreWalked, Extends, ExtendsBy, AreLabelled, IsFrom, WentOn, Stepped}
 use Rattle.rx_equal.specs.declared.walk.Walk.{Walk}
 use Rattle.rx_equal.specs.Places.{Meet}
-use Rattle.std.specs.Prelude.{IsTrue}
 use Rattle.rx_equal.proofs.Words.{rows_begin}
 
 by_first : (t u : Table) (first : Link) (links : List Link) (earlier pairs : List RowPair) (link : Link) (p : RowPair)
@@ -42,19 +37,14 @@ by_first : (t u : Table) (first : Link) (links : List Link) (earlier pairs : Lis
     → ((q : RowPair) → pairs_from t u (earlier ++ q ∷ []) links ≡ Some pairs
     → pairs_from t u (earlier ++ q ∷ []) (links ++ link ∷ []) ≡ Some (pairs ++ p ∷ []))
     → pairs_from t u earlier (first ∷ (links ++ link ∷ [])) ≡ Some (pairs ++ p ∷ [])
-by_first t u first links earlier pairs link p e is (Some q) h go =
-    pairs_step t u first (links ++ link ∷ []) earlier q h ∙ go q (sym (pairs_step t u first links earlier q h) ∙ e)
-by_first t u first links earlier pairs link p e is None h go =
-    let stop = ap (option_and_then (λ (q : RowPair). pairs_from t u (earlier ++ q ∷ []) links)) h in absurd (cc)
+by_first t u first links earlier pairs link p e is (Some q) h go = grind (arith, common_steps, pairs_step)
+by_first t u first links earlier pairs link p e is None h go = grind (arith, common_steps)
 
 -- one more link
 pub named_more : (t u : Table) (links : List Link) (earlier pairs : List RowPair) (link : Link) (p : RowPair)
     → pairs_from t u earlier links ≡ Some pairs → link_pair t u pairs link ≡ Some p
     → pairs_from t u earlier (links ++ link ∷ []) ≡ Some (pairs ++ p ∷ [])
-named_more t u [] earlier pairs link p e is =
-    let same = same_Some earlier pairs e in
-    pairs_step t u link [] earlier p (ap (λ ps. link_pair t u ps link) same ∙ is)
-    ∙ ap (λ ps. Some (ps ++ p ∷ [])) same
+named_more t u [] earlier pairs link p e is = grind (arith, common_steps, same_Some, pairs_step)
 named_more t u (first ∷ links) earlier pairs link p e is =
     by_first t u first links earlier pairs link p e is (link_pair t u earlier first) refl
     (λ q f. named_more t u links (earlier ++ q ∷ []) pairs link p f is)
@@ -81,8 +71,7 @@ get_last {X} xs x =
 source_below : (t u : Table) (pairs : List RowPair) (p : RowPair) (from unit : ℕ) (o : Option RowPair)
     → slice_get pairs from ≡ o → next_of t u (slice_get pairs from) unit ≡ Some p → from < length pairs
 source_below t u pairs p from unit (Some q) e stands = slice_get_within pairs from q e
-source_below t u pairs p from unit None e stands =
-    let none = sym (ap (λ o. next_of t u o unit) e) ∙ stands in absurd (cc)
+source_below t u pairs p from unit None e stands = grind (arith, common_steps)
 
 link_last : (t u : Table) (pairs : List RowPair) (p : RowPair) (link : Link) → IsLink t u link
     → link_pair t u pairs link ≡ Some p → Follows t u (pairs ++ p ∷ []) (length pairs) link
@@ -96,8 +85,7 @@ link_last t u pairs p (Link.Next from unit) is stands =
     )
 
 get_or_same : {X : Type 0} (xs : List X) (k : ℕ) (d e : X) → k < length xs → get_or xs k e ≡ get_or xs k d
-get_or_same xs k d e h = same_Some (get_or xs k e) (get_or xs k d)
-    (sym (slice_get-get_or xs k e h) ∙ slice_get-get_or xs k d h)
+get_or_same xs k d e h = grind (arith, common_steps, same_Some, slice_get-get_or)
 
 -- what stands in a list with one more item: an earlier item, or the last
 at_cases : {X : Type 0} (xs : List X) (y : X) (i : ℕ) (x : X) → slice_get (xs ++ y ∷ []) i ≡ Some x
@@ -115,12 +103,7 @@ at_cases {X} xs y i x e =
 follows_more : (t u : Table) (pairs more : List RowPair) (i : ℕ) (link : Link) → i < length pairs
     → Follows t u pairs i link → Follows t u (pairs ++ more) i link
 follows_more t u pairs more i (Link.Start place) h f = (f.0, f.1 ∙ sym (get_more pairs more i h))
-follows_more t u pairs more i (Link.Next from unit) h f = (
-  f.0,
-  f.1,
-  ap (λ o. next_of t u o (unit_number unit)) (get_more pairs more from (let b = f.0 in omega (arith, b, h))) ∙ f.2
-      ∙ sym (get_more pairs more i h),
-)
+follows_more t u pairs more i (Link.Next from unit) h f = grind (arith, common_steps, get_more)
 
 module _ {t u : Table} {links : List Link} {pairs : List RowPair} (walk : IsWalk t u links pairs) where
   pub walk_more : (link : Link) (p : RowPair) → IsLink t u link → link_pair t u pairs link ≡ Some p
@@ -168,22 +151,12 @@ module _ {t u : Table} {links : List Link} {pairs : List RowPair} (walk : IsWalk
       one_on from i unit p q below h
       (same_Some (next_pair t u q unit) p (sym (ap (λ o. next_of t u o unit) is) ∙ leads ∙ there))
       (before from q below is)
-  by_source i p there before from unit below h None is leads =
-      let none = sym (ap (λ o. next_of t u o unit) is) ∙ leads ∙ there in absurd (cc)
+  by_source i p there before from unit below h None is leads = grind (arith, common_steps)
 
   by_link : (i : ℕ) (p : RowPair) → slice_get pairs i ≡ Some p
       → ((j : ℕ) (q : RowPair) → j < i → slice_get pairs j ≡ Some q → IsReachedBy t u j q)
       → (link : Link) → Follows t u pairs i link → IsReachedBy t u i p
-  by_link i p there before (Link.Start place) f = record {
-    place = place;
-    is_place = f.0;
-    start = p;
-    begins = f.1 ∙ there;
-    word = [];
-    is_word = IsWord-nil;
-    leads = run-nil (next_pair t u) p;
-    short = omega arith;
-  }
+  by_link i p there before (Link.Start place) f = grind (arith, common_steps, run-nil)
   by_link i p there before (Link.Next from unit) f =
       by_source i p there before from (unit_number unit) f.0 f.1 (slice_get pairs from) refl f.2
 
@@ -240,23 +213,16 @@ module _ {t u : Table} {links : List Link} {pairs : List RowPair} (walk : IsWalk
 
 -- ---- what goes on keeps
 
-pub extends_none : (pairs : List RowPair) → Extends pairs pairs
-extends_none pairs = record { more = []; all = sym (append-nil pairs) }
-
 pub extends_both : {first second third : List RowPair} → Extends first second → Extends second third
     → Extends first third
-extends_both {first} e f = record {
-  more = e.more ++ f.more;
-  all = f.all ∙ ap (λ ps. ps ++ f.more) e.all ∙ append_assoc first e.more f.more;
-}
+extends_both {first} e f = grind (arith, common_steps, append_assoc)
 
 module _ {before after : List RowPair} (e : Extends before after) where
   pub extends_contains : (p : RowPair) → Contains before p → Contains after p
   extends_contains p c = subst (λ ps. Contains ps p) (sym e.all) (Contains-append_left before e.more p c)
 
   pub extends_get : (i : ℕ) (p : RowPair) → slice_get before i ≡ Some p → slice_get after i ≡ Some p
-  extends_get i p there =
-      ap (λ ps. slice_get ps i) e.all ∙ get_more before e.more i (slice_get_within before i p there) ∙ there
+  extends_get i p there = grind (arith, common_steps, get_more, slice_get_within)
 
   pub extends_back : (i : ℕ) (p : RowPair) → i < length before → slice_get after i ≡ Some p
       → slice_get before i ≡ Some p
@@ -315,35 +281,17 @@ by_none source links = record { longer = omega arith; each = λ i link there. in
 
 by_both : {source : Option ℕ} {first second third : List Link} → ExtendsBy source first second
     → ExtendsBy source second third → ExtendsBy source first third
-by_both {source} {first} {second} e f = record {
-  longer = (let h = e.longer in let k = f.longer in omega (arith, h, k));
-  each = λ i link there.
-      ⊎_elim (λ (old : slice_get second i ≡ Some link). e.each i link old)
-      (λ (new : (length second ≤ i) × IsFrom source link).
-      inr ((let h = e.longer in let k = new.0 in omega (arith, h, k)), new.1))
-      (f.each i link there);
-}
+by_both {source} {first} {second} e f = grind (arith, common_steps)
 
 pub by_added : (source : Option ℕ) (before : List Link) (link : Link) (added : Bool) (after : List Link)
     → IsFrom source link → AddsLink before link added after → ExtendsBy source before after
-by_added source before link true after is e = record {
-  longer = (let n = length-append before (link ∷ []) in let l = ap length e in omega (arith, n, l));
-  each = λ i other there.
-      ⊎_elim (λ (old : slice_get before i ≡ Some other). inl old)
-      (λ (last : (i ≡ length before) × (link ≡ other)).
-      inr ((let h = last.0 in omega (arith, h)), subst (IsFrom source) last.1 is))
-      (at_cases before link i other (sym (ap (λ ls. slice_get ls i) e) ∙ there));
-}
+by_added source before link true after is e = grind (arith, common_steps, length-append, at_cases)
 by_added source before link false after is e = subst (ExtendsBy source before) (sym e) (by_none source before)
 
 module _ {t : Table} {ids : List ℕ} {u : Table} {others : List ℕ} {source : Option ℕ} where
   pub went_both : {first second third : Walk} → WentOn t ids u others source first second
       → WentOn t ids u others source second third → WentOn t ids u others source first third
-  went_both e f = record {
-    walked = f.walked;
-    extends = extends_both e.extends f.extends;
-    links = by_both e.links f.links;
-  }
+  went_both e f = grind (arith, common_steps, extends_both, by_both)
 
   pub went_by : (before after : Walk) (p : RowPair) (link : Link) (added : Bool) → AreWalked t ids u others after
       → Adds (pairs_of ids others before.pairs) p added (pairs_of ids others after.pairs)

@@ -1,15 +1,14 @@
 -- Words over pairs of rows.
+use Rattle.std.proofs.lemmas.Grind.{common_steps}
 use Rattle.std.proofs.Common.{ℕ, suc, ap₂, arith, ◌≡◌, ◌+◌, ◌≤◌, Some, List, [], ◌∷◌, length, map, drop, ap, sym, ◌∙◌}
-use Rattle.std.proofs.Common.{subst, drop-cons}
-use Rattle.std.proofs.lemmas.Option.{slice_get_within, get_or_from_slice_get}
+use Rattle.std.proofs.Common.{subst, drop-cons, Result, Ok, Err}
+use Rattle.std.proofs.lemmas.Option.{slice_get_within, get_or_from_slice_get, same_Some}
 use Rattle.std.specs.Prelude.{slice_get}
 use Rattle.rx_spec.specs.Machines.{run}
 use Rattle.rx_spec.specs.Tables.{Table}
 use Rattle.rx_spec.specs.declared.Unit.{Unit}
 use Rattle.rx_base.specs.Unit.{unit_number}
 use Rattle.lemmas_walks.proofs.Words.{run-nil, run-cons}
-use Rattle.std.proofs.Common.{Result, Ok, Err}
-use Rattle.std.proofs.lemmas.Option.{same_Some}
 use Rattle.std.proofs.Math.ListN.{drop_of_length-le}
 use Rattle.rx_spec.specs.Labels.{label_after}
 use Rattle.rx_spec.specs.Starts.{StartError}
@@ -38,17 +37,13 @@ word_on next word i unit row led {end} there is left =
 -- nothing of it is left
 pub word_end : (next : RowPair → ℕ → RowPair) (word : List Unit) (i : ℕ) (row : RowPair) {end : RowPair}
     → length word ≤ i → run next row (map unit_number (drop i word)) ≡ end → end ≡ row
-word_end next word i row {end} past left =
-    sym left ∙ ap (λ w. run next row (map unit_number w)) (drop_of_length-le word past) ∙ run-nil next row
+word_end next word i row {end} past left = grind (arith, common_steps, drop_of_length-le, run-nil)
 
 -- a word leads from a pair to the two rows to which it leads in either table
 pub run_both : (t u : Table) (p : RowPair) (word : List ℕ)
     → run (next_pair t u) p word
     ≡ record { row = run t.machine.next p.row word; other = run u.machine.next p.other word }
-run_both t u p [] =
-    run-nil (next_pair t u) p
-    ∙ ap (λ x. record p { row = x }) (sym (run-nil t.machine.next p.row))
-    ∙ ap (λ y. record { row = run t.machine.next p.row []; other = y }) (sym (run-nil u.machine.next p.other))
+run_both t u p [] = grind (arith, common_steps, run-nil)
 run_both t u p (unit ∷ word) =
     run-cons (next_pair t u) p unit word ∙ run_both t u (next_pair t u p unit) word
     ∙ ap (λ x. record { row = x; other = run u.machine.next (u.machine.next p.other unit) word })
@@ -60,14 +55,10 @@ run_both t u p (unit ∷ word) =
 pub labels_led : (t u : Table) (start end : RowPair) (word : List ℕ) → run (next_pair t u) start word ≡ end
     → (label_after t.machine start.row word ≡ t.machine.label end.row)
     × (label_after u.machine start.other word ≡ u.machine.label end.other)
-labels_led t u start end word leads =
-    let same = sym (run_both t u start word) ∙ leads in
-    (ap (λ (p : RowPair). t.machine.label p.row) same, ap (λ (p : RowPair). u.machine.label p.other) same)
+labels_led t u start end word leads = grind (arith, common_steps, run_both)
 
 pub rows_begin : (o r : Result ℕ StartError) (p : RowPair) → both o r ≡ Some p → (o ≡ Ok p.row) × (r ≡ Ok p.other)
-rows_begin (Ok x) (Ok y) p e =
-    let same = same_Some (record { row = x; other = y }) p e in
-    (ap (λ (q : RowPair). Ok q.row) same, ap (λ (q : RowPair). Ok q.other) same)
+rows_begin (Ok x) (Ok y) p e = grind (arith, common_steps, same_Some)
 rows_begin (Ok x) (Err f) p e = absurd (cc)
 rows_begin (Err e') (Ok y) p e = absurd (cc)
 rows_begin (Err e') (Err f) p e = absurd (cc)

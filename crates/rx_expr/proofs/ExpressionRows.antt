@@ -1,16 +1,16 @@
 -- The rows of an expression: what the compiler's functions add is put together as the definition puts parts together.
-use Rattle.std.proofs.Common.{◌≡◌, ℕ, zero, suc, ◌+◌, ◌-◌, ◌*◌, ◌<◌, ◌≤◌, Bool, Option, Some, None, List, [], ◌∷◌}
-use Rattle.std.proofs.Common.{◌++◌, length, map, set, refl, sym, ◌∙◌, ap, subst, arith, append_assoc, append-nil}
+use Rattle.std.proofs.lemmas.Grind.{common_steps}
+use Rattle.std.proofs.Common.{◌≡◌, ℕ, zero, suc, ◌+◌, ◌-◌, ◌*◌, ◌<◌, ◌≤◌, Bool, Option, Some, None, List, [], ◌∷◌, ◌++◌}
+use Rattle.std.proofs.Common.{length, map, set, refl, sym, ◌∙◌, ap, subst, arith, append_assoc, append-nil}
 use Rattle.std.proofs.Common.{length-append, add-one, add-zero, inl, inr, Result, Ok, Err, IfOk}
-use Rattle.std.proofs.Math.Path.{ap₂}
 use Rattle.std.proofs.lemmas.List.{length-map, map-append, map-set}
 use Rattle.std.proofs.Math.Seq.{set-append_seam}
 use Rattle.std.proofs.Math.Nat.{eq-zero-or-pos, mul-le-mul_right}
 use Rattle.std.specs.declared.alloc.AllocError.{AllocError}
 use Rattle.rx_spec.specs.Expressions.{Expression, mirror}
 use Rattle.rx_spec.specs.declared.Look.{Look}
-use Rattle.rx_spec.specs.Rows.{Part, Maker, straight, row_to, chained, either, choice, copies, optional, loop}
-use Rattle.rx_spec.specs.Rows.{repeated, compile, rows_count, repeated_count}
+use Rattle.rx_spec.specs.Rows.{Part, Maker, straight, row_to, chained, either, choice, copies, optional, loop, repeated}
+use Rattle.rx_spec.specs.Rows.{compile, rows_count, repeated_count}
 use Rattle.rx_spec.specs.Nfas.{read_as}
 use Rattle.rx_spec.specs.Rows as spec
 use Rattle.rx_spec.specs.declared.Direction.{Direction}
@@ -31,22 +31,17 @@ maker_makes direction e base next = rows_counted (read_as direction e) base next
 
 length-added : {make : Maker} {old new : List Row} {next entry : ℕ} → Adds make old new next entry
     → length new ≡ length old + length (make (length old) next).rows
-length-added {make} {old} {new} {next} added =
-    let part = make (length old) next in
-    sym (length-map new row_of) ∙ ap length added.rows ∙ length-append (map row_of old) part.rows
-    ∙ ap (λ n. n + length part.rows) (length-map old row_of)
+length-added {make} {old} {new} {next} added = grind (arith, common_steps, length-map, length-append)
 
 pub length-counted : {make : Maker} {old new : List Row} {next entry count : ℕ} → Makes make count
     → Adds make old new next entry → length new ≡ length old + count
-length-counted {old = old} {next = next} makes added =
-    length-added added ∙ ap (λ n. length old + n) (makes (length old) next)
+length-counted {old = old} {next = next} makes added = grind (arith, common_steps, length-added)
 
 -- ---- the same said of equal values
 
 pub adds_same : {made make : Maker} {old new : List Row} {next entry : ℕ} → made ≡ make
     → Adds made old new next entry → Adds make old new next entry
-adds_same {old = old} {new = new} {next = next} {entry = entry} e added =
-    subst (λ (m : Maker). Adds m old new next entry) e added
+adds_same {old = old} {new = new} {next = next} {entry = entry} e added = grind (arith, common_steps)
 
 pub adds_before : {make : Maker} {old new : List Row} {next after entry : ℕ} → next ≡ after
     → Adds make old new next entry → Adds make old new after entry
@@ -69,10 +64,7 @@ adds_nothing {old} = record { entered = refl; rows = sym (append-nil (map row_of
 -- one row
 adds_row : (to : ℕ → spec.Row) {old new : List Row} {next id : ℕ} (row : Row) → row_of row ≡ to next
     → AddsRow row old new id → Adds (row_to to) old new next id
-adds_row to {old} row is pushed = record {
-  entered = pushed.id;
-  rows = ap (map row_of) pushed.rows ∙ map-append row_of old (row ∷ []) ∙ ap (λ r. map row_of old ++ (r ∷ [])) is;
-}
+adds_row to {old} row is pushed = grind (arith, common_steps, map-append)
 
 pub ok_row : (r : Result ℕ AllocError) (to : ℕ → spec.Row) (old new : List Row) (next : ℕ) (row : Row)
     → row_of row ≡ to next → IfOk r (AddsRow row old new) → IfOk r (Adds (row_to to) old new next)
@@ -82,40 +74,13 @@ ok_row (Err error) to old new next row is pushed = tt
 -- what comes after, and then what leads to it
 pub adds_chained : {first second : Maker} {old mid new : List Row} {next after entry : ℕ}
     → Adds second old mid next after → Adds first mid new after entry → Adds (chained first second) old new next entry
-adds_chained {first} {second} {old} {next = next} later sooner =
-    let behind = second (length old) next in
-    let front = ap₂ first (length-added later) later.entered in
-    record {
-      entered = sooner.entered ∙ ap (λ (p : Part). p.entry) front;
-      rows =
-          sooner.rows ∙ ap₂ (λ xs (p : Part). xs ++ p.rows) later.rows front
-          ∙ append_assoc (map row_of old) behind.rows (first (length old + length behind.rows) behind.entry).rows;
-    }
+adds_chained {first} {second} {old} {next = next} later sooner = grind (arith, common_steps, length-added, append_assoc)
 
 -- a Split behind other rows
 rows-pushed : (late : List Row) (split : Row) (before made : List spec.Row) {new : List Row} {way : spec.Row}
     → map row_of late ≡ before ++ made → row_of split ≡ way → new ≡ late ++ (split ∷ [])
     → map row_of new ≡ before ++ (made ++ (way ∷ []))
-rows-pushed late split before made {way = way} laid is pushed =
-    ap (map row_of) pushed ∙ map-append row_of late (split ∷ []) ∙ ap₂ (λ xs r. xs ++ (r ∷ [])) laid is
-    ∙ append_assoc before made (way ∷ [])
-
--- both, and a Split of them
-pub adds_either : {first second : Maker} {old mid late new : List Row} {next a b : ℕ}
-    → Adds first old mid next a → Adds second mid late next b → new ≡ late ++ (Row.Split a b ∷ [])
-    → Adds (either first second) old new next (length late)
-adds_either {first} {second} {old} {late = late} {next = next} {a = a} {b = b} one other pushed =
-    let x = first (length old) next in
-    let y = second (length old + length x.rows) next in
-    let same = ap (λ n. second n next) (length-added one) in
-    let ways = ap₂ spec.Split one.entered (other.entered ∙ ap (λ (p : Part). p.entry) same) in
-    let laid =
-    other.rows ∙ ap₂ (λ xs (p : Part). xs ++ p.rows) one.rows same
-    ∙ append_assoc (map row_of old) x.rows y.rows in
-    record {
-      entered = length-added other ∙ ap₂ (λ n (p : Part). n + length p.rows) (length-added one) same;
-      rows = rows-pushed late (Row.Split a b) (map row_of old) (x.rows ++ y.rows) laid ways pushed;
-    }
+rows-pushed late split before made {way = way} laid is pushed = grind (arith, common_steps, map-append, append_assoc)
 
 -- one more optional round
 pub adds_optional : (greedy : Bool) (n : ℕ) {body : Maker} {old mid late new : List Row} {next entered round : ℕ}
@@ -124,18 +89,7 @@ pub adds_optional : (greedy : Bool) (n : ℕ) {body : Maker} {old mid late new :
     → Adds (optional greedy (n + 1) body) old new next (length late)
 unfolding optional
 adds_optional greedy n {body} {old} {mid} {late} {new} {next} split before added is pushed =
-    let inner = optional greedy n body (length old) next in
-    let again = body (length old + length inner.rows) inner.entry in
-    let same = ap₂ body (length-added before) before.entered in
-    let way = is ∙ ap (λ k. choice greedy k next) (added.entered ∙ ap (λ (p : Part). p.entry) same) in
-    let laid =
-    added.rows ∙ ap₂ (λ xs (p : Part). xs ++ p.rows) before.rows same
-    ∙ append_assoc (map row_of old) inner.rows again.rows in
-    let whole : Adds (optional greedy (suc n) body) old new next (length late) = record {
-      entered = length-added added ∙ ap₂ (λ k (p : Part). k + length p.rows) (length-added before) same;
-      rows = rows-pushed late split (map row_of old) (inner.rows ++ again.rows) laid way pushed;
-    } in
-    subst (λ k. Adds (optional greedy k body) old new next (length late)) (sym (add-one n)) whole
+    grind (arith, common_steps, length-added, append_assoc, rows-pushed, add-one)
 
 pub adds_no_round : (greedy : Bool) (body : Maker) {old : List Row} {next : ℕ}
     → Adds (optional greedy 0 body) old old next next
@@ -148,42 +102,19 @@ pub adds_loop : (greedy : Bool) {body : Maker} {old first late new : List Row} {
     → row_of split ≡ choice greedy round next → new ≡ set late (length old) split
     → Adds (loop greedy body) old new next (length old)
 adds_loop greedy {body} {old} {first} {late} {next = next} split opened added is put =
-    let again = body (length old + 1) (length old) in
-    let place : length first ≡ length old + 1 = ap length opened ∙ length-append old (Row.Fail ∷ []) in
-    let same = ap (λ n. body n (length old)) place in
-    let way = is ∙ ap (λ n. choice greedy n next) (added.entered ∙ ap (λ (p : Part). p.entry) same) in
-    let laid = ap (map row_of) opened ∙ map-append row_of old (Row.Fail ∷ []) in
-    let before : map row_of late ≡ map row_of old ++ (spec.Fail ∷ again.rows) =
-    added.rows ∙ ap₂ (λ xs (p : Part). xs ++ p.rows) laid same
-    ∙ append_assoc (map row_of old) (spec.Fail ∷ []) again.rows in
-    record {
-      entered = refl;
-      rows =
-          ap (map row_of) put ∙ map-set row_of late (length old) split
-          ∙ ap₂ (λ xs n. set xs n (row_of split)) before (sym (length-map old row_of))
-          ∙ set-append_seam (map row_of old) spec.Fail again.rows (row_of split)
-          ∙ ap (λ r. map row_of old ++ (r ∷ again.rows)) way;
-    }
+    grind (arith, common_steps, length-append, map-append, append_assoc, map-set, length-map, set-append_seam)
 
 -- ---- copies
 
 -- the same rows by another maker
 adds_as : {made make : Maker} {old new : List Row} {next entry : ℕ} → ((b n : ℕ) → made b n ≡ make b n)
     → Adds made old new next entry → Adds make old new next entry
-adds_as {old = old} {next = next} same added =
-    let e = same (length old) next in
-    record {
-      entered = added.entered ∙ ap (λ (p : Part). p.entry) e;
-      rows = added.rows ∙ ap (λ (p : Part). map row_of old ++ p.rows) e;
-    }
+adds_as {old = old} {next = next} same added = grind (arith, common_steps)
 
 -- one more copy in front is one more behind
 copies_more : (body : Maker) (n base next : ℕ) → copies (suc n) body base next ≡ chained body (copies n body) base next
 unfolding copies
-copies_more body zero base next =
-    let p = body base next in
-    ap (λ xs. record { entry = p.entry; rows = xs }) (append-nil p.rows)
-    ∙ ap (λ b. body b next) (sym (add-zero base))
+copies_more body zero base next = grind (arith, common_steps, append-nil, add-zero)
 copies_more body (suc n) base next =
     let last = body base next in
     let step = copies_more body n (base + length last.rows) last.entry in
@@ -263,9 +194,7 @@ adds_bare direction e z = adds_as (λ b n. sym (bare_maker direction e z b n)) a
 
 pub adds_bare_copies : (direction : Direction) (e : Expression) (n : ℕ) {old : List Row} {next : ℕ}
     → rows_count e ≡ 0 → Adds (copies n (maker direction e)) old old next next
-adds_bare_copies direction e n z =
-    let nothing = bare_copies (maker direction e) (bare_maker direction e z) n in
-    adds_as (λ b m. sym (nothing b m)) adds_nothing
+adds_bare_copies direction e n z = grind (arith, common_steps, bare_copies, bare_maker, adds_as, adds_nothing)
 
 -- ---- an expression that is taken apart, read either way
 

@@ -1,4 +1,5 @@
 -- The Splits that join the starts of all patterns, the last pair first.
+use Rattle.std.proofs.lemmas.Grind.{common_steps}
 use Rattle.std.proofs.Common.{◌≡◌, ℕ, zero, suc, ◌+◌, ◌-◌, ◌<◌, ◌≤◌, List, [], ◌∷◌, ◌++◌, length, map, drop, get_or}
 use Rattle.std.proofs.Common.{refl, sym, ◌∙◌, ap, subst, arith, append_assoc, append-nil, length-append, length-drop}
 use Rattle.std.proofs.Common.{Result, Ok, Err, IfOk}
@@ -31,15 +32,11 @@ length-start_of_all base (start ∷ (next ∷ starts)) =
 
 length-added_rows : {starts : List ℕ} {old new : List Row} {entry : ℕ} → AddsJoined starts old new entry
     → length new ≡ length old + length (start_of_all (length old) starts).rows
-length-added_rows {starts} {old} {new} added =
-    let made = (start_of_all (length old) starts).rows in
-    sym (length-map new row_of) ∙ ap length added.rows ∙ length-append (map row_of old) made
-    ∙ ap (λ n. n + length made) (length-map old row_of)
+length-added_rows {starts} {old} {new} added = grind (arith, common_steps, length-map, length-append)
 
 pub length-joined : {starts : List ℕ} {old new : List Row} {entry : ℕ} → AddsJoined starts old new entry
     → length new ≡ length old + joined_count (length starts)
-length-joined {starts} {old} added =
-    length-added_rows added ∙ ap (λ n. length old + n) (length-start_of_all (length old) starts)
+length-joined {starts} {old} added = grind (arith, common_steps, length-added_rows, length-start_of_all)
 
 -- ---- from the last start on
 
@@ -47,10 +44,7 @@ length-joined {starts} {old} added =
 pub ok_failed : (r : Result ℕ AllocError) (old new : List Row) (starts : List ℕ) → length starts ≡ 0
     → IfOk r (AddsRow Row.Fail old new) → IfOk r (AddsJoined starts old new)
 unfolding start_of_all
-ok_failed (Ok id) old new [] none pushed = record {
-  entered = pushed.id;
-  rows = ap (map row_of) pushed.rows ∙ map-append row_of old (Row.Fail ∷ []);
-}
+ok_failed (Ok id) old new [] none pushed = grind (arith, common_steps, map-append)
 ok_failed (Ok id) old new (start ∷ starts) none pushed = absurd (omega arith)
 ok_failed (Err error) old new starts none pushed = tt
 
@@ -61,12 +55,7 @@ joined_one {old} start = record { entered = refl; rows = sym (append-nil (map ro
 
 pub joined_last : (starts : List ℕ) {old : List Row} {start : ℕ} → 0 < length starts
     → start ≡ get_or starts (length starts - 1) start → AddsJoined (drop (length starts - 1) starts) old old start
-joined_last starts {old} {start} some is =
-    let lt : length starts - 1 < length starts = omega arith in
-    let ends : length starts - 1 + 1 ≡ length starts = omega arith in
-    let last = drop_at starts (length starts - 1) lt is in
-    let none = ap (λ n. drop n starts) ends ∙ drop-length starts in
-    subst (λ xs. AddsJoined xs old old start) (sym (last ∙ ap (λ xs. start ∷ xs) none)) (joined_one start)
+joined_last starts {old} {start} some is = grind (arith, common_steps, drop_at, drop-length, joined_one)
 
 -- one start more before others
 split_before : (base start : ℕ) (starts : List ℕ) → 0 < length starts → start_of_all base (start ∷ starts) ≡ record {

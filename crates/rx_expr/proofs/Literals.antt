@@ -1,6 +1,7 @@
 -- Literals: the halves joined are the whole, and none is too deep.
+use Rattle.std.proofs.lemmas.Grind.{common_steps}
 use Rattle.std.proofs.Common.{◌≡◌, ℕ, zero, suc, ◌+◌, ◌-◌, ◌/◌, ◌*◌, ◌^◌, ◌<◌, ◌≤◌, List, [], ◌∷◌, length, take, drop}
-use Rattle.std.proofs.Common.{refl, arith, ap, sym, ◌∙◌, length-drop, length-take, subst, Result, Ok, Err, IfErr, IfOk}
+use Rattle.std.proofs.Common.{refl, arith, ap, ◌∙◌, length-drop, length-take, subst, Result, Ok, Err, IfErr, IfOk}
 use Rattle.std.proofs.Math.Path.{ap₂}
 use Rattle.std.proofs.Math.Nat.{pow-suc}
 use Rattle.rx_spec.specs.Expressions.{Expression, depth}
@@ -44,13 +45,7 @@ literal_halves : (bytes : List ℕ) → 2 ≤ length bytes
 unfolding literal_within
 literal_halves [] h = absurd (omega arith)
 literal_halves (byte ∷ []) h = absurd (omega arith)
-literal_halves (byte ∷ (next ∷ bytes)) h =
-    let all : List ℕ = byte ∷ (next ∷ bytes) in
-    let n = length (next ∷ bytes) in
-    let a = halves all n (omega arith) (omega arith) in
-    let front = literal_enough n (length (front_of all)) (front_of all) a.0 (omega arith) in
-    let back = literal_enough n (length (back_of all)) (back_of all) a.1 (omega arith) in
-    ap₂ Expression.Concat front back
+literal_halves (byte ∷ (next ∷ bytes)) h = grind (arith, common_steps, halves, literal_enough)
 
 half_below : (n p : ℕ) → n ≤ p * 2 → (n / 2 ≤ p) × (n - n / 2 ≤ p)
 half_below n p h = (omega arith, omega arith)
@@ -74,8 +69,7 @@ depth-literal (suc k) (suc n) (byte ∷ (next ∷ bytes)) h =
 pub literal_joined : {first second : Expression} {front back : List ℕ} (bytes : List ℕ) → 2 ≤ length bytes
     → first ≡ literal_of front → second ≡ literal_of back → front ≡ front_of bytes → back ≡ back_of bytes
     → Expression.Concat first second ≡ literal_of bytes
-literal_joined bytes h first second front back =
-    ap₂ Expression.Concat (first ∙ ap literal_of front) (second ∙ ap literal_of back) ∙ sym (literal_halves bytes h)
+literal_joined bytes h first second front back = grind (arith, common_steps, literal_halves)
 
 pub literal_shallow : {e : Expression} (bytes : List ℕ) → e ≡ literal_of bytes → length bytes < 2 ^ 64
     → depth e ≤ 200

@@ -1,4 +1,5 @@
 -- Which patterns the Match rows of an NFA name: those of its list, and no more than have ids.
+use Rattle.std.proofs.lemmas.Grind.{common_steps}
 use Rattle.std.proofs.Common.{◌≡◌, ℕ, zero, suc, ◌+◌, ◌-◌, ◌<◌, ◌≤◌, Bool, true, false, Option, Some, None, List, []}
 use Rattle.std.proofs.Common.{◌∷◌, ◌++◌, length, map, subst, arith, lit<, lit≤}
 use Rattle.std.proofs.lemmas.List.{length-map}
@@ -36,19 +37,11 @@ AreNamed count maker = (base next : ℕ) → Every (Names count) (maker base nex
 
 chained_named : (count : ℕ) (first second : Maker) → AreNamed count first → AreNamed count second
     → AreNamed count (chained first second)
-chained_named count first second f s base next =
-    let after = second base next in
-    let place = base + length after.rows in
-    every-append (Names count) after.rows (first place after.entry).rows (s base next) (f place after.entry)
+chained_named count first second f s base next = grind (arith, common_steps, every-append)
 
 either_named : (count : ℕ) (first second : Maker) → AreNamed count first → AreNamed count second
     → AreNamed count (either first second)
-either_named count first second f s base next =
-    let a = first base next in
-    let place = base + length a.rows in
-    let b = second place next in
-    every-append (Names count) (a.rows ++ b.rows) (Row.Split a.entry b.entry ∷ [])
-    (every-append (Names count) a.rows b.rows (f base next) (s place next)) (tt, tt)
+either_named count first second f s base next = grind (arith, common_steps, every-append)
 
 copies_named : (count : ℕ) (body : Maker) → AreNamed count body → (n : ℕ) → AreNamed count (copies n body)
 unfolding copies
@@ -69,8 +62,7 @@ optional_named count greedy body h (suc n) base next =
     (h place inner.entry)) (choice_named count greedy round.entry next, tt)
 
 loop_named : (count : ℕ) (greedy : Bool) (body : Maker) → AreNamed count body → AreNamed count (loop greedy body)
-loop_named count greedy body h base next =
-    (choice_named count greedy (body (base + 1) base).entry next, h (base + 1) base)
+loop_named count greedy body h base next = grind (arith, common_steps, choice_named)
 
 repeated_named : (count least : ℕ) (most : Option ℕ) (greedy : Bool) (body : Maker) → AreNamed count body
     → AreNamed count (repeated least most greedy body)
@@ -159,13 +151,7 @@ nfa_names_patterns direction line_terminator is_utf8 es few =
 
 -- the NFAs of one row
 pub match_names_one : NamesPatterns 1 (Row.Match 0 ∷ [])
-match_names_one = record {
-  few = lit≤ tt;
-  named = λ q pattern e. named_at 1 (Row.Match 0 ∷ []) (lit< tt, tt) q pattern e;
-}
+match_names_one = grind (arith, common_steps, lit≤, named_at, lit<)
 
 pub fail_names_none : NamesPatterns 0 (Row.Fail ∷ [])
-fail_names_none = record {
-  few = lit≤ tt;
-  named = λ q pattern e. named_at 0 (Row.Fail ∷ []) (tt, tt) q pattern e;
-}
+fail_names_none = grind (arith, common_steps, lit≤, named_at)

@@ -1,8 +1,7 @@
 -- What an NFA remembers of its rows: the facts that they ask for, their assertions and which bytes they tell apart,
 -- gathered row by row.
-use Rattle.std.proofs.Common.{◌≡◌, ℕ, zero, suc, ◌+◌, ◌<◌, ◌≤◌, Bool, ◌||◌, List, [], ◌∷◌, length, map, get_or, drop}
-use Rattle.std.proofs.Common.{refl}
-use Rattle.std.proofs.Common.{ap, sym, ◌∙◌}
+use Rattle.std.proofs.Common.{arith, ◌≡◌, ℕ, ◌+◌, ◌<◌, ◌≤◌, Bool, ◌||◌, List, [], ◌∷◌, length, map, get_or, drop, refl}
+use Rattle.std.proofs.lemmas.Grind.{common_steps}
 use Rattle.std.specs.List.{list_any}
 use Rattle.std.proofs.Math.Bool.{or_assoc, or-false}
 use Rattle.std.proofs.Math.ListN.{drop_of_length-le}
@@ -35,18 +34,11 @@ asked-nil = refl
 pub asked_more : (rows : List Row) (i : ℕ) (f : Facts) {row : Row} {read more whole : Facts} → i < length rows
     → row ≡ get_or rows i row → either_of f (asked (drop i rows)) ≡ whole → read ≡ row_reads (row_of row)
     → more ≡ either_of f read → either_of more (asked (drop (i + 1) rows)) ≡ whole
-asked_more rows i f {row} lt is before reads joined =
-    let left = drop (i + 1) rows in
-    ap (λ g. either_of g (asked left)) (joined ∙ ap (either_of f) reads)
-    ∙ either_of-assoc f (row_reads (row_of row)) (asked left)
-    ∙ ap (either_of f) (sym (ap asked (drop_at rows i lt is) ∙ asked-cons row left))
-    ∙ before
+asked_more rows i f {row} lt is before reads joined = grind (arith, common_steps, either_of-assoc, drop_at, asked-cons)
 
 pub asked_last : (rows : List Row) (i : ℕ) (f : Facts) {whole : Facts} → length rows ≤ i
     → either_of f (asked (drop i rows)) ≡ whole → f ≡ whole
-asked_last rows i f le before =
-    let none = ap asked (drop_of_length-le rows le) ∙ asked-nil in
-    sym (either_of-none f) ∙ sym (ap (either_of f) none) ∙ before
+asked_last rows i f le before = grind (arith, common_steps, drop_of_length-le, asked-nil, either_of-none)
 
 -- ---- what some row has, by any test
 
@@ -56,24 +48,15 @@ any_of test rs = list_any test (map row_of rs)
 pub any_more : (test : rows.Row → Bool) (rs : List Row) (i : ℕ) (before : Bool) {row : Row} {more whole : Bool}
     → i < length rs → row ≡ get_or rs i row → (before || any_of test (drop i rs)) ≡ whole
     → more ≡ (before || test (row_of row)) → (more || any_of test (drop (i + 1) rs)) ≡ whole
-any_more test rs i before {row} lt is left joined =
-    let last = any_of test (drop (i + 1) rs) in
-    ap (λ b. b || last) joined ∙ or_assoc before (test (row_of row)) last
-    ∙ ap (λ xs. before || any_of test xs) (sym (drop_at rs i lt is)) ∙ left
+any_more test rs i before {row} lt is left joined = grind (arith, common_steps, or_assoc, drop_at)
 
 pub any_last : (test : rows.Row → Bool) (rs : List Row) (i : ℕ) (before : Bool) {whole : Bool} → length rs ≤ i
     → (before || any_of test (drop i rs)) ≡ whole → before ≡ whole
-any_last test rs i before le left =
-    let none = ap (any_of test) (drop_of_length-le rs le) in
-    sym (or-false before) ∙ sym (ap (λ b. before || b) none) ∙ left
+any_last test rs i before le left = grind (arith, common_steps, drop_of_length-le, or-false)
 
 -- ---- an NFA of one row
 
 -- a row that leads nowhere without a byte
 pub shallow_row : (row : rows.Row) → ((P : ℕ → Type 0) → AllNext P row) → IsShallow (row ∷ [])
 unfolding Short
-shallow_row row ends = record { short = at }
-  where
-    at : (q : ℕ) → Short (row ∷ []) 2 q
-    at zero = ends (λ p. Short (row ∷ []) 1 p)
-    at (suc q) = tt
+shallow_row row ends = grind (arith, common_steps)

@@ -1,11 +1,11 @@
 -- The rows of all patterns: each pattern's Match row and its expression's rows, one pattern after another.
-use Rattle.std.proofs.Common.{◌≡◌, ℕ, suc, ◌+◌, ◌^◌, ◌≤◌, List, [], ◌∷◌, ◌++◌, length, map, drop, min, refl, sym}
-use Rattle.std.proofs.Common.{◌∙◌, ap, arith, append_assoc, append-nil, length-append, All}
-use Rattle.std.proofs.Math.Path.{ap₂}
+use Rattle.std.proofs.lemmas.Grind.{common_steps}
+use Rattle.std.proofs.Common.{◌≡◌, ℕ, suc, ◌+◌, ◌^◌, ◌≤◌, List, [], ◌∷◌, ◌++◌, length, map, drop, min, refl, ◌∙◌, ap}
+use Rattle.std.proofs.Common.{arith, append_assoc, append-nil, length-append, All}
 use Rattle.std.proofs.lemmas.List.{length-map, map-append, drop_all}
 use Rattle.std.proofs.lemmas.List.Sums.{sum_by-cons}
 use Rattle.rx_spec.specs.Expressions.{Expression, IsLoopSafe}
-use Rattle.rx_spec.specs.Rows.{Part, compile, rows_count}
+use Rattle.rx_spec.specs.Rows.{compile, rows_count}
 use Rattle.rx_spec.specs.Nfas.{Patterns, patterns_from, read_as}
 use Rattle.rx_spec.specs.Rows as spec
 use Rattle.rx_spec.specs.declared.Direction.{Direction}
@@ -42,9 +42,6 @@ pub record Going (direction : Direction) (exprs : List Expression) (k : ℕ) (ro
   pub starts_are : starts ++ (left direction exprs k (length rows)).entries ≡ (patterns_of direction exprs).entries
   pub room : length rows + patterns_count (drop k exprs) ≡ patterns_count exprs
 
-pub going_first : (direction : Direction) (exprs : List Expression) → Going direction exprs 0 [] []
-going_first direction exprs = record { rows_are = refl; starts_are = refl; room = omega arith }
-
 pub going_more : {direction : Direction} {exprs : List Expression} {rows accepted made : List Row} {starts : List ℕ}
     {e : Expression} {start : ℕ} (k : ℕ) (row : Row) → Going direction exprs k rows starts
     → drop k exprs ≡ e ∷ drop (k + 1) exprs → row_of row ≡ spec.Match k → accepted ≡ rows ++ (row ∷ [])
@@ -52,63 +49,13 @@ pub going_more : {direction : Direction} {exprs : List Expression} {rows accepte
     → Going direction exprs (k + 1) made (starts ++ (start ∷ []))
 unfolding patterns_from
 going_more {direction} {exprs} {rows} {accepted} {made} {starts} {e} {start} k row going split is pushed added =
-    let r = read_as direction in
-    let base = length rows + 1 in
-    let part = compile (r e) base (length rows) in
-    let others = left direction exprs (k + 1) (base + length part.rows) in
-    let old = map row_of rows in
-    let place : length accepted ≡ base = ap length pushed ∙ length-append rows (row ∷ []) in
-    let same : maker direction e (length accepted) (length rows) ≡ part =
-    ap (λ n. compile (r e) n (length rows)) place in
-    let accepted_rows = ap (map row_of) pushed ∙ map-append row_of rows (row ∷ []) ∙ ap (λ x. old ++ (x ∷ [])) is in
-    let made_rows : map row_of made ≡ old ++ (spec.Match k ∷ part.rows) =
-    added.rows ∙ ap₂ (λ xs (p : Part). xs ++ p.rows) accepted_rows same
-    ∙ append_assoc old (spec.Match k ∷ []) part.rows in
-    let made_len : length made ≡ base + length part.rows =
-    omega (
-      arith,
-      length-map made row_of,
-      length-map rows row_of,
-      ap length made_rows,
-      length-append old (spec.Match k ∷ part.rows),
-    ) in
-    let later : left direction exprs (k + 1) (length made) ≡ others = ap (left direction exprs (k + 1)) made_len in
-    let all : Patterns = record {
-      entries = part.entry ∷ others.entries;
-      rows = (spec.Match k ∷ part.rows) ++ others.rows;
-    } in
-    let whole : left direction exprs k (length rows) ≡ all =
-    ap (λ xs. patterns_from (length rows) k (map r xs)) split in
-    let counted : length part.rows ≡ rows_count e = maker_makes direction e base (length rows) in
-    let entered = added.entered ∙ ap (λ (p : Part). p.entry) same in
-    record {
-      rows_are =
-          ap₂ (λ xs (p : Patterns). xs ++ p.rows) made_rows later
-          ∙ append_assoc old (spec.Match k ∷ part.rows) others.rows
-          ∙ sym (ap (λ (p : Patterns). old ++ p.rows) whole) ∙ going.rows_are;
-      starts_are =
-          ap₂ (λ n (p : Patterns). (starts ++ (n ∷ [])) ++ p.entries) entered later
-          ∙ append_assoc starts (part.entry ∷ []) others.entries
-          ∙ sym (ap (λ (p : Patterns). starts ++ p.entries) whole) ∙ going.starts_are;
-      room =
-          omega (arith, going.room, ap patterns_count split, patterns_count-cons e (drop (k + 1) exprs));
-    }
+    grind (arith, common_steps, length-append, map-append, append_assoc, length-map, maker_makes, patterns_count-cons)
 
 -- all patterns were added
 pub going_last : {direction : Direction} {exprs : List Expression} {k : ℕ} {rows : List Row} {starts : List ℕ}
     → Going direction exprs k rows starts → length exprs ≤ k → AddsPatterns direction exprs rows starts
 unfolding patterns_from
-going_last {direction} {exprs} {k} {rows} {starts} going h =
-    let nothing : Patterns = record { entries = []; rows = [] } in
-    let none : left direction exprs k (length rows) ≡ nothing =
-    ap (λ xs. patterns_from (length rows) k (map (read_as direction) xs)) (drop_all k exprs h) in
-    record {
-      rows_are =
-          sym (append-nil (map row_of rows)) ∙ sym (ap (λ (p : Patterns). map row_of rows ++ p.rows) none)
-          ∙ going.rows_are;
-      starts_are =
-          sym (append-nil starts) ∙ sym (ap (λ (p : Patterns). starts ++ p.entries) none) ∙ going.starts_are;
-    }
+going_last {direction} {exprs} {k} {rows} {starts} going h = grind (arith, common_steps, drop_all, append-nil)
 
 -- ---- how many rows and starts that are
 
@@ -138,8 +85,7 @@ length-entries direction (e ∷ es) base k =
 
 pub length-added_patterns : {direction : Direction} {es : List Expression} {rows : List Row} {starts : List ℕ}
     → AddsPatterns direction es rows starts → length rows ≡ patterns_count es
-length-added_patterns {direction} {es} {rows} added =
-    sym (length-map rows row_of) ∙ ap length added.rows_are ∙ length-patterns direction es 0 0
+length-added_patterns {direction} {es} {rows} added = grind (arith, common_steps, length-map, length-patterns)
 
 pub length-starts : {direction : Direction} {es : List Expression} {rows : List Row} {starts : List ℕ}
     → AddsPatterns direction es rows starts → length starts ≡ length es

@@ -1,7 +1,7 @@
 -- Which bytes rows tell apart: what is set for an assertion, and rows one after another.
+use Rattle.std.proofs.lemmas.Grind.{common_steps}
 use Rattle.std.proofs.Common.{◌≡◌, ℕ, ◌+◌, ◌<◌, ◌==◌, ◌⊎◌, ◌||◌, ◌&&◌, Bool, false, refl, ap, ap₂, sym, ◌∙◌, ⊎_elim}
-use Rattle.std.proofs.Common.{arith}
-use Rattle.std.proofs.Common.{lit<}
+use Rattle.std.proofs.Common.{arith, lit<}
 use Rattle.std.specs.Prelude.{nat_le}
 use Rattle.std.proofs.Math.Bool.{or-false}
 use Rattle.std.proofs.lemmas.Bool.{agree_below_at}
@@ -9,7 +9,6 @@ use Rattle.std.proofs.lemmas.Bool.Decides.{nat_tests}
 use Rattle.rx_spec.specs.Bytes.{contains, between, is_word}
 use Rattle.rx_spec.specs.Classes.{facts_part, parts}
 use Rattle.rx_spec.specs.Contexts.{facts_read}
-use Rattle.rx_spec.specs.Looks.{differ}
 use Rattle.rx_spec.specs.declared.Look.{Look}
 use Rattle.rx_base.proofs.ByteSets.{contains-between}
 
@@ -26,9 +25,7 @@ one_byte : (byte x : ℕ) → (nat_le byte x && nat_le x byte) ≡ (x == byte)
 one_byte byte x = grind (arith, nat_tests)
 
 byte_parts : (byte b : ℕ) → byte < 256 → range_parts byte byte b ≡ parts (λ x. x == byte) b (b + 1)
-byte_parts byte b h =
-    ap₂ (λ (x y : Bool). differ x y)
-    (contains-between byte byte b h ∙ one_byte byte b) (contains-between byte byte (b + 1) h ∙ one_byte byte (b + 1))
+byte_parts byte b h = grind (arith, common_steps, contains-between, one_byte)
 
 -- the four ranges of word bytes
 abbrev word_ranges : ℕ → Bool
@@ -44,10 +41,7 @@ look_parts look t b = facts_part t (facts_read look) b (b + 1)
 
 pub line_parts : (look : Look) → (look ≡ Look.StartLF) ⊎ (look ≡ Look.EndLF) → (t b : ℕ) → t < 256
     → range_parts t t b ≡ look_parts look t b
-line_parts look is t b h =
-    byte_parts t b h ∙ sym (simp or-false)
-    ∙ ⊎_elim (λ (e : look ≡ Look.StartLF). ap (λ look. look_parts look t b) (sym e))
-    (λ (e : look ≡ Look.EndLF). ap (λ look. look_parts look t b) (sym e)) is
+line_parts look is t b h = grind (arith, common_steps, byte_parts, or-false)
 
 pub crlf_parts : (look : Look) → (look ≡ Look.StartCRLF) ⊎ (look ≡ Look.EndCRLF) → (t b : ℕ) → b < 255
     → (range_parts 10 10 b || range_parts 13 13 b) ≡ look_parts look t b

@@ -1,6 +1,7 @@
 -- Whether the rows have a Unicode word assertion, told by the set of their assertions.
-use Rattle.std.proofs.Common.{◌≡◌, ℕ, ◌↔◌, Bool, true, false, ◌||◌, ◌==◌, List, [], ◌∷◌, refl, sym, ap, ◌∙◌}
+use Rattle.std.proofs.Common.{arith, ◌≡◌, ℕ, ◌↔◌, Bool, true, false, ◌||◌, ◌==◌, List, [], ◌∷◌, refl, sym, ap, ◌∙◌}
 use Rattle.std.proofs.Common.{⊎_elim, true≢false, eqb-true, eq-eqb}
+use Rattle.std.proofs.lemmas.Grind.{common_steps}
 use Rattle.std.specs.Prelude.{IsTrue}
 use Rattle.std.specs.List.{list_any}
 use Rattle.std.proofs.lemmas.Bool.{cases_Bool}
@@ -41,8 +42,7 @@ same_number look other e = by_number look ∙ ap is_unicode_number e ∙ sym (by
 -- a row that has the assertion
 row_told : (look : Look) (row : Row) → is_unicode_word look ≡ true → asserts look row ≡ true
     → looks_for_unicode_word row ≡ true
-row_told look (Row.Look other next) u h =
-    sym (same_number look other (eqb-true (look_number look) (look_number other) h)) ∙ u
+row_told look (Row.Look other next) u h = grind (arith, common_steps, same_number, eqb-true)
 row_told look (Row.Bytes set next) u h = absurd (true≢false (sym h))
 row_told look (Row.Split first second) u h = absurd (true≢false (sym h))
 row_told look (Row.Match pattern) u h = absurd (true≢false (sym h))

@@ -1,10 +1,10 @@
 -- Lines of events.
-use Rattle.std.proofs.Common.{◌≡◌, ℕ, List, [], ◌∷◌, ◌++◌, refl, ap, ◌∙◌, append-nil}
-use Rattle.std.proofs.lemmas.Grind.{flat_map-append}
+use Rattle.std.proofs.Common.{arith, ◌≡◌, ℕ, List, [], ◌∷◌, ◌++◌, refl, ap, append-nil}
+use Rattle.std.proofs.lemmas.Grind.{common_steps, flat_map-append}
 use Rattle.std.proofs.lemmas.List.Elements.{All-head, All-tail}
 use Rattle.std.specs.Prelude.{All}
 use Rattle.rx_stream.specs.declared.event.StreamEvent.{StreamEvent}
-use Rattle.rx_feed.specs.Lines.{IsMatch, event_line, lines, match_line, match_lines}
+use Rattle.rx_feed.specs.Lines.{IsMatch, event_line, lines, match_lines}
 
 pub lines-append : (xs ys : List StreamEvent) → lines (xs ++ ys) ≡ lines xs ++ lines ys
 lines-append xs ys = flat_map-append event_line xs ys
@@ -20,6 +20,4 @@ match_lines-all (StreamEvent.Quit byte offset ∷ events) all =
 
 pub match_lines-quit : (events : List StreamEvent) (byte offset : ℕ) → All IsMatch events
     → match_lines (events ++ (StreamEvent.Quit byte offset ∷ [])) ≡ lines events
-match_lines-quit events byte offset all =
-    flat_map-append match_line events (StreamEvent.Quit byte offset ∷ [])
-    ∙ append-nil (match_lines events) ∙ match_lines-all events all
+match_lines-quit events byte offset all = grind (arith, common_steps, flat_map-append, append-nil, match_lines-all)

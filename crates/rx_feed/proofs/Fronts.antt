@@ -1,6 +1,7 @@
 -- Fronts of texts that are written one after another.
-use Rattle.std.proofs.Common.{ℕ, ◌+◌, List, ◌++◌, length, take, Option, Result, Ok, Err}
-use Rattle.std.proofs.Common.{sym, subst, arith, length-append}
+use Rattle.std.proofs.lemmas.Grind.{common_steps}
+use Rattle.std.proofs.Common.{ℕ, ◌+◌, List, ◌++◌, length, take, Option, Result, Ok, Err, sym, subst, arith}
+use Rattle.std.proofs.Common.{length-append}
 use Rattle.std.proofs.Math.Seq.{take-append-add}
 use Rattle.std.proofs.lemmas.List.{take-append-le}
 use Rattle.std.specs.Io.KnownBytes.{Appends}
@@ -22,11 +23,7 @@ front_after a b c xs ys p front = record {
 
 -- A front of a text is one of what is longer.
 pub front_more : (a b : Option (List ℕ)) (xs ys : List ℕ) → AppendsFront a b xs → AppendsFront a b (xs ++ ys)
-front_more a b xs ys front = record {
-  count = front.count;
-  part = omega (arith, front.part, length-append xs ys);
-  written = subst (Appends a b) (sym (take-append-le front.count xs ys (omega (arith, front.part)))) front.written;
-}
+front_more a b xs ys front = grind (arith, common_steps, length-append, take-append-le)
 
 -- a text, and then another or a front of it
 pub writes_after : (a b c : Option (List ℕ)) (xs ys : List ℕ) (status : ℕ) (result : Result ℕ Fault)

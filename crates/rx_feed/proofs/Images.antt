@@ -1,6 +1,7 @@
 -- Images before a text: from what was read of both to what is answered.
-use Rattle.std.proofs.Common.{◌≡◌, ◌≢◌, ℕ, ◌<◌, ◌≤◌, inl, inr, Bool, true, false, Option, Result, Ok, Err}
-use Rattle.std.proofs.Common.{List, [], ◌++◌, ◌+◌, length, length-append, refl, ap, sym, ◌∙◌, subst, arith, append-nil}
+use Rattle.std.proofs.lemmas.Grind.{common_steps}
+use Rattle.std.proofs.Common.{◌≡◌, ◌≢◌, ℕ, ◌<◌, ◌≤◌, inl, inr, Bool, true, false, Option, Result, Ok, Err, List, []}
+use Rattle.std.proofs.Common.{◌++◌, ◌+◌, length, length-append, refl, ap, sym, ◌∙◌, subst, arith, append-nil}
 use Rattle.std.specs.Io.KnownBytes.{Consumes, IsAtEnd, Keeps}
 use Rattle.rx_spec.specs.Queries.{Anchored}
 use Rattle.rx_spec.specs.Tables.{Table}
@@ -9,8 +10,8 @@ use Rattle.rx_wire.specs.Kinds.{FailsBy, Gives, Kind}
 use Rattle.rx_feed.specs.Lines.{refused_line}
 use Rattle.rx_feed.specs.Outside.{Writes, source_fault}
 use Rattle.rx_feed.specs.Replies.{FeedReplies, IsSplit, read_table, table_read}
-use Rattle.rx_feed.specs.Run.{FeedBreaks, FeedCut, FeedEnds, Refuses, StreamBreaks}
-use Rattle.rx_feed.specs.Run.{ReadEnds, StreamEnds, Takes, TakesTable, TakesText, written_by}
+use Rattle.rx_feed.specs.Run.{FeedBreaks, FeedCut, FeedEnds, Refuses, StreamBreaks, ReadEnds, StreamEnds, Takes}
+use Rattle.rx_feed.specs.Run.{TakesTable, TakesText, written_by}
 use Rattle.rx_feed.specs.declared.fault.Fault.{Fault}
 use Rattle.rx_transfer.specs.Outside.{Ends}
 use Rattle.rx_transfer.specs.declared.reading.ReadFault.{ReadFault}
@@ -38,16 +39,8 @@ pub record IsImage (len : ℕ) (left_before left : Option (List ℕ)) (image : L
 split_if : (len : ℕ) (image haystack : List ℕ) (over ended : Bool) → length image ≤ len
     → (over ≡ false → length image ≡ len) → (over ≡ true → (ended ≡ true) × (haystack ≡ []))
     → IsSplit len (image ++ haystack) ended image haystack
-split_if len image haystack false ended few whole short = record {
-  joined = refl;
-  few = few;
-  short = λ less. absurd (omega (arith, whole refl));
-}
-split_if len image haystack true ended few whole short = record {
-  joined = refl;
-  few = few;
-  short = λ less. short refl;
-}
+split_if len image haystack false ended few whole short = grind (arith, common_steps)
+split_if len image haystack true ended few whole short = grind (arith, common_steps)
 
 -- a run: what is asked, and what it leaves
 pub record Run : Type 0 where
@@ -81,10 +74,7 @@ feed_unread run {before} ReadFault.Failed empty cut starved kept =
     let read = cut refl in
     let len = ap length empty in
     FeedCut.InImage read.0 (omega (arith, ap length read.1, length-append before read.0, len, read.2)) read.3 kept
-feed_unread run ReadFault.Memory empty cut starved kept =
-    let read = starved refl in
-    let len = ap length empty in
-    record { image = read.0; few = omega (arith, len, read.1); taken = read.2; kept = kept }
+feed_unread run ReadFault.Memory empty cut starved kept = grind (arith, common_steps)
 
 module _ (run : Run) {image : List ℕ} {over : Bool} {left : Option (List ℕ)}
     (is : IsImage run.len run.ends.left_before left image over) where
@@ -97,24 +87,13 @@ module _ (run : Run) {image : List ℕ} {over : Bool} {left : Option (List ℕ)}
 
   takes_all : {haystack : List ℕ} {ended : Bool} → TakesText over (behind left run.ends) haystack ended
       → Takes run.ends (image ++ haystack) ended
-  takes_all {haystack} {ended} takes = record {
-    taken = consumes_more run.ends.left_before left run.ends.left_after image haystack is.taken takes.takes.taken;
-    at_end = takes.takes.at_end;
-  }
+  takes_all {haystack} {ended} takes = grind (arith, common_steps, consumes_more)
 
   -- more bytes may come
   takes_more : {t : Table} {haystack : List ℕ} → table_read run.form image ≡ Ok t
       → Consumes left run.ends.left_after haystack → over ≡ false
       → TakesTable run.form run.len run.ends image haystack false t
-  takes_more {t} {haystack} read taken goes_on = record {
-    takes = record {
-      taken = consumes_more run.ends.left_before left run.ends.left_after image haystack is.taken taken;
-      at_end = λ e. absurd (cc);
-    };
-    split =
-        split_if run.len image haystack over false is.few is.whole (λ e. absurd (cc));
-    read = read;
-  }
+  takes_more {t} {haystack} read taken goes_on = grind (arith, common_steps, consumes_more, split, split_if)
 
   feed_ends : {t : Table} (result : Result ℕ Fault) → table_read run.form image ≡ Ok t
       → StreamEnds t run.mode over (behind left run.ends) result → EndsBy result
@@ -177,7 +156,6 @@ module _ (run : Run) {image : List ℕ} {over : Bool} {left : Option (List ℕ)}
       (result : Result ℕ Fault) → table_read run.form image ≡ read_table table_of reads
       → Gives (λ (x : L × ℕ). (x.0, x.1)) read reads
       → ReadEnds table_of run.mode over (behind left run.ends) read result → EndsBy result
-  feed_read_ends table_of reads (Ok (x, n)) result same gives stream =
-      feed_ends result (same ∙ ap (read_table table_of) gives) stream
+  feed_read_ends table_of reads (Ok (x, n)) result same gives stream = grind (arith, common_steps, feed_ends)
   feed_read_ends table_of reads (Err kind) result same gives refused =
       feed_refuses refused.1 table_of reads kind result same gives refused.0

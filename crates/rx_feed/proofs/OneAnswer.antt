@@ -1,7 +1,7 @@
 -- At most one text and one status answer what was taken.
-use Rattle.std.proofs.Common.{◌≡◌, ℕ, ◌<◌, ◌⊎◌, inl, inr, Bool, Some, None, Option, Result, Ok, Err}
-use Rattle.std.proofs.Common.{List, [], ◌∷◌, ◌++◌, length, take, drop, refl, ap, sym, ◌∙◌, subst, arith}
-use Rattle.std.proofs.Common.{append-nil}
+use Rattle.std.proofs.lemmas.Grind.{common_steps}
+use Rattle.std.proofs.Common.{◌≡◌, ℕ, ◌<◌, ◌⊎◌, inl, inr, Bool, Some, None, Option, Result, Ok, Err, List, [], ◌∷◌}
+use Rattle.std.proofs.Common.{◌++◌, length, take, drop, ap, sym, ◌∙◌, subst, arith, append-nil}
 use Rattle.std.proofs.Math.ListN.{drop_of_length-le}
 use Rattle.std.proofs.Math.Nat.{eq-or-lt_of_le}
 use Rattle.std.proofs.Math.Seq.{take-append_seam, drop-append_seam}
@@ -13,7 +13,7 @@ use Rattle.rx_spec.specs.Tables.{Table}
 use Rattle.rx_wire.specs.Kinds.{Kind}
 use Rattle.rx_stream.specs.Remaining.{told_now}
 use Rattle.rx_stream.specs.declared.event.StreamEvent.{StreamEvent}
-use Rattle.rx_feed.specs.Lines.{IsMatch, lines, quit_line, refused_line}
+use Rattle.rx_feed.specs.Lines.{IsMatch, lines, refused_line}
 use Rattle.rx_feed.specs.Replies.{FeedReplies, IsOneAnswer, IsSplit, IsToldLast, StreamReplies, table_read}
 
 -- ---- events
@@ -41,9 +41,7 @@ quit_once : (matches others xs ys : List StreamEvent) (byte offset b o : ℕ) �
     → All IsMatch others
     → matches ++ (StreamEvent.Quit byte offset ∷ xs) ≡ others ++ (StreamEvent.Quit b o ∷ ys)
     → (matches ≡ others) × (byte ≡ b) × (offset ≡ o)
-quit_once [] [] xs ys byte offset b o all also e =
-    let same = same_quit byte offset b o (same_event (StreamEvent.Quit byte offset) (StreamEvent.Quit b o) xs ys e) in
-    (refl, same.0, same.1)
+quit_once [] [] xs ys byte offset b o all also e = grind (arith, common_steps, same_quit, same_event)
 quit_once [] (event ∷ others) xs ys byte offset b o all also e =
     absurd (subst IsMatch (sym (same_event (StreamEvent.Quit byte offset) event xs
     (others ++ (StreamEvent.Quit b o ∷ ys)) e)) (All-head IsMatch event others also))
@@ -97,12 +95,7 @@ module _ {t : Table} {mode : Anchored} {haystack : List ℕ} where
   stream_once (StreamReplies.Quit ms b o e few all is f g) (StreamReplies.Ended e' end few' all' f' g') =
       absurd (now_no_quit all' is)
   stream_once (StreamReplies.Quit ms b o e few all is f g) (StreamReplies.Quit ms' b' o' e' few' all' is' f' g') =
-      let same = quit_once ms ms' is.later is'.later b o b' o' all all' (sym is.tells ∙ is'.tells) in (
-        f ∙ ap (λ (es : List StreamEvent). lines es ++ quit_line b o) same.0
-            ∙ ap (λ (n : ℕ). lines ms' ++ quit_line n o) same.1
-            ∙ ap (λ (n : ℕ). lines ms' ++ quit_line b' n) same.2 ∙ sym f',
-        g ∙ sym g',
-      )
+      grind (arith, common_steps, quit_once)
   stream_once (StreamReplies.Quit ms b o e few all is f g) (StreamReplies.Long e' long few' f' g') =
       absurd (omega (arith, few, long))
   stream_once (StreamReplies.Long e long few f g) (StreamReplies.Unsupported e' none f' g') =
@@ -111,8 +104,7 @@ module _ {t : Table} {mode : Anchored} {haystack : List ℕ} where
       absurd (omega (arith, few', long))
   stream_once (StreamReplies.Long e long few f g) (StreamReplies.Quit ms b o e' few' all is f' g') =
       absurd (omega (arith, few', long))
-  stream_once (StreamReplies.Long e long few f g) (StreamReplies.Long e' long' few' f' g') =
-      (f ∙ sym f', g ∙ sym g')
+  stream_once (StreamReplies.Long e long few f g) (StreamReplies.Long e' long' few' f' g') = grind (arith, common_steps)
 
 -- ---- images
 
@@ -120,22 +112,12 @@ module _ {t : Table} {mode : Anchored} {haystack : List ℕ} where
 split_is : (len : ℕ) (bytes : List ℕ) (ended : Bool) (image haystack : List ℕ) → IsSplit len bytes ended image haystack
     → (length image ≡ len) ⊎ (length image < len) → (image ≡ take len bytes) × (haystack ≡ drop len bytes)
 split_is len bytes ended image haystack is (inr less) =
-    let none : haystack ≡ [] = (is.short less).1 in
-    let all : bytes ≡ image = is.joined ∙ ap (λ (l : List ℕ). image ++ l) none ∙ append-nil image in (
-      sym (ap (take len) all ∙ take_all len image (omega (arith, less))),
-      none ∙ sym (ap (drop len) all ∙ drop_of_length-le image (omega (arith, less))),
-    )
-split_is len bytes ended image haystack is (inl same) = (
-  sym (ap (take len) is.joined ∙ ap (λ (n : ℕ). take n (image ++ haystack)) (sym same)
-      ∙ take-append_seam image haystack),
-  sym (ap (drop len) is.joined ∙ ap (λ (n : ℕ). drop n (image ++ haystack)) (sym same)
-      ∙ drop-append_seam image haystack),
-)
+    grind (arith, common_steps, append-nil, take_all, drop_of_length-le)
+split_is len bytes ended image haystack is (inl same) = grind (arith, common_steps, take-append_seam, drop-append_seam)
 
 split_once : {len : ℕ} {bytes : List ℕ} {ended : Bool} {image haystack : List ℕ}
     → IsSplit len bytes ended image haystack → (image ≡ take len bytes) × (haystack ≡ drop len bytes)
-split_once {len} {bytes} {ended} {image} {haystack} is =
-    split_is len bytes ended image haystack is (eq-or-lt_of_le is.few)
+split_once {len} {bytes} {ended} {image} {haystack} is = grind (arith, common_steps, split_is, eq-or-lt_of_le)
 
 same_table : (read : Result Table Kind) (t other : Table) → read ≡ Ok t → read ≡ Ok other → t ≡ other
 same_table read t other e f = cc

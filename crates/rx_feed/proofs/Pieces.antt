@@ -1,6 +1,7 @@
 -- What the calls of a searcher tell of a piece, and pieces one after another.
-use Rattle.std.proofs.Common.{◌≡◌, ℕ, ◌+◌, ◌<◌, ◌≤◌, true, Some, None, Option, List, [], ◌∷◌, ◌++◌, length, drop}
-use Rattle.std.proofs.Common.{refl, ap, sym, ◌∙◌, subst, arith, append_assoc, append-nil, length-append}
+use Rattle.std.proofs.lemmas.Grind.{common_steps}
+use Rattle.std.proofs.Common.{◌≡◌, ℕ, ◌+◌, ◌<◌, ◌≤◌, true, Some, None, Option, List, [], ◌∷◌, ◌++◌, length, drop, ap}
+use Rattle.std.proofs.Common.{sym, ◌∙◌, subst, arith, append_assoc, append-nil, length-append}
 use Rattle.std.proofs.lemmas.List.Elements.{All-append, All-push, All-nil}
 use Rattle.std.specs.Prelude.{All}
 use Rattle.std.specs.Io.KnownBytes.{Appends}
@@ -44,16 +45,7 @@ pub record Feeds (t : Table) (ids : List ℕ) (old here : Place) (piece : List �
 pub feeds_none : (t : Table) (ids : List ℕ) (place : Place) (piece : List ℕ) (written : Option (List ℕ))
     → is_open place.stage ≡ true
     → Feeds t ids place place piece 0 (record { before = written; after = written })
-feeds_none t ids place piece written still = record {
-  within = omega arith;
-  still_open = still;
-  taken = omega arith;
-  told = [];
-  tells = λ more are. refl;
-  tells_now = λ more are. refl;
-  matches = All-nil IsMatch;
-  lines = appends_none written;
-}
+feeds_none t ids place piece written still = grind (arith, common_steps, appends_none)
 
 -- after an event what is left of the piece tells one less
 pub fed_smaller : {t : Table} {ids : List ℕ} {here new : Place} {piece : List ℕ} {from : ℕ} {fed : Fed}
@@ -98,10 +90,7 @@ module _ {t : Table} {ids : List ℕ} {old here new : Place} {piece : List ℕ} 
   -- an event is told after those so far
   now_told : {event : StreamEvent} → fed.event ≡ Some event
       → now t ids old piece ≡ feeds.told ++ (event ∷ now t ids new (drop fed.used piece ++ []))
-  now_told {event} some =
-      ap (now t ids old) (sym (append-nil piece))
-      ∙ feeds.tells_now [] no_bytes
-      ∙ ap (λ (es : List StreamEvent). feeds.told ++ es) (told_now is some [] no_bytes)
+  now_told {event} some = grind (arith, common_steps, append-nil, no_bytes, told_now)
 
   -- the end of the piece
   pub feeds_over : fed.event ≡ None → IsRead t ids old new piece (record { before = before; after = after })
@@ -165,14 +154,7 @@ module _ {t : Table} {ids : List ℕ} {old here new : Place} {piece : List ℕ} 
 
 pub read_none : (t : Table) (ids : List ℕ) (place : Place) (written : Option (List ℕ)) → is_open place.stage ≡ true
     → now t ids place [] ≡ [] → IsRead t ids place place [] (record { before = written; after = written })
-read_none t ids place written still none = record {
-  still_open = still;
-  taken = omega arith;
-  tells = λ more are. ap (λ (es : List StreamEvent). es ++ remaining t ids place more) (sym none);
-  tells_now = λ more are. ap (λ (es : List StreamEvent). es ++ now t ids place more) (sym none);
-  matches = subst (All IsMatch) (sym none) (All-nil IsMatch);
-  lines = subst (λ (es : List StreamEvent). Appends written written (lines es)) (sym none) (appends_none written);
-}
+read_none t ids place written still none = grind (arith, common_steps, appends_none)
 
 -- a piece after those before it
 module _ {t : Table} {ids : List ℕ} {old here : Place} {xs : List ℕ} {before between : Option (List ℕ)}
@@ -215,19 +197,6 @@ pub record Finishes (t : Table) (ids : List ℕ) (old here : Place) (written : W
   pub tells : remaining t ids old [] ≡ told ++ remaining t ids here []
   pub lines : Appends written.before written.after (lines told)
 
-pub finishes_none : (t : Table) (ids : List ℕ) (place : Place) (written : Option (List ℕ))
-    → Finishes t ids place place (record { before = written; after = written })
-finishes_none t ids place written = record {
-  told = [];
-  tells = refl;
-  lines = appends_none written;
-}
-
-pub finished_smaller : {t : Table} {ids : List ℕ} {here new : Place} {event : StreamEvent}
-    → IsFinished t ids here new (Some event)
-    → length (remaining t ids new []) < length (remaining t ids here [])
-finished_smaller is = omega (arith, ap length is.tells)
-
 module _ {t : Table} {ids : List ℕ} {old here new : Place} {before after : Option (List ℕ)}
     (finishes : Finishes t ids old here (record { before = before; after = after })) where
   pub finishes_more : {event : StreamEvent} {later : Option (List ℕ)} → IsFinished t ids here new (Some event)
@@ -264,8 +233,4 @@ module _ {t : Table} {ids : List ℕ} {old here new : Place} {before after : Opt
 
   -- nothing is left
   pub finishes_over : IsFinished t ids here new None → Appends before after (lines (remaining t ids old []))
-  finishes_over is =
-      let all : remaining t ids old [] ≡ finishes.told
-      = finishes.tells ∙ ap (λ (es : List StreamEvent). finishes.told ++ es) (is.none refl)
-      ∙ append-nil finishes.told in
-      subst (λ (es : List StreamEvent). Appends before after (lines es)) (sym all) finishes.lines
+  finishes_over is = grind (arith, common_steps, append-nil)

@@ -1,15 +1,13 @@
 -- Texts in pieces: from what was read and written to what is answered.
-use Rattle.std.proofs.Common.{◌≡◌, ℕ, ◌+◌, ◌<◌, ◌≤◌, Bool, true, false, None, Option, Result, Ok, Err}
-use Rattle.std.proofs.Common.{List, [], ◌∷◌, ◌++◌, length}
-use Rattle.std.proofs.Common.{refl, ap, sym, ◌∙◌, subst, arith, append_assoc, append-nil, length-append}
+use Rattle.std.proofs.lemmas.Grind.{common_steps}
+use Rattle.std.proofs.Common.{◌≡◌, ℕ, ◌+◌, ◌<◌, ◌≤◌, Bool, true, false, Option, Result, Ok, Err, List, [], ◌∷◌, ◌++◌}
+use Rattle.std.proofs.Common.{length, refl, ap, sym, ◌∙◌, subst, arith, append_assoc, append-nil, length-append}
 use Rattle.std.proofs.lemmas.List.Elements.{All-append, All-nil}
 use Rattle.std.specs.Prelude.{All}
 use Rattle.std.specs.Io.KnownBytes.{Appends, Consumes, IsAtEnd, Keeps}
 use Rattle.rx_spec.specs.Bytes.{AreBytes}
 use Rattle.rx_spec.specs.Queries.{Anchored, MatchError}
-use Rattle.rx_spec.specs.Starts.{start_row}
 use Rattle.rx_spec.specs.Tables.{Table}
-use Rattle.rx_spec.specs.declared.Direction.{Direction}
 use Rattle.lemmas_walks.proofs.Overlapping.{overlapping-nil}
 use Rattle.rx_stream.specs.Calls.{IsNew, IsUnsupported, is_open}
 use Rattle.rx_stream.specs.Remaining.{events, remaining, now, told, told_now}
@@ -48,14 +46,8 @@ pub stream_answer : {t : Table} {mode : Anchored} {over : Bool} {ends : Ends} {h
     → StreamReplies t mode haystack ended (now_lines t mode haystack ++ last) status
     → Appends ends.written_before between (now_lines t mode haystack)
     → Writes between ends.written_after last status result → StreamEnds t mode over ends result
-stream_answer {t} {mode} {over} {ends} {haystack} {ended} {status} between last (Ok told) takes replies p w = record {
-  haystack = haystack;
-  ended = ended;
-  takes = takes;
-  text = now_lines t mode haystack ++ last;
-  replies = subst (StreamReplies t mode haystack ended (now_lines t mode haystack ++ last)) (sym w.0) replies;
-  written = appends_more ends.written_before between ends.written_after (now_lines t mode haystack) last p w.1;
-}
+stream_answer {t} {mode} {over} {ends} {haystack} {ended} {status} between last (Ok told) takes replies p w =
+    grind (arith, common_steps, appends_more)
 stream_answer between last (Err Fault.Source) takes replies p w = absurd w
 stream_answer {t} {mode} {over} {ends} {haystack} {ended} {status} between last (Err Fault.Sink) takes replies p w =
     StreamBreaks.InReply haystack ended last status takes replies
@@ -75,12 +67,7 @@ pub has_read_none : (t : Table) (ids : List ℕ) (place : Place) (left written :
     → is_open place.stage ≡ true → now t ids place [] ≡ []
     → HasRead t ids place place
     (ends_by left left written written)
-has_read_none t ids place left written still none = record {
-  haystack = [];
-  bytes = All-nil (λ b. b < 256);
-  taken = consumes_none left;
-  read = read_none t ids place written still none;
-}
+has_read_none t ids place left written still none = grind (arith, common_steps, consumes_none, read_none)
 
 -- a piece was read: so many bytes, and no more than a piece has
 pub record IsPiece (left left' : Option (List ℕ)) (count : ℕ) (piece : List ℕ) : Type 0 where
@@ -282,8 +269,7 @@ module _ {t : Table} {ids : List ℕ} {old here : Place} {left_before left : Opt
 
 -- nothing is told of no bytes before their end
 pub told_now-nil : (t : Table) (mode : Anchored) → told_now t mode [] ≡ []
-told_now-nil t mode =
-    ap events (overlapping-nil t.machine Direction.Forward (start_row t.machine t.settings None mode) 0)
+told_now-nil t mode = grind (arith, common_steps, overlapping-nil)
 
 pub new_tells_none : {t : Table} {ids : List ℕ} {mode : Anchored} {place : Place} → IsNew t ids mode place
     → now t ids place [] ≡ []

@@ -1,5 +1,5 @@
 -- An image of a pair is read again, in either order, whatever follows, and its length is told.
-use Rattle.std.proofs.Common.{◌≡◌, ℕ, ◌+◌, ◌-◌, ◌^◌, ◌<◌, ◌==◌, true, List, ◌++◌, length, drop, Ok, refl, sym, ap, ◌∙◌}
+use Rattle.std.proofs.Common.{◌≡◌, ℕ, ◌+◌, ◌-◌, ◌^◌, ◌<◌, ◌==◌, true, List, ◌++◌, length, Ok, refl, ap, ◌∙◌}
 use Rattle.std.proofs.Common.{append_assoc, arith, rules}
 use Rattle.std.proofs.lemmas.Bool.{eq-eqb}
 use Rattle.std.proofs.lemmas.List.{drop_at, length-append}
@@ -26,8 +26,8 @@ use Rattle.rx_sparse_image.specs.Images as sparse_images
 use Rattle.rx_sparse_image.specs.Tested as sparse_tested
 use Rattle.rx_sparse_image.proofs.WholeAgain.{whole_again as sparse_whole_again}
 use Rattle.rx_image.specs.Pairs.{AreWhole, HaveSamePatterns, Pair, dense_at, dense_pair_at, form_number, form_of}
-use Rattle.rx_image.specs.Pairs.{head_at, head_text, in_order, is_same_order, pair_at, pair_label, pair_version}
-use Rattle.rx_image.specs.Pairs.{reads, sparse_at, sparse_pair_at, text}
+use Rattle.rx_image.specs.Pairs.{head_at, head_text, in_order, is_same_order, pair_at, pair_label, pair_version, reads}
+use Rattle.rx_image.specs.Pairs.{sparse_at, sparse_pair_at, text}
 
 is_label : IsLabel pair_label
 is_label = record { short = omega arith; text = search rules }

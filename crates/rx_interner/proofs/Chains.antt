@@ -1,9 +1,10 @@
 -- How a key is found: from the newest key of its hash over older ones.
+use Rattle.std.proofs.lemmas.Grind.{common_steps}
 use Rattle.std.proofs.Common.{◌≡◌, ℕ, ◌<◌, ◌≤◌, ◌⊎◌, inl, inr, Option, None, Some, List, length, take, refl, ap, sym}
 use Rattle.std.proofs.Common.{◌∙◌, arith, length-take}
 use Rattle.std.proofs.lemmas.List.{length-map}
 use Rattle.std.proofs.lemmas.Option.{slice_get-get_or, slice_get-map, same_Some}
-use Rattle.std.specs.Option.{MatchOption, option_map}
+use Rattle.std.specs.Option.{MatchOption}
 use Rattle.std.specs.Prelude.{slice_get, unwrap_or, Contains}
 use Rattle.rx_interner.specs.Hash.{hash_of}
 use Rattle.rx_interner.specs.Links.{Link, keys_of}
@@ -22,8 +23,7 @@ place_of keys key at = slice_get-get_or keys at.0 key at.1 ∙ ap (λ k. Some k)
 
 pub key_at : (links : List Link) (id : ℕ) {link : Link} → slice_get links id ≡ Some link
     → slice_get (keys_of links) id ≡ Some link.key
-key_at links id there =
-    slice_get-map (λ (link : Link). link.key) links id ∙ ap (option_map (λ (link : Link). link.key)) there
+key_at links id there = grind (arith, common_steps, slice_get-map)
 
 -- where no key has its hash, a key is not there
 pub none_there : {links : List Link} {newest : ℕ → Option ℕ} → IsIndex links newest → (key : List ℕ)

@@ -1,5 +1,6 @@
 -- Links as they are kept: entries over one list of words.
-use Rattle.std.proofs.Common.{◌≡◌, ℕ, ◌≤◌, List, [], ◌∷◌, ◌++◌, length, map, drop, refl, ap, ap₂, sym, ◌∙◌, arith}
+use Rattle.std.proofs.lemmas.Grind.{common_steps}
+use Rattle.std.proofs.Common.{◌≡◌, ℕ, ◌≤◌, List, [], ◌∷◌, ◌++◌, length, map, refl, ap, ap₂, arith}
 use Rattle.std.proofs.lemmas.List.{map-append, take-append-le, drop_at}
 use Rattle.std.proofs.lemmas.List.Elements.{All-head, All-tail}
 use Rattle.std.proofs.lemmas.Slice.{between_is, between_to_end}
@@ -11,9 +12,7 @@ use Rattle.rx_interner.specs.declared.links.Entry.{Entry}
 -- more words behind change no key
 range-more_words : (words more : List ℕ) (start end : ℕ) → end ≤ length words
     → slice_range (words ++ more) start end ≡ slice_range words start end
-range-more_words words more start end within =
-    between_is (words ++ more) start end ∙ ap (drop start) (take-append-le end words more within)
-    ∙ sym (between_is words start end)
+range-more_words words more start end within = grind (arith, common_steps, between_is, take-append-le)
 
 pub links-more_words : (words more : List ℕ) (entries : List Entry) → AreSpans words entries
     → map (link_in (words ++ more)) entries ≡ map (link_in words) entries
@@ -31,9 +30,4 @@ pub links-push : (words key : List ℕ) (entries : List Entry) (entry : Entry) {
     → map (link_in (words ++ key)) (entries ++ entry ∷ [])
     ≡ map (link_in words) entries ++ record { key = key; older = older } ∷ []
 links-push words key entries entry spans start end older =
-    let range : slice_range (words ++ key) entry.start entry.end ≡ key =
-    between_to_end (words ++ key) entry.start entry.end (omega arith)
-    ∙ drop_at words key entry.start (sym start) in
-    map-append (link_in (words ++ key)) entries (entry ∷ [])
-    ∙ ap₂ (λ (links : List Link) (link : Link). links ++ link ∷ [])
-    (links-more_words words key entries spans) (ap₂ (λ k o. record { key = k; older = o }) range older)
+    grind (arith, common_steps, between_to_end, drop_at, map-append, links-more_words)

@@ -1,6 +1,7 @@
 -- The newest key of a hash.
-use Rattle.std.proofs.Common.{◌≡◌, ℕ, zero, suc, ◌<◌, ◌≤◌, ◌==◌, Bool, true, false, cond, Option, None, Some, List, []}
-use Rattle.std.proofs.Common.{◌∷◌, ◌++◌, length, slice_get, refl, ap, sym, ◌∙◌, arith}
+use Rattle.std.proofs.lemmas.Grind.{common_steps}
+use Rattle.std.proofs.Common.{◌≡◌, ℕ, suc, ◌<◌, ◌≤◌, ◌==◌, Bool, true, false, cond, Option, None, Some, List, [], ◌∷◌}
+use Rattle.std.proofs.Common.{◌++◌, length, slice_get, refl, arith}
 use Rattle.std.proofs.lemmas.Bool.Decides.{Decides-eqb}
 use Rattle.std.specs.Bool.{Decides}
 use Rattle.std.specs.Option.{option_map, option_or, MatchOption}
@@ -23,31 +24,9 @@ module _ (hash : ℕ) where
 
   IsNewest-cons : (first : List ℕ) (keys : List (List ℕ)) (id : Option ℕ) (b : Bool) → Decides b (hash_of first ≡ hash)
       → IsNewest keys id → IsNewest (first ∷ keys) (option_or (option_map suc id) (cond b (Some 0) None))
-  IsNewest-cons first keys None false decides newest = none
-    where
-      none : NoneHas (first ∷ keys)
-      none zero key there has = let e : first ≡ key = cc in let t = decides.1 (ap hash_of e ∙ has) in absurd cc
-      none (suc id) key there has = newest id key there has
-  IsNewest-cons first keys None true decides newest = record {
-    within = omega arith;
-    has = λ key there. let e : first ≡ key = cc in ap hash_of (sym e) ∙ decides.0 refl;
-    none_newer = none_newer;
-  }
-    where
-      none_newer : (newer : ℕ) (key : List ℕ) → slice_get (first ∷ keys) newer ≡ Some key → hash_of key ≡ hash
-          → newer ≤ 0
-      none_newer zero key there has = omega arith
-      none_newer (suc newer) key there has = absurd (newest newer key there has)
-  IsNewest-cons first keys (Some id) b decides newest = record {
-    within = omega (arith, newest.within);
-    has = newest.has;
-    none_newer = none_newer;
-  }
-    where
-      none_newer : (newer : ℕ) (key : List ℕ) → slice_get (first ∷ keys) newer ≡ Some key → hash_of key ≡ hash
-          → newer ≤ suc id
-      none_newer zero key there has = omega arith
-      none_newer (suc newer) key there has = omega (arith, newest.none_newer newer key there has)
+  IsNewest-cons first keys None false decides newest = grind (arith, common_steps)
+  IsNewest-cons first keys None true decides newest = grind (arith, common_steps, slice_get)
+  IsNewest-cons first keys (Some id) b decides newest = grind (arith, common_steps, slice_get)
 
   pub newest_of_is : (keys : List (List ℕ)) → IsNewest keys (newest_of hash keys)
   unfolding newest_of

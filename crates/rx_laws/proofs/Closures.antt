@@ -1,4 +1,5 @@
 -- What a row reaches without reading a byte, where paths that read nothing are short; and steps.
+use Rattle.std.proofs.lemmas.Grind.{common_steps}
 use Rattle.std.proofs.Common.{◌≡◌, ℕ, zero, suc, ◌+◌, ◌*◌, ◌≤◌, Bool, true, false, if◌then◌else◌, List, [], ◌∷◌, ◌++◌}
 use Rattle.std.proofs.Common.{length, refl, ap, ap₂, sym, ◌∙◌, subst, arith}
 use Rattle.std.specs.List.{flat_map}
@@ -18,9 +19,7 @@ bound rows = length rows * length rows
 closure_steps : (rows : List Row) (pass : Passing) (q : ℕ)
     → closure rows pass q ≡ reach_by pass (λ p. reach rows pass (bound rows) p) q (row_at rows q)
 unfolding reach
-closure_steps rows pass q =
-    let e : bound rows + 1 ≡ suc (bound rows) = omega arith in
-    ap (λ n. reach rows pass n q) e
+closure_steps rows pass q = grind (arith, common_steps)
 
 reach_alike : (pass : Passing) (f g : ℕ → List ℕ) (q : ℕ) (row : Row) → AllNext (λ p. f p ≡ g p) row
     → reach_by pass f q row ≡ reach_by pass g q row
@@ -51,64 +50,46 @@ reach_more rows pass (suc n) q h =
 next_short : (rows : List Row) (q : ℕ) → Short rows (bound rows + 1) q
     → AllNext (λ p. Short rows (bound rows) p) (row_at rows q)
 unfolding Short
-next_short rows q h =
-    let e : bound rows + 1 ≡ suc (bound rows) = omega arith in
-    subst (λ n. Short rows n q) e h
+next_short rows q h = grind (arith, common_steps)
 
 reach_bound : (rows : List Row) (pass : Passing) (p : ℕ) → Short rows (bound rows) p
     → reach rows pass (bound rows) p ≡ closure rows pass p
-reach_bound rows pass p h =
-    let e : suc (bound rows) ≡ bound rows + 1 = omega arith in
-    reach_more rows pass (bound rows) p h ∙ ap (λ n. reach rows pass n p) e
+reach_bound rows pass p h = grind (arith, common_steps, reach_more)
 
 -- so the closure of a row is made of the closures of those next to it
 pub closure_by_row : (rows : List Row) (pass : Passing) (q : ℕ) → IsShallow rows
     → closure rows pass q ≡ reach_by pass (λ p. closure rows pass p) q (row_at rows q)
 closure_by_row rows pass q shallow =
-    closure_steps rows pass q
-    ∙ reach_alike pass (λ p. reach rows pass (bound rows) p) (λ p. closure rows pass p) q (row_at rows q)
-    (each_next (λ p. Short rows (bound rows) p) (λ p. reach rows pass (bound rows) p ≡ closure rows pass p)
-    (λ p h. reach_bound rows pass p h) (row_at rows q) (next_short rows q (shallow.short q)))
+    grind (arith, common_steps, closure_steps, reach_alike, each_next, reach_bound, next_short)
 
 pub closure_bytes : (rows : List Row) (pass : Passing) (q set next : ℕ) → row_at rows q ≡ Row.Bytes set next
     → closure rows pass q ≡ q ∷ []
-closure_bytes rows pass q set next e =
-    closure_steps rows pass q ∙ ap (reach_by pass (λ p. reach rows pass (bound rows) p) q) e
+closure_bytes rows pass q set next e = grind (arith, common_steps, closure_steps)
 
 pub closure_match : (rows : List Row) (pass : Passing) (q pattern : ℕ) → row_at rows q ≡ Row.Match pattern
     → closure rows pass q ≡ q ∷ []
-closure_match rows pass q pattern e =
-    closure_steps rows pass q ∙ ap (reach_by pass (λ p. reach rows pass (bound rows) p) q) e
+closure_match rows pass q pattern e = grind (arith, common_steps, closure_steps)
 
 pub closure_fail : (rows : List Row) (pass : Passing) (q : ℕ) → row_at rows q ≡ Row.Fail → closure rows pass q ≡ []
-closure_fail rows pass q e =
-    closure_steps rows pass q ∙ ap (reach_by pass (λ p. reach rows pass (bound rows) p) q) e
+closure_fail rows pass q e = grind (arith, common_steps, closure_steps)
 
 pub closure_split : (rows : List Row) (pass : Passing) (q first second : ℕ) → IsShallow rows
     → row_at rows q ≡ Row.Split first second
     → closure rows pass q ≡ closure rows pass first ++ closure rows pass second
-closure_split rows pass q first second shallow e =
-    closure_by_row rows pass q shallow ∙ ap (reach_by pass (λ p. closure rows pass p) q) e
+closure_split rows pass q first second shallow e = grind (arith, common_steps, closure_by_row)
 
 pub closure_standing : (rows : List Row) (q next : ℕ) (look : Look) → row_at rows q ≡ Row.Look look next
     → closure rows Standing q ≡ q ∷ []
-closure_standing rows q next look e =
-    closure_steps rows Standing q ∙ ap (reach_by Standing (λ p. reach rows Standing (bound rows) p) q) e
+closure_standing rows q next look e = grind (arith, common_steps, closure_steps)
 
 pub closure_holding : (rows : List Row) (holds : Look → Bool) (q next : ℕ) (look : Look) → IsShallow rows
     → row_at rows q ≡ Row.Look look next → holds look ≡ true
     → closure rows (Tested holds) q ≡ closure rows (Tested holds) next
-closure_holding rows holds q next look shallow e t =
-    closure_by_row rows (Tested holds) q shallow
-    ∙ ap (reach_by (Tested holds) (λ p. closure rows (Tested holds) p) q) e
-    ∙ ap (λ (b : Bool). if b then closure rows (Tested holds) next else []) t
+closure_holding rows holds q next look shallow e t = grind (arith, common_steps, closure_by_row)
 
 pub closure_failing : (rows : List Row) (holds : Look → Bool) (q next : ℕ) (look : Look)
     → row_at rows q ≡ Row.Look look next → holds look ≡ false → closure rows (Tested holds) q ≡ []
-closure_failing rows holds q next look e f =
-    closure_steps rows (Tested holds) q
-    ∙ ap (reach_by (Tested holds) (λ p. reach rows (Tested holds) (bound rows) p) q) e
-    ∙ ap (λ (b : Bool). if b then reach rows (Tested holds) (bound rows) next else []) f
+closure_failing rows holds q next look e f = grind (arith, common_steps, closure_steps)
 
 -- no row reads the end mark
 no_target : (row : Row) → target eoi row ≡ []

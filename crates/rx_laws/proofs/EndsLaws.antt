@@ -1,11 +1,12 @@
 -- Ends past the end of what is read: a match there reads nothing.
+use Rattle.std.proofs.lemmas.Grind.{common_steps}
 use Rattle.std.proofs.Common.{◌≡◌, ℕ, zero, suc, ◌+◌, ◌-◌, ◌*◌, ◌<◌, ◌≤◌, Bool, true, false, Option, Some, None, List}
-use Rattle.std.proofs.Common.{[], ◌∷◌, ◌++◌, length, slice_get, if◌then◌else◌, refl, ap, sym, ◌∙◌, subst, ⊎_elim, arith}
+use Rattle.std.proofs.Common.{[], ◌∷◌, length, slice_get, if◌then◌else◌, refl, sym, subst, arith}
 use Rattle.std.specs.List.{flat_map, AllByRecursion as Every}
 use Rattle.std.proofs.lemmas.Bool.{cases_lt}
 use Rattle.rx_spec.specs.Looks.{Reading, holds_at}
 use Rattle.rx_spec.specs.Expressions.{Expression, min_len}
-use Rattle.rx_spec.specs.Ends.{class_ends, rounds, preferring, up_to, further, ends}
+use Rattle.rx_spec.specs.Ends.{rounds, preferring, up_to, further, ends}
 use Rattle.lemmas_walks.proofs.Every.{every-append, every-weaker, every-flat_map, none_is_nil}
 use Rattle.lemmas_walks.proofs.Ends.{ends_repeat_unbounded}
 
@@ -21,9 +22,7 @@ no_byte (b ∷ bs) (suc i) h = no_byte bs i (omega arith)
 -- from an end that stayed, what stays there
 at_end : (least more i j : ℕ) (body : ℕ → List ℕ) → Stays least i j → Every (Stays more i) (body i)
     → Every (Stays (least + more) i) (body j)
-at_end least more i j body stays h =
-    subst (λ k. Every (Stays (least + more) i) (body k)) (sym stays.0)
-    (every-weaker (Stays more i) (Stays (least + more) i) (body i) (λ k s. (s.0, omega (arith, s.1, stays.1))) h)
+at_end least more i j body stays h = grind (arith, common_steps, every-weaker)
 
 rounds_stay : (least i : ℕ) (body : ℕ → List ℕ) → Every (Stays least i) (body i) → (n : ℕ)
     → Every (Stays (n * least) i) (rounds body n i)
@@ -60,8 +59,7 @@ further_stays r least None greedy body m i h = up_to_stays m i greedy body h (le
 ends_stay : (r : Reading) (e : Expression) (i : ℕ) → length r.units ≤ i → Every (Stays (min_len e) i) (ends r e i)
 unfolding ends min_len
 ends_stay r Expression.Empty i h = ((refl, refl), tt)
-ends_stay r (Expression.Class set) i h =
-    subst (λ b. Every (Stays 1 i) (class_ends set b i)) (sym (no_byte r.units i h)) tt
+ends_stay r (Expression.Class set) i h = grind (arith, common_steps, no_byte)
 ends_stay r (Expression.Look look) i h = if_holds (holds_at r look i)
   where
     if_holds : (b : Bool) → Every (Stays 0 i) (if b then i ∷ [] else [])
@@ -89,30 +87,17 @@ ends_stay r (Expression.Repeat least most greedy body) i h =
 
 -- so a body that reads a byte has no end there
 none_past : (r : Reading) (e : Expression) (i : ℕ) → 0 < min_len e → length r.units ≤ i → ends r e i ≡ []
-none_past r e i reads h =
-    none_is_nil (Stays (min_len e) i) (ends r e i) (λ j stays. omega (arith, reads, stays.1)) (ends_stay r e i h)
+none_past r e i reads h = grind (arith, common_steps, none_is_nil, ends_stay)
 
 -- and a repetition of it stops at once
 stops_past : (r : Reading) (greedy : Bool) (body : Expression) (i : ℕ) → 0 < min_len body → length r.units ≤ i
     → ends r (Expression.Repeat 0 None greedy body) i
     ≡ preferring greedy (flat_map (λ j. ends r (Expression.Repeat 0 None greedy body) j) (ends r body i)) i
 unfolding ends rounds up_to
-stops_past r greedy body i reads h =
-    let none : length r.units - i ≡ 0 = omega arith in
-    ap (λ n. up_to greedy (λ k. ends r body k) n i ++ []) none
-    ∙ sym (ap (λ (l : List ℕ). preferring greedy (flat_map (λ j. ends r (Expression.Repeat 0 None greedy body) j) l) i)
-    (none_past r body i reads h) ∙ alone greedy)
-  where
-    alone : (greedy : Bool) → preferring greedy [] i ≡ i ∷ []
-    alone true = refl
-    alone false = refl
+stops_past r greedy body i reads h = grind (arith, common_steps, none_past)
 
 -- A repetition without an end unfolds to itself, wherever it begins.
 pub unbounded_round : (r : Reading) (greedy : Bool) (body : Expression) (i : ℕ) → 0 < min_len body
     → ends r (Expression.Repeat 0 None greedy body) i
     ≡ preferring greedy (flat_map (λ j. ends r (Expression.Repeat 0 None greedy body) j) (ends r body i)) i
-unbounded_round r greedy body i reads =
-    ⊎_elim
-    (λ (past : length r.units < i). stops_past r greedy body i reads (omega arith))
-    (λ (within : i ≤ length r.units). ends_repeat_unbounded r greedy body i reads within)
-    (cases_lt (length r.units) i)
+unbounded_round r greedy body i reads = grind (arith, common_steps, stops_past, ends_repeat_unbounded, cases_lt)

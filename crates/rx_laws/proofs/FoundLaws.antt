@@ -1,8 +1,9 @@
 -- What is found, in the words of the field: a candidate, the leftmost, the preferred.
-use Rattle.std.proofs.Common.{◌≡◌, ℕ, ◌+◌, ◌-◌, ◌<◌, ◌≤◌, ◌↔◌, ◌⊎◌, inl, inr, ⊎_elim, true, ◌&&◌, ◌==◌, Option, Some}
-use Rattle.std.proofs.Common.{None, List, length, refl, sym, ◌∙◌, subst, arith}
+use Rattle.std.proofs.Common.{rules, ◌≡◌, ℕ, ◌+◌, ◌-◌, ◌<◌, ◌≤◌, ◌↔◌, ◌⊎◌, inl, inr, ⊎_elim, true, Option, Some, None}
+use Rattle.std.proofs.Common.{List, length, refl, sym, ◌∙◌, subst, arith}
+use Rattle.std.proofs.lemmas.Grind.{common_steps}
 use Rattle.std.proofs.lemmas.Bool.{le-leb, leb-true, lt-ltb, ltb-true, and_parts, and_from, eqb-true, eq-eqb, cases_lt}
-use Rattle.std.specs.Prelude.{slice_get, find, nat_le, nat_lt}
+use Rattle.std.specs.Prelude.{slice_get, find, nat_le}
 use Rattle.std.specs.List.{range_with_len}
 use Rattle.rx_spec.specs.Expressions.{Expression}
 use Rattle.rx_spec.specs.Ends.{ends}
@@ -16,36 +17,18 @@ use Rattle.lemmas_walks.proofs.FoundLaws.{Matches, find_is, candidate_matches, c
 begins_from : (mode : Anchored) (start p k : ℕ) → admits mode start p k ≡ true → Begins mode start p k
 begins_from Anchored.No start p k e = tt
 begins_from Anchored.Yes start p k e = eqb-true p start e
-begins_from (Anchored.Pattern pattern) start p k e =
-    let both = and_parts (p == start) (k == pattern) e in
-    (eqb-true p start both.0, eqb-true k pattern both.1)
+begins_from (Anchored.Pattern pattern) start p k e = grind (arith, common_steps, and_parts, eqb-true)
 
 begins_to : (mode : Anchored) (start p k : ℕ) → Begins mode start p k → admits mode start p k ≡ true
 begins_to Anchored.No start p k h = refl
 begins_to Anchored.Yes start p k h = eq-eqb p start h
-begins_to (Anchored.Pattern pattern) start p k h =
-    and_from (p == start) (k == pattern) (eq-eqb p start h.0) (eq-eqb k pattern h.1)
+begins_to (Anchored.Pattern pattern) start p k h = grind (arith, common_steps, and_from, eq-eqb)
 
 admitted_from : (q : Query) (n p k : ℕ) → admitted q n p k ≡ true → IsAdmitted q n p k
-admitted_from q n p k e =
-    let low = nat_le q.start p in
-    let high = nat_le p q.end in
-    let numbered = nat_lt k n in
-    let begins = admits q.mode q.start p k in
-    let a = and_parts (low && high && numbered) begins e in
-    let b = and_parts (low && high) numbered a.0 in
-    let c = and_parts low high b.0 in
-    (leb-true q.start p c.0, leb-true p q.end c.1, ltb-true k n b.1, begins_from q.mode q.start p k a.1)
+admitted_from q n p k e = grind (arith, common_steps, and_parts, leb-true, ltb-true, begins_from)
 
 admitted_to : (q : Query) (n p k : ℕ) → IsAdmitted q n p k → admitted q n p k ≡ true
-admitted_to q n p k (a, b, c, d) =
-    let low = nat_le q.start p in
-    let high = nat_le p q.end in
-    let numbered = nat_lt k n in
-    let begins = admits q.mode q.start p k in
-    and_from (low && high && numbered) begins
-    (and_from (low && high) numbered (and_from low high (le-leb q.start p a) (le-leb p q.end b)) (lt-ltb k n c))
-    (begins_to q.mode q.start p k d)
+admitted_to q n p k (a, b, c, d) = grind (arith, common_steps, and_from, le-leb, lt-ltb, begins_to)
 
 pub admitted_tests : (q : Query) (n p k : ℕ) → admitted q n p k ≡ true ↔ IsAdmitted q n p k
 admitted_tests q n p k = (admitted_from q n p k, admitted_to q n p k)
@@ -53,23 +36,11 @@ admitted_tests q n p k = (admitted_from q n p k, admitted_to q n p k)
 -- a match that begins at a place is a candidate there
 candidate_of : (es : List Expression) (t : ℕ) (q : Query) (p k : ℕ) (m : Match)
     → Matches es t q p k m → IsCandidate es t q p k
-candidate_of es t q p k m h =
-    let there =
-    find_is (λ j. nat_le j q.end) (ends (reading Direction.Forward t q.haystack) h.expression p) m.end h.end in
-    record {
-      admitted = admitted_from q (length es) p k h.is_admitted;
-      expression = h.expression;
-      numbered = h.there;
-      end = m.end;
-      ends_there = there.0;
-      within = leb-true m.end q.end there.1;
-    }
+candidate_of es t q p k m h = grind (arith, common_steps, find_is, admitted_from, leb-true)
 
 no_candidate : (es : List Expression) (t : ℕ) (q : Query) (p k : ℕ) → candidate es t q p k ≡ None
     → IsCandidate es t q p k → ⊥
-no_candidate es t q p k none c =
-    candidate_none es t q p k c.expression c.end none (admitted_to q (length es) p k c.admitted) c.numbered c.ends_there
-    c.within
+no_candidate es t q p k none c = search (rules, candidate_none, admitted_to)
 
 candidate_is_none : (es : List Expression) (t : ℕ) (q : Query) (p k : ℕ) → (IsCandidate es t q p k → ⊥)
     → candidate es t q p k ≡ None
@@ -134,10 +105,7 @@ nothing_there es t q none p k c =
 
 nothing_found : (es : List Expression) (t : ℕ) (q : Query) → ((p k : ℕ) → IsCandidate es t q p k → ⊥)
     → found es t q ≡ None
-nothing_found es t q free =
-    range_none (λ p. first_of (λ k. candidate es t q p k) (range_with_len 0 (length es))) q.start (q.end + 1 - q.start)
-    (λ i l. range_none (candidate es t q (q.start + i)) 0 (length es)
-    (λ k m. candidate_is_none es t q (q.start + i) (0 + k) (free (q.start + i) (0 + k))))
+nothing_found es t q free = search (rules, range_none, candidate_is_none)
 
 pub found_nothing : (es : List Expression) (t : ℕ) (q : Query)
     → found es t q ≡ None ↔ ((p k : ℕ) → IsCandidate es t q p k → ⊥)

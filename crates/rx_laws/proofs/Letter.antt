@@ -1,6 +1,6 @@
 -- The machine of a single letter: the states that are reached, and no others.
-use Rattle.std.proofs.Common.{◌≡◌, ℕ, ◌<◌, ◌==◌, ⊎_elim, Bool, true, false, if◌then◌else◌, List, [], ◌∷◌, ◌++◌}
-use Rattle.std.proofs.Common.{length}
+use Rattle.std.proofs.lemmas.Grind.{common_steps}
+use Rattle.std.proofs.Common.{◌≡◌, ℕ, ◌<◌, ◌==◌, ⊎_elim, Bool, true, false, if◌then◌else◌, List, [], ◌∷◌, ◌++◌, length}
 use Rattle.std.proofs.Common.{refl, arith}
 use Rattle.std.specs.Prelude.{Contains, nat_lt, slice_index_or}
 use Rattle.std.specs.Int.{bit_at}
@@ -114,15 +114,7 @@ two_as = letter_more (97 ∷ []) one_a
 -- a state to which a word leads, from the start of a mode that is built
 reached_by : (b : Build) (mode : Anchored) (word : List ℕ) (s : State) → Contains (built_modes b) mode → IsWord word
     → node_after b mode Start.Text word ≡ Node.Running s → is_dead_state s ≡ false → IsReached b s
-reached_by b mode word s built units leads alive = record {
-  mode = mode;
-  built = built;
-  start = Start.Text;
-  word = word;
-  units = units;
-  leads = leads;
-  alive = alive;
-}
+reached_by b mode word s built units leads alive = grind (arith, common_steps)
 
 five_reached : Every (IsReached letter_forward) five_states
 unfolding computing
@@ -166,13 +158,7 @@ three_to_match false facts = λ alive. at_place three_states 2 (state [] (0 ∷ 
 
 three_steps : Steps letter_reverse three_states
 unfolding computing
-three_steps = (
-  λ unit. three_from_anchored (contains 0 unit) (contains (only 97) unit) (unit_facts 10 unit),
-  (
-    λ unit. three_to_match (contains 0 unit) (unit_facts 10 unit),
-    (λ unit. to_dead three_states letter_reverse (contains 0 unit) (unit_facts 10 unit), tt),
-  ),
-)
+three_steps = grind (arith, common_steps, three_from_anchored, three_to_match, to_dead)
 
 three_starts : (mode : Anchored) (start : Start) → Known three_states (built_entry letter_reverse mode start)
 unfolding computing

@@ -1,4 +1,5 @@
 -- The table of two rows gives the machine of the class of no byte, and no table has fewer rows.
+use Rattle.std.proofs.lemmas.Grind.{common_steps}
 use Rattle.std.proofs.Common.{◌≡◌, ℕ, ◌==◌, Bool, true, false, if◌then◌else◌, List, [], ◌∷◌, ◌++◌, refl, sym, ◌∙◌}
 use Rattle.std.proofs.Common.{arith}
 use Rattle.std.proofs.lemmas.Bool.{eqb-true}
@@ -25,21 +26,7 @@ no_list true h = cc
 no_list false h = cc
 
 pub nowhere_is_table : NowhereIsTable
-nowhere_is_table = record {
-  two = omega arith;
-  entries = λ mode start. omega arith;
-  universal_unanchored = λ row e. absurd (cc);
-  universal_anchored = λ row e. absurd (cc);
-  nexts = λ row unit h k. omega arith;
-  past_last = λ n k start e h. refl;
-  dead_only = λ row h. refl;
-  dead_label = refl;
-  dead_stays = λ unit h. refl;
-  quit_label = refl;
-  quit_ends = λ unit h. refl;
-  quit_only = λ row h e. quits_at row (row == 1) refl e;
-  lists = λ row h e. no_list (row == 1) e;
-}
+nowhere_is_table = grind (arith, common_steps, quits_at, no_list)
 
 -- a node from which every word leads to nothing
 abbrev Silent : Node → Type 0
@@ -67,14 +54,7 @@ leads_to none any facts =
 anchored_silent : Silent (Node.Running (state (1 ∷ []) []))
 unfolding computing
 anchored_silent [] = refl
-anchored_silent (unit ∷ word) = then_silent (contains 0 unit) (unit_facts 10 unit) (in_none unit)
-  where
-    then_silent : (none : Bool) (facts : Facts) → none ≡ false
-        → node_label (run (next_node no_byte) (if none then Node.Quit
-        else Node.Running (state_at no_byte.nfa ((if none then 0 ∷ [] else []) ++ []) facts [])) word)
-        ≡ Label.Plain
-    then_silent true facts e = absurd (cc)
-    then_silent false facts e = dead_silent word
+anchored_silent (unit ∷ word) = grind (arith, common_steps, in_none, dead_silent)
 
 unanchored_silent : Silent (Node.Running (state (1 ∷ 3 ∷ []) []))
 unfolding computing
@@ -97,10 +77,4 @@ nowhere_gives (Anchored.Pattern k) built start word fit = absurd (no_pattern_sta
 
 -- every table has two rows
 pub nowhere_is_least : NowhereIsLeast
-nowhere_is_least = record {
-  table = nowhere;
-  is_table = nowhere_is_table;
-  same = nowhere_gives;
-  size = refl;
-  least = λ t is same. is.two;
-}
+nowhere_is_least = grind (arith, common_steps, nowhere_is_table, nowhere_gives)

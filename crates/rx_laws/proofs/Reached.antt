@@ -1,13 +1,12 @@
 -- Which states are reached: a list that holds every start and every step from its members holds them
 -- all.
-use Rattle.std.proofs.Common.{◌≡◌, ◌≢◌, ℕ, zero, suc, ◌+◌, ◌*◌, ◌==◌, ◌&&◌, Bool, true, false, not, ⊎_elim, List, []}
-use Rattle.std.proofs.Common.{◌∷◌}
-use Rattle.std.proofs.Common.{◌++◌, ap, sym, ◌∙◌, subst, arith}
+use Rattle.std.proofs.Common.{rules, ◌≡◌, ◌≢◌, ℕ, zero, suc, ◌+◌, ◌*◌, ◌==◌, ◌&&◌, Bool, true, false, not, ⊎_elim, List}
+use Rattle.std.proofs.Common.{[], ◌∷◌, ◌++◌, ap, sym, subst, arith}
+use Rattle.std.proofs.lemmas.Grind.{common_steps}
 use Rattle.std.specs.Prelude.{Contains, AllPairs}
 use Rattle.std.specs.List.{AllByRecursion as Every}
 use Rattle.std.proofs.lemmas.Bool.{and_parts, eq-eqb}
 use Rattle.std.proofs.lemmas.List.{get_or_default}
-use Rattle.std.proofs.lemmas.List.Elements.{All-from_recursion, All-contains}
 use Rattle.rx_spec.specs.Queries.{Anchored}
 use Rattle.rx_spec.specs.Machines.{run}
 use Rattle.rx_spec.specs.States.{State}
@@ -33,10 +32,7 @@ Steps b states = Every (StepsKnown b states) states
 next_known : (b : Build) (states : List State) → Steps b states → (node : Node) → Known states node → (unit : ℕ)
     → Known states (next_node b node unit)
 next_known b states steps Node.Quit known unit = known_dead states
-next_known b states steps (Node.Running s) known unit =
-    by_test (is_dead_state s) (λ e. rw e (known_dead states))
-    (λ e. All-contains (StepsKnown b states) states s
-    (All-from_recursion (StepsKnown b states) states steps) (known e) unit)
+next_known b states steps (Node.Running s) known unit = grind (arith, common_steps, by_test, known_dead)
 
 run_known : (b : Build) (states : List State) → Steps b states → (word : List ℕ) (node : Node) → Known states node
     → Known states (run (next_node b) node word)
@@ -87,8 +83,6 @@ new_one x (y ∷ ys) e c =
 pub apart_by_codes : (xs : List State) → are_apart xs ≡ true → AllPairs (λ x y. x ≢ y) xs
 apart_by_codes [] a i j d h k e = omega arith
 apart_by_codes (x ∷ xs) a i zero d h k e = omega arith
-apart_by_codes (x ∷ xs) a zero (suc j) d h k e =
-    new_one x xs (and_parts (is_new (code x) xs) (are_apart xs) a).0
-    (j, omega arith, get_or_default xs j x d (omega arith) ∙ sym e)
+apart_by_codes (x ∷ xs) a zero (suc j) d h k e = search (rules, new_one, and_parts, get_or_default)
 apart_by_codes (x ∷ xs) a (suc i) (suc j) d h k e =
     apart_by_codes xs (and_parts (is_new (code x) xs) (are_apart xs) a).1 i j d (omega arith) (omega arith) e

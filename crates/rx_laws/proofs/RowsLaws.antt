@@ -1,7 +1,7 @@
 -- Rows of repetitions and of several patterns, one at a time.
+use Rattle.std.proofs.lemmas.Grind.{common_steps}
 use Rattle.std.proofs.Common.{◌≡◌, ℕ, zero, suc, ◌+◌, ◌-◌, Bool, Option, Some, None, List, [], ◌∷◌, ◌++◌, length, refl}
-use Rattle.std.proofs.Common.{ap}
-use Rattle.std.proofs.Common.{sym, ◌∙◌, arith, length-append, append-nil, append_assoc}
+use Rattle.std.proofs.Common.{ap, sym, ◌∙◌, arith, length-append, append-nil, append_assoc}
 use Rattle.std.specs.Prelude.{sum_by}
 use Rattle.std.proofs.lemmas.List.Sums.{sum_by-cons}
 use Rattle.rx_spec.specs.Expressions.{Expression}
@@ -14,9 +14,7 @@ use Rattle.lemmas_walks.proofs.Rows.{rows_counted}
 
 -- nothing before a part
 straight_first : (maker : Maker) (base next : ℕ) → chained straight maker base next ≡ maker base next
-straight_first maker base next =
-    let made = maker base next in
-    ap (λ (rows : List Row). part made.entry rows) (append-nil made.rows)
+straight_first maker base next = grind (arith, common_steps, append-nil)
 
 -- nothing after it
 straight_second : (maker : Maker) (base next : ℕ) → chained maker straight base next ≡ maker base next
@@ -24,20 +22,11 @@ straight_second maker base next = let e : base + 0 ≡ base = omega arith in ap 
 
 chained_assoc : (a b c : Maker) (base next : ℕ)
     → chained (chained a b) c base next ≡ chained a (chained b c) base next
-chained_assoc a b c base next =
-    let x = c base next in
-    let y = b (base + length x.rows) x.entry in
-    let z = a (base + length x.rows + length y.rows) y.entry in
-    let place : base + length x.rows + length y.rows ≡ base + length (x.rows ++ y.rows) =
-    omega (arith, length-append x.rows y.rows) in
-    ap (λ (rows : List Row). part z.entry rows) (sym (append_assoc x.rows y.rows z.rows))
-    ∙ ap (λ n. let w = a n y.entry in part w.entry ((x.rows ++ y.rows) ++ w.rows)) place
+chained_assoc a b c base next = grind (arith, common_steps, length-append, append_assoc)
 
 chained_alike : (f g h : Maker) → ((base next : ℕ) → f base next ≡ g base next) → (base next : ℕ)
     → chained f h base next ≡ chained g h base next
-chained_alike f g h same base next =
-    let after = h base next in
-    ap (λ (front : Part). part front.entry (after.rows ++ front.rows)) (same (base + length after.rows) after.entry)
+chained_alike f g h same base next = grind (arith, common_steps)
 
 -- of the copies, the first is made last
 copies_first : (body : Maker) (n base next : ℕ)
@@ -50,24 +39,17 @@ copies_first body (suc n) base next =
 
 needed_then : (body rest : Maker) (n base next : ℕ)
     → chained (copies (suc n) body) rest base next ≡ chained body (chained (copies n body) rest) base next
-needed_then body rest n base next =
-    chained_alike (copies (suc n) body) (chained body (copies n body)) rest (copies_first body n) base next
-    ∙ chained_assoc body (copies n body) rest base next
+needed_then body rest n base next = grind (arith, common_steps, chained_alike, copies_first, chained_assoc)
 
 pub needed_round : (n : ℕ) (most : Option ℕ) (greedy : Bool) (body : Maker) (base next : ℕ)
     → repeated (suc n) most greedy body base next ≡ chained body (repeated n (lowered most) greedy body) base next
 needed_round n None greedy body base next = needed_then body (loop greedy body) n base next
-needed_round n (Some most) greedy body base next =
-    let e : most - suc n ≡ most - 1 - n = omega arith in
-    needed_then body (optional greedy (most - suc n) body) n base next
-    ∙ ap (λ m. chained body (chained (copies n body) (optional greedy m body)) base next) e
+needed_round n (Some most) greedy body base next = grind (arith, common_steps, needed_then)
 
 pub optional_alone : (greedy : Bool) (n : ℕ) (body : Maker) (base next : ℕ)
     → repeated 0 (Some n) greedy body base next ≡ optional greedy n body base next
 unfolding copies
-optional_alone greedy n body base next =
-    let e : n - 0 ≡ n = omega arith in
-    straight_first (optional greedy (n - 0) body) base next ∙ ap (λ m. optional greedy m body base next) e
+optional_alone greedy n body base next = grind (arith, common_steps, straight_first)
 
 pub loop_alone : (greedy : Bool) (body : Maker) (base next : ℕ)
     → repeated 0 None greedy body base next ≡ loop greedy body base next
@@ -84,9 +66,7 @@ pub optional_round : (n : ℕ) (greedy : Bool) (body : Maker) (base next : ℕ)
     → repeated 0 (Some (suc n)) greedy body base next
     ≡ with_round greedy body base next (repeated 0 (Some n) greedy body base next)
 unfolding optional
-optional_round n greedy body base next =
-    optional_alone greedy (suc n) body base next
-    ∙ ap (with_round greedy body base next) (sym (optional_alone greedy n body base next))
+optional_round n greedy body base next = grind (arith, common_steps, optional_alone)
 
 pub patterns_counted : (base k : ℕ) (es : List Expression)
     → length (patterns_from base k es).rows ≡ sum_by (λ e. rows_count e + 1) es
@@ -119,6 +99,4 @@ pub start_of_more : (base entry next : ℕ) (entries : List ℕ)
     ≡ (let others = start_of_all base (next ∷ entries) in
     part (base + length entries) (others.rows ++ (Row.Split entry others.entry ∷ [])))
 unfolding start_of_all
-start_of_more base entry next entries =
-    let others = start_of_all base (next ∷ entries) in
-    ap (λ n. part (base + n) (others.rows ++ (Row.Split entry others.entry ∷ []))) (splits_counted base next entries)
+start_of_more base entry next entries = grind (arith, common_steps, splits_counted)

@@ -1,23 +1,20 @@
 -- What a half search tells is the first pattern of the last row that an overlapping search tells of.
-use Rattle.std.proofs.Common.{◌≡◌, ℕ, ◌+◌, ◌-◌, ◌<◌, ◌≤◌, ◌==◌, Bool, true, false, if◌then◌else◌, Option, Some, None}
-use Rattle.std.proofs.Common.{List, [], ◌∷◌, length, drop, reverse, refl, ap, sym, ◌∙◌, arith}
-use Rattle.std.proofs.Common.{length-append, length-take}
+use Rattle.std.proofs.Common.{rules, ◌≡◌, ℕ, ◌+◌, ◌-◌, ◌<◌, ◌≤◌, Bool, true, false, if◌then◌else◌, Option, Some, None}
+use Rattle.std.proofs.Common.{List, [], ◌∷◌, length, refl, ap, sym, ◌∙◌, arith, length-append, length-take}
+use Rattle.std.proofs.lemmas.Grind.{common_steps}
 use Rattle.std.specs.Prelude.{Ok, Err, Contains, fold}
 use Rattle.std.specs.List.{AllByRecursion as Every}
 use Rattle.std.proofs.lemmas.Bool.{ne_eqb, eq-eqb}
 use Rattle.std.proofs.lemmas.List.{length-reverse}
 use Rattle.std.proofs.lemmas.List.Sums.{fold-append}
-use Rattle.rx_spec.specs.Bytes.{unit_of}
-use Rattle.rx_spec.specs.Looks.{before}
-use Rattle.rx_spec.specs.Queries.{Query, HalfMatch, MatchError, is_done}
+use Rattle.rx_spec.specs.Queries.{Query, HalfMatch, MatchError}
 use Rattle.rx_spec.specs.Machines.{Label, label_of, Machine, Settings}
-use Rattle.rx_spec.specs.Starts.{StartError, start_error, start_row, start_context}
+use Rattle.rx_spec.specs.Starts.{start_row, start_context}
 use Rattle.rx_spec.specs.Builds.{Node, node_label, power, build_settings}
-use Rattle.rx_spec.specs.HalfSearches.{HalfAnswer, span_bytes, units_of, beside, first_offset, next_offset}
-use Rattle.rx_spec.specs.HalfSearches.{last_match, at_label, walk, from_start, whole_walk, half_search}
+use Rattle.rx_spec.specs.HalfSearches.{HalfAnswer, units_of, beside, first_offset, next_offset, last_match, at_label}
+use Rattle.rx_spec.specs.HalfSearches.{walk, half_search}
 use Rattle.rx_spec.specs.Overlapping.{Item, Ending, OverlappingMatches, none_left, pattern_items, with_items}
-use Rattle.rx_spec.specs.Overlapping.{at_item_label, overlapping_walk, overlapping_from, whole_overlapping_walk}
-use Rattle.rx_spec.specs.Overlapping.{overlapping}
+use Rattle.rx_spec.specs.Overlapping.{at_item_label, overlapping_walk, overlapping}
 use Rattle.rx_laws.specs.SearchesLaws.{keep_first, HalfOfOverlapping, HalfOfOverlappingInBuild}
 use Rattle.rx_spec.specs.declared.Direction.{Direction}
 use Rattle.lemmas_walks.proofs.Firsts.{Contains-here, Contains-there}
@@ -43,29 +40,12 @@ record IsLeft (direction : Direction) (offset : ℕ) (kept : Option HalfMatch) (
 
 left_by_unit : {direction : Direction} {offset unit : ℕ} {kept : Option HalfMatch} {units : List ℕ}
     → IsLeft direction offset kept (unit ∷ units) → IsLeft direction (next_offset direction offset) kept units
-left_by_unit {direction} {offset} {unit} {kept} {units} left = record { passed = go direction left.passed }
-  where
-    go : (direction : Direction) → PassedBy direction offset kept (unit ∷ units)
-        → PassedBy direction (next_offset direction offset) kept units
-    go Direction.Forward h = λ m e. omega (arith, h m e)
-    go Direction.Reverse h = (omega (arith, h.0), λ m e some. omega (arith, h.0, h.1 m e (omega arith)))
+left_by_unit {direction} {offset} {unit} {kept} {units} left = grind (arith, common_steps)
 
 left_by_match : {direction : Direction} {offset unit : ℕ} {kept : Option HalfMatch} {units : List ℕ} (k : ℕ)
     → IsLeft direction offset kept (unit ∷ units)
     → IsLeft direction (next_offset direction offset) (Some (record { pattern = k; offset = offset })) units
-left_by_match {direction} {offset} {unit} {kept} {units} k left = record { passed = go direction left.passed }
-  where
-    offset_of : Option HalfMatch → ℕ
-    offset_of None = 0
-    offset_of (Some m) = m.offset
-
-    go : (direction : Direction) → PassedBy direction offset kept (unit ∷ units)
-        → PassedBy direction (next_offset direction offset) (Some (record { pattern = k; offset = offset })) units
-    go Direction.Forward h = λ m e. (let same : offset ≡ m.offset = ap offset_of e in omega arith)
-    go Direction.Reverse h = (
-      omega (arith, h.0),
-      λ m e some. (let same : offset ≡ m.offset = ap offset_of e in omega (arith, h.0)),
-    )
+left_by_match {direction} {offset} {unit} {kept} {units} k left = grind (arith, common_steps)
 
 -- so what is told at this offset takes its place
 takes_place : {direction : Direction} {offset unit : ℕ} (k : ℕ) (kept : Option HalfMatch) {units : List ℕ}
@@ -73,13 +53,7 @@ takes_place : {direction : Direction} {offset unit : ℕ} (k : ℕ) (kept : Opti
     → keep_first kept (Item.Reported (record { pattern = k; offset = offset }))
     ≡ Some (record { pattern = k; offset = offset })
 takes_place k None left = refl
-takes_place {direction} {offset} {unit} k (Some h) {units} left =
-    ap (λ (same : Bool). if same then Some h else Some (record { pattern = k; offset = offset }))
-    (other direction left.passed)
-  where
-    other : (direction : Direction) → PassedBy direction offset (Some h) (unit ∷ units) → (h.offset == offset) ≡ false
-    other Direction.Forward passed = ne_eqb h.offset offset (λ e. omega (arith, passed h refl))
-    other Direction.Reverse passed = ne_eqb h.offset offset (λ e. omega (arith, passed.1 h refl (omega arith)))
+takes_place {direction} {offset} {unit} k (Some h) {units} left = grind (arith, common_steps, ne_eqb)
 
 -- the row's other patterns don't
 stays_first : (k offset : ℕ) (ks : List ℕ)
@@ -93,14 +67,7 @@ stays_first k offset (j ∷ ks) =
 
 answer_with : (kept : Option HalfMatch) (items : List Item) (later : OverlappingMatches)
     → answer_from kept (with_items items later) ≡ answer_from (fold keep_first kept items) later
-answer_with kept items later = by_ending later.ending later.items
-  where
-    by_ending : (ending : Ending) (others : List Item)
-        → answer_from kept (with_items items (record { items = others; ending = ending }))
-        ≡ answer_from (fold keep_first kept items) (record { items = others; ending = ending })
-    by_ending Ending.Ended others = ap (λ (h : Option HalfMatch). Ok h) (fold-append keep_first kept items others)
-    by_ending (Ending.Quits byte offset) others = refl
-    by_ending (Ending.Refused error) others = refl
+answer_with kept items later = grind (arith, common_steps, fold-append)
 
 -- A machine whose match rows have patterns, seen from rows that units lead to.
 record HasLists {R : Type 0} (m : Machine R) (In : R → Type 0) (Fits : ℕ → Type 0) : Type 0 where
@@ -156,45 +123,13 @@ module _ {R : Type 0} {m : Machine R} {In : R → Type 0} {Fits : ℕ → Type 0
 -- all that is read has no more units than offsets
 span_left : (direction : Direction) (q : Query)
     → IsLeft direction (first_offset direction q) None (units_of direction q)
-span_left direction q = record { passed = go direction }
-  where
-    go : (direction : Direction) → PassedBy direction (first_offset direction q) None (units_of direction q)
-    go Direction.Forward = λ h e. absurd (cc)
-    go Direction.Reverse = (
-      omega (
-        arith,
-        length-append (reverse (span_bytes q)) (unit_of (before q.haystack q.start) ∷ []),
-        length-reverse (span_bytes q),
-        length-take (q.end - q.start) (drop q.start q.haystack),
-      ),
-      λ h e. absurd (cc),
-    )
+span_left direction q = grind (arith, common_steps, length-append, length-reverse, length-take)
 
 half_told : {R : Type 0} {m : Machine R} {In : R → Type 0} {Fits : ℕ → Type 0} → HasLists m In Fits → (s : Settings)
     (direction : Direction) (q : Query) → q.earliest ≡ false → In (start_row m s (beside direction q) q.mode)
     → Every Fits (units_of direction q)
     → half_search m s direction q ≡ answer_from None (overlapping m s direction q)
-half_told {R} {m} {In} {Fits} has s direction q late within fits =
-    let row = start_row m s (beside direction q) q.mode in
-    let told = whole_overlapping_walk m direction q row in
-    let units = units_of direction q in
-    let on = λ (earliest : Bool). walk m direction earliest row (first_offset direction q) None units in
-    let walked : whole_walk m direction q row ≡ answer_from None told =
-    ap on late ∙ walk_told has direction row within fits (span_left direction q) in
-    let error = start_error s (beside direction q) q.mode in
-    by_done (from_start direction q error (whole_walk m direction q row)) (overlapping_from direction q error told)
-    (is_done q) (ap (from_start direction q error) walked ∙ by_error error told)
-  where
-    by_error : (error : Option StartError) (told : OverlappingMatches)
-        → from_start direction q error (answer_from None told)
-        ≡ answer_from None (overlapping_from direction q error told)
-    by_error None told = refl
-    by_error (Some error) told = refl
-
-    by_done : (x : HalfAnswer) (y : OverlappingMatches) (done : Bool) → x ≡ answer_from None y
-        → (if done then Ok None else x) ≡ answer_from None (if done then none_left Ending.Ended else y)
-    by_done x y true h = refl
-    by_done x y false h = h
+half_told {R} {m} {In} {Fits} has s direction q late within fits = search (rules, walk_told, span_left)
 
 every_unit : (P : ℕ → Type 0) (units : List ℕ) → ((unit : ℕ) → Contains units unit → P unit) → Every P units
 every_unit P [] f = tt

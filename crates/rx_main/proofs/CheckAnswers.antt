@@ -1,5 +1,6 @@
 -- From what reading an image answers to the reply to its bytes.
-use Rattle.std.proofs.Common.{◌≡◌, ◌≢◌, ℕ, Result, Err, refl, ap, sym, ◌∙◌}
+use Rattle.std.proofs.Common.{arith, ◌≡◌, ◌≢◌, ℕ, Result, Err, refl}
+use Rattle.std.proofs.lemmas.Grind.{common_steps}
 use Rattle.rx_wire.specs.Kinds.{FailsBy, Kind}
 use Rattle.rx_main.specs.Lines.{Reply}
 use Rattle.rx_main.specs.Check.{failed_test_reply, reading_reply}
@@ -18,5 +19,4 @@ module _ {T : Type 0} (read : Result (T × ℕ) Kind) where
 
   pub failed_test_answers : (accepted : T → ℕ → Reply) (kind : Kind) (reply : Reply) → FailsBy kind read
       → kind ≢ Kind.Memory → reply ≡ failed_test_reply kind → reply ≡ reading_reply accepted read
-  failed_test_answers accepted kind reply fails other e =
-      e ∙ sym (ap (reading_reply accepted) (fails_exactly kind fails other))
+  failed_test_answers accepted kind reply fails other e = grind (arith, common_steps, fails_exactly)

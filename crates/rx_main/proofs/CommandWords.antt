@@ -1,4 +1,5 @@
 -- The words of a command line are at most one command.
+use Rattle.std.proofs.lemmas.Grind.{common_steps}
 use Rattle.std.proofs.Common.{◌≡◌, ℕ, ◌==◌, if◌then◌else◌, List, [], ◌∷◌, get_or, refl, ap, sym, ◌∙◌, arith}
 use Rattle.std.specs.Str.Parse.{digits_value}
 use Rattle.std.proofs.lemmas.Fmt.{digits_value-decimal}
@@ -7,9 +8,8 @@ use Rattle.rx_regex.specs.declared.plan_table.PlanTable.{PlanTable}
 use Rattle.rx_wire.specs.declared.order.Order.{Order}
 use Rattle.rx_base.specs.Search.{mode_of}
 use Rattle.rx_base.specs.declared.search.Anchored.{Anchored as Mode}
-use Rattle.std.specs.Fmt.{decimal}
 use Rattle.rx_transfer.specs.Words.{mode_name}
-use Rattle.rx_main.specs.Commands.{IsMode, Says, equal_words, feed_words, form_word, search_words, words_of}
+use Rattle.rx_main.specs.Commands.{IsMode, Says, form_word, words_of}
 use Rattle.rx_main.specs.declared.command.Command.{Command}
 use Rattle.rx_main.specs.declared.command.Equal.{Equal}
 use Rattle.rx_main.specs.declared.command.Feed.{Feed}
@@ -93,24 +93,14 @@ told_by words = command_by (first_of words 0) words
 
 same_search : (s other : Search) → s.start ≡ other.start → s.end ≡ other.end → s.mode ≡ other.mode
     → s.image_len ≡ other.image_len → s ≡ other
-same_search s other e f g h =
-    ap (λ (n : ℕ). searched n s.end s.mode s.image_len) e
-    ∙ ap (λ (n : ℕ). searched other.start n s.mode s.image_len) f
-    ∙ ap (λ (m : Mode). searched other.start other.end m s.image_len) g
-    ∙ ap (λ (n : ℕ). searched other.start other.end other.mode n) h
+same_search s other e f g h = grind (arith, common_steps)
 
 same_feed : (f other : Feed) → f.form ≡ other.form → f.mode ≡ other.mode → f.image_len ≡ other.image_len → f ≡ other
-same_feed f other e g h =
-    ap (λ (form : Form). fed form f.mode f.image_len) e
-    ∙ ap (λ (m : Mode). fed other.form m f.image_len) g
-    ∙ ap (λ (n : ℕ). fed other.form other.mode n) h
+same_feed f other e g h = grind (arith, common_steps)
 
 same_equal : (e other : Equal) → e.form ≡ other.form → e.other ≡ other.other → e.image_len ≡ other.image_len
     → e ≡ other
-same_equal e other f g h =
-    ap (λ (form : Form). compared form e.other e.image_len) f
-    ∙ ap (λ (form : Form). compared other.form form e.image_len) g
-    ∙ ap (λ (n : ℕ). compared other.form other.other n) h
+same_equal e other f g h = grind (arith, common_steps)
 
 form_told : (form : Form) → form_by (get_or (form_word form) 0 0) ≡ form
 form_told Form.Dense = refl
@@ -136,34 +126,14 @@ told (Command.Read ReadCommand.CheckPair) words says = refl
 told (Command.Read (ReadCommand.Scan Form.Dense)) words says = refl
 told (Command.Read (ReadCommand.Scan Form.Sparse)) words says = refl
 told (Command.Read (ReadCommand.Search s)) words says =
-    let is = says.in_range in
-    let few = is.few in
-    let start = is.start in
-    let end = is.end in
-    let start_is : digits_value 10 (decimal s.start) ≡ s.start =
-    digits_value-decimal own s.start (omega (arith, start)) in
-    let end_is : digits_value 10 (decimal s.end) ≡ s.end = digits_value-decimal own s.end (omega (arith, end)) in
-    let len_is : digits_value 10 (decimal s.image_len) ≡ s.image_len =
-    digits_value-decimal own s.image_len (omega (arith, few)) in
-    ap (λ (search : Search). Command.Read (ReadCommand.Search search))
-    (same_search (search_by (search_words s)) s start_is end_is (mode_told s.mode is.mode) len_is)
+    grind (arith, common_steps, digits_value-decimal, own, same_search, mode_told)
 told (Command.Read (ReadCommand.Equal e)) words says =
-    let few = says.in_range.few in
-    let len_is : digits_value 10 (decimal e.image_len) ≡ e.image_len =
-    digits_value-decimal own e.image_len (omega (arith, few)) in
-    ap (λ (equal : Equal). Command.Read (ReadCommand.Equal equal))
-    (same_equal (equal_by (equal_words e)) e (form_told e.form) (form_told e.other) len_is)
+    grind (arith, common_steps, digits_value-decimal, own, same_equal, form_told)
 told (Command.Read (ReadCommand.Check Form.Dense)) words says = refl
 told (Command.Read (ReadCommand.Check Form.Sparse)) words says = refl
 told (Command.Feed f) words says =
-    let is = says.in_range in
-    let few = is.few in
-    let len_is : digits_value 10 (decimal f.image_len) ≡ f.image_len =
-    digits_value-decimal own f.image_len (omega (arith, few)) in
-    ap Command.Feed (same_feed (feed_by (feed_words f)) f (form_told f.form) (mode_told f.mode is.mode) len_is)
-told (Command.Gen count) words says =
-    let few = says.in_range.1 in
-    ap Command.Gen (digits_value-decimal own count (omega arith))
+    grind (arith, common_steps, digits_value-decimal, own, same_feed, form_told, mode_told)
+told (Command.Gen count) words says = grind (arith, common_steps, digits_value-decimal, own)
 
 pub spelled_once : (command other : Command) (words : List (List ℕ)) → Says words command → Says words other
     → command ≡ other

@@ -1,6 +1,6 @@
 -- How many words a command line has, and its numerals.
-use Rattle.std.proofs.Common.{◌≡◌, ℕ, List, [], ◌∷◌, length}
-use Rattle.std.proofs.Common.{ap, ◌∙◌, arith}
+use Rattle.std.proofs.lemmas.Grind.{common_steps}
+use Rattle.std.proofs.Common.{◌≡◌, ℕ, List, [], ◌∷◌, length, ap, arith}
 use Rattle.std.specs.Prelude.{Some, slice_get}
 use Rattle.std.proofs.lemmas.Option.{same_Some}
 use Rattle.std.specs.Str.Parse.{AllDigits, digits_value}
@@ -21,8 +21,7 @@ pub two_words : (words : List (List ℕ)) (word other : List ℕ) → length wor
     → slice_get words 0 ≡ Some word → slice_get words 1 ≡ Some other → words ≡ word ∷ (other ∷ [])
 two_words [] word other n e f = absurd (omega arith)
 two_words (w ∷ []) word other n e f = absurd (omega arith)
-two_words (w ∷ (v ∷ [])) word other n e f =
-    ap (λ x. x ∷ (v ∷ [])) (same_Some w word e) ∙ ap (λ x. word ∷ (x ∷ [])) (same_Some v other f)
+two_words (w ∷ (v ∷ [])) word other n e f = grind (arith, common_steps, same_Some)
 two_words (w ∷ (v ∷ (u ∷ ws))) word other n e f = absurd (omega arith)
 
 pub three_words : (words : List (List ℕ)) (word other third : List ℕ) → length words ≡ 3
@@ -31,17 +30,13 @@ pub three_words : (words : List (List ℕ)) (word other third : List ℕ) → le
 three_words [] word other third n e f g = absurd (omega arith)
 three_words (w ∷ []) word other third n e f g = absurd (omega arith)
 three_words (w ∷ (v ∷ [])) word other third n e f g = absurd (omega arith)
-three_words (w ∷ (v ∷ (u ∷ []))) word other third n e f g =
-    ap (λ x. x ∷ (v ∷ (u ∷ []))) (same_Some w word e) ∙ ap (λ x. word ∷ (x ∷ (u ∷ []))) (same_Some v other f)
-    ∙ ap (λ x. word ∷ (other ∷ (x ∷ []))) (same_Some u third g)
+three_words (w ∷ (v ∷ (u ∷ []))) word other third n e f g = grind (arith, common_steps, same_Some)
 three_words (w ∷ (v ∷ (u ∷ (t ∷ ws)))) word other third n e f g = absurd (omega arith)
 
 pub four_words : (words : List (List ℕ)) (a b c d : List ℕ) → length words ≡ 4
     → slice_get words 0 ≡ Some a → slice_get words 1 ≡ Some b → slice_get words 2 ≡ Some c
     → slice_get words 3 ≡ Some d → words ≡ a ∷ (b ∷ (c ∷ (d ∷ [])))
-four_words (w ∷ (x ∷ (y ∷ (z ∷ [])))) a b c d n f g h i =
-    ap (λ v. v ∷ (x ∷ (y ∷ (z ∷ [])))) (same_Some w a f) ∙ ap (λ v. a ∷ (v ∷ (y ∷ (z ∷ [])))) (same_Some x b g)
-    ∙ ap (λ v. a ∷ (b ∷ (v ∷ (z ∷ [])))) (same_Some y c h) ∙ ap (λ v. a ∷ (b ∷ (c ∷ (v ∷ [])))) (same_Some z d i)
+four_words (w ∷ (x ∷ (y ∷ (z ∷ [])))) a b c d n f g h i = grind (arith, common_steps, same_Some)
 four_words [] a b c d n f g h i = absurd (omega arith)
 four_words (w ∷ []) a b c d n f g h i = absurd (omega arith)
 four_words (w ∷ (x ∷ [])) a b c d n f g h i = absurd (omega arith)
@@ -51,12 +46,7 @@ four_words (w ∷ (x ∷ (y ∷ (z ∷ (v ∷ ws))))) a b c d n f g h i = absurd
 pub five_words : (words : List (List ℕ)) (a b c d e : List ℕ) → length words ≡ 5
     → slice_get words 0 ≡ Some a → slice_get words 1 ≡ Some b → slice_get words 2 ≡ Some c
     → slice_get words 3 ≡ Some d → slice_get words 4 ≡ Some e → words ≡ a ∷ (b ∷ (c ∷ (d ∷ (e ∷ []))))
-five_words (w ∷ (x ∷ (y ∷ (z ∷ (v ∷ []))))) a b c d e n f g h i j =
-    ap (λ u. u ∷ (x ∷ (y ∷ (z ∷ (v ∷ []))))) (same_Some w a f)
-    ∙ ap (λ u. a ∷ (u ∷ (y ∷ (z ∷ (v ∷ []))))) (same_Some x b g)
-    ∙ ap (λ u. a ∷ (b ∷ (u ∷ (z ∷ (v ∷ []))))) (same_Some y c h)
-    ∙ ap (λ u. a ∷ (b ∷ (c ∷ (u ∷ (v ∷ []))))) (same_Some z d i)
-    ∙ ap (λ u. a ∷ (b ∷ (c ∷ (d ∷ (u ∷ []))))) (same_Some v e j)
+five_words (w ∷ (x ∷ (y ∷ (z ∷ (v ∷ []))))) a b c d e n f g h i j = grind (arith, common_steps, same_Some)
 five_words [] a b c d e n f g h i j = absurd (omega arith)
 five_words (w ∷ []) a b c d e n f g h i j = absurd (omega arith)
 five_words (w ∷ (x ∷ [])) a b c d e n f g h i j = absurd (omega arith)

@@ -1,4 +1,5 @@
 -- From what the comparison of two tables answers to the reply of `equal`.
+use Rattle.std.proofs.lemmas.Grind.{common_steps}
 use Rattle.std.proofs.Common.{◌≡◌, ◌+◌, ◌≤◌, Option, Some, None, List, [], ◌∷◌, ◌++◌, length, ap, ◌∙◌, arith}
 use Rattle.std.proofs.lemmas.List.{length-append}
 use Rattle.std.proofs.lemmas.Option.{same_Some}
@@ -17,10 +18,7 @@ module _ (t u : Table) where
       → ((next : List RowPair) → pairs_from t u next links ≡ Some pairs → length pairs ≡ length next + length links)
       → (pair : Option RowPair) → option_and_then (λ p. pairs_from t u (earlier ++ p ∷ []) links) pair ≡ Some pairs
       → length pairs ≡ length earlier + (length links + 1)
-  by_pair earlier pairs links go (Some p) e =
-      let rest = go (earlier ++ p ∷ []) e in
-      let more = length-append earlier (p ∷ []) in
-      omega (arith, rest, more)
+  by_pair earlier pairs links go (Some p) e = grind (arith, common_steps, length-append)
   by_pair earlier pairs links go None e = absurd (cc)
 
   -- links name as many pairs as they are

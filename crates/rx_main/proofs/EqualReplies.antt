@@ -1,13 +1,12 @@
 -- Replies of `equal`: at most one fits, but that any parting may be told.
-use Rattle.std.proofs.Common.{◌≡◌, ◌⊎◌, inl, inr, List, Result, Ok, Err, refl, ap, sym, ◌∙◌, arith}
-use Rattle.std.proofs.Common.{length}
+use Rattle.std.proofs.lemmas.Grind.{common_steps}
+use Rattle.std.proofs.Common.{◌≡◌, ◌⊎◌, inl, inr, List, Result, Ok, Err, refl, sym, ◌∙◌, arith, length}
 use Rattle.rx_spec.specs.Tables.{Table}
 use Rattle.rx_equal.specs.Evidence.{RowPair}
 use Rattle.lemmas_tables.proofs.Sublists.{length-within}
 use Rattle.rx_wire.specs.Kinds.{Kind}
 use Rattle.rx_main.specs.Equal.{AreThoseReached, CompareReplies, ImagesReply, IsDifferReply, IsEqualReply}
 use Rattle.rx_main.specs.Equal.{TellsPartingOf}
-use Rattle.rx_main.specs.EqualLines.{equal_reply}
 use Rattle.rx_main.specs.Lines.{Reply}
 
 module _ (t u : Table) where
@@ -20,8 +19,7 @@ module _ (t u : Table) where
       omega (arith, few, many)
 
   pub equal_once : (reply other : Reply) → IsEqualReply t u reply → IsEqualReply t u other → reply ≡ other
-  equal_once reply other h k =
-      h.told ∙ ap equal_reply (as_many h.pairs k.pairs h.reached k.reached) ∙ sym k.told
+  equal_once reply other h k = grind (arith, common_steps, as_many)
 
   -- where nothing parts the tables, no parting is told
   pub not_both : (reply other : Reply) → IsEqualReply t u reply → IsDifferReply t u other → ⊥
@@ -31,14 +29,12 @@ module _ (t u : Table) where
       → (reply ≡ other) ⊎ (IsDifferReply t u reply × IsDifferReply t u other)
   compare_once reply other (CompareReplies.Wide wide h) (CompareReplies.Wide also k) = inl (h ∙ sym k)
   compare_once reply other (CompareReplies.Wide wide h) (CompareReplies.Same few k) = absurd (omega (arith, wide, few))
-  compare_once reply other (CompareReplies.Wide wide h) (CompareReplies.Differ few k) =
-      absurd (omega (arith, wide, few))
+  compare_once reply other (CompareReplies.Wide wide h) (CompareReplies.Differ few k) = grind (arith, common_steps)
   compare_once reply other (CompareReplies.Same few h) (CompareReplies.Wide wide k) = absurd (omega (arith, wide, few))
   compare_once reply other (CompareReplies.Same few h) (CompareReplies.Same also k) = inl (equal_once reply other h k)
   compare_once reply other (CompareReplies.Same few h) (CompareReplies.Differ also k) =
       absurd (not_both reply other h k)
-  compare_once reply other (CompareReplies.Differ few h) (CompareReplies.Wide wide k) =
-      absurd (omega (arith, wide, few))
+  compare_once reply other (CompareReplies.Differ few h) (CompareReplies.Wide wide k) = grind (arith, common_steps)
   compare_once reply other (CompareReplies.Differ few h) (CompareReplies.Same also k) =
       absurd (not_both other reply k h)
   compare_once reply other (CompareReplies.Differ few h) (CompareReplies.Differ also k) = inr (h, k)

@@ -1,4 +1,5 @@
 -- Runs of `feed`, and of the other commands.
+use Rattle.std.proofs.lemmas.Grind.{common_steps}
 use Rattle.std.proofs.Common.{◌≡◌, ℕ, ◌≤◌, List, refl, arith}
 use Rattle.rx_base.specs.Outside.{Rose}
 use Rattle.rx_base.specs.Search.{mode_of}
@@ -32,8 +33,7 @@ gen_or_feed : (count : ℕ) (f : Feed) → Command.Gen count ≡ Command.Feed f 
 gen_or_feed count f e = cc
 
 pub gen_no_feed : {words : List (List ℕ)} {count : ℕ} → Says words (Command.Gen count) → IsNoFeed words
-gen_no_feed {words} {count} says f fed =
-    gen_or_feed count f (spelled_once (Command.Gen count) (Command.Feed f) words says fed)
+gen_no_feed {words} {count} says f fed = grind (arith, common_steps, gen_or_feed, spelled_once)
 
 -- a count that rose from a later value on
 pub rose_from : (a b c : ℕ) → a ≤ b → Rose b c → Rose a c

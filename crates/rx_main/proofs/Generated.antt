@@ -1,9 +1,9 @@
 -- The matches of generated patterns: what an iterator gives of them.
-use Rattle.std.proofs.Common.{◌≡◌, ℕ, zero, suc, ◌+◌, ◌*◌, ◌≤◌, false, List, [], ◌∷◌, ◌++◌, length, map, sum_by}
-use Rattle.std.proofs.Common.{None, refl, ap, ◌∙◌, append-nil, arith, lit≤}
+use Rattle.std.proofs.lemmas.Grind.{common_steps, flat_map-append}
+use Rattle.std.proofs.Common.{◌≡◌, ℕ, zero, suc, ◌+◌, ◌*◌, ◌≤◌, false, List, [], ◌∷◌, ◌++◌, length, map, sum_by, None}
+use Rattle.std.proofs.Common.{refl, ap, ◌∙◌, append-nil, arith, lit≤}
 use Rattle.std.specs.Prelude.{Ok, Err}
 use Rattle.std.specs.List.{flat_map, range_with_len}
-use Rattle.std.proofs.lemmas.Grind.{flat_map-append}
 use Rattle.std.proofs.lemmas.List.{length-append, length-map}
 use Rattle.std.proofs.lemmas.List.Concat.{length-flat_map}
 use Rattle.std.proofs.lemmas.List.FromFn.{length-range_with_len}
@@ -66,14 +66,7 @@ pub gen_given : (count : ℕ) {bytes : List ℕ} {q : Query}
     → q ≡ record { haystack = bytes; start = 0; end = length bytes; mode = Anchored.No; earliest = false }
     → bytes ≡ gen_haystack count
     → items (iterate (outcome (plan_of usual) (gen_patterns count)) q) ≡ gen_items count
-gen_given count {bytes} {q} asked made =
-    ap given_by
-    (asked
-    ∙ ap
-    (λ (h : List ℕ). record { haystack = h; start = 0; end = length h; mode = Anchored.No; earliest = false }) made)
-  where
-    given_by : Query → List Item
-    given_by asks = items (iterate (outcome (plan_of usual) (gen_patterns count)) asks)
+gen_given count {bytes} {q} asked made = grind (arith, common_steps)
 
 -- if all that was given are these, there are no others
 pub gen_all : (count : ℕ) (told : List Match) → map Ok told ≡ gen_items count → gen_matches count ≡ told

@@ -1,6 +1,7 @@
 -- Searches of a text with an image that searches for one literal.
-use Rattle.std.proofs.Common.{◌≡◌, ℕ, ◌+◌, ◌<◌, ◌≤◌, min, List, ◌++◌, length, take, drop, Option, Some, None, Ok, Err}
-use Rattle.std.proofs.Common.{ap, sym, ◌-◌, ◌∙◌, false, refl, subst, arith, length-append}
+use Rattle.std.proofs.lemmas.Grind.{common_steps}
+use Rattle.std.proofs.Common.{◌≡◌, ℕ, ◌+◌, ◌<◌, ◌≤◌, min, List, ◌++◌, length, Option, Some, None, Ok, Err, ap, sym, ◌-◌}
+use Rattle.std.proofs.Common.{◌∙◌, false, refl, subst, arith, length-append}
 use Rattle.std.proofs.Math.Seq.{drop-append_seam, take-append_seam}
 use Rattle.std.specs.Prelude.{IfOk, IfSome, Result, option_map}
 use Rattle.std.specs.Io.KnownBytes.{Consumes}
@@ -25,8 +26,7 @@ pub of_tables : {E : Type 0} (image : List ℕ) (pair : Pair) {size : ℕ} → r
     SearchesFor (forward_table pair) (reverse_table pair) only.bytes.items only.pattern))
     → IfOk result (λ found. IfSome found (λ only. 0 < length only.bytes.items))
     → IfOk result (λ found. IfSome found (λ only. IsLiteralImage image only.bytes.items only.pattern))
-of_tables image pair {size} read (Ok (Some only)) searches some =
-    record { pair = pair; size = size; read = read; some = some; answers = searches }
+of_tables image pair {size} read (Ok (Some only)) searches some = grind (arith, common_steps)
 of_tables image pair read (Ok None) searches some = tt
 of_tables image pair read (Err error) searches some = tt
 
@@ -40,28 +40,20 @@ unanchored (Anchored.Pattern k) e = absurd (cc)
 pub long_behind : (before after now : Option (List ℕ)) (image text : List ℕ) → Consumes before after image
     → Consumes after now text → length image ≤ 262144 → length text ≡ 16777216 - length image + 1
     → (bytes : List ℕ) × (length bytes ≡ 16777217) × Consumes before now bytes
-long_behind before after now image text first rest few many =
-    let all = length-append image text in
-    (image ++ text, omega (arith, all, few, many), consumes_more before after now image text first rest)
+long_behind before after now image text first rest few many = grind (arith, common_steps, length-append, consumes_more)
 
 -- where it was found it ends within the text
 pub ends_within : {text literal : List ℕ} {start end len : ℕ} (place : Option ℕ)
     → IsSought text literal start end len place → len ≤ 16777216
     → IfSome place (λ at. at + length literal ≤ 16777216)
 ends_within None sought few = tt
-ends_within (Some at) sought few =
-    let fits = sought.first.1.fits in
-    let count = sought.count in
-    omega (arith, fits, count, few)
+ends_within (Some at) sought few = grind (arith, common_steps)
 
 module _ (s : Search) (image text literal : List ℕ) {pattern len : ℕ} {place : Option ℕ}
     (size : length image ≡ s.image_len) (mode : mode_of s.mode ≡ Anchored.No)
     (is : IsLiteralImage image literal pattern) (sought : IsSought text literal s.start s.end len place) where
   by_pair : (reply : Reply) → reply ≡ pair_reply is.pair (asked s text) → SearchReplies s (image ++ text) reply
-  by_pair reply told =
-      searched_reply s (image ++ text) reply
-      (subst (λ (n : ℕ). image ≡ take n (image ++ text)) size (sym (take-append_seam image text)))
-      (subst (λ (n : ℕ). text ≡ drop n (image ++ text)) size (sym (drop-append_seam image text))) is.read told
+  by_pair reply told = grind (arith, common_steps, searched_reply, take-append_seam, drop-append_seam)
 
   -- the span fits
   pub found_told : s.end ≤ len → s.start ≤ s.end + 1 → (reply : Reply)
@@ -79,7 +71,4 @@ module _ (s : Search) (image text literal : List ℕ) {pattern len : ℕ} {place
   -- it doesn't
   pub unfit_told : ((s.end ≤ len) × (s.start ≤ s.end + 1) → ⊥) → (reply : Reply) → reply ≡ span_reply
       → SearchReplies s (image ++ text) reply
-  unfit_told out reply told =
-      let count = sought.count in
-      by_pair reply
-      (told ∙ sym (span_told is.pair (asked s text) (λ fit. out (omega (arith, fit.0, count), fit.1))))
+  unfit_told out reply told = grind (arith, common_steps, by_pair, span_told)

@@ -1,5 +1,6 @@
 -- The matches that an iterator gives, and the reply that lists them.
-use Rattle.std.proofs.Common.{◌≡◌, List, [], ◌∷◌, ◌++◌, map, Option, Some, None, refl, ap, ◌∙◌, append_assoc}
+use Rattle.std.proofs.Common.{arith, ◌≡◌, List, [], ◌∷◌, ◌++◌, map, Option, Some, None, refl, ◌∙◌, append_assoc}
+use Rattle.std.proofs.lemmas.Grind.{common_steps}
 use Rattle.std.specs.Prelude.{Result, Ok, Err}
 use Rattle.std.specs.List.{flat_map}
 use Rattle.std.proofs.lemmas.List.{map-append}
@@ -18,9 +19,7 @@ as_item m = Ok m
 -- one more of what is left is given
 pub told_more : (told : List Match) (m : Match) (left : List Item)
     → map as_item (told ++ m ∷ []) ++ left ≡ map as_item told ++ as_item m ∷ left
-told_more told m left =
-    ap (λ (items : List Item). items ++ left) (map-append as_item told (m ∷ []))
-    ∙ append_assoc (map as_item told) (as_item m ∷ []) left
+told_more told m left = grind (arith, common_steps, map-append, append_assoc)
 
 -- ---- what was given says what was found
 
@@ -30,12 +29,7 @@ ended None = []
 ended (Some error) = Err error ∷ []
 
 pub items_are : (found : FoundMatches) → items found ≡ map Ok found.matches ++ ended found.error
-items_are found = by_error found.error found.matches
-  where
-    by_error : (error : Option MatchError) (matches : List Match)
-        → items (record { matches = matches; error = error }) ≡ map Ok matches ++ ended error
-    by_error None matches = refl
-    by_error (Some error) matches = refl
+items_are found = grind (arith, common_steps)
 
 all_given : (told ms : List Match) (error : Option MatchError) → map Ok told ≡ map Ok ms ++ ended error
     → (ms ≡ told) × (error ≡ None)
@@ -69,15 +63,13 @@ found_all told found e = all_given told found.matches found.error (e ∙ items_a
 -- After some matches an error was given: that is the one which ends them.
 pub found_before : (told : List Match) (last : MatchError) (more : List Item) (found : FoundMatches)
     → map Ok told ++ Err last ∷ more ≡ items found → (found.matches ≡ told) × (found.error ≡ Some last)
-found_before told last more found e =
-    error_given told found.matches found.error last more (e ∙ items_are found)
+found_before told last more found e = grind (arith, common_steps, error_given, items_are)
 
 -- ---- the reply
 
 is_found : (found : FoundMatches) (told : List Match) (error : Option MatchError)
     → (found.matches ≡ told) × (found.error ≡ error) → each_reply found ≡ matches_reply told error
-is_found found told error h =
-    ap (λ ms. matches_reply ms found.error) h.0 ∙ ap (λ o. matches_reply told o) h.1
+is_found found told error h = grind (arith, common_steps)
 
 pub failed_reply : (told : List Match) (last : MatchError) (more : List Item) (found : FoundMatches)
     → map Ok told ++ Err last ∷ more ≡ items found
@@ -87,19 +79,9 @@ failed_reply told last more found e = is_found found told (Some last) (found_bef
 -- no text was written where nothing was told, and only there
 pub none_reply : (told : List Match) (found : FoundMatches) → map Ok told ≡ items found
     → flat_map match_line told ≡ [] → each_reply found ≡ record { text = none_line; status = 1 }
-none_reply told found e empty = is_found found told None (found_all told found e) ∙ by_told told empty
-  where
-    by_told : (ms : List Match) → flat_map match_line ms ≡ []
-        → matches_reply ms None ≡ record { text = none_line; status = 1 }
-    by_told [] f = refl
-    by_told (m ∷ ms) f = absurd (cc)
+none_reply told found e empty = grind (arith, common_steps, is_found, found_all)
 
 pub matches_told : (told : List Match) (found : FoundMatches) → map Ok told ≡ items found
     → (flat_map match_line told ≡ [] → ⊥)
     → each_reply found ≡ record { text = flat_map match_line told; status = 0 }
-matches_told told found e some = is_found found told None (found_all told found e) ∙ by_told told some
-  where
-    by_told : (ms : List Match) → (flat_map match_line ms ≡ [] → ⊥)
-        → matches_reply ms None ≡ record { text = flat_map match_line ms; status = 0 }
-    by_told [] f = absurd (f refl)
-    by_told (m ∷ ms) f = refl
+matches_told told found e some = grind (arith, common_steps, is_found, found_all)

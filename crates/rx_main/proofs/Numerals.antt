@@ -1,5 +1,6 @@
 -- Numbers and modes of a command line: what is read is spelled so, and what is spelled so is read.
-use Rattle.std.proofs.Common.{◌≡◌, ◌≢◌, ℕ, ◌<◌, ◌≤◌, ◌^◌, List, Option, Some, None, ap, sym, ◌∙◌, arith}
+use Rattle.std.proofs.lemmas.Grind.{common_steps}
+use Rattle.std.proofs.Common.{◌≡◌, ◌≢◌, ℕ, ◌<◌, ◌≤◌, ◌^◌, List, Option, Some, None, sym, ◌∙◌, arith}
 use Rattle.std.specs.Option.{MatchOption}
 use Rattle.std.specs.Fmt.{decimal}
 use Rattle.rx_spec.specs.Queries.{Anchored}
@@ -15,18 +16,11 @@ use Rattle.rx_transfer.specs.Words.{mode_name}
 -- the decimal of a number is read
 pub no_number : (word : List ℕ) (most : ℕ) → most < 2 ^ 32 → number_of word ≡ None
     → (n : ℕ) → n ≤ most → word ≢ decimal n
-no_number word most below none n few spelled = clash
-    (sym none ∙ number_read word n (omega (arith, below, few), spelled))
-  where
-    clash : None ≡ Some n → ⊥
-    clash e = cc
+no_number word most below none n few spelled = grind (arith, common_steps, number_read)
 
 -- the number that is read is the one that is spelled
 pub other_number : (word : List ℕ) (v n : ℕ) → n < 2 ^ 32 → number_of word ≡ Some v → word ≡ decimal n → v ≡ n
-other_number word v n below read spelled = same (sym read ∙ number_read word n (below, spelled))
-  where
-    same : Some v ≡ Some n → v ≡ n
-    same e = cc
+other_number word v n below read spelled = grind (arith, common_steps, number_read)
 
 -- a number that is read, or none where it lies out of a range
 pub number_within : (word : List ℕ) (least most v : ℕ) → most < 2 ^ 32 → Some v ≡ number_of word → (told : Option ℕ)
@@ -34,11 +28,8 @@ pub number_within : (word : List ℕ) (least most v : ℕ) → most < 2 ^ 32 →
     → MatchOption told
     ((n : ℕ) → least ≤ n → n ≤ most → word ≢ decimal n)
     (λ n. (least ≤ n) × (n ≤ most) × (word ≡ decimal n))
-number_within word least most v below read None out = λ n low few spelled.
-    let same = other_number word v n (omega (arith, below, few)) (sym read) spelled in
-    out (omega (arith, same, low), omega (arith, same, few))
-number_within word least most v below read (Some n) is =
-    (is.1, is.2, (number_spelled word v (sym read)).1 ∙ ap decimal (sym is.0))
+number_within word least most v below read None out = grind (arith, common_steps, other_number)
+number_within word least most v below read (Some n) is = grind (arith, common_steps, number_spelled)
 
 mode_named : (mode : Anchored) (word : List ℕ) → SpellsMode mode word → IsMode mode × (word ≡ mode_name mode)
 mode_named Anchored.No word s = (tt, s)

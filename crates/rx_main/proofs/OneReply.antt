@@ -1,12 +1,13 @@
 -- At most one reply fits a command line and the bytes that were taken, but that a refused build names any cause, that
 -- sparse tables may be refused by a bound, that an image is any of a table of the plan, and that any place and word
 -- that part two tables may be told.
-use Rattle.std.proofs.Common.{◌≡◌, ◌⊎◌, inl, inr, ℕ, ◌+◌, ◌≤◌, Bool, true, false, List, [], length}
-use Rattle.std.proofs.Common.{Option, Some, Result, Ok, Err, refl, sym, ap, ◌∙◌, arith, subst}
+use Rattle.std.proofs.lemmas.Grind.{common_steps}
+use Rattle.std.proofs.Common.{◌≡◌, ◌⊎◌, inl, inr, ℕ, ◌+◌, Bool, true, false, List, [], length, Option, Some, Result, Ok}
+use Rattle.std.proofs.Common.{Err, refl, sym, ap, ◌∙◌, arith, subst}
 use Rattle.rx_spec.specs.Expressions.{Expression}
 use Rattle.rx_spec.specs.Plans.{Plan, Cause}
 use Rattle.rx_spec.specs.Queries.{Query, Match, MatchError}
-use Rattle.rx_plan.specs.Plan.{plan_of, usual}
+use Rattle.rx_plan.specs.Plan.{plan_of}
 use Rattle.rx_regex.specs.Find.{PlanFits, PlanRefused}
 use Rattle.rx_regex.specs.PlanTables.{IsOfPair, TableFits, TableRefused}
 use Rattle.rx_regex.specs.declared.plan_table.PlanTable.{PlanTable}
@@ -17,7 +18,6 @@ use Rattle.rx_script.proofs.ScriptRead.{script_read}
 use Rattle.rx_wire.specs.declared.order.Order.{Order}
 use Rattle.rx_main.specs.Commands.{Says, most_bytes}
 use Rattle.rx_main.specs.Lines.{Reply, IsRefusal, fault_reply, error_reply}
-use Rattle.rx_main.specs.Gen.{gen_patterns}
 use Rattle.rx_main.specs.Scripts.{AskedReplies, BuildReplies, PlanReplies, ScriptReplies}
 use Rattle.rx_main.specs.Find.{FindAnswers, found_reply, rows_text}
 use Rattle.rx_main.specs.Each.{EachAnswers}
@@ -89,8 +89,7 @@ Told Answers (Ok script) reply = Answers script reply
 module _ (with_input : Bool) (Answers : Spelled → Reply → Type 0) (text : List ℕ) where
   told : (reply : Reply) → ScriptReplies with_input Answers text reply
       → Told Answers (script_of with_input text) reply
-  told reply (ScriptReplies.TurnedDown is) =
-      subst (λ (read : Result Spelled Fault). Told Answers read reply) (sym is.fault) is.told
+  told reply (ScriptReplies.TurnedDown is) = grind (arith, common_steps)
   told reply (ScriptReplies.Answered is) =
       subst (λ (read : Result Spelled Fault). Told Answers read reply)
       (sym (script_read with_input text is.script is.spelled)) is.holds
@@ -108,8 +107,7 @@ abbrev reply_of : List ℕ → ℕ → Reply
 reply_of text status = record { text = text; status = status }
 
 same_reply : (reply other : Reply) → reply.text ≡ other.text → reply.status ≡ other.status → reply ≡ other
-same_reply reply other e f =
-    ap (λ (l : List ℕ). reply_of l reply.status) e ∙ ap (λ (n : ℕ). reply_of other.text n) f
+same_reply reply other e f = grind (arith, common_steps)
 
 module _ (words : List (List ℕ)) (bytes : List ℕ) where
   abbrev AreAlike : (Reply → Type 0) → Type 0
@@ -159,9 +157,7 @@ module _ (words : List (List ℕ)) (bytes : List ℕ) where
       alike is.script is.spelled reply other
       (told_of with_input Answers bytes is.script is.spelled reply (ScriptReplies.TurnedDown h)) is.holds
   script_alike with_input Answers alike reply other (ScriptReplies.TurnedDown h) (ScriptReplies.TurnedDown k) =
-      let same = subst (λ (read : Result Spelled Fault). Told Answers read other) h.fault
-      (told with_input Answers bytes other (ScriptReplies.TurnedDown k)) in
-      SayTheSame.Same (h.told ∙ sym same)
+      grind (arith, common_steps, told)
 
   asked_alike : (Answers : Spelled → Query → Reply → Type 0)
       → ((script : Spelled) (q : Query) → IsOne (Answers script q))
@@ -226,9 +222,7 @@ module _ (words : List (List ℕ)) (bytes : List ℕ) where
       → SayTheSame words bytes reply other
   command_alike (Command.Read command) says ended also reply other h k =
       read_alike command says reply other h.1 k.1
-  command_alike (Command.Gen count) says ended also reply other h k =
-      plan_alike (plan_of usual) (gen_patterns count) (λ table one. AsksFor.Generated one count says refl refl) _
-      (λ r s e f. SayTheSame.Same (e ∙ sym f)) reply other h.1 k.1
+  command_alike (Command.Gen count) says ended also reply other h k = grind (arith, common_steps, plan_alike)
   command_alike (Command.Feed f) says ended also reply other h k =
       let same = feed_once f.form (mode_of f.mode) f.image_len bytes ended also reply.text other.text reply.status
       other.status h k in
@@ -238,11 +232,7 @@ module _ (words : List (List ℕ)) (bytes : List ℕ) where
 long_not : (command : ReadCommand) (other : Command) (words : List (List ℕ)) (bytes : List ℕ) (ended : Bool)
     (reply : Reply) → Says words (Command.Read command) → length bytes ≡ most_bytes + 1 → Says words other
     → CommandReplies other bytes ended reply → ⊥
-long_not command other words bytes ended reply says long also h =
-    let read = subst (λ (c : Command). CommandReplies c bytes ended reply)
-    (spelled_once other (Command.Read command) words also says) h in
-    let few : length bytes ≤ most_bytes = read.0.few in
-    omega arith
+long_not command other words bytes ended reply says long also h = grind (arith, common_steps, spelled_once)
 
 -- ---- the reply
 

@@ -1,12 +1,11 @@
 -- A refusal tells its cause, and no plan is both refused and built, but by a bound of the rows of sparse tables.
-use Rattle.std.proofs.Common.{◌≡◌, ◌∙◌, ⊎_elim, ℕ, ◌≤◌, Bool, true, false, List, Option, refl, ap, subst, arith}
+use Rattle.std.proofs.lemmas.Grind.{common_steps}
+use Rattle.std.proofs.Common.{◌≡◌, ⊎_elim, ℕ, Bool, true, false, List, Option, refl, arith}
 use Rattle.rx_spec.specs.Expressions.{Expression}
 use Rattle.rx_spec.specs.Nfas.{Nfa}
 use Rattle.rx_spec.specs.Builds.{Build}
-use Rattle.rx_spec.specs.Sizes.{nfa_size}
-use Rattle.rx_spec.specs.Causes.{NfaCause, BuildCause, NfaFits, NfaRefused, IsWithin, IsSupported, IsUnsupported}
-use Rattle.rx_spec.specs.Causes.{BuildFits, BuildRefused}
-use Rattle.rx_spec.specs.Causes.{HasTooManyStates, HasTooLongRows}
+use Rattle.rx_spec.specs.Causes.{NfaCause, BuildCause, NfaFits, NfaRefused, IsSupported, IsUnsupported, BuildFits}
+use Rattle.rx_spec.specs.Causes.{BuildRefused, HasTooLongRows}
 use Rattle.rx_spec.specs.Plans.{Plan, Cause, DirectionFits, DirectionRefused, plan_limits}
 use Rattle.rx_spec.specs.declared.Direction.{Direction}
 use Rattle.rx_regex.specs.Find.{PlanFits, PlanRefused}
@@ -27,16 +26,11 @@ kind_told Refused (BuildErrorKind.NFA (nfa.BuildError.TooManyStates given)) repl
 kind_told Refused (BuildErrorKind.NFA (nfa.BuildError.ExceededSizeLimit limit)) reply told r =
     let cause = NfaCause.ExceededSizeLimit limit in record { cause = Cause.NFA cause; refused = r; told = told cause }
 kind_told Refused (BuildErrorKind.NFA nfa.BuildError.Memory) reply told r = absurd r
-kind_told Refused BuildErrorKind.Unsupported reply told r =
-    record { cause = Cause.DFA BuildCause.Unsupported; refused = r; told = told }
-kind_told Refused BuildErrorKind.TooManyStates reply told r =
-    record { cause = Cause.DFA BuildCause.TooManyStates; refused = r; told = told }
-kind_told Refused BuildErrorKind.TooManyMatchPatternIDs reply told r =
-    record { cause = Cause.DFA BuildCause.TooManyMatchPatternIDs; refused = r; told = told }
-kind_told Refused (BuildErrorKind.DFAExceededSizeLimit limit) reply told r =
-    record { cause = Cause.DFA (BuildCause.DFAExceededSizeLimit limit); refused = r; told = told }
-kind_told Refused (BuildErrorKind.DeterminizeExceededSizeLimit limit) reply told r =
-    record { cause = Cause.DFA (BuildCause.DeterminizeExceededSizeLimit limit); refused = r; told = told }
+kind_told Refused BuildErrorKind.Unsupported reply told r = grind (arith, common_steps)
+kind_told Refused BuildErrorKind.TooManyStates reply told r = grind (arith, common_steps)
+kind_told Refused BuildErrorKind.TooManyMatchPatternIDs reply told r = grind (arith, common_steps)
+kind_told Refused (BuildErrorKind.DFAExceededSizeLimit limit) reply told r = grind (arith, common_steps)
+kind_told Refused (BuildErrorKind.DeterminizeExceededSizeLimit limit) reply told r = grind (arith, common_steps)
 kind_told Refused BuildErrorKind.Memory reply told r = absurd told
 
 -- ---- refused and built
@@ -45,9 +39,7 @@ nfa_fits_not : (limit : Option ℕ) (count : ℕ) (nfa : Nfa) (cause : NfaCause)
     → NfaRefused limit count nfa cause → NfaFits limit count nfa → ⊥
 nfa_fits_not limit count nfa (NfaCause.TooManyPatterns given) h fits = omega (arith, h.1, fits.patterns)
 nfa_fits_not limit count nfa (NfaCause.TooManyStates given) h fits = omega (arith, h.2, fits.states)
-nfa_fits_not limit count nfa (NfaCause.ExceededSizeLimit bytes) h fits =
-    let within : nfa_size nfa ≤ bytes = subst (λ (l : Option ℕ). IsWithin l (nfa_size nfa)) h.2 fits.size in
-    omega (arith, within, h.3)
+nfa_fits_not limit count nfa (NfaCause.ExceededSizeLimit bytes) h fits = grind (arith, common_steps)
 
 supported_not : (b : Build) → IsUnsupported b → IsSupported b → ⊥
 supported_not b h supported = h.lacks (supported h.looks)
@@ -65,16 +57,10 @@ module _ (p : Plan) (es : List Expression) where
   build_by_bound : (b : Build) (cause : BuildCause) → BuildRefused (plan_limits p) b cause
       → BuildFits (plan_limits p) b → IsByBound b (Cause.DFA cause)
   build_by_bound b BuildCause.Unsupported h fits = absurd (supported_not b h fits.supported)
-  build_by_bound b BuildCause.TooManyStates h fits =
-      ⊎_elim
-      (λ (many : HasTooManyStates (plan_limits p) b). absurd (fits.states many))
-      (λ (long : HasTooLongRows (plan_limits p) b).
-      (refl, not_false p.minimize (λ e. fits.rows e long), long))
-      h.1
+  build_by_bound b BuildCause.TooManyStates h fits = grind (arith, common_steps, not_false)
   build_by_bound b BuildCause.TooManyMatchPatternIDs h fits = absurd (fits.patterns h.1)
   build_by_bound b (BuildCause.DFAExceededSizeLimit limit) h fits = absurd (fits.table limit h.1 h.2)
-  build_by_bound b (BuildCause.DeterminizeExceededSizeLimit limit) h fits =
-      absurd (fits.construction limit h.1 h.2)
+  build_by_bound b (BuildCause.DeterminizeExceededSizeLimit limit) h fits = grind (arith, common_steps)
 
   by_bound : (table : PlanTable) (cause : Cause) → TableRefused p table es cause → TableFits p table es
       → IsByBound (table_build p table es) cause
@@ -87,16 +73,11 @@ module _ (p : Plan) (es : List Expression) where
 
   bounded : (table : PlanTable) (cause : Cause) (reply : Reply) → reply ≡ refusal_reply cause
       → IsByBound (table_build p table es) cause → IsBounded p es table reply
-  bounded table cause reply told by = record {
-    minimize = by.1;
-    long = by.2;
-    told = told ∙ ap refusal_reply by.0;
-  }
+  bounded table cause reply told by = grind (arith, common_steps)
 
   pub table_bounded : (table : PlanTable) (reply : Reply) → IsRefusal (TableRefused p table es) reply
       → TableFits p table es → IsBounded p es table reply
-  table_bounded table reply is fits =
-      bounded table is.cause reply is.told (by_bound table is.cause is.refused fits)
+  table_bounded table reply is fits = grind (arith, common_steps, bounded, by_bound)
 
   pub plan_bounded : (reply : Reply) → IsRefusal (PlanRefused p es) reply → PlanFits p es
       → (table : PlanTable) × IsOfPair table × IsBounded p es table reply

@@ -1,9 +1,9 @@
 -- The numbers of rows of a plan's tables are determined.
-use Rattle.std.proofs.Common.{◌≡◌, ◌+◌, ℕ, Bool, true, false, List, ap, sym, ◌∙◌}
+use Rattle.std.proofs.Common.{arith, ◌≡◌, ◌+◌, ℕ, Bool, true, false, List, ap, sym, ◌∙◌}
+use Rattle.std.proofs.lemmas.Grind.{common_steps}
 use Rattle.rx_spec.specs.Expressions.{Expression}
 use Rattle.rx_spec.specs.Builds.{Build}
-use Rattle.rx_spec.specs.Plans.{Plan, plan_build}
-use Rattle.rx_spec.specs.declared.Direction.{Direction}
+use Rattle.rx_spec.specs.Plans.{Plan}
 use Rattle.lemmas_tables.proofs.Sizes.{reached_count}
 use Rattle.rx_meaning.proofs.Reduced.{least_is_one_holds}
 use Rattle.rx_regex.specs.Rows.{CountsRows, HaveRows}
@@ -18,7 +18,4 @@ count_once true b rows other h k = least_is_one_holds b rows other h k
 pub rows_once : {p : Plan} {es : List Expression} (forward reverse also_forward also_reverse : ℕ)
     → HaveRows p es forward reverse → HaveRows p es also_forward also_reverse
     → (forward ≡ also_forward) × (reverse ≡ also_reverse)
-rows_once {p} {es} forward reverse also_forward also_reverse h k = (
-  count_once p.minimize (plan_build p Direction.Forward es) forward also_forward h.forward k.forward,
-  count_once p.minimize (plan_build p Direction.Reverse es) reverse also_reverse h.reverse k.reverse,
-)
+rows_once {p} {es} forward reverse also_forward also_reverse h k = grind (arith, common_steps, count_once)

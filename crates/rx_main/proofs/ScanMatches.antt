@@ -1,5 +1,6 @@
 -- Over an image for all matches `scan` tells the longest matches.
-use Rattle.std.proofs.Common.{◌≡◌, ℕ, List, ◌++◌, length, drop, ap, ◌∙◌}
+use Rattle.std.proofs.Common.{arith, ◌≡◌, ℕ, List, ◌++◌, length, drop, ap, ◌∙◌}
+use Rattle.std.proofs.lemmas.Grind.{common_steps}
 use Rattle.std.proofs.Math.Seq.{drop-append_seam}
 use Rattle.std.specs.Prelude.{All}
 use Rattle.rx_spec.specs.Bytes.{AreBytes}
@@ -10,7 +11,6 @@ use Rattle.rx_spec.specs.declared.Form.{Form}
 use Rattle.rx_all.specs.Builds.{all_build}
 use Rattle.rx_all.specs.Matches.{ServesAll}
 use Rattle.rx_dense.specs.Layouts as dense
-use Rattle.rx_plan.specs.Plan.{plan_of}
 use Rattle.rx_regex.specs.Images.{IsImageOf}
 use Rattle.rx_regex.specs.declared.plan_table.PlanTable.{PlanTable}
 use Rattle.rx_regex.proofs.Served.{all_tables_serve}
@@ -44,6 +44,4 @@ module _ (p : Plan) (es : List Expression) (order : Order) (image text : List �
       (told ∙ ap (reading_reply (sparse_scan_reply (image ++ text))) (is.read text))
 
 pub scan_tells_matches : ScanTellsMatches
-scan_tells_matches script order image is text bytes reply told =
-    let p = plan_of script.plan in
-    by_form p script.exprs order image.text text bytes reply p.form is.image told
+scan_tells_matches script order image is text bytes reply told = grind (arith, common_steps, by_form)

@@ -1,6 +1,6 @@
 -- Over an image of both tables of a plan `search` replies what `find` replies.
-use Rattle.std.proofs.Common.{◌≡◌, ℕ, Bool, false, List, ◌++◌, length, take, drop, Ok}
-use Rattle.std.proofs.Common.{refl, sym, ap, ◌∙◌}
+use Rattle.std.proofs.Common.{arith, ◌≡◌, ℕ, false, List, ◌++◌, length, Ok, refl, sym, ap, ◌∙◌}
+use Rattle.std.proofs.lemmas.Grind.{common_steps}
 use Rattle.std.proofs.Math.Seq.{drop-append_seam, take-append_seam}
 use Rattle.rx_spec.specs.Plans.{outcome}
 use Rattle.rx_spec.specs.Queries.{Query}
@@ -10,8 +10,7 @@ use Rattle.rx_regex.specs.Pairs.{joined}
 use Rattle.rx_regex.proofs.Searches.{outcome_by}
 use Rattle.rx_script.specs.Grammar.{Spelled}
 use Rattle.rx_wire.specs.declared.order.Order.{Order}
-use Rattle.rx_main.specs.Check.{reading_reply}
-use Rattle.rx_main.specs.Find.{FindAnswers, found_reply, rows_text}
+use Rattle.rx_main.specs.Find.{FindAnswers}
 use Rattle.rx_main.specs.Lines.{Reply}
 use Rattle.rx_main.specs.Search.{SearchFinds, answer_reply, asked, pair_reply, search_reply}
 use Rattle.rx_main.specs.declared.command.Search.{Search}
@@ -20,8 +19,7 @@ use Rattle.rx_main.proofs.SearchAnswers.{fit_reply}
 -- what `find` replies without numbers of rows
 found_told : (script : Spelled) (q : Query) (reply : Reply) → script.rows ≡ false → FindAnswers script q reply
     → reply ≡ answer_reply (outcome (plan_of script.plan) script.exprs q)
-found_told script q reply no_rows (FindAnswers.Finds found forward reverse e rows h) =
-    h ∙ ap (λ (b : Bool). found_reply found (rows_text b forward reverse)) no_rows ∙ sym (ap answer_reply e)
+found_told script q reply no_rows (FindAnswers.Finds found forward reverse e rows h) = grind (arith, common_steps)
 found_told script q reply no_rows (FindAnswers.Fails error e h) = h ∙ sym (ap answer_reply e)
 
 -- the order of a sparse table's bytes changes no answer
@@ -33,14 +31,7 @@ same_answers order (Pair.Sparse f r) q = refl
 search_told : (s : Search) (image haystack : List ℕ) (pair : Pair) → s.image_len ≡ length image
     → reads image ≡ Ok (pair, length image)
     → search_reply s (image ++ haystack) ≡ pair_reply pair (asked s haystack)
-search_told s image haystack pair len read =
-    let front : take s.image_len (image ++ haystack) ≡ image =
-    ap (λ (n : ℕ). take n (image ++ haystack)) len ∙ take-append_seam image haystack in
-    let back : drop s.image_len (image ++ haystack) ≡ haystack =
-    ap (λ (n : ℕ). drop n (image ++ haystack)) len ∙ drop-append_seam image haystack in
-    ap (reading_reply (λ (told : Pair) (size : ℕ). pair_reply told (asked s (drop s.image_len (image ++ haystack)))))
-    (ap reads front ∙ read)
-    ∙ ap (λ (bytes : List ℕ). pair_reply pair (asked s bytes)) back
+search_told s image haystack pair len read = grind (arith, common_steps, take-append_seam, drop-append_seam)
 
 pub search_finds : SearchFinds
 search_finds script order image no_rows is s haystack len bytes fit reply answers =

@@ -1,5 +1,6 @@
 -- What was taken from a source, and the reply to it.
-use Rattle.std.proofs.Common.{◌≡◌, ℕ, true, false, List, [], length, Option}
+use Rattle.std.proofs.Common.{arith, ◌≡◌, ℕ, true, false, List, [], length, Option}
+use Rattle.std.proofs.lemmas.Grind.{common_steps}
 use Rattle.std.specs.Io.KnownBytes.{Consumes, IsAtEnd}
 use Rattle.rx_main.specs.Commands.{Says}
 use Rattle.rx_main.specs.Lines.{Reply, long_reply}
@@ -12,8 +13,7 @@ use Rattle.rx_transfer.proofs.Transfers.{consumes_none}
 -- nothing
 pub took_nothing : {words : List (List ℕ)} {reply : Reply} (left : Option (List ℕ)) → Replies words [] false reply
     → Took words left left reply
-took_nothing left h =
-    record { bytes = []; ended = false; taken = consumes_none left; at_end = λ e. absurd (cc); replies = h }
+took_nothing left h = grind (arith, common_steps, consumes_none)
 
 -- all there is
 pub took_all : {words : List (List ℕ)} {command : Command} (before after : Option (List ℕ)) (bytes : List ℕ)

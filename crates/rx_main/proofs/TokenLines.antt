@@ -1,5 +1,6 @@
 -- The lines of the tokens that a scanner tells.
-use Rattle.std.proofs.Common.{◌≡◌, ℕ, ◌+◌, ◌<◌, ◌≤◌, List, [], ◌∷◌, ◌++◌, length, Bool, true, Some, None, sym, ap, ◌∙◌}
+use Rattle.std.proofs.lemmas.Grind.{common_steps}
+use Rattle.std.proofs.Common.{◌≡◌, ℕ, ◌+◌, ◌<◌, ◌≤◌, List, [], ◌∷◌, ◌++◌, length, Bool, true, Some, None, ap}
 use Rattle.std.proofs.Common.{append_assoc, append-nil, arith, if◌then◌else◌}
 use Rattle.std.proofs.lemmas.List.{length-append}
 use Rattle.std.specs.List.{flat_map}
@@ -11,19 +12,14 @@ use Rattle.rx_main.specs.Scan.{end_reply, token_line, tokens_reply}
 -- one more is told
 pub told_more : (told : List Token) (token : Token) {left next all : List Token} → left ≡ token ∷ next
     → told ++ left ≡ all → (told ++ token ∷ []) ++ next ≡ all
-told_more told token {left} {next} first whole =
-    append_assoc told (token ∷ []) next ∙ ap (λ (ts : List Token). told ++ ts) (sym first) ∙ whole
+told_more told token {left} {next} first whole = grind (arith, common_steps, append_assoc)
 
 pub fewer : (token : Token) {left next : List Token} → left ≡ token ∷ next → length next < length left
-fewer token {left} {next} first =
-    let longer : length left ≡ length (token ∷ next) = ap length first in
-    omega (arith, longer)
+fewer token {left} {next} first = grind (arith, common_steps)
 
 pub count_more : (told : List Token) (token : Token) {count : ℕ} → count ≡ length told
     → count + 1 ≡ length (told ++ token ∷ [])
-count_more told token counted =
-    let sum = length-append told (token ∷ []) in
-    omega (arith, counted, sum)
+count_more told token counted = grind (arith, common_steps, length-append)
 
 -- there are no more tokens than bytes in their lines
 lines_count : (told : List Token) → length told ≤ length (flat_map token_line told)
@@ -35,12 +31,7 @@ lines_count (token ∷ told) =
 
 pub lines_count_more : (told : List Token) (token : Token) {lines more : List ℕ} → lines ≡ flat_map token_line told
     → more ≡ lines ++ token_line token → length told + 1 ≤ length more
-lines_count_more told token {lines} {more} are is =
-    let few = lines_count told in
-    let whole : more ≡ flat_map token_line told ++ token_line token =
-    is ∙ ap (λ (l : List ℕ). l ++ token_line token) are in
-    let sum = ap length whole ∙ length-append (flat_map token_line told) (token_line token) in
-    omega (arith, few, sum)
+lines_count_more told token {lines} {more} are is = grind (arith, common_steps, lines_count, length-append)
 
 -- once it was told that none is left, the end is told
 pub end_known : (s : Scan) → s.is_over ≡ true → end_told s ≡ Some s.left.end
@@ -50,9 +41,4 @@ end_known s over = ap (λ (b : Bool). if b then Some s.left.end else None) over
 pub all_told : (told : List Token) (all : Tokens) {left : List Token} {end : ScanEnd} {lines : List ℕ} {count : ℕ}
     → told ++ left ≡ all.tokens → left ≡ [] → end ≡ all.end → lines ≡ flat_map token_line told → count ≡ length told
     → end_reply lines count end ≡ tokens_reply all
-all_told told all {left} {end} {lines} {count} whole none ends are counted =
-    let same : told ≡ all.tokens =
-    sym (append-nil told) ∙ ap (λ (ts : List Token). told ++ ts) (sym none) ∙ whole in
-    ap (λ (l : List ℕ). end_reply l count end) (are ∙ ap (flat_map token_line) same)
-    ∙ ap (λ (n : ℕ). end_reply (flat_map token_line all.tokens) n end) (counted ∙ ap length same)
-    ∙ ap (end_reply (flat_map token_line all.tokens) (length all.tokens)) ends
+all_told told all {left} {end} {lines} {count} whole none ends are counted = grind (arith, common_steps, append-nil)

@@ -1,14 +1,15 @@
 -- A search by the usual plan that may begin anywhere has no error: no byte is a quit byte, and there are starts.
-use Rattle.std.proofs.Common.{◌≡◌, ℕ, ◌+◌, zero, suc, Bool, true, false, List, [], ◌∷◌, Option, Some, None}
-use Rattle.std.proofs.Common.{refl, ap, sym, ◌∙◌, ◌-◌, ◌≤◌, length, subst, arith, ltb}
+use Rattle.std.proofs.lemmas.Grind.{common_steps}
+use Rattle.std.proofs.Common.{◌≡◌, ℕ, ◌+◌, zero, suc, Bool, true, false, List, [], ◌∷◌, Option, Some, None, refl, ap}
+use Rattle.std.proofs.Common.{sym, ◌∙◌, ◌-◌, ◌≤◌, length, subst, arith, ltb}
 use Rattle.std.specs.Prelude.{Ok}
 use Rattle.std.proofs.Math.Bool.{and-false}
 use Rattle.std.proofs.lemmas.Nat.Bits.{bit_at-zero}
 use Rattle.rx_spec.specs.Bytes.{contains, unit_of}
 use Rattle.rx_spec.specs.Expressions.{Expression}
 use Rattle.rx_spec.specs.Found.{found}
-use Rattle.rx_spec.specs.HalfSearches.{HalfAnswer, beside, first_offset, half_search, last_match, next_offset}
-use Rattle.rx_spec.specs.HalfSearches.{units_of, whole_walk}
+use Rattle.rx_spec.specs.HalfSearches.{HalfAnswer, beside, first_offset, half_search, last_match, next_offset, units_of}
+use Rattle.rx_spec.specs.HalfSearches.{whole_walk}
 use Rattle.rx_spec.specs.Iterating.{FoundMatches, and_then, is_repeat, iterate, iterate_from, unless_repeat}
 use Rattle.rx_spec.specs.Joining.{Answer}
 use Rattle.rx_spec.specs.Machines.{label_of}
@@ -117,8 +118,7 @@ module _ (f : Query → Option Match) where
   next_few : (n : ℕ) (next : Option Match) (others : Match → FoundMatches) → ((m : Match) → AreFew (others m) n)
       → AreFew (and_then (Ok next) others) (suc n)
   next_few n None others each = record { few = omega arith; no_error = refl }
-  next_few n (Some m) others each =
-      let rest = each m in record { few = (let few = rest.few in omega arith); no_error = rest.no_error }
+  next_few n (Some m) others each = grind (arith, common_steps)
 
   unless_searched : (q : Query) (last_end : Option ℕ) (next : Option Match)
       → (other : Option Match) × (unless_repeat searched q last_end (Ok next) ≡ Ok other)

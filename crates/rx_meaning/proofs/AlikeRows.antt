@@ -1,5 +1,6 @@
 -- Rows of two machines from which every word leads to equal labels: walks from them end alike.
-use Rattle.std.proofs.Common.{◌≡◌, ℕ, ◌<◌, Bool, Option, Ok, List, [], ◌∷◌, ap, sym, ◌∙◌}
+use Rattle.std.proofs.Common.{arith, ◌≡◌, ℕ, ◌<◌, Bool, Option, Ok, List, [], ◌∷◌, ap, sym, ◌∙◌}
+use Rattle.std.proofs.lemmas.Grind.{common_steps}
 use Rattle.rx_spec.specs.Queries.{HalfMatch}
 use Rattle.rx_spec.specs.Machines.{Machine, IsWord}
 use Rattle.rx_spec.specs.Labels.{label_after}
@@ -42,8 +43,7 @@ module _ {R S : Type 0} {m : Machine R} {n : Machine S} {In : R → Type 0} {On 
   pub walk_alike : (direction : Direction) (earliest : Bool) {row : R} {node : S} → Alike m n In On row node
       → (units : List ℕ) → IsWord units → (offset : ℕ) (last : Option HalfMatch)
       → walk m direction earliest row offset last units ≡ walk n direction earliest node offset last units
-  walk_alike direction earliest {row} {node} a [] w offset last =
-      walk-nil m direction earliest row offset last ∙ sym (walk-nil n direction earliest node offset last)
+  walk_alike direction earliest {row} {node} a [] w offset last = grind (arith, common_steps, walk-nil)
   walk_alike direction earliest {row} {node} a (unit ∷ units) w offset last =
       let x = m.next row unit in
       let y = n.next node unit in
@@ -61,8 +61,7 @@ module _ {R S : Type 0} {m : Machine R} {n : Machine S} {In : R → Type 0} {On 
   pub overlapping_alike : (direction : Direction) {row : R} {node : S} → Alike m n In On row node
       → (units : List ℕ) → IsWord units → (offset : ℕ)
       → overlapping_walk m direction row offset units ≡ overlapping_walk n direction node offset units
-  overlapping_alike direction {row} {node} a [] w offset =
-      overlapping-nil m direction row offset ∙ sym (overlapping-nil n direction node offset)
+  overlapping_alike direction {row} {node} a [] w offset = grind (arith, common_steps, overlapping-nil)
   overlapping_alike direction {row} {node} a (unit ∷ units) w offset =
       let x = m.next row unit in
       let y = n.next node unit in

@@ -1,15 +1,16 @@
 -- Searches of two machines whose starts are alike, under settings that say the same of bytes.
-use Rattle.std.proofs.Common.{◌≡◌, ℕ, suc, zero, ◌+◌, ◌<◌, ◌≤◌, true, if◌then◌else◌, Option, Some, None, [], ◌∷◌, ◌++◌}
-use Rattle.std.proofs.Common.{map, refl, ap, sym, ◌∙◌, subst, arith, ⊎_elim}
+use Rattle.std.proofs.Common.{rules, ◌≡◌, ℕ, suc, zero, ◌+◌, ◌<◌, ◌≤◌, true, if◌then◌else◌, Option, Some, None, [], ◌∷◌}
+use Rattle.std.proofs.Common.{◌++◌, map, refl, ap, sym, ◌∙◌, subst, arith, ⊎_elim}
+use Rattle.std.proofs.lemmas.Grind.{common_steps}
 use Rattle.std.proofs.lemmas.Bool.{lt-ltb, cases_lt}
-use Rattle.std.proofs.lemmas.List.Elements.{Contains-append_left, Contains-append_right}
+use Rattle.std.proofs.lemmas.List.Elements.{Contains-append_right}
 use Rattle.std.specs.Prelude.{Contains, is_some}
 use Rattle.std.specs.List.{range_with_len}
-use Rattle.rx_spec.specs.Bytes.{AreBytes, contains}
+use Rattle.rx_spec.specs.Bytes.{AreBytes}
 use Rattle.rx_spec.specs.Queries.{Anchored, Query}
 use Rattle.rx_spec.specs.Machines.{Machine, Settings}
-use Rattle.rx_spec.specs.Starts.{has_unanchored, has_anchored, supports, start_context, StartError, start_error}
-use Rattle.rx_spec.specs.Starts.{mode_error, start_row}
+use Rattle.rx_spec.specs.Starts.{has_unanchored, has_anchored, supports, start_context, start_error, mode_error}
+use Rattle.rx_spec.specs.Starts.{start_row}
 use Rattle.rx_spec.specs.Builds.{pattern_modes}
 use Rattle.rx_spec.specs.Tables.{SameSettings}
 use Rattle.rx_spec.specs.Labels.{SameLabels, pattern_start_modes, table_modes}
@@ -17,7 +18,7 @@ use Rattle.rx_spec.specs.HalfSearches.{beside, first_offset, units_of, walk, hal
 use Rattle.rx_spec.specs.Overlapping.{overlapping_walk, overlapping}
 use Rattle.rx_spec.specs.declared.Direction.{Direction}
 use Rattle.rx_spec.specs.declared.Start.{Start}
-use Rattle.lemmas_walks.proofs.Firsts.{Contains-here, Contains-there}
+use Rattle.lemmas_walks.proofs.Firsts.{Contains-there}
 use Rattle.lemmas_walks.proofs.HalfSearches.{Begins, Done, Refused, Started, begins, started, half_done, half_refused}
 use Rattle.lemmas_walks.proofs.HalfSearches.{half_walks, going}
 use Rattle.lemmas_walks.proofs.Overlapping.{overlapping_done, overlapping_refused, overlapping_walks}
@@ -34,46 +35,24 @@ module _ (s r : Settings) (same : SameSettings s r) where
   context_alike (Some b) h = same.start_of_byte b (h b refl)
 
   mode_alike : (mode : Anchored) → mode_error s mode ≡ mode_error r mode
-  mode_alike mode =
-      ap (λ v. if v then None else Some (StartError.UnsupportedAnchored mode))
-      (ap (λ k. supports k (is_some s.pattern_starts) mode) same.start_kind
-      ∙ ap (λ p. supports r.start_kind (is_some p) mode) same.pattern_starts)
+  mode_alike mode = grind (arith, common_steps)
 
   error_alike : (byte : Option ℕ) (mode : Anchored) → ((b : ℕ) → byte ≡ Some b → b < 256)
       → start_error s byte mode ≡ start_error r byte mode
   error_alike None mode h = mode_alike mode
-  error_alike (Some b) mode h =
-      ap (λ v. if v then Some (StartError.Quit b) else mode_error s mode) (same.quit b (h b refl))
-      ∙ ap (λ e. if contains r.quit b then Some (StartError.Quit b) else e) (mode_alike mode)
+  error_alike (Some b) mode h = grind (arith, common_steps, mode_alike)
 
 -- the modes that are supported are those that a table has, and patterns past the last
 unanchored_there : (s : Settings) → has_unanchored s.start_kind ≡ true → Contains (table_modes s) Anchored.No
-unanchored_there s e =
-    let front = if has_unanchored s.start_kind then Anchored.No ∷ [] else [] in
-    let second = if has_anchored s.start_kind then Anchored.Yes ∷ [] else [] in
-    let one = Contains-here Anchored.No [] in
-    let here : Contains front Anchored.No
-    = subst (λ v. Contains (if v then Anchored.No ∷ [] else []) Anchored.No) (sym e) one in
-    Contains-append_left (front ++ second) (pattern_start_modes s.pattern_starts) Anchored.No
-    (Contains-append_left front second Anchored.No here)
+unanchored_there s e = grind (arith, common_steps)
 
 anchored_there : (s : Settings) → has_anchored s.start_kind ≡ true → Contains (table_modes s) Anchored.Yes
-anchored_there s e =
-    let front = if has_unanchored s.start_kind then Anchored.No ∷ [] else [] in
-    let second = if has_anchored s.start_kind then Anchored.Yes ∷ [] else [] in
-    let one = Contains-here Anchored.Yes [] in
-    let here : Contains second Anchored.Yes
-    = subst (λ v. Contains (if v then Anchored.Yes ∷ [] else []) Anchored.Yes) (sym e) one in
-    Contains-append_left (front ++ second) (pattern_start_modes s.pattern_starts) Anchored.Yes
-    (Contains-append_right front second Anchored.Yes here)
+anchored_there s e = search rules
 
 modes_from : (n base k : ℕ) → k < n
     → Contains (map (λ i. Anchored.Pattern i) (range_with_len base n)) (Anchored.Pattern (base + k))
 modes_from zero base k h = absurd (omega arith)
-modes_from (suc n) base zero h =
-    let here : base ≡ base + 0 = omega arith in
-    subst (λ i. Contains (map (λ j. Anchored.Pattern j) (range_with_len base (suc n))) (Anchored.Pattern i)) here
-    (Contains-here (Anchored.Pattern base) (map (λ j. Anchored.Pattern j) (range_with_len (base + 1) n)))
+modes_from (suc n) base zero h = grind (arith, common_steps)
 modes_from (suc n) base (suc k) h =
     let later = map (λ j. Anchored.Pattern j) (range_with_len (base + 1) n) in
     let place : base + 1 + k ≡ base + suc k = omega arith in
@@ -104,8 +83,7 @@ module _ {R S : Type 0} {m : Machine R} {n : Machine S} {In : R → Type 0} {On 
     (labels : SameLabels (Contains (table_modes r)) m n) where
   there_alike : (mode : Anchored) (start : Start) → Contains (table_modes r) mode
       → Alike m n In On (m.entry mode start) (n.entry mode start)
-  there_alike mode start c =
-      record { inside = left.inside mode start; within = right.inside mode start; labels = labels mode c start }
+  there_alike mode start c = search rules
 
   pattern_alike : (k : ℕ) (start : Start) (o : Option ℕ) → r.pattern_starts ≡ o → is_some o ≡ true
       → Alike m n In On (m.entry (Anchored.Pattern k) start) (n.entry (Anchored.Pattern k) start)

@@ -1,6 +1,7 @@
 -- What is reached from a row without reading gives what the row gives.
-use Rattle.std.proofs.Common.{◌≡◌, ℕ, zero, suc, true, false, if◌then◌else◌, Option, None, List, [], ◌∷◌, refl, ap, ap₂}
-use Rattle.std.proofs.Common.{sym, ◌∙◌, subst}
+use Rattle.std.proofs.Common.{arith, ◌≡◌, ℕ, zero, suc, true, false, if◌then◌else◌, Option, None, List, [], ◌∷◌, refl}
+use Rattle.std.proofs.Common.{ap, ap₂, sym, ◌∙◌, subst}
+use Rattle.std.proofs.lemmas.Grind.{common_steps}
 use Rattle.std.specs.Option.{option_or}
 use Rattle.std.specs.List.{flat_map, AllByRecursion as Every}
 use Rattle.rx_spec.specs.Looks.{Reading, holds_at}
@@ -35,15 +36,8 @@ module _ (rows : List Row) (pass : Passing) where
   row_ready : (reached : ℕ → List ℕ) (q : ℕ) (row : Row) → row_at rows q ≡ row → ((p : ℕ) → AllReady (reached p))
       → AllReady (reach_by pass reached q row)
   row_ready reached q (Row.Bytes set next) e h = (subst (IsReady pass) (sym e) tt, tt)
-  row_ready reached q (Row.Split first second) e h =
-      every-append (λ p. IsReady pass (row_at rows p)) (reached first) (reached second) (h first) (h second)
-  row_ready reached q (Row.Look look next) e h = by_pass pass refl
-    where
-      by_pass : (how : Passing) → pass ≡ how → AllReady (look_reach how look q (reached next))
-      by_pass Passing.Standing is =
-          (subst (IsReady pass) (sym e) (subst (λ p. IsReady p (Row.Look look next)) (sym is) tt), tt)
-      by_pass (Passing.Tested holds) is =
-          elim (holds look) as (λ v. AllReady (if v then reached next else [])) [ true ↦ h next | false ↦ tt ]
+  row_ready reached q (Row.Split first second) e h = grind (arith, common_steps, every-append)
+  row_ready reached q (Row.Look look next) e h = grind (arith, common_steps)
   row_ready reached q (Row.Match pattern) e h = (subst (IsReady pass) (sym e) tt, tt)
   row_ready reached q Row.Fail e h = tt
 
@@ -60,8 +54,7 @@ module _ (rows : List Row) (pass : Passing) where
 
   -- the rows of a closed list are ready
   pub closed_ready : (qs : List ℕ) → AllReady (firsts (flat_map (λ q. closure rows pass q) qs))
-  closed_ready qs =
-      fresh_every (λ p. IsReady pass (row_at rows p)) (flat_map (λ q. closure rows pass q) qs) [] (each_ready qs)
+  closed_ready qs = grind (arith, common_steps, fresh_every, each_ready)
 
 -- a test decides an assertion as it stands at a place
 abbrev pub DecidesAt : Reading → ℕ → Passing → Look → Type 0

@@ -1,5 +1,6 @@
 -- A forward search for the first end that it meets: nothing was cut before, so it tells the pattern of the least
 -- start from which some pattern ends there.
+use Rattle.std.proofs.lemmas.Grind.{common_steps}
 use Rattle.std.proofs.Common.{◌≡◌, ℕ, suc, zero, ◌+◌, ◌-◌, ◌<◌, ◌≤◌, ⊎_elim, Bool, true, false, ◌==◌, if◌then◌else◌}
 use Rattle.std.proofs.Common.{Option, Some, None, Ok, List, [], ◌∷◌, length, refl, ap, sym, ◌∙◌, subst, arith}
 use Rattle.std.proofs.lemmas.List.{map-id}
@@ -13,7 +14,7 @@ use Rattle.rx_spec.specs.Queries.{Anchored, is_anchored, reading, HalfMatch, Mat
 use Rattle.rx_spec.specs.Found.{first_of}
 use Rattle.rx_spec.specs.Machines.{label_of}
 use Rattle.rx_spec.specs.States.{State}
-use Rattle.rx_spec.specs.Builds.{Node, power, build_settings}
+use Rattle.rx_spec.specs.Builds.{power, build_settings}
 use Rattle.rx_spec.specs.HalfSearches.{HalfAnswer, at_label, last_match}
 use Rattle.rx_spec.specs.Plans.{plan_build}
 use Rattle.rx_spec.specs.declared.Direction.{Direction}
@@ -22,8 +23,8 @@ use Rattle.lemmas_walks.proofs.HalfSearches.{Begun, half_begun, told_same, error
 use Rattle.lemmas_walks.proofs.Ranges.{first_in_range, range_first_at}
 use Rattle.lemmas_walks.proofs.Reaches.{reaches_sound, reaches_lie}
 use Rattle.lemmas_walks.proofs.ReadUnits.{All-got, unit_at, units_from, units_from-zero, units_from-suc}
-use Rattle.lemmas_walks.proofs.Walking.{Dead, Quits, Steps, leads, state_walk, walk-nil}
-use Rattle.lemmas_walks.proofs.Walking.{walk_dead, walk_quits, walk_steps}
+use Rattle.lemmas_walks.proofs.Walking.{Dead, Quits, Steps, leads, state_walk, walk-nil, walk_dead, walk_quits}
+use Rattle.lemmas_walks.proofs.Walking.{walk_steps}
 use Rattle.rx_meaning.specs.Mirrored.{start_if, start_to_end, least_start}
 use Rattle.rx_meaning.proofs.FirstSuccess.{first_of-alike, first_of-map}
 use Rattle.rx_meaning.proofs.Scan.{Scan, read_in, StandsAt, step_at, step_stands, Asked, scan_of}
@@ -68,9 +69,7 @@ module _ (c : Scan) where
       → state_walk c.build Direction.Forward true s i None (units_from (read_in c) i n) ≡ Ok (Some h)
       → (i ≤ h.offset) × (tells c s i h.offset ≡ Some h.pattern)
   first_told zero i s h at w =
-      absurd (none-some h (told_same None (Some h)
-      (sym (ap (state_walk c.build Direction.Forward true s i None) (units_from-zero (read_in c) i)
-      ∙ walk-nil (power c.build) Direction.Forward true (Node.Running s) i None) ∙ w)))
+      grind (arith, common_steps, none-some, told_same, state_walk, units_from-zero, read_in, walk-nil)
   first_told (suc n) i s h at w =
       let unit = unit_at (read_in c) i in
       let units = units_from (read_in c) (i + 1) n in
@@ -130,15 +129,7 @@ module _ (a : Asked) (end : ℕ) where
       of_pattern (Some e) = ends_exactly end k (forward_ends p e)
 
   one_reached : (p k v : ℕ) → one p k ≡ Some v → Reached a end p v
-  one_reached p k v e =
-      option_and_then_some (λ x. if list_any (λ j. j == end) (forward_ends p x) then Some k else None)
-      (slice_get a.expressions k) v (sym (one_is p k) ∙ e)
-      (λ x got is. let both = cond_some (list_any (λ j. j == end) (forward_ends p x)) k v is in
-      let found : Reached a end p v = record {
-        expression = x;
-        numbered = ap (slice_get a.expressions) (sym both.1) ∙ got;
-        matches = any_end end (forward_ends p x) both.0;
-      } in found)
+  one_reached p k v e = grind (arith, common_steps, option_and_then_some, one_is, cond_some, any_end)
 
   every_reached : (p v : ℕ) → every p ≡ Some v → Reached a end p v
   every_reached p v e =

@@ -1,4 +1,5 @@
 -- Where an expression must begin with the text's edge, it matches nowhere else.
+use Rattle.std.proofs.lemmas.Grind.{common_steps}
 use Rattle.std.proofs.Common.{◌≡◌, ℕ, zero, suc, ◌-◌, ◌<◌, ◌≤◌, Bool, true, false, ◌==◌, ◌&&◌, ◌||◌, is_none, Option}
 use Rattle.std.proofs.Common.{Some, None, if◌then◌else◌, List, [], ◌∷◌, ◌++◌, length, refl, ap, ap₂, sym, subst, arith}
 use Rattle.std.proofs.Common.{⊎_elim}
@@ -101,10 +102,7 @@ pub edge_ends : (r : Reading) (e : Expression) → IsLoopSafe e → begins_with_
 unfolding ends begins_with_edge rounds
 edge_ends r Expression.Empty safe e i above within = absurd (true≢false (sym e))
 edge_ends r (Expression.Class set) safe e i above within = absurd (true≢false (sym e))
-edge_ends r (Expression.Look look) safe e i above within =
-    let fails = edge_fails r.direction look r.line_terminator (before r.units i) (after r.units i) e
-    (some_before r.units i above within) in
-    ap (λ v. if v then i ∷ [] else []) fails
+edge_ends r (Expression.Look look) safe e i above within = grind (arith, common_steps, edge_fails, some_before)
 edge_ends r (Expression.Concat a b) safe e i above within =
     ⊎_elim
     (λ (h : begins_with_edge r.direction a ≡ true).

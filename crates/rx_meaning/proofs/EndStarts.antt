@@ -1,10 +1,11 @@
 -- Where the match begins of which a forward search told the end: then the joined search answers that match.
-use Rattle.std.proofs.Common.{◌≡◌, ℕ, ⊎_elim, Bool, true, false, ◌||◌, ◌==◌, Some, Ok, refl, ap, sym, ◌∙◌, arith}
+use Rattle.std.proofs.lemmas.Grind.{common_steps}
+use Rattle.std.proofs.Common.{◌≡◌, ℕ, Bool, true, false, Some, Ok, refl, arith}
 use Rattle.std.proofs.lemmas.Bool.{eqb-true, eq-eqb, or_cases, or_parts}
 use Rattle.rx_spec.specs.Queries.{Anchored, is_anchored, HalfMatch}
 use Rattle.rx_spec.specs.Nfas.{is_always_start_anchored}
 use Rattle.rx_spec.specs.HalfSearches.{HalfAnswer}
-use Rattle.rx_spec.specs.Joining.{match_at, with_start, with_end}
+use Rattle.rx_spec.specs.Joining.{match_at, with_end}
 use Rattle.rx_spec.specs.Plans.{plan_nfa, plan_build}
 use Rattle.rx_spec.specs.declared.Direction.{Direction}
 use Rattle.lemmas_walks.proofs.Firsts.{by_test}
@@ -43,20 +44,4 @@ pub answered : (a : Asked) (end : HalfMatch) → half a Direction.Forward ≡ Ok
     → with_end (build_half_search (plan_build a.plan Direction.Reverse a.expressions) Direction.Reverse) (always a)
     a.query (Ok (Some end)) ≡ match_at end.pattern b.start end.offset
 answered a end told b =
-    let q = a.query in
-    let is_match = b.is_match in
-    let here : b.start ≡ q.start → match_at end.pattern q.start end.offset ≡ match_at end.pattern b.start end.offset
-    = λ s. ap (λ (p : ℕ). match_at end.pattern p end.offset) (sym s) in
-    by_test ((end.offset == q.start) || is_anchored q.mode || always a)
-    (λ e. rw e (here (⊎_elim
-    (λ (f : ((end.offset == q.start) || is_anchored q.mode) ≡ true). ⊎_elim
-    (λ (x : (end.offset == q.start) ≡ true). let same = eqb-true end.offset q.start x in
-    let low = is_match.low in let order = is_match.order in omega arith)
-    b.anchored (or_cases (end.offset == q.start) (is_anchored q.mode) f))
-    b.edge (or_cases ((end.offset == q.start) || is_anchored q.mode) (always a) e))))
-    (λ e. rw e (let parts = or_parts ((end.offset == q.start) || is_anchored q.mode) (always a) e in
-    let front = or_parts (end.offset == q.start) (is_anchored q.mode) parts.0 in
-    let same = eq-eqb end.pattern end.pattern refl in
-    ap (with_start end)
-    (start_of_end_holds a.plan a.expressions q end a.safe a.bytes a.inside told
-    ∙ ap Ok (b.least (not_anchored q.mode front.1) parts.1)) ∙ rw same refl))
+    grind (arith, common_steps, by_test, eqb-true, or_cases, or_parts, eq-eqb, start_of_end_holds, not_anchored)

@@ -1,6 +1,7 @@
 -- First occurrences keep the first success.
-use Rattle.std.proofs.Common.{◌≡◌, ℕ, Bool, true, false, ◌==◌, if◌then◌else◌, Option, Some, None, List, [], ◌∷◌, refl}
-use Rattle.std.proofs.Common.{sym, ◌∙◌}
+use Rattle.std.proofs.Common.{arith, ◌≡◌, ℕ, Bool, true, false, ◌==◌, if◌then◌else◌, Option, Some, None, List, [], ◌∷◌}
+use Rattle.std.proofs.Common.{refl}
+use Rattle.std.proofs.lemmas.Grind.{common_steps}
 use Rattle.std.proofs.lemmas.List.Elements.{All-contains, All-from_recursion}
 use Rattle.std.specs.Option.{option_or}
 use Rattle.std.specs.List.{list_any, AllByRecursion as Every}
@@ -45,12 +46,8 @@ module _ {V : Type 0} (f : ℕ → Option V) where
       → option_or v (first_of f (if known then fresh seen xs else (x ∷ fresh (x ∷ seen) xs)))
       ≡ option_or v (option_or (f x) (first_of f xs))
   unfolding first_of
-  fresh_at x xs seen v h ih true e =
-      ih seen v h ∙ sym (seen_has (λ y. Absorbed v (f y)) x seen e h (first_of f xs))
-  fresh_at x xs seen v h ih false e =
-      sym (or_assoc v (f x) (first_of f (fresh (x ∷ seen) xs)))
-      ∙ ih (x ∷ seen) (option_or v (f x)) (absorbed-self v (f x), passed-more v (f x) seen h)
-      ∙ or_assoc v (f x) (first_of f xs)
+  fresh_at x xs seen v h ih true e = grind (arith, common_steps, seen_has)
+  fresh_at x xs seen v h ih false e = grind (arith, common_steps, or_assoc, absorbed-self, passed-more)
 
   fresh_keeps : (xs : List ℕ) → Keeps xs
   unfolding fresh first_of

@@ -1,13 +1,12 @@
 -- The forward half search for the last match tells what is found.
-use Rattle.std.proofs.Common.{◌≡◌, ℕ, suc, ◌+◌, ◌-◌, ◌<◌, ◌≤◌, true, false, if◌then◌else◌, Option, Some, None, Ok, List}
-use Rattle.std.proofs.Common.{[], ◌∷◌, length, refl, ap, sym, ◌∙◌, arith, ⊎_elim}
+use Rattle.std.proofs.Common.{rules, ◌≡◌, ℕ, suc, ◌+◌, ◌-◌, ◌<◌, ◌≤◌, true, false, if◌then◌else◌, Option, Some, None}
+use Rattle.std.proofs.Common.{Ok, List, [], ◌∷◌, length, refl, ap, sym, ◌∙◌, arith, ⊎_elim}
+use Rattle.std.proofs.lemmas.Grind.{common_steps}
 use Rattle.std.proofs.lemmas.Bool.{le-leb, lt-leb}
 use Rattle.std.proofs.lemmas.List.{map-id}
-use Rattle.std.specs.Prelude.{slice_get}
-use Rattle.std.specs.Option.{option_or, option_map, option_and_then}
+use Rattle.std.specs.Option.{option_or, option_map}
 use Rattle.std.specs.List.{range_with_len}
-use Rattle.rx_spec.specs.Expressions.{Expression}
-use Rattle.rx_spec.specs.Queries.{Anchored, reading, HalfMatch}
+use Rattle.rx_spec.specs.Queries.{Anchored, HalfMatch}
 use Rattle.rx_spec.specs.Found.{first_of, found}
 use Rattle.rx_spec.specs.Nfas.{is_always_start_anchored}
 use Rattle.rx_spec.specs.Plans.{plan_nfa, plan_build}
@@ -36,9 +35,7 @@ past_worth end k i h = ap (λ v. if v then Some (record { pattern = k; offset = 
 -- a label's worth is what it tells
 label_told : (end i : ℕ) (label : List ℕ) → i ≤ end → label_worth (within_end end) i label ≡ label_tells label i
 label_told end i [] h = first_of-nil (λ (k : ℕ). within_end end k i)
-label_told end i (k ∷ ks) h =
-    first_of-cons (λ k. within_end end k i) k ks
-    ∙ ap (λ v. option_or v (label_worth (within_end end) i ks)) (within_worth end k i h)
+label_told end i (k ∷ ks) h = grind (arith, common_steps, first_of-cons, within_end, label_worth, within_worth)
 
 module _ (a : Asked) where
   abbrev c : Scan
@@ -74,11 +71,7 @@ module _ (a : Asked) where
   t = a.plan.line_terminator
 
   all_is : (p : ℕ) → all_worth a Direction.Forward worth p ≡ all_found a.expressions t a.query p
-  all_is p =
-      let r = reading Direction.Forward t a.query.haystack in
-      first_of-alike (one_worth a Direction.Forward worth p) (pattern_found a.expressions t a.query p)
-      (range_with_len 0 (length a.expressions))
-      (λ k. ap (λ es. option_and_then (end_worth r a.query.end p k) (slice_get es k)) (map-id a.expressions))
+  all_is p = search (rules, first_of-alike, one_worth, pattern_found, end_worth, map-id)
 
   -- past the span there is nothing
   nothing_past : (p : ℕ) → a.query.end < p → p ≤ size → all_worth a Direction.Forward worth p ≡ None
@@ -90,22 +83,12 @@ module _ (a : Asked) where
   nothing_after : is_always_start_anchored (plan_nfa a.plan Direction.Forward a.expressions) ≡ true
       → (p : ℕ) → 0 < p → p ≤ size → all_found a.expressions t a.query p ≡ None
   nothing_after always p above within =
-      first_of-none (pattern_found a.expressions t a.query p) (range_with_len 0 (length a.expressions))
-      (λ k. of_pattern k (slice_get a.expressions k) refl)
-    where
-      of_pattern : (k : ℕ) (e : Option Expression) → slice_get a.expressions k ≡ e
-          → option_and_then (end_worth (reading Direction.Forward t a.query.haystack) a.query.end p k) e ≡ None
-      of_pattern k None got = refl
-      of_pattern k (Some e) got =
-          ap (first_of (λ j. worth k j)) (edge_alone a always k p e got above within)
-          ∙ first_of-nil (λ (j : ℕ). worth k j)
+      grind (arith, common_steps, first_of-none, pattern_found, end_worth, edge_alone, first_of-nil)
 
   start_found : a.query.start ≤ a.query.end → (mode : Anchored)
       → mode_worth a Direction.Forward worth mode a.query.start ≡ mode_found a.expressions t a.query mode
   start_found order Anchored.Yes = all_is a.query.start
-  start_found order (Anchored.Pattern k) =
-      ap (λ es. option_and_then (end_worth (reading Direction.Forward t a.query.haystack) a.query.end a.query.start k)
-      (slice_get es k)) (map-id a.expressions)
+  start_found order (Anchored.Pattern k) = search (rules, end_worth, map-id)
   start_found order Anchored.No =
       let inside = a.inside in
       let start = a.query.start in

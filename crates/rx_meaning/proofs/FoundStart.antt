@@ -1,6 +1,7 @@
 -- Where the match begins whose end is the preferred one: where what is found begins.
-use Rattle.std.proofs.Common.{◌≡◌, ℕ, ◌+◌, ◌-◌, ◌<◌, ◌≤◌, ⊎_elim, true, ◌&&◌, ◌==◌, Option, Some, None, List, length}
-use Rattle.std.proofs.Common.{refl, ap, ◌∙◌, subst, arith}
+use Rattle.std.proofs.lemmas.Grind.{common_steps}
+use Rattle.std.proofs.Common.{◌≡◌, ℕ, ◌+◌, ◌-◌, ◌<◌, ◌≤◌, true, ◌&&◌, ◌==◌, Option, Some, None, List, length, refl, ap}
+use Rattle.std.proofs.Common.{◌∙◌, arith}
 use Rattle.std.proofs.lemmas.Bool.{and_parts, cases_lt, eqb-true, le-leb, leb-true, lt-ltb, false_from_ne_true}
 use Rattle.std.proofs.lemmas.Option.{slice_get-get_or}
 use Rattle.std.specs.Prelude.{get_or, Contains, nat_le, nat_lt, if◌then◌else◌}
@@ -11,7 +12,6 @@ use Rattle.rx_spec.specs.Ends.{ends}
 use Rattle.rx_spec.specs.Queries.{Anchored, Query, Match, is_anchored, reading, HalfMatch}
 use Rattle.rx_spec.specs.Found.{admits, admitted, first_of, candidate}
 use Rattle.rx_spec.specs.declared.Direction.{Direction}
-use Rattle.lemmas_walks.proofs.Firsts.{Contains-nil}
 use Rattle.lemmas_walks.proofs.FoundLaws.{IsFound, candidate_none, find_is}
 use Rattle.lemmas_walks.proofs.Ranges.{range_none, range_first_at}
 use Rattle.lemmas_walks.proofs.Reaches.{reaches_sound, reaches_lie}
@@ -29,11 +29,7 @@ admits_start (Anchored.Pattern pattern) start p k a e = eqb-true p start (and_pa
 
 admitted_anywhere : (q : Query) (n p k : ℕ) → q.mode ≡ Anchored.No → q.start ≤ p → p ≤ q.end → k < n
     → admitted q n p k ≡ true
-admitted_anywhere q n p k m a b c =
-    let x = le-leb q.start p a in
-    let y = le-leb p q.end b in
-    let z = lt-ltb k n c in
-    rw (x, y, z, m) refl
+admitted_anywhere q n p k m a b c = grind (arith, common_steps, le-leb, lt-ltb)
 
 module _ (a : Asked) (m : Match) (is : IsFound a.expressions a.plan.line_terminator a.query m) where
   abbrev e : Expression
@@ -44,9 +40,7 @@ module _ (a : Asked) (m : Match) (is : IsFound a.expressions a.plan.line_termina
 
   -- its end is the first of its ends that lies within the span
   ends_there : Contains (forward_ends m.start e) m.end × (m.end ≤ a.query.end)
-  ends_there =
-      let first = find_is (λ j. nat_le j a.query.end) (forward_ends m.start e) m.end is.matches.end in
-      (first.0, leb-true m.end a.query.end first.1)
+  ends_there = grind (arith, common_steps, find_is, leb-true)
 
   in_order : m.start ≤ m.end
   in_order =
@@ -105,15 +99,7 @@ module _ (a : Asked) (m : Match) (is : IsFound a.expressions a.plan.line_termina
 
   -- where one start serves all searches, it begins at the edge
   at_edge : always a ≡ true → m.start ≡ a.query.start
-  at_edge edge =
-      let low = is.low in
-      let high = is.high in
-      let inside = a.inside in
-      ⊎_elim
-      (λ (above : 0 < m.start). absurd (Contains-nil m.end (subst (λ xs. Contains xs m.end)
-      (edge_alone a edge m.pattern m.start e is.matches.there above (omega arith)) ends_there.0)))
-      (λ (zero : m.start ≤ 0). omega arith)
-      (cases_lt 0 m.start)
+  at_edge edge = grind (arith, common_steps, edge_alone, cases_lt)
 
   pub found_begins : Begins a m.pattern m.end
   found_begins = record {

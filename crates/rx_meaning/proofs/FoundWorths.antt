@@ -1,7 +1,8 @@
 -- What is found, as a first success of worths: of the places where a match may begin, and of the patterns there.
-use Rattle.std.proofs.Common.{◌≡◌, ℕ, zero, suc, ◌+◌, ◌-◌, ◌<◌, ◌≤◌, Bool, true, false, ◌==◌, ◌&&◌, nat_le, cond}
+use Rattle.std.proofs.Common.{rules, ◌≡◌, ℕ, zero, suc, ◌+◌, ◌-◌, ◌<◌, ◌≤◌, Bool, true, false, ◌==◌, ◌&&◌, nat_le, cond}
 use Rattle.std.proofs.Common.{if◌then◌else◌, find, Option, Some, None, List, [], ◌∷◌, length, slice_get, refl, ap, ap₂}
 use Rattle.std.proofs.Common.{sym, ◌∙◌, arith}
+use Rattle.std.proofs.lemmas.Grind.{common_steps}
 use Rattle.std.proofs.lemmas.Bool.{le-leb, lt-ltb, eq-eqb, ne_eqb, eqb-true, eqb-false, and_left}
 use Rattle.std.proofs.lemmas.Option.{slice_get_past}
 use Rattle.std.specs.Option.{option_or, option_map, option_and_then}
@@ -10,7 +11,7 @@ use Rattle.rx_spec.specs.Looks.{Reading}
 use Rattle.rx_spec.specs.Expressions.{Expression}
 use Rattle.rx_spec.specs.Ends.{ends}
 use Rattle.rx_spec.specs.Queries.{Anchored, Query, reading, HalfMatch}
-use Rattle.rx_spec.specs.Found.{admits, admitted, first_of, end_within, candidate, found}
+use Rattle.rx_spec.specs.Found.{admits, admitted, first_of, end_within, found}
 use Rattle.rx_spec.specs.declared.Direction.{Direction}
 use Rattle.lemmas_walks.proofs.Firsts.{by_test}
 use Rattle.lemmas_walks.proofs.Ranges.{range_none, range_alike, range_push}
@@ -83,16 +84,7 @@ module _ (es : List Expression) (t : ℕ) (q : Query) where
 
   found_worth : option_map end_of (found es t q)
       ≡ first_of admitted_found (range_with_len q.start (q.end + 1 - q.start))
-  found_worth =
-      let n = length es in
-      let span = range_with_len q.start (q.end + 1 - q.start) in
-      let all = λ (p : ℕ). first_of (candidate es t q p) (range_with_len 0 n) in
-      first_of-map end_of all span
-      ∙ first_of-alike (λ p. option_map end_of (all p)) admitted_found span
-      (λ p. first_of-map end_of (candidate es t q p) (range_with_len 0 n)
-      ∙ first_of-alike (λ k. option_map end_of (candidate es t q p k))
-      (λ k. if admitted q n p k then pattern_found p k else None) (range_with_len 0 n)
-      (λ k. candidate_worth r q.end k p (admitted q n p k) (slice_get es k)))
+  found_worth = search (rules, first_of-map, first_of-alike, candidate_worth, slice_get)
 
   -- in the span the mode alone decides
   abbrev mode_found_at : Anchored → ℕ → Option HalfMatch
@@ -101,24 +93,12 @@ module _ (es : List Expression) (t : ℕ) (q : Query) where
 
   admitted_by : (p k : ℕ) → q.start ≤ p → p ≤ q.end → k < length es
       → admitted q (length es) p k ≡ admits q.mode q.start p k
-  admitted_by p k low high within =
-      let a = le-leb q.start p low in
-      let b = le-leb p q.end high in
-      let c = lt-ltb k (length es) within in
-      rw (a, b, c) refl
+  admitted_by p k low high within = grind (arith, common_steps, le-leb, lt-ltb)
 
   by_mode : q.start ≤ q.end → (mode : Anchored) → q.mode ≡ mode
       → option_map end_of (found es t q)
       ≡ first_of (mode_found_at mode) (range_with_len q.start (suc (q.end - q.start)))
-  by_mode order mode is =
-      let long : q.end + 1 - q.start ≡ suc (q.end - q.start) = omega arith in
-      found_worth ∙ ap (λ n. first_of admitted_found (range_with_len q.start n)) long
-      ∙ range_alike admitted_found (mode_found_at mode) q.start (suc (q.end - q.start))
-      (λ i l. range_alike (λ k. if admitted q (length es) (q.start + i) k then pattern_found (q.start + i) k else None)
-      (λ k. if admits mode q.start (q.start + i) k then pattern_found (q.start + i) k else None) 0 (length es)
-      (λ k m. ap (λ v. if v then pattern_found (q.start + i) (0 + k) else None)
-      (admitted_by (q.start + i) (0 + k) (omega arith) (omega arith) (omega arith)
-      ∙ ap (λ x. admits x q.start (q.start + i) (0 + k)) is)))
+  by_mode order mode is = grind (arith, common_steps, found_worth, range_alike, admitted_by)
 
   -- at one place alone
   one_place : (f : ℕ → Option HalfMatch) → ((i : ℕ) → 0 < i → f (q.start + i) ≡ None)
@@ -131,11 +111,7 @@ module _ (es : List Expression) (t : ℕ) (q : Query) where
 
   not_there : (mode : Anchored) (i : ℕ) → ((p k : ℕ) → (p == q.start) ≡ false → admits mode q.start p k ≡ false)
       → 0 < i → mode_found_at mode (q.start + i) ≡ None
-  not_there mode i refuses above =
-      let other : (q.start + i == q.start) ≡ false = ne_eqb (q.start + i) q.start (λ e. omega arith) in
-      first_of-none (λ k. if admits mode q.start (q.start + i) k then pattern_found (q.start + i) k else None)
-      (range_with_len 0 (length es))
-      (λ k. ap (λ v. if v then pattern_found (q.start + i) k else None) (refuses (q.start + i) k other))
+  not_there mode i refuses above = grind (arith, common_steps, ne_eqb, first_of-none)
 
   -- What is found in each mode.
   abbrev pub mode_found : Anchored → Option HalfMatch
@@ -161,6 +137,4 @@ module _ (es : List Expression) (t : ℕ) (q : Query) where
       (λ past. ap (option_and_then (end_worth r q.end q.start c)) (slice_get_past es c past))
 
   pub found_done : q.end < q.start → option_map end_of (found es t q) ≡ None
-  found_done past =
-      let none : q.end + 1 - q.start ≡ 0 = omega arith in
-      found_worth ∙ ap (λ n. first_of admitted_found (range_with_len q.start n)) none ∙ first_of-nil admitted_found
+  found_done past = grind (arith, common_steps, found_worth, first_of-nil)

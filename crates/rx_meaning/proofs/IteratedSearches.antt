@@ -1,7 +1,7 @@
 -- Two searches that answer alike from each start give the same matches one after another.
-use Rattle.std.proofs.Common.{◌≡◌, ◌+◌, ◌-◌, ℕ, zero, suc, if◌then◌else◌, Option, Some, None, Ok, Err, ◌∷◌, refl, ap}
-use Rattle.std.proofs.Common.{◌∙◌}
-use Rattle.rx_spec.specs.Iterating.{FoundMatches, is_repeat, unless_repeat, and_then, iterate_from, iterate}
+use Rattle.std.proofs.Common.{arith, ◌≡◌, ◌-◌, ℕ, zero, suc, Option, Some, None, Ok, Err, refl, ap, ◌∙◌}
+use Rattle.std.proofs.lemmas.Grind.{common_steps}
+use Rattle.rx_spec.specs.Iterating.{FoundMatches, unless_repeat, and_then, iterate_from, iterate}
 use Rattle.rx_spec.specs.Joining.{Answer}
 use Rattle.rx_spec.specs.Queries.{Query, Match}
 
@@ -10,16 +10,14 @@ from q start = record q { start = start }
 
 and_then_alike : (o : Answer) (f g : Match → FoundMatches) → ((m : Match) → f m ≡ g m) → and_then o f ≡ and_then o g
 and_then_alike (Ok None) f g e = refl
-and_then_alike (Ok (Some m)) f g e =
-    ap (λ (others : FoundMatches). record { matches = m ∷ others.matches; error = others.error }) (e m)
+and_then_alike (Ok (Some m)) f g e = grind (arith, common_steps)
 and_then_alike (Err error) f g e = refl
 
 -- the second search may ask for something else than the first
 module _ (f g : Query → Answer) (q r : Query) (alike : (start : ℕ) → f (from q start) ≡ g (from r start)) where
   unrepeated_alike : (start : ℕ) (last_end : Option ℕ) (answer : Answer)
       → unless_repeat f (from q start) last_end answer ≡ unless_repeat g (from r start) last_end answer
-  unrepeated_alike start last_end (Ok (Some m)) =
-      ap (λ (again : Answer). if is_repeat last_end m then again else Ok (Some m)) (alike (start + 1))
+  unrepeated_alike start last_end (Ok (Some m)) = grind (arith, common_steps)
   unrepeated_alike start last_end (Ok None) = refl
   unrepeated_alike start last_end (Err error) = refl
 
@@ -37,7 +35,4 @@ module _ (f g : Query → Answer) (q r : Query) (alike : (start : ℕ) → f (fr
       (λ m. iterate_from_alike n m.end (Some m.end))
 
   pub iterate_alike : q.start ≡ r.start → q.end ≡ r.end → iterate f q ≡ iterate g r
-  iterate_alike start end =
-      ap (λ n. iterate_from f n q None) (ap (λ e. e + 2 - q.start) end ∙ ap (λ s. r.end + 2 - s) start)
-      ∙ ap (λ s. iterate_from f (r.end + 2 - r.start) (from q s) None) start
-      ∙ iterate_from_alike (r.end + 2 - r.start) r.start None
+  iterate_alike start end = grind (arith, common_steps, iterate_from_alike)

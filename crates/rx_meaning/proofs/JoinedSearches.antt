@@ -1,5 +1,5 @@
 -- What the two half searches answer together: what is found, and a match for each end that is met.
-use Rattle.std.proofs.Common.{◌≡◌, ℕ, Bool, true, false, Option, Some, None, Ok, Err, refl, ap, sym, ◌∙◌, subst}
+use Rattle.std.proofs.Common.{rules, ◌≡◌, ℕ, false, Option, Some, None, Ok, Err, refl, ap, sym, ◌∙◌}
 use Rattle.std.proofs.lemmas.Option.{none-some, same_Some}
 use Rattle.std.specs.Option.{option_map}
 use Rattle.rx_spec.specs.Queries.{Query, Match, HalfMatch, MatchError}
@@ -46,14 +46,7 @@ module _ (a : Asked) where
 
   -- Where the match begins of each end that is told: the first that is met, or the preferred one.
   told_begins : (end : HalfMatch) → half a Direction.Forward ≡ Ok (Some end) → Begins a end.pattern end.offset
-  told_begins end e = by_flag a.query.earliest refl
-    where
-      by_flag : (flag : Bool) → a.query.earliest ≡ flag → Begins a end.pattern end.offset
-      by_flag true is = earliest_begins a end is e
-      by_flag false is =
-          let m = mapped end finds (told_found is (Some end) e) in
-          subst (λ (h : HalfMatch). Begins a h.pattern h.offset) (sym m.2)
-          (found_begins a m.0 (is_found a.expressions a.plan.line_terminator a.query m.0 m.1))
+  told_begins end e = search (rules, earliest_begins, mapped, told_found, found_begins, is_found)
 
   pub end_joined : (end : HalfMatch) → half a Direction.Forward ≡ Ok (Some end)
       → (start : ℕ) × (plan_search a.plan a.expressions a.query ≡ match_at end.pattern start end.offset)

@@ -1,4 +1,5 @@
 -- What a walk for the last match tells, where it is known what each state gives at each place.
+use Rattle.std.proofs.lemmas.Grind.{common_steps}
 use Rattle.std.proofs.Common.{◌≡◌, ℕ, zero, suc, ◌+◌, ◌≤◌, true, false, Option, None, Ok, List, [], ◌∷◌, refl, ap, sym}
 use Rattle.std.proofs.Common.{◌∙◌, subst, arith}
 use Rattle.std.specs.Option.{option_or}
@@ -39,12 +40,7 @@ module _ (c : Scan) (direction : Direction) (size limit : ℕ) (f : Foretold c d
       → option_or (f.tells (step_at c s i) (i + 1))
       (last_match (label_of (step_at c s i).label) (place_of direction size i) last)
       ≡ option_or (f.tells s i) last
-  stepped s i last at within =
-      let next = f.tells (step_at c s i) (i + 1) in
-      let offset = place_of direction size i in
-      let label = (step_at c s i).label in
-      ap (option_or next) (met label offset last) ∙ sym (or_assoc next (label_tells label offset) last)
-      ∙ ap (λ v. option_or v last) (sym (f.steps s i at within))
+  stepped s i last at within = grind (arith, common_steps, step_at, place_of, met, or_assoc)
 
   -- The walk tells what the state gives where it stands, or else the last match.
   pub walk_tells : (n i : ℕ) (s : State) (last h : Option HalfMatch) → i + n ≡ limit + 1 → StandsAt c s i

@@ -1,4 +1,5 @@
 -- What the starts of a plan's NFA give, by the mode of a search.
+use Rattle.std.proofs.lemmas.Grind.{common_steps}
 use Rattle.std.proofs.Common.{◌≡◌, ℕ, zero, suc, ◌+◌, ◌-◌, ◌<◌, ◌≤◌, Bool, true, false, if◌then◌else◌, Option, Some}
 use Rattle.std.proofs.Common.{List, [], ◌∷◌, ◌++◌, length, map, ap, sym, ◌∙◌, subst, arith, length-append}
 use Rattle.std.proofs.lemmas.Bool.{eqb-true, and_parts}
@@ -41,10 +42,7 @@ module _ (direction : Direction) (es : List Expression) where
   patterns_stand = stands-left (nfa_rows direction es) 0 (pattern_part es).rows (anchored_part es).rows front_stands
 
   anchored_stands : Stands (nfa_rows direction es) (length (pattern_part es).rows) (anchored_part es).rows
-  anchored_stands =
-      let place : 0 + length (pattern_part es).rows ≡ length (pattern_part es).rows = omega arith in
-      subst (λ b. Stands (nfa_rows direction es) b (anchored_part es).rows) place
-      (stands-right (nfa_rows direction es) 0 (pattern_part es).rows (anchored_part es).rows front_stands)
+  anchored_stands = grind (arith, common_steps, pattern_part, nfa_rows, anchored_part, stands-right, front_stands)
 
   unanchored_stands : Stands (nfa_rows direction es) (length (pattern_part es).rows + length (anchored_part es).rows)
       (unanchored_part direction es).rows
@@ -98,14 +96,19 @@ module _ {V : Type 0} (a : Asked) (direction : Direction) (worth : ℕ → ℕ �
       → given x nfa.start_anchored i ≡ all_worth i
   unfolding nfa_of
   anchored_gives i within =
-      let ps = pattern_part read in
-      let entry : ℕ → Option V = λ k. option_and_then (λ q. given x q i) (slice_get ps.entries k) in
-      let count : length ps.entries ≡ length a.expressions
-      = entries_count 0 0 read ∙ length-map a.expressions (read_as direction) in
-      start_of_all_gives x ps.entries (length ps.rows) (anchored_stands direction read) i
-      ∙ first_of-places (λ q. given x q i) ps.entries
-      ∙ ap (λ n. first_of entry (range_with_len 0 n)) count
-      ∙ first_of-alike entry (one_worth i) (range_with_len 0 (length a.expressions)) (λ k. pattern_gives k i within)
+      grind (
+        arith,
+        common_steps,
+        pattern_part,
+        given,
+        entries_count,
+        length-map,
+        start_of_all_gives,
+        anchored_stands,
+        first_of-places,
+        first_of-alike,
+        pattern_gives,
+      )
 
   lead_gives : (i : ℕ) → i ≤ length (in_order direction a.query.haystack)
       → list_all (begins_with_edge direction) read ≡ false

@@ -1,5 +1,6 @@
 -- What states give for exactly one place: which pattern, if any, matches up to it. A step keeps what later places
 -- are given, and its label's first pattern is what this place is given.
+use Rattle.std.proofs.lemmas.Grind.{common_steps}
 use Rattle.std.proofs.Common.{◌≡◌, ℕ, ◌+◌, ◌<◌, ◌==◌, ◌||◌, true, if◌then◌else◌, Option, Some, None, List, [], ◌∷◌}
 use Rattle.std.proofs.Common.{refl, ap, sym, ◌∙◌, subst, arith}
 use Rattle.std.proofs.lemmas.Bool.{eq-eqb, ne_eqb, eqb-true}
@@ -8,7 +9,7 @@ use Rattle.std.specs.Prelude.{slice_get, Contains, get_or}
 use Rattle.std.specs.Option.{option_or}
 use Rattle.std.specs.List.{list_any}
 use Rattle.rx_spec.specs.Found.{first_of}
-use Rattle.rx_spec.specs.States.{State, decided_rows}
+use Rattle.rx_spec.specs.States.{State}
 use Rattle.rx_spec.specs.Builds.{is_dead_state}
 use Rattle.lemmas_walks.proofs.Firsts.{by_test}
 use Rattle.lemmas_walks.proofs.ReadUnits.{unit_at}
@@ -53,8 +54,7 @@ end_any place xs (i, within, e) = list_any_at (λ j. j == place) xs i place with
 -- what a label is worth at its place is its first pattern
 label_exactly : (i : ℕ) (ks : List ℕ) → label_worth (exactly i) i ks ≡ slice_get ks 0
 label_exactly i [] = first_of-nil (λ (k : ℕ). exactly i k i)
-label_exactly i (k ∷ ks) =
-    first_of-cons (λ k. exactly i k i) k ks ∙ ap (λ v. option_or v (label_worth (exactly i) i ks)) (exactly_here i k)
+label_exactly i (k ∷ ks) = grind (arith, common_steps, first_of-cons, label_worth, exactly_here)
 
 module _ (c : Scan) where
   -- what a state gives for a place
@@ -62,21 +62,26 @@ module _ (c : Scan) where
   tells s i place = first_given (valued c (exactly place)) i s.rows
 
   pub dead_tells : (s : State) (i place : ℕ) → is_dead_state s ≡ true → tells s i place ≡ None
-  dead_tells s i place d =
-      ap (first_given (valued c (exactly place)) i) (dead_empty s d).0
-      ∙ first_of-nil (λ (q : ℕ). given (valued c (exactly place)) q i)
+  dead_tells s i place d = grind (arith, common_steps, first_given, valued, dead_empty, first_of-nil, given)
 
   pub tells_here : (s : State) (i : ℕ) → StandsAt c s i → slice_get (step_at c s i).label 0 ≡ tells s i i
   tells_here s i at =
-      let x = valued c (exactly i) in
-      let none : (q : ℕ) → given x q (i + 1) ≡ None
-      = λ q. given_none x q (i + 1) (λ k j low. exactly_other i k j (λ e. omega (arith, low, e))) in
-      label_head c.build.nfa c.build.kind s (unit_at (read_in c) i)
-      ∙ sym (label_exactly i (matched c.build.nfa.rows (decided_rows c.build.nfa (unit_at (read_in c) i) s)))
-      ∙ sym (step_here c (exactly i) i s none at)
+      grind (
+        arith,
+        common_steps,
+        valued,
+        given,
+        given_none,
+        exactly_other,
+        label_head,
+        unit_at,
+        read_in,
+        label_exactly,
+        matched,
+        step_here,
+      )
 
   pub tells_later : (s : State) (i place : ℕ) → StandsAt c s i → i < place
       → CutsNothing c.build.nfa c.build.kind s (unit_at (read_in c) i)
       → tells (step_at c s i) (i + 1) place ≡ tells s i place
-  tells_later s i place at h whole =
-      step_later c (exactly place) i s whole (λ k. exactly_other place k i (λ e. omega (arith, e, h))) at
+  tells_later s i place at h whole = grind (arith, common_steps, step_later, exactly_other)

@@ -1,11 +1,12 @@
 -- One start row serves anchored and unanchored searches exactly where every expression must begin with
 -- the text's edge.
+use Rattle.std.proofs.lemmas.Grind.{common_steps}
 use Rattle.std.proofs.Common.{◌≡◌, ℕ, suc, zero, ◌+◌, ◌-◌, ◌<◌, ◌≤◌, Bool, true, false, ◌==◌, Option, Some, None, List}
-use Rattle.std.proofs.Common.{[], ◌∷◌, ◌++◌, length, map, refl, arith, length-append}
+use Rattle.std.proofs.Common.{[], ◌∷◌, length, map, refl, arith, length-append}
 use Rattle.std.proofs.lemmas.Bool.{eq-eqb, ne_eqb}
 use Rattle.std.specs.List.{list_all, AllByRecursion as Every}
 use Rattle.rx_spec.specs.Expressions.{Expression}
-use Rattle.rx_spec.specs.Rows.{Row, Maker, chained, either, choice, copies, optional, loop, repeated, compile}
+use Rattle.rx_spec.specs.Rows.{Row, Maker, chained, either, copies, optional, repeated, compile}
 use Rattle.rx_spec.specs.Nfas.{patterns_from, start_of_all, lead_in, nfa_of, read_as, is_always_start_anchored}
 use Rattle.rx_spec.specs.Edge.{begins_with_edge}
 use Rattle.rx_spec.specs.declared.Direction.{Direction}
@@ -15,25 +16,10 @@ record Enters (maker : Maker) : Type 0 where
   within : (base next : ℕ) → next < base → (maker base next).entry < base + length (maker base next).rows
 
 chained_enters : {first second : Maker} → Enters first → Enters second → Enters (chained first second)
-chained_enters {first} {second} f s = record {
-  within = λ base next h.
-      let after = second base next in
-      let before = first (base + length after.rows) after.entry in
-      omega (
-        arith,
-        f.within (base + length after.rows) after.entry (s.within base next h),
-        length-append after.rows before.rows,
-      );
-}
+chained_enters {first} {second} f s = grind (arith, common_steps, length-append)
 
 either_enters : (first second : Maker) → Enters (either first second)
-either_enters first second = record {
-  within = λ base next h.
-      let a = first base next in
-      let b = second (base + length a.rows) next in
-      let last : List Row = Row.Split a.entry b.entry ∷ [] in
-      omega (arith, length-append (a.rows ++ b.rows) last, length-append a.rows b.rows);
-}
+either_enters first second = grind (arith, common_steps, length-append)
 
 copies_enter : {body : Maker} → Enters body → (n : ℕ) → Enters (copies n body)
 unfolding copies
@@ -43,19 +29,11 @@ copies_enter h (suc n) = let all = chained_enters (copies_enter h n) h in record
 optional_enters : (greedy : Bool) (body : Maker) (n : ℕ) → Enters (optional greedy n body)
 unfolding optional
 optional_enters greedy body zero = record { within = λ base next l. omega arith }
-optional_enters greedy body (suc n) = record {
-  within = λ base next l.
-      let inner = optional greedy n body base next in
-      let round = body (base + length inner.rows) inner.entry in
-      let last : List Row = choice greedy round.entry next ∷ [] in
-      omega (arith, length-append (inner.rows ++ round.rows) last, length-append inner.rows round.rows);
-}
+optional_enters greedy body (suc n) = grind (arith, common_steps, length-append)
 
 repeated_enters : (least : ℕ) (most : Option ℕ) (greedy : Bool) {body : Maker} → Enters body
     → Enters (repeated least most greedy body)
-repeated_enters least None greedy {body} h =
-    let loops : Enters (loop greedy body) = record { within = λ base next l. omega arith } in
-    chained_enters (copies_enter h least) loops
+repeated_enters least None greedy {body} h = grind (arith, common_steps, chained_enters, copies_enter)
 repeated_enters least (Some most) greedy {body} h =
     chained_enters (copies_enter h least) (optional_enters greedy body (most - least))
 
@@ -86,10 +64,7 @@ start_of_all_enters : (base : ℕ) (entries : List ℕ) → Every (λ entry. ent
 unfolding start_of_all
 start_of_all_enters base [] h = omega arith
 start_of_all_enters base (entry ∷ []) h = let l = h.0 in omega arith
-start_of_all_enters base (entry ∷ (next ∷ entries)) h =
-    let others = start_of_all base (next ∷ entries) in
-    let last : List Row = Row.Split entry others.entry ∷ [] in
-    omega (arith, length-append others.rows last)
+start_of_all_enters base (entry ∷ (next ∷ entries)) h = grind (arith, common_steps, length-append)
 
 lead_in_apart : (edge : Bool) (base anchored : ℕ) → anchored < base
     → (anchored == (lead_in edge base anchored).entry) ≡ edge
@@ -100,11 +75,4 @@ pub one_start : (direction : Direction) (t : ℕ) (is_utf8 : Bool) (es : List Ex
     → is_always_start_anchored (nfa_of direction t is_utf8 es)
     ≡ list_all (begins_with_edge direction) (map (read_as direction) es)
 unfolding nfa_of
-one_start direction t is_utf8 es =
-    let read = map (read_as direction) es in
-    let patterns = patterns_from 0 0 read in
-    let anchored = start_of_all (length patterns.rows) patterns.entries in
-    lead_in_apart (list_all (begins_with_edge direction) read) (length patterns.rows + length anchored.rows)
-    anchored.entry
-    (start_of_all_enters (length patterns.rows) patterns.entries
-    (patterns_enter read 0 0 (length patterns.rows) (omega arith)))
+one_start direction t is_utf8 es = grind (arith, common_steps, lead_in_apart, start_of_all_enters, patterns_enter)

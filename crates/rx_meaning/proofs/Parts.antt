@@ -1,14 +1,15 @@
 -- A part of an NFA gives, at its entry, the first success of what comes after it over the ends of its expression.
-use Rattle.std.proofs.Common.{◌≡◌, ℕ, zero, suc, ◌+◌, ◌-◌, ◌*◌, ◌≤◌, Bool, true, false, if◌then◌else◌, Option, Some}
-use Rattle.std.proofs.Common.{None, List, [], ◌∷◌, ◌++◌, length, refl, ap, ap₂, sym, ◌∙◌, subst, arith, length-append}
-use Rattle.std.proofs.Common.{append-nil}
+use Rattle.std.proofs.Common.{rules, ◌≡◌, ℕ, zero, suc, ◌+◌, ◌-◌, ◌*◌, ◌≤◌, Bool, true, false, if◌then◌else◌, Option}
+use Rattle.std.proofs.Common.{Some, None, List, [], ◌∷◌, ◌++◌, length, refl, ap, ap₂, sym, ◌∙◌, subst, arith}
+use Rattle.std.proofs.Common.{length-append, append-nil}
+use Rattle.std.proofs.lemmas.Grind.{common_steps}
 use Rattle.std.proofs.lemmas.List.{map-id}
 use Rattle.std.proofs.lemmas.List.Concat.{flat_map_single}
 use Rattle.std.specs.Option.{option_or}
 use Rattle.std.specs.List.{flat_map}
 use Rattle.rx_spec.specs.Bytes.{contains}
 use Rattle.rx_spec.specs.Looks.{Reading, after, holds_at}
-use Rattle.rx_spec.specs.Expressions.{Expression, min_len, IsLoopSafe, IsBounded}
+use Rattle.rx_spec.specs.Expressions.{Expression, IsLoopSafe, IsBounded}
 use Rattle.rx_spec.specs.Ends.{class_ends, rounds, preferring, up_to, further, ends}
 use Rattle.rx_spec.specs.Found.{first_of}
 use Rattle.rx_spec.specs.Rows.{Row, Maker, straight, row_to, chained, either, choice, copies, optional, loop, repeated}
@@ -24,9 +25,7 @@ use Rattle.rx_meaning.proofs.Solution.{Valued, read_by, given, gives_at, given_a
 
 -- a body whose ends lie where it begins or past that, and so many rounds of it
 still : (r : Reading) (e : Expression) → Advances (length r.units) 0 (λ i. ends r e i)
-still r e i within =
-    every-weaker (Lies (length r.units) (i + min_len e)) (Lies (length r.units) (i + 0)) (ends r e i)
-    (λ j lie. (omega (arith, lie.0), lie.1)) (ends_lie r e i within)
+still r e i within = grind (arith, common_steps, every-weaker, ends_lie)
 
 rounds_still : (n : ℕ) (body : ℕ → List ℕ) → Advances n 0 body → (k : ℕ) → Advances n 0 (rounds body k)
 rounds_still n body h k i within =
@@ -209,9 +208,7 @@ module _ {V : Type 0} (x : Valued V) where
       chained_means lies (copies_mean (still x.reading e) h least)
       (loop_means greedy (advances_one x.reading e bounded) h)
   repeated_means least (Some most) greedy e bounded h =
-      let lies = rounds_still (length x.reading.units) (λ k. ends x.reading e k) (still x.reading e) least in
-      chained_means lies (copies_mean (still x.reading e) h least)
-      (optional_means greedy (still x.reading e) h (most - least))
+      search (rules, rounds_still, still, chained_means, copies_mean, optional_means)
 
   -- An expression's rows mean its ends.
   pub compile_means : (e : Expression) → IsLoopSafe e → Means (compile e) (λ i. ends x.reading e i)

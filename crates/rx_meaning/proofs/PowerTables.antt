@@ -1,13 +1,12 @@
 -- A table that is a build's powerset machine gives the build, and its rows are reached.
-use Rattle.std.proofs.Common.{◌≡◌, ℕ, suc, zero, ◌<◌, ◌≤◌, true, false, List, [], ◌∷◌, length, get_or, sym, ap, ◌∙◌}
-use Rattle.std.proofs.Common.{⊎_elim, arith}
+use Rattle.std.proofs.Common.{rules, ◌≡◌, ℕ, suc, zero, ◌<◌, false, List, [], ◌∷◌, length, get_or, sym, ap, ◌∙◌, arith}
+use Rattle.std.proofs.lemmas.Grind.{common_steps}
 use Rattle.std.proofs.lemmas.Bool.{cases_lt, true≢false}
 use Rattle.std.proofs.lemmas.List.{get_or-map}
 use Rattle.std.specs.Prelude.{Contains}
 use Rattle.rx_spec.specs.Queries.{Anchored}
 use Rattle.rx_spec.specs.Builds as builds
-use Rattle.rx_spec.specs.Builds.{Build, Node, dead, is_dead_state, built_modes, next_node, node_label, node_after}
-use Rattle.rx_spec.specs.Builds.{power}
+use Rattle.rx_spec.specs.Builds.{Build, Node, dead, is_dead_state, built_modes, next_node, node_after, power}
 use Rattle.rx_spec.specs.Machines.{IsWord, run}
 use Rattle.rx_spec.specs.States.{State, dead_state}
 use Rattle.rx_spec.specs.Tables.{Table, IsTable, row_after}
@@ -32,8 +31,7 @@ module _ (t : Table) (b : Build) (is : IsTable t) (by : IsPower t b) where
   -- words lead alike
   node_run : (row : ℕ) (word : List ℕ) → row < t.size → IsWord word
       → node_at by.states (run t.machine.next row word) ≡ run (next_node b) (node_at by.states row) word
-  node_run row [] l w =
-      ap (node_at by.states) (run-nil t.machine.next row) ∙ sym (run-nil (next_node b) (node_at by.states row))
+  node_run row [] l w = grind (arith, common_steps, run-nil)
   node_run row (unit ∷ word) l w =
       let h = IsWord-head unit word w in
       ap (node_at by.states) (run-cons t.machine.next row unit word)
@@ -43,15 +41,11 @@ module _ (t : Table) (b : Build) (is : IsTable t) (by : IsPower t b) where
 
   node_there : (mode : Anchored) (start : Start) (word : List ℕ) → IsWord word
       → node_at by.states (row_after t mode start word) ≡ node_after b mode start word
-  node_there mode start word w =
-      node_run (t.machine.entry mode start) word (is.entries mode start) w
-      ∙ ap (λ n. run (next_node b) n word) (by.entries mode start)
+  node_there mode start word w = grind (arith, common_steps, node_run)
 
   -- from the starts of all modes, built or not
   pub same_as_power : (Starts : Anchored → Type 0) → SameLabels Starts t.machine (power b)
-  same_as_power Starts mode begins start word w =
-      by.labels (row_after t mode start word) (row_there mode start word w)
-      ∙ ap node_label (node_there mode start word w)
+  same_as_power Starts mode begins start word w = grind (arith, common_steps, row_there, node_there)
 
   state_row : (i : ℕ) → i < length by.states
       → node_at by.states (suc (suc i)) ≡ builds.Running (get_or by.states i dead_state)
@@ -59,27 +53,15 @@ module _ (t : Table) (b : Build) (is : IsTable t) (by : IsPower t b) where
 
   states_alone : (i j : ℕ) → i < length by.states → j < length by.states
       → get_or by.states i dead_state ≡ get_or by.states j dead_state → i ≡ j
-  states_alone i j li lj e =
-      ⊎_elim
-      (λ (h : i < j). absurd (by.reached.distinct i j dead_state h lj e))
-      (λ (ge : j ≤ i). ⊎_elim
-      (λ (h : j < i). absurd (by.reached.distinct j i dead_state h li (sym e)))
-      (λ (le : i ≤ j). omega arith)
-      (cases_lt j i))
-      (cases_lt i j)
+  states_alone i j li lj e = search (rules, cases_lt)
 
   -- the row of a state that isn't dead
   row_of_state : (x i : ℕ) → x < t.size → i < length by.states
       → is_dead_state (get_or by.states i dead_state) ≡ false
       → node_at by.states x ≡ builds.Running (get_or by.states i dead_state) → x ≡ suc (suc i)
-  row_of_state zero i lx li alive e =
-      let dead : true ≡ is_dead_state (get_or by.states i dead_state) = ap (λ n. is_dead_state (state_of n)) e in
-      absurd (true≢false (dead ∙ alive))
+  row_of_state zero i lx li alive e = grind (arith, common_steps, true≢false)
   row_of_state (suc zero) i lx li alive e = absurd (cc)
-  row_of_state (suc (suc j)) i lx li alive e =
-      let size = by.size in
-      let lj : j < length by.states = omega arith in
-      ap (λ n. suc (suc n)) (states_alone j i lj li (ap state_of (sym (state_row j lj) ∙ e)))
+  row_of_state (suc (suc j)) i lx li alive e = grind (arith, common_steps, states_alone, state_row)
 
   reached : (row : ℕ) → 1 < row → row < t.size → IsReachedRow (Contains (built_modes b)) t row
   reached zero h l = absurd (omega arith)

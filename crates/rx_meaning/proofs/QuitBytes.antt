@@ -1,5 +1,6 @@
 -- A search in reverse from an end that was told forward meets no quit byte: the forward search read each byte that
 -- it reads.
+use Rattle.std.proofs.lemmas.Grind.{common_steps}
 use Rattle.std.proofs.Common.{◌≡◌, ℕ, suc, zero, ◌+◌, ◌-◌, ◌<◌, ◌≤◌, ◌⊎◌, inl, inr, ⊎_elim, Bool, true, false, Option}
 use Rattle.std.proofs.Common.{Some, None, Ok, List, [], ◌∷◌, length, refl, ap, sym, ◌∙◌, subst, arith}
 use Rattle.std.proofs.lemmas.Bool.{cases_lt}
@@ -10,8 +11,7 @@ use Rattle.rx_spec.specs.Queries.{Anchored, Query, reading, HalfMatch, MatchErro
 use Rattle.rx_spec.specs.Machines.{label_of}
 use Rattle.rx_spec.specs.States.{State, step}
 use Rattle.rx_spec.specs.Builds.{Build, Node, power, build_settings}
-use Rattle.rx_spec.specs.HalfSearches.{HalfAnswer, last_match, at_label, next_offset, first_match, unit_offset, beside}
-use Rattle.rx_spec.specs.HalfSearches.{first_offset}
+use Rattle.rx_spec.specs.HalfSearches.{HalfAnswer, last_match, at_label, next_offset, unit_offset, beside, first_offset}
 use Rattle.rx_spec.specs.Joining.{back_from}
 use Rattle.rx_spec.specs.Plans.{plan_build}
 use Rattle.rx_spec.specs.declared.Direction.{Direction}
@@ -29,9 +29,7 @@ use Rattle.rx_meaning.proofs.StartStates.{begin_state, begun_walk, query_state, 
 met_here : (label : List ℕ) (offset : ℕ) (last : Option HalfMatch) (h : HalfMatch)
     → last_match (label_of label) offset last ≡ Some h → (last ≡ Some h) ⊎ (h.offset ≡ offset)
 met_here [] offset last h e = inl e
-met_here (k ∷ ks) offset last h e =
-    let same : first_match (k ∷ ks) offset ≡ h = cc in
-    inr (ap (λ m. m.offset) (sym same))
+met_here (k ∷ ks) offset last h e = grind (arith, common_steps)
 
 -- a walk that tells has ended with a label, or goes on
 at_told : (label : List ℕ) (direction : Direction) (earliest : Bool) (unit offset : ℕ) (met : Option HalfMatch)
@@ -57,37 +55,18 @@ module _ (b : Build) (r : Reading) (direction : Direction) (size : ℕ) where
 
   read_here : (i n : ℕ) (h : HalfMatch) → contains b.quit (unit_at r i) ≡ false → h.offset ≡ place_of direction size i
       → ReadTo i (suc n) h
-  read_here i n h here e = record {
-    place = i;
-    low = omega arith;
-    high = omega arith;
-    offset = e;
-    clean = λ k low high.
-        let same : i ≡ k = omega arith in
-        subst (λ j. contains b.quit (unit_at r j) ≡ false) same here;
-  }
+  read_here i n h here e = grind (arith, common_steps, unit_at)
 
   read_more : (i n : ℕ) (h : HalfMatch) → contains b.quit (unit_at r i) ≡ false → ReadTo (i + 1) n h
       → ReadTo i (suc n) h
-  read_more i n h here later = record {
-    place = later.place;
-    low = omega (arith, later.low);
-    high = omega (arith, later.high);
-    offset = later.offset;
-    clean = λ k low high.
-        ⊎_elim (λ (l : i < k). later.clean k (omega arith) high)
-        (λ (l : k ≤ i). let same : i ≡ k = omega arith in subst (λ j. contains b.quit (unit_at r j) ≡ false) same here)
-        (cases_lt i k);
-  }
+  read_more i n h here later = grind (arith, common_steps, unit_at, cases_lt)
 
   -- Each match that is told was read up to.
   pub told_read : (earliest : Bool) (n i : ℕ) (s : State) (last : Option HalfMatch) (h : HalfMatch)
       → state_walk b direction earliest s (place_of direction size i) last (units_from r i n) ≡ Ok (Some h)
       → (last ≡ Some h) ⊎ ReadTo i n h
   told_read earliest zero i s last h w =
-      let offset = place_of direction size i in
-      inl (told_same last (Some h) (sym (ap (state_walk b direction earliest s offset last) (units_from-zero r i)
-      ∙ walk-nil (power b) direction earliest (Node.Running s) offset last) ∙ w))
+      grind (arith, common_steps, place_of, told_same, state_walk, units_from-zero, walk-nil)
   told_read earliest (suc n) i s last h w =
       let unit = unit_at r i in
       let offset = place_of direction size i in
@@ -186,15 +165,7 @@ module _ (a : Asked) where
 -- from there on backward
 clean_before : (quit : ℕ) (q : Query) (end i : ℕ) → q.start ≤ i → i ≤ end → Ended quit q end
     → contains quit (unit_of (before q.haystack i)) ≡ false
-clean_before quit q end i low high e =
-    ⊎_elim (λ (l : q.start < i). inside i l high)
-    (λ (l : i ≤ q.start). let same : q.start ≡ i = omega arith in
-    subst (λ k. contains quit (unit_of (before q.haystack k)) ≡ false) same e.before_clean)
-    (cases_lt q.start i)
-  where
-    inside : (i : ℕ) → q.start < i → i ≤ end → contains quit (unit_of (before q.haystack i)) ≡ false
-    inside zero l high = absurd (omega arith)
-    inside (suc i) l high = e.clean i (omega arith) (omega arith)
+clean_before quit q end i low high e = grind (arith, common_steps, cases_lt)
 
 -- A search for the last match tells where all its units can be searched.
 clean_search : (b : Build) (direction : Direction) (q : Query) → q.start ≤ q.end → q.end ≤ length q.haystack

@@ -1,5 +1,6 @@
 -- A reduced table is least.
-use Rattle.std.proofs.Common.{◌≡◌, ℕ, suc, zero, ◌<◌, ◌≤◌, List, [], ◌∷◌, ◌++◌, refl, sym, ap, ◌∙◌, ⊎_elim, arith}
+use Rattle.std.proofs.lemmas.Grind.{common_steps}
+use Rattle.std.proofs.Common.{◌≡◌, ℕ, suc, zero, ◌<◌, ◌≤◌, List, [], ◌∷◌, ◌++◌, sym, ap, ◌∙◌, ⊎_elim, arith}
 use Rattle.std.proofs.lemmas.Bool.{cases_eq}
 use Rattle.std.specs.Prelude.{Contains}
 use Rattle.rx_spec.specs.Queries.{Anchored}
@@ -8,8 +9,8 @@ use Rattle.rx_spec.specs.Builds.{built_modes, power}
 use Rattle.rx_spec.specs.Tables.{Table, IsTable, row_after}
 use Rattle.rx_spec.specs.Labels.{label_after, SameLabels, IsReachedRow, IsReduced, IsLeast}
 use Rattle.lemmas_walks.proofs.SilentRows.{IsRow, zero_is_silent}
-use Rattle.lemmas_walks.proofs.Words.{run-nil, run-cons, run-append, run-within}
-use Rattle.lemmas_walks.proofs.Words.{IsWord-head, IsWord-tail, IsWord-append}
+use Rattle.lemmas_walks.proofs.Words.{run-nil, run-cons, run-append, run-within, IsWord-head, IsWord-tail}
+use Rattle.lemmas_walks.proofs.Words.{IsWord-append}
 use Rattle.rx_meaning.specs.Least.{Leastness, ReducedIsLeast, LeastIsOne}
 use Rattle.rx_meaning.proofs.Pigeonholes.{pigeons}
 
@@ -71,24 +72,11 @@ leastness_holds modes t u is_t reduced is_u same = least (Contains modes) t u is
 -- for any machine, and any starts
 pub reduced_least : {R : Type 0} (Starts : Anchored → Type 0) (m : Machine R) (t : Table) → IsTable t
     → IsReduced Starts t → SameLabels Starts t.machine m → IsLeast Starts m t.size
-reduced_least Starts m t is_t reduced gives = record {
-  table = t;
-  is_table = is_t;
-  same = gives;
-  size = refl;
-  least = λ u is_u also.
-      least Starts t u is_t is_u
-      (λ mode begins start word w. gives mode begins start word w ∙ sym (also mode begins start word w)) reduced;
-}
+reduced_least Starts m t is_t reduced gives = grind (arith, common_steps, least)
 
 pub one_least : {R : Type 0} (Starts : Anchored → Type 0) (m : Machine R) (j k : ℕ) → IsLeast Starts m j
     → IsLeast Starts m k → j ≡ k
-one_least Starts m j k p q =
-    let le : j ≤ q.table.size = p.least q.table q.is_table q.same in
-    let ge : k ≤ p.table.size = q.least p.table p.is_table p.same in
-    let a = p.size in
-    let b = q.size in
-    omega arith
+one_least Starts m j k p q = grind (arith, common_steps)
 
 pub reduced_is_least : ReducedIsLeast
 reduced_is_least b t is_t reduced gives = reduced_least (Contains (built_modes b)) (power b) t is_t reduced gives

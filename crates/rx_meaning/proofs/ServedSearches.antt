@@ -1,16 +1,17 @@
 -- Searches that are made of half searches are alike where these are: with matches inside a character passed over,
 -- joined, and one after another.
-use Rattle.std.proofs.Common.{◌≡◌, ℕ, suc, zero, ◌-◌, ◌==◌, ◌||◌, Bool, true, false, if◌then◌else◌, Some}
-use Rattle.std.proofs.Common.{None, Ok, Err, List, refl, ap, ap₂, sym, ◌∙◌}
+use Rattle.std.proofs.Common.{arith, rules, ◌≡◌, ℕ, suc, zero, ◌-◌, Bool, true, false, if◌then◌else◌, Some, None, Ok}
+use Rattle.std.proofs.Common.{Err, List, refl, ap, ap₂, sym, ◌∙◌}
+use Rattle.std.proofs.lemmas.Grind.{common_steps}
 use Rattle.rx_spec.specs.Bytes.{AreBytes}
 use Rattle.rx_spec.specs.Expressions.{Expression}
-use Rattle.rx_spec.specs.Queries.{Query, is_anchored}
+use Rattle.rx_spec.specs.Queries.{Query}
 use Rattle.rx_spec.specs.Tables.{Table}
 use Rattle.rx_spec.specs.HalfSearches.{HalfAnswer, half_search}
 use Rattle.rx_spec.specs.Overlapping.{OverlappingMatches}
 use Rattle.rx_spec.specs.Splits.{narrower, unless_split, skip_splits, split_limit, skips_splits, half_unsplit}
 use Rattle.rx_spec.specs.Splits.{items_unsplit}
-use Rattle.rx_spec.specs.Joining.{Answer, match_at, with_start, back_from, with_end, joined_search, join}
+use Rattle.rx_spec.specs.Joining.{Answer, with_end, joined_search, join}
 use Rattle.rx_spec.specs.Iterating.{iterate}
 use Rattle.rx_spec.specs.Plans.{Plan, plan_build}
 use Rattle.rx_spec.specs.declared.Direction.{Direction}
@@ -58,8 +59,7 @@ abbrev sifted : Bool → Query → OverlappingMatches → OverlappingMatches
 sifted skips q matches = if skips then items_unsplit q matches else matches
 
 pub overlapping_unsplit_of_table : OverlappingUnsplitOfTable
-overlapping_unsplit_of_table t b serves direction q bytes =
-    ap (sifted (skips_splits t) q) (overlapping_of_table_holds t b serves direction q bytes)
+overlapping_unsplit_of_table t b serves direction q bytes = grind (arith, common_steps, overlapping_of_table_holds)
 
 pub half_unsplit_of_copy : HalfUnsplitOfCopy
 half_unsplit_of_copy t u c skips direction q bytes =
@@ -68,30 +68,22 @@ half_unsplit_of_copy t u c skips direction q bytes =
     ∙ ap (λ v. unsplit v (half_search u.machine u.settings direction) direction q) skips
 
 pub overlapping_unsplit_of_copy : OverlappingUnsplitOfCopy
-overlapping_unsplit_of_copy t u c skips direction q bytes =
-    ap₂ (λ v. sifted v q) skips (overlapping_of_copy_holds t u c direction q bytes)
+overlapping_unsplit_of_copy t u c skips direction q bytes = grind (arith, common_steps, overlapping_of_copy_holds)
 
 -- ---- joined
 
 with_end_alike : (g h : Query → HalfAnswer) → AnswerAlike g h → (always : Bool) (q : Query) → AreBytes q.haystack
     → (o : HalfAnswer) → with_end g always q o ≡ with_end h always q o
 with_end_alike g h alike always q bytes (Ok None) = refl
-with_end_alike g h alike always q bytes (Ok (Some end)) =
-    ap (λ (o : HalfAnswer). if (end.offset == q.start) || is_anchored q.mode || always
-    then match_at end.pattern q.start end.offset else with_start end o) (alike (back_from q end.offset) bytes)
+with_end_alike g h alike always q bytes (Ok (Some end)) = grind (arith, common_steps)
 with_end_alike g h alike always q bytes (Err error) = refl
 
 joined_alike : (f g r s : Query → HalfAnswer) → AnswerAlike f g → AnswerAlike r s → (always : Bool)
     → AnswerAlike (joined_search f r always) (joined_search g s always)
-joined_alike f g r s ends starts always q bytes =
-    ap (with_end r always q) (ends q bytes) ∙ with_end_alike r s starts always q bytes (g q)
+joined_alike f g r s ends starts always q bytes = grind (arith, common_steps, with_end_alike)
 
 pub join_of_tables : JoinOfTables
-join_of_tables f r b c serves serves_reverse q bytes =
-    joined_alike (half_unsplit f Direction.Forward) (build_half_unsplit (skips_splits f) b Direction.Forward)
-    (half_unsplit r Direction.Reverse) (build_half_unsplit (skips_splits r) c Direction.Reverse)
-    (half_unsplit_of_table f b serves Direction.Forward) (half_unsplit_of_table r c serves_reverse Direction.Reverse)
-    f.is_always_start_anchored q bytes
+join_of_tables f r b c serves serves_reverse q bytes = search (rules, joined_alike, half_unsplit_of_table)
 
 -- two tables' searches, joined as flags say
 abbrev join_by : Flags → Table → Table → Query → Answer
@@ -123,12 +115,10 @@ iterated_alike : (f g : Query → Answer) → AnswerAlike f g → (q : Query) �
 iterated_alike f g alike q bytes = iterate_alike f g q q (λ start. alike (record q { start = start }) bytes) refl refl
 
 pub iterate_of_tables : IterateOfTables
-iterate_of_tables f r b c serves serves_reverse q bytes =
-    iterated_alike (join f r) (build_join (flags_of f r) b c) (join_of_tables f r b c serves serves_reverse) q bytes
+iterate_of_tables f r b c serves serves_reverse q bytes = search (rules, iterated_alike, join_of_tables)
 
 pub iterate_of_copies : IterateOfCopies
-iterate_of_copies f g r s c d flags q bytes =
-    iterated_alike (join f r) (join g s) (join_of_copies f g r s c d flags) q bytes
+iterate_of_copies f g r s c d flags q bytes = search (rules, iterated_alike, join_of_copies)
 
 -- ---- the tables of a plan
 

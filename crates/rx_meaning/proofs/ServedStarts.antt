@@ -1,16 +1,15 @@
 -- Tables, and builds, as machines whose searches end well: then a table and the build that it gives are alike, and
 -- so are copies.
-use Rattle.std.proofs.Common.{◌≡◌, ℕ, ◌≤◌, Bool, true, false, if◌then◌else◌, Some, None, [], ◌∷◌, ◌++◌, length, refl}
-use Rattle.std.proofs.Common.{ap, sym, ◌∙◌, subst}
+use Rattle.std.proofs.Common.{arith, ◌≡◌, ℕ, ◌≤◌, Bool, true, false, if◌then◌else◌, Some, None, [], length, refl, ap}
+use Rattle.std.proofs.Common.{sym, ◌∙◌, subst}
+use Rattle.std.proofs.lemmas.Grind.{common_steps}
 use Rattle.std.proofs.lemmas.Option.{slice_get_past, same_Some}
 use Rattle.std.specs.Prelude.{Contains, slice_get}
 use Rattle.rx_spec.specs.Queries.{Anchored}
 use Rattle.rx_spec.specs.Machines.{Settings}
-use Rattle.rx_spec.specs.Starts.{has_unanchored, has_anchored}
 use Rattle.rx_spec.specs.Builds.{Build, dead, start_node, built_entry, power, build_settings, built_modes}
-use Rattle.rx_spec.specs.Builds.{pattern_modes}
 use Rattle.rx_spec.specs.Tables.{Table, IsTable}
-use Rattle.rx_spec.specs.Labels.{SameLabels, pattern_start_modes, table_modes}
+use Rattle.rx_spec.specs.Labels.{SameLabels, table_modes}
 use Rattle.rx_spec.specs.declared.Start.{Start}
 use Rattle.lemmas_walks.proofs.SilentRows.{IsSilent, IsRow, zero_is_silent, table_ends_well, AnyNode, dead_label}
 use Rattle.lemmas_walks.proofs.SilentRows.{power_ends_well}
@@ -50,20 +49,11 @@ power_starts_well b = record {
 
 -- the modes for which a build has starts
 modes_are : (b : Build) → built_modes b ≡ table_modes (build_settings b)
-modes_are b =
-    let front = (if has_unanchored b.start_kind then Anchored.No ∷ [] else [])
-    ++ (if has_anchored b.start_kind then Anchored.Yes ∷ [] else []) in
-    ap (λ l. front ++ l) (by_starts b.pattern_starts (length b.nfa.start_patterns))
-  where
-    by_starts : (v : Bool) (n : ℕ)
-        → (if v then pattern_modes n else []) ≡ pattern_start_modes (if v then Some n else None)
-    by_starts true n = refl
-    by_starts false n = refl
+modes_are b = grind (arith, common_steps)
 
 served_labels : (t : Table) (b : Build) → Serves t b
     → SameLabels (Contains (table_modes (build_settings b))) t.machine (power b)
-served_labels t b serves mode c start word w =
-    serves.gives mode (subst (λ l. Contains l mode) (sym (modes_are b)) c) start word w
+served_labels t b serves mode c start word w = grind (arith, common_steps, modes_are)
 
 pub half_of_table_holds : HalfOfTable
 half_of_table_holds t b serves direction q bytes =

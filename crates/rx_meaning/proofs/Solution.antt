@@ -1,6 +1,7 @@
 -- What rows give at a place of a reading: the first success of the paths from a row, where a match has a worth.
-use Rattle.std.proofs.Common.{◌≡◌, ℕ, zero, suc, ◌+◌, ◌-◌, ◌≤◌, true, false, if◌then◌else◌, Option, Some, None, List}
-use Rattle.std.proofs.Common.{length, refl, ap, ap₂, sym, ◌∙◌, arith}
+use Rattle.std.proofs.Common.{rules, ◌≡◌, ℕ, zero, suc, ◌+◌, ◌-◌, ◌≤◌, if◌then◌else◌, Option, Some, None, List, length}
+use Rattle.std.proofs.Common.{refl, ap, ap₂, ◌∙◌, arith}
+use Rattle.std.proofs.lemmas.Grind.{common_steps}
 use Rattle.std.proofs.lemmas.Option.{slice_get_past}
 use Rattle.std.specs.Option.{option_or}
 use Rattle.rx_spec.specs.Bytes.{contains}
@@ -50,16 +51,14 @@ module _ {V : Type 0} (x : Valued V) where
       → (row : Row) → AllNext P row → row_gives x i later here row ≡ row_gives x i later others row
   row_gives-same P i later here others e (Row.Bytes set next) h = refl
   row_gives-same P i later here others e (Row.Split first second) h = ap₂ option_or (e first h.0) (e second h.1)
-  row_gives-same P i later here others e (Row.Look look next) h =
-      ap (λ v. if holds_at x.reading look i then v else None) (e next h)
+  row_gives-same P i later here others e (Row.Look look next) h = grind (arith, common_steps)
   row_gives-same P i later here others e (Row.Match pattern) h = refl
   row_gives-same P i later here others e Row.Fail h = refl
 
   -- where nothing is read, what is given later doesn't matter
   unread : (i : ℕ) (later others here : ℕ → Option V) → after x.reading.units i ≡ None → (row : Row)
       → row_gives x i later here row ≡ row_gives x i others here row
-  unread i later others here e (Row.Bytes set next) =
-      ap (λ b. read_by set b (later next)) e ∙ sym (ap (λ b. read_by set b (others next)) e)
+  unread i later others here e (Row.Bytes set next) = grind (arith, common_steps)
   unread i later others here e (Row.Split first second) = refl
   unread i later others here e (Row.Look look next) = refl
   unread i later others here e (Row.Match pattern) = refl
@@ -84,17 +83,8 @@ module _ {V : Type 0} (x : Valued V) where
       ≡ row_gives x i (λ next. given_left x (length x.reading.units - (i + 1)) (i + 1) next)
       (λ p. given_left x m i p) (row_at x.rows q)
   unfolding given_left
-  left_gives zero i q e =
-      let n = depth_of x.rows in
-      settle_gives i (λ next. None) n q (x.shallow.short q)
-      ∙ unread i (λ next. None) (λ next. given_left x (length x.reading.units - (i + 1)) (i + 1) next)
-      (λ p. settle x i (λ next. None) n p) (slice_get_past x.reading.units i (omega (arith, e))) (row_at x.rows q)
-  left_gives (suc m) i q e =
-      let n = depth_of x.rows in
-      let later : ℕ → ℕ → Option V = λ k next. given_left x k (i + 1) next in
-      let left : m ≡ length x.reading.units - (i + 1) = omega (arith, e) in
-      settle_gives i (later m) n q (x.shallow.short q)
-      ∙ ap (λ k. row_gives x i (later k) (λ p. settle x i (later m) n p) (row_at x.rows q)) left
+  left_gives zero i q e = grind (arith, common_steps, depth_of, settle_gives, unread, slice_get_past)
+  left_gives (suc m) i q e = grind (arith, common_steps, depth_of, settle_gives)
 
   -- Each row gives what its form says.
   abbrev pub gives_at : ℕ → Row → Option V
@@ -110,15 +100,13 @@ module _ {V : Type 0} (x : Valued V) where
   -- Where no match is worth anything from a place on, nothing is given there.
   none_read : (set : ℕ) (byte : Option ℕ) (later : Option V) → later ≡ None → read_by set byte later ≡ None
   none_read set None later e = refl
-  none_read set (Some byte) later e =
-      elim (contains set byte) as (λ v. (if v then later else None) ≡ None) [ true ↦ e | false ↦ refl ]
+  none_read set (Some byte) later e = grind (arith, common_steps)
 
   row_gives-none : (i : ℕ) (later here : ℕ → Option V) → ((p : ℕ) → later p ≡ None) → ((p : ℕ) → here p ≡ None)
       → ((k : ℕ) → x.worth k i ≡ None) → (row : Row) → row_gives x i later here row ≡ None
   row_gives-none i later here e f g (Row.Bytes set next) = none_read set (after x.reading.units i) (later next) (e next)
   row_gives-none i later here e f g (Row.Split first second) = ap₂ option_or (f first) (f second)
-  row_gives-none i later here e f g (Row.Look look next) =
-      elim (holds_at x.reading look i) as (λ v. (if v then here next else None) ≡ None) [ true ↦ f next | false ↦ refl ]
+  row_gives-none i later here e f g (Row.Look look next) = search rules
   row_gives-none i later here e f g (Row.Match pattern) = g pattern
   row_gives-none i later here e f g Row.Fail = refl
 

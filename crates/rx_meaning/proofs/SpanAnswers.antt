@@ -1,7 +1,8 @@
 -- Answers that are made of half searches depend on the span and its neighbours alone: with matches that split a
 -- character passed over, joined, one after another, and of a plan.
-use Rattle.std.proofs.Common.{◌≡◌, ℕ, zero, suc, ◌+◌, ◌-◌, ◌≤◌, Bool, true, false, Some, None, Ok, Err, if◌then◌else◌}
-use Rattle.std.proofs.Common.{List, [], ◌∷◌, ◌++◌, Option, refl, ap, ap₂, sym, ◌∙◌, subst, arith}
+use Rattle.std.proofs.lemmas.Grind.{common_steps}
+use Rattle.std.proofs.Common.{◌≡◌, ℕ, zero, suc, ◌+◌, ◌-◌, ◌≤◌, Bool, false, Some, None, Ok, Err, if◌then◌else◌, List}
+use Rattle.std.proofs.Common.{[], ◌∷◌, ◌++◌, Option, refl, ap, ap₂, sym, ◌∙◌, subst, arith}
 use Rattle.std.specs.List.{flat_map}
 use Rattle.std.specs.Prelude.{Contains, ◌==◌, ◌||◌, not}
 use Rattle.rx_spec.specs.Bytes.{AreBytes}
@@ -13,7 +14,7 @@ use Rattle.rx_spec.specs.Overlapping.{Item, OverlappingMatches, overlapping}
 use Rattle.rx_spec.specs.Splits.{is_boundary_byte, is_split, narrower, is_narrowest, unless_split, skip_splits}
 use Rattle.rx_spec.specs.Splits.{split_limit, skips_splits, half_unsplit, item_unsplit, overlapping_unsplit}
 use Rattle.rx_spec.specs.Joining.{Answer, match_at, with_start, back_from, with_end, joined_search, join}
-use Rattle.rx_spec.specs.Iterating.{FoundMatches, is_repeat, unless_repeat, and_then, iterate_from, iterate}
+use Rattle.rx_spec.specs.Iterating.{FoundMatches, is_repeat, unless_repeat, and_then, iterate_from}
 use Rattle.rx_spec.specs.Nfas.{is_always_start_anchored}
 use Rattle.rx_spec.specs.Plans.{plan_nfa, plan_build}
 use Rattle.rx_spec.specs.declared.Direction.{Direction}
@@ -48,22 +49,7 @@ unless_same : (direction : Direction) (p : Query) (haystack : List ℕ) (o again
 unless_same direction p haystack (Err error) again other_again split same = refl
 unless_same direction p haystack (Ok None) again other_again split same = refl
 unless_same direction p haystack (Ok (Some h)) again other_again split same =
-    let made = λ (v w : Bool) (x : HalfAnswer).
-    if v then (if is_anchored p.mode || w then Ok None else x) else Ok (Some h) in
-    let narrowest = is_narrowest direction p in
-    ap (λ v. made v narrowest again) (split h refl)
-    ∙ by_test narrowest
-    (λ t. ap (λ w. made (is_split haystack h.offset) w again) t
-    ∙ closed (is_split haystack h.offset) (is_anchored p.mode)
-    ∙ sym (ap (λ w. made (is_split haystack h.offset) w other_again) t))
-    (λ f. ap (made (is_split haystack h.offset) narrowest) (same h refl f))
-    ∙ ap (λ w. made (is_split haystack h.offset) w other_again) (narrowest_other direction p haystack)
-  where
-    closed : (v a : Bool) → (if v then (if a || true then Ok None else again) else Ok (Some h))
-        ≡ (if v then (if a || true then Ok None else other_again) else Ok (Some h))
-    closed true true = refl
-    closed true false = refl
-    closed false a = refl
+    grind (arith, common_steps, by_test, narrowest_other)
 
 module _ (t : Table) (direction : Direction) where
   abbrev search : Query → HalfAnswer
@@ -93,18 +79,14 @@ module _ (t : Table) (direction : Direction) where
       (same_half t.machine t.settings direction p (other p haystack) same)
 
 pub span_decides_unsplit : SpanDecidesUnsplit
-span_decides_unsplit t direction p q same =
-    unsplit_same t direction p q.haystack (to_other p q same) ∙ ap (half_unsplit t direction) (is_other p q same)
+span_decides_unsplit t direction p q same = grind (arith, common_steps, unsplit_same, to_other, is_other)
 
 -- what is told, where those that split a character are left out
 module _ (p : Query) (haystack : List ℕ) (same : SameSpan p (other p haystack)) where
   item_same : (x : Item) → ((h : HalfMatch) → x ≡ Item.Reported h → (p.start ≤ h.offset) × (h.offset ≤ p.end))
       → item_unsplit p x ≡ item_unsplit (other p haystack) x
   item_same Item.Skipped lies = refl
-  item_same (Item.Reported h) lies =
-      let inside = lies h refl in
-      ap (λ byte. if not (is_boundary_byte byte) then (if is_anchored p.mode then Item.Skipped ∷ [] else [])
-      else (Item.Reported h ∷ [])) (same_after p haystack same h.offset inside.0 inside.1)
+  item_same (Item.Reported h) lies = grind (arith, common_steps, same_after)
 
   items_same : (items : List Item)
       → ((h : HalfMatch) → Contains items (Item.Reported h) → (p.start ≤ h.offset) × (h.offset ≤ p.end))
@@ -193,8 +175,7 @@ span_decides_outcome p es q r safe bytes inside other_bytes other_inside same =
 and_then_same : (o : Answer) (f g : Match → FoundMatches) → ((m : Match) → o ≡ Ok (Some m) → f m ≡ g m)
     → and_then o f ≡ and_then o g
 and_then_same (Ok None) f g e = refl
-and_then_same (Ok (Some m)) f g e =
-    ap (λ (others : FoundMatches). record { matches = m ∷ others.matches; error = others.error }) (e m refl)
+and_then_same (Ok (Some m)) f g e = grind (arith, common_steps)
 and_then_same (Err error) f g e = refl
 
 module _ (f r : Table) (sound : IsSound f) (sound_reverse : IsSound r) where
@@ -245,5 +226,4 @@ module _ (f r : Table) (sound : IsSound f) (sound_reverse : IsSound r) where
 
 pub span_decides_iterate : SpanDecidesIterate
 span_decides_iterate f r sound sound_reverse p q bytes same =
-    iterate_same f r sound sound_reverse (p.end + 2 - p.start) p q.haystack bytes (to_other p q same) None
-    ∙ ap (iterate (join f r)) (is_other p q same)
+    grind (arith, common_steps, iterate_same, to_other, is_other)

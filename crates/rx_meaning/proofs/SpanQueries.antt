@@ -1,6 +1,7 @@
 -- What is answered depends on the span's bytes and on its two neighbours alone.
-use Rattle.std.proofs.Common.{◌≡◌, ℕ, zero, suc, ◌+◌, ◌-◌, ◌<◌, ◌≤◌, ⊎_elim, false, List, [], ◌∷◌, take, drop, refl, ap}
-use Rattle.std.proofs.Common.{sym, ◌∙◌, subst, arith}
+use Rattle.std.proofs.Common.{rules, ◌≡◌, ℕ, zero, suc, ◌+◌, ◌-◌, ◌<◌, ◌≤◌, ⊎_elim, false, List, [], ◌∷◌, take, drop}
+use Rattle.std.proofs.Common.{refl, ap, sym, ◌∙◌, subst, arith}
+use Rattle.std.proofs.lemmas.Grind.{common_steps}
 use Rattle.std.proofs.lemmas.Bool.{cases_lt, eqb-false}
 use Rattle.std.proofs.lemmas.List.{take-take, drop-take, drop-drop}
 use Rattle.std.specs.Prelude.{slice_get}
@@ -52,10 +53,7 @@ slice_get-drop (suc n) (x ∷ xs) k =
 
 -- a byte of the span
 in_span : (q : Query) (o : ℕ) → q.start ≤ o → o < q.end → slice_get (span_bytes q) (o - q.start) ≡ after q.haystack o
-in_span q o low high =
-    let place : q.start + (o - q.start) ≡ o = omega arith in
-    slice_get-take (q.end - q.start) (drop q.start q.haystack) (o - q.start) (omega arith)
-    ∙ slice_get-drop q.start q.haystack (o - q.start) ∙ ap (slice_get q.haystack) place
+in_span q o low high = grind (arith, common_steps, slice_get-take, slice_get-drop)
 
 -- the bytes of a part of it
 part_of : (q : Query) (s e : ℕ) → q.start ≤ s → s ≤ e → e ≤ q.end
@@ -86,11 +84,7 @@ module _ (p : Query) (haystack : List ℕ) (same : SameSpan p (other p haystack)
       ∙ in_span (other p haystack) o low high
 
   pub same_after : (o : ℕ) → p.start ≤ o → o ≤ p.end → after p.haystack o ≡ after haystack o
-  same_after o low high =
-      ⊎_elim (λ (l : o < p.end). same_byte o low l)
-      (λ (l : p.end ≤ o). let last : p.end ≡ o = omega arith in
-      subst (λ o. after p.haystack o ≡ after haystack o) last same.after)
-      (cases_lt o p.end)
+  same_after o low high = grind (arith, common_steps, same_byte, cases_lt)
 
   same_bytes : (s e : ℕ) → p.start ≤ s → s ≤ e → e ≤ p.end
       → take (e - s) (drop s p.haystack) ≡ take (e - s) (drop s haystack)
@@ -100,25 +94,12 @@ module _ (p : Query) (haystack : List ℕ) (same : SameSpan p (other p haystack)
       ∙ sym (part_of (other p haystack) s e low order high)
 
   no_bytes : (s e : ℕ) → e ≤ s → take (e - s) (drop s p.haystack) ≡ take (e - s) (drop s haystack)
-  no_bytes s e h =
-      let none : e - s ≡ 0 = omega arith in
-      ap (λ n. take n (drop s p.haystack)) none ∙ sym (ap (λ n. take n (drop s haystack)) none)
+  no_bytes s e h = grind (arith, common_steps)
 
   -- narrower by one
   pub narrower_same : (direction : Direction) → p.start ≤ p.end → is_narrowest direction p ≡ false
       → SameSpan (narrower direction p) (other (narrower direction p) haystack)
-  narrower_same Direction.Forward order wide = record {
-    start = refl;
-    end = refl;
-    mode = refl;
-    earliest = refl;
-    bytes =
-        ⊎_elim (λ (l : p.start < p.end). same_bytes (p.start + 1) p.end (omega arith) (omega arith) (omega arith))
-        (λ (l : p.end ≤ p.start). no_bytes (p.start + 1) p.end (omega arith)) (cases_lt p.start p.end);
-    before = let one : suc p.start ≡ p.start + 1 = omega arith in
-        subst (λ s. before p.haystack s ≡ before haystack s) one (same_after p.start (omega arith) order);
-    after = same.after;
-  }
+  narrower_same Direction.Forward order wide = search (rules, same_bytes, no_bytes, cases_lt, same_after)
   narrower_same Direction.Reverse order wide = record {
     start = refl;
     end = refl;
@@ -164,12 +145,4 @@ module _ (p : Query) (haystack : List ℕ) (same : SameSpan p (other p haystack)
   -- for the start of a match
   pub back_same : (end : ℕ) → p.start ≤ end → end ≤ p.end
       → SameSpan (back_from p end) (other (back_from p end) haystack)
-  back_same end low high = record {
-    start = refl;
-    end = refl;
-    mode = refl;
-    earliest = refl;
-    bytes = same_bytes p.start end (omega arith) low high;
-    before = same.before;
-    after = same_after end low high;
-  }
+  back_same end low high = grind (arith, common_steps, same_bytes, same_after)

@@ -1,7 +1,7 @@
 -- Where the answers lie of searches that pass over matches that split a character, and of two searches joined.
-use Rattle.std.proofs.Common.{◌≡◌, ℕ, zero, suc, ◌+◌, ◌-◌, ◌≤◌, ◌||◌, ◌⊎◌, inl, inr, ⊎_elim, Bool, true, false}
-use Rattle.std.proofs.Common.{if◌then◌else◌, Option, Some, None, Ok, Err, List, [], ◌∷◌, refl, ap, sym, ◌∙◌, subst}
-use Rattle.std.proofs.Common.{arith}
+use Rattle.std.proofs.lemmas.Grind.{common_steps}
+use Rattle.std.proofs.Common.{◌≡◌, ℕ, zero, suc, ◌-◌, ◌≤◌, ◌⊎◌, inl, ⊎_elim, Bool, true, false, if◌then◌else◌, Some}
+use Rattle.std.proofs.Common.{None, Ok, Err, List, [], ◌∷◌, refl, subst, arith}
 use Rattle.std.proofs.lemmas.Bool.{eqb-false, or_parts}
 use Rattle.std.proofs.lemmas.List.Elements.{Contains-append_cases}
 use Rattle.std.specs.Prelude.{Contains}
@@ -37,14 +37,7 @@ narrower_names Direction.Reverse q byte offset b = record { low = b.low; high = 
 narrower_fits : (direction : Direction) (q : Query) → q.start ≤ q.end → is_narrowest direction q ≡ false → IsFit q
     → IsFit (narrower direction q)
 narrower_fits Direction.Forward q order wide fit = record { within = fit.within; ordered = omega arith }
-narrower_fits Direction.Reverse q order wide fit =
-    let above = eqb-false q.end 0 wide in
-    let within = fit.within in
-    record { within = omega arith; ordered = at_end q.end above order }
-  where
-    at_end : (end : ℕ) → (end ≡ 0 → ⊥) → q.start ≤ end → q.start ≤ end - 1 + 1
-    at_end zero above order = absurd (above refl)
-    at_end (suc end) above order = omega arith
+narrower_fits Direction.Reverse q order wide fit = grind (arith, common_steps, eqb-false)
 
 -- what is told was told by the search, or by the one that is made again
 module _ (direction : Direction) (q : Query) (again : HalfAnswer) where
@@ -56,37 +49,14 @@ module _ (direction : Direction) (q : Query) (again : HalfAnswer) where
       → (o ≡ Ok (Some h)) ⊎ (again ≡ Ok (Some h))
   told_again (Err error) h e = inl e
   told_again (Ok None) h e = inl e
-  told_again (Ok (Some x)) h e =
-      let ends = is_anchored q.mode || is_narrowest direction q in
-      by_test (is_split q.haystack x.offset)
-      (λ t. let here = sym (ap (λ v. sieved x v ends) t) ∙ e in
-      by_test ends (λ a. absurd (none_told h (sym (ap (sieved x true) a) ∙ here)))
-      (λ a. inr (sym (ap (sieved x true) a) ∙ here)))
-      (λ f. inl (sym (ap (λ v. sieved x v ends) f) ∙ e))
-    where
-      none_told : (h : HalfMatch) → ◌≡◌ {A = HalfAnswer} (Ok None) (Ok (Some h)) → ⊥
-      none_told h e = cc
+  told_again (Ok (Some x)) h e = grind (arith, common_steps, by_test)
 
   error_again : (o : HalfAnswer) (error : MatchError) → unless_split direction q o again ≡ Err error
       → (o ≡ Err error)
       ⊎ ((x : HalfMatch) × (o ≡ Ok (Some x)) × (is_narrowest direction q ≡ false) × (again ≡ Err error))
   error_again (Err other) error e = inl e
   error_again (Ok None) error e = inl e
-  error_again (Ok (Some x)) error e =
-      let ends = is_anchored q.mode || is_narrowest direction q in
-      by_test (is_split q.haystack x.offset)
-      (λ t. let here = sym (ap (λ v. sieved x v ends) t) ∙ e in
-      by_test ends (λ a. absurd (no_error error None (sym (ap (sieved x true) a) ∙ here)))
-      (λ a. inr (
-        x,
-        refl,
-        (or_parts (is_anchored q.mode) (is_narrowest direction q) a).1,
-        sym (ap (sieved x true) a) ∙ here,
-      )))
-      (λ f. absurd (no_error error (Some x) (sym (ap (λ v. sieved x v ends) f) ∙ e)))
-    where
-      no_error : (error : MatchError) (o : Option HalfMatch) → ◌≡◌ {A = HalfAnswer} (Ok o) (Err error) → ⊥
-      no_error error o e = cc
+  error_again (Ok (Some x)) error e = grind (arith, common_steps, by_test, or_parts)
 
 module _ (t : Table) (sound : IsSound t) (direction : Direction) where
   abbrev search : Query → HalfAnswer
@@ -95,10 +65,7 @@ module _ (t : Table) (sound : IsSound t) (direction : Direction) where
   skipping_in_bounds : (n : ℕ) (q : Query) (h : HalfMatch) → AreBytes q.haystack
       → skip_splits search direction n q ≡ Ok (Some h) → IsInBounds q t.pattern_len h
   unfolding skip_splits
-  skipping_in_bounds zero q h bytes e = absurd (none_told h e)
-    where
-      none_told : (h : HalfMatch) → ◌≡◌ {A = HalfAnswer} (Ok None) (Ok (Some h)) → ⊥
-      none_told h e = cc
+  skipping_in_bounds zero q h bytes e = grind (arith, common_steps)
   skipping_in_bounds (suc n) q h bytes e =
       ⊎_elim (λ (o : search q ≡ Ok (Some h)). half_in_bounds t sound direction q h bytes o)
       (λ (o : skip_splits search direction n (narrower direction q) ≡ Ok (Some h)).
@@ -110,10 +77,7 @@ module _ (t : Table) (sound : IsSound t) (direction : Direction) where
       → skip_splits search direction n q ≡ Err (MatchError.Quit byte offset)
       → IsNamed q byte offset × ((count : ℕ) × Quitting t direction (narrowed direction count q) byte offset)
   unfolding skip_splits narrowed
-  skipping_quits zero q byte offset fit bytes e = absurd (no_error (MatchError.Quit byte offset) e)
-    where
-      no_error : (error : MatchError) → ◌≡◌ {A = HalfAnswer} (Ok None) (Err error) → ⊥
-      no_error error e = cc
+  skipping_quits zero q byte offset fit bytes e = grind (arith, common_steps)
   skipping_quits (suc n) q byte offset fit bytes e =
       let again = skip_splits search direction n (narrower direction q) in
       ⊎_elim (λ (o : search q ≡ Err (MatchError.Quit byte offset)).

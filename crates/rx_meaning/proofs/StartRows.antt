@@ -1,4 +1,5 @@
 -- What the start rows of an NFA give: each pattern's entry, the start of all, and the unanchored one.
+use Rattle.std.proofs.lemmas.Grind.{common_steps}
 use Rattle.std.proofs.Common.{◌≡◌, ℕ, zero, suc, ◌+◌, ◌<◌, ◌≤◌, true, false, if◌then◌else◌, Option, None, List, [], ◌∷◌}
 use Rattle.std.proofs.Common.{length, slice_get, refl, ap, sym, ◌∙◌, subst, arith}
 use Rattle.std.proofs.lemmas.Bool.{agree_below_at}
@@ -63,8 +64,7 @@ module _ {V : Type 0} (x : Valued V) where
   pub start_of_all_gives : (entries : List ℕ) (base : ℕ) → Stands x.rows base (start_of_all base entries).rows → (i : ℕ)
       → given x (start_of_all base entries).entry i ≡ first_of (λ q. given x q i) entries
   unfolding start_of_all
-  start_of_all_gives [] base stands i =
-      given_as x base i Row.Fail stands.0 ∙ sym (first_of-nil (λ (q : ℕ). given x q i))
+  start_of_all_gives [] base stands i = grind (arith, common_steps, given_as, first_of-nil, given)
   start_of_all_gives (entry ∷ []) base stands i = sym (first_of-single (λ q. given x q i) entry)
   start_of_all_gives (entry ∷ (next ∷ entries)) base stands i =
       let others = start_of_all base (next ∷ entries) in
@@ -81,11 +81,7 @@ module _ {V : Type 0} (x : Valued V) where
       → given x base i ≡ first_of (λ p. given x anchored p) (range_with_len i (suc m))
   unfolding first_of
   lead_in_gives base anchored stands bytes zero i e =
-      given_as x base i (Row.Split anchored (base + 1)) stands.0
-      ∙ ap (option_or (given x anchored i))
-      (given_as x (base + 1) i (Row.Bytes all_bytes base) stands.1.0
-      ∙ ap (λ byte. read_by all_bytes byte (given x base (i + 1)))
-      (slice_get_past x.reading.units i (omega (arith, e))))
+      grind (arith, common_steps, given_as, given, read_by, slice_get_past)
   lead_in_gives base anchored stands bytes (suc m) i e =
       let byte = get_or x.reading.units i 0 in
       let within : i < length x.reading.units = omega (arith, e) in

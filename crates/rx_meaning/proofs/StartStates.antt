@@ -1,8 +1,9 @@
 -- The state where a search of a plan's build begins.
-use Rattle.std.proofs.Common.{◌≡◌, ℕ, suc, ◌+◌, ◌-◌, ◌<◌, ◌≤◌, ◌⊎◌, inl, inr, ⊎_elim, false, Option, Some, None, Ok}
-use Rattle.std.proofs.Common.{List, [], ◌∷◌, length, refl, ap, ap₂, sym, ◌∙◌, arith}
+use Rattle.std.proofs.lemmas.Grind.{common_steps}
+use Rattle.std.proofs.Common.{◌≡◌, ℕ, suc, ◌+◌, ◌-◌, ◌<◌, ◌≤◌, ◌⊎◌, inl, inr, ⊎_elim, false, Option, Some, None, Ok, []}
+use Rattle.std.proofs.Common.{◌∷◌, length, refl, ap, sym, ◌∙◌, arith}
 use Rattle.std.specs.Option.{option_and_then}
-use Rattle.rx_spec.specs.Queries.{Query, HalfMatch, reading}
+use Rattle.rx_spec.specs.Queries.{Query, HalfMatch, reading, in_order}
 use Rattle.rx_spec.specs.Nfas.{Nfa}
 use Rattle.rx_spec.specs.Contexts.{facts_of, start_of, start_facts}
 use Rattle.rx_spec.specs.States.{State, dead_state, start_state, state_at, fresh}
@@ -11,14 +12,12 @@ use Rattle.rx_spec.specs.Plans.{plan_build}
 use Rattle.rx_spec.specs.Starts.{start_row}
 use Rattle.rx_spec.specs.HalfSearches.{whole_walk, beside, first_offset, walk}
 use Rattle.rx_spec.specs.Looks.{before}
-use Rattle.rx_spec.specs.Queries.{in_order}
 use Rattle.rx_spec.specs.declared.Direction.{Direction}
 use Rattle.rx_spec.specs.declared.Start.{Start}
 use Rattle.lemmas_walks.proofs.Facts.{start_knows}
 use Rattle.lemmas_walks.proofs.HalfSearches.{IsStarted, not_refused, going, half_walks, Begun, half_begun, build_start}
-use Rattle.lemmas_walks.proofs.ReadUnits.{units_from, units_from-alike, units_read, place_of}
-use Rattle.lemmas_walks.proofs.ReadUnits.{first_place, first_offset_is}
-use Rattle.lemmas_walks.proofs.ReadUnits.{beside_at_place}
+use Rattle.lemmas_walks.proofs.ReadUnits.{units_from, units_from-alike, units_read, place_of, first_place}
+use Rattle.lemmas_walks.proofs.ReadUnits.{first_offset_is, beside_at_place}
 use Rattle.lemmas_walks.proofs.Walking.{state_walk}
 use Rattle.rx_meaning.specs.Preference.{build_half_search}
 use Rattle.rx_meaning.proofs.FirstSuccess.{or_none, first_of-nil, first_of-single}
@@ -49,12 +48,7 @@ started_walk : (b : Build) (direction : Direction) (t : ℕ) (q : Query) → q.s
     → whole_walk (power b) direction q (start_row (power b) (build_settings b) (beside direction q) q.mode)
     ≡ state_walk b direction q.earliest (query_state b direction q) (first_offset direction q) None
     (units_from (reading direction t q.haystack) (first_place direction q) (suc (q.end - q.start)))
-started_walk b direction t q order inside start =
-    let row = nfa_start b.nfa q.mode in
-    let context = start_of b.nfa.line_terminator (beside direction q) in
-    ap₂ (λ (node : Node) (us : List ℕ). walk (power b) direction q.earliest node (first_offset direction q) None us)
-    (build_start b (beside direction q) q.mode start ∙ runs_first b.nfa row context)
-    (units_read direction t q order inside)
+started_walk b direction t q order inside start = grind (arith, common_steps, build_start, runs_first, units_read)
 
 pub started_search : (b : Build) (direction : Direction) (t : ℕ) (q : Query) → q.start ≤ q.end
     → q.end ≤ length q.haystack → IsStarted (build_settings b) (beside direction q) q.mode
@@ -62,9 +56,7 @@ pub started_search : (b : Build) (direction : Direction) (t : ℕ) (q : Query) �
     ≡ state_walk b direction q.earliest (query_state b direction q) (first_offset direction q) None
     (units_from (reading direction t q.haystack) (first_place direction q) (suc (q.end - q.start)))
 started_search b direction t q order inside start =
-    half_walks (power b) (build_settings b) direction q (going q order)
-    (not_refused (build_settings b) (beside direction q) q.mode start)
-    ∙ started_walk b direction t q order inside start
+    grind (arith, common_steps, half_walks, going, not_refused, started_walk)
 
 module _ (a : Asked) (direction : Direction) where
   abbrev nfa : Nfa

@@ -1,10 +1,10 @@
 -- Deciding a state's assertions by the next unit keeps what the state gives.
-use Rattle.std.proofs.Common.{◌≡◌, ℕ, suc, ◌+◌, ◌*◌, ◌<◌, ◌≤◌, Bool, true, false, if◌then◌else◌, Option, List, [], ◌∷◌}
-use Rattle.std.proofs.Common.{length, refl, ap, sym, ◌∙◌, subst, arith, ⊎_elim}
+use Rattle.std.proofs.Common.{rules, ◌≡◌, ℕ, Bool, true, false, if◌then◌else◌, Option, List, [], ◌∷◌, refl, ap, ◌∙◌}
+use Rattle.std.proofs.Common.{arith}
+use Rattle.std.proofs.lemmas.Grind.{common_steps}
 use Rattle.std.proofs.lemmas.Bool.{or_parts, cases_lt}
 use Rattle.std.proofs.lemmas.Option.{slice_get_past, unwrap_or-slice_get}
-use Rattle.std.proofs.lemmas.List.Elements.{Contains-get_or}
-use Rattle.std.specs.Prelude.{Contains, unwrap_or}
+use Rattle.std.specs.Prelude.{Contains}
 use Rattle.std.specs.List.{flat_map, list_any, AllByRecursion as Every}
 use Rattle.rx_spec.specs.Looks.{Reading, before, after, holds_at}
 use Rattle.rx_spec.specs.Rows.{Row}
@@ -12,7 +12,6 @@ use Rattle.rx_spec.specs.Nfas.{Nfa}
 use Rattle.rx_spec.specs.Contexts.{Facts, no_facts, facts_of, unit_facts, both, holds_read, facts_kept}
 use Rattle.rx_spec.specs.States.{row_at, Passing, reach_by, reach, closure, firsts, State, is_look_row, state_at}
 use Rattle.rx_spec.specs.States.{decided_rows, holds_before}
-use Rattle.rx_spec.specs.declared.Direction.{Direction}
 use Rattle.rx_spec.specs.declared.Look.{Look}
 use Rattle.lemmas_walks.proofs.Facts.{facts_decide, kept_last, kept_cover}
 use Rattle.lemmas_walks.proofs.ReadUnits.{unit_at}
@@ -25,27 +24,13 @@ use Rattle.rx_meaning.proofs.Scan.{Scan, read_in, valued, StandsAt, unit_facts_o
 -- an assertion's row is one of the rows
 look_there : (rows : List Row) (q : ℕ) (look : Look) (next : ℕ) → row_at rows q ≡ Row.Look look next
     → Contains rows (Row.Look look next)
-look_there rows q look next e =
-    ⊎_elim
-    (λ (l : q < length rows). subst (Contains rows) (sym (unwrap_or-slice_get rows q Row.Fail) ∙ e)
-    (Contains-get_or rows q Row.Fail l))
-    (λ (l : length rows ≤ q). absurd (let past : row_at rows q ≡ Row.Fail = ap (λ o. unwrap_or o Row.Fail)
-    (slice_get_past rows q l) in cc))
-    (cases_lt q (length rows))
+look_there rows q look next e = search (rules, unwrap_or-slice_get, slice_get_past, cases_lt)
 
 -- the facts of the bytes beside a place decide it, in the order of reading
 read_decides : (r : Reading) (look : Look) (i : ℕ)
     → holds_read r.direction look (facts_of r.line_terminator (before r.units i))
     (facts_of r.line_terminator (after r.units i)) ≡ holds_at r look i
-read_decides r look i = by_direction r.direction refl
-  where
-    by_direction : (direction : Direction) → r.direction ≡ direction
-        → holds_read r.direction look (facts_of r.line_terminator (before r.units i))
-        (facts_of r.line_terminator (after r.units i)) ≡ holds_at r look i
-    by_direction Direction.Forward e =
-        rw e (sym (facts_decide look r.line_terminator (before r.units i) (after r.units i)))
-    by_direction Direction.Reverse e =
-        rw e (sym (facts_decide look r.line_terminator (after r.units i) (before r.units i)))
+read_decides r look i = grind (arith, common_steps, facts_decide)
 
 -- a row that ends a closure and is no assertion is left as it is
 ready_stays : (pass : Passing) (reached : ℕ → List ℕ) (q : ℕ) (row : Row) → IsReady Passing.Standing row
@@ -59,10 +44,7 @@ ready_stays pass reached q Row.Fail h e = absurd h
 closure_stays : (rows : List Row) (pass : Passing) (q : ℕ) → IsReady Passing.Standing (row_at rows q)
     → is_look_row (row_at rows q) ≡ false → closure rows pass q ≡ q ∷ []
 unfolding reach
-closure_stays rows pass q h e =
-    let n = length rows * length rows in
-    let above : n + 1 ≡ suc n = omega arith in
-    ap (λ m. reach rows pass m q) above ∙ ready_stays pass (λ p. reach rows pass n p) q (row_at rows q) h e
+closure_stays rows pass q h e = grind (arith, common_steps, ready_stays)
 
 module _ {V : Type 0} (c : Scan) (worth : ℕ → ℕ → Option V) where
   abbrev nfa : Nfa
@@ -125,14 +107,9 @@ module _ {V : Type 0} (c : Scan) (worth : ℕ → ℕ → Option V) where
       let context : s.context ≡ known = ap (λ v. if v then known else no_facts) e in
       let test = Passing.Tested (holds_before nfa (unit_at (read_in c) i) s) in
       closed_gives x test i (kept_decides i s.context context) s.rows
-  decided_from i roots label false e =
-      let s = state_at nfa roots (facts_of nfa.line_terminator (before c.units i)) label in
-      undecided (Passing.Tested (holds_before nfa (unit_at (read_in c) i) s)) i s.rows
-      (closed_ready nfa.rows Passing.Standing roots) e
+  decided_from i roots label false e = search (rules, undecided, unit_at, read_in, closed_ready)
 
   pub decided_gives : (i : ℕ) (s : State) → StandsAt c s i
       → first_given (valued c worth) i (decided_rows c.build.nfa (unit_at (read_in c) i) s)
       ≡ first_given (valued c worth) i s.rows
-  decided_gives i s at =
-      subst (λ s. first_given x i (decided_rows nfa (unit_at (read_in c) i) s) ≡ first_given x i s.rows) (sym at.is)
-      (decided_from i at.roots s.label _ refl)
+  decided_gives i s at = grind (arith, common_steps, first_given, unit_at, read_in, decided_from)

@@ -1,11 +1,12 @@
 -- One step of a state, at a place of a reading: what the state gives there is what the next one gives one place
 -- on, and what its label is worth here.
-use Rattle.std.proofs.Common.{◌≡◌, ℕ, ◌+◌, Bool, true, false, if◌then◌else◌, Option, Some, None, List, [], ◌∷◌, ◌++◌}
-use Rattle.std.proofs.Common.{refl, ap, ap₂, sym, ◌∙◌, subst}
+use Rattle.std.proofs.Common.{arith, ◌≡◌, ℕ, ◌+◌, Bool, true, false, Option, Some, None, List, [], ◌∷◌, ◌++◌, refl, ap}
+use Rattle.std.proofs.Common.{ap₂, sym, ◌∙◌, subst}
+use Rattle.std.proofs.lemmas.Grind.{common_steps}
 use Rattle.std.specs.Prelude.{slice_get}
 use Rattle.std.specs.Option.{option_or}
 use Rattle.std.specs.List.{flat_map}
-use Rattle.rx_spec.specs.Bytes.{contains, unit_of}
+use Rattle.rx_spec.specs.Bytes.{unit_of}
 use Rattle.rx_spec.specs.Looks.{after}
 use Rattle.rx_spec.specs.Found.{first_of}
 use Rattle.rx_spec.specs.Rows.{Row}
@@ -119,12 +120,7 @@ module _ {V : Type 0} (c : Scan) (worth : ℕ → ℕ → Option V) where
   target_gives : (set next i : ℕ) (byte : Option ℕ)
       → read_by set byte (given x next (i + 1)) ≡ first_given x (i + 1) (target (unit_of byte) (Row.Bytes set next))
   target_gives set next i None = sym (first_of-nil (λ (q : ℕ). given x q (i + 1)))
-  target_gives set next i (Some b) =
-      elim (contains set b)
-      as (λ v. (if v then given x next (i + 1) else None) ≡ first_given x (i + 1) (if v then next ∷ [] else [])) [
-        | true ↦ sym (first_of-single (λ q. given x q (i + 1)) next)
-        | false ↦ sym (first_of-nil (λ (q : ℕ). given x q (i + 1)))
-      ]
+  target_gives set next i (Some b) = grind (arith, common_steps, given, first_given, first_of-single, first_of-nil)
 
   -- a row gives what the row to which it leads gives one place on, or what its match is worth here
   row_reads : (holds : Look → Bool) (i : ℕ) (row : Row) → IsReady (Passing.Tested holds) row
@@ -132,8 +128,7 @@ module _ {V : Type 0} (c : Scan) (worth : ℕ → ℕ → Option V) where
       ≡ option_or (first_given x (i + 1) (target (unit_at (read_in c) i) row)) (label_worth worth i (pattern_of row))
   unfolding first_of
   row_reads holds i (Row.Bytes set next) ready =
-      target_gives set next i (after c.units i)
-      ∙ sym (or_none (first_given x (i + 1) (target (unit_at (read_in c) i) (Row.Bytes set next))))
+      grind (arith, common_steps, target_gives, or_none, first_given, unit_at, read_in)
   row_reads holds i (Row.Split first second) ready = absurd ready
   row_reads holds i (Row.Look look next) ready = absurd ready
   row_reads holds i (Row.Match k) ready = sym (or_none (worth k i))

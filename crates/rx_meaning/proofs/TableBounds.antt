@@ -1,15 +1,15 @@
 -- Where the answers of searches over sound tables lie.
-use Rattle.std.proofs.Common.{◌≡◌, ◌≢◌, ℕ, zero, suc, ◌+◌, ◌-◌, ◌<◌, ◌≤◌, ◌⊎◌, inl, inr, ⊎_elim, Bool, true}
-use Rattle.std.proofs.Common.{if◌then◌else◌, Option, Some, None, Ok, Err, List, [], ◌∷◌, length, take, get_or, refl, ap}
-use Rattle.std.proofs.Common.{sym, ◌∙◌, subst, arith}
+use Rattle.std.proofs.lemmas.Grind.{common_steps}
+use Rattle.std.proofs.Common.{◌≡◌, ◌≢◌, ℕ, zero, suc, ◌+◌, ◌-◌, ◌<◌, ◌≤◌, ◌⊎◌, inl, inr, ⊎_elim, true, Option, Some}
+use Rattle.std.proofs.Common.{None, Ok, Err, List, [], ◌∷◌, length, take, get_or, refl, ap, sym, ◌∙◌, subst, arith}
 use Rattle.std.proofs.lemmas.Option.{none-some}
 use Rattle.std.proofs.lemmas.List.Elements.{Contains-get_or}
-use Rattle.std.specs.Prelude.{Contains, slice_get, is_some}
+use Rattle.std.specs.Prelude.{Contains}
 use Rattle.rx_spec.specs.Bytes.{AreBytes, contains, unit_of}
 use Rattle.rx_spec.specs.Looks.{before}
 use Rattle.rx_spec.specs.Queries.{Anchored, Query, IsFit, HalfMatch, MatchError, reading}
 use Rattle.rx_spec.specs.Machines.{Label, Settings, run}
-use Rattle.rx_spec.specs.Starts.{supports, StartError, mode_error, start_error, start_context, start_row}
+use Rattle.rx_spec.specs.Starts.{StartError, mode_error, start_error, start_context, start_row}
 use Rattle.rx_spec.specs.Tables.{Table, IsTable, IsSound}
 use Rattle.rx_spec.specs.HalfSearches.{units_of, beside, beside_offset, first_offset, unit_offset, first_match}
 use Rattle.rx_spec.specs.HalfSearches.{match_error, half_search}
@@ -87,58 +87,25 @@ overlapping_in_bounds t sound direction q h bytes e = item_in_bounds t sound dir
 -- ---- where it quits
 
 mode_quits_not : (s : Settings) (mode : Anchored) (byte : ℕ) → mode_error s mode ≡ Some (StartError.Quit byte) → ⊥
-mode_quits_not s mode byte e =
-    by_test (supports s.start_kind (is_some s.pattern_starts) mode)
-    (λ t. none-some (StartError.Quit byte) (sym (ap refused t) ∙ e))
-    (λ f. other (StartError.UnsupportedAnchored mode) refl (sym (ap refused f) ∙ e))
-  where
-    refused : Bool → Option StartError
-    refused v = if v then None else Some (StartError.UnsupportedAnchored mode)
-
-    other : (error : StartError) → error ≡ StartError.UnsupportedAnchored mode
-        → Some error ≡ Some (StartError.Quit byte) → ⊥
-    other error is e = cc
+mode_quits_not s mode byte e = grind (arith, common_steps, by_test, none-some)
 
 start_quits : (s : Settings) (neighbour : Option ℕ) (mode : Anchored) (byte : ℕ)
     → start_error s neighbour mode ≡ Some (StartError.Quit byte)
     → (neighbour ≡ Some byte) × (contains s.quit byte ≡ true)
 start_quits s None mode byte e = absurd (mode_quits_not s mode byte e)
-start_quits s (Some b) mode byte e =
-    by_test (contains s.quit b)
-    (λ t. let same : b ≡ byte = same_quit b byte (sym (ap refused t) ∙ e) in
-    (ap (λ x. Some x) same, subst (λ x. contains s.quit x ≡ true) same t))
-    (λ f. absurd (mode_quits_not s mode byte (sym (ap refused f) ∙ e)))
-  where
-    refused : Bool → Option StartError
-    refused v = if v then Some (StartError.Quit b) else mode_error s mode
-
-    same_quit : (a b : ℕ) → Some (StartError.Quit a) ≡ Some (StartError.Quit b) → a ≡ b
-    same_quit a b e = cc
+start_quits s (Some b) mode byte e = grind (arith, common_steps, by_test, mode_quits_not)
 
 -- the byte beside the span, and one that is read next at an offset of it
 beside_named : (direction : Direction) (q : Query) (byte : ℕ) → q.start ≤ q.end → beside direction q ≡ Some byte
     → IsNamed q byte (beside_offset direction q)
-beside_named Direction.Forward q byte order e = at_start q.start order refl e
-  where
-    at_start : (start : ℕ) → start ≤ q.end → start ≡ q.start → before q.haystack start ≡ Some byte
-        → IsNamed q byte (q.start - 1)
-    at_start zero order is e = absurd (none-some byte e)
-    at_start (suc i) order is e =
-        let place : i ≡ q.start - 1 = omega arith in
-        record { low = omega arith; high = omega arith; there = ap (slice_get q.haystack) (sym place) ∙ e }
+beside_named Direction.Forward q byte order e = grind (arith, common_steps, none-some)
 beside_named Direction.Reverse q byte order e = record { low = omega arith; high = omega arith; there = e }
 
 next_named : (direction : Direction) (q : Query) (byte offset : ℕ) → (q.start ≤ offset) × (offset ≤ q.end)
     → next_byte direction q.haystack offset ≡ Some byte → IsNamed q byte (unit_offset direction offset)
 next_named Direction.Forward q byte offset lies e = record { low = omega (arith, lies.0); high = lies.1; there = e }
 next_named Direction.Reverse q byte zero lies e = absurd (none-some byte e)
-next_named Direction.Reverse q byte (suc i) lies e =
-    let place : i ≡ suc i - 1 = omega arith in
-    record {
-      low = omega (arith, lies.0);
-      high = omega (arith, lies.1);
-      there = ap (slice_get q.haystack) (sym place) ∙ e;
-    }
+next_named Direction.Reverse q byte (suc i) lies e = grind (arith, common_steps)
 
 -- a unit that is read, by the place of the walk
 unit_is : (direction : Direction) (q : Query) (place : ℕ) → q.start ≤ q.end → q.end ≤ length q.haystack
@@ -168,12 +135,7 @@ read_before_is : (direction : Direction) (q : Query) (place byte : ℕ)
     → next_byte direction q.haystack (offset_after direction (first_offset direction q) place) ≡ Some byte
     → read_before direction q (unit_offset direction (offset_after direction (first_offset direction q) place)) ≡ place
 read_before_is Direction.Forward q place byte there = omega arith
-read_before_is Direction.Reverse q place byte there = at_offset (q.end - place) refl there
-  where
-    at_offset : (o : ℕ) → o ≡ q.end - place → next_byte Direction.Reverse q.haystack o ≡ Some byte
-        → q.end - 1 - (q.end - place - 1) ≡ place
-    at_offset zero is e = absurd (none-some byte e)
-    at_offset (suc i) is e = omega (arith, is)
+read_before_is Direction.Reverse q place byte there = grind (arith, common_steps, next_byte, none-some)
 
 module _ (t : Table) (sound : IsSound t) (direction : Direction) (q : Query) (bytes : AreBytes q.haystack)
     (fit : IsFit q) where

@@ -1,15 +1,13 @@
 -- A dense table as the refinement sees it: its columns are the units.
-use Rattle.std.proofs.Common.{◌≡◌, ◌<◌, ◌≤◌, ◌+◌, ◌*◌, ◌/◌, ◌^◌, ◌∙◌, ℕ, List, length, sym}
-use Rattle.std.proofs.Common.{arith}
+use Rattle.std.proofs.Common.{◌≡◌, ◌<◌, ◌≤◌, ◌+◌, ◌*◌, ◌/◌, ◌^◌, ◌∙◌, ℕ, List, length, sym, arith}
 use Rattle.std.proofs.lemmas.Int.Digits.{length-digits_of-le}
-use Rattle.std.proofs.lemmas.Nat.{mul-le}
+use Rattle.std.proofs.lemmas.Nat.{mul-le, pow_pos}
 use Rattle.std.specs.Prelude.{IfOk, Result, Ok, Err, slice_index}
 use Rattle.rx_spec.specs.Tables.{IsTable}
 use Rattle.rx_base.specs.ByteClasses.{alphabet_len}
 use Rattle.rx_refine.specs.Moves.{Moves, next_row, read_limit, binary_digits, AreAlikeByNumber, AreToldByNumber}
 use Rattle.rx_dense.specs.Layouts.{AreRows, Layout, column, row_count, stride, table_of}
 use Rattle.rx_dense.proofs.Rows.{column_within, row-below, multiple_below}
-use Rattle.std.proofs.lemmas.Nat.{pow_pos}
 use Rattle.rx_order.proofs.UsedColumns.{column_used}
 use Rattle.rx_minimize.specs.LabelNumbers.{AreByLabel}
 use Rattle.rx_minimize.specs.Blocks.{AreBlocks}

@@ -1,4 +1,5 @@
 -- Words of columns and words of units: rows behave alike by both, and are told apart by both.
+use Rattle.std.proofs.lemmas.Grind.{common_steps}
 use Rattle.std.proofs.Common.{◌≡◌, ℕ, ◌<◌, List, [], ◌∷◌, map, refl, sym, ap, ◌∙◌, subst, ⊎_elim, arith}
 use Rattle.std.specs.Prelude.{Contains, slice_index}
 use Rattle.rx_spec.specs.Machines.{IsWord, run}
@@ -7,7 +8,7 @@ use Rattle.rx_spec.specs.Tables.{Table}
 use Rattle.lemmas_walks.proofs.Firsts.{Contains-cases, Contains-there, Contains-nil}
 use Rattle.lemmas_walks.proofs.Words.{run-nil, run-cons, run-within, IsWord-nil, IsWord-cons, IsWord-head, IsWord-tail}
 use Rattle.rx_refine.specs.Moves as moves
-use Rattle.rx_refine.specs.Moves.{Moves, next_row, label_after, row_after}
+use Rattle.rx_refine.specs.Moves.{Moves, label_after, row_after}
 use Rattle.rx_minimize.specs.Quotient.{AreMovesByColumn}
 
 module _ (t : Table) (m : Moves) (labels : List ℕ) (column_of : ℕ → ℕ)
@@ -56,8 +57,7 @@ module _ (t : Table) (m : Moves) (labels : List ℕ) (column_of : ℕ → ℕ)
 
   label_by_columns : (x : ℕ) (columns word : List ℕ) → x < t.size → IsWord word → map column_of word ≡ columns
       → label_after m labels x columns ≡ slice_index labels (run t.machine.next x word)
-  label_by_columns x columns word l w e =
-      ap (λ c. label_after m labels x c) (sym e) ∙ ap (slice_index labels) (sym (run_columns x word l w))
+  label_by_columns x columns word l w e = grind (arith, common_steps, run_columns)
 
   pub told_by_units : (x y : ℕ) → x < t.size → y < t.size → moves.AreToldApart m labels x y → AreToldApart t x y
   told_by_units x y lx ly told =

@@ -1,6 +1,7 @@
 -- Rows that are renamed, moved and cut off.
-use Rattle.std.proofs.Common.{◌≡◌, ◌<◌, ◌≤◌, ◌+◌, ◌*◌, ◌/◌, ◌%◌, ◌^◌, ◌∙◌, ℕ, All, List, length, map, take, sym, ap}
-use Rattle.std.proofs.Common.{ap₂, subst, ⊎_elim, arith}
+use Rattle.std.proofs.lemmas.Grind.{common_steps}
+use Rattle.std.proofs.Common.{◌≡◌, ◌<◌, ◌≤◌, ◌+◌, ◌*◌, ◌/◌, ◌%◌, ◌∙◌, ℕ, All, List, length, map, take, sym, ap, ap₂}
+use Rattle.std.proofs.Common.{subst, ⊎_elim, arith}
 use Rattle.std.proofs.Math.Nat.{mod-lt}
 use Rattle.std.proofs.lemmas.Bool.{cases_lt, le-ltb, lt-ltb}
 use Rattle.std.proofs.lemmas.List.{length-map, length-take-le, get_or-map, get_or-take}
@@ -43,9 +44,6 @@ module _ (l : Layout) (count : ℕ) (ids : List ℕ) (new : AreNewIds l count id
       rw (le-ltb _ _ past, rows.past_alphabet k h past) (omega (arith, fits, pow_pos l.stride2)))
       (cases_lt (k % stride l) (alphabet_len l.classes))
 
-  pub length_renamed : length (renamed l ids).words ≡ length l.words
-  length_renamed = length-map-range_with_len (renamed_word l ids) 0 (length l.words)
-
   pub renamed_at : (k : ℕ) → k < length l.words → slice_index (renamed l ids).words k ≡ renamed_word l ids k
   renamed_at k h = get_or-map-range_with_len (renamed_word l ids) 0 (length l.words) k k 0 h (omega arith)
 
@@ -61,12 +59,10 @@ pub record AreSteps (l : Layout) (rows ids : List ℕ) (r m : Layout) : Type 0 w
   pub moved : AreMoved (stride r) rows (length rows) r.words m.words
 
 pub renamed_count : (l : Layout) (ids : List ℕ) (r : Layout) → r ≡ renamed l ids → length r.words ≡ length l.words
-renamed_count l ids r e =
-    ap (λ (l : Layout). length l.words) e ∙ length-map-range_with_len (renamed_word l ids) 0 (length l.words)
+renamed_count l ids r e = grind (arith, common_steps, length-map-range_with_len)
 
 pub renamed_rows : (l : Layout) (ids : List ℕ) (r : Layout) → r ≡ renamed l ids → row_count r ≡ row_count l
-renamed_rows l ids r e =
-    ap₂ (λ (n s : ℕ). n / 2 ^ s) (renamed_count l ids r e) (ap (λ (l : Layout). l.stride2) e)
+renamed_rows l ids r e = grind (arith, common_steps, renamed_count)
 
 module _ {l : Layout} {rows ids : List ℕ} {r m : Layout} (s : AreSteps l rows ids r m) where
   pub stride_is : stride m ≡ stride l

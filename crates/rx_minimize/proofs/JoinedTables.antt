@@ -1,7 +1,7 @@
 -- A table of which the first row of each block is left: where its rows lead, and what they tell.
-use Rattle.std.proofs.Common.{◌≡◌, ℕ, ◌+◌, ◌-◌, ◌*◌, ◌/◌, ◌<◌, ◌≤◌, ⊎_elim, if◌then◌else◌}
-use Rattle.std.proofs.Common.{Bool, true, false, List, [], length, map, nat_le, nat_lt, refl, ap, sym, ◌∙◌, subst}
-use Rattle.std.proofs.Common.{arith, slice_index, get_or}
+use Rattle.std.proofs.lemmas.Grind.{common_steps}
+use Rattle.std.proofs.Common.{◌≡◌, ℕ, ◌+◌, ◌-◌, ◌*◌, ◌/◌, ◌<◌, ◌≤◌, ⊎_elim, if◌then◌else◌, Bool, true, false, List, []}
+use Rattle.std.proofs.Common.{length, map, nat_le, nat_lt, refl, ap, sym, ◌∙◌, subst, arith, slice_index, get_or}
 use Rattle.std.specs.List.{concat}
 use Rattle.std.proofs.Math.Nat.{mul-div_cancel}
 use Rattle.std.proofs.lemmas.Bool.{and_parts, cases_eq, cases_lt, eq-eqb, le-ltb, leb-true, ltb-true, ne_eqb}
@@ -78,9 +78,7 @@ module _ {old : Layout} {blocks numbers firsts ids ends : List ℕ} {lists : Lis
   -- ---- where rows lead
 
   pub id_is : (row : ℕ) → row < row_count old → slice_index ids row ≡ number row * stride old
-  id_is row h =
-      ap (λ (xs : List ℕ). slice_index xs row) s.ids_are
-      ∙ get_or-map (λ n. n * stride old) numbers row 0 0 (omega (arith, numbers_len))
+  id_is row h = grind (arith, common_steps, get_or-map, numbers_len)
 
   leads : (row : ℕ) → row < row_count old → slice_index ids row / stride old ≡ number row
   leads row h = ap (λ id. id / stride old) (id_is row h) ∙ mul-div_cancel (number row) some
@@ -96,9 +94,7 @@ module _ {old : Layout} {blocks numbers firsts ids ends : List ℕ} {lists : Lis
   starts_len = ap length s.joined.starts ∙ length-map old.starts (λ id. slice_index ids (id / stride old))
 
   zero_row : 0 / stride old ≡ 0
-  zero_row =
-      let none : 0 * stride old ≡ 0 = omega arith in
-      ap (λ n. n / stride old) (sym none) ∙ mul-div_cancel 0 some
+  zero_row = grind (arith, common_steps, mul-div_cancel, some)
 
   entry_is : (mode : Anchored) (start : Start)
       → after.machine.entry mode start ≡ number (before.machine.entry mode start)

@@ -1,6 +1,6 @@
 -- The rows that are kept: their kinds, and which of them match.
-use Rattle.std.proofs.Common.{◌≡◌, ℕ, ◌<◌, ◌≤◌, ◌&&◌, nat_le, nat_lt, Bool, false, List, length, slice_index}
-use Rattle.std.proofs.Common.{sym, ap, ap₂, ◌∙◌, subst, ⊎_elim, arith}
+use Rattle.std.proofs.Common.{◌≡◌, ℕ, ◌<◌, ◌≤◌, ◌&&◌, nat_le, nat_lt, Bool, false, List, length, slice_index, sym, ap}
+use Rattle.std.proofs.Common.{ap₂, ◌∙◌, subst, ⊎_elim, arith}
 use Rattle.std.proofs.lemmas.Bool.{cases_eq, lt-ltb}
 use Rattle.rx_spec.specs.Tables.{Table, is_match, is_match_label}
 use Rattle.rx_dense.specs.Layouts.{AreRows, Layout, row_count, table_of}

@@ -1,10 +1,11 @@
 -- Labels and their numbers, one row after another.
-use Rattle.std.proofs.Common.{◌≡◌, ◌≢◌, ℕ, zero, suc, ◌<◌, ◌≤◌, ◌+◌, ◌⊎◌, inl, inr, ⊎_elim, Some, List, [], ◌∷◌, ◌++◌}
-use Rattle.std.proofs.Common.{Bool, true, false, if◌then◌else◌, length, length-append, refl, sym, ap, ◌∙◌, subst, arith}
+use Rattle.std.proofs.lemmas.Grind.{common_steps}
+use Rattle.std.proofs.Common.{◌≡◌, ◌≢◌, ℕ, zero, suc, ◌<◌, ◌≤◌, ◌+◌, ◌⊎◌, ⊎_elim, Some, List, [], ◌∷◌, ◌++◌, Bool, true}
+use Rattle.std.proofs.Common.{if◌then◌else◌, length, length-append, refl, sym, ◌∙◌, subst, arith}
 use Rattle.std.proofs.lemmas.Bool.{cases_eq, cases_lt}
 use Rattle.std.proofs.lemmas.List.{get_or_push, get_or_append_left}
 use Rattle.std.proofs.lemmas.Option.{slice_get_within, get_or_from_slice_get}
-use Rattle.std.specs.Prelude.{AllPairs, get_or, slice_get, slice_index}
+use Rattle.std.specs.Prelude.{AllPairs, slice_get, slice_index}
 use Rattle.rx_spec.specs.Machines.{Label}
 use Rattle.rx_spec.specs.Tables.{Table, IsTable, is_match_label}
 use Rattle.rx_search.specs.Labels.{label_patterns}
@@ -28,11 +29,7 @@ number_kept : (old new : List (List ℕ)) (added : Label) → AddsPatterns old a
     → HasNumber old label number → HasNumber new label number
 number_kept old new Label.Plain e label number h = subst (λ lists. HasNumber lists label number) (sym e) h
 number_kept old new Label.Quits e label number h = subst (λ lists. HasNumber lists label number) (sym e) h
-number_kept old new (Label.Matches ks) adds label number h =
-    ⊎_elim (λ (e : new ≡ old). subst (λ lists. HasNumber lists label number) (sym e) h)
-    (λ (e : new ≡ old ++ ks ∷ []).
-    subst (λ lists. HasNumber lists label number) (sym e) (number_push old ks label number h))
-    adds
+number_kept old new (Label.Matches ks) adds label number h = grind (arith, common_steps, number_push)
 
 -- ---- the rows up to one
 
@@ -42,99 +39,41 @@ pub record AreLabelled (t : Table) (row : ℕ) (lists : List (List ℕ)) (labels
   pub has_number : (x : ℕ) → x < row → HasNumber lists (t.machine.label x) (slice_index labels x)
   pub below : (x : ℕ) → x < row → slice_index labels x ≤ x
 
-pub none_labelled : (t : Table) → AreLabelled t 0 [] []
-none_labelled t = record {
-  count = refl;
-  few = inl refl;
-  has_number = λ x h. absurd (omega (arith, h));
-  below = λ x h. absurd (omega (arith, h));
-}
-
 -- match rows stand behind quit
 match_row : {t : Table} → IsTable t → (row : ℕ) (ks : List ℕ) → t.machine.label row ≡ Label.Matches ks → 2 ≤ row
-match_row {t} is zero ks e =
-    let wrong : Label.Plain ≡ Label.Matches ks = sym is.dead_label ∙ e in
-    absurd cc
-match_row {t} is (suc zero) ks e =
-    let wrong : Label.Quits ≡ Label.Matches ks = sym is.quit_label ∙ e in
-    absurd cc
+match_row {t} is zero ks e = grind (arith, common_steps)
+match_row {t} is (suc zero) ks e = grind (arith, common_steps)
 match_row {t} is (suc (suc row)) ks e = omega arith
 
 few_more : {t : Table} → IsTable t → (row : ℕ) (old new : List (List ℕ)) (label : Label) → t.machine.label row ≡ label
     → AddsPatterns old label new → (length old ≡ 0) ⊎ (length old + 2 ≤ row)
     → (length new ≡ 0) ⊎ (length new + 2 ≤ row + 1)
-few_more is row old new Label.Plain l e h =
-    ⊎_elim (λ (none : length old ≡ 0). inl (ap length e ∙ none))
-    (λ (some : length old + 2 ≤ row). inr (omega (arith, ap length e))) h
-few_more is row old new Label.Quits l e h =
-    ⊎_elim (λ (none : length old ≡ 0). inl (ap length e ∙ none))
-    (λ (some : length old + 2 ≤ row). inr (omega (arith, ap length e))) h
-few_more is row old new (Label.Matches ks) l adds h =
-    let low : 2 ≤ row = match_row is row ks l in
-    let longer : length new ≤ length old + 1 =
-    ⊎_elim (λ (e : new ≡ old). (let n = ap length e in let g : length new ≤ length old + 1 = omega arith in g))
-    (λ (e : new ≡ old ++ ks ∷ []).
-    (let n = ap length e ∙ length-append old (ks ∷ []) in let g : length new ≤ length old + 1 = omega arith in g))
-    adds in
-    ⊎_elim
-    (λ (none : length old ≡ 0).
-    ⊎_elim (λ (e : length new ≡ 0). inl e) (λ (ne : length new ≡ 0 → ⊥). inr (omega arith)) (cases_eq (length new) 0))
-    (λ (some : length old + 2 ≤ row). inr (omega arith)) h
+few_more is row old new Label.Plain l e h = grind (arith, common_steps)
+few_more is row old new Label.Quits l e h = grind (arith, common_steps)
+few_more is row old new (Label.Matches ks) l adds h = grind (arith, common_steps, match_row, length-append, cases_eq)
 
 number_below : {t : Table} → IsTable t → (row : ℕ) (new : List (List ℕ)) (label : Label) (number : ℕ)
     → t.machine.label row ≡ label → HasNumber new label number → (length new ≡ 0) ⊎ (length new + 2 ≤ row + 1)
     → number ≤ row
 number_below is row new Label.Plain number l e few = omega (arith, e)
-number_below {t} is row new Label.Quits number l e few =
-    ⊎_elim
-    (λ (z : row ≡ 0).
-    let wrong : Label.Plain ≡ Label.Quits = sym is.dead_label ∙ ap t.machine.label (sym z) ∙ l in
-    absurd cc)
-    (λ (nz : row ≡ 0 → ⊥). (let g : number ≤ row = omega (arith, e, nz) in g))
-    (cases_eq row 0)
-number_below is row new (Label.Matches ks) number l (place, e, at) few =
-    let there = slice_get_within new place ks at in
-    ⊎_elim (λ (none : length new ≡ 0). absurd (omega (arith, there, none)))
-    (λ (some : length new + 2 ≤ row + 1). (let g : number ≤ row = omega (arith, there, e, some) in g)) few
+number_below {t} is row new Label.Quits number l e few = grind (arith, common_steps, cases_eq)
+number_below is row new (Label.Matches ks) number l (place, e, at) few = grind (arith, common_steps, slice_get_within)
 
 pub one_labelled : {t : Table} → IsTable t → {row : ℕ} {old new : List (List ℕ)} {labels : List ℕ} (number : ℕ)
     → AreLabelled t row old labels → AddsLabel old (t.machine.label row) number new
     → AreLabelled t (row + 1) new (labels ++ number ∷ [])
 one_labelled {t} is {row} {old} {new} {labels} number h adds =
-    let few = few_more is row old new (t.machine.label row) refl adds.added h.few in
-    let last : slice_index (labels ++ number ∷ []) row ≡ number = get_or_push labels number 0 row h.count in
-    let before : (x : ℕ) → x < row → slice_index (labels ++ number ∷ []) x ≡ slice_index labels x =
-    λ x l. get_or_append_left labels (number ∷ []) 0 x (omega (arith, h.count)) in
-    record {
-      count = omega (arith, length-append labels (number ∷ []), h.count);
-      few = few;
-      has_number = λ x l.
-          ⊎_elim
-          (λ (e : x ≡ row).
-          subst (λ x. HasNumber new (t.machine.label x) (slice_index (labels ++ number ∷ []) x)) (sym e)
-          (subst (HasNumber new (t.machine.label row)) (sym last) adds.number_is))
-          (λ (ne : x ≡ row → ⊥).
-          let lx : x < row = omega arith in
-          subst (HasNumber new (t.machine.label x)) (sym (before x lx))
-          (number_kept old new (t.machine.label row) adds.added (t.machine.label x) (slice_index labels x)
-          (h.has_number x lx)))
-          (cases_eq x row);
-      below = λ x l.
-          ⊎_elim
-          (λ (e : x ≡ row).
-          (let g : slice_index (labels ++ number ∷ []) x ≤ x =
-          omega (
-            arith,
-            ap (slice_index (labels ++ number ∷ [])) e,
-            last,
-            number_below is row new (t.machine.label row) number refl adds.number_is few,
-          ) in
-          g))
-          (λ (ne : x ≡ row → ⊥).
-          let lx : x < row = omega arith in
-          (let g : slice_index (labels ++ number ∷ []) x ≤ x = omega (arith, before x lx, h.below x lx) in g))
-          (cases_eq x row);
-    }
+    grind (
+      arith,
+      common_steps,
+      few_more,
+      get_or_push,
+      get_or_append_left,
+      length-append,
+      number_kept,
+      cases_eq,
+      number_below,
+    )
 
 -- ---- all rows
 
@@ -149,10 +88,7 @@ module _ (lists : List (List ℕ)) (distinct : AllPairs (λ key other. key ≢ o
   one_label (Label.Matches ks) Label.Plain number (place, e, at) k = absurd (omega (arith, e, k))
   one_label (Label.Matches ks) Label.Quits number (place, e, at) k = absurd (omega (arith, e, k))
   one_label (Label.Matches ks) (Label.Matches js) number (place, e, at) (other, f, there) =
-      let same : place ≡ other = omega (arith, e, f) in
-      ap Label.Matches
-      (sym (get_or_from_slice_get lists place ks [] at) ∙ ap (λ k. get_or lists k []) same
-      ∙ get_or_from_slice_get lists other js [] there)
+      grind (arith, common_steps, get_or_from_slice_get)
 
   one_place : (i j : ℕ) (ks : List ℕ) → slice_get lists i ≡ Some ks → slice_get lists j ≡ Some ks → i ≡ j
   one_place i j ks at there =
@@ -171,12 +107,7 @@ module _ (lists : List (List ℕ)) (distinct : AllPairs (λ key other. key ≢ o
   one_number (Label.Matches ks) n m (i, e, at) (j, f, there) = omega (arith, e, f, one_place i j ks at there)
 
   pub all_labelled : (t : Table) (labels : List ℕ) → AreLabelled t t.size lists labels → AreByLabel t labels
-  all_labelled t labels h x y lx ly = (
-    λ e. one_label (t.machine.label x) (t.machine.label y) (slice_index labels x) (h.has_number x lx)
-        (subst (HasNumber lists (t.machine.label y)) (sym e) (h.has_number y ly)),
-    λ e. one_number (t.machine.label x) (slice_index labels x) (slice_index labels y) (h.has_number x lx)
-        (subst (λ label. HasNumber lists label (slice_index labels y)) (sym e) (h.has_number y ly)),
-  )
+  all_labelled t labels h x y lx ly = grind (arith, common_steps, one_label, one_number)
 
 -- ---- one row's label
 
@@ -188,20 +119,10 @@ pub record IsInterned (old new : List (List ℕ)) (key : List ℕ) (id : ℕ) : 
 
 -- it gets a number of those that there are then
 pub interned_below : {old new : List (List ℕ)} {key : List ℕ} {id : ℕ} → IsInterned old new key id → id ≤ length old
-interned_below {old} {new} {key} {id} h = by_new h.is_new h.keys
-  where
-    by_new : (is_new : Bool) → new ≡ (if is_new then old ++ key ∷ [] else old) → id ≤ length old
-    by_new true e = omega (arith, slice_get_within new id key h.there, ap length e, length-append old (key ∷ []))
-    by_new false e = omega (arith, slice_get_within new id key h.there, ap length e)
+interned_below {old} {new} {key} {id} h = grind (arith, common_steps, slice_get_within, length-append)
 
 pub match_added : {old new : List (List ℕ)} {key : List ℕ} {id : ℕ} → IsInterned old new key id → (label : Label)
     → is_match_label label ≡ true → key ≡ label_patterns label → AddsLabel old label (2 + id) new
 match_added h Label.Plain e k = absurd cc
 match_added h Label.Quits e k = absurd cc
-match_added {old} {new} {key} {id} h (Label.Matches ks) e k =
-    record { added = by_new h.is_new h.keys; number_is = (id, refl, h.there ∙ ap Some k) }
-  where
-    by_new : (is_new : Bool) → new ≡ (if is_new then old ++ key ∷ [] else old)
-        → (new ≡ old) ⊎ (new ≡ old ++ ks ∷ [])
-    by_new true n = inr (n ∙ ap (λ (k : List ℕ). old ++ k ∷ []) k)
-    by_new false n = inl n
+match_added {old} {new} {key} {id} h (Label.Matches ks) e k = grind (arith, common_steps)

@@ -1,6 +1,7 @@
 -- The rows that are left: their kinds, their order, and which of them are special.
-use Rattle.std.proofs.Common.{◌≡◌, ℕ, ◌*◌, ◌/◌, ◌<◌, ◌≤◌, ◌==◌, ◌&&◌, ◌||◌, nat_lt, ⊎_elim}
-use Rattle.std.proofs.Common.{Bool, true, false, List, length, refl, ap, ap₂, sym, ◌∙◌, subst, arith, slice_index}
+use Rattle.std.proofs.lemmas.Grind.{common_steps}
+use Rattle.std.proofs.Common.{◌≡◌, ℕ, ◌*◌, ◌/◌, ◌<◌, ◌≤◌, ◌==◌, ◌&&◌, ◌||◌, nat_lt, ⊎_elim, Bool, true, false, List}
+use Rattle.std.proofs.Common.{length, refl, ap, ap₂, sym, ◌∙◌, subst, arith, slice_index}
 use Rattle.std.specs.Cmp.{both_ways}
 use Rattle.std.specs.List.{list_any}
 use Rattle.std.specs.Prelude.{Contains}
@@ -10,17 +11,15 @@ use Rattle.std.proofs.lemmas.List.{get_or-map, get_or_default}
 use Rattle.std.proofs.lemmas.List.Elements.{Contains-get_or}
 use Rattle.rx_spec.specs.Tables.{is_match, is_match_label}
 use Rattle.rx_dense.specs.Layouts.{Layout, row_count, stride}
-use Rattle.rx_dense.specs.Specials.{is_in_range}
 use Rattle.rx_dense.proofs.Rows.{quotient, row-below}
 use Rattle.rx_order.specs.RowOrder.{IsOrdered, is_marked, is_start_row, kind_by, kind_of}
 use Rattle.rx_order.proofs.KindNumbers.{high_kind, kind_accels, kind_high, kind_starts, none_in_range}
 use Rattle.rx_order.proofs.KindRanges.{accel_id, is_between}
 use Rattle.rx_order.proofs.KindRanges as KindRanges
-use Rattle.rx_order.proofs.MarkedRows.{any_contains, any_has}
-use Rattle.rx_order.proofs.MarkedRows.{start_row_plain}
+use Rattle.rx_order.proofs.MarkedRows.{any_contains, any_has, start_row_plain}
 use Rattle.rx_order.proofs.Moved.{factor}
-use Rattle.rx_minimize.proofs.JoinedTables.{IsMinimizing, after, before, first, id_is, label_is, left, number}
-use Rattle.rx_minimize.proofs.JoinedTables.{numbered, size, some, specials, starts_len}
+use Rattle.rx_minimize.proofs.JoinedTables.{IsMinimizing, after, before, first, id_is, label_is, left, number, numbered}
+use Rattle.rx_minimize.proofs.JoinedTables.{size, some, specials, starts_len}
 use Rattle.rx_minimize.proofs.KeptKinds.{first_high, first_low, kind_at}
 use Rattle.rx_minimize.proofs.Quotients.{first_number, label_first, number_one, number_zero}
 
@@ -30,9 +29,7 @@ module _ {old : Layout} {blocks numbers firsts ids ends : List ℕ} {lists : Lis
   width = some s
 
   none_before : (row : ℕ) → (before s).is_accelerated row ≡ false
-  none_before row =
-      ap₂ (λ (a b : ℕ). is_in_range a b (row * stride old)) s.kept.plain.min_accel s.kept.plain.max_accel
-      ∙ none_in_range (row * stride old)
+  none_before row = grind (arith, common_steps, none_in_range)
 
   -- ---- start rows
 

@@ -1,32 +1,27 @@
 -- What `minimize` leaves.
-use Rattle.std.proofs.Common.{◌≡◌, ℕ, ◌*◌, ◌<◌, ◌≤◌, if◌then◌else◌, List, [], length, get_or, refl, ap, sym, ◌∙◌}
-use Rattle.std.proofs.Common.{Some, subst, arith}
+use Rattle.std.proofs.lemmas.Grind.{common_steps}
+use Rattle.std.proofs.Common.{◌≡◌, ℕ, ◌*◌, ◌<◌, ◌≤◌, if◌then◌else◌, List, [], length, get_or, refl, ap, sym, ◌∙◌, Some}
+use Rattle.std.proofs.Common.{subst, arith}
 use Rattle.std.specs.List.{concat}
 use Rattle.std.specs.Prelude.{Contains}
 use Rattle.std.proofs.lemmas.Bool.{false≢true}
 use Rattle.rx_spec.specs.Causes.{max_id}
 use Rattle.rx_spec.specs.Tables.{IsSound, IsTable}
-use Rattle.rx_dense.specs.Layouts.{Layout, place_in_range, row_count, stride, universal_row}
+use Rattle.rx_dense.specs.Layouts.{Layout, place_in_range, row_count, stride}
 use Rattle.rx_minimize.specs.Minimized.{AnyMode, IsMinimized}
-use Rattle.rx_minimize.proofs.JoinedTables.{IsMinimizing, after, before, first, joined_lists, left, lists_are}
-use Rattle.rx_minimize.proofs.JoinedTables.{number, numbered}
-use Rattle.rx_minimize.proofs.JoinedTables.{quotient, size}
+use Rattle.rx_minimize.proofs.JoinedTables.{IsMinimizing, after, before, first, joined_lists, left, lists_are, number}
+use Rattle.rx_minimize.proofs.JoinedTables.{numbered, quotient, size}
 use Rattle.rx_minimize.proofs.LeftKinds.{marked, no_accels, none_accelerated, ordered, special_is, start_row_is}
 use Rattle.rx_minimize.proofs.Quotients.{first_below, label_first, number_below, number_is_one, quotient_apart}
-use Rattle.rx_minimize.proofs.Quotients.{quotient_is_table}
-use Rattle.rx_minimize.proofs.Quotients.{quotient_reached, quotient_same}
+use Rattle.rx_minimize.proofs.Quotients.{quotient_is_table, quotient_reached, quotient_same}
 
 module _ {old : Layout} {blocks numbers firsts ids ends : List ℕ} {lists : List (List ℕ)} {new : Layout}
     (s : IsMinimizing old blocks numbers firsts ids ends lists new) where
   no_universal : (row : ℕ) → (after s).universal_unanchored ≡ Some row → row < (after s).size
-  no_universal row e =
-      let none = sym (ap (universal_row (left s)) s.kept.plain.universal_unanchored) ∙ e in
-      absurd cc
+  no_universal row e = grind (arith, common_steps, left)
 
   no_universal_anchored : (row : ℕ) → (after s).universal_anchored ≡ Some row → row < (after s).size
-  no_universal_anchored row e =
-      let none = sym (ap (universal_row (left s)) s.kept.plain.universal_anchored) ∙ e in
-      absurd cc
+  no_universal_anchored row e = grind (arith, common_steps, left)
 
   is_table : IsTable (after s)
   is_table = quotient_is_table (numbered s) (quotient s) no_universal no_universal_anchored

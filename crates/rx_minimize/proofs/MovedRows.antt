@@ -1,6 +1,7 @@
 -- Rows that move down to their places, one after another.
-use Rattle.std.proofs.Common.{◌≡◌, ◌≢◌, ◌<◌, ◌≤◌, ◌+◌, ◌*◌, ◌/◌, ◌%◌, ◌^◌, ◌∙◌, ap₂, inl, inr, ℕ, zero, suc}
-use Rattle.std.proofs.Common.{List, length, refl, sym, ap, subst, ⊎_elim, arith}
+use Rattle.std.proofs.lemmas.Grind.{common_steps}
+use Rattle.std.proofs.Common.{◌≡◌, ◌≢◌, ◌<◌, ◌≤◌, ◌+◌, ◌*◌, ◌/◌, ◌%◌, ◌^◌, ◌∙◌, ap₂, ℕ, zero, suc, List, length, sym}
+use Rattle.std.proofs.Common.{ap, subst, ⊎_elim, arith}
 use Rattle.std.proofs.lemmas.Bool.{cases_eq, cases_lt}
 use Rattle.std.proofs.lemmas.Nat.{row_fits}
 use Rattle.std.proofs.Math.Nat.{mod-eq_of_lt}
@@ -15,21 +16,11 @@ use Rattle.rx_minimize.specs.Blocks.{AreFirsts}
 use Rattle.rx_minimize.specs.Joined.{AreMoved}
 
 pub none_moved : (width : ℕ) (rows words : List ℕ) → AreMoved width rows 0 words words
-none_moved width rows words = record {
-  length_is = refl;
-  moved = λ place c h l. absurd (omega (arith, h));
-  unmoved = λ row c h l. refl;
-}
+none_moved width rows words = grind (arith, common_steps)
 
 -- the words of one row lie outside those of another
 outside : (width row other c : ℕ) → c < width → row ≢ other → IsOutside (other * width) width (row * width + c)
-outside width row other c l ne =
-    ⊎_elim
-    (λ (below : row < other).
-    inl (omega (arith, row_fits row width other width below (omega arith))))
-    (λ (above : other ≤ row).
-    inr (omega (arith, row_fits other width row width (omega (arith, above, ne)) (omega arith))))
-    (cases_lt row other)
+outside width row other c l ne = grind (arith, common_steps, row_fits, cases_lt)
 
 -- a row of rising ones is at least its place
 pub place_least : {size : ℕ} {rows : List ℕ} → AreFirsts size rows → (place : ℕ) → place < length rows
@@ -89,7 +80,4 @@ module _ (old now : Layout) (rest : now ≡ record old { words = now.words }) wh
 -- the ids of rows are shifted whole
 pub shifted : (l : Layout) → length l.words ≤ max_id + stride l → (row : ℕ) → row < row_count l
     → (row * stride l % 18446744073709551616 ≡ row * stride l) × (row * stride l ≤ max_id)
-shifted l few row h =
-    let is = IsRowId-row l row h in
-    let low : row * stride l ≤ max_id = omega (arith, few, is.below) in
-    (mod-eq_of_lt (omega (arith, low)), low)
+shifted l few row h = grind (arith, common_steps, mod-eq_of_lt)

@@ -1,4 +1,5 @@
 -- The ids that rows get: those of the first rows of their blocks, at their new places.
+use Rattle.std.proofs.lemmas.Grind.{common_steps}
 use Rattle.std.proofs.Common.{◌≡◌, ℕ, ◌+◌, ◌-◌, ◌*◌, ◌<◌, ◌≤◌, All, List, length, map, ap, ◌∙◌, subst, ⊎_elim, arith}
 use Rattle.std.proofs.Common.{slice_index}
 use Rattle.std.proofs.lemmas.Bool.{cases_lt}
@@ -28,14 +29,7 @@ firsts_few {size} {firsts} are =
 -- where a list of first rows ends there is an id, or the end of the table
 pub ends_few : (l : Layout) → length l.words ≤ max_id + stride l → {firsts : List ℕ} → AreFirsts (row_count l) firsts
     → (end : ℕ) → end ≤ length firsts → end * stride l ≤ max_id + stride l
-ends_few l few are end h =
-    let within : end ≤ row_count l = omega (arith, firsts_few are) in
-    omega (
-      arith,
-      mul-le end (stride l) (row_count l) (stride l) within (omega arith),
-      div-add-mod' (length l.words) (stride l),
-      few,
-    )
+ends_few l few are end h = grind (arith, common_steps, firsts_few, mul-le, div-add-mod')
 
 module _ {l : Layout} {blocks numbers firsts : List ℕ} (are : IsPartitioned l blocks)
     (renumbered : AreRenumbered blocks numbers firsts) where

@@ -1,4 +1,5 @@
 -- What a table says in which the first row of each block is left.
+use Rattle.std.proofs.lemmas.Grind.{common_steps}
 use Rattle.std.proofs.Common.{◌≡◌, ◌≢◌, ℕ, ◌<◌, ◌≤◌, List, [], ◌∷◌, length, sym, ap, ◌∙◌, arith, ⊎_elim}
 use Rattle.std.proofs.lemmas.Bool.{cases_eq, cases_lt}
 use Rattle.std.specs.Prelude.{Some, slice_index}
@@ -87,20 +88,7 @@ module _ {t : Table} {blocks numbers firsts : List ℕ} (by : AreNumbered t bloc
       cc
 
   pub number_one : number 1 ≡ 1
-  number_one =
-      let k = number_below 1 one_row in
-      let le = by.renumbered.first_least 1 (row_below one_row) in
-      let other : number 1 ≢ 0 = (λ e. quit_apart (e ∙ sym number_zero)) in
-      ⊎_elim
-      (λ (h : 1 < number 1). absurd (
-      omega (
-        arith,
-        le,
-        by.renumbered.are_firsts.rising 1 (number 1) h k,
-        by.renumbered.are_firsts.rising 0 1 (omega arith) (omega arith),
-      )))
-      (λ (h : number 1 ≤ 1). (let e : number 1 ≡ 1 = omega (arith, other) in e))
-      (cases_lt 1 (number 1))
+  number_one = grind (arith, common_steps, number_below, one_row, row_below, quit_apart, number_zero, cases_lt)
 
   pub two_firsts : 2 ≤ length firsts
   two_firsts = omega (arith, number_one, number_below 1 one_row)
@@ -122,9 +110,7 @@ module _ {t : Table} {blocks numbers firsts : List ℕ} (by : AreNumbered t bloc
 
   -- a row behaves like the first one of its block
   pub first_alike : (row : ℕ) → row < t.size → BehaveAlike t (first (number row)) row
-  first_alike row l =
-      alike (first (number row)) row (first_below (number row) (number_below row l)) l
-      (first_number (number row) (number_below row l))
+  first_alike row l = grind (arith, common_steps, alike, first_below, number_below, first_number)
 
   -- quit alone is in quit's block
   pub number_is_one : (row : ℕ) → row < t.size → number row ≡ 1 → row ≡ 1

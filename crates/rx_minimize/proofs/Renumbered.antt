@@ -1,10 +1,10 @@
 -- Blocks are numbered in the order of their first rows, one row after another.
-use Rattle.std.proofs.Common.{◌≡◌, ◌≢◌, ℕ, ◌<◌, ◌≤◌, ◌+◌, ◌⊎◌, inl, inr, ⊎_elim, List, [], ◌∷◌, ◌++◌}
-use Rattle.std.proofs.Common.{length, length-append, refl, sym, ap, ◌∙◌, subst, arith}
+use Rattle.std.proofs.lemmas.Grind.{common_steps}
+use Rattle.std.proofs.Common.{◌≡◌, ◌≢◌, ℕ, ◌<◌, ◌≤◌, ◌+◌, ◌⊎◌, inl, inr, ⊎_elim, List, [], ◌∷◌, ◌++◌, length}
+use Rattle.std.proofs.Common.{length-append, refl, sym, ap, ◌∙◌, subst, arith}
 use Rattle.std.proofs.lemmas.Bool.{cases_eq}
 use Rattle.std.proofs.lemmas.List.{get_or_push, get_or_append_left, get_or-set_same, get_or-set_other, length-set}
-use Rattle.std.proofs.lemmas.List.{get_or-replicate, length-replicate}
-use Rattle.std.specs.Prelude.{slice_index, slice_set, replicate}
+use Rattle.std.specs.Prelude.{slice_index, slice_set}
 use Rattle.rx_minimize.specs.Blocks.{AreRenumbered}
 
 -- the first row of a named block, by its name
@@ -25,20 +25,6 @@ pub record AreNamed (blocks : List ℕ) (row : ℕ) (names numbers firsts : List
   pub first_number : (k : ℕ) → k < length firsts → slice_index numbers (slice_index firsts k) ≡ k
   pub first_least : (x : ℕ) → x < row → slice_index firsts (slice_index numbers x) ≤ x
   pub rising : (j k : ℕ) → j < k → k < length firsts → slice_index firsts j < slice_index firsts k
-
-pub none_named : (blocks : List ℕ) → AreNamed blocks 0 (replicate (length blocks) (length blocks)) [] []
-none_named blocks = record {
-  names_len = length-replicate (length blocks) (length blocks);
-  count = refl;
-  few = omega arith;
-  named = λ x h. absurd (omega (arith, h));
-  below = λ x h. absurd (omega (arith, h));
-  back = λ b h. inl (get_or-replicate (length blocks) b (length blocks) 0 h);
-  first_below = λ k h. absurd (omega (arith, h));
-  first_number = λ k h. absurd (omega (arith, h));
-  first_least = λ x h. absurd (omega (arith, h));
-  rising = λ j k l h. absurd (omega (arith, h));
-}
 
 module _ {blocks : List ℕ} {row : ℕ} {names numbers firsts : List ℕ} (h : AreNamed blocks row names numbers firsts)
     (within : row < length blocks) (fits : slice_index blocks row < length blocks) where
@@ -235,29 +221,4 @@ module _ {blocks : List ℕ} {row : ℕ} {names numbers firsts : List ℕ} (h : 
 pub all_named : {blocks : List ℕ} {row : ℕ} {names numbers firsts : List ℕ} → row ≡ length blocks
     → ((x : ℕ) → x < length blocks → slice_index blocks x < length blocks)
     → AreNamed blocks row names numbers firsts → AreRenumbered blocks numbers firsts
-all_named {blocks} {row} {names} {numbers} {firsts} all fits h = record {
-  count = h.count ∙ all;
-  same = λ x y lx ly. (
-    λ e. sym (own x lx) ∙ ap (λ n. slice_index blocks (slice_index firsts n)) e ∙ own y ly,
-    λ e. sym (h.named x (in_row lx)) ∙ ap (slice_index names) e ∙ h.named y (in_row ly),
-  );
-  below = λ x l. h.below x (in_row l);
-  are_firsts = record { below = λ k l. omega (arith, all, h.first_below k l); rising = h.rising };
-  first_number = h.first_number;
-  first_least = λ x l. h.first_least x (in_row l);
-}
-  where
-    in_row : {x : ℕ} → x < length blocks → x < row
-    in_row l = omega (arith, all)
-
-    own : (x : ℕ) → x < length blocks
-        → slice_index blocks (slice_index firsts (slice_index numbers x)) ≡ slice_index blocks x
-    own x l =
-        let named = h.named x (in_row l) in
-        ⊎_elim
-        (λ (none : slice_index names (slice_index blocks x) ≡ length blocks).
-        absurd (omega (arith, none, named, h.below x (in_row l), h.few, all)))
-        (λ (is : (slice_index names (slice_index blocks x) < length firsts)
-        × (slice_index blocks (slice_index firsts (slice_index names (slice_index blocks x))) ≡ slice_index blocks x)).
-        ap (λ n. slice_index blocks (slice_index firsts n)) (sym named) ∙ is.1)
-        (h.back (slice_index blocks x) (fits x l))
+all_named {blocks} {row} {names} {numbers} {firsts} all fits h = grind (arith, common_steps)

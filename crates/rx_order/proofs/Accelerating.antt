@@ -1,7 +1,7 @@
 -- Accelerated tables: a table in order, with the rows from which a search may skip put beside each other.
-use Rattle.std.proofs.Common.{◌≡◌, ℕ, ◌+◌, ◌-◌, ◌*◌, ◌/◌, ◌<◌, ◌≤◌, ◌==◌, ◌&&◌, not, nat_lt, nat_le, Bool}
-use Rattle.std.proofs.Common.{true, false, if◌then◌else◌, List, [], length, map, slice_index, get_or}
-use Rattle.std.proofs.Common.{refl, ap, ap₂, sym, ◌∙◌, subst, ⊎_elim, arith}
+use Rattle.std.proofs.Common.{rules, ◌≡◌, ℕ, ◌+◌, ◌-◌, ◌*◌, ◌/◌, ◌<◌, ◌≤◌, ◌==◌, ◌&&◌, not, nat_lt, nat_le, Bool, true}
+use Rattle.std.proofs.Common.{false, if◌then◌else◌, List, [], length, map, slice_index, get_or, refl, ap, ap₂, sym, ◌∙◌}
+use Rattle.std.proofs.Common.{subst, ⊎_elim, arith}
 use Rattle.std.specs.List.{concat, list_any, range_with_len}
 use Rattle.std.specs.List.Sorted.{IsPermutation}
 use Rattle.std.proofs.Math.Bool.{and-false}
@@ -14,8 +14,8 @@ use Rattle.rx_spec.specs.Machines.{Label}
 use Rattle.rx_spec.specs.Tables.{IsSound, Table, is_match, is_match_label, leaving}
 use Rattle.rx_search.specs.Labels.{patterns_of}
 use Rattle.rx_dense.specs.Builder.{with_patterns}
-use Rattle.rx_dense.specs.Layouts.{Layout, AreRows, AreStarts, machine_of, place_in_range}
-use Rattle.rx_dense.specs.Layouts.{row_count, stride, table_of}
+use Rattle.rx_dense.specs.Layouts.{Layout, AreRows, AreStarts, machine_of, place_in_range, row_count, stride, table_of}
+use Rattle.rx_dense.specs.Layouts.{IsRowId}
 use Rattle.rx_dense.specs.declared.special.Special.{Special}
 use Rattle.rx_dense.proofs.Shaped.{rows_kept, starts_kept}
 use Rattle.rx_order.specs.ByKind.{AreByKind, AreKinds, leaving_of, lists_in}
@@ -27,18 +27,16 @@ use Rattle.rx_order.proofs.Leaving.{leaving_is}
 use Rattle.rx_order.proofs.MarkedRows.{start_row_plain}
 use Rattle.rx_order.proofs.MatchRows.{HasPatterns, joined, label_of_number, lists_are, matching_label, place_from}
 use Rattle.rx_order.proofs.MatchRows.{plain_label}
-use Rattle.rx_order.proofs.Ordered.{IsArranged, Sorting, accel_id, accel_is, behind_end, end, end_high}
-use Rattle.rx_order.proofs.Ordered.{ends_few, ends_quit, kind_at, low_kind, low_row, number, ordered, permuted, row_at}
+use Rattle.rx_order.proofs.Ordered.{IsArranged, Sorting, accel_id, accel_is, behind_end, end, end_high, ends_few}
+use Rattle.rx_order.proofs.Ordered.{ends_quit, kind_at, low_kind, low_row, number, ordered, permuted, row_at, from_end}
+use Rattle.rx_order.proofs.Ordered.{high_kind_is, size_same, some, special_is, stride_same, to_end, specials}
+use Rattle.rx_order.proofs.Ordered.{start_kinds, start_row_is}
 use Rattle.rx_order.proofs.KindNumbers.{high_matches, at_most}
-use Rattle.rx_order.proofs.Ordered.{from_end, high_kind_is, size_same, some, special_is}
-use Rattle.rx_order.proofs.Ordered.{stride_same, to_end}
 use Rattle.rx_order.proofs.Reordered.{IsBefore, next_below, number_below, number_of_place, numbers, row_at_number}
 use Rattle.rx_order.proofs.Reordered.{row_of_place, stride_is}
 use Rattle.std.proofs.lemmas.Nat.{row_fits}
-use Rattle.rx_dense.specs.Layouts.{IsRowId}
 use Rattle.rx_dense.specs.Specials.{is_start_id}
 use Rattle.rx_dense.proofs.Rows.{quotient, row-below}
-use Rattle.rx_order.proofs.Ordered.{specials, start_kinds, start_row_is}
 use Rattle.rx_order.proofs.Sound.{AreLabels, HasNeedles, frame, sound}
 use Rattle.rx_order.proofs.Unskipped.{low_none}
 
@@ -463,14 +461,7 @@ module _ {old : Layout} {kinds rows ends : List ℕ} {next new m : Layout}
   -- ---- all of it
 
   labels_are : AreLabels l (table_of old).machine.label
-  labels_are = record {
-    dead = sound_old.is_table.dead_label;
-    quit = sound_old.is_table.quit_label;
-    quit_only = λ row h e. sound_old.is_table.quit_only row h e;
-    lists = λ row h. sound_old.is_table.lists row h;
-    starts = sound_old.starts_plain;
-    patterns = λ row ks k h e c. sound_old.patterns row ks k h e c;
-  }
+  labels_are = search rules
 
   routed : IsRouted (table_of l)
   routed = record {

@@ -1,14 +1,14 @@
 -- Rows that were sorted by their kinds, and by their ranks within a kind.
-use Rattle.std.proofs.Common.{◌≡◌, ℕ, ◌+◌, ◌*◌, ◌^◌, ◌<◌, ◌≤◌, List, [], ◌∷◌, length, map, slice_index, get_or, All}
-use Rattle.std.proofs.Common.{refl, ap, sym, ◌∙◌, subst, arith, nat_le, true, false}
+use Rattle.std.proofs.Common.{rules, ◌≡◌, ℕ, ◌+◌, ◌*◌, ◌^◌, ◌<◌, ◌≤◌, List, [], ◌∷◌, length, map, slice_index, get_or}
+use Rattle.std.proofs.Common.{All, refl, ap, sym, ◌∙◌, subst, arith, nat_le, true, false}
+use Rattle.std.proofs.lemmas.Grind.{common_steps}
 use Rattle.std.specs.List.{range_with_len}
 use Rattle.std.specs.List.Sorted.{IsNonDecreasingBy, IsPartitionedBy, IsPartitionPoint, IsPermutation}
 use Rattle.std.proofs.lemmas.List.{get_or-map, length-map}
 use Rattle.std.proofs.lemmas.List.Elements.{All-cons, All-get_or, All-nil}
 use Rattle.std.proofs.lemmas.Bool.{leb-false, leb-true}
 use Rattle.std.proofs.lemmas.List.FromFn.{length-map-range_with_len}
-use Rattle.std.proofs.lemmas.List.Sorted.{All-permutation, IsPartitionedBy-leb, IsPermutation-map}
-use Rattle.std.proofs.lemmas.List.Sorted.{length_permutation}
+use Rattle.std.proofs.lemmas.List.Sorted.{All-permutation, IsPermutation-map, length_permutation}
 use Rattle.rx_order.specs.ByKind.{AreByKind, AreRanked}
 use Rattle.rx_order.specs.Ranks.{ranked_row}
 use Rattle.rx_order.specs.declared.order.Ranked.{Ranked}
@@ -48,9 +48,7 @@ module _ {kinds ranks : List ℕ} {sorted : List Ranked} (s : AreSorted kinds ra
       s.permutation)
 
   count : length sorted ≡ length kinds
-  count =
-      length_permutation (map (ranked_row kinds ranks) (range_with_len 0 (length kinds))) sorted s.permutation
-      ∙ length-map-range_with_len (ranked_row kinds ranks) 0 (length kinds)
+  count = grind (arith, common_steps, length_permutation, length-map-range_with_len)
 
   -- a row that has its own kind and rank
   abbrev IsOwn : Ranked → Type 0
@@ -86,13 +84,7 @@ module _ {kinds ranks : List ℕ} {sorted : List Ranked} (s : AreSorted kinds ra
       → (IsPartitionedBy (λ row. nat_le row.kind kind) sorted
       → IsPartitionPoint (λ row. nat_le row.kind kind ≡ true) (λ row. nat_le row.kind kind ≡ false) sorted end)
       → IsEnd sorted kind end
-  is_end kind end within parted =
-      let point = parted (IsPartitionedBy-leb (λ row. row.kind) sorted kind kinds_rise) in
-      record {
-        before = λ place d b h. leb-true _ kind (point.0 place d (omega arith) b);
-        behind = λ place d past h. leb-false _ kind (point.1 place d past h);
-        within = within;
-      }
+  is_end kind end within parted = search (rules, kinds_rise, leb-true, leb-false)
 
   pub by_kind : (ends : List ℕ) → length ends ≡ 8
       → ((kind : ℕ) → kind < 8 → IsEnd sorted kind (slice_index ends kind)) → AreByKind kinds numbers ends

@@ -1,6 +1,7 @@
 -- A walk over the rows of a table, as deep as it can go.
-use Rattle.std.proofs.Common.{◌≡◌, ℕ, ◌+◌, ◌-◌, ◌*◌, ◌/◌, ◌%◌, ◌<◌, ◌≤◌, ◌^◌, ◌++◌, [], ◌∷◌, List, All, Some, length}
-use Rattle.std.proofs.Common.{slice_index, slice_set, ◌∙◌, ap, subst, ⊎_elim, arith}
+use Rattle.std.proofs.Common.{rules, ◌≡◌, ℕ, ◌+◌, ◌-◌, ◌*◌, ◌/◌, ◌%◌, ◌<◌, ◌≤◌, ◌^◌, ◌++◌, [], ◌∷◌, List, All, Some}
+use Rattle.std.proofs.Common.{length, slice_index, slice_set, arith}
+use Rattle.std.proofs.lemmas.Grind.{common_steps}
 use Rattle.std.proofs.Math.Nat.{mod-eq_of_lt}
 use Rattle.std.proofs.lemmas.Bool.{cases_eq}
 use Rattle.std.proofs.lemmas.List.{get_or-set_other}
@@ -37,30 +38,15 @@ pub record IsStep (l : Layout) (row count : ℕ) : Type 0 where
   pub next : slice_index l.words (row * stride l + (count - 1)) / stride l < row_count l
 
 pub step : {l : Layout} → AreRows l → (row count : ℕ) → IsLeft l (row, count) → IsStep l row count
-step {l} are row count own =
-    let whole = multiple_below row (stride l) (length l.words) (pow_pos l.stride2) own.0 in
-    let narrow = stride_few l.stride2 are.exponent in
-    let within : row * stride l + (count - 1) < length l.words = omega (arith, whole, own.1, own.2, are.fits) in
-    record {
-      place = mod-eq_of_lt (omega (arith, whole, are.few, narrow));
-      fits = omega (arith, whole, own.1, own.2, are.fits, are.few, narrow);
-      within = within;
-      next = row-below l _ (are.next_ids (row * stride l + (count - 1)) within);
-    }
+step {l} are row count own = search (rules, multiple_below, pow_pos, stride_few, mod-eq_of_lt, row-below)
 
 -- the ranks of rows that no walk comes to
 pub numbered : (ranks : List ℕ) (n row : ℕ) → ranks ≡ range_with_len 0 n → row < n → slice_index ranks row ≡ row
-numbered ranks n row e h =
-    let first : 0 + row ≡ row = omega arith in
-    ap (λ (all : List ℕ). slice_index all row) e ∙ get_or-range_with_len 0 n row 0 (omega (arith, h)) ∙ first
+numbered ranks n row e h = grind (arith, common_steps, get_or-range_with_len)
 
 -- a row that isn't a match row gets a rank
 pub ranks_kept : (kinds ranks : List ℕ) (n next rank : ℕ)
     → ((row : ℕ) → row < n → slice_index kinds row ≡ 2 → slice_index ranks row ≡ row)
     → (slice_index kinds next ≡ 2 → ⊥) → (row : ℕ) → row < n → slice_index kinds row ≡ 2
     → slice_index (slice_set ranks next rank) row ≡ row
-ranks_kept kinds ranks n next rank h other row low two =
-    ⊎_elim
-    (λ (e : row ≡ next). absurd (other (subst (λ r. slice_index kinds r ≡ 2) e two)))
-    (λ (ne : row ≡ next → ⊥). get_or-set_other ranks next row rank 0 ne ∙ h row low two)
-    (cases_eq row next)
+ranks_kept kinds ranks n next rank h other row low two = grind (arith, common_steps, get_or-set_other, cases_eq)

@@ -1,7 +1,8 @@
 -- Lists of the numbers below a number, in any order: each number stands at one place.
-use Rattle.std.proofs.Common.{◌≡◌, ℕ, ◌+◌, ◌<◌, ◌==◌, List, [], ◌∷◌, ◌++◌, length, get_or, map, refl, sym, ◌∙◌, ap, ap₂}
-use Rattle.std.proofs.Common.{⊎_elim, arith, eqb}
-use Rattle.std.specs.Prelude.{All, Contains, slice_index, slice_set}
+use Rattle.std.proofs.lemmas.Grind.{common_steps}
+use Rattle.std.proofs.Common.{◌≡◌, ℕ, ◌+◌, ◌<◌, ◌==◌, List, [], ◌∷◌, ◌++◌, length, get_or, map, refl, sym, ◌∙◌, ap}
+use Rattle.std.proofs.Common.{arith, eqb}
+use Rattle.std.specs.Prelude.{All, Contains, slice_index}
 use Rattle.std.specs.List.{IsDistinct, position_or_len, range_with_len, swap}
 use Rattle.std.specs.List.Sorted.{IsPermutation}
 use Rattle.std.proofs.lemmas.Bool.{cases_eq, eq-eqb, ne_eqb}
@@ -16,11 +17,7 @@ use Rattle.std.proofs.lemmas.Map.Keys.{IsDistinct-IsPermutation, IsDistinct-from
 pub map-swap : {X Y : Type 0} (f : X → Y) (xs : List X) (i j : ℕ) → i < length xs → j < length xs
     → map f (swap xs i j) ≡ swap (map f xs) i j
 map-swap f [] i j hi hj = refl
-map-swap f (d ∷ xs) i j hi hj =
-    map-set f (slice_set (d ∷ xs) i (get_or (d ∷ xs) j d)) j (get_or (d ∷ xs) i d)
-    ∙ ap (λ l. slice_set l j (f (get_or (d ∷ xs) i d))) (map-set f (d ∷ xs) i (get_or (d ∷ xs) j d))
-    ∙ ap₂ (λ x y. slice_set (slice_set (map f (d ∷ xs)) i x) j y)
-    (sym (get_or-map f (d ∷ xs) j d (f d) hj)) (sym (get_or-map f (d ∷ xs) i d (f d) hi))
+map-swap f (d ∷ xs) i j hi hj = grind (arith, common_steps, map-set, get_or-map)
 
 -- one number more
 pub range_more : (n : ℕ) → range_with_len 0 (n + 1) ≡ range_with_len 0 n ++ n ∷ []
@@ -29,11 +26,7 @@ range_more n =
     ∙ ap (λ l. l ++ n ∷ []) (map-id (range_with_len 0 n))
 
 flips : (x y : ℕ) → eqb x y ≡ eqb y x
-flips x y =
-    ⊎_elim
-    (λ (e : x ≡ y). eq-eqb x y e ∙ sym (eq-eqb y x (sym e)))
-    (λ (ne : x ≡ y → ⊥). ne_eqb x y ne ∙ sym (ne_eqb y x (λ e. ne (sym e))))
-    (cases_eq x y)
+flips x y = grind (arith, common_steps, eq-eqb, ne_eqb, cases_eq)
 
 range_is_distinct : (n : ℕ) → IsDistinct eqb (range_with_len 0 n)
 range_is_distinct n =

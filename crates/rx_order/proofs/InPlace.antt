@@ -1,6 +1,7 @@
 -- Rows that lie in order already: the table stays as it is, since each row has its own id.
-use Rattle.std.proofs.Common.{◌≡◌, ◌≢◌, ℕ, zero, suc, ◌+◌, ◌-◌, ◌*◌, ◌/◌, ◌<◌, ◌≤◌, ◌∙◌, List}
-use Rattle.std.proofs.Common.{slice_index, refl, ap, sym, subst, ⊎_elim, arith}
+use Rattle.std.proofs.Common.{rules, ◌≡◌, ◌≢◌, ℕ, zero, suc, ◌+◌, ◌-◌, ◌*◌, ◌<◌, ◌≤◌, ◌∙◌, List, slice_index, refl, ap}
+use Rattle.std.proofs.Common.{sym, subst, ⊎_elim, arith}
+use Rattle.std.proofs.lemmas.Grind.{common_steps}
 use Rattle.std.specs.List.{range_with_len}
 use Rattle.std.specs.List.Sorted.{IsNonDecreasing, IsPermutation}
 use Rattle.std.proofs.lemmas.Bool.{cases_eq, lt-ltb}
@@ -57,8 +58,7 @@ module _ (n : ℕ) {order : List ℕ} (p : IsPermutation (range_with_len 0 n) or
 module _ {l : Layout} (rows : AreRows l) (starts : AreStarts l) where
   -- a row's id is the one that the list of all ids has for it
   own_id : (id : ℕ) → IsRowId l id → renamed_id l (ids_of l) id ≡ id
-  own_id id is =
-      id_of-dense (row_count l) l.stride2 (id / stride l) (row-below l id is) ∙ quotient id (stride l) is.whole
+  own_id id is = grind (arith, common_steps, id_of-dense, row-below, quotient)
 
   own_word : (row unit : ℕ) → row < row_count l → unit < 257
       → IsRowId l (slice_index l.words (row * stride l + column l unit))
@@ -78,12 +78,7 @@ module _ {l : Layout} (rows : AreRows l) (starts : AreStarts l) where
       (λ k b. own_id _ (starts.start_ids k b)))))
 
   own_machine : IsMachineRenamed l l (ids_of l)
-  own_machine = record {
-    rows = refl;
-    nexts = λ row unit b within. ap (λ id. id / stride l) (sym (own_id _ (own_word row unit b within)));
-    entries = λ mode start has.
-        rw (lt-ltb _ _ has) (ap (λ id. id / stride l) (sym (own_id _ (start_is_row l starts mode start has))));
-  }
+  own_machine = search (rules, own_id, own_word, lt-ltb, start_is_row)
 
   pub in_place : {lying ids order : List ℕ} → AreUnmoved l lying ids → order ≡ range_with_len 0 (row_count l)
       → IsReordered order l l

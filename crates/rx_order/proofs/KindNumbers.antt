@@ -1,10 +1,8 @@
 -- Kinds of rows as numbers, and ranges of ids.
-use Rattle.std.proofs.Common.{◌≡◌, ℕ, ◌-◌, ◌*◌, ◌<◌, ◌≤◌, ◌&&◌, ◌||◌}
-use Rattle.std.proofs.Common.{nat_lt, nat_le, Bool, true, false, if◌then◌else◌, List}
-use Rattle.std.proofs.Common.{refl, sym, subst, ⊎_elim, arith}
-use Rattle.std.proofs.lemmas.Bool.{cases_eq, cases_lt, ne_eqb}
-use Rattle.std.proofs.lemmas.Bool.{lt-ltb}
-use Rattle.std.proofs.lemmas.Bool.{le-ltb}
+use Rattle.std.proofs.lemmas.Grind.{common_steps}
+use Rattle.std.proofs.Common.{◌≡◌, ℕ, ◌-◌, ◌*◌, ◌<◌, ◌≤◌, ◌&&◌, ◌||◌, nat_lt, nat_le, Bool, true, false, if◌then◌else◌}
+use Rattle.std.proofs.Common.{List, refl, sym, arith}
+use Rattle.std.proofs.lemmas.Bool.{cases_eq, cases_lt, ne_eqb, lt-ltb, le-ltb}
 use Rattle.std.proofs.lemmas.Bool.Decides.{nat_tests}
 use Rattle.std.proofs.lemmas.Nat.{mul-le, row_fits}
 use Rattle.rx_dense.specs.Specials.{is_in_range}
@@ -37,11 +35,7 @@ any_of s false false false false false f g h i j k = k refl refl refl refl refl
 
 -- no rows are in a range that begins and ends at dead
 pub none_in_range : (id : ℕ) → is_in_range 0 0 id ≡ false
-none_in_range id =
-    ⊎_elim
-    (λ (e : id ≡ 0). rw e refl)
-    (λ (ne : id ≡ 0 → ⊥). rw (over id 0 (omega (arith, ne)), at_most 0 id (omega arith)) refl)
-    (cases_eq id 0)
+none_in_range id = grind (arith, common_steps, over, at_most, cases_eq)
 
 module _ (width from to place : ℕ) (some : 0 < width) (behind : 0 < from) where
   pub id : ℕ
@@ -55,52 +49,7 @@ module _ (width from to place : ℕ) (some : 0 < width) (behind : 0 < from) wher
 
   pub in_ids : is_in_range (first_id width from to) (last_id width from to) (place * width)
       ≡ (nat_le from place && nat_lt place to)
-  in_ids =
-      ⊎_elim
-      (λ (h : from < to).
-      rw (lt-ltb from to h)
-      (⊎_elim
-      (λ (low : place < from).
-      rw (over (from * width) (place * width) (above place from low), over from place low) refl)
-      (λ (high : from ≤ place).
-      ⊎_elim
-      (λ (inside : place < to).
-      let behind_zero = above 0 place (omega arith) in
-      let other : place * width ≡ 0 → ⊥ = λ e. absurd (omega (arith, e, behind_zero)) in
-      rw (
-        at_most (from * width) (place * width) (times from place high),
-        at_most (place * width) ((to - 1) * width) (times place (to - 1) (omega arith)),
-        ne_eqb (place * width) 0 other,
-        at_most from place high,
-        lt-ltb place to inside,
-      )
-      refl)
-      (λ (past : to ≤ place).
-      rw (
-        at_most (from * width) (place * width) (times from place high),
-        over (place * width) ((to - 1) * width) (above (to - 1) place (omega arith)),
-        at_most from place high,
-        le-ltb place to past,
-      )
-      refl)
-      (cases_lt place to))
-      (cases_lt place from)))
-      (λ (none : to ≤ from).
-      rw (le-ltb from to none)
-      (⊎_elim
-      (λ (first : place * width ≡ 0).
-      rw first (empty none))
-      (λ (later : place * width ≡ 0 → ⊥).
-      rw (at_most 0 (place * width) (omega arith), over (place * width) 0 (omega arith)) (empty none))
-      (cases_eq (place * width) 0)))
-      (cases_lt from to)
-    where
-      empty : to ≤ from → false ≡ (nat_le from place && nat_lt place to)
-      empty none =
-          ⊎_elim
-          (λ (low : place < from). rw (over from place low) refl)
-          (λ (high : from ≤ place). rw (at_most from place high, le-ltb place to (omega arith)) refl)
-          (cases_lt place from)
+  in_ids = grind (arith, common_steps, lt-ltb, over, above, at_most, times, ne_eqb, le-ltb, cases_lt, cases_eq)
 
 -- ---- kinds
 
@@ -111,10 +60,7 @@ high_kind matches accelerated starts =
     else (if accelerated then (if starts then 5 else 4) else (if starts then 6 else 7))
 
 pub kind_high : (row : ℕ) (m a s : Bool) → 1 < row → kind_by row m a s ≡ high_kind m a s
-kind_high row m a s h =
-    let dead : row ≡ 0 → ⊥ = λ e. absurd (omega (arith, e)) in
-    let quit : row ≡ 1 → ⊥ = λ e. absurd (omega (arith, e)) in
-    rw (ne_eqb row 0 dead, ne_eqb row 1 quit) refl
+kind_high row m a s h = grind (arith, common_steps, ne_eqb)
 
 pub high_above : (m a s : Bool) → 2 ≤ high_kind m a s
 high_above true true s = omega arith
@@ -133,40 +79,17 @@ high_below false false true = omega arith
 high_below false false false = omega arith
 
 pub kind_small : (row : ℕ) (m a s : Bool) → kind_by row m a s < 8
-kind_small row m a s =
-    ⊎_elim
-    (λ (high : 1 < row). rw (kind_high row m a s high) (high_below m a s))
-    (λ (low : row ≤ 1).
-    ⊎_elim
-    (λ (e : row ≡ 0). rw e (omega arith))
-    (λ (ne : row ≡ 0 → ⊥). let one : row ≡ 1 = omega (arith, ne) in rw one (omega arith))
-    (cases_eq row 0))
-    (cases_lt 1 row)
+kind_small row m a s = grind (arith, common_steps, kind_high, high_below, cases_eq, cases_lt)
 
 -- the first kinds are those of dead and quit
 pub row_first : (row : ℕ) (m a s : Bool) → kind_by row m a s ≤ 1 → row ≤ 1
-row_first row m a s h =
-    ⊎_elim
-    (λ (high : 1 < row). absurd (omega (arith, h, kind_high row m a s high, high_above m a s)))
-    (λ (low : row ≤ 1). low)
-    (cases_lt 1 row)
+row_first row m a s h = grind (arith, common_steps, kind_high, high_above, cases_lt)
 
 pub row_dead : (row : ℕ) (m a s : Bool) → kind_by row m a s ≤ 0 → row ≡ 0
-row_dead row m a s h =
-    let low = row_first row m a s (omega (arith, h)) in
-    ⊎_elim
-    (λ (e : row ≡ 0). e)
-    (λ (ne : row ≡ 0 → ⊥).
-    let one : row ≡ 1 = omega (arith, ne) in
-    absurd (omega (arith, subst (λ r. kind_by r m a s ≤ 0) one h)))
-    (cases_eq row 0)
+row_dead row m a s h = grind (arith, common_steps, row_first, cases_eq)
 
 pub kind_low : (row : ℕ) (m a s : Bool) → row ≤ 1 → kind_by row m a s ≡ row
-kind_low row m a s h =
-    ⊎_elim
-    (λ (e : row ≡ 0). rw e refl)
-    (λ (ne : row ≡ 0 → ⊥). let one : row ≡ 1 = omega (arith, ne) in rw one refl)
-    (cases_eq row 0)
+kind_low row m a s h = grind (arith, common_steps, cases_eq)
 
 -- which kinds are which rows
 pub high_matches : (m a s : Bool) → (nat_lt 1 (high_kind m a s) && nat_le (high_kind m a s) 3) ≡ m
@@ -199,11 +122,7 @@ module _ (row : ℕ) (m a s : Bool) where
   by_kind : (from to : ℕ) (test : Bool) → 1 ≤ from → (row ≤ 1 → test ≡ false)
       → (nat_lt from (high_kind m a s) && nat_le (high_kind m a s) to) ≡ test
       → (nat_lt from (kind_by row m a s) && nat_le (kind_by row m a s) to) ≡ test
-  by_kind from to test some low high =
-      ⊎_elim
-      (λ (h : 1 < row). rw (kind_high row m a s h) high)
-      (λ (h : row ≤ 1). rw (kind_low row m a s h, le-ltb from row (omega arith)) (sym (low h)))
-      (cases_lt 1 row)
+  by_kind from to test some low high = grind (arith, common_steps, kind_high, kind_low, le-ltb, cases_lt)
 
   pub kind_matches : (row ≤ 1 → m ≡ false) → (nat_lt 1 (kind_by row m a s) && nat_le (kind_by row m a s) 3) ≡ m
   kind_matches low = by_kind 1 3 m (omega arith) low (high_matches m a s)

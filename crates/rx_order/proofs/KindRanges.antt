@@ -1,13 +1,14 @@
 -- Special ids of a table whose rows lie by their kinds: tests of ids are tests of kinds.
-use Rattle.std.proofs.Common.{◌≡◌, ℕ, zero, suc, ◌-◌, ◌*◌, ◌<◌, ◌≤◌, ◌==◌, ◌&&◌, ◌||◌, not, nat_lt, nat_le}
-use Rattle.std.proofs.Common.{Bool, true, false, if◌then◌else◌, List, slice_index, refl, ap, ap₂, sym, ◌∙◌, subst}
-use Rattle.std.proofs.Common.{⊎_elim, inl, inr, arith}
+use Rattle.std.proofs.Common.{rules, ◌≡◌, ℕ, zero, suc, ◌-◌, ◌*◌, ◌<◌, ◌≤◌, ◌==◌, ◌&&◌, ◌||◌, not, nat_lt, nat_le, Bool}
+use Rattle.std.proofs.Common.{true, false, if◌then◌else◌, List, slice_index, refl, ap, ap₂, sym, ◌∙◌, subst, ⊎_elim}
+use Rattle.std.proofs.Common.{inl, inr, arith}
+use Rattle.std.proofs.lemmas.Grind.{common_steps}
 use Rattle.std.specs.Prelude.{max}
 use Rattle.std.proofs.lemmas.Bool.{cases_eq, cases_lt, false≢true, le-ltb, lt-ltb, ne_eqb}
 use Rattle.std.proofs.lemmas.Bool.Decides.{nat_tests}
 use Rattle.std.proofs.lemmas.Nat.{mul-le, pow_pos, row_fits}
-use Rattle.rx_dense.specs.Layouts.{Layout, patterns_at, place_in_range, row_count, stride, table_of}
-use Rattle.rx_dense.specs.Specials.{greatest, is_accel_id, is_in_range, is_match_id, is_quit_id, is_start_id}
+use Rattle.rx_dense.specs.Layouts.{Layout, row_count, stride, table_of}
+use Rattle.rx_dense.specs.Specials.{greatest, is_accel_id, is_in_range, is_match_id, is_start_id}
 use Rattle.rx_dense.specs.declared.special.Special.{Special}
 use Rattle.rx_dense.proofs.Rows.{IsRowId-row}
 use Rattle.rx_spec.specs.Tables.{is_match}
@@ -20,22 +21,14 @@ abbrev pub is_between : (first last kind : ℕ) → Bool
 is_between first last kind = nat_lt first kind && nat_le kind last
 
 above_is : (a b : ℕ) → nat_le a b ≡ not (nat_lt b a)
-above_is a b =
-    ⊎_elim (λ (l : b < a). over a b l ∙ sym (ap not (lt-ltb b a l)))
-    (λ (g : a ≤ b). at_most a b g ∙ sym (ap not (le-ltb b a g))) (cases_lt b a)
+above_is a b = grind (arith, common_steps, over, lt-ltb, at_most, le-ltb, cases_lt)
 
 module _ {size : ℕ} {kind_at : ℕ → ℕ} {ends : List ℕ} (are : AreKindEnds size kind_at ends) where
   abbrev end : ℕ → ℕ
   end kind = slice_index ends kind
 
   pub from_end : (row kind : ℕ) → row < size → kind < 8 → nat_le (end kind) row ≡ nat_lt kind (kind_at row)
-  from_end row kind h k =
-      above_is (end kind) row ∙ ap not (are.to_end row kind h k) ∙ ap not (above_is (kind_at row) kind)
-      ∙ not_not (nat_lt kind (kind_at row))
-    where
-      not_not : (b : Bool) → not (not b) ≡ b
-      not_not true = refl
-      not_not false = refl
+  from_end row kind h k = grind (arith, common_steps, above_is)
 
   -- a row lies before the end of a kind exactly where its own kind is at most that
   pub before_end : (row kind : ℕ) → row < size → kind < 8 → row < end kind → kind_at row ≤ kind
@@ -49,22 +42,11 @@ module _ {size : ℕ} {kind_at : ℕ → ℕ} {ends : List ℕ} (are : AreKindEn
       grind (arith, nat_tests)
 
   pub low_kind : (row : ℕ) → row ≤ 1 → kind_at row ≡ row
-  low_kind row h =
-      ⊎_elim
-      (λ (e : row ≡ 0). ap kind_at e ∙ are.dead ∙ sym e)
-      (λ (ne : row ≡ 0 → ⊥). let one : row ≡ 1 = omega (arith, ne) in ap kind_at one ∙ are.quit ∙ sym one)
-      (cases_eq row 0)
+  low_kind row h = grind (arith, common_steps, cases_eq)
 
   -- dead and quit lie before each end but dead's
   pub end_high : (kind : ℕ) → 1 ≤ kind → kind < 8 → 2 ≤ end kind
-  end_high kind some h =
-      let two = are.two in
-      ⊎_elim
-      (λ (low : end kind < 2).
-      let past = behind_end 1 kind (omega arith) h (omega arith) in
-      absurd (omega (arith, past, are.quit)))
-      (λ (high : 2 ≤ end kind). high)
-      (cases_lt (end kind) 2)
+  end_high kind some h = grind (arith, common_steps, behind_end, cases_lt)
 
   pub ends_quit : end 1 ≡ 2
   ends_quit =
@@ -88,11 +70,7 @@ module _ {size : ℕ} {kind_at : ℕ → ℕ} {ends : List ℕ} (are : AreKindEn
       (cases_lt (end b) (end a))
 
   pub kinds_rise : (x y : ℕ) → x ≤ y → y < size → kind_at y < 8 → kind_at x ≤ kind_at y
-  kinds_rise x y h b small =
-      ⊎_elim
-      (λ (low : y < end (kind_at y)). before_end x (kind_at y) (omega arith) small (omega arith))
-      (λ (high : end (kind_at y) ≤ y). absurd (omega (arith, behind_end y (kind_at y) b small high)))
-      (cases_lt y (end (kind_at y)))
+  kinds_rise x y h b small = grind (arith, common_steps, before_end, behind_end, cases_lt)
 
 -- the special ids of a table are those of the ends of its kinds
 pub record HasSpecials (m : Layout) (marked : Bool) (kind_at : ℕ → ℕ) (ends : List ℕ) : Type 0 where
@@ -118,15 +96,11 @@ module _ {m : Layout} {marked : Bool} {kind_at : ℕ → ℕ} {ends : List ℕ} 
 
   pub match_id : (row : ℕ) → row < row_count m
       → is_match_id m.special (row * stride m) ≡ is_between 1 3 (kind_at row)
-  match_id row h =
-      ap (λ s. is_match_id s (row * stride m)) has.special
-      ∙ in_range 1 3 row (omega arith) (omega arith) (omega arith) h
+  match_id row h = grind (arith, common_steps, in_range)
 
   pub accel_id : (row : ℕ) → row < row_count m
       → is_accel_id m.special (row * stride m) ≡ is_between 2 5 (kind_at row)
-  accel_id row h =
-      ap (λ s. is_accel_id s (row * stride m)) has.special
-      ∙ in_range 2 5 row (omega arith) (omega arith) (omega arith) h
+  accel_id row h = grind (arith, common_steps, in_range)
 
   pub start_id : (row : ℕ) → row < row_count m
       → is_start_id m.special (row * stride m) ≡ (marked && is_between 4 6 (kind_at row))
@@ -168,11 +142,7 @@ module _ {m : Layout} {marked : Bool} {kind_at : ℕ → ℕ} {ends : List ℕ} 
   -- the last row of two ranges that meet
   max_step : (a b c : ℕ) → 1 ≤ a → a ≤ b → b ≤ c
       → max ((b - 1) * stride m) (last_id (stride m) a c) ≡ (c - 1) * stride m
-  max_step a b c low le_b le_c =
-      ⊎_elim
-      (λ (h : a < c). (let up = times (b - 1) (c - 1) (omega arith) in rw (lt-ltb a c h) (omega arith)))
-      (λ (none : c ≤ a). (let same : b ≡ c = omega arith in rw (le-ltb a c none, same) (omega arith)))
-      (cases_lt a c)
+  max_step a b c low le_b le_c = search (rules, times, lt-ltb, le-ltb, cases_lt)
 
   max_is : m.special.max ≡ (last (if marked then 6 else 5) - 1) * stride m
   max_is =
@@ -241,37 +211,16 @@ module _ {m : Layout} {marked : Bool} {kind_at : ℕ → ℕ} {ends : List ℕ} 
   first_kinds (suc (suc row)) h = absurd (omega (arith, h))
 
   first_kind : (low : ℕ) → low ≤ 1 → (row : ℕ) → row < row_count m → (kind_at row == low) ≡ (row == low)
-  first_kind low first row h =
-      ⊎_elim
-      (λ (e : row ≡ low). rw (e, first_kinds low first) refl)
-      (λ (ne : row ≡ low → ⊥). ne_eqb (kind_at row) low (λ is. other ne is) ∙ sym (ne_eqb row low ne))
-      (cases_eq row low)
-    where
-      other : (row ≡ low → ⊥) → kind_at row ≡ low → ⊥
-      other ne is =
-          ⊎_elim
-          (λ (high : 1 < row). omega (arith, has.are.others row high h, is, first))
-          (λ (up_to : row ≤ 1). omega (arith, first_kinds row up_to, is, ne))
-          (cases_lt 1 row)
+  first_kind low first row h = search (rules, first_kinds, ne_eqb, cases_eq, cases_lt)
 
   pub match_by_id : (row : ℕ) → is_match (table_of m) row ≡ is_match_id m.special (row * stride m)
-  match_by_id row =
-      label_match (is_match_id m.special (row * stride m)) (is_quit_id m.special (row * stride m))
-      (patterns_at m (place_in_range m m.special.min_match (row * stride m)))
+  match_by_id row = grind (arith, common_steps, label_match)
 
   pub special_rows : (row : ℕ) → row < row_count m
       → (table_of m).is_special row
       ≡ ((row == 0) || (row == 1) || is_match (table_of m) row || (table_of m).is_accelerated row
       || (table_of m).is_start row)
-  special_rows row h =
-      special_test row h
-      ∙ ap₂ (λ (a b : Bool). a || b || is_between 1 3 (kind_at row) || is_between 2 5 (kind_at row)
-      || (marked && is_between 4 6 (kind_at row)))
-      (first_kind 0 (omega arith) row h) (first_kind 1 (omega arith) row h)
-      ∙ ap₂ (λ (a b : Bool). (row == 0) || (row == 1) || a || b || (marked && is_between 4 6 (kind_at row)))
-      (sym (match_by_id row ∙ match_id row h)) (sym (accel_id row h))
-      ∙ ap (λ (a : Bool). (row == 0) || (row == 1) || is_match (table_of m) row || (table_of m).is_accelerated row || a)
-      (sym (start_id row h))
+  special_rows row h = grind (arith, common_steps, special_test, first_kind, match_by_id, match_id, accel_id, start_id)
 
   -- ---- the order
 

@@ -1,8 +1,8 @@
 -- The bytes that lead a row elsewhere, as they are found one by one.
-use Rattle.std.proofs.Common.{◌≡◌, ◌≢◌, ℕ, zero, suc, ◌+◌, ◌-◌, ◌<◌, ◌≤◌, ◌==◌, ◌&&◌, ◌||◌, not, nat_lt, nat_le, Bool}
-use Rattle.std.proofs.Common.{true, false, cond}
-use Rattle.std.proofs.Common.{List, [], ◌∷◌, ◌++◌, length, filter, refl, ap, ap₂, sym, ◌∙◌, subst, ⊎_elim, arith}
-use Rattle.std.proofs.Common.{length-append}
+use Rattle.std.proofs.lemmas.Grind.{common_steps}
+use Rattle.std.proofs.Common.{◌≡◌, ◌≢◌, ℕ, zero, suc, ◌+◌, ◌-◌, ◌<◌, ◌≤◌, ◌==◌, ◌&&◌, ◌||◌, not, nat_le, Bool, true}
+use Rattle.std.proofs.Common.{false, cond, List, [], ◌∷◌, ◌++◌, length, filter, refl, ap, ap₂, sym, ◌∙◌, subst, ⊎_elim}
+use Rattle.std.proofs.Common.{arith, length-append}
 use Rattle.std.specs.List.{list_any, range_with_len}
 use Rattle.std.specs.Prelude.{Contains}
 use Rattle.std.proofs.Math.Bool.{or-true}
@@ -58,9 +58,7 @@ last_false false b = refl
 -- what passes of a longer range has what passes of a shorter one in front
 filter_rest : (p : ℕ → Bool) (n more : ℕ)
     → (rest : List ℕ) × (filter p (range_with_len 0 (n + more)) ≡ filter p (range_with_len 0 n) ++ rest)
-filter_rest p n zero =
-    let same : n + 0 ≡ n = omega arith in
-    ([], ap (λ k. filter p (range_with_len 0 k)) same ∙ sym (append-nil (filter p (range_with_len 0 n))))
+filter_rest p n zero = grind (arith, common_steps, append-nil)
 filter_rest p n (suc more) =
     let before = filter_rest p n more in
     let next : n + suc more ≡ n + more + 1 = omega arith in (
@@ -73,19 +71,12 @@ filter_rest p n (suc more) =
 
 any_append : (xs ys : List ℕ) → has_space (xs ++ ys) ≡ (has_space xs || has_space ys)
 any_append [] ys = refl
-any_append (x ∷ xs) ys = ap (λ b. (x == 32) || b) (any_append xs ys) ∙ or_assoc (x == 32) (has_space xs) (has_space ys)
-  where
-    or_assoc : (a b c : Bool) → (a || (b || c)) ≡ ((a || b) || c)
-    or_assoc true b c = refl
-    or_assoc false b c = refl
+any_append (x ∷ xs) ys = grind (arith, common_steps)
 
 module _ {t : Table} {row byte : ℕ} {found : List ℕ} (h : AreFound t row found byte) where
   next_byte : leaving_below t row (byte + 1)
       ≡ found ++ cond (not (t.machine.next row byte == row)) (byte ∷ []) []
-  next_byte =
-      ap (filter (λ b. not (t.machine.next row b == row))) (range_more byte)
-      ∙ filter-append (λ b. not (t.machine.next row b == row)) (range_with_len 0 byte) (byte ∷ [])
-      ∙ ap (λ xs. xs ++ cond (not (t.machine.next row byte == row)) (byte ∷ []) []) (sym h.are)
+  next_byte = grind (arith, common_steps, range_more, filter-append)
 
   -- a byte is none of those below it
   pub new_byte : Contains found byte → ⊥
@@ -95,28 +86,14 @@ module _ {t : Table} {row byte : ℕ} {found : List ℕ} (h : AreFound t row fou
       omega (arith, (range_within 0 byte byte within).1)
 
   pub stays_found : t.machine.next row byte ≡ row → AreFound t row found (byte + 1)
-  stays_found e = record {
-    are =
-        sym (append-nil found)
-        ∙ sym (next_byte ∙ ap (λ b. found ++ cond (not b) (byte ∷ []) []) (eq-eqb (t.machine.next row byte) row e));
-    few = h.few;
-    no_space = h.no_space;
-  }
+  stays_found e = grind (arith, common_steps, append-nil, next_byte, eq-eqb)
 
   more_is : t.machine.next row byte ≢ row → leaving_below t row (byte + 1) ≡ found ++ byte ∷ []
   more_is ne = next_byte ∙ ap (λ b. found ++ cond (not b) (byte ∷ []) []) (ne_eqb (t.machine.next row byte) row ne)
 
   pub leaves_found : t.machine.next row byte ≢ row → takes found byte ≡ true
       → AreFound t row (found ++ byte ∷ []) (byte + 1)
-  leaves_found ne e =
-      let parts = and_parts (nat_lt (length found) 3) (not (byte == 32)) e in
-      record {
-        are = sym (more_is ne);
-        few = omega (arith, length-append found (byte ∷ []), ltb-true (length found) 3 parts.0);
-        no_space =
-            any_append found (byte ∷ []) ∙ ap₂ (λ (a b : Bool). a || (b || false)) h.no_space (not_true
-            (byte == 32) parts.1);
-      }
+  leaves_found ne e = grind (arith, common_steps, and_parts, more_is, length-append, ltb-true, any_append, not_true)
 
   -- a byte that isn't taken gives the row up
   pub refused : byte < 256 → t.machine.next row byte ≢ row → takes found byte ≡ false
@@ -160,17 +137,11 @@ module _ {t : Table} {row byte : ℕ} {found : List ℕ} (h : AreFound t row fou
 -- all bytes are found
 pub found_all : {t : Table} {row : ℕ} {found : List ℕ} → AreFound t row found 256 → 1 ≤ length found
     → are_needles (leaving t row) ≡ true
-found_all {t} {row} {found} h some =
-    ap are_needles (sym h.are)
-    ∙ ap₂ (λ (a b : Bool). a && b && not (has_space found)) (at_most 1 (length found) some)
-    (at_most (length found) 3 h.few)
-    ∙ ap not h.no_space
+found_all {t} {row} {found} h some = grind (arith, common_steps, at_most)
 
 pub found_none : {t : Table} {row : ℕ} {found : List ℕ} → AreFound t row found 256 → length found ≡ 0
     → are_needles (leaving t row) ≡ false
-found_none {t} {row} {found} h none =
-    ap are_needles (sym h.are)
-    ∙ ap (λ a. a && nat_le (length found) 3 && not (has_space found)) (over 1 (length found) (omega (arith, none)))
+found_none {t} {row} {found} h none = grind (arith, common_steps, over)
 
 -- ---- ids
 

@@ -1,7 +1,8 @@
 -- Rows that are marked by their ids: those in which searches start, and those that match.
-use Rattle.std.proofs.Common.{◌≡◌, ℕ, zero, suc, ◌+◌, ◌*◌, ◌/◌, ◌%◌, ◌<◌, ◌≤◌, ◌==◌, ◌||◌, Bool, true, false, List, []}
-use Rattle.std.proofs.Common.{◌∷◌, if◌then◌else◌, nat_lt, subst}
-use Rattle.std.proofs.Common.{length, drop, map, slice_index, slice_set, get_or, All, refl, ap, sym, ◌∙◌, ⊎_elim, arith}
+use Rattle.std.proofs.lemmas.Grind.{common_steps}
+use Rattle.std.proofs.Common.{◌≡◌, ℕ, zero, suc, ◌+◌, ◌*◌, ◌/◌, ◌%◌, ◌<◌, ◌==◌, ◌||◌, Bool, true, false, List, [], ◌∷◌}
+use Rattle.std.proofs.Common.{if◌then◌else◌, nat_lt, subst, length, drop, map, slice_index, slice_set, get_or, All}
+use Rattle.std.proofs.Common.{refl, ap, sym, ◌∙◌, ⊎_elim, arith}
 use Rattle.std.specs.List.{list_any}
 use Rattle.std.proofs.Math.Seq.{drop-cons}
 use Rattle.std.specs.BTreeMap.{is_at}
@@ -10,7 +11,7 @@ use Rattle.std.specs.Ordering.{is_eq, nat_cmp}
 use Rattle.std.specs.Prelude.{Contains, Option, Some, None, is_some}
 use Rattle.std.proofs.lemmas.Bool.{and_parts, cases_eq, cases_lt, eq-eqb, false≢true, le-ltb, lt-ltb, ne_eqb}
 use Rattle.std.proofs.lemmas.Map.Entries.{lookup_head, lookup_tail}
-use Rattle.lemmas_walks.proofs.Firsts.{Contains-cases, Contains-here, Contains-nil, Contains-there}
+use Rattle.lemmas_walks.proofs.Firsts.{Contains-here, Contains-nil, Contains-there}
 use Rattle.std.proofs.lemmas.List.{drop_all, get_or_default, get_or-set_same, get_or-set_other, length-set}
 use Rattle.std.proofs.lemmas.List.Elements.{All-head, All-tail, Contains-get_or}
 use Rattle.std.proofs.lemmas.Nat.{pow_pos}
@@ -103,19 +104,11 @@ any_contains x (y ∷ ys) e =
 
 pub any_has : (x : ℕ) (xs : List ℕ) → Contains xs x → list_any (λ y. y == x) xs ≡ true
 any_has x [] c = absurd (Contains-nil x c)
-any_has x (y ∷ ys) c =
-    ⊎_elim
-    (λ (e : y ≡ x). ap (λ b. b || list_any (λ y. y == x) ys) (eq-eqb y x e))
-    (λ (d : Contains ys x). ap (λ b. (y == x) || b) (any_has x ys d) ∙ or-true (y == x))
-    (Contains-cases y ys x c)
+any_has x (y ∷ ys) c = grind (arith, common_steps, eq-eqb, or-true)
 
 pub none_noted : (l : Layout) (flags : List Bool) (all : List ℕ) → length flags ≡ row_count l
     → ((row : ℕ) → row < row_count l → get_or flags row false ≡ false) → All (IsRowId l) all → AreNoted l flags all all
-none_noted l flags all count none ids = record {
-  count = count;
-  noted = λ row h. ap (λ b. b || list_any (λ id. id == row * stride l) all) (none row h);
-  ids = ids;
-}
+none_noted l flags all count none ids = grind (arith, common_steps)
 
 or_false : (b : Bool) → (b || false) ≡ b
 or_false true = refl
@@ -193,18 +186,7 @@ start_row_plain l sound row e =
 -- ---- keys
 
 pub is_at_number : (k x : ℕ) → is_eq (nat_cmp k x) ≡ (x == k)
-is_at_number k x =
-    ⊎_elim
-    (λ (low : k < x).
-    let other : x ≡ k → ⊥ = λ e. absurd (omega (arith, e)) in
-    rw (lt-ltb k x low, ne_eqb x k other) refl)
-    (λ (high : x ≤ k).
-    ⊎_elim
-    (λ (e : k ≡ x). rw (le-ltb k x high, eq-eqb k x e, eq-eqb x k (sym e)) refl)
-    (λ (ne : k ≡ x → ⊥).
-    rw (le-ltb k x high, ne_eqb k x ne, ne_eqb x k (λ e. ne (sym e))) refl)
-    (cases_eq k x))
-    (cases_lt k x)
+is_at_number k x = grind (arith, common_steps, lt-ltb, ne_eqb, le-ltb, eq-eqb, cases_eq, cases_lt)
 
 -- a map has a key where some key is it
 pub has_key : {X : Type 0} (k : ℕ) (entries : List (ℕ × X))

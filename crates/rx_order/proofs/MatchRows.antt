@@ -1,11 +1,11 @@
 -- Match rows in order: where their patterns stand, and what each row tells.
-use Rattle.std.proofs.Common.{◌≡◌, ℕ, ◌+◌, ◌-◌, ◌*◌, ◌/◌, ◌<◌, ◌≤◌, ◌⊎◌, inl, inr, ◌==◌, ◌&&◌, nat_lt, nat_le}
+use Rattle.std.proofs.Common.{rules, ◌≡◌, ℕ, ◌+◌, ◌-◌, ◌*◌, ◌/◌, ◌<◌, ◌≤◌, ◌⊎◌, inl, inr, ◌==◌, ◌&&◌, nat_lt, nat_le}
 use Rattle.std.proofs.Common.{Bool, true, false, if◌then◌else◌, List, [], length, map, take, drop, slice_index, get_or}
 use Rattle.std.proofs.Common.{refl, ap, ap₂, sym, ◌∙◌, subst, ⊎_elim, arith}
+use Rattle.std.proofs.lemmas.Grind.{common_steps}
 use Rattle.std.specs.List.{concat, range_with_len}
 use Rattle.std.proofs.Math.Nat.{add-mul, mul-div_cancel}
-use Rattle.std.proofs.lemmas.Bool.{and_parts, cases_eq, cases_lt, eq-eqb, false≢true, le-ltb, lt-ltb}
-use Rattle.std.proofs.lemmas.Bool.{ltb-true, ne_eqb}
+use Rattle.std.proofs.lemmas.Bool.{and_parts, cases_eq, cases_lt, eq-eqb, false≢true, le-ltb, lt-ltb, ltb-true, ne_eqb}
 use Rattle.std.proofs.lemmas.List.FromFn.{fill_by_all}
 use Rattle.std.proofs.lemmas.Nat.{pow_pos}
 use Rattle.rx_spec.specs.Machines.{Label}
@@ -41,15 +41,7 @@ plain_label Label.Quits e no_quit = absurd (no_quit refl)
 
 -- rows of a range are counted from its first
 pub place_from : (from to width : ℕ) → 0 < width → from ≤ to → (to * width - from * width) / width ≡ to - from
-place_from from to width some h =
-    let apart : to * width - from * width ≡ (to - from) * width =
-    omega (arith, mul_sub_distrib to from width h) in
-    ap (λ n. n / width) apart ∙ mul-div_cancel (to - from) some
-  where
-    mul_sub_distrib : (a b s : ℕ) → b ≤ a → (a - b) * s + b * s ≡ a * s
-    mul_sub_distrib a b s h =
-        let whole : a - b + b ≡ a = omega arith in
-        sym (add-mul (a - b) b s) ∙ ap (λ n. n * s) whole
+place_from from to width some h = grind (arith, common_steps, mul-div_cancel, add-mul)
 
 -- the patterns of all match rows are given, in the order of the rows
 pub record HasPatterns (ends : List ℕ) (m : Layout) (lists : List (List ℕ)) : Type 0 where
@@ -92,25 +84,10 @@ module _ {m : Layout} {marked : Bool} {kind_at : ℕ → ℕ} {ends : List ℕ} 
   -- which match row lies at a place
   place_is : (place : ℕ) → 2 ≤ place → place < end 3
       → place_in_range m m.special.min_match (place * stride m) ≡ place - 2
-  place_is place low high =
-      ap (λ first. (place * stride m - first) / stride m) (min_is (omega arith)) ∙ place_from 2 place (stride m) w low
+  place_is place low high = grind (arith, common_steps, min_is, place_from, w)
 
   count_is : match_count m ≡ length lists
-  count_is =
-      ⊎_elim
-      (λ (h : 2 < end 3).
-      let above : 0 < 2 * stride m = omega (arith, w) in
-      let other : m.special.min_match ≡ 0 → ⊥ = λ e. absurd (omega (arith, e, min_is h)) in
-      let last : place_in_range m m.special.min_match m.special.max_match ≡ end 3 - 1 - 2 =
-      ap (place_in_range m m.special.min_match) (max_is h) ∙ place_is (end 3 - 1) (omega arith) (omega arith) in
-      ap (λ b. if b then 0 else place_in_range m m.special.min_match m.special.max_match + 1)
-      (ne_eqb m.special.min_match 0 other)
-      ∙ omega (arith, last, has.count))
-      (λ (h : end 3 ≤ 2).
-      ap (λ b. if b then 0 else place_in_range m m.special.min_match m.special.max_match + 1)
-      (eq-eqb m.special.min_match 0 (none_is h))
-      ∙ omega (arith, has.count))
-      (cases_lt 2 (end 3))
+  count_is = search (rules, w, min_is, max_is, place_is, ne_eqb, eq-eqb, none_is, cases_lt)
 
   pub lists_are : match_lists m ≡ lists
   lists_are =
@@ -118,10 +95,7 @@ module _ {m : Layout} {marked : Bool} {kind_at : ℕ → ℕ} {ends : List ℕ} 
       ∙ sym (fill_by_all (patterns_at m) lists (length lists) [] refl (λ k h. sym (patterns_there k h)))
 
   pub joined : AreJoined m
-  joined = record {
-    slices = has.slices ∙ ap (slices_from 0) (sym lists_are);
-    pattern_ids = has.pattern_ids ∙ ap concat (sym lists_are);
-  }
+  joined = grind (arith, common_steps, lists_are)
 
   -- ---- labels
 

@@ -1,6 +1,7 @@
 -- Rows while they are moved: each exchange puts one row at its place.
-use Rattle.std.proofs.Common.{◌≡◌, ◌≢◌, ℕ, ◌+◌, ◌*◌, ◌/◌, ◌^◌, ◌<◌, ◌≤◌, List, length, slice_index}
-use Rattle.std.proofs.Common.{refl, ap, ap₂, All, sym, ◌∙◌, subst, ⊎_elim, inl, inr, arith, get_or}
+use Rattle.std.proofs.lemmas.Grind.{common_steps}
+use Rattle.std.proofs.Common.{◌≡◌, ◌≢◌, ℕ, ◌+◌, ◌*◌, ◌^◌, ◌<◌, ◌≤◌, List, length, slice_index, refl, ap, All, sym, ◌∙◌}
+use Rattle.std.proofs.Common.{subst, ⊎_elim, inl, inr, arith, get_or}
 use Rattle.std.specs.List.{range_with_len, swap}
 use Rattle.std.specs.List.Sorted.{IsPermutation}
 use Rattle.std.proofs.lemmas.Bool.{cases_eq, cases_lt}
@@ -11,7 +12,6 @@ use Rattle.std.proofs.lemmas.List.FromFn.{get_or-map-range_with_len}
 use Rattle.std.proofs.lemmas.List.Elements.{All-from_get_or}
 use Rattle.std.proofs.lemmas.List.Sorted.{All-permutation, IsPermutation-refl, IsPermutation-swap, IsPermutation-trans}
 use Rattle.std.proofs.lemmas.List.Sorted.{length_permutation}
-use Rattle.rx_spec.specs.Ids.{dense_ids}
 use Rattle.rx_search.specs.Starts.{IsId}
 use Rattle.rx_dense.proofs.Rows.{IsId-row_id, IsRowId-row}
 use Rattle.rx_dense.specs.Builder.{AreSwapped, IsOutside}
@@ -21,15 +21,7 @@ use Rattle.rx_order.proofs.ExchangedRows.{count_of, places_apart, row_below}
 
 -- multiples of a number are told by their factors
 pub factor : {s : ℕ} → 0 < s → (a b : ℕ) → a * s ≡ b * s → a ≡ b
-factor {s} some a b e =
-    ⊎_elim
-    (λ (h : a < b). absurd (omega (arith, row_fits a s b s h (omega arith))))
-    (λ (h : b ≤ a).
-    ⊎_elim
-    (λ (g : b < a). absurd (omega (arith, row_fits b s a s g (omega arith))))
-    (λ (g : a ≤ b). omega arith)
-    (cases_lt b a))
-    (cases_lt a b)
+factor {s} some a b e = grind (arith, common_steps, row_fits, cases_lt)
 
 pub ids_count : (l : Layout) → length (ids_of l) ≡ row_count l
 ids_count l = length-map-range_with_len (λ row. row * 2 ^ l.stride2) 0 (row_count l)
@@ -63,9 +55,7 @@ unmoved l lying ids is =
 -- ---- ids
 
 pub same_ids : {old now : Layout} {lying ids : List ℕ} → AreMoved old now lying ids → ids_of now ≡ ids_of old
-same_ids moved =
-    let stride2 = ap (λ (l : Layout). l.stride2) moved.rest in
-    ap₂ (λ (len s : ℕ). dense_ids (len / 2 ^ s) s) moved.count stride2
+same_ids moved = grind (arith, common_steps)
 
 pub id_of_place : {old now : Layout} {lying ids : List ℕ} → AreMoved old now lying ids → (place id : ℕ)
     → place < row_count old → id ≡ place * stride old → IsId (ids_of now) id
@@ -85,8 +75,7 @@ all_ids {old} {now} {lying} {ids} moved =
     subst (IsId (ids_of old)) (sym at) (IsId-row_id old (k * stride old) (IsRowId-row old k low)))))
 
 pub id_count : {old now : Layout} {lying ids : List ℕ} → AreMoved old now lying ids → length ids ≡ row_count old
-id_count {old} {now} {lying} {ids} moved =
-    length_permutation (ids_of old) ids moved.permutation ∙ ids_count old
+id_count {old} {now} {lying} {ids} moved = grind (arith, common_steps, length_permutation, ids_count)
 
 -- ---- place by place
 
@@ -154,10 +143,7 @@ module _ {old now : Layout} {lying ids : List ℕ} {row place other from : ℕ} 
   elsewhere p np nf = lying_swapped.2 p np nf
 
   by_place : {X : Type 0} (p : ℕ) → (p ≡ place → X) → (p ≡ from → X) → (p ≢ place → p ≢ from → X) → X
-  by_place p at_place at_from at_other =
-      ⊎_elim at_place
-      (λ (np : p ≡ place → ⊥). ⊎_elim at_from (λ (nf : p ≡ from → ⊥). at_other np nf) (cases_eq p from))
-      (cases_eq p place)
+  by_place p at_place at_from at_other = grind (arith, common_steps, cases_eq)
 
   rows_now : (p : ℕ) → p < row_count old
       → (slice_index (swap lying place from) p < row_count old)

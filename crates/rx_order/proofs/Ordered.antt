@@ -1,13 +1,10 @@
 -- Tables whose rows lie in the order of their kinds: which ids are special, and which rows these are.
-use Rattle.std.proofs.Common.{◌≡◌, ◌≢◌, ℕ, ◌+◌, ◌*◌, ◌<◌, ◌≤◌, ◌==◌, ◌&&◌, ◌||◌}
-use Rattle.std.proofs.Common.{nat_lt, nat_le, Bool, true, false, List, length, slice_index}
-use Rattle.std.proofs.Common.{refl, ap, ap₂, sym, ◌∙◌, subst, ⊎_elim, arith}
-use Rattle.std.proofs.lemmas.Bool.{cases_eq, cases_lt}
-use Rattle.std.proofs.lemmas.Bool.{lt-ltb}
-use Rattle.std.proofs.lemmas.Bool.{le-ltb}
+use Rattle.std.proofs.Common.{rules, ◌≡◌, ◌≢◌, ℕ, ◌+◌, ◌*◌, ◌<◌, ◌≤◌, ◌==◌, ◌&&◌, ◌||◌, nat_lt, nat_le, Bool, true}
+use Rattle.std.proofs.Common.{false, List, length, slice_index, refl, ap, ap₂, sym, ◌∙◌, ⊎_elim, arith}
+use Rattle.std.proofs.lemmas.Grind.{common_steps}
+use Rattle.std.proofs.lemmas.Bool.{cases_eq, cases_lt, lt-ltb, le-ltb}
 use Rattle.std.proofs.lemmas.Nat.{div-add-mod', mul-le, pow_pos}
-use Rattle.rx_dense.specs.Layouts.{Layout, AreRows, machine_of, row_count, stride}
-use Rattle.rx_dense.specs.Layouts.{table_of}
+use Rattle.rx_dense.specs.Layouts.{Layout, AreRows, machine_of, row_count, stride, table_of}
 use Rattle.rx_dense.specs.Specials.{is_accel_id, is_match_id}
 use Rattle.rx_spec.specs.Causes.{max_id}
 use Rattle.rx_order.specs.Permuted.{IsPermuted}
@@ -17,10 +14,9 @@ use Rattle.rx_order.specs.Moved.{IsReordered}
 use Rattle.rx_order.specs.RowOrder.{IsOrdered, is_start_row, kind_by, kind_of}
 use Rattle.rx_order.specs.SpecialIds.{AreKindEnds, special_ids}
 use Rattle.rx_order.proofs.Reordered.{IsBefore, any_start, entry_of, next_of_row, number_below, number_of_place}
-use Rattle.rx_order.proofs.Reordered.{numbers}
-use Rattle.rx_order.proofs.Reordered.{permutation, row_at_number, row_of_place, size, stride_is, two_rows}
-use Rattle.rx_order.proofs.KindNumbers.{high_kind, at_most, over, kind_high, high_above}
-use Rattle.rx_order.proofs.KindNumbers.{row_first, row_dead, high_matches, high_accels, high_starts}
+use Rattle.rx_order.proofs.Reordered.{numbers, permutation, row_at_number, row_of_place, size, stride_is, two_rows}
+use Rattle.rx_order.proofs.KindNumbers.{high_kind, at_most, over, kind_high, high_above, row_first, row_dead}
+use Rattle.rx_order.proofs.KindNumbers.{high_matches, high_accels, high_starts}
 use Rattle.rx_order.proofs.KindRanges.{HasSpecials, is_between}
 use Rattle.rx_order.proofs.KindRanges as KindRanges
 
@@ -94,14 +90,10 @@ module _ {x : Sorting} {l new m : Layout} (a : IsArranged x l new m) where
 
   -- the first kinds are those of dead and quit
   quit_kind : (place : ℕ) → place < row_count l → kind_at place ≤ 1 → row_at place ≤ 1
-  quit_kind place h low =
-      row_first (row_at place) (x.matches (row_at place)) (x.accelerated (row_at place)) (is_start_row l (row_at place))
-      (omega (arith, low, kind_is place h))
+  quit_kind place h low = grind (arith, common_steps, row_first, kind_is)
 
   dead_kind : (place : ℕ) → place < row_count l → kind_at place ≤ 0 → row_at place ≡ 0
-  dead_kind place h low =
-      row_dead (row_at place) (x.matches (row_at place)) (x.accelerated (row_at place)) (is_start_row l (row_at place))
-      (omega (arith, low, kind_is place h))
+  dead_kind place h low = grind (arith, common_steps, row_dead, kind_is)
 
   kind_of_number : (row : ℕ) → row < row_count l
       → kind_at (number row) ≡ kind_by row (x.matches row) (x.accelerated row) (is_start_row l row)
@@ -182,22 +174,10 @@ module _ {x : Sorting} {l new m : Layout} (a : IsArranged x l new m) where
       (cases_lt 1 (row_at place))
 
   pub low_row : (place : ℕ) → place ≤ 1 → row_at place ≡ place
-  low_row place h =
-      ⊎_elim
-      (λ (e : place ≡ 0). ap row_at e ∙ first_row ∙ sym e)
-      (λ (ne : place ≡ 0 → ⊥).
-      let one : place ≡ 1 = omega (arith, ne) in
-      ap row_at one ∙ second_row ∙ sym one)
-      (cases_eq place 0)
+  low_row place h = grind (arith, common_steps, first_row, second_row, cases_eq)
 
   pub low_kind : (place : ℕ) → place ≤ 1 → kind_at place ≡ place
-  low_kind place h =
-      let low : place < row_count l = omega (arith, two) in
-      kind_is place low
-      ∙ ⊎_elim
-      (λ (e : place ≡ 0). rw (low_row place h, e) refl)
-      (λ (ne : place ≡ 0 → ⊥). let one : place ≡ 1 = omega (arith, ne) in rw (low_row place h, one) refl)
-      (cases_eq place 0)
+  low_kind place h = grind (arith, common_steps, two, kind_is, low_row, cases_eq)
 
   -- ---- ends
 
@@ -210,38 +190,18 @@ module _ {x : Sorting} {l new m : Layout} (a : IsArranged x l new m) where
       (cases_lt (row_count l) (end kind))
 
   pub to_end : (place kind : ℕ) → place < row_count l → kind < 8 → nat_lt place (end kind) ≡ nat_le (kind_at place) kind
-  to_end place kind b h =
-      ⊎_elim
-      (λ (low : place < end kind).
-      lt-ltb place (end kind) low ∙ sym (at_most (kind_at place) kind ((before_end place kind h low).1)))
-      (λ (high : end kind ≤ place).
-      le-ltb place (end kind) high ∙ sym (over (kind_at place) kind (behind_end place kind b h high)))
-      (cases_lt place (end kind))
+  to_end place kind b h = grind (arith, common_steps, lt-ltb, at_most, before_end, le-ltb, over, behind_end, cases_lt)
 
   pub high_kind_is : (place : ℕ) → place < row_count l → 1 < place
       → kind_at place
       ≡ high_kind (x.matches (row_at place)) (x.accelerated (row_at place)) (is_start_row l (row_at place))
-  high_kind_is place h high =
-      kind_is place h ∙ kind_high (row_at place) (x.matches (row_at place)) (x.accelerated (row_at place))
-      (is_start_row l (row_at place)) (high_row place h high)
+  high_kind_is place h high = grind (arith, common_steps, kind_is, kind_high, high_row)
 
   pub high_at : (place : ℕ) → place < row_count l → 1 < place → 1 < kind_at place
-  high_at place h high =
-      omega (
-        arith,
-        high_kind_is place h high,
-        high_above (x.matches (row_at place)) (x.accelerated (row_at place)) (is_start_row l (row_at place)),
-      )
+  high_at place h high = grind (arith, common_steps, high_kind_is, high_above)
 
   kind_ends : AreKindEnds (row_count l) kind_at x.ends
-  kind_ends = record {
-    two = two;
-    dead = low_kind 0 (omega arith);
-    quit = low_kind 1 (omega arith);
-    others = λ place high h. high_at place h high;
-    within = end_within;
-    to_end = to_end;
-  }
+  kind_ends = grind (arith, common_steps, two, dead, low_kind, quit, high_at, end_within, to_end)
 
   pub from_end : (place kind : ℕ) → place < row_count l → kind < 8
       → nat_le (end kind) place ≡ nat_lt kind (kind_at place)
@@ -265,10 +225,7 @@ module _ {x : Sorting} {l new m : Layout} (a : IsArranged x l new m) where
   size_same = ap (λ (k : Layout). row_count k) a.rest ∙ size a.reordered a.before
 
   pub specials : HasSpecials m x.marked kind_at x.ends
-  specials = record {
-    are = subst (λ n. AreKindEnds n kind_at x.ends) (sym size_same) kind_ends;
-    special = special_is ∙ ap (λ w. special_ids w x.ends x.marked) (sym stride_same);
-  }
+  specials = grind (arith, common_steps, size_same, kind_ends, special_is, stride_same)
 
   pub match_id : (place : ℕ) → place < row_count l
       → is_match_id m.special (place * stride m) ≡ is_between 1 3 (kind_at place)
@@ -279,17 +236,11 @@ module _ {x : Sorting} {l new m : Layout} (a : IsArranged x l new m) where
   accel_id place h = KindRanges.accel_id specials place (omega (arith, size_same))
 
   pub match_is : (place : ℕ) → place < row_count l → 1 < place → is_match (table_of m) place ≡ x.matches (row_at place)
-  match_is place h high =
-      KindRanges.match_by_id specials place ∙ match_id place h
-      ∙ ap (is_between 1 3) (high_kind_is place h high)
-      ∙ high_matches (x.matches (row_at place)) (x.accelerated (row_at place)) (is_start_row l (row_at place))
+  match_is place h high = search (rules, specials, match_id, is_between, high_kind_is, high_matches)
 
   pub accel_is : (place : ℕ) → place < row_count l → 1 < place
       → (table_of m).is_accelerated place ≡ x.accelerated (row_at place)
-  accel_is place h high =
-      accel_id place h
-      ∙ ap (is_between 2 5) (high_kind_is place h high)
-      ∙ high_accels (x.matches (row_at place)) (x.accelerated (row_at place)) (is_start_row l (row_at place))
+  accel_is place h high = grind (arith, common_steps, accel_id, is_between, high_kind_is, high_accels)
 
   -- ---- start rows
 

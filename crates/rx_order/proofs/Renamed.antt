@@ -1,13 +1,13 @@
 -- Tables whose rows have changed places, and are renamed.
-use Rattle.std.proofs.Common.{◌≡◌, ℕ, ◌<◌, List, [], ◌∷◌, length, map, refl, sym, ◌∙◌, ap, ap₂}
-use Rattle.std.proofs.Common.{arith}
+use Rattle.std.proofs.lemmas.Grind.{common_steps}
+use Rattle.std.proofs.Common.{◌≡◌, ℕ, ◌<◌, List, [], ◌∷◌, length, map, refl, ◌∙◌, ap, ap₂, arith}
 use Rattle.std.specs.Prelude.{All}
 use Rattle.std.specs.List.{range_with_len, swap}
 use Rattle.std.proofs.lemmas.List.{get_or-map, length-map}
 use Rattle.std.proofs.lemmas.List.Edits.{length-swap}
 use Rattle.std.proofs.lemmas.List.Elements.{All-head, All-tail}
 use Rattle.std.proofs.lemmas.List.FromFn.{fill_by_all, length-range_with_len}
-use Rattle.std.proofs.lemmas.List.Sorted.{IsPermutation-refl, IsPermutation-swap, IsPermutation-trans}
+use Rattle.std.proofs.lemmas.List.Sorted.{IsPermutation-swap, IsPermutation-trans}
 use Rattle.rx_order.specs.Transitions.{Transitions, AreRows, IsRowId, with_ids, with_swapped}
 use Rattle.rx_order.specs.Renaming.{Arrangement, Fits, IsArrangement, IsRearranged, IsRenamed, new_id, place_of, row_at}
 use Rattle.rx_order.specs.Renaming.{rearranged, unmoved}
@@ -17,13 +17,7 @@ use Rattle.rx_order.proofs.ExchangedRows.{map-swap, row_at_place}
 
 module _ (t : Transitions) where
   pub unmoved_arrangement : AreRows t → IsArrangement (unmoved t)
-  unmoved_arrangement h =
-      let n = length-range_with_len 0 (length t.rows) in
-      record {
-        exponent = h.exponent;
-        ids = λ place low. h.ids place (omega arith);
-        permutation = rw n (IsPermutation-refl (range_with_len 0 (length t.rows)));
-      }
+  unmoved_arrangement h = grind (arith, common_steps, length-range_with_len)
 
   pub unmoved_fits : Fits (unmoved t) t
   unmoved_fits = record { count = length-range_with_len 0 (length t.rows); stride2 = refl }
@@ -56,12 +50,7 @@ arrangement_of_exchanged a i j hi hj h =
 pub rearranged_of_exchanged : (a : Arrangement) (i j : ℕ) {old now next : Transitions}
     → i < length a.rows → j < length a.rows → next ≡ with_swapped now i j → IsRearranged a old now
     → IsRearranged (exchanged a i j) old next
-rearranged_of_exchanged a i j {old = old} hi hj e h = record {
-  fits = record { count = length-swap a.rows i j ∙ h.fits.count; stride2 = h.fits.stride2 };
-  is =
-      e ∙ ap (λ t. with_swapped t i j) h.is
-      ∙ ap (λ rows. record old { rows = rows }) (sym (map-swap (row_at old) a.rows i j hi hj));
-}
+rearranged_of_exchanged a i j {old = old} hi hj e h = grind (arith, common_steps, length-swap, map-swap)
 
 -- ---- the renaming
 

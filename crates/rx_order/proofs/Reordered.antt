@@ -1,7 +1,7 @@
 -- A table whose rows were moved and renamed: the numbers of its rows, and where they lead.
-use Rattle.std.proofs.Common.{◌≡◌, ℕ, ◌+◌, ◌*◌, ◌/◌, ◌^◌, ◌<◌, ◌≤◌, ◌==◌, ◌||◌, Bool}
-use Rattle.std.proofs.Common.{List, [], ◌∷◌, length, map, slice_index, All, map-id, refl, ap, ap₂, sym, ◌∙◌, subst}
-use Rattle.std.proofs.Common.{⊎_elim, arith}
+use Rattle.std.proofs.Common.{rules, ◌≡◌, ℕ, ◌+◌, ◌*◌, ◌/◌, ◌^◌, ◌<◌, ◌≤◌, ◌==◌, ◌||◌, Bool, List, [], ◌∷◌, length, map}
+use Rattle.std.proofs.Common.{slice_index, All, map-id, refl, ap, ap₂, sym, ◌∙◌, subst, ⊎_elim, arith}
+use Rattle.std.proofs.lemmas.Grind.{common_steps}
 use Rattle.std.specs.List.{list_any, range_with_len}
 use Rattle.std.specs.List.Sorted.{IsPermutation}
 use Rattle.std.proofs.Math.Nat.{mul-div_cancel}
@@ -15,7 +15,7 @@ use Rattle.rx_spec.specs.Queries.{Anchored}
 use Rattle.rx_spec.specs.declared.Start.{Start}
 use Rattle.rx_dense.specs.Layouts.{Layout, IsRowId, AreRows, AreStarts, column, ids_of, machine_of, mode_place}
 use Rattle.rx_dense.specs.Layouts.{row_count, stride}
-use Rattle.rx_dense.proofs.Rows.{IsRowId-row, column_within, quotient, row-below, start_is_row}
+use Rattle.rx_dense.proofs.Rows.{column_within, quotient, row-below, start_is_row}
 use Rattle.rx_order.proofs.ExchangedRows.{places_apart, row_below}
 use Rattle.rx_order.specs.Moved.{IsReordered}
 use Rattle.rx_order.proofs.Moved.{factor, id_count, ids_count}
@@ -68,10 +68,7 @@ module _ {rows : List ℕ} {old new : Layout} (re : IsReordered rows old new) (b
   row_of_place place h = row_below before.order place h
 
   pub number_of_place : (place : ℕ) → place < row_count old → slice_index numbers (slice_index rows place) ≡ place
-  number_of_place place h =
-      let row = row_of_place place h in
-      places_apart before.order (slice_index numbers (slice_index rows place)) place (number_below _ row) h
-      (row_at_number (slice_index rows place) row)
+  number_of_place place h = search (rules, row_of_place, places_apart, number_below, row_at_number)
 
   pub permutation : IsPermutation (range_with_len 0 (row_count old)) numbers
   permutation =
@@ -99,9 +96,7 @@ module _ {rows : List ℕ} {old new : Layout} (re : IsReordered rows old new) (b
   stride_is = ap (λ (l : Layout). stride l) re.is ∙ ap (λ s. 2 ^ s) same_stride2
 
   pub words_count : length new.words ≡ length old.words
-  words_count =
-      ap (λ (l : Layout). length l.words) re.is
-      ∙ length-map-range_with_len _ 0 (length re.now.words) ∙ re.moved.count
+  words_count = grind (arith, common_steps, length-map-range_with_len)
 
   pub size : row_count new ≡ row_count old
   size = ap₂ (λ (len s : ℕ). len / s) words_count stride_is
@@ -111,12 +106,7 @@ module _ {rows : List ℕ} {old new : Layout} (re : IsReordered rows old new) (b
 
   next_place : (row unit : ℕ) → row < row_count old → unit < 257
       → row * stride old + column old unit < length old.words
-  next_place row unit h u =
-      let is = IsRowId-row old row h in
-      let below = is.below in
-      let fits = before.are_rows.fits in
-      let low = column_within old before.are_rows.classes unit u in
-      omega arith
+  next_place row unit h u = search (rules, column_within)
 
   pub next_below : (row unit : ℕ) → row < row_count old → unit < 257 → (machine_of old).next row unit < row_count old
   next_below row unit h u = row-below old _ (before.are_rows.next_ids _ (next_place row unit h u))
@@ -124,18 +114,11 @@ module _ {rows : List ℕ} {old new : Layout} (re : IsReordered rows old new) (b
   -- before the renaming a place leads where its row led
   next_there : (place unit : ℕ) → place < row_count old → unit < 257
       → (machine_of re.now).next place unit ≡ (machine_of old).next (slice_index rows place) unit
-  next_there place unit h u =
-      let fits = before.are_rows.fits in
-      let low = column_within old before.are_rows.classes unit u in
-      ap (λ (l : Layout). (machine_of l).next place unit) re.moved.rest
-      ∙ ap (λ id. id / stride old) (re.moved.words place (column old unit) h (omega arith))
-      ∙ ap (λ row. (machine_of old).next row unit) (re.there place h)
+  next_there place unit h u = search (rules, column_within)
 
   renamed_row : (row : ℕ) → row < row_count old
       → slice_index re.ids row / stride re.now ≡ slice_index numbers row
-  renamed_row row h =
-      ap (λ s. slice_index re.ids row / 2 ^ s) same_stride2
-      ∙ sym (get_or-map (λ id. id / stride old) re.ids row 0 0 (omega (arith, id_count re.moved)))
+  renamed_row row h = grind (arith, common_steps, same_stride2, get_or-map, id_count)
 
   pub next_of_place : (place unit : ℕ) → place < row_count old → unit < 257
       → (machine_of new).next place unit
@@ -147,9 +130,7 @@ module _ {rows : List ℕ} {old new : Layout} (re : IsReordered rows old new) (b
 
   pub next_of_row : (row unit : ℕ) → row < row_count old → unit < 257
       → (machine_of new).next (slice_index numbers row) unit ≡ slice_index numbers ((machine_of old).next row unit)
-  next_of_row row unit h u =
-      next_of_place (slice_index numbers row) unit (number_below row h) u
-      ∙ ap (λ r. slice_index numbers ((machine_of old).next r unit)) (row_at_number row h)
+  next_of_row row unit h u = grind (arith, common_steps, next_of_place, number_below, row_at_number)
 
   -- ---- start entries
 
@@ -160,17 +141,10 @@ module _ {rows : List ℕ} {old new : Layout} (re : IsReordered rows old new) (b
   two_rows = le-div 2 (length old.words) (stride old) some before.are_rows.two
 
   pub entry_below : (mode : Anchored) (start : Start) → (machine_of old).entry mode start < row_count old
-  entry_below mode start =
-      ⊎_elim
-      (λ (has : mode_place mode < length old.starts).
-      rw (lt-ltb _ _ has) (row-below old _ (start_is_row old before.are_starts mode start has)))
-      (λ (none : length old.starts ≤ mode_place mode). rw (le-ltb _ _ none, zero_div) (omega (arith, two_rows)))
-      (cases_lt (mode_place mode) (length old.starts))
+  entry_below mode start = search (rules, lt-ltb, row-below, start_is_row, le-ltb, zero_div, two_rows, cases_lt)
 
   starts_are : new.starts ≡ map (λ id. slice_index re.ids (id / stride old)) old.starts
-  starts_are =
-      ap (λ (l : Layout). l.starts) re.is
-      ∙ ap₂ (λ (s : ℕ) (ids : List ℕ). map (λ id. slice_index re.ids (id / 2 ^ s)) ids) same_stride2 same_starts
+  starts_are = search (rules, same_stride2, same_starts)
 
   pub starts_count : length new.starts ≡ length old.starts
   starts_count = ap length starts_are ∙ length-map old.starts (λ id. slice_index re.ids (id / stride old))

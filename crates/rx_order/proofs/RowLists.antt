@@ -1,11 +1,11 @@
 -- The rows of a dense table as lists, when two of them change places and when they are renamed.
-use Rattle.std.proofs.Common.{◌≡◌, ◌≢◌, ℕ, ◌+◌, ◌*◌, ◌/◌, ◌%◌, ◌<◌, ◌≤◌, List, [], length, map, slice_index}
-use Rattle.std.proofs.Common.{get_or, refl, sym, ap, ◌∙◌, arith, set, subst, ⊎_elim, inl, inr}
+use Rattle.std.proofs.lemmas.Grind.{common_steps, get_or-set_at}
+use Rattle.std.proofs.Common.{◌≡◌, ◌≢◌, ℕ, ◌+◌, ◌*◌, ◌/◌, ◌%◌, ◌<◌, ◌≤◌, List, [], length, map, slice_index, get_or}
+use Rattle.std.proofs.Common.{refl, sym, ap, ◌∙◌, arith, subst, ⊎_elim, inl, inr}
 use Rattle.std.specs.Prelude.{All}
 use Rattle.std.specs.List.{range_with_len, swap}
 use Rattle.std.proofs.lemmas.Bool.{cases_eq, lt-ltb}
 use Rattle.std.proofs.lemmas.List.{ext_get_or, get_or-map, get_or-set_other, length-map, length-set}
-use Rattle.std.proofs.lemmas.Grind.{get_or-set_at}
 use Rattle.std.proofs.lemmas.List.Edits.{length-swap, swap_is}
 use Rattle.std.proofs.lemmas.List.Elements.{All-from_get_or}
 use Rattle.std.proofs.lemmas.List.FromFn.{get_or-map-range_with_len, length-map-range_with_len}
@@ -44,12 +44,7 @@ module _ (l : Layout) where
   id_of_list id is = record { whole = is.whole; below = omega (arith, row_lists_count, row-below l id is) }
 
   pub id_in_words : (id : ℕ) → remap.IsRowId (transitions_of l) id → IsRowId l id
-  id_in_words id is =
-      let row : ℕ = id / stride l in
-      let below : row < row_count l = omega (arith, row_lists_count, is.below) in
-      let at = IsRowId-row l row below in
-      let same = quotient id (stride l) is.whole in
-      record { whole = is.whole; below = omega (arith, at.below, same) }
+  id_in_words id is = grind (arith, common_steps, row_lists_count, quotient)
 
   pub are_row_lists : AreRows l → AreStarts l → remap.AreRows (transitions_of l)
   are_row_lists rows starts = record {
@@ -93,23 +88,10 @@ record IsSwappedAt {X : Type 0} (xs : List X) (i j k : ℕ) (d : X) : Type 0 whe
 
 swapped_at : {X : Type 0} (xs : List X) (i j k : ℕ) (d : X) → i < length xs → j < length xs
     → IsSwappedAt xs i j k d
-swapped_at {X} xs i j k d hi hj =
-    let first : List X = set xs i (get_or xs j d) in
-    let count = length-set xs i (get_or xs j d) in
-    let is = ap (λ ys. get_or ys k d) (sym (swap_is xs i j d hi hj)) in
-    record {
-      at_second = λ e. is ∙ get_or-set_at first j k (get_or xs i d) d e (omega (arith, count));
-      at_first = λ n e.
-          is ∙ get_or-set_other first j k (get_or xs i d) d n ∙ get_or-set_at xs i k (get_or xs j d) d e hi;
-      elsewhere = λ n m.
-          is ∙ get_or-set_other first j k (get_or xs i d) d n ∙ get_or-set_other xs i k (get_or xs j d) d m;
-    }
+swapped_at {X} xs i j k d hi hj = grind (arith, common_steps, length-set, swap_is, get_or-set_at, get_or-set_other)
 
 module _ (l : Layout) (words : List ℕ) (first second : ℕ) (rows : AreRows l) (is_first : IsRowId l first)
     (is_second : IsRowId l second) (sw : AreSwapped (stride l) l.words words first second) where
-  swapped : Layout
-  swapped = record l { words = words }
-
   i : ℕ
   i = first / stride l
 
@@ -194,9 +176,6 @@ module _ (l : Layout) (words : List ℕ) (first second : ℕ) (rows : AreRows l)
 -- ---- rows that are renamed
 
 module _ (l : Layout) (ids : List ℕ) (rows : AreRows l) where
-  new_id : ℕ → ℕ
-  new_id id = slice_index ids (id / stride l)
-
   words_count : length (renamed l ids).words ≡ length l.words
   words_count = length-map-range_with_len (renamed_word l ids) 0 (length l.words)
 

@@ -1,67 +1,56 @@
 -- Shuffled tables: the match rows lie in the order of their ids, so their patterns are the lists of the map in its
 -- order.
-use Rattle.std.proofs.Common.{◌≡◌, ℕ, zero, suc, ◌+◌, ◌-◌, ◌*◌, ◌/◌, ◌<◌, ◌≤◌, ◌⊎◌, ◌==◌, ◌&&◌, nat_lt, nat_le}
-use Rattle.std.proofs.Common.{Bool}
-use Rattle.std.proofs.Common.{true, false, if◌then◌else◌, Option, Some, None, List, [], ◌∷◌, length, map, slice_index}
-use Rattle.std.proofs.Common.{get_or}
-use Rattle.std.proofs.Common.{Vec, Global, refl, ap, ap₂, sym, ◌∙◌, subst, ⊎_elim, inl, inr, arith}
-use Rattle.std.specs.BTreeMap.{IsOrdered, get, is_at, keys, values}
+use Rattle.std.proofs.Common.{rules, ◌≡◌, ℕ, zero, suc, ◌+◌, ◌-◌, ◌*◌, ◌/◌, ◌<◌, ◌≤◌, ◌⊎◌, ◌==◌, ◌&&◌, nat_lt, nat_le}
+use Rattle.std.proofs.Common.{Bool, true, false, if◌then◌else◌, Option, Some, None, List, [], ◌∷◌, length, map}
+use Rattle.std.proofs.Common.{slice_index, get_or, Vec, Global, refl, ap, ap₂, sym, ◌∙◌, subst, ⊎_elim, inl, inr, arith}
+use Rattle.std.proofs.lemmas.Grind.{common_steps}
+use Rattle.std.specs.BTreeMap.{IsOrdered, get, is_at, keys}
 use Rattle.std.specs.List.{concat, list_any, range_with_len, slice_get}
 use Rattle.std.specs.List.Sorted.{IsStrictlyIncreasing}
 use Rattle.std.specs.Map.{keys_of, values_of}
 use Rattle.std.specs.Ordering.{nat_cmp}
-use Rattle.std.specs.Prelude.{Contains, is_some}
+use Rattle.std.specs.Prelude.{Contains, is_some, All}
 use Rattle.std.specs.Vec.{vec_items}
 use Rattle.std.proofs.lemmas.Bool.{cases_eq, cases_lt, eq-eqb, eqb-true, false≢true, ne_eqb, lt-ltb, le-ltb}
-use Rattle.std.proofs.lemmas.List.FromFn.{get_or-map-range_with_len, length-map-range_with_len}
+use Rattle.std.proofs.lemmas.List.FromFn.{get_or-map-range_with_len, length-map-range_with_len, length-range_with_len}
 use Rattle.std.proofs.lemmas.Map.Entries.{length-keys_of, length-values_of, place_from_lookup}
 use Rattle.std.proofs.lemmas.Map.Keys.{IsStrictlyIncreasing-from_sorted, below_from_sorted}
 use Rattle.std.proofs.lemmas.Map.Keys.{sorted_from_strictly_increasing}
 use Rattle.std.proofs.lemmas.Nat.{mul-le, row_fits}
 use Rattle.std.proofs.Math.Bool.{and-false}
 use Rattle.std.proofs.Math.Nat.{mul-div_cancel}
-use Rattle.std.proofs.lemmas.List.{length-map}
+use Rattle.std.proofs.lemmas.List.{length-map, get_or_default}
 use Rattle.rx_order.specs.RowOrder.{is_start_row}
 use Rattle.lemmas_walks.proofs.Firsts.{Contains-cases, Contains-here, Contains-nil, Contains-there}
 use Rattle.rx_spec.specs.Machines.{Label}
 use Rattle.rx_dense.specs.Builder.{pattern_lists, slices_from, with_patterns}
-use Rattle.rx_dense.specs.Layouts.{Layout, AreRows, row_count, stride, table_of}
+use Rattle.rx_dense.specs.Layouts.{Layout, AreRows, row_count, stride, table_of, AreStarts, context_number, machine_of}
+use Rattle.rx_dense.specs.Layouts.{mode_place}
 use Rattle.rx_dense.proofs.Rows.{quotient, row-below, start_is_row, start_within}
-use Rattle.std.specs.Prelude.{All}
-use Rattle.std.proofs.lemmas.List.{get_or_default}
 use Rattle.std.proofs.lemmas.List.Elements.{All-contains}
 use Rattle.rx_order.specs.Ordering.{AreMatches, IsRouted, IsShuffled, Matches, is_match_row, label_by}
 use Rattle.rx_order.specs.Ordering.{label_of_patterns}
 use Rattle.rx_order.proofs.MarkedRows.{any_contains, any_has, has_key, is_at_number}
 use Rattle.rx_order.proofs.Moved.{factor}
-use Rattle.rx_order.proofs.MatchRows.{HasPatterns, label_of_number}
+use Rattle.rx_order.proofs.MatchRows.{HasPatterns, label_of_number, joined}
 use Rattle.rx_order.proofs.ExchangedRows.{places_apart, row_below}
-use Rattle.rx_order.proofs.KindNumbers.{high_kind}
-use Rattle.std.proofs.lemmas.List.FromFn.{length-range_with_len}
+use Rattle.rx_order.proofs.KindNumbers.{high_kind, kind_high}
 use Rattle.std.proofs.lemmas.List.Sorted.{length_permutation}
-use Rattle.rx_order.proofs.Ordered.{IsArranged, Sorting, before_end, behind_end, end, end_within, high_at}
-use Rattle.rx_order.proofs.Ordered.{high_kind_is}
+use Rattle.rx_order.proofs.Ordered.{IsArranged, Sorting, before_end, behind_end, end, end_within, high_at, high_kind_is}
+use Rattle.rx_order.proofs.Ordered.{ends_few, specials, accel_id, accel_is, ordered, permuted, size_same, start_is}
+use Rattle.rx_order.proofs.Ordered.{kind_at, low_kind, number, row_at, some}
 use Rattle.rx_spec.specs.Causes.{max_id}
-use Rattle.std.specs.List.Sorted.{IsPermutation}
-use Rattle.rx_dense.specs.Layouts.{AreStarts}
 use Rattle.rx_dense.proofs.Shaped.{rows_kept, starts_kept}
 use Rattle.rx_order.specs.ByKind.{AreByKind, AreKinds, AreRanked}
 use Rattle.rx_order.specs.Moved.{IsReordered}
 use Rattle.rx_order.specs.SpecialIds.{special_ids}
-use Rattle.rx_order.proofs.Ordered.{ends_few, specials}
-use Rattle.rx_order.proofs.Reordered.{IsBefore, stride_is}
+use Rattle.rx_order.proofs.Reordered.{IsBefore, stride_is, numbers, zero_div, number_below, number_of_place}
+use Rattle.rx_order.proofs.Reordered.{row_at_number}
 use Rattle.rx_spec.specs.Queries.{Anchored}
 use Rattle.rx_spec.specs.Tables.{IsSound}
 use Rattle.rx_spec.specs.declared.Start.{Start}
-use Rattle.rx_dense.specs.Layouts.{context_number, machine_of, mode_place}
-use Rattle.rx_order.proofs.MatchRows.{joined}
 use Rattle.rx_order.proofs.Sound.{AreLabels, frame, sound}
-use Rattle.rx_order.proofs.Ordered.{accel_id, accel_is, ordered, permuted, size_same, start_is}
-use Rattle.rx_order.proofs.Reordered.{numbers, zero_div}
-use Rattle.rx_order.proofs.KindNumbers.{kind_high}
 use Rattle.rx_order.proofs.KindRanges.{no_accels}
-use Rattle.rx_order.proofs.Ordered.{kind_at, low_kind, number, row_at, some}
-use Rattle.rx_order.proofs.Reordered.{number_below, number_of_place, row_at_number}
 
 -- ---- lists that rise
 
@@ -110,11 +99,7 @@ same_rising (x ∷ xs) (y ∷ ys) up down there back =
 pub key_there : {X : Type 0} (entries : List (ℕ × X)) (i k : ℕ) (v : X) → slice_get entries i ≡ Some (k, v)
     → (i < length (keys_of entries)) × (slice_index (keys_of entries) i ≡ k)
 key_there [] i k v e = absurd (cc)
-key_there {X} (entry ∷ entries) zero k v e = (
-  omega arith,
-  let same : entry ≡ (k, v) = cc in ap (λ (p : ℕ
-      × X). p.0) same,
-)
+key_there {X} (entry ∷ entries) zero k v e = grind (arith, common_steps)
 key_there (entry ∷ entries) (suc i) k v e =
     let at = key_there entries i k v e in
     (omega (arith, at.0), at.1)
@@ -122,9 +107,7 @@ key_there (entry ∷ entries) (suc i) k v e =
 pub list_there : (entries : List (ℕ × Vec ℕ Global)) (i k : ℕ) (v : Vec ℕ Global) → slice_get entries i ≡ Some (k, v)
     → get_or (map vec_items (values_of entries)) i [] ≡ v.items
 list_there [] i k v e = absurd (cc)
-list_there (entry ∷ entries) zero k v e =
-    let same : entry ≡ (k, v) = cc in
-    ap (λ (p : ℕ × Vec ℕ Global). p.1.items) same
+list_there (entry ∷ entries) zero k v e = grind (arith, common_steps)
 list_there (entry ∷ entries) (suc i) k v e = list_there entries i k v e
 
 -- ---- what labels say
@@ -235,8 +218,7 @@ module _ {old : Layout} {matches : Matches} {x : Sorting} {new m : Layout} (s : 
 
   id_at : (i d : ℕ) → i < end a 3 - 2 → get_or ids i d ≡ row_at a (i + 2) * stride old
   unfolding ids
-  id_at i d h =
-      get_or-map-range_with_len (λ i. row_at a (i + 2) * stride old) 0 (end a 3 - 2) i i d h (omega arith)
+  id_at i d h = search (rules, get_or-map-range_with_len, row_at, end)
 
   ids_rise : IsStrictlyIncreasing ids
   ids_rise i h =
@@ -295,9 +277,7 @@ module _ {old : Layout} {matches : Matches} {x : Sorting} {new m : Layout} (s : 
           subst (Contains (keys matches)) is (any_contains (row_at a (i + 2) * stride old) (keys matches) has)
 
   lists_count : length (pattern_lists matches) ≡ end a 3 - 2
-  lists_count =
-      length-map (values matches) vec_items ∙ length-values_of matches.entries ∙ sym (length-keys_of matches.entries)
-      ∙ ap length keys_are ∙ ids_count
+  lists_count = grind (arith, common_steps, length-map, length-values_of, length-keys_of, keys_are, ids_count)
 
   pub has_patterns : HasPatterns x.ends m (pattern_lists matches)
   has_patterns = record { count = lists_count; slices = s.slices; pattern_ids = s.pattern_ids }
@@ -441,8 +421,7 @@ module _ {old : Layout} {matches : Matches} {x : Sorting} {new m : Layout} (s : 
 
   label_high : (row : ℕ) → (row ≡ 1 → ⊥)
       → label_by old matches row ≡ label_of_patterns (get nat_cmp matches (row * stride old))
-  label_high row ne =
-      ap (λ b. if b then Label.Quits else label_of_patterns (get nat_cmp matches (row * stride old))) (ne_eqb row 1 ne)
+  label_high row ne = grind (arith, common_steps, ne_eqb)
 
   -- a row that tells patterns has a list
   label_found : (row : ℕ) (ks : List ℕ) → label_by old matches row ≡ Label.Matches ks
@@ -531,27 +510,13 @@ module _ {old : Layout} {matches : Matches} {kinds ranks rows ends : List ℕ} {
   reordered = subst (λ k. IsReordered rows k new) s.next_is s.reordered
 
   before : IsBefore l rows
-  before = record {
-    are_rows = rows_kept old l refl refl refl s.are_rows;
-    are_starts = starts_kept old l refl (omega arith) refl refl refl s.are_starts;
-    order = subst (λ n. IsPermutation (range_with_len 0 n) rows) s.kinds_are.count s.by_kind.permutation;
-  }
+  before = grind (arith, common_steps, rows_kept, starts_kept)
 
   set_is : m ≡ record new { special = special_ids (stride l) ends true }
   set_is = s.set ∙ ap (λ w. record new { special = special_ids w ends true }) (stride_is reordered before)
 
   plain : (row : ℕ) → is_match_row old matches row ≡ true → is_start_row old row ≡ false
-  plain row e = by_get (get nat_cmp matches (row * stride old)) refl
-    where
-      by_get : (o : Option (Vec ℕ Global)) → get nat_cmp matches (row * stride old) ≡ o → is_start_row old row ≡ false
-      by_get None h = absurd (false≢true (sym (ap (λ (o : Option (Vec ℕ Global)). is_some o) h) ∙ e))
-      by_get (Some v) h =
-          by_start (list_any (λ id. id == row * stride old) old.starts) refl
-        where
-          by_start : (b : Bool) → list_any (λ id. id == row * stride old) old.starts ≡ b → is_start_row old row ≡ false
-          by_start false none = ap (λ b. nat_lt 1 row && b) none ∙ and-false (nat_lt 1 row)
-          by_start true some_start =
-              absurd ((s.are.rows (row * stride old) v h).2 (any_contains (row * stride old) old.starts some_start))
+  plain row e = search (rules, false≢true, and-false, any_contains)
 
   -- Their ranks are their numbers, and no two places have one row.
   rise : (low high : ℕ) → low < high → high < row_count old
@@ -568,37 +533,7 @@ module _ {old : Layout} {matches : Matches} {kinds ranks rows ends : List ℕ} {
       omega (arith, ranks_rise, s.match_ranks _ below first, s.match_ranks _ behind second, apart)
 
   pub is_shuffle : IsShuffle old matches sorting new m
-  is_shuffle = record {
-    are = s.are;
-    ordered = s.ordered;
-    marked = refl;
-    matches_are = refl;
-    none_accelerated = refl;
-    arranged = record {
-      before = before;
-      reordered = reordered;
-      kinds = record { count = s.kinds_are.count; kinds_are = s.kinds_are.kinds_are };
-      by_kind = s.by_kind;
-      plain = plain;
-      rest =
-          subst (λ (k : Layout). k ≡ record new {
-            slices = k.slices;
-            pattern_ids = k.pattern_ids;
-            special = special_ids (stride l) ends true;
-            accels = k.accels;
-          }) (sym set_is) refl;
-    };
-    slices =
-        ap (λ (k : Layout). k.slices) set_is ∙ ap (λ (k : Layout). k.slices) reordered.is
-        ∙ ap (λ (k : Layout). k.slices) reordered.moved.rest;
-    pattern_ids =
-        ap (λ (k : Layout). k.pattern_ids) set_is ∙ ap (λ (k : Layout). k.pattern_ids) reordered.is
-        ∙ ap (λ (k : Layout). k.pattern_ids) reordered.moved.rest;
-    accels =
-        ap (λ (k : Layout). k.accels) set_is ∙ ap (λ (k : Layout). k.accels) reordered.is
-        ∙ ap (λ (k : Layout). k.accels) reordered.moved.rest;
-    rise = rise;
-  }
+  is_shuffle = search (rules, ordered, before, reordered, plain, set_is, rise)
 
   pub shuffling_ends : (kind : ℕ) → kind < 8 → slice_index ends kind * stride new ≤ max_id + stride new
   shuffling_ends kind h =

@@ -1,10 +1,10 @@
 -- Rows in order, by whose kinds it is known which match and from which a search may skip.
+use Rattle.std.proofs.lemmas.Grind.{common_steps}
 use Rattle.std.proofs.Common.{◌≡◌, ℕ, ◌*◌, ◌%◌, ◌<◌, ◌≤◌, ◌&&◌, nat_lt, nat_le, Bool, true, List, length, slice_index}
-use Rattle.std.proofs.Common.{ap, ap₂, sym, ◌∙◌, subst, ⊎_elim, arith}
+use Rattle.std.proofs.Common.{ap, ap₂, sym, ◌∙◌, ⊎_elim, arith, rules}
 use Rattle.std.specs.List.{range_with_len}
 use Rattle.std.specs.List.Sorted.{IsPermutation}
 use Rattle.std.specs.Prelude.{IsSome, Option, Some, None, is_some}
-use Rattle.std.proofs.Common.{rules}
 use Rattle.std.proofs.Math.Nat.{le-mul_of_pos_right, mod-eq_of_lt}
 use Rattle.std.proofs.lemmas.Nat.{pow_pos}
 use Rattle.std.proofs.lemmas.Bool.{cases_lt, false≢true, lt-ltb}
@@ -12,8 +12,7 @@ use Rattle.rx_spec.specs.Causes.{max_id}
 use Rattle.rx_spec.specs.Ids.{row_of}
 use Rattle.rx_spec.specs.Tables.{is_match}
 use Rattle.rx_search.specs.Starts.{IsId}
-use Rattle.rx_dense.specs.Layouts.{ids_of, row_count, stride, table_of}
-use Rattle.rx_dense.specs.Layouts.{Layout, AreRows}
+use Rattle.rx_dense.specs.Layouts.{ids_of, row_count, stride, table_of, Layout, AreRows}
 use Rattle.rx_dense.proofs.Rows.{IsId-row_id, IsRowId-row, id_few, row_of-row}
 use Rattle.rx_order.proofs.ExchangedRows.{count_of, row_below}
 use Rattle.rx_order.specs.ByKind.{AreSkippable, HaveMatches, leaving_of}
@@ -41,12 +40,7 @@ row_numbered l are row h =
 
 -- a row's number is at most the greatest id
 pub number_few : (l : Layout) → AreRows l → (row : ℕ) → row < row_count l → row ≤ max_id
-number_few l are row h =
-    omega (
-      arith,
-      id_few l are (row * stride l) (IsRowId-row l row h),
-      le-mul_of_pos_right row (pow_pos l.stride2),
-    )
+number_few l are row h = search (rules, id_few, le-mul_of_pos_right, pow_pos)
 
 -- a test that holds is that of something
 pub some_of : {X : Type 0} (o : Option X) → is_some o ≡ true → IsSome o
@@ -55,8 +49,7 @@ some_of (Some x) e = search rules
 
 module _ {l : Layout} {rows ends : List ℕ} (s : AreSkippable l rows ends) where
   pub permutation : IsPermutation (range_with_len 0 (row_count l)) rows
-  permutation =
-      subst (λ n. IsPermutation (range_with_len 0 n) rows) s.kinds_are.count s.by_kind.permutation
+  permutation = grind (arith, common_steps)
 
   pub rows_count : length rows ≡ row_count l
   rows_count = count_of permutation

@@ -1,16 +1,14 @@
 -- Tables in order that are sound.
-use Rattle.std.proofs.Common.{◌≡◌, ◌≢◌, ℕ, ◌*◌, ◌/◌, ◌%◌, ◌<◌, ◌≤◌, ◌==◌, Bool, true, false, if◌then◌else◌}
-use Rattle.std.proofs.Common.{List, [], length, map, get_or, Option, Some, None, refl, ap, ap₂, sym, ◌∙◌, subst, arith}
-use Rattle.std.specs.List.{range_with_len}
-use Rattle.std.specs.Prelude.{Contains, nat_lt}
+use Rattle.std.proofs.lemmas.Grind.{common_steps}
+use Rattle.std.proofs.Common.{◌≡◌, ◌≢◌, ℕ, ◌*◌, ◌%◌, ◌<◌, ◌≤◌, true, if◌then◌else◌, List, [], length, get_or, Option}
+use Rattle.std.proofs.Common.{Some, None, refl, ap, ap₂, sym, ◌∙◌, subst, arith}
+use Rattle.std.specs.Prelude.{Contains}
 use Rattle.std.proofs.lemmas.Bool.{and_parts, eqb-true, ltb-true}
 use Rattle.rx_spec.specs.Machines.{Label}
 use Rattle.rx_spec.specs.Queries.{Anchored}
 use Rattle.rx_spec.specs.Tables.{IsSound, IsTable, leaving}
 use Rattle.rx_spec.specs.declared.Start.{Start}
-use Rattle.rx_dense.specs.Builder.{renamed_id, renamed_word}
-use Rattle.rx_dense.specs.Layouts.{Layout, is_row_id, place_in_range, machine_of, row_count, stride, table_of}
-use Rattle.rx_dense.specs.Layouts.{universal_row}
+use Rattle.rx_dense.specs.Layouts.{Layout, place_in_range, machine_of, row_count, stride, table_of, universal_row}
 use Rattle.rx_dense.proofs.Rows.{multiple_within, row-below}
 use Rattle.rx_order.specs.Ordering.{IsRouted}
 use Rattle.rx_order.proofs.Ordered.{IsArranged, Sorting, dead, number, permuted, quit, row_at, size_same, special_rows}
@@ -28,32 +26,7 @@ pub frame : {x : Sorting} {l new m : Layout} → IsArranged x l new m
       special = m.special;
       accels = m.accels;
     }
-frame {x} {l} {new} {m} a =
-    let now = a.reordered.now in
-    let ws : List ℕ = map (renamed_word now a.reordered.ids) (range_with_len 0 (length now.words)) in
-    let ss : List ℕ = map (renamed_id now a.reordered.ids) now.starts in
-    let new_is : new ≡ record l { words = ws; starts = ss } =
-    a.reordered.is ∙ ap (λ (k : Layout). record k { words = ws; starts = ss }) a.reordered.moved.rest in
-    let all = λ (k : Layout).
-    let next : Layout = record k {
-      slices = m.slices;
-      pattern_ids = m.pattern_ids;
-      special = m.special;
-      accels = m.accels;
-    } in
-    next in
-    let special = ap (λ (k : Layout). k.special) a.rest in
-    let m_is : m ≡ all (record l { words = ws; starts = ss }) =
-    a.rest ∙ ap (λ s. record new {
-      slices = m.slices;
-      pattern_ids = m.pattern_ids;
-      special = s;
-      accels = m.accels;
-    }) (sym special)
-    ∙ ap all new_is in
-    let words : ws ≡ m.words = sym (ap (λ (k : Layout). k.words) m_is) in
-    let starts : ss ≡ m.starts = sym (ap (λ (k : Layout). k.starts) m_is) in
-    m_is ∙ ap₂ (λ (ws ss : List ℕ). all (record l { words = ws; starts = ss })) words starts
+frame {x} {l} {new} {m} a = grind (arith, common_steps)
 
 -- ---- soundness
 
@@ -82,17 +55,8 @@ some_is a b e = cc
 universal_below : (m : Layout) (whole : length m.words % stride m ≡ 0) (id : Option ℕ) (row : ℕ)
     → universal_row m id ≡ Some row → row < row_count m
 universal_below m whole None row e = absurd (cc)
-universal_below m whole (Some id) row e = by_test (is_row_id m id) refl e
-  where
-    by_test : (b : Bool) → is_row_id m id ≡ b → (if b then Some (id / stride m) else None) ≡ Some row
-        → row < row_count m
-    by_test false t e = absurd (cc)
-    by_test true t e =
-        let parts = and_parts (id % stride m == 0) (nat_lt id (length m.words)) t in
-        let own = eqb-true (id % stride m) 0 parts.0 in
-        let below = multiple_within id (stride m) (length m.words) own whole (ltb-true id (length m.words) parts.1) in
-        subst (λ r. r < row_count m) (some_is (id / stride m) row e) (row-below m id
-        (record { whole = own; below = below }))
+universal_below m whole (Some id) row e =
+    grind (arith, common_steps, and_parts, eqb-true, multiple_within, ltb-true, some_is, row-below)
 
 module _ {x : Sorting} {l new m : Layout} (a : IsArranged x l new m) (routed : IsRouted (table_of l)) {labels : ℕ
     → Label}

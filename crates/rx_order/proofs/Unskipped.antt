@@ -1,7 +1,7 @@
 -- A table no row of which gets needles stays as it is.
-use Rattle.std.proofs.Common.{◌≡◌, ℕ, zero, suc, ◌+◌, ◌*◌, ◌<◌, ◌≤◌, ◌==◌, ◌&&◌, not, nat_lt, nat_le, Bool}
-use Rattle.std.proofs.Common.{true, false, List, [], ◌∷◌, length, filter, slice_index, refl, ap, ap₂, sym, ◌∙◌, ⊎_elim}
-use Rattle.std.proofs.Common.{arith, if◌then◌else◌}
+use Rattle.std.proofs.lemmas.Grind.{common_steps}
+use Rattle.std.proofs.Common.{◌≡◌, ℕ, zero, suc, ◌+◌, ◌*◌, ◌<◌, ◌≤◌, ◌==◌, ◌&&◌, not, nat_lt, Bool, true, false, List}
+use Rattle.std.proofs.Common.{[], ◌∷◌, length, filter, slice_index, refl, ap, sym, ◌∙◌, ⊎_elim, arith, if◌then◌else◌}
 use Rattle.std.proofs.Math.Bool.{and-false}
 use Rattle.std.proofs.lemmas.Bool.{cases_eq, cases_lt, eq-eqb, ne_eqb, or_parts}
 use Rattle.std.proofs.lemmas.List.FromFn.{get_or-range_with_len, length-range_with_len}
@@ -14,8 +14,8 @@ use Rattle.rx_dense.specs.Specials.{is_accel_id}
 use Rattle.rx_dense.specs.declared.special.Special.{Special}
 use Rattle.rx_order.specs.ByKind.{AreKinds, leaving_of}
 use Rattle.rx_order.specs.Ordering.{IsAccelerated}
-use Rattle.rx_order.specs.RowOrder.{AreJoined, IsInOrder, IsPlain, are_needles, is_accel_kind}
-use Rattle.rx_order.specs.RowOrder.{is_skippable, is_start_row, kind_by}
+use Rattle.rx_order.specs.RowOrder.{AreJoined, IsInOrder, IsPlain, are_needles, is_accel_kind, is_skippable}
+use Rattle.rx_order.specs.RowOrder.{is_start_row, kind_by}
 use Rattle.rx_order.proofs.KindNumbers.{at_most, over}
 use Rattle.rx_order.proofs.Leaving.{last_false, leaving_is}
 
@@ -28,9 +28,7 @@ all_pass [] = refl
 all_pass (x ∷ xs) = ap (λ (ys : List ℕ). x ∷ ys) (all_pass xs)
 
 too_many : (xs : List ℕ) → 3 < length xs → are_needles xs ≡ false
-too_many xs h =
-    ap₂ (λ (a b : Bool). a && b && not (list_any (λ byte. byte == 32) xs)) (at_most 1 (length xs) (omega (arith, h)))
-    (over (length xs) 3 h)
+too_many xs h = grind (arith, common_steps, at_most, over)
 
 -- dead and quit get none
 module _ {t : Table} (sound : IsSound t) where
@@ -75,32 +73,12 @@ none_at p (x ∷ xs) e (suc i) h = none_at p xs (or_parts (p x) (list_any p xs) 
 plain_kind : (row : ℕ) (matches accelerated starts : Bool) → 1 < row
     → is_accel_kind (kind_by row matches accelerated starts) ≡ false → accelerated ≡ false
 plain_kind row matches false starts h e = refl
-plain_kind row matches true starts h e =
-    let zero_not : (row == 0) ≡ false = ne_eqb row 0 (λ z. absurd (omega (arith, z))) in
-    let one_not : (row == 1) ≡ false = ne_eqb row 1 (λ o. absurd (omega (arith, o))) in
-    absurd (by matches starts
-    (sym (ap (λ b. is_accel_kind (if b then 0
-    else (if row == 1 then 1 else (if matches then 3 else (if starts then 5 else 4))))) zero_not
-    ∙ ap (λ b. is_accel_kind (if b then 1 else (if matches then 3 else (if starts then 5 else 4)))) one_not) ∙ e))
-  where
-    by : (m s : Bool) → is_accel_kind (if m then 3 else (if s then 5 else 4)) ≡ false → ⊥
-    by true s c = cc
-    by false true c = cc
-    by false false c = cc
+plain_kind row matches true starts h e = grind (arith, common_steps, ne_eqb)
 
 -- no id is that of an accelerated row where none is named
 no_accel : (special : Special) (id : ℕ) → special.min_accel ≡ 0 → special.max_accel ≡ 0
     → is_accel_id special id ≡ false
-no_accel special id first last =
-    ⊎_elim
-    (λ (zero : id ≡ 0).
-    ap (λ b. nat_le special.min_accel id && nat_le id special.max_accel && not b) (eq-eqb id 0 zero)
-    ∙ last_false (nat_le special.min_accel id) (nat_le id special.max_accel))
-    (λ (ne : id ≡ 0 → ⊥).
-    ap (λ n. nat_le special.min_accel id && nat_le id n && not (id == 0)) last
-    ∙ ap (λ b. nat_le special.min_accel id && b && not (id == 0)) (over id 0 (omega (arith, ne)))
-    ∙ ap (λ b. b && not (id == 0)) (and-false (nat_le special.min_accel id)))
-    (cases_eq id 0)
+no_accel special id first last = grind (arith, common_steps, eq-eqb, last_false, over, and-false, cases_eq)
 
 module _ {l : Layout} (in_order : IsInOrder l) (plain : IsPlain l) (joined : AreJoined l) {kinds : List ℕ}
     (are : AreKinds l (is_match (table_of l)) (λ row. are_needles (leaving_of (table_of l) row)) kinds)

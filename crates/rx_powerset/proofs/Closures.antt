@@ -1,7 +1,8 @@
 -- The closure of a row, where no path that reads nothing goes round: what the row is of itself, and
 -- the closures of those behind it.
-use Rattle.std.proofs.Common.{◌≡◌, ℕ, zero, suc, ◌+◌, ◌*◌, ◌<◌, ◌⊎◌, inl, inr, true, false, if◌then◌else◌, List, []}
-use Rattle.std.proofs.Common.{◌∷◌, ◌++◌, length, sum_by, refl, ap, ap₂, sym, ◌∙◌, subst, arith, append-nil}
+use Rattle.std.proofs.lemmas.Grind.{common_steps}
+use Rattle.std.proofs.Common.{◌≡◌, ℕ, zero, suc, ◌+◌, ◌*◌, ◌<◌, ◌⊎◌, inl, inr, if◌then◌else◌, List, [], ◌∷◌, ◌++◌}
+use Rattle.std.proofs.Common.{length, sum_by, refl, ap, ap₂, sym, ◌∙◌, subst, arith, append-nil}
 use Rattle.std.specs.List.{flat_map}
 use Rattle.std.proofs.lemmas.List.Sums.{sum_by-cons}
 use Rattle.rx_spec.specs.Rows.{Row}
@@ -18,14 +19,9 @@ use Rattle.rx_powerset.proofs.Search.{Graph}
 reach_by-parts : (pass : Passing) (behind : ℕ → List ℕ) (q : ℕ) (row : Row)
     → reach_by pass behind q row ≡ own_by pass q row ++ flat_map behind (branches_by pass row)
 reach_by-parts pass behind q (Row.Bytes set next) = refl
-reach_by-parts pass behind q (Row.Split first second) =
-    ap (λ l. behind first ++ l) (sym (append-nil (behind second)))
+reach_by-parts pass behind q (Row.Split first second) = grind (arith, common_steps, append-nil)
 reach_by-parts Standing behind q (Row.Look look next) = refl
-reach_by-parts (Tested holds) behind q (Row.Look look next) =
-    elim (holds look) as (λ v. (if v then behind next else []) ≡ flat_map behind (if v then next ∷ [] else [])) [
-      | true ↦ sym (append-nil (behind next))
-      | false ↦ refl
-    ]
+reach_by-parts (Tested holds) behind q (Row.Look look next) = grind (arith, common_steps, append-nil)
 reach_by-parts pass behind q (Row.Match pattern) = refl
 reach_by-parts pass behind q Row.Fail = refl
 
@@ -46,28 +42,20 @@ weight_by behind (Row.Match pattern) = 1
 weight_by behind Row.Fail = 1
 
 sum_of_one : (w : ℕ → ℕ) (a : ℕ) → sum_by w (a ∷ []) ≡ w a
-sum_of_one w a =
-    let none : sum_by w [] ≡ 0 = refl in
-    omega (arith, sum_by-cons w a [])
+sum_of_one w a = grind (arith, common_steps, sum_by, sum_by-cons)
 
 sum_of_two : (w : ℕ → ℕ) (a b : ℕ) → sum_by w (a ∷ b ∷ []) ≡ w a + w b
 sum_of_two w a b = omega (arith, sum_by-cons w a (b ∷ []), sum_of_one w b)
 
 none_lighter : (w : ℕ → ℕ) (n : ℕ) → 0 < n → sum_by w [] < n
-none_lighter w n h =
-    let none : sum_by w [] ≡ 0 = refl in
-    omega arith
+none_lighter w n h = grind (arith, common_steps, sum_by)
 
 -- the weight of those behind it is less
 branches_lighter : (pass : Passing) (w : ℕ → ℕ) (row : Row) → sum_by w (branches_by pass row) < weight_by w row
 branches_lighter pass w (Row.Bytes set next) = none_lighter w 1 (omega arith)
 branches_lighter pass w (Row.Split first second) = omega (arith, sum_of_two w first second)
 branches_lighter Standing w (Row.Look look next) = none_lighter w (1 + w next) (omega arith)
-branches_lighter (Tested holds) w (Row.Look look next) =
-    elim (holds look) as (λ v. sum_by w (if v then next ∷ [] else []) < 1 + w next) [
-      | true ↦ omega (arith, sum_of_one w next)
-      | false ↦ none_lighter w (1 + w next) (omega arith)
-    ]
+branches_lighter (Tested holds) w (Row.Look look next) = grind (arith, common_steps, sum_by, sum_of_one, none_lighter)
 branches_lighter pass w (Row.Match pattern) = none_lighter w 1 (omega arith)
 branches_lighter pass w Row.Fail = none_lighter w 1 (omega arith)
 

@@ -1,11 +1,11 @@
 -- A search of a graph with flags for what was seen lists what a recursion over the graph lists, first
 -- occurrences only.
-use Rattle.std.proofs.Common.{◌≡◌, ℕ, ◌<◌, ◌==◌, ◌⊎◌, inl, inr, Bool, true, false, List, [], ◌∷◌, ◌++◌, sum_by}
-use Rattle.std.proofs.Common.{refl, ap, sym, ◌∙◌, subst, arith, append_assoc, append-nil, ⊎_elim}
+use Rattle.std.proofs.lemmas.Grind.{common_steps}
+use Rattle.std.proofs.Common.{◌≡◌, ℕ, ◌<◌, ◌==◌, ◌⊎◌, inl, inr, Bool, true, false, List, [], ◌∷◌, ◌++◌, sum_by, refl}
+use Rattle.std.proofs.Common.{ap, sym, ◌∙◌, subst, arith, append_assoc, append-nil, ⊎_elim}
 use Rattle.std.proofs.lemmas.Bool.{or_left, or_right, or_cases, eqb-true, eq-eqb, false_from_ne_true}
 use Rattle.std.proofs.lemmas.List.Folds.{list_any-append}
 use Rattle.std.proofs.lemmas.List.Sums.{sum_by-append, sum_by-cons}
-use Rattle.std.specs.Cmp.{both_ways}
 use Rattle.std.specs.List.{flat_map, list_any, AllByRecursion as Every}
 use Rattle.rx_spec.specs.States.{fresh}
 use Rattle.lemmas_walks.proofs.Every.{every-append, every-weaker, flat_map-append_of}
@@ -23,26 +23,19 @@ in_there : (y x : ℕ) (xs : List ℕ) → In xs x → In (y ∷ xs) x
 in_there y x xs h = or_right (x == y) (list_any (λ z. x == z) xs) h
 
 pub in_cases : (y x : ℕ) (xs : List ℕ) → In (y ∷ xs) x → (x ≡ y) ⊎ In xs x
-in_cases y x xs h =
-    ⊎_elim (λ e. inl (eqb-true x y e)) (λ e. inr e) (or_cases (x == y) (list_any (λ z. x == z) xs) h)
+in_cases y x xs h = grind (arith, common_steps, eqb-true, or_cases)
 
 pub in_nil : (x : ℕ) → In [] x → ⊥
 in_nil x h = cc
 
 in_left : (xs ys : List ℕ) (x : ℕ) → In xs x → In (xs ++ ys) x
-in_left xs ys x h =
-    let test = list_any (λ y. x == y) in
-    list_any-append (λ y. x == y) xs ys ∙ or_left (test xs) (test ys) h
+in_left xs ys x h = grind (arith, common_steps, list_any-append, or_left)
 
 in_right : (xs ys : List ℕ) (x : ℕ) → In ys x → In (xs ++ ys) x
-in_right xs ys x h =
-    let test = list_any (λ y. x == y) in
-    list_any-append (λ y. x == y) xs ys ∙ or_right (test xs) (test ys) h
+in_right xs ys x h = grind (arith, common_steps, list_any-append, or_right)
 
 in_split : (xs ys : List ℕ) (x : ℕ) → In (xs ++ ys) x → In xs x ⊎ In ys x
-in_split xs ys x h =
-    let test = list_any (λ y. x == y) in
-    or_cases (test xs) (test ys) (sym (list_any-append (λ y. x == y) xs ys) ∙ h)
+in_split xs ys x h = grind (arith, common_steps, or_cases, list_any-append)
 
 -- ---- first occurrences behind what was seen
 
@@ -68,36 +61,13 @@ fresh_skips seen (x ∷ xs) ys h =
 -- one more is seen, whether it is noted in front or behind
 noted_behind : (x : ℕ) (xs : List ℕ) (y : ℕ)
     → list_any (λ z. y == z) (x ∷ xs) ≡ list_any (λ z. y == z) (xs ++ x ∷ [])
-noted_behind x xs y = both_ways (test (x ∷ xs)) (test (xs ++ x ∷ [])) to from
-  where
-    test : List ℕ → Bool
-    test zs = list_any (λ z. y == z) zs
-
-    to : In (x ∷ xs) y → In (xs ++ x ∷ []) y
-    to h =
-        ⊎_elim
-        (λ e. in_right xs (x ∷ []) y (subst (λ v. In (v ∷ []) y) e (in_here y [])))
-        (λ e. in_left xs (x ∷ []) y e)
-        (in_cases x y xs h)
-
-    from : In (xs ++ x ∷ []) y → In (x ∷ xs) y
-    from h =
-        ⊎_elim
-        (λ e. in_there x y xs e)
-        (λ e. ⊎_elim
-        (λ s. subst (λ v. In (v ∷ xs) y) s (in_here y xs))
-        (λ n. absurd (in_nil y n))
-        (in_cases x y [] e))
-        (in_split xs (x ∷ []) y h)
+noted_behind x xs y = grind (arith, common_steps, in_right, in_here, in_left, in_cases, in_there, in_nil, in_split)
 
 -- a row that is new is listed, behind what is listed already
 fresh_lists : (seen xs : List ℕ) (y : ℕ) → (In seen y → ⊥)
     → seen ++ fresh seen (y ∷ xs) ≡ (seen ++ y ∷ []) ++ fresh (seen ++ y ∷ []) xs
 fresh_lists seen xs y new =
-    let first = fresh_new seen xs y (false_from_ne_true (list_any (λ z. y == z) seen) new) in
-    let others = fresh_alike (y ∷ seen) (seen ++ y ∷ []) xs (noted_behind y seen) in
-    ap (λ l. seen ++ l) (first ∙ ap (λ l. y ∷ l) others)
-    ∙ sym (append_assoc seen (y ∷ []) (fresh (seen ++ y ∷ []) xs))
+    grind (arith, common_steps, fresh_new, false_from_ne_true, fresh_alike, noted_behind, append_assoc)
 
 -- ---- the graph, and the search
 
@@ -150,17 +120,6 @@ module _ (g : Graph) where
     pub noted : (x : ℕ) → In out x → seen x ≡ true
     pub listed : (p : ℕ) → seen p ≡ true → Listed out waiting p
 
-  pub search_begins : (qs : List ℕ) (seen : ℕ → Bool) → ((x : ℕ) → seen x ≡ false)
-      → Searching (fresh [] (all qs)) seen [] qs
-  search_begins qs seen none = record {
-    whole = refl;
-    noted = λ x h. absurd (in_nil x h);
-    listed = λ p h. absurd (clash p h);
-  }
-    where
-      clash : (p : ℕ) → seen p ≡ true → ⊥
-      clash p h = let n : seen p ≡ false = none p in cc
-
   pub search_ends : {target : List ℕ} {seen : ℕ → Bool} {out : List ℕ} → Searching target seen out [] → out ≡ target
   search_ends {out = out} s = sym (ap (λ l. out ++ l) (fresh_end out) ∙ append-nil out) ∙ s.whole
 
@@ -182,14 +141,7 @@ module _ (g : Graph) where
   -- what the row in front and others give comes of where it leads and of them
   spread : (out ways above : List ℕ) (q : ℕ) → GivesWithin out ways q → (x : ℕ)
       → In (g.gives q ++ all above) x → In out x ⊎ In (all (ways ++ above)) x
-  spread out ways above q from x h =
-      ⊎_elim
-      (λ m. ⊎_elim (λ o. inl o) (λ w. inr (joined (in_left (all ways) (all above) x w))) (from x m))
-      (λ m. inr (joined (in_right (all ways) (all above) x m)))
-      (in_split (g.gives q) (all above) x h)
-    where
-      joined : In (all ways ++ all above) x → In (all (ways ++ above)) x
-      joined l = subst (λ l. In l x) (sym (flat_map-append_of g.gives ways above)) l
+  spread out ways above q from x h = grind (arith, common_steps, in_left, in_right, in_split, flat_map-append_of)
 
   -- what waits in front of it gives way to where the row in front leads
   turned : {out rest : List ℕ} {p q : ℕ} (ways more : List ℕ) → GivesWithin (out ++ more) ways q
@@ -250,32 +202,10 @@ module _ (g : Graph) where
   whole_turned : (out rest : List ℕ) (q : ℕ) → (In out q → ⊥)
       → out ++ fresh out (g.gives q ++ all rest)
       ≡ (out ++ g.own q) ++ fresh (out ++ g.own q) (all (g.branches q ++ rest))
-  whole_turned out rest q new =
-      let split =
-      append_assoc (g.own q) (all (g.branches q)) (all rest)
-      ∙ ap (λ l. g.own q ++ l) (sym (flat_map-append_of g.gives (g.branches q) rest)) in
-      ap (λ l. out ++ fresh out (l ++ all rest)) (g.unfolds q) ∙ ap (λ l. out ++ fresh out l) split
-      ∙ by_own (g.own q) (all (g.branches q ++ rest)) (g.own_is q)
-    where
-      by_own : (own others : List ℕ) → (own ≡ []) ⊎ (own ≡ q ∷ [])
-          → out ++ fresh out (own ++ others) ≡ (out ++ own) ++ fresh (out ++ own) others
-      by_own own others is =
-          let Moves = λ (o : List ℕ). out ++ fresh out (o ++ others) ≡ (out ++ o) ++ fresh (out ++ o) others in
-          ⊎_elim
-          (λ (e : own ≡ []). subst Moves (sym e) (ap (λ o. o ++ fresh o others) (sym (append-nil out))))
-          (λ (e : own ≡ q ∷ []). subst Moves (sym e) (fresh_lists out others q new))
-          is
+  whole_turned out rest q new = grind (arith, common_steps, append_assoc, flat_map-append_of, append-nil, fresh_lists)
 
   own_self : (q x : ℕ) → In (g.own q) x → x ≡ q
-  own_self q x h = by_own (g.own q) (g.own_is q) h
-    where
-      by_own : (own : List ℕ) → (own ≡ []) ⊎ (own ≡ q ∷ []) → In own x → x ≡ q
-      by_own own is h =
-          ⊎_elim
-          (λ (e : own ≡ []). absurd (in_nil x (subst (λ o. In o x) e h)))
-          (λ (e : own ≡ q ∷ []).
-          ⊎_elim (λ s. s) (λ n. absurd (in_nil x n)) (in_cases q x [] (subst (λ o. In o x) e h)))
-          is
+  own_self q x h = grind (arith, common_steps, in_nil, in_cases)
 
   -- A row that is new is noted as seen, and gives way to where it leads.
   pub search_turns : {target : List ℕ} {seen then : ℕ → Bool} {out rest : List ℕ} {q : ℕ} → seen q ≡ false
@@ -325,5 +255,4 @@ module _ (g : Graph) where
   passes_falls rest q = omega (arith, sum_by-cons g.weight q rest, g.falls q)
 
   pub turns_falls : (rest : List ℕ) (q : ℕ) → sum_by g.weight (g.branches q ++ rest) < sum_by g.weight (q ∷ rest)
-  turns_falls rest q =
-      omega (arith, sum_by-cons g.weight q rest, sum_by-append g.weight (g.branches q) rest, g.falls q)
+  turns_falls rest q = grind (arith, common_steps, sum_by-cons, sum_by-append)

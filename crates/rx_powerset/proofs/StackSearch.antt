@@ -1,14 +1,15 @@
 -- One turn of the search, with an ordered set of what was seen and a stack of what waits.
-use Rattle.std.proofs.Common.{◌≡◌, ℕ, inl, inr, Bool, true, false, not, List, [], ◌∷◌, ◌++◌, sum_by, ◌<◌, reverse}
-use Rattle.std.proofs.Common.{length, refl, ap, sym, ◌∙◌, subst, arith}
+use Rattle.std.proofs.lemmas.Grind.{common_steps}
+use Rattle.std.proofs.Common.{◌≡◌, ℕ, Bool, true, false, not, List, [], ◌∷◌, ◌++◌, sum_by, ◌<◌, reverse, length, refl}
+use Rattle.std.proofs.Common.{ap, sym, ◌∙◌, subst, arith}
 use Rattle.std.proofs.lemmas.Bool.Decides.{nat_tests}
 use Rattle.std.proofs.lemmas.List.{reverse-append, nil_from_length}
 use Rattle.std.specs.BTreeSet.{BTreeSet, contains, Updates}
 use Rattle.std.specs.BTreeMap.{is_at}
 use Rattle.std.specs.Ordering.{nat_cmp}
 use Rattle.lemmas_walks.proofs.Firsts.{by_test}
-use Rattle.rx_powerset.proofs.Search.{Graph, Notes, Searching, search_passes, search_turns, search_ends}
-use Rattle.rx_powerset.proofs.Search.{passes_falls, turns_falls}
+use Rattle.rx_powerset.proofs.Search.{Graph, Notes, Searching, search_passes, search_turns, search_ends, passes_falls}
+use Rattle.rx_powerset.proofs.Search.{turns_falls}
 
 -- the last of the stack is the first of those that wait
 pub popped : (rest : List ℕ) {old : List ℕ} {id : ℕ} → old ≡ rest ++ id ∷ [] → reverse old ≡ id ∷ reverse rest
@@ -23,11 +24,7 @@ at_other : (k q : ℕ) → is_at (nat_cmp k) q ≡ true → q ≡ k
 at_other k q h = grind (arith, nat_tests)
 
 notes : (seen then : BTreeSet ℕ) (id : ℕ) → Updates nat_cmp seen then id true → Notes (has seen) (has then) id
-notes seen then id u = record {
-  now = u.1;
-  stays = λ x h. by_test (is_at (nat_cmp id) x) (λ e. u.0 x ∙ rw e refl) (λ e. u.0 x ∙ rw e h);
-  only = λ x h. by_test (is_at (nat_cmp id) x) (λ e. inl (at_other id x e)) (λ e. inr (sym (u.2 x e) ∙ h));
-}
+notes seen then id u = grind (arith, common_steps, by_test, at_other)
 
 not_false : (b : Bool) {added : Bool} → added ≡ not b → added ≡ false → b ≡ true
 not_false true e f = refl
@@ -60,22 +57,16 @@ module _ (g : Graph) where
   -- what is listed then and waits, as it is kept
   pub kept : {target out more waiting after : List ℕ} {seen : ℕ → Bool} → Searching g target seen out waiting
       → more ≡ out → after ≡ waiting → Searching g target seen more after
-  kept {target} {out} {after = after} {seen = seen} s listed left =
-      subst
-      (λ o. Searching g target seen o after)
-      (sym listed)
-      (subst (Searching g target seen out) (sym left) s)
+  kept {target} {out} {after = after} {seen = seen} s listed left = grind (arith, common_steps)
 
   -- less weight waits
   pub passed_falls : {before others : List ℕ} {id : ℕ} → before ≡ id ∷ others
       → sum_by g.weight others < sum_by g.weight before
-  passed_falls {others = others} {id = id} e =
-      omega (arith, ap (sum_by g.weight) e, passes_falls g others id)
+  passed_falls {others = others} {id = id} e = grind (arith, common_steps, sum_by, passes_falls)
 
   pub met_falls : {before others after : List ℕ} {id : ℕ} → before ≡ id ∷ others
       → after ≡ g.branches id ++ others → sum_by g.weight after < sum_by g.weight before
-  met_falls {others = others} {id = id} e left =
-      omega (arith, ap (sum_by g.weight) e, ap (sum_by g.weight) left, turns_falls g others id)
+  met_falls {others = others} {id = id} e left = grind (arith, common_steps, sum_by, turns_falls)
 
   -- nothing waits
   pub stopped : (waiting : List ℕ) {target out : List ℕ} {len : ℕ} {seen : ℕ → Bool} → len ≡ length waiting

@@ -1,6 +1,7 @@
 -- How many rows and patterns a state can have.
+use Rattle.std.proofs.lemmas.Grind.{common_steps}
 use Rattle.std.proofs.Common.{◌≡◌, ℕ, suc, ◌<◌, ◌≤◌, ◌==◌, ◌⊎◌, Bool, true, false, if◌then◌else◌, List, [], ◌∷◌, ◌++◌}
-use Rattle.std.proofs.Common.{length, ap, sym, subst, arith, ⊎_elim, length-append}
+use Rattle.std.proofs.Common.{length, sym, subst, arith, ⊎_elim, length-append}
 use Rattle.std.proofs.lemmas.Bool.{eqb-true, false_from_ne_true}
 use Rattle.std.proofs.lemmas.Map.Steps.{length-le_from_distinct_below}
 use Rattle.std.specs.List.{flat_map, IsDistinct, AllByRecursion as Every}
@@ -40,11 +41,7 @@ few_firsts {ys} xs n e h =
 
 pub few_more : {q : ℕ} {more own : List ℕ} (n : ℕ) (out : List ℕ) → q < n → (own ≡ []) ⊎ (own ≡ q ∷ [])
     → more ≡ out ++ own → Every (λ x. x < n) out → Every (λ x. x < n) more
-few_more {q} {own = own} n out lt is e h =
-    let Below = Every (λ x. x < n) in
-    let own_below =
-    ⊎_elim (λ (k : own ≡ []). subst Below (sym k) tt) (λ (k : own ≡ q ∷ []). subst Below (sym k) (lt, tt)) is in
-    subst Below (sym e) (every-append (λ x. x < n) out own h own_below)
+few_more {q} {own = own} n out lt is e h = grind (arith, common_steps, every-append)
 
 -- ---- patterns
 
@@ -78,5 +75,4 @@ patterns_few rows (x ∷ xs) =
 pub few_told : (kind : MatchKind) (rows : List Row) (settled : List ℕ) {going label : List ℕ}
     → going ≡ cut kind rows settled → label ≡ flat_map (λ q. pattern_of (row_at rows q)) going
     → length label ≤ length settled
-few_told kind rows settled {going} eg el =
-    omega (arith, ap length el, patterns_few rows going, ap length eg, cut_few kind rows settled)
+few_told kind rows settled {going} eg el = grind (arith, common_steps, patterns_few, cut_few)

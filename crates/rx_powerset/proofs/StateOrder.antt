@@ -1,5 +1,6 @@
 -- States of the code are equal, and of one rank, exactly where their parts are equal.
-use Rattle.std.proofs.Common.{◌≡◌, ℕ, Bool, true, false, List, refl, ap, sym, ◌∙◌, Equal}
+use Rattle.std.proofs.Common.{arith, ◌≡◌, ℕ, Bool, true, false, List, refl, ap, sym, ◌∙◌, Equal}
+use Rattle.std.proofs.lemmas.Grind.{common_steps}
 use Rattle.std.proofs.lemmas.Bool.{and_parts}
 use Rattle.std.proofs.lemmas.Cmp.{tied_itself, nat_list_cmp_total}
 use Rattle.std.specs.Cmp.{tied_then}
@@ -30,18 +31,7 @@ list_tied : (xs ys : List ℕ) → is_eq (slice_cmp nat_cmp xs ys) ≡ true → 
 list_tied xs ys h = same_text xs ys (sym (texts_ties xs ys ∙ h))
 
 facts_tied : (x y : Facts) → is_eq (facts_rank x y) ≡ true → x ≡ y
-facts_tied x y h =
-    let a = then_tied (bool_cmp x.text y.text) _ h in
-    let b = then_tied (bool_cmp x.line_terminator y.line_terminator) _ a.1 in
-    let c = then_tied (bool_cmp x.lf y.lf) _ b.1 in
-    let d = then_tied (bool_cmp x.cr y.cr) (bool_cmp x.word y.word) c.1 in
-    λ i. record {
-      text = bool_tied x.text y.text a.0 i;
-      line_terminator = bool_tied x.line_terminator y.line_terminator b.0 i;
-      lf = bool_tied x.lf y.lf c.0 i;
-      cr = bool_tied x.cr y.cr d.0 i;
-      word = bool_tied x.word y.word d.1 i;
-    }
+facts_tied x y h = grind (arith, common_steps, then_tied, bool_tied)
 
 -- states of one rank are equal
 rank_tied : (s t : State) → is_eq (rank s t) ≡ true → s ≡ t
@@ -67,11 +57,7 @@ facts_itself : (x : Facts) → facts_rank x x ≡ Equal
 facts_itself x = simp bool_itself
 
 rank_itself : (s : State) → rank s s ≡ Equal
-rank_itself s =
-    let labels = slice_cmp nat_cmp s.label s.label in
-    ap (λ (o : Ordering). ordering_then o (ordering_then (facts_rank s.context s.context) labels)) (list_itself s.rows)
-    ∙ ap (λ (o : Ordering). ordering_then o labels) (facts_itself s.context)
-    ∙ list_itself s.label
+rank_itself s = grind (arith, common_steps, list_itself, facts_itself)
 
 same_rank : (s t : State) → s ≡ t → rank s t ≡ Equal
 same_rank s t e = ap (λ (r : State). rank s r) (sym e) ∙ rank_itself s

@@ -1,5 +1,6 @@
 -- The parts of a step, put together.
-use Rattle.std.proofs.Common.{◌≡◌, ℕ, List, Result, Ok, Err, IfOk, ap, ap₂, ◌∙◌}
+use Rattle.std.proofs.Common.{arith, ◌≡◌, ℕ, List, Result, Ok, Err, IfOk, ◌∙◌}
+use Rattle.std.proofs.lemmas.Grind.{common_steps}
 use Rattle.std.specs.List.{flat_map}
 use Rattle.rx_spec.specs.Contexts.{Facts, unit_facts, holds_read}
 use Rattle.rx_spec.specs.Nfas.{Nfa}
@@ -19,10 +20,7 @@ pub decided : {known : Facts} {direction : Direction} {from rows : List ℕ} (nf
     → known ≡ unit_facts nfa.line_terminator unit → direction ≡ nfa.direction → from ≡ s.rows
     → rows ≡ closed_rows nfa.rows (Tested (λ look. holds_read direction look s.context known)) from
     → rows ≡ decided_rows nfa unit s
-decided {from = from} nfa s unit known direction from_is rows_are =
-    let passing = λ (d : Direction) (k : Facts). Tested (λ look. holds_read d look s.context k) in
-    rows_are ∙ ap₂ (λ d k. closed_rows nfa.rows (passing d k) from) direction known
-    ∙ ap (closed_rows nfa.rows (passing nfa.direction (unit_facts nfa.line_terminator unit))) from_is
+decided {from = from} nfa s unit known direction from_is rows_are = grind (arith, common_steps)
 
 -- what the parts of a step were found to be
 pub record Parts (nfa : Nfa) (kind : MatchKind) (s : State) (unit : ℕ) (known : Facts) (going targets label : List ℕ)
@@ -35,7 +33,4 @@ pub record Parts (nfa : Nfa) (kind : MatchKind) (s : State) (unit : ℕ) (known 
 pub stepped : {nfa : Nfa} {kind : MatchKind} {s : State} {unit : ℕ} {known : Facts} {going targets label : List ℕ}
     → Parts nfa kind s unit known going targets label → state_at nfa targets known label ≡ step nfa kind s unit
 unfolding step
-stepped {nfa} {unit = unit} p =
-    let targets = p.targets_are ∙ ap (flat_map (λ q. target unit (row_at nfa.rows q))) p.going_is in
-    let label = p.label_is ∙ ap (flat_map (λ q. pattern_of (row_at nfa.rows q))) p.going_is in
-    λ i. state_at nfa (targets i) (p.known_is i) (label i)
+stepped {nfa} {unit = unit} p = grind (arith, common_steps)

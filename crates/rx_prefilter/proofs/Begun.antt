@@ -1,4 +1,5 @@
 -- How much of a literal was read last.
+use Rattle.std.proofs.lemmas.Grind.{common_steps}
 use Rattle.std.proofs.Common.{◌≡◌, ℕ, ◌+◌, ◌-◌, ◌<◌, ◌≤◌, List, length, slice_index, ap, sym, ◌∙◌, subst, ⊎_elim, arith}
 use Rattle.std.proofs.lemmas.Bool.{cases_lt}
 use Rattle.rx_prefilter.specs.Literals.{EndsWith, IsLongest}
@@ -16,11 +17,7 @@ pub record MostBegun (hay literal : List ℕ) (from to k : ℕ) : Type 0 where
 
 module _ (hay literal : List ℕ) (from : ℕ) where
   pub none_begun : 0 < length literal → MostBegun hay literal from from 0
-  none_begun some = record {
-    begun = record { few = omega arith; reads = λ i h. absurd (omega (arith, h)) };
-    fewer = some;
-    most = λ i low b. let few = b.few in omega (arith, few);
-  }
+  none_begun some = grind (arith, common_steps)
 
   -- one byte more
   module _ {to k byte j : ℕ} (m : MostBegun hay literal from to k) (is : slice_index hay to ≡ byte)

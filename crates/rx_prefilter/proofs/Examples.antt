@@ -1,4 +1,5 @@
 -- The first places of the literal ab in the text xabab.
+use Rattle.std.proofs.lemmas.Grind.{common_steps}
 use Rattle.std.proofs.Common.{◌≡◌, ℕ, zero, suc, ◌+◌, ◌<◌, ◌≤◌, refl, arith}
 use Rattle.std.specs.Prelude.{slice_index}
 use Rattle.memchr.specs.Find.{OccursAt}
@@ -23,24 +24,10 @@ not_at_2 : OccursAt text literal 2 → ⊥
 not_at_2 at = omega (arith, at.reads 0 (omega arith))
 
 pub in_text : InText
-in_text = (
-  record {
-    low = omega arith;
-    high = omega arith;
-    before = λ k low less at. let here : k ≡ 0 = omega arith in not_at_0 (rw here at at);
-  },
-  record { fits = omega arith; reads = bytes_1 },
-)
+in_text = grind (arith, common_steps, not_at_0, bytes_1)
 
 pub behind_the_first : BehindTheFirst
-behind_the_first = (
-  record {
-    low = omega arith;
-    high = omega arith;
-    before = λ k low less at. let here : k ≡ 2 = omega arith in not_at_2 (rw here at at);
-  },
-  record { fits = omega arith; reads = bytes_3 },
-)
+behind_the_first = grind (arith, common_steps, not_at_2, bytes_3)
 
 pub cut_by_span : CutBySpan
 cut_by_span = λ k low less at. let here : k ≡ 2 = omega arith in not_at_2 (rw here at at)

@@ -1,13 +1,14 @@
 -- Searches with a pair of tables that search for one literal.
+use Rattle.std.proofs.lemmas.Grind.{common_steps}
 use Rattle.std.proofs.Common.{◌≡◌, ℕ, ◌+◌, ◌-◌, ◌<◌, ◌≤◌, ◌==◌, ◌||◌, Bool, true, false, List, length, slice_index}
 use Rattle.std.proofs.Common.{Option, Some, None, Ok, Err, if◌then◌else◌, ap, refl, sym, ◌∙◌, subst, arith}
 use Rattle.std.specs.Prelude.{IfSome}
 use Rattle.std.proofs.lemmas.Bool.{eq-eqb, eqb-true, false_from_ne_true, ltb-false, ltb-true}
 use Rattle.rx_spec.specs.Bytes.{AreBytes}
-use Rattle.rx_spec.specs.HalfSearches.{beside, from_start, half_search, whole_walk}
+use Rattle.rx_spec.specs.HalfSearches.{beside, half_search, whole_walk}
 use Rattle.rx_spec.specs.Joining.{Answer, back_from, match_at, with_end, with_start}
 use Rattle.rx_spec.specs.Queries.{Anchored, HalfMatch, IsFit, MatchError, Query, is_anchored, is_done}
-use Rattle.rx_spec.specs.Splits.{half_unsplit, skip_splits, skips_splits, split_limit}
+use Rattle.rx_spec.specs.Splits.{half_unsplit, skips_splits}
 use Rattle.rx_spec.specs.Starts.{start_error, start_row}
 use Rattle.rx_spec.specs.Tables.{IsSound, Table}
 use Rattle.rx_spec.specs.declared.Direction.{Direction}
@@ -61,21 +62,13 @@ module _ {t : Table} {mode : Anchored} {row : ℕ} (s : Started t mode row) (dir
   }
 
   unsplit : half_unsplit t direction q ≡ half_search t.machine t.settings direction q
-  unsplit =
-      ap (λ (skips : Bool). if skips
-      then skip_splits (half_search t.machine t.settings direction) direction (split_limit q) q
-      else half_search t.machine t.settings direction q) s.whole
+  unsplit = grind (arith, common_steps)
 
   pub walked : is_done q ≡ false → half_unsplit t direction q ≡ whole_walk t.machine direction q row
   walked goes = unsplit ∙ begun is_start goes
 
   pub none_done : is_done q ≡ true → half_unsplit t direction q ≡ Ok None
-  none_done done =
-      unsplit
-      ∙ ap (λ (over : Bool). if over
-      then Ok None
-      else from_start direction q (start_error t.settings (beside direction q) q.mode)
-      (whole_walk t.machine direction q (start_row t.machine t.settings (beside direction q) q.mode))) done
+  none_done done = grind (arith, common_steps, unsplit)
 
 -- the end of a match of the literal
 abbrev end_of : (pattern len at : ℕ) → HalfMatch
@@ -90,18 +83,13 @@ module _ {f r : Table} {literal : List ℕ} {pattern start before : ℕ} {at : �
   -- where all of it was read last, it occurs
   read_there : {from to : ℕ} → to ≤ q.end → Begun q.haystack literal from to len
       → OccursAt q.haystack literal (to - len)
-  read_there high b =
-      let few = b.few in
-      let within = fits.within in
-      record { fits = omega (arith, few, high, within); reads = b.reads }
+  read_there high b = grind (arith, common_steps)
 
   stands : Standing f (at len)
   stands = record { sound = forward.started.sound; below = forward.below len (omega arith) }
 
   first_place : is_done q ≡ false → Place q q.start
-  first_place goes =
-      let order = ltb-false q.end q.start goes in
-      record { fits = fits.within; in_span = record { low = omega arith; high = order } }
+  first_place goes = grind (arith, common_steps, ltb-false)
 
   -- ---- forward
 

@@ -1,9 +1,10 @@
 -- Walks from the row of a literal: they tell nothing before the literal was read.
-use Rattle.std.proofs.Common.{◌≡◌, ◌≢◌, ℕ, suc, zero, ◌+◌, ◌-◌, ◌<◌, ◌≤◌, Bool, true, false, Ok, None, List, [], ◌∷◌}
-use Rattle.std.proofs.Common.{length, slice_index, if◌then◌else◌, ap, refl, sym, ◌∙◌, subst, ⊎_elim, arith}
+use Rattle.std.proofs.lemmas.Grind.{common_steps}
+use Rattle.std.proofs.Common.{◌≡◌, ◌≢◌, ℕ, suc, zero, ◌+◌, ◌-◌, ◌<◌, ◌≤◌, Bool, Ok, None, List, [], ◌∷◌, length}
+use Rattle.std.proofs.Common.{slice_index, ap, refl, sym, ◌∙◌, subst, ⊎_elim, arith}
 use Rattle.std.proofs.lemmas.Bool.{cases_Bool, cases_lt}
 use Rattle.rx_spec.specs.Bytes.{AreBytes, eoi}
-use Rattle.rx_spec.specs.HalfSearches.{HalfAnswer, at_label, last_match, next_offset, walk}
+use Rattle.rx_spec.specs.HalfSearches.{HalfAnswer, next_offset, walk}
 use Rattle.rx_spec.specs.Machines.{IsWord, Label}
 use Rattle.rx_spec.specs.Queries.{Query}
 use Rattle.rx_spec.specs.Tables.{IsSound, Table}
@@ -30,27 +31,13 @@ pub walk_on : {t : Table} {direction : Direction} {q : Query} {row offset next :
     ≡ walk t.machine direction q.earliest next (next_offset direction offset) None
     (units_left direction q (next_offset direction offset))
 walk_on {t} {direction} {q} {row} {offset} {next} step quiet =
-    let to = next_offset direction offset in
-    walk_stops t.machine direction q.earliest None row offset (units_left direction q offset)
-    ∙ ap (by_stop t.machine direction q.earliest None) (step_quiet step quiet)
-    ∙ sym (walk_stops t.machine direction q.earliest None next to (units_left direction q to))
+    grind (arith, common_steps, walk_stops, by_stop, step_quiet)
 
 -- the last unit, if it leads to a row that tells nothing
 pub walk_ends : (t : Table) (row unit offset : ℕ) (earliest : Bool)
     → t.machine.label (t.machine.next row unit) ≡ Label.Plain
     → walk t.machine Direction.Forward earliest row offset None (unit ∷ []) ≡ Ok None
-walk_ends t row unit offset earliest plain =
-    let next = t.machine.next row unit in
-    let on = λ (label : Label) (dead : Bool).
-    let met = last_match label offset None in
-    at_label label Direction.Forward earliest unit offset (Ok met)
-    (if dead then Ok met else walk t.machine Direction.Forward earliest next (offset + 1) met []) in
-    walk-cons t.machine Direction.Forward earliest row unit offset None []
-    ∙ ap (λ (l : Label). on l (t.machine.is_dead next)) plain
-    ∙ ⊎_elim (λ (dead : t.machine.is_dead next ≡ true). ap (on Label.Plain) dead)
-    (λ (alive : t.machine.is_dead next ≡ false).
-    ap (on Label.Plain) alive ∙ walk-nil t.machine Direction.Forward earliest next (offset + 1) None)
-    (cases_Bool (t.machine.is_dead next))
+walk_ends t row unit offset earliest plain = grind (arith, common_steps, walk-cons, walk-nil, cases_Bool)
 
 -- where a walk stands that hasn't read the literal yet
 pub record IsBefore (t : Table) (literal : List ℕ) (at : ℕ → ℕ) (q : Query) (from to : ℕ) : Type 0 where

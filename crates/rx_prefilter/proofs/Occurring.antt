@@ -1,7 +1,7 @@
 -- Where a literal occurs in a piece of a haystack, and where it was read in the haystack.
+use Rattle.std.proofs.lemmas.Grind.{common_steps}
 use Rattle.std.proofs.Common.{◌≡◌, ℕ, ◌+◌, ◌-◌, ◌<◌, ◌≤◌, List, None, Some, length, take, drop, slice_index, ap, sym}
-use Rattle.std.proofs.Common.{◌∙◌}
-use Rattle.std.proofs.Common.{length-drop, length-take-le, arith}
+use Rattle.std.proofs.Common.{◌∙◌, length-drop, length-take-le, arith}
 use Rattle.std.proofs.lemmas.List.{get_or-drop, get_or-take}
 use Rattle.memchr.specs.Find.{FindsNeedle, OccursAt}
 use Rattle.rx_prefilter.proofs.Begun.{Begun}
@@ -19,16 +19,7 @@ module _ (hay literal : List ℕ) {from end : ℕ} (order : from ≤ end) (fits 
   -- where all of it was read last, it occurs
   occurs : (to : ℕ) → to ≤ end → Begun hay literal from to (length literal)
       → OccursAt piece literal (to - length literal - from)
-  occurs to high b =
-      let few = b.few in
-      let n = piece_len in
-      record {
-        fits = omega (arith, few, n, high, order);
-        reads = λ i h.
-            let place : from + (to - length literal - from + i) ≡ to - length literal + i = omega (arith, few) in
-            piece_at (to - length literal - from + i) (omega (arith, h, few, high, order))
-            ∙ ap (slice_index hay) place ∙ b.reads i h;
-      }
+  occurs to high b = grind (arith, common_steps, piece_len, piece_at)
 
   -- it ends nowhere where it doesn't occur
   pub ends_nowhere : FindsNeedle piece literal 0 None → (to : ℕ) → to ≤ end

@@ -1,4 +1,5 @@
 -- Two pieces of a literal that are compared: its first bytes, and as many that end at a place.
+use Rattle.std.proofs.lemmas.Grind.{common_steps}
 use Rattle.std.proofs.Common.{◌≡◌, ℕ, ◌+◌, ◌-◌, ◌<◌, ◌≤◌, List, length, take, drop, slice_index, ap, sym, ◌∙◌, arith}
 use Rattle.std.proofs.Common.{length-drop, length-take-le}
 use Rattle.std.proofs.lemmas.List.{ext_get_or, get_or-drop, get_or-take}
@@ -9,9 +10,7 @@ module _ (literal : List ℕ) {k len : ℕ} (some : 0 < len) (few : len ≤ k + 
   ending = take (k - (k + 1 - len)) (drop (k + 1 - len) literal)
 
   ending_at : (i : ℕ) → i + 1 < len → slice_index ending i ≡ slice_index literal (k + 1 - len + i)
-  ending_at i h =
-      get_or-take (k - (k + 1 - len)) (drop (k + 1 - len) literal) i 0 (omega (arith, h, some, few))
-      ∙ get_or-drop (k + 1 - len) literal i 0
+  ending_at i h = grind (arith, common_steps, get_or-take, get_or-drop)
 
   first_at : (i : ℕ) → i + 1 < len → slice_index (take (len - 1) literal) i ≡ slice_index literal i
   first_at i h = get_or-take (len - 1) literal i 0 (omega (arith, h))
@@ -21,10 +20,7 @@ module _ (literal : List ℕ) {k len : ℕ} (some : 0 < len) (few : len ≤ k + 
   by_bytes same i h = sym (ending_at i h) ∙ ap (λ (l : List ℕ). slice_index l i) same ∙ first_at i h
 
   ending_len : length ending ≡ len - 1
-  ending_len =
-      length-take-le (k - (k + 1 - len)) (drop (k + 1 - len) literal)
-      (rw (length-drop (k + 1 - len) literal) (omega (arith, within, some, few)))
-      ∙ omega (arith, some, few)
+  ending_len = grind (arith, common_steps, length-take-le, length-drop)
 
   first_len : length (take (len - 1) literal) ≡ len - 1
   first_len = length-take-le (len - 1) literal (omega (arith, within, few))

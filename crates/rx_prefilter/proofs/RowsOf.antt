@@ -1,7 +1,6 @@
 -- The rows that stand for a literal's first bytes.
 use Rattle.std.proofs.Common.{◌≡◌, ℕ, ◌<◌, Bool, true, false, List, length, not, slice_index, slice_index_or, refl, sym}
-use Rattle.std.proofs.Common.{◌∙◌}
-use Rattle.std.proofs.Common.{All, [], ◌∷◌, arith}
+use Rattle.std.proofs.Common.{◌∙◌, All, [], ◌∷◌, arith}
 use Rattle.std.proofs.lemmas.Grind.{get_or_default_zero}
 use Rattle.std.proofs.lemmas.List.Elements.{All-push}
 use Rattle.rx_spec.specs.Bytes.{eoi}

@@ -1,10 +1,11 @@
 -- Walks that tell one match at a row.
-use Rattle.std.proofs.Common.{◌≡◌, ℕ, ◌<◌, Bool, true, false, Ok, None, Some, List, [], ◌∷◌, length, if◌then◌else◌}
-use Rattle.std.proofs.Common.{ap, ap₂, refl, sym, ◌∙◌, ◌==◌, arith, length-append, reverse, slice_index}
+use Rattle.std.proofs.lemmas.Grind.{common_steps}
+use Rattle.std.proofs.Common.{◌≡◌, ℕ, ◌<◌, Bool, true, false, Ok, None, Some, List, [], ◌∷◌, length, if◌then◌else◌, ap}
+use Rattle.std.proofs.Common.{ap₂, refl, sym, ◌∙◌, ◌==◌, arith, length-append, slice_index}
 use Rattle.std.proofs.lemmas.Bool.{false_from_ne_true, eqb-true}
 use Rattle.rx_spec.specs.Bytes.{AreBytes, unit_of}
 use Rattle.rx_spec.specs.HalfSearches.{HalfAnswer, at_label, last_match, next_offset, span_bytes, units_of, walk}
-use Rattle.rx_spec.specs.Looks.{after, before}
+use Rattle.rx_spec.specs.Looks.{after}
 use Rattle.rx_spec.specs.Machines.{IsWord, Label}
 use Rattle.rx_spec.specs.Queries.{HalfMatch, Query}
 use Rattle.rx_spec.specs.Tables.{Table, is_match}
@@ -104,8 +105,7 @@ tells_alive {t} {row} {pattern} s tells =
 -- a unit is always left to be read
 some_left : (direction : Direction) (q : Query) → 0 < length (units_of direction q)
 some_left Direction.Forward q = omega (arith, length-append (span_bytes q) (unit_of (after q.haystack q.end) ∷ []))
-some_left Direction.Reverse q =
-    omega (arith, length-append (reverse (span_bytes q)) (unit_of (before q.haystack q.start) ∷ []))
+some_left Direction.Reverse q = grind (arith, common_steps, length-append)
 
 bytes_left : (direction : Direction) (q : Query) (offset : ℕ) → AreBytes q.haystack
     → AreBytes (rest direction q offset).haystack

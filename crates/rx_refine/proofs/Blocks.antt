@@ -1,7 +1,8 @@
 -- The blocks of a partition: where they begin, which rows they have, and that they are at most as many as the rows.
-use Rattle.std.proofs.Common.{◌≡◌, ℕ, zero, suc, ◌+◌, ◌-◌, ◌<◌, ◌≤◌, true, false, List, ◌∷◌, length, get_or, drop, eqb}
-use Rattle.std.proofs.Common.{sym, subst, ap, ◌∙◌, arith, eqb-true, eq-eqb, ne_eqb, length-take, length-drop}
-use Rattle.std.proofs.Common.{get_or-take, get_or-drop, inl, inr}
+use Rattle.std.proofs.lemmas.Grind.{common_steps}
+use Rattle.std.proofs.Common.{◌≡◌, ℕ, zero, suc, ◌+◌, ◌-◌, ◌<◌, ◌≤◌, true, false, List, ◌∷◌, length, get_or, eqb, sym}
+use Rattle.std.proofs.Common.{ap, ◌∙◌, arith, eqb-true, eq-eqb, ne_eqb, length-take, length-drop, get_or-take}
+use Rattle.std.proofs.Common.{get_or-drop, inl, inr}
 use Rattle.std.specs.List.{list_any, Contains, All, slice_range}
 use Rattle.std.proofs.lemmas.Bool.{cases_Bool, cases_lt, cases_eq}
 use Rattle.std.proofs.lemmas.List.{get_or_default}
@@ -83,11 +84,7 @@ module _ {p : Parts} (w : IsPartition p) where
 
   with_small : (place : ℕ) → place < length p.rows → (q : ℕ) → list_any (eqb q) (place ∷ p.starts) ≡ true
       → q < length p.rows
-  with_small place l q t =
-      elim (cases_Bool (eqb q place)) [
-        | inl e ↦ let f = eqb-true q place e in omega arith
-        | inr n ↦ starts_small q (rw n at t)
-      ]
+  with_small place l q t = grind (arith, common_steps, eqb-true, starts_small)
 
   -- where a block has a place past its start, there are fewer blocks than rows
   pub blocks_fewer : (place : ℕ) {b : ℕ} → b < length p.sizes → start_of p b < place
@@ -114,9 +111,7 @@ module _ {p : Parts} (w : IsPartition p) where
   -- and is alone in it
   pub alone : length p.sizes ≡ length p.rows → (x y : ℕ) → x < length p.rows → y < length p.rows
       → block_of p x ≡ block_of p y → x ≡ y
-  alone d x y lx ly e =
-      let places : place_of p x ≡ place_of p y = at_start d x lx ∙ ap (λ b. start_of p b) e ∙ sym (at_start d y ly) in
-      sym (w.permuted.row_of_place x lx) ∙ ap (λ n. row_at p n) places ∙ w.permuted.row_of_place y ly
+  alone d x y lx ly e = grind (arith, common_steps, at_start)
 
 -- ---- the rows of a block
 abbrev pub members : Parts → ℕ → List ℕ
@@ -127,23 +122,10 @@ module _ {p : Parts} (w : IsPartition p) {b : ℕ} (hb : b < length p.sizes) whe
   members_len = simp (length-take, length-drop) (omega (arith, w.within b hb))
 
   members_at : (i d : ℕ) → i < size_of p b → get_or (members p b) i d ≡ row_at p (start_of p b + i)
-  members_at i d h =
-      let l : i < start_of p b + size_of p b - start_of p b = omega arith in
-      let r : start_of p b + i < length p.rows = omega (arith, w.within b hb) in
-      get_or-take (start_of p b + size_of p b - start_of p b) (drop (start_of p b) p.rows) i
-      d l
-      ∙ get_or-drop (start_of p b) p.rows i d
-      ∙ get_or_default p.rows (start_of p b + i) d 0 r
+  members_at i d h = grind (arith, common_steps, get_or-take, get_or-drop, get_or_default)
 
   member_block : (row : ℕ) → Contains (members p b) row → (row < length p.rows) × (block_of p row ≡ b)
-  member_block row (i, l, e) =
-      let len = members_len in
-      let h : i < size_of p b = omega arith in
-      let pl : start_of p b + i < length p.rows = omega (arith, w.within b hb) in
-      let at : row_at p (start_of p b + i) ≡ row = sym (members_at i row h) ∙ e in (
-        subst (λ n. n < length p.rows) at (w.permuted.row_at (start_of p b + i) pl),
-        subst (λ n. block_of p n ≡ b) at (w.in_block b (start_of p b + i) hb (omega arith) (omega arith)),
-      )
+  member_block row (i, l, e) = grind (arith, common_steps, members_len, members_at)
 
   member_at : (row : ℕ) → row < length p.rows → block_of p row ≡ b → is_in (members p b) row ≡ true
   member_at row l e =
@@ -168,22 +150,8 @@ module _ {p : Parts} (w : IsPartition p) {b : ℕ} (hb : b < length p.sizes) whe
       ]
 
   pub members_small : All (λ row. row < length p.rows) (members p b)
-  members_small k d l =
-      let len = members_len in
-      let h : k < size_of p b = omega arith in
-      rw (members_at k d h) (w.permuted.row_at (start_of p b + k) (omega (arith, w.within b hb)))
+  members_small k d l = grind (arith, common_steps, members_len, members_at)
 
   pub members_apart : (i j : ℕ) → i < j → j < length (members p b) → get_or (members p b) i 0 ≡ get_or (members p b) j 0
       → ⊥
-  members_apart i j l h e =
-      let len = members_len in
-      let hi : i < size_of p b = omega arith in
-      let hj : j < size_of p b = omega arith in
-      let same : row_at p (start_of p b + i) ≡ row_at p (start_of p b + j) =
-      sym (members_at i 0 hi) ∙ e ∙ members_at j 0 hj in
-      let pi : place_of p (row_at p (start_of p b + i)) ≡ start_of p b + i =
-      w.permuted.place_of_row (start_of p b + i) (omega (arith, w.within b hb)) in
-      let pj : place_of p (row_at p (start_of p b + j)) ≡ start_of p b + j =
-      w.permuted.place_of_row (start_of p b + j) (omega (arith, w.within b hb)) in
-      let s : start_of p b + i ≡ start_of p b + j = sym pi ∙ ap (λ n. place_of p n) same ∙ pj in
-      omega arith
+  members_apart i j l h e = grind (arith, common_steps, members_len, members_at)

@@ -1,7 +1,8 @@
 -- Rows vote for their keys: of two rows with different keys neither is counted, so a key that more than
 -- half of the rows have is left over.
-use Rattle.std.proofs.Common.{◌≡◌, ℕ, ◌+◌, ◌-◌, ◌*◌, ◌<◌, ◌≤◌, true, cond, ◌||◌, List, length, get_or, take, take_all}
-use Rattle.std.proofs.Common.{eqb, refl, sym, ap, ◌∙◌, arith, eq-eqb, ne_eqb, inl, inr}
+use Rattle.std.proofs.Common.{rules, ◌≡◌, ℕ, ◌+◌, ◌-◌, ◌*◌, ◌<◌, ◌≤◌, true, cond, List, length, get_or, take, take_all}
+use Rattle.std.proofs.Common.{eqb, refl, sym, arith, eq-eqb, ne_eqb, inl, inr}
+use Rattle.std.proofs.lemmas.Grind.{common_steps}
 use Rattle.std.proofs.Math.Bool.{or-true}
 use Rattle.std.proofs.lemmas.Bool.{cases_eq}
 use Rattle.std.proofs.lemmas.List.Sums.{sum_by_more}
@@ -16,21 +17,16 @@ how_many_have_more members keys key i l = sum_by_more (λ row. cond (eqb (get_or
 
 have_same : (members keys : List ℕ) (key i : ℕ) → i < length members → get_or keys (get_or members i 0) 0 ≡ key
     → how_many_have keys key (take (i + 1) members) ≡ how_many_have keys key (take i members) + 1
-have_same members keys key i l e =
-    how_many_have_more members keys key i l ∙ rw (eq-eqb (get_or keys (get_or members i 0) 0) key e) refl
+have_same members keys key i l e = grind (arith, common_steps, how_many_have_more, eq-eqb)
 
 have_other : (members keys : List ℕ) (key i : ℕ) → i < length members → (get_or keys (get_or members i 0) 0 ≡ key → ⊥)
     → how_many_have keys key (take (i + 1) members) ≡ how_many_have keys key (take i members)
-have_other members keys key i l ne =
-    how_many_have_more members keys key i l ∙ rw (ne_eqb (get_or keys (get_or members i 0) 0) key ne) (omega arith)
+have_other members keys key i l ne = grind (arith, common_steps, how_many_have_more, ne_eqb)
 
 -- the next row is among the rows that were taken
 pub is_in_next : (members : List ℕ) (i : ℕ) → i < length members
     → is_in (take (i + 1) members) (get_or members i 0) ≡ true
-is_in_next members i l =
-    list_any_more (eqb (get_or members i 0)) members i 0 l
-    ∙ ap (λ b. is_in (take i members) (get_or members i 0) || b) (eq-eqb (get_or members i 0) (get_or members i 0) refl)
-    ∙ or-true (is_in (take i members) (get_or members i 0))
+is_in_next members i l = grind (arith, common_steps, list_any_more, eq-eqb, or-true)
 
 pub is_in_kept : (members : List ℕ) (i row : ℕ) → is_in (take i members) row ≡ true
     → is_in (take (i + 1) members) row ≡ true
@@ -46,12 +42,7 @@ pub record IsVoting (members keys : List ℕ) (i leading votes : ℕ) : Type 0 w
 module _ {members keys : List ℕ} {i leading votes : ℕ} (l : i < length members)
     (v : IsVoting members keys i leading votes) where
   pub own_vote : get_or keys (get_or members i 0) 0 ≡ leading → IsVoting members keys (i + 1) leading (votes + 1)
-  own_vote e = record {
-    few = let f = v.few in omega arith;
-    own = let f = v.own in omega (arith, have_same members keys leading i l e);
-    others = λ key ne. omega (arith, v.others key ne, have_other members keys key i l (λ g. ne (sym g ∙ e)));
-    some = λ _. (get_or members i 0, is_in_next members i l, e);
-  }
+  own_vote e = search (rules, have_same, have_other, is_in_next)
 
   -- nothing is left over, so any key has at most half of the rows
   pub first_vote : votes ≡ 0 → IsVoting members keys (i + 1) (get_or keys (get_or members i 0) 0) (votes + 1)

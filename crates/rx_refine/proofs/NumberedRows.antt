@@ -1,9 +1,10 @@
 -- The rows of a block get numbers by their keys.
-use Rattle.std.proofs.Common.{◌≡◌, ℕ, ◌+◌, ◌*◌, ◌<◌, ◌≤◌, true, false, ◌||◌, List, length, get_or, set, take, take_all}
-use Rattle.std.proofs.Common.{eqb, refl, sym, subst, ap, ◌∙◌, arith, eqb-true, true≢false, length-set, get_or-set_same}
+use Rattle.std.proofs.lemmas.Grind.{common_steps}
+use Rattle.std.proofs.Common.{◌≡◌, ℕ, ◌+◌, ◌*◌, ◌<◌, ◌≤◌, true, false, List, length, get_or, set, take, take_all, refl}
+use Rattle.std.proofs.Common.{sym, subst, ap, ◌∙◌, arith, eqb-true, true≢false, length-set, get_or-set_same}
 use Rattle.std.proofs.Common.{get_or-set_other, inl, inr}
 use Rattle.std.specs.List.{All}
-use Rattle.std.proofs.lemmas.Bool.{cases_Bool, cases_eq}
+use Rattle.std.proofs.lemmas.Bool.{cases_eq}
 use Rattle.std.proofs.lemmas.List.{get_or_default}
 use Rattle.std.proofs.lemmas.List.Folds.{list_any_more}
 use Rattle.std.proofs.lemmas.List.Elements.{All-contains}
@@ -15,26 +16,14 @@ use Rattle.rx_refine.proofs.LeadingKey.{is_in_next, is_in_kept}
 -- a row is taken in this turn or was taken before
 taken_before : (members : List ℕ) (i x : ℕ) → i < length members → is_in (take (i + 1) members) x ≡ true
     → (x ≡ get_or members i 0 → ⊥) → is_in (take i members) x ≡ true
-taken_before members i x l t ne =
-    elim (cases_Bool (is_in (take i members) x)) [
-      | inl y ↦ y
-      | inr f ↦
-          let e : (is_in (take i members) x || eqb x (get_or members i 0)) ≡ true =
-          sym (list_any_more (eqb x) members i 0 l) ∙ t in
-          absurd (ne (eqb-true x (get_or members i 0) (rw f at e)))
-    ]
+taken_before members i x l t ne = grind (arith, common_steps, list_any_more, eqb-true)
 
 not_before : (members : List ℕ) (i x : ℕ) → is_in (take (i + 1) members) x ≡ false → is_in (take i members) x ≡ false
-not_before members i x f =
-    elim (cases_Bool (is_in (take i members) x)) [
-      | inl y ↦ absurd (true≢false (sym (is_in_kept members i x y) ∙ f))
-      | inr n ↦ n
-    ]
+not_before members i x f = grind (arith, common_steps, true≢false, is_in_kept)
 
 not_next : (members : List ℕ) (i x : ℕ) → i < length members → is_in (take (i + 1) members) x ≡ false
     → x ≡ get_or members i 0 → ⊥
-not_next members i x l f e =
-    true≢false (sym (is_in_next members i l) ∙ ap (λ n. is_in (take (i + 1) members) n) (sym e) ∙ f)
+not_next members i x l f e = grind (arith, common_steps, true≢false, is_in_next)
 
 -- what is to be numbered: rows, a key for each row, the key whose rows keep their numbers, the first new number,
 -- and the numbers that there were
@@ -263,14 +252,8 @@ module _ {job : Job} {i : ℕ} {names blocks : List ℕ} {count : ℕ} (end : i 
     same = a.same;
     from_first = λ x t ne. rw (a.numbered x (taken x t) ne) (a.has_name x (taken x t) ne);
     below = λ x t ne. rw (a.numbered x (taken x t) ne) (a.names_below (get_or job.keys x 0) 0 (key_small x t));
-    joined = λ x y tx ty ne e.
-        a.numbered x (taken x tx) ne
-        ∙ ap (λ k. get_or names k 0) e
-        ∙ sym (a.numbered y (taken y ty) (λ s. ne (e ∙ s)));
-    apart = λ x y tx ty nx ny e.
-        a.apart (get_or job.keys x 0) (get_or job.keys y 0) (key_small x tx) (key_small y ty)
-        (a.has_name x (taken x tx) nx)
-        (sym (a.numbered x (taken x tx) nx) ∙ e ∙ a.numbered y (taken y ty) ny);
+    joined = grind (arith, common_steps, taken);
+    apart = grind (arith, common_steps, key_small, taken);
     used = λ number f h. (
         let u = a.used number f h in
         let r : u.0 < length blocks = let s = row_small u.0 (rw all at u.1) in omega arith in

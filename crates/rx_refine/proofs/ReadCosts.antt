@@ -1,9 +1,10 @@
 -- How many reads there are. For a unit the allowance of a row is the size of its block where that waits
 -- for the unit, and half of it where it doesn't. Where the unit takes a block, the allowance of each of
 -- its rows has one binary digit less; a split raises none.
-use Rattle.std.proofs.Common.{◌≡◌, ℕ, zero, suc, ◌+◌, ◌*◌, ◌/◌, ◌^◌, ◌<◌, ◌≤◌, cond, List, length, get_or}
-use Rattle.std.proofs.Common.{set, eqb, leb, refl, sym, ap, ◌∙◌, arith, eq-eqb, ne_eqb, le-leb, leb-false, leb-true}
+use Rattle.std.proofs.Common.{rules, ◌≡◌, ℕ, zero, suc, ◌+◌, ◌*◌, ◌/◌, ◌^◌, ◌<◌, ◌≤◌, cond, List, length, get_or, set}
+use Rattle.std.proofs.Common.{eqb, leb, refl, sym, ap, ◌∙◌, arith, eq-eqb, ne_eqb, le-leb, leb-false, leb-true}
 use Rattle.std.proofs.Common.{mul-le-mul_right, pow_pos, pow-suc, get_or-set_same, get_or-set_other, inl, inr}
+use Rattle.std.proofs.lemmas.Grind.{common_steps}
 use Rattle.std.specs.List.{sum_by}
 use Rattle.std.proofs.lemmas.Bool.{cases_Bool, cases_eq, cases_lt, lt-leb}
 use Rattle.std.proofs.lemmas.Int.Digits.{length-digits_of_step, length-digits_of-le}
@@ -17,8 +18,6 @@ use Rattle.rx_refine.proofs.Places.{length-places_from}
 use Rattle.rx_refine.proofs.RefinedBlocks.{IsRefined, IsSettling}
 use Rattle.rx_refine.proofs.Totals.{total-add, total-le, total-spent, total-same, total-const, total-mul}
 use Rattle.rx_refine.proofs.Totals.{total-how_many-all, total_single, total_term, sum_by-total}
-use Rattle.rx_refine.proofs.Totals.{total-add, total-le, total-spent, total-same, total-const, total-mul}
-use Rattle.rx_refine.proofs.Totals.{total-how_many-all, total_single, total_term, sum_by-total}
 
 -- ---- binary digits
 digits_half : (n : ℕ) → 0 < n → binary_digits n ≡ binary_digits (n / 2) + 1
@@ -30,15 +29,16 @@ pow_next k = pow-suc 2 k
 below_power : (f n : ℕ) → n ≤ f → n < 2 ^ binary_digits n
 below_power zero n h = let e : n ≡ 0 = omega arith in rw e (pow_pos (binary_digits 0))
 below_power (suc f) n h =
-    elim (cases_lt 0 n) [
-      | inl some ↦
-          let e : binary_digits n ≡ suc (binary_digits (n / 2)) =
-          digits_half n some ∙ sym (suc-eq-add-one (binary_digits (n / 2))) in
-          let l : n / 2 < 2 ^ binary_digits (n / 2) = below_power f (n / 2) (omega arith) in
-          let p : 2 ^ suc (binary_digits (n / 2)) ≡ 2 ^ binary_digits (n / 2) * 2 = pow_next (binary_digits (n / 2)) in
-          rw (e, p) (omega arith)
-      | inr none ↦ let e : n ≡ 0 = omega arith in rw e (pow_pos (binary_digits 0))
-    ]
+    grind (
+      arith,
+      common_steps,
+      cases_lt,
+      digits_half,
+      suc-eq-add-one,
+      pow_next,
+      pow_pos,
+      below_power f (n / 2) (omega arith),
+    )
 
 digits-le : (a b : ℕ) → a ≤ b → binary_digits a ≤ binary_digits b
 digits-le a b h = length-digits_of-le 2 (binary_digits b) a (omega arith) (omega (arith, below_power b b (omega arith)))
@@ -52,8 +52,7 @@ total_cost {m} {unit} a h some =
     let len = a.lengths unit some h in
     let read : ℕ → ℕ = λ row. length (sources m row unit) in
     let stands : ℕ → ℕ = how_many (column m unit) in
-    let each : total read m.rows ≡ total stands m.rows =
-    total-same read stands m.rows (λ row l. length-places_from 0 (column m unit) row) in
+    let each : total read m.rows ≡ total stands m.rows = grind (arith, common_steps, total-same, length-places_from) in
     let all : total stands m.rows ≡ length (column m unit) =
     total-how_many-all (column m unit) m.rows (λ k l. a.nexts k unit (omega arith) h) in
     total-add (λ _. 1) read m.rows ∙ omega (arith, total-const 1 m.rows)
@@ -76,19 +75,14 @@ potential m p taken = total (λ unit. unit_potential m p (get_or taken unit 0) u
 module _ {m : Moves} {labels : List ℕ} {p : Parts} (r : IsRefined m labels p) where
   first_digits : (unit taken row : ℕ) → taken ≡ 0 → row < m.rows
       → row_potential m p taken unit row ≤ binary_digits m.rows * cost m unit row
-  first_digits unit taken row z l =
-      let len = r.rows_len in
-      let b = r.partition.within (block_of p row) (r.partition.block_at row (omega arith)) in
-      let small : allowance p taken row ≤ m.rows = rw (le-leb taken (block_of p row) (omega arith)) (omega arith) in
-      mul-le-mul_right (cost m unit row) (digits-le (allowance p taken row) m.rows small)
+  first_digits unit taken row z l = search (rules, le-leb, mul-le-mul_right, digits-le)
 
   unit_first : (unit taken : ℕ) → AreMoves m → taken ≡ 0 → unit < m.units → 0 < m.rows
       → unit_potential m p taken unit ≤ binary_digits m.rows * (2 * m.rows)
   unit_first unit taken a z h some =
       let digits = binary_digits m.rows in
       let le : unit_potential m p taken unit ≤ total (λ row. digits * cost m unit row) m.rows =
-      total-le (row_potential m p taken unit) (λ row. digits * cost m unit row) m.rows
-      (λ row l. first_digits unit taken row z l) in
+      grind (arith, common_steps, total-le, first_digits) in
       let all : total (λ row. digits * cost m unit row) m.rows ≡ digits * total (cost m unit) m.rows =
       total-mul digits (cost m unit) m.rows in
       let each : digits * total (cost m unit) m.rows ≡ digits * (2 * m.rows) =
@@ -106,11 +100,7 @@ module _ {m : Moves} {labels : List ℕ} {p : Parts} (r : IsRefined m labels p) 
   potential_first taken a zeros =
       let each : ℕ = binary_digits m.rows * (2 * m.rows) in
       let le : potential m p taken ≤ total (λ _. each) m.units =
-      total-le (λ unit. unit_potential m p (get_or taken unit 0) unit) (λ _. each) m.units
-      (λ unit l. elim (cases_lt 0 m.rows) [
-        | inl some ↦ unit_first unit (get_or taken unit 0) a (zeros unit l) l some
-        | inr none ↦ let e = no_rows (get_or taken unit 0) unit (omega arith) in omega arith
-      ]) in
+      grind (arith, common_steps, total-le, cases_lt, unit_first, no_rows) in
       let all : total (λ _. each) m.units ≡ each * m.units = total-const each m.units in
       let limit : each * m.units ≡ read_limit m = limit_of m.units m.rows (binary_digits m.rows) in
       omega arith
@@ -120,26 +110,19 @@ module _ {m : Moves} {labels : List ℕ} {p : Parts} (r : IsRefined m labels p) 
       → row_potential m p (taken + 1) unit row + cond (is_in (members p taken) row) (cost m unit row) 0
       ≤ row_potential m p taken unit row
   take_row unit taken row h l =
-      let len = r.rows_len in
-      let lp : row < length p.rows = omega arith in
-      rw (is_in_members r.partition h row lp) (elim (cases_eq (block_of p row) taken) [
-        | inl e ↦
-            let size = size_of p taken in
-            let half : binary_digits size ≡ binary_digits (size / 2) + 1 =
-            digits_half size (r.partition.some taken h) in
-            let prod : binary_digits size * cost m unit row ≡ (binary_digits (size / 2) + 1) * cost m unit row =
-            ap (λ k. k * cost m unit row) half in
-            rw (e, eq-eqb taken taken refl, lt-leb (taken + 1) taken (omega arith), le-leb taken taken (omega arith))
-            (omega arith)
-        | inr ne ↦ rw (ne_eqb (block_of p row) taken ne) (elim (cases_Bool (leb taken (block_of p row))) [
-          | inl t ↦
-              let le = leb-true taken (block_of p row) t in
-              rw (t, le-leb (taken + 1) (block_of p row) (omega arith)) (omega arith)
-          | inr f ↦
-              let lt = leb-false taken (block_of p row) f in
-              rw (f, lt-leb (taken + 1) (block_of p row) (omega arith)) (omega arith)
-        ])
-      ])
+      search (
+        rules,
+        is_in_members,
+        cases_eq,
+        digits_half,
+        eq-eqb,
+        lt-leb,
+        le-leb,
+        ne_eqb,
+        cases_Bool,
+        leb-true,
+        leb-false,
+      )
 
   unit_take : (unit taken : ℕ) → taken < length p.sizes
       → unit_potential m p (taken + 1) unit + sum_by (cost m unit) (members p taken) ≤ unit_potential m p taken unit
@@ -150,60 +133,27 @@ module _ {m : Moves} {labels : List ℕ} {p : Parts} (r : IsRefined m labels p) 
       sum_by-total (cost m unit) m.rows (members p taken) (members_apart r.partition h)
       (λ k l. let s = members_small r.partition h k 0 l in omega arith) in
       let le : unit_potential m p (taken + 1) unit + total own m.rows ≤ unit_potential m p taken unit =
-      total-spent (row_potential m p (taken + 1) unit) own (row_potential m p taken unit) m.rows
-      (λ row l. take_row unit taken row h l) in
+      search (rules, total-spent, take_row) in
       omega arith
 
   -- ---- all blocks that wait are taken
   take_each : (unit taken row : ℕ) → row < m.rows
       → row_potential m p (length p.sizes) unit row + waiting_cost m unit p.blocks taken row
       ≤ row_potential m p taken unit row
-  take_each unit taken row l =
-      let len = r.rows_len in
-      let b : block_of p row < length p.sizes = r.partition.block_at row (omega arith) in
-      rw (lt-leb (length p.sizes) (block_of p row) b) (elim (cases_Bool (leb taken (block_of p row))) [
-        | inl t ↦
-            let size = size_of p (block_of p row) in
-            let half : binary_digits size ≡ binary_digits (size / 2) + 1 =
-            digits_half size (r.partition.some (block_of p row) b) in
-            let prod : binary_digits size * cost m unit row ≡ (binary_digits (size / 2) + 1) * cost m unit row =
-            ap (λ k. k * cost m unit row) half in
-            rw t (omega arith)
-        | inr f ↦ rw f (omega arith)
-      ])
+  take_each unit taken row l = search (rules, lt-leb, cases_Bool, digits_half)
 
   unit_take_all : (unit taken : ℕ)
       → unit_potential m p (length p.sizes) unit + waiting_reads m unit p.blocks taken ≤ unit_potential m p taken unit
-  unit_take_all unit taken =
-      total-spent (row_potential m p (length p.sizes) unit) (waiting_cost m unit p.blocks taken)
-      (row_potential m p taken unit) m.rows (λ row l. take_each unit taken row l)
+  unit_take_all unit taken = grind (arith, common_steps, total-spent, take_each)
 
   -- ---- blocks are split
   split_allowance : {q : Parts} → Refines p q → (taken row : ℕ) → taken ≤ length p.sizes → row < m.rows
       → allowance q taken row ≤ allowance p taken row
-  split_allowance {q} s taken row below l =
-      let len = r.rows_len in
-      elim (s.numbers row (omega arith)) [
-        | inl h ↦ rw h.0 (elim (cases_Bool (leb taken (block_of p row))) [
-          | inl t ↦ rw t h.1
-          | inr f ↦ rw f (let g = h.1 in omega arith)
-        ])
-        | inr h ↦
-            let g = h.0 in
-            let k = h.1 in
-            rw (le-leb taken (block_of q row) (omega arith)) (elim (cases_Bool (leb taken (block_of p row))) [
-              | inl t ↦ rw t (omega arith)
-              | inr f ↦ rw f (omega arith)
-            ])
-      ]
+  split_allowance {q} s taken row below l = search (rules, cases_Bool, le-leb)
 
   unit_split : {q : Parts} → Refines p q → (unit taken : ℕ) → taken ≤ length p.sizes
       → unit_potential m q taken unit ≤ unit_potential m p taken unit
-  unit_split {q} s unit taken below =
-      total-le (row_potential m q taken unit) (row_potential m p taken unit) m.rows
-      (λ row l.
-      mul-le-mul_right (cost m unit row)
-      (digits-le (allowance q taken row) (allowance p taken row) (split_allowance s taken row below l)))
+  unit_split {q} s unit taken below = search (rules, total-le, mul-le-mul_right, digits-le, split_allowance)
 
 -- ---- a unit takes blocks below a number `to`, its reads are paid for, and the blocks are split
 module _ {m : Moves} {labels : List ℕ} {p q : Parts} {taken : List ℕ} {unit : ℕ} (a : IsSettling m labels p taken)

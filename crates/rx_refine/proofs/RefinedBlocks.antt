@@ -1,12 +1,12 @@
 -- Why the blocks are right: while units take blocks, rows of different blocks are told apart by a word,
 -- and where a unit leads two rows of one block into different blocks, one of these is a block that the
 -- unit has still to take.
-use Rattle.std.proofs.Common.{◌≡◌, ℕ, suc, ◌+◌, ◌<◌, ◌≤◌, cond, List, [], ◌∷◌, length, get_or, set}
-use Rattle.std.proofs.Common.{eqb, leb, le-leb, refl, sym, subst, ap, ◌∙◌, arith, eqb-true, eq-eqb}
-use Rattle.std.proofs.Common.{length-set, get_or-set_same}
+use Rattle.std.proofs.Common.{rules, ◌≡◌, ℕ, suc, ◌+◌, ◌<◌, ◌≤◌, cond, List, [], ◌∷◌, length, get_or, set, eqb, leb}
+use Rattle.std.proofs.Common.{le-leb, refl, sym, subst, ap, ◌∙◌, arith, eqb-true, eq-eqb, length-set, get_or-set_same}
 use Rattle.std.proofs.Common.{get_or-set_other, inl, inr}
+use Rattle.std.proofs.lemmas.Grind.{common_steps}
 use Rattle.std.proofs.lemmas.Bool.{cases_eq, cases_lt, lt-leb}
-use Rattle.rx_refine.specs.Keys.{next_key, TakesAll}
+use Rattle.rx_refine.specs.Keys.{TakesAll}
 use Rattle.rx_refine.specs.Moves.{Moves, AreMoves, next_row, IsWord, label_after, BehaveAlike, AreToldApart}
 use Rattle.rx_refine.specs.Moves.{AreAlikeByNumber}
 use Rattle.rx_refine.specs.Parts.{Parts, IsPartition, Refines, SplitsBy, block_of, is_in}
@@ -68,12 +68,7 @@ pub record IsSettling (m : Moves) (labels : List ℕ) (p : Parts) (taken : List 
 -- at first each block waits
 pub IsSettling-first : {m : Moves} {labels : List ℕ} {p : Parts} (taken : List ℕ) → IsRefined m labels p
     → length taken ≡ m.units → ((u : ℕ) → u < m.units → get_or taken u 0 ≡ 0) → IsSettling m labels p taken
-IsSettling-first taken r len zeros = record {
-  refined = r;
-  taken_len = len;
-  below = λ u h. (let z = zeros u h in omega arith);
-  pending = λ x y u lx ly lu e. first (let z = zeros u lu in omega arith);
-}
+IsSettling-first taken r len zeros = grind (arith, common_steps)
 
 -- ---- the blocks are split
 module _ {m : Moves} {labels : List ℕ} {p q : Parts} (r : IsRefined m labels p) (s : Refines p q) where
@@ -82,20 +77,11 @@ module _ {m : Moves} {labels : List ℕ} {p q : Parts} (r : IsRefined m labels p
 
   -- a row's new number isn't less
   later : {k x : ℕ} → k ≤ length p.sizes → x < m.rows → k ≤ block_of p x → k ≤ block_of q x
-  later {x} b l le = elim (s.numbers x (row_in l)) [
-    | inl h ↦ (let e = h.0 in omega arith)
-    | inr h ↦ (let g = h.0 in omega arith)
-  ]
+  later {x} b l le = grind (arith, common_steps, row_in)
 
   -- rows of one block are in one block, or one of them is in a new one
   split_same : {k x y : ℕ} → k ≤ length p.sizes → x < m.rows → y < m.rows → block_of p x ≡ block_of p y → Leads q k x y
-  split_same {x} {y} b lx ly e = elim (s.numbers x (row_in lx)) [
-    | inl hx ↦ elim (s.numbers y (row_in ly)) [
-      | inl hy ↦ same (hx.0 ∙ e ∙ sym hy.0)
-      | inr hy ↦ second (let g = hy.0 in omega arith)
-    ]
-    | inr hx ↦ first (let g = hx.0 in omega arith)
-  ]
+  split_same {x} {y} b lx ly e = grind (arith, common_steps, row_in)
 
   split_leads : {k x y : ℕ} → k ≤ length p.sizes → x < m.rows → y < m.rows → Leads p k x y → Leads q k x y
   split_leads b lx ly (same e) = split_same b lx ly e
@@ -126,37 +112,17 @@ module _ {m : Moves} {labels : List ℕ} {p q : Parts} {taken : List ℕ} {unit 
       let old : Leads p (get_or taken u 0) (next_row m x u) (next_row m y u) =
       a.pending x y u lx ly lu (was_together x y lx ly e) in
       elim (cases_eq u unit) [
-        | inl f ↦
-            let l = a.taken_len in
-            rw (f, get_or-set_same taken unit to 0 (omega arith)) (t.leads x y lx ly e (rw f at old))
+        | inl f ↦ search (rules, get_or-set_same)
         | inr ne ↦
             rw (get_or-set_other taken unit u to 0 ne)
             (split_leads a.refined t.refines (a.below u lu) (moves.nexts x u lx lu) (moves.nexts y u ly lu) old)
       ]
 
   step_below : (u : ℕ) → u < m.units → get_or (set taken unit to) u 0 ≤ length q.sizes
-  step_below u lu =
-      let g = t.refines.more in
-      let few = t.few in
-      let l = a.taken_len in
-      elim (cases_eq u unit) [
-        | inl f ↦ rw (f, get_or-set_same taken unit to 0 (omega arith)) (omega arith)
-        | inr ne ↦ rw (get_or-set_other taken unit u to 0 ne) (let b = a.below u lu in omega arith)
-      ]
+  step_below u lu = grind (arith, common_steps, get_or-set_same, get_or-set_other)
 
   pub IsSettling-step : IsSettling m labels q (set taken unit to)
-  IsSettling-step = record {
-    refined = record {
-      partition = t.refines.partition;
-      rows_len = t.refines.rows_len ∙ a.refined.rows_len;
-      clear = t.refines.clear;
-      labelled = λ x y lx ly e. a.refined.labelled x y lx ly (was_together x y lx ly e);
-      told = t.told;
-    };
-    taken_len = length-set taken unit to ∙ a.taken_len;
-    below = step_below;
-    pending = step_pending;
-  }
+  IsSettling-step = search (rules, was_together, length-set, step_below, step_pending)
 
 -- ---- a unit takes a block: the blocks are split by the rows that it leads into that block
 module _ {m : Moves} {labels : List ℕ} {p q : Parts} {unit block : ℕ} {hits : List ℕ} (moves : AreMoves m)
@@ -176,11 +142,7 @@ module _ {m : Moves} {labels : List ℕ} {p q : Parts} {unit block : ℕ} {hits 
       (λ e. ne (hit x lx ∙ ap (λ n. eqb n block) e ∙ sym (hit y ly))))
 
   block_told : (x y : ℕ) → x < m.rows → y < m.rows → (block_of q x ≡ block_of q y → ⊥) → AreToldApart m labels x y
-  block_told x y lx ly ne =
-      elim (cases_eq (block_of p x) (block_of p y)) [
-        | inl e ↦ told_by_hit x y lx ly (λ i. ne (s.kept x y (in_p lx) (in_p ly) e i))
-        | inr n ↦ r.told x y lx ly n
-      ]
+  block_told x y lx ly ne = grind (arith, common_steps, told_by_hit, in_p)
 
   -- rows that stay together are both hit or both not
   both_hit : (x y : ℕ) → x < m.rows → y < m.rows → block_of q x ≡ block_of q y
@@ -189,8 +151,7 @@ module _ {m : Moves} {labels : List ℕ} {p q : Parts} {unit block : ℕ} {hits 
 
   next_same : (x y : ℕ) → x < m.rows → y < m.rows → block_of p (next_row m x unit) ≡ block_of p (next_row m y unit)
       → Leads q (block + 1) (next_row m x unit) (next_row m y unit)
-  next_same x y lx ly e =
-      split_same r s.refines (omega arith) (moves.nexts x unit lx hu) (moves.nexts y unit ly hu) e
+  next_same x y lx ly e = grind (arith, common_steps, split_same)
 
   block_first : (x y : ℕ) → x < m.rows → y < m.rows → block_of q x ≡ block_of q y
       → block ≤ block_of p (next_row m x unit) → Leads q (block + 1) (next_row m x unit) (next_row m y unit)
@@ -228,32 +189,16 @@ module _ {m : Moves} {labels : List ℕ} {p q : Parts} {unit from : ℕ} (moves 
       (λ e. ne (s.are x lx ∙ ap (λ b. cond (leb from b) b 0) e ∙ sym (s.are y ly))))
 
   all_told : (x y : ℕ) → x < m.rows → y < m.rows → (block_of q x ≡ block_of q y → ⊥) → AreToldApart m labels x y
-  all_told x y lx ly ne =
-      elim (cases_eq (block_of p x) (block_of p y)) [
-        | inl e ↦ told_by_key x y lx ly (λ i. ne (s.splits.kept x y (inside lx) (inside ly) e i))
-        | inr n ↦ r.told x y lx ly n
-      ]
+  all_told x y lx ly ne = search (rules, cases_eq, told_by_key, inside)
 
   -- rows that stay together are led into one block, where one of them is led into a block that waited
   one_next : (x y : ℕ) → x < m.rows → y < m.rows → block_of q x ≡ block_of q y
       → from ≤ block_of p (next_row m x unit) → block_of p (next_row m x unit) ≡ block_of p (next_row m y unit)
-  one_next x y lx ly e le =
-      let bx = block_of p (next_row m x unit) in
-      let by = block_of p (next_row m y unit) in
-      let keys : next_key m unit p.blocks from x ≡ next_key m unit p.blocks from y =
-      sym (s.are x lx) ∙ s.splits.agrees x y (inside lx) (inside ly) e ∙ s.are y ly in
-      let own : next_key m unit p.blocks from x ≡ bx = rw (le-leb from bx le) refl in
-      elim (cases_lt by from) [
-        | inl lt ↦
-            let none : next_key m unit p.blocks from y ≡ 0 = rw (lt-leb from by lt) refl in
-            absurd (let z : bx ≡ 0 = sym own ∙ keys ∙ none in omega arith)
-        | inr ge ↦ sym own ∙ keys ∙ rw (le-leb from by ge) refl
-      ]
+  one_next x y lx ly e le = search (rules, inside, le-leb, cases_lt, lt-leb)
 
   one_leads : (x y : ℕ) → x < m.rows → y < m.rows → block_of p (next_row m x unit) ≡ block_of p (next_row m y unit)
       → Leads q (length p.sizes) (next_row m x unit) (next_row m y unit)
-  one_leads x y lx ly e =
-      split_same r s.splits.refines (omega arith) (moves.nexts x unit lx hu) (moves.nexts y unit ly hu) e
+  one_leads x y lx ly e = grind (arith, common_steps, split_same)
 
   all_leads : (x y : ℕ) → x < m.rows → y < m.rows → block_of q x ≡ block_of q y
       → Leads p from (next_row m x unit) (next_row m y unit)
@@ -299,22 +244,13 @@ module _ {m : Moves} {labels : List ℕ} {p : Parts} {taken : List ℕ} (moves :
     (a : IsSettling m labels p taken) (h : (u : ℕ) → u < m.units → length p.sizes ≤ get_or taken u 0) where
   end_same : {x y k : ℕ} → length p.sizes ≤ k → x < m.rows → y < m.rows → Leads p k x y → block_of p x ≡ block_of p y
   end_same l lx ly (same e) = e
-  end_same {x} l lx ly (first e) =
-      absurd (let r = a.refined.rows_len in let b = a.refined.partition.block_at x (omega arith) in omega arith)
-  end_same {y} l lx ly (second e) =
-      absurd (let r = a.refined.rows_len in let b = a.refined.partition.block_at y (omega arith) in omega arith)
+  end_same {x} l lx ly (first e) = grind (arith, common_steps)
+  end_same {y} l lx ly (second e) = grind (arith, common_steps)
 
   pub steady_at_end : IsSteady m p
-  steady_at_end = record {
-    next_same = λ x y u lx ly lu e.
-        end_same (h u lu) (moves.nexts x u lx lu) (moves.nexts y u ly lu) (a.pending x y u lx ly lu e);
-  }
+  steady_at_end = search (rules, next_same, end_same)
 
 -- each row is alone in its block
 pub steady_where_discrete : {m : Moves} {labels : List ℕ} {p : Parts} → IsRefined m labels p
     → length p.sizes ≡ length p.rows → IsSteady m p
-steady_where_discrete {m} {p} r d = record {
-  next_same = λ x y u lx ly lu e.
-      (let l = r.rows_len in
-      ap (λ n. block_of p (next_row m n u)) (alone r.partition d x y (omega arith) (omega arith) e));
-}
+steady_where_discrete {m} {p} r d = grind (arith, common_steps, next_same, alone)

@@ -1,10 +1,11 @@
 -- The rows that a unit leads to one of several rows.
-use Rattle.std.proofs.Common.{◌≡◌, ℕ, ◌<◌, List, [], ◌∷◌, length, get_or, eqb, refl, sym, ap, ◌∙◌, arith}
-use Rattle.std.proofs.Common.{eqb-true, eq-eqb, ne_eqb, ◌||◌, inl, inr}
+use Rattle.std.proofs.lemmas.Grind.{common_steps}
+use Rattle.std.proofs.Common.{◌≡◌, ℕ, ◌<◌, List, [], ◌∷◌, length, get_or, eqb, refl, sym, ◌∙◌, arith, eqb-true, eq-eqb}
+use Rattle.std.proofs.Common.{ne_eqb, inl, inr}
 use Rattle.std.specs.List.{All, flat_map}
 use Rattle.std.proofs.lemmas.Bool.{cases_Bool, cases_eq}
 use Rattle.std.proofs.lemmas.List.Folds.{list_any-append}
-use Rattle.std.proofs.lemmas.List.Elements.{Contains-get_or, All-append, All-nil}
+use Rattle.std.proofs.lemmas.List.Elements.{Contains-get_or, All-nil}
 use Rattle.std.proofs.lemmas.Map.Views.{Contains-from_any}
 use Rattle.rx_refine.specs.Moves.{Moves, AreMoves, column, sources, next_row}
 use Rattle.rx_refine.specs.Places.{places_of}
@@ -34,19 +35,15 @@ pub is_in-flat_map : (m : Moves) (rows : List ℕ) (unit row : ℕ) → row < le
     → is_in (flat_map (λ r. sources m r unit) rows) row ≡ is_in rows (next_row m row unit)
 is_in-flat_map m [] unit row l = refl
 is_in-flat_map m (r ∷ rs) unit row l =
-    list_any-append (eqb row) (sources m r unit) (flat_map (λ r. sources m r unit) rs)
-    ∙ ap (λ s. s || is_in (flat_map (λ r. sources m r unit) rs) row) (is_in-places_of (column m unit) r row l)
-    ∙ ap (λ s. eqb (next_row m row unit) r || s) (is_in-flat_map m rs unit row l)
+    grind (arith, common_steps, list_any-append, is_in-places_of, is_in-flat_map m rs unit row l)
 
 pub flat_map-small : {m : Moves} (rows : List ℕ) (unit : ℕ) → AreMoves m → unit < m.units → 0 < m.rows
     → All (λ row. row < m.rows) (flat_map (λ r. sources m r unit) rows)
 flat_map-small {m} [] unit a h some = All-nil (λ row. row < m.rows)
 flat_map-small {m} (r ∷ rs) unit a h some =
-    All-append (λ row. row < m.rows) (sources m r unit) (flat_map (λ r. sources m r unit) rs)
-    (places_of-small (column m unit) r m.rows (a.lengths unit some h)) (flat_map-small rs unit a h some)
+    grind (arith, common_steps, places_of-small, m.rows, a.lengths, flat_map-small rs unit a h some)
 
 -- a source is a row
 pub source_below : {m : Moves} {row unit : ℕ} (i : ℕ) {x : ℕ} → AreMoves m → row < m.rows → unit < m.units
     → i < length (sources m row unit) → x ≡ get_or (sources m row unit) i 0 → x < m.rows
-source_below {m} {row} {unit} i a r u l e =
-    rw e (places_of-small (column m unit) row m.rows (a.lengths unit (omega arith) u) i 0 l)
+source_below {m} {row} {unit} i a r u l e = grind (arith, common_steps, places_of-small)

@@ -1,8 +1,8 @@
 -- The loops of the refinement: what holds before each turn, in which a unit takes a block.
-use Rattle.std.proofs.Common.{◌≡◌, ℕ, ◌+◌, ◌-◌, ◌<◌, ◌≤◌, List, [], length, get_or, set, eqb, true, sym, subst, ◌∙◌}
-use Rattle.std.proofs.Common.{arith, eqb-true, get_or-set_same, get_or-set_other, inl, inr}
+use Rattle.std.proofs.Common.{rules, ◌≡◌, ℕ, ◌+◌, ◌-◌, ◌<◌, ◌≤◌, List, [], length, get_or, set, eqb, true, subst, ◌∙◌}
+use Rattle.std.proofs.Common.{arith, eqb-true, get_or-set_same, get_or-set_other}
+use Rattle.std.proofs.lemmas.Grind.{common_steps}
 use Rattle.std.specs.List.{sum_by, flat_map, All, Contains}
-use Rattle.std.proofs.lemmas.Bool.{cases_eq}
 use Rattle.std.proofs.lemmas.List.Elements.{Contains-get_or}
 use Rattle.std.proofs.lemmas.List.{get_or_default, get_or_read_under}
 use Rattle.rx_refine.specs.Keys.{waiting_reads, TakesAll}
@@ -12,10 +12,9 @@ use Rattle.rx_refine.specs.Parts.{Parts, SplitsBy, block_of}
 use Rattle.rx_refine.specs.Labelled.{IsByLabel}
 use Rattle.rx_refine.proofs.Blocks.{blocks_few, members, members_small, row_at, start_of}
 use Rattle.rx_refine.proofs.Sources.{is_in-flat_map, flat_map-small}
-use Rattle.rx_refine.proofs.RefinedBlocks.{IsRefined, IsSettling, Takes, IsSettling-first}
-use Rattle.rx_refine.proofs.RefinedBlocks.{IsSettling-step, Takes-block, Takes-all, steady_at_end}
-use Rattle.rx_refine.proofs.RefinedBlocks.{steady_where_discrete}
-use Rattle.rx_refine.proofs.RefinedBlocks.{alike_where_steady, label_after-nil}
+use Rattle.rx_refine.proofs.RefinedBlocks.{IsRefined, IsSettling, Takes, IsSettling-first, IsSettling-step, Takes-block}
+use Rattle.rx_refine.proofs.RefinedBlocks.{Takes-all, steady_at_end, steady_where_discrete, alike_where_steady}
+use Rattle.rx_refine.proofs.RefinedBlocks.{label_after-nil}
 use Rattle.rx_refine.proofs.ReadCosts.{cost, potential, potential_first, potential_turn, potential_all, turn_reads}
 use Rattle.rx_refine.proofs.ReadCosts.{all_reads}
 
@@ -36,25 +35,12 @@ pub record IsSweep (m : Moves) (labels : List ℕ) (start : ℕ) (p : Parts) (ta
 pub taken_read : {m : Moves} {labels : List ℕ} {start : ℕ} {p : Parts} {taken : List ℕ} {steps seen bound unit : ℕ}
     → IsSweep m labels start p taken steps seen bound → unit < m.units → (read : ℕ) → read ≡ get_or taken unit read
     → read ≡ get_or taken unit 0
-taken_read {m} {taken} {unit} t hu read is =
-    get_or_read_under taken unit m.units read 0 is hu (sym t.round.settling.taken_len)
+taken_read {m} {taken} {unit} t hu read is = grind (arith, common_steps, get_or_read_under)
 
 -- ---- the first blocks
 refined_first : {m : Moves} {labels : List ℕ} {p : Parts} → length labels ≡ m.rows → IsByLabel labels p
     → IsRefined m labels p
-refined_first {m} {labels} len b = record {
-  partition = b.partition;
-  rows_len = b.rows_len ∙ len;
-  clear = b.clear;
-  labelled = λ x y lx ly e. b.labelled x y (omega arith) (omega arith) e;
-  told = λ x y lx ly ne. record {
-    word = [];
-    is_word = λ u c. absurd (let l = c.1 in omega arith);
-    differ = λ e. ne (
-        b.together x y (omega arith) (omega arith) (sym (label_after-nil m labels x) ∙ e ∙ label_after-nil m labels y)
-        );
-  };
-}
+refined_first {m} {labels} len b = grind (arith, common_steps, label_after-nil)
 
 pub sweep_first : {m : Moves} {labels : List ℕ} {start : ℕ} {p : Parts} {taken : List ℕ} → AreMoves m
     → length labels ≡ m.rows → IsByLabel labels p → length taken ≡ m.units
@@ -75,14 +61,7 @@ sweep_first {m} {taken} a len b taken_len zeros =
 pub sweep_more : {m : Moves} {labels : List ℕ} {start : ℕ} {p : Parts} {taken : List ℕ} {steps seen unit : ℕ}
     → IsSweep m labels start p taken steps seen unit → length p.sizes ≤ get_or taken unit 0
     → IsSweep m labels start p taken steps seen (unit + 1)
-sweep_more {unit} t le = record {
-  round = t.round;
-  seen_all = λ u l. elim (cases_eq u unit) [
-    | inl e ↦ rw e (let f = t.seen_few in omega arith)
-    | inr ne ↦ t.seen_all u (omega arith)
-  ];
-  seen_few = t.seen_few;
-}
+sweep_more {unit} t le = grind (arith, common_steps)
 
 -- ---- a turn: a unit takes a block, whose rows are these
 pub record IsNext (p : Parts) (taken : List ℕ) (unit block : ℕ) (rows : List ℕ) : Type 0 where
@@ -94,19 +73,13 @@ module _ {m : Moves} {labels : List ℕ} {start : ℕ} {p : Parts} {taken : List
     {rows : List ℕ} (t : IsSweep m labels start p taken steps seen unit) (hu : unit < m.units)
     (n : IsNext p taken unit block rows) where
   below_rows : block < m.rows
-  below_rows =
-      let r = t.round.settling.refined in
-      let len = r.rows_len in
-      let h = n.waits in
-      omega (arith, blocks_few r.partition)
+  below_rows = grind (arith, common_steps, blocks_few)
 
   some_row : 0 < m.rows
   some_row = omega (arith, below_rows)
 
   pub taking_small : All (λ row. row < m.rows) rows
-  taking_small =
-      let r = t.round.settling.refined in
-      rw (n.are, sym r.rows_len) (members_small r.partition n.waits)
+  taking_small = grind (arith, common_steps, members_small)
 
   -- the reads are allowed, whatever comes of them
   pub turn_allowed : steps + sum_by (cost m unit) rows ≤ start + read_limit m
@@ -146,10 +119,7 @@ module _ {m : Moves} {labels : List ℕ} {start : ℕ} {p : Parts} {taken : List
 
   -- fewer blocks are left
   pub turn_falls : m.rows - get_or (set taken unit (block + 1)) unit 0 < m.rows - get_or taken unit 0
-  turn_falls =
-      let l = t.round.settling.taken_len in
-      let b = n.number in
-      rw (get_or-set_same taken unit (block + 1) 0 (omega arith)) (omega (arith, below_rows))
+  turn_falls = grind (arith, common_steps, get_or-set_same, below_rows)
 
 -- ---- a unit, which took the blocks below `from`, takes all others
 module _ {m : Moves} {labels : List ℕ} {start : ℕ} {p : Parts} {taken : List ℕ} {steps seen unit from : ℕ}
@@ -179,26 +149,12 @@ module _ {m : Moves} {labels : List ℕ} {start : ℕ} {p : Parts} {taken : List
   pub all_next : {q : Parts} {now : ℕ} → TakesAll m unit p from q → AreMoves m
       → now ≤ steps + waiting_reads m unit p.blocks from → steps ≤ now
       → IsSweep m labels start q (set taken unit (length p.sizes)) now seen (unit + 1)
-  all_next s a le ge =
-      let done = all_more s a le ge in
-      let l = t.round.settling.taken_len in
-      let own : get_or (set taken unit (length p.sizes)) unit 0 ≡ length p.sizes =
-      get_or-set_same taken unit (length p.sizes) 0 (omega arith) in
-      record {
-        round = done.round;
-        seen_all = λ u l. elim (cases_eq u unit) [
-          | inl e ↦ rw (e, own) t.seen_few
-          | inr ne ↦ done.seen_all u (omega arith)
-        ];
-        seen_few = done.seen_few;
-      }
+  all_next s a le ge = grind (arith, common_steps, all_more, get_or-set_same)
 
 -- blocks are at most as many as rows
 pub blocks_below : {m : Moves} {labels : List ℕ} {start : ℕ} {p : Parts} {taken : List ℕ} {steps : ℕ}
     → IsRound m labels start p taken steps → length p.sizes ≤ m.rows
-blocks_below r =
-    let e = r.settling.refined.rows_len in
-    omega (arith, blocks_few r.settling.refined.partition)
+blocks_below r = grind (arith, common_steps, blocks_few)
 
 -- ---- the result
 module _ {m : Moves} {labels : List ℕ} {p : Parts} (r : IsRefined m labels p) where
@@ -209,11 +165,7 @@ module _ {m : Moves} {labels : List ℕ} {p : Parts} (r : IsRefined m labels p) 
   result_len = r.partition.blocks_len ∙ r.rows_len
 
   pub result_numbers : All (λ block. block < m.rows) p.blocks
-  result_numbers k d l =
-      let len = result_len in
-      let e = r.rows_len in
-      let w = r.partition in
-      rw (get_or_default p.blocks k d 0 l) (omega (arith, w.block_at k (omega arith), blocks_few w))
+  result_numbers k d l = search (rules, result_len, get_or_default, blocks_few)
 
   pub result_no_gaps : AreWithoutGaps p.blocks
   result_no_gaps x number l lt =
@@ -223,8 +175,7 @@ module _ {m : Moves} {labels : List ℕ} {p : Parts} (r : IsRefined m labels p) 
       let s : start_of p number < length p.rows = omega (arith, w.within number hn, w.some number hn) in
       let row : ℕ = row_at p (start_of p number) in
       let row_l : row < length p.blocks = let at = w.permuted.row_at (start_of p number) s in omega arith in
-      let is : block_of p row ≡ number =
-      w.in_block number (start_of p number) hn (omega arith) (omega (arith, w.some number hn)) in
+      let is : block_of p row ≡ number = grind (arith, common_steps, start_of) in
       subst (λ n. Contains p.blocks n) is (Contains-get_or p.blocks row 0 row_l)
 
 -- no sweep is left
@@ -237,5 +188,4 @@ result_alike a t h =
 -- each row is alone in its block
 pub discrete_alike : {m : Moves} {labels : List ℕ} {p : Parts} → AreMoves m → IsRefined m labels p
     → eqb (length p.sizes) (length p.rows) ≡ true → AreAlikeByNumber m labels p.blocks
-discrete_alike {p} a r d =
-    alike_where_steady a r (steady_where_discrete r (eqb-true (length p.sizes) (length p.rows) d))
+discrete_alike {p} a r d = search (rules, alike_where_steady, steady_where_discrete, eqb-true)

@@ -1,12 +1,13 @@
 -- The columns of a table (columns.rt), to which its rows are added so many at a time, turned into columns (table.rt).
-use Rattle.std.proofs.Common.{◌≡◌, ℕ, ◌+◌, ◌-◌, ◌*◌, ◌<◌, ◌≤◌, List, [], ◌∷◌, ◌++◌, length, get_or, set, drop}
-use Rattle.std.proofs.Common.{inl, inr, refl, sym, ap, ◌∙◌, arith, le_trans, mul-le-mul_right, length-take, length-drop}
-use Rattle.std.proofs.Common.{get_or-take, get_or-drop, get_or-set_same, get_or-set_other}
+use Rattle.std.proofs.lemmas.Grind.{common_steps}
+use Rattle.std.proofs.Common.{◌≡◌, ℕ, ◌+◌, ◌-◌, ◌*◌, ◌<◌, ◌≤◌, List, [], ◌∷◌, ◌++◌, length, get_or, set, inl, inr, refl}
+use Rattle.std.proofs.Common.{sym, ap, ◌∙◌, arith, le_trans, mul-le-mul_right, length-take, length-drop, get_or-take}
+use Rattle.std.proofs.Common.{get_or-drop, get_or-set_same, get_or-set_other}
 use Rattle.std.specs.List.{All, slice_range}
 use Rattle.std.proofs.lemmas.Bool.{cases_eq, cases_lt}
 use Rattle.std.proofs.lemmas.Nat.{same_from_place, mul-add-lt}
-use Rattle.std.proofs.lemmas.List.{get_or_default, get_or_read, get_or_past, length-append}
-use Rattle.std.proofs.lemmas.List.{get_or_append_left, get_or-append_right}
+use Rattle.std.proofs.lemmas.List.{get_or_default, get_or_read, get_or_past, length-append, get_or_append_left}
+use Rattle.std.proofs.lemmas.List.{get_or-append_right}
 use Rattle.std.proofs.Math.Seq.{get_or-append_seam}
 use Rattle.rx_refine.specs.Layouts.{Layout, IsLayout, AreColumns, next_at}
 use Rattle.rx_refine.specs.Moves.{Moves, AreMoves}
@@ -51,23 +52,13 @@ module _ {t : Layout} {first : ℕ} {old : List (List ℕ)} (a : AreColumns t fi
     (transposed : List ℕ) (room : t.units * count ≤ length transposed)
     (moved : (row unit : ℕ) → row < count → unit < t.units
     → get_or transposed (unit * count + row) 0 ≡ next_at t (first + row) unit) where
-  part_end : (unit : ℕ) → (unit + 1) * count ≡ unit * count + count
-  part_end unit = omega arith
-
   part-length : (unit : ℕ) → unit < t.units
       → length (slice_range transposed (unit * count) ((unit + 1) * count)) ≡ count
-  part-length unit h =
-      let le : (unit + 1) * count ≤ length transposed = le_trans (mul-le-mul_right count (omega arith)) room in
-      let e = part_end unit in
-      simp (length-take, length-drop) (omega arith)
+  part-length unit h = grind (arith, common_steps, le_trans, mul-le-mul_right, length-take, length-drop)
 
   part-get_or : (row unit : ℕ) → row < count → unit < t.units
       → get_or (slice_range transposed (unit * count) ((unit + 1) * count)) row 0 ≡ next_at t (first + row) unit
-  part-get_or row unit r u =
-      let e = part_end unit in
-      get_or-take ((unit + 1) * count - unit * count) (drop (unit * count) transposed) row 0 (omega arith)
-      ∙ get_or-drop (unit * count) transposed row 0
-      ∙ moved row unit r u
+  part-get_or row unit r u = grind (arith, common_steps, get_or-take, get_or-drop)
 
   pub AreColumns-grown : (new : List (List ℕ)) → length new ≡ length old
       → ((unit : ℕ) → unit < length old
@@ -77,11 +68,7 @@ module _ {t : Layout} {first : ℕ} {old : List (List ℕ)} (a : AreColumns t fi
       let grown = λ (unit : ℕ) (h : unit < t.units). added unit (let c = a.count in omega arith) in
       record {
         count = len ∙ a.count;
-        lengths = λ unit h.
-            let part : List ℕ = slice_range transposed (unit * count) ((unit + 1) * count) in
-            ap length (grown unit h)
-            ∙ length-append (get_or old unit []) part
-            ∙ omega (arith, a.lengths unit h, part-length unit h);
+        lengths = grind (arith, common_steps, length-append, part-length);
         cells = λ row unit r h.
             let part : List ℕ = slice_range transposed (unit * count) ((unit + 1) * count) in
             let column : List ℕ = get_or old unit [] in

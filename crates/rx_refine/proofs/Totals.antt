@@ -1,8 +1,9 @@
 -- Sums over the numbers below a bound.
-use Rattle.std.proofs.Common.{◌≡◌, ℕ, zero, suc, ◌+◌, ◌*◌, ◌<◌, ◌≤◌, true, false, cond, List, [], ◌∷◌, length, get_or}
-use Rattle.std.proofs.Common.{eqb, refl, sym, ap, ◌∙◌, arith, eq-eqb, ne_eqb, eqb-true, mul-zero, true≢false, inl, inr}
+use Rattle.std.proofs.lemmas.Grind.{common_steps}
+use Rattle.std.proofs.Common.{◌≡◌, ℕ, zero, suc, ◌+◌, ◌*◌, ◌<◌, ◌≤◌, true, cond, List, [], ◌∷◌, length, get_or, eqb}
+use Rattle.std.proofs.Common.{refl, sym, ap, ◌∙◌, arith, eq-eqb, ne_eqb, eqb-true, mul-zero, true≢false, inl, inr}
 use Rattle.std.specs.List.{sum_by, list_any}
-use Rattle.std.proofs.lemmas.Bool.{cases_Bool, cases_eq, false_from_ne_true}
+use Rattle.std.proofs.lemmas.Bool.{cases_eq, false_from_ne_true}
 use Rattle.std.proofs.lemmas.List.Sums.{sum_by-cons}
 use Rattle.std.proofs.Math.Nat.{mul-suc}
 use Rattle.std.proofs.Math.Numerals.{suc-eq-add-one}
@@ -43,16 +44,13 @@ total-mul k f (suc n) = omega (arith, total-mul k f n, mul_add k (total f n) (f 
 
 pub total_none : (h : ℕ → ℕ) (x n : ℕ) → n ≤ x → total (λ r. cond (eqb r x) (h r) 0) n ≡ 0
 total_none h x zero l = refl
-total_none h x (suc n) l =
-    let e : ◌≡◌ {A = ℕ} (cond (eqb n x) (h n) 0) 0 = rw (ne_eqb n x (λ f. omega arith)) refl in
-    omega (arith, total_none h x n (omega arith), e)
+total_none h x (suc n) l = grind (arith, common_steps, ne_eqb, total_none h x n (omega arith))
 
 pub total_single : (h : ℕ → ℕ) (x n : ℕ) → x < n → total (λ r. cond (eqb r x) (h r) 0) n ≡ h x
 total_single h x zero l = absurd (omega arith)
 total_single h x (suc n) l =
     elim (cases_eq n x) [
-      | inl e ↦ let t : cond (eqb n x) (h n) 0 ≡ h x =
-          rw (eq-eqb n x e) (ap h e) in omega (arith, total_none h x n (omega arith), t)
+      | inl e ↦ grind (arith, common_steps, eq-eqb, total_none)
       | inr ne ↦ let t : ◌≡◌ {A = ℕ} (cond (eqb n x) (h n) 0) 0 =
           rw (ne_eqb n x ne) refl in omega (arith, total_single h x n (omega arith), t)
     ]
@@ -91,14 +89,7 @@ not_in_tail x xs a t = absent x xs (λ k l e. a 0 (suc k) (omega arith) (omega a
 -- what a row counts for, as the first or as a later element
 split_in : (h : ℕ → ℕ) (x : ℕ) (xs : List ℕ) (r : ℕ) → (list_any (eqb x) xs ≡ true → ⊥)
     → cond (list_any (eqb r) (x ∷ xs)) (h r) 0 ≡ cond (eqb r x) (h r) 0 + cond (list_any (eqb r) xs) (h r) 0
-split_in h x xs r ne =
-    elim (cases_Bool (eqb r x)) [
-      | inl t ↦
-          let e : r ≡ x = eqb-true r x t in
-          let f : list_any (eqb r) xs ≡ false = rw e (false_from_ne_true (list_any (eqb x) xs) ne) in
-          rw (t, f) (omega arith)
-      | inr f ↦ rw f (omega arith)
-    ]
+split_in h x xs r ne = grind (arith, common_steps, eqb-true, false_from_ne_true)
 
 pub sum_by-total : (h : ℕ → ℕ) (n : ℕ) (xs : List ℕ) → AreApart xs → ((k : ℕ) → k < length xs → get_or xs k 0 < n)
     → sum_by h xs ≡ total (λ r. cond (list_any (eqb r) xs) (h r) 0) n

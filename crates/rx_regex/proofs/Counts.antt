@@ -1,5 +1,6 @@
 -- How many rows the tables of a plan have.
-use Rattle.std.proofs.Common.{◌≡◌, Bool, true, false, refl, List}
+use Rattle.std.proofs.Common.{arith, ◌≡◌, Bool, true, false, refl, List}
+use Rattle.std.proofs.lemmas.Grind.{common_steps}
 use Rattle.rx_spec.specs.Builds.{Build}
 use Rattle.rx_spec.specs.Expressions.{Expression}
 use Rattle.rx_spec.specs.Labels.{IsLeastFor}
@@ -19,9 +20,7 @@ use Rattle.rx_regex.specs.declared.plan_table.PlanTable.{PlanTable}
 
 counts : (minimize : Bool) (b : Build) (t : Table) → (minimize ≡ false → IsPower t b)
     → (minimize ≡ true → IsLeastFor b t.size) → CountsRows minimize b t.size
-counts false b t power least =
-    let is = power refl in
-    record { states = is.states; reached = is.reached; count = is.size }
+counts false b t power least = grind (arith, common_steps)
 counts true b t power least = least refl
 
 module _ (p : Plan) (es : List Expression) where

@@ -1,7 +1,6 @@
 -- The matches that the tables of a plan tell one after another.
-use Rattle.std.proofs.Common.{◌≡◌, ◌-◌, Ok, Err, List}
-use Rattle.std.proofs.Common.{Result, All, IfOk, refl}
-use Rattle.std.proofs.lemmas.List.Elements.{All-weaker}
+use Rattle.std.proofs.Common.{arith, ◌≡◌, ◌-◌, Ok, Err, List, Result, All, IfOk, refl}
+use Rattle.std.proofs.lemmas.Grind.{common_steps}
 use Rattle.rx_spec.specs.Expressions.{Expression}
 use Rattle.rx_spec.specs.Iterating.{iterate}
 use Rattle.rx_spec.specs.Plans.{Plan, outcome}
@@ -25,5 +24,4 @@ lies_in q (Err error) lies = tt
 
 pub lie_in : (q : Query) (found : List (Result Match MatchError)) → All (λ item. IfOk item (LiesIn (whole q))) found
     → All (λ item. IfOk item (LiesIn q)) found
-lie_in q found =
-    All-weaker (λ item. IfOk item (LiesIn (whole q))) (λ item. IfOk item (LiesIn q)) (lies_in q) found
+lie_in q found = grind (arith, common_steps, lies_in)

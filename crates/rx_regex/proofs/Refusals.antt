@@ -1,5 +1,6 @@
 -- What refuses a table by a plan's settings refuses the plan.
-use Rattle.std.proofs.Common.{◌≡◌, ◌∙◌, sym, ap, subst, inl, inr, List}
+use Rattle.std.proofs.Common.{arith, ◌≡◌, sym, ap, subst, List}
+use Rattle.std.proofs.lemmas.Grind.{common_steps}
 use Rattle.rx_spec.specs.Causes.{BuildCause, BuildFits, BuildRefused, Limits}
 use Rattle.rx_spec.specs.Expressions.{Expression}
 use Rattle.rx_spec.specs.Builds.{Build}
@@ -16,7 +17,7 @@ use Rattle.rx_regex_builder.specs.Pairs.{IsFitBy, IsRefusedBy, in_direction}
 use Rattle.rx_regex_builder.specs.SparsePairs as sparse_pairs
 use Rattle.rx_sparse_build.specs.Built.{sparse_limits}
 use Rattle.rx_regex.specs.Find.{PlanRefused}
-use Rattle.rx_regex.specs.PlanTables.{TableFits, TableRefused, direction_of, table_build}
+use Rattle.rx_regex.specs.PlanTables.{TableFits, TableRefused, direction_of}
 use Rattle.rx_regex.specs.Settings.{settings_for, table_settings}
 use Rattle.rx_regex.specs.declared.plan_table.PlanTable.{PlanTable}
 
@@ -25,8 +26,7 @@ use Rattle.rx_regex.specs.declared.plan_table.PlanTable.{PlanTable}
 pub in_its_direction : (p : Plan) (table : PlanTable) {both : Both} {direction : Direction}
     → both ≡ settings_for p table → direction ≡ direction_of table
     → in_direction direction both ≡ in_direction (direction_of table) (settings_for p table)
-in_its_direction p table {both} {direction} settings towards =
-    ap (λ (d : Direction). in_direction d both) towards ∙ ap (in_direction (direction_of table)) settings
+in_its_direction p table {both} {direction} settings towards = grind (arith, common_steps)
 
 -- ---- one table, by limits that are the plan's
 
@@ -45,44 +45,28 @@ module _ (p : Plan) (es : List Expression) (dense : p.form ≡ Form.Dense) where
 
   settings_fit : (table : PlanTable) → IsFitBy (in_direction (direction_of table) (settings_for p table)) es
       → TableFits p table es
-  settings_fit PlanTable.Forward fits = record {
-    nfa = fits.nfa;
-    build = build_fits p (limits PlanTable.Forward) (table_build p PlanTable.Forward es) fits.build;
-  }
-  settings_fit PlanTable.Reverse fits = record {
-    nfa = fits.nfa;
-    build = build_fits p (limits PlanTable.Reverse) (table_build p PlanTable.Reverse es) fits.build;
-  }
-  settings_fit PlanTable.All fits = record {
-    nfa = fits.nfa;
-    build = build_fits p (limits PlanTable.All) (table_build p PlanTable.All es) fits.build;
-  }
+  settings_fit PlanTable.Forward fits = grind (arith, common_steps, build_fits, limits)
+  settings_fit PlanTable.Reverse fits = grind (arith, common_steps, build_fits, limits)
+  settings_fit PlanTable.All fits = grind (arith, common_steps, build_fits, limits)
 
   refused : (table : PlanTable) (cause : Cause)
       → IsRefusedBy (in_direction (direction_of table) (settings_for p table)) es cause → TableRefused p table es cause
   refused PlanTable.Forward (Cause.NFA cause) r = r
-  refused PlanTable.Forward (Cause.DFA cause) r =
-      (r.0, build_refused p (limits PlanTable.Forward) (table_build p PlanTable.Forward es) cause r.1)
+  refused PlanTable.Forward (Cause.DFA cause) r = grind (arith, common_steps, build_refused, limits)
   refused PlanTable.Reverse (Cause.NFA cause) r = r
-  refused PlanTable.Reverse (Cause.DFA cause) r =
-      (r.0, build_refused p (limits PlanTable.Reverse) (table_build p PlanTable.Reverse es) cause r.1)
+  refused PlanTable.Reverse (Cause.DFA cause) r = grind (arith, common_steps, build_refused, limits)
   refused PlanTable.All (Cause.NFA cause) r = r
-  refused PlanTable.All (Cause.DFA cause) r =
-      (r.0, build_refused p (limits PlanTable.All) (table_build p PlanTable.All es) cause r.1)
+  refused PlanTable.All (Cause.DFA cause) r = grind (arith, common_steps, build_refused, limits)
 
   -- by a builder that has the plan's settings
   pub table_fits : (table : PlanTable) {both : Both} {direction : Direction} → both ≡ settings_for p table
       → direction ≡ direction_of table → IsFitBy (in_direction direction both) es → TableFits p table es
-  table_fits table settings towards fits =
-      settings_fit table (subst (λ (b : Both). IsFitBy b es) (in_its_direction p table settings towards) fits)
+  table_fits table settings towards fits = grind (arith, common_steps, settings_fit, in_its_direction)
 
   pub table_refused : (table : PlanTable) {both : Both} {direction : Direction} → both ≡ settings_for p table
       → direction ≡ direction_of table → (kind : BuildErrorKind)
       → IsRefused (IsRefusedBy (in_direction direction both) es) kind → IsRefused (TableRefused p table es) kind
-  table_refused table settings towards kind is =
-      refused_as (IsRefusedBy (in_direction (direction_of table) (settings_for p table)) es) (TableRefused p table es)
-      (refused table) kind
-      (subst (λ (b : Both). IsRefused (IsRefusedBy b es) kind) (in_its_direction p table settings towards) is)
+  table_refused table settings towards kind is = grind (arith, common_steps, refused_as, refused, in_its_direction)
 
 -- ---- sparse
 
@@ -92,58 +76,39 @@ module _ (p : Plan) (es : List Expression) (sparse : p.form ≡ Form.Sparse) whe
 
   sparse_settings_fit : (table : PlanTable)
       → sparse_pairs.IsFitBy (in_direction (direction_of table) (settings_for p table)) es → TableFits p table es
-  sparse_settings_fit PlanTable.Forward fits = record {
-    nfa = fits.nfa;
-    build = build_fits p (limits_are PlanTable.Forward) (table_build p PlanTable.Forward es) fits.build;
-  }
-  sparse_settings_fit PlanTable.Reverse fits = record {
-    nfa = fits.nfa;
-    build = build_fits p (limits_are PlanTable.Reverse) (table_build p PlanTable.Reverse es) fits.build;
-  }
-  sparse_settings_fit PlanTable.All fits = record {
-    nfa = fits.nfa;
-    build = build_fits p (limits_are PlanTable.All) (table_build p PlanTable.All es) fits.build;
-  }
+  sparse_settings_fit PlanTable.Forward fits = grind (arith, common_steps, build_fits, limits_are)
+  sparse_settings_fit PlanTable.Reverse fits = grind (arith, common_steps, build_fits, limits_are)
+  sparse_settings_fit PlanTable.All fits = grind (arith, common_steps, build_fits, limits_are)
 
   sparse_refused : (table : PlanTable) (cause : Cause)
       → sparse_pairs.IsRefusedBy (in_direction (direction_of table) (settings_for p table)) es cause
       → TableRefused p table es cause
   sparse_refused PlanTable.Forward (Cause.NFA cause) r = r
-  sparse_refused PlanTable.Forward (Cause.DFA cause) r =
-      (r.0, build_refused p (limits_are PlanTable.Forward) (table_build p PlanTable.Forward es) cause r.1)
+  sparse_refused PlanTable.Forward (Cause.DFA cause) r = grind (arith, common_steps, build_refused, limits_are)
   sparse_refused PlanTable.Reverse (Cause.NFA cause) r = r
-  sparse_refused PlanTable.Reverse (Cause.DFA cause) r =
-      (r.0, build_refused p (limits_are PlanTable.Reverse) (table_build p PlanTable.Reverse es) cause r.1)
+  sparse_refused PlanTable.Reverse (Cause.DFA cause) r = grind (arith, common_steps, build_refused, limits_are)
   sparse_refused PlanTable.All (Cause.NFA cause) r = r
-  sparse_refused PlanTable.All (Cause.DFA cause) r =
-      (r.0, build_refused p (limits_are PlanTable.All) (table_build p PlanTable.All es) cause r.1)
+  sparse_refused PlanTable.All (Cause.DFA cause) r = grind (arith, common_steps, build_refused, limits_are)
 
   pub sparse_table_fits : (table : PlanTable) {both : Both} {direction : Direction} → both ≡ settings_for p table
       → direction ≡ direction_of table → sparse_pairs.IsFitBy (in_direction direction both) es
       → TableFits p table es
-  sparse_table_fits table settings towards fits =
-      sparse_settings_fit table
-      (subst (λ (b : Both). sparse_pairs.IsFitBy b es) (in_its_direction p table settings towards) fits)
+  sparse_table_fits table settings towards fits = grind (arith, common_steps, sparse_settings_fit, in_its_direction)
 
   pub sparse_table_refused : (table : PlanTable) {both : Both} {direction : Direction} → both ≡ settings_for p table
       → direction ≡ direction_of table → (kind : BuildErrorKind)
       → IsRefused (sparse_pairs.IsRefusedBy (in_direction direction both) es) kind
       → IsRefused (TableRefused p table es) kind
   sparse_table_refused table settings towards kind is =
-      refused_as (sparse_pairs.IsRefusedBy (in_direction (direction_of table) (settings_for p table)) es)
-      (TableRefused p table es) (sparse_refused table) kind
-      (subst (λ (b : Both). IsRefused (sparse_pairs.IsRefusedBy b es) kind) (in_its_direction p table settings towards)
-      is)
+      grind (arith, common_steps, refused_as, sparse_refused, in_its_direction)
 
 -- ---- both tables
 
 pub forward_refused : (p : Plan) (es : List Expression) (kind : BuildErrorKind)
     → IsRefused (DirectionRefused p Direction.Forward es) kind → IsRefused (PlanRefused p es) kind
-forward_refused p es kind =
-    refused_as (DirectionRefused p Direction.Forward es) (PlanRefused p es) (λ cause r. inl r) kind
+forward_refused p es kind = grind (arith, common_steps, refused_as)
 
 pub reverse_refused : (p : Plan) (es : List Expression) → DirectionFits p Direction.Forward es
     → (kind : BuildErrorKind) → IsRefused (DirectionRefused p Direction.Reverse es) kind
     → IsRefused (PlanRefused p es) kind
-reverse_refused p es fits kind =
-    refused_as (DirectionRefused p Direction.Reverse es) (PlanRefused p es) (λ cause r. inr (fits, r)) kind
+reverse_refused p es fits kind = grind (arith, common_steps, refused_as)

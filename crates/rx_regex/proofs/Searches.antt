@@ -1,15 +1,15 @@
 -- Searches of the tables of a plan.
-use Rattle.std.proofs.Common.{◌≡◌, ◌≢◌, ℕ, ◌≤◌, Option, Some, None, Ok, Err, IfErr, List, length, refl, ap, sym, ◌∙◌}
-use Rattle.std.proofs.Common.{subst}
+use Rattle.std.proofs.Common.{arith, ◌≡◌, ◌≢◌, ◌≤◌, Option, Some, None, Ok, Err, IfErr, List, length, refl, ap, sym}
+use Rattle.std.proofs.Common.{◌∙◌, subst}
+use Rattle.std.proofs.lemmas.Grind.{common_steps}
 use Rattle.std.proofs.Math.Logic.{∥∥₁_elim}
 use mathlib.Core.HLevel.{⊥_prop}
 use Rattle.rx_spec.specs.Bytes.{AreBytes}
 use Rattle.rx_spec.specs.Expressions.{Expression}
-use Rattle.rx_spec.specs.Builds.{power, build_settings}
 use Rattle.rx_spec.specs.Found.{found}
-use Rattle.rx_spec.specs.HalfSearches.{HalfAnswer, half_search}
+use Rattle.rx_spec.specs.HalfSearches.{HalfAnswer}
 use Rattle.rx_spec.specs.Joining.{Answer, with_end}
-use Rattle.rx_spec.specs.Plans.{Plan, plan_build, unless_error, outcome}
+use Rattle.rx_spec.specs.Plans.{Plan, unless_error, outcome}
 use Rattle.rx_spec.specs.Queries.{Query, Match, HalfMatch, MatchError}
 use Rattle.rx_spec.specs.Splits.{half_unsplit}
 use Rattle.rx_spec.specs.declared.Direction.{Direction}
@@ -28,8 +28,7 @@ pub record Searched (q : Query) : Type 0 where
 -- they answer what is to be answered
 pub outcome_by : {p : Plan} {es : List Expression} {pair : Pair} → AreTables p es pair → (q : Query) → Searched q
     → joined pair (whole q) ≡ outcome p es q
-outcome_by {p} {es} {pair} t q s =
-    found_by_tables p es (forward_table pair) (reverse_table pair) t.safe (serve_plan t) q s.bytes s.within
+outcome_by {p} {es} {pair} t q s = grind (arith, common_steps, found_by_tables, serve_plan)
 
 pub pairs_find : PairsFind
 pairs_find both es pair is safe built q bytes within =
@@ -43,13 +42,7 @@ told_found (Ok half_match) e = cc
 told_found (Err error) e = absurd (cc)
 
 pub same_found : PlansFindTheSame
-same_found p other es q answer other_answer same is is_other =
-    let build = plan_build p Direction.Forward es in
-    let other_build = plan_build other Direction.Forward es in
-    told_found (half_search (power build) (build_settings build) Direction.Forward (whole q)) is.found
-    ∙ ap (λ (terminator : ℕ). found es terminator q) same
-    ∙ sym (told_found
-    (half_search (power other_build) (build_settings other_build) Direction.Forward (whole q)) is_other.found)
+same_found p other es q answer other_answer same is is_other = grind (arith, common_steps, told_found)
 
 -- ---- they never disagree
 

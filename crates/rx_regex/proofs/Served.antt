@@ -1,6 +1,7 @@
 -- A pair of tables that is built as a plan's is serves the plan: the tables give its builds, and pass over no match
 -- that splits a character.
-use Rattle.std.proofs.Common.{◌≡◌, ◌&&◌, ℕ, Bool, true, false, refl, ap, ◌∙◌, subst, List, All}
+use Rattle.std.proofs.Common.{arith, ◌≡◌, ◌&&◌, ℕ, Bool, true, false, refl, ap, ◌∙◌, List, All}
+use Rattle.std.proofs.lemmas.Grind.{common_steps}
 use Rattle.rx_spec.specs.Builds.{Build}
 use Rattle.rx_spec.specs.Expressions.{Expression}
 use Rattle.rx_spec.specs.Nfas.{Nfa, nfa_of, is_always_start_anchored}
@@ -23,7 +24,7 @@ use Rattle.rx_sparse_build.specs.Built.{IsSparse}
 use Rattle.rx_sparse_build.proofs.Served.{sparse_serves}
 use Rattle.rx_regex.specs.Planned.{IsPlanned, planned}
 use Rattle.rx_regex.specs.Images as images
-use Rattle.rx_regex.specs.Settings.{settings_for, settings_of}
+use Rattle.rx_regex.specs.Settings.{settings_for}
 use Rattle.rx_image.specs.Pairs.{Pair}
 use Rattle.rx_regex.specs.Pairs.{AreBuilt, AreTables, forward_table, reverse_table}
 use Rattle.rx_regex.specs.declared.plan_table.PlanTable.{PlanTable}
@@ -89,24 +90,15 @@ module _ (both : Both) (es : List Expression) (is : IsPlanned both) where
 
   -- matches may split characters
   forward_anywhere : (wanted_nfa both.thompson es).is_utf8 ≡ false
-  forward_anywhere =
-      ap (λ (n : Nfa). n.is_utf8) forward_nfa
-      ∙ utf8_of Direction.Forward (planned both).line_terminator false es
+  forward_anywhere = grind (arith, common_steps, forward_nfa, utf8_of)
 
   reverse_anywhere : (wanted_nfa back.thompson es).is_utf8 ≡ false
-  reverse_anywhere =
-      ap (λ (n : Nfa). n.is_utf8) reverse_nfa
-      ∙ utf8_of Direction.Reverse (planned both).line_terminator false es
+  reverse_anywhere = grind (arith, common_steps, reverse_nfa, utf8_of)
 
   serve_both : (f r : Table) → ServesNfa f (settled both.dense) (wanted_nfa both.thompson es)
       → ServesNfa r (settled back.dense) (wanted_nfa back.thompson es) → ServePlan (planned both) es f r
-  serve_both f r forward reverse = record {
-    forward = subst (Serves f) forward_build forward.serves;
-    reverse = subst (Serves r) reverse_build reverse.serves;
-    anchored = forward.anchored ∙ ap is_always_start_anchored forward_nfa;
-    whole = forward.whole forward_anywhere;
-    whole_reverse = reverse.whole reverse_anywhere;
-  }
+  serve_both f r forward reverse =
+      grind (arith, common_steps, forward_build, reverse_build, forward_nfa, forward_anywhere, reverse_anywhere)
 
   pub serve_planned : (pair : Pair) → AreBuilt both es pair
       → ServePlan (planned both) es (forward_table pair) (reverse_table pair)
@@ -121,27 +113,12 @@ module _ (both : Both) (es : List Expression) (is : IsPlanned both) where
 
 pub serve_plan : {p : Plan} {es : List Expression} {pair : Pair} → AreTables p es pair
     → ServePlan p es (forward_table pair) (reverse_table pair)
-serve_plan {p} {es} {pair} t =
-    let is : IsPlanned (settings_of p) = record { kind = refl; forward = refl; anywhere = refl } in
-    let serve = serve_planned (settings_of p) es is pair t.built in
-    record {
-      forward = serve.forward;
-      reverse = serve.reverse;
-      anchored = serve.anchored;
-      whole = serve.whole;
-      whole_reverse = serve.whole_reverse;
-    }
+serve_plan {p} {es} {pair} t = grind (arith, common_steps, serve_planned)
 
 -- ---- the table of a plan for all matches tells them
 
 serves_all : {t : Table} {b : Build} → Serves t b → ServesAll t b
-serves_all s = record {
-  is_table = s.is_table;
-  gives = s.gives;
-  start_kind = s.settings.start_kind;
-  start_of_byte = s.settings.start_of_byte;
-  quit = s.settings.quit;
-}
+serves_all s = grind (arith, common_steps)
 
 pub all_tables_serve : images.AllTablesServe
 all_tables_serve p es =

@@ -1,6 +1,7 @@
 -- Tables of a plan can be written and read again.
-use Rattle.std.proofs.Common.{◌≡◌, ℕ, ◌^◌, ◌<◌, List, [], ◌++◌, length, All, Ok, Result, sym, ap, ◌∙◌, subst}
+use Rattle.std.proofs.Common.{arith, ◌≡◌, ℕ, ◌^◌, ◌<◌, List, [], ◌++◌, length, All, Ok, Result, sym, ap, ◌∙◌, subst}
 use Rattle.std.proofs.Common.{append-nil}
+use Rattle.std.proofs.lemmas.Grind.{common_steps}
 use Rattle.rx_spec.specs.Expressions.{Expression, IsLoopSafe}
 use Rattle.rx_spec.specs.Plans.{Plan}
 use Rattle.rx_spec.specs.declared.Direction.{Direction}
@@ -38,9 +39,7 @@ few_quits p PlanTable.All few = few
 -- reading of one image gives one table
 pub same_read : {X : Type 0} (x y : X) (m n : ℕ) (read : Result (X × ℕ) Kind) → read ≡ Ok (x, m) → read ≡ Ok (y, n)
     → x ≡ y
-same_read {X} x y m n read e f =
-    let same : (x, m) ≡ (y, n) = cc in
-    ap (λ (r : X × ℕ). r.0) same
+same_read {X} x y m n read e f = grind (arith, common_steps)
 
 -- ---- dense tables
 
@@ -48,8 +47,7 @@ same_read {X} x y m n read e f =
 pub is_dense : (p : Plan) (which : PlanTable) (es : List Expression) {both : Both} {direction : Direction} {l : Layout}
     → both ≡ settings_for p which → direction ≡ direction_of which
     → dense_pairs.IsOf (in_direction direction both) es l → IsDense p which es l
-is_dense p which es {l = l} settings towards is =
-    subst (λ (b : Both). dense_pairs.IsOf b es l) (in_its_direction p which settings towards) is
+is_dense p which es {l = l} settings towards is = grind (arith, common_steps, in_its_direction)
 
 pub dense_whole : (p : Plan) (which : PlanTable) (es : List Expression) (l : Layout) → p.quit < 2 ^ 256
     → IsShaped l → IsDense p which es l → IsWhole l
@@ -60,9 +58,7 @@ dense_whole p which es l quit shaped is =
 -- what was written is read again
 dense_read : (l : Layout) (order : Order) (bytes : List ℕ) → IsWhole l → bytes ≡ text order l → (rest : List ℕ)
     → reads (bytes ++ rest) ≡ Ok (l, length bytes)
-dense_read l order bytes whole written rest =
-    ap (λ (w : List ℕ). reads (w ++ rest)) written ∙ whole_again order l whole rest
-    ∙ ap (λ (w : List ℕ). Ok (l, length w)) (sym written)
+dense_read l order bytes whole written rest = grind (arith, common_steps, whole_again)
 
 pub dense_again : (l back : Layout) (size : ℕ) (order : Order) (bytes : List ℕ) → IsWhole l
     → bytes ≡ text order l → reads bytes ≡ Ok (back, size) → back ≡ l
@@ -86,8 +82,7 @@ dense_image p which es l order bytes safe built whole written = record {
 pub is_sparse : (p : Plan) (which : PlanTable) (es : List Expression) {both : Both} {direction : Direction} {t : Stored}
     → both ≡ settings_for p which → direction ≡ direction_of which
     → sparse_pairs.IsOf (in_direction direction both) es t → IsSparse p which es t
-is_sparse p which es {t = t} settings towards is =
-    subst (λ (b : Both). sparse_pairs.IsOf b es t) (in_its_direction p which settings towards) is
+is_sparse p which es {t = t} settings towards is = grind (arith, common_steps, in_its_direction)
 
 pub sparse_whole : (p : Plan) (which : PlanTable) (es : List Expression) (t : Stored) → p.quit < 2 ^ 256
     → IsSparse p which es t → sparse_tested.IsWhole t.layout

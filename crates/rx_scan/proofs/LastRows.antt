@@ -1,16 +1,15 @@
 -- How far a walk from a place has come, which row it met last, and what each turn adds.
-use Rattle.std.proofs.Common.{◌≡◌, ◌≢◌, ℕ, suc, zero, ◌+◌, ◌-◌, ◌<◌, ◌≤◌, ◌==◌, true, false, if◌then◌else◌}
-use Rattle.std.proofs.Common.{Option, Some, None, Ok, Err}
-use Rattle.std.proofs.Common.{List, [], ◌∷◌, length, slice_index, refl, ap, ap₂, sym, ◌∙◌, subst, arith, ⊎_elim}
+use Rattle.std.proofs.lemmas.Grind.{common_steps}
+use Rattle.std.proofs.Common.{◌≡◌, ◌≢◌, ℕ, suc, zero, ◌+◌, ◌-◌, ◌<◌, ◌≤◌, ◌==◌, true, false, Option, Some, None, Ok}
+use Rattle.std.proofs.Common.{Err, List, [], ◌∷◌, length, slice_index, ap, ap₂, sym, ◌∙◌, subst, arith, ⊎_elim}
 use Rattle.std.proofs.lemmas.Bool.{le-ltb, cases_eq, eqb-true, eq-eqb}
 use Rattle.std.proofs.lemmas.Option.{slice_get_past}
 use Rattle.std.specs.Option.{option_or}
-use Rattle.rx_spec.specs.Bytes.{AreBytes, unit_of}
+use Rattle.rx_spec.specs.Bytes.{AreBytes}
 use Rattle.rx_spec.specs.HalfSearches.{HalfAnswer}
 use Rattle.rx_spec.specs.Ids.{row_of}
-use Rattle.rx_spec.specs.Queries.{HalfMatch, MatchError, is_done}
-use Rattle.rx_spec.specs.Overlapping.{Ending, OverlappingMatches, none_left, pattern_items}
-use Rattle.rx_spec.specs.Overlapping.{whole_overlapping_walk, with_items}
+use Rattle.rx_spec.specs.Queries.{HalfMatch, MatchError}
+use Rattle.rx_spec.specs.Overlapping.{Ending, OverlappingMatches, none_left, pattern_items, with_items}
 use Rattle.rx_spec.specs.Tables.{Table, is_match}
 use Rattle.rx_spec.specs.declared.Direction.{Direction}
 use Rattle.lemmas_walks.proofs.Firsts.{by_test}
@@ -39,19 +38,11 @@ told m = Ok m
 
 nothing_met : (t : Table) (ids : List ℕ) (p : ℕ) (met : MetRow) → (met.offset == p) ≡ true
     → longest_met t ids p (Some met) ≡ None
-nothing_met t ids p met here =
-    let ks = patterns_of t (row_of ids met.row) in
-    ap (λ (o : ℕ). longest p (pattern_items ks o)) (eqb-true met.offset p here) ∙ longest_here p ks
+nothing_met t ids p met here = grind (arith, common_steps, eqb-true, longest_here)
 
 pub last_keeps : {t : Table} {ids : List ℕ} {p end : ℕ} {matches : OverlappingMatches} (met : MetRow)
     → IsLast t ids p end matches (Some met) → IsLast t ids p end matches (kept_met p met)
-last_keeps {t} {ids} {p} {end} {matches} met last =
-    by_test (met.offset == p)
-    (λ here. subst (λ v. IsLast t ids p end matches (if v then None else Some met)) (sym here) (record {
-      best = last.best ∙ ap told (nothing_met t ids p met here);
-      met = tt;
-    }))
-    (λ past. subst (λ v. IsLast t ids p end matches (if v then None else Some met)) (sym past) last)
+last_keeps {t} {ids} {p} {end} {matches} met last = grind (arith, common_steps, by_test, nothing_met)
 
 abbrev met_at : ℕ → ℕ → Option MetRow
 met_at id at = Some (record { row = id; offset = at })
@@ -59,41 +50,16 @@ met_at id at = Some (record { row = id; offset = at })
 module _ {t : Table} {ids text : List ℕ} {p : ℕ} where
   pub walk_keeps : {row at : ℕ} (met : MetRow) → Walked t ids text p row at (Some met)
       → Walked t ids text p row at (kept_met p met)
-  walk_keeps {row} {at} met w =
-      by_test (met.offset == p)
-      (λ here. subst (λ v. Walked t ids text p row at (if v then None else Some met)) (sym here) (record {
-        low = w.low;
-        high = w.high;
-        best = w.best ∙ ap (option_or (longest p (told_later t text p row at).items)) (nothing_met t ids p met here);
-        ending = w.ending;
-        met = tt;
-        none_yet = λ e. refl;
-      }))
-      (λ past. subst (λ v. Walked t ids text p row at (if v then None else Some met)) (sym past) w)
+  walk_keeps {row} {at} met w = grind (arith, common_steps, by_test, nothing_met)
 
   pub walk_starts : (id : ℕ) → Walked t ids text p (row_of ids id) p None
       → Walked t ids text p (row_of ids id) p (kept_met p (record { row = id; offset = p }))
-  walk_starts id w =
-      subst (λ v. Walked t ids text p (row_of ids id) p (if v then None else Some (record { row = id; offset = p })))
-      (sym (eq-eqb p p refl)) w
+  walk_starts id w = grind (arith, common_steps, eq-eqb)
 
   -- where it begins
   pub walk_begins : (row : ℕ) → p < length text → IsStart t Direction.Forward (query_at text p) row
       → Walked t ids text p row p None
-  walk_begins row more start =
-      let q = query_at text p in
-      let goes : is_done q ≡ false = le-ltb (length text) p (omega arith) in
-      let whole : told_at t text p ≡ told_later t text p row p
-      = overlapping_walks t.machine t.settings Direction.Forward q goes start.allowed
-      ∙ ap (whole_overlapping_walk t.machine Direction.Forward q) (sym start.row_is) in
-      record {
-        low = omega arith;
-        high = omega arith;
-        best = ap (λ (m : OverlappingMatches). longest p m.items) whole ∙ sym (or_none _);
-        ending = ap (λ (m : OverlappingMatches). m.ending) whole;
-        met = tt;
-        none_yet = λ e. refl;
-      }
+  walk_begins row more start = grind (arith, common_steps, le-ltb, overlapping_walks, or_none)
 
   module _ {row at : ℕ} {last : Option MetRow} (w : Walked t ids text p row at last) where
     in_span : IsInSpan (query_at text p) at
@@ -319,9 +285,4 @@ module _ {t : Table} {ids text : List ℕ} {p : ℕ} where
 -- the step by the end mark, behind the last byte
 pub end_step : {t : Table} {text : List ℕ} {p row next : ℕ} → p < length text → Turn t row 256 next
     → LastStep t Direction.Forward (query_at text p) row 256 next
-end_step {t} {text} {p} more turn = record {
-  order = omega (arith, more);
-  fits = omega arith;
-  unit_is = sym (ap unit_of (slice_get_past text (length text) (omega arith)));
-  turn = turn;
-}
+end_step {t} {text} {p} more turn = grind (arith, common_steps, slice_get_past)

@@ -1,7 +1,7 @@
 -- The longest of what is told: what is told later ends later, and of a row's patterns the lowest is it.
-use Rattle.std.proofs.Common.{◌≡◌, ℕ, ◌<◌, ◌≤◌, Bool, true, false, ◌==◌, ◌&&◌, if◌then◌else◌}
-use Rattle.std.proofs.Common.{Option, Some, None, List, [], ◌∷◌, ◌++◌, refl, ap, sym, ◌∙◌, subst, arith, ⊎_elim, ◌⊎◌}
-use Rattle.std.proofs.Common.{inl, inr}
+use Rattle.std.proofs.lemmas.Grind.{common_steps}
+use Rattle.std.proofs.Common.{◌≡◌, ℕ, ◌<◌, ◌≤◌, Bool, true, false, if◌then◌else◌, Option, Some, None, List, [], ◌∷◌}
+use Rattle.std.proofs.Common.{◌++◌, refl, ap, sym, ◌∙◌, subst, arith, ⊎_elim, ◌⊎◌, inl}
 use Rattle.std.proofs.lemmas.Bool.{ltb-true, ltb-false, lt-ltb, le-ltb, eq-eqb, or_left, or_right, and_from, or_parts}
 use Rattle.std.proofs.lemmas.Bool.{eqb-true, and_parts}
 use Rattle.std.proofs.lemmas.List.Elements.{All-nil, All-cons}
@@ -35,27 +35,17 @@ longest_skips p items = refl
 pub longest_past : (p : ℕ) (m : HalfMatch) (items : List Item) → p < m.offset
     → longest p (Item.Reported m ∷ items) ≡ first_of_two m (longest p items)
 unfolding longest
-longest_past p m items h =
-    ap (λ v. if v then first_of_two m (longest p items) else longest p items) (lt-ltb p m.offset h)
+longest_past p m items h = grind (arith, common_steps, lt-ltb)
 
 pub longest_empty : (p : ℕ) (m : HalfMatch) (items : List Item) → m.offset ≤ p
     → longest p (Item.Reported m ∷ items) ≡ longest p items
 unfolding longest
-longest_empty p m items h =
-    ap (λ v. if v then first_of_two m (longest p items) else longest p items) (le-ltb p m.offset h)
+longest_empty p m items h = grind (arith, common_steps, le-ltb)
 
 first_is : (m : HalfMatch) (o : Option HalfMatch) (n : HalfMatch) → first_of_two m o ≡ Some n
     → ((m ≡ n) ⊎ (o ≡ Some n))
 first_is m None n e = inl (cc)
-first_is m (Some k) n e =
-    by_test (comes_before k m)
-    (λ b. inr (let v : (if comes_before k m then Some k else Some m) ≡ Some k
-    = ap (λ v. if v then Some k else Some m) b in sym v ∙ e))
-    (λ b. inl (let v : (if comes_before k m then Some k else Some m) ≡ Some m
-    = ap (λ v. if v then Some k else Some m) b in some_same (sym v ∙ e)))
-  where
-    some_same : Some m ≡ Some n → m ≡ n
-    some_same e = cc
+first_is m (Some k) n e = grind (arith, common_steps, by_test)
 
 -- the longest of a place ends past it
 pub longest_ends : (p : ℕ) (items : List Item) (n : HalfMatch) → longest p items ≡ Some n → p < n.offset
@@ -87,10 +77,7 @@ longest_later p o (Item.Reported m ∷ items) n all e =
 -- ---- a row's patterns, and what is told behind them
 
 later_first : (m n : HalfMatch) → m.offset < n.offset → first_of_two m (Some n) ≡ Some n
-later_first m n h =
-    ap (λ v. if v then Some n else Some m)
-    (or_left (nat_lt m.offset n.offset) ((m.offset == n.offset) && nat_lt n.pattern m.pattern)
-    (lt-ltb m.offset n.offset h))
+later_first m n h = grind (arith, common_steps, or_left, lt-ltb)
 
 two_later : (m : HalfMatch) (later here : Option HalfMatch) → ((n : HalfMatch) → later ≡ Some n → m.offset < n.offset)
     → first_of_two m (option_or later here) ≡ option_or later (first_of_two m here)
@@ -99,8 +86,7 @@ two_later m (Some n) here past = later_first m n (past n refl)
 
 pub longest_append : (p o : ℕ) (ks : List ℕ) (later : List Item) → AllPast o later
     → longest p (pattern_items ks o ++ later) ≡ option_or (longest p later) (longest p (pattern_items ks o))
-longest_append p o [] later past =
-    sym (or_none (longest p later)) ∙ ap (option_or (longest p later)) (sym (longest-nil p))
+longest_append p o [] later past = grind (arith, common_steps, or_none, longest-nil)
 longest_append p o (k ∷ ks) later past =
     let m : HalfMatch = record { pattern = k; offset = o } in
     let here = longest p (pattern_items ks o) in
@@ -124,17 +110,12 @@ longest_here p (k ∷ ks) =
 lower : (a b o : ℕ) → a < b
     → first_of_two (record { pattern = b; offset = o }) (Some (record { pattern = a; offset = o }))
     ≡ Some (record { pattern = a; offset = o })
-lower a b o h =
-    ap (λ v. if v then Some (record { pattern = a; offset = o }) else Some (record { pattern = b; offset = o }))
-    (or_right (nat_lt o o) ((o == o) && nat_lt a b) (and_from (o == o) (nat_lt a b) (eq-eqb o o refl) (lt-ltb a b h)))
+lower a b o h = grind (arith, common_steps, or_right, and_from, eq-eqb, lt-ltb)
 
 not_lower : (a b o : ℕ) → b ≤ a
     → first_of_two (record { pattern = b; offset = o }) (Some (record { pattern = a; offset = o }))
     ≡ Some (record { pattern = b; offset = o })
-not_lower a b o h =
-    let same : nat_lt o o ≡ false = le-ltb o o (omega arith) in
-    let less : nat_lt a b ≡ false = le-ltb a b h in
-    rw (same, less, eq-eqb o o refl) refl
+not_lower a b o h = grind (arith, common_steps, le-ltb, eq-eqb)
 
 pub longest_row : (p o : ℕ) (k : ℕ) (ks : List ℕ) → p < o
     → (j : ℕ) × (longest p (pattern_items (k ∷ ks) o) ≡ Some (record { pattern = j; offset = o })) × IsLowest (k ∷ ks) j
@@ -174,10 +155,7 @@ longest_row p o k (i ∷ ks) h =
 
 -- there is one lowest
 pub one_lowest : (ks : List ℕ) (j k : ℕ) → IsLowest ks j → IsLowest ks k → j ≡ k
-one_lowest ks j k is other =
-    let low = subst (λ (x : ℕ). j ≤ x) other.there.2 (is.least other.there.0 k other.there.1) in
-    let high = subst (λ (x : ℕ). k ≤ x) is.there.2 (other.least is.there.0 j is.there.1) in
-    omega (arith, low, high)
+one_lowest ks j k is other = grind (arith, common_steps)
 
 -- so the longest of a row's matches is of that one
 pub longest_lowest : (p o : ℕ) (ks : List ℕ) (k : ℕ) → p < o → IsLowest ks k
@@ -199,65 +177,25 @@ not_after_self : (m : HalfMatch) → NotAfter m m
 not_after_self m = record { longer = omega arith; lower = λ e. omega arith }
 
 not_after : (a b c : HalfMatch) → NotAfter a b → NotAfter b c → NotAfter a c
-not_after a b c x y =
-    let one = x.longer in
-    let two = y.longer in
-    record {
-      longer = omega (arith, one, two);
-      lower = λ e.
-          let low = x.lower (omega (arith, one, two, e)) in
-          let lower = y.lower (omega (arith, one, two, e)) in
-          omega (arith, low, lower);
-    }
+not_after a b c x y = grind (arith, common_steps, lower)
 
 two_first : (m : HalfMatch) (o : Option HalfMatch) (n : HalfMatch) → first_of_two m o ≡ Some n
     → NotAfter n m × ((k : HalfMatch) → o ≡ Some k → NotAfter n k)
-two_first m None n e =
-    (subst (λ (x : HalfMatch). NotAfter x m) (some_same e) (not_after_self m), λ k same. absurd (cc))
-  where
-    some_same : Some m ≡ Some n → m ≡ n
-    some_same e = cc
+two_first m None n e = grind (arith, common_steps, not_after_self)
 two_first m (Some k) n e =
-    by_test (comes_before k m)
-    (λ b. let v : (if comes_before k m then Some k else Some m) ≡ Some k
-    = ap (λ v. if v then Some k else Some m) b in
-    let same = some_same k n (sym v ∙ e) in (
-      subst (λ (x : HalfMatch). NotAfter x m) same (before b),
-      λ j is. subst (λ (x : HalfMatch). NotAfter x j) (sym (some_same k j is) ∙ same) (not_after_self j),
-    ))
-    (λ b. let v : (if comes_before k m then Some k else Some m) ≡ Some m
-    = ap (λ v. if v then Some k else Some m) b in
-    let same = some_same m n (sym v ∙ e) in (
-      subst (λ (x : HalfMatch). NotAfter x m) same (not_after_self m),
-      λ j is. subst (λ (x : HalfMatch). NotAfter n x) (some_same k j is)
-          (subst (λ (x : HalfMatch). NotAfter x k) same (other b)),
-    ))
-  where
-    some_same : (x y : HalfMatch) → Some x ≡ Some y → x ≡ y
-    some_same x y e = cc
-
-    before : comes_before k m ≡ true → NotAfter k m
-    before b =
-        by_test (nat_lt m.offset k.offset)
-        (λ l. let less = ltb-true m.offset k.offset l in
-        let is : NotAfter k m = record { longer = omega (arith, less); lower = λ e. omega (arith, less, e) } in is)
-        (λ l. let both : ((m.offset == k.offset) && nat_lt k.pattern m.pattern) ≡ true = rw l at b in
-        let parts = and_parts (m.offset == k.offset) (nat_lt k.pattern m.pattern) both in
-        let same = eqb-true m.offset k.offset parts.0 in
-        let less = ltb-true k.pattern m.pattern parts.1 in
-        let is : NotAfter k m = record { longer = omega (arith, same); lower = λ e. omega (arith, less) } in is)
-
-    other : comes_before k m ≡ false → NotAfter m k
-    other b =
-        let parts = or_parts (nat_lt m.offset k.offset) ((m.offset == k.offset) && nat_lt k.pattern m.pattern) b in
-        let up = ltb-false m.offset k.offset parts.0 in
-        record {
-          longer = up;
-          lower = λ e.
-              let same = eq-eqb m.offset k.offset (sym e) in
-              let less : nat_lt k.pattern m.pattern ≡ false = rw same at parts.1 in
-              ltb-false k.pattern m.pattern less;
-        }
+    grind (
+      arith,
+      common_steps,
+      by_test,
+      not_after_self,
+      ltb-true,
+      lower,
+      and_parts,
+      eqb-true,
+      or_parts,
+      ltb-false,
+      eq-eqb,
+    )
 
 pub longest_there : (p : ℕ) (items : List Item) (m : HalfMatch) → longest p items ≡ Some m
     → Contains items (Item.Reported m)

@@ -1,17 +1,14 @@
 -- The lowest of some patterns, one more at a time.
+use Rattle.std.proofs.lemmas.Grind.{common_steps}
 use Rattle.std.proofs.Common.{◌≡◌, ℕ, zero, suc, ◌+◌, ◌<◌, ◌≤◌, List, [], ◌∷◌, ◌++◌, length, take, refl, ap, sym, ◌∙◌}
 use Rattle.std.proofs.Common.{subst, arith}
-use Rattle.std.proofs.lemmas.List.Elements.{All-nil, All-cons, All-append, All-weaker, Contains-append_left}
-use Rattle.std.proofs.lemmas.List.Elements.{Contains-append_right}
+use Rattle.std.proofs.lemmas.List.Elements.{All-nil, All-cons, All-append, All-weaker, Contains-append_right}
 use Rattle.std.specs.Prelude.{slice_index}
 use Rattle.lemmas_walks.proofs.Firsts.{Contains-here}
 use Rattle.rx_scan.specs.Walks.{IsLowest}
 
 one : (k : ℕ) → IsLowest (k ∷ []) k
-one k = record {
-  there = Contains-here k [];
-  least = All-cons (λ (j : ℕ). k ≤ j) k [] (omega arith) (All-nil (λ (j : ℕ). k ≤ j));
-}
+one k = grind (arith, common_steps)
 
 pub lowest_first : (ks : List ℕ) → 0 < length ks → IsLowest (take 1 ks) (slice_index ks 0)
 lowest_first [] h = absurd (omega (arith, h))
@@ -28,11 +25,7 @@ push_lower ks k j is h = record {
 }
 
 push_higher : (ks : List ℕ) (k j : ℕ) → IsLowest ks k → k ≤ j → IsLowest (ks ++ j ∷ []) k
-push_higher ks k j is h = record {
-  there = Contains-append_left ks (j ∷ []) k is.there;
-  least = All-append (λ (x : ℕ). k ≤ x) ks (j ∷ []) is.least
-      (All-cons (λ (x : ℕ). k ≤ x) j [] h (All-nil (λ (x : ℕ). k ≤ x)));
-}
+push_higher ks k j is h = grind (arith, common_steps)
 
 more : (ks : List ℕ) (i : ℕ) → i < length ks → take (i + 1) ks ≡ take i ks ++ slice_index ks i ∷ []
 more [] i h = absurd (omega (arith, h))
@@ -48,14 +41,7 @@ module _ (ks : List ℕ) (i k : ℕ) (within : i < length ks) (is : IsLowest (ta
       (push_lower (take i ks) k (slice_index ks i) is (omega (arith, h)))
 
   pub lowest_same : k ≤ slice_index ks i → IsLowest (take (i + 1) ks) k
-  lowest_same h =
-      subst (λ (l : List ℕ). IsLowest l k) (sym (more ks i within)) (push_higher (take i ks) k (slice_index ks i) is h)
+  lowest_same h = grind (arith, common_steps, more, push_higher)
 
 pub lowest_whole : (ks : List ℕ) (i k : ℕ) → length ks ≤ i → IsLowest (take i ks) k → IsLowest ks k
-lowest_whole ks i k h is = subst (λ (l : List ℕ). IsLowest l k) (whole ks i h) is
-  where
-    whole : (xs : List ℕ) (n : ℕ) → length xs ≤ n → take n xs ≡ xs
-    whole [] zero h = refl
-    whole [] (suc n) h = refl
-    whole (x ∷ xs) zero h = absurd (omega (arith, h))
-    whole (x ∷ xs) (suc n) h = ap (λ (l : List ℕ). x ∷ l) (whole xs n (omega (arith, h)))
+lowest_whole ks i k h is = grind (arith, common_steps)

@@ -1,9 +1,9 @@
 -- Where tokens start: a start that was asked for once is that of each place behind the same byte.
+use Rattle.std.proofs.lemmas.Grind.{common_steps, get_or_default_zero, get_or-set_at}
 use Rattle.std.proofs.Common.{◌==◌, true, ◌≡◌, ◌≢◌, ℕ, suc, ◌-◌, ◌<◌, ◌≤◌, Option, Some, List, length, slice_index_or}
 use Rattle.std.proofs.Common.{None, slice_set, ap, sym, ◌∙◌, subst, arith, ⊎_elim}
 use Rattle.std.proofs.lemmas.Bool.{cases_eq, eq-eqb}
 use Rattle.std.specs.Prelude.{not}
-use Rattle.std.proofs.lemmas.Grind.{get_or_default_zero, get_or-set_at}
 use Rattle.std.proofs.lemmas.List.{get_or-set_other}
 use Rattle.std.proofs.lemmas.Option.{slice_get-get_or}
 use Rattle.rx_spec.specs.Bytes.{AreBytes}
@@ -45,18 +45,7 @@ module _ (t : Table) (ids : List ℕ) {text kept : List ℕ} {p : ℕ} (place : 
   there = let below = below in omega (arith, below, place.whole)
 
   pub start_behind : (d : ℕ) → not (slice_index_or kept byte d == 0) ≡ true → StartsHere (slice_index_or kept byte d)
-  start_behind d some =
-      let is_some : slice_index_or kept byte d ≢ 0
-      = λ e. let v : not true ≡ true = sym (ap not (eq-eqb (slice_index_or kept byte d) 0 e)) ∙ some in absurd (cc) in
-      let same = get_or_default_zero kept byte d there in
-      let s = are byte below (λ e. is_some (same ∙ e)) in
-      subst StartsHere (sym same) (
-        s.1,
-        record {
-          allowed = ap (λ (b : Option ℕ). start_error t.settings b Anchored.Yes) here ∙ s.0;
-          row_is = s.2 ∙ sym (ap (λ (b : Option ℕ). start_row t.machine t.settings b Anchored.Yes) here);
-        },
-      )
+  start_behind d some = grind (arith, common_steps, slice_index_or, eq-eqb, get_or_default_zero, there, below, here)
 
   pub start_kept : (id : ℕ) → StartsHere id → AreStarts t ids (slice_set kept byte id)
   start_kept id s b low some =

@@ -1,16 +1,16 @@
 -- The longest of what is told at a place is the longest match there, over a table that tells all matches.
-use Rattle.std.proofs.Common.{◌≡◌, ℕ, ◌<◌, ◌≤◌, Option, Some, None, Ok, List, refl, ap, sym, ◌∙◌, subst, arith, ⊎_elim}
+use Rattle.std.proofs.lemmas.Grind.{common_steps}
+use Rattle.std.proofs.Common.{◌≡◌, ℕ, ◌<◌, ◌≤◌, Option, Some, None, Ok, List, refl, sym, ◌∙◌, subst, arith, ⊎_elim}
 use Rattle.std.proofs.lemmas.Bool.{cases_lt}
 use Rattle.rx_spec.specs.Expressions.{Expression}
 use Rattle.rx_spec.specs.Queries.{HalfMatch}
-use Rattle.rx_spec.specs.HalfSearches.{HalfAnswer}
 use Rattle.rx_spec.specs.Overlapping.{Ending, OverlappingMatches}
 use Rattle.rx_spec.specs.Plans.{Plan}
 use Rattle.rx_spec.specs.Tables.{Table}
 use Rattle.rx_all.specs.Matches.{IsPlaced, MatchesTo, told_at}
 use Rattle.rx_all.proofs.AllMatches.{all_are_told}
 use Rattle.rx_scan.specs.Meanings.{IsLongestMatch}
-use Rattle.rx_scan.specs.Tokens.{longest, longest_of, unless_ended}
+use Rattle.rx_scan.specs.Tokens.{longest, longest_of}
 use Rattle.rx_scan.proofs.LongestMatches.{NotAfter, longest_ends, longest_there, some_longest}
 
 module _ {t : Table} {plan : Plan} {es : List Expression} {text : List ℕ} {p : ℕ} (is : IsPlaced t plan es text p) where
@@ -20,22 +20,7 @@ module _ {t : Table} {plan : Plan} {es : List Expression} {text : List ℕ} {p :
   -- an answer that is no error is the longest of a walk that ends
   ended_longest : (m : Option HalfMatch) → longest_of p (told_at t text p) ≡ Ok m
       → ((told_at t text p).ending ≡ Ending.Ended) × (longest p (told_at t text p).items ≡ m)
-  ended_longest m e = by_ending found.ending refl e
-    where
-      same : (x : Option HalfMatch) → Path HalfAnswer (Ok x) (Ok m) → x ≡ m
-      same x e = cc
-
-      by_ending : (ending : Ending) → found.ending ≡ ending → unless_ended found.ending (longest p found.items) ≡ Ok m
-          → (found.ending ≡ Ending.Ended) × (longest p found.items ≡ m)
-      by_ending Ending.Ended ended h = (
-        ended,
-        same (longest p found.items) (sym (ap (λ (x : Ending). unless_ended x (longest p found.items)) ended)
-            ∙ h),
-      )
-      by_ending (Ending.Quits byte offset) ended h =
-          absurd (let no = sym (ap (λ (x : Ending). unless_ended x (longest p found.items)) ended) ∙ h in cc)
-      by_ending (Ending.Refused error) ended h =
-          absurd (let no = sym (ap (λ (x : Ending). unless_ended x (longest p found.items)) ended) ∙ h in cc)
+  ended_longest m e = grind (arith, common_steps)
 
   pub longest_is_match : (m : HalfMatch) → longest_of p (told_at t text p) ≡ Ok (Some m)
       → IsLongestMatch es plan.line_terminator text p m

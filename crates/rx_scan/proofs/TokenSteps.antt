@@ -1,7 +1,7 @@
 -- The tokens from a place on: the first of them, and those behind it.
-use Rattle.std.proofs.Common.{◌≡◌, ℕ, zero, suc, ◌+◌, ◌-◌, ◌<◌, ◌≤◌, Bool, true, false, if◌then◌else◌, Option, Some}
-use Rattle.std.proofs.Common.{None}
-use Rattle.std.proofs.Common.{Ok, Err, List, ◌∷◌, length, refl, ap, sym, ◌∙◌, subst, arith}
+use Rattle.std.proofs.lemmas.Grind.{common_steps}
+use Rattle.std.proofs.Common.{◌≡◌, ℕ, zero, suc, ◌+◌, ◌-◌, ◌<◌, ◌≤◌, Bool, true, false, Option, Some, None, Ok, Err}
+use Rattle.std.proofs.Common.{List, ◌∷◌, length, refl, ap, sym, ◌∙◌, subst, arith}
 use Rattle.std.proofs.lemmas.Bool.{ltb-true, ltb-false, lt-ltb, le-ltb}
 use Rattle.std.specs.Prelude.{nat_lt, is_some}
 use Rattle.rx_spec.specs.Queries.{HalfMatch, MatchError}
@@ -10,9 +10,9 @@ use Rattle.rx_spec.specs.Overlapping.{Ending, OverlappingMatches}
 use Rattle.rx_spec.specs.Tables.{Table}
 use Rattle.lemmas_walks.proofs.Firsts.{by_test}
 use Rattle.rx_all.specs.Matches.{query_at, told_at}
-use Rattle.rx_scan.specs.Tokens.{longest, longest_of, unless_ended, Tokens, no_more, token_at, then_tokens}
-use Rattle.rx_scan.specs.Tokens.{tokens_from, tokens_left, error_end, Scan, NextToken, line_feeds, line_start}
-use Rattle.rx_scan.specs.Tokens.{Cover, IsMeant, IsMeantEnd}
+use Rattle.rx_scan.specs.Tokens.{longest, longest_of, unless_ended, Tokens, no_more, token_at, then_tokens, tokens_from}
+use Rattle.rx_scan.specs.Tokens.{tokens_left, error_end, Scan, NextToken, line_feeds, line_start, Cover, IsMeant}
+use Rattle.rx_scan.specs.Tokens.{IsMeantEnd}
 use Rattle.rx_spec.specs.Bytes.{AreBytes}
 use Rattle.rx_spec.specs.declared.Direction.{Direction}
 use Rattle.lemmas_walks.proofs.OverlappingBounds.{overlapping_in_span}
@@ -24,22 +24,13 @@ use Rattle.rx_scan.proofs.LongestMatches.{longest_ends, longest_there}
 -- what the longest match is, it ends past its place
 pub longest_of_ends : (p : ℕ) (matches : OverlappingMatches) (m : HalfMatch) → longest_of p matches ≡ Ok (Some m)
     → p < m.offset
-longest_of_ends p matches m e = by_ending matches.ending e
-  where
-    same : (x : Option HalfMatch) → Path HalfAnswer (Ok x) (Ok (Some m)) → x ≡ Some m
-    same x e = cc
-
-    by_ending : (ending : Ending) → unless_ended ending (longest p matches.items) ≡ Ok (Some m) → p < m.offset
-    by_ending Ending.Ended e = longest_ends p matches.items m (same (longest p matches.items) e)
-    by_ending (Ending.Quits byte offset) e = absurd (cc)
-    by_ending (Ending.Refused error) e = absurd (cc)
+longest_of_ends p matches m e = grind (arith, common_steps, longest_ends)
 
 then_alike : (text : List ℕ) (p : ℕ) (answer : HalfAnswer) (f g : ℕ → Tokens)
     → ((m : HalfMatch) → answer ≡ Ok (Some m) → f m.offset ≡ g m.offset)
     → then_tokens text p answer f ≡ then_tokens text p answer g
 then_alike text p (Ok None) f g same = refl
-then_alike text p (Ok (Some m)) f g same =
-    ap (λ (behind : Tokens). record { tokens = token_at text p m ∷ behind.tokens; end = behind.end }) (same m refl)
+then_alike text p (Ok (Some m)) f g same = grind (arith, common_steps)
 then_alike text p (Err error) f g same = refl
 
 module _ (t : Table) (text : List ℕ) where
@@ -49,16 +40,12 @@ module _ (t : Table) (text : List ℕ) where
   pub no_bytes : (n p : ℕ) → length text ≤ p → tokens_from t text n p ≡ no_more ScanEnd.Done
   unfolding tokens_from
   no_bytes zero p h = refl
-  no_bytes (suc n) p h =
-      ap (λ v. if v then then_tokens text p (answer p) (λ next. tokens_from t text n next) else no_more ScanEnd.Done)
-      (le-ltb p (length text) h)
+  no_bytes (suc n) p h = grind (arith, common_steps, le-ltb)
 
   pub turn : (n p : ℕ) → p < length text
       → tokens_from t text (suc n) p ≡ then_tokens text p (answer p) (λ next. tokens_from t text n next)
   unfolding tokens_from
-  turn n p h =
-      ap (λ v. if v then then_tokens text p (answer p) (λ next. tokens_from t text n next) else no_more ScanEnd.Done)
-      (lt-ltb p (length text) h)
+  turn n p h = grind (arith, common_steps, lt-ltb)
 
   uncut : (n k p : ℕ) → length text - p ≤ n → length text - p ≤ k → tokens_from t text n p ≡ tokens_from t text k p
   uncut zero k p h i = no_bytes zero p (omega arith) ∙ sym (no_bytes k p (omega arith))
@@ -107,12 +94,7 @@ longest_of_within t text p m e = by_ending (told_at t text p).ending e
 
 module _ (t : Table) (text : List ℕ) where
   no_cover : (p : ℕ) → p < length text → (end : ScanEnd) → (end ≡ ScanEnd.Done → ⊥) → Cover text p (no_more end)
-  no_cover p more end other = record {
-    stop = p;
-    joined = refl;
-    within = omega (arith, more);
-    whole = (λ e. absurd (other e), λ e. absurd (omega (arith, e, more)));
-  }
+  no_cover p more end other = grind (arith, common_steps)
 
   done_cover : (p : ℕ) → p ≡ length text → Cover text p (no_more ScanEnd.Done)
   done_cover p e = record { stop = p; joined = refl; within = omega (arith, e); whole = (λ d. e, λ d. refl) }
@@ -121,21 +103,13 @@ module _ (t : Table) (text : List ℕ) where
       → ((m : HalfMatch) → p < m.offset → m.offset ≤ length text → Cover text m.offset (tokens_from t text n m.offset))
       → Cover text p (then_tokens text p answer (λ next. tokens_from t text n next))
   cover_by n p more (Ok None) is rest = no_cover p more (ScanEnd.Stuck p) (λ e. absurd (cc))
-  cover_by n p more (Ok (Some m)) is rest =
-      let above = longest_of_ends p (told_at t text p) m is in
-      let behind = rest m above (longest_of_within t text p m is) in
-      record { stop = behind.stop; joined = (refl, above, behind.joined); within = behind.within; whole = behind.whole }
-  cover_by n p more (Err (MatchError.Quit byte offset)) is rest =
-      no_cover p more (ScanEnd.Quit byte offset) (λ e. absurd (cc))
-  cover_by n p more (Err (MatchError.UnsupportedAnchored mode)) is rest =
-      no_cover p more ScanEnd.Unsupported (λ e. absurd (cc))
-  cover_by n p more (Err (MatchError.PairMismatch f r)) is rest =
-      no_cover p more ScanEnd.Unsupported (λ e. absurd (cc))
+  cover_by n p more (Ok (Some m)) is rest = grind (arith, common_steps, longest_of_ends, longest_of_within)
+  cover_by n p more (Err (MatchError.Quit byte offset)) is rest = grind (arith, common_steps, no_cover)
+  cover_by n p more (Err (MatchError.UnsupportedAnchored mode)) is rest = grind (arith, common_steps, no_cover)
+  cover_by n p more (Err (MatchError.PairMismatch f r)) is rest = grind (arith, common_steps, no_cover)
 
   pub tokens_cover : (n p : ℕ) → length text - p ≤ n → p ≤ length text → Cover text p (tokens_from t text n p)
-  tokens_cover zero p h within =
-      let e : p ≡ length text = omega (arith, h, within) in
-      subst (Cover text p) (sym (no_bytes t text zero p (omega (arith, e)))) (done_cover p e)
+  tokens_cover zero p h within = grind (arith, common_steps, no_bytes, done_cover)
   tokens_cover (suc n) p h within =
       by_test (nat_lt p (length text))
       (λ b. let more = ltb-true p (length text) b in
@@ -153,12 +127,7 @@ module _ (t : Table) (text : List ℕ) (p : ℕ) (end : Option ScanEnd) (goes : 
   scanned left over = record { table = t; text = text; left = left; is_over = over }
 
   open_scan : scan_of t text p end ≡ scanned (tokens_left t text p) false
-  open_scan = by_end end goes
-    where
-      by_end : (e : Option ScanEnd) → is_some e ≡ false
-          → scan_of t text p e ≡ scanned (tokens_left t text p) false
-      by_end None h = refl
-      by_end (Some e) h = absurd (cc)
+  open_scan = grind (arith, common_steps)
 
   -- no token is left
   pub over_now : (why : ScanEnd) → IsMeantEnd t text why → tokens_left t text p ≡ no_more why
@@ -212,9 +181,7 @@ pub ends_now : (t : Table) (text : List ℕ) (p : ℕ) → p < length text → {
     → longest_of p (told_at t text p) ≡ answer
     → then_tokens text p answer (λ next. tokens_left t text next) ≡ no_more why
     → tokens_left t text p ≡ no_more why
-ends_now t text p more {answer} {why} says none =
-    tokens_again t text p more
-    ∙ ap (λ (a : HalfAnswer). then_tokens text p a (λ next. tokens_left t text next)) says ∙ none
+ends_now t text p more {answer} {why} says none = grind (arith, common_steps, tokens_again)
 
 -- a token, as it is made of what a scanner keeps
 pub token_made : (t : Table) (text : List ℕ) (p : ℕ) (e : Option ScanEnd) {s : Scan} (m : HalfMatch)
@@ -226,8 +193,7 @@ pub token_made : (t : Table) (text : List ℕ) (p : ℕ) (e : Option ScanEnd) {s
       line = feeds + 1;
       column = p - start + 1;
     })) (scan_of t text end e)
-token_made t text p e {s} m pattern end feeds start a b c d next =
-    rw (a, b, c, d) next
+token_made t text p e {s} m pattern end feeds start a b c d next = grind (arith, common_steps)
 
 -- where a scan is stuck, no pattern has an end past the place
 pub stuck_meant : (t : Table) (text : List ℕ) (p : ℕ) → p < length text → AreBytes text

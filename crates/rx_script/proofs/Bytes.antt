@@ -1,6 +1,7 @@
 -- Bytes: what is read is spelled so, and what is spelled so is read.
-use Rattle.std.proofs.Common.{◌≡◌, inl, inr, ℕ, ◌+◌, ◌-◌, ◌*◌, ◌<◌, ◌≤◌, Bool, true, false, ◌&&◌, cond, eqb, leb}
-use Rattle.std.proofs.Common.{List, [], ◌∷◌, length, Option, Some, None, refl, sym, ap, subst, ◌∙◌, arith}
+use Rattle.std.proofs.lemmas.Grind.{common_steps}
+use Rattle.std.proofs.Common.{◌≡◌, inl, inr, ℕ, ◌+◌, ◌-◌, ◌*◌, ◌<◌, ◌≤◌, Bool, true, false, ◌&&◌, cond, eqb, leb, List}
+use Rattle.std.proofs.Common.{[], ◌∷◌, length, Option, Some, None, refl, sym, ap, subst, ◌∙◌, arith}
 use Rattle.std.specs.Prelude.{codes}
 use Rattle.std.specs.Str.{bytes_eq}
 use Rattle.std.proofs.lemmas.Bool.{cases_Bool, and_parts, and_from, and_left, and_right, leb-true, le-leb, lt-leb}
@@ -29,32 +30,12 @@ above : (low high c : ℕ) → high < c → within low high c ≡ false
 above low high c lt = and_right (leb low c) (leb c high) (lt-leb c high lt)
 
 pub digit_spelled : (c v : ℕ) → digit_of c ≡ Some v → SpellsDigit v c
-digit_spelled c v e = elim (cases_Bool (within 48 57 c)) [
-  | inl h ↦ let s = same_Some (c - 48) v (rw h at e) in let b = bounds 48 57 c h in inl (omega arith, omega arith)
-  | inr h ↦ elim (cases_Bool (within 97 102 c)) [
-    | inl k ↦
-        let s = same_Some (c - 87) v (rw (h, k) at e) in
-        let b = bounds 97 102 c k in inr (omega arith, omega arith, inl (omega arith))
-    | inr k ↦ elim (cases_Bool (within 65 70 c)) [
-      | inl l ↦
-          let s = same_Some (c - 55) v (rw (h, k, l) at e) in
-          let b = bounds 65 70 c l in inr (omega arith, omega arith, inr (omega arith))
-      | inr l ↦ absurd (none-some v (rw (h, k, l) at e))
-    ]
-  ]
-]
+digit_spelled c v e = grind (arith, common_steps, cases_Bool, same_Some, bounds, none-some)
 
 digit_read : (c v : ℕ) → SpellsDigit v c → digit_of c ≡ Some v
-digit_read c v (inl d) =
-    let is : c - 48 ≡ v = omega (arith, d.0, d.1) in
-    rw (inside 48 57 c (omega (arith, d.0, d.1)) (omega (arith, d.0, d.1))) (ap (λ (x : ℕ). Some x) is)
-digit_read c v (inr (low, high, inl small)) =
-    let is : c - 87 ≡ v = omega arith in
-    rw (above 48 57 c (omega arith), inside 97 102 c (omega arith) (omega arith)) (ap (λ (x : ℕ). Some x) is)
-digit_read c v (inr (low, high, inr capital)) =
-    let is : c - 55 ≡ v = omega arith in
-    rw (above 48 57 c (omega arith), below 97 102 c (omega arith), inside 65 70 c (omega arith) (omega arith))
-    (ap (λ (x : ℕ). Some x) is)
+digit_read c v (inl d) = grind (arith, common_steps, inside)
+digit_read c v (inr (low, high, inl small)) = grind (arith, common_steps, above, inside)
+digit_read c v (inr (low, high, inr capital)) = grind (arith, common_steps, above, below, inside)
 
 -- ---- bytes
 
@@ -70,8 +51,7 @@ pub pair_read : (high low b : ℕ) → SpellsPair b high low → byte_of high lo
 pair_read high low b s = rw (digit_read high s.0 s.2, digit_read low s.1 s.3) (ap (λ (x : ℕ). Some x) (sym s.4))
 
 pub byte_spelled : (word : List ℕ) (b : ℕ) → one_byte word ≡ Some b → SpellsByte b word
-byte_spelled (high ∷ (low ∷ [])) b e =
-    record { high = high; low = low; digits = pair_spelled high low b e; word_is = refl }
+byte_spelled (high ∷ (low ∷ [])) b e = grind (arith, common_steps, pair_spelled)
 byte_spelled [] b e = absurd cc
 byte_spelled (c ∷ []) b e = absurd cc
 byte_spelled (c ∷ (d ∷ (e ∷ es))) b z = absurd cc
@@ -127,8 +107,4 @@ unfolding bytes_of
 bytes_read word [] s = ap bytes_of s
 bytes_read [] (b ∷ bs) s = absurd s
 bytes_read (c ∷ []) (b ∷ bs) s = absurd s
-bytes_read (high ∷ (low ∷ cs)) (b ∷ bs) s =
-    let word = high ∷ (low ∷ cs) in
-    let no_dash = other_word word (codes "-") (λ e. cc) in
-    let some = ne_eqb (length word) 0 (λ e. omega arith) in
-    rw (no_dash, some) (pairs_read word (b ∷ bs) s)
+bytes_read (high ∷ (low ∷ cs)) (b ∷ bs) s = grind (arith, common_steps, other_word, ne_eqb, pairs_read)

@@ -1,7 +1,7 @@
 -- Cutting a text at a byte, and its first line.
+use Rattle.std.proofs.lemmas.Grind.{common_steps}
 use Rattle.std.proofs.Common.{◌≡◌, ℕ, suc, ◌+◌, ◌<◌, ◌≤◌, Bool, true, false, not, cond, eqb, ltb, List, [], ◌∷◌, length}
-use Rattle.std.proofs.Common.{take, drop}
-use Rattle.std.proofs.Common.{Option, Some, None, refl, sym, ap, ◌∙◌, arith}
+use Rattle.std.proofs.Common.{take, drop, Option, Some, None, refl, sym, ap, ◌∙◌, arith}
 use Rattle.std.specs.List.{slice_split, onto_first, position, position_or_len}
 use Rattle.std.proofs.lemmas.List.{take_all}
 use Rattle.std.proofs.lemmas.Bool.Decides.{nat_tests}
@@ -78,10 +78,7 @@ cut_at c text at e =
     cut_is c text ∙ rw h.0 (ap (λ (n : ℕ). (take n text, Some (drop (n + 1) text))) h.1)
 
 pub cut_none : (c : ℕ) (text : List ℕ) → position (λ b. eqb b c) text ≡ None → cut c text ≡ (text, None)
-cut_none c text e =
-    let place = position_or_len (λ b. eqb b c) text in
-    let h = chosen_none (ltb place (length text)) place e in
-    cut_is c text ∙ rw h (ap (λ (xs : List ℕ). (xs, None)) (take_all place text (ltb-false _ _ h)))
+cut_none c text e = grind (arith, common_steps, chosen_none, cut_is, take_all, ltb-false)
 
 -- the pieces, but for a last one that is empty
 abbrev pub alone : List ℕ → List (List ℕ)
@@ -103,12 +100,7 @@ onto_trimmed b (piece ∷ (next ∷ pieces)) h = refl
 
 pub some_piece : (c : ℕ) (text : List ℕ) → 0 < length (slice_split (λ b. eqb b c) text)
 some_piece c [] = omega arith
-some_piece c (b ∷ bs) = some_piece_on c b (eqb b c) (slice_split (λ b. eqb b c) bs) where
-  some_piece_on
-      : (c b : ℕ) (t : Bool) (pieces : List (List ℕ)) → 0 < length (cond t ([] ∷ pieces) (onto_first b pieces))
-  some_piece_on c b true pieces = omega arith
-  some_piece_on c b false [] = omega arith
-  some_piece_on c b false (p ∷ ps) = omega arith
+some_piece c (b ∷ bs) = grind (arith, common_steps)
 
 trimmed_more
     : (piece : List ℕ) (pieces : List (List ℕ)) → 0 < length pieces → trimmed (piece ∷ pieces) ≡ piece ∷ trimmed pieces

@@ -1,10 +1,9 @@
 -- Values of hexadecimal digits: what a table of them has, and which bytes two of them say.
-use Rattle.std.proofs.Common.{◌≡◌, inl, inr, ℕ, zero, suc, ◌+◌, ◌*◌, ◌<◌, ◌≤◌, Bool, true}
-use Rattle.std.proofs.Common.{false, ◌&&◌, eqb, List, [], ◌∷◌}
-use Rattle.std.proofs.Common.{length, get_or, Option, Some, None, refl, sym, ap, ap₂, ◌∙◌, arith}
+use Rattle.std.proofs.lemmas.Grind.{common_steps}
+use Rattle.std.proofs.Common.{◌≡◌, ℕ, zero, suc, ◌+◌, ◌*◌, ◌<◌, ◌≤◌, Bool, true, ◌&&◌, eqb, List, [], ◌∷◌, length}
+use Rattle.std.proofs.Common.{get_or, Option, Some, None, sym, ap, ◌∙◌, arith}
 use Rattle.std.proofs.lemmas.Bool.{and_parts, eqb-true}
-use Rattle.rx_script.specs.Tokens.{digit_of, value_of, byte_from, byte_of}
-use Rattle.rx_script.specs.Grammar.{SpellsDigit}
+use Rattle.rx_script.specs.Tokens.{digit_of, value_of, byte_of}
 use Rattle.rx_script.proofs.Bytes.{digit_spelled}
 
 -- ---- a table
@@ -17,10 +16,7 @@ has_values (v ∷ vs) c = eqb v (value_of (digit_of c)) && has_values vs (suc c)
 value_there : (vs : List ℕ) (c i : ℕ) → has_values vs c ≡ true → i < length vs
     → get_or vs i 0 ≡ value_of (digit_of (c + i))
 value_there [] c i has lt = absurd (omega (arith, lt))
-value_there (v ∷ vs) c zero has lt =
-    let parts = and_parts (eqb v (value_of (digit_of c))) (has_values vs (suc c)) has in
-    let same : c ≡ c + 0 = omega arith in
-    eqb-true v (value_of (digit_of c)) parts.0 ∙ ap (λ (n : ℕ). value_of (digit_of n)) same
+value_there (v ∷ vs) c zero has lt = grind (arith, common_steps, and_parts, eqb-true)
 value_there (v ∷ vs) c (suc i) has lt =
     let parts = and_parts (eqb v (value_of (digit_of c))) (has_values vs (suc c)) has in
     let same : suc c + i ≡ c + suc i = omega arith in
@@ -38,32 +34,17 @@ some_below None v is small = absurd (omega (arith, is, small))
 some_below (Some w) v is small = ap (λ (n : ℕ). Some n) (sym is)
 
 value_small : (c w : ℕ) → digit_of c ≡ Some w → w < 16
-value_small c w is = small (digit_spelled c w is)
-  where
-    small : SpellsDigit w c → w < 16
-    small (inl s) = let below = s.0 in omega (arith, below)
-    small (inr s) = s.1
+value_small c w is = grind (arith, common_steps, digit_spelled)
 
 none_above : (c v : ℕ) → v ≡ value_of (digit_of c) → 16 ≤ v → digit_of c ≡ None
-none_above c v is large = by (digit_of c) refl is
-  where
-    by : (o : Option ℕ) → digit_of c ≡ o → v ≡ value_of o → digit_of c ≡ None
-    by None told same = told
-    by (Some w) told same = let small = value_small c w told in absurd (omega (arith, small, same, large))
+none_above c v is large = grind (arith, common_steps, value_small)
 
 pub byte_there : (high low : ℕ) {h l : ℕ} → h ≡ value_of (digit_of high) → l ≡ value_of (digit_of low) → h < 16 → l < 16
     → Some (16 * h + l) ≡ byte_of high low
-byte_there high low {h} {l} high_is low_is high_small low_small =
-    sym (ap₂ byte_from (some_below (digit_of high) h high_is high_small) (some_below (digit_of low) l low_is low_small))
+byte_there high low {h} {l} high_is low_is high_small low_small = grind (arith, common_steps, some_below)
 
 pub no_high : (high low : ℕ) {h : ℕ} → h ≡ value_of (digit_of high) → 16 ≤ h → None ≡ byte_of high low
-no_high high low {h} is large =
-    sym (ap (λ (o : Option ℕ). byte_from o (digit_of low)) (none_above high h is large))
+no_high high low {h} is large = grind (arith, common_steps, none_above)
 
 pub no_low : (high low : ℕ) {l : ℕ} → l ≡ value_of (digit_of low) → 16 ≤ l → None ≡ byte_of high low
-no_low high low {l} is large =
-    sym (ap (byte_from (digit_of high)) (none_above low l is large) ∙ no_second (digit_of high))
-  where
-    no_second : (o : Option ℕ) → byte_from o None ≡ None
-    no_second None = refl
-    no_second (Some v) = refl
+no_low high low {l} is large = grind (arith, common_steps, none_above)

@@ -1,7 +1,6 @@
 -- Expressions: what is spelled so is read.
-use Rattle.std.proofs.Common.{◌≡◌, ℕ, suc, ◌+◌, ◌-◌, Bool, false, List, [], ◌∷◌, ◌++◌, Option, Some, None, Result}
-use Rattle.std.proofs.Common.{Ok, Err}
-use Rattle.std.proofs.Common.{refl, sym, ap, ◌∙◌, append_assoc, append-nil, arith}
+use Rattle.std.proofs.Common.{◌≡◌, ℕ, suc, ◌+◌, ◌-◌, Bool, false, List, [], ◌∷◌, ◌++◌, Option, Some, None, Result, Ok}
+use Rattle.std.proofs.Common.{Err, refl, sym, ap, ◌∙◌, append_assoc, append-nil, arith}
 use Rattle.std.proofs.lemmas.Bool.{le-ltb, ne_eqb}
 use Rattle.rx_spec.specs.Expressions.{Expression, min_len, depth, IsBounded}
 use Rattle.rx_spec.specs.declared.Look.{Look}
@@ -13,8 +12,8 @@ use Rattle.rx_script.specs.declared.expression.Taken.{Taken}
 use Rattle.rx_script.specs.declared.names.Head.{Head}
 use Rattle.rx_script.specs.Faults.{Fault, ◌>>=◌}
 use Rattle.rx_script.specs.Names.{head_name, look_name, greed_name}
-use Rattle.rx_script.specs.Items.{taken, by_head, take_head, take_word, with_item, items_at}
-use Rattle.rx_script.specs.Items.{shallow, is_bad_range, is_empty_body, made_onto, expression_at}
+use Rattle.rx_script.specs.Items.{taken, by_head, take_head, take_word, with_item, items_at, shallow, is_bad_range}
+use Rattle.rx_script.specs.Items.{is_empty_body, made_onto, expression_at}
 use Rattle.rx_script.specs.Grammar.{Phrase, SpellsTwo, SpellsPhrase, meaning, max_depth, IsShallow, IsAccepted}
 use Rattle.rx_script.specs.Grammar.{SpellsExpression}
 use Rattle.rx_script.proofs.ItemsAt.{Items, in_front, in_front-nil}

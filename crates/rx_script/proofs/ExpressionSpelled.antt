@@ -1,8 +1,7 @@
 -- Expressions: what is read is spelled so.
-use Rattle.std.proofs.Common.{◌≡◌, ◌≢◌, ℕ, suc, ◌+◌, ◌-◌, ◌<◌, Bool, eqb, ltb, List, [], ◌∷◌}
-use Rattle.std.proofs.Common.{◌++◌, length}
-use Rattle.std.proofs.Common.{Option, Some, None, Result, Ok, refl, sym, ap, subst, ◌∙◌, append_assoc, append-nil}
-use Rattle.std.proofs.Common.{arith, inl, inr}
+use Rattle.std.proofs.Common.{◌≡◌, ◌≢◌, ℕ, suc, ◌+◌, ◌-◌, ◌<◌, Bool, eqb, ltb, List, [], ◌∷◌, ◌++◌, length, Option}
+use Rattle.std.proofs.Common.{Some, None, Result, Ok, refl, sym, ap, subst, ◌∙◌, append_assoc, append-nil, arith, inl}
+use Rattle.std.proofs.Common.{inr}
 use Rattle.std.specs.Option.{option_to_list}
 use Rattle.std.proofs.lemmas.Bool.{cases_Bool, eqb-true, eqb-false, ltb-false}
 use Rattle.rx_spec.specs.Expressions.{Expression, min_len, depth, IsBounded}
@@ -16,8 +15,8 @@ use Rattle.rx_script.specs.declared.names.Head.{Head}
 use Rattle.rx_script.specs.Faults.{Fault, refused, needed, ◌>>=◌}
 use Rattle.rx_script.specs.Names.{head_name, head_of, look_name, look_of, greed_name, greed_of}
 use Rattle.rx_script.specs.Tokens.{bytes_of, set_of_word, number_of, most_of}
-use Rattle.rx_script.specs.Items.{taken, by_head, take_head, complete, take_word, with_item, items_at}
-use Rattle.rx_script.specs.Items.{shallow, finished, made_onto, single_of, expression_at}
+use Rattle.rx_script.specs.Items.{taken, by_head, take_head, complete, take_word, with_item, items_at, shallow}
+use Rattle.rx_script.specs.Items.{finished, made_onto, single_of, expression_at}
 use Rattle.rx_script.specs.Grammar.{SpellsNumber, SpellsMost, SpellsBytes, SpellsSet, Phrase, SpellsPhrase, meaning}
 use Rattle.rx_script.specs.Grammar.{max_depth, IsShallow, IsAccepted, SpellsExpression}
 use Rattle.rx_script.proofs.Faults.{bind_ok, ok_is, needed_then}

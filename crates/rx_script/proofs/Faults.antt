@@ -16,10 +16,6 @@ done x = Ok x
 pub ok_is : {A : Type 0} (x y : A) → done x ≡ done y → x ≡ y
 ok_is x y e = cc
 
-pub needed_ok : {A : Type 0} (n : ℕ) (kind : BadKind) (o : Option A) (x : A) → needed n kind o ≡ Ok x → o ≡ Some x
-needed_ok n kind None x e = absurd cc
-needed_ok n kind (Some y) x e = cc
-
 -- what was needed, and the step after it
 pub needed_then
     : {A B : Type 0} (n : ℕ) (kind : BadKind) (o : Option A) (f : A → Result B Fault) (y : B)

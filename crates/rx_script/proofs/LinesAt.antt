@@ -17,10 +17,6 @@ Read = Result Lines Fault
 abbrev pub in_front : List Expression → Read → Read
 in_front front read = read >>= λ x. Ok (front ++ x.0, x.1)
 
-in_front-nil : (read : Read) → in_front [] read ≡ read
-in_front-nil (Ok x) = refl
-in_front-nil (Err e) = refl
-
 in_front_more
     : (front : List Expression) (e : Expression) (read : Read)
     → in_front (front ++ e ∷ []) read ≡ in_front front (with_expr e read)
@@ -75,9 +71,6 @@ lines_expr w n (line ∷ tail) after e h =
 pub record ReadLines
     (w : Bool) (n : ℕ) (lines : List (List ℕ)) (front : List Expression) (whole : Read) : Type 0 where
   pub same : in_front front (lines_at w n lines) ≡ whole
-
-pub lines_begun : (w : Bool) (n : ℕ) (lines : List (List ℕ)) → ReadLines w n lines [] (lines_at w n lines)
-lines_begun w n lines = record { same = in_front-nil (lines_at w n lines) }
 
 pub turn_expr
     : {w : Bool} {n : ℕ} {lines after : List (List ℕ)} {e : Expression} {front : List Expression} {whole : Read}

@@ -1,6 +1,6 @@
 -- Modes: what is read is spelled so, and what is spelled so is read.
-use Rattle.std.proofs.Common.{◌≡◌, ℕ, Bool, true, false, eqb, leb, List, [], ◌∷◌, Option, Some, None}
-use Rattle.std.proofs.Common.{refl, sym, ap, subst, ◌∙◌, arith, inl, inr}
+use Rattle.std.proofs.lemmas.Grind.{common_steps}
+use Rattle.std.proofs.Common.{◌≡◌, ℕ, Bool, true, false, List, [], ◌∷◌, Option, Some, None, refl, ap, subst, ◌∙◌, arith}
 use Rattle.std.specs.Fmt.{decimal}
 use Rattle.std.proofs.lemmas.Bool.{cases_Bool, eqb-true, leb-true, le-leb}
 use Rattle.std.proofs.lemmas.Option.{same_Some, none-some, cond_some}
@@ -9,7 +9,7 @@ use Rattle.rx_base.specs.Search.{mode_of}
 use Rattle.rx_spec.specs.Causes.{max_id}
 use Rattle.rx_base.specs.declared.search.Anchored.{Anchored as Mode}
 use Rattle.rx_script.specs.Names.{anchored_of}
-use Rattle.rx_script.specs.Tokens.{number_of, pattern_mode, numbered_mode, mode_from, mode_word}
+use Rattle.rx_script.specs.Tokens.{number_of, numbered_mode, mode_from, mode_word}
 use Rattle.rx_script.specs.Grammar.{SpellsMode}
 use Rattle.rx_script.proofs.Tables.{anchored_spelled, anchored_read}
 use Rattle.rx_script.proofs.Numbers.{number_spelled, number_read}
@@ -19,17 +19,8 @@ Spelled word mode = SpellsMode (mode_of mode) word
 
 numbered_spelled : (word : List ℕ) (mode : Mode) → numbered_mode word ≡ Some mode → Spelled word mode
 numbered_spelled [] mode e = absurd cc
-numbered_spelled (c ∷ cs) mode e = elim (cases_Bool (eqb c 112)) [
-  | inl p ↦
-      subst (λ (x : ℕ). Spelled (x ∷ cs) mode) (sym (eqb-true c 112 p)) (on (number_of cs) refl (rw p at e))
-  | inr p ↦ absurd (none-some mode (rw p at e))
-] where
-  on : (o : Option ℕ) → number_of cs ≡ o → pattern_mode o ≡ Some mode → Spelled (112 ∷ cs) mode
-  on None q z = absurd cc
-  on (Some n) q z =
-      let c = cond_some (leb n max_id) (Mode.Pattern n) mode z in
-      let number = (number_spelled cs n q).1 in
-      subst (Spelled (112 ∷ cs)) c.1 (leb-true n max_id c.0, ap (λ (x : List ℕ). 112 ∷ x) number)
+numbered_spelled (c ∷ cs) mode e =
+    grind (arith, common_steps, cases_Bool, eqb-true, none-some, cond_some, number_spelled, leb-true)
 
 pub mode_spelled : (word : List ℕ) (mode : Mode) → mode_word word ≡ Some mode → SpellsMode (mode_of mode) word
 unfolding mode_word

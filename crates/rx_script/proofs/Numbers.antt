@@ -1,9 +1,7 @@
 -- Numbers: what is read is spelled so, and what is spelled so is read.
-use Rattle.std.proofs.Common.{◌≡◌, ◌≢◌, ◌⊎◌, inl, inr, ℕ, ◌^◌, ◌<◌, ◌≤◌, Bool, true, false, ◌&&◌, cond, eqb, ltb}
-use Rattle.std.proofs.Common.{List, [], ◌∷◌, length, get_or, Option, Some, None, refl, sym, ap, subst, ◌∙◌, arith}
-use Rattle.std.proofs.Common.{rules}
-use Rattle.std.specs.Prelude.{codes, option_map}
-use Rattle.std.specs.Str.{bytes_eq}
+use Rattle.std.proofs.lemmas.Grind.{common_steps}
+use Rattle.std.proofs.Common.{◌≡◌, ◌≢◌, ℕ, ◌^◌, ◌<◌, ◌≤◌, Bool, true, false, ◌&&◌, cond, eqb, ltb, List, [], ◌∷◌}
+use Rattle.std.proofs.Common.{length, get_or, Option, Some, None, refl, sym, ap, subst, ◌∙◌, arith, rules}
 use Rattle.std.specs.Fmt.{decimal}
 use Rattle.std.proofs.lemmas.Bool.{eqb-true, eqb-false, ltb-true, lt-ltb, and_parts, cases_Bool}
 use Rattle.std.proofs.lemmas.Option.{same_Some}
@@ -85,15 +83,7 @@ by_cases (c ∷ (e ∷ es)) d some lead = two (eqb c 48) refl where
   two false z = refl
 
 first_not_zero : (n : ℕ) → n < number_limit → 1 < length (decimal n) → get_or (decimal n) 0 0 ≢ 48
-first_not_zero n lt long e = elim (small_or n) [
-  | inl zero_is ↦
-      let one : length (decimal n) ≡ 1 =
-      ap (λ (x : ℕ). length (decimal x)) zero_is ∙ ap length (decimal_digit 0 (omega arith)) in
-      absurd (omega (arith, one, long))
-  | inr some ↦ let f = first_decimal n some (omega arith) in absurd (omega (arith, f, e))
-] where
-  small_or : (n : ℕ) → (n ≡ 0) ⊎ (0 < n)
-  small_or n = grind arith
+first_not_zero n lt long e = grind (arith, common_steps, decimal_digit, first_decimal)
 
 pub number_read : (word : List ℕ) (v : ℕ) → SpellsNumber v word → number_of word ≡ Some v
 number_read word v s =
@@ -107,23 +97,9 @@ number_read word v s =
 
 pub most_spelled : (word : List ℕ) (most : Option ℕ) → most_of word ≡ Some most → SpellsMost most word
 unfolding most_of
-most_spelled word most e = elim (cases_Bool (bytes_eq word (codes "inf"))) [
-  | inl h ↦
-      let none : None ≡ most = same_Some None most (rw h at e) in
-      subst (λ (m : Option ℕ). SpellsMost m word) none (same_word word (codes "inf") h)
-  | inr h ↦ on (number_of word) refl (rw h at e)
-] where
-  on : (o : Option ℕ) → number_of word ≡ o → option_map (λ n. Some n) o ≡ Some most → SpellsMost most word
-  on None p z = absurd cc
-  on (Some n) p z = subst (λ (m : Option ℕ). SpellsMost m word) (same_Some (Some n) most z) (number_spelled word n p)
+most_spelled word most e = grind (arith, common_steps, cases_Bool, same_Some, same_word, number_spelled)
 
 pub most_read : (word : List ℕ) (most : Option ℕ) → SpellsMost most word → most_of word ≡ Some most
 unfolding most_of
 most_read word None s = ap most_of s
-most_read word (Some n) s =
-    let read = number_read word n s in
-    let no_inf : number_of (codes "inf") ≡ None = refl in
-    let ne : word ≢ codes "inf" = λ e. clash (sym no_inf ∙ ap number_of (sym e) ∙ read) in
-    rw (other_word word (codes "inf") ne, read) refl where
-      clash : None ≡ Some n → ⊥
-      clash z = cc
+most_read word (Some n) s = grind (arith, common_steps, number_read, other_word)

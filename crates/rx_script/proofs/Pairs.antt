@@ -1,4 +1,5 @@
 -- Reading pairs of hexadecimal digits one after the other, as a loop does.
+use Rattle.std.proofs.lemmas.Grind.{common_steps}
 use Rattle.std.proofs.Common.{◌≡◌, ℕ, suc, ◌+◌, ◌<◌, ◌≤◌, List, [], ◌∷◌, ◌++◌, length, get_or, drop, Option, Some, None}
 use Rattle.std.proofs.Common.{refl, sym, ap, ◌∙◌, append_assoc, append-nil, drop-cons, arith}
 use Rattle.std.proofs.lemmas.List.{drop_all}
@@ -51,9 +52,7 @@ pairs_stop {word = word} {bytes = bytes} {at = at} so_far lt e =
 
 -- the end, with a digit left or none
 pub pairs_end : {word bytes : List ℕ} {at : ℕ} → ReadPairs word bytes at → length word ≤ at → Some bytes ≡ pairs_of word
-pairs_end {word = word} {bytes = bytes} {at = at} so_far le =
-    ap (λ (xs : List ℕ). Some xs) (sym (append-nil bytes))
-    ∙ ap (λ (xs : List ℕ). with_front bytes (pairs_of xs)) (sym (drop_all at word le)) ∙ so_far.same
+pairs_end {word = word} {bytes = bytes} {at = at} so_far le = grind (arith, common_steps, append-nil, drop_all)
 
 pub pairs_odd
     : {word bytes : List ℕ} {at : ℕ} → ReadPairs word bytes at → at < length word → length word ≤ at + 1

@@ -1,7 +1,8 @@
 -- The words of a plan line: what is read is spelled so, and what is spelled so is read.
+use Rattle.std.proofs.lemmas.Grind.{common_steps}
 use Rattle.std.proofs.Common.{◌≡◌, ◌≢◌, ℕ, zero, suc, ◌<◌, Bool, true, false, not, eqb, ltb, List, [], ◌∷◌, ◌++◌}
-use Rattle.std.proofs.Common.{length, get_or, set}
-use Rattle.std.proofs.Common.{Option, Some, None, refl, sym, ap, subst, ◌∙◌, append-nil, arith, inl, inr}
+use Rattle.std.proofs.Common.{length, get_or, set, Option, Some, None, refl, sym, ap, subst, ◌∙◌, append-nil, arith}
+use Rattle.std.proofs.Common.{inl, inr}
 use Rattle.std.specs.Prelude.{option_map, option_and_then}
 use Rattle.std.specs.List.{AllByRecursion, list_all}
 use Rattle.std.proofs.lemmas.Bool.{cases_Bool, eqb-true, ltb-true, not-true, both_ways, and_parts}
@@ -15,8 +16,7 @@ use Rattle.rx_script.specs.Names.{plan_name, all_plan_names, plan_name_of, start
 use Rattle.rx_script.specs.Tokens.{number_of, one_byte, set_of_word}
 use Rattle.rx_script.specs.Plans.{unplanned, name_of, chosen_by, with_word, bare_word, valued_word, with_value}
 use Rattle.rx_script.specs.Plans.{plan_word, number_of_name, place_of, unless_seen, plan_from, none_seen, plan_of}
-use Rattle.rx_script.specs.Grammar.{SpellsValue, SpellsWord, SpellsWords}
-use Rattle.rx_script.specs.Grammar.{AreDistinct, with_words, SpellsPlan}
+use Rattle.rx_script.specs.Grammar.{SpellsValue, SpellsWord, SpellsWords, AreDistinct, with_words, SpellsPlan}
 use Rattle.rx_script.proofs.Tables.{plan_name_spelled, plan_name_read, start_spelled, start_read}
 use Rattle.rx_script.proofs.Numbers.{number_spelled, number_read}
 use Rattle.rx_script.proofs.Bytes.{byte_spelled, byte_read}
@@ -165,10 +165,7 @@ each_at test (name ∷ names) (suc k) d all last =
     each_at test names k d (and_parts (test name) (list_all test names) all).1 last
 
 of_each : (test : PlanName → Bool) → list_all test all_plan_names ≡ true → (name : PlanName) → test name ≡ true
-of_each test all name =
-    let start = and_parts (test PlanName.Start) _ all in
-    subst (λ (n : PlanName). test n ≡ true) (at_place name)
-    (each_at test all_plan_names (number_of_name name) PlanName.Start all start.0)
+of_each test all name = grind (arith, common_steps, and_parts, at_place)
 
 -- no name has an equals sign
 abbrev is_plain : List ℕ → Bool
@@ -188,8 +185,7 @@ cut-valued (b ∷ bs) value plain =
 
 bare_read : (name : PlanName) → plan_word (plan_name name) ≡ bare_word name
 unfolding plan_word
-bare_read name =
-    rw (cut-plain (plan_name name) (of_each (λ n. is_plain (plan_name n)) refl name), plan_name_read name) refl
+bare_read name = grind (arith, common_steps, cut-plain, of_each, plan_name_read)
 
 valued_read
     : (name : PlanName) (value : List ℕ) → plan_word (plan_name name ++ 61 ∷ value) ≡ valued_word name value
@@ -254,8 +250,7 @@ place_small : (name : PlanName) → number_of_name name < 16
 place_small name = ltb-true _ _ (of_each (λ n. ltb (number_of_name n) 16) refl name)
 
 same_place : (name other : PlanName) → number_of_name name ≡ number_of_name other → name ≡ other
-same_place name other e =
-    sym (at_place name) ∙ ap (λ (n : ℕ). get_or all_plan_names n PlanName.Start) e ∙ at_place other
+same_place name other e = grind (arith, common_steps, at_place)
 
 abbrev IsUnseen : List Bool → PlanWord → Type 0
 IsUnseen seen word = get_or seen (place_of word) false ≡ false

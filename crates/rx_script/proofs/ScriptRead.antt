@@ -1,10 +1,11 @@
 -- Scripts: what is spelled so is read.
-use Rattle.std.proofs.Common.{◌≡◌, ℕ, ◌+◌, ◌≤◌, Bool, true, false, List, [], ◌∷◌, ◌++◌, length, map}
-use Rattle.std.proofs.Common.{Option, Some, None, Result, Ok, refl, sym, ap, ◌∙◌}
+use Rattle.std.proofs.Common.{arith, ◌≡◌, ℕ, ◌+◌, ◌≤◌, Bool, true, false, List, [], ◌∷◌, ◌++◌, length, map, Option}
+use Rattle.std.proofs.Common.{Some, None, Result, Ok, refl, sym, ap, ◌∙◌}
+use Rattle.std.proofs.lemmas.Grind.{common_steps}
 use Rattle.std.specs.List.{AllByRecursion}
 use Rattle.std.proofs.lemmas.Bool.{le-leb, and_from}
 use Rattle.rx_spec.specs.Expressions.{Expression}
-use Rattle.rx_spec.specs.Queries.{Anchored, Query}
+use Rattle.rx_spec.specs.Queries.{Query}
 use Rattle.rx_base.specs.Search.{mode_of}
 use Rattle.rx_script.specs.declared.names.LineKind.{LineKind}
 use Rattle.rx_script.specs.declared.plan_words.Choices.{Choices}
@@ -12,12 +13,10 @@ use Rattle.rx_script.specs.declared.script.Asked.{Asked}
 use Rattle.rx_script.specs.Names.{line_name}
 use Rattle.rx_script.specs.Tokens.{number_of, mode_word}
 use Rattle.rx_script.specs.Grammar.{IsLine, line_text, SpellsExpression, Headed, SpellsPlan, SpellsPlanLines}
-use Rattle.rx_script.specs.Grammar.{SpellsExprs}
-use Rattle.rx_script.specs.Grammar.{SpellsQuery, SpellsAsked, Spelled, Spells}
+use Rattle.rx_script.specs.Grammar.{SpellsExprs, SpellsQuery, SpellsAsked, Spelled, Spells}
 use Rattle.rx_script.specs.Faults.{Fault, ◌>>=◌}
 use Rattle.rx_script.specs.Reading.{kind_of, others_of, line_at, input_words, fits, query_of, asked_at, hay_at}
-use Rattle.rx_script.specs.Reading.{input_at}
-use Rattle.rx_script.specs.Reading.{next_at, Lines, with_expr, lines_at, plan_at, planned, script_of}
+use Rattle.rx_script.specs.Reading.{input_at, next_at, Lines, with_expr, lines_at, plan_at, planned, script_of}
 use Rattle.rx_script.proofs.Tables.{line_read}
 use Rattle.rx_script.proofs.Numbers.{number_read}
 use Rattle.rx_script.proofs.Bytes.{bytes_read}
@@ -44,11 +43,7 @@ record IsSpanOf (asked : Asked) (q : Query) : Type 0 where
   mode : mode_of asked.mode ≡ q.mode
 
 same_query : {asked : Asked} {q : Query} → IsSpanOf asked q → q.earliest ≡ false → query_of asked q.haystack ≡ q
-same_query {asked = asked} {q = q} s whole =
-    ap (λ (x : ℕ). record (query_of asked q.haystack) { start = x }) s.start
-    ∙ ap (λ (x : ℕ). record (query_of asked q.haystack) { start = q.start; end = x }) s.end
-    ∙ ap (λ (x : Anchored). record q { mode = x; earliest = false }) s.mode
-    ∙ ap (λ (x : Bool). record q { earliest = x }) (sym whole)
+same_query {asked = asked} {q = q} s whole = grind (arith, common_steps)
 
 span_fits
     : {asked : Asked} {q : Query} → IsSpanOf asked q → q.end ≤ length q.haystack → q.start ≤ q.end + 1

@@ -1,7 +1,7 @@
 -- Scripts: what is read is spelled so.
-use Rattle.std.proofs.Common.{◌≡◌, ◌⊎◌, inl, inr, ℕ, ◌+◌, ◌<◌, Bool, true, false, cond, leb, List, [], ◌∷◌}
-use Rattle.std.proofs.Common.{◌++◌, length, map}
-use Rattle.std.proofs.Common.{Option, Some, None, Ok, refl, sym, ap, subst, ◌∙◌, arith}
+use Rattle.std.proofs.lemmas.Grind.{common_steps}
+use Rattle.std.proofs.Common.{◌≡◌, ◌⊎◌, inl, inr, ℕ, ◌+◌, ◌<◌, Bool, true, false, cond, leb, List, [], ◌∷◌, ◌++◌}
+use Rattle.std.proofs.Common.{length, map, Option, Some, None, Ok, refl, sym, ap, subst, ◌∙◌, arith}
 use Rattle.std.specs.List.{AllByRecursion}
 use Rattle.std.proofs.lemmas.Bool.{leb-true, and_parts}
 use Rattle.std.proofs.lemmas.Option.{same_Some}
@@ -19,15 +19,13 @@ use Rattle.rx_script.specs.Names.{line_name, line_kind}
 use Rattle.rx_script.specs.Tokens.{number_of, mode_word}
 use Rattle.rx_script.specs.Plans.{unplanned, plan_of}
 use Rattle.rx_script.specs.Grammar.{IsLine, line_text, lines_text, SpellsNumber, SpellsMode, SpellsBytes}
-use Rattle.rx_script.specs.Grammar.{SpellsExpression}
-use Rattle.rx_script.specs.Grammar.{Headed, SpellsPlan, SpellsPlanLines, SpellsExprs, SpellsQuery, SpellsAsked}
-use Rattle.rx_script.specs.Grammar.{Spelled, Spells}
+use Rattle.rx_script.specs.Grammar.{SpellsExpression, Headed, SpellsPlan, SpellsPlanLines, SpellsExprs, SpellsQuery}
+use Rattle.rx_script.specs.Grammar.{SpellsAsked, Spelled, Spells}
 use Rattle.rx_script.specs.Faults.{refused, ◌>>=◌}
 use Rattle.rx_script.specs.Items.{expression_at}
 use Rattle.rx_script.specs.Reading.{kind_of, others_of, line_at, asked_of, input_words, hay_words, nothing_at, fits}
-use Rattle.rx_script.specs.Reading.{query_of}
-use Rattle.rx_script.specs.Reading.{asked_at, hay_kind, hay_at, input_at, Next, next_kind, ended, next_at, Lines}
-use Rattle.rx_script.specs.Reading.{read_after, lines_at, spelled, plan_kind, plan_at, planned, script_of}
+use Rattle.rx_script.specs.Reading.{query_of, asked_at, hay_kind, hay_at, input_at, Next, next_kind, ended, next_at}
+use Rattle.rx_script.specs.Reading.{Lines, read_after, lines_at, spelled, plan_kind, plan_at, planned, script_of}
 use Rattle.rx_script.proofs.Faults.{bind_ok, ok_is, needed_then, passed}
 use Rattle.rx_script.proofs.Tables.{line_spelled}
 use Rattle.rx_script.proofs.Numbers.{number_spelled}
@@ -78,10 +76,7 @@ headed {kind = kind} {others = others} P t p =
 
 nothing_spelled : (n : ℕ) (lines : List (List ℕ)) → nothing_at n lines ≡ Ok tt → lines ≡ []
 nothing_spelled n [] e = refl
-nothing_spelled n (line ∷ lines) e =
-    absurd (clash (bind_ok (line_at n line) (λ read. refused n BadKind.Order) tt e).2) where
-      clash : refused {A = Unit {0}} n BadKind.Order ≡ Ok tt → ⊥
-      clash z = cc
+nothing_spelled n (line ∷ lines) e = grind (arith, common_steps, bind_ok)
 
 -- three words that spell a span and a mode
 record SpellsSpan (asked : Asked) (words : List (List ℕ)) : Type 0 where

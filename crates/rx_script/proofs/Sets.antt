@@ -1,7 +1,7 @@
 -- Sets of bytes: what is read is spelled so, and what is spelled so is read.
-use Rattle.std.proofs.Common.{◌≡◌, ◌≢◌, inl, inr, ℕ, ◌<◌, false, eqb, leb, bit_or, List, [], ◌∷◌}
-use Rattle.std.proofs.Common.{◌++◌}
-use Rattle.std.proofs.Common.{length, Option, Some, None, refl, sym, ap, subst, ◌∙◌, append-nil, arith}
+use Rattle.std.proofs.lemmas.Grind.{common_steps}
+use Rattle.std.proofs.Common.{◌≡◌, ◌≢◌, inl, inr, ℕ, ◌<◌, false, eqb, leb, bit_or, List, [], ◌∷◌, ◌++◌, length, Option}
+use Rattle.std.proofs.Common.{Some, None, refl, sym, ap, subst, ◌∙◌, append-nil, arith}
 use Rattle.std.specs.Prelude.{codes, option_and_then}
 use Rattle.std.specs.List.{AllByRecursion, join_with_byte, slice_split}
 use Rattle.std.specs.Str.{bytes_eq}
@@ -11,8 +11,8 @@ use Rattle.std.proofs.lemmas.List.Elements.{All-from_recursion}
 use Rattle.std.proofs.lemmas.List.Splits.{slice_split_none, slice_split_at, join_with_byte-slice_split}
 use Rattle.rx_spec.specs.Bytes.{between}
 use Rattle.rx_script.specs.Tokens.{byte_of, single, ordered, range_of, ranges_from, set_of_word}
-use Rattle.rx_script.specs.Grammar.{SpellsDigit, SpellsByte, SpellsDashed, SpellsRange, SpellsRanges}
-use Rattle.rx_script.specs.Grammar.{SpellsSet, with_range, union_onto}
+use Rattle.rx_script.specs.Grammar.{SpellsDigit, SpellsByte, SpellsDashed, SpellsRange, SpellsRanges, SpellsSet}
+use Rattle.rx_script.specs.Grammar.{with_range, union_onto}
 use Rattle.rx_script.proofs.Cut.{some_piece}
 use Rattle.rx_script.proofs.Tables.{same_word, other_word}
 use Rattle.rx_script.proofs.Bytes.{pair_spelled, pair_read}
@@ -23,11 +23,7 @@ byte_word : (h l b : ℕ) → byte_of h l ≡ Some b → SpellsByte b (h ∷ (l 
 byte_word h l b e = record { high = h; low = l; digits = pair_spelled h l b e; word_is = refl }
 
 one_spelled : (h l : ℕ) (r : ℕ × ℕ) → single (byte_of h l) ≡ Some r → SpellsRange r (h ∷ (l ∷ []))
-one_spelled h l r e = on (byte_of h l) refl e where
-  on : (o : Option ℕ) → byte_of h l ≡ o → single o ≡ Some r → SpellsRange r (h ∷ (l ∷ []))
-  on None p z = absurd cc
-  on (Some b) p z =
-      subst (λ (x : ℕ × ℕ). SpellsRange x (h ∷ (l ∷ []))) (same_Some (b, b) r z) (inl (byte_word h l b p, refl))
+one_spelled h l r e = grind (arith, common_steps, same_Some, byte_word)
 
 two_spelled
     : (h l h' l' : ℕ) (r : ℕ × ℕ) → ordered (byte_of h l) (byte_of h' l') ≡ Some r
@@ -74,8 +70,7 @@ dashed_is s =
     ∙ ap (λ (x : List ℕ). s.first_spelled.high ∷ (s.first_spelled.low ∷ (45 ∷ x))) s.last_spelled.word_is
 
 range_read : (piece : List ℕ) (r : ℕ × ℕ) → SpellsRange r piece → range_of piece ≡ Some r
-range_read piece r (inl (s, same)) =
-    ap range_of s.word_is ∙ rw (pair_read s.high s.low r.0 s.digits) (ap (λ (x : ℕ). Some (r.0, x)) (sym same))
+range_read piece r (inl (s, same)) = grind (arith, common_steps, pair_read)
 range_read piece r (inr s) =
     let a = s.first_spelled in
     let b = s.last_spelled in
@@ -148,11 +143,7 @@ no_byte_comma rest s more =
 
 no_comma : (r : ℕ × ℕ) (piece : List ℕ) → SpellsRange r piece → NoComma piece
 no_comma r piece (inl (s, same)) = subst NoComma (sym s.word_is) (no_byte_comma [] s tt)
-no_comma r piece (inr s) =
-    let last = s.last_spelled in
-    let tail = 45 ∷ (last.high ∷ (last.low ∷ [])) in
-    subst NoComma (sym (dashed_is s))
-    (no_byte_comma tail s.first_spelled (refl, no_byte_comma [] last tt))
+no_comma r piece (inr s) = grind (arith, common_steps)
 
 pieces_again
     : (ranges : List (ℕ × ℕ)) (pieces : List (List ℕ)) → 0 < length pieces → SpellsRanges ranges pieces
@@ -173,13 +164,8 @@ first_or [] = 0
 first_or (c ∷ cs) = c
 
 first_digit : (r : ℕ × ℕ) (piece more : List ℕ) → SpellsRange r piece → piece ++ more ≢ codes "none"
-first_digit r piece more (inl (s, same)) e =
-    let first : s.high ≡ 110 = ap first_or (ap (λ (x : List ℕ). x ++ more) (sym s.word_is) ∙ e) in
-    omega (arith, first, (code_bound s.high s.digits.0 s.digits.2).1)
-first_digit r piece more (inr s) e =
-    let a = s.first_spelled in
-    let first : a.high ≡ 110 = ap first_or (ap (λ (x : List ℕ). x ++ more) (sym (dashed_is s)) ∙ e) in
-    omega (arith, first, (code_bound a.high a.digits.0 a.digits.2).1)
+first_digit r piece more (inl (s, same)) e = grind (arith, common_steps, code_bound)
+first_digit r piece more (inr s) e = grind (arith, common_steps, code_bound)
 
 not_none
     : (ranges : List (ℕ × ℕ)) (pieces : List (List ℕ)) → 0 < length pieces → SpellsRanges ranges pieces

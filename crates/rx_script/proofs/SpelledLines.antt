@@ -1,7 +1,7 @@
 -- Lines and words: what is read is spelled so, and what is spelled so is read.
+use Rattle.std.proofs.lemmas.Grind.{common_steps}
 use Rattle.std.proofs.Common.{◌≡◌, ◌⊎◌, inl, inr, ℕ, ◌<◌, Bool, true, false, not, ◌&&◌, cond, eqb, leb, List, [], ◌∷◌}
-use Rattle.std.proofs.Common.{◌++◌}
-use Rattle.std.proofs.Common.{length, map, refl, sym, ap, subst, ◌∙◌, append_assoc, append-nil, arith}
+use Rattle.std.proofs.Common.{◌++◌, length, map, refl, sym, ap, subst, ◌∙◌, append_assoc, append-nil, arith}
 use Rattle.std.specs.List.{AllByRecursion, join_with_byte, slice_split, onto_first}
 use Rattle.std.proofs.lemmas.Bool.{eqb-true, leb-true, le-leb, ne_eqb, and_parts, not-true, both_ways}
 use Rattle.std.proofs.lemmas.List.Elements.{All-from_recursion}
@@ -134,9 +134,7 @@ first_line line rest none =
 
 last_line : (line : List ℕ) → AllByRecursion (λ x. eqb x 10 ≡ false) line → 0 < length line → lines_of line ≡ line ∷ []
 last_line [] none some = absurd (omega arith)
-last_line (b ∷ bs) none some =
-    lines_trimmed (b ∷ bs)
-    ∙ ap trimmed (slice_split_none (λ x. eqb x 10) (b ∷ bs) (All-from_recursion _ (b ∷ bs) none))
+last_line (b ∷ bs) none some = grind (arith, common_steps, lines_trimmed, trimmed, slice_split_none)
 
 pub each-append
     : {A : Type 0} (P : A → Type 0) (xs ys : List A) → AllByRecursion P xs → AllByRecursion P ys

@@ -9,9 +9,8 @@ use Rattle.rx_spec.specs.declared.StartKind.{StartKind}
 use Rattle.rx_script.specs.declared.names.LineKind.{LineKind}
 use Rattle.rx_script.specs.declared.names.Head.{Head}
 use Rattle.rx_script.specs.declared.names.PlanName.{PlanName}
-use Rattle.rx_script.specs.Names.{named, line_name, all_lines, line_kind, head_name, all_heads, head_of}
-use Rattle.rx_script.specs.Names.{look_name, all_looks, look_of, greed_name, truths, greed_of, anchored_name}
-use Rattle.rx_script.specs.Names.{anchored_of}
+use Rattle.rx_script.specs.Names.{named, line_name, all_lines, line_kind, head_name, all_heads, head_of, look_name}
+use Rattle.rx_script.specs.Names.{all_looks, look_of, greed_name, truths, greed_of, anchored_name, anchored_of}
 use Rattle.rx_script.specs.Names.{plan_name, all_plan_names, plan_name_of, start_name, all_starts, start_of}
 
 -- a word that is another, and one that isn't

@@ -1,4 +1,5 @@
 -- What a call of an overlapping search adds to a set of patterns.
+use Rattle.std.proofs.lemmas.Grind.{common_steps}
 use Rattle.std.proofs.Common.{◌≡◌, ◌<◌, ◌||◌, Bool, true, false, if◌then◌else◌, Option, Some, None, Result, Ok, Err}
 use Rattle.std.proofs.Common.{List, [], ◌∷◌, length, refl, ap, sym, ◌∙◌, arith}
 use Rattle.std.specs.Prelude.{slice_set, IsTrue, ◌↔◌}
@@ -7,7 +8,7 @@ use Rattle.rx_spec.specs.Queries.{HalfMatch, MatchError}
 use Rattle.rx_spec.specs.Overlapping.{Item, Ending, OverlappingMatches}
 use Rattle.rx_base.specs.PatternSet.{pattern_count}
 use Rattle.rx_search.specs.Collected.{Collected, is_full, ending_result, collected}
-use Rattle.rx_search.specs.OverlappingCalls.{Call, item_call}
+use Rattle.rx_search.specs.OverlappingCalls.{item_call}
 use Rattle.rx_search.proofs.OverlapSplits.{IsCall, first_item}
 
 -- what is collected of all that is left
@@ -36,34 +37,15 @@ module _ (earliest : Bool) (set : List Bool) {result : Result (Unit {0}) MatchEr
   error_of_items : (items : List Item) (ending : Ending) (error : MatchError) → result ≡ Err error
       → record { result = result; told = told; left = after } ≡ item_call items ending
       → collected earliest items ending set ≡ record { result = Err error; set = set }
-  error_of_items [] ending error r e =
-      collected-nil earliest ending set
-      ∙ ap (λ (r : Result (Unit {0}) MatchError). record { result = r; set = set })
-      (same ending ∙ sym (ap (λ (c : Call). c.result) e) ∙ r)
-    where
-      same : (ending : Ending) → ending_result ending ≡ (item_call [] ending).result
-      same Ending.Ended = refl
-      same (Ending.Quits byte offset) = refl
-      same (Ending.Refused error) = refl
-  error_of_items (Item.Reported h ∷ items) ending error r e =
-      let no : Ok tt ≡ Err error = sym (ap (λ (c : Call). c.result) e) ∙ r in absurd (cc)
-  error_of_items (Item.Skipped ∷ items) ending error r e =
-      let no : Ok tt ≡ Err error = sym (ap (λ (c : Call). c.result) e) ∙ r in absurd (cc)
+  error_of_items [] ending error r e = grind (arith, common_steps, collected-nil)
+  error_of_items (Item.Reported h ∷ items) ending error r e = grind (arith, common_steps)
+  error_of_items (Item.Skipped ∷ items) ending error r e = grind (arith, common_steps)
 
   none_of_items : (items : List Item) (ending : Ending) → result ≡ Ok tt → told ≡ None
       → record { result = result; told = told; left = after } ≡ item_call items ending
       → collected earliest items ending set ≡ record { result = Ok tt; set = set }
-  none_of_items [] ending r t e =
-      collected-nil earliest ending set
-      ∙ ap (λ (r : Result (Unit {0}) MatchError). record { result = r; set = set })
-      (same ending ∙ sym (ap (λ (c : Call). c.result) e) ∙ r)
-    where
-      same : (ending : Ending) → ending_result ending ≡ (item_call [] ending).result
-      same Ending.Ended = refl
-      same (Ending.Quits byte offset) = refl
-      same (Ending.Refused error) = refl
-  none_of_items (Item.Reported h ∷ items) ending r t e =
-      let no : Some h ≡ None = sym (ap (λ (c : Call). c.told) e) ∙ t in absurd (cc)
+  none_of_items [] ending r t e = grind (arith, common_steps, collected-nil)
+  none_of_items (Item.Reported h ∷ items) ending r t e = grind (arith, common_steps)
   none_of_items (Item.Skipped ∷ items) ending r t e = collected-skipped earliest items ending set
 
 module _ (earliest : Bool) (set : List Bool) {before : OverlappingMatches} {result : Result (Unit {0}) MatchError}
@@ -120,5 +102,4 @@ full_is set is e = eq-eqb (pattern_count set) (length set) (is.0 e)
 
 pub open_is : (set : List Bool) {full : Bool} → (IsTrue full ↔ (pattern_count set ≡ length set)) → full ≡ false
     → is_full set ≡ false
-open_is set {full} is e =
-    ne_eqb (pattern_count set) (length set) (λ same. let no : true ≡ false = sym (is.1 same) ∙ e in absurd (cc))
+open_is set {full} is e = grind (arith, common_steps, ne_eqb)

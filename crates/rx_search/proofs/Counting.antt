@@ -1,22 +1,21 @@
 -- What a turn and a skip add to the units that are counted.
-use Rattle.std.proofs.Common.{◌≡◌, ℕ, ◌+◌, ◌≤◌, ◌==◌, ◌||◌, ◌&&◌, Bool, true, false, if◌then◌else◌, Some, Ok}
-use Rattle.std.proofs.Common.{◌≢◌, List, [], ◌∷◌, length, refl, ap, sym, ◌∙◌, subst, arith, drop}
+use Rattle.std.proofs.lemmas.Grind.{common_steps}
+use Rattle.std.proofs.Common.{◌≡◌, ℕ, ◌+◌, ◌≤◌, ◌||◌, Bool, true, false, if◌then◌else◌, Some, Ok, ◌≢◌, List, [], ◌∷◌}
+use Rattle.std.proofs.Common.{length, refl, ap, sym, ◌∙◌, arith, drop}
 use Rattle.std.proofs.lemmas.Bool.{or_right, eqb-true, eqb-false}
 use Rattle.rx_spec.specs.Bytes.{AreBytes}
 use Rattle.rx_spec.specs.Queries.{Query}
 use Rattle.rx_spec.specs.Machines.{Label}
-use Rattle.rx_spec.specs.Tables.{Table, is_match, is_match_label}
+use Rattle.rx_spec.specs.Tables.{Table}
 use Rattle.rx_spec.specs.HalfSearches.{next_offset}
 use Rattle.rx_spec.specs.declared.Direction.{Direction}
-use Rattle.rx_search.specs.Labels.{is_quit, is_quit_label}
 use Rattle.rx_search.specs.Needles.{is_nil, byte_ahead, is_read, Skips}
-use Rattle.rx_search.specs.Walks.{last_offset, units_left, unit_ahead}
+use Rattle.rx_search.specs.Walks.{last_offset, units_left}
 use Rattle.rx_search.specs.Counted.{ends_at, counts, IsReady, counted, counted_on}
 use Rattle.lemmas_walks.proofs.Firsts.{by_test}
 use Rattle.rx_search.proofs.Standing.{Standing}
 use Rattle.rx_search.proofs.Walks.{Place, units_left-more, units_left-last, next_place, byte_there, IsQuiet, Turn}
-use Rattle.rx_search.proofs.Walks.{loops, unread_alive}
-use Rattle.rx_search.proofs.Walks.{Step, step_units, step_after, LastStep, last_units, skip_keeps}
+use Rattle.rx_search.proofs.Walks.{loops, unread_alive, Step, step_units, step_after, LastStep, last_units, skip_keeps}
 
 pub counted-nil : (t : Table) (earliest : Bool) (row : ℕ) → counted t earliest row [] ≡ 0
 unfolding counted
@@ -31,16 +30,12 @@ counted-cons t earliest row unit units = refl
 
 -- a walk doesn't end at a quiet row
 pub quiet_goes_on : {t : Table} {row : ℕ} (earliest : Bool) → IsQuiet t row → ends_at t earliest row ≡ false
-quiet_goes_on {t} {row} earliest is =
-    ap (λ (dead : Bool). dead || is_quit t row || (is_match t row && earliest)) is.alive
-    ∙ ap (λ (label : Label). false || is_quit_label label || (is_match_label label && earliest)) is.plain
+quiet_goes_on {t} {row} earliest is = grind (arith, common_steps)
 
 -- nor at a match row, where the last match is searched for
 pub match_goes_on : (t : Table) (row : ℕ) {ks : List ℕ} → t.machine.label row ≡ Label.Matches ks
     → t.machine.is_dead row ≡ false → ends_at t false row ≡ false
-match_goes_on t row {ks} label alive =
-    ap (λ (dead : Bool). dead || is_quit t row || (is_match t row && false)) alive
-    ∙ ap (λ (l : Label). false || is_quit_label l || (is_match_label l && false)) label
+match_goes_on t row {ks} label alive = grind (arith, common_steps)
 
 module _ (t : Table) (earliest : Bool) {row unit next : ℕ} (turn : Turn t row unit next) (units : List ℕ) where
   abbrev count_on : Bool → Bool → ℕ → ℕ
@@ -50,22 +45,11 @@ module _ (t : Table) (earliest : Bool) {row unit next : ℕ} (turn : Turn t row 
   pub counted-one : counts t row unit units ≡ true
       → counted t earliest row (unit ∷ units)
       ≡ 1 + (if ends_at t earliest next then 0 else counted t earliest next units)
-  counted-one one =
-      counted-cons t earliest row unit units
-      ∙ ap (λ (n : ℕ). count_on (counts t row unit units) (ends_at t earliest n) n) (sym turn.leads)
-      ∙ ap (λ (b : Bool). count_on b (ends_at t earliest next) next) one
+  counted-one one = grind (arith, common_steps, counted-cons)
 
   pub counted-none : counts t row unit units ≡ false → ends_at t earliest next ≡ false
       → counted t earliest row (unit ∷ units) ≡ counted t earliest next units
-  counted-none none on =
-      counted-cons t earliest row unit units
-      ∙ ap (λ (n : ℕ). count_on (counts t row unit units) (ends_at t earliest n) n) (sym turn.leads)
-      ∙ ap (λ (b : Bool). count_on b (ends_at t earliest next) next) none
-      ∙ ap (λ (b : Bool). count_on false b next) on
-      ∙ zero_more (counted t earliest next units)
-    where
-      zero_more : (n : ℕ) → 0 + n ≡ n
-      zero_more n = omega arith
+  counted-none none on = grind (arith, common_steps, counted-cons)
 
 -- no unit counts more than once
 pub counted_few : (t : Table) (earliest : Bool) (row : ℕ) (units : List ℕ)
@@ -86,11 +70,7 @@ counted_few t earliest row (unit ∷ units) =
 -- the next unit counts
 some_counted : (t : Table) (earliest : Bool) (row unit : ℕ) (units : List ℕ) → counts t row unit units ≡ true
     → 1 ≤ counted t earliest row (unit ∷ units)
-some_counted t earliest row unit units one =
-    let later = if ends_at t earliest (t.machine.next row unit) then 0
-    else counted t earliest (t.machine.next row unit) units in
-    let sum = counted-cons t earliest row unit units ∙ ap (λ (b : Bool). (if b then 1 else 0) + later) one in
-    omega (arith, sum)
+some_counted t earliest row unit units one = grind (arith, common_steps, counted-cons)
 
 pub read_counts : (t : Table) (row unit : ℕ) (units : List ℕ)
     → is_read t row unit ≡ true → counts t row unit units ≡ true
@@ -103,16 +83,11 @@ pub ready_counts : (t : Table) (direction : Direction) (earliest : Bool) (row : 
     → Place q offset → offset ≢ last_offset direction q → IsReady t direction q row offset
     → 1 ≤ counted t earliest row (units_left direction q offset)
 ready_counts t direction earliest row {q} {offset} place more is_ready =
-    let unit = byte_ahead direction q.haystack offset in
-    let later = units_left direction q (next_offset direction offset) in
-    subst (λ (us : List ℕ). 1 ≤ counted t earliest row us) (sym (units_left-more direction place more))
-    (some_counted t earliest row unit later (read_counts t row unit later (is_ready more)))
+    grind (arith, common_steps, units_left-more, some_counted, read_counts)
 
 pub last_counts : (t : Table) (direction : Direction) (earliest : Bool) (row : ℕ) (q : Query) → q.start ≤ q.end
     → q.end ≤ length q.haystack → 1 ≤ counted t earliest row (units_left direction q (last_offset direction q))
-last_counts t direction earliest row q order fits =
-    subst (λ (us : List ℕ). 1 ≤ counted t earliest row us) (sym (units_left-last direction q order fits))
-    (some_counted t earliest row (unit_ahead direction q.haystack (last_offset direction q)) [] refl)
+last_counts t direction earliest row q order fits = grind (arith, common_steps, units_left-last, some_counted)
 
 -- ---- turns of a search
 
@@ -176,10 +151,7 @@ last_match_counted {t} {direction} {q} {row} {unit} {next} s =
 some_left : (direction : Direction) (q : Query) (offset : ℕ) → q.start ≤ q.end → Place q offset
     → is_nil (units_left direction q offset) ≡ false
 some_left direction q offset order p =
-    by_test (offset == last_offset direction q)
-    (λ e. ap (λ (o : ℕ). is_nil (units_left direction q o)) (eqb-true offset (last_offset direction q) e)
-    ∙ ap is_nil (units_left-last direction q order p.fits))
-    (λ e. ap is_nil (units_left-more direction p (eqb-false offset (last_offset direction q) e)))
+    grind (arith, common_steps, by_test, eqb-true, units_left-last, units_left-more, eqb-false)
 
 pub skip_counts : {t : Table} {row : ℕ} (earliest : Bool) (direction : Direction) (q : Query) → Standing t row
     → (t.machine.is_dead row ≡ false → ends_at t earliest row ≡ false)

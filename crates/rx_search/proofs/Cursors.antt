@@ -1,5 +1,7 @@
 -- What a search knows of its table: a cursor keeps the table that it was made for, and so its rows and their ids.
-use Rattle.std.proofs.Common.{◌≡◌, ℕ, ◌<◌, Bool, true, Some, Ok, List, length, slice_index, sym, ◌∙◌, subst}
+use Rattle.std.proofs.Common.{arith, rules, ◌≡◌, ℕ, ◌<◌, Bool, true, Some, Ok, List, length, slice_index, sym, ◌∙◌}
+use Rattle.std.proofs.Common.{subst}
+use Rattle.std.proofs.lemmas.Grind.{common_steps}
 use Rattle.rx_spec.specs.Ids.{AreIds, row_of}
 use Rattle.rx_spec.specs.Queries.{Query}
 use Rattle.rx_spec.specs.Tables.{Table, IsSound, is_match}
@@ -46,18 +48,14 @@ module _ {A : Type 0} (table : A → Table) (ids : A → List ℕ) where
       → from' ≡ from → Skips (table other) direction q (row_of (ids other) id) from' to
       → Skips (table first) direction q (row_of (ids first) id) from to
   skips_at {first} {other} {direction} {q} id {from} {from'} {to} same same_from skips =
-      subst (λ (f : ℕ). Skips (table first) direction q (row_of (ids first) id) f to) same_from
-      (row_at (λ t row. Skips t direction q row from' to) id same skips)
+      grind (arith, common_steps, row_at)
 
   -- a turn of a cursor
   pub turned : {first here there : A} → Held (table first) (ids first) → (id next : ℕ) {unit : ℕ} → here ≡ first
       → there ≡ first → IsId (ids there) next
       → row_of (ids here) next ≡ (table here).machine.next (row_of (ids here) id) unit
       → Turn (table first) (row_of (ids first) id) unit (row_of (ids first) next)
-  turned held id next {unit} same same_next is leads = record {
-    leads = at_same (λ t i. row_of i next ≡ t.machine.next (row_of i id) unit) same leads;
-    standing = held_row held next (at_same (λ t i. IsId i next) same_next is);
-  }
+  turned held id next {unit} same same_next is leads = grind (arith, common_steps, at_same, standing, held_row)
 
   -- A walk from a row and an offset has led a cursor to the id of a match row, and to an offset.
   pub record Reached (first there : A) (direction : Direction) (q : Query) (row from next offset : ℕ) : Type 0 where
@@ -75,17 +73,7 @@ module _ {A : Type 0} (table : A → Table) (ids : A → List ℕ) where
       (Ok (Some offset))
       → Reached first there direction q row from next offset
   reached {first} {here} {there} {direction} {q} {row} {from} {next} {offset} held same same_next is stops =
-      let is_id : IsId (ids first) next = at_same (λ t i. IsId i next) same_next is in
-      let told = at_same (λ t i. StopsAt t direction q from (row_of i next)
-      (next_stop t.machine direction (row_of i row) from (units_left direction q from)) (Ok (Some offset)))
-      same stops in
-      record {
-        stops = told.0;
-        met = told.1;
-        standing = held_row held next is_id;
-        is_id = is_id;
-        same = same_next;
-      }
+      search (rules, at_same, standing, held_row)
 
   module _ {first there : A} {direction : Direction} {q : Query} {row from next offset : ℕ}
       (r : Reached first there direction q row from next offset) where

@@ -1,4 +1,5 @@
 -- Four walks over a block: what a byte of each part adds, and how one walk over the block follows from them.
+use Rattle.std.proofs.lemmas.Grind.{common_steps}
 use Rattle.std.proofs.Common.{◌≡◌, ℕ, ◌+◌, ap, ◌∙◌, arith, List, slice_index}
 use Rattle.rx_spec.specs.Ids.{row_of}
 use Rattle.rx_spec.specs.Tables.{Table}
@@ -10,15 +11,7 @@ use Rattle.rx_search.proofs.Passing.{leads_none, leads_more, leads_through}
 
 module _ {t : Table} {ids haystack : List ℕ} {from : ℕ} where
   pub walks_none : (entries : Rows) → AreWalks t ids haystack from 0 entries entries
-  walks_none entries = record {
-    first = none entries.first from;
-    second = none entries.second (from + 1024);
-    third = none entries.third (from + 2048);
-    fourth = none entries.fourth (from + 3072);
-  }
-    where
-      none : (id offset : ℕ) → Leads t Direction.Forward haystack (row_of ids id) offset (row_of ids id) 0
-      none id offset = leads_none t Direction.Forward haystack (row_of ids id) offset
+  walks_none entries = grind (arith, common_steps, leads_none)
 
   pub walks_more : {count : ℕ} {entries rows next : Rows} → AreWalks t ids haystack from count entries rows
       → AreLed t ids haystack (from + count) rows next → AreOrdinary t ids next

@@ -1,15 +1,14 @@
 -- What a half search tells, from stop to stop.
-use Rattle.std.proofs.Common.{◌≡◌, ◌≢◌, ℕ, ◌+◌, ◌^◌, ◌<◌, ◌≤◌, inl, inr, Bool, true, false, Option}
-use Rattle.std.proofs.Common.{if◌then◌else◌, Some, None, Ok, Err, List, [], ◌∷◌, length, drop, refl, ap, ap₂, sym}
-use Rattle.std.proofs.Common.{◌∙◌, arith}
+use Rattle.std.proofs.lemmas.Grind.{common_steps}
+use Rattle.std.proofs.Common.{◌≡◌, ◌≢◌, ℕ, ◌+◌, ◌^◌, ◌<◌, ◌≤◌, inl, inr, Bool, true, false, Option, if◌then◌else◌, Some}
+use Rattle.std.proofs.Common.{None, Ok, Err, List, [], ◌∷◌, length, drop, refl, ap, ap₂, sym, ◌∙◌, arith}
 use Rattle.std.specs.Prelude.{slice_index}
 use Rattle.rx_spec.specs.Bytes.{AreBytes}
 use Rattle.rx_spec.specs.Queries.{Query, HalfMatch, MatchError, IsFit, is_done}
 use Rattle.rx_spec.specs.Starts.{start_context}
 use Rattle.rx_spec.specs.Machines.{Label, Machine, IsWord}
 use Rattle.rx_spec.specs.HalfSearches.{HalfAnswer, first_offset, next_offset, units_of, first_match, last_match}
-use Rattle.rx_spec.specs.HalfSearches.{at_label}
-use Rattle.rx_spec.specs.HalfSearches.{walk, whole_walk, half_search, beside}
+use Rattle.rx_spec.specs.HalfSearches.{at_label, walk, whole_walk, half_search, beside}
 use Rattle.lemmas_walks.proofs.HalfSearches.{half_walks}
 use Rattle.std.proofs.lemmas.Bool.{ltb-false}
 use Rattle.rx_search.specs.Starts.{IsStart}
@@ -22,13 +21,11 @@ use Rattle.lemmas_walks.proofs.Walking.{walk-nil, walk-cons}
 use Rattle.rx_search.specs.Labels.{patterns_of, IsFinal}
 use Rattle.rx_search.specs.Needles.{byte_ahead, Skips}
 use Rattle.rx_search.specs.Walks.{rest, last_offset, previous_offset, units_left, units_after, at_stop_label, next_stop}
-use Rattle.rx_search.specs.Walks.{Stop, stop_error}
-use Rattle.rx_search.specs.Walks.{IsInSpan, IsMet}
+use Rattle.rx_search.specs.Walks.{Stop, stop_error, IsInSpan, IsMet}
 use Rattle.rx_search.specs.Counted.{HasRoomFor, IsReady, ends_at, counted, counted_on}
 use Rattle.rx_search.proofs.Standing.{Standing, match_label}
 use Rattle.rx_search.proofs.Walks.{Place, stop-nil, stop-cons, units_left-more, units_left-last, byte_there, loops}
-use Rattle.rx_search.proofs.Walks.{skip_keeps}
-use Rattle.rx_search.proofs.Walks.{rest_whole, next_place, skip_stops}
+use Rattle.rx_search.proofs.Walks.{skip_keeps, rest_whole, next_place, skip_stops}
 use Rattle.rx_search.proofs.Counting.{quiet_goes_on, match_goes_on, skip_counts, counted_few}
 use Rattle.lemmas_walks.proofs.WalkBounds.{units_count}
 use Rattle.rx_search.proofs.Progress.{Standpoint}
@@ -46,9 +43,7 @@ module _ (m : Machine ℕ) (direction : Direction) (earliest : Bool) (last : Opt
   pub walk_stops : (row offset : ℕ) (units : List ℕ)
       → walk m direction earliest row offset last units
       ≡ by_stop m direction earliest last (next_stop m direction row offset units)
-  walk_stops row offset [] =
-      walk-nil m direction earliest row offset last
-      ∙ ap (by_stop m direction earliest last) (sym (stop-nil m direction row offset))
+  walk_stops row offset [] = grind (arith, common_steps, walk-nil, stop-nil)
   walk_stops row offset (unit ∷ units) =
       let next = m.next row unit in
       walk-cons m direction earliest row unit offset last units
@@ -87,12 +82,7 @@ first_is (k ∷ ks) offset = refl
 
 -- a match row tells some pattern
 pub some_pattern : {t : Table} {row : ℕ} → Standing t row → is_match t row ≡ true → 0 < length (patterns_of t row)
-some_pattern {t} {row} s is = by_list (patterns_of t row) refl
-  where
-    by_list : (ks : List ℕ) → patterns_of t row ≡ ks → 0 < length (patterns_of t row)
-    by_list [] e =
-        absurd (s.sound.is_table.lists row s.below (match_label (t.machine.label row) is ∙ ap Label.Matches e))
-    by_list (k ∷ ks) e = let n = ap length e in omega (arith, n)
+some_pattern {t} {row} s is = grind (arith, common_steps, match_label)
 
 -- ---- skips at match rows
 
@@ -143,8 +133,7 @@ match_skip {t} {row} direction q s is bytes late p skips =
 walk_final : {t : Table} {row : ℕ} → Standing t row → IsFinal t row → (direction : Direction) (earliest : Bool)
     (offset : ℕ) (last : HalfMatch) (units : List ℕ) → IsWord units
     → walk t.machine direction earliest row offset (Some last) units ≡ Ok (Some last)
-walk_final {t} {row} s final direction earliest offset last [] word =
-    walk-nil t.machine direction earliest row offset (Some last)
+walk_final {t} {row} s final direction earliest offset last [] word = grind (arith, common_steps, walk-nil)
 walk_final {t} {row} s final direction earliest offset last (unit ∷ units) word =
     let on = λ (r : ℕ) (label : Label) (dead : Bool).
     let met = last_match label offset (Some last) in
@@ -189,10 +178,7 @@ pub open_span : {q : Query} → IsFit q → is_done q ≡ false → Open q
 open_span {q} fits goes = record { order = ltb-false q.end q.start goes; fits = fits.within }
 
 pub open_at : {q : Query} {offset : ℕ} → IsFit q → IsInSpan q offset → Open q
-open_at fits in_span =
-    let low = in_span.low in
-    let high = in_span.high in
-    record { order = omega arith; fits = fits.within }
+open_at fits in_span = grind (arith, common_steps)
 
 -- the row where it starts, and what the whole walk from there is
 pub plain_start : {t : Table} {direction : Direction} {q : Query} {row : ℕ} → IsSound t → IsStart t direction q row
@@ -202,35 +188,23 @@ plain_start {t} {direction} {q} {row} sound start =
 
 pub begun : {t : Table} {direction : Direction} {q : Query} {row : ℕ} → IsStart t direction q row → is_done q ≡ false
     → half_search t.machine t.settings direction q ≡ whole_walk t.machine direction q row
-begun {t} {direction} {q} {row} start goes =
-    half_walks t.machine t.settings direction q goes start.allowed
-    ∙ ap (whole_walk t.machine direction q) (sym start.row_is)
+begun {t} {direction} {q} {row} start goes = grind (arith, common_steps, half_walks)
 
 pub first_place : (direction : Direction) {q : Query} → Open q → Place q (first_offset direction q)
-first_place Direction.Forward o =
-    let order = o.order in record { fits = o.fits; in_span = record { low = omega arith; high = omega arith } }
-first_place Direction.Reverse o =
-    let order = o.order in record { fits = o.fits; in_span = record { low = omega arith; high = omega arith } }
+first_place Direction.Forward o = grind (arith, common_steps)
+first_place Direction.Reverse o = grind (arith, common_steps)
 
 -- room for all bytes of the haystack and one more is room for the units that count
 pub counted_room : (t : Table) (direction : Direction) (q : Query) (row steps : ℕ) → q.end ≤ length q.haystack
     → HasRoomFor t direction q row steps → steps + counted t q.earliest row (units_of direction q) < 2 ^ 64
 counted_room t direction q row steps fits (inl room) = room
-counted_room t direction q row steps fits (inr room) =
-    omega (arith, room, fits, counted_few t q.earliest row (units_of direction q), units_count direction q)
+counted_room t direction q row steps fits (inr room) = grind (arith, common_steps, counted_few, units_count)
 
 -- it is room for those that are left, too
 pub room_left : (t : Table) (direction : Direction) {q : Query} (offset row steps : ℕ)
     → q.end ≤ length q.haystack → IsInSpan q offset → steps + length q.haystack + 1 < 2 ^ 64
     → steps + counted t q.earliest row (units_left direction q offset) < 2 ^ 64
-room_left t direction {q} offset row steps fits in_span room =
-    omega (arith, room, counted_few t q.earliest row (units_left direction q offset), few direction)
-  where
-    few : (d : Direction) → length (units_left d q offset) ≤ length q.haystack + 1
-    few Direction.Forward =
-        omega (arith, fits, in_span.low, units_count Direction.Forward (rest Direction.Forward q offset))
-    few Direction.Reverse =
-        omega (arith, fits, in_span.high, units_count Direction.Reverse (rest Direction.Reverse q offset))
+room_left t direction {q} offset row steps fits in_span room = grind (arith, common_steps, counted_few, units_count)
 
 -- where it begins, at a row that tells nothing, behind what may be skipped
 pub record Begins (t : Table) (direction : Direction) (q : Query) (row to : ℕ) : Type 0 where
@@ -266,8 +240,7 @@ module _ {t : Table} {direction : Direction} {q : Query} {first now : Standpoint
   here = next_stop t.machine direction now.row now.offset (units_left direction q now.offset)
 
   to_stop : walk_left t direction q first None ≡ by_stop t.machine direction q.earliest last here
-  to_stop = p.walked ∙ walk_stops t.machine direction q.earliest last now.row now.offset
-      (units_left direction q now.offset)
+  to_stop = grind (arith, common_steps, walk_stops)
 
   pub half_ended : next_stop t.machine direction now.row now.offset (units_left direction q now.offset) ≡ Stop.Ended
       → walk_left t direction q first None ≡ Ok last
@@ -276,13 +249,7 @@ module _ {t : Table} {direction : Direction} {q : Query} {first now : Standpoint
   pub half_fails : (error : MatchError)
       → stop_error (next_stop t.machine direction now.row now.offset (units_left direction q now.offset)) ≡ Some error
       → walk_left t direction q first None ≡ Err error
-  half_fails error e = to_stop ∙ by_kind here e
-    where
-      by_kind : (stop : Stop) → stop_error stop ≡ Some error
-          → by_stop t.machine direction q.earliest last stop ≡ Err error
-      by_kind Stop.Ended e = absurd (cc)
-      by_kind (Stop.Match r o us) e = absurd (cc)
-      by_kind (Stop.Quits byte offset) e = let same : MatchError.Quit byte offset ≡ error = cc in ap Err same
+  half_fails error e = grind (arith, common_steps, to_stop)
 
   -- a match row that is met
   module _ {next offset : ℕ} (s : Standing t next) (m : IsMet t direction q now.offset next offset)

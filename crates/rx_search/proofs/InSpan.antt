@@ -1,5 +1,6 @@
 -- What a half search tells lies in the span of its query.
-use Rattle.std.proofs.Common.{◌≡◌, Some, None, Ok, Err, refl, sym, ◌∙◌}
+use Rattle.std.proofs.Common.{arith, ◌≡◌, Some, None, Ok, Err, refl}
+use Rattle.std.proofs.lemmas.Grind.{common_steps}
 use Rattle.std.specs.Prelude.{IfOk, IfSome}
 use Rattle.rx_spec.specs.Queries.{Query, HalfMatch}
 use Rattle.rx_spec.specs.HalfSearches.{HalfAnswer, half_search}
@@ -20,11 +21,7 @@ by_match q (Err error) told = tt
 
 module _ (t : Table) (direction : Direction) (q : Query) (answer : HalfAnswer) where
   pub half_in_span : answer ≡ half_search t.machine t.settings direction q → LiesIn q answer
-  half_in_span is = by_match q answer (λ h told.
-      let lies = half_within t.machine t.settings direction q h (sym is ∙ told) in
-      record { low = lies.from; high = lies.upto })
+  half_in_span is = grind (arith, common_steps, by_match, half_within)
 
   pub unsplit_in_span : answer ≡ half_unsplit t direction q → LiesIn q answer
-  unsplit_in_span is = by_match q answer (λ h told.
-      let lies = unsplit_within t direction q h (sym is ∙ told) in
-      record { low = lies.from; high = lies.upto })
+  unsplit_in_span is = grind (arith, common_steps, by_match, unsplit_within)

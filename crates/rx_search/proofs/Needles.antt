@@ -1,6 +1,7 @@
 -- The next needle of a span, as it is found in the bytes that are left, and skips to it.
-use Rattle.std.proofs.Common.{◌≡◌, ℕ, ◌+◌, ◌-◌, ◌<◌, ◌≤◌, Bool, true, false, ◌||◌, Option, Some, None, List, [], ◌∷◌}
-use Rattle.std.proofs.Common.{length, take, drop, refl, ap, sym, ◌∙◌, arith, length-drop, length-take-le}
+use Rattle.std.proofs.Common.{rules, ◌≡◌, ℕ, ◌+◌, ◌-◌, ◌<◌, ◌≤◌, Bool, true, false, ◌||◌, Option, Some, None, List, []}
+use Rattle.std.proofs.Common.{◌∷◌, length, take, drop, refl, ap, sym, ◌∙◌, arith, length-drop, length-take-le}
+use Rattle.std.proofs.lemmas.Grind.{common_steps}
 use Rattle.std.proofs.Math.Bool.{or-false, or_assoc}
 use Rattle.std.proofs.lemmas.Bool.{false_from_ne_true}
 use Rattle.std.proofs.lemmas.List.{get_or-take, get_or-drop}
@@ -32,34 +33,18 @@ three_test : (needles : List ℕ) → length needles ≡ 3 → (x : ℕ)
 three_test [] e x = absurd (omega (arith, e))
 three_test (a ∷ []) e x = absurd (omega (arith, e))
 three_test (a ∷ (b ∷ [])) e x = absurd (omega (arith, e))
-three_test (a ∷ (b ∷ (c ∷ []))) e x =
-    or_assoc (is_byte a x) (is_byte b x) (is_byte c x)
-    ∙ ap (λ rest. is_byte a x || (is_byte b x || rest)) (sym (or-false (is_byte c x)))
+three_test (a ∷ (b ∷ (c ∷ []))) e x = grind (arith, common_steps, or_assoc, or-false)
 three_test (a ∷ (b ∷ (c ∷ (d ∷ more)))) e x = absurd (omega (arith, e))
 
 first_same : (f g : ℕ → Bool) (hay : List ℕ) → ((x : ℕ) → f x ≡ g x) → (r : Option ℕ) → IsFirstByte f hay r
     → IsFirstByte g hay r
 first_same f g hay same None is = λ k low high passes. is k low high (same (slice_index hay k) ∙ passes)
-first_same f g hay same (Some at) is = (
-  record {
-    low = is.0.low;
-    high = is.0.high;
-    before = λ k low high passes. is.0.before k low high (same (slice_index hay k) ∙ passes);
-  },
-  sym (same (slice_index hay at)) ∙ is.1,
-)
+first_same f g hay same (Some at) is = grind (arith, common_steps)
 
 last_same : (f g : ℕ → Bool) (hay : List ℕ) → ((x : ℕ) → f x ≡ g x) → (r : Option ℕ) → IsLastByte f hay r
     → IsLastByte g hay r
 last_same f g hay same None is = λ k low high passes. is k low high (same (slice_index hay k) ∙ passes)
-last_same f g hay same (Some at) is = (
-  record {
-    low = is.0.low;
-    high = is.0.high;
-    after = λ k low high passes. is.0.after k low high (same (slice_index hay k) ∙ passes);
-  },
-  sym (same (slice_index hay at)) ∙ is.1,
-)
+last_same f g hay same (Some at) is = grind (arith, common_steps)
 
 module _ (needles hay : List ℕ) (r : Option ℕ) where
   pub first_of_one : length needles ≡ 1 → IsFirstByte (is_byte (slice_index needles 0)) hay r
@@ -68,16 +53,12 @@ module _ (needles hay : List ℕ) (r : Option ℕ) where
 
   pub first_of_two : length needles ≡ 2 → IsFirstByte (is_byte2 (slice_index needles 0) (slice_index needles 1)) hay r
       → IsFirstByte (is_needle needles) hay r
-  first_of_two e =
-      first_same (is_byte2 (slice_index needles 0) (slice_index needles 1)) (is_needle needles) hay
-      (two_test needles e) r
+  first_of_two e = grind (arith, common_steps, first_same, two_test)
 
   pub first_of_three : length needles ≡ 3
       → IsFirstByte (is_byte3 (slice_index needles 0) (slice_index needles 1) (slice_index needles 2)) hay r
       → IsFirstByte (is_needle needles) hay r
-  first_of_three e =
-      first_same (is_byte3 (slice_index needles 0) (slice_index needles 1) (slice_index needles 2))
-      (is_needle needles) hay (three_test needles e) r
+  first_of_three e = grind (arith, common_steps, first_same, three_test)
 
   pub last_of_one : length needles ≡ 1 → IsLastByte (is_byte (slice_index needles 0)) hay r
       → IsLastByte (is_needle needles) hay r
@@ -85,16 +66,12 @@ module _ (needles hay : List ℕ) (r : Option ℕ) where
 
   pub last_of_two : length needles ≡ 2 → IsLastByte (is_byte2 (slice_index needles 0) (slice_index needles 1)) hay r
       → IsLastByte (is_needle needles) hay r
-  last_of_two e =
-      last_same (is_byte2 (slice_index needles 0) (slice_index needles 1)) (is_needle needles) hay
-      (two_test needles e) r
+  last_of_two e = grind (arith, common_steps, last_same, two_test)
 
   pub last_of_three : length needles ≡ 3
       → IsLastByte (is_byte3 (slice_index needles 0) (slice_index needles 1) (slice_index needles 2)) hay r
       → IsLastByte (is_needle needles) hay r
-  last_of_three e =
-      last_same (is_byte3 (slice_index needles 0) (slice_index needles 1) (slice_index needles 2))
-      (is_needle needles) hay (three_test needles e) r
+  last_of_three e = grind (arith, common_steps, last_same, three_test)
 
 -- ---- the next one of a span
 
@@ -109,45 +86,17 @@ part_length hay low high h = length-take-le (high - low) (drop low hay) (simp le
 module _ (needles : List ℕ) (q : Query) (from : ℕ) (is : IsInSpan q from) (within : q.end ≤ length q.haystack) where
   pub no_next : IsFirstByte (is_needle needles) (take (q.end - from) (drop from q.haystack)) None
       → IsNextNeedle needles Direction.Forward q from q.end
-  no_next none =
-      let n = part_length q.haystack from q.end within in
-      let low = is.low in
-      let high = is.high in
-      record {
-        count = q.end - from;
-        there = omega arith;
-        enough = omega arith;
-        in_span = record { low = omega arith; high = omega arith };
-        none = λ k h.
-            ap (is_needle needles) (sym (part_at q.haystack from q.end k h))
-            ∙ false_from_ne_true _ (none k (omega arith) (omega (arith, n)));
-        stands = λ ne. absurd (ne refl);
-      }
+  no_next none = search (rules, part_length, part_at, false_from_ne_true)
 
   pub next_there : (at : ℕ) → IsFirstByte (is_needle needles) (take (q.end - from) (drop from q.haystack)) (Some at)
       → IsNextNeedle needles Direction.Forward q from (from + at)
-  next_there at first =
-      let n = part_length q.haystack from q.end within in
-      let low = is.low in
-      let below : at < q.end - from = omega (arith, n, first.0.high) in
-      record {
-        count = at;
-        there = refl;
-        enough = omega arith;
-        in_span = record { low = omega arith; high = omega arith };
-        none = λ k h.
-            ap (is_needle needles) (sym (part_at q.haystack from q.end k (omega arith)))
-            ∙ false_from_ne_true _ (first.0.before k (omega arith) h);
-        stands = λ ne. ap (is_needle needles) (sym (part_at q.haystack from q.end at below)) ∙ first.1;
-      }
+  next_there at first = search (rules, part_length, part_at, false_from_ne_true)
 
   -- a byte before it in the order of reading, in reverse
   back_at : (k : ℕ) → k < from - q.start
       → slice_index (take (from - q.start) (drop q.start q.haystack)) (from - q.start - 1 - k)
       ≡ byte_ahead Direction.Reverse q.haystack (from - k)
-  back_at k h =
-      let place : q.start + (from - q.start - 1 - k) ≡ from - k - 1 = omega arith in
-      part_at q.haystack q.start from (from - q.start - 1 - k) (omega arith) ∙ ap (slice_index q.haystack) place
+  back_at k h = grind (arith, common_steps, part_at)
 
   pub no_last : IsLastByte (is_needle needles) (take (from - q.start) (drop q.start q.haystack)) None
       → IsNextNeedle needles Direction.Reverse q from q.start
@@ -192,28 +141,11 @@ module _ (needles : List ℕ) (q : Query) (from : ℕ) (is : IsInSpan q from) (w
 -- an accelerated row has needles
 pub some_needles : {t : Table} {row : ℕ} → Standing t row → t.is_accelerated row ≡ true
     → is_nil (t.needles row) ≡ false
-some_needles {t} {row} s accelerated = by_list (t.needles row) (s.sound.some_needle row s.below accelerated)
-  where
-    by_list : (needles : List ℕ) → 1 ≤ length needles → is_nil needles ≡ false
-    by_list [] h = absurd (omega (arith, h))
-    by_list (a ∷ more) h = refl
+some_needles {t} {row} s accelerated = search rules
 
 module _ {t : Table} {row : ℕ} (s : Standing t row) (direction : Direction) (q : Query) (from : ℕ) where
   pub stays : IsInSpan q from → t.is_accelerated row ≡ false → Skips t direction q row from from
-  stays is plain = record {
-    count = 0;
-    there = here direction;
-    enough = omega arith;
-    in_span = is;
-    skipped = λ k h. absurd (omega (arith, h));
-    is_ready = λ ne. ap (λ (needles : List ℕ).
-        is_nil needles || is_needle needles (byte_ahead direction q.haystack from))
-        (s.sound.no_needle row s.below plain);
-  }
-    where
-      here : (d : Direction) → from ≡ offset_after d from 0
-      here Direction.Forward = omega arith
-      here Direction.Reverse = omega arith
+  stays is plain = grind (arith, common_steps)
 
   pub skips : (needles : List ℕ) (to : ℕ) → needles ≡ t.needles row → t.is_accelerated row ≡ true
       → IsNextNeedle needles direction q from to → Skips t direction q row from to

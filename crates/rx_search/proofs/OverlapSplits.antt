@@ -1,6 +1,7 @@
 -- Matches that split a character are passed over by an overlapping search, call by call.
-use Rattle.std.proofs.Common.{◌≡◌, ◌<◌, Bool, true, false, if◌then◌else◌, Option, Some, None, Result, Ok, Err}
-use Rattle.std.proofs.Common.{List, [], ◌∷◌, ◌++◌, length, refl, ap, ap₂, sym, ◌∙◌, subst, arith}
+use Rattle.std.proofs.lemmas.Grind.{common_steps}
+use Rattle.std.proofs.Common.{◌≡◌, ◌<◌, Bool, true, false, if◌then◌else◌, Option, Some, None, Result, Ok, Err, List, []}
+use Rattle.std.proofs.Common.{◌∷◌, ◌++◌, length, ap, ap₂, sym, ◌∙◌, arith}
 use Rattle.std.specs.List.{flat_map}
 use Rattle.rx_spec.specs.Queries.{Query, HalfMatch, MatchError, is_anchored}
 use Rattle.rx_spec.specs.Overlapping.{Item, Ending, OverlappingMatches}
@@ -33,53 +34,33 @@ pub first_item : {result : Result (Unit {0}) MatchError} {told : Option HalfMatc
     → record { result = result; told = told; left = after } ≡ item_call items ending
     → (rest : List Item) × (items ≡ Item.Reported h ∷ rest) × (result ≡ Ok tt)
     × (after ≡ record { items = rest; ending = ending })
-first_item h [] Ending.Ended t e =
-    let no : None ≡ Some h = sym (ap (λ (c : Call). c.told) e) ∙ t in absurd (cc)
-first_item h [] (Ending.Quits byte offset) t e =
-    let no : None ≡ Some h = sym (ap (λ (c : Call). c.told) e) ∙ t in absurd (cc)
-first_item h [] (Ending.Refused error) t e =
-    let no : None ≡ Some h = sym (ap (λ (c : Call). c.told) e) ∙ t in absurd (cc)
-first_item h (Item.Skipped ∷ items) ending t e =
-    let no : None ≡ Some h = sym (ap (λ (c : Call). c.told) e) ∙ t in absurd (cc)
-first_item h (Item.Reported k ∷ items) ending t e =
-    let same : Some k ≡ Some h = sym (ap (λ (c : Call). c.told) e) ∙ t in
-    let is : k ≡ h = cc in (
-      items,
-      ap (λ (x : HalfMatch). Item.Reported x ∷ items) is,
-      ap (λ (c : Call). c.result) e,
-      ap (λ (c : Call). c.left) e,
-    )
+first_item h [] Ending.Ended t e = grind (arith, common_steps)
+first_item h [] (Ending.Quits byte offset) t e = grind (arith, common_steps)
+first_item h [] (Ending.Refused error) t e = grind (arith, common_steps)
+first_item h (Item.Skipped ∷ items) ending t e = grind (arith, common_steps)
+first_item h (Item.Reported k ∷ items) ending t e = grind (arith, common_steps)
 
 module _ (q : Query) {result : Result (Unit {0}) MatchError} {told : Option HalfMatch}
     {after : OverlappingMatches} where
   -- where nothing is left, nothing is passed over
   by_ending : (ending : Ending) → record { result = result; told = told; left = after } ≡ ending_call ending
       → record { result = result; told = told; left = items_unsplit q after } ≡ ending_call ending
-  by_ending ending e = ap (λ (c : Call). record c { left = items_unsplit q c.left }) e ∙ same ending
-    where
-      same : (ending : Ending)
-          → (let c = ending_call ending in record c { left = items_unsplit q c.left }) ≡ ending_call ending
-      same Ending.Ended = refl
-      same (Ending.Quits byte offset) = refl
-      same (Ending.Refused error) = refl
+  by_ending ending e = grind (arith, common_steps)
 
   error_items : (items : List Item) (ending : Ending) (error : MatchError) → result ≡ Err error
       → record { result = result; told = told; left = after } ≡ item_call items ending
       → record { result = result; told = told; left = items_unsplit q after }
       ≡ item_call (flat_map (item_unsplit q) items) ending
   error_items [] ending error r e = by_ending ending e
-  error_items (Item.Reported h ∷ items) ending error r e =
-      let no : Ok tt ≡ Err error = sym (ap (λ (c : Call). c.result) e) ∙ r in absurd (cc)
-  error_items (Item.Skipped ∷ items) ending error r e =
-      let no : Ok tt ≡ Err error = sym (ap (λ (c : Call). c.result) e) ∙ r in absurd (cc)
+  error_items (Item.Reported h ∷ items) ending error r e = grind (arith, common_steps)
+  error_items (Item.Skipped ∷ items) ending error r e = grind (arith, common_steps)
 
   none_items : (items : List Item) (ending : Ending) → told ≡ None
       → record { result = result; told = told; left = after } ≡ item_call items ending
       → record { result = result; told = told; left = items_unsplit q after }
       ≡ item_call (flat_map (item_unsplit q) items) ending
   none_items [] ending t e = by_ending ending e
-  none_items (Item.Reported h ∷ items) ending t e =
-      let no : Some h ≡ None = sym (ap (λ (c : Call). c.told) e) ∙ t in absurd (cc)
+  none_items (Item.Reported h ∷ items) ending t e = grind (arith, common_steps)
   none_items (Item.Skipped ∷ items) ending t e = ap (λ (c : Call). record c { left = items_unsplit q c.left }) e
 
 module _ (q : Query) {before : OverlappingMatches} {result : Result (Unit {0}) MatchError} {told : Option HalfMatch}
@@ -166,25 +147,20 @@ by_skips q before result told after skips =
 pub passed_over : (t : Table) (q : Query) (before after : OverlappingMatches) {result : Result (Unit {0}) MatchError}
     {told : Option HalfMatch} → skips_splits t ≡ true → UnsplitCall q before result told after
     → record { result = result; told = told; left = unsplit_matches t q after } ≡ next_call (unsplit_matches t q before)
-passed_over t q before after {result} {told} skips is =
-    subst (by_skips q before result told after) (sym skips) is
+passed_over t q before after {result} {told} skips is = grind (arith, common_steps)
 
 pub none_passed : (t : Table) (q : Query) {before : OverlappingMatches} {result : Result (Unit {0}) MatchError}
     {told : Option HalfMatch} {after : OverlappingMatches} → skips_splits t ≡ false → IsCall before result told after
     → record { result = result; told = told; left = unsplit_matches t q after } ≡ next_call (unsplit_matches t q before)
-none_passed t q {before} {result} {told} {after} skips call =
-    subst (by_skips q before result told after) (sym skips) call.is
+none_passed t q {before} {result} {told} {after} skips call = grind (arith, common_steps)
 
 pub either_way : (t : Table) (q : Query) {before : OverlappingMatches} {result : Result (Unit {0}) MatchError}
     {told : Option HalfMatch} {after : OverlappingMatches} → IsCall before result told after
     → UnsplitCall q before result told after
     → record { result = result; told = told; left = unsplit_matches t q after } ≡ next_call (unsplit_matches t q before)
-either_way t q {before} {result} {told} {after} call is =
-    by_test (skips_splits t) (λ e. passed_over t q before after e is) (λ e. none_passed t q e call)
+either_way t q {before} {result} {told} {after} call is = grind (arith, common_steps, by_test, passed_over, none_passed)
 
 pub passed_again : (t : Table) (q : Query) (before after : OverlappingMatches) → skips_splits t ≡ true
     → next_call (items_unsplit q before) ≡ next_call (items_unsplit q after)
     → next_call (unsplit_matches t q before) ≡ next_call (unsplit_matches t q after)
-passed_again t q before after skips is =
-    subst (λ (b : Bool). next_call (if b then items_unsplit q before else before)
-    ≡ next_call (if b then items_unsplit q after else after)) (sym skips) is
+passed_again t q before after skips is = grind (arith, common_steps)

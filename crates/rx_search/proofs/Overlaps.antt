@@ -1,15 +1,15 @@
 -- What an overlapping search tells, from stop to stop.
-use Rattle.std.proofs.Common.{◌≡◌, ◌≢◌, ℕ, suc, zero, ◌+◌, ◌<◌, ◌≤◌, Bool, true, false, if◌then◌else◌, Some, None, Ok}
-use Rattle.std.proofs.Common.{Err}
-use Rattle.std.proofs.Common.{List, [], ◌∷◌, length, drop, refl, ap, ap₂, sym, ◌∙◌, arith}
+use Rattle.std.proofs.Common.{rules, ◌≡◌, ◌≢◌, ℕ, suc, zero, ◌+◌, ◌<◌, ◌≤◌, true, false, if◌then◌else◌, Some, None, Ok}
+use Rattle.std.proofs.Common.{Err, List, [], ◌∷◌, length, drop, refl, ap, sym, ◌∙◌, arith}
+use Rattle.std.proofs.lemmas.Grind.{common_steps}
 use Rattle.std.proofs.lemmas.List.{get_or_default}
 use Rattle.std.specs.Prelude.{slice_index}
 use Rattle.rx_spec.specs.Bytes.{AreBytes}
 use Rattle.rx_spec.specs.Queries.{Query, MatchError, is_done}
 use Rattle.rx_spec.specs.Machines.{Label, Machine, IsWord}
 use Rattle.rx_spec.specs.HalfSearches.{first_offset, next_offset, units_of}
-use Rattle.rx_spec.specs.Overlapping.{Ending, OverlappingMatches, none_left, label_items, with_items}
-use Rattle.rx_spec.specs.Overlapping.{at_item_label, overlapping_walk, remaining, overlapping, whole_overlapping_walk}
+use Rattle.rx_spec.specs.Overlapping.{Ending, OverlappingMatches, none_left, label_items, with_items, at_item_label}
+use Rattle.rx_spec.specs.Overlapping.{overlapping_walk, remaining, overlapping, whole_overlapping_walk}
 use Rattle.rx_spec.specs.Tables.{Table, is_match}
 use Rattle.rx_spec.specs.declared.Direction.{Direction}
 use Rattle.lemmas_walks.proofs.Firsts.{by_test}
@@ -39,8 +39,7 @@ module _ (m : Machine ℕ) (direction : Direction) where
   pub overlapping_stops : (row offset : ℕ) (units : List ℕ)
       → overlapping_walk m direction row offset units
       ≡ told_by_stop m direction (next_stop m direction row offset units)
-  overlapping_stops row offset [] =
-      overlapping-nil m direction row offset ∙ ap (told_by_stop m direction) (sym (stop-nil m direction row offset))
+  overlapping_stops row offset [] = grind (arith, common_steps, overlapping-nil, stop-nil)
   overlapping_stops row offset (unit ∷ units) =
       let next = m.next row unit in
       overlapping-cons m direction row unit offset units
@@ -105,9 +104,7 @@ module _ {t : Table} {row : ℕ} (s : Standing t row) (is : is_match t row ≡ t
         left = remaining t.machine direction (drop (n + 1) (patterns_of t row))
             offset row (units_after direction q offset);
       }
-  call_more n h =
-      ap (λ (left : List ℕ). next_call (remaining t.machine direction left offset row (units_after direction q offset)))
-      (patterns_left (patterns_of t row) n h)
+  call_more n h = grind (arith, common_steps, patterns_left)
 
   pub told_within : IsInSpan q offset → (n : ℕ) → n < length (patterns_of t row)
       → IsTold t q (record { pattern = slice_index (patterns_of t row) n; offset = offset })
@@ -122,9 +119,7 @@ module _ {t : Table} {row : ℕ} (s : Standing t row) (is : is_match t row ≡ t
   pub none_remaining : (n : ℕ) → length (patterns_of t row) ≤ n
       → remaining t.machine direction (drop n (patterns_of t row)) offset row (units_after direction q offset)
       ≡ overlapping_walk t.machine direction row (next_offset direction offset) (units_after direction q offset)
-  none_remaining n h =
-      ap (λ (left : List ℕ). remaining t.machine direction left offset row (units_after direction q offset))
-      (none_more (patterns_of t row) n h)
+  none_remaining n h = grind (arith, common_steps, none_more)
 
   module _ (o : Open q) (in_span : IsInSpan q offset) where
     place : Place q offset
@@ -164,30 +159,14 @@ module _ (t : Table) (direction : Direction) (q : Query) (row from : ℕ) where
       → stop_error (next_stop t.machine direction row from (units_left direction q from)) ≡ Some error
       → next_call (overlapping_walk t.machine direction row from (units_left direction q from))
       ≡ record { result = Err error; told = None; left = none_left Ending.Ended }
-  call_fails error e =
-      ap next_call to_stop ∙ by_kind (next_stop t.machine direction row from (units_left direction q from)) e
-    where
-      by_kind : (stop : Stop) → stop_error stop ≡ Some error
-          → next_call (told_by_stop t.machine direction stop)
-          ≡ record { result = Err error; told = None; left = none_left Ending.Ended }
-      by_kind Stop.Ended e = absurd (cc)
-      by_kind (Stop.Match r o us) e = absurd (cc)
-      by_kind (Stop.Quits byte offset) e =
-          let same : MatchError.Quit byte offset ≡ error = cc in
-          ap (λ (x : MatchError). record { result = Err x; told = None; left = none_left Ending.Ended }) same
+  call_fails error e = grind (arith, common_steps, to_stop)
 
   pub walk_met : {next offset : ℕ} → Standing t next → is_match t next ≡ true
       → next_stop t.machine direction row from (units_left direction q from)
       ≡ Stop.Match next offset (units_after direction q offset)
       → overlapping_walk t.machine direction row from (units_left direction q from)
       ≡ remaining t.machine direction (drop 0 (patterns_of t next)) offset next (units_after direction q offset)
-  walk_met {next} {offset} s is e =
-      let label = match_label (t.machine.label next) is in
-      let on = λ (l : Label) (dead : Bool). with_items (label_items l offset)
-      (if dead then none_left Ending.Ended
-      else overlapping_walk t.machine direction next (next_offset direction offset) (units_after direction q offset)) in
-      to_stop ∙ ap (told_by_stop t.machine direction) e
-      ∙ ap₂ on label (match_alive s.sound.is_table next s.below label)
+  walk_met {next} {offset} s is e = search (rules, match_label, to_stop, match_alive)
 
 -- nothing is told from the quit row on
 pub quit_tells_nothing : {t : Table} {row : ℕ} → Standing t row → is_quit t row ≡ true → (direction : Direction)

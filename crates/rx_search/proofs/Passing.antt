@@ -1,7 +1,7 @@
 -- Walks over bytes that lead to ordinary rows alone: one behind another is one, and the next stop is the same.
-use Rattle.std.proofs.Common.{◌≡◌, ◌≢◌, ℕ, suc, zero, ◌+◌, ◌-◌, ◌<◌, ◌≤◌, Bool, true, false, if◌then◌else◌, List}
-use Rattle.std.proofs.Common.{length}
-use Rattle.std.proofs.Common.{refl, ap, ap₂, sym, ◌∙◌, subst, arith, ⊎_elim}
+use Rattle.std.proofs.Common.{rules, ◌≡◌, ◌≢◌, ℕ, suc, zero, ◌+◌, ◌-◌, ◌<◌, ◌≤◌, Bool, true, false, if◌then◌else◌, List}
+use Rattle.std.proofs.Common.{length, refl, ap, ap₂, sym, ◌∙◌, subst, arith, ⊎_elim}
+use Rattle.std.proofs.lemmas.Grind.{common_steps}
 use Rattle.std.proofs.lemmas.Bool.{cases_lt, eqb-true}
 use Rattle.std.specs.Prelude.{◌==◌, not}
 use Rattle.lemmas_walks.proofs.Firsts.{by_test}
@@ -18,8 +18,8 @@ use Rattle.rx_search.specs.Starts.{IsId}
 use Rattle.rx_search.specs.Walks.{last_offset, bytes_left, units_left, next_stop}
 use Rattle.rx_search.specs.Counted.{IsReady, counts, counted}
 use Rattle.rx_search.proofs.Standing.{Standing}
-use Rattle.rx_search.proofs.Walks.{Place, next_place, next_left, Turn, Step, step_quiet, step_units}
-use Rattle.rx_search.proofs.Walks.{ordinary, unaccelerated, byte_there}
+use Rattle.rx_search.proofs.Walks.{Place, next_place, next_left, Turn, Step, step_quiet, step_units, ordinary}
+use Rattle.rx_search.proofs.Walks.{unaccelerated, byte_there}
 use Rattle.rx_search.proofs.Counting.{counted-cons, quiet_goes_on}
 use Rattle.rx_search.proofs.Needles.{stays}
 use Rattle.rx_search.proofs.Progress.{Standpoint, Progress}
@@ -50,8 +50,7 @@ row_on-add : (m : Machine ℕ) (direction : Direction) (haystack : List ℕ) (ro
     → row_on m direction haystack (row_on m direction haystack row offset n) (offset_after direction offset n) k
     ≡ row_on m direction haystack row offset (n + k)
 unfolding row_on
-row_on-add m direction haystack row offset n zero =
-    let same : n ≡ n + 0 = omega arith in ap (row_on m direction haystack row offset) same
+row_on-add m direction haystack row offset n zero = grind (arith, common_steps)
 row_on-add m direction haystack row offset n (suc k) =
     let same : suc (n + k) ≡ n + suc k = omega arith in
     ap₂ (λ (r o : ℕ). m.next r (byte_ahead direction haystack o))
@@ -68,10 +67,7 @@ module _ (t : Table) (direction : Direction) (haystack : List ℕ) where
       → more ≡ t.machine.next next (byte_ahead direction haystack (offset_after direction offset count))
       → more ≡ row_on t.machine direction haystack row offset (count + 1)
   unfolding row_on
-  next_on {row} {offset} {next} {count} more l leads =
-      let one : suc count ≡ count + 1 = omega arith in
-      leads ∙ ap (λ (r : ℕ). t.machine.next r (byte_ahead direction haystack (offset_after direction offset count)))
-      l.next_is ∙ ap (row_on t.machine direction haystack row offset) one
+  next_on {row} {offset} {next} {count} more l leads = grind (arith, common_steps)
 
   -- it is special
   pub leads_no_further : {row offset next count bytes : ℕ} (more : ℕ) → Leads t direction haystack row offset next count
@@ -85,26 +81,12 @@ module _ (t : Table) (direction : Direction) (haystack : List ℕ) where
       → more ≡ t.machine.next next (byte_ahead direction haystack (offset_after direction offset count))
       → t.is_special more ≡ false
       → Leads t direction haystack row offset more (count + 1)
-  leads_more {row} {offset} {next} {count} more l leads plain =
-      let there = next_on more l leads in
-      record {
-        next_is = there;
-        ordinary = λ k h.
-            ⊎_elim
-            (λ (before : k < count). l.ordinary k before)
-            (λ (last : count ≤ k).
-            let same : count + 1 ≡ k + 1 = omega (arith, h, last) in
-            ap (λ (n : ℕ). t.is_special (row_on t.machine direction haystack row offset n)) (sym same)
-            ∙ ap t.is_special (sym there) ∙ plain)
-            (cases_lt k count);
-      }
+  leads_more {row} {offset} {next} {count} more l leads plain = search (rules, next_on, ordinary, cases_lt)
 
   joined_on : {row offset mid n : ℕ} → Leads t direction haystack row offset mid n → (i : ℕ)
       → row_on t.machine direction haystack mid (offset_after direction offset n) i
       ≡ row_on t.machine direction haystack row offset (n + i)
-  joined_on {row} {offset} {mid} {n} l i =
-      ap (λ (r : ℕ). row_on t.machine direction haystack r (offset_after direction offset n) i) l.next_is
-      ∙ row_on-add t.machine direction haystack row offset n i
+  joined_on {row} {offset} {mid} {n} l i = grind (arith, common_steps, row_on-add)
 
   -- where a walk goes on from the row and the offset that another has reached, both are one
   pub leads_on : {row offset mid n next k : ℕ} → Leads t direction haystack row offset mid n
@@ -145,10 +127,7 @@ module _ (t : Table) (direction : Direction) (haystack : List ℕ) where
 
 -- two ids that don't differ
 pub same_id : (a b : ℕ) {told : Bool} → told ≡ not (a == b) → told ≡ false → a ≡ b
-same_id a b {told} tells is =
-    eqb-true a b
-    (by_test (a == b) (λ e. e)
-    (λ e. let no : true ≡ false = ap not (sym e) ∙ sym tells ∙ is in absurd (cc)))
+same_id a b {told} tells is = grind (arith, common_steps, eqb-true, by_test)
 
 -- ---- the next stop
 
@@ -172,9 +151,7 @@ way : {t : Table} {direction : Direction} {q : Query} {row from : ℕ} → Stand
     → Way t direction q row from (row_on t.machine direction q.haystack row from count)
     (offset_after direction from count) count
 unfolding row_on
-way {t} {direction} {q} {row} {from} s bytes p zero enough plain =
-    subst (λ (o : ℕ). Way t direction q row from row o 0) (after-zero direction from)
-    (record { place = p; left = omega arith; standing = s; stop = refl; count_less = omega arith })
+way {t} {direction} {q} {row} {from} s bytes p zero enough plain = grind (arith, common_steps, after-zero)
 way {t} {direction} {q} {row} {from} s bytes p (suc n) enough plain =
     let w = way s bytes p n (omega (arith, enough)) (λ k h. plain k (omega (arith, h))) in
     let at = offset_after direction from n in
@@ -217,11 +194,7 @@ module _ {t : Table} {direction : Direction} {q : Query} {row from next to : ℕ
   Ready = IsReady t direction q row from → IsReady t direction q next to
 
   passed : Way t direction q row from next to passes.count
-  passed =
-      subst (λ (o : ℕ). Way t direction q row from next o passes.count) (sym passes.there)
-      (subst (λ (r : ℕ). Way t direction q row from r (offset_after direction from passes.count) passes.count)
-      (sym passes.leads.next_is)
-      (way s bytes p passes.count passes.enough passes.leads.ordinary))
+  passed = grind (arith, common_steps, way)
 
   -- it has skipped what may be skipped: no row on the way has needles
   passed_ready : Ready
@@ -244,12 +217,7 @@ module _ {t : Table} {direction : Direction} {q : Query} {row from next to : ℕ
 -- a walk that stays
 pub passes_none : (t : Table) (direction : Direction) (q : Query) (row from : ℕ)
     → Passes t direction q row from row from
-passes_none t direction q row from = record {
-  count = 0;
-  leads = leads_none t direction q.haystack row from;
-  there = after-zero direction from;
-  enough = omega arith;
-}
+passes_none t direction q row from = grind (arith, common_steps, leads_none, after-zero)
 
 pub progress_pass : {t : Table} {direction : Direction} {q : Query} {first now : Standpoint} {next to : ℕ}
     → Progress t direction q first now → Standing t now.row → AreBytes q.haystack → q.end ≤ length q.haystack

@@ -1,6 +1,7 @@
 -- How far a walk has come that looks for its next stop, and what each turn adds.
-use Rattle.std.proofs.Common.{◌≡◌, ◌≢◌, ℕ, ◌+◌, ◌-◌, ◌^◌, ◌<◌, ◌≤◌, ◌==◌, inl, inr, true, false, Some, Ok, length}
-use Rattle.std.proofs.Common.{refl, ap, ap₂, sym, ◌∙◌, subst, arith}
+use Rattle.std.proofs.lemmas.Grind.{common_steps}
+use Rattle.std.proofs.Common.{◌≡◌, ◌≢◌, ℕ, ◌+◌, ◌-◌, ◌^◌, ◌<◌, ◌≤◌, ◌==◌, inl, inr, true, false, Some, Ok, length, ap}
+use Rattle.std.proofs.Common.{sym, ◌∙◌, subst, arith}
 use Rattle.rx_spec.specs.Bytes.{AreBytes}
 use Rattle.rx_spec.specs.Queries.{Query, MatchError}
 use Rattle.rx_spec.specs.Tables.{Table, is_match}
@@ -11,12 +12,10 @@ use Rattle.rx_search.specs.Needles.{byte_ahead, Skips}
 use Rattle.rx_search.specs.Walks.{IsInSpan, last_offset, bytes_left, units_left, units_after, next_stop, Stop}
 use Rattle.rx_search.specs.Walks.{stop_error, StopsAt}
 use Rattle.rx_search.specs.Counted.{HasRoom, IsReady, counted, counted_on}
-use Rattle.rx_search.proofs.Walks.{Place, next_place, next_left, IsQuiet, Step, step_quiet, step_match, step_quits}
-use Rattle.rx_search.proofs.Walks.{step_ends}
+use Rattle.rx_search.proofs.Walks.{next_place, next_left, IsQuiet, Step, step_quiet, step_match, step_quits, step_ends}
 use Rattle.rx_search.proofs.Walks.{LastStep, last_match, last_quits, last_ends, skip_stops, skip_left}
 use Rattle.rx_search.proofs.Counting.{step_quiet_counted, step_counted, step_match_counted, last_counted}
-use Rattle.rx_search.proofs.Counting.{last_match_counted}
-use Rattle.rx_search.proofs.Counting.{skip_counts, quiet_goes_on, ready_counts, last_counts}
+use Rattle.rx_search.proofs.Counting.{last_match_counted, skip_counts, quiet_goes_on, ready_counts, last_counts}
 
 -- a row, an offset, and how many steps were counted there
 pub record Standpoint : Type 0 where
@@ -37,14 +36,7 @@ pub record Progress (t : Table) (direction : Direction) (q : Query) (first now :
 
 pub begins : (t : Table) (direction : Direction) (q : Query) (first : Standpoint) → IsInSpan q first.offset
     → Progress t direction q first first
-begins t direction q first is = record {
-  in_span = is;
-  on = omega arith;
-  room = omega arith;
-  stop = refl;
-  is_ready = λ r. r;
-  count = λ r. omega arith;
-}
+begins t direction q first is = grind (arith, common_steps)
 
 module _ {t : Table} {direction : Direction} {q : Query} {first now : Standpoint}
     (p : Progress t direction q first now) where
@@ -55,19 +47,12 @@ module _ {t : Table} {direction : Direction} {q : Query} {first now : Standpoint
   -- the counter has room for the next unit, and for the last one
   pub has_room : HasRoom t direction q first.row first.offset first.steps → q.end ≤ length q.haystack
       → now.offset ≢ last_offset direction q → now.steps < 2 ^ 64 - 1
-  has_room (inl (ready, room)) fits more =
-      let place : Place q now.offset = record { fits = fits; in_span = p.in_span } in
-      omega (arith, p.count ready, room, ready_counts t direction q.earliest now.row place more (p.is_ready ready))
+  has_room (inl (ready, room)) fits more = grind (arith, common_steps, ready_counts)
   has_room (inr room) fits more = omega (arith, p.room, room)
 
   pub has_room_last : HasRoom t direction q first.row first.offset first.steps → q.end ≤ length q.haystack
       → now.offset ≡ last_offset direction q → now.steps < 2 ^ 64 - 1
-  has_room_last (inl (ready, room)) fits over =
-      let low = p.in_span.low in
-      let high = p.in_span.high in
-      let here = ap (λ (o : ℕ). counted t q.earliest now.row (units_left direction q o)) over in
-      let order : q.start ≤ q.end = omega arith in
-      omega (arith, p.count ready, room, here, last_counts t direction q.earliest now.row q order fits)
+  has_room_last (inl (ready, room)) fits over = grind (arith, common_steps, last_counts)
   has_room_last (inr room) fits over = omega (arith, p.room, room)
 
   module _ {next : ℕ} (s : Step t direction q now.row now.offset next) where
@@ -178,5 +163,4 @@ module _ {t : Table} {direction : Direction} {q : Query} {first now : Standpoint
 -- a quit, as it is told
 pub quits_at : {stop : Stop} {error : MatchError} {byte byte' offset offset' : ℕ} → error ≡ MatchError.Quit byte offset
     → byte ≡ byte' → offset ≡ offset' → stop ≡ Stop.Quits byte' offset' → stop_error stop ≡ Some error
-quits_at error_is byte_is offset_is is =
-    ap stop_error is ∙ ap Some (sym (error_is ∙ ap₂ MatchError.Quit byte_is offset_is))
+quits_at error_is byte_is offset_is is = grind (arith, common_steps)

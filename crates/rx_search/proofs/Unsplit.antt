@@ -1,6 +1,7 @@
 -- Matches that split a character are passed over, turn by turn.
+use Rattle.std.proofs.lemmas.Grind.{common_steps}
 use Rattle.std.proofs.Common.{◌≡◌, ℕ, suc, ◌-◌, ◌<◌, ◌≤◌, ◌||◌, Bool, true, false, if◌then◌else◌, Some, None, Ok, Err}
-use Rattle.std.proofs.Common.{List, length, refl, ap, ap₂, sym, ◌∙◌, subst, arith}
+use Rattle.std.proofs.Common.{List, length, refl, arith}
 use Rattle.std.specs.Prelude.{IsTrue, ◌↔◌}
 use Rattle.std.proofs.lemmas.Bool.{eqb-false, or_right, true_from_ne_false}
 use Rattle.rx_spec.specs.Queries.{Query, HalfMatch, MatchError, IsFit, is_anchored}
@@ -27,35 +28,26 @@ module _ (search : Query → HalfAnswer) (direction : Direction) (q : Query) whe
   -- a match that splits no character is told
   pub whole_told : (h : HalfMatch) → is_split q.haystack h.offset ≡ false
       → unsplit_from search direction q h ≡ Ok (Some h)
-  whole_told h e =
-      ap (λ (split : Bool). if split then (if is_anchored q.mode || is_narrowest direction q then Ok None else again)
-      else Ok (Some h)) e
+  whole_told h e = grind (arith, common_steps)
 
   -- of one that does nothing is told where the search isn't made again
   pub none_told : (h : HalfMatch) → is_split q.haystack h.offset ≡ true
       → (is_anchored q.mode || is_narrowest direction q) ≡ true
       → unsplit_from search direction q h ≡ Ok None
-  none_told h e stops =
-      ap (λ (split : Bool). if split then (if is_anchored q.mode || is_narrowest direction q then Ok None else again)
-      else Ok (Some h)) e
-      ∙ ap (λ (stop : Bool). if stop then Ok None else again) stops
+  none_told h e stops = grind (arith, common_steps)
 
   -- and else what the narrower search tells
   pub searched_again : (h : HalfMatch) → is_split q.haystack h.offset ≡ true
       → is_anchored q.mode ≡ false → is_narrowest direction q ≡ false
       → unsplit_from search direction q h
       ≡ skip_splits search direction (split_limit (narrower direction q)) (narrower direction q)
-  searched_again h e goes more =
-      ap (λ (split : Bool). if split then (if is_anchored q.mode || is_narrowest direction q then Ok None else again)
-      else Ok (Some h)) e
-      ∙ ap₂ (λ (anchored narrowest : Bool). if anchored || narrowest then Ok None else again) goes more
+  searched_again h e goes more = grind (arith, common_steps)
 
 -- what a search of a query that fits tells, by the search's own answer
 limit_more : (direction : Direction) (q : Query) → IsFit q → is_narrowest direction q ≡ false
     → split_limit q ≡ suc (split_limit (narrower direction q))
 limit_more Direction.Forward q fits e = let ordered = fits.ordered in omega arith
-limit_more Direction.Reverse q fits e =
-    let ordered = fits.ordered in let some = eqb-false q.end 0 e in omega arith
+limit_more Direction.Reverse q fits e = grind (arith, common_steps, eqb-false)
 
 module _ (search : Query → HalfAnswer) (direction : Direction) {q : Query} (fits : IsFit q) where
   -- some turn is left
@@ -63,45 +55,15 @@ module _ (search : Query → HalfAnswer) (direction : Direction) {q : Query} (fi
   some_turn = let ordered = fits.ordered in omega arith
 
   pub nothing_found : search q ≡ Ok None → skip_splits search direction (split_limit q) q ≡ Ok None
-  nothing_found e =
-      ap (λ (n : ℕ). skip_splits search direction n q) some_turn ∙ turn search direction (split_limit q - 1) q
-      ∙ ap (λ (a : HalfAnswer). unless_split direction q a
-      (skip_splits search direction (split_limit q - 1) (narrower direction q))) e
+  nothing_found e = grind (arith, common_steps, some_turn, turn)
 
   pub search_failed : (error : MatchError) → search q ≡ Err error
       → skip_splits search direction (split_limit q) q ≡ Err error
-  search_failed error e =
-      ap (λ (n : ℕ). skip_splits search direction n q) some_turn ∙ turn search direction (split_limit q - 1) q
-      ∙ ap (λ (a : HalfAnswer). unless_split direction q a
-      (skip_splits search direction (split_limit q - 1) (narrower direction q))) e
+  search_failed error e = grind (arith, common_steps, some_turn, turn)
 
   pub match_found : (h : HalfMatch) → search q ≡ Ok (Some h)
       → skip_splits search direction (split_limit q) q ≡ unsplit_from search direction q h
-  match_found h e =
-      ap (λ (n : ℕ). skip_splits search direction n q) some_turn ∙ turn search direction (split_limit q - 1) q
-      ∙ ap (λ (a : HalfAnswer). unless_split direction q a
-      (skip_splits search direction (split_limit q - 1) (narrower direction q))) e
-      ∙ by_narrowest (is_narrowest direction q) refl
-    where
-      chosen : Bool → Bool → HalfAnswer → HalfAnswer
-      chosen split stop later = if split then (if stop then Ok None else later) else Ok (Some h)
-
-      by_narrowest : (narrowest : Bool) → is_narrowest direction q ≡ narrowest
-          → unless_split direction q (Ok (Some h))
-          (skip_splits search direction (split_limit q - 1) (narrower direction q))
-          ≡ unsplit_from search direction q h
-      by_narrowest true n =
-          let stops = or_right (is_anchored q.mode) (is_narrowest direction q) n in
-          let split = is_split q.haystack h.offset in
-          ap (λ (s : Bool). chosen split s
-          (skip_splits search direction (split_limit q - 1) (narrower direction q))) stops
-          ∙ sym (ap (λ (s : Bool). chosen split s
-          (skip_splits search direction (split_limit (narrower direction q)) (narrower direction q))) stops)
-      by_narrowest false n =
-          let more = limit_more direction q fits n in
-          let one : split_limit q - 1 ≡ split_limit (narrower direction q) = omega arith in
-          ap (λ (k : ℕ). unless_split direction q (Ok (Some h))
-          (skip_splits search direction k (narrower direction q))) one
+  match_found h e = grind (arith, common_steps, some_turn, turn, or_right, limit_more)
 
 -- ---- turns of the code
 
@@ -109,10 +71,7 @@ module _ (search : Query → HalfAnswer) (direction : Direction) {q : Query} (fi
 pub splits_there : (haystack : List ℕ) (offset : ℕ) {boundary : Bool}
     → (IsTrue boundary ↔ ((offset ≤ length haystack) × (is_split haystack offset ≡ false)))
     → boundary ≡ false → offset ≤ length haystack → is_split haystack offset ≡ true
-splits_there haystack offset {boundary} is none within =
-    true_from_ne_false (is_split haystack offset)
-    (λ whole. let there : boundary ≡ true = is.1 (within, whole) in
-    let no : true ≡ false = sym there ∙ none in absurd (cc))
+splits_there haystack offset {boundary} is none within = grind (arith, common_steps, true_from_ne_false)
 
 pub whole_there : (haystack : List ℕ) (offset : ℕ) {boundary : Bool}
     → (IsTrue boundary ↔ ((offset ≤ length haystack) × (is_split haystack offset ≡ false)))
@@ -123,26 +82,17 @@ whole_there haystack offset is there = (is.0 there).1
 pub split_found : {q : Query} {told offset : ℕ} {boundary : Bool} → IsFit q → IsInSpan q told → offset ≡ told
     → (IsTrue boundary ↔ ((offset ≤ length q.haystack) × (is_split q.haystack offset ≡ false))) → boundary ≡ false
     → is_split q.haystack told ≡ true
-split_found {q} {told} {offset} fits span same is none =
-    let within = fits.within in
-    let high = span.high in
-    subst (λ (o : ℕ). is_split q.haystack o ≡ true) same (splits_there q.haystack offset is none (omega arith))
+split_found {q} {told} {offset} fits span same is none = grind (arith, common_steps, splits_there)
 
 -- a narrower query fits, where a match was told
 narrower_fits : (direction : Direction) {q : Query} → IsFit q → q.start ≤ q.end → is_narrowest direction q ≡ false
     → IsFit (narrower direction q)
-narrower_fits Direction.Forward fits order more =
-    let within = fits.within in record { within = omega arith; ordered = omega arith }
-narrower_fits Direction.Reverse {q} fits order more =
-    let within = fits.within in
-    let some = eqb-false q.end 0 more in record { within = omega arith; ordered = omega arith }
+narrower_fits Direction.Forward fits order more = grind (arith, common_steps)
+narrower_fits Direction.Reverse {q} fits order more = grind (arith, common_steps, eqb-false)
 
 pub next_fits : (direction : Direction) {now next : Query} {offset : ℕ} → IsFit now → IsInSpan now offset
     → next ≡ narrower direction now → is_narrowest direction now ≡ false → IsFit next
-next_fits direction fits span is more =
-    let low = span.low in
-    let high = span.high in
-    subst IsFit (sym is) (narrower_fits direction fits (omega arith) more)
+next_fits direction fits span is more = grind (arith, common_steps, narrower_fits)
 
 pub limit_falls : (direction : Direction) {q : Query} → IsFit q → is_narrowest direction q ≡ false
     → split_limit (narrower direction q) < split_limit q
@@ -165,17 +115,10 @@ module _ (t : Table) (direction : Direction) {q : Query} (fits : IsFit q) where
       → half_unsplit t direction q ≡ Err error
   unsplit_fails error e = by_skips (skips_splits t) (search_failed searched direction fits error e) e
 
-  pub unsplit_plain : skips_splits t ≡ false → half_unsplit t direction q ≡ half_search t.machine t.settings direction q
-  unsplit_plain e =
-      ap (λ (skips : Bool). if skips then skip_splits searched direction (split_limit q) q else searched q) e
-
   pub unsplit_match : (h : HalfMatch) → skips_splits t ≡ true
       → half_search t.machine t.settings direction q ≡ Ok (Some h)
       → half_unsplit t direction q ≡ unsplit_from (half_search t.machine t.settings direction) direction q h
-  unsplit_match h e found =
-      ap (λ (skips : Bool). if skips then skip_splits searched direction (split_limit q) q else searched q) e
-      ∙ match_found searched direction fits h found
+  unsplit_match h e found = grind (arith, common_steps, match_found)
 
   pub told_in_span : (h : HalfMatch) → half_search t.machine t.settings direction q ≡ Ok (Some h) → IsInSpan q h.offset
-  told_in_span h e =
-      let is = half_within t.machine t.settings direction q h e in record { low = is.from; high = is.upto }
+  told_in_span h e = grind (arith, common_steps, half_within)

@@ -1,6 +1,7 @@
 -- What is left of a span, unit by unit, and the next stop of a walk over it.
-use Rattle.std.proofs.Common.{◌≡◌, ◌≢◌, ℕ, suc, zero, ◌+◌, ◌<◌, ◌≤◌, ◌==◌, ◌||◌, Bool, true, false, if◌then◌else◌}
+use Rattle.std.proofs.Common.{rules, ◌≡◌, ◌≢◌, ℕ, suc, zero, ◌+◌, ◌<◌, ◌≤◌, ◌==◌, Bool, true, false, if◌then◌else◌}
 use Rattle.std.proofs.Common.{List, [], ◌∷◌, length, drop, get_or, refl, ap, sym, ◌∙◌, subst, arith}
+use Rattle.std.proofs.lemmas.Grind.{common_steps}
 use Rattle.std.proofs.lemmas.Bool.{eqb-true, eqb-false, or_left, or_right, false_from_ne_true, eq-eqb}
 use Rattle.std.proofs.lemmas.List.{get_or_default}
 use Rattle.std.specs.Prelude.{Contains, not}
@@ -17,7 +18,7 @@ use Rattle.lemmas_walks.proofs.Firsts.{by_test, seen_if, Contains-here}
 use Rattle.lemmas_walks.proofs.ReadUnits.{units_of-more, units_of-last}
 use Rattle.lemmas_tables.proofs.Tables.{leaving_exactly}
 use Rattle.rx_search.specs.Labels.{is_quit}
-use Rattle.rx_search.specs.Needles.{is_nil, is_needle, byte_ahead, offset_after, is_read, Skips}
+use Rattle.rx_search.specs.Needles.{byte_ahead, offset_after, is_read, Skips}
 use Rattle.rx_search.specs.Walks.{IsInSpan, last_offset, bytes_left, rest, units_left, units_after, unit_ahead, Stop}
 use Rattle.rx_search.specs.Walks.{at_stop_label, next_stop}
 use Rattle.rx_search.proofs.Standing.{Standing, match_label, quit_label, plain_label}
@@ -56,18 +57,7 @@ module _ (direction : Direction) {q : Query} {offset : ℕ} (p : Place q offset)
   more_left : offset ≢ last_offset direction q
       → ((rest direction q offset).start < (rest direction q offset).end)
       × ((rest direction q offset).end ≤ length (rest direction q offset).haystack)
-  more_left ne =
-      let fits = p.fits in
-      let low = p.in_span.low in
-      let high = p.in_span.high in
-      by_direction direction ne fits low high
-    where
-      by_direction : (d : Direction) → offset ≢ last_offset d q → q.end ≤ length q.haystack
-          → q.start ≤ offset → offset ≤ q.end
-          → ((rest d q offset).start < (rest d q offset).end)
-          × ((rest d q offset).end ≤ length (rest d q offset).haystack)
-      by_direction Direction.Forward ne fits low high = (omega arith, omega arith)
-      by_direction Direction.Reverse ne fits low high = (omega arith, omega arith)
+  more_left ne = grind (arith, common_steps)
 
   pub units_left-more : offset ≢ last_offset direction q
       → units_left direction q offset
@@ -85,29 +75,14 @@ module _ (direction : Direction) {q : Query} {offset : ℕ} (p : Place q offset)
       (rest_first direction q offset)
 
   pub next_place : offset ≢ last_offset direction q → Place q (next_offset direction offset)
-  next_place ne = record { fits = p.fits; in_span = by_direction direction ne p.in_span.low p.in_span.high }
-    where
-      by_direction : (d : Direction) → offset ≢ last_offset d q → q.start ≤ offset → offset ≤ q.end
-          → IsInSpan q (next_offset d offset)
-      by_direction Direction.Forward ne low high = record { low = omega arith; high = omega arith }
-      by_direction Direction.Reverse ne low high = record { low = omega arith; high = omega arith }
+  next_place ne = grind (arith, common_steps)
 
   pub next_left : offset ≢ last_offset direction q
       → bytes_left direction q (next_offset direction offset) + 1 ≡ bytes_left direction q offset
-  next_left ne = by_direction direction ne p.in_span.low p.in_span.high
-    where
-      by_direction : (d : Direction) → offset ≢ last_offset d q → q.start ≤ offset → offset ≤ q.end
-          → bytes_left d q (next_offset d offset) + 1 ≡ bytes_left d q offset
-      by_direction Direction.Forward ne low high = omega arith
-      by_direction Direction.Reverse ne low high = omega arith
+  next_left ne = grind (arith, common_steps)
 
   pub within_haystack : offset ≢ last_offset direction q → unit_offset direction offset < length q.haystack
-  within_haystack ne = by_direction direction ne p.fits p.in_span.low p.in_span.high
-    where
-      by_direction : (d : Direction) → offset ≢ last_offset d q → q.end ≤ length q.haystack → q.start ≤ offset
-          → offset ≤ q.end → unit_offset d offset < length q.haystack
-      by_direction Direction.Forward ne fits low high = omega arith
-      by_direction Direction.Reverse ne fits low high = omega arith
+  within_haystack ne = grind (arith, common_steps)
 
   pub byte_there : AreBytes q.haystack → offset ≢ last_offset direction q → byte_ahead direction q.haystack offset < 256
   byte_there bytes ne = bytes (unit_offset direction offset) 0 (within_haystack ne)
@@ -115,10 +90,8 @@ module _ (direction : Direction) {q : Query} {offset : ℕ} (p : Place q offset)
 -- the last unit, past the span
 pub units_left-last : (direction : Direction) (q : Query) → q.start ≤ q.end → q.end ≤ length q.haystack
     → units_left direction q (last_offset direction q) ≡ unit_ahead direction q.haystack (last_offset direction q) ∷ []
-units_left-last Direction.Forward q order fits =
-    units_of-last Direction.Forward (rest Direction.Forward q q.end) refl fits
-units_left-last Direction.Reverse q order fits =
-    units_of-last Direction.Reverse (rest Direction.Reverse q q.start) refl (omega arith)
+units_left-last Direction.Forward q order fits = grind (arith, common_steps, units_of-last)
+units_left-last Direction.Reverse q order fits = grind (arith, common_steps, units_of-last)
 
 -- ---- quiet rows
 
@@ -129,54 +102,19 @@ pub record IsQuiet (t : Table) (row : ℕ) : Type 0 where
 
 module _ {t : Table} {row : ℕ} (s : Standing t row) where
   pub quiet : is_match t row ≡ false → is_quit t row ≡ false → (row == 0) ≡ false → IsQuiet t row
-  quiet no_match no_quit not_dead = record {
-    plain = plain_label (t.machine.label row) no_match no_quit;
-    alive = s.sound.is_table.dead_only row s.below ∙ not_dead;
-  }
+  quiet no_match no_quit not_dead = grind (arith, common_steps, plain_label)
 
   -- a row that isn't special is quiet
   pub ordinary : t.is_special row ≡ false → IsQuiet t row
-  ordinary e =
-      quiet (false_from_ne_true (is_match t row) (λ m. is_none (matches m)))
-      (false_from_ne_true (is_quit t row)
-      (λ q. is_none (quits (s.sound.is_table.quit_only row s.below (quit_label (t.machine.label row) q)))))
-      (false_from_ne_true (row == 0) (λ d. is_none (dead d)))
-    where
-      ends : Bool
-      ends = (row == 0) || (row == 1)
-
-      is_none : (ends || is_match t row || t.is_accelerated row || t.is_start row) ≡ true → ⊥
-      is_none is = let no : true ≡ false = sym is ∙ sym (s.sound.special row s.below) ∙ e in absurd (cc)
-
-      matches : is_match t row ≡ true → (ends || is_match t row || t.is_accelerated row || t.is_start row) ≡ true
-      matches m =
-          or_left (ends || is_match t row || t.is_accelerated row) (t.is_start row)
-          (or_left (ends || is_match t row) (t.is_accelerated row) (or_right ends (is_match t row) m))
-
-      ended : ends ≡ true → (ends || is_match t row || t.is_accelerated row || t.is_start row) ≡ true
-      ended h =
-          or_left (ends || is_match t row || t.is_accelerated row) (t.is_start row)
-          (or_left (ends || is_match t row) (t.is_accelerated row) (or_left ends (is_match t row) h))
-
-      quits : row ≡ 1 → (ends || is_match t row || t.is_accelerated row || t.is_start row) ≡ true
-      quits one = ended (or_right (row == 0) (row == 1) (eq-eqb row 1 one))
-
-      dead : (row == 0) ≡ true → (ends || is_match t row || t.is_accelerated row || t.is_start row) ≡ true
-      dead d = ended (or_left (row == 0) (row == 1) d)
+  ordinary e = search (rules, quiet, false_from_ne_true, quit_label, or_left, or_right, eq-eqb)
 
   -- nor has it needles
   pub unaccelerated : t.is_special row ≡ false → t.is_accelerated row ≡ false
-  unaccelerated e = false_from_ne_true (t.is_accelerated row) (λ a.
-      let is = or_left ((row == 0) || (row == 1) || is_match t row || t.is_accelerated row) (t.is_start row)
-      (or_right ((row == 0) || (row == 1) || is_match t row) (t.is_accelerated row) a) in
-      let no : true ≡ false = sym is ∙ sym (s.sound.special row s.below) ∙ e in absurd (cc))
+  unaccelerated e = search (rules, false_from_ne_true, or_left, or_right)
 
   -- a row from which a byte may be skipped is accelerated, and so it isn't dead
   unread_accelerated : (byte : ℕ) → is_read t row byte ≡ false → t.is_accelerated row ≡ true
-  unread_accelerated byte unread =
-      by_test (t.is_accelerated row) (λ e. e)
-      (λ e. let read = ap (λ (ns : List ℕ). is_nil ns || is_needle ns byte) (s.sound.no_needle row s.below e) in
-      let no : true ≡ false = sym read ∙ unread in absurd (cc))
+  unread_accelerated byte unread = search (rules, by_test)
 
   pub unread_alive : (byte : ℕ) → is_read t row byte ≡ false → t.machine.is_dead row ≡ false
   unread_alive byte unread =
@@ -201,17 +139,7 @@ module _ {t : Table} {row : ℕ} (s : Standing t row) where
   -- a byte that may be skipped leads back to the row
   pub loops : (byte : ℕ) → byte < 256 → is_read t row byte ≡ false → t.machine.next row byte ≡ row
   loops byte below unread =
-      by_test (t.machine.next row byte == row) (λ e. eqb-true (t.machine.next row byte) row e)
-      (λ e. absurd (read (eqb-false (t.machine.next row byte) row e)))
-    where
-      read : t.machine.next row byte ≢ row → ⊥
-      read leaves =
-          let found = seen_if byte (leaving t row) ((leaving_exactly t row byte below).1 leaves) in
-          let needle = ap (λ (ns : List ℕ). is_needle ns byte)
-          (s.sound.needles row s.below (unread_accelerated byte unread)) ∙ found in
-          let no : true ≡ false
-          = sym (or_right (is_nil (t.needles row)) (is_needle (t.needles row) byte) needle) ∙ unread in
-          absurd (cc)
+      search (rules, by_test, eqb-true, eqb-false, seen_if, leaving_exactly, unread_accelerated, or_right)
 
   -- nor does such a row quit, so it is quiet if it isn't a match row
   pub unread_quiet : (byte : ℕ) → byte < 256 → is_match t row ≡ false → is_read t row byte ≡ false → IsQuiet t row
@@ -256,13 +184,7 @@ module _ {t : Table} {row unit next : ℕ} (turn : Turn t row unit next) (direct
 
   stop_on : {label : Label} {dead : Bool} → t.machine.label next ≡ label → t.machine.is_dead next ≡ dead
       → next_stop t.machine direction row offset (unit ∷ units) ≡ on_stop label dead
-  stop_on {label} {dead} e f =
-      stop-cons t.machine direction row unit offset units
-      ∙ ap (λ (n : ℕ). at_stop_label (t.machine.label n) direction n unit offset units
-      (if t.machine.is_dead n then Stop.Ended
-      else next_stop t.machine direction n (next_offset direction offset) units))
-      (sym turn.leads)
-      ∙ ap (λ (l : Label). on_stop l (t.machine.is_dead next)) e ∙ ap (on_stop label) f
+  stop_on {label} {dead} e f = grind (arith, common_steps, stop-cons)
 
   pub stop_quiet : IsQuiet t next
       → next_stop t.machine direction row offset (unit ∷ units)
@@ -325,11 +247,7 @@ module _ (t : Table) (row : ℕ) (direction : Direction) (q : Query) {X : Type 0
 pub skip_left : {t : Table} {row : ℕ} (direction : Direction) (q : Query) {from to : ℕ}
     → Skips t direction q row from to
     → bytes_left direction q to ≤ bytes_left direction q from
-skip_left direction q {from} {to} s = by_direction direction s.there
-  where
-    by_direction : (d : Direction) → to ≡ offset_after d from s.count → bytes_left d q to ≤ bytes_left d q from
-    by_direction Direction.Forward e = omega (arith, e)
-    by_direction Direction.Reverse e = omega (arith, e)
+skip_left direction q {from} {to} s = grind (arith, common_steps)
 
 pub skip_stops : {t : Table} {row : ℕ} (direction : Direction) (q : Query) → Standing t row
     → t.machine.label row ≡ Label.Plain → AreBytes q.haystack → {from to : ℕ} → Place q from
@@ -381,8 +299,7 @@ module _ {t : Table} {direction : Direction} {q : Query} {row offset next : ℕ}
   pub step_match : is_match t next ≡ true
       → next_stop t.machine direction row offset (units_left direction q offset)
       ≡ Stop.Match next offset (units_after direction q offset)
-  step_match is =
-      step_on ∙ stop_match s.turn direction offset later is ∙ ap (Stop.Match next offset) (sym step_after)
+  step_match is = grind (arith, common_steps, step_on, stop_match, step_after)
 
   pub step_quits : is_quit t next ≡ true
       → next_stop t.machine direction row offset (units_left direction q offset)
@@ -415,8 +332,7 @@ module _ {t : Table} {direction : Direction} {q : Query} {row unit next : ℕ}
   pub last_match : is_match t next ≡ true
       → next_stop t.machine direction row (last_offset direction q) (units_left direction q (last_offset direction q))
       ≡ Stop.Match next (last_offset direction q) (units_after direction q (last_offset direction q))
-  last_match is =
-      last_on ∙ stop_match s.turn direction last [] is ∙ ap (Stop.Match next last) (sym (ap (drop 1) last_units))
+  last_match is = grind (arith, common_steps, last_on, stop_match, last_units)
 
   pub last_quits : is_quit t next ≡ true
       → next_stop t.machine direction row (last_offset direction q) (units_left direction q (last_offset direction q))
@@ -447,9 +363,5 @@ eoi_no_quit {t} {row} {unit} {next} s turn eoi =
 pub stepped : {t : Table} {direction : Direction} {q : Query} {row offset next byte last : ℕ} {hay : List ℕ}
     → Place q offset → last ≡ last_offset direction q → offset ≢ last → hay ≡ q.haystack
     → byte ≡ byte_ahead direction hay offset → Turn t row byte next → Step t direction q row offset next
-stepped {t} {direction} {q} {row} {offset} {next} {byte} {last} {hay} place last_is more hay_is byte_is turn = record {
-  place = place;
-  more = λ e. more (e ∙ sym last_is);
-  turn = subst (λ (b : ℕ). Turn t row b next)
-      (byte_is ∙ ap (λ (h : List ℕ). byte_ahead direction h offset) hay_is) turn;
-}
+stepped {t} {direction} {q} {row} {offset} {next} {byte} {last} {hay} place last_is more hay_is byte_is turn =
+    grind (arith, common_steps)

@@ -1,7 +1,7 @@
 -- How a text goes on of which the last bytes are kept.
-use Rattle.std.proofs.Common.{◌≡◌, ℕ, ◌+◌, ◌-◌, ◌<◌, ◌≤◌, min, ◌++◌, List, [], length, slice_index}
-use Rattle.std.proofs.Common.{Option, Some, None, ap, refl, sym, ◌∙◌, subst, ⊎_elim, arith, take, drop, length-append}
-use Rattle.std.proofs.Common.{length-drop, length-take, length-take-le}
+use Rattle.std.proofs.Common.{◌≡◌, ℕ, ◌+◌, ◌-◌, ◌<◌, ◌≤◌, min, ◌++◌, List, [], length, slice_index, Option, Some, None}
+use Rattle.std.proofs.Common.{ap, refl, sym, ◌∙◌, subst, ⊎_elim, arith, take, drop, length-append, length-drop}
+use Rattle.std.proofs.Common.{length-take, length-take-le}
 use Rattle.std.proofs.Math.ListN.{get_or-append}
 use Rattle.std.proofs.Math.Seq.{get_or-append_right}
 use Rattle.std.proofs.lemmas.Bool.{cases_lt}

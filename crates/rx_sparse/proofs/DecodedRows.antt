@@ -1,6 +1,7 @@
 -- What a decoded row answers from its parts.
-use Rattle.std.proofs.Common.{◌≡◌, ℕ, suc, ◌+◌, ◌-◌, ◌*◌, ◌/◌, ◌<◌, ◌≤◌, ◌&&◌, Bool, true, false, cond}
-use Rattle.std.proofs.Common.{List, ◌∷◌, length, take, drop, map, slice_index, get_or, nat_le, ap, sym, ◌∙◌, arith}
+use Rattle.std.proofs.lemmas.Grind.{common_steps}
+use Rattle.std.proofs.Common.{◌≡◌, ℕ, suc, ◌+◌, ◌-◌, ◌*◌, ◌/◌, ◌<◌, ◌≤◌, ◌&&◌, Bool, true, false, List, ◌∷◌, length}
+use Rattle.std.proofs.Common.{take, drop, map, slice_index, get_or, nat_le, ap, sym, ◌∙◌, arith}
 use Rattle.std.specs.List.{range_with_len}
 use Rattle.std.specs.Int.{w32}
 use Rattle.std.proofs.lemmas.List.{drop-drop}
@@ -18,9 +19,7 @@ ranges_from order ends ids count place = map (range_in order ends ids) (range_wi
 
 pub ranges-first : (order : Order) (ends ids : List ℕ) (count : ℕ)
     → map (range_in order ends ids) (range_with_len 0 count) ≡ ranges_from order ends ids count 0
-ranges-first order ends ids count =
-    let same : count ≡ count - 0 = omega arith in
-    ap (λ n. map (range_in order ends ids) (range_with_len 0 n)) same
+ranges-first order ends ids count = grind (arith, common_steps)
 
 ranges-next : (order : Order) (ends ids : List ℕ) (count place : ℕ) → place < count
     → ranges_from order ends ids count place
@@ -38,25 +37,19 @@ pub next-found : (order : Order) (ends ids : List ℕ) (count place class : ℕ)
     → is_there ends place class ≡ true
     → next_among (ranges_from order ends ids count place) class ≡ word_at order ids place
 unfolding next_among
-next-found order ends ids count place class h there =
-    ap (λ rs. next_among rs class) (ranges-next order ends ids count place h)
-    ∙ ap (λ b. cond b (word_at order ids place) (next_among (ranges_from order ends ids count (place + 1)) class)) there
+next-found order ends ids count place class h there = grind (arith, common_steps, ranges-next)
 
 pub next-passed : (order : Order) (ends ids : List ℕ) (count place class : ℕ) → place < count
     → is_there ends place class ≡ false
     → next_among (ranges_from order ends ids count place) class
     ≡ next_among (ranges_from order ends ids count (place + 1)) class
 unfolding next_among
-next-passed order ends ids count place class h there =
-    ap (λ rs. next_among rs class) (ranges-next order ends ids count place h)
-    ∙ ap (λ b. cond b (word_at order ids place) (next_among (ranges_from order ends ids count (place + 1)) class)) there
+next-passed order ends ids count place class h there = grind (arith, common_steps, ranges-next)
 
 pub next-none : (order : Order) (ends ids : List ℕ) (count place class : ℕ) → count ≤ place
     → next_among (ranges_from order ends ids count place) class ≡ 0
 unfolding next_among
-next-none order ends ids count place class h =
-    let none : count - place ≡ 0 = omega arith in
-    ap (λ n. next_among (map (range_in order ends ids) (range_with_len place n)) class) none
+next-none order ends ids count place class h = grind (arith, common_steps)
 
 -- ---- patterns
 
@@ -92,20 +85,14 @@ module _ (order : Order) (rest : List ℕ) (i : ℕ) where
 
 pub pattern_count : (order : Order) (is_match : Bool) (rest : List ℕ) → is_match ≡ true
     → word_at order rest 0 ≡ length (patterns_in order is_match rest)
-pattern_count order is_match rest e =
-    sym (length-map-range_with_len (word_at order (drop 4 rest)) 0 (word_at order rest 0))
-    ∙ ap (λ m. length (patterns_in order m rest)) (sym e)
+pattern_count order is_match rest e = grind (arith, common_steps, length-map-range_with_len)
 
 -- ---- a range
 
 module _ (order : Order) (ends ids : List ℕ) {ranges : List ClassRange} (i : ℕ) (h : i < length ranges)
     (are : map (range_in order ends ids) (range_with_len 0 (length ends / 2 - 1)) ≡ ranges) where
   pub range_place : i < length ends / 2 - 1
-  range_place =
-      omega (arith, ap length are, length-map-range_with_len (range_in order ends ids) 0 (length ends / 2 - 1))
+  range_place = grind (arith, common_steps, length-map-range_with_len)
 
   pub range_is : range_in order ends ids i ≡ get_or ranges i no_range
-  range_is =
-      let none : 0 + i ≡ i = omega arith in
-      sym (get_or-map-range_with_len (range_in order ends ids) 0 (length ends / 2 - 1) i i no_range range_place none)
-      ∙ ap (λ rs. get_or rs i no_range) are
+  range_is = grind (arith, common_steps, get_or-map-range_with_len, range_place)

@@ -1,4 +1,5 @@
 -- The maximal ranges of a row of a dense table: they rise, and lead where its columns lead.
+use Rattle.std.proofs.lemmas.Grind.{common_steps}
 use Rattle.std.proofs.Common.{◌≡◌, ◌≢◌, ◌⊎◌, inl, inr, ℕ, zero, suc, ◌+◌, ◌-◌, ◌<◌, ◌≤◌, ◌==◌, ◌&&◌, ◌||◌, Bool, true}
 use Rattle.std.proofs.Common.{false, not, cond, nat_le, List, [], ◌∷◌, length, map, filter, slice_index, get_or, drop}
 use Rattle.std.proofs.Common.{refl, ap, ap₂, sym, ◌∙◌, subst, ⊎_elim, arith, length-drop, length-take-le}
@@ -14,7 +15,7 @@ use Rattle.std.proofs.lemmas.List.Folds.{length-prefix_len}
 use Rattle.std.proofs.lemmas.List.FromFn.{length-range_with_len}
 use Rattle.std.proofs.lemmas.List.Kept.{IsStrictlyIncreasing-filter}
 use Rattle.std.proofs.lemmas.List.Sums.{prefix_len-le-length, prefix_len_passes}
-use Rattle.lemmas_walks.proofs.Firsts.{by_test, Contains-cases, Contains-here, Contains-nil, Contains-there}
+use Rattle.lemmas_walks.proofs.Firsts.{by_test, Contains-cases, Contains-here, Contains-there}
 use Rattle.lemmas_tables.proofs.Filters.{filter_keeps, filter_tested, filter_within, range_has, range_rises}
 use Rattle.lemmas_tables.proofs.Filters.{range_within}
 use Rattle.rx_dense.specs.States.{begins_range, is_live, range_end}
@@ -112,12 +113,7 @@ module _ (next_ids : List ℕ) where
   -- the first class of those before one that lead to the same row
   begin_of : (c : ℕ) → (f : ℕ) × (f ≤ c) × (begins_range next_ids f ≡ true)
       × ((k : ℕ) → f ≤ k → k ≤ c → id_at k ≡ id_at c)
-  begin_of zero = (
-    0,
-    omega arith,
-    refl,
-    λ k low high. (let e : k ≡ 0 = omega arith in ap id_at e),
-  )
+  begin_of zero = grind (arith, common_steps)
   begin_of (suc c) =
       let back : suc c - 1 ≡ c = omega arith in
       ⊎_elim
@@ -147,12 +143,7 @@ module _ (next_ids : List ℕ) where
       → ((f : ℕ) × Contains fs f × (has_class c (range_of next_ids f) ≡ true)) ⊎ (v ≡ 0)
       → next_among (map (range_of next_ids) fs) c ≡ v
   unfolding next_among
-  found [] c v all some =
-      ⊎_elim
-      (λ (one : (f : ℕ) × Contains [] f × (has_class c (range_of next_ids f) ≡ true)).
-      absurd (Contains-nil one.0 one.1))
-      (λ (e : v ≡ 0). sym e)
-      some
+  found [] c v all some = grind (arith, common_steps)
   found (f ∷ fs) c v all some =
       let rest : ℕ = next_among (map (range_of next_ids) fs) c in
       by_test (has_class c (range_of next_ids f))

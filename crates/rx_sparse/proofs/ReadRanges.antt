@@ -1,14 +1,13 @@
 -- The ranges of a row of a dense table, as they are read one by one.
-use Rattle.std.proofs.Common.{◌≡◌, ℕ, ◌-◌, ◌==◌, ◌&&◌, Bool, true, false, not, cond, nat_le}
-use Rattle.std.proofs.Common.{List, [], ◌∷◌, ◌++◌, length, map, filter, slice_index, refl, ap, sym, ◌∙◌, arith}
-use Rattle.std.proofs.Common.{append_assoc}
-use Rattle.std.specs.List.{flat_map, range_with_len}
+use Rattle.std.proofs.lemmas.Grind.{common_steps, flat_map-append}
+use Rattle.std.proofs.Common.{◌≡◌, ℕ, ◌-◌, Bool, true, false, cond, List, [], ◌∷◌, ◌++◌, length, map, slice_index, refl}
+use Rattle.std.proofs.Common.{ap, sym, ◌∙◌, arith, append_assoc}
+use Rattle.std.specs.List.{flat_map}
 use Rattle.std.proofs.lemmas.Bool.{eqb-true}
 use Rattle.std.proofs.lemmas.Bool.Decides.{nat_tests}
-use Rattle.std.proofs.lemmas.Grind.{flat_map-append}
 use Rattle.std.proofs.lemmas.List.{append-nil}
 use Rattle.rx_spec.specs.declared.Unit.{Unit as U}
-use Rattle.rx_dense.specs.States.{begins_range, eoi_range_from, is_live, ranges_from, sparse_transitions_from}
+use Rattle.rx_dense.specs.States.{eoi_range_from, is_live, ranges_from, sparse_transitions_from}
 use Rattle.rx_dense.specs.States as dense
 use Rattle.rx_sparse.specs.declared.ranges.ClassRange.{ClassRange}
 use Rattle.rx_sparse.specs.Reading.{class_of}
@@ -41,34 +40,16 @@ pub read_byte : {next_ids : List ℕ} {ranges more : List ClassRange} {eoi : ℕ
     → more ≡ ranges ++ record { first = class; last = end; next = next } ∷ []
     → AreRead next_ids more eoi rest
 read_byte {next_ids} {ranges} {more} {eoi} {left} {rest} {first} {last} {next} {class} {end} are e byte end_is more_is =
-    let item : U → ℕ → List ClassRange = λ u n. ranges_by u last n in
-    record {
-      ranges_are =
-          ap (λ rs. rs ++ ranges_in rest) more_is
-          ∙ append_assoc ranges (record { first = class; last = end; next = next } ∷ []) (ranges_in rest)
-          ∙ ap (λ n. ranges ++ (record { first = class; last = n; next = next } ∷ ranges_in rest)) end_is
-          ∙ ap (λ u. ranges ++ (ranges_by u last next ++ ranges_in rest)) (sym byte)
-          ∙ ap (λ xs. ranges ++ ranges_in xs) (sym e)
-          ∙ are.ranges_are;
-      eoi_is =
-          ap (λ u. eoi_after (eoi_by u next eoi) rest) (sym byte) ∙ ap (eoi_after eoi) (sym e) ∙ are.eoi_is;
-    }
+    grind (arith, common_steps, append_assoc)
 
 pub read_eoi : {next_ids : List ℕ} {ranges : List ClassRange} {eoi : ℕ} {left rest : List (U × U × ℕ)}
     {first last : U} {next : ℕ} → AreRead next_ids ranges eoi left → left ≡ (first, last, next) ∷ rest
     → first ≡ U.Eoi → AreRead next_ids ranges next rest
-read_eoi {next_ids} {ranges} {eoi} {left} {rest} {first} {last} {next} are e mark = record {
-  ranges_are =
-      ap (λ u. ranges ++ (ranges_by u last next ++ ranges_in rest)) (sym mark)
-      ∙ ap (λ xs. ranges ++ ranges_in xs) (sym e)
-      ∙ are.ranges_are;
-  eoi_is = ap (λ u. eoi_after (eoi_by u next eoi) rest) (sym mark) ∙ ap (eoi_after eoi) (sym e) ∙ are.eoi_is;
-}
+read_eoi {next_ids} {ranges} {eoi} {left} {rest} {first} {last} {next} are e mark = grind (arith, common_steps)
 
 pub all_read : {next_ids : List ℕ} {ranges : List ClassRange} {eoi : ℕ} {left : List (U × U × ℕ)}
     → AreRead next_ids ranges eoi left → left ≡ [] → ranges ≡ ranges_of next_ids
-all_read {next_ids} {ranges} are e =
-    sym (append-nil ranges) ∙ ap (λ xs. ranges ++ ranges_in xs) (sym e) ∙ are.ranges_are
+all_read {next_ids} {ranges} are e = grind (arith, common_steps, append-nil)
 
 pub eoi_read : {next_ids : List ℕ} {ranges : List ClassRange} {eoi : ℕ} {left : List (U × U × ℕ)}
     → AreRead next_ids ranges eoi left → left ≡ [] → eoi ≡ slice_index next_ids (length next_ids - 1)
@@ -85,19 +66,13 @@ module _ (next_ids : List ℕ) where
   in_ranges (first ∷ firsts) = ap (λ rs. range_of next_ids first ∷ rs) (in_ranges firsts)
 
   from_zero : ranges_in (ranges_from next_ids 0) ≡ ranges_of next_ids
-  from_zero =
-      let same : eoi - 0 ≡ eoi = omega arith in
-      in_ranges (filter (λ first. begins_range next_ids first && is_live next_ids first) (range_with_len 0 (eoi - 0)))
-      ∙ ap (λ n. map (range_of next_ids) (filter (λ first. begins_range next_ids first && is_live next_ids first)
-      (range_with_len 0 n))) same
+  from_zero = grind (arith, common_steps, in_ranges)
 
   abbrev mark : Bool → List (U × U × ℕ)
   mark live = cond live ((U.Eoi, U.Eoi, slice_index next_ids eoi) ∷ []) []
 
   mark_is : eoi_range_from next_ids 0 ≡ mark (is_live next_ids eoi)
-  mark_is =
-      let low : nat_le 0 eoi ≡ true = grind (arith, nat_tests) in
-      ap (λ b. mark (b && is_live next_ids eoi)) low
+  mark_is = grind (arith, common_steps, nat_tests)
 
   no_ranges : (live : Bool) → ranges_in (mark live) ≡ []
   no_ranges true = refl
@@ -105,11 +80,7 @@ module _ (next_ids : List ℕ) where
 
   marked : (live : Bool) → is_live next_ids eoi ≡ live → eoi_after 0 (mark live) ≡ slice_index next_ids eoi
   marked true e = refl
-  marked false e = sym (eqb-true _ 0 (dead (slice_index next_ids eoi == 0) e))
-    where
-      dead : (b : Bool) → not b ≡ false → b ≡ true
-      dead true h = refl
-      dead false h = absurd (cc)
+  marked false e = grind (arith, common_steps, eqb-true)
 
   passed : (e : ℕ) (firsts : List ℕ) (rest : List (U × U × ℕ))
       → eoi_after e (map (dense.range_of next_ids) firsts ++ rest) ≡ eoi_after e rest
@@ -117,15 +88,4 @@ module _ (next_ids : List ℕ) where
   passed e (first ∷ firsts) rest = passed e firsts rest
 
   pub read_first : AreRead next_ids [] 0 (sparse_transitions_from next_ids 0)
-  read_first = record {
-    ranges_are =
-        flat_map-append (λ (x : U × U × ℕ). ranges_by x.0 x.1 x.2) (ranges_from next_ids 0) (eoi_range_from next_ids 0)
-        ∙ ap (λ rs. ranges_in (ranges_from next_ids 0) ++ rs) (ap ranges_in mark_is ∙ no_ranges (is_live next_ids eoi))
-        ∙ append-nil (ranges_in (ranges_from next_ids 0))
-        ∙ from_zero;
-    eoi_is =
-        passed 0 (filter (λ first. begins_range next_ids first && is_live next_ids first)
-        (range_with_len 0 (eoi - 0))) (eoi_range_from next_ids 0)
-        ∙ ap (eoi_after 0) mark_is
-        ∙ marked (is_live next_ids eoi) refl;
-  }
+  read_first = grind (arith, common_steps, flat_map-append, mark_is, no_ranges, append-nil, from_zero, passed, marked)

@@ -1,6 +1,7 @@
 -- Kinds of rows by their ids.
-use Rattle.std.proofs.Common.{◌≡◌, ℕ, ◌&&◌, not, nat_le, Bool, true, false, if◌then◌else◌, List}
-use Rattle.std.proofs.Common.{refl, ap, sym, ◌∙◌}
+use Rattle.std.proofs.Common.{arith, ◌≡◌, ℕ, ◌&&◌, not, nat_le, Bool, true, false, if◌then◌else◌, List, refl, ap, sym}
+use Rattle.std.proofs.Common.{◌∙◌}
+use Rattle.std.proofs.lemmas.Grind.{common_steps}
 use Rattle.rx_spec.specs.Ids.{id_of, row_of}
 use Rattle.rx_spec.specs.Machines.{Label}
 use Rattle.rx_spec.specs.Tables.{is_match, is_match_label}
@@ -58,6 +59,4 @@ module _ (l : Layout) (id : ℕ) (is : IsId (ids_of l) id) where
 
   -- the patterns of a match row
   pub match_patterns : is_match (table_of l) row ≡ true → (row_at l row).patterns ≡ patterns_of (table_of l) row
-  match_patterns e =
-      matches_by (is_match_id l.special (id_of (ids_of l) row)) (is_quit_id l.special (id_of (ids_of l) row))
-      (row_at l row).patterns e
+  match_patterns e = grind (arith, common_steps, matches_by)

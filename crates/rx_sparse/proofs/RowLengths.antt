@@ -1,4 +1,5 @@
 -- How many bytes rows have.
+use Rattle.std.proofs.lemmas.Grind.{common_steps}
 use Rattle.std.proofs.Common.{ℕ, zero, suc, ◌*◌, ◌≤◌, List, [], ◌∷◌, length, take, arith}
 use Rattle.rx_sparse.specs.Rows.{Row, row_len, rows_len}
 
@@ -10,8 +11,4 @@ rows_len-take (r ∷ rows) (suc row) = omega (arith, rows_len-take rows row)
 
 -- its patterns take four bytes each
 pub row_len-patterns : (row : Row) → 4 * length row.patterns ≤ row_len row
-row_len-patterns row = by_list row.patterns
-  where
-    by_list : (patterns : List ℕ) → 4 * length patterns ≤ row_len (record row { patterns = patterns })
-    by_list [] = omega arith
-    by_list (k ∷ ks) = omega arith
+row_len-patterns row = grind (arith, common_steps)

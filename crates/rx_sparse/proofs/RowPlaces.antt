@@ -1,9 +1,9 @@
 -- Where the rows of a table stand among its bytes.
+use Rattle.std.proofs.lemmas.Grind.{common_steps}
 use Rattle.std.proofs.Common.{◌≡◌, ℕ, zero, suc, ◌+◌, ◌*◌, ◌/◌, ◌^◌, ◌<◌, ◌≤◌, List, [], ◌∷◌, ◌++◌, length, take, drop}
-use Rattle.std.proofs.Common.{get_or, slice_index, refl, ap, sym, ◌∙◌, subst, arith}
-use Rattle.std.proofs.Common.{◌==◌, Bool, true, false, cond, Option, Some, None}
+use Rattle.std.proofs.Common.{get_or, slice_index, refl, ap, sym, ◌∙◌, subst, arith, ◌==◌, Bool, true, false, cond}
+use Rattle.std.proofs.Common.{Option, Some, None, ⊎_elim}
 use Rattle.std.proofs.lemmas.Bool.{cases_eq, cases_lt, ne_eqb}
-use Rattle.std.proofs.Common.{⊎_elim}
 use Rattle.std.proofs.lemmas.List.{drop-drop, drop_at}
 use Rattle.std.proofs.lemmas.List.FromFn.{get_or-map-range_with_len, length-map-range_with_len}
 use Rattle.std.proofs.lemmas.Nat.{div-add-mod'}
@@ -18,8 +18,7 @@ use Rattle.rx_dense.proofs.Rows.{id_at_row}
 use Rattle.rx_wire.specs.declared.order.Order.{Order}
 use Rattle.rx_sparse.specs.declared.ranges.ClassRange.{ClassRange}
 use Rattle.rx_sparse.specs.Rows.{Row, has_class, next_among, next_ids, no_range, no_row, offsets, row_in, row_len}
-use Rattle.rx_sparse.specs.Rows.{row_text, rows_in, rows_len}
-use Rattle.rx_sparse.specs.Rows.{rows_text, word_at, words_in}
+use Rattle.rx_sparse.specs.Rows.{row_text, rows_in, rows_len, rows_text, word_at, words_in}
 use Rattle.rx_sparse.specs.Layouts.{AreStarts, IsRow, IsShaped, Layout, ids_of, memory_usage, next_id, row_at}
 use Rattle.rx_sparse.specs.Layouts.{row_count}
 use Rattle.rx_sparse.specs.Parts.{AreParts, FitsBytes, IsWholeRow, stored}
@@ -173,9 +172,7 @@ module _ (p : Parts) (rows starts : List ℕ) (are : AreParts p rows starts) whe
   start_len_is = sym starts_count
 
   pub memory_is : length rows + length starts ≡ memory_usage (layout p rows starts are)
-  memory_is =
-      let whole = are.words in
-      omega (arith, rows_size p rows starts are, starts_count, div-add-mod' (length starts) 4)
+  memory_is = grind (arith, common_steps, rows_size, starts_count, div-add-mod')
 
   pub state_len_is : p.state_len ≡ row_count (layout p rows starts are)
   state_len_is = sym (length-rows_in p.order p.state_len rows)
@@ -227,10 +224,7 @@ module _ (l : Layout) (shaped : IsShaped l) where
   ids_count = length-offsets 0 l.rows
 
   pub zero_is_id : IsId (ids_of l) 0
-  zero_is_id =
-      let two = shaped.rows.two in
-      let some : 0 < length l.rows = omega arith in
-      omega (arith, zero_row l.rows some, ids_count)
+  zero_is_id = grind (arith, common_steps, zero_row, ids_count)
 
   row_within : (id : ℕ) → IsId (ids_of l) id → row_of (ids_of l) id < length l.rows
   row_within id is = omega (arith, ids_count, is)
@@ -261,9 +255,7 @@ module _ (l : Layout) (shaped : IsShaped l) where
 -- a byte is no end mark
 pub next_on_byte : (classes : List ℕ) (row : Row) (byte : ℕ) → byte < 256
     → next_among row.ranges (slice_index classes byte) ≡ next_id classes row byte
-next_on_byte classes row byte h =
-    ap (λ b. cond b row.eoi (next_among row.ranges (slice_index classes byte)))
-    (sym (ne_eqb byte 256 (λ e. (omega arith))))
+next_on_byte classes row byte h = grind (arith, common_steps, ne_eqb)
 
 context_below : (start : Start) → context_number start < 6
 context_below Start.NonWordByte = omega arith
@@ -285,10 +277,4 @@ whole_mode (Anchored.Pattern k) (Some n) h = omega arith
 -- the six entries of a mode are there where the first is
 pub entry_there : (l : Layout) → AreStarts l → (mode : Anchored) (start : Start) → mode_place mode < length l.starts
     → mode_place mode + context_number start < length l.starts
-entry_there l starts mode start h =
-    omega (
-      arith,
-      starts.count,
-      context_below start,
-      whole_mode mode l.pattern_starts (omega (arith, starts.count)),
-    )
+entry_there l starts mode start h = grind (arith, common_steps, context_below, whole_mode)

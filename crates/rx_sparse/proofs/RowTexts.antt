@@ -1,21 +1,20 @@
 -- The bytes of rows: how many there are, and that they are read back, whatever follows.
-use Rattle.std.proofs.Common.{◌≡◌, ℕ, zero, suc, ◌+◌, ◌-◌, ◌*◌, ◌/◌, ◌%◌, ◌^◌, ◌<◌, ◌≤◌, Bool, true, false}
-use Rattle.std.proofs.Common.{cond, List, [], ◌∷◌, ◌++◌, length, take, drop, map, get_or, slice_index, nat_le}
-use Rattle.std.proofs.Common.{refl, ap, ap₂, sym, ◌∙◌, subst, append_assoc, length-drop, arith}
+use Rattle.std.proofs.lemmas.Grind.{common_steps}
+use Rattle.std.proofs.Common.{◌≡◌, ℕ, zero, suc, ◌+◌, ◌-◌, ◌*◌, ◌/◌, ◌%◌, ◌^◌, ◌<◌, ◌≤◌, Bool, true, false, cond, List}
+use Rattle.std.proofs.Common.{[], ◌∷◌, ◌++◌, length, take, drop, map, get_or, slice_index, nat_le, refl, ap, ap₂, sym}
+use Rattle.std.proofs.Common.{◌∙◌, subst, append_assoc, length-drop, arith}
 use Rattle.std.specs.List.{flat_map, range_with_len}
 use Rattle.std.specs.Int.{w16, w32}
 use Rattle.std.proofs.lemmas.List.{append-nil, drop-drop, drop_at, take_at, length-append, get_or-append-add}
 use Rattle.std.proofs.lemmas.List.FromFn.{fill_by_all}
 use Rattle.std.proofs.lemmas.Nat.{from_le_bytes-to_le_bytes_2, from_be_bytes-to_be_bytes_2}
-use Rattle.rx_spec.specs.Causes.{max_id}
 use Rattle.rx_wire.specs.declared.order.Order.{Order}
 use Rattle.rx_wire.specs.Fields.{field, number}
 use Rattle.rx_wire.proofs.Fields.{again32, length-field_16, length-field_32}
 use Rattle.rx_sparse.specs.declared.ranges.ClassRange.{ClassRange}
-use Rattle.rx_sparse.specs.Rows.{Row, behind_ends, count_in, ends_in, ends_text, head_number, is_match_in}
-use Rattle.rx_sparse.specs.Rows.{is_some_list, next_ids}
-use Rattle.rx_sparse.specs.Rows.{needles_in, next_ids_in, no_range, no_row, patterns_in, patterns_len, patterns_text}
-use Rattle.rx_sparse.specs.Rows.{range_in, rest_in, row_in, row_len, row_of_parts, row_text, rows_in}
+use Rattle.rx_sparse.specs.Rows.{Row, behind_ends, count_in, ends_in, ends_text, head_number, is_match_in, is_some_list}
+use Rattle.rx_sparse.specs.Rows.{next_ids, needles_in, next_ids_in, no_range, no_row, patterns_in, patterns_len}
+use Rattle.rx_sparse.specs.Rows.{patterns_text, range_in, rest_in, row_in, row_len, row_of_parts, row_text, rows_in}
 use Rattle.rx_sparse.specs.Rows.{rows_len, rows_text, word_at, words_in, words_text}
 use Rattle.std.proofs.lemmas.Bool.Decides.{nat_tests}
 use Rattle.rx_sparse.specs.Parts.{FitsBytes, IsDecoded, IsWholeRow}
@@ -47,12 +46,7 @@ length-map f [] = refl
 length-map f (x ∷ xs) = ap suc (length-map f xs)
 
 pub length-next_ids : (row : Row) → length (next_ids row) ≡ length row.ranges + 1
-length-next_ids row =
-    omega (
-      arith,
-      length-append (map (λ range. range.next) row.ranges) (row.eoi ∷ []),
-      length-map (λ (range : ClassRange). range.next) row.ranges,
-    )
+length-next_ids row = grind (arith, common_steps, length-append, length-map)
 
 abbrev patterns_size : List ℕ → ℕ
 patterns_size patterns = cond (is_some_list patterns) (4 + 4 * length patterns) 0
@@ -60,31 +54,19 @@ patterns_size patterns = cond (is_some_list patterns) (4 + 4 * length patterns) 
 length-patterns : (order : Order) (patterns : List ℕ)
     → length (patterns_text order patterns) ≡ patterns_size patterns
 length-patterns order [] = refl
-length-patterns order (k ∷ ks) =
-    omega (
-      arith,
-      length-append (field order w32 (length (k ∷ ks))) (words_text order (k ∷ ks)),
-      length-field_32 order (length (k ∷ ks)),
-      length-words order (k ∷ ks),
-    )
+length-patterns order (k ∷ ks) = grind (arith, common_steps, length-append, length-field_32, length-words)
 
 pub length-row : (order : Order) (row : Row) → length (row_text order row) ≡ row_len row
 length-row order row =
-    let needles : List ℕ = length row.needles ∷ row.needles in
-    let t3 : List ℕ = patterns_text order row.patterns ++ needles in
-    let t2 : List ℕ = words_text order (next_ids row) ++ t3 in
-    let t1 : List ℕ = ends_text row.ranges ++ t2 in
-    omega (
+    grind (
       arith,
-      length-append (field order w16 (head_number row)) t1,
-      length-field_16 order (head_number row),
-      length-append (ends_text row.ranges) t2,
-      length-ends row.ranges,
-      length-append (words_text order (next_ids row)) t3,
-      length-words order (next_ids row),
-      length-next_ids row,
-      length-append (patterns_text order row.patterns) needles,
-      length-patterns order row.patterns,
+      common_steps,
+      length-append,
+      length-field_16,
+      length-ends,
+      length-words,
+      length-next_ids,
+      length-patterns,
     )
 
 pub length-rows : (order : Order) (rows : List Row) → length (rows_text order rows) ≡ rows_len rows
@@ -108,10 +90,7 @@ word_there : (order : Order) (words rest : List ℕ) (i : ℕ) → i < length wo
     → word_at order (words_text order words ++ rest) i ≡ slice_index words i
 word_there order [] rest i h small = elim h [ ]
 word_there order (word ∷ words) rest zero h small =
-    let text : List ℕ = field order w32 word in
-    ap (λ t. number order w32 (take 4 t)) (append_assoc text (words_text order words) rest)
-    ∙ ap (number order w32) (take_at text (words_text order words ++ rest) 4 (length-field_32 order word))
-    ∙ again32 order word small
+    grind (arith, common_steps, append_assoc, take_at, length-field_32, again32)
 word_there order (word ∷ words) rest (suc i) h small =
     let text : List ℕ = field order w32 word in
     let whole : List ℕ = words_text order (word ∷ words) ++ rest in
@@ -204,11 +183,7 @@ module _ (order : Order) (row : Row) (rest : List ℕ) (fits : FitsBytes row) wh
   by_one = simp append_assoc refl
 
   head_is : number order w16 (take 2 text) ≡ head_number row
-  head_is =
-      ap (λ t. number order w16 (take 2 t)) by_one
-      ∙ ap (number order w16)
-      (take_at head (ends_text row.ranges ++ (ids ++ behind)) 2 (length-field_16 order (head_number row)))
-      ∙ again16 order (head_number row) (fits_16 count some few)
+  head_is = grind (arith, common_steps, by_one, take_at, length-field_16, again16, fits_16, few)
 
   pub count_is : count_in order text ≡ count
   count_is = ap (λ n. n % 32768) head_is ∙ counted count some few
@@ -217,19 +192,13 @@ module _ (order : Order) (row : Row) (rest : List ℕ) (fits : FitsBytes row) wh
   matches_is = ap (nat_le 32768) head_is ∙ told count some few
 
   behind_head : drop 2 text ≡ ends_text row.ranges ++ (ids ++ behind)
-  behind_head =
-      ap (drop 2) by_one
-      ∙ drop_at head (ends_text row.ranges ++ (ids ++ behind)) 2 (length-field_16 order (head_number row))
+  behind_head = grind (arith, common_steps, by_one, drop_at, length-field_16)
 
   pub ends_is : ends_in order text ≡ ends_text row.ranges
-  ends_is =
-      ap₂ (λ n t. take (2 * n) t) count_is behind_head
-      ∙ take_at (ends_text row.ranges) (ids ++ behind) (2 * count) (length-ends row.ranges)
+  ends_is = grind (arith, common_steps, count_is, behind_head, take_at, length-ends)
 
   ids_there : behind_ends order text ≡ ids ++ behind
-  ids_there =
-      ap₂ (λ n t. drop (2 * n) t) count_is behind_head
-      ∙ drop_at (ends_text row.ranges) (ids ++ behind) (2 * count) (length-ends row.ranges)
+  ids_there = grind (arith, common_steps, count_is, behind_head, drop_at, length-ends)
 
   length-ids : length ids ≡ 4 * count
   length-ids = omega (arith, length-words order (next_ids row), length-next_ids row)
@@ -263,16 +232,7 @@ patterns_read order (k ∷ ks) rest short small =
 patterns_end : (order : Order) (patterns rest : List ℕ) → length patterns < 2 ^ 32
     → patterns_len order (is_some_list patterns) (patterns_text order patterns ++ rest) ≡ patterns_size patterns
 patterns_end order [] rest short = refl
-patterns_end order (k ∷ ks) rest short =
-    let n : ℕ = length (k ∷ ks) in
-    let words : List ℕ = words_text order (k ∷ ks) ++ rest in
-    let grouped : patterns_text order (k ∷ ks) ++ rest ≡ field order w32 n ++ words =
-    append_assoc (field order w32 n) (words_text order (k ∷ ks)) rest in
-    let count : word_at order (patterns_text order (k ∷ ks) ++ rest) 0 ≡ n =
-    ap (λ t. number order w32 (take 4 t)) grouped
-    ∙ ap (number order w32) (take_at (field order w32 n) words 4 (length-field_32 order n))
-    ∙ again32 order n short in
-    ap (λ m. 4 + 4 * m) count
+patterns_end order (k ∷ ks) rest short = grind (arith, common_steps, append_assoc, take_at, length-field_32, again32)
 
 needles_read : (needles rest : List ℕ) → needles_in (length needles ∷ (needles ++ rest)) ≡ needles
 needles_read needles rest = take_at needles rest (length needles) refl
@@ -296,12 +256,7 @@ module _ (order : Order) (row : Row) (rest : List ℕ) (fits : FitsBytes row) wh
 
   range_is : (i : ℕ) → i < length row.ranges
       → get_or row.ranges i no_range ≡ range_in order (ends_text row.ranges) next_words i
-  range_is i h =
-      let within : i < length (next_ids row) = omega (arith, length-next_ids row) in
-      of_parts (get_or row.ranges i no_range) _ _ _
-      (end_first row.ranges (0 ∷ 0 ∷ []) i h)
-      (end_last row.ranges (0 ∷ 0 ∷ []) i h)
-      (next_word i within ∙ next_there row.ranges (row.eoi ∷ []) i h)
+  range_is i h = grind (arith, common_steps, length-next_ids, of_parts, end_first, end_last, next_word, next_there)
 
   ranges_are : map (range_in order (ends_text row.ranges) next_words)
       (range_with_len 0 (length (ends_text row.ranges) / 2 - 1))
@@ -312,100 +267,54 @@ module _ (order : Order) (row : Row) (rest : List ℕ) (fits : FitsBytes row) wh
       (λ k h. range_is k (omega (arith, n_is))))
 
   eoi_is : word_at order next_words (length (ends_text row.ranges) / 2 - 1) ≡ row.eoi
-  eoi_is =
-      ap (word_at order next_words) n_is
-      ∙ next_word (length row.ranges) (omega (arith, length-next_ids row))
-      ∙ eoi_there row.ranges row.eoi
+  eoi_is = grind (arith, common_steps, n_is, next_word, length-next_ids, eoi_there)
 
   pub patterns_are : patterns_in order (is_some_list row.patterns) read_behind ≡ row.patterns
-  patterns_are =
-      patterns_read order row.patterns ((length row.needles ∷ row.needles) ++ rest) fits.few_patterns
-      (λ i h. let small = fits.patterns i h in omega arith)
+  patterns_are = grind (arith, common_steps, patterns_read)
 
   -- what follows the patterns
   needles_there : drop (patterns_len order (is_some_list row.patterns) read_behind) read_behind
       ≡ length row.needles ∷ (row.needles ++ rest)
-  needles_there =
-      ap (λ n. drop n read_behind)
-      (patterns_end order row.patterns ((length row.needles ∷ row.needles) ++ rest) fits.few_patterns)
-      ∙ drop_at (patterns_text order row.patterns) ((length row.needles ∷ row.needles) ++ rest)
-      (patterns_size row.patterns) (length-patterns order row.patterns)
+  needles_there = grind (arith, common_steps, patterns_end, drop_at, length-patterns)
 
   parts_again : row_of_parts order (is_some_list row.patterns) (ends_text row.ranges) next_words read_behind ≡ row
-  parts_again =
-      rw (ranges_are, eoi_is, patterns_are, needles_there, needles_read row.needles rest) refl
+  parts_again = grind (arith, common_steps, ranges_are, eoi_is, patterns_are, needles_there, needles_read)
 
   -- a row is read back, whatever follows
   pub row_again : row_in order (row_text order row ++ rest) ≡ row
-  row_again =
-      let text : List ℕ = row_text order row ++ rest in
-      ap (λ m. row_of_parts order m (ends_in order text) (next_ids_in order text) (rest_in order text))
-      (matches_is order row rest fits)
-      ∙ ap (λ e. row_of_parts order (is_some_list row.patterns) e (next_ids_in order text) (rest_in order text))
-      (ends_is order row rest fits)
-      ∙ ap (λ i. row_of_parts order (is_some_list row.patterns) (ends_text row.ranges) i (rest_in order text))
-      (ids_is order row rest fits)
-      ∙ ap (λ r. row_of_parts order (is_some_list row.patterns) (ends_text row.ranges) next_words r)
-      (rest_is order row rest fits)
-      ∙ parts_again
+  row_again = grind (arith, common_steps, matches_is, ends_is, ids_is, rest_is, parts_again)
 
   needle_count : slice_index read_behind (patterns_len order (is_some_list row.patterns) read_behind)
       ≡ length row.needles
-  needle_count =
-      let behind : List ℕ = (length row.needles ∷ row.needles) ++ rest in
-      let size : patterns_len order (is_some_list row.patterns) read_behind
-      ≡ length (patterns_text order row.patterns) + 0 =
-      omega (arith, patterns_end order row.patterns behind fits.few_patterns, length-patterns order row.patterns) in
-      ap (slice_index read_behind) size ∙ get_or-append-add (patterns_text order row.patterns) behind 0 0
+  needle_count = grind (arith, common_steps, patterns_end, length-patterns, get_or-append-add)
 
   length-read_behind : length read_behind ≡ patterns_size row.patterns + 1 + length row.needles + length rest
-  length-read_behind =
-      let behind : List ℕ = (length row.needles ∷ row.needles) ++ rest in
-      omega (
-        arith,
-        length-append (patterns_text order row.patterns) behind,
-        length-patterns order row.patterns,
-        length-append (length row.needles ∷ row.needles) rest,
-      )
+  length-read_behind = grind (arith, common_steps, length-append, length-patterns)
 
   parts_decoded : IsDecoded order (is_some_list row.patterns) (ends_text row.ranges) next_words read_behind
-  parts_decoded = record {
-    some = omega (arith, length-ends row.ranges);
-    words = omega (arith, length-ends row.ranges, length-words order (next_ids row), length-next_ids row);
-    small = λ i h.
-        let within : i < length (next_ids row) = omega (arith, length-ends row.ranges, length-next_ids row) in
-        omega (arith, next_word i within, fits.next_ids i within);
-    needles =
-        omega (
-          arith,
-          needle_count,
-          length-read_behind,
-          patterns_end order row.patterns ((length row.needles ∷ row.needles) ++ rest) fits.few_patterns,
-        );
-    few = omega (arith, needle_count, fits.needles);
-    patterns = subst (λ ks. (i : ℕ) → i < length ks → slice_index ks i ≤ max_id) (sym patterns_are) fits.patterns;
-  }
+  parts_decoded =
+      grind (
+        arith,
+        common_steps,
+        length-ends,
+        length-words,
+        length-next_ids,
+        next_word,
+        needle_count,
+        length-read_behind,
+        patterns_end,
+        few,
+        patterns_are,
+      )
 
   -- a row is decoded, whatever follows
   pub decoded : IsDecoded order (is_match_in order (row_text order row ++ rest))
       (ends_in order (row_text order row ++ rest)) (next_ids_in order (row_text order row ++ rest))
       (rest_in order (row_text order row ++ rest))
-  decoded =
-      rw (
-        matches_is order row rest fits,
-        ends_is order row rest fits,
-        ids_is order row rest fits,
-        rest_is order row rest fits,
-      ) parts_decoded
+  decoded = grind (arith, common_steps, matches_is, ends_is, ids_is, rest_is, parts_decoded)
 
   pub long_enough : 2 + 6 * count_in order (row_text order row ++ rest) ≤ length (row_text order row ++ rest)
-  long_enough =
-      omega (
-        arith,
-        count_is order row rest fits,
-        length-append (row_text order row) rest,
-        length-row order row,
-      )
+  long_enough = grind (arith, common_steps, count_is, length-append, length-row)
 
 -- of a whole row at the front of bytes
 pub whole_decoded : {order : Order} {bytes : List ℕ} → IsWholeRow order bytes
@@ -426,8 +335,7 @@ whole_ends {order} {bytes} whole = omega (arith, whole_long whole, length-drop 2
 
 pub whole_ids : {order : Order} {bytes : List ℕ} → IsWholeRow order bytes
     → 4 * count_in order bytes ≤ length (behind_ends order bytes)
-whole_ids {order} {bytes} whole =
-    omega (arith, whole_long whole, length-drop 2 bytes, length-drop (2 * count_in order bytes) (drop 2 bytes))
+whole_ids {order} {bytes} whole = grind (arith, common_steps, whole_long, length-drop)
 
 -- rows are read back
 pub rows_again : (order : Order) (rows : List Row) → ((i : ℕ) → i < length rows → FitsBytes (get_or rows i no_row))

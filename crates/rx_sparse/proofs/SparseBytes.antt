@@ -1,9 +1,8 @@
 -- A sparse table on its way: offsets and bytes of some rows of a dense table, where others are left.
-use Rattle.std.proofs.Common.{◌≡◌, ℕ, ◌+◌, ◌-◌, ◌*◌, ◌/◌, ◌^◌, ◌<◌, ◌≤◌, List, [], ◌∷◌, ◌++◌, length, map}
-use Rattle.std.proofs.Common.{slice_index, take, Option, Some, None, refl, ap, ap₂, sym, ◌∙◌, subst, ⊎_elim}
-use Rattle.std.proofs.Common.{append_assoc, arith}
+use Rattle.std.proofs.lemmas.Grind.{common_steps}
+use Rattle.std.proofs.Common.{◌≡◌, ℕ, ◌+◌, ◌-◌, ◌*◌, ◌/◌, ◌^◌, ◌<◌, ◌≤◌, List, [], ◌∷◌, ◌++◌, length, map, slice_index}
+use Rattle.std.proofs.Common.{take, Option, Some, None, refl, ap, ap₂, sym, ◌∙◌, subst, ⊎_elim, append_assoc, arith}
 use Rattle.std.specs.Prelude.{option_map}
-use Rattle.std.specs.List.{range_with_len}
 use Rattle.std.proofs.lemmas.Bool.{cases_lt}
 use Rattle.std.proofs.lemmas.List.{append-nil, take_all}
 use Rattle.rx_spec.specs.Causes.{max_id}
@@ -19,8 +18,8 @@ use Rattle.rx_dense.specs.States as states
 use Rattle.rx_dense.proofs.Rows.{IsId-row_id, IsRowId-id, IsRowId-row, row-below, row_of-id}
 use Rattle.rx_dense.proofs.States.{rows_from-next}
 use Rattle.rx_sparse.specs.declared.offsets.Offsets.{Offsets}
-use Rattle.rx_sparse.specs.Rows.{Row, next_ids, offsets_from, row_len, row_text, rows_in, rows_len, rows_text}
-use Rattle.rx_sparse.specs.Rows.{words_in, words_text}
+use Rattle.rx_sparse.specs.Rows.{Row, next_ids, offsets_from, row_len, row_text, rows_in, rows_len, rows_text, words_in}
+use Rattle.rx_sparse.specs.Rows.{words_text}
 use Rattle.rx_sparse.specs.Facts.{offset_at}
 use Rattle.rx_sparse.specs.Layouts.{IsShaped, Stored}
 use Rattle.rx_sparse.specs.Parts.{AreParts, stored}
@@ -37,9 +36,7 @@ use Rattle.rx_sparse.proofs.SparseTables.{offsets_count, rows_count}
 -- ---- the rows that are left
 
 no_rows_from : (l : dense.Layout) (place : ℕ) → dense.row_count l ≤ place → states.rows_from l place ≡ []
-no_rows_from l place h =
-    let none : dense.row_count l - place ≡ 0 = omega arith in
-    ap (λ n. map (states.row_at l) (range_with_len place n)) none
+no_rows_from l place h = grind (arith, common_steps)
 
 -- the first of those that are left, and the others
 record IsNext (l : dense.Layout) (place : ℕ) (row : states.Row) (rest : List states.Row) : Type 0 where
@@ -109,8 +106,7 @@ module _ {l : dense.Layout} {ids : List ℕ} {len : ℕ} {left : List states.Row
     (none : left ≡ []) where
   pub all_noted : ids ≡ offsets_of l
   unfolding offsets_from
-  all_noted =
-      sym (append-nil ids) ∙ ap (λ rs. ids ++ offsets_from len (map (row_of_dense l) rs)) (sym none) ∙ noted.ids_are
+  all_noted = grind (arith, common_steps, append-nil)
 
   pub len_noted : len ≡ sparse_len l
   unfolding rows_len
@@ -127,9 +123,7 @@ module _ (l : dense.Layout) (o : Offsets) (are : AreOffsets l o) where
       ap₂ (λ (ids : List ℕ) (s : ℕ). renamed_row (λ id. slice_index ids (id / 2 ^ s)) row) are.ids are.stride2
 
   pub offset_within : (id : ℕ) → IsRowId l id → id / 2 ^ o.stride2 < length o.ids.items
-  offset_within id is =
-      let below = row-below l id is in
-      rw (are.stride2, are.ids) (omega (arith, offsets_count l are.rows))
+  offset_within id is = grind (arith, common_steps, row-below, offsets_count)
 
   pub exponent : o.stride2 ≤ 9
   exponent = let few = are.rows.exponent in omega (arith, are.stride2)
@@ -213,11 +207,7 @@ module _ {l : dense.Layout} {o : Offsets} {bytes : List ℕ} {left rest : List s
 
 pub all_written : {l : dense.Layout} {bytes : List ℕ} {left : List states.Row} → AreWritten l bytes left → left ≡ []
     → bytes ≡ rows_text Order.Little (sparse_of l).rows
-all_written {l} {bytes} written none =
-    let f : ℕ → ℕ = renamed_id l (offsets_of l) in
-    sym (append-nil bytes)
-    ∙ ap (λ rs. bytes ++ rows_text Order.Little (map (renamed_row f) (map (row_of_dense l) rs))) (sym none)
-    ∙ written.bytes_are
+all_written {l} {bytes} written none = grind (arith, common_steps, append-nil)
 
 -- ---- start entries
 
@@ -291,10 +281,7 @@ module _ (l : dense.Layout) (shaped : dense.IsShaped l) (sound : dense_facts.IsS
       omega (arith, id_small (sparse_of l) shape _ (shape.starts.start_ids i h)))
 
   pub stored_is : stored (parts_of l) rows starts ≡ little_sparse_of l
-  stored_is =
-      ap₂ (λ (rs : List Row) (ids : List ℕ).
-      let whole : Stored = record { layout = record (sparse_of l) { rows = rs; starts = ids }; order = Order.Little } in
-      whole) rows_back starts_back
+  stored_is = grind (arith, common_steps, rows_back, starts_back)
 
   pub parts_fit : AreParts (parts_of l) rows starts
   parts_fit = record {

@@ -1,6 +1,7 @@
 -- The sparse table of a sound dense one has the shape of a sparse table.
-use Rattle.std.proofs.Common.{◌≡◌, ℕ, ◌+◌, ◌-◌, ◌*◌, ◌<◌, ◌≤◌, true, List, [], ◌∷◌, length, map}
-use Rattle.std.proofs.Common.{slice_index, get_or, refl, ap, sym, ◌∙◌, subst, ⊎_elim, arith}
+use Rattle.std.proofs.lemmas.Grind.{common_steps}
+use Rattle.std.proofs.Common.{◌≡◌, ℕ, ◌+◌, ◌-◌, ◌*◌, ◌<◌, ◌≤◌, true, List, [], ◌∷◌, length, map, slice_index, get_or}
+use Rattle.std.proofs.Common.{refl, ap, sym, ◌∙◌, subst, ⊎_elim, arith}
 use Rattle.std.proofs.lemmas.Bool.{cases_lt}
 use Rattle.std.specs.Prelude.{if◌then◌else◌, IfSome}
 use Rattle.std.proofs.lemmas.Nat.{le-div, pow_pos}
@@ -10,7 +11,7 @@ use Rattle.rx_spec.specs.Causes.{max_id}
 use Rattle.rx_spec.specs.Machines.{Label}
 use Rattle.lemmas_walks.proofs.Firsts.{by_test}
 use Rattle.rx_search.specs.Starts.{IsId}
-use Rattle.rx_dense.specs.Specials.{is_accel_id, is_match_id, is_quit_id}
+use Rattle.rx_dense.specs.Specials.{is_accel_id, is_match_id}
 use Rattle.rx_dense.specs.Layouts as dense
 use Rattle.rx_dense.specs.Layouts.{IsRowId, patterns_at, place_in_range, stride}
 use Rattle.rx_dense.specs.Builder.{renamed_id}
@@ -108,9 +109,7 @@ module _ (l : dense.Layout) (shaped : dense.IsShaped l) (sound : dense_facts.IsS
   patterns = patterns_at l (place_in_range l l.special.min_match id)
 
   match_label : is_match_id l.special id ≡ true → (dense.table_of l).machine.label row ≡ Label.Matches patterns
-  match_label e =
-      ap (λ b. if b then Label.Matches patterns
-      else (if is_quit_id l.special id then Label.Quits else Label.Plain)) e
+  match_label e = grind (arith, common_steps)
 
   -- match rows, and no others, have patterns
   pub patterns_there : is_some_list (patterns_of_id l id) ≡ is_match_id l.special id

@@ -1,7 +1,8 @@
 -- The sparse table of a dense one is the same table.
-use Rattle.std.proofs.Common.{◌≡◌, ℕ, zero, suc, ◌+◌, ◌-◌, ◌*◌, ◌/◌, ◌<◌, ◌≤◌, ◌==◌, ◌&&◌, Bool, true, false, not}
-use Rattle.std.proofs.Common.{cond, nat_le, Option, Some, None, List, [], ◌∷◌, length, map, slice_index}
-use Rattle.std.proofs.Common.{drop, refl, ap, ap₂, sym, ◌∙◌, subst, ⊎_elim, arith, length-drop, length-take-le}
+use Rattle.std.proofs.lemmas.Grind.{common_steps}
+use Rattle.std.proofs.Common.{◌≡◌, ℕ, zero, suc, ◌+◌, ◌-◌, ◌*◌, ◌/◌, ◌<◌, ◌≤◌, ◌==◌, ◌&&◌, Bool, true, false, not, cond}
+use Rattle.std.proofs.Common.{nat_le, Option, Some, None, List, [], ◌∷◌, length, map, slice_index, drop, refl, ap, ap₂}
+use Rattle.std.proofs.Common.{sym, ◌∙◌, subst, ⊎_elim, arith, length-drop, length-take-le}
 use Rattle.std.specs.Prelude.{if◌then◌else◌, nat_lt, option_map, IfSome}
 use Rattle.std.proofs.Math.Nat.{zero-div}
 use Rattle.std.proofs.lemmas.Bool.{cases_eq, cases_lt, eq-eqb, lt-ltb, le-ltb, ne_eqb}
@@ -105,11 +106,7 @@ module _ (l : dense.Layout) (rows : dense.AreRows l) where
   some = pow_pos l.stride2
 
   pub rows_count : length (dense_rows l) ≡ size
-  rows_count =
-      let same : size - 0 ≡ size = omega arith in
-      length-map (row_of_dense l) (states.rows_from l 0)
-      ∙ length-map-range_with_len (states.row_at l) 0 (size - 0)
-      ∙ same
+  rows_count = grind (arith, common_steps, length-map, length-map-range_with_len)
 
   pub offsets_count : length offs ≡ size
   offsets_count = length-offsets 0 (dense_rows l) ∙ rows_count
@@ -134,9 +131,7 @@ module _ (l : dense.Layout) (rows : dense.AreRows l) where
   renamed_back id is = row_back (id / stride l) (row-below l id is)
 
   some_rows : 0 < size
-  some_rows =
-      let below = row-below l 0 zero_is_row in
-      omega arith
+  some_rows = grind (arith, common_steps, row-below, zero_is_row)
 
   first_offset : id_of offs 0 ≡ 0
   unfolding rows_len
@@ -457,6 +452,4 @@ module _ {t u : Table} (same : AreSame t u) (is_table : IsTable t) where
 
   pub walks_same : (mode : Anchored) (start : Start) (word : List ℕ) → IsWord word
       → row_after u mode start word ≡ row_after t mode start word
-  walks_same mode start word is =
-      ap (λ r. run u.machine.next r word) (sym (same.entries mode start))
-      ∙ run_same (t.machine.entry mode start) word (is_table.entries mode start) is
+  walks_same mode start word is = grind (arith, common_steps, run_same)

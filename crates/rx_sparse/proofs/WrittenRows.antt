@@ -1,10 +1,10 @@
 -- The bytes of a row, part behind part.
-use Rattle.std.proofs.Common.{◌≡◌, ℕ, ◌<◌, ◌≤◌, List, [], ◌∷◌, ◌++◌, length, map, take, slice_index, get_or}
-use Rattle.std.proofs.Common.{Result, Ok, Err, true, false, refl, ap, ap₂, sym, ◌∙◌, append_assoc, arith}
+use Rattle.std.proofs.lemmas.Grind.{common_steps, flat_map-append}
+use Rattle.std.proofs.Common.{◌≡◌, ℕ, ◌<◌, ◌≤◌, List, [], ◌∷◌, ◌++◌, length, map, take, slice_index, get_or, Result, Ok}
+use Rattle.std.proofs.Common.{Err, true, false, refl, ap, append_assoc, arith}
 use Rattle.std.specs.Prelude.{IfOk, if◌then◌else◌}
 use Rattle.std.specs.Result.{is_ok}
 use Rattle.std.specs.Int.{w16, w32}
-use Rattle.std.proofs.lemmas.Grind.{flat_map-append}
 use Rattle.std.proofs.lemmas.List.{append-nil, take_all}
 use Rattle.rx_spec.specs.Ids.{row_of}
 use Rattle.rx_spec.specs.Tables.{is_match}
@@ -12,7 +12,7 @@ use Rattle.rx_wire.specs.declared.order.Order.{Order}
 use Rattle.rx_wire.specs.Fields.{field}
 use Rattle.rx_search.specs.Labels.{patterns_of}
 use Rattle.rx_search.specs.Starts.{IsId}
-use Rattle.rx_dense.specs.Layouts.{Layout, ids_of, patterns_at, place_in_range, table_of}
+use Rattle.rx_dense.specs.Layouts.{Layout, ids_of, table_of}
 use Rattle.rx_dense.proofs.RowKinds.{match_kind, match_patterns}
 use Rattle.rx_sparse.specs.declared.ranges.ClassRange.{ClassRange}
 use Rattle.rx_sparse.specs.Rows.{Row, ends_text, head_number, next_ids, no_range, patterns_text, row_text, words_text}
@@ -35,14 +35,11 @@ if_added (Err x) old xs e f = tt
 
 pub patterns_read : (l : Layout) (id : ℕ) → IsId (ids_of l) id → is_match (table_of l) (row_of (ids_of l) id) ≡ true
     → patterns_of (table_of l) (row_of (ids_of l) id) ≡ patterns_of_id l id
-patterns_read l id is e =
-    match_patterns l id is e
-    ∙ sym (ap (λ b. if b then patterns_at l (place_in_range l l.special.min_match id) else []) (match_kind l id is ∙ e))
+patterns_read l id is e = grind (arith, common_steps, match_patterns, match_kind)
 
 pub no_patterns : (l : Layout) (id : ℕ) → IsId (ids_of l) id → is_match (table_of l) (row_of (ids_of l) id) ≡ false
     → [] ≡ patterns_of_id l id
-no_patterns l id is e =
-    sym (ap (λ b. if b then patterns_at l (place_in_range l l.special.min_match id) else []) (match_kind l id is ∙ e))
+no_patterns l id is e = grind (arith, common_steps, match_kind)
 
 -- ---- renamed rows
 
@@ -71,14 +68,7 @@ module _ (f : ℕ → ℕ) where
       → after ≡ before ++ field order w32 (f row.eoi)
       → after ≡ old ++ words_text order (next_ids (renamed_row f row))
   next_ids-put order row old {before} {after} place h was is =
-      let ids : List ℕ = map next_of row.ranges in
-      let last : List ℕ = field order w32 (f row.eoi) in
-      is
-      ∙ ap (λ t. t ++ last) (was ∙ ap (λ rs. old ++ words_text order (map next_of rs)) (take_all place row.ranges h))
-      ∙ append_assoc old (words_text order ids) last
-      ∙ ap (λ t. old ++ (words_text order ids ++ t)) (sym (append-nil last))
-      ∙ ap (λ t. old ++ t) (sym (flat_map-append (field order w32) ids (f row.eoi ∷ [])))
-      ∙ ap (λ xs. old ++ words_text order (xs ++ f row.eoi ∷ [])) (sym (next-of-renamed row.ranges))
+      grind (arith, common_steps, take_all, append_assoc, append-nil, flat_map-append, next-of-renamed)
 
   regroup : (old h e i p : List ℕ) (n : ℕ) (ns : List ℕ)
       → (((((old ++ h) ++ e) ++ i) ++ p) ++ n ∷ []) ++ ns ≡ old ++ (h ++ (e ++ (i ++ (p ++ (n ∷ ns)))))
@@ -91,17 +81,7 @@ module _ (f : ℕ → ℕ) where
       → e ≡ d ++ length row.needles ∷ [] → new ≡ e ++ row.needles
       → new ≡ old ++ row_text order (renamed_row f row)
   row-put order row old {a} {b} {c} {d} {e} {new} ha hb hc hd he hn =
-      let head : List ℕ = field order w16 (head_number row) in
-      let ends : List ℕ = ends_text row.ranges in
-      let ids : List ℕ = words_text order (next_ids (renamed_row f row)) in
-      let patterns : List ℕ = patterns_text order row.patterns in
-      let n : ℕ = length row.needles in
-      hn
-      ∙ ap (λ t. t ++ row.needles) (he ∙ ap (λ t. t ++ n ∷ []) (hd ∙ ap (λ t. t ++ patterns)
-      (hc ∙ ap (λ t. t ++ ids) (hb ∙ ap (λ t. t ++ ends) ha))))
-      ∙ regroup old head ends ids patterns n row.needles
-      ∙ ap₂ (λ h t. old ++ (field order w16 h ++ (t ++ (ids ++ (patterns ++ (n ∷ row.needles))))))
-      (sym (head-renamed row)) (sym (ends-renamed row.ranges))
+      grind (arith, common_steps, regroup, head-renamed, ends-renamed)
 
 -- ---- ids
 

@@ -1,7 +1,8 @@
 -- The rows of a sparse table, where any two rows of the dense one are told apart, are no longer than the bound of the
 -- states behind its rows. So their length is that of states that are reached, wherever it is too much.
-use Rattle.std.proofs.Common.{◌≡◌, ℕ, suc, ◌+◌, ◌*◌, ◌<◌, ◌≤◌, Bool, List, [], ◌∷◌, length, get_or, refl}
-use Rattle.std.proofs.Common.{ap, sym, ◌∙◌, arith, subst, ⊎_elim}
+use Rattle.std.proofs.lemmas.Grind.{common_steps}
+use Rattle.std.proofs.Common.{◌≡◌, ℕ, suc, ◌+◌, ◌*◌, ◌<◌, ◌≤◌, Bool, List, [], ◌∷◌, length, get_or, refl, ap, sym, ◌∙◌}
+use Rattle.std.proofs.Common.{arith, subst, ⊎_elim}
 use Rattle.std.specs.Prelude.{sum_by}
 use Rattle.std.specs.List.{range_with_len}
 use Rattle.std.proofs.lemmas.Bool.{cases_lt}
@@ -29,14 +30,10 @@ module _ (l : Layout) (rows : AreRows l) (sound : IsSound (table_of l)) where
 
   -- dead and quit tell no patterns
   dead_len : 0 < row_count l → len_at l 0 ≤ most
-  dead_len h =
-      let none : named ((table_of l).machine.label 0) ≡ 0 = ap named sound.is_table.dead_label in
-      omega (arith, len_most l sound 0 h rows, none)
+  dead_len h = grind (arith, common_steps, named, len_most)
 
   quit_len : 1 < row_count l → len_at l 1 ≤ most
-  quit_len h =
-      let none : named ((table_of l).machine.label 1) ≡ 0 = ap named sound.is_table.quit_label in
-      omega (arith, len_most l sound 1 h rows, none)
+  quit_len h = grind (arith, common_steps, named, len_most)
 
   -- Each row behind quit tells what some state does.
   pub len_bound : (states : List State) → length states + 2 ≡ row_count l
@@ -85,12 +82,7 @@ module _ {b : Build} {byte_classes : Bool} {l : Layout} (is : IsBounded b byte_c
 
   -- such a table has a state behind each row
   told_apart : IsApart (table_of l) b
-  told_apart = record {
-    is_table = is.sound.is_table;
-    gives = is.gives;
-    reached = is.reached;
-    apart = is.apart;
-  }
+  told_apart = grind (arith, common_steps)
 
   -- its columns are those of the build
   alphabet_is : build_alphabet b byte_classes ≡ alphabet_len l.classes

@@ -1,6 +1,7 @@
 -- The rows of the sparse table of a powerset machine are as long as the definitions say of its states.
-use Rattle.std.proofs.Common.{◌≡◌, ◌≢◌, ℕ, zero, suc, ◌+◌, ◌<◌, ◌≤◌, Bool, List, ◌∷◌, length, map, get_or, refl}
-use Rattle.std.proofs.Common.{ap, sym, ◌∙◌, arith}
+use Rattle.std.proofs.lemmas.Grind.{common_steps}
+use Rattle.std.proofs.Common.{◌≡◌, ◌≢◌, ℕ, zero, suc, ◌+◌, ◌<◌, ◌≤◌, Bool, List, ◌∷◌, length, map, get_or, refl, ap}
+use Rattle.std.proofs.Common.{sym, ◌∙◌, arith}
 use Rattle.std.specs.Prelude.{sum_by, All, AllPairs}
 use Rattle.std.specs.List.{range_with_len}
 use Rattle.std.proofs.lemmas.List.{length-map}
@@ -72,13 +73,7 @@ module _ {b : Build} {byte_classes accelerate : Bool} {l : Layout} (is : IsMeasu
 
   -- rows that are too long are those of states that are
   pub too_long : max_id < sparse_len l → Exceeds b (sparse_size b byte_classes accelerate) max_id
-  too_long over = record {
-    states = is.power.states;
-    some = some_states l is.shaped.rows is.sound is.power.states (sym is.power.size) over;
-    distinct = is.power.reached.distinct;
-    reached = is.power.reached.only;
-    over = omega (arith, len_is, over);
-  }
+  too_long over = grind (arith, common_steps, some_states, len_is)
 
   -- where they aren't, no states are
   pub fits : sparse_len l ≤ max_id → Exceeds b (sparse_size b byte_classes accelerate) max_id → ⊥

@@ -1,13 +1,11 @@
 -- What refuses a sparse table: what refuses its dense one, or that its rows are too long.
-use Rattle.std.proofs.Common.{◌≡◌, ℕ, ◌<◌, ◌≤◌, Bool, true, false, if◌then◌else◌, List, inl, inr, refl}
-use Rattle.std.proofs.Common.{ap, subst, ⊎_elim}
+use Rattle.std.proofs.Common.{arith, ◌≡◌, ℕ, ◌<◌, ◌≤◌, Bool, true, false, if◌then◌else◌, List, inr, refl, ap, subst}
+use Rattle.std.proofs.lemmas.Grind.{common_steps}
 use Rattle.std.specs.Prelude.{Result, Ok, Err, IfOk, IfErr, OnOk}
 use Rattle.rx_spec.specs.Builds.{Build}
-use Rattle.rx_spec.specs.Causes.{BuildCause, BuildFits, BuildRefused, Exceeds, HasTooLongRows, HasTooManyStates}
-use Rattle.rx_spec.specs.Causes.{IsUnsupported, max_id}
+use Rattle.rx_spec.specs.Causes.{BuildCause, BuildFits, BuildRefused, Exceeds, HasTooLongRows, IsUnsupported, max_id}
 use Rattle.rx_spec.specs.Expressions.{Expression}
 use Rattle.rx_spec.specs.Nfas.{Nfa}
-use Rattle.rx_spec.specs.Plans.{Cause}
 use Rattle.rx_spec.specs.Sizes.{sparse_bound, sparse_size}
 use Rattle.rx_spec.specs.States.{State}
 use Rattle.rx_spec.specs.declared.Form.{Form}
@@ -37,13 +35,7 @@ not_sparse e = cc
 build_refused : (s : Settled) (b : Build) (cause : BuildCause) → BuildRefused (limits_of s) b cause
     → BuildRefused (sparse_limits s) b cause
 build_refused s b BuildCause.Unsupported r = r
-build_refused s b BuildCause.TooManyStates r = (
-  r.0,
-  ⊎_elim
-      (λ (states : HasTooManyStates (limits_of s) b). inl states)
-      (λ (rows : HasTooLongRows (limits_of s) b). absurd (not_sparse rows.0))
-      r.1,
-)
+build_refused s b BuildCause.TooManyStates r = grind (arith, common_steps, not_sparse)
 build_refused s b BuildCause.TooManyMatchPatternIDs r = r
 build_refused s b (BuildCause.DFAExceededSizeLimit limit) r = r
 build_refused s b (BuildCause.DeterminizeExceededSizeLimit limit) r = r
@@ -51,11 +43,7 @@ build_refused s b (BuildCause.DeterminizeExceededSizeLimit limit) r = r
 -- of an NFA
 pub table_refused : (s : Settled) (b : Build) (kind : BuildErrorKind) → IsRefused (TableRefused (limits_of s) b) kind
     → IsRefused (TableRefused (sparse_limits s) b) kind
-table_refused s b kind = refused_as (TableRefused (limits_of s) b) (TableRefused (sparse_limits s) b) each kind
-  where
-    each : (cause : Cause) → TableRefused (limits_of s) b cause → TableRefused (sparse_limits s) b cause
-    each (Cause.NFA cause) r = r
-    each (Cause.DFA cause) r = build_refused s b cause r
+table_refused s b kind = grind (arith, common_steps, refused_as, build_refused)
 
 -- ---- the length of the rows
 
@@ -146,10 +134,4 @@ pub table_of_exprs_refused : (s : Settled) (a : thompson.Asked) (es : List Expre
     → (kind : BuildErrorKind)
     → IsRefused (TableRefused (sparse_limits s) (build_of s (wanted_nfa a es))) kind
     → IsRefused (Refused s a es) kind
-table_of_exprs_refused s a es fits =
-    refused_as (TableRefused (sparse_limits s) (build_of s (wanted_nfa a es))) (Refused s a es) each
-  where
-    each : (cause : Cause) → TableRefused (sparse_limits s) (build_of s (wanted_nfa a es)) cause
-        → Refused s a es cause
-    each (Cause.NFA cause) r = absurd r
-    each (Cause.DFA cause) r = (fits, r)
+table_of_exprs_refused s a es fits = grind (arith, common_steps, refused_as)

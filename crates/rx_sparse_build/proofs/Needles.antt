@@ -1,4 +1,5 @@
 -- How many needles the row of a sound table has; in a powerset machine as many as are counted for its node.
+use Rattle.std.proofs.lemmas.Grind.{common_steps}
 use Rattle.std.proofs.Common.{◌≡◌, ℕ, ◌<◌, ◌≤◌, ◌==◌, ◌&&◌, Bool, true, false, not, List, length, refl, ap, ap₂, sym}
 use Rattle.std.proofs.Common.{◌∙◌, arith}
 use Rattle.std.specs.Prelude.{if◌then◌else◌, nat_le, nat_lt}
@@ -48,8 +49,4 @@ module _ {t : Table} {b : Build} (p : IsPower t b) (sound : IsSound t) (accelera
 
   -- both ways they are as many
   pub needles_counted : length (t.needles row) ≡ needle_count b accelerate p.states (node_at p.states row)
-  needles_counted =
-      counted_by_row
-      ∙ ap (count_if (leaving t row))
-      (accelerated ∙ and_both accelerate (nat_lt 2 t.size) (are_few (leaving t row)))
-      ∙ sym counted_by_node
+  needles_counted = grind (arith, common_steps, counted_by_row, and_both, counted_by_node)

@@ -1,8 +1,7 @@
 -- A row of a dense table that is a powerset machine has as many ranges as its node.
-use Rattle.std.proofs.Common.{◌≡◌, ℕ, ◌+◌, ◌-◌, ◌*◌, ◌/◌, ◌<◌, ◌==◌, ◌&&◌, Bool, List, length, map, filter}
-use Rattle.std.proofs.Common.{slice_index, drop, ap, sym, ◌∙◌, arith, length-drop, length-take-le}
-use Rattle.std.proofs.Common.{⊎_elim}
-use Rattle.std.specs.Prelude.{if◌then◌else◌}
+use Rattle.std.proofs.lemmas.Grind.{common_steps}
+use Rattle.std.proofs.Common.{◌≡◌, ℕ, ◌+◌, ◌-◌, ◌*◌, ◌/◌, ◌<◌, ◌==◌, ◌&&◌, Bool, List, length, map, filter, slice_index}
+use Rattle.std.proofs.Common.{drop, ap, sym, ◌∙◌, arith, length-drop, length-take-le}
 use Rattle.std.specs.List.{range_with_len}
 use Rattle.std.proofs.Math.Nat.{zero-div}
 use Rattle.std.proofs.lemmas.Bool.{cases_eq, eq-eqb, ne_eqb}
@@ -26,28 +25,16 @@ use Rattle.rx_sparse_build.proofs.Runs.{AreSameRuns, runs_counted}
 
 -- two tests agree where what they test does
 same_tests : (u v x y : ℕ) → (u ≡ v → x ≡ y) → (x ≡ y → u ≡ v) → (u == v) ≡ (x == y)
-same_tests u v x y there back =
-    ⊎_elim
-    (λ (e : u ≡ v). eq-eqb u v e ∙ sym (eq-eqb x y (there e)))
-    (λ (ne : u ≡ v → ⊥). ne_eqb u v ne ∙ sym (ne_eqb x y (λ e. ne (back e))))
-    (cases_eq u v)
+same_tests u v x y there back = grind (arith, common_steps, eq-eqb, ne_eqb, cases_eq)
 
 -- ids are those of one row exactly where they are one
 module _ (l : Layout) (x y : ℕ) (is_x : IsRowId l x) (is_y : IsRowId l y) where
   same_id : (x / stride l == y / stride l) ≡ (x == y)
-  same_id =
-      same_tests (x / stride l) (y / stride l) x y
-      (λ e.
-      sym (quotient x (stride l) is_x.whole) ∙ ap (λ n. n * stride l) e ∙ quotient y (stride l) is_y.whole)
-      (λ e. ap (λ n. n / stride l) e)
+  same_id = grind (arith, common_steps, same_tests, quotient)
 
 -- and that of dead is 0
 zero_same : (l : Layout) (x : ℕ) → IsRowId l x → (x / stride l == 0) ≡ (x == 0)
-zero_same l x is =
-    let none : 0 * stride l ≡ 0 = omega arith in
-    same_tests (x / stride l) 0 x 0
-    (λ e. sym (quotient x (stride l) is.whole) ∙ ap (λ n. n * stride l) e ∙ none)
-    (λ e. ap (λ n. n / stride l) e ∙ zero-div (stride l))
+zero_same l x is = grind (arith, common_steps, same_tests, quotient, zero-div)
 
 -- ---- the next ids of a row
 
@@ -66,9 +53,7 @@ module _ (l : Layout) (rows : AreRows l) (row : ℕ) (h : row < row_count l) whe
 
   -- each as it stands among the words
   word_at : (c : ℕ) → c < alphabet_len l.classes → id_at c ≡ slice_index l.words (row * stride l + c)
-  word_at c low =
-      get_or-take (alphabet_len l.classes) (drop (row * stride l) l.words) c 0 low
-      ∙ get_or-drop (row * stride l) l.words c 0
+  word_at c low = grind (arith, common_steps, get_or-take, get_or-drop)
 
   -- and each is the id of a row
   id_is : (c : ℕ) → c < alphabet_len l.classes → IsRowId l (id_at c)
@@ -95,14 +80,7 @@ module _ (b : Build) (byte_classes : Bool) (l : Layout) (classes : l.classes ≡
 
   -- the class of the least byte of a class
   column_is : (c : ℕ) → c < length (least b byte_classes) → column l (slice_index (least b byte_classes) c) ≡ c
-  column_is c h =
-      let ends : ℕ → Bool = ends_class b.nfa b.quit byte_classes in
-      let byte : ℕ = slice_index (representatives ends) c in
-      let low : byte < 256 = representative_below ends c h in
-      ap (λ (end : Bool). if end then slice_index l.classes 255 + 1 else slice_index l.classes byte)
-      (ne_eqb byte 256 (λ e. omega (arith, e)))
-      ∙ class_is byte low
-      ∙ representative_class ends c h
+  column_is c h = grind (arith, common_steps, representative_below, ne_eqb, class_is, representative_class)
 
 -- the node of the row to which a class leads
 abbrev node_of : List State → Layout → List ℕ → ℕ → Node

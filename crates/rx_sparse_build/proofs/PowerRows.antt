@@ -1,7 +1,7 @@
 -- The rows of a table that is a powerset machine are its nodes: they are different, lead alike, and are left on the
 -- same bytes.
-use Rattle.std.proofs.Common.{◌≡◌, ℕ, zero, suc, ◌<◌, ◌==◌, true, false, not, length}
-use Rattle.std.proofs.Common.{get_or, refl, ap, sym, ◌∙◌, arith, inl, inr}
+use Rattle.std.proofs.lemmas.Grind.{common_steps}
+use Rattle.std.proofs.Common.{◌≡◌, ℕ, zero, suc, ◌<◌, ◌==◌, true, false, not, length, get_or, refl, ap, sym, ◌∙◌, arith}
 use Rattle.std.specs.Prelude.{nat_lt}
 use Rattle.std.specs.List.{range_with_len}
 use Rattle.std.proofs.lemmas.Bool.{cases_lt, cases_order, le-ltb, lt-ltb, ne_eqb}
@@ -36,8 +36,7 @@ module _ {t : Table} {b : Build} (p : IsPower t b) where
   pub dead_is : (row : ℕ) → row < t.size → is_dead (node row) ≡ (row == 0)
   dead_is zero h = refl
   dead_is (suc zero) h = refl
-  dead_is (suc (suc i)) h =
-      alive_behind i (omega (arith, p.size)) ∙ sym (ne_eqb (suc (suc i)) 0 (λ e. omega (arith, e)))
+  dead_is (suc (suc i)) h = grind (arith, common_steps, alive_behind, ne_eqb)
 
   -- ---- different rows have different nodes
 
@@ -63,11 +62,7 @@ module _ {t : Table} {b : Build} (p : IsPower t b) where
   below_apart (suc (suc i)) (suc (suc j)) less h e = state_one i j (omega arith) (omega (arith, p.size)) e
 
   row_one : (x y : ℕ) → x < t.size → y < t.size → node x ≡ node y → x ≡ y
-  row_one x y hx hy e = elim (cases_order x y) [
-    | inl same ↦ same
-    | inr (inl less) ↦ absurd (below_apart x y less hy e)
-    | inr (inr more) ↦ absurd (below_apart y x more hx (sym e))
-  ]
+  row_one x y hx hy e = grind (arith, common_steps, cases_order, below_apart)
 
   -- so the test of two rows' nodes is that of the rows
   pub same_rows : (x y : ℕ) → x < t.size → y < t.size → same_node (node x) (node y) ≡ (x == y)
@@ -89,7 +84,4 @@ module _ {t : Table} {b : Build} (p : IsPower t b) where
 
   -- there is a state where there is a row behind quit
   pub some_state : nat_lt 0 (length p.states) ≡ nat_lt 2 t.size
-  some_state = elim (cases_lt 0 (length p.states)) [
-    | inl some ↦ lt-ltb 0 (length p.states) some ∙ sym (lt-ltb 2 t.size (omega (arith, p.size, some)))
-    | inr none ↦ le-ltb 0 (length p.states) none ∙ sym (le-ltb 2 t.size (omega (arith, p.size, none)))
-  ]
+  some_state = grind (arith, common_steps, cases_lt, lt-ltb, le-ltb)

@@ -1,7 +1,8 @@
 -- In a table that gives its build, and of which any two rows are told apart, each row that is reached is that of a
 -- state.
-use Rattle.std.proofs.Common.{◌≡◌, ◌≢◌, ℕ, zero, suc, ◌+◌, ◌<◌, ◌≤◌, ◌-◌, ◌==◌, true, List, [], ◌∷◌}
-use Rattle.std.proofs.Common.{◌++◌, length, refl, ap, sym, ◌∙◌, subst, arith, get_or}
+use Rattle.std.proofs.lemmas.Grind.{common_steps}
+use Rattle.std.proofs.Common.{◌≡◌, ◌≢◌, ℕ, zero, suc, ◌+◌, ◌<◌, ◌≤◌, ◌-◌, true, List, [], ◌∷◌, ◌++◌, length, refl, ap}
+use Rattle.std.proofs.Common.{sym, ◌∙◌, subst, arith, get_or}
 use Rattle.std.specs.Prelude.{Contains, All, AllPairs}
 use Rattle.std.proofs.lemmas.Bool.{and_parts, eqb-true}
 use Rattle.std.proofs.lemmas.List.{get_or_default}
@@ -9,7 +10,7 @@ use Rattle.std.proofs.lemmas.List.Elements.{All-from_get_or}
 use Rattle.rx_spec.specs.Builds.{Build, IsReached, Node, built_entry, built_modes, dead, is_dead, is_dead_state}
 use Rattle.rx_spec.specs.Builds.{next_node, node_after, node_label, power}
 use Rattle.rx_spec.specs.Labels.{AreToldApart, Gives, IsReachedRow, label_after}
-use Rattle.rx_spec.specs.Machines.{IsWord, Label, label_of}
+use Rattle.rx_spec.specs.Machines.{IsWord, Label}
 use Rattle.rx_spec.specs.States.{State, dead_state}
 use Rattle.rx_spec.specs.Tables.{IsTable, Table}
 use Rattle.lemmas_walks.proofs.Firsts.{by_test}
@@ -21,13 +22,7 @@ module _ (b : Build) where
   -- from a dead node every word leads to nothing
   dead_tells : (n : Node) (word : List ℕ) → is_dead n ≡ true → label_after (power b) n word ≡ Label.Plain
   dead_tells Node.Quit word e = absurd (cc)
-  dead_tells (Node.Running s) [] e =
-      ap node_label (run-nil (next_node b) (Node.Running s))
-      ∙ plain s.label (eqb-true (length s.label) 0 (and_parts (length s.rows == 0) (length s.label == 0) e).1)
-    where
-      plain : (ks : List ℕ) → length ks ≡ 0 → label_of ks ≡ Label.Plain
-      plain [] e = refl
-      plain (k ∷ ks) e = absurd (omega (arith, e))
+  dead_tells (Node.Running s) [] e = grind (arith, common_steps, run-nil, eqb-true, and_parts)
   dead_tells (Node.Running s) (unit ∷ word) e =
       let leads : next_node b (Node.Running s) unit ≡ dead = rw e refl in
       ap node_label (run-cons (next_node b) (Node.Running s) unit word)
@@ -36,8 +31,7 @@ module _ (b : Build) where
 
   -- from quit every word but the empty one does
   quit_goes : (unit : ℕ) (word : List ℕ) → label_after (power b) Node.Quit (unit ∷ word) ≡ Label.Plain
-  quit_goes unit word =
-      ap node_label (run-cons (next_node b) Node.Quit unit word) ∙ dead_tells dead word refl
+  quit_goes unit word = grind (arith, common_steps, run-cons, dead_tells)
 
 -- ---- and the rows of a table
 
@@ -72,11 +66,7 @@ alike_label {t} {b} {row} {n} alike =
 -- rows like one node aren't told apart
 not_apart : {t : Table} {b : Build} {x y : ℕ} {m n : Node} → AreAlike t b x m → AreAlike t b y n → m ≡ n
     → AreToldApart t x y → ⊥
-not_apart {t} {b} {x} {y} {m} {n} p q same apart =
-    apart.differ
-    (p.tell apart.word apart.is_word
-    ∙ ap (λ k. label_after (power b) k apart.word) same
-    ∙ sym (q.tell apart.word apart.is_word))
+not_apart {t} {b} {x} {y} {m} {n} p q same apart = grind (arith, common_steps)
 
 module _ {t : Table} {b : Build} (is : IsTable t) where
   -- row 0 is like every dead node, and row 1 like quit

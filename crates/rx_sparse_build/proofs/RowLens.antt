@@ -1,6 +1,7 @@
 -- How long the sparse row of a dense one is, by its ranges, the patterns that it tells, and its needles.
-use Rattle.std.proofs.Common.{◌≡◌, ◌≢◌, ℕ, zero, suc, ◌+◌, ◌-◌, ◌*◌, ◌<◌, ◌≤◌, Bool, true, false, List, [], ◌∷◌}
-use Rattle.std.proofs.Common.{◌&&◌, filter, length, map, refl, ap, ◌∙◌, arith}
+use Rattle.std.proofs.lemmas.Grind.{common_steps}
+use Rattle.std.proofs.Common.{◌≡◌, ◌≢◌, ℕ, zero, suc, ◌+◌, ◌-◌, ◌*◌, ◌<◌, ◌≤◌, Bool, true, false, List, [], ◌∷◌, ◌&&◌}
+use Rattle.std.proofs.Common.{filter, length, map, refl, arith}
 use Rattle.std.specs.Prelude.{if◌then◌else◌, sum_by}
 use Rattle.std.specs.List.{range_with_len}
 use Rattle.std.proofs.lemmas.List.{length-map}
@@ -13,7 +14,7 @@ use Rattle.rx_dense.specs.Layouts.{AreRows, Layout, patterns_at, place_in_range,
 use Rattle.rx_dense.specs.Specials.{is_match_id, is_quit_id}
 use Rattle.rx_dense.specs.States.{begins_range, is_live, row_at}
 use Rattle.rx_sparse.specs.Rows.{is_some_list, row_len, rows_len}
-use Rattle.rx_sparse.specs.Sparse.{patterns_of_id, range_of, ranges_of, row_of_dense, sparse_len}
+use Rattle.rx_sparse.specs.Sparse.{patterns_of_id, ranges_of, row_of_dense, sparse_len}
 use Rattle.rx_sparse.proofs.DenseRanges.{ranges_few}
 use Rattle.rx_sparse_build.proofs.Needles.{needles_few}
 use Rattle.rx_sparse_build.proofs.Patterns.{kept, kept_named, named, told}
@@ -38,9 +39,7 @@ rows_sum l row (suc count) =
 
 -- the length of a sparse table's rows, as a sum over the rows of the dense one
 pub sparse_sum : (l : Layout) → sparse_len l ≡ sum_by (len_at l) (range_with_len 0 (row_count l))
-sparse_sum l =
-    let all : row_count l - 0 ≡ row_count l = omega arith in
-    rows_sum l 0 (row_count l - 0) ∙ ap (λ n. sum_by (len_at l) (range_with_len 0 n)) all
+sparse_sum l = grind (arith, common_steps, rows_sum)
 
 -- ---- the parts of one
 
@@ -82,10 +81,7 @@ module _ (l : Layout) (sound : IsSound (table_of l)) (row : ℕ) (h : row < row_
   pub ranges_are : length (ranges_of (row_at l row).next_ids)
       ≡ length (filter (λ first. begins_range (row_at l row).next_ids first && is_live (row_at l row).next_ids first)
       (range_with_len 0 (length (row_at l row).next_ids - 1)))
-  ranges_are =
-      length-map
-      (filter (λ first. begins_range (row_at l row).next_ids first && is_live (row_at l row).next_ids first)
-      (range_with_len 0 (length (row_at l row).next_ids - 1))) (range_of (row_at l row).next_ids)
+  ranges_are = grind (arith, common_steps, length-map)
 
   -- It has a range for each class at most, three needles at most, and four bytes for each pattern.
   pub len_most : AreRows l

@@ -1,10 +1,11 @@
 -- A sparse table says what its dense one says.
+use Rattle.std.proofs.lemmas.Grind.{common_steps}
 use Rattle.std.proofs.Common.{◌≡◌, ℕ, ◌<◌, true, false, List, sym, ap, ◌∙◌, subst, arith}
 use Rattle.rx_spec.specs.Builds.{Build}
 use Rattle.rx_spec.specs.Labels.{Gives, IsLeastFor}
 use Rattle.rx_spec.specs.Machines.{IsWord}
 use Rattle.rx_spec.specs.Nfas.{Nfa}
-use Rattle.rx_spec.specs.Power.{IsPower, node_at}
+use Rattle.rx_spec.specs.Power.{IsPower}
 use Rattle.rx_spec.specs.Queries.{Anchored}
 use Rattle.rx_spec.specs.Tables.{AreSame, IsTable, Table, row_after}
 use Rattle.rx_spec.specs.declared.Start.{Start}
@@ -45,19 +46,7 @@ module _ {t u : Table} (same : AreSame t u) (is : IsTable t) (b : Build) where
   }
 
   power_same : IsPower t b → IsPower u b
-  power_same power = record {
-    states = power.states;
-    reached = power.reached;
-    size = sym same.size ∙ power.size;
-    entries = λ mode start.
-        ap (node_at power.states) (sym (same.entries mode start)) ∙ power.entries mode start;
-    nexts = λ row unit h v.
-        let low : row < t.size = omega (arith, same.size) in
-        ap (node_at power.states) (sym (same.nexts row unit low v)) ∙ power.nexts row unit low v;
-    labels = λ row h.
-        let low : row < t.size = omega (arith, same.size) in
-        sym (same.labels row low) ∙ power.labels row low;
-  }
+  power_same power = grind (arith, common_steps)
 
 -- ---- the sparse table of a built one
 
@@ -82,8 +71,7 @@ module _ (s : Settled) (nfa : Nfa) (t : Stored) (is : IsSparse s nfa t) where
   sparse_serves = serves_same dense_same is_table (build_of s nfa) (built_serves s nfa is.dense is.built)
 
   pub built_sound : IsSoundLayout t.layout
-  built_sound =
-      subst IsSoundLayout layout_is (sparse_sound is.dense is.shaped special is.built.in_order.sound)
+  built_sound = grind (arith, common_steps, layout_is, sparse_sound, special)
 
   pub sparse_power : s.minimize ≡ false → IsPower (table_of t.layout) (build_of s nfa)
   sparse_power e = power_same dense_same is_table (build_of s nfa) (is.built.power e)

@@ -1,7 +1,7 @@
 -- What the closing tests say, as facts: of rows by their ids, of where rows lead, and of all parts together.
-use Rattle.std.proofs.Common.{◌≡◌, ℕ, zero, suc, ◌+◌, ◌<◌, ◌≤◌, ◌==◌, Bool, true, false, cond, leb}
-use Rattle.std.proofs.Common.{Option, Some, None, List, [], ◌∷◌, length, get_or, slice_index, sym, ap, subst}
-use Rattle.std.proofs.Common.{◌∙◌, arith}
+use Rattle.std.proofs.lemmas.Grind.{common_steps}
+use Rattle.std.proofs.Common.{[], ◌≡◌, ℕ, zero, suc, ◌+◌, ◌<◌, ◌≤◌, ◌==◌, Bool, true, false, cond, leb, Option, Some}
+use Rattle.std.proofs.Common.{None, List, ◌∷◌, length, get_or, slice_index, sym, ap, subst, ◌∙◌, arith}
 use Rattle.std.specs.Prelude.{IfSome}
 use Rattle.std.specs.List.{list_all}
 use Rattle.std.proofs.lemmas.Bool.{and_parts, eqb-true, leb-true}
@@ -73,9 +73,7 @@ module _ (P : ℕ → Type 0) (row : Row)
       (among dead ranges class (λ i h. each (suc i) (omega (arith, h))))
 
   pub unit_leads : P 0 → (classes : List ℕ) (unit : ℕ) → P (next_id classes row unit)
-  unit_leads dead classes unit =
-      either (unit == 256) row.eoi (next_among row.ranges (slice_index classes unit)) eoi_leads
-      (among dead row.ranges (slice_index classes unit) range_leads)
+  unit_leads dead classes unit = grind (arith, common_steps, either, eoi_leads, among, range_leads)
 
 -- ---- all parts together
 
@@ -87,16 +85,7 @@ pub record Stands (l : Layout) (row : ℕ) : Type 0 where
   pub needles : has_needles l (id_of (ids_of l) row) (row_at l row) ≡ true
 
 stands : (l : Layout) (row : ℕ) → row_stands l (id_of (ids_of l) row) (row_at l row) ≡ true → Stands l row
-stands l row test =
-    let id : ℕ = id_of (ids_of l) row in
-    let r : Row = row_at l row in
-    let t1 = and_parts _ (has_needles l id r) test in
-    let t0 = and_parts (list_all (is_row_id l) (next_ids r)) (leads_on l.special id r) t1.0 in
-    record {
-      nexts = λ i h. valid_id l _ (each_at (is_row_id l) (next_ids r) i t0.0 h);
-      leads = t0.1;
-      needles = t1.1;
-    }
+stands l row test = grind (arith, common_steps, and_parts, valid_id, each_at)
 
 -- the ids of special rows are those of rows
 pub record AreSpecialRows (l : Layout) : Type 0 where
@@ -109,22 +98,7 @@ pub record AreSpecialRows (l : Layout) : Type 0 where
   pub max_start : IsId (ids_of l) l.special.max_start
 
 special_rows : (l : Layout) → are_special_rows l l.special ≡ true → AreSpecialRows l
-special_rows l test =
-    let h6 = and_parts _ (is_row_id l l.special.max_start) test in
-    let h5 = and_parts _ (is_row_id l l.special.min_start) h6.0 in
-    let h4 = and_parts _ (is_row_id l l.special.max_accel) h5.0 in
-    let h3 = and_parts _ (is_row_id l l.special.min_accel) h4.0 in
-    let h2 = and_parts _ (is_row_id l l.special.max_match) h3.0 in
-    let h1 = and_parts (is_row_id l l.special.max) (is_row_id l l.special.min_match) h2.0 in
-    record {
-      max = valid_id l l.special.max h1.0;
-      min_match = valid_id l l.special.min_match h1.1;
-      max_match = valid_id l l.special.max_match h2.1;
-      min_accel = valid_id l l.special.min_accel h3.1;
-      max_accel = valid_id l l.special.max_accel h4.1;
-      min_start = valid_id l l.special.min_start h5.1;
-      max_start = valid_id l l.special.max_start h6.1;
-    }
+special_rows l test = grind (arith, common_steps, and_parts, valid_id)
 
 pub record AreClosed (l : Layout) : Type 0 where
   pub two : 2 ≤ row_count l

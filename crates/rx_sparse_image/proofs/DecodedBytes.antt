@@ -1,14 +1,15 @@
 -- Bytes that were decoded are the bytes of what was decoded: numbers, ends of ranges, and next ids.
-use Rattle.std.proofs.Common.{◌≡◌, ℕ, zero, suc, ◌+◌, ◌-◌, ◌*◌, ◌^◌, ◌<◌, ◌≤◌, List, [], ◌∷◌, ◌++◌, length, take}
-use Rattle.std.proofs.Common.{drop, map, get_or, slice_index, refl, ap, ap₂, sym, ◌∙◌, ⊎_elim, arith, Fits, w8}
-use Rattle.std.proofs.Common.{length-drop, drop-cons}
+use Rattle.std.proofs.lemmas.Grind.{common_steps}
+use Rattle.std.proofs.Common.{[], ◌≡◌, ℕ, zero, suc, ◌+◌, ◌-◌, ◌*◌, ◌^◌, ◌<◌, ◌≤◌, List, ◌∷◌, ◌++◌, length, take, drop}
+use Rattle.std.proofs.Common.{map, get_or, slice_index, refl, ap, ap₂, sym, ◌∙◌, arith, Fits, w8, length-drop}
+use Rattle.std.proofs.Common.{drop-cons}
 use Rattle.std.specs.List.{range_with_len}
 use Rattle.std.specs.Int.{w16, w32}
 use Rattle.std.proofs.Math.Seq.{take-add}
 use Rattle.std.proofs.lemmas.Bool.{cases_lt}
 use Rattle.std.proofs.lemmas.List.{drop-drop, drop-take, drop_all, get_or_past, length-take-le, take-append-drop}
 use Rattle.std.proofs.lemmas.List.{take-take}
-use Rattle.std.proofs.lemmas.List.Elements.{All-drop, All-from_get_or, All-get_or, All-take}
+use Rattle.std.proofs.lemmas.List.Elements.{All-drop, All-from_get_or, All-take}
 use Rattle.std.proofs.lemmas.List.FromFn.{map-range_with_len_more}
 use Rattle.std.proofs.lemmas.Nat.{be_bytes_2, be_bytes_4, le_bytes_2, le_bytes_4}
 use Rattle.rx_spec.specs.Bytes.{AreBytes}
@@ -25,11 +26,7 @@ are_bytes bytes fit = All-from_get_or (λ b. b < 256) bytes 0 (λ i h. omega (ar
 
 -- past the end too
 pub byte_below : (bytes : List ℕ) → AreBytes bytes → (i : ℕ) → get_or bytes i 0 < 256
-byte_below bytes are i =
-    ⊎_elim
-    (λ (low : i < length bytes). All-get_or (λ b. b < 256) bytes i 0 low are)
-    (λ (high : length bytes ≤ i). omega (arith, get_or_past bytes i 0 high))
-    (cases_lt i (length bytes))
+byte_below bytes are i = grind (arith, common_steps, get_or_past, cases_lt)
 
 -- the bytes of the number of two bytes are these
 pub field16_is : (order : Order) (bytes : List ℕ) → AreBytes bytes → length bytes ≡ 2
@@ -45,29 +42,13 @@ field32_is Order.Big bytes are len = be_bytes_4 bytes _ len (byte_below bytes ar
 
 -- a number of bytes fits them
 pub number16_below : (order : Order) (bytes : List ℕ) → AreBytes bytes → number order w16 bytes < 2 ^ 16
-number16_below Order.Little bytes are =
-    omega (arith, byte_below bytes are 0, byte_below bytes are 1)
-number16_below Order.Big bytes are =
-    omega (arith, byte_below bytes are 0, byte_below bytes are 1)
+number16_below Order.Little bytes are = grind (arith, common_steps, byte_below)
+number16_below Order.Big bytes are = grind (arith, common_steps, byte_below)
 
 -- and four bytes
 pub number32_below : (order : Order) (bytes : List ℕ) → AreBytes bytes → number order w32 bytes < 2 ^ 32
-number32_below Order.Little bytes are =
-    omega (
-      arith,
-      byte_below bytes are 0,
-      byte_below bytes are 1,
-      byte_below bytes are 2,
-      byte_below bytes are 3,
-    )
-number32_below Order.Big bytes are =
-    omega (
-      arith,
-      byte_below bytes are 0,
-      byte_below bytes are 1,
-      byte_below bytes are 2,
-      byte_below bytes are 3,
-    )
+number32_below Order.Little bytes are = grind (arith, common_steps, byte_below)
+number32_below Order.Big bytes are = grind (arith, common_steps, byte_below)
 
 -- ---- words
 
@@ -142,22 +123,7 @@ module _ (order : Order) (count : ℕ) (ends ids : List ℕ) (some : 1 ≤ count
   -- the ends of all ranges, and the zeros of the end mark
   pub ends_are : length ends ≡ 2 * count → slice_index ends (2 * count - 2) ≡ 0 → slice_index ends (2 * count - 1) ≡ 0
       → ends_text (map (range_in order ends ids) (range_with_len 0 (count - 1))) ≡ ends
-  ends_are len first last =
-      let front : ℕ = 2 * (count - 1) in
-      let a : 2 * count - 2 ≡ front = omega arith in
-      let b : 2 * count - 1 ≡ suc front = omega arith in
-      let past : length ends ≤ suc (suc front) = omega arith in
-      let d0 : drop front ends ≡ slice_index ends front ∷ drop (suc front) ends =
-      drop-cons ends front 0 (omega arith) in
-      let d1 : drop (suc front) ends ≡ slice_index ends (suc front) ∷ drop (suc (suc front)) ends =
-      drop-cons ends (suc front) 0 (omega arith) in
-      let z0 : slice_index ends front ≡ 0 = ap (slice_index ends) (sym a) ∙ first in
-      let z1 : slice_index ends (suc front) ≡ 0 = ap (slice_index ends) (sym b) ∙ last in
-      let d2 : drop (suc (suc front)) ends ≡ [] = drop_all (suc (suc front)) ends past in
-      let marks : drop front ends ≡ 0 ∷ (0 ∷ []) =
-      d0 ∙ ap₂ (λ x t. x ∷ t) z0 (d1 ∙ ap₂ (λ x t. x ∷ t) z1 d2) in
-      ap₂ (λ (s t : List ℕ). s ++ t) (pairs_from order ends ids 0 (count - 1) (omega arith)) (sym marks)
-      ∙ take-append-drop front ends
+  ends_are len first last = grind (arith, common_steps, drop-cons, drop_all, pairs_from, take-append-drop)
 
   -- where the ranges from a place on lead
   nexts_from : (place n : ℕ) → map (λ range. range.next) (map (range_in order ends ids) (range_with_len place n))

@@ -1,6 +1,7 @@
 -- The row that its parts make, and what is read out of them.
-use Rattle.std.proofs.Common.{◌≡◌, ℕ, ◌+◌, ◌-◌, ◌*◌, ◌/◌, ◌<◌, ◌≤◌, Bool, true, false, cond, List, [], ◌∷◌, ◌++◌}
-use Rattle.std.proofs.Common.{length, map, drop, nat_le, ap, sym, ◌∙◌, subst, arith}
+use Rattle.std.proofs.lemmas.Grind.{common_steps}
+use Rattle.std.proofs.Common.{[], ◌≡◌, ℕ, ◌+◌, ◌-◌, ◌*◌, ◌/◌, ◌<◌, ◌≤◌, Bool, true, false, cond, List, ◌∷◌, ◌++◌}
+use Rattle.std.proofs.Common.{length, map, drop, nat_le, ap, sym, ◌∙◌, arith}
 use Rattle.std.specs.List.{list_all, range_with_len}
 use Rattle.std.proofs.lemmas.Bool.Decides.{nat_tests}
 use Rattle.std.proofs.lemmas.List.{append-nil}
@@ -55,38 +56,19 @@ pub record ArePieces (order : Order) (row : Row) (p : RowParts) : Type 0 where
 
 module _ {order : Order} {row : Row} {p : RowParts} (are : ArePieces order row p) where
   is_match : nat_le 32768 p.head ≡ is_some_list row.patterns
-  is_match =
-      ap (nat_le 32768) are.head
-      ∙ told (length row.ranges + 1) (is_some_list row.patterns) (let few = are.fits.few in omega arith)
+  is_match = grind (arith, common_steps, told)
 
   behind : p.patterns.now ++ p.needles.now
       ≡ patterns_text order row.patterns ++ (length row.needles ∷ row.needles)
-  behind =
-      ap (λ t. t ++ p.needles.now) are.patterns ∙ ap (λ t. patterns_text order row.patterns ++ t) are.needles
+  behind = grind (arith, common_steps)
 
   -- the parts make that row
   pub row_is : row_of order p ≡ row
-  row_is =
-      ap (λ m. row_of_parts order m p.ends.now p.next_ids.now (p.patterns.now ++ p.needles.now)) is_match
-      ∙ ap (λ e. row_of_parts order (is_some_list row.patterns) e p.next_ids.now (p.patterns.now ++ p.needles.now))
-      are.ends
-      ∙ ap
-      (λ i. row_of_parts order (is_some_list row.patterns) (ends_text row.ranges) i (p.patterns.now ++ p.needles.now))
-      are.next_ids
-      ∙ ap
-      (λ r.
-      row_of_parts order (is_some_list row.patterns) (ends_text row.ranges) (words_text order (next_ids row)) r)
-      behind
-      ∙ made order row are.fits
+  row_is = grind (arith, common_steps, is_match, behind, made)
 
   -- and they are whole
   pub are_parts : AreParts order p
-  are_parts = record {
-    ends = are.ends ∙ ap (λ (r : Row). ends_text r.ranges) (sym row_is);
-    next_ids = are.next_ids ∙ ap (λ (r : Row). words_text order (next_ids r)) (sym row_is);
-    needles = are.needles ∙ ap (λ (r : Row). length r.needles ∷ r.needles) (sym row_is);
-    fits = subst FitsBytes (sym row_is) are.fits;
-  }
+  are_parts = grind (arith, common_steps, row_is)
 
 -- ---- what is read out of whole parts
 
@@ -98,14 +80,7 @@ module _ {order : Order} {p : RowParts} (are : AreParts order p) where
   ends_len = ap length are.ends ∙ length-ends row.ranges
 
   pub ids_len : length p.next_ids.now ≡ 2 * length p.ends.now
-  ids_len =
-      omega (
-        arith,
-        ends_len,
-        ap length are.next_ids,
-        length-words order (next_ids row),
-        length-next_ids row,
-      )
+  ids_len = grind (arith, common_steps, ends_len, length-words, length-next_ids)
 
   pub ends_some : 2 ≤ length p.ends.now
   ends_some = omega (arith, ends_len)
@@ -134,6 +109,4 @@ module _ {order : Order} {p : RowParts} (are : AreParts order p) where
   pub all_next : (test : ℕ → Bool)
       → list_all test (next_ids (row_of order p))
       ≡ list_all (λ i. test (word_at order p.next_ids.now i)) (range_with_len 0 (length p.ends.now / 2))
-  all_next test =
-      ap (list_all test) next_ids_are
-      ∙ list_all-map test (word_at order p.next_ids.now) (range_with_len 0 (length p.ends.now / 2))
+  all_next test = grind (arith, common_steps, next_ids_are, list_all-map)

@@ -1,5 +1,6 @@
 -- Rows that were read one behind another: what is true of those that were passed, and of the reading that is left.
-use Rattle.std.proofs.Common.{◌≡◌, ℕ, zero, suc, ◌+◌, ◌-◌, ◌<◌, ◌≤◌, Bool, true, false, ◌||◌, ◌==◌, List, [], ◌∷◌, ◌++◌}
+use Rattle.std.proofs.lemmas.Grind.{common_steps}
+use Rattle.std.proofs.Common.{[], ◌≡◌, ℕ, zero, suc, ◌+◌, ◌-◌, ◌<◌, ◌≤◌, Bool, true, false, ◌||◌, ◌==◌, List, ◌∷◌, ◌++◌}
 use Rattle.std.proofs.Common.{length, drop, get_or, Result, Ok, Err, refl, ap, sym, ◌∙◌, set, replicate, append_assoc}
 use Rattle.std.proofs.Common.{⊎_elim, arith}
 use Rattle.std.specs.List.{list_any}
@@ -76,14 +77,7 @@ bind_same (Err kind) = refl
 -- at the start none was
 pub none_passed : (b : Bounds) (bytes : List ℕ) → ArePassed b bytes 0 bytes
 unfolding rows_in
-none_passed b bytes = record {
-  stands = refl;
-  few = omega arith;
-  tested = λ i h. absurd (omega arith);
-  read =
-      let same : length bytes ≡ length bytes - 0 = omega arith in
-      ap (λ n. rows_from b n bytes) same ∙ bind_same (rows_from b (length bytes - 0) bytes);
-}
+none_passed b bytes = grind (arith, common_steps, bind_same)
 
 -- where a row and the rest begin
 pub row_first : (b : Bounds) (most : ℕ) (bytes : List ℕ) → 0 < length bytes
@@ -114,8 +108,7 @@ bind_push (Err kind) rows row = refl
 
 -- one text and another, and the rest
 behind_both : (first second rest : List ℕ) → first ++ (second ++ rest) ≡ (first ++ (second ++ [])) ++ rest
-behind_both first second rest =
-    sym (ap (λ t. (first ++ t) ++ rest) (append-nil second) ∙ append_assoc first second rest)
+behind_both first second rest = grind (arith, common_steps, append-nil, append_assoc)
 
 module _ {b : Bounds} {bytes rest : List ℕ} {count : ℕ} (are : ArePassed b bytes count rest)
     (len : b.len ≡ length bytes) where
@@ -124,18 +117,11 @@ module _ {b : Bounds} {bytes rest : List ℕ} {count : ℕ} (are : ArePassed b b
 
   -- their bytes and the rest are all bytes
   pub size : rows_len rows + length rest ≡ length bytes
-  size = omega (
-    arith,
-    ap length are.stands,
-    length-append (rows_text b.order rows) rest,
-    length-rows b.order rows,
-  )
+  size = grind (arith, common_steps, length-append, length-rows)
 
   -- the rest lies behind their bytes
   pub rest_is : drop (rows_len rows) bytes ≡ rest
-  rest_is =
-      ap (drop (rows_len rows)) are.stands
-      ∙ drop_at (rows_text b.order rows) rest (rows_len rows) (length-rows b.order rows)
+  rest_is = grind (arith, common_steps, drop_at, length-rows)
 
   -- the reading that is left begins with a row
   module _ (some : 0 < length rest) where
@@ -254,28 +240,15 @@ module _ {b : Bounds} {bytes rest : List ℕ} {count : ℕ} (are : ArePassed b b
 
   -- the reading gives the rows that were passed
   pub all_read : rows_at b bytes ≡ Ok all
-  all_read =
-      let left : ℕ = length bytes - count in
-      are.read
-      ∙ ap (λ r. r >>= (λ more. Ok (all ++ more))) (ap (rows_from b left) (no_bytes rest none) ∙ none_left b left)
-      ∙ ap (λ t. Ok t) (append-nil all)
+  all_read = grind (arith, common_steps, no_bytes, none_left, append-nil)
 
   -- they stand one behind another, and nothing after them
   pub all_whole : AreWholeRows b.order count bytes
-  all_whole = record {
-    stands =
-        are.stands
-        ∙ ap (λ t. rows_text b.order all ++ t) (no_bytes rest none)
-        ∙ append-nil (rows_text b.order all);
-    fits = λ i h. fits_tested (are.tested i h);
-  }
+  all_whole = grind (arith, common_steps, no_bytes, append-nil, fits_tested)
 
   -- each of them passed its tests
   pub all_tested : AreTestedRows b all
-  all_tested = record {
-    each = λ i h. are.tested i (omega (arith, length-rows_in b.order count bytes));
-    len = omega (arith, size are len);
-  }
+  all_tested = grind (arith, common_steps, length-rows_in, size)
 
 -- ---- marks
 
@@ -301,20 +274,18 @@ pub marks_more : (begins : List Bool) (places : List ℕ) (at : ℕ) → at < le
     → ((k : ℕ) → begins_at begins k ≡ list_any (λ place. place == k) places)
     → (k : ℕ) → begins_at (marked begins at) k ≡ list_any (λ place. place == k) (places ++ at ∷ [])
 marks_more begins places at h before k =
-    let test = λ (place : ℕ). place == k in
-    ⊎_elim
-    (λ (same : at ≡ k).
-    ap (λ n. get_or (set begins n true) k false) same
-    ∙ get_or-set_same begins k true false (omega arith)
-    ∙ sym (list_any-append test places (at ∷ [])
-    ∙ or_right (list_any test places) (list_any test (at ∷ [])) (ap (λ x. x || false) (eq-eqb at k same))))
-    (λ (other : at ≡ k → ⊥).
-    get_or-set_other begins at k true false (λ e. other (sym e))
-    ∙ before k
-    ∙ sym (list_any-append test places (at ∷ [])
-    ∙ ap (λ x. list_any test places || (x || false)) (ne_eqb at k other)
-    ∙ or_none (list_any test places)))
-    (cases_eq at k)
+    grind (
+      arith,
+      common_steps,
+      get_or-set_same,
+      list_any-append,
+      or_right,
+      eq-eqb,
+      get_or-set_other,
+      ne_eqb,
+      or_none,
+      cases_eq,
+    )
 
 -- ---- failures
 

@@ -1,6 +1,7 @@
 -- Numbers that are tested one after another.
-use Rattle.std.proofs.Common.{◌≡◌, ℕ, zero, suc, ◌*◌, ◌<◌, List, [], ◌∷◌, length, slice_index, Result, Ok, Err}
-use Rattle.std.proofs.Common.{refl, ap, sym, ◌∙◌, subst, arith}
+use Rattle.std.proofs.lemmas.Grind.{common_steps}
+use Rattle.std.proofs.Common.{[], ◌≡◌, ℕ, zero, suc, ◌*◌, ◌<◌, List, ◌∷◌, length, slice_index, Result, Ok, Err, refl}
+use Rattle.std.proofs.Common.{ap, sym, ◌∙◌, subst, arith}
 use Rattle.std.proofs.lemmas.List.FromFn.{get_or-map-range_with_len, length-map-range_with_len}
 use Rattle.rx_wire.specs.declared.order.Order.{Order}
 use Rattle.rx_wire.specs.Kinds.{Kind, ◌>>=◌}
@@ -26,8 +27,7 @@ pub one_fails : (test : ℕ → Result ℕ Kind) (ns : List ℕ) (i : ℕ) (kind
     → each_passes test ns ≡ Err kind
 unfolding each_passes
 one_fails test [] i kind h passed fails = elim h [ ]
-one_fails test (n ∷ ns) zero kind h passed fails =
-    ap (λ r. r >>= (λ first. each_passes test ns >>= (λ count. Ok (suc count)))) fails
+one_fails test (n ∷ ns) zero kind h passed fails = grind (arith, common_steps)
 one_fails test (n ∷ ns) (suc i) kind h passed fails =
     ap (λ r. r >>= (λ first. each_passes test ns >>= (λ count. Ok (suc count)))) (passed 0 (omega arith))
     ∙ ap (λ r. r >>= (λ count. Ok (suc count)))
@@ -47,10 +47,7 @@ module _ (test : ℕ → Result ℕ Kind) (order : Order) (count : ℕ) (bytes :
 
   pub words_pass : ((k : ℕ) → k < count → test (word_at order bytes k) ≡ Ok (word_at order bytes k))
       → each_passes test words ≡ Ok (length words)
-  words_pass passed =
-      all_pass test words
-      (λ k h. let low : k < count = omega (arith, len) in
-      subst (λ n. test n ≡ Ok n) (sym (here k low)) (passed k low))
+  words_pass passed = grind (arith, common_steps, all_pass, len, here)
 
   pub words_fail : (i : ℕ) (kind : Kind) → i < count
       → ((k : ℕ) → k < i → test (word_at order bytes k) ≡ Ok (word_at order bytes k))
@@ -67,9 +64,7 @@ module _ (b : Bounds) (count : ℕ) (bytes ids rest : List ℕ) (read : bytes_at
   pub next_ids_pass : ((k : ℕ) → k < count → tested_id b (word_at b.order ids k) ≡ Ok (word_at b.order ids k))
       → next_ids_at b count bytes ≡ Ok (ids, rest)
   unfolding next_ids_at
-  next_ids_pass passed =
-      ap (λ r. r >>= (λ ids. each_passes (tested_id b) (words_in b.order count ids.0) >>= (λ passed. Ok ids))) read
-      ∙ ap (λ r. r >>= (λ passed. Ok (ids, rest))) (words_pass (tested_id b) b.order count ids passed)
+  next_ids_pass passed = grind (arith, common_steps, words_pass)
 
   pub next_ids_fail : (i : ℕ) (kind : Kind) → i < count
       → ((k : ℕ) → k < i → tested_id b (word_at b.order ids k) ≡ Ok (word_at b.order ids k))

@@ -1,7 +1,8 @@
 -- The parts of a row among its bytes, and written in another order.
-use Rattle.std.proofs.Common.{◌≡◌, ℕ, zero, suc, ◌+◌, ◌*◌, ◌/◌, ◌%◌, ◌^◌, ◌<◌, ◌≤◌, cond, List, [], ◌∷◌, ◌++◌, length}
+use Rattle.std.proofs.lemmas.Grind.{common_steps}
+use Rattle.std.proofs.Common.{[], ◌≡◌, ℕ, zero, suc, ◌+◌, ◌*◌, ◌/◌, ◌%◌, ◌^◌, ◌<◌, ◌≤◌, cond, List, ◌∷◌, ◌++◌, length}
 use Rattle.std.proofs.Common.{take, drop, get_or, slice_index, refl, ap, ap₂, sym, ◌∙◌, subst, append_assoc, arith}
-use Rattle.std.specs.Int.{w16, w32}
+use Rattle.std.specs.Int.{w16}
 use Rattle.std.proofs.lemmas.List.{append-nil, drop-drop, drop_at, take_at, take_more, length-append}
 use Rattle.std.proofs.lemmas.List.Concat.{flat_map-append}
 use Rattle.std.proofs.lemmas.Nat.{from_le_bytes-to_le_bytes_2, from_be_bytes-to_be_bytes_2}
@@ -27,13 +28,7 @@ use Rattle.rx_sparse_image.specs.Turned.{AreWholeRows}
 pub length-patterns : (order : Order) (patterns : List ℕ)
     → length (patterns_text order patterns) ≡ cond (is_some_list patterns) (4 + 4 * length patterns) 0
 length-patterns order [] = refl
-length-patterns order (k ∷ ks) =
-    omega (
-      arith,
-      length-append (field order w32 (length (k ∷ ks))) (words_text order (k ∷ ks)),
-      length-field_32 order (length (k ∷ ks)),
-      length-words order (k ∷ ks),
-    )
+length-patterns order (k ∷ ks) = grind (arith, common_steps, length-append, length-field_32, length-words)
 
 -- the parts of a row have the bytes of the row
 pub row_sizes : (order : Order) (row : Row)
@@ -65,11 +60,7 @@ again16 Order.Little n h = from_le_bytes-to_le_bytes_2 n h
 again16 Order.Big n h = from_be_bytes-to_be_bytes_2 n h
 
 head_fits : (row : Row) → FitsBytes row → head_number row < 2 ^ 16
-head_fits row fits = by_list row.patterns
-  where
-    by_list : (patterns : List ℕ) → head_number (record row { patterns = patterns }) < 2 ^ 16
-    by_list [] = let few = fits.few in omega arith
-    by_list (k ∷ ks) = let few = fits.few in omega arith
+head_fits row fits = grind (arith, common_steps)
 
 -- ---- the parts of a row at the front of bytes
 
@@ -119,24 +110,13 @@ module _ {order : Order} {bytes : List ℕ} (whole : IsWholeRow order bytes) whe
       (patterns_are order row whole.rest whole.fits)
 
   pub patterns_there : take size behind ≡ patterns_text order row.patterns
-  patterns_there =
-      ap₂ take size_there behind_is
-      ∙ take_at (patterns_text order row.patterns) (needles ++ whole.rest) _ refl
+  patterns_there = grind (arith, common_steps, size_there, behind_is, take_at)
 
   after_is : after ≡ needles ++ whole.rest
-  after_is =
-      ap₂ drop size_there behind_is
-      ∙ drop_at (patterns_text order row.patterns) (needles ++ whole.rest) _ refl
+  after_is = grind (arith, common_steps, size_there, behind_is, drop_at)
 
   pub size_low : size < length behind
-  size_low =
-      omega (
-        arith,
-        size_there,
-        ap length behind_is,
-        length-append (patterns_text order row.patterns) (needles ++ whole.rest),
-        length-append needles whole.rest,
-      )
+  size_low = grind (arith, common_steps, size_there, behind_is, length-append)
 
   needle_count : 1 + slice_index after 0 ≡ length needles
   needle_count = omega (arith, ap (λ t. slice_index t 0) after_is)
@@ -180,8 +160,7 @@ words_turned order other words small =
 pub ids_turned : (order other : Order) (row : Row) → FitsBytes row
     → words_text other (words_in order (length (words_text order (next_ids row)) / 4) (words_text order (next_ids row)))
     ≡ words_text other (next_ids row)
-ids_turned order other row fits =
-    words_turned order other (next_ids row) (λ i h. omega (arith, fits.next_ids i h))
+ids_turned order other row fits = grind (arith, common_steps, words_turned)
 
 pub patterns_whole : (order : Order) (patterns : List ℕ) → length (patterns_text order patterns) % 4 ≡ 0
 patterns_whole order [] = refl

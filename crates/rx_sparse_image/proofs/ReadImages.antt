@@ -1,6 +1,7 @@
 -- An image whose parts were read and whose rows were walked: another number of rows is refused, and where the parts fit
 -- each other, the layout can be read.
-use Rattle.std.proofs.Common.{◌≡◌, ℕ, true, false, Ok, Err, List, refl, sym, subst, ◌∙◌}
+use Rattle.std.proofs.Common.{arith, ◌≡◌, ℕ, true, false, Ok, Err, List, refl, sym, subst, ◌∙◌}
+use Rattle.std.proofs.lemmas.Grind.{common_steps}
 use Rattle.std.proofs.lemmas.Bool.{ne_eqb}
 use Rattle.rx_wire.specs.Kinds.{Kind}
 use Rattle.rx_sparse.specs.Layouts.{Layout, row_count}
@@ -52,14 +53,10 @@ pub record AreWalked (i : Image) (b : Bounds) (count : ℕ) : Type 0 where
 module _ (i : Image) (b : Bounds) (count : ℕ) (read : IsReadImage i) (walked : AreWalked i b count)
     (closed : is_closed i.parts.state_len (image_layout i) ≡ true) where
   whole_rows : AreWholeRows i.parts.order i.parts.state_len i.rows.now
-  whole_rows =
-      subst (λ n. AreWholeRows i.parts.order n i.rows.now) walked.told
-      (subst (λ (x : Bounds). AreWholeRows x.order count i.rows.now) walked.bounds walked.whole)
+  whole_rows = grind (arith, common_steps)
 
   tested_rows : AreTestedRows (bounds_of (seen_image i)) (rows_in i.parts.order i.parts.state_len i.rows.now)
-  tested_rows =
-      subst (λ n. AreTestedRows (bounds_of (seen_image i)) (rows_in i.parts.order n i.rows.now)) walked.told
-      (subst (λ (x : Bounds). AreTestedRows x (rows_in x.order count i.rows.now)) walked.bounds walked.tested)
+  tested_rows = grind (arith, common_steps)
 
   pub image_whole : IsWhole (image_layout i)
   image_whole = record {

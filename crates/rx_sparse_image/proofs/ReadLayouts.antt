@@ -1,4 +1,5 @@
 -- What is true of a layout that was read, and that its rows are read again in either order.
+use Rattle.std.proofs.lemmas.Grind.{common_steps}
 use Rattle.std.proofs.Common.{◌≡◌, ℕ, Ok, List, length, subst, sym, arith}
 use Rattle.rx_wire.specs.declared.order.Order.{Order}
 use Rattle.rx_sparse.specs.Layouts.{Layout}
@@ -15,22 +16,7 @@ use Rattle.rx_sparse_image.proofs.RowsAgain.{rows_again_read}
 -- no test asks for the order
 pub tested_in : (order : Order) {b : Bounds} {at : ℕ} {row : Row} → IsTestedRow b at row
     → IsTestedRow (record b { order = order }) at row
-tested_in order is = record {
-  special = is.special;
-  few = is.few;
-  ordered = is.ordered;
-  within = is.within;
-  rising = is.rising;
-  near = is.near;
-  next_ids = is.next_ids;
-  matches = is.matches;
-  few_patterns = is.few_patterns;
-  patterns = is.patterns;
-  known = is.known;
-  needles = is.needles;
-  eoi = is.eoi;
-  next = is.next;
-}
+tested_in order is = grind (arith, common_steps)
 
 pub are_tested_in : (order : Order) {b : Bounds} {rows : List Row} → AreTestedRows b rows
     → AreTestedRows (record b { order = order }) rows

@@ -1,6 +1,7 @@
 -- What it says that a row was read: what each test says of a part of its bytes.
-use Rattle.std.proofs.Common.{◌≡◌, ℕ, zero, suc, ◌+◌, ◌-◌, ◌*◌, ◌<◌, ◌≤◌, Bool, true, false, not, if◌then◌else◌, leb}
-use Rattle.std.proofs.Common.{ltb, eqb, List, [], ◌∷◌, length, take, drop, slice_index, Result, Ok, Err, refl, ap, sym}
+use Rattle.std.proofs.lemmas.Grind.{common_steps}
+use Rattle.std.proofs.Common.{[], ◌≡◌, ℕ, zero, suc, ◌+◌, ◌-◌, ◌*◌, ◌<◌, ◌≤◌, Bool, true, false, not, if◌then◌else◌}
+use Rattle.std.proofs.Common.{leb, ltb, eqb, List, ◌∷◌, length, take, drop, slice_index, Result, Ok, Err, refl, ap, sym}
 use Rattle.std.proofs.Common.{◌∙◌, length-drop, arith, ◌≢◌}
 use Rattle.std.specs.Int.{Width, w16, w32, byte_len}
 use Rattle.std.proofs.lemmas.Bool.{and_parts, eqb-false, leb-true, ltb-false, ltb-true}
@@ -78,32 +79,25 @@ then_number : {B : Type 0} (f : ℕ × List ℕ → Result B Kind) (y : B) (orde
     → (number_at order w bytes >>= f) ≡ Ok y
     → (byte_len w ≤ length bytes) × (f (number order w (take (byte_len w) bytes), drop (byte_len w) bytes) ≡ Ok y)
 unfolding number_at
-then_number f y order w bytes e =
-    let p = then_unless (ltb (length bytes) (byte_len w)) _ Kind.BufferTooSmall f y e in
-    (ltb-false (length bytes) (byte_len w) p.0, p.1)
+then_number f y order w bytes e = grind (arith, common_steps, then_unless, ltb-false)
 
 -- bytes that were there
 bytes_ok : (count : ℕ) (bytes : List ℕ) (x : List ℕ × List ℕ) → bytes_at count bytes ≡ Ok x
     → (count ≤ length bytes) × ((take count bytes, drop count bytes) ≡ x)
 unfolding bytes_at
-bytes_ok count bytes x e =
-    let p = unless_ok (ltb (length bytes) count) _ x Kind.BufferTooSmall e in
-    (ltb-false (length bytes) count p.0, p.1)
+bytes_ok count bytes x e = grind (arith, common_steps, unless_ok, ltb-false)
 
 -- and what follows them gave a value
 then_bytes : {B : Type 0} (f : List ℕ × List ℕ → Result B Kind) (y : B) (count : ℕ) (bytes : List ℕ)
     → (bytes_at count bytes >>= f) ≡ Ok y → (count ≤ length bytes) × (f (take count bytes, drop count bytes) ≡ Ok y)
-then_bytes f y count bytes e =
-    then_is (bytes_at count bytes) f y (take count bytes, drop count bytes) (count ≤ length bytes)
-    (bytes_ok count bytes) e
+then_bytes f y count bytes e = grind (arith, common_steps, then_is, bytes_ok)
 
 -- each number passed
 each_ok : (test : ℕ → Result ℕ Kind) (ns : List ℕ) (count : ℕ) → each_passes test ns ≡ Ok count
     → (k : ℕ) → k < length ns → (m : ℕ) × (test (slice_index ns k) ≡ Ok m)
 unfolding each_passes
 each_ok test [] count e k h = elim h [ ]
-each_ok test (n ∷ ns) count e zero h =
-    let p = bind_ok (test n) (λ first. each_passes test ns >>= (λ c. Ok (suc c))) count e in (p.0, p.1)
+each_ok test (n ∷ ns) count e zero h = grind (arith, common_steps, bind_ok)
 each_ok test (n ∷ ns) count e (suc k) h =
     let p = bind_ok (test n) (λ first. each_passes test ns >>= (λ c. Ok (suc c))) count e in
     let q = bind_ok (each_passes test ns) (λ c. Ok (suc c)) count p.2 in
@@ -197,10 +191,7 @@ module _ (b : Bounds) (count : ℕ) (bytes : List ℕ) where
 -- a count that is not 0
 then_count : {B : Type 0} (count : ℕ) (f : ℕ → Result B Kind) (y : B) → (tested_count count >>= f) ≡ Ok y
     → (1 ≤ count) × (f count ≡ Ok y)
-then_count count f y e =
-    let p = then_unless (eqb count 0) count Kind.Generic f y e in
-    let some = eqb-false count 0 p.0 in
-    (omega arith, p.1)
+then_count count f y e = grind (arith, common_steps, then_unless, eqb-false)
 
 -- words of a count that is not 0
 some_words : (order : Order) (count : ℕ) (bytes : List ℕ) → 1 ≤ count → is_some_list (words_in order count bytes) ≡ true
@@ -262,15 +253,7 @@ module _ (b : Bounds) (bytes after : List ℕ) where
   after_if_ok : (is_match : Bool) → after_patterns_if b is_match bytes ≡ Ok after
       → AreReadPatterns b is_match bytes × (drop (patterns_len b.order is_match bytes) bytes ≡ after)
   after_if_ok true e = after_ok e
-  after_if_ok false e = (
-    record {
-      long = omega arith;
-      some = refl;
-      small = λ i h. absurd (omega arith);
-      known = λ i h. absurd (omega arith);
-    },
-    cc,
-  )
+  after_if_ok false e = grind (arith, common_steps)
 
 -- ---- needles
 

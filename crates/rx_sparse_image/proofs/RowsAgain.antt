@@ -1,12 +1,12 @@
 -- Rows that can pass the tests are read again from their bytes.
-use Rattle.std.proofs.Common.{◌≡◌, ℕ, zero, suc, ◌+◌, ◌-◌, ◌*◌, ◌%◌, ◌^◌, ◌<◌, ◌≤◌, Bool, true, false, not, ◌&&◌, ◌||◌}
-use Rattle.std.proofs.Common.{◌==◌, if◌then◌else◌, cond, leb, ltb, eqb, List, [], ◌∷◌, ◌++◌, length, get_or}
-use Rattle.std.proofs.Common.{slice_index, Ok, Err, refl, ap, ap₂, sym, ◌∙◌, append_assoc, arith}
-use Rattle.std.specs.List.{list_all, range_with_len}
+use Rattle.std.proofs.lemmas.Grind.{common_steps}
+use Rattle.std.proofs.Common.{[], ◌≡◌, ℕ, zero, suc, ◌+◌, ◌-◌, ◌*◌, ◌%◌, ◌^◌, ◌<◌, ◌≤◌, Bool, true, false, not, ◌&&◌}
+use Rattle.std.proofs.Common.{◌||◌, ◌==◌, if◌then◌else◌, cond, leb, ltb, List, ◌∷◌, ◌++◌, length, get_or, slice_index}
+use Rattle.std.proofs.Common.{Ok, Err, refl, ap, ap₂, sym, ◌∙◌, append_assoc, arith}
 use Rattle.std.specs.Int.{w16, w32}
 use Rattle.std.proofs.lemmas.Bool.{and_from, eq-eqb, le-leb, lt-ltb, ne_eqb, or_right}
 use Rattle.std.proofs.lemmas.Bool.Decides.{nat_tests}
-use Rattle.std.proofs.lemmas.List.{append-nil, get_or-append-add, length-append}
+use Rattle.std.proofs.lemmas.List.{append-nil, length-append}
 use Rattle.std.proofs.lemmas.List.FromFn.{get_or-map-range_with_len}
 use Rattle.rx_spec.specs.Causes.{max_id}
 use Rattle.rx_spec.specs.Ids.{id_of}
@@ -14,19 +14,19 @@ use Rattle.rx_wire.specs.declared.order.Order.{Order}
 use Rattle.rx_wire.specs.Fields.{bytes_at, field}
 use Rattle.rx_wire.specs.Kinds.{Kind, ◌>>=◌}
 use Rattle.rx_wire.proofs.Fields.{bytes_again, u16_again, u32_again}
-use Rattle.rx_dense.specs.Specials.{is_accel_id, is_match_id}
+use Rattle.rx_dense.specs.Specials.{is_accel_id}
 use Rattle.rx_dense_image.proofs.EachBelow.{all_of}
 use Rattle.rx_sparse.specs.Rows.{Row, ends_in, ends_text, head_number, is_some_list, next_ids, no_range, no_row}
 use Rattle.rx_sparse.specs.Rows.{next_ids_in, offsets_from, patterns_text, range_in, row_in, row_len, row_text}
 use Rattle.rx_sparse.specs.Rows.{rows_len, rows_text, word_at, words_text}
 use Rattle.rx_sparse.proofs.DecodedRows.{range_is}
 use Rattle.rx_sparse.proofs.RowTexts.{ends_is, eoi_there, length-ends, length-next_ids, length-row, length-rows}
-use Rattle.rx_sparse.proofs.RowTexts.{length-words, pairs_text, row_again, words_again}
+use Rattle.rx_sparse.proofs.RowTexts.{length-words, row_again, words_again}
 use Rattle.rx_sparse_image.specs.declared.walk.Bounds.{Bounds}
 use Rattle.rx_sparse_image.specs.Tested.{AreTestedRows, IsTestedRow}
-use Rattle.rx_sparse_image.specs.Walks.{after_patterns_if, are_ends, ends_at, has_count, head_at, is_head}
-use Rattle.rx_sparse_image.specs.Walks.{is_match_head, is_range_at, may_have, needles_at, next_ids_at, range_count}
-use Rattle.rx_sparse_image.specs.Walks.{row_at, rows_at, rows_from, tested, tested_count, tested_next}
+use Rattle.rx_sparse_image.specs.Walks.{after_patterns_if, ends_at, head_at, is_head, is_match_head, is_range_at}
+use Rattle.rx_sparse_image.specs.Walks.{needles_at, next_ids_at, range_count, row_at, rows_at, rows_from, tested}
+use Rattle.rx_sparse_image.specs.Walks.{tested_count, tested_next}
 use Rattle.rx_sparse_image.proofs.PassedRows.{none_left, row_first}
 use Rattle.rx_sparse_image.proofs.Sizes.{rows_few}
 use Rattle.rx_sparse_image.proofs.Passes.{next_ids_pass, patterns_pass}
@@ -91,18 +91,6 @@ front_there : (front rest : List ℕ) (count : ℕ) → length front ≡ count
     → bytes_at count (front ++ rest) ≡ Ok (front, rest)
 front_there front rest count e = ap (λ n. bytes_at n (front ++ rest)) (sym e) ∙ bytes_again front rest
 
--- two zeros at the end
-last_two : (xs : List ℕ) (n : ℕ) → length (xs ++ 0 ∷ 0 ∷ []) ≡ 2 * n
-    → (slice_index (xs ++ 0 ∷ 0 ∷ []) (2 * n - 2) ≡ 0) × (slice_index (xs ++ 0 ∷ 0 ∷ []) (2 * n - 1) ≡ 0)
-last_two xs n e =
-    let zeros : List ℕ = 0 ∷ 0 ∷ [] in
-    let len = length-append xs zeros in
-    let first : 2 * n - 2 ≡ length xs + 0 = omega arith in
-    let last : 2 * n - 1 ≡ length xs + 1 = omega arith in (
-      ap (slice_index (xs ++ zeros)) first ∙ get_or-append-add xs zeros 0 0,
-      ap (slice_index (xs ++ zeros)) last ∙ get_or-append-add xs zeros 1 0,
-    )
-
 -- the steps of a row, one after another
 record AreSteps (b : Bounds) (at : ℕ) (bytes : List ℕ) : Type 0 where
   pub head : ℕ × List ℕ
@@ -122,8 +110,7 @@ record AreSteps (b : Bounds) (at : ℕ) (bytes : List ℕ) : Type 0 where
 steps_pass : {b : Bounds} {at : ℕ} {bytes : List ℕ} (s : AreSteps b at bytes)
     → row_at b at bytes ≡ Ok (row_in b.order bytes, s.needles.1)
 unfolding row_at
-steps_pass s =
-    rw (s.head_read, s.ends_read, s.ids_read, s.rest_read, s.needles_read, s.next_passes) refl
+steps_pass s = grind (arith, common_steps)
 
 -- ---- a row
 
@@ -151,20 +138,12 @@ module _ (b : Bounds) (at : ℕ) (row : Row) (is : IsTestedRow b at row) where
 
   -- it may stand there
   head_may : is_head b at n ≡ true
-  head_may =
-      and_from (leb 1 (range_count n) && leb (range_count n) 257)
-      (cond (is_match_id b.special at) (is_match_head n) (not (is_match_head n)))
-      (and_from (leb 1 (range_count n)) (leb (range_count n) 257)
-      (le-leb 1 (range_count n) (omega (arith, count_is)))
-      (le-leb (range_count n) 257 (omega (arith, count_is, few))))
-      (same_pass (is_match_id b.special at) (is_match_head n) (is.matches ∙ sym mark_is))
+  head_may = grind (arith, common_steps, and_from, le-leb, count_is, few, same_pass, mark_is)
 
   -- the head is read again
   head_again : (rest : List ℕ) → head_at b at (field order w16 n ++ rest) ≡ Ok (n, rest)
   unfolding head_at
-  head_again rest =
-      let small : n < 2 ^ 16 = fits_16 count (is_some_list row.patterns) few in
-      rw (is.special, u16_again order n small rest, head_may) refl
+  head_again rest = grind (arith, common_steps, fits_16, few, u16_again, head_may)
 
   -- ---- ends
 
@@ -226,22 +205,10 @@ module _ (b : Bounds) (at : ℕ) (row : Row) (is : IsTestedRow b at row) where
             is.rising i (omega arith),
           )))
 
-  -- the end mark is zeros
-  marks_zero : (slice_index ends (2 * count - 2) ≡ 0) × (slice_index ends (2 * count - 1) ≡ 0)
-  marks_zero = last_two (pairs_text row.ranges) count length-ends_are
-
   -- the ends are read again
   ends_again : (rest : List ℕ) → ends_at b count (ends ++ rest) ≡ Ok (ends, rest)
   unfolding ends_at
-  ends_again rest =
-      let each : Bool = list_all (is_range_at b.last_class ends) (range_with_len 0 (count - 1)) in
-      let may : are_ends b.last_class count ends ≡ true =
-      and_from (each && eqb (slice_index ends (2 * count - 2)) 0) (eqb (slice_index ends (2 * count - 1)) 0)
-      (and_from each (eqb (slice_index ends (2 * count - 2)) 0)
-      (all_of (count - 1) (is_range_at b.last_class ends) range_may)
-      (eq-eqb (slice_index ends (2 * count - 2)) 0 marks_zero.0))
-      (eq-eqb (slice_index ends (2 * count - 1)) 0 marks_zero.1) in
-      rw (front_there ends rest (2 * count) length-ends_are, may) refl
+  ends_again rest = grind (arith, common_steps, and_from, all_of, range_may, eq-eqb, front_there, length-ends_are)
 
   -- ---- next ids
 
@@ -255,19 +222,20 @@ module _ (b : Bounds) (at : ℕ) (row : Row) (is : IsTestedRow b at row) where
   -- the next ids are read again
   ids_again : (rest : List ℕ) → next_ids_at b count (ids ++ rest) ≡ Ok (ids, rest)
   ids_again rest =
-      next_ids_pass b count (ids ++ rest) ids rest
-      (front_there ids rest (4 * count) (omega (arith, length-words order (next_ids row), length-next_ids row)))
-      (λ k h.
-      let low : k < length (next_ids row) = omega (arith, length-next_ids row) in
-      let id : ℕ = word_at order ids k in
-      both_pass (leb id max_id) (leb id b.len) (Kind.StateID id) Kind.BufferTooSmall id
-      (le-leb id max_id (omega (arith, id_there k h, is.next_ids k low)))
-      (le-leb id b.len (omega (arith, id_there k h, is.near k low))))
+      grind (
+        arith,
+        common_steps,
+        next_ids_pass,
+        front_there,
+        length-words,
+        length-next_ids,
+        both_pass,
+        le-leb,
+        id_there,
+      )
 
   eoi_is : word_at order ids (count - 1) ≡ row.eoi
-  eoi_is =
-      let last : count - 1 ≡ length row.ranges = omega arith in
-      ap (word_at order ids) last ∙ id_there (length row.ranges) (omega arith) ∙ eoi_there row.ranges row.eoi
+  eoi_is = grind (arith, common_steps, id_there, eoi_there)
 
   -- ---- patterns
 
@@ -301,18 +269,12 @@ module _ (b : Bounds) (at : ℕ) (row : Row) (is : IsTestedRow b at row) where
   needles_again : (rest : List ℕ)
       → needles_at (is_accel_id b.special at) ((length row.needles ∷ row.needles) ++ rest) ≡ Ok (row.needles, rest)
   unfolding needles_at
-  needles_again rest =
-      let there : has_count (is_accel_id b.special at) ((length row.needles ∷ row.needles) ++ rest) ≡ true =
-      and_from (ltb 0 (suc (length (row.needles ++ rest)))) (may_have (is_accel_id b.special at) (length row.needles))
-      (lt-ltb 0 (suc (length (row.needles ++ rest))) (omega arith)) is.needles in
-      rw (there, bytes_again row.needles rest) refl
+  needles_again rest = grind (arith, common_steps, and_from, lt-ltb, bytes_again)
 
   -- ---- the row
 
   next_passes : (next : ℕ) → next ≤ max_id → tested_next b (word_at order ids (count - 1)) next ≡ Ok next
-  next_passes next h =
-      let eoi : ℕ = word_at order ids (count - 1) in
-      rw (ne_eqb eoi b.special.quit (λ e. is.eoi (sym eoi_is ∙ e)), le-leb next max_id h) refl
+  next_passes next h = grind (arith, common_steps, ne_eqb, eoi_is, le-leb)
 
   -- the row is read again, whatever follows
   row_read : (rest : List ℕ) → at + row_len row + length rest ≡ b.len

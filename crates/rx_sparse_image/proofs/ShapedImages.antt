@@ -1,18 +1,17 @@
 -- A layout that is read and closed has the shape of every sparse table.
-use Rattle.std.proofs.Common.{◌≡◌, ℕ, ◌+◌, ◌-◌, ◌*◌, ◌<◌, ◌≤◌, ◌==◌, not, nat_le, Option, Some, None}
-use Rattle.std.proofs.Common.{length, take, slice_index, sym, ap, subst, ◌∙◌, arith}
+use Rattle.std.proofs.lemmas.Grind.{common_steps}
+use Rattle.std.proofs.Common.{◌≡◌, ℕ, ◌+◌, ◌-◌, ◌*◌, ◌<◌, ◌≤◌, nat_le, Option, Some, None, length, take, slice_index}
+use Rattle.std.proofs.Common.{sym, ap, subst, ◌∙◌, arith}
 use Rattle.std.proofs.Math.Seq.{take-length}
 use Rattle.std.proofs.lemmas.Bool.{and_parts, leb-true}
 use Rattle.rx_spec.specs.Causes.{id_count, max_id}
 use Rattle.rx_spec.specs.Ids.{id_of}
 use Rattle.rx_search.specs.Starts.{IsId}
 use Rattle.rx_dense.specs.Layouts.{start_entries}
-use Rattle.rx_dense.specs.Specials.{is_match_id}
 use Rattle.rx_dense_image.specs.StartTables.{IsAtMost}
 use Rattle.rx_sparse.specs.Rows.{rows_len}
 use Rattle.rx_sparse.specs.Layouts.{AreRanges, AreRows, AreStarts, IsRow, IsShaped, Layout, ids_of, row_at, row_count}
 use Rattle.rx_sparse.specs.Facts.{offset_at, rows_len-more}
-use Rattle.rx_sparse_image.specs.Closing.{is_row_id}
 use Rattle.rx_sparse_image.specs.Tested.{IsRead, IsTestedRow, IsWhole, bounds_in}
 use Rattle.rx_sparse_image.proofs.ClosedRows.{AreClosed, closed, eoi_leads, range_leads, valid_id}
 
@@ -59,10 +58,7 @@ module _ (l : Layout) (read : IsRead l) (facts : AreClosed l) where
   rows_shaped = record { classes = read.classes; two = facts.two; few = few_bytes; rows = row_shaped }
 
   start_row : (k : ℕ) → k < length l.starts → IsId (ids_of l) (slice_index l.starts k)
-  start_row k h =
-      let id : ℕ = slice_index l.starts k in
-      let outer = and_parts _ (not (id == l.special.quit)) (facts.starts k h) in
-      valid_id l id (and_parts (is_row_id l id) (not (is_match_id l.special id)) outer.0).0
+  start_row k h = grind (arith, common_steps, and_parts, valid_id)
 
   starts_shaped : AreStarts l
   starts_shaped = record {

@@ -1,15 +1,14 @@
 -- How many bytes the parts of an image have.
-use Rattle.std.proofs.Common.{◌≡◌, ℕ, ◌+◌, ◌≤◌, List, [], ◌∷◌, ◌++◌, length, refl, arith}
-use Rattle.std.specs.Int.{w32}
+use Rattle.std.proofs.lemmas.Grind.{common_steps}
+use Rattle.std.proofs.Common.{[], ◌≡◌, ℕ, ◌+◌, ◌≤◌, List, ◌∷◌, ◌++◌, length, refl, arith}
 use Rattle.std.proofs.lemmas.List.{length-append}
 use Rattle.rx_wire.specs.declared.order.Order.{Order}
-use Rattle.rx_wire.specs.Fields.{field}
 use Rattle.rx_dense_image.specs.Heads.{head_text}
 use Rattle.rx_dense_image.specs.StartTables.{start_table_text}
 use Rattle.rx_dense_image.specs.Marks.{quit_text, special_text}
 use Rattle.rx_dense_image.proofs.ImageLengths.{length-head, length-quit, length-special, length-start_table, word_then}
 use Rattle.rx_sparse.specs.Layouts.{IsShaped, Layout}
-use Rattle.rx_sparse.specs.Rows.{Row, rows_len, rows_text}
+use Rattle.rx_sparse.specs.Rows.{Row, rows_len}
 use Rattle.rx_sparse.proofs.RowTexts.{length-rows}
 use Rattle.rx_sparse_image.specs.Images.{image_len, row_bytes_text, sparse_label, start_table_of, text}
 
@@ -21,19 +20,7 @@ rows_few (row ∷ rows) = omega (arith, rows_few rows)
 
 length-row_bytes : (order : Order) (l : Layout) → length l.classes ≡ 256
     → length (row_bytes_text order l) ≡ 268 + rows_len l.rows
-length-row_bytes order l classes =
-    let t3 : List ℕ = field order w32 (rows_len l.rows) ++ rows_text order l.rows in
-    let t2 : List ℕ = l.classes ++ t3 in
-    let t1 : List ℕ = field order w32 l.pattern_len ++ t2 in
-    omega (
-      arith,
-      word_then order (length l.rows) t1,
-      word_then order l.pattern_len t2,
-      length-append l.classes t3,
-      classes,
-      word_then order (rows_len l.rows) (rows_text order l.rows),
-      length-rows order l.rows,
-    )
+length-row_bytes order l classes = grind (arith, common_steps, word_then, length-append, length-rows)
 
 pub length-text : (order : Order) (l : Layout) → IsShaped l → length (text order l) ≡ image_len l
 unfolding text

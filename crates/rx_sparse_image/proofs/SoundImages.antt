@@ -1,13 +1,13 @@
 -- A layout that is read and closed is a sound table.
-use Rattle.std.proofs.Common.{◌≡◌, ◌≢◌, ℕ, ◌+◌, ◌*◌, ◌<◌, ◌≤◌, ◌&&◌, ◌||◌, not, Bool, true, false}
-use Rattle.std.proofs.Common.{cond, leb, eqb, ltb, Option, Some, None, List, [], ◌∷◌, length, slice_index, Contains}
-use Rattle.std.proofs.Common.{refl, sym, ap, subst, ◌∙◌, arith, inl, inr, filter}
+use Rattle.std.proofs.lemmas.Grind.{common_steps}
+use Rattle.std.proofs.Common.{[], ◌≡◌, ◌≢◌, ℕ, ◌+◌, ◌*◌, ◌<◌, ◌≤◌, ◌&&◌, ◌||◌, not, Bool, true, false, cond, leb, eqb}
+use Rattle.std.proofs.Common.{ltb, Option, Some, None, List, ◌∷◌, length, slice_index, Contains, refl, sym, ap, subst}
+use Rattle.std.proofs.Common.{◌∙◌, arith, inl, inr, filter}
 use Rattle.std.specs.Prelude.{IfOk, IfSome, Result, Ok, Err, option_map}
 use Rattle.std.specs.Cmp.{both_ways}
 use Rattle.std.specs.List.{list_all, range_with_len}
 use Rattle.std.specs.Str.{bytes_eq}
-use Rattle.std.proofs.lemmas.Bool.{and_parts, cases_lt, eq-eqb, eqb-true, le-leb, le-ltb, lt-ltb}
-use Rattle.std.proofs.lemmas.Bool.{ltb-true, ne_eqb}
+use Rattle.std.proofs.lemmas.Bool.{and_parts, cases_lt, eq-eqb, eqb-true, le-leb, le-ltb, lt-ltb, ltb-true, ne_eqb}
 use Rattle.std.proofs.lemmas.List.{get_or_default}
 use Rattle.std.proofs.lemmas.Slice.Eq.{bytes_eq-Decides}
 use Rattle.rx_spec.specs.Ids.{id_of, row_of}
@@ -116,29 +116,13 @@ module _ (l : Layout) (read : IsRead l) (facts : AreClosed l) where
   label_is row = is_label l (id_of ids row) (row_at l row)
 
   dead_label : (table_of l).machine.label 0 ≡ Label.Plain
-  dead_label =
-      let no_quit : is_quit_id l.special (id_of ids 0) ≡ false =
-      ap (is_quit_id l.special) first_id ∙ and_never (eqb 0 l.special.quit) in
-      label_is 0
-      ∙ plain_by (is_match_id l.special (id_of ids 0)) (is_quit_id l.special (id_of ids 0)) (row_at l 0).patterns
-      (no_match l.special read.special (id_of ids 0) (omega (arith, first_id))) no_quit
+  dead_label = grind (arith, common_steps, first_id, and_never, label_is, plain_by, no_match)
 
   quit_label : (table_of l).machine.label 1 ≡ Label.Quits
-  quit_label =
-      let same : eqb (id_of ids 1) l.special.quit ≡ true = eq-eqb _ _ (sym facts.quit) in
-      let there : eqb (id_of ids 1) 0 ≡ false = ne_eqb _ _ (λ e. absurd (omega (arith, quit_some, facts.quit, e))) in
-      let quits : is_quit_id l.special (id_of ids 1) ≡ true = rw (same, there) refl in
-      label_is 1
-      ∙ quits_by (is_match_id l.special (id_of ids 1)) (is_quit_id l.special (id_of ids 1)) (row_at l 1).patterns
-      (no_match l.special read.special (id_of ids 1) (omega (arith, facts.quit))) quits
+  quit_label = grind (arith, common_steps, eq-eqb, ne_eqb, quit_some, label_is, quits_by, no_match)
 
   quit_only : (row : ℕ) → row < row_count l → (table_of l).machine.label row ≡ Label.Quits → row ≡ 1
-  quit_only row h e =
-      let id : ℕ = id_of ids row in
-      let quits =
-      quits_only_by (is_match_id l.special id) (is_quit_id l.special id) (row_at l row).patterns
-      (sym (label_is row) ∙ e) in
-      row_one row h (eqb-true _ _ (and_parts (eqb id l.special.quit) (not (eqb id 0)) quits).0)
+  quit_only row h e = grind (arith, common_steps, quits_only_by, label_is, row_one, eqb-true, and_parts)
 
   -- the patterns of a match row are those of the row
   patterns_of : (row : ℕ) (ks : List ℕ) → (table_of l).machine.label row ≡ Label.Matches ks
@@ -182,8 +166,7 @@ module _ (l : Layout) (read : IsRead l) (facts : AreClosed l) where
       ap (row_of ids) dead ∙ zero_row
 
   dead_ends : (unit : ℕ) → row_of ids (next_id l.classes (row_at l 0) unit) ≡ 0
-  dead_ends unit =
-      ends 0 unit first_row (ap (λ (b : Bool). b || eqb (id_of ids 0) l.special.quit) (eq-eqb _ _ first_id))
+  dead_ends unit = grind (arith, common_steps, ends, first_row, eq-eqb, first_id)
 
   quit_ends : (unit : ℕ) → row_of ids (next_id l.classes (row_at l 1) unit) ≡ 0
   quit_ends unit =
@@ -254,9 +237,7 @@ module _ (l : Layout) (read : IsRead l) (facts : AreClosed l) where
   universal_below : (o : Option ℕ) → IfSome o (IsId ids) → (row : ℕ) → option_map (row_of ids) o ≡ Some row
       → row < row_count l
   universal_below None is row e = absurd cc
-  universal_below (Some id) is row e =
-      let same : row_of ids id ≡ row = cc in
-      subst (λ (n : ℕ). n < row_count l) same (row_below id is)
+  universal_below (Some id) is row e = grind (arith, common_steps, row_below)
 
   -- ---- needles
 
@@ -296,19 +277,11 @@ module _ (l : Layout) (read : IsRead l) (facts : AreClosed l) where
 
   some_needle : (row : ℕ) → row < row_count l → is_accel_id l.special (id_of ids row) ≡ true
       → 1 ≤ length (row_at l row).needles
-  some_needle row h accel =
-      let n : ℕ = length (row_at l row).needles in
-      let some : ltb 0 n ≡ true =
-      sym (ap (λ (b : Bool). cond b (ltb 0 n) (eqb n 0)) accel) ∙ needle_count row h in
-      omega (arith, ltb-true 0 n some)
+  some_needle row h accel = grind (arith, common_steps, needle_count, ltb-true)
 
   no_needle : (row : ℕ) → row < row_count l → is_accel_id l.special (id_of ids row) ≡ false
       → (row_at l row).needles ≡ []
-  no_needle row h accel =
-      let n : ℕ = length (row_at l row).needles in
-      let none : eqb n 0 ≡ true =
-      sym (ap (λ (b : Bool). cond b (ltb 0 n) (eqb n 0)) accel) ∙ needle_count row h in
-      no_list (row_at l row).needles (eqb-true n 0 none)
+  no_needle row h accel = grind (arith, common_steps, needle_count, no_list, eqb-true)
 
   -- ---- special rows
 

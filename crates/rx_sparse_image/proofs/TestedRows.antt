@@ -1,6 +1,7 @@
 -- A row that passed its tests stands whole at the front of its bytes, and what the tests say is true of it.
-use Rattle.std.proofs.Common.{◌≡◌, ℕ, suc, ◌+◌, ◌-◌, ◌*◌, ◌/◌, ◌%◌, ◌^◌, ◌<◌, ◌≤◌, Bool, true, false, not, ◌&&◌, ◌||◌}
-use Rattle.std.proofs.Common.{◌==◌, if◌then◌else◌, cond, leb, ltb, eqb, List, [], ◌∷◌, ◌++◌, length, take, drop, map}
+use Rattle.std.proofs.lemmas.Grind.{common_steps}
+use Rattle.std.proofs.Common.{[], ◌≡◌, ℕ, ◌+◌, ◌-◌, ◌*◌, ◌/◌, ◌%◌, ◌^◌, ◌<◌, ◌≤◌, Bool, true, false, not, ◌&&◌, ◌||◌}
+use Rattle.std.proofs.Common.{◌==◌, if◌then◌else◌, cond, leb, ltb, eqb, List, ◌∷◌, ◌++◌, length, take, drop, map}
 use Rattle.std.proofs.Common.{get_or, slice_index, Ok, refl, ap, ap₂, sym, ◌∙◌, subst, append_assoc, length-drop, arith}
 use Rattle.std.proofs.Common.{⊎_elim}
 use Rattle.std.specs.List.{list_all, range_with_len}
@@ -86,9 +87,7 @@ regroup h e i p n rest = simp append_assoc refl
 -- a count, and as many bytes behind it
 counted : (n : ℕ) (xs : List ℕ) → 1 ≤ length xs → n ≡ slice_index xs 0 → n ∷ take n (drop 1 xs) ≡ take (1 + n) xs
 counted n [] h e = elim h [ ]
-counted n (x ∷ xs) h e =
-    let more : 1 + n ≡ suc n = omega arith in
-    ap (λ m. m ∷ take n xs) e ∙ sym (ap (λ m. take m (x ∷ xs)) more)
+counted n (x ∷ xs) h e = grind (arith, common_steps)
 
 module _ (b : Bounds) (at : ℕ) (bytes rest : List ℕ) (are : AreBytes bytes)
     (is : IsReadRow b at bytes (row_in b.order bytes) rest) where
@@ -121,11 +120,7 @@ module _ (b : Bounds) (at : ℕ) (bytes rest : List ℕ) (are : AreBytes bytes)
 
   -- what the head says of the counts
   head_parts : (1 ≤ count) × (count ≤ 257) × (is_match_id b.special at ≡ is_match)
-  head_parts =
-      let mark : Bool = cond (is_match_id b.special at) is_match (not is_match) in
-      let p = and_parts (leb 1 count && leb count 257) mark is.head.may in
-      let q = and_parts (leb 1 count) (leb count 257) p.0 in
-      (leb-true 1 count q.0, leb-true count 257 q.1, same_mark (is_match_id b.special at) is_match p.1)
+  head_parts = grind (arith, common_steps, and_parts, leb-true, same_mark)
 
   some : 1 ≤ count
   some = head_parts.0
@@ -150,8 +145,7 @@ module _ (b : Bounds) (at : ℕ) (bytes rest : List ℕ) (are : AreBytes bytes)
 
   -- as many needles as their count tells
   length-needles : length row.needles ≡ slice_index after 0
-  length-needles =
-      length-take-le (slice_index after 0) (drop 1 after) (omega (arith, length-drop 1 after, is.needles.long))
+  length-needles = grind (arith, common_steps, length-take-le, length-drop)
 
   -- ---- what the bytes of parts are
 
@@ -195,26 +189,16 @@ module _ (b : Bounds) (at : ℕ) (bytes rest : List ℕ) (are : AreBytes bytes)
       ∙ ends_are order count ends ids some length-ends_in ends_parts.1 ends_parts.2
 
   next_ids_is : next_ids row ≡ words_in order count ids
-  next_ids_is =
-      ap
-      (λ n. map (λ range. range.next) (map (range_in order ends ids) (range_with_len 0 n)) ++ word_at order ids n ∷ [])
-      n_is
-      ∙ nexts_are order count ends ids some
+  next_ids_is = grind (arith, common_steps, n_is, nexts_are, some)
 
   ids_text_is : words_text order (next_ids row) ≡ ids
-  ids_text_is =
-      ap (words_text order) next_ids_is
-      ∙ words_are order count ids (All-take (λ x. x < 256) (4 * count) (behind_ends order bytes) bytes_ids)
-      (omega (arith, length-ids_in))
-      ∙ take-take (4 * count) (4 * count) (behind_ends order bytes) (omega arith)
+  ids_text_is = grind (arith, common_steps, next_ids_is, words_are, bytes_ids, length-ids_in, take-take)
 
   patterns_text_is : patterns_text order row.patterns ≡ take (patterns_len order is_match behind) behind
   patterns_text_is = patterns_are order is_match behind bytes_rest is.patterns.long is.patterns.some
 
   needles_text_is : length row.needles ∷ row.needles ≡ take (1 + slice_index after 0) after
-  needles_text_is =
-      let long = is.needles.long in
-      ap (λ n. n ∷ row.needles) length-needles ∙ counted (slice_index after 0) after (omega arith) refl
+  needles_text_is = grind (arith, common_steps, length-needles, counted)
 
   -- ---- the row
 
@@ -358,13 +342,4 @@ passed_row b at bytes row rest are e =
 
 -- a tested row fits its bytes
 pub fits_tested : {b : Bounds} {at : ℕ} {row : Row} → IsTestedRow b at row → FitsBytes row
-fits_tested {b} {at} {row} is =
-    let n : ℕ = length row.needles in
-    let some : Bool = cond (is_accel_id b.special at) (ltb 0 n) (n == 0) in
-    record {
-      few = is.few;
-      next_ids = is.next_ids;
-      few_patterns = is.few_patterns;
-      patterns = is.patterns;
-      needles = leb-true n 3 (and_parts (leb n 3) some is.needles).0;
-    }
+fits_tested {b} {at} {row} is = grind (arith, common_steps, some, leb-true, and_parts)

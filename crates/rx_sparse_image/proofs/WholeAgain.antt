@@ -1,21 +1,21 @@
 -- A whole image is read again, in either order and whatever follows, and its length is told, where its rows are read
 -- again.
-use Rattle.std.proofs.Common.{◌≡◌, ℕ, ◌+◌, ◌-◌, ◌^◌, ◌<◌, ◌≤◌, ◌&&◌, nat_le, true, List, ◌++◌}
-use Rattle.std.proofs.Common.{length, slice_index, Ok, refl, sym, ap, subst, ◌∙◌, append_assoc, arith, rules, inl, inr}
+use Rattle.std.proofs.lemmas.Grind.{common_steps}
+use Rattle.std.proofs.Common.{◌≡◌, ℕ, ◌+◌, ◌-◌, ◌^◌, ◌<◌, ◌≤◌, true, List, ◌++◌, length, slice_index, Ok, refl, sym, ap}
+use Rattle.std.proofs.Common.{subst, ◌∙◌, append_assoc, arith, rules, inl, inr}
 use Rattle.std.specs.Int.{w32}
 use Rattle.std.proofs.lemmas.Bool.{cases_lt, le-leb}
 use Rattle.std.proofs.lemmas.List.{get_or_past, length-append}
-use Rattle.rx_spec.specs.Causes.{id_count, max_id}
+use Rattle.rx_spec.specs.Causes.{max_id}
 use Rattle.rx_wire.specs.declared.order.Order.{Order}
 use Rattle.rx_wire.specs.Kinds.{Reads}
 use Rattle.rx_wire.specs.Fields.{bytes_at, field}
 use Rattle.rx_wire.specs.Heads.{IsLabel}
 use Rattle.rx_wire.proofs.Fields.{bytes_again, u32_again}
 use Rattle.rx_dense_image.specs.Heads.{head_at, head_text}
-use Rattle.rx_dense_image.specs.Rows.{AreWords, are_classes}
+use Rattle.rx_dense_image.specs.Rows.{AreWords}
 use Rattle.rx_dense_image.specs.StartTables.{start_table_at, start_table_text}
-use Rattle.rx_dense_image.specs.Marks.{quit_at, quit_text, special_at}
-use Rattle.rx_dense_image.specs.Marks.{special_text}
+use Rattle.rx_dense_image.specs.Marks.{quit_at, quit_text, special_at, special_text}
 use Rattle.rx_dense_image.proofs.EachBelow.{and_of}
 use Rattle.rx_dense_image.proofs.MarksAgain.{AreSpecialIds, quit_again, special_again}
 use Rattle.rx_dense_image.proofs.ReadAgain.{head_again}
@@ -78,15 +78,7 @@ settings_again : (order : Order) (l : Layout) → IsRead l
     → Reads (settings_at order) (field order w32 l.pattern_len ++ l.classes) (l.pattern_len, l.classes)
 unfolding settings_at
 settings_again order l read rest =
-    let patterns = read.few_patterns in
-    let few : nat_le l.pattern_len id_count ≡ true = le-leb _ _ patterns in
-    let pass : (nat_le l.pattern_len id_count && are_classes l.classes) ≡ true =
-    and_of _ _ few (classes_pass l.classes read.classes) in
-    let front : bytes_at 256 (l.classes ++ rest) ≡ Ok (l.classes, rest) =
-    subst (λ (n : ℕ). bytes_at n (l.classes ++ rest) ≡ Ok (l.classes, rest)) read.classes.count
-    (bytes_again l.classes rest) in
-    ap (settings_at order) (append_assoc (field order w32 l.pattern_len) l.classes rest)
-    ∙ rw (u32_again order l.pattern_len (omega (arith, patterns)) (l.classes ++ rest), front, pass) refl
+    grind (arith, common_steps, le-leb, and_of, classes_pass, bytes_again, append_assoc, u32_again)
 
 row_bytes_again : (order : Order) (l : Layout) → IsRead l → rows_len l.rows ≤ max_id
     → Reads (row_bytes_at order) (row_bytes_text order l) (bytes_of order l)

@@ -1,6 +1,7 @@
 -- A byte's bit in the words of a set.
-use Rattle.std.proofs.Common.{◌≡◌, ℕ, ◌+◌, ◌-◌, ◌*◌, ◌^◌, ◌/◌, ◌%◌, ◌<◌, ◌≤◌, ◌==◌, ◌&&◌, true, List, nat_lt, bit_and}
-use Rattle.std.proofs.Common.{ap, ap₂, sym, ◌∙◌, arith, ⊎_elim}
+use Rattle.std.proofs.lemmas.Grind.{common_steps}
+use Rattle.std.proofs.Common.{◌≡◌, ℕ, ◌+◌, ◌-◌, ◌*◌, ◌^◌, ◌/◌, ◌%◌, ◌<◌, ◌≤◌, ◌==◌, List, bit_and, ap₂, sym, ◌∙◌, arith}
+use Rattle.std.proofs.Common.{⊎_elim}
 use Rattle.std.proofs.lemmas.Bool.{cases_lt}
 use Rattle.std.proofs.lemmas.Bool.Decides.{nat_tests}
 use Rattle.std.proofs.lemmas.Nat.Bits.{shr_and_one, bit_at_cat_low, bit_at_cat_high}
@@ -54,8 +55,4 @@ module _ (words : List ℕ) (fits : (k : ℕ) → slice_index words k < 2 ^ 64) 
 
   pub byte_there : {place : ℕ} → b < 256 → place ≡ b / 64
       → (bit_and (slice_index words place / 2 ^ (b % 64)) 1 == 1) ≡ contains (set_of_words words) b
-  byte_there {place} below e =
-      let within : nat_lt b 256 ≡ true = grind (arith, nat_tests) in
-      ap (λ k. bit_and (word k / 2 ^ (b % 64)) 1 == 1) e
-      ∙ ap (λ n. n == 1) (shr_and_one (word (b / 64)) (b % 64) ∙ sym (in_word below))
-      ∙ ap (λ t. t && (bit_at (set_of_words words) b == 1)) (sym within)
+  byte_there {place} below e = grind (arith, common_steps, nat_tests, bit_and, shr_and_one, in_word)

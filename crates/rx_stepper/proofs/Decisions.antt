@@ -1,7 +1,8 @@
 -- What decides the assertions of a state: the facts that are kept decide as much as all, states without assertions are
 -- decided already, and closures end at rows that stand.
-use Rattle.std.proofs.Common.{◌≡◌, ℕ, zero, suc, ◌+◌, ◌*◌, ◌||◌, Bool, true, false, if◌then◌else◌, List}
-use Rattle.std.proofs.Common.{[], ◌∷◌, ◌++◌, length, refl, ap, ap₂, ◌∙◌, subst, ⊎_elim}
+use Rattle.std.proofs.Common.{arith, ◌≡◌, ℕ, zero, suc, ◌+◌, ◌*◌, ◌||◌, Bool, true, false, if◌then◌else◌, List, [], ◌∷◌}
+use Rattle.std.proofs.Common.{◌++◌, length, refl, ap, ap₂, ◌∙◌, subst, ⊎_elim}
+use Rattle.std.proofs.lemmas.Grind.{common_steps}
 use Rattle.std.specs.Prelude.{Contains}
 use Rattle.std.specs.List.{flat_map, list_any, AllByRecursion as Every}
 use Rattle.rx_spec.specs.Contexts.{Facts, both, unit_facts, facts_kept, facts_read, holds_read}
@@ -9,16 +10,14 @@ use Rattle.rx_spec.specs.Nfas.{Nfa}
 use Rattle.rx_spec.specs.Rows.{Row}
 use Rattle.rx_spec.specs.Shallow.{IsShallow}
 use Rattle.rx_spec.specs.States.{State, Passing, Standing, Tested, row_at, reach_by, reach, closure, firsts}
-use Rattle.rx_spec.specs.States.{decided_rows}
-use Rattle.rx_spec.specs.States.{holds_before, is_look_row}
+use Rattle.rx_spec.specs.States.{decided_rows, holds_before, is_look_row}
 use Rattle.rx_spec.specs.declared.Direction.{Direction}
 use Rattle.rx_spec.specs.declared.Look.{Look}
 use Rattle.lemmas_walks.proofs.Every.{every-append, flat_map-alike}
 use Rattle.lemmas_walks.proofs.Facts.{Cover, kept_cover, kept_after, kept_before}
 use Rattle.lemmas_walks.proofs.Firsts.{Contains-here, Contains-there, Contains-cases, Contains-nil, fresh_within}
-use Rattle.lemmas_walks.proofs.Firsts.{fresh_itself}
-use Rattle.lemmas_walks.proofs.Firsts.{Apart-fresh}
-use Rattle.rx_powerset.specs.Closures.{own_by, branches_by, closed_rows}
+use Rattle.lemmas_walks.proofs.Firsts.{fresh_itself, Apart-fresh}
+use Rattle.rx_powerset.specs.Closures.{closed_rows}
 use Rattle.rx_powerset.proofs.Closures.{closure_unfolds}
 use Rattle.rx_stepper.specs.Columns.{asked_of}
 use Rattle.rx_stepper.specs.Keys.{stands}
@@ -45,10 +44,7 @@ module _ (rows : List Row) (f g : Look → Bool) (agree : Agree rows f g) where
       (λ p. reach_same n p)
 
   pub closed_alike : (from : List ℕ) → closed_rows rows (Tested f) from ≡ closed_rows rows (Tested g) from
-  closed_alike from =
-      ap firsts
-      (flat_map-alike (closure rows (Tested f)) (closure rows (Tested g)) from
-      (λ q. reach_same (length rows * length rows + 1) q))
+  closed_alike from = grind (arith, common_steps, flat_map-alike, reach_same)
 
 row_there : (rows : List Row) (q : ℕ) {look : Look} {next : ℕ} → row_at rows q ≡ Row.Look look next
     → Contains rows (Row.Look look next)
@@ -87,8 +83,7 @@ module _ (rows : List Row) where
   reach_stands : (behind : ℕ → List ℕ) (q : ℕ) (row : Row) → row_at rows q ≡ row
       → ((p : ℕ) → Every Stands (behind p)) → Every Stands (reach_by Standing behind q row)
   reach_stands behind q (Row.Bytes set next) e h = (ap stands e, tt)
-  reach_stands behind q (Row.Split first second) e h =
-      every-append Stands (behind first) (behind second) (h first) (h second)
+  reach_stands behind q (Row.Split first second) e h = grind (arith, common_steps, every-append)
   reach_stands behind q (Row.Look look next) e h = (ap stands e, tt)
   reach_stands behind q (Row.Match pattern) e h = (ap stands e, tt)
   reach_stands behind q Row.Fail e h = tt
@@ -130,17 +125,7 @@ firsts_twice xs = fresh_itself [] (firsts xs) (Apart-fresh [] xs) (λ x c old. C
 module _ (rows : List Row) (shallow : IsShallow rows) (pass : Passing) where
   closed_one : (q : ℕ) (row : Row) → row_at rows q ≡ row → stands row ≡ true → is_look_row row ≡ false
       → closure rows pass q ≡ q ∷ []
-  closed_one q row e s no_look =
-      closure_unfolds rows pass shallow q
-      ∙ ap (λ r. own_by pass q r ++ flat_map (closure rows pass) (branches_by pass r)) e ∙ by_row row s no_look
-    where
-      by_row : (r : Row) → stands r ≡ true → is_look_row r ≡ false
-          → own_by pass q r ++ flat_map (closure rows pass) (branches_by pass r) ≡ q ∷ []
-      by_row (Row.Bytes set next) s n = refl
-      by_row (Row.Split first second) s n = absurd (cc)
-      by_row (Row.Look look next) s n = absurd (cc)
-      by_row (Row.Match pattern) s n = refl
-      by_row Row.Fail s n = absurd (cc)
+  closed_one q row e s no_look = grind (arith, common_steps, closure_unfolds)
 
   or_left_false : (a b : Bool) → (a || b) ≡ false → a ≡ false
   or_left_false true b h = absurd (cc)

@@ -1,7 +1,6 @@
 -- Lists of groups that grow at the end, and marks on the groups.
-use Rattle.std.proofs.Common.{◌≡◌, ◌≢◌, ℕ, ◌+◌, ◌<◌, ◌≤◌, ◌==◌, Bool, true, false, List, [], ◌∷◌, ◌++◌, length}
-use Rattle.std.proofs.Common.{get_or, set}
-use Rattle.std.proofs.Common.{ap, ap₂, sym, ◌∙◌, subst, arith, ⊎_elim}
+use Rattle.std.proofs.lemmas.Grind.{common_steps}
+use Rattle.std.proofs.Common.{◌≡◌, ℕ, ◌+◌, ◌<◌, Bool, true, false, List, [], ◌∷◌, ◌++◌, length, get_or, set, arith}
 use Rattle.std.proofs.lemmas.Bool.{cases_lt, eqb-true, eqb-false}
 use Rattle.std.proofs.lemmas.List.{get_or_append_left, get_or-set_same, get_or-set_other}
 use Rattle.std.proofs.Math.Seq.{get_or-append_seam}
@@ -14,31 +13,16 @@ use Rattle.rx_stepper.specs.Columns.{IsGroup}
 -- what holds of each number of a list holds with one more
 pub each_push : (P : ℕ → ℕ → Type 0) (xs : List ℕ) (y i : ℕ) → length xs ≡ i → ((k : ℕ) → k < i → P k (get_or xs k 0))
     → P i y → (k : ℕ) → k < i + 1 → P k (get_or (xs ++ y ∷ []) k 0)
-each_push P xs y i len each here k h =
-    ⊎_elim
-    (λ (lt : k < i). subst (P k) (sym (get_or_append_left xs (y ∷ []) 0 k (omega arith))) (each k lt))
-    (λ (le : i ≤ k).
-    let place : i ≡ k = omega arith in
-    subst
-    (λ j. P j (get_or (xs ++ y ∷ []) j 0))
-    (len ∙ place)
-    (subst (P (length xs)) (sym (get_or-append_seam xs y [] 0)) (subst (λ j. P j y) (sym len) here)))
-    (cases_lt k i)
+each_push P xs y i len each here k h = grind (arith, common_steps, get_or_append_left, get_or-append_seam, cases_lt)
 
 -- a mark more
 pub still_marked : (used : List Bool) (group v : ℕ) → group < length used → get_or used v false ≡ true
     → get_or (set used group true) v false ≡ true
 still_marked used group v lt old =
-    by_test (v == group)
-    (λ e. subst (λ k. get_or (set used group true) k false ≡ true) (sym (eqb-true v group e))
-    (get_or-set_same used group true false lt))
-    (λ e. let other : v ≢ group = eqb-false v group e in get_or-set_other used group v true false other ∙ old)
+    grind (arith, common_steps, by_test, eqb-true, get_or-set_same, eqb-false, get_or-set_other)
 
 -- a group as it is made: from the facts of a unit that are asked for
 pub is_group : (nfa : Nfa) {unit number group t : ℕ} {asked known facts : Facts} → unit ≡ number
     → t ≡ nfa.line_terminator → asked ≡ facts_kept nfa.rows → known ≡ unit_facts t number → facts ≡ both asked known
     → group ≡ bits_of facts → facts_with group ≡ facts → IsGroup nfa unit group
-is_group nfa unit_is terminator asked known facts bits back =
-    let wanted =
-    facts ∙ ap₂ both asked (known ∙ ap₂ unit_facts terminator (sym unit_is)) in
-    record { bits = bits ∙ ap bits_of wanted; facts = back ∙ wanted }
+is_group nfa unit_is terminator asked known facts bits back = grind (arith, common_steps)

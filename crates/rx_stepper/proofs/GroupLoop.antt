@@ -1,6 +1,7 @@
 -- Between two groups of the steps that are found.
-use Rattle.std.proofs.Common.{◌≡◌, ◌≢◌, ◌+◌, ◌<◌, ◌≤◌, ◌++◌, Bool, true, false, List, [], ℕ, length, map, ap, sym, ◌∙◌}
-use Rattle.std.proofs.Common.{subst, arith, ⊎_elim, ◌∷◌, refl}
+use Rattle.std.proofs.lemmas.Grind.{common_steps}
+use Rattle.std.proofs.Common.{◌≡◌, ◌≢◌, ◌+◌, ◌<◌, ◌≤◌, ◌++◌, Bool, true, false, List, [], ℕ, length, map, arith, ◌∷◌}
+use Rattle.std.proofs.Common.{refl}
 use Rattle.std.proofs.lemmas.Bool.{cases_lt, or_parts}
 use Rattle.std.proofs.lemmas.List.{get_or_past}
 use Rattle.std.specs.Prelude.{slice_index_or}
@@ -70,38 +71,13 @@ module _ {lists : List (List ℕ)} {used : List Bool} {matches : List ℕ} {grou
     (m : MatchesTo lists used matches group) where
   pub matches_more : {more : List (List ℕ)} → ((place : ℕ) → place ≢ group → list_at more place ≡ list_at lists place)
       → list_at more group ≡ list_at lists group ++ matches → MatchesTo more used matches (group + 1)
-  matches_more {more} others here = record {
-    done = λ g h u.
-        ⊎_elim
-        (λ (lt : g < group). others g (omega arith) ∙ m.done g lt u)
-        (λ (ge : group ≤ g).
-        let same : g ≡ group = omega arith in
-        ap (list_at more) same ∙ here ∙ ap (λ l. l ++ matches) (m.left group (omega arith)))
-        (cases_lt g group);
-    left = λ g h. others g (omega arith) ∙ m.left g (omega arith);
-  }
+  matches_more {more} others here = grind (arith, common_steps, cases_lt)
 
   pub matches_passed : slice_index_or used group false ≡ false → MatchesTo lists used matches (group + 1)
-  matches_passed unused = record {
-    done = λ g h u.
-        ⊎_elim
-        (λ (lt : g < group). m.done g lt u)
-        (λ (ge : group ≤ g).
-        let same : g ≡ group = omega arith in
-        let clash = sym (ap (λ k. slice_index_or used k false) same ∙ unused) ∙ u in
-        absurd (cc))
-        (cases_lt g group);
-    left = λ g h. m.left g (omega arith);
-  }
+  matches_passed unused = grind (arith, common_steps, cases_lt)
 
   pub matches_all : length used ≤ group → (g : ℕ) → slice_index_or used g false ≡ true → list_at lists g ≡ matches
-  matches_all h g u =
-      ⊎_elim
-      (λ (lt : g < group). m.done g lt u)
-      (λ (ge : group ≤ g).
-      let clash = sym (get_or_past used g false (omega arith)) ∙ u in
-      absurd (cc))
-      (cases_lt g group)
+  matches_all h g u = grind (arith, common_steps, get_or_past, cases_lt)
 
 pub record PlainBetween (start now : Steps) (used : List Bool) (matches : List ℕ) (group : ℕ) : Type 0 where
   pub targets : now.targets ≡ start.targets
@@ -112,6 +88,4 @@ pub plain_next : {start now s : Steps} {used : List Bool} {matches : List ℕ} {
     → PlainBetween start now used matches group → s ≡ next → next.targets ≡ now.targets
     → next.has_matches ≡ true → MatchesTo (map (λ v. v.items) next.matches.items) used matches (group + 1)
     → PlainBetween start s used matches (group + 1)
-plain_next {start} {now} {s} {used} {matches} {group} next before e targets has told =
-    subst (λ v. PlainBetween start v used matches (group + 1)) (sym e)
-    (record { targets = targets ∙ before.targets; has = has; told = told })
+plain_next {start} {now} {s} {used} {matches} {group} next before e targets has told = grind (arith, common_steps)

@@ -1,7 +1,7 @@
 -- Keys: what is written spells its state, and a key tells what it spells.
-use Rattle.std.proofs.Common.{◌≡◌, ℕ, ◌+◌, ◌<◌, ◌≤◌, ◌==◌, ◌&&◌, leb, ltb, Bool, true, false, if◌then◌else◌, List, []}
-use Rattle.std.proofs.Common.{◌∷◌, ◌++◌, ap₂}
-use Rattle.std.proofs.Common.{◌^◌, length, get_or, refl, ap, sym, ◌∙◌, subst, arith, length-append}
+use Rattle.std.proofs.Common.{rules, ◌≡◌, ℕ, ◌+◌, ◌<◌, ◌≤◌, ◌==◌, ◌&&◌, leb, Bool, true, false, if◌then◌else◌, List, []}
+use Rattle.std.proofs.Common.{◌∷◌, ◌++◌, ◌^◌, length, get_or, refl, ap, sym, ◌∙◌, subst, arith, length-append}
+use Rattle.std.proofs.lemmas.Grind.{common_steps}
 use Rattle.std.specs.Prelude.{All}
 use Rattle.std.proofs.Math.Seq.{take-append_seam, drop-append_seam}
 use Rattle.std.proofs.lemmas.Bool.{and_parts, leb-true, le-leb, ltb-true, lt-ltb}
@@ -17,9 +17,8 @@ use Rattle.lemmas_walks.proofs.Every.{every-weaker}
 use Rattle.rx_powerset.proofs.StateBounds.{few_firsts}
 use Rattle.rx_base.specs.FactBits.{bit, bits_of, facts_with}
 use Rattle.lemmas_walks.proofs.Firsts.{Apart, Apart-fresh, Contains-nil, fresh_itself}
-use Rattle.rx_stepper.specs.Keys.{key_of, label_of, led_of, own_of, spelled, stands, are_closed, is_closed}
-use Rattle.rx_stepper.specs.Keys.{is_key}
-use Rattle.rx_stepper.specs.Leads.{rows_by, without, written, written_as}
+use Rattle.rx_stepper.specs.Keys.{key_of, label_of, own_of, spelled, stands, are_closed, is_closed, is_key}
+use Rattle.rx_stepper.specs.Leads.{rows_by, written, written_as}
 use Rattle.rx_stepper.proofs.Members.{apart_front}
 use Rattle.rx_stepper.proofs.WrittenRows.{written_spells}
 
@@ -51,32 +50,11 @@ both_true : (a b : Bool) → a ≡ true → b ≡ true → (a && b) ≡ true
 both_true true b h k = k
 both_true false b h k = h
 
-all_pass : (p : ℕ → Bool) (xs : List ℕ) → Every (λ x. p x ≡ true) xs → list_all p xs ≡ true
-all_pass p [] h = refl
-all_pass p (x ∷ xs) h = both_true (p x) (list_all p xs) h.0 (all_pass p xs h.1)
-
 pub rows_tested : (rows : List Row) (qs : List ℕ) → are_closed rows qs ≡ true → AreClosed rows qs
-rows_tested rows qs h =
-    let row = λ (q : ℕ). stands (row_at rows q) && leb q max_id in
-    let parts = and_parts (list_all row qs) (bytes_eq (firsts qs) qs) h in
-    record {
-      stand = each_tested row qs (λ q t. (and_parts (stands (row_at rows q)) (leb q max_id) t).0) parts.0;
-      ids =
-          each_tested row qs
-          (λ q t. leb-true q max_id ((and_parts (stands (row_at rows q)) (leb q max_id) t).1)) parts.0;
-      once = (bytes_eq-Decides (firsts qs) qs).0 parts.1;
-    }
+rows_tested rows qs h = grind (arith, common_steps, and_parts, each_tested, leb-true, bytes_eq-Decides)
 
 pub closed_tested : (rows : List Row) (s : State) → is_closed rows s ≡ true → IsClosed rows s
-closed_tested rows s h =
-    let id = λ (k : ℕ). leb k max_id in
-    let a = and_parts (are_closed rows s.rows) _ h in
-    let b = and_parts (list_all id s.label) (ltb (length s.label) (2 ^ 32)) a.1 in
-    record {
-      closed = rows_tested rows s.rows a.0;
-      patterns = each_tested id s.label (λ k t. leb-true k max_id t) b.0;
-      few = ltb-true (length s.label) (2 ^ 32) b.1;
-    }
+closed_tested rows s h = search (rules, and_parts, rows_tested, each_tested, leb-true, ltb-true)
 
 rows_pass : (rows : List Row) (xs : List ℕ) → Every (λ q. stands (row_at rows q) ≡ true) xs → Every (λ q. q ≤ max_id) xs
     → list_all (λ q. stands (row_at rows q) && leb q max_id) xs ≡ true
@@ -90,15 +68,10 @@ labels_pass [] h = refl
 labels_pass (x ∷ xs) h = both_true (leb x max_id) _ (le-leb x max_id h.0) (labels_pass xs h.1)
 
 pub rows_closed : (rows : List Row) (qs : List ℕ) → AreClosed rows qs → are_closed rows qs ≡ true
-rows_closed rows qs c =
-    both_true (list_all (λ q. stands (row_at rows q) && leb q max_id) qs) _ (rows_pass rows qs c.stand c.ids)
-    ((bytes_eq-Decides (firsts qs) qs).1 c.once)
+rows_closed rows qs c = grind (arith, common_steps, both_true, rows_pass, bytes_eq-Decides)
 
 closed_passes : (rows : List Row) (s : State) → IsClosed rows s → is_closed rows s ≡ true
-closed_passes rows s c =
-    both_true (are_closed rows s.rows) _ (rows_closed rows s.rows c.closed)
-    (both_true (list_all (λ k. leb k max_id) s.label) _ (labels_pass s.label c.patterns)
-    (lt-ltb (length s.label) (2 ^ 32) c.few))
+closed_passes rows s c = grind (arith, common_steps, both_true, rows_closed, labels_pass, lt-ltb)
 
 -- ---- fronts
 
@@ -120,8 +93,7 @@ bit_small true = omega arith
 bit_small false = omega arith
 
 pub bits_small : (f : Facts) → bits_of f < 32
-bits_small f =
-    omega (arith, bit_small f.text, bit_small f.line_terminator, bit_small f.lf, bit_small f.cr, bit_small f.word)
+bits_small f = grind (arith, common_steps, bit_small)
 
 -- ---- what a key tells
 
@@ -141,10 +113,7 @@ spells rows lead key h =
 -- no two keys spell one state
 pub one_key_each : (rows : List Row) (lead j k : List ℕ) → is_key rows lead j ≡ true → is_key rows lead k ≡ true
     → spelled lead j ≡ spelled lead k → j ≡ k
-one_key_each rows lead j k hj hk e =
-    let sj = spells rows lead j hj in
-    let sk = spells rows lead k hk in
-    sym sj.is ∙ ap (key_of lead) e ∙ sk.is
+one_key_each rows lead j k hj hk e = grind (arith, common_steps, spells)
 
 module _ {rows : List Row} {lead key : List ℕ} (s : Spells rows lead key) where
   abbrev state : State
@@ -164,15 +133,7 @@ module _ {rows : List Row} {lead key : List ℕ} (s : Spells rows lead key) wher
 
   -- the rows that are written are some of them, in front
   pub own_closed : AreClosed rows (own_of key)
-  own_closed = front_closed (own_of key) (led_of key) s.closed.closed
-    where
-      front_closed : (xs : List ℕ) (b : Bool) → AreClosed rows (rows_by lead b xs) → AreClosed rows xs
-      front_closed xs true c = record {
-        stand = every_front (λ q. stands (row_at rows q) ≡ true) xs (without xs lead) c.stand;
-        ids = every_front (λ q. q ≤ max_id) xs (without xs lead) c.ids;
-        once = once_front xs (without xs lead) c.once;
-      }
-      front_closed xs false c = c
+  own_closed = grind (arith, common_steps, every_front, once_front)
 
   pub rows_few : length state.rows ≤ id_count
   rows_few = closed_few s.closed.closed
@@ -209,24 +170,10 @@ module _ {rows : List Row} {lead : List ℕ} {s : State} {bits : ℕ} {is_led : 
 
   pub spelled_is : spelled lead key ≡ s
   unfolding label_of
-  spelled_is =
-      ap (spelled lead) e
-      ∙ (λ i. record {
-        rows = (ap₂ (λ b l. rows_by lead b l) (led_is is_led) (drop-append_seam s.label own) ∙ spelled_rows) i;
-        context = w.context.facts_are i;
-        label = take-append_seam s.label own i;
-      })
+  spelled_is = grind (arith, common_steps, led_is, drop-append_seam, spelled_rows, take-append_seam)
 
   pub key_written : is_key rows lead key ≡ true
-  key_written =
-      let spelt : key_of lead (spelled lead key) ≡ key =
-      ap (key_of lead) spelled_is
-      ∙ ap₂ (λ b v. b ∷ (length s.label ∷ (bit v.is_led ∷ (s.label ++ v.own))))
-      (sym w.context.bits_are) w.written
-      ∙ sym e in
-      both_true (bytes_eq (key_of lead (spelled lead key)) key) (is_closed rows (spelled lead key))
-      ((bytes_eq-Decides (key_of lead (spelled lead key)) key).1 spelt)
-      (ap (is_closed rows) spelled_is ∙ closed_passes rows s w.closed)
+  key_written = grind (arith, common_steps, spelled_is, both_true, bytes_eq-Decides, closed_passes)
 
 -- a context as it is kept beside rows
 pub kept_written : (asks : Bool) {bits group : ℕ} (asked : Facts) → bits ≡ (if asks then group else 0)

@@ -1,13 +1,11 @@
 -- The front of rows that has to be written, found by the places of the lead-in's rows.
-use Rattle.std.proofs.Common.{◌≡◌, ℕ, zero, suc, ◌+◌, ◌-◌, ◌<◌, ◌≤◌, ◌==◌, Bool, true, false, List, [], ◌∷◌, ◌++◌}
-use Rattle.std.proofs.Common.{length, take, drop, get_or, refl, ap, sym, ◌∙◌, subst, arith, append_assoc, length-append}
-use Rattle.std.proofs.Common.{length-take, take-append-drop, ⊎_elim}
+use Rattle.std.proofs.lemmas.Grind.{common_steps}
+use Rattle.std.proofs.Common.{◌≡◌, ℕ, zero, suc, ◌+◌, ◌-◌, ◌<◌, ◌≤◌, Bool, true, false, List, [], ◌∷◌, ◌++◌, length}
+use Rattle.std.proofs.Common.{take, drop, get_or, refl, ap, sym, ◌∙◌, subst, arith, append_assoc, length-append}
+use Rattle.std.proofs.Common.{length-take, take-append-drop, ⊎_elim, ltb, set}
 use Rattle.std.proofs.Math.Seq.{take-length}
-use Rattle.std.proofs.lemmas.List.{take_more}
-use Rattle.std.proofs.Common.{ltb, set}
+use Rattle.std.proofs.lemmas.List.{take_more, get_or-set_same, get_or-set_other}
 use Rattle.std.proofs.lemmas.Bool.{cases_lt, eqb-false, eqb-true, lt-ltb, ltb-true}
-use Rattle.std.proofs.lemmas.List.{get_or-set_same, get_or-set_other}
-use Rattle.std.specs.Cmp.{both_ways}
 use Rattle.std.specs.List.{AllByRecursion as Every}
 use Rattle.std.specs.Prelude.{Some, replicate, slice_get, slice_index_or}
 use Rattle.lemmas_walks.proofs.Firsts.{Apart, by_test, seen_true}
@@ -33,9 +31,7 @@ seam (y ∷ ys) behind x = seam ys behind x
 below : (before rest : List ℕ) (place : ℕ) {q : ℕ} → place < length before → slice_get (before ++ rest) place ≡ Some q
     → In before q
 below [] rest place h e = absurd (omega arith)
-below (x ∷ xs) rest zero {q} h e =
-    let same : x ≡ q = cc in
-    subst (In (x ∷ xs)) same (in_here x xs)
+below (x ∷ xs) rest zero {q} h e = grind (arith, common_steps, in_here)
 below (x ∷ xs) rest (suc place) {q} h e = in_there x q xs (below xs rest place (omega arith) e)
 
 -- and what is in the front stands below its end
@@ -80,27 +76,13 @@ module _ (met : ℕ → Bool) (rows : List ℕ) {i : ℕ}
     (below_i : (place q : ℕ) → place < i → slice_get rows place ≡ Some q → met q ≡ true) where
   pub met_more : {q : ℕ} → i < length rows → q ≡ get_or rows i q → met q ≡ true → (place p : ℕ) → place < i + 1
       → slice_get rows place ≡ Some p → met p ≡ true
-  met_more {q} h e m place p lt k =
-      ⊎_elim
-      (λ (old : place < i). below_i place p old k)
-      (λ (new : i ≤ place).
-      let same : i ≡ place = omega arith in
-      ap met (sym (some_same (sym (at_or rows i h e) ∙ ap (slice_get rows) same ∙ k))) ∙ m)
-      (cases_lt place i)
+  met_more {q} h e m place p lt k = grind (arith, common_steps, some_same, at_or, cases_lt)
 
   pub met_to : {q : ℕ} → i < length rows → q ≡ get_or rows i q → met q ≡ false → AreMetTo met rows i
-  met_to {q} h e m = record {
-    within = omega arith;
-    before = below_i;
-    next = λ p k. ap met (sym (some_same (sym (at_or rows i h e) ∙ k))) ∙ m;
-  }
+  met_to {q} h e m = grind (arith, common_steps, some_same, at_or)
 
   pub met_all : length rows ≤ i → AreMetTo met rows (length rows)
-  met_all h = record {
-    within = omega arith;
-    before = λ place q lt k. below_i place q (omega arith) k;
-    next = λ q k. absurd (omega (arith, some_within rows (length rows) k));
-  }
+  met_all h = grind (arith, common_steps, some_within)
 
 -- ---- the front that is looked at
 
@@ -112,11 +94,7 @@ pub record Trimmed (lead own : List ℕ) (len met : ℕ) : Type 0 where
   pub front_met : AreMetTo (was (take len own)) lead met
 
 pub trimmed_none : {lead own : List ℕ} {met : ℕ} → AreMetTo (was own) lead met → Trimmed lead own (length own) met
-trimmed_none {lead} {own} {met} m = record {
-  within = omega arith;
-  same = ap (λ l. led l lead) (take-length own);
-  front_met = subst (λ l. AreMetTo (was l) lead met) (sym (take-length own)) m;
-}
+trimmed_none {lead} {own} {met} m = grind (arith, common_steps, take-length, was)
 
 last_same : (a b : List ℕ) {x y : ℕ} → a ++ x ∷ [] ≡ b ++ y ∷ [] → x ≡ y
 last_same [] [] e = cc
@@ -131,14 +109,7 @@ pub record LastRow (own : List ℕ) (len : ℕ) (front : List ℕ) (x : ℕ) : T
 
 pub last_row : (own : List ℕ) (len : ℕ) {x : ℕ} → 0 < len → len ≤ length own → x ≡ get_or own (len - 1) x
     → LastRow own len (take (len - 1) own) x
-last_row own len {x} h k e =
-    let one : len ≡ len - 1 + 1 = omega arith in
-    record {
-      whole =
-          ap (λ n. take n own) one ∙ take_more own (len - 1) x (omega arith)
-          ∙ ap (λ v. take (len - 1) own ++ v ∷ []) (sym e);
-      front_is = refl;
-    }
+last_row own len {x} h k e = grind (arith, common_steps, take_more)
 
 module _ {lead own places : List ℕ} (places_are : ArePlaces lead places) (lead_apart : Apart lead)
     (own_apart : Apart own)
@@ -231,9 +202,7 @@ module _ {lead own places : List ℕ} (places_are : ArePlaces lead places) (lead
   }
 
 pub least_none : (lead : List ℕ) → IsLeast lead []
-least_none lead = record {
-  least = λ front x e w. absurd (omega (arith, ap length e, length-append front (x ∷ [])));
-}
+least_none lead = grind (arith, common_steps, length-append)
 
 -- ---- the places of rows
 
@@ -253,20 +222,13 @@ at_in (x ∷ xs) (suc place) {q} e = in_there x q xs (at_in xs place e)
 -- a row has a place where it is one of the list
 pub has_place : {rows places : List ℕ} → ArePlaces rows places → (q : ℕ)
     → ltb (slice_index_or places q no_place) (length rows) ≡ was rows q
-has_place {rows} {places} p q =
-    both_ways (ltb (slice_index_or places q no_place) (length rows)) (was rows q)
-    (λ t. at_in rows (slice_index_or places q no_place)
-    (p.is_there q (ltb-true (slice_index_or places q no_place) (length rows) t)))
-    (λ i. let t = in_at rows q i in
-    lt-ltb (slice_index_or places q no_place) (length rows) (omega (arith, p.is_place t.0 q t.2, t.1)))
+has_place {rows} {places} p q = grind (arith, common_steps, was, at_in, ltb-true, in_at, lt-ltb)
 
 apart_at : (xs : List ℕ) → Apart xs → (a b : ℕ) {q : ℕ} → slice_get xs a ≡ Some q → slice_get xs b ≡ Some q → a ≡ b
 apart_at [] apart a b e f = absurd (cc)
 apart_at (x ∷ xs) apart zero zero e f = refl
-apart_at (x ∷ xs) apart zero (suc b) e f =
-    absurd (apart.0 (seen_true x xs (subst (In xs) (sym (some_same e)) (at_in xs b f))))
-apart_at (x ∷ xs) apart (suc a) zero e f =
-    absurd (apart.0 (seen_true x xs (subst (In xs) (sym (some_same f)) (at_in xs a e))))
+apart_at (x ∷ xs) apart zero (suc b) e f = grind (arith, common_steps, seen_true, some_same, at_in)
+apart_at (x ∷ xs) apart (suc a) zero e f = grind (arith, common_steps, seen_true, some_same, at_in)
 apart_at (x ∷ xs) apart (suc a) (suc b) e f = ap suc (apart_at xs apart.1 a b e f)
 
 -- the rows up to a place have theirs
@@ -277,43 +239,24 @@ pub record Placed (rows places : List ℕ) (place : ℕ) : Type 0 where
 
 pub placed_none : {rows places : List ℕ} (count : ℕ) → places ≡ replicate count no_place → length rows < no_place
     → Placed rows places 0
-placed_none {rows} {places} count e few = record {
-  is_there = λ q h. absurd (omega (arith, ap (λ l. slice_index_or l q no_place) e, none count q, h, few));
-  is_place = λ i q h k. absurd (omega arith);
-}
-  where
-    none : (n q : ℕ) → get_or (replicate n no_place) q no_place ≡ no_place
-    none zero q = refl
-    none (suc n) zero = refl
-    none (suc n) (suc q) = none n q
+placed_none {rows} {places} count e few = grind (arith, common_steps)
 
 pub placed_more : {rows places : List ℕ} {place row : ℕ} → Apart rows → Placed rows places place
     → slice_get rows place ≡ Some row → row < length places → Placed rows (set places row place) (place + 1)
-placed_more {rows} {places} {place} {row} apart p here within = record {
-  is_there = λ q h.
-      by_test (q == row)
-      (λ t. let same = eqb-true q row t in
-      let there_is = ap (λ v. slice_index_or (set places row place) v no_place) same
-      ∙ get_or-set_same places row place no_place within in
-      ap (slice_get rows) there_is ∙ here ∙ ap Some (sym same))
-      (λ t. let old = get_or-set_other places row q place no_place (eqb-false q row t) in
-      ap (slice_get rows) old ∙ p.is_there q (subst (λ n. n < length rows) old h));
-  is_place = λ i q h k.
-      ⊎_elim
-      (λ (lt : i < place).
-      let other : q ≡ row → ⊥ = λ s. omega (arith, apart_at rows apart i place k (here ∙ ap Some (sym s)), lt) in
-      get_or-set_other places row q place no_place other ∙ p.is_place i q lt k)
-      (λ (ge : place ≤ i).
-      let same : place ≡ i = omega arith in
-      let row_is : row ≡ q = some_same (sym here ∙ ap (slice_get rows) same ∙ k) in
-      ap (λ v. slice_index_or (set places row place) v no_place) (sym row_is)
-      ∙ get_or-set_same places row place no_place within ∙ same)
-      (cases_lt i place);
-}
+placed_more {rows} {places} {place} {row} apart p here within =
+    grind (
+      arith,
+      common_steps,
+      by_test,
+      eqb-true,
+      get_or-set_same,
+      get_or-set_other,
+      eqb-false,
+      apart_at,
+      some_same,
+      cases_lt,
+    )
 
 pub all_placed : {rows places : List ℕ} {place : ℕ} → length rows ≤ place → Placed rows places place
     → ArePlaces rows places
-all_placed {rows} {places} {place} h p = record {
-  is_there = p.is_there;
-  is_place = λ i q k. p.is_place i q (omega (arith, some_within rows i k, h)) k;
-}
+all_placed {rows} {places} {place} h p = grind (arith, common_steps, some_within)

@@ -1,15 +1,14 @@
 -- How the code splits rows into own ones and the lead-in's others, and how many these are.
+use Rattle.std.proofs.lemmas.Grind.{common_steps}
 use Rattle.lemmas_walks.proofs.Firsts.{Apart, by_test}
-use Rattle.std.proofs.Common.{◌≡◌, ℕ, not, ◌+◌, ◌-◌, ◌<◌, ◌≤◌, ◌==◌, Bool, true, false, List, [], ◌∷◌, ◌++◌, length}
-use Rattle.std.proofs.Common.{take, drop, get_or, sum_by, refl, ap, ap₂, sym, ◌∙◌, arith, length-append, length-drop}
-use Rattle.std.proofs.Common.{take-append-drop}
+use Rattle.std.proofs.Common.{◌≡◌, ℕ, not, ◌+◌, ◌-◌, ◌<◌, ◌≤◌, ◌==◌, Bool, true, false, List, [], ◌∷◌, length, take}
+use Rattle.std.proofs.Common.{drop, get_or, sum_by, refl, ap, ap₂, sym, ◌∙◌, arith, length-append, length-drop}
+use Rattle.std.proofs.Common.{take-append-drop, subst, ⊎_elim}
 use Rattle.std.proofs.Math.ListN.{drop_of_length-le}
 use Rattle.std.proofs.lemmas.Bool.{eq-eqb, eqb-true, false_from_ne_true}
-use Rattle.std.proofs.lemmas.List.{drop_more, take_all, take_more}
+use Rattle.std.proofs.lemmas.List.{drop_more, take_all, take_more, get_or_default}
 use Rattle.std.proofs.lemmas.Slice.Eq.{bytes_eq-Decides}
 use Rattle.std.proofs.lemmas.List.Sums.{sum_by-append, sum_by-cons}
-use Rattle.std.proofs.Common.{subst, ⊎_elim}
-use Rattle.std.proofs.lemmas.List.{get_or_default}
 use Rattle.std.specs.Cmp.{both_ways}
 use Rattle.std.specs.Prelude.{None, Some, slice_get}
 use Rattle.std.specs.List.{AllByRecursion as Every}
@@ -29,18 +28,12 @@ pub record IsSplitFrom (lead rows : List ℕ) (len : ℕ) : Type 0 where
   pub over : length rows < len → split_by lead [] rows ≡ written_as false rows
 
 pub split_begins : (lead rows : List ℕ) → IsSplitFrom lead rows 0
-split_begins lead rows = record {
-  open_still = λ h. refl;
-  over = λ h. absurd (omega arith);
-}
+split_begins lead rows = grind (arith, common_steps)
 
 module _ {lead rows : List ℕ} {len : ℕ} (s : IsSplitFrom lead rows len) (h : len ≤ length rows) where
   pub split_found : {b : Bool} → b ≡ bytes_eq (without (take len rows) lead) (drop len rows) → b ≡ true
       → split_by lead [] rows ≡ written_as true (take len rows)
-  split_found e t =
-      s.open_still h
-      ∙ split_here lead (take len rows) (drop len rows)
-      ((bytes_eq-Decides (without (take len rows) lead) (drop len rows)).0 (sym e ∙ t))
+  split_found e t = grind (arith, common_steps, split_here, bytes_eq-Decides)
 
   pub split_passed : {b : Bool} → b ≡ bytes_eq (without (take len rows) lead) (drop len rows) → b ≡ false
       → IsSplitFrom lead rows (len + 1)
@@ -97,24 +90,16 @@ equal a b e t = by_test (a == b) (λ h. eqb-true a b h) (λ h. absurd (cc))
 pub follows_passed : (own lead : List ℕ) (i : ℕ) {q : ℕ} (others : List ℕ) → i < length lead → q ≡ get_or lead i q
     → was own q ≡ true
     → bytes_eq (without own (drop i lead)) others ≡ bytes_eq (without own (drop (i + 1) lead)) others
-follows_passed own lead i {q} others h e t =
-    ap (λ l. bytes_eq l others)
-    (ap (without own) (drop_more lead i q h ∙ ap (λ v. v ∷ drop (i + 1) lead) (sym e))
-    ∙ without_old own (drop (i + 1) lead) q t)
+follows_passed own lead i {q} others h e t = grind (arith, common_steps, drop_more, without_old)
 
 module _ (own lead : List ℕ) (i : ℕ) {q : ℕ} (rows : List ℕ) (place : ℕ) (h : i < length lead) (e : q ≡ get_or lead i q)
     (new : was own q ≡ false) where
   first_left : without own (drop i lead) ≡ q ∷ without own (drop (i + 1) lead)
-  first_left =
-      ap (without own) (drop_more lead i q h ∙ ap (λ v. v ∷ drop (i + 1) lead) (sym e))
-      ∙ without_new own (drop (i + 1) lead) q new
+  first_left = grind (arith, common_steps, drop_more, without_new)
 
   -- another is missing where no row is left
   pub follows_short : length rows ≤ place → bytes_eq (without own (drop i lead)) (drop place rows) ≡ false
-  follows_short past =
-      false_from_ne_true _
-      (λ t. let same = (bytes_eq-Decides (without own (drop i lead)) (drop place rows)).0 t in
-      omega (arith, ap length (sym first_left ∙ same ∙ drop_of_length-le rows past)))
+  follows_short past = grind (arith, common_steps, false_from_ne_true, bytes_eq-Decides, first_left, drop_of_length-le)
 
   module _ {x : ℕ} (within : place < length rows) (is : x ≡ get_or rows place x) where
     rest : drop place rows ≡ x ∷ drop (place + 1) rows
@@ -148,13 +133,7 @@ module _ (own lead : List ℕ) (i : ℕ) {q : ℕ} (rows : List ℕ) (place : �
 pub follows_ends : (own lead rows : List ℕ) {i : ℕ} (place : ℕ) → length lead ≤ i → place ≤ length rows
     → bytes_eq (without own (drop i lead)) (drop place rows) ≡ (place == length rows)
 follows_ends own lead rows {i} place past within =
-    ap (λ l. bytes_eq (without own l) (drop place rows)) (drop_of_length-le lead past)
-    ∙ ap (λ l. bytes_eq l (drop place rows)) (without_nil own)
-    ∙ both_ways _ _
-    (λ t. let none = (bytes_eq-Decides [] (drop place rows)).0 t in
-    eq-eqb place (length rows) (omega (arith, ap length none, length-drop place rows)))
-    (λ t. let all = eqb-true place (length rows) t in
-    (bytes_eq-Decides [] (drop place rows)).1 (sym (drop_of_length-le rows (omega (arith, all)))))
+    grind (arith, common_steps, drop_of_length-le, without_nil, bytes_eq-Decides, eq-eqb, length-drop, eqb-true)
 
 -- ---- how many rows of the lead-in are among the own ones
 
@@ -164,18 +143,10 @@ module _ (lead own : List ℕ) where
 
   pub shared_more : (i : ℕ) {q : ℕ} → i < length own → q ≡ get_or own i q
       → sum_by counts (take (i + 1) own) ≡ sum_by counts (take i own) + counts q
-  shared_more i {q} h e =
-      ap (sum_by counts) (take_more own i q h ∙ ap (λ v. take i own ++ v ∷ []) (sym e))
-      ∙ sum_by-append counts (take i own) (q ∷ [])
-      ∙ omega (arith, sum_by-cons counts q [])
+  shared_more i {q} h e = grind (arith, common_steps, sum_by, take_more, sum_by-append, sum_by-cons)
 
   pub shared_within : (i : ℕ) → sum_by counts (take i own) ≤ sum_by counts own
-  shared_within i =
-      omega (
-        arith,
-        sum_by-append counts (take i own) (drop i own),
-        ap (sum_by counts) (take-append-drop i own),
-      )
+  shared_within i = grind (arith, common_steps, sum_by-append, sum_by, take-append-drop)
 
   -- Each row of the own ones that is one of the lead-in's is one that doesn't follow.
   pub shared_left : (i : ℕ) {q others : ℕ} → Apart own → Apart lead → i < length own → q ≡ get_or own i q
@@ -192,11 +163,4 @@ module _ (lead own : List ℕ) where
 
   pub shared_all : (i others : ℕ) → Apart own → Apart lead → length own ≤ i
       → others + sum_by counts (take i own) ≡ length lead → length own + others ≡ length (led own lead)
-  shared_all i others a b h inv =
-      omega (
-        arith,
-        inv,
-        ap (sum_by counts) (take_all i own h),
-        length_without own lead a b,
-        length-append own (without own lead),
-      )
+  shared_all i others a b h inv = grind (arith, common_steps, sum_by, take_all, length_without, length-append)

@@ -1,12 +1,13 @@
 -- Steps of rows that end with those of the lead-in: assertions are decided, and matches cut, in both lists by
 -- themselves.
-use Rattle.std.proofs.Common.{◌≡◌, ℕ, ◌==◌, ◌||◌, Bool, true, false, if◌then◌else◌, List, [], ◌∷◌, ◌++◌, refl, ap, ap₂}
-use Rattle.std.proofs.Common.{sym, ◌∙◌, subst, ⊎_elim}
+use Rattle.std.proofs.Common.{arith, ◌≡◌, ℕ, ◌==◌, ◌||◌, Bool, true, false, if◌then◌else◌, List, [], ◌∷◌, ◌++◌, refl}
+use Rattle.std.proofs.Common.{ap, ap₂, sym, ◌∙◌, subst, ⊎_elim}
+use Rattle.std.proofs.lemmas.Grind.{common_steps}
 use Rattle.std.proofs.lemmas.Bool.{eqb-true, false_from_ne_true, or_left, or_right, or_cases}
 use Rattle.std.proofs.lemmas.List.Folds.{list_any-append}
 use Rattle.std.specs.List.{flat_map, list_any}
 use Rattle.rx_spec.specs.Rows.{Row}
-use Rattle.rx_spec.specs.States.{Passing, row_at, firsts, closure, is_match_row, to_first_match, cut, pattern_of}
+use Rattle.rx_spec.specs.States.{Passing, row_at, is_match_row, to_first_match, cut, pattern_of}
 use Rattle.rx_spec.specs.declared.MatchKind.{MatchKind}
 use Rattle.lemmas_walks.proofs.Every.{flat_map-append_of}
 use Rattle.lemmas_walks.proofs.Firsts.{by_test}
@@ -19,16 +20,12 @@ use Rattle.rx_stepper.proofs.Without.{without_nil, without_old, without_new, fir
 -- what is closed in both lists
 pub closed_led : (rows : List Row) (pass : Passing) (own lead : List ℕ)
     → closed_rows rows pass (led own lead) ≡ led (closed_rows rows pass own) (closed_rows rows pass lead)
-closed_led rows pass own lead =
-    led_gives (closure rows pass) own lead
-    ∙ firsts_joined (flat_map (closure rows pass) own) (flat_map (closure rows pass) lead)
+closed_led rows pass own lead = grind (arith, common_steps, led_gives, firsts_joined)
 
 -- the rows that are reached from joined lists
 pub closed_joined : (rows : List Row) (pass : Passing) (xs ys : List ℕ)
     → closed_rows rows pass (xs ++ ys) ≡ led (closed_rows rows pass xs) (closed_rows rows pass ys)
-closed_joined rows pass xs ys =
-    ap (λ (l : List ℕ). firsts l) (flat_map-append_of (closure rows pass) xs ys)
-    ∙ firsts_joined (flat_map (closure rows pass) xs) (flat_map (closure rows pass) ys)
+closed_joined rows pass xs ys = grind (arith, common_steps, flat_map-append_of, firsts_joined)
 
 -- a test of joined rows
 module _ (p : ℕ → Bool) where
@@ -50,11 +47,7 @@ module _ (p : ℕ → Bool) where
       (λ e. ap (list_any p) (without_new own xs x e) ∙ ap (λ b. p x || b) (any_without own xs h))
 
   pub any_led : (own lead : List ℕ) → list_any p (led own lead) ≡ (list_any p own || list_any p lead)
-  any_led own lead =
-      list_any-append p own (without own lead)
-      ∙ by_test (list_any p own)
-      (λ e. ap (λ b. b || list_any p (without own lead)) e ∙ sym (ap (λ b. b || list_any p lead) e))
-      (λ e. ap (λ b. list_any p own || b) (any_without own lead e))
+  any_led own lead = grind (arith, common_steps, list_any-append, by_test, any_without)
 
 module _ (rows : List Row) where
   abbrev matches : List ℕ → Bool
@@ -76,14 +69,10 @@ module _ (rows : List Row) where
   first_later q qs h = rw h refl
 
   head_plain : (q : ℕ) (qs : List ℕ) → matches (q ∷ qs) ≡ false → is_match_row (row_at rows q) ≡ false
-  head_plain q qs h =
-      false_from_ne_true (is_match_row (row_at rows q))
-      (λ e. let t : matches (q ∷ qs) ≡ true = or_left (is_match_row (row_at rows q)) (matches qs) e in cc)
+  head_plain q qs h = grind (arith, common_steps, false_from_ne_true, or_left)
 
   rest_plain : (q : ℕ) (qs : List ℕ) → matches (q ∷ qs) ≡ false → matches qs ≡ false
-  rest_plain q qs h =
-      false_from_ne_true (matches qs)
-      (λ e. let t : matches (q ∷ qs) ≡ true = or_right (is_match_row (row_at rows q)) (matches qs) e in cc)
+  rest_plain q qs h = grind (arith, common_steps, false_from_ne_true, or_right)
 
   member_plain : (qs : List ℕ) (x : ℕ) → matches qs ≡ false → In qs x → is_match_row (row_at rows x) ≡ false
   member_plain [] x h i = absurd (in_nil x i)
@@ -114,9 +103,7 @@ module _ (rows : List Row) where
   -- leaving out rows that don't match leaves it where it is
   first_without : (seen xs : List ℕ) → matches seen ≡ false
       → to_first_match rows (without seen xs) ≡ without seen (to_first_match rows xs)
-  first_without seen [] h =
-      ap (to_first_match rows) (without_nil seen) ∙ first_none
-      ∙ sym (ap (without seen) first_none ∙ without_nil seen)
+  first_without seen [] h = grind (arith, common_steps, without_nil, first_none)
   first_without seen (x ∷ xs) h =
       by_test (was seen x)
       (λ e. ap (to_first_match rows) (without_old seen xs x e) ∙ first_without seen xs h
@@ -157,34 +144,19 @@ module _ (rows : List Row) where
 
   cut_some : (qs : List ℕ) (x : ℕ) (xs : List ℕ) → matches_of rows (to_first_match rows qs) ≡ x ∷ xs
       → matches qs ≡ true
-  cut_some qs x xs h =
-      by_test (matches qs) (λ e. e)
-      (λ e. absurd (let t = sym (matches_nil qs e) ∙ sym (ap (matches_of rows) (cut_plain qs e)) ∙ h in cc))
+  cut_some qs x xs h = grind (arith, common_steps, by_test, matches_nil, cut_plain)
 
   -- The cut falls in the own rows, or in those of the lead-in.
   pub cut_led : (kind : MatchKind) (own lead : List ℕ) → goes_on kind (matches_of rows (cut kind rows own)) ≡ true
       → cut kind rows (led own lead) ≡ led (cut kind rows own) (cut kind rows lead)
   cut_led MatchKind.All own lead h = refl
   cut_led MatchKind.LeftmostFirst own lead h =
-      let none = cut_none own (none_of (matches_of rows (to_first_match rows own)) h) in
-      first_behind own (without own lead) none
-      ∙ ap₂ (λ (a b : List ℕ). a ++ b) (sym (cut_plain own none))
-      (first_without own lead none ∙ ap (λ l. without l (to_first_match rows lead)) (sym (cut_plain own none)))
-    where
-      none_of : (xs : List ℕ) → goes_on MatchKind.LeftmostFirst xs ≡ true → xs ≡ []
-      none_of [] h = refl
-      none_of (x ∷ xs) h = absurd (cc)
+      grind (arith, common_steps, cut_none, first_behind, cut_plain, first_without)
 
   pub cut_led_off : (kind : MatchKind) (own lead : List ℕ) → goes_on kind (matches_of rows (cut kind rows own)) ≡ false
       → cut kind rows (led own lead) ≡ cut kind rows own
   cut_led_off MatchKind.All own lead h = absurd (cc)
-  cut_led_off MatchKind.LeftmostFirst own lead h =
-      first_in_front own (without own lead) (some_of (matches_of rows (to_first_match rows own)) refl h)
-    where
-      some_of : (xs : List ℕ) → matches_of rows (to_first_match rows own) ≡ xs
-          → goes_on MatchKind.LeftmostFirst xs ≡ false → matches own ≡ true
-      some_of [] e h = absurd (cc)
-      some_of (x ∷ xs) e h = cut_some own x xs e
+  cut_led_off MatchKind.LeftmostFirst own lead h = grind (arith, common_steps, first_in_front, cut_some)
 
   -- ---- labels
 
@@ -226,8 +198,7 @@ module _ (rows : List Row) where
 
   pub patterns_without : (seen qs : List ℕ)
       → patterns (without seen qs) ≡ patterns (without (matches_of rows seen) (matches_of rows qs))
-  patterns_without seen [] =
-      ap patterns (without_nil seen) ∙ sym (ap patterns (without_nil (matches_of rows seen)))
+  patterns_without seen [] = grind (arith, common_steps, without_nil)
   patterns_without seen (x ∷ xs) =
       by_test (is_match_row (row_at rows x))
       (λ m. by_test (was seen x)

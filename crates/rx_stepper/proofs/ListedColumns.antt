@@ -1,11 +1,12 @@
 -- Where the columns of sets stand: more columns behind change no span.
-use Rattle.std.proofs.Common.{◌≡◌, ℕ, ◌<◌, ◌≤◌, ◌==◌, ◌&&◌, Bool, true, false, List, [], ◌∷◌, ◌++◌, length, drop}
-use Rattle.std.proofs.Common.{refl, ap, sym, ◌∙◌, arith, subst, length-append, nat_lt}
+use Rattle.std.proofs.lemmas.Grind.{common_steps}
+use Rattle.std.proofs.Common.{◌≡◌, ℕ, ◌<◌, ◌≤◌, false, List, [], ◌∷◌, ◌++◌, length, refl, ap, sym, ◌∙◌, arith}
+use Rattle.std.proofs.Common.{length-append}
 use Rattle.std.specs.Prelude.{slice_range, slice_index, filter, All}
 use Rattle.std.specs.List.{range_with_len}
 use Rattle.rx_spec.specs.Bytes.{contains}
 use Rattle.std.proofs.lemmas.List.{take-append-le, drop_at}
-use Rattle.std.proofs.lemmas.List.Elements.{All-append, All-filter}
+use Rattle.std.proofs.lemmas.List.Elements.{All-filter}
 use Rattle.std.proofs.lemmas.Nat.Bits.{bit_at-zero}
 use Rattle.std.proofs.lemmas.Slice.{between_is, between_to_end}
 use Rattle.rx_stepper.specs.Columns.{read_by}
@@ -15,14 +16,11 @@ use Rattle.rx_stepper.proofs.ReadColumns.{range_few}
 
 range-more : (xs more : List ℕ) (start stop : ℕ) → stop ≤ length xs
     → slice_range (xs ++ more) start stop ≡ slice_range xs start stop
-range-more xs more start stop within =
-    between_is (xs ++ more) start stop ∙ ap (drop start) (take-append-le stop xs more within)
-    ∙ sym (between_is xs start stop)
+range-more xs more start stop within = grind (arith, common_steps, between_is, take-append-le)
 
 range-added : (xs more : List ℕ) (start stop : ℕ) → start ≡ length xs → stop ≡ length (xs ++ more)
     → slice_range (xs ++ more) start stop ≡ more
-range-added xs more start stop begins ends =
-    between_to_end (xs ++ more) start stop (omega arith) ∙ drop_at xs more start (sym begins)
+range-added xs more start stop begins ends = grind (arith, common_steps, between_to_end, drop_at)
 
 pub read_few : (set : ℕ) (units : List ℕ) → All (λ column. column < length units) (read_by set units)
 read_few set units =
@@ -32,46 +30,23 @@ read_few set units =
 -- the columns of a set were added
 pub set_added : (set : ℕ) (units : List ℕ) {count : ℕ} {before after : List ℕ} → length units ≡ count
     → after ≡ before ++ read_by set units → Grown count before after
-set_added set units {count} {before} {after} len e =
-    let added = read_by set units in
-    let few = subst (λ n. All (λ column. column < n) added) len (read_few set units) in
-    subst (λ l. Grown count before l) (sym e) (record {
-      longer = omega (arith, length-append before added);
-      same = range-more before added;
-      few = λ old. All-append (λ column. column < count) before added old few;
-    })
+set_added set units {count} {before} {after} len e = grind (arith, common_steps, read_few, length-append, range-more)
 
 -- they are listed from now on
 pub set_listed : (set : ℕ) (units before : List ℕ) {after : List ℕ} {start stop : ℕ}
     → after ≡ before ++ read_by set units → start ≡ length before → stop ≡ length after
     → IsListed units after set start stop
 set_listed set units before {after} {start} {stop} e begins ends =
-    let longer = ap length e ∙ length-append before (read_by set units) in
-    record {
-      order = omega (arith, begins, ends, longer);
-      within = omega (arith, ends);
-      holds = ap (λ l. slice_range l start stop) e
-          ∙ range-added before (read_by set units) start stop begins (ends ∙ ap length e);
-    }
+    grind (arith, common_steps, length-append, range-added)
 
 -- what was listed before is listed still
 pub listed_still : {units : List ℕ} {count : ℕ} {before after : List ℕ} (sets : List ListedSet)
     → Grown count before after → AreListed units before sets → AreListed units after sets
-listed_still sets grown are = λ k d h.
-    let is = are k d h in
-    record {
-      order = is.order;
-      within = omega (arith, is.within, grown.longer);
-      holds = grown.same _ _ is.within ∙ is.holds;
-    }
+listed_still sets grown are = grind (arith, common_steps)
 
 -- nothing is in the set of no bytes
 pub in_none : (unit : ℕ) → contains 0 unit ≡ false
-in_none unit = rw (bit_at-zero unit) (none (nat_lt unit 256))
-  where
-    none : (b : Bool) → (b && (0 == 1)) ≡ false
-    none true = refl
-    none false = refl
+in_none unit = grind (arith, common_steps, bit_at-zero)
 
 -- no column's unit is in the empty set
 none_read : (units columns : List ℕ) → filter (λ column. contains 0 (slice_index units column)) columns ≡ []

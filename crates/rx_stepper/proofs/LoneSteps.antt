@@ -1,7 +1,6 @@
 -- A column by which the lead-in's rows alone go on leads where it leads these by themselves.
-use Rattle.std.proofs.Common.{◌≡◌, ℕ, zero, suc, ◌<◌, ◌++◌, true, List, []}
-use Rattle.std.proofs.Common.{◌∷◌, length, None, Some, refl, ap, ap₂, sym, ◌∙◌, subst, arith}
-use Rattle.std.proofs.Common.{inl}
+use Rattle.std.proofs.Common.{◌≡◌, ℕ, zero, suc, ◌<◌, ◌++◌, true, List, [], ◌∷◌, length, None, Some, refl, ap, ap₂, sym}
+use Rattle.std.proofs.Common.{◌∙◌, subst, arith, inl}
 use Rattle.std.specs.Prelude.{IfSome, MatchOption, Option, slice_get}
 use Rattle.rx_spec.specs.Builds.{is_dead_state}
 use Rattle.rx_spec.specs.Contexts.{Facts}

@@ -1,4 +1,5 @@
 -- The key of a state that is made, as it is written.
+use Rattle.std.proofs.lemmas.Grind.{common_steps}
 use Rattle.std.proofs.Common.{◌≡◌, ℕ, ◌^◌, ◌<◌, ◌≤◌, ◌==◌, ◌&&◌, Bool, true, false, not, if◌then◌else◌, List, [], ◌∷◌}
 use Rattle.std.proofs.Common.{◌++◌, length, refl, ap, sym, ◌∙◌, subst, arith}
 use Rattle.std.proofs.lemmas.Bool.{ne_eqb}
@@ -17,8 +18,7 @@ use Rattle.rx_powerset.specs.Closures.{closed_rows}
 use Rattle.rx_stepper.specs.Leads.{lead_of, led, without, rows_by, written, written_as}
 use Rattle.rx_stepper.specs.Steps.{made, IsMadeKey}
 use Rattle.rx_stepper.proofs.Decisions.{closed_stands, firsts_twice}
-use Rattle.rx_stepper.proofs.KeyLaws.{AreClosed, IsWritten, WritesState, kept_written, key_written}
-use Rattle.rx_stepper.proofs.KeyLaws.{spelled_is}
+use Rattle.rx_stepper.proofs.KeyLaws.{AreClosed, IsWritten, WritesState, kept_written, key_written, spelled_is}
 use Rattle.rx_stepper.proofs.Members.{in_nil, was}
 use Rattle.rx_stepper.proofs.Without.{without_nil, without_none, without_old, without_new}
 use Rattle.rx_stepper.proofs.WrittenRows.{written_spells}
@@ -62,14 +62,7 @@ module _ {nfa : Nfa} {from own : List ℕ} {is_led : Bool} (w : WritesRows nfa f
       sym (ap (λ v. rows_by (lead_of nfa) v.is_led v.own) w.written) ∙ written_spells (lead_of nfa) closed
 
   are_closed : AreClosed nfa.rows closed
-  are_closed = record {
-    stand = closed_stands nfa.rows from;
-    ids =
-        every-weaker (λ q. q < id_count) (λ q. q ≤ max_id) closed (λ q h. omega arith)
-        (subst (Every (λ q. q < id_count)) rows_are
-        (every_by (λ q. q < id_count) (lead_of nfa) own is_led w.ids w.lead_ids));
-    once = firsts_twice _;
-  }
+  are_closed = grind (arith, common_steps, closed_stands, every-weaker, rows_are, every_by, firsts_twice)
 
   pub made_key : {asked : Facts} {label key : List ℕ} {bits : ℕ} → IsWritten bits (made nfa from asked label).context
       → Every (λ k. k ≤ max_id) label → length label < 2 ^ 32
@@ -88,16 +81,12 @@ module _ {nfa : Nfa} {from own : List ℕ} {is_led : Bool} (w : WritesRows nfa f
   dead_by : (b : Bool) (xs : List ℕ) (label : List ℕ) → rows_by (lead_of nfa) b xs ≡ closed
       → (b ≡ true → 0 < length (lead_of nfa))
       → ((length closed == 0) && (length label == 0)) ≡ (not b && (length xs == 0) && (length label == 0))
-  dead_by true xs label e some =
-      ap (λ t. t && (length label == 0))
-      (ap (λ l. length l == 0) (sym e) ∙ not_zero (length (led xs (lead_of nfa)))
-      (led_some (lead_of nfa) xs (some refl)))
+  dead_by true xs label e some = grind (arith, common_steps, not_zero, led_some)
   dead_by false xs label e some = ap (λ l. (length l == 0) && (length label == 0)) (sym e)
 
   pub dead_made : (asked : Facts) (label : List ℕ) → is_dead_state (made nfa from asked label)
       ≡ (not is_led && (length own == 0) && (length label == 0))
-  dead_made asked label = dead_by is_led own label rows_are
-      (λ t. led_somewhere (lead_of nfa) closed (w.written ∙ ap (λ b. written_as b own) t))
+  dead_made asked label = grind (arith, common_steps, dead_by, rows_are, led_somewhere)
 
   -- the key as it is written, from what its parts are found to be
   pub key_made : (group : ℕ) {label key : List ℕ} {bits : ℕ} → group ≡ bits_of (facts_with group)

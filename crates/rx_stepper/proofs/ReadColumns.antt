@@ -1,16 +1,14 @@
 -- The columns that rows read: each is named once, and more of them behind change no row's.
-use Rattle.std.proofs.Common.{◌≡◌, ℕ, zero, suc, ◌+◌, ◌<◌, ◌≤◌, ◌==◌, ◌⊎◌, inl, inr, ⊎_elim, Bool, true, false}
-use Rattle.std.proofs.Common.{List, []}
-use Rattle.std.proofs.Common.{◌∷◌, ◌++◌, Some, length, refl, ap, ap₂, sym, ◌∙◌, arith, append-nil}
-use Rattle.std.proofs.Common.{append_assoc, length-append, subst}
-use Rattle.std.proofs.Common.{map, get_or}
+use Rattle.std.proofs.lemmas.Grind.{common_steps}
+use Rattle.std.proofs.Common.{◌≡◌, ℕ, zero, suc, ◌+◌, ◌<◌, ◌≤◌, ◌==◌, ◌⊎◌, inl, inr, ⊎_elim, Bool, true, false, List}
+use Rattle.std.proofs.Common.{[], ◌∷◌, ◌++◌, Some, length, refl, ap, ap₂, sym, ◌∙◌, arith, append-nil, append_assoc}
+use Rattle.std.proofs.Common.{length-append, subst, map, get_or}
 use Rattle.std.specs.Prelude.{filter, slice_get, slice_index, All}
 use Rattle.std.specs.List.{range_with_len}
 use Rattle.std.proofs.lemmas.Bool.{cases_lt, eq-eqb, ne_eqb}
 use Rattle.std.proofs.lemmas.List.{get_or-map}
 use Rattle.std.proofs.lemmas.List.Elements.{filter-append}
 use Rattle.std.proofs.lemmas.List.FromFn.{length-range_with_len, get_or-range_with_len}
-use Rattle.rx_spec.specs.Bytes.{contains}
 use Rattle.rx_spec.specs.Rows.{Row}
 use Rattle.rx_spec.specs.States.{row_at, target}
 use Rattle.rx_spec.specs.declared.Unit.{Unit}
@@ -85,8 +83,7 @@ module _ (next : ℕ) (test : ℕ → Bool) (column : ℕ) where
 
 pub led_of : (row : Row) (units : List ℕ) (column : ℕ) → column < length units
     → led_by (next_of row) (columns_of row units) column ≡ target (slice_index units column) row
-led_of (Row.Bytes set next) units column h =
-    led_once next (λ c. contains set (slice_index units c)) column (length units) h
+led_of (Row.Bytes set next) units column h = grind (arith, common_steps, led_once)
 led_of (Row.Split first second) units column h = refl
 led_of (Row.Look look next) units column h = refl
 led_of (Row.Match pattern) units column h = refl
@@ -96,28 +93,19 @@ led_of Row.Fail units column h = refl
 pub column_pushed : (test : ℕ → Bool) (n : ℕ) (old : List ℕ) {before after : List ℕ}
     → before ≡ old ++ filter test (range_with_len 0 n) → test n ≡ true → after ≡ before ++ n ∷ []
     → after ≡ old ++ filter test (range_with_len 0 (n + 1))
-column_pushed test n old so_far read e =
-    e ∙ ap (λ l. l ++ n ∷ []) so_far ∙ append_assoc old (filter test (range_with_len 0 n)) (n ∷ [])
-    ∙ ap (λ l. old ++ l)
-    (ap (λ b. filter test (range_with_len 0 n) ++ only_if b (n ∷ [])) (sym read) ∙ sym (read_more test n))
+column_pushed test n old so_far read e = grind (arith, common_steps, append_assoc, read_more)
 
 pub column_passed : (test : ℕ → Bool) (n : ℕ) (old : List ℕ) {before after : List ℕ}
     → before ≡ old ++ filter test (range_with_len 0 n) → test n ≡ false → after ≡ before
     → after ≡ old ++ filter test (range_with_len 0 (n + 1))
-column_passed test n old so_far unread e =
-    e ∙ so_far
-    ∙ ap (λ l. old ++ l)
-    (sym (append-nil (filter test (range_with_len 0 n)))
-    ∙ ap (λ b. filter test (range_with_len 0 n) ++ only_if b (n ∷ [])) (sym unread) ∙ sym (read_more test n))
+column_passed test n old so_far unread e = grind (arith, common_steps, append-nil, read_more)
 
 pub unit_there : (units : List Unit) (column : ℕ) (d : Unit) → column < length units
     → slice_index (map unit_number units) column ≡ unit_number (get_or units column d)
 unit_there units column d h = get_or-map unit_number units column d 0 h
 
 pub range_few : (n : ℕ) → All (λ c. c < n) (range_with_len 0 n)
-range_few n k d h =
-    let l = length-range_with_len 0 n in
-    omega (arith, get_or-range_with_len 0 n k d (omega arith))
+range_few n k d h = grind (arith, common_steps, length-range_with_len, get_or-range_with_len)
 
 -- ---- all rows
 
@@ -142,12 +130,7 @@ reads_none {rows} {units} {columns} none = rw none (record { len = refl; each = 
 
 span_grown : {count : ℕ} {units before after : List ℕ} {row : Row} {s : ColumnSpan} → Grown count before after
     → IsRowSpan units before row s → IsRowSpan units after row s
-span_grown {s = s} grown is = record {
-  order = is.order;
-  within = omega (arith, is.within, grown.longer);
-  holds = grown.same s.start s.stop is.within ∙ is.holds;
-  leads = is.leads;
-}
+span_grown {s = s} grown is = grind (arith, common_steps)
 
 pub reads_more : {rows : List Row} {units : List ℕ} {i count : ℕ} {before after : List ℕ} {spans more : List ColumnSpan}
     {row : Row} {s : ColumnSpan} → ReadsBelow rows units i before spans → Grown count before after

@@ -1,26 +1,27 @@
 -- The searches that list a closure, with stamps for the rows that were met and a stack of those that wait.
-use Rattle.std.proofs.Common.{◌≡◌, ℕ, ◌+◌, ◌<◌, ◌≤◌, ◌==◌, ◌||◌, ◌⊎◌, inl, inr, Bool, true, false, not, if◌then◌else◌}
-use Rattle.std.proofs.Common.{List, [], ◌∷◌, ◌++◌, get_or, drop, reverse, length, refl, ap, ap₂, sym, ◌∙◌, subst, arith}
-use Rattle.std.proofs.Common.{append_assoc, append-nil, length-append, ⊎_elim}
+use Rattle.std.proofs.lemmas.Grind.{common_steps}
+use Rattle.std.proofs.Common.{◌≡◌, ℕ, ◌+◌, ◌<◌, ◌≤◌, ◌==◌, ◌||◌, ◌⊎◌, Bool, true, false, not, if◌then◌else◌, List, []}
+use Rattle.std.proofs.Common.{◌∷◌, ◌++◌, get_or, drop, reverse, length, refl, ap, sym, ◌∙◌, subst, arith, append_assoc}
+use Rattle.std.proofs.Common.{append-nil, length-append, ⊎_elim}
 use Rattle.std.proofs.Math.ListN.{drop_of_length-le}
 use Rattle.std.proofs.lemmas.Bool.{cases_lt, or_left, or_right, or_cases, eqb-true, eq-eqb}
 use Rattle.std.proofs.lemmas.List.{nil_from_length, drop_more}
 use Rattle.std.proofs.lemmas.List.Sums.{sum_by-cons}
 use Rattle.std.proofs.lemmas.Option.{slice_get_past}
 use Rattle.std.specs.Cmp.{both_ways}
-use Rattle.std.specs.Prelude.{unwrap_or, option_to_list, Option, Some, None, IfNone, MatchOption}
+use Rattle.std.specs.Prelude.{option_to_list, Option, Some, None, IfNone, MatchOption}
 use Rattle.std.specs.List.{flat_map, list_any, AllByRecursion as Every}
 use Rattle.rx_spec.specs.Causes.{id_count}
 use Rattle.rx_spec.specs.Rows.{Row}
 use Rattle.rx_spec.specs.Shallow.{IsShallow}
 use Rattle.rx_spec.specs.States.{Passing, row_at, closure, fresh}
 use Rattle.lemmas_walks.proofs.Every.{every-append, flat_map-append_of}
-use Rattle.lemmas_walks.proofs.Firsts.{by_test, fresh_alike, fresh_append, fresh_keeps}
-use Rattle.lemmas_walks.proofs.Firsts.{fresh_within, seen_if, seen_true}
-use Rattle.rx_powerset.specs.Closures.{own_by, branches_by, closed_rows}
+use Rattle.lemmas_walks.proofs.Firsts.{by_test, fresh_alike, fresh_append, fresh_keeps, fresh_within, seen_if}
+use Rattle.lemmas_walks.proofs.Firsts.{seen_true}
+use Rattle.rx_powerset.specs.Closures.{closed_rows}
 use Rattle.rx_powerset.proofs.Closures.{graph_of, closure_unfolds}
-use Rattle.rx_powerset.proofs.Search.{Graph, In, Listed, Notes, Searching, in_cases, in_nil}
-use Rattle.rx_powerset.proofs.Search.{search_passes, search_turns, search_ends}
+use Rattle.rx_powerset.proofs.Search.{Graph, In, Listed, Notes, Searching, in_cases, in_nil, search_passes}
+use Rattle.rx_powerset.proofs.Search.{search_turns, search_ends}
 use Rattle.rx_powerset.proofs.StackSearch.{popped}
 use Rattle.rx_stepper.specs.Searches.{IsSearched, ReachesItself, in_turn}
 use Rattle.rx_stepper.specs.Stamps.{is_met, unmet}
@@ -60,15 +61,7 @@ abbrev pub Flags : (seen after : ℕ → Bool) → ℕ → Type 0
 Flags seen after id = (x : ℕ) → after x ≡ ((x == id) || seen x)
 
 notes : (seen after : ℕ → Bool) (id : ℕ) → Flags seen after id → Notes seen after id
-notes seen after id only = record {
-  now = only id ∙ or_left (id == id) (seen id) (eq-eqb id id refl);
-  stays = λ x h. only x ∙ or_right (x == id) (seen x) h;
-  only =
-      λ x h. ⊎_elim
-      (λ (e : (x == id) ≡ true). inl (eqb-true x id e))
-      (λ (e : seen x ≡ true). inr e)
-      (or_cases (x == id) (seen x) (sym (only x) ∙ h));
-}
+notes seen after id only = grind (arith, common_steps, or_left, eq-eqb, or_right, eqb-true, or_cases)
 
 -- the row in front gives way to those behind it, or to none
 module _ (g : Graph) {target out before : List ℕ} (rest : List ℕ) (id : ℕ) where
@@ -125,23 +118,7 @@ module _ (rows : List Row) (pass : Passing) (shallow : IsShallow rows) {stamps f
   pub search_from : (row : ℕ) {stack : List ℕ} → IsSearched rows pass stamps now found → stack ≡ []
       → Searching (graph_of rows pass shallow) (found ++ fresh found (closure rows pass row)) (is_met stamps now) found
       (row ∷ reverse stack)
-  search_from row s none =
-      subst
-      (λ l.
-      Searching (graph_of rows pass shallow) (found ++ fresh found (closure rows pass row)) (is_met stamps now) found
-      (row ∷ reverse l))
-      (sym none)
-      (record {
-        whole = ap (λ l. found ++ fresh found l) (append-nil (closure rows pass row));
-        noted = s.met;
-        listed = λ p h. record {
-          above = [];
-          below = row ∷ [];
-          split = refl;
-          lighter = tt;
-          given = λ x k. inl (s.listed p h x k);
-        };
-      })
+  search_from row s none = grind (arith, common_steps, graph_of, append-nil)
 
   pub searched : {target : List ℕ} (hand : Option ℕ) (stack : List ℕ) → hand ≡ None → IfNone hand (stack ≡ [])
       → Searching (graph_of rows pass shallow) target (is_met stamps now) found (in_turn hand stack)
@@ -177,29 +154,7 @@ module _ (rows : List Row) (pass : Passing) (shallow : IsShallow rows) {stamps f
 
 pub itself_there : (rows : List Row) (shallow : IsShallow rows) (q : ℕ) (thin : ThinRow) {at_q : ThinRow}
     → IsThin (row_of_thin at_q) (row_at rows q) → thin ≡ at_q → is_end thin ≡ true → ReachesItself rows q
-itself_there rows shallow q thin {at_q} thinned e ends pass =
-    closure_unfolds rows pass shallow q
-    ∙ ap₂
-    (λ a b. a ++ flat_map (closure rows pass) b)
-    (sym (is.own pass q) ∙ own thin ends)
-    (sym (is.branches pass) ∙ none thin ends)
-  where
-    is : IsThin (row_of_thin thin) (row_at rows q)
-    is = subst (λ t. IsThin (row_of_thin t) (row_at rows q)) (sym e) thinned
-
-    own : (t : ThinRow) → is_end t ≡ true → own_by pass q (row_of_thin t) ≡ q ∷ []
-    own ThinRow.Bytes h = refl
-    own (ThinRow.Split first second) h = absurd (cc)
-    own (ThinRow.Look look next) h = absurd (cc)
-    own (ThinRow.Match pattern) h = refl
-    own ThinRow.Fail h = absurd (cc)
-
-    none : (t : ThinRow) → is_end t ≡ true → branches_by pass (row_of_thin t) ≡ []
-    none ThinRow.Bytes h = refl
-    none (ThinRow.Split first second) h = absurd (cc)
-    none (ThinRow.Look look next) h = absurd (cc)
-    none (ThinRow.Match pattern) h = refl
-    none ThinRow.Fail h = absurd (cc)
+itself_there rows shallow q thin {at_q} thinned e ends pass = grind (arith, common_steps, closure_unfolds)
 
 fresh_nil : (seen : List ℕ) → fresh seen [] ≡ []
 unfolding fresh
@@ -248,63 +203,34 @@ module _ (rows : List Row) (pass : Passing) {stamps more found : List ℕ} {now 
       → first ≡ not (is_met stamps now q) → first ≡ true → Flags (is_met stamps now) (is_met more later) q
       → unmet more later + 1 ≡ unmet stamps now → out ≡ found ++ q ∷ [] → IsSearched rows pass stamps now found
       → (out ≡ found ++ fresh found (closure rows pass q)) × IsSearched rows pass more later out
-  itself_new alone bound f new only count e s = (
-    e ∙ sym (ap (λ l. found ++ fresh found l) (alone pass)
-        ∙ ap (λ l. found ++ l) (fresh_new found q unlisted)),
-    subst (IsSearched rows pass more later) (sym e) (record {
-      met =
-          λ x h. ⊎_elim
-          (λ (k : In found x). n.stays x (s.met x k))
-          (λ (k : In (q ∷ []) x). ⊎_elim
-          (λ (i : x ≡ q). subst (λ r. is_met more later r ≡ true) (sym i) n.now)
-          (λ (i : In [] x). absurd (in_nil x i))
-          (in_cases q x [] k))
-          (in_split found (q ∷ []) x h);
-      listed =
-          λ p h x k. ⊎_elim
-          (λ (i : p ≡ q). in_right found (q ∷ []) x
-          (subst (λ l. In l x) (ap (closure rows pass) i ∙ alone pass) k))
-          (λ (i : is_met stamps now p ≡ true). in_left found (q ∷ []) x (s.listed p i x k))
-          (n.only p h);
-      ids = every-append (λ x. x < id_count) found (q ∷ []) s.ids (bound, tt);
-      room = omega (arith, count, s.room, length-append found (q ∷ []));
-    }),
-  )
-    where
-      n : Notes (is_met stamps now) (is_met more later) q
-      n = notes (is_met stamps now) (is_met more later) q only
-
-      clash : {b : Bool} → b ≡ true → b ≡ false → ⊥
-      clash e f = cc
-
-      unlisted : was found q ≡ false
-      unlisted = not_in found q (λ h. clash (s.met q h) (not_true (is_met stamps now q) f new))
+  itself_new alone bound f new only count e s =
+      grind (
+        arith,
+        common_steps,
+        fresh_new,
+        in_nil,
+        in_cases,
+        in_split,
+        in_right,
+        in_left,
+        every-append,
+        length-append,
+        notes,
+        was,
+        not_in,
+        not_true,
+      )
 
 -- ---- the rows that are given, one after the other
 
 -- past the last row nothing is reached
 past_end : (rows : List Row) (pass : Passing) → IsShallow rows → (q : ℕ) → length rows ≤ q → closure rows pass q ≡ []
-past_end rows pass shallow q h =
-    let none : row_at rows q ≡ Row.Fail = ap (λ o. unwrap_or o Row.Fail) (slice_get_past rows q h) in
-    closure_unfolds rows pass shallow q
-    ∙ ap (λ row. own_by pass q row ++ flat_map (closure rows pass) (branches_by pass row)) none
+past_end rows pass shallow q h = grind (arith, common_steps, slice_get_past, closure_unfolds)
 
 pub begun : (rows : List Row) (pass : Passing) (shallow : IsShallow rows) (stamps : List ℕ) {out : List ℕ} (now : ℕ)
     → length stamps ≡ length rows → out ≡ [] → ((x : ℕ) → x < length stamps → is_met stamps now x ≡ false)
     → IsSearched rows pass stamps now out
-begun rows pass shallow stamps now len none new = subst (IsSearched rows pass stamps now) (sym none) (record {
-  met = λ x h. absurd (in_nil x h);
-  listed = λ p h x k. absurd (in_nil x (subst (λ l. In l x) (past_end rows pass shallow p (past p h)) k));
-  ids = tt;
-  room = omega (arith, unmet_within stamps now, len);
-})
-  where
-    past : (x : ℕ) → is_met stamps now x ≡ true → length rows ≤ x
-    past x h =
-        ⊎_elim
-        (λ (lt : x < length stamps). absurd (let f = new x lt in cc))
-        (λ (le : length stamps ≤ x). subst (λ n. n ≤ x) len le)
-        (cases_lt x (length stamps))
+begun rows pass shallow stamps now len none new = grind (arith, common_steps, in_nil, past_end, unmet_within, cases_lt)
 
 -- what is new in two lists is new in the first, and then in the second
 fresh_parts : (out xs ys : List ℕ)
@@ -346,18 +272,10 @@ module _ (rows : List Row) (pass : Passing) (found : List ℕ) {target : List �
   pub next_given : (q : ℕ) {more : List ℕ} → i < length from → q ≡ get_or from i q
       → more ≡ found ++ fresh found (closure rows pass q)
       → Leaves rows pass found (drop i from) target → Leaves rows pass more (drop (i + 1) from) target
-  next_given q {more} h is e s =
-      let front = drop_more from i q h ∙ ap (λ x. x ∷ drop (i + 1) from) (sym is) in
-      subst
-      (λ l. Leaves rows pass l (drop (i + 1) from) target)
-      (sym e)
-      (sym (fresh_parts found (closure rows pass q) (flat_map (closure rows pass) (drop (i + 1) from)))
-      ∙ subst (λ l. Leaves rows pass found l target) front s)
+  next_given q {more} h is e s = grind (arith, common_steps, drop_more, fresh_parts)
 
   pub all_given : length from ≤ i → Leaves rows pass found (drop i from) target → found ≡ target
-  all_given h s =
-      sym (ap (λ l. found ++ l) (fresh_nil found) ∙ append-nil found)
-      ∙ subst (λ l. Leaves rows pass found l target) (drop_of_length-le from h) s
+  all_given h s = grind (arith, common_steps, fresh_nil, append-nil, drop_of_length-le)
 
 -- what two lists add, one after the other, is what both reach
 pub both_given : (rows : List Row) (pass : Passing) {out more found : List ℕ} (xs ys : List ℕ) → out ≡ []

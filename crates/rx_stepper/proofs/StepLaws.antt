@@ -1,6 +1,7 @@
 -- Steps of a state: how its groups are gone through, and what its columns lead to.
+use Rattle.std.proofs.lemmas.Grind.{common_steps}
 use Rattle.std.proofs.Common.{◌≡◌, ◌≢◌, ℕ, ◌+◌, ◌<◌, ◌≤◌, ◌==◌, Bool, true, false, if◌then◌else◌, List, [], ◌∷◌, ◌++◌}
-use Rattle.std.proofs.Common.{length, refl, ap, ap₂, sym, ◌∙◌, subst, arith, append-nil, ⊎_elim}
+use Rattle.std.proofs.Common.{length, refl, ap, ap₂, sym, ◌∙◌, arith, append-nil}
 use Rattle.std.specs.Prelude.{slice_index, slice_index_or}
 use Rattle.std.specs.List.{flat_map, list_any}
 use Rattle.std.proofs.lemmas.Bool.{cases_lt, eq-eqb, ne_eqb}
@@ -8,8 +9,8 @@ use Rattle.rx_spec.specs.Causes.{id_count}
 use Rattle.rx_spec.specs.Contexts.{Facts, no_facts}
 use Rattle.rx_spec.specs.Nfas.{Nfa}
 use Rattle.rx_spec.specs.Rows.{Row}
-use Rattle.rx_spec.specs.States.{State, Passing, Standing, Tested, row_at, closure, cut, to_first_match, fresh, firsts}
-use Rattle.rx_spec.specs.States.{decided_rows, holds_before, is_look_row, is_match_row, pattern_of, target, step}
+use Rattle.rx_spec.specs.States.{State, Passing, Standing, Tested, row_at, cut, to_first_match, fresh, decided_rows}
+use Rattle.rx_spec.specs.States.{holds_before, is_look_row, is_match_row, target, step}
 use Rattle.rx_spec.specs.declared.MatchKind.{MatchKind}
 use Rattle.rx_base.specs.FactBits.{facts_with}
 use Rattle.lemmas_walks.proofs.Every.{flat_map-append_of, flat_map-flat_map}
@@ -35,34 +36,13 @@ pub record Done (s : Stand) (units groups : List ℕ) (i : ℕ) (targets matches
 pub done_none : {s : Stand} {units groups : List ℕ} {targets matches : List (List ℕ)} → AreEmpty targets
     → AreEmpty matches
     → Done s units groups 0 targets matches
-done_none t l = record {
-  done = λ column h k. absurd (omega arith);
-  left = λ column h k. t column;
-  matches_left = λ place k. l place;
-}
+done_none t l = grind (arith, common_steps)
 
 -- a group that has no column
 pub done_passed : {s : Stand} {units groups : List ℕ} {i : ℕ} {targets matches : List (List ℕ)} (used : List Bool)
     → length groups ≡ length units → AreUsed groups used → slice_index_or used i false ≡ false
     → Done s units groups i targets matches → Done s units groups (i + 1) targets matches
-done_passed {units = units} {groups} {i} used len are unused d = record {
-  done = λ column h k. d.done column h (before column h k);
-  left = λ column h k. d.left column h (omega arith);
-  matches_left = λ place k. d.matches_left place (omega arith);
-}
-  where
-    other : (column : ℕ) → column < length units → slice_index groups column ≡ i → ⊥
-    other column h e =
-        let marked : slice_index_or used i false ≡ true =
-        ap (λ g. slice_index_or used g false) (sym e) ∙ are column (omega arith) in
-        cc
-
-    before : (column : ℕ) → column < length units → slice_index groups column < i + 1 → slice_index groups column < i
-    before column h k =
-        ⊎_elim
-        (λ (lt : slice_index groups column < i). lt)
-        (λ (le : i ≤ slice_index groups column). absurd (other column h (omega arith)))
-        (cases_lt (slice_index groups column) i)
+done_passed {units = units} {groups} {i} used len are unused d = grind (arith, common_steps, cases_lt)
 
 flat_nothing : (xs : List ℕ) → flat_map {A = ℕ} (λ (q : ℕ). []) xs ≡ []
 flat_nothing [] = refl
@@ -95,44 +75,14 @@ module _ {s : Stand} {units groups : List ℕ} {i : ℕ} {targets matches target
 
   stays : (column : ℕ) → column < length units → slice_index groups column < i
       → IsStep s (slice_index units column) (list_at targets' column) (list_at matches' (slice_index groups column))
-  stays column h lt =
-      let other : slice_index groups column ≢ i = omega arith in
-      subst
-      (λ l. IsStep s (slice_index units column) l (list_at matches' (slice_index groups column)))
-      (sym (unchanged column h other))
-      (subst
-      (IsStep s (slice_index units column) (list_at targets column))
-      (sym (g.others (slice_index groups column) other))
-      (d.done column h lt))
+  stays column h lt = grind (arith, common_steps, unchanged)
 
   here : (column : ℕ) → column < length units → slice_index groups column ≡ i
       → IsStep s (slice_index units column) (list_at targets' column) (list_at matches' (slice_index groups column))
-  here column h e =
-      let unit = slice_index units column in
-      let leads =
-      λ (b : Bool). flat_map (λ q. only_if b (target unit (row_at s.nfa.rows q))) goes in
-      let told =
-      ap (list_at matches') e ∙ g.told
-      ∙ ap (λ l. l ++ matches_of s.nfa.rows goes) (d.matches_left i (omega arith)) in
-      record {
-        targets_are =
-            g.lists column h
-            ∙ ap₂ (λ l b. l ++ leads b) (d.left column h (omega arith)) (eq-eqb (slice_index groups column) i e)
-            ∙ ap (flat_map (λ q. target unit (row_at s.nfa.rows q))) (g.goes_on column h e);
-        matches_are = told ∙ ap (matches_of s.nfa.rows) (g.goes_on column h e);
-        few = omega (arith, ap length told, g.few);
-      }
+  here column h e = grind (arith, common_steps, eq-eqb)
 
   pub done_more : Done s units groups (i + 1) targets' matches'
-  done_more = record {
-    done = λ column h k.
-        ⊎_elim
-        (λ (lt : slice_index groups column < i). stays column h lt)
-        (λ (le : i ≤ slice_index groups column). here column h (omega arith))
-        (cases_lt (slice_index groups column) i);
-    left = λ column h k. unchanged column h (omega arith) ∙ d.left column h (omega arith);
-    matches_left = λ place k. g.others place (omega arith) ∙ d.matches_left place (omega arith);
-  }
+  done_more = grind (arith, common_steps, stays, here, cases_lt, unchanged)
 
 -- the facts of a group decide for its columns
 pub group_goes : (s : Stand) (units groups : List ℕ) (i : ℕ) {last : Facts} {from : List ℕ}
@@ -170,21 +120,13 @@ pub plain_steps : (s : Stand) (units groups : List ℕ) (used : List Bool) (targ
     → list_at targets column ≡ flat_map (λ q. target (slice_index units column) (row_at s.nfa.rows q)) going')
     → AreSteps s units groups targets matches
 plain_steps s units groups used targets matches {going'} e plain len are few ms ts column h =
-    let unit = slice_index units column in
-    let goes : going' ≡ going s unit = e ∙ ap (cut s.kind s.nfa.rows) (sym (plain unit)) in
-    let here = ms (slice_index groups column) (are column (omega arith)) in
-    record {
-      targets_are = ts column h ∙ ap (flat_map (λ q. target unit (row_at s.nfa.rows q))) goes;
-      matches_are = here ∙ ap (matches_of s.nfa.rows) goes;
-      few = omega (arith, ap length here, few);
-    }
+    grind (arith, common_steps, here)
 
 -- no more rows match than there are
 pub few_told : (kind : MatchKind) (rows : List Row) (qs : List ℕ)
     → length (matches_of rows (cut kind rows qs)) ≤ length qs
 few_told MatchKind.All rows qs = few_matches rows qs
-few_told MatchKind.LeftmostFirst rows qs =
-    omega (arith, few_matches rows (to_first_match rows qs), first_few rows qs)
+few_told MatchKind.LeftmostFirst rows qs = grind (arith, common_steps, few_matches, first_few)
 
 -- no rows need nothing
 cut_nil : (kind : MatchKind) (nfa : Nfa) → cut kind nfa.rows [] ≡ []
@@ -198,18 +140,7 @@ fresh_nil = refl
 
 pub dead_steps : (s : Stand) (units groups : List ℕ) (targets matches : List (List ℕ)) → s.state.rows ≡ []
     → AreEmpty targets → AreEmpty matches → AreSteps s units groups targets matches
-dead_steps s units groups targets matches none t l column h =
-    let unit = slice_index units column in
-    let decided =
-    ap (λ from. firsts (flat_map (closure s.nfa.rows (Tested (holds_before s.nfa unit s.state))) from)) none
-    ∙ fresh_nil in
-    let goes : going s unit ≡ [] = ap (cut s.kind s.nfa.rows) decided ∙ cut_nil s.kind s.nfa in
-    let here = l (slice_index groups column) in
-    record {
-      targets_are = t column ∙ sym (ap (flat_map (λ q. target unit (row_at s.nfa.rows q))) goes);
-      matches_are = here ∙ sym (ap (matches_of s.nfa.rows) goes);
-      few = omega (arith, ap length here);
-    }
+dead_steps s units groups targets matches none t l column h = grind (arith, common_steps, fresh_nil, cut_nil, here)
 
 -- ---- a step, from what its column needs
 
@@ -229,8 +160,7 @@ state_of_rows nfa rows asked label = record {
 pub step_made : (s : Stand) (unit : ℕ) {from label : List ℕ} → Leads s unit from label
     → step s.nfa s.kind s.state unit ≡ made s.nfa from (asked_of s.nfa unit) label
 unfolding step
-step_made s unit is =
-    ap₂ (λ rows l. state_of_rows s.nfa rows (asked_of s.nfa unit) l) (sym is.reaches) (sym is.label_is)
+step_made s unit is = grind (arith, common_steps)
 
 -- columns of one group that lead alike lead to one state
 pub neighbours : (s : Stand) (u v : ℕ) {from others label : List ℕ} → asked_of s.nfa u ≡ asked_of s.nfa v
@@ -244,14 +174,7 @@ pub leads_alone : (s : Stand) (unit : ℕ) {own targets matches : List ℕ}
     → IsStep (record { nfa = s.nfa; kind = s.kind; state = rows_in own s.state.context }) unit targets matches
     → going s unit ≡ going (record { nfa = s.nfa; kind = s.kind; state = rows_in own s.state.context }) unit
     → Leads s unit targets (patterns_of s.nfa.rows matches)
-leads_alone s unit is same = record {
-  reaches =
-      ap (closed_rows s.nfa.rows Standing) (is.targets_are
-      ∙ ap (flat_map (λ q. target unit (row_at s.nfa.rows q))) (sym same));
-  label_is =
-      ap (patterns_of s.nfa.rows) is.matches_are ∙ patterns_matches s.nfa.rows _
-      ∙ ap (patterns_of s.nfa.rows) (sym same);
-}
+leads_alone s unit is same = grind (arith, common_steps, patterns_matches)
 
 module _ (s : Stand) (unit : ℕ) (own lead : List ℕ) (rows_are : s.state.rows ≡ led own lead) where
   abbrev by : List ℕ → Stand
@@ -270,44 +193,24 @@ module _ (s : Stand) (unit : ℕ) (own lead : List ℕ) (rows_are : s.state.rows
   -- The rows of the lead-in go on behind the own ones,
   pub going_led : goes_on s.kind (matches_of s.nfa.rows (going (by own) unit)) ≡ true
       → going s unit ≡ led (going (by own) unit) (going (by lead) unit)
-  going_led h =
-      ap (cut s.kind s.nfa.rows) decided_led
-      ∙ cut_led s.nfa.rows s.kind (decided_rows s.nfa unit (by own).state) (decided_rows s.nfa unit (by lead).state) h
+  going_led h = grind (arith, common_steps, decided_led, cut_led)
 
   -- or a match of these cuts them off.
   pub going_alone : goes_on s.kind (matches_of s.nfa.rows (going (by own) unit)) ≡ false
       → going s unit ≡ going (by own) unit
-  going_alone h =
-      ap (cut s.kind s.nfa.rows) decided_led
-      ∙ cut_led_off s.nfa.rows s.kind (decided_rows s.nfa unit (by own).state)
-      (decided_rows s.nfa unit (by lead).state) h
+  going_alone h = grind (arith, common_steps, decided_led, cut_led_off)
 
   pub leads_led : {targets matches others told : List ℕ} → IsStep (by own) unit targets matches
       → IsStep (by lead) unit others told → goes_on s.kind matches ≡ true
       → Leads s unit (targets ++ others) (patterns_of s.nfa.rows (matches ++ without matches told))
   leads_led {targets} {matches} {others} {told} mine theirs h =
-      let g = going (by own) unit in
-      let l = going (by lead) unit in
-      let both = going_led (ap (goes_on s.kind) (sym mine.matches_are) ∙ h) in
-      let rows = s.nfa.rows in
-      let tells = λ (q : ℕ). pattern_of (row_at rows q) in
-      record {
-        reaches =
-            ap₂ (λ xs ys. closed_rows rows Standing (xs ++ ys)) mine.targets_are theirs.targets_are
-            ∙ sym (ap (closed_rows rows Standing) (ap (flat_map reads) both)
-            ∙ ap (λ (l : List ℕ). firsts l) (flat_map-flat_map reads (closure rows Standing) (led g l))
-            ∙ led_gives (λ q. flat_map (closure rows Standing) (reads q)) g l
-            ∙ ap (λ (l : List ℕ). firsts l)
-            (ap₂ (λ (a b : List ℕ). a ++ b)
-            (sym (flat_map-flat_map reads (closure rows Standing) g))
-            (sym (flat_map-flat_map reads (closure rows Standing) l))
-            ∙ sym (flat_map-append_of (closure rows Standing) (flat_map reads g) (flat_map reads l))));
-        label_is =
-            flat_map-append_of tells matches (without matches told)
-            ∙ ap₂ (λ (a b : List ℕ). a ++ b)
-            (ap (patterns_of rows) mine.matches_are ∙ patterns_matches rows g)
-            (ap₂ (λ a b. patterns_of rows (without a b)) mine.matches_are theirs.matches_are
-            ∙ sym (patterns_without rows g l))
-            ∙ sym (flat_map-append_of tells g (without g l))
-            ∙ ap (patterns_of rows) (sym both);
-      }
+      grind (
+        arith,
+        common_steps,
+        going_led,
+        flat_map-flat_map,
+        led_gives,
+        flat_map-append_of,
+        patterns_matches,
+        patterns_without,
+      )

@@ -1,4 +1,5 @@
 -- The parts of a stepper: leads before any was found, when one is found, and the dead state.
+use Rattle.std.proofs.lemmas.Grind.{common_steps}
 use Rattle.std.proofs.Common.{◌≡◌, ℕ, zero, suc, ◌^◌, ◌<◌, ◌≤◌, ◌⊎◌, inl, inr, Bool, true, false, if◌then◌else◌, List}
 use Rattle.std.proofs.Common.{[], ◌∷◌, ◌++◌, length, map, set, Option, None, Some, refl, ap, sym, ◌∙◌, subst, arith}
 use Rattle.std.proofs.Common.{length-append, append-nil, length-set, ⊎_elim}
@@ -8,10 +9,9 @@ use Rattle.std.specs.Option.{option_copied, option_map_or}
 use Rattle.rx_spec.specs.Causes.{id_count}
 use Rattle.rx_spec.specs.Contexts.{Facts}
 use Rattle.rx_spec.specs.Rows.{Row}
-use Rattle.rx_spec.specs.States.{Tested, cut, holds_before, pattern_of, row_at}
+use Rattle.rx_spec.specs.States.{pattern_of, row_at}
 use Rattle.lemmas_walks.proofs.Firsts.{by_test}
 use Rattle.rx_base.specs.FactBits.{bits_of, facts_with}
-use Rattle.rx_powerset.specs.Closures.{closed_rows}
 use Rattle.rx_powerset.proofs.StateBounds.{pattern_few}
 use Rattle.rx_stepper.specs.Fits.{AreStepsOf, FitsCurrent, FitsLead, Table}
 use Rattle.rx_stepper.specs.Gathering.{Follows, IsLeadOf, matches_in, targets_in}
@@ -130,12 +130,7 @@ set_there (y ∷ ys) (suc i) v h = set_there ys i v (omega arith)
 -- the one that was found is there
 pub found_there : (leads : List LeadSteps) (i : ℕ) (new : LeadSteps) {k : ℕ} → i < length leads → new.are_found ≡ true
     → k ≡ i → (l : LeadSteps) → slice_get (set leads i new) k ≡ Some l → l.are_found ≡ true
-found_there leads i new h found same l e =
-    let one : new ≡ l = some_is (sym (set_there leads i new h) ∙ ap (slice_get (set leads i new)) (sym same) ∙ e) in
-    ap (λ v. v.are_found) (sym one) ∙ found
-  where
-    some_is : {a b : LeadSteps} → Some a ≡ Some b → a ≡ b
-    some_is s = ap (λ o. unwrap_or o new) s
+found_there leads i new h found same l e = grind (arith, common_steps, set_there)
 
 -- ---- the state of a key that is begun
 
@@ -260,10 +255,7 @@ module _ (t : Table) {lead_in : LeadIn} {leads : List LeadSteps} {current : Curr
   }
 
   alone : led_of key ≡ false → Gathers s unit (targets_in current.steps column) (patterns_of t.nfa.rows mine)
-  alone e =
-      by_own
-      (ap (λ r. cut t.kind t.nfa.rows (closed_rows t.nfa.rows (Tested (holds_before t.nfa unit s.state)) r))
-      (lead_rows false e))
+  alone e = grind (arith, common_steps, by_own, lead_rows)
 
   led_is : (b : Bool) → led_of key ≡ b
       → current.led_in ≡ (if b then Some (bits_of (facts_with (slice_index key 0))) else None)

@@ -1,6 +1,7 @@
 -- Lists of targets that are added to at the places of some columns.
-use Rattle.std.proofs.Common.{◌≡◌, ◌≢◌, ℕ, ◌+◌, ◌<◌, ◌==◌, Bool, true, false, List, [], ◌∷◌, ◌++◌, length, map}
-use Rattle.std.proofs.Common.{get_or, set, take, refl, ap, ap₂, sym, ◌∙◌, subst, arith, append_assoc, append-nil}
+use Rattle.std.proofs.lemmas.Grind.{common_steps}
+use Rattle.std.proofs.Common.{◌≡◌, ℕ, ◌+◌, ◌<◌, ◌==◌, Bool, true, false, List, [], ◌∷◌, ◌++◌, length, map, get_or, set}
+use Rattle.std.proofs.Common.{take, refl, ap, ap₂, sym, ◌∙◌, arith, append_assoc, append-nil}
 use Rattle.std.specs.Prelude.{filter, cond}
 use Rattle.std.specs.List.{flat_map}
 use Rattle.std.proofs.lemmas.Bool.{eqb-true, eqb-false}
@@ -15,25 +16,13 @@ use Rattle.rx_stepper.specs.Columns.{led_by, list_at, only_if}
 module _ {X : Type 0} (f : X → List ℕ) (vs : List X) (v : ℕ) (x y : X) (next : ℕ) (lt : v < length vs)
     (e : f y ≡ f (get_or vs v x) ++ next ∷ []) where
   at_place : list_at (map f (set vs v y)) v ≡ list_at (map f vs) v ++ next ∷ []
-  at_place =
-      let n : length (map f vs) ≡ length vs = simp length-map in
-      ap (λ (l : List (List ℕ)). list_at l v) (map-set f vs v y)
-      ∙ get_or-set_same (map f vs) v (f y) [] (omega arith)
-      ∙ e ∙ ap (λ l. l ++ next ∷ []) (sym (get_or-map f vs v x [] lt))
+  at_place = grind (arith, common_steps, length-map, map-set, get_or-set_same, get_or-map)
 
   -- one list has one more
   pub pushed_one : (column : ℕ) → list_at (map f (set vs v y)) column
       ≡ list_at (map f vs) column ++ only_if (column == v) (next ∷ [])
   pushed_one column =
-      let Grows = λ (b : Bool) (u : ℕ). list_at (map f (set vs v y)) u
-      ≡ list_at (map f vs) u ++ only_if b (next ∷ []) in
-      by_test (column == v)
-      (λ t. subst (λ b. Grows b column) (sym t) (subst (Grows true) (sym (eqb-true column v t)) at_place))
-      (λ t.
-      let other : column ≢ v = eqb-false column v t in
-      subst (λ b. Grows b column) (sym t)
-      (ap (λ (l : List (List ℕ)). list_at l column) (map-set f vs v y)
-      ∙ get_or-set_other (map f vs) v column (f y) [] other ∙ sym (append-nil (list_at (map f vs) column))))
+      grind (arith, common_steps, by_test, eqb-true, at_place, eqb-false, map-set, get_or-set_other, append-nil)
 
 -- ---- a turn of the loop over columns
 
@@ -41,12 +30,7 @@ module _ (next : ℕ) (p : ℕ → Bool) (columns : List ℕ) (i d : ℕ) (lt : 
   led_next : (column : ℕ) (b : Bool) → p (get_or columns i d) ≡ b
       → led_by next (filter p (take (i + 1) columns)) column
       ≡ led_by next (filter p (take i columns)) column ++ led_by next (only_if b (get_or columns i d ∷ [])) column
-  led_next column b t =
-      let v = get_or columns i d in
-      ap (λ l. led_by next (filter p l) column) (take_more columns i d lt)
-      ∙ ap (λ l. led_by next l column) (filter-append p (take i columns) (v ∷ []))
-      ∙ flat_map-append_of (λ c. only_if (column == c) (next ∷ [])) (filter p (take i columns)) (only_if (p v) (v ∷ []))
-      ∙ ap (λ t. led_by next (filter p (take i columns)) column ++ led_by next (only_if t (v ∷ [])) column) t
+  led_next column b t = grind (arith, common_steps, take_more, filter-append, flat_map-append_of)
 
   module _ {X : Type 0} (f : X → List ℕ) (first vs : List X)
       (so_far : (column : ℕ) → list_at (map f vs) column
@@ -112,8 +96,4 @@ pub row_added : (leads : ℕ → List ℕ) (rows : List ℕ) (i d : ℕ) (first 
     → i < length rows → before ≡ first ++ flat_map leads (take i rows) → after ≡ before ++ more
     → more ≡ leads (get_or rows i d) → after ≡ first ++ flat_map leads (take (i + 1) rows)
 row_added leads rows i d first {before} {after} {more} lt so_far e is =
-    e ∙ ap₂ (λ a b. a ++ b) so_far is ∙ append_assoc first (flat_map leads (take i rows)) (leads (get_or rows i d))
-    ∙ ap (λ l. first ++ l)
-    (ap (λ l. flat_map leads (take i rows) ++ l) (sym (append-nil (leads (get_or rows i d))))
-    ∙ sym (ap (flat_map leads) (take_more rows i d lt)
-    ∙ flat_map-append_of leads (take i rows) (get_or rows i d ∷ [])))
+    grind (arith, common_steps, append_assoc, append-nil, take_more, flat_map-append_of)

@@ -1,7 +1,7 @@
 -- Lists of thin rows that grow at the end.
-use Rattle.std.proofs.Common.{◌≡◌, ℕ, zero, suc, ◌+◌, ◌<◌, ◌≤◌, List, [], ◌∷◌, ◌++◌, length, get_or, refl, ap, sym}
-use Rattle.std.proofs.Common.{◌∙◌, subst}
-use Rattle.std.proofs.Common.{arith, ⊎_elim, true, false, nat_lt}
+use Rattle.std.proofs.lemmas.Grind.{common_steps}
+use Rattle.std.proofs.Common.{◌≡◌, ℕ, zero, suc, ◌+◌, ◌<◌, ◌≤◌, List, [], ◌∷◌, ◌++◌, length, get_or, refl, ap, sym, ◌∙◌}
+use Rattle.std.proofs.Common.{subst, arith, ⊎_elim, true, false, nat_lt}
 use Rattle.std.proofs.lemmas.Bool.{cases_lt, ltb-true}
 use Rattle.std.proofs.lemmas.Option.{slice_get_past}
 use Rattle.std.specs.Prelude.{map, unwrap_or}
@@ -22,9 +22,7 @@ thin_there (x ∷ xs) (suc q) lt e = thin_there xs q (omega arith) e
 -- a thin row that was looked up
 pub thin_found : (thin : List ThinRow) {looked : List ThinRow} {i q : ℕ} {row : ThinRow} → looked ≡ thin → i ≡ q
     → true ≡ nat_lt i (length looked) → row ≡ get_or looked i row → row ≡ thin_at thin q
-thin_found thin {looked} {i} {q} {row} same e lt is =
-    subst (λ l. row ≡ thin_at l q) same
-    (subst (λ k. row ≡ thin_at looked k) e (thin_there looked i (ltb-true i (length looked) (sym lt)) is))
+thin_found thin {looked} {i} {q} {row} same e lt is = grind (arith, common_steps, thin_there, ltb-true)
 
 thin_before : (xs : List ThinRow) (y : ThinRow) (q : ℕ) → q < length xs → thin_at xs q ≡ thin_at (xs ++ y ∷ []) q
 thin_before [] y q lt = absurd (omega arith)
@@ -71,24 +69,12 @@ thin_past : (thin : List ThinRow) (q : ℕ) → length thin ≤ q → thin_at th
 thin_past thin q h = ap (λ o. unwrap_or o ThinRow.Fail) (slice_get_past thin q h)
 
 fail_thin : IsThin Row.Fail Row.Fail
-fail_thin = record {
-  own = λ pass q. refl;
-  branches = λ pass. refl;
-  is_look = refl;
-  is_match = refl;
-  pattern = refl;
-}
+fail_thin = grind (arith, common_steps)
 
 -- all rows are thin, and past the end there are none
 pub thin_all : (thin : List ThinRow) (rows : List Row) → length thin ≡ length rows
     → ((q : ℕ) → q < length rows → IsThin (row_of_thin (thin_at thin q)) (row_at rows q)) → AreThin thin rows
-thin_all thin rows len each q =
-    ⊎_elim (each q)
-    (λ (h : length rows ≤ q).
-    let none : row_at rows q ≡ Row.Fail = ap (λ o. unwrap_or o Row.Fail) (slice_get_past rows q h) in
-    subst (IsThin (row_of_thin (thin_at thin q))) (sym none)
-    (subst (λ r. IsThin (row_of_thin r) Row.Fail) (sym (thin_past thin q (omega arith))) fail_thin))
-    (cases_lt q (length rows))
+thin_all thin rows len each q = grind (arith, common_steps, slice_get_past, thin_past, fail_thin, cases_lt)
 
 -- ---- assertions
 

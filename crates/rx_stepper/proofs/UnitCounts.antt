@@ -1,6 +1,7 @@
 -- There are as many units as columns.
-use Rattle.std.proofs.Common.{◌≡◌, ℕ, zero, suc, ◌+◌, ◌≤◌, ◌==◌, Bool, not, if◌then◌else◌, List, [], ◌∷◌}
-use Rattle.std.proofs.Common.{length, refl, ap, sym, ◌∙◌, arith, length-append}
+use Rattle.std.proofs.lemmas.Grind.{common_steps}
+use Rattle.std.proofs.Common.{◌≡◌, ℕ, zero, suc, ◌+◌, ◌≤◌, ◌==◌, Bool, not, if◌then◌else◌, List, [], ◌∷◌, length, refl}
+use Rattle.std.proofs.Common.{ap, sym, ◌∙◌, arith, length-append}
 use Rattle.std.specs.Prelude.{slice_index}
 use Rattle.std.proofs.lemmas.Bool.{eqb-true, eqb-false}
 use Rattle.rx_spec.specs.Bytes.{eoi}
@@ -20,10 +21,7 @@ unfolding class_by
 class_first ends = refl
 
 risen : (a b : ℕ) → a ≤ b → b ≤ a + 1 → a + (if not (a == b) then 1 else 0) ≡ b
-risen a b low high =
-    by_test (a == b)
-    (λ e. let same = eqb-true a b e in rw e (omega arith))
-    (λ e. let other = eqb-false a b e in rw e (omega arith))
+risen a b low high = grind (arith, common_steps, by_test, eqb-true, eqb-false)
 
 -- each class is the number of those that end below
 class_number : (classes : List ℕ) → AreClasses classes → (b : ℕ) → b ≤ 255

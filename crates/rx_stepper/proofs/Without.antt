@@ -1,4 +1,5 @@
 -- A list without the members of another, and first occurrences of joined lists.
+use Rattle.std.proofs.lemmas.Grind.{common_steps}
 use Rattle.std.proofs.Common.{◌≡◌, ℕ, ◌+◌, ◌==◌, Bool, true, false, List, [], ◌∷◌, ◌++◌, length, refl, ap, sym, ◌∙◌}
 use Rattle.std.proofs.Common.{subst, arith, append-nil, ⊎_elim, ◌||◌, sum_by}
 use Rattle.std.proofs.lemmas.Bool.{or_left, eqb-true, eqb-false, eq-eqb}
@@ -8,9 +9,8 @@ use Rattle.std.specs.Prelude.{Contains}
 use Rattle.std.specs.List.{flat_map}
 use Rattle.rx_spec.specs.States.{fresh, firsts}
 use Rattle.lemmas_walks.proofs.Every.{flat_map-append_of}
-use Rattle.lemmas_walks.proofs.Firsts.{by_test, fresh_append, fresh_alike, fresh_within}
-use Rattle.lemmas_walks.proofs.Firsts.{fresh_keeps, Apart, Contains-here}
-use Rattle.lemmas_walks.proofs.Firsts.{Contains-nil, Contains-there, seen_true, seen_if}
+use Rattle.lemmas_walks.proofs.Firsts.{by_test, fresh_append, fresh_alike, fresh_within, fresh_keeps, Apart}
+use Rattle.lemmas_walks.proofs.Firsts.{Contains-here, Contains-nil, Contains-there, seen_true, seen_if}
 use Rattle.rx_base.specs.FactBits.{bit}
 use Rattle.rx_stepper.specs.Leads.{without, led}
 use Rattle.rx_stepper.proofs.Members.{In, in_cases, in_nil, was, in_here, in_there, in_left, in_right, in_split, not_in}
@@ -53,8 +53,7 @@ without_alike seen others (y ∷ ys) same =
     ∙ sym (without_new others ys y (sym (same y) ∙ e)))
 
 out_both : (xs ys : List ℕ) (x : ℕ) → was xs x ≡ false → was ys x ≡ false → was (xs ++ ys) x ≡ false
-out_both xs ys x e f =
-    not_in (xs ++ ys) x (λ h. ⊎_elim (λ (a : In xs x). cc) (λ (b : In ys x). cc) (in_split xs ys x h))
+out_both xs ys x e f = grind (arith, common_steps, not_in, in_split)
 
 pub without_append : (a b xs : List ℕ) → without (a ++ b) xs ≡ without b (without a xs)
 without_append a b [] = without_nil (a ++ b) ∙ sym (ap (without b) (without_nil a) ∙ without_nil b)
@@ -124,9 +123,7 @@ without_keeps seen (y ∷ ys) x i new =
 -- ---- first occurrences
 
 seen_again : (y : ℕ) (seen : List ℕ) → In seen y → (x : ℕ) → was seen x ≡ was (y ∷ seen) x
-seen_again y seen e x =
-    both_ways (was seen x) (was (y ∷ seen) x) (λ h. in_there y x seen h)
-    (λ h. ⊎_elim (λ (s : x ≡ y). subst (In seen) (sym s) e) (λ (o : In seen x). o) (in_cases y x seen h))
+seen_again y seen e x = grind (arith, common_steps, was, in_there, in_cases)
 
 -- where more was seen
 fresh_without : (a seen xs : List ℕ) → fresh (a ++ seen) xs ≡ without seen (fresh a xs)
@@ -171,11 +168,7 @@ fresh_left out seen (y ∷ ys) h =
     ∙ sym (fresh_new out ys y o)))
 
 firsts_led : (own lead : List ℕ) → firsts (led own lead) ≡ firsts (own ++ lead)
-firsts_led own lead =
-    fresh_append [] own (without own lead)
-    ∙ ap (λ (l : List ℕ). firsts own ++ fresh l (without own lead)) (append-nil own)
-    ∙ ap (λ (l : List ℕ). firsts own ++ l) (fresh_left own own lead (λ x i. i))
-    ∙ sym (fresh_append [] own lead ∙ ap (λ (l : List ℕ). firsts own ++ fresh l lead) (append-nil own))
+firsts_led own lead = grind (arith, common_steps, fresh_append, append-nil, fresh_left)
 
 fresh_passes : (seen xs ys : List ℕ) → ((x : ℕ) → In xs x → In seen x) → fresh seen (xs ++ ys) ≡ fresh seen ys
 fresh_passes seen [] ys h = refl
@@ -255,8 +248,7 @@ without_one x (y ∷ ys) a =
 
 pub length_without : (own lead : List ℕ) → Apart own → Apart lead
     → length (without own lead) + sum_by (λ x. bit (was lead x)) own ≡ length lead
-length_without [] lead a b =
-    omega (arith, ap length (without_none [] lead (λ x i j. in_nil x j)))
+length_without [] lead a b = grind (arith, common_steps, without_none, in_nil)
 length_without (x ∷ own) lead a b =
     let less = without (x ∷ []) lead in
     let counted : sum_by (λ y. bit (was less y)) own ≡ sum_by (λ y. bit (was lead y)) own =

@@ -1,6 +1,7 @@
 -- Rows as they are written: the own ones are the least, and there is one way.
-use Rattle.std.proofs.Common.{◌≡◌, ℕ, ◌<◌, true, false, if◌then◌else◌, List, [], ◌∷◌, ◌++◌, length}
-use Rattle.std.proofs.Common.{refl, ap, ap₂, sym, ◌∙◌, subst, arith, append-nil, append_assoc, ⊎_elim}
+use Rattle.std.proofs.lemmas.Grind.{common_steps}
+use Rattle.std.proofs.Common.{◌≡◌, ℕ, ◌<◌, true, false, if◌then◌else◌, List, [], ◌∷◌, ◌++◌, length, refl, ap, ap₂, sym}
+use Rattle.std.proofs.Common.{◌∙◌, subst, arith, append-nil, append_assoc, ⊎_elim}
 use Rattle.std.proofs.lemmas.Bool.{false_from_ne_true}
 use Rattle.std.proofs.lemmas.Slice.Eq.{bytes_eq-Decides}
 use Rattle.std.specs.Str.{bytes_eq}
@@ -25,19 +26,12 @@ split_more lead front rest x = refl
 -- what follows is what the lead-in adds
 pub split_here : (lead front rows : List ℕ) → without front lead ≡ rows
     → split_by lead front rows ≡ written_as true front
-split_here lead front [] e =
-    split_end lead front
-    ∙ ap (λ b. written_as b front) ((bytes_eq-Decides (without front lead) []).1 e)
-split_here lead front (x ∷ rest) e =
-    split_more lead front rest x
-    ∙ ap (λ b. if b then written_as true front else split_by lead (front ++ x ∷ []) rest)
-    ((bytes_eq-Decides (without front lead) (x ∷ rest)).1 e)
+split_here lead front [] e = grind (arith, common_steps, split_end, bytes_eq-Decides)
+split_here lead front (x ∷ rest) e = grind (arith, common_steps, split_more, bytes_eq-Decides)
 
 pub split_later : (lead front rest : List ℕ) (x : ℕ) → bytes_eq (without front lead) (x ∷ rest) ≡ false
     → split_by lead front (x ∷ rest) ≡ split_by lead (front ++ x ∷ []) rest
-split_later lead front rest x e =
-    split_more lead front rest x
-    ∙ ap (λ b. if b then written_as true front else split_by lead (front ++ x ∷ []) rest) e
+split_later lead front rest x e = grind (arith, common_steps, split_more)
 
 pub split_nowhere : (lead front : List ℕ) → bytes_eq (without front lead) [] ≡ false
     → split_by lead front [] ≡ written_as false front
@@ -48,10 +42,7 @@ split_nowhere lead front e = split_end lead front ∙ ap (λ b. written_as b fro
 pub split_spells : (lead front rows : List ℕ)
     → rows_by lead (split_by lead front rows).is_led (split_by lead front rows).own ≡ front ++ rows
 split_spells lead front [] =
-    by_test (bytes_eq (without front lead) [])
-    (λ e. let same = (bytes_eq-Decides (without front lead) []).0 e in
-    ap (λ w. rows_by lead w.is_led w.own) (split_here lead front [] same) ∙ ap (λ l. front ++ l) same)
-    (λ e. ap (λ w. rows_by lead w.is_led w.own) (split_nowhere lead front e) ∙ sym (append-nil front))
+    grind (arith, common_steps, by_test, bytes_eq-Decides, split_here, split_nowhere, append-nil)
 split_spells lead front (x ∷ rest) =
     by_test (bytes_eq (without front lead) (x ∷ rest))
     (λ e. let same = (bytes_eq-Decides (without front lead) (x ∷ rest)).0 e in
@@ -69,20 +60,11 @@ written_spells (x ∷ lead) rows = split_spells (x ∷ lead) [] rows
 apart_from : (lead front rows : List ℕ) (q : ℕ) → In lead q → was (front ++ rows) q ≡ false
     → bytes_eq (without front lead) rows ≡ false
 apart_from lead front rows q i new =
-    false_from_ne_true (bytes_eq (without front lead) rows)
-    (λ h. let same = (bytes_eq-Decides (without front lead) rows).0 h in
-    clash (subst (λ l. In l q) same (without_keeps front lead q i (not_in front q (λ f. clash_left f)))))
-  where
-    clash : In rows q → ⊥
-    clash j = let t : was (front ++ rows) q ≡ true = in_right front rows q j in cc
-
-    clash_left : In front q → ⊥
-    clash_left j = let t : was (front ++ rows) q ≡ true = in_left front rows q j in cc
+    grind (arith, common_steps, false_from_ne_true, bytes_eq-Decides, without_keeps, not_in, was, in_right, in_left)
 
 pub split_missing : (lead front rows : List ℕ) (q : ℕ) → In lead q → was (front ++ rows) q ≡ false
     → split_by lead front rows ≡ written_as false (front ++ rows)
-split_missing lead front [] q i new =
-    split_nowhere lead front (apart_from lead front [] q i new) ∙ ap (written_as false) (sym (append-nil front))
+split_missing lead front [] q i new = grind (arith, common_steps, split_nowhere, apart_from, append-nil)
 split_missing lead front (x ∷ rest) q i new =
     split_later lead front rest x (apart_from lead front (x ∷ rest) q i new)
     ∙ split_missing lead (front ++ x ∷ []) rest q i
@@ -135,9 +117,7 @@ no_shorter lead p ys y {q} e a least w =
 
 pub split_least : (lead front rest own : List ℕ) → own ≡ front ++ rest → Apart own → IsLeast lead own
     → split_by lead front (rest ++ without own lead) ≡ written_as true own
-split_least lead front [] own e a least =
-    let same : front ≡ own = sym (e ∙ append-nil front) in
-    split_here lead front (without own lead) (ap (λ l. without l lead) same) ∙ ap (written_as true) same
+split_least lead front [] own e a least = grind (arith, common_steps, append-nil, split_here)
 split_least lead front (x ∷ rest) own e a least =
     by_test (bytes_eq (without front lead) ((x ∷ rest) ++ without own lead))
     (λ b. absurd (no_shorter lead front rest x e a least
@@ -154,8 +134,7 @@ written_least (x ∷ lead) own h a least = split_least (x ∷ lead) [] own own r
 
 pub dropped : (lead front : List ℕ) (x : ℕ) → without front lead ≡ x ∷ without (front ++ x ∷ []) lead
     → led front lead ≡ led (front ++ x ∷ []) lead
-dropped lead front x e =
-    ap (λ (l : List ℕ). front ++ l) e ∙ sym (append_assoc front (x ∷ []) (without (front ++ x ∷ []) lead))
+dropped lead front x e = grind (arith, common_steps, append_assoc)
 
 -- that is so where all that stands before it in the lead-in's rows stands in front of it
 pub comes_again : (front before behind : List ℕ) (x : ℕ) → Apart (front ++ x ∷ []) → Apart (before ++ x ∷ behind)

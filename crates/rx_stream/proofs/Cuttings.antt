@@ -1,6 +1,6 @@
 -- A text cut into pieces.
-use Rattle.std.proofs.Common.{◌≡◌, ℕ, ◌<◌, Some, None, Option}
-use Rattle.std.proofs.Common.{List, [], ◌∷◌, ◌++◌, drop, refl, ap, sym, ◌∙◌}
+use Rattle.std.proofs.Common.{arith, ◌≡◌, ℕ, ◌<◌, Some, None, List, [], ◌∷◌, ◌++◌, drop, refl, ap, sym, ◌∙◌}
+use Rattle.std.proofs.lemmas.Grind.{common_steps}
 use Rattle.std.proofs.Math.Seq.{drop-length}
 use Rattle.std.proofs.lemmas.List.{append-nil}
 use Rattle.std.proofs.lemmas.List.Elements.{All-append, All-head, All-tail, All-nil}
@@ -10,7 +10,7 @@ use Rattle.rx_spec.specs.Bytes.{AreBytes}
 use Rattle.rx_spec.specs.Overlapping.{Item, Ending}
 use Rattle.rx_spec.specs.Tables.{Table}
 use Rattle.rx_stream.specs.Remaining.{events, ending_events, told_over, units_to, remaining, now}
-use Rattle.rx_stream.specs.Calls.{IsFed, with_event}
+use Rattle.rx_stream.specs.Calls.{IsFed}
 use Rattle.rx_stream.specs.Cuttings.{Feeds, Finishes, CutTellsWhole, CutTellsNow, QuitIsLast, QuitTellsNoMore}
 use Rattle.rx_stream.specs.declared.event.Fed.{Fed}
 use Rattle.rx_stream.specs.declared.place.Place.{Place}
@@ -27,32 +27,20 @@ module _ {t : Table} {ids : List ℕ} {old new : Place} {piece : List ℕ} {from
     (is : IsFed t ids old new piece from fed) where
   pub silent_call : fed.event ≡ None → (more : List ℕ) → AreBytes more
       → remaining t ids old (drop from piece ++ more) ≡ remaining t ids new more
-  silent_call none more are =
-      is.tells more are
-      ∙ ap (λ (event : Option StreamEvent). with_event event (remaining t ids new (drop fed.used piece ++ more))) none
-      ∙ ap (λ (n : ℕ). remaining t ids new (drop n piece ++ more)) (is.over none)
-      ∙ ap (λ (xs : List ℕ). remaining t ids new (xs ++ more)) (drop-length piece)
+  silent_call none more are = grind (arith, common_steps, drop-length)
 
   pub silent_now : fed.event ≡ None → (more : List ℕ) → AreBytes more
       → now t ids old (drop from piece ++ more) ≡ now t ids new more
-  silent_now none more are =
-      is.tells_now more are
-      ∙ ap (λ (event : Option StreamEvent). with_event event (now t ids new (drop fed.used piece ++ more))) none
-      ∙ ap (λ (n : ℕ). now t ids new (drop n piece ++ more)) (is.over none)
-      ∙ ap (λ (xs : List ℕ). now t ids new (xs ++ more)) (drop-length piece)
+  silent_now none more are = grind (arith, common_steps, drop-length)
 
   pub told_call : {event : StreamEvent} → fed.event ≡ Some event → (more : List ℕ) → AreBytes more
       → remaining t ids old (drop from piece ++ more)
       ≡ event ∷ remaining t ids new (drop fed.used piece ++ more)
-  told_call some more are =
-      is.tells more are
-      ∙ ap (λ (e : Option StreamEvent). with_event e (remaining t ids new (drop fed.used piece ++ more))) some
+  told_call some more are = grind (arith, common_steps)
 
   pub told_now : {event : StreamEvent} → fed.event ≡ Some event → (more : List ℕ) → AreBytes more
       → now t ids old (drop from piece ++ more) ≡ event ∷ now t ids new (drop fed.used piece ++ more)
-  told_now some more are =
-      is.tells_now more are
-      ∙ ap (λ (e : Option StreamEvent). with_event e (now t ids new (drop fed.used piece ++ more))) some
+  told_now some more are = grind (arith, common_steps)
 
 -- what all calls tell and leave
 pub fed_tells : {t : Table} {ids : List ℕ} {old new : Place} {piece : List ℕ} {from : ℕ} {pieces : List (List ℕ)}
@@ -69,8 +57,7 @@ fed_tells {t} {ids} (Feeds.Told old here new piece from fed pieces event events 
 pub fed_now : {t : Table} {ids : List ℕ} {old new : Place} {piece : List ℕ} {from : ℕ} {pieces : List (List ℕ)}
     {fed : List StreamEvent} → Feeds t ids old piece from pieces fed new → All AreBytes pieces
     → now t ids old (drop from piece ++ concat pieces) ≡ fed
-fed_now {t} {ids} (Feeds.Last old new piece from fed is none) all =
-    ap (now t ids old) (append-nil (drop from piece)) ∙ is.on_time none
+fed_now {t} {ids} (Feeds.Last old new piece from fed is none) all = grind (arith, common_steps, append-nil)
 fed_now (Feeds.Next old here new piece next from fed pieces events is none later) all =
     silent_now is none (concat (next ∷ pieces)) (joined_bytes (next ∷ pieces) all)
     ∙ fed_now later (All-tail AreBytes next pieces all)

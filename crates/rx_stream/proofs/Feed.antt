@@ -1,6 +1,7 @@
 -- What a call of `feed` tells and leaves.
-use Rattle.std.proofs.Common.{◌≡◌, ℕ, ◌+◌, ◌-◌, ◌≤◌, true, Some, None, Option, List, [], ◌∷◌, ◌++◌, length, drop}
-use Rattle.std.proofs.Common.{refl, ap, sym, ◌∙◌, subst, arith}
+use Rattle.std.proofs.lemmas.Grind.{common_steps}
+use Rattle.std.proofs.Common.{◌≡◌, ℕ, ◌+◌, ◌-◌, ◌≤◌, true, Some, None, Option, List, [], ◌∷◌, ◌++◌, length, drop, refl}
+use Rattle.std.proofs.Common.{ap, sym, ◌∙◌, subst, arith}
 use Rattle.std.proofs.Math.Seq.{drop-length}
 use Rattle.std.proofs.lemmas.List.{append-nil, append_assoc}
 use Rattle.std.specs.Prelude.{slice_index}
@@ -9,7 +10,7 @@ use Rattle.rx_spec.specs.Ids.{row_of}
 use Rattle.rx_spec.specs.Machines.{IsWord}
 use Rattle.rx_spec.specs.Queries.{HalfMatch}
 use Rattle.rx_spec.specs.Tables.{Table}
-use Rattle.lemmas_walks.proofs.Words.{IsWord-nil, IsWord-cons, IsWord-append}
+use Rattle.lemmas_walks.proofs.Words.{IsWord-nil}
 use Rattle.rx_search.specs.Labels.{patterns_of}
 use Rattle.rx_search.proofs.Standing.{Standing}
 use Rattle.rx_stream.specs.Remaining.{events, told_over, pending, units_to, now_at}
@@ -22,8 +23,7 @@ use Rattle.rx_stream.specs.declared.place.Stage.{Stage}
 use Rattle.rx_stream.proofs.Remaining.{IsRead, bytes_word, reads_pattern, reads_match, reads_quit, reads_all}
 
 pub ended_word : (bytes : List ℕ) → AreBytes bytes → IsWord (bytes ++ (eoi ∷ []))
-ended_word bytes are =
-    IsWord-append bytes (eoi ∷ []) (bytes_word bytes are) (IsWord-cons eoi [] (omega arith) IsWord-nil)
+ended_word bytes are = grind (arith, common_steps, bytes_word)
 
 pub open_stage : (s : Stage) → is_open s ≡ true → s ≡ Stage.Open
 open_stage Stage.Open e = refl
@@ -78,14 +78,7 @@ pub fed_pattern : {t : Table} {ids : List ℕ} {old new : Place} {found : HalfMa
     → old.stage ≡ Stage.Open → from ≤ length piece → IsNextPattern t ids old new (Some found)
     → IsFed t ids old new piece from (record { used = from; event = Some (StreamEvent.Match found) })
 fed_pattern {t} {ids} {old} {new} {found} {piece} {from} was_open h is =
-    fed_by (record {
-      low = omega arith;
-      high = h;
-      was_open = was_open;
-      still_open = ap (λ (place : Place). place.stage) is.0 ∙ was_open;
-      taken = ap (λ (place : Place). place.taken + from) is.0;
-      over = λ e. absurd (cc);
-    }) (reads_pattern t ids piece from is)
+    grind (arith, common_steps, fed_by, reads_pattern)
 
 open_here : {old here : Place} → old.stage ≡ Stage.Open → here ≡ old → here.stage ≡ Stage.Open
 open_here was_open same = ap (λ (place : Place). place.stage) same ∙ was_open

@@ -1,5 +1,6 @@
 -- What a call of `finish` tells and leaves.
-use Rattle.std.proofs.Common.{◌≡◌, ℕ, ◌+◌, true, false, Some, None, List, [], ◌∷◌, refl, ap, sym, ◌∙◌, subst}
+use Rattle.std.proofs.Common.{arith, ◌≡◌, ℕ, ◌+◌, true, false, Some, None, List, [], ◌∷◌, refl, ap, sym, ◌∙◌, subst}
+use Rattle.std.proofs.lemmas.Grind.{common_steps}
 use Rattle.rx_spec.specs.Bytes.{eoi}
 use Rattle.rx_spec.specs.Ids.{row_of}
 use Rattle.rx_spec.specs.Queries.{HalfMatch}
@@ -22,11 +23,6 @@ use Rattle.rx_stream.proofs.Pieces.{walk_turns}
 use Rattle.rx_stream.proofs.Remaining.{none_pending, pattern_told}
 
 -- ---- stages
-
-closed_not_open : (s : Stage) → is_open (closed s) ≡ false
-closed_not_open Stage.Open = refl
-closed_not_open Stage.Closed = refl
-closed_not_open Stage.Ended = refl
 
 ended_not_open : (s : Stage) → is_ended s ≡ true → is_open s ≡ false
 ended_not_open Stage.Open e = absurd (cc)
@@ -60,32 +56,11 @@ module _ (t : Table) (ids : List ℕ) (old : Place) where
   remains : remaining t ids old [] ≡ remaining t ids (closed_place old) []
   remains = ap (λ (units : List ℕ). events (told_over t ids old units)) (sym (same_units old.stage))
 
-  -- a pattern of the row that is left
-  pub finish_pattern : {new : Place} {found : HalfMatch} → IsNextPattern t ids (closed_place old) new (Some found)
-      → IsFinished t ids old new (Some (StreamEvent.Match found))
-  finish_pattern {new} {found} is = record {
-    is_closed = ap (λ (place : Place). is_open place.stage) is.0 ∙ closed_not_open old.stage;
-    taken = ap (λ (place : Place). place.taken) is.0;
-    tells =
-        remains ∙ pattern_told t ids (closed_place old) new is (units_to (closed old.stage) [])
-        ∙ ap (λ (place : Place). StreamEvent.Match found
-        ∷ events (told_over t ids new (units_to place.stage []))) (sym is.0);
-    none = λ e. absurd (cc);
-  }
-
   -- none is left, and the end mark is read
   pub finish_over : {new : Place} → IsNextPattern t ids (closed_place old) new None → is_ended new.stage ≡ true
       → IsFinished t ids old new None
-  finish_over {new} is ended = record {
-    is_closed = ended_not_open new.stage ended;
-    taken = ap (λ (place : Place). place.taken) is.0;
-    tells = remains ∙ ap (λ (place : Place). remaining t ids place []) (sym is.0);
-    none = λ e.
-        let stage = sym (ap (λ (place : Place). is_ended place.stage) is.0) ∙ ended in
-        ap (λ (units : List ℕ). events (told_over t ids old units)) (no_unit old.stage stage)
-        ∙ ap events (none_pending t ids old is.1 []
-        ∙ overlapping-nil t.machine Direction.Forward (row_of ids old.row) old.taken);
-  }
+  finish_over {new} is ended =
+      grind (arith, common_steps, ended_not_open, remains, no_unit, none_pending, overlapping-nil)
 
 -- ---- the end mark
 
@@ -116,11 +91,7 @@ module _ {t : Table} {ids : List ℕ} {old : Place} {next : ℕ} (r : ReadsEnd t
       (sym (no_patterns (t.machine.label (row_of ids next)) is)))
 
   end_remains : remaining t ids old [] ≡ remaining t ids (end_place next old.taken) []
-  end_remains =
-      ap (λ (units : List ℕ). events (told_over t ids old units)) (end_mark old.stage r.goes_on)
-      ∙ ap events (none_pending t ids old r.none (eoi ∷ []) ∙ end_told
-      ∙ ap (with_items (pattern_items (patterns_of t (row_of ids next)) old.taken))
-      (sym (overlapping-nil t.machine Direction.Forward (row_of ids next) old.taken)))
+  end_remains = grind (arith, common_steps, end_mark, none_pending, end_told, overlapping-nil)
 
   -- its row tells a pattern
   end_found : {new : Place} {found : HalfMatch} → IsNextPattern t ids (end_place next old.taken) new (Some found)

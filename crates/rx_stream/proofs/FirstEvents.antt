@@ -1,6 +1,6 @@
 -- The first event, and a half search that stops at the first match.
-use Rattle.std.proofs.Common.{◌≡◌, ℕ, ◌+◌, ◌<◌, true, if◌then◌else◌, None, Ok}
-use Rattle.std.proofs.Common.{List, [], ◌∷◌, refl, ap, sym, ◌∙◌}
+use Rattle.std.proofs.Common.{arith, ◌≡◌, ℕ, ◌+◌, ◌<◌, true, if◌then◌else◌, None, Ok, List, [], ◌∷◌, refl, ap, sym, ◌∙◌}
+use Rattle.std.proofs.lemmas.Grind.{common_steps}
 use Rattle.rx_spec.specs.Machines.{Label, IsWord}
 use Rattle.rx_spec.specs.HalfSearches.{at_label, last_match, walk, units_of}
 use Rattle.rx_spec.specs.Overlapping.{Ending, none_left, at_item_label, overlapping_walk}
@@ -20,9 +20,7 @@ use Rattle.rx_stream.proofs.New.{not_done}
 first_walk : {t : Table} → IsTable t → (row offset : ℕ) (units : List ℕ) → row < t.size → IsWord units
     → walk t.machine Direction.Forward true row offset None units
     ≡ first_answer (events (overlapping_walk t.machine Direction.Forward row offset units))
-first_walk {t} is row offset [] below w =
-    walk-nil t.machine Direction.Forward true row offset None
-    ∙ ap (λ m. first_answer (events m)) (sym (overlapping-nil t.machine Direction.Forward row offset))
+first_walk {t} is row offset [] below w = grind (arith, common_steps, walk-nil, overlapping-nil)
 first_walk {t} is row offset (unit ∷ units) below w =
     walk-cons t.machine Direction.Forward true row unit offset None units
     ∙ by_label (t.machine.label next) refl

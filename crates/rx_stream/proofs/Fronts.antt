@@ -1,8 +1,8 @@
 -- What is told before the end is a front of what is told, and from dead nothing is told.
-use Rattle.std.proofs.Common.{◌≡◌, ℕ, ◌+◌, Bool, true, false, if◌then◌else◌}
-use Rattle.std.proofs.Common.{List, [], ◌∷◌, ◌++◌, refl, ap, sym, ◌∙◌, subst}
+use Rattle.std.proofs.Common.{arith, ◌≡◌, ℕ, ◌+◌, Bool, true, false, if◌then◌else◌, List, [], ◌∷◌, ◌++◌, refl, ap, sym}
+use Rattle.std.proofs.Common.{◌∙◌, subst}
+use Rattle.std.proofs.lemmas.Grind.{common_steps, flat_map-append}
 use Rattle.std.proofs.lemmas.List.{append-nil, append_assoc}
-use Rattle.std.proofs.lemmas.Grind.{flat_map-append}
 use Rattle.std.specs.List.{flat_map}
 use Rattle.rx_spec.specs.Bytes.{eoi}
 use Rattle.rx_spec.specs.Ids.{row_of}
@@ -15,7 +15,7 @@ use Rattle.lemmas_walks.proofs.Overlapping.{overlapping-nil, overlapping-cons, o
 use Rattle.lemmas_walks.proofs.SilentRows.{zero_is_silent}
 use Rattle.lemmas_walks.proofs.Words.{IsWord-nil}
 use Rattle.rx_search.specs.Labels.{patterns_of, label_patterns}
-use Rattle.rx_stream.specs.Remaining.{events, item_events, ending_events, told_over, pending, units_to, now_at}
+use Rattle.rx_stream.specs.Remaining.{events, item_events, told_over, pending, units_to, now_at}
 use Rattle.rx_stream.specs.Cuttings.{NowIsFront, DeadTellsNothing}
 use Rattle.rx_stream.specs.Pieces.{walked}
 use Rattle.rx_stream.specs.declared.place.Stage.{Stage}
@@ -25,9 +25,7 @@ use Rattle.rx_stream.proofs.Feed.{ended_word}
 
 events_items : (items : List Item) (m : OverlappingMatches)
     → events (with_items items m) ≡ flat_map item_events items ++ events m
-events_items items m =
-    ap (λ (es : List StreamEvent). es ++ ending_events m.ending) (flat_map-append item_events items m.items)
-    ∙ append_assoc (flat_map item_events items) (flat_map item_events m.items) (ending_events m.ending)
+events_items items m = grind (arith, common_steps, flat_map-append, append_assoc)
 
 abbrev IsFront : List StreamEvent → List StreamEvent → Type 0
 IsFront front all = (later : List StreamEvent) × (all ≡ front ++ later)
@@ -37,12 +35,7 @@ whole_front es = ([], sym (append-nil es))
 
 items_front : (items : List Item) (a b : OverlappingMatches) → IsFront (events a) (events b)
     → IsFront (events (with_items items a)) (events (with_items items b))
-items_front items a b front = (
-  front.0,
-  events_items items b ∙ ap (λ (es : List StreamEvent). flat_map item_events items ++ es) front.1
-      ∙ sym (append_assoc (flat_map item_events items) (events a) front.0)
-      ∙ ap (λ (es : List StreamEvent). es ++ front.0) (sym (events_items items a)),
-)
+items_front items a b front = grind (arith, common_steps, events_items, append_assoc)
 
 walk_front : (t : Table) (row offset : ℕ) (units more : List ℕ)
     → IsFront (events (walked t row offset units)) (events (walked t row offset (units ++ more)))

@@ -1,11 +1,10 @@
 -- What a new searcher tells of a whole text.
-use Rattle.std.proofs.Common.{◌≡◌, ℕ, ◌-◌, false, Option, List, [], ◌∷◌, ◌++◌, length, take}
-use Rattle.std.proofs.Common.{refl, ap, sym, ◌∙◌, arith}
+use Rattle.std.proofs.lemmas.Grind.{common_steps}
+use Rattle.std.proofs.Common.{◌≡◌, ℕ, ◌-◌, false, List, [], ◌∷◌, ◌++◌, refl, ap, sym, ◌∙◌, arith}
 use Rattle.std.proofs.Math.Seq.{take-length}
 use Rattle.std.proofs.lemmas.Bool.{false_from_ne_true, ltb-true}
 use Rattle.std.proofs.lemmas.Option.{slice_get_past}
-use Rattle.std.specs.Prelude.{slice_get, nat_lt}
-use Rattle.rx_spec.specs.Bytes.{eoi, unit_of}
+use Rattle.rx_spec.specs.Bytes.{eoi}
 use Rattle.rx_spec.specs.Ids.{row_of}
 use Rattle.rx_spec.specs.Queries.{Anchored, is_done}
 use Rattle.rx_spec.specs.HalfSearches.{units_of}
@@ -24,16 +23,11 @@ use Rattle.rx_stream.specs.declared.place.Stage.{Stage}
 use Rattle.rx_stream.proofs.Remaining.{none_pending}
 
 pub not_done : (bytes : List ℕ) (mode : Anchored) → is_done (whole bytes mode) ≡ false
-not_done bytes mode =
-    false_from_ne_true (nat_lt (length bytes) 0) (λ h. omega (arith, ltb-true (length bytes) 0 h))
+not_done bytes mode = grind (arith, common_steps, false_from_ne_true, ltb-true)
 
 -- all units of a whole text
 whole_units : (bytes : List ℕ) (mode : Anchored) → units_of Direction.Forward (whole bytes mode) ≡ bytes ++ (eoi ∷ [])
-whole_units bytes mode =
-    let all : length bytes - 0 ≡ length bytes = omega arith in
-    ap (λ (xs : List ℕ). xs ++ (unit_of (slice_get bytes (length bytes)) ∷ []))
-    (ap (λ (n : ℕ). take n bytes) all ∙ take-length bytes)
-    ∙ ap (λ (byte : Option ℕ). bytes ++ (unit_of byte ∷ [])) (slice_get_past bytes (length bytes) (omega arith))
+whole_units bytes mode = grind (arith, common_steps, take-length, slice_get_past)
 
 pub is_new : {t : Table} {ids : List ℕ} {mode : Anchored} (row : ℕ) → Standing t (row_of ids row)
     → IsStart t Direction.Forward (whole [] mode) (row_of ids row)

@@ -1,4 +1,5 @@
 -- Walks over a piece of a text, whatever follows it.
+use Rattle.std.proofs.lemmas.Grind.{common_steps}
 use Rattle.std.proofs.Common.{◌≡◌, ℕ, suc, zero, ◌+◌, ◌-◌, ◌<◌, ◌≤◌, ◌==◌, Bool, true, false, if◌then◌else◌, Some, None}
 use Rattle.std.proofs.Common.{List, ◌∷◌, ◌++◌, length, take, drop, refl, ap, sym, ◌∙◌, subst, arith, length-drop}
 use Rattle.std.proofs.Math.Seq.{drop-length, take-length}
@@ -21,8 +22,7 @@ use Rattle.rx_search.proofs.Overlaps.{patterns_left}
 use Rattle.rx_search.specs.Passing.{row_on, Leads}
 use Rattle.rx_search.specs.Starts.{IsId}
 use Rattle.rx_search.proofs.Walks.{IsQuiet, Turn, loops, ordinary, quiet, unread_quiet}
-use Rattle.rx_stream.specs.Pieces.{walked, HaltsAt, IsMetBy, IsPassedBy, IsQuietWalk, IsSkip}
-use Rattle.rx_stream.specs.Pieces.{MeetsMatch, MeetsQuit}
+use Rattle.rx_stream.specs.Pieces.{walked, HaltsAt, IsMetBy, IsPassedBy, IsQuietWalk, IsSkip, MeetsMatch, MeetsQuit}
 use Rattle.rx_stream.specs.declared.walk.Halt.{Halt}
 
 -- ---- a unit
@@ -41,23 +41,13 @@ pub walk_turns : {t : Table} {row unit next : ℕ} → Turn t row unit next → 
     {label : Label} {dead : Bool} → t.machine.label next ≡ label → t.machine.is_dead next ≡ dead
     → walked t row offset (unit ∷ units) ≡ on_label t next unit offset units label dead
 walk_turns {t} {row} {unit} {next} turn offset units {label} {dead} e f =
-    overlapping-cons t.machine Direction.Forward row unit offset units
-    ∙ ap (overlapping_on t.machine Direction.Forward unit offset units) (sym turn.leads)
-    ∙ ap (λ (l : Label). on_label t next unit offset units l (t.machine.is_dead next)) e
-    ∙ ap (on_label t next unit offset units label) f
+    grind (arith, common_steps, overlapping-cons, overlapping_on)
 
 -- ---- walks that tell nothing
 
 pub walk_begins : (t : Table) (row : ℕ) (piece : List ℕ) (from : ℕ) → from ≤ length piece
     → IsQuietWalk t row piece from row from
-walk_begins t row piece from h = record {
-  low = omega arith;
-  high = h;
-  quiet = λ is. refl;
-  goes_on = λ offset more w.
-      let same : offset ≡ offset + (from - from) = omega arith in
-      ap (λ (o : ℕ). walked t row o (drop from piece ++ more)) same;
-}
+walk_begins t row piece from h = grind (arith, common_steps, quiet)
 
 -- what the next byte of the piece makes of one
 module _ {t : Table} {row : ℕ} {piece : List ℕ} {from here at next : ℕ} (walk : IsQuietWalk t row piece from here at)
@@ -204,19 +194,14 @@ module _ {t : Table} {row from here at : ℕ} {piece : List ℕ} (ids : List ℕ
 
 -- the rest of a piece, as a slice of it is known
 pub rest_of_piece : (piece : List ℕ) (from : ℕ) → take (length piece - from) (drop from piece) ≡ drop from piece
-rest_of_piece piece from =
-    ap (λ (n : ℕ). take n (drop from piece)) (sym (length-drop from piece)) ∙ take-length (drop from piece)
+rest_of_piece piece from = grind (arith, common_steps, length-drop, take-length)
 
 -- a byte of it that is no needle may be skipped
 unread : (t : Table) (row : ℕ) (piece : List ℕ) {needles : List ℕ} {from : ℕ} → needles ≡ t.needles row
     → is_nil (t.needles row) ≡ false → (k : ℕ) → from ≤ k
     → is_needle needles (slice_index (drop from piece) (k - from)) ≡ false
     → is_read t row (slice_index piece k) ≡ false
-unread t row piece {needles} {from} same some k low e =
-    let place : from + (k - from) ≡ k = omega (arith, low) in
-    let byte = get_or-drop from piece (k - from) 0 ∙ ap (slice_index piece) place in
-    rw some (sym (ap (λ (ns : List ℕ). is_needle ns (slice_index piece k)) same)
-    ∙ sym (ap (is_needle needles) byte) ∙ e)
+unread t row piece {needles} {from} same some k low e = grind (arith, common_steps, get_or-drop)
 
 -- a skip, as the next needle is found in the rest of a piece
 module _ {t : Table} {row : ℕ} {needles piece : List ℕ} {from : ℕ} (same : needles ≡ t.needles row)

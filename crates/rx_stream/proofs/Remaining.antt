@@ -1,6 +1,7 @@
 -- What remains to be told over any units, and what a piece makes of it.
-use Rattle.std.proofs.Common.{◌≡◌, ℕ, ◌+◌, ◌-◌, ◌<◌, ◌≤◌, Some, None, List, [], ◌∷◌, ◌++◌, length, drop}
-use Rattle.std.proofs.Common.{ap, sym, ◌∙◌, arith}
+use Rattle.std.proofs.lemmas.Grind.{common_steps}
+use Rattle.std.proofs.Common.{◌≡◌, ℕ, ◌+◌, ◌-◌, ◌<◌, ◌≤◌, Some, None, List, [], ◌∷◌, ◌++◌, length, drop, ap, sym, ◌∙◌}
+use Rattle.std.proofs.Common.{arith}
 use Rattle.std.proofs.Math.Seq.{drop-nil}
 use Rattle.std.proofs.lemmas.List.Elements.{All-contains, All-drop}
 use Rattle.std.specs.Prelude.{slice_index}
@@ -33,9 +34,7 @@ bytes_word bytes are unit c = let below = All-contains (λ b. b < 256) bytes uni
 -- where none is left, all is told by the walk
 pub none_pending : (t : Table) (ids : List ℕ) (place : Place) → pending t ids place ≡ [] → (units : List ℕ)
     → told_over t ids place units ≡ walked t (row_of ids place.row) place.taken units
-none_pending t ids place e units =
-    ap (λ (ks : List ℕ). with_items (pattern_items ks place.offset)
-    (walked t (row_of ids place.row) place.taken units)) e
+none_pending t ids place e units = grind (arith, common_steps)
 
 -- no pattern is left at a row that tells none
 pub no_pending : (t : Table) (ids : List ℕ) (place : Place) → patterns_of t (row_of ids place.row) ≡ []
@@ -55,24 +54,13 @@ module _ (t : Table) (ids : List ℕ) where
   pub pattern_told : (old new : Place) {found : HalfMatch} → IsNextPattern t ids old new (Some found)
       → (units : List ℕ)
       → events (told_over t ids old units) ≡ StreamEvent.Match found ∷ events (told_over t ids new units)
-  pattern_told old new {found} is units =
-      ap (λ (ks : List ℕ). events (with_items (pattern_items ks old.offset)
-      (walked t (row_of ids old.row) old.taken units))) is.2
-      ∙ ap (λ (o : ℕ). StreamEvent.Match (record { pattern = found.pattern; offset = o })
-      ∷ events (with_items (pattern_items (pending t ids new) old.offset)
-      (walked t (row_of ids old.row) old.taken units))) (sym is.1)
-      ∙ ap (λ (place : Place). StreamEvent.Match found
-      ∷ events (with_items (pattern_items (pending t ids new) place.offset)
-      (walked t (row_of ids place.row) place.taken units))) (sym is.0)
+  pattern_told old new {found} is units = grind (arith, common_steps)
 
   -- a pattern of the row that is left
   pub reads_pattern : {old new : Place} {found : HalfMatch} (piece : List ℕ) (from : ℕ)
       → IsNextPattern t ids old new (Some found)
       → IsRead t ids old new piece from (record { used = from; event = Some (StreamEvent.Match found) })
-  reads_pattern {old} {new} {found} piece from is = record {
-    tells = λ more w. pattern_told old new is (drop from piece ++ more);
-    on_time = λ e. absurd (cc);
-  }
+  reads_pattern {old} {new} {found} piece from is = grind (arith, common_steps, pattern_told)
 
   module _ {old : Place} {piece : List ℕ} {from : ℕ} (none : pending t ids old ≡ []) where
     -- a match row that the walk met

@@ -1,6 +1,6 @@
 -- Bytes that are read or written one piece after another.
-use Rattle.std.proofs.Common.{◌≡◌, ℕ, ◌+◌, ◌-◌, List, [], ◌++◌, length, take, drop, Option, Some, None}
-use Rattle.std.proofs.Common.{refl, sym, ap, ◌∙◌, append_assoc, append-nil}
+use Rattle.std.proofs.Common.{◌≡◌, ℕ, ◌+◌, ◌-◌, List, [], ◌++◌, length, take, drop, Option, Some, None, refl, sym, ap}
+use Rattle.std.proofs.Common.{◌∙◌, append_assoc, append-nil}
 use Rattle.std.proofs.Math.Seq.{take-add}
 use Rattle.std.proofs.lemmas.List.{take_rest}
 use Rattle.std.specs.Io.KnownBytes.{Consumes, Keeps, Appends}
@@ -35,12 +35,6 @@ appends_more None b c xs ys p q = tt
 appends_more (Some x) None c xs ys p q = absurd p
 appends_more (Some x) (Some y) None xs ys p q = absurd q
 appends_more (Some x) (Some y) (Some z) xs ys p q = q ∙ ap (λ (l : List ℕ). l ++ ys) p ∙ append_assoc x xs ys
-
-pub appends_kept : (a b c : Option (List ℕ)) (xs : List ℕ) → Appends a b xs → Keeps b c → Appends a c xs
-appends_kept None b c xs p q = tt
-appends_kept (Some x) None c xs p q = absurd p
-appends_kept (Some x) (Some y) None xs p q = absurd q
-appends_kept (Some x) (Some y) (Some z) xs p q = q ∙ p
 
 pub written_more
     : (text : List ℕ) (at n : ℕ) (a b c : Option (List ℕ)) → Appends a b (take at text)

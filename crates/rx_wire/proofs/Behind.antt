@@ -1,6 +1,5 @@
 -- One field more behind a text.
-use Rattle.std.proofs.Common.{◌≡◌, ℕ, ◌+◌, ◌-◌, ◌≤◌, List, [], ◌++◌, length, take, drop, refl, sym, ap, ◌∙◌}
-use Rattle.std.proofs.Common.{append_assoc, arith}
+use Rattle.std.proofs.Common.{◌≡◌, ℕ, ◌+◌, ◌-◌, ◌≤◌, List, [], ◌++◌, length, take, drop, append_assoc, arith}
 use Rattle.std.proofs.lemmas.List.{take_at, drop_at, drop-drop, length-append, length-drop, append-nil}
 use Rattle.std.proofs.lemmas.Grind.{common_steps}
 use Rattle.rx_wire.specs.Fields.{Stands}
@@ -13,17 +12,7 @@ pub record IsPut (old new field : List ℕ) (at n : ℕ) : Type 0 where
 pub stands_more : {now new field : List ℕ} {at n : ℕ} → IsPut now new field at n → (text old : List ℕ)
     → Stands text old now at → Stands (text ++ field) old new (at + n)
 stands_more {now} {new} {field} {at} {n} put text old h =
-    let front : take at now ≡ text = ap (take at) h.whole ∙ take_at text (drop at old) at (sym h.place) in
-    let back : drop at now ≡ drop at old = ap (drop at) h.whole ∙ drop_at text (drop at old) at (sym h.place) in
-    record {
-      place = omega (arith, h.place, put.len, length-append text field);
-      whole =
-          put.is
-          ∙ ap (λ (t : List ℕ). t ++ (field ++ drop n (drop at now))) front
-          ∙ ap (λ (t : List ℕ). text ++ (field ++ drop n t)) back
-          ∙ ap (λ (t : List ℕ). text ++ (field ++ t)) (drop-drop n at old)
-          ∙ sym (append_assoc text field (drop (at + n) old));
-    }
+    grind (arith, common_steps, take_at, drop_at, length-append, drop-drop, append_assoc)
 
 whole_take : (n : ℕ) (xs : List ℕ) → n ≡ length xs → take n xs ≡ xs
 whole_take n xs e = grind (arith, common_steps)
@@ -36,24 +25,9 @@ pub put_behind : (now part field : List ℕ) (at n : ℕ) → at ≤ length now 
     → part ≡ field ++ drop n (take (length now - at) (drop at now))
     → IsPut now (take at now ++ (part ++ drop (length now - at) (drop at now))) field at n
 put_behind now part field at n le field_len is =
-    let len : length now - at ≡ length (drop at now) = sym (length-drop at now) in
-    record {
-      len = field_len;
-      is =
-          ap (λ (t : List ℕ). take at now ++ (part ++ t)) (nothing_left (length now - at) (drop at now) len)
-          ∙ ap (λ (t : List ℕ). take at now ++ t)
-          (append-nil part ∙ is
-          ∙ ap (λ (t : List ℕ). field ++ drop n t) (whole_take (length now - at) (drop at now) len));
-    }
+    grind (arith, common_steps, length-drop, nothing_left, append-nil, whole_take)
 
 -- a field written in the place of as many bytes
 pub put_between : (now part field : List ℕ) (at end : ℕ) → end ≡ at + length field → part ≡ field
     → IsPut now (take at now ++ (part ++ drop (end - at) (drop at now))) field at (length field)
-put_between now part field at end e is =
-    let width : end - at ≡ length field = omega (arith, e) in
-    record {
-      len = refl;
-      is =
-          ap (λ (t : List ℕ). take at now ++ (t ++ drop (end - at) (drop at now))) is
-          ∙ ap (λ (n : ℕ). take at now ++ (field ++ drop n (drop at now))) width;
-    }
+put_between now part field at end e is = grind (arith, common_steps)

@@ -1,10 +1,11 @@
 -- What was written is read back, in either order, whatever follows: numbers, ids and bytes.
-use Rattle.std.proofs.Common.{◌≡◌, ℕ, ◌^◌, ◌<◌, ◌≤◌, false, true, ltb, leb, List, ◌++◌, length, refl, arith}
+use Rattle.std.proofs.lemmas.Grind.{common_steps}
+use Rattle.std.proofs.Common.{◌≡◌, ℕ, ◌^◌, ◌<◌, ◌≤◌, true, List, length, refl, arith}
 use Rattle.std.specs.Int.{Width, w16, w32, w128, byte_len}
 use Rattle.std.proofs.lemmas.Bool.{le-ltb}
 use Rattle.std.proofs.lemmas.List.{take_at, drop_at, length-append}
-use Rattle.std.proofs.lemmas.Nat.{from_le_bytes-to_le_bytes_2, from_be_bytes-to_be_bytes_2}
-use Rattle.std.proofs.lemmas.Nat.{from_le_bytes-to_le_bytes_4, from_be_bytes-to_be_bytes_4}
+use Rattle.std.proofs.lemmas.Nat.{from_le_bytes-to_le_bytes_2, from_be_bytes-to_be_bytes_2, from_le_bytes-to_le_bytes_4}
+use Rattle.std.proofs.lemmas.Nat.{from_be_bytes-to_be_bytes_4}
 use Rattle.rx_spec.specs.Causes.{max_id}
 use Rattle.rx_wire.specs.declared.order.Order.{Order}
 use Rattle.rx_wire.specs.Kinds.{Kind, Reads}
@@ -19,12 +20,7 @@ record IsWidth (w : Width) (limit : ℕ) : Type 0 where
 read_back : {w : Width} {limit : ℕ} → IsWidth w limit → (order : Order) (n : ℕ) → n < limit
     → Reads (number_at order w) (field order w n) n
 unfolding number_at
-read_back {w} width order n h rest =
-    let text = field order w n in
-    let len = width.len order n in
-    let enough : ltb (length (text ++ rest)) (byte_len w) ≡ false =
-    le-ltb _ _ (omega (arith, length-append text rest)) in
-    rw (enough, take_at text rest (byte_len w) len, drop_at text rest (byte_len w) len, width.again order n h) refl
+read_back {w} width order n h rest = grind (arith, common_steps, le-ltb, length-append, take_at, drop_at)
 
 -- ---- two, four and 16 bytes
 
@@ -62,15 +58,11 @@ u128_again order n h = read_back (record { len = length-field_128; again = again
 pub id_again : (kind : ℕ → Kind) (order : Order) (n : ℕ) → n ≤ max_id
     → Reads (id_at kind order) (field order w32 n) n
 unfolding id_at
-id_again kind order n h rest =
-    let small : leb n max_id ≡ true = grind arith in rw (u32_again order n (omega (arith, h)) rest, small) refl
+id_again kind order n h rest = grind (arith, common_steps, u32_again)
 
 pub bytes_again : (bytes : List ℕ) → Reads (bytes_at (length bytes)) bytes bytes
 unfolding bytes_at
-bytes_again bytes rest =
-    let enough : ltb (length (bytes ++ rest)) (length bytes) ≡ false =
-    le-ltb _ _ (omega (arith, length-append bytes rest)) in
-    rw (enough, take_at bytes rest (length bytes) refl, drop_at bytes rest (length bytes) refl) refl
+bytes_again bytes rest = grind (arith, common_steps, le-ltb, length-append, take_at, drop_at)
 
 -- numbers of each width
 pub ruleset numbers_again = (u16_again, u32_again, u128_again)

@@ -35,10 +35,4 @@ turned t0 t1 t2 t3 t4 t5 t6 t7 t8 t9 t10 t11 t12 t13 t14 t15 = omega arith
 
 pub again128 : (order : Order) (n : ℕ) → n < 2 ^ 128 → number order w128 (field order w128 n) ≡ n
 again128 Order.Little n h = let whole : n % 256 ^ 16 ≡ n = omega (arith, h) in lowest_bytes n 15 ∙ whole
-again128 Order.Big n h =
-    let whole : n % 256 ^ 16 ≡ n = omega (arith, h) in
-    let part = λ (k : ℕ). byte_worth k (byte_at k n) in
-    turned (part 0) (part 1) (part 2) (part 3) (part 4) (part 5) (part 6) (part 7) (part 8) (part 9) (part 10)
-    (part 11) (part 12) (part 13) (part 14) (part 15)
-    ∙ lowest_bytes n 15
-    ∙ whole
+again128 Order.Big n h = grind (arith, common_steps, turned, lowest_bytes)

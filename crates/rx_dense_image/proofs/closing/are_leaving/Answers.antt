@@ -1,3 +1,4 @@
+use Rattle.std.proofs.lemmas.Grind.{common_steps}
 use Rattle.std.proofs.Common.{◌≡◌, ℕ, ◌+◌, true, false, sym, subst, arith}
 use Rattle.rx_dense.specs.Parts.{layout_of}
 use Rattle.rx_dense_image.specs.Closing.{leaves}
@@ -35,11 +36,7 @@ returns-then-met-needles c =
     few_leave l c.args.id c.loop-byte.invariant c.loop-byte-test.true passes c.if-met-needles.true
 
 pub returns-then-needles-met : goal.returns-then-needles-met
-returns-then-needles-met c =
-    let l = layout_of c.args.parts.now in
-    let passes : leaves l c.args.id c.loop-byte.byte ≡ true =
-    leaves_where l c.args.id c.loop-byte.byte c.next_id.result c.next_id.ensures c.if-next_id-id.true in
-    another_leaves l c.args.id c.loop-byte.invariant c.loop-byte-test.true passes c.if-needles-met.true
+returns-then-needles-met c = grind (arith, common_steps, leaves_where, another_leaves)
 
 pub returns : goal.returns
 returns c =

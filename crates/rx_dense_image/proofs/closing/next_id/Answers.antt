@@ -1,3 +1,4 @@
+use Rattle.std.proofs.lemmas.Grind.{common_steps}
 use Rattle.std.proofs.Common.{◌≡◌, ℕ, ◌+◌, ◌<◌, eqb, false, cond, length, slice_index, sym, ap, ◌∙◌, arith}
 use Rattle.std.proofs.lemmas.List.{get_or_read}
 use Rattle.rx_dense.specs.Parts.{layout_of}
@@ -9,16 +10,7 @@ byte_not : (b : ℕ) → b < 256 → eqb b 256 ≡ false
 byte_not b h = grind arith
 
 pub index-requires : goal.index-requires
-index-requires c =
-    let l = layout_of c.args.parts.now in
-    let byte : c.args.byte < 256 = omega arith in
-    omega (
-      arith,
-      class_column l.classes c.requires.rows.classes c.args.byte byte,
-      c.requires.rows.fits,
-      c.requires.row.below,
-      c.get.ensures,
-    )
+index-requires c = grind (arith, common_steps, class_column)
 
 pub returns : goal.returns
 returns c =

@@ -1,8 +1,8 @@
+use Rattle.std.proofs.lemmas.Grind.{common_steps}
 use Rattle.std.proofs.Common.{◌≡◌, ◌*◌, ◌^◌, ℕ, length, sym, ap, subst, arith}
 use Rattle.std.proofs.lemmas.Nat.{pow_pos}
-use Rattle.rx_search.specs.Starts.{IsId}
 use Rattle.rx_dense.proofs.Rows.{multiple_below, stride_few}
-use Rattle.rx_dense.specs.Layouts.{IsRowId, ids_of, stride}
+use Rattle.rx_dense.specs.Layouts.{IsRowId, stride}
 use Rattle.rx_determinize.proofs.RowIds.{row_is_id, row_id as row_at}
 use Rattle.rx_determinize.proofs.states.row_id.Goals as goal
 
@@ -21,8 +21,7 @@ same c =
     )
 
 pub returns-clause-is_id : goal.returns-clause-is_id
-returns-clause-is_id c =
-    subst (IsId (ids_of c.args.dfa.now)) (sym (same c)) (row_is_id c.args.dfa.now c.args.row c.requires)
+returns-clause-is_id c = grind (arith, common_steps, same, row_is_id)
 
 pub returns-clause-is_row : goal.returns-clause-is_row
 returns-clause-is_row c =

@@ -1,3 +1,4 @@
+use Rattle.std.proofs.lemmas.Grind.{common_steps}
 use Rattle.std.proofs.Common.{◌≤◌, arith, length}
 use Rattle.rx_equal.specs.Pairs.{rows_of}
 use Rattle.rx_equal.proofs.Closed.{nothing_parts}
@@ -15,10 +16,7 @@ loop-i-init g c =
     record { kept = new.0; named = named_none s.t s.u c.args.links.now new.1 }
 
 pub returns-in_default-clause-exact : goal.returns-in_default-clause-exact
-returns-in_default-clause-exact g c = (
-  λ e. absurd (cc),
-  λ v. absurd (named_stop c.loop-i.invariant.named c.get.result c.get.ensures c.in_default.ensures v),
-)
+returns-in_default-clause-exact g c = grind (arith, common_steps, named_stop)
 
 pub returns-then-not-have_equal_labels-clause-exact : goal.returns-then-not-have_equal_labels-clause-exact
 returns-then-not-have_equal_labels-clause-exact g c =

@@ -1,3 +1,4 @@
+use Rattle.std.proofs.lemmas.Grind.{common_steps}
 use Rattle.std.proofs.Common.{◌≡◌, ◌+◌, [], ◌∷◌, ◌++◌, refl, sym, ◌∙◌, subst, arith}
 use Rattle.rx_spec.specs.declared.Unit.{Unit}
 use Rattle.rx_equal.specs.Classes.{Represent}
@@ -7,10 +8,7 @@ use Rattle.rx_equal.proofs.classes.representatives.Goals.{then-not-lead_as_previ
 use Rattle.rx_equal.proofs.classes.representatives.Goals.{else-not-lead_as_previous}
 
 pub loop-n-init : goal.loop-n-init
-loop-n-init g c =
-    let t = g.A.Automaton.table c.args.a.now in
-    let u = g.B.Automaton.table c.args.b.now in
-    subst (λ units. RepresentBelow t u units 0) (sym c.new-units.ensures) none_below
+loop-n-init g c = grind (arith, common_steps, none_below)
 
 pub loop-n-preserved : goal.loop-n-preserved
 loop-n-preserved g c =

@@ -1,4 +1,5 @@
-use Rattle.std.proofs.Common.{ℕ, ◌≡◌, Option, Some, None, List, refl, ap, arith}
+use Rattle.std.proofs.lemmas.Grind.{common_steps}
+use Rattle.std.proofs.Common.{ℕ, ◌≡◌, Option, Some, None, List, refl, arith}
 use Rattle.rx_spec.specs.Queries.{Anchored}
 use Rattle.rx_spec.specs.Tables.{Table}
 use Rattle.rx_equal.specs.Partings.{AreAlikeBy, IsParting, answer_at}
@@ -23,31 +24,20 @@ AlikeIn mode = (beside : Option ℕ) (word : List ℕ)
 
 no_alike : AlikeIn Anchored.No
 no_alike None word = refl
-no_alike (Some byte) word =
-    alike_same t u word (answer_at t (record { beside = Some byte; mode = Anchored.No })) refl
+no_alike (Some byte) word = grind (arith, common_steps, alike_same)
 
 yes_alike : AlikeIn Anchored.Yes
 yes_alike None word = refl
-yes_alike (Some byte) word =
-    alike_same t u word (answer_at t (record { beside = Some byte; mode = Anchored.Yes })) refl
+yes_alike (Some byte) word = grind (arith, common_steps, alike_same)
 
 alone : (beside : Option ℕ) (mode : Anchored) (word : List ℕ)
     → IsParting t u (record { beside = beside; mode = mode }) word → mode ≡ Anchored.Pattern 0
 alone beside Anchored.No word parting = absurd (parting.1 (no_alike beside word))
 alone beside Anchored.Yes word parting = absurd (parting.1 (yes_alike beside word))
-alone beside (Anchored.Pattern k) word parting =
-    let within = parting.0 in let same : k ≡ 0 = omega (arith, within) in ap (λ i. Anchored.Pattern i) same
+alone beside (Anchored.Pattern k) word parting = grind (arith, common_steps)
 
 pub returns-clause-alone : goal.returns-clause-alone
 returns-clause-alone c = λ place word parting. alone place.beside place.mode word parting
 
 pub returns-clause-dead_starts : goal.returns-clause-dead_starts
-returns-clause-dead_starts c = λ place is word w. by_byte place.beside place.mode word
-  where
-    by_byte : (beside : Option ℕ) (mode : Anchored) (word : List ℕ)
-        → AreAlikeBy t (no_patterns (Some 5)) word (answer_at t (record { beside = beside; mode = mode }))
-        (answer_at (no_patterns (Some 5)) (record { beside = beside; mode = mode }))
-    by_byte None mode word =
-        alike_same t (no_patterns (Some 5)) word (answer_at t (record { beside = None; mode = mode })) refl
-    by_byte (Some byte) mode word =
-        alike_same t (no_patterns (Some 5)) word (answer_at t (record { beside = Some byte; mode = mode })) refl
+returns-clause-dead_starts c = grind (arith, common_steps, alike_same)

@@ -1,4 +1,5 @@
-use Rattle.std.proofs.Common.{◌+◌, None, ap, ◌∙◌, subst, arith}
+use Rattle.std.proofs.lemmas.Grind.{common_steps}
+use Rattle.std.proofs.Common.{None, ap, ◌∙◌, subst, arith}
 use Rattle.rx_spec.specs.Queries.{Anchored}
 use Rattle.rx_base.specs.StartConfig.{StartConfig}
 use Rattle.rx_equal.specs.Pairs.{AreRefused}
@@ -14,8 +15,4 @@ returns-in-Refused g c =
     (subst (AreRefused t u) (c.new.ensures ∙ ap place c.mode_at.ensures) c.in-Refused.ensures)
 
 pub returns-in-Rows : goal.returns-in-Rows
-returns-in-Rows g c =
-    let t = g.A.Automaton.table c.args.a.now in
-    let u = g.B.Automaton.table c.args.b.now in
-    all_suffice t u (c.max.result + 3)
-    (omega (arith, c.max.ensures, c.pattern_len.ensures, c.pattern_len-in-Rows.ensures))
+returns-in-Rows g c = grind (arith, common_steps, all_suffice)

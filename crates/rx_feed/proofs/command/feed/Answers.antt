@@ -1,4 +1,5 @@
-use Rattle.std.proofs.Common.{ℕ, List, Option, Err, ap, subst}
+use Rattle.std.proofs.Common.{arith, ℕ, List, Option, Err, ap, subst}
+use Rattle.std.proofs.lemmas.Grind.{common_steps}
 use Rattle.std.proofs.lemmas.Result.{err_from_is_err_and}
 use Rattle.rx_spec.specs.declared.Form.{Form}
 use Rattle.rx_base.specs.Search.{mode_of}
@@ -44,14 +45,7 @@ returns-in_err-over-clause-ends g c =
 is_image : (g : given.Over) (c : In_ok-over g)
     → IsImage c.args.len (g.S.Source.left c.args.src.now) (g.S.Source.left c.read_up_to.new.src)
     c.read_up_to.new.text.items c.in_ok-over.over
-is_image g c =
-    let told = c.in_ok-over.ensures in
-    record {
-      few = told.few;
-      whole = told.whole;
-      taken = rw (read_first c.new-image.ensures.items told.bytes.1) at told.bytes.2;
-      at_end = told.end;
-    }
+is_image g c = grind (arith, common_steps, read_first)
 
 pub returns-in-Dense-clause-ends : goal.returns-in-Dense-clause-ends
 returns-in-Dense-clause-ends g c =

@@ -1,3 +1,4 @@
+use Rattle.std.proofs.lemmas.Grind.{common_steps}
 use Rattle.std.proofs.Common.{◌<◌, Some, length, drop, refl, ap, sym, ◌∙◌, subst, arith}
 use Rattle.std.specs.Io.KnownBytes.{Appends}
 use Rattle.rx_search.proofs.Cursors.{at_same}
@@ -12,25 +13,13 @@ use Rattle.rx_feed.proofs.piece.feed_piece.Goals.{After-feed-used}
 use Rattle.rx_feed.proofs.piece.feed_piece.Goals as goal
 
 pub events-init : goal.events-init
-events-init g c =
-    let first = c.args.searcher.now.table in
-    record {
-      table = refl;
-      bytes = bytes_of c.args.piece.now c.args.piece.now refl (λ k. omega (arith, c.type_inv.piece k));
-      feeds =
-          feeds_none (g.A.Automaton.table first) (g.A.Automaton.ids first) c.args.searcher.now.place c.args.piece.now
-          (g.K.Sink.written c.args.out.now) c.requires.open;
-      counted = omega arith;
-    }
+events-init g c = grind (arith, common_steps, bytes_of, feeds_none)
 
 -- the call, of the table that the searcher had at first
 fed : (g : given.Over) (c : After-feed-used g)
     → IsFed (g.A.Automaton.table c.args.searcher.now.table) (g.A.Automaton.ids c.args.searcher.now.table)
     c.events.searcher.place c.feed-used.new.self.place c.args.piece.now c.events.from c.feed-used.result
-fed g c =
-    let a = g.A.Automaton in
-    at_same a.table a.ids (λ t i. IsFed t i c.events.searcher.place c.feed-used.new.self.place c.args.piece.now
-    c.events.from c.feed-used.result) c.events.invariant.table c.feed-used.ensures.fed
+fed g c = grind (arith, common_steps, at_same)
 
 pub returns-in_default-clause-fed : goal.returns-in_default-clause-fed
 returns-in_default-clause-fed g c =

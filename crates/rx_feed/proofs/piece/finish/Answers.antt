@@ -1,12 +1,11 @@
-use Rattle.std.proofs.Common.{Some, None, refl, ◌∙◌, subst, arith}
+use Rattle.std.proofs.lemmas.Grind.{common_steps}
+use Rattle.std.proofs.Common.{Some, refl, ◌∙◌, subst, arith}
 use Rattle.std.specs.Io.KnownBytes.{Appends}
 use Rattle.std.specs.Prelude.{[]}
 use Rattle.rx_search.proofs.Cursors.{at_same}
 use Rattle.rx_stream.specs.Calls.{IsFinished}
-use Rattle.rx_stream.specs.Remaining.{remaining}
-use Rattle.rx_feed.specs.Lines.{end_line, lines}
+use Rattle.rx_feed.specs.Lines.{end_line}
 use Rattle.rx_transfer.specs.Outside.{AppendsFront}
-use Rattle.rx_feed.specs.Outside.{Writes}
 use Rattle.rx_feed.proofs.Pieces.{finishes_broken, finishes_more, finishes_over}
 use Rattle.rx_feed.proofs.Fronts.{writes_after}
 use Rattle.rx_feed.proofs.piece.finish.Goals as goal
@@ -37,16 +36,4 @@ events-preserved g c =
     }
 
 pub returns-clause-written : goal.returns-clause-written
-returns-clause-written g c =
-    let a = g.A.Automaton in
-    let first = c.args.searcher.now in
-    let is = at_same a.table a.ids (λ t i. IsFinished t i c.events.searcher.place c.finish.new.self.place None)
-    c.events.invariant.table c.in_default.ensures.finished in
-    let line = c.as_slice-2.ensures ∙ c.end_line.ensures in
-    writes_after (g.K.Sink.written c.args.out.now) (g.K.Sink.written c.events.out)
-    (g.K.Sink.written c.write_reply.new.out)
-    (lines (remaining (a.table first.table) (a.ids first.table) first.place []))
-    (end_line c.args.count) 0 c.write_reply.result
-    (finishes_over c.events.invariant.finishes is)
-    (subst (λ l. Writes (g.K.Sink.written c.events.out) (g.K.Sink.written c.write_reply.new.out) l 0
-    c.write_reply.result) line c.write_reply.ensures.written)
+returns-clause-written g c = grind (arith, common_steps, at_same, writes_after, finishes_over)

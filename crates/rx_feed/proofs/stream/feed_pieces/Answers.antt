@@ -1,4 +1,5 @@
-use Rattle.std.proofs.Common.{◌≡◌, ℕ, List, false, refl, sym, ◌∙◌, subst, arith, length, take, length-take}
+use Rattle.std.proofs.lemmas.Grind.{common_steps}
+use Rattle.std.proofs.Common.{◌≡◌, ℕ, List, false, ◌∙◌, subst, arith, length, take, length-take}
 use Rattle.std.specs.Prelude.{[], ◌++◌}
 use Rattle.rx_search.proofs.Cursors.{at_same}
 use Rattle.rx_stream.specs.Remaining.{remaining}
@@ -12,18 +13,7 @@ use Rattle.rx_feed.proofs.stream.feed_pieces.Goals.{After-feed_piece, At-pieces}
 use Rattle.rx_feed.proofs.stream.feed_pieces.Goals as goal
 
 pub pieces-init : goal.pieces-init
-pieces-init g c =
-    let first = c.args.searcher.now in
-    record {
-      table = refl;
-      read =
-          has_read_none (g.A.Automaton.table first.table) (g.A.Automaton.ids first.table) first.place
-          (g.S.Source.left c.args.src.now) (g.K.Sink.written c.args.out.now) c.requires.open c.requires.none;
-      taken = sym c.requires.taken;
-      few = omega arith;
-      source_faults = omega arith;
-      sink_faults = omega arith;
-    }
+pieces-init g c = grind (arith, common_steps, has_read_none)
 
 -- as many bytes were taken as were read
 so_far : (g : given.Over) (c : At-pieces g) → c.pieces.taken ≡ length c.pieces.invariant.read.haystack
@@ -57,12 +47,7 @@ written_of g c =
 
 got : (g : given.Over) (c : After-feed_piece g)
     → IsPiece (g.S.Source.left c.pieces.src) (g.S.Source.left c.read.new.self) c.in-Got.count (piece_of g c)
-got g c = record {
-  bytes = c.feed_piece.ensures.bytes;
-  taken = c.in-Got.ensures.bytes.2;
-  len = omega (arith, length-take c.in-Got.count c.read.new.buf, c.in-Got.ensures.bytes.1);
-  short = omega (arith, c.in-Got.ensures.bytes.1, c.requires.room);
-}
+got g c = grind (arith, common_steps, length-take)
 
 pub pieces-preserved : goal.pieces-preserved
 pieces-preserved g c =

@@ -1,4 +1,5 @@
-use Rattle.std.proofs.Common.{◌≡◌, ◌∙◌, sym, subst}
+use Rattle.std.proofs.Common.{arith, ◌∙◌, subst}
+use Rattle.std.proofs.lemmas.Grind.{common_steps}
 use Rattle.std.specs.Prelude.{[], ◌++◌}
 use Rattle.rx_search.proofs.Cursors.{at_same}
 use Rattle.rx_stream.specs.Remaining.{now, remaining}
@@ -27,7 +28,4 @@ returns-then-over-clause-ends g c =
     c.in-Ok.ensures.0 c.finish.ensures.written)
 
 pub feed_pieces-requires-clause-none : goal.feed_pieces-requires-clause-none
-feed_pieces-requires-clause-none g c =
-    let a = g.A.Automaton in
-    at_same a.table a.ids (λ t i. now t i c.in-Ok.searcher.place [] ≡ []) (sym c.in-Ok.ensures.0)
-    (new_tells_none c.in-Ok.ensures.1)
+feed_pieces-requires-clause-none g c = grind (arith, common_steps, at_same, new_tells_none)

@@ -1,3 +1,5 @@
+use Rattle.std.proofs.Common.{arith}
+use Rattle.std.proofs.lemmas.Grind.{common_steps}
 use Rattle.lemmas_tables.proofs.Tables.{leaving_exactly, leaving_rises, between_needles}
 use Rattle.rx_laws.proofs.laws.needles.Goals as goal
 
@@ -8,6 +10,4 @@ pub returns-clause-rise : goal.returns-clause-rise
 returns-clause-rise c = leaving_rises
 
 pub returns-clause-between : goal.returns-clause-between
-returns-clause-between c =
-    λ t row bytes sound below accelerated are_bytes none.
-    between_needles sound row below accelerated bytes are_bytes none
+returns-clause-between c = grind (arith, common_steps, between_needles)

@@ -1,10 +1,11 @@
+use Rattle.std.proofs.Common.{arith}
+use Rattle.std.proofs.lemmas.Grind.{common_steps}
 use Rattle.lemmas_tables.proofs.ToldInSpan.{half_within, unsplit_within}
 use Rattle.lemmas_tables.proofs.Joining.{join_orderly}
 use Rattle.rx_laws.proofs.laws.told_in_span.Goals as goal
 
 pub returns-clause-half : goal.returns-clause-half
-returns-clause-half c =
-    λ t direction q h e. let is = half_within t.machine t.settings direction q h e in (is.from, is.upto)
+returns-clause-half c = grind (arith, common_steps, half_within)
 
 pub returns-clause-unsplit : goal.returns-clause-unsplit
 returns-clause-unsplit c = λ t direction q h e. let is = unsplit_within t direction q h e in (is.from, is.upto)

@@ -1,4 +1,5 @@
-use Rattle.std.proofs.Common.{sym, arith}
+use Rattle.std.proofs.lemmas.Grind.{common_steps}
+use Rattle.std.proofs.Common.{arith}
 use Rattle.rx_main.proofs.Numerals.{no_number, number_within}
 use Rattle.rx_main.proofs.command.number_of.Goals as goal
 
@@ -8,5 +9,4 @@ returns-in-Some c =
     c.in-Some.ensures c.within.result c.within.ensures
 
 pub returns-in-None : goal.returns-in-None
-returns-in-None c = λ n low few spelled.
-    no_number c.args.word.now c.args.most (omega (arith, c.requires)) (sym c.in-None.ensures) n few spelled
+returns-in-None c = grind (arith, common_steps, no_number)

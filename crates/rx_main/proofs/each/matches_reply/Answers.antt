@@ -1,8 +1,8 @@
+use Rattle.std.proofs.lemmas.Grind.{common_steps}
 use Rattle.std.proofs.Common.{◌≡◌, ◌++◌, ◌∷◌, [], ◌∙◌, List, length, map, Ok, Err, ap, sym, append-nil, eqb-true, arith}
 use Rattle.std.proofs.lemmas.Bool.{eqb-false}
 use Rattle.std.proofs.lemmas.List.{flat_map_more, nil_from_length}
 use Rattle.std.proofs.lemmas.Result.{IfOk-weaker}
-use Rattle.std.specs.List.{flat_map}
 use Rattle.std.specs.String.{string_bytes, string_len}
 use Rattle.rx_spec.specs.Iterating.{iterate}
 use Rattle.rx_spec.specs.Plans.{outcome}
@@ -66,18 +66,4 @@ returns-then-is_empty c =
     c.fixed_reply.ensures
 
 pub returns : goal.returns
-returns c = λ p es is.
-    let told = c.matches.invariant.told in
-    let first = c.into_iter-item-iterator.result in
-    let same : first ≡ c.find_iter-item-items.result = cc in
-    let whole : map as_item told ≡ first =
-    sym (append-nil (map as_item told))
-    ∙ ap (λ (items : List Item). map as_item told ++ items) (sym c.in-None.ensures.steps.0)
-    ∙ c.matches.invariant.whole in
-    let some : flat_map match_line told ≡ [] → ⊥ = λ none.
-    (let short : length (string_bytes c.matches.text) ≡ 0 = ap length (c.matches.invariant.lines ∙ none) in
-    let zero : string_len c.matches.text ≡ 0 = omega (arith, c.matches.text.bytes.ok) in
-    eqb-false (string_len c.matches.text) 0 (sym c.if-is_empty.ensures) zero) in
-    c.new.ensures ∙ ap (λ l. record { text = l; status = 0 }) c.matches.invariant.lines
-    ∙ sym (matches_told told (iterate (outcome p es) (query_of c.args.input.now))
-    (whole ∙ same ∙ c.find_iter-item-items.ensures.value p es is) some)
+returns c = grind (arith, common_steps, as_item, append-nil, eqb-false, matches_told)

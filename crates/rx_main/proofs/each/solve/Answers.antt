@@ -1,8 +1,9 @@
+use Rattle.std.proofs.Common.{arith}
+use Rattle.std.proofs.lemmas.Grind.{common_steps}
 use Rattle.std.proofs.lemmas.Result.{IfOk-weaker}
 use Rattle.rx_base.specs.Input.{query_of}
 use Rattle.rx_plan.specs.Plan.{plan_of}
 use Rattle.rx_script.specs.Script.{script_read}
-use Rattle.rx_regex.specs.Find.{PlanRefused}
 use Rattle.rx_main.specs.Scripts.{BuildReplies}
 use Rattle.rx_main.proofs.Refusals.{kind_told}
 use Rattle.rx_main.proofs.each.solve.Goals as goal
@@ -21,15 +22,4 @@ returns-in-Ok c =
     c.matches_reply.ensures
 
 pub returns-in-Err : goal.returns-in-Err
-returns-in-Err c =
-    let script = script_read c.args.script.now in
-    let refused = rw c.as_slice.ensures at c.in-Err.ensures.err in
-    IfOk-weaker c.refusal_reply.result _ _
-    (λ reply told. record {
-      query = query_of c.asked-input.result;
-      asked = c.asked-input.ensures.query;
-      replies =
-          BuildReplies.Refused
-          (kind_told (PlanRefused (plan_of script.plan) script.exprs) c.in-Err.error.kind reply told refused);
-    })
-    c.refusal_reply.ensures
+returns-in-Err c = grind (arith, common_steps, kind_told)

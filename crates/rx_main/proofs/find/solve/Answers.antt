@@ -1,13 +1,13 @@
-use Rattle.std.proofs.Common.{◌∙◌, [], Err, ap, subst}
+use Rattle.std.proofs.Common.{arith, ◌∙◌, [], Err, ap, subst}
+use Rattle.std.proofs.lemmas.Grind.{common_steps}
 use Rattle.std.proofs.lemmas.Result.{IfOk-weaker}
 use Rattle.rx_spec.specs.Queries.{MatchError}
 use Rattle.rx_base.specs.Input.{query_of}
 use Rattle.rx_base.specs.Search.{mode_of}
 use Rattle.rx_plan.specs.Plan.{plan_of}
-use Rattle.rx_regex.specs.Find.{Answers, PlanRefused}
+use Rattle.rx_regex.specs.Find.{Answers}
 use Rattle.rx_script.specs.Script.{script_read}
 use Rattle.rx_main.specs.Lines.{error_reply}
-use Rattle.rx_main.specs.Scripts.{BuildReplies}
 use Rattle.rx_main.proofs.Refusals.{kind_told}
 use Rattle.rx_main.proofs.FindAnswers.{failed_answers, found_answers}
 use Rattle.rx_main.proofs.find.solve.Goals as goal
@@ -60,18 +60,4 @@ returns-in-Err-Unsupported c =
     c.error_reply-in-Err-Unsupported.ensures
 
 pub returns-in-Err-Build : goal.returns-in-Err-Build
-returns-in-Err-Build c =
-    let script = script_read c.args.script.now in
-    let given = subst
-    (λ fault. Answers (plan_of script.plan) c.as_slice.result.now (query_of c.asked-input.result) (Err fault))
-    c.in-Err-Build.field-0-is c.in-Err-Build.ensures.answers in
-    let is = rw c.as_slice.ensures at given in
-    IfOk-weaker c.refusal_reply.result _ _
-    (λ reply told. record {
-      query = query_of c.asked-input.result;
-      asked = c.asked-input.ensures.query;
-      replies =
-          BuildReplies.Refused
-          (kind_told (PlanRefused (plan_of script.plan) script.exprs) c.in-Err-Build.error.kind reply told is.0);
-    })
-    c.refusal_reply.ensures
+returns-in-Err-Build c = grind (arith, common_steps, kind_told)

@@ -1,4 +1,5 @@
-use Rattle.std.proofs.Common.{◌≡◌, ◌++◌, ◌∙◌, ap, sym}
+use Rattle.std.proofs.Common.{arith, ◌≡◌, ◌++◌, ◌∙◌, ap}
+use Rattle.std.proofs.lemmas.Grind.{common_steps}
 use Rattle.std.proofs.lemmas.Result.{on_ok_weaker}
 use Rattle.std.specs.String.{string_bytes}
 use Rattle.rx_spec.specs.Queries.{Anchored, MatchError}
@@ -13,9 +14,7 @@ use Rattle.rx_main.proofs.lines.push_error.Goals as goal
 mode_line : (error : MatchError) (kind : MatchErrorKind) (mode known : Mode) → error_of kind ≡ error
     → kind ≡ MatchErrorKind.UnsupportedAnchored mode → mode ≡ known
     → error_line (MatchError.UnsupportedAnchored (mode_of known)) ≡ error_line error
-mode_line error kind mode known e k m =
-    ap error_line
-    (ap (λ n. MatchError.UnsupportedAnchored (mode_of n)) (sym m) ∙ ap error_of (sym k) ∙ e)
+mode_line error kind mode known e k m = grind (arith, common_steps)
 
 pub returns-in-No : goal.returns-in-No
 returns-in-No c =

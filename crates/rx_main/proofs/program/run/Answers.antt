@@ -1,6 +1,7 @@
+use Rattle.std.proofs.lemmas.Grind.{common_steps}
 use Rattle.std.proofs.Common.{subst, arith}
 use Rattle.rx_base.specs.Search.{mode_of}
-use Rattle.rx_feed.specs.Run.{FeedAnswers, FeedBreaks, FeedCut, FeedStarved}
+use Rattle.rx_feed.specs.Run.{FeedBreaks, FeedCut, FeedStarved}
 use Rattle.rx_main.specs.Run.{Breaks, IsCut, IsOutput, IsStarved}
 use Rattle.rx_main.proofs.FedReplies.{fed_answers, rose_from}
 use Rattle.rx_main.proofs.program.run.Goals as goal
@@ -14,17 +15,7 @@ returns-in-Reply-clause-sink g c = λ e.
     )
 
 pub returns-in-Feed-clause-answers : goal.returns-in-Feed-clause-answers
-returns-in-Feed-clause-answers g c = λ few.
-    let output = subst (IsOutput c.args.words.now (g.S.Source.left c.args.src.now) (g.S.Source.left c.answer.new.src))
-    c.in-Feed.is c.in-Ok.ensures.took in
-    let f = c.in-Feed.asked in
-    fed_answers output.0
-    (subst (λ left. FeedAnswers f.form (mode_of f.mode) f.image_len (record {
-      left_before = left;
-      left_after = g.S.Source.left c.feed_status.new.src;
-      written_before = g.K.Sink.written c.args.out.now;
-      written_after = g.K.Sink.written c.feed_status.new.out;
-    }) c.feed_status.result) output.1 (c.feed_status.ensures.answers few))
+returns-in-Feed-clause-answers g c = grind (arith, common_steps, fed_answers)
 
 pub returns-in-Feed-clause-source : goal.returns-in-Feed-clause-source
 returns-in-Feed-clause-source g c = λ e.

@@ -1,9 +1,8 @@
+use Rattle.std.proofs.Common.{arith, ap, sym, ◌∙◌}
+use Rattle.std.proofs.lemmas.Grind.{common_steps}
 use Rattle.std.proofs.lemmas.Result.{IfOk-weaker}
-use Rattle.std.proofs.Common.{ap, sym, ◌∙◌, subst, ◌≢◌}
 use Rattle.rx_dense.specs.Layouts as dense
-use Rattle.rx_dense_image.specs.Images.{reads}
-use Rattle.rx_wire.specs.Kinds.{Kind}
-use Rattle.rx_main.specs.Check.{failed_test_reply, reading_reply}
+use Rattle.rx_main.specs.Check.{reading_reply}
 use Rattle.rx_main.specs.Scan.{dense_scan_reply, scanned_reply}
 use Rattle.rx_main.proofs.CheckAnswers.{failed_test_answers}
 use Rattle.rx_main.proofs.scan.scan_dense.Goals as goal
@@ -17,11 +16,4 @@ returns-in-Ok c =
     c.scanned_reply.ensures
 
 pub returns-in-Err : goal.returns-in-Err
-returns-in-Err c =
-    IfOk-weaker c.failed_test_reply.result _ _
-    (λ reply told.
-    failed_test_answers (reads c.args.bytes.now) (dense_scan_reply c.args.bytes.now) c.in-Err.error reply
-    c.in-Err.ensures.read
-    (subst (λ (kind : Kind). kind ≢ Kind.Memory) c.kind.ensures told.0)
-    (told.1 ∙ ap failed_test_reply c.kind.ensures))
-    c.failed_test_reply.ensures
+returns-in-Err c = grind (arith, common_steps, failed_test_answers)

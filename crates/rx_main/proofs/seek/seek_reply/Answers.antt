@@ -1,4 +1,5 @@
-use Rattle.std.proofs.Common.{◌∙◌, ◌++◌, Err, List, ℕ, ap, arith, length, length-append, subst, sym}
+use Rattle.std.proofs.lemmas.Grind.{common_steps}
+use Rattle.std.proofs.Common.{◌∙◌, ◌++◌, List, ℕ, ap, arith, length, length-append, subst, sym}
 use Rattle.rx_transfer.proofs.Transfers.{consumes_more}
 use Rattle.rx_base.specs.Search.{mode_of}
 use Rattle.rx_main.specs.Replies.{ReadReplies}
@@ -6,15 +7,7 @@ use Rattle.rx_main.proofs.LiteralImages.{long_behind, unanchored}
 use Rattle.rx_main.proofs.seek.seek_reply.Goals as goal
 
 pub returns-in_err-sought-clause-long : goal.returns-in_err-sought-clause-long
-returns-in_err-sought-clause-long g c = λ told.
-    let first = c.in_ok-read_up_to.ensures.bytes in
-    let text_is = first.1 ∙ ap (λ (l : List ℕ). l ++ first.0) c.requires.empty in
-    let size = c.in_ok-read_up_to.ensures.whole c.if-branch.false in
-    let rest = c.in_err-sought.ensures.long (ap Err (sym (rw told at c.from_residual-in_err-sought.ensures.1))) in
-    let n = ap length text_is in
-    long_behind (g.S.Source.left c.args.src.now) (g.S.Source.left c.read_up_to.new.src) (g.S.Source.left c.seek.new.src)
-    first.0 rest.0 first.2 rest.2 (omega (arith, n, size, c.if-len-gt-LONGEST.false))
-    (omega (arith, n, size, c.if-len-gt-LONGEST.false, rest.1))
+returns-in_err-sought-clause-long g c = grind (arith, common_steps, long_behind)
 
 pub returns-clause-replied : goal.returns-clause-replied
 returns-clause-replied g c =

@@ -1,4 +1,5 @@
-use Rattle.std.proofs.Common.{◌∙◌, Option, [], ap, rules}
+use Rattle.std.proofs.Common.{arith, ◌∙◌, Option, [], ap}
+use Rattle.std.proofs.lemmas.Grind.{common_steps}
 use Rattle.std.proofs.lemmas.Result.{IfOk-weaker}
 use Rattle.rx_spec.specs.Queries.{Match}
 use Rattle.rx_main.specs.Find.{found_reply}
@@ -6,16 +7,10 @@ use Rattle.rx_main.proofs.LiteralImages.{ends_within, found_told, unfit_told}
 use Rattle.rx_main.proofs.seek.sought_reply.Goals as goal
 
 pub returns-then-not-fits : goal.returns-then-not-fits
-returns-then-not-fits c =
-    IfOk-weaker c.fixed_reply.result _ _
-    (λ reply told image text size mode is sought.
-    unfit_told c.args.search.now image text c.args.literal.now.bytes.items size mode is sought
-    (λ fit. let yes = c.fits.ensures.1 fit in absurd (search rules)) reply told)
-    c.fixed_reply.ensures
+returns-then-not-fits c = grind (arith, common_steps, unfit_told)
 
 pub match_at-requires : goal.match_at-requires
-match_at-requires c =
-    ends_within c.args.sought.now.place c.requires.sought.1 c.requires.few
+match_at-requires c = grind (arith, common_steps, ends_within)
 
 pub returns : goal.returns
 returns c =

@@ -1,3 +1,4 @@
+use Rattle.std.proofs.lemmas.Grind.{common_steps}
 use Rattle.std.proofs.Common.{◌≡◌, ◌<◌, ◌∙◌, ℕ, All, Vec, Global, List, length, sym, subst, arith}
 use Rattle.std.proofs.lemmas.Result.{IfOk-weaker}
 use Rattle.rx_base.proofs.Classes.{alphabet_len-le}
@@ -10,9 +11,7 @@ use Rattle.rx_minimize.proofs.Shaped.{rows_few}
 use Rattle.rx_minimize.proofs.blocks.blocks.Goals as goal
 
 pub from_ids-requires-clause-ids : goal.from_ids-requires-clause-ids
-from_ids-requires-clause-ids c =
-    rw (c.stride2.ensures.value, c.state_len.ensures.value, c.alphabet_len.ensures, c.words.ensures.value)
-    (entries_below c.args.dfa.now c.state_len.ensures.rows)
+from_ids-requires-clause-ids c = grind (arith, common_steps, entries_below)
 
 pub refine-requires-clause-room : goal.refine-requires-clause-room
 refine-requires-clause-room c =

@@ -1,3 +1,4 @@
+use Rattle.std.proofs.lemmas.Grind.{common_steps}
 use Rattle.std.proofs.Common.{◌≡◌, ◌*◌, ◌==◌, ◌&&◌, ◌∙◌, ℕ, Bool, false, nat_lt, slice_index, ap, ap₂, sym, subst}
 use Rattle.std.proofs.Common.{arith}
 use Rattle.std.specs.List.{list_any}
@@ -62,5 +63,4 @@ rows-preserved c =
     place_ended (subst (AreEndsUpTo c.args.dfa.now c.args.firsts.now c.kinds.ends c.rows.place) last c.kinds.invariant)
 
 pub returns-clause-to_end : goal.returns-clause-to_end
-returns-clause-to_end c =
-    λ place kind h b. c.rows.invariant.to_end place kind (omega (arith, h, c.rows-test.false)) b
+returns-clause-to_end c = grind (arith, common_steps)

@@ -1,8 +1,7 @@
-use Rattle.std.proofs.Common.{ap, sym, subst, length, arith}
-use Rattle.rx_dense.specs.Layouts.{Layout, stride}
-use Rattle.rx_minimize.specs.Blocks.{AreFirsts}
-use Rattle.rx_minimize.proofs.JoinedRows.{AreSteps, all_ids, joined, renamed_count, renamed_rows, rows_is}
-use Rattle.rx_minimize.proofs.JoinedRows.{starts_below, words_below}
+use Rattle.std.proofs.lemmas.Grind.{common_steps}
+use Rattle.std.proofs.Common.{length, arith}
+use Rattle.rx_minimize.proofs.JoinedRows.{AreSteps, all_ids, joined, renamed_count, renamed_rows, rows_is, starts_below}
+use Rattle.rx_minimize.proofs.JoinedRows.{words_below}
 use Rattle.rx_minimize.proofs.rows.join_rows.Goals.{After-move_rows}
 use Rattle.rx_minimize.proofs.rows.join_rows.Goals as goal
 
@@ -11,19 +10,10 @@ remap-requires-clause-ids c =
     all_ids c.args.dfa.now (length c.args.firsts.now) c.args.ids.now c.requires.ids (omega (arith, c.requires.two))
 
 pub move_rows-requires-clause-few : goal.move_rows-requires-clause-few
-move_rows-requires-clause-few c =
-    let e = c.remap.ensures.value in
-    omega (
-      arith,
-      renamed_count c.args.dfa.now c.args.ids.now c.remap.new.self e,
-      ap (λ (l : Layout). stride l) e,
-      c.requires.rows.few,
-    )
+move_rows-requires-clause-few c = grind (arith, common_steps, renamed_count)
 
 pub move_rows-requires-clause-firsts : goal.move_rows-requires-clause-firsts
-move_rows-requires-clause-firsts c =
-    subst (λ n. AreFirsts n c.args.firsts.now)
-    (sym (renamed_rows c.args.dfa.now c.args.ids.now c.remap.new.self c.remap.ensures.value)) c.requires.firsts
+move_rows-requires-clause-firsts c = grind (arith, common_steps, renamed_rows)
 
 -- what the first two calls leave
 steps : (c : After-move_rows)
@@ -40,17 +30,14 @@ steps c = record {
 }
 
 pub truncate_states-requires-clause-within : goal.truncate_states-requires-clause-within
-truncate_states-requires-clause-within c =
-    let s = steps (goal.at.truncate_states-requires-clause-within c).After-move_rows in
-    omega (arith, rows_is s, c.requires.ids.within)
+truncate_states-requires-clause-within c = grind (arith, common_steps, steps, rows_is)
 
 pub truncate_states-requires-clause-rows : goal.truncate_states-requires-clause-rows
 truncate_states-requires-clause-rows c =
     words_below (steps (goal.at.truncate_states-requires-clause-rows c).After-move_rows)
 
 pub truncate_states-requires-clause-starts : goal.truncate_states-requires-clause-starts
-truncate_states-requires-clause-starts c =
-    starts_below (steps (goal.at.truncate_states-requires-clause-starts c).After-move_rows)
+truncate_states-requires-clause-starts c = grind (arith, common_steps, starts_below, steps)
 
 pub returns : goal.returns
 returns c =

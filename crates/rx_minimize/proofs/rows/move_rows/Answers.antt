@@ -1,31 +1,18 @@
-use Rattle.std.proofs.Common.{◌≡◌, ◌<◌, ◌*◌, ◌∙◌, ℕ, slice_index, refl, sym, subst, arith}
+use Rattle.std.proofs.lemmas.Grind.{common_steps}
+use Rattle.std.proofs.Common.{◌≡◌, ◌<◌, ◌*◌, ◌∙◌, ℕ, slice_index, sym, subst, arith}
 use Rattle.rx_search.specs.Starts.{IsId}
 use Rattle.rx_dense.specs.Layouts.{Layout, ids_of, row_count, stride}
 use Rattle.rx_minimize.proofs.MovedRows.{id_kept, none_moved, place_least, rest_kept, row_moved, shifted, swapped_kept}
 use Rattle.rx_minimize.proofs.rows.move_rows.Goals as goal
 
 pub loop-place-init : goal.loop-place-init
-loop-place-init c = record {
-  rest = refl;
-  moved = none_moved (stride c.args.dfa.now) c.args.firsts.now c.args.dfa.now.words;
-}
+loop-place-init c = grind (arith, common_steps, none_moved)
 
 pub must-requires : goal.must-requires
-must-requires c =
-    let l : Layout = c.args.dfa.now in
-    let place : ℕ = c.loop-place.place in
-    let least = place_least c.requires.firsts place c.loop-place-test.true in
-    let below = c.requires.firsts.below place c.loop-place-test.true in
-    let s = shifted l c.requires.few place (omega (arith, least, below)) in
-    rw (c.stride2-stride2.ensures.value, s.0) s.1
+must-requires c = grind (arith, common_steps, place_least, shifted)
 
 pub must-requires-in-loop-place : goal.must-requires-in-loop-place
-must-requires-in-loop-place c =
-    let l : Layout = c.args.dfa.now in
-    let place : ℕ = c.loop-place.place in
-    let below = c.requires.firsts.below place c.loop-place-test.true in
-    let s = shifted l c.requires.few (slice_index c.args.firsts.now place) below in
-    rw (c.stride2-stride2.ensures.value, s.0) s.1
+must-requires-in-loop-place c = grind (arith, common_steps, shifted)
 
 pub swap_states-requires-clause-id1 : goal.swap_states-requires-clause-id1
 swap_states-requires-clause-id1 c =

@@ -1,5 +1,5 @@
-use Rattle.std.proofs.Common.{◌^◌, ◌-◌, ◌==◌, ◌∙◌, ℕ, Bool, not, List, length, map, slice_index, refl, ap, ap₂, sym}
-use Rattle.std.proofs.Common.{arith}
+use Rattle.std.proofs.lemmas.Grind.{common_steps}
+use Rattle.std.proofs.Common.{◌^◌, ◌-◌, ◌==◌, ◌∙◌, ℕ, Bool, not, List, map, slice_index, refl, ap, ap₂, sym, arith}
 use Rattle.std.specs.List.{list_any, range_with_len}
 use Rattle.std.proofs.lemmas.List.FromFn.{length-range_with_len}
 use Rattle.rx_dense.specs.Layouts.{Layout, stride, table_of}
@@ -12,15 +12,7 @@ use Rattle.rx_order.proofs.Unskipped.{stays}
 use Rattle.rx_order.proofs.accelerate_rows.accelerate.Goals as goal
 
 pub new-requires-clause-ranks : goal.new-requires-clause-ranks
-new-requires-clause-ranks c =
-    rw (c.deref-2.ensures.value, c.deref-3.ensures.value)
-    (omega (
-      arith,
-      ap length c.in_ok-numbers.ensures,
-      length-range_with_len 0 c.len.result,
-      c.len.ensures,
-      c.in_ok-kinds.kinds.ok.0,
-    ))
+new-requires-clause-ranks c = grind (arith, common_steps, length-range_with_len)
 
 pub accels-requires : goal.accels-requires
 accels-requires c = record {

@@ -1,3 +1,4 @@
+use Rattle.std.proofs.lemmas.Grind.{common_steps}
 use Rattle.std.proofs.Common.{◌≡◌, ◌∙◌, List, Bool, false, map, length, get_or, rules, replicate, ap, subst, arith}
 use Rattle.std.proofs.lemmas.List.Elements.{All-from_get_or}
 use Rattle.std.proofs.lemmas.List.{get_or-replicate, length-replicate}
@@ -34,8 +35,4 @@ loop-id-preserved c =
     rw (c.as_usize.ensures.value, c.stride2-stride2.ensures.value) (one_noted noted)
 
 pub returns-clause-rows : goal.returns-clause-rows
-returns-clause-rows c =
-    let noted = subst (λ left. AreNoted c.args.dfa.now c.loop-id.starts.items (map (λ
-    (e : Entry). e.0) left) c.args.dfa.now.starts)
-    (c.in-None.ensures.steps).0 c.loop-id.invariant in
-    record { count = noted.count; starts_are = all_noted noted }
+returns-clause-rows c = grind (arith, common_steps, all_noted)

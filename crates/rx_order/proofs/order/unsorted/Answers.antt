@@ -1,5 +1,5 @@
-use Rattle.std.proofs.Common.{◌≡◌, ◌∙◌, ◌++◌, [], ◌∷◌, List, length, map, ap, sym, arith}
-use Rattle.std.specs.List.{range_with_len}
+use Rattle.std.proofs.lemmas.Grind.{common_steps}
+use Rattle.std.proofs.Common.{◌∙◌, ◌++◌, [], ◌∷◌, List, ap, sym, arith}
 use Rattle.std.proofs.lemmas.List.FromFn.{map-range_with_len_more}
 use Rattle.rx_order.specs.Ranks.{ranked_row}
 use Rattle.rx_order.specs.declared.order.Ranked.{Ranked}
@@ -15,6 +15,4 @@ loop-number-preserved c =
     ∙ sym (map-range_with_len_more (ranked_row kinds ranks) 0 number number (omega arith))
 
 pub returns : goal.returns
-returns c =
-    let all : c.loop-number.number ≡ length c.args.kinds.now = omega arith in
-    c.loop-number.invariant ∙ ap (λ n. map (ranked_row c.args.kinds.now c.args.ranks.now) (range_with_len 0 n)) all
+returns c = grind (arith, common_steps)

@@ -1,5 +1,5 @@
-use Rattle.std.proofs.Common.{◌≡◌, ◌-◌, ◌*◌, ◌∙◌, ℕ, map, slice_index, ap, sym, subst, arith}
-use Rattle.std.specs.List.{range_with_len}
+use Rattle.std.proofs.Common.{rules, ◌≡◌, ◌-◌, ◌*◌, ◌∙◌, slice_index, ap, sym, subst, arith}
+use Rattle.std.proofs.lemmas.Grind.{common_steps}
 use Rattle.std.proofs.lemmas.Nat.{pow_pos}
 use Rattle.rx_spec.specs.Ids.{row_of}
 use Rattle.rx_spec.specs.Tables.{is_match}
@@ -42,11 +42,7 @@ patterns_of_row-requires-clause-is_match c =
     ap (is_match (table_of l)) own ∙ are.matches place c.loop-place.auto.place c.loop-place-test.true
 
 pub must-requires : goal.must-requires
-must-requires c =
-    let are = c.requires.places in
-    let place = c.loop-place.place in
-    let n = row_numbered c.args.dfa.now are.are_rows place (omega (arith, are.to, are.few, c.loop-place-test.true)) in
-    rw (c.stride2-stride2.ensures.value, n.shifted) n.few
+must-requires c = grind (arith, common_steps, row_numbered)
 
 pub loop-place-preserved : goal.loop-place-preserved
 loop-place-preserved c =
@@ -67,15 +63,4 @@ loop-place-preserved c =
     list c.in_ok-insert.ensures.entries
 
 pub returns : goal.returns
-returns c =
-    let l = c.args.dfa.now in
-    let from = slice_index c.args.ends.now 1 in
-    let f = λ (place : ℕ). patterns_of (table_of l) (slice_index c.args.rows.now place) in
-    let rises = c.requires.places.from in
-    let last : c.loop-place.place ≡ slice_index c.args.ends.now 3 = omega (arith, c.loop-place.auto.place-end rises) in
-    record {
-      lists = c.loop-place.invariant.lists_are ∙ ap (λ n. map f (range_with_len from (n - from))) last;
-      ids =
-          c.loop-place.invariant.keys_are
-          ∙ ap (λ n. map (λ place. place * stride l) (range_with_len from (n - from))) last;
-    }
+returns c = search rules

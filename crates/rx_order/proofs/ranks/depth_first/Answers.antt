@@ -1,5 +1,6 @@
-use Rattle.std.proofs.Common.{ℕ, ◌+◌, ◌-◌, ◌*◌, ◌/◌, ◌%◌, ◌^◌, ◌<◌, ◌∙◌, Bool, true}
-use Rattle.std.proofs.Common.{Vec, Global, length, slice_index, ap, sym, arith}
+use Rattle.std.proofs.Common.{rules, ℕ, ◌+◌, ◌-◌, ◌*◌, ◌/◌, ◌%◌, ◌^◌, ◌<◌, ◌∙◌, Bool, true, Vec, Global, length}
+use Rattle.std.proofs.Common.{slice_index, ap, sym, arith}
+use Rattle.std.proofs.lemmas.Grind.{common_steps}
 use Rattle.std.proofs.lemmas.List.{length-set}
 use Rattle.std.proofs.lemmas.List.Elements.{All-push}
 use Rattle.std.proofs.lemmas.List.FromFn.{length-range_with_len}
@@ -56,8 +57,7 @@ loop-id-preserved c =
     ]
 
 pub returns-in_default-clause-count : goal.returns-in_default-clause-count
-returns-in_default-clause-count c =
-    ap length c.in_ok-ranks.ensures ∙ length-range_with_len 0 (length c.args.kinds.now) ∙ c.requires
+returns-in_default-clause-count c = grind (arith, common_steps, length-range_with_len)
 
 pub returns-in_default-clause-matches : goal.returns-in_default-clause-matches
 returns-in_default-clause-matches c = λ row h e.
@@ -85,9 +85,7 @@ offset_bounds-words-row c =
     rw (c.stride2-stride2.ensures.value, s.place) (omega (arith, s.fits, c.loop-step.invariant.own.1))
 
 pub bounds-words-row : goal.bounds-words-row
-bounds-words-row c =
-    let s = step c.words-words.ensures.rows c.loop-step.row c.loop-step.count c.loop-step.invariant.own in
-    rw (c.stride2-stride2.ensures.value, s.place, c.words-words.ensures.value) s.within
+bounds-words-row c = search (rules, step)
 
 pub index-requires-in-loop-step : goal.index-requires-in-loop-step
 index-requires-in-loop-step c =

@@ -1,6 +1,5 @@
 use Rattle.std.proofs.Common.{◌++◌, [], ◌∷◌, ◌≡◌, ◌&&◌, ◌==◌, ◌*◌, ◌<◌, ◌∙◌, ℕ, Bool, false, length, nat_lt}
-use Rattle.std.proofs.Common.{slice_index, ap₂, sym}
-use Rattle.std.proofs.Common.{subst, ⊎_elim, arith}
+use Rattle.std.proofs.Common.{slice_index, ap₂, sym, subst, ⊎_elim, arith}
 use Rattle.std.specs.List.{list_any}
 use Rattle.std.proofs.lemmas.Bool.{cases_eq}
 use Rattle.std.proofs.lemmas.List.{get_or_append_left, get_or_default, get_or_push, length_push}

@@ -1,8 +1,7 @@
-use Rattle.std.proofs.Common.{◌≡◌, ◌*◌, ◌∙◌, List, Bool, false, length, get_or, rules, replicate, ap, sym}
-use Rattle.std.proofs.Common.{subst, arith}
+use Rattle.std.proofs.Common.{◌≡◌, ◌∙◌, List, Bool, false, length, get_or, rules, replicate, ap, subst, arith}
 use Rattle.std.specs.BTreeMap.{keys}
 use Rattle.std.proofs.lemmas.List.{get_or-replicate, length-replicate}
-use Rattle.rx_dense.specs.Layouts.{IsRowId, stride}
+use Rattle.rx_dense.specs.Layouts.{IsRowId}
 use Rattle.rx_order.proofs.MarkedRows.{AreNoted, all_noted, has_key, id_row, key_ids, none_noted, one_noted}
 use Rattle.rx_order.proofs.shuffle_rows.match_rows.Goals as goal
 
@@ -31,8 +30,4 @@ loop-id-preserved c =
     rw (c.as_usize.ensures.value, c.stride2-stride2.ensures.value) (one_noted noted)
 
 pub returns-clause-rows : goal.returns-clause-rows
-returns-clause-rows c =
-    let noted = subst (λ left. AreNoted c.args.dfa.now c.loop-id.rows.items left (keys c.args.matches.now))
-    (c.in-None.ensures.steps).0 c.loop-id.invariant in
-    λ row h.
-    all_noted noted row h ∙ sym (has_key (row * stride c.args.dfa.now) c.args.matches.now.entries)
+returns-clause-rows c = search (rules, all_noted, has_key)

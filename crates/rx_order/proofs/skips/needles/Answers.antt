@@ -1,18 +1,16 @@
+use Rattle.std.proofs.lemmas.Grind.{common_steps}
 use Rattle.std.proofs.Common.{◌≡◌, ◌≢◌, ◌==◌, [], ◌∷◌, ◌++◌, ◌+◌, if◌then◌else◌, length, ◌∙◌, ap, sym, subst, arith}
 use Rattle.std.proofs.lemmas.Bool.{eqb-true, eqb-false}
 use Rattle.rx_spec.specs.Ids.{row_of}
 use Rattle.rx_dense.specs.Layouts.{ids_of, table_of}
 use Rattle.rx_order.specs.RowOrder.{are_needles}
 use Rattle.rx_order.proofs.Leaving.{AreFound, found_all, found_none, leaves_found, leaving_is, new_byte, none_found}
-use Rattle.rx_order.proofs.Leaving.{not_false}
-use Rattle.rx_order.proofs.Leaving.{not_true}
+use Rattle.rx_order.proofs.Leaving.{not_false, not_true, refused, same_id, stays_found}
 use Rattle.rx_order.proofs.skips.needles.Goals.{then-ne+else-not-add, else-ne}
-use Rattle.rx_order.proofs.Leaving.{refused, same_id, stays_found}
 use Rattle.rx_order.proofs.skips.needles.Goals as goal
 
 pub loop-byte-init : goal.loop-byte-init
-loop-byte-init c =
-    rw c.new-accel.ensures (none_found (table_of c.args.dfa.now) (row_of (ids_of c.args.dfa.now) c.args.id))
+loop-byte-init c = grind (arith, common_steps, none_found)
 
 pub add-requires : goal.add-requires
 add-requires c = new_byte c.loop-byte.invariant

@@ -1,16 +1,13 @@
-use Rattle.std.proofs.Common.{arith, sym, ◌∙◌, ◌<◌, length}
+use Rattle.std.proofs.lemmas.Grind.{common_steps}
+use Rattle.std.proofs.Common.{arith}
 use Rattle.rx_powerset.proofs.FirstMatch.{uncut_more, cut_here, cut_nowhere}
 use Rattle.rx_powerset.proofs.state.to_first_match.Goals as goal
 
 pub returns-then-is_match : goal.returns-then-is_match
-returns-then-is_match c =
-    let lt : c.loop-i.i < length c.args.rows.now = omega arith in
-    cut_here lt c.index-rows-i.is (sym c.is_match.ensures ∙ c.if-is_match.true) c.loop-i.invariant
+returns-then-is_match c = grind (arith, common_steps, cut_here)
 
 pub loop-i-preserved : goal.loop-i-preserved
-loop-i-preserved c =
-    let lt : c.loop-i.i < length c.args.rows.now = omega arith in
-    uncut_more lt c.index-rows-i.is (sym c.is_match.ensures ∙ c.if-is_match.false) c.loop-i.invariant
+loop-i-preserved c = grind (arith, common_steps, uncut_more)
 
 pub returns : goal.returns
 returns c = cut_nowhere (omega arith) c.loop-i.invariant

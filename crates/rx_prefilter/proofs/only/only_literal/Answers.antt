@@ -1,5 +1,5 @@
-use Rattle.std.proofs.Common.{◌≡◌, ◌==◌, ℕ, length, ap, sym, ◌∙◌, subst, arith, slice_index}
-use Rattle.std.proofs.Common.{slice_index_or}
+use Rattle.std.proofs.lemmas.Grind.{common_steps}
+use Rattle.std.proofs.Common.{◌≡◌, ◌==◌, ℕ, length, ap, sym, ◌∙◌, subst, arith, slice_index, slice_index_or}
 use Rattle.std.proofs.lemmas.Bool.{eqb-true}
 use Rattle.rx_spec.specs.Ids.{row_of}
 use Rattle.rx_spec.specs.Queries.{Anchored}
@@ -68,5 +68,4 @@ returns-clause-searches g c =
     rw (c.forward-forward.ensures.table, c.reverse-reverse.ensures.table) at both
 
 pub returns-clause-some : goal.returns-clause-some
-returns-clause-some g c =
-    let is = rw c.in-Some-2.is at c.in_ok-literal.ensures in is.2.some
+returns-clause-some g c = grind (arith, common_steps)

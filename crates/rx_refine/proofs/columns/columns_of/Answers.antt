@@ -1,16 +1,11 @@
-use Rattle.std.proofs.Common.{◌≡◌, ◌+◌, ◌*◌, ◌≤◌, length, sym, ap, ◌∙◌, arith, mul-le-mul_left, mul-le-mul_right}
+use Rattle.std.proofs.lemmas.Grind.{common_steps}
+use Rattle.std.proofs.Common.{◌≡◌, ◌+◌, ◌*◌, ◌≤◌, length, sym, ◌∙◌, arith, mul-le-mul_left, mul-le-mul_right}
 use Rattle.std.proofs.lemmas.List.{with_items_is}
 use Rattle.rx_refine.proofs.TableColumns.{AreColumns-grown}
 use Rattle.rx_refine.proofs.columns.columns_of.Goals as goal
 
 pub overflow_mul-most : goal.overflow_mul-most
-overflow_mul-most c =
-    let few : c.min-most.result ≤ c.args.table.now.rows = grind arith in
-    let i = c.units-units.ensures.layout in
-    let wide : c.args.table.now.rows * c.args.table.now.units ≤ c.args.table.now.rows * c.args.table.now.stride =
-    mul-le-mul_left c.args.table.now.rows i.units in
-    rw c.units-units.ensures.units
-    (omega (arith, i.entries, i.fits, mul-le-mul_right c.args.table.now.units few))
+overflow_mul-most c = grind (arith, common_steps, mul-le-mul_left, mul-le-mul_right)
 
 pub loop-first-preserved : goal.loop-first-preserved
 loop-first-preserved c =
@@ -19,16 +14,9 @@ loop-first-preserved c =
     let room : c.min-count.result * c.units-units.result ≤ c.min-most.result * c.units-units.result =
     mul-le-mul_right c.units-units.result few in
     let transposed : length c.transpose.new.transposed ≡ c.min-most.result * c.units-units.result =
-    omega (
-      arith,
-      c.transpose.auto.transposed,
-      c.loop-first.auto.transposed,
-      c.as_mut_slice-transposed.ensures.len,
-      c.in_ok-room.ensures.len,
-    ) in
+    grind (arith, common_steps) in
     let old = c.deref_mut.ensures.value in
-    let same : length c.add_cells.new.columns ≡ length c.loop-first.columns.items =
-    c.add_cells.auto.columns ∙ ap length old in
+    let same : length c.add_cells.new.columns ≡ length c.loop-first.columns.items = grind (arith, common_steps) in
     record {
       below = below;
       columns =

@@ -1,11 +1,11 @@
-use Rattle.std.proofs.Common.{◌≡◌, ◌<◌, get_or, sym, subst, ◌∙◌, arith, le_trans, lt_of_le_of_lt}
+use Rattle.std.proofs.Common.{rules, ◌≡◌, ◌<◌, get_or, sym, subst, ◌∙◌, arith, le_trans, lt_of_le_of_lt}
+use Rattle.std.proofs.lemmas.Grind.{common_steps}
 use Rattle.std.specs.List.{All}
 use Rattle.rx_refine.specs.Kept.{parts}
 use Rattle.rx_refine.specs.Moves.{AreAlikeByNumber, AreToldByNumber, AreWithoutGaps}
 use Rattle.rx_refine.proofs.Sweeps.{IsNext, taken_read, sweep_first, sweep_more, taking_small, turn_allowed, hits_small}
-use Rattle.rx_refine.proofs.Sweeps.{turn_more, turn_falls}
-use Rattle.rx_refine.proofs.Sweeps.{all_allowed, all_more, all_next, blocks_below, result_alike, result_told}
-use Rattle.rx_refine.proofs.Sweeps.{result_numbers, result_no_gaps, discrete_alike}
+use Rattle.rx_refine.proofs.Sweeps.{turn_more, turn_falls, all_allowed, all_more, all_next, blocks_below, result_alike}
+use Rattle.rx_refine.proofs.Sweeps.{result_told, result_numbers, result_no_gaps, discrete_alike}
 use Rattle.rx_refine.proofs.hopcroft.refine.Given as given
 use Rattle.rx_refine.proofs.hopcroft.refine.Goals.{After-members, After-index-then-is_crowded}
 use Rattle.rx_refine.proofs.hopcroft.refine.Goals.{then-is_crowded+in_ok-taken-2+else-is_crowded-2, else-is_crowded}
@@ -23,10 +23,7 @@ loop-seen-smaller g c = let b = blocks_below c.loop-seen.invariant.round in omeg
 -- ---- a unit takes all blocks that wait for it
 reads_all : (g : given.Over) (c : After-index-then-is_crowded g)
     → c.index-then-is_crowded.result.now ≡ get_or c.loop-unit.taken.items c.loop-unit.unit 0
-reads_all g c =
-    let units = c.units-units.ensures.units in
-    let test = c.loop-unit-test.true in
-    taken_read c.loop-unit.invariant (omega arith) c.index-then-is_crowded.result.now c.index-then-is_crowded.ensures
+reads_all g c = grind (arith, common_steps, taken_read)
 
 pub take_all-requires-clause-room : goal.take_all-requires-clause-room
 take_all-requires-clause-room g c =
@@ -92,16 +89,7 @@ returns-then-is_discrete-clause-no_gaps g c =
 next_block : (g : given.Over) (c : After-members g)
     → IsNext (parts c.loop-partition.partition) c.loop-partition.taken.items c.loop-unit.unit c.index-block.result.now
     c.members.result.now
-next_block g c =
-    let units = c.units-units.ensures.units in
-    let test = c.loop-unit-test.true in
-    let sweep = c.loop-partition.invariant in
-    let read = c.index-in-loop-partition.result.now in
-    let is = taken_read sweep (omega arith) read c.index-in-loop-partition.ensures in
-    let block_is = taken_read sweep (omega arith) c.index-block.result.now c.index-block.ensures in
-    let len = c.len-in-loop-partition.ensures in
-    let waits = c.loop-partition-test.true in
-    record { number = block_is; waits = omega arith; are = c.members.ensures }
+next_block g c = grind (arith, common_steps, taken_read)
 
 pub gather-requires-clause-members : goal.gather-requires-clause-members
 gather-requires-clause-members g c =
@@ -168,9 +156,7 @@ returns-clause-alike g c =
     (result_alike c.units-units.ensures.moves c.loop-seen.invariant (omega arith))
 
 pub returns-clause-told : goal.returns-clause-told
-returns-clause-told g c =
-    subst (λ xs. AreToldByNumber c.args.incoming.now c.args.first.now xs) (sym c.into_blocks-2.ensures)
-    (result_told c.loop-seen.invariant.round.settling.refined)
+returns-clause-told g c = search (rules, result_told)
 
 pub returns-clause-numbers : goal.returns-clause-numbers
 returns-clause-numbers g c =

@@ -1,3 +1,4 @@
+use Rattle.std.proofs.lemmas.Grind.{common_steps}
 use Rattle.std.proofs.Common.{◌∙◌, arith, lt_of_le_of_lt}
 use Rattle.rx_refine.proofs.NextKeys.{reading_none, reading_room, reading_read, reading_passed, reading_all}
 use Rattle.rx_refine.proofs.keys.read_keys.Goals.{then-taken-block, else-taken-block}
@@ -24,7 +25,4 @@ loop-row-preserved g c = elim c.if-taken-block.branch [
 ]
 
 pub returns-clause-keys : goal.returns-clause-keys
-returns-clause-keys g c =
-    let rows = c.rows-row-end.ensures.rows in
-    let end = c.loop-row.auto.row-end in
-    reading_all c.loop-row.invariant c.requires.moves c.requires.unit (omega arith)
+returns-clause-keys g c = grind (arith, common_steps, reading_all)

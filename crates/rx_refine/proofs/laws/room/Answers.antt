@@ -1,3 +1,4 @@
+use Rattle.std.proofs.lemmas.Grind.{common_steps}
 use Rattle.std.proofs.Common.{◌*◌, ◌^◌, ◌≤◌, arith}
 use Rattle.std.proofs.lemmas.Nat.{mul-le}
 use Rattle.std.proofs.lemmas.Int.Digits.{length-digits_of-le}
@@ -7,10 +8,7 @@ use Rattle.rx_refine.proofs.laws.room.Goals as goal
 -- 2 ^ 31 rows have 32 digits
 pub returns : goal.returns
 returns c m a h =
-    let digits : binary_digits m.rows ≤ 32 =
-    length-digits_of-le 2 32 m.rows (omega arith) (let r = a.few in omega arith) in
-    let lists : 2 * m.units * m.rows ≤ 2 ^ 27 * 2 ^ 31 =
-    mul-le (2 * m.units) m.rows (2 ^ 27) (2 ^ 31) (omega arith) a.few in
-    let all : read_limit m ≤ 2 ^ 27 * 2 ^ 31 * 32 =
-    mul-le (2 * m.units * m.rows) (binary_digits m.rows) (2 ^ 27 * 2 ^ 31) 32 lists digits in
+    let digits : binary_digits m.rows ≤ 32 = grind (arith, common_steps, length-digits_of-le) in
+    let lists : 2 * m.units * m.rows ≤ 2 ^ 27 * 2 ^ 31 = grind (arith, common_steps, mul-le) in
+    let all : read_limit m ≤ 2 ^ 27 * 2 ^ 31 * 32 = grind (arith, common_steps, mul-le) in
     omega arith

@@ -1,3 +1,5 @@
+use Rattle.std.proofs.Common.{arith}
+use Rattle.std.proofs.lemmas.Grind.{common_steps}
 use Rattle.std.proofs.lemmas.Result.{err_from_is_err_and}
 use Rattle.rx_plan.specs.Plan.{plan_of}
 use Rattle.rx_regex.proofs.PairImages.{same_patterns}
@@ -5,18 +7,10 @@ use Rattle.rx_regex.proofs.Refusals.{forward_refused, reverse_refused}
 use Rattle.rx_regex.proofs.form.build_pair.Goals as goal
 
 pub returns-in_err-forward-clause-err : goal.returns-in_err-forward-clause-err
-returns-in_err-forward-clause-err g c =
-    let p = err_from_is_err_and c.from_residual.result c.from_residual.ensures.1 in
-    rw (p.1, p.2)
-    (forward_refused (plan_of c.args.plan.now) c.args.exprs.now c.in_err-forward.field-0.0.kind
-    c.in_err-forward.ensures.err)
+returns-in_err-forward-clause-err g c = grind (arith, common_steps, err_from_is_err_and, forward_refused)
 
 pub returns-in_err-reverse-clause-err : goal.returns-in_err-reverse-clause-err
-returns-in_err-reverse-clause-err g c =
-    let p = err_from_is_err_and c.from_residual-in_err-reverse.result c.from_residual-in_err-reverse.ensures.1 in
-    rw (p.1, p.2)
-    (reverse_refused (plan_of c.args.plan.now) c.args.exprs.now c.in_ok-forward.ensures.fits
-    c.in_err-reverse.field-0.0.kind c.in_err-reverse.ensures.err)
+returns-in_err-reverse-clause-err g c = grind (arith, common_steps, err_from_is_err_and, reverse_refused)
 
 pub returns-clause-ok : goal.returns-clause-ok
 returns-clause-ok g c =
@@ -32,5 +26,4 @@ returns-clause-written g c =
     (record { writable = planned.1; patterns = same_patterns planned.0 })
 
 pub returns-clause-fits : goal.returns-clause-fits
-returns-clause-fits g c =
-    record { forward = c.in_ok-forward.ensures.fits; reverse = c.in_ok-reverse.ensures.fits }
+returns-clause-fits g c = grind (arith, common_steps)

@@ -1,3 +1,4 @@
+use Rattle.std.proofs.lemmas.Grind.{common_steps}
 use Rattle.std.proofs.Common.{◌-◌, Err, sym, ◌∙◌, ap, arith, refl}
 use Rattle.rx_spec.specs.Bytes.{AreBytes}
 use Rattle.rx_spec.specs.Ids.{row_of}
@@ -13,17 +14,10 @@ use Rattle.rx_scan.proofs.longest.last_met.Goals.{After-next_state-row}
 use Rattle.rx_scan.proofs.longest.last_met.Goals as goal
 
 pub rows-init : goal.rows-init
-rows-init g c =
-    let ids = g.A.Automaton.ids c.args.table.now in
-    record {
-      is_id = c.requires.is_id;
-      walk = walk_starts c.args.start (walk_begins (row_of ids c.args.start) c.requires.more c.requires.is_start);
-    }
+rows-init g c = grind (arith, common_steps, walk_starts, walk_begins)
 
 pub returns-then-ahead-text : goal.returns-then-ahead-text
-returns-then-ahead-text g c =
-    c.last_at_end.ensures c.args.text.now c.args.from c.requires.more c.if-ahead-text.true
-    (c.go_on-ahead.ensures.walk c.args.from c.rows.invariant.walk)
+returns-then-ahead-text g c = grind (arith, common_steps)
 
 -- the step by the next byte
 step : (g : given.Over) (c : After-next_state-row g)

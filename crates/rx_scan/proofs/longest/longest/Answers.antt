@@ -1,25 +1,18 @@
-use Rattle.std.proofs.Common.{◌≡◌, ◌<◌, ◌==◌, if◌then◌else◌, Option, Some, None, sym, ◌∙◌, ap, subst}
-use Rattle.std.proofs.Common.{arith, length}
+use Rattle.std.proofs.lemmas.Grind.{common_steps}
+use Rattle.std.proofs.Common.{◌≡◌, ◌<◌, ◌==◌, if◌then◌else◌, Some, None, sym, ◌∙◌, ap, subst, arith, length}
 use Rattle.std.proofs.lemmas.Bool.{eq-eqb, eqb-true, false_from_ne_true}
 use Rattle.rx_spec.specs.Ids.{row_of}
 use Rattle.rx_spec.specs.Queries.{HalfMatch}
 use Rattle.rx_search.specs.Labels.{patterns_of}
 use Rattle.rx_all.specs.Matches.{told_at}
-use Rattle.rx_scan.specs.Walks.{IsLast, kept_met, longest_met}
+use Rattle.rx_scan.specs.Walks.{IsLast, kept_met}
 use Rattle.rx_scan.specs.declared.longest.MetRow.{MetRow}
 use Rattle.rx_scan.proofs.LastRows.{told}
 use Rattle.rx_scan.proofs.LongestMatches.{longest_lowest}
 use Rattle.rx_scan.proofs.longest.longest.Goals as goal
 
 pub returns-then-met-from-clause-value : goal.returns-then-met-from-clause-value
-returns-then-met-from-clause-value g c =
-    let t = g.A.Automaton.table c.args.table.now in
-    let ids = g.A.Automaton.ids c.args.table.now in
-    let met : MetRow = c.in-Ok-last_met.met in
-    let none : kept_met c.args.from met ≡ None
-    = ap (λ v. if v then None else Some met) (eq-eqb met.offset c.args.from c.if-met-from.true) in
-    sym (c.in-Ok-last_met.ensures.best
-    ∙ ap (λ (last : Option MetRow). told (longest_met t ids c.args.from last)) none)
+returns-then-met-from-clause-value g c = grind (arith, common_steps, eq-eqb, told)
 
 pub returns-else-met-from-clause-value : goal.returns-else-met-from-clause-value
 returns-else-met-from-clause-value g c =

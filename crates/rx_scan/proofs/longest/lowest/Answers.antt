@@ -1,3 +1,4 @@
+use Rattle.std.proofs.lemmas.Grind.{common_steps}
 use Rattle.std.proofs.Common.{◌<◌, ◌+◌, take, sym, ◌∙◌, subst, arith, length}
 use Rattle.rx_spec.specs.Ids.{row_of}
 use Rattle.rx_search.specs.Labels.{patterns_of}
@@ -9,10 +10,7 @@ use Rattle.rx_scan.proofs.longest.lowest.Goals as goal
 use Rattle.rx_scan.proofs.longest.lowest.Goals.{then-as_usize, else-as_usize}
 
 pub match_pattern-lowest-requires-clause-within : goal.match_pattern-lowest-requires-clause-within
-match_pattern-lowest-requires-clause-within g c =
-    let met = g.met.A.Automaton in
-    let held = held_by met.sound met.are_ids c.args.table.now c.requires.sound in
-    some_pattern (held_row held c.args.row c.requires.is_id) c.requires.is_match
+match_pattern-lowest-requires-clause-within g c = grind (arith, common_steps, held_by, some_pattern, held_row)
 
 pub patterns-init : goal.patterns-init
 patterns-init g c =
@@ -62,8 +60,4 @@ patterns-preserved g c =
     }
 
 pub returns : goal.returns
-returns g c =
-    let ks = patterns_of (g.A.Automaton.table c.args.table.now)
-    (row_of (g.A.Automaton.ids c.args.table.now) c.args.row) in
-    lowest_whole ks c.patterns.i c.patterns.lowest (omega (arith, c.patterns-test.false, c.match_len-len.ensures))
-    c.patterns.invariant.lowest
+returns g c = grind (arith, common_steps, lowest_whole)

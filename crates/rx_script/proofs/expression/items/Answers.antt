@@ -1,3 +1,4 @@
+use Rattle.std.proofs.lemmas.Grind.{common_steps}
 use Rattle.std.proofs.Common.{true, false, arith, sym, ◌∙◌}
 use Rattle.std.proofs.lemmas.Result.{err_from_is_err_and}
 use Rattle.rx_script.proofs.ItemsAt.{items_turn, items_fail, items_end}
@@ -10,12 +11,7 @@ returns-in_err-taken c =
     rw (p.1, p.2) (items_fail fault c.words.invariant.so_far c.in-Some.ensures.words c.in_err-taken.ensures.given)
 
 pub words-preserved : goal.words-preserved
-words-preserved c =
-    let turned = items_turn c.words.invariant.so_far c.in-Some.ensures.words c.in_ok-taken.ensures.given in
-    record {
-      few = omega (arith, c.words.invariant.few, c.in-Some.ensures.fewer, c.in_ok-taken.ensures.few);
-      so_far = rw c.in_ok-keep.ensures.ok turned;
-    }
+words-preserved c = grind (arith, common_steps, items_turn)
 
 pub returns-then-not-is_whole : goal.returns-then-not-is_whole
 returns-then-not-is_whole c =

@@ -1,12 +1,11 @@
-use Rattle.std.proofs.Common.{sym, ◌+◌}
+use Rattle.std.proofs.Common.{arith, sym, ◌+◌}
+use Rattle.std.proofs.lemmas.Grind.{common_steps}
 use Rattle.std.proofs.lemmas.List.{take_rest}
 use Rattle.rx_script.proofs.Cut.{split_at, split_none, cut_at, cut_none}
 use Rattle.rx_script.proofs.pieces.cut.Goals as goal
 
 pub returns-in-Some-clause-parts : goal.returns-in-Some-clause-parts
-returns-in-Some-clause-parts c =
-    let text = c.args.text.now in
-    rw (take_rest text (c.in-Some.at + 1)) (sym (cut_at c.args.separator text c.in-Some.at (sym c.in-Some.ensures)))
+returns-in-Some-clause-parts c = grind (arith, common_steps, take_rest, cut_at)
 
 pub returns-in-Some-clause-pieces : goal.returns-in-Some-clause-pieces
 returns-in-Some-clause-pieces c =

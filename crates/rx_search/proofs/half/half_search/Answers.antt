@@ -1,17 +1,14 @@
+use Rattle.std.proofs.lemmas.Grind.{common_steps}
 use Rattle.std.proofs.Common.{◌∙◌, sym, subst, refl, arith}
 use Rattle.rx_spec.specs.Bytes.{AreBytes}
 use Rattle.rx_base.specs.Input.{query_of}
-use Rattle.rx_search.specs.Walks.{IsInSpan}
 use Rattle.rx_search.proofs.Halves.{first_place, half_begins, open_span, plain_start, begun}
 use Rattle.rx_search.proofs.InSpan.{half_in_span}
 use Rattle.rx_search.proofs.Cursors.{held_by, held_row, skips_at}
 use Rattle.rx_search.proofs.half.half_search.Goals as goal
 
 pub skip-from-requires-clause-in_span : goal.skip-from-requires-clause-in_span
-skip-from-requires-clause-in_span g c =
-    let q = query_of c.args.input.now in
-    let span = open_span c.requires.fits (sym c.is_done.ensures ∙ c.if-is_done.false) in
-    subst (IsInSpan q) (sym c.first_offset.ensures) (first_place c.args.direction span).in_span
+skip-from-requires-clause-in_span g c = grind (arith, common_steps, open_span, first_place)
 
 pub search_on-requires-clause-room : goal.search_on-requires-clause-room
 search_on-requires-clause-room g c =

@@ -1,4 +1,5 @@
-use Rattle.std.proofs.Common.{◌≡◌, ◌+◌, ◌≤◌, ℕ, Some, Ok, sym, ◌∙◌, ap, ap₂, refl, arith}
+use Rattle.std.proofs.lemmas.Grind.{common_steps}
+use Rattle.std.proofs.Common.{◌≡◌, ◌+◌, ◌≤◌, ℕ, Some, Ok, sym, ◌∙◌, ap, ap₂, arith}
 use Rattle.rx_spec.specs.HalfSearches.{HalfAnswer}
 use Rattle.rx_spec.specs.Ids.{row_of}
 use Rattle.rx_spec.specs.Queries.{HalfMatch}
@@ -9,8 +10,7 @@ use Rattle.rx_search.specs.Walks.{units_left, next_stop, Stop, stop_error}
 use Rattle.rx_search.proofs.Walks.{bytes_of}
 use Rattle.rx_search.proofs.Halves.{open_at, stands, half_ended, half_fails, half_earliest, half_last, half_on}
 use Rattle.rx_search.proofs.Halves.{half_final}
-use Rattle.rx_search.proofs.Cursors.{held_by, at_same, skips_at}
-use Rattle.rx_search.proofs.Cursors.{reached, match_there, some_there, first_pattern}
+use Rattle.rx_search.proofs.Cursors.{held_by, at_same, skips_at, reached, match_there, some_there, first_pattern}
 use Rattle.rx_search.proofs.half.search_on.Goals as goal
 
 -- what is told of a match row
@@ -18,12 +18,7 @@ abbrev told : HalfMatch → HalfAnswer
 told h = Ok (Some h)
 
 pub matches-init : goal.matches-init
-matches-init g c = record {
-  table = refl;
-  bytes = bytes_of c.haystack-haystack.result.now (query_of c.args.input.now).haystack c.haystack-haystack.ensures
-      (λ k. omega (arith, c.type_inv.haystack k));
-  progress = stands _ c.requires.in_span c.requires.ready;
-}
+matches-init g c = grind (arith, common_steps, bytes_of, stands)
 
 pub returns-in-Ok-None-clause-answer : goal.returns-in-Ok-None-clause-answer
 returns-in-Ok-None-clause-answer g c =
@@ -46,14 +41,7 @@ returns-in-Err-clause-answer g c =
     sym (half_fails inv.progress c.in-Err.error stops)
 
 pub pattern-pattern-requires-clause-is_match : goal.pattern-pattern-requires-clause-is_match
-pattern-pattern-requires-clause-is_match g c =
-    let a = g.A.Automaton in
-    let met = g.met.A.Automaton in
-    let inv = c.matches.invariant in
-    let held = held_by met.sound met.are_ids c.args.cursor.now.table c.args.cursor.now.sound in
-    match_there a.table a.ids
-    (reached a.table a.ids held inv.table (c.next_match.ensures.table ∙ inv.table) c.next_match.new.cursor.is_id
-    (rw c.in-Ok-Some.field-0-is at c.in-Ok-Some.ensures.stop))
+pattern-pattern-requires-clause-is_match g c = grind (arith, common_steps, held_by, match_there, reached)
 
 pub pattern-pattern-requires-clause-within : goal.pattern-pattern-requires-clause-within
 pattern-pattern-requires-clause-within g c =
@@ -94,14 +82,7 @@ returns-then-offset-last_offset-clause-answer g c =
     (sym c.get_earliest.ensures ∙ c.if-get_earliest.false) (c.if-offset-last_offset.true ∙ c.last_offset.ensures))
 
 pub is_final_match-requires : goal.is_final_match-requires
-is_final_match-requires g c =
-    let a = g.A.Automaton in
-    let met = g.met.A.Automaton in
-    let inv = c.matches.invariant in
-    let held = held_by met.sound met.are_ids c.args.cursor.now.table c.args.cursor.now.sound in
-    match_there a.table a.ids
-    (reached a.table a.ids held inv.table (c.next_match.ensures.table ∙ inv.table) c.next_match.new.cursor.is_id
-    (rw c.in-Ok-Some.field-0-is at c.in-Ok-Some.ensures.stop))
+is_final_match-requires g c = grind (arith, common_steps, held_by, match_there, reached)
 
 pub returns-then-is_final_match-clause-answer : goal.returns-then-is_final_match-clause-answer
 returns-then-is_final_match-clause-answer g c =

@@ -1,7 +1,7 @@
-use Rattle.std.proofs.Common.{◌≡◌, ℕ, slice_index, Option, Ok, sym, ◌∙◌, ap, ap₂, subst, arith, length, List}
+use Rattle.std.proofs.Common.{rules, ◌≡◌, ℕ, slice_index, sym, ◌∙◌, ap, ap₂, subst, arith, length, List}
+use Rattle.std.proofs.lemmas.Grind.{common_steps}
 use Rattle.rx_spec.specs.Ids.{row_of}
-use Rattle.rx_spec.specs.Overlapping.{Ending, none_left, overlapping_walk}
-use Rattle.rx_spec.specs.Queries.{HalfMatch}
+use Rattle.rx_spec.specs.Overlapping.{overlapping_walk}
 use Rattle.rx_spec.specs.Tables.{Table}
 use Rattle.rx_base.specs.Input.{query_of}
 use Rattle.rx_search.specs.Labels.{patterns_of}
@@ -16,9 +16,7 @@ use Rattle.rx_search.proofs.overlapping.tell_more.Goals as goal
 row_tells : {A : Type 0} (table : A → Table) (ids : A → List ℕ) {first other : A} {row row' told : ℕ}
     (value : Table → ℕ → ℕ) → other ≡ first → row' ≡ row → told ≡ value (table other) (row_of (ids other) row')
     → told ≡ value (table first) (row_of (ids first) row)
-row_tells table ids {first} {other} {row} {row'} {told} value same same_row tells =
-    row_at table ids (λ t r. told ≡ value t r) row same
-    (subst (λ (r : ℕ). told ≡ value (table other) (row_of (ids other) r)) same_row tells)
+row_tells table ids {first} {other} {row} {row'} {told} value same same_row tells = grind (arith, common_steps, row_at)
 
 pub returns-then-met-match_len-clause-told : goal.returns-then-met-match_len-clause-told
 returns-then-met-match_len-clause-told g c =
@@ -39,24 +37,7 @@ returns-then-met-match_len-clause-told g c =
     (omega (arith, count, c.if-met-match_len.true)))
 
 pub returns-then-met-last_offset-clause-call : goal.returns-then-met-last_offset-clause-call
-returns-then-met-last_offset-clause-call g c =
-    let a = g.A.Automaton in
-    let met = g.met.A.Automaton in
-    let q = query_of c.args.input.now in
-    let d = c.args.direction in
-    let here = c.args.met in
-    let is = c.requires.met in
-    let there = held_row (held_by met.sound met.are_ids c.args.dfa.now c.requires.sound) here.row is.is_id in
-    let at = c.at-cursor.ensures in
-    let count = row_tells (λ x. a.table x.now) (λ x. a.ids x.now) (λ t row. length (patterns_of t row)) at.table at.row
-    c.match_len.ensures in
-    let span : Open q = record { order = omega arith; fits = c.requires.fits.within } in
-    let none = none_remaining there is.is_match d q here.offset here.told
-    (omega (arith, count, c.if-met-match_len.false)) in
-    ap (λ (told : Option HalfMatch). record { result = Ok tt; told = told; left = none_left Ending.Ended })
-    c.requires.none
-    ∙ sym (ap next_call (none ∙ over_at there is.is_match d q here.offset span is.in_span
-    (c.if-met-last_offset.true ∙ c.last_offset.ensures)))
+returns-then-met-last_offset-clause-call g c = search (rules, held_row, held_by, row_tells, none_remaining, over_at)
 
 pub returns-clause-call : goal.returns-clause-call
 returns-clause-call g c =

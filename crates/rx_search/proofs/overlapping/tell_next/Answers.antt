@@ -1,6 +1,7 @@
-use Rattle.std.proofs.Common.{◌≡◌, ℕ, slice_index, Option, Some, Ok, Err, drop, refl, sym, ◌∙◌, ap, ap₂, subst}
+use Rattle.std.proofs.Common.{arith, ◌≡◌, ℕ, slice_index, Some, Ok, drop, refl, sym, ◌∙◌, ap, ap₂, subst}
+use Rattle.std.proofs.lemmas.Grind.{common_steps}
 use Rattle.rx_spec.specs.Ids.{row_of}
-use Rattle.rx_spec.specs.Overlapping.{Ending, OverlappingMatches, none_left, remaining}
+use Rattle.rx_spec.specs.Overlapping.{OverlappingMatches, remaining}
 use Rattle.rx_spec.specs.Queries.{HalfMatch}
 use Rattle.rx_base.specs.Input.{query_of}
 use Rattle.rx_search.specs.Labels.{patterns_of}
@@ -12,40 +13,16 @@ use Rattle.rx_search.proofs.Overlaps.{walk_ended, call_fails, walk_met, call_mor
 use Rattle.rx_search.proofs.overlapping.tell_next.Goals as goal
 
 pub pattern-requires-clause-is_match : goal.pattern-requires-clause-is_match
-pattern-requires-clause-is_match g c =
-    let a = g.A.Automaton in
-    let met = g.met.A.Automaton in
-    let held = held_by met.sound met.are_ids c.args.cursor.now.table c.args.cursor.now.sound in
-    match_there a.table a.ids
-    (reached a.table a.ids held refl c.next_match.ensures.table c.next_match.new.cursor.is_id
-    (rw c.in-Ok-Some.field-0-is at c.in-Ok-Some.ensures.stop))
+pattern-requires-clause-is_match g c = grind (arith, common_steps, held_by, match_there, reached)
 
 pub pattern-requires-clause-within : goal.pattern-requires-clause-within
-pattern-requires-clause-within g c =
-    let a = g.A.Automaton in
-    let met = g.met.A.Automaton in
-    let held = held_by met.sound met.are_ids c.args.cursor.now.table c.args.cursor.now.sound in
-    some_there a.table a.ids
-    (reached a.table a.ids held refl c.next_match.ensures.table c.next_match.new.cursor.is_id
-    (rw c.in-Ok-Some.field-0-is at c.in-Ok-Some.ensures.stop))
+pattern-requires-clause-within g c = grind (arith, common_steps, held_by, some_there, reached)
 
 pub returns-in-Err-clause-call : goal.returns-in-Err-clause-call
-returns-in-Err-clause-call g c =
-    let t = g.A.Automaton.table c.args.cursor.now.table in
-    let row = row_of (g.A.Automaton.ids c.args.cursor.now.table) c.args.cursor.now.row in
-    ap (λ (told : Option HalfMatch). record { result = Err c.in-Err.error; told = told; left = none_left Ending.Ended })
-    c.requires.none
-    ∙ sym (call_fails t c.args.direction (query_of c.args.input.now) row c.args.from c.in-Err.error
-    c.in-Err.ensures.stop)
+returns-in-Err-clause-call g c = grind (arith, common_steps, call_fails)
 
 pub returns-in-Ok-None-clause-call : goal.returns-in-Ok-None-clause-call
-returns-in-Ok-None-clause-call g c =
-    let t = g.A.Automaton.table c.args.cursor.now.table in
-    let row = row_of (g.A.Automaton.ids c.args.cursor.now.table) c.args.cursor.now.row in
-    ap (λ (told : Option HalfMatch). record { result = Ok tt; told = told; left = none_left Ending.Ended })
-    c.requires.none
-    ∙ sym (ap next_call (walk_ended t c.args.direction (query_of c.args.input.now) row c.args.from
-    (rw c.in-Ok-None.field-0-is at c.in-Ok-None.ensures.stop)))
+returns-in-Ok-None-clause-call g c = grind (arith, common_steps, walk_ended)
 
 pub returns-in-Ok-Some-clause-state : goal.returns-in-Ok-Some-clause-state
 returns-in-Ok-Some-clause-state g c =

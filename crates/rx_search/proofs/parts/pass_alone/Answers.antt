@@ -1,3 +1,4 @@
+use Rattle.std.proofs.lemmas.Grind.{common_steps}
 use Rattle.std.proofs.Common.{sym, ◌∙◌, arith}
 use Rattle.rx_spec.specs.Ids.{row_of}
 use Rattle.rx_spec.specs.declared.Direction.{Direction}
@@ -5,12 +6,7 @@ use Rattle.rx_search.proofs.Passing.{leads_none, leads_more, leads_no_further}
 use Rattle.rx_search.proofs.parts.pass_alone.Goals as goal
 
 pub bytes-init : goal.bytes-init
-bytes-init g c = record {
-  is_id = c.requires.is_id;
-  leads = leads_none (g.A.Automaton.table c.args.dfa.now) Direction.Forward c.args.haystack.now
-      (row_of (g.A.Automaton.ids c.args.dfa.now) c.args.row) c.args.from;
-  few = omega arith;
-}
+bytes-init g c = grind (arith, common_steps, leads_none)
 
 pub returns-then-is_special_state-clause-farthest : goal.returns-then-is_special_state-clause-farthest
 returns-then-is_special_state-clause-farthest g c =

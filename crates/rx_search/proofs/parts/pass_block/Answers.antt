@@ -1,20 +1,12 @@
-use Rattle.std.proofs.Common.{◌≡◌, ℕ, subst, arith}
+use Rattle.std.proofs.Common.{rules, ◌≡◌, ℕ, subst, arith}
+use Rattle.std.proofs.lemmas.Grind.{common_steps}
 use Rattle.rx_search.specs.FourWalks.{AreWalks}
 use Rattle.rx_search.specs.declared.parts.Rows.{Rows}
 use Rattle.rx_search.proofs.FourWalks.{walks_none, walks_more}
 use Rattle.rx_search.proofs.parts.pass_block.Goals as goal
 
 pub bytes-init : goal.bytes-init
-bytes-init g c = record {
-  are_ids = record {
-    first = c.requires.is_id;
-    second = c.lead.ensures;
-    third = c.lead-2.ensures;
-    fourth = c.lead-3.ensures;
-  };
-  walks = walks_none _;
-  few = omega arith;
-}
+bytes-init g c = search (rules, walks_none)
 
 pub bytes-preserved : goal.bytes-preserved
 bytes-preserved g c =
@@ -25,12 +17,7 @@ bytes-preserved g c =
     }
 
 pub returns-then-is_one_special : goal.returns-then-is_one_special
-returns-then-is_one_special g c =
-    let inv = c.bytes.invariant in record {
-      is_id = inv.are_ids.first;
-      leads = inv.walks.first;
-      within = omega (arith, inv.few);
-    }
+returns-then-is_one_special g c = grind (arith, common_steps)
 
 pub returns : goal.returns
 returns g c =

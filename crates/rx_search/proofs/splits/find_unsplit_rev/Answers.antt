@@ -1,4 +1,5 @@
-use Rattle.std.proofs.Common.{◌≡◌, Some, Ok, sym, ◌∙◌, rules}
+use Rattle.std.proofs.Common.{arith, sym, ◌∙◌, rules}
+use Rattle.std.proofs.lemmas.Grind.{common_steps}
 use Rattle.rx_spec.specs.HalfSearches.{half_search}
 use Rattle.rx_spec.specs.declared.Direction.{Direction}
 use Rattle.rx_base.specs.Input.{query_of}
@@ -18,16 +19,10 @@ returns-in-Err-clause-answer g c =
     sym (unsplit_fails t Direction.Reverse c.requires.fits c.in-Err.error (sym c.in-Err.ensures.answer))
 
 pub skip_splits_rev-requires-clause-first : goal.skip_splits_rev-requires-clause-first
-skip_splits_rev-requires-clause-first g c =
-    let t = g.A.Automaton.table c.args.dfa.now in
-    let found = rw c.in-Ok-Some.field-0-is at c.in-Ok-Some.ensures.answer in
-    told_in_span t Direction.Reverse c.requires.fits c.in-Ok-Some.first (sym found)
+skip_splits_rev-requires-clause-first g c = grind (arith, common_steps, told_in_span)
 
 pub skip_splits_rev-requires-clause-within : goal.skip_splits_rev-requires-clause-within
-skip_splits_rev-requires-clause-within g c = λ at h fits told.
-    let t = g.A.Automaton.table c.args.dfa.now in
-    let says : half_search t.machine t.settings Direction.Reverse (query_of at.now) ≡ Ok (Some h) = search rules in
-    told_in_span t Direction.Reverse fits h says
+skip_splits_rev-requires-clause-within g c = grind (arith, common_steps, told_in_span)
 
 pub returns-clause-answer : goal.returns-clause-answer
 returns-clause-answer g c =

@@ -1,37 +1,19 @@
-use Rattle.std.proofs.Common.{◌≡◌, ◌<◌, ℕ, false, ap, ap₂, sym, ◌∙◌, subst, arith, length}
+use Rattle.std.proofs.lemmas.Grind.{common_steps}
+use Rattle.std.proofs.Common.{◌<◌, false, ap, sym, ◌∙◌, subst, arith, length}
 use Rattle.std.proofs.lemmas.Bool.{or_left, or_right}
 use Rattle.rx_spec.specs.Queries.{Query, IsFit, is_anchored}
-use Rattle.rx_spec.specs.Splits.{is_split, is_narrowest, skip_splits, split_limit}
+use Rattle.rx_spec.specs.Splits.{is_narrowest, skip_splits, split_limit}
 use Rattle.rx_base.specs.Input.{query_of}
-use Rattle.rx_search.specs.SplitSearches.{unsplit_from}
 use Rattle.rx_search.specs.Walks.{IsInSpan}
 use Rattle.rx_search.proofs.Unsplit.{whole_there, split_found, whole_told, none_told, searched_again, nothing_found}
 use Rattle.rx_search.proofs.Unsplit.{search_failed, match_found, next_fits, limit_falls}
 use Rattle.rx_search.proofs.splits.skip_splits.Goals as goal
 
 pub splits-init : goal.splits-init
-splits-init g c =
-    let q = query_of c.args.input.now in
-    let same : q ≡ record q { start = c.get_span-span.result.start; end = c.get_span-span.result.end }
-    = sym (ap₂ (λ (s e : ℕ). record q { start = s; end = e })
-    c.get_span-span.ensures.start c.get_span-span.ensures.end) in
-    record {
-      fits = subst IsFit same c.requires.fits;
-      in_span = subst (λ (x : Query). IsInSpan x c.args.first.offset) same c.requires.first;
-      told = λ answers says. ap (λ (x : Query). unsplit_from answers c.args.direction x c.args.first) same;
-    }
+splits-init g c = grind (arith, common_steps)
 
 pub returns-then-is_anchored : goal.returns-then-is_anchored
-returns-then-is_anchored g c =
-    let q = query_of c.args.input.now in
-    let d = c.args.direction in
-    let inv = c.splits.invariant in
-    let now : Query = record q { start = c.splits.span.start; end = c.splits.span.end } in
-    let split = split_found inv.fits inv.in_span c.offset.ensures c.is_char_boundary.ensures c.splits-test.true in
-    let anchored = ap is_anchored (sym c.get_anchored.ensures) ∙ sym c.is_anchored.ensures ∙ c.if-is_anchored.true in
-    λ answers says.
-    sym (inv.told answers says
-    ∙ none_told answers d now c.splits.found split (or_left (is_anchored q.mode) (is_narrowest d now) anchored))
+returns-then-is_anchored g c = grind (arith, common_steps, split_found, none_told, or_left)
 
 pub returns-then-is_narrowest : goal.returns-then-is_narrowest
 returns-then-is_narrowest g c =
@@ -46,13 +28,7 @@ returns-then-is_narrowest g c =
     ∙ none_told answers d now c.splits.found split (or_right (is_anchored q.mode) (is_narrowest d now) narrowest))
 
 pub narrower-span-requires : goal.narrower-span-requires
-narrower-span-requires g c =
-    let span = c.splits.invariant.in_span in
-    let fits = c.splits.invariant.fits in
-    let low = span.low in
-    let high = span.high in
-    let within = fits.within in
-    omega (arith, ap length c.haystack-haystack.ensures, c.haystack-haystack.type_inv.1)
+narrower-span-requires g c = grind (arith, common_steps)
 
 pub with_span-requires-clause-within : goal.with_span-requires-clause-within
 with_span-requires-clause-within g c =
@@ -151,11 +127,4 @@ returns-in-Err g c =
     (sym (says _ _ called c.in-Err.ensures ∙ ap answers c.with_span.ensures)))
 
 pub returns : goal.returns
-returns g c =
-    let q = query_of c.args.input.now in
-    let now : Query = record q { start = c.splits.span.start; end = c.splits.span.end } in
-    λ answers says.
-    sym (c.splits.invariant.told answers says
-    ∙ whole_told answers c.args.direction now c.splits.found
-    (subst (λ (o : ℕ). is_split q.haystack o ≡ false) c.offset.ensures
-    (whole_there q.haystack c.offset.result c.is_char_boundary.ensures c.splits-test.false)))
+returns g c = grind (arith, common_steps, whole_told, whole_there)

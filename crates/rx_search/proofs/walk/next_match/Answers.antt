@@ -1,4 +1,5 @@
-use Rattle.std.proofs.Common.{◌≡◌, ℕ, ◌≤◌, ◌==◌, sym, ◌∙◌, ap, ap₂, subst, arith, refl, length, List}
+use Rattle.std.proofs.lemmas.Grind.{common_steps}
+use Rattle.std.proofs.Common.{◌≡◌, ℕ, ◌≤◌, ◌==◌, sym, ◌∙◌, ap, subst, arith, length, List}
 use Rattle.rx_spec.specs.Ids.{row_of}
 use Rattle.rx_spec.specs.HalfSearches.{next_offset, unit_offset}
 use Rattle.rx_spec.specs.Queries.{Query}
@@ -11,13 +12,12 @@ use Rattle.rx_search.specs.Needles.{byte_ahead}
 use Rattle.rx_search.specs.Starts.{IsId}
 use Rattle.rx_search.specs.Walks.{IsInSpan, last_offset, unit_ahead}
 use Rattle.rx_search.proofs.Needles.{stays}
-use Rattle.rx_search.proofs.Walks.{stepped, Step, LastStep, Place, next_place, within_haystack}
-use Rattle.rx_search.proofs.Walks.{Turn, bytes_of, ordinary, unaccelerated, quiet, eoi_no_quit}
+use Rattle.rx_search.proofs.Walks.{stepped, Step, LastStep, Place, next_place, within_haystack, Turn, bytes_of}
+use Rattle.rx_search.proofs.Walks.{ordinary, unaccelerated, quiet, eoi_no_quit}
 use Rattle.rx_search.proofs.Cursors.{held_by, held_row, at_same, known, skips_at, turned}
 use Rattle.rx_search.proofs.Progress.{Progress, begins, has_room, has_room_last, progress_on, met_stop, met_count}
-use Rattle.rx_search.proofs.Progress.{end_count, quit_stop}
-use Rattle.rx_search.proofs.Progress.{end_stop, last_met_stop}
-use Rattle.rx_search.proofs.Progress.{last_met_count, last_end_count, last_quit_stop, last_end_stop, quits_at}
+use Rattle.rx_search.proofs.Progress.{end_count, quit_stop, end_stop, last_met_stop, last_met_count, last_end_count}
+use Rattle.rx_search.proofs.Progress.{last_quit_stop, last_end_stop, quits_at}
 use Rattle.rx_search.proofs.Passing.{progress_passed}
 use Rattle.rx_search.proofs.walk.next_match.Goals as goal
 
@@ -25,23 +25,10 @@ use Rattle.rx_search.proofs.walk.next_match.Goals as goal
 last_stepped : {t : Table} {direction : Direction} {q : Query} {row next offset unit last : ℕ} {hay : List ℕ}
     → IsInSpan q offset → q.end ≤ length q.haystack → last ≡ last_offset direction q → hay ≡ q.haystack
     → unit ≡ unit_ahead direction hay last → Turn t row unit next → LastStep t direction q row unit next
-last_stepped {t} {direction} is fits last_is hay_is unit_is turn =
-    let low = is.low in
-    let high = is.high in
-    record {
-      order = omega arith;
-      fits = fits;
-      unit_is = unit_is ∙ ap₂ (unit_ahead direction) hay_is last_is;
-      turn = turn;
-    }
+last_stepped {t} {direction} is fits last_is hay_is unit_is turn = grind (arith, common_steps)
 
 pub byte_ahead-byte-requires : goal.byte_ahead-byte-requires
-byte_ahead-byte-requires g c =
-    let q = query_of c.args.input.now in
-    let place : Place q c.bytes.at
-    = record { fits = c.requires.within; in_span = c.bytes.invariant.progress.in_span } in
-    let within = within_haystack c.args.direction place (λ e. c.bytes-test.true (e ∙ sym c.last_offset-last.ensures)) in
-    omega (arith, within, ap length c.haystack-haystack.ensures)
+byte_ahead-byte-requires g c = grind (arith, common_steps, within_haystack)
 
 pub advance-requires : goal.advance-requires
 advance-requires g c =
@@ -54,10 +41,7 @@ advance-requires-2 g c =
     (c.bytes-test.false ∙ c.last_offset-last.ensures)
 
 pub bytes-init : goal.bytes-init
-bytes-init g c = record {
-  table = refl;
-  progress = begins _ c.args.direction (query_of c.args.input.now) _ c.requires.in_span;
-}
+bytes-init g c = grind (arith, common_steps, begins)
 
 pub bytes-preserved-then-not-is_special : goal.bytes-preserved-then-not-is_special
 bytes-preserved-then-not-is_special g c =

@@ -1,3 +1,4 @@
+use Rattle.std.proofs.lemmas.Grind.{common_steps}
 use Rattle.std.proofs.Common.{◌≡◌, ℕ, Bool, true, false, List, Some, Ok, refl, ap, sym, ◌∙◌, subst, arith, length}
 use Rattle.std.specs.Prelude.{slice_set}
 use Rattle.std.proofs.lemmas.List.{length-set}
@@ -7,8 +8,7 @@ use Rattle.rx_search.specs.Collected.{is_full}
 use Rattle.rx_search.specs.SplitSearches.{remaining_unsplit}
 use Rattle.rx_search.proofs.OverlapSplits.{called}
 use Rattle.rx_search.proofs.Collecting.{collect, collect_error, collect_none, collect_full, collect_first}
-use Rattle.rx_search.proofs.Collecting.{collect_on_next}
-use Rattle.rx_search.proofs.Collecting.{fewer_items, full_is, open_is}
+use Rattle.rx_search.proofs.Collecting.{collect_on_next, fewer_items, full_is, open_is}
 use Rattle.rx_search.proofs.which.which_overlapping_matches.Goals as goal
 
 pub returns-in-Err : goal.returns-in-Err
@@ -87,10 +87,4 @@ matches-preserved g c =
     }
 
 pub matches-smaller : goal.matches-smaller
-matches-smaller g c =
-    let q = query_of c.args.input.now in
-    let state = c.find_overlapping_unsplit.new.state in
-    let call = called c.in-Ok.ensures.call in
-    let told : state.told ≡ Some c.in-Some.found = sym c.get_match.ensures ∙ c.in-Some.is in
-    let more = slice_set c.matches.patset c.in-Some.found.pattern true in
-    fewer_items q.earliest c.matches.patset call c.in-Some.found told
+matches-smaller g c = grind (arith, common_steps, called, fewer_items)

@@ -1,3 +1,5 @@
+use Rattle.std.proofs.Common.{arith}
+use Rattle.std.proofs.lemmas.Grind.{common_steps}
 use Rattle.rx_sparse.proofs.ReadRanges.{all_read, eoi_read, read_byte, read_eoi, read_first}
 use Rattle.rx_sparse.proofs.ranges.read_ranges.Goals as goal
 
@@ -11,13 +13,10 @@ loop-first-init c =
     (read_first c.args.row.now.next_ids)
 
 pub loop-first-preserved-in-Continue-1 : goal.loop-first-preserved-in-Continue-1
-loop-first-preserved-in-Continue-1 c =
-    read_byte c.loop-first.invariant c.in-Some.ensures.steps c.in-Byte.is c.class_of.ensures
-    (rw c.as_u32.ensures.value at c.in_ok-push-in-Byte.ensures.items)
+loop-first-preserved-in-Continue-1 c = grind (arith, common_steps, read_byte)
 
 pub loop-first-preserved : goal.loop-first-preserved
-loop-first-preserved c =
-    rw c.as_u32-eoi.ensures.value (read_eoi c.loop-first.invariant c.in-Some.ensures.steps c.in-Eoi.is)
+loop-first-preserved c = grind (arith, common_steps, read_eoi)
 
 pub returns-clause-ranges : goal.returns-clause-ranges
 returns-clause-ranges c = all_read c.loop-first.invariant (c.in-None.ensures.steps).0

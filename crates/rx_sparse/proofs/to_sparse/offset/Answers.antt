@@ -1,6 +1,6 @@
-use Rattle.std.proofs.Common.{◌∙◌, ap}
+use Rattle.std.proofs.Common.{arith}
+use Rattle.std.proofs.lemmas.Grind.{common_steps}
 use Rattle.rx_dense.proofs.Rows.{IsRowId-id}
-use Rattle.rx_sparse.specs.Reading.{offset_in}
 use Rattle.rx_sparse.proofs.SparseBytes.{exponent, offset_same, offset_small, offset_within}
 use Rattle.rx_sparse.proofs.to_sparse.offset.Goals as goal
 
@@ -20,6 +20,4 @@ must-requires g c =
     (IsRowId-id c.args.dfa.now c.args.id c.requires.is_id))
 
 pub returns : goal.returns
-returns g c =
-    c.must.ensures ∙ c.offset.ensures ∙ ap (offset_in c.args.offsets.now) c.as_u32.ensures.value
-    ∙ offset_same c.args.dfa.now c.args.offsets.now c.requires.offsets c.args.id
+returns g c = grind (arith, common_steps, offset_same)

@@ -1,19 +1,18 @@
+use Rattle.std.proofs.Common.{arith}
+use Rattle.std.proofs.lemmas.Grind.{common_steps}
 use Rattle.rx_sparse.proofs.SparseBytes.{all_written, none_written, one_written, written_few, written_id}
 use Rattle.rx_sparse.proofs.SparseBytes.{written_offsets, written_patterns}
 use Rattle.rx_sparse.proofs.to_sparse.row_bytes.Goals as goal
 
 pub loop-row-init : goal.loop-row-init
-loop-row-init g c =
-    rw (c.into_iter-row-iterator.ensures.into_iter_gives, c.states-row-items.ensures.rows, c.in_ok-bytes.ensures.items)
-    (none_written c.args.dfa.now)
+loop-row-init g c = grind (arith, common_steps, none_written)
 
 pub add_row-requires-clause-is_id : goal.add_row-requires-clause-is_id
 add_row-requires-clause-is_id g c =
     written_id c.requires.offsets c.loop-row.invariant c.in-Some.ensures.steps
 
 pub add_row-requires-clause-few : goal.add_row-requires-clause-few
-add_row-requires-clause-few g c =
-    written_few c.requires.offsets c.loop-row.invariant c.in-Some.ensures.steps
+add_row-requires-clause-few g c = grind (arith, common_steps, written_few)
 
 pub add_row-requires-clause-few_patterns : goal.add_row-requires-clause-few_patterns
 add_row-requires-clause-few_patterns g c =

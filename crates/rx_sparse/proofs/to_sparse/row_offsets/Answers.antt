@@ -1,4 +1,5 @@
-use Rattle.std.proofs.Common.{ap, ◌∙◌, ◌≤◌, ℕ, subst, rules}
+use Rattle.std.proofs.Common.{arith, ap, ◌∙◌, ◌≤◌, ℕ, subst, rules}
+use Rattle.std.proofs.lemmas.Grind.{common_steps}
 use Rattle.rx_sparse.specs.Sparse.{IsTooLong, sparse_len}
 use Rattle.rx_spec.specs.Causes.{max_id}
 use Rattle.rx_sparse.proofs.SparseBytes.{all_noted, len_noted, none_noted, noted_few, noted_id, one_noted}
@@ -6,16 +7,13 @@ use Rattle.rx_sparse.proofs.SparseBytes.{refused_whole, too_long}
 use Rattle.rx_sparse.proofs.to_sparse.row_offsets.Goals as goal
 
 pub loop-row-init : goal.loop-row-init
-loop-row-init g c =
-    rw (c.into_iter-row-iterator.ensures.into_iter_gives, c.states-row-items.ensures.rows, c.in_ok-ids.ensures.items)
-    (none_noted c.args.dfa.now)
+loop-row-init g c = grind (arith, common_steps, none_noted)
 
 pub add_offset-requires-clause-is_id : goal.add_offset-requires-clause-is_id
 add_offset-requires-clause-is_id g c = noted_id c.loop-row.invariant c.in-Some.ensures.steps
 
 pub add_offset-requires-clause-few : goal.add_offset-requires-clause-few
-add_offset-requires-clause-few g c =
-    noted_few c.loop-row.invariant c.in-Some.ensures.steps c.states-row-items.ensures.are_rows
+add_offset-requires-clause-few g c = grind (arith, common_steps, noted_few)
 
 pub add_offset-requires-clause-at : goal.add_offset-requires-clause-at
 add_offset-requires-clause-at g c = c.loop-row.invariant.few

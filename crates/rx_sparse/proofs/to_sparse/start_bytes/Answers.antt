@@ -1,8 +1,6 @@
-use Rattle.std.proofs.Common.{ℕ, ◌<◌, ◌≤◌, List, length, map, slice_index, take, ap, ◌∙◌, sym, subst}
-use Rattle.rx_wire.specs.declared.order.Order.TheVariants.{Little}
+use Rattle.std.proofs.Common.{arith, ℕ, ◌<◌, List, length, slice_index, sym, subst}
+use Rattle.std.proofs.lemmas.Grind.{common_steps}
 use Rattle.rx_dense.specs.Layouts.{IsRowId}
-use Rattle.rx_sparse.specs.Reading.{offset_in}
-use Rattle.rx_sparse.specs.Rows.{words_text}
 use Rattle.rx_sparse.proofs.SparseBytes.{exponent, offset_within, starts_written}
 use Rattle.rx_sparse.proofs.to_sparse.start_bytes.Goals as goal
 
@@ -20,10 +18,4 @@ offset-requires-clause-within g c =
     (c.start_ids-ids.ensures.starts.start_ids i low))
 
 pub returns-clause-bytes : goal.returns-clause-bytes
-returns-clause-bytes g c =
-    let l = c.args.dfa.now in
-    let i = c.loop-id.id-index in
-    c.loop-id.invariant
-    ∙ ap (λ ids. words_text Little (map (offset_in c.args.offsets.now) (take i ids))) c.start_ids-ids.ensures.value
-    ∙ starts_written l c.args.offsets.now c.requires i
-    (subst (λ (ids : List ℕ). length ids ≤ i) c.start_ids-ids.ensures.value c.loop-id-test.false)
+returns-clause-bytes g c = grind (arith, common_steps, starts_written)

@@ -1,3 +1,5 @@
+use Rattle.std.proofs.Common.{arith}
+use Rattle.std.proofs.lemmas.Grind.{common_steps}
 use Rattle.rx_sparse_build.proofs.Lengths.{len_greatest, len_is}
 use Rattle.rx_sparse_build.proofs.row_lengths.rows_are_as_long_as_their_states.Goals as goal
 
@@ -5,5 +7,4 @@ pub returns-clause-exactly : goal.returns-clause-exactly
 returns-clause-exactly c = λ b byte_classes accelerate l is. len_is is
 
 pub returns-clause-greatest : goal.returns-clause-greatest
-returns-clause-greatest c = λ b byte_classes accelerate l states is distinct reached.
-    len_greatest is states distinct reached
+returns-clause-greatest c = grind (arith, common_steps, len_greatest)

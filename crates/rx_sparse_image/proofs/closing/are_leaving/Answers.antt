@@ -1,3 +1,4 @@
+use Rattle.std.proofs.lemmas.Grind.{common_steps}
 use Rattle.std.proofs.Common.{◌≡◌, ℕ, ◌+◌, List, true, false, slice_index, sym, ap, ◌∙◌, subst, arith}
 use Rattle.rx_dense_image.proofs.LeavingBytes.{AreMet, met_less, met_more, none_met}
 use Rattle.rx_sparse.specs.Rows.{Row, next_among}
@@ -40,24 +41,10 @@ loop-byte-preserved c =
     ]
 
 pub returns-then-met-needles : goal.returns-then-met-needles
-returns-then-met-needles c =
-    let classes : List ℕ = c.args.image.now.parts.classes in
-    let row : Row = row_of c.args.image.now.parts.order c.args.row.now in
-    let is : c.next.result ≡ next_among row.ranges (slice_index classes c.loop-byte.byte) =
-    c.next.ensures ∙ ap (next_among row.ranges) c.get-class.ensures in
-    let passes : leaves classes c.args.at row c.loop-byte.byte ≡ true =
-    leaves_where classes c.args.at row c.loop-byte.byte c.next.result c.loop-byte-test.true is c.if-next-at.true in
-    few_leave classes c.args.at row c.loop-byte.invariant c.loop-byte-test.true passes c.if-met-needles.true
+returns-then-met-needles c = grind (arith, common_steps, leaves_where, few_leave)
 
 pub returns-then-needles-met : goal.returns-then-needles-met
-returns-then-needles-met c =
-    let classes : List ℕ = c.args.image.now.parts.classes in
-    let row : Row = row_of c.args.image.now.parts.order c.args.row.now in
-    let is : c.next.result ≡ next_among row.ranges (slice_index classes c.loop-byte.byte) =
-    c.next.ensures ∙ ap (next_among row.ranges) c.get-class.ensures in
-    let passes : leaves classes c.args.at row c.loop-byte.byte ≡ true =
-    leaves_where classes c.args.at row c.loop-byte.byte c.next.result c.loop-byte-test.true is c.if-next-at.true in
-    another_leaves classes c.args.at row c.loop-byte.invariant c.loop-byte-test.true passes c.if-needles-met.true
+returns-then-needles-met c = grind (arith, common_steps, leaves_where, another_leaves)
 
 pub returns : goal.returns
 returns c =

@@ -1,4 +1,5 @@
-use Rattle.std.proofs.Common.{◌≡◌, ℕ, ◌+◌, ◌<◌, Bool, true, false, take, get_or, ap, ap₂, sym, ◌∙◌, arith, below_more}
+use Rattle.std.proofs.lemmas.Grind.{common_steps}
+use Rattle.std.proofs.Common.{◌≡◌, ℕ, ◌+◌, ◌<◌, Bool, true, false, take, get_or, ap, sym, ◌∙◌, arith, below_more}
 use Rattle.rx_sparse.specs.Layouts.{Layout}
 use Rattle.rx_sparse.specs.Rows.{Row, no_row, row_in, rows_len}
 use Rattle.rx_sparse.proofs.RowPlaces.{length-rows_in}
@@ -16,8 +17,7 @@ from_zero n = omega arith
 stands_here : (l : Layout) {at place : ℕ} {parts here there : Row} {stands tested : Bool}
     → stands ≡ row_stands l at parts → at ≡ place → parts ≡ here → here ≡ there → stands ≡ tested
     → row_stands l place there ≡ tested
-stands_here l {at} {place} {parts} {here} {there} told same is_here is_there is =
-    sym (ap₂ (row_stands l) same (is_here ∙ is_there)) ∙ sym told ∙ is
+stands_here l {at} {place} {parts} {here} {there} told same is_here is_there is = grind (arith, common_steps)
 
 pub loop-init : goal.loop-init
 loop-init c = record { rest = all_ahead c.requires; passed = λ marks k h. absurd (omega arith) }

@@ -1,6 +1,7 @@
-use Rattle.std.proofs.Common.{◌≡◌, true, length, refl, ap, sym, ◌∙◌, arith}
+use Rattle.std.proofs.lemmas.Grind.{common_steps}
+use Rattle.std.proofs.Common.{◌≡◌, true, refl, ap, sym, ◌∙◌, arith}
 use Rattle.rx_dense_image.proofs.Behind.{and_then, of_word, put_same}
-use Rattle.rx_sparse.specs.Rows.{rows_in, rows_text}
+use Rattle.rx_sparse.specs.Rows.{rows_text}
 use Rattle.rx_sparse.proofs.RowTexts.{length-rows}
 use Rattle.rx_sparse_image.proofs.Pieces.{are_whole, rows_there}
 use Rattle.std.proofs.lemmas.Bool.{false≢true}
@@ -16,69 +17,16 @@ one_order Order.Big Order.Little h = absurd (false≢true h)
 one_order Order.Big Order.Big h = refl
 
 pub put_plain-requires : goal.put_plain-requires
-put_plain-requires g c =
-    let dfa = c.args.dfa.now in
-    let classes = c.byte_classes.ensures.are_classes in
-    omega (
-      arith,
-      ap length c.row_bytes.ensures,
-      length-rows dfa.order dfa.layout.rows,
-      classes.count,
-      ap length (c.as_bytes.ensures ∙ c.byte_classes.ensures.value),
-      c.put_word-count.ensures.len,
-      c.put_word-count.ensures.place,
-      c.put_word-patterns.ensures.len,
-      c.put_word-patterns.ensures.place,
-      c.put_plain-classes.ensures.len,
-      c.put_plain-classes.ensures.place,
-      c.put_word-len.ensures.len,
-      c.put_word-len.ensures.place,
-      c.requires.fits,
-    )
+put_plain-requires g c = grind (arith, common_steps, length-rows)
 
 pub put_rows-requires-clause-rows : goal.put_rows-requires-clause-rows
-put_rows-requires-clause-rows g c =
-    let dfa = c.args.dfa.now in
-    rw (c.order-else-eq.ensures, c.state_len.ensures, c.row_bytes-else-eq.ensures)
-    (are_whole dfa.order dfa.layout c.requires.shaped)
+put_rows-requires-clause-rows g c = grind (arith, common_steps, are_whole)
 
 pub put_rows-requires-clause-fits : goal.put_rows-requires-clause-fits
-put_rows-requires-clause-fits g c =
-    let dfa = c.args.dfa.now in
-    let classes = c.byte_classes.ensures.are_classes in
-    omega (
-      arith,
-      ap length c.row_bytes-else-eq.ensures,
-      length-rows dfa.order dfa.layout.rows,
-      classes.count,
-      ap length (c.as_bytes.ensures ∙ c.byte_classes.ensures.value),
-      c.put_word-count.ensures.len,
-      c.put_word-count.ensures.place,
-      c.put_word-patterns.ensures.len,
-      c.put_word-patterns.ensures.place,
-      c.put_plain-classes.ensures.len,
-      c.put_plain-classes.ensures.place,
-      c.put_word-len.ensures.len,
-      c.put_word-len.ensures.place,
-      c.requires.fits,
-    )
+put_rows-requires-clause-fits g c = grind (arith, common_steps, length-rows)
 
 pub returns-then-eq-clause-place : goal.returns-then-eq-clause-place
-returns-then-eq-clause-place g c =
-    let dfa = c.args.dfa.now in
-    let classes = c.byte_classes.ensures.are_classes in
-    omega (
-      arith,
-      ap length c.row_bytes.ensures,
-      length-rows dfa.order dfa.layout.rows,
-      classes.count,
-      ap length (c.as_bytes.ensures ∙ c.byte_classes.ensures.value),
-      c.put_word-count.ensures.place,
-      c.put_word-patterns.ensures.place,
-      c.put_plain-classes.ensures.place,
-      c.put_word-len.ensures.place,
-      c.put_plain.ensures.place,
-    )
+returns-then-eq-clause-place g c = grind (arith, common_steps, length-rows)
 
 pub returns-then-eq-clause-put : goal.returns-then-eq-clause-put
 returns-then-eq-clause-put g c =
@@ -95,31 +43,7 @@ returns-then-eq-clause-put g c =
     (put_same (c.row_bytes.ensures ∙ ap (λ o. rows_text o dfa.layout.rows) same) c.put_plain.ensures.put))))
 
 pub returns-else-eq-clause-place : goal.returns-else-eq-clause-place
-returns-else-eq-clause-place g c =
-    let dfa = c.args.dfa.now in
-    let classes = c.byte_classes.ensures.are_classes in
-    omega (
-      arith,
-      ap length c.row_bytes-else-eq.ensures,
-      length-rows dfa.order dfa.layout.rows,
-      classes.count,
-      ap length (c.as_bytes.ensures ∙ c.byte_classes.ensures.value),
-      c.put_word-count.ensures.place,
-      c.put_word-patterns.ensures.place,
-      c.put_plain-classes.ensures.place,
-      c.put_word-len.ensures.place,
-      c.put_rows.ensures.place,
-    )
+returns-else-eq-clause-place g c = grind (arith, common_steps, length-rows)
 
 pub returns-else-eq-clause-put : goal.returns-else-eq-clause-put
-returns-else-eq-clause-put g c =
-    let dfa = c.args.dfa.now in
-    let other = g.E.Endian.order in
-    let rows : rows_in c.order-else-eq.result c.state_len.result c.row_bytes-else-eq.result.now ≡ dfa.layout.rows =
-    rw (c.order-else-eq.ensures, c.state_len.ensures, c.row_bytes-else-eq.ensures)
-    (rows_there dfa.order dfa.layout c.requires.shaped) in
-    and_then (of_word other c.row_word.ensures c.put_word-count.ensures.put)
-    (and_then (of_word other c.pattern_len_word.ensures c.put_word-patterns.ensures.put)
-    (and_then (put_same (c.as_bytes.ensures ∙ c.byte_classes.ensures.value) c.put_plain-classes.ensures.put)
-    (and_then (of_word other c.len_word.ensures c.put_word-len.ensures.put)
-    (put_same (ap (rows_text other) rows) c.put_rows.ensures.put))))
+returns-else-eq-clause-put g c = grind (arith, common_steps, rows_there, and_then, of_word, put_same)

@@ -1,3 +1,4 @@
+use Rattle.std.proofs.lemmas.Grind.{common_steps}
 use Rattle.std.proofs.Common.{◌<◌, length, arith}
 use Rattle.rx_sparse.proofs.RowTexts.{whole_ends, whole_ids}
 use Rattle.rx_sparse_image.proofs.Pieces.{after_low, ends_there, head_there, ids_there, left_there, needles_low}
@@ -5,41 +6,16 @@ use Rattle.rx_sparse_image.proofs.Pieces.{needles_there, patterns_there, size_lo
 use Rattle.rx_sparse_image.proofs.row_parts.split_parts.Goals as goal
 
 pub split_at-requires-2 : goal.split_at-requires-2
-split_at-requires-2 c =
-    rw (c.head_number-head.ensures, c.split_at.ensures.front, c.split_at.ensures.back) (whole_ends c.requires)
+split_at-requires-2 c = grind (arith, common_steps, whole_ends)
 
 pub split_at-requires-3 : goal.split_at-requires-3
-split_at-requires-3 c =
-    rw (
-      c.split_at-2.ensures.back,
-      c.head_number-head.ensures,
-      c.split_at.ensures.front,
-      c.split_at.ensures.back,
-    )
-    (whole_ids c.requires)
+split_at-requires-3 c = grind (arith, common_steps, whole_ids)
 
 pub patterns_len-requires : goal.patterns_len-requires
-patterns_len-requires c =
-    rw (
-      c.split_at-3.ensures.back,
-      c.split_at-2.ensures.back,
-      c.head_number-head.ensures,
-      c.split_at.ensures.front,
-      c.split_at.ensures.back,
-    )
-    (size_low c.requires)
+patterns_len-requires c = grind (arith, common_steps, size_low)
 
 pub split_at-requires-4 : goal.split_at-requires-4
-split_at-requires-4 c =
-    rw (
-      c.patterns_len.ensures,
-      c.split_at-3.ensures.back,
-      c.split_at-2.ensures.back,
-      c.head_number-head.ensures,
-      c.split_at.ensures.front,
-      c.split_at.ensures.back,
-    )
-    (size_within c.requires)
+split_at-requires-4 c = grind (arith, common_steps, size_within)
 
 pub bounds-rest-0 : goal.bounds-rest-0
 bounds-rest-0 c =
@@ -57,79 +33,22 @@ bounds-rest-0 c =
     omega (arith, low)
 
 pub split_at-requires-5 : goal.split_at-requires-5
-split_at-requires-5 c =
-    rw (
-      c.split_at-4.ensures.back,
-      c.patterns_len.ensures,
-      c.split_at-3.ensures.back,
-      c.split_at-2.ensures.back,
-      c.head_number-head.ensures,
-      c.split_at.ensures.front,
-      c.split_at.ensures.back,
-    )
-    (needles_low c.requires)
+split_at-requires-5 c = grind (arith, common_steps, needles_low)
 
 pub returns-clause-head : goal.returns-clause-head
 returns-clause-head c = rw (c.head_number-head.ensures, c.split_at.ensures.front) (head_there c.requires)
 
 pub returns-clause-ends : goal.returns-clause-ends
-returns-clause-ends c =
-    rw (
-      c.split_at-2.ensures.front,
-      c.head_number-head.ensures,
-      c.split_at.ensures.front,
-      c.split_at.ensures.back,
-    )
-    (ends_there c.requires)
+returns-clause-ends c = grind (arith, common_steps, ends_there)
 
 pub returns-clause-next_ids : goal.returns-clause-next_ids
-returns-clause-next_ids c =
-    rw (
-      c.split_at-3.ensures.front,
-      c.split_at-2.ensures.back,
-      c.head_number-head.ensures,
-      c.split_at.ensures.front,
-      c.split_at.ensures.back,
-    )
-    (ids_there c.requires)
+returns-clause-next_ids c = grind (arith, common_steps, ids_there)
 
 pub returns-clause-patterns : goal.returns-clause-patterns
-returns-clause-patterns c =
-    rw (
-      c.split_at-4.ensures.front,
-      c.patterns_len.ensures,
-      c.split_at-3.ensures.back,
-      c.split_at-2.ensures.back,
-      c.head_number-head.ensures,
-      c.split_at.ensures.front,
-      c.split_at.ensures.back,
-    )
-    (patterns_there c.requires)
+returns-clause-patterns c = grind (arith, common_steps, patterns_there)
 
 pub returns-clause-needles : goal.returns-clause-needles
-returns-clause-needles c =
-    rw (
-      c.split_at-5.ensures.front,
-      c.split_at-4.ensures.back,
-      c.patterns_len.ensures,
-      c.split_at-3.ensures.back,
-      c.split_at-2.ensures.back,
-      c.head_number-head.ensures,
-      c.split_at.ensures.front,
-      c.split_at.ensures.back,
-    )
-    (needles_there c.requires)
+returns-clause-needles c = grind (arith, common_steps, needles_there)
 
 pub returns-clause-rest : goal.returns-clause-rest
-returns-clause-rest c =
-    rw (
-      c.split_at-5.ensures.back,
-      c.split_at-4.ensures.back,
-      c.patterns_len.ensures,
-      c.split_at-3.ensures.back,
-      c.split_at-2.ensures.back,
-      c.head_number-head.ensures,
-      c.split_at.ensures.front,
-      c.split_at.ensures.back,
-    )
-    (left_there c.requires)
+returns-clause-rest c = grind (arith, common_steps, left_there)

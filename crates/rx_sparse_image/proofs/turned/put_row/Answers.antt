@@ -1,10 +1,10 @@
+use Rattle.std.proofs.lemmas.Grind.{common_steps}
 use Rattle.std.proofs.Common.{◌/◌, length, ap, ◌∙◌, arith}
 use Rattle.std.specs.Int.{w16}
 use Rattle.rx_wire.specs.Fields.{field}
 use Rattle.rx_dense_image.proofs.Behind.{and_then, put_same}
-use Rattle.rx_sparse.specs.Rows.{row_in, words_in, words_text}
+use Rattle.rx_sparse.specs.Rows.{row_in, words_in, words_text, next_ids}
 use Rattle.rx_sparse_image.proofs.Pieces.{ids_turned, patterns_turned, patterns_whole, row_sizes, words_whole}
-use Rattle.rx_sparse.specs.Rows.{next_ids}
 use Rattle.rx_sparse_image.proofs.turned.put_row.Goals as goal
 
 pub put_plain-end-requires : goal.put_plain-end-requires
@@ -20,9 +20,7 @@ put_plain-end-requires g c =
     )
 
 pub put_words-end-requires-clause-whole : goal.put_words-end-requires-clause-whole
-put_words-end-requires-clause-whole g c =
-    rw c.split_parts.ensures.next_ids
-    (words_whole c.args.order (next_ids (row_in c.args.order c.args.bytes.now)))
+put_words-end-requires-clause-whole g c = grind (arith, common_steps, words_whole)
 
 pub put_words-end-requires-clause-fits : goal.put_words-end-requires-clause-fits
 put_words-end-requires-clause-fits g c =
@@ -40,9 +38,7 @@ put_words-end-requires-clause-fits g c =
     )
 
 pub put_words-end-requires-2-clause-whole : goal.put_words-end-requires-2-clause-whole
-put_words-end-requires-2-clause-whole g c =
-    rw c.split_parts.ensures.patterns
-    (patterns_whole c.args.order (row_in c.args.order c.args.bytes.now).patterns)
+put_words-end-requires-2-clause-whole g c = grind (arith, common_steps, patterns_whole)
 
 pub put_words-end-requires-2-clause-fits : goal.put_words-end-requires-2-clause-fits
 put_words-end-requires-2-clause-fits g c =

@@ -1,40 +1,21 @@
-use Rattle.std.proofs.Common.{◌≡◌, ℕ, ◌<◌, List, drop, take, refl, ap, sym, ◌∙◌, subst, arith}
+use Rattle.std.proofs.lemmas.Grind.{common_steps}
+use Rattle.std.proofs.Common.{ℕ, ◌<◌, drop, ap, ◌∙◌, arith}
 use Rattle.std.proofs.lemmas.List.{take_all}
 use Rattle.rx_dense_image.proofs.Behind.{and_then, put_nothing, put_same}
-use Rattle.rx_sparse.specs.Parts.{IsWholeRow}
-use Rattle.rx_sparse.specs.Rows.{Row, row_in, row_len, row_text, rows_in, rows_len, rows_text}
+use Rattle.rx_sparse.specs.Rows.{row_in, row_len, row_text, rows_len}
 use Rattle.rx_sparse.proofs.RowPlaces.{length-rows_in}
 use Rattle.rx_sparse_image.proofs.Pieces.{next_len, next_there, place_within, rows_more, rows_size, whole_there}
 use Rattle.rx_sparse_image.proofs.turned.put_rows.Goals as goal
 
 pub put_row-requires-clause-whole : goal.put_row-requires-clause-whole
-put_row-requires-clause-whole g c =
-    subst (IsWholeRow c.args.order) (sym c.loop.invariant.rest)
-    (whole_there c.args.order c.args.count c.args.bytes.now c.requires.rows c.loop.counter
-    (omega (arith, c.loop-test.true)))
+put_row-requires-clause-whole g c = grind (arith, common_steps, whole_there)
 
 pub put_row-requires-clause-fits : goal.put_row-requires-clause-fits
-put_row-requires-clause-fits g c =
-    let order = c.args.order in
-    let within = place_within order c.args.count c.args.bytes.now c.requires.rows c.loop.counter
-    (omega (arith, c.loop-test.true)) in
-    omega (
-      arith,
-      within,
-      c.loop.invariant.place,
-      c.loop.invariant.len,
-      c.requires.fits,
-      ap (λ t. row_len (row_in order t)) c.loop.invariant.rest,
-    )
+put_row-requires-clause-fits g c = grind (arith, common_steps, place_within)
 
 pub loop-init : goal.loop-init
 unfolding rows_len
-loop-init g c = record {
-  len = omega arith;
-  place = omega arith;
-  rest = refl;
-  put = put_nothing c.args.dst.now c.args.at;
-}
+loop-init g c = grind (arith, common_steps, put_nothing)
 
 pub loop-preserved : goal.loop-preserved
 loop-preserved g c =
@@ -66,23 +47,7 @@ loop-preserved g c =
     }
 
 pub returns-clause-place : goal.returns-clause-place
-returns-clause-place g c =
-    let rows : List Row = rows_in c.args.order c.args.count c.args.bytes.now in
-    let all : take c.loop.counter rows ≡ rows =
-    take_all c.loop.counter rows
-    (omega (arith, c.loop-test.false, length-rows_in c.args.order c.args.count c.args.bytes.now)) in
-    omega (
-      arith,
-      c.loop.invariant.place,
-      ap rows_len all,
-      rows_size c.args.order c.args.count c.args.bytes.now c.requires.rows,
-    )
+returns-clause-place g c = grind (arith, common_steps, take_all, length-rows_in, rows_size)
 
 pub returns-clause-put : goal.returns-clause-put
-returns-clause-put g c =
-    let rows : List Row = rows_in c.args.order c.args.count c.args.bytes.now in
-    put_same
-    (ap (rows_text g.E.Endian.order)
-    (take_all c.loop.counter rows
-    (omega (arith, c.loop-test.false, length-rows_in c.args.order c.args.count c.args.bytes.now))))
-    c.loop.invariant.put
+returns-clause-put g c = grind (arith, common_steps, put_same, take_all, length-rows_in)

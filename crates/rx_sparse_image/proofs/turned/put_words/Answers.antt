@@ -1,29 +1,17 @@
-use Rattle.std.proofs.Common.{◌≡◌, ℕ, ◌/◌, List, ap, arith, sym, ◌∙◌, length, slice_index}
+use Rattle.std.proofs.lemmas.Grind.{common_steps}
+use Rattle.std.proofs.Common.{◌≡◌, ℕ, ◌/◌, List, arith, sym, ◌∙◌, length, slice_index}
 use Rattle.std.proofs.lemmas.List.{take_all}
 use Rattle.std.proofs.lemmas.List.FromFn.{get_or-map-range_with_len, length-map-range_with_len}
 use Rattle.std.proofs.lemmas.Nat.{div-add-mod'}
-use Rattle.rx_dense_image.specs.Rows.{words_text}
 use Rattle.rx_dense_image.proofs.Behind.{and_then, of_word, put_nothing, put_same, words_more}
 use Rattle.rx_sparse.specs.Rows.{word_at, words_in}
 use Rattle.rx_sparse_image.proofs.turned.put_words.Goals as goal
 
 pub put_word-end-requires : goal.put_word-end-requires
-put_word-end-requires g c =
-    omega (
-      arith,
-      c.requires.fits,
-      c.loop-i.invariant.len,
-      c.loop-i.invariant.place,
-      c.loop-i-test.true,
-      div-add-mod' (length c.args.words.now) 4,
-    )
+put_word-end-requires g c = grind (arith, common_steps, div-add-mod')
 
 pub loop-i-init : goal.loop-i-init
-loop-i-init g c = record {
-  len = omega arith;
-  place = omega arith;
-  put = put_nothing c.args.dst.now c.args.at;
-}
+loop-i-init g c = grind (arith, common_steps, put_nothing)
 
 pub loop-i-preserved : goal.loop-i-preserved
 loop-i-preserved g c =
@@ -46,22 +34,7 @@ loop-i-preserved g c =
     }
 
 pub returns-clause-place : goal.returns-clause-place
-returns-clause-place g c =
-    omega (
-      arith,
-      c.loop-i.invariant.place,
-      c.loop-i-test.false,
-      c.requires.whole,
-      div-add-mod' (length c.args.words.now) 4,
-    )
+returns-clause-place g c = grind (arith, common_steps, div-add-mod')
 
 pub returns-clause-put : goal.returns-clause-put
-returns-clause-put g c =
-    let order = c.args.order in
-    let bytes = c.args.words.now in
-    let count : ℕ = length bytes / 4 in
-    let words : List ℕ = words_in order count bytes in
-    let len : length words ≡ count = length-map-range_with_len (word_at order bytes) 0 count in
-    put_same
-    (ap (words_text g.E.Endian.order) (take_all c.loop-i.i words (omega (arith, c.loop-i-test.false, len))))
-    c.loop-i.invariant.put
+returns-clause-put g c = grind (arith, common_steps, length-map-range_with_len, put_same, take_all)

@@ -1,3 +1,4 @@
+use Rattle.std.proofs.lemmas.Grind.{common_steps}
 use Rattle.std.proofs.Common.{◌≡◌, ℕ, ◌-◌, ◌<◌, false, Ok, length, subst, ap, ◌∙◌, arith, rules}
 use Rattle.std.proofs.lemmas.List.{length-replicate, length-set}
 use Rattle.std.proofs.lemmas.Result.{err_from_is_err_and}
@@ -52,16 +53,10 @@ rows-preserved c =
     }
 
 pub returns-clause-read : goal.returns-clause-read
-returns-clause-read c =
-    let none : length c.rows.rest.now ≡ 0 = search rules in
-    all_read c.rows.invariant.passed c.requires none
+returns-clause-read c = grind (arith, common_steps, all_read)
 
 pub returns-clause-whole : goal.returns-clause-whole
-returns-clause-whole c =
-    let none : length c.rows.rest.now ≡ 0 = search rules in
-    all_whole c.rows.invariant.passed c.requires none
+returns-clause-whole c = grind (arith, common_steps, all_whole)
 
 pub returns-clause-tested : goal.returns-clause-tested
-returns-clause-tested c =
-    let none : length c.rows.rest.now ≡ 0 = search rules in
-    all_tested c.rows.invariant.passed c.requires none
+returns-clause-tested c = grind (arith, common_steps, all_tested)

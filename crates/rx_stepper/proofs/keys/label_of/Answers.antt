@@ -1,4 +1,5 @@
-use Rattle.std.proofs.Common.{◌≡◌, ℕ, List, [], ◌-◌, length, take, drop, get_or, ap, sym, ◌∙◌, arith, length-drop}
+use Rattle.std.proofs.lemmas.Grind.{common_steps}
+use Rattle.std.proofs.Common.{◌≡◌, ℕ, List, [], ◌-◌, length, take, drop, sym, ◌∙◌, arith, length-drop}
 use Rattle.std.proofs.lemmas.List.{take_all, nil_from_length}
 use Rattle.rx_stepper.specs.Keys.{label_of}
 use Rattle.rx_stepper.proofs.keys.label_of.Goals as goal
@@ -11,20 +12,12 @@ take_none n xs e = sym (nil_from_length xs e) ∙ sym (take_all n xs (omega (ari
 
 pub returns-then-key-lt3 : goal.returns-then-key-lt3
 unfolding label_of
-returns-then-key-lt3 c =
-    let key = c.args.key.now in
-    take_none (get_or key 1 0) (drop 3 key) (omega (arith, length-drop 3 key, c.if-key-lt3.true))
+returns-then-key-lt3 c = grind (arith, common_steps, take_none, length-drop)
 
 pub returns-then-numbers-len : goal.returns-then-numbers-len
 unfolding label_of
-returns-then-numbers-len c =
-    let key = c.args.key.now in
-    all_numbers key
-    ∙ sym (take_all (get_or key 1 0) (drop 3 key)
-    (omega (arith, c.if-numbers-len.true, ap length (all_numbers key))))
+returns-then-numbers-len c = grind (arith, common_steps, all_numbers, take_all)
 
 pub returns-else-numbers-len : goal.returns-else-numbers-len
 unfolding label_of
-returns-else-numbers-len c =
-    let key = c.args.key.now in
-    ap (take (get_or key 1 0)) (all_numbers key)
+returns-else-numbers-len c = grind (arith, common_steps, all_numbers)

@@ -5,9 +5,7 @@ use Rattle.rx_stepper.proofs.ListedColumns.{set_added, set_listed, listed_still}
 use Rattle.rx_stepper.proofs.reading.span_of_set.Goals as goal
 
 pub returns-clause-columns : goal.returns-clause-columns
-returns-clause-columns c =
-    let units = map unit_number c.args.units.now in
-    set_added c.args.set.now units (length-map c.args.units.now unit_number) c.in_ok-push_columns.ensures
+returns-clause-columns c = search (rules, set_added, length-map)
 
 pub returns-clause-listed : goal.returns-clause-listed
 returns-clause-listed c =

@@ -1,4 +1,5 @@
-use Rattle.std.proofs.Common.{inr, ap, sym, ◌∙◌, subst, arith}
+use Rattle.std.proofs.lemmas.Grind.{common_steps}
+use Rattle.std.proofs.Common.{ap, sym, ◌∙◌, subst, arith}
 use Rattle.std.specs.Prelude.{IfSome, length, ◌<◌}
 use Rattle.rx_stepper.specs.Steps.{goes_on}
 use Rattle.rx_stepper.proofs.EmptyLists.{list_there}
@@ -6,12 +7,7 @@ use Rattle.rx_stepper.proofs.LeadPlaces.{at_or}
 use Rattle.rx_stepper.proofs.stepper.lead_steps.Goals as goal
 
 pub returns-then-not-goes_on : goal.returns-then-not-goes_on
-returns-then-not-goes_on c =
-    let own = c.args.current.now.steps in
-    let there = list_there (λ v. v.items) own.matches.items c.args.group c.index.result.now
-    (omega (arith, own.matches_len, c.requires.group)) c.index.ensures in
-    inr
-    (ap (goes_on c.args.kind) (there ∙ sym c.deref.ensures.value) ∙ sym c.goes_on.ensures ∙ c.if-not-goes_on.true)
+returns-then-not-goes_on c = grind (arith, common_steps, list_there)
 
 pub returns : goal.returns
 returns c =

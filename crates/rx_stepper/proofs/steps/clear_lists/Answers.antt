@@ -1,6 +1,7 @@
+use Rattle.std.proofs.Common.{arith}
+use Rattle.std.proofs.lemmas.Grind.{common_steps}
 use Rattle.rx_stepper.proofs.EmptyLists.{empty_set}
 use Rattle.rx_stepper.proofs.steps.clear_lists.Goals as goal
 
 pub loop-list-preserved : goal.loop-list-preserved
-loop-list-preserved c =
-    empty_set (λ v. v.items) c.loop-list.lists c.loop-list.list-index _ c.clear.ensures.items c.loop-list.invariant
+loop-list-preserved c = grind (arith, common_steps, empty_set)

@@ -1,4 +1,5 @@
-use Rattle.std.proofs.Common.{sym, ◌∙◌, ℕ, List, Some, None, subst}
+use Rattle.std.proofs.Common.{arith, sym, ◌∙◌, ℕ, List, None, subst}
+use Rattle.std.proofs.lemmas.Grind.{common_steps}
 use Rattle.rx_search.specs.Needles.{IsFirstNeedle}
 use Rattle.rx_search.proofs.Standing.{standing}
 use Rattle.rx_search.proofs.Needles.{some_needles}
@@ -6,14 +7,7 @@ use Rattle.rx_stream.proofs.Pieces.{skip_found, skip_none, rest_of_piece}
 use Rattle.rx_stream.proofs.skips.skip.Goals as goal
 
 pub returns-in-Some : goal.returns-in-Some
-returns-in-Some g c =
-    let met = g.met.A.Automaton in
-    let table = c.args.table.now in
-    let s = standing c.args.row (met.sound table c.requires.sound) (met.are_ids table) c.requires.is_id in
-    let accelerated = sym c.is_accel_state.ensures ∙ c.if-not-is_accel_state.false in
-    skip_found (c.as_slice.ensures ∙ c.accelerator.ensures) (some_needles s accelerated) c.requires.within
-    c.in-Some.at (subst (λ (xs : List ℕ). IsFirstNeedle c.as_slice.result.now xs (Some c.in-Some.at))
-    (rest_of_piece c.args.piece.now c.args.from) c.in-Some.ensures)
+returns-in-Some g c = grind (arith, common_steps, standing, skip_found, some_needles, rest_of_piece)
 
 pub returns-in-None : goal.returns-in-None
 returns-in-None g c =

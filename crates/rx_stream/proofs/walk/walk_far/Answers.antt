@@ -1,3 +1,4 @@
+use Rattle.std.proofs.lemmas.Grind.{common_steps}
 use Rattle.std.proofs.Common.{refl, sym, ◌∙◌, arith}
 use Rattle.rx_search.proofs.Standing.{standing}
 use Rattle.rx_search.proofs.Walks.{bytes_of, ordinary}
@@ -53,8 +54,4 @@ passes-preserved g c =
     )
 
 pub passes-smaller-in-bytes : goal.passes-smaller-in-bytes
-passes-smaller-in-bytes g c =
-    let on = c.bytes.invariant.on in
-    let low = c.skip-at.ensures.low in
-    let high = c.skip-at.ensures.high in
-    omega (arith, on, low, high, c.passes-test.true)
+passes-smaller-in-bytes g c = grind (arith, common_steps)

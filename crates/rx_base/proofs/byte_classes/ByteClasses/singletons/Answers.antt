@@ -1,6 +1,5 @@
-use Rattle.std.proofs.Common.{◌<◌, length, length-set, get_or-set_same, get_or-set_other, ◌≢◌, below_more}
-use Rattle.std.proofs.Common.{arith}
-use Rattle.rx_base.proofs.Classes.{AreClasses-singletons}
+use Rattle.std.proofs.lemmas.Grind.{common_steps}
+use Rattle.std.proofs.Common.{◌<◌, length, length-set, get_or-set_same, get_or-set_other, ◌≢◌, below_more, arith}
 use Rattle.rx_base.proofs.byte_classes.ByteClasses.singletons.Goals as goal
 
 pub loop-byte-init : goal.loop-byte-init
@@ -17,6 +16,4 @@ loop-byte-preserved c =
     )
 
 pub invariant_of-result : goal.invariant_of-result
-invariant_of-result c =
-    let known = c.loop-byte.invariant in
-    AreClasses-singletons c.loop-byte.classes known.0 (λ b h. known.1 b (omega arith))
+invariant_of-result c = grind (arith, common_steps)

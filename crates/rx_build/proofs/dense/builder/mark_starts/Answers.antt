@@ -1,19 +1,14 @@
-use Rattle.std.proofs.Common.{◌≡◌, false, ap, subst, sym, ◌∙◌}
+use Rattle.std.proofs.Common.{arith, ◌≡◌, false, ap, subst, sym, ◌∙◌}
+use Rattle.std.proofs.lemmas.Grind.{common_steps}
 use Rattle.rx_dense.specs.declared.special.Special.{Special}
 use Rattle.rx_dense.specs.Layouts.{Layout}
-use Rattle.rx_order.specs.RowOrder.{IsInOrder}
 use Rattle.rx_build.specs.Making.{IsMade, marked_as}
 use Rattle.rx_build.proofs.StartMarks.{unmarked, unmarked_order, unmarked_special}
 use Rattle.rx_build.proofs.Stages.{unmarked_made}
 use Rattle.rx_build.proofs.dense.builder.mark_starts.Goals as goal
 
 pub returns-then-not-yes-clause-in_order : goal.returns-then-not-yes-clause-in_order
-returns-then-not-yes-clause-in_order c =
-    let l = c.args.dfa.now in
-    let special = c.set_no_special_start_states.ensures ∙ ap unmarked_special c.special.ensures in
-    let is : c.set_special.new.self ≡ unmarked l =
-    c.set_special.ensures ∙ ap (λ (s : Special). record l { special = s }) special in
-    subst IsInOrder (sym is) (unmarked_order l c.requires.in_order c.requires.plain)
+returns-then-not-yes-clause-in_order c = grind (arith, common_steps, unmarked_special, unmarked, unmarked_order)
 
 pub returns-then-not-yes-clause-made : goal.returns-then-not-yes-clause-made
 returns-then-not-yes-clause-made c = λ b begun joined made.

@@ -1,5 +1,5 @@
-use Rattle.std.proofs.Common.{◌≡◌, ◌==◌, ◌||◌, Bool, true, false, if◌then◌else◌, refl, sym, ap, ◌∙◌}
-use Rattle.rx_spec.specs.Bytes.{contains}
+use Rattle.std.proofs.Common.{arith, ◌≡◌, ◌||◌, Bool, true, false, if◌then◌else◌, refl, sym}
+use Rattle.std.proofs.lemmas.Grind.{common_steps}
 use Rattle.rx_base.proofs.ByteSets.{contains-add}
 use Rattle.rx_build.proofs.dense.config.with_byte.Goals as goal
 
@@ -10,6 +10,4 @@ put_in false true choice e = sym e
 put_in false false choice e = refl
 
 pub returns-then-yes : goal.returns-then-yes
-returns-then-yes c = λ other.
-    ap (λ set. contains set other) c.add.ensures ∙ contains-add c.args.set c.args.byte other c.ranges.byte.fits
-    ∙ put_in (contains c.args.set other) (other == c.args.byte) c.args.yes c.if-yes.true
+returns-then-yes c = grind (arith, common_steps, contains-add, put_in)

@@ -1,4 +1,5 @@
-use Rattle.std.proofs.Common.{◌∙◌, ℕ, ◌^◌, ◌%◌, sym, subst, ap}
+use Rattle.std.proofs.Common.{arith, ◌∙◌, ℕ, ◌^◌, ◌%◌, sym, subst, ap}
+use Rattle.std.proofs.lemmas.Grind.{common_steps}
 use Rattle.std.proofs.lemmas.Bool.{leb-true}
 use Rattle.rx_dense.specs.Layouts.{IsShaped}
 use Rattle.rx_dense.proofs.Marks.{HasMarks, found, mark_first, mark_final}
@@ -6,8 +7,7 @@ use Rattle.rx_dense.proofs.RowKinds.{match_first}
 use Rattle.rx_dense.proofs.dfa.DFA.mark.Goals as goal
 
 pub place_in_range-place-requires : goal.place_in_range-place-requires
-place_in_range-place-requires g c =
-    rw c.special.ensures (match_first c.args.self.now c.args.id c.requires.is_id c.requires.is_match)
+place_in_range-place-requires g c = grind (arith, common_steps, match_first)
 
 pub must-requires : goal.must-requires
 must-requires g c =
@@ -30,12 +30,4 @@ returns-in-Some-clause-first g c =
     ∙ mark_first l c.args.id c.requires.is_id c.requires.sound c.requires.is_match are f.has shaped.lists
 
 pub returns-in-Some-clause-ends : goal.returns-in-Some-clause-ends
-returns-in-Some-clause-ends g c final =
-    let l = c.args.self.now in
-    let marks = g.T.WordStore.list c.self.inside.marks in
-    let are = subst (λ l. HasMarks l marks) c.self.view_is c.self.inside.marked in
-    let shaped = subst IsShaped c.self.view_is c.self.invariant in
-    let f = found l marks c.args.id (rw c.special.ensures at c.place_in_range-place.ensures) c.words.ensures
-    (sym c.in-Some.ensures.lookup.0) c.in-Some.ensures.lookup.1 in
-    mark_final l c.args.id c.requires.is_id c.requires.sound c.requires.is_match are f.has shaped.rows
-    (rw f.mark_is at (leb-true _ _ final))
+returns-in-Some-clause-ends g c final = grind (arith, common_steps, found, mark_final, leb-true)

@@ -1,4 +1,5 @@
-use Rattle.std.proofs.Common.{ℕ, ◌∙◌, ◌+◌, ◌*◌, ◌<◌, ◌≤◌, List, length, slice_index, subst, sym, arith}
+use Rattle.std.proofs.lemmas.Grind.{common_steps}
+use Rattle.std.proofs.Common.{ℕ, ◌<◌, ◌≤◌, List, length, slice_index, subst, sym, arith}
 use Rattle.rx_spec.specs.Causes.{max_id}
 use Rattle.rx_dense.specs.Layouts.{place_in_range}
 use Rattle.rx_dense.proofs.RowKinds.{match_first, match_place, match_patterns, pattern_ids}
@@ -6,18 +7,13 @@ use Rattle.rx_dense.proofs.Rows.{part_is}
 use Rattle.rx_dense.proofs.dfa.DFA.patterns.Goals as goal
 
 pub place_in_range-place-requires : goal.place_in_range-place-requires
-place_in_range-place-requires g c =
-    rw c.special.ensures (match_first c.args.self.now c.args.id c.requires.is_id c.requires.is_match)
+place_in_range-place-requires g c = grind (arith, common_steps, match_first)
 
 pub bounds-slices-place : goal.bounds-slices-place
-bounds-slices-place g c =
-    let within = match_place c.args.self.now c.args.id c.requires.is_id c.requires.sound c.requires.is_match in
-    rw (c.place_in_range-place.ensures, c.special.ensures, c.slices-slices.ensures.value) (omega (arith, within))
+bounds-slices-place g c = grind (arith, common_steps, match_place)
 
 pub bounds-slices-place-2 : goal.bounds-slices-place-2
-bounds-slices-place-2 g c =
-    let within = match_place c.args.self.now c.args.id c.requires.is_id c.requires.sound c.requires.is_match in
-    rw (c.place_in_range-place.ensures, c.special.ensures, c.slices-slices.ensures.value) within
+bounds-slices-place-2 g c = grind (arith, common_steps, match_place)
 
 pub slice_bounds-result-end : goal.slice_bounds-result-end
 slice_bounds-result-end g c =
@@ -27,12 +23,7 @@ slice_bounds-result-end g c =
     rw (c.place_in_range-place.ensures, c.special.ensures, c.slices-slices.ensures.value, c.pattern_ids.ensures) fits
 
 pub returns-clause-value : goal.returns-clause-value
-returns-clause-value g c =
-    let l = c.args.self.now in
-    let i = place_in_range l l.special.min_match c.args.id in
-    rw (c.place_in_range-place.ensures, c.special.ensures, c.slices-slices.ensures.value, c.pattern_ids.ensures)
-    (part_is l.pattern_ids (slice_index l.slices (2 * i)) (slice_index l.slices (2 * i + 1))
-    ∙ sym (match_patterns l c.args.id c.requires.is_id c.requires.is_match))
+returns-clause-value g c = grind (arith, common_steps, part_is, match_patterns)
 
 pub returns-clause-are_ids : goal.returns-clause-are_ids
 returns-clause-are_ids g c =

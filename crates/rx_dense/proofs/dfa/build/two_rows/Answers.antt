@@ -1,13 +1,12 @@
-use Rattle.std.proofs.Common.{◌≤◌, ◌*◌, ap, arith}
+use Rattle.std.proofs.lemmas.Grind.{common_steps}
+use Rattle.std.proofs.Common.{◌≤◌, arith}
 use Rattle.rx_base.specs.ByteClasses.{alphabet_len}
 use Rattle.lemmas_tables.proofs.ClassNumbers.{stride_holds, stride_within}
 use Rattle.rx_dense.proofs.Rows.{alphabet_few, stride_few, stride_shifted}
 use Rattle.rx_dense.proofs.dfa.build.two_rows.Goals as goal
 
 pub overflow_shl-stride : goal.overflow_shl-stride
-overflow_shl-stride c =
-    let alphabet = c.alphabet_len-alphabet_len.ensures in
-    omega (arith, c.stride2-stride.ensures, (stride_within (alphabet_len c.args.classes.now) (omega arith)).1)
+overflow_shl-stride c = grind (arith, common_steps, stride_within)
 
 pub prove-unreachable-requires : goal.prove-unreachable-requires
 prove-unreachable-requires c =
@@ -20,13 +19,7 @@ prove-unreachable-requires c =
     omega (arith, c.if-prove.true, stride_shifted c.stride2-stride.result exponent, alphabet.value, holds)
 
 pub overflow_mul-result : goal.overflow_mul-result
-overflow_mul-result c =
-    let within = stride_within (alphabet_len c.args.classes.now) (omega arith) in
-    let exponent : c.stride2-stride.result ≤ 9 = omega (arith, c.stride2-stride.ensures, within.1) in
-    omega (arith, stride_shifted c.stride2-stride.result exponent, stride_few c.stride2-stride.result exponent)
+overflow_mul-result c = grind (arith, common_steps, stride_within, stride_shifted, stride_few)
 
 pub returns-clause-value : goal.returns-clause-value
-returns-clause-value c =
-    let within = stride_within (alphabet_len c.args.classes.now) (omega arith) in
-    let exponent : c.stride2-stride.result ≤ 9 = omega (arith, c.stride2-stride.ensures, within.1) in
-    rw (← c.stride2-stride.ensures) (ap (λ x. 2 * x) (stride_shifted c.stride2-stride.result exponent))
+returns-clause-value c = grind (arith, common_steps, stride_within, stride_shifted)

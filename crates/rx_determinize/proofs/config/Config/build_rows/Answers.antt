@@ -1,3 +1,4 @@
+use Rattle.std.proofs.lemmas.Grind.{common_steps}
 use Rattle.std.proofs.Common.{◌≡◌, ◌≤◌, Bool, true, All, ap, ◌∙◌, subst, sym, arith}
 use Rattle.std.proofs.lemmas.List.Elements.{All-weaker}
 use Rattle.std.proofs.lemmas.Result.{err_from_is_err_and}
@@ -7,7 +8,7 @@ use Rattle.rx_stepper.specs.Keys.{label_of}
 use Rattle.rx_stepper.specs.Stepping.{HasOneKeyEach, SpellStates, Stepping}
 use Rattle.rx_stepper.specs.Steppers.{stepping_of}
 use Rattle.rx_determinize.specs.Constructions.{AreUnits, Continues, work_of}
-use Rattle.rx_determinize.specs.Determinized.{IsBegunWith, Settings}
+use Rattle.rx_determinize.specs.Determinized.{IsBegunWith}
 use Rattle.rx_determinize.proofs.AddingLaws.{few_keys}
 use Rattle.rx_determinize.proofs.BuiltLaws.{IsBuilt}
 use Rattle.rx_determinize.proofs.ContinuesLaws.{continues_twice, refused_later}
@@ -22,16 +23,7 @@ begins : (c : In_ok-construction) (byte_classes : Bool)
     → IsBegunWith (meaning c.args.nfa.now) c.args.self.now byte_classes c.args.dfa.now
     → Begins (work_of c.in_ok-construction.construction) (meaning c.args.nfa.now) c.args.self.now byte_classes
     c.args.dfa.now
-begins c byte_classes begun =
-    let same = c.in_ok-construction.ensures.stepping in
-    record {
-      begun = begun;
-      nfa_is = ap (λ (s : Stepping). s.nfa) same ∙ c.in_ok-stepper.ensures.nfa;
-      kind_is =
-          ap (λ (s : Stepping). s.kind) same ∙ c.in_ok-stepper.ensures.kind
-          ∙ ap (λ (m : Settings). m.match_kind) c.self.view_is;
-      limits_are = c.in_ok-construction.ensures.limits ∙ c.limits.ensures;
-    }
+begins c byte_classes begun = grind (arith, common_steps)
 
 pub set_starts-requires-clause-entering : goal.set_starts-requires-clause-entering
 set_starts-requires-clause-entering c =
@@ -46,8 +38,7 @@ set_starts-requires-clause-entering c =
     (subst SpellStates (sym same) c.in_ok-stepper.ensures.spells) c.args.nfa.now.patterns
 
 pub set_starts-requires-clause-nfa : goal.set_starts-requires-clause-nfa
-set_starts-requires-clause-nfa c =
-    ap (λ (s : Stepping). s.nfa) c.in_ok-construction.ensures.stepping ∙ c.in_ok-stepper.ensures.nfa
+set_starts-requires-clause-nfa c = grind (arith, common_steps)
 
 pub set_starts-requires-clause-entries : goal.set_starts-requires-clause-entries
 set_starts-requires-clause-entries c =
@@ -115,12 +106,7 @@ returns-clause-fits c byte_classes begun =
     fits x (later prior.In_ok-explore) (built prior.In_ok-explore x) c.requires.supported
 
 pub returns-in_err-construction-clause-err : goal.returns-in_err-construction-clause-err
-returns-in_err-construction-clause-err c =
-    let p = err_from_is_err_and c.from_residual-in_err-construction.result
-    c.from_residual-in_err-construction.ensures.1 in
-    rw (p.1, p.2) (λ byte_classes begun. tt)
+returns-in_err-construction-clause-err c = grind (arith, common_steps, err_from_is_err_and)
 
 pub returns-in_err-matches-clause-err : goal.returns-in_err-matches-clause-err
-returns-in_err-matches-clause-err c =
-    let p = err_from_is_err_and c.from_residual-in_err-matches.result c.from_residual-in_err-matches.ensures.1 in
-    rw (p.1, p.2) (λ byte_classes begun. tt)
+returns-in_err-matches-clause-err c = grind (arith, common_steps, err_from_is_err_and)

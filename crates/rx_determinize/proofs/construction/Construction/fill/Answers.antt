@@ -1,4 +1,5 @@
-use Rattle.std.proofs.Common.{◌≡◌, ℕ, false, length, ap, sym, ◌∙◌, arith, inl}
+use Rattle.std.proofs.lemmas.Grind.{common_steps}
+use Rattle.std.proofs.Common.{◌≡◌, ℕ, false, ap, ◌∙◌, arith, inl}
 use Rattle.std.proofs.lemmas.Result.{err_from_is_err_and}
 use Rattle.rx_spec.specs.Bytes.{contains}
 use Rattle.rx_base.specs.ByteClasses.{alphabet_len}
@@ -32,17 +33,10 @@ columns-init c =
 
 -- there are as many units as columns
 all_units : (c : After-len) → c.len.result ≡ alphabet_len c.columns.dfa.classes
-all_units c =
-    let serves = c.columns.invariant.stepping.entering.serves in
-    omega (
-      arith,
-      c.len.ensures,
-      units_count c.columns.dfa c.columns.self.units.items serves.rows.classes serves.units,
-    )
+all_units c = grind (arith, common_steps, units_count)
 
 pub pass_column-requires-clause-column : goal.pass_column-requires-clause-column
-pass_column-requires-clause-column c =
-    omega (arith, all_units (goal.at.pass_column-requires-clause-column c).After-len, c.columns-test.true)
+pass_column-requires-clause-column c = grind (arith, common_steps, all_units)
 
 pub returns-in_err-last-clause-err : goal.returns-in_err-last-clause-err
 returns-in_err-last-clause-err c =
@@ -50,16 +44,7 @@ returns-in_err-last-clause-err c =
     rw (p.1, p.2) (refused_later c.columns.invariant.later c.in_err-last.field-0.0.kind c.in_err-last.ensures.err)
 
 pub next_unready-column-requires-in-columns : goal.next_unready-column-requires-in-columns
-next_unready-column-requires-in-columns c =
-    let all = all_units (goal.at.next_unready-column-requires-in-columns c).After-len in
-    let e = c.in_ok-last.ensures in
-    omega (
-      arith,
-      all,
-      c.columns-test.true,
-      ap alphabet_len (same_classes e.later),
-      ap alphabet_len e.stepping.entering.serves.classes,
-    )
+next_unready-column-requires-in-columns c = grind (arith, common_steps, all_units, same_classes)
 
 pub columns-preserved : goal.columns-preserved
 columns-preserved c =
@@ -83,14 +68,7 @@ columns-preserved c =
     }
 
 pub columns-smaller : goal.columns-smaller
-columns-smaller c =
-    omega (
-      arith,
-      c.next_unready-column-in-columns.ensures.from,
-      c.columns-test.true,
-      c.len.ensures,
-      ap length c.in_ok-last.ensures.later.units,
-    )
+columns-smaller c = grind (arith, common_steps)
 
 pub returns-clause-entering : goal.returns-clause-entering
 returns-clause-entering c =
@@ -99,6 +77,4 @@ returns-clause-entering c =
     filled i.stepping.entering (λ column low. inl (omega (arith, low, all, c.columns-test.false))) i.stepping.filling
 
 pub returns-clause-current : goal.returns-clause-current
-returns-clause-current c =
-    let filling = c.columns.invariant.stepping.filling in
-    record { key = filling.key; here = filling.here; current = sym filling.stands }
+returns-clause-current c = grind (arith, common_steps)

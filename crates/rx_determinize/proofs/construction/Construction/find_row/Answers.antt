@@ -1,4 +1,5 @@
-use Rattle.std.proofs.Common.{◌≡◌, List, ℕ, true, Option, refl, ap, sym, subst}
+use Rattle.std.proofs.Common.{arith, ◌≡◌, ℕ, true, Option, refl, ap, subst}
+use Rattle.std.proofs.lemmas.Grind.{common_steps}
 use Rattle.std.specs.Prelude.{IfSome, MatchBool}
 use Rattle.rx_spec.specs.Builds.{is_dead_state}
 use Rattle.rx_stepper.specs.Stepping.{IsKeyOf, Stepping, stepped}
@@ -26,13 +27,7 @@ returns-then-are_alike-clause-found c =
 -- the key that the stepper gave is that of the state to which the column leads, which can be added
 key_is : (c : After-deref) → IsKeyOf (stepping_of c.args.self.now.stepper) c.deref.result.now
     (stepped (stepping_of c.args.self.now.stepper) c.args.at.column)
-key_is c =
-    let s = stepping_of c.args.self.now.stepper in
-    let state = stepped s c.args.at.column in
-    let key = c.next.new.key.items in
-    subst (λ (k : List ℕ). IsKeyOf s k state) (sym c.deref.ensures.value)
-    (subst (λ b. MatchBool b (IsKeyOf s key state) (is_dead_state state ≡ true)) c.if-branch.true
-    c.in_ok-next.ensures.key)
+key_is c = grind (arith, common_steps)
 
 can_add : (c : After-deref) → CanAdd (keys_in (work_of c.args.self.now) c.args.dfa.now) c.args.self.now.limits
     c.args.self.now.states c.args.dfa.now c.deref.result.now
@@ -56,8 +51,7 @@ returns-then-branch-clause-found c =
     c.add.new.dfa c.add.ensures.working)
 
 pub returns-then-branch-clause-err : goal.returns-then-branch-clause-err
-returns-then-branch-clause-err c =
-    over_by c.args.dfa.now c.next.ensures.kept c.args.self.now.limits c.add.result c.add.ensures.err
+returns-then-branch-clause-err c = grind (arith, common_steps, over_by)
 
 pub returns-else-branch-clause-found : goal.returns-else-branch-clause-found
 returns-else-branch-clause-found c =

@@ -1,3 +1,4 @@
+use Rattle.std.proofs.lemmas.Grind.{common_steps}
 use Rattle.std.proofs.Common.{◌+◌, ℕ, List, Option, sym, subst, arith}
 use Rattle.rx_determinize.specs.Constructions.{keys_in, work_of}
 use Rattle.rx_determinize.specs.Models.{AreModels, IsAllAlone, kept_in}
@@ -7,9 +8,7 @@ use Rattle.rx_determinize.proofs.ModelLaws.{model_added, model_of_alone}
 use Rattle.rx_determinize.proofs.construction.Construction.keep_model.Goals as goal
 
 pub overflow_add-place : goal.overflow_add-place
-overflow_add-place c =
-    let entering = c.requires.exploring.entering in
-    omega (arith, few_keys entering.serves.working entering.serves.rows, entering.written.within)
+overflow_add-place c = grind (arith, common_steps, few_keys)
 
 pub returns : goal.returns
 returns c =

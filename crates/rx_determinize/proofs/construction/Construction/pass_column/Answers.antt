@@ -1,3 +1,4 @@
+use Rattle.std.proofs.lemmas.Grind.{common_steps}
 use Rattle.std.proofs.Common.{◌≡◌, ◌+◌, ◌<◌, ℕ, true, false, length, ap, ap₂, sym, ◌∙◌, subst, arith}
 use Rattle.rx_spec.specs.Bytes.{contains}
 use Rattle.rx_base.specs.Unit.{unit_number}
@@ -44,9 +45,7 @@ returns-then-is_quit-clause-stepping c =
     r.stepping.stepped_last
 
 pub returns-then-is_quit-clause-later : goal.returns-then-is_quit-clause-later
-returns-then-is_quit-clause-later c =
-    continues_over (work_of c.args.self.now)
-    (started_over (written_over c.args.dfa.now c.set_transition.new.self _ c.set_transition.ensures))
+returns-then-is_quit-clause-later c = grind (arith, common_steps, continues_over, started_over, written_over)
 
 pub returns-then-not-has_own-clause-stepping : goal.returns-then-not-has_own-clause-stepping
 returns-then-not-has_own-clause-stepping c =

@@ -1,7 +1,8 @@
-use Rattle.std.proofs.Common.{◌≡◌, ◌+◌, length, ap, sym, subst, arith}
+use Rattle.std.proofs.lemmas.Grind.{common_steps}
+use Rattle.std.proofs.Common.{◌≡◌, ◌+◌, ap, sym, subst, arith}
 use Rattle.std.proofs.lemmas.Result.{err_from_is_err_and}
 use Rattle.rx_base.specs.Search.{mode_of}
-use Rattle.rx_dense.specs.Layouts.{Layout, mode_place}
+use Rattle.rx_dense.specs.Layouts.{mode_place}
 use Rattle.rx_dense.proofs.Rows.{IsId-row_id}
 use Rattle.rx_determinize.specs.Constructions.{work_of}
 use Rattle.rx_determinize.specs.Filling.{IsEntering}
@@ -26,9 +27,7 @@ pub set_start_state-requires-clause-is_id : goal.set_start_state-requires-clause
 set_start_state-requires-clause-is_id c = IsId-row_id c.start_row.new.dfa c.in_ok-id.id c.in_ok-id.ensures.found.is_id
 
 pub set_start_state-requires-clause-has_starts : goal.set_start_state-requires-clause-has_starts
-set_start_state-requires-clause-has_starts c =
-    let count = ap (λ (n : Layout). length n.starts) c.in_ok-id.ensures.found.over in
-    omega (arith, count, c.contexts.invariant.later.over.count, c.requires.entries)
+set_start_state-requires-clause-has_starts c = grind (arith, common_steps)
 
 pub returns-in_err-id-clause-err : goal.returns-in_err-id-clause-err
 returns-in_err-id-clause-err c =

@@ -1,3 +1,4 @@
+use Rattle.std.proofs.lemmas.Grind.{common_steps}
 use Rattle.std.proofs.Common.{◌≡◌, ◌+◌, ◌*◌, ℕ, Bool, true, false, length, ap, ap₂, sym, ◌∙◌, subst, arith}
 use Rattle.std.proofs.lemmas.Result.{err_from_is_err_and}
 use Rattle.std.specs.Bool.{then_some}
@@ -10,8 +11,7 @@ use Rattle.rx_determinize.specs.Constructions.{Continues, work_of}
 use Rattle.rx_determinize.specs.Filling.{IsEntering}
 use Rattle.rx_determinize.proofs.ContinuesLaws.{continues_twice, refused_later}
 use Rattle.rx_determinize.proofs.ModeLaws.{entries_with, entries_without, starts_at_no, starts_at_pattern}
-use Rattle.rx_determinize.proofs.ModeLaws.{starts_at_yes}
-use Rattle.rx_determinize.proofs.ModeLaws.{entries_twelve, starts_later}
+use Rattle.rx_determinize.proofs.ModeLaws.{starts_at_yes, entries_twelve, starts_later}
 use Rattle.rx_determinize.proofs.construction.Construction.set_starts.Goals.{In_ok-set_mode-2}
 use Rattle.rx_determinize.proofs.construction.Construction.set_starts.Goals as goal
 
@@ -34,8 +34,7 @@ set_mode-requires-2-clause-starts c =
     (c.start_anchored.ensures ∙ ap (λ (n : Nfa). n.start_anchored) (sym c.requires.nfa))))
 
 pub set_mode-requires-2-clause-entries : goal.set_mode-requires-2-clause-entries
-set_mode-requires-2-clause-entries c =
-    omega (arith, c.in_ok-set_mode.ensures.later.over.count, entries_twelve c.requires.entries)
+set_mode-requires-2-clause-entries c = grind (arith, common_steps, entries_twelve)
 
 pub returns-in_err-set_mode-2-clause-err : goal.returns-in_err-set_mode-2-clause-err
 returns-in_err-set_mode-2-clause-err c =

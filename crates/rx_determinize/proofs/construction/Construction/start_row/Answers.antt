@@ -1,4 +1,5 @@
-use Rattle.std.proofs.Common.{◌≡◌, Option, true, false, List, ℕ, refl, ap, sym, subst}
+use Rattle.std.proofs.Common.{arith, ◌≡◌, Option, true, false, ℕ, refl, ap, sym, subst}
+use Rattle.std.proofs.lemmas.Grind.{common_steps}
 use Rattle.std.proofs.lemmas.Bool.Decides.{when_false, when_true}
 use Rattle.std.specs.Prelude.{IfOk, IfSome}
 use Rattle.rx_spec.specs.Builds.{IsReached, dead, is_dead_state, start_node}
@@ -28,12 +29,7 @@ returns-in_default-clause-found c =
 -- the key that the stepper gave is that of the state in which searches start, which can be added
 key_is : (c : After-deref) → IsKeyOf (stepping_of c.args.self.now.stepper) c.deref.result.now
     (start_state (stepping_of c.args.self.now.stepper).nfa c.in-Some.row c.args.start)
-key_is c =
-    let s = stepping_of c.args.self.now.stepper in
-    let state = start_state s.nfa c.in-Some.row c.args.start in
-    subst (λ (k : List ℕ). IsKeyOf s k state) (sym c.deref.ensures.value)
-    (when_true (IsKeyOf s c.start.new.key.items state) (is_dead_state state ≡ true) c.if-branch.true
-    c.in_ok-start.ensures.key)
+key_is c = grind (arith, common_steps, when_true)
 
 can_add : (c : After-deref) → CanAdd (keys_in (work_of c.args.self.now) c.args.dfa.now) c.args.self.now.limits
     c.args.self.now.states c.args.dfa.now c.deref.result.now

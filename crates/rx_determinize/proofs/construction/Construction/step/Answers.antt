@@ -1,4 +1,5 @@
-use Rattle.std.proofs.Common.{◌≡◌, ◌+◌, ℕ, true, List, [], ap, sym, subst}
+use Rattle.std.proofs.Common.{arith, ◌≡◌, ◌+◌, ℕ, true, List, [], ap, sym, subst}
+use Rattle.std.proofs.lemmas.Grind.{common_steps}
 use Rattle.std.proofs.lemmas.List.Elements.{All-get_or}
 use Rattle.std.proofs.lemmas.Option.{get_or_from_slice_get}
 use Rattle.std.proofs.lemmas.Result.{err_from_is_err_and}
@@ -37,11 +38,7 @@ begin_row-copied-requires-clause-models c =
 -- the state is begun, and its row may have been copied
 begun : (c : After-begin_row-copied) → Continues (work_of c.args.self.now) c.args.dfa.now
     (record (work_of c.args.self.now) { stepping = stepping_of c.begin.new.self }) c.begin_row-copied.new.dfa
-begun c =
-    let w = work_of c.args.self.now in
-    let r = stepping_of c.begin.new.self in
-    continues_twice (continues_other w r c.args.dfa.now c.begin.ensures.kept)
-    (continues_over (record w { stepping = r }) (started_over c.begin_row-copied.ensures.rest))
+begun c = grind (arith, common_steps, continues_twice, continues_other, continues_over, started_over)
 
 pub returns-in_err-fill-clause-err : goal.returns-in_err-fill-clause-err
 returns-in_err-fill-clause-err c =

@@ -1,9 +1,9 @@
+use Rattle.std.proofs.lemmas.Grind.{common_steps}
 use Rattle.std.proofs.Common.{◌≡◌, ◌<◌, ℕ, length, ap₂, ◌∙◌, arith}
 use Rattle.rx_base.specs.Unit.{unit_number}
 use Rattle.rx_dense.specs.Builder.{with_next}
 use Rattle.rx_dense.proofs.Rows.{IsId-row_id}
 use Rattle.rx_stepper.specs.Stepping.{unit_of}
-use Rattle.rx_determinize.specs.Constructions.{work_of}
 use Rattle.rx_determinize.proofs.ContinuesLaws.{continues_found, continues_over, continues_twice, started_over}
 use Rattle.rx_determinize.proofs.ContinuesLaws.{written_over}
 use Rattle.rx_determinize.proofs.ColumnLaws.{unit_is, units_count}
@@ -41,6 +41,4 @@ returns-clause-stepping c =
 
 pub returns-clause-later : goal.returns-clause-later
 returns-clause-later c =
-    continues_twice (continues_found c.in_ok-id.ensures.found)
-    (continues_over (work_of c.find_row.new.self)
-    (started_over (written_over c.find_row.new.dfa c.set_transition.new.self _ c.set_transition.ensures)))
+    grind (arith, common_steps, continues_twice, continues_found, continues_over, started_over, written_over)

@@ -1,4 +1,5 @@
 -- What was met is read by its fields, as they lie in memory (`inside`).
+use Rattle.std.proofs.lemmas.Grind.{common_steps}
 use Rattle.std.proofs.Common.{◌≡◌, ℕ, ◌+◌, ◌*◌, ◌^◌, ◌≤◌, List, [], ◌∷◌, ◌++◌, length, sym, ap, ◌∙◌, subst, refl, arith}
 use Rattle.std.specs.Prelude.{true, false}
 use Rattle.std.proofs.lemmas.List.{length_push}
@@ -8,9 +9,9 @@ use Rattle.rx_spec.specs.Sizes.{state_size}
 use Rattle.rx_dense.specs.Layouts.{Layout, AreRows, row_count, stride}
 use Rattle.rx_stepper.specs.Steppers.{stepping_of}
 use Rattle.rx_order.proofs.Sorted.{number_few}
-use Rattle.rx_determinize.specs.Working.{Met, IsBare, IsWorking, keying}
-use Rattle.rx_determinize.proofs.AddingLaws.{is_over_full, over_new, one_more_row, working_new, is_old_key}
-use Rattle.rx_determinize.proofs.AddingLaws.{keys_at, keys_kept, is_true, same_met, new_key}
+use Rattle.rx_determinize.specs.Working.{Met, IsWorking, keying}
+use Rattle.rx_determinize.proofs.AddingLaws.{is_over_full, over_new, one_more_row, working_new, is_old_key, keys_at}
+use Rattle.rx_determinize.proofs.AddingLaws.{keys_kept, is_true, same_met, new_key}
 use Rattle.rx_determinize.proofs.states.States.add.Goals as goal
 
 pub row_id-requires : goal.row_id-requires
@@ -137,18 +138,13 @@ returns-clause-working c =
     c.in_ok-add_row.ensures.ok c.in_ok-check.ensures.ok
 
 pub check-requires : goal.check-requires
-check-requires c =
-    let bare = c.requires.can.working.bare in
-    subst IsBare (sym c.in_ok-add_row.ensures.ok)
-    (record { slices = bare.slices; pattern_ids = bare.pattern_ids; accels = bare.accels })
+check-requires c = grind (arith, common_steps)
 
 -- one key more than a table has rows for, which are few
 few_keys : (before after : List (List ℕ)) (key : List ℕ) (l : Layout) → AreRows l
     → row_count l ≡ length before + 2 → after ≡ before ++ key ∷ []
     → (length after ≡ length before + 1) × (length after ≤ 2 ^ 32)
-few_keys before after key l rows count more =
-    let len = ap length more ∙ length_push before key in
-    (len, omega (arith, len, number_few l rows (length before + 1) (omega (arith, count))))
+few_keys before after key l rows count more = grind (arith, common_steps, length_push, number_few)
 
 pub invariant_of-self-in_err-add_row : goal.invariant_of-self-in_err-add_row
 invariant_of-self-in_err-add_row c =

@@ -1,17 +1,14 @@
-use Rattle.std.proofs.Common.{Some, refl, ap, sym, ◌∙◌}
+use Rattle.std.proofs.Common.{arith, refl}
+use Rattle.std.proofs.lemmas.Grind.{common_steps}
 use Rattle.rx_base.specs.Unit.{unit_number}
 use Rattle.rx_equal.specs.declared.evidence.Link.{Link}
-use Rattle.rx_equal.specs.Evidence.{next_of}
 use Rattle.rx_equal.specs.Pairs.{pairs_of, rows_of}
 use Rattle.rx_equal.proofs.Sides.{sides}
 use Rattle.rx_equal.proofs.Walks.{stepped_by, went_by}
 use Rattle.rx_equal.proofs.walk.Walk.step_by.Goals as goal
 
 pub add-requires-clause-stands : goal.add-requires-clause-stands
-add-requires-clause-stands g c =
-    let s = sides g.A.Automaton g.B.Automaton c.args.a.now c.args.b.now in
-    ap (λ o. next_of s.t s.u o (unit_number c.args.unit)) c.requires.there ∙ ap (λ p. Some p)
-    (sym c.next_of-next.ensures.rows)
+add-requires-clause-stands g c = grind (arith, common_steps, sides)
 
 pub returns-clause-stepped : goal.returns-clause-stepped
 returns-clause-stepped g c =

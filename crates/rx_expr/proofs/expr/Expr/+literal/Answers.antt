@@ -1,14 +1,10 @@
+use Rattle.std.proofs.lemmas.Grind.{common_steps}
 use Rattle.std.proofs.Common.{arith}
 use Rattle.rx_expr.proofs.Literals.{literal_joined, literal_shallow, only_memory, ok_as}
 use Rattle.rx_expr.proofs.expr.Expr.+literal.Goals as goal
 
 pub returns-in_ok-second-in_default-clause-ok : goal.returns-in_ok-second-in_default-clause-ok
-returns-in_ok-second-in_default-clause-ok t c =
-    let first = c.in_ok-first-in_default.ensures.ok in
-    let second = c.in_ok-second-in_default.ensures.ok in
-    let halves = c.split_at.ensures in
-    let joined = literal_joined c.args.bytes.now c.in_default.len_at_least first second halves.front halves.back in
-    ok_as c.concat.result joined c.concat.ensures.ok
+returns-in_ok-second-in_default-clause-ok t c = grind (arith, common_steps, literal_joined, ok_as)
 
 pub returns-in_ok-second-in_default-clause-err : goal.returns-in_ok-second-in_default-clause-err
 returns-in_ok-second-in_default-clause-err t c =

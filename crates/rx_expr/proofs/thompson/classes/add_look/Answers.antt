@@ -1,22 +1,15 @@
-use Rattle.std.proofs.Common.{◌≡◌, Bool, ◌∙◌, ◌||◌, ap}
+use Rattle.std.proofs.Common.{arith, ◌≡◌, Bool, ◌∙◌, ◌||◌, ap}
+use Rattle.std.proofs.lemmas.Grind.{common_steps}
 use Rattle.std.proofs.Math.Bool.{or_assoc}
 use Rattle.rx_spec.specs.Bytes.{contains}
 use Rattle.rx_expr.proofs.RowClasses.{crlf_parts, line_parts, range_parts, reads_words, word_look_parts}
 use Rattle.rx_expr.proofs.thompson.classes.add_look.Goals as goal
 
 pub returns-in-StartLF : goal.returns-in-StartLF
-returns-in-StartLF c b below =
-    c.set_range.ensures b below
-    ∙ ap (λ t. contains c.args.classes.now b || t)
-    (line_parts c.args.look c.in-StartLF.is c.args.line_terminator b c.ranges.line_terminator.fits)
+returns-in-StartLF c b below = grind (arith, common_steps, line_parts)
 
 pub returns-in-StartCRLF : goal.returns-in-StartCRLF
-returns-in-StartCRLF c b below =
-    let old = contains c.args.classes.now b in
-    c.set_range-in-StartCRLF-2.ensures b below
-    ∙ ap (λ t. t || range_parts 13 13 b) (c.set_range-in-StartCRLF.ensures b below)
-    ∙ or_assoc old (range_parts 10 10 b) (range_parts 13 13 b)
-    ∙ ap (λ t. old || t) (crlf_parts c.args.look c.in-StartCRLF.is c.args.line_terminator b below)
+returns-in-StartCRLF c b below = grind (arith, common_steps, range_parts, or_assoc, crlf_parts)
 
 one_after_another : (old a b c d : Bool) → (((old || a) || b) || c) || d ≡ old || (a || (b || (c || d)))
 one_after_another old a b c d = simp or_assoc

@@ -1,3 +1,4 @@
+use Rattle.std.proofs.lemmas.Grind.{common_steps}
 use Rattle.std.proofs.Common.{arith, sym, subst, ◌+◌, ◌-◌, length, drop}
 use Rattle.rx_spec.specs.Causes.{id_count}
 use Rattle.rx_expr.specs.Compiles.{AddsJoined}
@@ -5,8 +6,7 @@ use Rattle.rx_expr.proofs.JoinedStarts.{ok_failed, joined_last, joined_more, joi
 use Rattle.rx_expr.proofs.thompson.starts.join_starts.Goals as goal
 
 pub returns-then-n-eq0 : goal.returns-then-n-eq0
-returns-then-n-eq0 c =
-    ok_failed c.push.result _ _ c.args.starts.now (omega arith) c.push.ensures
+returns-then-n-eq0 c = grind (arith, common_steps, ok_failed)
 
 pub loop-round-init : goal.loop-round-init
 loop-round-init c = joined_last c.args.starts.now (omega arith) c.index-starts-n.is

@@ -1,4 +1,5 @@
-use Rattle.std.proofs.Common.{refl, rules}
+use Rattle.std.proofs.Common.{arith, refl, rules}
+use Rattle.std.proofs.lemmas.Grind.{common_steps}
 use Rattle.rx_interner.proofs.Chains.{none_there}
 use Rattle.rx_interner.proofs.Indexes.{index_grown, key_grown}
 use Rattle.rx_interner.proofs.interner.Interner.intern.Goals as goal
@@ -9,8 +10,7 @@ invariant_of-self-in-Occupied c =
     (index_grown _ c.self.invariant c.in_default.ensures.none (search rules) (λ hash. search rules))
 
 pub returns-in_ok-id-in-Occupied-clause-id : goal.returns-in_ok-id-in-Occupied-clause-id
-returns-in_ok-id-in-Occupied-clause-id c =
-    rw (c.in_ok-id-in-Occupied.ensures.ok, c.in_ok-id-in-Occupied.ensures.id) (key_grown c.self.inside.links _)
+returns-in_ok-id-in-Occupied-clause-id c = grind (arith, common_steps, key_grown)
 
 pub invariant_of-self-in-Vacant : goal.invariant_of-self-in-Vacant
 invariant_of-self-in-Vacant c =
@@ -23,5 +23,4 @@ returns-in_ok-id-in-Vacant-clause-new c =
     rw (← c.self.view_is) (λ _. none_there c.self.invariant c.args.key.now (search rules), λ _. refl)
 
 pub returns-in_ok-id-in-Vacant-clause-id : goal.returns-in_ok-id-in-Vacant-clause-id
-returns-in_ok-id-in-Vacant-clause-id c =
-    rw (c.in_ok-id-in-Vacant.ensures.ok, c.in_ok-id-in-Vacant.ensures.id) (key_grown c.self.inside.links _)
+returns-in_ok-id-in-Vacant-clause-id c = grind (arith, common_steps, key_grown)

@@ -1,4 +1,5 @@
-use Rattle.std.proofs.Common.{◌≡◌, Bool, false, Some, List, ℕ, ap, ◌∙◌, inl, inr, arith, eqb}
+use Rattle.std.proofs.lemmas.Grind.{common_steps}
+use Rattle.std.proofs.Common.{◌≡◌, Bool, false, List, ℕ, inl, inr, arith, eqb}
 use Rattle.std.proofs.lemmas.Bool.Decides.{Decides-eqb, not_from_Decides}
 use Rattle.std.proofs.lemmas.Slice.Eq.{slice_eq-Decides}
 use Rattle.std.specs.Cmp.Lexicographic.{pointwise}
@@ -9,9 +10,7 @@ pub chain-init : goal.chain-init
 chain-init c = reached_newest c.requires.newest
 
 pub returns-then-eq-clause-found : goal.returns-then-eq-clause-found
-returns-then-eq-clause-found c =
-    let same = slice_eq-Decides Decides-eqb _ _ _ c.eq.ensures in
-    key_at c.args.self.now c.chain.id c.get-older.ensures ∙ ap (λ key. Some key) (same.0 c.if-eq.true)
+returns-then-eq-clause-found c = grind (arith, common_steps, slice_eq-Decides, key_at)
 
 differs : (kept key : List ℕ) (same : Bool) → same ≡ pointwise eqb kept key → same ≡ false → kept ≡ key → ⊥
 differs kept key same e = not_from_Decides same (slice_eq-Decides Decides-eqb kept key same e)

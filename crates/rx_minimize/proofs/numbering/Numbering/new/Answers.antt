@@ -1,3 +1,4 @@
+use Rattle.std.proofs.lemmas.Grind.{common_steps}
 use Rattle.std.proofs.Common.{◌≡◌, ◌≢◌, ◌<◌, ◌∙◌, ℕ, List, length, slice_index, slice_set, ap, arith, Vec, Global}
 use Rattle.std.proofs.lemmas.List.{get_or_default, get_or-set_same, length-set}
 use Rattle.rx_minimize.proofs.Renumbered.{known_named, new_named, all_named}
@@ -50,6 +51,4 @@ loop-row-preserved c =
     ]
 
 pub returns : goal.returns
-returns c =
-    let last : c.loop-row.row ≡ length c.args.blocks.now = omega arith in
-    all_named last (λ x h. c.requires.below x 0 h) c.loop-row.invariant
+returns c = grind (arith, common_steps, all_named)

@@ -1,4 +1,4 @@
-use Rattle.std.proofs.Common.{◌≡◌, ◌*◌, ◌/◌, ◌^◌, ◌∙◌, ℕ, List, slice_index, ap, sym, refl, subst, true, arith}
+use Rattle.std.proofs.Common.{rules, ◌≡◌, ◌*◌, ◌/◌, ◌^◌, ◌∙◌, ℕ, List, slice_index, ap, sym, refl, subst, true, arith}
 use Rattle.std.proofs.Math.Nat.{mul-div_cancel}
 use Rattle.std.proofs.lemmas.List.{get_or_default}
 use Rattle.std.proofs.lemmas.List.Sorted.{non_decreasing_from_is_sorted}
@@ -23,10 +23,7 @@ returns-then-is_sorted c =
     in_place c.words.ensures.rows c.words.ensures.starts c.requires.unmoved (each_in_place _ c.requires.order rises)
 
 pub loop-place-init : goal.loop-place-init
-loop-place-init c = record {
-  moved = unmoved c.args.dfa.now c.args.self.lying.items c.args.self.ids.items c.requires.unmoved;
-  there = λ p h. absurd (omega (arith, h));
-}
+loop-place-init c = search (rules, unmoved)
 
 pub index-requires : goal.index-requires
 index-requires c =

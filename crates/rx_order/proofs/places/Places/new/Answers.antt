@@ -1,6 +1,5 @@
-use Rattle.std.proofs.Common.{◌≡◌, ◌*◌, ◌^◌, ◌<◌, ◌∙◌, map, sym, ap, arith}
+use Rattle.std.proofs.Common.{rules, ◌≡◌, ◌*◌, ◌^◌, ◌<◌, ◌∙◌, sym, arith}
 use Rattle.std.proofs.Math.Nat.{mod-eq_of_lt}
-use Rattle.std.specs.List.{range_with_len}
 use Rattle.std.proofs.lemmas.List.FromFn.{map-range_with_len_more}
 use Rattle.rx_dense.specs.Layouts.{row_count, stride}
 use Rattle.rx_dense.proofs.Rows.{IsRowId-row}
@@ -21,12 +20,4 @@ loop-row-preserved c =
     (sym (map-range_with_len_more (λ row. row * 2 ^ c.args.dfa.now.stride2) 0 row row (omega arith)))
 
 pub returns : goal.returns
-returns c =
-    let count = c.state_len-count.ensures.value in
-    let all : c.loop-row.row ≡ row_count c.args.dfa.now = omega arith in
-    record {
-      rows = c.in_ok-lying.ensures ∙ ap (range_with_len 0) count;
-      places =
-          c.loop-row.invariant
-          ∙ ap (λ n. map (λ row. row * 2 ^ c.args.dfa.now.stride2) (range_with_len 0 n)) all;
-    }
+returns c = search rules

@@ -1,7 +1,7 @@
-use Rattle.std.proofs.Common.{ap, sym, ◌∙◌}
+use Rattle.std.proofs.Common.{arith, ◌∙◌}
+use Rattle.std.proofs.lemmas.Grind.{common_steps}
 use Rattle.rx_dense.proofs.Rows.{IsId-row_id}
 use Rattle.rx_order.proofs.RowLists.{id_in_words, row_lists_count, rows_renamed}
-use Rattle.rx_order.specs.RowLists.{transitions_of}
 use Rattle.rx_order.proofs.remappable.DFAVecU32Remappable.remap.Goals as goal
 
 pub remap-requires-clause-count : goal.remap-requires-clause-count
@@ -12,10 +12,7 @@ remap-requires-clause-ids c =
     λ k d h. IsId-row_id c.args.self.now _ (id_in_words c.args.self.now _ (c.requires.ids k d h))
 
 pub returns-clause-renamed : goal.returns-clause-renamed
-returns-clause-renamed c =
-    ap transitions_of c.remap.ensures.value
-    ∙ rows_renamed c.args.self.now c.args.map.now c.state_len-rows.ensures.rows
+returns-clause-renamed c = grind (arith, common_steps, rows_renamed)
 
 pub prove-unreachable-requires : goal.prove-unreachable-requires
-prove-unreachable-requires c =
-    c.if-prove.true (c.requires.count ∙ row_lists_count c.args.self.now ∙ sym c.state_len-rows.ensures.value)
+prove-unreachable-requires c = grind (arith, common_steps, row_lists_count)

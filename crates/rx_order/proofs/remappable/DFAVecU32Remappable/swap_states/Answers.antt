@@ -1,7 +1,6 @@
-use Rattle.std.proofs.Common.{ap, ◌∙◌}
+use Rattle.std.proofs.Common.{rules}
 use Rattle.rx_dense.proofs.Rows.{IsId-row_id}
 use Rattle.rx_order.proofs.RowLists.{id_in_words, rows_swapped}
-use Rattle.rx_order.specs.RowLists.{transitions_of}
 use Rattle.rx_order.proofs.remappable.DFAVecU32Remappable.swap_states.Goals as goal
 
 pub swap_states-requires-clause-id1 : goal.swap_states-requires-clause-id1
@@ -11,8 +10,4 @@ pub swap_states-requires-clause-id2 : goal.swap_states-requires-clause-id2
 swap_states-requires-clause-id2 c = IsId-row_id c.args.self.now _ (id_in_words c.args.self.now _ c.requires.id2)
 
 pub returns-clause-swapped : goal.returns-clause-swapped
-returns-clause-swapped c =
-    let l = c.args.self.now in
-    ap transitions_of c.swap_states.ensures.rest
-    ∙ rows_swapped l c.swap_states.new.self.words c.args.id1 c.args.id2 c.state_len-rows.ensures.rows
-    (id_in_words l _ c.requires.id1) (id_in_words l _ c.requires.id2) c.swap_states.ensures.swapped
+returns-clause-swapped c = search (rules, rows_swapped, id_in_words)

@@ -1,4 +1,5 @@
-use Rattle.std.proofs.Common.{◌≡◌, ◌*◌, ◌^◌, ◌<◌, length, ◌∙◌, ap, subst, arith}
+use Rattle.std.proofs.Common.{rules, ◌≡◌, ◌*◌, ◌^◌, ◌<◌, length, ◌∙◌, ap, subst, arith}
+use Rattle.std.proofs.lemmas.Grind.{common_steps}
 use Rattle.std.proofs.Math.Nat.{mod-eq_of_lt}
 use Rattle.rx_order.specs.Renaming.{IsArrangement}
 use Rattle.rx_order.proofs.ExchangedRows.{row_below}
@@ -7,20 +8,10 @@ use Rattle.rx_order.proofs.Renamed.{renamed}
 use Rattle.rx_order.proofs.remapper.Remapper.remap.Goals as goal
 
 pub loop-place-init : goal.loop-place-init
-loop-place-init g c =
-    let is = subst IsArrangement c.self.view_is c.self.invariant in
-    let len = c.in_ok-map.ensures.len in
-    let count = c.state_len.ensures.value in
-    let fits = c.requires.fits.count in
-    none_noted is c.in_ok-map.map.items (omega (arith, c.in_ok-map.map.ok.0))
+loop-place-init g c = grind (arith, common_steps, none_noted)
 
 pub index_mut-requires : goal.index_mut-requires
-index_mut-requires g c =
-    let is = subst IsArrangement c.self.view_is c.self.invariant in
-    let rows = c.deref-row-items.ensures.value ∙ ap (λ a. a.rows) c.self.view_is in
-    let count = c.loop-place.invariant.count in
-    let low : c.loop-place.place < length c.args.self.rows = rw (← rows) c.loop-place-test.true in
-    rw rows (omega (arith, row_below is.permutation c.loop-place.place low, c.loop-place.map.ok.0))
+index_mut-requires g c = search (rules, row_below)
 
 pub loop-place-preserved : goal.loop-place-preserved
 loop-place-preserved g c =

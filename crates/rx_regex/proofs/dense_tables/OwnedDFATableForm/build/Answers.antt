@@ -1,3 +1,4 @@
+use Rattle.std.proofs.lemmas.Grind.{common_steps}
 use Rattle.std.proofs.Common.{arith, rules}
 use Rattle.std.proofs.lemmas.Result.{err_from_is_err_and}
 use Rattle.rx_dense.specs.Layouts.{IsShaped}
@@ -20,13 +21,7 @@ returns-clause-ok c =
     }
 
 pub returns-clause-fits : goal.returns-clause-fits
-returns-clause-fits c =
-    table_fits (plan_of c.args.plan.now) c.args.exprs.now c.requires c.args.which c.table_builder.ensures
-    c.direction.ensures c.in_ok-table.ensures.fits
+returns-clause-fits c = grind (arith, common_steps, table_fits)
 
 pub returns-in_err-table-clause-err : goal.returns-in_err-table-clause-err
-returns-in_err-table-clause-err c =
-    let p = err_from_is_err_and c.from_residual.result c.from_residual.ensures.1 in
-    rw (p.1, p.2)
-    (table_refused (plan_of c.args.plan.now) c.args.exprs.now c.requires c.args.which
-    c.table_builder.ensures c.direction.ensures c.in_err-table.field-0.0.kind c.in_err-table.ensures.err)
+returns-in_err-table-clause-err c = grind (arith, common_steps, err_from_is_err_and, table_refused)

@@ -1,5 +1,6 @@
+use Rattle.std.proofs.lemmas.Grind.{common_steps}
 use Rattle.std.proofs.Common.{arith}
-use Rattle.std.proofs.lemmas.Result.{IfErr-weaker, IfOk-weaker, on_ok_weaker}
+use Rattle.std.proofs.lemmas.Result.{IfOk-weaker, on_ok_weaker}
 use Rattle.rx_plan.specs.Plan.{plan_of}
 use Rattle.rx_regex.proofs.Refusals.{sparse_table_fits, sparse_table_refused}
 use Rattle.rx_regex.proofs.Whole.{is_sparse, sparse_whole}
@@ -21,16 +22,7 @@ returns-clause-ok c =
     c.build_one_sparse.ensures.ok
 
 pub returns-clause-fits : goal.returns-clause-fits
-returns-clause-fits c =
-    on_ok_weaker c.build_one_sparse.result
-    (sparse_table_fits (plan_of c.args.plan.now) c.args.exprs.now c.requires c.args.which
-    c.table_builder.ensures c.direction.ensures)
-    c.build_one_sparse.ensures.fits
+returns-clause-fits c = grind (arith, common_steps, on_ok_weaker, sparse_table_fits)
 
 pub returns-clause-err : goal.returns-clause-err
-returns-clause-err c =
-    IfErr-weaker c.build_one_sparse.result _ _
-    (λ error.
-    sparse_table_refused (plan_of c.args.plan.now) c.args.exprs.now c.requires c.args.which
-    c.table_builder.ensures c.direction.ensures error.kind)
-    c.build_one_sparse.ensures.err
+returns-clause-err c = grind (arith, common_steps, sparse_table_refused)

@@ -1,3 +1,4 @@
+use Rattle.std.proofs.lemmas.Grind.{common_steps}
 use Rattle.std.proofs.Common.{◌≡◌, ◌<◌, sym, ◌∙◌, ap, subst, arith, refl, length}
 use Rattle.rx_spec.specs.Queries.{HalfMatch}
 use Rattle.rx_base.specs.MatchError.{error_of}
@@ -9,30 +10,13 @@ use Rattle.rx_scan.proofs.scanner.ScannerIterator.next.Goals as goal
 use Rattle.rx_scan.proofs.scanner.ScannerIterator.next.Goals.{in-Quit, in-UnsupportedAnchored, in-PairMismatch}
 
 pub returns-then-self-clause-steps : goal.returns-then-self-clause-steps
-returns-then-self-clause-steps g c =
-    let s = c.args.self.now in
-    let t = g.A.Automaton.table s.table.now in
-    let goes = sym c.is_some.ensures ∙ c.if-is_some.false in
-    over_now t s.text.now s.at s.end goes ScanEnd.Done tt (no_tokens t s.text.now s.at c.if-self.true)
+returns-then-self-clause-steps g c = grind (arith, common_steps, over_now, no_tokens)
 
 pub overflow_add-token : goal.overflow_add-token
-overflow_add-token g c =
-    let s = c.args.self.now in
-    let within = rw c.in-Ok-Some.field-0-is at c.in-Ok-Some.ensures.within in
-    omega (
-      arith,
-      s.counted.feeds,
-      feeds_few s.text.now s.lines.known,
-      s.counted.within,
-      within.0,
-      c.offset-end.ensures,
-      c.offset-end.type_inv,
-    )
+overflow_add-token g c = grind (arith, common_steps, feeds_few)
 
 pub overflow_sub-token : goal.overflow_sub-token
-overflow_sub-token g c =
-    let s = c.args.self.now in
-    omega (arith, s.begun)
+overflow_sub-token g c = grind (arith, common_steps)
 
 pub returns-in-Ok-Some-clause-steps : goal.returns-in-Ok-Some-clause-steps
 returns-in-Ok-Some-clause-steps g c =
@@ -49,10 +33,7 @@ returns-in-Ok-Some-clause-steps g c =
     c.pattern.ensures c.offset-end.ensures (s.counted.feeds ∙ line.0) (s.counted.start ∙ line.1) now
 
 pub returns-in-Ok-Some-clause-goes : goal.returns-in-Ok-Some-clause-goes
-returns-in-Ok-Some-clause-goes g c =
-    let steps = returns-in-Ok-Some-clause-steps g c in
-    let fewer = ap length steps.first in
-    record { on = λ finite. (tt, tt, omega (arith, fewer)); keeps = tt; rests = λ finite. tt }
+returns-in-Ok-Some-clause-goes g c = grind (arith, common_steps, returns-in-Ok-Some-clause-steps)
 
 pub returns-in-Ok-None-clause-steps : goal.returns-in-Ok-None-clause-steps
 returns-in-Ok-None-clause-steps g c =

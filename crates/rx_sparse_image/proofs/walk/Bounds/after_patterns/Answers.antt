@@ -1,3 +1,4 @@
+use Rattle.std.proofs.lemmas.Grind.{common_steps}
 use Rattle.std.proofs.Common.{◌≡◌, Ok, ap, sym, ◌∙◌, arith, rules}
 use Rattle.std.proofs.lemmas.Result.{err_from_is_err_and}
 use Rattle.rx_sparse_image.specs.Walks.{tested_count, tested_pattern}
@@ -16,8 +17,4 @@ returns-in_err-test_pattern c =
     (ap (tested_pattern c.args.self.now) (sym c.word_at.ensures) ∙ c.in_err-test_pattern.ensures))
 
 pub returns : goal.returns
-returns c =
-    let some : tested_count c.in_ok-count.count ≡ Ok c.in_ok-count.count = search rules in
-    patterns_pass c.args.self.now c.in_ok-count.count c.args.bytes.now c.in_ok-count.rest.now c.in_ok-ids.ids.now
-    c.in_ok-ids.rest.now some c.in_ok-count.ensures c.in_ok-ids.ensures.read
-    (λ k h. c.each.invariant k (omega (arith, h, c.each-test.false)))
+returns c = grind (arith, common_steps, patterns_pass)

@@ -1,3 +1,4 @@
+use Rattle.std.proofs.lemmas.Grind.{common_steps}
 use Rattle.std.proofs.Common.{◌≡◌, ◌-◌, ◌*◌, ◌==◌, ◌&&◌, true, false, slice_index, sym, ap, ◌∙◌, arith, rules}
 use Rattle.std.proofs.Common.{below_more}
 use Rattle.rx_dense_image.proofs.EachBelow.{all_of, not_all}
@@ -5,11 +6,7 @@ use Rattle.rx_sparse_image.specs.Walks.{is_range_at}
 use Rattle.rx_sparse_image.proofs.walk.Bounds.are_ends.Goals as goal
 
 pub loop-i-preserved : goal.loop-i-preserved
-loop-i-preserved c =
-    let ends = c.args.ends.now in
-    let stands : c.is_range_at.result ≡ true = search rules in
-    below_more (λ k. is_range_at c.args.self.now.last_class ends k ≡ true) c.loop-i.i c.loop-i.invariant
-    (sym c.is_range_at.ensures ∙ stands)
+loop-i-preserved c = grind (arith, common_steps, below_more)
 
 pub returns-then-not-is_range_at : goal.returns-then-not-is_range_at
 returns-then-not-is_range_at c =

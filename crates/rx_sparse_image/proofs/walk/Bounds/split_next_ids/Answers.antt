@@ -1,3 +1,4 @@
+use Rattle.std.proofs.lemmas.Grind.{common_steps}
 use Rattle.std.proofs.Common.{◌≡◌, Ok, ap, sym, subst, ◌∙◌, arith, below_more}
 use Rattle.std.proofs.lemmas.Result.{err_from_is_err_and}
 use Rattle.rx_sparse.specs.Rows.{word_at}
@@ -21,6 +22,4 @@ returns-in_err-test_id-clause-read c =
     (ap (tested_id c.args.self.now) (sym c.word_at.ensures) ∙ c.in_err-test_id.ensures))
 
 pub returns-clause-read : goal.returns-clause-read
-returns-clause-read c =
-    next_ids_pass c.args.self.now c.args.count c.args.bytes.now c.in_ok-ids.ids.now c.in_ok-ids.rest.now
-    c.in_ok-ids.ensures.read (λ k h. c.each.invariant k (omega (arith, h, c.each-test.false)))
+returns-clause-read c = grind (arith, common_steps, next_ids_pass)

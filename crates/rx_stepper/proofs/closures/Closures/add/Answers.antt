@@ -1,9 +1,9 @@
-use Rattle.std.proofs.Common.{refl, ap, ◌∙◌, ◌++◌, subst, arith}
+use Rattle.std.proofs.lemmas.Grind.{common_steps}
+use Rattle.std.proofs.Common.{ap, ◌∙◌, ◌++◌, arith}
 use Rattle.std.specs.List.{flat_map}
 use Rattle.rx_spec.specs.States.{closure, fresh}
 use Rattle.rx_expr.specs.Nfa.{meaning}
 use Rattle.rx_expr.specs.declared.thompson.nfa.NFA.{NFA}
-use Rattle.rx_stepper.specs.Searches.{IsSearched}
 use Rattle.rx_stepper.specs.ThinRows.{passing_of}
 use Rattle.rx_stepper.proofs.StampedSearch.{itself_new, itself_again, next_given, all_given, count_new, count_old}
 use Rattle.rx_stepper.proofs.closures.Closures.add.Goals as goal
@@ -11,14 +11,7 @@ use Rattle.rx_stepper.proofs.closures.Closures.add.Goals.{then-stops+then-is_fir
 use Rattle.rx_stepper.proofs.closures.Closures.add.Goals.{else-stops}
 
 pub each-init : goal.each-init
-each-init c = record {
-  searched = c.requires.searched;
-  left = refl;
-  empty = c.requires.waiting;
-  found_room = c.requires.room;
-  found_grown = omega arith;
-  nfa = refl;
-}
+each-init c = grind (arith, common_steps)
 
 pub each-preserved : goal.each-preserved
 each-preserved c =
@@ -82,9 +75,4 @@ returns-clause-rows c =
     ∙ ap (λ (n : NFA). before ++ fresh before (reached n)) left.nfa
 
 pub returns-clause-searched : goal.returns-clause-searched
-returns-clause-searched c =
-    let left = c.each.invariant in
-    let stamps = c.each.self.stamps in
-    let pass = passing_of c.args.passing.now in
-    subst (λ (n : NFA). IsSearched (meaning n).rows pass stamps.stamps.items stamps.now c.each.found.items) left.nfa
-    left.searched
+returns-clause-searched c = grind (arith, common_steps)

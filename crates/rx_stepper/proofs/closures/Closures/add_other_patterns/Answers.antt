@@ -1,4 +1,5 @@
-use Rattle.std.proofs.Common.{◌++◌, ◌∷◌, ◌+◌, drop, ap, sym, ◌∙◌, append-nil, append_assoc}
+use Rattle.std.proofs.Common.{arith, ◌++◌, ◌∷◌, ◌+◌, drop, ap, sym, ◌∙◌, append-nil, append_assoc}
+use Rattle.std.proofs.lemmas.Grind.{common_steps}
 use Rattle.std.proofs.Math.ListN.{drop_of_length-le}
 use Rattle.std.proofs.lemmas.List.{drop_more}
 use Rattle.rx_spec.specs.States.{pattern_of, row_at}
@@ -35,9 +36,4 @@ loop-id-preserved c =
     ]
 
 pub returns : goal.returns
-returns c =
-    let rows = (meaning c.args.self.now.nfa.now).rows in
-    let label = c.loop-id.label.items in
-    let none = ap (without c.args.others.now) (drop_of_length-le c.args.rows.now c.loop-id-test.false)
-    ∙ without_nil c.args.others.now in
-    sym (append-nil label) ∙ ap (λ l. label ++ patterns_of rows l) (sym none) ∙ c.loop-id.invariant
+returns c = grind (arith, common_steps, drop_of_length-le, without_nil, append-nil)

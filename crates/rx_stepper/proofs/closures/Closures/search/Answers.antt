@@ -1,4 +1,5 @@
-use Rattle.std.proofs.Common.{◌≡◌, ◌<◌, ◌++◌, List, ℕ, reverse, ◌∷◌, get_or, length, refl, ap, arith, ◌∙◌, sym, subst}
+use Rattle.std.proofs.lemmas.Grind.{common_steps}
+use Rattle.std.proofs.Common.{◌≡◌, ◌<◌, ◌++◌, List, ℕ, reverse, ◌∷◌, get_or, length, ap, arith, ◌∙◌, sym, subst}
 use Rattle.rx_spec.specs.Causes.{id_count}
 use Rattle.rx_spec.specs.States.{closure, fresh, row_at}
 use Rattle.rx_expr.specs.Nfa.{meaning}
@@ -16,28 +17,7 @@ use Rattle.rx_stepper.proofs.ThinLists.{thin_there}
 use Rattle.rx_stepper.proofs.closures.Closures.search.Goals as goal
 
 pub search-init : goal.search-init
-search-init c =
-    let nfa = c.args.self.now.nfa.now in
-    let stamps = c.args.self.now.stamps in
-    let before = c.requires.searched in
-    record {
-      search =
-          search_from (meaning nfa).rows (passing_of c.args.passing.now) nfa.shallow c.args.row before
-          c.requires.waiting;
-      few = before.ids;
-      none = tt;
-      stack =
-          omega (
-            arith,
-            ap length c.requires.waiting,
-            unmet_within stamps.stamps.items stamps.now,
-            c.args.self.now.stamps_len,
-          );
-      listed = before.room;
-      found_room = c.requires.room;
-      found_grown = omega arith;
-      nfa = refl;
-    }
+search-init c = grind (arith, common_steps, search_from, unmet_within)
 
 -- ---- a row that is new
 

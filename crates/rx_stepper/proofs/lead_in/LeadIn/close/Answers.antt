@@ -1,12 +1,10 @@
-use Rattle.std.proofs.Common.{◌≡◌, ◌<◌, ◌++◌, List, ℕ, true, length, take, drop, ap, sym, ◌∙◌, subst, arith}
-use Rattle.std.proofs.Common.{length-take, take-append-drop}
-use Rattle.std.specs.List.{AllByRecursion as Every}
-use Rattle.rx_spec.specs.Causes.{id_count}
+use Rattle.std.proofs.lemmas.Grind.{common_steps}
+use Rattle.std.proofs.Common.{◌≡◌, ◌++◌, List, ℕ, true, take, drop, ap, sym, ◌∙◌, subst, arith, length-take}
+use Rattle.std.proofs.Common.{take-append-drop}
 use Rattle.rx_spec.specs.States.{firsts}
 use Rattle.lemmas_walks.proofs.Firsts.{Apart}
 use Rattle.rx_expr.specs.Nfa.{meaning}
-use Rattle.rx_stepper.specs.Leads.{IsLeast, lead_of, led, written, written_as}
-use Rattle.rx_stepper.specs.Stamps.{is_met}
+use Rattle.rx_stepper.specs.Leads.{IsLeast, led, written_as}
 use Rattle.rx_stepper.proofs.Decisions.{firsts_twice}
 use Rattle.rx_stepper.proofs.KeyLaws.{once_apart}
 use Rattle.rx_stepper.proofs.LeadClosing.{Starts, every_all, every_take, lead_alone, met_alike, written_led}
@@ -14,9 +12,7 @@ use Rattle.rx_stepper.proofs.Members.{apart_front, was}
 use Rattle.rx_stepper.proofs.lead_in.LeadIn.close.Goals as goal
 
 pub own_len-len-requires-clause-once : goal.own_len-len-requires-clause-once
-own_len-len-requires-clause-once c =
-    let listed = c.deref.ensures.value ∙ c.list_joined.ensures.rows in
-    ap (λ (l : List ℕ). firsts l) listed ∙ firsts_twice _ ∙ sym listed
+own_len-len-requires-clause-once c = grind (arith, common_steps, firsts_twice)
 
 pub own_len-len-requires-clause-met : goal.own_len-len-requires-clause-met
 own_len-len-requires-clause-met c =
@@ -50,36 +46,16 @@ returns-in-Some-clause-rows c =
     ∙ ap (written_as true) (sym c.truncate.ensures.items)
 
 pub returns-in-Some-clause-ids : goal.returns-in-Some-clause-ids
-returns-in-Some-clause-ids c =
-    subst (Every (λ q. q < id_count)) (sym c.truncate.ensures.items)
-    (every_take (λ q. q < id_count) c.list_joined.new.found.items c.own_len-len.result c.list_joined.ensures.ids)
+returns-in-Some-clause-ids c = grind (arith, common_steps, every_take)
 
 pub split-requires : goal.split-requires
-split-requires c =
-    let nfa = c.args.closures.now.nfa.now in
-    let stamps = c.list_joined-2.new.self.stamps in
-    let listed = c.list_joined-2.new.found.items in
-    every_all (λ q. is_met stamps.stamps.items stamps.now q ≡ was listed q) c.args.self.now.rows.items
-    (λ q i. c.list_joined-2.ensures.met q (lead_alone nfa c.requires.is.rows q i))
+split-requires c = grind (arith, common_steps, every_all, was, lead_alone)
 
 pub returns-clause-rows : goal.returns-clause-rows
-returns-clause-rows c =
-    let nfa = meaning c.args.closures.now.nfa.now in
-    ap (written (lead_of nfa)) (sym c.list_joined-2.ensures.rows)
-    ∙ ap (λ l. written l c.list_joined-2.new.found.items) (sym c.requires.is.rows)
-    ∙ c.split.ensures.rows
+returns-clause-rows c = grind (arith, common_steps)
 
 pub returns-clause-few : goal.returns-clause-few
-returns-clause-few c =
-    omega (
-      arith,
-      ap length c.split.ensures.front,
-      length-take (length c.split.new.own.items) c.list_joined-2.new.found.items,
-      c.list_joined-2.ensures.few,
-    )
+returns-clause-few c = grind (arith, common_steps, length-take)
 
 pub returns-clause-ids : goal.returns-clause-ids
-returns-clause-ids c =
-    subst (Every (λ q. q < id_count)) (sym c.split.ensures.front)
-    (every_take (λ q. q < id_count) c.list_joined-2.new.found.items (length c.split.new.own.items)
-    c.list_joined-2.ensures.ids)
+returns-clause-ids c = grind (arith, common_steps, every_take)

@@ -1,8 +1,7 @@
-use Rattle.std.proofs.Common.{◌≡◌, ◌<◌, List, ℕ, length, ap, ap₂, sym, ◌∙◌, subst, arith}
-use Rattle.std.proofs.lemmas.List.Elements.{All-from_recursion}
-use Rattle.std.specs.List.{list_any, AllByRecursion as Every}
-use Rattle.rx_spec.specs.Causes.{id_count}
-use Rattle.rx_spec.specs.States.{firsts, is_look_row, row_at}
+use Rattle.std.proofs.lemmas.Grind.{common_steps}
+use Rattle.std.proofs.Common.{◌≡◌, ◌<◌, List, ℕ, length, ap, sym, ◌∙◌, subst, arith}
+use Rattle.std.specs.List.{AllByRecursion as Every}
+use Rattle.rx_spec.specs.States.{firsts}
 use Rattle.rx_expr.specs.Nfa.{meaning}
 use Rattle.rx_expr.specs.declared.thompson.nfa.NFA.{NFA}
 use Rattle.rx_stepper.specs.Places.{ArePlaces}
@@ -42,17 +41,4 @@ invariant_of-result c =
     }
 
 pub returns-clause-is : goal.returns-clause-is
-returns-clause-is c =
-    let copied = c.in_ok-to_vec.ensures.items_if_clones_equal (λ x y e. e) in
-    let same = copied ∙ c.deref-3.ensures.value in
-    let looks = λ (n : NFA) (l : List ℕ). list_any (λ q. is_look_row (row_at (meaning n).rows q)) l in
-    record {
-      start = c.start_unanchored.ensures ∙ ap (λ (n : NFA). (meaning n).start_unanchored) c.list_lead_in.ensures.nfa;
-      rows = same ∙ c.list_lead_in.ensures.rows;
-      asks =
-          c.has_look.ensures
-          ∙ ap₂ looks c.list_lead_in.ensures.nfa (c.deref-2.ensures.value ∙ sym same);
-      ids =
-          All-from_recursion (λ q. q < id_count) c.in_ok-to_vec.field-0.items
-          (subst (Every (λ q. q < id_count)) (sym same) c.list_lead_in.ensures.ids);
-    }
+returns-clause-is c = grind (arith, common_steps)

@@ -1,6 +1,6 @@
-use Rattle.std.proofs.Common.{◌≡◌, ℕ, ◌-◌, ◌<◌, ◌≤◌, take, ap, subst, sym, ◌∙◌, arith}
+use Rattle.std.proofs.lemmas.Grind.{common_steps}
+use Rattle.std.proofs.Common.{ℕ, ◌-◌, ◌<◌, ◌≤◌, ap, subst, sym, ◌∙◌, arith}
 use Rattle.std.specs.Prelude.{slice_index_or}
-use Rattle.rx_stepper.specs.Leads.{led}
 use Rattle.rx_stepper.specs.Places.{no_place}
 use Rattle.rx_stepper.proofs.KeyLaws.{once_apart}
 use Rattle.rx_stepper.proofs.LeadPlaces.{Trimmed, last_row, least_none, trimmed_least, trimmed_more, trimmed_none}
@@ -40,12 +40,4 @@ returns-then-place-met c =
     }
 
 pub returns : goal.returns
-returns c =
-    let lead = c.args.self.now.rows.items in
-    let own = c.args.own.now in
-    let none : c.loop-len.len ≡ 0 = omega (arith, c.loop-len-test.false) in
-    record {
-      within = omega arith;
-      same = ap (λ n. led (take n own) lead) (sym none) ∙ c.loop-len.invariant.same;
-      least = least_none lead;
-    }
+returns c = grind (arith, common_steps, least_none)

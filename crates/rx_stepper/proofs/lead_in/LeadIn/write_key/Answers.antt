@@ -1,8 +1,7 @@
-use Rattle.std.proofs.Common.{◌<◌, ◌==◌, ◌&&◌, not, if◌then◌else◌, List, ℕ, ◌∷◌, ◌++◌, length, ap, ap₂, sym, ◌∙◌}
-use Rattle.std.proofs.Common.{subst}
+use Rattle.std.proofs.Common.{arith, ◌==◌, ◌&&◌, not, if◌then◌else◌, List, ℕ, ◌∷◌, ◌++◌, length, ap, ap₂, sym, ◌∙◌}
+use Rattle.std.proofs.lemmas.Grind.{common_steps}
 use Rattle.std.proofs.lemmas.List.Elements.{recursion_from_All}
-use Rattle.std.specs.List.{list_any, AllByRecursion as Every}
-use Rattle.rx_spec.specs.Causes.{id_count}
+use Rattle.std.specs.List.{list_any}
 use Rattle.rx_spec.specs.States.{is_look_row, row_at}
 use Rattle.rx_base.specs.FactBits.{bit, facts_with}
 use Rattle.rx_expr.specs.Nfa.{meaning}
@@ -15,13 +14,7 @@ use Rattle.rx_stepper.proofs.lead_in.LeadIn.write_key.Goals.{After-close-is_led}
 -- how the rows are written
 writes : (c : After-close-is_led) → WritesRows (meaning c.args.closures.now.nfa.now)
     (c.args.from.first.now ++ c.args.from.second.now) c.close-is_led.new.own.items c.close-is_led.result
-writes c = record {
-  written = c.close-is_led.ensures.rows;
-  ids = c.close-is_led.ensures.ids;
-  lead_ids =
-      subst (Every (λ q. q < id_count)) c.requires.is.rows
-      (recursion_from_All (λ q. q < id_count) c.args.self.now.rows.items c.requires.is.ids);
-}
+writes c = grind (arith, common_steps, recursion_from_All)
 
 pub returns-then-is_dead-clause-key : goal.returns-then-is_dead-clause-key
 returns-then-is_dead-clause-key c =

@@ -1,3 +1,4 @@
+use Rattle.std.proofs.lemmas.Grind.{common_steps}
 use Rattle.std.proofs.Common.{◌≡◌, ◌<◌, ◌++◌, ◌⊎◌, List, ℕ, [], false, None, Some, length, refl, ap, ap₂, sym, ◌∙◌}
 use Rattle.std.proofs.Common.{subst, arith}
 use Rattle.std.specs.Prelude.{IfSome, slice_index}
@@ -41,10 +42,7 @@ same_own c =
 follows : (c : In-Some)
     → Follows c.args.self.now.current c.args.self.now.leads.items c.args.self.now.kind c.of-group.result
     c.in-Some.lead.now
-follows c =
-    let self = c.args.self.now in
-    subst (λ (l : List LeadSteps). Follows self.current l self.kind c.of-group.result c.in-Some.lead.now)
-    c.deref-3.ensures.value c.in-Some.ensures
+follows c = grind (arith, common_steps)
 
 lead_columns : (c : In-Some) → length c.in-Some.lead.now.targets.items ≡ length (units_of c.args.self.now.classes)
 lead_columns c =

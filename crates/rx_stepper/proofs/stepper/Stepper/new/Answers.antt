@@ -1,4 +1,4 @@
-use Rattle.std.proofs.Common.{◌≡◌, length, refl, ap, sym, ◌∙◌, subst, arith}
+use Rattle.std.proofs.Common.{rules, ◌≡◌, length, refl, ap, sym, ◌∙◌, subst, arith}
 use Rattle.std.proofs.lemmas.List.{length-map}
 use Rattle.std.specs.Prelude.{All}
 use Rattle.rx_expr.specs.Nfa.{meaning, row_of}
@@ -63,6 +63,4 @@ returns-clause-spells c =
 
 pub returns-clause-one_key : goal.returns-clause-one_key
 unfolding stepping_of
-returns-clause-one_key c = λ j k is_j is_k same.
-    let nfa = meaning c.new-3.new.closures.nfa.now in
-    one_key_each nfa.rows (lead_of nfa) j k is_j is_k same
+returns-clause-one_key c = search (rules, one_key_each)

@@ -1,4 +1,4 @@
-use Rattle.std.proofs.Common.{◌≡◌, ◌≤◌, ◌<◌, ◌^◌, Bool, true, List, ℕ, length, ap, ap₂, sym, subst, arith, ◌∙◌}
+use Rattle.std.proofs.Common.{rules, ◌≡◌, ◌≤◌, ◌<◌, ◌^◌, Bool, true, List, ℕ, length, ap, ap₂, sym, subst, arith, ◌∙◌}
 use Rattle.rx_spec.specs.Causes.{id_count}
 use Rattle.rx_spec.specs.States.{firsts}
 use Rattle.rx_expr.specs.Nfa.{meaning}
@@ -20,9 +20,7 @@ record Parts (key lead : List ℕ) (rows label : ℕ) : Type 0 where
 spelt : (s : Stepper) {key : List ℕ} → (stepping_of s).is_key key ≡ true
     → Spells (meaning s.closures.nfa.now).rows (lead_of (meaning s.closures.nfa.now)) key
 unfolding stepping_of
-spelt s {key} is_key =
-    let nfa = meaning s.closures.nfa.now in
-    spells nfa.rows (lead_of nfa) key is_key
+spelt s {key} is_key = search (rules, spells)
 
 parts : (c : After-label_of) → Parts c.args.key.now (lead_of (meaning c.args.self.now.closures.nfa.now))
     c.rows_len-rows.result (length c.label_of.result.now)

@@ -1,14 +1,14 @@
-use Rattle.std.proofs.Common.{◌≡◌, ◌<◌, ◌++◌, ℕ, length, map, Some, ap, ap₂, sym, ◌∙◌, arith}
+use Rattle.std.proofs.Common.{rules, ◌≡◌, ◌++◌, ℕ, length, map, Some, ap, ap₂, ◌∙◌, arith}
+use Rattle.std.proofs.lemmas.Grind.{common_steps}
 use Rattle.std.specs.Prelude.{slice_index}
 use Rattle.std.specs.List.{flat_map}
-use Rattle.rx_spec.specs.Contexts.{Facts, holds_read}
-use Rattle.rx_spec.specs.States.{Tested, row_at, cut, target}
-use Rattle.rx_spec.specs.declared.Direction.{Direction}
+use Rattle.rx_spec.specs.Contexts.{holds_read}
+use Rattle.rx_spec.specs.States.{Tested, row_at, target}
 use Rattle.rx_base.specs.FactBits.{facts_with}
 use Rattle.rx_expr.specs.Nfa.{meaning}
 use Rattle.rx_powerset.specs.Closures.{closed_rows}
 use Rattle.rx_stepper.specs.Columns.{takes, only_if, list_at}
-use Rattle.rx_stepper.specs.Steps.{going_by, matches_of}
+use Rattle.rx_stepper.specs.Steps.{going_by}
 use Rattle.rx_stepper.proofs.EmptyLists.{set_here, set_other, list_there, written_back}
 use Rattle.rx_stepper.proofs.Results.{on_ok, on_ok-map}
 use Rattle.rx_stepper.proofs.StepLaws.{few_told}
@@ -19,49 +19,20 @@ settled_is : (c : goal.After-self-3-1) → c.deref.result.now
     (Tested (λ look. holds_read (meaning c.args.closures.now.nfa.now).direction look c.args.last
     (facts_with c.args.group)))
     c.args.rows.now
-settled_is c =
-    let rows = (meaning c.args.closures.now.nfa.now).rows in
-    let pass = λ (d : Direction) (n : Facts). Tested (λ look. holds_read d look c.args.last n) in
-    c.deref.ensures.value ∙ c.list.ensures.rows
-    ∙ ap (λ p. closed_rows rows p c.args.rows.now) (ap₂ pass c.direction.ensures c.from_bits.ensures)
+settled_is c = search rules
 
 going_is : (c : goal.After-self-3-1) → c.cut-going.result.now
     ≡ going_by (meaning c.args.closures.now.nfa.now) c.args.kind c.args.last (facts_with c.args.group) c.args.rows.now
-going_is c =
-    c.cut-going.ensures ∙ ap (λ n. cut c.args.kind (meaning n).rows c.deref.result.now) c.list.ensures.nfa
-    ∙ ap (cut c.args.kind (meaning c.args.closures.now.nfa.now).rows) (settled_is c)
+going_is c = search (rules, settled_is)
 
 pub returns-clause-others : goal.returns-clause-others
-returns-clause-others c =
-    on_ok c.add_targets.result
-    (set_other (λ v. v.items) c.args.self.now.matches.items c.args.group c.add_matches.new.matches)
+returns-clause-others c = grind (arith, common_steps, on_ok, set_other)
 
 pub returns-clause-matches : goal.returns-clause-matches
-returns-clause-matches c =
-    let lists = c.args.self.now.matches.items in
-    let within : c.args.group < length lists = omega (arith, c.args.self.now.matches_len, c.requires.group) in
-    let old = list_there (λ v. v.items) lists c.args.group c.index_mut.result.now within c.index_mut.ensures.value in
-    let nfa = c.args.closures.now.nfa.now in
-    let told =
-    ap (λ n. matches_of (meaning n).rows c.cut-going.result.now) c.list.ensures.nfa
-    ∙ ap (matches_of (meaning nfa).rows) (going_is c) in
-    on_ok c.add_targets.result
-    (set_here (λ v. v.items) lists c.args.group c.add_matches.new.matches within ∙ c.in_ok-add_matches.ensures
-    ∙ ap₂ (λ xs ys. xs ++ ys) (sym old) told)
+returns-clause-matches c = grind (arith, common_steps, list_there, going_is, on_ok, set_here)
 
 pub returns-clause-few : goal.returns-clause-few
-returns-clause-few c =
-    let rows = (meaning c.args.closures.now.nfa.now).rows in
-    let direction = (meaning c.args.closures.now.nfa.now).direction in
-    let pass = Tested (λ look. holds_read direction look c.args.last (facts_with c.args.group)) in
-    on_ok c.add_targets.result
-    (omega (
-      arith,
-      few_told c.args.kind rows (closed_rows rows pass c.args.rows.now),
-      ap length (settled_is c),
-      ap length c.deref.ensures.value,
-      c.list.ensures.few,
-    ))
+returns-clause-few c = search (rules, on_ok, few_told, settled_is)
 
 pub returns-clause-targets : goal.returns-clause-targets
 returns-clause-targets c =

@@ -1,6 +1,6 @@
-use Rattle.std.specs.Prelude.{vec_capacity}
+use Rattle.std.proofs.lemmas.Grind.{common_steps}
+use Rattle.std.specs.Prelude.{vec_capacity, slice_index}
 use Rattle.std.proofs.Common.{ℕ, ◌+◌, ◌++◌, List, length, map, refl, ap, sym, ◌∙◌, subst, arith}
-use Rattle.std.specs.Prelude.{slice_index}
 use Rattle.std.specs.List.{flat_map}
 use Rattle.rx_spec.specs.States.{Tested, cut, holds_before, row_at, target}
 use Rattle.rx_base.specs.FactBits.{facts_with}
@@ -19,12 +19,7 @@ use Rattle.rx_stepper.proofs.steps.Steps.find.Goals as goal
 use Rattle.rx_stepper.proofs.steps.Steps.find.Goals.{then-has+in_ok-add_group, else-has}
 
 pub loop-group-init : goal.loop-group-init
-loop-group-init c = record {
-  nfa = refl;
-  columns = c.clear.ensures.columns;
-  kept_room = omega arith;
-  done = λ units reads groups. done_none c.clear.ensures.targets c.clear.ensures.matches;
-}
+loop-group-init c = grind (arith, common_steps, done_none)
 
 pub loop-group-preserved : goal.loop-group-preserved
 loop-group-preserved c =

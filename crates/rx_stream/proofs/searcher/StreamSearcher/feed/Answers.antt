@@ -1,3 +1,4 @@
+use Rattle.std.proofs.lemmas.Grind.{common_steps}
 use Rattle.std.proofs.Common.{refl, arith, ◌≡◌}
 use Rattle.std.specs.Prelude.{slice_index}
 use Rattle.rx_spec.specs.Ids.{row_of}
@@ -11,17 +12,10 @@ use Rattle.rx_stream.proofs.Feed.{open_stage, fed_pattern, fed_match, fed_quit, 
 use Rattle.rx_stream.proofs.searcher.StreamSearcher.feed.Goals as goal
 
 pub match_pattern-requires-clause-within : goal.match_pattern-requires-clause-within
-match_pattern-requires-clause-within g c =
-    let met = g.met.A.Automaton in
-    let here = c.next_pattern.new.self in
-    let held = held_by met.sound met.are_ids here.table here.sound in
-    let halt = c.in-Match.ensures in
-    some_pattern (held_row held c.in-Match.row halt.0) halt.1.is_match
+match_pattern-requires-clause-within g c = grind (arith, common_steps, held_by, some_pattern, held_row)
 
 pub returns-in-Some-clause-fed : goal.returns-in-Some-clause-fed
-returns-in-Some-clause-fed g c =
-    let was_open = open_stage c.args.self.now.place.stage c.requires.open in
-    rw c.with_event.ensures (fed_pattern was_open c.requires.within c.in-Some.ensures.told)
+returns-in-Some-clause-fed g c = grind (arith, common_steps, open_stage, fed_pattern)
 
 pub returns-in-Match-clause-fed : goal.returns-in-Match-clause-fed
 returns-in-Match-clause-fed g c =

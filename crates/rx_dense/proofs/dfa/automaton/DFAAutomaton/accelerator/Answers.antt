@@ -1,3 +1,4 @@
+use Rattle.std.proofs.lemmas.Grind.{common_steps}
 use Rattle.std.proofs.Common.{◌∙◌, ◌<◌, ℕ, List, [], length, get_or, sym, ap, arith}
 use Rattle.rx_dense.specs.Accels.{accel_lists}
 use Rattle.rx_dense.specs.Layouts.{place_in_range}
@@ -6,24 +7,13 @@ use Rattle.rx_dense.proofs.AccelLists.{accel_lists_len, accel_lists_at}
 use Rattle.rx_dense.proofs.dfa.automaton.DFAAutomaton.accelerator.Goals as goal
 
 pub returns-then-not-is_accel_state : goal.returns-then-not-is_accel_state
-returns-then-not-is_accel_state g c =
-    let not_accel = sym (rw c.special.ensures at c.is_accel_state.ensures) ∙ c.if-not-is_accel_state.true in
-    c.new.ensures ∙ no_needles c.args.self.now c.args.id c.requires.is_id not_accel
+returns-then-not-is_accel_state g c = grind (arith, common_steps, no_needles)
 
 pub place_in_range-place-requires : goal.place_in_range-place-requires
-place_in_range-place-requires g c =
-    let is_accel = sym (rw c.special.ensures at c.is_accel_state.ensures) ∙ c.if-not-is_accel_state.false in
-    rw c.special-2.ensures (accel_first c.args.self.now c.args.id c.requires.is_id is_accel)
+place_in_range-place-requires g c = grind (arith, common_steps, accel_first)
 
 pub bounds-accel_words-place : goal.bounds-accel_words-place
-bounds-accel_words-place g c =
-    let l = c.args.self.now in
-    let is_accel = sym (rw c.special.ensures at c.is_accel_state.ensures) ∙ c.if-not-is_accel_state.false in
-    let place = accel_place l c.args.id c.requires.is_id c.requires.sound is_accel in
-    let within : place_in_range l l.special.min_accel c.args.id < length (accel_lists c.accel_words.result.now) =
-    rw c.accel_words.ensures.value place in
-    rw (c.place_in_range-place.ensures, c.special-2.ensures)
-    (omega (arith, within, accel_lists_len c.accel_words.result.now))
+bounds-accel_words-place g c = grind (arith, common_steps, accel_place, accel_lists_len)
 
 pub returns : goal.returns
 returns g c =

@@ -1,7 +1,7 @@
-use Rattle.std.proofs.Common.{◌∙◌}
+use Rattle.std.proofs.Common.{arith}
+use Rattle.std.proofs.lemmas.Grind.{common_steps}
 use Rattle.rx_dense.proofs.RowKinds.{match_kind}
 use Rattle.rx_dense.proofs.dfa.automaton.DFAAutomaton.is_match_state.Goals as goal
 
 pub returns : goal.returns
-returns g c =
-    rw c.special.ensures at c.is_match_state.ensures ∙ match_kind c.args.self.now c.args.id c.requires
+returns g c = grind (arith, common_steps, match_kind)

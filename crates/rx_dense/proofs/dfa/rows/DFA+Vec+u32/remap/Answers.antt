@@ -1,4 +1,5 @@
-use Rattle.std.proofs.Common.{◌≡◌, ◌∙◌, sym, ap, subst}
+use Rattle.std.proofs.Common.{arith, ◌≡◌, ◌∙◌, sym, ap, subst}
+use Rattle.std.proofs.lemmas.Grind.{common_steps}
 use Rattle.std.proofs.lemmas.List.{with_items_is}
 use Rattle.rx_dense.specs.Builder.{IsMachineRenamed}
 use Rattle.rx_dense.specs.Layouts.{Layout, IsShaped}
@@ -7,11 +8,7 @@ use Rattle.rx_dense.proofs.Renaming.{words_within}
 use Rattle.rx_dense.proofs.dfa.rows.DFA+Vec+u32.remap.Goals as goal
 
 pub rename_rows-requires-clause-rows : goal.rename_rows-requires-clause-rows
-rename_rows-requires-clause-rows c =
-    let l = c.args.self.now in
-    let shaped = subst IsShaped c.self.view_is c.self.invariant in
-    rw (c.deref_mut.ensures.value ∙ ap (λ (l : Layout). l.words) c.self.view_is, c.stride2-stride2.ensures.value)
-    (words_within l c.args.map.now c.requires.count c.requires.ids shaped)
+rename_rows-requires-clause-rows c = grind (arith, common_steps, words_within)
 
 pub rename-requires-clause-rows : goal.rename-requires-clause-rows
 rename-requires-clause-rows c =
@@ -45,7 +42,4 @@ returns-clause-machine c =
     (machine_renamed l c.args.map.now c.requires.count c.requires.ids (subst IsShaped c.self.view_is c.self.invariant))
 
 pub invariant_of-self : goal.invariant_of-self
-invariant_of-self c =
-    subst IsShaped (sym (returns-clause-value c))
-    (shaped_renamed c.args.self.now c.args.map.now c.requires.count c.requires.ids
-    (subst IsShaped c.self.view_is c.self.invariant))
+invariant_of-self c = grind (arith, common_steps, returns-clause-value, shaped_renamed)

@@ -1,9 +1,9 @@
-use Rattle.std.proofs.Common.{List, ◌≡◌, ◌+◌, ◌-◌, ◌/◌, ◌<◌, ◌≤◌, ◌∙◌, ℕ, length, drop, sym, ap, subst, arith}
+use Rattle.std.proofs.lemmas.Grind.{common_steps}
+use Rattle.std.proofs.Common.{List, ◌≡◌, ◌+◌, ◌-◌, ◌≤◌, ◌∙◌, ℕ, length, sym, ap, subst, arith}
 use Rattle.std.proofs.lemmas.List.{with_items_is}
-use Rattle.std.proofs.lemmas.List.Elements.{All-take, All-drop}
 use Rattle.rx_base.specs.ByteClasses.{alphabet_len}
 use Rattle.rx_dense.specs.Builder.{renamed_id}
-use Rattle.rx_dense.specs.Layouts.{Layout, IsShaped, ids_of, stride}
+use Rattle.rx_dense.specs.Layouts.{Layout, IsShaped}
 use Rattle.rx_dense.proofs.Rows.{IsRowId-id}
 use Rattle.rx_dense.proofs.Renaming.{RenamedPart, length-part, renamed_part, row_renamed, same_ids, same_lists}
 use Rattle.rx_dense.proofs.Renaming.{shaped_renamed_row, words_within}
@@ -20,16 +20,7 @@ slice_bounds-rename-end c =
     rw (old_words, c.as_usize-first.ensures.value, c.alphabet_len.ensures) within
 
 pub rename-requires-clause-rows : goal.rename-requires-clause-rows
-rename-requires-clause-rows c =
-    let l = c.args.self.now in
-    let old_words = c.deref_mut.ensures.value ∙ ap (λ (l : Layout). l.words) c.self.view_is in
-    let shaped = subst IsShaped c.self.view_is c.self.invariant in
-    let IsIn : ℕ → Type 0 = λ id. id / stride l < length c.args.map.now in
-    rw (old_words, c.stride2-stride2.ensures.value)
-    (All-take IsIn (c.as_usize-first.result + c.alphabet_len.result - c.as_usize-first.result)
-    (drop c.as_usize-first.result l.words)
-    (All-drop IsIn c.as_usize-first.result l.words
-    (words_within l c.args.map.now c.requires.count c.requires.ids shaped)))
+rename-requires-clause-rows c = grind (arith, common_steps, words_within)
 
 pub returns-clause-value : goal.returns-clause-value
 returns-clause-value c =
@@ -60,11 +51,7 @@ returns-clause-value c =
     (ap (λ (l : Layout). l.starts) c.self.view_is))
 
 pub returns-clause-rows : goal.returns-clause-rows
-returns-clause-rows c =
-    ap ids_of (returns-clause-value c) ∙ same_ids c.args.self.now _
+returns-clause-rows c = grind (arith, common_steps, returns-clause-value, same_ids)
 
 pub invariant_of-self : goal.invariant_of-self
-invariant_of-self c =
-    subst IsShaped (sym (returns-clause-value c))
-    (shaped_renamed_row c.args.self.now c.args.map.now c.requires.count c.requires.ids
-    (subst IsShaped c.self.view_is c.self.invariant) c.args.id)
+invariant_of-self c = grind (arith, common_steps, returns-clause-value, shaped_renamed_row)

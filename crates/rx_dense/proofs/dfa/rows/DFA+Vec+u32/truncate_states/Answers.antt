@@ -1,5 +1,5 @@
-use Rattle.std.proofs.Common.{ℕ, ◌*◌, ◌<◌, ◌≤◌, length, slice_index, sym, ap, subst}
-use Rattle.rx_dense.specs.Builder.{with_rows}
+use Rattle.std.proofs.Common.{arith, ℕ, ◌*◌, ◌<◌, ◌≤◌, length, slice_index, sym, subst}
+use Rattle.std.proofs.lemmas.Grind.{common_steps}
 use Rattle.rx_dense.specs.Layouts.{Layout, row_count, stride}
 use Rattle.rx_dense.proofs.Shaped.{shaped_cut}
 use Rattle.rx_dense.proofs.dfa.rows.DFA+Vec+u32.truncate_states.Goals as goal
@@ -19,6 +19,4 @@ invariant_of-self c =
     (shaped_cut _ c.args.len c.requires.two within rows starts c.self.invariant)
 
 pub returns : goal.returns
-returns c =
-    let stride_is = rw (← c.self.view_is) at c.stride-width.ensures.value in
-    rw (c.truncate.ensures.items, stride_is) (ap (λ (l : Layout). with_rows l c.args.len) c.self.view_is)
+returns c = grind (arith, common_steps)

@@ -1,20 +1,13 @@
-use Rattle.std.proofs.Common.{rules, ◌≡◌, ◌+◌, ◌≤◌, ◌<◌, ◌∙◌, ◌∷◌, ℕ, List, [], ap, ap₂, sym, arith, length, drop}
-use Rattle.std.proofs.Common.{slice_index}
+use Rattle.std.proofs.lemmas.Grind.{common_steps}
+use Rattle.std.proofs.Common.{rules, ◌+◌, ◌<◌, ◌∙◌, ◌∷◌, ℕ, List, [], ap, ap₂, sym, arith, length, drop, slice_index}
 use Rattle.std.proofs.lemmas.List.{drop_all}
-use Rattle.rx_spec.specs.declared.Start.{Start}
-use Rattle.rx_base.specs.declared.search.Anchored.{Anchored}
 use Rattle.rx_dense.specs.States.{starts_of}
 use Rattle.rx_dense.proofs.Rows.{id_few}
 use Rattle.rx_dense.proofs.States.{starts_of-next}
 use Rattle.rx_dense.proofs.dfa.starts.StartStateIterIterator.next.Goals as goal
 
 pub returns-in_err-place-clause-steps : goal.returns-in_err-place-clause-steps
-returns-in_err-place-clause-steps g c =
-    let entries : List (ℕ × Anchored × Start) = starts_of c.self.inside.dfa.now in
-    let next = c.in_err-place.ensures.steps.1 in
-    let past : length entries ≤ c.self.inside.places.start = omega (arith, c.self.invariant, next.0) in
-    let none : drop c.self.inside.places.start entries ≡ [] = drop_all c.self.inside.places.start entries past in
-    rw c.from_residual.ensures (sym c.self.view_is ∙ none, ap (λ at. drop at entries) next.1 ∙ none)
+returns-in_err-place-clause-steps g c = grind (arith, common_steps, drop_all)
 
 pub must-id-requires : goal.must-id-requires
 must-id-requires g c =

@@ -1,8 +1,7 @@
-use Rattle.std.proofs.Common.{◌∙◌}
+use Rattle.std.proofs.Common.{arith}
+use Rattle.std.proofs.lemmas.Grind.{common_steps}
 use Rattle.rx_sparse.proofs.RowKinds.{start_kind}
 use Rattle.rx_sparse.proofs.dfa.automaton.DFAAutomaton.is_start_state.Goals as goal
 
 pub returns : goal.returns
-returns g c =
-    rw (c.special.ensures, c.special-2.ensures) at c.is_in_range.ensures
-    ∙ start_kind c.args.self.now.layout c.args.id c.requires
+returns g c = grind (arith, common_steps, start_kind)
