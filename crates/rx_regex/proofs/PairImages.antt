@@ -12,9 +12,7 @@ use Rattle.rx_expr.specs.Settings as thompson
 use Rattle.rx_expr.proofs.PatternRows.{length-entries}
 use Rattle.rx_image.specs.Pairs.{AreWhole, HaveSamePatterns, Pair, in_order, reads, text}
 use Rattle.rx_image.proofs.ReadAgain.{pair_again}
-use Rattle.rx_regex_builder.specs.Pairs.{in_reverse}
-use Rattle.rx_regex_builder.specs.Pairs as dense_pairs
-use Rattle.rx_regex_builder.specs.SparsePairs as sparse_pairs
+use Rattle.rx_regex_builder.specs.Pairs.{IsOf, IsSparseOf, in_reverse}
 use Rattle.rx_sparse.specs.Layouts.{Stored}
 use Rattle.rx_wire.specs.declared.order.Order.{Order}
 use Rattle.rx_regex.specs.Images.{ImagePairsFind, IsPairImage}
@@ -30,11 +28,11 @@ nfa_patterns : (a : thompson.Asked) (es : List Expression) → length (wanted_nf
 unfolding nfa_of
 nfa_patterns a es = length-entries (thompson.settled a).direction es 0 0
 
-dense_patterns : (both : Both) (es : List Expression) (l : Layout) → dense_pairs.IsOf both es l
+dense_patterns : (both : Both) (es : List Expression) (l : Layout) → IsOf both es l
     → l.pattern_len ≡ length es
 dense_patterns both es l is = ap (λ (m : Layout). m.pattern_len) is.rest ∙ nfa_patterns both.thompson es
 
-sparse_patterns : (both : Both) (es : List Expression) (t : Stored) → sparse_pairs.IsOf both es t
+sparse_patterns : (both : Both) (es : List Expression) (t : Stored) → IsSparseOf both es t
     → t.layout.pattern_len ≡ length es
 sparse_patterns both es t is =
     ap (λ (x : Stored). x.layout.pattern_len) is.sparse ∙ dense_patterns both es is.dense is.built

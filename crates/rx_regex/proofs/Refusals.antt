@@ -13,8 +13,7 @@ use Rattle.rx_build.specs.Settings.{settled}
 use Rattle.rx_build.proofs.Beginnings.{refused_as}
 use Rattle.rx_build_error.specs.Refusals.{IsRefused}
 use Rattle.rx_build_error.specs.declared.BuildErrorKind.{BuildErrorKind}
-use Rattle.rx_regex_builder.specs.Pairs.{IsFitBy, IsRefusedBy, in_direction}
-use Rattle.rx_regex_builder.specs.SparsePairs as sparse_pairs
+use Rattle.rx_regex_builder.specs.Pairs.{IsFitBy, IsRefusedBy, IsSparseFitBy, IsSparseRefusedBy, in_direction}
 use Rattle.rx_sparse_build.specs.Built.{sparse_limits}
 use Rattle.rx_regex.specs.Find.{PlanRefused}
 use Rattle.rx_regex.specs.PlanTables.{TableFits, TableRefused, direction_of}
@@ -75,13 +74,13 @@ module _ (p : Plan) (es : List Expression) (sparse : p.form ≡ Form.Sparse) whe
   limits_are table = ap (λ (form : Form). record (plan_limits p) { form = form }) (sym sparse)
 
   sparse_settings_fit : (table : PlanTable)
-      → sparse_pairs.IsFitBy (in_direction (direction_of table) (settings_for p table)) es → TableFits p table es
+      → IsSparseFitBy (in_direction (direction_of table) (settings_for p table)) es → TableFits p table es
   sparse_settings_fit PlanTable.Forward fits = grind (arith, common_steps, build_fits, limits_are)
   sparse_settings_fit PlanTable.Reverse fits = grind (arith, common_steps, build_fits, limits_are)
   sparse_settings_fit PlanTable.All fits = grind (arith, common_steps, build_fits, limits_are)
 
   sparse_refused : (table : PlanTable) (cause : Cause)
-      → sparse_pairs.IsRefusedBy (in_direction (direction_of table) (settings_for p table)) es cause
+      → IsSparseRefusedBy (in_direction (direction_of table) (settings_for p table)) es cause
       → TableRefused p table es cause
   sparse_refused PlanTable.Forward (Cause.NFA cause) r = r
   sparse_refused PlanTable.Forward (Cause.DFA cause) r = grind (arith, common_steps, build_refused, limits_are)
@@ -91,13 +90,13 @@ module _ (p : Plan) (es : List Expression) (sparse : p.form ≡ Form.Sparse) whe
   sparse_refused PlanTable.All (Cause.DFA cause) r = grind (arith, common_steps, build_refused, limits_are)
 
   pub sparse_table_fits : (table : PlanTable) {both : Both} {direction : Direction} → both ≡ settings_for p table
-      → direction ≡ direction_of table → sparse_pairs.IsFitBy (in_direction direction both) es
+      → direction ≡ direction_of table → IsSparseFitBy (in_direction direction both) es
       → TableFits p table es
   sparse_table_fits table settings towards fits = grind (arith, common_steps, sparse_settings_fit, in_its_direction)
 
   pub sparse_table_refused : (table : PlanTable) {both : Both} {direction : Direction} → both ≡ settings_for p table
       → direction ≡ direction_of table → (kind : BuildErrorKind)
-      → IsRefused (sparse_pairs.IsRefusedBy (in_direction direction both) es) kind
+      → IsRefused (IsSparseRefusedBy (in_direction direction both) es) kind
       → IsRefused (TableRefused p table es) kind
   sparse_table_refused table settings towards kind is =
       grind (arith, common_steps, refused_as, sparse_refused, in_its_direction)

@@ -14,9 +14,7 @@ use Rattle.rx_dense.specs.Layouts.{IsShaped, Layout}
 use Rattle.rx_dense_image.specs.Images.{IsWhole, reads, text}
 use Rattle.rx_dense_image.proofs.WholeAgain.{whole_again}
 use Rattle.rx_expr.specs.Compiles.{wanted_nfa}
-use Rattle.rx_regex_builder.specs.Pairs.{in_direction}
-use Rattle.rx_regex_builder.specs.Pairs as dense_pairs
-use Rattle.rx_regex_builder.specs.SparsePairs as sparse_pairs
+use Rattle.rx_regex_builder.specs.Pairs.{IsOf, IsSparseOf, in_direction}
 use Rattle.rx_sparse.specs.Layouts.{Stored}
 use Rattle.rx_sparse_image.specs.Images as sparse
 use Rattle.rx_sparse_image.specs.Tested as sparse_tested
@@ -46,7 +44,7 @@ same_read {X} x y m n read e f = grind (arith, common_steps)
 -- by a builder that has the plan's settings
 pub is_dense : (p : Plan) (which : PlanTable) (es : List Expression) {both : Both} {direction : Direction} {l : Layout}
     → both ≡ settings_for p which → direction ≡ direction_of which
-    → dense_pairs.IsOf (in_direction direction both) es l → IsDense p which es l
+    → IsOf (in_direction direction both) es l → IsDense p which es l
 is_dense p which es {l = l} settings towards is = grind (arith, common_steps, in_its_direction)
 
 pub dense_whole : (p : Plan) (which : PlanTable) (es : List Expression) (l : Layout) → p.quit < 2 ^ 256
@@ -81,7 +79,7 @@ dense_image p which es l order bytes safe built whole written = record {
 
 pub is_sparse : (p : Plan) (which : PlanTable) (es : List Expression) {both : Both} {direction : Direction} {t : Stored}
     → both ≡ settings_for p which → direction ≡ direction_of which
-    → sparse_pairs.IsOf (in_direction direction both) es t → IsSparse p which es t
+    → IsSparseOf (in_direction direction both) es t → IsSparse p which es t
 is_sparse p which es {t = t} settings towards is = grind (arith, common_steps, in_its_direction)
 
 pub sparse_whole : (p : Plan) (which : PlanTable) (es : List Expression) (t : Stored) → p.quit < 2 ^ 256

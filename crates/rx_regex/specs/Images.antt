@@ -10,9 +10,7 @@ use Rattle.rx_dense_image.specs.Images as dense
 use Rattle.rx_image.specs.Pairs.{Pair, in_order, reads, text}
 use Rattle.rx_all.specs.Builds.{all_build}
 use Rattle.rx_all.specs.Matches.{ServesAll}
-use Rattle.rx_regex_builder.specs.Pairs.{in_direction}
-use Rattle.rx_regex_builder.specs.Pairs as dense_pairs
-use Rattle.rx_regex_builder.specs.SparsePairs as sparse_pairs
+use Rattle.rx_regex_builder.specs.Pairs.{IsOf, IsSparseOf, in_direction}
 use Rattle.rx_sparse.specs.Layouts.{Stored}
 use Rattle.rx_sparse.specs.Layouts as stored
 use Rattle.rx_sparse_image.specs.Images as sparse
@@ -27,11 +25,11 @@ use Rattle.rx_regex.specs.declared.plan_table.PlanTable.{PlanTable}
 -- It is built of these expressions by what the plan asks for of this table: it says of every word what that build says,
 -- has as many rows as that asks for, in their order, and is accelerated and marked as asked.
 abbrev pub IsDense : Plan → PlanTable → List Expression → Layout → Type 0
-IsDense p table es l = dense_pairs.IsOf (in_direction (direction_of table) (settings_for p table)) es l
+IsDense p table es l = IsOf (in_direction (direction_of table) (settings_for p table)) es l
 
 -- it is the sparse table of such a one
 abbrev pub IsSparse : Plan → PlanTable → List Expression → Stored → Type 0
-IsSparse p table es t = sparse_pairs.IsOf (in_direction (direction_of table) (settings_for p table)) es t
+IsSparse p table es t = IsSparseOf (in_direction (direction_of table) (settings_for p table)) es t
 
 -- Bytes are an image of such a table: they are its text, and whoever reads them has the table, all of them read and
 -- none of what comes behind.

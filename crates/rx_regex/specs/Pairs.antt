@@ -9,8 +9,8 @@ use Rattle.rx_spec.specs.declared.Form.{Form}
 use Rattle.rx_build.specs.Builders.{Both}
 use Rattle.rx_dense.specs.Layouts as dense
 use Rattle.rx_image.specs.Pairs.{Pair}
-use Rattle.rx_regex_builder.specs.Pairs as dense_pairs
-use Rattle.rx_regex_builder.specs.SparsePairs as sparse_pairs
+use Rattle.rx_regex_builder.specs.Pairs as pairs
+use Rattle.rx_regex_builder.specs.Pairs.{IsOf, IsSparseOf}
 use Rattle.rx_sparse.specs.Layouts as sparse
 use Rattle.rx_regex.specs.Settings.{settings_of}
 
@@ -33,8 +33,8 @@ joined pair = join (forward_table pair) (reverse_table pair)
 
 -- they are built of these expressions by these settings
 abbrev pub AreBuilt : Both → List Expression → Pair → Type 0
-AreBuilt both es (Pair.Dense f r) = dense_pairs.AreBuilt both es f r
-AreBuilt both es (Pair.Sparse f r) = sparse_pairs.AreBuilt both es f r
+AreBuilt both es (Pair.Dense f r) = pairs.AreBuilt IsOf both es f r
+AreBuilt both es (Pair.Sparse f r) = pairs.AreBuilt IsSparseOf both es f r
 
 -- They have the form that a plan asks for, and are built of these expressions by what it asks for.
 pub record AreTables (p : Plan) (es : List Expression) (pair : Pair) : Type 0 where

@@ -1,4 +1,2 @@
 -- the two tables of one list of expressions
 pub mod Pairs
--- the same of sparse tables
-pub mod SparsePairs

@@ -1,4 +1,4 @@
--- The two tables of a list of expressions, and the causes that refuse them.
+-- The two tables of a list of expressions, dense or sparse, and the causes that refuse them.
 use Rattle.std.specs.Prelude.{true, false, Some, List, ◌⊎◌}
 use Rattle.rx_spec.specs.Expressions.{Expression}
 use Rattle.rx_spec.specs.Plans.{Cause}
@@ -8,10 +8,12 @@ use Rattle.rx_spec.specs.declared.StartKind.{StartKind}
 use Rattle.rx_dense.specs.Layouts.{Layout}
 use Rattle.rx_expr.specs.Compiles.{wanted_nfa}
 use Rattle.rx_build.specs.Builders.{Both}
-use Rattle.rx_build.specs.Built.{AreFit, IsBuilt, Refused}
+use Rattle.rx_build.specs.Built as dense
 use Rattle.rx_build.specs.Settings as settings
 use Rattle.rx_build.specs.Settings.{settled}
 use Rattle.rx_expr.specs.Settings as thompson
+use Rattle.rx_sparse.specs.Layouts.{Stored}
+use Rattle.rx_sparse_build.specs.Built as sparse
 use Rattle.rx_regex_builder.specs.declared.builder.Builder.{Builder}
 
 -- the settings of both tables
@@ -49,26 +51,43 @@ abbrev pub in_direction : Direction → Both → Both
 in_direction Direction.Forward both = both
 in_direction Direction.Reverse both = in_reverse both
 
--- a table of these expressions, by these settings
-abbrev pub IsOf : Both → List Expression → Layout → Type 0
-IsOf both es l = IsBuilt (settled both.dense) (wanted_nfa both.thompson es) l
+-- ---- one table of these expressions, by these settings
 
-pub record AreBuilt (both : Both) (es : List Expression) (f r : Layout) : Type 0 where
-  pub forward : IsOf both es f
-  pub reverse : IsOf (in_reverse both) es r
+abbrev pub IsOf : Both → List Expression → Layout → Type 0
+IsOf both es l = dense.IsBuilt (settled both.dense) (wanted_nfa both.thompson es) l
+
+-- nothing refuses it
+abbrev pub IsFitBy : Both → List Expression → Type 0
+IsFitBy both es = dense.AreFit (settled both.dense) both.thompson es
+
+abbrev pub IsRefusedBy : Both → List Expression → Cause → Type 0
+IsRefusedBy both es cause = dense.Refused (settled both.dense) both.thompson es cause
+
+-- ---- a sparse one: there is one more cause that refuses it
+
+abbrev pub IsSparseOf : Both → List Expression → Stored → Type 0
+IsSparseOf both es t = sparse.IsSparse (settled both.dense) (wanted_nfa both.thompson es) t
+
+abbrev pub IsSparseFitBy : Both → List Expression → Type 0
+IsSparseFitBy both es = sparse.AreFit (settled both.dense) both.thompson es
+
+abbrev pub IsSparseRefusedBy : Both → List Expression → Cause → Type 0
+IsSparseRefusedBy both es cause = sparse.Refused (settled both.dense) both.thompson es cause
+
+-- ---- two tables of either form
+
+pub record AreBuilt {T : Type 0} (IsOne : Both → List Expression → T → Type 0) (both : Both) (es : List Expression)
+    (f r : T) : Type 0 where
+  pub forward : IsOne both es f
+  pub reverse : IsOne (in_reverse both) es r
 
 -- nothing refuses one
-abbrev pub IsFitBy : Both → List Expression → Type 0
-IsFitBy both es = AreFit (settled both.dense) both.thompson es
-
-pub record AreBothFit (both : Both) (es : List Expression) : Type 0 where
-  pub forward : IsFitBy both es
-  pub reverse : IsFitBy (in_reverse both) es
-
--- one is refused
-abbrev pub IsRefusedBy : Both → List Expression → Cause → Type 0
-IsRefusedBy both es cause = Refused (settled both.dense) both.thompson es cause
+pub record AreBothFit (IsFit : Both → List Expression → Type 0) (both : Both) (es : List Expression) : Type 0 where
+  pub forward : IsFit both es
+  pub reverse : IsFit (in_reverse both) es
 
 -- the forward table is refused, or else the one in reverse
-abbrev pub PairRefused : Both → List Expression → Cause → Type 0
-PairRefused both es cause = IsRefusedBy both es cause ⊎ (IsFitBy both es × IsRefusedBy (in_reverse both) es cause)
+abbrev pub PairRefused : (Both → List Expression → Type 0) → (Both → List Expression → Cause → Type 0) → Both
+    → List Expression → Cause → Type 0
+PairRefused IsFit IsRefused both es cause =
+    IsRefused both es cause ⊎ (IsFit both es × IsRefused (in_reverse both) es cause)

@@ -31,10 +31,7 @@ impl Builder {
     ghost use Rattle.rx_regex_builder.specs.Pairs.{AreBothFit, AreBuilt, IsFitBy, IsOf, IsRefusedBy, PairRefused};
     ghost use Rattle.rx_sparse.specs.Facts.{IsSoundLayout};
     ghost use Rattle.rx_regex_builder.specs.Pairs.{both_of, in_direction, in_reverse};
-    ghost use Rattle.rx_regex_builder.specs.SparsePairs.{AreBothFit as AreBothSparseFit, AreBuilt as AreBuiltSparse};
-    ghost use Rattle.rx_regex_builder.specs.SparsePairs.{IsFitBy as IsSparseFitBy, IsOf as IsSparseOf};
-    ghost use Rattle.rx_regex_builder.specs.SparsePairs.{IsRefusedBy as IsSparseRefusedBy};
-    ghost use Rattle.rx_regex_builder.specs.SparsePairs.{PairRefused as SparsePairRefused};
+    ghost use Rattle.rx_regex_builder.specs.Pairs.{IsSparseFitBy, IsSparseOf, IsSparseRefusedBy};
 
     /// A builder with default settings. UTF-8 mode is on: searches pass over matches that split a character.
     pub fn new() -> Builder
@@ -70,9 +67,9 @@ impl Builder {
     /// so its error is returned first. The reverse table is built of the mirrored expressions: it reports all matches,
     /// has only anchored start states, and marks none of them.
     pub fn build_many(&self, alloc: Global, exprs: &[Expr]) -> Result<Regex<OwnedDFA>, BuildError>
-        ensures ok { IfOk result (λ regex. AreBuilt (both_of self.now) exprs.now regex.forward regex.reverse) }
-        ensures fits { OnOk result (AreBothFit (both_of self.now) exprs.now) }
-        ensures err { IfErr result (λ e. IsRefused (PairRefused (both_of self.now) exprs.now) e.kind) }
+        ensures ok { IfOk result (λ regex. AreBuilt IsOf (both_of self.now) exprs.now regex.forward regex.reverse) }
+        ensures fits { OnOk result (AreBothFit IsFitBy (both_of self.now) exprs.now) }
+        ensures err { IfErr result (λ e. IsRefused (PairRefused IsFitBy IsRefusedBy (both_of self.now) exprs.now) e.kind) }
         // Each repetition in an expression is bounded.
         ensures safe { All IsLoopSafe exprs.now }
     {
@@ -104,9 +101,10 @@ impl Builder {
         alloc: Global,
         exprs: &[Expr],
     ) -> Result<Regex<SparseDFA<Vec<u8>>>, BuildError>
-        ensures ok { IfOk result (λ regex. AreBuiltSparse (both_of self.now) exprs.now regex.forward regex.reverse) }
-        ensures fits { OnOk result (AreBothSparseFit (both_of self.now) exprs.now) }
-        ensures err { IfErr result (λ e. IsRefused (SparsePairRefused (both_of self.now) exprs.now) e.kind) }
+        ensures ok { IfOk result (λ regex. AreBuilt IsSparseOf (both_of self.now) exprs.now regex.forward regex.reverse) }
+        ensures fits { OnOk result (AreBothFit IsSparseFitBy (both_of self.now) exprs.now) }
+        ensures err { IfErr result (λ e.
+            IsRefused (PairRefused IsSparseFitBy IsSparseRefusedBy (both_of self.now) exprs.now) e.kind) }
         // Each repetition in an expression is bounded.
         ensures safe { All IsLoopSafe exprs.now }
     {

@@ -5,8 +5,7 @@ ghost use Rattle.rx_spec.specs.Expressions.{IsLoopSafe};
 ghost use Rattle.rx_build.specs.Builders.{none_asked};
 ghost use Rattle.rx_build_error.specs.Refusals.{IsRefused};
 ghost use Rattle.rx_regex_builder.specs.Pairs.{AreBothFit, AreBuilt, PairRefused, both_of};
-ghost use Rattle.rx_regex_builder.specs.SparsePairs.{AreBothFit as AreBothSparseFit, AreBuilt as AreBuiltSparse};
-ghost use Rattle.rx_regex_builder.specs.SparsePairs.{PairRefused as SparsePairRefused};
+ghost use Rattle.rx_regex_builder.specs.Pairs.{IsFitBy, IsOf, IsRefusedBy, IsSparseFitBy, IsSparseOf, IsSparseRefusedBy};
 
 use crate::Builder;
 use rx_build::BuildError;
@@ -21,9 +20,9 @@ pub trait RegexBuild {
     /// Builds the tables of a list of expressions. The first expression is pattern 0. UTF-8 mode is on: searches pass
     /// over matches that split a character.
     fn new_many(alloc: Global, exprs: &[Expr]) -> Result<Regex<OwnedDFA>, BuildError>
-        ensures ok { IfOk result (λ regex. AreBuilt none_asked exprs.now regex.forward regex.reverse) }
-        ensures fits { OnOk result (AreBothFit none_asked exprs.now) }
-        ensures err { IfErr result (λ e. IsRefused (PairRefused none_asked exprs.now) e.kind) }
+        ensures ok { IfOk result (λ regex. AreBuilt IsOf none_asked exprs.now regex.forward regex.reverse) }
+        ensures fits { OnOk result (AreBothFit IsFitBy none_asked exprs.now) }
+        ensures err { IfErr result (λ e. IsRefused (PairRefused IsFitBy IsRefusedBy none_asked exprs.now) e.kind) }
         ensures safe { All IsLoopSafe exprs.now };
 
     /// Builds the sparse tables of a list of expressions, by the same settings.
@@ -31,9 +30,10 @@ pub trait RegexBuild {
         alloc: Global,
         exprs: &[Expr],
     ) -> Result<Regex<SparseDFA<Vec<u8>>>, BuildError>
-        ensures ok { IfOk result (λ regex. AreBuiltSparse none_asked exprs.now regex.forward regex.reverse) }
-        ensures fits { OnOk result (AreBothSparseFit none_asked exprs.now) }
-        ensures err { IfErr result (λ e. IsRefused (SparsePairRefused none_asked exprs.now) e.kind) }
+        ensures ok { IfOk result (λ regex. AreBuilt IsSparseOf none_asked exprs.now regex.forward regex.reverse) }
+        ensures fits { OnOk result (AreBothFit IsSparseFitBy none_asked exprs.now) }
+        ensures err { IfErr result (λ e.
+            IsRefused (PairRefused IsSparseFitBy IsSparseRefusedBy none_asked exprs.now) e.kind) }
         ensures safe { All IsLoopSafe exprs.now };
 
     /// A builder, for other settings.

@@ -1,5 +1,5 @@
 use Rattle.std.proofs.lemmas.Result.{err_from_is_err_and}
-use Rattle.rx_regex_builder.specs.Pairs.{both_of}
+use Rattle.rx_regex_builder.specs.Pairs.{IsFitBy, IsRefusedBy, both_of}
 use Rattle.rx_regex_builder.proofs.Refusals.{reverse_refused}
 use Rattle.rx_regex_builder.proofs.builder.Builder.build_many.Goals as goal
 
@@ -7,7 +7,7 @@ pub returns-in_err-reverse-clause-err : goal.returns-in_err-reverse-clause-err
 returns-in_err-reverse-clause-err c =
     let p = err_from_is_err_and c.from_residual-in_err-reverse.result c.from_residual-in_err-reverse.ensures.1 in
     rw (p.1, p.2)
-    (reverse_refused (both_of c.args.self.now) c.args.exprs.now c.in_ok-forward.ensures.fits
+    (reverse_refused IsFitBy IsRefusedBy (both_of c.args.self.now) c.args.exprs.now c.in_ok-forward.ensures.fits
     c.in_err-reverse.field-0.0.kind c.in_err-reverse.ensures.err)
 
 pub returns-clause-ok : goal.returns-clause-ok
