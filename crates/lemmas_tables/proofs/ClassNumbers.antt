@@ -1,17 +1,14 @@
 -- The numbers of byte classes, by any test of where they end: columns, least bytes, strides.
-use Rattle.std.proofs.lemmas.Grind.{common_steps}
-use Rattle.std.proofs.Common.{◌≡◌, ℕ, zero, suc, ◌+◌, ◌<◌, ◌≤◌, ◌^◌, ⊎_elim, Bool, true, false, if◌then◌else◌, List, []}
-use Rattle.std.proofs.Common.{◌∷◌, ◌++◌, length, get_or, refl, ap, sym, ◌∙◌, subst, arith, append-nil}
-use Rattle.std.specs.Prelude.{filter, All, nat_le, slice_index}
-use Rattle.std.specs.List.{range_with_len}
-use Rattle.std.specs.List.Sorted.{IsStrictlyIncreasing}
-use Rattle.std.proofs.lemmas.Bool.{cases_eq, cases_lt, ne_eqb, leb-true, leb-false}
-use Rattle.std.proofs.lemmas.List.{map-id, length_push, get_or_append_left, get_or_push}
-use Rattle.std.proofs.lemmas.List.Elements.{All-get_or, All-filter, All-from_get_or, filter_passes}
-use Rattle.std.proofs.lemmas.List.FromFn.{filter_of_map_range_with_len_more, length-range_with_len}
-use Rattle.std.proofs.lemmas.List.FromFn.{get_or-range_with_len}
-use Rattle.std.proofs.lemmas.List.Kept.{IsStrictlyIncreasing-filter}
-use Rattle.rx_spec.specs.Classes.{class_by, alphabet_by, column_by, begins_class, representatives, least_exponent}
+use Rattle.rx_spec.proofs.Prelude.{common_steps, ◌≡◌, ℕ, zero, suc, ◌+◌, ◌<◌, ◌≤◌, ◌^◌, ⊎_elim, Bool, true, false}
+use Rattle.rx_spec.proofs.Prelude.{if◌then◌else◌, List, [], ◌∷◌, ◌++◌, length, get_or, refl, ap, sym, ◌∙◌, subst, arith}
+use Rattle.rx_spec.proofs.Prelude.{append-nil, filter, All, nat_le, slice_index, range_with_len, IsStrictlyIncreasing}
+use Rattle.rx_spec.proofs.Prelude.{cases_eq, cases_lt, ne_eqb, leb-true, leb-false, map-id, length_push}
+use Rattle.rx_spec.proofs.Prelude.{get_or_append_left, get_or_push, All-get_or, All-filter, All-from_get_or}
+use Rattle.rx_spec.proofs.Prelude.{length-range_with_len, get_or-range_with_len, IsStrictlyIncreasing-filter, class_by}
+use Rattle.rx_spec.proofs.Prelude.{column_by, representatives, least_exponent}
+use Rattle.std.proofs.lemmas.List.Elements.{filter_passes}
+use Rattle.std.proofs.lemmas.List.FromFn.{filter_of_map_range_with_len_more}
+use Rattle.rx_spec.specs.Classes.{alphabet_by, begins_class}
 use Rattle.rx_spec.specs.Classes.{stride2_of}
 use Rattle.lemmas_walks.proofs.Firsts.{by_test}
 

@@ -1,19 +1,15 @@
 -- Bytes of one class lead every node to one node, and so do units of one column.
-use Rattle.std.proofs.Common.{rules, ◌≡◌, ℕ, zero, suc, ◌+◌, ◌*◌, ◌<◌, ◌≤◌, ◌==◌, ◌&&◌, ◌||◌, ⊎_elim, Bool, true, false}
-use Rattle.std.proofs.Common.{if◌then◌else◌, List, [], ◌∷◌, ◌++◌, length, refl, ap, ap₂, sym, ◌∙◌, arith, Some}
-use Rattle.std.proofs.lemmas.Grind.{common_steps}
-use Rattle.std.specs.List.{list_any, flat_map, AllByRecursion as Every}
-use Rattle.std.proofs.lemmas.Bool.{or_parts, cases_eq, cases_lt}
-use Rattle.rx_spec.specs.Bytes.{contains, is_word}
-use Rattle.rx_spec.specs.Looks.{differ}
-use Rattle.rx_spec.specs.Contexts.{Facts, facts_of, unit_facts, both, either_of, holds_read, facts_read, row_reads}
-use Rattle.rx_spec.specs.Contexts.{facts_kept}
-use Rattle.rx_spec.specs.Rows.{Row}
-use Rattle.rx_spec.specs.Nfas.{Nfa}
-use Rattle.rx_spec.specs.Classes.{class_by, column_by, parts, facts_part, row_parts, parts_next, ends_class}
-use Rattle.rx_spec.specs.States.{row_at, Tested, reach, reach_by, closure, firsts, State, context_of_rows, state_at}
-use Rattle.rx_spec.specs.States.{holds_before, decided_rows, pattern_of, target, step}
-use Rattle.rx_spec.specs.Builds.{Build, Node, next_node}
+use Rattle.rx_spec.proofs.Prelude.{rules, ◌≡◌, ℕ, zero, suc, ◌+◌, ◌*◌, ◌<◌, ◌≤◌, ◌==◌, ◌&&◌, ◌||◌, ⊎_elim, Bool, true}
+use Rattle.rx_spec.proofs.Prelude.{false, if◌then◌else◌, List, [], ◌∷◌, ◌++◌, length, refl, ap, ap₂, sym, ◌∙◌, arith}
+use Rattle.rx_spec.proofs.Prelude.{Some, common_steps, list_any, flat_map, or_parts, cases_eq, cases_lt, contains}
+use Rattle.rx_spec.proofs.Prelude.{differ, Facts, facts_of, unit_facts, both, either_of, holds_read, facts_read}
+use Rattle.rx_spec.proofs.Prelude.{row_reads, facts_kept, Row, Nfa, class_by, column_by, parts, ends_class, row_at}
+use Rattle.rx_spec.proofs.Prelude.{Tested, reach, reach_by, closure, firsts, State, state_at, holds_before}
+use Rattle.rx_spec.proofs.Prelude.{decided_rows, pattern_of, target, step, Build, Node, next_node}
+use Rattle.std.specs.List.{AllByRecursion as Every}
+use Rattle.rx_spec.specs.Bytes.{is_word}
+use Rattle.rx_spec.specs.Classes.{facts_part, row_parts, parts_next}
+use Rattle.rx_spec.specs.States.{context_of_rows}
 use Rattle.rx_spec.specs.declared.Direction.{Direction}
 use Rattle.rx_spec.specs.declared.Look.{Look}
 use Rattle.rx_spec.specs.declared.MatchKind.{MatchKind}
@@ -30,7 +26,7 @@ RowAlike t a b (Row.Look look next) =
     both (facts_read look) (facts_of t (Some a)) ≡ both (facts_read look) (facts_of t (Some b))
 RowAlike t a b _ = Unit {0}
 
-same_tests : (x y : Bool) → differ x y ≡ false → x ≡ y
+pub same_tests : (x y : Bool) → differ x y ≡ false → x ≡ y
 same_tests true true e = refl
 same_tests true false e = absurd (cc)
 same_tests false true e = absurd (cc)
@@ -83,10 +79,8 @@ facts_alike t read a b h none =
 row_alike : (t a b : ℕ) → a ≤ b → (row : Row) → ((x : ℕ) → a ≤ x → x < b → row_parts t x (x + 1) row ≡ false)
     → RowAlike t a b row
 row_alike t a b h (Row.Bytes set next) none = run_alike (contains set) a b h none
-row_alike t a b h (Row.Split first second) none = tt
 row_alike t a b h (Row.Look look next) none = facts_alike t (facts_read look) a b h none
-row_alike t a b h (Row.Match pattern) none = tt
-row_alike t a b h Row.Fail none = tt
+row_alike t a b h _ none = tt
 
 rows_alike : (t a b : ℕ) → a ≤ b → (rows : List Row)
     → ((x : ℕ) → a ≤ x → x < b → list_any (row_parts t x (x + 1)) rows ≡ false) → Every (RowAlike t a b) rows
@@ -116,10 +110,8 @@ alike_up nfa quit a b h none =
 
 turned_row : (t a b : ℕ) (row : Row) → RowAlike t a b row → RowAlike t b a row
 turned_row t a b (Row.Bytes set next) h = sym h
-turned_row t a b (Row.Split first second) h = tt
 turned_row t a b (Row.Look look next) h = sym h
-turned_row t a b (Row.Match pattern) h = tt
-turned_row t a b Row.Fail h = tt
+turned_row t a b _ h = tt
 
 turned : (nfa : Nfa) (quit a b : ℕ) → AreAlike nfa quit a b → AreAlike nfa quit b a
 turned nfa quit a b h = grind (arith, common_steps, every-weaker, turned_row)
@@ -142,11 +134,8 @@ both_either k r x y e f = grind (arith, common_steps)
 
 kept_row : (t a b : ℕ) (row : Row) → RowAlike t a b row
     → both (row_reads row) (facts_of t (Some a)) ≡ both (row_reads row) (facts_of t (Some b))
-kept_row t a b (Row.Bytes set next) h = refl
-kept_row t a b (Row.Split first second) h = refl
 kept_row t a b (Row.Look look next) h = h
-kept_row t a b (Row.Match pattern) h = refl
-kept_row t a b Row.Fail h = refl
+kept_row t a b _ h = refl
 
 kept_alike : (t a b : ℕ) (rows : List Row) → Every (RowAlike t a b) rows
     → both (facts_kept rows) (facts_of t (Some a)) ≡ both (facts_kept rows) (facts_of t (Some b))

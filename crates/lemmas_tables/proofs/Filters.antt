@@ -1,12 +1,10 @@
 -- The members of a list that pass a test, and of a range of numbers.
-use Rattle.std.proofs.lemmas.Grind.{common_steps}
-use Rattle.std.proofs.Common.{◌≡◌, ℕ, zero, suc, ◌+◌, ◌-◌, ◌<◌, ◌≤◌, Bool, true, false, List, [], ◌∷◌, refl, ap, sym}
-use Rattle.std.proofs.Common.{◌∙◌, subst, ⊎_elim, arith}
-use Rattle.std.specs.Prelude.{Contains, filter, cond}
-use Rattle.std.specs.List.{range_with_len, AllByRecursion as Every}
-use Rattle.std.specs.List.Sorted.{IsStrictlyIncreasing}
-use Rattle.std.proofs.lemmas.List.Elements.{All-contains, All-filter, All-contains_itself, filter_passes}
-use Rattle.std.proofs.lemmas.List.FromFn.{length-range_with_len, get_or-range_with_len}
+use Rattle.rx_spec.proofs.Prelude.{common_steps, ◌≡◌, ℕ, zero, suc, ◌+◌, ◌-◌, ◌<◌, ◌≤◌, Bool, true, false, List, []}
+use Rattle.rx_spec.proofs.Prelude.{◌∷◌, refl, ap, sym, ◌∙◌, subst, ⊎_elim, arith, Contains, filter, cond}
+use Rattle.rx_spec.proofs.Prelude.{range_with_len, IsStrictlyIncreasing, All-contains, All-filter}
+use Rattle.rx_spec.proofs.Prelude.{length-range_with_len, get_or-range_with_len}
+use Rattle.std.specs.List.{AllByRecursion as Every}
+use Rattle.std.proofs.lemmas.List.Elements.{All-contains_itself, filter_passes}
 use Rattle.lemmas_walks.proofs.Firsts.{by_test, Contains-nil, Contains-cases, Contains-here, Contains-there}
 
 module _ {X : Type 0} (test : X → Bool) where

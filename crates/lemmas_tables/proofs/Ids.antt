@@ -1,16 +1,11 @@
 -- Rows and their ids: the one names the other, and those of a dense table are multiples of its stride.
-use Rattle.std.proofs.lemmas.Grind.{common_steps}
-use Rattle.std.proofs.Common.{◌≡◌, ℕ, ◌*◌, ◌^◌, ◌<◌, ◌==◌, ◌⊎◌, Some, None, Bool, if◌then◌else◌, List, length, refl, ap}
-use Rattle.std.proofs.Common.{sym, ◌∙◌, ⊎_elim, arith}
-use Rattle.std.specs.Prelude.{Contains, unwrap_or, nat_lt}
-use Rattle.std.specs.List.{position_or_len}
-use Rattle.std.proofs.lemmas.Bool.{ne_eqb, eq-eqb, lt-ltb, cases_order}
-use Rattle.std.proofs.lemmas.List.{get_or_default}
-use Rattle.std.proofs.lemmas.List.FromFn.{length-map-range_with_len, get_or-map-range_with_len}
+use Rattle.rx_spec.proofs.Prelude.{common_steps, ◌≡◌, ℕ, ◌*◌, ◌^◌, ◌<◌, ◌==◌, ◌⊎◌, Some, None, Bool, if◌then◌else◌}
+use Rattle.rx_spec.proofs.Prelude.{List, length, refl, ap, sym, ◌∙◌, ⊎_elim, arith, Contains, unwrap_or, nat_lt}
+use Rattle.rx_spec.proofs.Prelude.{position_or_len, ne_eqb, eq-eqb, lt-ltb, get_or_default, length-map-range_with_len}
+use Rattle.rx_spec.proofs.Prelude.{get_or-map-range_with_len, position_or_len_is, pow_pos, AreIds, id_of, row_of}
+use Rattle.std.proofs.lemmas.Bool.{cases_order}
 use Rattle.std.proofs.lemmas.List.Kept.{AllPairs-from_increasing}
-use Rattle.std.proofs.lemmas.List.Sums.{position_or_len_is}
-use Rattle.std.proofs.lemmas.Nat.{pow_pos}
-use Rattle.rx_spec.specs.Ids.{AreIds, id_of, row_of, dense_ids}
+use Rattle.rx_spec.specs.Ids.{dense_ids}
 
 -- no two rows have one id
 pub id_apart : {size : ℕ} {ids : List ℕ} → AreIds size ids → (x y : ℕ) → x < size → y < size

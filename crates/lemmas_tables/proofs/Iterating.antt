@@ -1,15 +1,11 @@
 -- The matches one after another: they rise, and no bound cuts anything off.
-use Rattle.std.proofs.lemmas.Grind.{common_steps}
-use Rattle.std.proofs.Common.{◌≡◌, ℕ, zero, suc, ◌+◌, ◌-◌, ◌<◌, ◌≤◌, true, false, Option, Some, None, List, [], refl}
-use Rattle.std.proofs.Common.{ap, sym, ◌∙◌, subst, arith}
-use Rattle.std.specs.Prelude.{Ok, Err, All, AllPairs}
-use Rattle.std.proofs.lemmas.Bool.{lt-ltb, eq-eqb, and_from, cases_eq}
-use Rattle.std.proofs.lemmas.List.Elements.{All-nil, All-cons, All-weaker}
+use Rattle.rx_spec.proofs.Prelude.{common_steps, ◌≡◌, ℕ, zero, suc, ◌+◌, ◌-◌, ◌<◌, ◌≤◌, true, false, Option, Some, None}
+use Rattle.rx_spec.proofs.Prelude.{List, [], refl, ap, sym, ◌∙◌, subst, arith, Ok, Err, All, AllPairs, lt-ltb, eq-eqb}
+use Rattle.rx_spec.proofs.Prelude.{and_from, cases_eq, All-nil, All-cons, All-weaker, Query, Match, is_done, Answer}
+use Rattle.rx_spec.proofs.Prelude.{is_repeat, unless_repeat, FoundMatches, and_then, iterate_from, iterate}
 use Rattle.std.proofs.lemmas.List.Kept.{AllPairs-cons}
-use Rattle.rx_spec.specs.Queries.{Query, Match, is_done}
-use Rattle.rx_spec.specs.Joining.{Answer}
-use Rattle.rx_spec.specs.Iterating.{is_repeat, unless_repeat, FoundMatches, and_then, iterate_from, iterate}
 use Rattle.lemmas_walks.proofs.Firsts.{by_test}
+use Rattle.lemmas_walks.proofs.FoundLaws.{and_then-same}
 
 -- a match that lies in a query's span
 pub record LiesIn (q : Query) (m : Match) : Type 0 where
@@ -65,18 +61,11 @@ module _ {search : Query → Answer} (orderly : IsOrderly search) where
       → iterate_from search (suc n) q last_end ≡ record { matches = []; error = None }
   done_turn n q last_end past = grind (arith, common_steps, lt-ltb, turn)
 
-  -- two ways to go on that are the same after what is found
-  and_then_alike : (answer : Answer) (f g : Match → FoundMatches)
-      → ((m : Match) → answer ≡ Ok (Some m) → f m ≡ g m) → and_then answer f ≡ and_then answer g
-  and_then_alike (Ok None) f g same = refl
-  and_then_alike (Ok (Some m)) f g same = grind (arith, common_steps)
-  and_then_alike (Err error) f g same = refl
-
   turn_alike : (n k : ℕ) (q : Query) (last_end : Option ℕ)
       → ((m : Match) → IsNext q last_end m
       → iterate_from search n (from_end q m) (Some m.end) ≡ iterate_from search k (from_end q m) (Some m.end))
       → iterate_from search (suc n) q last_end ≡ iterate_from search (suc k) q last_end
-  turn_alike n k q last_end same = grind (arith, common_steps, turn, and_then_alike, next_is)
+  turn_alike n k q last_end same = grind (arith, common_steps, turn, and_then-same, next_is)
 
   -- where the last match ended at the query's start, the limit is one lower
   one_more_after : (n : ℕ) (q : Query) → q.end + 1 - q.start ≤ n
@@ -119,7 +108,7 @@ module _ {search : Query → Answer} (orderly : IsOrderly search) where
       → iterate_from search (match_limit q) q last_end
       ≡ and_then (told_next search q last_end)
       (λ found. iterate_from search (match_limit (from_end q found)) (from_end q found) (Some found.end))
-  matches_again q last_end = grind (arith, common_steps, one_more, turn, and_then_alike, next_is, matches_uncut)
+  matches_again q last_end = grind (arith, common_steps, one_more, turn, and_then-same, next_is, matches_uncut)
 
   -- ---- the matches lie in the span, and each is past the ones before it
 

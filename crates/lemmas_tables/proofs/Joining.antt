@@ -1,12 +1,7 @@
 -- The joined search of two tables finds nothing for a done query, and else only what lies in the query's span.
-use Rattle.std.proofs.lemmas.Grind.{common_steps}
-use Rattle.std.proofs.Common.{◌≡◌, ℕ, ◌≤◌, Bool, Some, arith}
-use Rattle.std.specs.Prelude.{Ok}
-use Rattle.rx_spec.specs.Queries.{Query, Match, HalfMatch}
-use Rattle.rx_spec.specs.HalfSearches.{HalfAnswer}
-use Rattle.rx_spec.specs.Splits.{half_unsplit}
-use Rattle.rx_spec.specs.Joining.{Answer, match_at, with_start, back_from, joined_search, join}
-use Rattle.rx_spec.specs.Tables.{Table}
+use Rattle.rx_spec.proofs.Prelude.{common_steps, ◌≡◌, ℕ, ◌≤◌, Bool, Some, arith, Ok, Query, Match, HalfMatch}
+use Rattle.rx_spec.proofs.Prelude.{HalfAnswer, half_unsplit, Answer, match_at, with_start, back_from, joined_search}
+use Rattle.rx_spec.proofs.Prelude.{join, Table}
 use Rattle.rx_spec.specs.declared.Direction.{Direction}
 use Rattle.lemmas_tables.proofs.ToldInSpan.{IsIn, TellsWithin, unsplit_within, unsplit_when_done}
 use Rattle.lemmas_tables.proofs.Iterating.{LiesIn, IsOrderly}

@@ -1,8 +1,5 @@
 -- What labels say: the least number of rows is one number.
-use Rattle.std.proofs.lemmas.Grind.{common_steps}
-use Rattle.std.proofs.Common.{◌≡◌, ℕ, arith}
-use Rattle.rx_spec.specs.Queries.{Anchored}
-use Rattle.rx_spec.specs.Machines.{Machine}
+use Rattle.rx_spec.proofs.Prelude.{common_steps, ◌≡◌, ℕ, arith, Anchored, Machine}
 use Rattle.rx_spec.specs.Labels.{IsLeast}
 
 pub IsLeast-unique : {R : Type 0} {Starts : Anchored → Type 0} {m : Machine R} {j k : ℕ}

@@ -1,17 +1,14 @@
 -- The sizes that limits are compared with only grow with the states; so one is passed by some states that are
 -- reached exactly where it is passed by all.
-use Rattle.std.proofs.Common.{rules, ◌≡◌, ◌≢◌, ℕ, ◌<◌, ◌≤◌, ◌↔◌, ◌&&◌, Bool, true, false, if◌then◌else◌, List, [], ◌∷◌}
-use Rattle.std.proofs.Common.{length, map, refl, ap, sym, subst, arith}
-use Rattle.std.proofs.lemmas.Grind.{common_steps}
-use Rattle.std.specs.Prelude.{Contains, AllPairs, sum_by}
-use Rattle.std.proofs.lemmas.Bool.{lt-ltb, ltb-true}
-use Rattle.std.proofs.lemmas.List.Sums.{sum_by-cons, sum_by-le-sum_by}
-use Rattle.std.proofs.lemmas.Nat.{mul-le}
-use Rattle.rx_spec.specs.States.{State}
-use Rattle.rx_spec.specs.Builds.{Build, Node, dead, AreReached}
-use Rattle.rx_spec.specs.Sizes.{state_size, determinizer_size, label_total, table_size, last_id, leaving_bytes}
-use Rattle.rx_spec.specs.Sizes.{is_skippable_node, needle_count, sparse_row_size, sparse_size, sparse_bound}
-use Rattle.rx_spec.specs.Causes.{Exceeds, Limits, sparse_length}
+use Rattle.rx_spec.proofs.Prelude.{rules, ◌≡◌, ◌≢◌, ℕ, ◌<◌, ◌≤◌, ◌↔◌, ◌&&◌, Bool, true, false, if◌then◌else◌, List, []}
+use Rattle.rx_spec.proofs.Prelude.{◌∷◌, length, map, refl, ap, sym, subst, arith, common_steps, Contains, AllPairs}
+use Rattle.rx_spec.proofs.Prelude.{sum_by, lt-ltb, ltb-true, sum_by-cons, mul-le, State, Build, Node, dead, AreReached}
+use Rattle.rx_spec.proofs.Prelude.{determinizer_size, label_total, table_size, last_id, sparse_size, sparse_bound}
+use Rattle.rx_spec.proofs.Prelude.{Exceeds}
+use Rattle.std.proofs.lemmas.List.Sums.{sum_by-le-sum_by}
+use Rattle.rx_spec.specs.Sizes.{state_size, leaving_bytes}
+use Rattle.rx_spec.specs.Sizes.{is_skippable_node, needle_count, sparse_row_size}
+use Rattle.rx_spec.specs.Causes.{Limits, sparse_length}
 use Rattle.lemmas_walks.proofs.Firsts.{by_test}
 use Rattle.lemmas_tables.proofs.Sublists.{sum_by-within, length-within}
 

@@ -1,15 +1,9 @@
 -- Matches that split a character are passed over without a bound: from the limit on, no number of turns cuts
 -- anything off.
-use Rattle.std.proofs.lemmas.Grind.{common_steps}
-use Rattle.std.proofs.Common.{◌≡◌, ℕ, zero, suc, ◌+◌, ◌-◌, ◌≤◌, true, false, Some, None, refl, ap, sym, ◌∙◌, arith}
-use Rattle.std.specs.Prelude.{Ok, Err}
-use Rattle.std.proofs.lemmas.Bool.{lt-ltb, eqb-false, or_right}
-use Rattle.rx_spec.specs.Queries.{Query, is_done}
-use Rattle.rx_spec.specs.Machines.{Machine, Settings}
-use Rattle.rx_spec.specs.HalfSearches.{HalfAnswer, half_search}
-use Rattle.rx_spec.specs.Splits.{narrower, is_narrowest, unless_split, skip_splits, split_limit, skips_splits}
-use Rattle.rx_spec.specs.Splits.{half_unsplit}
-use Rattle.rx_spec.specs.Tables.{Table}
+use Rattle.rx_spec.proofs.Prelude.{common_steps, ◌≡◌, ℕ, zero, suc, ◌+◌, ◌-◌, ◌≤◌, true, false, Some, None, refl, ap}
+use Rattle.rx_spec.proofs.Prelude.{sym, ◌∙◌, arith, Ok, Err, lt-ltb, eqb-false, or_right, Query, is_done, Machine}
+use Rattle.rx_spec.proofs.Prelude.{Settings, HalfAnswer, half_search, narrower, is_narrowest, unless_split, skip_splits}
+use Rattle.rx_spec.proofs.Prelude.{split_limit, skips_splits, half_unsplit, Table}
 use Rattle.rx_spec.specs.declared.Direction.{Direction}
 use Rattle.lemmas_walks.proofs.Firsts.{by_test}
 

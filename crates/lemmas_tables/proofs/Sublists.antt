@@ -1,8 +1,9 @@
 -- Different members of a list: no sum over some of them is more than the sum over all.
-use Rattle.std.proofs.Common.{◌≡◌, ◌≢◌, ℕ, suc, ◌+◌, ◌≤◌, List, [], ◌∷◌, length, sym, ⊎_elim, arith, subst, refl}
-use Rattle.std.specs.Prelude.{Contains, AllPairs, sum_by, remove, get_or}
+use Rattle.rx_spec.proofs.Prelude.{◌≡◌, ◌≢◌, ℕ, suc, ◌+◌, ◌≤◌, List, [], ◌∷◌, length, sym, ⊎_elim, arith, subst, refl}
+use Rattle.rx_spec.proofs.Prelude.{Contains, AllPairs, sum_by, get_or, sum_by-cons}
+use Rattle.std.specs.Prelude.{remove}
 use Rattle.std.proofs.lemmas.List.Sorted.{IsPermutation-remove, Contains-permutation}
-use Rattle.std.proofs.lemmas.List.Sums.{sum_by-cons, sum_by-remove}
+use Rattle.std.proofs.lemmas.List.Sums.{sum_by-remove}
 use Rattle.lemmas_walks.proofs.Firsts.{Contains-here, Contains-there, Contains-cases}
 
 module _ {X : Type 0} where

@@ -1,34 +1,26 @@
 -- Tables that are the same where they have a meaning: one is as sound as the other, and they answer the same.
 -- And what needles say: between them each byte leads an accelerated row to itself.
-use Rattle.std.proofs.Common.{rules, ◌≡◌, ◌≢◌, ℕ, zero, suc, ◌-◌, ◌<◌, ◌==◌, ◌||◌, ◌↔◌, Bool, true, false, not}
-use Rattle.std.proofs.Common.{if◌then◌else◌, Option, Some, None, List, [], ◌∷◌, length, reverse, drop, refl, ap, ap₂}
-use Rattle.std.proofs.Common.{sym, ◌∙◌, subst, arith}
-use Rattle.std.proofs.lemmas.Grind.{common_steps}
-use Rattle.std.specs.Prelude.{Contains, All, Ok, slice_get}
-use Rattle.std.specs.List.{range_with_len}
-use Rattle.std.specs.List.Sorted.{IsStrictlyIncreasing}
-use Rattle.std.proofs.lemmas.Bool.{eqb-true, ne_eqb, not-true, eqb-false, not_from_false}
-use Rattle.std.proofs.lemmas.List.Elements.{All-contains, All-take, All-drop, All-append, All-cons, All-nil, All-weaker}
-use Rattle.std.proofs.lemmas.List.Elements.{All-head, All-tail}
-use Rattle.std.proofs.lemmas.List.Kept.{IsStrictlyIncreasing-filter}
-use Rattle.std.proofs.lemmas.List.Sorted.{All-permutation, IsPermutation-reverse}
-use Rattle.std.proofs.lemmas.Option.{slice_get_within, get_or_from_slice_get}
-use Rattle.rx_spec.specs.Bytes.{unit_of, AreBytes}
-use Rattle.rx_spec.specs.Looks.{before, after}
-use Rattle.rx_spec.specs.Queries.{Anchored, Query, HalfMatch, is_done}
-use Rattle.rx_spec.specs.Machines.{Label, Machine, IsWord, run, Settings}
-use Rattle.rx_spec.specs.Starts.{StartError, start_error, start_row, start_context}
-use Rattle.rx_spec.specs.Tables.{Table, IsTable, IsSound, is_match, is_match_label, leaving, SameSettings, AreSame}
-use Rattle.rx_spec.specs.HalfSearches.{HalfAnswer, span_bytes, units_of, beside, first_offset, next_offset, last_match}
-use Rattle.rx_spec.specs.HalfSearches.{at_label, walk, from_start, whole_walk, half_search}
-use Rattle.rx_spec.specs.Overlapping.{OverlappingMatches, Ending, none_left, at_item_label, overlapping_walk}
-use Rattle.rx_spec.specs.Overlapping.{overlapping_from, whole_overlapping_walk, overlapping}
+use Rattle.rx_spec.proofs.Prelude.{◌≡◌, ◌≢◌, ℕ, ◌-◌, ◌<◌, ◌==◌, ◌||◌, ◌↔◌, Bool, true, false, not, if◌then◌else◌}
+use Rattle.rx_spec.proofs.Prelude.{Option, Some, None, List, [], ◌∷◌, length, refl, ap, ap₂, sym, ◌∙◌, subst, arith}
+use Rattle.rx_spec.proofs.Prelude.{common_steps, Contains, Ok, range_with_len, IsStrictlyIncreasing, eqb-true, ne_eqb}
+use Rattle.rx_spec.proofs.Prelude.{not-true, eqb-false, All-head, All-tail, IsStrictlyIncreasing-filter, AreBytes}
+use Rattle.rx_spec.proofs.Prelude.{Anchored, Query, HalfMatch, is_done, Label, Machine, IsWord, run, Settings}
+use Rattle.rx_spec.proofs.Prelude.{StartError, start_error, start_row, start_context, Table, IsTable, IsSound, is_match}
+use Rattle.rx_spec.proofs.Prelude.{is_match_label, leaving, AreSame, HalfAnswer, units_of, beside, first_offset}
+use Rattle.rx_spec.proofs.Prelude.{next_offset, last_match, at_label, walk, whole_walk, half_search, OverlappingMatches}
+use Rattle.rx_spec.proofs.Prelude.{Ending, none_left, at_item_label, overlapping_walk, whole_overlapping_walk}
+use Rattle.rx_spec.proofs.Prelude.{overlapping}
+use Rattle.std.proofs.lemmas.Bool.{not_from_false}
+use Rattle.rx_spec.specs.Tables.{SameSettings}
+use Rattle.rx_spec.specs.HalfSearches.{from_start}
+use Rattle.rx_spec.specs.Overlapping.{overlapping_from}
 use Rattle.rx_spec.specs.declared.Direction.{Direction}
 use Rattle.rx_spec.specs.declared.Start.{Start}
 use Rattle.lemmas_tables.proofs.Filters.{filter_tested, filter_keeps, filter_alike, range_has, every_in_range}
 use Rattle.lemmas_tables.proofs.Filters.{range_rises}
 use Rattle.lemmas_walks.proofs.Words.{run-nil, run-cons, IsWord-head, IsWord-tail}
 use Rattle.lemmas_walks.proofs.Firsts.{by_test, Contains-here, Contains-there}
+use Rattle.lemmas_walks.proofs.ReadUnits.{beside_is_byte, units_word}
 
 -- ---- being the same is an equivalence
 
@@ -140,50 +132,6 @@ module _ {t u : Table} (same : AreSame t u) where
         ∙ ap₂ (kinds (is_match u row)) (same.accelerated row below) (same.starts row below);
   }
 
--- ---- what is read of a haystack of bytes
-
-byte_at : (haystack : List ℕ) → AreBytes haystack → (i b : ℕ) → slice_get haystack i ≡ Some b → b < 256
-byte_at haystack bytes i b e = search (rules, slice_get_within, get_or_from_slice_get)
-
-pub units_below : (direction : Direction) (q : Query) → AreBytes q.haystack → IsWord (units_of direction q)
-units_below direction q bytes unit c =
-    All-contains (λ x. x < 257) (units_of direction q) unit (all direction) c
-  where
-    span : All (λ x. x < 257) (span_bytes q)
-    span =
-        All-take (λ x. x < 257) (q.end - q.start) (drop q.start q.haystack)
-        (All-drop (λ x. x < 257) q.start q.haystack
-        (All-weaker (λ x. x < 256) (λ x. x < 257) (λ x h. omega arith) q.haystack bytes))
-
-    at_place : (i : ℕ) → unit_of (slice_get q.haystack i) < 257
-    at_place i = by_place (slice_get q.haystack i) refl
-      where
-        by_place : (o : Option ℕ) → slice_get q.haystack i ≡ o → unit_of o < 257
-        by_place None e = omega arith
-        by_place (Some b) e = let h = byte_at q.haystack bytes i b e in omega arith
-
-    last : (o : Option ℕ) → unit_of o < 257 → All (λ x. x < 257) (unit_of o ∷ [])
-    last o h = All-cons (λ x. x < 257) (unit_of o) [] h (All-nil (λ x. x < 257))
-
-    before_below : (i : ℕ) → unit_of (before q.haystack i) < 257
-    before_below zero = omega arith
-    before_below (suc i) = at_place i
-
-    all : (direction : Direction) → All (λ x. x < 257) (units_of direction q)
-    all Direction.Forward =
-        All-append (λ x. x < 257) (span_bytes q) (unit_of (after q.haystack q.end) ∷ []) span
-        (last (after q.haystack q.end) (at_place q.end))
-    all Direction.Reverse =
-        All-append (λ x. x < 257) (reverse (span_bytes q)) (unit_of (before q.haystack q.start) ∷ [])
-        (All-permutation (λ x. x < 257) (span_bytes q) (reverse (span_bytes q)) (IsPermutation-reverse (span_bytes q))
-        span)
-        (last (before q.haystack q.start) (before_below q.start))
-
-beside_below : (direction : Direction) (q : Query) → AreBytes q.haystack → (byte : ℕ)
-    → beside direction q ≡ Some byte → byte < 256
-beside_below Direction.Forward q bytes byte e = grind (arith, common_steps, byte_at)
-beside_below Direction.Reverse q bytes byte e = byte_at q.haystack bytes q.end byte e
-
 -- ---- they answer the same
 
 -- where a walk stands: at a row, at an offset, with the last match
@@ -262,12 +210,12 @@ module _ {t u : Table} (is : IsTable t) (same : AreSame t u) where
       → half_search t.machine t.settings direction q ≡ half_search u.machine u.settings direction q
   half_same direction q bytes =
       let o = beside direction q in
-      let below = beside_below direction q bytes in
+      let below = λ (byte : ℕ) (e : beside direction q ≡ Some byte). beside_is_byte direction q byte bytes e in
       let row = start_row t.machine t.settings o q.mode in
       let place : Place = record { row = row; offset = first_offset direction q; last = None } in
       let walked =
       walk_same direction q.earliest place (units_of direction q)
-      (is.entries q.mode (start_context t.settings o)) (units_below direction q bytes) in
+      (is.entries q.mode (start_context t.settings o)) (units_word direction q bytes) in
       let answered = walked ∙ ap (whole_walk u.machine direction q) (row_same o q.mode below) in
       ap₂ (λ (error : Option StartError) (answer : HalfAnswer).
       if is_done q then Ok None else from_start direction q error answer)
@@ -277,11 +225,11 @@ module _ {t u : Table} (is : IsTable t) (same : AreSame t u) where
       → overlapping t.machine t.settings direction q ≡ overlapping u.machine u.settings direction q
   overlapping_same direction q bytes =
       let o = beside direction q in
-      let below = beside_below direction q bytes in
+      let below = λ (byte : ℕ) (e : beside direction q ≡ Some byte). beside_is_byte direction q byte bytes e in
       let row = start_row t.machine t.settings o q.mode in
       let walked =
       told_same direction row (first_offset direction q) (units_of direction q)
-      (is.entries q.mode (start_context t.settings o)) (units_below direction q bytes) in
+      (is.entries q.mode (start_context t.settings o)) (units_word direction q bytes) in
       let told = walked ∙ ap (whole_overlapping_walk u.machine direction q) (row_same o q.mode below) in
       ap₂ (λ (error : Option StartError) (matches : OverlappingMatches).
       if is_done q then none_left Ending.Ended else overlapping_from direction q error matches)

@@ -1,13 +1,8 @@
 -- What a half search tells lies in the span of its query, and so where splits are passed over.
-use Rattle.std.proofs.Common.{rules, ◌≡◌, ℕ, zero, suc, ◌≤◌, ◌||◌, Bool, true, false, if◌then◌else◌, Option, Some, None}
-use Rattle.std.proofs.Common.{refl, ◌∙◌, arith}
-use Rattle.std.proofs.lemmas.Grind.{common_steps}
-use Rattle.std.specs.Prelude.{Ok, Err}
-use Rattle.rx_spec.specs.Queries.{Query, HalfMatch, is_anchored}
-use Rattle.rx_spec.specs.Machines.{Machine, Settings}
-use Rattle.rx_spec.specs.HalfSearches.{HalfAnswer, half_search}
-use Rattle.rx_spec.specs.Splits.{is_split, narrower, is_narrowest, unless_split, skip_splits, half_unsplit}
-use Rattle.rx_spec.specs.Tables.{Table}
+use Rattle.rx_spec.proofs.Prelude.{rules, ◌≡◌, ℕ, zero, suc, ◌≤◌, ◌||◌, Bool, true, false, if◌then◌else◌, Option, Some}
+use Rattle.rx_spec.proofs.Prelude.{None, refl, ◌∙◌, arith, common_steps, Ok, Err, Query, HalfMatch, is_anchored}
+use Rattle.rx_spec.proofs.Prelude.{Machine, Settings, HalfAnswer, half_search, is_split, narrower, is_narrowest}
+use Rattle.rx_spec.proofs.Prelude.{unless_split, skip_splits, half_unsplit, Table}
 use Rattle.rx_spec.specs.declared.Direction.{Direction}
 use Rattle.lemmas_walks.proofs.WalkBounds.{half_in_span}
 use Rattle.lemmas_tables.proofs.Splits.{NoneWhenDone, half_when_done}

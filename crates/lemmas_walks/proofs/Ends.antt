@@ -1,16 +1,12 @@
 -- Laws of the places where matches end.
-use Rattle.std.proofs.lemmas.Grind.{common_steps}
-use Rattle.std.proofs.Common.{[], ◌≡◌, ℕ, zero, suc, ◌+◌, ◌-◌, ◌*◌, ◌<◌, ◌≤◌, min, Bool, true, false, Option, Some}
-use Rattle.std.proofs.Common.{None, List, ◌∷◌, ◌++◌, length, slice_get, if◌then◌else◌, refl, ap, sym, ◌∙◌, arith}
-use Rattle.std.proofs.Common.{le_refl, append-nil}
-use Rattle.std.proofs.lemmas.Option.{slice_get_within}
-use Rattle.std.specs.List.{flat_map, AllByRecursion as Every}
-use Rattle.rx_spec.specs.Looks.{Reading, after, holds_at}
-use Rattle.rx_spec.specs.Expressions.{Expression, min_len}
-use Rattle.rx_spec.specs.Ends.{class_ends, rounds, preferring, up_to, further, ends}
+use Rattle.rx_spec.proofs.Prelude.{common_steps, [], ◌≡◌, ℕ, zero, suc, ◌+◌, ◌-◌, ◌*◌, ◌<◌, ◌≤◌, min, Bool, true, false}
+use Rattle.rx_spec.proofs.Prelude.{Option, Some, None, List, ◌∷◌, ◌++◌, length, slice_get, if◌then◌else◌, refl, ap, sym}
+use Rattle.rx_spec.proofs.Prelude.{◌∙◌, arith, le_refl, append-nil, slice_get_within, flat_map, Reading, after}
+use Rattle.rx_spec.proofs.Prelude.{holds_at, Expression, min_len, class_ends, rounds, preferring, up_to, further, ends}
+use Rattle.std.specs.List.{AllByRecursion as Every}
 use Rattle.rx_spec.specs.declared.Look.{Look}
 use Rattle.lemmas_walks.proofs.Every.{every-append, every-weaker, every-flat_map, flat_map-same, none_is_nil}
-use Rattle.lemmas_walks.proofs.Every.{flat_map-alike, flat_map-flat_map}
+use Rattle.lemmas_walks.proofs.Every.{flat_map-flat_map}
 
 -- The table of ends, line by line.
 pub ends_empty : (r : Reading) (i : ℕ) → ends r Expression.Empty i ≡ i ∷ []
@@ -52,7 +48,7 @@ unfolding rounds
 rounds_lie n m body h zero i within = ((omega arith, within), tt)
 rounds_lie n m body h (suc k) i within =
     every-flat_map (Lies n (i + m)) (Lies n (i + suc k * m)) (λ j. rounds body k j) (body i)
-    (λ j lies. lies-from n (i + suc k * m) (j + k * m) (rounds body k j) (omega (arith, lies.0))
+    (λ j lies. lies-from n (i + suc k * m) (j + k * m) (rounds body k j) (omega arith)
     (rounds_lie n m body h k j lies.1))
     (h i within)
 
@@ -68,7 +64,7 @@ up_to_lies n greedy body h zero i within = ((le_refl i, within), tt)
 up_to_lies n greedy body h (suc k) i within =
     preferring_lies n i greedy (flat_map (λ j. up_to greedy body k j) (body i)) within
     (every-flat_map (Lies n (i + 0)) (Lies n i) (λ j. up_to greedy body k j) (body i)
-    (λ j lies. lies-from n i j (up_to greedy body k j) (omega (arith, lies.0)) (up_to_lies n greedy body h k j lies.1))
+    (λ j lies. lies-from n i j (up_to greedy body k j) (omega arith) (up_to_lies n greedy body h k j lies.1))
     (h i within))
 
 further_lies : (r : Reading) (least : ℕ) (most : Option ℕ) (greedy : Bool) (body : ℕ → List ℕ)
@@ -99,7 +95,7 @@ ends_lie r (Expression.Look look) i within =
 ends_lie r (Expression.Concat a b) i within =
     let n = length r.units in
     every-flat_map (Lies n (i + min_len a)) (Lies n (i + (min_len a + min_len b))) (λ j. ends r b j) (ends r a i)
-    (λ j lies. lies-from n (i + (min_len a + min_len b)) (j + min_len b) (ends r b j) (omega (arith, lies.0))
+    (λ j lies. lies-from n (i + (min_len a + min_len b)) (j + min_len b) (ends r b j) (omega arith)
     (ends_lie r b j lies.1))
     (ends_lie r a i within)
 ends_lie r (Expression.Alternate a b) i within =
@@ -137,7 +133,7 @@ module _ (n : ℕ) (greedy : Bool) (body : ℕ → List ℕ) (h : Advances n 1 b
   up_to_room (suc k) (suc l) i within p q =
       ap (λ more. preferring greedy more i)
       (flat_map-same (Lies n (i + 1)) (λ j. up_to greedy body k j) (λ j. up_to greedy body l j) (body i)
-      (λ j lies. up_to_room k l j lies.1 (omega (arith, lies.0, p)) (omega (arith, lies.0, q))) (h i within))
+      (λ j lies. up_to_room k l j lies.1 (omega arith) (omega arith)) (h i within))
 
 -- A body that reads at least a byte.
 pub advances_one : (r : Reading) (body : Expression) → 0 < min_len body
@@ -149,18 +145,13 @@ abbrev pub lowered : Option ℕ → Option ℕ
 lowered None = None
 lowered (Some most) = Some (most - 1)
 
-further_lowered : (r : Reading) (n : ℕ) (most : Option ℕ) (greedy : Bool) (body : ℕ → List ℕ) (i : ℕ)
-    → further r (suc n) most greedy body i ≡ further r n (lowered most) greedy body i
-further_lowered r n None greedy body i = refl
-further_lowered r n (Some most) greedy body i = grind (arith, common_steps)
-
 -- a least number of rounds above 0: a round, and then the rest
 pub ends_repeat_more : (r : Reading) (n : ℕ) (most : Option ℕ) (greedy : Bool) (body : Expression) (i : ℕ)
     → ends r (Expression.Repeat (suc n) most greedy body) i
     ≡ flat_map (λ j. ends r (Expression.Repeat n (lowered most) greedy body) j) (ends r body i)
 unfolding ends rounds
 ends_repeat_more r n most greedy body i =
-    grind (arith, common_steps, flat_map-flat_map, flat_map-alike, further_lowered)
+    grind (arith, common_steps, flat_map-flat_map)
 
 -- no rounds at all
 pub ends_repeat_none : (r : Reading) (greedy : Bool) (body : Expression) (i : ℕ)
@@ -173,7 +164,7 @@ pub ends_repeat_optional : (r : Reading) (most : ℕ) (greedy : Bool) (body : Ex
     → ends r (Expression.Repeat 0 (Some (suc most)) greedy body) i
     ≡ preferring greedy (flat_map (λ j. ends r (Expression.Repeat 0 (Some most) greedy body) j) (ends r body i)) i
 unfolding ends rounds up_to
-ends_repeat_optional r most greedy body i = grind (arith, common_steps, append-nil, flat_map-alike)
+ends_repeat_optional r most greedy body i = grind (arith, common_steps)
 
 -- without an end: a further one, or none
 pub ends_repeat_unbounded : (r : Reading) (greedy : Bool) (body : Expression) (i : ℕ) → 0 < min_len body
@@ -190,5 +181,5 @@ ends_repeat_unbounded r greedy body i reads within =
     (flat_map-same (Lies n (i + 1)) (λ j. up_to greedy (λ k. ends r body k) n j)
     (λ j. up_to greedy (λ k. ends r body k) (n - j) j ++ []) (ends r body i)
     (λ j lies. up_to_room n greedy (λ k. ends r body k) (advances_one r body reads) n (n - j) j lies.1 (omega arith)
-    (omega (arith, lies.1)) ∙ sym (append-nil (up_to greedy (λ k. ends r body k) (n - j) j)))
+    (omega arith) ∙ sym (append-nil (up_to greedy (λ k. ends r body k) (n - j) j)))
     (advances_one r body reads i within))

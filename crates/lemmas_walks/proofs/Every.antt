@@ -1,7 +1,6 @@
 -- What holds of each element of a list, by recursion on the list.
-use Rattle.std.proofs.Common.{[], arith, ◌≡◌, List, ◌∷◌, ◌++◌, refl, ap, ap₂, ◌∙◌, append_assoc}
-use Rattle.std.proofs.lemmas.Grind.{common_steps}
-use Rattle.std.specs.List.{flat_map, AllByRecursion as Every}
+use Rattle.rx_spec.proofs.Prelude.{[], arith, ◌≡◌, List, ◌∷◌, ◌++◌, refl, ap, ap₂, ◌∙◌, common_steps, flat_map}
+use Rattle.std.specs.List.{AllByRecursion as Every}
 
 module _ {X : Type 0} where
   pub every-append : (P : X → Type 0) (xs ys : List X) → Every P xs → Every P ys → Every P (xs ++ ys)
@@ -31,7 +30,7 @@ flat_map-same P f g (x ∷ xs) e h = ap₂ (λ a b. a ++ b) (e x h.0) (flat_map-
 pub flat_map-append_of : {X A : Type 0} (f : X → List A) (xs ys : List X)
     → flat_map f (xs ++ ys) ≡ flat_map f xs ++ flat_map f ys
 flat_map-append_of f [] ys = refl
-flat_map-append_of f (x ∷ xs) ys = grind (arith, common_steps, append_assoc)
+flat_map-append_of f (x ∷ xs) ys = grind (arith, common_steps)
 
 -- one behind another
 pub flat_map-flat_map : {X Y A : Type 0} (f : X → List Y) (g : Y → List A) (xs : List X)

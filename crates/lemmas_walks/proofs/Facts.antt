@@ -1,12 +1,10 @@
 -- What facts of two neighbours decide: every assertion, and no more facts are needed than are kept.
-use Rattle.std.proofs.lemmas.Grind.{common_steps}
-use Rattle.std.proofs.Common.{[], ◌≡◌, ℕ, suc, zero, ◌<◌, true, Option, Some, None, List, ◌∷◌, refl, ◌∙◌, arith}
-use Rattle.std.proofs.lemmas.Bool.{or_right, eqb-true, ne_eqb}
-use Rattle.std.specs.Prelude.{Contains}
+use Rattle.rx_spec.proofs.Prelude.{common_steps, [], ◌≡◌, ℕ, suc, zero, ◌<◌, true, Option, Some, None, List, ◌∷◌, refl}
+use Rattle.rx_spec.proofs.Prelude.{◌∙◌, arith, ne_eqb, Contains, Row, Facts, facts_of, unit_facts, both, either_of}
+use Rattle.rx_spec.proofs.Prelude.{holds_read, facts_read, row_reads, facts_kept, start_of}
 use Rattle.rx_spec.specs.Looks.{holds}
-use Rattle.rx_spec.specs.Rows.{Row}
-use Rattle.rx_spec.specs.Contexts.{Facts, facts_of, unit_facts, both, either_of, holds_by, holds_read, facts_read}
-use Rattle.rx_spec.specs.Contexts.{row_reads, facts_kept, start_of, start_facts}
+use Rattle.rx_spec.specs.Contexts.{holds_by}
+use Rattle.rx_spec.specs.Contexts.{start_facts}
 use Rattle.rx_spec.specs.declared.Direction.{Direction}
 use Rattle.rx_spec.specs.declared.Look.{Look}
 use Rattle.rx_spec.specs.declared.Start.{Start}
@@ -32,7 +30,7 @@ pub record Cover (k r : Facts) : Type 0 where
   pub word : r.word ≡ true → k.word ≡ true
 
 pub Cover-right : (k j r : Facts) → Cover k r → Cover (either_of j k) r
-Cover-right k j r c = grind (arith, common_steps, or_right)
+Cover-right k j r c = grind (arith, common_steps)
 
 -- Dropping facts that an assertion doesn't read changes nothing, on either side.
 pub kept_before : (look : Look) (k x y : Facts) → Cover k (facts_read look)
@@ -43,18 +41,9 @@ kept_before Look.StartLF k x y c = grind (arith, common_steps)
 kept_before Look.EndLF k x y c = refl
 kept_before Look.StartCRLF k x y c = grind (arith, common_steps)
 kept_before Look.EndCRLF k x y c = let cr : k.cr ≡ true = c.cr refl in simp (cr)
-kept_before Look.WordAscii k x y c = let word : k.word ≡ true = c.word refl in simp (word)
-kept_before Look.WordAsciiNegate k x y c = let word : k.word ≡ true = c.word refl in simp (word)
-kept_before Look.WordUnicode k x y c = let word : k.word ≡ true = c.word refl in simp (word)
-kept_before Look.WordUnicodeNegate k x y c = let word : k.word ≡ true = c.word refl in simp (word)
-kept_before Look.WordStartAscii k x y c = let word : k.word ≡ true = c.word refl in simp (word)
-kept_before Look.WordEndAscii k x y c = let word : k.word ≡ true = c.word refl in simp (word)
-kept_before Look.WordStartUnicode k x y c = let word : k.word ≡ true = c.word refl in simp (word)
-kept_before Look.WordEndUnicode k x y c = let word : k.word ≡ true = c.word refl in simp (word)
-kept_before Look.WordStartHalfAscii k x y c = let word : k.word ≡ true = c.word refl in simp (word)
 kept_before Look.WordEndHalfAscii k x y c = refl
-kept_before Look.WordStartHalfUnicode k x y c = let word : k.word ≡ true = c.word refl in simp (word)
 kept_before Look.WordEndHalfUnicode k x y c = refl
+kept_before _ k x y c = let word : k.word ≡ true = c.word refl in simp (word)
 
 pub kept_after : (look : Look) (k x y : Facts) → Cover k (facts_read look)
     → holds_by look x (both k y) ≡ holds_by look x y
@@ -64,18 +53,9 @@ kept_after Look.StartLF k x y c = refl
 kept_after Look.EndLF k x y c = grind (arith, common_steps)
 kept_after Look.StartCRLF k x y c = let lf : k.lf ≡ true = c.lf refl in simp (lf)
 kept_after Look.EndCRLF k x y c = grind (arith, common_steps)
-kept_after Look.WordAscii k x y c = let word : k.word ≡ true = c.word refl in simp (word)
-kept_after Look.WordAsciiNegate k x y c = let word : k.word ≡ true = c.word refl in simp (word)
-kept_after Look.WordUnicode k x y c = let word : k.word ≡ true = c.word refl in simp (word)
-kept_after Look.WordUnicodeNegate k x y c = let word : k.word ≡ true = c.word refl in simp (word)
-kept_after Look.WordStartAscii k x y c = let word : k.word ≡ true = c.word refl in simp (word)
-kept_after Look.WordEndAscii k x y c = let word : k.word ≡ true = c.word refl in simp (word)
-kept_after Look.WordStartUnicode k x y c = let word : k.word ≡ true = c.word refl in simp (word)
-kept_after Look.WordEndUnicode k x y c = let word : k.word ≡ true = c.word refl in simp (word)
 kept_after Look.WordStartHalfAscii k x y c = refl
-kept_after Look.WordEndHalfAscii k x y c = let word : k.word ≡ true = c.word refl in simp (word)
 kept_after Look.WordStartHalfUnicode k x y c = refl
-kept_after Look.WordEndHalfUnicode k x y c = let word : k.word ≡ true = c.word refl in simp (word)
+kept_after _ k x y c = let word : k.word ≡ true = c.word refl in simp (word)
 
 pub kept_both : (look : Look) (k x y : Facts) → Cover k (facts_read look)
     → holds_by look (both k x) (both k y) ≡ holds_by look x y
@@ -99,7 +79,7 @@ kept_cover (row ∷ rows) look next (suc n, h, e) =
 -- what is known in a start context is what is true of the neighbour
 pub start_knows : (t : ℕ) (x : Option ℕ) → start_facts t (start_of t x) ≡ facts_of t x
 start_knows t None = refl
-start_knows t (Some b) = grind (arith, common_steps, eqb-true)
+start_knows t (Some b) = grind (arith, common_steps)
 
 pub unit_knows : (t b : ℕ) → b < 256 → unit_facts t b ≡ facts_of t (Some b)
 unit_knows t b h = rw (ne_eqb b 256 (omega arith))

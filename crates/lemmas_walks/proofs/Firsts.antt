@@ -1,12 +1,8 @@
 -- First occurrences: they keep order and membership, and repeat nothing.
-use Rattle.std.proofs.lemmas.Grind.{common_steps}
-use Rattle.std.proofs.Common.{[], ◌≡◌, ◌≢◌, ℕ, suc, zero, ◌==◌, ◌⊎◌, inl, inr, Bool, true, false, ◌||◌, List, ◌∷◌, ◌++◌}
-use Rattle.std.proofs.Common.{refl, ap, sym, ◌∙◌, subst, arith, ⊎_elim}
-use Rattle.std.proofs.lemmas.Bool.{or_left, or_right, eqb-true, eqb-false, eq-eqb, or_cases, false_from_ne_true}
-use Rattle.std.proofs.lemmas.List.{get_or_default}
-use Rattle.std.specs.Prelude.{Contains, AllPairs}
-use Rattle.std.specs.List.{list_any}
-use Rattle.rx_spec.specs.States.{fresh}
+use Rattle.rx_spec.proofs.Prelude.{common_steps, [], ◌≡◌, ◌≢◌, ℕ, suc, zero, ◌==◌, ◌⊎◌, inl, inr, Bool, true, false}
+use Rattle.rx_spec.proofs.Prelude.{◌||◌, List, ◌∷◌, ◌++◌, refl, ap, sym, ◌∙◌, subst, arith, ⊎_elim, or_left, eqb-true}
+use Rattle.rx_spec.proofs.Prelude.{eqb-false, or_cases, false_from_ne_true, get_or_default, Contains, AllPairs}
+use Rattle.rx_spec.proofs.Prelude.{list_any, fresh, or-true, list_any-append}
 
 -- membership by recursion on the list
 pub Contains-here : {X : Type 0} (x : X) (xs : List X) → Contains (x ∷ xs) x
@@ -32,7 +28,7 @@ seen_true x (y ∷ ys) h =
 
 pub seen_if : (x : ℕ) (seen : List ℕ) → Contains seen x → list_any (λ y. x == y) seen ≡ true
 seen_if x [] c = absurd (Contains-nil x c)
-seen_if x (y ∷ ys) c = grind (arith, common_steps, or_left, eq-eqb, or_right)
+seen_if x (y ∷ ys) c = grind (arith, common_steps, or_left)
 
 pub unseen : (x : ℕ) (seen : List ℕ) → (Contains seen x → ⊥) → list_any (λ y. x == y) seen ≡ false
 unseen x seen new = false_from_ne_true (list_any (λ y. x == y) seen) (λ h. new (seen_true x seen h))
@@ -42,18 +38,18 @@ pub by_test : {P : Type 0} (b : Bool) → (b ≡ true → P) → (b ≡ false �
 by_test true yes_then no_then = yes_then refl
 by_test false yes_then no_then = no_then refl
 
-abbrev was : List ℕ → ℕ → Bool
+abbrev pub was : List ℕ → ℕ → Bool
 was seen x = list_any (λ y. x == y) seen
 
-fresh_old : (seen xs : List ℕ) (y : ℕ) → was seen y ≡ true → fresh seen (y ∷ xs) ≡ fresh seen xs
+pub fresh_old : (seen xs : List ℕ) (y : ℕ) → was seen y ≡ true → fresh seen (y ∷ xs) ≡ fresh seen xs
 unfolding fresh
 fresh_old seen xs y e = rw e refl
 
-fresh_new : (seen xs : List ℕ) (y : ℕ) → was seen y ≡ false → fresh seen (y ∷ xs) ≡ y ∷ fresh (y ∷ seen) xs
+pub fresh_new : (seen xs : List ℕ) (y : ℕ) → was seen y ≡ false → fresh seen (y ∷ xs) ≡ y ∷ fresh (y ∷ seen) xs
 unfolding fresh
 fresh_new seen xs y e = rw e refl
 
-fresh_nil : (seen : List ℕ) → fresh seen [] ≡ []
+pub fresh_nil : (seen : List ℕ) → fresh seen [] ≡ []
 unfolding fresh
 fresh_nil seen = refl
 
@@ -133,18 +129,13 @@ fresh_alike seen others (y ∷ ys) same =
     (fresh_alike (y ∷ seen) (y ∷ others) ys (λ x. ap (λ (b : Bool). (x == y) || b) (same x)))
     ∙ sym (fresh_new others ys y (sym (same y) ∙ e)))
 
-or_right_true : (b : Bool) → true ≡ (b || true)
-or_right_true true = refl
-or_right_true false = refl
-
 or_swap : (a b c : Bool) → (a || (b || c)) ≡ (b || (a || c))
 or_swap true true c = refl
 or_swap true false c = refl
 or_swap false b c = refl
 
 was_append : (xs ys : List ℕ) (x : ℕ) → was (xs ++ ys) x ≡ (was xs x || was ys x)
-was_append [] ys x = refl
-was_append (z ∷ zs) ys x = grind (arith, common_steps)
+was_append xs ys x = list_any-append (λ y. x == y) xs ys
 
 pub fresh_append : (seen xs ys : List ℕ) → fresh seen (xs ++ ys) ≡ fresh seen xs ++ fresh (xs ++ seen) ys
 fresh_append seen [] ys = ap (λ (l : List ℕ). l ++ fresh seen ys) (sym (fresh_nil seen))
@@ -165,10 +156,8 @@ fresh_append seen (z ∷ zs) ys =
     again z zs seen e x =
         by_test (x == z) (λ (q : (x == z) ≡ true). let same : x ≡ z = eqb-true x z q in
         let there : was seen x ≡ true = subst (λ y. was seen y ≡ true) (sym same) e in
-        rw (q, was_append, there) (or_right_true (was zs x)))
+        rw (q, was_append, there) (sym (or-true (was zs x))))
         (λ (q : (x == z) ≡ false). rw q refl)
 
     moved_in : (z : ℕ) (zs seen : List ℕ) → (x : ℕ) → was ((z ∷ zs) ++ seen) x ≡ was (zs ++ (z ∷ seen)) x
-    moved_in z zs seen x =
-        ap (λ (b : Bool). (x == z) || b) (was_append zs seen x) ∙ or_swap (x == z) (was zs x) (was seen x)
-        ∙ sym (was_append zs (z ∷ seen) x)
+    moved_in z zs seen x = grind (arith, common_steps, was_append, or_swap)

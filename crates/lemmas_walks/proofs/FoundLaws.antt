@@ -1,15 +1,10 @@
 -- What is found: the least start, there the lowest pattern, and its first end.
-use Rattle.std.proofs.lemmas.Grind.{common_steps}
-use Rattle.std.proofs.Common.{[], ◌≡◌, ℕ, ◌+◌, ◌-◌, ◌<◌, ◌≤◌, ⊎_elim, Bool, true, false, Option, Some, None, List, ◌∷◌}
-use Rattle.std.proofs.Common.{length, refl, ap, sym, ◌∙◌, subst, arith}
-use Rattle.std.proofs.lemmas.Bool.{le-leb}
-use Rattle.std.specs.Prelude.{slice_get, Contains, find, nat_le}
-use Rattle.std.specs.Option.{option_map, option_and_then}
-use Rattle.std.specs.List.{range_with_len}
-use Rattle.rx_spec.specs.Expressions.{Expression}
-use Rattle.rx_spec.specs.Ends.{ends}
-use Rattle.rx_spec.specs.Queries.{Query, Match, reading}
-use Rattle.rx_spec.specs.Found.{admitted, first_of, end_within, candidate, found}
+use Rattle.rx_spec.proofs.Prelude.{common_steps, [], ◌≡◌, ℕ, ◌+◌, ◌-◌, ◌<◌, ◌≤◌, ⊎_elim, Bool, true, false, Option}
+use Rattle.rx_spec.proofs.Prelude.{Some, None, List, ◌∷◌, Ok, Err, length, refl, ap, sym, ◌∙◌, subst, arith, le-leb}
+use Rattle.rx_spec.proofs.Prelude.{slice_get, Contains, find, nat_le, option_and_then, range_with_len, Expression, ends}
+use Rattle.rx_spec.proofs.Prelude.{Query, Match, reading, admitted, first_of, end_within, candidate, found}
+use Rattle.rx_spec.proofs.Prelude.{FoundMatches, and_then, Answer}
+use Rattle.std.specs.Option.{option_map}
 use Rattle.rx_spec.specs.declared.Direction.{Direction}
 use Rattle.lemmas_walks.proofs.Firsts.{by_test, Contains-there, Contains-cases, Contains-nil}
 use Rattle.lemmas_walks.proofs.Ranges.{first_in_range, none_in_range}
@@ -43,15 +38,6 @@ pub record Matches (es : List Expression) (t : ℕ) (q : Query) (p k : ℕ) (hit
   pub pattern : hit.pattern ≡ k
   pub start : hit.start ≡ p
 
-hit_same : (a b : Match) → Some a ≡ Some b → a ≡ b
-hit_same a b e = cc
-
-of_end : (k p : ℕ) (hit : Match) (end : Option ℕ)
-    → option_map (λ j. record { pattern = k; start = p; end = j }) end ≡ Some hit
-    → (end ≡ Some hit.end) × (hit.pattern ≡ k) × (hit.start ≡ p)
-of_end k p hit None e = absurd (cc)
-of_end k p hit (Some j) e = grind (arith, common_steps, hit_same)
-
 abbrev ending : List Expression → ℕ → Query → ℕ → ℕ → Expression → Option Match
 ending es t q p k e =
     option_map (λ j. record { pattern = k; start = p; end = j })
@@ -61,13 +47,9 @@ candidate_in : (es : List Expression) (t : ℕ) (q : Query) (p k : ℕ) → admi
     → candidate es t q p k ≡ option_and_then (ending es t q p k) (slice_get es k)
 candidate_in es t q p k a = rw a refl
 
-candidate_out : (es : List Expression) (t : ℕ) (q : Query) (p k : ℕ) → admitted q (length es) p k ≡ false
-    → candidate es t q p k ≡ None
-candidate_out es t q p k a = rw a refl
-
 pub candidate_matches : (es : List Expression) (t : ℕ) (q : Query) (p k : ℕ) (hit : Match)
     → candidate es t q p k ≡ Some hit → Matches es t q p k hit
-candidate_matches es t q p k hit e = grind (arith, common_steps, by_test, candidate_in, candidate_out, of_end)
+candidate_matches es t q p k hit e = grind (arith, common_steps)
 
 -- where no match is a candidate, none ends within the span
 module _ (es : List Expression) (t : ℕ) (q : Query) (p k : ℕ) where
@@ -108,9 +90,6 @@ is_found es t q hit e =
     let m = candidate_matches es t q p k hit inner.gives in
     let same_place : p ≡ hit.start = sym m.start in
     let same_pattern : k ≡ hit.pattern = sym m.pattern in
-    let w = outer.within in
-    let v = inner.within in
-    let zeroth : k ≡ inner.place = omega arith in
     record {
       matches =
           subst (λ x. Matches es t q x hit.pattern hit) same_place (subst (λ x. Matches es t q p x hit) same_pattern m);
@@ -129,3 +108,10 @@ is_found es t q hit e =
           let none = inner.none_before l (omega arith) in
           at_place es t q p hit.start l same_place (subst (λ i. candidate es t q p i ≡ None) z none);
     }
+
+-- ways to go on that are the same after what is found
+pub and_then-same : (answer : Answer) (f g : Match → FoundMatches)
+    → ((m : Match) → answer ≡ Ok (Some m) → f m ≡ g m) → and_then answer f ≡ and_then answer g
+and_then-same (Ok None) f g same = refl
+and_then-same (Ok (Some m)) f g same = grind (arith, common_steps)
+and_then-same (Err error) f g same = refl

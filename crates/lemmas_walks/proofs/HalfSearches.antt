@@ -1,19 +1,26 @@
 -- A half search taken apart: it is done, its start is refused, or it is a walk.
-use Rattle.std.proofs.Common.{arith, ◌≡◌, ℕ, ◌<◌, ◌≤◌, ◌⊎◌, Bool, true, false, Option, Some, None, Ok, Err, refl, ap}
-use Rattle.std.proofs.lemmas.Grind.{common_steps}
-use Rattle.std.proofs.lemmas.Bool.{le-ltb, lt-ltb, ltb-true, ltb-false}
-use Rattle.std.specs.Prelude.{is_some, if◌then◌else◌}
-use Rattle.rx_spec.specs.Bytes.{contains, unit_of}
-use Rattle.rx_spec.specs.Queries.{Anchored, Query, is_done, HalfMatch, MatchError}
-use Rattle.rx_spec.specs.Contexts.{start_of}
-use Rattle.rx_spec.specs.Machines.{Machine, Settings}
-use Rattle.rx_spec.specs.Starts.{supports, start_context, StartError, mode_error, start_error, start_row}
-use Rattle.rx_spec.specs.Builds.{Build, nfa_start, start_node, power, build_settings}
-use Rattle.rx_spec.specs.HalfSearches.{HalfAnswer, beside, match_error, from_start, whole_walk, half_search}
+use Rattle.rx_spec.proofs.Prelude.{arith, ◌≡◌, ℕ, ◌<◌, ◌≤◌, ◌⊎◌, true, false, Option, Some, None, Ok, Err, refl, ap, []}
+use Rattle.rx_spec.proofs.Prelude.{◌∷◌, ◌++◌, sym, subst, common_steps, le-ltb, ltb-true, ltb-false, Contains, is_some}
+use Rattle.rx_spec.proofs.Prelude.{if◌then◌else◌, contains, unit_of, Anchored, Query, is_done, HalfMatch, MatchError}
+use Rattle.rx_spec.proofs.Prelude.{start_of, Machine, Settings, supports, StartError, mode_error, start_error}
+use Rattle.rx_spec.proofs.Prelude.{start_row, has_anchored, has_unanchored, Build, built_modes, nfa_start, start_node}
+use Rattle.rx_spec.proofs.Prelude.{power, build_settings, HalfAnswer, beside, match_error, whole_walk, half_search}
+use Rattle.rx_spec.proofs.Prelude.{Contains-append_left, Contains-append_right}
+use Rattle.rx_spec.specs.HalfSearches.{from_start}
 use Rattle.rx_spec.specs.declared.Direction.{Direction}
-use Rattle.lemmas_walks.proofs.Firsts.{by_test}
+use Rattle.lemmas_walks.proofs.Firsts.{by_test, Contains-here}
 
 -- ---- starts
+
+-- a build with anchored starts has them for the mode Yes
+pub has_yes : (b : Build) → has_anchored b.start_kind ≡ true → Contains (built_modes b) Anchored.Yes
+has_yes b anchored =
+    let front = if has_unanchored b.start_kind then Anchored.No ∷ [] else [] in
+    let middle = if has_anchored b.start_kind then Anchored.Yes ∷ [] else [] in
+    Contains-append_left (front ++ middle) _ Anchored.Yes
+    (Contains-append_right front middle Anchored.Yes
+    (subst (λ v. Contains (if v then Anchored.Yes ∷ [] else []) Anchored.Yes) (sym anchored)
+    (Contains-here Anchored.Yes [])))
 
 -- A start that isn't refused: the byte beside the span can be searched, and the mode has starts.
 pub record IsStarted (s : Settings) (byte : Option ℕ) (mode : Anchored) : Type 0 where
@@ -22,12 +29,12 @@ pub record IsStarted (s : Settings) (byte : Option ℕ) (mode : Anchored) : Type
 
 mode_supported : (s : Settings) (mode : Anchored) → mode_error s mode ≡ None
     → supports s.start_kind (is_some s.pattern_starts) mode ≡ true
-mode_supported s mode e = grind (arith, common_steps, by_test)
+mode_supported s mode e = grind (arith, common_steps)
 
 pub started : (s : Settings) (byte : Option ℕ) (mode : Anchored) → start_error s byte mode ≡ None
     → IsStarted s byte mode
 started s None mode e = record { clean = refl; supported = mode_supported s mode e }
-started s (Some b) mode e = grind (arith, common_steps, by_test, mode_supported)
+started s (Some b) mode e = grind (arith, common_steps)
 
 pub not_refused : (s : Settings) (byte : Option ℕ) (mode : Anchored) → IsStarted s byte mode
     → start_error s byte mode ≡ None
@@ -51,25 +58,10 @@ begins s direction q =
     by_error order None e = Started order e
     by_error order (Some error) e = Refused order error e
 
--- the row where a build's search begins
-pub build_context : (b : Build) (byte : Option ℕ)
-    → start_context (build_settings b) byte ≡ start_of b.nfa.line_terminator byte
-build_context b None = refl
-build_context b (Some byte) = refl
-
-some_if : (t : Bool) (n : ℕ) → is_some (if t then Some n else None) ≡ t
-some_if true n = refl
-some_if false n = refl
-
-pub build_supports : (b : Build) (mode : Anchored)
-    → supports b.start_kind (is_some (build_settings b).pattern_starts) mode
-    ≡ supports b.start_kind b.pattern_starts mode
-build_supports b mode = grind (arith, common_steps, some_if)
-
 pub build_start : (b : Build) (byte : Option ℕ) (mode : Anchored) → IsStarted (build_settings b) byte mode
     → start_row (power b) (build_settings b) byte mode
     ≡ start_node b.nfa (nfa_start b.nfa mode) (start_of b.nfa.line_terminator byte)
-build_start b byte mode is = grind (arith, common_steps, build_context, build_supports)
+build_start b byte mode is = grind (arith, common_steps)
 
 -- ---- the search
 
@@ -108,16 +100,4 @@ pub record Begun {R : Type 0} (m : Machine R) (s : Settings) (direction : Direct
 pub half_begun : {R : Type 0} (m : Machine R) (s : Settings) (direction : Direction) (q : Query) (h : Option HalfMatch)
     → half_search m s direction q ≡ Ok h → ((q.end < q.start) × (h ≡ None)) ⊎ Begun m s direction q h
 half_begun m s direction q h e =
-    grind (
-      arith,
-      common_steps,
-      begins,
-      told_same,
-      half_done,
-      lt-ltb,
-      half_refused,
-      going,
-      error_not_told,
-      started,
-      half_walks,
-    )
+    grind (arith, common_steps, begins, told_same, half_done)

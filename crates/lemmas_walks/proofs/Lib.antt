@@ -16,6 +16,7 @@ pub mod RowPlaces
 pub mod ShortPaths
 pub mod PathLengths
 pub mod Patterns
+pub mod FirstMatch
 pub mod Shallows
 -- words, and what walks over machines, tables and builds do with each unit
 pub mod Words

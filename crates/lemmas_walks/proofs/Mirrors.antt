@@ -1,16 +1,11 @@
 -- Two readings that are mirrors of one another: what matches from i to j in the one, matches backward
 -- from j to i in the other.
-use Rattle.std.proofs.lemmas.Grind.{common_steps}
-use Rattle.std.proofs.Common.{[], ◌≡◌, ℕ, suc, zero, ◌+◌, ◌-◌, ◌<◌, ◌≤◌, ◌↔◌, inl, inr, Option, Some, None, List, ◌∷◌}
-use Rattle.std.proofs.Common.{length, reverse, refl, ap, sym, ◌∙◌, subst, arith}
-use Rattle.std.proofs.lemmas.Bool.{cases_lt}
-use Rattle.std.proofs.lemmas.List.{get_or-reverse, length-reverse}
-use Rattle.std.proofs.lemmas.Option.{slice_get-get_or, slice_get_past}
-use Rattle.std.specs.Prelude.{Contains, slice_get}
-use Rattle.rx_spec.specs.Looks.{Reading, before, after, holds, holds_at}
-use Rattle.rx_spec.specs.Expressions.{Expression, min_len, mirror, IsLoopSafe, IsBounded}
-use Rattle.rx_spec.specs.Ends.{ends}
-use Rattle.rx_spec.specs.Queries.{reading}
+use Rattle.rx_spec.proofs.Prelude.{common_steps, [], ◌≡◌, ℕ, suc, zero, ◌+◌, ◌-◌, ◌<◌, ◌≤◌, ◌↔◌, inl, inr, Option, Some}
+use Rattle.rx_spec.proofs.Prelude.{None, List, ◌∷◌, length, reverse, refl, ap, sym, ◌∙◌, subst, arith, length-reverse}
+use Rattle.rx_spec.proofs.Prelude.{slice_get-get_or, slice_get_past, Contains, slice_get, Reading, before, after}
+use Rattle.rx_spec.proofs.Prelude.{holds_at, Expression, min_len, mirror, IsLoopSafe, IsBounded, ends, reading}
+use Rattle.std.proofs.lemmas.List.{get_or-reverse}
+use Rattle.rx_spec.specs.Looks.{holds}
 use Rattle.rx_spec.specs.declared.Look.{Look}
 use Rattle.rx_spec.specs.declared.Direction.{Direction}
 use Rattle.lemmas_walks.proofs.Reaches.{pair, IsIn, IsIn-within, Rounds, Rounds-push, Reaches, reaches_lie}
@@ -31,14 +26,12 @@ Mirrored-sym r s m = record {
   where
     byte_back : (i : ℕ) → i < length s.units
         → after r.units (length r.units - (i + 1)) ≡ after s.units i
-    byte_back i h =
-        let e : length r.units - (length r.units - (i + 1) + 1) ≡ i = omega (arith, m.lengths) in
-        sym (m.bytes (length r.units - (i + 1)) (omega (arith, m.lengths))) ∙ ap (after s.units) e
+    byte_back i h = grind (arith, common_steps)
 
     look_back : (look : Look) (i : ℕ) → i ≤ length s.units
         → holds_at r look (length r.units - i) ≡ holds_at s look i
     look_back look i h =
-        let e : length r.units - (length r.units - i) ≡ i = omega (arith, m.lengths) in
+        let e : length r.units - (length r.units - i) ≡ i = omega arith in
         sym (m.looks look (length r.units - i) (omega arith)) ∙ ap (holds_at s look) e
 
 -- a list read from its other end
@@ -54,11 +47,8 @@ pub before_is_after : (hay : List ℕ) (i : ℕ) → i ≤ length hay → after 
 before_is_after hay zero h = slice_get_past (reverse hay) (length hay - 0) (rw length-reverse (omega arith))
 before_is_after hay (suc k) h = grind (arith, common_steps, reverse_at)
 
-before_at : (hay : List ℕ) (i k : ℕ) → i ≡ suc k → before hay i ≡ slice_get hay k
-before_at hay i k e = rw e refl
-
 pub after_is_before : (hay : List ℕ) (i : ℕ) → i ≤ length hay → before (reverse hay) (length hay - i) ≡ after hay i
-after_is_before hay i h = grind (arith, common_steps, before_at, reverse_at, slice_get_past, cases_lt)
+after_is_before hay i h = grind (arith, common_steps, reverse_at, slice_get_past)
 
 -- an assertion between two places is the same, from whichever end it is read
 pub look_mirrored : (t : ℕ) (hay : List ℕ) (look : Look) (i : ℕ) → i ≤ length hay
@@ -68,17 +58,15 @@ look_mirrored t hay look i h = rw (before_is_after hay i h, after_is_before hay 
 
 pub Mirrored-readings : (t : ℕ) (hay : List ℕ)
     → Mirrored (reading Direction.Forward t hay) (reading Direction.Reverse t hay)
-Mirrored-readings t hay = grind (arith, common_steps, length-reverse, reverse_at, look_mirrored)
+Mirrored-readings t hay = grind (arith, common_steps, reverse_at, look_mirrored)
 
 -- the mirror's form
 pub min_len-mirror : (e : Expression) → min_len (mirror e) ≡ min_len e
 unfolding min_len mirror
-min_len-mirror Expression.Empty = refl
-min_len-mirror (Expression.Class set) = refl
-min_len-mirror (Expression.Look look) = refl
 min_len-mirror (Expression.Concat a b) = let x = min_len-mirror a in let y = min_len-mirror b in omega arith
 min_len-mirror (Expression.Alternate a b) = let x = min_len-mirror a in let y = min_len-mirror b in rw (x, y) refl
 min_len-mirror (Expression.Repeat least most greedy body) = let x = min_len-mirror body in rw x refl
+min_len-mirror _ = refl
 
 bounded_mirror : (least : ℕ) (most : Option ℕ) (e : Expression) → IsBounded least most e
     → IsBounded least most (mirror e)
@@ -87,22 +75,18 @@ bounded_mirror least (Some most) e h = h
 
 pub IsLoopSafe-mirror : (e : Expression) → IsLoopSafe e → IsLoopSafe (mirror e)
 unfolding mirror
-IsLoopSafe-mirror Expression.Empty h = tt
-IsLoopSafe-mirror (Expression.Class set) h = tt
-IsLoopSafe-mirror (Expression.Look look) h = tt
 IsLoopSafe-mirror (Expression.Concat a b) h = (IsLoopSafe-mirror b h.1, IsLoopSafe-mirror a h.0)
 IsLoopSafe-mirror (Expression.Alternate a b) h = (IsLoopSafe-mirror a h.0, IsLoopSafe-mirror b h.1)
 IsLoopSafe-mirror (Expression.Repeat least most greedy body) h =
     (bounded_mirror least most body h.0, IsLoopSafe-mirror body h.1)
+IsLoopSafe-mirror _ h = tt
 
 pub mirror-mirror : (e : Expression) → mirror (mirror e) ≡ e
 unfolding mirror
-mirror-mirror Expression.Empty = refl
-mirror-mirror (Expression.Class set) = refl
-mirror-mirror (Expression.Look look) = refl
 mirror-mirror (Expression.Concat a b) = let x = mirror-mirror a in let y = mirror-mirror b in rw (x, y) refl
 mirror-mirror (Expression.Alternate a b) = let x = mirror-mirror a in let y = mirror-mirror b in rw (x, y) refl
 mirror-mirror (Expression.Repeat least most greedy body) = let x = mirror-mirror body in rw x refl
+mirror-mirror _ = refl
 
 module _ (R S : ℕ → ℕ → Type 0) (limit : ℕ)
     (h : (i j : ℕ) → i ≤ limit → R i j → S (limit - j) (limit - i) × (j ≤ limit)) where
@@ -142,9 +126,9 @@ module _ (r s : Reading) where
       → Reaches s (mirror e) (length r.units - j) (length r.units - i) → Reaches r e i j
   turned_back e i j m hi hj x =
       let n = length r.units in
-      let back = turned s r (mirror e) (n - j) (n - i) (Mirrored-sym r s m) (omega (arith, m.lengths)) x in
-      let ei : length s.units - (n - i) ≡ i = omega (arith, m.lengths) in
-      let ej : length s.units - (n - j) ≡ j = omega (arith, m.lengths) in
+      let back = turned s r (mirror e) (n - j) (n - i) (Mirrored-sym r s m) (omega arith) x in
+      let ei : length s.units - (n - i) ≡ i = omega arith in
+      let ej : length s.units - (n - j) ≡ j = omega arith in
       subst (λ k. Reaches r e k j) ei
       (subst (λ k. Reaches r e (length s.units - (n - i)) k) ej
       (subst (λ f. Reaches r f (length s.units - (n - i)) (length s.units - (n - j))) (mirror-mirror e) back))

@@ -1,20 +1,14 @@
 -- What a unit does to an overlapping search, as `Walking` says it of a half search.
-use Rattle.std.proofs.Common.{[], arith, ◌≡◌, ℕ, true, false, if◌then◌else◌, Some, None, List, ◌∷◌, refl, ap, ◌∙◌}
-use Rattle.std.proofs.lemmas.Grind.{common_steps}
-use Rattle.rx_spec.specs.Bytes.{contains}
-use Rattle.rx_spec.specs.Queries.{Query, is_done}
-use Rattle.rx_spec.specs.Machines.{Label, label_of, Machine, IsWord, Settings}
-use Rattle.rx_spec.specs.Starts.{StartError, start_error, start_row}
-use Rattle.rx_spec.specs.States.{State, step}
-use Rattle.rx_spec.specs.Builds.{Build, Node, is_dead_state, power}
-use Rattle.rx_spec.specs.HalfSearches.{beside, next_offset, unit_offset, match_error}
-use Rattle.rx_spec.specs.Overlapping.{Reported, Ending, OverlappingMatches, none_left, with_items, at_item_label}
-use Rattle.rx_spec.specs.Overlapping.{overlapping_walk, overlapping_from, whole_overlapping_walk, overlapping}
-use Rattle.rx_spec.specs.Overlapping.{remaining}
+use Rattle.rx_spec.proofs.Prelude.{[], arith, ◌≡◌, ℕ, true, false, if◌then◌else◌, Some, None, List, ◌∷◌, refl, ap, ◌∙◌}
+use Rattle.rx_spec.proofs.Prelude.{common_steps, contains, Query, is_done, Label, label_of, Machine, IsWord, Settings}
+use Rattle.rx_spec.proofs.Prelude.{StartError, start_error, start_row, State, step, Build, Node, is_dead_state, power}
+use Rattle.rx_spec.proofs.Prelude.{beside, next_offset, unit_offset, match_error, Ending, OverlappingMatches, none_left}
+use Rattle.rx_spec.proofs.Prelude.{with_items, at_item_label, overlapping_walk, whole_overlapping_walk, overlapping}
+use Rattle.rx_spec.proofs.Prelude.{remaining}
+use Rattle.rx_spec.specs.Overlapping.{Reported}
+use Rattle.rx_spec.specs.Overlapping.{overlapping_from}
 use Rattle.rx_spec.specs.declared.Direction.{Direction}
-use Rattle.lemmas_walks.proofs.Firsts.{by_test}
 use Rattle.lemmas_walks.proofs.SilentRows.{IsSilent, silent_label, silent_next}
-use Rattle.lemmas_walks.proofs.Walking.{next_dead, next_quits, next_steps}
 use Rattle.lemmas_walks.proofs.Words.{IsWord-head, IsWord-tail}
 
 module _ {R : Type 0} (m : Machine R) (direction : Direction) where
@@ -62,7 +56,7 @@ module _ {R : Type 0} (m : Machine R) (direction : Direction) where
       → (m.is_dead next ≡ true
       → overlapping_walk m direction next (next_offset direction offset) units ≡ none_left Ending.Ended)
       → overlapping_on unit offset units next ≡ overlapping_through unit offset units next
-  overlapping_passes unit offset units next stays = grind (arith, common_steps, by_test)
+  overlapping_passes unit offset units next stays = grind (arith, common_steps)
 
   pub overlapping_silent : (row : R) (offset : ℕ) (units : List ℕ) → IsWord units → IsSilent m row
       → overlapping_walk m direction row offset units ≡ none_left Ending.Ended
@@ -81,7 +75,7 @@ module _ {R : Type 0} (m : Machine R) (direction : Direction) where
       → (m.is_dead (m.next row unit) ≡ true → IsSilent m (m.next row unit))
       → overlapping_walk m direction row offset (unit ∷ units) ≡ overlapping_through unit offset units (m.next row unit)
   overlapping-more row unit offset units w silent =
-      grind (arith, common_steps, overlapping-cons, overlapping_passes, overlapping_silent)
+      grind (arith, common_steps, overlapping-cons, overlapping_silent)
 
 -- over a build's powerset machine: dead, quit, or on to a step of the state
 module _ (b : Build) (direction : Direction) where
@@ -91,12 +85,12 @@ module _ (b : Build) (direction : Direction) where
   pub overlapping_dead : (s : State) (offset : ℕ) (units : List ℕ) → is_dead_state s ≡ true
       → state_overlapping s offset units ≡ none_left Ending.Ended
   overlapping_dead s offset [] e = overlapping-nil (power b) direction (Node.Running s) offset
-  overlapping_dead s offset (unit ∷ units) e = grind (arith, common_steps, overlapping-cons, next_dead)
+  overlapping_dead s offset (unit ∷ units) e = grind (arith, common_steps, overlapping-cons)
 
   pub overlapping_quits : (s : State) (unit offset : ℕ) (units : List ℕ)
       → is_dead_state s ≡ false → contains b.quit unit ≡ true
       → state_overlapping s offset (unit ∷ units) ≡ none_left (Ending.Quits unit (unit_offset direction offset))
-  overlapping_quits s unit offset units e f = grind (arith, common_steps, overlapping-cons, next_quits)
+  overlapping_quits s unit offset units e f = grind (arith, common_steps, overlapping-cons)
 
   pub overlapping_steps : (s : State) (unit offset : ℕ) (units : List ℕ)
       → is_dead_state s ≡ false → contains b.quit unit ≡ false
@@ -104,7 +98,7 @@ module _ (b : Build) (direction : Direction) where
       ≡ at_item_label (label_of (step b.nfa b.kind s unit).label) direction unit offset
       (state_overlapping (step b.nfa b.kind s unit) (next_offset direction offset) units)
   overlapping_steps s unit offset units e f =
-      grind (arith, common_steps, overlapping-cons, next_steps, overlapping_passes, overlapping_dead)
+      grind (arith, common_steps, overlapping-cons, overlapping_dead)
 
 -- the search: done, refused, or a walk
 module _ {R : Type 0} (m : Machine R) (s : Settings) (direction : Direction) (q : Query) where

@@ -1,22 +1,16 @@
 -- Where the answers of an overlapping search come from, as `WalkBounds` says it of a half search.
-use Rattle.std.proofs.Common.{[], arith, rules, ◌≡◌, ℕ, ◌≤◌, ◌⊎◌, inr, ⊎_elim, Bool, if◌then◌else◌, Some, List, ◌∷◌}
-use Rattle.std.proofs.Common.{refl, ap, sym, ◌∙◌, subst}
-use Rattle.std.proofs.lemmas.Grind.{common_steps}
-use Rattle.std.proofs.lemmas.Bool.{lt-ltb}
-use Rattle.std.specs.Prelude.{Contains}
-use Rattle.rx_spec.specs.Queries.{Query, HalfMatch, MatchError}
-use Rattle.rx_spec.specs.Machines.{Label, Machine, Settings}
-use Rattle.rx_spec.specs.Starts.{StartError, start_error, start_row}
-use Rattle.rx_spec.specs.HalfSearches.{units_of, beside, first_offset, next_offset, unit_offset, match_error}
-use Rattle.rx_spec.specs.Overlapping.{Item, Ending, OverlappingMatches, none_left, pattern_items, at_item_label}
-use Rattle.rx_spec.specs.Overlapping.{overlapping_walk, overlapping}
+use Rattle.rx_spec.proofs.Prelude.{[], arith, rules, ◌≡◌, ℕ, ◌≤◌, ◌⊎◌, inr, ⊎_elim, Bool, if◌then◌else◌, Some, List}
+use Rattle.rx_spec.proofs.Prelude.{◌∷◌, refl, ap, sym, ◌∙◌, subst, common_steps, Contains, Query, HalfMatch, MatchError}
+use Rattle.rx_spec.proofs.Prelude.{Label, Machine, Settings, StartError, start_error, start_row, units_of, beside}
+use Rattle.rx_spec.proofs.Prelude.{first_offset, next_offset, unit_offset, match_error, Item, Ending}
+use Rattle.rx_spec.proofs.Prelude.{OverlappingMatches, none_left, pattern_items, at_item_label, overlapping_walk}
+use Rattle.rx_spec.proofs.Prelude.{overlapping}
 use Rattle.rx_spec.specs.declared.Direction.{Direction}
 use Rattle.lemmas_walks.proofs.WalkBounds.{offset_in_span, offset_after-next, offset_after-zero, Came, came_first}
 use Rattle.lemmas_walks.proofs.WalkBounds.{came_later, LeadsToItem, LeadsToQuit}
 use Rattle.lemmas_walks.proofs.Firsts.{by_test, Contains-here, Contains-there, Contains-nil, Contains-cases}
-use Rattle.lemmas_walks.proofs.HalfSearches.{Refused, begins, going}
-use Rattle.lemmas_walks.proofs.Overlapping.{overlapping-nil, overlapping-cons, overlapping_done, overlapping_refused}
-use Rattle.lemmas_walks.proofs.Overlapping.{overlapping_walks}
+use Rattle.lemmas_walks.proofs.HalfSearches.{Refused, begins}
+use Rattle.lemmas_walks.proofs.Overlapping.{overlapping-nil, overlapping-cons}
 
 -- a reported item is one of the patterns at the offset
 of_patterns : (ks : List ℕ) (offset : ℕ) (h : HalfMatch) → Contains (pattern_items ks offset) (Item.Reported h)
@@ -46,16 +40,12 @@ module _ {R : Type 0} (m : Machine R) (direction : Direction) where
   item_or Label.Plain unit offset later h c = inr c
   item_or (Label.Matches ks) unit offset later h c = grind (arith, common_steps)
 
-  same_quit : (unit byte o offset : ℕ) → Ending.Quits unit o ≡ Ending.Quits byte offset
-      → MatchError.Quit byte offset ≡ MatchError.Quit unit o
-  same_quit unit byte o offset e = cc
-
   -- and so is where it quits
   quits_or : (label : Label) (unit offset : ℕ) (later : OverlappingMatches) (byte at : ℕ)
       → (at_item_label label direction unit offset later).ending ≡ Ending.Quits byte at
       → ((label ≡ Label.Quits) × (MatchError.Quit byte at ≡ MatchError.Quit unit (unit_offset direction offset)))
       ⊎ (later.ending ≡ Ending.Quits byte at)
-  quits_or Label.Quits unit offset later byte at e = grind (arith, common_steps, same_quit)
+  quits_or Label.Quits unit offset later byte at e = grind (arith, common_steps)
   quits_or Label.Plain unit offset later byte at e = inr e
   quits_or (Label.Matches ks) unit offset later byte at e = inr e
 
@@ -164,17 +154,7 @@ module _ {R : Type 0} (m : Machine R) (s : Settings) (direction : Direction) (q 
       × Came m (start_row m s (beside direction q) q.mode) (units_of direction q)
       (LeadsToItem m direction (first_offset direction q) h)
   search_met h c =
-      grind (
-        arith,
-        common_steps,
-        begins,
-        overlapping_done,
-        lt-ltb,
-        overlapping_refused,
-        going,
-        overlapping_met,
-        overlapping_walks,
-      )
+      grind (arith, common_steps, begins, overlapping_met)
 
   pub overlapping_in_span : (h : HalfMatch) → Contains (overlapping m s direction q).items (Item.Reported h)
       → (q.start ≤ h.offset) × (h.offset ≤ q.end)
@@ -190,21 +170,11 @@ module _ {R : Type 0} (m : Machine R) (s : Settings) (direction : Direction) (q 
       × Came m (start_row m s (beside direction q) q.mode) (units_of direction q)
       (LeadsToQuit m direction (first_offset direction q) (MatchError.Quit byte at))
   search_quit byte at e =
-      grind (
-        arith,
-        common_steps,
-        begins,
-        overlapping_done,
-        lt-ltb,
-        overlapping_refused,
-        going,
-        overlapping_quit,
-        overlapping_walks,
-      )
+      grind (arith, common_steps, begins, overlapping_quit)
 
   pub search_refused : (error : MatchError) → (overlapping m s direction q).ending ≡ Ending.Refused error
       → (q.start ≤ q.end)
       × ((refused : StartError) × (start_error s (beside direction q) q.mode ≡ Some refused)
       × (error ≡ match_error direction q refused))
   search_refused error e =
-      search (rules, begins, overlapping_done, lt-ltb, overlapping_refused, going, not_refused, overlapping_walks)
+      search (rules, begins, not_refused)

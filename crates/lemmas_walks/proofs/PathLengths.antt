@@ -1,12 +1,9 @@
 -- Paths of an expression's rows that read nothing are no longer than the square of the number of rows.
-use Rattle.std.proofs.lemmas.Grind.{common_steps}
-use Rattle.std.proofs.Common.{[], ◌≡◌, ℕ, zero, suc, ◌+◌, ◌-◌, ◌*◌, ◌<◌, ◌≤◌, Bool, true, false, Option, Some, None}
-use Rattle.std.proofs.Common.{List, ◌∷◌, ◌++◌, length, subst, arith, length-append, ◌⊎◌, inl, inr, ⊎_elim}
-use Rattle.rx_spec.specs.Expressions.{Expression, min_len, IsLoopSafe, IsBounded}
-use Rattle.rx_spec.specs.Rows.{Row, Maker, straight, row_to, chained, either, choice, copies, optional, loop, repeated}
-use Rattle.rx_spec.specs.Rows.{compile, repeated_count, rows_count}
-use Rattle.rx_spec.specs.States.{row_at}
-use Rattle.rx_spec.specs.Shallow.{AllNext, Short}
+use Rattle.rx_spec.proofs.Prelude.{common_steps, [], ◌≡◌, ℕ, zero, suc, ◌+◌, ◌-◌, ◌*◌, ◌<◌, ◌≤◌, Bool, true, false}
+use Rattle.rx_spec.proofs.Prelude.{Option, Some, None, List, ◌∷◌, ◌++◌, length, subst, arith, length-append, ◌⊎◌, inl}
+use Rattle.rx_spec.proofs.Prelude.{inr, ⊎_elim, Expression, min_len, IsLoopSafe, IsBounded, Row, Maker, straight}
+use Rattle.rx_spec.proofs.Prelude.{row_to, chained, either, choice, copies, optional, loop, repeated, compile}
+use Rattle.rx_spec.proofs.Prelude.{repeated_count, rows_count, row_at, AllNext, Short}
 use Rattle.rx_spec.specs.declared.Look.{Look}
 use Rattle.lemmas_walks.proofs.RowPlaces.{Stands, stands-left, stands-right, EachFrom, each-append, each-weaker}
 use Rattle.lemmas_walks.proofs.ShortPaths.{short-more}
@@ -22,12 +19,12 @@ unfolding Short
 short_at rows n q row e h = grind (arith, common_steps)
 
 factors : (m n : ℕ) → 0 < m * n → (0 < m) × (0 < n)
-factors zero n h = absurd (omega (arith, h))
-factors (suc m) zero h = absurd (omega (arith, h))
+factors zero n h = absurd (omega arith)
+factors (suc m) zero h = absurd (omega arith)
 factors (suc m) (suc n) h = (omega arith, omega arith)
 
 either_above : (m n : ℕ) → 0 < m + n → (0 < m) ⊎ (0 < n)
-either_above zero n h = inr (omega (arith, h))
+either_above zero n h = inr (omega arith)
 either_above (suc m) n h = inl (omega arith)
 
 module _ (rows : List Row) where
@@ -67,7 +64,7 @@ module _ (rows : List Row) where
   -- ---- the kinds of part
 
   straight_lengthens : Lengthens straight 0
-  straight_lengthens = grind (arith, common_steps, more)
+  straight_lengthens = grind (arith, common_steps)
 
   class_lengthens : (set : ℕ) → Lengthens (row_to (Row.Bytes set)) 1
   class_lengthens set = grind (arith, common_steps, short_at)
@@ -134,7 +131,7 @@ module _ (rows : List Row) where
           (each_more (base + length a.rows) b.rows (n + d * d) all (s.each (base + length a.rows) next n right h)
           (omega arith)))
           (omega (arith, length-append a.rows b.rows))
-          (more q (n + (c + d + 1)) all (either_split base next n stands h) (omega (arith, square_le (c + d + 1))));
+          (more q (n + (c + d + 1)) all (either_split base next n stands h) (omega arith));
     }
 
   copies_lengthen : {body : Maker} {c : ℕ} → Lengthens body c → (n : ℕ) → Lengthens (copies n body) (n * c)
@@ -184,20 +181,14 @@ module _ (rows : List Row) where
             (each_more base inner.rows (n + i * i) all (o.each base next n left h) (omega arith))
             (each_more (base + length inner.rows) round.rows (n + i + c * c) all
             (s.each (base + length inner.rows) inner.entry (n + i) right (o.entry base next n left h))
-            (omega (arith, square_le i))))
+            (omega arith)))
             (omega (arith, length-append inner.rows round.rows))
-            (more q (n + (i + c + 1)) all (optional_split base next n stands h) (omega (arith, square_le (i + c + 1))));
+            (more q (n + (i + c + 1)) all (optional_split base next n stands h) (omega arith));
       }
 
     optional_lengthens : (n : ℕ) → Lengthens (optional greedy n body) (n * (c + 1))
     unfolding optional
-    optional_lengthens zero =
-        let none : 0 ≡ 0 * (c + 1) = omega arith in
-        let nothing : Lengthens (optional greedy zero body) 0 = record {
-          entry = λ base next n stands h. more next n (n + 0) h (omega arith);
-          each = λ base next n stands h. tt;
-        } in
-        subst (λ m. Lengthens (optional greedy zero body) m) none nothing
+    optional_lengthens zero = grind (arith, common_steps, more)
     optional_lengthens (suc n) =
         let one_more : n * (c + 1) + c + 1 ≡ suc n * (c + 1) = omega arith in
         subst (λ m. Lengthens (optional greedy (suc n) body) m) one_more
@@ -247,12 +238,12 @@ module _ (rows : List Row) where
   either_stops : {first second : Maker} {c d : ℕ} → Stops first c → Stops second d
       → Stops (either first second) (c + d + 1)
   either_stops {first} {second} {c} {d} f s =
-      grind (arith, common_steps, stands-left, stands-right, last_short, length-append, more)
+      grind (arith, common_steps, stands-left, stands-right, last_short, more)
 
   copies_stop : {body : Maker} {c : ℕ} → Lengthens body c → Stops body c → (n : ℕ) → 0 < n
       → Stops (copies n body) (n * c)
   unfolding copies
-  copies_stop s b zero above = absurd (omega (arith, above))
+  copies_stop s b zero above = absurd (omega arith)
   copies_stop {body} {c} s b (suc n) above =
       let one_more : n * c + c ≡ suc n * c = omega arith in
       subst (λ m. Stops (chained (copies n body) body) m) one_more (then_stops (copies_lengthen s n) b)
@@ -288,16 +279,15 @@ module _ (rows : List Row) where
             let all : least * c + (c + 1) ≡ (least + 1) * c + 1 = omega arith in
             subst (λ m. Stops (chained (copies least (compile e)) (loop greedy (compile e))) m) all
             (chained_stops (loop greedy (compile e)) (c + 1) rounds)
-        by_most (Some most) =
-            chained_stops (optional greedy (most - least) (compile e)) ((most - least) * (c + 1)) rounds
+        by_most (Some most) = grind (arith, common_steps, chained_stops, rounds)
 
   -- An expression's rows lengthen paths by at most the square of their number.
   pub compile_lengthens : (e : Expression) → IsLoopSafe e
       → Lengthens (compile e) (rows_count e) × (0 < min_len e → Stops (compile e) (rows_count e))
   unfolding compile rows_count min_len
-  compile_lengthens Expression.Empty safe = (straight_lengthens, λ above. absurd (omega (arith, above)))
+  compile_lengthens Expression.Empty safe = (straight_lengthens, λ above. absurd (omega arith))
   compile_lengthens (Expression.Class set) safe = (class_lengthens set, λ above. class_stops set)
-  compile_lengthens (Expression.Look look) safe = (look_lengthens look, λ above. absurd (omega (arith, above)))
+  compile_lengthens (Expression.Look look) safe = (look_lengthens look, λ above. absurd (omega arith))
   compile_lengthens (Expression.Concat a b) safe =
       let f = compile_lengthens a safe.0 in
       let s = compile_lengthens b safe.1 in (
@@ -309,7 +299,7 @@ module _ (rows : List Row) where
   compile_lengthens (Expression.Alternate a b) safe =
       let f = compile_lengthens a safe.0 in
       let s = compile_lengthens b safe.1 in
-      (either_lengthens f.0 s.0, λ above. either_stops (f.1 (omega (arith, above))) (s.1 (omega (arith, above))))
+      (either_lengthens f.0 s.0, λ above. either_stops (f.1 (omega arith)) (s.1 (omega arith)))
   compile_lengthens (Expression.Repeat least most greedy body) safe =
       let h = compile_lengthens body safe.1 in (
         repeated_lengthens least most greedy body (rows_count body) h.0 h.1 safe.0,

@@ -1,21 +1,14 @@
 -- What the start rows of an NFA give, and how deep all its rows are.
-use Rattle.std.proofs.lemmas.Grind.{common_steps}
-use Rattle.std.proofs.Common.{[], ◌≡◌, ℕ, zero, suc, ◌+◌, ◌*◌, ◌<◌, ◌≤◌, Bool, true, false, List, ◌∷◌, ◌++◌, length}
-use Rattle.std.proofs.Common.{refl, sym, subst, arith, le_refl, length-append, ⊎_elim}
-use Rattle.std.proofs.lemmas.Bool.{cases_lt}
-use Rattle.std.proofs.lemmas.Nat.{mul-le}
-use Rattle.std.specs.List.{AllByRecursion as Every, list_all}
-use Rattle.rx_spec.specs.Bytes.{all_bytes}
-use Rattle.rx_spec.specs.Expressions.{Expression, IsLoopSafe}
-use Rattle.rx_spec.specs.Rows.{Row, Part, compile, rows_count}
-use Rattle.rx_spec.specs.Nfas.{Patterns, patterns_from, start_of_all, lead_in}
-use Rattle.rx_spec.specs.Edge.{begins_with_edge}
-use Rattle.rx_spec.specs.States.{row_at}
+use Rattle.rx_spec.proofs.Prelude.{common_steps, [], ◌≡◌, ℕ, zero, suc, ◌+◌, ◌*◌, ◌<◌, ◌≤◌, Bool, true, false, List}
+use Rattle.rx_spec.proofs.Prelude.{◌∷◌, ◌++◌, length, refl, sym, subst, arith, le_refl, length-append, ⊎_elim, cases_lt}
+use Rattle.rx_spec.proofs.Prelude.{mul-le, list_all, all_bytes, Expression, IsLoopSafe, Row, Part, compile, rows_count}
+use Rattle.rx_spec.proofs.Prelude.{patterns_from, start_of_all, lead_in, begins_with_edge, row_at, Short}
+use Rattle.std.specs.List.{AllByRecursion as Every}
+use Rattle.rx_spec.specs.Nfas.{Patterns}
 use Rattle.rx_spec.specs.declared.Direction.{Direction}
 use Rattle.lemmas_walks.proofs.Rows.{rows_counted}
 use Rattle.lemmas_walks.proofs.RowPlaces.{Stands, stands-left, stands-right, stands_all, EachFrom, each-append}
 use Rattle.lemmas_walks.proofs.RowPlaces.{each-weaker, each-at}
-use Rattle.rx_spec.specs.Shallow.{Short}
 use Rattle.lemmas_walks.proofs.ShortPaths.{short-more}
 use Rattle.lemmas_walks.proofs.PathLengths.{square_le, short_at, compile_lengthens}
 
@@ -40,8 +33,8 @@ depth_of rows = length rows * length rows + 1
 
 row_past : (rows : List Row) (q : ℕ) → length rows ≤ q → row_at rows q ≡ Row.Fail
 row_past [] q h = refl
-row_past (row ∷ rows) zero h = absurd (omega (arith, h))
-row_past (row ∷ rows) (suc q) h = row_past rows q (omega (arith, h))
+row_past (row ∷ rows) zero h = absurd (omega arith)
+row_past (row ∷ rows) (suc q) h = row_past rows q (omega arith)
 
 stands_at : (rows : List Row) (a b : ℕ) (xs : List Row) → a ≡ b → Stands rows a xs → Stands rows b xs
 stands_at rows a b xs e h = subst (λ q. Stands rows q xs) e h
@@ -72,15 +65,15 @@ module _ (rows : List Row) where
       let place : base + suc (length part.rows) ≡ base + 1 + length part.rows = omega arith in
       let accept : Short rows 1 base = short_at rows 0 base (Row.Match k) front.0 tt in
       let sinks = (compile_lengthens rows e safe.0).0 in
-      let rest = pattern_depths es safe.1 (base + 1 + length part.rows) (k + 1) m (omega (arith, le, total))
+      let rest = pattern_depths es safe.1 (base + 1 + length part.rows) (k + 1) m (omega arith)
       (subst (λ b. Stands rows b others.rows) place back) in
-      let few : c ≤ m = omega (arith, le, total, counted) in
+      let few : c ≤ m = omega arith in
       let square : c * c ≤ m * m = mul-le c c m m few few in
       let entry = sinks.entry (base + 1) base 1 front.1 accept in
       let inner = each-weaker (DeepFor (1 + c * c)) (DeepFor (m * m + 1)) (base + 1) part.rows
-      (λ q h. short-more rows (1 + c * c) (m * m + 1) q (omega (arith, square)) h)
+      (λ q h. short-more rows (1 + c * c) (m * m + 1) q (omega arith) h)
       (sinks.each (base + 1) base 1 front.1 accept) in (
-        (short-more rows (1 + c) m part.entry (omega (arith, le, total, counted)) entry, rest.0),
+        (short-more rows (1 + c) m part.entry (omega arith) entry, rest.0),
         each-append (DeepFor (m * m + 1)) base (Row.Match k ∷ part.rows) others.rows
             (short-more rows 1 (m * m + 1) base (omega arith) accept, inner)
             (subst (λ b. EachFrom (DeepFor (m * m + 1)) b others.rows) (sym place) rest.1),
@@ -107,11 +100,11 @@ module _ (rows : List Row) where
       let all = m + length (others.rows ++ last) in
       let split = split_deep (base + n) entry others.entry (m + n) at.0
       (short-more rows m (m + n) entry (omega arith) h.0) ih.0 in
-      let deep = short-more rows (m + n + 1) all (base + n) (omega (arith, total)) split in (
+      let deep = short-more rows (m + n + 1) all (base + n) (omega arith) split in (
         deep,
         each-append (DeepFor all) base others.rows last
             (each-weaker (DeepFor (m + n)) (DeepFor all) base others.rows
-            (λ q k. short-more rows (m + n) all q (omega (arith, total)) k) ih.1)
+            (λ q k. short-more rows (m + n) all q (omega arith) k) ih.1)
             (deep, tt),
       )
 
@@ -157,18 +150,18 @@ nfa_deep direction es safe q =
     (stands-right rows 0 ps.rows a.rows front)) in
     let base = length ps.rows + length a.rows in
     let l = lead_depths rows (list_all (begins_with_edge direction) es) base a.entry base
-    (stands_at rows (0 + length (ps.rows ++ a.rows)) base u.rows (omega (arith, inner))
+    (stands_at rows (0 + length (ps.rows ++ a.rows)) base u.rows (omega arith)
     (stands-right rows 0 (ps.rows ++ a.rows) u.rows stands)) j.0 in
-    let less : length ps.rows ≤ n = omega (arith, total, inner) in
+    let less : length ps.rows ≤ n = omega arith in
     let few : length ps.rows * length ps.rows ≤ n * n = mul-le (length ps.rows) (length ps.rows) n n less less in
     let each : EachFrom (λ x. Short rows all x) 0 rows =
     each-append (λ x. Short rows all x) 0 (ps.rows ++ a.rows) u.rows
     (each-append (λ x. Short rows all x) 0 ps.rows a.rows
     (each-weaker (λ x. Short rows (length ps.rows * length ps.rows + 1) x) (λ x. Short rows all x) 0 ps.rows
-    (λ x h. short-more rows (length ps.rows * length ps.rows + 1) all x (omega (arith, few)) h) p.1)
+    (λ x h. short-more rows (length ps.rows * length ps.rows + 1) all x (omega arith) h) p.1)
     (each_at rows (length ps.rows) (0 + length ps.rows) a.rows (omega arith)
-    (omega (arith, total, inner, square)) j.1))
-    (each_at rows base (0 + length (ps.rows ++ a.rows)) u.rows (omega (arith, inner))
-    (omega (arith, total, inner, square)) l.1) in
-    ⊎_elim (λ (within : q < n). each-at (λ x. Short rows all x) 0 rows each q (omega arith) (omega (arith, within)))
+    (omega arith) j.1))
+    (each_at rows base (0 + length (ps.rows ++ a.rows)) u.rows (omega arith)
+    (omega arith) l.1) in
+    ⊎_elim (λ (within : q < n). each-at (λ x. Short rows all x) 0 rows each q (omega arith) (omega arith))
     (λ (past : n ≤ q). past_deep rows q (n * n) past) (cases_lt q n)

@@ -1,15 +1,13 @@
 -- The rows of both directions have the same Unicode word assertions, so both builds have one quit set.
-use Rattle.std.proofs.Common.{[], arith, rules, ◌≡◌, ℕ, suc, zero, ◌+◌, ◌-◌, Bool, true, false, ◌||◌, Option, Some}
-use Rattle.std.proofs.Common.{None, List, ◌∷◌, ◌++◌, map, length, refl, ap, ap₂, ◌∙◌}
-use Rattle.std.proofs.lemmas.Grind.{common_steps}
-use Rattle.std.specs.List.{list_any}
-use Rattle.rx_spec.specs.Expressions.{Expression, mirror}
-use Rattle.rx_spec.specs.Rows.{Row, Maker, chained, either, choice, copies, optional, loop, repeated, compile}
-use Rattle.rx_spec.specs.Nfas.{patterns_from, start_of_all, lead_in, nfa_of, read_as}
+use Rattle.rx_spec.proofs.Prelude.{[], arith, rules, ◌≡◌, ℕ, suc, zero, ◌+◌, ◌-◌, Bool, true, false, ◌||◌, Option, Some}
+use Rattle.rx_spec.proofs.Prelude.{None, List, ◌∷◌, ◌++◌, map, length, refl, ap, ap₂, ◌∙◌, common_steps, list_any}
+use Rattle.rx_spec.proofs.Prelude.{Expression, mirror, Row, Maker, chained, either, choice, copies, optional, loop}
+use Rattle.rx_spec.proofs.Prelude.{repeated, compile, patterns_from, start_of_all, lead_in, nfa_of, read_as, Plan}
+use Rattle.rx_spec.proofs.Prelude.{plan_build, is_unicode_word, or-false, contains}
 use Rattle.rx_spec.specs.Classes.{looks_for_unicode_word}
-use Rattle.rx_spec.specs.Plans.{Plan, plan_build}
-use Rattle.rx_spec.specs.Looks.{is_unicode_word}
 use Rattle.rx_spec.specs.declared.Direction.{Direction}
+use Rattle.std.proofs.Math.Bool.{or_comm, or_self}
+use Rattle.std.proofs.lemmas.Nat.Bits.{bit_at-zero}
 
 abbrev any_unicode : List Row → Bool
 any_unicode rows = list_any looks_for_unicode_word rows
@@ -17,20 +15,6 @@ any_unicode rows = list_any looks_for_unicode_word rows
 any_append : (xs ys : List Row) → any_unicode (xs ++ ys) ≡ (any_unicode xs || any_unicode ys)
 any_append [] ys = refl
 any_append (x ∷ xs) ys = grind (arith, common_steps)
-
-or_false : (a : Bool) → (a || false) ≡ a
-or_false true = refl
-or_false false = refl
-
-or_same : (a : Bool) → (a || a) ≡ a
-or_same true = refl
-or_same false = refl
-
-or_comm : (a b : Bool) → (a || b) ≡ (b || a)
-or_comm true true = refl
-or_comm true false = refl
-or_comm false true = refl
-or_comm false false = refl
 
 -- whether a part's rows have such an assertion, wherever they stand
 abbrev Asserts : Maker → Bool → Type 0
@@ -56,25 +40,23 @@ unicode_in (Expression.Repeat least most greedy body) = rounds_of least most (un
 
 unicode_mirror : (e : Expression) → unicode_in (mirror e) ≡ unicode_in e
 unfolding unicode_in mirror
-unicode_mirror Expression.Empty = refl
-unicode_mirror (Expression.Class set) = refl
-unicode_mirror (Expression.Look look) = refl
 unicode_mirror (Expression.Concat a b) =
     ap₂ (λ (x y : Bool). x || y) (unicode_mirror b) (unicode_mirror a) ∙ or_comm (unicode_in b) (unicode_in a)
 unicode_mirror (Expression.Alternate a b) = ap₂ (λ (x y : Bool). x || y) (unicode_mirror a) (unicode_mirror b)
 unicode_mirror (Expression.Repeat least most greedy body) = ap (rounds_of least most) (unicode_mirror body)
+unicode_mirror _ = refl
 
 chained_asserts : (first second : Maker) (a b : Bool) → Asserts first a → Asserts second b
     → Asserts (chained first second) (a || b)
-chained_asserts first second a b f s base next = grind (arith, common_steps, any_append, or_comm)
+chained_asserts first second a b f s base next = grind (arith, common_steps)
 
 either_asserts : (first second : Maker) (a b : Bool) → Asserts first a → Asserts second b
     → Asserts (either first second) (a || b)
-either_asserts first second a b f s base next = grind (arith, common_steps, any_append, or_false)
+either_asserts first second a b f s base next = grind (arith, common_steps, any_append, or-false)
 
 some_more : (n : ℕ) (b : Bool) → (some_of n b || b) ≡ b
 some_more zero b = refl
-some_more (suc n) b = or_same b
+some_more (suc n) b = or_self b
 
 copies_assert : (body : Maker) (b : Bool) → Asserts body b → (n : ℕ) → Asserts (copies n body) (some_of n b)
 unfolding copies
@@ -96,13 +78,13 @@ optional_asserts greedy body b h (suc n) base next =
     let last : List Row = choice greedy round.entry next ∷ [] in
     any_append (inner.rows ++ round.rows) last
     ∙ ap (λ (x : Bool). any_unicode (inner.rows ++ round.rows) || x) (choice_plain greedy round.entry next [])
-    ∙ or_false (any_unicode (inner.rows ++ round.rows))
+    ∙ or-false (any_unicode (inner.rows ++ round.rows))
     ∙ any_append inner.rows round.rows
     ∙ ap₂ (λ (x y : Bool). x || y) (optional_asserts greedy body b h n base next)
     (h (base + length inner.rows) inner.entry) ∙ some_more n b
 
 loop_asserts : (greedy : Bool) (body : Maker) (b : Bool) → Asserts body b → Asserts (loop greedy body) b
-loop_asserts greedy body b h base next = grind (arith, common_steps, choice_plain)
+loop_asserts greedy body b h base next = grind (arith, common_steps)
 
 repeated_asserts : (least : ℕ) (most : Option ℕ) (greedy : Bool) (body : Maker) (b : Bool) → Asserts body b
     → Asserts (repeated least most greedy body) (rounds_of least most b)
@@ -110,13 +92,13 @@ repeated_asserts least None greedy body b h base next =
     chained_asserts (copies least body) (loop greedy body) (some_of least b) b (copies_assert body b h least)
     (loop_asserts greedy body b h) base next ∙ some_more least b
 repeated_asserts least (Some most) greedy body b h base next =
-    grind (arith, common_steps, chained_asserts, copies_assert, optional_asserts)
+    grind (arith, common_steps, copies_assert, optional_asserts)
 
 compile_asserts : (e : Expression) → Asserts (compile e) (unicode_in e)
 unfolding compile unicode_in
 compile_asserts Expression.Empty base next = refl
 compile_asserts (Expression.Class set) base next = refl
-compile_asserts (Expression.Look look) base next = or_false (is_unicode_word look)
+compile_asserts (Expression.Look look) base next = or-false (is_unicode_word look)
 compile_asserts (Expression.Concat a b) base next =
     chained_asserts (compile a) (compile b) (unicode_in a) (unicode_in b) (compile_asserts a)
     (compile_asserts b) base next
@@ -143,7 +125,7 @@ joined_plain base (entry ∷ []) = refl
 joined_plain base (entry ∷ (next ∷ entries)) =
     let others = start_of_all base (next ∷ entries) in
     let last : List Row = Row.Split entry others.entry ∷ [] in
-    any_append others.rows last ∙ or_false (any_unicode others.rows) ∙ joined_plain base (next ∷ entries)
+    any_append others.rows last ∙ or-false (any_unicode others.rows) ∙ joined_plain base (next ∷ entries)
 
 lead_in_plain : (b : Bool) (base anchored : ℕ) → any_unicode (lead_in b base anchored).rows ≡ false
 lead_in_plain true base anchored = refl
@@ -153,7 +135,7 @@ nfa_asserts : (direction : Direction) (t : ℕ) (utf8 : Bool) (es : List Express
     → any_unicode (nfa_of direction t utf8 es).rows ≡ list_any unicode_in (map (read_as direction) es)
 unfolding nfa_of
 nfa_asserts direction t utf8 es =
-    grind (arith, common_steps, any_append, lead_in_plain, or_false, joined_plain, patterns_assert)
+    grind (arith, common_steps, any_append, lead_in_plain, or-false, joined_plain, patterns_assert)
 
 read_alike : (es : List Expression)
     → list_any unicode_in (map (read_as Direction.Reverse) es)
@@ -171,3 +153,7 @@ unicode_alike t utf8 es = search (rules, nfa_asserts, read_alike)
 pub quits_alike : (w : Plan) (es : List Expression)
     → (plan_build w Direction.Reverse es).quit ≡ (plan_build w Direction.Forward es).quit
 quits_alike w es = let e = unicode_alike w.line_terminator false es in rw e refl
+
+-- the empty set has no unit
+pub contains-empty : (unit : ℕ) → contains 0 unit ≡ false
+contains-empty unit = grind (arith, common_steps, bit_at-zero)

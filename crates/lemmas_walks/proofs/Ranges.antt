@@ -1,10 +1,6 @@
 -- The first success among numbers in a row.
-use Rattle.std.proofs.lemmas.Grind.{common_steps}
-use Rattle.std.proofs.Common.{◌≡◌, ℕ, suc, zero, ◌+◌, ◌<◌, ◌⊎◌, inl, inr, ⊎_elim, Option, Some, None, refl, ap, ap₂}
-use Rattle.std.proofs.Common.{sym, ◌∙◌, subst, arith}
-use Rattle.std.specs.Option.{option_or}
-use Rattle.std.specs.List.{range_with_len}
-use Rattle.rx_spec.specs.Found.{first_of}
+use Rattle.rx_spec.proofs.Prelude.{common_steps, ◌≡◌, ℕ, suc, zero, ◌+◌, ◌<◌, ◌⊎◌, inl, inr, ⊎_elim, Option, Some, None}
+use Rattle.rx_spec.proofs.Prelude.{refl, ap, ap₂, sym, ◌∙◌, subst, arith, option_or, range_with_len, first_of}
 
 -- f succeeds first at the i-th number from a on, of n
 pub record FirstAt {V : Type 0} (f : ℕ → Option V) (a n : ℕ) (v : V) : Type 0 where
@@ -12,6 +8,16 @@ pub record FirstAt {V : Type 0} (f : ℕ → Option V) (a n : ℕ) (v : V) : Typ
   pub within : place < n
   pub gives : f (a + place) ≡ Some v
   pub none_before : (k : ℕ) → k < place → f (a + k) ≡ None
+
+-- of several, the first that is there
+module _ {V : Type 0} where
+  pub or_assoc : (a b c : Option V) → option_or (option_or a b) c ≡ option_or a (option_or b c)
+  or_assoc None b c = refl
+  or_assoc (Some v) b c = refl
+
+  pub or_none : (a : Option V) → option_or a None ≡ a
+  or_none None = refl
+  or_none (Some v) = refl
 
 module _ {V : Type 0} (f : ℕ → Option V) where
   range_nil : (a : ℕ) → first_of f (range_with_len a 0) ≡ None
@@ -60,17 +66,12 @@ module _ {V : Type 0} (f : ℕ → Option V) where
       none_at a place g h (suc k) l = shifted a k None (h k (omega arith))
 
       at_first : f a ≡ Some v → FirstAt f a (suc n) v
-      at_first g = record {
-        place = 0;
-        within = omega arith;
-        gives = here a (Some v) g;
-        none_before = λ k h. absurd (omega arith);
-      }
+      at_first g = grind (arith, common_steps, here)
 
       later : f a ≡ None → FirstAt f (a + 1) n v → FirstAt f a (suc n) v
       later g rest = record {
         place = suc rest.place;
-        within = omega (arith, rest.within);
+        within = omega arith;
         gives = shifted a rest.place (Some v) rest.gives;
         none_before = none_at a rest.place g rest.none_before;
       }
@@ -85,7 +86,7 @@ module _ {V : Type 0} (f : ℕ → Option V) where
 
   pub none_in_range : (a n : ℕ) → first_of f (range_with_len a n) ≡ None → (k : ℕ) → k < n → f (a + k) ≡ None
   none_in_range a zero e k h = absurd (omega arith)
-  none_in_range a (suc n) e zero h = grind (arith, common_steps, here, or_none_both, range_cons)
+  none_in_range a (suc n) e zero h = grind (arith, common_steps, range_cons)
   none_in_range a (suc n) e (suc k) h =
       shifted a k None
       (none_in_range (a + 1) n
@@ -94,23 +95,12 @@ module _ {V : Type 0} (f : ℕ → Option V) where
   pub range_first_at : (place a n : ℕ) (v : V) → place < n → f (a + place) ≡ Some v
       → ((k : ℕ) → k < place → f (a + k) ≡ None) → first_of f (range_with_len a n) ≡ Some v
   range_first_at place a zero v within g none = absurd (omega arith)
-  range_first_at zero a (suc n) v within g none = grind (arith, common_steps, range_cons, here_back)
+  range_first_at zero a (suc n) v within g none = grind (arith, common_steps, range_cons)
   range_first_at (suc place) a (suc n) v within g none =
       range_cons a n
       ∙ ap₂ option_or (here_back a None (none 0 (omega arith)))
       (range_first_at place (a + 1) n v (omega arith) (shifted_back a place (Some v) g)
       (λ k l. shifted_back a k None (none (suc k) (omega arith))))
-
-  pub range_first : (a n : ℕ) (v : V) → FirstAt f a n v → first_of f (range_with_len a n) ≡ Some v
-  range_first a n v h = range_first_at h.place a n v h.within h.gives h.none_before
-
-  or_assoc : (a b c : Option V) → option_or (option_or a b) c ≡ option_or a (option_or b c)
-  or_assoc None b c = refl
-  or_assoc (Some v) b c = refl
-
-  or_none : (a : Option V) → option_or a None ≡ a
-  or_none None = refl
-  or_none (Some v) = refl
 
   -- one number more at the end
   pub range_push : (a n : ℕ)

@@ -1,14 +1,10 @@
 -- The textbook meaning of an expression, with no order: from which place to which it matches. It is
 -- what the lists of ends hold.
-use Rattle.std.proofs.lemmas.Grind.{common_steps}
-use Rattle.std.proofs.Common.{[], ◌≡◌, ℕ, suc, zero, ◌+◌, ◌*◌, ◌-◌, ◌<◌, ◌≤◌, ◌⊎◌, inl, inr, Bool, true, false, Option}
-use Rattle.std.proofs.Common.{Some, None, List, ◌∷◌, length, refl, sym, subst, arith, ⊎_elim}
-use Rattle.std.proofs.lemmas.List.Elements.{Contains-append_left, Contains-append_right, Contains-append_cases}
-use Rattle.std.specs.Prelude.{Contains, slice_get}
-use Rattle.std.specs.List.{flat_map}
-use Rattle.rx_spec.specs.Looks.{Reading, after, holds_at}
-use Rattle.rx_spec.specs.Expressions.{Expression, min_len, IsLoopSafe, IsBounded}
-use Rattle.rx_spec.specs.Ends.{ends, class_ends, rounds, up_to, further, preferring}
+use Rattle.rx_spec.proofs.Prelude.{common_steps, [], ◌≡◌, ℕ, suc, zero, ◌+◌, ◌*◌, ◌-◌, ◌<◌, ◌≤◌, ◌⊎◌, inl, inr, Bool}
+use Rattle.rx_spec.proofs.Prelude.{true, false, Option, Some, None, List, ◌∷◌, length, refl, sym, subst, arith, ⊎_elim}
+use Rattle.rx_spec.proofs.Prelude.{Contains-append_left, Contains-append_right, Contains-append_cases, Contains}
+use Rattle.rx_spec.proofs.Prelude.{slice_get, flat_map, Reading, after, holds_at, Expression, min_len, IsLoopSafe}
+use Rattle.rx_spec.proofs.Prelude.{IsBounded, ends, class_ends, rounds, up_to, further, preferring}
 use Rattle.lemmas_walks.proofs.Firsts.{by_test, Contains-here, Contains-there, Contains-nil, Contains-cases}
 -- The relation stands among the definitions; those who cite it from here find it here.
 pub use Rattle.rx_spec.specs.Matching.{IsIn, Rounds, IsAllowed, Reaches}
@@ -50,7 +46,7 @@ module _ (R : ℕ → ℕ → Type 0) (limit least : ℕ)
   Rounds-lie (suc n) i j within (k, a, b) =
       let first = h i k within a in
       let rest = Rounds-lie n k j first.1 b in
-      (omega (arith, first.0, rest.0), rest.1)
+      (omega arith, rest.1)
 
 -- A match ends no less than the least length on, and within what is read.
 pub reaches_lie : (r : Reading) (e : Expression) (i j : ℕ) → i ≤ length r.units → Reaches r e i j
@@ -64,18 +60,18 @@ reaches_lie r (Expression.Look look) i j within (e, is) = (omega arith, omega ar
 reaches_lie r (Expression.Concat a b) i j within (k, x, y) =
     let first = reaches_lie r a i k within x in
     let second = reaches_lie r b k j first.1 y in
-    (omega (arith, first.0, second.0), second.1)
+    (omega arith, second.1)
 reaches_lie r (Expression.Alternate a b) i j within (inl x) =
     let h = reaches_lie r a i j within x in
-    (omega (arith, h.0), h.1)
+    (omega arith, h.1)
 reaches_lie r (Expression.Alternate a b) i j within (inr x) =
     let h = reaches_lie r b i j within x in
-    (omega (arith, h.0), h.1)
+    (omega arith, h.1)
 reaches_lie r (Expression.Repeat least most greedy body) i j within (n, low, high, x) =
     let lie = λ (k l : ℕ). reaches_lie r body k l in
     let h = Rounds-lie (Reaches r body) (length r.units) (min_len body) lie n i j within x in
     let more = times_more least n (min_len body) low in
-    (omega (arith, h.0, more), h.1)
+    (omega arith, h.1)
 
 -- what a flat_map holds
 pub flat_map_from : {X Y : Type 0} (f : X → List Y) (xs : List X) (y : Y) → Contains (flat_map f xs) y
@@ -108,7 +104,7 @@ one x y e = (0, omega arith, e)
 -- the lists of ends hold what is reached, part by part
 class_sound : (set : ℕ) (byte : Option ℕ) (i j : ℕ) → Contains (class_ends set byte i) j → (j ≡ i + 1) × IsIn set byte
 class_sound set None i j c = absurd (Contains-nil j c)
-class_sound set (Some b) i j c = grind (arith, common_steps, by_test, only_one)
+class_sound set (Some b) i j c = grind (arith, common_steps)
 
 class_complete : (set : ℕ) (byte : Option ℕ) (i j : ℕ) → j ≡ i + 1 → IsIn set byte → Contains (class_ends set byte i) j
 class_complete set None i j e h = absurd h
@@ -135,7 +131,7 @@ rounds_complete body (suc n) i j (k, c, d) =
 
 preferring_cases : (greedy : Bool) (more : List ℕ) (i j : ℕ) → Contains (preferring greedy more i) j
     → Contains more j ⊎ (i ≡ j)
-preferring_cases true more i j c = grind (arith, common_steps, only_one)
+preferring_cases true more i j c = grind (arith, common_steps)
 preferring_cases false more i j c = grind (arith, common_steps)
 
 preferring_more : (greedy : Bool) (more : List ℕ) (i j : ℕ) → Contains more j → Contains (preferring greedy more i) j
@@ -158,7 +154,7 @@ up_to_sound greedy body (suc n) i j c =
   where
     one_more : (k : ℕ) → Holds body i k → (m : ℕ) × (m ≤ n) × Rounds (Holds body) m k j
         → (m : ℕ) × (m ≤ suc n) × Rounds (Holds body) m i j
-    one_more k h (m, few, rest) = (suc m, omega (arith, few), (k, h, rest))
+    one_more k h (m, few, rest) = (suc m, omega arith, (k, h, rest))
 
 up_to_complete : (greedy : Bool) (body : ℕ → List ℕ) (n m i j : ℕ) → m ≤ n → Rounds (Holds body) m i j
     → Contains (up_to greedy body n i) j
@@ -194,7 +190,7 @@ module _ (r : Reading) (least : ℕ) (greedy : Bool) (e : Expression) (body : �
       (found.0, tt, found.2)
   further_sound (Some most) bounded i j c =
       let found = up_to_sound greedy body (most - least) i j c in
-      (found.0, omega (arith, found.1), found.2)
+      (found.0, omega arith, found.2)
 
   further_complete : (most : Option ℕ) → IsBounded least most e → (m i j : ℕ) → IsAllowed most (least + m)
       → (i + m * min_len e ≤ j) × (j ≤ length r.units) → Rounds (Holds body) m i j

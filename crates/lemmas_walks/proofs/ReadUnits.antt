@@ -1,18 +1,12 @@
 -- The units that a search reads: those of the reading of its haystack, from the place where it begins.
-use Rattle.std.proofs.Common.{[], rules, ◌≡◌, ℕ, suc, zero, ◌+◌, ◌-◌, ◌<◌, ◌≤◌, Option, Some, None, List, ◌∷◌, ◌++◌}
-use Rattle.std.proofs.Common.{length, drop, reverse, get_or, refl, ap, ap₂, sym, ◌∙◌, subst, arith}
-use Rattle.std.proofs.lemmas.Grind.{common_steps}
-use Rattle.std.proofs.lemmas.List.{get_or-take, get_or-drop, get_or-reverse, length-reverse, length-drop}
-use Rattle.std.proofs.lemmas.List.{length-take-le}
-use Rattle.std.proofs.lemmas.List.Elements.{All-take, All-drop, All-contains}
-use Rattle.std.proofs.lemmas.Option.{slice_get-get_or, slice_get_within, get_or_from_slice_get, none-some}
-use Rattle.std.specs.Prelude.{slice_get, All}
-use Rattle.rx_spec.specs.Bytes.{AreBytes, unit_of}
-use Rattle.rx_spec.specs.Machines.{IsWord}
-use Rattle.rx_spec.specs.Looks.{Reading, before, after}
-use Rattle.rx_spec.specs.Queries.{Query, in_order, reading}
-use Rattle.rx_spec.specs.HalfSearches.{span_bytes, units_of, beside, first_offset, next_offset, unit_offset}
-use Rattle.rx_spec.specs.Splits.{narrower}
+use Rattle.rx_spec.proofs.Prelude.{[], rules, ◌≡◌, ℕ, suc, zero, ◌+◌, ◌-◌, ◌<◌, ◌≤◌, Option, Some, None, List, ◌∷◌}
+use Rattle.rx_spec.proofs.Prelude.{◌++◌, length, drop, reverse, get_or, refl, ap, ap₂, sym, ◌∙◌, subst, arith}
+use Rattle.rx_spec.proofs.Prelude.{common_steps, get_or-take, get_or-drop, length-reverse, length-drop, length-take-le}
+use Rattle.rx_spec.proofs.Prelude.{All-take, All-drop, All-contains, slice_get-get_or, slice_get_within}
+use Rattle.rx_spec.proofs.Prelude.{get_or_from_slice_get, none-some, slice_get, All, AreBytes, unit_of, IsWord, Reading}
+use Rattle.rx_spec.proofs.Prelude.{before, after, Query, in_order, reading, span_bytes, units_of, beside, first_offset}
+use Rattle.rx_spec.proofs.Prelude.{next_offset, unit_offset, narrower}
+use Rattle.std.proofs.lemmas.List.{get_or-reverse}
 use Rattle.rx_spec.specs.declared.Direction.{Direction}
 use Rattle.lemmas_walks.proofs.Mirrors.{reverse_at, before_is_after, after_is_before}
 use Rattle.lemmas_walks.proofs.Words.{IsWord-nil, IsWord-cons, IsWord-append}
@@ -118,24 +112,24 @@ span_at : (q : Query) (k : ℕ) → q.end ≤ length q.haystack → k < q.end - 
     → slice_get (span_bytes q) k ≡ slice_get q.haystack (q.start + k)
 span_at q k b h =
     let n = span_length q (omega arith) b in
-    slice_get-get_or (span_bytes q) k 0 (omega (arith, n))
+    slice_get-get_or (span_bytes q) k 0 (omega arith)
     ∙ ap Some (get_or-take (q.end - q.start) (drop q.start q.haystack) k 0 h ∙ get_or-drop q.start q.haystack k 0)
     ∙ sym (slice_get-get_or q.haystack (q.start + k) 0 (omega arith))
 
 span_back : (q : Query) (k : ℕ) → q.end ≤ length q.haystack → k < q.end - q.start
     → slice_get (reverse (span_bytes q)) k ≡ after (reverse q.haystack) (length q.haystack - q.end + k)
-span_back q k b h = grind (arith, common_steps, span_length, reverse_at, span_at)
+span_back q k b h = grind (arith, common_steps, reverse_at, span_at)
 
 -- The units of a search are those of the reading, from the place where it begins.
 pub units_read : (direction : Direction) (t : ℕ) (q : Query) → q.start ≤ q.end → q.end ≤ length q.haystack
     → units_of direction q
     ≡ units_from (reading direction t q.haystack) (first_place direction q) (suc (q.end - q.start))
-units_read Direction.Forward t q a b = grind (arith, common_steps, span_length, spelled, span_at)
+units_read Direction.Forward t q a b = grind (arith, common_steps, spelled, span_at)
 units_read Direction.Reverse t q a b =
     let n = length-reverse (span_bytes q) ∙ span_length q a b in
     let r = reading Direction.Reverse t q.haystack in
     let first = length q.haystack - q.end in
-    let past : length q.haystack - q.start ≡ first + length (reverse (span_bytes q)) = omega (arith, n) in
+    let past : length q.haystack - q.start ≡ first + length (reverse (span_bytes q)) = omega arith in
     spelled r (reverse (span_bytes q)) (unit_of (before q.haystack q.start)) first
     (λ k h. span_back q k b (subst (λ m. k < m) n h))
     (ap unit_of (sym (before_is_after q.haystack q.start (omega arith))) ∙ ap (unit_at r) past)
@@ -184,12 +178,6 @@ units_of-more direction q d a b =
     (ap unit_of (next_at_place direction q.haystack (first_offset direction q) here ∙ next_byte_is direction q d a b))
     (ap (λ i. units_from r i (q.end - q.start)) (next_place direction q a b) ∙ sym (narrower_reads direction 0 q a b))
 
--- and behind an empty span the one unit past it
-pub units_of-last : (direction : Direction) (q : Query) → q.start ≡ q.end → q.end ≤ length q.haystack
-    → units_of direction q ≡ unit_of (next_byte direction q.haystack (first_offset direction q)) ∷ []
-units_of-last direction q a b =
-    grind (arith, common_steps, first_within, units_read, units_from-suc, units_from-zero, next_at_place)
-
 -- ---- bytes
 
 -- what holds of each holds of one that is there
@@ -197,7 +185,7 @@ pub All-got : {X : Type 0} (P : X → Type 0) (xs : List X) (i : ℕ) (x : X) �
 All-got P xs i x h e = subst P (get_or_from_slice_get xs i x x e) (h i x (slice_get_within xs i x e))
 
 pub bytes_reversed : (bytes : List ℕ) → AreBytes bytes → AreBytes (reverse bytes)
-bytes_reversed bytes h = grind (arith, common_steps, length-reverse, get_or-reverse)
+bytes_reversed bytes h = grind (arith, common_steps, get_or-reverse)
 
 pub bytes_in_order : (direction : Direction) (haystack : List ℕ) → AreBytes haystack
     → AreBytes (in_order direction haystack)
@@ -221,7 +209,7 @@ beside_is_byte Direction.Forward q byte h e = before_is_byte q.haystack q.start 
 beside_is_byte Direction.Reverse q byte h e = All-got (λ b. b < 256) q.haystack q.end byte h e
 
 -- what is read is a word
-bytes_word : (bytes : List ℕ) → AreBytes bytes → IsWord bytes
+pub bytes_word : (bytes : List ℕ) → AreBytes bytes → IsWord bytes
 bytes_word bytes h unit c = let below = All-contains (λ b. b < 256) bytes unit h c in omega arith
 
 unit_word : (byte : Option ℕ) → ((b : ℕ) → byte ≡ Some b → b < 256) → IsWord (unit_of byte ∷ [])

@@ -1,10 +1,6 @@
 -- Rows that stand in a list of rows from a number on.
-use Rattle.std.proofs.lemmas.Grind.{common_steps}
-use Rattle.std.proofs.Common.{[], ◌≡◌, ℕ, zero, suc, ◌+◌, ◌<◌, ◌≤◌, List, ◌∷◌, ◌++◌, length, refl, ap, subst, arith}
-use Rattle.std.proofs.Common.{drop, ⊎_elim}
-use Rattle.std.proofs.lemmas.Bool.{cases_lt}
-use Rattle.rx_spec.specs.Rows.{Row}
-use Rattle.rx_spec.specs.States.{row_at}
+use Rattle.rx_spec.proofs.Prelude.{common_steps, [], ◌≡◌, ℕ, zero, suc, ◌+◌, ◌<◌, ◌≤◌, List, ◌∷◌, ◌++◌, length, refl}
+use Rattle.rx_spec.proofs.Prelude.{ap, subst, arith, drop, ⊎_elim, cases_lt, Row, row_at}
 
 -- The second rows stand in the first, from the number on.
 abbrev pub Stands : List Row → ℕ → List Row → Type 0
@@ -46,9 +42,9 @@ each-weaker P Q base (x ∷ xs) f h = (f base h.0, each-weaker P Q (base + 1) xs
 
 pub each-at : (P : ℕ → Type 0) (base : ℕ) (xs : List Row) → EachFrom P base xs → (q : ℕ) → base ≤ q
     → q < base + length xs → P q
-each-at P base [] h q low high = absurd (omega (arith, low, high))
+each-at P base [] h q low high = absurd (omega arith)
 each-at P base (x ∷ xs) h q low high =
-    ⊎_elim (λ (above : base < q). each-at P (base + 1) xs h.1 q (omega arith) (omega (arith, high)))
+    ⊎_elim (λ (above : base < q). each-at P (base + 1) xs h.1 q (omega arith) (omega arith))
     (λ (l : q ≤ base). let same : base ≡ q = omega arith in subst P same h.0) (cases_lt base q)
 
 -- The whole list stands in itself.

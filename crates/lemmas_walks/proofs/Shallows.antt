@@ -1,11 +1,7 @@
 -- In the NFA of expressions that are safe to repeat, paths that read nothing are as short as a closure asks.
-use Rattle.std.proofs.Common.{[], arith, ℕ, Bool, List, ◌∷◌, map, All}
-use Rattle.std.proofs.lemmas.Grind.{common_steps}
+use Rattle.rx_spec.proofs.Prelude.{[], arith, ℕ, Bool, List, ◌∷◌, map, All, common_steps, recursion_from_All}
+use Rattle.rx_spec.proofs.Prelude.{Expression, IsLoopSafe, nfa_of, read_as, IsShallow}
 use Rattle.std.specs.List.{AllByRecursion as Every}
-use Rattle.std.proofs.lemmas.List.Elements.{recursion_from_All}
-use Rattle.rx_spec.specs.Expressions.{Expression, IsLoopSafe}
-use Rattle.rx_spec.specs.Nfas.{nfa_of, read_as}
-use Rattle.rx_spec.specs.Shallow.{IsShallow}
 use Rattle.rx_spec.specs.declared.Direction.{Direction}
 use Rattle.lemmas_walks.proofs.Mirrors.{IsLoopSafe-mirror}
 use Rattle.lemmas_walks.proofs.Patterns.{nfa_deep}

@@ -1,13 +1,9 @@
 -- Rows from which nothing is told any more.
-use Rattle.std.proofs.Common.{[], arith, rules, ◌≡◌, ℕ, ◌<◌, true, List, ◌∷◌, refl, ap, sym, ◌∙◌}
-use Rattle.std.proofs.lemmas.Grind.{common_steps}
-use Rattle.std.proofs.lemmas.Bool.{and_parts, eqb-true}
-use Rattle.std.proofs.lemmas.List.{nil_from_length}
-use Rattle.rx_spec.specs.Machines.{Label, label_of, Machine, IsWord, run}
-use Rattle.rx_spec.specs.States.{State}
-use Rattle.rx_spec.specs.Builds.{Build, Node, dead, is_dead, is_dead_state, next_node, node_label, power}
-use Rattle.rx_spec.specs.Tables.{Table, IsTable}
-use Rattle.lemmas_walks.proofs.Words.{IsWord-nil, IsWord-head, IsWord-tail, IsWord-cons, run-nil, run-cons}
+use Rattle.rx_spec.proofs.Prelude.{[], arith, rules, ◌≡◌, ℕ, ◌<◌, true, List, ◌∷◌, refl, ap, sym, ◌∙◌, common_steps}
+use Rattle.rx_spec.proofs.Prelude.{Label, label_of, Machine, IsWord, run, State, Build, Node, dead, is_dead}
+use Rattle.rx_spec.proofs.Prelude.{is_dead_state, next_node, node_label, power, Table, IsTable, row_after, Anchored}
+use Rattle.lemmas_walks.proofs.Words.{IsWord-nil, IsWord-head, IsWord-tail, IsWord-cons, run-nil, run-cons, run-within}
+use Rattle.rx_spec.specs.declared.Start.{Start}
 
 -- every word leads to a plain label
 pub record IsSilent {R : Type 0} (m : Machine R) (row : R) : Type 0 where
@@ -30,7 +26,7 @@ silent_next m row unit s h = record {
 
 -- a state that is dead has no rows and no label
 pub dead_empty : (s : State) → is_dead_state s ≡ true → (s.rows ≡ []) × (s.label ≡ [])
-dead_empty s e = grind (arith, common_steps, and_parts, nil_from_length, eqb-true)
+dead_empty s e = grind (arith, common_steps)
 
 -- in a build's powerset machine, the dead nodes
 pub dead_label : (b : Build) (word : List ℕ) → node_label (run (next_node b) dead word) ≡ Label.Plain
@@ -60,6 +56,15 @@ power_ends_well b = search (rules, dead_word)
 abbrev pub IsRow : Table → ℕ → Type 0
 IsRow t row = row < t.size
 
+-- the row to which a word leads from a row, or from a start, is a row
+pub run_there : (t : Table) → IsTable t → (row : ℕ) (word : List ℕ) → IsRow t row → IsWord word
+    → IsRow t (run t.machine.next row word)
+run_there t is = run-within t.machine.next (IsRow t) is.nexts
+
+pub row_there : (t : Table) → IsTable t → (mode : Anchored) (start : Start) (word : List ℕ) → IsWord word
+    → IsRow t (row_after t mode start word)
+row_there t is mode start word w = run_there t is (t.machine.entry mode start) word (is.entries mode start) w
+
 zero_stays : (t : Table) → IsTable t → (word : List ℕ) → IsWord word → run t.machine.next 0 word ≡ 0
 zero_stays t is [] w = run-nil t.machine.next 0
 zero_stays t is (unit ∷ word) w =
@@ -71,4 +76,4 @@ pub zero_is_silent : (t : Table) → IsTable t → IsSilent t.machine 0
 zero_is_silent t is = record { plain = λ word w. ap t.machine.label (zero_stays t is word w) ∙ is.dead_label }
 
 pub table_ends_well : (t : Table) → IsTable t → EndsWell t.machine (IsRow t)
-table_ends_well t is = grind (arith, common_steps, eqb-true, zero_is_silent)
+table_ends_well t is = grind (arith, common_steps, zero_is_silent)

@@ -1,23 +1,14 @@
 -- Where the answers of a walk come from: a match from a unit that led to its label, and a quit likewise. So a told
 -- offset lies in the span.
-use Rattle.std.proofs.Common.{[], rules, ◌≡◌, ℕ, suc, ◌+◌, ◌-◌, ◌<◌, ◌≤◌, ◌⊎◌, inl, inr, ⊎_elim, Bool, Option, Some, Ok}
-use Rattle.std.proofs.Common.{Err, if◌then◌else◌, List, ◌∷◌, length, take, get_or, refl, ap, sym, ◌∙◌, subst, arith}
-use Rattle.std.proofs.Common.{length-append}
-use Rattle.std.proofs.lemmas.Grind.{common_steps}
-use Rattle.std.proofs.lemmas.Bool.{lt-ltb}
-use Rattle.std.proofs.lemmas.List.{length-take, length-reverse}
-use Rattle.std.proofs.lemmas.Option.{none-some, same_Some}
-use Rattle.std.specs.Prelude.{Contains}
-use Rattle.rx_spec.specs.Looks.{before, after}
-use Rattle.rx_spec.specs.Queries.{Query, HalfMatch, MatchError}
-use Rattle.rx_spec.specs.Machines.{Label, Machine, run, Settings}
-use Rattle.rx_spec.specs.Starts.{StartError, start_error, start_row}
-use Rattle.rx_spec.specs.HalfSearches.{HalfAnswer, units_of, beside, first_offset, next_offset, unit_offset}
-use Rattle.rx_spec.specs.HalfSearches.{first_match, last_match, at_label, match_error, walk, half_search}
+use Rattle.rx_spec.proofs.Prelude.{[], rules, ◌≡◌, ℕ, suc, ◌+◌, ◌-◌, ◌<◌, ◌≤◌, ◌⊎◌, inl, inr, ⊎_elim, Bool, Option}
+use Rattle.rx_spec.proofs.Prelude.{Some, Ok, Err, if◌then◌else◌, List, ◌∷◌, length, take, get_or, refl, ap, sym, ◌∙◌}
+use Rattle.rx_spec.proofs.Prelude.{subst, arith, common_steps, same_Some, Contains, before, after, Query, HalfMatch}
+use Rattle.rx_spec.proofs.Prelude.{MatchError, Label, Machine, run, Settings, StartError, start_error, start_row}
+use Rattle.rx_spec.proofs.Prelude.{HalfAnswer, units_of, beside, first_offset, next_offset, unit_offset, first_match}
+use Rattle.rx_spec.proofs.Prelude.{last_match, at_label, match_error, walk, half_search}
 use Rattle.rx_spec.specs.declared.Direction.{Direction}
 use Rattle.lemmas_walks.proofs.Firsts.{by_test}
-use Rattle.lemmas_walks.proofs.HalfSearches.{half_begun, begins, half_done, half_refused, half_walks, going, told_same}
-use Rattle.lemmas_walks.proofs.HalfSearches.{error_not_told}
+use Rattle.lemmas_walks.proofs.HalfSearches.{begins, told_same, error_not_told}
 use Rattle.lemmas_walks.proofs.Walking.{walk-nil, walk-cons}
 use Rattle.lemmas_walks.proofs.Words.{run-nil, run-cons}
 
@@ -88,22 +79,22 @@ module _ {R : Type 0} (m : Machine R) (direction : Direction) (earliest : Bool) 
   told_or : (label : Label) (unit offset : ℕ) (now later : HalfAnswer) (h : HalfMatch)
       → at_label label direction earliest unit offset now later ≡ Ok (Some h)
       → (now ≡ Ok (Some h)) ⊎ (later ≡ Ok (Some h))
-  told_or Label.Quits unit offset now later h e = grind (arith, common_steps, error_not_told)
+  told_or Label.Quits unit offset now later h e = grind (arith, common_steps)
   told_or Label.Plain unit offset now later h e = inr e
-  told_or (Label.Matches ks) unit offset now later h e = grind (arith, common_steps, by_test)
+  told_or (Label.Matches ks) unit offset now later h e = grind (arith, common_steps)
 
   quit_or : (label : Label) (unit offset : ℕ) (kept : Option HalfMatch) (later : HalfAnswer) (error : MatchError)
       → at_label label direction earliest unit offset (Ok kept) later ≡ Err error
       → ((label ≡ Label.Quits) × (error ≡ MatchError.Quit unit (unit_offset direction offset))) ⊎ (later ≡ Err error)
   quit_or Label.Quits unit offset kept later error e = grind (arith, common_steps)
   quit_or Label.Plain unit offset kept later error e = inr e
-  quit_or (Label.Matches ks) unit offset kept later error e = grind (arith, common_steps, by_test, error_not_told)
+  quit_or (Label.Matches ks) unit offset kept later error e = grind (arith, common_steps)
 
   -- A match that is told was told before, or some unit led to it.
   pub walk_met : (units : List ℕ) (row : R) (offset : ℕ) (last : Option HalfMatch) (h : HalfMatch)
       → walk m direction earliest row offset last units ≡ Ok (Some h)
       → (last ≡ Some h) ⊎ Came m row units (LeadsToMatch m direction offset h)
-  walk_met [] row offset last h w = grind (arith, common_steps, told_same, walk-nil)
+  walk_met [] row offset last h w = grind (arith, common_steps, walk-nil)
   walk_met (unit ∷ units) row offset last h w =
       let next = m.next row unit in
       let met = last_match (m.label next) offset last in
@@ -140,7 +131,7 @@ module _ {R : Type 0} (m : Machine R) (direction : Direction) (earliest : Bool) 
   pub walk_quit : (units : List ℕ) (row : R) (offset : ℕ) (last : Option HalfMatch) (error : MatchError)
       → walk m direction earliest row offset last units ≡ Err error
       → Came m row units (LeadsToQuit m direction offset error)
-  walk_quit [] row offset last error w = grind (arith, common_steps, error_not_told, walk-nil)
+  walk_quit [] row offset last error w = grind (arith, common_steps, walk-nil)
   walk_quit (unit ∷ units) row offset last error w =
       let next = m.next row unit in
       let met = last_match (m.label next) offset last in
@@ -169,16 +160,16 @@ module _ {R : Type 0} (m : Machine R) (direction : Direction) (earliest : Bool) 
 
 -- no more units than the span has bytes, and one
 pub units_count : (direction : Direction) (q : Query) → length (units_of direction q) ≤ q.end - q.start + 1
-units_count Direction.Forward q = grind (arith, common_steps, length-append, length-take)
-units_count Direction.Reverse q = grind (arith, common_steps, length-append, length-reverse, length-take)
+units_count Direction.Forward q = grind (arith, common_steps)
+units_count Direction.Reverse q = grind (arith, common_steps)
 
 -- so the offsets where the walk stands lie in the span
 pub offset_in_span : (direction : Direction) (q : Query) (place : ℕ) → q.start ≤ q.end
     → place < length (units_of direction q)
     → (q.start ≤ offset_after direction (first_offset direction q) place)
     × (offset_after direction (first_offset direction q) place ≤ q.end)
-offset_in_span Direction.Forward q place order within = grind (arith, common_steps, units_count)
-offset_in_span Direction.Reverse q place order within = grind (arith, common_steps, units_count)
+offset_in_span Direction.Forward q place order within = grind (arith, common_steps)
+offset_in_span Direction.Reverse q place order within = grind (arith, common_steps)
 
 module _ {R : Type 0} (m : Machine R) (s : Settings) (direction : Direction) (q : Query) where
   -- what some unit of the walk leads to
@@ -187,7 +178,7 @@ module _ {R : Type 0} (m : Machine R) (s : Settings) (direction : Direction) (q 
 
   pub half_met : (h : HalfMatch) → half_search m s direction q ≡ Ok (Some h)
       → (q.start ≤ q.end) × CameIn (LeadsToMatch m direction (first_offset direction q) h)
-  half_met h e = search (rules, none-some, walk_met, half_begun)
+  half_met h e = search (rules, walk_met)
 
   -- Its error is that of its start, or a quit.
   pub half_error : (error : MatchError) → half_search m s direction q ≡ Err error
@@ -196,18 +187,7 @@ module _ {R : Type 0} (m : Machine R) (s : Settings) (direction : Direction) (q 
       × (error ≡ match_error direction q refused))
       ⊎ CameIn (LeadsToQuit m direction (first_offset direction q) error))
   half_error error e =
-      grind (
-        arith,
-        common_steps,
-        begins,
-        error_not_told,
-        half_done,
-        lt-ltb,
-        half_refused,
-        going,
-        walk_quit,
-        half_walks,
-      )
+      grind (arith, common_steps, begins, error_not_told, walk_quit)
 
   pub half_in_span : (h : HalfMatch) → half_search m s direction q ≡ Ok (Some h)
       → (q.start ≤ h.offset) × (h.offset ≤ q.end)

@@ -1,16 +1,10 @@
 -- What a unit does to a walk: over any machine, over one whose dead rows are silent, and over a build's
 -- powerset machine.
-use Rattle.std.proofs.Common.{[], arith, ◌≡◌, ℕ, Bool, true, false, if◌then◌else◌, Option, Ok, Err, List, ◌∷◌, refl, ap}
-use Rattle.std.proofs.Common.{◌∙◌}
-use Rattle.std.proofs.lemmas.Grind.{common_steps}
-use Rattle.rx_spec.specs.Bytes.{contains}
-use Rattle.rx_spec.specs.Queries.{HalfMatch, MatchError}
-use Rattle.rx_spec.specs.Machines.{label_of, Machine, IsWord}
-use Rattle.rx_spec.specs.States.{State, step}
-use Rattle.rx_spec.specs.Builds.{Build, Node, dead, is_dead_state, next_node, power}
-use Rattle.rx_spec.specs.HalfSearches.{HalfAnswer, next_offset, unit_offset, last_match, at_label, walk}
+use Rattle.rx_spec.proofs.Prelude.{[], arith, ◌≡◌, ℕ, Bool, true, false, if◌then◌else◌, Option, Ok, Err, List, ◌∷◌}
+use Rattle.rx_spec.proofs.Prelude.{refl, ap, ◌∙◌, common_steps, contains, HalfMatch, MatchError, label_of, Machine}
+use Rattle.rx_spec.proofs.Prelude.{IsWord, State, step, Build, Node, dead, is_dead_state, power, HalfAnswer}
+use Rattle.rx_spec.proofs.Prelude.{next_offset, unit_offset, last_match, at_label, walk}
 use Rattle.rx_spec.specs.declared.Direction.{Direction}
-use Rattle.lemmas_walks.proofs.Firsts.{by_test}
 use Rattle.lemmas_walks.proofs.SilentRows.{IsSilent, silent_label, silent_next}
 use Rattle.lemmas_walks.proofs.Words.{IsWord-head, IsWord-tail}
 
@@ -45,7 +39,7 @@ module _ {R : Type 0} (m : Machine R) (direction : Direction) (earliest : Bool) 
       → (m.is_dead next ≡ true → (kept : Option HalfMatch)
       → walk m direction earliest next (next_offset direction offset) kept units ≡ Ok kept)
       → walk_on unit offset last units next ≡ walk_through unit offset last units next
-  walk_passes unit offset last units next stays = grind (arith, common_steps, by_test)
+  walk_passes unit offset last units next stays = grind (arith, common_steps)
 
   pub walk_silent : (row : R) (offset : ℕ) (last : Option HalfMatch) (units : List ℕ) → IsWord units → IsSilent m row
       → walk m direction earliest row offset last units ≡ Ok last
@@ -64,7 +58,7 @@ module _ {R : Type 0} (m : Machine R) (direction : Direction) (earliest : Bool) 
   pub walk-more : (row : R) (unit offset : ℕ) (last : Option HalfMatch) (units : List ℕ) → IsWord units
       → (m.is_dead (m.next row unit) ≡ true → IsSilent m (m.next row unit))
       → walk m direction earliest row offset last (unit ∷ units) ≡ walk_through unit offset last units (m.next row unit)
-  walk-more row unit offset last units w silent = grind (arith, common_steps, walk-cons, walk_passes, walk_silent)
+  walk-more row unit offset last units w silent = grind (arith, common_steps, walk-cons, walk_silent)
 
 -- a search for the last match goes on at every label of a state
 pub goes_on : (label : List ℕ) (direction : Direction) (unit offset : ℕ) (now later : HalfAnswer)
@@ -79,18 +73,7 @@ pub data Leads (b : Build) (s : State) (unit : ℕ) : Type 0 where
   Steps : is_dead_state s ≡ false → contains b.quit unit ≡ false → Leads b s unit
 
 pub leads : (b : Build) (s : State) (unit : ℕ) → Leads b s unit
-leads b s unit = grind (arith, common_steps, by_test)
-
-pub next_dead : (b : Build) (s : State) (unit : ℕ) → is_dead_state s ≡ true → next_node b (Node.Running s) unit ≡ dead
-next_dead b s unit e = rw e refl
-
-pub next_quits : (b : Build) (s : State) (unit : ℕ) → is_dead_state s ≡ false → contains b.quit unit ≡ true
-    → next_node b (Node.Running s) unit ≡ Node.Quit
-next_quits b s unit e f = rw (e, f) refl
-
-pub next_steps : (b : Build) (s : State) (unit : ℕ) → is_dead_state s ≡ false → contains b.quit unit ≡ false
-    → next_node b (Node.Running s) unit ≡ Node.Running (step b.nfa b.kind s unit)
-next_steps b s unit e f = rw (e, f) refl
+leads b s unit = grind (arith, common_steps)
 
 module _ (b : Build) (direction : Direction) (earliest : Bool) where
   -- the walk of a state
@@ -101,13 +84,13 @@ module _ (b : Build) (direction : Direction) (earliest : Bool) where
   pub walk_dead : (s : State) (offset : ℕ) (last : Option HalfMatch) (units : List ℕ) → is_dead_state s ≡ true
       → state_walk s offset last units ≡ Ok last
   walk_dead s offset last [] e = walk-nil (power b) direction earliest (Node.Running s) offset last
-  walk_dead s offset last (unit ∷ units) e = grind (arith, common_steps, walk-cons, next_dead)
+  walk_dead s offset last (unit ∷ units) e = grind (arith, common_steps, walk-cons)
 
   -- quit: the unit and its offset are told
   pub walk_quits : (s : State) (unit offset : ℕ) (last : Option HalfMatch) (units : List ℕ)
       → is_dead_state s ≡ false → contains b.quit unit ≡ true
       → state_walk s offset last (unit ∷ units) ≡ Err (MatchError.Quit unit (unit_offset direction offset))
-  walk_quits s unit offset last units e f = grind (arith, common_steps, walk-cons, next_quits)
+  walk_quits s unit offset last units e f = grind (arith, common_steps, walk-cons)
 
   -- on: what the step's label makes of the walk from there
   abbrev pub walk_after : (unit offset : ℕ) → Option HalfMatch → List ℕ → State → HalfAnswer
@@ -119,4 +102,4 @@ module _ (b : Build) (direction : Direction) (earliest : Bool) where
   pub walk_steps : (s : State) (unit offset : ℕ) (last : Option HalfMatch) (units : List ℕ)
       → is_dead_state s ≡ false → contains b.quit unit ≡ false
       → state_walk s offset last (unit ∷ units) ≡ walk_after unit offset last units (step b.nfa b.kind s unit)
-  walk_steps s unit offset last units e f = grind (arith, common_steps, walk-cons, next_steps, walk_passes, walk_dead)
+  walk_steps s unit offset last units e f = grind (arith, common_steps, walk-cons, walk_dead)

@@ -1,8 +1,7 @@
 -- Words of units, and the rows to which they lead.
-use Rattle.std.proofs.Common.{[], ◌≡◌, ℕ, ◌<◌, List, ◌∷◌, ◌++◌, refl, ap, sym, ◌∙◌, subst, ⊎_elim, take, get_or}
-use Rattle.std.proofs.lemmas.List.Elements.{Contains-append_cases, Contains-get_or, All-contains, All-take}
-use Rattle.std.specs.Prelude.{Contains}
-use Rattle.rx_spec.specs.Machines.{IsWord, run}
+use Rattle.rx_spec.proofs.Prelude.{[], ◌≡◌, ℕ, ◌<◌, List, ◌∷◌, ◌++◌, refl, ap, sym, ◌∙◌, subst, ⊎_elim, take, get_or}
+use Rattle.rx_spec.proofs.Prelude.{Contains-append_cases, Contains-get_or, All-contains, All-take, Contains, IsWord}
+use Rattle.rx_spec.proofs.Prelude.{run}
 use Rattle.lemmas_walks.proofs.Firsts.{Contains-here, Contains-there, Contains-nil, Contains-cases}
 
 pub IsWord-nil : IsWord []

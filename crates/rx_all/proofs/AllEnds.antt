@@ -1,17 +1,11 @@
 -- Over a build of the kind All an overlapping search tells exactly the ends of all patterns.
-use Rattle.std.proofs.Common.{◌≡◌, ◌≢◌, ℕ, zero, suc, ◌+◌, ◌<◌, ◌≤◌, ◌==◌, ◌&&◌, Bool, true, false, if◌then◌else◌}
-use Rattle.std.proofs.Common.{Option, Some, None, List, [], ◌∷◌, refl, ap, sym, ◌∙◌, subst, arith, ⊎_elim, ◌⊎◌, inl}
-use Rattle.std.proofs.Common.{inr}
-use Rattle.std.proofs.lemmas.Bool.{eq-eqb, ne_eqb, eqb-true, and_right, and_from, and_parts, cases_eq}
-use Rattle.std.proofs.lemmas.List.Elements.{Contains-append_left, Contains-append_right, Contains-append_cases}
-use Rattle.std.specs.Prelude.{Contains}
-use Rattle.std.specs.Option.{option_or}
-use Rattle.rx_spec.specs.Queries.{HalfMatch}
-use Rattle.rx_spec.specs.Found.{first_of}
-use Rattle.rx_spec.specs.Machines.{label_of}
-use Rattle.rx_spec.specs.States.{State, decided_rows, cut, step}
-use Rattle.rx_spec.specs.Builds.{Node, is_dead_state, power}
-use Rattle.rx_spec.specs.Overlapping.{Item, Ending, OverlappingMatches, pattern_items, with_items, at_item_label}
+use Rattle.rx_spec.proofs.Prelude.{◌≡◌, ◌≢◌, ℕ, zero, suc, ◌+◌, ◌<◌, ◌≤◌, ◌==◌, ◌&&◌, Bool, true, false, if◌then◌else◌}
+use Rattle.rx_spec.proofs.Prelude.{Option, Some, None, List, [], ◌∷◌, refl, ap, sym, ◌∙◌, subst, arith, ⊎_elim, ◌⊎◌}
+use Rattle.rx_spec.proofs.Prelude.{inl, inr, eq-eqb, ne_eqb, eqb-true, and_right, and_from, and_parts, cases_eq}
+use Rattle.rx_spec.proofs.Prelude.{Contains-append_left, Contains-append_right, Contains-append_cases, Contains}
+use Rattle.rx_spec.proofs.Prelude.{option_or, HalfMatch, first_of, label_of, State, decided_rows, cut, step, Node}
+use Rattle.rx_spec.proofs.Prelude.{is_dead_state, power, Item, Ending, OverlappingMatches, pattern_items, with_items}
+use Rattle.rx_spec.proofs.Prelude.{at_item_label}
 use Rattle.rx_spec.specs.declared.Direction.{Direction}
 use Rattle.rx_spec.specs.declared.MatchKind.{MatchKind}
 use Rattle.lemmas_walks.proofs.Firsts.{by_test, Contains-here, Contains-there, Contains-cases, Contains-nil}
@@ -108,16 +102,13 @@ patterns_have [] o h c = absurd (Contains-nil (Item.Reported h) c)
 patterns_have (k ∷ ks) o h c =
     let here : HalfMatch = record { pattern = k; offset = o } in
     ⊎_elim
-    (λ (e : Item.Reported here ≡ Item.Reported h). let same = reported here h e in (
+    (λ (e : Item.Reported here ≡ Item.Reported h). let same : here ≡ h = cc e in (
       subst (λ (m : HalfMatch). Contains (k ∷ ks) m.pattern) same (Contains-here k ks),
       ap (λ (m : HalfMatch). m.offset) same,
     ))
     (λ (d : Contains (pattern_items ks o) (Item.Reported h)).
     let later = patterns_have ks o h d in (Contains-there k ks h.pattern later.0, later.1))
     (Contains-cases (Item.Reported here) (pattern_items ks o) (Item.Reported h) c)
-  where
-    reported : (a b : HalfMatch) → Item.Reported a ≡ Item.Reported b → a ≡ b
-    reported a b e = cc
 
 pub have_patterns : (ks : List ℕ) (o j : ℕ) → Contains ks j
     → Contains (pattern_items ks o) (Item.Reported (record { pattern = j; offset = o }))

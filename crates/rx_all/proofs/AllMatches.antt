@@ -1,21 +1,11 @@
 -- What is told at a place over a table of the kind All: exactly the matches of all patterns from there.
-use Rattle.std.proofs.Common.{◌≡◌, ℕ, zero, suc, ◌+◌, ◌-◌, ◌<◌, ◌≤◌, Option, Some, None, List, length, refl, ap, ap₂}
-use Rattle.std.proofs.Common.{sym, ◌∙◌, subst, arith, ⊎_elim, ◌⊎◌, inl, inr}
-use Rattle.std.proofs.lemmas.List.{map-id}
-use Rattle.std.proofs.lemmas.Option.{option_and_then_some, slice_get_within}
-use Rattle.std.specs.Prelude.{slice_get, Contains, All}
-use Rattle.std.specs.Option.{option_and_then}
-use Rattle.std.specs.List.{range_with_len}
-use Rattle.rx_spec.specs.Bytes.{AreBytes}
-use Rattle.rx_spec.specs.Expressions.{Expression, IsLoopSafe}
-use Rattle.rx_spec.specs.Ends.{ends}
-use Rattle.rx_spec.specs.Queries.{Anchored, Query, reading, HalfMatch, MatchError}
-use Rattle.rx_spec.specs.Contexts.{start_of}
-use Rattle.rx_spec.specs.Found.{first_of}
-use Rattle.rx_spec.specs.Builds.{Build, Node, nfa_start, start_node, power, build_settings}
-use Rattle.rx_spec.specs.HalfSearches.{beside, match_error}
-use Rattle.rx_spec.specs.Overlapping.{Item, Ending, OverlappingMatches, overlapping, overlapping_walk}
-use Rattle.rx_spec.specs.Plans.{Plan}
+use Rattle.rx_spec.proofs.Prelude.{◌≡◌, ℕ, zero, suc, ◌+◌, ◌-◌, ◌<◌, ◌≤◌, Option, Some, None, List, length, refl, ap}
+use Rattle.rx_spec.proofs.Prelude.{ap₂, sym, ◌∙◌, subst, arith, ⊎_elim, ◌⊎◌, inl, inr, map-id, slice_get_within}
+use Rattle.rx_spec.proofs.Prelude.{slice_get, Contains, All, option_and_then, range_with_len, AreBytes, Expression}
+use Rattle.rx_spec.proofs.Prelude.{IsLoopSafe, ends, Anchored, Query, reading, HalfMatch, MatchError, start_of}
+use Rattle.rx_spec.proofs.Prelude.{first_of, Build, Node, nfa_start, start_node, power, build_settings, beside}
+use Rattle.rx_spec.proofs.Prelude.{match_error, Item, Ending, OverlappingMatches, overlapping, overlapping_walk, Plan}
+use Rattle.std.proofs.lemmas.Option.{option_and_then_some}
 use Rattle.rx_spec.specs.declared.Direction.{Direction}
 use Rattle.rx_spec.specs.declared.Start.{Start}
 use Rattle.lemmas_walks.proofs.Firsts.{Contains-here, Contains-there}

@@ -1,11 +1,8 @@
 -- What is told from an offset on ends there or later.
-use Rattle.std.proofs.Common.{◌≡◌, ℕ, ◌+◌, ◌<◌, true, false, if◌then◌else◌, List, [], ◌∷◌, sym, subst, arith, ⊎_elim}
-use Rattle.std.specs.Prelude.{Contains}
+use Rattle.rx_spec.proofs.Prelude.{◌≡◌, ℕ, ◌+◌, ◌<◌, true, false, if◌then◌else◌, List, [], ◌∷◌, sym, subst, arith}
+use Rattle.rx_spec.proofs.Prelude.{⊎_elim, Contains, HalfMatch, Label, Machine, Item, Ending, OverlappingMatches}
+use Rattle.rx_spec.proofs.Prelude.{none_left, pattern_items, at_item_label, overlapping_walk}
 use Rattle.std.specs.List.{AllByRecursion as Every}
-use Rattle.rx_spec.specs.Queries.{HalfMatch}
-use Rattle.rx_spec.specs.Machines.{Label, Machine}
-use Rattle.rx_spec.specs.Overlapping.{Item, Ending, OverlappingMatches, none_left, pattern_items, at_item_label}
-use Rattle.rx_spec.specs.Overlapping.{overlapping_walk}
 use Rattle.rx_spec.specs.declared.Direction.{Direction}
 use Rattle.lemmas_walks.proofs.Every.{every-append}
 use Rattle.lemmas_walks.proofs.Firsts.{Contains-cases, Contains-nil}

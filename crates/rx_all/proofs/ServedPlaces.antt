@@ -1,39 +1,16 @@
 -- An anchored search of a table that serves a build tells what the build tells.
-use Rattle.std.proofs.Common.{◌≡◌, ℕ, ◌<◌, true, if◌then◌else◌, Option, Some, None, [], ◌∷◌, ◌++◌, refl, ap, sym, ◌∙◌}
-use Rattle.std.proofs.Common.{subst}
-use Rattle.std.proofs.lemmas.Bool.{lt-ltb}
-use Rattle.std.proofs.lemmas.List.Elements.{Contains-append_left, Contains-append_right}
-use Rattle.std.specs.Prelude.{Contains, List}
-use Rattle.rx_spec.specs.Bytes.{contains}
-use Rattle.rx_spec.specs.Builds.{Build, build_settings, built_modes, power}
-use Rattle.rx_spec.specs.HalfSearches.{beside, first_offset, units_of}
-use Rattle.rx_spec.specs.Machines.{Settings}
-use Rattle.rx_spec.specs.Overlapping.{overlapping, overlapping_walk}
-use Rattle.rx_spec.specs.Plans.{Plan}
-use Rattle.rx_spec.specs.Expressions.{Expression}
-use Rattle.rx_spec.specs.Queries.{Anchored, Query}
-use Rattle.rx_spec.specs.Starts.{StartError, has_anchored, has_unanchored, start_context, start_error, start_row}
-use Rattle.rx_spec.specs.Tables.{Table}
+use Rattle.rx_spec.proofs.Prelude.{◌≡◌, ℕ, ◌<◌, if◌then◌else◌, Option, Some, None, [], refl, ap, sym, ◌∙◌, lt-ltb, List}
+use Rattle.rx_spec.proofs.Prelude.{contains, Build, build_settings, power, beside, first_offset, units_of, Settings}
+use Rattle.rx_spec.proofs.Prelude.{overlapping, overlapping_walk, Plan, Expression, Anchored, Query, StartError}
+use Rattle.rx_spec.proofs.Prelude.{has_anchored, start_context, start_error, start_row, Table}
 use Rattle.rx_spec.specs.declared.Direction.{Direction}
-use Rattle.lemmas_walks.proofs.Firsts.{Contains-here}
-use Rattle.lemmas_walks.proofs.HalfSearches.{Begins, Done, Refused, Started, begins, going, started}
+use Rattle.lemmas_walks.proofs.HalfSearches.{Begins, Done, Refused, Started, begins, going, has_yes, started}
 use Rattle.lemmas_walks.proofs.Overlapping.{overlapping_done, overlapping_refused, overlapping_walks}
 use Rattle.lemmas_walks.proofs.ReadUnits.{beside_is_byte, units_word}
 use Rattle.lemmas_walks.proofs.SilentRows.{AnyNode, IsRow, power_ends_well, table_ends_well}
 use Rattle.rx_meaning.proofs.AlikeRows.{Alike, overlapping_alike}
 use Rattle.rx_all.specs.Builds.{all_build}
 use Rattle.rx_all.specs.Matches.{IsPlaced, query_at, told_at}
-
--- a build with anchored starts has them for the mode Yes
-yes_is_built : (b : Build) → has_anchored b.start_kind ≡ true → Contains (built_modes b) Anchored.Yes
-yes_is_built b anchored =
-    let unanchored = if has_unanchored b.start_kind then Anchored.No ∷ [] else [] in
-    let at_start = if has_anchored b.start_kind then Anchored.Yes ∷ [] else [] in
-    let here : Contains at_start Anchored.Yes =
-    subst (λ v. Contains (if v then Anchored.Yes ∷ [] else []) Anchored.Yes) (sym anchored)
-    (Contains-here Anchored.Yes []) in
-    Contains-append_left (unanchored ++ at_start) _ Anchored.Yes
-    (Contains-append_right unanchored at_start Anchored.Yes here)
 
 module _ {t : Table} {plan : Plan} {es : List Expression} {text : List ℕ} {p : ℕ} (is : IsPlaced t plan es text p) where
   abbrev b : Build
@@ -79,7 +56,7 @@ module _ {t : Table} {plan : Plan} {es : List Expression} {text : List ℕ} {p :
         inside = is.serves.is_table.entries Anchored.Yes context;
         within = tt;
         labels = is.serves.gives Anchored.Yes
-            (yes_is_built b (started r before Anchored.Yes none).supported) context;
+            (has_yes b (started r before Anchored.Yes none).supported) context;
       }
 
   pub told_same : told_at t text p

@@ -1,20 +1,15 @@
 -- A set of bytes, a number of 256 bits, by its two halves of 128, and its bytes after a change.
-use Rattle.std.proofs.Common.{rules, ℕ, ◌≡◌, ◌≢◌, ◌+◌, ◌-◌, ◌*◌, ◌^◌, ◌/◌, ◌%◌, ◌<◌, ◌≤◌, ◌⊎◌, refl, sym, ◌∙◌, ap}
-use Rattle.std.proofs.Common.{subst, arith, inl, inr, bit_or, bit_and, true, ◌==◌, ◌&&◌, ◌||◌, not, nat_le, nat_lt, max}
-use Rattle.std.proofs.Common.{ap₂, bit_xor, suc, zero}
-use Rattle.std.proofs.lemmas.Grind.{common_steps}
-use Rattle.std.specs.Int.{w128, bit_at}
+use Rattle.rx_spec.proofs.Prelude.{rules, ℕ, ◌≡◌, ◌≢◌, ◌+◌, ◌-◌, ◌*◌, ◌^◌, ◌/◌, ◌%◌, ◌<◌, ◌≤◌, ◌⊎◌, refl, sym, ◌∙◌, ap}
+use Rattle.rx_spec.proofs.Prelude.{subst, arith, inl, inr, bit_or, bit_and, true, ◌==◌, ◌&&◌, ◌||◌, not, nat_le, nat_lt}
+use Rattle.rx_spec.proofs.Prelude.{max, ap₂, suc, zero, common_steps, w128, bit_at, and-true, and-false, nat_tests}
+use Rattle.rx_spec.proofs.Prelude.{eqb_tells, or_lt, one_shl, contains, only, between, differ, parts}
+use Rattle.std.proofs.Common.{bit_xor}
 use Rattle.std.specs.Int.Bits.{or_zero_r, and_lt}
-use Rattle.std.proofs.Math.Bool.{and-true, and-false}
-use Rattle.std.proofs.lemmas.Bool.Decides.{nat_tests, eqb_tells}
-use Rattle.std.proofs.lemmas.Nat.{or_block, or_lt, one_shl, pow_below, pow-add, xor_lt}
+use Rattle.std.proofs.lemmas.Nat.{or_block, pow_below, pow-add, xor_lt}
 use Rattle.std.proofs.lemmas.Nat.Bits.{shr_and_one, bit_at-lt, bit_at_or, bit_at-pow_same, bit_at-pow_other}
 use Rattle.std.proofs.lemmas.Nat.Bits.{bit_at_above, bit_at-suc, bit_at_xor, bit_at_cat_low, bit_at_cat_high}
 use Rattle.std.proofs.lemmas.Nat.Bits.{bit_at_clear_same, bit_at_clear_other, bit_at_mask_below, bit_at_mask_inside}
 use Rattle.std.proofs.lemmas.Nat.Bits.{bit_at_mask_above}
-use Rattle.rx_spec.specs.Bytes.{contains, only, between}
-use Rattle.rx_spec.specs.Looks.{differ}
-use Rattle.rx_spec.specs.Classes.{parts}
 
 abbrev pub joined : ℕ → ℕ → ℕ
 joined high low = high * 2 ^ 128 + low

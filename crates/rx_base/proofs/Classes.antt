@@ -1,14 +1,10 @@
 -- The classes that end at some bytes, and the bytes of which each is the first.
-use Rattle.std.proofs.Common.{rules, ℕ, zero, suc, ◌≡◌, ◌≢◌, ◌+◌, ◌-◌, ◌^◌, ◌<◌, ◌≤◌, refl, sym, ◌∙◌, ap, ap₂, arith}
-use Rattle.std.proofs.Common.{inl, inr, add-one, Bool, true, false, ◌==◌, ◌||◌, not, nat_le, cond, bit_or, List, ◌∷◌}
-use Rattle.std.proofs.Common.{length, get_or, replicate}
-use Rattle.std.proofs.lemmas.Grind.{common_steps}
-use Rattle.std.proofs.Math.Bool.{or_assoc}
-use Rattle.std.proofs.lemmas.Bool.{eq-eqb}
-use Rattle.std.proofs.lemmas.Bool.Decides.{nat_tests, eqb_tells}
-use Rattle.std.proofs.lemmas.List.{get_or-replicate, length-replicate}
-use Rattle.rx_spec.specs.Bytes.{contains, only, between}
-use Rattle.rx_spec.specs.Classes.{class_by, begins_class, parts, least_exponent}
+use Rattle.rx_spec.proofs.Prelude.{rules, ℕ, zero, suc, ◌≡◌, ◌≢◌, ◌+◌, ◌-◌, ◌^◌, ◌<◌, ◌≤◌, refl, sym, ◌∙◌, ap, ap₂}
+use Rattle.rx_spec.proofs.Prelude.{arith, inl, inr, add-one, Bool, true, false, ◌==◌, ◌||◌, not, nat_le, cond, bit_or}
+use Rattle.rx_spec.proofs.Prelude.{List, ◌∷◌, length, get_or, replicate, common_steps, or_assoc, eq-eqb, nat_tests}
+use Rattle.rx_spec.proofs.Prelude.{eqb_tells, get_or-replicate, length-replicate, contains, only, between, class_by}
+use Rattle.rx_spec.proofs.Prelude.{parts, least_exponent}
+use Rattle.rx_spec.specs.Classes.{begins_class}
 use Rattle.rx_base.specs.ByteClasses.{AreClasses, ends_of, alphabet_len, bytes_from, representatives_from}
 use Rattle.rx_base.specs.ByteClasses.{elements_from}
 use Rattle.rx_base.proofs.ByteSets.{contains-add, parts-between}

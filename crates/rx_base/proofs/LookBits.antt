@@ -1,16 +1,12 @@
 -- A set of assertions with one bit changed, how many it has, and the assertions of Unicode words in it.
-use Rattle.std.proofs.lemmas.Grind.{common_steps}
-use Rattle.std.proofs.Common.{[], ℕ, zero, suc, ◌≡◌, ◌≢◌, ◌+◌, ◌-◌, ◌*◌, ◌^◌, ◌/◌, ◌%◌, ◌<◌, refl, sym, ◌∙◌, ap, subst}
-use Rattle.std.proofs.Common.{arith, List, ◌∷◌, get_or, bit_or, bit_and, Bool, true, false, ◌==◌, w32, cond}
-use Rattle.std.specs.Int.{bit_at}
+use Rattle.rx_spec.proofs.Prelude.{common_steps, [], ℕ, zero, suc, ◌≡◌, ◌≢◌, ◌+◌, ◌-◌, ◌*◌, ◌^◌, ◌/◌, ◌%◌, ◌<◌, refl}
+use Rattle.rx_spec.proofs.Prelude.{sym, ◌∙◌, ap, subst, arith, List, ◌∷◌, get_or, bit_or, bit_and, Bool, true, false}
+use Rattle.rx_spec.proofs.Prelude.{◌==◌, w32, cond, bit_at, or_lt, one_shl, sum_by-cons, is_unicode_word, false≢true}
 use Rattle.std.specs.Int.Count.{ones}
 use Rattle.std.specs.List.{count_by}
-use Rattle.std.proofs.lemmas.Nat.{ones_cat, or_lt, pow_below, shr-shr, shr_split, one_shl}
+use Rattle.std.proofs.lemmas.Nat.{ones_cat, pow_below, shr-shr, shr_split}
 use Rattle.std.proofs.lemmas.Nat.Bits.{bit_at_set_same, bit_at_set_other, bit_at_clear_same, bit_at_clear_other}
-use Rattle.std.proofs.lemmas.List.Sums.{sum_by-cons}
-use Rattle.rx_spec.specs.Looks.{is_unicode_word}
 use Rattle.rx_spec.specs.declared.Look.{Look}
-use Rattle.std.proofs.lemmas.Bool.{false≢true}
 use Rattle.rx_base.specs.LookSet.{holds_look, look_number, all_looks}
 
 -- ---- the places of assertions

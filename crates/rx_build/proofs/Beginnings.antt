@@ -1,12 +1,7 @@
 -- A table that was begun for an NFA is one that may be determinized, and what that says of causes is said of the build.
-use Rattle.std.proofs.Common.{arith, ◌≡◌, ℕ, Bool, true, false, is_some, if◌then◌else◌, Some, None, length, refl, sym}
-use Rattle.std.proofs.Common.{ap₂, subst, ◌∙◌}
-use Rattle.std.proofs.lemmas.Grind.{common_steps}
-use Rattle.rx_spec.specs.Builds.{Build}
-use Rattle.rx_spec.specs.Causes.{BuildCause, BuildFits}
+use Rattle.rx_spec.proofs.Prelude.{arith, ◌≡◌, ℕ, Bool, true, false, is_some, if◌then◌else◌, Some, None, length, refl}
+use Rattle.rx_spec.proofs.Prelude.{sym, ap₂, subst, ◌∙◌, common_steps, Build, BuildCause, BuildFits, Nfa, Cause}
 use Rattle.rx_spec.specs.Classes.{quit_set}
-use Rattle.rx_spec.specs.Nfas.{Nfa}
-use Rattle.rx_spec.specs.Plans.{Cause}
 use Rattle.rx_spec.specs.declared.Form.{Form}
 use Rattle.rx_dense.specs.Layouts.{Layout}
 use Rattle.rx_build_error.specs.Refusals.{IsRefused, TableRefused}
@@ -35,7 +30,7 @@ module _ (s : Settled) (nfa : Nfa) where
 
 -- ---- limits of dense tables, which have no rows of ranges
 
-not_sparse : Form.Dense ≡ Form.Sparse → ⊥
+pub not_sparse : Form.Dense ≡ Form.Sparse → ⊥
 not_sparse e = cc
 
 fits_alike : (s : Settled) (quit : ℕ) (b : Build)

@@ -1,18 +1,9 @@
 -- The starts of modes that a build leaves out are dead: in a powerset machine, where rows are joined, and where
 -- they lie at other places.
-use Rattle.std.proofs.Common.{◌≡◌, ℕ, zero, suc, ◌<◌, false, List, length, slice_index, refl, sym, ap, ◌∙◌, arith, inl}
-use Rattle.std.proofs.Common.{inr}
-use Rattle.std.proofs.lemmas.Bool.{cases_eq, true≢false}
-use Rattle.std.proofs.lemmas.List.{get_or-map}
+use Rattle.rx_spec.proofs.Prelude.{◌≡◌, ℕ, zero, suc, ◌<◌, false, List, length, slice_index, refl, sym, ap, ◌∙◌, arith}
+use Rattle.rx_spec.proofs.Prelude.{inl, inr, cases_eq, true≢false, get_or-map, Build, built_entry, dead, label_after}
+use Rattle.rx_spec.proofs.Prelude.{IsWord, IsPower, node_at, Anchored, supports, dead_state, Table, IsTable}
 use Rattle.rx_spec.specs.Builds as builds
-use Rattle.rx_spec.specs.Builds.{Build, built_entry, dead}
-use Rattle.rx_spec.specs.Labels.{label_after}
-use Rattle.rx_spec.specs.Machines.{IsWord}
-use Rattle.rx_spec.specs.Power.{IsPower, node_at}
-use Rattle.rx_spec.specs.Queries.{Anchored}
-use Rattle.rx_spec.specs.Starts.{supports}
-use Rattle.rx_spec.specs.States.{dead_state}
-use Rattle.rx_spec.specs.Tables.{Table, IsTable}
 use Rattle.rx_spec.specs.declared.Start.{Start}
 use Rattle.lemmas_walks.proofs.SilentRows.{zero_is_silent}
 use Rattle.rx_dense.specs.Layouts.{Layout, table_of}

@@ -1,5 +1,3 @@
--- tables whose rows lie at other places
-pub mod PermutedTables
 -- starts of modes that a build leaves out
 pub mod LeftOut
 -- tables without accelerated rows, and without marked ones

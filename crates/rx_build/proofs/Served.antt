@@ -1,9 +1,6 @@
 -- A built table serves its build.
-use Rattle.std.proofs.Common.{get_or, ap, ◌∙◌, zero-add}
-use Rattle.std.proofs.lemmas.List.FromFn.{get_or-map-range_with_len}
-use Rattle.rx_spec.specs.Bytes.{contains}
-use Rattle.rx_spec.specs.Contexts.{start_of_byte}
-use Rattle.rx_spec.specs.Nfas.{Nfa}
+use Rattle.rx_spec.proofs.Prelude.{get_or, ap, ◌∙◌, get_or-map-range_with_len, contains, start_of_byte, Nfa}
+use Rattle.std.proofs.Common.{zero-add}
 use Rattle.rx_spec.specs.declared.Start.{Start}
 use Rattle.rx_dense.specs.Layouts.{Layout, table_of}
 use Rattle.rx_meaning.specs.Tables.{Serves}

@@ -1,26 +1,23 @@
 -- What each step of a build keeps of a table, and adds to it.
-use Rattle.std.proofs.Common.{◌≡◌, ℕ, ◌<◌, ◌&&◌, Bool, true, false, Some, None, List, if◌then◌else◌, refl, sym, ap, ◌∙◌}
-use Rattle.std.proofs.Common.{inl, inr, arith}
-use Rattle.std.proofs.lemmas.Bool.{false≢true, true≢false}
-use Rattle.std.specs.Prelude.{◌⊎◌}
-use Rattle.rx_spec.specs.Builds.{Build, built_modes}
-use Rattle.rx_spec.specs.Nfas.{Nfa}
+use Rattle.rx_spec.proofs.Prelude.{◌≡◌, ℕ, ◌<◌, ◌&&◌, Bool, true, false, Some, None, if◌then◌else◌, refl, sym, ap, ◌∙◌}
+use Rattle.rx_spec.proofs.Prelude.{arith, rules, false≢true, true≢false, and-false, common_steps, Contains, Build}
+use Rattle.rx_spec.proofs.Prelude.{built_modes, Nfa, Anchored, IsSound, IsTable}
 use Rattle.rx_dense.specs.Builder.{HasUniversalStarts, with_universal_starts}
 use Rattle.rx_dense.specs.Layouts.{Layout, row_count, table_of}
-use Rattle.rx_spec.specs.Queries.{Anchored}
 use Rattle.rx_spec.specs.declared.Start.{Start}
-use Rattle.rx_order.specs.RowOrder.{IsInOrder, is_marked, is_start_row}
+use Rattle.rx_order.specs.RowOrder.{IsInOrder, IsOrdered, is_marked, is_start_row}
 use Rattle.rx_order.specs.Ordering.{IsAccelerated}
 use Rattle.rx_order.proofs.ExchangedRows.{row_at_place}
 use Rattle.rx_determinize.specs.Determinized.{IsDeterminized}
-use Rattle.rx_minimize.specs.Minimized.{AreReachedRows, IsMinimized}
+use Rattle.rx_minimize.specs.Minimized.{AnyMode, AreReachedRows, IsMinimized}
 use Rattle.rx_meaning.proofs.PowerTables.{power_gives, power_is_reached}
 use Rattle.rx_meaning.proofs.Reduced.{reduced_is_least}
 use Rattle.rx_build.specs.Built.{AreApart, IsBuilt, begun, build_of}
 use Rattle.rx_build.specs.Making.{IsMade, determinized, marked_as, minimized}
 use Rattle.rx_build.specs.Settings.{Settled}
 use Rattle.rx_build.proofs.LeftOut.{joined_left_out, moved_left_out, power_left_out}
-use Rattle.rx_build.proofs.PermutedTables.{IsMoved, moved_apart, moved_gives, moved_machine, moved_reached}
+use Rattle.rx_order.proofs.Runs.{HasMoved, apart, permuted_moved, reached, same}
+use Rattle.rx_determinize.proofs.PermutedLaws.{moved_power}
 use Rattle.rx_build.proofs.StartMarks.{none_accelerated, none_counted, range_kept, unmarked, unmarked_order}
 use Rattle.rx_build.proofs.StartMarks.{unmarked_plain, unmarked_row}
 
@@ -42,16 +39,7 @@ module _ {b : Build} {begun : Layout} where
         accelerated = λ row h. none_accelerated l d.plain row;
         counted = none_counted l d.plain;
         marked = d.marked;
-        rest =
-            d.rest
-            ∙ ap (λ (accels : List (List ℕ)). record begun {
-              words = l.words;
-              starts = l.starts;
-              slices = l.slices;
-              pattern_ids = l.pattern_ids;
-              special = l.special;
-              accels = accels;
-            }) (sym (ap (λ (k : Layout). k.accels) d.rest));
+        rest = grind (arith, common_steps, d.rest);
       }
 
   -- ---- rows joined
@@ -71,49 +59,17 @@ module _ {b : Build} {begun : Layout} where
         joined = m.joined;
         accelerated = λ row h. none_accelerated new m.plain row;
         counted = none_counted new m.plain;
-        marked = λ row h. m.marked row h ∙ kept row h (cases_true (is_start_row new row));
-        rest =
-            m.rest
-            ∙ ap (λ (k : Layout). record k {
-              words = new.words;
-              starts = new.starts;
-              slices = new.slices;
-              pattern_ids = new.pattern_ids;
-              special = new.special;
-            }) made.rest
-            ∙ ap (λ (accels : List (List ℕ)). record begun {
-              words = new.words;
-              starts = new.starts;
-              slices = new.slices;
-              pattern_ids = new.pattern_ids;
-              special = new.special;
-              accels = accels;
-            }) (sym (ap (λ (k : Layout). k.accels) m.rest));
+        marked = λ row h. m.marked row h ∙ kept row h (is_start_row new row) refl;
+        rest = grind (arith, common_steps, m.rest, made.rest);
       }
     where
-      cases_true : (b : Bool) → (b ≡ true) ⊎ (b ≡ false)
-      cases_true true = inl refl
-      cases_true false = inr refl
-
-      and_none : (b : Bool) → (b && false) ≡ false
-      and_none true = refl
-      and_none false = refl
-
-      and_true : (b : Bool) → (b && true) ≡ b
-      and_true true = refl
-      and_true false = refl
-
       -- where a search starts in a row behind quit, the start rows were marked
-      kept : (row : ℕ) → row < row_count new → (is_start_row new row ≡ true) ⊎ (is_start_row new row ≡ false)
-          → (is_marked old && is_start_row new row) ≡ is_start_row new row
-      kept row h (inl e) =
+      kept : (row : ℕ) → row < row_count new → (b : Bool) → is_start_row new row ≡ b → (is_marked old && b) ≡ b
+      kept row h false e = and-false (is_marked old)
+      kept row h true e =
           let from = m.starts row h e in
-          let other : ℕ = from.0 in
-          let is = sym (made.marked other from.1) ∙ made.in_order.ordered.marks other from.1 in
-          let marks : is_marked old ≡ true =
-          sym (and_true (is_marked old)) ∙ ap (λ b. is_marked old && b) (sym from.2) ∙ sym is ∙ from.2 in
-          ap (λ b. b && is_start_row new row) marks
-      kept row h (inr e) = ap (λ b. is_marked old && b) e ∙ and_none (is_marked old) ∙ sym e
+          let is = sym (made.marked from.0 from.1) ∙ made.in_order.ordered.marks from.0 from.1 in
+          sym (ap (λ b. is_marked old && b) from.2) ∙ sym is ∙ from.2
 
   -- ---- start rows unmarked
 
@@ -123,29 +79,9 @@ module _ {b : Build} {begun : Layout} where
       let plain = made.plain refl in
       record {
         gives = made.gives;
-        reached = λ row high h.
-            let r = made.reached row high h in
-            record {
-              mode = r.mode;
-              begins = r.begins;
-              start = r.start;
-              word = r.word;
-              is_word = r.is_word;
-              leads = r.leads;
-            };
-        power = λ e.
-            let p = made.power e in
-            record {
-              states = p.states;
-              reached = p.reached;
-              size = p.size;
-              entries = p.entries;
-              nexts = p.nexts;
-              labels = p.labels;
-            };
-        apart = λ e x y hx hy other.
-            let told = made.apart e x y hx hy other in
-            record { word = told.word; is_word = told.is_word; differ = told.differ };
+        reached = λ row high h. let r = made.reached row high h in search rules;
+        power = λ e. let p = made.power e in search rules;
+        apart = λ e x y hx hy other. let told = made.apart e x y hx hy other in search rules;
         left_out = made.left_out;
         in_order = unmarked_order l made.in_order plain;
         plain = λ e. unmarked_plain l made.in_order plain;
@@ -162,17 +98,14 @@ module _ {b : Build} {begun : Layout} where
       → IsAccelerated old new
       → IsMade b (record { minimize = minimize; mark_starts = mark; accelerate = true }) begun new
   accelerated_made {old} {new} minimize mark made a =
-      let moved : IsMoved (table_of old) (table_of new) = record {
-        numbers = a.numbers;
-        is_table = made.in_order.sound.is_table;
-        permuted = a.permuted;
-        labels = a.labels;
-      } in
+      let is = made.in_order.sound.is_table in
+      let moved : HasMoved (table_of old) (table_of new) = permuted_moved is.entries is.nexts a.permuted a.labels in
       record {
-        gives = moved_gives moved b made.gives;
-        reached = moved_reached moved (built_modes b) made.reached;
-        power = λ e. moved_machine moved b (made.power e);
-        apart = λ e. moved_apart moved (made.apart e);
+        gives = λ mode built start word w.
+            same moved.names AnyMode mode tt start word w ∙ made.gives mode built start word w;
+        reached = reached moved.names (Contains (built_modes b)) made.reached;
+        power = λ e. moved_power moved (made.power e);
+        apart = λ e. apart moved.names (λ x y hx hy ne. made.apart e x y hx hy (λ o. ne (ap moved.names.name o)));
         left_out = moved_left_out b old new a made.left_out;
         in_order = a.in_order;
         plain = λ e. absurd (true≢false e);
@@ -191,16 +124,7 @@ module _ {b : Build} {begun : Layout} where
             ∙ sym (made.in_order.ordered.marks _ at.0)
             ∙ made.marked _ at.0
             ∙ ap (λ (b : Bool). mark && b) (sym here);
-        rest =
-            a.rest
-            ∙ ap (λ (k : Layout). record k {
-              words = new.words;
-              starts = new.starts;
-              slices = new.slices;
-              pattern_ids = new.pattern_ids;
-              special = new.special;
-              accels = new.accels;
-            }) made.rest;
+        rest = grind (arith, common_steps, a.rest, made.rest);
       }
 
 -- ---- universal starts, the last step
@@ -220,73 +144,38 @@ module _ (s : Settled) (nfa : Nfa) {l : Layout}
       let sound = made.in_order.sound in
       let is = sound.is_table in
       let ordered = made.in_order.ordered in
-      record {
-        sound = record {
-          is_table = record {
-            two = is.two;
-            entries = is.entries;
-            universal_unanchored =
-                λ row e.
-                common_below _ _ _ row (row_count l) (is.entries Anchored.No Start.NonWordByte)
-                (sym has.unanchored ∙ e);
-            universal_anchored =
-                λ row e.
-                common_below _ _ _ row (row_count l) (is.entries Anchored.Yes Start.NonWordByte) (sym has.anchored ∙ e);
-            nexts = is.nexts;
-            past_last = is.past_last;
-            dead_only = is.dead_only;
-            dead_label = is.dead_label;
-            dead_stays = is.dead_stays;
-            quit_label = is.quit_label;
-            quit_ends = is.quit_ends;
-            quit_only = is.quit_only;
-            lists = is.lists;
-          };
-          eoi_goes_on = sound.eoi_goes_on;
-          starts_plain = sound.starts_plain;
-          patterns = sound.patterns;
-          needles = sound.needles;
-          some_needle = sound.some_needle;
-          few_needles = sound.few_needles;
-          no_needle = sound.no_needle;
-          special = sound.special;
-        };
-        ordered = record {
-          kinds = ordered.kinds;
-          quit = ordered.quit;
-          matches = range_kept l (with_universal_starts l) _ _ refl refl ordered.matches;
-          accels = range_kept l (with_universal_starts l) _ _ refl refl ordered.accels;
-          starts = range_kept l (with_universal_starts l) _ _ refl refl ordered.starts;
-          max = ordered.max;
-          marks = ordered.marks;
-        };
-        few = made.in_order.few;
-      }
+      let unanchored : (row : ℕ) → (table_of (with_universal_starts l)).universal_unanchored ≡ Some row
+      → row < row_count l =
+      λ row e.
+      common_below _ _ _ row (row_count l) (is.entries Anchored.No Start.NonWordByte) (sym has.unanchored ∙ e) in
+      let anchored : (row : ℕ) → (table_of (with_universal_starts l)).universal_anchored ≡ Some row
+      → row < row_count l =
+      λ row e.
+      common_below _ _ _ row (row_count l) (is.entries Anchored.Yes Start.NonWordByte) (sym has.anchored ∙ e) in
+      let is_now : IsTable (table_of (with_universal_starts l)) = search rules in
+      let sound_now : IsSound (table_of (with_universal_starts l)) = search rules in
+      let ordered_now : IsOrdered (with_universal_starts l) = record {
+        kinds = ordered.kinds;
+        quit = ordered.quit;
+        matches = range_kept l (with_universal_starts l) _ _ refl refl ordered.matches;
+        accels = range_kept l (with_universal_starts l) _ _ refl refl ordered.accels;
+        starts = range_kept l (with_universal_starts l) _ _ refl refl ordered.starts;
+        max = ordered.max;
+        marks = ordered.marks;
+      } in
+      record { sound = sound_now; ordered = ordered_now; few = made.in_order.few }
 
   reached_kept : AreReachedRows (built_modes (build_of s nfa)) (table_of (with_universal_starts l))
-  reached_kept row high h =
-      let r = made.reached row high h in
-      record { mode = r.mode; begins = r.begins; start = r.start; word = r.word; is_word = r.is_word; leads = r.leads }
+  reached_kept row high h = let r = made.reached row high h in search rules
 
   apart_kept : s.minimize ≡ true → AreApart (with_universal_starts l)
-  apart_kept e x y hx hy other =
-      let told = made.apart e x y hx hy other in
-      record { word = told.word; is_word = told.is_word; differ = told.differ }
+  apart_kept e x y hx hy other = let told = made.apart e x y hx hy other in search rules
 
   pub built_with_starts : IsBuilt s nfa (with_universal_starts l)
   built_with_starts = record {
     gives = made.gives;
     reached = reached_kept;
-    power = λ e.
-        let p = made.power e in
-        record {
-          states = p.states;
-          reached = p.reached;
-          size = p.size;
-          entries = p.entries;
-          nexts = p.nexts;
-          labels = p.labels;
-        };
+    power = λ e. let p = made.power e in search rules;
     least = λ e.
         reduced_is_least (build_of s nfa) (table_of (with_universal_starts l)) order_kept.sound.is_table
         (record { reached = reached_kept; apart = apart_kept e }) made.gives;

@@ -1,10 +1,8 @@
 -- Tables in which no row is accelerated, and those in which no start row is marked any more.
-use Rattle.std.proofs.lemmas.Grind.{common_steps}
-use Rattle.std.proofs.Common.{◌≡◌, ◌≢◌, ℕ, zero, suc, ◌+◌, ◌*◌, ◌/◌, ◌<◌, ◌≤◌, ◌==◌, ◌&&◌, ◌||◌, ◌⊎◌, not, nat_le, ◌^◌}
-use Rattle.std.proofs.Common.{Bool, true, false, length, refl, sym, ap, ap₂, subst, ◌∙◌, ⊎_elim, inl, inr, arith}
-use Rattle.std.proofs.lemmas.Bool.{and_parts, cases_eq, cases_lt, eq-eqb, leb-true, true≢false, ne_eqb}
-use Rattle.std.proofs.lemmas.Nat.{mul-le, pow_pos}
-use Rattle.rx_spec.specs.Tables.{is_match}
+use Rattle.rx_spec.proofs.Prelude.{common_steps, ◌≡◌, ◌≢◌, ℕ, zero, suc, ◌+◌, ◌*◌, ◌/◌, ◌<◌, ◌≤◌, ◌==◌, ◌&&◌, ◌||◌, ◌⊎◌}
+use Rattle.rx_spec.proofs.Prelude.{not, nat_le, ◌^◌, rules, Bool, true, false, length, refl, sym, ap, ap₂, subst, ◌∙◌}
+use Rattle.rx_spec.proofs.Prelude.{⊎_elim, inl, inr, arith, and_parts, cases_eq, cases_lt, eq-eqb, leb-true, true≢false}
+use Rattle.rx_spec.proofs.Prelude.{ne_eqb, and-false, mul-le, pow_pos, is_match}
 use Rattle.rx_dense.specs.declared.special.Special.{Special}
 use Rattle.rx_dense.specs.Layouts.{Layout, IsRowId, row_count, stride, table_of}
 use Rattle.rx_dense.specs.Specials.{greatest, is_in_range, is_match_id}
@@ -15,12 +13,8 @@ use Rattle.rx_order.proofs.KindNumbers.{at_most, high_kind, kind_high, label_mat
 
 -- ---- no row is accelerated
 
-and_none : (b : Bool) → (b && false) ≡ false
-and_none true = refl
-and_none false = refl
-
 empty_range : (id : ℕ) → is_in_range 0 0 id ≡ false
-empty_range id = grind (arith, common_steps, over, and_none, cases_eq)
+empty_range id = grind (arith, common_steps, over, and-false, cases_eq)
 
 pub none_accelerated : (l : Layout) → IsPlain l → (row : ℕ) → (table_of l).is_accelerated row ≡ false
 none_accelerated l plain row = grind (arith, common_steps, empty_range)
@@ -117,17 +111,13 @@ module _ (l : Layout) (order : IsInOrder l) (plain : IsPlain l) where
       ≡ ((row == 0) || (row == 1) || is_match (table_of l) row)
   special_left row h =
       ⊎_elim
-      (λ (high : 1 < row). ⊎_elim (matching high) (other high) (cases_true (is_match (table_of l) row)))
+      (λ (high : 1 < row). by_match high (is_match (table_of l) row) refl)
       (λ (low : row ≤ 1).
       let below = mul-le row (stride l) 1 (stride l) low (omega arith) in
       at_most (row * stride l) (unmarked_special l.special).max (omega (arith, below, order.ordered.quit))
       ∙ sym (first_rows row (is_match (table_of l) row) low))
       (cases_lt 1 row)
     where
-      cases_true : (b : Bool) → (b ≡ true) ⊎ (b ≡ false)
-      cases_true true = inl refl
-      cases_true false = inr refl
-
       first_rows : (row : ℕ) (m : Bool) → row ≤ 1 → ((row == 0) || (row == 1) || m) ≡ true
       first_rows zero m low = refl
       first_rows (suc zero) m low = refl
@@ -139,10 +129,10 @@ module _ (l : Layout) (order : IsInOrder l) (plain : IsPlain l) where
           let quit : row ≡ 1 → ⊥ = λ e. absurd (omega (arith, e)) in
           rw (ne_eqb row 0 dead, ne_eqb row 1 quit) refl
 
-      matching : 1 < row → is_match (table_of l) row ≡ true
+      by_match : 1 < row → (b : Bool) → is_match (table_of l) row ≡ b
           → nat_le (row * stride l) (unmarked_special l.special).max
           ≡ ((row == 0) || (row == 1) || is_match (table_of l) row)
-      matching high e =
+      by_match high true e =
           let id : is_match_id l.special (row * stride l) ≡ true = sym (match_by_id row) ∙ e in
           let both =
           and_parts (nat_le l.special.min_match (row * stride l) && nat_le (row * stride l) l.special.max_match)
@@ -152,11 +142,7 @@ module _ (l : Layout) (order : IsInOrder l) (plain : IsPlain l) where
           both.0).1 in
           at_most (row * stride l) (unmarked_special l.special).max (omega (arith, within))
           ∙ sym (behind (is_match (table_of l) row) high ∙ e)
-
-      other : 1 < row → is_match (table_of l) row ≡ false
-          → nat_le (row * stride l) (unmarked_special l.special).max
-          ≡ ((row == 0) || (row == 1) || is_match (table_of l) row)
-      other high e =
+      by_match high false e =
           let past : l.special.max_match < row * stride l =
           ⊎_elim
           (λ (p : l.special.max_match < row * stride l). p)
@@ -178,21 +164,7 @@ module _ (l : Layout) (order : IsInOrder l) (plain : IsPlain l) where
       let ordered = order.ordered in
       record {
         sound = record {
-          is_table = record {
-            two = is.two;
-            entries = is.entries;
-            universal_unanchored = is.universal_unanchored;
-            universal_anchored = is.universal_anchored;
-            nexts = is.nexts;
-            past_last = is.past_last;
-            dead_only = is.dead_only;
-            dead_label = is.dead_label;
-            dead_stays = is.dead_stays;
-            quit_label = is.quit_label;
-            quit_ends = is.quit_ends;
-            quit_only = is.quit_only;
-            lists = is.lists;
-          };
+          is_table = search rules;
           eoi_goes_on = sound.eoi_goes_on;
           starts_plain = sound.starts_plain;
           patterns = sound.patterns;

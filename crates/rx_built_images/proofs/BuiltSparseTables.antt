@@ -1,7 +1,5 @@
 -- A sparse table that is built can be written and read again.
-use Rattle.std.proofs.Common.{◌^◌, ◌<◌, ◌≤◌, sym, ap, subst}
-use Rattle.rx_spec.specs.Causes.{max_id}
-use Rattle.rx_spec.specs.Nfas.{Nfa}
+use Rattle.rx_spec.proofs.Prelude.{◌^◌, ◌<◌, ◌≤◌, sym, ap, subst, max_id, Nfa}
 use Rattle.rx_dense.specs.Layouts.{Layout as Dense}
 use Rattle.rx_build.specs.Settings.{Settled}
 use Rattle.rx_built_images.specs.Finished.{IsFinished}

@@ -1,10 +1,7 @@
 -- A built table can be written and read again.
-use Rattle.std.proofs.Common.{◌≡◌, ℕ, ◌^◌, ◌<◌, ◌&&◌, Bool, true, false, if◌then◌else◌, sym, ap, subst, arith}
-use Rattle.std.specs.Prelude.{bit_or}
-use Rattle.std.proofs.lemmas.Nat.{or_lt}
-use Rattle.rx_spec.specs.Bytes.{between}
+use Rattle.rx_spec.proofs.Prelude.{◌≡◌, ℕ, ◌^◌, ◌<◌, ◌&&◌, Bool, true, false, if◌then◌else◌, sym, ap, subst, arith}
+use Rattle.rx_spec.proofs.Prelude.{bit_or, or_lt, between, Nfa}
 use Rattle.rx_spec.specs.Classes.{has_unicode_word, quit_set}
-use Rattle.rx_spec.specs.Nfas.{Nfa}
 use Rattle.rx_dense.specs.Layouts.{IsShaped, Layout}
 use Rattle.rx_build.specs.Built.{IsBuilt}
 use Rattle.rx_build.specs.Settings.{Settled}

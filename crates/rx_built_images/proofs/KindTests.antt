@@ -1,10 +1,7 @@
 -- Kinds of rows, labels and ranges of ids, by the tests that tell them.
-use Rattle.std.proofs.lemmas.Grind.{common_steps}
-use Rattle.std.proofs.Common.{◌≡◌, ◌≢◌, ℕ, ◌*◌, ◌≤◌, Bool, true, false, ◌||◌, List, refl, arith, if◌then◌else◌}
-use Rattle.std.proofs.lemmas.Bool.{and_parts, cases_eq, leb-true}
-use Rattle.rx_spec.specs.Machines.{Label}
-use Rattle.rx_spec.specs.Tables.{is_match}
-use Rattle.rx_dense.specs.Specials.{is_in_range, is_match_id}
+use Rattle.rx_spec.proofs.Prelude.{common_steps, ◌≡◌, ◌≢◌, ℕ, ◌*◌, ◌≤◌, Bool, true, false, ◌||◌, List, refl, arith}
+use Rattle.rx_spec.proofs.Prelude.{if◌then◌else◌, cases_eq, or-true, Label, is_match}
+use Rattle.rx_dense.specs.Specials.{is_match_id}
 use Rattle.rx_dense.specs.Layouts.{Layout, stride, table_of}
 use Rattle.rx_order.proofs.KindNumbers.{at_most, high_kind, label_match}
 use Rattle.rx_dense_image.specs.Marks.{begins_after}
@@ -29,23 +26,15 @@ plain_quits false false ks e h = cc
 
 -- ---- ranges of ids
 
--- an id in a range is no less than the first of the range
-pub first_of : (first last id : ℕ) → is_in_range first last id ≡ true → first ≤ id
-first_of first last id test = grind (arith, common_steps, leb-true, and_parts)
-
 -- one that holds is enough
 pub or_last : (a b : Bool) → (a || b || true) ≡ true
 or_last true b = refl
 or_last false true = refl
 or_last false false = refl
 
-pub or_middle : (a : Bool) → (a || true) ≡ true
-or_middle true = refl
-or_middle false = refl
-
 -- one range begins no sooner than another where that holds of two that have rows
 pub after_of : (first other : ℕ) → (first ≢ 0 → other ≢ 0 → other ≤ first) → begins_after first other ≡ true
-after_of first other h = grind (arith, common_steps, cases_eq, or_middle, at_most, or_last)
+after_of first other h = grind (arith, common_steps, cases_eq, or-true, at_most, or_last)
 
 -- ---- kinds of rows behind quit: those up to 3 are of match rows, and those up to 5 of match rows and accelerated ones
 

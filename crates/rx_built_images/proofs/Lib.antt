@@ -3,6 +3,7 @@ pub mod Places
 pub mod RangeRows
 -- kinds of rows, labels and ranges of ids, by their tests
 pub mod KindTests
+pub mod StartEntries
 -- the tests of an image: rows, special rows, start rows, lists of patterns, needles; and all together
 pub mod WholeRows
 pub mod WholeSpecial

@@ -1,9 +1,6 @@
 -- The rows of a range of ids, one after another.
-use Rattle.std.proofs.lemmas.Grind.{common_steps}
-use Rattle.std.proofs.Common.{◌≡◌, ℕ, ◌+◌, ◌-◌, ◌*◌, ◌/◌, ◌<◌, ◌≤◌, true, if◌then◌else◌, ap, ap₂, sym, ◌∙◌, arith, inl}
-use Rattle.std.proofs.Common.{inr}
-use Rattle.std.proofs.lemmas.Bool.{cases_lt, eq-eqb, ne_eqb}
-use Rattle.std.proofs.lemmas.Nat.{mul-le, pow_pos}
+use Rattle.rx_spec.proofs.Prelude.{common_steps, ◌≡◌, ℕ, ◌+◌, ◌-◌, ◌*◌, ◌/◌, ◌<◌, ◌≤◌, true, if◌then◌else◌, ap, ap₂}
+use Rattle.rx_spec.proofs.Prelude.{sym, ◌∙◌, arith, inl, inr, eq-eqb, ne_eqb, mul-div_cancel, le-div, mul-le, pow_pos}
 use Rattle.rx_dense.specs.Specials.{is_in_range}
 use Rattle.rx_dense.specs.Layouts.{Layout, place_in_range, row_count, stride}
 use Rattle.rx_dense.proofs.Rows.{quotient, row-below}
@@ -28,7 +25,8 @@ range_at l first last (inr (past, le, is_first, is_last)) i lt =
     let p : ℕ = last / stride l in
     let first_is = quotient first (stride l) is_first.whole in
     let last_is = quotient last (stride l) is_last.whole in
-    let rises = rise q p (stride l) some (omega (arith, first_is, last_is, le)) in
+    let up = le-div q (p * stride l) (stride l) some (omega (arith, first_is, last_is, le)) in
+    let rises : q ≤ p = omega (arith, up, mul-div_cancel p some) in
     let len : range_len l first last ≡ p - q + 1 =
     ap (λ b. if b then 0 else (last - first) / stride l + 1)
     (ne_eqb first 0 (λ e. absurd (omega (arith, past, e))))
@@ -51,13 +49,3 @@ range_at l first last (inr (past, le, is_first, is_last)) i lt =
           ∙ place_from q (q + i) (stride l) some from_first
           ∙ back;
     }
-  where
-    rise : (q p s : ℕ) → 0 < s → q * s ≤ p * s → q ≤ p
-    rise q p s some le =
-        elim (cases_lt p q) [
-          | inl less ↦ (
-              let same : s ≤ s = omega arith in
-              let one : p + 1 ≤ q = omega (arith, less) in
-              absurd (omega (arith, some, le, mul-le (p + 1) s q s one same)))
-          | inr more ↦ more
-        ]

@@ -1,8 +1,7 @@
 -- The first class of a range leads where the range leads.
-use Rattle.std.proofs.Common.{◌≡◌, ℕ, zero, suc, ◌+◌, ◌<◌, ◌≤◌, Bool, true, false, cond, leb, List, [], ◌∷◌, length}
-use Rattle.std.proofs.Common.{get_or, refl, ap, subst, ◌∙◌, arith}
+use Rattle.rx_spec.proofs.Prelude.{◌≡◌, ℕ, zero, suc, ◌+◌, ◌<◌, ◌≤◌, Bool, true, false, cond, leb, List, [], ◌∷◌}
+use Rattle.rx_spec.proofs.Prelude.{length, get_or, refl, ap, subst, ◌∙◌, arith, and_right}
 use Rattle.rx_order.proofs.KindNumbers.{at_most, over}
-use Rattle.rx_dense_image.proofs.EachBelow.{and_false}
 use Rattle.rx_sparse.specs.declared.ranges.ClassRange.{ClassRange}
 use Rattle.rx_sparse.specs.Rows.{has_class, next_among, no_range}
 
@@ -49,6 +48,6 @@ among_at (r ∷ ranges) are (suc i) h =
     subst (λ (n : ℕ). r.last < (get_or (r ∷ ranges) n no_range).first) e
     (ends_before (r ∷ ranges) are i (omega (arith, h))) in
     let no : has_class class r ≡ false =
-    and_false (leb r.first class) (leb class r.last) (over class r.last past) in
+    and_right (leb r.first class) (leb class r.last) (over class r.last past) in
     ap (λ (b : Bool). cond b r.next (next_among ranges class)) no
     ∙ among_at ranges (tail r ranges are) i (omega (arith, h))

@@ -1,19 +1,14 @@
 -- Offsets lie as dense ids do, so the special ids of a sparse table are in order where those of the dense one are.
-use Rattle.std.proofs.Common.{◌≡◌, ℕ, ◌*◌, ◌/◌, ◌<◌, ◌≤◌, ◌&&◌, Bool, eqb, leb, ltb, refl, sym, ap, ◌∙◌, arith, inl}
-use Rattle.std.proofs.Common.{inr, max, subst}
-use Rattle.std.proofs.lemmas.Bool.{cases_eq, cases_lt, eq-eqb, le-ltb, lt-ltb, ne_eqb}
-use Rattle.std.proofs.lemmas.List.Kept.{AllPairs-from_increasing}
-use Rattle.std.proofs.lemmas.Nat.{mul-le}
+use Rattle.rx_spec.proofs.Prelude.{◌≡◌, ℕ, ◌&&◌, Bool, eqb, leb, ltb, refl, sym, ap, ◌∙◌, arith, inl, inr, max}
+use Rattle.rx_spec.proofs.Prelude.{cases_lt, le-ltb, leb-true, ltb-false}
 use Rattle.rx_dense.specs.declared.special.Special.{Special}
 use Rattle.rx_dense.specs.Specials.{greatest}
-use Rattle.rx_dense.specs.Layouts.{AreRows, IsRowId, Layout, stride}
+use Rattle.rx_dense.specs.Layouts.{AreRows, IsRowId, Layout}
 use Rattle.rx_dense.specs.Builder.{renamed_id}
-use Rattle.rx_dense.proofs.Rows.{quotient, row-below}
-use Rattle.rx_order.proofs.KindNumbers.{at_most, over}
+use Rattle.rx_order.proofs.KindNumbers.{at_most}
 use Rattle.rx_dense_image.specs.Marks.{are_special, begins_after, is_past_quit, is_range}
-use Rattle.rx_sparse.specs.Facts.{offsets_are_ids}
-use Rattle.rx_sparse.specs.Sparse.{AreSpecialRows, dense_rows, offsets_of, renamed_special}
-use Rattle.rx_sparse.proofs.SparseTables.{offsets_count, renamed_zero}
+use Rattle.rx_sparse.specs.Sparse.{AreSpecialRows, offsets_of, renamed_special}
+use Rattle.rx_sparse.proofs.SparseTables.{LieAlike, eq_alike, ids_alike, le_alike, lt_alike, renamed_zero}
 use Rattle.rx_sparse_build.proofs.Ordered.{greater, zero_row}
 
 -- tests that are the same one by one are the same together
@@ -27,78 +22,37 @@ module _ (l : Layout) (rows : AreRows l) where
   abbrev renamed : ℕ → ℕ
   renamed = renamed_id l (offsets_of l)
 
-  -- ---- order
-
-  -- the rows of two ids lie as the ids do
-  row_rises : (x y s : ℕ) → x * s < y * s → x < y
-  row_rises x y s lt =
-      elim (cases_lt x y) [
-        | inl less ↦ less
-        | inr le ↦ (
-            let same : s ≤ s = omega arith in
-            absurd (omega (arith, lt, mul-le y s x s le same)))
-      ]
-
-  -- so do their offsets
-  rises : (a b : ℕ) → IsRowId l a → IsRowId l b → a < b → renamed a < renamed b
-  rises a b is_a is_b less =
-      let x : ℕ = a / stride l in
-      let y : ℕ = b / stride l in
-      let at_a = quotient a (stride l) is_a.whole in
-      let at_b = quotient b (stride l) is_b.whole in
-      let below = row-below l b is_b in
-      let up : x < y = row_rises x y (stride l) (omega (arith, less, at_a, at_b)) in
-      AllPairs-from_increasing (offsets_of l) (offsets_are_ids (dense_rows l)).rising x y 0 up
-      (omega (arith, below, offsets_count l rows))
-
-  keeps : (a b : ℕ) → IsRowId l a → IsRowId l b → a ≤ b → renamed a ≤ renamed b
-  keeps a b is_a is_b le =
-      elim (cases_lt a b) [
-        | inl less ↦ (omega (arith, rises a b is_a is_b less))
-        | inr more ↦ (
-            let e : a ≡ b = omega (arith, le, more) in
-            subst (λ (n : ℕ). renamed a ≤ renamed n) e (omega arith))
-      ]
-
   -- ---- tests
 
   -- a test of ids and of their offsets is the same
   module _ (a : ℕ) (is_a : IsRowId l a) where
     zero_same : eqb (renamed a) 0 ≡ eqb a 0
     zero_same =
-        elim (cases_eq a 0) [
-          | inl e ↦ (eq-eqb _ _ (ap renamed e ∙ renamed_zero l rows) ∙ sym (eq-eqb a 0 e))
-          | inr some ↦ (
-              let above : renamed 0 < renamed a = rises 0 a (zero_row l rows) is_a (omega (arith, some)) in
-              let other : renamed a ≡ 0 → ⊥ = λ e. absurd (omega (arith, above, e)) in
-              ne_eqb (renamed a) 0 other ∙ sym (ne_eqb a 0 some))
-        ]
+        ap (eqb (renamed a)) (sym (renamed_zero l rows))
+        ∙ eq_alike _ _ _ _ (ids_alike l rows a 0 is_a (zero_row l rows))
 
     module _ (b : ℕ) (is_b : IsRowId l b) where
+      abbrev alike : LieAlike (renamed a) (renamed b) a b
+      alike = ids_alike l rows a b is_a is_b
+
       le_same : leb (renamed a) (renamed b) ≡ leb a b
-      le_same =
-          elim (cases_lt b a) [
-            | inl more ↦ (over (renamed a) (renamed b) (rises b a is_b is_a more) ∙ sym (over a b more))
-            | inr le ↦ (at_most (renamed a) (renamed b) (keeps a b is_a is_b le) ∙ sym (at_most a b le))
-          ]
+      le_same = le_alike _ _ _ _ alike
 
       lt_same : ltb (renamed a) (renamed b) ≡ ltb a b
-      lt_same =
-          elim (cases_lt a b) [
-            | inl less ↦ (lt-ltb (renamed a) (renamed b) (rises a b is_a is_b less) ∙ sym (lt-ltb a b less))
-            | inr more ↦ (le-ltb (renamed a) (renamed b) (keeps b a is_b is_a more) ∙ sym (le-ltb a b more))
-          ]
+      lt_same = lt_alike _ _ _ _ alike
 
       max_same : max (renamed a) (renamed b) ≡ renamed (max a b)
       max_same =
           elim (cases_lt a b) [
             | inl less ↦ (
                 let e : b ≡ max a b = omega (arith, less) in
-                let m : max (renamed a) (renamed b) ≡ renamed b = omega (arith, rises a b is_a is_b less) in
+                let low = leb-true _ _ (le_same ∙ at_most a b (omega (arith, less))) in
+                let m : max (renamed a) (renamed b) ≡ renamed b = omega (arith, low) in
                 m ∙ ap renamed e)
             | inr more ↦ (
                 let e : a ≡ max a b = omega (arith, more) in
-                let m : max (renamed a) (renamed b) ≡ renamed a = omega (arith, keeps b a is_b is_a more) in
+                let low = ltb-false _ _ (lt_same ∙ le-ltb a b more) in
+                let m : max (renamed a) (renamed b) ≡ renamed a = omega (arith, low) in
                 m ∙ ap renamed e)
           ]
 

@@ -1,9 +1,6 @@
 -- A dense table that can be read has a sparse table that can be read, where that isn't too long.
-use Rattle.std.proofs.Common.{◌≡◌, ℕ, ◌*◌, ◌/◌, ◌≤◌, sym, ap, subst, ◌∙◌, arith}
-use Rattle.std.proofs.Math.Nat.{mul-div_cancel}
-use Rattle.std.proofs.lemmas.Nat.{pow_pos}
-use Rattle.rx_spec.specs.Causes.{max_id}
-use Rattle.rx_spec.specs.Ids.{id_of}
+use Rattle.rx_spec.proofs.Prelude.{◌≡◌, ℕ, ◌*◌, ◌/◌, ◌≤◌, sym, ap, subst, ◌∙◌, arith, mul-div_cancel, pow_pos, max_id}
+use Rattle.rx_spec.proofs.Prelude.{id_of}
 use Rattle.rx_search.specs.Starts.{IsId}
 use Rattle.rx_dense.specs.Builder.{renamed_id}
 use Rattle.rx_dense.specs.Facts.{IsSoundLayout}

@@ -1,16 +1,10 @@
 -- The rows of a table that is ready pass the tests of an image's rows, and its other parts can be read too.
-use Rattle.std.proofs.lemmas.Grind.{common_steps}
-use Rattle.std.proofs.Common.{◌≡◌, ◌≢◌, ℕ, ◌+◌, ◌*◌, ◌<◌, ◌≤◌, ◌||◌, not, Bool, true, false, eqb, leb, ltb, List, []}
-use Rattle.std.proofs.Common.{◌∷◌, Option, Some, None, length, slice_index, refl, sym, ap, ◌∙◌, arith}
-use Rattle.std.specs.Prelude.{IfSome, if◌then◌else◌}
-use Rattle.std.proofs.lemmas.Bool.{eq-eqb, lt-ltb}
-use Rattle.std.proofs.lemmas.List.Elements.{Contains-get_or}
-use Rattle.rx_spec.specs.Causes.{id_count, max_id}
-use Rattle.rx_spec.specs.Ids.{id_of, row_of}
-use Rattle.rx_spec.specs.Machines.{Label}
+use Rattle.rx_spec.proofs.Prelude.{common_steps, ◌≡◌, ◌≢◌, ℕ, ◌+◌, ◌<◌, ◌≤◌, ◌||◌, not, Bool, true, false, eqb, leb}
+use Rattle.rx_spec.proofs.Prelude.{ltb, List, [], ◌∷◌, Option, Some, None, length, slice_index, refl, sym, ap, ◌∙◌}
+use Rattle.rx_spec.proofs.Prelude.{arith, IfSome, if◌then◌else◌, eq-eqb, lt-ltb, Contains-get_or, max_id, id_of, row_of}
+use Rattle.rx_spec.proofs.Prelude.{Label}
 use Rattle.lemmas_walks.proofs.Firsts.{by_test}
 use Rattle.rx_search.specs.Starts.{IsId}
-use Rattle.rx_dense.specs.Layouts.{start_entries}
 use Rattle.rx_dense.specs.Specials.{is_accel_id, is_match_id, is_quit_id}
 use Rattle.rx_dense.proofs.Rows.{id_at_row}
 use Rattle.rx_dense_image.specs.Closing.{is_named}
@@ -25,7 +19,9 @@ use Rattle.rx_sparse_image.specs.Images.{start_table_of}
 use Rattle.rx_sparse_image.specs.Tested.{IsRead, IsTestedRow, bounds_in}
 use Rattle.rx_sparse_image.specs.Walks.{may_have}
 use Rattle.rx_sparse_image.proofs.Sizes.{rows_few}
-use Rattle.rx_built_images.proofs.Ready.{IsReady, back, next_is_id, row_below, second_row, special_is}
+use Rattle.rx_built_images.proofs.Ready.{IsReady, next_is_id, second_row, special_is, table}
+use Rattle.rx_built_images.proofs.StartEntries.{few_starts}
+use Rattle.rx_sparse_image.proofs.RowIds.{row_below}
 
 -- a test, or not one that is the same
 either : (a b : Bool) → a ≡ b → (not a || b) ≡ true
@@ -36,11 +32,6 @@ either false b e = refl
 no_list : (ks : List ℕ) → is_some_list ks ≡ false → length ks ≡ 0
 no_list [] e = refl
 no_list (k ∷ ks) e = absurd cc
-
--- start entries that are few are those of few patterns
-few_starts : (o : Option ℕ) → start_entries o ≤ 12 + 6 * (max_id + 1) → IsAtMost id_count o
-few_starts None h = tt
-few_starts (Some n) h = omega (arith, h)
 
 module _ (l : Layout) (ready : IsReady l) where
   -- ---- a row
@@ -89,7 +80,8 @@ module _ (l : Layout) (ready : IsReady l) where
     -- its end mark doesn't quit
     eoi_apart : (row_at l row).eoi ≢ l.special.quit
     eoi_apart e =
-        ready.sound.eoi_goes_on row h (ap (row_of (ids_of l)) (e ∙ ready.second) ∙ back l ready 1 (second_row l ready))
+        ready.sound.eoi_goes_on row h
+        (ap (row_of (ids_of l)) (e ∙ ready.second) ∙ (table l ready).back 1 (second_row l ready))
 
     pub tested_row : IsTestedRow (bounds_in l) (id_of (ids_of l) row) (row_at l row)
     tested_row =
@@ -125,7 +117,7 @@ module _ (l : Layout) (ready : IsReady l) where
   within : (id : ℕ) → IsId (ids_of l) id → id < rows_len l.rows
   within id is =
       let row : ℕ = row_of (ids_of l) id in
-      let h : row < row_count l = row_below l ready id is in
+      let h : row < row_count l = row_below l id is in
       omega (arith, id_at_row (ids_of l) id is, ends row h)
 
   -- each part can be read

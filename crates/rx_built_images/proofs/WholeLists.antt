@@ -1,27 +1,21 @@
 -- The lists of patterns of a sound table's match rows pass the tests of an image's lists.
-use Rattle.std.proofs.lemmas.Grind.{common_steps}
-use Rattle.std.proofs.Common.{◌≡◌, ℕ, suc, ◌+◌, ◌*◌, ◌/◌, ◌%◌, ◌^◌, ◌<◌, ◌≤◌, Bool, true, false, ◌&&◌, not, leb, ltb}
-use Rattle.std.proofs.Common.{eqb, List, [], ◌∷◌, length, get_or, slice_index, refl, ap, subst, ◌∙◌, arith, inl, inr}
-use Rattle.std.proofs.Common.{if◌then◌else◌}
-use Rattle.std.specs.List.{concat, list_all}
-use Rattle.std.proofs.lemmas.Bool.{and_parts, cases_lt, cases_eq, eq-eqb, lt-ltb, ltb-true, ne_eqb}
-use Rattle.std.proofs.lemmas.List.{get_or_past}
-use Rattle.std.proofs.lemmas.List.Elements.{Contains-get_or}
-use Rattle.std.proofs.lemmas.List.FromFn.{get_or-map-range_with_len, length-map-range_with_len}
+use Rattle.rx_spec.proofs.Prelude.{common_steps, ◌≡◌, ℕ, suc, ◌+◌, ◌*◌, ◌/◌, ◌%◌, ◌^◌, ◌<◌, ◌≤◌, Bool, true, false, ltb}
+use Rattle.rx_spec.proofs.Prelude.{List, [], ◌∷◌, length, get_or, slice_index, refl, ap, subst, ◌∙◌, arith, inl, inr}
+use Rattle.rx_spec.proofs.Prelude.{if◌then◌else◌, concat, list_all, and_parts, cases_eq, eq-eqb, lt-ltb, ltb-true}
+use Rattle.rx_spec.proofs.Prelude.{ne_eqb, and_from, nil_from_length, Contains-get_or, get_or-map-range_with_len}
+use Rattle.rx_spec.proofs.Prelude.{length-map-range_with_len, Label, IsSound}
 use Rattle.std.proofs.lemmas.List.Folds.{list_all-append}
-use Rattle.rx_spec.specs.Machines.{Label}
-use Rattle.rx_spec.specs.Tables.{IsSound}
 use Rattle.rx_dense.specs.Builder.{slices_from}
 use Rattle.rx_dense.specs.Layouts.{AreLists, IsShaped, Layout, label_of_id, patterns_at, stride, table_of}
 use Rattle.rx_dense.proofs.RowKinds.{patterns_len}
 use Rattle.rx_order.specs.RowOrder.{AreJoined, IsRange, match_count, match_lists}
 use Rattle.rx_order.proofs.KindNumbers.{at_most}
-use Rattle.rx_dense_image.specs.Rows.{AreWords}
 use Rattle.rx_dense_image.specs.PatternLists.{AreReadLists}
 use Rattle.rx_dense_image.specs.Closing.{is_list, lists_stand, range_len}
 use Rattle.rx_dense_image.specs.Images.{pattern_lists_of}
 use Rattle.rx_dense_image.proofs.ClosedFacts.{each_at}
-use Rattle.rx_dense_image.proofs.EachBelow.{all_of, and_of}
+use Rattle.rx_dense_image.proofs.EachBelow.{all_of}
+use Rattle.rx_dense_image.proofs.ReadAgain.{words_below}
 use Rattle.rx_built_images.proofs.Places.{all_places}
 use Rattle.rx_built_images.proofs.RangeRows.{IsRowAt, range_at}
 
@@ -35,10 +29,6 @@ matches_where : (m q : Bool) (ks : List ℕ) → m ≡ true
     → (if m then Label.Matches ks else (if q then Label.Quits else Label.Plain)) ≡ Label.Matches ks
 matches_where true q ks e = refl
 matches_where false q ks e = absurd cc
-
--- numbers below a bound are words
-words_below : (xs : List ℕ) → ((i : ℕ) → i < length xs → slice_index xs i < 2 ^ 32) → AreWords xs
-words_below xs below i = grind (arith, common_steps, cases_lt, get_or_past)
 
 module _ (l : Layout) (shaped : IsShaped l) (sound : IsSound (table_of l)) (matches : IsRange l l.special.min_match
     l.special.max_match) (joined : AreJoined l) where
@@ -71,7 +61,7 @@ module _ (l : Layout) (shaped : IsShaped l) (sound : IsSound (table_of l)) (matc
       let own : length (patterns_at l i) ≡ len = patterns_len l lists i within in
       let ends = lists.within i within in
       let other : len ≡ 0 → ⊥ =
-      λ e. sound.is_table.lists row below (label ∙ ap Label.Matches (none (patterns_at l i) (own ∙ e))) in
+      λ e. sound.is_table.lists row below (label ∙ ap Label.Matches (nil_from_length (patterns_at l i) (own ∙ e))) in
       let begins : first < length l.pattern_ids = begins_of first len (length l.pattern_ids) ends other in
       let known : list_all (λ pattern. ltb pattern l.pattern_len) (patterns_at l i) ≡ true =
       all_places (λ pattern. ltb pattern l.pattern_len) (patterns_at l i)
@@ -79,21 +69,13 @@ module _ (l : Layout) (shaped : IsShaped l) (sound : IsSound (table_of l)) (matc
       lt-ltb _ _
       (sound.patterns row (patterns_at l i) (get_or (patterns_at l i) k 0) below label
       (Contains-get_or (patterns_at l i) k 0 h))) in
-      and_of (ltb first (length l.pattern_ids) && leb (first + len) (length l.pattern_ids) && not (eqb len 0))
-      (list_all (λ pattern. ltb pattern l.pattern_len) (patterns_at l i))
-      (and_of (ltb first (length l.pattern_ids) && leb (first + len) (length l.pattern_ids)) (not (eqb len 0))
-      (and_of (ltb first (length l.pattern_ids)) (leb (first + len) (length l.pattern_ids)) (lt-ltb _ _ begins)
-      (at_most _ _ ends)) (ap not (ne_eqb len 0 other))) known
+      rw (lt-ltb _ _ begins, at_most _ _ ends, ne_eqb len 0 other, known) refl
     where
-      none : (xs : List ℕ) → length xs ≡ 0 → xs ≡ []
-      none [] e = refl
-      none (x ∷ xs) e = absurd (omega (arith, e))
-
       begins_of : (first len all : ℕ) → first + len ≤ all → (len ≡ 0 → ⊥) → first < all
       begins_of first len all le other = omega (arith, le, other)
 
   pub lists_closed : lists_stand l ≡ true
-  lists_closed = grind (arith, common_steps, and_of, eq-eqb, list_count, all_of, list_passes, count)
+  lists_closed = grind (arith, common_steps, and_from, eq-eqb, list_count, all_of, list_passes, count)
 
   -- ---- read
 
@@ -136,7 +118,7 @@ module _ (l : Layout) (shaped : IsShaped l) (sound : IsSound (table_of l)) (matc
       all_concat p [] h = refl
       all_concat p (xs ∷ xss) h =
           list_all-append p xs (concat xss)
-          ∙ and_of (list_all p xs) (list_all p (concat xss)) (h 0 (omega arith))
+          ∙ and_from (list_all p xs) (list_all p (concat xss)) (h 0 (omega arith))
           (all_concat p xss (λ i lt. h (suc i) (omega (arith, lt))))
 
   pub lists_read : AreReadLists (pattern_lists_of l)

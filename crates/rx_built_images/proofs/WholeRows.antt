@@ -1,22 +1,18 @@
 -- The rows of a sound table pass the tests of an image's rows.
-use Rattle.std.proofs.lemmas.Grind.{common_steps}
-use Rattle.std.proofs.Common.{◌≡◌, ℕ, zero, suc, ◌+◌, ◌-◌, ◌*◌, ◌/◌, ◌%◌, ◌^◌, ◌<◌, ◌≤◌, true, not, ◌&&◌, eqb, length}
-use Rattle.std.proofs.Common.{slice_index, sym, ap, subst, ◌∙◌, arith, inl, inr}
-use Rattle.std.proofs.Math.Nat.{div-le_self, mul-div_cancel, mul-mod_left}
-use Rattle.std.proofs.lemmas.Bool.{cases_lt, cases_eq, eq-eqb, eqb-true, lt-ltb}
-use Rattle.std.proofs.lemmas.List.{get_or-take, length-take}
-use Rattle.std.proofs.lemmas.Nat.{div-add-mod', pow_pos}
-use Rattle.rx_spec.specs.Tables.{IsSound}
+use Rattle.rx_spec.proofs.Prelude.{common_steps, ◌≡◌, ℕ, zero, suc, ◌+◌, ◌-◌, ◌*◌, ◌/◌, ◌%◌, ◌^◌, ◌<◌, ◌≤◌, true, not}
+use Rattle.rx_spec.proofs.Prelude.{◌&&◌, eqb, length, slice_index, sym, ap, subst, ◌∙◌, arith, inl, inr, mul-div_cancel}
+use Rattle.rx_spec.proofs.Prelude.{mul-mod_left, cases_lt, eq-eqb, eqb-true, lt-ltb, and_from, get_or-take, length-take}
+use Rattle.rx_spec.proofs.Prelude.{div-add-mod', pow_pos, IsSound}
+use Rattle.std.proofs.Math.Nat.{div-le_self}
 use Rattle.rx_base.specs.ByteClasses.{alphabet_len}
-use Rattle.rx_dense.specs.Layouts.{AreRows, IsRowId, Layout, column, is_row_id, machine_of, next_id, row_count, stride}
-use Rattle.rx_dense.specs.Layouts.{table_of}
+use Rattle.rx_dense.specs.Layouts.{AreRows, IsRowId, Layout, column, is_row_id, next_id, row_count, stride, table_of}
 use Rattle.rx_dense.proofs.Rows.{quotient, stride_few}
 use Rattle.rx_order.proofs.KindNumbers.{at_most}
 use Rattle.rx_dense_image.specs.Rows.{AreReadRows, is_entry, rows_of}
 use Rattle.rx_dense_image.specs.Closing.{lead_to_dead, rows_stand}
-use Rattle.rx_dense_image.proofs.EachBelow.{all_of, and_of}
+use Rattle.rx_dense_image.proofs.EachBelow.{all_of}
 use Rattle.rx_order.proofs.UsedColumns.{column_used}
-use Rattle.rx_built_images.proofs.Places.{all_places, not_both, row_below}
+use Rattle.rx_built_images.proofs.Places.{all_places, low_dead, not_both, row_below}
 
 -- the id of a row passes the test
 pub row_id_passes : (l : Layout) (id : ℕ) → IsRowId l id → is_row_id l id ≡ true
@@ -66,20 +62,10 @@ module _ (l : Layout) (rows : AreRows l) (sound : IsSound (table_of l)) where
 
   entry : (k : ℕ) → k < length l.words → is_entry (rows_of l) k ≡ true
   entry k lt =
-      and_of (is_row_id l (slice_index l.words k))
+      and_from (is_row_id l (slice_index l.words k))
       (not (eqb (k % stride l) (alphabet_len l.classes - 1) && eqb (slice_index l.words k) (stride l)))
       (row_id_passes l (slice_index l.words k) (rows.next_ids k lt))
       (not_both _ _ (λ p q. eoi_goes_on k lt (eqb-true _ _ p) (eqb-true _ _ q)))
-
-  -- dead and quit lead to dead
-  row_dead : (row unit : ℕ) → row < 2 → unit < 257 → (machine_of l).next row unit ≡ 0
-  row_dead row unit low u =
-      elim (cases_eq row 0) [
-        | inl e ↦ (subst (λ (r : ℕ). (machine_of l).next r unit ≡ 0) (sym e) (sound.is_table.dead_stays unit u))
-        | inr ne ↦ (
-            let one : row ≡ 1 = omega (arith, low, ne) in
-            subst (λ (r : ℕ). (machine_of l).next r unit ≡ 0) (sym one) (sound.is_table.quit_ends unit u))
-      ]
 
   dead_word : (k : ℕ) → k < 2 * stride l → slice_index l.words k ≡ 0
   dead_word k low =
@@ -94,7 +80,7 @@ module _ (l : Layout) (rows : AreRows l) (sound : IsSound (table_of l)) where
             (row_below k (2 * stride l) (stride l) (mul-mod_left 2 (stride l)) low) in
             let led : slice_index l.words k / stride l ≡ 0 =
             ap (λ (n : ℕ). n / stride l) (sym (word_is k unit.0 unit.2))
-            ∙ row_dead (k / stride l) unit.0 row_low unit.1 in
+            ∙ low_dead sound.is_table (k / stride l) unit.0 row_low unit.1 in
             sym (quotient (slice_index l.words k) (stride l) (rows.next_ids k within).whole)
             ∙ ap (λ (n : ℕ). n * stride l) led
             ∙ none)
@@ -105,4 +91,4 @@ module _ (l : Layout) (rows : AreRows l) (sound : IsSound (table_of l)) where
   dead_rows = grind (arith, common_steps, all_places, length-take, eq-eqb, get_or-take, dead_word)
 
   pub rows_closed : rows_stand l ≡ true
-  rows_closed = grind (arith, common_steps, at_most, and_of, all_of, entry, dead_rows)
+  rows_closed = grind (arith, common_steps, at_most, and_from, all_of, entry, dead_rows)

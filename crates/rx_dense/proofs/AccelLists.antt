@@ -1,11 +1,8 @@
 -- Needles as they are kept in words.
-use Rattle.std.proofs.lemmas.Grind.{common_steps}
-use Rattle.std.proofs.Common.{◌≡◌, ℕ, ◌+◌, ◌-◌, ◌*◌, ◌/◌, ◌%◌, ◌<◌, List, [], ◌∷◌, ◌++◌, length, get_or, slice_index}
-use Rattle.std.proofs.Common.{ap, sym, ◌∙◌, arith, length-append, map}
-use Rattle.std.specs.List.{range_with_len}
-use Rattle.std.proofs.lemmas.List.{get_or_append_left, get_or-append_right}
-use Rattle.std.proofs.lemmas.List.FromFn.{length-map-range_with_len, get_or-map-range_with_len, fill_by_all}
-use Rattle.std.proofs.lemmas.List.FromFn.{map-range_with_len_more}
+use Rattle.rx_spec.proofs.Prelude.{common_steps, ◌≡◌, ℕ, ◌+◌, ◌-◌, ◌*◌, ◌/◌, ◌%◌, ◌<◌, List, [], ◌∷◌, ◌++◌, length}
+use Rattle.rx_spec.proofs.Prelude.{get_or, slice_index, ap, sym, ◌∙◌, arith, length-append, map, range_with_len}
+use Rattle.rx_spec.proofs.Prelude.{get_or_append_left, length-map-range_with_len, get_or-map-range_with_len}
+use Rattle.rx_spec.proofs.Prelude.{fill_by_all, map-range_with_len_more}
 use Rattle.rx_dense.specs.Accels.{accel_lists, word_needles}
 
 pub accel_lists_len : (words : List ℕ) → length (accel_lists words) ≡ length words / 2
@@ -17,7 +14,7 @@ accel_lists_at words i h = grind (arith, common_steps, accel_lists_len, get_or-m
 
 word_at : (words : List ℕ) (word rest : ℕ) → length words % 2 ≡ 0
     → slice_index (words ++ word ∷ rest ∷ []) (2 * (length words / 2)) ≡ word
-word_at words word rest even = grind (arith, common_steps, get_or-append_right)
+word_at words word rest even = grind (arith, common_steps)
 
 -- two words more are the needles of one row more
 pub accel_lists_push : (words : List ℕ) (word rest : ℕ) → length words % 2 ≡ 0
@@ -27,7 +24,7 @@ accel_lists_push words word rest even =
     let f = λ (i : ℕ). word_needles (slice_index more (2 * i)) in
     let n = length words / 2 in
     let count : length more ≡ length words + 2 = length-append words (word ∷ rest ∷ []) in
-    let half : length more / 2 ≡ n + 1 = omega (arith, count) in
+    let half : length more / 2 ≡ n + 1 = omega arith in
     let start : 0 + n ≡ n = omega arith in
     let before : accel_lists words ≡ map f (range_with_len 0 n) =
     fill_by_all f (accel_lists words) n [] (accel_lists_len words)

@@ -1,17 +1,8 @@
 -- Marks of match rows: they stay true while they are made, and searches may go by them.
-use Rattle.std.proofs.lemmas.Grind.{common_steps}
-use Rattle.std.proofs.Common.{◌≡◌, ◌∙◌, ℕ, ◌+◌, ◌-◌, ◌*◌, ◌/◌, ◌%◌, ◌^◌, ◌<◌, ◌≤◌, ◌==◌, true, List, [], ◌∷◌, ◌++◌}
-use Rattle.std.proofs.Common.{length, take, drop, slice_index, ap, sym, subst, arith, length-drop, length-take-le}
-use Rattle.std.proofs.Common.{length-append, get_or, nat_lt}
-use Rattle.std.proofs.Math.Nat.{add-mul, mul-div_cancel, zero-div}
-use Rattle.std.specs.List.{list_all, slice_range}
-use Rattle.std.proofs.lemmas.Bool.{cases_eq, cases_lt, ltb-true, ne_eqb}
-use Rattle.std.proofs.Math.Seq.{get_or-append_seam}
-use Rattle.std.proofs.lemmas.List.{get_or-drop, get_or-take, get_or_append_left, get_or_default}
-use Rattle.std.proofs.lemmas.List.Folds.{list_all_at}
-use Rattle.std.proofs.lemmas.Nat.{le-div, pow_pos}
-use Rattle.rx_spec.specs.Ids.{row_of}
-use Rattle.rx_spec.specs.Tables.{is_match}
+use Rattle.rx_spec.proofs.Prelude.{common_steps, ◌≡◌, ◌∙◌, ℕ, ◌+◌, ◌-◌, ◌*◌, ◌/◌, ◌%◌, ◌^◌, ◌<◌, ◌≤◌, ◌==◌, true, List}
+use Rattle.rx_spec.proofs.Prelude.{[], ◌∷◌, ◌++◌, length, take, drop, slice_index, ap, sym, subst, arith, length-drop}
+use Rattle.rx_spec.proofs.Prelude.{length-take-le, length-append, get_or, nat_lt, mul-div_cancel, zero-div, list_all}
+use Rattle.rx_spec.proofs.Prelude.{slice_range, get_or-drop, get_or-take, le-div, pow_pos, row_of, is_match}
 use Rattle.rx_base.specs.ByteClasses.{alphabet_len}
 use Rattle.rx_search.specs.Labels.{IsFinal, patterns_of}
 use Rattle.rx_search.specs.Starts.{IsId}
@@ -27,7 +18,7 @@ use Rattle.rx_dense.proofs.Rows.{IsRowId-id, column_within, id-times, part_is, q
 module _ (words : List ℕ) (alphabet_len stride min_match : ℕ) (slices pattern_ids : List ℕ) where
   -- none are made
   pub unmarked : AreMarks words alphabet_len stride min_match slices pattern_ids []
-  unmarked = record { aligned = λ some. absurd (omega (arith, some)); each = λ i below. absurd (omega (arith, below)) }
+  unmarked = record { aligned = λ some. absurd (omega arith); each = λ i below. absurd (omega arith) }
 
   -- one more is made
   pub marked_more : (marks : List ℕ) (mark : ℕ) → min_match % stride ≡ 0
@@ -35,22 +26,22 @@ module _ (words : List ℕ) (alphabet_len stride min_match : ℕ) (slices patter
       → IsMark words alphabet_len stride min_match slices pattern_ids (length marks) mark
       → AreMarks words alphabet_len stride min_match slices pattern_ids (marks ++ mark ∷ [])
   marked_more marks mark aligned are is =
-      grind (arith, common_steps, length-append, pattern_ids, get_or_append_left, get_or-append_seam, cases_lt)
+      grind (arith, common_steps, length-append)
 
 -- ---- rows that lead to the dead row
 
 zero_each : (xs : List ℕ) → list_all (λ id. id == 0) xs ≡ true → (k : ℕ) → k < length xs → slice_index xs k ≡ 0
-zero_each xs all k below = grind (arith, common_steps, list_all_at, ne_eqb, cases_eq)
+zero_each xs all k below = grind (arith, common_steps)
 
 pub zeros_from : (words : List ℕ) (first len : ℕ) → first + len ≤ length words
     → list_all (λ id. id == 0) (slice_range words first (first + len)) ≡ true
     → (k : ℕ) → k < len → slice_index words (first + k) ≡ 0
 zeros_from words first len fits all k below =
     let part = take len (drop first words) in
-    let count : length part ≡ len = length-take-le len (drop first words) (simp length-drop (omega (arith, fits))) in
+    let count : length part ≡ len = length-take-le len (drop first words) (simp length-drop (omega arith)) in
     let zeros = rw (part_is words first len) at all in
     sym (get_or-take len (drop first words) k 0 below ∙ get_or-drop first words k 0)
-    ∙ zero_each part zeros k (omega (arith, count, below))
+    ∙ zero_each part zeros k (omega arith)
 
 -- ---- what they say to a search
 
@@ -59,15 +50,14 @@ from_first : (s first id : ℕ) → 0 < s → first % s ≡ 0 → id % s ≡ 0 �
 from_first s first id some whole_first whole order =
     let a = quotient id s whole in
     let b = quotient first s whole_first in
-    let below : first / s ≤ id / s = le-div (first / s) id s some (omega (arith, b, order)) in
-    let parts = add-mul (id / s - first / s) (first / s) s in
-    let joined : id / s - first / s + first / s ≡ id / s = omega (arith, below) in
+    let below : first / s ≤ id / s = le-div (first / s) id s some (omega arith) in
+    let joined : id / s - first / s + first / s ≡ id / s = omega arith in
     let again = ap (λ (x : ℕ). x * s) joined in
-    let far : id - first ≡ (id / s - first / s) * s = omega (arith, a, b, parts, again) in
+    let far : id - first ≡ (id / s - first / s) * s = omega arith in
     let rows : (id - first) / s ≡ id / s - first / s =
     ap (λ (x : ℕ). x / s) far ∙ mul-div_cancel (id / s - first / s) some in
     let back = ap (λ (x : ℕ). x * s) rows in
-    omega (arith, far, back, order)
+    omega arith
 
 -- the marks of a layout
 abbrev pub HasMarks : Layout → List ℕ → Type 0
@@ -82,7 +72,7 @@ pub record Found (l : Layout) (marks : List ℕ) (id mark : ℕ) : Type 0 where
 pub found : (l : Layout) (marks : List ℕ) (id : ℕ) {place mark : ℕ} {words : List ℕ}
     → place ≡ place_in_range l l.special.min_match id → words ≡ marks → nat_lt place (length words) ≡ true
     → mark ≡ get_or words place mark → Found l marks id mark
-found l marks id {place} {mark} {words} here same some is = grind (arith, common_steps, ltb-true, get_or_default)
+found l marks id {place} {mark} {words} here same some is = grind (arith, common_steps)
 
 module _ (l : Layout) (id : ℕ) (is : IsId (ids_of l) id) (sound : IsSoundLayout l)
     (e : is_match (table_of l) (row_of (ids_of l) id) ≡ true) {marks : List ℕ}
@@ -105,7 +95,7 @@ module _ (l : Layout) (id : ℕ) (is : IsId (ids_of l) id) (sound : IsSoundLayou
       ap (slice_index l.pattern_ids) (let none : slice_index l.slices (2 * i) ≡ slice_index l.slices (2 * i) + 0 =
       omega arith in none) ∙ here in
       let few = pattern_ids l id is sound lists e 0 some in
-      (are.each i has).first (omega (arith, first, few)) ∙ first
+      (are.each i has).first (omega arith) ∙ first
 
   pub mark_final : AreRows l → 2 ^ 31 ≤ slice_index marks (place_in_range l l.special.min_match id)
       → IsFinal (table_of l) (row_of (ids_of l) id)
@@ -114,7 +104,7 @@ module _ (l : Layout) (id : ℕ) (is : IsId (ids_of l) id) (sound : IsSoundLayou
         let at = column l unit in
         let there : l.special.min_match + i * stride l ≡ id =
         from_first (stride l) l.special.min_match id (pow_pos l.stride2)
-        (are.aligned (omega (arith, has))) (IsRowId-id l id is).whole (match_first l id is e) in
+        (are.aligned (omega arith)) (IsRowId-id l id is).whole (match_first l id is e) in
         let zero = (are.each i has).final final at (column_within l rows.classes unit below) in
         ap (λ (x : ℕ). slice_index l.words (x + at) / stride l) (id-times l id is ∙ sym there)
         ∙ ap (λ (x : ℕ). x / stride l) zero

@@ -1,13 +1,8 @@
 -- Lists of patterns, joined, and where each of them stands.
-use Rattle.std.proofs.lemmas.Grind.{common_steps}
-use Rattle.std.proofs.Common.{◌≡◌, ℕ, zero, suc, ◌+◌, ◌*◌, ◌^◌, ◌<◌, ◌≤◌, List, [], ◌∷◌, ◌++◌, length, take, drop}
-use Rattle.std.proofs.Common.{get_or, slice_index, arith, refl, append_assoc, length-append}
-use Rattle.std.specs.Prelude.{Vec}
+use Rattle.rx_spec.proofs.Prelude.{common_steps, ◌≡◌, ℕ, zero, suc, ◌+◌, ◌*◌, ◌^◌, ◌<◌, ◌≤◌, List, [], ◌∷◌, ◌++◌}
+use Rattle.rx_spec.proofs.Prelude.{length, take, drop, get_or, slice_index, arith, refl, append_assoc, length-append}
+use Rattle.rx_spec.proofs.Prelude.{Vec, concat, vec_items, drop_at, length-map, max_id}
 use Rattle.std.specs.BTreeMap.{BTreeMap, btree_map_len, values}
-use Rattle.std.specs.List.{concat}
-use Rattle.std.specs.Vec.{vec_items}
-use Rattle.std.proofs.lemmas.List.{take_at, drop_at, length-map}
-use Rattle.rx_spec.specs.Causes.{max_id}
 use Rattle.rx_dense.specs.Builder.{pattern_lists, slices_from, with_patterns}
 use Rattle.rx_dense.specs.Layouts.{Layout, IsShaped, patterns_at}
 use Rattle.rx_dense.proofs.Shaped.{rows_kept, starts_kept}
@@ -49,7 +44,7 @@ slice_is : (front : List ℕ) (lists : List (List ℕ)) (i : ℕ) → i < length
     → take (slice_index (slices_from (length front) lists) (2 * i + 1))
     (drop (slice_index (slices_from (length front) lists) (2 * i)) (front ++ concat lists)) ≡ get_or lists i []
 slice_is front [] i h = absurd (omega arith)
-slice_is front (list ∷ lists) zero h = grind (arith, common_steps, drop_at, take_at)
+slice_is front (list ∷ lists) zero h = grind (arith, common_steps, drop_at)
 slice_is front (list ∷ lists) (suc i) h =
     let start : length (front ++ list) ≡ length front + length list = length-append front list in
     rw (

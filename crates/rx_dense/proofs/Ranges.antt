@@ -1,23 +1,13 @@
 -- Ranges of classes that lead to one row, as they are handed out one by one.
-use Rattle.std.proofs.lemmas.Grind.{common_steps}
-use Rattle.std.proofs.Common.{◌≡◌, ◌≢◌, ℕ, zero, suc, ◌+◌, ◌-◌, ◌<◌, ◌≤◌, ◌==◌, ◌&&◌, ◌||◌, not, nat_le, Bool, true}
-use Rattle.std.proofs.Common.{false, cond, List, [], ◌∷◌, ◌++◌, length, drop, slice_index, ap, ap₂, sym, ◌∙◌, arith}
-use Rattle.std.proofs.Common.{map, filter, length-drop, length-take-le}
-use Rattle.std.specs.Prelude.{slice_range}
-use Rattle.std.specs.List.{prefix_len, range_with_len}
-use Rattle.std.proofs.Math.Bool.{or-true}
-use Rattle.std.proofs.lemmas.Bool.{eq-eqb, eqb-true}
-use Rattle.std.proofs.lemmas.Bool.Decides.{nat_tests}
-use Rattle.std.proofs.lemmas.List.{get_or-take, get_or-drop}
+use Rattle.rx_spec.proofs.Prelude.{common_steps, ◌≡◌, ◌≢◌, ℕ, zero, suc, ◌+◌, ◌-◌, ◌<◌, ◌≤◌, ◌==◌, ◌&&◌, ◌||◌, not}
+use Rattle.rx_spec.proofs.Prelude.{Bool, true, false, cond, List, [], ◌∷◌, ◌++◌, length, drop, slice_index, ap, ap₂}
+use Rattle.rx_spec.proofs.Prelude.{sym, ◌∙◌, arith, map, filter, length-drop, length-take-le, slice_range, prefix_len}
+use Rattle.rx_spec.proofs.Prelude.{range_with_len, or-true, eq-eqb, eqb-true, nat_tests}
 use Rattle.std.proofs.lemmas.List.Folds.{length-prefix_len}
 use Rattle.std.proofs.lemmas.List.Sums.{prefix_len-drop_yes, prefix_len-le-length, prefix_len_passes, prefix_len_stops}
-use Rattle.rx_spec.specs.declared.Unit.{Unit}
 use Rattle.rx_dense.specs.States.{begins_range, eoi_range_from, is_live, range_end, range_of, sparse_transitions_from}
 
 -- ---- tests
-
-within : (a b : ℕ) → a ≤ b → nat_le a b ≡ true
-within a b h = grind (arith, nat_tests)
 
 differs : (a b : ℕ) → a ≢ b → (a == b) ≡ false
 differs a b h = grind (arith, nat_tests)
@@ -59,8 +49,7 @@ module _ (next_ids : List ℕ) where
     count = length-take-le (eoi - first) (drop first next_ids) (omega (arith, length-drop first next_ids))
 
     class_at : (k : ℕ) → k < length classes → slice_index classes k ≡ slice_index next_ids (first + k)
-    class_at k b =
-        get_or-take (eoi - first) (drop first next_ids) k 0 (omega (arith, count)) ∙ get_or-drop first next_ids k 0
+    class_at k b = grind (arith, common_steps)
 
     end_is : end ≡ first + prefix_len there classes
     end_is = ap (λ n. first + n) (length-prefix_len there classes)
@@ -89,9 +78,7 @@ module _ (next_ids : List ℕ) where
 
     -- none but the first begins a range, and the class behind them does
     inner : (c : ℕ) → first < c → c < end → begins_range next_ids c ≡ false
-    inner c from below =
-        let alike = same (c - 1) (omega arith) (omega arith) ∙ sym (same c (omega arith) below) in
-        ap₂ (λ (x y : Bool). x || not y) (differs c 0 (omega arith)) (eq-eqb _ _ alike)
+    inner c from below = grind (arith, common_steps, same)
 
     pub range_end-begins : end + 1 < length next_ids → begins_range next_ids end ≡ true
     range_end-begins more =
@@ -113,25 +100,21 @@ module _ (next_ids : List ℕ) where
           let behind : first + 1 + (end - (first + 1)) ≡ end = omega (arith, range_end-after) in
           let passed : firsts_from (first + 1) ≡ firsts_from end =
           passed_over (λ c. begins_range next_ids c && is_live next_ids c) eoi (first + 1) (end - (first + 1))
-          (omega (arith, range_end-after, range_end-within))
+          (omega (arith, range_end-within))
           (λ c from below.
-          ap (λ t. t && is_live next_ids c) (inner c (omega arith) (omega (arith, range_end-after))))
+          ap (λ t. t && is_live next_ids c) (inner c (omega arith) (omega arith)))
           ∙ ap firsts_from behind in
           ap (λ n. filter (λ c. begins_range next_ids c && is_live next_ids c) (range_with_len first n)) more
           ∙ ap₂ (λ (t : Bool) (rest : List ℕ). cond (t && is_live next_ids first) (first ∷ rest) rest) begins passed
 
       eoi_left : eoi_range_from next_ids first ≡ eoi_range_from next_ids end
-      eoi_left =
-          ap (λ t. cond (t && is_live next_ids eoi) ((Unit.Eoi, Unit.Eoi, slice_index next_ids eoi) ∷ []) [])
-          (within first eoi (omega arith) ∙ sym (within end eoi (omega (arith, range_end-within))))
+      eoi_left = grind (arith, common_steps)
 
       left : (live : Bool) → is_live next_ids first ≡ live
           → sparse_transitions_from next_ids first
           ≡ map (range_of next_ids) (cond live (first ∷ firsts_from end) (firsts_from end))
           ++ eoi_range_from next_ids end
-      left live e =
-          ap₂ (λ (xs : List ℕ) (ys : List (Unit × Unit × ℕ)). map (range_of next_ids) xs ++ ys)
-          (firsts ∙ ap (λ t. cond t (first ∷ firsts_from end) (firsts_from end)) e) eoi_left
+      left live e = grind (arith, common_steps, firsts)
 
       pub sparse-live : slice_index next_ids first ≢ 0
           → sparse_transitions_from next_ids first ≡ range_of next_ids first ∷ sparse_transitions_from next_ids end

@@ -1,21 +1,16 @@
 -- Rows that are renamed: entries give way to the ids that a list has for their rows.
-use Rattle.std.proofs.lemmas.Grind.{common_steps}
-use Rattle.std.proofs.Common.{◌≡◌, ℕ, ◌+◌, ◌-◌, ◌*◌, ◌/◌, ◌%◌, ◌^◌, ◌<◌, ◌≤◌, ◌⊎◌, List, length, map, take, drop, All}
-use Rattle.std.proofs.Common.{Bool, true, false, slice_index, refl, ◌∙◌, ⊎_elim, arith, inl, inr, ap, sym, subst}
-use Rattle.std.proofs.Common.{length-drop, length-take-le}
-use Rattle.std.proofs.lemmas.Bool.{cases_lt, lt-ltb, le-ltb, eq-eqb, ne_eqb, cases_eq}
-use Rattle.std.proofs.lemmas.List.{places, get_or-map, get_or-drop, get_or-take, length-map}
-use Rattle.std.proofs.lemmas.List.Elements.{All-get_or, All-from_get_or}
-use Rattle.std.proofs.lemmas.Nat.{mod-mul-add, div-mul-add, div-add-mod', pow_pos}
-use Rattle.std.specs.List.{range_with_len}
-use Rattle.std.specs.Prelude.{◌==◌, if◌then◌else◌}
-use Rattle.std.proofs.lemmas.List.FromFn.{fill_by_all, length-map-range_with_len, get_or-map-range_with_len}
+use Rattle.rx_spec.proofs.Prelude.{common_steps, ◌≡◌, ℕ, ◌+◌, ◌-◌, ◌*◌, ◌/◌, ◌%◌, ◌^◌, ◌<◌, ◌≤◌, ◌⊎◌, List, length, map}
+use Rattle.rx_spec.proofs.Prelude.{take, drop, All, Bool, true, false, slice_index, refl, ◌∙◌, ⊎_elim, arith, inl, inr}
+use Rattle.rx_spec.proofs.Prelude.{ap, sym, subst, length-drop, length-take-le, cases_lt, lt-ltb, le-ltb, eq-eqb}
+use Rattle.rx_spec.proofs.Prelude.{ne_eqb, cases_eq, get_or-map, get_or-drop, get_or-take, length-map, All-get_or}
+use Rattle.rx_spec.proofs.Prelude.{All-from_get_or, mod-mul-add, div-mul-add, pow_pos, range_with_len, ◌==◌}
+use Rattle.rx_spec.proofs.Prelude.{if◌then◌else◌, fill_by_all, length-map-range_with_len, get_or-map-range_with_len}
+use Rattle.std.proofs.lemmas.List.{places}
 use Rattle.rx_base.specs.ByteClasses.{alphabet_len}
 use Rattle.rx_search.specs.Starts.{IsId}
 use Rattle.rx_dense.specs.Builder.{IsMachineRenamed, IsOutside, renamed_id, renamed_word, renamed, with_renamed_row}
 use Rattle.rx_dense.specs.Layouts.{Layout, IsRowId, IsShaped, column, ids_of, mode_place, row_count, stride}
-use Rattle.rx_dense.proofs.Rows.{IsRowId-id, IsRowId-row, column_within, multiple_below, row-below, quotient}
-use Rattle.rx_dense.proofs.Rows.{start_within}
+use Rattle.rx_dense.proofs.Rows.{IsRowId-id, IsRowId-row, column_within, multiple_below, row-below, start_within}
 use Rattle.rx_dense.proofs.Shaped.{id_kept, shaped_words, shaped_starts}
 use borrow.Rule.Slice.PartMut.{put_mid}
 
@@ -30,7 +25,7 @@ module _ {words part : List ℕ} {first n : ℕ} (is : IsPart words part first n
   length-part = (let count = is.count in let within = is.within in grind (arith, places))
 
   pub part_outside : (k : ℕ) → IsOutside first n k → slice_index (put_mid first n words part) k ≡ slice_index words k
-  part_outside k outside = grind (arith, common_steps, places)
+  part_outside k outside = grind (arith, common_steps)
 
   pub part_inside : (k : ℕ) → first ≤ k → k < first + n
       → slice_index (put_mid first n words part) k ≡ slice_index part (k - first)
@@ -46,7 +41,7 @@ module _ {rename : ℕ → ℕ} {words part : List ℕ} {first n : ℕ} (renamed
   taken = (let within = renamed.within in length-take-le n (drop first words) (omega (arith, length-drop first words)))
 
   pub renamed_part : IsPart words part first n
-  renamed_part = grind (arith, common_steps, length-map, taken)
+  renamed_part = grind (arith, common_steps)
 
   pub renamed_inside : (k : ℕ) → first ≤ k → k < first + n
       → slice_index (put_mid first n words part) k ≡ rename (slice_index words k)
@@ -72,7 +67,7 @@ pub record RenamedBelow (s alphabet : ℕ) (rename : ℕ → ℕ) (old new : Lis
 module _ {s alphabet : ℕ} {rename : ℕ → ℕ} {old words : List ℕ} (row : ℕ) (fits : alphabet ≤ 2 ^ s)
     (b : row < length old / 2 ^ s) (below : RenamedBelow s alphabet rename old words row) where
   inside : row * 2 ^ s + alphabet ≤ length words
-  inside = omega (arith, below.count, multiple_below row (2 ^ s) (length old) (pow_pos s) b)
+  inside = omega (arith, multiple_below row (2 ^ s) (length old) (pow_pos s) b)
 
   -- the ids of the next row are old ones
   pub row_ids : (P : ℕ → Type 0) → All P old → All P (take alphabet (drop (row * 2 ^ s) words))
@@ -81,7 +76,7 @@ module _ {s alphabet : ℕ} {rename : ℕ → ℕ} {old words : List ℕ} (row :
       let rest : alphabet ≤ length (drop (row * 2 ^ s) words) =
       omega (arith, inside, length-drop (row * 2 ^ s) words) in
       omega (arith, length-take-le alphabet (drop (row * 2 ^ s) words) rest) in
-      let there : row * 2 ^ s + i < length old = omega (arith, inside, below.count) in
+      let there : row * 2 ^ s + i < length old = omega (arith, inside) in
       subst P
       (sym
       (get_or-take alphabet (drop (row * 2 ^ s) words) i 0 low ∙ get_or-drop (row * 2 ^ s) words i 0
@@ -133,7 +128,7 @@ shaped_by l word each h =
     (⊎_elim (λ stays. subst (IsRowId l) (sym stays) (h.rows.next_ids k b)) (λ other. other.1) (each k b)))
     (λ k b past.
     at k b
-    ∙ ⊎_elim (λ stays. stays ∙ h.rows.past_alphabet k b past) (λ other. absurd (omega (arith, other.0, past)))
+    ∙ ⊎_elim (λ stays. stays ∙ h.rows.past_alphabet k b past) (λ other. absurd (omega arith))
     (each k b))
     h
   where
@@ -153,7 +148,7 @@ same_ids l word = grind (arith, common_steps, length-map-range_with_len)
 module _ (l : Layout) (ids : List ℕ) (count : length ids ≡ row_count l) (are : All (IsId (ids_of l)) ids)
     (h : IsShaped l) where
   row_within : (id : ℕ) → IsRowId l id → id / stride l < length ids
-  row_within id is = omega (arith, count, row-below l id is)
+  row_within id is = omega (arith, row-below l id is)
 
   renamed_id_is : (id : ℕ) → IsRowId l id → IsRowId l (renamed_id l ids id)
   renamed_id_is id is = IsRowId-id l _ (All-get_or (IsId (ids_of l)) ids (id / stride l) 0 (row_within id is) are)
@@ -208,8 +203,6 @@ module _ (l : Layout) (ids : List ℕ) (count : length ids ≡ row_count l) (are
     nexts = λ row unit b within.
         let is = IsRowId-row l row b in
         let low = column_within l h.rows.classes unit within in
-        let fits = h.rows.fits in
-        let below = is.below in
         let place : row * stride l + column l unit < length l.words = omega arith in
         let column_is : (row * stride l + column l unit) % stride l ≡ column l unit =
         mod-mul-add row (stride l) (column l unit) (omega arith) in
@@ -268,9 +261,7 @@ module _ (l : Layout) (ids part : List ℕ) (id : ℕ) (is : IsRowId l id) (fits
       outside = part_outside (renamed_part renamed)
 
       in_row : (k : ℕ) → k / stride l ≡ id / stride l → k ≡ id + k % stride l
-      in_row k own =
-          sym (div-add-mod' k (stride l)) ∙ ap (λ row. row * stride l + k % stride l) own
-          ∙ ap (λ first. first + k % stride l) (quotient id (stride l) is.whole)
+      in_row k own = grind (arith, common_steps)
 
       elsewhere : (k : ℕ) → (k / stride l ≡ id / stride l → ⊥) → IsOutside id (alphabet_len l.classes) k
       elsewhere k other =
@@ -279,7 +270,7 @@ module _ (l : Layout) (ids part : List ℕ) (id : ℕ) (is : IsRowId l id) (fits
           (λ (from : id ≤ k).
           ⊎_elim
           (λ (within : k < id + alphabet_len l.classes).
-          let at : id / stride l * stride l + (k - id) ≡ k = omega (arith, quotient id (stride l) is.whole) in
+          let at : id / stride l * stride l + (k - id) ≡ k = omega arith in
           let row = div-mul-add (id / stride l) (stride l) (k - id) (omega arith) in
           absurd (other (subst (λ x. x / stride l ≡ id / stride l) at row)))
           (λ (behind : id + alphabet_len l.classes ≤ k). inr behind)

@@ -1,16 +1,8 @@
 -- Kinds of rows by their ids, with the patterns of match rows and the needles of accelerated ones.
-use Rattle.std.proofs.lemmas.Grind.{common_steps}
-use Rattle.std.proofs.Common.{◌≡◌, ℕ, ◌+◌, ◌*◌, ◌/◌, ◌<◌, ◌≤◌, ◌&&◌, not, nat_le, Bool, true, false, if◌then◌else◌}
-use Rattle.std.proofs.Common.{List, [], length, take, drop, get_or, slice_index, refl, ap, sym, ◌∙◌, ⊎_elim, arith}
-use Rattle.std.proofs.Common.{length-drop, length-take-le, Some, None}
-use Rattle.std.proofs.lemmas.Bool.{cases_lt, leb-true, and_parts}
-use Rattle.std.proofs.lemmas.List.{get_or-drop, get_or-take, get_or_past}
-use Rattle.std.proofs.lemmas.List.Elements.{Contains-get_or}
-use Rattle.rx_spec.specs.Ids.{row_of}
-use Rattle.rx_spec.specs.Causes.{max_id}
-use Rattle.rx_spec.specs.Machines.{Label}
-use Rattle.rx_spec.specs.Tables.{is_match, is_match_label}
-use Rattle.rx_spec.specs.Queries.{Anchored}
+use Rattle.rx_spec.proofs.Prelude.{common_steps, ◌≡◌, ℕ, ◌+◌, ◌*◌, ◌/◌, ◌<◌, ◌≤◌, ◌&&◌, not, nat_le, Bool, true, false}
+use Rattle.rx_spec.proofs.Prelude.{if◌then◌else◌, List, [], length, take, drop, get_or, slice_index, refl, ap, sym, ◌∙◌}
+use Rattle.rx_spec.proofs.Prelude.{⊎_elim, arith, Some, None, cases_lt, leb-true, and_parts, get_or_past}
+use Rattle.rx_spec.proofs.Prelude.{Contains-get_or, row_of, max_id, Label, is_match, is_match_label, Anchored}
 use Rattle.rx_search.specs.Starts.{IsId, universal_start}
 use Rattle.rx_search.specs.Labels.{is_quit, is_quit_label, label_patterns, patterns_of}
 use Rattle.rx_search.proofs.Standing.{match_label}
@@ -22,15 +14,15 @@ use Rattle.rx_dense.proofs.Rows.{id-times, row-is_below, row_of-id, valid_id}
 
 -- ---- labels by the two tests
 
-abbrev label_by : Bool → Bool → List ℕ → Label
+abbrev pub label_by : Bool → Bool → List ℕ → Label
 label_by m q ks = if m then Label.Matches ks else (if q then Label.Quits else Label.Plain)
 
-match_by : (m q : Bool) (ks : List ℕ) → is_match_label (label_by m q ks) ≡ m
+pub match_by : (m q : Bool) (ks : List ℕ) → is_match_label (label_by m q ks) ≡ m
 match_by true q ks = refl
 match_by false true ks = refl
 match_by false false ks = refl
 
-quit_by : (m q : Bool) (ks : List ℕ) → is_quit_label (label_by m q ks) ≡ (q && not m)
+pub quit_by : (m q : Bool) (ks : List ℕ) → is_quit_label (label_by m q ks) ≡ (q && not m)
 quit_by true true ks = refl
 quit_by true false ks = refl
 quit_by false true ks = refl
@@ -123,7 +115,6 @@ module _ (l : Layout) (id : ℕ) (is : IsId (ids_of l) id) where
         arith,
         sound.patterns (row_of (ids_of l) id) ks (slice_index ks k) (row-is_below l id is) label
             (Contains-get_or ks k 0 h),
-        lists.few_patterns,
       )
 
   -- ---- accelerated rows
@@ -151,7 +142,7 @@ module _ (l : Layout) (id : ℕ) (is : IsId (ids_of l) id) where
       let none : get_or l.accels i [] ≡ [] = get_or_past l.accels i [] h in
       let some = sound.some_needle (row_of (ids_of l) id) (row-is_below l id is) (sym accel_kind ∙ e) in
       let empty : length ((table_of l).needles (row_of (ids_of l) id)) ≡ 0 = ap length (sym (needles_are e) ∙ none) in
-      absurd (omega (arith, some, empty)))
+      absurd (omega arith))
       (cases_lt i (length l.accels))
     where
       i : ℕ
@@ -161,19 +152,18 @@ module _ (l : Layout) (id : ℕ) (is : IsId (ids_of l) id) where
 
 module _ (l : Layout) (lists : AreLists l) (i : ℕ) (h : 2 * i + 1 < length l.slices) where
   pub patterns_len : length (patterns_at l i) ≡ slice_index l.slices (2 * i + 1)
-  patterns_len = grind (arith, common_steps, length-take-le, length-drop)
+  patterns_len = grind (arith, common_steps)
 
   pub pattern_at : (k : ℕ) → k < length (patterns_at l i)
       → slice_index l.pattern_ids (slice_index l.slices (2 * i) + k) ≡ slice_index (patterns_at l i) k
-  pattern_at k b = grind (arith, common_steps, patterns_len, get_or-take, get_or-drop)
+  pattern_at k b = grind (arith, common_steps)
 
 -- ---- universal starts
 
 universal_is : (l : Layout) (mode : Anchored)
     → universal_start (table_of l) mode ≡ universal_row l (universal_id l mode)
 universal_is l Anchored.No = refl
-universal_is l Anchored.Yes = refl
-universal_is l (Anchored.Pattern k) = refl
+universal_is l _ = refl
 
 pub no_universal : (l : Layout) (mode : Anchored) → universal_id l mode ≡ None
     → None ≡ universal_start (table_of l) mode

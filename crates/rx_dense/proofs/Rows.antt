@@ -1,36 +1,30 @@
 -- Rows and their ids: the id of a row is its number times the stride.
-use Rattle.std.proofs.lemmas.Grind.{common_steps}
-use Rattle.std.proofs.Common.{◌≡◌, ℕ, zero, suc, ◌+◌, ◌-◌, ◌*◌, ◌/◌, ◌%◌, ◌^◌, ◌<◌, ◌≤◌, ◌==◌, Option, true, List, take}
-use Rattle.std.proofs.Common.{drop, length, ap, sym, ◌∙◌, subst, ⊎_elim, arith, slice_index, length-take, length-drop}
-use Rattle.std.specs.Prelude.{nat_lt}
-use Rattle.std.proofs.Math.Nat.{mul-div_cancel, pow-le-pow_right}
-use Rattle.std.proofs.lemmas.Bool.{and_parts, eq-eqb, eqb-true, ne_eqb, lt-ltb, ltb-true, le-ltb, cases_lt, cases_eq}
-use Rattle.std.proofs.lemmas.List.{get_or-drop, get_or-take}
+use Rattle.rx_spec.proofs.Prelude.{common_steps, ◌≡◌, ℕ, zero, suc, ◌+◌, ◌-◌, ◌*◌, ◌/◌, ◌%◌, ◌^◌, ◌<◌, ◌≤◌, ◌==◌}
+use Rattle.rx_spec.proofs.Prelude.{Option, true, List, take, drop, length, ap, sym, ◌∙◌, subst, ⊎_elim, arith}
+use Rattle.rx_spec.proofs.Prelude.{slice_index, length-take, length-drop, nat_lt, mul-div_cancel, pow-le-pow_right}
+use Rattle.rx_spec.proofs.Prelude.{and_parts, eqb-true, lt-ltb, ltb-true, cases_lt, cases_eq, one_shl, pow_pos}
+use Rattle.rx_spec.proofs.Prelude.{mod-mul-add, mul-le, row_fits, id_of, row_of, Anchored, max_id}
 use Rattle.std.proofs.lemmas.List.Sums.{passes_at_first}
-use Rattle.std.proofs.lemmas.Nat.{one_shl, pow_pos, mod-mul-add, mul-le, row_fits, le-div, div-add-mod'}
-use Rattle.rx_spec.specs.Ids.{id_of, row_of}
 use Rattle.lemmas_tables.proofs.Ids.{row_of-id_of, id_of-dense, dense_are_ids}
 use Rattle.rx_search.specs.Starts.{IsId}
 use Rattle.rx_dense.specs.Layouts.{Layout, IsRowId, AreRows, AreStarts, stride, row_count, ids_of, is_row_id, column}
 use Rattle.rx_dense.specs.Layouts.{context_number, mode_place, start_entries}
-use Rattle.rx_spec.specs.Queries.{Anchored}
 use Rattle.rx_spec.specs.declared.Start.{Start}
 use Rattle.rx_base.specs.ByteClasses.{AreClasses, alphabet_len}
-use Rattle.rx_spec.specs.Causes.{max_id}
 
 -- ---- numbers
 
 pub quotient : (x s : ℕ) → x % s ≡ 0 → x / s * s ≡ x
-quotient x s h = omega (arith, div-add-mod' x s)
+quotient x s h = omega arith
 
 pub no_more : (x : ℕ) → x + 0 ≡ x
 no_more x = omega arith
 
 quotient_below : (x s n : ℕ) → 0 < s → x % s ≡ 0 → x + s ≤ n → x / s < n / s
-quotient_below x s n some h below = grind (arith, common_steps, quotient, le-div)
+quotient_below x s n some h below = grind (arith, common_steps)
 
 pub multiple_below : (row s n : ℕ) → 0 < s → row < n / s → row * s + s ≤ n
-multiple_below row s n some h = grind (arith, common_steps, div-add-mod', row_fits)
+multiple_below row s n some h = grind (arith, common_steps)
 
 -- a multiple of s below another is below it by s
 pub multiple_within : (x s n : ℕ) → x % s ≡ 0 → n % s ≡ 0 → x < n → x + s ≤ n
@@ -38,7 +32,7 @@ multiple_within x s n h k below =
     let q = quotient x s h in
     let r = quotient n s k in
     ⊎_elim
-    (λ (less : x / s < n / s). omega (arith, q, r, row_fits (x / s) s (n / s) s less (omega arith)))
+    (λ (less : x / s < n / s). omega (arith, row_fits (x / s) s (n / s) s less (omega arith)))
     (λ (more : n / s ≤ x / s).
     let same : s ≤ s = omega arith in
     absurd (omega (arith, q, r, mul-le (n / s) s (x / s) s more same)))
@@ -60,7 +54,7 @@ stride_few s h = pow-le-pow_right (let some : 0 < 2 = omega arith in some) h
 
 -- a number that is an id stands at its row
 pub id_at_row : (ids : List ℕ) (id : ℕ) → IsId ids id → id_of ids (row_of ids id) ≡ id
-id_at_row ids id is = grind (arith, common_steps, lt-ltb, passes_at_first, eqb-true, le-ltb, cases_lt)
+id_at_row ids id is = grind (arith, common_steps, lt-ltb, passes_at_first)
 
 -- ---- in a dense table
 
@@ -96,16 +90,16 @@ module _ (l : Layout) where
   IsId-row_id id is = omega (arith, count, row_of-id id is, row-below id is)
 
   pub row-is_below : (id : ℕ) → IsId (ids_of l) id → row_of (ids_of l) id < row_count l
-  row-is_below id is = omega (arith, count, is)
+  row-is_below id is = omega (arith, count)
 
   pub id-times : (id : ℕ) → IsId (ids_of l) id → row_of (ids_of l) id * stride l ≡ id
   id-times id is =
-      let below : row_of (ids_of l) id < row_count l = omega (arith, count, is) in
+      let below : row_of (ids_of l) id < row_count l = omega (arith, count) in
       sym (id_of-dense (row_count l) l.stride2 (row_of (ids_of l) id) below) ∙ id_at_row (ids_of l) id is
 
   pub IsRowId-id : (id : ℕ) → IsId (ids_of l) id → IsRowId l id
   IsRowId-id id is =
-      let below : row_of (ids_of l) id < row_count l = omega (arith, count, is) in
+      let below : row_of (ids_of l) id < row_count l = omega (arith, count) in
       subst (IsRowId l) (id-times id is) (IsRowId-row (row_of (ids_of l) id) below)
 
 -- ---- entries
@@ -153,13 +147,13 @@ module _ (words : List ℕ) (column id : ℕ) (h : id + column < length words) w
 
   pub from_column_is : slice_index (take (length words - column) (drop column words)) id
       ≡ slice_index words (id + column)
-  from_column_is = grind (arith, common_steps, get_or-take, get_or-drop)
+  from_column_is = grind (arith, common_steps)
 
 -- ---- columns
 
 -- a byte's class is a column before the last
 module _ (classes : List ℕ) (are : AreClasses classes) where
-  class_below : (n b : ℕ) → b ≤ n → n < 256 → slice_index classes b ≤ slice_index classes n
+  pub class_below : (n b : ℕ) → b ≤ n → n < 256 → slice_index classes b ≤ slice_index classes n
   class_below zero b h k = grind (arith, common_steps)
   class_below (suc n) b h k =
       ⊎_elim
@@ -169,7 +163,7 @@ module _ (classes : List ℕ) (are : AreClasses classes) where
       let next : n + 1 ≡ suc n = omega arith in
       let up : slice_index classes n ≤ slice_index classes (suc n) =
       subst (λ x. slice_index classes n ≤ slice_index classes x) next rises in
-      omega (arith, class_below n b (omega arith) (omega arith), up))
+      omega (arith, class_below n b (omega arith) (omega arith)))
       (cases_eq b (suc n))
 
   pub class_column : (b : ℕ) → b < 256 → slice_index classes b < alphabet_len classes
@@ -177,13 +171,13 @@ module _ (classes : List ℕ) (are : AreClasses classes) where
 
   -- there are no more classes than bytes
   class_upto : (b : ℕ) → b < 256 → slice_index classes b ≤ b
-  class_upto zero h = omega (arith, are.first)
+  class_upto zero h = omega arith
   class_upto (suc b) h =
       let by_one = are.by_one b (omega arith) in
       let next : b + 1 ≡ suc b = omega arith in
       let up : slice_index classes (suc b) ≤ slice_index classes b + 1 =
       subst (λ x. slice_index classes x ≤ slice_index classes b + 1) next by_one in
-      omega (arith, class_upto b (omega arith), up)
+      omega (arith, class_upto b (omega arith))
 
   pub alphabet_few : alphabet_len classes ≤ 257
   alphabet_few = omega (arith, class_upto 255 (omega arith))
@@ -191,18 +185,18 @@ module _ (classes : List ℕ) (are : AreClasses classes) where
 -- so is that of the end mark within the alphabet
 pub column_within : (l : Layout) → AreClasses l.classes → (unit : ℕ) → unit < 257
     → column l unit < alphabet_len l.classes
-column_within l are unit h = grind (arith, common_steps, eq-eqb, ne_eqb, class_column, cases_eq)
+column_within l are unit h = grind (arith, common_steps, class_column)
 
 -- ---- start entries
 
-place_within : (mode : Anchored) (start : Start) (pattern_starts : Option ℕ)
+pub place_within : (mode : Anchored) (start : Start) (pattern_starts : Option ℕ)
     → mode_place mode < start_entries pattern_starts
     → mode_place mode + context_number start < start_entries pattern_starts
 place_within mode start pattern_starts h = grind (arith, common_steps)
 
 pub start_within : (l : Layout) → AreStarts l → (mode : Anchored) (start : Start) → mode_place mode < length l.starts
     → mode_place mode + context_number start < length l.starts
-start_within l starts mode start h = grind (arith, common_steps, place_within)
+start_within l starts mode start h = grind (arith, common_steps)
 
 pub start_is_row : (l : Layout) → AreStarts l → (mode : Anchored) (start : Start) → mode_place mode < length l.starts
     → IsRowId l (slice_index l.starts (mode_place mode + context_number start))

@@ -1,25 +1,19 @@
 -- What each change leaves true of a table.
-use Rattle.std.proofs.lemmas.Grind.{common_steps}
-use Rattle.std.proofs.Common.{◌≡◌, ℕ, ◌+◌, ◌-◌, ◌*◌, ◌%◌, ◌^◌, ◌<◌, ◌≤◌, ◌≢◌, ◌⊎◌, Option, Some, None, Bool, true}
-use Rattle.std.proofs.Common.{false, if◌then◌else◌, List, ◌++◌, length, slice_index, refl, ap, sym, ◌∙◌, subst, ⊎_elim}
-use Rattle.std.proofs.Common.{arith, length-append, length-take-le, inl, inr}
-use Rattle.std.specs.Prelude.{slice_set, replicate}
-use Rattle.std.proofs.Math.Nat.{pow-le-pow_right}
-use Rattle.std.proofs.lemmas.Bool.{cases_eq, cases_lt}
-use Rattle.std.proofs.lemmas.List.{get_or-set_same, get_or-set_other, length-set, get_or-replicate, length-replicate}
-use Rattle.std.proofs.lemmas.List.{get_or_append_left, get_or-append_right, get_or_past, get_or-take}
-use Rattle.std.proofs.lemmas.Nat.{pow_pos, mod-mul-add, mul-le, div-add-mod'}
-use Rattle.std.proofs.lemmas.List.FromFn.{length-map-range_with_len}
-use Rattle.rx_spec.specs.Contexts.{start_of_byte}
+use Rattle.rx_spec.proofs.Prelude.{common_steps, ◌≡◌, ℕ, ◌+◌, ◌-◌, ◌*◌, ◌%◌, ◌^◌, ◌<◌, ◌≤◌, ◌≢◌, ◌⊎◌, Option, Some}
+use Rattle.rx_spec.proofs.Prelude.{None, Bool, true, false, if◌then◌else◌, List, ◌++◌, length, slice_index, refl, ap}
+use Rattle.rx_spec.proofs.Prelude.{sym, ◌∙◌, subst, ⊎_elim, arith, length-append, length-take-le, inl, inr, slice_set}
+use Rattle.rx_spec.proofs.Prelude.{replicate, pow-le-pow_right, cases_lt, get_or-replicate, length-replicate}
+use Rattle.rx_spec.proofs.Prelude.{get_or_past, get_or-take, pow_pos, mod-mul-add, mul-le, length-map-range_with_len}
+use Rattle.rx_spec.proofs.Prelude.{start_of_byte, max_id}
+use Rattle.std.proofs.lemmas.List.{length-set}
 use Rattle.lemmas_tables.proofs.ClassNumbers.{stride_holds, stride_within}
-use Rattle.rx_spec.specs.Causes.{max_id}
 use Rattle.rx_base.specs.ByteClasses.{AreClasses, alphabet_len}
 use Rattle.rx_dense.specs.Layouts.{Layout, IsRowId, AreRows, AreStarts, AreLists, IsShaped, ids_of, row_count}
 use Rattle.rx_dense.specs.Layouts.{start_entries, stride}
 use Rattle.rx_search.specs.Starts.{IsId}
 use Rattle.rx_dense.specs.declared.special.Special.{Special}
 use Rattle.rx_dense.specs.Builder.{AreSwapped, Beginning, IsCopied, IsOutside, initial, with_row, with_rows}
-use Rattle.rx_dense.proofs.Rows.{IsId-row_id, alphabet_few, multiple_within, no_more, quotient}
+use Rattle.rx_dense.proofs.Rows.{IsId-row_id, IsRowId-id, alphabet_few, multiple_within, no_more}
 
 -- ---- parts that stay
 
@@ -47,7 +41,7 @@ rows_kept l m c s w h = record {
 
 pub starts_kept : (l m : Layout) → m.stride2 ≡ l.stride2 → length l.words ≤ length m.words → m.contexts ≡ l.contexts
     → m.pattern_starts ≡ l.pattern_starts → m.starts ≡ l.starts → AreStarts l → AreStarts m
-starts_kept l m s w c p e h = grind (arith, common_steps, id_kept)
+starts_kept l m s w c p e h = grind (arith, common_steps)
 
 pub lists_kept : (l m : Layout) → m.pattern_len ≡ l.pattern_len → m.slices ≡ l.slices → m.pattern_ids ≡ l.pattern_ids
     → length m.accels ≡ length l.accels
@@ -57,11 +51,11 @@ lists_kept l m n s p a h = grind (arith, common_steps)
 -- ---- another entry
 
 at_column : (id column s : ℕ) → id % s ≡ 0 → column < s → (id + column) % s ≡ column
-at_column id column s whole h = grind (arith, common_steps, quotient, mod-mul-add)
+at_column id column s whole h = grind (arith, common_steps)
 
 set_keeps : (P : ℕ → ℕ → Type 0) (l : List ℕ) (at v : ℕ) → at < length l → P at v
     → ((k : ℕ) → k < length l → P k (slice_index l k)) → (k : ℕ) → k < length l → P k (slice_index (slice_set l at v) k)
-set_keeps P l at v within new old k b = grind (arith, common_steps, get_or-set_same, get_or-set_other, cases_eq)
+set_keeps P l at v within new old k b = grind (arith, common_steps)
 
 -- a word of a row within the alphabet
 pub rows_set : (l m : Layout) (id column next : ℕ) → m.classes ≡ l.classes → m.stride2 ≡ l.stride2
@@ -69,7 +63,6 @@ pub rows_set : (l m : Layout) (id column next : ℕ) → m.classes ≡ l.classes
     → IsRowId l next → AreRows l → AreRows m
 rows_set l m id column next c s w is within next_is h =
     let count : length m.words ≡ length l.words = ap length w ∙ length-set l.words (id + column) next in
-    let below = is.below in
     let fits = h.fits in
     let place : id + column < length l.words = omega arith in
     let at : (id + column) % stride l ≡ column = at_column id column (stride l) is.whole (omega arith) in
@@ -90,22 +83,22 @@ rows_set l m id column next c s w is within next_is h =
           let there : k < length l.words = omega arith in
           let old : alphabet_len l.classes ≤ k % stride l = rw (c, s) at past in
           rw w (set_keeps (λ k x. alphabet_len l.classes ≤ k % stride l → x ≡ 0) l.words (id + column) next place
-          (λ e. absurd (omega (arith, at, e, within))) h.past_alphabet k there old);
+          (λ e. absurd (omega arith)) h.past_alphabet k there old);
     }
 
 -- a start entry
 pub starts_set : (l m : Layout) (place id : ℕ) → m.stride2 ≡ l.stride2 → m.words ≡ l.words → m.contexts ≡ l.contexts
     → m.pattern_starts ≡ l.pattern_starts → m.starts ≡ slice_set l.starts place id → place < length l.starts
     → IsRowId l id → AreStarts l → AreStarts m
-starts_set l m place id s w c p e within is h = grind (arith, common_steps, length-set, id_kept, set_keeps)
+starts_set l m place id s w c p e within is h = grind (arith, common_steps)
 
 -- ---- a row more
 
 pub zero_id : (l : Layout) → stride l ≤ length l.words → IsRowId l 0
-zero_id l h = grind (arith, common_steps, mod-mul-add, pow_pos)
+zero_id l h = grind (arith, common_steps)
 
 more_whole : (n s : ℕ) → 0 < s → n % s ≡ 0 → (n + s) % s ≡ 0
-more_whole n s some h = grind (arith, common_steps, quotient, mod-mul-add)
+more_whole n s some h = grind (arith, common_steps)
 
 pub rows_more : (l m : Layout) → m.classes ≡ l.classes → m.stride2 ≡ l.stride2
     → m.words ≡ l.words ++ replicate (stride l) 0 → length l.words ≤ max_id → AreRows l → AreRows m
@@ -138,16 +131,10 @@ rows_more l m c s w few h =
     }
   where
     old_word : (k : ℕ) → k < length l.words → slice_index m.words k ≡ slice_index l.words k
-    old_word k old =
-        ap (λ ws. slice_index ws k) w ∙ get_or_append_left l.words (replicate (stride l) 0) 0 k old
+    old_word k old = grind (arith, common_steps)
 
     new_word : (k : ℕ) → length l.words ≤ k → k < length l.words + stride l → slice_index m.words k ≡ 0
-    new_word k low high =
-        let place : k - length l.words < stride l = omega arith in
-        let same_len : length l.words ≡ length l.words = refl in
-        ap (λ ws. slice_index ws k) w
-        ∙ get_or-append_right l.words (replicate (stride l) 0) (length l.words) k 0 same_len low
-        ∙ get_or-replicate (stride l) (k - length l.words) 0 0 place
+    new_word k low high = grind (arith, common_steps)
 
 -- ---- each call's change
 
@@ -231,7 +218,7 @@ new_id l h =
 
 -- ---- a table that is begun
 
-zero_at : (n k : ℕ) → slice_index (replicate n 0) k ≡ 0
+pub zero_at : (n k : ℕ) → slice_index (replicate n 0) k ≡ 0
 zero_at n k = grind (arith, common_steps, get_or-replicate, get_or_past, length-replicate, cases_lt)
 
 pub shaped_initial : (b : Beginning) → AreClasses b.classes → b.pattern_len ≤ 2147483647 → IsShaped (initial b)
@@ -267,7 +254,7 @@ shaped_initial b are small =
         pairs = refl;
         few_rows = omega arith;
         few = omega arith;
-        within = λ i h. absurd (omega (arith, h));
+        within = λ i h. absurd (omega arith);
         few_accels = omega arith;
       };
     }
@@ -285,7 +272,7 @@ pub shaped_words : (l : Layout) (ws : List ℕ) → length ws ≡ length l.words
     → IsShaped l → IsShaped (record l { words = ws })
 shaped_words l ws count ids zeros h =
     let m : Layout = record l { words = ws } in
-    let same : length l.words ≤ length m.words = omega (arith, count) in
+    let same : length l.words ≤ length m.words = omega arith in
     record {
       rows = record {
         classes = h.rows.classes;
@@ -294,8 +281,8 @@ shaped_words l ws count ids zeros h =
         whole = rw count h.rows.whole;
         two = rw count h.rows.two;
         few = rw count h.rows.few;
-        next_ids = λ k b. id_kept l m (slice_index ws k) refl same (ids k (omega (arith, count)));
-        past_alphabet = λ k b past. zeros k (omega (arith, count)) past;
+        next_ids = λ k b. id_kept l m (slice_index ws k) refl same (ids k (omega arith));
+        past_alphabet = λ k b past. zeros k (omega arith) past;
       };
       starts = starts_kept l m refl same refl refl refl h.starts;
       lists = lists_kept l m refl refl refl refl h.lists;
@@ -314,16 +301,20 @@ shaped_starts l ids count are h =
         contexts = h.starts.contexts;
         count = rw count h.starts.count;
         small = rw count h.starts.small;
-        start_ids = λ k b. id_kept l m (slice_index ids k) refl (omega arith) (are k (omega (arith, count)));
+        start_ids = λ k b. id_kept l m (slice_index ids k) refl (omega arith) (are k (omega arith));
       };
       lists = lists_kept l m refl refl refl refl h.lists;
     }
 
 -- ---- rows that change places
 
+-- the id of a row, in a table that is the same
+pub IsRowId-same : {l m : Layout} {id : ℕ} → l ≡ m → IsId (ids_of m) id → IsRowId l id
+IsRowId-same {l} {m} {id} same is = subst (λ (x : Layout). IsRowId x id) (sym same) (IsRowId-id m id is)
+
 -- two rows that aren't one lie apart
 pub rows_apart : (l : Layout) (x y : ℕ) → IsRowId l x → IsRowId l y → x ≢ y → (x + stride l ≤ y) ⊎ (y + stride l ≤ x)
-rows_apart l x y x_is y_is ne = grind (arith, common_steps, multiple_within, cases_eq, cases_lt)
+rows_apart l x y x_is y_is ne = grind (arith, common_steps)
 
 -- the places of rows
 module _ (l : Layout) where
@@ -345,60 +336,46 @@ module _ (l : Layout) where
       (cases_lt k (id + stride l)))
       (cases_lt k id)
 
--- two rows have changed places
-module _ (l : Layout) (ws : List ℕ) (x y : ℕ) (h : IsShaped l) (x_is : IsRowId l x) (y_is : IsRowId l y)
-    (swapped : AreSwapped (stride l) l.words ws x y) where
-  -- each word is an old one of the same column
-  from : (P : ℕ → ℕ → Type 0)
-      → ((k j : ℕ) → k < length l.words → j < length l.words → k % stride l ≡ j % stride l
-      → P k (slice_index l.words j))
-      → (k : ℕ) → k < length l.words → P k (slice_index ws k)
-  from P old k b =
-      by_row l x k
-      (λ c low e.
-      subst (λ k. P k (slice_index ws k)) (sym e)
-      (subst (P (x + c)) (sym (swapped.at_first c low))
-      (old (x + c) (y + c) (in_row l x c x_is low) (in_row l y c y_is low) (same_column l x y c x_is y_is low))))
-      (λ outside_x.
-      by_row l y k
-      (λ c low e.
-      subst (λ k. P k (slice_index ws k)) (sym e)
-      (subst (P (y + c)) (sym (swapped.at_second c low))
-      (old (y + c) (x + c) (in_row l y c y_is low) (in_row l x c x_is low) (same_column l y x c y_is x_is low))))
-      (λ outside_y. subst (P k) (sym (swapped.others k outside_x outside_y)) (old k k b b refl)))
+  -- the word is an old one of the same column
+  abbrev IsOld : List ℕ → ℕ → Type 0
+  IsOld ws k =
+      (j : ℕ) × (j < length l.words) × (k % stride l ≡ j % stride l) × (slice_index ws k ≡ slice_index l.words j)
 
-  pub shaped_swap : IsShaped (record l { words = ws })
-  shaped_swap =
-      shaped_words l ws swapped.count
-      (from (λ k w. IsRowId l w) (λ k j b in_j e. h.rows.next_ids j in_j))
-      (from (λ k w. alphabet_len l.classes ≤ k % stride l → w ≡ 0)
-      (λ k j b in_j e past. h.rows.past_alphabet j in_j (omega (arith, e, past))))
+  shaped_old : (ws : List ℕ) → length ws ≡ length l.words → ((k : ℕ) → k < length l.words → IsOld ws k) → IsShaped l
+      → IsShaped (record l { words = ws })
+  shaped_old ws count old h =
+      shaped_words l ws count
+      (λ k b. let o = old k b in subst (IsRowId l) (sym o.3) (h.rows.next_ids o.0 o.1))
+      (λ k b past. let o = old k b in o.3 ∙ h.rows.past_alphabet o.0 o.1 (omega (arith, o.2, past)))
       h
+
+  -- in a row that is as another was
+  in_other : (ws : List ℕ) (id other k : ℕ) → IsRowId l id → IsRowId l other
+      → ((c : ℕ) → c < stride l → slice_index ws (id + c) ≡ slice_index l.words (other + c))
+      → (c : ℕ) → c < stride l → k ≡ id + c → IsOld ws k
+  in_other ws id other k is other_is same c low e = (
+    other + c,
+    in_row other c other_is low,
+    ap (λ x. x % stride l) e ∙ same_column id other c is other_is low,
+    ap (slice_index ws) e ∙ same c low,
+  )
+
+-- two rows have changed places
+pub shaped_swap : (l : Layout) (ws : List ℕ) (x y : ℕ) → IsShaped l → IsRowId l x → IsRowId l y
+    → AreSwapped (stride l) l.words ws x y → IsShaped (record l { words = ws })
+shaped_swap l ws x y h x_is y_is swapped =
+    shaped_old l ws swapped.count
+    (λ k b. by_row l x k (in_other l ws x y k x_is y_is swapped.at_first)
+    (λ outside_x. by_row l y k (in_other l ws y x k y_is x_is swapped.at_second)
+    (λ outside_y. (k, b, refl, swapped.others k outside_x outside_y)))) h
 
 -- a row is as another one
-module _ (l : Layout) (ws : List ℕ) (from to : ℕ) (h : IsShaped l) (from_is : IsRowId l from) (to_is : IsRowId l to)
-    (copied : IsCopied (stride l) l.words ws from to) where
-  -- each word is an old one of the same column
-  as_old : (P : ℕ → ℕ → Type 0)
-      → ((k j : ℕ) → k < length l.words → j < length l.words → k % stride l ≡ j % stride l
-      → P k (slice_index l.words j))
-      → (k : ℕ) → k < length l.words → P k (slice_index ws k)
-  as_old P old k b =
-      by_row l to k
-      (λ c low e.
-      subst (λ k. P k (slice_index ws k)) (sym e)
-      (subst (P (to + c)) (sym (copied.there c low))
-      (old (to + c) (from + c) (in_row l to c to_is low) (in_row l from c from_is low)
-      (same_column l to from c to_is from_is low))))
-      (λ outside. subst (P k) (sym (copied.others k outside)) (old k k b b refl))
-
-  pub shaped_copy : IsShaped (record l { words = ws })
-  shaped_copy =
-      shaped_words l ws copied.count
-      (as_old (λ k w. IsRowId l w) (λ k j b in_j e. h.rows.next_ids j in_j))
-      (as_old (λ k w. alphabet_len l.classes ≤ k % stride l → w ≡ 0)
-      (λ k j b in_j e past. h.rows.past_alphabet j in_j (omega (arith, e, past))))
-      h
+pub shaped_copy : (l : Layout) (ws : List ℕ) (from to : ℕ) → IsShaped l → IsRowId l from → IsRowId l to
+    → IsCopied (stride l) l.words ws from to → IsShaped (record l { words = ws })
+shaped_copy l ws from to h from_is to_is copied =
+    shaped_old l ws copied.count
+    (λ k b. by_row l to k (in_other l ws to from k to_is from_is copied.there)
+    (λ outside. (k, b, refl, copied.others k outside))) h
 
 -- fewer rows
 pub shaped_cut : (l : Layout) (rows : ℕ) → 2 ≤ rows → rows ≤ row_count l
@@ -410,11 +387,7 @@ shaped_cut l rows two within cut_rows cut_starts h =
     let n : ℕ = rows * stride l in
     let some = pow_pos l.stride2 in
     let fits : n ≤ length l.words =
-    omega (
-      arith,
-      div-add-mod' (length l.words) (stride l),
-      mul-le rows (stride l) (row_count l) (stride l) within (omega arith),
-    ) in
+    omega (arith, mul-le rows (stride l) (row_count l) (stride l) within (omega arith)) in
     let count : length m.words ≡ n = length-take-le n l.words fits in
     let whole : n % stride l ≡ 0 = subst (λ x. x % stride l ≡ 0) (no_more n) (mod-mul-add rows (stride l) 0 some) in
     let kept = λ (k : ℕ) (b : k < n). get_or-take n l.words k 0 b in
@@ -434,11 +407,11 @@ shaped_cut l rows two within cut_rows cut_starts h =
         two = rw count (mul-le 2 (stride l) rows (stride l) two (omega arith));
         few = rw count (omega arith);
         next_ids = λ k b.
-            let low : k < n = omega (arith, count) in
+            let low : k < n = omega arith in
             subst (IsRowId m) (sym (kept k low))
             (id (slice_index l.words k) (h.rows.next_ids k (omega arith)) (cut_rows k low));
         past_alphabet = λ k b past.
-            let low : k < n = omega (arith, count) in
+            let low : k < n = omega arith in
             kept k low ∙ h.rows.past_alphabet k (omega arith) past;
       };
       starts = record {

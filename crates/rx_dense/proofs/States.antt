@@ -1,21 +1,14 @@
 -- Rows and transitions as they are handed out one by one.
-use Rattle.std.proofs.lemmas.Grind.{common_steps}
-use Rattle.std.proofs.Common.{◌≡◌, ℕ, suc, ◌+◌, ◌-◌, ◌*◌, ◌/◌, ◌%◌, ◌<◌, ◌≤◌, Option, Some, None, List, [], ◌∷◌, length}
-use Rattle.std.proofs.Common.{take, drop, get_or, slice_index, refl, ap, ap₂, sym, ◌∙◌, true, cond, arith, map}
-use Rattle.std.proofs.Common.{length-append, length-drop, length-take-le}
-use Rattle.std.specs.Prelude.{nat_lt, unwrap_or}
-use Rattle.std.specs.List.{flat_map, range_with_len}
-use Rattle.std.proofs.Math.Nat.{mod-eq_of_lt}
-use Rattle.std.proofs.lemmas.List.{get_or-take, get_or-drop, get_or-map}
+use Rattle.rx_spec.proofs.Prelude.{common_steps, ◌≡◌, ℕ, suc, ◌+◌, ◌-◌, ◌*◌, ◌/◌, ◌%◌, ◌<◌, ◌≤◌, Option, Some, None}
+use Rattle.rx_spec.proofs.Prelude.{List, [], ◌∷◌, length, take, drop, get_or, slice_index, refl, ap, ap₂, sym, ◌∙◌}
+use Rattle.rx_spec.proofs.Prelude.{arith, map, length-drop, length-take-le, unwrap_or, flat_map, range_with_len}
+use Rattle.rx_spec.proofs.Prelude.{mod-eq_of_lt, get_or-take, get_or-drop, get_or-map, length-map-range_with_len}
+use Rattle.rx_spec.proofs.Prelude.{get_or-map-range_with_len, drop-cons, max_id}
 use Rattle.std.proofs.lemmas.List.Concat.{get_or-flat_map}
-use Rattle.std.proofs.lemmas.Bool.{lt-ltb}
-use Rattle.std.proofs.lemmas.List.FromFn.{length-map-range_with_len, get_or-map-range_with_len}
-use Rattle.std.proofs.Math.Seq.{drop-cons}
 use Rattle.rx_spec.specs.Contexts.{all_starts}
 use Rattle.rx_spec.specs.declared.Start.{Start}
 use Rattle.rx_base.specs.Search.{mode_of}
 use Rattle.rx_base.specs.declared.search.Anchored.{Anchored as Mode}
-use Rattle.rx_spec.specs.Causes.{max_id}
 use Rattle.rx_base.specs.ByteClasses.{alphabet_len}
 use Rattle.rx_dense.specs.Layouts.{Layout, AreRows, AreStarts, context_number, mode_place, row_count, start_entries}
 use Rattle.rx_dense.specs.Layouts.{start_id, stride}
@@ -83,11 +76,7 @@ mode_at pattern_starts (Mode.Pattern k) group e h =
 
 start_at : (start : Start) → get_or all_starts (context_number start) start ≡ start
 start_at Start.NonWordByte = refl
-start_at Start.WordByte = refl
-start_at Start.Text = refl
-start_at Start.LineLF = refl
-start_at Start.LineCR = refl
-start_at Start.CustomLineTerminator = refl
+start_at _ = refl
 
 module _ (l : Layout) where
   abbrev entry_of : Mode → Start → ℕ × Mode × Start
@@ -99,17 +88,11 @@ module _ (l : Layout) where
   -- each mode has six
   six_each : (modes : List Mode) → length (flat_map entries_of modes) ≡ 6 * length modes
   six_each [] = refl
-  six_each (mode ∷ modes) = omega (arith, length-append (entries_of mode) (flat_map entries_of modes), six_each modes)
+  six_each (mode ∷ modes) = omega (arith, six_each modes)
 
   module _ (starts : AreStarts l) where
     modes_count : 6 * length (start_modes l.pattern_starts) ≡ length l.starts
-    modes_count =
-        omega (
-          arith,
-          starts.count,
-          entries_count l.pattern_starts,
-          length-map-range_with_len (λ k. Mode.Pattern k) 0 (unwrap_or l.pattern_starts 0),
-        )
+    modes_count = grind (arith, common_steps, length-map-range_with_len)
       where
         entries_count : (pattern_starts : Option ℕ) → start_entries pattern_starts ≡ 12 + 6 * unwrap_or pattern_starts 0
         entries_count None = refl
@@ -122,12 +105,7 @@ module _ (l : Layout) where
     module _ (place : ℕ) (h : place < length l.starts) (mode : Mode) (start : Start)
         (mode_is : mode_place (mode_of mode) ≡ 6 * (place / 6)) (start_is : context_number start ≡ place % 6) where
       id_there : start_id l (mode_of mode) start ≡ slice_index l.starts place
-      id_there =
-          let begins : nat_lt (mode_place (mode_of mode)) (length l.starts) ≡ true =
-          lt-ltb _ _ (omega (arith, mode_is)) in
-          let at : mode_place (mode_of mode) + context_number start ≡ place = omega (arith, mode_is, start_is) in
-          ap (λ t. cond t (slice_index l.starts (mode_place (mode_of mode) + context_number start)) 0) begins
-          ∙ ap (slice_index l.starts) at
+      id_there = grind (arith, common_steps)
 
       entry_there : (other : ℕ × Mode × Start) → get_or (starts_of l) place other ≡ entry_of mode start
       entry_there other =
@@ -138,7 +116,7 @@ module _ (l : Layout) where
           let in_six : number < 6 = omega arith in
           let taken : length (take group modes) ≡ group = length-take-le group modes (omega arith) in
           let before : length (flat_map entries_of (take group modes)) + number ≡ place =
-          omega (arith, six_each (take group modes), taken) in
+          omega (arith, six_each (take group modes)) in
           ap (λ at. get_or (starts_of l) at other) (sym before)
           ∙ get_or-flat_map entries_of modes group number mode other in_modes in_six
           ∙ ap (λ m. get_or (entries_of m) number other) (mode_at l.pattern_starts mode group mode_is in_modes)

@@ -1,5 +1,5 @@
 -- Rows that change places or are copied, word by word.
-use Rattle.std.proofs.Common.{◌≡◌, ℕ, ◌+◌, ◌<◌, ◌≤◌, List, length, slice_index}
+use Rattle.rx_spec.proofs.Prelude.{◌≡◌, ℕ, ◌+◌, ◌<◌, ◌≤◌, List, length, slice_index}
 use Rattle.rx_dense.specs.Builder.{IsOutside}
 
 -- so many columns are exchanged, and the others are not

@@ -1,23 +1,18 @@
 -- Universal starts, as ids and as rows.
-use Rattle.std.proofs.lemmas.Grind.{common_steps}
-use Rattle.std.proofs.Common.{◌≡◌, ℕ, ◌/◌, ◌<◌, ◌≤◌, ◌==◌, Bool, true, false, Some, None, List, [], ◌∷◌, if◌then◌else◌}
-use Rattle.std.proofs.Common.{length, refl, ap, ◌∙◌, ⊎_elim, arith}
-use Rattle.std.specs.List.{list_all}
-use Rattle.std.proofs.lemmas.Bool.{cases_eq, cases_lt, eq-eqb, ne_eqb, lt-ltb, le-ltb}
-use Rattle.std.proofs.lemmas.Nat.{pow_pos}
+use Rattle.rx_spec.proofs.Prelude.{common_steps, ◌≡◌, ℕ, ◌/◌, ◌<◌, ◌≤◌, ◌==◌, Bool, true, false, Some, None, List, []}
+use Rattle.rx_spec.proofs.Prelude.{◌∷◌, if◌then◌else◌, length, refl, ap, ◌∙◌, ⊎_elim, arith, list_all, cases_lt, lt-ltb}
+use Rattle.rx_spec.proofs.Prelude.{le-ltb, Anchored, has_anchored, has_unanchored}
 use Rattle.rx_spec.specs.Contexts.{all_starts}
-use Rattle.rx_spec.specs.Queries.{Anchored}
-use Rattle.rx_spec.specs.Starts.{has_anchored, has_unanchored}
 use Rattle.rx_spec.specs.declared.Start.{Start}
 use Rattle.rx_dense.specs.Builder.{HasUniversalStarts, common_start, with_universal_starts}
 use Rattle.rx_dense.specs.Layouts.{Layout, IsRowId, IsShaped, is_row_id, machine_of, mode_place, start_id, stride}
 use Rattle.rx_dense.specs.Layouts.{table_of, universal_row}
-use Rattle.rx_dense.proofs.Rows.{quotient, start_is_row}
+use Rattle.rx_dense.proofs.Rows.{start_is_row}
 use Rattle.rx_dense.proofs.Shaped.{zero_id}
 
 -- two ids are one exactly where their rows are
 same_row : (l : Layout) (x y : ℕ) → IsRowId l x → IsRowId l y → (x == y) ≡ (x / stride l == y / stride l)
-same_row l x y x_is y_is = grind (arith, common_steps, eq-eqb, ne_eqb, quotient, cases_eq)
+same_row l x y x_is y_is = grind (arith, common_steps)
 
 -- a test of all starts goes by the tests of each
 list_all_same : {X : Type 0} (p q : X → Bool) → ((x : X) → p x ≡ q x) → (xs : List X) → list_all p xs ≡ list_all q xs
@@ -35,7 +30,7 @@ module _ (l : Layout) (h : IsShaped l) where
       (cases_lt (mode_place mode) (length l.starts))
 
   valid : (id : ℕ) → IsRowId l id → is_row_id l id ≡ true
-  valid id is = grind (arith, common_steps, pow_pos, eq-eqb, lt-ltb)
+  valid id is = grind (arith, common_steps, lt-ltb)
 
   row_if : (mode : Anchored) (b : Bool)
       → universal_row l (if b then Some (start_id l mode Start.NonWordByte) else None)

@@ -1,16 +1,11 @@
 -- The rows of a range of accelerated rows.
-use Rattle.std.proofs.lemmas.Grind.{common_steps}
-use Rattle.std.proofs.Common.{◌≡◌, ℕ, ◌+◌, ◌-◌, ◌*◌, ◌/◌, ◌%◌, ◌<◌, ◌≤◌, Bool, true, false, eqb, cond, length, ap, ◌∙◌}
-use Rattle.std.proofs.Common.{arith, inl, inr}
-use Rattle.std.proofs.lemmas.Bool.{and_parts, eqb-true, ltb-true}
-use Rattle.std.proofs.lemmas.Nat.{pow_pos}
-use Rattle.std.proofs.Math.Nat.{mul-mod_left}
-use Rattle.std.specs.Prelude.{◌⊎◌}
+use Rattle.rx_spec.proofs.Prelude.{common_steps, ◌≡◌, ℕ, ◌+◌, ◌-◌, ◌*◌, ◌/◌, ◌%◌, ◌<◌, ◌≤◌, Bool, true, false, eqb}
+use Rattle.rx_spec.proofs.Prelude.{cond, ap, ◌∙◌, arith, inl, inr, and_parts, eqb-true, ltb-true, cases_Bool, pow_pos}
+use Rattle.rx_spec.proofs.Prelude.{mul-mod_left, ◌⊎◌}
 use Rattle.rx_dense.specs.Layouts.{Layout, IsRowId, is_row_id, stride}
-use Rattle.rx_dense.proofs.Rows.{multiple_within, quotient}
+use Rattle.rx_dense.proofs.Rows.{multiple_within}
 use Rattle.rx_dense_image.specs.Rows.{AreReadRows, rows_of}
 use Rattle.rx_dense_image.specs.Closing.{are_special_rows, range_len}
-use Rattle.rx_dense_image.proofs.EachBelow.{cases_bool}
 
 -- a number that passes the test is the id of a row
 pub row_id_of : (l : Layout) → AreReadRows (rows_of l) → (id : ℕ) → is_row_id l id ≡ true → IsRowId l id
@@ -19,7 +14,7 @@ row_id_of l read id test = grind (arith, common_steps, and_parts, eqb-true, mult
 -- a row of a range
 times_whole : (a i s : ℕ) → a % s ≡ 0 → 0 < s → (a + i * s) % s ≡ 0
 times_whole a i s whole some =
-    let e : a + i * s ≡ (a / s + i) * s = omega (arith, quotient a s whole) in
+    let e : a + i * s ≡ (a / s + i) * s = omega arith in
     ap (λ (n : ℕ). n % s) e ∙ mul-mod_left (a / s + i) s
 
 up_to : (d i s : ℕ) → 0 < s → i < d / s + 1 → i * s ≤ d
@@ -27,7 +22,7 @@ up_to d i s some lt = grind arith
 
 pub range_row : (l : Layout) → AreReadRows (rows_of l) → (first last i : ℕ) → IsRowId l first → IsRowId l last
     → i < range_len l first last → IsRowId l (first + i * stride l)
-range_row l read first last i is_first is_last lt = choose (cases_bool (eqb first 0))
+range_row l read first last i is_first is_last lt = choose (cases_Bool (eqb first 0))
   where
     s : ℕ
     s = stride l
@@ -36,24 +31,14 @@ range_row l read first last i is_first is_last lt = choose (cases_bool (eqb firs
     some = pow_pos l.stride2
 
     bounded : i < (last - first) / stride l + 1 → IsRowId l (first + i * stride l)
-    bounded h =
-        let whole : (first + i * stride l) % stride l ≡ 0 = times_whole first i (stride l) is_first.whole some in
-        let most : i * stride l ≤ last - first = up_to (last - first) i (stride l) some h in
-        let below : first + i * stride l < length l.words =
-        omega (arith, most, is_first.below, is_last.below, some) in
-        record {
-          whole = whole;
-          below = multiple_within (first + i * stride l) (stride l) (length l.words) whole read.whole below;
-        }
+    bounded h = grind (arith, common_steps, times_whole, up_to)
 
     choose : ◌⊎◌ (eqb first 0 ≡ true) (eqb first 0 ≡ false) → IsRowId l (first + i * stride l)
-    choose (inl none) =
-        let e : range_len l first last ≡ 0 = ap (λ (b : Bool). cond b 0 ((last - first) / stride l + 1)) none in
-        absurd (omega (arith, lt, e))
+    choose (inl none) = grind (arith, common_steps)
     choose (inr there) =
         let e : range_len l first last ≡ (last - first) / stride l + 1 =
         ap (λ (b : Bool). cond b 0 ((last - first) / stride l + 1)) there in
-        bounded (omega (arith, lt, e))
+        bounded (omega arith)
 
 -- ---- special rows
 
@@ -69,7 +54,7 @@ pub record AreSpecialRows (l : Layout) : Type 0 where
   pub max_start : is_row_id l l.special.max_start ≡ true
 
 pub special_rows : (l : Layout) → are_special_rows l l.special ≡ true → AreSpecialRows l
-special_rows l test = grind (arith, common_steps, and_parts, eqb-true)
+special_rows l test = grind (arith, common_steps, and_parts)
 
 pub first_accel : (l : Layout) → AreReadRows (rows_of l) → are_special_rows l l.special ≡ true
     → IsRowId l l.special.min_accel

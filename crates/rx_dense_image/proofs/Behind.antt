@@ -1,21 +1,14 @@
 -- Parts that stand one behind another.
-use Rattle.std.proofs.lemmas.Grind.{common_steps}
-use Rattle.std.proofs.Common.{◌≡◌, ℕ, ◌+◌, ◌<◌, List, [], ◌++◌, length, take, drop, get_or, slice_index, refl, ap}
-use Rattle.std.proofs.Common.{subst, append_assoc, arith}
-use Rattle.std.specs.List.{flat_map}
-use Rattle.std.specs.Int.{w32, w128}
-use Rattle.std.proofs.lemmas.List.{append-nil, drop_all, take_more}
-use Rattle.std.proofs.lemmas.List.Concat.{flat_map-append}
+use Rattle.rx_spec.proofs.Prelude.{common_steps, ◌≡◌, ℕ, ◌+◌, List, [], ◌++◌, length, drop, refl, ap, subst, arith, w32}
+use Rattle.rx_spec.proofs.Prelude.{w128}
 use Rattle.rx_wire.specs.declared.order.Order.{Order}
 use Rattle.rx_wire.specs.Fields.{Stands, field}
-use Rattle.rx_dense_image.specs.Rows.{words_text}
-use Rattle.rx_dense_image.specs.Marks.{accel_text}
 use Rattle.rx_dense_image.specs.Written.{IsPut}
 
 -- one part and the next
 pub and_then : {first second old mid new : List ℕ} {at mid_at end : ℕ} → IsPut first old mid at mid_at
     → IsPut second mid new mid_at end → IsPut (first ++ second) old new at end
-and_then {first} {second} {old} {mid} {new} {at} {mid_at} {end} h k = grind (arith, common_steps, append_assoc)
+and_then {first} {second} {old} {mid} {new} {at} {mid_at} {end} h k = grind (arith, common_steps)
 
 -- a part that stands up to a place
 pub put_up_to : {part old new : List ℕ} {at end place : ℕ} → end ≡ place
@@ -32,19 +25,7 @@ pub of_word : (order : Order) {n m : ℕ} {old new : List ℕ} {at end : ℕ} �
     → IsPut (field order w32 n) old new at end → IsPut (field order w32 m) old new at end
 of_word order e h = put_same (ap (field order w32) e) h
 
--- nothing, at a place
-pub put_nothing : (old : List ℕ) (at : ℕ) → IsPut [] old old at at
-put_nothing old at = grind (arith, common_steps, append-nil)
-
 -- ---- words
-
-pub words_more : (order : Order) (words : List ℕ) (i : ℕ) → i < length words
-    → words_text order (take i words) ++ field order w32 (slice_index words i) ≡ words_text order (take (i + 1) words)
-words_more order words i lt = grind (arith, common_steps, append-nil, take_more, flat_map-append)
-
-pub accels_more : (accels : List (List ℕ)) (i : ℕ) → i < length accels
-    → flat_map accel_text (take i accels) ++ accel_text (get_or accels i []) ≡ flat_map accel_text (take (i + 1) accels)
-accels_more accels i lt = grind (arith, common_steps, append-nil, take_more, flat_map-append)
 
 pub of_wide : (order : Order) {n m : ℕ} {old new : List ℕ} {at end : ℕ} → n ≡ m
     → IsPut (field order w128 n) old new at end → IsPut (field order w128 m) old new at end
@@ -57,4 +38,4 @@ written {part} {old} {new} {end} put =
     let stands = put.stands [] old (record { place = refl; whole = refl }) in (stands.place, stands.whole)
 
 pub filled : {part old new : List ℕ} {end : ℕ} → IsPut part old new 0 end → length old ≡ end → new ≡ part
-filled {part} {old} {new} {end} put len = grind (arith, common_steps, written, drop_all, append-nil)
+filled {part} {old} {new} {end} put len = grind (arith, common_steps, written)

@@ -1,10 +1,7 @@
 -- What the closing tests say, as facts.
-use Rattle.std.proofs.Common.{arith, ◌≡◌, ℕ, ◌+◌, ◌-◌, ◌*◌, ◌/◌, ◌<◌, ◌≤◌, Bool, true, leb, eqb, List, length, take}
-use Rattle.std.proofs.Common.{slice_index, get_or}
-use Rattle.std.proofs.lemmas.Grind.{common_steps}
-use Rattle.std.specs.List.{list_all, range_with_len}
-use Rattle.std.proofs.lemmas.Bool.{and_parts, eqb-true, leb-true}
-use Rattle.rx_spec.specs.Causes.{max_id}
+use Rattle.rx_spec.proofs.Prelude.{arith, ◌≡◌, ℕ, ◌+◌, ◌-◌, ◌*◌, ◌/◌, ◌<◌, ◌≤◌, Bool, true, leb, eqb, List, length}
+use Rattle.rx_spec.proofs.Prelude.{take, slice_index, get_or, common_steps, list_all, range_with_len, and_parts}
+use Rattle.rx_spec.proofs.Prelude.{eqb-true, leb-true, max_id}
 use Rattle.rx_dense.specs.Layouts.{Layout, row_count, stride}
 use Rattle.rx_dense_image.specs.Rows.{are_entries, have_ids, is_entry, rows_of}
 use Rattle.rx_dense_image.specs.Closing.{accels_stand, are_lists, are_named, are_special_rows, has_needles, is_closed}

@@ -1,47 +1,34 @@
 -- Tests of each number below one, and of each of a range.
-use Rattle.std.proofs.Common.{◌≡◌, ℕ, zero, suc, ◌+◌, ◌<◌, Bool, true, false, ◌&&◌, List, [], ◌∷◌, ◌++◌, refl, sym, ap}
-use Rattle.std.proofs.Common.{subst, ◌∙◌, arith, rules, inl, inr}
-use Rattle.std.specs.Prelude.{◌⊎◌}
-use Rattle.std.specs.List.{list_all, range_with_len}
-use Rattle.std.proofs.lemmas.Bool.{and_parts, cases_lt}
+use Rattle.rx_spec.proofs.Prelude.{◌≡◌, ℕ, zero, suc, ◌+◌, ◌<◌, Bool, true, false, ◌&&◌, List, [], ◌∷◌, ◌++◌, refl, sym}
+use Rattle.rx_spec.proofs.Prelude.{ap, subst, ◌∙◌, arith, rules, inl, inr, list_all, range_with_len, and_parts}
+use Rattle.rx_spec.proofs.Prelude.{cases_lt, and_from, and_right, and-true}
 use Rattle.std.proofs.lemmas.List.Folds.{list_all-append}
 use Rattle.rx_dense_image.specs.Bulk.{each_below}
-
-pub cases_bool : (b : Bool) → (b ≡ true) ⊎ (b ≡ false)
-cases_bool true = inl refl
-cases_bool false = inr refl
-
-pub and_of : (a b : Bool) → a ≡ true → b ≡ true → (a && b) ≡ true
-and_of a b p q = rw (p, q) refl
-
-pub and_false : (a b : Bool) → b ≡ false → (a && b) ≡ false
-and_false true b q = q
-and_false false b q = refl
 
 -- ---- below a number
 
 pub below_at : (n : ℕ) (p : ℕ → Bool) (k : ℕ) → each_below n p ≡ true → k < n → p k ≡ true
-below_at zero p k h lt = absurd (search (rules, lt))
+below_at zero p k h lt = absurd (search rules)
 below_at (suc n) p k h lt =
     let parts = and_parts (each_below n p) (p n) h in
     elim (cases_lt k n) [
       | inl early ↦ below_at n p k parts.0 early
-      | inr late ↦ (let e : n ≡ k = omega (arith, lt, late) in subst (λ (i : ℕ). p i ≡ true) e parts.1)
+      | inr late ↦ (let e : n ≡ k = omega arith in subst (λ (i : ℕ). p i ≡ true) e parts.1)
     ]
 
 below_of : (n : ℕ) (p : ℕ → Bool) → ((k : ℕ) → k < n → p k ≡ true) → each_below n p ≡ true
 below_of zero p h = refl
 below_of (suc n) p h =
-    and_of (each_below n p) (p n) (below_of n p (λ k lt. h k (omega (arith, lt)))) (h n (omega arith))
+    and_from (each_below n p) (p n) (below_of n p (λ k lt. h k (omega arith))) (h n (omega arith))
 
 below_not : (n : ℕ) (p : ℕ → Bool) (k : ℕ) → k < n → p k ≡ false → each_below n p ≡ false
-below_not zero p k lt h = absurd (search (rules, lt))
+below_not zero p k lt h = absurd (search rules)
 below_not (suc n) p k lt h =
     elim (cases_lt k n) [
       | inl early ↦ ap (λ (b : Bool). b && p n) (below_not n p k early h)
       | inr late ↦ (
-          let e : k ≡ n = omega (arith, lt, late) in
-          and_false (each_below n p) (p n) (subst (λ (i : ℕ). p i ≡ false) e h))
+          let e : k ≡ n = omega arith in
+          and_right (each_below n p) (p n) (subst (λ (i : ℕ). p i ≡ false) e h))
     ]
 
 -- ---- of a range
@@ -53,10 +40,6 @@ range_more (suc n) a =
     ap (λ (t : List ℕ). a ∷ t) (range_more n (a + 1))
     ∙ ap (λ (x : ℕ). a ∷ (range_with_len (a + 1) n ++ (x ∷ []))) e
 
-and_last : (b : Bool) → (b && true) ≡ b
-and_last true = refl
-and_last false = refl
-
 pub all_below : (n : ℕ) (p : ℕ → Bool) → each_below n p ≡ list_all p (range_with_len 0 n)
 all_below zero p = refl
 all_below (suc n) p =
@@ -64,7 +47,7 @@ all_below (suc n) p =
     let e : 0 + n ≡ n = omega arith in
     let last : list_all p (first ++ ((0 + n) ∷ [])) ≡ (list_all p first && p n) =
     list_all-append p first ((0 + n) ∷ [])
-    ∙ ap (λ (b : Bool). list_all p first && b) (and_last (p (0 + n)) ∙ ap p e) in
+    ∙ ap (λ (b : Bool). list_all p first && b) (and-true (p (0 + n)) ∙ ap p e) in
     ap (λ (b : Bool). b && p n) (all_below n p) ∙ sym (ap (list_all p) (range_more n 0) ∙ last)
 
 pub all_of : (n : ℕ) (p : ℕ → Bool) → ((k : ℕ) → k < n → p k ≡ true) → list_all p (range_with_len 0 n) ≡ true

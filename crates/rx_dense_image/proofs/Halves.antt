@@ -1,8 +1,8 @@
 -- A set of bytes in two halves.
-use Rattle.std.proofs.Common.{◌≡◌, ℕ, ◌+◌, ◌*◌, ◌/◌, ◌%◌, ◌^◌, ◌<◌, arith}
+use Rattle.rx_spec.proofs.Prelude.{◌≡◌, ℕ, ◌+◌, ◌*◌, ◌/◌, ◌%◌, ◌^◌, ◌<◌, arith}
 
 pub low_half : (low high set : ℕ) → low < 2 ^ 128 → set ≡ high * 2 ^ 128 + low → low ≡ set % 2 ^ 128
-low_half low high set small is = omega (arith, small, is)
+low_half low high set small is = omega arith
 
 pub high_half : (low high set : ℕ) → low < 2 ^ 128 → set ≡ high * 2 ^ 128 + low → high ≡ set / 2 ^ 128
-high_half low high set small is = omega (arith, small, is)
+high_half low high set small is = omega arith

@@ -1,75 +1,55 @@
 -- How many bytes the parts of an image have.
-use Rattle.std.proofs.lemmas.Grind.{common_steps}
-use Rattle.std.proofs.Common.{◌≡◌, ℕ, ◌+◌, ◌*◌, List, [], ◌∷◌, ◌++◌, length, replicate, refl, ap, ◌∙◌, arith}
-use Rattle.std.specs.List.{flat_map}
-use Rattle.std.specs.Int.{w32}
-use Rattle.std.proofs.lemmas.List.{length-append, length-map, length-take-le}
-use Rattle.std.proofs.lemmas.List.Concat.{flat_map-cons}
+use Rattle.rx_spec.proofs.Prelude.{common_steps, ◌≡◌, ℕ, ◌+◌, ◌*◌, List, [], ◌++◌, length, refl, arith, flat_map}
+use Rattle.rx_spec.proofs.Prelude.{length-append}
 use Rattle.rx_wire.specs.declared.order.Order.{Order}
-use Rattle.rx_wire.specs.Fields.{field}
 use Rattle.rx_wire.specs.Heads.{label_text}
-use Rattle.rx_wire.proofs.Fields.{length-field_32, length-field_128}
+use Rattle.rx_wire.proofs.Words.{length-parts, length-words}
 use Rattle.rx_dense.specs.declared.flags.Flags.{Flags}
 use Rattle.rx_dense.specs.declared.special.Special.{Special}
 use Rattle.rx_dense.specs.Layouts.{Layout}
 use Rattle.rx_dense_image.specs.Heads.{dense_label, head_text}
-use Rattle.rx_dense_image.specs.Rows.{Rows, rows_of, rows_text, words_text}
+use Rattle.rx_dense_image.specs.Rows.{Rows, rows_of, rows_text}
 use Rattle.rx_dense_image.specs.StartTables.{StartTable, start_table_text}
 use Rattle.rx_dense_image.specs.PatternLists.{PatternLists, pattern_lists_text}
 use Rattle.rx_dense_image.specs.Marks.{Marks, accel_text, accels_text, marks_text, quit_text, special_text}
 use Rattle.rx_dense_image.specs.Images.{image_len, marks_of, pattern_lists_of, start_table_of, text}
 
--- behind a field of four bytes
-pub word_then : (order : Order) (n : ℕ) (rest : List ℕ) → length (field order w32 n ++ rest) ≡ 4 + length rest
-word_then order n rest = omega (arith, length-append (field order w32 n) rest, length-field_32 order n)
-
-pub length-words : (order : Order) (words : List ℕ) → length (words_text order words) ≡ 4 * length words
-length-words order [] = refl
-length-words order (w ∷ ws) =
-    ap length (flat_map-cons (field order w32) w ws)
-    ∙ length-append (field order w32 w) (words_text order ws)
-    ∙ omega (arith, length-field_32 order w, length-words order ws)
-
 pub length-head : (order : Order) (name : List ℕ) (flags : Flags) → length (label_text name) ≡ 32
     → length (head_text order name flags) ≡ 48
-length-head order name flags label = grind (arith, common_steps, length-append, word_then, length-field_32)
+length-head order name flags label = grind (arith, common_steps)
 
 length-rows : (order : Order) (rows : Rows) → length rows.classes ≡ 256
     → length (rows_text order rows) ≡ 264 + 4 * length rows.words
-length-rows order rows classes = grind (arith, common_steps, word_then, length-append, length-words)
+length-rows order rows classes = grind (arith, common_steps, length-words)
 
 pub length-start_table : (order : Order) (table : StartTable) → length table.contexts ≡ 256
     → length (start_table_text order table) ≡ 276 + 4 * length table.starts
 length-start_table order table contexts =
-    grind (arith, common_steps, word_then, length-append, length-map, length-words)
+    grind (arith, common_steps, length-words)
 
 length-pattern_lists : (order : Order) (lists : PatternLists)
     → length (pattern_lists_text order lists) ≡ 12 + 4 * length lists.slices + 4 * length lists.pattern_ids
-length-pattern_lists order lists = grind (arith, common_steps, word_then, length-append, length-words)
+length-pattern_lists order lists = grind (arith, common_steps, length-words)
 
 pub length-special : (order : Order) (s : Special) → length (special_text order s) ≡ 32
 length-special Order.Little s = refl
 length-special Order.Big s = refl
 
 pub length-accel : (needles : List ℕ) → length (accel_text needles) ≡ 8
-length-accel needles = grind (arith, common_steps, replicate, length-take-le, length-append)
+length-accel needles = grind (arith, common_steps)
 
 pub length-each : (accels : List (List ℕ)) → length (flat_map accel_text accels) ≡ 8 * length accels
-length-each [] = refl
-length-each (a ∷ accels) =
-    ap length (flat_map-cons accel_text a accels)
-    ∙ length-append (accel_text a) (flat_map accel_text accels)
-    ∙ omega (arith, length-accel a, length-each accels)
+length-each accels = length-parts accel_text 8 length-accel accels
 
 pub length-accels : (order : Order) (accels : List (List ℕ)) → length (accels_text order accels) ≡ 4 + 8 * length accels
-length-accels order accels = grind (arith, common_steps, word_then, length-each)
+length-accels order accels = grind (arith, common_steps, length-each)
 
 pub length-quit : (order : Order) (quit : ℕ) → length (quit_text order quit) ≡ 32
-length-quit order quit = grind (arith, common_steps, length-append, length-field_128)
+length-quit order quit = grind (arith, common_steps)
 
 length-marks : (order : Order) (marks : Marks) → length (marks_text order marks) ≡ 68 + 8 * length marks.accels
 length-marks order marks =
-    grind (arith, common_steps, length-append, length-special, word_then, length-each, length-quit)
+    grind (arith, common_steps, length-each)
 
 pub length-text : (order : Order) (l : Layout) → length l.classes ≡ 256 → length l.contexts ≡ 256
     → length (text order l) ≡ image_len l

@@ -1,18 +1,12 @@
 -- Needles that are compared byte by byte with the bytes that leave a row.
-use Rattle.std.proofs.lemmas.Grind.{common_steps}
-use Rattle.std.proofs.Common.{◌≡◌, ◌≢◌, ℕ, zero, suc, ◌+◌, ◌-◌, ◌<◌, ◌≤◌, Bool, true, false, not, eqb, List, [], ◌∷◌}
-use Rattle.std.proofs.Common.{◌++◌, length, get_or, take, filter, refl, sym, ap, ◌∙◌, arith, inl, inr, add-one}
-use Rattle.std.proofs.Common.{if◌then◌else◌}
-use Rattle.std.specs.List.{range_with_len}
-use Rattle.std.specs.Str.{bytes_eq}
-use Rattle.std.proofs.Math.Seq.{take-length}
-use Rattle.std.proofs.lemmas.Bool.{cases_lt, eq-eqb, ne_eqb}
-use Rattle.std.proofs.lemmas.List.{get_or-append_right, length-append, length-take-le, take_more, append-nil}
-use Rattle.std.proofs.lemmas.List.Elements.{filter-append}
-use Rattle.std.proofs.lemmas.Slice.Eq.{bytes_eq-Decides}
+use Rattle.rx_spec.proofs.Prelude.{common_steps, ◌≡◌, ◌≢◌, ℕ, zero, suc, ◌+◌, ◌-◌, ◌<◌, ◌≤◌, Bool, true, false, not}
+use Rattle.rx_spec.proofs.Prelude.{eqb, List, [], ◌∷◌, ◌++◌, length, get_or, take, filter, refl, sym, ap, ◌∙◌, arith}
+use Rattle.rx_spec.proofs.Prelude.{inl, inr, add-one, if◌then◌else◌, range_with_len, bytes_eq, take-length, cases_lt}
+use Rattle.rx_spec.proofs.Prelude.{eq-eqb, ne_eqb, length-take-le, take_more, append-nil, filter-append}
+use Rattle.rx_spec.proofs.Prelude.{bytes_eq-Decides}
 use Rattle.rx_dense.specs.Layouts.{Layout, next_id}
 use Rattle.rx_dense_image.specs.Closing.{leaves, leaving_id}
-use Rattle.rx_dense_image.proofs.EachBelow.{cases_bool, range_more}
+use Rattle.rx_dense_image.proofs.EachBelow.{range_more}
 
 -- the first needles are the bytes below one that pass
 pub record AreMet (needles : List ℕ) (p : ℕ → Bool) (met byte : ℕ) : Type 0 where
@@ -45,7 +39,7 @@ met_less {needles} {p} {met} {byte} h fails = record {
 pub met_more : {needles : List ℕ} {p : ℕ → Bool} {met byte : ℕ} → AreMet needles p met byte → p byte ≡ true
     → met < length needles → get_or needles met 0 ≡ byte → AreMet needles p (met + 1) (byte + 1)
 met_more {needles} {p} {met} {byte} h passes lt is = record {
-  within = omega (arith, lt);
+  within = omega arith;
   front =
       take_more needles met 0 lt
       ∙ ap (λ (x : ℕ). take met needles ++ (x ∷ [])) is
@@ -68,20 +62,17 @@ range_split (suc n) m a =
     (range_split n m (a + 1) ∙ ap (λ (x : ℕ). range_with_len (a + 1) n ++ range_with_len x m) f)
 
 differ : (xs ys : List ℕ) → xs ≢ ys → bytes_eq xs ys ≡ false
-differ xs ys ne = grind (arith, common_steps, cases_bool, bytes_eq-Decides)
+differ xs ys ne = grind (arith, common_steps, bytes_eq-Decides)
 
 module _ {needles : List ℕ} {p : ℕ → Bool} {met byte : ℕ} (h : AreMet needles p met byte) (lt : byte < 256)
     (passes : p byte ≡ true) where
   front : List ℕ
   front = filter p (range_with_len 0 byte)
 
-  front_len : length (filter p (range_with_len 0 byte)) ≡ met
-  front_len = ap length (sym h.front) ∙ length-take-le met needles h.within
-
   whole : filter p (range_with_len 0 256)
       ≡ filter p (range_with_len 0 byte) ++ (byte ∷ filter p (range_with_len (byte + 1) (255 - byte)))
   whole =
-      let e : 256 ≡ byte + suc (255 - byte) = omega (arith, lt) in
+      let e : 256 ≡ byte + suc (255 - byte) = omega arith in
       let f : 0 + byte ≡ byte = omega arith in
       ap (λ (n : ℕ). filter p (range_with_len 0 n)) e
       ∙ ap (filter p)
@@ -97,10 +88,10 @@ module _ {needles : List ℕ} {p : ℕ → Bool} {met byte : ℕ} (h : AreMet ne
 
   -- the byte stands among those that pass where the needles that were met end
   stands : get_or (filter p (range_with_len 0 256)) met 0 ≡ byte
-  stands = grind (arith, common_steps, whole, get_or-append_right, front_len)
+  stands = grind (arith, common_steps, whole)
 
   longer : met < length (filter p (range_with_len 0 256))
-  longer = grind (arith, common_steps, whole, length-append, front_len)
+  longer = grind (arith, common_steps, whole)
 
   pub too_few : length needles ≤ met → bytes_eq needles (filter p (range_with_len 0 256)) ≡ false
   too_few le = grind (arith, common_steps, differ, longer)
@@ -116,11 +107,11 @@ all_met {needles} {p} {met} {byte} h last =
     elim (cases_lt met (length needles)) [
       | inl less ↦ (
           let len : length all ≡ met = ap length (sym front) ∙ length-take-le met needles h.within in
-          let ne : met ≢ length needles = λ e. absurd (omega (arith, less, e)) in
+          let ne : met ≢ length needles = λ e. absurd (omega arith) in
           ne_eqb met (length needles) ne
-          ∙ sym (differ needles all (λ e. absurd (omega (arith, less, ap length e, len)))))
+          ∙ sym (differ needles all (λ e. absurd (omega (arith, ap length e)))))
       | inr le ↦ (
-          let same : met ≡ length needles = omega (arith, le, h.within) in
+          let same : met ≡ length needles = omega arith in
           let whole : needles ≡ all =
           sym (take-length needles) ∙ ap (λ (n : ℕ). take n needles) (sym same) ∙ front in
           eq-eqb met (length needles) same ∙ sym ((bytes_eq-Decides needles all).1 whole))

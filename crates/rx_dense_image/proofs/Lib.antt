@@ -13,10 +13,11 @@ pub mod StrangerCounts
 pub mod AccelRows
 pub mod LeavingBytes
 -- what the closing tests say, and so: what is read is a dense table, and sound; what tests of
--- special ids say
+-- special ids say, and that of rows that have ids
 pub mod ClosedFacts
 pub mod ShapedImages
 pub mod SpecialTests
+pub mod IdTables
 pub mod SoundImages
 -- writing: parts that stand one behind another, quit bytes in two halves, how many bytes parts have
 pub mod Behind

@@ -1,17 +1,11 @@
 -- What was written is read again: special ids, needles and quit bytes.
-use Rattle.std.proofs.lemmas.Grind.{common_steps}
-use Rattle.std.proofs.Common.{◌≡◌, ℕ, zero, suc, ◌+◌, ◌*◌, ◌^◌, ◌<◌, ◌≤◌, List, [], ◌∷◌, ◌++◌, length, get_or, drop}
-use Rattle.std.proofs.Common.{map, true, Ok, refl, sym, ap, subst, ◌∙◌, append_assoc, arith, rules}
-use Rattle.std.specs.List.{flat_map, range_with_len}
-use Rattle.std.specs.Int.{w32}
-use Rattle.std.proofs.lemmas.Bool.{lt-ltb}
-use Rattle.std.proofs.lemmas.List.{append-nil, drop-drop, drop_at}
-use Rattle.std.proofs.lemmas.List.Concat.{flat_map-cons}
-use Rattle.std.proofs.lemmas.List.FromFn.{fill_by_all}
-use Rattle.rx_spec.specs.Causes.{max_id}
+use Rattle.rx_spec.proofs.Prelude.{common_steps, ◌≡◌, ℕ, ◌+◌, ◌*◌, ◌^◌, ◌<◌, ◌≤◌, List, [], ◌∷◌, ◌++◌, length, get_or}
+use Rattle.rx_spec.proofs.Prelude.{drop, map, true, Ok, refl, sym, ap, subst, ◌∙◌, append_assoc, arith, flat_map}
+use Rattle.rx_spec.proofs.Prelude.{range_with_len, w32, lt-ltb, append-nil, fill_by_all, max_id}
 use Rattle.rx_wire.specs.declared.order.Order.{Order}
 use Rattle.rx_wire.specs.Kinds.{Reads}
 use Rattle.rx_wire.specs.Fields.{bytes_at, field}
+use Rattle.rx_wire.proofs.Words.{part_there}
 use Rattle.rx_wire.proofs.Fields.{bytes_again, id_again, u128_again, u32_again}
 use Rattle.rx_dense.specs.declared.special.Special.{Special}
 use Rattle.rx_dense_image.specs.Marks.{AreReadMarks, Marks, accel_text, accels_at, accels_text, are_special, id_pair_at}
@@ -41,7 +35,7 @@ id_pair_again order first last a b rest = grind (arith, common_steps, id_again)
 special_ids_again : (order : Order) (s : Special) → AreSpecialIds s
     → Reads (special_ids_at order) (special_text order s) s
 unfolding special_ids_at
-special_ids_again order s h rest = grind (arith, common_steps, append_assoc, id_pair_again)
+special_ids_again order s h rest = grind (arith, common_steps, id_pair_again)
 
 pub special_again : (order : Order) (len : ℕ) (s : Special) → are_special s ≡ true → s.max < len → AreSpecialIds s
     → Reads (special_at order len) (special_text order s) s
@@ -61,30 +55,14 @@ needles_again [] rest few = refl
 needles_again (a ∷ []) rest few = refl
 needles_again (a ∷ (b ∷ [])) rest few = refl
 needles_again (a ∷ (b ∷ (c ∷ []))) rest few = refl
-needles_again (a ∷ (b ∷ (c ∷ (d ∷ more)))) rest few = absurd (omega (arith, few))
+needles_again (a ∷ (b ∷ (c ∷ (d ∷ more)))) rest few = absurd (omega arith)
 
 each_again : (accels : List (List ℕ)) (rest : List ℕ) (k : ℕ) → k < length accels
     → ((i : ℕ) → length (get_or accels i []) ≤ 3)
     → needles_in (flat_map accel_text accels ++ rest) k ≡ get_or accels k []
-each_again [] rest k lt few = absurd (search (rules, lt))
-each_again (a ∷ accels) rest zero lt few =
-    let regrouped : flat_map accel_text (a ∷ accels) ++ rest ≡ accel_text a ++ (flat_map accel_text accels ++ rest) =
-    ap (λ (t : List ℕ). t ++ rest) (flat_map-cons accel_text a accels)
-    ∙ append_assoc (accel_text a) (flat_map accel_text accels) rest in
-    ap needles_of regrouped ∙ needles_again a (flat_map accel_text accels ++ rest) (few 0)
-each_again (a ∷ accels) rest (suc k) lt few =
-    let tail : List ℕ = flat_map accel_text accels ++ rest in
-    let all : List ℕ = flat_map accel_text (a ∷ accels) ++ rest in
-    let regrouped : all ≡ accel_text a ++ tail =
-    ap (λ (t : List ℕ). t ++ rest) (flat_map-cons accel_text a accels)
-    ∙ append_assoc (accel_text a) (flat_map accel_text accels) rest in
-    let eight : 8 * suc k ≡ 8 + 8 * k = omega arith in
-    let past : drop (8 * suc k) all ≡ drop (8 * k) tail =
-    ap (λ (n : ℕ). drop n all) eight
-    ∙ ap (drop (8 + 8 * k)) regrouped
-    ∙ sym (drop-drop (8 * k) 8 (accel_text a ++ tail))
-    ∙ ap (drop (8 * k)) (drop_at (accel_text a) tail 8 (length-accel a)) in
-    ap needles_of past ∙ each_again accels rest k (omega (arith, lt)) (λ i. few (suc i))
+each_again accels rest k lt few =
+    ap needles_of (part_there accel_text 8 length-accel accels rest k [] lt)
+    ∙ needles_again (get_or accels k []) (flat_map accel_text (drop (k + 1) accels) ++ rest) (few k)
 
 accels_again : (order : Order) (word_len : ℕ) (marks : Marks) → AreReadMarks word_len marks
     → Reads (accels_at order) (accels_text order marks.accels) marks.accels
@@ -101,14 +79,13 @@ accels_again order word_len marks h rest =
     sym (each_again accels [] k lt h.accels.few_needles) ∙ ap (λ (t : List ℕ). needles_in t k) (append-nil each) in
     let same : accels ≡ map (needles_in each) (range_with_len 0 (length accels)) =
     fill_by_all (needles_in each) accels (length accels) [] refl at in
-    ap (accels_at order) regrouped
-    ∙ rw (u32_again order (length accels) h.accels.few (each ++ rest), front, ← same) refl
+    grind (arith, common_steps, u32_again)
 
 -- ---- quit bytes
 
 pub quit_again : (order : Order) (quit : ℕ) → quit < 2 ^ 256 → Reads (quit_at order) (quit_text order quit) quit
 unfolding quit_at
-quit_again order quit small rest = grind (arith, common_steps, append_assoc, u128_again)
+quit_again order quit small rest = grind (arith, common_steps, u128_again)
 
 -- ---- all of them
 

@@ -1,12 +1,7 @@
 -- Words past the alphabet are cleared, and the rows that were read are as each part says.
-use Rattle.std.proofs.lemmas.Grind.{common_steps}
-use Rattle.std.proofs.Common.{◌≡◌, ℕ, ◌*◌, ◌/◌, ◌%◌, ◌^◌, ◌<◌, ◌≤◌, List, length, map, sym, ap, subst, ◌∙◌, arith}
-use Rattle.std.specs.List.{range_with_len}
-use Rattle.std.proofs.Math.Nat.{mul-div_cancel, mul-mod_left}
-use Rattle.std.proofs.lemmas.Bool.{cases_lt, le-ltb}
-use Rattle.std.proofs.lemmas.List.{get_or_past}
-use Rattle.std.proofs.lemmas.List.FromFn.{get_or-map-range_with_len, length-map-range_with_len}
-use Rattle.std.proofs.lemmas.Nat.{pow_pos}
+use Rattle.rx_spec.proofs.Prelude.{common_steps, ◌≡◌, ℕ, ◌*◌, ◌/◌, ◌%◌, ◌^◌, ◌<◌, ◌≤◌, List, length, map, sym, ap}
+use Rattle.rx_spec.proofs.Prelude.{subst, ◌∙◌, arith, range_with_len, mul-div_cancel, mul-mod_left}
+use Rattle.rx_spec.proofs.Prelude.{get_or-map-range_with_len, length-map-range_with_len, pow_pos}
 use Rattle.rx_wire.specs.declared.order.Order.{Order}
 use Rattle.rx_base.specs.ByteClasses.{AreClasses, alphabet_len}
 use Rattle.rx_dense_image.specs.Rows.{ArePadded, AreWords, words_of, AreReadRows, IsStride, Rows, cleared}
@@ -16,7 +11,7 @@ use Rattle.rx_dense_image.proofs.ColumnMasks.{IsBytes, word_small}
 pub padded : (stride alphabet count : ℕ) (word : ℕ → ℕ) (words : List ℕ)
     → words ≡ map (λ k. cleared stride alphabet k (word k)) (range_with_len 0 count) → ArePadded stride alphabet words
 padded stride alphabet count word words is =
-    grind (arith, common_steps, length-map-range_with_len, get_or-map-range_with_len, le-ltb)
+    grind (arith, common_steps, length-map-range_with_len, get_or-map-range_with_len)
 
 -- so many rows of a stride
 pub record AreCounted (rows : Rows) (bytes : List ℕ) (count stride : ℕ) : Type 0 where
@@ -51,12 +46,4 @@ read_rows {rows} {bytes} {count} {stride} h =
 pub words_fit : (order : Order) (bytes : List ℕ) (count : ℕ) (words : List ℕ) → IsBytes bytes
     → words ≡ words_of order bytes count → AreWords words
 words_fit order bytes count words fits is i =
-    grind (
-      arith,
-      common_steps,
-      length-map-range_with_len,
-      cases_lt,
-      get_or-map-range_with_len,
-      word_small,
-      get_or_past,
-    )
+    grind (arith, common_steps, length-map-range_with_len, get_or-map-range_with_len, word_small)

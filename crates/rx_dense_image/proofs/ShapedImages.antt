@@ -1,24 +1,19 @@
 -- A layout that is read and closed has the shape of every dense table.
-use Rattle.std.proofs.lemmas.Grind.{common_steps}
-use Rattle.std.proofs.Common.{◌≡◌, ℕ, ◌+◌, ◌*◌, ◌/◌, ◌%◌, ◌<◌, ◌≤◌, not, ltb, eqb, Option, Some, None, length}
-use Rattle.std.proofs.Common.{slice_index, sym, subst, arith}
-use Rattle.std.proofs.lemmas.Bool.{and_parts, leb-true}
-use Rattle.std.proofs.lemmas.Nat.{mul-le}
-use Rattle.rx_spec.specs.Causes.{id_count, max_id}
+use Rattle.rx_spec.proofs.Prelude.{common_steps, ◌≡◌, ℕ, ◌+◌, ◌*◌, ◌/◌, ◌%◌, ◌<◌, ◌≤◌, not, ltb, eqb, Option, Some}
+use Rattle.rx_spec.proofs.Prelude.{None, length, slice_index, sym, subst, arith, and_parts, leb-true, id_count, max_id}
 use Rattle.rx_dense.specs.Layouts.{AreLists, AreRows, AreStarts, IsRowId, IsShaped, Layout, is_row_id, start_entries}
 use Rattle.rx_dense.specs.Layouts.{stride}
-use Rattle.rx_dense.proofs.Rows.{quotient}
 use Rattle.rx_dense_image.specs.StartTables.{IsAtMost}
 use Rattle.rx_dense_image.specs.Images.{IsRead, IsWhole}
 use Rattle.rx_dense_image.proofs.AccelRows.{row_id_of}
 use Rattle.rx_dense_image.proofs.ClosedFacts.{AreClosed, closed}
 
 two_rows : (n s : ℕ) → n % s ≡ 0 → 2 ≤ n / s → 2 * s ≤ n
-two_rows n s whole two = grind (arith, common_steps, quotient, mul-le)
+two_rows n s whole two = grind (arith, common_steps)
 
-few_starts : (o : Option ℕ) → IsAtMost id_count o → start_entries o ≤ 12 + 6 * (max_id + 1)
+pub few_starts : (o : Option ℕ) → IsAtMost id_count o → start_entries o ≤ 12 + 6 * (max_id + 1)
 few_starts None most = omega arith
-few_starts (Some n) most = omega (arith, most)
+few_starts (Some n) most = omega arith
 
 module _ (l : Layout) (read : IsRead l) (facts : AreClosed l) where
   pub word_row : (k : ℕ) → k < length l.words → IsRowId l (slice_index l.words k)
@@ -38,7 +33,7 @@ module _ (l : Layout) (read : IsRead l) (facts : AreClosed l) where
     fits = read.rows.fits;
     whole = read.rows.whole;
     two = two_rows (length l.words) (stride l) read.rows.whole facts.two;
-    few = omega (arith, facts.ids);
+    few = omega arith;
     next_ids = word_row;
     past_alphabet = read.rows.padded.zero;
   }
@@ -56,7 +51,7 @@ module _ (l : Layout) (read : IsRead l) (facts : AreClosed l) where
   pub list_within : (i : ℕ) → 2 * i + 1 < length l.slices
       → slice_index l.slices (2 * i) + slice_index l.slices (2 * i + 1) ≤ length l.pattern_ids
   list_within i lt =
-      let half : i < length l.slices / 2 = omega (arith, lt, read.lists.pairs) in
+      let half : i < length l.slices / 2 = omega arith in
       let outer = and_parts _ _ (facts.lists i half) in
       let inner = and_parts _ (not (eqb (slice_index l.slices (2 * i + 1)) 0)) outer.0 in
       let both = and_parts (ltb (slice_index l.slices (2 * i)) (length l.pattern_ids)) _ inner.0 in
@@ -64,7 +59,7 @@ module _ (l : Layout) (read : IsRead l) (facts : AreClosed l) where
 
   lists_shaped : AreLists l
   lists_shaped = record {
-    few_patterns = omega (arith, read.lists.few_patterns);
+    few_patterns = omega arith;
     pairs = read.lists.pairs;
     few_rows = read.lists.few_rows;
     few = read.lists.few;

@@ -1,14 +1,10 @@
 -- What the tests of special ids say: of the label of a row, and of the rows in a range.
-use Rattle.std.proofs.lemmas.Grind.{common_steps}
-use Rattle.std.proofs.Common.{◌≡◌, ℕ, ◌<◌, ◌≤◌, ◌&&◌, ◌||◌, not, Bool, true, false, cond, leb, List, refl, arith}
-use Rattle.std.proofs.lemmas.Bool.{and_parts, cases_eq, eq-eqb, eqb-true, leb-true, ltb-true, ne_eqb}
-use Rattle.rx_spec.specs.Machines.{Label}
-use Rattle.rx_spec.specs.Tables.{is_match_label}
+use Rattle.rx_spec.proofs.Prelude.{common_steps, ◌≡◌, ℕ, ◌<◌, ◌≤◌, ◌&&◌, ◌||◌, Bool, true, false, cond, leb, List, refl}
+use Rattle.rx_spec.proofs.Prelude.{arith, and_parts, leb-true, false_from_ne_true, Label, is_match_label}
 use Rattle.rx_dense.specs.Specials.{greatest, is_in_range, is_match_id}
 use Rattle.rx_dense.specs.declared.special.Special.{Special}
 use Rattle.rx_dense_image.specs.Closing.{is_named}
-use Rattle.rx_dense_image.specs.Marks.{are_past_quit, are_ranges, are_special, begin_in_order, is_past_quit, is_range}
-use Rattle.rx_dense_image.proofs.EachBelow.{cases_bool}
+use Rattle.rx_dense_image.specs.Marks.{are_past_quit, are_ranges, are_special, begin_in_order, is_range}
 
 -- ---- labels by the two tests
 
@@ -43,18 +39,6 @@ lists_by false false ks xs e = absurd cc
 
 -- ---- ranges of ids
 
-pub and_never : (b : Bool) → (b && false) ≡ false
-and_never true = refl
-and_never false = refl
-
-pub false_of : (b : Bool) → (b ≡ true → ⊥) → b ≡ false
-false_of true h = absurd (h refl)
-false_of false h = refl
-
-pub not_true : (b : Bool) → not b ≡ true → b ≡ false
-not_true true h = absurd cc
-not_true false h = refl
-
 -- what a range of ids says of an id
 pub record IsWithin (first last id : ℕ) : Type 0 where
   pub from : first ≤ id
@@ -62,15 +46,11 @@ pub record IsWithin (first last id : ℕ) : Type 0 where
   pub some : 0 < id
 
 pub within_of : (first last id : ℕ) → is_in_range first last id ≡ true → IsWithin first last id
-within_of first last id test = grind (arith, common_steps, and_parts, leb-true)
+within_of first last id test = grind (arith, common_steps)
 
 -- a range that has an id begins above 0
 pub range_begins : (first last : ℕ) → is_range first last ≡ true → 0 < last → 0 < first
-range_begins first last test some = grind (arith, common_steps, cases_eq, eq-eqb, eqb-true)
-
--- and past quit
-pub past_quit : (quit first : ℕ) → is_past_quit quit first ≡ true → 0 < first → quit < first
-past_quit quit first test some = grind (arith, common_steps, ne_eqb, ltb-true)
+range_begins first last test some = grind (arith, common_steps)
 
 -- ---- special ids that pass the test
 
@@ -80,9 +60,6 @@ module _ (s : Special) (test : are_special s ≡ true) where
 
   ranges : are_ranges s ≡ true
   ranges = (and_parts (are_ranges s) (are_past_quit s) (and_parts _ (begin_in_order s) ordered).0).0
-
-  pasts : are_past_quit s ≡ true
-  pasts = (and_parts (are_ranges s) (are_past_quit s) (and_parts _ (begin_in_order s) ordered).0).1
 
   most : greatest s ≤ s.max
   most = leb-true _ _ (and_parts _ (leb (greatest s) s.max) test).1
@@ -96,16 +73,14 @@ module _ (s : Special) (test : are_special s ≡ true) where
   pub accel_range : is_range s.min_accel s.max_accel ≡ true
   accel_range = (and_parts (is_range s.min_match s.max_match) (is_range s.min_accel s.max_accel) first_ranges).1
 
-  match_past : is_past_quit s.quit s.min_match ≡ true
-  match_past = grind (arith, common_steps, and_parts, pasts)
-
   -- dead and quit are no match rows
   pub no_match : (id : ℕ) → id ≤ s.quit → is_match_id s id ≡ false
-  no_match id le = grind (arith, common_steps, false_of, within_of, range_begins, match_range, past_quit, match_past)
+  no_match id le =
+      grind (arith, common_steps, false_from_ne_true)
 
   -- a named id is at most the greatest
   pub named_few : (id : ℕ) → is_named s id ≡ true → id ≤ s.max
-  named_few id e = grind (arith, common_steps, cases_bool, eqb-true, most, within_of)
+  named_few id e = grind (arith, common_steps, most)
 
 -- tests of equal parts
 pub alike : {a b c d e f : Bool} → a ≡ b → c ≡ d → e ≡ f → (g h : Bool)

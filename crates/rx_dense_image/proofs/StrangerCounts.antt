@@ -1,35 +1,20 @@
 -- Lists of pattern ids, tested by counts of numbers that are no ids of patterns.
-use Rattle.std.proofs.lemmas.Grind.{common_steps}
-use Rattle.std.proofs.Common.{◌≡◌, ℕ, ◌+◌, ◌*◌, ◌<◌, ◌≤◌, Bool, true, false, cond, not, ◌&&◌, ltb, leb, eqb, List, []}
-use Rattle.std.proofs.Common.{◌∷◌, length, take, drop, refl, ap₂, slice_index, ◌∙◌, arith}
-use Rattle.std.specs.List.{list_all}
-use Rattle.std.proofs.Math.Seq.{take-add}
-use Rattle.std.proofs.lemmas.Bool.{lt-ltb, ne_eqb, le-leb}
-use Rattle.std.proofs.lemmas.List.Folds.{sum_by-zero}
-use Rattle.std.proofs.lemmas.List.Sums.{sum_by-append}
+use Rattle.rx_spec.proofs.Prelude.{common_steps, ◌≡◌, ℕ, ◌+◌, ◌*◌, ◌<◌, ◌≤◌, Bool, true, false, not, ◌&&◌, ltb, leb}
+use Rattle.rx_spec.proofs.Prelude.{eqb, List, [], length, take, drop, refl, ap₂, slice_index, ◌∙◌, arith, list_all}
+use Rattle.rx_spec.proofs.Prelude.{take-add, lt-ltb, ne_eqb, le-leb}
 use Rattle.rx_dense.specs.Layouts.{Layout}
 use Rattle.rx_dense_image.specs.Closing.{is_list}
-use Rattle.rx_dense_image.specs.Counts.{is_stranger, strangers}
-
-no_stranger : (n id : ℕ) → eqb (cond (is_stranger n id) 1 0) 0 ≡ ltb id n
-no_stranger n id = grind arith
-
-all_same : (p q : ℕ → Bool) → ((x : ℕ) → p x ≡ q x) → (xs : List ℕ) → list_all p xs ≡ list_all q xs
-all_same p q same [] = refl
-all_same p q same (x ∷ xs) = grind (arith, common_steps)
+use Rattle.rx_dense_image.specs.Counts.{strangers}
 
 -- no stranger is counted where all are ids of patterns
 pub none_counted : (n : ℕ) (ids : List ℕ) → eqb (strangers n ids) 0 ≡ list_all (λ id. ltb id n) ids
-none_counted n ids = grind (arith, common_steps, sum_by-zero, all_same, no_stranger)
-
-same_more : (a b : ℕ) → eqb a (a + b) ≡ eqb b 0
-same_more a b = grind arith
+none_counted n ids = grind (arith, common_steps)
 
 -- two counts are the same where none stands between
 pub counts_same : (n first len : ℕ) (ids : List ℕ)
     → eqb (strangers n (take first ids)) (strangers n (take (first + len) ids))
     ≡ list_all (λ id. ltb id n) (take len (drop first ids))
-counts_same n first len ids = grind (arith, common_steps, take-add, sum_by-append, same_more, none_counted)
+counts_same n first len ids = grind (arith, common_steps, take-add, none_counted)
 
 -- ---- the list of a match row
 
@@ -57,7 +42,7 @@ list_test {l} {i} {first} {len} pair counts are =
     λ first len.
     ((ltb first (length ids) && leb (first + len) (length ids)) && not (eqb len 0))
     && list_all (λ id. ltb id n) (take len (drop first ids)) in
-    let begins : first ≤ length ids = omega (arith, pair.begins) in
+    let begins : first ≤ length ids = omega arith in
     ap₂ (λ (a b : ℕ). eqb a b) (are first begins) (are (first + len) pair.ends)
     ∙ counts_same n first len ids
     ∙ last_test (ltb first (length ids)) (leb (first + len) (length ids)) (eqb len 0) _ (lt-ltb _ _ pair.begins)

@@ -1,17 +1,14 @@
 -- Strides, and classes.
-use Rattle.std.proofs.lemmas.Grind.{common_steps}
-use Rattle.std.proofs.Common.{◌≡◌, ℕ, ◌^◌, ◌%◌, ◌*◌, ◌≤◌, ◌+◌, ◌==◌, Bool, true, false, List, length, slice_index}
-use Rattle.std.proofs.Common.{arith, sym, is_some, Option, Some, None, IsSome, ◌↔◌, refl}
-use Rattle.std.specs.List.{list_all, range_with_len}
-use Rattle.std.proofs.Math.Nat.{pow-le-pow_right}
-use Rattle.std.proofs.lemmas.Bool.{and_parts, eq-eqb, eqb-true}
-use Rattle.std.proofs.lemmas.Nat.{one_shl}
+use Rattle.rx_spec.proofs.Prelude.{common_steps, ◌≡◌, ℕ, ◌^◌, ◌%◌, ◌*◌, ◌≤◌, ◌+◌, ◌==◌, Bool, true, false, List, length}
+use Rattle.rx_spec.proofs.Prelude.{slice_index, arith, sym, is_some, Option, Some, None, ◌↔◌, refl, list_all}
+use Rattle.rx_spec.proofs.Prelude.{range_with_len, pow-le-pow_right, and_parts, eq-eqb, eqb-true, and_from}
+use Rattle.std.proofs.Common.{IsSome}
 use Rattle.rx_base.specs.ByteClasses.{AreClasses}
 use Rattle.rx_dense_image.specs.Rows.{are_classes, follows}
-use Rattle.rx_dense_image.proofs.EachBelow.{all_at, all_of, and_of}
+use Rattle.rx_dense_image.proofs.EachBelow.{all_at, all_of}
 
 pub shifted_few : (s : ℕ) → s ≤ 9 → 1 * 2 ^ s % 18446744073709551616 ≤ 512
-shifted_few s h = grind (arith, common_steps, pow-le-pow_right, one_shl)
+shifted_few s h = grind (arith, common_steps, pow-le-pow_right)
 
 -- ---- the test of classes
 
@@ -41,7 +38,7 @@ pub classes_pass : (classes : List ℕ) → AreClasses classes → are_classes c
 unfolding are_classes
 classes_pass classes are =
     let next : ℕ → Bool = λ b. follows (slice_index classes b) (slice_index classes (b + 1)) in
-    and_of (slice_index classes 0 == 0) (list_all next (range_with_len 0 255)) (eq-eqb _ _ are.first)
+    and_from (slice_index classes 0 == 0) (list_all next (range_with_len 0 255)) (eq-eqb _ _ are.first)
     (all_of 255 next (λ b lt. follows_of _ _ (are.rises b lt) (are.by_one b lt)))
 
 -- a value is there exactly where a test passes

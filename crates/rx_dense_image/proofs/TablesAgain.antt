@@ -1,12 +1,7 @@
 -- What was written is read again: start tables, and the lists of match rows.
-use Rattle.std.proofs.lemmas.Grind.{common_steps}
-use Rattle.std.proofs.Common.{◌≡◌, ℕ, ◌*◌, ◌/◌, ◌%◌, ◌<◌, ◌≤◌, true, false, ltb, eqb, Option, Some, None, List, [], ◌∷◌}
-use Rattle.std.proofs.Common.{◌++◌, length, map, Ok, refl, ap, subst, ◌∙◌, append_assoc, arith}
-use Rattle.std.specs.List.{list_all}
-use Rattle.std.specs.Int.{w32}
-use Rattle.std.proofs.lemmas.List.{length-map}
-use Rattle.std.proofs.lemmas.Bool.{le-leb}
-use Rattle.rx_spec.specs.Causes.{id_count, max_id}
+use Rattle.rx_spec.proofs.Prelude.{common_steps, ◌≡◌, ℕ, ◌*◌, ◌/◌, ◌%◌, ◌≤◌, true, ltb, Option, Some, None, List, []}
+use Rattle.rx_spec.proofs.Prelude.{◌∷◌, ◌++◌, length, map, Ok, refl, ap, subst, ◌∙◌, append_assoc, arith, list_all, w32}
+use Rattle.rx_spec.proofs.Prelude.{length-map, id_count, max_id}
 use Rattle.rx_spec.specs.declared.Start.{Start}
 use Rattle.rx_spec.specs.declared.StartKind.{StartKind}
 use Rattle.rx_wire.specs.declared.order.Order.{Order}
@@ -25,9 +20,6 @@ use Rattle.rx_dense_image.proofs.ReadAgain.{words_again}
 
 -- ---- numbers
 
-apart : (a b : ℕ) → a < b → eqb a b ≡ false
-apart a b h = grind arith
-
 start_kind_again : (order : Order) (kind : StartKind)
     → Reads (start_kind_at order) (field order w32 (kind_number kind)) kind
 unfolding start_kind_at
@@ -43,13 +35,13 @@ pattern_starts_again : (order : Order) (o : Option ℕ) → IsAtMost id_count o
     → Reads (pattern_starts_at order) (field order w32 (number_or_none o)) o
 unfolding pattern_starts_at
 pattern_starts_again order None most rest = rw (u32_again order 4294967295 (omega arith) rest) refl
-pattern_starts_again order (Some n) most rest = grind (arith, common_steps, apart, le-leb, u32_again)
+pattern_starts_again order (Some n) most rest = grind (arith, common_steps, u32_again)
 
 universal_again : (order : Order) (o : Option ℕ) → IsAtMost max_id o
     → Reads (universal_at order) (field order w32 (number_or_none o)) o
 unfolding universal_at
 universal_again order None most rest = rw (u32_again order 4294967295 (omega arith) rest) refl
-universal_again order (Some n) most rest = grind (arith, common_steps, apart, le-leb, u32_again)
+universal_again order (Some n) most rest = grind (arith, common_steps, u32_again)
 
 -- ---- contexts
 
@@ -97,7 +89,7 @@ start_kinds_again : (order : Order) (kind : StartKind) (contexts : List Start) �
     (kind, contexts)
 unfolding start_kinds_at
 start_kinds_again order kind contexts len rest =
-    grind (arith, common_steps, append_assoc, start_kind_again, contexts_again, context_count_again)
+    grind (arith, common_steps, start_kind_again, contexts_again, context_count_again)
 
 pub start_table_again : (order : Order) (table : StartTable) → IsReadStartTable table → AreWords table.starts
     → Reads (start_table_at order) (start_table_text order table) table
@@ -114,27 +106,19 @@ start_table_again order table h small rest =
     let starts : words_at order (start_entries table.pattern_starts) t4 ≡ Ok (table.starts, rest) =
     subst (λ (n : ℕ). words_at order n t4 ≡ Ok (table.starts, rest)) h.count
     (words_again order table.starts small rest) in
-    ap (start_table_at order) regrouped
-    ∙ rw (
-      start_kinds_again order table.start_kind table.contexts h.contexts t1,
-      pattern_starts_again order table.pattern_starts h.patterns t2,
-      universal_again order table.universal_unanchored h.unanchored t3,
-      universal_again order table.universal_anchored h.anchored t4,
-      starts,
-    )
-    refl
+    grind (arith, common_steps, start_kinds_again, pattern_starts_again, universal_again)
 
 -- ---- the lists of match rows
 
 pattern_len_again : (order : Order) (n : ℕ) → n ≤ id_count → Reads (pattern_len_at order) (field order w32 n) n
 unfolding pattern_len_at
-pattern_len_again order n most rest = grind (arith, common_steps, le-leb, u32_again)
+pattern_len_again order n most rest = grind (arith, common_steps, u32_again)
 
 pairs_whole : (n : ℕ) → n % 2 ≡ 0 → n ≡ 2 * (n / 2)
-pairs_whole n h = omega (arith, h)
+pairs_whole n h = omega arith
 
 pub pattern_lists_again : (order : Order) (lists : PatternLists) → AreReadLists lists
     → Reads (pattern_lists_at order) (pattern_lists_text order lists) lists
 unfolding pattern_lists_at
 pattern_lists_again order lists h rest =
-    grind (arith, common_steps, append_assoc, pairs_whole, words_again, u32_again, pattern_len_again)
+    grind (arith, common_steps, pairs_whole, words_again, u32_again, pattern_len_again)

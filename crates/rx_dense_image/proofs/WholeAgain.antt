@@ -1,10 +1,6 @@
 -- A whole image is read again, in either order, whatever follows, and its length is told.
-use Rattle.std.proofs.lemmas.Grind.{common_steps}
-use Rattle.std.proofs.Common.{◌≡◌, ℕ, ◌+◌, ◌-◌, ◌^◌, ◌<◌, ◌≤◌, true, List, ◌++◌, length, slice_index, Ok, refl, sym, ap}
-use Rattle.std.proofs.Common.{subst, ◌∙◌, append_assoc, arith, inl, inr}
-use Rattle.std.proofs.lemmas.Bool.{cases_lt}
-use Rattle.std.proofs.lemmas.List.{get_or_past, length-append}
-use Rattle.rx_spec.specs.Causes.{max_id}
+use Rattle.rx_spec.proofs.Prelude.{common_steps, ◌≡◌, ℕ, ◌+◌, ◌-◌, ◌<◌, ◌≤◌, true, List, ◌++◌, length, slice_index, Ok}
+use Rattle.rx_spec.proofs.Prelude.{refl, ap, ◌∙◌, append_assoc, arith, max_id}
 use Rattle.rx_wire.specs.declared.order.Order.{Order}
 use Rattle.rx_wire.specs.Kinds.{Reads}
 use Rattle.rx_dense.specs.declared.flags.Flags.{Flags}
@@ -20,18 +16,14 @@ use Rattle.rx_dense_image.specs.Images.{text}
 use Rattle.rx_dense_image.proofs.AccelRows.{AreSpecialRows}
 use Rattle.rx_dense_image.proofs.ClosedFacts.{closed}
 use Rattle.rx_dense_image.proofs.ShapedImages.{shaped}
-use Rattle.rx_dense_image.proofs.ReadAgain.{dense_head_again, rows_again}
+use Rattle.rx_dense_image.proofs.ReadAgain.{dense_head_again, rows_again, words_below}
 use Rattle.rx_dense_image.proofs.TablesAgain.{pattern_lists_again, start_table_again}
 use Rattle.rx_dense_image.proofs.MarksAgain.{AreSpecialIds, marks_again}
 
 -- ids of rows are words
 ids_words : (l : Layout) → AreRows l → (words : List ℕ)
     → ((k : ℕ) → k < length words → IsRowId l (slice_index words k)) → AreWords words
-ids_words l rows words ids i =
-    elim (cases_lt i (length words)) [
-      | inl lt ↦ (omega (arith, id_few l rows (slice_index words i) (ids i lt)))
-      | inr past ↦ (subst (λ (n : ℕ). n < 2 ^ 32) (sym (get_or_past words i 0 past)) (omega arith))
-    ]
+ids_words l rows words ids = words_below words (λ i lt. omega (arith, id_few l rows (slice_index words i) (ids i lt)))
 
 special_few : (l : Layout) → AreRows l → (id : ℕ) → is_row_id l id ≡ true → id ≤ max_id
 special_few l rows id test = id_few l rows id (valid_id l rows id test)
@@ -64,7 +56,7 @@ parts_read : {bytes rest : List ℕ} {order : Order} {word_len : ℕ} (h : AreRe
 unfolding parts_at
 parts_read h = rw (h.head_read, h.rows_read, h.table_read, h.lists_read, h.len, h.marks_read) refl
 
-regrouped : (a b c d e rest : List ℕ)
+pub regrouped : (a b c d e rest : List ℕ)
     → (a ++ (b ++ (c ++ (d ++ e)))) ++ rest ≡ a ++ (b ++ (c ++ (d ++ (e ++ rest))))
 regrouped a b c d e rest = simp append_assoc refl
 
@@ -102,10 +94,7 @@ parts_again order l whole rest =
     } in
     parts_read read
 
-left_of : (a b : ℕ) → a + b - b ≡ a
-left_of a b = omega arith
-
 pub whole_again : (order : Order) (l : Layout) → IsWhole l → (rest : List ℕ)
     → reads (text order l ++ rest) ≡ Ok (l, length (text order l))
 unfolding reads
-whole_again order l whole rest = grind (arith, common_steps, length-append, left_of, parts_again)
+whole_again order l whole rest = grind (arith, common_steps, parts_again)

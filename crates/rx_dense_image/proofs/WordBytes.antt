@@ -1,37 +1,30 @@
 -- The words of some bytes, and tests of each number below one.
-use Rattle.std.proofs.Common.{◌≡◌, ℕ, zero, suc, ◌+◌, ◌*◌, ◌/◌, ◌%◌, ◌<◌, ◌≤◌, Bool, ◌&&◌, List, [], ◌∷◌, ◌++◌, length}
-use Rattle.std.proofs.Common.{get_or, take, drop, refl, ap, ◌∙◌, arith, add-one, drop-cons}
-use Rattle.std.proofs.lemmas.Bool.{cases_lt}
-use Rattle.std.proofs.lemmas.List.{get_or_append_left, get_or_push}
-use Rattle.std.proofs.lemmas.Grind.{common_steps}
-use Rattle.std.proofs.lemmas.Nat.{mod-mul-add}
+use Rattle.rx_spec.proofs.Prelude.{◌≡◌, ℕ, zero, suc, ◌+◌, ◌%◌, ◌<◌, ◌≤◌, Bool, ◌&&◌, List, [], ◌∷◌, ◌++◌, length}
+use Rattle.rx_spec.proofs.Prelude.{get_or, take, drop, refl, ap, ◌∙◌, arith, add-one, common_steps}
 use Rattle.rx_dense_image.specs.Bulk.{each_below}
 
 -- the four bytes of a word
 pub four : {a b c : ℕ} (xs : List ℕ) (n : ℕ) → a ≡ n + 1 → b ≡ n + 2 → c ≡ n + 3 → n + 4 ≤ length xs
     → take 4 (drop n xs) ≡ get_or xs n 0 ∷ (get_or xs a 0 ∷ (get_or xs b 0 ∷ (get_or xs c 0 ∷ [])))
-four {a} {b} {c} xs n ea eb ec long = grind (arith, common_steps, drop-cons)
+four {a} {b} {c} xs n ea eb ec long = grind (arith, common_steps)
 
 pub below_more : (p : ℕ → Bool) (i : ℕ) → each_below (i + 1) p ≡ (each_below i p && p i)
 below_more p i = rw add-one refl
 
-back : (x s : ℕ) → x % s ≡ 0 → x / s * s ≡ x
-back x s h = grind (arith, common_steps)
-
 -- a column of rounds, which begin at multiples of how many columns there are
 pub wraps : (at k m : ℕ) → at % m ≡ 0 → k < m → (at + k) % m ≡ k
-wraps at k m z lt = grind (arith, common_steps, back, mod-mul-add)
+wraps at k m z lt = grind (arith, common_steps)
 
 -- one more word of a function
 pub pushed : (f : ℕ → ℕ) (xs : List ℕ) (i w : ℕ) → length xs ≡ i → ((k : ℕ) → k < i → get_or xs k 0 ≡ f k) → w ≡ f i
     → (k : ℕ) → k < i + 1 → get_or (xs ++ w ∷ []) k 0 ≡ f k
-pushed f xs i w len before is k lt = grind (arith, common_steps, cases_lt, get_or_append_left, get_or_push)
+pushed f xs i w len before is k lt = grind (arith, common_steps)
 
 -- tests that agree
 pub below_cong : (n : ℕ) (p q : ℕ → Bool) → ((k : ℕ) → k < n → p k ≡ q k) → each_below n p ≡ each_below n q
 below_cong zero p q same = refl
 below_cong (suc n) p q same =
-    ap (λ (b : Bool). b && p n) (below_cong n p q (λ k lt. same k (omega (arith, lt))))
+    ap (λ (b : Bool). b && p n) (below_cong n p q (λ k lt. same k (omega arith)))
     ∙ ap (λ (b : Bool). each_below n q && b) (same n (omega arith))
 
 pub next_begins : (at w : ℕ) → at % w ≡ 0 → (at + w) % w ≡ 0

@@ -1,18 +1,13 @@
 -- Entering a state: what is kept where it is new, and what its size passes.
-use Rattle.std.proofs.lemmas.Grind.{common_steps}
-use Rattle.std.proofs.Common.{◌≡◌, ◌≢◌, ℕ, ◌+◌, ◌*◌, ◌/◌, ◌<◌, true, List, [], ◌∷◌, ◌++◌, length, get_or, length-append}
-use Rattle.std.proofs.Common.{refl, ap, sym, ◌∙◌, subst, arith}
-use Rattle.std.proofs.lemmas.List.{length-map, map-append, length_push, get_or-map, get_or_default, length-replicate}
+use Rattle.rx_spec.proofs.Prelude.{common_steps, ◌≡◌, ◌≢◌, ℕ, ◌+◌, ◌*◌, ◌/◌, ◌<◌, true, List, [], ◌∷◌, ◌++◌, length}
+use Rattle.rx_spec.proofs.Prelude.{get_or, length-append, refl, ap, sym, ◌∙◌, subst, arith, length-map, map-append}
+use Rattle.rx_spec.proofs.Prelude.{length_push, get_or-map, get_or_default, length-replicate, div-mul-add, pow_pos}
+use Rattle.rx_spec.proofs.Prelude.{div-add-mod', All-append, All-cons, All-nil, All-get_or, All-map, All, AllPairs}
+use Rattle.rx_spec.proofs.Prelude.{Contains, IsTrue, ◌↔◌, Bool, false, not, if◌then◌else◌, IsReached, Exceeds, max_id}
+use Rattle.rx_spec.proofs.Prelude.{determinizer_size, label_total, table_size, State}
 use Rattle.std.proofs.Math.Nat.{mul-le-mul_left}
-use Rattle.std.proofs.lemmas.Nat.{div-mul-add, pow_pos, div-add-mod'}
-use Rattle.std.proofs.lemmas.List.Elements.{All-append, All-cons, All-nil, All-get_or, All-map}
 use Rattle.std.proofs.lemmas.List.Quantifiers.{all_pairs_push}
-use Rattle.std.proofs.lemmas.List.Sums.{sum_by_push}
-use Rattle.std.specs.Prelude.{All, AllPairs, Contains, IsTrue, ◌↔◌, Bool, false, not, if◌then◌else◌}
-use Rattle.rx_spec.specs.Builds.{IsReached}
-use Rattle.rx_spec.specs.Causes.{Exceeds, max_id}
-use Rattle.rx_spec.specs.Sizes.{state_size, determinizer_size, label_total, table_size}
-use Rattle.rx_spec.specs.States.{State}
+use Rattle.rx_spec.specs.Sizes.{state_size}
 use Rattle.rx_dense.proofs.Rows.{no_more}
 use Rattle.rx_dense.specs.Builder.{with_row}
 use Rattle.rx_dense.specs.Layouts.{Layout, AreRows, row_count, stride}
@@ -25,8 +20,8 @@ pub few_keys : {k : Keying} {limits : SizeLimits} {met : Met} {l : Layout} → I
     → length met.keys < max_id
 few_keys {k} {limits} {met} {l} working rows =
     let words : (length met.keys + 2) * stride l ≡ length l.words =
-    omega (arith, ap (λ n. n * stride l) working.count, div-add-mod' (length l.words) (stride l), rows.whole) in
-    omega (arith, words, rows.few, mul-le-mul_left (length met.keys + 1) (pow_pos l.stride2))
+    omega (arith, ap (λ n. n * stride l) working.count) in
+    omega (arith, mul-le-mul_left (length met.keys + 1) (pow_pos l.stride2))
 
 -- a table has one row more
 pub one_more_row : (l : Layout) → AreRows l → row_count (with_row l) ≡ row_count l + 1
@@ -34,7 +29,7 @@ one_more_row l rows =
     let n : ℕ = (row_count l + 1) * stride l in
     let words : length (with_row l).words ≡ n + 0 =
     simp (length-append, length-replicate)
-    (omega (arith, div-add-mod' (length l.words) (stride l), rows.whole)) in
+    (omega arith) in
     omega (arith, ap (λ w. w / stride l) words, div-mul-add (row_count l + 1) (stride l) 0 (pow_pos l.stride2))
 
 -- A key is that of a state that wasn't met.
@@ -76,10 +71,10 @@ module _ {k : Keying} {limits : SizeLimits} {met : Met} {l : Layout} {key : List
       (All-nil (λ j. IsReached k.build (k.state_of j))))
 
   pub size_is : (met_with k met key).size ≡ determinizer_size (states_of k (met_with k met key))
-  size_is = grind (arith, common_steps, sum_by_push, all_states)
+  size_is = grind (arith, common_steps)
 
   pub patterns_are : (met_with k met key).patterns ≡ label_total (states_of k (met_with k met key))
-  patterns_are = grind (arith, common_steps, sum_by_push, all_states)
+  patterns_are = grind (arith, common_steps)
 
   count : length (states_of k (met_with k met key)) ≡ length met.keys + 1
   count = simp (length-map, length_push) refl
@@ -98,12 +93,7 @@ module _ {k : Keying} {limits : SizeLimits} {met : Met} {l : Layout} {key : List
 
   module _ (rows : AreRows l) where
     words_are : (length met.keys + 2) * stride l ≡ length l.words
-    words_are = omega (
-      arith,
-      ap (λ n. n * stride l) working.count,
-      div-add-mod' (length l.words) (stride l),
-      rows.whole,
-    )
+    words_are = grind (arith, common_steps, div-add-mod')
 
     more_words : length (with_row l).words ≡ (length met.keys + 3) * stride l
     more_words = simp (length-append, length-replicate) (omega (arith, words_are))
@@ -114,7 +104,7 @@ module _ {k : Keying} {limits : SizeLimits} {met : Met} {l : Layout} {key : List
         let words : length (with_row l).words ≡ n + 0 = more_words ∙ sym (no_more n) in
         let rows_are : (n + 0) / stride l ≡ length met.keys + 3 =
         div-mul-add (length met.keys + 3) (stride l) 0 (pow_pos l.stride2) in
-        omega (arith, ap (λ w. w / stride l) words, rows_are, length_push met.keys key)
+        omega (arith, ap (λ w. w / stride l) words, length_push met.keys key)
 
     -- a table that is full
     pub is_over_full : (kind : BuildErrorKind) → IsFull l kind → IsOver k limits l kind
@@ -123,10 +113,8 @@ module _ {k : Keying} {limits : SizeLimits} {met : Met} {l : Layout} {key : List
     is_over_full BuildErrorKind.TooManyStates full =
         exceeds (λ states. (length states + 1) * stride l) max_id
         (rw count (omega (arith, words_are)))
-    is_over_full BuildErrorKind.TooManyMatchPatternIDs full = absurd full
-    is_over_full (BuildErrorKind.DFAExceededSizeLimit limit) full = absurd full
-    is_over_full (BuildErrorKind.DeterminizeExceededSizeLimit limit) full = absurd full
     is_over_full BuildErrorKind.Memory full = tt
+    is_over_full _ full = absurd full
 
     -- a size that passes its limit
     pub is_over : (kind : BuildErrorKind) → Passes limits (met_with k met key) (with_row l) kind
@@ -173,10 +161,6 @@ pub is_new_key : (b : Bool) {P : Type 0} → (IsTrue b ↔ P) → not b ≡ fals
 is_new_key true iff e = iff.0 refl
 is_new_key false iff e = absurd cc
 
-pub is_old_key : (b : Bool) → not b ≡ true → b ≡ false
-is_old_key true e = absurd cc
-is_old_key false e = refl
-
 pub keys_at : (before after : List (List ℕ)) (key : List ℕ) (b : Bool)
     → after ≡ (if b then before ++ key ∷ [] else before) → b ≡ true → after ≡ before ++ key ∷ []
 keys_at before after key true keys e = keys
@@ -186,10 +170,6 @@ pub keys_kept : (before after : List (List ℕ)) (key : List ℕ) (b : Bool)
     → after ≡ (if b then before ++ key ∷ [] else before) → b ≡ false → after ≡ before
 keys_kept before after key true keys e = absurd cc
 keys_kept before after key false keys e = keys
-
-pub is_true : (b : Bool) → not b ≡ false → b ≡ true
-is_true true e = refl
-is_true false e = absurd cc
 
 -- what was met, by its parts
 abbrev pub met_of : List (List ℕ) → ℕ → ℕ → Met

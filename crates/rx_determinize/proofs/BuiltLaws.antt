@@ -1,27 +1,13 @@
 -- A table that has a row for each state that was met, all of which are stepped, has the states that are reached.
-use Rattle.std.proofs.lemmas.Grind.{common_steps}
-use Rattle.std.proofs.Common.{◌≡◌, ℕ, zero, suc, ◌+◌, ◌*◌, ◌/◌, ◌<◌, ◌≤◌, Bool, true, false, Option, Some, None, List}
-use Rattle.std.proofs.Common.{[], ◌∷◌, length, map, get_or, slice_index, refl, ap, sym, ◌∙◌, subst, arith, ⊎_elim}
-use Rattle.std.proofs.lemmas.Bool.{cases_Bool, cases_lt, le-ltb, lt-ltb, ne_eqb}
-use Rattle.std.proofs.lemmas.Bool.Decides.{when_false, when_true}
-use Rattle.std.proofs.lemmas.List.{get_or-map, get_or_default, length-map}
-use Rattle.std.proofs.lemmas.List.Sums.{sum_by-cons}
-use Rattle.std.proofs.lemmas.List.Elements.{All-get_or}
-use Rattle.std.proofs.lemmas.Nat.{pow_pos, row_fits}
-use Rattle.std.proofs.lemmas.Option.{get_or_from_slice_get, slice_get-get_or, slice_get_past, slice_get_within}
-use Rattle.std.specs.BTreeMap.{get}
-use Rattle.std.specs.List.{concat}
-use Rattle.std.specs.Ordering.{nat_cmp}
-use Rattle.std.specs.Prelude.{All, Contains, IfSome, Vec, if◌then◌else◌, slice_get, sum_by}
-use Rattle.std.specs.declared.alloc.Global.{Global}
-use Rattle.rx_spec.specs.Builds.{Build, Node, Quit, Running, dead, AreReached, IsReached, built_entry, is_dead}
-use Rattle.rx_spec.specs.Builds.{next_node, node_label}
-use Rattle.rx_spec.specs.Causes.{max_id}
-use Rattle.rx_spec.specs.Machines.{Label, label_of as label_from}
-use Rattle.rx_spec.specs.Power.{node_at}
-use Rattle.rx_spec.specs.Queries.{Anchored}
-use Rattle.rx_spec.specs.Sizes.{label_total}
-use Rattle.rx_spec.specs.States.{State, dead_state}
+use Rattle.rx_spec.proofs.Prelude.{common_steps, ◌≡◌, ℕ, zero, suc, ◌+◌, ◌*◌, ◌/◌, ◌<◌, ◌≤◌, Bool, true, false, Option}
+use Rattle.rx_spec.proofs.Prelude.{Some, None, List, [], ◌∷◌, length, map, get_or, slice_index, refl, ap, sym, ◌∙◌}
+use Rattle.rx_spec.proofs.Prelude.{subst, arith, ⊎_elim, cases_Bool, cases_lt, lt-ltb, ne_eqb, when_false, get_or-map}
+use Rattle.rx_spec.proofs.Prelude.{get_or_default, length-map, sum_by-cons, All-get_or, pow_pos, get_or_from_slice_get}
+use Rattle.rx_spec.proofs.Prelude.{slice_get-get_or, slice_get_past, slice_get_within, get, concat, nat_cmp, All}
+use Rattle.rx_spec.proofs.Prelude.{Contains, IfSome, Vec, if◌then◌else◌, slice_get, sum_by, Global, Build, Node, Quit}
+use Rattle.rx_spec.proofs.Prelude.{Running, dead, AreReached, IsReached, built_entry, is_dead, next_node, node_label}
+use Rattle.rx_spec.proofs.Prelude.{max_id, Label, node_at, Anchored, label_total, State, dead_state}
+use Rattle.rx_spec.specs.Machines.{label_of as label_from}
 use Rattle.rx_spec.specs.declared.Start.{Start}
 use Rattle.rx_dense.specs.Builder.{pattern_lists}
 use Rattle.rx_dense.specs.Layouts.{Layout, IsRowId, machine_of, mode_place, row_count, start_entries, stride, table_of}
@@ -40,7 +26,7 @@ use Rattle.rx_determinize.proofs.ModeLaws.{entries_twelve}
 use Rattle.rx_determinize.proofs.NodeLaws.{entry_goes_on, entry_plain, entry_whole, eoi_goes_on, next_whole}
 use Rattle.rx_determinize.proofs.NodeLaws.{node_of_row, quit_of_row}
 use Rattle.rx_determinize.proofs.RowIds.{row_id, row_of_id}
-use Rattle.rx_determinize.proofs.StartLaws.{number_low, place_of, start_of_place, zero_row}
+use Rattle.rx_determinize.proofs.StartLaws.{number_low, place_of, start_of_place}
 use Rattle.rx_determinize.proofs.WorkListLaws.{ends}
 
 -- Each state that was met is stepped. A table has start entries for the patterns of the NFA, or for none.
@@ -73,17 +59,17 @@ module _ {w : Work} {l : Layout} (built : IsBuilt w l) where
   states_count = length-map met.keys s.state_of
 
   pub rows_count : row_count l ≡ length states + 2
-  rows_count = omega (arith, count, states_count)
+  rows_count = omega (arith, states_count)
 
   -- ---- starts
 
   dead_entry : (j : ℕ) (start : Start) → length l.starts ≤ 12 + 6 * j
       → entry_in l (Anchored.Pattern j) start ≡ 0
-  dead_entry j start past = grind (arith, common_steps, place_of, le-ltb, zero_row)
+  dead_entry j start past = grind (arith, common_steps)
 
   -- a pattern past the last starts at dead
   past_last : (n j : ℕ) (start : Start) → l.pattern_starts ≡ Some n → n ≤ j → entry_in l (Anchored.Pattern j) start ≡ 0
-  past_last n j start e h = grind (arith, common_steps, dead_entry)
+  past_last n j start e h = grind (arith, common_steps)
 
   -- a mode without starts
   no_start : (j : ℕ) (start : Start) → length l.starts ≤ 12 + 6 * j → built_entry b (Anchored.Pattern j) start ≡ dead
@@ -128,9 +114,7 @@ module _ {w : Work} {l : Layout} (built : IsBuilt w l) where
   low_row node row is_row = ⊎_elim dies lives (cases_Bool (is_dead node))
     where
       dies : is_dead node ≡ true → row < row_count l
-      dies e =
-          let zero_row : row ≡ 0 = when_true (row ≡ 0) (slice_get (nodes states) row ≡ Some node) e is_row in
-          omega (arith, zero_row, count)
+      dies e = grind (arith, common_steps)
 
       lives : is_dead node ≡ false → row < row_count l
       lives e =
@@ -144,7 +128,7 @@ module _ {w : Work} {l : Layout} (built : IsBuilt w l) where
 
   -- the state of a row behind quit
   key_at : (i : ℕ) → suc (suc i) < row_count l → slice_get met.keys i ≡ Some (get_or met.keys i [])
-  key_at i low = slice_get-get_or met.keys i [] (omega (arith, count))
+  key_at i low = slice_get-get_or met.keys i [] (omega arith)
 
   node_is : (i : ℕ) (key : List ℕ) → slice_get met.keys i ≡ Some key
       → node_at states (suc (suc i)) ≡ Running (s.state_of key)
@@ -185,10 +169,7 @@ module _ {w : Work} {l : Layout} (built : IsBuilt w l) where
     some_width = pow_pos l.stride2
 
     high_id : (id : ℕ) (patterns : List ℕ) → IsLabelAt met.keys l id patterns → stride l < id
-    high_id id patterns is =
-        let rows : 1 * stride l + stride l ≤ (is.place + 2) * stride l =
-        row_fits 1 (stride l) (is.place + 2) (stride l) (omega arith) (omega arith) in
-        omega (arith, is.id_is, rows, some_width)
+    high_id id patterns is = grind (arith, common_steps)
 
     -- patterns that are told are some
     told_label : (o : Option (Vec ℕ Global)) → IfSome o (λ v. 0 < length v.items)
@@ -237,7 +218,7 @@ module _ {w : Work} {l : Layout} (built : IsBuilt w l) where
         let low = own.1 in
         let entry : slice_index l.starts (place_of mode start) ≡ id =
         ap (slice_index l.starts) at ∙ get_or_default l.starts place 0 id low ∙ own.2 in
-        let mode_low : mode_place mode < length l.starts = omega (arith, at, low) in
+        let mode_low : mode_place mode < length l.starts = omega arith in
         let row : entry_in l mode start ≡ is.place + 2 =
         ap (λ (c : Bool). (if c then slice_index l.starts (place_of mode start) else 0) / stride l)
         (lt-ltb (mode_place mode) (length l.starts) mode_low)
@@ -250,7 +231,7 @@ module _ {w : Work} {l : Layout} (built : IsBuilt w l) where
         ap node_label (sym (node_is is.place is.key is.there) ∙ node) ∙ entry_plain b mode start in
         let none : (s.state_of is.key).label ≡ [] = unlabelled (s.state_of is.key).label plain in
         let empty : patterns ≡ [] = is.label ∙ named_by is.key is.place is.there ∙ none in
-        absurd (omega (arith, is.some, ap length empty))
+        absurd (omega (arith, ap length empty))
       where
         unlabelled : (ks : List ℕ) → label_from ks ≡ Label.Plain → ks ≡ []
         unlabelled [] e = refl
@@ -262,7 +243,7 @@ module _ {w : Work} {l : Layout} (built : IsBuilt w l) where
           let is = labels.only id v e in
           let low = slice_get_within met.keys is.place is.key is.there in (
             subst (IsRowId l) (sym is.id_is)
-                (row_id l (is.place + 2) built.entering.serves.rows (omega (arith, low, count))),
+                (row_id l (is.place + 2) built.entering.serves.rows (omega arith)),
             high_id id v.items is,
             no_start_match id v.items is,
           );
@@ -296,7 +277,7 @@ module _ {w : Work} {l : Layout} (built : IsBuilt w l) where
     }
       where
         eoi : (row : ℕ) → row < row_count l → (machine_of l).next row 256 ≡ 1 → ⊥
-        eoi zero low one = absurd (omega (arith, one, built.entering.written.dead_stays 256 (omega arith)))
+        eoi zero low one = absurd (omega (arith, built.entering.written.dead_stays 256 (omega arith)))
         eoi (suc zero) low one = absurd (omega (arith, one, built.entering.written.quit_ends 256 (omega arith)))
         eoi (suc (suc i)) low one =
             let key = get_or met.keys i [] in
@@ -309,13 +290,7 @@ module _ {w : Work} {l : Layout} (built : IsBuilt w l) where
     -- the labels are no longer together than those of the states
     few : length (concat (pattern_lists matches)) ≤ max_id
     few =
-        omega (
-          arith,
-          labels.count,
-          same_total met.keys (λ i key there. named_by key i there),
-          built.entering.serves.working.patterns,
-          built.entering.serves.working.few_patterns,
-        )
+        omega (arith, labels.count, same_total met.keys (λ i key there. named_by key i there))
       where
         same_total : (keys : List (List ℕ)) → ((i : ℕ) (key : List ℕ) → slice_get keys i ≡ Some key
             → label_of key ≡ (s.state_of key).label)

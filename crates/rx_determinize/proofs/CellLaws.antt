@@ -1,11 +1,8 @@
 -- Cells that are set, and rows that are added: to which rows the rows of a table lead then.
-use Rattle.std.proofs.lemmas.Grind.{common_steps}
-use Rattle.std.proofs.Common.{◌≡◌, ◌≢◌, ℕ, ◌+◌, ◌*◌, ◌/◌, ◌<◌, length, get_or, replicate, ap, sym, ◌∙◌, arith, inl, inr}
-use Rattle.std.proofs.Common.{◌⊎◌, ◌≤◌, List, ⊎_elim}
+use Rattle.rx_spec.proofs.Prelude.{common_steps, ◌≡◌, ◌≢◌, ℕ, ◌+◌, ◌*◌, ◌/◌, ◌<◌, length, get_or, ap, sym, ◌∙◌, arith}
+use Rattle.rx_spec.proofs.Prelude.{inl, inr, ◌⊎◌, ◌≤◌, List, ⊎_elim, cases_lt, get_or-set_same, get_or-set_other}
+use Rattle.rx_spec.proofs.Prelude.{div-mul-add}
 use Rattle.std.proofs.Math.Nat.{mul-le-mul_right}
-use Rattle.std.proofs.lemmas.Bool.{cases_lt}
-use Rattle.std.proofs.lemmas.List.{get_or-set_same, get_or-set_other, get_or_append_left}
-use Rattle.std.proofs.lemmas.Nat.{div-mul-add, pow_pos}
 use Rattle.rx_dense.proofs.Rows.{column_within, multiple_below}
 use Rattle.rx_dense.specs.Builder.{IsCopied, IsOutside, with_next, with_row}
 use Rattle.rx_dense.specs.Layouts.{Layout, AreRows, machine_of, row_count, stride, column}
@@ -18,15 +15,15 @@ one_place s r c q d c_in d_in e =
 
 module _ (l : Layout) (rows : AreRows l) where
   place_within : (r unit : ℕ) → r < row_count l → unit < 257 → r * stride l + column l unit < length l.words
-  place_within r unit within is_unit = grind (arith, common_steps, multiple_below, pow_pos, column_within)
+  place_within r unit within is_unit = grind (arith, common_steps, multiple_below, column_within)
 
   column_in : (unit : ℕ) → unit < 257 → column l unit < stride l
-  column_in unit is_unit = omega (arith, column_within l rows.classes unit is_unit, rows.fits)
+  column_in unit is_unit = omega (arith, column_within l rows.classes unit is_unit)
 
   -- a row that is added changes no other
   pub next_more : (r unit : ℕ) → r < row_count l → unit < 257
       → (machine_of (with_row l)).next r unit ≡ (machine_of l).next r unit
-  next_more r unit within is_unit = grind (arith, common_steps, get_or_append_left, replicate, place_within)
+  next_more r unit within is_unit = grind (arith, common_steps, place_within)
 
   module _ (r unit next : ℕ) (within : r < row_count l) (is_unit : unit < 257) where
     -- the units of a column lead where it was set to
@@ -61,9 +58,9 @@ module _ (l : Layout) (rows : AreRows l) where
           outside : (row < to) ⊎ (to ≤ row) → IsOutside (to * stride l) (stride l) (row * stride l + column l unit)
           outside (inl less) =
               let below : (row + 1) * stride l ≤ to * stride l = mul-le-mul_right (stride l) (omega arith) in
-              inl (omega (arith, below, column_in unit is_unit))
+              inl (omega (arith, column_in unit is_unit))
           outside (inr past) =
               let above : (to + 1) * stride l ≤ row * stride l =
               mul-le-mul_right (stride l) (⊎_elim (λ (less : to < row). omega arith)
               (λ (under : row ≤ to). absurd (apart (omega arith))) (cases_lt to row)) in
-              inr (omega (arith, above))
+              inr (omega arith)

@@ -1,16 +1,8 @@
 -- The columns of a table and the units that stand for them.
-use Rattle.std.proofs.lemmas.Grind.{common_steps}
-use Rattle.std.proofs.Common.{◌≡◌, ℕ, ◌+◌, ◌<◌, ◌≤◌, Bool, false, List, [], ◌∷◌, length, get_or, ap, sym, ◌∙◌, arith}
-use Rattle.std.proofs.Common.{⊎_elim, eqb, cond}
-use Rattle.std.proofs.lemmas.Bool.{cases_lt, cases_eq}
-use Rattle.std.proofs.lemmas.Bool.Decides.{nat_tests}
-use Rattle.std.proofs.lemmas.List.{get_or-map, get_or_append_left, get_or_push, length-map, length_push}
-use Rattle.std.proofs.lemmas.List.FromFn.{get_or-map-range_with_len}
-use Rattle.std.specs.Prelude.{slice_index}
-use Rattle.rx_spec.specs.Bytes.{eoi}
-use Rattle.rx_spec.specs.Builds.{Build, Node, next_node}
-use Rattle.rx_spec.specs.Classes.{class_by, column_by, ends_class, representatives}
-use Rattle.rx_spec.specs.Nfas.{Nfa}
+use Rattle.rx_spec.proofs.Prelude.{common_steps, ◌≡◌, ℕ, ◌+◌, ◌<◌, ◌≤◌, Bool, List, [], ◌∷◌, length, get_or, ap, sym}
+use Rattle.rx_spec.proofs.Prelude.{◌∙◌, arith, ⊎_elim, cases_lt, nat_tests, get_or-map, get_or_append_left, get_or_push}
+use Rattle.rx_spec.proofs.Prelude.{length-map, length_push, get_or-map-range_with_len, slice_index, eoi, Build, Node}
+use Rattle.rx_spec.proofs.Prelude.{next_node, class_by, column_by, ends_class, representatives, Nfa}
 use Rattle.rx_base.proofs.Classes.{ends_of-class}
 use Rattle.rx_base.specs.ByteClasses.{AreClasses, ends_of, alphabet_len}
 use Rattle.lemmas_tables.proofs.ClassNumbers.{representatives_counted, representative_class, representative_below}
@@ -85,14 +77,7 @@ column_is l nfa quit byte_classes is unit h =
     let class_at : (b : ℕ) → b < 256 → slice_index l.classes b ≡ class_by ends b = λ b low.
     ap (λ (classes : List ℕ). slice_index classes b) is
     ∙ get_or-map-range_with_len (class_by ends) 0 256 b b 0 low (omega arith) in
-    ⊎_elim
-    (λ (e : unit ≡ 256). rw e (ap (λ n. n + 1) (class_at 255 (omega arith))))
-    (λ (ne : unit ≡ 256 → ⊥).
-    let low : unit < 256 = omega arith in
-    let no_eoi : eqb unit 256 ≡ false = grind (arith, nat_tests) in
-    column_of_byte l unit low ∙ class_at unit low
-    ∙ sym (ap (λ b. cond b (class_by ends 255 + 1) (class_by ends unit)) no_eoi))
-    (cases_eq unit 256)
+    grind (arith, common_steps, nat_tests)
 
 -- units of one column lead a node to one node
 pub same_column : (l : Layout) (b : Build) (byte_classes : Bool) → l.classes ≡ classes_of b.nfa b.quit byte_classes

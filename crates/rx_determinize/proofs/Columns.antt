@@ -1,11 +1,7 @@
 -- The classes of bytes that the code makes are those of the definitions.
-use Rattle.std.proofs.Common.{◌≡◌, ℕ, ◌+◌, ◌<◌, ◌||◌, Bool, true, false, List, length, slice_index, refl, sym, ◌∙◌}
-use Rattle.std.proofs.Common.{arith}
-use Rattle.std.proofs.lemmas.List.FromFn.{fill_by_all}
+use Rattle.rx_spec.proofs.Prelude.{◌≡◌, ℕ, ◌+◌, ◌<◌, ◌||◌, Bool, true, false, List, length, slice_index, refl, sym, ◌∙◌}
+use Rattle.rx_spec.proofs.Prelude.{arith, fill_by_all, contains, class_by, ends_class, parts, Nfa}
 use Rattle.std.proofs.Math.Bool.{or_comm}
-use Rattle.rx_spec.specs.Bytes.{contains}
-use Rattle.rx_spec.specs.Classes.{class_by, ends_class, parts}
-use Rattle.rx_spec.specs.Nfas.{Nfa}
 use Rattle.rx_base.proofs.Classes.{class_by-alike}
 use Rattle.lemmas_tables.proofs.ClassNumbers.{class_of_all}
 use Rattle.rx_expr.specs.NfaRows.{rows_part}

@@ -1,11 +1,6 @@
 -- A construction that goes on: what it had is there still, and what refuses it later refuses it.
-use Rattle.std.proofs.Common.{arith, ◌≡◌, ℕ, List, append_assoc, length, refl, ap, ap₂, sym, ◌∙◌, subst, []}
-use Rattle.std.proofs.lemmas.Grind.{common_steps}
-use Rattle.std.proofs.lemmas.List.{append-nil}
-use Rattle.rx_spec.specs.Builds.{Node}
-use Rattle.rx_spec.specs.Causes.{Exceeds, max_id}
-use Rattle.rx_spec.specs.Nfas.{Nfa}
-use Rattle.rx_spec.specs.Sizes.{last_id, table_size}
+use Rattle.rx_spec.proofs.Prelude.{arith, ◌≡◌, ℕ, List, length, refl, ap, ap₂, sym, ◌∙◌, subst, [], common_steps}
+use Rattle.rx_spec.proofs.Prelude.{Exceeds, max_id, Nfa, last_id, table_size}
 use Rattle.rx_spec.specs.declared.Unit.{Unit}
 use Rattle.rx_dense.specs.Layouts.{Layout, AreRows, stride}
 use Rattle.rx_build_error.specs.declared.BuildErrorKind.{BuildErrorKind}
@@ -13,7 +8,6 @@ use Rattle.rx_stepper.specs.Stepping.{HasOneKeyEach, SpellStates, Stepping}
 use Rattle.rx_determinize.specs.Constructions.{AreUnits, Continues, Extends, IsAnother, IsRefusal, IsStartedOver}
 use Rattle.rx_determinize.specs.Constructions.{IsWrittenOver, Serves, Work, keys_in}
 use Rattle.rx_determinize.specs.Determinized.{classes_of}
-use Rattle.rx_determinize.specs.Filling.{FindsRow}
 use Rattle.rx_determinize.specs.Working.{IsOver, IsWorking, Keying, Met, SizeLimits, keying}
 
 -- ---- tables of which words and start entries were written
@@ -24,43 +18,28 @@ written_over l m words is = grind (arith, common_steps)
 pub started_over : {l m : Layout} → IsWrittenOver l m → IsStartedOver l m
 started_over {l} {m} over = grind (arith, common_steps)
 
-pub started_twice : (l m n : Layout) → IsStartedOver l m → IsStartedOver m n → IsStartedOver l n
-started_twice l m n first second = grind (arith, common_steps)
-
 -- ---- what goes on
-
-no_other : (s r : Stepping) → r ≡ s → IsAnother s r
-no_other s r same = same ∙ ap (λ (t : Stepping). record s { current = t.current; led_in = t.led_in }) (sym same)
-
-another_twice : (s r t : Stepping) → IsAnother s r → IsAnother r t → IsAnother s t
-another_twice s r t first second = grind (arith, common_steps)
-
-extends_twice : (keys more all : List (List ℕ)) → Extends keys more → Extends more all → Extends keys all
-extends_twice keys more all first second = grind (arith, common_steps, append_assoc)
 
 -- words and start entries were written
 pub continues_over : (w : Work) {l m : Layout} → IsStartedOver l m → Continues w l w m
-continues_over w {l} {m} over = grind (arith, common_steps, append-nil)
+continues_over w {l} {m} over = grind (arith, common_steps)
 
 pub continues_none : (w : Work) (l : Layout) → Continues w l w l
 continues_none w l = continues_over w (record { rest = refl; count = refl })
 
 pub continues_twice : {w v u : Work} {l m n : Layout} → Continues w l v m → Continues v m u n → Continues w l u n
 continues_twice {w} {v} {u} {l} {m} {n} first second =
-    grind (arith, common_steps, another_twice, extends_twice, started_twice)
+    grind (arith, common_steps)
 
 -- more states were met, and words were written
 pub continues_grown : (w : Work) (after : Met) {l m : Layout} → Extends w.met.keys after.keys → IsWrittenOver l m
     → Continues w l (record w { met = after }) m
-continues_grown w after more over = grind (arith, common_steps, started_over)
+continues_grown w after more over = grind (arith, common_steps)
 
 -- another state is stepped
 pub continues_other : (w : Work) (r : Stepping) (l : Layout) → IsAnother w.stepping r
     → Continues w l (record w { stepping = r }) l
-continues_other w r l another = grind (arith, common_steps, append-nil)
-
-pub continues_found : {w v : Work} {l m : Layout} {node : Node} {id : ℕ} → FindsRow w l node v m id → Continues w l v m
-continues_found {w} {v} found = grind (arith, common_steps, no_other, started_over)
+continues_other w r l another = grind (arith, common_steps)
 
 module _ {w v : Work} {l m : Layout} (later : Continues w l v m) where
   -- keys stand for what they stood for, and the table is built of the same
@@ -103,16 +82,13 @@ module _ {w v : Work} {l m : Layout} (later : Continues w l v m) where
       width = ap stride later.over.rest
 
       at : (kind : BuildErrorKind) → IsOver (keys_in w l) w.limits m kind → IsOver (keys_in w l) w.limits l kind
-      at (BuildErrorKind.NFA error) over = over
-      at BuildErrorKind.Unsupported over = over
       at BuildErrorKind.TooManyStates over =
           subst (λ n. Exceeds (keys_in w l).build (λ states. last_id (length states) n) max_id) width over
-      at BuildErrorKind.TooManyMatchPatternIDs over = over
       at (BuildErrorKind.DFAExceededSizeLimit limit) over = (
         over.0,
         subst (λ n. Exceeds (keys_in w l).build (λ states. table_size (length states) n (length l.starts)) limit) width
             (subst (λ n. Exceeds (keys_in w l).build (λ states. table_size (length states) (stride m) n) limit)
             later.over.count over.1),
       )
-      at (BuildErrorKind.DeterminizeExceededSizeLimit limit) over = over
       at BuildErrorKind.Memory over = tt
+      at _ over = over

@@ -1,9 +1,5 @@
 -- A table with all states that are reached, whose rows are put in order.
-use Rattle.std.proofs.Common.{◌≡◌, ◌≤◌, length, ap, ◌∙◌}
-use Rattle.std.specs.List.{concat}
-use Rattle.rx_spec.specs.Builds.{Build}
-use Rattle.rx_spec.specs.Causes.{max_id}
-use Rattle.rx_spec.specs.Tables.{IsSound}
+use Rattle.rx_spec.proofs.Prelude.{◌≡◌, ◌≤◌, length, ap, ◌∙◌, concat, Build, max_id, IsSound}
 use Rattle.rx_dense.specs.Builder.{Beginning, initial}
 use Rattle.rx_dense.specs.Layouts.{Layout, table_of}
 use Rattle.rx_order.specs.Ordering.{IsRouted, IsShuffled, Matches}

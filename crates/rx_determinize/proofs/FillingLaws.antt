@@ -1,13 +1,8 @@
 -- What stays true of a table in which rows are written: where a row is added, and where a cell is set.
-use Rattle.std.proofs.lemmas.Grind.{common_steps}
-use Rattle.std.proofs.Common.{◌≡◌, ◌≢◌, ℕ, ◌+◌, ◌*◌, ◌/◌, ◌<◌, ◌≤◌, true, false, Some, List, [], ◌∷◌, ◌++◌, length, map}
-use Rattle.std.proofs.Common.{get_or, replicate, length-append, length-set, refl, ap, sym, ◌∙◌, subst, arith, ⊎_elim}
-use Rattle.std.proofs.lemmas.List.{map-append, append-nil}
-use Rattle.std.proofs.lemmas.Bool.{cases_eq}
-use Rattle.std.proofs.lemmas.Option.{slice_get_within}
-use Rattle.std.specs.Prelude.{Bool, Option, IfSome, if◌then◌else◌, slice_get, ◌⊎◌}
-use Rattle.rx_spec.specs.Builds.{Node, Running, next_node, built_entry}
-use Rattle.rx_spec.specs.States.{State}
+use Rattle.rx_spec.proofs.Prelude.{common_steps, ◌≡◌, ◌≢◌, ℕ, ◌+◌, ◌*◌, ◌/◌, ◌<◌, ◌≤◌, true, false, Some, List, [], ◌∷◌}
+use Rattle.rx_spec.proofs.Prelude.{◌++◌, length, map, get_or, length-append, length-set, refl, ap, sym, ◌∙◌, subst}
+use Rattle.rx_spec.proofs.Prelude.{arith, ⊎_elim, map-append, cases_eq, slice_get_within, Bool, Option, IfSome}
+use Rattle.rx_spec.proofs.Prelude.{if◌then◌else◌, slice_get, ◌⊎◌, Node, Running, next_node, built_entry, State}
 use Rattle.rx_dense.specs.Builder.{with_next, with_row}
 use Rattle.rx_dense.specs.Layouts.{Layout, AreRows, IsRowId, machine_of, row_count, stride, column}
 use Rattle.rx_base.specs.ByteClasses.{alphabet_len}
@@ -26,7 +21,7 @@ use Rattle.rx_determinize.proofs.ColumnLaws.{unit_in, unit_column, same_column}
 use Rattle.rx_determinize.proofs.CellLaws.{next_more, next_kept, next_set}
 
 pub adds_over : {met after : Met} {l m : Layout} {key : List ℕ} {id : ℕ} → Adds met l key after m id → IsWrittenOver l m
-adds_over {met} {after} {l} {m} adds = grind (arith, common_steps, written_over, replicate)
+adds_over {met} {after} {l} {m} adds = grind (arith, common_steps)
 
 -- a state that is entered
 pub grows_by : {met after : Met} {l m : Layout} {key : List ℕ} {id : ℕ} → AreRows l → Adds met l key after m id
@@ -43,13 +38,7 @@ grows_by {met} {after} {l} {m} {key} rows adds = at adds.interns.is_new adds.int
           ap (λ (n : Layout). (machine_of n).next row unit) is_more ∙ next_more l rows row unit within is_unit;
       entries = λ mode start. ap (λ (n : Layout). entry_in n mode start) is_more;
     }
-    at false keys is_same = record {
-      more = [];
-      keys = keys ∙ sym (append-nil met.keys);
-      classes = ap (λ (n : Layout). n.classes) is_same;
-      nexts = λ row unit within is_unit. ap (λ (n : Layout). (machine_of n).next row unit) is_same;
-      entries = λ mode start. ap (λ (n : Layout). entry_in n mode start) is_same;
-    }
+    at false keys is_same = grind (arith, common_steps)
 
 module _ (k : Keying) {met : Met} {l : Layout} {after : Met} {m : Layout} (grows : Grows met l after m) where
   -- a node's row
@@ -64,23 +53,23 @@ module _ (k : Keying) {met : Met} {l : Layout} {after : Met} {m : Layout} (grows
   written_kept {limits} {set} {done} before working old =
       let count = before.count in
       record {
-        within = omega (arith, ap length grows.keys, length-append met.keys grows.more, old.within);
+        within = omega (arith, ap length grows.keys, length-append met.keys grows.more);
         list = record {
           reached = working.reached;
           steps = λ id key there lt unit is_unit.
-              let in_old : id < length met.keys = omega (arith, old.within) in
+              let in_old : id < length met.keys = omega arith in
               let was = old_key met.keys grows.more id key (subst (λ (ks : List (List ℕ)). slice_get ks id ≡ Some
               key) grows.keys there) in_old in
               subst (IsRowOf (states_of k after) (next_node k.build (Running (k.state_of key)) unit))
-              (sym (grows.nexts (id + 2) unit (omega (arith, count)) is_unit))
+              (sym (grows.nexts (id + 2) unit (omega arith) is_unit))
               (row_kept (next_node k.build (Running (k.state_of key)) unit) (next_in l id unit)
               (old.list.steps id key was lt unit is_unit));
         };
         starts = λ mode start lt.
             subst (IsRowOf (states_of k after) (built_entry k.build mode start)) (sym (grows.entries mode start))
             (row_kept (built_entry k.build mode start) (entry_in l mode start) (old.starts mode start lt));
-        dead_stays = λ unit is_unit. grows.nexts 0 unit (omega (arith, count)) is_unit ∙ old.dead_stays unit is_unit;
-        quit_ends = λ unit is_unit. grows.nexts 1 unit (omega (arith, count)) is_unit ∙ old.quit_ends unit is_unit;
+        dead_stays = λ unit is_unit. grows.nexts 0 unit (omega arith) is_unit ∙ old.dead_stays unit is_unit;
+        quit_ends = λ unit is_unit. grows.nexts 1 unit (omega arith) is_unit ∙ old.quit_ends unit is_unit;
       }
 
   -- the cells that were ready
@@ -101,7 +90,7 @@ module _ (k : Keying) {met : Met} {l : Layout} {after : Met} {m : Layout} (grows
         subst (λ (classes : List ℕ). IsRowOf (states_of k after) (next_node k.build (Running state) (unit_of classes c))
         ((machine_of m).next (place + 2) (unit_of classes c))) (sym grows.classes)
         (subst (IsRowOf (states_of k after) node)
-        (sym (grows.nexts (place + 2) unit (omega (arith, count)) (unit_in l rows.classes c low_in)))
+        (sym (grows.nexts (place + 2) unit (omega arith) (unit_in l rows.classes c low_in)))
         (row_kept node ((machine_of l).next (place + 2) unit) (old.cells c low_in (back c is_ready))));
   }
 
@@ -129,16 +118,16 @@ module _ {l : Layout} {place : ℕ} {m : Layout} (is : IsRewritten l place m) wh
       reached = old.list.reached;
       steps = λ id key there lt unit is_unit.
           subst (IsRowOf (states_of k met) (next_node k.build (Running (k.state_of key)) unit))
-          (sym (is.others (id + 2) unit (omega (arith, count, place_in, lt, before)) is_unit
+          (sym (is.others (id + 2) unit (omega arith) is_unit
           (λ e. absurd (omega arith)))) (old.list.steps id key there lt unit is_unit);
     };
     starts = λ mode start lt.
         subst (IsRowOf (states_of k met) (built_entry k.build mode start))
         (sym (ap (λ (n : Layout). entry_in n mode start) is.over)) (old.starts mode start lt);
     dead_stays = λ unit is_unit.
-        is.others 0 unit (omega (arith, count)) is_unit (λ e. absurd (omega arith)) ∙ old.dead_stays unit is_unit;
+        is.others 0 unit (omega arith) is_unit (λ e. absurd (omega arith)) ∙ old.dead_stays unit is_unit;
     quit_ends = λ unit is_unit.
-        is.others 1 unit (omega (arith, count)) is_unit (λ e. absurd (omega arith)) ∙ old.quit_ends unit is_unit;
+        is.others 1 unit (omega arith) is_unit (λ e. absurd (omega arith)) ∙ old.quit_ends unit is_unit;
   }
 
   working_beside : {k : Keying} {limits : SizeLimits} {met : Met} → IsWorking k limits met l

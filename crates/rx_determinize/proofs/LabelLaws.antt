@@ -1,16 +1,8 @@
 -- The labels of reached states name patterns of the NFA.
-use Rattle.std.proofs.Common.{arith, ◌≡◌, ℕ, ◌<◌, Bool, true, false, Option, Some, None, List, [], ◌∷◌, refl, subst}
-use Rattle.std.proofs.lemmas.Grind.{common_steps}
-use Rattle.std.proofs.lemmas.List.Elements.{All-append, All-nil}
-use Rattle.std.specs.Prelude.{All, if◌then◌else◌}
-use Rattle.std.specs.List.{flat_map}
-use Rattle.rx_spec.specs.Bytes.{contains}
-use Rattle.rx_spec.specs.Builds.{Build, Node, Quit, Running, dead, is_dead_state, next_node, built_entry, IsReached}
-use Rattle.rx_spec.specs.Builds.{nfa_start, start_node}
-use Rattle.rx_spec.specs.Queries.{Anchored}
-use Rattle.rx_spec.specs.Rows.{Row}
-use Rattle.rx_spec.specs.Starts.{supports}
-use Rattle.rx_spec.specs.States.{State, cut, decided_rows, pattern_of, row_at, step}
+use Rattle.rx_spec.proofs.Prelude.{arith, ◌≡◌, ℕ, ◌<◌, Bool, true, false, Option, Some, None, List, [], ◌∷◌, refl}
+use Rattle.rx_spec.proofs.Prelude.{subst, common_steps, All-append, All-nil, All, if◌then◌else◌, flat_map, Build, Node}
+use Rattle.rx_spec.proofs.Prelude.{Quit, Running, next_node, built_entry, IsReached, start_node, Anchored, Row, State}
+use Rattle.rx_spec.proofs.Prelude.{cut, decided_rows, pattern_of, row_at, step}
 use Rattle.rx_spec.specs.declared.MatchKind.{MatchKind}
 use Rattle.rx_spec.specs.declared.Start.{Start}
 use Rattle.lemmas_walks.proofs.Words.{run-within}
@@ -23,10 +15,7 @@ module _ (count : ℕ) where
   pattern_named : (rows : List Row) (q : ℕ) (row : Row) → NamesPatterns count rows → row_at rows q ≡ row
       → AreBelow (pattern_of row)
   pattern_named rows q (Row.Match k) names e = grind (arith, common_steps)
-  pattern_named rows q (Row.Bytes set next) names e = All-nil (λ k. k < count)
-  pattern_named rows q (Row.Split first second) names e = All-nil (λ k. k < count)
-  pattern_named rows q (Row.Look look next) names e = All-nil (λ k. k < count)
-  pattern_named rows q Row.Fail names e = All-nil (λ k. k < count)
+  pattern_named rows q _ names e = All-nil (λ k. k < count)
 
   rows_named : (rows : List Row) (qs : List ℕ) → NamesPatterns count rows
       → AreBelow (flat_map (λ q. pattern_of (row_at rows q)) qs)
@@ -51,19 +40,14 @@ module _ (count : ℕ) where
 
     next_named : (node : Node) (unit : ℕ) → IsNamed (next_node b node unit)
     next_named Quit unit = All-nil (λ k. k < count)
-    next_named (Running s) unit =
-        chosen_named (is_dead_state s) dead
-        (if contains b.quit unit then Quit else Running (step b.nfa b.kind s unit)) (All-nil (λ k. k < count))
-        (chosen_named (contains b.quit unit) Quit (Running (step b.nfa b.kind s unit)) tt (step_named b.kind s unit))
+    next_named (Running s) unit = grind (arith, common_steps, step_named)
 
     start_named : (row : Option ℕ) (start : Start) → IsNamed (start_node b.nfa row start)
     start_named None start = All-nil (λ k. k < count)
     start_named (Some row) start = All-nil (λ k. k < count)
 
     entry_named : (mode : Anchored) (start : Start) → IsNamed (built_entry b mode start)
-    entry_named mode start =
-        chosen_named (supports b.start_kind b.pattern_starts mode) (start_node b.nfa (nfa_start b.nfa mode) start) dead
-        (start_named (nfa_start b.nfa mode) start) (All-nil (λ k. k < count))
+    entry_named mode start = grind (arith, common_steps)
 
     pub reached_named : (s : State) → IsReached b s → AreBelow s.label
     reached_named s r =

@@ -1,17 +1,10 @@
 -- What refuses a build, and that nothing does where its table is built.
-use Rattle.std.proofs.lemmas.Grind.{common_steps}
-use Rattle.std.proofs.Common.{◌≡◌, ℕ, ◌+◌, ◌*◌, ◌<◌, ◌≤◌, inl, Bool, Option, Some, List, length, ap, ap₂, sym, ◌∙◌}
-use Rattle.std.proofs.Common.{subst, arith}
-use Rattle.std.proofs.lemmas.List.{length-replicate}
-use Rattle.std.proofs.lemmas.List.FromFn.{get_or-map-range_with_len}
-use Rattle.std.proofs.lemmas.Nat.{div-add-mod'}
-use Rattle.std.specs.Prelude.{IfSome, is_some}
-use Rattle.rx_spec.specs.Builds.{Build, AreReached}
-use Rattle.rx_spec.specs.Causes.{BuildFits, Exceeds, IsSupported, IsUnsupported, max_id}
-use Rattle.rx_spec.specs.Nfas.{Nfa}
-use Rattle.rx_spec.specs.Sizes.{build_stride, determinizer_size, label_total, last_id, table_size}
+use Rattle.rx_spec.proofs.Prelude.{common_steps, ◌≡◌, ℕ, ◌+◌, ◌*◌, ◌<◌, ◌≤◌, inl, Bool, Option, Some, List, length, ap}
+use Rattle.rx_spec.proofs.Prelude.{ap₂, sym, ◌∙◌, subst, arith, div-add-mod', IfSome, is_some, Build, AreReached}
+use Rattle.rx_spec.proofs.Prelude.{BuildFits, Exceeds, IsSupported, IsUnsupported, max_id, Nfa, determinizer_size}
+use Rattle.rx_spec.proofs.Prelude.{label_total, last_id, table_size, State}
+use Rattle.rx_spec.specs.Sizes.{build_stride}
 use Rattle.rx_spec.specs.Sizes as sizes
-use Rattle.rx_spec.specs.States.{State}
 use Rattle.rx_base.specs.ByteClasses.{AreClasses}
 use Rattle.rx_dense.specs.Builder.{Beginning}
 use Rattle.rx_dense.proofs.Shaped.{shaped_initial}
@@ -29,7 +22,7 @@ use Rattle.rx_determinize.specs.Filling.{AreWritten, HasEntries, IsEntering}
 use Rattle.rx_determinize.specs.Matching.{AreLabels}
 use Rattle.rx_determinize.specs.Working.{none_met, IsOver, IsWorking, Keying, Met, SizeLimits, keying, states_of}
 use Rattle.rx_determinize.proofs.ContinuesLaws.{same_keys}
-use Rattle.rx_determinize.proofs.BuiltLaws.{IsBuilt, has_states, reached, rows_count, states_count}
+use Rattle.rx_determinize.proofs.BuiltLaws.{IsBuilt, has_states, reached, states_count}
 use Rattle.rx_determinize.proofs.StartLaws.{working_begun, written_begun}
 
 -- the limits of settings
@@ -70,7 +63,7 @@ module _ {w : Work} {nfa : Nfa} {settings : Settings} {byte_classes : Bool} {l :
   quit_is = ap (λ (n : Layout). n.quit) x.begun
 
   pub build_is : (keying s l).build ≡ b
-  build_is = grind (arith, common_steps, quit_is)
+  build_is = grind (arith, common_steps)
 
   pub classes_are : l.classes ≡ classes_of s.nfa l.quit byte_classes
   classes_are =
@@ -83,7 +76,7 @@ module _ {w : Work} {nfa : Nfa} {settings : Settings} {byte_classes : Bool} {l :
   pub begun_rows : AreClasses l.classes → NamesPatterns (length nfa.start_patterns) nfa.rows → AreRows l
   begun_rows are names =
       let same = ap (λ (n : Layout). n.classes) x.begun in
-      let few : length nfa.start_patterns ≤ 2147483647 = omega (arith, names.few) in
+      let few : length nfa.start_patterns ≤ 2147483647 = omega arith in
       subst AreRows (sym x.begun) (shaped_initial beginning (subst AreClasses same are) few).rows
 
   -- no state was met
@@ -111,16 +104,13 @@ module _ {w : Work} {nfa : Nfa} {settings : Settings} {byte_classes : Bool} {l :
   -- ---- sizes
 
   pub stride_is : stride l ≡ build_stride b byte_classes
-  stride_is = grind (arith, common_steps, get_or-map-range_with_len)
-
-  pub entries_are : length l.starts ≡ start_entries l.pattern_starts
-  entries_are = grind (arith, common_steps, length-replicate)
+  stride_is = grind (arith, common_steps)
 
   pub has_entries : HasEntries (length nfa.start_patterns) l
-  has_entries = grind (arith, common_steps, entries_are)
+  has_entries = grind (arith, common_steps)
 
   starts_are : length l.starts ≡ sizes.start_entries b
-  starts_are = grind (arith, common_steps, entries_are)
+  starts_are = grind (arith, common_steps)
 
   -- ---- a build that is refused
 
@@ -136,21 +126,15 @@ module _ {w : Work} {nfa : Nfa} {settings : Settings} {byte_classes : Bool} {l :
       at : (kind : BuildErrorKind) → IsOver (record { build = b; is_key = s.is_key; state_of = s.state_of })
           (limits_in settings) l kind
           → IsRefused (TableRefused (limits_of settings byte_classes) b) kind
-      at (BuildErrorKind.NFA error) over = absurd over
-      at BuildErrorKind.Unsupported over = absurd over
       at BuildErrorKind.TooManyStates over = (
         supported,
         inl (subst (λ w. Exceeds b (λ states. last_id (length states) w) max_id) stride_is over),
       )
       at BuildErrorKind.TooManyMatchPatternIDs over = (supported, over)
-      at (BuildErrorKind.DFAExceededSizeLimit limit) over = (
-        supported,
-        over.0,
-        subst (λ w. Exceeds b (λ states. table_size (length states) w (sizes.start_entries b)) limit) stride_is
-            (subst (λ n. Exceeds b (λ states. table_size (length states) (stride l) n) limit) starts_are over.1),
-      )
+      at (BuildErrorKind.DFAExceededSizeLimit limit) over = grind (arith, common_steps)
       at (BuildErrorKind.DeterminizeExceededSizeLimit limit) over = (supported, over.0, over.1)
       at BuildErrorKind.Memory over = tt
+      at _ over = absurd over
 
   -- ---- a build that is done
 
@@ -198,9 +182,7 @@ module _ {w : Work} {nfa : Nfa} {settings : Settings} {byte_classes : Bool} {l :
     starts = later.over.count ∙ starts_are
 
     words : (length states + 2) * build_stride b byte_classes ≡ length m.words
-    words =
-        ap₂ (λ (n w : ℕ). n * w) (sym (rows_count built)) (sym width)
-        ∙ omega (arith, div-add-mod' (length m.words) (stride m), built.entering.serves.rows.whole)
+    words = grind (arith, common_steps, div-add-mod')
 
     keys : length states ≡ length met.keys
     keys = states_count built
@@ -214,33 +196,28 @@ module _ {w : Work} {nfa : Nfa} {settings : Settings} {byte_classes : Bool} {l :
       states = λ e.
           let w : ℕ = build_stride b byte_classes in
           let passed = (exceeds_exactly b (λ xs. last_id (length xs) w) max_id states (ids_grow w) all_reached).0 e in
-          absurd (omega (arith, passed.1, words, width, built.entering.serves.rows.few));
+          absurd (omega (arith, words, width));
       rows = λ _ e. absurd (cc e.0);
       patterns = λ e.
           let passed = (exceeds_exactly b label_total max_id states labels_grow all_reached).0 e in
-          absurd (omega (
-            arith,
-            passed.1,
-            built.entering.serves.working.patterns,
-            built.entering.serves.working.few_patterns,
-          ));
+          absurd (omega arith);
       table = λ limit is e.
           let w : ℕ = build_stride b byte_classes in
           let n : ℕ = sizes.start_entries b in
           let passed = (exceeds_exactly b (λ xs. table_size (length xs) w n) limit states (table_grows w n)
           all_reached).0 e in
-          let some : 0 < length met.keys = omega (arith, passed.0, keys) in
+          let some : 0 < length met.keys = omega (arith, keys) in
           let low = at_limit v.limits.table limit (4 * (length m.words + length m.starts + 1))
           (ap (λ (c : SizeLimits). c.table) limits_then ∙ is)
           (built.entering.serves.working.table some) in
-          absurd (omega (arith, passed.1, words, starts, low));
+          absurd (omega (arith, words, starts));
       construction = λ limit is e.
           let passed = (exceeds_exactly b determinizer_size limit states determinizer_grows all_reached).0 e in
-          let some : 0 < length met.keys = omega (arith, passed.0, keys) in
+          let some : 0 < length met.keys = omega (arith, keys) in
           let low = at_limit v.limits.construction limit met.size
           (ap (λ (c : SizeLimits). c.construction) limits_then ∙ is)
           (built.entering.serves.working.construction some) in
-          absurd (omega (arith, passed.1, built.entering.serves.working.size, low));
+          absurd (omega arith);
     }
       where
         at_limit : (o : Option ℕ) (limit size : ℕ) → o ≡ Some limit → IfSome o (λ most. size ≤ most) → size ≤ limit

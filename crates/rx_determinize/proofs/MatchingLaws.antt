@@ -1,20 +1,12 @@
 -- The patterns of match rows, key by key.
-use Rattle.std.proofs.lemmas.Grind.{common_steps}
-use Rattle.std.proofs.Common.{◌≡◌, ◌≢◌, ℕ, ◌+◌, ◌*◌, ◌<◌, ◌≤◌, Option, Some, None, List, [], ◌∷◌, ◌++◌, length, map}
-use Rattle.std.proofs.Common.{take, length-append, refl, ap, sym, ◌∙◌, subst, arith, ⊎_elim}
-use Rattle.std.proofs.lemmas.Bool.{cases_eq, cases_lt, ne_eqb}
-use Rattle.std.proofs.lemmas.List.{length_push, get_or_push, length-take-le, take_more}
+use Rattle.rx_spec.proofs.Prelude.{common_steps, ◌≡◌, ◌≢◌, ℕ, ◌+◌, ◌*◌, ◌<◌, ◌≤◌, Option, Some, None, List, [], ◌∷◌}
+use Rattle.rx_spec.proofs.Prelude.{◌++◌, length, map, take, length-append, refl, ap, sym, ◌∙◌, subst, arith, ⊎_elim}
+use Rattle.rx_spec.proofs.Prelude.{cases_eq, cases_lt, ne_eqb, length_push, get_or_push, length-take-le, take_more}
+use Rattle.rx_spec.proofs.Prelude.{pow_pos, get_or_from_slice_get, slice_get-get_or, slice_get_within, get, concat}
+use Rattle.rx_spec.proofs.Prelude.{keys_of, values_of, nat_cmp, All, Vec, slice_get, sum_by, vec_items, Global}
 use Rattle.std.proofs.lemmas.List.Folds.{concat-append}
 use Rattle.std.proofs.lemmas.List.Sums.{sum_by_push}
-use Rattle.std.proofs.lemmas.Nat.{pow_pos, row_fits}
-use Rattle.std.proofs.lemmas.Option.{get_or_from_slice_get, slice_get-get_or, slice_get_within}
-use Rattle.std.specs.BTreeMap.{Updates, get, insert_entry}
-use Rattle.std.specs.List.{concat}
-use Rattle.std.specs.Map.{keys_of, values_of}
-use Rattle.std.specs.Ordering.{nat_cmp}
-use Rattle.std.specs.Prelude.{All, Vec, slice_get, sum_by}
-use Rattle.std.specs.Vec.{vec_items}
-use Rattle.std.specs.declared.alloc.Global.{Global}
+use Rattle.std.specs.BTreeMap.{Updates, insert_entry}
 use Rattle.rx_dense.specs.Builder.{pattern_lists}
 use Rattle.rx_dense.specs.Layouts.{Layout, stride}
 use Rattle.rx_order.proofs.MarkedRows.{is_at_number, key_ids}
@@ -22,12 +14,11 @@ use Rattle.rx_order.proofs.InsertedLists.{inserted_last, lists_last}
 use Rattle.rx_order.specs.Ordering.{Matches}
 use Rattle.rx_stepper.specs.Keys.{label_of}
 use Rattle.rx_determinize.specs.Matching.{AreLabels, IsLabelAt, patterns_told}
-use Rattle.rx_determinize.proofs.CellLaws.{one_place}
 use Rattle.rx_determinize.proofs.WorkListLaws.{old_key, slice_get-append}
 
 -- the rows of two places are apart
 pub one_row : (l : Layout) (p q : ℕ) → (p + 2) * stride l ≡ (q + 2) * stride l → p ≡ q
-one_row l p q e = grind (arith, common_steps, pow_pos, one_place)
+one_row l p q e = grind (arith, common_steps, pow_pos)
 
 pub labels_none : (l : Layout) (matches : Matches) → matches.entries ≡ [] → AreLabels [] l matches
 labels_none l matches empty = grind (arith, common_steps)
@@ -40,7 +31,7 @@ last_or_before keys key other place there =
     let low = slice_get_within (keys ++ key ∷ []) place other there in (
       λ h. old_key keys (key ∷ []) place other there h,
       λ h.
-          let last : place ≡ length keys = omega (arith, low, length_push keys key) in
+          let last : place ≡ length keys = omega (arith, length_push keys key) in
           let here : slice_get (keys ++ key ∷ []) place ≡ Some key =
           slice_get-get_or (keys ++ key ∷ []) place key low ∙ ap Some (get_or_push keys key key place (sym last)) in
           (last, cc),
@@ -57,7 +48,7 @@ module _ {keys : List (List ℕ)} {l : Layout} {matches : Matches} (are : AreLab
 
   -- the ids of earlier rows are lower
   lower : (other : ℕ) (patterns : List ℕ) → IsLabelAt keys l other patterns → other < id
-  lower other patterns is = grind (arith, common_steps, slice_get_within, row_fits, pow_pos)
+  lower other patterns is = grind (arith, common_steps, slice_get_within, pow_pos)
 
   -- a key without a label
   pub labels_skip : label_of key ≡ [] → AreLabels (keys ++ key ∷ []) l matches
@@ -77,7 +68,7 @@ module _ {keys : List (List ℕ)} {l : Layout} {matches : Matches} (are : AreLab
         let more : sum_by (λ k. length (label_of k)) (keys ++ key ∷ [])
         ≡ sum_by (λ k. length (label_of k)) keys + length (label_of key) =
         sum_by_push (λ k. length (label_of k)) keys key in
-        omega (arith, are.count);
+        omega arith;
   }
     where
       none : (o : Option (Vec ℕ Global)) → get nat_cmp matches ((length keys + 2) * stride l) ≡ o
@@ -136,7 +127,6 @@ module _ {keys : List (List ℕ)} {l : Layout} {matches : Matches} (are : AreLab
           are.count,
           ap length joined,
           length-append (concat (pattern_lists matches)) (concat (patterns.items ∷ [])),
-          one,
           ap length label,
           sum_by_push (λ k. length (label_of k)) keys key,
         );
@@ -174,6 +164,6 @@ labels_at keys {l} {matches} {more} place key patterns row there label some row_
     let count : length (take place keys) ≡ place = length-take-le place keys (omega arith) in
     let same : row ≡ (length (take place keys) + 2) * stride l = row_is ∙ ap (λ n. (n + 2) * stride l) (sym count) in
     subst (λ (ks : List (List ℕ)). AreLabels ks l more) (sym (taken keys place key there))
-    (labels_more are key patterns label (omega (arith, some))
+    (labels_more are key patterns label (omega arith)
     (subst (λ n. Updates nat_cmp matches more n (Some patterns)) same updates)
     (entries ∙ ap (λ n. insert_entry nat_cmp matches.entries n patterns) same))

@@ -1,25 +1,19 @@
 -- The start entries of one mode after another.
-use Rattle.std.proofs.lemmas.Grind.{common_steps}
-use Rattle.std.proofs.Common.{◌≤◌, ◌≡◌, ℕ, ◌+◌, ◌*◌, true, false, true≢false, Option, length, ap, sym, ◌∙◌, subst}
-use Rattle.std.proofs.Common.{arith}
-use Rattle.std.specs.Bool.{then_some}
-use Rattle.std.specs.Prelude.{Contains, IfSome, is_some, slice_get}
-use Rattle.rx_spec.specs.Builds.{Node, IsReached, built_modes, is_dead_state, start_node}
-use Rattle.rx_spec.specs.Queries.{Anchored}
-use Rattle.rx_spec.specs.Starts.{has_anchored, has_unanchored}
-use Rattle.rx_spec.specs.States.{start_state}
+use Rattle.rx_spec.proofs.Prelude.{common_steps, ◌≤◌, ◌≡◌, ℕ, ◌+◌, ◌*◌, true, false, Option, length, ap, sym, ◌∙◌}
+use Rattle.rx_spec.proofs.Prelude.{subst, arith, then_some, Contains, IfSome, is_some, slice_get, Node, IsReached}
+use Rattle.rx_spec.proofs.Prelude.{built_modes, is_dead_state, start_node, Anchored, has_anchored, has_unanchored}
+use Rattle.rx_spec.proofs.Prelude.{start_state}
 use Rattle.rx_spec.specs.declared.Start.{Start}
 use Rattle.rx_dense.specs.Builder.{with_start}
 use Rattle.rx_dense.specs.Layouts.{Layout}
 use Rattle.rx_determinize.specs.Constructions.{Continues, Work, keys_in}
 use Rattle.rx_determinize.specs.Filling.{FindsRow, HasEntries, StartsAt}
-use Rattle.rx_determinize.proofs.ContinuesLaws.{same_keys}
 use Rattle.rx_determinize.proofs.StartLaws.{SetsStart, anchored_built, anchored_row, pattern_built, pattern_row}
-use Rattle.rx_determinize.proofs.StartLaws.{row_reached, unanchored_built, unanchored_row}
+use Rattle.rx_determinize.proofs.StartLaws.{row_reached}
 
 pub starts_later : {w v : Work} {l m : Layout} {mode : Anchored} {row : Option ℕ} → Continues w l v m
     → StartsAt w l mode row → StartsAt v m mode row
-starts_later {w} {v} {l} {m} {mode} {row} later at = grind (arith, common_steps, same_keys)
+starts_later {w} {v} {l} {m} {mode} {row} later at = grind (arith, common_steps)
 
 pub mode_reached : {w : Work} {l : Layout} {mode : Anchored} {row : Option ℕ} (start : Start) → StartsAt w l mode row
     → IfSome row (λ q. is_dead_state (start_state w.stepping.nfa q start) ≡ false
@@ -42,7 +36,7 @@ context_set {w} {v} {l} {m} {n} {mode} {row} {start} {id} at found is = record {
 
 pub starts_at_no : (w : Work) (l : Layout) {row : Option ℕ}
     → row ≡ then_some (has_unanchored l.start_kind) w.stepping.nfa.start_unanchored → StartsAt w l Anchored.No row
-starts_at_no w l is = grind (arith, common_steps, unanchored_row, unanchored_built)
+starts_at_no w l is = grind (arith, common_steps)
 
 pub starts_at_yes : (w : Work) (l : Layout) {row : Option ℕ}
     → row ≡ then_some (has_anchored l.start_kind) w.stepping.nfa.start_anchored → StartsAt w l Anchored.Yes row
@@ -66,11 +60,11 @@ starts_at_pattern w l j {row} e is =
 -- how many start entries there are
 pub entries_with : {l : Layout} {count : ℕ} → HasEntries count l → is_some l.pattern_starts ≡ true
     → length l.starts ≡ 12 + 6 * count
-entries_with {l} {count} has e = grind (arith, common_steps, true≢false)
+entries_with {l} {count} has e = grind (arith, common_steps)
 
 pub entries_without : {l : Layout} {count : ℕ} → HasEntries count l → is_some l.pattern_starts ≡ false
     → length l.starts ≡ 12
-entries_without {l} has e = grind (arith, common_steps, true≢false)
+entries_without {l} has e = grind (arith, common_steps)
 
 pub entries_twelve : {l : Layout} {count : ℕ} → HasEntries count l → 12 ≤ length l.starts
 entries_twelve {l} has = grind (arith, common_steps)

@@ -1,15 +1,11 @@
 -- Rows that begin as those of models.
-use Rattle.std.proofs.Common.{◌≡◌, ℕ, ◌+◌, ◌*◌, ◌<◌, ◌≤◌, true, false, Option, None, Some, List, [], length, replicate}
-use Rattle.std.proofs.Common.{set, refl, ap, sym, ◌∙◌, subst, arith, inl, inr, ⊎_elim}
-use Rattle.std.proofs.lemmas.Bool.{cases_eq, cases_lt}
-use Rattle.std.proofs.lemmas.Grind.{get_or-set_at}
-use Rattle.std.proofs.lemmas.List.{get_or-replicate, get_or-set_other, get_or_past, length-replicate, length-set}
-use Rattle.std.proofs.lemmas.List.Elements.{All-get_or}
-use Rattle.std.proofs.lemmas.Option.{get_or_from_slice_get, slice_get_within}
-use Rattle.std.specs.Prelude.{MatchOption, slice_get, slice_index_or, unwrap_or}
-use Rattle.rx_spec.specs.Builds.{IsReached, Node, Running, is_dead_state, next_node}
-use Rattle.rx_spec.specs.Bytes.{contains}
-use Rattle.rx_spec.specs.States.{State, step}
+use Rattle.rx_spec.proofs.Prelude.{◌≡◌, ℕ, ◌+◌, ◌*◌, ◌<◌, ◌≤◌, true, false, Option, None, Some, List, [], length}
+use Rattle.rx_spec.proofs.Prelude.{replicate, set, refl, ap, sym, ◌∙◌, subst, arith, inl, inr, ⊎_elim, cases_eq}
+use Rattle.rx_spec.proofs.Prelude.{cases_lt, get_or-set_at, get_or-replicate, get_or-set_other, get_or_past, All-get_or}
+use Rattle.rx_spec.proofs.Prelude.{get_or_from_slice_get, slice_get_within, same_Some, MatchOption, slice_get}
+use Rattle.rx_spec.proofs.Prelude.{slice_index_or, IsReached, Node, Running, is_dead_state, next_node, contains, State}
+use Rattle.rx_spec.proofs.Prelude.{step}
+use Rattle.std.proofs.lemmas.List.{length-set}
 use Rattle.rx_base.specs.ByteClasses.{alphabet_len}
 use Rattle.rx_dense.specs.Builder.{IsCopied}
 use Rattle.rx_dense.specs.Layouts.{Layout, AreRows, machine_of, stride}
@@ -27,9 +23,6 @@ use Rattle.rx_determinize.proofs.NextLaws.{goes_on, in_true, leads_on}
 use Rattle.rx_determinize.proofs.SteppingLaws.{current_reached}
 use Rattle.rx_determinize.proofs.WorkListLaws.{slice_get-append}
 
-some_is : {a b : ℕ} → Some a ≡ Some b → a ≡ b
-some_is {a} e = ap (λ o. unwrap_or o a) e
-
 not_none : {n : ℕ} {o : Option ℕ} → o ≡ None → o ≡ Some n → ⊥
 not_none none some = let clash = sym none ∙ some in cc
 
@@ -42,7 +35,7 @@ models_none k met l done models none context place kept =
     (⊎_elim (λ (h : context < 32). get_or-replicate 32 context None None h)
     (λ (h : 32 ≤ context).
     get_or_past (replicate 32 None) context None
-    (omega (arith, h, length-replicate 32 (let o : Option ℕ = None in o))))
+    (omega arith))
     (cases_lt context 32))
     (ap (λ (ms : List (Option ℕ)). slice_index_or ms context None) (sym none) ∙ kept))
 
@@ -58,7 +51,7 @@ models_later {w} {v} {l} {m} models done later are =
     → contains n.quit (unit_of n.classes column) ≡ false
     → step k.build.nfa k.build.kind (k.state_of model.key) (unit_of n.classes column)
     ≡ lone_state k.build.nfa k.build.kind n.classes context column in (
-      omega (arith, was.0),
+      omega arith,
       record {
         place = model.place;
         row_is = model.row_is;
@@ -82,11 +75,11 @@ model_added {k} {met} {l} models (Some context) done row below is are = λ other
     absurd
     (not_none
     (get_or_past (set models context (Some row)) other None
-    (omega (arith, h, e, length-set models context (Some row)))) kept))
+    (omega (arith, length-set models context (Some row)))) kept))
     (cases_lt context (length models)) in
     ⊎_elim
     (λ (e : other ≡ context).
-    let one : row ≡ at = some_is (sym (there e) ∙ kept) in
+    let one : row ≡ at = same_Some row at (sym (there e) ∙ kept) in
     (omega (arith, below, one), subst (λ r. IsModel k met l other r) one (is other (ap Some (sym e)))))
     (λ (ne : other ≡ context → ⊥).
     are other at (sym (get_or-set_other models context other (Some row) None ne) ∙ kept))
@@ -115,7 +108,7 @@ model_of_alone {w} {l} place at serves alone context led_in =
 pub model_before : {k : Keying} {met : Met} {l : Layout} (models : List (Option ℕ)) (done : ℕ) {row : ℕ}
     (led_in : Option ℕ)
     → AreModels k met l models done → model_row models led_in ≡ Some row → row < done + 2
-model_before models done None are is = omega (arith, some_is is)
+model_before models done None are is = omega (arith, same_Some _ _ is)
 model_before models done {row} (Some context) are is = (are context row is).0
 
 module _ {w : Work} {l : Layout} {set done : ℕ} (models : List (Option ℕ)) (entering : IsEntering w l set done)
@@ -163,7 +156,7 @@ module _ {w : Work} {l : Layout} {set done : ℕ} (models : List (Option ℕ)) (
           let states = states_of (keys_in w l) w.met in
           let state = stepped w.stepping column in
           let ends : (machine_of l).next row unit ≡ 0 =
-          ap (λ r. (machine_of l).next r unit) (sym (some_is zero))
+          ap (λ r. (machine_of l).next r unit) (sym (same_Some _ _ zero))
           ∙ entering.written.dead_stays unit (unit_in l entering.serves.rows.classes column low) in
           subst (IsRowOf states (Running state)) (sym ends)
           (in_true (slice_get (nodes states) 0 ≡ Some (Running state)) (is_dead_state state) dead refl)
@@ -178,7 +171,7 @@ module _ {w : Work} {l : Layout} {set done : ℕ} (models : List (Option ℕ)) (
           ∙ sym lone.1 in
           subst (λ r. IsRowOf states (Running (stepped s column)) ((machine_of l).next r unit)) (sym model.row_is)
           (subst (λ (t : State). IsRowOf states (Running t) ((machine_of l).next (model.place + 2) unit)) same
-          (state_row model.place model.key model.here (omega (arith, (are context row some).0, model.row_is)) column
+          (state_row model.place model.key model.here (omega (arith, (are context row some).0)) column
           low stays))
 
 -- the row of the state under way was copied from that of its model

@@ -1,13 +1,9 @@
 -- The state to which a column leads.
-use Rattle.std.proofs.lemmas.Grind.{common_steps}
-use Rattle.std.proofs.Common.{◌≡◌, ℕ, suc, ◌+◌, ◌*◌, ◌/◌, ◌<◌, true, false, List, refl, ap, sym, ◌∙◌, subst, arith}
-use Rattle.std.proofs.lemmas.Nat.{div-mul-add, pow_pos}
-use Rattle.std.proofs.lemmas.List.{append-nil}
-use Rattle.std.specs.Prelude.{Bool, Result, Ok, Err, IfErr, IfOk, OnOk, MatchBool, []}
+use Rattle.rx_spec.proofs.Prelude.{common_steps, ◌≡◌, ℕ, suc, ◌+◌, ◌*◌, ◌/◌, ◌<◌, true, false, List, refl, ap, sym, ◌∙◌}
+use Rattle.rx_spec.proofs.Prelude.{subst, arith, div-mul-add, pow_pos, Bool, Result, Ok, Err, IfErr, IfOk, OnOk}
+use Rattle.rx_spec.proofs.Prelude.{MatchBool, [], contains, Build, Node, Running, IsReached, is_dead_state, next_node}
+use Rattle.rx_spec.proofs.Prelude.{State, step}
 use Rattle.rx_determinize.proofs.FillingLaws.{adds_over, grows_by}
-use Rattle.rx_spec.specs.Bytes.{contains}
-use Rattle.rx_spec.specs.Builds.{Build, Node, Running, IsReached, is_dead_state, next_node}
-use Rattle.rx_spec.specs.States.{State, step}
 use Rattle.rx_dense.proofs.Rows.{no_more}
 use Rattle.rx_dense.specs.Layouts.{Layout, AreRows, IsRowId, stride}
 use Rattle.rx_base.specs.ByteClasses.{alphabet_len}
@@ -18,11 +14,10 @@ use Rattle.rx_determinize.specs.WorkLists.{IsRowOf}
 use Rattle.rx_determinize.specs.Working.{IsOver, IsWorking, Keying, Met, SizeLimits, keying, states_of}
 use Rattle.rx_determinize.specs.Adding.{Adds, CanAdd}
 use Rattle.rx_determinize.specs.Constructions.{IsWrittenOver, Serves, Work, keys_in}
-use Rattle.rx_determinize.specs.Filling.{FindsRow, Grows, IsStepped}
+use Rattle.rx_determinize.specs.Filling.{FindsRow, IsStepped}
 use Rattle.rx_determinize.proofs.ContinuesLaws.{continues_grown, serves_later}
 use Rattle.rx_determinize.proofs.WorkListLaws.{interned_row, reached_step}
 use Rattle.rx_determinize.proofs.ColumnLaws.{unit_in}
-use Rattle.rx_determinize.proofs.StartLaws.{zero_row}
 
 -- The key of a state that is reached may be added.
 pub key_may : {w : Work} {l : Layout} {key : List ℕ} {state : State} → Serves w l → IsKeyOf w.stepping key state
@@ -55,7 +50,7 @@ in_true Q false e p = absurd cc
 -- a dead state has row 0
 pub dead_is_row : (states : List State) (s : State) (l : Layout) → is_dead_state s ≡ true
     → IsRowOf states (Running s) (0 / stride l)
-dead_is_row states s l e = grind (arith, common_steps, in_true, zero_row)
+dead_is_row states s l e = grind (arith, common_steps)
 
 pub dead_id : {l : Layout} → AreRows l → IsRowId l 0
 dead_id {l} rows = let two = rows.two in zero_id l (omega arith)
@@ -65,10 +60,6 @@ pub stepped_alike : {w : Work} {l : Layout} (column other : ℕ) {id : ℕ}
     → stepped w.stepping column ≡ stepped w.stepping other → IsStepped w l other id
     → IsRowOf (states_of (keys_in w l) w.met) (Running (stepped w.stepping column)) (id / stride l)
 stepped_alike {w} {l} column other {id} same led = grind (arith, common_steps)
-
--- nothing is entered
-pub grows_none : (met : Met) (l : Layout) → Grows met l met l
-grows_none met l = grind (arith, common_steps, append-nil)
 
 -- what stays so, if the table is as it was but for its words
 pub working_over : (s : Stepping) {limits : SizeLimits} {met : Met} (l m : Layout) → IsWrittenOver l m
@@ -125,7 +116,7 @@ row_by s {l} {m} {met} {after} {key} {id} is adds =
 -- nothing was entered for it
 pub found_before : {w v : Work} {l : Layout} {node : Node} {id : ℕ} → v ≡ w → Serves w l
     → IsRowOf (states_of (keys_in w l) w.met) node (id / stride l) → IsRowId l id → FindsRow w l node v l id
-found_before {w} {v} {l} {node} {id} is serves is_row is_id = grind (arith, common_steps, grows_none)
+found_before {w} {v} {l} {node} {id} is serves is_row is_id = grind (arith, common_steps)
 
 -- a key was added
 pub found_added : {w v : Work} {l : Layout} {E : Type 0} (r : Result ℕ E) {key : List ℕ} {state : State} (m : Layout)

@@ -1,12 +1,10 @@
 -- The ids of a table's rows.
-use Rattle.std.proofs.lemmas.Grind.{common_steps}
-use Rattle.std.proofs.Common.{◌≡◌, ℕ, ◌*◌, ◌/◌, ◌<◌, length, ap, sym, ◌∙◌, arith}
-use Rattle.rx_spec.specs.Ids.{row_of}
+use Rattle.rx_spec.proofs.Prelude.{common_steps, ◌≡◌, ℕ, ◌*◌, ◌/◌, ◌<◌, length, ap, sym, ◌∙◌, arith, row_of}
+use Rattle.rx_spec.proofs.Prelude.{mod-mul-add, pow_pos}
 use Rattle.rx_search.specs.Starts.{IsId}
 use Rattle.lemmas_tables.proofs.Ids.{row_of-id_of, id_of-dense, dense_are_ids}
 use Rattle.rx_dense.proofs.Rows.{multiple_below, no_more}
 use Rattle.rx_dense.specs.Layouts.{Layout, AreRows, IsRowId, ids_of, row_count, stride}
-use Rattle.std.proofs.lemmas.Nat.{div-mul-add, mod-mul-add, pow_pos}
 
 -- the row of the id of a row
 pub row_of-row : (l : Layout) (row : ℕ) → row < row_count l → row_of (ids_of l) (row * stride l) ≡ row
@@ -27,4 +25,4 @@ row_id l row rows within = record {
 
 -- the row of its id, by division
 pub row_of_id : (l : Layout) (row : ℕ) → row * stride l / stride l ≡ row
-row_of_id l row = grind (arith, common_steps, no_more, div-mul-add, pow_pos)
+row_of_id l row = grind (arith, common_steps, pow_pos)

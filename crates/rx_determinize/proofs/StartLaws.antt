@@ -1,37 +1,27 @@
 -- Start entries that are set, and the states in which searches start.
-use Rattle.std.proofs.lemmas.Grind.{common_steps}
-use Rattle.std.proofs.Common.{◌≡◌, ◌≢◌, ℕ, zero, suc, ◌+◌, ◌*◌, ◌/◌, ◌%◌, ◌<◌, Bool, true, false, Option, Some, None}
-use Rattle.std.proofs.Common.{[], ◌∷◌, ◌++◌, length, get_or, replicate, slice_index, refl, ap, sym, ◌∙◌, subst, arith}
-use Rattle.std.proofs.Common.{⊎_elim}
-use Rattle.std.proofs.lemmas.Bool.{cases_eq, cases_lt, lt-ltb}
-use Rattle.std.proofs.lemmas.List.{get_or-set_other, get_or-set_same, get_or-replicate, get_or_past, length-replicate}
+use Rattle.rx_spec.proofs.Prelude.{common_steps, ◌≡◌, ◌≢◌, ℕ, zero, suc, ◌+◌, ◌*◌, ◌/◌, ◌%◌, ◌<◌, Bool, true, false}
+use Rattle.rx_spec.proofs.Prelude.{Option, Some, None, [], ◌∷◌, ◌++◌, length, get_or, refl, ap, sym, ◌∙◌, subst, arith}
+use Rattle.rx_spec.proofs.Prelude.{⊎_elim, cases_eq, Contains-append_right, get_or-map-range_with_len}
+use Rattle.rx_spec.proofs.Prelude.{length-map-range_with_len, pow_pos, slice_get_within, Contains, IfSome}
+use Rattle.rx_spec.proofs.Prelude.{if◌then◌else◌, nat_lt, slice_get, Build, IsReached, built_entry, built_modes}
+use Rattle.rx_spec.proofs.Prelude.{is_dead_state, dead, next_node, start_node, Nfa, then_some, Anchored, has_anchored}
+use Rattle.rx_spec.proofs.Prelude.{has_unanchored, start_state}
 use Rattle.std.proofs.lemmas.List.{length-set}
-use Rattle.std.proofs.lemmas.List.Elements.{Contains-append_left, Contains-append_right}
-use Rattle.std.proofs.lemmas.List.FromFn.{get_or-map-range_with_len, length-map-range_with_len}
-use Rattle.std.proofs.lemmas.Nat.{div-add-mod', div-mul-add, pow_pos}
-use Rattle.std.proofs.lemmas.Option.{slice_get_within}
-use Rattle.std.specs.Prelude.{Contains, IfSome, if◌then◌else◌, nat_lt, slice_get}
-use Rattle.rx_spec.specs.Builds.{Build, IsReached, built_entry, built_modes, is_dead_state, pattern_modes, dead}
-use Rattle.rx_spec.specs.Builds.{next_node, start_node}
-use Rattle.rx_spec.specs.Nfas.{Nfa}
+use Rattle.rx_spec.specs.Builds.{pattern_modes}
 use Rattle.rx_spec.specs.Contexts.{all_starts as all_contexts}
-use Rattle.std.specs.Bool.{then_some}
-use Rattle.rx_spec.specs.Queries.{Anchored}
-use Rattle.rx_spec.specs.Starts.{has_anchored, has_unanchored}
-use Rattle.rx_spec.specs.States.{start_state}
 use Rattle.rx_spec.specs.declared.Start.{Start}
-use Rattle.lemmas_walks.proofs.Firsts.{Contains-here}
 use Rattle.lemmas_walks.proofs.Words.{IsWord-nil, run-nil}
 use Rattle.rx_dense.specs.Builder.{Beginning, initial, with_start}
 use Rattle.rx_dense.specs.Layouts.{Layout, context_number, mode_place, stride}
-use Rattle.rx_dense.proofs.Shaped.{rows_kept}
+use Rattle.rx_dense.proofs.Shaped.{rows_kept, zero_at}
 use Rattle.rx_determinize.specs.Constructions.{Continues, IsStartedOver, Work, keys_in}
 use Rattle.rx_determinize.specs.Filling.{AreWritten, FindsRow, IsEntering}
 use Rattle.rx_determinize.specs.WorkLists.{IsRowOf}
 use Rattle.rx_determinize.specs.Working.{none_met, IsWorking, Keying, Met, SizeLimits, entry_in, keying, states_of}
 use Rattle.rx_determinize.proofs.CellLaws.{one_place}
-use Rattle.rx_determinize.proofs.ContinuesLaws.{continues_found, continues_over, continues_twice, serves_later}
+use Rattle.rx_determinize.proofs.ContinuesLaws.{continues_over, serves_later}
 use Rattle.rx_determinize.proofs.FillingLaws.{written_kept}
+use Rattle.lemmas_walks.proofs.HalfSearches.{has_yes}
 
 -- ---- the place of a start entry
 
@@ -45,17 +35,10 @@ mode_at zero = Anchored.No
 mode_at (suc zero) = Anchored.Yes
 mode_at (suc (suc k)) = Anchored.Pattern k
 
-mode_of_group : (mode : Anchored) → mode_at (group mode) ≡ mode
-unfolding group mode_at
-mode_of_group Anchored.No = refl
-mode_of_group Anchored.Yes = refl
-mode_of_group (Anchored.Pattern k) = refl
-
 place_of_group : (mode : Anchored) → mode_place mode ≡ group mode * 6
 unfolding group
-place_of_group Anchored.No = refl
-place_of_group Anchored.Yes = refl
 place_of_group (Anchored.Pattern k) = omega arith
+place_of_group _ = refl
 
 start_at : ℕ → Start
 start_at zero = Start.NonWordByte
@@ -65,22 +48,9 @@ start_at (suc (suc (suc zero))) = Start.LineLF
 start_at (suc (suc (suc (suc zero)))) = Start.LineCR
 start_at (suc (suc (suc (suc (suc n))))) = Start.CustomLineTerminator
 
-start_of_number : (start : Start) → start_at (context_number start) ≡ start
-unfolding start_at
-start_of_number Start.NonWordByte = refl
-start_of_number Start.WordByte = refl
-start_of_number Start.Text = refl
-start_of_number Start.LineLF = refl
-start_of_number Start.LineCR = refl
-start_of_number Start.CustomLineTerminator = refl
-
 pub number_low : (start : Start) → context_number start < 6
 number_low Start.NonWordByte = omega arith
-number_low Start.WordByte = omega arith
-number_low Start.Text = omega arith
-number_low Start.LineLF = omega arith
-number_low Start.LineCR = omega arith
-number_low Start.CustomLineTerminator = omega arith
+number_low _ = omega arith
 
 abbrev pub place_of : Anchored → Start → ℕ
 place_of mode start = mode_place mode + context_number start
@@ -89,18 +59,7 @@ place_of mode start = mode_place mode + context_number start
 one_start : (mode other : Anchored) (start context : Start) → place_of mode start ≡ place_of other context
     → (mode ≡ other) × (start ≡ context)
 one_start mode other start context e =
-    grind (
-      arith,
-      common_steps,
-      group,
-      place_of_group,
-      one_place,
-      number_low,
-      mode_of_group,
-      mode_at,
-      start_of_number,
-      start_at,
-    )
+    grind (arith, common_steps, group, place_of_group, one_place, number_low)
 
 group_of_mode : (n : ℕ) → group (mode_at n) ≡ n
 unfolding group mode_at
@@ -125,13 +84,7 @@ start_of_place place =
     let low : place % 6 < 6 = omega arith in (
       mode,
       start,
-      omega (
-        arith,
-        place_of_group mode,
-        group_of_mode (place / 6),
-        number_of_start (place % 6) low,
-        div-add-mod' place 6,
-      ),
+      omega (arith, place_of_group mode, group_of_mode (place / 6), number_of_start (place % 6) low),
     )
 
 -- ---- an entry that is set
@@ -146,12 +99,9 @@ module _ (l : Layout) (mode : Anchored) (start : Start) (id : ℕ) where
   abbrev chosen : Anchored → ℕ → ℕ → ℕ
   chosen other n x = (if nat_lt (mode_place other) n then x else 0) / stride l
 
-  entry_set : place_of mode start < length l.starts → entry_in set_at mode start ≡ id / stride l
-  entry_set low = grind (arith, common_steps, count_kept, lt-ltb, get_or-set_same)
-
   entry_kept : (other : Anchored) (context : Start) → place_of other context ≢ place_of mode start
       → entry_in set_at other context ≡ entry_in l other context
-  entry_kept other context apart = grind (arith, common_steps, count_kept, get_or-set_other)
+  entry_kept other context apart = grind (arith, common_steps)
 
 -- a start entry leads to its row
 pub record IsStart (k : Keying) (met : Met) (l : Layout) (mode : Anchored) (start : Start) (id : ℕ) : Type 0 where
@@ -179,17 +129,11 @@ module _ {k : Keying} {met : Met} {l : Layout} {mode : Anchored} {start : Start}
       here : (other : Anchored) (context : Start) → (other ≡ mode) × (context ≡ start)
           → IsRowOf (states_of k met) (built_entry k.build other context)
           (entry_in (with_start l mode start id) other context)
-      here other context same =
-          subst (λ (m : Anchored). IsRowOf (states_of k met) (built_entry k.build m context)
-          (entry_in (with_start l mode start id) m context)) (sym same.0)
-          (subst (λ (c : Start). IsRowOf (states_of k met) (built_entry k.build mode c)
-          (entry_in (with_start l mode start id) mode c)) (sym same.1)
-          (subst (IsRowOf (states_of k met) (built_entry k.build mode start))
-          (sym (entry_set l mode start id leads.place_in)) leads.is_row))
+      here other context same = grind (arith, common_steps)
 
 working_started : {k : Keying} {limits : SizeLimits} {met : Met} (l : Layout) (mode : Anchored) (start : Start)
     (id : ℕ) → IsWorking k limits met l → IsWorking k limits met (with_start l mode start id)
-working_started {limits = limits} l mode start id w = grind (arith, common_steps, count_kept)
+working_started {limits = limits} l mode start id w = grind (arith, common_steps)
 
 started_with : (l : Layout) (mode : Anchored) (start : Start) (id : ℕ) → IsStartedOver l (with_start l mode start id)
 started_with l mode start id = record { rest = refl; count = count_kept l mode start id }
@@ -207,19 +151,6 @@ entering_started {w} {l} {mode} {start} {id} leads old = record {
 }
 
 -- ---- the modes of a build
-
-pub has_no : (b : Build) → has_unanchored b.start_kind ≡ true → Contains (built_modes b) Anchored.No
-has_no b e = grind (arith, common_steps)
-
-pub has_yes : (b : Build) → has_anchored b.start_kind ≡ true → Contains (built_modes b) Anchored.Yes
-has_yes b e =
-    let front = (if has_unanchored b.start_kind then Anchored.No ∷ [] else []) in
-    let middle = (if has_anchored b.start_kind then Anchored.Yes ∷ [] else []) in
-    let last = (if b.pattern_starts then pattern_modes (length b.nfa.start_patterns) else []) in
-    Contains-append_left (front ++ middle) last Anchored.Yes
-    (Contains-append_right front middle Anchored.Yes
-    (subst (λ (c : Bool). Contains (if c then Anchored.Yes ∷ [] else []) Anchored.Yes) (sym e)
-    (Contains-here Anchored.Yes [])))
 
 pub has_pattern : (b : Build) (k : ℕ) → b.pattern_starts ≡ true → k < length b.nfa.start_patterns
     → Contains (built_modes b) (Anchored.Pattern k)
@@ -254,19 +185,16 @@ start_reached b mode start row built is alive = record {
 
 -- ---- a table that is begun
 
-zero_word : (n k : ℕ) → slice_index (replicate n 0) k ≡ 0
-zero_word n k = grind (arith, common_steps, get_or-replicate, get_or_past, replicate, length-replicate, cases_lt)
-
 pub zero_row : (l : Layout) → 0 / stride l ≡ 0
-zero_row l = grind (arith, common_steps, div-mul-add, pow_pos)
+zero_row l = grind (arith, common_steps)
 
 -- it has the dead row and the quit row, which lead to dead
 pub working_begun : (k : Keying) (limits : SizeLimits) (b : Beginning) (l : Layout) → l ≡ initial b
     → IsWorking k limits none_met l
-working_begun k limits b l is = grind (arith, common_steps, div-mul-add, pow_pos, length-replicate)
+working_begun k limits b l is = grind (arith, common_steps, pow_pos)
 
 pub written_begun : (k : Keying) (b : Beginning) (l : Layout) → l ≡ initial b → AreWritten k none_met l 0 0
-written_begun k b l is = grind (arith, common_steps, zero_word, zero_row)
+written_begun k b l is = grind (arith, common_steps, zero_at, zero_row)
 
 -- ---- a start row that was found
 
@@ -311,7 +239,7 @@ module _ {w v : Work} {l n : Layout} {mode : Anchored} {start : Start} (sets : S
       (set_after mode start found entering low))
 
   pub start_continues : Continues w l v n
-  start_continues = grind (arith, common_steps, continues_over, started_with, continues_twice, continues_found)
+  start_continues = grind (arith, common_steps)
 
 -- the state in which a search starts is reached
 pub row_reached : (b : Build) (mode : Anchored) (start : Start) (row : Option ℕ)
@@ -341,18 +269,9 @@ where_some : (c : Bool) (row : ℕ) (P : Type 0) → (c ≡ true → P) → IfSo
 where_some true row P f = f refl
 where_some false row P f = tt
 
-pub unanchored_row : (b : Build) (start : Start) → built_entry b Anchored.No start
-    ≡ start_node b.nfa (then_some (has_unanchored b.start_kind) b.nfa.start_unanchored) start
-unanchored_row b start = no_row (has_unanchored b.start_kind) b.nfa b.nfa.start_unanchored start
-
 pub anchored_row : (b : Build) (start : Start) → built_entry b Anchored.Yes start
     ≡ start_node b.nfa (then_some (has_anchored b.start_kind) b.nfa.start_anchored) start
 anchored_row b start = no_row (has_anchored b.start_kind) b.nfa b.nfa.start_anchored start
-
-pub unanchored_built : (b : Build)
-    → IfSome (then_some (has_unanchored b.start_kind) b.nfa.start_unanchored) (λ _. Contains (built_modes b)
-    Anchored.No)
-unanchored_built b = where_some (has_unanchored b.start_kind) b.nfa.start_unanchored _ (has_no b)
 
 pub anchored_built : (b : Build)
     → IfSome (then_some (has_anchored b.start_kind) b.nfa.start_anchored) (λ _. Contains (built_modes b) Anchored.Yes)

@@ -1,14 +1,8 @@
 -- A state that is stepped column by column: what is kept where states are entered, and where a cell is set.
-use Rattle.std.proofs.lemmas.Grind.{common_steps}
-use Rattle.std.proofs.Common.{◌≡◌, ℕ, ◌+◌, ◌*◌, ◌/◌, ◌<◌, ◌≤◌, true, false, Option, Some, None, List, [], length, refl}
-use Rattle.std.proofs.Common.{ap, sym, ◌∙◌, subst, arith, inl, inr, ◌⊎◌, ⊎_elim}
-use Rattle.std.proofs.lemmas.Bool.{cases_lt}
-use Rattle.std.proofs.lemmas.List.{length-set}
-use Rattle.std.proofs.lemmas.List.Elements.{All-get_or}
-use Rattle.std.proofs.lemmas.Option.{get_or_from_slice_get, slice_get_within}
-use Rattle.std.specs.Prelude.{IfSome, slice_get}
-use Rattle.rx_spec.specs.Builds.{Node, Quit, Running, IsReached, next_node}
-use Rattle.rx_spec.specs.Bytes.{contains}
+use Rattle.rx_spec.proofs.Prelude.{common_steps, ◌≡◌, ℕ, ◌+◌, ◌*◌, ◌/◌, ◌<◌, ◌≤◌, true, false, Option, Some, None, List}
+use Rattle.rx_spec.proofs.Prelude.{[], length, refl, ap, sym, ◌∙◌, subst, arith, inl, inr, ◌⊎◌, ⊎_elim, cases_lt}
+use Rattle.rx_spec.proofs.Prelude.{All-get_or, get_or_from_slice_get, slice_get_within, IfSome, slice_get, Node, Quit}
+use Rattle.rx_spec.proofs.Prelude.{Running, IsReached, next_node, contains}
 use Rattle.rx_dense.specs.Builder.{with_next}
 use Rattle.rx_dense.specs.Layouts.{Layout, IsRowId, column, row_count, stride}
 use Rattle.rx_base.specs.ByteClasses.{alphabet_len}
@@ -31,7 +25,7 @@ use Rattle.rx_determinize.proofs.FillingLaws.{written_kept}
 
 ready_next : (s : Stepping) (l m : Layout) (at : Progress) → IsWrittenOver l m → (c : ℕ)
     → IsReady s m (next_column at) c → (c ≡ at.column) ⊎ IsReady s l at c
-ready_next s l m at over c (inl passed) = grind (arith, common_steps, cases_lt)
+ready_next s l m at over c (inl passed) = grind (arith, common_steps)
 ready_next s l m at over c (inr alone) =
     let stays = subst (λ (n : Layout). contains n.quit (unit_of n.classes c) ≡ false) over alone.1 in
     inr (inr (alone.0, stays, alone.2))
@@ -78,19 +72,7 @@ module _ {w : Work} {l : Layout} {at : Progress} {last : Last} (stepping : IsSte
         }
 
     stepped_kept : (c n : ℕ) → IsStepped w l c n → IsStepped w m c n
-    stepped_kept c n was =
-        let words = length-set l.words ((at.place + 2) * stride l + column l (unit_of l.classes at.column)) id in
-        record {
-          column_in =
-              subst (λ (cs : List ℕ). c < alphabet_len cs) (sym (ap (λ (k : Layout). k.classes) led.is)) was.column_in;
-          is_row =
-              subst (λ (k : Layout). IsRowOf (states_of (keys_in w k) w.met) (Running (stepped w.stepping c))
-              (n / stride k)) (sym led.is) was.is_row;
-          is_id = subst (λ (k : Layout). IsRowId k n) (sym led.is) (record {
-            whole = was.is_id.whole;
-            below = subst (λ k. n + stride l ≤ k) (sym words) was.is_id.below;
-          });
-        }
+    stepped_kept c n was = grind (arith, common_steps)
 
     -- the column is written
     pub written : (other : Last) → IfSome other.column (λ c. IsStepped w l c other.id)
@@ -229,11 +211,8 @@ module _ {w : Work} {l : Layout} {at : Progress} {last : Last} (stepping : IsSte
 -- the same for what is carried by then
 module _ {w v : Work} {l : Layout} {at : Progress} {last : Last} (stepping : IsStepping w l at last) {m : Layout}
     {id : ℕ} (found : FindsRow w l (Running (stepped w.stepping at.column)) v m id) where
-  found_with : FindsRow w l (Running (stepped w.stepping at.column)) (record w { met = v.met }) m id
+  pub found_with : FindsRow w l (Running (stepped w.stepping at.column)) (record w { met = v.met }) m id
   found_with = grind (arith, common_steps)
-
-  pub row_there : at.place + 2 < row_count m
-  row_there = found_row stepping found_with
 
   pub stepped_on : (n : Layout) → at.column < alphabet_len l.classes
       → contains l.quit (unit_of l.classes at.column) ≡ false

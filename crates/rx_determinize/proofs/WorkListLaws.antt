@@ -1,24 +1,16 @@
 -- The loop that enters all states that are reached: what a step keeps, and what holds where it ends.
-use Rattle.std.proofs.lemmas.Grind.{common_steps}
-use Rattle.std.proofs.Common.{◌≡◌, ◌≢◌, ℕ, zero, suc, ◌+◌, ◌<◌, ◌≤◌, Bool, true, false, Some, List, [], ◌∷◌, ◌++◌}
-use Rattle.std.proofs.Common.{length, map, get_or, refl, ap, sym, ◌∙◌, subst, arith, ⊎_elim}
-use Rattle.std.proofs.lemmas.List.{length-map, map-append}
-use Rattle.std.proofs.lemmas.List.Elements.{All-map, All-append, All-cons, All-nil}
-use Rattle.std.proofs.lemmas.Bool.{cases_lt, cases_Bool}
-use Rattle.std.proofs.lemmas.Bool.Decides.{when_false, when_true}
-use Rattle.std.proofs.lemmas.Option.{slice_get-map, slice_get-get_or, slice_get_within, get_or_from_slice_get}
+use Rattle.rx_spec.proofs.Prelude.{common_steps, ◌≡◌, ◌≢◌, ℕ, zero, suc, ◌+◌, ◌<◌, ◌≤◌, Bool, true, false, Some, List}
+use Rattle.rx_spec.proofs.Prelude.{[], ◌∷◌, ◌++◌, length, map, get_or, refl, ap, sym, ◌∙◌, subst, arith, ⊎_elim}
+use Rattle.rx_spec.proofs.Prelude.{length-map, map-append, All-map, All-append, All-cons, All-nil, cases_lt, cases_Bool}
+use Rattle.rx_spec.proofs.Prelude.{slice_get-map, slice_get-get_or, slice_get_within, get_or_from_slice_get, All}
+use Rattle.rx_spec.proofs.Prelude.{AllPairs, Contains, slice_get, if◌then◌else◌, MatchBool, Anchored, run, IsWord}
+use Rattle.rx_spec.proofs.Prelude.{State, Build, Node, Quit, Running, is_dead_state, next_node, built_entry, IsReached}
+use Rattle.rx_spec.proofs.Prelude.{AreReached, Exceeds}
 use Rattle.std.specs.Option.{option_map}
-use Rattle.std.specs.Prelude.{All, AllPairs, Contains, slice_get, if◌then◌else◌, MatchBool}
-use Rattle.rx_spec.specs.Queries.{Anchored}
-use Rattle.rx_spec.specs.Machines.{run, IsWord}
-use Rattle.rx_spec.specs.States.{State}
-use Rattle.rx_spec.specs.Builds.{Build, Node, Quit, Running, is_dead_state, next_node, built_entry, IsReached}
-use Rattle.rx_spec.specs.Builds.{AreReached}
-use Rattle.rx_spec.specs.Causes.{Exceeds}
 use Rattle.rx_spec.specs.declared.Start.{Start}
 use Rattle.lemmas_walks.proofs.Words.{run-append, run-nil, run-cons, IsWord-append, IsWord-cons, IsWord-nil}
 use Rattle.lemmas_walks.proofs.Words.{IsWord-head, IsWord-tail}
-use Rattle.rx_determinize.specs.WorkLists.{nodes, next_row, IsRowOf, IsWorkList, AreStartRows, Interns}
+use Rattle.rx_determinize.specs.WorkLists.{next_row, IsRowOf, IsWorkList, AreStartRows, Interns}
 
 pub slice_get-append : {X : Type 0} (xs ys : List X) (i : ℕ) (x : X) → slice_get xs i ≡ Some x
     → slice_get (xs ++ ys) i ≡ Some x
@@ -29,7 +21,7 @@ slice_get-append (z ∷ xs) ys (suc i) x there = slice_get-append xs ys i x ther
 -- rows stay
 pub row_stays : (states more : List State) (node : Node) (row : ℕ) → IsRowOf states node row
     → IsRowOf (states ++ more) node row
-row_stays states more node row is_row = grind (arith, common_steps, map-append, slice_get-append)
+row_stays states more node row is_row = grind (arith, common_steps, slice_get-append)
 
 -- a step of a reached state is reached
 pub reached_step : {b : Build} {s t : State} (unit : ℕ) → unit < 257 → next_node b (Running s) unit ≡ Running t
@@ -102,9 +94,7 @@ module _ {b : Build} {state_of : List ℕ → State} {next : ℕ → ℕ → ℕ
     where
       last : (id : ℕ) (k : List ℕ) → slice_get keys id ≡ Some k → id ≡ done → (unit : ℕ) → unit < 257
           → IsRowOf (map state_of keys) (next_node b (Running (state_of k)) unit) (next id unit)
-      last id k at e unit is_unit =
-          let same : key ≡ k = cc (there, rw e at at) in
-          rw (e, sym same) (known unit is_unit)
+      last id k at e unit is_unit = grind (arith, common_steps)
 
 in_false : {Q : Type 0} (P : Type 0) (b : Bool) → b ≡ false → Q → MatchBool b P Q
 in_false P true e q = absurd cc
@@ -119,7 +109,7 @@ pub interned_row : {key : List ℕ} {id : ℕ} {before after : List (List ℕ)} 
     → Interns before key id after → is_dead_state (state_of key) ≡ false
     → IsRowOf (map state_of after) (Running (state_of key)) (suc (suc id))
 interned_row {key} {id} {before} {after} state_of interns alive =
-    grind (arith, common_steps, in_false, slice_get-map, state_at)
+    grind (arith, common_steps, in_false, slice_get-map)
 
 map_at : {X Y : Type 0} (f : X → Y) (xs : List X) (i : ℕ) (y : Y) → slice_get (map f xs) i ≡ Some y
     → (x : X) × (slice_get xs i ≡ Some x) × (f x ≡ y)
@@ -140,15 +130,10 @@ record HasKey (state_of : List ℕ → State) (keys : List (List ℕ)) (s : Stat
 
 key_of_row : (state_of : List ℕ → State) (keys : List (List ℕ)) (s : State) (row : ℕ) → is_dead_state s ≡ false
     → IsRowOf (map state_of keys) (Running s) row → HasKey state_of keys s row
-key_of_row state_of keys s row alive is_row = grind (arith, common_steps, when_false, map_at)
+key_of_row state_of keys s row alive is_row = grind (arith, common_steps, map_at)
 
 module _ {b : Build} {state_of : List ℕ → State} {next : ℕ → ℕ → ℕ} {keys : List (List ℕ)} {done : ℕ}
     (work : IsWorkList b state_of next keys done) where
-  -- other rows that are the same as far as they are done
-  pub same_rows : (later : ℕ → ℕ → ℕ) → ((id unit : ℕ) → id < done → unit < 257 → later id unit ≡ next id unit)
-      → IsWorkList b state_of later keys done
-  same_rows later same_next = grind (arith, common_steps)
-
   step_row : length keys ≤ done → (node : Node) (row unit : ℕ) → unit < 257 → IsRowOf (map state_of keys) node row
       → IsRowOf (map state_of keys) (next_node b node unit) (next_row next row unit)
   step_row all Quit row unit is_unit is_row = grind (arith, common_steps, map_at)
@@ -156,24 +141,15 @@ module _ {b : Build} {state_of : List ℕ → State} {next : ℕ → ℕ → ℕ
     where
       dies : is_dead_state s ≡ true
           → IsRowOf (map state_of keys) (next_node b (Running s) unit) (next_row next row unit)
-      dies e =
-          let zero_row : row ≡ 0 =
-          when_true (row ≡ 0) (slice_get (nodes (map state_of keys)) row ≡ Some (Running s)) e is_row in
-          rw e (ap (λ r. next_row next r unit) zero_row)
+      dies e = grind (arith, common_steps)
 
       lives : is_dead_state s ≡ false
           → IsRowOf (map state_of keys) (next_node b (Running s) unit) (next_row next row unit)
-      lives e =
-          led (key_of_row state_of keys s row e is_row)
+      lives e = grind (arith, common_steps, led, key_of_row)
         where
           led : HasKey state_of keys s row
               → IsRowOf (map state_of keys) (next_node b (Running s) unit) (next_row next row unit)
-          led t =
-              let lt : t.id < done = omega (arith, slice_get_within keys t.id t.key t.there) in
-              subst (λ r. IsRowOf (map state_of keys) (next_node b (Running s) unit) (next_row next r unit)) (sym
-              t.row_is)
-              (subst (λ state. IsRowOf (map state_of keys) (next_node b (Running state) unit) (next t.id unit)) t.stands
-              (work.steps t.id t.key t.there lt unit is_unit))
+          led t = grind (arith, common_steps, slice_get_within)
 
   -- every word leads to the row of its node
   pub word_row : length keys ≤ done → (word : List ℕ) → IsWord word → (node : Node) (row : ℕ)

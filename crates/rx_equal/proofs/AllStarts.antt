@@ -1,47 +1,25 @@
 -- Starts of all modes: those of patterns past the last part nothing.
-use Rattle.std.proofs.lemmas.Grind.{common_steps}
-use Rattle.std.proofs.Common.{ℕ, ◌≡◌, ◌<◌, ◌≤◌, max, Bool, true, false, if◌then◌else◌, Option, Some, None, Result, Ok}
-use Rattle.std.proofs.Common.{Err, List, refl, sym, ◌∙◌, subst, arith, ⊎_elim}
-use Rattle.std.proofs.lemmas.Bool.{cases_lt}
-use Rattle.std.specs.Prelude.{is_some, IfSome}
-use Rattle.rx_spec.specs.Queries.{Anchored}
-use Rattle.rx_spec.specs.Machines.{IsWord, Settings}
-use Rattle.rx_spec.specs.Starts.{StartError, start_error}
-use Rattle.rx_spec.specs.Tables.{Table, IsTable}
+use Rattle.rx_spec.proofs.Prelude.{common_steps, ℕ, ◌≡◌, ◌<◌, ◌≤◌, max, true, Option, Some, None, Result, Ok, Err, List}
+use Rattle.rx_spec.proofs.Prelude.{refl, sym, ◌∙◌, subst, arith, ⊎_elim, cases_lt, is_some, IfSome, Anchored, IsWord}
+use Rattle.rx_spec.proofs.Prelude.{StartError, start_error, Table, IsTable}
 use Rattle.rx_spec.specs.declared.Start.{Start}
 use Rattle.lemmas_walks.proofs.SilentRows.{zero_is_silent}
 use Rattle.rx_base.specs.StartConfig.{StartConfig}
 use Rattle.rx_equal.specs.Partings.{AreAlikeBy, NothingParts, answer_at}
 use Rattle.rx_equal.specs.PartingsLaws.{HasOwnStarts, NoStartParts, NothingPartsPassedOn}
 use Rattle.rx_equal.proofs.PartingsLaws.{equal_refusals}
-use Rattle.rx_equal.proofs.Refusals.{answers_error, answers_row}
-
--- a pattern that isn't refused has starts
-supported_by : (v : Bool) (error : StartError) → (if v then None else Some error) ≡ None → v ≡ true
-supported_by true error e = refl
-supported_by false error e = absurd (cc)
-
-quits_by : (quits v : Bool) (quit error : StartError)
-    → (if quits then Some quit else (if v then None else Some error)) ≡ None → v ≡ true
-quits_by true v quit error e = absurd (cc)
-quits_by false v quit error e = supported_by v error e
-
-have_starts : (s : Settings) (beside : Option ℕ) (k : ℕ) → start_error s beside (Anchored.Pattern k) ≡ None
-    → is_some s.pattern_starts ≡ true
-have_starts s None k e = grind (arith, common_steps, supported_by)
-have_starts s (Some byte) k e = grind (arith, common_steps, quits_by)
 
 -- past the last pattern its starts are dead
 dead_by : (t : Table) → IsTable t → HasOwnStarts t → (k : ℕ) (start : Start) (o : Option ℕ)
     → t.settings.pattern_starts ≡ o → is_some o ≡ true → t.pattern_len < k
     → t.machine.entry (Anchored.Pattern k) start ≡ 0
-dead_by t is own k start (Some n) e has past = let few = own n e in is.past_last n k start e (omega (arith, few, past))
+dead_by t is own k start (Some n) e has past = let few = own n e in is.past_last n k start e (omega arith)
 dead_by t is own k start None e has past = absurd (cc)
 
 dead_answer : (t : Table) → IsTable t → HasOwnStarts t → (beside : Option ℕ) (k : ℕ)
     → start_error t.settings beside (Anchored.Pattern k) ≡ None → t.pattern_len < k
     → answer_at t (record { beside = beside; mode = Anchored.Pattern k }) ≡ Ok 0
-dead_answer t is own beside k e past = grind (arith, common_steps, answers_row, dead_by, have_starts)
+dead_answer t is own beside k e past = grind (arith, common_steps, dead_by)
 
 module _ (t u : Table) (is : IsTable t) (other_is : IsTable u) (own : HasOwnStarts t) (other_own : HasOwnStarts u)
     (nothing : NothingParts t u) where
@@ -50,13 +28,13 @@ module _ (t u : Table) (is : IsTable t) (other_is : IsTable u) (own : HasOwnStar
       → (word : List ℕ) → IsWord word
       → AreAlikeBy t u word (answer_at t (record { beside = beside; mode = Anchored.Pattern k }))
       (answer_at u (record { beside = beside; mode = Anchored.Pattern k }))
-  past_last beside k (Some error) e past word w = grind (arith, common_steps, equal_refusals, answers_error)
+  past_last beside k (Some error) e past word w = grind (arith, common_steps, equal_refusals)
   past_last beside k None e past word w =
       let place : StartConfig = record { beside = beside; mode = Anchored.Pattern k } in
       let f = sym (equal_refusals t u nothing beside (Anchored.Pattern k)) ∙ e in
       subst (λ answer. AreAlikeBy t u word answer (answer_at u place))
-      (sym (dead_answer t is own beside k e (omega (arith, past))))
-      (subst (AreAlikeBy t u word (Ok 0)) (sym (dead_answer u other_is other_own beside k f (omega (arith, past))))
+      (sym (dead_answer t is own beside k e (omega arith)))
+      (subst (AreAlikeBy t u word (Ok 0)) (sym (dead_answer u other_is other_own beside k f (omega arith)))
       ((zero_is_silent t is).plain word w ∙ sym ((zero_is_silent u other_is).plain word w)))
 
   by_mode : (beside : Option ℕ) (mode : Anchored) → IfSome beside (λ byte. byte < 256) → (word : List ℕ)

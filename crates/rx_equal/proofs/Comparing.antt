@@ -1,9 +1,6 @@
 -- What the walk that compares two tables keeps, and what it answers.
-use Rattle.std.proofs.lemmas.Grind.{common_steps}
-use Rattle.std.proofs.Common.{ℕ, ◌≡◌, ◌+◌, ◌<◌, ◌≤◌, Option, None, Some, List, [], get_or, length, subst, arith}
-use Rattle.std.specs.Prelude.{slice_get}
-use Rattle.std.proofs.lemmas.List.{length-map}
-use Rattle.std.proofs.lemmas.Option.{slice_get-get_or}
+use Rattle.rx_spec.proofs.Prelude.{common_steps, ℕ, ◌≡◌, ◌+◌, ◌<◌, ◌≤◌, Option, None, Some, List, [], get_or, length}
+use Rattle.rx_spec.proofs.Prelude.{subst, arith, slice_get, length-map, slice_get-get_or}
 use Rattle.rx_spec.specs.declared.Unit.{Unit}
 use Rattle.rx_base.specs.Unit.{unit_number}
 use Rattle.rx_equal.specs.declared.evidence.Parting.{Parting}
@@ -16,7 +13,7 @@ use Rattle.rx_base.specs.StartConfig.{StartConfig}
 use Rattle.rx_equal.proofs.Layers.{Layers, ahead, apart_by, layers_first, layers_on}
 use Rattle.rx_equal.proofs.Sides.{Sides}
 use Rattle.rx_equal.proofs.Tests.{EachBelow, each_contained, each_more}
-use Rattle.rx_equal.proofs.Walks.{extends_back, extends_contains, extends_get, extends_meet, is_equal, walk_none}
+use Rattle.rx_equal.proofs.Walks.{extends_back, extends_contains, extends_get, extends_meet, is_equal}
 
 -- the pairs of a walk
 abbrev pub pairs_in : Sides → Walk → List RowPair
@@ -32,7 +29,7 @@ pub record IsUnderWay (s : Sides) (w : Walk) (at : ℕ) : Type 0 where
 
 pub walked_none : {s : Sides} {w : Walk} → AreKept s.ids s.others w.pairs → pairs_in s w ≡ [] → w.links ≡ []
     → AreWalked s.t s.ids s.u s.others w
-walked_none {s} {w} kept none no_links = grind (arith, common_steps, walk_none)
+walked_none {s} {w} kept none no_links = grind (arith, common_steps)
 
 -- all places were looked at, and the tables differ at none of them
 pub way_begins : {s : Sides} {before w : Walk} {found : Option StartConfig} → before.links ≡ []
@@ -51,7 +48,7 @@ module _ {s : Sides} {w : Walk} {at : ℕ} (way : IsUnderWay s w at) where
       is_equal way.walked.walk (record {
         labels = way.labels;
         nexts = λ p unit there small.
-            each_contained (HaveNexts s.t s.u pairs) pairs way.nexts (omega (arith, past, count_in s w)) p there unit
+            each_contained (HaveNexts s.t s.u pairs) pairs way.nexts (omega (arith, count_in s w)) p there unit
             small;
         starts = way.met;
       })
@@ -59,7 +56,7 @@ module _ {s : Sides} {w : Walk} {at : ℕ} (way : IsUnderWay s w at) where
   -- from the pair at the number on
   module _ (more : at < length w.pairs.list.items) where
     inside : at < length (pairs_in s w)
-    inside = omega (arith, more, count_in s w)
+    inside = omega (arith, count_in s w)
 
     here : (p : RowPair) × (slice_get (pairs_in s w) at ≡ Some p)
     here =
@@ -90,6 +87,6 @@ module _ {s : Sides} {w : Walk} {at : ℕ} (way : IsUnderWay s w at) where
             layers = layers_on way.walked.walk at there.0 there.1 after.links pairs went.links went.extends;
             nexts = each_more (HaveNexts s.t s.u pairs) pairs at
                 (λ k h p e unit small. extends_contains went.extends (next_pair s.t s.u p unit)
-                (way.nexts k h p (extends_back went.extends k p (omega (arith, h, inside)) e) unit small))
+                (way.nexts k h p (extends_back went.extends k p (omega arith) e) unit small))
                 (extends_get went.extends at here.0 here.1) done.1;
           }

@@ -1,14 +1,7 @@
 -- The tables of the examples: they are sound, and which of their pairs of rows are closed.
-use Rattle.std.proofs.lemmas.Grind.{common_steps}
-use Rattle.std.proofs.Common.{ℕ, ◌≡◌, ◌<◌, ◌==◌, ◌&&◌, Bool, true, false, if◌then◌else◌, Option, Some, None, List, []}
-use Rattle.std.proofs.Common.{◌∷◌, refl, arith}
-use Rattle.std.proofs.lemmas.Bool.{eqb-true}
-use Rattle.std.specs.Prelude.{nat_lt, All, Contains}
-use Rattle.rx_spec.specs.Bytes.{contains}
-use Rattle.rx_spec.specs.Queries.{Anchored}
-use Rattle.rx_spec.specs.Machines.{Label, label_of}
-use Rattle.rx_spec.specs.Starts.{StartError}
-use Rattle.rx_spec.specs.Tables.{Table, IsTable, IsSound}
+use Rattle.rx_spec.proofs.Prelude.{common_steps, ℕ, ◌≡◌, ◌<◌, ◌==◌, ◌&&◌, Bool, true, false, if◌then◌else◌, Option}
+use Rattle.rx_spec.proofs.Prelude.{Some, None, List, [], ◌∷◌, refl, arith, eqb-true, nat_lt, All, Contains, contains}
+use Rattle.rx_spec.proofs.Prelude.{Anchored, Label, label_of, StartError, Table, IsTable, IsSound}
 use Rattle.rx_equal.specs.Partings.{answer_at, row_or}
 use Rattle.rx_equal.specs.Evidence.{RowPair, AreClosed, AreMet, HaveEqualLabels, next_pair}
 use Rattle.rx_equal.specs.Examples.{four_rows, start_of_mode, told_by}
@@ -28,8 +21,7 @@ next_dead to false = refl
 
 start_within : (mode : Anchored) → start_of_mode mode < 4
 start_within Anchored.No = omega arith
-start_within Anchored.Yes = omega arith
-start_within (Anchored.Pattern k) = omega arith
+start_within _ = omega arith
 
 -- a label by whether its row is quit or the last
 abbrev label_by : List ℕ → Bool → Bool → Label
@@ -48,20 +40,16 @@ lists_some [] false true e = cc
 lists_some (k ∷ ks) false true e = cc
 lists_some told false false e = cc
 
-same_patterns : (ks js : List ℕ) → Label.Matches ks ≡ Label.Matches js → ks ≡ js
-same_patterns ks js e = cc
-
 patterns_below : (n : ℕ) (told : List ℕ) (quit last : Bool) (ks : List ℕ) (k : ℕ) → All (λ j. j < n) told
     → label_by told quit last ≡ Label.Matches ks → Contains ks k → k < n
 patterns_below n told true last ks k all e c = absurd (cc)
 patterns_below n [] false true ks k all e c = absurd (cc)
-patterns_below n (j ∷ js) false true ks k all e c = grind (arith, common_steps, same_patterns)
+patterns_below n (j ∷ js) false true ks k all e c = grind (arith, common_steps)
 patterns_below n told false false ks k all e c = absurd (cc)
 
 starts_plain : (told : List ℕ) (mode : Anchored) → told_by told (start_of_mode mode) ≡ Label.Plain
 starts_plain told Anchored.No = refl
-starts_plain told Anchored.Yes = refl
-starts_plain told (Anchored.Pattern k) = refl
+starts_plain told _ = refl
 
 module _ (n : ℕ) (pattern_starts : Option ℕ) (to : ℕ) (told : List ℕ) (within : to < 4) (all : All (λ k. k < n) told)
   where
@@ -122,10 +110,6 @@ from_others to other false start other_start e f = dead_there to other
 from_others to other true true other_start e f = absurd (cc)
 from_others to other true start true e f = absurd (cc)
 
--- the answers of two tables that have no starts of patterns
-abbrev error_by : Bool → Anchored → Option StartError
-error_by supported mode = if supported then None else Some (StartError.UnsupportedAnchored mode)
-
 module _ (n to other : ℕ) (told others : List ℕ) (labels : told_by told to ≡ told_by others other)
     (on : (to == 2) ≡ false) (other_on : (other == 2) ≡ false) where
   abbrev t : Table
@@ -157,12 +141,11 @@ module _ (n to other : ℕ) (told others : List ℕ) (labels : told_by told to �
   starts : (beside : Option ℕ) (mode : Anchored)
       → AreMet (three_pairs to other) (answer_at t (record { beside = beside; mode = mode }))
       (answer_at u (record { beside = beside; mode = mode }))
-  starts None Anchored.No = (0, omega arith, refl)
-  starts None Anchored.Yes = (0, omega arith, refl)
   starts None (Anchored.Pattern k) = refl
   starts (Some byte) Anchored.No = at_byte byte (contains 0 byte) Anchored.No
   starts (Some byte) Anchored.Yes = at_byte byte (contains 0 byte) Anchored.Yes
   starts (Some byte) (Anchored.Pattern k) = at_pattern byte (contains 0 byte) (Anchored.Pattern k)
+  starts None _ = (0, omega arith, refl)
 
   pub three_closed : AreClosed t u (three_pairs to other)
   three_closed = record {

@@ -1,16 +1,9 @@
 -- Searches that are made of half searches are alike in a mode where these are: with matches inside a character passed
 -- over, joined, and one after another. Each asks only queries of its own mode, and of the anchored one in reverse.
-use Rattle.std.proofs.Common.{arith, ◌≡◌, ℕ, suc, zero, ◌-◌, Bool, true, false, if◌then◌else◌, Some, None, Ok, Err}
-use Rattle.std.proofs.Common.{refl, ap, ap₂, ◌∙◌}
-use Rattle.std.proofs.lemmas.Grind.{common_steps}
-use Rattle.rx_spec.specs.Bytes.{AreBytes}
-use Rattle.rx_spec.specs.Queries.{Anchored, Query}
-use Rattle.rx_spec.specs.Tables.{Table}
-use Rattle.rx_spec.specs.HalfSearches.{HalfAnswer, half_search}
-use Rattle.rx_spec.specs.Overlapping.{OverlappingMatches}
-use Rattle.rx_spec.specs.Splits.{narrower, unless_split, skip_splits, split_limit, skips_splits, half_unsplit}
-use Rattle.rx_spec.specs.Splits.{items_unsplit}
-use Rattle.rx_spec.specs.Joining.{with_end, joined_search, join}
+use Rattle.rx_spec.proofs.Prelude.{arith, ◌≡◌, ℕ, suc, zero, ◌-◌, Bool, true, false, if◌then◌else◌, Some, Ok, refl, ap}
+use Rattle.rx_spec.proofs.Prelude.{ap₂, ◌∙◌, common_steps, AreBytes, Anchored, Query, Table, HalfAnswer, half_search}
+use Rattle.rx_spec.proofs.Prelude.{narrower, unless_split, skip_splits, split_limit, skips_splits, half_unsplit}
+use Rattle.rx_spec.proofs.Prelude.{with_end, joined_search, join}
 use Rattle.rx_spec.specs.declared.Direction.{Direction}
 use Rattle.lemmas_walks.proofs.ReadUnits.{narrower_bytes}
 use Rattle.rx_meaning.proofs.IteratedSearches as iterated
@@ -62,9 +55,6 @@ module _ (t u : Table) (same : MeanTheSame t u) (direction : Direction) where
 pub half_unsplit_alike : HalfUnsplitAlike
 half_unsplit_alike t u same direction q bytes is = half_unsplit_in t u same direction q.mode is q bytes refl
 
-abbrev sifted : Bool → Query → OverlappingMatches → OverlappingMatches
-sifted skips q matches = if skips then items_unsplit q matches else matches
-
 pub overlapping_unsplit_alike : OverlappingUnsplitAlike
 overlapping_unsplit_alike t u same direction q bytes is = grind (arith, common_steps, overlapping_alike)
 
@@ -72,9 +62,8 @@ overlapping_unsplit_alike t u same direction q bytes is = grind (arith, common_s
 
 with_end_alike : (g h : Query → HalfAnswer) → AlikeIn Anchored.Yes g h → (always : Bool) (q : Query)
     → AreBytes q.haystack → (o : HalfAnswer) → with_end g always q o ≡ with_end h always q o
-with_end_alike g h alike always q bytes (Ok None) = refl
 with_end_alike g h alike always q bytes (Ok (Some end)) = grind (arith, common_steps)
-with_end_alike g h alike always q bytes (Err error) = refl
+with_end_alike g h alike always q bytes _ = refl
 
 module _ (f r g s : Table) (same : PairsMeanTheSame f r g s) (mode : Anchored) (is : IsModeOf f g mode) where
   join_in : AlikeIn mode (join f r) (join g s)

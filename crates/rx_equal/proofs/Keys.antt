@@ -1,13 +1,8 @@
 -- The keys of pairs of ids, and the rows of ids.
-use Rattle.std.proofs.lemmas.Grind.{common_steps}
-use Rattle.std.proofs.Common.{ℕ, ◌≡◌, ◌^◌, ◌<◌, Bool, true, false, Some, None, if◌then◌else◌, List, [], ◌∷◌, ◌++◌, refl}
-use Rattle.std.proofs.Common.{ap, sym, ◌∙◌, arith, ⊎_elim, subst}
-use Rattle.std.specs.Prelude.{unwrap_or, nat_eq, cond, Contains, IsTrue, ◌↔◌}
-use Rattle.std.proofs.lemmas.Bool.{eqb-true}
-use Rattle.std.proofs.lemmas.Bool.Decides.{eqb_tells}
+use Rattle.rx_spec.proofs.Prelude.{common_steps, ℕ, ◌≡◌, ◌^◌, ◌<◌, Bool, true, false, List, [], ◌∷◌, ◌++◌, ap, sym, ◌∙◌}
+use Rattle.rx_spec.proofs.Prelude.{arith, ⊎_elim, subst, nat_eq, cond, Contains, IsTrue, ◌↔◌, eqb_tells, Contains-push}
+use Rattle.rx_spec.proofs.Prelude.{Contains-push_cases, Contains-append_left, id_of, row_of}
 use Rattle.std.proofs.lemmas.List.Sums.{passes_at_first}
-use Rattle.std.proofs.lemmas.List.Elements.{Contains-push, Contains-push_cases, Contains-append_left}
-use Rattle.rx_spec.specs.Ids.{id_of, row_of}
 use Rattle.rx_search.specs.Starts.{IsId}
 use Rattle.rx_equal.specs.Evidence.{RowPair}
 use Rattle.rx_equal.specs.declared.pairs.Pair.{Pair}
@@ -16,15 +11,9 @@ use Rattle.rx_equal.specs.Pairs.{key_of, rows_of, IsPairOf}
 pub key_tells : (p q : Pair) → p.other < 2 ^ 32 → q.other < 2 ^ 32 → key_of p ≡ key_of q → p ≡ q
 key_tells p q hp hq e = grind (arith, common_steps)
 
--- a first place that is within a list
-first_is : (k n : ℕ) (within : Bool) → unwrap_or (if within then Some k else None) n < n
-    → unwrap_or (if within then Some k else None) n ≡ k
-first_is k n true h = refl
-first_is k n false h = absurd (omega (arith, h))
-
 -- a number that is an id stands at its row
 pub id_at_row : (ids : List ℕ) (id : ℕ) → IsId ids id → id_of ids (row_of ids id) ≡ id
-id_at_row ids id is = grind (arith, common_steps, first_is, eqb-true, passes_at_first)
+id_at_row ids id is = grind (arith, common_steps, passes_at_first)
 
 pub id_tells : (ids : List ℕ) (x y : ℕ) → IsId ids x → IsId ids y → row_of ids x ≡ row_of ids y → x ≡ y
 id_tells ids x y hx hy e = sym (id_at_row ids x hx) ∙ ap (id_of ids) e ∙ id_at_row ids y hy

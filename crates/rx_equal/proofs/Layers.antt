@@ -1,14 +1,9 @@
 -- A walk breadth first: the pairs at a distance come before those farther away, so the first parting is a shortest one.
-use Rattle.std.proofs.Common.{ℕ, ◌≡◌, ◌+◌, ◌<◌, ◌≤◌, Some, None, Result, Ok, Err, List, [], ◌∷◌, ◌++◌, length, map}
-use Rattle.std.proofs.Common.{take, get_or, if◌then◌else◌, refl, ap, sym, ◌∙◌, subst, arith, ⊎_elim, length-append}
-use Rattle.std.proofs.lemmas.Bool.{cases_lt, lt-ltb, le-ltb}
-use Rattle.std.proofs.lemmas.List.{take_more, take_all, length-take-le}
-use Rattle.std.proofs.lemmas.List.Elements.{Contains-get_or}
-use Rattle.std.proofs.lemmas.Option.{same_Some, slice_get_within}
-use Rattle.std.specs.Prelude.{Contains, slice_get, nat_lt}
-use Rattle.rx_spec.specs.Machines.{IsWord, run}
-use Rattle.rx_spec.specs.Starts.{StartError}
-use Rattle.rx_spec.specs.Tables.{Table}
+use Rattle.rx_spec.proofs.Prelude.{common_steps, ℕ, ◌≡◌, ◌+◌, ◌<◌, ◌≤◌, Some, None, Result, Ok, Err, List, [], ◌∷◌}
+use Rattle.rx_spec.proofs.Prelude.{◌++◌, length, map, take, get_or, if◌then◌else◌, refl, ap, sym, ◌∙◌, subst, arith}
+use Rattle.rx_spec.proofs.Prelude.{⊎_elim, length-append, cases_lt, lt-ltb, le-ltb, take_more, take_all, length-take-le}
+use Rattle.rx_spec.proofs.Prelude.{Contains-get_or, same_Some, slice_get_within, Contains, slice_get, nat_lt, IsWord}
+use Rattle.rx_spec.proofs.Prelude.{run, StartError, Table}
 use Rattle.rx_base.specs.StartConfig.{StartConfig}
 use Rattle.rx_base.specs.Unit.{unit_number}
 use Rattle.lemmas_walks.proofs.Words.{IsWord-take, run-nil, run-cons, run-append}
@@ -58,7 +53,7 @@ past_is n top level i h = ap (λ b. if b then level i else top) (le-ltb i n h)
 start_is : (next : RowPair → ℕ → RowPair) (start p : RowPair) (word : List ℕ) → length word ≤ 0
     → run next start word ≡ p → start ≡ p
 start_is next start p [] h leads = sym (run-nil next start) ∙ leads
-start_is next start p (unit ∷ word) h leads = absurd (omega (arith, h))
+start_is next start p (unit ∷ word) h leads = absurd (omega arith)
 
 module _ {t u : Table} {links : List Link} {pairs : List RowPair} (walk : IsWalk t u links pairs) where
   near_of : (p : RowPair) → Contains pairs p → IsNear pairs (length pairs) p
@@ -74,7 +69,7 @@ module _ {t u : Table} {links : List Link} {pairs : List RowPair} (walk : IsWalk
         ⊎_elim (λ (old : slice_get [] i ≡ Some (Link.Next from unit)). absurd (cc))
         (λ (new : (0 ≤ i) × IsFrom None (Link.Next from unit)). absurd (new.1))
         (starts.each i (Link.Next from unit) there);
-    near = λ i h. (let e = below_is (length pairs) 1 (λ i. 0) i h in omega (arith, e));
+    near = λ i h. (let e = below_is (length pairs) 1 (λ i. 0) i h in omega arith);
     far = λ i h. past_is (length pairs) 1 (λ i. 0) i h;
     within = omega arith;
     before = omega arith;
@@ -96,7 +91,7 @@ module _ {t u : Table} {links : List Link} {pairs : List RowPair} (walk : IsWalk
       let next = next_pair t u in
       let short = r.short in
       let split : r.word ≡ word ++ unit ∷ [] =
-      sym (take_all (d + 1) r.word (omega (arith, short))) ∙ take_more r.word d 0 long in
+      sym (take_all (d + 1) r.word (omega arith)) ∙ take_more r.word d 0 long in
       let q = run next r.start word in
       let here = l.all q (record {
         place = r.place;
@@ -106,7 +101,7 @@ module _ {t u : Table} {links : List Link} {pairs : List RowPair} (walk : IsWalk
         word = word;
         is_word = IsWord-take d r.word r.is_word;
         leads = refl;
-        short = (let e = length-take-le d r.word (omega (arith, long)) in omega (arith, e));
+        short = (let e = length-take-le d r.word (omega arith) in omega arith);
       }) in
       let leads : next q unit ≡ p =
       sym (run-nil next (next q unit)) ∙ sym (run-cons next q unit []) ∙ sym (run-append next r.start word (unit ∷ []))
@@ -130,22 +125,22 @@ module _ {t u : Table} {links : List Link} {pairs : List RowPair} (walk : IsWalk
         levels = λ i from unit there.
             (let i_below = slice_get_within links i (Link.Next from unit) there in
             let from_below = (walk.follows i (Link.Next from unit) there).0 in
-            let e = below_is (length pairs) top l.level i (omega (arith, i_below, count)) in
-            let f = below_is (length pairs) top l.level from (omega (arith, from_below, i_below, count)) in
+            let e = below_is (length pairs) top l.level i (omega arith) in
+            let f = below_is (length pairs) top l.level from (omega arith) in
             let rises = l.levels i from unit there in
-            omega (arith, e, f, rises));
+            omega arith);
         near = λ i h.
             (let e = below_is (length pairs) top l.level i h in
-            ⊎_elim (λ (k : i < l.end). let n = l.near i k in omega (arith, e, n))
-            (λ (k : l.end ≤ i). let f = l.far i k in omega (arith, e, f))
+            ⊎_elim (λ (k : i < l.end). let n = l.near i k in omega arith)
+            (λ (k : l.end ≤ i). let f = l.far i k in omega arith)
             (cases_lt i l.end));
         far = λ i h. past_is (length pairs) top l.level i h;
         within = omega arith;
-        before = omega (arith, inside);
+        before = omega arith;
         all = λ p r.
             ⊎_elim
             (λ (long : l.distance < length r.word).
-            one_farther at l (λ k h. nexts k (omega (arith, h, past))) p r long)
+            one_farther at l (λ k h. nexts k (omega arith)) p r long)
             (λ (few : length r.word ≤ l.distance).
             let here = l.all p (record {
               place = r.place;
@@ -159,7 +154,7 @@ module _ {t u : Table} {links : List Link} {pairs : List RowPair} (walk : IsWalk
             }) in
             record {
               place = here.place;
-              below = (let b = here.below in omega (arith, b, within));
+              below = (let b = here.below in omega arith);
               there = here.there;
             })
             (cases_lt l.distance (length r.word));
@@ -183,10 +178,7 @@ module _ {t u : Table} {links : List Link} {pairs : List RowPair} (walk : IsWalk
       let near = l.near at h in
       let past = new.0 in
       let count = walk.count in
-      let within = l.within in
-      let far = l.far i (omega (arith, past, count, within)) in
-      let same = ap l.level new.1 in
-      omega (arith, near, far, same))
+      omega arith)
       (more.each i (Link.Next from unit) there)
 
   pub layers_on : (at : ℕ) (l : Layers t u links pairs at) → at < l.end → (after : List Link) (later : List RowPair)
@@ -199,8 +191,8 @@ module _ {t u : Table} {links : List Link} {pairs : List RowPair} (walk : IsWalk
     near = l.near;
     far = l.far;
     within = (let w = l.within in let e = ap length extends.all in let n = length-append pairs extends.more in
-        omega (arith, w, e, n));
-    before = omega (arith, h);
+        omega arith);
+    before = omega arith;
     all = λ p r.
         (let here = l.all p r in
         record {
@@ -239,9 +231,7 @@ module _ {t u : Table} {links : List Link} {pairs : List RowPair} (walk : IsWalk
       by_answers (Ok x) (Ok y) e f m =
           by_rows (record { row = x; other = y })
           (ap (λ o. both o (answer_at u place)) e ∙ ap (λ o. both (Ok x) o) f)
-      by_answers (Err error) (Err other) e f m =
-          subst (λ o. AreAlikeBy t u word o (answer_at u place)) (sym e)
-          (subst (λ o. AreAlikeBy t u word (Err error) o) (sym f) m)
+      by_answers (Err error) (Err other) e f m = grind (arith, common_steps)
       by_answers (Ok x) (Err other) e f m = absurd m
       by_answers (Err error) (Ok y) e f m = absurd m
 
@@ -256,18 +246,17 @@ module _ {t u : Table} {links : List Link} {pairs : List RowPair} (walk : IsWalk
       let leads = same_Some next (run (next_pair t u) path.start word)
       (sym (ap (λ o. next_of t u o unit) there) ∙ path.leads) in
       let short = path.short l.level (levels_on at l h after more) in
-      let near = l.near at h in
       record {
         is_place = path.is_place;
         is_word = path.is_word;
         parts = λ alike. differ (labels_from_alike t u p.place path.start next word path.begins (sym leads) alike);
         short = are_reached other (length p.word)
             (let s = path.short (λ i. i) (λ i from v at_i. (other.follows i (Link.Next from v) at_i).0) in
-            let w = slice_get_within later at q there in omega (arith, s, w));
+            let w = slice_get_within later at q there in omega arith);
         least = λ place v is w parts.
             ⊎_elim
             (λ (less : length v < length p.word).
-            absurd (parts (near_alike at l met labels place is v w (omega (arith, less, short, near)))))
+            absurd (parts (near_alike at l met labels place is v w (omega arith))))
             (λ (more : length p.word ≤ length v). more)
             (cases_lt (length v) (length p.word));
       }

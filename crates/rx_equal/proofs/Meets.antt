@@ -1,31 +1,23 @@
 -- Places of which pairs take care.
-use Rattle.std.proofs.lemmas.Grind.{common_steps}
-use Rattle.std.proofs.Common.{ℕ, zero, suc, ◌≡◌, ◌+◌, ◌<◌, ◌≤◌, max, Some, None, Ok, Option, List, [], ◌∷◌, ◌++◌, refl}
-use Rattle.std.proofs.Common.{ap, sym, ◌∙◌, subst, arith, drop, length, ⊎_elim}
-use Rattle.std.proofs.lemmas.Option.{same_Some}
-use Rattle.std.proofs.lemmas.Bool.{lt-ltb}
-use Rattle.std.proofs.Math.ListN.{drop_of_length-le}
-use Rattle.std.proofs.lemmas.List.Elements.{Contains-append_left, Contains-push, Contains-push_cases}
-use Rattle.std.specs.Prelude.{Contains, IfSome, slice_get}
-use Rattle.rx_spec.specs.Queries.{Anchored}
-use Rattle.rx_spec.specs.Tables.{Table}
+use Rattle.rx_spec.proofs.Prelude.{common_steps, ℕ, suc, ◌≡◌, ◌+◌, ◌<◌, ◌≤◌, max, Some, None, Option, List, [], ◌∷◌}
+use Rattle.rx_spec.proofs.Prelude.{◌++◌, refl, ap, sym, ◌∙◌, subst, arith, drop, length, ⊎_elim, same_Some}
+use Rattle.rx_spec.proofs.Prelude.{drop_of_length-le, Contains-append_left, Contains-push, Contains-push_cases}
+use Rattle.rx_spec.proofs.Prelude.{Contains, IfSome, slice_get, Anchored, Table}
 use Rattle.rx_base.specs.StartConfig.{StartConfig}
 use Rattle.rx_equal.specs.declared.evidence.Link.{Link}
 use Rattle.rx_equal.specs.Partings.{answer_at, IsModeOf}
-use Rattle.rx_equal.specs.Evidence.{RowPair, start_pair, AreMet, AreClosed, AreEvidence, pairs_from, link_pair}
-use Rattle.rx_equal.specs.Evidence.{HaveEqualLabels}
+use Rattle.rx_equal.specs.Evidence.{RowPair, start_pair, AreClosed, AreEvidence, pairs_from, link_pair, HaveEqualLabels}
 use Rattle.rx_equal.specs.Places.{Meet, MeetMode, MeetAll, mode_at}
 use Rattle.rx_equal.proofs.Words.{rows_begin, drop_get}
 
 module _ (t u : Table) (pairs : List RowPair) (place : StartConfig) where
   pub met_rows : (p : RowPair) → start_pair t u place ≡ Some p → Contains pairs p → Meet t u pairs place
-  met_rows p e c = grind (arith, common_steps, rows_begin)
+  met_rows p e c = grind (arith, common_steps)
 
   pub rows_met : (p : RowPair) → start_pair t u place ≡ Some p → Meet t u pairs place → Contains pairs p
   rows_met p e m =
       let rows = rows_begin (answer_at t place) (answer_at u place) p e in
-      subst (λ o. AreMet pairs (Ok p.row) o) rows.1
-      (subst (λ o. AreMet pairs o (answer_at u place)) rows.0 m)
+      grind (arith, common_steps)
 
 -- ---- places by their numbers
 
@@ -37,25 +29,18 @@ mode_number (Anchored.Pattern k) = suc (suc k)
 mode_there : (mode : Anchored) → mode_at (mode_number mode) ≡ mode
 unfolding mode_number
 mode_there Anchored.No = refl
-mode_there Anchored.Yes = refl
-mode_there (Anchored.Pattern k) = refl
+mode_there _ = refl
 
 mode_below : (t u : Table) (mode : Anchored) → IsModeOf t u mode → mode_number mode < max t.pattern_len u.pattern_len
     + 3
 unfolding mode_number
-mode_below t u Anchored.No is = omega arith
-mode_below t u Anchored.Yes is = omega arith
 mode_below t u (Anchored.Pattern k) is = omega (arith, is)
-
-pub mode_is : (t u : Table) (m : ℕ) → m < max t.pattern_len u.pattern_len + 3 → IsModeOf t u (mode_at m)
-mode_is t u zero h = tt
-mode_is t u (suc zero) h = tt
-mode_is t u (suc (suc k)) h = omega (arith, h)
+mode_below t u _ is = omega arith
 
 pub beside_met : (t u : Table) (pairs : List RowPair) (mode : Anchored) → MeetMode t u pairs mode → (beside : Option ℕ)
     → IfSome beside (λ byte. byte < 256) → Meet t u pairs (record { beside = beside; mode = mode })
 beside_met t u pairs mode all None h = all 256 (omega arith)
-beside_met t u pairs mode all (Some byte) h = grind (arith, common_steps, lt-ltb)
+beside_met t u pairs mode all (Some byte) h = grind (arith, common_steps)
 
 module _ (t u : Table) (pairs : List RowPair) where
   pub all_met : ((m : ℕ) → m < max t.pattern_len u.pattern_len + 3 → MeetMode t u pairs (mode_at m)) → MeetAll t u pairs
@@ -73,16 +58,12 @@ pub pairs_step : (t u : Table) (link : Link) (links : List Link) (earlier : List
     → pairs_from t u earlier (link ∷ links) ≡ pairs_from t u (earlier ++ p ∷ []) links
 pairs_step t u link links earlier p e = grind (arith, common_steps)
 
-pub pairs_stop : (t u : Table) (link : Link) (links : List Link) (earlier : List RowPair)
-    → link_pair t u earlier link ≡ None → pairs_from t u earlier (link ∷ links) ≡ None
-pairs_stop t u link links earlier e = grind (arith, common_steps)
-
 by_pair : (t u : Table) (link : Link) (links : List Link) (earlier pairs : List RowPair)
     → pairs_from t u earlier (link ∷ links) ≡ Some pairs → (p : RowPair) (o : Option RowPair)
     → link_pair t u earlier link ≡ o
     → ((q : RowPair) → pairs_from t u (earlier ++ q ∷ []) links ≡ Some pairs → Contains pairs p) → Contains pairs p
 by_pair t u link links earlier pairs e p (Some q) is go = go q (sym (pairs_step t u link links earlier q is) ∙ e)
-by_pair t u link links earlier pairs e p None is go = grind (arith, common_steps, pairs_stop)
+by_pair t u link links earlier pairs e p None is go = grind (arith, common_steps)
 
 pub pairs_within : (t u : Table) (links : List Link) (earlier pairs : List RowPair)
     → pairs_from t u earlier links ≡ Some pairs → (p : RowPair) → Contains earlier p → Contains pairs p
@@ -99,12 +80,9 @@ pub record AreNamed (t u : Table) (links : List Link) (i : ℕ) (pairs : List Ro
 pub named_none : (t u : Table) (links : List Link) {pairs : List RowPair} → pairs ≡ [] → AreNamed t u links 0 pairs
 named_none t u links none = grind (arith, common_steps)
 
-none_some : {X : Type 0} {x : X} → None ≡ Some x → ⊥
-none_some e = absurd (cc)
-
 pub evidence_closed : {t u : Table} {links : List Link} {pairs : List RowPair} → pairs_from t u [] links ≡ Some pairs
     → AreEvidence t u links → AreClosed t u pairs
-evidence_closed {t} {u} {links} {pairs} named v = grind (arith, common_steps, same_Some)
+evidence_closed {t} {u} {links} {pairs} named v = grind (arith, common_steps)
 
 module _ {t u : Table} {links : List Link} {i : ℕ} {pairs : List RowPair} (named : AreNamed t u links i pairs) where
   pub named_all : length links ≤ i → pairs_from t u [] links ≡ Some pairs
@@ -115,7 +93,7 @@ module _ {t u : Table} {links : List Link} {i : ℕ} {pairs : List RowPair} (nam
 
   pub named_stop : (link : Link) → slice_get links i ≡ Some link → link_pair t u pairs link ≡ None
       → AreEvidence t u links → ⊥
-  named_stop link there e v = grind (arith, common_steps, none_some, pairs_stop, drop_get)
+  named_stop link there e v = grind (arith, common_steps, drop_get)
 
   module _ (link : Link) (p : RowPair) (there : slice_get links i ≡ Some link)
       (names : link_pair t u pairs link ≡ Some p) where

@@ -1,15 +1,8 @@
 -- Laws of partings: a table itself, two tables turned, and what equal tables refuse.
-use Rattle.std.proofs.lemmas.Grind.{common_steps}
-use Rattle.std.proofs.Common.{ℕ, ◌≡◌, Bool, true, false, if◌then◌else◌, Option, Some, None, Result, Ok, Err, List, []}
-use Rattle.std.proofs.Common.{refl, ap, ap₂, sym, arith}
-use Rattle.std.proofs.lemmas.Bool.{ltb-true}
-use Rattle.std.specs.Prelude.{◌<◌, is_some, nat_lt}
-use Rattle.rx_spec.specs.Bytes.{contains}
-use Rattle.rx_spec.specs.Queries.{Anchored}
-use Rattle.rx_spec.specs.Machines.{Machine}
-use Rattle.rx_spec.specs.Starts.{StartError, has_anchored, has_unanchored, mode_error, start_error, start_row, supports}
-use Rattle.rx_spec.specs.Tables.{Table}
-use Rattle.rx_spec.specs.Labels.{label_after}
+use Rattle.rx_spec.proofs.Prelude.{common_steps, ℕ, ◌≡◌, Bool, true, false, if◌then◌else◌, Option, Some, None, Result}
+use Rattle.rx_spec.proofs.Prelude.{Ok, Err, List, [], refl, ap, ap₂, sym, arith, ltb-true, ◌<◌, is_some, nat_lt}
+use Rattle.rx_spec.proofs.Prelude.{contains, Anchored, Machine, StartError, has_anchored, has_unanchored, mode_error}
+use Rattle.rx_spec.proofs.Prelude.{start_error, start_row, supports, Table, label_after}
 use Rattle.rx_spec.specs.declared.StartKind.{StartKind}
 use Rattle.lemmas_walks.proofs.Firsts.{by_test}
 use Rattle.lemmas_walks.proofs.Words.{IsWord-nil}
@@ -35,16 +28,11 @@ alike_turned t u word (Err error) (Err other) e = sym e
 alike_turned t u word (Ok x) (Err other) e = e
 alike_turned t u word (Err error) (Ok y) e = e
 
-mode_turned : (t u : Table) (mode : Anchored) → IsModeOf t u mode → IsModeOf u t mode
-mode_turned t u Anchored.No is = tt
-mode_turned t u Anchored.Yes is = tt
-mode_turned t u (Anchored.Pattern k) is = omega (arith, is)
-
 pub nothing_parts_turned : NothingPartsTurned
-nothing_parts_turned t u nothing place is word w = grind (arith, common_steps, alike_turned, mode_turned)
+nothing_parts_turned t u nothing place is word w = grind (arith, common_steps, alike_turned)
 
 pub parting_turned : PartingTurned
-parting_turned t u place word parting = grind (arith, common_steps, mode_turned, alike_turned)
+parting_turned t u place word parting = grind (arith, common_steps)
 
 -- ---- refusals
 
@@ -56,13 +44,6 @@ abbrev byte_part : Bool → ℕ → Option StartError → Option StartError
 byte_part quits byte error = if quits then Some (StartError.Quit byte) else error
 
 module _ (t u : Table) (word : List ℕ) where
-  supports_alike : (x y : ℕ) (mode : Anchored) (v w : Bool)
-      → AreAlikeBy t u word (row_or (mode_part v mode) x) (row_or (mode_part w mode) y) → v ≡ w
-  supports_alike x y mode true true alike = refl
-  supports_alike x y mode false false alike = refl
-  supports_alike x y mode true false alike = absurd alike
-  supports_alike x y mode false true alike = absurd alike
-
   quits_alike : (x y byte : ℕ) (mode : Anchored) (b d v w : Bool)
       → AreAlikeBy t u word (row_or (byte_part b byte (mode_part v mode)) x)
       (row_or (byte_part d byte (mode_part w mode)) y) → b ≡ d
@@ -77,12 +58,7 @@ kinds_alike : (k j : StartKind) → has_unanchored k ≡ has_unanchored j → ha
 kinds_alike StartKind.Both StartKind.Both e f = refl
 kinds_alike StartKind.Unanchored StartKind.Unanchored e f = refl
 kinds_alike StartKind.Anchored StartKind.Anchored e f = refl
-kinds_alike StartKind.Both StartKind.Unanchored e f = absurd (cc)
-kinds_alike StartKind.Both StartKind.Anchored e f = absurd (cc)
-kinds_alike StartKind.Unanchored StartKind.Both e f = absurd (cc)
-kinds_alike StartKind.Unanchored StartKind.Anchored e f = absurd (cc)
-kinds_alike StartKind.Anchored StartKind.Both e f = absurd (cc)
-kinds_alike StartKind.Anchored StartKind.Unanchored e f = absurd (cc)
+kinds_alike _ _ e f = absurd (cc)
 
 -- whether a table has starts for a mode
 abbrev supports_in : Table → Anchored → Bool
@@ -92,7 +68,7 @@ supports_in t mode = supports t.settings.start_kind (is_some t.settings.pattern_
 supported : (t u : Table) (mode : Anchored)
     → AreAlikeBy t u [] (answer_at t (record { beside = None; mode = mode }))
     (answer_at u (record { beside = None; mode = mode })) → supports_in t mode ≡ supports_in u mode
-supported t u mode alike = grind (arith, common_steps, supports_alike)
+supported t u mode alike = grind (arith, common_steps)
 
 module _ (t u : Table) (nothing : NothingParts t u) where
   supported_in : (mode : Anchored) → IsModeOf t u mode → supports_in t mode ≡ supports_in u mode
@@ -142,8 +118,5 @@ equal_refusals t u nothing = refusals t u nothing
 
 -- ---- tables without patterns
 
-not_some : true ≡ false → ⊥
-not_some e = cc
-
 pub starts_of_no_pattern : StartsOfNoPattern
-starts_of_no_pattern t u n has none = grind (arith, common_steps, not_some, supported)
+starts_of_no_pattern t u n has none = grind (arith, common_steps, supported)

@@ -1,11 +1,8 @@
 -- The word from a place to a pair, read from the pair's link back to a start.
-use Rattle.std.proofs.lemmas.Grind.{common_steps}
-use Rattle.std.proofs.Common.{ℕ, ◌≡◌, ◌+◌, ◌<◌, ◌≤◌, Some, List, [], ◌∷◌, ◌++◌, length, map, reverse, ap, sym, ◌∙◌}
-use Rattle.std.proofs.Common.{subst, arith, length-append}
-use Rattle.std.proofs.lemmas.List.{reverse-append, length-reverse}
-use Rattle.std.specs.Prelude.{slice_get}
-use Rattle.rx_spec.specs.Machines.{IsWord, run}
-use Rattle.rx_spec.specs.Tables.{Table}
+use Rattle.rx_spec.proofs.Prelude.{common_steps, ℕ, ◌≡◌, ◌+◌, ◌<◌, ◌≤◌, Some, List, [], ◌∷◌, ◌++◌, length, map, reverse}
+use Rattle.rx_spec.proofs.Prelude.{ap, sym, ◌∙◌, subst, arith, length-append, length-reverse, slice_get, IsWord, run}
+use Rattle.rx_spec.proofs.Prelude.{Table}
+use Rattle.std.proofs.lemmas.List.{reverse-append}
 use Rattle.rx_spec.specs.declared.Unit.{Unit}
 use Rattle.rx_base.specs.Unit.{unit_number}
 use Rattle.lemmas_walks.proofs.Words.{IsWord-cons, run-nil, run-cons}
@@ -49,7 +46,7 @@ module _ {t u : Table} {links : List Link} {pairs : List RowPair} (walk : IsWalk
             ∙ ap (run (next_pair t u) r) (sym (turned units v)));
         short = λ level levels.
             (let s = on.short level levels in let b = levels i from v there in let l = length_push units v in
-            omega (arith, s, b, l));
+            omega arith);
       })
 
   -- what a start's link makes of it
@@ -65,5 +62,5 @@ module _ {t u : Table} {links : List Link} {pairs : List RowPair} (walk : IsWalk
     leads = on.leads q there ∙ ap (λ w. Some (run (next_pair t u) q (map unit_number w))) (sym e);
     short = λ level levels.
         (let s = on.short level levels in let l = length-reverse units in let k = ap length e in
-        omega (arith, s, l, k));
+        omega arith);
   }

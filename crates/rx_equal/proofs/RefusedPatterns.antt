@@ -1,11 +1,6 @@
 -- Places of patterns that both tables refuse: they are refused alike where those without an anchor are.
-use Rattle.std.proofs.lemmas.Grind.{common_steps}
-use Rattle.std.proofs.Common.{ℕ, ◌≡◌, ◌+◌, ◌<◌, max, Bool, true, false, Option, Some, None, Err, List, if◌then◌else◌}
-use Rattle.std.proofs.Common.{refl, arith}
-use Rattle.std.specs.Prelude.{IfSome, is_some}
-use Rattle.rx_spec.specs.Queries.{Anchored}
-use Rattle.rx_spec.specs.Starts.{StartError}
-use Rattle.rx_spec.specs.Tables.{Table}
+use Rattle.rx_spec.proofs.Prelude.{common_steps, ℕ, ◌≡◌, ◌+◌, ◌<◌, max, Bool, true, false, Option, Some, None, Err}
+use Rattle.rx_spec.proofs.Prelude.{List, if◌then◌else◌, refl, arith, IfSome, Anchored, StartError, Table}
 use Rattle.rx_equal.specs.Evidence.{RowPair, AreMet}
 use Rattle.rx_equal.specs.Pairs.{AreRefused}
 use Rattle.rx_equal.specs.Partings.{row_or}
@@ -39,30 +34,15 @@ refused_met : (pairs : List RowPair) (byte x y : ℕ) (mode : Anchored) (b d v w
     → w ≡ false → AreMet pairs (row_or (byte_part b byte v mode) x) (row_or (byte_part d byte w mode) y)
 refused_met pairs byte x y mode true true v w same e f = refl
 refused_met pairs byte x y mode false false false false same e f = refl
-refused_met pairs byte x y mode true false v w same e f = absurd (cc)
-refused_met pairs byte x y mode false true v w same e f = absurd (cc)
-refused_met pairs byte x y mode false false true w same e f = absurd (cc)
-refused_met pairs byte x y mode false false v true same e f = absurd (cc)
-
-edge_met : (pairs : List RowPair) (x y : ℕ) (mode : Anchored) (v w : Bool) → v ≡ false → w ≡ false
-    → AreMet pairs (row_or (mode_part v mode) x) (row_or (mode_part w mode) y)
-edge_met pairs x y mode false false e f = refl
-edge_met pairs x y mode true w e f = absurd (cc)
-edge_met pairs x y mode v true e f = absurd (cc)
+refused_met pairs byte x y mode _ _ _ _ same e f = absurd (cc)
 
 module _ (t u : Table) (refused : AreRefused t u (record { beside = None; mode = Anchored.Pattern 0 })) where
-  first : is_some t.settings.pattern_starts ≡ false
-  first = grind (arith, common_steps, unsupported)
-
-  second : is_some u.settings.pattern_starts ≡ false
-  second = grind (arith, common_steps, unsupported)
-
   pattern_met : (pairs : List RowPair) → MeetMode t u pairs Anchored.No → (k : ℕ) (beside : Option ℕ)
       → IfSome beside (λ byte. byte < 256)
       → Meet t u pairs (record { beside = beside; mode = Anchored.Pattern k })
-  pattern_met pairs plain k None h = grind (arith, common_steps, edge_met, first, second)
+  pattern_met pairs plain k None h = grind (arith, common_steps)
   pattern_met pairs plain k (Some byte) h =
-      grind (arith, common_steps, refused_met, quits_met, beside_met, first, second)
+      grind (arith, common_steps, refused_met, quits_met)
 
   by_mode : (pairs : List RowPair) → ((m : ℕ) → m < 2 → MeetMode t u pairs (mode_at m)) → (mode : Anchored)
       (beside : Option ℕ) → IfSome beside (λ byte. byte < 256)

@@ -1,19 +1,10 @@
 -- Tables that nothing parts answer searches alike.
-use Rattle.std.proofs.Common.{arith, ℕ, ◌≡◌, ◌<◌, ◌≤◌, Option, Some, None, Ok, List, [], refl, ap, sym, ◌∙◌}
-use Rattle.std.proofs.lemmas.Grind.{common_steps}
-use Rattle.std.proofs.lemmas.Bool.{lt-ltb}
-use Rattle.std.specs.Prelude.{IfSome}
-use Rattle.rx_spec.specs.Bytes.{AreBytes}
-use Rattle.rx_spec.specs.Queries.{Query}
-use Rattle.rx_spec.specs.Machines.{IsWord}
-use Rattle.rx_spec.specs.Starts.{StartError, start_error, start_row}
-use Rattle.rx_spec.specs.HalfSearches.{beside, half_search, first_offset, units_of}
-use Rattle.rx_spec.specs.Overlapping.{overlapping}
-use Rattle.rx_spec.specs.Tables.{Table, IsTable}
+use Rattle.rx_spec.proofs.Prelude.{arith, ℕ, ◌≡◌, ◌<◌, ◌≤◌, Option, Some, None, Ok, List, [], refl, ap, sym, ◌∙◌}
+use Rattle.rx_spec.proofs.Prelude.{common_steps, IfSome, AreBytes, Query, IsWord, StartError, start_error, start_row}
+use Rattle.rx_spec.proofs.Prelude.{beside, half_search, first_offset, units_of, overlapping, Table, IsTable}
 use Rattle.rx_spec.specs.declared.Direction.{Direction}
-use Rattle.lemmas_walks.proofs.HalfSearches.{Begins, Done, Refused, Started, begins, half_done, half_refused}
-use Rattle.lemmas_walks.proofs.HalfSearches.{half_walks, going}
-use Rattle.lemmas_walks.proofs.Overlapping.{overlapping_done, overlapping_refused, overlapping_walks}
+use Rattle.lemmas_walks.proofs.HalfSearches.{Begins, Done, Refused, Started, begins, half_walks, going}
+use Rattle.lemmas_walks.proofs.Overlapping.{overlapping_walks}
 use Rattle.lemmas_walks.proofs.ReadUnits.{beside_is_byte, units_word}
 use Rattle.lemmas_walks.proofs.SilentRows.{IsRow, table_ends_well}
 use Rattle.lemmas_walks.proofs.Words.{IsWord-nil}
@@ -73,7 +64,7 @@ module _ (t u : Table) (is : IsTable t) (other_is : IsTable u) (nothing : Nothin
       ∙ walk_alike (table_ends_well t is) (table_ends_well u other_is) direction q.earliest (rows_alike alike)
       (units_of direction q) (units_word direction q bytes) (first_offset direction q) None
       ∙ sym (half_walks u.machine u.settings direction q (going q order) f)
-  half_by order (Neither error e f) = grind (arith, common_steps, half_refused, going)
+  half_by order (Neither error e f) = grind (arith, common_steps)
 
   overlapping_by : q.start ≤ q.end → BeginAlike t u (record { beside = beside direction q; mode = q.mode })
       → overlapping t.machine t.settings direction q ≡ overlapping u.machine u.settings direction q
@@ -82,17 +73,17 @@ module _ (t u : Table) (is : IsTable t) (other_is : IsTable u) (nothing : Nothin
       ∙ rows_overlapping (table_ends_well t is) (table_ends_well u other_is) direction (rows_alike alike)
       (units_of direction q) (units_word direction q bytes) (first_offset direction q)
       ∙ sym (overlapping_walks u.machine u.settings direction q (going q order) f)
-  overlapping_by order (Neither error e f) = grind (arith, common_steps, overlapping_refused, going)
+  overlapping_by order (Neither error e f) = grind (arith, common_steps)
 
   half_start : Begins t.settings direction q
       → half_search t.machine t.settings direction q ≡ half_search u.machine u.settings direction q
-  half_start (Done past) = grind (arith, common_steps, lt-ltb, half_done)
+  half_start (Done past) = grind (arith, common_steps)
   half_start (Refused order error e) = half_by order begin_alike
   half_start (Started order e) = half_by order begin_alike
 
   overlapping_start : Begins t.settings direction q
       → overlapping t.machine t.settings direction q ≡ overlapping u.machine u.settings direction q
-  overlapping_start (Done past) = grind (arith, common_steps, lt-ltb, overlapping_done)
+  overlapping_start (Done past) = grind (arith, common_steps)
   overlapping_start (Refused order error e) = overlapping_by order begin_alike
   overlapping_start (Started order e) = overlapping_by order begin_alike
 

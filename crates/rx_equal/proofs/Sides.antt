@@ -1,6 +1,5 @@
 -- Two tables side by side, with the ids of their rows.
-use Rattle.std.proofs.Common.{ℕ, List}
-use Rattle.rx_spec.specs.Tables.{Table}
+use Rattle.rx_spec.proofs.Prelude.{ℕ, List, Table}
 use Rattle.rx_search.specs.declared.automaton.Automaton.{Ghosts}
 
 pub record Sides : Type 0 where

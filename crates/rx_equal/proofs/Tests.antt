@@ -1,12 +1,8 @@
 -- Tests, and what stands in lists.
-use Rattle.std.proofs.lemmas.Grind.{common_steps}
-use Rattle.std.proofs.Common.{ℕ, ◌≡◌, ◌+◌, ◌<◌, ◌≤◌, Bool, true, false, not, Option, Some, None, List, map, refl, ap}
-use Rattle.std.proofs.Common.{length, sym, ◌∙◌, subst, arith}
-use Rattle.std.specs.Prelude.{◌↔◌, IsTrue, slice_get, All, Contains, option_map}
-use Rattle.std.proofs.lemmas.Bool.{cases_lt}
-use Rattle.std.proofs.lemmas.List.Elements.{All-get_or}
-use Rattle.std.proofs.lemmas.Option.{slice_get_within, get_or_from_slice_get, slice_get-get_or, slice_get-map}
-use Rattle.std.proofs.lemmas.Option.{same_Some}
+use Rattle.rx_spec.proofs.Prelude.{common_steps, ℕ, ◌≡◌, ◌+◌, ◌<◌, ◌≤◌, Bool, true, false, not, Option, Some, None}
+use Rattle.rx_spec.proofs.Prelude.{List, map, refl, ap, length, sym, ◌∙◌, subst, arith, ◌↔◌, IsTrue, slice_get}
+use Rattle.rx_spec.proofs.Prelude.{Contains, option_map, slice_get_within, get_or_from_slice_get, slice_get-get_or}
+use Rattle.rx_spec.proofs.Prelude.{slice_get-map, same_Some}
 
 pub not_both : (b : Bool) → IsTrue (not b) → IsTrue b → ⊥
 not_both true e h = absurd (cc)
@@ -26,10 +22,6 @@ false_by {b = b} e tests from = (λ t. absurd (cc), λ p. absurd (false_both b e
 pub from_not : (b added : Bool) → ((IsTrue b → ⊥) → IsTrue added) → added ≡ false → IsTrue b
 from_not true added h e = refl
 from_not false added h e = absurd (false_both added e (h (λ (t : false ≡ true). absurd (cc))))
-
-pub all_get : {X : Type 0} (P : X → Type 0) (xs : List X) (i : ℕ) {x : X} → All P xs → slice_get xs i ≡ Some x → P x
-all_get P xs i {x} all e =
-    subst P (get_or_from_slice_get xs i x x e) (All-get_or P xs i x (slice_get_within xs i x e) all)
 
 pub map_get : {X Y : Type 0} (f : X → Y) (xs : List X) (i : ℕ) {x : X} → slice_get xs i ≡ Some x
     → slice_get (map f xs) i ≡ Some (f x)
@@ -58,7 +50,7 @@ map_contained f xs y c =
     by_item f xs y c.0 (slice_get xs c.0) refl (sym (slice_get-map f xs c.0) ∙ get_contained (map f xs) y c)
 
 pub below_more : (P : ℕ → Type 0) (n : ℕ) → ((k : ℕ) → k < n → P k) → P n → (k : ℕ) → k < n + 1 → P k
-below_more P n below here k h = grind (arith, common_steps, cases_lt)
+below_more P n below here k h = grind (arith, common_steps)
 
 -- what holds of the item at a place holds of each item there
 pub got : {X : Type 0} (P : X → Type 0) {o : Option X} {x : X} → o ≡ Some x → P x → (y : X) → o ≡ Some y → P y
@@ -70,8 +62,8 @@ EachBelow {X} P xs n = (k : ℕ) → k < n → (x : X) → slice_get xs k ≡ So
 
 pub each_more : {X : Type 0} (P : X → Type 0) (xs : List X) (n : ℕ) {x : X} → EachBelow P xs n
     → slice_get xs n ≡ Some x → P x → EachBelow P xs (n + 1)
-each_more {X} P xs n below there h = grind (arith, common_steps, below_more, got)
+each_more {X} P xs n below there h = grind (arith, common_steps)
 
 pub each_contained : {X : Type 0} (P : X → Type 0) (xs : List X) {n : ℕ} → EachBelow P xs n → length xs ≤ n → (x : X)
     → Contains xs x → P x
-each_contained P xs below past x c = below c.0 (let h = c.1 in omega (arith, h, past)) x (get_contained xs x c)
+each_contained P xs below past x c = below c.0 (let h = c.1 in omega arith) x (get_contained xs x c)

@@ -1,16 +1,12 @@
 -- A walk over pairs: each pair that it has is reached, and where nothing is left to add it has all.
-use Rattle.std.proofs.lemmas.Grind.{common_steps}
-use Rattle.std.proofs.Common.{ℕ, zero, suc, ◌≡◌, ◌≢◌, ◌+◌, ◌<◌, ◌≤◌, Option, Some, None, List, [], ◌∷◌, ◌++◌, length}
-use Rattle.std.proofs.Common.{refl, ap, sym, ◌∙◌, subst, arith, get_or, ⊎_elim, ◌⊎◌, inl, inr, length-append, Bool}
-use Rattle.std.proofs.Common.{true, false, Result, Ok, Err, append_assoc}
-use Rattle.std.proofs.lemmas.Bool.{cases_lt}
-use Rattle.std.specs.Prelude.{Contains, slice_get, AllPairs, IsTrue}
-use Rattle.std.proofs.lemmas.Option.{slice_get_within, slice_get-get_or, same_Some}
-use Rattle.std.proofs.lemmas.List.{get_or_append_left, append-nil}
+use Rattle.rx_spec.proofs.Prelude.{common_steps, ℕ, zero, suc, ◌≡◌, ◌≢◌, ◌+◌, ◌<◌, ◌≤◌, Option, Some, None, List, []}
+use Rattle.rx_spec.proofs.Prelude.{◌∷◌, ◌++◌, length, refl, ap, sym, ◌∙◌, subst, arith, get_or, ⊎_elim, ◌⊎◌, inl, inr}
+use Rattle.rx_spec.proofs.Prelude.{length-append, Bool, true, false, Result, Ok, Err, cases_lt, Contains, slice_get}
+use Rattle.rx_spec.proofs.Prelude.{IsTrue, slice_get_within, slice_get-get_or, same_Some, get_or_append_left}
+use Rattle.rx_spec.proofs.Prelude.{append-nil, run, Table, IsSound, Contains-append_left, Contains-push}
+use Rattle.rx_spec.proofs.Prelude.{Contains-push_cases, StartError, start_error, start_row, start_context}
 use Rattle.std.proofs.Math.Seq.{get_or-append_seam}
 use Rattle.std.proofs.lemmas.List.Quantifiers.{all_pairs_push}
-use Rattle.rx_spec.specs.Machines.{run}
-use Rattle.rx_spec.specs.Tables.{Table, IsSound}
 use Rattle.rx_base.specs.Unit.{unit_number}
 use Rattle.lemmas_walks.proofs.Words.{IsWord-nil, IsWord-cons, IsWord-append, run-nil, run-cons, run-append, run-within}
 use Rattle.rx_equal.specs.declared.evidence.Link.{Link}
@@ -20,10 +16,8 @@ use Rattle.rx_equal.specs.Walks.{Follows, IsWalk, IsLink, IsReachedBy, IsEqual, 
 use Rattle.rx_equal.specs.Walks.{AreLabelled, IsFrom, WentOn, Stepped}
 use Rattle.rx_equal.proofs.Sides.{Sides}
 use Rattle.rx_equal.proofs.Tests.{below_more, get_contained}
-use Rattle.rx_equal.proofs.Meets.{pairs_step, rows_met}
+use Rattle.rx_equal.proofs.Meets.{rows_met}
 use Rattle.rx_equal.proofs.Closed.{nothing_parts}
-use Rattle.std.proofs.lemmas.List.Elements.{Contains-append_left, Contains-push, Contains-push_cases}
-use Rattle.rx_spec.specs.Starts.{StartError, start_error, start_row, start_context}
 use Rattle.rx_base.specs.StartConfig.{StartConfig}
 use Rattle.rx_equal.specs.Partings.{answer_at, row_or}
 use Rattle.rx_equal.specs.Pairs.{Adds, pairs_of}
@@ -37,36 +31,36 @@ by_first : (t u : Table) (first : Link) (links : List Link) (earlier pairs : Lis
     → ((q : RowPair) → pairs_from t u (earlier ++ q ∷ []) links ≡ Some pairs
     → pairs_from t u (earlier ++ q ∷ []) (links ++ link ∷ []) ≡ Some (pairs ++ p ∷ []))
     → pairs_from t u earlier (first ∷ (links ++ link ∷ [])) ≡ Some (pairs ++ p ∷ [])
-by_first t u first links earlier pairs link p e is (Some q) h go = grind (arith, common_steps, pairs_step)
+by_first t u first links earlier pairs link p e is (Some q) h go = grind (arith, common_steps)
 by_first t u first links earlier pairs link p e is None h go = grind (arith, common_steps)
 
 -- one more link
 pub named_more : (t u : Table) (links : List Link) (earlier pairs : List RowPair) (link : Link) (p : RowPair)
     → pairs_from t u earlier links ≡ Some pairs → link_pair t u pairs link ≡ Some p
     → pairs_from t u earlier (links ++ link ∷ []) ≡ Some (pairs ++ p ∷ [])
-named_more t u [] earlier pairs link p e is = grind (arith, common_steps, same_Some, pairs_step)
+named_more t u [] earlier pairs link p e is = grind (arith, common_steps)
 named_more t u (first ∷ links) earlier pairs link p e is =
     by_first t u first links earlier pairs link p e is (link_pair t u earlier first) refl
     (λ q f. named_more t u links (earlier ++ q ∷ []) pairs link p f is)
 
 none_within : {X : Type 0} (xs : List X) (i : ℕ) → i < length xs → slice_get xs i ≡ None → ⊥
-none_within [] i h e = absurd (omega (arith, h))
+none_within [] i h e = absurd (omega arith)
 none_within (x ∷ xs) i h e = let there = slice_get-get_or (x ∷ xs) i x h in absurd (cc)
 
 -- earlier pairs stay where they are
 get_more : {X : Type 0} (xs ys : List X) (i : ℕ) → i < length xs → slice_get (xs ++ ys) i ≡ slice_get xs i
-get_more [] ys i h = absurd (omega (arith, h))
+get_more [] ys i h = absurd (omega arith)
 get_more {X} (x ∷ xs) ys i h =
     let all : List X = x ∷ xs in
     let e = length-append all ys in
-    slice_get-get_or (all ++ ys) i x (omega (arith, h, e))
+    slice_get-get_or (all ++ ys) i x (omega arith)
     ∙ ap (λ y. Some y) (get_or_append_left all ys x i h) ∙ sym (slice_get-get_or all i x h)
 
 get_last : {X : Type 0} (xs : List X) (x : X) → slice_get (xs ++ x ∷ []) (length xs) ≡ Some x
 get_last {X} xs x =
     let one : List X = x ∷ [] in
     let e = length-append xs one in
-    slice_get-get_or (xs ++ one) (length xs) x (omega (arith, e)) ∙ ap (λ y. Some y) (get_or-append_seam xs x [] x)
+    slice_get-get_or (xs ++ one) (length xs) x (omega arith) ∙ ap (λ y. Some y) (get_or-append_seam xs x [] x)
 
 source_below : (t u : Table) (pairs : List RowPair) (p : RowPair) (from unit : ℕ) (o : Option RowPair)
     → slice_get pairs from ≡ o → next_of t u (slice_get pairs from) unit ≡ Some p → from < length pairs
@@ -85,7 +79,7 @@ link_last t u pairs p (Link.Next from unit) is stands =
     )
 
 get_or_same : {X : Type 0} (xs : List X) (k : ℕ) (d e : X) → k < length xs → get_or xs k e ≡ get_or xs k d
-get_or_same xs k d e h = grind (arith, common_steps, same_Some, slice_get-get_or)
+get_or_same xs k d e h = grind (arith, common_steps)
 
 -- what stands in a list with one more item: an earlier item, or the last
 at_cases : {X : Type 0} (xs : List X) (y : X) (i : ℕ) (x : X) → slice_get (xs ++ y ∷ []) i ≡ Some x
@@ -96,7 +90,7 @@ at_cases {X} xs y i x e =
     let len = length-append xs one in
     ⊎_elim (λ (h : i < length xs). inl (sym (get_more xs one i h) ∙ e))
     (λ (h : length xs ≤ i).
-    let last : i ≡ length xs = omega (arith, within, len, h) in
+    let last : i ≡ length xs = omega arith in
     inr (last, same_Some y x (sym (get_last xs y) ∙ sym (ap (slice_get (xs ++ one)) last) ∙ e)))
     (cases_lt i (length xs))
 
@@ -115,7 +109,7 @@ module _ {t u : Table} {links : List Link} {pairs : List RowPair} (walk : IsWalk
         ⊎_elim
         (λ (old : slice_get links i ≡ Some other).
         follows_more t u pairs (p ∷ []) i other
-        (let h = slice_get_within links i other old in let c = walk.count in omega (arith, h, c))
+        (let h = slice_get_within links i other old in let c = walk.count in omega arith)
         (walk.follows i other old))
         (λ (last : (i ≡ length links) × (link ≡ other)).
         subst (λ (k : ℕ). Follows t u (pairs ++ p ∷ []) k other) (sym (last.0 ∙ walk.count))
@@ -140,7 +134,7 @@ module _ {t u : Table} {links : List Link} {pairs : List RowPair} (walk : IsWalk
         ∙ run-cons (next_pair t u) (run (next_pair t u) r.start r.word) unit []
         ∙ run-nil (next_pair t u) (next_pair t u (run (next_pair t u) r.start r.word) unit)
         ∙ ap (λ x. next_pair t u x unit) r.leads ∙ leads;
-    short = (let e = length-append r.word (unit ∷ []) in let s = r.short in omega (arith, e, s));
+    short = (let e = length-append r.word (unit ∷ []) in let s = r.short in omega arith);
   }
 
   by_source : (i : ℕ) (p : RowPair) → slice_get pairs i ≡ Some p
@@ -169,7 +163,7 @@ module _ {t u : Table} {links : List Link} {pairs : List RowPair} (walk : IsWalk
       by_get i h None e = absurd (none_within links i h e)
 
   reached_within : (limit i : ℕ) (p : RowPair) → i < limit → slice_get pairs i ≡ Some p → IsReachedBy t u i p
-  reached_within zero i p h there = absurd (omega (arith, h))
+  reached_within zero i p h there = absurd (omega arith)
   reached_within (suc limit) i p h there =
       let within = slice_get_within pairs i p there in
       let count = walk.count in
@@ -215,7 +209,7 @@ module _ {t u : Table} {links : List Link} {pairs : List RowPair} (walk : IsWalk
 
 pub extends_both : {first second third : List RowPair} → Extends first second → Extends second third
     → Extends first third
-extends_both {first} e f = grind (arith, common_steps, append_assoc)
+extends_both {first} e f = grind (arith, common_steps)
 
 module _ {before after : List RowPair} (e : Extends before after) where
   pub extends_contains : (p : RowPair) → Contains before p → Contains after p
@@ -230,9 +224,9 @@ module _ {before after : List RowPair} (e : Extends before after) where
 
   met_more : (o r : Result ℕ StartError) → AreMet before o r → AreMet after o r
   met_more (Ok x) (Ok y) m = extends_contains (record { row = x; other = y }) m
+  met_more (Err x) (Ok y) m = m
   met_more (Err x) (Err y) m = m
   met_more (Ok x) (Err y) m = m
-  met_more (Err x) (Ok y) m = m
 
   pub extends_meet : (t u : Table) (place : StartConfig) → Meet t u before place → Meet t u after place
   extends_meet t u place m = met_more (answer_at t place) (answer_at u place) m
@@ -279,19 +273,15 @@ start_labels t u s r place p e =
 pub by_none : (source : Option ℕ) (links : List Link) → ExtendsBy source links links
 by_none source links = record { longer = omega arith; each = λ i link there. inl there }
 
-by_both : {source : Option ℕ} {first second third : List Link} → ExtendsBy source first second
-    → ExtendsBy source second third → ExtendsBy source first third
-by_both {source} {first} {second} e f = grind (arith, common_steps)
-
 pub by_added : (source : Option ℕ) (before : List Link) (link : Link) (added : Bool) (after : List Link)
     → IsFrom source link → AddsLink before link added after → ExtendsBy source before after
-by_added source before link true after is e = grind (arith, common_steps, length-append, at_cases)
+by_added source before link true after is e = grind (arith, common_steps, at_cases)
 by_added source before link false after is e = subst (ExtendsBy source before) (sym e) (by_none source before)
 
 module _ {t : Table} {ids : List ℕ} {u : Table} {others : List ℕ} {source : Option ℕ} where
   pub went_both : {first second third : Walk} → WentOn t ids u others source first second
       → WentOn t ids u others source second third → WentOn t ids u others source first third
-  went_both e f = grind (arith, common_steps, extends_both, by_both)
+  went_both e f = grind (arith, common_steps, extends_both)
 
   pub went_by : (before after : Walk) (p : RowPair) (link : Link) (added : Bool) → AreWalked t ids u others after
       → Adds (pairs_of ids others before.pairs) p added (pairs_of ids others after.pairs)
@@ -338,12 +328,3 @@ stepped_by t u before after p q unit added equal same a is labels to from =
     stepped_new t u before after p unit equal
     (subst (λ x. Adds before x true after) same (subst (λ v. Adds before q v after) is a)) labels
     (λ e. subst (HaveEqualLabels t u) same (to e)) (λ h. from (subst (HaveEqualLabels t u) (sym same) h))
-
-no_pairs : AllPairs {X = RowPair} (λ p q. p ≢ q) []
-no_pairs i j d below h = absurd (omega (arith, h))
-
-no_link : {X : Type 0} (i : ℕ) (x : X) → slice_get [] i ≡ Some x → ⊥
-no_link {X} i x e = (let h = slice_get_within {A = X} [] i x e in absurd (omega (arith, h)))
-
-pub walk_none : (t u : Table) → IsWalk t u [] []
-walk_none t u = record { named = refl; count = refl; follows = λ i link e. absurd (no_link i link e); once = no_pairs }

@@ -1,17 +1,10 @@
 -- Words over pairs of rows.
-use Rattle.std.proofs.lemmas.Grind.{common_steps}
-use Rattle.std.proofs.Common.{ℕ, suc, ap₂, arith, ◌≡◌, ◌+◌, ◌≤◌, Some, List, [], ◌∷◌, length, map, drop, ap, sym, ◌∙◌}
-use Rattle.std.proofs.Common.{subst, drop-cons, Result, Ok, Err}
-use Rattle.std.proofs.lemmas.Option.{slice_get_within, get_or_from_slice_get, same_Some}
-use Rattle.std.specs.Prelude.{slice_get}
-use Rattle.rx_spec.specs.Machines.{run}
-use Rattle.rx_spec.specs.Tables.{Table}
+use Rattle.rx_spec.proofs.Prelude.{common_steps, ℕ, suc, ap₂, arith, ◌≡◌, ◌+◌, ◌≤◌, Some, List, [], ◌∷◌, length, map}
+use Rattle.rx_spec.proofs.Prelude.{drop, ap, sym, ◌∙◌, subst, drop-cons, Result, Ok, Err, slice_get_within}
+use Rattle.rx_spec.proofs.Prelude.{get_or_from_slice_get, same_Some, slice_get, run, Table, label_after, StartError}
 use Rattle.rx_spec.specs.declared.Unit.{Unit}
 use Rattle.rx_base.specs.Unit.{unit_number}
 use Rattle.lemmas_walks.proofs.Words.{run-nil, run-cons}
-use Rattle.std.proofs.Math.ListN.{drop_of_length-le}
-use Rattle.rx_spec.specs.Labels.{label_after}
-use Rattle.rx_spec.specs.Starts.{StartError}
 use Rattle.rx_base.specs.StartConfig.{StartConfig}
 use Rattle.rx_equal.specs.Partings.{answer_at, AreAlikeBy}
 use Rattle.rx_equal.specs.Evidence.{RowPair, next_pair, start_pair, both, HaveEqualLabels}
@@ -37,7 +30,7 @@ word_on next word i unit row led {end} there is left =
 -- nothing of it is left
 pub word_end : (next : RowPair → ℕ → RowPair) (word : List Unit) (i : ℕ) (row : RowPair) {end : RowPair}
     → length word ≤ i → run next row (map unit_number (drop i word)) ≡ end → end ≡ row
-word_end next word i row {end} past left = grind (arith, common_steps, drop_of_length-le, run-nil)
+word_end next word i row {end} past left = grind (arith, common_steps, run-nil)
 
 -- a word leads from a pair to the two rows to which it leads in either table
 pub run_both : (t u : Table) (p : RowPair) (word : List ℕ)
@@ -59,8 +52,8 @@ labels_led t u start end word leads = grind (arith, common_steps, run_both)
 
 pub rows_begin : (o r : Result ℕ StartError) (p : RowPair) → both o r ≡ Some p → (o ≡ Ok p.row) × (r ≡ Ok p.other)
 rows_begin (Ok x) (Ok y) p e = grind (arith, common_steps, same_Some)
-rows_begin (Ok x) (Err f) p e = absurd (cc)
 rows_begin (Err e') (Ok y) p e = absurd (cc)
+rows_begin (Ok x) (Err f) p e = absurd (cc)
 rows_begin (Err e') (Err f) p e = absurd (cc)
 
 module _ (t u : Table) (place : StartConfig) (start end : RowPair) (word : List ℕ)
@@ -69,8 +62,7 @@ module _ (t u : Table) (place : StartConfig) (start end : RowPair) (word : List 
   alike_from_labels e =
       let rows = rows_begin (answer_at t place) (answer_at u place) start begins in
       let led = labels_led t u start end word leads in
-      subst (λ o. AreAlikeBy t u word o (answer_at u place)) (sym rows.0)
-      (subst (λ o. AreAlikeBy t u word (Ok start.row) o) (sym rows.1) (led.0 ∙ e ∙ sym led.1))
+      grind (arith, common_steps)
 
   pub labels_from_alike : AreAlikeBy t u word (answer_at t place) (answer_at u place) → HaveEqualLabels t u end
   labels_from_alike h =

@@ -1,21 +1,13 @@
 -- The NFA that the steps of the compiler make: the rows of the patterns, then their joined start, then the lead-in.
-use Rattle.std.proofs.lemmas.Grind.{common_steps}
-use Rattle.std.proofs.Common.{◌≡◌, ℕ, ◌+◌, ◌^◌, ◌≤◌, ◌==◌, Bool, true, false, List, length, map, min, refl, arith}
-use Rattle.std.proofs.Common.{length-append}
-use Rattle.std.proofs.lemmas.List.{length-map}
-use Rattle.std.proofs.lemmas.List.Folds.{list_all-map}
-use Rattle.std.specs.List.{list_all, list_any}
-use Rattle.rx_spec.specs.Causes.{id_count}
-use Rattle.rx_spec.specs.Expressions.{Expression, min_len}
-use Rattle.rx_spec.specs.Nfas.{lead_in, read_as, nfa_of}
-use Rattle.rx_spec.specs.Edge.{begins_with_edge}
+use Rattle.rx_spec.proofs.Prelude.{common_steps, ◌≡◌, ℕ, ◌+◌, ◌^◌, ◌≤◌, ◌==◌, Bool, true, false, List, length, map, min}
+use Rattle.rx_spec.proofs.Prelude.{refl, arith, list_all-map, list_all, list_any, id_count, Expression, min_len}
+use Rattle.rx_spec.proofs.Prelude.{lead_in, read_as, nfa_of, begins_with_edge}
 use Rattle.rx_spec.specs.declared.Direction.{Direction}
 use Rattle.rx_expr.specs.Compiles.{Adds, AddsJoined, AddsPatterns, Fits, all_at_edge, patterns_count, joined_count}
 use Rattle.rx_expr.specs.Compiles.{lead_count}
 use Rattle.rx_expr.specs.Nfa.{row_of}
 use Rattle.rx_expr.specs.Settings.{Asked, settled}
 use Rattle.rx_expr.specs.declared.thompson.nfa.Row.{Row}
-use Rattle.rx_expr.proofs.ExpressionRows.{adds_same}
 use Rattle.rx_expr.proofs.PatternRows.{length-patterns, length-entries}
 use Rattle.rx_expr.proofs.JoinedStarts.{length-start_of_all}
 
@@ -35,16 +27,7 @@ pub length-nfa : (direction : Direction) (terminator : ℕ) (utf8 : Bool) (es : 
     ≡ patterns_count es + joined_count (length es) + lead_count (all_at_edge direction es)
 unfolding nfa_of
 length-nfa direction terminator utf8 es =
-    grind (
-      arith,
-      common_steps,
-      length-lead_in,
-      edge_of,
-      length-start_of_all,
-      length-entries,
-      length-append,
-      length-patterns,
-    )
+    grind (arith, common_steps, length-lead_in, edge_of, length-start_of_all, length-entries, length-patterns)
 
 -- what fits, part by part
 pub rows_fit : (a : Asked) (es : List Expression) {direction : Direction} → direction ≡ (settled a).direction
@@ -71,7 +54,7 @@ pub adds_all : {direction : Direction} {es : List Expression} {first mid last : 
     → Adds (lead_in at_edge) mid last anchored unanchored
     → AddsAll direction es first mid last starts anchored unanchored
 adds_all {first = first} {mid = mid} {anchored = anchored} patterns same joined edge led =
-    grind (arith, common_steps, adds_same)
+    grind (arith, common_steps)
 
 pub nfa_made : {direction : Direction} {es : List Expression} {first mid last : List Row} {starts : List ℕ}
     {anchored unanchored : ℕ} {has_empty : Bool} (terminator : ℕ) (utf8 : Bool)
@@ -88,7 +71,7 @@ pub nfa_made : {direction : Direction} {es : List Expression} {first mid last : 
     } ≡ nfa_of direction terminator utf8 es
 unfolding nfa_of
 nfa_made {direction} {es} {first} {mid} {last} terminator utf8 steps empty =
-    grind (arith, common_steps, length-map, length-append, edge_of)
+    grind (arith, common_steps, edge_of)
 
 pub nfa_same : {r s : Direction} {t u : ℕ} {v w : Bool} (es : List Expression) → r ≡ s → t ≡ u → v ≡ w
     → nfa_of r t v es ≡ nfa_of s u w es

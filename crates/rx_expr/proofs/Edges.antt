@@ -1,12 +1,10 @@
 -- Whether an expression reads nothing, and whether it begins with the edge, by its form.
-use Rattle.std.proofs.Common.{◌≡◌, ◌==◌, ℕ, zero, suc, ◌<◌, ◌≤◌, Bool, true, false, ◌&&◌, ◌||◌, Option, Some, None}
-use Rattle.std.proofs.Common.{refl, ap, ◌∙◌, arith}
-use Rattle.std.proofs.Math.Path.{ap₂}
+use Rattle.rx_spec.proofs.Prelude.{◌≡◌, ◌==◌, ℕ, zero, suc, ◌<◌, ◌≤◌, Bool, true, false, ◌&&◌, ◌||◌, Option, Some, None}
+use Rattle.rx_spec.proofs.Prelude.{refl, ap, ◌∙◌, arith, ap₂, Expression, mirror, reads_nothing, begins_with_edge}
+use Rattle.rx_spec.proofs.Prelude.{read_as}
 use Rattle.std.proofs.Math.Bool.{and_comm}
 use Rattle.rx_spec.specs.declared.Look.{Look}
-use Rattle.rx_spec.specs.Expressions.{Expression, mirror}
-use Rattle.rx_spec.specs.Edge.{reads_nothing, begins_with_edge, is_edge}
-use Rattle.rx_spec.specs.Nfas.{read_as}
+use Rattle.rx_spec.specs.Edge.{is_edge}
 use Rattle.rx_spec.specs.declared.Direction.{Direction}
 use Rattle.rx_expr.specs.Compiles.{has_no_round}
 
@@ -43,14 +41,12 @@ nothing-repeat (Some most) is = ap reads_nothing is
 -- the mirror reads nothing where the expression reads nothing
 nothing-mirror : (e : Expression) → reads_nothing (mirror e) ≡ reads_nothing e
 unfolding reads_nothing mirror
-nothing-mirror Expression.Empty = refl
-nothing-mirror (Expression.Class set) = refl
-nothing-mirror (Expression.Look look) = refl
 nothing-mirror (Expression.Concat a b) =
     ap₂ (λ x y. x && y) (nothing-mirror b) (nothing-mirror a) ∙ and_comm (reads_nothing b) (reads_nothing a)
 nothing-mirror (Expression.Alternate a b) = ap₂ (λ x y. x && y) (nothing-mirror a) (nothing-mirror b)
 nothing-mirror (Expression.Repeat least None greedy body) = nothing-mirror body
 nothing-mirror (Expression.Repeat least (Some most) greedy body) = ap (λ x. most == 0 || x) (nothing-mirror body)
+nothing-mirror _ = refl
 
 pub nothing-read_as : (direction : Direction) (e : Expression) → reads_nothing (read_as direction e) ≡ reads_nothing e
 nothing-read_as Direction.Forward e = refl

@@ -1,21 +1,17 @@
 -- The rows of an expression: what the compiler's functions add is put together as the definition puts parts together.
-use Rattle.std.proofs.lemmas.Grind.{common_steps}
-use Rattle.std.proofs.Common.{◌≡◌, ℕ, zero, suc, ◌+◌, ◌-◌, ◌*◌, ◌<◌, ◌≤◌, Bool, Option, Some, None, List, [], ◌∷◌, ◌++◌}
-use Rattle.std.proofs.Common.{length, map, set, refl, sym, ◌∙◌, ap, subst, arith, append_assoc, append-nil}
-use Rattle.std.proofs.Common.{length-append, add-one, add-zero, inl, inr, Result, Ok, Err, IfOk}
-use Rattle.std.proofs.lemmas.List.{length-map, map-append, map-set}
+use Rattle.rx_spec.proofs.Prelude.{common_steps, ◌≡◌, ℕ, zero, suc, ◌+◌, ◌-◌, ◌*◌, ◌<◌, ◌≤◌, Bool, Option, Some, List}
+use Rattle.rx_spec.proofs.Prelude.{[], ◌∷◌, ◌++◌, length, map, set, refl, sym, ◌∙◌, ap, subst, arith, append_assoc}
+use Rattle.rx_spec.proofs.Prelude.{append-nil, length-append, add-one, inl, inr, Result, Ok, Err, IfOk, map-append}
+use Rattle.rx_spec.proofs.Prelude.{map-set, Expression, mirror, Part, Maker, straight, row_to, chained, either, choice}
+use Rattle.rx_spec.proofs.Prelude.{copies, optional, loop, repeated, compile, rows_count, repeated_count, read_as}
 use Rattle.std.proofs.Math.Seq.{set-append_seam}
-use Rattle.std.proofs.Math.Nat.{eq-zero-or-pos, mul-le-mul_right}
+use Rattle.std.proofs.Math.Nat.{eq-zero-or-pos}
 use Rattle.std.specs.declared.alloc.AllocError.{AllocError}
-use Rattle.rx_spec.specs.Expressions.{Expression, mirror}
 use Rattle.rx_spec.specs.declared.Look.{Look}
-use Rattle.rx_spec.specs.Rows.{Part, Maker, straight, row_to, chained, either, choice, copies, optional, loop, repeated}
-use Rattle.rx_spec.specs.Rows.{compile, rows_count, repeated_count}
-use Rattle.rx_spec.specs.Nfas.{read_as}
 use Rattle.rx_spec.specs.Rows as spec
 use Rattle.rx_spec.specs.declared.Direction.{Direction}
-use Rattle.lemmas_walks.proofs.Rows.{Makes, rows_counted}
-use Rattle.rx_expr.specs.Compiles.{Adds, AddsRow, maker}
+use Rattle.lemmas_walks.proofs.Rows.{Makes, copies-suc, rows_counted}
+use Rattle.rx_expr.specs.Compiles.{Adds, maker}
 use Rattle.rx_expr.specs.Nfa.{row_of}
 use Rattle.rx_expr.specs.declared.thompson.nfa.Row.{Row}
 use Rattle.rx_expr.proofs.MirroredForms.{rows_count-mirror}
@@ -31,11 +27,11 @@ maker_makes direction e base next = rows_counted (read_as direction e) base next
 
 length-added : {make : Maker} {old new : List Row} {next entry : ℕ} → Adds make old new next entry
     → length new ≡ length old + length (make (length old) next).rows
-length-added {make} {old} {new} {next} added = grind (arith, common_steps, length-map, length-append)
+length-added {make} {old} {new} {next} added = grind (arith, common_steps)
 
 pub length-counted : {make : Maker} {old new : List Row} {next entry count : ℕ} → Makes make count
     → Adds make old new next entry → length new ≡ length old + count
-length-counted {old = old} {next = next} makes added = grind (arith, common_steps, length-added)
+length-counted {old = old} {next = next} makes added = grind (arith, common_steps)
 
 -- ---- the same said of equal values
 
@@ -61,26 +57,10 @@ ok_same (Err error) old new next e added = tt
 pub adds_nothing : {old : List Row} {next : ℕ} → Adds straight old old next next
 adds_nothing {old} = record { entered = refl; rows = sym (append-nil (map row_of old)) }
 
--- one row
-adds_row : (to : ℕ → spec.Row) {old new : List Row} {next id : ℕ} (row : Row) → row_of row ≡ to next
-    → AddsRow row old new id → Adds (row_to to) old new next id
-adds_row to {old} row is pushed = grind (arith, common_steps, map-append)
-
-pub ok_row : (r : Result ℕ AllocError) (to : ℕ → spec.Row) (old new : List Row) (next : ℕ) (row : Row)
-    → row_of row ≡ to next → IfOk r (AddsRow row old new) → IfOk r (Adds (row_to to) old new next)
-ok_row (Ok id) to old new next row is pushed = adds_row to row is pushed
-ok_row (Err error) to old new next row is pushed = tt
-
 -- what comes after, and then what leads to it
 pub adds_chained : {first second : Maker} {old mid new : List Row} {next after entry : ℕ}
     → Adds second old mid next after → Adds first mid new after entry → Adds (chained first second) old new next entry
-adds_chained {first} {second} {old} {next = next} later sooner = grind (arith, common_steps, length-added, append_assoc)
-
--- a Split behind other rows
-rows-pushed : (late : List Row) (split : Row) (before made : List spec.Row) {new : List Row} {way : spec.Row}
-    → map row_of late ≡ before ++ made → row_of split ≡ way → new ≡ late ++ (split ∷ [])
-    → map row_of new ≡ before ++ (made ++ (way ∷ []))
-rows-pushed late split before made {way = way} laid is pushed = grind (arith, common_steps, map-append, append_assoc)
+adds_chained {first} {second} {old} {next = next} later sooner = grind (arith, common_steps)
 
 -- one more optional round
 pub adds_optional : (greedy : Bool) (n : ℕ) {body : Maker} {old mid late new : List Row} {next entered round : ℕ}
@@ -89,7 +69,7 @@ pub adds_optional : (greedy : Bool) (n : ℕ) {body : Maker} {old mid late new :
     → Adds (optional greedy (n + 1) body) old new next (length late)
 unfolding optional
 adds_optional greedy n {body} {old} {mid} {late} {new} {next} split before added is pushed =
-    grind (arith, common_steps, length-added, append_assoc, rows-pushed, add-one)
+    grind (arith, common_steps, length-added)
 
 pub adds_no_round : (greedy : Bool) (body : Maker) {old : List Row} {next : ℕ}
     → Adds (optional greedy 0 body) old old next next
@@ -102,7 +82,7 @@ pub adds_loop : (greedy : Bool) {body : Maker} {old first late new : List Row} {
     → row_of split ≡ choice greedy round next → new ≡ set late (length old) split
     → Adds (loop greedy body) old new next (length old)
 adds_loop greedy {body} {old} {first} {late} {next = next} split opened added is put =
-    grind (arith, common_steps, length-append, map-append, append_assoc, map-set, length-map, set-append_seam)
+    grind (arith, common_steps, length-append, map-append, append_assoc, map-set, set-append_seam)
 
 -- ---- copies
 
@@ -110,22 +90,6 @@ adds_loop greedy {body} {old} {first} {late} {next = next} split opened added is
 adds_as : {made make : Maker} {old new : List Row} {next entry : ℕ} → ((b n : ℕ) → made b n ≡ make b n)
     → Adds made old new next entry → Adds make old new next entry
 adds_as {old = old} {next = next} same added = grind (arith, common_steps)
-
--- one more copy in front is one more behind
-copies_more : (body : Maker) (n base next : ℕ) → copies (suc n) body base next ≡ chained body (copies n body) base next
-unfolding copies
-copies_more body zero base next = grind (arith, common_steps, append-nil, add-zero)
-copies_more body (suc n) base next =
-    let last = body base next in
-    let step = copies_more body n (base + length last.rows) last.entry in
-    let inner = copies n body (base + length last.rows) last.entry in
-    let outer = body (base + length last.rows + length inner.rows) inner.entry in
-    let place : base + length last.rows + length inner.rows ≡ base + length (last.rows ++ inner.rows) =
-    omega (arith, length-append last.rows inner.rows) in
-    let front = λ (b : ℕ). body b inner.entry in
-    ap (λ (p : Part). record { entry = p.entry; rows = last.rows ++ p.rows }) step
-    ∙ ap (λ xs. record { entry = outer.entry; rows = xs }) (sym (append_assoc last.rows inner.rows outer.rows))
-    ∙ ap (λ b. record { entry = (front b).entry; rows = (last.rows ++ inner.rows) ++ (front b).rows }) place
 
 pub adds_no_copy : (body : Maker) {old : List Row} {next : ℕ} → Adds (copies 0 body) old old next next
 unfolding copies
@@ -135,12 +99,12 @@ pub adds_copy : (n : ℕ) {body : Maker} {old mid new : List Row} {next entered 
     → Adds (copies n body) old mid next entered → Adds body mid new entered entry
     → Adds (copies (n + 1) body) old new next entry
 adds_copy n {body} {old} {new = new} {next = next} {entry = entry} before added =
-    let whole = adds_as (λ b m. sym (copies_more body n b m)) (adds_chained before added) in
+    let whole = adds_as (λ b m. sym (copies-suc body n b m)) (adds_chained before added) in
     subst (λ k. Adds (copies k body) old new next entry) (sym (add-one n)) whole
 
 -- a further round fits where all do
 pub round_fits : (round count each : ℕ) → round < count → round * each + each ≤ count * each
-round_fits round count each lt = grind (arith, mul-le-mul_right each lt)
+round_fits round count each lt = grind arith
 
 -- ---- what has no rows is entered where its end is
 
@@ -166,15 +130,11 @@ no_copies (suc least) k r z h = absurd (grind arith)
 bare : (e : Expression) → rows_count e ≡ 0 → IsBare (compile e)
 unfolding compile rows_count copies optional
 bare Expression.Empty z base next = refl
-bare (Expression.Class set) z base next = absurd (omega arith)
-bare (Expression.Look look) z base next = absurd (omega arith)
 bare (Expression.Concat a b) z base next =
     let none : rows_count a ≡ 0 = omega arith in
     let nothing : rows_count b ≡ 0 = omega arith in
     ap (λ (p : Part). chained (compile a) (λ x y. p) base next) (bare b nothing base next)
     ∙ bare a none (base + 0) next
-bare (Expression.Alternate a b) z base next = absurd (omega arith)
-bare (Expression.Repeat least None greedy body) z base next = absurd (omega arith)
 bare (Expression.Repeat least (Some most) greedy body) z base next =
     let more = most - least in
     let rounds = λ (k : ℕ). chained (copies least (compile body)) (optional greedy k (compile body)) base next in
@@ -184,6 +144,7 @@ bare (Expression.Repeat least (Some most) greedy body) z base next =
       | inr some ↦
           ap (λ n. copies n (compile body) (base + 0) next) (no_copies least more (rows_count body) z some)
     ])
+bare _ z base next = absurd (omega arith)
 
 bare_maker : (direction : Direction) (e : Expression) → rows_count e ≡ 0 → IsBare (maker direction e)
 bare_maker direction e z = bare (read_as direction e) (rows_count-read_as direction e ∙ z)
@@ -194,7 +155,7 @@ adds_bare direction e z = adds_as (λ b n. sym (bare_maker direction e z b n)) a
 
 pub adds_bare_copies : (direction : Direction) (e : Expression) (n : ℕ) {old : List Row} {next : ℕ}
     → rows_count e ≡ 0 → Adds (copies n (maker direction e)) old old next next
-adds_bare_copies direction e n z = grind (arith, common_steps, bare_copies, bare_maker, adds_as, adds_nothing)
+adds_bare_copies direction e n z = grind (arith, common_steps, bare_copies, bare_maker)
 
 -- ---- an expression that is taken apart, read either way
 

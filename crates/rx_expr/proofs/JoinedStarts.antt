@@ -1,14 +1,8 @@
 -- The Splits that join the starts of all patterns, the last pair first.
-use Rattle.std.proofs.lemmas.Grind.{common_steps}
-use Rattle.std.proofs.Common.{◌≡◌, ℕ, zero, suc, ◌+◌, ◌-◌, ◌<◌, ◌≤◌, List, [], ◌∷◌, ◌++◌, length, map, drop, get_or}
-use Rattle.std.proofs.Common.{refl, sym, ◌∙◌, ap, subst, arith, append_assoc, append-nil, length-append, length-drop}
-use Rattle.std.proofs.Common.{Result, Ok, Err, IfOk}
-use Rattle.std.proofs.Math.Path.{ap₂}
-use Rattle.std.proofs.Math.Seq.{drop-length}
-use Rattle.std.proofs.lemmas.List.{length-map, map-append}
+use Rattle.rx_spec.proofs.Prelude.{common_steps, ◌≡◌, ℕ, zero, suc, ◌+◌, ◌-◌, ◌<◌, ◌≤◌, List, [], ◌∷◌, ◌++◌, length}
+use Rattle.rx_spec.proofs.Prelude.{map, drop, get_or, refl, sym, ◌∙◌, ap, subst, arith, append_assoc, append-nil}
+use Rattle.rx_spec.proofs.Prelude.{length-append, length-drop, Result, Ok, Err, IfOk, ap₂, map-append, start_of_all}
 use Rattle.std.specs.declared.alloc.AllocError.{AllocError}
-use Rattle.rx_spec.specs.Rows.{Part}
-use Rattle.rx_spec.specs.Nfas.{start_of_all}
 use Rattle.rx_spec.specs.Rows as spec
 use Rattle.rx_expr.specs.Compiles.{AddsRow, AddsJoined, joined_count}
 use Rattle.rx_expr.specs.Nfa.{row_of}
@@ -30,13 +24,9 @@ length-start_of_all base (start ∷ (next ∷ starts)) =
       length-start_of_all base (next ∷ starts),
     )
 
-length-added_rows : {starts : List ℕ} {old new : List Row} {entry : ℕ} → AddsJoined starts old new entry
-    → length new ≡ length old + length (start_of_all (length old) starts).rows
-length-added_rows {starts} {old} {new} added = grind (arith, common_steps, length-map, length-append)
-
 pub length-joined : {starts : List ℕ} {old new : List Row} {entry : ℕ} → AddsJoined starts old new entry
     → length new ≡ length old + joined_count (length starts)
-length-joined {starts} {old} added = grind (arith, common_steps, length-added_rows, length-start_of_all)
+length-joined {starts} {old} added = grind (arith, common_steps, length-start_of_all)
 
 -- ---- from the last start on
 
@@ -44,7 +34,7 @@ length-joined {starts} {old} added = grind (arith, common_steps, length-added_ro
 pub ok_failed : (r : Result ℕ AllocError) (old new : List Row) (starts : List ℕ) → length starts ≡ 0
     → IfOk r (AddsRow Row.Fail old new) → IfOk r (AddsJoined starts old new)
 unfolding start_of_all
-ok_failed (Ok id) old new [] none pushed = grind (arith, common_steps, map-append)
+ok_failed (Ok id) old new [] none pushed = grind (arith, common_steps)
 ok_failed (Ok id) old new (start ∷ starts) none pushed = absurd (omega arith)
 ok_failed (Err error) old new starts none pushed = tt
 
@@ -55,7 +45,7 @@ joined_one {old} start = record { entered = refl; rows = sym (append-nil (map ro
 
 pub joined_last : (starts : List ℕ) {old : List Row} {start : ℕ} → 0 < length starts
     → start ≡ get_or starts (length starts - 1) start → AddsJoined (drop (length starts - 1) starts) old old start
-joined_last starts {old} {start} some is = grind (arith, common_steps, drop_at, drop-length, joined_one)
+joined_last starts {old} {start} some is = grind (arith, common_steps, joined_one)
 
 -- one start more before others
 split_before : (base start : ℕ) (starts : List ℕ) → 0 < length starts → start_of_all base (start ∷ starts) ≡ record {
@@ -76,10 +66,7 @@ joined_before {starts} {old} {mid} {start = start} {joined = joined} some added 
     ap (map row_of) pushed ∙ map-append row_of mid (Row.Split start joined ∷ [])
     ∙ ap₂ (λ xs n. xs ++ (spec.Split start n ∷ [])) added.rows added.entered
     ∙ append_assoc (map row_of old) others.rows (spec.Split start others.entry ∷ []) in
-    record {
-      entered = length-added_rows added ∙ ap (λ (p : Part). p.entry) whole;
-      rows = laid ∙ ap (λ (p : Part). map row_of old ++ p.rows) whole;
-    }
+    grind (arith, common_steps)
 
 pub joined_more : (starts : List ℕ) (k : ℕ) {old mid new : List Row} {start joined : ℕ} → 1 ≤ k → k < length starts
     → start ≡ get_or starts (length starts - 1 - k) start

@@ -1,10 +1,8 @@
 -- Literals: the halves joined are the whole, and none is too deep.
-use Rattle.std.proofs.lemmas.Grind.{common_steps}
-use Rattle.std.proofs.Common.{◌≡◌, ℕ, zero, suc, ◌+◌, ◌-◌, ◌/◌, ◌*◌, ◌^◌, ◌<◌, ◌≤◌, List, [], ◌∷◌, length, take, drop}
-use Rattle.std.proofs.Common.{refl, arith, ap, ◌∙◌, length-drop, length-take, subst, Result, Ok, Err, IfErr, IfOk}
-use Rattle.std.proofs.Math.Path.{ap₂}
+use Rattle.rx_spec.proofs.Prelude.{common_steps, ◌≡◌, ℕ, zero, suc, ◌+◌, ◌-◌, ◌/◌, ◌*◌, ◌^◌, ◌<◌, ◌≤◌, List, [], ◌∷◌}
+use Rattle.rx_spec.proofs.Prelude.{length, take, drop, refl, arith, ap, length-drop, length-take, subst, Result, Ok}
+use Rattle.rx_spec.proofs.Prelude.{Err, IfErr, ap₂, Expression, depth}
 use Rattle.std.proofs.Math.Nat.{pow-suc}
-use Rattle.rx_spec.specs.Expressions.{Expression, depth}
 use Rattle.rx_expr.specs.Expr.{literal_within, literal_of}
 use Rattle.rx_expr.specs.ExprError.{RefusesJoin}
 use Rattle.rx_expr.specs.declared.expr.ExprError.{ExprError}
@@ -45,7 +43,7 @@ literal_halves : (bytes : List ℕ) → 2 ≤ length bytes
 unfolding literal_within
 literal_halves [] h = absurd (omega arith)
 literal_halves (byte ∷ []) h = absurd (omega arith)
-literal_halves (byte ∷ (next ∷ bytes)) h = grind (arith, common_steps, halves, literal_enough)
+literal_halves (byte ∷ (next ∷ bytes)) h = grind (arith, common_steps, literal_enough)
 
 half_below : (n p : ℕ) → n ≤ p * 2 → (n / 2 ≤ p) × (n - n / 2 ≤ p)
 half_below n p h = (omega arith, omega arith)
@@ -61,8 +59,8 @@ depth-literal (suc k) (suc n) (byte ∷ (next ∷ bytes)) h =
     let all : List ℕ = byte ∷ (next ∷ bytes) in
     let bound : length all ≤ 2 ^ k * 2 = subst (λ p. length all ≤ p) (pow-suc 2 k) h in
     let both = half_below (length all) (2 ^ k) bound in
-    let front = depth-literal k n (front_of all) (simp length-take (omega (arith, both.0))) in
-    let back = depth-literal k n (back_of all) (simp length-drop (omega (arith, both.1))) in
+    let front = depth-literal k n (front_of all) (simp length-take (omega arith)) in
+    let back = depth-literal k n (back_of all) (simp length-drop (omega arith)) in
     omega arith
 
 -- the literals of the halves, joined
@@ -81,11 +79,6 @@ literal_shallow bytes is len =
 pub only_memory : (r : Result Expression ExprError) (e : Expression) → IfErr r (RefusesJoin e) → depth e ≤ 200
     → IfErr r (λ x. x ≡ ExprError.Memory)
 only_memory (Ok x) e h d = tt
-only_memory (Err ExprError.BadRange) e h d = absurd h
-only_memory (Err ExprError.EmptyBody) e h d = absurd h
 only_memory (Err ExprError.TooDeep) e h d = absurd (omega arith)
 only_memory (Err ExprError.Memory) e h d = refl
-
-pub ok_as : (r : Result Expression ExprError) {x y : Expression} → x ≡ y → IfOk r (λ e. e ≡ x) → IfOk r (λ e. e ≡ y)
-ok_as (Ok e) same is = is ∙ same
-ok_as (Err error) same is = tt
+only_memory _ e h d = absurd h

@@ -1,26 +1,20 @@
 -- What is kept of an expression is kept of its mirror.
-use Rattle.std.proofs.Common.{◌≡◌, ℕ, ◌-◌, ◌^◌, min, refl, Some, None, arith, ap, ◌∙◌, sym, subst}
-use Rattle.rx_spec.specs.Expressions.{Expression, mirror, depth, min_len, IsLoopSafe}
+use Rattle.rx_spec.proofs.Prelude.{◌≡◌, ℕ, ◌-◌, ◌^◌, min, refl, Some, None, arith, ap, ◌∙◌, sym, subst, Expression}
+use Rattle.rx_spec.proofs.Prelude.{mirror, depth, min_len, IsLoopSafe, rows_count}
 use Rattle.lemmas_walks.proofs.Mirrors.{min_len-mirror, IsLoopSafe-mirror}
 use Rattle.rx_expr.specs.Expr.{form_of, IsKept}
 use Rattle.rx_expr.specs.declared.expr.Form.{Form}
 use Rattle.rx_expr.specs.declared.expr.Inner.{Inner}
-use Rattle.rx_spec.specs.Rows.{rows_count}
 
 pub depth-mirror : (e : Expression) → depth (mirror e) ≡ depth e
 unfolding depth mirror
-depth-mirror Expression.Empty = refl
-depth-mirror (Expression.Class set) = refl
-depth-mirror (Expression.Look look) = refl
 depth-mirror (Expression.Concat a b) = let x = depth-mirror a in let y = depth-mirror b in omega arith
 depth-mirror (Expression.Alternate a b) = let x = depth-mirror a in let y = depth-mirror b in omega arith
 depth-mirror (Expression.Repeat least most greedy body) = let x = depth-mirror body in omega arith
+depth-mirror _ = refl
 
 pub rows_count-mirror : (e : Expression) → rows_count (mirror e) ≡ rows_count e
 unfolding rows_count mirror
-rows_count-mirror Expression.Empty = refl
-rows_count-mirror (Expression.Class set) = refl
-rows_count-mirror (Expression.Look look) = refl
 rows_count-mirror (Expression.Concat a b) = let x = rows_count-mirror a in let y = rows_count-mirror b in omega arith
 rows_count-mirror (Expression.Alternate a b) =
     let x = rows_count-mirror a in
@@ -28,6 +22,7 @@ rows_count-mirror (Expression.Alternate a b) =
     omega arith
 rows_count-mirror (Expression.Repeat least None greedy body) = let x = rows_count-mirror body in rw x refl
 rows_count-mirror (Expression.Repeat least (Some most) greedy body) = let x = rows_count-mirror body in rw x refl
+rows_count-mirror _ = refl
 
 -- what is kept of a form is kept of the mirrored one
 pub record IsKeptOf (f : Form) (kept_len kept_rows kept_depth : ℕ) : Type 0 where

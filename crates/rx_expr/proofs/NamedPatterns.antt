@@ -1,15 +1,10 @@
 -- Which patterns the Match rows of an NFA name: those of its list, and no more than have ids.
-use Rattle.std.proofs.lemmas.Grind.{common_steps}
-use Rattle.std.proofs.Common.{◌≡◌, ℕ, zero, suc, ◌+◌, ◌-◌, ◌<◌, ◌≤◌, Bool, true, false, Option, Some, None, List, []}
-use Rattle.std.proofs.Common.{◌∷◌, ◌++◌, length, map, subst, arith, lit<, lit≤}
-use Rattle.std.proofs.lemmas.List.{length-map}
-use Rattle.std.specs.List.{AllByRecursion as Every, list_all}
-use Rattle.rx_spec.specs.Causes.{id_count}
-use Rattle.rx_spec.specs.Edge.{begins_with_edge}
-use Rattle.rx_spec.specs.Expressions.{Expression}
-use Rattle.rx_spec.specs.Nfas.{lead_in, nfa_of, patterns_from, read_as, start_of_all}
-use Rattle.rx_spec.specs.Rows.{Row, Maker, chained, choice, compile, copies, either, loop, optional, repeated}
-use Rattle.rx_spec.specs.States.{row_at}
+use Rattle.rx_spec.proofs.Prelude.{common_steps, ◌≡◌, ℕ, zero, suc, ◌+◌, ◌-◌, ◌<◌, ◌≤◌, Bool, true, false, Option, Some}
+use Rattle.rx_spec.proofs.Prelude.{None, List, [], ◌∷◌, ◌++◌, length, map, subst, arith, length-map, list_all, id_count}
+use Rattle.rx_spec.proofs.Prelude.{begins_with_edge, Expression, lead_in, nfa_of, patterns_from, read_as, start_of_all}
+use Rattle.rx_spec.proofs.Prelude.{Row, Maker, chained, choice, compile, copies, either, loop, optional, repeated}
+use Rattle.rx_spec.proofs.Prelude.{row_at}
+use Rattle.std.specs.List.{AllByRecursion as Every}
 use Rattle.rx_spec.specs.declared.Direction.{Direction}
 use Rattle.lemmas_walks.proofs.Every.{every-append}
 use Rattle.rx_expr.specs.NfaRows.{NamesPatterns}
@@ -37,11 +32,11 @@ AreNamed count maker = (base next : ℕ) → Every (Names count) (maker base nex
 
 chained_named : (count : ℕ) (first second : Maker) → AreNamed count first → AreNamed count second
     → AreNamed count (chained first second)
-chained_named count first second f s base next = grind (arith, common_steps, every-append)
+chained_named count first second f s base next = grind (arith, common_steps)
 
 either_named : (count : ℕ) (first second : Maker) → AreNamed count first → AreNamed count second
     → AreNamed count (either first second)
-either_named count first second f s base next = grind (arith, common_steps, every-append)
+either_named count first second f s base next = grind (arith, common_steps)
 
 copies_named : (count : ℕ) (body : Maker) → AreNamed count body → (n : ℕ) → AreNamed count (copies n body)
 unfolding copies
@@ -62,7 +57,7 @@ optional_named count greedy body h (suc n) base next =
     (h place inner.entry)) (choice_named count greedy round.entry next, tt)
 
 loop_named : (count : ℕ) (greedy : Bool) (body : Maker) → AreNamed count body → AreNamed count (loop greedy body)
-loop_named count greedy body h base next = grind (arith, common_steps, choice_named)
+loop_named count greedy body h base next = grind (arith, common_steps)
 
 repeated_named : (count least : ℕ) (most : Option ℕ) (greedy : Bool) (body : Maker) → AreNamed count body
     → AreNamed count (repeated least most greedy body)
@@ -76,14 +71,13 @@ repeated_named count least (Some most) greedy body h =
 compile_named : (count : ℕ) (e : Expression) → AreNamed count (compile e)
 unfolding compile
 compile_named count Expression.Empty base next = tt
-compile_named count (Expression.Class set) base next = (tt, tt)
-compile_named count (Expression.Look look) base next = (tt, tt)
 compile_named count (Expression.Concat a b) base next =
     chained_named count (compile a) (compile b) (compile_named count a) (compile_named count b) base next
 compile_named count (Expression.Alternate a b) base next =
     either_named count (compile a) (compile b) (compile_named count a) (compile_named count b) base next
 compile_named count (Expression.Repeat least most greedy body) base next =
     repeated_named count least most greedy (compile body) (compile_named count body) base next
+compile_named count _ base next = (tt, tt)
 
 -- ---- the rows of an NFA
 
@@ -151,7 +145,7 @@ nfa_names_patterns direction line_terminator is_utf8 es few =
 
 -- the NFAs of one row
 pub match_names_one : NamesPatterns 1 (Row.Match 0 ∷ [])
-match_names_one = grind (arith, common_steps, lit≤, named_at, lit<)
+match_names_one = grind (arith, common_steps)
 
 pub fail_names_none : NamesPatterns 0 (Row.Fail ∷ [])
-fail_names_none = grind (arith, common_steps, lit≤, named_at)
+fail_names_none = grind (arith, common_steps)

@@ -1,12 +1,8 @@
 -- The rows of all patterns: each pattern's Match row and its expression's rows, one pattern after another.
-use Rattle.std.proofs.lemmas.Grind.{common_steps}
-use Rattle.std.proofs.Common.{◌≡◌, ℕ, suc, ◌+◌, ◌^◌, ◌≤◌, List, [], ◌∷◌, ◌++◌, length, map, drop, min, refl, ◌∙◌, ap}
-use Rattle.std.proofs.Common.{arith, append_assoc, append-nil, length-append, All}
-use Rattle.std.proofs.lemmas.List.{length-map, map-append, drop_all}
-use Rattle.std.proofs.lemmas.List.Sums.{sum_by-cons}
-use Rattle.rx_spec.specs.Expressions.{Expression, IsLoopSafe}
-use Rattle.rx_spec.specs.Rows.{compile, rows_count}
-use Rattle.rx_spec.specs.Nfas.{Patterns, patterns_from, read_as}
+use Rattle.rx_spec.proofs.Prelude.{common_steps, ◌≡◌, ℕ, suc, ◌+◌, ◌^◌, ◌≤◌, List, [], ◌∷◌, ◌++◌, length, map, drop}
+use Rattle.rx_spec.proofs.Prelude.{min, refl, ◌∙◌, ap, arith, append_assoc, length-append, All, map-append, sum_by-cons}
+use Rattle.rx_spec.proofs.Prelude.{Expression, IsLoopSafe, compile, rows_count, patterns_from, read_as}
+use Rattle.rx_spec.specs.Nfas.{Patterns}
 use Rattle.rx_spec.specs.Rows as spec
 use Rattle.rx_spec.specs.declared.Direction.{Direction}
 use Rattle.rx_expr.specs.Compiles.{Adds, AddsPatterns, maker, patterns_count, patterns_of}
@@ -49,13 +45,13 @@ pub going_more : {direction : Direction} {exprs : List Expression} {rows accepte
     → Going direction exprs (k + 1) made (starts ++ (start ∷ []))
 unfolding patterns_from
 going_more {direction} {exprs} {rows} {accepted} {made} {starts} {e} {start} k row going split is pushed added =
-    grind (arith, common_steps, length-append, map-append, append_assoc, length-map, maker_makes, patterns_count-cons)
+    grind (arith, common_steps, length-append, map-append, append_assoc, maker_makes)
 
 -- all patterns were added
 pub going_last : {direction : Direction} {exprs : List Expression} {k : ℕ} {rows : List Row} {starts : List ℕ}
     → Going direction exprs k rows starts → length exprs ≤ k → AddsPatterns direction exprs rows starts
 unfolding patterns_from
-going_last {direction} {exprs} {k} {rows} {starts} going h = grind (arith, common_steps, drop_all, append-nil)
+going_last {direction} {exprs} {k} {rows} {starts} going h = grind (arith, common_steps)
 
 -- ---- how many rows and starts that are
 
@@ -85,7 +81,7 @@ length-entries direction (e ∷ es) base k =
 
 pub length-added_patterns : {direction : Direction} {es : List Expression} {rows : List Row} {starts : List ℕ}
     → AddsPatterns direction es rows starts → length rows ≡ patterns_count es
-length-added_patterns {direction} {es} {rows} added = grind (arith, common_steps, length-map, length-patterns)
+length-added_patterns {direction} {es} {rows} added = grind (arith, common_steps, length-patterns)
 
 pub length-starts : {direction : Direction} {es : List Expression} {rows : List Row} {starts : List ℕ}
     → AddsPatterns direction es rows starts → length starts ≡ length es

@@ -1,13 +1,8 @@
 -- Whether the rows have a Unicode word assertion, told by the set of their assertions.
-use Rattle.std.proofs.Common.{arith, ◌≡◌, ℕ, ◌↔◌, Bool, true, false, ◌||◌, ◌==◌, List, [], ◌∷◌, refl, sym, ap, ◌∙◌}
-use Rattle.std.proofs.Common.{⊎_elim, true≢false, eqb-true, eq-eqb}
-use Rattle.std.proofs.lemmas.Grind.{common_steps}
-use Rattle.std.specs.Prelude.{IsTrue}
-use Rattle.std.specs.List.{list_any}
-use Rattle.std.proofs.lemmas.Bool.{cases_Bool}
+use Rattle.rx_spec.proofs.Prelude.{arith, ◌≡◌, ℕ, ◌↔◌, Bool, true, false, ◌||◌, ◌==◌, List, [], ◌∷◌, refl, sym, ap, ◌∙◌}
+use Rattle.rx_spec.proofs.Prelude.{⊎_elim, true≢false, eqb-true, eq-eqb, common_steps, IsTrue, list_any, cases_Bool}
+use Rattle.rx_spec.proofs.Prelude.{is_unicode_word, Row}
 use Rattle.rx_spec.specs.Classes.{looks_for_unicode_word}
-use Rattle.rx_spec.specs.Looks.{is_unicode_word}
-use Rattle.rx_spec.specs.Rows.{Row}
 use Rattle.rx_spec.specs.declared.Look.{Look}
 use Rattle.rx_base.specs.LookSet.{holds_look, look_number}
 use Rattle.rx_expr.specs.Nfa.{asserts, has_look}
@@ -18,23 +13,7 @@ is_unicode_number n = n == 8 || n == 9 || n == 12 || n == 13 || n == 16 || n == 
 
 by_number : (look : Look) → is_unicode_word look ≡ is_unicode_number (look_number look)
 by_number Look.Start = refl
-by_number Look.End = refl
-by_number Look.StartLF = refl
-by_number Look.EndLF = refl
-by_number Look.StartCRLF = refl
-by_number Look.EndCRLF = refl
-by_number Look.WordAscii = refl
-by_number Look.WordAsciiNegate = refl
-by_number Look.WordUnicode = refl
-by_number Look.WordUnicodeNegate = refl
-by_number Look.WordStartAscii = refl
-by_number Look.WordEndAscii = refl
-by_number Look.WordStartUnicode = refl
-by_number Look.WordEndUnicode = refl
-by_number Look.WordStartHalfAscii = refl
-by_number Look.WordEndHalfAscii = refl
-by_number Look.WordStartHalfUnicode = refl
-by_number Look.WordEndHalfUnicode = refl
+by_number _ = refl
 
 same_number : (look other : Look) → look_number look ≡ look_number other → is_unicode_word look ≡ is_unicode_word other
 same_number look other e = by_number look ∙ ap is_unicode_number e ∙ sym (by_number other)
@@ -43,10 +22,7 @@ same_number look other e = by_number look ∙ ap is_unicode_number e ∙ sym (by
 row_told : (look : Look) (row : Row) → is_unicode_word look ≡ true → asserts look row ≡ true
     → looks_for_unicode_word row ≡ true
 row_told look (Row.Look other next) u h = grind (arith, common_steps, same_number, eqb-true)
-row_told look (Row.Bytes set next) u h = absurd (true≢false (sym h))
-row_told look (Row.Split first second) u h = absurd (true≢false (sym h))
-row_told look (Row.Match pattern) u h = absurd (true≢false (sym h))
-row_told look Row.Fail u h = absurd (true≢false (sym h))
+row_told look _ u h = absurd (true≢false (sym h))
 
 rows_told : (look : Look) (rows : List Row) → is_unicode_word look ≡ true → has_look rows look ≡ true
     → list_any looks_for_unicode_word rows ≡ true
@@ -65,10 +41,7 @@ rows_told look (row ∷ rows) u h =
 row_has : (row : Row) → looks_for_unicode_word row ≡ true
     → (look : Look) × (is_unicode_word look ≡ true) × (asserts look row ≡ true)
 row_has (Row.Look look next) h = (look, h, eq-eqb (look_number look) (look_number look) refl)
-row_has (Row.Bytes set next) h = absurd (true≢false (sym h))
-row_has (Row.Split first second) h = absurd (true≢false (sym h))
-row_has (Row.Match pattern) h = absurd (true≢false (sym h))
-row_has Row.Fail h = absurd (true≢false (sym h))
+row_has _ h = absurd (true≢false (sym h))
 
 rows_have : (rows : List Row) → list_any looks_for_unicode_word rows ≡ true
     → (look : Look) × (is_unicode_word look ≡ true) × (has_look rows look ≡ true)

@@ -1,8 +1,6 @@
 -- Lines of events.
-use Rattle.std.proofs.Common.{arith, ◌≡◌, ℕ, List, [], ◌∷◌, ◌++◌, refl, ap, append-nil}
-use Rattle.std.proofs.lemmas.Grind.{common_steps, flat_map-append}
-use Rattle.std.proofs.lemmas.List.Elements.{All-head, All-tail}
-use Rattle.std.specs.Prelude.{All}
+use Rattle.rx_spec.proofs.Prelude.{arith, ◌≡◌, ℕ, List, [], ◌∷◌, ◌++◌, refl, ap, append-nil, common_steps}
+use Rattle.rx_spec.proofs.Prelude.{flat_map-append, All-head, All-tail, All}
 use Rattle.rx_stream.specs.declared.event.StreamEvent.{StreamEvent}
 use Rattle.rx_feed.specs.Lines.{IsMatch, event_line, lines, match_lines}
 

@@ -1,10 +1,8 @@
 -- Fronts of texts that are written one after another.
-use Rattle.std.proofs.lemmas.Grind.{common_steps}
-use Rattle.std.proofs.Common.{ℕ, ◌+◌, List, ◌++◌, length, take, Option, Result, Ok, Err, sym, subst, arith}
-use Rattle.std.proofs.Common.{length-append}
+use Rattle.rx_spec.proofs.Prelude.{common_steps, ℕ, ◌+◌, List, ◌++◌, length, take, Option, Result, Ok, Err, sym, subst}
+use Rattle.rx_spec.proofs.Prelude.{arith, length-append, Appends}
 use Rattle.std.proofs.Math.Seq.{take-append-add}
 use Rattle.std.proofs.lemmas.List.{take-append-le}
-use Rattle.std.specs.Io.KnownBytes.{Appends}
 use Rattle.rx_transfer.specs.Outside.{AppendsFront}
 use Rattle.rx_transfer.proofs.Transfers.{appends_more}
 use Rattle.rx_feed.specs.Outside.{Writes}
@@ -29,6 +27,5 @@ front_more a b xs ys front = grind (arith, common_steps, length-append, take-app
 pub writes_after : (a b c : Option (List ℕ)) (xs ys : List ℕ) (status : ℕ) (result : Result ℕ Fault)
     → Appends a b xs → Writes b c ys status result → Writes a c (xs ++ ys) status result
 writes_after a b c xs ys status (Ok told) p w = (w.0, appends_more a b c xs ys p w.1)
-writes_after a b c xs ys status (Err Fault.Source) p w = absurd w
 writes_after a b c xs ys status (Err Fault.Sink) p w = front_after a b c xs ys p w
-writes_after a b c xs ys status (Err Fault.Memory) p w = absurd w
+writes_after a b c xs ys status _ p w = absurd w

@@ -1,10 +1,7 @@
 -- Images before a text: from what was read of both to what is answered.
-use Rattle.std.proofs.lemmas.Grind.{common_steps}
-use Rattle.std.proofs.Common.{◌≡◌, ◌≢◌, ℕ, ◌<◌, ◌≤◌, inl, inr, Bool, true, false, Option, Result, Ok, Err, List, []}
-use Rattle.std.proofs.Common.{◌++◌, ◌+◌, length, length-append, refl, ap, sym, ◌∙◌, subst, arith, append-nil}
-use Rattle.std.specs.Io.KnownBytes.{Consumes, IsAtEnd, Keeps}
-use Rattle.rx_spec.specs.Queries.{Anchored}
-use Rattle.rx_spec.specs.Tables.{Table}
+use Rattle.rx_spec.proofs.Prelude.{common_steps, ◌≡◌, ◌≢◌, ℕ, ◌<◌, ◌≤◌, inl, inr, Bool, true, false, Option, Result, Ok}
+use Rattle.rx_spec.proofs.Prelude.{Err, List, [], ◌++◌, ◌+◌, length, length-append, refl, ap, sym, ◌∙◌, subst, arith}
+use Rattle.rx_spec.proofs.Prelude.{append-nil, Consumes, IsAtEnd, Keeps, Anchored, Table}
 use Rattle.rx_spec.specs.declared.Form.{Form}
 use Rattle.rx_wire.specs.Kinds.{FailsBy, Gives, Kind}
 use Rattle.rx_feed.specs.Lines.{refused_line}
@@ -20,14 +17,8 @@ use Rattle.rx_transfer.proofs.Transfers.{consumes_more}
 -- an error that isn't want of memory is the test that fails first
 fails_exactly : {X : Type 0} (kind : Kind) (read : Result X Kind) → FailsBy kind read → kind ≢ Kind.Memory
     → read ≡ Err kind
-fails_exactly Kind.Generic read fails other = fails
-fails_exactly Kind.BufferTooSmall read fails other = fails
-fails_exactly (Kind.VersionMismatch expected found) read fails other = fails
-fails_exactly (Kind.EndianMismatch expected found) read fails other = fails
-fails_exactly (Kind.LabelMismatch expected) read fails other = fails
-fails_exactly (Kind.PatternID attempted) read fails other = fails
-fails_exactly (Kind.StateID attempted) read fails other = fails
 fails_exactly Kind.Memory read fails other = absurd (other refl)
+fails_exactly _ read fails other = fails
 
 -- An image was read: to the end of the source, or as many bytes as are asked for.
 pub record IsImage (len : ℕ) (left_before left : Option (List ℕ)) (image : List ℕ) (over : Bool) : Type 0 where
@@ -137,10 +128,9 @@ module _ (run : Run) {image : List ℕ} {over : Bool} {left : Option (List ℕ)}
       replies = FeedReplies.Refused kind split_whole read refl w.0;
       written = w.1;
     }
-    refused_by kind (Err Fault.Source) read w = absurd w
     refused_by kind (Err Fault.Sink) read w =
         FeedBreaks.InRefusal image over kind takes_image split_whole read w
-    refused_by kind (Err Fault.Memory) read w = absurd w
+    refused_by kind _ read w = absurd w
 
     feed_refuses : {L : Type 0} (table_of : L → Table) (reads : Result (L × ℕ) Kind) (kind : Kind)
         (result : Result ℕ Fault) → table_read run.form image ≡ read_table table_of reads → FailsBy kind reads

@@ -1,15 +1,9 @@
 -- At most one text and one status answer what was taken.
-use Rattle.std.proofs.lemmas.Grind.{common_steps}
-use Rattle.std.proofs.Common.{◌≡◌, ℕ, ◌<◌, ◌⊎◌, inl, inr, Bool, Some, None, Option, Result, Ok, Err, List, [], ◌∷◌}
-use Rattle.std.proofs.Common.{◌++◌, length, take, drop, ap, sym, ◌∙◌, subst, arith, append-nil}
-use Rattle.std.proofs.Math.ListN.{drop_of_length-le}
+use Rattle.rx_spec.proofs.Prelude.{common_steps, ◌≡◌, ℕ, ◌<◌, ◌⊎◌, inl, inr, Bool, Some, None, Option, Result, Ok, Err}
+use Rattle.rx_spec.proofs.Prelude.{List, [], ◌∷◌, ◌++◌, length, take, drop, ap, sym, ◌∙◌, subst, arith, append-nil}
+use Rattle.rx_spec.proofs.Prelude.{drop_of_length-le, take-append_seam, drop-append_seam, take_all, All-head, All-tail}
+use Rattle.rx_spec.proofs.Prelude.{All, Anchored, Table}
 use Rattle.std.proofs.Math.Nat.{eq-or-lt_of_le}
-use Rattle.std.proofs.Math.Seq.{take-append_seam, drop-append_seam}
-use Rattle.std.proofs.lemmas.List.{take_all}
-use Rattle.std.proofs.lemmas.List.Elements.{All-head, All-tail}
-use Rattle.std.specs.Prelude.{All}
-use Rattle.rx_spec.specs.Queries.{Anchored}
-use Rattle.rx_spec.specs.Tables.{Table}
 use Rattle.rx_wire.specs.Kinds.{Kind}
 use Rattle.rx_stream.specs.Remaining.{told_now}
 use Rattle.rx_stream.specs.declared.event.StreamEvent.{StreamEvent}
@@ -28,9 +22,6 @@ no_quit (event ∷ matches) later byte offset all =
 
 same_event : (event other : StreamEvent) (xs ys : List StreamEvent) → event ∷ xs ≡ other ∷ ys → event ≡ other
 same_event event other xs ys e = cc
-
-same_later : (event other : StreamEvent) (xs ys : List StreamEvent) → event ∷ xs ≡ other ∷ ys → xs ≡ ys
-same_later event other xs ys e = cc
 
 same_quit : (byte offset b o : ℕ) → StreamEvent.Quit byte offset ≡ StreamEvent.Quit b o
     → (byte ≡ b) × (offset ≡ o)
@@ -51,7 +42,7 @@ quit_once (event ∷ matches) [] xs ys byte offset b o all also e =
 quit_once (event ∷ matches) (other ∷ others) xs ys byte offset b o all also e =
     let rest = quit_once matches others xs ys byte offset b o (All-tail IsMatch event matches all)
     (All-tail IsMatch other others also)
-    (same_later event other (matches ++ (StreamEvent.Quit byte offset ∷ xs)) (others ++ (StreamEvent.Quit b o ∷ ys)) e)
+    (cc e)
     in
     let same = same_event event other (matches ++ (StreamEvent.Quit byte offset ∷ xs))
     (others ++ (StreamEvent.Quit b o ∷ ys)) e in
@@ -119,19 +110,13 @@ split_once : {len : ℕ} {bytes : List ℕ} {ended : Bool} {image haystack : Lis
     → IsSplit len bytes ended image haystack → (image ≡ take len bytes) × (haystack ≡ drop len bytes)
 split_once {len} {bytes} {ended} {image} {haystack} is = grind (arith, common_steps, split_is, eq-or-lt_of_le)
 
-same_table : (read : Result Table Kind) (t other : Table) → read ≡ Ok t → read ≡ Ok other → t ≡ other
-same_table read t other e f = cc
-
-same_kind : (read : Result Table Kind) (kind other : Kind) → read ≡ Err kind → read ≡ Err other → kind ≡ other
-same_kind read kind other e f = cc
-
 read_or_not : (read : Result Table Kind) (t : Table) (kind : Kind) → read ≡ Ok t → read ≡ Err kind → ⊥
 read_or_not read t kind e f = absurd (cc)
 
 pub feed_once : IsOneAnswer
 feed_once form mode len bytes ended also text other status again
     (FeedReplies.Refused kind split e f g) (FeedReplies.Refused kind' split' e' f' g') =
-    (f ∙ ap refused_line (same_kind (table_read form bytes) kind kind' e e') ∙ sym f', g ∙ sym g')
+    (f ∙ ap refused_line (cc (e, e')) ∙ sym f', g ∙ sym g')
 feed_once form mode len bytes ended also text other status again
     (FeedReplies.Refused kind split e f g) (FeedReplies.Searched image haystack t split' e' replies) =
     let same : bytes ≡ image = (split_once split).0 ∙ sym (split_once split').0 in
@@ -145,8 +130,7 @@ feed_once form mode len bytes ended also text other status again
     (FeedReplies.Searched image' haystack' t' split' e' replies') =
     let same : image' ≡ image = (split_once split').0 ∙ sym (split_once split).0 in
     let rest : haystack' ≡ haystack = (split_once split').1 ∙ sym (split_once split).1 in
-    let table : t' ≡ t
-    = same_table (table_read form image') t' t e' (ap (table_read form) same ∙ e) in
+    let table : t' ≡ t = cc (e', ap (table_read form) same ∙ e) in
     stream_once replies
     (subst (λ (d : List ℕ). StreamReplies t mode d also other again) rest
     (subst (λ (u : Table). StreamReplies u mode haystack' also other again) table replies'))

@@ -1,12 +1,7 @@
 -- What the calls of a searcher tell of a piece, and pieces one after another.
-use Rattle.std.proofs.lemmas.Grind.{common_steps}
-use Rattle.std.proofs.Common.{◌≡◌, ℕ, ◌+◌, ◌<◌, ◌≤◌, true, Some, None, Option, List, [], ◌∷◌, ◌++◌, length, drop, ap}
-use Rattle.std.proofs.Common.{sym, ◌∙◌, subst, arith, append_assoc, append-nil, length-append}
-use Rattle.std.proofs.lemmas.List.Elements.{All-append, All-push, All-nil}
-use Rattle.std.specs.Prelude.{All}
-use Rattle.std.specs.Io.KnownBytes.{Appends}
-use Rattle.rx_spec.specs.Bytes.{AreBytes}
-use Rattle.rx_spec.specs.Tables.{Table}
+use Rattle.rx_spec.proofs.Prelude.{common_steps, ◌≡◌, ℕ, ◌+◌, ◌<◌, ◌≤◌, true, Some, None, Option, List, [], ◌∷◌, ◌++◌}
+use Rattle.rx_spec.proofs.Prelude.{length, drop, ap, sym, ◌∙◌, subst, arith, append_assoc, append-nil, length-append}
+use Rattle.rx_spec.proofs.Prelude.{All-append, All-push, All-nil, All, Appends, AreBytes, Table}
 use Rattle.rx_stream.specs.Calls.{is_open, IsFed, IsFinished}
 use Rattle.rx_stream.specs.Remaining.{remaining, now, now_at, told_over}
 use Rattle.rx_stream.specs.declared.event.Fed.{Fed}

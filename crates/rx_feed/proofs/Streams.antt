@@ -1,13 +1,8 @@
 -- Texts in pieces: from what was read and written to what is answered.
-use Rattle.std.proofs.lemmas.Grind.{common_steps}
-use Rattle.std.proofs.Common.{◌≡◌, ℕ, ◌+◌, ◌<◌, ◌≤◌, Bool, true, false, Option, Result, Ok, Err, List, [], ◌∷◌, ◌++◌}
-use Rattle.std.proofs.Common.{length, refl, ap, sym, ◌∙◌, subst, arith, append_assoc, append-nil, length-append}
-use Rattle.std.proofs.lemmas.List.Elements.{All-append, All-nil}
-use Rattle.std.specs.Prelude.{All}
-use Rattle.std.specs.Io.KnownBytes.{Appends, Consumes, IsAtEnd, Keeps}
-use Rattle.rx_spec.specs.Bytes.{AreBytes}
-use Rattle.rx_spec.specs.Queries.{Anchored, MatchError}
-use Rattle.rx_spec.specs.Tables.{Table}
+use Rattle.rx_spec.proofs.Prelude.{common_steps, ◌≡◌, ℕ, ◌+◌, ◌<◌, ◌≤◌, Bool, true, false, Option, Result, Ok, Err}
+use Rattle.rx_spec.proofs.Prelude.{List, [], ◌∷◌, ◌++◌, length, refl, ap, sym, ◌∙◌, subst, arith, append_assoc}
+use Rattle.rx_spec.proofs.Prelude.{append-nil, length-append, All-append, All-nil, All, Appends, Consumes, IsAtEnd}
+use Rattle.rx_spec.proofs.Prelude.{Keeps, AreBytes, Anchored, MatchError, Table}
 use Rattle.lemmas_walks.proofs.Overlapping.{overlapping-nil}
 use Rattle.rx_stream.specs.Calls.{IsNew, IsUnsupported, is_open}
 use Rattle.rx_stream.specs.Remaining.{events, remaining, now, told, told_now}
@@ -48,11 +43,10 @@ pub stream_answer : {t : Table} {mode : Anchored} {over : Bool} {ends : Ends} {h
     → Writes between ends.written_after last status result → StreamEnds t mode over ends result
 stream_answer {t} {mode} {over} {ends} {haystack} {ended} {status} between last (Ok told) takes replies p w =
     grind (arith, common_steps, appends_more)
-stream_answer between last (Err Fault.Source) takes replies p w = absurd w
 stream_answer {t} {mode} {over} {ends} {haystack} {ended} {status} between last (Err Fault.Sink) takes replies p w =
     StreamBreaks.InReply haystack ended last status takes replies
     (record { between = between; whole = p; front = w })
-stream_answer between last (Err Fault.Memory) takes replies p w = absurd w
+stream_answer between last _ takes replies p w = absurd w
 
 -- ---- what was read of a text
 

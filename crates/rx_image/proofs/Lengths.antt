@@ -1,6 +1,6 @@
 -- An image takes no more bytes than there are.
-use Rattle.std.proofs.Common.{◌≡◌, ℕ, ◌-◌, ◌≤◌, Bool, true, false, if◌then◌else◌, List, length, Result, Ok, Err, ap}
-use Rattle.std.proofs.Common.{arith}
+use Rattle.rx_spec.proofs.Prelude.{◌≡◌, ℕ, ◌-◌, ◌≤◌, Bool, true, false, if◌then◌else◌, List, length, Result, Ok, Err}
+use Rattle.rx_spec.proofs.Prelude.{ap, arith}
 use Rattle.rx_wire.specs.Kinds.{Kind, ◌>>=◌}
 use Rattle.rx_dense.specs.Layouts as dense
 use Rattle.rx_dense_image.specs.Images as dense_images

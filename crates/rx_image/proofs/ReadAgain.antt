@@ -1,9 +1,6 @@
 -- An image of a pair is read again, in either order, whatever follows, and its length is told.
-use Rattle.std.proofs.Common.{◌≡◌, ℕ, ◌+◌, ◌-◌, ◌^◌, ◌<◌, ◌==◌, true, List, ◌++◌, length, Ok, refl, ap, ◌∙◌}
-use Rattle.std.proofs.Common.{append_assoc, arith, rules}
-use Rattle.std.proofs.lemmas.Bool.{eq-eqb}
-use Rattle.std.proofs.lemmas.List.{drop_at, length-append}
-use Rattle.std.specs.Int.{w32}
+use Rattle.rx_spec.proofs.Prelude.{◌≡◌, ℕ, ◌+◌, ◌-◌, ◌^◌, ◌<◌, ◌==◌, true, List, ◌++◌, length, Ok, refl, ap, ◌∙◌}
+use Rattle.rx_spec.proofs.Prelude.{append_assoc, arith, rules, eq-eqb, drop_at, length-append, w32}
 use Rattle.rx_spec.specs.declared.Form.{Form}
 use Rattle.rx_wire.specs.declared.order.Order.{Order}
 use Rattle.rx_wire.specs.Fields.{field}
@@ -123,9 +120,6 @@ sparse_pair_again order f r whole same rest =
 
 -- ---- the pair
 
-left_of : (a b : ℕ) → a + b - b ≡ a
-left_of a b = omega arith
-
 -- a head and then what stands behind it
 whole_pair : (order : Order) (form : Form) (tables : List ℕ) (p : Pair) (rest : List ℕ)
     → Reads (pair_at order form) tables p
@@ -134,7 +128,7 @@ unfolding reads
 whole_pair order form tables p rest read =
     let all : List ℕ = head_text order form ++ tables in
     let size : length (all ++ rest) - length rest ≡ length all =
-    ap (λ (n : ℕ). n - length rest) (length-append all rest) ∙ left_of (length all) (length rest) in
+    omega (arith, length-append all rest) in
     let head : head_at (all ++ rest) ≡ Ok ((order, form), tables ++ rest) =
     ap head_at (append_assoc (head_text order form) tables rest) ∙ head_again order form (tables ++ rest) in
     rw (head, read rest, size) refl

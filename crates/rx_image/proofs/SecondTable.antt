@@ -1,5 +1,5 @@
 -- A pair whose second table can't be read can't be read.
-use Rattle.std.proofs.Common.{◌≡◌, ℕ, Result, Ok, List, ap}
+use Rattle.rx_spec.proofs.Prelude.{◌≡◌, ℕ, Result, Ok, List, ap}
 use Rattle.rx_dense.specs.Layouts.{Layout}
 use Rattle.rx_wire.specs.Kinds.{FailsBy, Kind, ◌>>=◌}
 use Rattle.rx_wire.specs.declared.order.Order.{Order}

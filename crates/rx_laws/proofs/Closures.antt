@@ -1,17 +1,14 @@
 -- What a row reaches without reading a byte, where paths that read nothing are short; and steps.
-use Rattle.std.proofs.lemmas.Grind.{common_steps}
-use Rattle.std.proofs.Common.{◌≡◌, ℕ, zero, suc, ◌+◌, ◌*◌, ◌≤◌, Bool, true, false, if◌then◌else◌, List, [], ◌∷◌, ◌++◌}
-use Rattle.std.proofs.Common.{length, refl, ap, ap₂, sym, ◌∙◌, subst, arith}
-use Rattle.std.specs.List.{flat_map}
-use Rattle.rx_spec.specs.Bytes.{eoi}
-use Rattle.rx_spec.specs.Rows.{Row}
-use Rattle.rx_spec.specs.Nfas.{Nfa}
-use Rattle.rx_spec.specs.Shallow.{AllNext, Short, IsShallow}
-use Rattle.rx_spec.specs.States.{row_at, Passing, Standing, Tested, reach_by, reach, closure, firsts, fresh, State}
-use Rattle.rx_spec.specs.States.{decided_rows, pattern_of, is_match_row, to_first_match, cut, target, step}
+use Rattle.rx_spec.proofs.Prelude.{common_steps, ◌≡◌, ℕ, zero, suc, ◌+◌, ◌*◌, ◌≤◌, Bool, true, false, List, [], ◌∷◌}
+use Rattle.rx_spec.proofs.Prelude.{◌++◌, length, refl, ap, ap₂, sym, ◌∙◌, subst, arith, flat_map, eoi, Row, Nfa}
+use Rattle.rx_spec.proofs.Prelude.{AllNext, Short, IsShallow, row_at, Passing, Standing, Tested, reach_by, reach}
+use Rattle.rx_spec.proofs.Prelude.{closure, firsts, fresh, State, decided_rows, pattern_of, is_match_row}
+use Rattle.rx_spec.proofs.Prelude.{to_first_match, cut, target, step}
 use Rattle.rx_spec.specs.declared.Look.{Look}
 use Rattle.rx_spec.specs.declared.MatchKind.{MatchKind}
 use Rattle.lemmas_walks.proofs.Firsts.{by_test}
+use Rattle.lemmas_walks.proofs.ShortPaths.{AllNext-more, reach_by-same}
+use Rattle.lemmas_walks.proofs.FirstMatch.{pattern_of-none}
 
 abbrev bound : List Row → ℕ
 bound rows = length rows * length rows
@@ -21,30 +18,14 @@ closure_steps : (rows : List Row) (pass : Passing) (q : ℕ)
 unfolding reach
 closure_steps rows pass q = grind (arith, common_steps)
 
-reach_alike : (pass : Passing) (f g : ℕ → List ℕ) (q : ℕ) (row : Row) → AllNext (λ p. f p ≡ g p) row
-    → reach_by pass f q row ≡ reach_by pass g q row
-reach_alike pass f g q (Row.Bytes set next) h = refl
-reach_alike pass f g q (Row.Split first second) h = ap₂ (λ (a b : List ℕ). a ++ b) h.0 h.1
-reach_alike Standing f g q (Row.Look look next) h = refl
-reach_alike (Tested holds) f g q (Row.Look look next) h = ap (λ (l : List ℕ). if holds look then l else []) h
-reach_alike pass f g q (Row.Match pattern) h = refl
-reach_alike pass f g q Row.Fail h = refl
-
-each_next : (P Q : ℕ → Type 0) → ((p : ℕ) → P p → Q p) → (row : Row) → AllNext P row → AllNext Q row
-each_next P Q f (Row.Bytes set next) h = tt
-each_next P Q f (Row.Split first second) h = (f first h.0, f second h.1)
-each_next P Q f (Row.Look look next) h = f next h
-each_next P Q f (Row.Match pattern) h = tt
-each_next P Q f Row.Fail h = tt
-
 -- one step more reaches nothing new
 reach_more : (rows : List Row) (pass : Passing) (n q : ℕ) → Short rows n q
     → reach rows pass n q ≡ reach rows pass (suc n) q
 unfolding Short reach
 reach_more rows pass zero q h = absurd h
 reach_more rows pass (suc n) q h =
-    reach_alike pass (λ p. reach rows pass n p) (λ p. reach rows pass (suc n) p) q (row_at rows q)
-    (each_next (λ p. Short rows n p) (λ p. reach rows pass n p ≡ reach rows pass (suc n) p)
+    reach_by-same pass (λ p. reach rows pass n p) (λ p. reach rows pass (suc n) p) q (row_at rows q)
+    (AllNext-more (λ p. Short rows n p) (λ p. reach rows pass n p ≡ reach rows pass (suc n) p)
     (λ p k. reach_more rows pass n p k) (row_at rows q) h)
 
 next_short : (rows : List Row) (q : ℕ) → Short rows (bound rows + 1) q
@@ -60,7 +41,7 @@ reach_bound rows pass p h = grind (arith, common_steps, reach_more)
 pub closure_by_row : (rows : List Row) (pass : Passing) (q : ℕ) → IsShallow rows
     → closure rows pass q ≡ reach_by pass (λ p. closure rows pass p) q (row_at rows q)
 closure_by_row rows pass q shallow =
-    grind (arith, common_steps, closure_steps, reach_alike, each_next, reach_bound, next_short)
+    grind (arith, common_steps, closure_steps, reach_by-same, AllNext-more, reach_bound, next_short)
 
 pub closure_bytes : (rows : List Row) (pass : Passing) (q set next : ℕ) → row_at rows q ≡ Row.Bytes set next
     → closure rows pass q ≡ q ∷ []
@@ -94,10 +75,7 @@ closure_failing rows holds q next look e f = grind (arith, common_steps, closure
 -- no row reads the end mark
 no_target : (row : Row) → target eoi row ≡ []
 no_target (Row.Bytes set next) = refl
-no_target (Row.Split first second) = refl
-no_target (Row.Look look next) = refl
-no_target (Row.Match pattern) = refl
-no_target Row.Fail = refl
+no_target _ = refl
 
 no_targets : (rows : List Row) (qs : List ℕ) → flat_map (λ q. target eoi (row_at rows q)) qs ≡ []
 no_targets rows [] = refl
@@ -114,19 +92,9 @@ end_mark_ends nfa kind s =
     (no_targets nfa.rows (cut kind nfa.rows (decided_rows nfa eoi s)))
     ∙ rows_of_none nfa.rows
 
-no_pattern : (row : Row) → is_match_row row ≡ false → pattern_of row ≡ []
-no_pattern (Row.Bytes set next) e = refl
-no_pattern (Row.Split first second) e = refl
-no_pattern (Row.Look look next) e = refl
-no_pattern (Row.Match pattern) e = absurd (cc)
-no_pattern Row.Fail e = refl
-
 one_pattern : (row : Row) → length (pattern_of row ++ []) ≤ 1
 one_pattern (Row.Bytes set next) = omega arith
-one_pattern (Row.Split first second) = omega arith
-one_pattern (Row.Look look next) = omega arith
-one_pattern (Row.Match pattern) = omega arith
-one_pattern Row.Fail = omega arith
+one_pattern _ = omega arith
 
 abbrev patterns_at : List Row → List ℕ → List ℕ
 patterns_at rows qs = flat_map (λ q. pattern_of (row_at rows q)) qs
@@ -138,7 +106,7 @@ told_once rows (q ∷ qs) =
     by_test (is_match_row (row_at rows q))
     (λ e. rw e (one_pattern (row_at rows q)))
     (λ e. rw e (subst (λ (l : List ℕ). length (l ++ patterns_at rows (to_first_match rows qs)) ≤ 1)
-    (sym (no_pattern (row_at rows q) e)) (told_once rows qs)))
+    (sym (pattern_of-none (row_at rows q) e)) (told_once rows qs)))
 
 pub tells_one : (nfa : Nfa) (s : State) (unit : ℕ) → length (step nfa MatchKind.LeftmostFirst s unit).label ≤ 1
 unfolding step

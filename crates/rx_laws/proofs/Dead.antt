@@ -1,8 +1,5 @@
 -- Dead stays dead.
-use Rattle.std.proofs.Common.{◌≡◌, ℕ, refl}
-use Rattle.rx_spec.specs.States.{fresh, to_first_match, step, dead_state}
-use Rattle.rx_spec.specs.Nfas.{Nfa}
-use Rattle.rx_spec.specs.Builds.{Build, next_node, dead}
+use Rattle.rx_spec.proofs.Prelude.{◌≡◌, ℕ, refl, fresh, to_first_match, step, dead_state, Nfa, dead}
 use Rattle.rx_spec.specs.declared.MatchKind.{MatchKind}
 
 -- a step of the dead state leads back to it, on a byte and on the end mark
@@ -10,6 +7,3 @@ pub step_dead : (nfa : Nfa) (kind : MatchKind) (unit : ℕ) → step nfa kind de
 unfolding step fresh to_first_match
 step_dead nfa MatchKind.All unit = refl
 step_dead nfa MatchKind.LeftmostFirst unit = refl
-
-pub next_dead : (b : Build) (unit : ℕ) → next_node b dead unit ≡ dead
-next_dead b unit = refl

@@ -1,12 +1,9 @@
 -- Ends past the end of what is read: a match there reads nothing.
-use Rattle.std.proofs.lemmas.Grind.{common_steps}
-use Rattle.std.proofs.Common.{◌≡◌, ℕ, zero, suc, ◌+◌, ◌-◌, ◌*◌, ◌<◌, ◌≤◌, Bool, true, false, Option, Some, None, List}
-use Rattle.std.proofs.Common.{[], ◌∷◌, length, slice_get, if◌then◌else◌, refl, sym, subst, arith}
-use Rattle.std.specs.List.{flat_map, AllByRecursion as Every}
-use Rattle.std.proofs.lemmas.Bool.{cases_lt}
-use Rattle.rx_spec.specs.Looks.{Reading, holds_at}
-use Rattle.rx_spec.specs.Expressions.{Expression, min_len}
-use Rattle.rx_spec.specs.Ends.{rounds, preferring, up_to, further, ends}
+use Rattle.rx_spec.proofs.Prelude.{common_steps, ◌≡◌, ℕ, zero, suc, ◌+◌, ◌-◌, ◌*◌, ◌<◌, ◌≤◌, Bool, true, false, Option}
+use Rattle.rx_spec.proofs.Prelude.{Some, None, List, [], ◌∷◌, length, slice_get, if◌then◌else◌, refl, sym, subst, arith}
+use Rattle.rx_spec.proofs.Prelude.{flat_map, Reading, holds_at, Expression, min_len, rounds, preferring, up_to, further}
+use Rattle.rx_spec.proofs.Prelude.{ends}
+use Rattle.std.specs.List.{AllByRecursion as Every}
 use Rattle.lemmas_walks.proofs.Every.{every-append, every-weaker, every-flat_map, none_is_nil}
 use Rattle.lemmas_walks.proofs.Ends.{ends_repeat_unbounded}
 
@@ -22,7 +19,7 @@ no_byte (b ∷ bs) (suc i) h = no_byte bs i (omega arith)
 -- from an end that stayed, what stays there
 at_end : (least more i j : ℕ) (body : ℕ → List ℕ) → Stays least i j → Every (Stays more i) (body i)
     → Every (Stays (least + more) i) (body j)
-at_end least more i j body stays h = grind (arith, common_steps, every-weaker)
+at_end least more i j body stays h = grind (arith, common_steps)
 
 rounds_stay : (least i : ℕ) (body : ℕ → List ℕ) → Every (Stays least i) (body i) → (n : ℕ)
     → Every (Stays (n * least) i) (rounds body n i)
@@ -71,9 +68,9 @@ ends_stay r (Expression.Concat a b) i h =
 ends_stay r (Expression.Alternate a b) i h =
     let least = min_len (Expression.Alternate a b) in
     every-append (Stays least i) (ends r a i) (ends r b i)
-    (every-weaker (Stays (min_len a) i) (Stays least i) (ends r a i) (λ j s. (s.0, omega (arith, s.1)))
+    (every-weaker (Stays (min_len a) i) (Stays least i) (ends r a i) (λ j s. (s.0, omega arith))
     (ends_stay r a i h))
-    (every-weaker (Stays (min_len b) i) (Stays least i) (ends r b i) (λ j s. (s.0, omega (arith, s.1)))
+    (every-weaker (Stays (min_len b) i) (Stays least i) (ends r b i) (λ j s. (s.0, omega arith))
     (ends_stay r b i h))
 ends_stay r (Expression.Repeat least most greedy body) i h =
     let m = min_len body in
@@ -100,4 +97,4 @@ stops_past r greedy body i reads h = grind (arith, common_steps, none_past)
 pub unbounded_round : (r : Reading) (greedy : Bool) (body : Expression) (i : ℕ) → 0 < min_len body
     → ends r (Expression.Repeat 0 None greedy body) i
     ≡ preferring greedy (flat_map (λ j. ends r (Expression.Repeat 0 None greedy body) j) (ends r body i)) i
-unbounded_round r greedy body i reads = grind (arith, common_steps, stops_past, ends_repeat_unbounded, cases_lt)
+unbounded_round r greedy body i reads = grind (arith, common_steps, stops_past, ends_repeat_unbounded)

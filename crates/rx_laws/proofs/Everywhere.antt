@@ -1,20 +1,11 @@
 -- The table of four rows that matches everywhere gives the machine of the empty expression.
-use Rattle.std.proofs.lemmas.Grind.{common_steps}
-use Rattle.std.proofs.Common.{◌≡◌, ℕ, ◌<◌, ◌==◌, Bool, true, false, if◌then◌else◌, Some, List, [], ◌∷◌, ◌||◌, refl, sym}
-use Rattle.std.proofs.Common.{arith}
-use Rattle.std.specs.Prelude.{Contains}
-use Rattle.std.proofs.lemmas.Bool.{ltb-true, agree_below_at, eqb-true, ne_eqb}
-use Rattle.rx_spec.specs.Bytes.{contains}
-use Rattle.rx_spec.specs.Expressions.{Expression}
-use Rattle.rx_spec.specs.Queries.{Anchored}
-use Rattle.rx_spec.specs.Machines.{Label, run}
-use Rattle.rx_spec.specs.States.{State, dead_state}
-use Rattle.rx_spec.specs.Builds.{Build, Node, dead, next_node, node_label}
-use Rattle.rx_spec.specs.Tables.{is_match_label}
+use Rattle.rx_spec.proofs.Prelude.{common_steps, ◌≡◌, ℕ, ◌<◌, ◌==◌, Bool, true, false, if◌then◌else◌, Some, List, []}
+use Rattle.rx_spec.proofs.Prelude.{◌∷◌, ◌||◌, refl, sym, arith, Contains, contains, Expression, Anchored, Label, run}
+use Rattle.rx_spec.proofs.Prelude.{State, dead_state, Build, Node, dead, next_node, node_label, is_match_label}
 use Rattle.rx_laws.specs.Samples.{forward_build, state}
 use Rattle.rx_laws.specs.TableExamples.{everywhere_label, EverywhereIsTable, EverywhereIsSound, EverywhereGives}
 use Rattle.rx_laws.proofs.Computing.{computing}
-use Rattle.lemmas_walks.proofs.Firsts.{by_test}
+use Rattle.lemmas_walks.proofs.QuitSets.{contains-empty}
 
 abbrev empty : Build
 empty = forward_build (Expression.Empty ∷ [])
@@ -22,33 +13,15 @@ empty = forward_build (Expression.Empty ∷ [])
 abbrev next : ℕ → ℕ → ℕ
 next row unit = if row == 2 then 3 else 0
 
--- the empty quit set has no unit
-pub in_none : (unit : ℕ) → contains 0 unit ≡ false
-in_none unit = grind (arith, common_steps, by_test, agree_below_at, ltb-true)
-
-choose : (b : Bool) → (if b then 3 else 0) < 4
-choose true = omega arith
-choose false = omega arith
-
 -- by the test for quit, and for the match row
 abbrev label_by : Bool → Bool → Label
 label_by quit last = if quit then Label.Quits else (if last then Label.Matches (0 ∷ []) else Label.Plain)
-
-quits_at : (row : ℕ) (quit last : Bool) → (row == 1) ≡ quit → label_by quit last ≡ Label.Quits → row ≡ 1
-quits_at row true last e h = eqb-true row 1 e
-quits_at row false true e h = absurd (cc)
-quits_at row false false e h = absurd (cc)
-
-lists_some : (quit last : Bool) → label_by quit last ≡ Label.Matches [] → ⊥
-lists_some true last h = cc
-lists_some false true h = cc
-lists_some false false h = cc
 
 universal_within : (row : ℕ) → Some 2 ≡ Some row → row < 4
 universal_within row e = let same : 2 ≡ row = cc in omega arith
 
 pub everywhere_is_table : EverywhereIsTable
-everywhere_is_table = grind (arith, common_steps, universal_within, choose, quits_at, lists_some)
+everywhere_is_table = grind (arith, common_steps, universal_within)
 
 abbrev Alike : ℕ → Node → Type 0
 Alike row node = (word : List ℕ) → everywhere_label (run next row word) ≡ node_label (run (next_node empty) node word)
@@ -66,7 +39,7 @@ then_alike row false s e h = h
 match_alike : Alike 3 (Node.Running (state [] (0 ∷ [])))
 unfolding computing
 match_alike [] = refl
-match_alike (unit ∷ word) = then_alike 0 (contains 0 unit) dead_state (in_none unit) dead_alike word
+match_alike (unit ∷ word) = then_alike 0 (contains 0 unit) dead_state (contains-empty unit) dead_alike word
 
 -- what any unit leads to from a start
 abbrev to_match : ℕ → Node
@@ -76,7 +49,7 @@ start_alike : (s : State) → ((unit : ℕ) → next_node empty (Node.Running s)
     → node_label (Node.Running s) ≡ Label.Plain → Alike 2 (Node.Running s)
 unfolding run
 start_alike s step plain [] = sym plain
-start_alike s step plain (unit ∷ word) = grind (arith, common_steps, then_alike, in_none, match_alike)
+start_alike s step plain (unit ∷ word) = grind (arith, common_steps, then_alike, contains-empty, match_alike)
 
 -- no pattern has starts of its own
 pub no_pattern_starts : (k : ℕ) → Contains (Anchored.No ∷ Anchored.Yes ∷ []) (Anchored.Pattern k) → ⊥
@@ -111,4 +84,4 @@ special false false true start apart = refl
 special false false false start apart = refl
 
 pub everywhere_is_sound : EverywhereIsSound
-everywhere_is_sound = grind (arith, common_steps, everywhere_is_table, leads_on, told, special, ne_eqb, eqb-true)
+everywhere_is_sound = grind (arith, common_steps, everywhere_is_table, leads_on, told)

@@ -1,34 +1,18 @@
 -- What is found, in the words of the field: a candidate, the leftmost, the preferred.
-use Rattle.std.proofs.Common.{rules, ◌≡◌, ℕ, ◌+◌, ◌-◌, ◌<◌, ◌≤◌, ◌↔◌, ◌⊎◌, inl, inr, ⊎_elim, true, Option, Some, None}
-use Rattle.std.proofs.Common.{List, length, refl, sym, ◌∙◌, subst, arith}
-use Rattle.std.proofs.lemmas.Grind.{common_steps}
-use Rattle.std.proofs.lemmas.Bool.{le-leb, leb-true, lt-ltb, ltb-true, and_parts, and_from, eqb-true, eq-eqb, cases_lt}
-use Rattle.std.specs.Prelude.{slice_get, find, nat_le}
-use Rattle.std.specs.List.{range_with_len}
-use Rattle.rx_spec.specs.Expressions.{Expression}
-use Rattle.rx_spec.specs.Ends.{ends}
-use Rattle.rx_spec.specs.Queries.{Anchored, Query, Match, reading}
-use Rattle.rx_spec.specs.Found.{admits, admitted, first_of, end_within, candidate, found}
-use Rattle.rx_laws.specs.FoundLaws.{Begins, IsAdmitted, IsCandidate}
+use Rattle.rx_spec.proofs.Prelude.{rules, ◌≡◌, ℕ, ◌+◌, ◌-◌, ◌<◌, ◌≤◌, ◌↔◌, ◌⊎◌, inl, inr, ⊎_elim, true, Option, Some}
+use Rattle.rx_spec.proofs.Prelude.{None, List, length, refl, sym, subst, arith, common_steps, and_parts, and_from}
+use Rattle.rx_spec.proofs.Prelude.{cases_lt, slice_get, find, nat_le, range_with_len, Expression, ends, Query, Match}
+use Rattle.rx_spec.proofs.Prelude.{reading, admitted, first_of, end_within, candidate, found}
+use Rattle.rx_laws.specs.FoundLaws.{IsAdmitted, IsCandidate}
 use Rattle.rx_spec.specs.declared.Direction.{Direction}
 use Rattle.lemmas_walks.proofs.Ranges.{range_none, none_in_range}
 use Rattle.lemmas_walks.proofs.FoundLaws.{Matches, find_is, candidate_matches, candidate_none, is_found}
 
-begins_from : (mode : Anchored) (start p k : ℕ) → admits mode start p k ≡ true → Begins mode start p k
-begins_from Anchored.No start p k e = tt
-begins_from Anchored.Yes start p k e = eqb-true p start e
-begins_from (Anchored.Pattern pattern) start p k e = grind (arith, common_steps, and_parts, eqb-true)
-
-begins_to : (mode : Anchored) (start p k : ℕ) → Begins mode start p k → admits mode start p k ≡ true
-begins_to Anchored.No start p k h = refl
-begins_to Anchored.Yes start p k h = eq-eqb p start h
-begins_to (Anchored.Pattern pattern) start p k h = grind (arith, common_steps, and_from, eq-eqb)
-
 admitted_from : (q : Query) (n p k : ℕ) → admitted q n p k ≡ true → IsAdmitted q n p k
-admitted_from q n p k e = grind (arith, common_steps, and_parts, leb-true, ltb-true, begins_from)
+admitted_from q n p k e = grind (arith, common_steps, and_parts)
 
 admitted_to : (q : Query) (n p k : ℕ) → IsAdmitted q n p k → admitted q n p k ≡ true
-admitted_to q n p k (a, b, c, d) = grind (arith, common_steps, and_from, le-leb, lt-ltb, begins_to)
+admitted_to q n p k (a, b, c, d) = grind (arith, common_steps, and_from)
 
 pub admitted_tests : (q : Query) (n p k : ℕ) → admitted q n p k ≡ true ↔ IsAdmitted q n p k
 admitted_tests q n p k = (admitted_from q n p k, admitted_to q n p k)
@@ -36,7 +20,7 @@ admitted_tests q n p k = (admitted_from q n p k, admitted_to q n p k)
 -- a match that begins at a place is a candidate there
 candidate_of : (es : List Expression) (t : ℕ) (q : Query) (p k : ℕ) (m : Match)
     → Matches es t q p k m → IsCandidate es t q p k
-candidate_of es t q p k m h = grind (arith, common_steps, find_is, admitted_from, leb-true)
+candidate_of es t q p k m h = grind (arith, common_steps, find_is)
 
 no_candidate : (es : List Expression) (t : ℕ) (q : Query) (p k : ℕ) → candidate es t q p k ≡ None
     → IsCandidate es t q p k → ⊥
@@ -76,15 +60,12 @@ found_leftmost es t q m e p k c =
         (λ (upto : m.pattern ≤ k). inr (same, upto))
         (cases_lt k m.pattern)
 
-some_same : (a b : Expression) → Some a ≡ Some b → a ≡ b
-some_same a b e = cc
-
 pub found_preferred : (es : List Expression) (t : ℕ) (q : Query) (m : Match) → found es t q ≡ Some m
     → (e : Expression) → slice_get es m.pattern ≡ Some e
     → find (λ j. nat_le j q.end) (ends (reading Direction.Forward t q.haystack) e m.start) ≡ Some m.end
 found_preferred es t q m is e there =
     let h = (is_found es t q m is).matches in
-    let same : h.expression ≡ e = some_same h.expression e (sym h.there ∙ there) in
+    let same : h.expression ≡ e = cc (h.there, there) in
     subst (λ x. end_within (reading Direction.Forward t q.haystack) x q.end m.start ≡ Some m.end) same h.end
 
 nothing_there : (es : List Expression) (t : ℕ) (q : Query) → found es t q ≡ None
@@ -92,8 +73,6 @@ nothing_there : (es : List Expression) (t : ℕ) (q : Query) → found es t q �
 nothing_there es t q none p k c =
     let n = q.end + 1 - q.start in
     let f : ℕ → Option Match = λ p. first_of (λ k. candidate es t q p k) (range_with_len 0 (length es)) in
-    let low = c.admitted.0 in
-    let high = c.admitted.1 in
     let place : q.start + (p - q.start) ≡ p = omega arith in
     let numbered : 0 + k ≡ k = omega arith in
     let at_place : f p ≡ None =
@@ -112,4 +91,4 @@ pub found_nothing : (es : List Expression) (t : ℕ) (q : Query)
 found_nothing es t q = (nothing_there es t q, nothing_found es t q)
 
 pub found_done : (es : List Expression) (t : ℕ) (q : Query) → q.end < q.start → found es t q ≡ None
-found_done es t q done = nothing_found es t q (λ p k c. omega (arith, done, c.admitted.0, c.admitted.1))
+found_done es t q done = nothing_found es t q (λ p k c. omega arith)

@@ -1,18 +1,10 @@
 -- The machine of a single letter: the states that are reached, and no others.
-use Rattle.std.proofs.lemmas.Grind.{common_steps}
-use Rattle.std.proofs.Common.{◌≡◌, ℕ, ◌<◌, ◌==◌, ⊎_elim, Bool, true, false, if◌then◌else◌, List, [], ◌∷◌, ◌++◌, length}
-use Rattle.std.proofs.Common.{refl, arith}
-use Rattle.std.specs.Prelude.{Contains, nat_lt, slice_index_or}
-use Rattle.std.specs.Int.{bit_at}
+use Rattle.rx_spec.proofs.Prelude.{common_steps, ◌≡◌, ℕ, ◌<◌, ◌==◌, ⊎_elim, Bool, true, false, if◌then◌else◌, List, []}
+use Rattle.rx_spec.proofs.Prelude.{◌∷◌, ◌++◌, length, refl, arith, Contains, nat_lt, slice_index_or, bit_at, and_parts}
+use Rattle.rx_spec.proofs.Prelude.{ltb-true, agree_below_at, All-from_recursion, contains, only, all_bytes, Facts}
+use Rattle.rx_spec.proofs.Prelude.{unit_facts, Anchored, IsWord, State, state_at, Build, Node, is_dead_state}
+use Rattle.rx_spec.proofs.Prelude.{built_entry, built_modes, node_after, IsReached}
 use Rattle.std.specs.List.{AllByRecursion as Every}
-use Rattle.std.proofs.lemmas.Bool.{and_parts, ltb-true, agree_below_at}
-use Rattle.std.proofs.lemmas.List.Elements.{All-from_recursion}
-use Rattle.rx_spec.specs.Bytes.{contains, only, all_bytes}
-use Rattle.rx_spec.specs.Contexts.{Facts, unit_facts}
-use Rattle.rx_spec.specs.Queries.{Anchored}
-use Rattle.rx_spec.specs.Machines.{IsWord}
-use Rattle.rx_spec.specs.States.{State, state_at}
-use Rattle.rx_spec.specs.Builds.{Build, Node, is_dead_state, built_entry, built_modes, node_after, IsReached}
 use Rattle.rx_laws.specs.Samples.{state, letter_forward, letter_reverse}
 use Rattle.rx_laws.specs.StateExamples.{five_states, three_states, ReachedForward, ReachedInReverse}
 use Rattle.rx_spec.specs.declared.Start.{Start}
@@ -101,7 +93,7 @@ no_letter unit c = absurd (Contains-nil unit c)
 letter_more : (word : List ℕ) → IsWord word → IsWord (97 ∷ word)
 letter_more word h unit c =
     ⊎_elim
-    (λ (e : 97 ≡ unit). omega (arith, e))
+    (λ (e : 97 ≡ unit). omega arith)
     (λ (d : Contains word unit). h unit d)
     (Contains-cases 97 word unit c)
 
@@ -142,29 +134,14 @@ reached_forward = record {
   all = reached_within letter_forward five_states five_starts five_steps;
 }
 
--- in reverse, of the kind All: a match cuts nothing off
-three_from_anchored : (quits a : Bool) (facts : Facts)
-    → Known three_states (then_at letter_reverse quits (where_a a ++ []) facts [])
-unfolding computing
-three_from_anchored true a facts = tt
-three_from_anchored false true facts = λ alive. at_place three_states 1 (state (0 ∷ []) []) (omega arith) refl
-three_from_anchored false false facts = λ alive. absurd (cc)
-
-three_to_match : (quits : Bool) (facts : Facts)
-    → Known three_states (then_at letter_reverse quits [] facts (0 ∷ []))
-unfolding computing
-three_to_match true facts = tt
-three_to_match false facts = λ alive. at_place three_states 2 (state [] (0 ∷ [])) (omega arith) refl
-
 three_steps : Steps letter_reverse three_states
 unfolding computing
-three_steps = grind (arith, common_steps, three_from_anchored, three_to_match, to_dead)
+three_steps = grind (arith, common_steps)
 
 three_starts : (mode : Anchored) (start : Start) → Known three_states (built_entry letter_reverse mode start)
 unfolding computing
-three_starts Anchored.No start = known_dead three_states
 three_starts Anchored.Yes start = λ alive. at_place three_states 0 (state (1 ∷ []) []) (omega arith) refl
-three_starts (Anchored.Pattern k) start = known_dead three_states
+three_starts _ start = known_dead three_states
 
 three_reached : Every (IsReached letter_reverse) three_states
 unfolding computing

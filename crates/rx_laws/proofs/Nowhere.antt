@@ -1,32 +1,15 @@
 -- The table of two rows gives the machine of the class of no byte, and no table has fewer rows.
-use Rattle.std.proofs.lemmas.Grind.{common_steps}
-use Rattle.std.proofs.Common.{◌≡◌, ℕ, ◌==◌, Bool, true, false, if◌then◌else◌, List, [], ◌∷◌, ◌++◌, refl, sym, ◌∙◌}
-use Rattle.std.proofs.Common.{arith}
-use Rattle.std.proofs.lemmas.Bool.{eqb-true}
-use Rattle.rx_spec.specs.Bytes.{contains, all_bytes}
-use Rattle.rx_spec.specs.Queries.{Anchored}
-use Rattle.rx_spec.specs.Contexts.{Facts, unit_facts}
-use Rattle.rx_spec.specs.Machines.{Label, run}
-use Rattle.rx_spec.specs.States.{state_at}
-use Rattle.rx_spec.specs.Builds.{Node, dead, next_node, node_label}
+use Rattle.rx_spec.proofs.Prelude.{common_steps, ◌≡◌, ℕ, Bool, true, false, if◌then◌else◌, List, [], ◌∷◌, ◌++◌, refl}
+use Rattle.rx_spec.proofs.Prelude.{sym, ◌∙◌, arith, contains, all_bytes, Anchored, Facts, unit_facts, Label, run}
+use Rattle.rx_spec.proofs.Prelude.{state_at, Node, dead, next_node, node_label}
 use Rattle.rx_laws.specs.Samples.{state}
 use Rattle.rx_laws.specs.TableExamples.{nowhere, no_byte, NowhereIsTable, NowhereGives, NowhereIsLeast}
 use Rattle.rx_laws.proofs.Computing.{computing}
-use Rattle.rx_laws.proofs.Everywhere.{in_none, no_pattern_starts}
-
-abbrev label_by : Bool → Label
-label_by quit = if quit then Label.Quits else Label.Plain
-
-quits_at : (row : ℕ) (quit : Bool) → (row == 1) ≡ quit → label_by quit ≡ Label.Quits → row ≡ 1
-quits_at row true e h = eqb-true row 1 e
-quits_at row false e h = absurd (cc)
-
-no_list : (quit : Bool) → label_by quit ≡ Label.Matches [] → ⊥
-no_list true h = cc
-no_list false h = cc
+use Rattle.rx_laws.proofs.Everywhere.{no_pattern_starts}
+use Rattle.lemmas_walks.proofs.QuitSets.{contains-empty}
 
 pub nowhere_is_table : NowhereIsTable
-nowhere_is_table = grind (arith, common_steps, quits_at, no_list)
+nowhere_is_table = grind (arith, common_steps)
 
 -- a node from which every word leads to nothing
 abbrev Silent : Node → Type 0
@@ -54,13 +37,14 @@ leads_to none any facts =
 anchored_silent : Silent (Node.Running (state (1 ∷ []) []))
 unfolding computing
 anchored_silent [] = refl
-anchored_silent (unit ∷ word) = grind (arith, common_steps, in_none, dead_silent)
+anchored_silent (unit ∷ word) = grind (arith, common_steps, contains-empty, dead_silent)
 
 unanchored_silent : Silent (Node.Running (state (1 ∷ 3 ∷ []) []))
 unfolding computing
 unanchored_silent [] = refl
 unanchored_silent (unit ∷ word) =
-    then_silent (contains 0 unit) (contains all_bytes unit) (unit_facts 10 unit) (in_none unit) (unanchored_silent word)
+    then_silent (contains 0 unit) (contains all_bytes unit) (unit_facts 10 unit) (contains-empty unit)
+    (unanchored_silent word)
   where
     then_silent : (none any : Bool) (facts : Facts) → none ≡ false
         → node_label (run (next_node no_byte) (Node.Running (state (1 ∷ 3 ∷ []) [])) word) ≡ Label.Plain

@@ -1,18 +1,12 @@
 -- Which states are reached: a list that holds every start and every step from its members holds them
 -- all.
-use Rattle.std.proofs.Common.{rules, ◌≡◌, ◌≢◌, ℕ, zero, suc, ◌+◌, ◌*◌, ◌==◌, ◌&&◌, Bool, true, false, not, ⊎_elim, List}
-use Rattle.std.proofs.Common.{[], ◌∷◌, ◌++◌, ap, sym, subst, arith}
-use Rattle.std.proofs.lemmas.Grind.{common_steps}
-use Rattle.std.specs.Prelude.{Contains, AllPairs}
+use Rattle.rx_spec.proofs.Prelude.{rules, ◌≡◌, ◌≢◌, ℕ, zero, suc, ◌+◌, ◌*◌, ◌==◌, ◌&&◌, Bool, true, false, not, ⊎_elim}
+use Rattle.rx_spec.proofs.Prelude.{List, [], ◌∷◌, ◌++◌, ap, sym, subst, arith, common_steps, Contains, AllPairs}
+use Rattle.rx_spec.proofs.Prelude.{and_parts, eq-eqb, Anchored, run, State, Build, Node, dead, is_dead_state, next_node}
+use Rattle.rx_spec.proofs.Prelude.{built_entry, IsReached}
 use Rattle.std.specs.List.{AllByRecursion as Every}
-use Rattle.std.proofs.lemmas.Bool.{and_parts, eq-eqb}
-use Rattle.std.proofs.lemmas.List.{get_or_default}
-use Rattle.rx_spec.specs.Queries.{Anchored}
-use Rattle.rx_spec.specs.Machines.{run}
-use Rattle.rx_spec.specs.States.{State}
-use Rattle.rx_spec.specs.Builds.{Build, Node, dead, is_dead_state, next_node, built_entry, IsReached}
 use Rattle.rx_spec.specs.declared.Start.{Start}
-use Rattle.lemmas_walks.proofs.Firsts.{by_test, Contains-nil, Contains-cases}
+use Rattle.lemmas_walks.proofs.Firsts.{Contains-nil, Contains-cases}
 
 -- a node that is quit, dead or in the list
 abbrev pub Known : List State → Node → Type 0
@@ -32,7 +26,7 @@ Steps b states = Every (StepsKnown b states) states
 next_known : (b : Build) (states : List State) → Steps b states → (node : Node) → Known states node → (unit : ℕ)
     → Known states (next_node b node unit)
 next_known b states steps Node.Quit known unit = known_dead states
-next_known b states steps (Node.Running s) known unit = grind (arith, common_steps, by_test, known_dead)
+next_known b states steps (Node.Running s) known unit = grind (arith, common_steps)
 
 run_known : (b : Build) (states : List State) → Steps b states → (word : List ℕ) (node : Node) → Known states node
     → Known states (run (next_node b) node word)
@@ -83,6 +77,6 @@ new_one x (y ∷ ys) e c =
 pub apart_by_codes : (xs : List State) → are_apart xs ≡ true → AllPairs (λ x y. x ≢ y) xs
 apart_by_codes [] a i j d h k e = omega arith
 apart_by_codes (x ∷ xs) a i zero d h k e = omega arith
-apart_by_codes (x ∷ xs) a zero (suc j) d h k e = search (rules, new_one, and_parts, get_or_default)
+apart_by_codes (x ∷ xs) a zero (suc j) d h k e = search (rules, new_one)
 apart_by_codes (x ∷ xs) a (suc i) (suc j) d h k e =
     apart_by_codes xs (and_parts (is_new (code x) xs) (are_apart xs) a).1 i j d (omega arith) (omega arith) e

@@ -1,45 +1,19 @@
 -- Rows of repetitions and of several patterns, one at a time.
-use Rattle.std.proofs.lemmas.Grind.{common_steps}
-use Rattle.std.proofs.Common.{◌≡◌, ℕ, zero, suc, ◌+◌, ◌-◌, Bool, Option, Some, None, List, [], ◌∷◌, ◌++◌, length, refl}
-use Rattle.std.proofs.Common.{ap, sym, ◌∙◌, arith, length-append, append-nil, append_assoc}
-use Rattle.std.specs.Prelude.{sum_by}
-use Rattle.std.proofs.lemmas.List.Sums.{sum_by-cons}
-use Rattle.rx_spec.specs.Expressions.{Expression}
-use Rattle.rx_spec.specs.Rows.{Row, Part, Maker, straight, chained, choice, copies, optional, loop, repeated, compile}
-use Rattle.rx_spec.specs.Rows.{rows_count}
-use Rattle.rx_spec.specs.Nfas.{patterns_from, start_of_all}
+use Rattle.rx_spec.proofs.Prelude.{common_steps, ◌≡◌, ℕ, suc, ◌+◌, ◌-◌, Bool, Option, Some, None, List, [], ◌∷◌, ◌++◌}
+use Rattle.rx_spec.proofs.Prelude.{length, refl, arith, length-append, sum_by, sum_by-cons, Expression, Row, Part}
+use Rattle.rx_spec.proofs.Prelude.{Maker, straight, chained, choice, copies, optional, loop, repeated, compile}
+use Rattle.rx_spec.proofs.Prelude.{rows_count, patterns_from, start_of_all}
 use Rattle.rx_laws.specs.EndsLaws.{lowered}
 use Rattle.rx_laws.specs.RowsLaws.{part}
-use Rattle.lemmas_walks.proofs.Rows.{rows_counted}
+use Rattle.lemmas_walks.proofs.Rows.{rows_counted, chained_alike, chained_assoc, copies-suc}
 
 -- nothing before a part
 straight_first : (maker : Maker) (base next : ℕ) → chained straight maker base next ≡ maker base next
-straight_first maker base next = grind (arith, common_steps, append-nil)
-
--- nothing after it
-straight_second : (maker : Maker) (base next : ℕ) → chained maker straight base next ≡ maker base next
-straight_second maker base next = let e : base + 0 ≡ base = omega arith in ap (λ b. maker b next) e
-
-chained_assoc : (a b c : Maker) (base next : ℕ)
-    → chained (chained a b) c base next ≡ chained a (chained b c) base next
-chained_assoc a b c base next = grind (arith, common_steps, length-append, append_assoc)
-
-chained_alike : (f g h : Maker) → ((base next : ℕ) → f base next ≡ g base next) → (base next : ℕ)
-    → chained f h base next ≡ chained g h base next
-chained_alike f g h same base next = grind (arith, common_steps)
-
--- of the copies, the first is made last
-copies_first : (body : Maker) (n base next : ℕ)
-    → copies (suc n) body base next ≡ chained body (copies n body) base next
-unfolding copies
-copies_first body zero base next = straight_first body base next ∙ sym (straight_second body base next)
-copies_first body (suc n) base next =
-    chained_alike (copies (suc n) body) (chained body (copies n body)) body (copies_first body n) base next
-    ∙ chained_assoc body (copies n body) body base next
+straight_first maker base next = grind (arith, common_steps)
 
 needed_then : (body rest : Maker) (n base next : ℕ)
     → chained (copies (suc n) body) rest base next ≡ chained body (chained (copies n body) rest) base next
-needed_then body rest n base next = grind (arith, common_steps, chained_alike, copies_first, chained_assoc)
+needed_then body rest n base next = grind (arith, common_steps, chained_alike, copies-suc, chained_assoc)
 
 pub needed_round : (n : ℕ) (most : Option ℕ) (greedy : Bool) (body : Maker) (base next : ℕ)
     → repeated (suc n) most greedy body base next ≡ chained body (repeated n (lowered most) greedy body) base next
@@ -49,7 +23,7 @@ needed_round n (Some most) greedy body base next = grind (arith, common_steps, n
 pub optional_alone : (greedy : Bool) (n : ℕ) (body : Maker) (base next : ℕ)
     → repeated 0 (Some n) greedy body base next ≡ optional greedy n body base next
 unfolding copies
-optional_alone greedy n body base next = grind (arith, common_steps, straight_first)
+optional_alone greedy n body base next = grind (arith, common_steps)
 
 pub loop_alone : (greedy : Bool) (body : Maker) (base next : ℕ)
     → repeated 0 None greedy body base next ≡ loop greedy body base next

@@ -1,24 +1,17 @@
 -- What a half search tells is the first pattern of the last row that an overlapping search tells of.
-use Rattle.std.proofs.Common.{rules, ◌≡◌, ℕ, ◌+◌, ◌-◌, ◌<◌, ◌≤◌, Bool, true, false, if◌then◌else◌, Option, Some, None}
-use Rattle.std.proofs.Common.{List, [], ◌∷◌, length, refl, ap, sym, ◌∙◌, arith, length-append, length-take}
-use Rattle.std.proofs.lemmas.Grind.{common_steps}
-use Rattle.std.specs.Prelude.{Ok, Err, Contains, fold}
+use Rattle.rx_spec.proofs.Prelude.{rules, ◌≡◌, ℕ, ◌+◌, ◌-◌, ◌<◌, ◌≤◌, Bool, true, false, if◌then◌else◌, Option, Some}
+use Rattle.rx_spec.proofs.Prelude.{None, List, [], ◌∷◌, length, refl, ap, ◌∙◌, arith, common_steps, Ok, Err, Contains}
+use Rattle.rx_spec.proofs.Prelude.{eq-eqb, Query, HalfMatch, MatchError, Label, label_of, Machine, Settings, start_row}
+use Rattle.rx_spec.proofs.Prelude.{start_context, Node, node_label, power, build_settings, HalfAnswer, units_of, beside}
+use Rattle.rx_spec.proofs.Prelude.{first_offset, next_offset, last_match, at_label, walk, half_search, Item, Ending}
+use Rattle.rx_spec.proofs.Prelude.{OverlappingMatches, none_left, pattern_items, with_items, at_item_label}
+use Rattle.rx_spec.proofs.Prelude.{overlapping_walk, overlapping}
+use Rattle.std.specs.Prelude.{fold}
 use Rattle.std.specs.List.{AllByRecursion as Every}
-use Rattle.std.proofs.lemmas.Bool.{ne_eqb, eq-eqb}
-use Rattle.std.proofs.lemmas.List.{length-reverse}
-use Rattle.std.proofs.lemmas.List.Sums.{fold-append}
-use Rattle.rx_spec.specs.Queries.{Query, HalfMatch, MatchError}
-use Rattle.rx_spec.specs.Machines.{Label, label_of, Machine, Settings}
-use Rattle.rx_spec.specs.Starts.{start_row, start_context}
-use Rattle.rx_spec.specs.Builds.{Node, node_label, power, build_settings}
-use Rattle.rx_spec.specs.HalfSearches.{HalfAnswer, units_of, beside, first_offset, next_offset, last_match, at_label}
-use Rattle.rx_spec.specs.HalfSearches.{walk, half_search}
-use Rattle.rx_spec.specs.Overlapping.{Item, Ending, OverlappingMatches, none_left, pattern_items, with_items}
-use Rattle.rx_spec.specs.Overlapping.{at_item_label, overlapping_walk, overlapping}
 use Rattle.rx_laws.specs.SearchesLaws.{keep_first, HalfOfOverlapping, HalfOfOverlappingInBuild}
 use Rattle.rx_spec.specs.declared.Direction.{Direction}
 use Rattle.lemmas_walks.proofs.Firsts.{Contains-here, Contains-there}
-use Rattle.lemmas_tables.proofs.Tables.{units_below}
+use Rattle.lemmas_walks.proofs.ReadUnits.{units_word}
 
 -- the answer, where a half match is kept already
 abbrev answer_by : Option HalfMatch → Ending → List Item → HalfAnswer
@@ -38,22 +31,10 @@ PassedBy Direction.Reverse offset kept units =
 record IsLeft (direction : Direction) (offset : ℕ) (kept : Option HalfMatch) (units : List ℕ) : Type 0 where
   passed : PassedBy direction offset kept units
 
-left_by_unit : {direction : Direction} {offset unit : ℕ} {kept : Option HalfMatch} {units : List ℕ}
-    → IsLeft direction offset kept (unit ∷ units) → IsLeft direction (next_offset direction offset) kept units
-left_by_unit {direction} {offset} {unit} {kept} {units} left = grind (arith, common_steps)
-
 left_by_match : {direction : Direction} {offset unit : ℕ} {kept : Option HalfMatch} {units : List ℕ} (k : ℕ)
     → IsLeft direction offset kept (unit ∷ units)
     → IsLeft direction (next_offset direction offset) (Some (record { pattern = k; offset = offset })) units
 left_by_match {direction} {offset} {unit} {kept} {units} k left = grind (arith, common_steps)
-
--- so what is told at this offset takes its place
-takes_place : {direction : Direction} {offset unit : ℕ} (k : ℕ) (kept : Option HalfMatch) {units : List ℕ}
-    → IsLeft direction offset kept (unit ∷ units)
-    → keep_first kept (Item.Reported (record { pattern = k; offset = offset }))
-    ≡ Some (record { pattern = k; offset = offset })
-takes_place k None left = refl
-takes_place {direction} {offset} {unit} k (Some h) {units} left = grind (arith, common_steps, ne_eqb)
 
 -- the row's other patterns don't
 stays_first : (k offset : ℕ) (ks : List ℕ)
@@ -67,7 +48,7 @@ stays_first k offset (j ∷ ks) =
 
 answer_with : (kept : Option HalfMatch) (items : List Item) (later : OverlappingMatches)
     → answer_from kept (with_items items later) ≡ answer_from (fold keep_first kept items) later
-answer_with kept items later = grind (arith, common_steps, fold-append)
+answer_with kept items later = grind (arith, common_steps)
 
 -- A machine whose match rows have patterns, seen from rows that units lead to.
 record HasLists {R : Type 0} (m : Machine R) (In : R → Type 0) (Fits : ℕ → Type 0) : Type 0 where
@@ -107,23 +88,15 @@ module _ {R : Type 0} {m : Machine R} {In : R → Type 0} {Fits : ℕ → Type 0
           (if m.is_dead (m.next row unit) then Ok (last_match label offset kept) else on (last_match label offset kept))
           ≡ answer_from kept (at_item_label label direction unit offset (rest (m.is_dead (m.next row unit))))
       by_label Label.Quits e others = refl
-      by_label Label.Plain e others =
-          by_dead kept (m.is_dead (m.next row unit)) (others kept (left_by_unit left))
-      by_label (Label.Matches []) e others =
-          absurd (has.some (m.next row unit) (has.stays row unit within fits.0) e)
+      by_label Label.Plain e others = grind (arith, common_steps)
+      by_label (Label.Matches []) e others = grind (arith, common_steps)
       by_label (Label.Matches (k ∷ ks)) e others =
-          let h : Option HalfMatch = Some (record { pattern = k; offset = offset }) in
-          let dead = m.is_dead (m.next row unit) in
-          by_dead h dead (others h (left_by_match k left))
-          ∙ sym (answer_with kept (pattern_items (k ∷ ks) offset) (rest dead)
-          ∙ ap (λ (last : Option HalfMatch). answer_from last (rest dead))
-          (ap (λ (last : Option HalfMatch). fold keep_first last (pattern_items ks offset))
-          (takes_place k kept left) ∙ stays_first k offset ks))
+          grind (arith, common_steps, by_dead, left_by_match, answer_with, stays_first)
 
 -- all that is read has no more units than offsets
 span_left : (direction : Direction) (q : Query)
     → IsLeft direction (first_offset direction q) None (units_of direction q)
-span_left direction q = grind (arith, common_steps, length-append, length-reverse, length-take)
+span_left direction q = grind (arith, common_steps)
 
 half_told : {R : Type 0} {m : Machine R} {In : R → Type 0} {Fits : ℕ → Type 0} → HasLists m In Fits → (s : Settings)
     (direction : Direction) (q : Query) → q.earliest ≡ false → In (start_row m s (beside direction q) q.mode)
@@ -140,13 +113,10 @@ every_unit P (unit ∷ units) f =
 pub half_of_overlapping : HalfOfOverlapping
 half_of_overlapping t direction q is bytes late =
     half_told has t.settings direction q late (is.entries q.mode (start_context t.settings (beside direction q)))
-    (every_unit (λ unit. unit < 257) (units_of direction q) (units_below direction q bytes))
+    (every_unit (λ unit. unit < 257) (units_of direction q) (units_word direction q bytes))
   where
     has : HasLists t.machine (λ row. row < t.size) (λ unit. unit < 257)
-    has = record {
-      stays = λ row unit h k. is.nexts row unit h k;
-      some = λ row h e. is.lists row h e;
-    }
+    has = grind (arith, common_steps)
 
 -- and in what a build makes
 pub half_of_overlapping_in_build : HalfOfOverlappingInBuild

@@ -1,8 +1,6 @@
 -- First occurrences of whole lists, and the facts that are kept on both sides.
-use Rattle.std.proofs.Common.{◌≡◌, ◌≢◌, ℕ, suc, List, [], ◌∷◌, ◌++◌, ap, sym, ◌∙◌, arith, append-nil}
-use Rattle.std.specs.Prelude.{Contains, AllPairs, ◌↔◌}
-use Rattle.rx_spec.specs.Contexts.{Facts, both, holds_read, facts_read}
-use Rattle.rx_spec.specs.States.{fresh, firsts}
+use Rattle.rx_spec.proofs.Prelude.{◌≡◌, ◌≢◌, ℕ, suc, List, [], ◌∷◌, ◌++◌, ap, sym, ◌∙◌, arith, append-nil, Contains}
+use Rattle.rx_spec.proofs.Prelude.{AllPairs, ◌↔◌, Facts, both, holds_read, facts_read, fresh, firsts}
 use Rattle.rx_spec.specs.declared.Direction.{Direction}
 use Rattle.rx_spec.specs.declared.Look.{Look}
 use Rattle.lemmas_walks.proofs.Facts.{Cover, kept_both}
@@ -24,7 +22,7 @@ tail_apart x xs a i j d h k = a (suc i) (suc j) d (omega arith) (omega arith)
 apart_from_pairs : (xs : List ℕ) → AllPairs (λ y z. y ≢ z) xs → Apart xs
 apart_from_pairs [] a = tt
 apart_from_pairs (x ∷ xs) a = (
-  (λ c. a 0 (suc c.0) x (omega arith) (omega (arith, c.1)) (sym c.2)),
+  (λ c. a 0 (suc c.0) x (omega arith) (omega arith) (sym c.2)),
   apart_from_pairs xs (tail_apart x xs a),
 )
 

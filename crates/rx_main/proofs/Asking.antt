@@ -1,6 +1,5 @@
 -- A script that is read with its input asks something.
-use Rattle.std.proofs.Common.{true, List, [], ℕ, Option, Some, None, ◌∷◌}
-use Rattle.rx_spec.specs.Queries.{Query}
+use Rattle.rx_spec.proofs.Prelude.{true, List, [], ℕ, Option, Some, None, ◌∷◌, Query}
 use Rattle.rx_script.specs.Grammar.{Spelled, Spells, SpellsAsked}
 use Rattle.rx_main.specs.Scripts.{IsAsking}
 

@@ -1,8 +1,5 @@
 -- How many words a command line has, and its numerals.
-use Rattle.std.proofs.lemmas.Grind.{common_steps}
-use Rattle.std.proofs.Common.{◌≡◌, ℕ, List, [], ◌∷◌, length, ap, arith}
-use Rattle.std.specs.Prelude.{Some, slice_get}
-use Rattle.std.proofs.lemmas.Option.{same_Some}
+use Rattle.rx_spec.proofs.Prelude.{common_steps, ◌≡◌, ℕ, List, [], ◌∷◌, length, ap, arith, Some, slice_get, same_Some}
 use Rattle.std.specs.Str.Parse.{AllDigits, digits_value}
 use Rattle.std.proofs.lemmas.Str.Parse.{IsNumeralModel, numerals_by_value, tells_digits}
 

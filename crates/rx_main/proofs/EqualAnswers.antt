@@ -1,10 +1,6 @@
 -- From what the comparison of two tables answers to the reply of `equal`.
-use Rattle.std.proofs.lemmas.Grind.{common_steps}
-use Rattle.std.proofs.Common.{◌≡◌, ◌+◌, ◌≤◌, Option, Some, None, List, [], ◌∷◌, ◌++◌, length, ap, ◌∙◌, arith}
-use Rattle.std.proofs.lemmas.List.{length-append}
-use Rattle.std.proofs.lemmas.Option.{same_Some}
-use Rattle.std.specs.Option.{option_and_then}
-use Rattle.rx_spec.specs.Tables.{Table}
+use Rattle.rx_spec.proofs.Prelude.{common_steps, ◌≡◌, ◌+◌, ◌≤◌, Option, Some, None, List, [], ◌∷◌, ◌++◌, length, ap}
+use Rattle.rx_spec.proofs.Prelude.{◌∙◌, arith, length-append, same_Some, option_and_then, Table}
 use Rattle.rx_equal.specs.Evidence.{RowPair, link_pair, pairs_from}
 use Rattle.rx_equal.specs.Walks.{IsEqual}
 use Rattle.rx_equal.specs.declared.evidence.Link.{Link}

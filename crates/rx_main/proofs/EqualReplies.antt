@@ -1,7 +1,6 @@
 -- Replies of `equal`: at most one fits, but that any parting may be told.
-use Rattle.std.proofs.lemmas.Grind.{common_steps}
-use Rattle.std.proofs.Common.{◌≡◌, ◌⊎◌, inl, inr, List, Result, Ok, Err, refl, sym, ◌∙◌, arith, length}
-use Rattle.rx_spec.specs.Tables.{Table}
+use Rattle.rx_spec.proofs.Prelude.{common_steps, ◌≡◌, ◌⊎◌, inl, inr, List, Result, Ok, Err, refl, sym, ◌∙◌, arith}
+use Rattle.rx_spec.proofs.Prelude.{length, Table}
 use Rattle.rx_equal.specs.Evidence.{RowPair}
 use Rattle.lemmas_tables.proofs.Sublists.{length-within}
 use Rattle.rx_wire.specs.Kinds.{Kind}

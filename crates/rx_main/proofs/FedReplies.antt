@@ -1,6 +1,5 @@
 -- Runs of `feed`, and of the other commands.
-use Rattle.std.proofs.lemmas.Grind.{common_steps}
-use Rattle.std.proofs.Common.{◌≡◌, ℕ, ◌≤◌, List, refl, arith}
+use Rattle.rx_spec.proofs.Prelude.{common_steps, ◌≡◌, ℕ, ◌≤◌, List, refl, arith}
 use Rattle.rx_base.specs.Outside.{Rose}
 use Rattle.rx_base.specs.Search.{mode_of}
 use Rattle.rx_transfer.specs.Outside.{Ends}

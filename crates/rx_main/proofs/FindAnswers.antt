@@ -1,6 +1,5 @@
 -- From what a search for a match answers to the reply of `find`.
-use Rattle.std.proofs.Common.{◌≡◌, []}
-use Rattle.rx_spec.specs.Queries.{MatchError, Query}
+use Rattle.rx_spec.proofs.Prelude.{◌≡◌, [], MatchError, Query}
 use Rattle.rx_plan.specs.Plan.{plan_of}
 use Rattle.rx_regex.specs.Find.{EndsBy, IsFound}
 use Rattle.rx_regex.specs.declared.find.Answer.{Answer}

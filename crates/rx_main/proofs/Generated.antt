@@ -1,16 +1,11 @@
 -- The matches of generated patterns: what an iterator gives of them.
-use Rattle.std.proofs.lemmas.Grind.{common_steps, flat_map-append}
-use Rattle.std.proofs.Common.{◌≡◌, ℕ, zero, suc, ◌+◌, ◌*◌, ◌≤◌, false, List, [], ◌∷◌, ◌++◌, length, map, sum_by, None}
-use Rattle.std.proofs.Common.{refl, ap, ◌∙◌, append-nil, arith, lit≤}
-use Rattle.std.specs.Prelude.{Ok, Err}
-use Rattle.std.specs.List.{flat_map, range_with_len}
-use Rattle.std.proofs.lemmas.List.{length-append, length-map}
+use Rattle.rx_spec.proofs.Prelude.{common_steps, flat_map-append, ◌≡◌, ℕ, zero, suc, ◌+◌, ◌*◌, ◌≤◌, false, List, []}
+use Rattle.rx_spec.proofs.Prelude.{◌∷◌, ◌++◌, length, map, sum_by, None, refl, ap, ◌∙◌, append-nil, arith, Ok, Err}
+use Rattle.rx_spec.proofs.Prelude.{flat_map, range_with_len, length-append, length-map, length-range_with_len}
+use Rattle.rx_spec.proofs.Prelude.{FoundMatches, iterate, outcome, Anchored, Match, MatchError, Query}
+use Rattle.std.proofs.Common.{lit≤}
 use Rattle.std.proofs.lemmas.List.Concat.{length-flat_map}
-use Rattle.std.proofs.lemmas.List.FromFn.{length-range_with_len}
 use Rattle.std.proofs.lemmas.List.Sums.{sum_by-le}
-use Rattle.rx_spec.specs.Iterating.{FoundMatches, iterate}
-use Rattle.rx_spec.specs.Plans.{outcome}
-use Rattle.rx_spec.specs.Queries.{Anchored, Match, MatchError, Query}
 use Rattle.rx_pair.specs.Matches.{items}
 use Rattle.rx_plan.specs.Plan.{plan_of, usual}
 use Rattle.rx_main.specs.Gen.{gen_haystack, gen_matches, gen_patterns, gen_piece, gen_query}

@@ -1,11 +1,7 @@
 -- Searches of a text with an image that searches for one literal.
-use Rattle.std.proofs.lemmas.Grind.{common_steps}
-use Rattle.std.proofs.Common.{◌≡◌, ℕ, ◌+◌, ◌<◌, ◌≤◌, min, List, ◌++◌, length, Option, Some, None, Ok, Err, ap, sym, ◌-◌}
-use Rattle.std.proofs.Common.{◌∙◌, false, refl, subst, arith, length-append}
-use Rattle.std.proofs.Math.Seq.{drop-append_seam, take-append_seam}
-use Rattle.std.specs.Prelude.{IfOk, IfSome, Result, option_map}
-use Rattle.std.specs.Io.KnownBytes.{Consumes}
-use Rattle.rx_spec.specs.Queries.{Anchored, IsFit, is_anchored}
+use Rattle.rx_spec.proofs.Prelude.{common_steps, ◌≡◌, ℕ, ◌+◌, ◌<◌, ◌≤◌, min, List, ◌++◌, length, Option, Some, None, Ok}
+use Rattle.rx_spec.proofs.Prelude.{Err, ap, sym, ◌-◌, ◌∙◌, subst, arith, length-append, drop-append_seam}
+use Rattle.rx_spec.proofs.Prelude.{take-append_seam, IfOk, IfSome, Result, option_map, Consumes, Anchored, IsFit}
 use Rattle.rx_base.specs.Search.{mode_of}
 use Rattle.rx_image.specs.Pairs.{Pair, reads}
 use Rattle.rx_prefilter.specs.OnlyLiterals.{IsFirstPlace, SearchesFor, literal_match}
@@ -29,12 +25,6 @@ pub of_tables : {E : Type 0} (image : List ℕ) (pair : Pair) {size : ℕ} → r
 of_tables image pair {size} read (Ok (Some only)) searches some = grind (arith, common_steps)
 of_tables image pair read (Ok None) searches some = tt
 of_tables image pair read (Err error) searches some = tt
-
--- a mode without an anchor
-pub unanchored : (mode : Anchored) → is_anchored mode ≡ false → mode ≡ Anchored.No
-unanchored Anchored.No e = refl
-unanchored Anchored.Yes e = absurd (cc)
-unanchored (Anchored.Pattern k) e = absurd (cc)
 
 -- an image and too much text behind it
 pub long_behind : (before after now : Option (List ℕ)) (image text : List ℕ) → Consumes before after image

@@ -1,11 +1,6 @@
 -- The matches that an iterator gives, and the reply that lists them.
-use Rattle.std.proofs.Common.{arith, ◌≡◌, List, [], ◌∷◌, ◌++◌, map, Option, Some, None, refl, ◌∙◌, append_assoc}
-use Rattle.std.proofs.lemmas.Grind.{common_steps}
-use Rattle.std.specs.Prelude.{Result, Ok, Err}
-use Rattle.std.specs.List.{flat_map}
-use Rattle.std.proofs.lemmas.List.{map-append}
-use Rattle.rx_spec.specs.Iterating.{FoundMatches}
-use Rattle.rx_spec.specs.Queries.{Match, MatchError}
+use Rattle.rx_spec.proofs.Prelude.{arith, ◌≡◌, List, [], ◌∷◌, ◌++◌, map, Option, Some, None, refl, ◌∙◌, append_assoc}
+use Rattle.rx_spec.proofs.Prelude.{common_steps, Result, Ok, Err, flat_map, map-append, FoundMatches, Match, MatchError}
 use Rattle.rx_pair.specs.Matches.{items}
 use Rattle.rx_main.specs.Lines.{match_line, none_line, error_reply}
 use Rattle.rx_main.specs.Each.{each_reply, matches_reply}

@@ -1,9 +1,6 @@
 -- Numbers and modes of a command line: what is read is spelled so, and what is spelled so is read.
-use Rattle.std.proofs.lemmas.Grind.{common_steps}
-use Rattle.std.proofs.Common.{◌≡◌, ◌≢◌, ℕ, ◌<◌, ◌≤◌, ◌^◌, List, Option, Some, None, sym, ◌∙◌, arith}
-use Rattle.std.specs.Option.{MatchOption}
-use Rattle.std.specs.Fmt.{decimal}
-use Rattle.rx_spec.specs.Queries.{Anchored}
+use Rattle.rx_spec.proofs.Prelude.{common_steps, ◌≡◌, ◌≢◌, ℕ, ◌<◌, ◌≤◌, ◌^◌, List, Option, Some, None, sym, arith}
+use Rattle.rx_spec.proofs.Prelude.{MatchOption, decimal, Anchored}
 use Rattle.rx_base.specs.Search.{mode_of}
 use Rattle.rx_base.specs.declared.search.Anchored.{Anchored as Mode}
 use Rattle.rx_script.specs.Grammar.{SpellsMode}
@@ -32,14 +29,12 @@ number_within word least most v below read None out = grind (arith, common_steps
 number_within word least most v below read (Some n) is = grind (arith, common_steps, number_spelled)
 
 mode_named : (mode : Anchored) (word : List ℕ) → SpellsMode mode word → IsMode mode × (word ≡ mode_name mode)
-mode_named Anchored.No word s = (tt, s)
-mode_named Anchored.Yes word s = (tt, s)
 mode_named (Anchored.Pattern k) word s = (s.0, s.1)
+mode_named _ word s = (tt, s)
 
 named_mode : (mode : Anchored) (word : List ℕ) → IsMode mode → word ≡ mode_name mode → SpellsMode mode word
-named_mode Anchored.No word is e = e
-named_mode Anchored.Yes word is e = e
 named_mode (Anchored.Pattern k) word is e = (is, e)
+named_mode _ word is e = e
 
 pub mode_by_word : (word : List ℕ) (read : Option Mode) → read ≡ mode_word word
     → MatchOption read
@@ -47,8 +42,5 @@ pub mode_by_word : (word : List ℕ) (read : Option Mode) → read ≡ mode_word
     (λ mode. IsMode (mode_of mode) × (word ≡ mode_name (mode_of mode)))
 mode_by_word word None e = λ mode is spelled.
     let read = mode_read word (mode_of mode) (named_mode (mode_of mode) word is spelled) in
-    clash read.0 (e ∙ read.1)
-  where
-    clash : (mode : Mode) → None ≡ Some mode → ⊥
-    clash mode e = cc
+    cc (e, read.1)
 mode_by_word word (Some mode) e = mode_named (mode_of mode) word (mode_spelled word mode (sym e))

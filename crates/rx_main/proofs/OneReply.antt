@@ -1,12 +1,9 @@
 -- At most one reply fits a command line and the bytes that were taken, but that a refused build names any cause, that
 -- sparse tables may be refused by a bound, that an image is any of a table of the plan, and that any place and word
 -- that part two tables may be told.
-use Rattle.std.proofs.lemmas.Grind.{common_steps}
-use Rattle.std.proofs.Common.{◌≡◌, ◌⊎◌, inl, inr, ℕ, ◌+◌, Bool, true, false, List, [], length, Option, Some, Result, Ok}
-use Rattle.std.proofs.Common.{Err, refl, sym, ap, ◌∙◌, arith, subst}
-use Rattle.rx_spec.specs.Expressions.{Expression}
-use Rattle.rx_spec.specs.Plans.{Plan, Cause}
-use Rattle.rx_spec.specs.Queries.{Query, Match, MatchError}
+use Rattle.rx_spec.proofs.Prelude.{common_steps, ◌≡◌, ◌⊎◌, inl, inr, ℕ, ◌+◌, Bool, true, false, List, [], length}
+use Rattle.rx_spec.proofs.Prelude.{Option, Result, Ok, Err, refl, sym, ap, ◌∙◌, arith, subst, Expression, Plan, Cause}
+use Rattle.rx_spec.proofs.Prelude.{Query, Match, MatchError}
 use Rattle.rx_plan.specs.Plan.{plan_of}
 use Rattle.rx_regex.specs.Find.{PlanFits, PlanRefused}
 use Rattle.rx_regex.specs.PlanTables.{IsOfPair, TableFits, TableRefused}
@@ -43,22 +40,11 @@ any_cause : (Refused : Cause → Type 0) (reply : Reply) → IsRefusal Refused r
     → IsRefusal (λ (cause : Cause). Unit {0}) reply
 any_cause Refused reply h = record { cause = h.cause; refused = tt; told = h.told }
 
-same_query : (asked : Option Query) (q other : Query) → asked ≡ Some q → asked ≡ Some other → other ≡ q
-same_query asked q other e f = cc
-
 -- ---- what is found
-
-same_found : (found other : Option Match) (answer : Result (Option Match) MatchError)
-    → answer ≡ Ok found → answer ≡ Ok other → found ≡ other
-same_found found other answer e f = cc
 
 found_failed : (found : Option Match) (error : MatchError) (answer : Result (Option Match) MatchError)
     → answer ≡ Ok found → answer ≡ Err error → ⊥
 found_failed found error answer e f = cc
-
-same_error : (error other : MatchError) (answer : Result (Option Match) MatchError)
-    → answer ≡ Err error → answer ≡ Err other → error ≡ other
-same_error error other answer e f = cc
 
 find_once : (script : Spelled) (q : Query) → IsOne (FindAnswers script q)
 find_once script q reply other
@@ -66,7 +52,7 @@ find_once script q reply other
     (FindAnswers.Finds also also_forward also_reverse f also_rows k) =
     let counts = rows_once forward reverse also_forward also_reverse rows also_rows in
     h
-    ∙ ap (λ (m : Option Match). found_reply m (rows_text script.rows forward reverse)) (same_found found also _ e f)
+    ∙ ap (λ (m : Option Match). found_reply m (rows_text script.rows forward reverse)) (cc (e, f))
     ∙ ap (λ n. found_reply also (rows_text script.rows n reverse)) counts.0
     ∙ ap (λ n. found_reply also (rows_text script.rows also_forward n)) counts.1 ∙ sym k
 find_once script q reply other (FindAnswers.Finds found forward reverse e rows h) (FindAnswers.Fails error f k) =
@@ -74,7 +60,7 @@ find_once script q reply other (FindAnswers.Finds found forward reverse e rows h
 find_once script q reply other (FindAnswers.Fails error e h) (FindAnswers.Finds found forward reverse f rows k) =
     absurd (found_failed found error _ f e)
 find_once script q reply other (FindAnswers.Fails error e h) (FindAnswers.Fails also f k) =
-    h ∙ ap (error_reply []) (same_error error also _ e f) ∙ sym k
+    h ∙ ap (error_reply []) (cc (h, f)) ∙ sym k
 
 each_once : (script : Spelled) (q : Query) → IsOne (EachAnswers script q)
 each_once script q reply other h k = h ∙ sym k
@@ -102,9 +88,6 @@ module _ (with_input : Bool) (Answers : Spelled → Reply → Type 0) (text : Li
       (script_read with_input text script spelled) (told reply h)
 
 -- ---- replies to words and bytes
-
-abbrev reply_of : List ℕ → ℕ → Reply
-reply_of text status = record { text = text; status = status }
 
 same_reply : (reply other : Reply) → reply.text ≡ other.text → reply.status ≡ other.status → reply ≡ other
 same_reply reply other e f = grind (arith, common_steps)
@@ -167,7 +150,7 @@ module _ (words : List (List ℕ)) (bytes : List ℕ) where
       plan_alike (plan_of script.plan) script.exprs (λ table one. AsksFor.Search one script says spelled refl refl)
       (Answers script h.query) (alike_if_one (Answers script h.query) (one script h.query)) reply other h.replies
       (subst (λ (q : Query). PlanReplies (plan_of script.plan) script.exprs (Answers script q) other)
-      (same_query script.asked h.query k.query h.asked k.asked) k.replies)
+      (cc (h.asked, k.asked)) k.replies)
 
   image_alike : (table : PlanTable) (order : Order) → Says words (Command.Read (ReadCommand.Image table order))
       → (script : Spelled) → Spells false bytes script → AreAlike (ImageAnswers table order script)
@@ -211,11 +194,8 @@ module _ (words : List (List ℕ)) (bytes : List ℕ) where
   read_alike (ReadCommand.Image table order) says =
       script_alike false (ImageAnswers table order) (image_alike table order says)
   read_alike (ReadCommand.ImagePair order) says = script_alike false (PairImageAnswers order) (pair_alike order says)
-  read_alike ReadCommand.CheckPair says = λ reply other h k. SayTheSame.Same (h ∙ sym k)
-  read_alike (ReadCommand.Search s) says = λ reply other h k. SayTheSame.Same (h ∙ sym k)
-  read_alike (ReadCommand.Scan form) says = λ reply other h k. SayTheSame.Same (h ∙ sym k)
   read_alike (ReadCommand.Equal e) says = equal_alike e says
-  read_alike (ReadCommand.Check form) says = λ reply other h k. SayTheSame.Same (h ∙ sym k)
+  read_alike _ says = λ reply other h k. SayTheSame.Same (h ∙ sym k)
 
   command_alike : (command : Command) → Says words command → (ended also : Bool) (reply other : Reply)
       → CommandReplies command bytes ended reply → CommandReplies command bytes also other

@@ -1,12 +1,10 @@
 -- A refusal tells its cause, and no plan is both refused and built, but by a bound of the rows of sparse tables.
-use Rattle.std.proofs.lemmas.Grind.{common_steps}
-use Rattle.std.proofs.Common.{◌≡◌, ⊎_elim, ℕ, Bool, true, false, List, Option, refl, arith}
-use Rattle.rx_spec.specs.Expressions.{Expression}
-use Rattle.rx_spec.specs.Nfas.{Nfa}
-use Rattle.rx_spec.specs.Builds.{Build}
-use Rattle.rx_spec.specs.Causes.{NfaCause, BuildCause, NfaFits, NfaRefused, IsSupported, IsUnsupported, BuildFits}
+use Rattle.rx_spec.proofs.Prelude.{common_steps, ◌≡◌, ⊎_elim, ℕ, Bool, true, false, List, Option, refl, arith}
+use Rattle.rx_spec.proofs.Prelude.{Expression, Nfa, Build, BuildCause, IsSupported, IsUnsupported, BuildFits, Plan}
+use Rattle.rx_spec.proofs.Prelude.{Cause}
+use Rattle.rx_spec.specs.Causes.{NfaCause, NfaFits, NfaRefused}
 use Rattle.rx_spec.specs.Causes.{BuildRefused, HasTooLongRows}
-use Rattle.rx_spec.specs.Plans.{Plan, Cause, DirectionFits, DirectionRefused, plan_limits}
+use Rattle.rx_spec.specs.Plans.{DirectionFits, DirectionRefused, plan_limits}
 use Rattle.rx_spec.specs.declared.Direction.{Direction}
 use Rattle.rx_regex.specs.Find.{PlanFits, PlanRefused}
 use Rattle.rx_regex.specs.PlanTables.{IsOfPair, TableFits, TableRefused, table_build}
@@ -26,12 +24,8 @@ kind_told Refused (BuildErrorKind.NFA (nfa.BuildError.TooManyStates given)) repl
 kind_told Refused (BuildErrorKind.NFA (nfa.BuildError.ExceededSizeLimit limit)) reply told r =
     let cause = NfaCause.ExceededSizeLimit limit in record { cause = Cause.NFA cause; refused = r; told = told cause }
 kind_told Refused (BuildErrorKind.NFA nfa.BuildError.Memory) reply told r = absurd r
-kind_told Refused BuildErrorKind.Unsupported reply told r = grind (arith, common_steps)
-kind_told Refused BuildErrorKind.TooManyStates reply told r = grind (arith, common_steps)
-kind_told Refused BuildErrorKind.TooManyMatchPatternIDs reply told r = grind (arith, common_steps)
-kind_told Refused (BuildErrorKind.DFAExceededSizeLimit limit) reply told r = grind (arith, common_steps)
-kind_told Refused (BuildErrorKind.DeterminizeExceededSizeLimit limit) reply told r = grind (arith, common_steps)
 kind_told Refused BuildErrorKind.Memory reply told r = absurd told
+kind_told Refused _ reply told r = grind (arith, common_steps)
 
 -- ---- refused and built
 

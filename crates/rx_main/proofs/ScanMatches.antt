@@ -1,12 +1,6 @@
 -- Over an image for all matches `scan` tells the longest matches.
-use Rattle.std.proofs.Common.{arith, ◌≡◌, ℕ, List, ◌++◌, length, drop, ap, ◌∙◌}
-use Rattle.std.proofs.lemmas.Grind.{common_steps}
-use Rattle.std.proofs.Math.Seq.{drop-append_seam}
-use Rattle.std.specs.Prelude.{All}
-use Rattle.rx_spec.specs.Bytes.{AreBytes}
-use Rattle.rx_spec.specs.Expressions.{Expression, IsLoopSafe}
-use Rattle.rx_spec.specs.Plans.{Plan}
-use Rattle.rx_spec.specs.Tables.{Table}
+use Rattle.rx_spec.proofs.Prelude.{arith, ◌≡◌, ℕ, List, ◌++◌, length, drop, ap, ◌∙◌, common_steps, drop-append_seam}
+use Rattle.rx_spec.proofs.Prelude.{All, AreBytes, Expression, IsLoopSafe, Plan, Table}
 use Rattle.rx_spec.specs.declared.Form.{Form}
 use Rattle.rx_all.specs.Builds.{all_build}
 use Rattle.rx_all.specs.Matches.{ServesAll}

@@ -1,8 +1,6 @@
 -- From what reading an image and searching by its tables answer to the reply of `search`.
-use Rattle.std.proofs.Common.{arith, ◌≡◌, ◌≢◌, ℕ, ◌+◌, ◌≤◌, List, length, take, drop, Ok}
-use Rattle.std.proofs.lemmas.Grind.{common_steps}
-use Rattle.std.proofs.lemmas.Bool.{and_parts, leb-true, le-leb}
-use Rattle.rx_spec.specs.Queries.{IsFit, Query}
+use Rattle.rx_spec.proofs.Prelude.{arith, ◌≡◌, ◌≢◌, ℕ, ◌+◌, ◌≤◌, List, length, take, drop, Ok, common_steps, and_parts}
+use Rattle.rx_spec.proofs.Prelude.{leb-true, le-leb, IsFit, Query}
 use Rattle.rx_image.specs.Pairs.{Pair, reads}
 use Rattle.rx_regex.specs.Pairs.{joined}
 use Rattle.rx_wire.specs.Kinds.{FailsBy, Kind}

@@ -1,31 +1,23 @@
 -- Over an image of both tables of a plan `search` replies what `find` replies.
-use Rattle.std.proofs.Common.{arith, ◌≡◌, ℕ, false, List, ◌++◌, length, Ok, refl, sym, ap, ◌∙◌}
-use Rattle.std.proofs.lemmas.Grind.{common_steps}
-use Rattle.std.proofs.Math.Seq.{drop-append_seam, take-append_seam}
-use Rattle.rx_spec.specs.Plans.{outcome}
-use Rattle.rx_spec.specs.Queries.{Query}
+use Rattle.rx_spec.proofs.Prelude.{arith, ◌≡◌, ℕ, false, List, ◌++◌, length, Ok, sym, ap, ◌∙◌, common_steps}
+use Rattle.rx_spec.proofs.Prelude.{drop-append_seam, take-append_seam, outcome, Query}
 use Rattle.rx_image.specs.Pairs.{Pair, in_order, reads}
 use Rattle.rx_plan.specs.Plan.{plan_of}
 use Rattle.rx_regex.specs.Pairs.{joined}
 use Rattle.rx_regex.proofs.Searches.{outcome_by}
 use Rattle.rx_script.specs.Grammar.{Spelled}
-use Rattle.rx_wire.specs.declared.order.Order.{Order}
 use Rattle.rx_main.specs.Find.{FindAnswers}
 use Rattle.rx_main.specs.Lines.{Reply}
 use Rattle.rx_main.specs.Search.{SearchFinds, answer_reply, asked, pair_reply, search_reply}
 use Rattle.rx_main.specs.declared.command.Search.{Search}
 use Rattle.rx_main.proofs.SearchAnswers.{fit_reply}
+use Rattle.rx_regex.proofs.PairImages.{joined_in_order}
 
 -- what `find` replies without numbers of rows
 found_told : (script : Spelled) (q : Query) (reply : Reply) → script.rows ≡ false → FindAnswers script q reply
     → reply ≡ answer_reply (outcome (plan_of script.plan) script.exprs q)
 found_told script q reply no_rows (FindAnswers.Finds found forward reverse e rows h) = grind (arith, common_steps)
 found_told script q reply no_rows (FindAnswers.Fails error e h) = h ∙ sym (ap answer_reply e)
-
--- the order of a sparse table's bytes changes no answer
-same_answers : (order : Order) (pair : Pair) (q : Query) → joined (in_order order pair) q ≡ joined pair q
-same_answers order (Pair.Dense f r) q = refl
-same_answers order (Pair.Sparse f r) q = refl
 
 -- behind the image stands the haystack
 search_told : (s : Search) (image haystack : List ℕ) (pair : Pair) → s.image_len ≡ length image
@@ -41,4 +33,4 @@ search_finds script order image no_rows is s haystack len bytes fit reply answer
     outcome_by is.image.tables q (record { bytes = bytes; within = fit.within }) in
     found_told script q reply no_rows answers
     ∙ sym (search_told s image.text haystack (in_order order pair) len is.image.read
-    ∙ fit_reply (in_order order pair) q fit ∙ ap answer_reply (same_answers order pair q ∙ found))
+    ∙ fit_reply (in_order order pair) q fit ∙ ap answer_reply (joined_in_order order pair q ∙ found))

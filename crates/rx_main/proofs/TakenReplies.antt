@@ -1,7 +1,6 @@
 -- What was taken from a source, and the reply to it.
-use Rattle.std.proofs.Common.{arith, ◌≡◌, ℕ, true, false, List, [], length, Option}
-use Rattle.std.proofs.lemmas.Grind.{common_steps}
-use Rattle.std.specs.Io.KnownBytes.{Consumes, IsAtEnd}
+use Rattle.rx_spec.proofs.Prelude.{arith, ◌≡◌, ℕ, true, false, List, [], length, Option, common_steps, Consumes}
+use Rattle.rx_spec.proofs.Prelude.{IsAtEnd}
 use Rattle.rx_main.specs.Commands.{Says}
 use Rattle.rx_main.specs.Lines.{Reply, long_reply}
 use Rattle.rx_main.specs.Replies.{CommandReplies, Replies}

@@ -1,9 +1,6 @@
 -- The lines of the tokens that a scanner tells.
-use Rattle.std.proofs.lemmas.Grind.{common_steps}
-use Rattle.std.proofs.Common.{◌≡◌, ℕ, ◌+◌, ◌<◌, ◌≤◌, List, [], ◌∷◌, ◌++◌, length, Bool, true, Some, None, ap}
-use Rattle.std.proofs.Common.{append_assoc, append-nil, arith, if◌then◌else◌}
-use Rattle.std.proofs.lemmas.List.{length-append}
-use Rattle.std.specs.List.{flat_map}
+use Rattle.rx_spec.proofs.Prelude.{common_steps, ◌≡◌, ℕ, ◌+◌, ◌<◌, ◌≤◌, List, [], ◌∷◌, ◌++◌, length, Bool, true, Some}
+use Rattle.rx_spec.proofs.Prelude.{None, ap, append_assoc, append-nil, arith, if◌then◌else◌, length-append, flat_map}
 use Rattle.rx_scan.specs.Tokens.{Scan, Tokens, end_told}
 use Rattle.rx_scan.specs.declared.token.ScanEnd.{ScanEnd}
 use Rattle.rx_scan.specs.declared.token.Token.{Token}

@@ -1,34 +1,20 @@
 -- A search by the usual plan that may begin anywhere has no error: no byte is a quit byte, and there are starts.
-use Rattle.std.proofs.lemmas.Grind.{common_steps}
-use Rattle.std.proofs.Common.{◌≡◌, ℕ, ◌+◌, zero, suc, Bool, true, false, List, [], ◌∷◌, Option, Some, None, refl, ap}
-use Rattle.std.proofs.Common.{sym, ◌∙◌, ◌-◌, ◌≤◌, length, subst, arith, ltb}
-use Rattle.std.specs.Prelude.{Ok}
-use Rattle.std.proofs.Math.Bool.{and-false}
-use Rattle.std.proofs.lemmas.Nat.Bits.{bit_at-zero}
-use Rattle.rx_spec.specs.Bytes.{contains, unit_of}
-use Rattle.rx_spec.specs.Expressions.{Expression}
-use Rattle.rx_spec.specs.Found.{found}
-use Rattle.rx_spec.specs.HalfSearches.{HalfAnswer, beside, first_offset, half_search, last_match, next_offset, units_of}
-use Rattle.rx_spec.specs.HalfSearches.{whole_walk}
-use Rattle.rx_spec.specs.Iterating.{FoundMatches, and_then, is_repeat, iterate, iterate_from, unless_repeat}
-use Rattle.rx_spec.specs.Joining.{Answer}
-use Rattle.rx_spec.specs.Machines.{label_of}
-use Rattle.rx_spec.specs.Plans.{outcome, plan_build, unless_error}
-use Rattle.rx_spec.specs.Queries.{Anchored, HalfMatch, Match, Query, is_done}
-use Rattle.rx_spec.specs.Starts.{has_unanchored, start_context, start_row}
-use Rattle.rx_spec.specs.States.{State, start_state, step}
-use Rattle.rx_spec.specs.Builds.{Build, Node, build_settings, power}
+use Rattle.rx_spec.proofs.Prelude.{common_steps, ◌≡◌, ℕ, ◌+◌, zero, suc, Bool, true, false, List, [], ◌∷◌, Option, Some}
+use Rattle.rx_spec.proofs.Prelude.{None, refl, ap, sym, ◌∙◌, ◌-◌, ◌≤◌, length, subst, arith, Ok, contains, unit_of}
+use Rattle.rx_spec.proofs.Prelude.{Expression, found, HalfAnswer, beside, first_offset, half_search, last_match}
+use Rattle.rx_spec.proofs.Prelude.{next_offset, units_of, whole_walk, FoundMatches, and_then, is_repeat, iterate}
+use Rattle.rx_spec.proofs.Prelude.{iterate_from, unless_repeat, Answer, label_of, outcome, plan_build, unless_error}
+use Rattle.rx_spec.proofs.Prelude.{Anchored, HalfMatch, Match, Query, is_done, has_unanchored, start_context, start_row}
+use Rattle.rx_spec.proofs.Prelude.{State, start_state, step, Build, Node, build_settings, power}
 use Rattle.rx_spec.specs.declared.Direction.{Direction}
 use Rattle.lemmas_walks.proofs.Firsts.{by_test}
 use Rattle.lemmas_walks.proofs.HalfSearches.{IsStarted, half_done, half_walks, not_refused}
 use Rattle.lemmas_walks.proofs.Walking.{Dead, Quits, Steps, goes_on, leads, state_walk, walk-nil, walk_dead, walk_steps}
 use Rattle.rx_meaning.proofs.IteratedSearches.{iterate_alike}
 use Rattle.rx_plan.specs.Plan.{plan_of, usual}
+use Rattle.lemmas_walks.proofs.QuitSets.{contains-empty}
 
 -- ---- half searches of a build without quit bytes
-
-no_quit : (unit : ℕ) → contains 0 unit ≡ false
-no_quit unit = rw (bit_at-zero unit) (and-false (ltb unit 256))
 
 module _ (b : Build) (clean : (unit : ℕ) → contains b.quit unit ≡ false) (direction : Direction) where
   -- a walk for the last match tells
@@ -94,7 +80,7 @@ pub outcome_usual : (es : List Expression) (q : Query) → q.mode ≡ Anchored.N
     → outcome (plan_of usual) es q ≡ found_by es q
 outcome_usual es q any =
     let told = half_tells (plan_build (plan_of usual) Direction.Forward es) Direction.Forward
-    (record q { earliest = false }) no_quit refl any refl in
+    (record q { earliest = false }) contains-empty refl any refl in
     ap (λ (half : HalfAnswer). unless_error half (found_by es q)) told.1
 
 -- ---- one after another

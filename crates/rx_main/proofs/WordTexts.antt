@@ -1,9 +1,8 @@
 -- The text of a word, unit after unit.
-use Rattle.std.proofs.Common.{◌≡◌, ℕ, zero, suc, ◌+◌, ◌≤◌, List, [], ◌∷◌, ◌++◌, Some, map, take, ap, sym, ◌∙◌, arith}
-use Rattle.std.specs.Prelude.{codes, slice_get}
+use Rattle.rx_spec.proofs.Prelude.{◌≡◌, ℕ, zero, suc, ◌+◌, ◌≤◌, List, [], ◌∷◌, ◌++◌, Some, map, take, ap, sym, ◌∙◌}
+use Rattle.rx_spec.proofs.Prelude.{arith, codes, slice_get, flat_map_more, map-append, get_or_from_slice_get}
+use Rattle.rx_spec.proofs.Prelude.{slice_get_within}
 use Rattle.std.proofs.Math.Seq.{take-suc}
-use Rattle.std.proofs.lemmas.List.{flat_map_more, map-append}
-use Rattle.std.proofs.lemmas.Option.{get_or_from_slice_get, slice_get_within}
 use Rattle.rx_spec.specs.declared.Unit.{Unit}
 use Rattle.rx_base.specs.Unit.{unit_number}
 use Rattle.rx_main.specs.EqualLines.{unit_text, word_text}

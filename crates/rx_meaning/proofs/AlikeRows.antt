@@ -1,11 +1,7 @@
 -- Rows of two machines from which every word leads to equal labels: walks from them end alike.
-use Rattle.std.proofs.Common.{arith, ◌≡◌, ℕ, ◌<◌, Bool, Option, Ok, List, [], ◌∷◌, ap, sym, ◌∙◌}
-use Rattle.std.proofs.lemmas.Grind.{common_steps}
-use Rattle.rx_spec.specs.Queries.{HalfMatch}
-use Rattle.rx_spec.specs.Machines.{Machine, IsWord}
-use Rattle.rx_spec.specs.Labels.{label_after}
-use Rattle.rx_spec.specs.HalfSearches.{last_match, at_label, next_offset, walk}
-use Rattle.rx_spec.specs.Overlapping.{at_item_label, overlapping_walk}
+use Rattle.rx_spec.proofs.Prelude.{arith, ◌≡◌, ℕ, ◌<◌, Bool, Option, Ok, List, [], ◌∷◌, ap, sym, ◌∙◌, common_steps}
+use Rattle.rx_spec.proofs.Prelude.{HalfMatch, Machine, IsWord, label_after, last_match, at_label, next_offset, walk}
+use Rattle.rx_spec.proofs.Prelude.{at_item_label, overlapping_walk}
 use Rattle.rx_spec.specs.declared.Direction.{Direction}
 use Rattle.lemmas_walks.proofs.Overlapping.{overlapping-nil, overlapping-more}
 use Rattle.lemmas_walks.proofs.SilentRows.{IsSilent, EndsWell}

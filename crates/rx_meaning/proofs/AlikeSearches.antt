@@ -1,21 +1,13 @@
 -- Searches of two machines whose starts are alike, under settings that say the same of bytes.
-use Rattle.std.proofs.Common.{rules, ◌≡◌, ℕ, suc, zero, ◌+◌, ◌<◌, ◌≤◌, true, if◌then◌else◌, Option, Some, None, [], ◌∷◌}
-use Rattle.std.proofs.Common.{◌++◌, map, refl, ap, sym, ◌∙◌, subst, arith, ⊎_elim}
-use Rattle.std.proofs.lemmas.Grind.{common_steps}
-use Rattle.std.proofs.lemmas.Bool.{lt-ltb, cases_lt}
-use Rattle.std.proofs.lemmas.List.Elements.{Contains-append_right}
-use Rattle.std.specs.Prelude.{Contains, is_some}
-use Rattle.std.specs.List.{range_with_len}
-use Rattle.rx_spec.specs.Bytes.{AreBytes}
-use Rattle.rx_spec.specs.Queries.{Anchored, Query}
-use Rattle.rx_spec.specs.Machines.{Machine, Settings}
-use Rattle.rx_spec.specs.Starts.{has_unanchored, has_anchored, supports, start_context, start_error, mode_error}
-use Rattle.rx_spec.specs.Starts.{start_row}
+use Rattle.rx_spec.proofs.Prelude.{rules, ◌≡◌, ℕ, suc, zero, ◌+◌, ◌<◌, ◌≤◌, true, if◌then◌else◌, Option, Some, None, []}
+use Rattle.rx_spec.proofs.Prelude.{◌∷◌, ◌++◌, map, refl, ap, sym, ◌∙◌, subst, arith, ⊎_elim, common_steps, lt-ltb}
+use Rattle.rx_spec.proofs.Prelude.{cases_lt, Contains-append_right, Contains, is_some, range_with_len, AreBytes}
+use Rattle.rx_spec.proofs.Prelude.{Anchored, Query, Machine, Settings, has_unanchored, has_anchored, supports}
+use Rattle.rx_spec.proofs.Prelude.{start_context, start_error, mode_error, start_row, SameLabels, beside, first_offset}
+use Rattle.rx_spec.proofs.Prelude.{units_of, walk, half_search, overlapping_walk, overlapping}
 use Rattle.rx_spec.specs.Builds.{pattern_modes}
 use Rattle.rx_spec.specs.Tables.{SameSettings}
-use Rattle.rx_spec.specs.Labels.{SameLabels, pattern_start_modes, table_modes}
-use Rattle.rx_spec.specs.HalfSearches.{beside, first_offset, units_of, walk, half_search}
-use Rattle.rx_spec.specs.Overlapping.{overlapping_walk, overlapping}
+use Rattle.rx_spec.specs.Labels.{pattern_start_modes, table_modes}
 use Rattle.rx_spec.specs.declared.Direction.{Direction}
 use Rattle.rx_spec.specs.declared.Start.{Start}
 use Rattle.lemmas_walks.proofs.Firsts.{Contains-there}
@@ -40,7 +32,7 @@ module _ (s r : Settings) (same : SameSettings s r) where
   error_alike : (byte : Option ℕ) (mode : Anchored) → ((b : ℕ) → byte ≡ Some b → b < 256)
       → start_error s byte mode ≡ start_error r byte mode
   error_alike None mode h = mode_alike mode
-  error_alike (Some b) mode h = grind (arith, common_steps, mode_alike)
+  error_alike (Some b) mode h = grind (arith, common_steps)
 
 -- the modes that are supported are those that a table has, and patterns past the last
 unanchored_there : (s : Settings) → has_unanchored s.start_kind ≡ true → Contains (table_modes s) Anchored.No

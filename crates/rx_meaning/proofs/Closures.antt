@@ -1,14 +1,9 @@
 -- What is reached from a row without reading gives what the row gives.
-use Rattle.std.proofs.Common.{arith, ◌≡◌, ℕ, zero, suc, true, false, if◌then◌else◌, Option, None, List, [], ◌∷◌, refl}
-use Rattle.std.proofs.Common.{ap, ap₂, sym, ◌∙◌, subst}
-use Rattle.std.proofs.lemmas.Grind.{common_steps}
-use Rattle.std.specs.Option.{option_or}
-use Rattle.std.specs.List.{flat_map, AllByRecursion as Every}
-use Rattle.rx_spec.specs.Looks.{Reading, holds_at}
-use Rattle.rx_spec.specs.Found.{first_of}
-use Rattle.rx_spec.specs.Rows.{Row}
-use Rattle.rx_spec.specs.Shallow.{AllNext, Short}
-use Rattle.rx_spec.specs.States.{row_at, Passing, look_reach, reach_by, reach, closure, firsts}
+use Rattle.rx_spec.proofs.Prelude.{arith, ◌≡◌, ℕ, zero, suc, true, false, if◌then◌else◌, Option, None, List, [], ◌∷◌}
+use Rattle.rx_spec.proofs.Prelude.{refl, ap, ap₂, sym, ◌∙◌, subst, common_steps, option_or, flat_map, Reading, holds_at}
+use Rattle.rx_spec.proofs.Prelude.{first_of, Row, AllNext, Short, row_at, Passing, reach_by, reach, closure, firsts}
+use Rattle.std.specs.List.{AllByRecursion as Every}
+use Rattle.rx_spec.specs.States.{look_reach}
 use Rattle.rx_spec.specs.declared.Look.{Look}
 use Rattle.lemmas_walks.proofs.Every.{every-append}
 use Rattle.lemmas_walks.proofs.Patterns.{depth_of}
@@ -36,7 +31,7 @@ module _ (rows : List Row) (pass : Passing) where
   row_ready : (reached : ℕ → List ℕ) (q : ℕ) (row : Row) → row_at rows q ≡ row → ((p : ℕ) → AllReady (reached p))
       → AllReady (reach_by pass reached q row)
   row_ready reached q (Row.Bytes set next) e h = (subst (IsReady pass) (sym e) tt, tt)
-  row_ready reached q (Row.Split first second) e h = grind (arith, common_steps, every-append)
+  row_ready reached q (Row.Split first second) e h = grind (arith, common_steps)
   row_ready reached q (Row.Look look next) e h = grind (arith, common_steps)
   row_ready reached q (Row.Match pattern) e h = (subst (IsReady pass) (sym e) tt, tt)
   row_ready reached q Row.Fail e h = tt

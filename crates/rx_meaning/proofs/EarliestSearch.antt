@@ -1,22 +1,12 @@
 -- A forward search for the first end that it meets: nothing was cut before, so it tells the pattern of the least
 -- start from which some pattern ends there.
-use Rattle.std.proofs.lemmas.Grind.{common_steps}
-use Rattle.std.proofs.Common.{◌≡◌, ℕ, suc, zero, ◌+◌, ◌-◌, ◌<◌, ◌≤◌, ⊎_elim, Bool, true, false, ◌==◌, if◌then◌else◌}
-use Rattle.std.proofs.Common.{Option, Some, None, Ok, List, [], ◌∷◌, length, refl, ap, sym, ◌∙◌, subst, arith}
-use Rattle.std.proofs.lemmas.List.{map-id}
-use Rattle.std.proofs.lemmas.Option.{none-some, same_Some, cond_some, option_and_then_some}
-use Rattle.std.specs.Prelude.{slice_get, Contains}
-use Rattle.std.specs.Option.{option_map, option_and_then}
-use Rattle.std.specs.List.{list_any, range_with_len}
-use Rattle.rx_spec.specs.Expressions.{Expression, IsLoopSafe}
-use Rattle.rx_spec.specs.Ends.{ends}
-use Rattle.rx_spec.specs.Queries.{Anchored, is_anchored, reading, HalfMatch, MatchError}
-use Rattle.rx_spec.specs.Found.{first_of}
-use Rattle.rx_spec.specs.Machines.{label_of}
-use Rattle.rx_spec.specs.States.{State}
-use Rattle.rx_spec.specs.Builds.{power, build_settings}
-use Rattle.rx_spec.specs.HalfSearches.{HalfAnswer, at_label, last_match}
-use Rattle.rx_spec.specs.Plans.{plan_build}
+use Rattle.rx_spec.proofs.Prelude.{common_steps, ◌≡◌, ℕ, suc, zero, ◌+◌, ◌-◌, ◌<◌, ◌≤◌, ⊎_elim, Bool, true, false, ◌==◌}
+use Rattle.rx_spec.proofs.Prelude.{if◌then◌else◌, Option, Some, None, Ok, List, [], ◌∷◌, length, refl, ap, sym, ◌∙◌}
+use Rattle.rx_spec.proofs.Prelude.{subst, arith, map-id, none-some, same_Some, slice_get, Contains, option_and_then}
+use Rattle.rx_spec.proofs.Prelude.{list_any, range_with_len, Expression, IsLoopSafe, ends, Anchored, is_anchored}
+use Rattle.rx_spec.proofs.Prelude.{reading, HalfMatch, MatchError, first_of, label_of, State, power, build_settings}
+use Rattle.rx_spec.proofs.Prelude.{HalfAnswer, at_label, last_match, plan_build}
+use Rattle.std.specs.Option.{option_map}
 use Rattle.rx_spec.specs.declared.Direction.{Direction}
 use Rattle.lemmas_walks.proofs.Firsts.{by_test}
 use Rattle.lemmas_walks.proofs.HalfSearches.{Begun, half_begun, told_same, error_not_told}
@@ -69,7 +59,7 @@ module _ (c : Scan) where
       → state_walk c.build Direction.Forward true s i None (units_from (read_in c) i n) ≡ Ok (Some h)
       → (i ≤ h.offset) × (tells c s i h.offset ≡ Some h.pattern)
   first_told zero i s h at w =
-      grind (arith, common_steps, none-some, told_same, state_walk, units_from-zero, read_in, walk-nil)
+      grind (arith, common_steps, units_from-zero, walk-nil)
   first_told (suc n) i s h at w =
       let unit = unit_at (read_in c) i in
       let units = units_from (read_in c) (i + 1) n in
@@ -101,7 +91,7 @@ reached_order a end p k within x =
     let r = reading Direction.Forward a.plan.line_terminator a.query.haystack in
     let safe = All-got IsLoopSafe a.expressions k x.expression a.safe x.numbered in
     let lies = reaches_lie r x.expression p end within (reaches_sound r x.expression p end safe x.matches) in
-    omega (arith, lies.0)
+    omega arith
 
 module _ (a : Asked) (end : ℕ) where
   abbrev forward_ends : ℕ → Expression → List ℕ
@@ -129,7 +119,7 @@ module _ (a : Asked) (end : ℕ) where
       of_pattern (Some e) = ends_exactly end k (forward_ends p e)
 
   one_reached : (p k v : ℕ) → one p k ≡ Some v → Reached a end p v
-  one_reached p k v e = grind (arith, common_steps, option_and_then_some, one_is, cond_some, any_end)
+  one_reached p k v e = grind (arith, common_steps, one_is, any_end)
 
   every_reached : (p v : ℕ) → every p ≡ Some v → Reached a end p v
   every_reached p v e =
@@ -232,7 +222,6 @@ earliest_begins a end first e =
     ⊎_elim (λ (d : (q.end < q.start) × (Some end ≡ None)). absurd (none-some end (sym d.1)))
     (λ (g : Begun (power b) (build_settings b) Direction.Forward q (Some end)).
     let order = g.order in
-    let inside = a.inside in
     let n = suc (q.end - q.start) in
     let s = begin_state a Direction.Forward in
     let worth = exactly end.offset in

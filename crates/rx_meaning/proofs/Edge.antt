@@ -1,15 +1,13 @@
 -- Where an expression must begin with the text's edge, it matches nowhere else.
-use Rattle.std.proofs.lemmas.Grind.{common_steps}
-use Rattle.std.proofs.Common.{◌≡◌, ℕ, zero, suc, ◌-◌, ◌<◌, ◌≤◌, Bool, true, false, ◌==◌, ◌&&◌, ◌||◌, is_none, Option}
-use Rattle.std.proofs.Common.{Some, None, if◌then◌else◌, List, [], ◌∷◌, ◌++◌, length, refl, ap, ap₂, sym, subst, arith}
-use Rattle.std.proofs.Common.{⊎_elim}
-use Rattle.std.proofs.lemmas.Bool.{true≢false, and_parts, or_cases}
-use Rattle.std.proofs.lemmas.Option.{slice_get-get_or}
-use Rattle.std.specs.List.{flat_map, AllByRecursion as Every}
-use Rattle.rx_spec.specs.Looks.{Reading, before, after, holds_between, holds_at}
-use Rattle.rx_spec.specs.Expressions.{Expression, IsLoopSafe, IsBounded}
-use Rattle.rx_spec.specs.Ends.{rounds, preferring, up_to, further, ends}
-use Rattle.rx_spec.specs.Edge.{reads_nothing, begins_with_edge, is_edge}
+use Rattle.rx_spec.proofs.Prelude.{common_steps, ◌≡◌, ℕ, zero, suc, ◌-◌, ◌<◌, ◌≤◌, Bool, true, false, ◌==◌, ◌&&◌, ◌||◌}
+use Rattle.rx_spec.proofs.Prelude.{Option, Some, None, if◌then◌else◌, List, [], ◌∷◌, ◌++◌, length, refl, ap, ap₂, sym}
+use Rattle.rx_spec.proofs.Prelude.{subst, arith, ⊎_elim, true≢false, and_parts, or_cases, slice_get-get_or, flat_map}
+use Rattle.rx_spec.proofs.Prelude.{Reading, before, after, holds_at, Expression, IsLoopSafe, IsBounded, rounds}
+use Rattle.rx_spec.proofs.Prelude.{preferring, up_to, further, ends, reads_nothing, begins_with_edge}
+use Rattle.std.proofs.Common.{is_none}
+use Rattle.std.specs.List.{AllByRecursion as Every}
+use Rattle.rx_spec.specs.Looks.{holds_between}
+use Rattle.rx_spec.specs.Edge.{is_edge}
 use Rattle.rx_spec.specs.declared.Direction.{Direction}
 use Rattle.rx_spec.specs.declared.Look.{Look}
 use Rattle.lemmas_walks.proofs.Every.{every-append, every-flat_map}
@@ -51,7 +49,7 @@ module _ (r : Reading) where
       both_stay (rounds B least) (λ j. up_to greedy B (length r.units - j) j) (rounds_stay B (ih e) least)
       (λ j. up_to_stays greedy B (ih e) (length r.units - j) j) i
   repeat_stays zero (Some zero) greedy body e bounded ih i = (refl, tt)
-  repeat_stays (suc least) (Some zero) greedy body e bounded ih i = absurd (omega (arith, bounded))
+  repeat_stays (suc least) (Some zero) greedy body e bounded ih i = absurd (omega arith)
   repeat_stays least (Some (suc most)) greedy body e bounded ih i =
       let B : ℕ → List ℕ = λ k. ends r body k in
       let stays = ih (reads_body most (reads_nothing body) e) in
@@ -89,8 +87,8 @@ edge_fails Direction.Forward _ t last next e h = absurd (true≢false (sym e))
 edge_fails Direction.Reverse _ t last next e h = absurd (true≢false (sym e))
 
 some_before : (units : List ℕ) (i : ℕ) → 0 < i → i ≤ length units → is_none (before units i) ≡ false
-some_before units zero above within = absurd (omega (arith, above))
-some_before units (suc i) above within = ap (λ o. is_none o) (slice_get-get_or units i 0 (omega (arith, within)))
+some_before units zero above within = absurd (omega arith)
+some_before units (suc i) above within = ap (λ o. is_none o) (slice_get-get_or units i 0 (omega arith))
 
 flat_map-none : (f : ℕ → List ℕ) (i : ℕ) (xs : List ℕ) → f i ≡ [] → Every (λ j. j ≡ i) xs → flat_map f xs ≡ []
 flat_map-none f i [] e h = refl
@@ -100,8 +98,6 @@ flat_map-none f i (x ∷ xs) e h = ap₂ (λ a b. a ++ b) (subst (λ j. f j ≡ 
 pub edge_ends : (r : Reading) (e : Expression) → IsLoopSafe e → begins_with_edge r.direction e ≡ true
     → (i : ℕ) → 0 < i → i ≤ length r.units → ends r e i ≡ []
 unfolding ends begins_with_edge rounds
-edge_ends r Expression.Empty safe e i above within = absurd (true≢false (sym e))
-edge_ends r (Expression.Class set) safe e i above within = absurd (true≢false (sym e))
 edge_ends r (Expression.Look look) safe e i above within = grind (arith, common_steps, edge_fails, some_before)
 edge_ends r (Expression.Concat a b) safe e i above within =
     ⊎_elim
@@ -115,8 +111,8 @@ edge_ends r (Expression.Concat a b) safe e i above within =
 edge_ends r (Expression.Alternate a b) safe e i above within =
     let h = and_parts (begins_with_edge r.direction a) (begins_with_edge r.direction b) e in
     ap₂ (λ x y. x ++ y) (edge_ends r a safe.0 h.0 i above within) (edge_ends r b safe.1 h.1 i above within)
-edge_ends r (Expression.Repeat zero most greedy body) safe e i above within = absurd (true≢false (sym e))
 edge_ends r (Expression.Repeat (suc n) most greedy body) safe e i above within =
     let B : ℕ → List ℕ = λ k. ends r body k in
     ap (λ xs. flat_map (further r (suc n) most greedy B) (flat_map (rounds B n) xs))
     (edge_ends r body safe.1 e i above within)
+edge_ends r _ safe e i above within = absurd (true≢false (sym e))

@@ -1,14 +1,8 @@
 -- Where the match begins of which a forward search told the end: then the joined search answers that match.
-use Rattle.std.proofs.lemmas.Grind.{common_steps}
-use Rattle.std.proofs.Common.{◌≡◌, ℕ, Bool, true, false, Some, Ok, refl, arith}
-use Rattle.std.proofs.lemmas.Bool.{eqb-true, eq-eqb, or_cases, or_parts}
-use Rattle.rx_spec.specs.Queries.{Anchored, is_anchored, HalfMatch}
-use Rattle.rx_spec.specs.Nfas.{is_always_start_anchored}
-use Rattle.rx_spec.specs.HalfSearches.{HalfAnswer}
-use Rattle.rx_spec.specs.Joining.{match_at, with_end}
-use Rattle.rx_spec.specs.Plans.{plan_nfa, plan_build}
+use Rattle.rx_spec.proofs.Prelude.{common_steps, ◌≡◌, ℕ, Bool, true, false, Some, Ok, refl, arith, Anchored}
+use Rattle.rx_spec.proofs.Prelude.{is_anchored, HalfMatch, is_always_start_anchored, HalfAnswer, match_at, with_end}
+use Rattle.rx_spec.proofs.Prelude.{plan_nfa, plan_build}
 use Rattle.rx_spec.specs.declared.Direction.{Direction}
-use Rattle.lemmas_walks.proofs.Firsts.{by_test}
 use Rattle.rx_meaning.specs.Preference.{build_half_search}
 use Rattle.rx_meaning.specs.Mirrored.{least_start}
 use Rattle.rx_meaning.specs.Joined.{IsMatch}
@@ -34,7 +28,7 @@ pub record Begins (a : Asked) (k j : ℕ) : Type 0 where
       → least_start a.expressions a.plan.line_terminator (record a.query { end = j })
       ≡ Some (record { pattern = k; offset = start })
 
-not_anchored : (mode : Anchored) → is_anchored mode ≡ false → mode ≡ Anchored.No
+pub not_anchored : (mode : Anchored) → is_anchored mode ≡ false → mode ≡ Anchored.No
 not_anchored Anchored.No e = refl
 not_anchored Anchored.Yes e = absurd (cc)
 not_anchored (Anchored.Pattern k) e = absurd (cc)
@@ -44,4 +38,4 @@ pub answered : (a : Asked) (end : HalfMatch) → half a Direction.Forward ≡ Ok
     → with_end (build_half_search (plan_build a.plan Direction.Reverse a.expressions) Direction.Reverse) (always a)
     a.query (Ok (Some end)) ≡ match_at end.pattern b.start end.offset
 answered a end told b =
-    grind (arith, common_steps, by_test, eqb-true, or_cases, or_parts, eq-eqb, start_of_end_holds, not_anchored)
+    grind (arith, common_steps, start_of_end_holds)

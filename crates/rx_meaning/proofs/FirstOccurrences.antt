@@ -1,28 +1,13 @@
 -- First occurrences keep the first success.
-use Rattle.std.proofs.Common.{arith, ◌≡◌, ℕ, Bool, true, false, ◌==◌, if◌then◌else◌, Option, Some, None, List, [], ◌∷◌}
-use Rattle.std.proofs.Common.{refl}
-use Rattle.std.proofs.lemmas.Grind.{common_steps}
-use Rattle.std.proofs.lemmas.List.Elements.{All-contains, All-from_recursion}
-use Rattle.std.specs.Option.{option_or}
-use Rattle.std.specs.List.{list_any, AllByRecursion as Every}
-use Rattle.rx_spec.specs.Found.{first_of}
-use Rattle.rx_spec.specs.States.{fresh, firsts}
+use Rattle.rx_spec.proofs.Prelude.{arith, ◌≡◌, ℕ, Bool, true, false, ◌==◌, if◌then◌else◌, Option, None, List, [], ◌∷◌}
+use Rattle.rx_spec.proofs.Prelude.{refl, common_steps, All-contains, All-from_recursion, option_or, list_any, first_of}
+use Rattle.rx_spec.proofs.Prelude.{fresh, firsts}
+use Rattle.std.specs.List.{AllByRecursion as Every}
 use Rattle.lemmas_walks.proofs.Firsts.{seen_true}
-use Rattle.rx_meaning.proofs.FirstSuccess.{or_assoc}
 
 -- After v the value o changes nothing.
 abbrev Absorbed : {V : Type 0} → Option V → Option V → Type 0
 Absorbed {V} v o = (w : Option V) → option_or v (option_or o w) ≡ option_or v w
-
-absorbed-more : {V : Type 0} (v u o : Option V) → Absorbed v o → Absorbed (option_or v u) o
-absorbed-more (Some v) u o h w = refl
-absorbed-more None (Some u) o h w = refl
-absorbed-more None None o h w = h w
-
-absorbed-self : {V : Type 0} (v u : Option V) → Absorbed (option_or v u) u
-absorbed-self (Some v) u w = refl
-absorbed-self None (Some u) w = refl
-absorbed-self None None w = refl
 
 -- what holds of each that was seen holds of one that was seen
 seen_has : (P : ℕ → Type 0) (x : ℕ) (seen : List ℕ) → list_any (λ y. x == y) seen ≡ true → Every P seen → P x
@@ -32,10 +17,6 @@ module _ {V : Type 0} (f : ℕ → Option V) where
   -- each that was seen is absorbed
   abbrev Passed : Option V → List ℕ → Type 0
   Passed v seen = Every (λ y. Absorbed v (f y)) seen
-
-  passed-more : (v u : Option V) (seen : List ℕ) → Passed v seen → Passed (option_or v u) seen
-  passed-more v u [] h = tt
-  passed-more v u (y ∷ seen) h = (absorbed-more v u (f y) h.0, passed-more v u seen h.1)
 
   abbrev Keeps : List ℕ → Type 0
   Keeps xs = (seen : List ℕ) (v : Option V) → Passed v seen
@@ -47,7 +28,7 @@ module _ {V : Type 0} (f : ℕ → Option V) where
       ≡ option_or v (option_or (f x) (first_of f xs))
   unfolding first_of
   fresh_at x xs seen v h ih true e = grind (arith, common_steps, seen_has)
-  fresh_at x xs seen v h ih false e = grind (arith, common_steps, or_assoc, absorbed-self, passed-more)
+  fresh_at x xs seen v h ih false e = grind (arith, common_steps)
 
   fresh_keeps : (xs : List ℕ) → Keeps xs
   unfolding fresh first_of

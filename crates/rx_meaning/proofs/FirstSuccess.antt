@@ -1,20 +1,10 @@
 -- The first success in a list.
-use Rattle.std.proofs.Common.{◌≡◌, ℕ, zero, suc, ◌+◌, ◌<◌, ◌≤◌, Option, Some, None, List, [], ◌∷◌, ◌++◌, length, refl}
-use Rattle.std.proofs.Common.{ap, ap₂, sym, ◌∙◌, arith}
-use Rattle.std.specs.Prelude.{slice_get}
-use Rattle.std.specs.Option.{option_or, option_map, option_and_then}
-use Rattle.std.specs.List.{flat_map, range_with_len, AllByRecursion as Every}
-use Rattle.rx_spec.specs.Found.{first_of}
-use Rattle.lemmas_walks.proofs.Ranges.{range_push}
-
-module _ {V : Type 0} where
-  pub or_assoc : (a b c : Option V) → option_or (option_or a b) c ≡ option_or a (option_or b c)
-  or_assoc None b c = refl
-  or_assoc (Some v) b c = refl
-
-  pub or_none : (a : Option V) → option_or a None ≡ a
-  or_none None = refl
-  or_none (Some v) = refl
+use Rattle.rx_spec.proofs.Prelude.{◌≡◌, ℕ, zero, suc, ◌+◌, ◌<◌, ◌≤◌, Option, Some, None, List, [], ◌∷◌, ◌++◌, length}
+use Rattle.rx_spec.proofs.Prelude.{refl, ap, ap₂, sym, ◌∙◌, arith, slice_get, option_or, option_and_then, flat_map}
+use Rattle.rx_spec.proofs.Prelude.{range_with_len, first_of}
+use Rattle.std.specs.Option.{option_map}
+use Rattle.std.specs.List.{AllByRecursion as Every}
+use Rattle.lemmas_walks.proofs.Ranges.{range_push, or_assoc, or_none}
 
 pub map-or : {V W : Type 0} (h : V → W) (a b : Option V)
     → option_map h (option_or a b) ≡ option_or (option_map h a) (option_map h b)

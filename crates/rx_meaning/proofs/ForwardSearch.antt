@@ -1,15 +1,10 @@
 -- The forward half search for the last match tells what is found.
-use Rattle.std.proofs.Common.{rules, ◌≡◌, ℕ, suc, ◌+◌, ◌-◌, ◌<◌, ◌≤◌, true, false, if◌then◌else◌, Option, Some, None}
-use Rattle.std.proofs.Common.{Ok, List, [], ◌∷◌, length, refl, ap, sym, ◌∙◌, arith, ⊎_elim}
-use Rattle.std.proofs.lemmas.Grind.{common_steps}
-use Rattle.std.proofs.lemmas.Bool.{le-leb, lt-leb}
-use Rattle.std.proofs.lemmas.List.{map-id}
-use Rattle.std.specs.Option.{option_or, option_map}
-use Rattle.std.specs.List.{range_with_len}
-use Rattle.rx_spec.specs.Queries.{Anchored, HalfMatch}
-use Rattle.rx_spec.specs.Found.{first_of, found}
-use Rattle.rx_spec.specs.Nfas.{is_always_start_anchored}
-use Rattle.rx_spec.specs.Plans.{plan_nfa, plan_build}
+use Rattle.rx_spec.proofs.Prelude.{rules, ◌≡◌, ℕ, suc, ◌+◌, ◌-◌, ◌<◌, ◌≤◌, true, false, if◌then◌else◌, Option, Some}
+use Rattle.rx_spec.proofs.Prelude.{None, Ok, List, [], ◌∷◌, length, refl, ap, sym, ◌∙◌, arith, ⊎_elim, common_steps}
+use Rattle.rx_spec.proofs.Prelude.{le-leb, map-id, option_or, range_with_len, Anchored, HalfMatch, first_of, found}
+use Rattle.rx_spec.proofs.Prelude.{is_always_start_anchored, plan_nfa, plan_build}
+use Rattle.std.proofs.lemmas.Bool.{lt-leb}
+use Rattle.std.specs.Option.{option_map}
 use Rattle.rx_spec.specs.declared.Direction.{Direction}
 use Rattle.lemmas_walks.proofs.Firsts.{by_test}
 use Rattle.lemmas_walks.proofs.SilentRows.{dead_empty}
@@ -19,12 +14,11 @@ use Rattle.rx_meaning.proofs.FirstSuccess.{range_longer}
 use Rattle.rx_meaning.proofs.Solution.{Valued, given, given_none}
 use Rattle.rx_meaning.proofs.Closures.{first_given}
 use Rattle.rx_meaning.proofs.Scan.{Scan, valued, Asked, scan_of}
-use Rattle.rx_meaning.proofs.NfaStarts.{one_worth, all_worth, mode_worth, start_gives, edge_alone}
+use Rattle.rx_meaning.proofs.NfaStarts.{all_worth, mode_worth, start_gives, edge_alone}
 use Rattle.rx_meaning.proofs.Steps.{label_worth, step_gives}
 use Rattle.rx_meaning.proofs.LastWalks.{label_tells, Foretold}
 use Rattle.rx_meaning.proofs.StartStates.{begin_state, begin_gives, last_told}
-use Rattle.rx_meaning.proofs.FoundWorths.{within_end, end_worth, pattern_found, all_found, mode_found, found_in_mode}
-use Rattle.rx_meaning.proofs.FoundWorths.{found_done}
+use Rattle.rx_meaning.proofs.FoundWorths.{within_end, all_found, mode_found, found_in_mode, found_done}
 
 within_worth : (end k i : ℕ) → i ≤ end → within_end end k i ≡ Some (record { pattern = k; offset = i })
 within_worth end k i h = ap (λ v. if v then Some (record { pattern = k; offset = i }) else None) (le-leb i end h)
@@ -35,7 +29,7 @@ past_worth end k i h = ap (λ v. if v then Some (record { pattern = k; offset = 
 -- a label's worth is what it tells
 label_told : (end i : ℕ) (label : List ℕ) → i ≤ end → label_worth (within_end end) i label ≡ label_tells label i
 label_told end i [] h = first_of-nil (λ (k : ℕ). within_end end k i)
-label_told end i (k ∷ ks) h = grind (arith, common_steps, first_of-cons, within_end, label_worth, within_worth)
+label_told end i (k ∷ ks) h = grind (arith, common_steps, first_of-cons)
 
 module _ (a : Asked) where
   abbrev c : Scan
@@ -51,7 +45,7 @@ module _ (a : Asked) where
   size = length a.query.haystack
 
   past : (q i : ℕ) → a.query.end < i → given x q i ≡ None
-  past q i h = given_none x q i (λ k j low. past_worth a.query.end k j (omega (arith, h, low)))
+  past q i h = given_none x q i (λ k j low. past_worth a.query.end k j (omega arith))
 
   foretold : Foretold (scan_of a Direction.Forward) Direction.Forward (length a.query.haystack) a.query.end
   foretold = record {
@@ -71,7 +65,7 @@ module _ (a : Asked) where
   t = a.plan.line_terminator
 
   all_is : (p : ℕ) → all_worth a Direction.Forward worth p ≡ all_found a.expressions t a.query p
-  all_is p = search (rules, first_of-alike, one_worth, pattern_found, end_worth, map-id)
+  all_is p = search (rules, first_of-alike, map-id)
 
   -- past the span there is nothing
   nothing_past : (p : ℕ) → a.query.end < p → p ≤ size → all_worth a Direction.Forward worth p ≡ None
@@ -83,14 +77,13 @@ module _ (a : Asked) where
   nothing_after : is_always_start_anchored (plan_nfa a.plan Direction.Forward a.expressions) ≡ true
       → (p : ℕ) → 0 < p → p ≤ size → all_found a.expressions t a.query p ≡ None
   nothing_after always p above within =
-      grind (arith, common_steps, first_of-none, pattern_found, end_worth, edge_alone, first_of-nil)
+      grind (arith, common_steps, first_of-none, edge_alone, first_of-nil)
 
   start_found : a.query.start ≤ a.query.end → (mode : Anchored)
       → mode_worth a Direction.Forward worth mode a.query.start ≡ mode_found a.expressions t a.query mode
   start_found order Anchored.Yes = all_is a.query.start
-  start_found order (Anchored.Pattern k) = search (rules, end_worth, map-id)
+  start_found order (Anchored.Pattern k) = search (rules, map-id)
   start_found order Anchored.No =
-      let inside = a.inside in
       let start = a.query.start in
       let n = a.query.end - start in
       let every = all_worth a Direction.Forward worth in
@@ -120,7 +113,6 @@ module _ (a : Asked) where
       ⊎_elim
       (λ (d : (q.end < q.start) × (told ≡ None)). d.1 ∙ sym (found_done a.expressions t q d.0))
       (λ (g : (q.start ≤ q.end) × (told ≡ first_given x q.start s.rows)).
-      let inside = a.inside in
       g.1 ∙ begin_gives a Direction.Forward worth q.start
       ∙ start_gives a Direction.Forward worth q.mode q.start (let order = g.0 in omega arith)
       ∙ start_found g.0 q.mode

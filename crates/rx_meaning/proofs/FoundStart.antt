@@ -1,16 +1,10 @@
 -- Where the match begins whose end is the preferred one: where what is found begins.
-use Rattle.std.proofs.lemmas.Grind.{common_steps}
-use Rattle.std.proofs.Common.{◌≡◌, ℕ, ◌+◌, ◌-◌, ◌<◌, ◌≤◌, true, ◌&&◌, ◌==◌, Option, Some, None, List, length, refl, ap}
-use Rattle.std.proofs.Common.{◌∙◌, arith}
-use Rattle.std.proofs.lemmas.Bool.{and_parts, cases_lt, eqb-true, le-leb, leb-true, lt-ltb, false_from_ne_true}
-use Rattle.std.proofs.lemmas.Option.{slice_get-get_or}
-use Rattle.std.specs.Prelude.{get_or, Contains, nat_le, nat_lt, if◌then◌else◌}
-use Rattle.std.specs.Option.{option_and_then}
-use Rattle.std.specs.List.{list_any, range_with_len}
-use Rattle.rx_spec.specs.Expressions.{Expression, IsLoopSafe}
-use Rattle.rx_spec.specs.Ends.{ends}
-use Rattle.rx_spec.specs.Queries.{Anchored, Query, Match, is_anchored, reading, HalfMatch}
-use Rattle.rx_spec.specs.Found.{admits, admitted, first_of, candidate}
+use Rattle.rx_spec.proofs.Prelude.{common_steps, ◌≡◌, ℕ, ◌+◌, ◌-◌, ◌<◌, ◌≤◌, true, ◌&&◌, ◌==◌, Option, Some, None, List}
+use Rattle.rx_spec.proofs.Prelude.{length, refl, ap, ◌∙◌, arith, and_parts, eqb-true, false_from_ne_true}
+use Rattle.rx_spec.proofs.Prelude.{slice_get-get_or, get_or, Contains, nat_le, nat_lt, if◌then◌else◌, option_and_then}
+use Rattle.rx_spec.proofs.Prelude.{list_any, range_with_len, Expression, IsLoopSafe, ends, Anchored, Query, Match}
+use Rattle.rx_spec.proofs.Prelude.{is_anchored, reading, HalfMatch, admitted, first_of, candidate}
+use Rattle.rx_spec.specs.Found.{admits}
 use Rattle.rx_spec.specs.declared.Direction.{Direction}
 use Rattle.lemmas_walks.proofs.FoundLaws.{IsFound, candidate_none, find_is}
 use Rattle.lemmas_walks.proofs.Ranges.{range_none, range_first_at}
@@ -29,7 +23,7 @@ admits_start (Anchored.Pattern pattern) start p k a e = eqb-true p start (and_pa
 
 admitted_anywhere : (q : Query) (n p k : ℕ) → q.mode ≡ Anchored.No → q.start ≤ p → p ≤ q.end → k < n
     → admitted q n p k ≡ true
-admitted_anywhere q n p k m a b c = grind (arith, common_steps, le-leb, lt-ltb)
+admitted_anywhere q n p k m a b c = grind (arith, common_steps)
 
 module _ (a : Asked) (m : Match) (is : IsFound a.expressions a.plan.line_terminator a.query m) where
   abbrev e : Expression
@@ -40,7 +34,7 @@ module _ (a : Asked) (m : Match) (is : IsFound a.expressions a.plan.line_termina
 
   -- its end is the first of its ends that lies within the span
   ends_there : Contains (forward_ends m.start e) m.end × (m.end ≤ a.query.end)
-  ends_there = grind (arith, common_steps, find_is, leb-true)
+  ends_there = grind (arith, common_steps, find_is)
 
   in_order : m.start ≤ m.end
   in_order =
@@ -49,7 +43,7 @@ module _ (a : Asked) (m : Match) (is : IsFound a.expressions a.plan.line_termina
       let high = is.high in
       let inside = a.inside in
       let lies = reaches_lie r e m.start m.end (omega arith) (reaches_sound r e m.start m.end safe ends_there.0) in
-      omega (arith, lies.0)
+      omega arith
 
   -- no other match that ends there begins earlier, or there with a lower pattern
   abbrev starts : ℕ → ℕ → Option HalfMatch
@@ -65,8 +59,7 @@ module _ (a : Asked) (m : Match) (is : IsFound a.expressions a.plan.line_termina
       (λ h. candidate_none a.expressions a.plan.line_terminator a.query p k x m.end none
       (admitted_anywhere a.query (length a.expressions) p k mode low (omega arith) within) got
       (any_end m.end (forward_ends p x) h) ends_there.1) in
-      ap (option_and_then (start_if a.plan.line_terminator a.query.haystack m.end p k)) got
-      ∙ ap (λ v. if v then Some (record { pattern = k; offset = p }) else None) not_there
+      grind (arith, common_steps)
 
   found_there : starts m.start m.pattern ≡ Some (record { pattern = m.pattern; offset = m.start })
   found_there =
@@ -99,7 +92,7 @@ module _ (a : Asked) (m : Match) (is : IsFound a.expressions a.plan.line_termina
 
   -- where one start serves all searches, it begins at the edge
   at_edge : always a ≡ true → m.start ≡ a.query.start
-  at_edge edge = grind (arith, common_steps, edge_alone, cases_lt)
+  at_edge edge = grind (arith, common_steps, edge_alone)
 
   pub found_begins : Begins a m.pattern m.end
   found_begins = record {

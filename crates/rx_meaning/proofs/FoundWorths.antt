@@ -1,23 +1,17 @@
 -- What is found, as a first success of worths: of the places where a match may begin, and of the patterns there.
-use Rattle.std.proofs.Common.{rules, ◌≡◌, ℕ, zero, suc, ◌+◌, ◌-◌, ◌<◌, ◌≤◌, Bool, true, false, ◌==◌, ◌&&◌, nat_le, cond}
-use Rattle.std.proofs.Common.{if◌then◌else◌, find, Option, Some, None, List, [], ◌∷◌, length, slice_get, refl, ap, ap₂}
-use Rattle.std.proofs.Common.{sym, ◌∙◌, arith}
-use Rattle.std.proofs.lemmas.Grind.{common_steps}
-use Rattle.std.proofs.lemmas.Bool.{le-leb, lt-ltb, eq-eqb, ne_eqb, eqb-true, eqb-false, and_left}
-use Rattle.std.proofs.lemmas.Option.{slice_get_past}
-use Rattle.std.specs.Option.{option_or, option_map, option_and_then}
-use Rattle.std.specs.List.{range_with_len}
-use Rattle.rx_spec.specs.Looks.{Reading}
-use Rattle.rx_spec.specs.Expressions.{Expression}
-use Rattle.rx_spec.specs.Ends.{ends}
-use Rattle.rx_spec.specs.Queries.{Anchored, Query, reading, HalfMatch}
-use Rattle.rx_spec.specs.Found.{admits, admitted, first_of, end_within, found}
+use Rattle.rx_spec.proofs.Prelude.{rules, ◌≡◌, ℕ, zero, suc, ◌+◌, ◌-◌, ◌<◌, ◌≤◌, Bool, true, false, ◌==◌, ◌&&◌, nat_le}
+use Rattle.rx_spec.proofs.Prelude.{cond, if◌then◌else◌, find, Option, Some, None, List, [], ◌∷◌, length, slice_get}
+use Rattle.rx_spec.proofs.Prelude.{refl, ap, ap₂, sym, ◌∙◌, arith, common_steps, eq-eqb, ne_eqb, eqb-true, eqb-false}
+use Rattle.rx_spec.proofs.Prelude.{slice_get_past, option_or, option_and_then, range_with_len, Reading, Expression}
+use Rattle.rx_spec.proofs.Prelude.{ends, Anchored, Query, reading, HalfMatch, admitted, first_of, end_within, found}
+use Rattle.std.proofs.lemmas.Bool.{and_left}
+use Rattle.std.specs.Option.{option_map}
+use Rattle.rx_spec.specs.Found.{admits}
 use Rattle.rx_spec.specs.declared.Direction.{Direction}
 use Rattle.lemmas_walks.proofs.Firsts.{by_test}
-use Rattle.lemmas_walks.proofs.Ranges.{range_none, range_alike, range_push}
+use Rattle.lemmas_walks.proofs.Ranges.{range_none, range_alike, range_push, or_none}
 use Rattle.rx_meaning.specs.Preference.{end_of}
-use Rattle.rx_meaning.proofs.FirstSuccess.{or_none, first_of-nil, first_of-map, first_of-alike, first_of-none}
-use Rattle.rx_meaning.proofs.FirstSuccess.{range_longer}
+use Rattle.rx_meaning.proofs.FirstSuccess.{first_of-nil, first_of-map, first_of-alike, first_of-none, range_longer}
 
 -- A match within the end is worth its pattern and end.
 abbrev pub within_end : ℕ → ℕ → ℕ → Option HalfMatch
@@ -84,21 +78,17 @@ module _ (es : List Expression) (t : ℕ) (q : Query) where
 
   found_worth : option_map end_of (found es t q)
       ≡ first_of admitted_found (range_with_len q.start (q.end + 1 - q.start))
-  found_worth = search (rules, first_of-map, first_of-alike, candidate_worth, slice_get)
+  found_worth = search (rules, first_of-map, first_of-alike, candidate_worth)
 
   -- in the span the mode alone decides
   abbrev mode_found_at : Anchored → ℕ → Option HalfMatch
   mode_found_at mode p =
       first_of (λ k. if admits mode q.start p k then pattern_found p k else None) (range_with_len 0 (length es))
 
-  admitted_by : (p k : ℕ) → q.start ≤ p → p ≤ q.end → k < length es
-      → admitted q (length es) p k ≡ admits q.mode q.start p k
-  admitted_by p k low high within = grind (arith, common_steps, le-leb, lt-ltb)
-
   by_mode : q.start ≤ q.end → (mode : Anchored) → q.mode ≡ mode
       → option_map end_of (found es t q)
       ≡ first_of (mode_found_at mode) (range_with_len q.start (suc (q.end - q.start)))
-  by_mode order mode is = grind (arith, common_steps, found_worth, range_alike, admitted_by)
+  by_mode order mode is = grind (arith, common_steps, found_worth, range_alike)
 
   -- at one place alone
   one_place : (f : ℕ → Option HalfMatch) → ((i : ℕ) → 0 < i → f (q.start + i) ≡ None)
@@ -111,7 +101,7 @@ module _ (es : List Expression) (t : ℕ) (q : Query) where
 
   not_there : (mode : Anchored) (i : ℕ) → ((p k : ℕ) → (p == q.start) ≡ false → admits mode q.start p k ≡ false)
       → 0 < i → mode_found_at mode (q.start + i) ≡ None
-  not_there mode i refuses above = grind (arith, common_steps, ne_eqb, first_of-none)
+  not_there mode i refuses above = grind (arith, common_steps, first_of-none)
 
   -- What is found in each mode.
   abbrev pub mode_found : Anchored → Option HalfMatch
@@ -137,4 +127,4 @@ module _ (es : List Expression) (t : ℕ) (q : Query) where
       (λ past. ap (option_and_then (end_worth r q.end q.start c)) (slice_get_past es c past))
 
   pub found_done : q.end < q.start → option_map end_of (found es t q) ≡ None
-  found_done past = grind (arith, common_steps, found_worth, first_of-nil)
+  found_done past = grind (arith, common_steps, first_of-nil)

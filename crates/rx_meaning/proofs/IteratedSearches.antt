@@ -1,17 +1,10 @@
 -- Two searches that answer alike from each start give the same matches one after another.
-use Rattle.std.proofs.Common.{arith, ◌≡◌, ◌-◌, ℕ, zero, suc, Option, Some, None, Ok, Err, refl, ap, ◌∙◌}
-use Rattle.std.proofs.lemmas.Grind.{common_steps}
-use Rattle.rx_spec.specs.Iterating.{FoundMatches, unless_repeat, and_then, iterate_from, iterate}
-use Rattle.rx_spec.specs.Joining.{Answer}
-use Rattle.rx_spec.specs.Queries.{Query, Match}
+use Rattle.rx_spec.proofs.Prelude.{arith, ◌≡◌, ◌-◌, ℕ, zero, suc, Option, Some, None, Ok, Err, refl, ap, ◌∙◌}
+use Rattle.rx_spec.proofs.Prelude.{common_steps, unless_repeat, and_then, iterate_from, iterate, Answer, Query, Match}
+use Rattle.lemmas_walks.proofs.FoundLaws.{and_then-same}
 
 abbrev pub from : Query → ℕ → Query
 from q start = record q { start = start }
-
-and_then_alike : (o : Answer) (f g : Match → FoundMatches) → ((m : Match) → f m ≡ g m) → and_then o f ≡ and_then o g
-and_then_alike (Ok None) f g e = refl
-and_then_alike (Ok (Some m)) f g e = grind (arith, common_steps)
-and_then_alike (Err error) f g e = refl
 
 -- the second search may ask for something else than the first
 module _ (f g : Query → Answer) (q r : Query) (alike : (start : ℕ) → f (from q start) ≡ g (from r start)) where
@@ -31,8 +24,8 @@ module _ (f g : Query → Answer) (q r : Query) (alike : (start : ℕ) → f (fr
       ap (λ (answer : Answer). and_then answer after)
       (ap (unless_repeat f (from q start) last_end) (alike start)
       ∙ unrepeated_alike start last_end (g (from r start)))
-      ∙ and_then_alike (unless_repeat g (from r start) last_end (g (from r start))) after others
-      (λ m. iterate_from_alike n m.end (Some m.end))
+      ∙ and_then-same (unless_repeat g (from r start) last_end (g (from r start))) after others
+      (λ m _. iterate_from_alike n m.end (Some m.end))
 
   pub iterate_alike : q.start ≡ r.start → q.end ≡ r.end → iterate f q ≡ iterate g r
   iterate_alike start end = grind (arith, common_steps, iterate_from_alike)

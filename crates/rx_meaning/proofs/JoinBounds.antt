@@ -1,12 +1,8 @@
 -- Where the answers lie of two tables' searches, joined.
-use Rattle.std.proofs.Common.{◌≡◌, ℕ, ◌≤◌, ◌==◌, ◌||◌, ◌⊎◌, inl, inr, Bool, if◌then◌else◌, Option, Some, None, Ok, Err}
-use Rattle.std.proofs.Common.{refl, le_refl, ap, sym, ◌∙◌, subst, arith}
-use Rattle.rx_spec.specs.Bytes.{AreBytes}
-use Rattle.rx_spec.specs.Queries.{Query, IsFit, Match, HalfMatch, MatchError, is_anchored}
-use Rattle.rx_spec.specs.Tables.{Table, IsSound}
-use Rattle.rx_spec.specs.HalfSearches.{HalfAnswer}
-use Rattle.rx_spec.specs.Splits.{half_unsplit}
-use Rattle.rx_spec.specs.Joining.{Answer, match_at, with_start, back_from, with_end}
+use Rattle.rx_spec.proofs.Prelude.{◌≡◌, ℕ, ◌≤◌, ◌==◌, ◌||◌, ◌⊎◌, inl, inr, Bool, if◌then◌else◌, Option, Some, None, Ok}
+use Rattle.rx_spec.proofs.Prelude.{Err, refl, le_refl, ap, sym, ◌∙◌, subst, arith, AreBytes, Query, IsFit, Match}
+use Rattle.rx_spec.proofs.Prelude.{HalfMatch, MatchError, is_anchored, Table, IsSound, HalfAnswer, half_unsplit, Answer}
+use Rattle.rx_spec.proofs.Prelude.{match_at, with_start, back_from, with_end}
 use Rattle.rx_spec.specs.declared.Direction.{Direction}
 use Rattle.lemmas_walks.proofs.Firsts.{by_test}
 use Rattle.rx_meaning.specs.Bounds.{IsInBounds, IsMatchInBounds, JoinQuits, JoinInBounds, IsNamed, QuittingAgain}
@@ -78,7 +74,7 @@ module _ (f r : Table) (sound : IsSound f) (sound_reverse : IsSound r) (q : Quer
 
     -- the span of the search in reverse lies in the span
     back_names : (end : ℕ) → end ≤ q.end → IsNamed (back_from q end) byte offset → IsNamed q byte offset
-    back_names end h b = record { low = b.low; high = omega (arith, b.high, h); there = b.there }
+    back_names end h b = record { low = b.low; high = omega arith; there = b.there }
 
     abbrev Quits : Type 0
     Quits = QuittingAgain f Direction.Forward q byte offset ⊎ QuittingBack f r q byte offset

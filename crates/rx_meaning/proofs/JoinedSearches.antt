@@ -1,14 +1,9 @@
 -- What the two half searches answer together: what is found, and a match for each end that is met.
-use Rattle.std.proofs.Common.{rules, ◌≡◌, ℕ, false, Option, Some, None, Ok, Err, refl, ap, sym, ◌∙◌}
-use Rattle.std.proofs.lemmas.Option.{none-some, same_Some}
+use Rattle.rx_spec.proofs.Prelude.{rules, ◌≡◌, ℕ, false, Option, Some, None, Ok, Err, refl, ap, sym, ◌∙◌, none-some}
+use Rattle.rx_spec.proofs.Prelude.{same_Some, Query, Match, HalfMatch, MatchError, found, HalfAnswer, Answer, match_at}
+use Rattle.rx_spec.proofs.Prelude.{with_end, is_always_start_anchored, Build, power, build_settings, plan_nfa}
+use Rattle.rx_spec.proofs.Prelude.{plan_build, unless_error}
 use Rattle.std.specs.Option.{option_map}
-use Rattle.rx_spec.specs.Queries.{Query, Match, HalfMatch, MatchError}
-use Rattle.rx_spec.specs.Found.{found}
-use Rattle.rx_spec.specs.HalfSearches.{HalfAnswer}
-use Rattle.rx_spec.specs.Joining.{Answer, match_at, with_end}
-use Rattle.rx_spec.specs.Nfas.{is_always_start_anchored}
-use Rattle.rx_spec.specs.Builds.{Build, power, build_settings}
-use Rattle.rx_spec.specs.Plans.{plan_nfa, plan_build, unless_error}
 use Rattle.rx_spec.specs.declared.Direction.{Direction}
 use Rattle.lemmas_walks.proofs.WalkBounds.{half_is_no_mismatch}
 use Rattle.lemmas_walks.proofs.FoundLaws.{is_found}
@@ -46,7 +41,7 @@ module _ (a : Asked) where
 
   -- Where the match begins of each end that is told: the first that is met, or the preferred one.
   told_begins : (end : HalfMatch) → half a Direction.Forward ≡ Ok (Some end) → Begins a end.pattern end.offset
-  told_begins end e = search (rules, earliest_begins, mapped, told_found, found_begins, is_found)
+  told_begins end e = search (rules, earliest_begins, told_found, found_begins, is_found)
 
   pub end_joined : (end : HalfMatch) → half a Direction.Forward ≡ Ok (Some end)
       → (start : ℕ) × (plan_search a.plan a.expressions a.query ≡ match_at end.pattern start end.offset)

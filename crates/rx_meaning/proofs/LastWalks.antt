@@ -1,19 +1,12 @@
 -- What a walk for the last match tells, where it is known what each state gives at each place.
-use Rattle.std.proofs.lemmas.Grind.{common_steps}
-use Rattle.std.proofs.Common.{◌≡◌, ℕ, zero, suc, ◌+◌, ◌≤◌, true, false, Option, None, Ok, List, [], ◌∷◌, refl, ap, sym}
-use Rattle.std.proofs.Common.{◌∙◌, subst, arith}
-use Rattle.std.specs.Option.{option_or}
-use Rattle.rx_spec.specs.Queries.{HalfMatch, MatchError}
-use Rattle.rx_spec.specs.Machines.{label_of}
-use Rattle.rx_spec.specs.States.{State}
-use Rattle.rx_spec.specs.Builds.{Node, is_dead_state, power}
-use Rattle.rx_spec.specs.HalfSearches.{last_match, next_offset, unit_offset}
+use Rattle.rx_spec.proofs.Prelude.{common_steps, ◌≡◌, ℕ, zero, suc, ◌+◌, ◌≤◌, true, false, Option, None, Ok, List, []}
+use Rattle.rx_spec.proofs.Prelude.{◌∷◌, ap, sym, ◌∙◌, arith, option_or, HalfMatch, MatchError, label_of, State}
+use Rattle.rx_spec.proofs.Prelude.{is_dead_state, last_match, next_offset, unit_offset}
 use Rattle.rx_spec.specs.declared.Direction.{Direction}
 use Rattle.lemmas_walks.proofs.HalfSearches.{told_same, error_not_told}
 use Rattle.lemmas_walks.proofs.ReadUnits.{unit_at, units_from, units_from-zero, units_from-suc, place_of, place_of-next}
 use Rattle.lemmas_walks.proofs.Walking.{goes_on, Dead, Quits, Steps, leads, state_walk, walk-nil, walk_dead, walk_quits}
 use Rattle.lemmas_walks.proofs.Walking.{walk_steps}
-use Rattle.rx_meaning.proofs.FirstSuccess.{or_assoc}
 use Rattle.rx_meaning.proofs.Scan.{Scan, read_in, StandsAt, step_at, step_stands}
 
 -- what a label tells at an offset
@@ -29,18 +22,13 @@ pub record Foretold (c : Scan) (direction : Direction) (size limit : ℕ) : Type
       → tells s i
       ≡ option_or (tells (step_at c s i) (i + 1)) (label_tells (step_at c s i).label (place_of direction size i))
 
-met : (label : List ℕ) (offset : ℕ) (last : Option HalfMatch)
-    → last_match (label_of label) offset last ≡ option_or (label_tells label offset) last
-met [] offset last = refl
-met (k ∷ ks) offset last = refl
-
 module _ (c : Scan) (direction : Direction) (size limit : ℕ) (f : Foretold c direction size limit) where
   -- what is given here, by what is given after a step
   stepped : (s : State) (i : ℕ) (last : Option HalfMatch) → StandsAt c s i → i ≤ limit
       → option_or (f.tells (step_at c s i) (i + 1))
       (last_match (label_of (step_at c s i).label) (place_of direction size i) last)
       ≡ option_or (f.tells s i) last
-  stepped s i last at within = grind (arith, common_steps, step_at, place_of, met, or_assoc)
+  stepped s i last at within = grind (arith, common_steps)
 
   -- The walk tells what the state gives where it stands, or else the last match.
   pub walk_tells : (n i : ℕ) (s : State) (last h : Option HalfMatch) → i + n ≡ limit + 1 → StandsAt c s i
@@ -48,10 +36,8 @@ module _ (c : Scan) (direction : Direction) (size limit : ℕ) (f : Foretold c d
       → h ≡ option_or (f.tells s i) last
   walk_tells zero i s last h e at w =
       let offset = place_of direction size i in
-      let end : limit + 1 ≡ i = omega (arith, e) in
-      told_same h last (sym w ∙ ap (state_walk c.build direction false s offset last) (units_from-zero (read_in c) i)
-      ∙ walk-nil (power c.build) direction false (Node.Running s) offset last)
-      ∙ ap (λ v. option_or v last) (sym (subst (λ j. f.tells s j ≡ None) end (f.past s)))
+      let end : limit + 1 ≡ i = omega arith in
+      grind (arith, common_steps, told_same, state_walk, units_from-zero, read_in, walk-nil)
   walk_tells (suc n) i s last h e at w =
       let unit = unit_at (read_in c) i in
       let offset = place_of direction size i in
@@ -68,9 +54,9 @@ module _ (c : Scan) (direction : Direction) (size limit : ℕ) (f : Foretold c d
         | Steps d q ↦
             let kept = last_match (label_of next.label) offset last in
             let later = λ (o : ℕ). state_walk c.build direction false next o kept units in
-            walk_tells n (i + 1) next kept h (omega (arith, e)) (step_stands c s i)
+            walk_tells n (i + 1) next kept h (omega arith) (step_stands c s i)
             (ap later (sym (place_of-next direction size i))
             ∙ sym (goes_on next.label direction unit offset (Ok kept) (later (next_offset direction offset)))
             ∙ sym (walk_steps c.build direction false s unit offset last units d q) ∙ walked)
-            ∙ stepped s i last at (omega (arith, e))
+            ∙ stepped s i last at (omega arith)
       ]

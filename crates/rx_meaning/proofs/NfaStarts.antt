@@ -1,22 +1,10 @@
 -- What the starts of a plan's NFA give, by the mode of a search.
-use Rattle.std.proofs.lemmas.Grind.{common_steps}
-use Rattle.std.proofs.Common.{◌≡◌, ℕ, zero, suc, ◌+◌, ◌-◌, ◌<◌, ◌≤◌, Bool, true, false, if◌then◌else◌, Option, Some}
-use Rattle.std.proofs.Common.{List, [], ◌∷◌, ◌++◌, length, map, ap, sym, ◌∙◌, subst, arith, length-append}
-use Rattle.std.proofs.lemmas.Bool.{eqb-true, and_parts}
-use Rattle.std.proofs.lemmas.List.{length-map, map-id}
-use Rattle.std.proofs.lemmas.List.Elements.{All-map, All-weaker}
-use Rattle.std.proofs.lemmas.Option.{none-some, same_Some}
-use Rattle.std.specs.Prelude.{All, slice_get}
-use Rattle.std.specs.Option.{option_and_then}
-use Rattle.std.specs.List.{list_all, range_with_len}
-use Rattle.rx_spec.specs.Expressions.{Expression, IsLoopSafe}
-use Rattle.rx_spec.specs.Ends.{ends}
-use Rattle.rx_spec.specs.Edge.{begins_with_edge}
-use Rattle.rx_spec.specs.Queries.{Anchored, reading, in_order}
-use Rattle.rx_spec.specs.Found.{first_of}
-use Rattle.rx_spec.specs.Nfas.{Nfa, nfa_of, read_as, lead_in, is_always_start_anchored}
-use Rattle.rx_spec.specs.Builds.{nfa_start}
-use Rattle.rx_spec.specs.Plans.{plan_nfa}
+use Rattle.rx_spec.proofs.Prelude.{common_steps, ◌≡◌, ℕ, zero, suc, ◌+◌, ◌-◌, ◌<◌, ◌≤◌, Bool, true, false}
+use Rattle.rx_spec.proofs.Prelude.{if◌then◌else◌, Option, Some, List, [], ◌∷◌, ◌++◌, length, map, ap, sym, ◌∙◌, subst}
+use Rattle.rx_spec.proofs.Prelude.{arith, length-append, eqb-true, and_parts, map-id, All-map, All-weaker, none-some}
+use Rattle.rx_spec.proofs.Prelude.{same_Some, All, slice_get, option_and_then, list_all, range_with_len, Expression}
+use Rattle.rx_spec.proofs.Prelude.{IsLoopSafe, ends, begins_with_edge, Anchored, reading, in_order, first_of, Nfa}
+use Rattle.rx_spec.proofs.Prelude.{nfa_of, read_as, lead_in, is_always_start_anchored, nfa_start, plan_nfa}
 use Rattle.rx_spec.specs.declared.Direction.{Direction}
 use Rattle.lemmas_walks.proofs.Firsts.{by_test}
 use Rattle.lemmas_walks.proofs.Mirrors.{IsLoopSafe-mirror}
@@ -24,7 +12,7 @@ use Rattle.lemmas_walks.proofs.Patterns.{pattern_part, anchored_part, unanchored
 use Rattle.lemmas_walks.proofs.Ranges.{range_alike}
 use Rattle.lemmas_walks.proofs.RowPlaces.{Stands, stands-left, stands-right, stands_all}
 use Rattle.lemmas_walks.proofs.ReadUnits.{All-got}
-use Rattle.rx_meaning.proofs.FirstSuccess.{first_of-alike, first_of-places}
+use Rattle.rx_meaning.proofs.FirstSuccess.{first_of-places}
 use Rattle.rx_meaning.proofs.Solution.{Valued, given}
 use Rattle.rx_meaning.proofs.StartRows.{pattern_worth, entries_count, entry_gives, start_of_all_gives, lead_in_gives}
 use Rattle.rx_meaning.proofs.Edge.{edge_ends}
@@ -42,7 +30,7 @@ module _ (direction : Direction) (es : List Expression) where
   patterns_stand = stands-left (nfa_rows direction es) 0 (pattern_part es).rows (anchored_part es).rows front_stands
 
   anchored_stands : Stands (nfa_rows direction es) (length (pattern_part es).rows) (anchored_part es).rows
-  anchored_stands = grind (arith, common_steps, pattern_part, nfa_rows, anchored_part, stands-right, front_stands)
+  anchored_stands = grind (arith, common_steps, stands-right, front_stands)
 
   unanchored_stands : Stands (nfa_rows direction es) (length (pattern_part es).rows + length (anchored_part es).rows)
       (unanchored_part direction es).rows
@@ -50,9 +38,7 @@ module _ (direction : Direction) (es : List Expression) where
       let front = (pattern_part es).rows ++ (anchored_part es).rows in
       let place : 0 + length front ≡ length (pattern_part es).rows + length (anchored_part es).rows
       = omega (arith, length-append (pattern_part es).rows (anchored_part es).rows) in
-      subst (λ b. Stands (nfa_rows direction es) b (unanchored_part direction es).rows) place
-      (stands-right (nfa_rows direction es) 0 front (unanchored_part direction es).rows
-      (stands_all (nfa_rows direction es)))
+      grind (arith, common_steps, nfa_rows, unanchored_part, stands-right, stands_all)
 
 safe_to_read : (direction : Direction) (e : Expression) → IsLoopSafe e → IsLoopSafe (read_as direction e)
 safe_to_read Direction.Forward e safe = safe
@@ -102,11 +88,9 @@ module _ {V : Type 0} (a : Asked) (direction : Direction) (worth : ℕ → ℕ �
         pattern_part,
         given,
         entries_count,
-        length-map,
         start_of_all_gives,
         anchored_stands,
         first_of-places,
-        first_of-alike,
         pattern_gives,
       )
 

@@ -1,34 +1,20 @@
 -- What states give for exactly one place: which pattern, if any, matches up to it. A step keeps what later places
 -- are given, and its label's first pattern is what this place is given.
-use Rattle.std.proofs.lemmas.Grind.{common_steps}
-use Rattle.std.proofs.Common.{◌≡◌, ℕ, ◌+◌, ◌<◌, ◌==◌, ◌||◌, true, if◌then◌else◌, Option, Some, None, List, [], ◌∷◌}
-use Rattle.std.proofs.Common.{refl, ap, sym, ◌∙◌, subst, arith}
-use Rattle.std.proofs.lemmas.Bool.{eq-eqb, ne_eqb, eqb-true}
+use Rattle.rx_spec.proofs.Prelude.{common_steps, ◌≡◌, ℕ, ◌+◌, ◌<◌, ◌==◌, ◌||◌, true, if◌then◌else◌, Option, Some, None}
+use Rattle.rx_spec.proofs.Prelude.{List, [], ◌∷◌, ap, sym, ◌∙◌, subst, arith, eq-eqb, eqb-true, slice_get, Contains}
+use Rattle.rx_spec.proofs.Prelude.{get_or, option_or, list_any, first_of, State, is_dead_state}
 use Rattle.std.proofs.lemmas.List.Folds.{Any-from_list_any, list_any_at}
-use Rattle.std.specs.Prelude.{slice_get, Contains, get_or}
-use Rattle.std.specs.Option.{option_or}
-use Rattle.std.specs.List.{list_any}
-use Rattle.rx_spec.specs.Found.{first_of}
-use Rattle.rx_spec.specs.States.{State}
-use Rattle.rx_spec.specs.Builds.{is_dead_state}
 use Rattle.lemmas_walks.proofs.Firsts.{by_test}
 use Rattle.lemmas_walks.proofs.ReadUnits.{unit_at}
-use Rattle.lemmas_walks.proofs.SilentRows.{dead_empty}
 use Rattle.rx_meaning.proofs.FirstSuccess.{first_of-nil, first_of-cons}
 use Rattle.rx_meaning.proofs.Solution.{given, given_none}
 use Rattle.rx_meaning.proofs.Closures.{first_given}
 use Rattle.rx_meaning.proofs.Scan.{Scan, read_in, valued, StandsAt, step_at}
-use Rattle.rx_meaning.proofs.Steps.{label_worth, matched, label_head, CutsNothing, step_later, step_here}
+use Rattle.rx_meaning.proofs.Steps.{label_worth, label_head, CutsNothing, step_later, step_here}
 
 -- a match is worth its pattern, at exactly one place
 abbrev pub exactly : ℕ → ℕ → ℕ → Option ℕ
 exactly place k i = if i == place then Some k else None
-
-exactly_here : (place k : ℕ) → exactly place k place ≡ Some k
-exactly_here place k = ap (λ v. if v then Some k else None) (eq-eqb place place refl)
-
-exactly_other : (place k i : ℕ) → (i ≡ place → ⊥) → exactly place k i ≡ None
-exactly_other place k i other = ap (λ v. if v then Some k else None) (ne_eqb i place other)
 
 -- of ends, whether the place is one of them
 pub ends_exactly : (place k : ℕ) (xs : List ℕ)
@@ -54,7 +40,7 @@ end_any place xs (i, within, e) = list_any_at (λ j. j == place) xs i place with
 -- what a label is worth at its place is its first pattern
 label_exactly : (i : ℕ) (ks : List ℕ) → label_worth (exactly i) i ks ≡ slice_get ks 0
 label_exactly i [] = first_of-nil (λ (k : ℕ). exactly i k i)
-label_exactly i (k ∷ ks) = grind (arith, common_steps, first_of-cons, label_worth, exactly_here)
+label_exactly i (k ∷ ks) = grind (arith, common_steps, first_of-cons)
 
 module _ (c : Scan) where
   -- what a state gives for a place
@@ -62,26 +48,13 @@ module _ (c : Scan) where
   tells s i place = first_given (valued c (exactly place)) i s.rows
 
   pub dead_tells : (s : State) (i place : ℕ) → is_dead_state s ≡ true → tells s i place ≡ None
-  dead_tells s i place d = grind (arith, common_steps, first_given, valued, dead_empty, first_of-nil, given)
+  dead_tells s i place d = grind (arith, common_steps, first_of-nil)
 
   pub tells_here : (s : State) (i : ℕ) → StandsAt c s i → slice_get (step_at c s i).label 0 ≡ tells s i i
   tells_here s i at =
-      grind (
-        arith,
-        common_steps,
-        valued,
-        given,
-        given_none,
-        exactly_other,
-        label_head,
-        unit_at,
-        read_in,
-        label_exactly,
-        matched,
-        step_here,
-      )
+      grind (arith, common_steps, valued, given, given_none, label_head, label_exactly, step_here)
 
   pub tells_later : (s : State) (i place : ℕ) → StandsAt c s i → i < place
       → CutsNothing c.build.nfa c.build.kind s (unit_at (read_in c) i)
       → tells (step_at c s i) (i + 1) place ≡ tells s i place
-  tells_later s i place at h whole = grind (arith, common_steps, step_later, exactly_other)
+  tells_later s i place at h whole = grind (arith, common_steps, step_later)

@@ -1,20 +1,11 @@
 -- A part of an NFA gives, at its entry, the first success of what comes after it over the ends of its expression.
-use Rattle.std.proofs.Common.{rules, ◌≡◌, ℕ, zero, suc, ◌+◌, ◌-◌, ◌*◌, ◌≤◌, Bool, true, false, if◌then◌else◌, Option}
-use Rattle.std.proofs.Common.{Some, None, List, [], ◌∷◌, ◌++◌, length, refl, ap, ap₂, sym, ◌∙◌, subst, arith}
-use Rattle.std.proofs.Common.{length-append, append-nil}
-use Rattle.std.proofs.lemmas.Grind.{common_steps}
-use Rattle.std.proofs.lemmas.List.{map-id}
+use Rattle.rx_spec.proofs.Prelude.{rules, ◌≡◌, ℕ, zero, suc, ◌+◌, ◌-◌, ◌*◌, ◌≤◌, Bool, true, false, if◌then◌else◌}
+use Rattle.rx_spec.proofs.Prelude.{Option, Some, None, List, [], ◌∷◌, ◌++◌, length, refl, ap, ap₂, sym, ◌∙◌, subst}
+use Rattle.rx_spec.proofs.Prelude.{arith, length-append, append-nil, common_steps, map-id, option_or, flat_map, Reading}
+use Rattle.rx_spec.proofs.Prelude.{after, holds_at, Expression, IsLoopSafe, IsBounded, class_ends, rounds, preferring}
+use Rattle.rx_spec.proofs.Prelude.{up_to, further, ends, first_of, Row, Maker, straight, row_to, chained, either}
+use Rattle.rx_spec.proofs.Prelude.{choice, copies, optional, loop, repeated, compile, row_at}
 use Rattle.std.proofs.lemmas.List.Concat.{flat_map_single}
-use Rattle.std.specs.Option.{option_or}
-use Rattle.std.specs.List.{flat_map}
-use Rattle.rx_spec.specs.Bytes.{contains}
-use Rattle.rx_spec.specs.Looks.{Reading, after, holds_at}
-use Rattle.rx_spec.specs.Expressions.{Expression, IsLoopSafe, IsBounded}
-use Rattle.rx_spec.specs.Ends.{class_ends, rounds, preferring, up_to, further, ends}
-use Rattle.rx_spec.specs.Found.{first_of}
-use Rattle.rx_spec.specs.Rows.{Row, Maker, straight, row_to, chained, either, choice, copies, optional, loop, repeated}
-use Rattle.rx_spec.specs.Rows.{compile}
-use Rattle.rx_spec.specs.States.{row_at}
 use Rattle.rx_spec.specs.declared.Look.{Look}
 use Rattle.lemmas_walks.proofs.Every.{every-weaker, none_is_nil, flat_map-flat_map, flat_map-alike}
 use Rattle.lemmas_walks.proofs.Ends.{Lies, Advances, rounds_lie, ends_lie, advances_one}
@@ -29,7 +20,7 @@ still r e i within = grind (arith, common_steps, every-weaker, ends_lie)
 
 rounds_still : (n : ℕ) (body : ℕ → List ℕ) → Advances n 0 body → (k : ℕ) → Advances n 0 (rounds body k)
 rounds_still n body h k i within =
-    every-weaker (Lies n (i + k * 0)) (Lies n (i + 0)) (rounds body k i) (λ j lie. (omega (arith, lie.0), lie.1))
+    every-weaker (Lies n (i + k * 0)) (Lies n (i + 0)) (rounds body k i) (λ j lie. (omega arith, lie.1))
     (rounds_lie n 0 body h k i within)
 
 -- the last of so many rounds, or the first
@@ -63,9 +54,7 @@ module _ {V : Type 0} (x : Valued V) where
   ends_lead : (q next i : ℕ) (A B : ℕ → List ℕ) → Advances (length x.reading.units) 0 A → Leads q next B
       → i ≤ length x.reading.units → first_end q (A i) ≡ first_end next (flat_map (λ j. B j) (A i))
   ends_lead q next i A B lies leads within =
-      first_of-same (Lies (length x.reading.units) (i + 0)) (λ j. given x q j) (λ j. first_end next (B j)) (A i)
-      (λ j lie. leads j lie.1) (lies i within)
-      ∙ sym (first_of-flat_map (λ l. given x next l) B (A i))
+      grind (arith, common_steps, first_of-same, given, first_of-flat_map)
 
   straight_means : Means straight (λ i. i ∷ [])
   straight_means = record { entry = λ base next stands i within. sym (first_of-single (λ j. given x next j) i) }
@@ -74,11 +63,7 @@ module _ {V : Type 0} (x : Valued V) where
       → read_by set byte (given x next (i + 1)) ≡ first_end next (class_ends set byte i)
   class_given set next i None = sym (first_of-nil (λ j. given x next j))
   class_given set next i (Some byte) =
-      elim (contains set byte)
-      as (λ v. (if v then given x next (i + 1) else None) ≡ first_end next (if v then (i + 1) ∷ [] else [])) [
-        | true ↦ sym (first_of-single (λ j. given x next j) (i + 1))
-        | false ↦ sym (first_of-nil (λ j. given x next j))
-      ]
+      grind (arith, common_steps, given, first_of-single, first_of-nil)
 
   class_means : (set : ℕ) → Means (row_to (Row.Bytes set)) (λ i. class_ends set (after x.reading.units i) i)
   class_means set = record {
@@ -140,8 +125,7 @@ module _ {V : Type 0} (x : Valued V) where
       → gives_at x i (choice greedy round next) ≡ first_end next (preferring greedy more i)
   unfolding first_of
   choice_given true round next i more e =
-      ap₂ option_or e (sym (first_of-single (λ j. given x next j) i))
-      ∙ sym (first_of-append (λ j. given x next j) more (i ∷ []))
+      grind (arith, common_steps, first_of-single, given, first_of-append)
   choice_given false round next i more e = ap (option_or (given x next i)) e
 
   optional_means : (greedy : Bool) {body : Maker} {B : ℕ → List ℕ} → Advances (length x.reading.units) 0 B
@@ -177,7 +161,7 @@ module _ {V : Type 0} (x : Valued V) where
     looped base next stands zero i within room =
         let round = body (base + 1) base in
         let nothing = none_is_nil (Lies (length x.reading.units) (i + 1)) (B i)
-        (λ j lie. omega (arith, lie.0, lie.1, room)) (lies i within) in
+        (λ j lie. omega arith) (lies i within) in
         given_as x base i (choice greedy round.entry next) stands.0
         ∙ choice_given greedy round.entry next i []
         (h.entry (base + 1) base stands.1 i within ∙ ap (first_end base) nothing
@@ -190,7 +174,7 @@ module _ {V : Type 0} (x : Valued V) where
         (h.entry (base + 1) base stands.1 i within
         ∙ first_of-same (Lies (length x.reading.units) (i + 1)) (λ j. given x base j)
         (λ j. first_end next (up_to greedy B m j)) (B i)
-        (λ j lie. looped base next stands m j lie.1 (omega (arith, lie.0, room))) (lies i within)
+        (λ j lie. looped base next stands m j lie.1 (omega arith)) (lies i within)
         ∙ sym (first_of-flat_map (λ l. given x next l) (λ j. up_to greedy B m j) (B i)))
 
     loop_means : Means (loop greedy body) (λ i. up_to greedy B (length x.reading.units - i) i)

@@ -1,10 +1,9 @@
 -- A relation that gives each number below m a number below n, no two of them the same, shows that m is at most n.
-use Rattle.std.proofs.Common.{◌≡◌, ℕ, suc, zero, ◌<◌, ◌≤◌, eqb, false, List, [], ◌∷◌, length, refl, subst, ⊎_elim}
-use Rattle.std.proofs.Common.{arith, eqb-true, ne_eqb}
+use Rattle.rx_spec.proofs.Prelude.{◌≡◌, ℕ, suc, zero, ◌<◌, ◌≤◌, eqb, false, List, [], ◌∷◌, length, refl, subst, ⊎_elim}
+use Rattle.rx_spec.proofs.Prelude.{arith, eqb-true, ne_eqb, Contains, IsDistinct}
 use Rattle.std.proofs.lemmas.Map.Steps.{length-le_from_distinct_below}
 use Rattle.std.proofs.lemmas.Map.Views.{Contains-from_any}
-use Rattle.std.specs.Prelude.{Contains}
-use Rattle.std.specs.List.{IsDistinct, AllByRecursion as Every}
+use Rattle.std.specs.List.{AllByRecursion as Every}
 use Rattle.lemmas_walks.proofs.Firsts.{Contains-cases, Contains-there, Contains-nil, Contains-here}
 
 -- the numbers given to those below k, the last one's first

@@ -1,33 +1,15 @@
 -- A table that is a build's powerset machine gives the build, and its rows are reached.
-use Rattle.std.proofs.Common.{rules, ◌≡◌, ℕ, suc, zero, ◌<◌, false, List, [], ◌∷◌, length, get_or, sym, ap, ◌∙◌, arith}
-use Rattle.std.proofs.lemmas.Grind.{common_steps}
-use Rattle.std.proofs.lemmas.Bool.{cases_lt, true≢false}
-use Rattle.std.proofs.lemmas.List.{get_or-map}
-use Rattle.std.specs.Prelude.{Contains}
-use Rattle.rx_spec.specs.Queries.{Anchored}
+use Rattle.rx_spec.proofs.Prelude.{rules, ◌≡◌, ℕ, suc, zero, ◌<◌, false, List, [], ◌∷◌, length, get_or, sym, ap, ◌∙◌}
+use Rattle.rx_spec.proofs.Prelude.{arith, common_steps, get_or-map, Contains, Anchored, Build, dead, is_dead_state}
+use Rattle.rx_spec.proofs.Prelude.{built_modes, next_node, node_after, power, IsWord, run, dead_state, Table, IsTable}
+use Rattle.rx_spec.proofs.Prelude.{row_after, SameLabels, IsReachedRow, node_at, IsPower}
 use Rattle.rx_spec.specs.Builds as builds
-use Rattle.rx_spec.specs.Builds.{Build, Node, dead, is_dead_state, built_modes, next_node, node_after, power}
-use Rattle.rx_spec.specs.Machines.{IsWord, run}
-use Rattle.rx_spec.specs.States.{State, dead_state}
-use Rattle.rx_spec.specs.Tables.{Table, IsTable, row_after}
-use Rattle.rx_spec.specs.Labels.{SameLabels, IsReachedRow}
-use Rattle.rx_spec.specs.Power.{node_at, IsPower}
 use Rattle.rx_spec.specs.declared.Start.{Start}
-use Rattle.lemmas_walks.proofs.SilentRows.{IsRow}
-use Rattle.lemmas_walks.proofs.Words.{run-nil, run-cons, run-within, IsWord-head, IsWord-tail}
+use Rattle.lemmas_walks.proofs.SilentRows.{row_there}
+use Rattle.lemmas_walks.proofs.Words.{run-nil, run-cons, IsWord-head, IsWord-tail}
 use Rattle.rx_meaning.specs.Least.{PowerGives, PowerIsReached}
 
-abbrev state_of : Node → State
-state_of builds.Quit = dead_state
-state_of (builds.Running s) = s
-
 module _ (t : Table) (b : Build) (is : IsTable t) (by : IsPower t b) where
-  -- the row to which a word leads from a start is a row
-  row_there : (mode : Anchored) (start : Start) (word : List ℕ) → IsWord word → row_after t mode start word < t.size
-  row_there mode start word w =
-      run-within t.machine.next (IsRow t) (λ row unit h v. is.nexts row unit h v) (t.machine.entry mode start) word
-      (is.entries mode start) w
-
   -- words lead alike
   node_run : (row : ℕ) (word : List ℕ) → row < t.size → IsWord word
       → node_at by.states (run t.machine.next row word) ≡ run (next_node b) (node_at by.states row) word
@@ -45,7 +27,7 @@ module _ (t : Table) (b : Build) (is : IsTable t) (by : IsPower t b) where
 
   -- from the starts of all modes, built or not
   pub same_as_power : (Starts : Anchored → Type 0) → SameLabels Starts t.machine (power b)
-  same_as_power Starts mode begins start word w = grind (arith, common_steps, row_there, node_there)
+  same_as_power Starts mode begins start word w = grind (arith, common_steps, row_there t is, node_there)
 
   state_row : (i : ℕ) → i < length by.states
       → node_at by.states (suc (suc i)) ≡ builds.Running (get_or by.states i dead_state)
@@ -53,13 +35,13 @@ module _ (t : Table) (b : Build) (is : IsTable t) (by : IsPower t b) where
 
   states_alone : (i j : ℕ) → i < length by.states → j < length by.states
       → get_or by.states i dead_state ≡ get_or by.states j dead_state → i ≡ j
-  states_alone i j li lj e = search (rules, cases_lt)
+  states_alone i j li lj e = search rules
 
   -- the row of a state that isn't dead
   row_of_state : (x i : ℕ) → x < t.size → i < length by.states
       → is_dead_state (get_or by.states i dead_state) ≡ false
       → node_at by.states x ≡ builds.Running (get_or by.states i dead_state) → x ≡ suc (suc i)
-  row_of_state zero i lx li alive e = grind (arith, common_steps, true≢false)
+  row_of_state zero i lx li alive e = grind (arith, common_steps)
   row_of_state (suc zero) i lx li alive e = absurd (cc)
   row_of_state (suc (suc j)) i lx li alive e = grind (arith, common_steps, states_alone, state_row)
 
@@ -67,7 +49,6 @@ module _ (t : Table) (b : Build) (is : IsTable t) (by : IsPower t b) where
   reached zero h l = absurd (omega arith)
   reached (suc zero) h l = absurd (omega arith)
   reached (suc (suc i)) h l =
-      let size = by.size in
       let li : i < length by.states = omega arith in
       let r = by.reached.only i dead_state li in
       record {
@@ -76,7 +57,9 @@ module _ (t : Table) (b : Build) (is : IsTable t) (by : IsPower t b) where
         start = r.start;
         word = r.word;
         is_word = r.units;
-        leads = row_of_state (row_after t r.mode r.start r.word) i (row_there r.mode r.start r.word r.units) li r.alive
+        leads =
+            row_of_state (row_after t r.mode r.start r.word) i (row_there t is r.mode r.start r.word r.units) li
+            r.alive
             (node_there r.mode r.start r.word r.units ∙ r.leads);
       }
 

@@ -1,19 +1,11 @@
 -- A search in reverse from an end that was told forward meets no quit byte: the forward search read each byte that
 -- it reads.
-use Rattle.std.proofs.lemmas.Grind.{common_steps}
-use Rattle.std.proofs.Common.{◌≡◌, ℕ, suc, zero, ◌+◌, ◌-◌, ◌<◌, ◌≤◌, ◌⊎◌, inl, inr, ⊎_elim, Bool, true, false, Option}
-use Rattle.std.proofs.Common.{Some, None, Ok, List, [], ◌∷◌, length, refl, ap, sym, ◌∙◌, subst, arith}
-use Rattle.std.proofs.lemmas.Bool.{cases_lt}
-use Rattle.std.proofs.lemmas.Option.{none-some}
-use Rattle.rx_spec.specs.Bytes.{contains, unit_of}
-use Rattle.rx_spec.specs.Looks.{Reading, before, after}
-use Rattle.rx_spec.specs.Queries.{Anchored, Query, reading, HalfMatch, MatchError}
-use Rattle.rx_spec.specs.Machines.{label_of}
-use Rattle.rx_spec.specs.States.{State, step}
-use Rattle.rx_spec.specs.Builds.{Build, Node, power, build_settings}
-use Rattle.rx_spec.specs.HalfSearches.{HalfAnswer, last_match, at_label, next_offset, unit_offset, beside, first_offset}
-use Rattle.rx_spec.specs.Joining.{back_from}
-use Rattle.rx_spec.specs.Plans.{plan_build}
+use Rattle.rx_spec.proofs.Prelude.{common_steps, ◌≡◌, ℕ, suc, zero, ◌+◌, ◌-◌, ◌<◌, ◌≤◌, ◌⊎◌, inl, inr, ⊎_elim, Bool}
+use Rattle.rx_spec.proofs.Prelude.{true, false, Option, Some, None, Ok, List, [], ◌∷◌, length, refl, ap, sym, ◌∙◌}
+use Rattle.rx_spec.proofs.Prelude.{subst, arith, none-some, contains, unit_of, Reading, before, after, Anchored, Query}
+use Rattle.rx_spec.proofs.Prelude.{reading, HalfMatch, MatchError, label_of, State, step, Build, Node, power}
+use Rattle.rx_spec.proofs.Prelude.{build_settings, HalfAnswer, last_match, at_label, next_offset, unit_offset, beside}
+use Rattle.rx_spec.proofs.Prelude.{first_offset, back_from, plan_build}
 use Rattle.rx_spec.specs.declared.Direction.{Direction}
 use Rattle.lemmas_walks.proofs.QuitSets.{quits_alike}
 use Rattle.lemmas_walks.proofs.HalfSearches.{Begun, half_begun, told_same, error_not_told, IsStarted}
@@ -55,18 +47,18 @@ module _ (b : Build) (r : Reading) (direction : Direction) (size : ℕ) where
 
   read_here : (i n : ℕ) (h : HalfMatch) → contains b.quit (unit_at r i) ≡ false → h.offset ≡ place_of direction size i
       → ReadTo i (suc n) h
-  read_here i n h here e = grind (arith, common_steps, unit_at)
+  read_here i n h here e = grind (arith, common_steps)
 
   read_more : (i n : ℕ) (h : HalfMatch) → contains b.quit (unit_at r i) ≡ false → ReadTo (i + 1) n h
       → ReadTo i (suc n) h
-  read_more i n h here later = grind (arith, common_steps, unit_at, cases_lt)
+  read_more i n h here later = grind (arith, common_steps)
 
   -- Each match that is told was read up to.
   pub told_read : (earliest : Bool) (n i : ℕ) (s : State) (last : Option HalfMatch) (h : HalfMatch)
       → state_walk b direction earliest s (place_of direction size i) last (units_from r i n) ≡ Ok (Some h)
       → (last ≡ Some h) ⊎ ReadTo i n h
   told_read earliest zero i s last h w =
-      grind (arith, common_steps, place_of, told_same, state_walk, units_from-zero, walk-nil)
+      grind (arith, common_steps, units_from-zero, walk-nil)
   told_read earliest (suc n) i s last h w =
       let unit = unit_at r i in
       let offset = place_of direction size i in
@@ -145,7 +137,6 @@ module _ (a : Asked) where
       let q = a.query in
       ⊎_elim (λ (d : (q.end < q.start) × (Some end ≡ None)). absurd (none-some end (sym d.1)))
       (λ (g : Begun (power forward) (build_settings forward) Direction.Forward q (Some end)).
-      let order = g.order in
       let n = suc (q.end - q.start) in
       let s = begin_state a Direction.Forward in
       ⊎_elim (λ (x : None ≡ Some end). absurd (none-some end x))
@@ -165,7 +156,7 @@ module _ (a : Asked) where
 -- from there on backward
 clean_before : (quit : ℕ) (q : Query) (end i : ℕ) → q.start ≤ i → i ≤ end → Ended quit q end
     → contains quit (unit_of (before q.haystack i)) ≡ false
-clean_before quit q end i low high e = grind (arith, common_steps, cases_lt)
+clean_before quit q end i low high e = grind (arith, common_steps)
 
 -- A search for the last match tells where all its units can be searched.
 clean_search : (b : Build) (direction : Direction) (q : Query) → q.start ≤ q.end → q.end ≤ length q.haystack
@@ -199,8 +190,6 @@ reverse_told a end told =
     let ended : Ended b.quit q end.offset
     = subst (λ quit. Ended quit q end.offset) (sym (quits_alike a.plan a.expressions)) (forward_ended a end told) in
     let low = ended.low in
-    let high = ended.high in
-    let inside = a.inside in
     let start : IsStarted (build_settings b) (after q.haystack end.offset) Anchored.Yes
     = record { clean = ended.clean end.offset low (omega arith); supported = refl } in
     clean_search b Direction.Reverse (back_from q end.offset) low (omega arith) start refl

@@ -1,13 +1,8 @@
 -- A reduced table is least.
-use Rattle.std.proofs.lemmas.Grind.{common_steps}
-use Rattle.std.proofs.Common.{◌≡◌, ℕ, suc, zero, ◌<◌, ◌≤◌, List, [], ◌∷◌, ◌++◌, sym, ap, ◌∙◌, ⊎_elim, arith}
-use Rattle.std.proofs.lemmas.Bool.{cases_eq}
-use Rattle.std.specs.Prelude.{Contains}
-use Rattle.rx_spec.specs.Queries.{Anchored}
-use Rattle.rx_spec.specs.Machines.{Machine, Label, IsWord}
-use Rattle.rx_spec.specs.Builds.{built_modes, power}
-use Rattle.rx_spec.specs.Tables.{Table, IsTable, row_after}
-use Rattle.rx_spec.specs.Labels.{label_after, SameLabels, IsReachedRow, IsReduced, IsLeast}
+use Rattle.rx_spec.proofs.Prelude.{common_steps, ◌≡◌, ℕ, suc, zero, ◌<◌, ◌≤◌, List, [], ◌∷◌, ◌++◌, sym, ap, ◌∙◌, ⊎_elim}
+use Rattle.rx_spec.proofs.Prelude.{arith, cases_eq, Contains, Anchored, Machine, Label, IsWord, built_modes, power}
+use Rattle.rx_spec.proofs.Prelude.{Table, IsTable, row_after, label_after, SameLabels, IsReachedRow}
+use Rattle.rx_spec.specs.Labels.{IsReduced, IsLeast}
 use Rattle.lemmas_walks.proofs.SilentRows.{IsRow, zero_is_silent}
 use Rattle.lemmas_walks.proofs.Words.{run-nil, run-cons, run-append, run-within, IsWord-head, IsWord-tail}
 use Rattle.lemmas_walks.proofs.Words.{IsWord-append}

@@ -1,20 +1,10 @@
 -- A search in reverse tells the least start of a match that ends where it begins.
-use Rattle.std.proofs.Common.{◌≡◌, ℕ, suc, ◌+◌, ◌-◌, ◌<◌, ◌≤◌, ⊎_elim, true, false, ◌==◌, if◌then◌else◌, Option, Some}
-use Rattle.std.proofs.Common.{None, Ok, List, [], ◌∷◌, length, refl, ap, ap₂, sym, ◌∙◌, arith}
-use Rattle.std.proofs.lemmas.List.{length-reverse}
-use Rattle.std.proofs.lemmas.Option.{slice_get-map}
-use Rattle.std.specs.Cmp.{both_ways}
-use Rattle.std.specs.Prelude.{slice_get}
-use Rattle.std.specs.Option.{option_or, option_map, option_and_then}
-use Rattle.std.specs.List.{list_any, range_with_len}
-use Rattle.rx_spec.specs.Expressions.{Expression, IsLoopSafe, mirror}
-use Rattle.rx_spec.specs.Ends.{ends}
-use Rattle.rx_spec.specs.Queries.{Anchored, reading, HalfMatch}
-use Rattle.rx_spec.specs.Found.{first_of}
-use Rattle.rx_spec.specs.Joining.{back_from}
-use Rattle.rx_spec.specs.Nfas.{read_as}
-use Rattle.rx_spec.specs.States.{State}
-use Rattle.rx_spec.specs.Plans.{plan_build}
+use Rattle.rx_spec.proofs.Prelude.{common_steps, ◌≡◌, ℕ, suc, ◌+◌, ◌-◌, ◌<◌, ◌≤◌, ⊎_elim, false, ◌==◌, Option, Some}
+use Rattle.rx_spec.proofs.Prelude.{None, Ok, List, [], ◌∷◌, length, refl, ap, ap₂, sym, ◌∙◌, arith, length-reverse}
+use Rattle.rx_spec.proofs.Prelude.{slice_get-map, both_ways, slice_get, option_or, option_and_then, list_any}
+use Rattle.rx_spec.proofs.Prelude.{range_with_len, Expression, IsLoopSafe, mirror, ends, Anchored, reading, HalfMatch}
+use Rattle.rx_spec.proofs.Prelude.{first_of, back_from, read_as, State, plan_build}
+use Rattle.std.specs.Option.{option_map}
 use Rattle.rx_spec.specs.declared.Direction.{Direction}
 use Rattle.lemmas_walks.proofs.Mirrors.{ends_mirrored}
 use Rattle.lemmas_walks.proofs.Ranges.{range_none, range_alike, range_push}
@@ -100,12 +90,7 @@ pattern_mirrored t hay end p k e safe within =
     = both_ways (list_any (λ j. j == length hay - p) back) (list_any (λ j. j == end) forward)
     (λ h. end_any end forward (both.1 (any_end (length hay - p) back h)))
     (λ h. end_any (length hay - p) back (both.0 (any_end end forward h))) in
-    ap (option_map (half_at p)) (ends_exactly (length hay - p) k back ∙ ap (λ v. if v then Some k else None) same)
-    ∙ (elim (list_any (λ j. j == end) forward)
-    as (λ v. option_map (half_at p) (if v then Some k else None) ≡ (if v then Some (half_at p k) else None)) [
-      | true ↦ refl
-      | false ↦ refl
-    ])
+    grind (arith, common_steps, ends_exactly)
 
 module _ (a : Asked) where
   abbrev size : ℕ
@@ -121,7 +106,6 @@ module _ (a : Asked) where
       ≡ first_of (start_to_end a.expressions a.plan.line_terminator a.query p) (range_with_len 0 (length a.expressions))
   start_tells p within mode =
       let end = a.query.end in
-      let inside = a.inside in
       let worth = exactly (size - p) in
       let i = size - end in
       let patterns = range_with_len 0 (length a.expressions) in
@@ -158,7 +142,6 @@ module _ (a : Asked) where
   unfolding foretold
   reverse_tells told order mode last e =
       let q = a.query in
-      let inside = a.inside in
       let limit = size - q.start in
       let c = scan_of a Direction.Reverse in
       let i = size - q.end in
@@ -201,6 +184,5 @@ start_of_end_holds p es q end safe bytes inside e =
     } in
     let told = reverse_told a end e in
     let ended = forward_ended a end e in
-    let high = ended.high in
     let back = record q { end = end.offset } in
     told.1 ∙ ap Ok (mirrored_search_holds p es back told.0 safe bytes ended.low (omega arith) told.1)

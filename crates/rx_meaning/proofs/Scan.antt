@@ -1,16 +1,8 @@
 -- A build that reads bytes, and what is asked of a plan's builds.
-use Rattle.std.proofs.Common.{◌≡◌, ℕ, ◌+◌, ◌<◌, ◌≤◌, false, Option, List, length, refl, ap, ◌∙◌, arith}
-use Rattle.std.specs.Prelude.{All, slice_get}
-use Rattle.std.specs.List.{flat_map}
-use Rattle.rx_spec.specs.Bytes.{AreBytes, unit_of}
-use Rattle.rx_spec.specs.Looks.{Reading, before, after}
-use Rattle.rx_spec.specs.Expressions.{Expression, IsLoopSafe}
-use Rattle.rx_spec.specs.Queries.{Query, in_order}
-use Rattle.rx_spec.specs.Contexts.{facts_of, unit_facts}
-use Rattle.rx_spec.specs.Shallow.{IsShallow}
-use Rattle.rx_spec.specs.States.{row_at, State, state_at, decided_rows, cut, target, pattern_of, step}
-use Rattle.rx_spec.specs.Builds.{Build}
-use Rattle.rx_spec.specs.Plans.{Plan, plan_build}
+use Rattle.rx_spec.proofs.Prelude.{common_steps, ◌≡◌, ℕ, ◌+◌, ◌<◌, ◌≤◌, false, Option, List, length, refl, arith, All}
+use Rattle.rx_spec.proofs.Prelude.{slice_get, flat_map, AreBytes, unit_of, Reading, before, after, Expression}
+use Rattle.rx_spec.proofs.Prelude.{IsLoopSafe, Query, in_order, facts_of, unit_facts, IsShallow, row_at, State}
+use Rattle.rx_spec.proofs.Prelude.{state_at, decided_rows, cut, target, pattern_of, step, Build, Plan, plan_build}
 use Rattle.rx_spec.specs.declared.Direction.{Direction}
 use Rattle.lemmas_walks.proofs.Facts.{unit_knows}
 use Rattle.lemmas_walks.proofs.ReadUnits.{unit_at, All-got, bytes_in_order}
@@ -59,12 +51,7 @@ step_stands c s i =
     let roots = flat_map (λ q. target u (row_at nfa.rows q)) rows in
     let label = flat_map (λ q. pattern_of (row_at nfa.rows q)) rows in
     let place : ℕ.suc i ≡ i + 1 = omega arith in
-    record {
-      roots = roots;
-      is = ap (λ facts. state_at nfa roots facts label)
-          (unit_facts_of nfa.line_terminator c.units i c.bytes
-          ∙ ap (λ j. facts_of nfa.line_terminator (before c.units j)) place);
-    }
+    grind (arith, common_steps, unit_facts_of)
 
 -- Expressions that are safe to repeat, built by a plan, and a query of bytes.
 pub record Asked : Type 0 where

@@ -1,19 +1,9 @@
 -- Searches that are made of half searches are alike where these are: with matches inside a character passed over,
 -- joined, and one after another.
-use Rattle.std.proofs.Common.{arith, rules, ◌≡◌, ℕ, suc, zero, ◌-◌, Bool, true, false, if◌then◌else◌, Some, None, Ok}
-use Rattle.std.proofs.Common.{Err, List, refl, ap, ap₂, sym, ◌∙◌}
-use Rattle.std.proofs.lemmas.Grind.{common_steps}
-use Rattle.rx_spec.specs.Bytes.{AreBytes}
-use Rattle.rx_spec.specs.Expressions.{Expression}
-use Rattle.rx_spec.specs.Queries.{Query}
-use Rattle.rx_spec.specs.Tables.{Table}
-use Rattle.rx_spec.specs.HalfSearches.{HalfAnswer, half_search}
-use Rattle.rx_spec.specs.Overlapping.{OverlappingMatches}
-use Rattle.rx_spec.specs.Splits.{narrower, unless_split, skip_splits, split_limit, skips_splits, half_unsplit}
-use Rattle.rx_spec.specs.Splits.{items_unsplit}
-use Rattle.rx_spec.specs.Joining.{Answer, with_end, joined_search, join}
-use Rattle.rx_spec.specs.Iterating.{iterate}
-use Rattle.rx_spec.specs.Plans.{Plan, plan_build}
+use Rattle.rx_spec.proofs.Prelude.{arith, rules, ◌≡◌, ℕ, suc, zero, ◌-◌, Bool, true, false, if◌then◌else◌, List, refl}
+use Rattle.rx_spec.proofs.Prelude.{ap, ap₂, sym, ◌∙◌, common_steps, AreBytes, Expression, Query, Table, HalfAnswer}
+use Rattle.rx_spec.proofs.Prelude.{half_search, narrower, unless_split, skip_splits, split_limit, skips_splits}
+use Rattle.rx_spec.proofs.Prelude.{half_unsplit, Answer, joined_search, join, iterate, Plan, plan_build}
 use Rattle.rx_spec.specs.declared.Direction.{Direction}
 use Rattle.lemmas_walks.proofs.ReadUnits.{narrower_bytes}
 use Rattle.rx_meaning.specs.Preference.{build_half_search}
@@ -55,9 +45,6 @@ half_unsplit_of_table t b serves direction q bytes =
     unsplit_alike (skips_splits t) (half_search t.machine t.settings direction) (build_half_search b direction)
     (half_of_table_holds t b serves direction) direction q bytes
 
-abbrev sifted : Bool → Query → OverlappingMatches → OverlappingMatches
-sifted skips q matches = if skips then items_unsplit q matches else matches
-
 pub overlapping_unsplit_of_table : OverlappingUnsplitOfTable
 overlapping_unsplit_of_table t b serves direction q bytes = grind (arith, common_steps, overlapping_of_table_holds)
 
@@ -72,15 +59,9 @@ overlapping_unsplit_of_copy t u c skips direction q bytes = grind (arith, common
 
 -- ---- joined
 
-with_end_alike : (g h : Query → HalfAnswer) → AnswerAlike g h → (always : Bool) (q : Query) → AreBytes q.haystack
-    → (o : HalfAnswer) → with_end g always q o ≡ with_end h always q o
-with_end_alike g h alike always q bytes (Ok None) = refl
-with_end_alike g h alike always q bytes (Ok (Some end)) = grind (arith, common_steps)
-with_end_alike g h alike always q bytes (Err error) = refl
-
 joined_alike : (f g r s : Query → HalfAnswer) → AnswerAlike f g → AnswerAlike r s → (always : Bool)
     → AnswerAlike (joined_search f r always) (joined_search g s always)
-joined_alike f g r s ends starts always q bytes = grind (arith, common_steps, with_end_alike)
+joined_alike f g r s ends starts always q bytes = grind (arith, common_steps)
 
 pub join_of_tables : JoinOfTables
 join_of_tables f r b c serves serves_reverse q bytes = search (rules, joined_alike, half_unsplit_of_table)

@@ -1,15 +1,10 @@
 -- Tables, and builds, as machines whose searches end well: then a table and the build that it gives are alike, and
 -- so are copies.
-use Rattle.std.proofs.Common.{arith, ◌≡◌, ℕ, ◌≤◌, Bool, true, false, if◌then◌else◌, Some, None, [], length, refl, ap}
-use Rattle.std.proofs.Common.{sym, ◌∙◌, subst}
-use Rattle.std.proofs.lemmas.Grind.{common_steps}
-use Rattle.std.proofs.lemmas.Option.{slice_get_past, same_Some}
-use Rattle.std.specs.Prelude.{Contains, slice_get}
-use Rattle.rx_spec.specs.Queries.{Anchored}
-use Rattle.rx_spec.specs.Machines.{Settings}
-use Rattle.rx_spec.specs.Builds.{Build, dead, start_node, built_entry, power, build_settings, built_modes}
-use Rattle.rx_spec.specs.Tables.{Table, IsTable}
-use Rattle.rx_spec.specs.Labels.{SameLabels, table_modes}
+use Rattle.rx_spec.proofs.Prelude.{arith, ◌≡◌, ℕ, ◌≤◌, Bool, true, false, if◌then◌else◌, Some, None, [], length, refl}
+use Rattle.rx_spec.proofs.Prelude.{ap, sym, ◌∙◌, subst, common_steps, slice_get_past, same_Some, Contains, slice_get}
+use Rattle.rx_spec.proofs.Prelude.{Anchored, Settings, Build, dead, start_node, built_entry, power, build_settings}
+use Rattle.rx_spec.proofs.Prelude.{built_modes, Table, IsTable, SameLabels}
+use Rattle.rx_spec.specs.Labels.{table_modes}
 use Rattle.rx_spec.specs.declared.Start.{Start}
 use Rattle.lemmas_walks.proofs.SilentRows.{IsSilent, IsRow, zero_is_silent, table_ends_well, AnyNode, dead_label}
 use Rattle.lemmas_walks.proofs.SilentRows.{power_ends_well}

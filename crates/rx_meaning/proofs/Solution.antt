@@ -1,14 +1,7 @@
 -- What rows give at a place of a reading: the first success of the paths from a row, where a match has a worth.
-use Rattle.std.proofs.Common.{rules, ◌≡◌, ℕ, zero, suc, ◌+◌, ◌-◌, ◌≤◌, if◌then◌else◌, Option, Some, None, List, length}
-use Rattle.std.proofs.Common.{refl, ap, ap₂, ◌∙◌, arith}
-use Rattle.std.proofs.lemmas.Grind.{common_steps}
-use Rattle.std.proofs.lemmas.Option.{slice_get_past}
-use Rattle.std.specs.Option.{option_or}
-use Rattle.rx_spec.specs.Bytes.{contains}
-use Rattle.rx_spec.specs.Looks.{Reading, after, holds_at}
-use Rattle.rx_spec.specs.Rows.{Row}
-use Rattle.rx_spec.specs.States.{row_at}
-use Rattle.rx_spec.specs.Shallow.{AllNext, Short, IsShallow}
+use Rattle.rx_spec.proofs.Prelude.{rules, ◌≡◌, ℕ, zero, suc, ◌+◌, ◌-◌, ◌≤◌, if◌then◌else◌, Option, Some, None, List}
+use Rattle.rx_spec.proofs.Prelude.{length, refl, ap, ap₂, ◌∙◌, arith, common_steps, slice_get_past, option_or, contains}
+use Rattle.rx_spec.proofs.Prelude.{Reading, after, holds_at, Row, row_at, AllNext, Short, IsShallow}
 use Rattle.lemmas_walks.proofs.Patterns.{depth_of}
 
 -- Rows whose paths that read nothing are short, what they read, and what a match is worth, by its pattern and
@@ -49,20 +42,15 @@ module _ {V : Type 0} (x : Valued V) where
   -- other rows that give the same
   row_gives-same : (P : ℕ → Type 0) (i : ℕ) (later here others : ℕ → Option V) → ((p : ℕ) → P p → here p ≡ others p)
       → (row : Row) → AllNext P row → row_gives x i later here row ≡ row_gives x i later others row
-  row_gives-same P i later here others e (Row.Bytes set next) h = refl
   row_gives-same P i later here others e (Row.Split first second) h = ap₂ option_or (e first h.0) (e second h.1)
   row_gives-same P i later here others e (Row.Look look next) h = grind (arith, common_steps)
-  row_gives-same P i later here others e (Row.Match pattern) h = refl
-  row_gives-same P i later here others e Row.Fail h = refl
+  row_gives-same P i later here others e _ h = refl
 
   -- where nothing is read, what is given later doesn't matter
   unread : (i : ℕ) (later others here : ℕ → Option V) → after x.reading.units i ≡ None → (row : Row)
       → row_gives x i later here row ≡ row_gives x i others here row
   unread i later others here e (Row.Bytes set next) = grind (arith, common_steps)
-  unread i later others here e (Row.Split first second) = refl
-  unread i later others here e (Row.Look look next) = refl
-  unread i later others here e (Row.Match pattern) = refl
-  unread i later others here e Row.Fail = refl
+  unread i later others here e _ = refl
 
   settle-more : (i : ℕ) (later : ℕ → Option V) (n m q : ℕ) → n ≤ m → Short x.rows n q
       → settle x i later n q ≡ settle x i later m q
@@ -122,7 +110,7 @@ module _ {V : Type 0} (x : Valued V) where
   left_none zero i q g = settle-none i (λ next. None) (λ p. refl) (λ k. g k i (omega arith)) (depth_of x.rows) q
   left_none (suc m) i q g =
       settle-none i (λ next. given_left x m (i + 1) next)
-      (λ p. left_none m (i + 1) p (λ k j h. g k j (omega (arith, h)))) (λ k. g k i (omega arith)) (depth_of x.rows) q
+      (λ p. left_none m (i + 1) p (λ k j h. g k j (omega arith))) (λ k. g k i (omega arith)) (depth_of x.rows) q
 
   pub given_none : (q i : ℕ) → ((k j : ℕ) → i ≤ j → x.worth k j ≡ None) → given x q i ≡ None
   unfolding given

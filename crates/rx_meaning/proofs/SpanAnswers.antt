@@ -1,22 +1,15 @@
 -- Answers that are made of half searches depend on the span and its neighbours alone: with matches that split a
 -- character passed over, joined, one after another, and of a plan.
-use Rattle.std.proofs.lemmas.Grind.{common_steps}
-use Rattle.std.proofs.Common.{◌≡◌, ℕ, zero, suc, ◌+◌, ◌-◌, ◌≤◌, Bool, false, Some, None, Ok, Err, if◌then◌else◌, List}
-use Rattle.std.proofs.Common.{[], ◌∷◌, ◌++◌, Option, refl, ap, ap₂, sym, ◌∙◌, subst, arith}
-use Rattle.std.specs.List.{flat_map}
-use Rattle.std.specs.Prelude.{Contains, ◌==◌, ◌||◌, not}
-use Rattle.rx_spec.specs.Bytes.{AreBytes}
-use Rattle.rx_spec.specs.Queries.{Query, Match, HalfMatch, is_anchored}
-use Rattle.rx_spec.specs.Builds.{Build, power, build_settings}
-use Rattle.rx_spec.specs.Tables.{Table, IsSound}
-use Rattle.rx_spec.specs.HalfSearches.{HalfAnswer, half_search}
-use Rattle.rx_spec.specs.Overlapping.{Item, OverlappingMatches, overlapping}
-use Rattle.rx_spec.specs.Splits.{is_boundary_byte, is_split, narrower, is_narrowest, unless_split, skip_splits}
-use Rattle.rx_spec.specs.Splits.{split_limit, skips_splits, half_unsplit, item_unsplit, overlapping_unsplit}
-use Rattle.rx_spec.specs.Joining.{Answer, match_at, with_start, back_from, with_end, joined_search, join}
-use Rattle.rx_spec.specs.Iterating.{FoundMatches, is_repeat, unless_repeat, and_then, iterate_from}
-use Rattle.rx_spec.specs.Nfas.{is_always_start_anchored}
-use Rattle.rx_spec.specs.Plans.{plan_nfa, plan_build}
+use Rattle.rx_spec.proofs.Prelude.{common_steps, ◌≡◌, ℕ, zero, suc, ◌+◌, ◌-◌, ◌≤◌, Bool, false, Some, None, Ok, Err}
+use Rattle.rx_spec.proofs.Prelude.{if◌then◌else◌, List, [], ◌∷◌, ◌++◌, Option, refl, ap, ap₂, sym, ◌∙◌, subst, arith}
+use Rattle.rx_spec.proofs.Prelude.{flat_map, Contains, ◌==◌, ◌||◌, not, AreBytes, Query, Match, HalfMatch, is_anchored}
+use Rattle.rx_spec.proofs.Prelude.{Build, power, build_settings, Table, IsSound, HalfAnswer, half_search, Item}
+use Rattle.rx_spec.proofs.Prelude.{OverlappingMatches, overlapping, is_split, narrower, is_narrowest, unless_split}
+use Rattle.rx_spec.proofs.Prelude.{skip_splits, split_limit, skips_splits, half_unsplit, item_unsplit, Answer, match_at}
+use Rattle.rx_spec.proofs.Prelude.{with_start, back_from, with_end, joined_search, join, is_repeat, unless_repeat}
+use Rattle.rx_spec.proofs.Prelude.{and_then, iterate_from, is_always_start_anchored, plan_nfa, plan_build}
+use Rattle.rx_spec.specs.Splits.{is_boundary_byte}
+use Rattle.rx_spec.specs.Splits.{overlapping_unsplit}
 use Rattle.rx_spec.specs.declared.Direction.{Direction}
 use Rattle.lemmas_walks.proofs.WalkBounds.{half_met, half_in_span}
 use Rattle.lemmas_walks.proofs.Firsts.{by_test, Contains-here, Contains-there}
@@ -29,13 +22,9 @@ use Rattle.rx_meaning.proofs.SplitBounds.{half_unsplit_in_bounds}
 use Rattle.rx_meaning.proofs.JoinBounds.{join_in_bounds}
 use Rattle.rx_meaning.proofs.SpanQueries.{same_half, same_overlapping, other, is_other, to_other, same_after}
 use Rattle.rx_meaning.proofs.SpanQueries.{narrower_same, later_same, back_same}
+use Rattle.lemmas_walks.proofs.FoundLaws.{and_then-same}
 
 -- ---- with matches that split a character passed over
-
-narrowest_other : (direction : Direction) (p : Query) (haystack : List ℕ)
-    → is_narrowest direction p ≡ is_narrowest direction (other p haystack)
-narrowest_other Direction.Forward p haystack = refl
-narrowest_other Direction.Reverse p haystack = refl
 
 narrower_other : (direction : Direction) (p : Query) (haystack : List ℕ)
     → other (narrower direction p) haystack ≡ narrower direction (other p haystack)
@@ -49,7 +38,7 @@ unless_same : (direction : Direction) (p : Query) (haystack : List ℕ) (o again
 unless_same direction p haystack (Err error) again other_again split same = refl
 unless_same direction p haystack (Ok None) again other_again split same = refl
 unless_same direction p haystack (Ok (Some h)) again other_again split same =
-    grind (arith, common_steps, by_test, narrowest_other)
+    grind (arith, common_steps)
 
 module _ (t : Table) (direction : Direction) where
   abbrev search : Query → HalfAnswer
@@ -172,12 +161,6 @@ span_decides_outcome p es q r safe bytes inside other_bytes other_inside same =
 
 -- ---- one after another
 
-and_then_same : (o : Answer) (f g : Match → FoundMatches) → ((m : Match) → o ≡ Ok (Some m) → f m ≡ g m)
-    → and_then o f ≡ and_then o g
-and_then_same (Ok None) f g e = refl
-and_then_same (Ok (Some m)) f g e = grind (arith, common_steps)
-and_then_same (Err error) f g e = refl
-
 module _ (f r : Table) (sound : IsSound f) (sound_reverse : IsSound r) where
   -- what is answered lies in the span, also where the search is made again
   answer_lies : (p : Query) → AreBytes p.haystack → (last_end : Option ℕ) (o : Answer) → join f r p ≡ o → (m : Match)
@@ -189,9 +172,9 @@ module _ (f r : Table) (sound : IsSound f) (sound_reverse : IsSound r) where
       let made = λ (v : Bool). if v then join f r later else Ok (Some found) in
       by_test (is_repeat last_end found)
       (λ t. let b = join_in_bounds f r sound sound_reverse later m bytes (sym (ap made t) ∙ e) in
-      (omega (arith, b.low, b.order), b.high))
+      (omega arith, b.high))
       (λ t. let b = join_in_bounds f r sound sound_reverse p m bytes (is ∙ sym (ap made t) ∙ e) in
-      (omega (arith, b.low, b.order), b.high))
+      (omega arith, b.high))
 
   again_same : (p : Query) (haystack : List ℕ) → AreBytes p.haystack → SameSpan p (other p haystack)
       → (last_end : Option ℕ) (o : Answer) → join f r p ≡ o
@@ -201,7 +184,7 @@ module _ (f r : Table) (sound : IsSound f) (sound_reverse : IsSound r) where
   again_same p haystack bytes same last_end (Ok (Some m)) is =
       let b = join_in_bounds f r sound sound_reverse p m bytes is in
       let later = record p { start = p.start + 1 } in
-      let order : p.start ≤ p.end = omega (arith, b.low, b.order, b.high) in
+      let order : p.start ≤ p.end = omega arith in
       ap (λ (o : Answer). if is_repeat last_end m then o else Ok (Some m))
       (span_decides_join f r sound later (other later haystack) bytes
       (narrower_same p haystack same Direction.Forward order refl))
@@ -215,7 +198,7 @@ module _ (f r : Table) (sound : IsSound f) (sound_reverse : IsSound r) where
       let own = unless_repeat (join f r) p last_end (join f r p) in
       let after = λ (q : Query) (m : Match).
       iterate_from (join f r) n (record q { start = m.end }) (Some m.end) in
-      and_then_same own (after p) (after (other p haystack))
+      and_then-same own (after p) (after (other p haystack))
       (λ m e. let lies = answer_lies p bytes last_end (join f r p) refl m e in
       iterate_same n (record p { start = m.end }) haystack bytes (later_same p haystack same m.end lies.0 lies.1)
       (Some m.end))
@@ -226,4 +209,4 @@ module _ (f r : Table) (sound : IsSound f) (sound_reverse : IsSound r) where
 
 pub span_decides_iterate : SpanDecidesIterate
 span_decides_iterate f r sound sound_reverse p q bytes same =
-    grind (arith, common_steps, iterate_same, to_other, is_other)
+    grind (arith, common_steps, iterate_same)

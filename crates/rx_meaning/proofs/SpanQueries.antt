@@ -1,18 +1,9 @@
 -- What is answered depends on the span's bytes and on its two neighbours alone.
-use Rattle.std.proofs.Common.{rules, ◌≡◌, ℕ, zero, suc, ◌+◌, ◌-◌, ◌<◌, ◌≤◌, ⊎_elim, false, List, [], ◌∷◌, take, drop}
-use Rattle.std.proofs.Common.{refl, ap, sym, ◌∙◌, subst, arith}
-use Rattle.std.proofs.lemmas.Grind.{common_steps}
-use Rattle.std.proofs.lemmas.Bool.{cases_lt, eqb-false}
-use Rattle.std.proofs.lemmas.List.{take-take, drop-take, drop-drop}
-use Rattle.std.specs.Prelude.{slice_get}
-use Rattle.rx_spec.specs.Looks.{before, after}
-use Rattle.rx_spec.specs.Queries.{Query}
-use Rattle.rx_spec.specs.Machines.{Machine, Settings}
-use Rattle.rx_spec.specs.Builds.{power, build_settings}
-use Rattle.rx_spec.specs.HalfSearches.{span_bytes, half_search}
-use Rattle.rx_spec.specs.Overlapping.{overlapping}
-use Rattle.rx_spec.specs.Splits.{narrower, is_narrowest}
-use Rattle.rx_spec.specs.Joining.{back_from}
+use Rattle.rx_spec.proofs.Prelude.{rules, ◌≡◌, ℕ, zero, suc, ◌+◌, ◌-◌, ◌<◌, ◌≤◌, ⊎_elim, false, List, [], ◌∷◌, take}
+use Rattle.rx_spec.proofs.Prelude.{drop, refl, ap, sym, ◌∙◌, subst, arith, common_steps, cases_lt, eqb-false, drop-drop}
+use Rattle.rx_spec.proofs.Prelude.{slice_get, before, after, Query, Machine, Settings, power, build_settings}
+use Rattle.rx_spec.proofs.Prelude.{span_bytes, half_search, overlapping, narrower, is_narrowest, back_from}
+use Rattle.std.proofs.lemmas.List.{take-take, drop-take}
 use Rattle.rx_spec.specs.declared.Direction.{Direction}
 use Rattle.rx_meaning.specs.Bounds.{SameSpan, SpanDecides, SpanDecidesOverlapping, SpanDecidesBuild}
 
@@ -63,9 +54,7 @@ part_of q s e low order high =
     let first : s ≡ q.start + d = omega arith in
     let long : d + (e - s) ≡ e - q.start = omega arith in
     let rest = drop q.start q.haystack in
-    ap (λ n. take (e - s) (drop n q.haystack)) first ∙ ap (take (e - s)) (sym (drop-drop d q.start q.haystack))
-    ∙ sym (drop-take d (e - s) rest) ∙ ap (λ n. drop d (take n rest)) long
-    ∙ ap (drop d) (sym (take-take (e - q.start) (q.end - q.start) rest (omega arith)))
+    grind (arith, common_steps, drop-drop, drop-take, take-take)
 
 -- the query of another haystack
 abbrev pub other : Query → List ℕ → Query
@@ -84,7 +73,7 @@ module _ (p : Query) (haystack : List ℕ) (same : SameSpan p (other p haystack)
       ∙ in_span (other p haystack) o low high
 
   pub same_after : (o : ℕ) → p.start ≤ o → o ≤ p.end → after p.haystack o ≡ after haystack o
-  same_after o low high = grind (arith, common_steps, same_byte, cases_lt)
+  same_after o low high = grind (arith, common_steps, same_byte)
 
   same_bytes : (s e : ℕ) → p.start ≤ s → s ≤ e → e ≤ p.end
       → take (e - s) (drop s p.haystack) ≡ take (e - s) (drop s haystack)
@@ -99,7 +88,7 @@ module _ (p : Query) (haystack : List ℕ) (same : SameSpan p (other p haystack)
   -- narrower by one
   pub narrower_same : (direction : Direction) → p.start ≤ p.end → is_narrowest direction p ≡ false
       → SameSpan (narrower direction p) (other (narrower direction p) haystack)
-  narrower_same Direction.Forward order wide = search (rules, same_bytes, no_bytes, cases_lt, same_after)
+  narrower_same Direction.Forward order wide = search (rules, same_bytes, same_after)
   narrower_same Direction.Reverse order wide = record {
     start = refl;
     end = refl;

@@ -1,18 +1,11 @@
 -- Where the answers lie of searches that pass over matches that split a character, and of two searches joined.
-use Rattle.std.proofs.lemmas.Grind.{common_steps}
-use Rattle.std.proofs.Common.{◌≡◌, ℕ, zero, suc, ◌-◌, ◌≤◌, ◌⊎◌, inl, ⊎_elim, Bool, true, false, if◌then◌else◌, Some}
-use Rattle.std.proofs.Common.{None, Ok, Err, List, [], ◌∷◌, refl, subst, arith}
-use Rattle.std.proofs.lemmas.Bool.{eqb-false, or_parts}
-use Rattle.std.proofs.lemmas.List.Elements.{Contains-append_cases}
-use Rattle.std.specs.Prelude.{Contains}
-use Rattle.std.specs.List.{flat_map}
-use Rattle.rx_spec.specs.Bytes.{AreBytes}
-use Rattle.rx_spec.specs.Queries.{Query, IsFit, HalfMatch, MatchError, is_anchored}
-use Rattle.rx_spec.specs.Tables.{Table, IsSound}
-use Rattle.rx_spec.specs.HalfSearches.{HalfAnswer, half_search}
-use Rattle.rx_spec.specs.Overlapping.{Item, Ending, overlapping}
-use Rattle.rx_spec.specs.Splits.{is_split, narrower, is_narrowest, unless_split, skip_splits, split_limit, skips_splits}
-use Rattle.rx_spec.specs.Splits.{item_unsplit, items_unsplit}
+use Rattle.rx_spec.proofs.Prelude.{common_steps, ◌≡◌, ℕ, zero, suc, ◌-◌, ◌≤◌, ◌⊎◌, inl, ⊎_elim, Bool, true, false}
+use Rattle.rx_spec.proofs.Prelude.{if◌then◌else◌, Some, None, Ok, Err, List, [], ◌∷◌, refl, subst, arith}
+use Rattle.rx_spec.proofs.Prelude.{Contains-append_cases, Contains, flat_map, AreBytes, Query, IsFit, HalfMatch}
+use Rattle.rx_spec.proofs.Prelude.{MatchError, is_anchored, Table, IsSound, HalfAnswer, half_search, Item, Ending}
+use Rattle.rx_spec.proofs.Prelude.{overlapping, is_split, narrower, is_narrowest, unless_split, skip_splits}
+use Rattle.rx_spec.proofs.Prelude.{split_limit, skips_splits, item_unsplit}
+use Rattle.rx_spec.specs.Splits.{items_unsplit}
 use Rattle.rx_spec.specs.declared.Direction.{Direction}
 use Rattle.lemmas_walks.proofs.WalkBounds.{half_met}
 use Rattle.lemmas_walks.proofs.Firsts.{by_test, Contains-here, Contains-there, Contains-nil}
@@ -26,18 +19,18 @@ use Rattle.rx_meaning.proofs.TableBounds.{half_in_bounds, overlapping_in_bounds,
 -- the span of a narrower query lies in the span
 narrower_bounds : (direction : Direction) (q : Query) (n : ℕ) (h : HalfMatch) → IsInBounds (narrower direction q) n h
     → IsInBounds q n h
-narrower_bounds Direction.Forward q n h b = record { low = omega (arith, b.low); high = b.high; pattern = b.pattern }
-narrower_bounds Direction.Reverse q n h b = record { low = b.low; high = omega (arith, b.high); pattern = b.pattern }
+narrower_bounds Direction.Forward q n h b = record { low = omega arith; high = b.high; pattern = b.pattern }
+narrower_bounds Direction.Reverse q n h b = record { low = b.low; high = omega arith; pattern = b.pattern }
 
 narrower_names : (direction : Direction) (q : Query) (byte offset : ℕ) → IsNamed (narrower direction q) byte offset
     → IsNamed q byte offset
-narrower_names Direction.Forward q byte offset b = record { low = omega (arith, b.low); high = b.high; there = b.there }
-narrower_names Direction.Reverse q byte offset b = record { low = b.low; high = omega (arith, b.high); there = b.there }
+narrower_names Direction.Forward q byte offset b = record { low = omega arith; high = b.high; there = b.there }
+narrower_names Direction.Reverse q byte offset b = record { low = b.low; high = omega arith; there = b.there }
 
 narrower_fits : (direction : Direction) (q : Query) → q.start ≤ q.end → is_narrowest direction q ≡ false → IsFit q
     → IsFit (narrower direction q)
 narrower_fits Direction.Forward q order wide fit = record { within = fit.within; ordered = omega arith }
-narrower_fits Direction.Reverse q order wide fit = grind (arith, common_steps, eqb-false)
+narrower_fits Direction.Reverse q order wide fit = grind (arith, common_steps)
 
 -- what is told was told by the search, or by the one that is made again
 module _ (direction : Direction) (q : Query) (again : HalfAnswer) where
@@ -49,14 +42,14 @@ module _ (direction : Direction) (q : Query) (again : HalfAnswer) where
       → (o ≡ Ok (Some h)) ⊎ (again ≡ Ok (Some h))
   told_again (Err error) h e = inl e
   told_again (Ok None) h e = inl e
-  told_again (Ok (Some x)) h e = grind (arith, common_steps, by_test)
+  told_again (Ok (Some x)) h e = grind (arith, common_steps)
 
   error_again : (o : HalfAnswer) (error : MatchError) → unless_split direction q o again ≡ Err error
       → (o ≡ Err error)
       ⊎ ((x : HalfMatch) × (o ≡ Ok (Some x)) × (is_narrowest direction q ≡ false) × (again ≡ Err error))
   error_again (Err other) error e = inl e
   error_again (Ok None) error e = inl e
-  error_again (Ok (Some x)) error e = grind (arith, common_steps, by_test, or_parts)
+  error_again (Ok (Some x)) error e = grind (arith, common_steps)
 
 module _ (t : Table) (sound : IsSound t) (direction : Direction) where
   abbrev search : Query → HalfAnswer

@@ -1,19 +1,10 @@
 -- What the start rows of an NFA give: each pattern's entry, the start of all, and the unanchored one.
-use Rattle.std.proofs.lemmas.Grind.{common_steps}
-use Rattle.std.proofs.Common.{◌≡◌, ℕ, zero, suc, ◌+◌, ◌<◌, ◌≤◌, true, false, if◌then◌else◌, Option, None, List, [], ◌∷◌}
-use Rattle.std.proofs.Common.{length, slice_get, refl, ap, sym, ◌∙◌, subst, arith}
-use Rattle.std.proofs.lemmas.Bool.{agree_below_at}
-use Rattle.std.proofs.lemmas.List.Elements.{All-head, All-tail}
-use Rattle.std.proofs.lemmas.Option.{slice_get_past, slice_get-get_or}
-use Rattle.std.specs.Prelude.{All, get_or}
-use Rattle.std.specs.Option.{option_or, option_and_then}
-use Rattle.std.specs.List.{range_with_len}
-use Rattle.rx_spec.specs.Bytes.{AreBytes, contains, all_bytes}
-use Rattle.rx_spec.specs.Expressions.{Expression, IsLoopSafe}
-use Rattle.rx_spec.specs.Ends.{ends}
-use Rattle.rx_spec.specs.Found.{first_of}
-use Rattle.rx_spec.specs.Rows.{Row, compile}
-use Rattle.rx_spec.specs.Nfas.{patterns_from, start_of_all, lead_in}
+use Rattle.rx_spec.proofs.Prelude.{common_steps, ◌≡◌, ℕ, zero, suc, ◌+◌, ◌<◌, ◌≤◌, true, false, if◌then◌else◌, Option}
+use Rattle.rx_spec.proofs.Prelude.{None, List, [], ◌∷◌, length, slice_get, refl, ap, sym, ◌∙◌, subst, arith}
+use Rattle.rx_spec.proofs.Prelude.{agree_below_at, All-head, All-tail, slice_get_past, slice_get-get_or, All, get_or}
+use Rattle.rx_spec.proofs.Prelude.{option_or, option_and_then, range_with_len, AreBytes, contains, all_bytes}
+use Rattle.rx_spec.proofs.Prelude.{Expression, IsLoopSafe, ends, first_of, Row, compile, patterns_from, start_of_all}
+use Rattle.rx_spec.proofs.Prelude.{lead_in}
 use Rattle.lemmas_walks.proofs.RowPlaces.{Stands, stands-left, stands-right}
 use Rattle.rx_meaning.proofs.FirstSuccess.{first_of-alike, first_of-cons, first_of-nil, first_of-single}
 use Rattle.rx_meaning.proofs.Solution.{Valued, read_by, given, given_as}
@@ -47,10 +38,7 @@ module _ {V : Type 0} (x : Valued V) where
       let front = stands-left x.rows base (Row.Match k ∷ part.rows) others.rows stands in
       let means = compile_means x e (All-head IsLoopSafe e es safe) in
       let here : k ≡ k + 0 = omega arith in
-      means.entry (base + 1) base front.1 i within
-      ∙ first_of-alike (λ j. given x base j) (λ j. x.worth k j) (ends x.reading e i)
-      (λ j. given_as x base j (Row.Match k) front.0)
-      ∙ ap (λ m. pattern_worth i m e) here
+      grind (arith, common_steps, first_of-alike, given, given_as)
   entry_gives (e ∷ es) safe base k stands i within (suc n) =
       let part = compile e (base + 1) base in
       let others = patterns_from (base + 1 + length part.rows) (k + 1) es in
@@ -64,7 +52,7 @@ module _ {V : Type 0} (x : Valued V) where
   pub start_of_all_gives : (entries : List ℕ) (base : ℕ) → Stands x.rows base (start_of_all base entries).rows → (i : ℕ)
       → given x (start_of_all base entries).entry i ≡ first_of (λ q. given x q i) entries
   unfolding start_of_all
-  start_of_all_gives [] base stands i = grind (arith, common_steps, given_as, first_of-nil, given)
+  start_of_all_gives [] base stands i = grind (arith, common_steps, given_as, first_of-nil)
   start_of_all_gives (entry ∷ []) base stands i = sym (first_of-single (λ q. given x q i) entry)
   start_of_all_gives (entry ∷ (next ∷ entries)) base stands i =
       let others = start_of_all base (next ∷ entries) in
@@ -81,13 +69,13 @@ module _ {V : Type 0} (x : Valued V) where
       → given x base i ≡ first_of (λ p. given x anchored p) (range_with_len i (suc m))
   unfolding first_of
   lead_in_gives base anchored stands bytes zero i e =
-      grind (arith, common_steps, given_as, given, read_by, slice_get_past)
+      grind (arith, common_steps, given_as, slice_get_past)
   lead_in_gives base anchored stands bytes (suc m) i e =
       let byte = get_or x.reading.units i 0 in
-      let within : i < length x.reading.units = omega (arith, e) in
+      let within : i < length x.reading.units = omega arith in
       given_as x base i (Row.Split anchored (base + 1)) stands.0
       ∙ ap (option_or (given x anchored i))
       (given_as x (base + 1) i (Row.Bytes all_bytes base) stands.1.0
       ∙ ap (λ b. read_by all_bytes b (given x base (i + 1))) (slice_get-get_or x.reading.units i 0 within)
       ∙ ap (λ v. if v then given x base (i + 1) else None) (any_byte byte (bytes i 0 within))
-      ∙ lead_in_gives base anchored stands bytes m (i + 1) (omega (arith, e)))
+      ∙ lead_in_gives base anchored stands bytes m (i + 1) (omega arith))

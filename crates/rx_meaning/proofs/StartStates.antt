@@ -1,41 +1,30 @@
 -- The state where a search of a plan's build begins.
-use Rattle.std.proofs.lemmas.Grind.{common_steps}
-use Rattle.std.proofs.Common.{◌≡◌, ℕ, suc, ◌+◌, ◌-◌, ◌<◌, ◌≤◌, ◌⊎◌, inl, inr, ⊎_elim, false, Option, Some, None, Ok, []}
-use Rattle.std.proofs.Common.{◌∷◌, length, refl, ap, sym, ◌∙◌, arith}
-use Rattle.std.specs.Option.{option_and_then}
-use Rattle.rx_spec.specs.Queries.{Query, HalfMatch, reading, in_order}
-use Rattle.rx_spec.specs.Nfas.{Nfa}
-use Rattle.rx_spec.specs.Contexts.{facts_of, start_of, start_facts}
-use Rattle.rx_spec.specs.States.{State, dead_state, start_state, state_at, fresh}
-use Rattle.rx_spec.specs.Builds.{Build, Node, nfa_start, start_node, power, build_settings}
-use Rattle.rx_spec.specs.Plans.{plan_build}
-use Rattle.rx_spec.specs.Starts.{start_row}
-use Rattle.rx_spec.specs.HalfSearches.{whole_walk, beside, first_offset, walk}
-use Rattle.rx_spec.specs.Looks.{before}
+use Rattle.rx_spec.proofs.Prelude.{common_steps, ◌≡◌, ℕ, suc, ◌+◌, ◌-◌, ◌<◌, ◌≤◌, ◌⊎◌, inl, inr, ⊎_elim, false, Option}
+use Rattle.rx_spec.proofs.Prelude.{Some, None, Ok, [], ◌∷◌, length, refl, ap, sym, ◌∙◌, arith, option_and_then, Query}
+use Rattle.rx_spec.proofs.Prelude.{HalfMatch, reading, in_order, Nfa, facts_of, start_of, State, dead_state}
+use Rattle.rx_spec.proofs.Prelude.{start_state, state_at, fresh, Build, nfa_start, power, build_settings, plan_build}
+use Rattle.rx_spec.proofs.Prelude.{start_row, whole_walk, beside, first_offset, walk, before}
+use Rattle.rx_spec.specs.Contexts.{start_facts}
 use Rattle.rx_spec.specs.declared.Direction.{Direction}
 use Rattle.rx_spec.specs.declared.Start.{Start}
 use Rattle.lemmas_walks.proofs.Facts.{start_knows}
-use Rattle.lemmas_walks.proofs.HalfSearches.{IsStarted, not_refused, going, half_walks, Begun, half_begun, build_start}
+use Rattle.lemmas_walks.proofs.HalfSearches.{IsStarted, Begun, half_begun}
 use Rattle.lemmas_walks.proofs.ReadUnits.{units_from, units_from-alike, units_read, place_of, first_place}
 use Rattle.lemmas_walks.proofs.ReadUnits.{first_offset_is, beside_at_place}
 use Rattle.lemmas_walks.proofs.Walking.{state_walk}
 use Rattle.rx_meaning.specs.Preference.{build_half_search}
-use Rattle.rx_meaning.proofs.FirstSuccess.{or_none, first_of-nil, first_of-single}
+use Rattle.rx_meaning.proofs.FirstSuccess.{first_of-nil, first_of-single}
 use Rattle.rx_meaning.proofs.Solution.{given}
 use Rattle.rx_meaning.proofs.Closures.{first_given}
 use Rattle.rx_meaning.proofs.Scan.{read_in, valued, StandsAt, Asked, scan_of}
 use Rattle.rx_meaning.proofs.StateAssertions.{state_gives}
 use Rattle.rx_meaning.proofs.LastWalks.{Foretold, walk_tells}
+use Rattle.lemmas_walks.proofs.Ranges.{or_none}
 
 -- a start row's state; where there is none, the dead one
 abbrev pub first_state : Nfa → Option ℕ → Start → State
 first_state nfa None start = dead_state
 first_state nfa (Some row) start = start_state nfa row start
-
-runs_first : (nfa : Nfa) (row : Option ℕ) (start : Start)
-    → start_node nfa row start ≡ Node.Running (first_state nfa row start)
-runs_first nfa None start = refl
-runs_first nfa (Some row) start = refl
 
 -- where a build's search of a query begins
 abbrev pub query_state : Build → Direction → Query → State
@@ -48,7 +37,7 @@ started_walk : (b : Build) (direction : Direction) (t : ℕ) (q : Query) → q.s
     → whole_walk (power b) direction q (start_row (power b) (build_settings b) (beside direction q) q.mode)
     ≡ state_walk b direction q.earliest (query_state b direction q) (first_offset direction q) None
     (units_from (reading direction t q.haystack) (first_place direction q) (suc (q.end - q.start)))
-started_walk b direction t q order inside start = grind (arith, common_steps, build_start, runs_first, units_read)
+started_walk b direction t q order inside start = grind (arith, common_steps, units_read)
 
 pub started_search : (b : Build) (direction : Direction) (t : ℕ) (q : Query) → q.start ≤ q.end
     → q.end ≤ length q.haystack → IsStarted (build_settings b) (beside direction q) q.mode
@@ -56,7 +45,7 @@ pub started_search : (b : Build) (direction : Direction) (t : ℕ) (q : Query) �
     ≡ state_walk b direction q.earliest (query_state b direction q) (first_offset direction q) None
     (units_from (reading direction t q.haystack) (first_place direction q) (suc (q.end - q.start)))
 started_search b direction t q order inside start =
-    grind (arith, common_steps, half_walks, going, not_refused, started_walk)
+    grind (arith, common_steps, started_walk)
 
 module _ (a : Asked) (direction : Direction) where
   abbrev nfa : Nfa
@@ -145,7 +134,7 @@ module _ (a : Asked) (direction : Direction) where
       let s = begin_state in
       ⊎_elim (λ (d : (q.end < q.start) × (h ≡ None)). inl d)
       (λ (g : Begun (power c.build) (build_settings c.build) direction q h).
-      let all : i + n ≡ limit + 1 = omega (arith, count g.order) in
+      let all : i + n ≡ limit + 1 = omega arith in
       let units = units_from (read_in c) i n in
       let walked : state_walk c.build direction false s (place_of direction (length q.haystack) i) None units ≡ Ok h
       = ap (λ o. state_walk c.build direction false s o None units) (first_offset_is direction q g.order a.inside)

@@ -1,17 +1,11 @@
 -- Deciding a state's assertions by the next unit keeps what the state gives.
-use Rattle.std.proofs.Common.{rules, ◌≡◌, ℕ, Bool, true, false, if◌then◌else◌, Option, List, [], ◌∷◌, refl, ap, ◌∙◌}
-use Rattle.std.proofs.Common.{arith}
-use Rattle.std.proofs.lemmas.Grind.{common_steps}
-use Rattle.std.proofs.lemmas.Bool.{or_parts, cases_lt}
-use Rattle.std.proofs.lemmas.Option.{slice_get_past, unwrap_or-slice_get}
-use Rattle.std.specs.Prelude.{Contains}
-use Rattle.std.specs.List.{flat_map, list_any, AllByRecursion as Every}
-use Rattle.rx_spec.specs.Looks.{Reading, before, after, holds_at}
-use Rattle.rx_spec.specs.Rows.{Row}
-use Rattle.rx_spec.specs.Nfas.{Nfa}
-use Rattle.rx_spec.specs.Contexts.{Facts, no_facts, facts_of, unit_facts, both, holds_read, facts_kept}
-use Rattle.rx_spec.specs.States.{row_at, Passing, reach_by, reach, closure, firsts, State, is_look_row, state_at}
-use Rattle.rx_spec.specs.States.{decided_rows, holds_before}
+use Rattle.rx_spec.proofs.Prelude.{rules, ◌≡◌, ℕ, Bool, true, false, if◌then◌else◌, Option, List, [], ◌∷◌, ap, ◌∙◌}
+use Rattle.rx_spec.proofs.Prelude.{arith, common_steps, or_parts, slice_get_past, Contains, flat_map, list_any, Reading}
+use Rattle.rx_spec.proofs.Prelude.{before, after, holds_at, Row, Nfa, Facts, no_facts, facts_of, unit_facts, both}
+use Rattle.rx_spec.proofs.Prelude.{holds_read, facts_kept, row_at, Passing, reach, closure, firsts, State, is_look_row}
+use Rattle.rx_spec.proofs.Prelude.{state_at, decided_rows, holds_before}
+use Rattle.std.proofs.lemmas.Option.{unwrap_or-slice_get}
+use Rattle.std.specs.List.{AllByRecursion as Every}
 use Rattle.rx_spec.specs.declared.Look.{Look}
 use Rattle.lemmas_walks.proofs.Facts.{facts_decide, kept_last, kept_cover}
 use Rattle.lemmas_walks.proofs.ReadUnits.{unit_at}
@@ -24,7 +18,7 @@ use Rattle.rx_meaning.proofs.Scan.{Scan, read_in, valued, StandsAt, unit_facts_o
 -- an assertion's row is one of the rows
 look_there : (rows : List Row) (q : ℕ) (look : Look) (next : ℕ) → row_at rows q ≡ Row.Look look next
     → Contains rows (Row.Look look next)
-look_there rows q look next e = search (rules, unwrap_or-slice_get, slice_get_past, cases_lt)
+look_there rows q look next e = search (rules, unwrap_or-slice_get, slice_get_past)
 
 -- the facts of the bytes beside a place decide it, in the order of reading
 read_decides : (r : Reading) (look : Look) (i : ℕ)
@@ -32,19 +26,10 @@ read_decides : (r : Reading) (look : Look) (i : ℕ)
     (facts_of r.line_terminator (after r.units i)) ≡ holds_at r look i
 read_decides r look i = grind (arith, common_steps, facts_decide)
 
--- a row that ends a closure and is no assertion is left as it is
-ready_stays : (pass : Passing) (reached : ℕ → List ℕ) (q : ℕ) (row : Row) → IsReady Passing.Standing row
-    → is_look_row row ≡ false → reach_by pass reached q row ≡ q ∷ []
-ready_stays pass reached q (Row.Bytes set next) h e = refl
-ready_stays pass reached q (Row.Split first second) h e = absurd h
-ready_stays pass reached q (Row.Look look next) h e = absurd (cc)
-ready_stays pass reached q (Row.Match pattern) h e = refl
-ready_stays pass reached q Row.Fail h e = absurd h
-
 closure_stays : (rows : List Row) (pass : Passing) (q : ℕ) → IsReady Passing.Standing (row_at rows q)
     → is_look_row (row_at rows q) ≡ false → closure rows pass q ≡ q ∷ []
 unfolding reach
-closure_stays rows pass q h e = grind (arith, common_steps, ready_stays)
+closure_stays rows pass q h e = grind (arith, common_steps)
 
 module _ {V : Type 0} (c : Scan) (worth : ℕ → ℕ → Option V) where
   abbrev nfa : Nfa
@@ -107,9 +92,9 @@ module _ {V : Type 0} (c : Scan) (worth : ℕ → ℕ → Option V) where
       let context : s.context ≡ known = ap (λ v. if v then known else no_facts) e in
       let test = Passing.Tested (holds_before nfa (unit_at (read_in c) i) s) in
       closed_gives x test i (kept_decides i s.context context) s.rows
-  decided_from i roots label false e = search (rules, undecided, unit_at, read_in, closed_ready)
+  decided_from i roots label false e = search (rules, undecided, closed_ready)
 
   pub decided_gives : (i : ℕ) (s : State) → StandsAt c s i
       → first_given (valued c worth) i (decided_rows c.build.nfa (unit_at (read_in c) i) s)
       ≡ first_given (valued c worth) i s.rows
-  decided_gives i s at = grind (arith, common_steps, first_given, unit_at, read_in, decided_from)
+  decided_gives i s at = grind (arith, common_steps, decided_from)

@@ -1,62 +1,34 @@
 -- One step of a state, at a place of a reading: what the state gives there is what the next one gives one place
 -- on, and what its label is worth here.
-use Rattle.std.proofs.Common.{arith, ◌≡◌, ℕ, ◌+◌, Bool, true, false, Option, Some, None, List, [], ◌∷◌, ◌++◌, refl, ap}
-use Rattle.std.proofs.Common.{ap₂, sym, ◌∙◌, subst}
-use Rattle.std.proofs.lemmas.Grind.{common_steps}
-use Rattle.std.specs.Prelude.{slice_get}
-use Rattle.std.specs.Option.{option_or}
-use Rattle.std.specs.List.{flat_map}
-use Rattle.rx_spec.specs.Bytes.{unit_of}
-use Rattle.rx_spec.specs.Looks.{after}
-use Rattle.rx_spec.specs.Found.{first_of}
-use Rattle.rx_spec.specs.Rows.{Row}
-use Rattle.rx_spec.specs.Nfas.{Nfa}
-use Rattle.rx_spec.specs.Contexts.{unit_facts}
-use Rattle.rx_spec.specs.States.{row_at, Passing, State, decided_rows, holds_before, pattern_of, is_match_row}
-use Rattle.rx_spec.specs.States.{to_first_match, cut, target, step}
+use Rattle.rx_spec.proofs.Prelude.{arith, ◌≡◌, ℕ, ◌+◌, Bool, true, false, Option, Some, None, List, [], ◌∷◌, ◌++◌, refl}
+use Rattle.rx_spec.proofs.Prelude.{ap, ap₂, sym, ◌∙◌, subst, common_steps, slice_get, option_or, flat_map, unit_of}
+use Rattle.rx_spec.proofs.Prelude.{after, first_of, Row, Nfa, unit_facts, row_at, Passing, State, decided_rows}
+use Rattle.rx_spec.proofs.Prelude.{holds_before, pattern_of, is_match_row, to_first_match, cut, target, step}
 use Rattle.rx_spec.specs.declared.Look.{Look}
 use Rattle.rx_spec.specs.declared.MatchKind.{MatchKind}
 use Rattle.lemmas_walks.proofs.Firsts.{by_test}
 use Rattle.lemmas_walks.proofs.ReadUnits.{unit_at}
-use Rattle.rx_meaning.proofs.FirstSuccess.{or_assoc, or_none, first_of-nil, first_of-cons, first_of-single}
-use Rattle.rx_meaning.proofs.FirstSuccess.{first_of-append, first_of-none}
+use Rattle.rx_meaning.proofs.FirstSuccess.{first_of-nil, first_of-cons, first_of-single, first_of-append, first_of-none}
 use Rattle.rx_meaning.proofs.Solution.{Valued, read_by, given, gives_at, given_solves}
 use Rattle.rx_meaning.proofs.Closures.{IsReady, AllReady, closed_ready, first_given}
 use Rattle.rx_meaning.proofs.Scan.{Scan, read_in, valued, StandsAt, step_at}
 use Rattle.rx_meaning.proofs.StateAssertions.{state_gives, decided_gives}
+use Rattle.lemmas_walks.proofs.FirstMatch.{first_here, first_later, pattern_of-none}
+use Rattle.lemmas_walks.proofs.Ranges.{or_assoc, or_none}
 
 -- what a label is worth at a place, by the first pattern that is worth something
 abbrev pub label_worth : {V : Type 0} → (ℕ → ℕ → Option V) → ℕ → List ℕ → Option V
 label_worth worth i ks = first_of (λ k. worth k i) ks
 
 matched_row : (row : Row) → is_match_row row ≡ true → (k : ℕ) × (row ≡ Row.Match k)
-matched_row (Row.Bytes set next) e = absurd (cc)
-matched_row (Row.Split first second) e = absurd (cc)
-matched_row (Row.Look look next) e = absurd (cc)
 matched_row (Row.Match k) e = (k, refl)
-matched_row Row.Fail e = absurd (cc)
-
-unmatched_row : (row : Row) → is_match_row row ≡ false → pattern_of row ≡ []
-unmatched_row (Row.Bytes set next) e = refl
-unmatched_row (Row.Split first second) e = refl
-unmatched_row (Row.Look look next) e = refl
-unmatched_row (Row.Match k) e = absurd (cc)
-unmatched_row Row.Fail e = refl
+matched_row _ e = absurd (cc)
 
 -- ---- what is cut off after a match
 
 module _ (rows : List Row) where
   abbrev pub matched : List ℕ → List ℕ
   matched qs = flat_map (λ q. pattern_of (row_at rows q)) qs
-
-  cut_here : (q : ℕ) (qs : List ℕ) → is_match_row (row_at rows q) ≡ true → to_first_match rows (q ∷ qs) ≡ q ∷ []
-  unfolding to_first_match
-  cut_here q qs e = rw e refl
-
-  cut_later : (q : ℕ) (qs : List ℕ) → is_match_row (row_at rows q) ≡ false
-      → to_first_match rows (q ∷ qs) ≡ q ∷ to_first_match rows qs
-  unfolding to_first_match
-  cut_later q qs e = rw e refl
 
   -- the first pattern stays
   head_cut : (qs : List ℕ) → slice_get (matched (to_first_match rows qs)) 0 ≡ slice_get (matched qs) 0
@@ -65,11 +37,11 @@ module _ (rows : List Row) where
   head_cut (q ∷ qs) =
       by_test (is_match_row (row_at rows q))
       (λ e. let k = matched_row (row_at rows q) e in
-      ap (λ l. slice_get (matched l) 0) (cut_here q qs e)
+      ap (λ l. slice_get (matched l) 0) (first_here rows q qs e)
       ∙ ap (λ row. slice_get (pattern_of row ++ []) 0) k.1
       ∙ sym (ap (λ row. slice_get (pattern_of row ++ matched qs) 0) k.1))
-      (λ e. let none = unmatched_row (row_at rows q) e in
-      ap (λ l. slice_get (matched l) 0) (cut_later q qs e)
+      (λ e. let none = pattern_of-none (row_at rows q) e in
+      ap (λ l. slice_get (matched l) 0) (first_later rows q qs e)
       ∙ ap (λ ks. slice_get (ks ++ matched (to_first_match rows qs)) 0) none ∙ head_cut qs
       ∙ sym (ap (λ ks. slice_get (ks ++ matched qs) 0) none))
 
@@ -80,10 +52,12 @@ module _ (rows : List Row) where
   uncut (q ∷ qs) h =
       by_test (is_match_row (row_at rows q))
       (λ e. let k = matched_row (row_at rows q) e in
-      absurd (no_match k.0 (sym (ap (λ l. matched l) (cut_here q qs e) ∙ ap (λ row. pattern_of row ++ []) k.1) ∙ h)))
-      (λ e. let none = unmatched_row (row_at rows q) e in
-      let later = ap (λ l. matched l) (cut_later q qs e) ∙ ap (λ ks. ks ++ matched (to_first_match rows qs)) none in
-      cut_later q qs e ∙ ap (λ (l : List ℕ). q ∷ l) (uncut qs (sym later ∙ h)))
+      let here = ap (λ l. matched l) (first_here rows q qs e) ∙ ap (λ row. pattern_of row ++ []) k.1 in
+      absurd (no_match k.0 (sym here ∙ h)))
+      (λ e. let none = pattern_of-none (row_at rows q) e in
+      let later = ap (λ l. matched l) (first_later rows q qs e)
+      ∙ ap (λ ks. ks ++ matched (to_first_match rows qs)) none in
+      first_later rows q qs e ∙ ap (λ (l : List ℕ). q ∷ l) (uncut qs (sym later ∙ h)))
     where
       no_match : (k : ℕ) → (k ∷ []) ++ [] ≡ [] → ⊥
       no_match k e = cc
@@ -120,7 +94,7 @@ module _ {V : Type 0} (c : Scan) (worth : ℕ → ℕ → Option V) where
   target_gives : (set next i : ℕ) (byte : Option ℕ)
       → read_by set byte (given x next (i + 1)) ≡ first_given x (i + 1) (target (unit_of byte) (Row.Bytes set next))
   target_gives set next i None = sym (first_of-nil (λ (q : ℕ). given x q (i + 1)))
-  target_gives set next i (Some b) = grind (arith, common_steps, given, first_given, first_of-single, first_of-nil)
+  target_gives set next i (Some b) = grind (arith, common_steps, first_of-single, first_of-nil)
 
   -- a row gives what the row to which it leads gives one place on, or what its match is worth here
   row_reads : (holds : Look → Bool) (i : ℕ) (row : Row) → IsReady (Passing.Tested holds) row
@@ -129,10 +103,8 @@ module _ {V : Type 0} (c : Scan) (worth : ℕ → ℕ → Option V) where
   unfolding first_of
   row_reads holds i (Row.Bytes set next) ready =
       grind (arith, common_steps, target_gives, or_none, first_given, unit_at, read_in)
-  row_reads holds i (Row.Split first second) ready = absurd ready
-  row_reads holds i (Row.Look look next) ready = absurd ready
   row_reads holds i (Row.Match k) ready = sym (or_none (worth k i))
-  row_reads holds i Row.Fail ready = absurd ready
+  row_reads holds i _ ready = absurd ready
 
   module _ (holds : Look → Bool) (i : ℕ) where
     abbrev Ready : List ℕ → Type 0
@@ -202,7 +174,7 @@ module _ {V : Type 0} (c : Scan) (worth : ℕ → ℕ → Option V) where
     cut_other q qs left ready e h =
         let row = row_at nfa.rows q in
         let on = target (unit_at (read_in c) i) row in
-        let none = unmatched_row row e in
+        let none = pattern_of-none row e in
         first_reads q qs ready
         ∙ ap (λ ks. option_or (option_or (first_given x (i + 1) on) (label_worth worth i ks)) (first_given x i qs)) none
         ∙ ap (λ v. option_or (option_or (first_given x (i + 1) on) v) (first_given x i qs))
@@ -221,8 +193,8 @@ module _ {V : Type 0} (c : Scan) (worth : ℕ → ℕ → Option V) where
     cut_gives all [] ready = refl
     cut_gives all (q ∷ qs) ready =
         by_test (is_match_row (row_at nfa.rows q))
-        (λ e. subst (Cut (q ∷ qs)) (sym (cut_here nfa.rows q qs e)) (cut_match all q qs ready e))
-        (λ e. subst (Cut (q ∷ qs)) (sym (cut_later nfa.rows q qs e))
+        (λ e. subst (Cut (q ∷ qs)) (sym (first_here nfa.rows q qs e)) (cut_match all q qs ready e))
+        (λ e. subst (Cut (q ∷ qs)) (sym (first_later nfa.rows q qs e))
         (cut_other q qs (to_first_match nfa.rows qs) ready e (cut_gives all qs ready.1)))
 
   -- ---- the step

@@ -1,23 +1,16 @@
 -- Where the answers of searches over sound tables lie.
-use Rattle.std.proofs.lemmas.Grind.{common_steps}
-use Rattle.std.proofs.Common.{◌≡◌, ◌≢◌, ℕ, zero, suc, ◌+◌, ◌-◌, ◌<◌, ◌≤◌, ◌⊎◌, inl, inr, ⊎_elim, true, Option, Some}
-use Rattle.std.proofs.Common.{None, Ok, Err, List, [], ◌∷◌, length, take, get_or, refl, ap, sym, ◌∙◌, subst, arith}
-use Rattle.std.proofs.lemmas.Option.{none-some}
-use Rattle.std.proofs.lemmas.List.Elements.{Contains-get_or}
-use Rattle.std.specs.Prelude.{Contains}
-use Rattle.rx_spec.specs.Bytes.{AreBytes, contains, unit_of}
-use Rattle.rx_spec.specs.Looks.{before}
-use Rattle.rx_spec.specs.Queries.{Anchored, Query, IsFit, HalfMatch, MatchError, reading}
-use Rattle.rx_spec.specs.Machines.{Label, Settings, run}
-use Rattle.rx_spec.specs.Starts.{StartError, mode_error, start_error, start_context, start_row}
-use Rattle.rx_spec.specs.Tables.{Table, IsTable, IsSound}
-use Rattle.rx_spec.specs.HalfSearches.{units_of, beside, beside_offset, first_offset, unit_offset, first_match}
-use Rattle.rx_spec.specs.HalfSearches.{match_error, half_search}
-use Rattle.rx_spec.specs.Overlapping.{Item, Ending, overlapping}
+use Rattle.rx_spec.proofs.Prelude.{common_steps, ◌≡◌, ◌≢◌, ℕ, zero, suc, ◌+◌, ◌-◌, ◌<◌, ◌≤◌, ◌⊎◌, inl, inr, ⊎_elim}
+use Rattle.rx_spec.proofs.Prelude.{true, Option, Some, None, Ok, Err, List, [], ◌∷◌, length, take, get_or, refl, ap}
+use Rattle.rx_spec.proofs.Prelude.{sym, ◌∙◌, subst, arith, none-some, Contains-get_or, Contains, AreBytes, contains}
+use Rattle.rx_spec.proofs.Prelude.{unit_of, before, Anchored, Query, IsFit, HalfMatch, MatchError, reading, Label}
+use Rattle.rx_spec.proofs.Prelude.{Settings, run, StartError, mode_error, start_error, start_context, start_row, Table}
+use Rattle.rx_spec.proofs.Prelude.{IsTable, IsSound, units_of, beside, first_offset, unit_offset, first_match}
+use Rattle.rx_spec.proofs.Prelude.{match_error, half_search, Item, Ending, overlapping}
+use Rattle.rx_spec.specs.HalfSearches.{beside_offset}
 use Rattle.rx_spec.specs.declared.Direction.{Direction}
 use Rattle.lemmas_walks.proofs.WalkBounds.{offset_after, Came, LeadsToQuit, units_count, offset_in_span, half_met}
 use Rattle.lemmas_walks.proofs.WalkBounds.{half_error}
-use Rattle.lemmas_walks.proofs.Firsts.{by_test, Contains-here}
+use Rattle.lemmas_walks.proofs.Firsts.{Contains-here}
 use Rattle.lemmas_walks.proofs.OverlappingBounds.{search_met, search_quit, search_refused}
 use Rattle.lemmas_walks.proofs.ReadUnits.{unit_at, get_or-units_from, units_read, place_of, first_place, next_byte}
 use Rattle.lemmas_walks.proofs.ReadUnits.{next_at_place, units_word}
@@ -87,23 +80,23 @@ overlapping_in_bounds t sound direction q h bytes e = item_in_bounds t sound dir
 -- ---- where it quits
 
 mode_quits_not : (s : Settings) (mode : Anchored) (byte : ℕ) → mode_error s mode ≡ Some (StartError.Quit byte) → ⊥
-mode_quits_not s mode byte e = grind (arith, common_steps, by_test, none-some)
+mode_quits_not s mode byte e = grind (arith, common_steps)
 
 start_quits : (s : Settings) (neighbour : Option ℕ) (mode : Anchored) (byte : ℕ)
     → start_error s neighbour mode ≡ Some (StartError.Quit byte)
     → (neighbour ≡ Some byte) × (contains s.quit byte ≡ true)
 start_quits s None mode byte e = absurd (mode_quits_not s mode byte e)
-start_quits s (Some b) mode byte e = grind (arith, common_steps, by_test, mode_quits_not)
+start_quits s (Some b) mode byte e = grind (arith, common_steps)
 
 -- the byte beside the span, and one that is read next at an offset of it
 beside_named : (direction : Direction) (q : Query) (byte : ℕ) → q.start ≤ q.end → beside direction q ≡ Some byte
     → IsNamed q byte (beside_offset direction q)
-beside_named Direction.Forward q byte order e = grind (arith, common_steps, none-some)
+beside_named Direction.Forward q byte order e = grind (arith, common_steps)
 beside_named Direction.Reverse q byte order e = record { low = omega arith; high = omega arith; there = e }
 
 next_named : (direction : Direction) (q : Query) (byte offset : ℕ) → (q.start ≤ offset) × (offset ≤ q.end)
     → next_byte direction q.haystack offset ≡ Some byte → IsNamed q byte (unit_offset direction offset)
-next_named Direction.Forward q byte offset lies e = record { low = omega (arith, lies.0); high = lies.1; there = e }
+next_named Direction.Forward q byte offset lies e = record { low = omega arith; high = lies.1; there = e }
 next_named Direction.Reverse q byte zero lies e = absurd (none-some byte e)
 next_named Direction.Reverse q byte (suc i) lies e = grind (arith, common_steps)
 
@@ -121,7 +114,7 @@ unit_is direction q place order inside within =
     ap (λ us. get_or us place 256) (units_read direction 0 q order inside)
     ∙ get_or-units_from r (first_place direction q) n place 256 (omega arith)
     ∙ ap (unit_at r) (sym (place_is direction q place order inside (omega arith)))
-    ∙ ap unit_of (next_at_place direction q.haystack o (omega (arith, lies.1)))
+    ∙ ap unit_of (next_at_place direction q.haystack o (omega arith))
   where
     place_is : (direction : Direction) (q : Query) (place : ℕ) → q.start ≤ q.end → q.end ≤ length q.haystack
         → place < suc (q.end - q.start)
@@ -135,7 +128,7 @@ read_before_is : (direction : Direction) (q : Query) (place byte : ℕ)
     → next_byte direction q.haystack (offset_after direction (first_offset direction q) place) ≡ Some byte
     → read_before direction q (unit_offset direction (offset_after direction (first_offset direction q) place)) ≡ place
 read_before_is Direction.Forward q place byte there = omega arith
-read_before_is Direction.Reverse q place byte there = grind (arith, common_steps, next_byte, none-some)
+read_before_is Direction.Reverse q place byte there = grind (arith, common_steps)
 
 module _ (t : Table) (sound : IsSound t) (direction : Direction) (q : Query) (bytes : AreBytes q.haystack)
     (fit : IsFit q) where

@@ -1,9 +1,7 @@
 -- A dense table as the refinement sees it: its columns are the units.
-use Rattle.std.proofs.Common.{◌≡◌, ◌<◌, ◌≤◌, ◌+◌, ◌*◌, ◌/◌, ◌^◌, ◌∙◌, ℕ, List, length, sym, arith}
+use Rattle.rx_spec.proofs.Prelude.{◌≡◌, ◌<◌, ◌≤◌, ◌+◌, ◌*◌, ◌/◌, ◌^◌, ◌∙◌, ℕ, List, length, sym, arith, mul-le, pow_pos}
+use Rattle.rx_spec.proofs.Prelude.{IfOk, Result, Ok, Err, slice_index, IsTable}
 use Rattle.std.proofs.lemmas.Int.Digits.{length-digits_of-le}
-use Rattle.std.proofs.lemmas.Nat.{mul-le, pow_pos}
-use Rattle.std.specs.Prelude.{IfOk, Result, Ok, Err, slice_index}
-use Rattle.rx_spec.specs.Tables.{IsTable}
 use Rattle.rx_base.specs.ByteClasses.{alphabet_len}
 use Rattle.rx_refine.specs.Moves.{Moves, next_row, read_limit, binary_digits, AreAlikeByNumber, AreToldByNumber}
 use Rattle.rx_dense.specs.Layouts.{AreRows, Layout, column, row_count, stride, table_of}

@@ -1,10 +1,7 @@
 -- Words of columns and words of units: rows behave alike by both, and are told apart by both.
-use Rattle.std.proofs.lemmas.Grind.{common_steps}
-use Rattle.std.proofs.Common.{◌≡◌, ℕ, ◌<◌, List, [], ◌∷◌, map, refl, sym, ap, ◌∙◌, subst, ⊎_elim, arith}
-use Rattle.std.specs.Prelude.{Contains, slice_index}
-use Rattle.rx_spec.specs.Machines.{IsWord, run}
-use Rattle.rx_spec.specs.Labels.{BehaveAlike, AreToldApart}
-use Rattle.rx_spec.specs.Tables.{Table}
+use Rattle.rx_spec.proofs.Prelude.{common_steps, ◌≡◌, ℕ, ◌<◌, List, [], ◌∷◌, map, refl, sym, ap, ◌∙◌, subst, ⊎_elim}
+use Rattle.rx_spec.proofs.Prelude.{arith, Contains, slice_index, IsWord, run, AreToldApart, Table}
+use Rattle.rx_spec.specs.Labels.{BehaveAlike}
 use Rattle.lemmas_walks.proofs.Firsts.{Contains-cases, Contains-there, Contains-nil}
 use Rattle.lemmas_walks.proofs.Words.{run-nil, run-cons, run-within, IsWord-nil, IsWord-cons, IsWord-head, IsWord-tail}
 use Rattle.rx_refine.specs.Moves as moves

@@ -1,14 +1,9 @@
 -- Rows that are renamed, moved and cut off.
-use Rattle.std.proofs.lemmas.Grind.{common_steps}
-use Rattle.std.proofs.Common.{◌≡◌, ◌<◌, ◌≤◌, ◌+◌, ◌*◌, ◌/◌, ◌%◌, ◌∙◌, ℕ, All, List, length, map, take, sym, ap, ap₂}
-use Rattle.std.proofs.Common.{subst, ⊎_elim, arith}
+use Rattle.rx_spec.proofs.Prelude.{common_steps, ◌≡◌, ◌<◌, ◌≤◌, ◌+◌, ◌*◌, ◌/◌, ◌%◌, ◌∙◌, ℕ, All, List, length, map}
+use Rattle.rx_spec.proofs.Prelude.{take, sym, ap, ap₂, subst, ⊎_elim, arith, cases_lt, le-ltb, lt-ltb, length-map}
+use Rattle.rx_spec.proofs.Prelude.{length-take-le, get_or-map, get_or-take, All-from_get_or, get_or-map-range_with_len}
+use Rattle.rx_spec.proofs.Prelude.{length-map-range_with_len, div-add-mod', mul-le, pow_pos, row_fits, slice_index}
 use Rattle.std.proofs.Math.Nat.{mod-lt}
-use Rattle.std.proofs.lemmas.Bool.{cases_lt, le-ltb, lt-ltb}
-use Rattle.std.proofs.lemmas.List.{length-map, length-take-le, get_or-map, get_or-take}
-use Rattle.std.proofs.lemmas.List.Elements.{All-from_get_or}
-use Rattle.std.proofs.lemmas.List.FromFn.{get_or-map-range_with_len, length-map-range_with_len}
-use Rattle.std.proofs.lemmas.Nat.{div-add-mod', mul-le, pow_pos, row_fits}
-use Rattle.std.specs.Prelude.{slice_index}
 use Rattle.rx_base.specs.ByteClasses.{alphabet_len}
 use Rattle.rx_search.specs.Starts.{IsId}
 use Rattle.rx_dense.specs.Builder.{IsMachineRenamed, renamed, renamed_word, with_rows}

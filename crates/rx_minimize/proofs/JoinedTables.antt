@@ -1,27 +1,15 @@
 -- A table of which the first row of each block is left: where its rows lead, and what they tell.
-use Rattle.std.proofs.lemmas.Grind.{common_steps}
-use Rattle.std.proofs.Common.{◌≡◌, ℕ, ◌+◌, ◌-◌, ◌*◌, ◌/◌, ◌<◌, ◌≤◌, ⊎_elim, if◌then◌else◌, Bool, true, false, List, []}
-use Rattle.std.proofs.Common.{length, map, nat_le, nat_lt, refl, ap, sym, ◌∙◌, subst, arith, slice_index, get_or}
-use Rattle.std.specs.List.{concat}
-use Rattle.std.proofs.Math.Nat.{mul-div_cancel}
-use Rattle.std.proofs.lemmas.Bool.{and_parts, cases_eq, cases_lt, eq-eqb, le-ltb, leb-true, ltb-true, ne_eqb}
-use Rattle.std.proofs.lemmas.List.{get_or-map, length-map}
-use Rattle.std.proofs.lemmas.List.FromFn.{get_or-map-range_with_len, length-map-range_with_len}
-use Rattle.std.proofs.lemmas.Nat.{pow_pos}
-use Rattle.rx_spec.specs.Causes.{max_id}
-use Rattle.rx_spec.specs.Machines.{Label}
-use Rattle.rx_spec.specs.Queries.{Anchored}
-use Rattle.rx_spec.specs.Tables.{Table}
+use Rattle.rx_spec.proofs.Prelude.{common_steps, ◌≡◌, ℕ, ◌-◌, ◌*◌, ◌/◌, ◌<◌, ◌≤◌, ⊎_elim, List, [], length, map, refl}
+use Rattle.rx_spec.proofs.Prelude.{ap, sym, ◌∙◌, subst, arith, slice_index, concat, mul-div_cancel, cases_lt, le-ltb}
+use Rattle.rx_spec.proofs.Prelude.{get_or-map, length-map, pow_pos, max_id, Anchored, Table}
 use Rattle.rx_spec.specs.declared.Start.{Start}
-use Rattle.rx_search.specs.Labels.{patterns_of}
 use Rattle.rx_dense.specs.Builder.{slices_from, with_patterns}
-use Rattle.rx_dense.specs.Layouts.{Layout, AreStarts, context_number, machine_of, mode_place, row_count, stride}
-use Rattle.rx_dense.specs.Layouts.{table_of}
+use Rattle.rx_dense.specs.Layouts.{Layout, AreStarts, machine_of, mode_place, row_count, stride, table_of}
 use Rattle.rx_order.specs.ByKind.{lists_in}
 use Rattle.rx_order.specs.RowOrder.{AreJoined, is_marked, match_lists}
 use Rattle.rx_order.specs.SpecialIds.{AreKindEnds, special_ids}
-use Rattle.rx_order.proofs.KindRanges.{HasSpecials, ends_quit, is_between, from_end}
-use Rattle.rx_order.proofs.MatchRows.{HasPatterns, label_at, matching_label, plain_label}
+use Rattle.rx_order.proofs.KindRanges.{HasSpecials, ends_quit}
+use Rattle.rx_order.proofs.MatchRows.{HasPatterns, label_of_lists}
 use Rattle.rx_order.proofs.MatchRows as MatchRows
 use Rattle.rx_minimize.specs.Joined.{IsJoinedBy}
 use Rattle.rx_minimize.specs.Quotient.{IsQuotient}
@@ -104,15 +92,8 @@ module _ {old : Layout} {blocks numbers firsts ids ends : List ℕ} {lists : Lis
       ap (λ (k : Layout). (machine_of k).entry mode start) (sym s.joined.rest) ∙ s.joined.entries mode start has
       ∙ leads (before.machine.entry mode start) (s.kept.in_order.sound.is_table.entries mode start))
       (λ (none : length old.starts ≤ mode_place mode).
-      let here : after.machine.entry mode start ≡ 0 =
-      ap (λ b. (if b then slice_index new.starts (mode_place mode + context_number start) else 0) / stride old)
-      (le-ltb (mode_place mode) (length new.starts) (omega (arith, starts_len)))
-      ∙ zero_row in
-      let there : before.machine.entry mode start ≡ 0 =
-      ap (λ b. (if b then slice_index old.starts (mode_place mode + context_number start) else 0) / stride old)
-      (le-ltb (mode_place mode) (length old.starts) none)
-      ∙ zero_row in
-      here ∙ sym (ap number there ∙ number_zero numbered))
+      let none_now : length new.starts ≤ mode_place mode = omega (arith, starts_len) in
+      rw (le-ltb _ _ none, le-ltb _ _ none_now, zero_row) (sym (number_zero numbered)))
       (cases_lt (mode_place mode) (length old.starts))
 
   -- ---- kinds
@@ -125,21 +106,15 @@ module _ {old : Layout} {blocks numbers firsts ids ends : List ℕ} {lists : Lis
 
   -- ---- patterns
 
-  abbrev list_of : ℕ → List ℕ
-  list_of place = patterns_of before (first place)
-
-  has_patterns : HasPatterns ends left lists
+  has_patterns : HasPatterns ends left (lists_in old firsts ends)
   has_patterns = record {
-    count =
-        ap length s.patterns
-        ∙ length-map-range_with_len list_of (slice_index ends 1) (slice_index ends 3 - slice_index ends 1)
-        ∙ ap (λ from. slice_index ends 3 - from) (ends_quit specials.are);
-    slices = refl;
-    pattern_ids = refl;
+    count = MatchRows.lists_count old firsts ends (ends_quit specials.are);
+    slices = ap (slices_from 0) s.patterns;
+    pattern_ids = ap (λ (ls : List (List ℕ)). concat ls) s.patterns;
   }
 
   pub lists_are : match_lists left ≡ lists
-  lists_are = MatchRows.lists_are specials has_patterns
+  lists_are = MatchRows.lists_are specials has_patterns ∙ sym s.patterns
 
   pub joined_lists : AreJoined left
   joined_lists = MatchRows.joined specials has_patterns
@@ -148,38 +123,10 @@ module _ {old : Layout} {blocks numbers firsts ids ends : List ℕ} {lists : Lis
 
   pub label_is : (row : ℕ) → row < length firsts → after.machine.label row ≡ before.machine.label (first row)
   label_is row h =
-      label_at specials has_patterns row (omega (arith, size))
-      ∙ ⊎_elim
-      (λ (one : row ≡ 1).
-      rw (eq-eqb row 1 one)
-      (sym (ap (λ r. before.machine.label (first r)) one ∙ ap before.machine.label (first_one numbered)
-      ∙ s.kept.in_order.sound.is_table.quit_label)))
-      (λ (ne : row ≡ 1 → ⊥). rw (ne_eqb row 1 ne) (by_match ne (is_between 1 3 (kind_at s.kept row)) refl))
-      (cases_eq row 1)
-    where
-      there : is_between 1 3 (kind_at s.kept row) ≡ true → (slice_index ends 1 ≤ row) × (row < slice_index ends 3)
-      there e =
-          let kinds = and_parts (nat_lt 1 (kind_at s.kept row)) (nat_le (kind_at s.kept row) 3) e in
-          let before_three = s.kept.to_end row 3 h (omega arith) ∙ kinds.1 in
-          let behind_one = from_end specials.are row 1 (omega (arith, size)) (omega arith) ∙ kinds.0 in
-          (leb-true (slice_index ends 1) row behind_one, ltb-true row (slice_index ends 3) before_three)
-
-      by_match : (row ≡ 1 → ⊥) → (b : Bool) → is_between 1 3 (kind_at s.kept row) ≡ b
-          → (if b then Label.Matches (get_or lists (row - 2) []) else Label.Plain) ≡ before.machine.label (first row)
-      by_match ne true e =
-          let at = there e in
-          let two = ends_quit specials.are in
-          let list : get_or lists (row - 2) [] ≡ list_of row =
-          ap (λ (ls : List (List ℕ)). get_or ls (row - 2) []) s.patterns
-          ∙ get_or-map-range_with_len list_of (slice_index ends 1) (slice_index ends 3 - slice_index ends 1) (row - 2)
-          row [] (omega (arith, at.0, at.1, two)) (omega (arith, at.0, two)) in
-          ap Label.Matches list
-          ∙ sym (matching_label (before.machine.label (first row)) (sym (match_kind s.kept row) ∙ e))
-      by_match ne false e =
-          sym (plain_label (before.machine.label (first row)) (sym (match_kind s.kept row) ∙ e)
-          (λ quits.
-          let one = s.kept.in_order.sound.is_table.quit_only (first row) (first_below numbered row h) quits in
-          ne (sym (first_number numbered row h) ∙ ap number one ∙ number_one numbered)))
+      label_of_lists specials old firsts has_patterns s.kept.in_order.sound.is_table row (omega (arith, size))
+      (first_below numbered row h)
+      (λ one. sym (first_number numbered row h) ∙ ap number one ∙ number_one numbered)
+      (λ one. ap first one ∙ first_one numbered) (match_kind s.kept row)
 
   pub quotient : IsQuotient before numbers firsts after
   quotient = record {

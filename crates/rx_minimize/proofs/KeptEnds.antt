@@ -1,12 +1,11 @@
 -- Where the kinds of the rows that are kept end, one row after another.
-use Rattle.std.proofs.Common.{◌≡◌, ℕ, ◌+◌, ◌<◌, ◌≤◌, ◌&&◌, nat_le, nat_lt, Bool, List, length, slice_index, slice_set}
-use Rattle.std.proofs.Common.{refl, sym, ap, ap₂, ◌∙◌, ⊎_elim, arith}
-use Rattle.std.proofs.Math.Bool.{and-true}
-use Rattle.std.proofs.lemmas.Bool.{cases_eq, cases_lt, le-ltb, lt-ltb}
-use Rattle.std.proofs.lemmas.List.{get_or-set_other, get_or-set_same, length-set}
+use Rattle.rx_spec.proofs.Prelude.{◌≡◌, ℕ, ◌+◌, ◌<◌, ◌≤◌, ◌&&◌, nat_le, nat_lt, List, length, slice_index, slice_set}
+use Rattle.rx_spec.proofs.Prelude.{sym, ap, ◌∙◌, ⊎_elim, arith, and-true, cases_eq, lt-ltb, nat_tests, get_or-set_other}
+use Rattle.rx_spec.proofs.Prelude.{get_or-set_same}
+use Rattle.std.proofs.lemmas.List.{length-set}
 use Rattle.rx_dense.specs.Layouts.{Layout, row_count}
 use Rattle.rx_order.specs.RowOrder.{IsOrdered, kind_of}
-use Rattle.rx_order.proofs.KindNumbers.{at_most, over}
+use Rattle.rx_order.proofs.KindNumbers.{at_most}
 use Rattle.rx_minimize.specs.Blocks.{AreFirsts}
 
 -- the kind of the row that is kept at a place
@@ -37,13 +36,7 @@ module _ {l : Layout} {firsts ends : List ℕ} {place : ℕ} where
     from = omega arith;
     within = λ k h. omega (arith, are.within k h);
     to_end = are.to_end;
-    here = λ k h.
-        le-ltb place (slice_index ends k) (are.within k h)
-        ∙ ⊎_elim
-        (λ (low : k < kept_kind l firsts place). rw (over (kept_kind l firsts place) k low) refl)
-        (λ (high : kept_kind l firsts place ≤ k).
-        rw (at_most (kept_kind l firsts place) k high, le-ltb k (kept_kind l firsts place) high) refl)
-        (cases_lt k (kept_kind l firsts place));
+    here = λ k h. let low = are.within k h in grind (arith, nat_tests);
   }
 
   pub place_ended : AreEndsUpTo l firsts ends place 8 → AreEndsBefore l firsts ends (place + 1)
@@ -84,10 +77,8 @@ module _ {l : Layout} {firsts ends : List ℕ} {place : ℕ} where
     here = λ k c.
         ⊎_elim
         (λ (e : k ≡ other).
-        rw (e, same)
-        (lt-ltb place (place + 1) (omega arith)
-        ∙ sym (ap₂ (λ (a b : Bool). a && b) (at_most (kept_kind l firsts place) other are.from)
-        (lt-ltb other (other + 1) (omega arith)))))
+        let from = are.from in
+        rw (e, same) (grind (arith, nat_tests)))
         (λ (ne : k ≡ other → ⊥).
         rw (others k ne) (are.here k c ∙ ap (λ t. nat_le (kept_kind l firsts place) k && t) (same_test k ne)))
         (cases_eq k other);
@@ -100,8 +91,4 @@ module _ {l : Layout} {firsts ends : List ℕ} {place : ℕ} where
       others k ne = get_or-set_other ends other k (place + 1) 0 ne
 
       same_test : (k : ℕ) → (k ≡ other → ⊥) → nat_lt k other ≡ nat_lt k (other + 1)
-      same_test k ne =
-          ⊎_elim
-          (λ (low : k < other). lt-ltb k other low ∙ sym (lt-ltb k (other + 1) (omega (arith, low))))
-          (λ (high : other ≤ k). le-ltb k other high ∙ sym (le-ltb k (other + 1) (omega arith)))
-          (cases_lt k other)
+      same_test k ne = grind (arith, nat_tests)

@@ -1,14 +1,13 @@
 -- The rows that are kept: their kinds, and which of them match.
-use Rattle.std.proofs.Common.{◌≡◌, ℕ, ◌<◌, ◌≤◌, ◌&&◌, nat_le, nat_lt, Bool, false, List, length, slice_index, sym, ap}
-use Rattle.std.proofs.Common.{ap₂, ◌∙◌, subst, ⊎_elim, arith}
-use Rattle.std.proofs.lemmas.Bool.{cases_eq, lt-ltb}
-use Rattle.rx_spec.specs.Tables.{Table, is_match, is_match_label}
+use Rattle.rx_spec.proofs.Prelude.{◌≡◌, ℕ, zero, suc, ◌<◌, ◌≤◌, nat_le, nat_lt, List, length, slice_index, sym, ap, ◌∙◌}
+use Rattle.rx_spec.proofs.Prelude.{subst, arith, Table, is_match}
 use Rattle.rx_dense.specs.Layouts.{AreRows, Layout, row_count, table_of}
 use Rattle.rx_order.specs.ByKind.{HaveMatches}
 use Rattle.rx_order.specs.RowOrder.{IsInOrder, IsPlain, is_start_row, kind_of}
 use Rattle.rx_order.specs.SpecialIds.{AreKindEnds}
-use Rattle.rx_order.proofs.KindNumbers.{at_most, high_above, kind_high, kind_matches}
+use Rattle.rx_order.proofs.KindNumbers.{between, high_above, kind_high, kind_matches}
 use Rattle.rx_order.proofs.KindRanges.{before_end, behind_end, ends_rise, is_between}
+use Rattle.rx_order.proofs.MatchRows.{low_match}
 use Rattle.rx_minimize.specs.Blocks.{AreBlocks, AreFirsts, AreRenumbered}
 use Rattle.rx_minimize.proofs.NewIds.{firsts_few}
 use Rattle.rx_minimize.proofs.Quotients.{AreNumbered, first_one, first_zero, two_firsts}
@@ -34,13 +33,9 @@ module _ {old : Layout} {blocks numbers firsts ends : List ℕ} (s : IsKept old 
   numbered = record { is = s.in_order.sound.is_table; are = s.are_blocks; renumbered = s.renumbered }
 
   pub first_low : (place : ℕ) → place ≤ 1 → first place ≡ place
-  first_low place h =
-      ⊎_elim
-      (λ (zero : place ≡ 0). ap first zero ∙ first_zero numbered ∙ sym zero)
-      (λ (ne : place ≡ 0 → ⊥).
-      let one : place ≡ 1 = omega (arith, ne) in
-      ap first one ∙ first_one numbered ∙ sym one)
-      (cases_eq place 0)
+  first_low zero h = first_zero numbered
+  first_low (suc zero) h = first_one numbered
+  first_low (suc (suc place)) h = absurd (omega (arith, h))
 
   pub first_high : (place : ℕ) → 1 < place → place < length firsts → 1 < first place
   first_high place high h =
@@ -68,20 +63,11 @@ module _ {old : Layout} {blocks numbers firsts ends : List ℕ} (s : IsKept old 
     to_end = s.to_end;
   }
 
-  -- dead and quit match nothing
-  low_match : (row : ℕ) → row ≤ 1 → is_match before row ≡ false
-  low_match row h =
-      ⊎_elim
-      (λ (zero : row ≡ 0). ap (is_match before) zero ∙ ap is_match_label s.in_order.sound.is_table.dead_label)
-      (λ (ne : row ≡ 0 → ⊥).
-      let one : row ≡ 1 = omega (arith, ne) in
-      ap (is_match before) one ∙ ap is_match_label s.in_order.sound.is_table.quit_label)
-      (cases_eq row 0)
-
   pub match_kind : (place : ℕ) → is_between 1 3 (kind_at place) ≡ is_match before (first place)
   match_kind place =
       let row : ℕ = first place in
-      kind_matches row (is_match before row) (before.is_accelerated row) (is_start_row old row) (low_match row)
+      kind_matches row (is_match before row) (before.is_accelerated row) (is_start_row old row)
+      (low_match before s.in_order.sound.is_table row)
 
   pub have_matches : AreRows old → HaveMatches old firsts ends
   have_matches rows =
@@ -99,5 +85,5 @@ module _ {old : Layout} {blocks numbers firsts ends : List ℕ} (s : IsKept old 
             let above = behind_end kind_ends place 1 h (omega arith) low in
             let upto = before_end kind_ends place 3 h (omega arith) high in
             sym (match_kind place)
-            ∙ ap₂ (λ (a b : Bool). a && b) (lt-ltb 1 (kind_at place) above) (at_most (kind_at place) 3 upto);
+            ∙ between 1 3 (kind_at place) above upto;
       }

@@ -1,13 +1,9 @@
 -- Labels and their numbers, one row after another.
-use Rattle.std.proofs.lemmas.Grind.{common_steps}
-use Rattle.std.proofs.Common.{◌≡◌, ◌≢◌, ℕ, zero, suc, ◌<◌, ◌≤◌, ◌+◌, ◌⊎◌, ⊎_elim, Some, List, [], ◌∷◌, ◌++◌, Bool, true}
-use Rattle.std.proofs.Common.{if◌then◌else◌, length, length-append, refl, sym, ◌∙◌, subst, arith}
-use Rattle.std.proofs.lemmas.Bool.{cases_eq, cases_lt}
-use Rattle.std.proofs.lemmas.List.{get_or_push, get_or_append_left}
-use Rattle.std.proofs.lemmas.Option.{slice_get_within, get_or_from_slice_get}
-use Rattle.std.specs.Prelude.{AllPairs, slice_get, slice_index}
-use Rattle.rx_spec.specs.Machines.{Label}
-use Rattle.rx_spec.specs.Tables.{Table, IsTable, is_match_label}
+use Rattle.rx_spec.proofs.Prelude.{common_steps, ◌≡◌, ◌≢◌, ℕ, zero, suc, ◌<◌, ◌≤◌, ◌+◌, ◌⊎◌, ⊎_elim, Some, List, []}
+use Rattle.rx_spec.proofs.Prelude.{◌∷◌, ◌++◌, Bool, true, if◌then◌else◌, length, length-append, refl, sym, ◌∙◌, subst}
+use Rattle.rx_spec.proofs.Prelude.{arith, cases_eq, cases_lt, get_or_push, get_or_append_left, slice_get_within}
+use Rattle.rx_spec.proofs.Prelude.{get_or_from_slice_get, AllPairs, slice_get, slice_index, Label, Table, IsTable}
+use Rattle.rx_spec.proofs.Prelude.{is_match_label}
 use Rattle.rx_search.specs.Labels.{label_patterns}
 use Rattle.rx_minimize.specs.LabelNumbers.{AddsLabel, AddsPatterns, AreByLabel, HasNumber}
 

@@ -1,27 +1,20 @@
 -- The rows that are left: their kinds, their order, and which of them are special.
-use Rattle.std.proofs.lemmas.Grind.{common_steps}
-use Rattle.std.proofs.Common.{◌≡◌, ℕ, ◌*◌, ◌/◌, ◌<◌, ◌≤◌, ◌==◌, ◌&&◌, ◌||◌, nat_lt, ⊎_elim, Bool, true, false, List}
-use Rattle.std.proofs.Common.{length, refl, ap, ap₂, sym, ◌∙◌, subst, arith, slice_index}
-use Rattle.std.specs.Cmp.{both_ways}
-use Rattle.std.specs.List.{list_any}
-use Rattle.std.specs.Prelude.{Contains}
-use Rattle.std.proofs.Math.Nat.{mul-div_cancel}
-use Rattle.std.proofs.lemmas.Bool.{and_from, and_parts, cases_eq, cases_lt, false≢true, le-ltb, lt-ltb}
-use Rattle.std.proofs.lemmas.List.{get_or-map, get_or_default}
-use Rattle.std.proofs.lemmas.List.Elements.{Contains-get_or}
-use Rattle.rx_spec.specs.Tables.{is_match, is_match_label}
+use Rattle.rx_spec.proofs.Prelude.{common_steps, ◌≡◌, ℕ, ◌*◌, ◌/◌, ◌<◌, ◌≤◌, ◌==◌, ◌&&◌, ◌||◌, nat_lt, ⊎_elim, Bool}
+use Rattle.rx_spec.proofs.Prelude.{true, false, List, length, refl, ap, ap₂, sym, ◌∙◌, subst, arith, slice_index}
+use Rattle.rx_spec.proofs.Prelude.{both_ways, list_any, Contains, mul-div_cancel, and_from, and_parts, cases_lt, le-ltb}
+use Rattle.rx_spec.proofs.Prelude.{lt-ltb, get_or-map, get_or_default, Contains-get_or, is_match, is_match_label}
 use Rattle.rx_dense.specs.Layouts.{Layout, row_count, stride}
 use Rattle.rx_dense.proofs.Rows.{quotient, row-below}
 use Rattle.rx_order.specs.RowOrder.{IsOrdered, is_marked, is_start_row, kind_by, kind_of}
-use Rattle.rx_order.proofs.KindNumbers.{high_kind, kind_accels, kind_high, kind_starts, none_in_range}
+use Rattle.rx_order.proofs.KindNumbers.{high_kind, kind_accels, kind_alike, kind_high, kind_starts, none_in_range}
 use Rattle.rx_order.proofs.KindRanges.{accel_id, is_between}
 use Rattle.rx_order.proofs.KindRanges as KindRanges
-use Rattle.rx_order.proofs.MarkedRows.{any_contains, any_has, start_row_plain}
+use Rattle.rx_order.proofs.MarkedRows.{any_contains, any_has, match_starts, start_row_plain}
 use Rattle.rx_order.proofs.Moved.{factor}
 use Rattle.rx_minimize.proofs.JoinedTables.{IsMinimizing, after, before, first, id_is, label_is, left, number, numbered}
 use Rattle.rx_minimize.proofs.JoinedTables.{size, some, specials, starts_len}
 use Rattle.rx_minimize.proofs.KeptKinds.{first_high, first_low, kind_at}
-use Rattle.rx_minimize.proofs.Quotients.{first_number, label_first, number_one, number_zero}
+use Rattle.rx_minimize.proofs.Quotients.{first_number, label_first, number_high}
 
 module _ {old : Layout} {blocks numbers firsts ids ends : List ℕ} {lists : List (List ℕ)} {new : Layout}
     (s : IsMinimizing old blocks numbers firsts ids ends lists new) where
@@ -55,7 +48,7 @@ module _ {old : Layout} {blocks numbers firsts ids ends : List ℕ} {lists : Lis
       → is_start_row old row ≡ true → is_start_row old (first s k) ≡ true
   first_starts k row high h low is e =
       let above = and_parts (nat_lt 1 row) (list_any (λ id. id == row * stride old) old.starts) e in
-      let behind : 1 < row = behind_one in
+      let behind = number_high (numbered s) row (omega (arith, is, high)) in
       let least : first s k ≤ row =
       omega (arith, ap (first s) is, s.kept.renumbered.first_least row (omega (arith, count))) in
       let rise = s.kept.in_order.ordered.kinds (first s k) row least low in
@@ -75,19 +68,6 @@ module _ {old : Layout} {blocks numbers firsts ids ends : List ℕ} {lists : Lis
     where
       count : length blocks ≡ row_count old
       count = s.kept.are_blocks.count
-
-      behind_one : 1 < row
-      behind_one =
-          ⊎_elim
-          (λ (past : 1 < row). past)
-          (λ (at_most_one : row ≤ 1).
-          ⊎_elim
-          (λ (zero : row ≡ 0). absurd (omega (arith, ap (number s) zero, number_zero (numbered s), is, high)))
-          (λ (ne : row ≡ 0 → ⊥).
-          let one : row ≡ 1 = omega (arith, ne) in
-          absurd (omega (arith, ap (number s) one, number_one (numbered s), is, high)))
-          (cases_eq row 0))
-          (cases_lt 1 row)
 
       by_start : (b : Bool) → high_kind false false b ≤ 6 → b ≡ true
       by_start true h = refl
@@ -121,17 +101,7 @@ module _ {old : Layout} {blocks numbers firsts ids ends : List ℕ} {lists : Lis
               → is_start_row old (start_at place) ≡ true
           row_starts high place within is =
               let row : ℕ = start_at place in
-              let behind : 1 < row =
-              ⊎_elim
-              (λ (past : 1 < row). past)
-              (λ (low : row ≤ 1).
-              ⊎_elim
-              (λ (zero : row ≡ 0). absurd (omega (arith, ap (number s) zero, number_zero (numbered s), is, high)))
-              (λ (ne : row ≡ 0 → ⊥).
-              let one : row ≡ 1 = omega (arith, ne) in
-              absurd (omega (arith, ap (number s) one, number_one (numbered s), is, high)))
-              (cases_eq row 0))
-              (cases_lt 1 row) in
+              let behind = number_high (numbered s) row (omega (arith, is, high)) in
               and_from (nat_lt 1 row) (list_any (λ id. id == row * stride old) old.starts) (lt-ltb 1 row behind)
               (any_has (row * stride old) old.starts
               (subst (Contains old.starts) (sym (start_id place within)) (Contains-get_or old.starts place 0 within)))
@@ -174,31 +144,15 @@ module _ {old : Layout} {blocks numbers firsts ids ends : List ℕ} {lists : Lis
       ap₂ (λ (a b : Bool). kind_by k a b (is_start_row (left s) k)) (match_is k h)
       (none_accelerated k h ∙ sym (none_before (first s k)))
       ∙ ap (kind_by k (is_match (before s) (first s k)) ((before s).is_accelerated (first s k))) (start_row_is k h)
-      ∙ ⊎_elim
-      (λ (high : 1 < k).
-      kind_high k (is_match (before s) (first s k)) ((before s).is_accelerated (first s k))
-      (is_start_row old (first s k)) high
-      ∙ sym (kind_high (first s k) (is_match (before s) (first s k)) ((before s).is_accelerated (first s k))
-      (is_start_row old (first s k)) (first_high s.kept k high h)))
-      (λ (low : k ≤ 1).
-      ap (λ row. kind_by row (is_match (before s) (first s k)) ((before s).is_accelerated (first s k))
-      (is_start_row old (first s k))) (sym (first_low s.kept k low)))
-      (cases_lt 1 k)
+      ∙ kind_alike k (first s k) (is_match (before s) (first s k)) ((before s).is_accelerated (first s k))
+      (is_start_row old (first s k)) (first_low s.kept k) (λ high. first_high s.kept k high h)
 
   start_kind : (k : ℕ) → k < row_count (left s) → is_between 4 6 (kind_at s.kept k) ≡ is_start_row (left s) k
   start_kind k b =
       let row : ℕ = first s k in
       kind_starts row (is_match (before s) row) ((before s).is_accelerated row) (is_start_row old row) (low_start row)
-      (plain_start row)
+      (match_starts old s.kept.in_order.sound row)
       ∙ sym (start_row_is k (omega (arith, size s)))
-    where
-      plain_start : (row : ℕ) → is_match (before s) row ≡ true → is_start_row old row ≡ false
-      plain_start row matches = by_start (is_start_row old row) refl
-        where
-          by_start : (b : Bool) → is_start_row old row ≡ b → b ≡ false
-          by_start false e = refl
-          by_start true e =
-              absurd (false≢true (sym (ap is_match_label (start_row_plain old s.kept.in_order.sound row e)) ∙ matches))
 
   -- ---- the order
 

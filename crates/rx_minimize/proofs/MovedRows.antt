@@ -1,12 +1,7 @@
 -- Rows that move down to their places, one after another.
-use Rattle.std.proofs.lemmas.Grind.{common_steps}
-use Rattle.std.proofs.Common.{◌≡◌, ◌≢◌, ◌<◌, ◌≤◌, ◌+◌, ◌*◌, ◌/◌, ◌%◌, ◌^◌, ◌∙◌, ap₂, ℕ, zero, suc, List, length, sym}
-use Rattle.std.proofs.Common.{ap, subst, ⊎_elim, arith}
-use Rattle.std.proofs.lemmas.Bool.{cases_eq, cases_lt}
-use Rattle.std.proofs.lemmas.Nat.{row_fits}
-use Rattle.std.proofs.Math.Nat.{mod-eq_of_lt}
-use Rattle.std.specs.Prelude.{slice_index}
-use Rattle.rx_spec.specs.Causes.{max_id}
+use Rattle.rx_spec.proofs.Prelude.{common_steps, ◌≡◌, ◌≢◌, ◌<◌, ◌≤◌, ◌+◌, ◌*◌, ◌/◌, ◌%◌, ◌^◌, ◌∙◌, ap₂, ℕ, zero, suc}
+use Rattle.rx_spec.proofs.Prelude.{List, length, sym, ap, subst, ⊎_elim, arith, cases_eq, cases_lt, row_fits}
+use Rattle.rx_spec.proofs.Prelude.{mod-eq_of_lt, slice_index, max_id}
 use Rattle.rx_spec.specs.Ids.{dense_ids}
 use Rattle.rx_search.specs.Starts.{IsId}
 use Rattle.rx_dense.specs.Layouts.{Layout, ids_of, row_count, stride}

@@ -1,12 +1,7 @@
 -- The ids that rows get: those of the first rows of their blocks, at their new places.
-use Rattle.std.proofs.lemmas.Grind.{common_steps}
-use Rattle.std.proofs.Common.{◌≡◌, ℕ, ◌+◌, ◌-◌, ◌*◌, ◌<◌, ◌≤◌, All, List, length, map, ap, ◌∙◌, subst, ⊎_elim, arith}
-use Rattle.std.proofs.Common.{slice_index}
-use Rattle.std.proofs.lemmas.Bool.{cases_lt}
-use Rattle.std.proofs.lemmas.List.{get_or-map, length-map}
-use Rattle.std.proofs.lemmas.List.Elements.{All-from_get_or}
-use Rattle.std.proofs.lemmas.Nat.{div-add-mod', mul-le}
-use Rattle.rx_spec.specs.Causes.{max_id}
+use Rattle.rx_spec.proofs.Prelude.{common_steps, ◌≡◌, ℕ, ◌+◌, ◌-◌, ◌*◌, ◌<◌, ◌≤◌, All, List, length, map, ap, ◌∙◌}
+use Rattle.rx_spec.proofs.Prelude.{subst, ⊎_elim, arith, slice_index, cases_lt, get_or-map, length-map, All-from_get_or}
+use Rattle.rx_spec.proofs.Prelude.{div-add-mod', mul-le, max_id}
 use Rattle.rx_dense.specs.Layouts.{Layout, row_count, stride}
 use Rattle.rx_dense.proofs.Rows.{IsRowId-row, id_few}
 use Rattle.rx_minimize.specs.Blocks.{AreFirsts, AreRenumbered}

@@ -1,14 +1,9 @@
 -- What a table says in which the first row of each block is left.
-use Rattle.std.proofs.lemmas.Grind.{common_steps}
-use Rattle.std.proofs.Common.{◌≡◌, ◌≢◌, ℕ, ◌<◌, ◌≤◌, List, [], ◌∷◌, length, sym, ap, ◌∙◌, arith, ⊎_elim}
-use Rattle.std.proofs.lemmas.Bool.{cases_eq, cases_lt}
-use Rattle.std.specs.Prelude.{Some, slice_index}
-use Rattle.rx_spec.specs.Machines.{Label, IsWord, run, Settings}
-use Rattle.rx_spec.specs.Labels.{BehaveAlike, AreToldApart, IsReachedRow, SameLabels}
-use Rattle.rx_spec.specs.Queries.{Anchored}
-use Rattle.rx_spec.specs.Tables.{Table, IsTable}
-use Rattle.rx_spec.specs.declared.Start.{Start}
-use Rattle.lemmas_walks.proofs.Words.{run-nil, run-cons, run-within, IsWord-nil, IsWord-cons, IsWord-head, IsWord-tail}
+use Rattle.rx_spec.proofs.Prelude.{common_steps, ◌≡◌, ◌≢◌, ℕ, zero, suc, ◌<◌, ◌≤◌, List, [], ◌∷◌, length, sym, ap, ◌∙◌}
+use Rattle.rx_spec.proofs.Prelude.{arith, ⊎_elim, cases_eq, cases_lt, slice_index, Label, AreToldApart, Table, IsTable}
+use Rattle.rx_spec.specs.Labels.{BehaveAlike}
+use Rattle.lemmas_walks.proofs.Words.{run-nil, run-cons, IsWord-nil, IsWord-cons}
+use Rattle.rx_order.proofs.Runs.{AreNames, apart}
 use Rattle.rx_minimize.specs.Blocks.{AreBlocks, AreRenumbered}
 use Rattle.rx_minimize.specs.Quotient.{IsQuotient}
 
@@ -90,6 +85,11 @@ module _ {t : Table} {blocks numbers firsts : List ℕ} (by : AreNumbered t bloc
   pub number_one : number 1 ≡ 1
   number_one = grind (arith, common_steps, number_below, one_row, row_below, quit_apart, number_zero, cases_lt)
 
+  pub number_high : (row : ℕ) → 1 < number row → 1 < row
+  number_high zero h = absurd (omega (arith, number_zero, h))
+  number_high (suc zero) h = absurd (omega (arith, number_one, h))
+  number_high (suc (suc row)) h = omega arith
+
   pub two_firsts : 2 ≤ length firsts
   two_firsts = omega (arith, number_one, number_below 1 one_row)
 
@@ -112,11 +112,6 @@ module _ {t : Table} {blocks numbers firsts : List ℕ} (by : AreNumbered t bloc
   pub first_alike : (row : ℕ) → row < t.size → BehaveAlike t (first (number row)) row
   first_alike row l = grind (arith, common_steps, alike, first_below, number_below, first_number)
 
-  -- quit alone is in quit's block
-  pub number_is_one : (row : ℕ) → row < t.size → number row ≡ 1 → row ≡ 1
-  number_is_one row l e =
-      is.quit_only row l (alike_label t row 1 (alike row 1 l one_row (e ∙ sym number_one)) ∙ is.quit_label)
-
   pub label_first : (row : ℕ) → row < t.size → t.machine.label (first (number row)) ≡ t.machine.label row
   label_first row l = alike_label t (first (number row)) row (first_alike row l)
 
@@ -137,122 +132,22 @@ module _ {t : Table} {blocks numbers firsts : List ℕ} (by : AreNumbered t bloc
         (is.nexts (first (number row)) unit fits lu) (is.nexts row unit l lu)
         (alike_next t (first (number row)) row unit lu (first_alike row l))
 
-    label_number : (row : ℕ) → row < t.size → q.machine.label (number row) ≡ t.machine.label row
-    label_number row l = quotient.labels (number row) (in_q (number_below row l)) ∙ label_first row l
-
-    -- a word leads to the number of the row to which it leads
-    run_number : (row : ℕ) (word : List ℕ) → row < t.size → IsWord word
-        → run q.machine.next (number row) word ≡ number (run t.machine.next row word)
-    run_number row [] l w = run-nil q.machine.next (number row) ∙ ap number (sym (run-nil t.machine.next row))
-    run_number row (unit ∷ word) l w =
-        run-cons q.machine.next (number row) unit word
-        ∙ ap (λ r. run q.machine.next r word) (next_number row unit l (IsWord-head unit word w))
-        ∙ run_number (t.machine.next row unit) word (is.nexts row unit l (IsWord-head unit word w))
-        (IsWord-tail unit word w)
-        ∙ ap number (sym (run-cons t.machine.next row unit word))
-
-    run_label : (row : ℕ) (word : List ℕ) → row < t.size → IsWord word
-        → q.machine.label (run q.machine.next (number row) word) ≡ t.machine.label (run t.machine.next row word)
-    run_label row word l w =
-        ap q.machine.label (run_number row word l w)
-        ∙ label_number (run t.machine.next row word)
-        (run-within t.machine.next (λ row. row < t.size) is.nexts row word l w)
-
-    entry_below : (mode : Anchored) (start : Start) → q.machine.entry mode start < q.size
-    entry_below mode start =
-        omega (
-          arith,
-          quotient.entries mode start,
-          quotient.size,
-          number_below (t.machine.entry mode start) (is.entries mode start),
-        )
-
-    next_below : (row unit : ℕ) → row < q.size → unit < 257 → q.machine.next row unit < q.size
-    next_below row unit l lu =
-        omega (
-          arith,
-          quotient.nexts row unit l lu,
-          quotient.size,
-          number_below (t.machine.next (first row) unit)
-              (is.nexts (first row) unit (first_below row (in_firsts l)) lu),
-        )
-
-    pub past_last : (n k : ℕ) (start : Start) → q.settings.pattern_starts ≡ Some n → n ≤ k
-        → q.machine.entry (Anchored.Pattern k) start ≡ 0
-    past_last n k start e l =
-        quotient.entries (Anchored.Pattern k) start
-        ∙ ap number (is.past_last n k start (ap (λ (s : Settings). s.pattern_starts) (sym quotient.settings) ∙ e) l)
-        ∙ number_zero
-
-    label_of_first : (row : ℕ) → row < q.size → q.machine.label row ≡ t.machine.label (first row)
-    label_of_first = quotient.labels
-
-    pub quotient_is_table : ((row : ℕ) → q.universal_unanchored ≡ Some row → row < q.size)
-        → ((row : ℕ) → q.universal_anchored ≡ Some row → row < q.size) → IsTable q
-    quotient_is_table unanchored anchored = record {
-      two = omega (arith, quotient.size, two_firsts);
-      entries = entry_below;
-      universal_unanchored = unanchored;
-      universal_anchored = anchored;
-      nexts = next_below;
-      past_last = past_last;
-      dead_only = quotient.dead_only;
-      dead_label = ap q.machine.label (sym number_zero) ∙ label_number 0 zero_row ∙ is.dead_label;
-      dead_stays = λ unit lu.
-          ap (λ r. q.machine.next r unit) (sym number_zero) ∙ next_number 0 unit zero_row lu
-          ∙ ap number (is.dead_stays unit lu) ∙ number_zero;
-      quit_label = ap q.machine.label (sym number_one) ∙ label_number 1 one_row ∙ is.quit_label;
-      quit_ends = λ unit lu.
-          ap (λ r. q.machine.next r unit) (sym number_one) ∙ next_number 1 unit one_row lu
-          ∙ ap number (is.quit_ends unit lu) ∙ number_zero;
-      quit_only = λ row l e.
-          sym (first_number row (in_firsts l))
-          ∙ ap number (is.quit_only (first row) (first_below row (in_firsts l)) (sym (label_of_first row l) ∙ e))
-          ∙ number_one;
-      lists = λ row l e.
-          is.lists (first row) (first_below row (in_firsts l)) (sym (label_of_first row l) ∙ e);
+    pub names : AreNames t q
+    names = record {
+      name = number;
+      row_at = first;
+      entries_within = is.entries;
+      nexts_within = is.nexts;
+      names_below = λ row l. in_q (number_below row l);
+      rows_below = λ k l. first_below k (in_firsts l);
+      named = λ k l. first_number k (in_firsts l);
+      dead = number_zero;
+      quit = number_one;
+      entries = quotient.entries;
+      nexts = next_number;
+      labels = λ row l. quotient.labels (number row) (in_q (number_below row l)) ∙ label_first row l;
     }
 
-    pub quotient_same : (Starts : Anchored → Type 0) → SameLabels Starts q.machine t.machine
-    quotient_same Starts mode begins start word w =
-        ap (λ r. q.machine.label (run q.machine.next r word)) (quotient.entries mode start)
-        ∙ run_label (t.machine.entry mode start) word (is.entries mode start) w
-
-    pub quotient_reached : (Starts : Anchored → Type 0)
-        → ((row : ℕ) → 1 < row → row < t.size → IsReachedRow Starts t row)
-        → (row : ℕ) → 1 < row → row < q.size → IsReachedRow Starts q row
-    quotient_reached Starts reach row h l =
-        let lf = in_firsts l in
-        let low = by.renumbered.are_firsts.rising 1 row h lf in
-        let r = reach (first row) (omega (arith, first_one)) (first_below row lf) in
-        record {
-          mode = r.mode;
-          begins = r.begins;
-          start = r.start;
-          word = r.word;
-          is_word = r.is_word;
-          leads =
-              ap (λ s. run q.machine.next s r.word) (quotient.entries r.mode r.start)
-              ∙ run_number (t.machine.entry r.mode r.start) r.word (is.entries r.mode r.start) r.is_word
-              ∙ ap number r.leads
-              ∙ first_number row lf;
-        }
-
     pub quotient_apart : (y z : ℕ) → y < q.size → z < q.size → y ≢ z → AreToldApart q y z
-    quotient_apart y z ly lz ne =
-        let fy = first_below y (in_firsts ly) in
-        let fz = first_below z (in_firsts lz) in
-        let ny = first_number y (in_firsts ly) in
-        let nz = first_number z (in_firsts lz) in
-        let w = told (first y) (first z) fy fz (λ e. ne (sym ny ∙ e ∙ nz)) in
-        record {
-          word = w.word;
-          is_word = w.is_word;
-          differ = λ e. w.differ (
-              sym (run_label (first y) w.word fy w.is_word)
-              ∙ ap (λ r. q.machine.label (run q.machine.next r w.word)) ny
-              ∙ e
-              ∙ ap (λ r. q.machine.label (run q.machine.next r w.word)) (sym nz)
-              ∙ run_label (first z) w.word fz w.is_word
-              );
-        }
+    unfolding names
+    quotient_apart = apart names told

@@ -1,10 +1,8 @@
 -- Blocks are numbered in the order of their first rows, one row after another.
-use Rattle.std.proofs.lemmas.Grind.{common_steps}
-use Rattle.std.proofs.Common.{◌≡◌, ◌≢◌, ℕ, ◌<◌, ◌≤◌, ◌+◌, ◌⊎◌, inl, inr, ⊎_elim, List, [], ◌∷◌, ◌++◌, length}
-use Rattle.std.proofs.Common.{length-append, refl, sym, ap, ◌∙◌, subst, arith}
-use Rattle.std.proofs.lemmas.Bool.{cases_eq}
-use Rattle.std.proofs.lemmas.List.{get_or_push, get_or_append_left, get_or-set_same, get_or-set_other, length-set}
-use Rattle.std.specs.Prelude.{slice_index, slice_set}
+use Rattle.rx_spec.proofs.Prelude.{common_steps, ◌≡◌, ◌≢◌, ℕ, ◌<◌, ◌≤◌, ◌+◌, ◌⊎◌, inl, inr, ⊎_elim, List, [], ◌∷◌, ◌++◌}
+use Rattle.rx_spec.proofs.Prelude.{length, length-append, refl, sym, ap, ◌∙◌, subst, arith, cases_eq, get_or_push}
+use Rattle.rx_spec.proofs.Prelude.{get_or_append_left, get_or-set_same, get_or-set_other, slice_index, slice_set}
+use Rattle.std.proofs.lemmas.List.{length-set}
 use Rattle.rx_minimize.specs.Blocks.{AreRenumbered}
 
 -- the first row of a named block, by its name

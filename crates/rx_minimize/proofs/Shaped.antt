@@ -1,7 +1,5 @@
 -- How many rows a table may have.
-use Rattle.std.proofs.Common.{◌≤◌, ◌<◌, ◌*◌, arith, ⊎_elim}
-use Rattle.std.proofs.lemmas.Bool.{cases_lt}
-use Rattle.std.proofs.lemmas.Nat.{pow_pos}
+use Rattle.rx_spec.proofs.Prelude.{◌≤◌, ◌<◌, ◌*◌, arith, ⊎_elim, cases_lt, pow_pos}
 use Rattle.rx_dense.specs.Layouts.{AreRows, Layout, row_count, stride}
 use Rattle.rx_dense.proofs.Rows.{IsRowId-row, id_few}
 

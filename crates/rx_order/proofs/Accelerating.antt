@@ -1,18 +1,11 @@
 -- Accelerated tables: a table in order, with the rows from which a search may skip put beside each other.
-use Rattle.std.proofs.Common.{rules, ◌≡◌, ℕ, ◌+◌, ◌-◌, ◌*◌, ◌/◌, ◌<◌, ◌≤◌, ◌==◌, ◌&&◌, not, nat_lt, nat_le, Bool, true}
-use Rattle.std.proofs.Common.{false, if◌then◌else◌, List, [], length, map, slice_index, get_or, refl, ap, ap₂, sym, ◌∙◌}
-use Rattle.std.proofs.Common.{subst, ⊎_elim, arith}
-use Rattle.std.specs.List.{concat, list_any, range_with_len}
-use Rattle.std.specs.List.Sorted.{IsPermutation}
-use Rattle.std.proofs.Math.Bool.{and-false}
-use Rattle.std.proofs.lemmas.Bool.{and_parts, cases_eq, cases_lt, eq-eqb, false≢true, le-ltb, leb-true, lt-ltb}
-use Rattle.std.proofs.lemmas.Bool.{ltb-true, ne_eqb}
-use Rattle.std.proofs.lemmas.List.FromFn.{get_or-map-range_with_len, length-map-range_with_len}
+use Rattle.rx_spec.proofs.Prelude.{rules, ◌≡◌, ℕ, ◌+◌, ◌-◌, ◌*◌, ◌/◌, ◌<◌, ◌≤◌, ◌==◌, ◌&&◌, not, nat_lt, nat_le, Bool}
+use Rattle.rx_spec.proofs.Prelude.{true, false, if◌then◌else◌, List, [], length, map, slice_index, get_or, refl, ap}
+use Rattle.rx_spec.proofs.Prelude.{ap₂, sym, ◌∙◌, subst, ⊎_elim, arith, common_steps, concat, range_with_len}
+use Rattle.rx_spec.proofs.Prelude.{IsPermutation, and-false, and-true, and_parts, cases_eq, cases_lt, eq-eqb}
+use Rattle.rx_spec.proofs.Prelude.{false≢true, le-ltb, leb-true, lt-ltb, ltb-true, ne_eqb, get_or-map-range_with_len}
+use Rattle.rx_spec.proofs.Prelude.{length-map-range_with_len, max_id, IsSound, Table, is_match, leaving}
 use Rattle.lemmas_tables.proofs.Filters.{every_in_range, filter_alike}
-use Rattle.rx_spec.specs.Causes.{max_id}
-use Rattle.rx_spec.specs.Machines.{Label}
-use Rattle.rx_spec.specs.Tables.{IsSound, Table, is_match, is_match_label, leaving}
-use Rattle.rx_search.specs.Labels.{patterns_of}
 use Rattle.rx_dense.specs.Builder.{with_patterns}
 use Rattle.rx_dense.specs.Layouts.{Layout, AreRows, AreStarts, machine_of, place_in_range, row_count, stride, table_of}
 use Rattle.rx_dense.specs.Layouts.{IsRowId}
@@ -20,24 +13,25 @@ use Rattle.rx_dense.specs.declared.special.Special.{Special}
 use Rattle.rx_dense.proofs.Shaped.{rows_kept, starts_kept}
 use Rattle.rx_order.specs.ByKind.{AreByKind, AreKinds, leaving_of, lists_in}
 use Rattle.rx_order.specs.Moved.{IsReordered}
-use Rattle.rx_order.specs.Ordering.{IsAccelerated, IsRouted}
+use Rattle.rx_order.specs.Ordering.{IsAccelerated}
 use Rattle.rx_order.specs.RowOrder.{IsInOrder, IsPlain, accel_count, are_needles, is_marked, is_skippable, is_start_row}
 use Rattle.rx_order.specs.SpecialIds.{special_ids}
 use Rattle.rx_order.proofs.Leaving.{leaving_is}
-use Rattle.rx_order.proofs.MarkedRows.{start_row_plain}
-use Rattle.rx_order.proofs.MatchRows.{HasPatterns, joined, label_of_number, lists_are, matching_label, place_from}
-use Rattle.rx_order.proofs.MatchRows.{plain_label}
-use Rattle.rx_order.proofs.Ordered.{IsArranged, Sorting, accel_id, accel_is, behind_end, end, end_high, ends_few}
-use Rattle.rx_order.proofs.Ordered.{ends_quit, kind_at, low_kind, low_row, number, ordered, permuted, row_at, from_end}
-use Rattle.rx_order.proofs.Ordered.{high_kind_is, size_same, some, special_is, stride_same, to_end, specials}
-use Rattle.rx_order.proofs.Ordered.{start_kinds, start_row_is}
-use Rattle.rx_order.proofs.KindNumbers.{high_matches, at_most}
+use Rattle.rx_order.proofs.MarkedRows.{match_starts}
+use Rattle.rx_order.proofs.MatchRows.{HasPatterns, joined, label_of_lists, lists_are, lists_count, low_match}
+use Rattle.rx_order.proofs.MatchRows.{place_from, range_count}
+use Rattle.rx_order.proofs.KindRanges.{end_high, ends_quit, from_end, is_between}
+use Rattle.rx_order.proofs.Ordered.{IsArranged, Sorting, accel_id, accel_is, ends_few, kind_ends, kind_at, low_kind}
+use Rattle.rx_order.proofs.Ordered.{low_row, number, ordered, permuted, row_at, kind_is, quit, size_same, some}
+use Rattle.rx_order.proofs.Ordered.{special_is, stride_same, to_end, specials, start_is, start_row_is}
+use Rattle.rx_order.proofs.KindNumbers.{kind_matches, at_most}
 use Rattle.rx_order.proofs.Reordered.{IsBefore, next_below, number_below, number_of_place, numbers, row_at_number}
 use Rattle.rx_order.proofs.Reordered.{row_of_place, stride_is}
-use Rattle.std.proofs.lemmas.Nat.{row_fits}
 use Rattle.rx_dense.specs.Specials.{is_start_id}
 use Rattle.rx_dense.proofs.Rows.{quotient, row-below}
-use Rattle.rx_order.proofs.Sound.{AreLabels, HasNeedles, frame, sound}
+use Rattle.rx_order.specs.Permuted.{IsPermuted}
+use Rattle.rx_order.proofs.Runs.{HasNeedles, permuted_moved}
+use Rattle.rx_order.proofs.Sound.{frame, sound}
 use Rattle.rx_order.proofs.Unskipped.{low_none}
 
 -- what the call learns of a table, and what its calls leave
@@ -57,26 +51,10 @@ pub record IsAccelerating (old : Layout) (kinds rows ends : List ℕ) (next new 
     special = special_ids (stride new) ends (is_marked old);
   }
 
--- ---- labels
-
-plain_no_match : (label : Label) → label ≡ Label.Plain → is_match_label label ≡ false
-plain_no_match label e = ap is_match_label e
-
-plain_apart : Label.Plain ≡ Label.Quits → ⊥
-plain_apart e = cc
-
 -- ---- filters
 
 needle_parts : (xs : List ℕ) → are_needles xs ≡ true → (1 ≤ length xs) × (length xs ≤ 3)
-needle_parts xs e = by_test (nat_le 1 (length xs)) (nat_le (length xs) 3) refl refl
-  where
-    by_test : (a b : Bool) → nat_le 1 (length xs) ≡ a → nat_le (length xs) 3 ≡ b → (1 ≤ length xs) × (length xs ≤ 3)
-    by_test true true f g = (leb-true 1 (length xs) f, leb-true (length xs) 3 g)
-    by_test true false f g =
-        absurd (false≢true (sym (ap₂ (λ (a b : Bool). a && b && not (list_any (λ byte. byte == 32) xs)) f g) ∙ e))
-    by_test false b f g =
-        absurd (false≢true (sym (ap (λ (a : Bool). a && nat_le (length xs) 3 && not (list_any
-        (λ byte. byte == 32) xs)) f) ∙ e))
+needle_parts xs e = grind (arith, common_steps, and_parts, leb-true)
 
 module _ {old : Layout} {kinds rows ends : List ℕ} {next new m : Layout}
     (s : IsAccelerating old kinds rows ends next new m) where
@@ -128,21 +106,13 @@ module _ {old : Layout} {kinds rows ends : List ℕ} {next new m : Layout}
   sound_old : IsSound (table_of old)
   sound_old = s.in_order.sound
 
-  plain : (row : ℕ) → is_match (table_of old) row ≡ true → is_start_row old row ≡ false
-  plain row e = by_start (is_start_row old row) refl
-    where
-      by_start : (b : Bool) → is_start_row old row ≡ b → b ≡ false
-      by_start false h = refl
-      by_start true h = absurd (false≢true (sym (plain_no_match ((table_of old).machine.label row)
-          (start_row_plain old sound_old row h)) ∙ e))
-
   pub arranged : IsArranged sorting l new m
   arranged = record {
     before = before;
     reordered = reordered;
     kinds = record { count = s.kinds_are.count; kinds_are = s.kinds_are.kinds_are };
     by_kind = s.by_kind;
-    plain = plain;
+    plain = match_starts old sound_old;
     rest =
         subst (λ (k : Layout). k ≡ record new {
           slices = k.slices;
@@ -159,15 +129,9 @@ module _ {old : Layout} {kinds rows ends : List ℕ} {next new m : Layout}
 
   -- ---- the patterns
 
-  lists_count : length lists ≡ end arranged 3 - 2
-  lists_count =
-      length-map-range_with_len (λ place. patterns_of (table_of old) (slice_index rows place)) (slice_index ends 1)
-      (slice_index ends 3 - slice_index ends 1)
-      ∙ ap (λ n. slice_index ends 3 - n) (ends_quit arranged)
-
   has_patterns : HasPatterns sorting.ends m lists
   has_patterns = record {
-    count = lists_count;
+    count = lists_count old rows ends (ends_quit (kind_ends arranged));
     slices =
         ap (λ (k : Layout). k.slices) set_is ∙ ap (λ (k : Layout). k.slices) reordered.is
         ∙ ap (λ (k : Layout). k.slices) reordered.moved.rest;
@@ -178,89 +142,21 @@ module _ {old : Layout} {kinds rows ends : List ℕ} {next new m : Layout}
 
   -- ---- what each row tells
 
-  match_high : (row : ℕ) → row < row_count old → is_match (table_of old) row ≡ true → 1 < row
-  match_high row h e =
-      ⊎_elim
-      (λ (high : 1 < row). high)
-      (λ (low : row ≤ 1).
-      ⊎_elim
-      (λ (zero : row ≡ 0).
-      absurd (false≢true (sym (plain_no_match ((table_of old).machine.label 0) sound_old.is_table.dead_label)
-      ∙ ap (is_match (table_of old)) (sym zero) ∙ e)))
-      (λ (ne : row ≡ 0 → ⊥).
-      let one : row ≡ 1 = omega (arith, ne) in
-      absurd (false≢true (sym (ap is_match_label sound_old.is_table.quit_label)
-      ∙ ap (is_match (table_of old)) (sym one) ∙ e)))
-      (cases_eq row 0))
-      (cases_lt 1 row)
-
-  -- the list of a match row
-  list_is : (row : ℕ) → row < row_count old → is_match (table_of old) row ≡ true
-      → get_or lists (number arranged row - 2) [] ≡ patterns_of (table_of old) row
-  list_is row h e =
-      let below = number_below arranged.reordered arranged.before row h in
-      let back = row_at_number arranged.reordered arranged.before row h in
-      let high = match_high row h e in
-      let place : ℕ = number arranged row in
-      let behind : 1 < place =
-      ⊎_elim
-      (λ (past : 1 < place). past)
-      (λ (low : place ≤ 1). absurd (omega (arith, low_row arranged place low, back, high)))
-      (cases_lt 1 place) in
-      let kind = high_kind_is arranged place below behind in
-      let tested = high_matches (is_match (table_of old) (row_at arranged place))
-      (are_needles (leaving_of (table_of old) (row_at arranged place))) (is_start_row old (row_at arranged place)) in
-      let own : is_match (table_of old) (row_at arranged place) ≡ true = ap (is_match (table_of old)) back ∙ e in
-      let kinds_in = and_parts (nat_lt 1 (kind_at arranged place)) (nat_le (kind_at arranged place) 3)
-      (ap (λ k. nat_lt 1 k && nat_le k 3) kind ∙ tested ∙ own) in
-      let low_end = leb-true (kind_at arranged place) 3 kinds_in.1 in
-      let within : place < end arranged 3 =
-      ⊎_elim
-      (λ (b : place < end arranged 3). b)
-      (λ (past : end arranged 3 ≤ place). absurd (omega (
-        arith,
-        behind_end arranged place 3 below
-            (omega arith) past,
-        low_end,
-      )))
-      (cases_lt place (end arranged 3)) in
-      let two = ends_quit arranged in
-      let at : slice_index ends 1 + (place - 2) ≡ place = omega (arith, two) in
-      get_or-map-range_with_len (λ place. patterns_of (table_of old) (slice_index rows place)) (slice_index ends 1)
-      (slice_index ends 3 - slice_index ends 1) (place - 2) place [] (omega (arith, two)) at
-      ∙ ap (patterns_of (table_of old)) back
-
   told : (row : ℕ) → row < row_count old
       → (table_of m).machine.label (number arranged row) ≡ (table_of old).machine.label row
   told row h =
-      label_of_number arranged has_patterns row h ∙ by_match (is_match (table_of old) row) refl
-    where
-      by_match : (b : Bool) → is_match (table_of old) row ≡ b
-          → (if row == 1 then Label.Quits
-          else (if nat_lt 1 row && is_match (table_of old) row
-          then Label.Matches (get_or lists (number arranged row - 2) []) else Label.Plain))
-          ≡ (table_of old).machine.label row
-      by_match true e =
-          let high = match_high row h e in
-          let other : row ≡ 1 → ⊥ = λ one. absurd (omega (arith, high, one)) in
-          ap (λ b. if b then Label.Quits else (if nat_lt 1 row && is_match (table_of old) row
-          then Label.Matches (get_or lists (number arranged row - 2) []) else Label.Plain)) (ne_eqb row 1 other)
-          ∙ ap (λ b. if b then Label.Matches (get_or lists (number arranged row - 2) []) else Label.Plain)
-          (ap₂ (λ (a b : Bool). a && b) (lt-ltb 1 row high) e)
-          ∙ ap Label.Matches (list_is row h e) ∙ sym (matching_label ((table_of old).machine.label row) e)
-      by_match false e =
-          ap (λ b. if row == 1 then Label.Quits else (if b
-          then Label.Matches (get_or lists (number arranged row - 2) []) else Label.Plain))
-          (ap (λ b. nat_lt 1 row && b) e ∙ and-false (nat_lt 1 row))
-          ∙ ⊎_elim
-          (λ (one : row ≡ 1).
-          ap (λ b. if b then Label.Quits else Label.Plain) (eq-eqb row 1 one)
-          ∙ sym (ap (table_of old).machine.label one ∙ sound_old.is_table.quit_label))
-          (λ (ne : row ≡ 1 → ⊥).
-          ap (λ b. if b then Label.Quits else Label.Plain) (ne_eqb row 1 ne)
-          ∙ sym (plain_label ((table_of old).machine.label row) e (λ quits. ne
-          (sound_old.is_table.quit_only row h quits))))
-          (cases_eq row 1)
+      let place : ℕ = number arranged row in
+      let below = number_below arranged.reordered arranged.before row h in
+      let back = row_at_number arranged.reordered arranged.before row h in
+      label_of_lists (specials arranged) old rows has_patterns sound_old.is_table place
+      (omega (arith, below, size_same arranged)) (row_of_place arranged.reordered arranged.before place below)
+      (λ e. ap (number arranged) (sym back ∙ e) ∙ quit arranged)
+      (λ e. ap (row_at arranged) e ∙ low_row arranged 1 (omega arith))
+      (ap (is_between 1 3) (kind_is arranged place below)
+      ∙ kind_matches (row_at arranged place) (is_match (table_of old) (row_at arranged place))
+      (are_needles (leaving_of (table_of old) (row_at arranged place))) (is_start_row old (row_at arranged place))
+      (low_match (table_of old) sound_old.is_table (row_at arranged place)))
+      ∙ ap (table_of old).machine.label back
 
   -- ---- the rows from which a search may skip
 
@@ -329,7 +225,7 @@ module _ {old : Layout} {kinds rows ends : List ℕ} {next new m : Layout}
       let kinds_in = and_parts (nat_lt 2 (kind_at arranged place)) (nat_le (kind_at arranged place) 5)
       (sym (accel_id arranged place h) ∙ e) in
       let low : slice_index ends 2 ≤ place =
-      leb-true (slice_index ends 2) place (from_end arranged place 2 h (omega arith) ∙ kinds_in.0) in
+      leb-true (slice_index ends 2) place (from_end (kind_ends arranged) place 2 h (omega arith) ∙ kinds_in.0) in
       let high : place < slice_index ends 5 =
       ltb-true place (slice_index ends 5) (to_end arranged place 5 h (omega arith) ∙ kinds_in.1) in
       let first : m.special.min_accel ≡ slice_index ends 2 * stride old =
@@ -351,7 +247,7 @@ module _ {old : Layout} {kinds rows ends : List ℕ} {next new m : Layout}
   skip_bytes place b e =
       (and_parts (nat_lt 2 (row_count m)) (are_needles (leaving (table_of m) place)) (sym (accelerated place b) ∙ e)).1
 
-  has_needles : HasNeedles m
+  has_needles : HasNeedles (table_of m)
   has_needles = record {
     needles = skips;
     some_needle = λ place b e.
@@ -368,62 +264,23 @@ module _ {old : Layout} {kinds rows ends : List ℕ} {next new m : Layout}
   counted =
       let first : ℕ = slice_index ends 2 in
       let last : ℕ = slice_index ends 5 in
-      let own : length m.accels ≡ last - first =
+      let high = end_high (kind_ends arranged) 2 (omega arith) (omega arith) in
       ap length accels_are
-      ∙ length-map-range_with_len (λ place. leaving_of (table_of old) (slice_index rows place)) first (last - first) in
-      ⊎_elim
-      (λ (h : first < last).
-      let min_is : m.special.min_accel ≡ first * stride old =
-      ap (λ (k : Special). k.min_accel) (special_is arranged)
-      ∙ ap (λ b. if b then first * stride old else 0) (lt-ltb first last h) in
-      let max_is : m.special.max_accel ≡ (last - 1) * stride old =
-      ap (λ (k : Special). k.max_accel) (special_is arranged)
-      ∙ ap (λ b. if b then (last - 1) * stride old else 0) (lt-ltb first last h) in
-      let high = end_high arranged 2 (omega arith) (omega arith) in
-      let above : 0 < first * stride old =
-      omega (arith, row_fits 0 (stride old) first (stride old) (omega (arith, high)) (omega arith), some arranged) in
-      let other : m.special.min_accel ≡ 0 → ⊥ = λ e. absurd (omega (arith, e, min_is, above)) in
-      let upto : first ≤ last - 1 = omega (arith, h) in
-      let places : place_in_range m m.special.min_accel m.special.max_accel ≡ last - 1 - first =
-      (λ i. (max_is i - min_is i) / stride_same arranged i)
-      ∙ place_from first (last - 1) (stride old) (some arranged) upto in
-      sym (ap (λ b. if b then 0 else place_in_range m m.special.min_accel m.special.max_accel + 1)
-      (ne_eqb m.special.min_accel 0 other)
-      ∙ omega (arith, places, own, h)))
-      (λ (h : last ≤ first).
-      let min_is : m.special.min_accel ≡ 0 =
-      ap (λ (k : Special). k.min_accel) (special_is arranged)
-      ∙ ap (λ b. if b then first * stride old else 0) (le-ltb first last h) in
-      own ∙ omega (arith, h)
-      ∙ sym (ap (λ b. if b then 0 else place_in_range m m.special.min_accel m.special.max_accel + 1)
-      (eq-eqb m.special.min_accel 0 min_is)))
-      (cases_lt first last)
+      ∙ length-map-range_with_len (λ place. leaving_of (table_of old) (slice_index rows place)) first (last - first)
+      ∙ sym (ap₂ (λ (x : Special) (w : ℕ). if x.min_accel == 0 then 0 else (x.max_accel - x.min_accel) / w + 1)
+      (special_is arranged) (stride_same arranged)
+      ∙ range_count (stride old) first last (some arranged) (omega (arith, high)))
 
   -- ---- marks
 
-  -- a marked table has a start row, whose kind is marked
-  start_kind : (row : ℕ) → row < row_count old → is_start_row old row ≡ true
-      → slice_index ends 4 < slice_index ends 6
-  start_kind row h e =
-      let place : ℕ = number arranged row in
-      let below = number_below arranged.reordered arranged.before row h in
-      let back = row_at_number arranged.reordered arranged.before row h in
-      let kind : (nat_lt 4 (kind_at arranged place) && nat_le (kind_at arranged place) 6) ≡ true =
-      start_kinds arranged place below ∙ start_row_is arranged place below ∙ ap (is_start_row old) back ∙ e in
-      let parts = and_parts (nat_lt 4 (kind_at arranged place)) (nat_le (kind_at arranged place) 6) kind in
-      let low : slice_index ends 4 ≤ place =
-      leb-true (slice_index ends 4) place (from_end arranged place 4 below (omega arith) ∙ parts.0) in
-      let high : place < slice_index ends 6 =
-      ltb-true place (slice_index ends 6) (to_end arranged place 6 below (omega arith) ∙ parts.1) in
-      omega arith
-
+  -- where start rows were marked there was one, and it is marked still
   marked_same : is_marked m ≡ is_marked old
-  marked_same =
-      ap (λ (k : Special). not (k.min_start == 0)) (special_is arranged) ∙ by_mark (is_marked old) refl
+  marked_same = by_mark (is_marked old) refl
     where
-      by_mark : (b : Bool) → is_marked old ≡ b
-          → not ((special_ids (stride old) ends b).min_start == 0) ≡ b
-      by_mark false e = refl
+      by_mark : (b : Bool) → is_marked old ≡ b → is_marked m ≡ is_marked old
+      by_mark false e =
+          ap (λ (k : Special). not (k.min_start == 0)) (special_is arranged)
+          ∙ ap (λ b. not ((special_ids (stride old) ends b).min_start == 0)) e ∙ sym e
       by_mark true e =
           ⊎_elim
           (λ (none : (old.special.min_start ≡ 0) × (old.special.max_start ≡ 0)).
@@ -433,58 +290,32 @@ module _ {old : Layout} {kinds rows ends : List ℕ} {next new m : Layout}
           let id : ℕ = old.special.min_start in
           let row : ℕ = id / stride old in
           let below = row-below old id range.2 in
-          let whole : row * stride old ≡ id = quotient id (stride old) range.2.whole in
-          let not_zero : id ≡ 0 → ⊥ = λ z. absurd (omega (arith, z, range.0)) in
           let inside : is_start_id old.special id ≡ true =
           ap₂ (λ (a b : Bool). a && b && not (id == 0)) (at_most id id (omega arith))
           (at_most id old.special.max_start range.1)
-          ∙ ap not (ne_eqb id 0 not_zero) in
-          let marks = s.in_order.ordered.marks row below in
-          let both : (is_marked old && is_start_row old row) ≡ true =
-          sym marks ∙ ap (is_start_id old.special) whole ∙ inside in
-          let starts = (and_parts (is_marked old) (is_start_row old row) both).1 in
-          let some_start = start_kind row below starts in
-          let high = end_high arranged 4 (omega arith) (omega arith) in
-          let above : 0 < slice_index ends 4 * stride old =
-          omega (
-            arith,
-            row_fits 0 (stride old) (slice_index ends 4) (stride old) (omega (arith, high))
-                (omega arith),
-            some arranged,
-          ) in
-          let other : slice_index ends 4 * stride old ≡ 0 → ⊥ = λ z. absurd (omega (arith, z, above)) in
-          ap (λ b. not ((if b then slice_index ends 4 * stride old else 0) == 0))
-          (lt-ltb (slice_index ends 4) (slice_index ends 6) some_start)
-          ∙ ap not (ne_eqb (slice_index ends 4 * stride old) 0 other))
+          ∙ e in
+          let starts = (and_parts (is_marked old) (is_start_row old row)
+          (sym (s.in_order.ordered.marks row below)
+          ∙ ap (is_start_id old.special) (quotient id (stride old) range.2.whole) ∙ inside)).1 in
+          let place : ℕ = number arranged row in
+          let there = number_below arranged.reordered arranged.before row below in
+          let here : is_start_row m place ≡ true =
+          start_row_is arranged place there
+          ∙ ap (is_start_row old) (row_at_number arranged.reordered arranged.before row below) ∙ starts in
+          let both = λ (b : Bool). ap (λ c. b && c) here ∙ and-true b in
+          sym (both (is_marked m)) ∙ sym ((ordered arranged).marks place (omega (arith, size_same arranged)))
+          ∙ start_is arranged place there ∙ both (is_marked old))
           s.in_order.ordered.starts
 
   -- ---- all of it
 
-  labels_are : AreLabels l (table_of old).machine.label
-  labels_are = search rules
-
-  routed : IsRouted (table_of l)
-  routed = record {
-    past_last = sound_old.is_table.past_last;
-    dead_stays = sound_old.is_table.dead_stays;
-    quit_ends = sound_old.is_table.quit_ends;
-    eoi_goes_on = sound_old.eoi_goes_on;
-    starts = λ mode start e.
-        plain_apart (sym (sound_old.starts_plain mode start) ∙ ap (table_of old).machine.label e
-        ∙ sound_old.is_table.quit_label);
-  }
+  moved : IsPermuted (numbers arranged.reordered arranged.before) (table_of old) (table_of m)
+  moved = let p = permuted arranged in search rules
 
   pub accelerating : IsAccelerated old m
   accelerating = record {
     numbers = numbers arranged.reordered arranged.before;
-    permuted = record {
-      permutation = (permuted arranged).permutation;
-      size = (permuted arranged).size;
-      dead = (permuted arranged).dead;
-      quit = (permuted arranged).quit;
-      entries = (permuted arranged).entries;
-      nexts = (permuted arranged).nexts;
-    };
+    permuted = moved;
     labels = told;
     accelerated = accelerated;
     counted = counted;
@@ -493,7 +324,15 @@ module _ {old : Layout} {kinds rows ends : List ℕ} {next new m : Layout}
         ∙ ap (is_start_row old) (row_at_number arranged.reordered arranged.before row h);
     marked = marked_same;
     in_order = record {
-      sound = sound arranged routed told labels_are has_needles;
+      sound =
+          sound arranged (permuted_moved sound_old.is_table.entries sound_old.is_table.nexts moved told).names
+          (record {
+            is_table = sound_old.is_table;
+            eoi_goes_on = sound_old.eoi_goes_on;
+            starts_plain = sound_old.starts_plain;
+            patterns = sound_old.patterns;
+          })
+          refl refl has_needles;
       ordered = ordered arranged;
       few =
           subst (λ (ls : List (List ℕ)). length (concat ls) ≤ max_id)

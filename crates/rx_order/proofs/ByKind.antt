@@ -1,14 +1,10 @@
 -- Rows that were sorted by their kinds, and by their ranks within a kind.
-use Rattle.std.proofs.Common.{rules, ◌≡◌, ℕ, ◌+◌, ◌*◌, ◌^◌, ◌<◌, ◌≤◌, List, [], ◌∷◌, length, map, slice_index, get_or}
-use Rattle.std.proofs.Common.{All, refl, ap, sym, ◌∙◌, subst, arith, nat_le, true, false}
-use Rattle.std.proofs.lemmas.Grind.{common_steps}
-use Rattle.std.specs.List.{range_with_len}
-use Rattle.std.specs.List.Sorted.{IsNonDecreasingBy, IsPartitionedBy, IsPartitionPoint, IsPermutation}
-use Rattle.std.proofs.lemmas.List.{get_or-map, length-map}
-use Rattle.std.proofs.lemmas.List.Elements.{All-cons, All-get_or, All-nil}
-use Rattle.std.proofs.lemmas.Bool.{leb-false, leb-true}
-use Rattle.std.proofs.lemmas.List.FromFn.{length-map-range_with_len}
-use Rattle.std.proofs.lemmas.List.Sorted.{All-permutation, IsPermutation-map, length_permutation}
+use Rattle.rx_spec.proofs.Prelude.{rules, ◌≡◌, ℕ, ◌+◌, ◌*◌, ◌^◌, ◌<◌, ◌≤◌, List, [], ◌∷◌, length, map, slice_index}
+use Rattle.rx_spec.proofs.Prelude.{get_or, All, refl, ap, sym, ◌∙◌, subst, arith, nat_le, true, false, common_steps}
+use Rattle.rx_spec.proofs.Prelude.{range_with_len, IsPermutation, get_or-map, length-map, All-cons, All-get_or, All-nil}
+use Rattle.rx_spec.proofs.Prelude.{leb-false, leb-true, length-map-range_with_len, All-permutation, length_permutation}
+use Rattle.std.specs.List.Sorted.{IsNonDecreasingBy, IsPartitionedBy, IsPartitionPoint}
+use Rattle.std.proofs.lemmas.List.Sorted.{IsPermutation-map}
 use Rattle.rx_order.specs.ByKind.{AreByKind, AreRanked}
 use Rattle.rx_order.specs.Ranks.{ranked_row}
 use Rattle.rx_order.specs.declared.order.Ranked.{Ranked}

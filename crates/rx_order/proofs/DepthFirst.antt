@@ -1,14 +1,8 @@
 -- A walk over the rows of a table, as deep as it can go.
-use Rattle.std.proofs.Common.{rules, ◌≡◌, ℕ, ◌+◌, ◌-◌, ◌*◌, ◌/◌, ◌%◌, ◌<◌, ◌≤◌, ◌^◌, ◌++◌, [], ◌∷◌, List, All, Some}
-use Rattle.std.proofs.Common.{length, slice_index, slice_set, arith}
-use Rattle.std.proofs.lemmas.Grind.{common_steps}
-use Rattle.std.proofs.Math.Nat.{mod-eq_of_lt}
-use Rattle.std.proofs.lemmas.Bool.{cases_eq}
-use Rattle.std.proofs.lemmas.List.{get_or-set_other}
+use Rattle.rx_spec.proofs.Prelude.{rules, ◌≡◌, ℕ, ◌+◌, ◌-◌, ◌*◌, ◌/◌, ◌%◌, ◌<◌, ◌≤◌, ◌^◌, ◌++◌, [], ◌∷◌, List, All}
+use Rattle.rx_spec.proofs.Prelude.{Some, length, slice_index, slice_set, arith, common_steps, mod-eq_of_lt, cases_eq}
+use Rattle.rx_spec.proofs.Prelude.{get_or-set_other, get_or-range_with_len, pow_pos, range_with_len}
 use Rattle.std.proofs.lemmas.List.Elements.{All-pop}
-use Rattle.std.proofs.lemmas.List.FromFn.{get_or-range_with_len}
-use Rattle.std.proofs.lemmas.Nat.{pow_pos}
-use Rattle.std.specs.List.{range_with_len}
 use Rattle.rx_base.specs.ByteClasses.{alphabet_len}
 use Rattle.rx_dense.specs.Layouts.{Layout, AreRows, row_count, stride}
 use Rattle.rx_dense.proofs.Rows.{multiple_below, row-below, stride_few}

@@ -1,16 +1,11 @@
 -- Lists of the numbers below a number, in any order: each number stands at one place.
-use Rattle.std.proofs.lemmas.Grind.{common_steps}
-use Rattle.std.proofs.Common.{◌≡◌, ℕ, ◌+◌, ◌<◌, ◌==◌, List, [], ◌∷◌, ◌++◌, length, get_or, map, refl, sym, ◌∙◌, ap}
-use Rattle.std.proofs.Common.{arith, eqb}
-use Rattle.std.specs.Prelude.{All, Contains, slice_index}
-use Rattle.std.specs.List.{IsDistinct, position_or_len, range_with_len, swap}
-use Rattle.std.specs.List.Sorted.{IsPermutation}
-use Rattle.std.proofs.lemmas.Bool.{cases_eq, eq-eqb, ne_eqb}
-use Rattle.std.proofs.lemmas.List.{get_or-map, get_or_default, map-id, map-set}
-use Rattle.std.proofs.lemmas.List.Elements.{All-from_get_or, All-get_or}
-use Rattle.std.proofs.lemmas.List.FromFn.{get_or-range_with_len, length-range_with_len, map-range_with_len_more}
-use Rattle.std.proofs.lemmas.List.Sorted.{All-permutation, Contains-permutation, length_permutation}
-use Rattle.std.proofs.lemmas.List.Sums.{position_or_len_is}
+use Rattle.rx_spec.proofs.Prelude.{common_steps, ◌≡◌, ℕ, ◌+◌, ◌<◌, ◌==◌, List, [], ◌∷◌, ◌++◌, length, get_or, map, refl}
+use Rattle.rx_spec.proofs.Prelude.{sym, ◌∙◌, ap, arith, eqb, All, Contains, slice_index, IsDistinct, position_or_len}
+use Rattle.rx_spec.proofs.Prelude.{range_with_len, swap, IsPermutation, cases_eq, eq-eqb, ne_eqb, get_or-map}
+use Rattle.rx_spec.proofs.Prelude.{get_or_default, map-id, map-set, All-from_get_or, All-get_or, get_or-range_with_len}
+use Rattle.rx_spec.proofs.Prelude.{length-range_with_len, map-range_with_len_more, All-permutation, length_permutation}
+use Rattle.rx_spec.proofs.Prelude.{position_or_len_is}
+use Rattle.std.proofs.lemmas.List.Sorted.{Contains-permutation}
 use Rattle.std.proofs.lemmas.Map.Keys.{IsDistinct-IsPermutation, IsDistinct-from_apart, apart_from_distinct}
 
 -- images change places with what they are images of

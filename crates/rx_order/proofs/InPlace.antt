@@ -1,13 +1,8 @@
 -- Rows that lie in order already: the table stays as it is, since each row has its own id.
-use Rattle.std.proofs.Common.{rules, ◌≡◌, ◌≢◌, ℕ, zero, suc, ◌+◌, ◌-◌, ◌*◌, ◌<◌, ◌≤◌, ◌∙◌, List, slice_index, refl, ap}
-use Rattle.std.proofs.Common.{sym, subst, ⊎_elim, arith}
-use Rattle.std.proofs.lemmas.Grind.{common_steps}
-use Rattle.std.specs.List.{range_with_len}
-use Rattle.std.specs.List.Sorted.{IsNonDecreasing, IsPermutation}
-use Rattle.std.proofs.lemmas.Bool.{cases_eq, lt-ltb}
-use Rattle.std.proofs.lemmas.List.{map-id}
-use Rattle.std.proofs.lemmas.List.FromFn.{fill_by_all}
-use Rattle.std.proofs.lemmas.List.Elements.{All-from_get_or}
+use Rattle.rx_spec.proofs.Prelude.{rules, ◌≡◌, ◌≢◌, ℕ, zero, suc, ◌+◌, ◌-◌, ◌*◌, ◌<◌, ◌≤◌, ◌∙◌, List, slice_index, refl}
+use Rattle.rx_spec.proofs.Prelude.{ap, sym, subst, ⊎_elim, arith, common_steps, range_with_len, IsPermutation, cases_eq}
+use Rattle.rx_spec.proofs.Prelude.{lt-ltb, map-id, fill_by_all, All-from_get_or}
+use Rattle.std.specs.List.Sorted.{IsNonDecreasing}
 use Rattle.std.proofs.lemmas.List.Folds.{map_fixed}
 use Rattle.lemmas_tables.proofs.Ids.{id_of-dense}
 use Rattle.rx_order.proofs.ExchangedRows.{count_of, places_apart, row_below}

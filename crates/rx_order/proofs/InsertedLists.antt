@@ -1,15 +1,10 @@
 -- Lists of patterns that are inserted into a map one after another, each behind the map's last key.
-use Rattle.std.proofs.Common.{◌≡◌, ◌+◌, ◌-◌, ◌*◌, ◌<◌, ◌≤◌, ◌∙◌, ◌++◌, [], ◌∷◌, ℕ, List, All, Vec, Global, map, refl}
-use Rattle.std.proofs.Common.{ap, ap₂, sym, subst, arith}
-use Rattle.std.specs.BTreeMap.{insert_entry, keys}
-use Rattle.std.specs.List.{range_with_len}
-use Rattle.std.specs.Map.{keys_of, values_of}
-use Rattle.std.specs.Ordering.{nat_cmp}
-use Rattle.std.specs.Vec.{vec_items}
-use Rattle.std.proofs.lemmas.Bool.{le-ltb, ne_eqb}
-use Rattle.std.proofs.lemmas.List.Elements.{All-from_get_or, All-head, All-tail}
-use Rattle.std.proofs.lemmas.List.FromFn.{get_or-map-range_with_len, length-map-range_with_len, map-range_with_len_more}
-use Rattle.std.proofs.lemmas.Nat.{row_fits}
+use Rattle.rx_spec.proofs.Prelude.{◌≡◌, ◌+◌, ◌-◌, ◌*◌, ◌<◌, ◌≤◌, ◌∙◌, ◌++◌, [], ◌∷◌, ℕ, List, All, Vec, Global, map}
+use Rattle.rx_spec.proofs.Prelude.{refl, ap, ap₂, sym, subst, arith, keys, range_with_len, keys_of, values_of, nat_cmp}
+use Rattle.rx_spec.proofs.Prelude.{vec_items, le-ltb, ne_eqb, All-from_get_or, All-head, All-tail}
+use Rattle.rx_spec.proofs.Prelude.{get_or-map-range_with_len, length-map-range_with_len, map-range_with_len_more}
+use Rattle.rx_spec.proofs.Prelude.{row_fits}
+use Rattle.std.specs.BTreeMap.{insert_entry}
 use Rattle.rx_dense.specs.Builder.{pattern_lists}
 use Rattle.rx_order.specs.Ordering.{Matches}
 

@@ -1,14 +1,10 @@
 -- Match rows that keep their places keep their lists of patterns.
-use Rattle.std.proofs.Common.{◌≡◌, ℕ, ◌+◌, ◌-◌, ◌*◌, ◌/◌, ◌<◌, ◌≤◌, ◌==◌, ◌&&◌, inl, inr, Bool, true, List, []}
-use Rattle.std.proofs.Common.{if◌then◌else◌, map, length, slice_index, nat_le, nat_lt, not, refl, ap, ap₂, sym, ◌∙◌}
-use Rattle.std.proofs.Common.{subst, ⊎_elim, arith}
-use Rattle.std.specs.List.{concat, position_or_len, range_with_len}
-use Rattle.std.proofs.lemmas.Bool.{and_parts, cases_lt, eq-eqb, false≢true, leb-true, ltb-true, ne_eqb}
-use Rattle.std.proofs.lemmas.List.FromFn.{fill_by_all, get_or-map-range_with_len, length-map-range_with_len}
-use Rattle.std.proofs.lemmas.Nat.{mul-le, pow_pos, row_fits}
-use Rattle.rx_spec.specs.Causes.{max_id}
-use Rattle.rx_spec.specs.Machines.{Label}
-use Rattle.rx_spec.specs.Tables.{is_match}
+use Rattle.rx_spec.proofs.Prelude.{◌≡◌, ℕ, ◌+◌, ◌-◌, ◌*◌, ◌/◌, ◌<◌, ◌≤◌, ◌==◌, ◌&&◌, inl, inr, Bool, true, List, []}
+use Rattle.rx_spec.proofs.Prelude.{if◌then◌else◌, map, length, slice_index, nat_le, nat_lt, not, refl, ap, ap₂, sym}
+use Rattle.rx_spec.proofs.Prelude.{◌∙◌, subst, ⊎_elim, arith, concat, position_or_len, range_with_len, and_parts}
+use Rattle.rx_spec.proofs.Prelude.{cases_lt, eq-eqb, false≢true, leb-true, ltb-true, ne_eqb, fill_by_all}
+use Rattle.rx_spec.proofs.Prelude.{get_or-map-range_with_len, length-map-range_with_len, mul-le, pow_pos, row_fits}
+use Rattle.rx_spec.proofs.Prelude.{max_id, Label, is_match}
 use Rattle.rx_search.specs.Labels.{label_patterns, patterns_of}
 use Rattle.rx_dense.specs.Builder.{slices_from, with_patterns}
 use Rattle.rx_dense.specs.Layouts.{Layout, IsRowId, patterns_at, place_in_range, row_count, stride, table_of}
@@ -17,7 +13,8 @@ use Rattle.rx_dense.proofs.Rows.{quotient, row-below}
 use Rattle.rx_order.proofs.ExchangedRows.{row_at_place}
 use Rattle.rx_order.specs.ByKind.{AreSkippable, leaving_of, lists_in}
 use Rattle.rx_order.specs.RowOrder.{AreJoined, IsInOrder, IsRange, are_needles, is_start_row, match_count, match_lists}
-use Rattle.rx_order.proofs.KindNumbers.{at_most, high_kind, high_matches, kind_high, label_match, none_in_range}
+use Rattle.rx_order.proofs.KindNumbers.{at_most, high_kind, high_matches, kind_high, none_in_range}
+use Rattle.rx_order.proofs.KindRanges.{match_by_id}
 use Rattle.rx_order.proofs.MatchRows.{place_from}
 use Rattle.rx_order.proofs.Sorted.{matching, permutation}
 
@@ -27,16 +24,11 @@ module _ {l : Layout} {rows ends : List ℕ} (s : AreSkippable l rows ends)
     some : 0 < stride l
     some = pow_pos l.stride2
 
-    match_is : (row : ℕ) → is_match (table_of l) row ≡ is_match_id l.special (row * stride l)
-    match_is row =
-        label_match (is_match_id l.special (row * stride l)) (is_quit_id l.special (row * stride l))
-        (patterns_at l (place_in_range l l.special.min_match (row * stride l)))
-
     -- the rows at the places of match rows are these
     own_match : (place : ℕ) → slice_index ends 1 ≤ place → place < slice_index ends 3
         → is_match_id l.special (place * stride l) ≡ true
     own_match place low high =
-        sym (match_is place)
+        sym (match_by_id l place)
         ∙ subst (λ row. is_match (table_of l) row ≡ true) (kept place low high) (matching s place low high)
 
     -- and no others match
@@ -53,7 +45,7 @@ module _ {l : Layout} {rows ends : List ℕ} (s : AreSkippable l rows ends)
         let kinds = and_parts (nat_lt 1 (slice_index s.kinds row)) (nat_le (slice_index s.kinds row) 3)
         (ap (λ k. nat_lt 1 k && nat_le k 3) is
         ∙ high_matches (is_match (table_of l) row) (are_needles (leaving_of (table_of l) row)) (is_start_row l row)
-        ∙ match_is row ∙ e) in
+        ∙ match_by_id l row ∙ e) in
         let low = ltb-true 1 (slice_index s.kinds row) kinds.0 in
         let upto = leb-true (slice_index s.kinds row) 3 kinds.1 in
         let there : slice_index s.kinds (slice_index rows place) ≡ slice_index s.kinds row =

@@ -1,11 +1,6 @@
 -- What is exchanged or renamed stays rows of ids of rows.
-use Rattle.std.proofs.Common.{◌≡◌, ℕ, ◌<◌, List, length, map, refl, arith}
-use Rattle.std.specs.Prelude.{All}
-use Rattle.std.specs.List.{swap}
-use Rattle.std.proofs.lemmas.List.{length-map}
-use Rattle.std.proofs.lemmas.List.Edits.{length-swap}
-use Rattle.std.proofs.lemmas.List.Elements.{All-map, All-weaker}
-use Rattle.std.proofs.lemmas.List.Sorted.{All-permutation, IsPermutation-swap}
+use Rattle.rx_spec.proofs.Prelude.{◌≡◌, ℕ, ◌<◌, List, length, map, refl, arith, All, swap, length-map, length-swap}
+use Rattle.rx_spec.proofs.Prelude.{All-map, All-weaker, All-permutation, IsPermutation-swap}
 use Rattle.rx_order.specs.Transitions.{Transitions, AreRows, IsRowId, with_ids, with_swapped}
 
 -- the ids of as many rows, as far apart

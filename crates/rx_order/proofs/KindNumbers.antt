@@ -1,13 +1,8 @@
 -- Kinds of rows as numbers, and ranges of ids.
-use Rattle.std.proofs.lemmas.Grind.{common_steps}
-use Rattle.std.proofs.Common.{◌≡◌, ℕ, ◌-◌, ◌*◌, ◌<◌, ◌≤◌, ◌&&◌, ◌||◌, nat_lt, nat_le, Bool, true, false, if◌then◌else◌}
-use Rattle.std.proofs.Common.{List, refl, sym, arith}
-use Rattle.std.proofs.lemmas.Bool.{cases_eq, cases_lt, ne_eqb, lt-ltb, le-ltb}
-use Rattle.std.proofs.lemmas.Bool.Decides.{nat_tests}
-use Rattle.std.proofs.lemmas.Nat.{mul-le, row_fits}
+use Rattle.rx_spec.proofs.Prelude.{common_steps, ◌≡◌, ℕ, ◌-◌, ◌*◌, ◌<◌, ◌≤◌, ◌&&◌, nat_lt, nat_le, Bool, true, false}
+use Rattle.rx_spec.proofs.Prelude.{if◌then◌else◌, List, refl, ap, sym, ◌∙◌, ⊎_elim, arith, cases_eq, cases_lt, ne_eqb}
+use Rattle.rx_spec.proofs.Prelude.{lt-ltb, le-ltb, nat_tests, mul-le, row_fits, Label, is_match_label}
 use Rattle.rx_dense.specs.Specials.{is_in_range}
-use Rattle.rx_spec.specs.Machines.{Label}
-use Rattle.rx_spec.specs.Tables.{is_match_label}
 use Rattle.rx_order.specs.RowOrder.{kind_by}
 use Rattle.rx_order.specs.SpecialIds.{first_id, last_id}
 
@@ -19,17 +14,8 @@ at_most a b h = grind (arith, nat_tests)
 pub over : (a b : ℕ) → b < a → nat_le a b ≡ false
 over a b h = grind (arith, nat_tests)
 
--- a test that holds where one of five does, and else not
-pub any_of : (s a b c d e : Bool) → (a ≡ true → s ≡ true) → (b ≡ true → s ≡ true) → (c ≡ true → s ≡ true)
-    → (d ≡ true → s ≡ true) → (e ≡ true → s ≡ true)
-    → (a ≡ false → b ≡ false → c ≡ false → d ≡ false → e ≡ false → s ≡ false)
-    → s ≡ (a || b || c || d || e)
-any_of s true b c d e f g h i j k = f refl
-any_of s false true c d e f g h i j k = g refl
-any_of s false false true d e f g h i j k = h refl
-any_of s false false false true e f g h i j k = i refl
-any_of s false false false false true f g h i j k = j refl
-any_of s false false false false false f g h i j k = k refl refl refl refl refl
+pub between : (from to kind : ℕ) → from < kind → kind ≤ to → (nat_lt from kind && nat_le kind to) ≡ true
+between from to kind low high = grind (arith, nat_tests)
 
 -- ---- ranges of ids
 
@@ -90,6 +76,14 @@ row_dead row m a s h = grind (arith, common_steps, row_first, cases_eq)
 
 pub kind_low : (row : ℕ) (m a s : Bool) → row ≤ 1 → kind_by row m a s ≡ row
 kind_low row m a s h = grind (arith, common_steps, cases_eq)
+
+-- two rows of which each is behind quit where the other is
+pub kind_alike : (x y : ℕ) (m a s : Bool) → (x ≤ 1 → y ≡ x) → (1 < x → 1 < y) → kind_by x m a s ≡ kind_by y m a s
+kind_alike x y m a s low high =
+    ⊎_elim
+    (λ (h : 1 < x). kind_high x m a s h ∙ sym (kind_high y m a s (high h)))
+    (λ (h : x ≤ 1). ap (λ row. kind_by row m a s) (sym (low h)))
+    (cases_lt 1 x)
 
 -- which kinds are which rows
 pub high_matches : (m a s : Bool) → (nat_lt 1 (high_kind m a s) && nat_le (high_kind m a s) 3) ≡ m

@@ -1,20 +1,15 @@
 -- Special ids of a table whose rows lie by their kinds: tests of ids are tests of kinds.
-use Rattle.std.proofs.Common.{rules, ◌≡◌, ℕ, zero, suc, ◌-◌, ◌*◌, ◌<◌, ◌≤◌, ◌==◌, ◌&&◌, ◌||◌, not, nat_lt, nat_le, Bool}
-use Rattle.std.proofs.Common.{true, false, if◌then◌else◌, List, slice_index, refl, ap, ap₂, sym, ◌∙◌, subst, ⊎_elim}
-use Rattle.std.proofs.Common.{inl, inr, arith}
-use Rattle.std.proofs.lemmas.Grind.{common_steps}
-use Rattle.std.specs.Prelude.{max}
-use Rattle.std.proofs.lemmas.Bool.{cases_eq, cases_lt, false≢true, le-ltb, lt-ltb, ne_eqb}
-use Rattle.std.proofs.lemmas.Bool.Decides.{nat_tests}
-use Rattle.std.proofs.lemmas.Nat.{mul-le, pow_pos, row_fits}
+use Rattle.rx_spec.proofs.Prelude.{rules, ◌≡◌, ℕ, zero, suc, ◌-◌, ◌*◌, ◌<◌, ◌≤◌, ◌==◌, ◌&&◌, ◌||◌, not, nat_lt, nat_le}
+use Rattle.rx_spec.proofs.Prelude.{Bool, true, false, if◌then◌else◌, List, slice_index, refl, ap, ap₂, sym, ◌∙◌, subst}
+use Rattle.rx_spec.proofs.Prelude.{⊎_elim, inl, inr, arith, common_steps, max, cases_eq, cases_lt, false≢true, le-ltb}
+use Rattle.rx_spec.proofs.Prelude.{lt-ltb, ne_eqb, nat_tests, mul-le, pow_pos, row_fits, is_match}
 use Rattle.rx_dense.specs.Layouts.{Layout, row_count, stride, table_of}
 use Rattle.rx_dense.specs.Specials.{greatest, is_accel_id, is_in_range, is_match_id, is_start_id}
 use Rattle.rx_dense.specs.declared.special.Special.{Special}
 use Rattle.rx_dense.proofs.Rows.{IsRowId-row}
-use Rattle.rx_spec.specs.Tables.{is_match}
 use Rattle.rx_order.specs.RowOrder.{IsOrdered, IsRange, is_start_row, kind_of}
 use Rattle.rx_order.specs.SpecialIds.{AreKindEnds, first_id, last_id, special_ids}
-use Rattle.rx_order.proofs.KindNumbers.{at_most, in_ids, kind_small, label_match, none_in_range, over}
+use Rattle.rx_order.proofs.KindNumbers.{at_most, between, in_ids, kind_small, label_match, none_in_range, over}
 
 -- a kind between two
 abbrev pub is_between : (first last kind : ℕ) → Bool
@@ -77,6 +72,10 @@ pub record HasSpecials (m : Layout) (marked : Bool) (kind_at : ℕ → ℕ) (end
   pub are : AreKindEnds (row_count m) kind_at ends
   pub special : m.special ≡ special_ids (stride m) ends marked
 
+-- a row is a match row by its id
+pub match_by_id : (m : Layout) (row : ℕ) → is_match (table_of m) row ≡ is_match_id m.special (row * stride m)
+match_by_id m row = grind (arith, common_steps, label_match)
+
 module _ {m : Layout} {marked : Bool} {kind_at : ℕ → ℕ} {ends : List ℕ} (has : HasSpecials m marked kind_at ends) where
   abbrev last : ℕ → ℕ
   last kind = slice_index ends kind
@@ -122,9 +121,8 @@ module _ {m : Layout} {marked : Bool} {kind_at : ℕ → ℕ} {ends : List ℕ} 
       let low : last 2 < row_count m = omega arith in
       let above = behind_end has.are (last 2) 2 low (omega arith) (omega arith) in
       let upto = before_end has.are (last 2) 5 low (omega arith) h in
-      let both : is_between 2 5 (kind_at (last 2)) ≡ true =
-      ap₂ (λ (b c : Bool). b && c) (lt-ltb 2 (kind_at (last 2)) above) (at_most (kind_at (last 2)) 5 upto) in
-      absurd (false≢true (sym (none (last 2) low) ∙ accel_id (last 2) low ∙ both)))
+      absurd (false≢true (sym (none (last 2) low) ∙ accel_id (last 2) low
+      ∙ between 2 5 (kind_at (last 2)) above upto)))
       (λ (h : last 5 ≤ last 2). le-ltb (last 2) (last 5) h)
       (cases_lt (last 2) (last 5)) in (
         ap (λ (s : Special). s.min_accel) has.special ∙ ap (λ b. if b then last 2 * stride m else 0) empty,
@@ -212,9 +210,6 @@ module _ {m : Layout} {marked : Bool} {kind_at : ℕ → ℕ} {ends : List ℕ} 
 
   first_kind : (low : ℕ) → low ≤ 1 → (row : ℕ) → row < row_count m → (kind_at row == low) ≡ (row == low)
   first_kind low first row h = search (rules, first_kinds, ne_eqb, cases_eq, cases_lt)
-
-  pub match_by_id : (row : ℕ) → is_match (table_of m) row ≡ is_match_id m.special (row * stride m)
-  match_by_id row = grind (arith, common_steps, label_match)
 
   pub special_rows : (row : ℕ) → row < row_count m
       → (table_of m).is_special row

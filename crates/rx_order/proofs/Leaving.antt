@@ -1,22 +1,15 @@
 -- The bytes that lead a row elsewhere, as they are found one by one.
-use Rattle.std.proofs.lemmas.Grind.{common_steps}
-use Rattle.std.proofs.Common.{◌≡◌, ◌≢◌, ℕ, zero, suc, ◌+◌, ◌-◌, ◌<◌, ◌≤◌, ◌==◌, ◌&&◌, ◌||◌, not, nat_le, Bool, true}
-use Rattle.std.proofs.Common.{false, cond, List, [], ◌∷◌, ◌++◌, length, filter, refl, ap, ap₂, sym, ◌∙◌, subst, ⊎_elim}
-use Rattle.std.proofs.Common.{arith, length-append}
-use Rattle.std.specs.List.{list_any, range_with_len}
-use Rattle.std.specs.Prelude.{Contains}
-use Rattle.std.proofs.Math.Bool.{or-true}
-use Rattle.std.proofs.lemmas.Bool.{and_parts, cases_lt, eq-eqb, ne_eqb, lt-ltb, ltb-true}
-use Rattle.std.proofs.lemmas.Bool.Decides.{nat_tests}
-use Rattle.std.proofs.lemmas.List.{append-nil, append_assoc}
-use Rattle.std.proofs.lemmas.List.Elements.{filter-append}
-use Rattle.rx_spec.specs.Tables.{Table, leaving}
+use Rattle.rx_spec.proofs.Prelude.{common_steps, ◌≡◌, ◌≢◌, ℕ, zero, suc, ◌+◌, ◌-◌, ◌<◌, ◌≤◌, ◌==◌, ◌&&◌, ◌||◌, not}
+use Rattle.rx_spec.proofs.Prelude.{nat_le, Bool, true, false, cond, List, [], ◌∷◌, ◌++◌, length, filter, refl, ap, ap₂}
+use Rattle.rx_spec.proofs.Prelude.{sym, ◌∙◌, subst, ⊎_elim, arith, length-append, list_any, range_with_len, Contains}
+use Rattle.rx_spec.proofs.Prelude.{or-true, and_parts, cases_lt, eq-eqb, ne_eqb, lt-ltb, ltb-true, append-nil}
+use Rattle.rx_spec.proofs.Prelude.{append_assoc, filter-append, Table, leaving, id_of, row_of}
 use Rattle.rx_dense.specs.Accels.{takes}
 use Rattle.rx_order.proofs.ExchangedRows.{range_more}
 use Rattle.lemmas_tables.proofs.Filters.{filter_within, range_within}
-use Rattle.rx_spec.specs.Ids.{id_of, row_of}
 use Rattle.rx_search.specs.Starts.{IsId}
 use Rattle.rx_dense.proofs.Rows.{id_at_row}
+use Rattle.rx_order.proofs.KindNumbers.{at_most, over}
 use Rattle.rx_order.specs.ByKind.{leaving_of}
 use Rattle.rx_order.specs.RowOrder.{are_needles}
 
@@ -35,12 +28,6 @@ pub record AreFound (t : Table) (row : ℕ) (found : List ℕ) (byte : ℕ) : Ty
 
 pub none_found : (t : Table) (row : ℕ) → AreFound t row [] 0
 none_found t row = record { are = refl; few = omega arith; no_space = refl }
-
-pub at_most : (a b : ℕ) → a ≤ b → nat_le a b ≡ true
-at_most a b h = grind (arith, nat_tests)
-
-over : (a b : ℕ) → b < a → nat_le a b ≡ false
-over a b h = grind (arith, nat_tests)
 
 pub not_true : (b : Bool) → not b ≡ true → b ≡ false
 not_true true e = sym e

@@ -28,6 +28,8 @@ pub mod Ordered
 pub mod MarkedRows
 -- the patterns of match rows, and what each row tells
 pub mod MatchRows
+-- words through a table whose rows have other names, and that it is sound
+pub mod Runs
 -- tables in order that are sound
 pub mod Sound
 -- maps in which lists of patterns are inserted one after another

@@ -1,24 +1,15 @@
 -- Rows that are marked by their ids: those in which searches start, and those that match.
-use Rattle.std.proofs.lemmas.Grind.{common_steps}
-use Rattle.std.proofs.Common.{◌≡◌, ℕ, zero, suc, ◌+◌, ◌*◌, ◌/◌, ◌%◌, ◌<◌, ◌==◌, ◌||◌, Bool, true, false, List, [], ◌∷◌}
-use Rattle.std.proofs.Common.{if◌then◌else◌, nat_lt, subst, length, drop, map, slice_index, slice_set, get_or, All}
-use Rattle.std.proofs.Common.{refl, ap, sym, ◌∙◌, ⊎_elim, arith}
-use Rattle.std.specs.List.{list_any}
-use Rattle.std.proofs.Math.Seq.{drop-cons}
-use Rattle.std.specs.BTreeMap.{is_at}
-use Rattle.std.specs.Map.{keys_of, lookup}
-use Rattle.std.specs.Ordering.{is_eq, nat_cmp}
-use Rattle.std.specs.Prelude.{Contains, Option, Some, None, is_some}
-use Rattle.std.proofs.lemmas.Bool.{and_parts, cases_eq, cases_lt, eq-eqb, false≢true, le-ltb, lt-ltb, ne_eqb}
+use Rattle.rx_spec.proofs.Prelude.{common_steps, ◌≡◌, ℕ, zero, suc, ◌+◌, ◌*◌, ◌/◌, ◌%◌, ◌<◌, ◌==◌, ◌||◌, Bool, true}
+use Rattle.rx_spec.proofs.Prelude.{false, List, [], ◌∷◌, if◌then◌else◌, nat_lt, subst, length, drop, map, slice_index}
+use Rattle.rx_spec.proofs.Prelude.{slice_set, get_or, All, refl, ap, sym, ◌∙◌, ⊎_elim, arith, list_any, drop-cons}
+use Rattle.rx_spec.proofs.Prelude.{is_at, keys_of, is_eq, nat_cmp, Contains, Option, Some, None, is_some, and_parts}
+use Rattle.rx_spec.proofs.Prelude.{cases_eq, cases_lt, eq-eqb, false≢true, le-ltb, lt-ltb, ne_eqb, get_or_default}
+use Rattle.rx_spec.proofs.Prelude.{get_or-set_same, get_or-set_other, All-head, All-tail, Contains-get_or, pow_pos}
+use Rattle.rx_spec.proofs.Prelude.{or-false, or-true, mul-div_cancel, Label, IsSound, is_match, is_match_label}
+use Rattle.std.specs.Map.{lookup}
 use Rattle.std.proofs.lemmas.Map.Entries.{lookup_head, lookup_tail}
 use Rattle.lemmas_walks.proofs.Firsts.{Contains-here, Contains-nil, Contains-there}
-use Rattle.std.proofs.lemmas.List.{drop_all, get_or_default, get_or-set_same, get_or-set_other, length-set}
-use Rattle.std.proofs.lemmas.List.Elements.{All-head, All-tail, Contains-get_or}
-use Rattle.std.proofs.lemmas.Nat.{pow_pos}
-use Rattle.std.proofs.Math.Bool.{or-true}
-use Rattle.std.proofs.Math.Nat.{mul-div_cancel}
-use Rattle.rx_spec.specs.Machines.{Label}
-use Rattle.rx_spec.specs.Tables.{IsSound}
+use Rattle.std.proofs.lemmas.List.{drop_all, length-set}
 use Rattle.rx_spec.specs.declared.Start.{Start}
 use Rattle.rx_base.specs.Search.{mode_of}
 use Rattle.rx_base.specs.declared.search.Anchored.{Anchored}
@@ -110,13 +101,9 @@ pub none_noted : (l : Layout) (flags : List Bool) (all : List ℕ) → length fl
     → ((row : ℕ) → row < row_count l → get_or flags row false ≡ false) → All (IsRowId l) all → AreNoted l flags all all
 none_noted l flags all count none ids = grind (arith, common_steps)
 
-or_false : (b : Bool) → (b || false) ≡ b
-or_false true = refl
-or_false false = refl
-
 pub all_noted : {l : Layout} {flags : List Bool} {all : List ℕ} → AreNoted l flags [] all → (row : ℕ)
     → row < row_count l → get_or flags row false ≡ list_any (λ id. id == row * stride l) all
-all_noted {flags = flags} noted row h = sym (or_false (get_or flags row false)) ∙ noted.noted row h
+all_noted {flags = flags} noted row h = sym (or-false (get_or flags row false)) ∙ noted.noted row h
 
 or_moved : (now was own others : Bool) → now ≡ (was || own) → (now || others) ≡ (was || (own || others))
 or_moved now true own others e = ap (λ b. b || others) e
@@ -145,7 +132,7 @@ module _ {l : Layout} {flags : List Bool} {id : ℕ} {left all : List ℕ} (note
       absurd (ne (sym (ap (λ x. x / stride l) e ∙ mul-div_cancel row (pow_pos l.stride2)))) in
       get_or-set_other flags (id / stride l) row true false ne
       ∙ sym (ap (λ b. get_or flags row false || b) (ne_eqb id (row * stride l) other)
-      ∙ or_false (get_or flags row false)))
+      ∙ or-false (get_or flags row false)))
       (cases_eq row (id / stride l))
 
   pub one_noted : AreNoted l (slice_set flags (id / stride l) true) left all
@@ -182,6 +169,15 @@ start_row_plain l sound row e =
         ∙ ap (λ k. slice_index l.starts k / stride l) place ∙ ap (λ id. id / stride l) id
         ∙ mul-div_cancel row (pow_pos l.stride2) in
         ap (table_of l).machine.label (sym entry) ∙ sound.starts_plain mode start
+
+-- no search starts in a match row
+pub match_starts : (l : Layout) → IsSound (table_of l) → (row : ℕ) → is_match (table_of l) row ≡ true
+    → is_start_row l row ≡ false
+match_starts l sound row e = by_start (is_start_row l row) refl
+  where
+    by_start : (b : Bool) → is_start_row l row ≡ b → b ≡ false
+    by_start false h = refl
+    by_start true h = absurd (false≢true (sym (ap is_match_label (start_row_plain l sound row h)) ∙ e))
 
 -- ---- keys
 

@@ -1,32 +1,23 @@
 -- Match rows in order: where their patterns stand, and what each row tells.
-use Rattle.std.proofs.Common.{rules, ◌≡◌, ℕ, ◌+◌, ◌-◌, ◌*◌, ◌/◌, ◌<◌, ◌≤◌, ◌⊎◌, inl, inr, ◌==◌, ◌&&◌, nat_lt, nat_le}
-use Rattle.std.proofs.Common.{Bool, true, false, if◌then◌else◌, List, [], length, map, take, drop, slice_index, get_or}
-use Rattle.std.proofs.Common.{refl, ap, ap₂, sym, ◌∙◌, subst, ⊎_elim, arith}
-use Rattle.std.proofs.lemmas.Grind.{common_steps}
-use Rattle.std.specs.List.{concat, range_with_len}
-use Rattle.std.proofs.Math.Nat.{add-mul, mul-div_cancel}
-use Rattle.std.proofs.lemmas.Bool.{and_parts, cases_eq, cases_lt, eq-eqb, false≢true, le-ltb, lt-ltb, ltb-true, ne_eqb}
-use Rattle.std.proofs.lemmas.List.FromFn.{fill_by_all}
-use Rattle.std.proofs.lemmas.Nat.{pow_pos}
-use Rattle.rx_spec.specs.Machines.{Label}
-use Rattle.rx_spec.specs.Tables.{is_match_label}
-use Rattle.rx_search.specs.Labels.{label_patterns}
+use Rattle.rx_spec.proofs.Prelude.{◌≡◌, ℕ, zero, suc, ◌+◌, ◌-◌, ◌*◌, ◌/◌, ◌<◌, ◌≤◌, ◌⊎◌, ◌==◌, nat_lt, nat_le, Bool}
+use Rattle.rx_spec.proofs.Prelude.{true, false, if◌then◌else◌, List, [], length, map, take, drop, slice_index, get_or}
+use Rattle.rx_spec.proofs.Prelude.{refl, ap, ap₂, sym, ◌∙◌, ⊎_elim, arith, common_steps, concat, range_with_len}
+use Rattle.rx_spec.proofs.Prelude.{mul-div_cancel, and_parts, cases_eq, cases_lt, eq-eqb, false≢true, le-ltb, leb-true}
+use Rattle.rx_spec.proofs.Prelude.{lt-ltb, ltb-true, ne_eqb, fill_by_all, get_or-map-range_with_len}
+use Rattle.rx_spec.proofs.Prelude.{length-map-range_with_len, pow_pos, row_fits, Label, IsTable, Table, is_match}
+use Rattle.rx_spec.proofs.Prelude.{is_match_label}
+use Rattle.std.proofs.Math.Nat.{add-mul}
+use Rattle.rx_search.specs.Labels.{label_patterns, patterns_of}
 use Rattle.rx_dense.specs.Builder.{slices_from}
 use Rattle.rx_dense.specs.Layouts.{Layout, patterns_at, place_in_range, row_count, stride, table_of}
 use Rattle.rx_dense.specs.Specials.{is_quit_id}
 use Rattle.rx_dense.specs.declared.special.Special.{Special}
 use Rattle.rx_dense.proofs.PatternLists.{patterns_are}
-use Rattle.rx_order.specs.RowOrder.{AreJoined, is_start_row, match_count, match_lists}
+use Rattle.rx_order.specs.RowOrder.{AreJoined, match_count, match_lists}
 use Rattle.rx_order.proofs.Moved.{factor}
-use Rattle.rx_order.proofs.KindNumbers.{high_matches}
-use Rattle.rx_order.proofs.KindRanges.{HasSpecials, ends_quit, is_between, low_kind, match_id}
-use Rattle.rx_order.proofs.Ordered.{IsArranged, Sorting, high_kind_is, high_row, kind_at, low_row, number, quit, row_at}
-use Rattle.rx_order.proofs.Ordered.{size_same, specials}
-use Rattle.rx_order.proofs.Ordered as Ordered
-use Rattle.rx_order.proofs.Reordered.{number_below, row_at_number}
-
-cases_le : (a b : ℕ) → (a ≤ b) ⊎ (b < a)
-cases_le a b = ⊎_elim (λ (h : b < a). inr h) (λ (h : a ≤ b). inl h) (cases_lt b a)
+use Rattle.rx_order.specs.ByKind.{lists_in}
+use Rattle.rx_order.specs.SpecialIds.{first_id, last_id}
+use Rattle.rx_order.proofs.KindRanges.{HasSpecials, ends_quit, from_end, is_between, low_kind, match_id}
 
 -- a label that matches has patterns, and one that neither matches nor quits tells nothing
 pub matching_label : (label : Label) → is_match_label label ≡ true → label ≡ Label.Matches (label_patterns label)
@@ -42,6 +33,26 @@ plain_label Label.Quits e no_quit = absurd (no_quit refl)
 -- rows of a range are counted from its first
 pub place_from : (from to width : ℕ) → 0 < width → from ≤ to → (to * width - from * width) / width ≡ to - from
 place_from from to width some h = grind (arith, common_steps, mul-div_cancel, add-mul)
+
+-- how many rows a range of ids has
+pub range_count : (width from to : ℕ) → 0 < width → 0 < from
+    → (if first_id width from to == 0 then 0
+    else (last_id width from to - first_id width from to) / width + 1) ≡ to - from
+range_count width from to some behind =
+    ⊎_elim
+    (λ (h : from < to).
+    let other : from * width ≡ 0 → ⊥ = λ e.
+    absurd (omega (arith, e, row_fits 0 width from width behind (omega arith), some)) in
+    rw (lt-ltb from to h, ne_eqb (from * width) 0 other)
+    (omega (arith, place_from from (to - 1) width some (omega (arith, h)), h)))
+    (λ (h : to ≤ from). rw (le-ltb from to h) (omega (arith, h)))
+    (cases_lt from to)
+
+-- dead and quit match nothing
+pub low_match : (t : Table) → IsTable t → (row : ℕ) → row ≤ 1 → is_match t row ≡ false
+low_match t is zero h = ap is_match_label is.dead_label
+low_match t is (suc zero) h = ap is_match_label is.quit_label
+low_match t is (suc (suc row)) h = absurd (omega (arith, h))
 
 -- the patterns of all match rows are given, in the order of the rows
 pub record HasPatterns (ends : List ℕ) (m : Layout) (lists : List (List ℕ)) : Type 0 where
@@ -64,22 +75,7 @@ module _ {m : Layout} {marked : Bool} {kind_at : ℕ → ℕ} {ends : List ℕ} 
       ∙ patterns_are m lists i h
 
   min_is : 2 < end 3 → m.special.min_match ≡ 2 * stride m
-  min_is h =
-      ap (λ (x : Special). x.min_match) s.special
-      ∙ ap₂ (λ (from : ℕ) (b : Bool). if b then from * stride m else 0) (ends_quit s.are)
-      (lt-ltb (end 1) (end 3) (omega (arith, ends_quit s.are)))
-
-  max_is : 2 < end 3 → m.special.max_match ≡ (end 3 - 1) * stride m
-  max_is h =
-      ap (λ (x : Special). x.max_match) s.special
-      ∙ ap (λ (b : Bool). if b then (end 3 - 1) * stride m else 0)
-      (lt-ltb (end 1) (end 3) (omega (arith, ends_quit s.are)))
-
-  none_is : end 3 ≤ 2 → m.special.min_match ≡ 0
-  none_is h =
-      ap (λ (x : Special). x.min_match) s.special
-      ∙ ap (λ (b : Bool). if b then end 1 * stride m else 0)
-      (le-ltb (end 1) (end 3) (omega (arith, ends_quit s.are)))
+  min_is h = grind (arith, common_steps, s.special, ends_quit s.are, lt-ltb)
 
   -- which match row lies at a place
   place_is : (place : ℕ) → 2 ≤ place → place < end 3
@@ -87,7 +83,10 @@ module _ {m : Layout} {marked : Bool} {kind_at : ℕ → ℕ} {ends : List ℕ} 
   place_is place low high = grind (arith, common_steps, min_is, place_from, w)
 
   count_is : match_count m ≡ length lists
-  count_is = search (rules, w, min_is, max_is, place_is, ne_eqb, eq-eqb, none_is, cases_lt)
+  count_is =
+      ap (λ (x : Special). if x.min_match == 0 then 0 else (x.max_match - x.min_match) / stride m + 1) s.special
+      ∙ range_count (stride m) (end 1) (end 3) w (omega (arith, ends_quit s.are))
+      ∙ omega (arith, ends_quit s.are, has.count)
 
   pub lists_are : match_lists m ≡ lists
   lists_are =
@@ -139,10 +138,10 @@ module _ {m : Layout} {marked : Bool} {kind_at : ℕ → ℕ} {ends : List ℕ} 
           let inside : place < end 3 = ltb-true place (end 3) test in
           let behind : 2 ≤ place =
           ⊎_elim
+          (λ (high : 1 < place). high)
           (λ (low : place ≤ 1).
           absurd (omega (arith, low_kind s.are place low, ltb-true 1 (kind_at place) kinds.0)))
-          (λ (high : 1 < place). high)
-          (cases_le place 1) in
+          (cases_lt 1 place) in
           ap Label.Matches
           (ap (patterns_at m) (place_is place behind inside)
           ∙ patterns_there (place - 2) (omega (arith, has.count)))
@@ -150,51 +149,41 @@ module _ {m : Layout} {marked : Bool} {kind_at : ℕ → ℕ} {ends : List ℕ} 
           are_to_end : nat_lt place (end 3) ≡ nat_le (kind_at place) 3
           are_to_end = s.are.to_end place 3 h (omega arith)
 
-module _ {x : Sorting} {l new m : Layout} (a : IsArranged x l new m) {lists : List (List ℕ)}
-    (has : HasPatterns x.ends m lists) where
-  -- what a row tells that lies there
-  pub label_of_number : (row : ℕ) → row < row_count l
-      → (table_of m).machine.label (number a row)
-      ≡ (if row == 1 then Label.Quits
-      else (if nat_lt 1 row && x.matches row then Label.Matches (get_or lists (number a row - 2) []) else Label.Plain))
-  label_of_number row h =
-      let place : ℕ = number a row in
-      let below = number_below a.reordered a.before row h in
-      let back = row_at_number a.reordered a.before row h in
-      let quits : (number a row == 1) ≡ (row == 1) = same_quit in
-      let matches : is_between 1 3 (kind_at a place) ≡ (nat_lt 1 row && x.matches row) =
-      same_match below back in
-      label_at (specials a) has (number a row) (omega (arith, below, size_same a))
-      ∙ ap₂ (λ (q b : Bool). if q then Label.Quits
-      else (if b then Label.Matches (get_or lists (number a row - 2) []) else Label.Plain)) quits matches
-    where
-      same_quit : (number a row == 1) ≡ (row == 1)
-      same_quit =
-          ⊎_elim
-          (λ (e : row ≡ 1). eq-eqb (number a row) 1 (ap (number a) e ∙ quit a) ∙ sym (eq-eqb row 1 e))
-          (λ (ne : row ≡ 1 → ⊥).
-          let other : number a row ≡ 1 → ⊥ = λ e.
-          ne (sym (row_at_number a.reordered a.before row h) ∙ ap (row_at a) e ∙ low_row a 1 (omega arith)) in
-          ne_eqb (number a row) 1 other ∙ sym (ne_eqb row 1 ne))
-          (cases_eq row 1)
+-- the lists are those of the match rows of another table
+module _ {m : Layout} {marked : Bool} {kind_at : ℕ → ℕ} {ends : List ℕ} (s : HasSpecials m marked kind_at ends)
+    (old : Layout) (rows : List ℕ) (has : HasPatterns ends m (lists_in old rows ends)) (is : IsTable (table_of old))
+  where
+    pub label_of_lists : (place : ℕ) → place < row_count m → slice_index rows place < row_count old
+        → (slice_index rows place ≡ 1 → place ≡ 1) → (place ≡ 1 → slice_index rows place ≡ 1)
+        → is_between 1 3 (kind_at place) ≡ is_match (table_of old) (slice_index rows place)
+        → (table_of m).machine.label place ≡ (table_of old).machine.label (slice_index rows place)
+    label_of_lists place h below only quits matches =
+        label_at s has place h
+        ∙ ⊎_elim
+        (λ (one : place ≡ 1).
+        rw (eq-eqb place 1 one) (sym (ap (table_of old).machine.label (quits one) ∙ is.quit_label)))
+        (λ (ne : place ≡ 1 → ⊥). rw (ne_eqb place 1 ne) (by_match ne (is_between 1 3 (kind_at place)) refl))
+        (cases_eq place 1)
+      where
+        by_match : (place ≡ 1 → ⊥) → (b : Bool) → is_between 1 3 (kind_at place) ≡ b
+            → (if b then Label.Matches (get_or (lists_in old rows ends) (place - 2) []) else Label.Plain)
+            ≡ (table_of old).machine.label (slice_index rows place)
+        by_match ne true e =
+            let kinds = and_parts (nat_lt 1 (kind_at place)) (nat_le (kind_at place) 3) e in
+            let high = leb-true (slice_index ends 1) place (from_end s.are place 1 h (omega arith) ∙ kinds.0) in
+            let low = ltb-true place (slice_index ends 3) (s.are.to_end place 3 h (omega arith) ∙ kinds.1) in
+            let two = ends_quit s.are in
+            ap Label.Matches (get_or-map-range_with_len (λ place. patterns_of (table_of old) (slice_index rows place))
+            (slice_index ends 1) (slice_index ends 3 - slice_index ends 1) (place - 2) place []
+            (omega (arith, high, low, two)) (omega (arith, high, two)))
+            ∙ sym (matching_label ((table_of old).machine.label (slice_index rows place)) (sym matches ∙ e))
+        by_match ne false e =
+            sym (plain_label ((table_of old).machine.label (slice_index rows place)) (sym matches ∙ e)
+            (λ quit. ne (only (is.quit_only (slice_index rows place) below quit))))
 
-      same_match : number a row < row_count l → row_at a (number a row) ≡ row
-          → is_between 1 3 (kind_at a (number a row))
-          ≡ (nat_lt 1 row && x.matches row)
-      same_match below back =
-          ⊎_elim
-          (λ (low : number a row ≤ 1).
-          let here : row ≡ number a row = sym back ∙ low_row a (number a row) low in
-          rw (
-            le-ltb 1 (kind_at a (number a row)) (omega (arith, Ordered.low_kind a (number a row) low)),
-            le-ltb 1 row (omega (arith, here)),
-          )
-          refl)
-          (λ (high : 1 < number a row).
-          let above : 1 < row = subst (λ r. 1 < r) back (high_row a (number a row) below high) in
-          ap (is_between 1 3) (high_kind_is a (number a row) below high)
-          ∙ high_matches (x.matches (row_at a (number a row))) (x.accelerated (row_at a (number a row)))
-          (is_start_row l (row_at a (number a row)))
-          ∙ ap x.matches back
-          ∙ sym (ap (λ b. b && x.matches row) (lt-ltb 1 row above)))
-          (cases_le (number a row) 1)
+pub lists_count : (old : Layout) (rows ends : List ℕ) → slice_index ends 1 ≡ 2
+    → length (lists_in old rows ends) ≡ slice_index ends 3 - 2
+lists_count old rows ends two =
+    length-map-range_with_len (λ place. patterns_of (table_of old) (slice_index rows place)) (slice_index ends 1)
+    (slice_index ends 3 - slice_index ends 1)
+    ∙ ap (λ n. slice_index ends 3 - n) two

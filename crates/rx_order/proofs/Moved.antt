@@ -1,17 +1,12 @@
 -- Rows while they are moved: each exchange puts one row at its place.
-use Rattle.std.proofs.lemmas.Grind.{common_steps}
-use Rattle.std.proofs.Common.{◌≡◌, ◌≢◌, ℕ, ◌+◌, ◌*◌, ◌^◌, ◌<◌, ◌≤◌, List, length, slice_index, refl, ap, All, sym, ◌∙◌}
-use Rattle.std.proofs.Common.{subst, ⊎_elim, inl, inr, arith, get_or}
-use Rattle.std.specs.List.{range_with_len, swap}
-use Rattle.std.specs.List.Sorted.{IsPermutation}
-use Rattle.std.proofs.lemmas.Bool.{cases_eq, cases_lt}
-use Rattle.std.proofs.lemmas.Nat.{pow_pos, row_fits}
-use Rattle.std.proofs.lemmas.List.Edits.{Swapped, swapped_from_swap, length-swap}
-use Rattle.std.proofs.lemmas.List.FromFn.{get_or-range_with_len, length-range_with_len, length-map-range_with_len}
-use Rattle.std.proofs.lemmas.List.FromFn.{get_or-map-range_with_len}
-use Rattle.std.proofs.lemmas.List.Elements.{All-from_get_or}
-use Rattle.std.proofs.lemmas.List.Sorted.{All-permutation, IsPermutation-refl, IsPermutation-swap, IsPermutation-trans}
-use Rattle.std.proofs.lemmas.List.Sorted.{length_permutation}
+use Rattle.rx_spec.proofs.Prelude.{common_steps, ◌≡◌, ◌≢◌, ℕ, ◌+◌, ◌*◌, ◌^◌, ◌<◌, ◌≤◌, List, length, slice_index, refl}
+use Rattle.rx_spec.proofs.Prelude.{ap, All, sym, ◌∙◌, subst, ⊎_elim, inl, inr, arith, get_or, range_with_len, swap}
+use Rattle.rx_spec.proofs.Prelude.{IsPermutation, cases_eq, cases_lt, pow_pos, row_fits, length-swap}
+use Rattle.rx_spec.proofs.Prelude.{get_or-range_with_len, length-range_with_len, length-map-range_with_len}
+use Rattle.rx_spec.proofs.Prelude.{get_or-map-range_with_len, All-from_get_or, All-permutation, IsPermutation-swap}
+use Rattle.rx_spec.proofs.Prelude.{length_permutation}
+use Rattle.std.proofs.lemmas.List.Edits.{Swapped, swapped_from_swap}
+use Rattle.std.proofs.lemmas.List.Sorted.{IsPermutation-refl, IsPermutation-trans}
 use Rattle.rx_search.specs.Starts.{IsId}
 use Rattle.rx_dense.proofs.Rows.{IsId-row_id, IsRowId-row}
 use Rattle.rx_dense.specs.Builder.{AreSwapped, IsOutside}

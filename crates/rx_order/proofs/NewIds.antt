@@ -1,10 +1,8 @@
 -- The ids of the places where rows lie, listed by rows: one place after another is noted.
-use Rattle.std.proofs.Common.{◌≡◌, ℕ, ◌+◌, ◌*◌, ◌/◌, ◌^◌, ◌<◌, List, length, sym, ◌∙◌, ap, subst, arith, ⊎_elim}
-use Rattle.std.specs.Prelude.{All, slice_index, slice_set}
-use Rattle.std.proofs.lemmas.Bool.{cases_eq}
-use Rattle.std.proofs.lemmas.List.{get_or_default, get_or-set_other, get_or-set_same, length-set}
-use Rattle.std.proofs.lemmas.Nat.{pow_pos}
-use Rattle.std.proofs.Math.Nat.{mul-div_cancel, mul-mod_left}
+use Rattle.rx_spec.proofs.Prelude.{◌≡◌, ℕ, ◌+◌, ◌*◌, ◌/◌, ◌^◌, ◌<◌, List, length, sym, ◌∙◌, ap, subst, arith, ⊎_elim}
+use Rattle.rx_spec.proofs.Prelude.{All, slice_index, slice_set, cases_eq, get_or_default, get_or-set_other}
+use Rattle.rx_spec.proofs.Prelude.{get_or-set_same, pow_pos, mul-div_cancel, mul-mod_left}
+use Rattle.std.proofs.lemmas.List.{length-set}
 use Rattle.rx_order.specs.Transitions.{Transitions, AreRows, IsRowId, row_of, with_ids}
 use Rattle.rx_order.specs.Renaming.{Arrangement, Fits, IsArrangement, new_id, place_of}
 use Rattle.rx_order.proofs.ExchangedRows.{places_apart, row_at_place, row_below}

@@ -1,14 +1,11 @@
 -- Tables whose rows lie in the order of their kinds: which ids are special, and which rows these are.
-use Rattle.std.proofs.Common.{rules, ◌≡◌, ◌≢◌, ℕ, ◌+◌, ◌*◌, ◌<◌, ◌≤◌, ◌==◌, ◌&&◌, ◌||◌, nat_lt, nat_le, Bool, true}
-use Rattle.std.proofs.Common.{false, List, length, slice_index, refl, ap, ap₂, sym, ◌∙◌, ⊎_elim, arith}
-use Rattle.std.proofs.lemmas.Grind.{common_steps}
-use Rattle.std.proofs.lemmas.Bool.{cases_eq, cases_lt, lt-ltb, le-ltb}
-use Rattle.std.proofs.lemmas.Nat.{div-add-mod', mul-le, pow_pos}
+use Rattle.rx_spec.proofs.Prelude.{rules, ◌≡◌, ◌≢◌, ℕ, zero, suc, ◌+◌, ◌*◌, ◌<◌, ◌≤◌, ◌&&◌, nat_lt, nat_le, Bool, true}
+use Rattle.rx_spec.proofs.Prelude.{false, List, length, slice_index, refl, ap, ap₂, sym, ◌∙◌, ⊎_elim, arith}
+use Rattle.rx_spec.proofs.Prelude.{common_steps, cases_eq, cases_lt, lt-ltb, le-ltb, div-add-mod', mul-le, pow_pos}
+use Rattle.rx_spec.proofs.Prelude.{max_id, is_match}
 use Rattle.rx_dense.specs.Layouts.{Layout, AreRows, machine_of, row_count, stride, table_of}
-use Rattle.rx_dense.specs.Specials.{is_accel_id, is_match_id}
-use Rattle.rx_spec.specs.Causes.{max_id}
+use Rattle.rx_dense.specs.Specials.{is_accel_id}
 use Rattle.rx_order.specs.Permuted.{IsPermuted}
-use Rattle.rx_spec.specs.Tables.{is_match}
 use Rattle.rx_order.specs.ByKind.{AreByKind, AreKinds}
 use Rattle.rx_order.specs.Moved.{IsReordered}
 use Rattle.rx_order.specs.RowOrder.{IsOrdered, is_start_row, kind_by, kind_of}
@@ -16,7 +13,7 @@ use Rattle.rx_order.specs.SpecialIds.{AreKindEnds, special_ids}
 use Rattle.rx_order.proofs.Reordered.{IsBefore, any_start, entry_of, next_of_row, number_below, number_of_place}
 use Rattle.rx_order.proofs.Reordered.{numbers, permutation, row_at_number, row_of_place, size, stride_is, two_rows}
 use Rattle.rx_order.proofs.KindNumbers.{high_kind, at_most, over, kind_high, high_above, row_first, row_dead}
-use Rattle.rx_order.proofs.KindNumbers.{high_matches, high_accels, high_starts}
+use Rattle.rx_order.proofs.KindNumbers.{high_matches, high_accels, high_starts, kind_low, label_match}
 use Rattle.rx_order.proofs.KindRanges.{HasSpecials, is_between}
 use Rattle.rx_order.proofs.KindRanges as KindRanges
 
@@ -95,7 +92,7 @@ module _ {x : Sorting} {l new m : Layout} (a : IsArranged x l new m) where
   dead_kind : (place : ℕ) → place < row_count l → kind_at place ≤ 0 → row_at place ≡ 0
   dead_kind place h low = grind (arith, common_steps, row_dead, kind_is)
 
-  kind_of_number : (row : ℕ) → row < row_count l
+  pub kind_of_number : (row : ℕ) → row < row_count l
       → kind_at (number row) ≡ kind_by row (x.matches row) (x.accelerated row) (is_start_row l row)
   kind_of_number row h =
       ap (slice_index x.kinds) (row_at_number a.reordered a.before row h) ∙ a.kinds.kinds_are row h
@@ -157,21 +154,12 @@ module _ {x : Sorting} {l new m : Layout} (a : IsArranged x l new m) where
 
   -- the row at a place behind quit lies behind quit
   pub high_row : (place : ℕ) → place < row_count l → 1 < place → 1 < row_at place
-  high_row place h high =
-      ⊎_elim
-      (λ (above : 1 < row_at place). above)
-      (λ (low : row_at place ≤ 1).
-      let back = number_of_place a.reordered a.before place h in
-      ⊎_elim
-      (λ (e : row_at place ≡ 0).
-      let none : place ≡ 0 = sym back ∙ ap number e ∙ dead in
-      absurd (omega (arith, none)))
-      (λ (ne : row_at place ≡ 0 → ⊥).
-      let one : row_at place ≡ 1 = omega (arith, ne) in
-      let none : place ≡ 1 = sym back ∙ ap number one ∙ quit in
-      absurd (omega (arith, none)))
-      (cases_eq (row_at place) 0))
-      (cases_lt 1 (row_at place))
+  high_row place h high = by_row (row_at place) (number_of_place a.reordered a.before place h)
+    where
+      by_row : (row : ℕ) → number row ≡ place → 1 < row
+      by_row zero e = absurd (omega (arith, dead, e, high))
+      by_row (suc zero) e = absurd (omega (arith, quit, e, high))
+      by_row (suc (suc row)) e = omega arith
 
   pub low_row : (place : ℕ) → place ≤ 1 → row_at place ≡ place
   low_row place h = grind (arith, common_steps, first_row, second_row, cases_eq)
@@ -200,18 +188,8 @@ module _ {x : Sorting} {l new m : Layout} (a : IsArranged x l new m) where
   pub high_at : (place : ℕ) → place < row_count l → 1 < place → 1 < kind_at place
   high_at place h high = grind (arith, common_steps, high_kind_is, high_above)
 
-  kind_ends : AreKindEnds (row_count l) kind_at x.ends
+  pub kind_ends : AreKindEnds (row_count l) kind_at x.ends
   kind_ends = grind (arith, common_steps, two, dead, low_kind, quit, high_at, end_within, to_end)
-
-  pub from_end : (place kind : ℕ) → place < row_count l → kind < 8
-      → nat_le (end kind) place ≡ nat_lt kind (kind_at place)
-  from_end = KindRanges.from_end kind_ends
-
-  pub end_high : (kind : ℕ) → 1 ≤ kind → kind < 8 → 2 ≤ end kind
-  end_high = KindRanges.end_high kind_ends
-
-  pub ends_quit : end 1 ≡ 2
-  ends_quit = KindRanges.ends_quit kind_ends
 
   -- ---- the table's rows
 
@@ -227,16 +205,13 @@ module _ {x : Sorting} {l new m : Layout} (a : IsArranged x l new m) where
   pub specials : HasSpecials m x.marked kind_at x.ends
   specials = grind (arith, common_steps, size_same, kind_ends, special_is, stride_same)
 
-  pub match_id : (place : ℕ) → place < row_count l
-      → is_match_id m.special (place * stride m) ≡ is_between 1 3 (kind_at place)
-  match_id place h = KindRanges.match_id specials place (omega (arith, size_same))
-
   pub accel_id : (place : ℕ) → place < row_count l
       → is_accel_id m.special (place * stride m) ≡ is_between 2 5 (kind_at place)
   accel_id place h = KindRanges.accel_id specials place (omega (arith, size_same))
 
   pub match_is : (place : ℕ) → place < row_count l → 1 < place → is_match (table_of m) place ≡ x.matches (row_at place)
-  match_is place h high = search (rules, specials, match_id, is_between, high_kind_is, high_matches)
+  match_is place h high =
+      search (rules, KindRanges.match_id specials, size_same, is_between, high_kind_is, high_matches, label_match)
 
   pub accel_is : (place : ℕ) → place < row_count l → 1 < place
       → (table_of m).is_accelerated place ≡ x.accelerated (row_at place)
@@ -250,12 +225,7 @@ module _ {x : Sorting} {l new m : Layout} (a : IsArranged x l new m) where
       ∙ ap₂ (λ (b c : Bool). b && c) behind (any_start a.reordered a.before place h)
     where
       behind : nat_lt 1 place ≡ nat_lt 1 (row_at place)
-      behind =
-          ⊎_elim
-          (λ (high : 1 < place). lt-ltb 1 place high ∙ sym (lt-ltb 1 (row_at place) (high_row place h high)))
-          (λ (low : place ≤ 1).
-          le-ltb 1 place low ∙ sym (le-ltb 1 (row_at place) (omega (arith, low_row place low))))
-          (cases_lt 1 place)
+      behind = grind (arith, common_steps, lt-ltb, le-ltb, high_row, low_row, cases_lt)
 
   -- the kinds of start rows are theirs
   pub start_kinds : (place : ℕ) → place < row_count l
@@ -282,12 +252,8 @@ module _ {x : Sorting} {l new m : Layout} (a : IsArranged x l new m) where
       ∙ ap₂ (λ (b c : Bool). high_kind (x.matches (row_at place)) b c) (accel_is place h high) (start_row_is place h)
       ∙ sym (high_kind_is place h high))
       (λ (low : place ≤ 1).
-      ⊎_elim
-      (λ (e : place ≡ 0). ap (kind_of m) e ∙ sym (low_kind place low ∙ e))
-      (λ (ne : place ≡ 0 → ⊥).
-      let one : place ≡ 1 = omega (arith, ne) in
-      ap (kind_of m) one ∙ sym (low_kind place low ∙ one))
-      (cases_eq place 0))
+      kind_low place (is_match (table_of m) place) ((table_of m).is_accelerated place) (is_start_row m place) low
+      ∙ sym (low_kind place low))
       (cases_lt 1 place)
 
   kinds_here : (place : ℕ) → place < row_count m → kind_of m place ≡ kind_at place
@@ -318,9 +284,3 @@ module _ {x : Sorting} {l new m : Layout} (a : IsArranged x l new m) where
         ap (λ (k : Layout). (machine_of k).next (number row) unit) a.rest
         ∙ next_of_row a.reordered a.before row unit h u;
   }
-
-  pub special_rows : (place : ℕ) → place < row_count l
-      → (table_of m).is_special place
-      ≡ ((place == 0) || (place == 1) || is_match (table_of m) place || (table_of m).is_accelerated place
-      || (table_of m).is_start place)
-  special_rows place h = KindRanges.special_rows specials place (omega (arith, size_same))

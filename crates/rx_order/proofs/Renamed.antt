@@ -1,13 +1,8 @@
 -- Tables whose rows have changed places, and are renamed.
-use Rattle.std.proofs.lemmas.Grind.{common_steps}
-use Rattle.std.proofs.Common.{◌≡◌, ℕ, ◌<◌, List, [], ◌∷◌, length, map, refl, ◌∙◌, ap, ap₂, arith}
-use Rattle.std.specs.Prelude.{All}
-use Rattle.std.specs.List.{range_with_len, swap}
-use Rattle.std.proofs.lemmas.List.{get_or-map, length-map}
-use Rattle.std.proofs.lemmas.List.Edits.{length-swap}
-use Rattle.std.proofs.lemmas.List.Elements.{All-head, All-tail}
-use Rattle.std.proofs.lemmas.List.FromFn.{fill_by_all, length-range_with_len}
-use Rattle.std.proofs.lemmas.List.Sorted.{IsPermutation-swap, IsPermutation-trans}
+use Rattle.rx_spec.proofs.Prelude.{common_steps, ◌≡◌, ℕ, ◌<◌, List, [], ◌∷◌, length, map, refl, ◌∙◌, ap, ap₂, arith}
+use Rattle.rx_spec.proofs.Prelude.{All, range_with_len, swap, get_or-map, length-map, length-swap, All-head, All-tail}
+use Rattle.rx_spec.proofs.Prelude.{fill_by_all, length-range_with_len, IsPermutation-swap}
+use Rattle.std.proofs.lemmas.List.Sorted.{IsPermutation-trans}
 use Rattle.rx_order.specs.Transitions.{Transitions, AreRows, IsRowId, with_ids, with_swapped}
 use Rattle.rx_order.specs.Renaming.{Arrangement, Fits, IsArrangement, IsRearranged, IsRenamed, new_id, place_of, row_at}
 use Rattle.rx_order.specs.Renaming.{rearranged, unmoved}

@@ -1,17 +1,11 @@
 -- A table whose rows were moved and renamed: the numbers of its rows, and where they lead.
-use Rattle.std.proofs.Common.{rules, ◌≡◌, ℕ, ◌+◌, ◌*◌, ◌/◌, ◌^◌, ◌<◌, ◌≤◌, ◌==◌, ◌||◌, Bool, List, [], ◌∷◌, length, map}
-use Rattle.std.proofs.Common.{slice_index, All, map-id, refl, ap, ap₂, sym, ◌∙◌, subst, ⊎_elim, arith}
-use Rattle.std.proofs.lemmas.Grind.{common_steps}
-use Rattle.std.specs.List.{list_any, range_with_len}
-use Rattle.std.specs.List.Sorted.{IsPermutation}
-use Rattle.std.proofs.Math.Nat.{mul-div_cancel}
-use Rattle.std.proofs.lemmas.Bool.{cases_eq, cases_lt, eq-eqb, ne_eqb, lt-ltb, le-ltb}
-use Rattle.std.proofs.lemmas.List.{get_or-map, length-map}
-use Rattle.std.proofs.lemmas.List.Elements.{All-head, All-tail, All-from_get_or}
-use Rattle.std.proofs.lemmas.List.FromFn.{fill_by_all, get_or-map-range_with_len, length-map-range_with_len}
+use Rattle.rx_spec.proofs.Prelude.{rules, ◌≡◌, ℕ, ◌+◌, ◌*◌, ◌/◌, ◌^◌, ◌<◌, ◌≤◌, ◌==◌, ◌||◌, Bool, List, [], ◌∷◌, length}
+use Rattle.rx_spec.proofs.Prelude.{map, slice_index, All, map-id, refl, ap, ap₂, sym, ◌∙◌, subst, ⊎_elim, arith}
+use Rattle.rx_spec.proofs.Prelude.{common_steps, list_any, range_with_len, IsPermutation, mul-div_cancel, cases_eq}
+use Rattle.rx_spec.proofs.Prelude.{cases_lt, eq-eqb, ne_eqb, lt-ltb, le-ltb, get_or-map, length-map, All-head, All-tail}
+use Rattle.rx_spec.proofs.Prelude.{All-from_get_or, fill_by_all, get_or-map-range_with_len, length-map-range_with_len}
+use Rattle.rx_spec.proofs.Prelude.{le-div, pow_pos, Anchored}
 use Rattle.std.proofs.lemmas.List.Sorted.{IsPermutation-map}
-use Rattle.std.proofs.lemmas.Nat.{le-div, pow_pos}
-use Rattle.rx_spec.specs.Queries.{Anchored}
 use Rattle.rx_spec.specs.declared.Start.{Start}
 use Rattle.rx_dense.specs.Layouts.{Layout, IsRowId, AreRows, AreStarts, column, ids_of, machine_of, mode_place}
 use Rattle.rx_dense.specs.Layouts.{row_count, stride}
@@ -19,10 +13,6 @@ use Rattle.rx_dense.proofs.Rows.{column_within, quotient, row-below, start_is_ro
 use Rattle.rx_order.proofs.ExchangedRows.{places_apart, row_below}
 use Rattle.rx_order.specs.Moved.{IsReordered}
 use Rattle.rx_order.proofs.Moved.{factor, id_count, ids_count}
-
--- the numbers of the rows, by their new ids
-abbrev pub numbers_of : Layout → List ℕ → List ℕ
-numbers_of l ids = map (λ id. id / stride l) ids
 
 -- what is known of a table before its rows are moved
 pub record IsBefore (l : Layout) (rows : List ℕ) : Type 0 where

@@ -1,16 +1,12 @@
 -- The rows of a dense table as lists, when two of them change places and when they are renamed.
-use Rattle.std.proofs.lemmas.Grind.{common_steps, get_or-set_at}
-use Rattle.std.proofs.Common.{◌≡◌, ◌≢◌, ℕ, ◌+◌, ◌*◌, ◌/◌, ◌%◌, ◌<◌, ◌≤◌, List, [], length, map, slice_index, get_or}
-use Rattle.std.proofs.Common.{refl, sym, ap, ◌∙◌, arith, subst, ⊎_elim, inl, inr}
-use Rattle.std.specs.Prelude.{All}
-use Rattle.std.specs.List.{range_with_len, swap}
-use Rattle.std.proofs.lemmas.Bool.{cases_eq, lt-ltb}
-use Rattle.std.proofs.lemmas.List.{ext_get_or, get_or-map, get_or-set_other, length-map, length-set}
-use Rattle.std.proofs.lemmas.List.Edits.{length-swap, swap_is}
-use Rattle.std.proofs.lemmas.List.Elements.{All-from_get_or}
-use Rattle.std.proofs.lemmas.List.FromFn.{get_or-map-range_with_len, length-map-range_with_len}
-use Rattle.std.proofs.lemmas.Nat.{mod-mul-add, pow_pos}
-use Rattle.std.proofs.Math.Nat.{mul-div_cancel}
+use Rattle.rx_spec.proofs.Prelude.{common_steps, get_or-set_at, ◌≡◌, ◌≢◌, ℕ, ◌+◌, ◌*◌, ◌/◌, ◌%◌, ◌<◌, ◌≤◌, List, []}
+use Rattle.rx_spec.proofs.Prelude.{length, map, slice_index, get_or, refl, sym, ap, ◌∙◌, arith, subst, ⊎_elim, inl, inr}
+use Rattle.rx_spec.proofs.Prelude.{All, range_with_len, swap, cases_eq, lt-ltb, ext_get_or, get_or-map}
+use Rattle.rx_spec.proofs.Prelude.{get_or-set_other, length-map, length-swap, All-from_get_or}
+use Rattle.rx_spec.proofs.Prelude.{get_or-map-range_with_len, length-map-range_with_len, mod-mul-add, pow_pos}
+use Rattle.rx_spec.proofs.Prelude.{mul-div_cancel}
+use Rattle.std.proofs.lemmas.List.{length-set}
+use Rattle.std.proofs.lemmas.List.Edits.{swap_is}
 use Rattle.rx_base.specs.ByteClasses.{alphabet_len}
 use Rattle.rx_order.specs.Transitions as remap
 use Rattle.rx_order.specs.Transitions.{with_ids, with_swapped}

@@ -1,56 +1,46 @@
 -- Shuffled tables: the match rows lie in the order of their ids, so their patterns are the lists of the map in its
 -- order.
-use Rattle.std.proofs.Common.{rules, ◌≡◌, ℕ, zero, suc, ◌+◌, ◌-◌, ◌*◌, ◌/◌, ◌<◌, ◌≤◌, ◌⊎◌, ◌==◌, ◌&&◌, nat_lt, nat_le}
-use Rattle.std.proofs.Common.{Bool, true, false, if◌then◌else◌, Option, Some, None, List, [], ◌∷◌, length, map}
-use Rattle.std.proofs.Common.{slice_index, get_or, Vec, Global, refl, ap, ap₂, sym, ◌∙◌, subst, ⊎_elim, inl, inr, arith}
-use Rattle.std.proofs.lemmas.Grind.{common_steps}
-use Rattle.std.specs.BTreeMap.{IsOrdered, get, is_at, keys}
-use Rattle.std.specs.List.{concat, list_any, range_with_len, slice_get}
-use Rattle.std.specs.List.Sorted.{IsStrictlyIncreasing}
-use Rattle.std.specs.Map.{keys_of, values_of}
-use Rattle.std.specs.Ordering.{nat_cmp}
-use Rattle.std.specs.Prelude.{Contains, is_some, All}
-use Rattle.std.specs.Vec.{vec_items}
-use Rattle.std.proofs.lemmas.Bool.{cases_eq, cases_lt, eq-eqb, eqb-true, false≢true, ne_eqb, lt-ltb, le-ltb}
-use Rattle.std.proofs.lemmas.List.FromFn.{get_or-map-range_with_len, length-map-range_with_len, length-range_with_len}
+use Rattle.rx_spec.proofs.Prelude.{rules, ◌≡◌, ℕ, zero, suc, ◌+◌, ◌-◌, ◌*◌, ◌/◌, ◌<◌, ◌≤◌, ◌⊎◌, ◌==◌, ◌&&◌, Bool, true}
+use Rattle.rx_spec.proofs.Prelude.{false, if◌then◌else◌, Option, Some, None, List, [], ◌∷◌, length, map, slice_index}
+use Rattle.rx_spec.proofs.Prelude.{get_or, Vec, Global, refl, ap, ap₂, sym, ◌∙◌, subst, ⊎_elim, arith, common_steps}
+use Rattle.rx_spec.proofs.Prelude.{get, is_at, keys, concat, list_any, range_with_len, IsStrictlyIncreasing, keys_of}
+use Rattle.rx_spec.proofs.Prelude.{values_of, nat_cmp, Contains, is_some, All, vec_items, cases_eq, cases_lt, eq-eqb}
+use Rattle.rx_spec.proofs.Prelude.{eqb-true, false≢true, ne_eqb, lt-ltb, le-ltb, get_or-map-range_with_len}
+use Rattle.rx_spec.proofs.Prelude.{length-map-range_with_len, length-range_with_len, mul-le, row_fits, and-false}
+use Rattle.rx_spec.proofs.Prelude.{mul-div_cancel, length-map, get_or_default, Label, All-contains, length_permutation}
+use Rattle.rx_spec.proofs.Prelude.{max_id, Anchored, IsSound, IsTable, Table}
+use Rattle.std.specs.BTreeMap.{IsOrdered}
+use Rattle.std.specs.List.{slice_get}
 use Rattle.std.proofs.lemmas.Map.Entries.{length-keys_of, length-values_of, place_from_lookup}
 use Rattle.std.proofs.lemmas.Map.Keys.{IsStrictlyIncreasing-from_sorted, below_from_sorted}
 use Rattle.std.proofs.lemmas.Map.Keys.{sorted_from_strictly_increasing}
-use Rattle.std.proofs.lemmas.Nat.{mul-le, row_fits}
-use Rattle.std.proofs.Math.Bool.{and-false}
-use Rattle.std.proofs.Math.Nat.{mul-div_cancel}
-use Rattle.std.proofs.lemmas.List.{length-map, get_or_default}
 use Rattle.rx_order.specs.RowOrder.{is_start_row}
 use Rattle.lemmas_walks.proofs.Firsts.{Contains-cases, Contains-here, Contains-nil, Contains-there}
-use Rattle.rx_spec.specs.Machines.{Label}
 use Rattle.rx_dense.specs.Builder.{pattern_lists, slices_from, with_patterns}
 use Rattle.rx_dense.specs.Layouts.{Layout, AreRows, row_count, stride, table_of, AreStarts, context_number, machine_of}
 use Rattle.rx_dense.specs.Layouts.{mode_place}
 use Rattle.rx_dense.proofs.Rows.{quotient, row-below, start_is_row, start_within}
-use Rattle.std.proofs.lemmas.List.Elements.{All-contains}
 use Rattle.rx_order.specs.Ordering.{AreMatches, IsRouted, IsShuffled, Matches, is_match_row, label_by}
 use Rattle.rx_order.specs.Ordering.{label_of_patterns}
 use Rattle.rx_order.proofs.MarkedRows.{any_contains, any_has, has_key, is_at_number}
 use Rattle.rx_order.proofs.Moved.{factor}
-use Rattle.rx_order.proofs.MatchRows.{HasPatterns, label_of_number, joined}
+use Rattle.rx_order.proofs.MatchRows.{HasPatterns, label_at, joined}
 use Rattle.rx_order.proofs.ExchangedRows.{places_apart, row_below}
-use Rattle.rx_order.proofs.KindNumbers.{high_kind, kind_high}
-use Rattle.std.proofs.lemmas.List.Sorted.{length_permutation}
+use Rattle.rx_order.proofs.KindNumbers.{high_kind, kind_accels, kind_high, kind_matches}
 use Rattle.rx_order.proofs.Ordered.{IsArranged, Sorting, before_end, behind_end, end, end_within, high_at, high_kind_is}
-use Rattle.rx_order.proofs.Ordered.{ends_few, specials, accel_id, accel_is, ordered, permuted, size_same, start_is}
-use Rattle.rx_order.proofs.Ordered.{kind_at, low_kind, number, row_at, some}
-use Rattle.rx_spec.specs.Causes.{max_id}
+use Rattle.rx_order.proofs.Ordered.{ends_few, specials, accel_id, ordered, permuted, size_same, start_is, kind_at}
+use Rattle.rx_order.proofs.Ordered.{kind_is, kind_of_number, low_kind, low_row, number, quit, row_at, some}
 use Rattle.rx_dense.proofs.Shaped.{rows_kept, starts_kept}
 use Rattle.rx_order.specs.ByKind.{AreByKind, AreKinds, AreRanked}
 use Rattle.rx_order.specs.Moved.{IsReordered}
 use Rattle.rx_order.specs.SpecialIds.{special_ids}
 use Rattle.rx_order.proofs.Reordered.{IsBefore, stride_is, numbers, zero_div, number_below, number_of_place}
-use Rattle.rx_order.proofs.Reordered.{row_at_number}
-use Rattle.rx_spec.specs.Queries.{Anchored}
-use Rattle.rx_spec.specs.Tables.{IsSound}
+use Rattle.rx_order.proofs.Reordered.{entry_below, next_below, row_at_number, two_rows}
 use Rattle.rx_spec.specs.declared.Start.{Start}
-use Rattle.rx_order.proofs.Sound.{AreLabels, frame, sound}
-use Rattle.rx_order.proofs.KindRanges.{no_accels}
+use Rattle.rx_order.specs.Permuted.{IsPermuted}
+use Rattle.rx_order.proofs.Runs.{no_needles, permuted_moved}
+use Rattle.rx_order.proofs.Sound.{frame, sound, universal_below}
+use Rattle.rx_order.proofs.KindRanges.{is_between, no_accels}
 
 -- ---- lists that rise
 
@@ -198,9 +188,9 @@ module _ {old : Layout} {matches : Matches} {x : Sorting} {new m : Layout} (s : 
       ∙ kind_high row (x.matches row) (x.accelerated row) (is_start_row old row) high
       ∙ ap₂ (λ (b : Bool) (f : ℕ → Bool). high_kind b (f row) (is_start_row old row)) e s.none_accelerated in (
         ⊎_elim
-            (λ (low : number a row ≤ 1). absurd (omega (arith, low_kind a (number a row) low, kind)))
             (λ (past : 1 < number a row). past)
-            (⊎_elim (λ (p : 1 < number a row). inr p) (λ (p : number a row ≤ 1). inl p) (cases_lt 1 (number a row))),
+            (λ (low : number a row ≤ 1). absurd (omega (arith, low_kind a (number a row) low, kind)))
+            (cases_lt 1 (number a row)),
         ⊎_elim
             (λ (within : number a row < end a 3). within)
             (λ (past : end a 3 ≤ number a row).
@@ -305,53 +295,62 @@ module _ {old : Layout} {matches : Matches} {x : Sorting} {new m : Layout} (s : 
 
   -- ---- labels
 
-  pub told : (row : ℕ) → row < row_count old → (table_of m).machine.label (number a row) ≡ label_by old matches row
-  told row h =
-      label_of_number a has_patterns row h ∙ by_get (get nat_cmp matches (row * stride old)) refl
+  get_low : (row : ℕ) → row ≤ 1 → get nat_cmp matches (row * stride old) ≡ None
+  get_low row low = by_get (get nat_cmp matches (row * stride old)) refl
     where
-      by_get : (o : Option (Vec ℕ Global)) → get nat_cmp matches (row * stride old) ≡ o
-          → (if row == 1 then Label.Quits
-          else (if nat_lt 1 row && x.matches row
-          then Label.Matches (get_or (pattern_lists matches) (number a row - 2) []) else Label.Plain))
-          ≡ (if row == 1 then Label.Quits else label_of_patterns (get nat_cmp matches (row * stride old)))
-      by_get None e =
-          let none : x.matches row ≡ false = match_at row ∙ ap (λ (o : Option (Vec ℕ Global)). is_some o) e in
-          ap (λ b. if row == 1 then Label.Quits
-          else (if b then Label.Matches (get_or (pattern_lists matches) (number a row - 2) []) else Label.Plain))
-          (ap (λ b. nat_lt 1 row && b) none ∙ and-false (nat_lt 1 row))
-          ∙ ap (λ o. if row == 1 then Label.Quits else label_of_patterns o) (sym e)
+      by_get : (o : Option (Vec ℕ Global)) → get nat_cmp matches (row * stride old) ≡ o → o ≡ None
+      by_get None e = refl
       by_get (Some v) e =
           let at = key_row (row * stride old) v e in
           let same : row * stride old / stride old ≡ row = mul-div_cancel row (some a) in
-          let high : 1 < row = subst (λ r. 1 < r) same at.1 in
-          ap₂ (λ (b : Bool) (ks : List ℕ). if row == 1 then Label.Quits else
-          (if b then Label.Matches ks else Label.Plain))
-          (ap₂ (λ (b c : Bool). b && c) (lt-ltb 1 row high) (matched row v e)) (list_is row v e h)
-          ∙ ap (λ o. if row == 1 then Label.Quits else label_of_patterns o) (sym e)
+          absurd (omega (arith, at.1, same))
+
+  same_quit : (row : ℕ) → row < row_count old → (number a row == 1) ≡ (row == 1)
+  same_quit row h =
+      ⊎_elim
+      (λ (e : row ≡ 1). eq-eqb (number a row) 1 (ap (number a) e ∙ quit a) ∙ sym (eq-eqb row 1 e))
+      (λ (ne : row ≡ 1 → ⊥).
+      let other : number a row ≡ 1 → ⊥ = λ e.
+      ne (sym (row_at_number a.reordered a.before row h) ∙ ap (row_at a) e ∙ low_row a 1 (omega arith)) in
+      ne_eqb (number a row) 1 other ∙ sym (ne_eqb row 1 ne))
+      (cases_eq row 1)
+
+  pub told : (row : ℕ) → row < row_count old → (table_of m).machine.label (number a row) ≡ label_by old matches row
+  told row h =
+      let o : Option (Vec ℕ Global) = get nat_cmp matches (row * stride old) in
+      let below = number_below a.reordered a.before row h in
+      let kind : is_between 1 3 (kind_at a (number a row)) ≡ is_some o =
+      ap (is_between 1 3) (kind_of_number a row h)
+      ∙ kind_matches row (x.matches row) (x.accelerated row) (is_start_row old row)
+      (λ low. match_at row ∙ ap (λ (o : Option (Vec ℕ Global)). is_some o) (get_low row low))
+      ∙ match_at row in
+      label_at (specials a) has_patterns (number a row) (omega (arith, below, size_same a))
+      ∙ ap₂ (λ (q b : Bool). if q then Label.Quits
+      else (if b then Label.Matches (get_or (pattern_lists matches) (number a row - 2) []) else Label.Plain))
+      (same_quit row h) kind
+      ∙ ap (λ label. if row == 1 then Label.Quits else label) (by_get o refl)
+    where
+      by_get : (o : Option (Vec ℕ Global)) → get nat_cmp matches (row * stride old) ≡ o
+          → (if is_some o then Label.Matches (get_or (pattern_lists matches) (number a row - 2) []) else Label.Plain)
+          ≡ label_of_patterns o
+      by_get None e = refl
+      by_get (Some v) e = ap Label.Matches (list_is row v e h)
 
   -- ---- what is left
 
   no_accelerated : (row : ℕ) → row < row_count m → (table_of m).is_accelerated row ≡ false
   no_accelerated row h =
       let low : row < row_count old = omega (arith, size_same a) in
-      ⊎_elim
-      (λ (high : 1 < row). accel_is a row low high ∙ ap (λ (f : ℕ → Bool). f (row_at a row)) s.none_accelerated)
-      (λ (first : row ≤ 1).
-      accel_id a row low
-      ∙ ap (λ b. b && nat_le (kind_at a row) 5) (le-ltb 2 (kind_at a row) (omega (arith, low_kind a row first))))
-      (cases_lt 1 row)
+      let none = ap (λ (f : ℕ → Bool). f (row_at a row)) s.none_accelerated in
+      accel_id a row low ∙ ap (is_between 2 5) (kind_is a row low)
+      ∙ kind_accels (row_at a row) (x.matches (row_at a row)) (x.accelerated (row_at a row))
+      (is_start_row old (row_at a row)) (λ first. none)
+      ∙ none
 
   pub shuffled : IsShuffled old matches m
   shuffled = record {
     numbers = numbers a.reordered a.before;
-    permuted = record {
-      permutation = (permuted a).permutation;
-      size = (permuted a).size;
-      dead = (permuted a).dead;
-      quit = (permuted a).quit;
-      entries = (permuted a).entries;
-      nexts = (permuted a).nexts;
-    };
+    permuted = (let p = permuted a in search rules);
     labels = told;
     ordered = ordered a;
     marked = λ row h.
@@ -371,16 +370,6 @@ module _ {old : Layout} {matches : Matches} {x : Sorting} {new m : Layout} (s : 
   }
 
   -- ---- soundness
-
-  get_low : (row : ℕ) → row ≤ 1 → get nat_cmp matches (row * stride old) ≡ None
-  get_low row low = by_get (get nat_cmp matches (row * stride old)) refl
-    where
-      by_get : (o : Option (Vec ℕ Global)) → get nat_cmp matches (row * stride old) ≡ o → o ≡ None
-      by_get None e = refl
-      by_get (Some v) e =
-          let at = key_row (row * stride old) v e in
-          let same : row * stride old / stride old ≡ row = mul-div_cancel row (some a) in
-          absurd (omega (arith, at.1, same))
 
   -- no search starts in a match row
   get_start : (mode : Anchored) (start : Start)
@@ -435,10 +424,23 @@ module _ {old : Layout} {matches : Matches} {x : Sorting} {new m : Layout} (s : 
       found_list (get nat_cmp matches (row * stride old)) ks (sym (label_high row ne) ∙ e))
       (cases_eq row 1)
 
-  labels_are : IsRouted (table_of old) → AreLabels (with_patterns old (pattern_lists matches)) (label_by old matches)
-  labels_are routed = record {
-    dead = ap label_of_patterns (get_low 0 (omega arith));
-    quit = refl;
+  -- the table that is meant, before its rows move
+  abbrev meant : Table
+  meant = record (table_of old) { machine = record (machine_of old) { label = label_by old matches } }
+
+  meant_is : IsRouted (table_of old) → IsTable meant
+  meant_is routed = record {
+    two = two_rows a.reordered a.before;
+    entries = entry_below a.reordered a.before;
+    universal_unanchored = λ row e. universal_below old a.before.are_rows.whole old.universal_unanchored row e;
+    universal_anchored = λ row e. universal_below old a.before.are_rows.whole old.universal_anchored row e;
+    nexts = next_below a.reordered a.before;
+    past_last = routed.past_last;
+    dead_only = λ row h. refl;
+    dead_label = ap label_of_patterns (get_low 0 (omega arith));
+    dead_stays = routed.dead_stays;
+    quit_label = refl;
+    quit_ends = routed.quit_ends;
     quit_only = λ row h e.
         ⊎_elim
         (λ (one : row ≡ 1). one)
@@ -449,30 +451,25 @@ module _ {old : Layout} {matches : Matches} {x : Sorting} {new m : Layout} (s : 
         let found = label_found row [] e in
         let many = s.are.lists (row * stride old) found.0 found.1 in
         omega (arith, many.0, ap length found.2);
-    starts = λ mode start.
-        label_high ((machine_of old).entry mode start) (routed.starts mode start)
-        ∙ ap label_of_patterns (get_start mode start);
-    patterns = λ row ks k h e c.
-        let found = label_found row ks e in
-        let each = (s.are.lists (row * stride old) found.0 found.1).1 in
-        All-contains (λ k. k < old.pattern_len) ks k (subst (All (λ k. k < old.pattern_len)) found.2 each) c;
   }
 
   pub shuffled_sound : IsRouted (table_of old) → IsSound (table_of m)
   shuffled_sound routed =
-      let same : IsRouted (table_of (with_patterns old (pattern_lists matches))) = record {
-        past_last = routed.past_last;
-        dead_stays = routed.dead_stays;
-        quit_ends = routed.quit_ends;
-        eoi_goes_on = routed.eoi_goes_on;
-        starts = routed.starts;
-      } in
-      sound a same told (labels_are routed)
+      let p = permuted a in
+      let moved : IsPermuted (numbers a.reordered a.before) meant (table_of m) = search rules in
+      sound a (permuted_moved (entry_below a.reordered a.before) (next_below a.reordered a.before) moved told).names
       (record {
-        needles = λ row h e. absurd (false≢true (sym (no_accelerated row h) ∙ e));
-        some_needle = λ row h e. absurd (false≢true (sym (no_accelerated row h) ∙ e));
-        few_needles = λ row h e. absurd (false≢true (sym (no_accelerated row h) ∙ e));
+        is_table = meant_is routed;
+        eoi_goes_on = routed.eoi_goes_on;
+        starts_plain = λ mode start.
+            label_high ((machine_of old).entry mode start) (routed.starts mode start)
+            ∙ ap label_of_patterns (get_start mode start);
+        patterns = λ row ks k h e c.
+            let found = label_found row ks e in
+            let each = (s.are.lists (row * stride old) found.0 found.1).1 in
+            All-contains (λ k. k < old.pattern_len) ks k (subst (All (λ k. k < old.pattern_len)) found.2 each) c;
       })
+      refl refl (no_needles (table_of m) no_accelerated)
 
 -- ---- what the call makes
 

@@ -1,24 +1,17 @@
 -- Rows in order, by whose kinds it is known which match and from which a search may skip.
-use Rattle.std.proofs.lemmas.Grind.{common_steps}
-use Rattle.std.proofs.Common.{◌≡◌, ℕ, ◌*◌, ◌%◌, ◌<◌, ◌≤◌, ◌&&◌, nat_lt, nat_le, Bool, true, List, length, slice_index}
-use Rattle.std.proofs.Common.{ap, ap₂, sym, ◌∙◌, ⊎_elim, arith, rules}
-use Rattle.std.specs.List.{range_with_len}
-use Rattle.std.specs.List.Sorted.{IsPermutation}
-use Rattle.std.specs.Prelude.{IsSome, Option, Some, None, is_some}
-use Rattle.std.proofs.Math.Nat.{le-mul_of_pos_right, mod-eq_of_lt}
-use Rattle.std.proofs.lemmas.Nat.{pow_pos}
-use Rattle.std.proofs.lemmas.Bool.{cases_lt, false≢true, lt-ltb}
-use Rattle.rx_spec.specs.Causes.{max_id}
-use Rattle.rx_spec.specs.Ids.{row_of}
-use Rattle.rx_spec.specs.Tables.{is_match}
+use Rattle.rx_spec.proofs.Prelude.{common_steps, ◌≡◌, ℕ, ◌*◌, ◌%◌, ◌<◌, ◌≤◌, ◌&&◌, nat_lt, nat_le, Bool, true, List}
+use Rattle.rx_spec.proofs.Prelude.{length, slice_index, ap, sym, ◌∙◌, subst, ⊎_elim, arith, rules, range_with_len}
+use Rattle.rx_spec.proofs.Prelude.{IsPermutation, Option, Some, None, is_some, mod-eq_of_lt, pow_pos, cases_lt}
+use Rattle.rx_spec.proofs.Prelude.{false≢true, max_id, row_of, is_match}
+use Rattle.std.specs.Prelude.{IsSome}
+use Rattle.std.proofs.Math.Nat.{le-mul_of_pos_right}
 use Rattle.rx_search.specs.Starts.{IsId}
 use Rattle.rx_dense.specs.Layouts.{ids_of, row_count, stride, table_of, Layout, AreRows}
 use Rattle.rx_dense.proofs.Rows.{IsId-row_id, IsRowId-row, id_few, row_of-row}
 use Rattle.rx_order.proofs.ExchangedRows.{count_of, row_below}
 use Rattle.rx_order.specs.ByKind.{AreSkippable, HaveMatches, leaving_of}
 use Rattle.rx_order.specs.RowOrder.{are_needles, is_start_row, kind_by}
-use Rattle.rx_order.proofs.Leaving.{at_most}
-use Rattle.rx_order.proofs.KindNumbers.{high_accels, high_kind, high_matches, kind_high, kind_low}
+use Rattle.rx_order.proofs.KindNumbers.{between, high_accels, high_kind, high_matches, kind_high, kind_low}
 
 -- a row's id, as it is made of its number
 pub record IsNumbered (l : Layout) (row : ℕ) : Type 0 where
@@ -37,6 +30,14 @@ row_numbered l are row h =
       few = few;
       shifted = mod-eq_of_lt (omega (arith, few));
     }
+
+-- so the id that is made of a row's number is the row's
+pub id_of_number : (l : Layout) → AreRows l → (row : ℕ) → row < row_count l → (id : ℕ)
+    → id ≡ row * stride l % 18446744073709551616 → IsId (ids_of l) id × (row_of (ids_of l) id ≡ row)
+id_of_number l are row h id e =
+    let n = row_numbered l are row h in
+    let is = e ∙ n.shifted in
+    (subst (IsId (ids_of l)) (sym is) n.is_id, ap (row_of (ids_of l)) is ∙ n.row_is)
 
 -- a row's number is at most the greatest id
 pub number_few : (l : Layout) → AreRows l → (row : ℕ) → row < row_count l → row ≤ max_id
@@ -88,11 +89,7 @@ module _ {l : Layout} {rows ends : List ℕ} (s : AreSkippable l rows ends) wher
       is ∙ kind_high row m a b high
     where
       by_kind : (row : ℕ) (m a b : Bool) → 1 < kind_by row m a b → 1 < row
-      by_kind row m a b h =
-          ⊎_elim
-          (λ (high : 1 < row). high)
-          (λ (low : row ≤ 1). absurd (omega (arith, kind_low row m a b low, h)))
-          (cases_lt 1 row)
+      by_kind row m a b h = grind (arith, common_steps, kind_low, cases_lt)
 
   -- rows of the kinds of accelerated rows are those from which a search may skip
   pub skippable : (place : ℕ) → slice_index ends 2 ≤ place → place < slice_index ends 5
@@ -106,8 +103,7 @@ module _ {l : Layout} {rows ends : List ℕ} (s : AreSkippable l rows ends) wher
       sym (high_accels (is_match (table_of l) (slice_index rows place))
       (are_needles (leaving_of (table_of l) (slice_index rows place))) (is_start_row l (slice_index rows place)))
       ∙ ap (λ k. nat_lt 2 k && nat_le k 5) (sym is)
-      ∙ ap₂ (λ (b c : Bool). b && c) (lt-ltb 2 (slice_index s.kinds (slice_index rows place)) above)
-      (at_most (slice_index s.kinds (slice_index rows place)) 5 within)
+      ∙ between 2 5 (slice_index s.kinds (slice_index rows place)) above within
 
   -- rows of the kinds of match rows are these
   pub matching : (place : ℕ) → slice_index ends 1 ≤ place → place < slice_index ends 3
@@ -120,8 +116,7 @@ module _ {l : Layout} {rows ends : List ℕ} (s : AreSkippable l rows ends) wher
       sym (high_matches (is_match (table_of l) (slice_index rows place))
       (are_needles (leaving_of (table_of l) (slice_index rows place))) (is_start_row l (slice_index rows place)))
       ∙ ap (λ k. nat_lt 1 k && nat_le k 3) (sym is)
-      ∙ ap₂ (λ (b c : Bool). b && c) (lt-ltb 1 (slice_index s.kinds (slice_index rows place)) above)
-      (at_most (slice_index s.kinds (slice_index rows place)) 3 within)
+      ∙ between 1 3 (slice_index s.kinds (slice_index rows place)) above within
 
   pub have_matches : HaveMatches l rows ends
   have_matches =

@@ -1,14 +1,11 @@
 -- A table no row of which gets needles stays as it is.
-use Rattle.std.proofs.lemmas.Grind.{common_steps}
-use Rattle.std.proofs.Common.{◌≡◌, ℕ, zero, suc, ◌+◌, ◌*◌, ◌<◌, ◌≤◌, ◌==◌, ◌&&◌, not, nat_lt, Bool, true, false, List}
-use Rattle.std.proofs.Common.{[], ◌∷◌, length, filter, slice_index, refl, ap, sym, ◌∙◌, ⊎_elim, arith, if◌then◌else◌}
-use Rattle.std.proofs.Math.Bool.{and-false}
-use Rattle.std.proofs.lemmas.Bool.{cases_eq, cases_lt, eq-eqb, ne_eqb, or_parts}
-use Rattle.std.proofs.lemmas.List.FromFn.{get_or-range_with_len, length-range_with_len}
+use Rattle.rx_spec.proofs.Prelude.{common_steps, ◌≡◌, ℕ, zero, suc, ◌+◌, ◌*◌, ◌<◌, ◌≤◌, ◌==◌, ◌&&◌, not, nat_lt, Bool}
+use Rattle.rx_spec.proofs.Prelude.{true, false, List, [], ◌∷◌, length, filter, slice_index, refl, ap, sym, ◌∙◌, ⊎_elim}
+use Rattle.rx_spec.proofs.Prelude.{arith, if◌then◌else◌, and-false, cases_eq, cases_lt, eq-eqb, ne_eqb, or_parts}
+use Rattle.rx_spec.proofs.Prelude.{get_or-range_with_len, length-range_with_len, list_any, range_with_len, IsSound}
+use Rattle.rx_spec.proofs.Prelude.{Table, is_match, leaving}
 use Rattle.std.proofs.lemmas.List.Sorted.{IsPermutation-refl}
-use Rattle.std.specs.List.{list_any, range_with_len}
 use Rattle.lemmas_tables.proofs.Filters.{every_in_range, filter_alike}
-use Rattle.rx_spec.specs.Tables.{IsSound, Table, is_match, leaving}
 use Rattle.rx_dense.specs.Layouts.{Layout, place_in_range, row_count, stride, table_of}
 use Rattle.rx_dense.specs.Specials.{is_accel_id}
 use Rattle.rx_dense.specs.declared.special.Special.{Special}
@@ -32,34 +29,30 @@ too_many xs h = grind (arith, common_steps, at_most, over)
 
 -- dead and quit get none
 module _ {t : Table} (sound : IsSound t) where
+  dead_stays : leaving t 0 ≡ []
+  dead_stays =
+      filter_alike (λ b. not (t.machine.next 0 b == 0)) (λ b. false) (range_with_len 0 256)
+      (every_in_range (λ b. not (t.machine.next 0 b == 0) ≡ false) 0 256
+      (λ b low high. ap not (eq-eqb (t.machine.next 0 b) 0 (sound.is_table.dead_stays b (omega
+      (arith, high))))))
+      ∙ none_pass (range_with_len 0 256)
+
+  quit_leaves : leaving t 1 ≡ range_with_len 0 256
+  quit_leaves =
+      filter_alike (λ b. not (t.machine.next 1 b == 1)) (λ b. true) (range_with_len 0 256)
+      (every_in_range (λ b. not (t.machine.next 1 b == 1) ≡ true) 0 256
+      (λ b low high.
+      let dead = sound.is_table.quit_ends b (omega (arith, high)) in
+      ap not (ne_eqb (t.machine.next 1 b) 1 (λ e. absurd (omega (arith, dead, e))))))
+      ∙ all_pass (range_with_len 0 256)
+
+  many : are_needles (range_with_len 0 256) ≡ false
+  many = too_many (range_with_len 0 256) (omega (arith, length-range_with_len 0 256))
+
   pub low_none : (row : ℕ) → row ≤ 1 → are_needles (leaving t row) ≡ false
-  low_none row low =
-      ⊎_elim
-      (λ (zero : row ≡ 0). ap (λ r. are_needles (leaving t r)) zero ∙ ap are_needles dead_stays)
-      (λ (ne : row ≡ 0 → ⊥).
-      let one : row ≡ 1 = omega (arith, ne) in
-      ap (λ r. are_needles (leaving t r)) one ∙ ap are_needles quit_leaves ∙ many)
-      (cases_eq row 0)
-    where
-      dead_stays : leaving t 0 ≡ []
-      dead_stays =
-          filter_alike (λ b. not (t.machine.next 0 b == 0)) (λ b. false) (range_with_len 0 256)
-          (every_in_range (λ b. not (t.machine.next 0 b == 0) ≡ false) 0 256
-          (λ b low high. ap not (eq-eqb (t.machine.next 0 b) 0 (sound.is_table.dead_stays b (omega
-          (arith, high))))))
-          ∙ none_pass (range_with_len 0 256)
-
-      quit_leaves : leaving t 1 ≡ range_with_len 0 256
-      quit_leaves =
-          filter_alike (λ b. not (t.machine.next 1 b == 1)) (λ b. true) (range_with_len 0 256)
-          (every_in_range (λ b. not (t.machine.next 1 b == 1) ≡ true) 0 256
-          (λ b low high.
-          let dead = sound.is_table.quit_ends b (omega (arith, high)) in
-          ap not (ne_eqb (t.machine.next 1 b) 1 (λ e. absurd (omega (arith, dead, e))))))
-          ∙ all_pass (range_with_len 0 256)
-
-      many : are_needles (range_with_len 0 256) ≡ false
-      many = too_many (range_with_len 0 256) (omega (arith, length-range_with_len 0 256))
+  low_none zero low = ap are_needles dead_stays
+  low_none (suc zero) low = ap are_needles quit_leaves ∙ many
+  low_none (suc (suc row)) low = absurd (omega (arith, low))
 
 -- ---- a table no row of which is skipped from
 

@@ -1,6 +1,6 @@
 -- Each column is that of some unit.
-use Rattle.std.proofs.Common.{◌≡◌, ◌≢◌, ℕ, zero, suc, ◌+◌, ◌<◌, ◌≤◌, List, slice_index, sym, subst, ⊎_elim, arith}
-use Rattle.std.proofs.lemmas.Bool.{cases_eq, ne_eqb}
+use Rattle.rx_spec.proofs.Prelude.{◌≡◌, ◌≢◌, ℕ, zero, suc, ◌+◌, ◌<◌, ◌≤◌, List, slice_index, sym, subst, ⊎_elim, arith}
+use Rattle.rx_spec.proofs.Prelude.{cases_eq, ne_eqb}
 use Rattle.rx_base.specs.ByteClasses.{AreClasses, alphabet_len}
 use Rattle.rx_dense.specs.Layouts.{Layout, column}
 

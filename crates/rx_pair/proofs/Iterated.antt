@@ -1,11 +1,7 @@
 -- What is left of the matches of two tables, by the next of them.
-use Rattle.std.proofs.Common.{◌≡◌, Some, None, Option, List, [], ◌∷◌, map, ap, ◌∙◌}
-use Rattle.std.specs.Prelude.{All, IfOk, Result, Ok, Err}
-use Rattle.std.proofs.lemmas.List.Elements.{All-append, All-cons, All-map, All-nil, All-weaker}
-use Rattle.rx_spec.specs.Iterating.{and_then, iterate}
-use Rattle.rx_spec.specs.Joining.{Answer, join}
-use Rattle.rx_spec.specs.Queries.{Query, Match, MatchError, LiesIn}
-use Rattle.rx_spec.specs.Tables.{Table}
+use Rattle.rx_spec.proofs.Prelude.{◌≡◌, Some, None, Option, List, [], ◌∷◌, map, ap, ◌∙◌, All, IfOk, Result, Ok, Err}
+use Rattle.rx_spec.proofs.Prelude.{All-append, All-cons, All-map, All-nil, All-weaker, and_then, iterate, Answer, join}
+use Rattle.rx_spec.proofs.Prelude.{Query, Match, MatchError, LiesIn, Table}
 use Rattle.rx_base.specs.Searcher.{Search}
 use Rattle.lemmas_tables.proofs.Iterating as iterating
 use Rattle.lemmas_tables.proofs.Iterating.{from_end, matches_again, matches_lie, told_next}

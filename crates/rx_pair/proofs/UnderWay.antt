@@ -1,13 +1,8 @@
 -- Half searches that go on from where they stand.
-use Rattle.std.proofs.Common.{◌≡◌, ◌≢◌, ◌∙◌, ℕ, ◌||◌, false, None, List, ap, sym}
-use Rattle.rx_spec.specs.HalfSearches.{first_offset, next_offset, units_of, walk}
-use Rattle.rx_spec.specs.Ids.{AreIds, row_of}
-use Rattle.rx_spec.specs.Queries.{Query, IsFit, is_done}
-use Rattle.rx_spec.specs.Splits.{skips_splits}
-use Rattle.rx_spec.specs.Tables.{Table, IsSound}
+use Rattle.rx_spec.proofs.Prelude.{◌≡◌, ◌≢◌, ◌∙◌, ℕ, false, None, List, ap, sym, first_offset, next_offset, units_of}
+use Rattle.rx_spec.proofs.Prelude.{walk, AreIds, row_of, Query, IsFit, is_done, skips_splits, Table, IsSound}
 use Rattle.rx_spec.specs.declared.Direction.{Direction}
-use Rattle.rx_search.specs.Counted.{IsReady}
-use Rattle.rx_search.specs.Needles.{byte_ahead, is_nil, is_needle}
+use Rattle.rx_search.specs.Needles.{byte_ahead}
 use Rattle.rx_search.specs.Starts.{IsId, IsStart}
 use Rattle.rx_search.specs.Walks.{last_offset, units_left}
 use Rattle.rx_search.proofs.Halves.{begun, by_stop, first_place, open_span, walk_stops}
@@ -55,9 +50,3 @@ module _ {t : Table} {ids : List ℕ} (sound : IsSound t) (are : AreIds t.size i
               ∙ sym (walk_stops t.machine direction q.earliest None (row_of ids next) (next_offset direction offset)
               (units_left direction q (next_offset direction offset)));
         }
-
--- no byte may be skipped there
-pub is_ready : {t : Table} {ids : List ℕ} {direction : Direction} {q : Query} {id offset : ℕ}
-    → IsUnderWay t ids direction q id offset → IsReady t direction q (row_of ids id) offset
-is_ready {direction = direction} {q = q} {offset = offset} u more =
-    ap (λ (needles : List ℕ). is_nil needles || is_needle needles (byte_ahead direction q.haystack offset)) u.no_needles

@@ -1,29 +1,24 @@
 -- The closure of a row, where no path that reads nothing goes round: what the row is of itself, and
 -- the closures of those behind it.
-use Rattle.std.proofs.lemmas.Grind.{common_steps}
-use Rattle.std.proofs.Common.{◌≡◌, ℕ, zero, suc, ◌+◌, ◌*◌, ◌<◌, ◌⊎◌, inl, inr, if◌then◌else◌, List, [], ◌∷◌, ◌++◌}
-use Rattle.std.proofs.Common.{length, sum_by, refl, ap, ap₂, sym, ◌∙◌, subst, arith, append-nil}
-use Rattle.std.specs.List.{flat_map}
-use Rattle.std.proofs.lemmas.List.Sums.{sum_by-cons}
-use Rattle.rx_spec.specs.Rows.{Row}
-use Rattle.rx_spec.specs.States.{row_at, Passing, Standing, Tested, reach_by, reach, closure}
-use Rattle.rx_spec.specs.Shallow.{AllNext, Short, IsShallow}
+use Rattle.rx_spec.proofs.Prelude.{common_steps, ◌≡◌, ℕ, zero, suc, ◌+◌, ◌*◌, ◌<◌, ◌⊎◌, inl, inr, List, [], ◌∷◌, ◌++◌}
+use Rattle.rx_spec.proofs.Prelude.{length, sum_by, refl, ap, ap₂, sym, ◌∙◌, subst, arith, append-nil, flat_map}
+use Rattle.rx_spec.proofs.Prelude.{sum_by-cons, Row, row_at, Passing, Standing, Tested, reach_by, reach, closure}
+use Rattle.rx_spec.proofs.Prelude.{AllNext, Short, IsShallow}
 use Rattle.rx_expr.specs.Nfa.{meaning}
 use Rattle.rx_expr.specs.declared.thompson.nfa.NFA.{NFA}
 use Rattle.rx_powerset.specs.Closures.{own_by, branches_by, passing_of}
 use Rattle.rx_powerset.specs.declared.closure.Passing as code
 use Rattle.rx_powerset.proofs.Search.{Graph}
+use Rattle.lemmas_walks.proofs.ShortPaths.{AllNext-more, reach_by-same}
 
 -- ---- one row
 
 reach_by-parts : (pass : Passing) (behind : ℕ → List ℕ) (q : ℕ) (row : Row)
     → reach_by pass behind q row ≡ own_by pass q row ++ flat_map behind (branches_by pass row)
-reach_by-parts pass behind q (Row.Bytes set next) = refl
 reach_by-parts pass behind q (Row.Split first second) = grind (arith, common_steps, append-nil)
 reach_by-parts Standing behind q (Row.Look look next) = refl
 reach_by-parts (Tested holds) behind q (Row.Look look next) = grind (arith, common_steps, append-nil)
-reach_by-parts pass behind q (Row.Match pattern) = refl
-reach_by-parts pass behind q Row.Fail = refl
+reach_by-parts pass behind q _ = refl
 
 pub own_either : (pass : Passing) (q : ℕ) (row : Row) → (own_by pass q row ≡ []) ⊎ (own_by pass q row ≡ q ∷ [])
 own_either pass q (Row.Bytes set next) = inr refl
@@ -35,11 +30,9 @@ own_either pass q Row.Fail = inl refl
 
 -- how many rows the paths from a row that read nothing meet, each as often as a path does
 abbrev weight_by : (ℕ → ℕ) → Row → ℕ
-weight_by behind (Row.Bytes set next) = 1
 weight_by behind (Row.Split first second) = 1 + behind first + behind second
 weight_by behind (Row.Look look next) = 1 + behind next
-weight_by behind (Row.Match pattern) = 1
-weight_by behind Row.Fail = 1
+weight_by behind _ = 1
 
 sum_of_one : (w : ℕ → ℕ) (a : ℕ) → sum_by w (a ∷ []) ≡ w a
 sum_of_one w a = grind (arith, common_steps, sum_by, sum_by-cons)
@@ -52,37 +45,17 @@ none_lighter w n h = grind (arith, common_steps, sum_by)
 
 -- the weight of those behind it is less
 branches_lighter : (pass : Passing) (w : ℕ → ℕ) (row : Row) → sum_by w (branches_by pass row) < weight_by w row
-branches_lighter pass w (Row.Bytes set next) = none_lighter w 1 (omega arith)
 branches_lighter pass w (Row.Split first second) = omega (arith, sum_of_two w first second)
 branches_lighter Standing w (Row.Look look next) = none_lighter w (1 + w next) (omega arith)
 branches_lighter (Tested holds) w (Row.Look look next) = grind (arith, common_steps, sum_by, sum_of_one, none_lighter)
-branches_lighter pass w (Row.Match pattern) = none_lighter w 1 (omega arith)
-branches_lighter pass w Row.Fail = none_lighter w 1 (omega arith)
+branches_lighter pass w _ = none_lighter w 1 (omega arith)
 
 -- ---- one step more changes nothing, where paths are short
 
-reach_by-same : (pass : Passing) (f g : ℕ → List ℕ) (q : ℕ) (row : Row) → AllNext (λ p. f p ≡ g p) row
-    → reach_by pass f q row ≡ reach_by pass g q row
-reach_by-same pass f g q (Row.Bytes set next) h = refl
-reach_by-same pass f g q (Row.Split first second) h = ap₂ (λ a b. a ++ b) h.0 h.1
-reach_by-same Standing f g q (Row.Look look next) h = refl
-reach_by-same (Tested holds) f g q (Row.Look look next) h = ap (λ l. if holds look then l else []) h
-reach_by-same pass f g q (Row.Match pattern) h = refl
-reach_by-same pass f g q Row.Fail h = refl
-
 weight_by-same : (f g : ℕ → ℕ) (row : Row) → AllNext (λ p. f p ≡ g p) row → weight_by f row ≡ weight_by g row
-weight_by-same f g (Row.Bytes set next) h = refl
 weight_by-same f g (Row.Split first second) h = ap₂ (λ a b. 1 + a + b) h.0 h.1
 weight_by-same f g (Row.Look look next) h = ap (λ n. 1 + n) h
-weight_by-same f g (Row.Match pattern) h = refl
-weight_by-same f g Row.Fail h = refl
-
-AllNext-weaker : (P Q : ℕ → Type 0) → ((p : ℕ) → P p → Q p) → (row : Row) → AllNext P row → AllNext Q row
-AllNext-weaker P Q f (Row.Bytes set next) h = tt
-AllNext-weaker P Q f (Row.Split first second) h = (f first h.0, f second h.1)
-AllNext-weaker P Q f (Row.Look look next) h = f next h
-AllNext-weaker P Q f (Row.Match pattern) h = tt
-AllNext-weaker P Q f Row.Fail h = tt
+weight_by-same f g _ h = refl
 
 unfoldable pub weight_within : List Row → ℕ → ℕ → ℕ
 weight_within rows zero q = 0
@@ -97,7 +70,7 @@ reach_stays rows pass (suc n) q h =
     let less = λ (p : ℕ). reach rows pass n p in
     let each = λ (p : ℕ) (k : Short rows n p). reach_stays rows pass n p k in
     reach_by-same pass more less q (row_at rows q)
-    (AllNext-weaker (Short rows n) (λ p. more p ≡ less p) each (row_at rows q) h)
+    (AllNext-more (Short rows n) (λ p. more p ≡ less p) each (row_at rows q) h)
 
 weight_stays : (rows : List Row) (n q : ℕ) → Short rows n q → weight_within rows (suc n) q ≡ weight_within rows n q
 unfolding Short weight_within
@@ -107,7 +80,7 @@ weight_stays rows (suc n) q h =
     let less = λ (p : ℕ). weight_within rows n p in
     let each = λ (p : ℕ) (k : Short rows n p). weight_stays rows n p k in
     weight_by-same more less (row_at rows q)
-    (AllNext-weaker (Short rows n) (λ p. more p ≡ less p) each (row_at rows q) h)
+    (AllNext-more (Short rows n) (λ p. more p ≡ less p) each (row_at rows q) h)
 
 -- ---- the rows as a graph
 

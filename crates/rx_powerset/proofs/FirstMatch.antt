@@ -1,25 +1,9 @@
 -- How far the first match stands in a list of rows that is gone through by an index.
-use Rattle.std.proofs.Common.{arith, ◌≡◌, ℕ, ◌+◌, ◌<◌, ◌≤◌, true, false, List, [], ◌∷◌, ◌++◌, length, get_or, take}
-use Rattle.std.proofs.Common.{drop, refl, append_assoc}
-use Rattle.std.proofs.lemmas.Grind.{common_steps}
-use Rattle.std.proofs.Math.ListN.{drop_of_length-le, take-append-drop}
-use Rattle.std.proofs.lemmas.List.{take_more, drop_more}
-use Rattle.rx_spec.specs.Rows.{Row}
-use Rattle.rx_spec.specs.States.{row_at, is_match_row, to_first_match}
-
-first_here : (rows : List Row) (q : ℕ) (qs : List ℕ) → is_match_row (row_at rows q) ≡ true
-    → to_first_match rows (q ∷ qs) ≡ q ∷ []
-unfolding to_first_match
-first_here rows q qs h = rw h refl
-
-first_later : (rows : List Row) (q : ℕ) (qs : List ℕ) → is_match_row (row_at rows q) ≡ false
-    → to_first_match rows (q ∷ qs) ≡ q ∷ to_first_match rows qs
-unfolding to_first_match
-first_later rows q qs h = rw h refl
-
-first_none : (rows : List Row) → to_first_match rows [] ≡ []
-unfolding to_first_match
-first_none rows = refl
+use Rattle.rx_spec.proofs.Prelude.{arith, ◌≡◌, ℕ, ◌+◌, ◌<◌, ◌≤◌, true, false, List, [], ◌∷◌, ◌++◌, length, get_or, take}
+use Rattle.rx_spec.proofs.Prelude.{drop, append_assoc, common_steps, drop_of_length-le, take_more, drop_more, Row}
+use Rattle.rx_spec.proofs.Prelude.{row_at, is_match_row, to_first_match}
+use Rattle.std.proofs.Math.ListN.{take-append-drop}
+use Rattle.lemmas_walks.proofs.FirstMatch.{first_here, first_later, first_none}
 
 -- none of the first i rows matches
 pub record IsUncut (rows : List Row) (xs : List ℕ) (i : ℕ) : Type 0 where

@@ -1,25 +1,23 @@
 -- A search of a graph with flags for what was seen lists what a recursion over the graph lists, first
 -- occurrences only.
-use Rattle.std.proofs.lemmas.Grind.{common_steps}
-use Rattle.std.proofs.Common.{◌≡◌, ℕ, ◌<◌, ◌==◌, ◌⊎◌, inl, inr, Bool, true, false, List, [], ◌∷◌, ◌++◌, sum_by, refl}
-use Rattle.std.proofs.Common.{ap, sym, ◌∙◌, subst, arith, append_assoc, append-nil, ⊎_elim}
-use Rattle.std.proofs.lemmas.Bool.{or_left, or_right, or_cases, eqb-true, eq-eqb, false_from_ne_true}
-use Rattle.std.proofs.lemmas.List.Folds.{list_any-append}
-use Rattle.std.proofs.lemmas.List.Sums.{sum_by-append, sum_by-cons}
-use Rattle.std.specs.List.{flat_map, list_any, AllByRecursion as Every}
-use Rattle.rx_spec.specs.States.{fresh}
+use Rattle.rx_spec.proofs.Prelude.{common_steps, ◌≡◌, ℕ, ◌<◌, ◌==◌, ◌⊎◌, inl, inr, Bool, true, false, List, [], ◌∷◌}
+use Rattle.rx_spec.proofs.Prelude.{◌++◌, sum_by, refl, ap, sym, ◌∙◌, subst, arith, append_assoc, append-nil, ⊎_elim}
+use Rattle.rx_spec.proofs.Prelude.{or_left, or_right, or_cases, eqb-true, eq-eqb, false_from_ne_true, list_any-append}
+use Rattle.rx_spec.proofs.Prelude.{sum_by-cons, flat_map, list_any, fresh}
+use Rattle.std.proofs.lemmas.List.Sums.{sum_by-append}
+use Rattle.std.specs.List.{AllByRecursion as Every}
 use Rattle.lemmas_walks.proofs.Every.{every-append, every-weaker, flat_map-append_of}
-use Rattle.lemmas_walks.proofs.Firsts.{fresh_alike}
+use Rattle.lemmas_walks.proofs.Firsts.{fresh_alike, fresh_new, fresh_nil, fresh_old}
 
 -- ---- membership, as the test that computes it
 
 abbrev pub In : List ℕ → ℕ → Type 0
 In xs x = list_any (λ y. x == y) xs ≡ true
 
-in_here : (x : ℕ) (xs : List ℕ) → In (x ∷ xs) x
+pub in_here : (x : ℕ) (xs : List ℕ) → In (x ∷ xs) x
 in_here x xs = or_left (x == x) (list_any (λ y. x == y) xs) (eq-eqb x x refl)
 
-in_there : (y x : ℕ) (xs : List ℕ) → In xs x → In (y ∷ xs) x
+pub in_there : (y x : ℕ) (xs : List ℕ) → In xs x → In (y ∷ xs) x
 in_there y x xs h = or_right (x == y) (list_any (λ z. x == z) xs) h
 
 pub in_cases : (y x : ℕ) (xs : List ℕ) → In (y ∷ xs) x → (x ≡ y) ⊎ In xs x
@@ -28,32 +26,19 @@ in_cases y x xs h = grind (arith, common_steps, eqb-true, or_cases)
 pub in_nil : (x : ℕ) → In [] x → ⊥
 in_nil x h = cc
 
-in_left : (xs ys : List ℕ) (x : ℕ) → In xs x → In (xs ++ ys) x
+pub in_left : (xs ys : List ℕ) (x : ℕ) → In xs x → In (xs ++ ys) x
 in_left xs ys x h = grind (arith, common_steps, list_any-append, or_left)
 
-in_right : (xs ys : List ℕ) (x : ℕ) → In ys x → In (xs ++ ys) x
+pub in_right : (xs ys : List ℕ) (x : ℕ) → In ys x → In (xs ++ ys) x
 in_right xs ys x h = grind (arith, common_steps, list_any-append, or_right)
 
-in_split : (xs ys : List ℕ) (x : ℕ) → In (xs ++ ys) x → In xs x ⊎ In ys x
+pub in_split : (xs ys : List ℕ) (x : ℕ) → In (xs ++ ys) x → In xs x ⊎ In ys x
 in_split xs ys x h = grind (arith, common_steps, or_cases, list_any-append)
 
 -- ---- first occurrences behind what was seen
 
-fresh_old : (seen xs : List ℕ) (y : ℕ) → In seen y → fresh seen (y ∷ xs) ≡ fresh seen xs
-unfolding fresh
-fresh_old seen xs y e = rw e refl
-
-fresh_new : (seen xs : List ℕ) (y : ℕ) → list_any (λ z. y == z) seen ≡ false
-    → fresh seen (y ∷ xs) ≡ y ∷ fresh (y ∷ seen) xs
-unfolding fresh
-fresh_new seen xs y e = rw e refl
-
-fresh_end : (seen : List ℕ) → fresh seen [] ≡ []
-unfolding fresh
-fresh_end seen = refl
-
 -- what was seen is passed over
-fresh_skips : (seen xs ys : List ℕ) → ((x : ℕ) → In xs x → In seen x) → fresh seen (xs ++ ys) ≡ fresh seen ys
+pub fresh_skips : (seen xs ys : List ℕ) → ((x : ℕ) → In xs x → In seen x) → fresh seen (xs ++ ys) ≡ fresh seen ys
 fresh_skips seen [] ys h = refl
 fresh_skips seen (x ∷ xs) ys h =
     fresh_old seen (xs ++ ys) x (h x (in_here x xs)) ∙ fresh_skips seen xs ys (λ y c. h y (in_there x y xs c))
@@ -121,7 +106,7 @@ module _ (g : Graph) where
     pub listed : (p : ℕ) → seen p ≡ true → Listed out waiting p
 
   pub search_ends : {target : List ℕ} {seen : ℕ → Bool} {out : List ℕ} → Searching target seen out [] → out ≡ target
-  search_ends {out = out} s = sym (ap (λ l. out ++ l) (fresh_end out) ∙ append-nil out) ∙ s.whole
+  search_ends {out = out} s = sym (ap (λ l. out ++ l) (fresh_nil out) ∙ append-nil out) ∙ s.whole
 
   lighter_apart : (q a : ℕ) → q ≡ a → g.weight a < g.weight q → ⊥
   lighter_apart q a e h = let same = ap g.weight e in omega arith

@@ -1,12 +1,9 @@
 -- One turn of the search, with an ordered set of what was seen and a stack of what waits.
-use Rattle.std.proofs.lemmas.Grind.{common_steps}
-use Rattle.std.proofs.Common.{◌≡◌, ℕ, Bool, true, false, not, List, [], ◌∷◌, ◌++◌, sum_by, ◌<◌, reverse, length, refl}
-use Rattle.std.proofs.Common.{ap, sym, ◌∙◌, subst, arith}
-use Rattle.std.proofs.lemmas.Bool.Decides.{nat_tests}
-use Rattle.std.proofs.lemmas.List.{reverse-append, nil_from_length}
+use Rattle.rx_spec.proofs.Prelude.{common_steps, ◌≡◌, ℕ, Bool, true, false, not, List, [], ◌∷◌, ◌++◌, sum_by, ◌<◌}
+use Rattle.rx_spec.proofs.Prelude.{reverse, length, ap, sym, ◌∙◌, subst, arith, nat_tests, nil_from_length, is_at}
+use Rattle.rx_spec.proofs.Prelude.{nat_cmp, not-false, not-true}
+use Rattle.std.proofs.lemmas.List.{reverse-append}
 use Rattle.std.specs.BTreeSet.{BTreeSet, contains, Updates}
-use Rattle.std.specs.BTreeMap.{is_at}
-use Rattle.std.specs.Ordering.{nat_cmp}
 use Rattle.lemmas_walks.proofs.Firsts.{by_test}
 use Rattle.rx_powerset.proofs.Search.{Graph, Notes, Searching, search_passes, search_turns, search_ends, passes_falls}
 use Rattle.rx_powerset.proofs.Search.{turns_falls}
@@ -26,14 +23,6 @@ at_other k q h = grind (arith, nat_tests)
 notes : (seen then : BTreeSet ℕ) (id : ℕ) → Updates nat_cmp seen then id true → Notes (has seen) (has then) id
 notes seen then id u = grind (arith, common_steps, by_test, at_other)
 
-not_false : (b : Bool) {added : Bool} → added ≡ not b → added ≡ false → b ≡ true
-not_false true e f = refl
-not_false false e f = cc
-
-not_true : (b : Bool) {added : Bool} → added ≡ not b → added ≡ true → b ≡ false
-not_true true e f = cc
-not_true false e f = refl
-
 -- ---- a turn, at the first of those that wait
 
 module _ (g : Graph) where
@@ -43,7 +32,7 @@ module _ (g : Graph) where
       → added ≡ false → Updates nat_cmp seen then id true → Searching g target (has then) out others
   passed {target} {out} {id = id} seen then s e a old u =
       let waiting = subst (Searching g target (has seen) out) e s in
-      search_passes g (not_false (has seen id) a old) (notes seen then id u) waiting
+      search_passes g (not-false (has seen id) (sym a ∙ old)) (notes seen then id u) waiting
 
   -- it is new
   pub met : {target out before others : List ℕ} {id : ℕ} {added : Bool} (seen then : BTreeSet ℕ)
@@ -52,7 +41,7 @@ module _ (g : Graph) where
       → Searching g target (has then) (out ++ g.own id) (g.branches id ++ others)
   met {target} {out} {id = id} seen then s e a new u =
       let waiting = subst (Searching g target (has seen) out) e s in
-      search_turns g (not_true (has seen id) a new) (notes seen then id u) waiting
+      search_turns g (not-true (has seen id) (sym a ∙ new)) (notes seen then id u) waiting
 
   -- what is listed then and waits, as it is kept
   pub kept : {target out more waiting after : List ℕ} {seen : ℕ → Bool} → Searching g target seen out waiting

@@ -1,13 +1,10 @@
 -- How many rows and patterns a state can have.
-use Rattle.std.proofs.lemmas.Grind.{common_steps}
-use Rattle.std.proofs.Common.{◌≡◌, ℕ, suc, ◌<◌, ◌≤◌, ◌==◌, ◌⊎◌, Bool, true, false, if◌then◌else◌, List, [], ◌∷◌, ◌++◌}
-use Rattle.std.proofs.Common.{length, sym, subst, arith, ⊎_elim, length-append}
-use Rattle.std.proofs.lemmas.Bool.{eqb-true, false_from_ne_true}
+use Rattle.rx_spec.proofs.Prelude.{common_steps, ◌≡◌, ℕ, suc, ◌<◌, ◌≤◌, ◌==◌, ◌⊎◌, Bool, true, false, if◌then◌else◌}
+use Rattle.rx_spec.proofs.Prelude.{List, [], ◌∷◌, ◌++◌, length, sym, subst, arith, ⊎_elim, length-append, eqb-true}
+use Rattle.rx_spec.proofs.Prelude.{false_from_ne_true, flat_map, IsDistinct, Contains, Row, row_at, is_match_row}
+use Rattle.rx_spec.proofs.Prelude.{to_first_match, cut, pattern_of, firsts}
 use Rattle.std.proofs.lemmas.Map.Steps.{length-le_from_distinct_below}
-use Rattle.std.specs.List.{flat_map, IsDistinct, AllByRecursion as Every}
-use Rattle.std.specs.Prelude.{Contains}
-use Rattle.rx_spec.specs.Rows.{Row}
-use Rattle.rx_spec.specs.States.{row_at, is_match_row, to_first_match, cut, pattern_of, firsts}
+use Rattle.std.specs.List.{AllByRecursion as Every}
 use Rattle.rx_spec.specs.declared.MatchKind.{MatchKind}
 use Rattle.lemmas_walks.proofs.Every.{every-append}
 use Rattle.lemmas_walks.proofs.Firsts.{Contains-here, Contains-there, Apart, Apart-fresh}
@@ -59,10 +56,7 @@ cut_few MatchKind.LeftmostFirst rows xs = first_few rows xs
 
 pub pattern_few : (row : Row) → length (pattern_of row) ≤ 1
 pattern_few (Row.Bytes set next) = omega arith
-pattern_few (Row.Split first second) = omega arith
-pattern_few (Row.Look look next) = omega arith
-pattern_few (Row.Match pattern) = omega arith
-pattern_few Row.Fail = omega arith
+pattern_few _ = omega arith
 
 patterns_few : (rows : List Row) (xs : List ℕ) → length (flat_map (λ q. pattern_of (row_at rows q)) xs) ≤ length xs
 patterns_few rows [] = omega arith

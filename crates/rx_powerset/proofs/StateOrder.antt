@@ -1,14 +1,12 @@
 -- States of the code are equal, and of one rank, exactly where their parts are equal.
-use Rattle.std.proofs.Common.{arith, ◌≡◌, ℕ, Bool, true, false, List, refl, ap, sym, ◌∙◌, Equal}
-use Rattle.std.proofs.lemmas.Grind.{common_steps}
-use Rattle.std.proofs.lemmas.Bool.{and_parts}
+use Rattle.rx_spec.proofs.Prelude.{arith, ◌≡◌, ℕ, Bool, true, false, List, refl, ap, sym, ◌∙◌, common_steps, and_parts}
+use Rattle.rx_spec.proofs.Prelude.{nat_cmp, is_eq, Facts, State}
+use Rattle.std.proofs.Common.{Equal}
 use Rattle.std.proofs.lemmas.Cmp.{tied_itself, nat_list_cmp_total}
 use Rattle.std.specs.Cmp.{tied_then}
 use Rattle.std.specs.Cmp.Lexicographic.{slice_cmp, same_text, texts_ties}
-use Rattle.std.specs.Ordering.{ordering_then, nat_cmp, bool_cmp, is_eq}
+use Rattle.std.specs.Ordering.{ordering_then, bool_cmp}
 use Rattle.std.specs.declared.cmp.Ordering.{Ordering}
-use Rattle.rx_spec.specs.Contexts.{Facts}
-use Rattle.rx_spec.specs.States.{State}
 use Rattle.rx_powerset.specs.PowerState.{state_of}
 use Rattle.rx_powerset.specs.Ranks.{facts_rank, rank}
 use Rattle.rx_powerset.specs.declared.state.PowerState.{PowerState}

@@ -1,10 +1,7 @@
 -- The parts of a step, put together.
-use Rattle.std.proofs.Common.{arith, ◌≡◌, ℕ, List, Result, Ok, Err, IfOk, ◌∙◌}
-use Rattle.std.proofs.lemmas.Grind.{common_steps}
-use Rattle.std.specs.List.{flat_map}
-use Rattle.rx_spec.specs.Contexts.{Facts, unit_facts, holds_read}
-use Rattle.rx_spec.specs.Nfas.{Nfa}
-use Rattle.rx_spec.specs.States.{State, Tested, row_at, decided_rows, cut, pattern_of, target, state_at, step}
+use Rattle.rx_spec.proofs.Prelude.{arith, ◌≡◌, ℕ, List, Result, Ok, Err, IfOk, ◌∙◌, common_steps, flat_map, Facts}
+use Rattle.rx_spec.proofs.Prelude.{unit_facts, holds_read, Nfa, State, Tested, row_at, decided_rows, cut, pattern_of}
+use Rattle.rx_spec.proofs.Prelude.{target, state_at, step}
 use Rattle.rx_spec.specs.declared.Direction.{Direction}
 use Rattle.rx_spec.specs.declared.MatchKind.{MatchKind}
 use Rattle.rx_powerset.specs.Closures.{closed_rows}

@@ -1,6 +1,5 @@
 -- Walks in reverse over a literal.
-use Rattle.std.proofs.Common.{◌≡◌, ℕ, ◌+◌, ◌-◌, ◌<◌, List, length, slice_index, ap, sym, ◌∙◌, arith}
-use Rattle.rx_spec.specs.Tables.{Table}
+use Rattle.rx_spec.proofs.Prelude.{◌≡◌, ℕ, ◌+◌, ◌-◌, ◌<◌, List, length, slice_index, ap, sym, ◌∙◌, arith, Table}
 use Rattle.rx_spec.specs.declared.Direction.{Direction}
 use Rattle.rx_search.proofs.Standing.{Standing}
 use Rattle.rx_search.proofs.Walks.{IsQuiet, Step}
@@ -24,9 +23,9 @@ back_more {t} {literal} start {left} {row} {next} s quiet some leads back q at l
         record {
           place = record {
             fits = lies.fits;
-            in_span = record { low = omega (arith, low); high = omega (arith, high, some) };
+            in_span = record { low = omega arith; high = omega arith };
           };
-          more = λ none. omega (arith, low, none);
+          more = λ none. omega arith;
           turn = record {
             leads =
                 leads

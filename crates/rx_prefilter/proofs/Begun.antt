@@ -1,7 +1,6 @@
 -- How much of a literal was read last.
-use Rattle.std.proofs.lemmas.Grind.{common_steps}
-use Rattle.std.proofs.Common.{◌≡◌, ℕ, ◌+◌, ◌-◌, ◌<◌, ◌≤◌, List, length, slice_index, ap, sym, ◌∙◌, subst, ⊎_elim, arith}
-use Rattle.std.proofs.lemmas.Bool.{cases_lt}
+use Rattle.rx_spec.proofs.Prelude.{common_steps, ◌≡◌, ℕ, ◌+◌, ◌-◌, ◌<◌, ◌≤◌, List, length, slice_index, ap, sym, ◌∙◌}
+use Rattle.rx_spec.proofs.Prelude.{subst, ⊎_elim, arith, cases_lt}
 use Rattle.rx_prefilter.specs.Literals.{EndsWith, IsLongest}
 
 -- the literal's first k bytes are the last ones between two offsets
@@ -27,42 +26,26 @@ module _ (hay literal : List ℕ) (from : ℕ) where
 
     -- a byte before it, as one of the literal
     read_before : (i : ℕ) → i + 1 < j → slice_index hay (to + 1 - j + i) ≡ slice_index literal i
-    read_before i h =
-        let room = m.begun.few in
-        let few = l.ends.few in
-        let place : to + 1 - j + i ≡ to - k + (k + 1 - j + i) = omega (arith, h, room, few) in
-        same_place place ∙ m.begun.reads (k + 1 - j + i) (omega (arith, h, few)) ∙ l.ends.before i h
+    read_before i h = grind (arith, common_steps)
 
     read_last : (i : ℕ) → i + 1 ≡ j → slice_index hay (to + 1 - j + i) ≡ slice_index literal i
-    read_last i e =
-        let room = m.begun.few in
-        let few = l.ends.few in
-        let place : to + 1 - j + i ≡ to = omega (arith, e, room, few) in
-        let last : j - 1 ≡ i = omega (arith, e) in
-        same_place place ∙ is ∙ sym (l.ends.last (omega (arith, e))) ∙ ap (slice_index literal) last
+    read_last i e = grind (arith, common_steps)
 
     pub begun_on : Begun hay literal from (to + 1) j
     begun_on =
         let room = m.begun.few in
         let few = l.ends.few in
         record {
-          few = omega (arith, room, few);
+          few = omega arith;
           reads = λ i h.
               ⊎_elim (λ (more : i + 1 < j). read_before i more)
-              (λ (last : j ≤ i + 1). read_last i (omega (arith, h, last)))
+              (λ (last : j ≤ i + 1). read_last i (omega arith))
               (cases_lt (i + 1) j);
         }
 
     -- what ends there begins a byte earlier
     earlier : (i : ℕ) → Begun hay literal from (to + 1) (i + 1) → Begun hay literal from to i
-    earlier i b =
-        let few = b.few in
-        record {
-          few = omega (arith, few);
-          reads = λ x h.
-              let place : to - i + x ≡ to + 1 - (i + 1) + x = omega (arith, few) in
-              same_place place ∙ b.reads x (omega (arith, h));
-        }
+    earlier i b = grind (arith, common_steps)
 
     ends : (i : ℕ) → i < length literal → Begun hay literal from (to + 1) i → EndsWith literal k byte i
     ends i low b =
@@ -71,22 +54,22 @@ module _ (hay literal : List ℕ) (from : ℕ) where
         record {
           few = fewer;
           last = λ some.
-              let place : to + 1 - i + (i - 1) ≡ to = omega (arith, some, few) in
-              sym (b.reads (i - 1) (omega (arith, some))) ∙ same_place place ∙ is;
+              let place : to + 1 - i + (i - 1) ≡ to = omega arith in
+              sym (b.reads (i - 1) (omega arith)) ∙ same_place place ∙ is;
           before = λ x h.
-              let place : to - k + (k + 1 - i + x) ≡ to + 1 - i + x = omega (arith, h, few, room, fewer) in
-              sym (m.begun.reads (k + 1 - i + x) (omega (arith, h, fewer))) ∙ same_place place
-              ∙ b.reads x (omega (arith, h));
+              let place : to - k + (k + 1 - i + x) ≡ to + 1 - i + x = omega (arith, h, fewer) in
+              sym (m.begun.reads (k + 1 - i + x) (omega arith)) ∙ same_place place
+              ∙ b.reads x (omega arith);
         }
       where
         fewer : i ≤ k + 1
         fewer =
-            ⊎_elim (λ (none : i < 1). omega (arith, none))
+            ⊎_elim (λ (none : i < 1). omega arith)
             (λ (some : 1 ≤ i).
-            let one : i ≡ i - 1 + 1 = omega (arith, some) in
-            let before = m.most (i - 1) (omega (arith, low))
+            let one : i ≡ i - 1 + 1 = omega arith in
+            let before = m.most (i - 1) (omega arith)
             (earlier (i - 1) (subst (Begun hay literal from (to + 1)) one b)) in
-            omega (arith, some, before))
+            omega arith)
             (cases_lt i 1)
 
     pub begun_more : j < length literal → MostBegun hay literal from (to + 1) j

@@ -1,7 +1,5 @@
 -- Forward searches that told nothing yet.
-use Rattle.std.proofs.Common.{◌≡◌, ◌≢◌, ℕ, ◌+◌, slice_index, ◌∙◌, arith}
-use Rattle.rx_spec.specs.Queries.{Query, IsFit}
-use Rattle.rx_spec.specs.Tables.{Table}
+use Rattle.rx_spec.proofs.Prelude.{◌≡◌, ◌≢◌, ℕ, ◌+◌, slice_index, ◌∙◌, arith, Query, IsFit, Table}
 use Rattle.rx_search.proofs.Standing.{Standing}
 use Rattle.rx_search.proofs.Walks.{IsQuiet}
 use Rattle.rx_prefilter.specs.Literals.{IsGoing}
@@ -15,7 +13,7 @@ going_on {t} {q} {row} {offset} {next} s quiet fits going more leads =
     let low = going.in_span.low in
     let high = going.in_span.high in
     record {
-      in_span = record { low = omega (arith, low); high = omega (arith, high, more) };
+      in_span = record { low = omega arith; high = omega arith };
       answer =
           going.answer
           ∙ walk_on

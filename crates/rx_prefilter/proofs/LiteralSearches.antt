@@ -1,16 +1,10 @@
 -- Searches with a pair of tables that search for one literal.
-use Rattle.std.proofs.lemmas.Grind.{common_steps}
-use Rattle.std.proofs.Common.{◌≡◌, ℕ, ◌+◌, ◌-◌, ◌<◌, ◌≤◌, ◌==◌, ◌||◌, Bool, true, false, List, length, slice_index}
-use Rattle.std.proofs.Common.{Option, Some, None, Ok, Err, if◌then◌else◌, ap, refl, sym, ◌∙◌, subst, arith}
-use Rattle.std.specs.Prelude.{IfSome}
-use Rattle.std.proofs.lemmas.Bool.{eq-eqb, eqb-true, false_from_ne_true, ltb-false, ltb-true}
-use Rattle.rx_spec.specs.Bytes.{AreBytes}
-use Rattle.rx_spec.specs.HalfSearches.{beside, half_search, whole_walk}
-use Rattle.rx_spec.specs.Joining.{Answer, back_from, match_at, with_end, with_start}
-use Rattle.rx_spec.specs.Queries.{Anchored, HalfMatch, IsFit, MatchError, Query, is_anchored, is_done}
-use Rattle.rx_spec.specs.Splits.{half_unsplit, skips_splits}
-use Rattle.rx_spec.specs.Starts.{start_error, start_row}
-use Rattle.rx_spec.specs.Tables.{IsSound, Table}
+use Rattle.rx_spec.proofs.Prelude.{common_steps, ◌≡◌, ℕ, ◌+◌, ◌-◌, ◌<◌, ◌≤◌, ◌==◌, ◌||◌, Bool, true, false, List}
+use Rattle.rx_spec.proofs.Prelude.{length, slice_index, Option, Some, None, Ok, Err, if◌then◌else◌, ap, refl, sym, ◌∙◌}
+use Rattle.rx_spec.proofs.Prelude.{subst, arith, IfSome, eq-eqb, eqb-true, false_from_ne_true, ltb-true, AreBytes}
+use Rattle.rx_spec.proofs.Prelude.{beside, half_search, whole_walk, Answer, back_from, match_at, with_end, with_start}
+use Rattle.rx_spec.proofs.Prelude.{Anchored, HalfMatch, IsFit, MatchError, Query, is_anchored, is_done, half_unsplit}
+use Rattle.rx_spec.proofs.Prelude.{skips_splits, start_error, start_row, IsSound, Table}
 use Rattle.rx_spec.specs.declared.Direction.{Direction}
 use Rattle.memchr.specs.Find.{OccursAt}
 use Rattle.lemmas_walks.proofs.ReadUnits.{beside_is_byte}
@@ -68,7 +62,7 @@ module _ {t : Table} {mode : Anchored} {row : ℕ} (s : Started t mode row) (dir
   walked goes = unsplit ∙ begun is_start goes
 
   pub none_done : is_done q ≡ true → half_unsplit t direction q ≡ Ok None
-  none_done done = grind (arith, common_steps, unsplit)
+  none_done done = grind (arith, common_steps)
 
 -- the end of a match of the literal
 abbrev end_of : (pattern len at : ℕ) → HalfMatch
@@ -89,7 +83,7 @@ module _ {f r : Table} {literal : List ℕ} {pattern start before : ℕ} {at : �
   stands = record { sound = forward.started.sound; below = forward.below len (omega arith) }
 
   first_place : is_done q ≡ false → Place q q.start
-  first_place goes = grind (arith, common_steps, ltb-false)
+  first_place goes = grind (arith, common_steps)
 
   -- ---- forward
 
@@ -105,41 +99,28 @@ module _ {f r : Table} {literal : List ℕ} {pattern start before : ℕ} {at : �
           forward_walks goes
           ∙ nowhere forward.started.sound forward.is_literal forward.below bytes (first_place goes)
           (λ end high b.
-          let few = b.few in
-          none (end - len) (omega (arith, few)) (omega (arith, few, high)) (read_there high b))
+          none (end - len) (omega arith) (omega arith) (read_there high b))
 
   module _ {place : ℕ} (is : IsFirstPlace q.haystack literal q.start q.end (Some place)) where
     goes : is_done q ≡ false
-    goes =
-        let low = is.0.low in
-        let high = is.0.high in
-        let order : q.start ≤ q.end = omega (arith, low, high) in
-        by_done (is_done q) refl order
+    goes = grind (arith, common_steps)
       where
         by_done : (done : Bool) → is_done q ≡ done → q.start ≤ q.end → is_done q ≡ false
-        by_done true e order = absurd (let past = ltb-true q.end q.start e in omega (arith, past, order))
+        by_done true e order = absurd (let past = ltb-true q.end q.start e in omega arith)
         by_done false e order = e
 
     lies : Lies q literal place
-    lies =
-        let high = is.0.high in
-        record {
-          fits = fits.within;
-          low = is.0.low;
-          high = omega (arith, high);
-          bytes = bytes;
-          occurs = is.1;
-        }
+    lies = grind (arith, common_steps)
 
     all_but_last : Begun q.haystack literal q.start (q.start + (place - q.start) + len - 1) (len - 1)
     all_but_last =
         let low = is.0.low in
         let some = forward.is_literal.some in
         record {
-          few = omega (arith, low, some);
+          few = omega arith;
           reads = λ i h.
-              let here : q.start + (place - q.start) + len - 1 - (len - 1) + i ≡ place + i = omega (arith, low, some) in
-              ap (slice_index q.haystack) here ∙ is.1.reads i (omega (arith, h));
+              let here : q.start + (place - q.start) + len - 1 - (len - 1) + i ≡ place + i = omega arith in
+              ap (slice_index q.haystack) here ∙ is.1.reads i (omega arith);
         }
 
     not_before : (end : ℕ) → end < q.start + (place - q.start) + len → Begun q.haystack literal q.start end len → ⊥
@@ -147,8 +128,8 @@ module _ {f r : Table} {literal : List ℕ} {pattern start before : ℕ} {at : �
         let few = b.few in
         let low = is.0.low in
         let high = is.0.high in
-        is.0.before (end - len) (omega (arith, few)) (omega (arith, few, h, low))
-        (read_there (omega (arith, h, high, low)) b)
+        is.0.before (end - len) (omega arith) (omega arith)
+        (read_there (omega arith) b)
 
     leads_last : f.machine.next (at (len - 1)) (slice_index q.haystack (q.start + (place - q.start) + len - 1)) ≡ at len
     leads_last = by_longest
@@ -159,8 +140,8 @@ module _ {f r : Table} {literal : List ℕ} {pattern start before : ℕ} {at : �
         byte_is : slice_index q.haystack (q.start + (place - q.start) + len - 1) ≡ slice_index literal (len - 1)
         byte_is =
             let low = is.0.low in
-            let here : q.start + (place - q.start) + len - 1 ≡ place + (len - 1) = omega (arith, low, some) in
-            ap (slice_index q.haystack) here ∙ is.1.reads (len - 1) (omega (arith, some))
+            let here : q.start + (place - q.start) + len - 1 ≡ place + (len - 1) = omega arith in
+            ap (slice_index q.haystack) here ∙ is.1.reads (len - 1) (omega arith)
 
         last_below : slice_index literal (len - 1) < 256
         last_below =
@@ -168,31 +149,26 @@ module _ {f r : Table} {literal : List ℕ} {pattern start before : ℕ} {at : �
             let within = fits.within in
             subst (λ (b : ℕ). b < 256) byte_is
             (bytes (q.start + (place - q.start) + len - 1) 0
-            (let low = is.0.low in omega (arith, low, some, high, within)))
+            (let low = is.0.low in omega (arith, low)))
 
         whole : EndsWith literal (len - 1) (slice_index literal (len - 1)) len
-        whole = record {
-          few = omega (arith, some);
-          last = λ h. refl;
-          before = λ i h.
-              let here : len - 1 + 1 - len + i ≡ i = omega (arith, some) in ap (slice_index literal) here;
-        }
+        whole = grind (arith, common_steps)
 
         by_longest : f.machine.next (at (len - 1)) (slice_index q.haystack (q.start + (place - q.start) + len - 1))
             ≡ at len
         by_longest =
-            let l = forward.is_literal.leads (len - 1) (slice_index literal (len - 1)) (omega (arith, some))
+            let l = forward.is_literal.leads (len - 1) (slice_index literal (len - 1)) (omega arith)
             last_below in
             let most = l.is_longest.most len whole in
             let within = l.is_longest.within in
-            let all : l.len ≡ len = omega (arith, most, within) in
+            let all : l.len ≡ len = omega arith in
             ap (f.machine.next (at (len - 1))) byte_is ∙ l.there ∙ ap at all
 
     pub forward_found : half_unsplit f Direction.Forward q ≡ Ok (Some (end_of pattern len place))
     forward_found =
         forward_walks goes
         ∙ found forward.started.sound forward.is_literal forward.below bytes (first_place goes) (place - q.start)
-        (let low = is.0.low in let high = lies.high in omega (arith, low, high)) all_but_last not_before
+        (let low = is.0.low in let high = lies.high in omega arith) all_but_last not_before
         ∙ walk_on step
         (record { plain = forward.is_literal.plain len (omega arith); alive = tells_alive stands forward.tells })
         ∙ ap (walk_from f q (at len)) after_last
@@ -202,7 +178,7 @@ module _ {f r : Table} {literal : List ℕ} {pattern start before : ℕ} {at : �
         some = forward.is_literal.some
 
         after_last : q.start + (place - q.start) + len - 1 + 1 ≡ place + len
-        after_last = let low = is.0.low in omega (arith, low, some)
+        after_last = let low = is.0.low in omega arith
 
         step : Step f Direction.Forward q (at (len - 1)) (q.start + (place - q.start) + len - 1) (at len)
         step =
@@ -211,9 +187,9 @@ module _ {f r : Table} {literal : List ℕ} {pattern start before : ℕ} {at : �
             record {
               place = record {
                 fits = fits.within;
-                in_span = record { low = omega (arith, some); high = omega (arith, low, high, some) };
+                in_span = record { low = omega arith; high = omega arith };
               };
-              more = λ over. omega (arith, over, low, high, some);
+              more = λ over. omega (arith, over);
               turn = record { leads = sym leads_last; standing = stands };
             }
 
@@ -223,23 +199,13 @@ module _ {f r : Table} {literal : List ℕ} {pattern start before : ℕ} {at : �
     back = back_from q (place + len)
 
     lies_back : Lies back literal place
-    lies_back =
-        let high = lies.high in
-        let within = fits.within in
-        record {
-          fits = omega (arith, high, within);
-          low = is.0.low;
-          high = omega arith;
-          bytes = bytes;
-          occurs = is.1;
-        }
+    lies_back = grind (arith, common_steps)
 
     back_goes : is_done back ≡ false
     back_goes = by_done (is_done back) refl
       where
         by_done : (done : Bool) → is_done back ≡ done → is_done back ≡ false
-        by_done true e =
-            absurd (let past = ltb-true (place + len) q.start e in let low = is.0.low in omega (arith, past, low))
+        by_done true e = grind (arith, common_steps)
         by_done false e = e
 
     pub reverse_found : half_unsplit r Direction.Reverse back
@@ -282,7 +248,7 @@ searches_for {f} {r} {literal} {pattern} {start} {before} {at} free forward reve
         let low = is.0.low in
         let some = forward.is_literal.some in
         let here = eqb-true (place + length literal) q.start e in
-        omega (arith, low, some, here))
+        omega arith)
 
     begins_later : ((place + length literal == q.start) || is_anchored q.mode || f.is_always_start_anchored) ≡ false
     begins_later = rw (not_there, mode, free) refl

@@ -1,19 +1,13 @@
 -- Walks from the row of a literal: they tell nothing before the literal was read.
-use Rattle.std.proofs.lemmas.Grind.{common_steps}
-use Rattle.std.proofs.Common.{◌≡◌, ◌≢◌, ℕ, suc, zero, ◌+◌, ◌-◌, ◌<◌, ◌≤◌, Bool, Ok, None, List, [], ◌∷◌, length}
-use Rattle.std.proofs.Common.{slice_index, ap, refl, sym, ◌∙◌, subst, ⊎_elim, arith}
-use Rattle.std.proofs.lemmas.Bool.{cases_Bool, cases_lt}
-use Rattle.rx_spec.specs.Bytes.{AreBytes, eoi}
-use Rattle.rx_spec.specs.HalfSearches.{HalfAnswer, next_offset, walk}
-use Rattle.rx_spec.specs.Machines.{IsWord, Label}
-use Rattle.rx_spec.specs.Queries.{Query}
-use Rattle.rx_spec.specs.Tables.{IsSound, Table}
+use Rattle.rx_spec.proofs.Prelude.{common_steps, ◌≡◌, ◌≢◌, ℕ, suc, zero, ◌+◌, ◌-◌, ◌<◌, ◌≤◌, Bool, Ok, None, List, []}
+use Rattle.rx_spec.proofs.Prelude.{◌∷◌, length, slice_index, ap, refl, sym, ◌∙◌, subst, ⊎_elim, arith, cases_lt}
+use Rattle.rx_spec.proofs.Prelude.{AreBytes, eoi, HalfAnswer, next_offset, walk, IsWord, Label, Query, IsSound, Table}
 use Rattle.rx_spec.specs.declared.Direction.{Direction}
-use Rattle.lemmas_tables.proofs.Tables.{units_below}
+use Rattle.lemmas_walks.proofs.ReadUnits.{units_word}
 use Rattle.lemmas_walks.proofs.Walking.{walk-cons, walk-nil}
 use Rattle.lemmas_walks.proofs.Words.{IsWord-head}
 use Rattle.rx_search.specs.Walks.{last_offset, rest, unit_ahead, units_left}
-use Rattle.rx_search.proofs.Halves.{by_stop, walk_stops}
+use Rattle.rx_search.proofs.Halves.{walk_stops}
 use Rattle.rx_search.proofs.Standing.{Standing}
 use Rattle.rx_search.proofs.Walks.{IsQuiet, Place, Step, byte_there, step_quiet, units_left-last}
 use Rattle.rx_prefilter.specs.Literals.{IsLiteral}
@@ -31,13 +25,13 @@ pub walk_on : {t : Table} {direction : Direction} {q : Query} {row offset next :
     ≡ walk t.machine direction q.earliest next (next_offset direction offset) None
     (units_left direction q (next_offset direction offset))
 walk_on {t} {direction} {q} {row} {offset} {next} step quiet =
-    grind (arith, common_steps, walk_stops, by_stop, step_quiet)
+    grind (arith, common_steps, walk_stops, step_quiet)
 
 -- the last unit, if it leads to a row that tells nothing
 pub walk_ends : (t : Table) (row unit offset : ℕ) (earliest : Bool)
     → t.machine.label (t.machine.next row unit) ≡ Label.Plain
     → walk t.machine Direction.Forward earliest row offset None (unit ∷ []) ≡ Ok None
-walk_ends t row unit offset earliest plain = grind (arith, common_steps, walk-cons, walk-nil, cases_Bool)
+walk_ends t row unit offset earliest plain = grind (arith, common_steps, walk-cons, walk-nil)
 
 -- where a walk stands that hasn't read the literal yet
 pub record IsBefore (t : Table) (literal : List ℕ) (at : ℕ → ℕ) (q : Query) (from to : ℕ) : Type 0 where
@@ -56,24 +50,24 @@ module _ {t : Table} {literal : List ℕ} {at : ℕ → ℕ} (sound : IsSound t)
         → ((end : ℕ) → end ≤ to → Begun q.haystack literal from end (length literal) → ⊥)
         → IsBefore t literal at q from to
     before zero to e high none =
-        let here : from ≡ to = omega (arith, e) in
+        let here : from ≡ to = omega arith in
         subst (IsBefore t literal at q from) here
         (record { k = 0; most = none_begun q.haystack literal from is.some; walked = refl })
     before (suc d) to e high none =
         let last = to - 1 in
-        let there : last + 1 ≡ to = omega (arith, e) in
-        let b = before d last (omega (arith, e)) (omega (arith, e, high)) (λ end h. none end (omega (arith, e, h))) in
+        let there : last + 1 ≡ to = omega arith in
+        let b = before d last (omega arith) (omega arith) (λ end h. none end (omega arith)) in
         subst (IsBefore t literal at q from) there
-        (step last b (omega (arith, e, high)) (omega (arith, e)) (none (last + 1) (omega (arith, e))))
+        (step last b (omega arith) (omega arith) (none (last + 1) (omega arith)))
       where
         step : (o : ℕ) → IsBefore t literal at q from o → o < q.end → from ≤ o
             → (Begun q.haystack literal from (o + 1) (length literal) → ⊥) → IsBefore t literal at q from (o + 1)
         step o b more low none =
-            let more_left : o ≢ last_offset Direction.Forward q = λ over. omega (arith, over, more) in
+            let more_left : o ≢ last_offset Direction.Forward q = λ over. omega arith in
             let first = p.in_span.low in
             let place : Place q o = record {
               fits = p.fits;
-              in_span = record { low = omega (arith, first, low); high = omega (arith, more) };
+              in_span = record { low = omega arith; high = omega arith };
             } in
             let byte = slice_index q.haystack o in
             let l = is.leads b.k byte b.most.fewer (byte_there Direction.Forward place bytes more_left) in
@@ -82,7 +76,7 @@ module _ {t : Table} {literal : List ℕ} {at : ℕ → ℕ} (sound : IsSound t)
             ⊎_elim (λ (low : l.len < length literal). low)
             (λ (high : length literal ≤ l.len).
             let within = l.is_longest.within in
-            let all : l.len ≡ length literal = omega (arith, high, within) in
+            let all : l.len ≡ length literal = omega arith in
             absurd (none (subst (Begun q.haystack literal from (o + 1)) all on)))
             (cases_lt l.len (length literal)) in
             let row = stands l.len l.is_longest.within in
@@ -104,11 +98,11 @@ module _ {t : Table} {literal : List ℕ} {at : ℕ → ℕ} (sound : IsSound t)
     found place high begun none =
         let some = is.some in
         let to = from + place + length literal - 1 in
-        let b = before (place + length literal - 1) to (omega (arith, some)) (omega (arith, high, some))
-        (λ end h. none end (omega (arith, h, some))) in
+        let b = before (place + length literal - 1) to (omega arith) (omega arith)
+        (λ end h. none end (omega arith)) in
         let fewer = b.most.fewer in
-        let most = b.most.most (length literal - 1) (omega (arith, some)) begun in
-        let all : b.k ≡ length literal - 1 = omega (arith, fewer, most, some) in
+        let most = b.most.most (length literal - 1) (omega arith) begun in
+        let all : b.k ≡ length literal - 1 = omega arith in
         b.walked ∙ ap (λ (k : ℕ). walk_from t q (at k) to) all
 
     -- if it ends nowhere in the span
@@ -117,10 +111,10 @@ module _ {t : Table} {literal : List ℕ} {at : ℕ → ℕ} (sound : IsSound t)
     nowhere none =
         let low = p.in_span.low in
         let high = p.in_span.high in
-        let b = before (q.end - from) q.end (omega (arith, high)) (omega arith) none in
+        let b = before (q.end - from) q.end (omega arith) (omega arith) none in
         let unit = unit_ahead Direction.Forward q.haystack q.end in
         let last = units_left-last Direction.Forward q (omega (arith, low, high)) p.fits in
-        let word = subst IsWord last (units_below Direction.Forward (rest Direction.Forward q q.end) bytes) in
+        let word = subst IsWord last (units_word Direction.Forward (rest Direction.Forward q q.end) bytes) in
         b.walked
         ∙ ap (walk t.machine Direction.Forward q.earliest (at b.k) q.end None) last
         ∙ walk_ends t (at b.k) unit q.end q.earliest (silent b.k b.most.fewer unit (IsWord-head unit [] word))
@@ -132,6 +126,6 @@ module _ {t : Table} {literal : List ℕ} {at : ℕ → ℕ} (sound : IsSound t)
             (λ (low : unit < 256).
             let l = is.leads k unit h low in ap t.machine.label l.there ∙ is.plain l.len l.is_longest.within)
             (λ (high : 256 ≤ unit).
-            let over : unit ≡ eoi = omega (arith, high, below) in
+            let over : unit ≡ eoi = omega arith in
             ap (λ (u : ℕ). t.machine.label (t.machine.next (at k) u)) over ∙ is.silent k h)
             (cases_lt unit 256)

@@ -1,8 +1,7 @@
 -- Where a literal occurs in a piece of a haystack, and where it was read in the haystack.
-use Rattle.std.proofs.lemmas.Grind.{common_steps}
-use Rattle.std.proofs.Common.{◌≡◌, ℕ, ◌+◌, ◌-◌, ◌<◌, ◌≤◌, List, None, Some, length, take, drop, slice_index, ap, sym}
-use Rattle.std.proofs.Common.{◌∙◌, length-drop, length-take-le, arith}
-use Rattle.std.proofs.lemmas.List.{get_or-drop, get_or-take}
+use Rattle.rx_spec.proofs.Prelude.{common_steps, ◌≡◌, ℕ, ◌+◌, ◌-◌, ◌<◌, ◌≤◌, List, None, Some, length, take, drop}
+use Rattle.rx_spec.proofs.Prelude.{slice_index, ap, sym, ◌∙◌, length-drop, length-take-le, arith, get_or-drop}
+use Rattle.rx_spec.proofs.Prelude.{get_or-take}
 use Rattle.memchr.specs.Find.{FindsNeedle, OccursAt}
 use Rattle.rx_prefilter.proofs.Begun.{Begun}
 
@@ -11,7 +10,7 @@ module _ (hay literal : List ℕ) {from end : ℕ} (order : from ≤ end) (fits 
   piece = take (end - from) (drop from hay)
 
   pub piece_len : length piece ≡ end - from
-  piece_len = length-take-le (end - from) (drop from hay) (rw (length-drop from hay) (omega (arith, fits, order)))
+  piece_len = length-take-le (end - from) (drop from hay) (rw (length-drop from hay) (omega arith))
 
   pub piece_at : (k : ℕ) → k < end - from → slice_index piece k ≡ slice_index hay (from + k)
   piece_at k h = get_or-take (end - from) (drop from hay) k 0 h ∙ get_or-drop from hay k 0
@@ -19,7 +18,7 @@ module _ (hay literal : List ℕ) {from end : ℕ} (order : from ≤ end) (fits 
   -- where all of it was read last, it occurs
   occurs : (to : ℕ) → to ≤ end → Begun hay literal from to (length literal)
       → OccursAt piece literal (to - length literal - from)
-  occurs to high b = grind (arith, common_steps, piece_len, piece_at)
+  occurs to high b = grind (arith, common_steps)
 
   -- it ends nowhere where it doesn't occur
   pub ends_nowhere : FindsNeedle piece literal 0 None → (to : ℕ) → to ≤ end
@@ -27,7 +26,7 @@ module _ (hay literal : List ℕ) {from end : ℕ} (order : from ≤ end) (fits 
   ends_nowhere none to high b =
       let few = b.few in
       let n = piece_len in
-      none (to - length literal - from) (omega arith) (omega (arith, few, n, high, order)) (occurs to high b)
+      none (to - length literal - from) (omega arith) (omega (arith, few)) (occurs to high b)
 
   module _ {place : ℕ} (found : FindsNeedle piece literal 0 (Some place)) where
     -- nor before the end of the first place
@@ -36,21 +35,21 @@ module _ (hay literal : List ℕ) {from end : ℕ} (order : from ≤ end) (fits 
         let few = b.few in
         let room = found.1.fits in
         let n = piece_len in
-        found.0.before (to - length literal - from) (omega arith) (omega (arith, low, few))
-        (occurs to (omega (arith, low, room, n, order)) b)
+        found.0.before (to - length literal - from) (omega arith) (omega arith)
+        (occurs to (omega (arith, low)) b)
 
     pub in_span : from + place + length literal ≤ end
-    in_span = let room = found.1.fits in let n = piece_len in omega (arith, room, n, order)
+    in_span = let room = found.1.fits in let n = piece_len in omega arith
 
     -- all but its last byte were read before that end
     pub all_but_one : 0 < length literal
         → Begun hay literal from (from + place + length literal - 1) (length literal - 1)
     all_but_one some = record {
-      few = omega (arith, some);
+      few = omega arith;
       reads = λ i h.
           let there : from + place + length literal - 1 - (length literal - 1) + i ≡ from + (place + i) =
-          omega (arith, some) in
+          omega arith in
           let room = in_span in
-          ap (slice_index hay) there ∙ sym (piece_at (place + i) (omega (arith, h, room)))
-          ∙ found.1.reads i (omega (arith, h));
+          ap (slice_index hay) there ∙ sym (piece_at (place + i) (omega arith))
+          ∙ found.1.reads i (omega arith);
     }

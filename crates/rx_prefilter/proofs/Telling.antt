@@ -1,22 +1,18 @@
 -- Walks that tell one match at a row.
-use Rattle.std.proofs.lemmas.Grind.{common_steps}
-use Rattle.std.proofs.Common.{◌≡◌, ℕ, ◌<◌, Bool, true, false, Ok, None, Some, List, [], ◌∷◌, length, if◌then◌else◌, ap}
-use Rattle.std.proofs.Common.{ap₂, refl, sym, ◌∙◌, ◌==◌, arith, length-append, slice_index}
-use Rattle.std.proofs.lemmas.Bool.{false_from_ne_true, eqb-true}
-use Rattle.rx_spec.specs.Bytes.{AreBytes, unit_of}
-use Rattle.rx_spec.specs.HalfSearches.{HalfAnswer, at_label, last_match, next_offset, span_bytes, units_of, walk}
-use Rattle.rx_spec.specs.Looks.{after}
-use Rattle.rx_spec.specs.Machines.{IsWord, Label}
-use Rattle.rx_spec.specs.Queries.{HalfMatch, Query}
-use Rattle.rx_spec.specs.Tables.{Table, is_match}
+use Rattle.rx_spec.proofs.Prelude.{common_steps, ◌≡◌, ℕ, ◌<◌, Bool, true, false, Ok, None, Some, List, [], ◌∷◌, length}
+use Rattle.rx_spec.proofs.Prelude.{if◌then◌else◌, ap, ap₂, refl, sym, ◌∙◌, ◌==◌, arith, length-append, slice_index}
+use Rattle.rx_spec.proofs.Prelude.{false_from_ne_true, eqb-true, AreBytes, unit_of, HalfAnswer, at_label, last_match}
+use Rattle.rx_spec.proofs.Prelude.{next_offset, span_bytes, units_of, walk, after, IsWord, Label, HalfMatch, Query}
+use Rattle.rx_spec.proofs.Prelude.{Table, is_match}
 use Rattle.rx_spec.specs.declared.Direction.{Direction}
-use Rattle.lemmas_tables.proofs.Tables.{units_below}
+use Rattle.lemmas_walks.proofs.ReadUnits.{units_word}
 use Rattle.lemmas_walks.proofs.Walking.{walk-cons, walk-nil}
 use Rattle.lemmas_walks.proofs.Words.{IsWord-head, IsWord-tail}
 use Rattle.rx_search.specs.Labels.{patterns_of}
 use Rattle.rx_search.specs.Walks.{rest, units_left}
 use Rattle.rx_search.proofs.Standing.{Standing, match_label}
 use Rattle.rx_prefilter.specs.OnlyLiterals.{Tells}
+use Rattle.rx_search.proofs.Walks.{bytes_on}
 
 -- the first pattern of a match row, and the others
 pub record FirstTold (t : Table) (row : ℕ) : Type 0 where
@@ -28,14 +24,13 @@ pub first_told : {t : Table} {row : ℕ} → Standing t row → is_match t row �
 first_told {t} {row} s is = by_patterns (patterns_of t row) refl
   where
     by_patterns : (patterns : List ℕ) → patterns_of t row ≡ patterns → FirstTold t row
-    by_patterns [] e =
-        absurd (s.sound.is_table.lists row s.below (match_label (t.machine.label row) is ∙ ap Label.Matches e))
+    by_patterns [] e = grind (arith, common_steps, match_label)
     by_patterns (k ∷ ks) e = record {
       others = ks;
       label =
           match_label (t.machine.label row) is
           ∙ ap Label.Matches (e ∙ ap (λ (l : List ℕ). slice_index l 0 ∷ ks) (sym e));
-      some = let n = ap length e in omega (arith, n);
+      some = let n = ap length e in omega arith;
     }
 
 -- an answer that stays the same
@@ -59,19 +54,18 @@ module _ {t : Table} {row pattern : ℕ} (s : Standing t row) (tells : Tells t r
       → walk t.machine direction earliest tells.told offset (Some last) units ≡ Ok (Some last)
   behind offset last [] word = walk-nil t.machine direction earliest tells.told offset (Some last)
   behind offset last (unit ∷ units) word =
-      let two = s.sound.is_table.two in
       walk-cons t.machine direction earliest tells.told unit offset (Some last) units
       ∙ ap (λ (r : ℕ). turn unit offset last units r (t.machine.label r) (t.machine.is_dead r))
       (tells.is_final.to_dead unit (IsWord-head unit units word))
       ∙ ap₂ (turn unit offset last units 0) s.sound.is_table.dead_label
-      (s.sound.is_table.dead_only 0 (omega (arith, two)))
+      (s.sound.is_table.dead_only 0 (omega arith))
 
   abbrev met : ℕ → HalfMatch
   met offset = record { pattern = pattern; offset = offset }
 
   told : (offset : ℕ) (units : List ℕ) → IsWord units → 0 < length units
       → walk t.machine direction earliest row offset None units ≡ Ok (Some (met offset))
-  told offset [] word some = absurd (omega (arith, some))
+  told offset [] word some = absurd (omega arith)
   told offset (unit ∷ units) word some =
       let first = λ (r : ℕ) (label : Label).
       let met = last_match label offset None in
@@ -89,7 +83,7 @@ module _ {t : Table} {row pattern : ℕ} (s : Standing t row) (tells : Tells t r
 pub tells_alive : {t : Table} {row pattern : ℕ} → Standing t row → Tells t row pattern → t.machine.is_dead row ≡ false
 tells_alive {t} {row} {pattern} s tells =
     s.sound.is_table.dead_only row s.below
-    ∙ false_from_ne_true (row == 0) (λ dead. by_label (plain (eqb-true row 0 dead)))
+    ∙ false_from_ne_true (row == 0) (λ dead. cc (plain (eqb-true row 0 dead)))
   where
     plain : row ≡ 0 → Label.Matches (pattern ∷ tells.others) ≡ Label.Plain
     plain none =
@@ -99,18 +93,10 @@ tells_alive {t} {row} {pattern} s tells =
         (sym (tells.leads 0 (omega arith)) ∙ ap (λ (r : ℕ). t.machine.next r 0) none ∙ stays)
         ∙ s.sound.is_table.dead_label
 
-    by_label : Label.Matches (pattern ∷ tells.others) ≡ Label.Plain → ⊥
-    by_label e = cc
-
 -- a unit is always left to be read
 some_left : (direction : Direction) (q : Query) → 0 < length (units_of direction q)
 some_left Direction.Forward q = omega (arith, length-append (span_bytes q) (unit_of (after q.haystack q.end) ∷ []))
-some_left Direction.Reverse q = grind (arith, common_steps, length-append)
-
-bytes_left : (direction : Direction) (q : Query) (offset : ℕ) → AreBytes q.haystack
-    → AreBytes (rest direction q offset).haystack
-bytes_left Direction.Forward q offset bytes = bytes
-bytes_left Direction.Reverse q offset bytes = bytes
+some_left Direction.Reverse q = grind (arith, common_steps)
 
 -- over what is left of a span
 pub tells_there : {t : Table} {row pattern : ℕ} → Standing t row → Tells t row pattern → (direction : Direction)
@@ -119,5 +105,5 @@ pub tells_there : {t : Table} {row pattern : ℕ} → Standing t row → Tells t
     ≡ Ok (Some (record { pattern = pattern; offset = offset }))
 tells_there s tells direction q offset bytes =
     told s tells direction q.earliest offset (units_left direction q offset)
-    (units_below direction (rest direction q offset) (bytes_left direction q offset bytes))
+    (units_word direction (rest direction q offset) (bytes_on direction q offset bytes))
     (some_left direction (rest direction q offset))

@@ -1,8 +1,7 @@
 -- The blocks of a partition: where they begin, which rows they have, and that they are at most as many as the rows.
 use Rattle.std.proofs.lemmas.Grind.{common_steps}
 use Rattle.std.proofs.Common.{◌≡◌, ℕ, zero, suc, ◌+◌, ◌-◌, ◌<◌, ◌≤◌, true, false, List, ◌∷◌, length, get_or, eqb, sym}
-use Rattle.std.proofs.Common.{ap, ◌∙◌, arith, eqb-true, eq-eqb, ne_eqb, length-take, length-drop, get_or-take}
-use Rattle.std.proofs.Common.{get_or-drop, inl, inr}
+use Rattle.std.proofs.Common.{ap, ◌∙◌, arith, eqb-true, eq-eqb, ne_eqb, length-take, length-drop, inl, inr}
 use Rattle.std.specs.List.{list_any, Contains, All, slice_range}
 use Rattle.std.proofs.lemmas.Bool.{cases_Bool, cases_lt, cases_eq}
 use Rattle.std.proofs.lemmas.List.{get_or_default}
@@ -28,11 +27,8 @@ row_at p place = get_or p.rows place 0
 
 -- ---- there are at most as many blocks as rows
 module _ {p : Parts} (w : IsPartition p) where
-  start_below : (block : ℕ) → block < length p.sizes → start_of p block < length p.rows
-  start_below block h = omega (arith, w.within block h, w.some block h)
-
   block_of_start : (block : ℕ) → block < length p.sizes → block_of p (row_at p (start_of p block)) ≡ block
-  block_of_start block h = w.in_block block (start_of p block) h (omega arith) (omega (arith, w.some block h))
+  block_of_start block h = w.in_block block (start_of p block) h (omega arith) (omega arith)
 
   starts_apart : (i j d : ℕ) → i < j → j < length p.starts → eqb (get_or p.starts i d) (get_or p.starts j d) ≡ false
   starts_apart i j d l h =
@@ -50,7 +46,7 @@ module _ {p : Parts} (w : IsPartition p) where
   start_in q (k, l, e) =
       let s = w.starts_len in
       let e2 : start_of p k ≡ q = get_or_default p.starts k 0 q l ∙ e in
-      omega (arith, start_below k (omega arith))
+      omega arith
 
   starts_small : (q : ℕ) → list_any (eqb q) p.starts ≡ true → q < length p.rows
   starts_small q t = start_in q (Contains-from_any (λ x y. eqb-true x y) q p.starts t)
@@ -84,14 +80,14 @@ module _ {p : Parts} (w : IsPartition p) where
 
   with_small : (place : ℕ) → place < length p.rows → (q : ℕ) → list_any (eqb q) (place ∷ p.starts) ≡ true
       → q < length p.rows
-  with_small place l q t = grind (arith, common_steps, eqb-true, starts_small)
+  with_small place l q t = grind (arith, common_steps, starts_small)
 
   -- where a block has a place past its start, there are fewer blocks than rows
   pub blocks_fewer : (place : ℕ) {b : ℕ} → b < length p.sizes → start_of p b < place
       → place < start_of p b + size_of p b → length p.sizes < length p.rows
   blocks_fewer place {b} hb lo hi =
       let s = w.starts_len in
-      let l : place < length p.rows = omega (arith, w.within b hb) in
+      let l : place < length p.rows = omega arith in
       let c : length (place ∷ p.starts) ≤ length p.rows =
       length-le_from_distinct_below (place ∷ p.starts) (length p.rows)
       (IsDistinct-from_apart eqb (place ∷ p.starts) (with_apart place (λ k lk e. no_start place k hb lo hi lk e)))
@@ -119,15 +115,15 @@ members p b = slice_range p.rows (start_of p b) (start_of p b + size_of p b)
 
 module _ {p : Parts} (w : IsPartition p) {b : ℕ} (hb : b < length p.sizes) where
   pub members_len : length (members p b) ≡ size_of p b
-  members_len = simp (length-take, length-drop) (omega (arith, w.within b hb))
+  members_len = simp (length-take, length-drop) (omega arith)
 
   members_at : (i d : ℕ) → i < size_of p b → get_or (members p b) i d ≡ row_at p (start_of p b + i)
-  members_at i d h = grind (arith, common_steps, get_or-take, get_or-drop, get_or_default)
+  members_at i d h = grind (arith, common_steps)
 
   member_block : (row : ℕ) → Contains (members p b) row → (row < length p.rows) × (block_of p row ≡ b)
-  member_block row (i, l, e) = grind (arith, common_steps, members_len, members_at)
+  member_block row (i, l, e) = grind (arith, common_steps, members_at)
 
-  member_at : (row : ℕ) → row < length p.rows → block_of p row ≡ b → is_in (members p b) row ≡ true
+  pub member_at : (row : ℕ) → row < length p.rows → block_of p row ≡ b → is_in (members p b) row ≡ true
   member_at row l e =
       let lo : start_of p b ≤ place_of p row = rw e at (w.from_start row l) in
       let hi : place_of p row < start_of p b + size_of p b = rw e at (w.to_end row l) in
@@ -150,8 +146,8 @@ module _ {p : Parts} (w : IsPartition p) {b : ℕ} (hb : b < length p.sizes) whe
       ]
 
   pub members_small : All (λ row. row < length p.rows) (members p b)
-  members_small k d l = grind (arith, common_steps, members_len, members_at)
+  members_small k d l = grind (arith, common_steps, members_at)
 
   pub members_apart : (i j : ℕ) → i < j → j < length (members p b) → get_or (members p b) i 0 ≡ get_or (members p b) j 0
       → ⊥
-  members_apart i j l h e = grind (arith, common_steps, members_len, members_at)
+  members_apart i j l h e = grind (arith, common_steps)

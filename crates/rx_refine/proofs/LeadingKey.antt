@@ -1,32 +1,25 @@
 -- Rows vote for their keys: of two rows with different keys neither is counted, so a key that more than
 -- half of the rows have is left over.
-use Rattle.std.proofs.Common.{rules, ◌≡◌, ℕ, ◌+◌, ◌-◌, ◌*◌, ◌<◌, ◌≤◌, true, cond, List, length, get_or, take, take_all}
-use Rattle.std.proofs.Common.{eqb, refl, sym, arith, eq-eqb, ne_eqb, inl, inr}
+use Rattle.std.proofs.Common.{rules, ◌≡◌, ℕ, ◌+◌, ◌-◌, ◌*◌, ◌<◌, ◌≤◌, true, List, length, get_or, take, take_all, eqb}
+use Rattle.std.proofs.Common.{refl, sym, arith, inl, inr}
 use Rattle.std.proofs.lemmas.Grind.{common_steps}
-use Rattle.std.proofs.Math.Bool.{or-true}
 use Rattle.std.proofs.lemmas.Bool.{cases_eq}
-use Rattle.std.proofs.lemmas.List.Sums.{sum_by_more}
-use Rattle.std.proofs.lemmas.List.Folds.{list_any_more, list_any_kept}
+use Rattle.std.proofs.lemmas.List.Folds.{list_any_kept}
 use Rattle.rx_refine.specs.Parts.{is_in}
 use Rattle.rx_refine.specs.Numbers.{how_many_have}
 
-how_many_have_more : (members keys : List ℕ) (key i : ℕ) → i < length members
-    → how_many_have keys key (take (i + 1) members)
-    ≡ how_many_have keys key (take i members) + cond (eqb (get_or keys (get_or members i 0) 0) key) 1 0
-how_many_have_more members keys key i l = sum_by_more (λ row. cond (eqb (get_or keys row 0) key) 1 0) members i 0 l
-
 have_same : (members keys : List ℕ) (key i : ℕ) → i < length members → get_or keys (get_or members i 0) 0 ≡ key
     → how_many_have keys key (take (i + 1) members) ≡ how_many_have keys key (take i members) + 1
-have_same members keys key i l e = grind (arith, common_steps, how_many_have_more, eq-eqb)
+have_same members keys key i l e = grind (arith, common_steps)
 
 have_other : (members keys : List ℕ) (key i : ℕ) → i < length members → (get_or keys (get_or members i 0) 0 ≡ key → ⊥)
     → how_many_have keys key (take (i + 1) members) ≡ how_many_have keys key (take i members)
-have_other members keys key i l ne = grind (arith, common_steps, how_many_have_more, ne_eqb)
+have_other members keys key i l ne = grind (arith, common_steps)
 
 -- the next row is among the rows that were taken
 pub is_in_next : (members : List ℕ) (i : ℕ) → i < length members
     → is_in (take (i + 1) members) (get_or members i 0) ≡ true
-is_in_next members i l = grind (arith, common_steps, list_any_more, eq-eqb, or-true)
+is_in_next members i l = grind (arith, common_steps)
 
 pub is_in_kept : (members : List ℕ) (i row : ℕ) → is_in (take i members) row ≡ true
     → is_in (take (i + 1) members) row ≡ true
@@ -50,7 +43,7 @@ module _ {members keys : List ℕ} {i leading votes : ℕ} (l : i < length membe
       let half : (key : ℕ) → 2 * how_many_have keys key (take i members) ≤ i =
       λ (key : ℕ). elim (cases_eq key leading) [
         | inl e ↦ let f = v.own in rw e (omega arith)
-        | inr ne ↦ omega (arith, v.others key ne)
+        | inr ne ↦ omega arith
       ] in
       record {
         few = omega arith;
@@ -70,7 +63,7 @@ module _ {members keys : List ℕ} {i leading votes : ℕ} (l : i < length membe
     few = let f = v.few in omega arith;
     own = let f = v.own in omega (arith, have_other members keys leading i l ne);
     others = λ key n. elim (cases_eq (get_or keys (get_or members i 0) 0) key) [
-      | inl e ↦ omega (arith, v.others key n, have_same members keys key i l e)
+      | inl e ↦ omega (arith, have_same members keys key i l e)
       | inr d ↦ omega (arith, v.others key n, have_other members keys key i l d)
     ];
     some = λ _. (let f = v.few in let s = v.some (omega arith) in (s.0, is_in_kept members i s.0 s.1, s.2));

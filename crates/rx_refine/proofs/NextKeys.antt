@@ -1,9 +1,9 @@
 -- Keys that are given to the rows of a list, one after another, and to the sources of one row after another.
 use Rattle.std.proofs.Common.{rules, ◌≡◌, ℕ, zero, suc, ◌+◌, ◌<◌, ◌≤◌, cond, List, length, get_or, take, take_all, ltb}
-use Rattle.std.proofs.Common.{refl, sym, ap, ◌∙◌, arith, eq-eqb, ne_eqb, lt-ltb, le-ltb, le-leb, inl, inr}
+use Rattle.std.proofs.Common.{refl, sym, ap, arith, le-leb, inl, inr}
 use Rattle.std.proofs.lemmas.Grind.{common_steps}
 use Rattle.std.specs.List.{All}
-use Rattle.std.proofs.lemmas.Bool.{cases_eq, cases_lt, lt-leb}
+use Rattle.std.proofs.lemmas.Bool.{cases_eq}
 use Rattle.std.proofs.lemmas.List.{get_or_default}
 use Rattle.std.proofs.Math.Numerals.{suc-eq-add-one}
 use Rattle.rx_refine.specs.Moves.{Moves, AreMoves, column, sources, next_row}
@@ -43,30 +43,10 @@ cost_of w row = waiting_cost w.moves w.unit w.blocks w.taken row
 abbrev key_so_far : Waiting → ℕ → ℕ → ℕ
 key_so_far w n x = cond (ltb (next_of w x) n) (key_of w x) 0
 
-key_none : (w : Waiting) (x : ℕ) → key_so_far w 0 x ≡ 0
-key_none w x = rw (le-ltb (next_of w x) 0 (omega arith)) refl
-
-key_all : (w : Waiting) (n x : ℕ) → next_of w x < n → key_so_far w n x ≡ key_of w x
-key_all w n x l = rw (lt-ltb (next_of w x) n l) refl
-
--- a row that isn't led to the n-th one
-key_other : (w : Waiting) (n x : ℕ) → (next_of w x ≡ n → ⊥) → key_so_far w (n + 1) x ≡ key_so_far w n x
-key_other w n x ne = grind (arith, common_steps, key_all, le-ltb)
-
-key_waits : (w : Waiting) (n x : ℕ) → next_of w x ≡ n → w.taken ≤ get_or w.blocks n 0 → key_of w x ≡ get_or w.blocks n 0
-key_waits w n x e le = rw (e, le-leb w.taken (get_or w.blocks n 0) le) refl
-
-key_was_taken : (w : Waiting) (n x : ℕ) → next_of w x ≡ n → get_or w.blocks n 0 < w.taken → key_of w x ≡ 0
-key_was_taken w n x e lt = rw (e, lt-leb w.taken (get_or w.blocks n 0) lt) refl
-
 -- the n-th row is read: its block waits
 key_read : (w : Waiting) (n x old : ℕ) → x < length (column w.moves w.unit) → w.taken ≤ get_or w.blocks n 0
     → old ≡ key_so_far w n x → cond (is_in (sources_of w n) x) (get_or w.blocks n 0) old ≡ key_so_far w (n + 1) x
-key_read w n x old lx le h = grind (arith, common_steps, is_in-places_of, eq-eqb, key_all, key_waits, ne_eqb, key_other)
-
--- or it was taken
-key_passed : (w : Waiting) (n x : ℕ) → get_or w.blocks n 0 < w.taken → key_so_far w n x ≡ key_so_far w (n + 1) x
-key_passed w n x lt = grind (arith, common_steps, le-ltb, key_all, key_was_taken, key_other)
+key_read w n x old lx le h = grind (arith, common_steps, is_in-places_of)
 
 -- ---- the lists of the rows below a bound are read
 pub record IsReading (w : Waiting) (start n : ℕ) (keys : List ℕ) (steps : ℕ) : Type 0 where
@@ -91,7 +71,7 @@ cost_waits w row le = rw (le-leb w.taken (get_or w.blocks row 0) le) refl
 
 pub reading_none : {w : Waiting} {steps : ℕ} {keys : List ℕ} → length keys ≡ w.moves.rows
     → ((x : ℕ) → x < length keys → get_or keys x 0 ≡ 0) → IsReading w steps 0 keys steps
-reading_none {w} len zeros = grind (arith, common_steps, key_none)
+reading_none {w} len zeros = grind (arith, common_steps)
 
 module _ {w : Waiting} {start n : ℕ} {keys : List ℕ} {steps : ℕ} (r : IsReading w start n keys steps) where
   pub reading_room : n < w.moves.rows → w.taken ≤ get_or w.blocks n 0
@@ -107,18 +87,14 @@ module _ {w : Waiting} {start n : ℕ} {keys : List ℕ} {steps : ℕ} (r : IsRe
       → ((x : ℕ) → x < length keys
       → get_or new x 0 ≡ cond (is_in (sources_of w n) x) (get_or w.blocks n 0) (get_or keys x 0))
       → now ≡ steps + (1 + length (sources_of w n)) → IsReading w start (n + 1) new now
-  reading_read a hu l le len at e = grind (arith, common_steps, key_read, cost_waits, total_more)
+  reading_read a hu l le len at e = grind (arith, common_steps, key_read)
 
   pub reading_passed : get_or w.blocks n 0 < w.taken → IsReading w start (n + 1) keys steps
-  reading_passed lt = grind (arith, common_steps, key_passed, total_more)
-
-  pub reading_all : AreMoves w.moves → w.unit < w.moves.units → n ≡ w.moves.rows
-      → AreNextKeys w.moves w.unit w.blocks w.taken keys
-  reading_all a hu e x l = r.keys_at x l ∙ key_all w n x (let s = a.nexts x w.unit l hu in omega arith)
+  reading_passed lt = grind (arith, common_steps)
 
 -- such keys are numbers of blocks, and so below the number of rows
 pub next_keys_small : {m : Moves} {unit : ℕ} {p : Parts} (taken : ℕ) (keys : List ℕ) → AreMoves m → unit < m.units
     → IsPartition p → length p.rows ≡ m.rows → length keys ≡ m.rows → AreNextKeys m unit p.blocks taken keys
     → All (λ key. key < length keys) keys
 next_keys_small {m} {unit} {p} taken keys a hu w rows len at k d l =
-    search (rules, get_or_default, cases_lt, lt-leb, le-leb, blocks_few)
+    search (rules, get_or_default, blocks_few)

@@ -1,12 +1,11 @@
 -- The rows of a block get numbers by their keys.
 use Rattle.std.proofs.lemmas.Grind.{common_steps}
 use Rattle.std.proofs.Common.{◌≡◌, ℕ, ◌+◌, ◌*◌, ◌<◌, ◌≤◌, true, false, List, length, get_or, set, take, take_all, refl}
-use Rattle.std.proofs.Common.{sym, subst, ap, ◌∙◌, arith, eqb-true, true≢false, length-set, get_or-set_same}
-use Rattle.std.proofs.Common.{get_or-set_other, inl, inr}
+use Rattle.std.proofs.Common.{sym, subst, ap, ◌∙◌, arith, eqb-true, length-set, get_or-set_same, get_or-set_other, inl}
+use Rattle.std.proofs.Common.{inr}
 use Rattle.std.specs.List.{All}
 use Rattle.std.proofs.lemmas.Bool.{cases_eq}
 use Rattle.std.proofs.lemmas.List.{get_or_default}
-use Rattle.std.proofs.lemmas.List.Folds.{list_any_more}
 use Rattle.std.proofs.lemmas.List.Elements.{All-contains}
 use Rattle.std.proofs.lemmas.Map.Views.{Contains-from_any}
 use Rattle.rx_refine.specs.Parts.{is_in}
@@ -16,14 +15,14 @@ use Rattle.rx_refine.proofs.LeadingKey.{is_in_next, is_in_kept}
 -- a row is taken in this turn or was taken before
 taken_before : (members : List ℕ) (i x : ℕ) → i < length members → is_in (take (i + 1) members) x ≡ true
     → (x ≡ get_or members i 0 → ⊥) → is_in (take i members) x ≡ true
-taken_before members i x l t ne = grind (arith, common_steps, list_any_more, eqb-true)
+taken_before members i x l t ne = grind (arith, common_steps)
 
 not_before : (members : List ℕ) (i x : ℕ) → is_in (take (i + 1) members) x ≡ false → is_in (take i members) x ≡ false
-not_before members i x f = grind (arith, common_steps, true≢false, is_in_kept)
+not_before members i x f = grind (arith, common_steps)
 
 not_next : (members : List ℕ) (i x : ℕ) → i < length members → is_in (take (i + 1) members) x ≡ false
     → x ≡ get_or members i 0 → ⊥
-not_next members i x l f e = grind (arith, common_steps, true≢false, is_in_next)
+not_next members i x l f e = grind (arith, common_steps)
 
 -- what is to be numbered: rows, a key for each row, the key whose rows keep their numbers, the first new number,
 -- and the numbers that there were
@@ -252,8 +251,8 @@ module _ {job : Job} {i : ℕ} {names blocks : List ℕ} {count : ℕ} (end : i 
     same = a.same;
     from_first = λ x t ne. rw (a.numbered x (taken x t) ne) (a.has_name x (taken x t) ne);
     below = λ x t ne. rw (a.numbered x (taken x t) ne) (a.names_below (get_or job.keys x 0) 0 (key_small x t));
-    joined = grind (arith, common_steps, taken);
-    apart = grind (arith, common_steps, key_small, taken);
+    joined = grind (arith, common_steps);
+    apart = grind (arith, common_steps);
     used = λ number f h. (
         let u = a.used number f h in
         let r : u.0 < length blocks = let s = row_small u.0 (rw all at u.1) in omega arith in

@@ -2,13 +2,12 @@
 -- for the unit, and half of it where it doesn't. Where the unit takes a block, the allowance of each of
 -- its rows has one binary digit less; a split raises none.
 use Rattle.std.proofs.Common.{rules, ◌≡◌, ℕ, zero, suc, ◌+◌, ◌*◌, ◌/◌, ◌^◌, ◌<◌, ◌≤◌, cond, List, length, get_or, set}
-use Rattle.std.proofs.Common.{eqb, leb, refl, sym, ap, ◌∙◌, arith, eq-eqb, ne_eqb, le-leb, leb-false, leb-true}
-use Rattle.std.proofs.Common.{mul-le-mul_right, pow_pos, pow-suc, get_or-set_same, get_or-set_other, inl, inr}
+use Rattle.std.proofs.Common.{eqb, leb, refl, sym, ap, ◌∙◌, arith, eq-eqb, ne_eqb, mul-le-mul_right, pow_pos}
+use Rattle.std.proofs.Common.{get_or-set_same, get_or-set_other, inl, inr}
 use Rattle.std.proofs.lemmas.Grind.{common_steps}
 use Rattle.std.specs.List.{sum_by}
-use Rattle.std.proofs.lemmas.Bool.{cases_Bool, cases_eq, cases_lt, lt-leb}
+use Rattle.std.proofs.lemmas.Bool.{cases_eq}
 use Rattle.std.proofs.lemmas.Int.Digits.{length-digits_of_step, length-digits_of-le}
-use Rattle.std.proofs.Math.Numerals.{suc-eq-add-one}
 use Rattle.rx_refine.specs.Keys.{total, waiting_cost, waiting_reads}
 use Rattle.rx_refine.specs.Moves.{Moves, AreMoves, column, sources, binary_digits, read_limit}
 use Rattle.rx_refine.specs.Places.{how_many}
@@ -23,22 +22,10 @@ use Rattle.rx_refine.proofs.Totals.{total-how_many-all, total_single, total_term
 digits_half : (n : ℕ) → 0 < n → binary_digits n ≡ binary_digits (n / 2) + 1
 digits_half n h = length-digits_of_step 2 n (omega arith) h
 
-pow_next : (k : ℕ) → 2 ^ suc k ≡ 2 ^ k * 2
-pow_next k = pow-suc 2 k
-
 below_power : (f n : ℕ) → n ≤ f → n < 2 ^ binary_digits n
 below_power zero n h = let e : n ≡ 0 = omega arith in rw e (pow_pos (binary_digits 0))
 below_power (suc f) n h =
-    grind (
-      arith,
-      common_steps,
-      cases_lt,
-      digits_half,
-      suc-eq-add-one,
-      pow_next,
-      pow_pos,
-      below_power f (n / 2) (omega arith),
-    )
+    grind (arith, common_steps, digits_half, below_power f (n / 2) (omega arith))
 
 digits-le : (a b : ℕ) → a ≤ b → binary_digits a ≤ binary_digits b
 digits-le a b h = length-digits_of-le 2 (binary_digits b) a (omega arith) (omega (arith, below_power b b (omega arith)))
@@ -75,7 +62,7 @@ potential m p taken = total (λ unit. unit_potential m p (get_or taken unit 0) u
 module _ {m : Moves} {labels : List ℕ} {p : Parts} (r : IsRefined m labels p) where
   first_digits : (unit taken row : ℕ) → taken ≡ 0 → row < m.rows
       → row_potential m p taken unit row ≤ binary_digits m.rows * cost m unit row
-  first_digits unit taken row z l = search (rules, le-leb, mul-le-mul_right, digits-le)
+  first_digits unit taken row z l = search (rules, mul-le-mul_right, digits-le)
 
   unit_first : (unit taken : ℕ) → AreMoves m → taken ≡ 0 → unit < m.units → 0 < m.rows
       → unit_potential m p taken unit ≤ binary_digits m.rows * (2 * m.rows)
@@ -89,9 +76,6 @@ module _ {m : Moves} {labels : List ℕ} {p : Parts} (r : IsRefined m labels p) 
       ap (λ k. digits * k) (total_cost a h some) in
       omega arith
 
-  no_rows : (taken unit : ℕ) → m.rows ≡ 0 → unit_potential m p taken unit ≡ 0
-  no_rows taken unit e = ap (total (row_potential m p taken unit)) e
-
   limit_of : (units rows digits : ℕ) → digits * (2 * rows) * units ≡ 2 * units * rows * digits
   limit_of units rows digits = omega arith
 
@@ -100,7 +84,7 @@ module _ {m : Moves} {labels : List ℕ} {p : Parts} (r : IsRefined m labels p) 
   potential_first taken a zeros =
       let each : ℕ = binary_digits m.rows * (2 * m.rows) in
       let le : potential m p taken ≤ total (λ _. each) m.units =
-      grind (arith, common_steps, total-le, cases_lt, unit_first, no_rows) in
+      grind (arith, common_steps, total-le, unit_first) in
       let all : total (λ _. each) m.units ≡ each * m.units = total-const each m.units in
       let limit : each * m.units ≡ read_limit m = limit_of m.units m.rows (binary_digits m.rows) in
       omega arith
@@ -110,19 +94,7 @@ module _ {m : Moves} {labels : List ℕ} {p : Parts} (r : IsRefined m labels p) 
       → row_potential m p (taken + 1) unit row + cond (is_in (members p taken) row) (cost m unit row) 0
       ≤ row_potential m p taken unit row
   take_row unit taken row h l =
-      search (
-        rules,
-        is_in_members,
-        cases_eq,
-        digits_half,
-        eq-eqb,
-        lt-leb,
-        le-leb,
-        ne_eqb,
-        cases_Bool,
-        leb-true,
-        leb-false,
-      )
+      search (rules, is_in_members, cases_eq, digits_half)
 
   unit_take : (unit taken : ℕ) → taken < length p.sizes
       → unit_potential m p (taken + 1) unit + sum_by (cost m unit) (members p taken) ≤ unit_potential m p taken unit
@@ -140,7 +112,7 @@ module _ {m : Moves} {labels : List ℕ} {p : Parts} (r : IsRefined m labels p) 
   take_each : (unit taken row : ℕ) → row < m.rows
       → row_potential m p (length p.sizes) unit row + waiting_cost m unit p.blocks taken row
       ≤ row_potential m p taken unit row
-  take_each unit taken row l = search (rules, lt-leb, cases_Bool, digits_half)
+  take_each unit taken row l = search (rules, digits_half)
 
   unit_take_all : (unit taken : ℕ)
       → unit_potential m p (length p.sizes) unit + waiting_reads m unit p.blocks taken ≤ unit_potential m p taken unit
@@ -149,7 +121,7 @@ module _ {m : Moves} {labels : List ℕ} {p : Parts} (r : IsRefined m labels p) 
   -- ---- blocks are split
   split_allowance : {q : Parts} → Refines p q → (taken row : ℕ) → taken ≤ length p.sizes → row < m.rows
       → allowance q taken row ≤ allowance p taken row
-  split_allowance {q} s taken row below l = search (rules, cases_Bool, le-leb)
+  split_allowance {q} s taken row below l = search rules
 
   unit_split : {q : Parts} → Refines p q → (unit taken : ℕ) → taken ≤ length p.sizes
       → unit_potential m q taken unit ≤ unit_potential m p taken unit

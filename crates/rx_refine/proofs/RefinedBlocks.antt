@@ -2,8 +2,7 @@
 -- and where a unit leads two rows of one block into different blocks, one of these is a block that the
 -- unit has still to take.
 use Rattle.std.proofs.Common.{rules, ◌≡◌, ℕ, suc, ◌+◌, ◌<◌, ◌≤◌, cond, List, [], ◌∷◌, length, get_or, set, eqb, leb}
-use Rattle.std.proofs.Common.{le-leb, refl, sym, subst, ap, ◌∙◌, arith, eqb-true, eq-eqb, length-set, get_or-set_same}
-use Rattle.std.proofs.Common.{get_or-set_other, inl, inr}
+use Rattle.std.proofs.Common.{le-leb, refl, sym, subst, ap, ◌∙◌, arith, eqb-true, eq-eqb, get_or-set_other, inl, inr}
 use Rattle.std.proofs.lemmas.Grind.{common_steps}
 use Rattle.std.proofs.lemmas.Bool.{cases_eq, cases_lt, lt-leb}
 use Rattle.rx_refine.specs.Keys.{TakesAll}
@@ -50,6 +49,9 @@ pub record IsRefined (m : Moves) (labels : List ℕ) (p : Parts) : Type 0 where
       → get_or labels x 0 ≡ get_or labels y 0
   pub told : (x y : ℕ) → x < m.rows → y < m.rows → (block_of p x ≡ block_of p y → ⊥) → AreToldApart m labels x y
 
+pub row_in : {m : Moves} {labels : List ℕ} {p : Parts} → IsRefined m labels p → {x : ℕ} → x < m.rows → x < length p.rows
+row_in r l = omega (arith, r.rows_len)
+
 -- of two rows to which a unit leads two rows of one block: they are in one block, or one of them is in a
 -- block that the unit has still to take
 pub data Leads (p : Parts) (taken x y : ℕ) : Type 0 where
@@ -72,16 +74,13 @@ IsSettling-first taken r len zeros = grind (arith, common_steps)
 
 -- ---- the blocks are split
 module _ {m : Moves} {labels : List ℕ} {p q : Parts} (r : IsRefined m labels p) (s : Refines p q) where
-  row_in : {x : ℕ} → x < m.rows → x < length p.rows
-  row_in l = let e = r.rows_len in omega arith
-
   -- a row's new number isn't less
   later : {k x : ℕ} → k ≤ length p.sizes → x < m.rows → k ≤ block_of p x → k ≤ block_of q x
-  later {x} b l le = grind (arith, common_steps, row_in)
+  later {x} b l le = grind (arith, common_steps, row_in r)
 
   -- rows of one block are in one block, or one of them is in a new one
   split_same : {k x y : ℕ} → k ≤ length p.sizes → x < m.rows → y < m.rows → block_of p x ≡ block_of p y → Leads q k x y
-  split_same {x} {y} b lx ly e = grind (arith, common_steps, row_in)
+  split_same {x} {y} b lx ly e = grind (arith, common_steps, row_in r)
 
   split_leads : {k x y : ℕ} → k ≤ length p.sizes → x < m.rows → y < m.rows → Leads p k x y → Leads q k x y
   split_leads b lx ly (same e) = split_same b lx ly e
@@ -104,7 +103,7 @@ pub record Takes (m : Moves) (labels : List ℕ) (unit : ℕ) (p : Parts) (from 
 module _ {m : Moves} {labels : List ℕ} {p q : Parts} {taken : List ℕ} {unit to : ℕ} (moves : AreMoves m)
     (hu : unit < m.units) (a : IsSettling m labels p taken) (t : Takes m labels unit p (get_or taken unit 0) q to) where
   was_together : (x y : ℕ) → x < m.rows → y < m.rows → block_of q x ≡ block_of q y → block_of p x ≡ block_of p y
-  was_together x y lx ly e = t.refines.finer x y (row_in a.refined t.refines lx) (row_in a.refined t.refines ly) e
+  was_together x y lx ly e = t.refines.finer x y (row_in a.refined lx) (row_in a.refined ly) e
 
   step_pending : (x y u : ℕ) → x < m.rows → y < m.rows → u < m.units → block_of q x ≡ block_of q y
       → Leads q (get_or (set taken unit to) u 0) (next_row m x u) (next_row m y u)
@@ -112,28 +111,22 @@ module _ {m : Moves} {labels : List ℕ} {p q : Parts} {taken : List ℕ} {unit 
       let old : Leads p (get_or taken u 0) (next_row m x u) (next_row m y u) =
       a.pending x y u lx ly lu (was_together x y lx ly e) in
       elim (cases_eq u unit) [
-        | inl f ↦ search (rules, get_or-set_same)
+        | inl f ↦ search rules
         | inr ne ↦
             rw (get_or-set_other taken unit u to 0 ne)
             (split_leads a.refined t.refines (a.below u lu) (moves.nexts x u lx lu) (moves.nexts y u ly lu) old)
       ]
 
-  step_below : (u : ℕ) → u < m.units → get_or (set taken unit to) u 0 ≤ length q.sizes
-  step_below u lu = grind (arith, common_steps, get_or-set_same, get_or-set_other)
-
   pub IsSettling-step : IsSettling m labels q (set taken unit to)
-  IsSettling-step = search (rules, was_together, length-set, step_below, step_pending)
+  IsSettling-step = search (rules, step_pending)
 
 -- ---- a unit takes a block: the blocks are split by the rows that it leads into that block
 module _ {m : Moves} {labels : List ℕ} {p q : Parts} {unit block : ℕ} {hits : List ℕ} (moves : AreMoves m)
     (hu : unit < m.units) (r : IsRefined m labels p) (h : block < length p.sizes) (s : SplitsBy p hits q)
     (are : (row : ℕ) → row < m.rows → is_in hits row ≡ is_in (members p block) (next_row m row unit)) where
-  in_p : {x : ℕ} → x < m.rows → x < length p.rows
-  in_p l = let e = r.rows_len in omega arith
-
   -- a row is hit where the unit leads it into the block
   hit : (x : ℕ) → x < m.rows → is_in hits x ≡ eqb (block_of p (next_row m x unit)) block
-  hit x l = are x l ∙ is_in_members r.partition h (next_row m x unit) (in_p (moves.nexts x unit l hu))
+  hit x l = are x l ∙ is_in_members r.partition h (next_row m x unit) (row_in r (moves.nexts x unit l hu))
 
   told_by_hit : (x y : ℕ) → x < m.rows → y < m.rows → (is_in hits x ≡ is_in hits y → ⊥) → AreToldApart m labels x y
   told_by_hit x y lx ly ne =
@@ -142,16 +135,16 @@ module _ {m : Moves} {labels : List ℕ} {p q : Parts} {unit block : ℕ} {hits 
       (λ e. ne (hit x lx ∙ ap (λ n. eqb n block) e ∙ sym (hit y ly))))
 
   block_told : (x y : ℕ) → x < m.rows → y < m.rows → (block_of q x ≡ block_of q y → ⊥) → AreToldApart m labels x y
-  block_told x y lx ly ne = grind (arith, common_steps, told_by_hit, in_p)
+  block_told x y lx ly ne = grind (arith, common_steps, told_by_hit, row_in r)
 
   -- rows that stay together are both hit or both not
   both_hit : (x y : ℕ) → x < m.rows → y < m.rows → block_of q x ≡ block_of q y
       → eqb (block_of p (next_row m x unit)) block ≡ eqb (block_of p (next_row m y unit)) block
-  both_hit x y lx ly e = sym (hit x lx) ∙ s.agrees x y (in_p lx) (in_p ly) e ∙ hit y ly
+  both_hit x y lx ly e = sym (hit x lx) ∙ s.agrees x y (row_in r lx) (row_in r ly) e ∙ hit y ly
 
   next_same : (x y : ℕ) → x < m.rows → y < m.rows → block_of p (next_row m x unit) ≡ block_of p (next_row m y unit)
       → Leads q (block + 1) (next_row m x unit) (next_row m y unit)
-  next_same x y lx ly e = grind (arith, common_steps, split_same)
+  next_same x y lx ly e = grind (arith, common_steps)
 
   block_first : (x y : ℕ) → x < m.rows → y < m.rows → block_of q x ≡ block_of q y
       → block ≤ block_of p (next_row m x unit) → Leads q (block + 1) (next_row m x unit) (next_row m y unit)
@@ -178,9 +171,6 @@ module _ {m : Moves} {labels : List ℕ} {p q : Parts} {unit block : ℕ} {hits 
 -- ---- a unit takes all blocks that wait for it: the blocks are split by those to which it leads the rows
 module _ {m : Moves} {labels : List ℕ} {p q : Parts} {unit from : ℕ} (moves : AreMoves m) (hu : unit < m.units)
     (r : IsRefined m labels p) (s : TakesAll m unit p from q) where
-  inside : {x : ℕ} → x < m.rows → x < length p.rows
-  inside l = let e = r.rows_len in omega arith
-
   told_by_key : (x y : ℕ) → x < m.rows → y < m.rows → (get_or s.keys x 0 ≡ get_or s.keys y 0 → ⊥)
       → AreToldApart m labels x y
   told_by_key x y lx ly ne =
@@ -189,16 +179,16 @@ module _ {m : Moves} {labels : List ℕ} {p q : Parts} {unit from : ℕ} (moves 
       (λ e. ne (s.are x lx ∙ ap (λ b. cond (leb from b) b 0) e ∙ sym (s.are y ly))))
 
   all_told : (x y : ℕ) → x < m.rows → y < m.rows → (block_of q x ≡ block_of q y → ⊥) → AreToldApart m labels x y
-  all_told x y lx ly ne = search (rules, cases_eq, told_by_key, inside)
+  all_told x y lx ly ne = search (rules, cases_eq, told_by_key, row_in r)
 
   -- rows that stay together are led into one block, where one of them is led into a block that waited
   one_next : (x y : ℕ) → x < m.rows → y < m.rows → block_of q x ≡ block_of q y
       → from ≤ block_of p (next_row m x unit) → block_of p (next_row m x unit) ≡ block_of p (next_row m y unit)
-  one_next x y lx ly e le = search (rules, inside, le-leb, cases_lt, lt-leb)
+  one_next x y lx ly e le = search (rules, row_in r, le-leb, cases_lt, lt-leb)
 
   one_leads : (x y : ℕ) → x < m.rows → y < m.rows → block_of p (next_row m x unit) ≡ block_of p (next_row m y unit)
       → Leads q (length p.sizes) (next_row m x unit) (next_row m y unit)
-  one_leads x y lx ly e = grind (arith, common_steps, split_same)
+  one_leads x y lx ly e = grind (arith, common_steps)
 
   all_leads : (x y : ℕ) → x < m.rows → y < m.rows → block_of q x ≡ block_of q y
       → Leads p from (next_row m x unit) (next_row m y unit)
@@ -242,15 +232,10 @@ module _ {m : Moves} {labels : List ℕ} {p : Parts} (moves : AreMoves m) (r : I
 -- each unit took all blocks
 module _ {m : Moves} {labels : List ℕ} {p : Parts} {taken : List ℕ} (moves : AreMoves m)
     (a : IsSettling m labels p taken) (h : (u : ℕ) → u < m.units → length p.sizes ≤ get_or taken u 0) where
-  end_same : {x y k : ℕ} → length p.sizes ≤ k → x < m.rows → y < m.rows → Leads p k x y → block_of p x ≡ block_of p y
-  end_same l lx ly (same e) = e
-  end_same {x} l lx ly (first e) = grind (arith, common_steps)
-  end_same {y} l lx ly (second e) = grind (arith, common_steps)
-
   pub steady_at_end : IsSteady m p
-  steady_at_end = search (rules, next_same, end_same)
+  steady_at_end = search rules
 
 -- each row is alone in its block
 pub steady_where_discrete : {m : Moves} {labels : List ℕ} {p : Parts} → IsRefined m labels p
     → length p.sizes ≡ length p.rows → IsSteady m p
-steady_where_discrete {m} {p} r d = grind (arith, common_steps, next_same, alone)
+steady_where_discrete {m} {p} r d = grind (arith, common_steps, alone)

@@ -4,7 +4,6 @@ use Rattle.std.proofs.Common.{◌≡◌, ℕ, ◌<◌, List, [], ◌∷◌, leng
 use Rattle.std.proofs.Common.{ne_eqb, inl, inr}
 use Rattle.std.specs.List.{All, flat_map}
 use Rattle.std.proofs.lemmas.Bool.{cases_Bool, cases_eq}
-use Rattle.std.proofs.lemmas.List.Folds.{list_any-append}
 use Rattle.std.proofs.lemmas.List.Elements.{Contains-get_or, All-nil}
 use Rattle.std.proofs.lemmas.Map.Views.{Contains-from_any}
 use Rattle.rx_refine.specs.Moves.{Moves, AreMoves, column, sources, next_row}
@@ -35,13 +34,13 @@ pub is_in-flat_map : (m : Moves) (rows : List ℕ) (unit row : ℕ) → row < le
     → is_in (flat_map (λ r. sources m r unit) rows) row ≡ is_in rows (next_row m row unit)
 is_in-flat_map m [] unit row l = refl
 is_in-flat_map m (r ∷ rs) unit row l =
-    grind (arith, common_steps, list_any-append, is_in-places_of, is_in-flat_map m rs unit row l)
+    grind (arith, common_steps, is_in-places_of, is_in-flat_map m rs unit row l)
 
 pub flat_map-small : {m : Moves} (rows : List ℕ) (unit : ℕ) → AreMoves m → unit < m.units → 0 < m.rows
     → All (λ row. row < m.rows) (flat_map (λ r. sources m r unit) rows)
 flat_map-small {m} [] unit a h some = All-nil (λ row. row < m.rows)
 flat_map-small {m} (r ∷ rs) unit a h some =
-    grind (arith, common_steps, places_of-small, m.rows, a.lengths, flat_map-small rs unit a h some)
+    grind (arith, common_steps, places_of-small, flat_map-small rs unit a h some)
 
 -- a source is a row
 pub source_below : {m : Moves} {row unit : ℕ} (i : ℕ) {x : ℕ} → AreMoves m → row < m.rows → unit < m.units

@@ -1,10 +1,10 @@
 -- The loops of the refinement: what holds before each turn, in which a unit takes a block.
-use Rattle.std.proofs.Common.{rules, ◌≡◌, ℕ, ◌+◌, ◌-◌, ◌<◌, ◌≤◌, List, [], length, get_or, set, eqb, true, subst, ◌∙◌}
-use Rattle.std.proofs.Common.{arith, eqb-true, get_or-set_same, get_or-set_other}
+use Rattle.std.proofs.Common.{rules, ◌≡◌, ℕ, ◌+◌, ◌-◌, ◌<◌, ◌≤◌, List, [], length, get_or, set, eqb, true, subst, arith}
+use Rattle.std.proofs.Common.{get_or-set_other}
 use Rattle.std.proofs.lemmas.Grind.{common_steps}
 use Rattle.std.specs.List.{sum_by, flat_map, All, Contains}
 use Rattle.std.proofs.lemmas.List.Elements.{Contains-get_or}
-use Rattle.std.proofs.lemmas.List.{get_or_default, get_or_read_under}
+use Rattle.std.proofs.lemmas.List.{get_or_default}
 use Rattle.rx_refine.specs.Keys.{waiting_reads, TakesAll}
 use Rattle.rx_refine.specs.Moves.{Moves, AreMoves, sources, read_limit, AreAlikeByNumber, AreToldByNumber}
 use Rattle.rx_refine.specs.Moves.{AreWithoutGaps}
@@ -14,7 +14,6 @@ use Rattle.rx_refine.proofs.Blocks.{blocks_few, members, members_small, row_at, 
 use Rattle.rx_refine.proofs.Sources.{is_in-flat_map, flat_map-small}
 use Rattle.rx_refine.proofs.RefinedBlocks.{IsRefined, IsSettling, Takes, IsSettling-first, IsSettling-step, Takes-block}
 use Rattle.rx_refine.proofs.RefinedBlocks.{Takes-all, steady_at_end, steady_where_discrete, alike_where_steady}
-use Rattle.rx_refine.proofs.RefinedBlocks.{label_after-nil}
 use Rattle.rx_refine.proofs.ReadCosts.{cost, potential, potential_first, potential_turn, potential_all, turn_reads}
 use Rattle.rx_refine.proofs.ReadCosts.{all_reads}
 
@@ -35,12 +34,12 @@ pub record IsSweep (m : Moves) (labels : List ℕ) (start : ℕ) (p : Parts) (ta
 pub taken_read : {m : Moves} {labels : List ℕ} {start : ℕ} {p : Parts} {taken : List ℕ} {steps seen bound unit : ℕ}
     → IsSweep m labels start p taken steps seen bound → unit < m.units → (read : ℕ) → read ≡ get_or taken unit read
     → read ≡ get_or taken unit 0
-taken_read {m} {taken} {unit} t hu read is = grind (arith, common_steps, get_or_read_under)
+taken_read {m} {taken} {unit} t hu read is = grind (arith, common_steps)
 
 -- ---- the first blocks
 refined_first : {m : Moves} {labels : List ℕ} {p : Parts} → length labels ≡ m.rows → IsByLabel labels p
     → IsRefined m labels p
-refined_first {m} {labels} len b = grind (arith, common_steps, label_after-nil)
+refined_first {m} {labels} len b = grind (arith, common_steps)
 
 pub sweep_first : {m : Moves} {labels : List ℕ} {start : ℕ} {p : Parts} {taken : List ℕ} → AreMoves m
     → length labels ≡ m.rows → IsByLabel labels p → length taken ≡ m.units
@@ -119,7 +118,7 @@ module _ {m : Moves} {labels : List ℕ} {start : ℕ} {p : Parts} {taken : List
 
   -- fewer blocks are left
   pub turn_falls : m.rows - get_or (set taken unit (block + 1)) unit 0 < m.rows - get_or taken unit 0
-  turn_falls = grind (arith, common_steps, get_or-set_same, below_rows)
+  turn_falls = grind (arith, common_steps, below_rows)
 
 -- ---- a unit, which took the blocks below `from`, takes all others
 module _ {m : Moves} {labels : List ℕ} {start : ℕ} {p : Parts} {taken : List ℕ} {steps seen unit from : ℕ}
@@ -149,7 +148,7 @@ module _ {m : Moves} {labels : List ℕ} {start : ℕ} {p : Parts} {taken : List
   pub all_next : {q : Parts} {now : ℕ} → TakesAll m unit p from q → AreMoves m
       → now ≤ steps + waiting_reads m unit p.blocks from → steps ≤ now
       → IsSweep m labels start q (set taken unit (length p.sizes)) now seen (unit + 1)
-  all_next s a le ge = grind (arith, common_steps, all_more, get_or-set_same)
+  all_next s a le ge = grind (arith, common_steps, all_more)
 
 -- blocks are at most as many as rows
 pub blocks_below : {m : Moves} {labels : List ℕ} {start : ℕ} {p : Parts} {taken : List ℕ} {steps : ℕ}
@@ -161,21 +160,16 @@ module _ {m : Moves} {labels : List ℕ} {p : Parts} (r : IsRefined m labels p) 
   pub result_told : AreToldByNumber m labels p.blocks
   result_told x y lx ly ne = r.told x y lx ly ne
 
-  result_len : length p.blocks ≡ m.rows
-  result_len = r.partition.blocks_len ∙ r.rows_len
-
   pub result_numbers : All (λ block. block < m.rows) p.blocks
-  result_numbers k d l = search (rules, result_len, get_or_default, blocks_few)
+  result_numbers k d l = search (rules, get_or_default, blocks_few)
 
   pub result_no_gaps : AreWithoutGaps p.blocks
   result_no_gaps x number l lt =
       let w = r.partition in
-      let bl = w.blocks_len in
-      let hn : number < length p.sizes = let b = w.block_at x (omega arith) in omega arith in
-      let s : start_of p number < length p.rows = omega (arith, w.within number hn, w.some number hn) in
+      let s : start_of p number < length p.rows = omega arith in
       let row : ℕ = row_at p (start_of p number) in
       let row_l : row < length p.blocks = let at = w.permuted.row_at (start_of p number) s in omega arith in
-      let is : block_of p row ≡ number = grind (arith, common_steps, start_of) in
+      let is : block_of p row ≡ number = grind (arith, common_steps) in
       subst (λ n. Contains p.blocks n) is (Contains-get_or p.blocks row 0 row_l)
 
 -- no sweep is left
@@ -188,4 +182,4 @@ result_alike a t h =
 -- each row is alone in its block
 pub discrete_alike : {m : Moves} {labels : List ℕ} {p : Parts} → AreMoves m → IsRefined m labels p
     → eqb (length p.sizes) (length p.rows) ≡ true → AreAlikeByNumber m labels p.blocks
-discrete_alike {p} a r d = search (rules, alike_where_steady, steady_where_discrete, eqb-true)
+discrete_alike {p} a r d = search (rules, alike_where_steady, steady_where_discrete)

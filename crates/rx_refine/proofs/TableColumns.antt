@@ -1,8 +1,7 @@
 -- The columns of a table (columns.rt), to which its rows are added so many at a time, turned into columns (table.rt).
 use Rattle.std.proofs.lemmas.Grind.{common_steps}
 use Rattle.std.proofs.Common.{◌≡◌, ℕ, ◌+◌, ◌-◌, ◌*◌, ◌<◌, ◌≤◌, List, [], ◌∷◌, ◌++◌, length, get_or, set, inl, inr, refl}
-use Rattle.std.proofs.Common.{sym, ap, ◌∙◌, arith, le_trans, mul-le-mul_right, length-take, length-drop, get_or-take}
-use Rattle.std.proofs.Common.{get_or-drop, get_or-set_same, get_or-set_other}
+use Rattle.std.proofs.Common.{sym, ap, ◌∙◌, arith, mul-le-mul_right, get_or-set_same, get_or-set_other}
 use Rattle.std.specs.List.{All, slice_range}
 use Rattle.std.proofs.lemmas.Bool.{cases_eq, cases_lt}
 use Rattle.std.proofs.lemmas.Nat.{same_from_place, mul-add-lt}
@@ -54,11 +53,11 @@ module _ {t : Layout} {first : ℕ} {old : List (List ℕ)} (a : AreColumns t fi
     → get_or transposed (unit * count + row) 0 ≡ next_at t (first + row) unit) where
   part-length : (unit : ℕ) → unit < t.units
       → length (slice_range transposed (unit * count) ((unit + 1) * count)) ≡ count
-  part-length unit h = grind (arith, common_steps, le_trans, mul-le-mul_right, length-take, length-drop)
+  part-length unit h = grind (arith, common_steps)
 
   part-get_or : (row unit : ℕ) → row < count → unit < t.units
       → get_or (slice_range transposed (unit * count) ((unit + 1) * count)) row 0 ≡ next_at t (first + row) unit
-  part-get_or row unit r u = grind (arith, common_steps, get_or-take, get_or-drop)
+  part-get_or row unit r u = grind (arith, common_steps)
 
   pub AreColumns-grown : (new : List (List ℕ)) → length new ≡ length old
       → ((unit : ℕ) → unit < length old
@@ -68,12 +67,12 @@ module _ {t : Layout} {first : ℕ} {old : List (List ℕ)} (a : AreColumns t fi
       let grown = λ (unit : ℕ) (h : unit < t.units). added unit (let c = a.count in omega arith) in
       record {
         count = len ∙ a.count;
-        lengths = grind (arith, common_steps, length-append, part-length);
+        lengths = grind (arith, common_steps, part-length);
         cells = λ row unit r h.
             let part : List ℕ = slice_range transposed (unit * count) ((unit + 1) * count) in
             let column : List ℕ = get_or old unit [] in
             let cell : get_or (column ++ part) row 0 ≡ next_at t row unit = elim (cases_lt row first) [
-              | inl l ↦ get_or_append_left column part 0 row (omega (arith, a.lengths unit h)) ∙ a.cells row unit l h
+              | inl l ↦ get_or_append_left column part 0 row (omega arith) ∙ a.cells row unit l h
               | inr g ↦
                   let e : first + (row - first) ≡ row = omega arith in
                   get_or-append_right column part first row 0 (a.lengths unit h) g
@@ -100,8 +99,7 @@ column_small {t} before x rest i a k d l =
 pub group_of_row : {m : Moves} {row unit : ℕ} → AreMoves m → row < m.rows → unit < m.units → (x : List ℕ)
     → x ≡ get_or m.columns unit x → row < length x
 group_of_row {m} {row} {unit} a r u x e =
-    let len : length (get_or m.columns unit []) ≡ m.rows = a.lengths unit (omega arith) u in
     elim (cases_lt unit (length m.columns)) [
-      | inl l ↦ omega (arith, ap length (get_or_read m.columns unit x l e []), len)
+      | inl l ↦ omega (arith, ap length (get_or_read m.columns unit x l e []))
       | inr g ↦ absurd (let none = ap length (get_or_past m.columns unit [] g) in omega arith)
     ]

@@ -1,19 +1,15 @@
 -- Sums over the numbers below a bound.
 use Rattle.std.proofs.lemmas.Grind.{common_steps}
 use Rattle.std.proofs.Common.{◌≡◌, ℕ, zero, suc, ◌+◌, ◌*◌, ◌<◌, ◌≤◌, true, cond, List, [], ◌∷◌, length, get_or, eqb}
-use Rattle.std.proofs.Common.{refl, sym, ap, ◌∙◌, arith, eq-eqb, ne_eqb, eqb-true, mul-zero, true≢false, inl, inr}
+use Rattle.std.proofs.Common.{refl, sym, ap, ◌∙◌, arith, ne_eqb, mul-zero, true≢false, inl, inr}
 use Rattle.std.specs.List.{sum_by, list_any}
-use Rattle.std.proofs.lemmas.Bool.{cases_eq, false_from_ne_true}
+use Rattle.std.proofs.lemmas.Bool.{cases_eq}
 use Rattle.std.proofs.lemmas.List.Sums.{sum_by-cons}
-use Rattle.std.proofs.Math.Nat.{mul-suc}
 use Rattle.std.proofs.Math.Numerals.{suc-eq-add-one}
 use Rattle.rx_refine.specs.Keys.{total}
 use Rattle.rx_refine.specs.Places.{how_many, how_many_below, AreApart}
 use Rattle.rx_refine.proofs.Places.{how_many_below_more, how_many_below-zero}
 use Rattle.rx_refine.proofs.GroupedRows.{how_many_below-all}
-
-mul_add : (k a b : ℕ) → k * (a + b) ≡ k * a + k * b
-mul_add k a b = omega arith
 
 pub total-add : (f g : ℕ → ℕ) (n : ℕ) → total (λ r. f r + g r) n ≡ total f n + total g n
 total-add f g zero = refl
@@ -21,7 +17,7 @@ total-add f g (suc n) = omega (arith, total-add f g n)
 
 pub total-le : (f g : ℕ → ℕ) (n : ℕ) → ((r : ℕ) → r < n → f r ≤ g r) → total f n ≤ total g n
 total-le f g zero h = omega arith
-total-le f g (suc n) h = omega (arith, total-le f g n (λ r l. h r (omega arith)), h n (omega arith))
+total-le f g (suc n) h = omega (arith, total-le f g n (λ r l. h r (omega arith)))
 
 -- where each term and what is spent beside it are at most another term
 pub total-spent : (f g h : ℕ → ℕ) (n : ℕ) → ((r : ℕ) → r < n → f r + g r ≤ h r) → total f n + total g n ≤ total h n
@@ -29,30 +25,30 @@ total-spent f g h n le = omega (arith, total-add f g n, total-le (λ r. f r + g 
 
 pub total-same : (f g : ℕ → ℕ) (n : ℕ) → ((r : ℕ) → r < n → f r ≡ g r) → total f n ≡ total g n
 total-same f g zero h = refl
-total-same f g (suc n) h = omega (arith, total-same f g n (λ r l. h r (omega arith)), h n (omega arith))
+total-same f g (suc n) h = omega (arith, total-same f g n (λ r l. h r (omega arith)))
 
 pub total-const : (k n : ℕ) → total (λ _. k) n ≡ k * n
 total-const k zero = sym (mul-zero k)
-total-const k (suc n) = omega (arith, total-const k n, mul-suc k n)
+total-const k (suc n) = omega (arith, total-const k n)
 
 total_zero : (n : ℕ) → total (λ _. 0) n ≡ 0
 total_zero n = omega (arith, total-const 0 n)
 
 pub total-mul : (k : ℕ) (f : ℕ → ℕ) (n : ℕ) → total (λ r. k * f r) n ≡ k * total f n
 total-mul k f zero = sym (mul-zero k)
-total-mul k f (suc n) = omega (arith, total-mul k f n, mul_add k (total f n) (f n))
+total-mul k f (suc n) = omega (arith, total-mul k f n)
 
 pub total_none : (h : ℕ → ℕ) (x n : ℕ) → n ≤ x → total (λ r. cond (eqb r x) (h r) 0) n ≡ 0
 total_none h x zero l = refl
-total_none h x (suc n) l = grind (arith, common_steps, ne_eqb, total_none h x n (omega arith))
+total_none h x (suc n) l = grind (arith, common_steps, total_none h x n (omega arith))
 
 pub total_single : (h : ℕ → ℕ) (x n : ℕ) → x < n → total (λ r. cond (eqb r x) (h r) 0) n ≡ h x
 total_single h x zero l = absurd (omega arith)
 total_single h x (suc n) l =
     elim (cases_eq n x) [
-      | inl e ↦ grind (arith, common_steps, eq-eqb, total_none)
+      | inl e ↦ grind (arith, common_steps, total_none)
       | inr ne ↦ let t : ◌≡◌ {A = ℕ} (cond (eqb n x) (h n) 0) 0 =
-          rw (ne_eqb n x ne) refl in omega (arith, total_single h x n (omega arith), t)
+          rw (ne_eqb n x ne) refl in omega (arith, total_single h x n (omega arith))
     ]
 
 -- a term is at most the sum
@@ -89,7 +85,7 @@ not_in_tail x xs a t = absent x xs (λ k l e. a 0 (suc k) (omega arith) (omega a
 -- what a row counts for, as the first or as a later element
 split_in : (h : ℕ → ℕ) (x : ℕ) (xs : List ℕ) (r : ℕ) → (list_any (eqb x) xs ≡ true → ⊥)
     → cond (list_any (eqb r) (x ∷ xs)) (h r) 0 ≡ cond (eqb r x) (h r) 0 + cond (list_any (eqb r) xs) (h r) 0
-split_in h x xs r ne = grind (arith, common_steps, eqb-true, false_from_ne_true)
+split_in h x xs r ne = grind (arith, common_steps)
 
 pub sum_by-total : (h : ℕ → ℕ) (n : ℕ) (xs : List ℕ) → AreApart xs → ((k : ℕ) → k < length xs → get_or xs k 0 < n)
     → sum_by h xs ≡ total (λ r. cond (list_any (eqb r) xs) (h r) 0) n

@@ -1,12 +1,7 @@
 -- How many rows the tables of a plan have.
-use Rattle.std.proofs.Common.{arith, ◌≡◌, Bool, true, false, refl, List}
-use Rattle.std.proofs.lemmas.Grind.{common_steps}
-use Rattle.rx_spec.specs.Builds.{Build}
-use Rattle.rx_spec.specs.Expressions.{Expression}
+use Rattle.rx_spec.proofs.Prelude.{arith, ◌≡◌, Bool, true, false, refl, List, common_steps, Build, Expression, Plan}
+use Rattle.rx_spec.proofs.Prelude.{IsPower, Table}
 use Rattle.rx_spec.specs.Labels.{IsLeastFor}
-use Rattle.rx_spec.specs.Plans.{Plan}
-use Rattle.rx_spec.specs.Power.{IsPower}
-use Rattle.rx_spec.specs.Tables.{Table}
 use Rattle.rx_dense.specs.Layouts.{Layout, table_of}
 use Rattle.rx_sparse.specs.Layouts as sparse
 use Rattle.rx_sparse_build.proofs.Served.{sparse_least, sparse_power}

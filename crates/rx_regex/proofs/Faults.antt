@@ -1,15 +1,10 @@
 -- A search that ends by an error, as a fault of the whole search.
-use Rattle.std.proofs.Common.{arith, ◌≡◌, Err, List}
-use Rattle.std.proofs.lemmas.Grind.{common_steps}
-use Rattle.rx_spec.specs.Expressions.{Expression}
-use Rattle.rx_spec.specs.Plans.{Plan, outcome}
-use Rattle.rx_spec.specs.Queries.{Query, MatchError}
+use Rattle.rx_spec.proofs.Prelude.{arith, ◌≡◌, Err, List, common_steps, Expression, Plan, outcome, Query, MatchError}
 use Rattle.rx_regex.specs.Find.{Answers, PlanFits, Tells}
 use Rattle.rx_regex.specs.declared.error.FindFault.{FindFault}
 
 pub answers_fault : (p : Plan) (es : List Expression) (q : Query) (fault : FindFault) (error : MatchError)
     → PlanFits p es → outcome p es q ≡ Err error → Tells fault error → Answers p es q (Err fault)
-answers_fault p es q (FindFault.Build refused) error fits ends tells = absurd tells
 answers_fault p es q (FindFault.Quit byte offset) error fits ends tells = grind (arith, common_steps)
 answers_fault p es q (FindFault.Unsupported mode) error fits ends tells = grind (arith, common_steps)
-answers_fault p es q FindFault.Memory error fits ends tells = absurd tells
+answers_fault p es q _ error fits ends tells = absurd tells

@@ -1,10 +1,6 @@
 -- The matches that the tables of a plan tell one after another.
-use Rattle.std.proofs.Common.{arith, ◌≡◌, ◌-◌, Ok, Err, List, Result, All, IfOk, refl}
-use Rattle.std.proofs.lemmas.Grind.{common_steps}
-use Rattle.rx_spec.specs.Expressions.{Expression}
-use Rattle.rx_spec.specs.Iterating.{iterate}
-use Rattle.rx_spec.specs.Plans.{Plan, outcome}
-use Rattle.rx_spec.specs.Queries.{Query, Match, MatchError, LiesIn}
+use Rattle.rx_spec.proofs.Prelude.{arith, ◌≡◌, ◌-◌, Ok, Err, List, Result, All, IfOk, refl, common_steps, Expression}
+use Rattle.rx_spec.proofs.Prelude.{iterate, Plan, outcome, Query, Match, MatchError, LiesIn}
 use Rattle.rx_meaning.proofs.IteratedSearches.{from, iterate_alike}
 use Rattle.rx_image.specs.Pairs.{Pair}
 use Rattle.rx_regex.specs.Pairs.{AreTables, joined, whole}

@@ -1,10 +1,7 @@
 -- Both tables of a plan as one image: it can be written and read again, and the tables that are read find what the plan
 -- and its expressions say.
-use Rattle.std.proofs.Common.{◌≡◌, ℕ, List, [], length, Ok, refl, sym, ap, ◌∙◌, append-nil}
-use Rattle.rx_spec.specs.Expressions.{Expression}
-use Rattle.rx_spec.specs.Nfas.{nfa_of}
-use Rattle.rx_spec.specs.Plans.{Plan}
-use Rattle.rx_spec.specs.Queries.{Query}
+use Rattle.rx_spec.proofs.Prelude.{◌≡◌, ℕ, List, [], length, Ok, refl, sym, ap, ◌∙◌, append-nil, Expression, nfa_of}
+use Rattle.rx_spec.proofs.Prelude.{Plan, Query}
 use Rattle.rx_build.specs.Builders.{Both}
 use Rattle.rx_dense.specs.Layouts.{Layout}
 use Rattle.rx_expr.specs.Compiles.{wanted_nfa}
@@ -73,7 +70,7 @@ is_pair_image {p} {es} {pair} order bytes tables whole written = record {
 }
 
 -- the order of their bytes changes no answer
-joined_in_order : (order : Order) (pair : Pair) (q : Query) → joined (in_order order pair) q ≡ joined pair q
+pub joined_in_order : (order : Order) (pair : Pair) (q : Query) → joined (in_order order pair) q ≡ joined pair q
 joined_in_order order (Pair.Dense f r) q = refl
 joined_in_order order (Pair.Sparse f r) q = refl
 

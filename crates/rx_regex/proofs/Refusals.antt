@@ -1,10 +1,8 @@
 -- What refuses a table by a plan's settings refuses the plan.
-use Rattle.std.proofs.Common.{arith, ◌≡◌, sym, ap, subst, List}
-use Rattle.std.proofs.lemmas.Grind.{common_steps}
-use Rattle.rx_spec.specs.Causes.{BuildCause, BuildFits, BuildRefused, Limits}
-use Rattle.rx_spec.specs.Expressions.{Expression}
-use Rattle.rx_spec.specs.Builds.{Build}
-use Rattle.rx_spec.specs.Plans.{Plan, Cause, DirectionFits, DirectionRefused, plan_limits}
+use Rattle.rx_spec.proofs.Prelude.{arith, ◌≡◌, sym, ap, subst, List, common_steps, BuildCause, BuildFits, Expression}
+use Rattle.rx_spec.proofs.Prelude.{Build, Plan, Cause}
+use Rattle.rx_spec.specs.Causes.{BuildRefused, Limits}
+use Rattle.rx_spec.specs.Plans.{DirectionFits, DirectionRefused, plan_limits}
 use Rattle.rx_spec.specs.declared.Direction.{Direction}
 use Rattle.rx_spec.specs.declared.Form.{Form}
 use Rattle.rx_build.specs.Builders.{Both}
@@ -45,8 +43,7 @@ module _ (p : Plan) (es : List Expression) (dense : p.form ≡ Form.Dense) where
   settings_fit : (table : PlanTable) → IsFitBy (in_direction (direction_of table) (settings_for p table)) es
       → TableFits p table es
   settings_fit PlanTable.Forward fits = grind (arith, common_steps, build_fits, limits)
-  settings_fit PlanTable.Reverse fits = grind (arith, common_steps, build_fits, limits)
-  settings_fit PlanTable.All fits = grind (arith, common_steps, build_fits, limits)
+  settings_fit _ fits = grind (arith, common_steps, build_fits, limits)
 
   refused : (table : PlanTable) (cause : Cause)
       → IsRefusedBy (in_direction (direction_of table) (settings_for p table)) es cause → TableRefused p table es cause
@@ -76,8 +73,7 @@ module _ (p : Plan) (es : List Expression) (sparse : p.form ≡ Form.Sparse) whe
   sparse_settings_fit : (table : PlanTable)
       → IsSparseFitBy (in_direction (direction_of table) (settings_for p table)) es → TableFits p table es
   sparse_settings_fit PlanTable.Forward fits = grind (arith, common_steps, build_fits, limits_are)
-  sparse_settings_fit PlanTable.Reverse fits = grind (arith, common_steps, build_fits, limits_are)
-  sparse_settings_fit PlanTable.All fits = grind (arith, common_steps, build_fits, limits_are)
+  sparse_settings_fit _ fits = grind (arith, common_steps, build_fits, limits_are)
 
   sparse_refused : (table : PlanTable) (cause : Cause)
       → IsSparseRefusedBy (in_direction (direction_of table) (settings_for p table)) es cause

@@ -1,17 +1,9 @@
 -- Searches of the tables of a plan.
-use Rattle.std.proofs.Common.{arith, ◌≡◌, ◌≢◌, ◌≤◌, Option, Some, None, Ok, Err, IfErr, List, length, refl, ap, sym}
-use Rattle.std.proofs.Common.{◌∙◌, subst}
-use Rattle.std.proofs.lemmas.Grind.{common_steps}
+use Rattle.rx_spec.proofs.Prelude.{arith, ◌≡◌, ◌≢◌, ◌≤◌, Option, Some, None, Ok, Err, IfErr, List, length, refl, ap}
+use Rattle.rx_spec.proofs.Prelude.{sym, ◌∙◌, subst, common_steps, AreBytes, Expression, HalfAnswer, Answer, with_end}
+use Rattle.rx_spec.proofs.Prelude.{Plan, unless_error, outcome, Query, Match, HalfMatch, MatchError, half_unsplit}
 use Rattle.std.proofs.Math.Logic.{∥∥₁_elim}
 use mathlib.Core.HLevel.{⊥_prop}
-use Rattle.rx_spec.specs.Bytes.{AreBytes}
-use Rattle.rx_spec.specs.Expressions.{Expression}
-use Rattle.rx_spec.specs.Found.{found}
-use Rattle.rx_spec.specs.HalfSearches.{HalfAnswer}
-use Rattle.rx_spec.specs.Joining.{Answer, with_end}
-use Rattle.rx_spec.specs.Plans.{Plan, unless_error, outcome}
-use Rattle.rx_spec.specs.Queries.{Query, Match, HalfMatch, MatchError}
-use Rattle.rx_spec.specs.Splits.{half_unsplit}
 use Rattle.rx_spec.specs.declared.Direction.{Direction}
 use Rattle.rx_meaning.proofs.ServedSearches.{end_by_tables, found_by_tables, tables_agree}
 use Rattle.rx_regex.specs.Find.{IsPaired, PlansFindTheSame}
@@ -50,10 +42,8 @@ abbrev Agree : Answer → Type 0
 Agree answer = (end : HalfMatch) (start : Option HalfMatch) → answer ≢ Err (MatchError.PairMismatch end start)
 
 paired : (answer : Answer) → Agree answer → IfErr answer IsPaired
-paired (Ok found) agree = tt
-paired (Err (MatchError.Quit byte offset)) agree = tt
-paired (Err (MatchError.UnsupportedAnchored mode)) agree = tt
 paired (Err (MatchError.PairMismatch end start)) agree = agree end start refl
+paired _ agree = tt
 
 pub pairs_end : PairsEnd
 pairs_end both es pair is safe built q bytes within end told =

@@ -1,13 +1,8 @@
 -- A pair of tables that is built as a plan's is serves the plan: the tables give its builds, and pass over no match
 -- that splits a character.
-use Rattle.std.proofs.Common.{arith, ◌≡◌, ◌&&◌, ℕ, Bool, true, false, refl, ap, ◌∙◌, List, All}
-use Rattle.std.proofs.lemmas.Grind.{common_steps}
-use Rattle.rx_spec.specs.Builds.{Build}
-use Rattle.rx_spec.specs.Expressions.{Expression}
-use Rattle.rx_spec.specs.Nfas.{Nfa, nfa_of, is_always_start_anchored}
-use Rattle.rx_spec.specs.Plans.{Plan, plan_build, plan_nfa}
-use Rattle.rx_spec.specs.Splits.{skips_splits}
-use Rattle.rx_spec.specs.Tables.{Table}
+use Rattle.rx_spec.proofs.Prelude.{arith, ◌≡◌, ◌&&◌, ℕ, Bool, false, refl, ap, ◌∙◌, List, All, common_steps, Build}
+use Rattle.rx_spec.proofs.Prelude.{Expression, Nfa, nfa_of, is_always_start_anchored, Plan, plan_build, plan_nfa}
+use Rattle.rx_spec.proofs.Prelude.{skips_splits, Table, and-false}
 use Rattle.rx_spec.specs.declared.Direction.{Direction}
 use Rattle.rx_dense.specs.Layouts.{Layout, table_of}
 use Rattle.rx_dense.specs.declared.flags.Flags.{Flags}
@@ -34,10 +29,6 @@ utf8_of : (direction : Direction) (terminator : ℕ) (utf8 : Bool) (es : List Ex
 unfolding nfa_of
 utf8_of direction terminator utf8 es = refl
 
-and_false : (x : Bool) → (x && false) ≡ false
-and_false true = refl
-and_false false = refl
-
 -- ---- one table of an NFA
 
 -- it gives a build, begins where the NFA says, and without UTF-8 mode passes over no match
@@ -52,7 +43,7 @@ dense_serves s nfa l is = record {
   anchored = ap (λ (m : Layout). m.flags.is_always_start_anchored) is.rest;
   whole = λ e.
       ap (λ (m : Layout). m.flags.has_empty && m.flags.is_utf8) is.rest
-      ∙ (ap (λ (utf8 : Bool). nfa.has_empty && utf8) e ∙ and_false nfa.has_empty);
+      ∙ (ap (λ (utf8 : Bool). nfa.has_empty && utf8) e ∙ and-false nfa.has_empty);
 }
 
 -- its flags are those of the dense table

@@ -1,9 +1,6 @@
 -- Tables of a plan can be written and read again.
-use Rattle.std.proofs.Common.{arith, ◌≡◌, ℕ, ◌^◌, ◌<◌, List, [], ◌++◌, length, All, Ok, Result, sym, ap, ◌∙◌, subst}
-use Rattle.std.proofs.Common.{append-nil}
-use Rattle.std.proofs.lemmas.Grind.{common_steps}
-use Rattle.rx_spec.specs.Expressions.{Expression, IsLoopSafe}
-use Rattle.rx_spec.specs.Plans.{Plan}
+use Rattle.rx_spec.proofs.Prelude.{arith, ◌≡◌, ℕ, ◌^◌, ◌<◌, List, [], ◌++◌, length, All, Ok, Result, sym, ap, ◌∙◌}
+use Rattle.rx_spec.proofs.Prelude.{subst, append-nil, common_steps, Expression, IsLoopSafe, Plan}
 use Rattle.rx_spec.specs.declared.Direction.{Direction}
 use Rattle.rx_spec.specs.declared.Form.{Form}
 use Rattle.rx_build.specs.Builders.{Both}
@@ -31,8 +28,7 @@ use Rattle.rx_regex.proofs.Refusals.{in_its_direction}
 few_quits : (p : Plan) (which : PlanTable) → p.quit < 2 ^ 256
     → (settled (in_direction (direction_of which) (settings_for p which)).dense).quit < 2 ^ 256
 few_quits p PlanTable.Forward few = few
-few_quits p PlanTable.Reverse few = few
-few_quits p PlanTable.All few = few
+few_quits p _ few = few
 
 -- reading of one image gives one table
 pub same_read : {X : Type 0} (x y : X) (m n : ℕ) (read : Result (X × ℕ) Kind) → read ≡ Ok (x, m) → read ≡ Ok (y, n)

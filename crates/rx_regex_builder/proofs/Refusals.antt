@@ -1,7 +1,5 @@
 -- What refuses the table in reverse refuses the pair.
-use Rattle.std.proofs.Common.{inr, List}
-use Rattle.rx_spec.specs.Expressions.{Expression}
-use Rattle.rx_spec.specs.Plans.{Cause}
+use Rattle.rx_spec.proofs.Prelude.{inr, List, Expression, Cause}
 use Rattle.rx_build.specs.Builders.{Both}
 use Rattle.rx_build.proofs.Beginnings.{refused_as}
 use Rattle.rx_build_error.specs.Refusals.{IsRefused}

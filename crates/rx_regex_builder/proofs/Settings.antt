@@ -1,6 +1,5 @@
 -- Settings that are taken over where nothing was set stay as they are.
-use Rattle.std.proofs.Common.{◌≡◌, Option, Some, None, refl, ap₂, ◌∙◌}
-use Rattle.std.specs.Option.{option_or}
+use Rattle.rx_spec.proofs.Prelude.{◌≡◌, Option, Some, None, refl, ap₂, ◌∙◌, option_or}
 use Rattle.rx_expr.specs.Settings as nfa
 use Rattle.rx_build.specs.Builders.{Both}
 use Rattle.rx_build.specs.Settings as tables

@@ -1,16 +1,9 @@
 -- How far a walk from a place has come, which row it met last, and what each turn adds.
-use Rattle.std.proofs.lemmas.Grind.{common_steps}
-use Rattle.std.proofs.Common.{◌≡◌, ◌≢◌, ℕ, suc, zero, ◌+◌, ◌-◌, ◌<◌, ◌≤◌, ◌==◌, true, false, Option, Some, None, Ok}
-use Rattle.std.proofs.Common.{Err, List, [], ◌∷◌, length, slice_index, ap, ap₂, sym, ◌∙◌, subst, arith, ⊎_elim}
-use Rattle.std.proofs.lemmas.Bool.{le-ltb, cases_eq, eqb-true, eq-eqb}
-use Rattle.std.proofs.lemmas.Option.{slice_get_past}
-use Rattle.std.specs.Option.{option_or}
-use Rattle.rx_spec.specs.Bytes.{AreBytes}
-use Rattle.rx_spec.specs.HalfSearches.{HalfAnswer}
-use Rattle.rx_spec.specs.Ids.{row_of}
-use Rattle.rx_spec.specs.Queries.{HalfMatch, MatchError}
-use Rattle.rx_spec.specs.Overlapping.{Ending, OverlappingMatches, none_left, pattern_items, with_items}
-use Rattle.rx_spec.specs.Tables.{Table, is_match}
+use Rattle.rx_spec.proofs.Prelude.{common_steps, ◌≡◌, ◌≢◌, ℕ, suc, zero, ◌+◌, ◌-◌, ◌<◌, ◌≤◌, ◌==◌, true, false, Option}
+use Rattle.rx_spec.proofs.Prelude.{Some, None, Ok, Err, List, [], ◌∷◌, length, slice_index, ap, ap₂, sym, ◌∙◌, subst}
+use Rattle.rx_spec.proofs.Prelude.{arith, ⊎_elim, le-ltb, cases_eq, eqb-true, eq-eqb, slice_get_past, option_or}
+use Rattle.rx_spec.proofs.Prelude.{AreBytes, HalfAnswer, row_of, HalfMatch, MatchError, Ending, OverlappingMatches}
+use Rattle.rx_spec.proofs.Prelude.{none_left, pattern_items, with_items, Table, is_match}
 use Rattle.rx_spec.specs.declared.Direction.{Direction}
 use Rattle.lemmas_walks.proofs.Firsts.{by_test}
 use Rattle.lemmas_walks.proofs.Overlapping.{overlapping_walks}
@@ -28,8 +21,9 @@ use Rattle.rx_all.specs.Matches.{query_at, told_at}
 use Rattle.rx_scan.specs.Tokens.{longest, unless_ended}
 use Rattle.rx_scan.specs.Walks.{IsMet, IsLast, LastMet, Walked, kept_met, longest_met, told_later}
 use Rattle.rx_scan.specs.declared.longest.MetRow.{MetRow}
-use Rattle.rx_scan.proofs.LongestMatches.{longest_here, or_none, or_assoc, longest-nil, longest_append, longest_row}
+use Rattle.rx_scan.proofs.LongestMatches.{longest_here, longest-nil, longest_append, longest_row}
 use Rattle.rx_all.proofs.PastOffsets.{AllPast, walk_past}
+use Rattle.lemmas_walks.proofs.Ranges.{or_none, or_assoc}
 
 abbrev pub told : Option HalfMatch → HalfAnswer
 told m = Ok m

@@ -1,13 +1,10 @@
 -- Lines: bytes that are no line feed change nothing.
-use Rattle.std.proofs.Common.{◌≡◌, ◌≢◌, ℕ, zero, suc, ◌+◌, ◌-◌, ◌<◌, ◌≤◌, Bool, true, false, if◌then◌else◌, Option}
-use Rattle.std.proofs.Common.{Some, None, ⊎_elim, List, length, take, drop, refl, ap, sym, ◌∙◌, arith, length-drop}
-use Rattle.std.proofs.Common.{length-take-le}
-use Rattle.std.proofs.lemmas.Bool.{false_from_ne_true, cases_eq}
-use Rattle.std.proofs.lemmas.List.{get_or-take, get_or-drop}
-use Rattle.std.proofs.lemmas.Option.{slice_get-get_or}
-use Rattle.std.specs.Prelude.{slice_index}
+use Rattle.rx_spec.proofs.Prelude.{◌≡◌, ◌≢◌, ℕ, zero, suc, ◌+◌, ◌-◌, ◌<◌, ◌≤◌, Bool, true, false, if◌then◌else◌, Option}
+use Rattle.rx_spec.proofs.Prelude.{Some, None, ⊎_elim, List, length, take, drop, refl, ap, sym, ◌∙◌, arith, length-drop}
+use Rattle.rx_spec.proofs.Prelude.{length-take-le, false_from_ne_true, cases_eq, get_or-take, get_or-drop}
+use Rattle.rx_spec.proofs.Prelude.{slice_get-get_or, slice_index, after}
 use Rattle.memchr.specs.Find.{IsFirstByte, is_byte as is}
-use Rattle.rx_spec.specs.Looks.{after, is_byte}
+use Rattle.rx_spec.specs.Looks.{is_byte}
 use Rattle.lemmas_walks.proofs.Firsts.{by_test}
 use Rattle.rx_scan.specs.Tokens.{line_feeds, line_start}
 

@@ -1,26 +1,14 @@
 -- The longest of what is told: what is told later ends later, and of a row's patterns the lowest is it.
-use Rattle.std.proofs.lemmas.Grind.{common_steps}
-use Rattle.std.proofs.Common.{◌≡◌, ℕ, ◌<◌, ◌≤◌, Bool, true, false, if◌then◌else◌, Option, Some, None, List, [], ◌∷◌}
-use Rattle.std.proofs.Common.{◌++◌, refl, ap, sym, ◌∙◌, subst, arith, ⊎_elim, ◌⊎◌, inl}
-use Rattle.std.proofs.lemmas.Bool.{ltb-true, ltb-false, lt-ltb, le-ltb, eq-eqb, or_left, or_right, and_from, or_parts}
-use Rattle.std.proofs.lemmas.Bool.{eqb-true, and_parts}
-use Rattle.std.proofs.lemmas.List.Elements.{All-nil, All-cons}
-use Rattle.std.specs.Prelude.{nat_lt, Contains}
-use Rattle.std.specs.Option.{option_or}
-use Rattle.rx_spec.specs.Queries.{HalfMatch}
-use Rattle.rx_spec.specs.Overlapping.{Item, pattern_items}
+use Rattle.rx_spec.proofs.Prelude.{common_steps, ◌≡◌, ℕ, ◌<◌, ◌≤◌, Bool, true, false, if◌then◌else◌, Option, Some, None}
+use Rattle.rx_spec.proofs.Prelude.{List, [], ◌∷◌, ◌++◌, refl, ap, sym, ◌∙◌, subst, arith, ⊎_elim, ◌⊎◌, inl, ltb-true}
+use Rattle.rx_spec.proofs.Prelude.{ltb-false, lt-ltb, le-ltb, eq-eqb, or_left, or_right, and_from, or_parts, eqb-true}
+use Rattle.rx_spec.proofs.Prelude.{and_parts, All-nil, All-cons, nat_lt, Contains, option_or, HalfMatch, Item}
+use Rattle.rx_spec.proofs.Prelude.{pattern_items}
 use Rattle.lemmas_walks.proofs.Firsts.{by_test, Contains-here, Contains-there, Contains-cases, Contains-nil}
 use Rattle.rx_all.proofs.PastOffsets.{AllPast}
 use Rattle.rx_scan.specs.Tokens.{comes_before, first_of_two, longest}
 use Rattle.rx_scan.specs.Walks.{IsLowest}
-
-pub or_none : {V : Type 0} (a : Option V) → option_or a None ≡ a
-or_none None = refl
-or_none (Some v) = refl
-
-pub or_assoc : {V : Type 0} (a b c : Option V) → option_or (option_or a b) c ≡ option_or a (option_or b c)
-or_assoc None b c = refl
-or_assoc (Some v) b c = refl
+use Rattle.lemmas_walks.proofs.Ranges.{or_none}
 
 -- ---- one item more
 
@@ -216,16 +204,13 @@ longest_there p (Item.Reported n ∷ items) m e =
 reported_same : (m n : HalfMatch) → Item.Reported m ≡ Item.Reported n → m ≡ n
 reported_same m n e = cc
 
-skipped_not : (n : HalfMatch) → Item.Skipped ≡ Item.Reported n → ⊥
-skipped_not n e = cc
-
 -- where there is one past the place, there is a longest
 pub some_longest : (p : ℕ) (items : List Item) (n : HalfMatch) → Contains items (Item.Reported n) → p < n.offset
     → (m : HalfMatch) × (longest p items ≡ Some m) × NotAfter m n
 some_longest p [] n c h = absurd (Contains-nil (Item.Reported n) c)
 some_longest p (Item.Skipped ∷ items) n c h =
     ⊎_elim
-    (λ (same : Item.Skipped ≡ Item.Reported n). absurd (skipped_not n same))
+    (λ (same : Item.Skipped ≡ Item.Reported n). absurd (cc))
     (λ (d : Contains items (Item.Reported n)).
     let later = some_longest p items n d h in (later.0, longest_skips p items ∙ later.1, later.2))
     (Contains-cases Item.Skipped items (Item.Reported n) c)

@@ -1,9 +1,7 @@
 -- The lowest of some patterns, one more at a time.
-use Rattle.std.proofs.lemmas.Grind.{common_steps}
-use Rattle.std.proofs.Common.{◌≡◌, ℕ, zero, suc, ◌+◌, ◌<◌, ◌≤◌, List, [], ◌∷◌, ◌++◌, length, take, refl, ap, sym, ◌∙◌}
-use Rattle.std.proofs.Common.{subst, arith}
-use Rattle.std.proofs.lemmas.List.Elements.{All-nil, All-cons, All-append, All-weaker, Contains-append_right}
-use Rattle.std.specs.Prelude.{slice_index}
+use Rattle.rx_spec.proofs.Prelude.{common_steps, ◌≡◌, ℕ, zero, suc, ◌+◌, ◌<◌, ◌≤◌, List, [], ◌∷◌, ◌++◌, length, take}
+use Rattle.rx_spec.proofs.Prelude.{refl, ap, sym, ◌∙◌, subst, arith, All-nil, All-cons, All-append, All-weaker}
+use Rattle.rx_spec.proofs.Prelude.{Contains-append_right, slice_index}
 use Rattle.lemmas_walks.proofs.Firsts.{Contains-here}
 use Rattle.rx_scan.specs.Walks.{IsLowest}
 

@@ -1,17 +1,9 @@
 -- Where tokens start: a start that was asked for once is that of each place behind the same byte.
-use Rattle.std.proofs.lemmas.Grind.{common_steps, get_or_default_zero, get_or-set_at}
-use Rattle.std.proofs.Common.{◌==◌, true, ◌≡◌, ◌≢◌, ℕ, suc, ◌-◌, ◌<◌, ◌≤◌, Option, Some, List, length, slice_index_or}
-use Rattle.std.proofs.Common.{None, slice_set, ap, sym, ◌∙◌, subst, arith, ⊎_elim}
-use Rattle.std.proofs.lemmas.Bool.{cases_eq, eq-eqb}
-use Rattle.std.specs.Prelude.{not}
-use Rattle.std.proofs.lemmas.List.{get_or-set_other}
-use Rattle.std.proofs.lemmas.Option.{slice_get-get_or}
-use Rattle.rx_spec.specs.Bytes.{AreBytes}
-use Rattle.rx_spec.specs.Ids.{row_of}
-use Rattle.rx_spec.specs.Looks.{before}
-use Rattle.rx_spec.specs.Queries.{Anchored}
-use Rattle.rx_spec.specs.Starts.{start_error, start_row}
-use Rattle.rx_spec.specs.Tables.{Table}
+use Rattle.rx_spec.proofs.Prelude.{common_steps, get_or-set_at, ◌==◌, true, ◌≡◌, ◌≢◌, ℕ, suc, ◌-◌, ◌<◌, ◌≤◌, Option}
+use Rattle.rx_spec.proofs.Prelude.{Some, List, length, slice_index_or, None, slice_set, ap, sym, ◌∙◌, subst, arith}
+use Rattle.rx_spec.proofs.Prelude.{⊎_elim, cases_eq, eq-eqb, not, get_or-set_other, slice_get-get_or, AreBytes, row_of}
+use Rattle.rx_spec.proofs.Prelude.{before, Anchored, start_error, start_row, Table}
+use Rattle.std.proofs.lemmas.Grind.{get_or_default_zero}
 use Rattle.rx_spec.specs.declared.Direction.{Direction}
 use Rattle.rx_search.specs.Starts.{IsId, IsStart}
 use Rattle.rx_all.specs.Matches.{query_at}

@@ -1,12 +1,6 @@
 -- The longest of what is told at a place is the longest match there, over a table that tells all matches.
-use Rattle.std.proofs.lemmas.Grind.{common_steps}
-use Rattle.std.proofs.Common.{◌≡◌, ℕ, ◌<◌, ◌≤◌, Option, Some, None, Ok, List, refl, sym, ◌∙◌, subst, arith, ⊎_elim}
-use Rattle.std.proofs.lemmas.Bool.{cases_lt}
-use Rattle.rx_spec.specs.Expressions.{Expression}
-use Rattle.rx_spec.specs.Queries.{HalfMatch}
-use Rattle.rx_spec.specs.Overlapping.{Ending, OverlappingMatches}
-use Rattle.rx_spec.specs.Plans.{Plan}
-use Rattle.rx_spec.specs.Tables.{Table}
+use Rattle.rx_spec.proofs.Prelude.{common_steps, ◌≡◌, ℕ, ◌<◌, ◌≤◌, Option, Some, None, Ok, List, refl, subst, arith}
+use Rattle.rx_spec.proofs.Prelude.{⊎_elim, cases_lt, Expression, HalfMatch, Ending, OverlappingMatches, Plan, Table}
 use Rattle.rx_all.specs.Matches.{IsPlaced, MatchesTo, told_at}
 use Rattle.rx_all.proofs.AllMatches.{all_are_told}
 use Rattle.rx_scan.specs.Meanings.{IsLongestMatch}
@@ -34,7 +28,7 @@ module _ {t : Table} {plan : Plan} {es : List Expression} {text : List ℕ} {p :
       let one = some_longest p found.items (record { pattern = k; offset = end })
       ((all_are_told t plan es text p is told.0 k end).1 matches) past in
       subst (λ (x : HalfMatch). NotAfter x (record { pattern = k; offset = end }))
-      (some_same one.0 (sym one.1 ∙ told.1))
+      (cc (one.1, told.1))
       one.2 in
       record {
         above = above;
@@ -46,9 +40,6 @@ module _ {t : Table} {plan : Plan} {es : List Expression} {text : List ℕ} {p :
             (cases_lt p end);
         lowest = λ k matches. (first k m.offset matches above).lower refl;
       }
-    where
-      some_same : (n : HalfMatch) → Some n ≡ Some m → n ≡ m
-      some_same n e = cc
 
   -- where there is none, no pattern has an end past the place
   pub none_matches : longest_of p (told_at t text p) ≡ Ok None → (k end : ℕ)
@@ -58,9 +49,6 @@ module _ {t : Table} {plan : Plan} {es : List Expression} {text : List ℕ} {p :
       ⊎_elim
       (λ (past : p < end). absurd (let one = some_longest p found.items (record { pattern = k; offset = end })
       ((all_are_told t plan es text p is told.0 k end).1 matches) past in
-      none_some one.0 (sym told.1 ∙ one.1)))
+      cc (told.1, one.1)))
       (λ (low : end ≤ p). low)
       (cases_lt p end)
-    where
-      none_some : (n : HalfMatch) → None ≡ Some n → ⊥
-      none_some n e = cc

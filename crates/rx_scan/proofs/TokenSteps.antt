@@ -1,19 +1,13 @@
 -- The tokens from a place on: the first of them, and those behind it.
-use Rattle.std.proofs.lemmas.Grind.{common_steps}
-use Rattle.std.proofs.Common.{◌≡◌, ℕ, zero, suc, ◌+◌, ◌-◌, ◌<◌, ◌≤◌, Bool, true, false, Option, Some, None, Ok, Err}
-use Rattle.std.proofs.Common.{List, ◌∷◌, length, refl, ap, sym, ◌∙◌, subst, arith}
-use Rattle.std.proofs.lemmas.Bool.{ltb-true, ltb-false, lt-ltb, le-ltb}
-use Rattle.std.specs.Prelude.{nat_lt, is_some}
-use Rattle.rx_spec.specs.Queries.{HalfMatch, MatchError}
-use Rattle.rx_spec.specs.HalfSearches.{HalfAnswer}
-use Rattle.rx_spec.specs.Overlapping.{Ending, OverlappingMatches}
-use Rattle.rx_spec.specs.Tables.{Table}
+use Rattle.rx_spec.proofs.Prelude.{common_steps, ◌≡◌, ℕ, zero, suc, ◌+◌, ◌-◌, ◌<◌, ◌≤◌, Bool, true, false, Option, Some}
+use Rattle.rx_spec.proofs.Prelude.{None, Ok, List, ◌∷◌, length, refl, ap, sym, ◌∙◌, subst, arith, ltb-true, ltb-false}
+use Rattle.rx_spec.proofs.Prelude.{lt-ltb, le-ltb, nat_lt, is_some, HalfMatch, MatchError, HalfAnswer, Ending}
+use Rattle.rx_spec.proofs.Prelude.{OverlappingMatches, Table, AreBytes}
 use Rattle.lemmas_walks.proofs.Firsts.{by_test}
 use Rattle.rx_all.specs.Matches.{query_at, told_at}
 use Rattle.rx_scan.specs.Tokens.{longest, longest_of, unless_ended, Tokens, no_more, token_at, then_tokens, tokens_from}
 use Rattle.rx_scan.specs.Tokens.{tokens_left, error_end, Scan, NextToken, line_feeds, line_start, Cover, IsMeant}
 use Rattle.rx_scan.specs.Tokens.{IsMeantEnd}
-use Rattle.rx_spec.specs.Bytes.{AreBytes}
 use Rattle.rx_spec.specs.declared.Direction.{Direction}
 use Rattle.lemmas_walks.proofs.OverlappingBounds.{overlapping_in_span}
 use Rattle.rx_scan.proofs.TokenMeanings.{longest_is_match, none_matches}
@@ -29,9 +23,8 @@ longest_of_ends p matches m e = grind (arith, common_steps, longest_ends)
 then_alike : (text : List ℕ) (p : ℕ) (answer : HalfAnswer) (f g : ℕ → Tokens)
     → ((m : HalfMatch) → answer ≡ Ok (Some m) → f m.offset ≡ g m.offset)
     → then_tokens text p answer f ≡ then_tokens text p answer g
-then_alike text p (Ok None) f g same = refl
 then_alike text p (Ok (Some m)) f g same = grind (arith, common_steps)
-then_alike text p (Err error) f g same = refl
+then_alike text p _ f g same = refl
 
 module _ (t : Table) (text : List ℕ) where
   abbrev answer : ℕ → HalfAnswer
@@ -104,9 +97,7 @@ module _ (t : Table) (text : List ℕ) where
       → Cover text p (then_tokens text p answer (λ next. tokens_from t text n next))
   cover_by n p more (Ok None) is rest = no_cover p more (ScanEnd.Stuck p) (λ e. absurd (cc))
   cover_by n p more (Ok (Some m)) is rest = grind (arith, common_steps, longest_of_ends, longest_of_within)
-  cover_by n p more (Err (MatchError.Quit byte offset)) is rest = grind (arith, common_steps, no_cover)
-  cover_by n p more (Err (MatchError.UnsupportedAnchored mode)) is rest = grind (arith, common_steps, no_cover)
-  cover_by n p more (Err (MatchError.PairMismatch f r)) is rest = grind (arith, common_steps, no_cover)
+  cover_by n p more _ is rest = grind (arith, common_steps, no_cover)
 
   pub tokens_cover : (n p : ℕ) → length text - p ≤ n → p ≤ length text → Cover text p (tokens_from t text n p)
   tokens_cover zero p h within = grind (arith, common_steps, no_bytes, done_cover)
@@ -203,5 +194,4 @@ stuck_meant t text p more bytes none plan es safe serves =
 
 pub error_meant : (t : Table) (text : List ℕ) (error : MatchError) → IsMeantEnd t text (error_end error)
 error_meant t text (MatchError.Quit byte offset) = tt
-error_meant t text (MatchError.UnsupportedAnchored mode) = tt
-error_meant t text (MatchError.PairMismatch forward reverse) = tt
+error_meant t text _ = tt

@@ -1,13 +1,7 @@
 -- All tokens of a text are the longest matches from where they start, over a table that tells all matches.
-use Rattle.std.proofs.Common.{◌≡◌, ℕ, zero, suc, ◌-◌, ◌<◌, Some, None, Ok, Err, List, length, All, refl, sym, subst}
-use Rattle.std.proofs.lemmas.Bool.{ltb-true, ltb-false}
-use Rattle.std.proofs.lemmas.List.Elements.{All-cons, All-nil}
-use Rattle.std.specs.Prelude.{nat_lt}
-use Rattle.rx_spec.specs.Bytes.{AreBytes}
-use Rattle.rx_spec.specs.Expressions.{Expression, IsLoopSafe}
-use Rattle.rx_spec.specs.HalfSearches.{HalfAnswer}
-use Rattle.rx_spec.specs.Plans.{Plan}
-use Rattle.rx_spec.specs.Tables.{Table}
+use Rattle.rx_spec.proofs.Prelude.{◌≡◌, ℕ, zero, suc, ◌-◌, ◌<◌, Some, Ok, List, length, All, refl, sym, subst, ltb-true}
+use Rattle.rx_spec.proofs.Prelude.{ltb-false, All-cons, All-nil, nat_lt, AreBytes, Expression, IsLoopSafe, HalfAnswer}
+use Rattle.rx_spec.proofs.Prelude.{Plan, Table}
 use Rattle.lemmas_walks.proofs.Firsts.{by_test}
 use Rattle.rx_all.specs.Builds.{all_build}
 use Rattle.rx_all.specs.Matches.{ServesAll, told_at}
@@ -28,12 +22,11 @@ module _ (t : Table) (plan : Plan) (es : List Expression) (text : List ℕ) (ser
   longest_by : (n p : ℕ) → p < length text → (answer : HalfAnswer) → longest_of p (told_at t text p) ≡ answer
       → ((next : ℕ) → AreLongest (tokens_from t text n next))
       → AreLongest (then_tokens text p answer (λ next. tokens_from t text n next))
-  longest_by n p more (Ok None) is rest = All-nil IsLongest
   longest_by n p more (Ok (Some m)) is rest =
       All-cons IsLongest (token_at text p m) (tokens_from t text n m.offset).tokens
       (longest_is_match {plan = plan} (record { serves = serves; safe = safe; bytes = bytes; more = more }) m is)
       (rest m.offset)
-  longest_by n p more (Err error) is rest = All-nil IsLongest
+  longest_by n p more _ is rest = All-nil IsLongest
 
   none_longest : (p : ℕ) → AreLongest (tokens_from t text zero p)
   unfolding tokens_from

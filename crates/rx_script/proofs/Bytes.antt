@@ -1,41 +1,20 @@
 -- Bytes: what is read is spelled so, and what is spelled so is read.
-use Rattle.std.proofs.lemmas.Grind.{common_steps}
-use Rattle.std.proofs.Common.{◌≡◌, inl, inr, ℕ, ◌+◌, ◌-◌, ◌*◌, ◌<◌, ◌≤◌, Bool, true, false, ◌&&◌, cond, eqb, leb, List}
-use Rattle.std.proofs.Common.{[], ◌∷◌, length, Option, Some, None, refl, sym, ap, subst, ◌∙◌, arith}
-use Rattle.std.specs.Prelude.{codes}
-use Rattle.std.specs.Str.{bytes_eq}
-use Rattle.std.proofs.lemmas.Bool.{cases_Bool, and_parts, and_from, and_left, and_right, leb-true, le-leb, lt-leb}
-use Rattle.std.proofs.lemmas.Bool.{ne_eqb}
-use Rattle.std.proofs.lemmas.Option.{same_Some, none-some}
+use Rattle.rx_spec.proofs.Prelude.{common_steps, ◌≡◌, inl, inr, ℕ, ◌+◌, ◌-◌, ◌*◌, cond, eqb, List, [], ◌∷◌, length}
+use Rattle.rx_spec.proofs.Prelude.{Option, Some, None, refl, sym, ap, subst, ◌∙◌, arith, codes, bytes_eq, cases_Bool}
+use Rattle.rx_spec.proofs.Prelude.{ne_eqb, same_Some}
 use Rattle.rx_script.specs.Tokens.{digit_of, byte_from, byte_of, one_byte, with_byte, pairs_of, bytes_of}
 use Rattle.rx_script.specs.Grammar.{SpellsDigit, SpellsPair, SpellsByte, SpellsPairs, SpellsBytes}
-use Rattle.rx_script.proofs.Tables.{same_word, other_word}
+use Rattle.rx_script.proofs.Tables.{same_word}
 
 -- ---- digits
 
--- a code in a range, and one outside
-abbrev within : ℕ → ℕ → ℕ → Bool
-within low high c = leb low c && leb c high
-
-inside : (low high c : ℕ) → low ≤ c → c ≤ high → within low high c ≡ true
-inside low high c p q = and_from (leb low c) (leb c high) (le-leb low c p) (le-leb c high q)
-
-bounds : (low high c : ℕ) → within low high c ≡ true → (low ≤ c) × (c ≤ high)
-bounds low high c e = let p = and_parts (leb low c) (leb c high) e in (leb-true low c p.0, leb-true c high p.1)
-
-below : (low high c : ℕ) → c < low → within low high c ≡ false
-below low high c lt = and_left (leb low c) (leb c high) (lt-leb low c lt)
-
-above : (low high c : ℕ) → high < c → within low high c ≡ false
-above low high c lt = and_right (leb low c) (leb c high) (lt-leb c high lt)
-
 pub digit_spelled : (c v : ℕ) → digit_of c ≡ Some v → SpellsDigit v c
-digit_spelled c v e = grind (arith, common_steps, cases_Bool, same_Some, bounds, none-some)
+digit_spelled c v e = grind (arith, common_steps, cases_Bool)
 
 digit_read : (c v : ℕ) → SpellsDigit v c → digit_of c ≡ Some v
-digit_read c v (inl d) = grind (arith, common_steps, inside)
-digit_read c v (inr (low, high, inl small)) = grind (arith, common_steps, above, inside)
-digit_read c v (inr (low, high, inr capital)) = grind (arith, common_steps, above, below, inside)
+digit_read c v (inl d) = grind (arith, common_steps)
+digit_read c v (inr (low, high, inl small)) = grind (arith, common_steps)
+digit_read c v (inr (low, high, inr capital)) = grind (arith, common_steps)
 
 -- ---- bytes
 
@@ -51,7 +30,7 @@ pub pair_read : (high low b : ℕ) → SpellsPair b high low → byte_of high lo
 pair_read high low b s = rw (digit_read high s.0 s.2, digit_read low s.1 s.3) (ap (λ (x : ℕ). Some x) (sym s.4))
 
 pub byte_spelled : (word : List ℕ) (b : ℕ) → one_byte word ≡ Some b → SpellsByte b word
-byte_spelled (high ∷ (low ∷ [])) b e = grind (arith, common_steps, pair_spelled)
+byte_spelled (high ∷ (low ∷ [])) b e = grind (arith, common_steps)
 byte_spelled [] b e = absurd cc
 byte_spelled (c ∷ []) b e = absurd cc
 byte_spelled (c ∷ (d ∷ (e ∷ es))) b z = absurd cc
@@ -107,4 +86,4 @@ unfolding bytes_of
 bytes_read word [] s = ap bytes_of s
 bytes_read [] (b ∷ bs) s = absurd s
 bytes_read (c ∷ []) (b ∷ bs) s = absurd s
-bytes_read (high ∷ (low ∷ cs)) (b ∷ bs) s = grind (arith, common_steps, other_word, ne_eqb, pairs_read)
+bytes_read (high ∷ (low ∷ cs)) (b ∷ bs) s = grind (arith, common_steps, pairs_read)

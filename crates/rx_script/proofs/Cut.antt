@@ -1,14 +1,12 @@
 -- Cutting a text at a byte, and its first line.
-use Rattle.std.proofs.lemmas.Grind.{common_steps}
-use Rattle.std.proofs.Common.{◌≡◌, ℕ, suc, ◌+◌, ◌<◌, ◌≤◌, Bool, true, false, not, cond, eqb, ltb, List, [], ◌∷◌, length}
-use Rattle.std.proofs.Common.{take, drop, Option, Some, None, refl, sym, ap, ◌∙◌, arith}
-use Rattle.std.specs.List.{slice_split, onto_first, position, position_or_len}
-use Rattle.std.proofs.lemmas.List.{take_all}
-use Rattle.std.proofs.lemmas.Bool.Decides.{nat_tests}
-use Rattle.std.proofs.lemmas.Bool.{false_from_ne_true, ltb-true, ltb-false, lt-ltb, le-ltb}
+use Rattle.rx_spec.proofs.Prelude.{common_steps, ◌≡◌, ℕ, suc, ◌+◌, ◌<◌, ◌≤◌, Bool, true, false, not, cond, eqb, ltb}
+use Rattle.rx_spec.proofs.Prelude.{List, [], ◌∷◌, length, take, drop, Option, Some, None, refl, sym, ap, ◌∙◌, arith}
+use Rattle.rx_spec.proofs.Prelude.{slice_split, position_or_len, nat_tests, false_from_ne_true, ltb-true, ltb-false}
+use Rattle.rx_spec.proofs.Prelude.{lt-ltb, le-ltb, position_or_len_is, slice_split_none}
+use Rattle.std.specs.List.{onto_first, position}
 use Rattle.std.proofs.lemmas.Option.{cond_some}
-use Rattle.std.proofs.lemmas.List.Sums.{fails_before_first, position_or_len_is}
-use Rattle.std.proofs.lemmas.List.Splits.{slice_split_first, slice_split_none}
+use Rattle.std.proofs.lemmas.List.Sums.{fails_before_first}
+use Rattle.std.proofs.lemmas.List.Splits.{slice_split_first}
 use Rattle.memchr.specs.Find.{IsFirstByte, is_byte}
 use Rattle.rx_script.specs.Pieces.{lines_of, cut, pieces_left, bytes_left}
 
@@ -23,13 +21,13 @@ pub first_is_position
 first_is_position c text None nowhere =
     let p = λ (b : ℕ). eqb b c in
     let fails = λ (k : ℕ) (h : k < length text). false_from_ne_true _ (nowhere k (omega arith) h) in
-    let end = position_or_len_is p text (length text) 0 (omega arith) fails (λ h. absurd (omega (arith, h))) in
-    rw (le-ltb (position_or_len p text) (length text) (omega (arith, end))) refl
+    let end = position_or_len_is p text (length text) 0 (omega arith) fails (λ h. absurd (omega arith)) in
+    rw (le-ltb (position_or_len p text) (length text) (omega arith)) refl
 first_is_position c text (Some at) found =
     let p = λ (b : ℕ). eqb b c in
     let high = found.0.high in
     let fails = λ (k : ℕ) (h : k < at). false_from_ne_true _ (found.0.before k (omega arith) h) in
-    let place = position_or_len_is p text at 0 (omega (arith, high)) fails (λ h. found.1) in
+    let place = position_or_len_is p text at 0 (omega arith) fails (λ h. found.1) in
     rw (place, lt-ltb at (length text) high) refl
 
 pub split_at
@@ -78,7 +76,7 @@ cut_at c text at e =
     cut_is c text ∙ rw h.0 (ap (λ (n : ℕ). (take n text, Some (drop (n + 1) text))) h.1)
 
 pub cut_none : (c : ℕ) (text : List ℕ) → position (λ b. eqb b c) text ≡ None → cut c text ≡ (text, None)
-cut_none c text e = grind (arith, common_steps, chosen_none, cut_is, take_all, ltb-false)
+cut_none c text e = grind (arith, common_steps, chosen_none, cut_is)
 
 -- the pieces, but for a last one that is empty
 abbrev pub alone : List ℕ → List (List ℕ)

@@ -1,8 +1,7 @@
 -- Expressions: what is spelled so is read.
-use Rattle.std.proofs.Common.{◌≡◌, ℕ, suc, ◌+◌, ◌-◌, Bool, false, List, [], ◌∷◌, ◌++◌, Option, Some, None, Result, Ok}
-use Rattle.std.proofs.Common.{Err, refl, sym, ap, ◌∙◌, append_assoc, append-nil, arith}
-use Rattle.std.proofs.lemmas.Bool.{le-ltb, ne_eqb}
-use Rattle.rx_spec.specs.Expressions.{Expression, min_len, depth, IsBounded}
+use Rattle.rx_spec.proofs.Prelude.{◌≡◌, ℕ, suc, ◌+◌, ◌-◌, Bool, false, List, [], ◌∷◌, ◌++◌, Option, Some, None, Result}
+use Rattle.rx_spec.proofs.Prelude.{Ok, Err, refl, sym, ap, ◌∙◌, append_assoc, append-nil, arith, le-ltb, ne_eqb}
+use Rattle.rx_spec.proofs.Prelude.{Expression, min_len, depth, IsBounded}
 use Rattle.rx_spec.specs.declared.Look.{Look}
 use Rattle.rx_expr.specs.Expr.{literal_of}
 use Rattle.rx_script.specs.Tokens.{number_of, most_of, bytes_of, set_of_word}
@@ -226,10 +225,6 @@ phrase_made
     : (n : ℕ) (p : Phrase) (parts : List Expression) → IsAccepted p
     → made_onto n (items_of p) parts ≡ Ok (meaning p ∷ parts)
 unfolding made_onto
-phrase_made n Phrase.Empty parts a = refl
-phrase_made n (Phrase.Literal bytes) parts a = refl
-phrase_made n (Phrase.Class set) parts a = refl
-phrase_made n (Phrase.Look look) parts a = refl
 phrase_made n (Phrase.Concat p q) parts a =
     let second = phrase_made n q parts a.1 in
     let first = phrase_made n p (meaning q ∷ parts) a.0 in
@@ -244,6 +239,7 @@ phrase_made n (Phrase.Repeat least most greedy body) parts a =
     let b = in_bounds least most (meaning body) a.1 in
     rw (phrase_made n body parts a.0, b.0, b.1)
     (within_depth n (Expression.Repeat least most greedy (meaning body)) parts a.2)
+phrase_made n _ parts a = refl
 
 nothing_left : (n : ℕ) → items_at n Awaited.Head 0 [] ≡ Ok []
 unfolding items_at

@@ -1,10 +1,8 @@
 -- Expressions: what is read is spelled so.
-use Rattle.std.proofs.Common.{◌≡◌, ◌≢◌, ℕ, suc, ◌+◌, ◌-◌, ◌<◌, Bool, eqb, ltb, List, [], ◌∷◌, ◌++◌, length, Option}
-use Rattle.std.proofs.Common.{Some, None, Result, Ok, refl, sym, ap, subst, ◌∙◌, append_assoc, append-nil, arith, inl}
-use Rattle.std.proofs.Common.{inr}
-use Rattle.std.specs.Option.{option_to_list}
-use Rattle.std.proofs.lemmas.Bool.{cases_Bool, eqb-true, eqb-false, ltb-false}
-use Rattle.rx_spec.specs.Expressions.{Expression, min_len, depth, IsBounded}
+use Rattle.rx_spec.proofs.Prelude.{◌≡◌, ℕ, suc, ◌+◌, ◌-◌, ◌<◌, Bool, eqb, ltb, List, [], ◌∷◌, ◌++◌, length, Option}
+use Rattle.rx_spec.proofs.Prelude.{Some, None, Result, Ok, refl, sym, ap, subst, ◌∙◌, append_assoc, append-nil, arith}
+use Rattle.rx_spec.proofs.Prelude.{inl, inr, option_to_list, cases_Bool, eqb-true, eqb-false, ltb-false, Expression}
+use Rattle.rx_spec.proofs.Prelude.{min_len, depth, IsBounded}
 use Rattle.rx_spec.specs.declared.Look.{Look}
 use Rattle.rx_expr.specs.Expr.{literal_of}
 use Rattle.rx_script.specs.declared.expression.Item.{Item}
@@ -26,6 +24,7 @@ use Rattle.rx_script.proofs.Numbers.{number_spelled, most_spelled}
 use Rattle.rx_script.proofs.Bytes.{bytes_spelled}
 use Rattle.rx_script.proofs.Sets.{set_spelled}
 use Rattle.rx_script.proofs.Phrases.{items_of, SpellsPhrases, all_items, told}
+use Rattle.std.proofs.Math.Nat.{pos_of_ne-zero}
 
 -- ---- what is awaited is spelled
 
@@ -245,13 +244,13 @@ two_first {missing = missing} {head = head} {item = item} {words = words} {items
       on
           : (ps : List Phrase) → length ps ≡ missing + 1 → SpellsPhrases ps words → g.more ≡ all_items ps
           → AreSpelled missing (head_name head ∷ words) items
-      on [] c p q = absurd (omega (arith, c))
-      on (a ∷ []) c p q = absurd (omega (arith, c))
+      on [] c p q = absurd (omega arith)
+      on (a ∷ []) c p q = absurd (omega arith)
       on (a ∷ (b ∷ ps)) c (xs, ys, sa, (xs', ys', sb, sp, e'), e) q =
           let front = λ (l : List (List ℕ)). head_name head ∷ l in
           let joined = e ∙ ap (λ (l : List (List ℕ)). xs ++ l) e' ∙ sym (append_assoc xs xs' ys') in record {
             phrases = j.join a b ∷ ps;
-            count = omega (arith, c);
+            count = omega arith;
             spelled = (head_name head ∷ (xs ++ xs'), ys', j.spells a b xs xs' sa sb, sp, ap front joined);
             items_are =
                 g.items_are
@@ -323,7 +322,7 @@ repeat_first {missing = missing} {words = words} {items = items} some r =
       on
           : (ps : List Phrase) → length ps ≡ missing → SpellsPhrases ps r.rest → r.more ≡ all_items ps
           → AreSpelled missing (head_name Head.Repeat ∷ words) items
-      on [] c p q = absurd (omega (arith, c))
+      on [] c p q = absurd (omega arith)
       on (body ∷ ps) c (xs, ys, spelled, others, e) q =
           let front = λ (l : List (List ℕ)). head_name Head.Repeat ∷ (r.low ∷ (r.high ∷ (greed_name r.greedy ∷ l))) in
           let phrase : SpellsPhrase (Phrase.Repeat r.least r.most r.greedy body) (front xs) = record {
@@ -372,13 +371,10 @@ head_step
 unfolding take_word take_head
 head_step n {missing = missing} {words = words} {items = items} word s = elim (cases_Bool (eqb missing 0)) [
   | inl h ↦ absurd (clash (rw h at s.took))
-  | inr h ↦ on (head_of word) (positive missing (eqb-false missing 0 h)) refl (rw h at s.took)
+  | inr h ↦ on (head_of word) (pos_of_ne-zero (eqb-false missing 0 h)) refl (rw h at s.took)
 ] where
   clash : refused n BadKind.Expr ≡ Ok s.t → ⊥
   clash z = cc
-
-  positive : (m : ℕ) → m ≢ 0 → 0 < m
-  positive m h = omega arith
 
   on
       : (o : Option Head) → 0 < missing → head_of word ≡ o → by_head n missing o ≡ Ok s.t
@@ -405,11 +401,7 @@ nothing_left n missing Awaited.Head items e = elim (cases_Bool (eqb missing 0)) 
   clash : refused n BadKind.Expr ≡ Ok items → ⊥
   clash z = cc
 nothing_left n missing Awaited.Bytes items e = absurd cc
-nothing_left n missing Awaited.Set items e = absurd cc
-nothing_left n missing Awaited.Name items e = absurd cc
-nothing_left n missing Awaited.Least items e = absurd cc
-nothing_left n missing (Awaited.Most least) items e = absurd cc
-nothing_left n missing (Awaited.Greed least most) items e = absurd cc
+nothing_left n missing _ items e = absurd cc
 
 word_step
     : (n missing : ℕ) {words : List (List ℕ)} {items : List Item} (awaited : Awaited) (word : List ℕ)
@@ -469,11 +461,8 @@ repeat_finished
     → IsBounded least most body × (shallow n (Expression.Repeat least most greedy body) parts ≡ Ok out)
 repeat_finished n least None greedy body parts out h = elim (cases_Bool (eqb (min_len body) 0)) [
   | inl p ↦ absurd (clash (rw p at h))
-  | inr p ↦ (positive (min_len body) (eqb-false (min_len body) 0 p), rw p at h)
+  | inr p ↦ (pos_of_ne-zero (eqb-false (min_len body) 0 p), rw p at h)
 ] where
-  positive : (m : ℕ) → m ≢ 0 → 0 < m
-  positive m z = omega arith
-
   clash : refused n BadKind.EmptyBody ≡ Ok out → ⊥
   clash z = cc
 repeat_finished n least (Some most) greedy body parts out h = elim (cases_Bool (ltb most least)) [
@@ -563,8 +552,8 @@ expression_spelled n words e h =
       on
           : {parts : List Expression} (ps : List Phrase) → length ps ≡ 1 → SpellsPhrases ps words
           → made_onto n (all_items ps) [] ≡ Ok parts → single_of n parts ≡ Ok e → SpellsExpression e words
-      on [] c s m z = absurd (omega (arith, c))
-      on (p ∷ (q ∷ ps)) c s m z = absurd (omega (arith, c))
+      on [] c s m z = absurd (omega arith)
+      on (p ∷ (q ∷ ps)) c s m z = absurd (omega arith)
       on {parts = parts} (p ∷ []) c (xs, ys, sp, nothing, w) m z =
           let only = ap (λ (l : List Item). made_onto n l []) (sym (append-nil (items_of p))) ∙ m in
           let acc = (phrase_accepted n p).accepted [] parts only in

@@ -1,5 +1,5 @@
 -- Steps that may fail, taken apart.
-use Rattle.std.proofs.Common.{◌≡◌, Bool, true, false, cond, Option, Some, None, Result, Ok, Err, refl, ℕ}
+use Rattle.rx_spec.proofs.Prelude.{◌≡◌, Bool, true, false, cond, Option, Some, None, Result, Ok, Err, refl, ℕ}
 use Rattle.rx_script.specs.declared.fault.BadKind.{BadKind}
 use Rattle.rx_script.specs.Faults.{Fault, refused, needed, ◌>>=◌}
 

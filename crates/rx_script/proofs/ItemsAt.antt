@@ -1,7 +1,6 @@
 -- Reading items one after the other, as a loop does: a word is taken from the front.
-use Rattle.std.proofs.Common.{◌≡◌, ℕ, Bool, true, false, cond, List, [], ◌∷◌, ◌++◌, Option, Result, Ok, Err, refl, sym}
-use Rattle.std.proofs.Common.{ap, ◌∙◌, append_assoc, append-nil}
-use Rattle.std.specs.Option.{option_to_list}
+use Rattle.rx_spec.proofs.Prelude.{◌≡◌, ℕ, Bool, true, false, cond, List, [], ◌∷◌, ◌++◌, Option, Result, Ok, Err, refl}
+use Rattle.rx_spec.proofs.Prelude.{sym, ap, ◌∙◌, append_assoc, append-nil, option_to_list}
 use Rattle.rx_script.specs.declared.expression.Item.{Item}
 use Rattle.rx_script.specs.declared.expression.Awaited.{Awaited}
 use Rattle.rx_script.specs.declared.expression.Taken.{Taken}

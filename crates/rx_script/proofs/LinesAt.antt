@@ -1,8 +1,6 @@
 -- Reading lines one after the other, as a loop does.
-use Rattle.std.proofs.Common.{◌≡◌, ℕ, ◌+◌, Bool, true, false, List, [], ◌∷◌, ◌++◌, Option, Some, None, Result, Ok, Err}
-use Rattle.std.proofs.Common.{refl, sym, ap, ◌∙◌, append_assoc, append-nil}
-use Rattle.rx_spec.specs.Expressions.{Expression}
-use Rattle.rx_spec.specs.Queries.{Query}
+use Rattle.rx_spec.proofs.Prelude.{◌≡◌, ℕ, ◌+◌, Bool, true, false, List, [], ◌∷◌, ◌++◌, Option, Some, None, Result, Ok}
+use Rattle.rx_spec.proofs.Prelude.{Err, refl, sym, ap, ◌∙◌, append_assoc, append-nil, Expression, Query}
 use Rattle.rx_script.specs.declared.fault.ScriptFault.{ScriptFault}
 use Rattle.rx_script.specs.declared.names.LineKind.{LineKind}
 use Rattle.rx_script.specs.Faults.{Fault, Fails, ◌>>=◌}
@@ -33,9 +31,7 @@ tail_is w n (Some LineKind.Expr) words tail after e h =
     let s = ok_is (Next.Expr b.0 tail) (Next.Expr e after) b.2 in cc
 tail_is true n (Some LineKind.Input) words tail after e h = absurd cc
 tail_is false n (Some LineKind.Input) words tail after e h = absurd cc
-tail_is w n (Some LineKind.Plan) words tail after e h = absurd cc
-tail_is w n (Some LineKind.Hay) words tail after e h = absurd cc
-tail_is w n None words tail after e h = absurd cc
+tail_is w n _ words tail after e h = absurd cc
 
 -- what is read with the next line, where the lines are none, or some
 with_next
@@ -57,13 +53,13 @@ lines_expr
     : (w : Bool) (n : ℕ) (lines after : List (List ℕ)) (e : Expression)
     → next_at w n lines ≡ Ok (Next.Expr e after) → lines_at w n lines ≡ with_expr e (lines_at w (n + 1) after)
 unfolding next_at lines_at
-lines_expr true n [] after e h = absurd cc
-lines_expr false n [] after e h = absurd cc
 lines_expr w n (line ∷ tail) after e h =
     let b = bind_ok (line_at n line) (λ read. next_kind w n read.0 read.1 tail) (Next.Expr e after) h in
     let t = tail_is w n b.0.0 b.0.1 tail after e b.2 in
     ap (λ (r : Result Next Fault). r >>= read_after n (lines_at w (n + 1) tail)) h
     ∙ ap (λ (ls : List (List ℕ)). with_expr e (lines_at w (n + 1) ls)) t
+lines_expr true n [] after e h = absurd cc
+lines_expr false n [] after e h = absurd cc
 
 -- ---- the loop
 

@@ -1,6 +1,5 @@
 -- Making items into expressions, as a loop does: an item is taken from the end.
-use Rattle.std.proofs.Common.{◌≡◌, ℕ, List, [], ◌∷◌, ◌++◌, Result, Ok, Err, refl, sym, ap, ◌∙◌}
-use Rattle.rx_spec.specs.Expressions.{Expression}
+use Rattle.rx_spec.proofs.Prelude.{◌≡◌, ℕ, List, [], ◌∷◌, ◌++◌, Result, Ok, Err, refl, sym, ap, ◌∙◌, Expression}
 use Rattle.rx_script.specs.declared.expression.Item.{Item}
 use Rattle.rx_script.specs.declared.fault.ScriptFault.{ScriptFault}
 use Rattle.rx_script.specs.Faults.{Fault, Fails, ◌>>=◌}

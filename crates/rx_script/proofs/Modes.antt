@@ -1,12 +1,8 @@
 -- Modes: what is read is spelled so, and what is spelled so is read.
-use Rattle.std.proofs.lemmas.Grind.{common_steps}
-use Rattle.std.proofs.Common.{◌≡◌, ℕ, Bool, true, false, List, [], ◌∷◌, Option, Some, None, refl, ap, subst, ◌∙◌, arith}
-use Rattle.std.specs.Fmt.{decimal}
-use Rattle.std.proofs.lemmas.Bool.{cases_Bool, eqb-true, leb-true, le-leb}
-use Rattle.std.proofs.lemmas.Option.{same_Some, none-some, cond_some}
-use Rattle.rx_spec.specs.Queries.{Anchored}
+use Rattle.rx_spec.proofs.Prelude.{common_steps, ◌≡◌, ℕ, Bool, true, false, List, [], ◌∷◌, Option, Some, None, refl, ap}
+use Rattle.rx_spec.proofs.Prelude.{subst, ◌∙◌, arith, decimal, cases_Bool, eqb-true, le-leb, same_Some, none-some}
+use Rattle.rx_spec.proofs.Prelude.{Anchored, max_id}
 use Rattle.rx_base.specs.Search.{mode_of}
-use Rattle.rx_spec.specs.Causes.{max_id}
 use Rattle.rx_base.specs.declared.search.Anchored.{Anchored as Mode}
 use Rattle.rx_script.specs.Names.{anchored_of}
 use Rattle.rx_script.specs.Tokens.{number_of, numbered_mode, mode_from, mode_word}
@@ -20,7 +16,7 @@ Spelled word mode = SpellsMode (mode_of mode) word
 numbered_spelled : (word : List ℕ) (mode : Mode) → numbered_mode word ≡ Some mode → Spelled word mode
 numbered_spelled [] mode e = absurd cc
 numbered_spelled (c ∷ cs) mode e =
-    grind (arith, common_steps, cases_Bool, eqb-true, none-some, cond_some, number_spelled, leb-true)
+    grind (arith, common_steps, cases_Bool, eqb-true, none-some, number_spelled)
 
 pub mode_spelled : (word : List ℕ) (mode : Mode) → mode_word word ≡ Some mode → SpellsMode (mode_of mode) word
 unfolding mode_word
@@ -42,7 +38,7 @@ unfolding mode_word
 mode_read word Anchored.No s = (Mode.No, ap mode_word s ∙ rw (anchored_read false) refl, refl)
 mode_read word Anchored.Yes s = (Mode.Yes, ap mode_word s ∙ rw (anchored_read true) refl, refl)
 mode_read word (Anchored.Pattern k) s =
-    let n : number_of (decimal k) ≡ Some k = number_read (decimal k) k (omega (arith, s.0), refl) in
+    let n : number_of (decimal k) ≡ Some k = number_read (decimal k) k (omega arith, refl) in
     let read : mode_word (112 ∷ decimal k) ≡ Some (Mode.Pattern k) =
     rw (no_name (decimal k), n, le-leb k max_id s.0) refl in
     (Mode.Pattern k, ap mode_word s.1 ∙ read, refl)

@@ -1,16 +1,14 @@
 -- Numbers: what is read is spelled so, and what is spelled so is read.
-use Rattle.std.proofs.lemmas.Grind.{common_steps}
-use Rattle.std.proofs.Common.{◌≡◌, ◌≢◌, ℕ, ◌^◌, ◌<◌, ◌≤◌, Bool, true, false, ◌&&◌, cond, eqb, ltb, List, [], ◌∷◌}
-use Rattle.std.proofs.Common.{length, get_or, Option, Some, None, refl, sym, ap, subst, ◌∙◌, arith, rules}
-use Rattle.std.specs.Fmt.{decimal}
-use Rattle.std.proofs.lemmas.Bool.{eqb-true, eqb-false, ltb-true, lt-ltb, and_parts, cases_Bool}
-use Rattle.std.proofs.lemmas.Option.{same_Some}
-use Rattle.std.proofs.lemmas.Fmt.{decimal_nonempty, first_decimal, decimal_digit, digits_decimal, digits_value-decimal}
+use Rattle.rx_spec.proofs.Prelude.{common_steps, ◌≡◌, ◌≢◌, ℕ, ◌^◌, ◌<◌, ◌≤◌, Bool, true, false, ◌&&◌, cond, eqb, ltb}
+use Rattle.rx_spec.proofs.Prelude.{List, [], ◌∷◌, length, get_or, Option, Some, None, refl, sym, ap, subst, ◌∙◌, arith}
+use Rattle.rx_spec.proofs.Prelude.{rules, decimal, eqb-true, eqb-false, ltb-true, lt-ltb, and_parts, cases_Bool}
+use Rattle.rx_spec.proofs.Prelude.{same_Some, decimal_digit}
+use Rattle.std.proofs.lemmas.Fmt.{decimal_nonempty, first_decimal, digits_decimal, digits_value-decimal}
 use Rattle.std.proofs.lemmas.Fmt.{decimal-digits_value}
 use Rattle.std.proofs.lemmas.Str.Parse.{IsNumeralModel, numerals_by_fold}
 use Rattle.rx_script.specs.Tokens.{is_digit, with_digit, number_limit, number_from, number_of, most_of}
 use Rattle.rx_script.specs.Grammar.{SpellsNumber, SpellsMost}
-use Rattle.rx_script.proofs.Tables.{same_word, other_word}
+use Rattle.rx_script.proofs.Tables.{same_word}
 
 -- the digits of a number, and its value
 abbrev pub are_digits : List ℕ → Bool
@@ -49,14 +47,14 @@ to_digits n [] d lt = refl
 to_digits n (c ∷ cs) d lt =
     let b = and_parts (is_digit c) (are_digits cs) d in
     let g = grows (with_digit n c) cs in
-    let small : with_digit n c < number_limit = omega (arith, g, lt) in
+    let small : with_digit n c < number_limit = omega arith in
     rw (b.0, lt-ltb _ _ small) (to_digits (with_digit n c) cs b.1 lt)
 
 spelled_by
     : (ds : List ℕ) (v : ℕ) → are_digits ds ≡ true → 0 < length ds → (get_or ds 0 0 ≡ 48 → length ds ≡ 1)
     → value_onto 0 ds ≡ v → v < number_limit → SpellsNumber v ds
 spelled_by ds v d some lead e lt =
-    (lt, sym (ap decimal (sym e) ∙ decimal-digits_value own ds d some lead (omega (arith, e, lt))))
+    (lt, sym (ap decimal (sym e) ∙ decimal-digits_value own ds d some lead (omega arith)))
 
 -- what is read as a number spells it
 pub number_spelled : (word : List ℕ) (v : ℕ) → number_of word ≡ Some v → SpellsNumber v word
@@ -87,19 +85,19 @@ first_not_zero n lt long e = grind (arith, common_steps, decimal_digit, first_de
 
 pub number_read : (word : List ℕ) (v : ℕ) → SpellsNumber v word → number_of word ≡ Some v
 number_read word v s =
-    let lt64 : v < 2 ^ 64 = omega (arith, s.0) in
+    let lt64 : v < 2 ^ 64 = omega arith in
     let d = digits_decimal own v lt64 in
     let value = digits_value-decimal own v lt64 in
     ap number_of s.1 ∙ by_cases (decimal v) d (decimal_nonempty v lt64) (first_not_zero v s.0)
-    ∙ to_digits 0 (decimal v) d (omega (arith, value, s.0)) ∙ ap (λ (x : ℕ). Some x) value
+    ∙ to_digits 0 (decimal v) d (omega arith) ∙ ap (λ (x : ℕ). Some x) value
 
 -- ---- the most rounds of a repetition
 
 pub most_spelled : (word : List ℕ) (most : Option ℕ) → most_of word ≡ Some most → SpellsMost most word
 unfolding most_of
-most_spelled word most e = grind (arith, common_steps, cases_Bool, same_Some, same_word, number_spelled)
+most_spelled word most e = grind (arith, common_steps, cases_Bool, same_word, number_spelled)
 
 pub most_read : (word : List ℕ) (most : Option ℕ) → SpellsMost most word → most_of word ≡ Some most
 unfolding most_of
 most_read word None s = ap most_of s
-most_read word (Some n) s = grind (arith, common_steps, number_read, other_word)
+most_read word (Some n) s = grind (arith, common_steps, number_read)

@@ -1,6 +1,5 @@
 -- What reading a script gives, in the words of the grammar.
-use Rattle.std.proofs.Common.{ℕ, Bool, List, Result, Ok, Err, subst}
-use Rattle.std.specs.Prelude.{IfOk}
+use Rattle.rx_spec.proofs.Prelude.{ℕ, Bool, List, Result, Ok, Err, subst, IfOk}
 use Rattle.rx_script.specs.declared.fault.ScriptFault.{ScriptFault}
 use Rattle.rx_script.specs.declared.script.Script.{Script}
 use Rattle.rx_script.specs.Grammar.{Spelled, Spells}

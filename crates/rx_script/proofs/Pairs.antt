@@ -1,7 +1,6 @@
 -- Reading pairs of hexadecimal digits one after the other, as a loop does.
-use Rattle.std.proofs.lemmas.Grind.{common_steps}
-use Rattle.std.proofs.Common.{◌≡◌, ℕ, suc, ◌+◌, ◌<◌, ◌≤◌, List, [], ◌∷◌, ◌++◌, length, get_or, drop, Option, Some, None}
-use Rattle.std.proofs.Common.{refl, sym, ap, ◌∙◌, append_assoc, append-nil, drop-cons, arith}
+use Rattle.rx_spec.proofs.Prelude.{◌≡◌, ℕ, suc, ◌+◌, ◌<◌, ◌≤◌, List, [], ◌∷◌, ◌++◌, length, get_or, drop, Option, Some}
+use Rattle.rx_spec.proofs.Prelude.{None, refl, sym, ap, ◌∙◌, append_assoc, drop-cons, arith}
 use Rattle.std.proofs.lemmas.List.{drop_all}
 use Rattle.rx_script.specs.Tokens.{with_byte, byte_of, pairs_of}
 
@@ -49,10 +48,6 @@ pub pairs_stop
 pairs_stop {word = word} {bytes = bytes} {at = at} so_far lt e =
     ap (λ (o : Option ℕ). with_front bytes (with_byte o (pairs_of (drop (at + 2) word)))) e
     ∙ ap (λ (xs : List ℕ). with_front bytes (pairs_of xs)) (sym (two_more word at lt)) ∙ so_far.same
-
--- the end, with a digit left or none
-pub pairs_end : {word bytes : List ℕ} {at : ℕ} → ReadPairs word bytes at → length word ≤ at → Some bytes ≡ pairs_of word
-pairs_end {word = word} {bytes = bytes} {at = at} so_far le = grind (arith, common_steps, append-nil, drop_all)
 
 pub pairs_odd
     : {word bytes : List ℕ} {at : ℕ} → ReadPairs word bytes at → at < length word → length word ≤ at + 1

@@ -1,6 +1,5 @@
 -- Expressions as they are written, as the items that the reader makes of them.
-use Rattle.std.proofs.Common.{◌≡◌, ℕ, List, [], ◌∷◌, ◌++◌, Option}
-use Rattle.rx_spec.specs.Expressions.{Expression}
+use Rattle.rx_spec.proofs.Prelude.{◌≡◌, ℕ, List, [], ◌∷◌, ◌++◌, Option, Expression}
 use Rattle.rx_expr.specs.Expr.{literal_of}
 use Rattle.rx_script.specs.declared.expression.Item.{Item}
 use Rattle.rx_script.specs.declared.expression.Awaited.{Awaited}

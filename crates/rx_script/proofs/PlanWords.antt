@@ -1,13 +1,11 @@
 -- The words of a plan line: what is read is spelled so, and what is spelled so is read.
-use Rattle.std.proofs.lemmas.Grind.{common_steps}
-use Rattle.std.proofs.Common.{◌≡◌, ◌≢◌, ℕ, zero, suc, ◌<◌, Bool, true, false, not, eqb, ltb, List, [], ◌∷◌, ◌++◌}
-use Rattle.std.proofs.Common.{length, get_or, set, Option, Some, None, refl, sym, ap, subst, ◌∙◌, append-nil, arith}
-use Rattle.std.proofs.Common.{inl, inr}
-use Rattle.std.specs.Prelude.{option_map, option_and_then}
-use Rattle.std.specs.List.{AllByRecursion, list_all}
-use Rattle.std.proofs.lemmas.Bool.{cases_Bool, eqb-true, ltb-true, not-true, both_ways, and_parts}
-use Rattle.std.proofs.lemmas.Option.{same_Some, none-some}
-use Rattle.std.proofs.lemmas.List.{get_or-set_same, get_or-set_other, length-set}
+use Rattle.rx_spec.proofs.Prelude.{common_steps, ◌≡◌, ◌≢◌, ℕ, zero, suc, ◌<◌, Bool, true, false, not, eqb, ltb, List}
+use Rattle.rx_spec.proofs.Prelude.{[], ◌∷◌, ◌++◌, length, get_or, set, Option, Some, None, refl, sym, ap, subst, ◌∙◌}
+use Rattle.rx_spec.proofs.Prelude.{append-nil, arith, inl, inr, option_map, option_and_then, AllByRecursion, list_all}
+use Rattle.rx_spec.proofs.Prelude.{cases_Bool, eqb-true, ltb-true, not-true, and_parts, same_Some, none-some}
+use Rattle.rx_spec.proofs.Prelude.{get_or-set_same, get_or-set_other}
+use Rattle.std.proofs.lemmas.Bool.{both_ways}
+use Rattle.std.proofs.lemmas.List.{length-set}
 use Rattle.rx_script.specs.declared.names.PlanName.{PlanName}
 use Rattle.rx_script.specs.declared.plan_words.PlanWord.{PlanWord}
 use Rattle.rx_script.specs.declared.plan_words.Choices.{Choices}
@@ -57,12 +55,7 @@ bare_spelled PlanName.Sparse word e = bare {made = PlanWord.Sparse} (refl, refl)
 bare_spelled PlanName.Bytes word e = bare {made = PlanWord.Bytes} (refl, refl) e
 bare_spelled PlanName.Pair word e = bare {made = PlanWord.Pair} (refl, refl) e
 bare_spelled PlanName.Rows word e = bare {made = PlanWord.Rows} (refl, refl) e
-bare_spelled PlanName.Start word e = absurd cc
-bare_spelled PlanName.Quit word e = absurd cc
-bare_spelled PlanName.LineTerminator word e = absurd cc
-bare_spelled PlanName.NfaLimit word e = absurd cc
-bare_spelled PlanName.DfaLimit word e = absurd cc
-bare_spelled PlanName.DeterminizeLimit word e = absurd cc
+bare_spelled _ word e = absurd cc
 
 -- a value that was read, and the word of it
 valued
@@ -94,16 +87,7 @@ valued_spelled PlanName.DfaLimit value word e =
 valued_spelled PlanName.DeterminizeLimit value word e =
     valued PlanName.DeterminizeLimit value (number_of value) (λ bytes. PlanWord.DeterminizeLimit bytes) word
     (λ bytes is. (refl, (value, number_spelled value bytes is, refl))) e
-valued_spelled PlanName.Patterns value word e = absurd cc
-valued_spelled PlanName.NoClasses value word e = absurd cc
-valued_spelled PlanName.UnicodeWord value word e = absurd cc
-valued_spelled PlanName.Minimize value word e = absurd cc
-valued_spelled PlanName.NoAccelerate value word e = absurd cc
-valued_spelled PlanName.Mark value word e = absurd cc
-valued_spelled PlanName.Sparse value word e = absurd cc
-valued_spelled PlanName.Bytes value word e = absurd cc
-valued_spelled PlanName.Pair value word e = absurd cc
-valued_spelled PlanName.Rows value word e = absurd cc
+valued_spelled _ value word e = absurd cc
 
 -- a name, and what stands after it
 abbrev tail_of : Option (List ℕ) → List ℕ
@@ -136,25 +120,6 @@ word_spelled text word e = on (plan_name_of (cut 61 text).0) refl e where
 
 -- ---- and the other way
 
--- the numbers of names are their places in the list of all
-at_place : (name : PlanName) → get_or all_plan_names (number_of_name name) PlanName.Start ≡ name
-at_place PlanName.Start = refl
-at_place PlanName.Patterns = refl
-at_place PlanName.NoClasses = refl
-at_place PlanName.Quit = refl
-at_place PlanName.UnicodeWord = refl
-at_place PlanName.LineTerminator = refl
-at_place PlanName.NfaLimit = refl
-at_place PlanName.DfaLimit = refl
-at_place PlanName.DeterminizeLimit = refl
-at_place PlanName.Minimize = refl
-at_place PlanName.NoAccelerate = refl
-at_place PlanName.Mark = refl
-at_place PlanName.Sparse = refl
-at_place PlanName.Bytes = refl
-at_place PlanName.Pair = refl
-at_place PlanName.Rows = refl
-
 -- a test that each name passes
 each_at
     : (test : PlanName → Bool) (names : List PlanName) (k : ℕ) (d : PlanName) → list_all test names ≡ true
@@ -165,17 +130,11 @@ each_at test (name ∷ names) (suc k) d all last =
     each_at test names k d (and_parts (test name) (list_all test names) all).1 last
 
 of_each : (test : PlanName → Bool) → list_all test all_plan_names ≡ true → (name : PlanName) → test name ≡ true
-of_each test all name = grind (arith, common_steps, and_parts, at_place)
+of_each test all name = grind (arith, common_steps)
 
 -- no name has an equals sign
 abbrev is_plain : List ℕ → Bool
 is_plain name = list_all (λ b. not (eqb b 61)) name
-
-cut-plain : (name : List ℕ) → is_plain name ≡ true → cut 61 name ≡ (name, None)
-cut-plain [] plain = refl
-cut-plain (b ∷ bs) plain =
-    let p = and_parts (not (eqb b 61)) (is_plain bs) plain in
-    rw (not-true (eqb b 61) p.0, cut-plain bs p.1) refl
 
 cut-valued : (name value : List ℕ) → is_plain name ≡ true → cut 61 (name ++ 61 ∷ value) ≡ (name, Some value)
 cut-valued [] value plain = refl
@@ -185,7 +144,7 @@ cut-valued (b ∷ bs) value plain =
 
 bare_read : (name : PlanName) → plan_word (plan_name name) ≡ bare_word name
 unfolding plan_word
-bare_read name = grind (arith, common_steps, cut-plain, of_each, plan_name_read)
+bare_read name = grind (arith, common_steps, plan_name_read)
 
 valued_read
     : (name : PlanName) (value : List ℕ) → plan_word (plan_name name ++ 61 ∷ value) ≡ valued_word name value
@@ -250,7 +209,7 @@ place_small : (name : PlanName) → number_of_name name < 16
 place_small name = ltb-true _ _ (of_each (λ n. ltb (number_of_name n) 16) refl name)
 
 same_place : (name other : PlanName) → number_of_name name ≡ number_of_name other → name ≡ other
-same_place name other e = grind (arith, common_steps, at_place)
+same_place name other e = grind (arith, common_steps)
 
 abbrev IsUnseen : List Bool → PlanWord → Type 0
 IsUnseen seen word = get_or seen (place_of word) false ≡ false
@@ -270,7 +229,7 @@ seen_less
     : (seen : List Bool) (word other : PlanWord) → length seen ≡ 16 → IsUnseen (with_seen seen word) other
     → (chosen_by other ≢ chosen_by word) × IsUnseen seen other
 seen_less seen word other len e =
-    let place : place_of word < length seen = omega (arith, len, place_small (chosen_by word)) in
+    let place : place_of word < length seen = omega (arith, place_small (chosen_by word)) in
     let seen_now = get_or-set_same seen (place_of word) true false place in
     let differ = λ (same : place_of other ≡ place_of word).
     both_ways (get_or (with_seen seen word) (place_of word) false)

@@ -1,7 +1,6 @@
 -- A range of bytes put into a set byte by byte.
-use Rattle.std.proofs.Common.{◌≡◌, ◌≢◌, ℕ, ◌+◌, ◌-◌, ◌^◌, ◌<◌, ◌≤◌, ◌⊎◌, inl, inr, max, bit_or, refl, sym, ap, ◌∙◌}
-use Rattle.std.proofs.Common.{arith}
-use Rattle.std.specs.Int.{bit_at}
+use Rattle.rx_spec.proofs.Prelude.{◌≡◌, ◌≢◌, ℕ, ◌+◌, ◌-◌, ◌^◌, ◌<◌, ◌≤◌, ◌⊎◌, inl, inr, max, bit_or, refl, sym, ap, ◌∙◌}
+use Rattle.rx_spec.proofs.Prelude.{arith, bit_at}
 use Rattle.std.proofs.lemmas.Nat.Bits.{bit_at_or, same_from_bits, bit_at-pow_same, bit_at-pow_other, bit_at_mask_inside}
 use Rattle.std.proofs.lemmas.Nat.Bits.{bit_at_mask_below, bit_at_mask_above}
 use Rattle.std.specs.Int.Bits.{or_zero_r}
@@ -16,8 +15,8 @@ one_bit f k i le = elim (where_is i f k le) [
   | inl below ↦
       rw (bit_at_mask_below f k i below, bit_at-pow_other k i (omega arith), bit_at_mask_below f (k + 1) i below) refl
   | inr (inl inside) ↦
-      let other : i ≢ k = omega (arith, inside.1) in
-      let before : i < k + 1 = omega (arith, inside.1) in
+      let other : i ≢ k = omega arith in
+      let before : i < k + 1 = omega arith in
       let whole = bit_at_mask_inside f (k + 1) i inside.0 before in
       rw (bit_at_mask_inside f k i inside.0 inside.1, bit_at-pow_other k i other) (sym whole)
   | inr (inr (inl same)) ↦

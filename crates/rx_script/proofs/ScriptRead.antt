@@ -1,11 +1,7 @@
 -- Scripts: what is spelled so is read.
-use Rattle.std.proofs.Common.{arith, ◌≡◌, ℕ, ◌+◌, ◌≤◌, Bool, true, false, List, [], ◌∷◌, ◌++◌, length, map, Option}
-use Rattle.std.proofs.Common.{Some, None, Result, Ok, refl, sym, ap, ◌∙◌}
-use Rattle.std.proofs.lemmas.Grind.{common_steps}
-use Rattle.std.specs.List.{AllByRecursion}
-use Rattle.std.proofs.lemmas.Bool.{le-leb, and_from}
-use Rattle.rx_spec.specs.Expressions.{Expression}
-use Rattle.rx_spec.specs.Queries.{Query}
+use Rattle.rx_spec.proofs.Prelude.{arith, ◌≡◌, ℕ, ◌+◌, ◌≤◌, Bool, true, false, List, [], ◌∷◌, ◌++◌, length, map, Option}
+use Rattle.rx_spec.proofs.Prelude.{Some, None, Result, Ok, refl, sym, ap, ◌∙◌, common_steps, AllByRecursion, le-leb}
+use Rattle.rx_spec.proofs.Prelude.{and_from, Expression, Query}
 use Rattle.rx_base.specs.Search.{mode_of}
 use Rattle.rx_script.specs.declared.names.LineKind.{LineKind}
 use Rattle.rx_script.specs.declared.plan_words.Choices.{Choices}

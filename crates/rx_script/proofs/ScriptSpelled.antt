@@ -1,13 +1,8 @@
 -- Scripts: what is read is spelled so.
-use Rattle.std.proofs.lemmas.Grind.{common_steps}
-use Rattle.std.proofs.Common.{◌≡◌, ◌⊎◌, inl, inr, ℕ, ◌+◌, ◌<◌, Bool, true, false, cond, leb, List, [], ◌∷◌, ◌++◌}
-use Rattle.std.proofs.Common.{length, map, Option, Some, None, Ok, refl, sym, ap, subst, ◌∙◌, arith}
-use Rattle.std.specs.List.{AllByRecursion}
-use Rattle.std.proofs.lemmas.Bool.{leb-true, and_parts}
-use Rattle.std.proofs.lemmas.Option.{same_Some}
-use Rattle.std.proofs.lemmas.List.{length-map, map-append}
-use Rattle.rx_spec.specs.Expressions.{Expression}
-use Rattle.rx_spec.specs.Queries.{Query}
+use Rattle.rx_spec.proofs.Prelude.{common_steps, ◌≡◌, ◌⊎◌, inl, inr, ℕ, ◌+◌, ◌<◌, Bool, true, false, cond, leb, List}
+use Rattle.rx_spec.proofs.Prelude.{[], ◌∷◌, ◌++◌, length, map, Option, Some, None, Ok, refl, sym, ap, subst, ◌∙◌, arith}
+use Rattle.rx_spec.proofs.Prelude.{AllByRecursion, leb-true, and_parts, same_Some, length-map, map-append, Expression}
+use Rattle.rx_spec.proofs.Prelude.{Query}
 use Rattle.rx_base.specs.Search.{mode_of}
 use Rattle.rx_base.specs.declared.search.Anchored.{Anchored as Mode}
 use Rattle.rx_script.specs.declared.fault.BadKind.{BadKind}
@@ -58,7 +53,7 @@ tested n line kind others e =
       on
           : (words : List (List ℕ)) → IsLine words → line ≡ line_text words → kind_of words ≡ kind
           → others_of words ≡ others → IsTested line kind others
-      on [] w t k o = absurd (omega (arith, w.0))
+      on [] w t k o = absurd (omega arith)
       on (first ∷ more) w t k o = record {
         first = first;
         words = subst (λ (x : List (List ℕ)). IsLine (first ∷ x)) o w;
@@ -76,7 +71,7 @@ headed {kind = kind} {others = others} P t p =
 
 nothing_spelled : (n : ℕ) (lines : List (List ℕ)) → nothing_at n lines ≡ Ok tt → lines ≡ []
 nothing_spelled n [] e = refl
-nothing_spelled n (line ∷ lines) e = grind (arith, common_steps, bind_ok)
+nothing_spelled n (line ∷ lines) e = grind (arith, common_steps)
 
 -- three words that spell a span and a mode
 record SpellsSpan (asked : Asked) (words : List (List ℕ)) : Type 0 where
@@ -108,10 +103,7 @@ span_spelled (a ∷ (b ∷ (m ∷ []))) asked e = on (number_of a) (number_of b)
         end_spelled = number_spelled b y q;
         mode_spelled = mode_spelled m z r;
       })
-span_spelled [] asked e = absurd cc
-span_spelled (a ∷ []) asked e = absurd cc
-span_spelled (a ∷ (b ∷ [])) asked e = absurd cc
-span_spelled (a ∷ (b ∷ (m ∷ (d ∷ ds)))) asked e = absurd cc
+span_spelled _ asked e = absurd cc
 
 hay_spelled
     : (words : List (List ℕ)) (hay : List ℕ) → hay_words words ≡ Some hay
@@ -173,10 +165,7 @@ hay_kind_spelled
     → (lines : List (List ℕ)) (q : Query) → SpellsSpan asked inputs → IsTested line kind others
     → hay_kind n asked kind others lines ≡ Ok q → IsAsked inputs (line ∷ lines) q
 hay_kind_spelled n (Some LineKind.Hay) lines q span t h = asked_spelled n lines q span t h
-hay_kind_spelled n (Some LineKind.Plan) lines q span t h = absurd cc
-hay_kind_spelled n (Some LineKind.Expr) lines q span t h = absurd cc
-hay_kind_spelled n (Some LineKind.Input) lines q span t h = absurd cc
-hay_kind_spelled n None lines q span t h = absurd cc
+hay_kind_spelled n _ lines q span t h = absurd cc
 
 hay_at_spelled
     : {asked : Asked} {inputs : List (List ℕ)} (n : ℕ) (lines : List (List ℕ)) (q : Query) → SpellsSpan asked inputs
@@ -252,9 +241,7 @@ next_spelled {line = line} {others = others} w n (Some LineKind.Expr) tail next 
 next_spelled {line = line} {others = others} true n (Some LineKind.Input) tail next t h =
     subst (IsNext true line tail) (ok_is (Next.Input others tail) next h) (refl, t, refl)
 next_spelled false n (Some LineKind.Input) tail next t h = absurd cc
-next_spelled w n (Some LineKind.Plan) tail next t h = absurd cc
-next_spelled w n (Some LineKind.Hay) tail next t h = absurd cc
-next_spelled w n None tail next t h = absurd cc
+next_spelled w n _ tail next t h = absurd cc
 
 -- whatever is read of lines is spelled by them
 record MoreLines (w : Bool) (lines : List (List ℕ)) (more : Read) : Type 0 where
@@ -312,7 +299,7 @@ joined_text
     : (text : List ℕ) (lines : List (List (List ℕ))) → IsJoined text (map line_text lines)
     → (text ≡ lines_text lines) ⊎ ((0 < length lines) × (text ≡ lines_text lines ++ 10 ∷ []))
 joined_text text lines (inl p) = inl p
-joined_text text lines (inr p) = inr (omega (arith, p.0, length-map {A = List (List ℕ)} {B = List ℕ}), p.1)
+joined_text text lines (inr p) = inr (omega (arith, length-map {A = List (List ℕ)} {B = List ℕ}), p.1)
 
 whole_spelled
     : {w : Bool} {text : List ℕ} {choices : Choices} {rest : List (List ℕ)} {read : Lines} → HasPlan text choices rest
@@ -358,10 +345,7 @@ plan_kind_spelled {lines = lines} {others = others} text (Some LineKind.Plan) pl
       each = (t.words, tt);
       spelled = headed (SpellsPlan c.0) t (plan_spelled others c.0 c.1);
     })
-plan_kind_spelled text (Some LineKind.Expr) plan e t h = subst (HasPlanOf text) (ok_is None plan h) (no_plan text)
-plan_kind_spelled text (Some LineKind.Input) plan e t h = subst (HasPlanOf text) (ok_is None plan h) (no_plan text)
-plan_kind_spelled text (Some LineKind.Hay) plan e t h = subst (HasPlanOf text) (ok_is None plan h) (no_plan text)
-plan_kind_spelled text None plan e t h = subst (HasPlanOf text) (ok_is None plan h) (no_plan text)
+plan_kind_spelled text _ plan e t h = subst (HasPlanOf text) (ok_is None plan h) (no_plan text)
 
 plan_at_spelled
     : (text : List ℕ) (plan : Option (Choices × List (List ℕ))) → plan_at (lines_of text) ≡ Ok plan

@@ -1,15 +1,11 @@
 -- Sets of bytes: what is read is spelled so, and what is spelled so is read.
-use Rattle.std.proofs.lemmas.Grind.{common_steps}
-use Rattle.std.proofs.Common.{◌≡◌, ◌≢◌, inl, inr, ℕ, ◌<◌, false, eqb, leb, bit_or, List, [], ◌∷◌, ◌++◌, length, Option}
-use Rattle.std.proofs.Common.{Some, None, refl, sym, ap, subst, ◌∙◌, append-nil, arith}
-use Rattle.std.specs.Prelude.{codes, option_and_then}
-use Rattle.std.specs.List.{AllByRecursion, join_with_byte, slice_split}
-use Rattle.std.specs.Str.{bytes_eq}
-use Rattle.std.proofs.lemmas.Bool.{cases_Bool, eqb-true, leb-true, le-leb, ne_eqb}
-use Rattle.std.proofs.lemmas.Option.{same_Some, cond_some}
-use Rattle.std.proofs.lemmas.List.Elements.{All-from_recursion}
-use Rattle.std.proofs.lemmas.List.Splits.{slice_split_none, slice_split_at, join_with_byte-slice_split}
-use Rattle.rx_spec.specs.Bytes.{between}
+use Rattle.rx_spec.proofs.Prelude.{common_steps, ◌≡◌, ◌≢◌, inl, inr, ℕ, ◌<◌, false, eqb, leb, bit_or, List, [], ◌∷◌}
+use Rattle.rx_spec.proofs.Prelude.{◌++◌, length, Option, Some, None, refl, sym, ap, subst, ◌∙◌, append-nil, arith}
+use Rattle.rx_spec.proofs.Prelude.{codes, option_and_then, AllByRecursion, slice_split, bytes_eq, cases_Bool, eqb-true}
+use Rattle.rx_spec.proofs.Prelude.{leb-true, le-leb, ne_eqb, same_Some, All-from_recursion, slice_split_none, between}
+use Rattle.std.specs.List.{join_with_byte}
+use Rattle.std.proofs.lemmas.Option.{cond_some}
+use Rattle.std.proofs.lemmas.List.Splits.{slice_split_at, join_with_byte-slice_split}
 use Rattle.rx_script.specs.Tokens.{byte_of, single, ordered, range_of, ranges_from, set_of_word}
 use Rattle.rx_script.specs.Grammar.{SpellsDigit, SpellsByte, SpellsDashed, SpellsRange, SpellsRanges, SpellsSet}
 use Rattle.rx_script.specs.Grammar.{with_range, union_onto}
@@ -23,7 +19,7 @@ byte_word : (h l b : ℕ) → byte_of h l ≡ Some b → SpellsByte b (h ∷ (l 
 byte_word h l b e = record { high = h; low = l; digits = pair_spelled h l b e; word_is = refl }
 
 one_spelled : (h l : ℕ) (r : ℕ × ℕ) → single (byte_of h l) ≡ Some r → SpellsRange r (h ∷ (l ∷ []))
-one_spelled h l r e = grind (arith, common_steps, same_Some, byte_word)
+one_spelled h l r e = grind (arith, common_steps, byte_word)
 
 two_spelled
     : (h l h' l' : ℕ) (r : ℕ × ℕ) → ordered (byte_of h l) (byte_of h' l') ≡ Some r
@@ -52,10 +48,8 @@ range_spelled (h ∷ (l ∷ (dash ∷ (h' ∷ (l' ∷ []))))) r e = elim (cases_
   | inl d ↦
       subst (λ (x : ℕ). SpellsRange r (h ∷ (l ∷ (x ∷ (h' ∷ (l' ∷ [])))))) (sym (eqb-true dash 45 d))
       (two_spelled h l h' l' r (rw d at e))
-  | inr d ↦ absurd (clash (rw d at e))
-] where
-  clash : None ≡ Some r → ⊥
-  clash z = cc
+  | inr d ↦ absurd (let z = rw d at e in cc)
+]
 range_spelled [] r e = absurd cc
 range_spelled (a ∷ []) r e = absurd cc
 range_spelled (a ∷ (b ∷ (c ∷ []))) r e = absurd cc
@@ -70,7 +64,7 @@ dashed_is s =
     ∙ ap (λ (x : List ℕ). s.first_spelled.high ∷ (s.first_spelled.low ∷ (45 ∷ x))) s.last_spelled.word_is
 
 range_read : (piece : List ℕ) (r : ℕ × ℕ) → SpellsRange r piece → range_of piece ≡ Some r
-range_read piece r (inl (s, same)) = grind (arith, common_steps, pair_read)
+range_read piece r (inl (s, same)) = grind (arith, common_steps)
 range_read piece r (inr s) =
     let a = s.first_spelled in
     let b = s.last_spelled in
@@ -128,13 +122,8 @@ set_spelled word set e = elim (cases_Bool (bytes_eq word (codes "none"))) [
 abbrev NoComma : List ℕ → Type 0
 NoComma piece = AllByRecursion (λ x. eqb x 44 ≡ false) piece
 
-code_bound : (c v : ℕ) → SpellsDigit v c → (44 < c) × (c < 103)
-code_bound c v (inl d) = (omega (arith, d.0, d.1), omega (arith, d.0, d.1))
-code_bound c v (inr (a, b, inl d)) = (omega arith, omega arith)
-code_bound c v (inr (a, b, inr d)) = (omega arith, omega arith)
-
 no_digit_comma : {v c : ℕ} → SpellsDigit v c → eqb c 44 ≡ false
-no_digit_comma {v = v} {c = c} d = ne_eqb c 44 (λ e. omega (arith, (code_bound c v d).0))
+no_digit_comma {v = v} {c = c} d = ne_eqb c 44 (λ e. omega arith)
 
 no_byte_comma
     : {b : ℕ} {word : List ℕ} (rest : List ℕ) (s : SpellsByte b word) → NoComma rest → NoComma (s.high ∷ (s.low ∷ rest))
@@ -158,14 +147,9 @@ pieces_again (r ∷ rs) (piece ∷ (next ∷ pieces)) some s =
     slice_split_at (λ b. eqb b 44) piece 44 (join_with_byte 44 (next ∷ pieces)) none refl
     ∙ ap (λ (xs : List (List ℕ)). piece ∷ xs) (pieces_again rs (next ∷ pieces) (omega arith) s.1)
 
--- the word none is no list of ranges: n is no digit
-abbrev first_or : List ℕ → ℕ
-first_or [] = 0
-first_or (c ∷ cs) = c
-
 first_digit : (r : ℕ × ℕ) (piece more : List ℕ) → SpellsRange r piece → piece ++ more ≢ codes "none"
-first_digit r piece more (inl (s, same)) e = grind (arith, common_steps, code_bound)
-first_digit r piece more (inr s) e = grind (arith, common_steps, code_bound)
+first_digit r piece more (inl (s, same)) e = grind (arith, common_steps)
+first_digit r piece more (inr s) e = grind (arith, common_steps)
 
 not_none
     : (ranges : List (ℕ × ℕ)) (pieces : List (List ℕ)) → 0 < length pieces → SpellsRanges ranges pieces

@@ -1,11 +1,11 @@
 -- Lines and words: what is read is spelled so, and what is spelled so is read.
-use Rattle.std.proofs.lemmas.Grind.{common_steps}
-use Rattle.std.proofs.Common.{◌≡◌, ◌⊎◌, inl, inr, ℕ, ◌<◌, Bool, true, false, not, ◌&&◌, cond, eqb, leb, List, [], ◌∷◌}
-use Rattle.std.proofs.Common.{◌++◌, length, map, refl, sym, ap, subst, ◌∙◌, append_assoc, append-nil, arith}
-use Rattle.std.specs.List.{AllByRecursion, join_with_byte, slice_split, onto_first}
-use Rattle.std.proofs.lemmas.Bool.{eqb-true, leb-true, le-leb, ne_eqb, and_parts, not-true, both_ways}
-use Rattle.std.proofs.lemmas.List.Elements.{All-from_recursion}
-use Rattle.std.proofs.lemmas.List.Splits.{slice_split_none, slice_split_at, join_with_byte-slice_split}
+use Rattle.rx_spec.proofs.Prelude.{common_steps, ◌≡◌, ◌⊎◌, inl, inr, ℕ, ◌<◌, Bool, true, false, not, ◌&&◌, cond, eqb}
+use Rattle.rx_spec.proofs.Prelude.{leb, List, [], ◌∷◌, ◌++◌, length, map, refl, sym, ap, subst, ◌∙◌, append_assoc}
+use Rattle.rx_spec.proofs.Prelude.{append-nil, arith, AllByRecursion, slice_split, eqb-true, leb-true, le-leb, ne_eqb}
+use Rattle.rx_spec.proofs.Prelude.{and_parts, not-true, All-from_recursion, slice_split_none}
+use Rattle.std.specs.List.{join_with_byte, onto_first}
+use Rattle.std.proofs.lemmas.Bool.{both_ways}
+use Rattle.std.proofs.lemmas.List.Splits.{slice_split_at, join_with_byte-slice_split}
 use Rattle.rx_script.specs.Pieces.{lines_of, words_of, is_spaced}
 use Rattle.rx_script.specs.Grammar.{IsVisible, IsWord, IsLine, line_text, lines_text, SpellsLines}
 use Rattle.rx_script.proofs.Cut.{some_piece, trimmed, lines_trimmed}
@@ -57,10 +57,10 @@ visible_steps
     → is_spaced gap (word ++ rest) ≡ is_spaced false rest
 visible_steps [] rest gap v some = absurd (omega arith)
 visible_steps (b ∷ []) rest gap v some =
-    let ne : eqb b 32 ≡ false = ne_eqb b 32 (λ e. omega (arith, v.0.0)) in
+    let ne : eqb b 32 ≡ false = ne_eqb b 32 (λ e. omega arith) in
     rw (ne, le-leb 33 b v.0.0, le-leb b 126 v.0.1) refl
 visible_steps (b ∷ (c ∷ cs)) rest gap v some =
-    let ne : eqb b 32 ≡ false = ne_eqb b 32 (λ e. omega (arith, v.0.0)) in
+    let ne : eqb b 32 ≡ false = ne_eqb b 32 (λ e. omega arith) in
     rw (ne, le-leb 33 b v.0.0, le-leb b 126 v.0.1) (visible_steps (c ∷ cs) rest false v.1 (omega arith))
 
 pub line_spaced
@@ -75,7 +75,7 @@ line_spaced (w ∷ (v ∷ ws)) gap each some =
 not_byte
     : (c : ℕ) (word : List ℕ) → c < 33 → AllByRecursion IsVisible word → AllByRecursion (λ x. eqb x c ≡ false) word
 not_byte c [] lt v = tt
-not_byte c (b ∷ bs) lt v = (ne_eqb b c (λ e. omega (arith, v.0.0)), not_byte c bs lt v.1)
+not_byte c (b ∷ bs) lt v = (ne_eqb b c (λ e. omega arith), not_byte c bs lt v.1)
 
 pub line_words
     : (words : List (List ℕ)) → AllByRecursion IsWord words → 0 < length words → words_of (line_text words) ≡ words
@@ -96,13 +96,13 @@ IsJoined text lines =
 
 joined_newline : (bs : List ℕ) (lines : List (List ℕ)) → IsJoined bs lines → IsJoined (10 ∷ bs) ([] ∷ lines)
 joined_newline bs [] (inl e) = inr (omega arith, ap (λ (x : List ℕ). 10 ∷ x) e)
-joined_newline bs [] (inr e) = absurd (omega (arith, e.0))
+joined_newline bs [] (inr e) = absurd (omega arith)
 joined_newline bs (l ∷ ls) (inl e) = inl (ap (λ (x : List ℕ). 10 ∷ x) e)
 joined_newline bs (l ∷ ls) (inr e) = inr (omega arith, ap (λ (x : List ℕ). 10 ∷ x) e.1)
 
 joined_onto : (b : ℕ) (bs : List ℕ) (lines : List (List ℕ)) → IsJoined bs lines → IsJoined (b ∷ bs) (onto_first b lines)
 joined_onto b bs [] (inl e) = inl (ap (λ (x : List ℕ). b ∷ x) e)
-joined_onto b bs [] (inr e) = absurd (omega (arith, e.0))
+joined_onto b bs [] (inr e) = absurd (omega arith)
 joined_onto b bs (l ∷ []) (inl e) = inl (ap (λ (x : List ℕ). b ∷ x) e)
 joined_onto b bs (l ∷ []) (inr e) = inr (omega arith, ap (λ (x : List ℕ). b ∷ x) e.1)
 joined_onto b bs (l ∷ (m ∷ ls)) (inl e) = inl (ap (λ (x : List ℕ). b ∷ x) e)
@@ -134,7 +134,7 @@ first_line line rest none =
 
 last_line : (line : List ℕ) → AllByRecursion (λ x. eqb x 10 ≡ false) line → 0 < length line → lines_of line ≡ line ∷ []
 last_line [] none some = absurd (omega arith)
-last_line (b ∷ bs) none some = grind (arith, common_steps, lines_trimmed, trimmed, slice_split_none)
+last_line (b ∷ bs) none some = grind (arith, common_steps, lines_trimmed, slice_split_none)
 
 pub each-append
     : {A : Type 0} (P : A → Type 0) (xs ys : List A) → AllByRecursion P xs → AllByRecursion P ys
@@ -151,9 +151,9 @@ without_ten (w ∷ (v ∷ ws)) each =
     each-append (λ x. eqb x 10 ≡ false) w (32 ∷ line_text (v ∷ ws)) first (refl, without_ten (v ∷ ws) each.1)
 
 line_some : (words : List (List ℕ)) → IsLine words → 0 < length (line_text words)
-line_some [] h = absurd (omega (arith, h.0))
+line_some [] h = absurd (omega arith)
 line_some ((b ∷ bs) ∷ []) h = omega arith
-line_some ([] ∷ ws) h = absurd (omega (arith, h.1.0.0))
+line_some ([] ∷ ws) h = absurd (omega arith)
 line_some ((b ∷ bs) ∷ (v ∷ ws)) h = omega arith
 
 -- the lines that a text spells are read

@@ -1,9 +1,6 @@
 -- Words and names: what a word names has that name, and each name is found.
-use Rattle.std.proofs.Common.{◌≡◌, ◌≢◌, inl, inr, ℕ, Bool, true, false, List, [], ◌∷◌, Some, refl, ap, ◌∙◌}
-use Rattle.std.specs.Str.{bytes_eq}
-use Rattle.std.proofs.lemmas.Slice.Eq.{bytes_eq-Decides}
-use Rattle.std.proofs.lemmas.Bool.{cases_Bool, false_from_ne_true}
-use Rattle.std.proofs.lemmas.Option.{same_Some}
+use Rattle.rx_spec.proofs.Prelude.{◌≡◌, ◌≢◌, inl, inr, ℕ, Bool, true, false, List, [], ◌∷◌, Some, refl, ap, ◌∙◌}
+use Rattle.rx_spec.proofs.Prelude.{bytes_eq, bytes_eq-Decides, cases_Bool, false_from_ne_true, same_Some}
 use Rattle.rx_spec.specs.declared.Look.{Look}
 use Rattle.rx_spec.specs.declared.StartKind.{StartKind}
 use Rattle.rx_script.specs.declared.names.LineKind.{LineKind}
@@ -64,40 +61,17 @@ start_spelled word kind e = named_is start_name all_starts word kind e
 pub line_read : (kind : LineKind) → line_kind (line_name kind) ≡ Some kind
 unfolding line_kind
 line_read LineKind.Plan = refl
-line_read LineKind.Expr = refl
-line_read LineKind.Input = refl
-line_read LineKind.Hay = refl
+line_read _ = refl
 
 pub head_read : (head : Head) → head_of (head_name head) ≡ Some head
 unfolding head_of
 head_read Head.Empty = refl
-head_read Head.Literal = refl
-head_read Head.Class = refl
-head_read Head.Look = refl
-head_read Head.Concat = refl
-head_read Head.Alternate = refl
-head_read Head.Repeat = refl
+head_read _ = refl
 
 pub look_read : (look : Look) → look_of (look_name look) ≡ Some look
 unfolding look_of
 look_read Look.Start = refl
-look_read Look.End = refl
-look_read Look.StartLF = refl
-look_read Look.EndLF = refl
-look_read Look.StartCRLF = refl
-look_read Look.EndCRLF = refl
-look_read Look.WordAscii = refl
-look_read Look.WordAsciiNegate = refl
-look_read Look.WordUnicode = refl
-look_read Look.WordUnicodeNegate = refl
-look_read Look.WordStartAscii = refl
-look_read Look.WordEndAscii = refl
-look_read Look.WordStartUnicode = refl
-look_read Look.WordEndUnicode = refl
-look_read Look.WordStartHalfAscii = refl
-look_read Look.WordEndHalfAscii = refl
-look_read Look.WordStartHalfUnicode = refl
-look_read Look.WordEndHalfUnicode = refl
+look_read _ = refl
 
 pub greed_read : (greedy : Bool) → greed_of (greed_name greedy) ≡ Some greedy
 unfolding greed_of
@@ -112,24 +86,9 @@ anchored_read false = refl
 pub plan_name_read : (name : PlanName) → plan_name_of (plan_name name) ≡ Some name
 unfolding plan_name_of
 plan_name_read PlanName.Start = refl
-plan_name_read PlanName.Patterns = refl
-plan_name_read PlanName.NoClasses = refl
-plan_name_read PlanName.Quit = refl
-plan_name_read PlanName.UnicodeWord = refl
-plan_name_read PlanName.LineTerminator = refl
-plan_name_read PlanName.NfaLimit = refl
-plan_name_read PlanName.DfaLimit = refl
-plan_name_read PlanName.DeterminizeLimit = refl
-plan_name_read PlanName.Minimize = refl
-plan_name_read PlanName.NoAccelerate = refl
-plan_name_read PlanName.Mark = refl
-plan_name_read PlanName.Sparse = refl
-plan_name_read PlanName.Bytes = refl
-plan_name_read PlanName.Pair = refl
-plan_name_read PlanName.Rows = refl
+plan_name_read _ = refl
 
 pub start_read : (kind : StartKind) → start_of (start_name kind) ≡ Some kind
 unfolding start_of
 start_read StartKind.Both = refl
-start_read StartKind.Unanchored = refl
-start_read StartKind.Anchored = refl
+start_read _ = refl

@@ -1,11 +1,8 @@
 -- What a call of an overlapping search adds to a set of patterns.
-use Rattle.std.proofs.lemmas.Grind.{common_steps}
-use Rattle.std.proofs.Common.{◌≡◌, ◌<◌, ◌||◌, Bool, true, false, if◌then◌else◌, Option, Some, None, Result, Ok, Err}
-use Rattle.std.proofs.Common.{List, [], ◌∷◌, length, refl, ap, sym, ◌∙◌, arith}
-use Rattle.std.specs.Prelude.{slice_set, IsTrue, ◌↔◌}
-use Rattle.std.proofs.lemmas.Bool.{or_left, or_right, eq-eqb, ne_eqb}
-use Rattle.rx_spec.specs.Queries.{HalfMatch, MatchError}
-use Rattle.rx_spec.specs.Overlapping.{Item, Ending, OverlappingMatches}
+use Rattle.rx_spec.proofs.Prelude.{common_steps, ◌≡◌, ◌<◌, ◌||◌, Bool, true, false, if◌then◌else◌, Option, Some, None}
+use Rattle.rx_spec.proofs.Prelude.{Result, Ok, Err, List, [], ◌∷◌, length, refl, ap, sym, ◌∙◌, arith, slice_set, IsTrue}
+use Rattle.rx_spec.proofs.Prelude.{◌↔◌, or_left, or_right, eq-eqb, HalfMatch, MatchError, Item, Ending}
+use Rattle.rx_spec.proofs.Prelude.{OverlappingMatches}
 use Rattle.rx_base.specs.PatternSet.{pattern_count}
 use Rattle.rx_search.specs.Collected.{Collected, is_full, ending_result, collected}
 use Rattle.rx_search.specs.OverlappingCalls.{item_call}
@@ -93,7 +90,7 @@ module _ (earliest : Bool) (set : List Bool) {before : OverlappingMatches} {resu
         let p = parts in
         let n = ap length p.1 in
         let m = ap (λ (m : OverlappingMatches). length m.items) p.3 in
-        omega (arith, n, m)
+        omega arith
 
 -- what a set says of itself
 pub full_is : (set : List Bool) {full : Bool} → (IsTrue full ↔ (pattern_count set ≡ length set)) → full ≡ true
@@ -102,4 +99,4 @@ full_is set is e = eq-eqb (pattern_count set) (length set) (is.0 e)
 
 pub open_is : (set : List Bool) {full : Bool} → (IsTrue full ↔ (pattern_count set ≡ length set)) → full ≡ false
     → is_full set ≡ false
-open_is set {full} is e = grind (arith, common_steps, ne_eqb)
+open_is set {full} is e = grind (arith, common_steps)

@@ -1,21 +1,14 @@
 -- What a turn and a skip add to the units that are counted.
-use Rattle.std.proofs.lemmas.Grind.{common_steps}
-use Rattle.std.proofs.Common.{◌≡◌, ℕ, ◌+◌, ◌≤◌, ◌||◌, Bool, true, false, if◌then◌else◌, Some, Ok, ◌≢◌, List, [], ◌∷◌}
-use Rattle.std.proofs.Common.{length, refl, ap, sym, ◌∙◌, arith, drop}
-use Rattle.std.proofs.lemmas.Bool.{or_right, eqb-true, eqb-false}
-use Rattle.rx_spec.specs.Bytes.{AreBytes}
-use Rattle.rx_spec.specs.Queries.{Query}
-use Rattle.rx_spec.specs.Machines.{Label}
-use Rattle.rx_spec.specs.Tables.{Table}
-use Rattle.rx_spec.specs.HalfSearches.{next_offset}
+use Rattle.rx_spec.proofs.Prelude.{common_steps, ◌≡◌, ℕ, ◌+◌, ◌≤◌, ◌||◌, Bool, true, false, if◌then◌else◌, Some, Ok}
+use Rattle.rx_spec.proofs.Prelude.{◌≢◌, List, [], ◌∷◌, length, refl, ap, sym, ◌∙◌, arith, drop, or_right, AreBytes}
+use Rattle.rx_spec.proofs.Prelude.{Query, Label, Table, next_offset}
 use Rattle.rx_spec.specs.declared.Direction.{Direction}
 use Rattle.rx_search.specs.Needles.{is_nil, byte_ahead, is_read, Skips}
 use Rattle.rx_search.specs.Walks.{last_offset, units_left}
 use Rattle.rx_search.specs.Counted.{ends_at, counts, IsReady, counted, counted_on}
-use Rattle.lemmas_walks.proofs.Firsts.{by_test}
 use Rattle.rx_search.proofs.Standing.{Standing}
-use Rattle.rx_search.proofs.Walks.{Place, units_left-more, units_left-last, next_place, byte_there, IsQuiet, Turn}
-use Rattle.rx_search.proofs.Walks.{loops, unread_alive, Step, step_units, step_after, LastStep, last_units, skip_keeps}
+use Rattle.rx_search.proofs.Walks.{Place, units_left-more, next_place, byte_there, IsQuiet, Turn, loops, unread_alive}
+use Rattle.rx_search.proofs.Walks.{Step, step_units, step_after, LastStep, last_units, skip_keeps}
 
 pub counted-nil : (t : Table) (earliest : Bool) (row : ℕ) → counted t earliest row [] ≡ 0
 unfolding counted
@@ -62,10 +55,10 @@ counted_few t earliest row (unit ∷ units) =
   where
     at_most : (one ended : Bool) {n later : ℕ} → later ≤ length units
         → n ≡ (if one then 1 else 0) + (if ended then 0 else later) → n ≤ length (unit ∷ units)
-    at_most true true few e = omega (arith, e)
-    at_most true false few e = omega (arith, e, few)
-    at_most false true few e = omega (arith, e)
-    at_most false false few e = omega (arith, e, few)
+    at_most true true few e = omega arith
+    at_most true false few e = omega arith
+    at_most false true few e = omega arith
+    at_most false false few e = omega arith
 
 -- the next unit counts
 some_counted : (t : Table) (earliest : Bool) (row unit : ℕ) (units : List ℕ) → counts t row unit units ≡ true
@@ -83,11 +76,11 @@ pub ready_counts : (t : Table) (direction : Direction) (earliest : Bool) (row : 
     → Place q offset → offset ≢ last_offset direction q → IsReady t direction q row offset
     → 1 ≤ counted t earliest row (units_left direction q offset)
 ready_counts t direction earliest row {q} {offset} place more is_ready =
-    grind (arith, common_steps, units_left-more, some_counted, read_counts)
+    grind (arith, common_steps, units_left-more, some_counted)
 
 pub last_counts : (t : Table) (direction : Direction) (earliest : Bool) (row : ℕ) (q : Query) → q.start ≤ q.end
     → q.end ≤ length q.haystack → 1 ≤ counted t earliest row (units_left direction q (last_offset direction q))
-last_counts t direction earliest row q order fits = grind (arith, common_steps, units_left-last, some_counted)
+last_counts t direction earliest row q order fits = grind (arith, common_steps, some_counted)
 
 -- ---- turns of a search
 
@@ -151,7 +144,7 @@ last_match_counted {t} {direction} {q} {row} {unit} {next} s =
 some_left : (direction : Direction) (q : Query) (offset : ℕ) → q.start ≤ q.end → Place q offset
     → is_nil (units_left direction q offset) ≡ false
 some_left direction q offset order p =
-    grind (arith, common_steps, by_test, eqb-true, units_left-last, units_left-more, eqb-false)
+    grind (arith, common_steps)
 
 pub skip_counts : {t : Table} {row : ℕ} (earliest : Bool) (direction : Direction) (q : Query) → Standing t row
     → (t.machine.is_dead row ≡ false → ends_at t earliest row ≡ false)

@@ -1,10 +1,6 @@
 -- What a search knows of its table: a cursor keeps the table that it was made for, and so its rows and their ids.
-use Rattle.std.proofs.Common.{arith, rules, ◌≡◌, ℕ, ◌<◌, Bool, true, Some, Ok, List, length, slice_index, sym, ◌∙◌}
-use Rattle.std.proofs.Common.{subst}
-use Rattle.std.proofs.lemmas.Grind.{common_steps}
-use Rattle.rx_spec.specs.Ids.{AreIds, row_of}
-use Rattle.rx_spec.specs.Queries.{Query}
-use Rattle.rx_spec.specs.Tables.{Table, IsSound, is_match}
+use Rattle.rx_spec.proofs.Prelude.{arith, rules, ◌≡◌, ℕ, ◌<◌, Bool, true, Some, Ok, List, length, slice_index, sym, ◌∙◌}
+use Rattle.rx_spec.proofs.Prelude.{subst, common_steps, AreIds, row_of, Query, Table, IsSound, is_match}
 use Rattle.rx_spec.specs.declared.Direction.{Direction}
 use Rattle.rx_search.specs.Labels.{patterns_of}
 use Rattle.rx_search.specs.Needles.{Skips}
@@ -48,14 +44,14 @@ module _ {A : Type 0} (table : A → Table) (ids : A → List ℕ) where
       → from' ≡ from → Skips (table other) direction q (row_of (ids other) id) from' to
       → Skips (table first) direction q (row_of (ids first) id) from to
   skips_at {first} {other} {direction} {q} id {from} {from'} {to} same same_from skips =
-      grind (arith, common_steps, row_at)
+      grind (arith, common_steps)
 
   -- a turn of a cursor
   pub turned : {first here there : A} → Held (table first) (ids first) → (id next : ℕ) {unit : ℕ} → here ≡ first
       → there ≡ first → IsId (ids there) next
       → row_of (ids here) next ≡ (table here).machine.next (row_of (ids here) id) unit
       → Turn (table first) (row_of (ids first) id) unit (row_of (ids first) next)
-  turned held id next {unit} same same_next is leads = grind (arith, common_steps, at_same, standing, held_row)
+  turned held id next {unit} same same_next is leads = grind (arith, common_steps)
 
   -- A walk from a row and an offset has led a cursor to the id of a match row, and to an offset.
   pub record Reached (first there : A) (direction : Direction) (q : Query) (row from next offset : ℕ) : Type 0 where
@@ -73,7 +69,7 @@ module _ {A : Type 0} (table : A → Table) (ids : A → List ℕ) where
       (Ok (Some offset))
       → Reached first there direction q row from next offset
   reached {first} {here} {there} {direction} {q} {row} {from} {next} {offset} held same same_next is stops =
-      search (rules, at_same, standing, held_row)
+      search rules
 
   module _ {first there : A} {direction : Direction} {q : Query} {row from next offset : ℕ}
       (r : Reached first there direction q row from next offset) where

@@ -1,8 +1,5 @@
 -- Four walks over a block: what a byte of each part adds, and how one walk over the block follows from them.
-use Rattle.std.proofs.lemmas.Grind.{common_steps}
-use Rattle.std.proofs.Common.{◌≡◌, ℕ, ◌+◌, ap, ◌∙◌, arith, List, slice_index}
-use Rattle.rx_spec.specs.Ids.{row_of}
-use Rattle.rx_spec.specs.Tables.{Table}
+use Rattle.rx_spec.proofs.Prelude.{common_steps, ◌≡◌, ℕ, ◌+◌, ap, ◌∙◌, arith, List, slice_index, row_of, Table}
 use Rattle.rx_spec.specs.declared.Direction.{Direction}
 use Rattle.rx_search.specs.FourWalks.{AreLed, AreOrdinary, AreWalks}
 use Rattle.rx_search.specs.Passing.{Leads}

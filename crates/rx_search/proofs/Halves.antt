@@ -1,21 +1,14 @@
 -- What a half search tells, from stop to stop.
-use Rattle.std.proofs.lemmas.Grind.{common_steps}
-use Rattle.std.proofs.Common.{◌≡◌, ◌≢◌, ℕ, ◌+◌, ◌^◌, ◌<◌, ◌≤◌, inl, inr, Bool, true, false, Option, if◌then◌else◌, Some}
-use Rattle.std.proofs.Common.{None, Ok, Err, List, [], ◌∷◌, length, drop, refl, ap, ap₂, sym, ◌∙◌, arith}
-use Rattle.std.specs.Prelude.{slice_index}
-use Rattle.rx_spec.specs.Bytes.{AreBytes}
-use Rattle.rx_spec.specs.Queries.{Query, HalfMatch, MatchError, IsFit, is_done}
-use Rattle.rx_spec.specs.Starts.{start_context}
-use Rattle.rx_spec.specs.Machines.{Label, Machine, IsWord}
-use Rattle.rx_spec.specs.HalfSearches.{HalfAnswer, first_offset, next_offset, units_of, first_match, last_match}
-use Rattle.rx_spec.specs.HalfSearches.{at_label, walk, whole_walk, half_search, beside}
-use Rattle.lemmas_walks.proofs.HalfSearches.{half_walks}
-use Rattle.std.proofs.lemmas.Bool.{ltb-false}
+use Rattle.rx_spec.proofs.Prelude.{common_steps, ◌≡◌, ◌≢◌, ℕ, ◌+◌, ◌^◌, ◌<◌, ◌≤◌, inl, inr, Bool, true, false, Option}
+use Rattle.rx_spec.proofs.Prelude.{if◌then◌else◌, Some, None, Ok, Err, List, [], ◌∷◌, length, drop, refl, ap, ap₂, sym}
+use Rattle.rx_spec.proofs.Prelude.{◌∙◌, arith, slice_index, AreBytes, Query, HalfMatch, MatchError, IsFit, is_done}
+use Rattle.rx_spec.proofs.Prelude.{start_context, Label, Machine, IsWord, HalfAnswer, first_offset, next_offset}
+use Rattle.rx_spec.proofs.Prelude.{units_of, first_match, last_match, at_label, walk, whole_walk, half_search, beside}
+use Rattle.rx_spec.proofs.Prelude.{ltb-false, Table, IsSound, is_match}
 use Rattle.rx_search.specs.Starts.{IsStart}
-use Rattle.rx_spec.specs.Tables.{Table, IsSound, is_match}
 use Rattle.rx_spec.specs.declared.Direction.{Direction}
 use Rattle.lemmas_walks.proofs.Firsts.{by_test}
-use Rattle.lemmas_tables.proofs.Tables.{match_alive, units_below}
+use Rattle.lemmas_tables.proofs.Tables.{match_alive}
 use Rattle.lemmas_walks.proofs.Words.{IsWord-head}
 use Rattle.lemmas_walks.proofs.Walking.{walk-nil, walk-cons}
 use Rattle.rx_search.specs.Labels.{patterns_of, IsFinal}
@@ -25,10 +18,10 @@ use Rattle.rx_search.specs.Walks.{Stop, stop_error, IsInSpan, IsMet}
 use Rattle.rx_search.specs.Counted.{HasRoomFor, IsReady, ends_at, counted, counted_on}
 use Rattle.rx_search.proofs.Standing.{Standing, match_label}
 use Rattle.rx_search.proofs.Walks.{Place, stop-nil, stop-cons, units_left-more, units_left-last, byte_there, loops}
-use Rattle.rx_search.proofs.Walks.{skip_keeps, rest_whole, next_place, skip_stops}
+use Rattle.rx_search.proofs.Walks.{skip_keeps, rest_whole, next_place, skip_stops, bytes_on}
 use Rattle.rx_search.proofs.Counting.{quiet_goes_on, match_goes_on, skip_counts, counted_few}
-use Rattle.lemmas_walks.proofs.WalkBounds.{units_count}
 use Rattle.rx_search.proofs.Progress.{Standpoint}
+use Rattle.lemmas_walks.proofs.ReadUnits.{units_word}
 
 -- what a stop makes of a half search that has kept a match
 abbrev pub by_stop : Machine ℕ → Direction → Bool → Option HalfMatch → Stop → HalfAnswer
@@ -139,15 +132,9 @@ walk_final {t} {row} s final direction earliest offset last (unit ∷ units) wor
     let met = last_match label offset (Some last) in
     at_label label direction earliest unit offset (Ok met)
     (if dead then Ok met else walk t.machine direction earliest r (next_offset direction offset) met units) in
-    let two = s.below in
     walk-cons t.machine direction earliest row unit offset (Some last) units
     ∙ ap (λ (r : ℕ). on r (t.machine.label r) (t.machine.is_dead r)) (final.to_dead unit (IsWord-head unit units word))
-    ∙ ap₂ (on 0) s.sound.is_table.dead_label (s.sound.is_table.dead_only 0 (omega (arith, two)))
-
-bytes_on : (direction : Direction) (q : Query) (from : ℕ) → AreBytes q.haystack
-    → AreBytes (rest direction q from).haystack
-bytes_on Direction.Forward q from bytes = bytes
-bytes_on Direction.Reverse q from bytes = bytes
+    ∙ ap₂ (on 0) s.sound.is_table.dead_label (s.sound.is_table.dead_only 0 (omega arith))
 
 -- ---- how far a half search has come
 
@@ -188,7 +175,7 @@ plain_start {t} {direction} {q} {row} sound start =
 
 pub begun : {t : Table} {direction : Direction} {q : Query} {row : ℕ} → IsStart t direction q row → is_done q ≡ false
     → half_search t.machine t.settings direction q ≡ whole_walk t.machine direction q row
-begun {t} {direction} {q} {row} start goes = grind (arith, common_steps, half_walks)
+begun {t} {direction} {q} {row} start goes = grind (arith, common_steps)
 
 pub first_place : (direction : Direction) {q : Query} → Open q → Place q (first_offset direction q)
 first_place Direction.Forward o = grind (arith, common_steps)
@@ -198,13 +185,13 @@ first_place Direction.Reverse o = grind (arith, common_steps)
 pub counted_room : (t : Table) (direction : Direction) (q : Query) (row steps : ℕ) → q.end ≤ length q.haystack
     → HasRoomFor t direction q row steps → steps + counted t q.earliest row (units_of direction q) < 2 ^ 64
 counted_room t direction q row steps fits (inl room) = room
-counted_room t direction q row steps fits (inr room) = grind (arith, common_steps, counted_few, units_count)
+counted_room t direction q row steps fits (inr room) = grind (arith, common_steps, counted_few)
 
 -- it is room for those that are left, too
 pub room_left : (t : Table) (direction : Direction) {q : Query} (offset row steps : ℕ)
     → q.end ≤ length q.haystack → IsInSpan q offset → steps + length q.haystack + 1 < 2 ^ 64
     → steps + counted t q.earliest row (units_left direction q offset) < 2 ^ 64
-room_left t direction {q} offset row steps fits in_span room = grind (arith, common_steps, counted_few, units_count)
+room_left t direction {q} offset row steps fits in_span room = grind (arith, common_steps, counted_few)
 
 -- where it begins, at a row that tells nothing, behind what may be skipped
 pub record Begins (t : Table) (direction : Direction) (q : Query) (row to : ℕ) : Type 0 where
@@ -218,21 +205,13 @@ pub half_begins : {t : Table} {row : ℕ} (direction : Direction) {q : Query}
     → Begins t direction q row to
 half_begins {t} {row} direction {q} o bytes s plain {to} skips =
     let place = first_place direction o in
-    let first = first_offset direction q in
     let whole = ap (units_of direction) (rest_whole direction q) in
     let stops = skip_stops direction q s plain bytes place skips in
     let counts = skip_counts q.earliest direction q s
     (λ alive. quiet_goes_on {t = t} {row = row} q.earliest (record { plain = plain; alive = alive }))
     bytes o.order place skips in
     let here = ap (counted t q.earliest row) whole in
-    record {
-      walked =
-          ap (walk t.machine direction q.earliest row first None) (sym whole)
-          ∙ walk_stops t.machine direction q.earliest None row first (units_left direction q first)
-          ∙ ap (by_stop t.machine direction q.earliest None) stops
-          ∙ sym (walk_stops t.machine direction q.earliest None row to (units_left direction q to));
-      count = omega (arith, counts, here);
-    }
+    grind (arith, common_steps, walk_stops)
 
 module _ {t : Table} {direction : Direction} {q : Query} {first now : Standpoint} {last : Option HalfMatch}
     (p : HalfProgress t direction q first now last) where
@@ -303,7 +282,7 @@ module _ {t : Table} {direction : Direction} {q : Query} {first now : Standpoint
           ∙ ap (walk t.machine direction q.earliest next from (Some (match_at t next offset)))
           (ap (drop 1) (units_left-more direction place ne))
           ∙ walk_final s final direction q.earliest from (match_at t next offset) (units_left direction q from)
-          (units_below direction (rest direction q from) (bytes_on direction q from bytes))
+          (units_word direction (rest direction q from) (bytes_on direction q from bytes))
 
       -- behind it and what may be skipped there the search goes on
       pub half_on : AreBytes q.haystack → q.earliest ≡ false → offset ≢ last_offset direction q → (steps : ℕ)
@@ -334,5 +313,5 @@ module _ {t : Table} {direction : Direction} {q : Query} {first now : Standpoint
                 (units_left direction q to))
                 (sym kept_is);
             is_ready = skips.is_ready;
-            count = omega (arith, p.count, count, same, counts);
+            count = omega arith;
           }

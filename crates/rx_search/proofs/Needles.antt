@@ -1,14 +1,9 @@
 -- The next needle of a span, as it is found in the bytes that are left, and skips to it.
-use Rattle.std.proofs.Common.{rules, ◌≡◌, ℕ, ◌+◌, ◌-◌, ◌<◌, ◌≤◌, Bool, true, false, ◌||◌, Option, Some, None, List, []}
-use Rattle.std.proofs.Common.{◌∷◌, length, take, drop, refl, ap, sym, ◌∙◌, arith, length-drop, length-take-le}
-use Rattle.std.proofs.lemmas.Grind.{common_steps}
-use Rattle.std.proofs.Math.Bool.{or-false, or_assoc}
-use Rattle.std.proofs.lemmas.Bool.{false_from_ne_true}
-use Rattle.std.proofs.lemmas.List.{get_or-take, get_or-drop}
-use Rattle.std.specs.Prelude.{slice_index}
+use Rattle.rx_spec.proofs.Prelude.{rules, ◌≡◌, ℕ, ◌+◌, ◌-◌, ◌<◌, ◌≤◌, Bool, true, false, ◌||◌, Option, Some, None, List}
+use Rattle.rx_spec.proofs.Prelude.{[], ◌∷◌, length, take, drop, refl, ap, sym, ◌∙◌, arith, length-drop, length-take-le}
+use Rattle.rx_spec.proofs.Prelude.{common_steps, or-false, false_from_ne_true, get_or-take, get_or-drop, slice_index}
+use Rattle.rx_spec.proofs.Prelude.{Query, Table}
 use Rattle.memchr.specs.Find.{IsFirstByte, IsLastByte, is_byte, is_byte2, is_byte3}
-use Rattle.rx_spec.specs.Queries.{Query}
-use Rattle.rx_spec.specs.Tables.{Table}
 use Rattle.rx_spec.specs.declared.Direction.{Direction}
 use Rattle.rx_search.specs.Needles.{is_nil, is_needle, byte_ahead, offset_after, IsNextNeedle, Skips}
 use Rattle.rx_search.specs.Walks.{IsInSpan}
@@ -17,24 +12,24 @@ use Rattle.rx_search.proofs.Standing.{Standing}
 -- ---- one, two or three needles
 
 one_test : (needles : List ℕ) → length needles ≡ 1 → (x : ℕ) → is_byte (slice_index needles 0) x ≡ is_needle needles x
-one_test [] e x = absurd (omega (arith, e))
+one_test [] e x = absurd (omega arith)
 one_test (a ∷ []) e x = sym (or-false (is_byte a x))
-one_test (a ∷ (b ∷ more)) e x = absurd (omega (arith, e))
+one_test (a ∷ (b ∷ more)) e x = absurd (omega arith)
 
 two_test : (needles : List ℕ) → length needles ≡ 2 → (x : ℕ)
     → is_byte2 (slice_index needles 0) (slice_index needles 1) x ≡ is_needle needles x
-two_test [] e x = absurd (omega (arith, e))
-two_test (a ∷ []) e x = absurd (omega (arith, e))
+two_test [] e x = absurd (omega arith)
+two_test (a ∷ []) e x = absurd (omega arith)
 two_test (a ∷ (b ∷ [])) e x = ap (λ rest. is_byte a x || rest) (sym (or-false (is_byte b x)))
-two_test (a ∷ (b ∷ (c ∷ more))) e x = absurd (omega (arith, e))
+two_test (a ∷ (b ∷ (c ∷ more))) e x = absurd (omega arith)
 
 three_test : (needles : List ℕ) → length needles ≡ 3 → (x : ℕ)
     → is_byte3 (slice_index needles 0) (slice_index needles 1) (slice_index needles 2) x ≡ is_needle needles x
-three_test [] e x = absurd (omega (arith, e))
-three_test (a ∷ []) e x = absurd (omega (arith, e))
-three_test (a ∷ (b ∷ [])) e x = absurd (omega (arith, e))
-three_test (a ∷ (b ∷ (c ∷ []))) e x = grind (arith, common_steps, or_assoc, or-false)
-three_test (a ∷ (b ∷ (c ∷ (d ∷ more)))) e x = absurd (omega (arith, e))
+three_test [] e x = absurd (omega arith)
+three_test (a ∷ []) e x = absurd (omega arith)
+three_test (a ∷ (b ∷ [])) e x = absurd (omega arith)
+three_test (a ∷ (b ∷ (c ∷ []))) e x = grind (arith, common_steps)
+three_test (a ∷ (b ∷ (c ∷ (d ∷ more)))) e x = absurd (omega arith)
 
 first_same : (f g : ℕ → Bool) (hay : List ℕ) → ((x : ℕ) → f x ≡ g x) → (r : Option ℕ) → IsFirstByte f hay r
     → IsFirstByte g hay r
@@ -53,12 +48,12 @@ module _ (needles hay : List ℕ) (r : Option ℕ) where
 
   pub first_of_two : length needles ≡ 2 → IsFirstByte (is_byte2 (slice_index needles 0) (slice_index needles 1)) hay r
       → IsFirstByte (is_needle needles) hay r
-  first_of_two e = grind (arith, common_steps, first_same, two_test)
+  first_of_two e = grind (arith, common_steps, two_test)
 
   pub first_of_three : length needles ≡ 3
       → IsFirstByte (is_byte3 (slice_index needles 0) (slice_index needles 1) (slice_index needles 2)) hay r
       → IsFirstByte (is_needle needles) hay r
-  first_of_three e = grind (arith, common_steps, first_same, three_test)
+  first_of_three e = grind (arith, common_steps, three_test)
 
   pub last_of_one : length needles ≡ 1 → IsLastByte (is_byte (slice_index needles 0)) hay r
       → IsLastByte (is_needle needles) hay r
@@ -66,12 +61,12 @@ module _ (needles hay : List ℕ) (r : Option ℕ) where
 
   pub last_of_two : length needles ≡ 2 → IsLastByte (is_byte2 (slice_index needles 0) (slice_index needles 1)) hay r
       → IsLastByte (is_needle needles) hay r
-  last_of_two e = grind (arith, common_steps, last_same, two_test)
+  last_of_two e = grind (arith, common_steps, two_test)
 
   pub last_of_three : length needles ≡ 3
       → IsLastByte (is_byte3 (slice_index needles 0) (slice_index needles 1) (slice_index needles 2)) hay r
       → IsLastByte (is_needle needles) hay r
-  last_of_three e = grind (arith, common_steps, last_same, three_test)
+  last_of_three e = grind (arith, common_steps, three_test)
 
 -- ---- the next one of a span
 
@@ -86,17 +81,13 @@ part_length hay low high h = length-take-le (high - low) (drop low hay) (simp le
 module _ (needles : List ℕ) (q : Query) (from : ℕ) (is : IsInSpan q from) (within : q.end ≤ length q.haystack) where
   pub no_next : IsFirstByte (is_needle needles) (take (q.end - from) (drop from q.haystack)) None
       → IsNextNeedle needles Direction.Forward q from q.end
-  no_next none = search (rules, part_length, part_at, false_from_ne_true)
-
-  pub next_there : (at : ℕ) → IsFirstByte (is_needle needles) (take (q.end - from) (drop from q.haystack)) (Some at)
-      → IsNextNeedle needles Direction.Forward q from (from + at)
-  next_there at first = search (rules, part_length, part_at, false_from_ne_true)
+  no_next none = search (rules, part_length, part_at)
 
   -- a byte before it in the order of reading, in reverse
   back_at : (k : ℕ) → k < from - q.start
       → slice_index (take (from - q.start) (drop q.start q.haystack)) (from - q.start - 1 - k)
       ≡ byte_ahead Direction.Reverse q.haystack (from - k)
-  back_at k h = grind (arith, common_steps, part_at)
+  back_at k h = grind (arith, common_steps)
 
   pub no_last : IsLastByte (is_needle needles) (take (from - q.start) (drop q.start q.haystack)) None
       → IsNextNeedle needles Direction.Reverse q from q.start
@@ -111,7 +102,7 @@ module _ (needles : List ℕ) (q : Query) (from : ℕ) (is : IsInSpan q from) (w
         in_span = record { low = omega arith; high = omega arith };
         none = λ k h.
             ap (is_needle needles) (sym (back_at k h))
-            ∙ false_from_ne_true _ (none (from - q.start - 1 - k) (omega arith) (omega (arith, n)));
+            ∙ false_from_ne_true _ (none (from - q.start - 1 - k) (omega arith) (omega arith));
         stands = λ ne. absurd (ne refl);
       }
 
@@ -121,7 +112,7 @@ module _ (needles : List ℕ) (q : Query) (from : ℕ) (is : IsInSpan q from) (w
       let low = is.low in
       let high = is.high in
       let n = part_length q.haystack q.start from (omega arith) in
-      let below : at < from - q.start = omega (arith, n, last.0.high) in
+      let below : at < from - q.start = omega arith in
       let same : q.start + at ≡ q.start + at + 1 - 1 = omega arith in
       record {
         count = from - (q.start + at + 1);
@@ -130,7 +121,7 @@ module _ (needles : List ℕ) (q : Query) (from : ℕ) (is : IsInSpan q from) (w
         in_span = record { low = omega arith; high = omega arith };
         none = λ k h.
             ap (is_needle needles) (sym (back_at k (omega arith)))
-            ∙ false_from_ne_true _ (last.0.after (from - q.start - 1 - k) (omega arith) (omega (arith, n)));
+            ∙ false_from_ne_true _ (last.0.after (from - q.start - 1 - k) (omega arith) (omega arith));
         stands = λ ne.
             ap (is_needle needles) (sym (part_at q.haystack q.start from at below ∙ ap (slice_index q.haystack) same))
             ∙ last.1;

@@ -1,15 +1,10 @@
 -- Matches that split a character are passed over by an overlapping search, call by call.
-use Rattle.std.proofs.lemmas.Grind.{common_steps}
-use Rattle.std.proofs.Common.{◌≡◌, ◌<◌, Bool, true, false, if◌then◌else◌, Option, Some, None, Result, Ok, Err, List, []}
-use Rattle.std.proofs.Common.{◌∷◌, ◌++◌, length, ap, ap₂, sym, ◌∙◌, arith}
-use Rattle.std.specs.List.{flat_map}
-use Rattle.rx_spec.specs.Queries.{Query, HalfMatch, MatchError, is_anchored}
-use Rattle.rx_spec.specs.Overlapping.{Item, Ending, OverlappingMatches}
-use Rattle.rx_spec.specs.Splits.{is_split, item_unsplit, items_unsplit, skips_splits}
-use Rattle.rx_spec.specs.Tables.{Table}
-use Rattle.rx_search.specs.OverlappingCalls.{Call, ending_call, item_call, next_call}
-use Rattle.rx_search.specs.SplitSearches.{unsplit_matches}
-use Rattle.lemmas_walks.proofs.Firsts.{by_test}
+use Rattle.rx_spec.proofs.Prelude.{common_steps, ◌≡◌, ◌<◌, Bool, true, false, if◌then◌else◌, Option, Some, None, Result}
+use Rattle.rx_spec.proofs.Prelude.{Ok, List, [], ◌∷◌, ◌++◌, length, ap, ap₂, sym, ◌∙◌, arith, flat_map, Query}
+use Rattle.rx_spec.proofs.Prelude.{HalfMatch, MatchError, is_anchored, Item, Ending, OverlappingMatches, is_split}
+use Rattle.rx_spec.proofs.Prelude.{item_unsplit}
+use Rattle.rx_spec.specs.Splits.{items_unsplit}
+use Rattle.rx_search.specs.OverlappingCalls.{item_call, next_call}
 
 -- a call of the search that doesn't pass over splits
 pub record IsCall (before : OverlappingMatches) (result : Result (Unit {0}) MatchError) (told : Option HalfMatch)
@@ -35,42 +30,12 @@ pub first_item : {result : Result (Unit {0}) MatchError} {told : Option HalfMatc
     → (rest : List Item) × (items ≡ Item.Reported h ∷ rest) × (result ≡ Ok tt)
     × (after ≡ record { items = rest; ending = ending })
 first_item h [] Ending.Ended t e = grind (arith, common_steps)
-first_item h [] (Ending.Quits byte offset) t e = grind (arith, common_steps)
-first_item h [] (Ending.Refused error) t e = grind (arith, common_steps)
 first_item h (Item.Skipped ∷ items) ending t e = grind (arith, common_steps)
 first_item h (Item.Reported k ∷ items) ending t e = grind (arith, common_steps)
-
-module _ (q : Query) {result : Result (Unit {0}) MatchError} {told : Option HalfMatch}
-    {after : OverlappingMatches} where
-  -- where nothing is left, nothing is passed over
-  by_ending : (ending : Ending) → record { result = result; told = told; left = after } ≡ ending_call ending
-      → record { result = result; told = told; left = items_unsplit q after } ≡ ending_call ending
-  by_ending ending e = grind (arith, common_steps)
-
-  error_items : (items : List Item) (ending : Ending) (error : MatchError) → result ≡ Err error
-      → record { result = result; told = told; left = after } ≡ item_call items ending
-      → record { result = result; told = told; left = items_unsplit q after }
-      ≡ item_call (flat_map (item_unsplit q) items) ending
-  error_items [] ending error r e = by_ending ending e
-  error_items (Item.Reported h ∷ items) ending error r e = grind (arith, common_steps)
-  error_items (Item.Skipped ∷ items) ending error r e = grind (arith, common_steps)
-
-  none_items : (items : List Item) (ending : Ending) → told ≡ None
-      → record { result = result; told = told; left = after } ≡ item_call items ending
-      → record { result = result; told = told; left = items_unsplit q after }
-      ≡ item_call (flat_map (item_unsplit q) items) ending
-  none_items [] ending t e = by_ending ending e
-  none_items (Item.Reported h ∷ items) ending t e = grind (arith, common_steps)
-  none_items (Item.Skipped ∷ items) ending t e = ap (λ (c : Call). record c { left = items_unsplit q c.left }) e
+first_item h [] _ t e = grind (arith, common_steps)
 
 module _ (q : Query) {before : OverlappingMatches} {result : Result (Unit {0}) MatchError} {told : Option HalfMatch}
     {after : OverlappingMatches} (call : IsCall before result told after) where
-  pub unsplit_error : (error : MatchError) → result ≡ Err error → UnsplitCall q before result told after
-  unsplit_error error r = error_items q before.items before.ending error r call.is
-
-  pub unsplit_none : told ≡ None → UnsplitCall q before result told after
-  unsplit_none t = none_items q before.items before.ending t call.is
-
   module _ (h : HalfMatch) (t : told ≡ Some h) where
     parts : (rest : List Item) × (before.items ≡ Item.Reported h ∷ rest) × (result ≡ Ok tt)
         × (after ≡ record { items = rest; ending = before.ending })
@@ -132,35 +97,4 @@ module _ (q : Query) {before : OverlappingMatches} {result : Result (Unit {0}) M
         let p = parts in
         let n = ap length p.1 in
         let m = ap (λ (m : OverlappingMatches). length m.items) p.3 in
-        omega (arith, n, m)
-
--- ---- of a table that passes them over, or doesn't
-
--- a call by whether it passes them over
-abbrev by_skips : Query → OverlappingMatches → Result (Unit {0}) MatchError
-    → Option HalfMatch → OverlappingMatches → Bool
-    → Type 0
-by_skips q before result told after skips =
-    record { result = result; told = told; left = if skips then items_unsplit q after else after }
-    ≡ next_call (if skips then items_unsplit q before else before)
-
-pub passed_over : (t : Table) (q : Query) (before after : OverlappingMatches) {result : Result (Unit {0}) MatchError}
-    {told : Option HalfMatch} → skips_splits t ≡ true → UnsplitCall q before result told after
-    → record { result = result; told = told; left = unsplit_matches t q after } ≡ next_call (unsplit_matches t q before)
-passed_over t q before after {result} {told} skips is = grind (arith, common_steps)
-
-pub none_passed : (t : Table) (q : Query) {before : OverlappingMatches} {result : Result (Unit {0}) MatchError}
-    {told : Option HalfMatch} {after : OverlappingMatches} → skips_splits t ≡ false → IsCall before result told after
-    → record { result = result; told = told; left = unsplit_matches t q after } ≡ next_call (unsplit_matches t q before)
-none_passed t q {before} {result} {told} {after} skips call = grind (arith, common_steps)
-
-pub either_way : (t : Table) (q : Query) {before : OverlappingMatches} {result : Result (Unit {0}) MatchError}
-    {told : Option HalfMatch} {after : OverlappingMatches} → IsCall before result told after
-    → UnsplitCall q before result told after
-    → record { result = result; told = told; left = unsplit_matches t q after } ≡ next_call (unsplit_matches t q before)
-either_way t q {before} {result} {told} {after} call is = grind (arith, common_steps, by_test, passed_over, none_passed)
-
-pub passed_again : (t : Table) (q : Query) (before after : OverlappingMatches) → skips_splits t ≡ true
-    → next_call (items_unsplit q before) ≡ next_call (items_unsplit q after)
-    → next_call (unsplit_matches t q before) ≡ next_call (unsplit_matches t q after)
-passed_again t q before after skips is = grind (arith, common_steps)
+        omega arith

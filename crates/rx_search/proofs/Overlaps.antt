@@ -1,20 +1,14 @@
 -- What an overlapping search tells, from stop to stop.
-use Rattle.std.proofs.Common.{rules, ◌≡◌, ◌≢◌, ℕ, suc, zero, ◌+◌, ◌<◌, ◌≤◌, true, false, if◌then◌else◌, Some, None, Ok}
-use Rattle.std.proofs.Common.{Err, List, [], ◌∷◌, length, drop, refl, ap, sym, ◌∙◌, arith}
-use Rattle.std.proofs.lemmas.Grind.{common_steps}
-use Rattle.std.proofs.lemmas.List.{get_or_default}
-use Rattle.std.specs.Prelude.{slice_index}
-use Rattle.rx_spec.specs.Bytes.{AreBytes}
-use Rattle.rx_spec.specs.Queries.{Query, MatchError, is_done}
-use Rattle.rx_spec.specs.Machines.{Label, Machine, IsWord}
-use Rattle.rx_spec.specs.HalfSearches.{first_offset, next_offset, units_of}
-use Rattle.rx_spec.specs.Overlapping.{Ending, OverlappingMatches, none_left, label_items, with_items, at_item_label}
-use Rattle.rx_spec.specs.Overlapping.{overlapping_walk, remaining, overlapping, whole_overlapping_walk}
-use Rattle.rx_spec.specs.Tables.{Table, is_match}
+use Rattle.rx_spec.proofs.Prelude.{rules, ◌≡◌, ◌≢◌, ℕ, suc, zero, ◌+◌, ◌<◌, ◌≤◌, true, false, if◌then◌else◌, Some, None}
+use Rattle.rx_spec.proofs.Prelude.{Ok, Err, List, [], ◌∷◌, length, drop, refl, ap, sym, ◌∙◌, arith, common_steps}
+use Rattle.rx_spec.proofs.Prelude.{get_or_default, slice_index, AreBytes, Query, MatchError, is_done, Label, Machine}
+use Rattle.rx_spec.proofs.Prelude.{IsWord, first_offset, next_offset, units_of, Ending, OverlappingMatches, none_left}
+use Rattle.rx_spec.proofs.Prelude.{with_items, at_item_label, overlapping_walk, remaining, overlapping}
+use Rattle.rx_spec.proofs.Prelude.{whole_overlapping_walk, Table, is_match}
+use Rattle.rx_spec.specs.Overlapping.{label_items}
 use Rattle.rx_spec.specs.declared.Direction.{Direction}
 use Rattle.lemmas_walks.proofs.Firsts.{by_test}
-use Rattle.lemmas_tables.proofs.Tables.{match_alive}
-use Rattle.lemmas_walks.proofs.Overlapping.{overlapping-nil, overlapping-cons, overlapping_on, overlapping_walks}
+use Rattle.lemmas_walks.proofs.Overlapping.{overlapping-nil, overlapping-cons, overlapping_walks}
 use Rattle.lemmas_walks.proofs.Words.{IsWord-head}
 use Rattle.rx_search.specs.Labels.{patterns_of, is_quit}
 use Rattle.rx_search.specs.Needles.{Skips}
@@ -72,18 +66,11 @@ module _ (m : Machine ℕ) (direction : Direction) where
 
 -- the patterns of a row from one on
 pub patterns_left : (ks : List ℕ) (n : ℕ) → n < length ks → drop n ks ≡ slice_index ks n ∷ drop (n + 1) ks
-patterns_left [] n h = absurd (omega (arith, h))
+patterns_left [] n h = absurd (omega arith)
 patterns_left (k ∷ ks) zero h = refl
 patterns_left (k ∷ ks) (suc n) h =
     let more : suc (n + 1) ≡ suc n + 1 = omega arith in
-    patterns_left ks n (omega (arith, h))
-    ∙ ap (λ (m : ℕ). slice_index (k ∷ ks) (suc n) ∷ drop m (k ∷ ks)) more
-
-none_more : (ks : List ℕ) (n : ℕ) → length ks ≤ n → drop n ks ≡ []
-none_more [] zero h = refl
-none_more [] (suc n) h = refl
-none_more (k ∷ ks) zero h = absurd (omega (arith, h))
-none_more (k ∷ ks) (suc n) h = none_more ks n (omega (arith, h))
+    grind (arith, common_steps)
 
 -- what is told of a match row
 module _ {t : Table} {row : ℕ} (s : Standing t row) (is : is_match t row ≡ true) (direction : Direction) (q : Query)
@@ -104,7 +91,7 @@ module _ {t : Table} {row : ℕ} (s : Standing t row) (is : is_match t row ≡ t
         left = remaining t.machine direction (drop (n + 1) (patterns_of t row))
             offset row (units_after direction q offset);
       }
-  call_more n h = grind (arith, common_steps, patterns_left)
+  call_more n h = grind (arith, common_steps)
 
   pub told_within : IsInSpan q offset → (n : ℕ) → n < length (patterns_of t row)
       → IsTold t q (record { pattern = slice_index (patterns_of t row) n; offset = offset })
@@ -119,7 +106,7 @@ module _ {t : Table} {row : ℕ} (s : Standing t row) (is : is_match t row ≡ t
   pub none_remaining : (n : ℕ) → length (patterns_of t row) ≤ n
       → remaining t.machine direction (drop n (patterns_of t row)) offset row (units_after direction q offset)
       ≡ overlapping_walk t.machine direction row (next_offset direction offset) (units_after direction q offset)
-  none_remaining n h = grind (arith, common_steps, none_more)
+  none_remaining n h = grind (arith, common_steps)
 
   module _ (o : Open q) (in_span : IsInSpan q offset) where
     place : Place q offset
@@ -166,7 +153,7 @@ module _ (t : Table) (direction : Direction) (q : Query) (row from : ℕ) where
       ≡ Stop.Match next offset (units_after direction q offset)
       → overlapping_walk t.machine direction row from (units_left direction q from)
       ≡ remaining t.machine direction (drop 0 (patterns_of t next)) offset next (units_after direction q offset)
-  walk_met {next} {offset} s is e = search (rules, match_label, to_stop, match_alive)
+  walk_met {next} {offset} s is e = search (rules, to_stop)
 
 -- nothing is told from the quit row on
 pub quit_tells_nothing : {t : Table} {row : ℕ} → Standing t row → is_quit t row ≡ true → (direction : Direction)
@@ -179,9 +166,7 @@ quit_tells_nothing {t} {row} s quits direction offset (unit ∷ units) w =
     let one = table.quit_only row s.below (quit_label (t.machine.label row) quits) in
     let dead : t.machine.next row unit ≡ 0
     = ap (λ (r : ℕ). t.machine.next r unit) one ∙ table.quit_ends unit (IsWord-head unit units w) in
-    overlapping-cons t.machine direction row unit offset units
-    ∙ ap (overlapping_on t.machine direction unit offset units) dead
-    ∙ rw (table.dead_label, table.dead_only 0 (omega arith)) refl
+    grind (arith, common_steps, overlapping-cons)
 
 -- where it begins, at a row that tells nothing, behind what may be skipped
 pub begun_overlapping : {t : Table} {row : ℕ} (direction : Direction) {q : Query} → Open q → AreBytes q.haystack

@@ -1,16 +1,7 @@
 -- Walks over bytes that lead to ordinary rows alone: one behind another is one, and the next stop is the same.
-use Rattle.std.proofs.Common.{rules, ◌≡◌, ◌≢◌, ℕ, suc, zero, ◌+◌, ◌-◌, ◌<◌, ◌≤◌, Bool, true, false, if◌then◌else◌, List}
-use Rattle.std.proofs.Common.{length, refl, ap, ap₂, sym, ◌∙◌, subst, arith, ⊎_elim}
-use Rattle.std.proofs.lemmas.Grind.{common_steps}
-use Rattle.std.proofs.lemmas.Bool.{cases_lt, eqb-true}
-use Rattle.std.specs.Prelude.{◌==◌, not}
-use Rattle.lemmas_walks.proofs.Firsts.{by_test}
-use Rattle.rx_spec.specs.Bytes.{AreBytes}
-use Rattle.rx_spec.specs.Ids.{row_of}
-use Rattle.rx_spec.specs.Machines.{Machine}
-use Rattle.rx_spec.specs.Tables.{Table}
-use Rattle.rx_spec.specs.Queries.{Query}
-use Rattle.rx_spec.specs.HalfSearches.{next_offset}
+use Rattle.rx_spec.proofs.Prelude.{rules, ◌≡◌, ◌≢◌, ℕ, suc, zero, ◌+◌, ◌-◌, ◌<◌, ◌≤◌, Bool, true, false, if◌then◌else◌}
+use Rattle.rx_spec.proofs.Prelude.{List, length, refl, ap, ap₂, sym, ◌∙◌, subst, arith, ⊎_elim, common_steps, cases_lt}
+use Rattle.rx_spec.proofs.Prelude.{◌==◌, not, AreBytes, row_of, Machine, Table, Query, next_offset}
 use Rattle.rx_spec.specs.declared.Direction.{Direction}
 use Rattle.rx_search.specs.Needles.{byte_ahead, offset_after}
 use Rattle.rx_search.specs.Passing.{row_on, IsFarthest, Leads, Passes}
@@ -19,17 +10,13 @@ use Rattle.rx_search.specs.Walks.{last_offset, bytes_left, units_left, next_stop
 use Rattle.rx_search.specs.Counted.{IsReady, counts, counted}
 use Rattle.rx_search.proofs.Standing.{Standing}
 use Rattle.rx_search.proofs.Walks.{Place, next_place, next_left, Turn, Step, step_quiet, step_units, ordinary}
-use Rattle.rx_search.proofs.Walks.{unaccelerated, byte_there}
+use Rattle.rx_search.proofs.Walks.{unaccelerated, byte_there, none_left, offset_after-zero}
 use Rattle.rx_search.proofs.Counting.{counted-cons, quiet_goes_on}
 use Rattle.rx_search.proofs.Needles.{stays}
 use Rattle.rx_search.proofs.Progress.{Standpoint, Progress}
 use Rattle.rx_search.proofs.Cursors.{Held, held_row, at_same}
 
 -- ---- one behind another
-
-after-zero : (direction : Direction) (offset : ℕ) → offset ≡ offset_after direction offset 0
-after-zero Direction.Forward offset = omega arith
-after-zero Direction.Reverse offset = omega arith
 
 after-suc : (direction : Direction) (offset n : ℕ)
     → next_offset direction (offset_after direction offset n) ≡ offset_after direction offset (suc n)
@@ -60,7 +47,7 @@ row_on-add m direction haystack row offset n (suc k) =
 module _ (t : Table) (direction : Direction) (haystack : List ℕ) where
   pub leads_none : (row offset : ℕ) → Leads t direction haystack row offset row 0
   unfolding row_on
-  leads_none row offset = record { next_is = refl; ordinary = λ k h. absurd (omega (arith, h)) }
+  leads_none row offset = record { next_is = refl; ordinary = λ k h. absurd (omega arith) }
 
   -- the row to which the next byte leads
   next_on : {row offset next count : ℕ} (more : ℕ) → Leads t direction haystack row offset next count
@@ -81,7 +68,7 @@ module _ (t : Table) (direction : Direction) (haystack : List ℕ) where
       → more ≡ t.machine.next next (byte_ahead direction haystack (offset_after direction offset count))
       → t.is_special more ≡ false
       → Leads t direction haystack row offset more (count + 1)
-  leads_more {row} {offset} {next} {count} more l leads plain = search (rules, next_on, ordinary, cases_lt)
+  leads_more {row} {offset} {next} {count} more l leads plain = search (rules, next_on)
 
   joined_on : {row offset mid n : ℕ} → Leads t direction haystack row offset mid n → (i : ℕ)
       → row_on t.machine direction haystack mid (offset_after direction offset n) i
@@ -98,10 +85,10 @@ module _ (t : Table) (direction : Direction) (haystack : List ℕ) where
         ⊎_elim
         (λ (before : j < n). l.ordinary j before)
         (λ (behind : n ≤ j).
-        let same : n + ((j - n) + 1) ≡ j + 1 = omega (arith, behind) in
+        let same : n + ((j - n) + 1) ≡ j + 1 = omega arith in
         ap (λ (i : ℕ). t.is_special (row_on t.machine direction haystack row offset i)) (sym same)
         ∙ ap t.is_special (sym (joined_on l ((j - n) + 1)))
-        ∙ more.ordinary (j - n) (omega (arith, h, behind)))
+        ∙ more.ordinary (j - n) (omega arith))
         (cases_lt j n);
   }
 
@@ -127,7 +114,7 @@ module _ (t : Table) (direction : Direction) (haystack : List ℕ) where
 
 -- two ids that don't differ
 pub same_id : (a b : ℕ) {told : Bool} → told ≡ not (a == b) → told ≡ false → a ≡ b
-same_id a b {told} tells is = grind (arith, common_steps, eqb-true, by_test)
+same_id a b {told} tells is = grind (arith, common_steps)
 
 -- ---- the next stop
 
@@ -141,31 +128,27 @@ record Way (t : Table) (direction : Direction) (q : Query) (row from next to cou
   count_less : counted t q.earliest next (units_left direction q to)
       ≤ counted t q.earliest row (units_left direction q from)
 
-none_left : (direction : Direction) (q : Query) → bytes_left direction q (last_offset direction q) ≡ 0
-none_left Direction.Forward q = omega arith
-none_left Direction.Reverse q = omega arith
-
 way : {t : Table} {direction : Direction} {q : Query} {row from : ℕ} → Standing t row → AreBytes q.haystack
     → Place q from → (count : ℕ) → count ≤ bytes_left direction q from
     → ((k : ℕ) → k < count → t.is_special (row_on t.machine direction q.haystack row from (k + 1)) ≡ false)
     → Way t direction q row from (row_on t.machine direction q.haystack row from count)
     (offset_after direction from count) count
 unfolding row_on
-way {t} {direction} {q} {row} {from} s bytes p zero enough plain = grind (arith, common_steps, after-zero)
+way {t} {direction} {q} {row} {from} s bytes p zero enough plain = grind (arith, common_steps, offset_after-zero)
 way {t} {direction} {q} {row} {from} s bytes p (suc n) enough plain =
-    let w = way s bytes p n (omega (arith, enough)) (λ k h. plain k (omega (arith, h))) in
+    let w = way s bytes p n (omega arith) (λ k h. plain k (omega arith)) in
     let at = offset_after direction from n in
     let here = row_on t.machine direction q.haystack row from n in
     let byte = byte_ahead direction q.haystack at in
     let next = t.machine.next here byte in
     let more : at ≢ last_offset direction q
-    = λ e. let none = ap (bytes_left direction q) e ∙ none_left direction q in omega (arith, none, w.left, enough) in
+    = λ e. let none = ap (bytes_left direction q) e ∙ none_left direction q in omega arith in
     let small = byte_there direction w.place bytes more in
     let turn : Turn t here byte next = record {
       leads = refl;
       standing = record {
         sound = s.sound;
-        below = s.sound.is_table.nexts here byte w.standing.below (omega (arith, small));
+        below = s.sound.is_table.nexts here byte w.standing.below (omega arith);
       };
     } in
     let step : Step t direction q here at next = record { place = w.place; more = more; turn = turn } in
@@ -182,10 +165,10 @@ way {t} {direction} {q} {row} {from} s bytes p (suc n) enough plain =
     subst (λ (o : ℕ). Way t direction q row from next o (suc n)) (after-suc direction from n)
     (record {
       place = next_place direction w.place more;
-      left = omega (arith, left, w.left);
+      left = omega arith;
       standing = turn.standing;
       stop = w.stop ∙ step_quiet step quiet;
-      count_less = omega (arith, w.count_less, counts_on);
+      count_less = omega arith;
     })
 
 module _ {t : Table} {direction : Direction} {q : Query} {row from next to : ℕ} (s : Standing t row)
@@ -203,7 +186,7 @@ module _ {t : Table} {direction : Direction} {q : Query} {row from next to : ℕ
       by_count : (count : ℕ) → Leads t direction q.haystack row from next count
           → to ≡ offset_after direction from count → Way t direction q row from next to count → Ready
       by_count zero leads there w =
-          let same : to ≡ from = there ∙ sym (after-zero direction from) in
+          let same : to ≡ from = there ∙ sym (offset_after-zero direction from) in
           λ r. subst (λ (o : ℕ). IsReady t direction q next o) (sym same)
           (subst (λ (n : ℕ). IsReady t direction q n from)
           (sym (leads.next_is ∙ row_on-zero t.machine direction q.haystack row from)) r)
@@ -217,7 +200,7 @@ module _ {t : Table} {direction : Direction} {q : Query} {row from next to : ℕ
 -- a walk that stays
 pub passes_none : (t : Table) (direction : Direction) (q : Query) (row from : ℕ)
     → Passes t direction q row from row from
-passes_none t direction q row from = grind (arith, common_steps, leads_none, after-zero)
+passes_none t direction q row from = grind (arith, common_steps, leads_none, offset_after-zero)
 
 pub progress_pass : {t : Table} {direction : Direction} {q : Query} {first now : Standpoint} {next to : ℕ}
     → Progress t direction q first now → Standing t now.row → AreBytes q.haystack → q.end ≤ length q.haystack
@@ -228,11 +211,11 @@ progress_pass {t} {direction} {q} {first} {now} p s bytes fits passes =
     let w = passed s bytes place passes in
     record {
       in_span = w.place.in_span;
-      on = omega (arith, p.on, w.left);
-      room = omega (arith, p.room, w.left);
+      on = omega arith;
+      room = omega arith;
       stop = p.stop ∙ w.stop;
       is_ready = λ r. passed_ready s bytes place passes (p.is_ready r);
-      count = λ r. omega (arith, p.count r, w.count_less);
+      count = λ r. omega arith;
     }
 
 -- the same of a cursor, which keeps its table

@@ -1,11 +1,7 @@
 -- How far a walk has come that looks for its next stop, and what each turn adds.
-use Rattle.std.proofs.lemmas.Grind.{common_steps}
-use Rattle.std.proofs.Common.{◌≡◌, ◌≢◌, ℕ, ◌+◌, ◌-◌, ◌^◌, ◌<◌, ◌≤◌, ◌==◌, inl, inr, true, false, Some, Ok, length, ap}
-use Rattle.std.proofs.Common.{sym, ◌∙◌, subst, arith}
-use Rattle.rx_spec.specs.Bytes.{AreBytes}
-use Rattle.rx_spec.specs.Queries.{Query, MatchError}
-use Rattle.rx_spec.specs.Tables.{Table, is_match}
-use Rattle.rx_spec.specs.HalfSearches.{next_offset, unit_offset}
+use Rattle.rx_spec.proofs.Prelude.{common_steps, ◌≡◌, ◌≢◌, ℕ, ◌+◌, ◌-◌, ◌^◌, ◌<◌, ◌≤◌, ◌==◌, inl, inr, true, false}
+use Rattle.rx_spec.proofs.Prelude.{Some, Ok, length, ap, sym, ◌∙◌, subst, arith, AreBytes, Query, MatchError, Table}
+use Rattle.rx_spec.proofs.Prelude.{is_match, next_offset, unit_offset}
 use Rattle.rx_spec.specs.declared.Direction.{Direction}
 use Rattle.rx_search.specs.Labels.{is_quit}
 use Rattle.rx_search.specs.Needles.{byte_ahead, Skips}
@@ -48,12 +44,12 @@ module _ {t : Table} {direction : Direction} {q : Query} {first now : Standpoint
   pub has_room : HasRoom t direction q first.row first.offset first.steps → q.end ≤ length q.haystack
       → now.offset ≢ last_offset direction q → now.steps < 2 ^ 64 - 1
   has_room (inl (ready, room)) fits more = grind (arith, common_steps, ready_counts)
-  has_room (inr room) fits more = omega (arith, p.room, room)
+  has_room (inr room) fits more = omega arith
 
   pub has_room_last : HasRoom t direction q first.row first.offset first.steps → q.end ≤ length q.haystack
       → now.offset ≡ last_offset direction q → now.steps < 2 ^ 64 - 1
   has_room_last (inl (ready, room)) fits over = grind (arith, common_steps, last_counts)
-  has_room_last (inr room) fits over = omega (arith, p.room, room)
+  has_room_last (inr room) fits over = omega arith
 
   module _ {next : ℕ} (s : Step t direction q now.row now.offset next) where
     -- a byte that leads to a quiet row, and a skip from there
@@ -71,14 +67,13 @@ module _ {t : Table} {direction : Direction} {q : Query} {first now : Standpoint
         let order : q.start ≤ q.end = omega arith in
         record {
           in_span = skips.in_span;
-          on = omega (arith, left, less, p.on);
-          room = omega (arith, left, less, p.room);
+          on = omega arith;
+          room = omega arith;
           stop = p.stop ∙ step_quiet s is ∙ skip_stops direction q sound is.plain bytes place skips;
           is_ready = λ r. skips.is_ready;
           count = λ r.
               omega (
                 arith,
-                p.count r,
                 step_quiet_counted q.earliest s is (p.is_ready r),
                 skip_counts q.earliest direction q sound (λ alive. quiet_goes_on q.earliest is) bytes order place skips,
               );
@@ -95,12 +90,12 @@ module _ {t : Table} {direction : Direction} {q : Query} {first now : Standpoint
     pub met_count : Ready
         → now.steps + 1 + counted_on t direction q next (Ok (Some now.offset))
         ≤ first.steps + counted t q.earliest first.row (units_left direction q first.offset)
-    met_count r = omega (arith, p.count r, step_match_counted s (p.is_ready r))
+    met_count r = omega (arith, step_match_counted s (p.is_ready r))
 
     -- or where nothing is counted any more
     pub end_count : Ready → now.steps + 1
         ≤ first.steps + counted t q.earliest first.row (units_left direction q first.offset)
-    end_count r = omega (arith, p.count r, step_counted q.earliest s (p.is_ready r))
+    end_count r = omega (arith, step_counted q.earliest s (p.is_ready r))
 
     pub quit_stop : is_quit t next ≡ true
         → next_stop t.machine direction first.row first.offset (units_left direction q first.offset)
@@ -138,14 +133,14 @@ module _ {t : Table} {direction : Direction} {q : Query} {first now : Standpoint
         ≤ first.steps + counted t q.earliest first.row (units_left direction q first.offset)
     last_count r =
         let here = ap (λ (o : ℕ). counted t q.earliest now.row (units_left direction q o)) over in
-        omega (arith, p.count r, here, last_counted q.earliest s)
+        omega (arith, last_counted q.earliest s)
 
     pub last_met_count : {last : ℕ} → last ≡ last_offset direction q → Ready
         → now.steps + 1 + counted_on t direction q next (Ok (Some last))
         ≤ first.steps + counted t q.earliest first.row (units_left direction q first.offset)
     last_met_count {last} last_is r =
         let here = ap (λ (o : ℕ). counted_on t direction q next (Ok (Some o))) last_is in
-        omega (arith, last_count r, last_match_counted s, here)
+        omega (arith, last_count r, last_match_counted s)
 
     pub last_end_count : Ready
         → now.steps + 1 ≤ first.steps + counted t q.earliest first.row (units_left direction q first.offset)

@@ -1,8 +1,6 @@
 -- A row of a sound table, and what soundness says of it.
-use Rattle.std.proofs.Common.{◌≡◌, ℕ, ◌<◌, true, false, List, [], refl, arith}
-use Rattle.rx_spec.specs.Machines.{Label}
-use Rattle.rx_spec.specs.Tables.{Table, IsSound, is_match_label}
-use Rattle.rx_spec.specs.Ids.{AreIds, row_of}
+use Rattle.rx_spec.proofs.Prelude.{◌≡◌, ℕ, ◌<◌, true, false, List, [], refl, arith, Label, Table, IsSound}
+use Rattle.rx_spec.proofs.Prelude.{is_match_label, AreIds, row_of}
 use Rattle.rx_search.specs.Labels.{is_quit_label, label_patterns}
 use Rattle.rx_search.specs.Starts.{IsId}
 
@@ -12,7 +10,7 @@ pub record Standing (t : Table) (row : ℕ) : Type 0 where
 
 pub standing : {t : Table} {ids : List ℕ} (id : ℕ) → IsSound t → AreIds t.size ids → IsId ids id
     → Standing t (row_of ids id)
-standing id sound are is = record { sound = sound; below = (let n = are.count in omega (arith, n, is)) }
+standing id sound are is = record { sound = sound; below = (let n = are.count in omega arith) }
 
 -- labels by their tests
 pub match_label : (label : Label) → is_match_label label ≡ true → label ≡ Label.Matches (label_patterns label)

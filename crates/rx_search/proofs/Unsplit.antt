@@ -1,15 +1,9 @@
 -- Matches that split a character are passed over, turn by turn.
-use Rattle.std.proofs.lemmas.Grind.{common_steps}
-use Rattle.std.proofs.Common.{◌≡◌, ℕ, suc, ◌-◌, ◌<◌, ◌≤◌, ◌||◌, Bool, true, false, if◌then◌else◌, Some, None, Ok, Err}
-use Rattle.std.proofs.Common.{List, length, refl, arith}
-use Rattle.std.specs.Prelude.{IsTrue, ◌↔◌}
-use Rattle.std.proofs.lemmas.Bool.{eqb-false, or_right, true_from_ne_false}
-use Rattle.rx_spec.specs.Queries.{Query, HalfMatch, MatchError, IsFit, is_anchored}
-use Rattle.rx_spec.specs.HalfSearches.{HalfAnswer, half_search}
-use Rattle.rx_spec.specs.Tables.{Table}
+use Rattle.rx_spec.proofs.Prelude.{common_steps, ◌≡◌, ℕ, suc, ◌-◌, ◌<◌, ◌≤◌, Bool, true, false, if◌then◌else◌, Some}
+use Rattle.rx_spec.proofs.Prelude.{None, Ok, Err, length, refl, arith, IsTrue, ◌↔◌, Query, HalfMatch, MatchError, IsFit}
+use Rattle.rx_spec.proofs.Prelude.{is_anchored, HalfAnswer, half_search, Table, is_split, narrower, is_narrowest}
+use Rattle.rx_spec.proofs.Prelude.{unless_split, skip_splits, split_limit, skips_splits, half_unsplit}
 use Rattle.lemmas_tables.proofs.ToldInSpan.{half_within}
-use Rattle.rx_spec.specs.Splits.{is_split, narrower, is_narrowest, unless_split, skip_splits, split_limit, skips_splits}
-use Rattle.rx_spec.specs.Splits.{half_unsplit}
 use Rattle.rx_spec.specs.declared.Direction.{Direction}
 use Rattle.rx_search.specs.SplitSearches.{unsplit_from}
 use Rattle.rx_search.specs.Walks.{IsInSpan}
@@ -25,17 +19,6 @@ module _ (search : Query → HalfAnswer) (direction : Direction) (q : Query) whe
   abbrev again : HalfAnswer
   again = skip_splits search direction (split_limit (narrower direction q)) (narrower direction q)
 
-  -- a match that splits no character is told
-  pub whole_told : (h : HalfMatch) → is_split q.haystack h.offset ≡ false
-      → unsplit_from search direction q h ≡ Ok (Some h)
-  whole_told h e = grind (arith, common_steps)
-
-  -- of one that does nothing is told where the search isn't made again
-  pub none_told : (h : HalfMatch) → is_split q.haystack h.offset ≡ true
-      → (is_anchored q.mode || is_narrowest direction q) ≡ true
-      → unsplit_from search direction q h ≡ Ok None
-  none_told h e stops = grind (arith, common_steps)
-
   -- and else what the narrower search tells
   pub searched_again : (h : HalfMatch) → is_split q.haystack h.offset ≡ true
       → is_anchored q.mode ≡ false → is_narrowest direction q ≡ false
@@ -47,7 +30,7 @@ module _ (search : Query → HalfAnswer) (direction : Direction) (q : Query) whe
 limit_more : (direction : Direction) (q : Query) → IsFit q → is_narrowest direction q ≡ false
     → split_limit q ≡ suc (split_limit (narrower direction q))
 limit_more Direction.Forward q fits e = let ordered = fits.ordered in omega arith
-limit_more Direction.Reverse q fits e = grind (arith, common_steps, eqb-false)
+limit_more Direction.Reverse q fits e = grind (arith, common_steps)
 
 module _ (search : Query → HalfAnswer) (direction : Direction) {q : Query} (fits : IsFit q) where
   -- some turn is left
@@ -63,36 +46,19 @@ module _ (search : Query → HalfAnswer) (direction : Direction) {q : Query} (fi
 
   pub match_found : (h : HalfMatch) → search q ≡ Ok (Some h)
       → skip_splits search direction (split_limit q) q ≡ unsplit_from search direction q h
-  match_found h e = grind (arith, common_steps, some_turn, turn, or_right, limit_more)
+  match_found h e = grind (arith, common_steps, some_turn, turn)
 
 -- ---- turns of the code
-
--- what an offset's boundary says of it
-pub splits_there : (haystack : List ℕ) (offset : ℕ) {boundary : Bool}
-    → (IsTrue boundary ↔ ((offset ≤ length haystack) × (is_split haystack offset ≡ false)))
-    → boundary ≡ false → offset ≤ length haystack → is_split haystack offset ≡ true
-splits_there haystack offset {boundary} is none within = grind (arith, common_steps, true_from_ne_false)
-
-pub whole_there : (haystack : List ℕ) (offset : ℕ) {boundary : Bool}
-    → (IsTrue boundary ↔ ((offset ≤ length haystack) × (is_split haystack offset ≡ false)))
-    → boundary ≡ true → is_split haystack offset ≡ false
-whole_there haystack offset is there = (is.0 there).1
 
 -- so of a match that was told
 pub split_found : {q : Query} {told offset : ℕ} {boundary : Bool} → IsFit q → IsInSpan q told → offset ≡ told
     → (IsTrue boundary ↔ ((offset ≤ length q.haystack) × (is_split q.haystack offset ≡ false))) → boundary ≡ false
     → is_split q.haystack told ≡ true
-split_found {q} {told} {offset} fits span same is none = grind (arith, common_steps, splits_there)
-
--- a narrower query fits, where a match was told
-narrower_fits : (direction : Direction) {q : Query} → IsFit q → q.start ≤ q.end → is_narrowest direction q ≡ false
-    → IsFit (narrower direction q)
-narrower_fits Direction.Forward fits order more = grind (arith, common_steps)
-narrower_fits Direction.Reverse {q} fits order more = grind (arith, common_steps, eqb-false)
+split_found {q} {told} {offset} fits span same is none = grind (arith, common_steps)
 
 pub next_fits : (direction : Direction) {now next : Query} {offset : ℕ} → IsFit now → IsInSpan now offset
     → next ≡ narrower direction now → is_narrowest direction now ≡ false → IsFit next
-next_fits direction fits span is more = grind (arith, common_steps, narrower_fits)
+next_fits direction fits span is more = grind (arith, common_steps)
 
 pub limit_falls : (direction : Direction) {q : Query} → IsFit q → is_narrowest direction q ≡ false
     → split_limit (narrower direction q) < split_limit q

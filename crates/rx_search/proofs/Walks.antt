@@ -1,21 +1,13 @@
 -- What is left of a span, unit by unit, and the next stop of a walk over it.
-use Rattle.std.proofs.Common.{rules, ◌≡◌, ◌≢◌, ℕ, suc, zero, ◌+◌, ◌<◌, ◌≤◌, ◌==◌, Bool, true, false, if◌then◌else◌}
-use Rattle.std.proofs.Common.{List, [], ◌∷◌, length, drop, get_or, refl, ap, sym, ◌∙◌, subst, arith}
-use Rattle.std.proofs.lemmas.Grind.{common_steps}
-use Rattle.std.proofs.lemmas.Bool.{eqb-true, eqb-false, or_left, or_right, false_from_ne_true, eq-eqb}
-use Rattle.std.proofs.lemmas.List.{get_or_default}
-use Rattle.std.specs.Prelude.{Contains, not}
-use Rattle.std.specs.List.{range_with_len}
-use Rattle.rx_spec.specs.Bytes.{AreBytes}
-use Rattle.rx_spec.specs.Queries.{Query}
-use Rattle.rx_spec.specs.Machines.{Label, Machine}
-use Rattle.rx_spec.specs.HalfSearches.{units_of, first_offset, next_offset, unit_offset}
-use Rattle.rx_spec.specs.Splits.{narrower}
-use Rattle.rx_spec.specs.Tables.{Table, is_match, leaving}
+use Rattle.rx_spec.proofs.Prelude.{rules, ◌≡◌, ◌≢◌, ℕ, suc, zero, ◌+◌, ◌<◌, ◌≤◌, ◌==◌, Bool, true, false, if◌then◌else◌}
+use Rattle.rx_spec.proofs.Prelude.{List, [], ◌∷◌, length, drop, get_or, refl, ap, sym, ◌∙◌, subst, arith, common_steps}
+use Rattle.rx_spec.proofs.Prelude.{eqb-true, false_from_ne_true, get_or_default, Contains, not, range_with_len}
+use Rattle.rx_spec.proofs.Prelude.{AreBytes, Query, Label, Machine, units_of, first_offset, next_offset, unit_offset}
+use Rattle.rx_spec.proofs.Prelude.{narrower, Table, is_match, leaving}
 use Rattle.rx_spec.specs.declared.Direction.{Direction}
 use Rattle.lemmas_tables.proofs.Filters.{filter_within, range_within}
 use Rattle.lemmas_walks.proofs.Firsts.{by_test, seen_if, Contains-here}
-use Rattle.lemmas_walks.proofs.ReadUnits.{units_of-more, units_of-last}
+use Rattle.lemmas_walks.proofs.ReadUnits.{units_of-more}
 use Rattle.lemmas_tables.proofs.Tables.{leaving_exactly}
 use Rattle.rx_search.specs.Labels.{is_quit}
 use Rattle.rx_search.specs.Needles.{byte_ahead, offset_after, is_read, Skips}
@@ -42,6 +34,11 @@ rest_next Direction.Reverse q offset = refl
 pub rest_whole : (direction : Direction) (q : Query) → rest direction q (first_offset direction q) ≡ q
 rest_whole Direction.Forward q = refl
 rest_whole Direction.Reverse q = refl
+
+pub bytes_on : (direction : Direction) (q : Query) (from : ℕ) → AreBytes q.haystack
+    → AreBytes (rest direction q from).haystack
+bytes_on Direction.Forward q from bytes = bytes
+bytes_on Direction.Reverse q from bytes = bytes
 
 rest_haystack : (direction : Direction) (q : Query) (offset : ℕ) → (rest direction q offset).haystack ≡ q.haystack
 rest_haystack Direction.Forward q offset = refl
@@ -90,8 +87,8 @@ module _ (direction : Direction) {q : Query} {offset : ℕ} (p : Place q offset)
 -- the last unit, past the span
 pub units_left-last : (direction : Direction) (q : Query) → q.start ≤ q.end → q.end ≤ length q.haystack
     → units_left direction q (last_offset direction q) ≡ unit_ahead direction q.haystack (last_offset direction q) ∷ []
-units_left-last Direction.Forward q order fits = grind (arith, common_steps, units_of-last)
-units_left-last Direction.Reverse q order fits = grind (arith, common_steps, units_of-last)
+units_left-last Direction.Forward q order fits = grind (arith, common_steps)
+units_left-last Direction.Reverse q order fits = grind (arith, common_steps)
 
 -- ---- quiet rows
 
@@ -106,15 +103,15 @@ module _ {t : Table} {row : ℕ} (s : Standing t row) where
 
   -- a row that isn't special is quiet
   pub ordinary : t.is_special row ≡ false → IsQuiet t row
-  ordinary e = search (rules, quiet, false_from_ne_true, quit_label, or_left, or_right, eq-eqb)
+  ordinary e = search (rules, quiet)
 
   -- nor has it needles
   pub unaccelerated : t.is_special row ≡ false → t.is_accelerated row ≡ false
-  unaccelerated e = search (rules, false_from_ne_true, or_left, or_right)
+  unaccelerated e = search rules
 
   -- a row from which a byte may be skipped is accelerated, and so it isn't dead
   unread_accelerated : (byte : ℕ) → is_read t row byte ≡ false → t.is_accelerated row ≡ true
-  unread_accelerated byte unread = search (rules, by_test)
+  unread_accelerated byte unread = search rules
 
   pub unread_alive : (byte : ℕ) → is_read t row byte ≡ false → t.machine.is_dead row ≡ false
   unread_alive byte unread =
@@ -127,7 +124,7 @@ module _ {t : Table} {row : ℕ} (s : Standing t row) where
       by_needles : (needles : List ℕ) → leaving t row ≡ needles → row ≡ 0 → ⊥
       by_needles [] e none =
           let n = ap length (s.sound.needles row s.below accelerated ∙ e) in
-          omega (arith, n, s.sound.some_needle row s.below accelerated)
+          omega (arith, s.sound.some_needle row s.below accelerated)
       by_needles (b ∷ more) e none =
           let c = subst (λ (ns : List ℕ). Contains ns b) (sym e) (Contains-here b more) in
           let test = λ (u : ℕ). not (t.machine.next row u == row) in
@@ -139,7 +136,7 @@ module _ {t : Table} {row : ℕ} (s : Standing t row) where
   -- a byte that may be skipped leads back to the row
   pub loops : (byte : ℕ) → byte < 256 → is_read t row byte ≡ false → t.machine.next row byte ≡ row
   loops byte below unread =
-      search (rules, by_test, eqb-true, eqb-false, seen_if, leaving_exactly, unread_accelerated, or_right)
+      search (rules, by_test, eqb-true, seen_if, leaving_exactly)
 
   -- nor does such a row quit, so it is quiet if it isn't a match row
   pub unread_quiet : (byte : ℕ) → byte < 256 → is_match t row ≡ false → is_read t row byte ≡ false → IsQuiet t row
@@ -153,7 +150,7 @@ module _ {t : Table} {row : ℕ} (s : Standing t row) where
           let one = s.sound.is_table.quit_only row s.below (quit_label (t.machine.label row) quits) in
           let ends : t.machine.next row byte ≡ 0
           = ap (λ (r : ℕ). t.machine.next r byte) one ∙ s.sound.is_table.quit_ends byte (omega arith) in
-          omega (arith, one, ends, loops byte below unread)
+          omega (arith, loops byte below unread)
 
 -- ---- the next stop
 
@@ -207,7 +204,7 @@ module _ {t : Table} {row unit next : ℕ} (turn : Turn t row unit next) (direct
 
 -- ---- skips
 
-offset_after-zero : (direction : Direction) (offset : ℕ) → offset ≡ offset_after direction offset 0
+pub offset_after-zero : (direction : Direction) (offset : ℕ) → offset ≡ offset_after direction offset 0
 offset_after-zero Direction.Forward offset = omega arith
 offset_after-zero Direction.Reverse offset = omega arith
 
@@ -216,7 +213,7 @@ offset_after-suc : (direction : Direction) (offset n : ℕ)
 offset_after-suc Direction.Forward offset n = omega arith
 offset_after-suc Direction.Reverse offset n = omega arith
 
-none_left : (direction : Direction) (q : Query) → bytes_left direction q (last_offset direction q) ≡ 0
+pub none_left : (direction : Direction) (q : Query) → bytes_left direction q (last_offset direction q) ≡ 0
 none_left Direction.Forward q = omega arith
 none_left Direction.Reverse q = omega arith
 
@@ -231,14 +228,14 @@ module _ (t : Table) (row : ℕ) (direction : Direction) (q : Query) {X : Type 0
   kept zero from p enough skipped = ap W (offset_after-zero direction from)
   kept (suc n) from p enough skipped =
       let ne : from ≢ last_offset direction q
-      = λ e. let none = ap (bytes_left direction q) e ∙ none_left direction q in omega (arith, none, enough) in
+      = λ e. let none = ap (bytes_left direction q) e ∙ none_left direction q in omega arith in
       let first = ap (λ o. is_read t row (byte_ahead direction q.haystack o)) (offset_after-zero direction from)
       ∙ skipped 0 (omega arith) in
       let left = next_left direction p ne in
       keeps from p ne first
-      ∙ kept n (next_offset direction from) (next_place direction p ne) (omega (arith, left, enough))
+      ∙ kept n (next_offset direction from) (next_place direction p ne) (omega arith)
       (λ k h. ap (λ o. is_read t row (byte_ahead direction q.haystack o)) (offset_after-suc direction from k)
-      ∙ skipped (suc k) (omega (arith, h)))
+      ∙ skipped (suc k) (omega arith))
       ∙ ap W (offset_after-suc direction from n)
 
   pub skip_keeps : {from to : ℕ} → Place q from → Skips t direction q row from to → W from ≡ W to
@@ -332,7 +329,7 @@ module _ {t : Table} {direction : Direction} {q : Query} {row unit next : ℕ}
   pub last_match : is_match t next ≡ true
       → next_stop t.machine direction row (last_offset direction q) (units_left direction q (last_offset direction q))
       ≡ Stop.Match next (last_offset direction q) (units_after direction q (last_offset direction q))
-  last_match is = grind (arith, common_steps, last_on, stop_match, last_units)
+  last_match is = grind (arith, common_steps, stop_match, last_units)
 
   pub last_quits : is_quit t next ≡ true
       → next_stop t.machine direction row (last_offset direction q) (units_left direction q (last_offset direction q))

@@ -1,15 +1,11 @@
 -- How a text goes on of which the last bytes are kept.
-use Rattle.std.proofs.Common.{◌≡◌, ℕ, ◌+◌, ◌-◌, ◌<◌, ◌≤◌, min, ◌++◌, List, [], length, slice_index, Option, Some, None}
-use Rattle.std.proofs.Common.{ap, refl, sym, ◌∙◌, subst, ⊎_elim, arith, take, drop, length-append, length-drop}
-use Rattle.std.proofs.Common.{length-take, length-take-le}
+use Rattle.rx_spec.proofs.Prelude.{◌≡◌, ℕ, ◌+◌, ◌-◌, ◌<◌, ◌≤◌, min, ◌++◌, List, [], length, slice_index, Option, Some}
+use Rattle.rx_spec.proofs.Prelude.{None, ap, refl, sym, ◌∙◌, subst, ⊎_elim, arith, take, drop, length-append}
+use Rattle.rx_spec.proofs.Prelude.{length-drop, length-take, length-take-le, cases_lt, get_or_default, get_or-drop}
+use Rattle.rx_spec.proofs.Prelude.{get_or-take, MatchOption, Consumes, AreBytes}
 use Rattle.std.proofs.Math.ListN.{get_or-append}
 use Rattle.std.proofs.Math.Seq.{get_or-append_right}
-use Rattle.std.proofs.lemmas.Bool.{cases_lt}
-use Rattle.std.proofs.lemmas.List.{get_or_default, get_or-drop, get_or-take}
-use Rattle.std.specs.Prelude.{MatchOption}
-use Rattle.std.specs.Io.KnownBytes.{Consumes}
 use Rattle.memchr.specs.Find.{OccursAt}
-use Rattle.rx_spec.specs.Bytes.{AreBytes}
 use Rattle.rx_prefilter.specs.OnlyLiterals.{IsFirstPlace}
 use Rattle.rx_transfer.proofs.Transfers.{consumes_more, consumes_none}
 use Rattle.rx_seek.specs.Seeking.{AreKept, IsFirstShown, IsSought}

@@ -1,7 +1,6 @@
 -- Literals in the part of a window that belongs to a span.
-use Rattle.std.proofs.Common.{◌≡◌, ℕ, ◌+◌, ◌-◌, ◌<◌, ◌≤◌, min, List, length, take, drop, slice_index, Option, Some}
-use Rattle.std.proofs.Common.{None, ap, sym, ◌∙◌, subst, arith, refl, false}
-use Rattle.std.specs.Prelude.{is_some}
+use Rattle.rx_spec.proofs.Prelude.{◌≡◌, ℕ, ◌+◌, ◌-◌, ◌<◌, ◌≤◌, min, List, length, take, drop, slice_index, Option, Some}
+use Rattle.rx_spec.proofs.Prelude.{None, ap, sym, ◌∙◌, subst, arith, refl, false, is_some}
 use Rattle.memchr.specs.Find.{FindsNeedle, OccursAt}
 use Rattle.rx_prefilter.proofs.Occurring.{piece_at, piece_len}
 use Rattle.rx_seek.specs.Seeking.{IsFirstShown}

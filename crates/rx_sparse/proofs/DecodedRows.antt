@@ -1,11 +1,7 @@
 -- What a decoded row answers from its parts.
-use Rattle.std.proofs.lemmas.Grind.{common_steps}
-use Rattle.std.proofs.Common.{◌≡◌, ℕ, suc, ◌+◌, ◌-◌, ◌*◌, ◌/◌, ◌<◌, ◌≤◌, ◌&&◌, Bool, true, false, List, ◌∷◌, length}
-use Rattle.std.proofs.Common.{take, drop, map, slice_index, get_or, nat_le, ap, sym, ◌∙◌, arith}
-use Rattle.std.specs.List.{range_with_len}
-use Rattle.std.specs.Int.{w32}
-use Rattle.std.proofs.lemmas.List.{drop-drop}
-use Rattle.std.proofs.lemmas.List.FromFn.{get_or-map-range_with_len, length-map-range_with_len}
+use Rattle.rx_spec.proofs.Prelude.{common_steps, ◌≡◌, ℕ, suc, ◌+◌, ◌-◌, ◌*◌, ◌/◌, ◌<◌, ◌≤◌, ◌&&◌, Bool, true, false}
+use Rattle.rx_spec.proofs.Prelude.{List, ◌∷◌, length, take, drop, map, slice_index, get_or, nat_le, ap, sym, ◌∙◌, arith}
+use Rattle.rx_spec.proofs.Prelude.{range_with_len, w32, drop-drop, get_or-map-range_with_len, length-map-range_with_len}
 use Rattle.rx_wire.specs.declared.order.Order.{Order}
 use Rattle.rx_wire.specs.Fields.{number}
 use Rattle.rx_sparse.specs.declared.ranges.ClassRange.{ClassRange}

@@ -1,19 +1,13 @@
 -- The maximal ranges of a row of a dense table: they rise, and lead where its columns lead.
-use Rattle.std.proofs.lemmas.Grind.{common_steps}
-use Rattle.std.proofs.Common.{◌≡◌, ◌≢◌, ◌⊎◌, inl, inr, ℕ, zero, suc, ◌+◌, ◌-◌, ◌<◌, ◌≤◌, ◌==◌, ◌&&◌, ◌||◌, Bool, true}
-use Rattle.std.proofs.Common.{false, not, cond, nat_le, List, [], ◌∷◌, length, map, filter, slice_index, get_or, drop}
-use Rattle.std.proofs.Common.{refl, ap, ap₂, sym, ◌∙◌, subst, ⊎_elim, arith, length-drop, length-take-le}
-use Rattle.std.specs.Prelude.{Contains, slice_range}
-use Rattle.std.specs.List.{prefix_len, range_with_len}
-use Rattle.std.specs.List.Sorted.{IsStrictlyIncreasing}
-use Rattle.std.proofs.lemmas.Bool.{and_parts, cases_eq, cases_lt, eq-eqb, eqb-true, leb-true, ne_eqb}
-use Rattle.std.proofs.lemmas.Bool.Decides.{nat_tests}
-use Rattle.std.proofs.lemmas.List.{get_or-take, get_or-drop, get_or-map}
-use Rattle.std.proofs.lemmas.List.Elements.{Contains-get_or}
+use Rattle.rx_spec.proofs.Prelude.{common_steps, ◌≡◌, ◌⊎◌, inl, inr, ℕ, zero, suc, ◌+◌, ◌-◌, ◌<◌, ◌≤◌, ◌==◌, ◌&&◌, ◌||◌}
+use Rattle.rx_spec.proofs.Prelude.{Bool, true, false, not, cond, nat_le, List, [], ◌∷◌, length, map, filter}
+use Rattle.rx_spec.proofs.Prelude.{slice_index, get_or, drop, refl, ap, ap₂, sym, ◌∙◌, subst, ⊎_elim, arith}
+use Rattle.rx_spec.proofs.Prelude.{length-drop, length-take-le, Contains, slice_range, prefix_len, range_with_len}
+use Rattle.rx_spec.proofs.Prelude.{IsStrictlyIncreasing, and_parts, cases_eq, cases_lt, eq-eqb, eqb-true, leb-true}
+use Rattle.rx_spec.proofs.Prelude.{ne_eqb, nat_tests, get_or-take, get_or-drop, get_or-map, length-map, Contains-get_or}
+use Rattle.rx_spec.proofs.Prelude.{length-range_with_len, IsStrictlyIncreasing-filter}
 use Rattle.std.proofs.lemmas.List.Filters.{length-filter_both}
 use Rattle.std.proofs.lemmas.List.Folds.{length-prefix_len}
-use Rattle.std.proofs.lemmas.List.FromFn.{length-range_with_len}
-use Rattle.std.proofs.lemmas.List.Kept.{IsStrictlyIncreasing-filter}
 use Rattle.std.proofs.lemmas.List.Sums.{prefix_len-le-length, prefix_len_passes}
 use Rattle.lemmas_walks.proofs.Firsts.{by_test, Contains-cases, Contains-here, Contains-there}
 use Rattle.lemmas_tables.proofs.Filters.{filter_keeps, filter_tested, filter_within, range_has, range_rises}
@@ -24,12 +18,6 @@ use Rattle.rx_sparse.specs.declared.ranges.ClassRange.{ClassRange}
 use Rattle.rx_sparse.specs.Rows.{has_class, next_among, no_range}
 use Rattle.rx_sparse.specs.Layouts.{AreRanges}
 use Rattle.rx_sparse.specs.Sparse.{range_of, ranges_of}
-use Rattle.rx_sparse.proofs.RowTexts.{length-map}
-
--- ---- tests
-
-differs : (a b : ℕ) → a ≢ b → (a == b) ≡ false
-differs a b h = ne_eqb a b h
 
 module _ (next_ids : List ℕ) where
   abbrev id_at : ℕ → ℕ
@@ -40,7 +28,7 @@ module _ (next_ids : List ℕ) where
 
   -- a class that begins no range leads where the class before leads
   continued : (c : ℕ) → id_at (c - 1) ≡ id_at c → 0 < c → begins_range next_ids c ≡ false
-  continued c e h = ap₂ (λ (x y : Bool). x || not y) (differs c 0 (omega arith)) (eq-eqb _ _ e)
+  continued c e h = ap₂ (λ (x y : Bool). x || not y) (ne_eqb c 0 (omega arith)) (eq-eqb _ _ e)
 
   -- ---- a range
 
@@ -127,9 +115,9 @@ module _ (next_ids : List ℕ) where
       (before.0, (let low = before.1 in omega arith), before.2, goes))
       (λ (ne : id_at c ≡ id_at (suc c) → ⊥).
       let other : (id_at (suc c - 1) == id_at (suc c)) ≡ false =
-      ap (λ b. id_at b == id_at (suc c)) back ∙ differs _ _ ne in
+      ap (λ b. id_at b == id_at (suc c)) back ∙ ne_eqb _ _ ne in
       let begins : begins_range next_ids (suc c) ≡ true =
-      ap₂ (λ (x y : Bool). x || not y) (differs (suc c) 0 (λ z. omega arith)) other in
+      ap₂ (λ (x y : Bool). x || not y) (ne_eqb (suc c) 0 (λ z. omega arith)) other in
       let alone : (k : ℕ) → suc c ≤ k → k ≤ suc c → id_at k ≡ id_at (suc c) =
       λ k low high. (let e : k ≡ suc c = omega arith in ap id_at e) in
       (suc c, omega arith, begins, alone))
@@ -147,7 +135,7 @@ module _ (next_ids : List ℕ) where
   found (f ∷ fs) c v all some =
       let rest : ℕ = next_among (map (range_of next_ids) fs) c in
       by_test (has_class c (range_of next_ids f))
-      (λ yes. ap (λ b. cond b (id_at f) rest) yes ∙ all f (Contains-here f fs) yes)
+      (λ yes. rw yes (all f (Contains-here f fs) yes))
       (λ no.
       ap (λ b. cond b (id_at f) rest) no
       ∙ found fs c v (λ g has. all g (Contains-there f fs g has))
@@ -177,7 +165,7 @@ module _ (next_ids : List ℕ) where
       let f : ℕ = run.0 in
       let upto = run.1 in
       let same : id_at f ≡ id_at c = run.3 f (omega arith) upto in
-      let is_live_there : is_live next_ids f ≡ true = ap not (differs _ _ (λ z. live (sym same ∙ z))) in
+      let is_live_there : is_live next_ids f ≡ true = ap not (ne_eqb _ _ (λ z. live (sym same ∙ z))) in
       let kept : is_first f ≡ true = ap₂ (λ (x y : Bool). x && y) run.2 is_live_there in
       let has : Contains firsts f =
       filter_keeps is_first (range_with_len 0 eoi) f (range_has 0 eoi f (omega arith) (omega arith)) kept in
@@ -205,7 +193,7 @@ module _ (next_ids : List ℕ) where
   firsts_rise = IsStrictlyIncreasing-filter is_first (range_with_len 0 eoi) (range_rises 0 eoi)
 
   ranges_count : length (ranges_of next_ids) ≡ length firsts
-  ranges_count = length-map (range_of next_ids) firsts
+  ranges_count = length-map firsts (range_of next_ids)
 
   pub ranges_few : length (ranges_of next_ids) ≤ eoi
   ranges_few = omega (arith, ranges_count, firsts_few)

@@ -1,11 +1,7 @@
 -- The ranges of a row of a dense table, as they are read one by one.
-use Rattle.std.proofs.lemmas.Grind.{common_steps, flat_map-append}
-use Rattle.std.proofs.Common.{◌≡◌, ℕ, ◌-◌, Bool, true, false, cond, List, [], ◌∷◌, ◌++◌, length, map, slice_index, refl}
-use Rattle.std.proofs.Common.{ap, sym, ◌∙◌, arith, append_assoc}
-use Rattle.std.specs.List.{flat_map}
-use Rattle.std.proofs.lemmas.Bool.{eqb-true}
-use Rattle.std.proofs.lemmas.Bool.Decides.{nat_tests}
-use Rattle.std.proofs.lemmas.List.{append-nil}
+use Rattle.rx_spec.proofs.Prelude.{common_steps, flat_map-append, ◌≡◌, ℕ, ◌-◌, Bool, true, false, cond, List, [], ◌∷◌}
+use Rattle.rx_spec.proofs.Prelude.{◌++◌, length, map, slice_index, refl, ap, sym, ◌∙◌, arith, append_assoc, flat_map}
+use Rattle.rx_spec.proofs.Prelude.{eqb-true, nat_tests, append-nil}
 use Rattle.rx_spec.specs.declared.Unit.{Unit as U}
 use Rattle.rx_dense.specs.States.{eoi_range_from, is_live, ranges_from, sparse_transitions_from}
 use Rattle.rx_dense.specs.States as dense

@@ -1,29 +1,12 @@
 -- Kinds of rows by their ids.
-use Rattle.std.proofs.Common.{arith, ◌≡◌, ℕ, ◌&&◌, not, nat_le, Bool, true, false, if◌then◌else◌, List, refl, ap, sym}
-use Rattle.std.proofs.Common.{◌∙◌}
-use Rattle.std.proofs.lemmas.Grind.{common_steps}
-use Rattle.rx_spec.specs.Ids.{id_of, row_of}
-use Rattle.rx_spec.specs.Machines.{Label}
-use Rattle.rx_spec.specs.Tables.{is_match, is_match_label}
+use Rattle.rx_spec.proofs.Prelude.{arith, ◌≡◌, ℕ, ◌&&◌, not, nat_le, Bool, true, false, List, refl, ap, sym, ◌∙◌}
+use Rattle.rx_spec.proofs.Prelude.{common_steps, id_of, row_of, is_match, is_match_label}
 use Rattle.rx_search.specs.Starts.{IsId}
 use Rattle.rx_search.specs.Labels.{is_quit, is_quit_label, label_patterns, patterns_of}
 use Rattle.rx_dense.specs.Specials.{is_match_id, is_quit_id, is_accel_id, is_start_id}
+use Rattle.rx_dense.proofs.RowKinds.{label_by, match_by, quit_by}
 use Rattle.rx_dense.proofs.Rows.{id_at_row}
 use Rattle.rx_sparse.specs.Layouts.{Layout, ids_of, label_of_row, row_at, table_of}
-
-abbrev label_by : Bool → Bool → List ℕ → Label
-label_by m q ks = if m then Label.Matches ks else (if q then Label.Quits else Label.Plain)
-
-match_by : (m q : Bool) (ks : List ℕ) → m ≡ is_match_label (label_by m q ks)
-match_by true q ks = refl
-match_by false true ks = refl
-match_by false false ks = refl
-
-quit_by : (m q : Bool) (ks : List ℕ) → (q && not m) ≡ is_quit_label (label_by m q ks)
-quit_by true true ks = refl
-quit_by true false ks = refl
-quit_by false true ks = refl
-quit_by false false ks = refl
 
 matches_by : (m q : Bool) (ks : List ℕ) → is_match_label (label_by m q ks) ≡ true
     → ks ≡ label_patterns (label_by m q ks)
@@ -49,12 +32,12 @@ module _ (l : Layout) (id : ℕ) (is : IsId (ids_of l) id) where
 
   pub match_kind : is_match_id l.special id ≡ is_match (table_of l) row
   match_kind =
-      match_by (is_match_id l.special id) (is_quit_id l.special id) (row_at l row).patterns
+      sym (match_by (is_match_id l.special id) (is_quit_id l.special id) (row_at l row).patterns)
       ∙ at_row (λ x. is_match_label (label_of_row l.special x (row_at l row)))
 
   pub quit_kind : (is_quit_id l.special id && not (is_match_id l.special id)) ≡ is_quit (table_of l) row
   quit_kind =
-      quit_by (is_match_id l.special id) (is_quit_id l.special id) (row_at l row).patterns
+      sym (quit_by (is_match_id l.special id) (is_quit_id l.special id) (row_at l row).patterns)
       ∙ at_row (λ x. is_quit_label (label_of_row l.special x (row_at l row)))
 
   -- the patterns of a match row

@@ -1,6 +1,5 @@
 -- How many bytes rows have.
-use Rattle.std.proofs.lemmas.Grind.{common_steps}
-use Rattle.std.proofs.Common.{ℕ, zero, suc, ◌*◌, ◌≤◌, List, [], ◌∷◌, length, take, arith}
+use Rattle.rx_spec.proofs.Prelude.{common_steps, ℕ, zero, suc, ◌*◌, ◌≤◌, List, [], ◌∷◌, length, take, arith}
 use Rattle.rx_sparse.specs.Rows.{Row, row_len, rows_len}
 
 pub rows_len-take : (rows : List Row) (row : ℕ) → rows_len (take row rows) ≤ rows_len rows

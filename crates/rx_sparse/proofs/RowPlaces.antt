@@ -1,20 +1,14 @@
 -- Where the rows of a table stand among its bytes.
-use Rattle.std.proofs.lemmas.Grind.{common_steps}
-use Rattle.std.proofs.Common.{◌≡◌, ℕ, zero, suc, ◌+◌, ◌*◌, ◌/◌, ◌^◌, ◌<◌, ◌≤◌, List, [], ◌∷◌, ◌++◌, length, take, drop}
-use Rattle.std.proofs.Common.{get_or, slice_index, refl, ap, sym, ◌∙◌, subst, arith, ◌==◌, Bool, true, false, cond}
-use Rattle.std.proofs.Common.{Option, Some, None, ⊎_elim}
-use Rattle.std.proofs.lemmas.Bool.{cases_eq, cases_lt, ne_eqb}
-use Rattle.std.proofs.lemmas.List.{drop-drop, drop_at}
-use Rattle.std.proofs.lemmas.List.FromFn.{get_or-map-range_with_len, length-map-range_with_len}
-use Rattle.std.proofs.lemmas.Nat.{div-add-mod'}
-use Rattle.rx_spec.specs.Causes.{max_id}
-use Rattle.rx_spec.specs.Ids.{id_of, row_of}
-use Rattle.rx_spec.specs.Queries.{Anchored}
+use Rattle.rx_spec.proofs.Prelude.{common_steps, ◌≡◌, ℕ, zero, suc, ◌+◌, ◌*◌, ◌/◌, ◌^◌, ◌<◌, ◌≤◌, List, [], ◌∷◌, ◌++◌}
+use Rattle.rx_spec.proofs.Prelude.{length, take, drop, get_or, slice_index, refl, ap, sym, ◌∙◌, subst, arith, ◌==◌}
+use Rattle.rx_spec.proofs.Prelude.{Bool, true, false, cond, ⊎_elim, inl, inr, cases_eq, cases_lt, ne_eqb, drop-drop}
+use Rattle.rx_spec.proofs.Prelude.{drop_at, get_or-map-range_with_len, length-map-range_with_len, div-add-mod', max_id}
+use Rattle.rx_spec.proofs.Prelude.{id_of, row_of, Anchored}
 use Rattle.rx_spec.specs.declared.Start.{Start}
 use Rattle.lemmas_tables.proofs.Ids.{row_of-id_of}
-use Rattle.rx_dense.specs.Layouts.{context_number, mode_place, start_entries}
+use Rattle.rx_dense.specs.Layouts.{context_number, mode_place}
 use Rattle.rx_search.specs.Starts.{IsId}
-use Rattle.rx_dense.proofs.Rows.{id_at_row}
+use Rattle.rx_dense.proofs.Rows.{id_at_row, place_within}
 use Rattle.rx_wire.specs.declared.order.Order.{Order}
 use Rattle.rx_sparse.specs.declared.ranges.ClassRange.{ClassRange}
 use Rattle.rx_sparse.specs.Rows.{Row, has_class, next_among, next_ids, no_range, no_row, offsets, row_in, row_len}
@@ -62,6 +56,40 @@ text_from order (r ∷ rows) (suc row) h =
     ∙ ap (λ n. row_text order (get_or rows row no_row) ++ rows_text order (drop n (r ∷ rows)))
     (let e : suc (row + 1) ≡ suc row + 1 = omega arith in e)
 
+-- ---- where a row leads
+
+-- what holds of where each range and the end mark lead holds of each next id
+pub each_next : (P : ℕ → Type 0) (row : Row)
+    → ((i : ℕ) → i < length row.ranges → P (get_or row.ranges i no_range).next) → P row.eoi
+    → (i : ℕ) → i < length (next_ids row) → P (slice_index (next_ids row) i)
+each_next P row nexts eoi i b =
+    elim (cases_lt i (length row.ranges)) [
+      | inl low ↦ (subst P (sym (next_there row.ranges (row.eoi ∷ []) i low)) (nexts i low))
+      | inr high ↦ (
+          let last : i ≡ length row.ranges = omega (arith, length-next_ids row) in
+          subst P (sym (ap (slice_index (next_ids row)) last ∙ eoi_there row.ranges row.eoi)) eoi)
+    ]
+
+either : (P : ℕ → Type 0) (b : Bool) (x y : ℕ) → P x → P y → P (cond b x y)
+either P true x y p q = p
+either P false x y p q = q
+
+-- and with dead, of where each class and each unit lead
+pub among : (P : ℕ → Type 0) → P 0 → (ranges : List ClassRange) (class : ℕ)
+    → ((i : ℕ) → i < length ranges → P (get_or ranges i no_range).next) → P (next_among ranges class)
+unfolding next_among
+among P dead [] class each = dead
+among P dead (range ∷ ranges) class each =
+    either P (has_class class range) range.next (next_among ranges class) (each 0 (omega arith))
+    (among P dead ranges class (λ i h. each (suc i) (omega (arith, h))))
+
+pub unit_leads : (P : ℕ → Type 0) → P 0 → (row : Row)
+    → ((i : ℕ) → i < length row.ranges → P (get_or row.ranges i no_range).next) → P row.eoi
+    → (classes : List ℕ) (unit : ℕ) → P (next_id classes row unit)
+unit_leads P dead row nexts eoi classes unit =
+    either P (unit == 256) row.eoi (next_among row.ranges (slice_index classes unit)) eoi
+    (among P dead row.ranges (slice_index classes unit) nexts)
+
 -- ---- ids
 
 module _ (l : Layout) (shaped : IsShaped l) where
@@ -81,16 +109,9 @@ module _ (l : Layout) (shaped : IsShaped l) where
 
   module _ (row : ℕ) (h : row < length l.rows) where
     next_id_small : (i : ℕ) → i < length (next_ids (row_at l row)) → slice_index (next_ids (row_at l row)) i ≤ max_id
-    next_id_small i b =
-        let r : Row = row_at l row in
+    next_id_small =
         let is : IsRow l row = shaped.rows.rows row h in
-        ⊎_elim
-        (λ (low : i < length r.ranges).
-        omega (arith, next_there r.ranges (r.eoi ∷ []) i low, id_small _ (is.nexts i low)))
-        (λ (high : length r.ranges ≤ i).
-        let last : i ≡ length r.ranges = omega (arith, length-next_ids r) in
-        omega (arith, ap (slice_index (next_ids r)) last, eoi_there r.ranges r.eoi, id_small _ is.eoi))
-        (cases_lt i (length r.ranges))
+        each_next (λ id. id ≤ max_id) (row_at l row) (λ i low. id_small _ (is.nexts i low)) (id_small _ is.eoi)
 
     patterns_few : length (row_at l row).patterns < 2 ^ 32
     patterns_few =
@@ -197,7 +218,7 @@ module _ (p : Parts) (rows starts : List ℕ) (are : AreParts p rows starts) whe
 
 -- row 0 has id 0, and no other row has
 module _ (rows : List Row) (some : 0 < length rows) where
-  first_id : id_of (offsets rows) 0 ≡ 0
+  pub first_id : id_of (offsets rows) 0 ≡ 0
   unfolding rows_len
   first_id = offset_at 0 rows 0 some
 
@@ -229,25 +250,16 @@ module _ (l : Layout) (shaped : IsShaped l) where
   row_within : (id : ℕ) → IsId (ids_of l) id → row_of (ids_of l) id < length l.rows
   row_within id is = omega (arith, ids_count, is)
 
-  by_test : (b : Bool) (x y : ℕ) → IsId (ids_of l) x → IsId (ids_of l) y → IsId (ids_of l) (cond b x y)
-  by_test true x y hx hy = hx
-  by_test false x y hx hy = hy
-
-  -- where a class leads is a row
-  next_among_id : (ranges : List ClassRange) (class : ℕ)
-      → ((i : ℕ) → i < length ranges → IsId (ids_of l) (get_or ranges i no_range).next)
-      → IsId (ids_of l) (next_among ranges class)
-  unfolding next_among
-  next_among_id [] class are = zero_is_id
-  next_among_id (range ∷ ranges) class are =
-      by_test (has_class class range) range.next (next_among ranges class) (are 0 (omega arith))
-      (next_among_id ranges class (λ i h. are (suc i) (omega arith)))
-
   pub next_is_id : (id class : ℕ) → IsId (ids_of l) id
       → IsId (ids_of l) (next_among (row_at l (row_of (ids_of l) id)).ranges class)
   next_is_id id class is =
-      next_among_id (row_at l (row_of (ids_of l) id)).ranges class
+      among (IsId (ids_of l)) zero_is_id (row_at l (row_of (ids_of l) id)).ranges class
       (shaped.rows.rows (row_of (ids_of l) id) (row_within id is)).nexts
+
+  pub next_row_is_id : (row unit : ℕ) → row < length l.rows → IsId (ids_of l) (next_id l.classes (row_at l row) unit)
+  next_row_is_id row unit h =
+      let is : IsRow l row = shaped.rows.rows row h in
+      unit_leads (IsId (ids_of l)) zero_is_id (row_at l row) is.nexts is.eoi l.classes unit
 
   pub eoi_is_id : (id : ℕ) → IsId (ids_of l) id → IsId (ids_of l) (row_at l (row_of (ids_of l) id)).eoi
   eoi_is_id id is = (shaped.rows.rows (row_of (ids_of l) id) (row_within id is)).eoi
@@ -257,24 +269,7 @@ pub next_on_byte : (classes : List ℕ) (row : Row) (byte : ℕ) → byte < 256
     → next_among row.ranges (slice_index classes byte) ≡ next_id classes row byte
 next_on_byte classes row byte h = grind (arith, common_steps, ne_eqb)
 
-context_below : (start : Start) → context_number start < 6
-context_below Start.NonWordByte = omega arith
-context_below Start.WordByte = omega arith
-context_below Start.Text = omega arith
-context_below Start.LineLF = omega arith
-context_below Start.LineCR = omega arith
-context_below Start.CustomLineTerminator = omega arith
-
-whole_mode : (mode : Anchored) (pattern_starts : Option ℕ) → mode_place mode < start_entries pattern_starts
-    → mode_place mode + 6 ≤ start_entries pattern_starts
-whole_mode Anchored.No None h = omega arith
-whole_mode Anchored.No (Some n) h = omega arith
-whole_mode Anchored.Yes None h = omega arith
-whole_mode Anchored.Yes (Some n) h = omega arith
-whole_mode (Anchored.Pattern k) None h = omega arith
-whole_mode (Anchored.Pattern k) (Some n) h = omega arith
-
 -- the six entries of a mode are there where the first is
 pub entry_there : (l : Layout) → AreStarts l → (mode : Anchored) (start : Start) → mode_place mode < length l.starts
     → mode_place mode + context_number start < length l.starts
-entry_there l starts mode start h = grind (arith, common_steps, context_below, whole_mode)
+entry_there l starts mode start h = grind (arith, common_steps, place_within)

@@ -1,35 +1,22 @@
 -- The bytes of rows: how many there are, and that they are read back, whatever follows.
-use Rattle.std.proofs.lemmas.Grind.{common_steps}
-use Rattle.std.proofs.Common.{◌≡◌, ℕ, zero, suc, ◌+◌, ◌-◌, ◌*◌, ◌/◌, ◌%◌, ◌^◌, ◌<◌, ◌≤◌, Bool, true, false, cond, List}
-use Rattle.std.proofs.Common.{[], ◌∷◌, ◌++◌, length, take, drop, map, get_or, slice_index, nat_le, refl, ap, ap₂, sym}
-use Rattle.std.proofs.Common.{◌∙◌, subst, append_assoc, length-drop, arith}
-use Rattle.std.specs.List.{flat_map, range_with_len}
-use Rattle.std.specs.Int.{w16, w32}
-use Rattle.std.proofs.lemmas.List.{append-nil, drop-drop, drop_at, take_at, length-append, get_or-append-add}
-use Rattle.std.proofs.lemmas.List.FromFn.{fill_by_all}
-use Rattle.std.proofs.lemmas.Nat.{from_le_bytes-to_le_bytes_2, from_be_bytes-to_be_bytes_2}
+use Rattle.rx_spec.proofs.Prelude.{common_steps, ◌≡◌, ℕ, zero, suc, ◌+◌, ◌-◌, ◌*◌, ◌/◌, ◌%◌, ◌^◌, ◌<◌, ◌≤◌, Bool, true}
+use Rattle.rx_spec.proofs.Prelude.{false, cond, List, [], ◌∷◌, ◌++◌, length, take, drop, map, get_or, slice_index}
+use Rattle.rx_spec.proofs.Prelude.{nat_le, refl, ap, ap₂, sym, ◌∙◌, subst, append_assoc, length-drop, arith, flat_map}
+use Rattle.rx_spec.proofs.Prelude.{range_with_len, w16, w32, drop_at, take_at, length-append, length-map, fill_by_all}
+use Rattle.rx_spec.proofs.Prelude.{nat_tests}
+use Rattle.std.proofs.lemmas.List.{get_or-append-add}
 use Rattle.rx_wire.specs.declared.order.Order.{Order}
 use Rattle.rx_wire.specs.Fields.{field, number}
-use Rattle.rx_wire.proofs.Fields.{again32, length-field_16, length-field_32}
+use Rattle.rx_wire.proofs.Fields.{again16, again32, length-field_16, length-field_32}
+use Rattle.rx_wire.proofs.Words.{length-words, word_alone, words_again}
 use Rattle.rx_sparse.specs.declared.ranges.ClassRange.{ClassRange}
 use Rattle.rx_sparse.specs.Rows.{Row, behind_ends, count_in, ends_in, ends_text, head_number, is_match_in, is_some_list}
 use Rattle.rx_sparse.specs.Rows.{next_ids, needles_in, next_ids_in, no_range, no_row, patterns_in, patterns_len}
 use Rattle.rx_sparse.specs.Rows.{patterns_text, range_in, rest_in, row_in, row_len, row_of_parts, row_text, rows_in}
 use Rattle.rx_sparse.specs.Rows.{rows_len, rows_text, word_at, words_in, words_text}
-use Rattle.std.proofs.lemmas.Bool.Decides.{nat_tests}
 use Rattle.rx_sparse.specs.Parts.{FitsBytes, IsDecoded, IsWholeRow}
 
 -- ---- lengths
-
-pub length-words : (order : Order) (words : List ℕ) → length (words_text order words) ≡ 4 * length words
-length-words order [] = refl
-length-words order (word ∷ words) =
-    omega (
-      arith,
-      length-append (field order w32 word) (words_text order words),
-      length-field_32 order word,
-      length-words order words,
-    )
 
 abbrev pub pairs_text : List ClassRange → List ℕ
 pairs_text ranges = flat_map (λ range. range.first ∷ range.last ∷ []) ranges
@@ -41,17 +28,13 @@ length-pairs (range ∷ ranges) = omega (arith, length-pairs ranges)
 pub length-ends : (ranges : List ClassRange) → length (ends_text ranges) ≡ 2 * (length ranges + 1)
 length-ends ranges = omega (arith, length-append (pairs_text ranges) (0 ∷ 0 ∷ []), length-pairs ranges)
 
-pub length-map : {A B : Type 0} (f : A → B) (xs : List A) → length (map f xs) ≡ length xs
-length-map f [] = refl
-length-map f (x ∷ xs) = ap suc (length-map f xs)
-
 pub length-next_ids : (row : Row) → length (next_ids row) ≡ length row.ranges + 1
 length-next_ids row = grind (arith, common_steps, length-append, length-map)
 
-abbrev patterns_size : List ℕ → ℕ
+abbrev pub patterns_size : List ℕ → ℕ
 patterns_size patterns = cond (is_some_list patterns) (4 + 4 * length patterns) 0
 
-length-patterns : (order : Order) (patterns : List ℕ)
+pub length-patterns : (order : Order) (patterns : List ℕ)
     → length (patterns_text order patterns) ≡ patterns_size patterns
 length-patterns order [] = refl
 length-patterns order (k ∷ ks) = grind (arith, common_steps, length-append, length-field_32, length-words)
@@ -79,35 +62,6 @@ length-rows order (row ∷ rows) =
       length-row order row,
       length-rows order rows,
     )
-
--- ---- words
-
-again16 : (order : Order) (n : ℕ) → n < 2 ^ 16 → number order w16 (field order w16 n) ≡ n
-again16 Order.Little n h = from_le_bytes-to_le_bytes_2 n h
-again16 Order.Big n h = from_be_bytes-to_be_bytes_2 n h
-
-word_there : (order : Order) (words rest : List ℕ) (i : ℕ) → i < length words → slice_index words i < 2 ^ 32
-    → word_at order (words_text order words ++ rest) i ≡ slice_index words i
-word_there order [] rest i h small = elim h [ ]
-word_there order (word ∷ words) rest zero h small =
-    grind (arith, common_steps, append_assoc, take_at, length-field_32, again32)
-word_there order (word ∷ words) rest (suc i) h small =
-    let text : List ℕ = field order w32 word in
-    let whole : List ℕ = words_text order (word ∷ words) ++ rest in
-    let place : 4 * suc i ≡ 4 + 4 * i = omega arith in
-    let behind : drop 4 whole ≡ words_text order words ++ rest =
-    ap (drop 4) (append_assoc text (words_text order words) rest)
-    ∙ drop_at text (words_text order words ++ rest) 4 (length-field_32 order word) in
-    ap (λ n. number order w32 (take 4 (drop n whole))) place
-    ∙ ap (λ t. number order w32 (take 4 t)) (sym (drop-drop (4 * i) 4 whole))
-    ∙ ap (λ t. number order w32 (take 4 (drop (4 * i) t))) behind
-    ∙ word_there order words rest i (omega arith) small
-
-pub words_again : (order : Order) (words rest : List ℕ) → ((i : ℕ) → i < length words → slice_index words i < 2 ^ 32)
-    → words_in order (length words) (words_text order words ++ rest) ≡ words
-words_again order words rest small =
-    sym (fill_by_all (word_at order (words_text order words ++ rest)) words (length words) 0 refl
-    (λ k h. sym (word_there order words rest k h (small k h))))
 
 -- ---- ranges
 
@@ -144,15 +98,15 @@ of_parts range first last next a b c = rw (a, b, c) refl
 
 -- ---- a row
 
-counted : (n : ℕ) (some : Bool) → n ≤ 257 → (n + cond some 32768 0) % 32768 ≡ n
+pub counted : (n : ℕ) (some : Bool) → n ≤ 257 → (n + cond some 32768 0) % 32768 ≡ n
 counted n true h = omega arith
 counted n false h = omega arith
 
-told : (n : ℕ) (some : Bool) → n ≤ 257 → nat_le 32768 (n + cond some 32768 0) ≡ some
+pub told : (n : ℕ) (some : Bool) → n ≤ 257 → nat_le 32768 (n + cond some 32768 0) ≡ some
 told n true h = grind (arith, nat_tests)
 told n false h = grind (arith, nat_tests)
 
-fits_16 : (n : ℕ) (some : Bool) → n ≤ 257 → n + cond some 32768 0 < 2 ^ 16
+pub fits_16 : (n : ℕ) (some : Bool) → n ≤ 257 → n + cond some 32768 0 < 2 ^ 16
 fits_16 n true h = omega arith
 fits_16 n false h = omega arith
 
@@ -250,9 +204,7 @@ module _ (order : Order) (row : Row) (rest : List ℕ) (fits : FitsBytes row) wh
   n_is = omega (arith, length-ends row.ranges)
 
   next_word : (i : ℕ) → i < length (next_ids row) → word_at order next_words i ≡ slice_index (next_ids row) i
-  next_word i h =
-      ap (λ t. word_at order t i) (sym (append-nil next_words))
-      ∙ word_there order (next_ids row) [] i h (let small = fits.next_ids i h in omega arith)
+  next_word i h = word_alone order (next_ids row) i h (let small = fits.next_ids i h in omega arith)
 
   range_is : (i : ℕ) → i < length row.ranges
       → get_or row.ranges i no_range ≡ range_in order (ends_text row.ranges) next_words i

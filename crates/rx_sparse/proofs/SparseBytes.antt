@@ -1,13 +1,8 @@
 -- A sparse table on its way: offsets and bytes of some rows of a dense table, where others are left.
-use Rattle.std.proofs.lemmas.Grind.{common_steps}
-use Rattle.std.proofs.Common.{◌≡◌, ℕ, ◌+◌, ◌-◌, ◌*◌, ◌/◌, ◌^◌, ◌<◌, ◌≤◌, List, [], ◌∷◌, ◌++◌, length, map, slice_index}
-use Rattle.std.proofs.Common.{take, Option, Some, None, refl, ap, ap₂, sym, ◌∙◌, subst, ⊎_elim, append_assoc, arith}
-use Rattle.std.specs.Prelude.{option_map}
-use Rattle.std.proofs.lemmas.Bool.{cases_lt}
-use Rattle.std.proofs.lemmas.List.{append-nil, take_all}
-use Rattle.rx_spec.specs.Causes.{max_id}
-use Rattle.rx_spec.specs.Ids.{id_of, row_of}
-use Rattle.rx_spec.specs.Queries.{Anchored}
+use Rattle.rx_spec.proofs.Prelude.{common_steps, ◌≡◌, ℕ, ◌+◌, ◌-◌, ◌*◌, ◌/◌, ◌^◌, ◌<◌, ◌≤◌, List, [], ◌∷◌, ◌++◌, length}
+use Rattle.rx_spec.proofs.Prelude.{map, slice_index, take, Option, Some, None, refl, ap, ap₂, sym, ◌∙◌, subst, ⊎_elim}
+use Rattle.rx_spec.proofs.Prelude.{append_assoc, arith, option_map, cases_lt, append-nil, take_all, length-map, max_id}
+use Rattle.rx_spec.proofs.Prelude.{id_of, row_of, Anchored}
 use Rattle.rx_wire.specs.declared.order.Order.{Order}
 use Rattle.rx_search.specs.Starts.{IsId, universal_start}
 use Rattle.rx_dense.specs.Layouts as dense
@@ -17,6 +12,7 @@ use Rattle.rx_dense.specs.Facts as dense_facts
 use Rattle.rx_dense.specs.States as states
 use Rattle.rx_dense.proofs.Rows.{IsId-row_id, IsRowId-id, IsRowId-row, row-below, row_of-id}
 use Rattle.rx_dense.proofs.States.{rows_from-next}
+use Rattle.rx_wire.proofs.Words.{length-words, words_again}
 use Rattle.rx_sparse.specs.declared.offsets.Offsets.{Offsets}
 use Rattle.rx_sparse.specs.Rows.{Row, next_ids, offsets_from, row_len, row_text, rows_in, rows_len, rows_text, words_in}
 use Rattle.rx_sparse.specs.Rows.{words_text}
@@ -29,7 +25,7 @@ use Rattle.rx_sparse.specs.Sparse.{IsTooLong, sparse_len, sparse_of, universal_o
 use Rattle.rx_build_error.specs.declared.BuildErrorKind.{BuildErrorKind}
 use Rattle.rx_sparse.proofs.RowLengths.{row_len-patterns, rows_len-take}
 use Rattle.rx_sparse.proofs.RowPlaces.{fits_row, id_small}
-use Rattle.rx_sparse.proofs.RowTexts.{length-map, length-words, rows_again, words_again}
+use Rattle.rx_sparse.proofs.RowTexts.{rows_again}
 use Rattle.rx_sparse.proofs.SparseShapes.{next_id_row, next_ids_few, sparse_shaped}
 use Rattle.rx_sparse.proofs.SparseTables.{offsets_count, rows_count}
 
@@ -259,7 +255,7 @@ module _ (l : dense.Layout) (shaped : dense.IsShaped l) (sound : dense_facts.IsS
   sparse_rows = (sparse_of l).rows
 
   count : length sparse_rows ≡ dense.row_count l
-  count = length-map (renamed_row (renamed_id l (offsets_of l))) (dense_rows l) ∙ rows_count l shaped.rows
+  count = length-map (dense_rows l) (renamed_row (renamed_id l (offsets_of l))) ∙ rows_count l shaped.rows
 
   rows_back : rows_in Order.Little (dense.row_count l) rows ≡ sparse_rows
   rows_back =

@@ -1,14 +1,7 @@
 -- The sparse table of a sound dense one has the shape of a sparse table.
-use Rattle.std.proofs.lemmas.Grind.{common_steps}
-use Rattle.std.proofs.Common.{◌≡◌, ℕ, ◌+◌, ◌-◌, ◌*◌, ◌<◌, ◌≤◌, true, List, [], ◌∷◌, length, map, slice_index, get_or}
-use Rattle.std.proofs.Common.{refl, ap, sym, ◌∙◌, subst, ⊎_elim, arith}
-use Rattle.std.proofs.lemmas.Bool.{cases_lt}
-use Rattle.std.specs.Prelude.{if◌then◌else◌, IfSome}
-use Rattle.std.proofs.lemmas.Nat.{le-div, pow_pos}
-use Rattle.std.proofs.lemmas.List.{get_or-map}
-use Rattle.std.proofs.lemmas.List.Elements.{Contains-get_or}
-use Rattle.rx_spec.specs.Causes.{max_id}
-use Rattle.rx_spec.specs.Machines.{Label}
+use Rattle.rx_spec.proofs.Prelude.{common_steps, ◌≡◌, ℕ, ◌+◌, ◌-◌, ◌*◌, ◌<◌, ◌≤◌, true, List, [], ◌∷◌, length, map}
+use Rattle.rx_spec.proofs.Prelude.{slice_index, get_or, refl, ap, sym, ◌∙◌, subst, arith, IfSome, le-div, pow_pos}
+use Rattle.rx_spec.proofs.Prelude.{get_or-map, length-map, Contains-get_or, max_id, Label}
 use Rattle.lemmas_walks.proofs.Firsts.{by_test}
 use Rattle.rx_search.specs.Starts.{IsId}
 use Rattle.rx_dense.specs.Specials.{is_accel_id, is_match_id}
@@ -24,7 +17,7 @@ use Rattle.rx_sparse.specs.Layouts.{AreRanges, AreRows, AreStarts, IsRow, IsShap
 use Rattle.rx_sparse.specs.Sparse.{AreSpecialRows, dense_rows, offsets_of, patterns_of_id, ranges_of, renamed_range}
 use Rattle.rx_sparse.specs.Sparse.{renamed_row, renamed_special, row_of_dense, sparse_len, sparse_of}
 use Rattle.rx_sparse.proofs.DenseRanges.{are_ranges, range_first, range_next}
-use Rattle.rx_sparse.proofs.RowTexts.{eoi_there, length-map, length-next_ids, next_there}
+use Rattle.rx_sparse.proofs.RowPlaces.{each_next}
 use Rattle.rx_sparse.proofs.SparseTables.{id_there, ids_same, match_same, next_ids_count, next_is_row, renamed_is_id}
 use Rattle.rx_sparse.proofs.SparseTables.{row_there, rows_count, rows_len-renamed, universal_is_id}
 
@@ -35,7 +28,7 @@ module _ (f : ℕ → ℕ) (ranges : List ClassRange) where
   new = map (renamed_range f) ranges
 
   same_count : length new ≡ length ranges
-  same_count = length-map (renamed_range f) ranges
+  same_count = length-map ranges (renamed_range f)
 
   pub range_there : (i : ℕ) → i < length ranges → get_or new i no_range ≡ renamed_range f (get_or ranges i no_range)
   range_there i h = get_or-map (renamed_range f) ranges i no_range no_range h
@@ -88,15 +81,7 @@ module _ (l : dense.Layout) (rows : dense.AreRows l) (row : ℕ) (h : row < dens
 
   pub next_id_row : (i : ℕ) → i < length (rows_next_ids (row_of_dense l (states.row_at l row)))
       → IsRowId l (slice_index (rows_next_ids (row_of_dense l (states.row_at l row))) i)
-  next_id_row i b =
-      let r : Row = row_of_dense l (states.row_at l row) in
-      ⊎_elim
-      (λ (low : i < length r.ranges).
-      subst (IsRowId l) (sym (next_there r.ranges (r.eoi ∷ []) i low)) (range_id i low))
-      (λ (high : length r.ranges ≤ i).
-      let last : i ≡ length r.ranges = omega (arith, length-next_ids r) in
-      subst (IsRowId l) (sym (ap (slice_index (rows_next_ids r)) last ∙ eoi_there r.ranges r.eoi)) eoi_id)
-      (cases_lt i (length r.ranges))
+  next_id_row = each_next (IsRowId l) (row_of_dense l (states.row_at l row)) range_id eoi_id
 
 -- ---- rows of a sound table
 
@@ -116,10 +101,8 @@ module _ (l : dense.Layout) (shaped : dense.IsShaped l) (sound : dense_facts.IsS
   patterns_there =
       by_test (is_match_id l.special id)
       (λ yes.
-      ap (λ b. is_some_list (if b then patterns else [])) yes
-      ∙ some_list patterns (λ none. sound.is_table.lists row h (match_label yes ∙ ap Label.Matches none))
-      ∙ sym yes)
-      (λ no. ap (λ b. is_some_list (if b then patterns else [])) no ∙ sym no)
+      rw yes (some_list patterns (λ none. sound.is_table.lists row h (match_label yes ∙ ap Label.Matches none))))
+      (λ no. rw no refl)
     where
       some_list : (ks : List ℕ) → (ks ≡ [] → ⊥) → is_some_list ks ≡ true
       some_list [] f = absurd (f refl)
@@ -129,16 +112,13 @@ module _ (l : dense.Layout) (shaped : dense.IsShaped l) (sound : dense_facts.IsS
   patterns_small =
       by_test (is_match_id l.special id)
       (λ yes.
-      let same : patterns_of_id l id ≡ patterns = ap (λ b. if b then patterns else []) yes in
-      subst (λ ks. (i : ℕ) → i < length ks → slice_index ks i ≤ max_id) (sym same)
+      rw yes
       (λ i b.
       let few = shaped.lists.few_patterns in
       let low =
       sound.patterns row patterns (slice_index patterns i) h (match_label yes) (Contains-get_or patterns i 0 b) in
       omega arith))
-      (λ no.
-      let same : patterns_of_id l id ≡ [] = ap (λ b. if b then patterns else []) no in
-      subst (λ ks. (i : ℕ) → i < length ks → slice_index ks i ≤ max_id) (sym same) (λ i b. absurd (omega arith)))
+      (λ no. rw no (λ i b. absurd (omega arith)))
 
   pub needles_few : length (dense.needles_of_id l id) ≤ 3
   needles_few =
@@ -169,7 +149,7 @@ module _ (l : dense.Layout) (shaped : dense.IsShaped l) (sound : dense_facts.IsS
     nexts_are : (i : ℕ) → i < length (map (renamed_range renamed) old.ranges)
         → IsId (ids_of (sparse_of l)) (get_or (map (renamed_range renamed) old.ranges) i no_range).next
     nexts_are i b =
-        let low : i < length old.ranges = omega (arith, length-map (renamed_range renamed) old.ranges) in
+        let low : i < length old.ranges = omega (arith, length-map old.ranges (renamed_range renamed)) in
         subst (IsId (ids_of (sparse_of l)))
         (sym (ap (λ (r : ClassRange). r.next) (range_there renamed old.ranges i low)))
         (is_id _ (range_id l table_rows row h i low))
@@ -197,7 +177,7 @@ module _ (l : dense.Layout) (shaped : dense.IsShaped l) (sound : dense_facts.IsS
     }
 
   count : length (map (renamed_row renamed) (dense_rows l)) ≡ dense.row_count l
-  count = length-map (renamed_row renamed) (dense_rows l) ∙ rows_count l table_rows
+  count = length-map (dense_rows l) (renamed_row renamed) ∙ rows_count l table_rows
 
   two_rows : 2 ≤ dense.row_count l
   two_rows = le-div 2 (length l.words) (stride l) (pow_pos l.stride2) (let two = table_rows.two in two)
@@ -213,15 +193,15 @@ module _ (l : dense.Layout) (shaped : dense.IsShaped l) (sound : dense_facts.IsS
   starts_are : (k : ℕ) → k < length (map renamed l.starts)
       → IsId (ids_of (sparse_of l)) (slice_index (map renamed l.starts) k)
   starts_are k h =
-      let low : k < length l.starts = omega (arith, length-map renamed l.starts) in
+      let low : k < length l.starts = omega (arith, length-map l.starts renamed) in
       subst (IsId (ids_of (sparse_of l))) (sym (get_or-map renamed l.starts k 0 0 low))
       (is_id _ (shaped.starts.start_ids k low))
 
   are_starts : AreStarts (sparse_of l)
   are_starts = record {
     contexts = shaped.starts.contexts;
-    count = length-map renamed l.starts ∙ shaped.starts.count;
-    small = (let small = shaped.starts.small in omega (arith, length-map renamed l.starts));
+    count = length-map l.starts renamed ∙ shaped.starts.count;
+    small = (let small = shaped.starts.small in omega (arith, length-map l.starts renamed));
     start_ids = starts_are;
     universal_unanchored =
         subst (λ ids. IfSome (sparse_of l).universal_unanchored (IsId ids)) (sym (ids_same l table_rows))

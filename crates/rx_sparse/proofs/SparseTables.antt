@@ -1,26 +1,18 @@
 -- The sparse table of a dense one is the same table.
-use Rattle.std.proofs.lemmas.Grind.{common_steps}
-use Rattle.std.proofs.Common.{◌≡◌, ℕ, zero, suc, ◌+◌, ◌-◌, ◌*◌, ◌/◌, ◌<◌, ◌≤◌, ◌==◌, ◌&&◌, Bool, true, false, not, cond}
-use Rattle.std.proofs.Common.{nat_le, Option, Some, None, List, [], ◌∷◌, length, map, slice_index, drop, refl, ap, ap₂}
-use Rattle.std.proofs.Common.{sym, ◌∙◌, subst, ⊎_elim, arith, length-drop, length-take-le}
-use Rattle.std.specs.Prelude.{if◌then◌else◌, nat_lt, option_map, IfSome}
-use Rattle.std.proofs.Math.Nat.{zero-div}
-use Rattle.std.proofs.lemmas.Bool.{cases_eq, cases_lt, eq-eqb, lt-ltb, le-ltb, ne_eqb}
-use Rattle.std.proofs.lemmas.Bool.Decides.{nat_tests}
-use Rattle.std.proofs.lemmas.List.{get_or-take, get_or-drop, get_or-map}
-use Rattle.std.proofs.lemmas.List.FromFn.{get_or-map-range_with_len, length-map-range_with_len}
+use Rattle.rx_spec.proofs.Prelude.{common_steps, ◌≡◌, ℕ, ◌+◌, ◌-◌, ◌*◌, ◌/◌, ◌<◌, ◌≤◌, ◌==◌, ◌&&◌, Bool, true, false}
+use Rattle.rx_spec.proofs.Prelude.{not, nat_le, Option, Some, None, List, [], ◌∷◌, length, map, slice_index, drop, refl}
+use Rattle.rx_spec.proofs.Prelude.{ap, ap₂, sym, ◌∙◌, ◌⊎◌, inl, inr, subst, ⊎_elim, arith, length-drop, length-take-le}
+use Rattle.rx_spec.proofs.Prelude.{if◌then◌else◌, nat_lt, option_map, IfSome, zero-div, cases_eq, cases_lt, eq-eqb}
+use Rattle.rx_spec.proofs.Prelude.{lt-ltb, le-ltb, ne_eqb, nat_tests, get_or-take, get_or-drop, get_or-map, length-map}
+use Rattle.rx_spec.proofs.Prelude.{get_or-map-range_with_len, length-map-range_with_len, pow_pos, row_fits, id_of}
+use Rattle.rx_spec.proofs.Prelude.{row_of, IsWord, Label, run, Anchored, AreSame, IsTable, Table, row_after}
 use Rattle.std.proofs.lemmas.List.Kept.{AllPairs-from_increasing}
-use Rattle.std.proofs.lemmas.Nat.{pow_pos, row_fits}
-use Rattle.rx_spec.specs.Ids.{id_of, row_of}
-use Rattle.rx_spec.specs.Machines.{IsWord, Label, run}
 use Rattle.lemmas_walks.proofs.Words.{IsWord-head, IsWord-tail, run-cons, run-nil}
-use Rattle.rx_spec.specs.Queries.{Anchored}
-use Rattle.rx_spec.specs.Tables.{AreSame, IsTable, Table, row_after}
 use Rattle.rx_spec.specs.declared.Start.{Start}
 use Rattle.lemmas_walks.proofs.Firsts.{by_test}
 use Rattle.lemmas_tables.proofs.Ids.{row_of-id_of}
 use Rattle.lemmas_tables.proofs.Tables.{SameSettings-refl, sound_same}
-use Rattle.rx_base.specs.ByteClasses.{AreClasses, alphabet_len}
+use Rattle.rx_base.specs.ByteClasses.{alphabet_len}
 use Rattle.rx_search.specs.Starts.{IsId}
 use Rattle.rx_dense.specs.Specials.{is_accel_id, is_in_range, is_match_id, is_quit_id, is_start_id}
 use Rattle.rx_dense.specs.declared.special.Special.{Special}
@@ -29,7 +21,7 @@ use Rattle.rx_dense.specs.Layouts.{IsRowId, context_number, mode_place, stride}
 use Rattle.rx_dense.specs.Builder.{renamed_id}
 use Rattle.rx_dense.specs.Facts as dense_facts
 use Rattle.rx_dense.specs.States as states
-use Rattle.rx_dense.proofs.Rows.{class_column, column_within, quotient, row-below, start_within, valid_id}
+use Rattle.rx_dense.proofs.Rows.{class_below, class_column, column_within, quotient, row-below, start_within, valid_id}
 use Rattle.rx_dense.proofs.Shaped.{zero_id}
 use Rattle.rx_dense.proofs.States.{row_within}
 use Rattle.rx_sparse.specs.declared.ranges.ClassRange.{ClassRange}
@@ -39,13 +31,32 @@ use Rattle.rx_sparse.specs.Facts.{IsSoundLayout, length-offsets, offset_at, offs
 use Rattle.rx_sparse.specs.Sparse.{AreSpecialRows, dense_rows, offsets_of, patterns_of_id, renamed_range, renamed_row}
 use Rattle.rx_sparse.specs.Sparse.{renamed_special, row_of_dense, sparse_of, universal_offset}
 use Rattle.rx_sparse.proofs.DenseRanges.{led}
-use Rattle.rx_sparse.proofs.RowTexts.{length-map}
+
+-- ---- numbers that lie alike pass the same tests
+
+abbrev pub LieAlike : (a b c d : ℕ) → Type 0
+LieAlike a b c d = ((a < b) × (c < d)) ⊎ (((a ≡ b) × (c ≡ d)) ⊎ ((b < a) × (d < c)))
+
+pub le_alike : (a b c d : ℕ) → LieAlike a b c d → nat_le a b ≡ nat_le c d
+le_alike a b c d (inl (p, q)) = grind (arith, nat_tests)
+le_alike a b c d (inr (inl (p, q))) = grind (arith, nat_tests)
+le_alike a b c d (inr (inr (p, q))) = grind (arith, nat_tests)
+
+pub lt_alike : (a b c d : ℕ) → LieAlike a b c d → nat_lt a b ≡ nat_lt c d
+lt_alike a b c d (inl (p, q)) = grind (arith, nat_tests)
+lt_alike a b c d (inr (inl (p, q))) = grind (arith, nat_tests)
+lt_alike a b c d (inr (inr (p, q))) = grind (arith, nat_tests)
+
+pub eq_alike : (a b c d : ℕ) → LieAlike a b c d → (a == b) ≡ (c == d)
+eq_alike a b c d (inl (p, q)) = grind (arith, nat_tests)
+eq_alike a b c d (inr (inl (p, q))) = grind (arith, nat_tests)
+eq_alike a b c d (inr (inr (p, q))) = grind (arith, nat_tests)
 
 -- ---- rows whose ids are renamed
 
 module _ (f : ℕ → ℕ) where
   row_len-renamed : (row : Row) → row_len (renamed_row f row) ≡ row_len row
-  row_len-renamed row = omega (arith, length-map (renamed_range f) row.ranges)
+  row_len-renamed row = omega (arith, length-map row.ranges (renamed_range f))
 
   pub offsets-renamed : (at : ℕ) (rows : List Row)
       → offsets_from at (map (renamed_row f) rows) ≡ offsets_from at rows
@@ -67,28 +78,7 @@ module _ (f : ℕ → ℕ) where
     unfolding next_among
     next-renamed [] class = sym dead
     next-renamed (range ∷ ranges) class =
-        by_test (has_class class range)
-        (λ yes.
-        ap (λ b. cond b (f range.next) (next_among (map (renamed_range f) ranges) class)) yes
-        ∙ sym (ap (λ b. f (cond b range.next (next_among ranges class))) yes))
-        (λ no.
-        ap (λ b. cond b (f range.next) (next_among (map (renamed_range f) ranges) class)) no
-        ∙ next-renamed ranges class
-        ∙ sym (ap (λ b. f (cond b range.next (next_among ranges class))) no))
-
--- no class is above that of the last byte
-module _ (classes : List ℕ) (are : AreClasses classes) where
-  class_rises : (b n : ℕ) → b + n < 256 → slice_index classes b ≤ slice_index classes (b + n)
-  class_rises b zero h = (let e : b + 0 ≡ b = omega arith in rw e (omega arith))
-  class_rises b (suc n) h =
-      let e : b + suc n ≡ b + n + 1 = omega arith in
-      let up = are.rises (b + n) (omega arith) in
-      rw e (omega (arith, class_rises b n (omega arith), up))
-
-  class_upto_last : (b : ℕ) → b < 256 → slice_index classes b ≤ slice_index classes 255
-  class_upto_last b h =
-      let e : b + (255 - b) ≡ 255 = omega arith in
-      subst (λ n. slice_index classes b ≤ slice_index classes n) e (class_rises b (255 - b) (omega arith))
+        by_test (has_class class range) (λ yes. rw yes refl) (λ no. rw no (next-renamed ranges class))
 
 -- ---- a table
 
@@ -151,51 +141,27 @@ module _ (l : dense.Layout) (rows : dense.AreRows l) where
       let h : x * stride l + stride l ≤ y * stride l = row_fits x (stride l) y (stride l) less (omega arith) in
       omega (arith, some)
 
-  le_same : (x y : ℕ) → x < size → y < size
-      → nat_le (id_of offs x) (id_of offs y) ≡ nat_le (x * stride l) (y * stride l)
-  le_same x y hx hy =
-      ⊎_elim
-      (λ (less : x < y).
-      let a = rises x y less hy in
-      let b = wider x y less in
-      let p : nat_le (id_of offs x) (id_of offs y) ≡ true = grind (arith, nat_tests) in
-      let q : nat_le (x * stride l) (y * stride l) ≡ true = grind (arith, nat_tests) in
-      p ∙ sym q)
-      (λ (more : y ≤ x).
-      ⊎_elim
-      (λ (same : x ≡ y).
-      let p : nat_le (id_of offs y) (id_of offs y) ≡ true = grind (arith, nat_tests) in
-      let q : nat_le (y * stride l) (y * stride l) ≡ true = grind (arith, nat_tests) in
-      ap (λ z. nat_le (id_of offs z) (id_of offs y)) same ∙ p
-      ∙ sym (ap (λ z. nat_le (z * stride l) (y * stride l)) same ∙ q))
-      (λ (ne : x ≡ y → ⊥).
-      let above : y < x = omega arith in
-      let a = rises y x above hx in
-      let b = wider y x above in
-      let p : nat_le (id_of offs x) (id_of offs y) ≡ false = grind (arith, nat_tests) in
-      let q : nat_le (x * stride l) (y * stride l) ≡ false = grind (arith, nat_tests) in
-      p ∙ sym q)
-      (cases_eq x y))
-      (cases_lt x y)
+  -- rows lie as their ids do, and their offsets too
+  lie_alike : (x y : ℕ) → x < size → y < size
+      → LieAlike (id_of offs x) (id_of offs y) (x * stride l) (y * stride l)
+  lie_alike x y hx hy =
+      elim (cases_lt x y) [
+        | inl less ↦ (inl (rises x y less hy, wider x y less))
+        | inr le ↦ (elim (cases_eq x y) [
+          | inl same ↦ (inr (inl (ap (id_of offs) same, ap (λ (n : ℕ). n * stride l) same)))
+          | inr ne ↦ (
+              let above : y < x = omega (arith, le, ne) in
+              inr (inr (rises y x above hx, wider y x above)))
+        ])
+      ]
 
-  eq_same : (x y : ℕ) → x < size → y < size
-      → (id_of offs x == id_of offs y) ≡ (x * stride l == y * stride l)
-  eq_same x y hx hy =
-      ⊎_elim
-      (λ (same : x ≡ y).
-      ap (λ z. id_of offs z == id_of offs y) same ∙ eq-eqb _ _ refl
-      ∙ sym (ap (λ z. z * stride l == y * stride l) same ∙ eq-eqb _ _ refl))
-      (λ (ne : x ≡ y → ⊥).
-      ⊎_elim
-      (λ (less : x < y).
-      ne_eqb _ _ (λ e. omega (arith, rises x y less hy, e))
-      ∙ sym (ne_eqb _ _ (λ e. omega (arith, wider x y less, e))))
-      (λ (more : y ≤ x).
-      let above : y < x = omega arith in
-      ne_eqb _ _ (λ e. omega (arith, rises y x above hx, e))
-      ∙ sym (ne_eqb _ _ (λ e. omega (arith, wider y x above, e))))
-      (cases_lt x y))
-      (cases_eq x y)
+  -- so do ids and their offsets
+  pub ids_alike : (a b : ℕ) → IsRowId l a → IsRowId l b → LieAlike (renamed a) (renamed b) a b
+  ids_alike a b is_a is_b =
+      subst (λ (n : ℕ). LieAlike (renamed a) (renamed b) a n) (quotient b (stride l) is_b.whole)
+      (subst (λ (n : ℕ). LieAlike (renamed a) (renamed b) n (b / stride l * stride l))
+      (quotient a (stride l) is_a.whole)
+      (lie_alike (a / stride l) (b / stride l) (row-below l a is_a) (row-below l b is_b)))
 
   -- ---- special rows
 
@@ -206,17 +172,17 @@ module _ (l : dense.Layout) (rows : dense.AreRows l) where
     -- an id of a row stands at the same place among the offsets as among the ids
     above : (id : ℕ) → IsRowId l id → nat_le (renamed id) offset ≡ nat_le id (row * stride l)
     above id is =
-        le_same (id / stride l) row (row-below l id is) h
+        le_alike _ _ _ _ (lie_alike (id / stride l) row (row-below l id is) h)
         ∙ ap (λ n. nat_le n (row * stride l)) (quotient id (stride l) is.whole)
 
     below : (id : ℕ) → IsRowId l id → nat_le offset (renamed id) ≡ nat_le (row * stride l) id
     below id is =
-        le_same row (id / stride l) h (row-below l id is)
+        le_alike _ _ _ _ (lie_alike row (id / stride l) h (row-below l id is))
         ∙ ap (λ n. nat_le (row * stride l) n) (quotient id (stride l) is.whole)
 
     equal : (id : ℕ) → IsRowId l id → (offset == renamed id) ≡ (row * stride l == id)
     equal id is =
-        eq_same row (id / stride l) h (row-below l id is)
+        eq_alike _ _ _ _ (lie_alike row (id / stride l) h (row-below l id is))
         ∙ ap (λ n. row * stride l == n) (quotient id (stride l) is.whole)
 
     is_dead : (offset == 0) ≡ (row * stride l == 0)
@@ -237,7 +203,7 @@ module _ (l : dense.Layout) (rows : dense.AreRows l) where
     row_there =
         let counted : row < length (dense_rows l) = omega (arith, rows_count) in
         let first : row < length (states.rows_from l 0) =
-        omega (arith, rows_count, length-map (row_of_dense l) (states.rows_from l 0)) in
+        omega (arith, rows_count, length-map (states.rows_from l 0) (row_of_dense l)) in
         let none : 0 + row ≡ row = omega arith in
         let same : size ≡ size - 0 = omega arith in
         get_or-map (renamed_row renamed) (dense_rows l) row no_row no_row counted
@@ -270,26 +236,20 @@ module _ (l : dense.Layout) (rows : dense.AreRows l) where
         (λ (eoi : unit ≡ 256).
         let is : (unit == 256) ≡ true = eq-eqb _ _ eoi in
         let last : length dense_row.next_ids - 1 ≡ slice_index l.classes 255 + 1 = omega (arith, next_ids_count) in
-        let r : Row = row_of_dense l dense_row in
-        let class : ℕ = slice_index l.classes unit in
-        ap (λ t. cond t (renamed r.eoi) (next_among (map (renamed_range renamed) r.ranges) class)) is
-        ∙ ap (λ n. renamed (slice_index dense_row.next_ids n)) last
-        ∙ ap renamed (next_at (slice_index l.classes 255 + 1) (omega arith))
-        ∙ ap (λ t. renamed (slice_index l.words (row * stride l
-        + cond t (slice_index l.classes 255 + 1) (slice_index l.classes unit)))) (sym is))
+        rw is
+        (ap (λ n. renamed (slice_index dense_row.next_ids n)) last
+        ∙ ap renamed (next_at (slice_index l.classes 255 + 1) (omega arith))))
         (λ (byte : unit ≡ 256 → ⊥).
         let no : (unit == 256) ≡ false = ne_eqb _ _ byte in
         let class : ℕ = slice_index l.classes unit in
         let column = class_column l.classes rows.classes unit (omega arith) in
         let low : class < length dense_row.next_ids - 1 =
-        omega (arith, next_ids_count, class_upto_last l.classes rows.classes unit (omega arith)) in
+        omega (arith, next_ids_count, class_below l.classes rows.classes 255 unit (omega arith) (omega arith)) in
         let r : Row = row_of_dense l dense_row in
-        ap (λ t. cond t (renamed r.eoi) (next_among (map (renamed_range renamed) r.ranges) class)) no
-        ∙ next-renamed renamed renamed_zero r.ranges class
+        rw no
+        (next-renamed renamed renamed_zero r.ranges class
         ∙ ap renamed (led dense_row.next_ids class low)
-        ∙ ap renamed (next_at class column)
-        ∙ ap (λ t. renamed (slice_index l.words (row * stride l + cond t (slice_index l.classes 255 + 1) class)))
-        (sym no))
+        ∙ ap renamed (next_at class column)))
         (cases_eq unit 256)
 
     next_row_id : (unit : ℕ) → unit < 257 → IsRowId l (dense.next_id l (row * stride l) unit)
@@ -350,38 +310,25 @@ module _ (l : dense.Layout) (rows : dense.AreRows l) where
   start_same starts mode start =
       let place : ℕ = mode_place mode in
       let at : ℕ = place + context_number start in
-      let count : length (map renamed l.starts) ≡ length l.starts = length-map renamed l.starts in
-      ⊎_elim
-      (λ (there : place < length l.starts).
-      let within = start_within l starts mode start there in
-      let new : nat_lt place (length (map renamed l.starts)) ≡ true = lt-ltb _ _ (omega arith) in
-      let old : nat_lt place (length l.starts) ≡ true = lt-ltb _ _ there in
-      ap (λ b. row_of offs (cond b (slice_index (map renamed l.starts) at) 0)) new
-      ∙ ap (row_of offs) (get_or-map renamed l.starts at 0 0 within)
-      ∙ renamed_back (slice_index l.starts at) (starts.start_ids at within)
-      ∙ sym (ap (λ b. cond b (slice_index l.starts at) 0 / stride l) old))
-      (λ (none : length l.starts ≤ place).
-      let new : nat_lt place (length (map renamed l.starts)) ≡ false = le-ltb _ _ (omega arith) in
-      let old : nat_lt place (length l.starts) ≡ false = le-ltb _ _ none in
-      ap (λ b. row_of offs (cond b (slice_index (map renamed l.starts) at) 0)) new
-      ∙ zero_back ∙ sym (zero-div (stride l))
-      ∙ sym (ap (λ b. cond b (slice_index l.starts at) 0 / stride l) old))
-      (cases_lt place (length l.starts))
+      let count : length (map renamed l.starts) ≡ length l.starts = length-map l.starts renamed in
+      elim (cases_lt place (length l.starts)) [
+        | inl there ↦ (
+            let within = start_within l starts mode start there in
+            let new : nat_lt place (length (map renamed l.starts)) ≡ true = lt-ltb _ _ (omega (arith, count, there)) in
+            rw (new, lt-ltb _ _ there, get_or-map renamed l.starts at 0 0 within)
+            (renamed_back (slice_index l.starts at) (starts.start_ids at within)))
+        | inr none ↦ (
+            let new : nat_lt place (length (map renamed l.starts)) ≡ false = le-ltb _ _ (omega (arith, count, none)) in
+            rw (new, le-ltb _ _ none) (zero_back ∙ sym (zero-div (stride l))))
+      ]
 
   universal_same : (kept : Option ℕ)
       → option_map (row_of offs) (universal_offset l kept) ≡ dense.universal_row l kept
   universal_same None = refl
   universal_same (Some id) =
       by_test (dense.is_row_id l id)
-      (λ yes.
-      let row : ℕ = id / stride l in
-      ap (λ b. option_map (row_of offs) (option_map (id_of offs) (if b then Some row else None))) yes
-      ∙ ap (λ (n : ℕ). Some n) (row_back row (row-below l id (valid_id l rows id yes)))
-      ∙ sym (ap (λ b. if b then Some row else None) yes))
-      (λ no.
-      let row : ℕ = id / stride l in
-      ap (λ b. option_map (row_of offs) (option_map (id_of offs) (if b then Some row else None))) no
-      ∙ sym (ap (λ b. if b then Some row else None) no))
+      (λ yes. rw yes (ap (λ (n : ℕ). Some n) (row_back (id / stride l) (row-below l id (valid_id l rows id yes)))))
+      (λ no. rw no refl)
 
   pub universal_is_id : (kept : Option ℕ) → IfSome (universal_offset l kept) (IsId offs)
   universal_is_id None = tt
@@ -403,7 +350,7 @@ same_table l shaped special =
     let offset : ℕ → ℕ = id_of (offsets_of l) in
     let f : ℕ → ℕ = renamed_id l (offsets_of l) in
     record {
-      size = sym (length-map (renamed_row f) (dense_rows l) ∙ rows_count l rows);
+      size = sym (length-map (dense_rows l) (renamed_row f) ∙ rows_count l rows);
       settings = SameSettings-refl (dense.settings_of l);
       entries = λ mode start.
           sym (ap (λ ids. row_of ids (start_id (sparse_of l) mode start)) (ids_same l rows)

@@ -1,13 +1,9 @@
 -- The bytes of a row, part behind part.
-use Rattle.std.proofs.lemmas.Grind.{common_steps, flat_map-append}
-use Rattle.std.proofs.Common.{◌≡◌, ℕ, ◌<◌, ◌≤◌, List, [], ◌∷◌, ◌++◌, length, map, take, slice_index, get_or, Result, Ok}
-use Rattle.std.proofs.Common.{Err, true, false, refl, ap, append_assoc, arith}
-use Rattle.std.specs.Prelude.{IfOk, if◌then◌else◌}
+use Rattle.rx_spec.proofs.Prelude.{common_steps, flat_map-append, ◌≡◌, ℕ, ◌<◌, ◌≤◌, List, [], ◌∷◌, ◌++◌, length, map}
+use Rattle.rx_spec.proofs.Prelude.{take, slice_index, get_or, Result, Ok, Err, true, false, refl, ap, append_assoc}
+use Rattle.rx_spec.proofs.Prelude.{arith, IfOk, if◌then◌else◌, w16, w32, append-nil, take_all, length-map, row_of}
+use Rattle.rx_spec.proofs.Prelude.{is_match}
 use Rattle.std.specs.Result.{is_ok}
-use Rattle.std.specs.Int.{w16, w32}
-use Rattle.std.proofs.lemmas.List.{append-nil, take_all}
-use Rattle.rx_spec.specs.Ids.{row_of}
-use Rattle.rx_spec.specs.Tables.{is_match}
 use Rattle.rx_wire.specs.declared.order.Order.{Order}
 use Rattle.rx_wire.specs.Fields.{field}
 use Rattle.rx_search.specs.Labels.{patterns_of}
@@ -17,7 +13,7 @@ use Rattle.rx_dense.proofs.RowKinds.{match_kind, match_patterns}
 use Rattle.rx_sparse.specs.declared.ranges.ClassRange.{ClassRange}
 use Rattle.rx_sparse.specs.Rows.{Row, ends_text, head_number, next_ids, no_range, patterns_text, row_text, words_text}
 use Rattle.rx_sparse.specs.Sparse.{patterns_of_id, renamed_range, renamed_row}
-use Rattle.rx_sparse.proofs.RowTexts.{eoi_there, length-map, next_there, pairs_text}
+use Rattle.rx_sparse.proofs.RowTexts.{eoi_there, next_there, pairs_text}
 
 -- ---- results
 
@@ -55,7 +51,7 @@ module _ (f : ℕ → ℕ) where
   ends-renamed ranges = ap (λ t. t ++ 0 ∷ 0 ∷ []) (pairs-renamed ranges)
 
   head-renamed : (row : Row) → head_number (renamed_row f row) ≡ head_number row
-  head-renamed row = omega (arith, length-map (renamed_range f) row.ranges)
+  head-renamed row = omega (arith, length-map row.ranges (renamed_range f))
 
   next-of-renamed : (ranges : List ClassRange) → map (λ r. r.next) (map (renamed_range f) ranges) ≡ map next_of ranges
   next-of-renamed [] = refl

@@ -1,17 +1,10 @@
 -- The rows of a sparse table, where any two rows of the dense one are told apart, are no longer than the bound of the
 -- states behind its rows. So their length is that of states that are reached, wherever it is too much.
-use Rattle.std.proofs.lemmas.Grind.{common_steps}
-use Rattle.std.proofs.Common.{◌≡◌, ℕ, suc, ◌+◌, ◌*◌, ◌<◌, ◌≤◌, Bool, List, [], ◌∷◌, length, get_or, refl, ap, sym, ◌∙◌}
-use Rattle.std.proofs.Common.{arith, subst, ⊎_elim}
-use Rattle.std.specs.Prelude.{sum_by}
-use Rattle.std.specs.List.{range_with_len}
-use Rattle.std.proofs.lemmas.Bool.{cases_lt}
-use Rattle.std.proofs.lemmas.List.Sums.{sum_by-cons}
-use Rattle.rx_spec.specs.Builds.{Build}
-use Rattle.rx_spec.specs.Causes.{Exceeds, max_id}
-use Rattle.rx_spec.specs.Sizes.{build_alphabet, label_total, sparse_bound}
-use Rattle.rx_spec.specs.States.{State, dead_state}
-use Rattle.rx_spec.specs.Tables.{IsSound}
+use Rattle.rx_spec.proofs.Prelude.{common_steps, ◌≡◌, ℕ, suc, ◌+◌, ◌*◌, ◌<◌, ◌≤◌, Bool, List, [], ◌∷◌, length, get_or}
+use Rattle.rx_spec.proofs.Prelude.{refl, ap, sym, ◌∙◌, arith, subst, ⊎_elim, sum_by, range_with_len, cases_lt}
+use Rattle.rx_spec.proofs.Prelude.{sum_by-cons, Build, Exceeds, max_id, label_total, sparse_bound, State, dead_state}
+use Rattle.rx_spec.proofs.Prelude.{IsSound}
+use Rattle.rx_spec.specs.Sizes.{build_alphabet}
 use Rattle.rx_base.specs.ByteClasses.{alphabet_len}
 use Rattle.rx_dense.specs.Layouts.{AreRows, Layout, row_count, table_of}
 use Rattle.rx_dense.proofs.Rows.{alphabet_few}

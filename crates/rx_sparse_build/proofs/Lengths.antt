@@ -1,16 +1,9 @@
 -- The rows of the sparse table of a powerset machine are as long as the definitions say of its states.
-use Rattle.std.proofs.lemmas.Grind.{common_steps}
-use Rattle.std.proofs.Common.{◌≡◌, ◌≢◌, ℕ, zero, suc, ◌+◌, ◌<◌, ◌≤◌, Bool, List, ◌∷◌, length, map, get_or, refl, ap}
-use Rattle.std.proofs.Common.{sym, ◌∙◌, arith}
-use Rattle.std.specs.Prelude.{sum_by, All, AllPairs}
-use Rattle.std.specs.List.{range_with_len}
-use Rattle.std.proofs.lemmas.List.{length-map}
-use Rattle.std.proofs.lemmas.List.Elements.{All-contains}
-use Rattle.rx_spec.specs.Builds.{Build, IsReached, Node, dead}
-use Rattle.rx_spec.specs.Causes.{Exceeds, max_id}
-use Rattle.rx_spec.specs.Power.{node_at}
-use Rattle.rx_spec.specs.Sizes.{patterns_size, sparse_row_size, sparse_size}
-use Rattle.rx_spec.specs.States.{State}
+use Rattle.rx_spec.proofs.Prelude.{common_steps, ◌≡◌, ◌≢◌, ℕ, zero, suc, ◌+◌, ◌<◌, ◌≤◌, Bool, List, ◌∷◌, length, map}
+use Rattle.rx_spec.proofs.Prelude.{get_or, refl, ap, sym, ◌∙◌, arith, sum_by, All, AllPairs, range_with_len, length-map}
+use Rattle.rx_spec.proofs.Prelude.{All-contains, Build, IsReached, Node, dead, Exceeds, max_id, node_at, sparse_size}
+use Rattle.rx_spec.proofs.Prelude.{State}
+use Rattle.rx_spec.specs.Sizes.{patterns_size, sparse_row_size}
 use Rattle.lemmas_tables.proofs.Sizes.{sparse_grows}
 use Rattle.rx_dense.specs.Layouts.{Layout, row_count}
 use Rattle.rx_sparse.specs.Sparse.{sparse_len}

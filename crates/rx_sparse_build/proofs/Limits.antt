@@ -1,14 +1,8 @@
 -- What refuses a sparse table: what refuses its dense one, or that its rows are too long.
-use Rattle.std.proofs.Common.{arith, ◌≡◌, ℕ, ◌<◌, ◌≤◌, Bool, true, false, if◌then◌else◌, List, inr, refl, ap, subst}
-use Rattle.std.proofs.lemmas.Grind.{common_steps}
-use Rattle.std.specs.Prelude.{Result, Ok, Err, IfOk, IfErr, OnOk}
-use Rattle.rx_spec.specs.Builds.{Build}
-use Rattle.rx_spec.specs.Causes.{BuildCause, BuildFits, BuildRefused, Exceeds, HasTooLongRows, IsUnsupported, max_id}
-use Rattle.rx_spec.specs.Expressions.{Expression}
-use Rattle.rx_spec.specs.Nfas.{Nfa}
-use Rattle.rx_spec.specs.Sizes.{sparse_bound, sparse_size}
-use Rattle.rx_spec.specs.States.{State}
-use Rattle.rx_spec.specs.declared.Form.{Form}
+use Rattle.rx_spec.proofs.Prelude.{arith, ◌≡◌, ℕ, ◌<◌, ◌≤◌, Bool, true, false, if◌then◌else◌, List, inr, refl, ap}
+use Rattle.rx_spec.proofs.Prelude.{subst, common_steps, Result, Ok, Err, IfOk, IfErr, OnOk, Build, BuildFits, Exceeds}
+use Rattle.rx_spec.proofs.Prelude.{IsUnsupported, max_id, Expression, Nfa, sparse_bound, sparse_size, State}
+use Rattle.rx_spec.specs.Causes.{HasTooLongRows}
 use Rattle.rx_build_error.specs.Refusals.{IsRefused, TableRefused}
 use Rattle.rx_build_error.specs.declared.BuildError.{BuildError}
 use Rattle.rx_build_error.specs.declared.BuildErrorKind.{BuildErrorKind}
@@ -26,24 +20,6 @@ use Rattle.rx_sparse_build.specs.Measured.{IsBounded, IsMeasured}
 use Rattle.rx_sparse_build.proofs.Bounds.{too_long as bound_too_long}
 use Rattle.rx_sparse_build.proofs.Lengths.{fits as fits_rows, too_long}
 use Rattle.rx_sparse_build.specs.Built.{IsSparse, Refused, sparse_limits}
-
--- ---- causes of the dense table
-
-not_sparse : Form.Dense ≡ Form.Sparse → ⊥
-not_sparse e = cc
-
-build_refused : (s : Settled) (b : Build) (cause : BuildCause) → BuildRefused (limits_of s) b cause
-    → BuildRefused (sparse_limits s) b cause
-build_refused s b BuildCause.Unsupported r = r
-build_refused s b BuildCause.TooManyStates r = grind (arith, common_steps, not_sparse)
-build_refused s b BuildCause.TooManyMatchPatternIDs r = r
-build_refused s b (BuildCause.DFAExceededSizeLimit limit) r = r
-build_refused s b (BuildCause.DeterminizeExceededSizeLimit limit) r = r
-
--- of an NFA
-pub table_refused : (s : Settled) (b : Build) (kind : BuildErrorKind) → IsRefused (TableRefused (limits_of s) b) kind
-    → IsRefused (TableRefused (sparse_limits s) b) kind
-table_refused s b kind = grind (arith, common_steps, refused_as, build_refused)
 
 -- ---- the length of the rows
 
@@ -105,11 +81,7 @@ module _ (s : Settled) (nfa : Nfa) (l : Layout) (shaped : IsShaped l) (is : IsBu
       → IsRefused (TableRefused (sparse_limits s) b) kind
   too_long_refused fits BuildErrorKind.Memory r = tt
   too_long_refused fits BuildErrorKind.TooManyStates r = (supported fits, inr (too_long_rows r))
-  too_long_refused fits (BuildErrorKind.NFA error) r = absurd r
-  too_long_refused fits BuildErrorKind.Unsupported r = absurd r
-  too_long_refused fits BuildErrorKind.TooManyMatchPatternIDs r = absurd r
-  too_long_refused fits (BuildErrorKind.DFAExceededSizeLimit limit) r = absurd r
-  too_long_refused fits (BuildErrorKind.DeterminizeExceededSizeLimit limit) r = absurd r
+  too_long_refused fits _ r = absurd r
 
   -- ---- the table, made sparse
 

@@ -1,13 +1,8 @@
 -- How many needles the row of a sound table has; in a powerset machine as many as are counted for its node.
-use Rattle.std.proofs.lemmas.Grind.{common_steps}
-use Rattle.std.proofs.Common.{◌≡◌, ℕ, ◌<◌, ◌≤◌, ◌==◌, ◌&&◌, Bool, true, false, not, List, length, refl, ap, ap₂, sym}
-use Rattle.std.proofs.Common.{◌∙◌, arith}
-use Rattle.std.specs.Prelude.{if◌then◌else◌, nat_le, nat_lt}
-use Rattle.std.specs.List.{list_any}
-use Rattle.rx_spec.specs.Builds.{Build}
-use Rattle.rx_spec.specs.Power.{IsPower, node_at}
+use Rattle.rx_spec.proofs.Prelude.{common_steps, ◌≡◌, ℕ, ◌<◌, ◌≤◌, ◌==◌, ◌&&◌, Bool, true, false, not, List, length}
+use Rattle.rx_spec.proofs.Prelude.{refl, ap, ap₂, sym, ◌∙◌, arith, if◌then◌else◌, nat_le, nat_lt, list_any, Build}
+use Rattle.rx_spec.proofs.Prelude.{IsPower, node_at, IsSound, Table, leaving}
 use Rattle.rx_spec.specs.Sizes.{needle_count}
-use Rattle.rx_spec.specs.Tables.{IsSound, Table, leaving}
 use Rattle.lemmas_walks.proofs.Firsts.{by_test}
 use Rattle.rx_sparse_build.proofs.PowerRows.{leaving_same, some_state}
 

@@ -1,8 +1,6 @@
 -- The special ids of a table whose rows lie in order are ids of rows.
-use Rattle.std.proofs.Common.{◌≡◌, ℕ, ◌*◌, ◌<◌, ◌≤◌, length, sym, ◌∙◌, subst, ⊎_elim, arith}
-use Rattle.std.specs.Prelude.{max}
-use Rattle.std.proofs.lemmas.Bool.{cases_lt}
-use Rattle.std.proofs.lemmas.Nat.{le-div, pow_pos}
+use Rattle.rx_spec.proofs.Prelude.{◌≡◌, ℕ, ◌*◌, ◌<◌, ◌≤◌, length, sym, ◌∙◌, subst, ⊎_elim, arith, max, cases_lt, le-div}
+use Rattle.rx_spec.proofs.Prelude.{pow_pos}
 use Rattle.rx_dense.specs.Layouts.{AreRows, IsRowId, Layout, row_count, stride}
 use Rattle.rx_dense.proofs.Rows.{IsRowId-row}
 use Rattle.rx_dense.proofs.Shaped.{zero_id}

@@ -1,7 +1,6 @@
 -- The patterns that a row tells, by its label: what a match row has, and no other.
-use Rattle.std.proofs.Common.{◌≡◌, ℕ, Bool, true, false, List, [], ◌∷◌, length, refl}
-use Rattle.std.specs.Prelude.{if◌then◌else◌}
-use Rattle.rx_spec.specs.Machines.{Label, label_of}
+use Rattle.rx_spec.proofs.Prelude.{◌≡◌, ℕ, Bool, true, false, List, [], ◌∷◌, length, refl, if◌then◌else◌, Label}
+use Rattle.rx_spec.proofs.Prelude.{label_of}
 
 -- the label of a row that is a match row or not, and quit or not, and the patterns that are kept for it
 abbrev pub told : Bool → Bool → List ℕ → Label

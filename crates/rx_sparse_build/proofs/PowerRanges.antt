@@ -1,17 +1,11 @@
 -- A row of a dense table that is a powerset machine has as many ranges as its node.
-use Rattle.std.proofs.lemmas.Grind.{common_steps}
-use Rattle.std.proofs.Common.{◌≡◌, ℕ, ◌+◌, ◌-◌, ◌*◌, ◌/◌, ◌<◌, ◌==◌, ◌&&◌, Bool, List, length, map, filter, slice_index}
-use Rattle.std.proofs.Common.{drop, ap, sym, ◌∙◌, arith, length-drop, length-take-le}
-use Rattle.std.specs.List.{range_with_len}
-use Rattle.std.proofs.Math.Nat.{zero-div}
-use Rattle.std.proofs.lemmas.Bool.{cases_eq, eq-eqb, ne_eqb}
-use Rattle.std.proofs.lemmas.List.{get_or-drop, get_or-map, get_or-take, length-map}
-use Rattle.std.proofs.lemmas.List.FromFn.{fill_by_all, get_or-map-range_with_len}
-use Rattle.rx_spec.specs.Builds.{Build, Node, dead, next_node}
-use Rattle.rx_spec.specs.Classes.{class_by, ends_class, representatives}
-use Rattle.rx_spec.specs.Power.{IsPower, node_at}
-use Rattle.rx_spec.specs.Sizes.{range_count, runs_after}
-use Rattle.rx_spec.specs.States.{State}
+use Rattle.rx_spec.proofs.Prelude.{common_steps, ◌≡◌, ℕ, ◌+◌, ◌-◌, ◌*◌, ◌/◌, ◌<◌, ◌==◌, ◌&&◌, Bool, List, length, map}
+use Rattle.rx_spec.proofs.Prelude.{filter, slice_index, drop, ap, sym, ◌∙◌, arith, length-drop, length-take-le}
+use Rattle.rx_spec.proofs.Prelude.{range_with_len, zero-div, cases_eq, eq-eqb, ne_eqb, get_or-drop, get_or-map}
+use Rattle.rx_spec.proofs.Prelude.{get_or-take, length-map, fill_by_all, get_or-map-range_with_len, Build, Node, dead}
+use Rattle.rx_spec.proofs.Prelude.{next_node, class_by, ends_class, representatives, IsPower, node_at, runs_after}
+use Rattle.rx_spec.proofs.Prelude.{State}
+use Rattle.rx_spec.specs.Sizes.{range_count}
 use Rattle.lemmas_tables.proofs.ClassNumbers.{representative_below, representative_class, representatives_counted}
 use Rattle.rx_base.specs.ByteClasses.{alphabet_len}
 use Rattle.rx_dense.specs.Layouts.{AreRows, IsRowId, Layout, column, row_count, stride, table_of}

@@ -1,17 +1,11 @@
 -- The rows of a table that is a powerset machine are its nodes: they are different, lead alike, and are left on the
 -- same bytes.
-use Rattle.std.proofs.lemmas.Grind.{common_steps}
-use Rattle.std.proofs.Common.{◌≡◌, ℕ, zero, suc, ◌<◌, ◌==◌, true, false, not, length, get_or, refl, ap, sym, ◌∙◌, arith}
-use Rattle.std.specs.Prelude.{nat_lt}
-use Rattle.std.specs.List.{range_with_len}
-use Rattle.std.proofs.lemmas.Bool.{cases_lt, cases_order, le-ltb, lt-ltb, ne_eqb}
-use Rattle.std.proofs.lemmas.List.{get_or-map}
-use Rattle.std.proofs.lemmas.List.Elements.{All-get_or}
-use Rattle.rx_spec.specs.Builds.{Build, IsReached, Node, dead, is_dead, is_dead_state, next_node}
-use Rattle.rx_spec.specs.Power.{IsPower, node_at}
-use Rattle.rx_spec.specs.Sizes.{leaving_bytes, same_node}
-use Rattle.rx_spec.specs.States.{State, dead_state}
-use Rattle.rx_spec.specs.Tables.{IsTable, Table, leaving}
+use Rattle.rx_spec.proofs.Prelude.{common_steps, ◌≡◌, ℕ, zero, suc, ◌<◌, ◌==◌, true, false, not, length, get_or, refl}
+use Rattle.rx_spec.proofs.Prelude.{ap, sym, ◌∙◌, arith, nat_lt, range_with_len, cases_lt, le-ltb, lt-ltb, ne_eqb}
+use Rattle.rx_spec.proofs.Prelude.{get_or-map, All-get_or, Build, IsReached, Node, dead, is_dead, is_dead_state}
+use Rattle.rx_spec.proofs.Prelude.{next_node, IsPower, node_at, same_node, State, dead_state, IsTable, Table, leaving}
+use Rattle.std.proofs.lemmas.Bool.{cases_order}
+use Rattle.rx_spec.specs.Sizes.{leaving_bytes}
 use Rattle.lemmas_tables.proofs.Filters.{every_in_range, filter_alike}
 use Rattle.rx_sparse_build.proofs.SameNodes.{same_numbers}
 

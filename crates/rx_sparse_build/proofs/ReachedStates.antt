@@ -1,18 +1,12 @@
 -- In a table that gives its build, and of which any two rows are told apart, each row that is reached is that of a
 -- state.
-use Rattle.std.proofs.lemmas.Grind.{common_steps}
-use Rattle.std.proofs.Common.{◌≡◌, ◌≢◌, ℕ, zero, suc, ◌+◌, ◌<◌, ◌≤◌, ◌-◌, true, List, [], ◌∷◌, ◌++◌, length, refl, ap}
-use Rattle.std.proofs.Common.{sym, ◌∙◌, subst, arith, get_or}
-use Rattle.std.specs.Prelude.{Contains, All, AllPairs}
-use Rattle.std.proofs.lemmas.Bool.{and_parts, eqb-true}
-use Rattle.std.proofs.lemmas.List.{get_or_default}
-use Rattle.std.proofs.lemmas.List.Elements.{All-from_get_or}
-use Rattle.rx_spec.specs.Builds.{Build, IsReached, Node, built_entry, built_modes, dead, is_dead, is_dead_state}
-use Rattle.rx_spec.specs.Builds.{next_node, node_after, node_label, power}
-use Rattle.rx_spec.specs.Labels.{AreToldApart, Gives, IsReachedRow, label_after}
-use Rattle.rx_spec.specs.Machines.{IsWord, Label}
-use Rattle.rx_spec.specs.States.{State, dead_state}
-use Rattle.rx_spec.specs.Tables.{IsTable, Table}
+use Rattle.rx_spec.proofs.Prelude.{common_steps, ◌≡◌, ◌≢◌, ℕ, zero, suc, ◌+◌, ◌<◌, ◌≤◌, ◌-◌, true, List, [], ◌∷◌, ◌++◌}
+use Rattle.rx_spec.proofs.Prelude.{length, refl, ap, sym, ◌∙◌, subst, arith, get_or, Contains, All, AllPairs, and_parts}
+use Rattle.rx_spec.proofs.Prelude.{eqb-true, get_or_default, All-from_get_or, Build, IsReached, Node, built_entry}
+use Rattle.rx_spec.proofs.Prelude.{built_modes, dead, is_dead, is_dead_state, next_node, node_after, node_label, power}
+use Rattle.rx_spec.proofs.Prelude.{AreToldApart, IsReachedRow, label_after, IsWord, Label, State, dead_state, IsTable}
+use Rattle.rx_spec.proofs.Prelude.{Table}
+use Rattle.rx_spec.specs.Labels.{Gives}
 use Rattle.lemmas_walks.proofs.Firsts.{by_test}
 use Rattle.lemmas_walks.proofs.Words.{IsWord-append, IsWord-head, IsWord-tail, run-append, run-cons, run-nil}
 

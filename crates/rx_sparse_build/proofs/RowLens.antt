@@ -1,14 +1,8 @@
 -- How long the sparse row of a dense one is, by its ranges, the patterns that it tells, and its needles.
-use Rattle.std.proofs.lemmas.Grind.{common_steps}
-use Rattle.std.proofs.Common.{◌≡◌, ◌≢◌, ℕ, zero, suc, ◌+◌, ◌-◌, ◌*◌, ◌<◌, ◌≤◌, Bool, true, false, List, [], ◌∷◌, ◌&&◌}
-use Rattle.std.proofs.Common.{filter, length, map, refl, arith}
-use Rattle.std.specs.Prelude.{if◌then◌else◌, sum_by}
-use Rattle.std.specs.List.{range_with_len}
-use Rattle.std.proofs.lemmas.List.{length-map}
-use Rattle.std.proofs.lemmas.List.Sums.{sum_by-cons}
-use Rattle.rx_spec.specs.Machines.{Label}
+use Rattle.rx_spec.proofs.Prelude.{common_steps, ◌≡◌, ◌≢◌, ℕ, zero, suc, ◌+◌, ◌-◌, ◌*◌, ◌<◌, ◌≤◌, Bool, true, false}
+use Rattle.rx_spec.proofs.Prelude.{List, [], ◌∷◌, ◌&&◌, filter, length, map, refl, arith, if◌then◌else◌, sum_by}
+use Rattle.rx_spec.proofs.Prelude.{range_with_len, length-map, sum_by-cons, Label, IsSound}
 use Rattle.rx_spec.specs.Sizes.{patterns_size}
-use Rattle.rx_spec.specs.Tables.{IsSound}
 use Rattle.rx_base.specs.ByteClasses.{alphabet_len}
 use Rattle.rx_dense.specs.Layouts.{AreRows, Layout, patterns_at, place_in_range, row_count, stride, table_of}
 use Rattle.rx_dense.specs.Specials.{is_match_id, is_quit_id}

@@ -1,11 +1,7 @@
 -- Ranges of classes that lead to one row are runs of equal nodes.
-use Rattle.std.proofs.Common.{◌≡◌, ℕ, zero, suc, ◌+◌, ◌-◌, ◌<◌, ◌≤◌, ◌==◌, ◌&&◌, ◌||◌, Bool, true, false, not, cond}
-use Rattle.std.proofs.Common.{List, ◌∷◌, length, map, filter, refl, ap, ap₂, sym, ◌∙◌, arith}
-use Rattle.std.specs.Prelude.{if◌then◌else◌}
-use Rattle.std.specs.List.{range_with_len}
-use Rattle.std.proofs.lemmas.Bool.{ne_eqb}
-use Rattle.rx_spec.specs.Builds.{Node, dead, is_dead}
-use Rattle.rx_spec.specs.Sizes.{runs_after, same_node}
+use Rattle.rx_spec.proofs.Prelude.{◌≡◌, ℕ, zero, suc, ◌+◌, ◌-◌, ◌<◌, ◌≤◌, ◌==◌, ◌&&◌, ◌||◌, Bool, true, false, not}
+use Rattle.rx_spec.proofs.Prelude.{cond, List, ◌∷◌, length, map, filter, refl, ap, ap₂, sym, ◌∙◌, arith, if◌then◌else◌}
+use Rattle.rx_spec.proofs.Prelude.{range_with_len, ne_eqb, Node, dead, is_dead, runs_after, same_node}
 use Rattle.lemmas_walks.proofs.Firsts.{by_test}
 use Rattle.rx_sparse_build.proofs.SameNodes.{dead_apart}
 

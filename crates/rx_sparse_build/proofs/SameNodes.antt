@@ -1,26 +1,16 @@
 -- The test of two nodes decides whether they are one.
-use Rattle.std.proofs.Common.{arith, ◌≡◌, ℕ, ◌==◌, Bool, true, false, refl, ap}
-use Rattle.std.proofs.lemmas.Grind.{common_steps}
-use Rattle.std.proofs.lemmas.Bool.{and_from, and_parts, cases_eq, eq-eqb, false_from_ne_true, ne_eqb, not-true, or_from}
-use Rattle.std.proofs.lemmas.Bool.{or_parts, not_from_false}
-use Rattle.std.proofs.lemmas.Slice.Eq.{bytes_eq-Decides}
-use Rattle.rx_spec.specs.Builds.{Node, dead, is_dead}
-use Rattle.rx_spec.specs.Contexts.{Facts}
-use Rattle.rx_spec.specs.Looks.{differ}
-use Rattle.rx_spec.specs.Sizes.{same_facts, same_node, same_state}
-use Rattle.rx_spec.specs.States.{State}
+use Rattle.rx_spec.proofs.Prelude.{arith, ◌≡◌, ℕ, ◌==◌, Bool, true, false, refl, ap, common_steps, and_from, and_parts}
+use Rattle.rx_spec.proofs.Prelude.{cases_eq, eq-eqb, false_from_ne_true, ne_eqb, not-true, or_parts, bytes_eq-Decides}
+use Rattle.rx_spec.proofs.Prelude.{Node, dead, is_dead, Facts, differ, same_node, State}
+use Rattle.std.proofs.lemmas.Bool.{or_from}
+use Rattle.std.proofs.lemmas.Bool.{not_from_false}
+use Rattle.rx_spec.specs.Sizes.{same_facts, same_state}
+use Rattle.lemmas_tables.proofs.Classes.{same_tests}
 
 -- ---- nodes that pass are one
 
--- facts, states and nodes in turn
-same_bit : (a b : Bool) → differ a b ≡ false → a ≡ b
-same_bit true true e = refl
-same_bit true false e = absurd (cc)
-same_bit false true e = absurd (cc)
-same_bit false false e = refl
-
 facts_one : (x y : Facts) → same_facts x y ≡ true → x ≡ y
-facts_one x y e = grind (arith, common_steps, or_parts, not-true, same_bit)
+facts_one x y e = grind (arith, common_steps, or_parts, not-true, same_tests)
 
 state_one : (s t : State) → same_state s t ≡ true → s ≡ t
 state_one s t e = grind (arith, common_steps, and_parts, bytes_eq-Decides, facts_one)

@@ -1,16 +1,8 @@
 -- A sparse table says what its dense one says.
-use Rattle.std.proofs.lemmas.Grind.{common_steps}
-use Rattle.std.proofs.Common.{◌≡◌, ℕ, ◌<◌, true, false, List, sym, ap, ◌∙◌, subst, arith}
-use Rattle.rx_spec.specs.Builds.{Build}
+use Rattle.rx_spec.proofs.Prelude.{common_steps, ◌≡◌, true, false, sym, ap, ◌∙◌, subst, arith, Build, Nfa, IsPower}
+use Rattle.rx_spec.proofs.Prelude.{AreSame, IsTable, Table, row_after}
 use Rattle.rx_spec.specs.Labels.{Gives, IsLeastFor}
-use Rattle.rx_spec.specs.Machines.{IsWord}
-use Rattle.rx_spec.specs.Nfas.{Nfa}
-use Rattle.rx_spec.specs.Power.{IsPower}
-use Rattle.rx_spec.specs.Queries.{Anchored}
-use Rattle.rx_spec.specs.Tables.{AreSame, IsTable, Table, row_after}
-use Rattle.rx_spec.specs.declared.Start.{Start}
-use Rattle.lemmas_walks.proofs.SilentRows.{IsRow}
-use Rattle.lemmas_walks.proofs.Words.{run-within}
+use Rattle.lemmas_walks.proofs.SilentRows.{row_there}
 use Rattle.lemmas_tables.proofs.Tables.{SameSettings-sym, SameSettings-trans, table_same}
 use Rattle.rx_meaning.specs.Tables.{Serves}
 use Rattle.rx_dense.specs.Layouts as dense
@@ -27,15 +19,10 @@ use Rattle.rx_sparse_build.proofs.Ordered.{special_rows}
 -- ---- a table that is the same as another
 
 module _ {t u : Table} (same : AreSame t u) (is : IsTable t) (b : Build) where
-  row_there : (mode : Anchored) (start : Start) (word : List ℕ) → IsWord word → row_after t mode start word < t.size
-  row_there mode start word w =
-      run-within t.machine.next (IsRow t) (λ row unit h v. is.nexts row unit h v) (t.machine.entry mode start) word
-      (is.entries mode start) w
-
   gives_same : Gives t b → Gives u b
   gives_same gives mode begins start word w =
       ap u.machine.label (walks_same same is mode start word w)
-      ∙ sym (same.labels (row_after t mode start word) (row_there mode start word w))
+      ∙ sym (same.labels (row_after t mode start word) (row_there t is mode start word w))
       ∙ gives mode begins start word w
 
   pub serves_same : Serves t b → Serves u b

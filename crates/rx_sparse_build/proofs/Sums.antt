@@ -1,8 +1,6 @@
 -- Sums over the rows of a table, by what their states measure.
-use Rattle.std.proofs.Common.{◌≡◌, ℕ, suc, ◌+◌, ◌*◌, ◌<◌, ◌≤◌, List, [], ◌∷◌, length, get_or, refl, arith, subst}
-use Rattle.std.specs.Prelude.{sum_by}
-use Rattle.std.specs.List.{range_with_len}
-use Rattle.std.proofs.lemmas.List.Sums.{sum_by-cons}
+use Rattle.rx_spec.proofs.Prelude.{◌≡◌, ℕ, suc, ◌+◌, ◌*◌, ◌<◌, ◌≤◌, List, [], ◌∷◌, length, get_or, refl, arith, subst}
+use Rattle.rx_spec.proofs.Prelude.{sum_by, range_with_len, sum_by-cons}
 
 module _ {X : Type 0} (measure : X → ℕ) (d : X) (len : ℕ → ℕ) where
   -- each row has what its item measures

@@ -1,21 +1,16 @@
 -- What the closing tests say, as facts: of rows by their ids, of where rows lead, and of all parts together.
-use Rattle.std.proofs.lemmas.Grind.{common_steps}
-use Rattle.std.proofs.Common.{[], ◌≡◌, ℕ, zero, suc, ◌+◌, ◌<◌, ◌≤◌, ◌==◌, Bool, true, false, cond, leb, Option, Some}
-use Rattle.std.proofs.Common.{None, List, ◌∷◌, length, get_or, slice_index, sym, ap, subst, ◌∙◌, arith}
-use Rattle.std.specs.Prelude.{IfSome}
-use Rattle.std.specs.List.{list_all}
-use Rattle.std.proofs.lemmas.Bool.{and_parts, eqb-true, leb-true}
-use Rattle.std.proofs.lemmas.List.{get_or_default}
+use Rattle.rx_spec.proofs.Prelude.{common_steps, [], ◌≡◌, ℕ, ◌<◌, ◌≤◌, ◌==◌, Bool, true, leb, Option, Some, None, List}
+use Rattle.rx_spec.proofs.Prelude.{◌∷◌, length, get_or, slice_index, sym, ap, subst, ◌∙◌, arith, IfSome, list_all}
+use Rattle.rx_spec.proofs.Prelude.{and_parts, eqb-true, leb-true, get_or_default, id_of, row_of}
 use Rattle.std.proofs.lemmas.List.Folds.{Any-from_list_any}
-use Rattle.rx_spec.specs.Ids.{id_of, row_of}
 use Rattle.lemmas_tables.proofs.Ids.{row_of-id_of}
 use Rattle.rx_search.specs.Starts.{IsId}
 use Rattle.rx_dense_image.proofs.ClosedFacts.{each_at}
-use Rattle.rx_sparse.specs.declared.ranges.ClassRange.{ClassRange}
-use Rattle.rx_sparse.specs.Rows.{Row, has_class, next_among, next_ids, no_range, no_row, offsets_from, row_len}
-use Rattle.rx_sparse.specs.Layouts.{Layout, ids_of, next_id, row_at, row_count}
-use Rattle.rx_sparse.specs.Facts.{length-offsets, offsets_are_ids}
+use Rattle.rx_sparse.specs.Rows.{Row, next_ids, no_range, no_row, offsets_from}
+use Rattle.rx_sparse.specs.Layouts.{Layout, ids_of, row_at, row_count}
+use Rattle.rx_sparse.specs.Facts.{length-offsets, offset_at, offsets_are_ids}
 use Rattle.rx_sparse.proofs.RowTexts.{eoi_there, length-next_ids, next_there}
+use Rattle.rx_sparse_image.proofs.EachRow.{each_at as each_row_at}
 use Rattle.rx_sparse_image.specs.Closing.{are_special_rows, each_row, has_needles, is_closed, is_row_id, is_start_row}
 use Rattle.rx_sparse_image.specs.Closing.{is_universal, leads_on, row_stands, rows_stand, starts_stand}
 
@@ -30,8 +25,8 @@ valid_id l id test =
     let there : id_of ids found.0 ≡ id =
     get_or_default ids found.0 0 found.1 found.2 ∙ found.3 ∙ eqb-true found.1 id found.4 in
     let back : row_of ids id ≡ found.0 =
-    ap (row_of ids) (sym there) ∙ row_of-id_of (offsets_are_ids l.rows) found.0 (omega (arith, count, found.2)) in
-    omega (arith, back, found.2)
+    ap (row_of ids) (sym there) ∙ row_of-id_of (offsets_are_ids l.rows) found.0 (omega arith) in
+    omega arith
 
 -- a universal start that passes the test is one
 pub universal_is : (l : Layout) (o : Option ℕ) → is_universal l o ≡ true → IfSome o (IsId (ids_of l))
@@ -41,39 +36,21 @@ universal_is l (Some id) test = valid_id l id test
 -- a test of all rows is one of each, at its offset
 row_at_offset : (test : ℕ → Row → Bool) (at : ℕ) (rows : List Row) (row : ℕ) → each_row test at rows ≡ true
     → row < length rows → test (id_of (offsets_from at rows) row) (get_or rows row no_row) ≡ true
-unfolding offsets_from
-row_at_offset test at [] row passed h = elim h [ ]
-row_at_offset test at (r ∷ rows) zero passed h = (and_parts (test at r) (each_row test (at + row_len r) rows) passed).0
-row_at_offset test at (r ∷ rows) (suc row) passed h =
-    row_at_offset test (at + row_len r) rows row
-    (and_parts (test at r) (each_row test (at + row_len r) rows) passed).1 (omega (arith, h))
+row_at_offset test at rows row passed h =
+    subst (λ n. test n (get_or rows row no_row) ≡ true) (sym (offset_at at rows row h))
+    (each_row_at test at rows row passed h)
 
 -- ---- where a row leads
 
--- what holds of dead, and of where each range and the end mark lead, holds of where each unit leads
+-- what holds of each next id holds of where each range and the end mark lead
 module _ (P : ℕ → Type 0) (row : Row)
     (all : (i : ℕ) → i < length (next_ids row) → P (slice_index (next_ids row) i)) where
   pub range_leads : (i : ℕ) → i < length row.ranges → P (get_or row.ranges i no_range).next
   range_leads i h =
-      subst P (next_there row.ranges (row.eoi ∷ []) i h) (all i (omega (arith, h, length-next_ids row)))
+      subst P (next_there row.ranges (row.eoi ∷ []) i h) (all i (omega (arith, length-next_ids row)))
 
   pub eoi_leads : P row.eoi
   eoi_leads = subst P (eoi_there row.ranges row.eoi) (all (length row.ranges) (omega (arith, length-next_ids row)))
-
-  either : (b : Bool) (x y : ℕ) → P x → P y → P (cond b x y)
-  either true x y p q = p
-  either false x y p q = q
-
-  among : P 0 → (ranges : List ClassRange) (class : ℕ)
-      → ((i : ℕ) → i < length ranges → P (get_or ranges i no_range).next) → P (next_among ranges class)
-  unfolding next_among
-  among dead [] class each = dead
-  among dead (range ∷ ranges) class each =
-      either (has_class class range) range.next (next_among ranges class) (each 0 (omega arith))
-      (among dead ranges class (λ i h. each (suc i) (omega (arith, h))))
-
-  pub unit_leads : P 0 → (classes : List ℕ) (unit : ℕ) → P (next_id classes row unit)
-  unit_leads dead classes unit = grind (arith, common_steps, either, eoi_leads, among, range_leads)
 
 -- ---- all parts together
 
@@ -85,7 +62,7 @@ pub record Stands (l : Layout) (row : ℕ) : Type 0 where
   pub needles : has_needles l (id_of (ids_of l) row) (row_at l row) ≡ true
 
 stands : (l : Layout) (row : ℕ) → row_stands l (id_of (ids_of l) row) (row_at l row) ≡ true → Stands l row
-stands l row test = grind (arith, common_steps, and_parts, valid_id, each_at)
+stands l row test = grind (arith, common_steps, and_parts, valid_id)
 
 -- the ids of special rows are those of rows
 pub record AreSpecialRows (l : Layout) : Type 0 where
@@ -98,7 +75,7 @@ pub record AreSpecialRows (l : Layout) : Type 0 where
   pub max_start : IsId (ids_of l) l.special.max_start
 
 special_rows : (l : Layout) → are_special_rows l l.special ≡ true → AreSpecialRows l
-special_rows l test = grind (arith, common_steps, and_parts, valid_id)
+special_rows l test = grind (arith, common_steps, valid_id)
 
 pub record AreClosed (l : Layout) : Type 0 where
   pub two : 2 ≤ row_count l
@@ -133,4 +110,4 @@ quit_is l facts =
     let two = facts.two in
     let row : row_of (ids_of l) l.special.quit ≡ 1 =
     ap (row_of (ids_of l)) facts.quit ∙ row_of-id_of (offsets_are_ids l.rows) 1 (omega arith) in
-    omega (arith, row, length-offsets 0 l.rows)
+    omega (arith, length-offsets 0 l.rows)

@@ -1,18 +1,12 @@
 -- Bytes that were decoded are the bytes of what was decoded: numbers, ends of ranges, and next ids.
-use Rattle.std.proofs.lemmas.Grind.{common_steps}
-use Rattle.std.proofs.Common.{[], ◌≡◌, ℕ, zero, suc, ◌+◌, ◌-◌, ◌*◌, ◌^◌, ◌<◌, ◌≤◌, List, ◌∷◌, ◌++◌, length, take, drop}
-use Rattle.std.proofs.Common.{map, get_or, slice_index, refl, ap, ap₂, sym, ◌∙◌, arith, Fits, w8, length-drop}
-use Rattle.std.proofs.Common.{drop-cons}
-use Rattle.std.specs.List.{range_with_len}
-use Rattle.std.specs.Int.{w16, w32}
-use Rattle.std.proofs.Math.Seq.{take-add}
-use Rattle.std.proofs.lemmas.Bool.{cases_lt}
-use Rattle.std.proofs.lemmas.List.{drop-drop, drop-take, drop_all, get_or_past, length-take-le, take-append-drop}
-use Rattle.std.proofs.lemmas.List.{take-take}
-use Rattle.std.proofs.lemmas.List.Elements.{All-drop, All-from_get_or, All-take}
-use Rattle.std.proofs.lemmas.List.FromFn.{map-range_with_len_more}
+use Rattle.rx_spec.proofs.Prelude.{common_steps, [], ◌≡◌, ℕ, zero, suc, ◌+◌, ◌-◌, ◌*◌, ◌^◌, ◌<◌, ◌≤◌, List, ◌∷◌, ◌++◌}
+use Rattle.rx_spec.proofs.Prelude.{length, take, drop, map, get_or, slice_index, refl, ap, ap₂, sym, ◌∙◌, arith}
+use Rattle.rx_spec.proofs.Prelude.{length-drop, drop-cons, range_with_len, w16, w32, take-add, drop-drop}
+use Rattle.rx_spec.proofs.Prelude.{length-take-le, All-drop, All-from_get_or, All-take, map-range_with_len_more}
+use Rattle.rx_spec.proofs.Prelude.{AreBytes}
+use Rattle.std.proofs.Common.{Fits, w8}
+use Rattle.std.proofs.lemmas.List.{drop-take, take-take}
 use Rattle.std.proofs.lemmas.Nat.{be_bytes_2, be_bytes_4, le_bytes_2, le_bytes_4}
-use Rattle.rx_spec.specs.Bytes.{AreBytes}
 use Rattle.rx_wire.specs.declared.order.Order.{Order}
 use Rattle.rx_wire.specs.Fields.{field, number}
 use Rattle.rx_sparse.specs.Rows.{ends_text, range_in, word_at, words_in, words_text}
@@ -26,7 +20,7 @@ are_bytes bytes fit = All-from_get_or (λ b. b < 256) bytes 0 (λ i h. omega (ar
 
 -- past the end too
 pub byte_below : (bytes : List ℕ) → AreBytes bytes → (i : ℕ) → get_or bytes i 0 < 256
-byte_below bytes are i = grind (arith, common_steps, get_or_past, cases_lt)
+byte_below bytes are i = grind (arith, common_steps)
 
 -- the bytes of the number of two bytes are these
 pub field16_is : (order : Order) (bytes : List ℕ) → AreBytes bytes → length bytes ≡ 2
@@ -42,13 +36,13 @@ field32_is Order.Big bytes are len = be_bytes_4 bytes _ len (byte_below bytes ar
 
 -- a number of bytes fits them
 pub number16_below : (order : Order) (bytes : List ℕ) → AreBytes bytes → number order w16 bytes < 2 ^ 16
-number16_below Order.Little bytes are = grind (arith, common_steps, byte_below)
-number16_below Order.Big bytes are = grind (arith, common_steps, byte_below)
+number16_below Order.Little bytes are = grind (arith, common_steps)
+number16_below Order.Big bytes are = grind (arith, common_steps)
 
 -- and four bytes
 pub number32_below : (order : Order) (bytes : List ℕ) → AreBytes bytes → number order w32 bytes < 2 ^ 32
-number32_below Order.Little bytes are = grind (arith, common_steps, byte_below)
-number32_below Order.Big bytes are = grind (arith, common_steps, byte_below)
+number32_below Order.Little bytes are = grind (arith, common_steps)
+number32_below Order.Big bytes are = grind (arith, common_steps)
 
 -- ---- words
 
@@ -123,7 +117,7 @@ module _ (order : Order) (count : ℕ) (ends ids : List ℕ) (some : 1 ≤ count
   -- the ends of all ranges, and the zeros of the end mark
   pub ends_are : length ends ≡ 2 * count → slice_index ends (2 * count - 2) ≡ 0 → slice_index ends (2 * count - 1) ≡ 0
       → ends_text (map (range_in order ends ids) (range_with_len 0 (count - 1))) ≡ ends
-  ends_are len first last = grind (arith, common_steps, drop-cons, drop_all, pairs_from, take-append-drop)
+  ends_are len first last = grind (arith, common_steps, pairs_from)
 
   -- where the ranges from a place on lead
   nexts_from : (place n : ℕ) → map (λ range. range.next) (map (range_in order ends ids) (range_with_len place n))

@@ -1,5 +1,5 @@
 -- The special ids of a dense table that can be read are ids of rows.
-use Rattle.std.proofs.Common.{◌≡◌, ℕ, ◌*◌, true, sym, ◌∙◌, subst, arith}
+use Rattle.rx_spec.proofs.Prelude.{◌≡◌, ℕ, ◌*◌, true, sym, ◌∙◌, subst, arith}
 use Rattle.rx_dense.specs.Layouts.{IsRowId, Layout, is_row_id, stride}
 use Rattle.rx_dense.proofs.Rows.{IsRowId-row}
 use Rattle.rx_dense_image.specs.Images.{IsWhole}
@@ -12,11 +12,10 @@ special_rows l whole =
     let facts = closed l whole.closed in
     let are = facts.special in
     let passed : (id : ℕ) → is_row_id l id ≡ true → IsRowId l id = row_id_of l whole.read.rows in
-    let two = facts.two in
     let one : 1 * stride l ≡ stride l = omega arith in
     record {
       max = passed l.special.max are.max;
-      quit = subst (IsRowId l) (one ∙ sym are.quit) (IsRowId-row l 1 (omega (arith, two)));
+      quit = subst (IsRowId l) (one ∙ sym are.quit) (IsRowId-row l 1 (omega arith));
       min_match = passed l.special.min_match are.min_match;
       max_match = passed l.special.max_match are.max_match;
       min_accel = passed l.special.min_accel are.min_accel;

@@ -1,7 +1,7 @@
 -- Tests of each row of some, with its offset.
-use Rattle.std.proofs.Common.{[], ◌≡◌, ℕ, zero, suc, ◌+◌, ◌<◌, Bool, true, false, List, ◌∷◌, length, take, get_or, refl}
-use Rattle.std.proofs.Common.{ap, sym, ◌∙◌, arith}
-use Rattle.std.proofs.lemmas.Bool.{and_from, and_left, and_parts, and_right}
+use Rattle.rx_spec.proofs.Prelude.{[], ◌≡◌, ℕ, zero, suc, ◌+◌, ◌<◌, Bool, true, false, List, ◌∷◌, length, take, get_or}
+use Rattle.rx_spec.proofs.Prelude.{refl, ap, sym, ◌∙◌, arith, and_from, and_parts, and_right}
+use Rattle.std.proofs.lemmas.Bool.{and_left}
 use Rattle.rx_sparse.specs.Rows.{Row, no_row, row_len, rows_len}
 use Rattle.rx_sparse_image.specs.Closing.{each_row}
 

@@ -1,16 +1,13 @@
 -- Needles that are compared byte by byte with the bytes on which a row doesn't lead to itself.
-use Rattle.std.proofs.Common.{◌≡◌, ◌≢◌, ℕ, ◌<◌, ◌≤◌, true, false, not, eqb, List, length, get_or, slice_index, filter}
-use Rattle.std.proofs.Common.{refl, sym, ap, ◌∙◌}
-use Rattle.std.specs.List.{range_with_len}
-use Rattle.std.specs.Str.{bytes_eq}
-use Rattle.std.proofs.lemmas.Bool.{eq-eqb, ne_eqb}
+use Rattle.rx_spec.proofs.Prelude.{◌≡◌, ◌≢◌, ℕ, ◌<◌, ◌≤◌, true, false, not, eqb, List, length, get_or, slice_index}
+use Rattle.rx_spec.proofs.Prelude.{filter, refl, sym, ap, ◌∙◌, range_with_len, bytes_eq, eq-eqb, ne_eqb}
 use Rattle.rx_dense_image.proofs.LeavingBytes.{AreMet, all_met, another, too_few}
 use Rattle.rx_sparse.specs.Rows.{Row, next_among}
 use Rattle.rx_sparse.specs.Layouts.{next_id}
 use Rattle.rx_sparse.proofs.RowPlaces.{next_on_byte}
 use Rattle.rx_sparse_image.specs.Closing.{leaves, leaving}
 
-leaving_is : (classes : List ℕ) (at : ℕ) (row : Row)
+pub leaving_is : (classes : List ℕ) (at : ℕ) (row : Row)
     → leaving classes at row ≡ filter (leaves classes at row) (range_with_len 0 256)
 unfolding leaving
 leaving_is classes at row = refl

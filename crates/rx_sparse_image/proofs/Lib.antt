@@ -16,6 +16,8 @@ pub mod PartsOfRows
 pub mod LeavingBytes
 pub mod EachRow
 pub mod RowsAhead
+-- rows by their ids
+pub mod RowIds
 -- what they say, and so: what can be read is a sparse table, and sound
 pub mod ClosedRows
 pub mod ShapedImages

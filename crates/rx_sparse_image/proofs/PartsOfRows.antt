@@ -1,28 +1,18 @@
 -- The row that its parts make, and what is read out of them.
-use Rattle.std.proofs.lemmas.Grind.{common_steps}
-use Rattle.std.proofs.Common.{[], ◌≡◌, ℕ, ◌+◌, ◌-◌, ◌*◌, ◌/◌, ◌<◌, ◌≤◌, Bool, true, false, cond, List, ◌∷◌, ◌++◌}
-use Rattle.std.proofs.Common.{length, map, drop, nat_le, ap, sym, ◌∙◌, arith}
-use Rattle.std.specs.List.{list_all, range_with_len}
-use Rattle.std.proofs.lemmas.Bool.Decides.{nat_tests}
-use Rattle.std.proofs.lemmas.List.{append-nil}
-use Rattle.std.proofs.lemmas.List.Folds.{list_all-map}
-use Rattle.std.proofs.lemmas.List.FromFn.{map-range_with_len_more}
-use Rattle.std.proofs.lemmas.Simd.{map-map}
+use Rattle.rx_spec.proofs.Prelude.{common_steps, [], ◌≡◌, ℕ, ◌+◌, ◌-◌, ◌*◌, ◌/◌, ◌<◌, ◌≤◌, Bool, List, ◌∷◌, ◌++◌}
+use Rattle.rx_spec.proofs.Prelude.{length, map, nat_le, ap, sym, ◌∙◌, arith, list_all, range_with_len, append-nil}
+use Rattle.rx_spec.proofs.Prelude.{list_all-map, map-range_with_len_more, map-map}
 use Rattle.rx_wire.specs.declared.order.Order.{Order}
+use Rattle.rx_wire.proofs.Words.{length-words}
 use Rattle.rx_sparse.specs.declared.ranges.ClassRange.{ClassRange}
 use Rattle.rx_sparse.specs.Parts.{FitsBytes}
 use Rattle.rx_sparse.specs.Rows.{Row, ends_in, ends_text, head_number, is_some_list, next_ids, next_ids_in}
 use Rattle.rx_sparse.specs.Rows.{patterns_text, range_in, rest_in, row_of_parts, row_text, word_at, words_text}
-use Rattle.rx_sparse.proofs.RowTexts.{ends_is, ids_is, length-ends, length-next_ids, length-words, matches_is, rest_is}
-use Rattle.rx_sparse.proofs.RowTexts.{row_again}
+use Rattle.rx_sparse.proofs.RowTexts.{ends_is, ids_is, length-ends, matches_is, rest_is, row_again}
 use Rattle.rx_sparse_image.specs.declared.row_parts.RowParts.{RowParts}
 use Rattle.rx_sparse_image.specs.Reading.{AreParts, row_of}
 
 -- ---- parts that are the text of a row
-
-told : (n : ℕ) (some : Bool) → n ≤ 257 → nat_le 32768 (n + cond some 32768 0) ≡ some
-told n true h = grind (arith, nat_tests)
-told n false h = grind (arith, nat_tests)
 
 -- the texts of a row's parts make the row
 made : (order : Order) (row : Row) → FitsBytes row
@@ -56,7 +46,7 @@ pub record ArePieces (order : Order) (row : Row) (p : RowParts) : Type 0 where
 
 module _ {order : Order} {row : Row} {p : RowParts} (are : ArePieces order row p) where
   is_match : nat_le 32768 p.head ≡ is_some_list row.patterns
-  is_match = grind (arith, common_steps, told)
+  is_match = grind (arith, common_steps)
 
   behind : p.patterns.now ++ p.needles.now
       ≡ patterns_text order row.patterns ++ (length row.needles ∷ row.needles)
@@ -64,7 +54,7 @@ module _ {order : Order} {row : Row} {p : RowParts} (are : ArePieces order row p
 
   -- the parts make that row
   pub row_is : row_of order p ≡ row
-  row_is = grind (arith, common_steps, is_match, behind, made)
+  row_is = grind (arith, common_steps, is_match, made)
 
   -- and they are whole
   pub are_parts : AreParts order p
@@ -80,17 +70,14 @@ module _ {order : Order} {p : RowParts} (are : AreParts order p) where
   ends_len = ap length are.ends ∙ length-ends row.ranges
 
   pub ids_len : length p.next_ids.now ≡ 2 * length p.ends.now
-  ids_len = grind (arith, common_steps, ends_len, length-words, length-next_ids)
+  ids_len = grind (arith, common_steps, ends_len, length-words)
 
   pub ends_some : 2 ≤ length p.ends.now
   ends_some = omega (arith, ends_len)
 
   -- the id at a place is there
   pub id_within : (i : ℕ) → i < length p.ends.now / 2 → 4 * i + 4 ≤ length p.next_ids.now
-  id_within i h = omega (arith, h, ids_len)
-
-  pub needles_there : drop 1 p.needles.now ≡ (row_of order p).needles
-  needles_there = ap (drop 1) are.needles
+  id_within i h = omega (arith, ids_len)
 
   -- the ids of the ranges and of the end mark are the words, one behind another
   next_ids_are : next_ids (row_of order p)

@@ -1,16 +1,10 @@
 -- Rows that were read one behind another: what is true of those that were passed, and of the reading that is left.
-use Rattle.std.proofs.lemmas.Grind.{common_steps}
-use Rattle.std.proofs.Common.{[], ◌≡◌, ℕ, zero, suc, ◌+◌, ◌-◌, ◌<◌, ◌≤◌, Bool, true, false, ◌||◌, ◌==◌, List, ◌∷◌, ◌++◌}
-use Rattle.std.proofs.Common.{length, drop, get_or, Result, Ok, Err, refl, ap, sym, ◌∙◌, set, replicate, append_assoc}
-use Rattle.std.proofs.Common.{⊎_elim, arith}
-use Rattle.std.specs.List.{list_any}
-use Rattle.std.proofs.lemmas.Bool.{cases_eq, cases_lt, eq-eqb, ne_eqb, or_right}
-use Rattle.std.proofs.lemmas.List.{append-nil, drop-drop, drop_at, get_or_append_left, get_or-set_other}
-use Rattle.std.proofs.lemmas.List.{get_or-set_same, get_or_push, length-append}
+use Rattle.rx_spec.proofs.Prelude.{common_steps, [], ◌≡◌, ℕ, zero, suc, ◌+◌, ◌-◌, ◌<◌, ◌≤◌, Bool, true, false, ◌==◌}
+use Rattle.rx_spec.proofs.Prelude.{List, ◌∷◌, ◌++◌, length, drop, get_or, Result, Ok, Err, refl, ap, sym, ◌∙◌, set}
+use Rattle.rx_spec.proofs.Prelude.{replicate, append_assoc, ⊎_elim, arith, list_any, cases_lt, eq-eqb, or_right}
+use Rattle.rx_spec.proofs.Prelude.{drop-drop, get_or_append_left, get_or-set_same, get_or_push, list_any-append}
+use Rattle.rx_spec.proofs.Prelude.{AreBytes, id_of}
 use Rattle.std.proofs.lemmas.List.Concat.{flat_map-append}
-use Rattle.std.proofs.lemmas.List.Folds.{list_any-append}
-use Rattle.rx_spec.specs.Bytes.{AreBytes}
-use Rattle.rx_spec.specs.Ids.{id_of}
 use Rattle.rx_wire.specs.declared.order.Order.{Order}
 use Rattle.rx_wire.specs.Kinds.{FailsBy, Kind, ◌>>=◌}
 use Rattle.rx_sparse.specs.Facts.{length-offsets}
@@ -21,9 +15,8 @@ use Rattle.rx_sparse.proofs.RowPlaces.{length-rows_in}
 use Rattle.rx_sparse_image.specs.declared.walk.Bounds.{Bounds}
 use Rattle.rx_sparse_image.specs.RowSets.{begins_at, marked}
 use Rattle.rx_sparse_image.specs.Tested.{AreTestedRows, IsTestedRow}
-use Rattle.rx_sparse_image.specs.Turned.{AreWholeRows}
 use Rattle.rx_sparse_image.specs.Walks.{row_at, rows_at, rows_from}
-use Rattle.rx_sparse_image.proofs.TestedRows.{IsPassedRow, fits_tested, passed_row}
+use Rattle.rx_sparse_image.proofs.TestedRows.{IsPassedRow, passed_row}
 
 -- ---- one row more
 
@@ -69,15 +62,10 @@ pub record ArePassed (b : Bounds) (bytes : List ℕ) (count : ℕ) (rest : List 
   pub read : rows_at b bytes
       ≡ (rows_from b (length bytes - count) rest >>= (λ more. Ok (rows_in b.order count bytes ++ more)))
 
--- a step that changes nothing
-bind_same : {A : Type 0} (r : Result A Kind) → r ≡ (r >>= (λ x. Ok x))
-bind_same (Ok x) = refl
-bind_same (Err kind) = refl
-
 -- at the start none was
 pub none_passed : (b : Bounds) (bytes : List ℕ) → ArePassed b bytes 0 bytes
 unfolding rows_in
-none_passed b bytes = grind (arith, common_steps, bind_same)
+none_passed b bytes = grind (arith, common_steps)
 
 -- where a row and the rest begin
 pub row_first : (b : Bounds) (most : ℕ) (bytes : List ℕ) → 0 < length bytes
@@ -108,7 +96,7 @@ bind_push (Err kind) rows row = refl
 
 -- one text and another, and the rest
 behind_both : (first second rest : List ℕ) → first ++ (second ++ rest) ≡ (first ++ (second ++ [])) ++ rest
-behind_both first second rest = grind (arith, common_steps, append-nil, append_assoc)
+behind_both first second rest = grind (arith, common_steps)
 
 module _ {b : Bounds} {bytes rest : List ℕ} {count : ℕ} (are : ArePassed b bytes count rest)
     (len : b.len ≡ length bytes) where
@@ -117,11 +105,11 @@ module _ {b : Bounds} {bytes rest : List ℕ} {count : ℕ} (are : ArePassed b b
 
   -- their bytes and the rest are all bytes
   pub size : rows_len rows + length rest ≡ length bytes
-  size = grind (arith, common_steps, length-append, length-rows)
+  size = grind (arith, common_steps, length-rows)
 
   -- the rest lies behind their bytes
   pub rest_is : drop (rows_len rows) bytes ≡ rest
-  rest_is = grind (arith, common_steps, drop_at, length-rows)
+  rest_is = grind (arith, common_steps, length-rows)
 
   -- the reading that is left begins with a row
   module _ (some : 0 < length rest) where
@@ -183,16 +171,16 @@ module _ {b : Bounds} {bytes rest : List ℕ} {count : ℕ} (are : ArePassed b b
           ⊎_elim
           (λ (low : i < count).
           rw (
-            get_or_append_left (offsets rows) (at ∷ []) 0 i (omega (arith, n, m)),
-            get_or_append_left rows (row ∷ []) no_row i (omega (arith, n)),
+            get_or_append_left (offsets rows) (at ∷ []) 0 i (omega arith),
+            get_or_append_left rows (row ∷ []) no_row i (omega arith),
           )
           (are.tested i low))
           (λ (high : count ≤ i).
           rw (
-            get_or_push (offsets rows) at 0 i (omega (arith, n, m)),
-            get_or_push rows row no_row i (omega (arith, n)),
+            get_or_push (offsets rows) at 0 i (omega arith),
+            get_or_push rows row no_row i (omega arith),
           )
-          (passed.tested (omega (arith, size))))
+          (passed.tested (omega arith)))
           (cases_lt i count)
 
       -- it was passed too
@@ -222,11 +210,6 @@ module _ {b : Bounds} {bytes rest : List ℕ} {count : ℕ} (are : ArePassed b b
 
 -- ---- all rows
 
--- no bytes
-no_bytes : (bytes : List ℕ) → length bytes ≡ 0 → bytes ≡ []
-no_bytes [] h = refl
-no_bytes (byte ∷ bytes) h = absurd (omega arith)
-
 -- no rows are read of no bytes
 pub none_left : (b : Bounds) (most : ℕ) → rows_from b most [] ≡ Ok []
 unfolding rows_from
@@ -240,22 +223,13 @@ module _ {b : Bounds} {bytes rest : List ℕ} {count : ℕ} (are : ArePassed b b
 
   -- the reading gives the rows that were passed
   pub all_read : rows_at b bytes ≡ Ok all
-  all_read = grind (arith, common_steps, no_bytes, none_left, append-nil)
-
-  -- they stand one behind another, and nothing after them
-  pub all_whole : AreWholeRows b.order count bytes
-  all_whole = grind (arith, common_steps, no_bytes, append-nil, fits_tested)
+  all_read = grind (arith, common_steps, none_left)
 
   -- each of them passed its tests
   pub all_tested : AreTestedRows b all
   all_tested = grind (arith, common_steps, length-rows_in, size)
 
 -- ---- marks
-
--- or nothing
-or_none : (x : Bool) → (x || false) ≡ x
-or_none true = refl
-or_none false = refl
 
 -- a set without a mark
 no_mark : (len k : ℕ) → begins_at (replicate len false) k ≡ false
@@ -274,18 +248,7 @@ pub marks_more : (begins : List Bool) (places : List ℕ) (at : ℕ) → at < le
     → ((k : ℕ) → begins_at begins k ≡ list_any (λ place. place == k) places)
     → (k : ℕ) → begins_at (marked begins at) k ≡ list_any (λ place. place == k) (places ++ at ∷ [])
 marks_more begins places at h before k =
-    grind (
-      arith,
-      common_steps,
-      get_or-set_same,
-      list_any-append,
-      or_right,
-      eq-eqb,
-      get_or-set_other,
-      ne_eqb,
-      or_none,
-      cases_eq,
-    )
+    grind (arith, common_steps, get_or-set_same, list_any-append, or_right, eq-eqb)
 
 -- ---- failures
 

@@ -1,11 +1,9 @@
 -- Numbers that are tested one after another.
-use Rattle.std.proofs.lemmas.Grind.{common_steps}
-use Rattle.std.proofs.Common.{[], ◌≡◌, ℕ, zero, suc, ◌*◌, ◌<◌, List, ◌∷◌, length, slice_index, Result, Ok, Err, refl}
-use Rattle.std.proofs.Common.{ap, sym, ◌∙◌, subst, arith}
-use Rattle.std.proofs.lemmas.List.FromFn.{get_or-map-range_with_len, length-map-range_with_len}
+use Rattle.rx_spec.proofs.Prelude.{common_steps, [], ◌≡◌, ℕ, zero, suc, ◌*◌, ◌<◌, List, ◌∷◌, length, slice_index}
+use Rattle.rx_spec.proofs.Prelude.{Result, Ok, Err, refl, ap, sym, ◌∙◌, subst, arith, get_or-map-range_with_len}
+use Rattle.rx_spec.proofs.Prelude.{length-map-range_with_len, w32}
 use Rattle.rx_wire.specs.declared.order.Order.{Order}
 use Rattle.rx_wire.specs.Kinds.{Kind, ◌>>=◌}
-use Rattle.std.specs.Int.{w32}
 use Rattle.rx_wire.specs.Fields.{bytes_at, number_at}
 use Rattle.rx_sparse.specs.Rows.{word_at, words_in}
 use Rattle.rx_sparse_image.specs.declared.walk.Bounds.{Bounds}

@@ -1,15 +1,13 @@
 -- The parts of a row among its bytes, and written in another order.
-use Rattle.std.proofs.lemmas.Grind.{common_steps}
-use Rattle.std.proofs.Common.{[], ◌≡◌, ℕ, zero, suc, ◌+◌, ◌*◌, ◌/◌, ◌%◌, ◌^◌, ◌<◌, ◌≤◌, cond, List, ◌∷◌, ◌++◌, length}
-use Rattle.std.proofs.Common.{take, drop, get_or, slice_index, refl, ap, ap₂, sym, ◌∙◌, subst, append_assoc, arith}
-use Rattle.std.specs.Int.{w16}
-use Rattle.std.proofs.lemmas.List.{append-nil, drop-drop, drop_at, take_at, take_more, length-append}
+use Rattle.rx_spec.proofs.Prelude.{common_steps, [], ◌≡◌, ℕ, zero, suc, ◌+◌, ◌/◌, ◌%◌, ◌^◌, ◌<◌, ◌≤◌, List, ◌∷◌, ◌++◌}
+use Rattle.rx_spec.proofs.Prelude.{length, take, drop, get_or, slice_index, refl, ap, ap₂, sym, ◌∙◌, subst}
+use Rattle.rx_spec.proofs.Prelude.{append_assoc, arith, w16, append-nil, drop-drop, drop_at, take_at, take_more}
+use Rattle.rx_spec.proofs.Prelude.{length-append, max_id}
 use Rattle.std.proofs.lemmas.List.Concat.{flat_map-append}
-use Rattle.std.proofs.lemmas.Nat.{from_le_bytes-to_le_bytes_2, from_be_bytes-to_be_bytes_2}
-use Rattle.rx_spec.specs.Causes.{max_id}
 use Rattle.rx_wire.specs.declared.order.Order.{Order}
 use Rattle.rx_wire.specs.Fields.{field, number}
-use Rattle.rx_wire.proofs.Fields.{length-field_16, length-field_32}
+use Rattle.rx_wire.proofs.Fields.{again16, length-field_16}
+use Rattle.rx_wire.proofs.Words.{length-words, words_again}
 use Rattle.rx_sparse.specs.Rows.{Row, ends_in, ends_text, head_number, is_match_in, is_some_list, next_ids, next_ids_in}
 use Rattle.rx_sparse.specs.Rows.{patterns_in, patterns_len, patterns_text, rest_in, row_in, row_len, row_text, words_in}
 use Rattle.rx_sparse.specs.Rows.{no_row, rows_in, rows_len, rows_text, words_text}
@@ -19,16 +17,11 @@ use Rattle.rx_sparse.proofs.RowLengths.{rows_len-take}
 use Rattle.rx_sparse.proofs.RowPlaces.{fits_row, length-rows_in, row_in-there, text_from}
 use Rattle.rx_sparse.specs.Parts.{FitsBytes, IsWholeRow}
 use Rattle.rx_sparse.proofs.DecodedRows.{pattern_count}
-use Rattle.rx_sparse.proofs.RowTexts.{ends_is, ids_is, length-row, length-rows, length-words, matches_is, patterns_are}
-use Rattle.rx_sparse.proofs.RowTexts.{rest_is, rows_again, words_again}
+use Rattle.rx_sparse.proofs.RowTexts.{ends_is, ids_is, length-row, length-rows, matches_is, patterns_are}
+use Rattle.rx_sparse.proofs.RowTexts.{length-patterns, rest_is, rows_again}
 use Rattle.rx_sparse_image.specs.Turned.{AreWholeRows}
 
 -- ---- sizes
-
-pub length-patterns : (order : Order) (patterns : List ℕ)
-    → length (patterns_text order patterns) ≡ cond (is_some_list patterns) (4 + 4 * length patterns) 0
-length-patterns order [] = refl
-length-patterns order (k ∷ ks) = grind (arith, common_steps, length-append, length-field_32, length-words)
 
 -- the parts of a row have the bytes of the row
 pub row_sizes : (order : Order) (row : Row)
@@ -54,10 +47,6 @@ size_is : (order : Order) (patterns behind : List ℕ) → patterns_in order (is
 size_is order [] behind e = refl
 size_is order (k ∷ ks) behind e =
     omega (arith, pattern_count order _ behind refl, ap length e, length-patterns order (k ∷ ks))
-
-again16 : (order : Order) (n : ℕ) → n < 2 ^ 16 → number order w16 (field order w16 n) ≡ n
-again16 Order.Little n h = from_le_bytes-to_le_bytes_2 n h
-again16 Order.Big n h = from_be_bytes-to_be_bytes_2 n h
 
 head_fits : (row : Row) → FitsBytes row → head_number row < 2 ^ 16
 head_fits row fits = grind (arith, common_steps)
@@ -110,13 +99,13 @@ module _ {order : Order} {bytes : List ℕ} (whole : IsWholeRow order bytes) whe
       (patterns_are order row whole.rest whole.fits)
 
   pub patterns_there : take size behind ≡ patterns_text order row.patterns
-  patterns_there = grind (arith, common_steps, size_there, behind_is, take_at)
+  patterns_there = grind (arith, common_steps, size_there, behind_is)
 
   after_is : after ≡ needles ++ whole.rest
-  after_is = grind (arith, common_steps, size_there, behind_is, drop_at)
+  after_is = grind (arith, common_steps, size_there, behind_is)
 
   pub size_low : size < length behind
-  size_low = grind (arith, common_steps, size_there, behind_is, length-append)
+  size_low = grind (arith, common_steps, size_there, behind_is)
 
   needle_count : 1 + slice_index after 0 ≡ length needles
   needle_count = omega (arith, ap (λ t. slice_index t 0) after_is)
@@ -125,13 +114,10 @@ module _ {order : Order} {bytes : List ℕ} (whole : IsWholeRow order bytes) whe
   size_within = omega (arith, size_low)
 
   pub after_low : 0 < length after
-  after_low = omega (arith, ap length after_is, length-append needles whole.rest)
+  after_low = omega (arith, ap length after_is)
 
   pub needles_low : 1 + slice_index after 0 ≤ length after
   needles_low = omega (arith, needle_count, ap length after_is, length-append needles whole.rest)
-
-  pub needles_there : take (1 + slice_index after 0) after ≡ needles
-  needles_there = ap₂ take needle_count after_is ∙ take_at needles whole.rest (length needles) refl
 
   pub left_there : drop (1 + slice_index after 0) after ≡ drop (row_len row) bytes
   left_there =

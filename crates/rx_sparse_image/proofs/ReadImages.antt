@@ -1,8 +1,7 @@
 -- An image whose parts were read and whose rows were walked: another number of rows is refused, and where the parts fit
 -- each other, the layout can be read.
-use Rattle.std.proofs.Common.{arith, ◌≡◌, ℕ, true, false, Ok, Err, List, refl, sym, subst, ◌∙◌}
-use Rattle.std.proofs.lemmas.Grind.{common_steps}
-use Rattle.std.proofs.lemmas.Bool.{ne_eqb}
+use Rattle.rx_spec.proofs.Prelude.{arith, ◌≡◌, ℕ, true, false, Ok, Err, List, refl, sym, subst, ◌∙◌, common_steps}
+use Rattle.rx_spec.proofs.Prelude.{ne_eqb}
 use Rattle.rx_wire.specs.Kinds.{Kind}
 use Rattle.rx_sparse.specs.Layouts.{Layout, row_count}
 use Rattle.rx_sparse.specs.Parts.{AreParts as ArePartsOf}

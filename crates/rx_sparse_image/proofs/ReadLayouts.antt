@@ -1,17 +1,13 @@
 -- What is true of a layout that was read, and that its rows are read again in either order.
-use Rattle.std.proofs.lemmas.Grind.{common_steps}
-use Rattle.std.proofs.Common.{◌≡◌, ℕ, Ok, List, length, subst, sym, arith}
+use Rattle.rx_spec.proofs.Prelude.{common_steps, ◌≡◌, ℕ, List, length, subst, sym, arith}
 use Rattle.rx_wire.specs.declared.order.Order.{Order}
-use Rattle.rx_sparse.specs.Layouts.{Layout}
-use Rattle.rx_sparse.specs.Rows.{Row, rows_in, rows_text}
+use Rattle.rx_sparse.specs.Rows.{Row, rows_in}
 use Rattle.rx_sparse.proofs.RowPlaces.{length-rows_in}
 use Rattle.rx_sparse_image.specs.declared.read.Image.{Image}
 use Rattle.rx_sparse_image.specs.declared.walk.Bounds.{Bounds}
 use Rattle.rx_sparse_image.specs.Images.{bounds_of}
 use Rattle.rx_sparse_image.specs.Reading.{IsReadImage, image_layout, seen_image}
-use Rattle.rx_sparse_image.specs.Tested.{AreTestedRows, IsRead, IsTestedRow, bounds_in}
-use Rattle.rx_sparse_image.specs.Walks.{rows_at}
-use Rattle.rx_sparse_image.proofs.RowsAgain.{rows_again_read}
+use Rattle.rx_sparse_image.specs.Tested.{AreTestedRows, IsRead, IsTestedRow}
 
 -- no test asks for the order
 pub tested_in : (order : Order) {b : Bounds} {at : ℕ} {row : Row} → IsTestedRow b at row
@@ -33,7 +29,7 @@ is_read i is are =
     let len = are.len in
     let b : Bounds = record (bounds_of (seen_image i)) { order = Order.Little } in
     record {
-      few_rows = omega (arith, bytes.few_rows);
+      few_rows = omega arith;
       few_patterns = bytes.few_patterns;
       classes = bytes.classes;
       rows = subst (λ n. AreTestedRows (record b { len = n }) rows) (sym len) (are_tested_in Order.Little are);
@@ -42,8 +38,3 @@ is_read i is are =
       within = (let most = is.within in omega arith);
       quit = is.quit;
     }
-
--- its rows are read again
-pub read_rows : (order : Order) (l : Layout) → IsRead l
-    → rows_at (record (bounds_in l) { order = order }) (rows_text order l.rows) ≡ Ok l.rows
-read_rows order l is = rows_again_read (record (bounds_in l) { order = order }) l.rows (are_tested_in order is.rows)

@@ -1,13 +1,10 @@
 -- What it says that a row was read: what each test says of a part of its bytes.
-use Rattle.std.proofs.lemmas.Grind.{common_steps}
-use Rattle.std.proofs.Common.{[], ◌≡◌, ℕ, zero, suc, ◌+◌, ◌-◌, ◌*◌, ◌<◌, ◌≤◌, Bool, true, false, not, if◌then◌else◌}
-use Rattle.std.proofs.Common.{leb, ltb, eqb, List, ◌∷◌, length, take, drop, slice_index, Result, Ok, Err, refl, ap, sym}
-use Rattle.std.proofs.Common.{◌∙◌, length-drop, arith, ◌≢◌}
-use Rattle.std.specs.Int.{Width, w16, w32, byte_len}
-use Rattle.std.proofs.lemmas.Bool.{and_parts, eqb-false, leb-true, ltb-false, ltb-true}
-use Rattle.std.proofs.lemmas.List.{drop-drop}
-use Rattle.std.proofs.lemmas.List.FromFn.{get_or-map-range_with_len, length-map-range_with_len}
-use Rattle.rx_spec.specs.Causes.{max_id}
+use Rattle.rx_spec.proofs.Prelude.{common_steps, [], ◌≡◌, ℕ, zero, suc, ◌+◌, ◌-◌, ◌*◌, ◌<◌, ◌≤◌, Bool, true, false, not}
+use Rattle.rx_spec.proofs.Prelude.{if◌then◌else◌, leb, ltb, eqb, List, ◌∷◌, length, take, drop, slice_index, Result, Ok}
+use Rattle.rx_spec.proofs.Prelude.{Err, refl, ap, sym, ◌∙◌, length-drop, arith, ◌≢◌, w16, w32, and_parts, eqb-false}
+use Rattle.rx_spec.proofs.Prelude.{leb-true, ltb-true, drop-drop, get_or-map-range_with_len, length-map-range_with_len}
+use Rattle.rx_spec.proofs.Prelude.{max_id}
+use Rattle.std.specs.Int.{Width, byte_len}
 use Rattle.rx_wire.specs.declared.order.Order.{Order}
 use Rattle.rx_wire.specs.Kinds.{Kind, ◌>>=◌}
 use Rattle.rx_wire.specs.Fields.{bytes_at, number, number_at}
@@ -50,23 +47,11 @@ if_ok : {A : Type 0} (t : Bool) (x y : A) (kind : Kind) → (if t then Ok x else
 if_ok true x y kind e = (refl, cc)
 if_ok false x y kind e = absurd cc
 
--- a test that was failed, as it must be
-unless_ok : {A : Type 0} (t : Bool) (x y : A) (kind : Kind) → (if t then Err kind else Ok x) ≡ Ok y
-    → (t ≡ false) × (x ≡ y)
-unless_ok true x y kind e = absurd cc
-unless_ok false x y kind e = (refl, cc)
-
 -- a test that was passed, and what follows it
 else_ok : {A : Type 0} (t : Bool) (r : Result A Kind) (y : A) (kind : Kind) → (if not t then Err kind else r) ≡ Ok y
     → (t ≡ true) × (r ≡ Ok y)
 else_ok true r y kind e = (refl, e)
 else_ok false r y kind e = absurd cc
-
--- a test that was failed, and what follows gave a value
-then_unless : {A B : Type 0} (t : Bool) (x : A) (kind : Kind) (f : A → Result B Kind) (y : B)
-    → ((if t then Err kind else Ok x) >>= f) ≡ Ok y → (t ≡ false) × (f x ≡ Ok y)
-then_unless true x kind f y e = absurd cc
-then_unless false x kind f y e = (refl, e)
 
 -- a number that was tested
 then_tested : {B : Type 0} (holds : Bool) (kind : Kind) (n : ℕ) (f : ℕ → Result B Kind) (y : B)
@@ -79,25 +64,25 @@ then_number : {B : Type 0} (f : ℕ × List ℕ → Result B Kind) (y : B) (orde
     → (number_at order w bytes >>= f) ≡ Ok y
     → (byte_len w ≤ length bytes) × (f (number order w (take (byte_len w) bytes), drop (byte_len w) bytes) ≡ Ok y)
 unfolding number_at
-then_number f y order w bytes e = grind (arith, common_steps, then_unless, ltb-false)
+then_number f y order w bytes e = grind (arith, common_steps)
 
 -- bytes that were there
 bytes_ok : (count : ℕ) (bytes : List ℕ) (x : List ℕ × List ℕ) → bytes_at count bytes ≡ Ok x
     → (count ≤ length bytes) × ((take count bytes, drop count bytes) ≡ x)
 unfolding bytes_at
-bytes_ok count bytes x e = grind (arith, common_steps, unless_ok, ltb-false)
+bytes_ok count bytes x e = grind (arith, common_steps)
 
 -- and what follows them gave a value
 then_bytes : {B : Type 0} (f : List ℕ × List ℕ → Result B Kind) (y : B) (count : ℕ) (bytes : List ℕ)
     → (bytes_at count bytes >>= f) ≡ Ok y → (count ≤ length bytes) × (f (take count bytes, drop count bytes) ≡ Ok y)
-then_bytes f y count bytes e = grind (arith, common_steps, then_is, bytes_ok)
+then_bytes f y count bytes e = grind (arith, common_steps, bytes_ok)
 
 -- each number passed
 each_ok : (test : ℕ → Result ℕ Kind) (ns : List ℕ) (count : ℕ) → each_passes test ns ≡ Ok count
     → (k : ℕ) → k < length ns → (m : ℕ) × (test (slice_index ns k) ≡ Ok m)
 unfolding each_passes
 each_ok test [] count e k h = elim h [ ]
-each_ok test (n ∷ ns) count e zero h = grind (arith, common_steps, bind_ok)
+each_ok test (n ∷ ns) count e zero h = grind (arith, common_steps)
 each_ok test (n ∷ ns) count e (suc k) h =
     let p = bind_ok (test n) (λ first. each_passes test ns >>= (λ c. Ok (suc c))) count e in
     let q = bind_ok (each_passes test ns) (λ c. Ok (suc c)) count p.2 in
@@ -111,7 +96,7 @@ words_ok test order count bytes passed e k h =
     let none : 0 + k ≡ k = omega arith in
     let here = get_or-map-range_with_len (word_at order bytes) 0 count k k 0 h none in
     let len = length-map-range_with_len (word_at order bytes) 0 count in
-    let p = each_ok test (words_in order count bytes) passed e k (omega (arith, len)) in
+    let p = each_ok test (words_in order count bytes) passed e k (omega arith) in
     (p.0, ap test (sym here) ∙ p.1)
 
 -- a number that passed two tests
@@ -191,7 +176,7 @@ module _ (b : Bounds) (count : ℕ) (bytes : List ℕ) where
 -- a count that is not 0
 then_count : {B : Type 0} (count : ℕ) (f : ℕ → Result B Kind) (y : B) → (tested_count count >>= f) ≡ Ok y
     → (1 ≤ count) × (f count ≡ Ok y)
-then_count count f y e = grind (arith, common_steps, then_unless, eqb-false)
+then_count count f y e = grind (arith, common_steps)
 
 -- words of a count that is not 0
 some_words : (order : Order) (count : ℕ) (bytes : List ℕ) → 1 ≤ count → is_some_list (words_in order count bytes) ≡ true
@@ -229,7 +214,7 @@ module _ (b : Bounds) (bytes after : List ℕ) where
       → (slice_index (words_in b.order count behind) i ≤ max_id)
       × (slice_index (words_in b.order count behind) i < b.pattern_len) =
       λ i h.
-      let low : i < count = omega (arith, len) in
+      let low : i < count = omega arith in
       let none : 0 + i ≡ i = omega arith in
       let id : ℕ = word_at b.order front i in
       let here : slice_index (words_in b.order count behind) i ≡ id =
@@ -237,11 +222,11 @@ module _ (b : Bounds) (bytes after : List ℕ) where
       ∙ sym (word_in_front b.order count behind i low) in
       let u = words_ok (tested_pattern b) b.order count front t.0 t.1 i low in
       let v = two_ok (leb id max_id) (ltb id b.pattern_len) (Kind.PatternID id) Kind.Generic id u.0 u.1 in
-      (omega (arith, here, leb-true id max_id v.0), omega (arith, here, ltb-true id b.pattern_len v.1))
+      (omega (arith, leb-true id max_id v.0), omega (arith, ltb-true id b.pattern_len v.1))
       in
       let length_behind = length-drop 4 bytes in (
         record {
-          long = omega (arith, r.0, p.0);
+          long = omega arith;
           some = some_words b.order count behind q.0;
           small = λ i h. (each i h).0;
           known = λ i h. (each i h).1;
@@ -276,7 +261,7 @@ module _ (is_accel : Bool) (bytes : List ℕ) where
       let q = and_parts (ltb 0 (length bytes)) (may_have is_accel needle_count) p.0 in
       let r = bytes_ok needle_count (drop 1 bytes) needles p.1 in
       let some = ltb-true 0 (length bytes) q.0 in
-      (record { may = q.1; long = omega (arith, length-drop 1 bytes, r.0, some) }, r.1)
+      (record { may = q.1; long = omega (arith, length-drop 1 bytes) }, r.1)
 
 -- ---- a row
 

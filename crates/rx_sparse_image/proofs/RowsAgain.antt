@@ -1,36 +1,30 @@
 -- Rows that can pass the tests are read again from their bytes.
-use Rattle.std.proofs.lemmas.Grind.{common_steps}
-use Rattle.std.proofs.Common.{[], ◌≡◌, ℕ, zero, suc, ◌+◌, ◌-◌, ◌*◌, ◌%◌, ◌^◌, ◌<◌, ◌≤◌, Bool, true, false, not, ◌&&◌}
-use Rattle.std.proofs.Common.{◌||◌, ◌==◌, if◌then◌else◌, cond, leb, ltb, List, ◌∷◌, ◌++◌, length, get_or, slice_index}
-use Rattle.std.proofs.Common.{Ok, Err, refl, ap, ap₂, sym, ◌∙◌, append_assoc, arith}
-use Rattle.std.specs.Int.{w16, w32}
-use Rattle.std.proofs.lemmas.Bool.{and_from, eq-eqb, le-leb, lt-ltb, ne_eqb, or_right}
-use Rattle.std.proofs.lemmas.Bool.Decides.{nat_tests}
-use Rattle.std.proofs.lemmas.List.{append-nil, length-append}
-use Rattle.std.proofs.lemmas.List.FromFn.{get_or-map-range_with_len}
-use Rattle.rx_spec.specs.Causes.{max_id}
-use Rattle.rx_spec.specs.Ids.{id_of}
+use Rattle.rx_spec.proofs.Prelude.{common_steps, [], ◌≡◌, ℕ, zero, suc, ◌+◌, ◌-◌, ◌*◌, ◌^◌, ◌<◌, ◌≤◌, Bool, true, false}
+use Rattle.rx_spec.proofs.Prelude.{not, ◌||◌, ◌==◌, if◌then◌else◌, leb, ltb, List, ◌∷◌, ◌++◌, length, get_or}
+use Rattle.rx_spec.proofs.Prelude.{slice_index, Ok, Err, refl, ap, ap₂, sym, ◌∙◌, append_assoc, arith, w16, w32}
+use Rattle.rx_spec.proofs.Prelude.{and_from, le-leb, lt-ltb, ne_eqb, or_right, length-append, max_id, id_of}
 use Rattle.rx_wire.specs.declared.order.Order.{Order}
 use Rattle.rx_wire.specs.Fields.{bytes_at, field}
-use Rattle.rx_wire.specs.Kinds.{Kind, ◌>>=◌}
+use Rattle.rx_wire.specs.Kinds.{Kind}
 use Rattle.rx_wire.proofs.Fields.{bytes_again, u16_again, u32_again}
 use Rattle.rx_dense.specs.Specials.{is_accel_id}
 use Rattle.rx_dense_image.proofs.EachBelow.{all_of}
+use Rattle.rx_wire.proofs.Words.{length-words, word_alone}
 use Rattle.rx_sparse.specs.Rows.{Row, ends_in, ends_text, head_number, is_some_list, next_ids, no_range, no_row}
 use Rattle.rx_sparse.specs.Rows.{next_ids_in, offsets_from, patterns_text, range_in, row_in, row_len, row_text}
 use Rattle.rx_sparse.specs.Rows.{rows_len, rows_text, word_at, words_text}
 use Rattle.rx_sparse.proofs.DecodedRows.{range_is}
-use Rattle.rx_sparse.proofs.RowTexts.{ends_is, eoi_there, length-ends, length-next_ids, length-row, length-rows}
-use Rattle.rx_sparse.proofs.RowTexts.{length-words, row_again, words_again}
+use Rattle.rx_sparse.proofs.RowTexts.{ends_is, length-ends, length-next_ids, length-row, length-rows, counted}
+use Rattle.rx_sparse.proofs.RowTexts.{row_again, told}
 use Rattle.rx_sparse_image.specs.declared.walk.Bounds.{Bounds}
 use Rattle.rx_sparse_image.specs.Tested.{AreTestedRows, IsTestedRow}
-use Rattle.rx_sparse_image.specs.Walks.{after_patterns_if, ends_at, head_at, is_head, is_match_head, is_range_at}
-use Rattle.rx_sparse_image.specs.Walks.{needles_at, next_ids_at, range_count, row_at, rows_at, rows_from, tested}
-use Rattle.rx_sparse_image.specs.Walks.{tested_count, tested_next}
+use Rattle.rx_sparse_image.specs.Walks.{after_patterns_if, ends_at, head_at, is_match_head, is_range_at, needles_at}
+use Rattle.rx_sparse_image.specs.Walks.{next_ids_at, range_count, row_at, rows_at, rows_from, tested, tested_count}
+use Rattle.rx_sparse_image.specs.Walks.{tested_next}
 use Rattle.rx_sparse_image.proofs.PassedRows.{none_left, row_first}
 use Rattle.rx_sparse_image.proofs.Sizes.{rows_few}
 use Rattle.rx_sparse_image.proofs.Passes.{next_ids_pass, patterns_pass}
-use Rattle.rx_sparse_image.proofs.TestedRows.{fits_tested}
+use Rattle.rx_sparse_image.proofs.TestedRows.{fits_tested, regroup}
 
 -- ---- tests that are passed
 
@@ -48,43 +42,7 @@ both_pass s t first second n hs ht = rw (hs, ht) refl
 count_pass : (n : ℕ) → 1 ≤ n → tested_count n ≡ Ok n
 count_pass n h = rw (ne_eqb n 0 (λ e. (omega arith))) refl
 
--- the lowest 15 bits of a head
-counted : (n : ℕ) (some : Bool) → n ≤ 257 → (n + cond some 32768 0) % 32768 ≡ n
-counted n true h = omega arith
-counted n false h = omega arith
-
--- its highest bit
-told : (n : ℕ) (some : Bool) → n ≤ 257 → leb 32768 (n + cond some 32768 0) ≡ some
-told n true h = grind (arith, nat_tests)
-told n false h = grind (arith, nat_tests)
-
--- it fits two bytes
-fits_16 : (n : ℕ) (some : Bool) → n ≤ 257 → n + cond some 32768 0 < 2 ^ 16
-fits_16 n true h = omega arith
-fits_16 n false h = omega arith
-
--- a mark that is right passes
-same_pass : (is_match mark : Bool) → is_match ≡ mark → cond is_match mark (not mark) ≡ true
-same_pass true true e = refl
-same_pass true false e = sym e
-same_pass false true e = e
-same_pass false false e = refl
-
--- parts of a row, and what follows it
-regroup : (h e i p n rest : List ℕ) → (h ++ (e ++ (i ++ (p ++ n)))) ++ rest ≡ h ++ (e ++ (i ++ (p ++ (n ++ rest))))
-regroup h e i p n rest = simp append_assoc refl
-
 -- ---- words
-
--- a word by its place
-word_there : (order : Order) (words : List ℕ) (k : ℕ) → ((i : ℕ) → i < length words → slice_index words i < 2 ^ 32)
-    → k < length words → word_at order (words_text order words) k ≡ slice_index words k
-word_there order words k small h =
-    let none : 0 + k ≡ k = omega arith in
-    let text : List ℕ = words_text order words ++ [] in
-    ap (λ t. word_at order t k) (sym (append-nil (words_text order words)))
-    ∙ sym (get_or-map-range_with_len (word_at order text) 0 (length words) k k 0 h none)
-    ∙ ap (λ t. slice_index t k) (words_again order words [] small)
 
 -- so many bytes at the front
 front_there : (front rest : List ℕ) (count : ℕ) → length front ≡ count
@@ -136,14 +94,10 @@ module _ (b : Bounds) (at : ℕ) (row : Row) (is : IsTestedRow b at row) where
   mark_is : is_match_head n ≡ is_some_list row.patterns
   mark_is = told count (is_some_list row.patterns) few
 
-  -- it may stand there
-  head_may : is_head b at n ≡ true
-  head_may = grind (arith, common_steps, and_from, le-leb, count_is, few, same_pass, mark_is)
-
   -- the head is read again
   head_again : (rest : List ℕ) → head_at b at (field order w16 n ++ rest) ≡ Ok (n, rest)
   unfolding head_at
-  head_again rest = grind (arith, common_steps, fits_16, few, u16_again, head_may)
+  head_again rest = grind (arith, common_steps, u16_again)
 
   -- ---- ends
 
@@ -182,11 +136,7 @@ module _ (b : Bounds) (at : ℕ) (row : Row) (is : IsTestedRow b at row) where
       let first : ℕ = slice_index ends (2 * i) in
       let last : ℕ = slice_index ends (2 * i + 1) in
       let begins : Bool = (i == 0) || ltb (slice_index ends (2 * i - 1)) first in
-      and_from (leb first last && leb last b.last_class) begins
-      (and_from (leb first last) (leb last b.last_class)
-      (le-leb first last (omega (arith, here.0, here.1, is.ordered i low)))
-      (le-leb last b.last_class (omega (arith, here.1, is.within i low))))
-      (behind i low)
+      grind (arith, common_steps, and_from, le-leb, behind)
     where
       behind : (i : ℕ) → i < length row.ranges
           → ((i == 0) || ltb (slice_index ends (2 * i - 1)) (slice_index ends (2 * i))) ≡ true
@@ -208,34 +158,26 @@ module _ (b : Bounds) (at : ℕ) (row : Row) (is : IsTestedRow b at row) where
   -- the ends are read again
   ends_again : (rest : List ℕ) → ends_at b count (ends ++ rest) ≡ Ok (ends, rest)
   unfolding ends_at
-  ends_again rest = grind (arith, common_steps, and_from, all_of, range_may, eq-eqb, front_there, length-ends_are)
+  ends_again rest = grind (arith, common_steps, and_from, all_of, range_may, front_there, length-ends_are)
 
   -- ---- next ids
 
   id_small : (i : ℕ) → i < length (next_ids row) → slice_index (next_ids row) i < 2 ^ 32
-  id_small i h = omega (arith, is.next_ids i h)
+  id_small i h = omega arith
 
   -- a next id by its place
   id_there : (k : ℕ) → k < count → word_at order ids k ≡ slice_index (next_ids row) k
-  id_there k h = word_there order (next_ids row) k id_small (omega (arith, length-next_ids row))
+  id_there k h =
+      let low : k < length (next_ids row) = omega (arith, length-next_ids row) in
+      word_alone order (next_ids row) k low (id_small k low)
 
   -- the next ids are read again
   ids_again : (rest : List ℕ) → next_ids_at b count (ids ++ rest) ≡ Ok (ids, rest)
   ids_again rest =
-      grind (
-        arith,
-        common_steps,
-        next_ids_pass,
-        front_there,
-        length-words,
-        length-next_ids,
-        both_pass,
-        le-leb,
-        id_there,
-      )
+      grind (arith, common_steps, next_ids_pass, front_there, length-words, id_there)
 
   eoi_is : word_at order ids (count - 1) ≡ row.eoi
-  eoi_is = grind (arith, common_steps, id_there, eoi_there)
+  eoi_is = grind (arith, common_steps, id_there)
 
   -- ---- patterns
 
@@ -258,10 +200,10 @@ module _ (b : Bounds) (at : ℕ) (row : Row) (is : IsTestedRow b at row) where
           (front_there words rest (4 * length all) (length-words order all))
           (λ i h.
           let id : ℕ = word_at order words i in
-          let here : id ≡ slice_index all i = word_there order all i (λ j l. omega (arith, small j l)) h in
+          let here : id ≡ slice_index all i = word_alone order all i h (omega arith) in
           both_pass (leb id max_id) (ltb id b.pattern_len) (Kind.PatternID id) Kind.Generic id
-          (le-leb id max_id (omega (arith, here, small i h)))
-          (lt-ltb id b.pattern_len (omega (arith, here, known i h))))
+          (le-leb id max_id (omega arith))
+          (lt-ltb id b.pattern_len (omega arith)))
 
   -- ---- needles
 
@@ -269,12 +211,12 @@ module _ (b : Bounds) (at : ℕ) (row : Row) (is : IsTestedRow b at row) where
   needles_again : (rest : List ℕ)
       → needles_at (is_accel_id b.special at) ((length row.needles ∷ row.needles) ++ rest) ≡ Ok (row.needles, rest)
   unfolding needles_at
-  needles_again rest = grind (arith, common_steps, and_from, lt-ltb, bytes_again)
+  needles_again rest = grind (arith, common_steps, bytes_again)
 
   -- ---- the row
 
   next_passes : (next : ℕ) → next ≤ max_id → tested_next b (word_at order ids (count - 1)) next ≡ Ok next
-  next_passes next h = grind (arith, common_steps, ne_eqb, eoi_is, le-leb)
+  next_passes next h = grind (arith, common_steps, eoi_is)
 
   -- the row is read again, whatever follows
   row_read : (rest : List ℕ) → at + row_len row + length rest ≡ b.len
@@ -327,14 +269,11 @@ rows_read b at (row ∷ rows) (suc most) h place each =
     row_read b at row (each 0 (omega arith)) rest (omega (arith, length-rows b.order rows)) in
     let behind : rows_from b most rest ≡ Ok rows =
     rows_read b (at + row_len row) rows most (omega arith) (omega arith) (λ i l. each (suc i) (omega arith)) in
-    row_first b most text (omega (arith, size))
-    ∙ ap (λ n. row_at b n text >>= (λ x. rows_from b most x.1 >>= (λ more. Ok (x.0 ∷ more)))) here
-    ∙ ap (λ r. r >>= (λ x. rows_from b most x.1 >>= (λ more. Ok (x.0 ∷ more)))) first
-    ∙ ap (λ r. r >>= (λ more. Ok (row ∷ more))) behind
+    grind (arith, common_steps, row_first)
 
 -- rows that can pass the tests are read again
 pub rows_again_read : (b : Bounds) (rows : List Row) → AreTestedRows b rows
     → rows_at b (rows_text b.order rows) ≡ Ok rows
 rows_again_read b rows are =
     rows_read b 0 rows (length (rows_text b.order rows)) (omega (arith, length-rows b.order rows, rows_few rows))
-    (omega (arith, are.len)) are.each
+    (omega arith) are.each

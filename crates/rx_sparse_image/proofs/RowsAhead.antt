@@ -1,7 +1,6 @@
 -- The bytes from a row on, in a loop over all rows.
-use Rattle.std.proofs.Common.{◌≡◌, ℕ, ◌+◌, ◌-◌, ◌<◌, ◌≤◌, List, length, take, drop, get_or, length-drop, refl, ap, sym}
-use Rattle.std.proofs.Common.{◌∙◌, subst, arith}
-use Rattle.rx_spec.specs.Ids.{id_of}
+use Rattle.rx_spec.proofs.Prelude.{◌≡◌, ℕ, ◌+◌, ◌-◌, ◌<◌, ◌≤◌, List, length, take, drop, get_or, length-drop, refl, ap}
+use Rattle.rx_spec.proofs.Prelude.{sym, ◌∙◌, subst, arith, id_of}
 use Rattle.rx_wire.specs.declared.order.Order.{Order}
 use Rattle.rx_sparse.specs.Facts.{offset_at}
 use Rattle.rx_sparse.specs.Parts.{IsWholeRow}
@@ -46,10 +45,10 @@ module _ {order : Order} {count : ℕ} {bytes : List ℕ} (are : AreWholeRows or
   pub second_here : 2 ≤ count → {rest : List ℕ} → rest ≡ drop (row_len (row_in order bytes)) bytes
       → length bytes - length rest ≡ id_of (offsets (rows_in order count bytes)) 1
   second_here two behind =
-      let first : 0 < count = omega (arith, two) in
-      let more : 1 < count = omega (arith, two) in
+      let first : 0 < count = omega arith in
+      let more : 1 < count = omega arith in
       place_here 1 more (behind ∙ next_here 0 first all_ahead)
-      ∙ sym (offset_at 0 rows 1 (omega (arith, two, length-rows_in order count bytes)) ∙ none (rows_len (take 1 rows)))
+      ∙ sym (offset_at 0 rows 1 (omega (arith, length-rows_in order count bytes)) ∙ none (rows_len (take 1 rows)))
     where
       none : (n : ℕ) → 0 + n ≡ n
       none n = omega arith

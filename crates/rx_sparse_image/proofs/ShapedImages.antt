@@ -1,23 +1,13 @@
 -- A layout that is read and closed has the shape of every sparse table.
-use Rattle.std.proofs.lemmas.Grind.{common_steps}
-use Rattle.std.proofs.Common.{◌≡◌, ℕ, ◌+◌, ◌-◌, ◌*◌, ◌<◌, ◌≤◌, nat_le, Option, Some, None, length, take, slice_index}
-use Rattle.std.proofs.Common.{sym, ap, subst, ◌∙◌, arith}
-use Rattle.std.proofs.Math.Seq.{take-length}
-use Rattle.std.proofs.lemmas.Bool.{and_parts, leb-true}
-use Rattle.rx_spec.specs.Causes.{id_count, max_id}
-use Rattle.rx_spec.specs.Ids.{id_of}
+use Rattle.rx_spec.proofs.Prelude.{common_steps, ◌≡◌, ℕ, ◌+◌, ◌-◌, ◌*◌, ◌<◌, ◌≤◌, nat_le, length, take, slice_index}
+use Rattle.rx_spec.proofs.Prelude.{sym, ap, subst, ◌∙◌, arith, take-length, and_parts, leb-true, max_id, id_of}
 use Rattle.rx_search.specs.Starts.{IsId}
-use Rattle.rx_dense.specs.Layouts.{start_entries}
-use Rattle.rx_dense_image.specs.StartTables.{IsAtMost}
+use Rattle.rx_dense_image.proofs.ShapedImages.{few_starts}
 use Rattle.rx_sparse.specs.Rows.{rows_len}
 use Rattle.rx_sparse.specs.Layouts.{AreRanges, AreRows, AreStarts, IsRow, IsShaped, Layout, ids_of, row_at, row_count}
 use Rattle.rx_sparse.specs.Facts.{offset_at, rows_len-more}
 use Rattle.rx_sparse_image.specs.Tested.{IsRead, IsTestedRow, IsWhole, bounds_in}
 use Rattle.rx_sparse_image.proofs.ClosedRows.{AreClosed, closed, eoi_leads, range_leads, valid_id}
-
-few_starts : (o : Option ℕ) → IsAtMost id_count o → start_entries o ≤ 12 + 6 * (max_id + 1)
-few_starts None most = omega arith
-few_starts (Some n) most = omega (arith, most)
 
 module _ (l : Layout) (read : IsRead l) (facts : AreClosed l) where
   pub tested : (row : ℕ) → row < row_count l → IsTestedRow (bounds_in l) (id_of (ids_of l) row) (row_at l row)
@@ -27,9 +17,8 @@ module _ (l : Layout) (read : IsRead l) (facts : AreClosed l) where
   pub few_bytes : rows_len l.rows ≤ max_id
   few_bytes =
       let row : ℕ = row_count l - 1 in
-      let two = facts.two in
-      let h : row < row_count l = omega (arith, two) in
-      let last : row + 1 ≡ row_count l = omega (arith, two) in
+      let h : row < row_count l = omega arith in
+      let last : row + 1 ≡ row_count l = omega arith in
       let all : take (row + 1) l.rows ≡ l.rows = ap (λ (n : ℕ). take n l.rows) last ∙ take-length l.rows in
       omega (arith, (tested row h).next, offset_at 0 l.rows row h, rows_len-more l.rows row h, ap rows_len all)
 
@@ -58,7 +47,7 @@ module _ (l : Layout) (read : IsRead l) (facts : AreClosed l) where
   rows_shaped = record { classes = read.classes; two = facts.two; few = few_bytes; rows = row_shaped }
 
   start_row : (k : ℕ) → k < length l.starts → IsId (ids_of l) (slice_index l.starts k)
-  start_row k h = grind (arith, common_steps, and_parts, valid_id)
+  start_row k h = grind (arith, common_steps, valid_id)
 
   starts_shaped : AreStarts l
   starts_shaped = record {

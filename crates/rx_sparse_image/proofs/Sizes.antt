@@ -1,12 +1,11 @@
 -- How many bytes the parts of an image have.
-use Rattle.std.proofs.lemmas.Grind.{common_steps}
-use Rattle.std.proofs.Common.{[], ◌≡◌, ℕ, ◌+◌, ◌≤◌, List, ◌∷◌, ◌++◌, length, refl, arith}
-use Rattle.std.proofs.lemmas.List.{length-append}
+use Rattle.rx_spec.proofs.Prelude.{common_steps, [], ◌≡◌, ℕ, ◌+◌, ◌≤◌, List, ◌∷◌, ◌++◌, length, refl, arith}
+use Rattle.rx_spec.proofs.Prelude.{length-append}
 use Rattle.rx_wire.specs.declared.order.Order.{Order}
 use Rattle.rx_dense_image.specs.Heads.{head_text}
 use Rattle.rx_dense_image.specs.StartTables.{start_table_text}
 use Rattle.rx_dense_image.specs.Marks.{quit_text, special_text}
-use Rattle.rx_dense_image.proofs.ImageLengths.{length-head, length-quit, length-special, length-start_table, word_then}
+use Rattle.rx_dense_image.proofs.ImageLengths.{length-head, length-quit, length-special, length-start_table}
 use Rattle.rx_sparse.specs.Layouts.{IsShaped, Layout}
 use Rattle.rx_sparse.specs.Rows.{Row, rows_len}
 use Rattle.rx_sparse.proofs.RowTexts.{length-rows}
@@ -20,7 +19,7 @@ rows_few (row ∷ rows) = omega (arith, rows_few rows)
 
 length-row_bytes : (order : Order) (l : Layout) → length l.classes ≡ 256
     → length (row_bytes_text order l) ≡ 268 + rows_len l.rows
-length-row_bytes order l classes = grind (arith, common_steps, word_then, length-append, length-rows)
+length-row_bytes order l classes = grind (arith, common_steps, length-rows)
 
 pub length-text : (order : Order) (l : Layout) → IsShaped l → length (text order l) ≡ image_len l
 unfolding text

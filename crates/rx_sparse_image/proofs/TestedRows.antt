@@ -1,17 +1,11 @@
 -- A row that passed its tests stands whole at the front of its bytes, and what the tests say is true of it.
-use Rattle.std.proofs.lemmas.Grind.{common_steps}
-use Rattle.std.proofs.Common.{[], ◌≡◌, ℕ, ◌+◌, ◌-◌, ◌*◌, ◌/◌, ◌%◌, ◌^◌, ◌<◌, ◌≤◌, Bool, true, false, not, ◌&&◌, ◌||◌}
-use Rattle.std.proofs.Common.{◌==◌, if◌then◌else◌, cond, leb, ltb, eqb, List, ◌∷◌, ◌++◌, length, take, drop, map}
-use Rattle.std.proofs.Common.{get_or, slice_index, Ok, refl, ap, ap₂, sym, ◌∙◌, subst, append_assoc, length-drop, arith}
-use Rattle.std.proofs.Common.{⊎_elim}
-use Rattle.std.specs.List.{list_all, range_with_len}
-use Rattle.std.specs.Int.{w16, w32}
-use Rattle.std.proofs.Math.Seq.{take-add}
-use Rattle.std.proofs.lemmas.Bool.{and_parts, eqb-true, leb-false, leb-true, ltb-true, or_cases}
-use Rattle.std.proofs.lemmas.List.{drop_at, length-append, length-take-le, take-append-drop, take-take}
-use Rattle.std.proofs.lemmas.List.Elements.{All-drop, All-take}
-use Rattle.std.proofs.lemmas.List.FromFn.{get_or-map-range_with_len, length-map-range_with_len}
-use Rattle.rx_spec.specs.Bytes.{AreBytes}
+use Rattle.rx_spec.proofs.Prelude.{common_steps, [], ◌≡◌, ℕ, ◌+◌, ◌-◌, ◌*◌, ◌/◌, ◌%◌, ◌^◌, ◌<◌, ◌≤◌, Bool, true, false}
+use Rattle.rx_spec.proofs.Prelude.{◌&&◌, ◌||◌, ◌==◌, cond, leb, ltb, eqb, List, ◌∷◌, ◌++◌, length, take, drop, map}
+use Rattle.rx_spec.proofs.Prelude.{get_or, slice_index, Ok, refl, ap, ap₂, sym, ◌∙◌, subst, append_assoc, length-drop}
+use Rattle.rx_spec.proofs.Prelude.{arith, ⊎_elim, list_all, range_with_len, w16, w32, take-add, and_parts, eqb-true}
+use Rattle.rx_spec.proofs.Prelude.{leb-false, leb-true, ltb-true, or_cases, drop_at, length-append, length-take-le}
+use Rattle.rx_spec.proofs.Prelude.{All-drop, All-take, get_or-map-range_with_len, length-map-range_with_len, AreBytes}
+use Rattle.std.proofs.lemmas.List.{take-append-drop}
 use Rattle.rx_wire.specs.declared.order.Order.{Order}
 use Rattle.rx_wire.specs.Fields.{field}
 use Rattle.rx_dense.specs.Specials.{is_accel_id, is_match_id}
@@ -29,12 +23,6 @@ use Rattle.rx_sparse_image.proofs.DecodedBytes.{words_are}
 use Rattle.rx_sparse_image.proofs.ReadRows.{IsReadRow, behind_patterns, head_word, row_ok}
 
 -- ---- numbers of a head
-
--- exactly the match rows have the mark
-same_mark : (is_match mark : Bool) → (if is_match then mark else not mark) ≡ true → is_match ≡ mark
-same_mark true mark e = sym e
-same_mark false true e = e
-same_mark false false e = refl
 
 -- a number is its lowest 15 bits and its highest one
 whole_word : (n : ℕ) (some : Bool) → n < 2 ^ 16 → 1 ≤ n % 32768 → some ≡ leb 32768 n
@@ -63,7 +51,7 @@ patterns_are order true bytes are long e =
     ∙ ap₂ (λ (s t : List ℕ). s ++ t)
     (ap (field order w32) count
     ∙ field32_is order (take 4 bytes) (All-take (λ x. x < 256) 4 bytes are)
-    (length-take-le 4 bytes (omega (arith, long))))
+    (length-take-le 4 bytes (omega arith)))
     (words_are order n (drop 4 bytes) (All-drop (λ x. x < 256) 4 bytes are) (omega (arith, length-drop 4 bytes)))
     ∙ sym (take-add 4 (4 * n) bytes)
 
@@ -81,7 +69,7 @@ patterns_few order true bytes are =
 -- ---- a row
 
 -- parts of a row, and what follows it
-regroup : (h e i p n rest : List ℕ) → (h ++ (e ++ (i ++ (p ++ n)))) ++ rest ≡ h ++ (e ++ (i ++ (p ++ (n ++ rest))))
+pub regroup : (h e i p n rest : List ℕ) → (h ++ (e ++ (i ++ (p ++ n)))) ++ rest ≡ h ++ (e ++ (i ++ (p ++ (n ++ rest))))
 regroup h e i p n rest = simp append_assoc refl
 
 -- a count, and as many bytes behind it
@@ -120,7 +108,7 @@ module _ (b : Bounds) (at : ℕ) (bytes rest : List ℕ) (are : AreBytes bytes)
 
   -- what the head says of the counts
   head_parts : (1 ≤ count) × (count ≤ 257) × (is_match_id b.special at ≡ is_match)
-  head_parts = grind (arith, common_steps, and_parts, leb-true, same_mark)
+  head_parts = grind (arith, common_steps, and_parts, leb-true)
 
   some : 1 ≤ count
   some = head_parts.0
@@ -130,10 +118,6 @@ module _ (b : Bounds) (at : ℕ) (bytes rest : List ℕ) (are : AreBytes bytes)
   -- the ends have two bytes each
   length-ends_in : length ends ≡ 2 * count
   length-ends_in = length-take-le (2 * count) (drop 2 bytes) is.ends_long
-
-  -- the next ids have four
-  length-ids_in : length ids ≡ 4 * count
-  length-ids_in = length-take-le (4 * count) (behind_ends order bytes) is.ids.long
 
   -- the place of the end mark among them
   n_is : length ends / 2 - 1 ≡ count - 1
@@ -145,7 +129,7 @@ module _ (b : Bounds) (at : ℕ) (bytes rest : List ℕ) (are : AreBytes bytes)
 
   -- as many needles as their count tells
   length-needles : length row.needles ≡ slice_index after 0
-  length-needles = grind (arith, common_steps, length-take-le, length-drop)
+  length-needles = grind (arith, common_steps)
 
   -- ---- what the bytes of parts are
 
@@ -189,16 +173,16 @@ module _ (b : Bounds) (at : ℕ) (bytes rest : List ℕ) (are : AreBytes bytes)
       ∙ ends_are order count ends ids some length-ends_in ends_parts.1 ends_parts.2
 
   next_ids_is : next_ids row ≡ words_in order count ids
-  next_ids_is = grind (arith, common_steps, n_is, nexts_are, some)
+  next_ids_is = grind (arith, common_steps, n_is, nexts_are)
 
   ids_text_is : words_text order (next_ids row) ≡ ids
-  ids_text_is = grind (arith, common_steps, next_ids_is, words_are, bytes_ids, length-ids_in, take-take)
+  ids_text_is = grind (arith, common_steps, next_ids_is, words_are, bytes_ids)
 
   patterns_text_is : patterns_text order row.patterns ≡ take (patterns_len order is_match behind) behind
   patterns_text_is = patterns_are order is_match behind bytes_rest is.patterns.long is.patterns.some
 
   needles_text_is : length row.needles ∷ row.needles ≡ take (1 + slice_index after 0) after
-  needles_text_is = grind (arith, common_steps, length-needles, counted)
+  needles_text_is = grind (arith, common_steps, counted)
 
   -- ---- the row
 
@@ -241,10 +225,7 @@ module _ (b : Bounds) (at : ℕ) (bytes rest : List ℕ) (are : AreBytes bytes)
 
     -- a range by its place
     range_is : get_or row.ranges i no_range ≡ range_in order ends ids i
-    range_is =
-        let none : 0 + i ≡ i = omega arith in
-        get_or-map-range_with_len (range_in order ends ids) 0 (length ends / 2 - 1) i i no_range
-        (omega (arith, n_is, range_low)) none
+    range_is = grind (arith, common_steps, get_or-map-range_with_len, range_low)
 
     abbrev first : ℕ
     first = slice_index ends (2 * i)
@@ -275,13 +256,7 @@ module _ (b : Bounds) (at : ℕ) (bytes rest : List ℕ) (are : AreBytes bytes)
       (λ (lt : ltb (slice_index ends (2 * (i + 1) - 1)) here ≡ true).
       ltb-true (slice_index ends (2 * (i + 1) - 1)) here lt)
       p in
-      omega (
-        arith,
-        less,
-        ap (slice_index ends) before,
-        ap (λ r. r.last) (range_is i low),
-        ap (λ r. r.first) (range_is (i + 1) h),
-      )
+      grind (arith, common_steps, range_is)
 
   module _ (i : ℕ) (h : i < length (next_ids row)) where
     id_low : i < count
@@ -342,4 +317,4 @@ passed_row b at bytes row rest are e =
 
 -- a tested row fits its bytes
 pub fits_tested : {b : Bounds} {at : ℕ} {row : Row} → IsTestedRow b at row → FitsBytes row
-fits_tested {b} {at} {row} is = grind (arith, common_steps, some, leb-true, and_parts)
+fits_tested {b} {at} {row} is = grind (arith, common_steps)

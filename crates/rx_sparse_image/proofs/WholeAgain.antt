@@ -1,12 +1,8 @@
 -- A whole image is read again, in either order and whatever follows, and its length is told, where its rows are read
 -- again.
-use Rattle.std.proofs.lemmas.Grind.{common_steps}
-use Rattle.std.proofs.Common.{◌≡◌, ℕ, ◌+◌, ◌-◌, ◌^◌, ◌<◌, ◌≤◌, true, List, ◌++◌, length, slice_index, Ok, refl, sym, ap}
-use Rattle.std.proofs.Common.{subst, ◌∙◌, append_assoc, arith, rules, inl, inr}
-use Rattle.std.specs.Int.{w32}
-use Rattle.std.proofs.lemmas.Bool.{cases_lt, le-leb}
-use Rattle.std.proofs.lemmas.List.{get_or_past, length-append}
-use Rattle.rx_spec.specs.Causes.{max_id}
+use Rattle.rx_spec.proofs.Prelude.{common_steps, ◌≡◌, ℕ, ◌+◌, ◌-◌, ◌<◌, ◌≤◌, true, List, ◌++◌, length, slice_index, Ok}
+use Rattle.rx_spec.proofs.Prelude.{refl, sym, ap, subst, ◌∙◌, append_assoc, arith, rules, w32, le-leb, and_from}
+use Rattle.rx_spec.proofs.Prelude.{length-append, max_id}
 use Rattle.rx_wire.specs.declared.order.Order.{Order}
 use Rattle.rx_wire.specs.Kinds.{Reads}
 use Rattle.rx_wire.specs.Fields.{bytes_at, field}
@@ -16,9 +12,9 @@ use Rattle.rx_dense_image.specs.Heads.{head_at, head_text}
 use Rattle.rx_dense_image.specs.Rows.{AreWords}
 use Rattle.rx_dense_image.specs.StartTables.{start_table_at, start_table_text}
 use Rattle.rx_dense_image.specs.Marks.{quit_at, quit_text, special_at, special_text}
-use Rattle.rx_dense_image.proofs.EachBelow.{and_of}
 use Rattle.rx_dense_image.proofs.MarksAgain.{AreSpecialIds, quit_again, special_again}
-use Rattle.rx_dense_image.proofs.ReadAgain.{head_again}
+use Rattle.rx_dense_image.proofs.ReadAgain.{head_again, words_below}
+use Rattle.rx_dense_image.proofs.WholeAgain.{regrouped}
 use Rattle.rx_dense_image.proofs.Strides.{classes_pass}
 use Rattle.rx_dense_image.proofs.TablesAgain.{start_table_again}
 use Rattle.rx_sparse.specs.Rows.{Row, rows_len, rows_text}
@@ -58,11 +54,9 @@ special_ids l shape facts =
 
 -- ids of rows are words
 ids_words : (l : Layout) → IsShaped l → AreWords l.starts
-ids_words l shape i =
-    elim (cases_lt i (length l.starts)) [
-      | inl lt ↦ (omega (arith, id_small l shape (slice_index l.starts i) (shape.starts.start_ids i lt)))
-      | inr past ↦ (subst (λ (n : ℕ). n < 2 ^ 32) (sym (get_or_past l.starts i 0 past)) (omega arith))
-    ]
+ids_words l shape =
+    words_below l.starts
+    (λ i lt. omega (arith, id_small l shape (slice_index l.starts i) (shape.starts.start_ids i lt)))
 
 -- ---- the bytes of the rows
 
@@ -78,7 +72,7 @@ settings_again : (order : Order) (l : Layout) → IsRead l
     → Reads (settings_at order) (field order w32 l.pattern_len ++ l.classes) (l.pattern_len, l.classes)
 unfolding settings_at
 settings_again order l read rest =
-    grind (arith, common_steps, le-leb, and_of, classes_pass, bytes_again, append_assoc, u32_again)
+    grind (arith, common_steps, le-leb, and_from, classes_pass, bytes_again, u32_again)
 
 row_bytes_again : (order : Order) (l : Layout) → IsRead l → rows_len l.rows ≤ max_id
     → Reads (row_bytes_at order) (row_bytes_text order l) (bytes_of order l)
@@ -92,16 +86,7 @@ row_bytes_again order l read few rest =
     simp append_assoc refl in
     let front : bytes_at (rows_len l.rows) t3 ≡ Ok (rows, rest) =
     subst (λ (n : ℕ). bytes_at n t3 ≡ Ok (rows, rest)) (length-rows order l.rows) (bytes_again rows rest) in
-    ap (row_bytes_at order) regrouped
-    ∙ rw (
-      u32_again order (length l.rows) read.few_rows (settings ++ t2),
-      settings_again order l read t2,
-      u32_again order (rows_len l.rows) (omega (arith, few)) t3,
-      front,
-    )
-    refl
-
--- ---- rows
+    grind (arith, common_steps, u32_again, settings_again)
 
 -- ---- the parts, one after another
 
@@ -121,10 +106,6 @@ parts_read : {bytes rest : List ℕ} {p : Parts} (h : AreRead bytes rest p) → 
 unfolding parts_at
 parts_read h = rw (h.head_read, h.rows_read, h.table_read, h.special_read, h.quit_read) refl
 
-regrouped : (a b c d e rest : List ℕ)
-    → (a ++ (b ++ (c ++ (d ++ e)))) ++ rest ≡ a ++ (b ++ (c ++ (d ++ (e ++ rest))))
-regrouped a b c d e rest = simp append_assoc refl
-
 abbrev parts : Order → Layout → Parts
 parts order l = parts_of l.flags order (bytes_of order l) (start_table_of l) l.special l.quit
 
@@ -135,7 +116,7 @@ parts_again order l whole rest =
     let shape : IsShaped l = shaped l whole in
     let ids : AreSpecialIds l.special = special_ids l shape (closed (length l.rows) l whole.closed) in
     let within : l.special.max < length (rows_text order l.rows) =
-    (let low = read.within in omega (arith, low, length-rows order l.rows)) in
+    (let low = read.within in omega (arith, length-rows order l.rows)) in
     let t4 : List ℕ = quit_text order l.quit ++ rest in
     let t3 : List ℕ = special_text order l.special ++ t4 in
     let t2 : List ℕ = start_table_text order (start_table_of l) ++ t3 in
@@ -158,9 +139,6 @@ parts_again order l whole rest =
 
 -- ---- the whole
 
-left_of : (a b : ℕ) → a + b - b ≡ a
-left_of a b = omega arith
-
 -- an image is read where its parts and rows are, and they are closed
 pub read_by : (bytes rest : List ℕ) (p : Parts) (rows : List Row) → parts_at bytes ≡ Ok (p, rest)
     → rows_at (bounds_of p) p.bytes.rows ≡ Ok rows → is_closed p.bytes.state_len (layout_of p rows) ≡ true
@@ -176,8 +154,7 @@ whole_again order l whole rest =
     subst (λ len. AreTestedRows (bounds len) l.rows) (sym (length-rows order l.rows))
     (are_tested_in order whole.read.rows) in
     let size : length (text order l ++ rest) - length rest ≡ length (text order l) =
-    ap (λ (n : ℕ). n - length rest) (length-append (text order l) rest)
-    ∙ left_of (length (text order l)) (length rest) in
+    omega (arith, length-append (text order l) rest) in
     read_by (text order l ++ rest) rest (parts order l) l.rows (parts_again order l whole rest)
     (rows_again_read (bounds (length (rows_text order l.rows))) l.rows tested) whole.closed
     ∙ ap (λ (n : ℕ). Ok (stored_of (parts order l) l.rows, n)) size

@@ -1,13 +1,7 @@
 -- A byte's bit in the words of a set.
-use Rattle.std.proofs.lemmas.Grind.{common_steps}
-use Rattle.std.proofs.Common.{◌≡◌, ℕ, ◌+◌, ◌-◌, ◌*◌, ◌^◌, ◌/◌, ◌%◌, ◌<◌, ◌≤◌, ◌==◌, List, bit_and, ap₂, sym, ◌∙◌, arith}
-use Rattle.std.proofs.Common.{⊎_elim}
-use Rattle.std.proofs.lemmas.Bool.{cases_lt}
-use Rattle.std.proofs.lemmas.Bool.Decides.{nat_tests}
-use Rattle.std.proofs.lemmas.Nat.Bits.{shr_and_one, bit_at_cat_low, bit_at_cat_high}
-use Rattle.std.specs.Int.{bit_at}
-use Rattle.std.specs.Prelude.{slice_index}
-use Rattle.rx_spec.specs.Bytes.{contains}
+use Rattle.rx_spec.proofs.Prelude.{common_steps, ◌≡◌, ℕ, ◌+◌, ◌-◌, ◌*◌, ◌^◌, ◌/◌, ◌%◌, ◌<◌, ◌≤◌, ◌==◌, List, bit_and}
+use Rattle.rx_spec.proofs.Prelude.{ap₂, sym, ◌∙◌, arith, ⊎_elim, cases_lt, nat_tests, bit_at, slice_index, contains}
+use Rattle.std.proofs.lemmas.Nat.Bits.{bit_at_cat_low, bit_at_cat_high}
 use Rattle.rx_stepper.specs.ByteWords.{set_of_words}
 
 module _ (words : List ℕ) (fits : (k : ℕ) → slice_index words k < 2 ^ 64) (b : ℕ) where
@@ -25,7 +19,7 @@ module _ (words : List ℕ) (fits : (k : ℕ) → slice_index words k < 2 ^ 64) 
   at k r e f = ap₂ (λ i j. bit_at (word i) j) e f
 
   low_fits : low < 2 ^ 128
-  low_fits = omega (arith, fits 0, fits 1)
+  low_fits = omega arith
 
   in_low : b < 128 → bit_at low b ≡ bit_at (word (b / 64)) (b % 64)
   in_low h =
@@ -55,4 +49,4 @@ module _ (words : List ℕ) (fits : (k : ℕ) → slice_index words k < 2 ^ 64) 
 
   pub byte_there : {place : ℕ} → b < 256 → place ≡ b / 64
       → (bit_and (slice_index words place / 2 ^ (b % 64)) 1 == 1) ≡ contains (set_of_words words) b
-  byte_there {place} below e = grind (arith, common_steps, nat_tests, bit_and, shr_and_one, in_word)
+  byte_there {place} below e = grind (arith, common_steps, nat_tests, in_word)

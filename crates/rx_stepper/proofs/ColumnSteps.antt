@@ -1,10 +1,7 @@
 -- What a column leads to, from what was gathered for it.
-use Rattle.std.proofs.Common.{◌≡◌, ℕ, ◌^◌, ◌<◌, ◌++◌, Bool, true, false, if◌then◌else◌, List, [], length, Option, None}
-use Rattle.std.proofs.Common.{Some, ap, ap₂, sym, ◌∙◌, subst, arith}
-use Rattle.std.specs.Borrow.{Bor}
-use Rattle.std.specs.Prelude.{IfSome, slice_index}
-use Rattle.std.specs.Option.{option_copied, option_map_or}
-use Rattle.rx_spec.specs.States.{State, step}
+use Rattle.rx_spec.proofs.Prelude.{◌≡◌, ℕ, ◌^◌, ◌<◌, ◌++◌, Bool, true, false, if◌then◌else◌, List, [], length, Option}
+use Rattle.rx_spec.proofs.Prelude.{None, Some, ap, ap₂, sym, ◌∙◌, subst, arith, Bor, IfSome, slice_index, option_copied}
+use Rattle.rx_spec.proofs.Prelude.{option_map_or, State, step}
 use Rattle.rx_base.specs.FactBits.{bits_of, facts_with}
 use Rattle.rx_stepper.specs.Columns.{AreGroups}
 use Rattle.rx_stepper.specs.Fits.{FitsCurrent, FitsLead, Table}
@@ -86,7 +83,7 @@ module _ {t : Table} {lead_in : LeadIn} {leads : List LeadSteps} {current : Curr
       within current.led_in (slice_index current.key.items 0) (led_of current.key.items) fits.led_in
     where
       small : (n : ℕ) → bits_of (facts_with n) < length leads
-      small n = omega (arith, fits_lead.len, bits_small (facts_with n))
+      small n = omega (arith, bits_small (facts_with n))
 
       within : (o : Option ℕ) (n : ℕ) (b : Bool) → o ≡ (if b then Some (bits_of (facts_with n)) else None)
           → IfSome o (λ context. context < length leads)

@@ -1,22 +1,17 @@
 -- What decides the assertions of a state: the facts that are kept decide as much as all, states without assertions are
 -- decided already, and closures end at rows that stand.
-use Rattle.std.proofs.Common.{arith, ◌≡◌, ℕ, zero, suc, ◌+◌, ◌*◌, ◌||◌, Bool, true, false, if◌then◌else◌, List, [], ◌∷◌}
-use Rattle.std.proofs.Common.{◌++◌, length, refl, ap, ap₂, ◌∙◌, subst, ⊎_elim}
-use Rattle.std.proofs.lemmas.Grind.{common_steps}
-use Rattle.std.specs.Prelude.{Contains}
-use Rattle.std.specs.List.{flat_map, list_any, AllByRecursion as Every}
-use Rattle.rx_spec.specs.Contexts.{Facts, both, unit_facts, facts_kept, facts_read, holds_read}
-use Rattle.rx_spec.specs.Nfas.{Nfa}
-use Rattle.rx_spec.specs.Rows.{Row}
-use Rattle.rx_spec.specs.Shallow.{IsShallow}
-use Rattle.rx_spec.specs.States.{State, Passing, Standing, Tested, row_at, reach_by, reach, closure, firsts}
-use Rattle.rx_spec.specs.States.{decided_rows, holds_before, is_look_row}
+use Rattle.rx_spec.proofs.Prelude.{arith, ◌≡◌, ℕ, zero, suc, ◌+◌, ◌*◌, ◌||◌, Bool, true, false, if◌then◌else◌, List, []}
+use Rattle.rx_spec.proofs.Prelude.{◌∷◌, ◌++◌, length, refl, ap, ap₂, ◌∙◌, subst, common_steps, Contains, flat_map}
+use Rattle.rx_spec.proofs.Prelude.{list_any, Facts, both, unit_facts, facts_kept, facts_read, holds_read, Nfa, Row}
+use Rattle.rx_spec.proofs.Prelude.{IsShallow, State, Passing, Standing, Tested, row_at, reach_by, reach, closure}
+use Rattle.rx_spec.proofs.Prelude.{firsts, decided_rows, holds_before, is_look_row}
+use Rattle.std.specs.List.{AllByRecursion as Every}
 use Rattle.rx_spec.specs.declared.Direction.{Direction}
 use Rattle.rx_spec.specs.declared.Look.{Look}
-use Rattle.lemmas_walks.proofs.Every.{every-append, flat_map-alike}
+use Rattle.lemmas_walks.proofs.Every.{every-append}
 use Rattle.lemmas_walks.proofs.Facts.{Cover, kept_cover, kept_after, kept_before}
-use Rattle.lemmas_walks.proofs.Firsts.{Contains-here, Contains-there, Contains-cases, Contains-nil, fresh_within}
-use Rattle.lemmas_walks.proofs.Firsts.{fresh_itself, Apart-fresh}
+use Rattle.lemmas_walks.proofs.Firsts.{Contains-here, Contains-there, Contains-nil, fresh_within, fresh_itself}
+use Rattle.lemmas_walks.proofs.Firsts.{Apart-fresh}
 use Rattle.rx_powerset.specs.Closures.{closed_rows}
 use Rattle.rx_powerset.proofs.Closures.{closure_unfolds}
 use Rattle.rx_stepper.specs.Columns.{asked_of}
@@ -30,11 +25,9 @@ Agree rows f g = (q : ℕ) (look : Look) (next : ℕ) → row_at rows q ≡ Row.
 module _ (rows : List Row) (f g : Look → Bool) (agree : Agree rows f g) where
   reach_one : (a b : ℕ → List ℕ) (q : ℕ) (row : Row) → row_at rows q ≡ row → ((p : ℕ) → a p ≡ b p)
       → reach_by (Tested f) a q row ≡ reach_by (Tested g) b q row
-  reach_one a b q (Row.Bytes set next) e h = refl
   reach_one a b q (Row.Split first second) e h = ap₂ (λ x y. x ++ y) (h first) (h second)
   reach_one a b q (Row.Look look next) e h = ap₂ (λ t l. if t then l else []) (agree q look next e) (h next)
-  reach_one a b q (Row.Match pattern) e h = refl
-  reach_one a b q Row.Fail e h = refl
+  reach_one a b q _ e h = refl
 
   reach_same : (n q : ℕ) → reach rows (Tested f) n q ≡ reach rows (Tested g) n q
   unfolding reach
@@ -44,7 +37,7 @@ module _ (rows : List Row) (f g : Look → Bool) (agree : Agree rows f g) where
       (λ p. reach_same n p)
 
   pub closed_alike : (from : List ℕ) → closed_rows rows (Tested f) from ≡ closed_rows rows (Tested g) from
-  closed_alike from = grind (arith, common_steps, flat_map-alike, reach_same)
+  closed_alike from = grind (arith, common_steps, reach_same)
 
 row_there : (rows : List Row) (q : ℕ) {look : Look} {next : ℕ} → row_at rows q ≡ Row.Look look next
     → Contains rows (Row.Look look next)
@@ -82,11 +75,9 @@ module _ (rows : List Row) where
 
   reach_stands : (behind : ℕ → List ℕ) (q : ℕ) (row : Row) → row_at rows q ≡ row
       → ((p : ℕ) → Every Stands (behind p)) → Every Stands (reach_by Standing behind q row)
-  reach_stands behind q (Row.Bytes set next) e h = (ap stands e, tt)
   reach_stands behind q (Row.Split first second) e h = grind (arith, common_steps, every-append)
-  reach_stands behind q (Row.Look look next) e h = (ap stands e, tt)
-  reach_stands behind q (Row.Match pattern) e h = (ap stands e, tt)
   reach_stands behind q Row.Fail e h = tt
+  reach_stands behind q _ e h = (ap stands e, tt)
 
   all_reached : (n q : ℕ) → Every Stands (reach rows Standing n q)
   unfolding reach
@@ -106,11 +97,7 @@ module _ (rows : List Row) where
     where
       every_at : (xs : List ℕ) → Every Stands xs → (x : ℕ) → Contains xs x → Stands x
       every_at [] h x c = absurd (Contains-nil x c)
-      every_at (y ∷ ys) h x c =
-          ⊎_elim
-          (λ (e : y ≡ x). subst Stands e h.0)
-          (λ (d : Contains ys x). every_at ys h.1 x d)
-          (Contains-cases y ys x c)
+      every_at (y ∷ ys) h x c = grind (arith, common_steps)
 
       every_from : (xs : List ℕ) → ((x : ℕ) → Contains xs x → Stands x) → Every Stands xs
       every_from [] h = tt

@@ -1,25 +1,19 @@
 -- Lists of groups that grow at the end, and marks on the groups.
-use Rattle.std.proofs.lemmas.Grind.{common_steps}
-use Rattle.std.proofs.Common.{◌≡◌, ℕ, ◌+◌, ◌<◌, Bool, true, false, List, [], ◌∷◌, ◌++◌, length, get_or, set, arith}
-use Rattle.std.proofs.lemmas.Bool.{cases_lt, eqb-true, eqb-false}
-use Rattle.std.proofs.lemmas.List.{get_or_append_left, get_or-set_same, get_or-set_other}
-use Rattle.std.proofs.Math.Seq.{get_or-append_seam}
-use Rattle.rx_spec.specs.Contexts.{Facts, both, facts_kept, unit_facts}
-use Rattle.rx_spec.specs.Nfas.{Nfa}
-use Rattle.lemmas_walks.proofs.Firsts.{by_test}
+use Rattle.rx_spec.proofs.Prelude.{common_steps, ◌≡◌, ℕ, ◌+◌, ◌<◌, Bool, true, false, List, [], ◌∷◌, ◌++◌, length}
+use Rattle.rx_spec.proofs.Prelude.{get_or, set, arith, Facts, both, facts_kept, unit_facts, Nfa}
 use Rattle.rx_base.specs.FactBits.{bits_of, facts_with}
 use Rattle.rx_stepper.specs.Columns.{IsGroup}
 
 -- what holds of each number of a list holds with one more
 pub each_push : (P : ℕ → ℕ → Type 0) (xs : List ℕ) (y i : ℕ) → length xs ≡ i → ((k : ℕ) → k < i → P k (get_or xs k 0))
     → P i y → (k : ℕ) → k < i + 1 → P k (get_or (xs ++ y ∷ []) k 0)
-each_push P xs y i len each here k h = grind (arith, common_steps, get_or_append_left, get_or-append_seam, cases_lt)
+each_push P xs y i len each here k h = grind (arith, common_steps)
 
 -- a mark more
 pub still_marked : (used : List Bool) (group v : ℕ) → group < length used → get_or used v false ≡ true
     → get_or (set used group true) v false ≡ true
 still_marked used group v lt old =
-    grind (arith, common_steps, by_test, eqb-true, get_or-set_same, eqb-false, get_or-set_other)
+    grind (arith, common_steps)
 
 -- a group as it is made: from the facts of a unit that are asked for
 pub is_group : (nfa : Nfa) {unit number group t : ℕ} {asked known facts : Facts} → unit ≡ number

@@ -1,18 +1,11 @@
 -- Between two groups of the steps that are found.
-use Rattle.std.proofs.lemmas.Grind.{common_steps}
-use Rattle.std.proofs.Common.{◌≡◌, ◌≢◌, ◌+◌, ◌<◌, ◌≤◌, ◌++◌, Bool, true, false, List, [], ℕ, length, map, arith, ◌∷◌}
-use Rattle.std.proofs.Common.{refl}
-use Rattle.std.proofs.lemmas.Bool.{cases_lt, or_parts}
-use Rattle.std.proofs.lemmas.List.{get_or_past}
-use Rattle.std.specs.Prelude.{slice_index_or}
-use Rattle.std.specs.List.{list_any}
-use Rattle.rx_spec.specs.Contexts.{Facts}
-use Rattle.rx_spec.specs.Rows.{Row}
-use Rattle.rx_spec.specs.States.{State, is_match_row, row_at}
+use Rattle.rx_spec.proofs.Prelude.{common_steps, ◌≡◌, ◌≢◌, ◌+◌, ◌<◌, ◌≤◌, ◌++◌, Bool, true, false, List, [], ℕ, length}
+use Rattle.rx_spec.proofs.Prelude.{map, arith, ◌∷◌, refl, or_parts, slice_index_or, list_any, Facts, Row, State}
+use Rattle.rx_spec.proofs.Prelude.{is_match_row, row_at}
 use Rattle.rx_expr.specs.Nfa.{meaning}
 use Rattle.rx_expr.specs.declared.thompson.nfa.NFA.{NFA}
 use Rattle.rx_stepper.specs.Columns.{AreGroups, Reads, list_at}
-use Rattle.rx_stepper.specs.Steps.{AreEmpty, Stand, matches_of, rows_in}
+use Rattle.rx_stepper.specs.Steps.{Stand, matches_of, rows_in}
 use Rattle.rx_stepper.specs.declared.closures.Closures.{Closures}
 use Rattle.rx_stepper.specs.declared.columns.Columns.{Columns}
 use Rattle.rx_stepper.specs.declared.steps.Steps.{Steps}
@@ -63,29 +56,13 @@ pub record MatchesTo (lists : List (List ℕ)) (used : List Bool) (matches : Lis
   pub done : (g : ℕ) → g < group → slice_index_or used g false ≡ true → list_at lists g ≡ matches
   pub left : (g : ℕ) → group ≤ g → list_at lists g ≡ []
 
-pub matches_none : {lists : List (List ℕ)} {used : List Bool} {matches : List ℕ} → AreEmpty lists
-    → MatchesTo lists used matches 0
-matches_none e = record { done = λ g h u. absurd (omega arith); left = λ g h. e g }
-
 module _ {lists : List (List ℕ)} {used : List Bool} {matches : List ℕ} {group : ℕ}
     (m : MatchesTo lists used matches group) where
   pub matches_more : {more : List (List ℕ)} → ((place : ℕ) → place ≢ group → list_at more place ≡ list_at lists place)
       → list_at more group ≡ list_at lists group ++ matches → MatchesTo more used matches (group + 1)
-  matches_more {more} others here = grind (arith, common_steps, cases_lt)
-
-  pub matches_passed : slice_index_or used group false ≡ false → MatchesTo lists used matches (group + 1)
-  matches_passed unused = grind (arith, common_steps, cases_lt)
-
-  pub matches_all : length used ≤ group → (g : ℕ) → slice_index_or used g false ≡ true → list_at lists g ≡ matches
-  matches_all h g u = grind (arith, common_steps, get_or_past, cases_lt)
+  matches_more {more} others here = grind (arith, common_steps)
 
 pub record PlainBetween (start now : Steps) (used : List Bool) (matches : List ℕ) (group : ℕ) : Type 0 where
   pub targets : now.targets ≡ start.targets
   pub has : now.has_matches ≡ true
   pub told : MatchesTo (map (λ v. v.items) now.matches.items) used matches group
-
-pub plain_next : {start now s : Steps} {used : List Bool} {matches : List ℕ} {group : ℕ} (next : Steps)
-    → PlainBetween start now used matches group → s ≡ next → next.targets ≡ now.targets
-    → next.has_matches ≡ true → MatchesTo (map (λ v. v.items) next.matches.items) used matches (group + 1)
-    → PlainBetween start s used matches (group + 1)
-plain_next {start} {now} {s} {used} {matches} {group} next before e targets has told = grind (arith, common_steps)

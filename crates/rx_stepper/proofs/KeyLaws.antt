@@ -1,18 +1,10 @@
 -- Keys: what is written spells its state, and a key tells what it spells.
-use Rattle.std.proofs.Common.{rules, ◌≡◌, ℕ, ◌+◌, ◌<◌, ◌≤◌, ◌==◌, ◌&&◌, leb, Bool, true, false, if◌then◌else◌, List, []}
-use Rattle.std.proofs.Common.{◌∷◌, ◌++◌, ◌^◌, length, get_or, refl, ap, sym, ◌∙◌, subst, arith, length-append}
-use Rattle.std.proofs.lemmas.Grind.{common_steps}
-use Rattle.std.specs.Prelude.{All}
-use Rattle.std.proofs.Math.Seq.{take-append_seam, drop-append_seam}
-use Rattle.std.proofs.lemmas.Bool.{and_parts, leb-true, le-leb, ltb-true, lt-ltb}
-use Rattle.std.proofs.lemmas.List.Elements.{All-from_recursion}
-use Rattle.std.proofs.lemmas.Slice.Eq.{bytes_eq-Decides}
-use Rattle.std.specs.List.{list_all, AllByRecursion as Every}
-use Rattle.std.specs.Str.{bytes_eq}
-use Rattle.rx_spec.specs.Causes.{max_id, id_count}
-use Rattle.rx_spec.specs.Contexts.{Facts, no_facts}
-use Rattle.rx_spec.specs.Rows.{Row}
-use Rattle.rx_spec.specs.States.{State, row_at, firsts}
+use Rattle.rx_spec.proofs.Prelude.{rules, ◌≡◌, ℕ, ◌+◌, ◌<◌, ◌≤◌, ◌&&◌, leb, Bool, true, false, if◌then◌else◌, List, []}
+use Rattle.rx_spec.proofs.Prelude.{◌∷◌, ◌++◌, ◌^◌, length, get_or, refl, ap, sym, ◌∙◌, subst, arith, length-append}
+use Rattle.rx_spec.proofs.Prelude.{common_steps, All, and_parts, le-leb, lt-ltb, and_from, All-from_recursion}
+use Rattle.rx_spec.proofs.Prelude.{bytes_eq-Decides, list_all, bytes_eq, max_id, id_count, Facts, no_facts, Row, State}
+use Rattle.rx_spec.proofs.Prelude.{row_at, firsts}
+use Rattle.std.specs.List.{AllByRecursion as Every}
 use Rattle.lemmas_walks.proofs.Every.{every-weaker}
 use Rattle.rx_powerset.proofs.StateBounds.{few_firsts}
 use Rattle.rx_base.specs.FactBits.{bit, bits_of, facts_with}
@@ -46,32 +38,28 @@ each_tested p (x ∷ xs) f h =
     let parts = and_parts (p x) (list_all p xs) h in
     (f x parts.0, each_tested p xs f parts.1)
 
-both_true : (a b : Bool) → a ≡ true → b ≡ true → (a && b) ≡ true
-both_true true b h k = k
-both_true false b h k = h
-
 pub rows_tested : (rows : List Row) (qs : List ℕ) → are_closed rows qs ≡ true → AreClosed rows qs
-rows_tested rows qs h = grind (arith, common_steps, and_parts, each_tested, leb-true, bytes_eq-Decides)
+rows_tested rows qs h = grind (arith, common_steps, each_tested, bytes_eq-Decides)
 
 pub closed_tested : (rows : List Row) (s : State) → is_closed rows s ≡ true → IsClosed rows s
-closed_tested rows s h = search (rules, and_parts, rows_tested, each_tested, leb-true, ltb-true)
+closed_tested rows s h = search (rules, each_tested)
 
 rows_pass : (rows : List Row) (xs : List ℕ) → Every (λ q. stands (row_at rows q) ≡ true) xs → Every (λ q. q ≤ max_id) xs
     → list_all (λ q. stands (row_at rows q) && leb q max_id) xs ≡ true
 rows_pass rows [] s h = refl
 rows_pass rows (x ∷ xs) s h =
-    both_true (stands (row_at rows x) && leb x max_id) _
-    (both_true (stands (row_at rows x)) (leb x max_id) s.0 (le-leb x max_id h.0)) (rows_pass rows xs s.1 h.1)
+    and_from (stands (row_at rows x) && leb x max_id) _
+    (and_from (stands (row_at rows x)) (leb x max_id) s.0 (le-leb x max_id h.0)) (rows_pass rows xs s.1 h.1)
 
 labels_pass : (xs : List ℕ) → Every (λ k. k ≤ max_id) xs → list_all (λ k. leb k max_id) xs ≡ true
 labels_pass [] h = refl
-labels_pass (x ∷ xs) h = both_true (leb x max_id) _ (le-leb x max_id h.0) (labels_pass xs h.1)
+labels_pass (x ∷ xs) h = and_from (leb x max_id) _ (le-leb x max_id h.0) (labels_pass xs h.1)
 
 pub rows_closed : (rows : List Row) (qs : List ℕ) → AreClosed rows qs → are_closed rows qs ≡ true
-rows_closed rows qs c = grind (arith, common_steps, both_true, rows_pass, bytes_eq-Decides)
+rows_closed rows qs c = grind (arith, common_steps, and_from, rows_pass, bytes_eq-Decides)
 
 closed_passes : (rows : List Row) (s : State) → IsClosed rows s → is_closed rows s ≡ true
-closed_passes rows s c = grind (arith, common_steps, both_true, rows_closed, labels_pass, lt-ltb)
+closed_passes rows s c = grind (arith, common_steps, and_from, rows_closed, labels_pass, lt-ltb)
 
 -- ---- fronts
 
@@ -88,12 +76,8 @@ apart_once xs a = fresh_itself [] xs a (λ x c old. Contains-nil x old)
 pub once_front : (xs ys : List ℕ) → firsts (xs ++ ys) ≡ xs ++ ys → firsts xs ≡ xs
 once_front xs ys e = apart_once xs (apart_front xs ys (once_apart (xs ++ ys) e))
 
-bit_small : (b : Bool) → bit b ≤ 1
-bit_small true = omega arith
-bit_small false = omega arith
-
 pub bits_small : (f : Facts) → bits_of f < 32
-bits_small f = grind (arith, common_steps, bit_small)
+bits_small f = grind (arith, common_steps)
 
 -- ---- what a key tells
 
@@ -164,16 +148,12 @@ module _ {rows : List Row} {lead : List ℕ} {s : State} {bits : ℕ} {is_led : 
   spelled_rows : rows_by lead is_led own ≡ s.rows
   spelled_rows = sym (ap (λ v. rows_by lead v.is_led v.own) w.written) ∙ written_spells lead s.rows
 
-  led_is : (b : Bool) → (bit b == 1) ≡ b
-  led_is true = refl
-  led_is false = refl
-
   pub spelled_is : spelled lead key ≡ s
   unfolding label_of
-  spelled_is = grind (arith, common_steps, led_is, drop-append_seam, spelled_rows, take-append_seam)
+  spelled_is = grind (arith, common_steps, spelled_rows)
 
   pub key_written : is_key rows lead key ≡ true
-  key_written = grind (arith, common_steps, spelled_is, both_true, bytes_eq-Decides, closed_passes)
+  key_written = grind (arith, common_steps, spelled_is, and_from, bytes_eq-Decides, closed_passes)
 
 -- a context as it is kept beside rows
 pub kept_written : (asks : Bool) {bits group : ℕ} (asked : Facts) → bits ≡ (if asks then group else 0)

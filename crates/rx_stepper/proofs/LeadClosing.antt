@@ -1,17 +1,8 @@
 -- Closures that are written behind the lead-in, or without it.
-use Rattle.std.proofs.lemmas.Grind.{common_steps}
-use Rattle.std.proofs.Common.{◌≡◌, ℕ, zero, suc, ◌<◌, Bool, true, false, if◌then◌else◌, List, [], ◌∷◌, ◌++◌, length}
-use Rattle.std.proofs.Common.{take, subst, arith}
-use Rattle.std.proofs.lemmas.Bool.{cases_lt}
-use Rattle.std.proofs.lemmas.Option.{slice_get_past}
-use Rattle.std.proofs.lemmas.List.Elements.{recursion_from_All}
-use Rattle.std.specs.Prelude.{All}
-use Rattle.rx_spec.specs.Causes.{id_count}
+use Rattle.rx_spec.proofs.Prelude.{common_steps, ◌≡◌, ℕ, ◌<◌, Bool, true, false, if◌then◌else◌, List, [], ◌∷◌, ◌++◌}
+use Rattle.rx_spec.proofs.Prelude.{length, subst, arith, slice_get_past, recursion_from_All, All, id_count, Nfa}
+use Rattle.rx_spec.proofs.Prelude.{is_always_start_anchored, Row, IsShallow, Standing, row_at, closure, firsts}
 use Rattle.std.specs.List.{AllByRecursion as Every}
-use Rattle.rx_spec.specs.Nfas.{Nfa, is_always_start_anchored}
-use Rattle.rx_spec.specs.Rows.{Row}
-use Rattle.rx_spec.specs.Shallow.{IsShallow}
-use Rattle.rx_spec.specs.States.{Standing, row_at, closure, firsts}
 use Rattle.lemmas_walks.proofs.Every.{every-weaker}
 use Rattle.lemmas_walks.proofs.Firsts.{Apart}
 use Rattle.rx_expr.specs.Nfa.{meaning}
@@ -44,7 +35,7 @@ lead_stands nfa = go (is_always_start_anchored nfa)
     go false = closed_stands nfa.rows (nfa.start_unanchored ∷ [])
 
 stand_within : (rows : List Row) (q : ℕ) → stands (row_at rows q) ≡ true → q < length rows
-stand_within rows q s = grind (arith, common_steps, slice_get_past, cases_lt)
+stand_within rows q s = grind (arith, common_steps, slice_get_past)
 
 pub lead_within : (nfa : Nfa) → Every (λ q. q < length nfa.rows) (lead_of nfa)
 lead_within nfa = grind (arith, common_steps, every-weaker, stand_within, lead_stands)
@@ -55,7 +46,7 @@ lead_once nfa = grind (arith, common_steps, apart_once, firsts_twice)
 pub lead_closed : (nfa : Nfa) {lead : List ℕ} → lead ≡ lead_of nfa → All (λ q. q < id_count) lead
     → are_closed nfa.rows lead ≡ true
 lead_closed nfa {lead} e ids =
-    grind (arith, common_steps, rows_closed, lead_stands, every-weaker, recursion_from_All, lead_once)
+    grind (arith, common_steps, rows_closed, lead_stands, recursion_from_All, lead_once)
 
 pub lead_alone : (nfa : NFA) {lead : List ℕ} → lead ≡ lead_of (meaning nfa) → (q : ℕ) → In lead q
     → closure (meaning nfa).rows Standing q ≡ q ∷ []
@@ -74,11 +65,6 @@ pub every_all : (P : ℕ → Type 0) (xs : List ℕ) → ((q : ℕ) → In xs q 
 every_all P [] h = tt
 every_all P (x ∷ xs) h = (h x (in_here x xs), every_all P xs (λ q i. h q (in_there x q xs i)))
 
-pub every_take : (P : ℕ → Type 0) (xs : List ℕ) (n : ℕ) → Every P xs → Every P (take n xs)
-every_take P xs zero h = tt
-every_take P [] (suc n) h = tt
-every_take P (x ∷ xs) (suc n) h = (h.0, every_take P xs n h.1)
-
 -- ---- behind the lead-in
 
 -- a row is the unanchored start, and there is a lead-in
@@ -86,13 +72,9 @@ pub record Starts (lead : List ℕ) (row start : ℕ) : Type 0 where
   pub same : row ≡ start
   pub some : 0 < length lead
 
-start_reaches : (nfa : Nfa) → 0 < length (lead_of nfa)
-    → closed_rows nfa.rows Standing (nfa.start_unanchored ∷ []) ≡ lead_of nfa
-start_reaches nfa h = grind (arith, common_steps)
-
 pub written_led : (nfa : Nfa) (front : List ℕ) {lead from own listed : List ℕ} {row : ℕ} → lead ≡ lead_of nfa
     → Starts lead row nfa.start_unanchored → from ≡ front ++ row ∷ [] → listed ≡ closed_rows nfa.rows Standing front
     → Apart own → led own lead ≡ led listed lead → IsLeast lead own
     → written (lead_of nfa) (closed_rows nfa.rows Standing from) ≡ written_as true own
 written_led nfa front {lead} {from} {own} {listed} {row} e s split l apart same least =
-    grind (arith, common_steps, closed_joined, start_reaches, written_least)
+    grind (arith, common_steps, closed_joined, written_least)

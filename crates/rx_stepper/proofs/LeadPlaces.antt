@@ -1,13 +1,10 @@
 -- The front of rows that has to be written, found by the places of the lead-in's rows.
-use Rattle.std.proofs.lemmas.Grind.{common_steps}
-use Rattle.std.proofs.Common.{◌≡◌, ℕ, zero, suc, ◌+◌, ◌-◌, ◌<◌, ◌≤◌, Bool, true, false, List, [], ◌∷◌, ◌++◌, length}
-use Rattle.std.proofs.Common.{take, drop, get_or, refl, ap, sym, ◌∙◌, subst, arith, append_assoc, length-append}
-use Rattle.std.proofs.Common.{length-take, take-append-drop, ⊎_elim, ltb, set}
-use Rattle.std.proofs.Math.Seq.{take-length}
-use Rattle.std.proofs.lemmas.List.{take_more, get_or-set_same, get_or-set_other}
-use Rattle.std.proofs.lemmas.Bool.{cases_lt, eqb-false, eqb-true, lt-ltb, ltb-true}
-use Rattle.std.specs.List.{AllByRecursion as Every}
-use Rattle.std.specs.Prelude.{Some, replicate, slice_get, slice_index_or}
+use Rattle.rx_spec.proofs.Prelude.{common_steps, ◌≡◌, ℕ, zero, suc, ◌+◌, ◌-◌, ◌<◌, ◌≤◌, Bool, true, false, List, []}
+use Rattle.rx_spec.proofs.Prelude.{◌∷◌, ◌++◌, length, take, drop, get_or, refl, ap, sym, ◌∙◌, subst, arith}
+use Rattle.rx_spec.proofs.Prelude.{append_assoc, length-append, length-take, ⊎_elim, ltb, set, get_or-set_same}
+use Rattle.rx_spec.proofs.Prelude.{get_or-set_other, cases_lt, eqb-false, eqb-true, Some, slice_get, slice_index_or}
+use Rattle.rx_spec.proofs.Prelude.{same_Some}
+use Rattle.std.proofs.Common.{take-append-drop}
 use Rattle.lemmas_walks.proofs.Firsts.{Apart, by_test, seen_true}
 use Rattle.rx_stepper.specs.Leads.{without, led, IsLeast}
 use Rattle.rx_stepper.specs.Places.{no_place, ArePlaces, AreMetTo}
@@ -31,7 +28,7 @@ seam (y ∷ ys) behind x = seam ys behind x
 below : (before rest : List ℕ) (place : ℕ) {q : ℕ} → place < length before → slice_get (before ++ rest) place ≡ Some q
     → In before q
 below [] rest place h e = absurd (omega arith)
-below (x ∷ xs) rest zero {q} h e = grind (arith, common_steps, in_here)
+below (x ∷ xs) rest zero {q} h e = grind (arith, common_steps)
 below (x ∷ xs) rest (suc place) {q} h e = in_there x q xs (below xs rest place (omega arith) e)
 
 -- and what is in the front stands below its end
@@ -43,9 +40,6 @@ in_front (x ∷ xs) (suc n) q i =
     (λ (s : q ≡ x). (zero, omega arith, ap Some (sym s)))
     (λ (o : In (take n xs) q). let t = in_front xs n q o in (suc t.0, omega arith, t.2))
     (in_cases x q (take n xs) i)
-
-some_same : {x y : ℕ} → Some x ≡ Some y → x ≡ y
-some_same e = cc
 
 not_both : {b : Bool} → b ≡ false → b ≡ true → ⊥
 not_both e f = cc
@@ -65,21 +59,16 @@ at_or [] i h e = absurd (omega arith)
 at_or (x ∷ xs) zero h e = ap Some (sym e)
 at_or (x ∷ xs) (suc i) h e = at_or xs i (omega arith) e
 
-pub every_get : (P : ℕ → Type 0) (xs : List ℕ) (i d : ℕ) → Every P xs → i < length xs → P (get_or xs i d)
-every_get P [] i d h lt = absurd (omega arith)
-every_get P (x ∷ xs) zero d h lt = h.0
-every_get P (x ∷ xs) (suc i) d h lt = every_get P xs i d h.1 (omega arith)
-
 -- ---- how many rows at the front pass a test
 
 module _ (met : ℕ → Bool) (rows : List ℕ) {i : ℕ}
     (below_i : (place q : ℕ) → place < i → slice_get rows place ≡ Some q → met q ≡ true) where
   pub met_more : {q : ℕ} → i < length rows → q ≡ get_or rows i q → met q ≡ true → (place p : ℕ) → place < i + 1
       → slice_get rows place ≡ Some p → met p ≡ true
-  met_more {q} h e m place p lt k = grind (arith, common_steps, some_same, at_or, cases_lt)
+  met_more {q} h e m place p lt k = grind (arith, common_steps, same_Some, at_or, cases_lt)
 
   pub met_to : {q : ℕ} → i < length rows → q ≡ get_or rows i q → met q ≡ false → AreMetTo met rows i
-  met_to {q} h e m = grind (arith, common_steps, some_same, at_or)
+  met_to {q} h e m = grind (arith, common_steps, same_Some, at_or)
 
   pub met_all : length rows ≤ i → AreMetTo met rows (length rows)
   met_all h = grind (arith, common_steps, some_within)
@@ -94,7 +83,7 @@ pub record Trimmed (lead own : List ℕ) (len met : ℕ) : Type 0 where
   pub front_met : AreMetTo (was (take len own)) lead met
 
 pub trimmed_none : {lead own : List ℕ} {met : ℕ} → AreMetTo (was own) lead met → Trimmed lead own (length own) met
-trimmed_none {lead} {own} {met} m = grind (arith, common_steps, take-length, was)
+trimmed_none {lead} {own} {met} m = grind (arith, common_steps)
 
 last_same : (a b : List ℕ) {x y : ℕ} → a ++ x ∷ [] ≡ b ++ y ∷ [] → x ≡ y
 last_same [] [] e = cc
@@ -109,7 +98,7 @@ pub record LastRow (own : List ℕ) (len : ℕ) (front : List ℕ) (x : ℕ) : T
 
 pub last_row : (own : List ℕ) (len : ℕ) {x : ℕ} → 0 < len → len ≤ length own → x ≡ get_or own (len - 1) x
     → LastRow own len (take (len - 1) own) x
-last_row own len {x} h k e = grind (arith, common_steps, take_more)
+last_row own len {x} h k e = grind (arith, common_steps)
 
 module _ {lead own places : List ℕ} (places_are : ArePlaces lead places) (lead_apart : Apart lead)
     (own_apart : Apart own)
@@ -125,7 +114,7 @@ module _ {lead own places : List ℕ} (places_are : ArePlaces lead places) (lead
   -- it would come again at once
   module _ (again : place < met) where
     here : slice_get lead place ≡ Some x
-    here = places_are.is_there x (omega (arith, t.front_met.within, again))
+    here = places_are.is_there x (omega arith)
 
     abbrev before : List ℕ
     before = take place lead
@@ -143,7 +132,7 @@ module _ {lead own places : List ℕ} (places_are : ArePlaces lead places) (lead
     all_before q i =
         let at = in_front lead place q i in
         let listed : In (front ++ x ∷ []) q =
-        subst (λ l. In l q) l.whole (t.front_met.before at.0 q (omega (arith, at.1, again)) at.2) in
+        subst (λ l. In l q) l.whole (t.front_met.before at.0 q (omega arith) at.2) in
         ⊎_elim
         (λ (f : In front q). f)
         (λ (o : In (x ∷ []) q).
@@ -157,19 +146,19 @@ module _ {lead own places : List ℕ} (places_are : ArePlaces lead places) (lead
         all_before in
         let whole_again = subst (λ m. without front m ≡ x ∷ without (front ++ x ∷ []) m) (sym lead_is) again_is in
         record {
-          within = omega (arith, t.within);
+          within = omega arith;
           same =
               ap (λ l. led l lead) (sym l.front_is) ∙ dropped lead front x whole_again
               ∙ ap (λ l. led l lead) (sym l.whole) ∙ t.same;
           front_met = record {
-            within = omega (arith, t.front_met.within, again);
+            within = omega arith;
             before = λ i q lt e.
                 subst (λ l. In l q) l.front_is
                 (all_before q (below before (x ∷ drop (suc place) lead) i
-                (omega (arith, length-take place lead, lt, t.front_met.within, again))
+                (omega (arith, length-take place lead))
                 (subst (λ m. slice_get m i ≡ Some q) lead_is e)));
             next = λ q e.
-                let same : x ≡ q = some_same (sym here ∙ e) in
+                let same : x ≡ q = same_Some x q (sym here ∙ e) in
                 subst (λ v. was (take (len - 1) own) v ≡ false) same
                 (subst (λ m. was m x ≡ false) l.front_is (not_in front x (apart_last front x front_apart)));
           };
@@ -194,15 +183,12 @@ module _ {lead own places : List ℕ} (places_are : ArePlaces lead places) (lead
         (left_at from.0 (y ∷ from.1) met lt)))) in
         absurd (not_both (t.front_met.next q at) there_is))
         (λ (ge : length from.0 ≤ met).
-        let met_is : met ≡ length from.0 = omega (arith, x_place, stops, ge) in
+        let met_is : met ≡ length from.0 = omega arith in
         let there_is : was (take len own) y ≡ true =
         subst (λ m. In m y) (sym e) (in_right other (y ∷ []) y (in_here y [])) in
         absurd (not_both (t.front_met.next y (ap (slice_get lead) met_is ∙ y_at)) there_is))
         (cases_lt met (length from.0));
   }
-
-pub least_none : (lead : List ℕ) → IsLeast lead []
-least_none lead = grind (arith, common_steps, length-append)
 
 -- ---- the places of rows
 
@@ -216,19 +202,19 @@ in_at (x ∷ xs) q i =
 
 pub at_in : (xs : List ℕ) (place : ℕ) {q : ℕ} → slice_get xs place ≡ Some q → In xs q
 at_in [] place e = absurd (cc)
-at_in (x ∷ xs) zero {q} e = subst (λ v. In (x ∷ xs) v) (some_same e) (in_here x xs)
+at_in (x ∷ xs) zero {q} e = subst (λ v. In (x ∷ xs) v) (same_Some x q e) (in_here x xs)
 at_in (x ∷ xs) (suc place) {q} e = in_there x q xs (at_in xs place e)
 
 -- a row has a place where it is one of the list
 pub has_place : {rows places : List ℕ} → ArePlaces rows places → (q : ℕ)
     → ltb (slice_index_or places q no_place) (length rows) ≡ was rows q
-has_place {rows} {places} p q = grind (arith, common_steps, was, at_in, ltb-true, in_at, lt-ltb)
+has_place {rows} {places} p q = grind (arith, common_steps, was, at_in, in_at)
 
 apart_at : (xs : List ℕ) → Apart xs → (a b : ℕ) {q : ℕ} → slice_get xs a ≡ Some q → slice_get xs b ≡ Some q → a ≡ b
 apart_at [] apart a b e f = absurd (cc)
 apart_at (x ∷ xs) apart zero zero e f = refl
-apart_at (x ∷ xs) apart zero (suc b) e f = grind (arith, common_steps, seen_true, some_same, at_in)
-apart_at (x ∷ xs) apart (suc a) zero e f = grind (arith, common_steps, seen_true, some_same, at_in)
+apart_at (x ∷ xs) apart zero (suc b) e f = grind (arith, common_steps, seen_true, same_Some, at_in)
+apart_at (x ∷ xs) apart (suc a) zero e f = grind (arith, common_steps, seen_true, same_Some, at_in)
 apart_at (x ∷ xs) apart (suc a) (suc b) e f = ap suc (apart_at xs apart.1 a b e f)
 
 -- the rows up to a place have theirs
@@ -236,10 +222,6 @@ pub record Placed (rows places : List ℕ) (place : ℕ) : Type 0 where
   pub is_there : (q : ℕ) → slice_index_or places q no_place < length rows
       → slice_get rows (slice_index_or places q no_place) ≡ Some q
   pub is_place : (i q : ℕ) → i < place → slice_get rows i ≡ Some q → slice_index_or places q no_place ≡ i
-
-pub placed_none : {rows places : List ℕ} (count : ℕ) → places ≡ replicate count no_place → length rows < no_place
-    → Placed rows places 0
-placed_none {rows} {places} count e few = grind (arith, common_steps)
 
 pub placed_more : {rows places : List ℕ} {place row : ℕ} → Apart rows → Placed rows places place
     → slice_get rows place ≡ Some row → row < length places → Placed rows (set places row place) (place + 1)
@@ -253,7 +235,7 @@ placed_more {rows} {places} {place} {row} apart p here within =
       get_or-set_other,
       eqb-false,
       apart_at,
-      some_same,
+      same_Some,
       cases_lt,
     )
 

@@ -1,22 +1,13 @@
 -- How the code splits rows into own ones and the lead-in's others, and how many these are.
-use Rattle.std.proofs.lemmas.Grind.{common_steps}
+use Rattle.rx_spec.proofs.Prelude.{common_steps, ◌≡◌, ℕ, not, ◌+◌, ◌-◌, ◌<◌, ◌≤◌, ◌==◌, Bool, true, false, List, []}
+use Rattle.rx_spec.proofs.Prelude.{◌∷◌, length, take, drop, get_or, sum_by, ap, ap₂, sym, ◌∙◌, arith, subst, ⊎_elim}
+use Rattle.rx_spec.proofs.Prelude.{drop_of_length-le, eqb-true, false_from_ne_true, drop_more, take_all, take_more}
+use Rattle.rx_spec.proofs.Prelude.{bytes_eq-Decides, both_ways, bytes_eq}
 use Rattle.lemmas_walks.proofs.Firsts.{Apart, by_test}
-use Rattle.std.proofs.Common.{◌≡◌, ℕ, not, ◌+◌, ◌-◌, ◌<◌, ◌≤◌, ◌==◌, Bool, true, false, List, [], ◌∷◌, length, take}
-use Rattle.std.proofs.Common.{drop, get_or, sum_by, refl, ap, ap₂, sym, ◌∙◌, arith, length-append, length-drop}
-use Rattle.std.proofs.Common.{take-append-drop, subst, ⊎_elim}
-use Rattle.std.proofs.Math.ListN.{drop_of_length-le}
-use Rattle.std.proofs.lemmas.Bool.{eq-eqb, eqb-true, false_from_ne_true}
-use Rattle.std.proofs.lemmas.List.{drop_more, take_all, take_more, get_or_default}
-use Rattle.std.proofs.lemmas.Slice.Eq.{bytes_eq-Decides}
-use Rattle.std.proofs.lemmas.List.Sums.{sum_by-append, sum_by-cons}
-use Rattle.std.specs.Cmp.{both_ways}
-use Rattle.std.specs.Prelude.{None, Some, slice_get}
 use Rattle.std.specs.List.{AllByRecursion as Every}
-use Rattle.std.specs.Str.{bytes_eq}
 use Rattle.rx_base.specs.FactBits.{bit}
-use Rattle.rx_stepper.specs.Leads.{Written, led, split_by, without, written, written_as}
+use Rattle.rx_stepper.specs.Leads.{led, split_by, without, written_as}
 use Rattle.rx_stepper.proofs.Members.{In, in_cases, in_nil, was}
-use Rattle.rx_stepper.proofs.LeadPlaces.{at_or}
 use Rattle.rx_stepper.proofs.Without.{length_without, without_nil, without_old, without_new}
 use Rattle.rx_stepper.proofs.WrittenRows.{split_here, split_later, split_nowhere}
 
@@ -55,33 +46,12 @@ module _ {lead rows : List ℕ} {len : ℕ} (s : IsSplitFrom lead rows len) (h :
         (ap₂ (λ f r. bytes_eq (without f lead) r) (sym all) (sym none) ∙ sym e ∙ t);
   }
 
--- how rows are written where there is no lead-in, and where there is one
-pub written_none : (lead rows : List ℕ) → None ≡ slice_get lead (length lead - 1) → written lead rows
-    ≡ written_as false rows
-written_none [] rows e = refl
-written_none (x ∷ xs) rows e =
-    let there = at_or (x ∷ xs) (length (x ∷ xs) - 1) {q = get_or (x ∷ xs) (length (x ∷ xs) - 1) x} (omega arith)
-    (same_default (x ∷ xs) (length (x ∷ xs) - 1) x (omega arith)) in
-    absurd (cc)
-  where
-    same_default : (xs : List ℕ) (i d : ℕ) → i < length xs → get_or xs i d ≡ get_or xs i (get_or xs i d)
-    same_default xs i d h = get_or_default xs i d (get_or xs i d) h
-
-pub written_split : (lead rows : List ℕ) (place : ℕ) {q : ℕ} {w : Written} → slice_get lead place ≡ Some q
-    → split_by lead [] rows ≡ w → written lead rows ≡ w
-written_split [] rows place e s = absurd (cc)
-written_split (x ∷ xs) rows place e s = s
-
 pub every_in : (P : ℕ → Type 0) (xs : List ℕ) {q : ℕ} → Every P xs → In xs q → P q
 every_in P [] {q} h i = absurd (in_nil q i)
 every_in P (x ∷ xs) {q} h i =
     ⊎_elim (λ (s : q ≡ x). subst P (sym s) h.0) (λ (o : In xs q). every_in P xs h.1 o) (in_cases x q xs i)
 
 -- ---- whether rows are what is left of the lead-in's
-
--- a test whether numbers differ
-pub unequal : (a b : ℕ) {r : Bool} → r ≡ not (a == b) → r ≡ true → a ≡ b → ⊥
-unequal a b e t s = let h : (a == b) ≡ true = eq-eqb a b s in cc
 
 pub equal : (a b : ℕ) {r : Bool} → r ≡ not (a == b) → r ≡ false → a ≡ b
 equal a b e t = by_test (a == b) (λ h. eqb-true a b h) (λ h. absurd (cc))
@@ -90,16 +60,16 @@ equal a b e t = by_test (a == b) (λ h. eqb-true a b h) (λ h. absurd (cc))
 pub follows_passed : (own lead : List ℕ) (i : ℕ) {q : ℕ} (others : List ℕ) → i < length lead → q ≡ get_or lead i q
     → was own q ≡ true
     → bytes_eq (without own (drop i lead)) others ≡ bytes_eq (without own (drop (i + 1) lead)) others
-follows_passed own lead i {q} others h e t = grind (arith, common_steps, drop_more, without_old)
+follows_passed own lead i {q} others h e t = grind (arith, common_steps, without_old)
 
 module _ (own lead : List ℕ) (i : ℕ) {q : ℕ} (rows : List ℕ) (place : ℕ) (h : i < length lead) (e : q ≡ get_or lead i q)
     (new : was own q ≡ false) where
   first_left : without own (drop i lead) ≡ q ∷ without own (drop (i + 1) lead)
-  first_left = grind (arith, common_steps, drop_more, without_new)
+  first_left = grind (arith, common_steps, without_new)
 
   -- another is missing where no row is left
   pub follows_short : length rows ≤ place → bytes_eq (without own (drop i lead)) (drop place rows) ≡ false
-  follows_short past = grind (arith, common_steps, false_from_ne_true, bytes_eq-Decides, first_left, drop_of_length-le)
+  follows_short past = grind (arith, common_steps, first_left)
 
   module _ {x : ℕ} (within : place < length rows) (is : x ≡ get_or rows place x) where
     rest : drop place rows ≡ x ∷ drop (place + 1) rows
@@ -133,7 +103,7 @@ module _ (own lead : List ℕ) (i : ℕ) {q : ℕ} (rows : List ℕ) (place : �
 pub follows_ends : (own lead rows : List ℕ) {i : ℕ} (place : ℕ) → length lead ≤ i → place ≤ length rows
     → bytes_eq (without own (drop i lead)) (drop place rows) ≡ (place == length rows)
 follows_ends own lead rows {i} place past within =
-    grind (arith, common_steps, drop_of_length-le, without_nil, bytes_eq-Decides, eq-eqb, length-drop, eqb-true)
+    grind (arith, common_steps, drop_of_length-le, without_nil)
 
 -- ---- how many rows of the lead-in are among the own ones
 
@@ -143,24 +113,17 @@ module _ (lead own : List ℕ) where
 
   pub shared_more : (i : ℕ) {q : ℕ} → i < length own → q ≡ get_or own i q
       → sum_by counts (take (i + 1) own) ≡ sum_by counts (take i own) + counts q
-  shared_more i {q} h e = grind (arith, common_steps, sum_by, take_more, sum_by-append, sum_by-cons)
+  shared_more i {q} h e = grind (arith, common_steps)
 
   pub shared_within : (i : ℕ) → sum_by counts (take i own) ≤ sum_by counts own
-  shared_within i = grind (arith, common_steps, sum_by-append, sum_by, take-append-drop)
+  shared_within i = grind (arith, common_steps)
 
   -- Each row of the own ones that is one of the lead-in's is one that doesn't follow.
   pub shared_left : (i : ℕ) {q others : ℕ} → Apart own → Apart lead → i < length own → q ≡ get_or own i q
       → was lead q ≡ true → others + sum_by counts (take i own) ≡ length lead → 1 ≤ others
   shared_left i {q} {others} a b h e w inv =
-      omega (
-        arith,
-        inv,
-        shared_more i h e,
-        ap bit w,
-        shared_within (i + 1),
-        length_without own lead a b,
-      )
+      omega (arith, shared_more i h e, ap bit w, shared_within (i + 1), length_without own lead a b)
 
   pub shared_all : (i others : ℕ) → Apart own → Apart lead → length own ≤ i
       → others + sum_by counts (take i own) ≡ length lead → length own + others ≡ length (led own lead)
-  shared_all i others a b h inv = grind (arith, common_steps, sum_by, take_all, length_without, length-append)
+  shared_all i others a b h inv = grind (arith, common_steps, length_without)

@@ -1,21 +1,17 @@
 -- Steps of rows that end with those of the lead-in: assertions are decided, and matches cut, in both lists by
 -- themselves.
-use Rattle.std.proofs.Common.{arith, ◌≡◌, ℕ, ◌==◌, ◌||◌, Bool, true, false, if◌then◌else◌, List, [], ◌∷◌, ◌++◌, refl}
-use Rattle.std.proofs.Common.{ap, ap₂, sym, ◌∙◌, subst, ⊎_elim}
-use Rattle.std.proofs.lemmas.Grind.{common_steps}
-use Rattle.std.proofs.lemmas.Bool.{eqb-true, false_from_ne_true, or_left, or_right, or_cases}
-use Rattle.std.proofs.lemmas.List.Folds.{list_any-append}
-use Rattle.std.specs.List.{flat_map, list_any}
-use Rattle.rx_spec.specs.Rows.{Row}
-use Rattle.rx_spec.specs.States.{Passing, row_at, is_match_row, to_first_match, cut, pattern_of}
+use Rattle.rx_spec.proofs.Prelude.{arith, ◌≡◌, ℕ, ◌==◌, ◌||◌, Bool, true, false, if◌then◌else◌, List, [], ◌∷◌, ◌++◌}
+use Rattle.rx_spec.proofs.Prelude.{refl, ap, ap₂, sym, ◌∙◌, subst, ⊎_elim, common_steps, false_from_ne_true, or_left}
+use Rattle.rx_spec.proofs.Prelude.{or_right, or_cases, flat_map, list_any, Row, Passing, row_at, is_match_row}
+use Rattle.rx_spec.proofs.Prelude.{to_first_match, cut, pattern_of}
 use Rattle.rx_spec.specs.declared.MatchKind.{MatchKind}
-use Rattle.lemmas_walks.proofs.Every.{flat_map-append_of}
 use Rattle.lemmas_walks.proofs.Firsts.{by_test}
 use Rattle.rx_powerset.specs.Closures.{closed_rows}
 use Rattle.rx_stepper.specs.Leads.{without, led}
 use Rattle.rx_stepper.specs.Steps.{goes_on, matches_of}
 use Rattle.rx_stepper.proofs.Members.{In, in_cases, in_nil, was}
 use Rattle.rx_stepper.proofs.Without.{without_nil, without_old, without_new, firsts_joined, led_gives}
+use Rattle.lemmas_walks.proofs.FirstMatch.{first_here, first_later, pattern_of-none}
 
 -- what is closed in both lists
 pub closed_led : (rows : List Row) (pass : Passing) (own lead : List ℕ)
@@ -25,7 +21,7 @@ closed_led rows pass own lead = grind (arith, common_steps, led_gives, firsts_jo
 -- the rows that are reached from joined lists
 pub closed_joined : (rows : List Row) (pass : Passing) (xs ys : List ℕ)
     → closed_rows rows pass (xs ++ ys) ≡ led (closed_rows rows pass xs) (closed_rows rows pass ys)
-closed_joined rows pass xs ys = grind (arith, common_steps, flat_map-append_of, firsts_joined)
+closed_joined rows pass xs ys = grind (arith, common_steps, firsts_joined)
 
 -- a test of joined rows
 module _ (p : ℕ → Bool) where
@@ -47,7 +43,7 @@ module _ (p : ℕ → Bool) where
       (λ e. ap (list_any p) (without_new own xs x e) ∙ ap (λ b. p x || b) (any_without own xs h))
 
   pub any_led : (own lead : List ℕ) → list_any p (led own lead) ≡ (list_any p own || list_any p lead)
-  any_led own lead = grind (arith, common_steps, list_any-append, by_test, any_without)
+  any_led own lead = grind (arith, common_steps, any_without)
 
 module _ (rows : List Row) where
   abbrev matches : List ℕ → Bool
@@ -59,20 +55,11 @@ module _ (rows : List Row) where
   unfolding to_first_match
   first_none = refl
 
-  first_at : (q : ℕ) (qs : List ℕ) → is_match_row (row_at rows q) ≡ true → to_first_match rows (q ∷ qs) ≡ q ∷ []
-  unfolding to_first_match
-  first_at q qs h = rw h refl
-
-  first_later : (q : ℕ) (qs : List ℕ) → is_match_row (row_at rows q) ≡ false
-      → to_first_match rows (q ∷ qs) ≡ q ∷ to_first_match rows qs
-  unfolding to_first_match
-  first_later q qs h = rw h refl
-
   head_plain : (q : ℕ) (qs : List ℕ) → matches (q ∷ qs) ≡ false → is_match_row (row_at rows q) ≡ false
-  head_plain q qs h = grind (arith, common_steps, false_from_ne_true, or_left)
+  head_plain q qs h = grind (arith, common_steps)
 
   rest_plain : (q : ℕ) (qs : List ℕ) → matches (q ∷ qs) ≡ false → matches qs ≡ false
-  rest_plain q qs h = grind (arith, common_steps, false_from_ne_true, or_right)
+  rest_plain q qs h = grind (arith, common_steps)
 
   member_plain : (qs : List ℕ) (x : ℕ) → matches qs ≡ false → In qs x → is_match_row (row_at rows x) ≡ false
   member_plain [] x h i = absurd (in_nil x i)
@@ -86,18 +73,18 @@ module _ (rows : List Row) where
   first_in_front : (xs ys : List ℕ) → matches xs ≡ true → to_first_match rows (xs ++ ys) ≡ to_first_match rows xs
   first_in_front [] ys h = absurd (cc)
   first_in_front (x ∷ xs) ys h =
-      by_test (is_match_row (row_at rows x)) (λ e. first_at x (xs ++ ys) e ∙ sym (first_at x xs e))
-      (λ e. first_later x (xs ++ ys) e
+      by_test (is_match_row (row_at rows x)) (λ e. first_here rows x (xs ++ ys) e ∙ sym (first_here rows x xs e))
+      (λ e. first_later rows x (xs ++ ys) e
       ∙ ap (λ (l : List ℕ). x ∷ l)
       (first_in_front xs ys
       (⊎_elim (λ (t : is_match_row (row_at rows x) ≡ true). absurd (cc)) (λ (t : matches xs ≡ true). t)
       (or_cases (is_match_row (row_at rows x)) (matches xs) h)))
-      ∙ sym (first_later x xs e))
+      ∙ sym (first_later rows x xs e))
 
   first_behind : (xs ys : List ℕ) → matches xs ≡ false → to_first_match rows (xs ++ ys) ≡ xs ++ to_first_match rows ys
   first_behind [] ys h = refl
   first_behind (x ∷ xs) ys h =
-      first_later x (xs ++ ys) (head_plain x xs h)
+      first_later rows x (xs ++ ys) (head_plain x xs h)
       ∙ ap (λ (l : List ℕ). x ∷ l) (first_behind xs ys (rest_plain x xs h))
 
   -- leaving out rows that don't match leaves it where it is
@@ -107,15 +94,15 @@ module _ (rows : List Row) where
   first_without seen (x ∷ xs) h =
       by_test (was seen x)
       (λ e. ap (to_first_match rows) (without_old seen xs x e) ∙ first_without seen xs h
-      ∙ sym (ap (without seen) (first_later x xs (member_plain seen x h e))
+      ∙ sym (ap (without seen) (first_later rows x xs (member_plain seen x h e))
       ∙ without_old seen (to_first_match rows xs) x e))
       (λ e. ap (to_first_match rows) (without_new seen xs x e)
       ∙ by_test (is_match_row (row_at rows x))
-      (λ m. first_at x (without seen xs) m
-      ∙ sym (ap (without seen) (first_at x xs m) ∙ without_new seen [] x e
+      (λ m. first_here rows x (without seen xs) m
+      ∙ sym (ap (without seen) (first_here rows x xs m) ∙ without_new seen [] x e
       ∙ ap (λ (l : List ℕ). x ∷ l) (without_nil seen)))
-      (λ m. first_later x (without seen xs) m ∙ ap (λ (l : List ℕ). x ∷ l) (first_without seen xs h)
-      ∙ sym (ap (without seen) (first_later x xs m) ∙ without_new seen (to_first_match rows xs) x e)))
+      (λ m. first_later rows x (without seen xs) m ∙ ap (λ (l : List ℕ). x ∷ l) (first_without seen xs h)
+      ∙ sym (ap (without seen) (first_later rows x xs m) ∙ without_new seen (to_first_match rows xs) x e)))
 
   -- ---- the matches that go on, and whether what is less preferred goes on too
 
@@ -128,23 +115,23 @@ module _ (rows : List Row) where
   cut_plain : (qs : List ℕ) → matches qs ≡ false → to_first_match rows qs ≡ qs
   cut_plain [] h = first_none
   cut_plain (q ∷ qs) h =
-      first_later q qs (head_plain q qs h) ∙ ap (λ (l : List ℕ). q ∷ l) (cut_plain qs (rest_plain q qs h))
+      first_later rows q qs (head_plain q qs h) ∙ ap (λ (l : List ℕ). q ∷ l) (cut_plain qs (rest_plain q qs h))
 
   cut_none : (qs : List ℕ) → matches_of rows (to_first_match rows qs) ≡ [] → matches qs ≡ false
   cut_none [] h = refl
   cut_none (q ∷ qs) h =
       by_test (is_match_row (row_at rows q))
       (λ e. absurd (let t = sym (ap (λ b. if b then q ∷ [] else []) e)
-      ∙ sym (ap (matches_of rows) (first_at q qs e)) ∙ h in cc))
+      ∙ sym (ap (matches_of rows) (first_here rows q qs e)) ∙ h in cc))
       (λ e. ap₂ (λ (a b : Bool). a || b) e
       (cut_none qs
       (sym (ap (λ b. if b then q ∷ matches_of rows (to_first_match rows qs) else matches_of rows
       (to_first_match rows qs)) e)
-      ∙ sym (ap (matches_of rows) (first_later q qs e)) ∙ h)))
+      ∙ sym (ap (matches_of rows) (first_later rows q qs e)) ∙ h)))
 
   cut_some : (qs : List ℕ) (x : ℕ) (xs : List ℕ) → matches_of rows (to_first_match rows qs) ≡ x ∷ xs
       → matches qs ≡ true
-  cut_some qs x xs h = grind (arith, common_steps, by_test, matches_nil, cut_plain)
+  cut_some qs x xs h = grind (arith, common_steps, matches_nil, cut_plain)
 
   -- The cut falls in the own rows, or in those of the lead-in.
   pub cut_led : (kind : MatchKind) (own lead : List ℕ) → goes_on kind (matches_of rows (cut kind rows own)) ≡ true
@@ -163,13 +150,6 @@ module _ (rows : List Row) where
   abbrev pub patterns : List ℕ → List ℕ
   patterns qs = flat_map (λ q. pattern_of (row_at rows q)) qs
 
-  plain_pattern : (row : Row) → is_match_row row ≡ false → pattern_of row ≡ []
-  plain_pattern (Row.Bytes set next) e = refl
-  plain_pattern (Row.Split first second) e = refl
-  plain_pattern (Row.Look look next) e = refl
-  plain_pattern (Row.Match pattern) e = absurd (cc)
-  plain_pattern Row.Fail e = refl
-
   pub patterns_matches : (qs : List ℕ) → patterns (matches_of rows qs) ≡ patterns qs
   patterns_matches [] = refl
   patterns_matches (q ∷ qs) =
@@ -178,7 +158,7 @@ module _ (rows : List Row) where
       ∙ ap (λ (l : List ℕ). pattern_of (row_at rows q) ++ l) (patterns_matches qs))
       (λ e. ap (λ b. patterns (if b then q ∷ matches_of rows qs else matches_of rows qs)) e
       ∙ patterns_matches qs
-      ∙ sym (ap (λ (l : List ℕ). l ++ patterns qs) (plain_pattern (row_at rows q) e)))
+      ∙ sym (ap (λ (l : List ℕ). l ++ patterns qs) (pattern_of-none (row_at rows q) e)))
 
   -- a match is a member of the matches where it is one of all
   match_in : (seen : List ℕ) (x : ℕ) → is_match_row (row_at rows x) ≡ true
@@ -192,9 +172,7 @@ module _ (rows : List Row) where
       ∙ sym (ap (λ b. was (if b then y ∷ matches_of rows ys else matches_of rows ys) x) e))
     where
       other : (y : ℕ) → is_match_row (row_at rows y) ≡ false → (x == y) ≡ false
-      other y e =
-          false_from_ne_true (x == y)
-          (λ s. let t = ap (λ v. is_match_row (row_at rows v)) (eqb-true x y s) in cc)
+      other y e = grind (arith, common_steps)
 
   pub patterns_without : (seen qs : List ℕ)
       → patterns (without seen qs) ≡ patterns (without (matches_of rows seen) (matches_of rows qs))
@@ -211,7 +189,7 @@ module _ (rows : List Row) where
       ∙ sym (ap patterns (ap (λ b. without (matches_of rows seen)
       (if b then x ∷ matches_of rows xs else matches_of rows xs)) m
       ∙ without_new (matches_of rows seen) (matches_of rows xs) x (sym (match_in seen x m) ∙ e)))))
-      (λ m. let nothing = plain_pattern (row_at rows x) m in
+      (λ m. let nothing = pattern_of-none (row_at rows x) m in
       let rest = ap (λ b. patterns (without (matches_of rows seen)
       (if b then x ∷ matches_of rows xs else matches_of rows xs))) m in
       by_test (was seen x)

@@ -1,11 +1,7 @@
 -- A column by which the lead-in's rows alone go on leads where it leads these by themselves.
-use Rattle.std.proofs.Common.{◌≡◌, ℕ, zero, suc, ◌<◌, ◌++◌, true, List, [], ◌∷◌, length, None, Some, refl, ap, ap₂, sym}
-use Rattle.std.proofs.Common.{◌∙◌, subst, arith, inl}
-use Rattle.std.specs.Prelude.{IfSome, MatchOption, Option, slice_get}
-use Rattle.rx_spec.specs.Builds.{is_dead_state}
-use Rattle.rx_spec.specs.Contexts.{Facts}
-use Rattle.rx_spec.specs.Nfas.{Nfa}
-use Rattle.rx_spec.specs.States.{fresh, step}
+use Rattle.rx_spec.proofs.Prelude.{◌≡◌, ℕ, zero, suc, ◌<◌, ◌++◌, true, List, [], ◌∷◌, length, None, Some, refl, ap, ap₂}
+use Rattle.rx_spec.proofs.Prelude.{sym, ◌∙◌, subst, arith, inl, IfSome, MatchOption, Option, slice_get, is_dead_state}
+use Rattle.rx_spec.proofs.Prelude.{Facts, Nfa, fresh, step}
 use Rattle.rx_spec.specs.declared.MatchKind.{MatchKind}
 use Rattle.rx_base.specs.FactBits.{facts_with}
 use Rattle.rx_stepper.specs.Columns.{AreGroups, asked_of}
@@ -38,7 +34,7 @@ module _ {t : Table} {lead_in : LeadIn} {leads : List LeadSteps} {current : Curr
     (h : column < length (units_of t.classes)) (small : context < 32)
     (lone : IsLone current column (group_in t column) context) where
   abbrev lead : (l : LeadSteps) × (slice_get leads context ≡ Some l)
-  lead = there_at leads context (omega (arith, small, fits_lead.len))
+  lead = there_at leads context (omega arith)
 
   abbrev follows : Follows current leads t.kind (group_in t column) lead.0.steps
   follows = record {
@@ -88,7 +84,7 @@ pub lone_small : {t : Table} {lead_in : LeadIn} {leads : List LeadSteps} {curren
     → FitsCurrent t leads current → IsLone current column group context → context < 32
 lone_small {leads = leads} groups fits_lead fits lone =
     let within = subst (λ o. IfSome o (λ c. c < length leads)) lone.led_in (led_within groups fits_lead fits) in
-    omega (arith, within, fits_lead.len)
+    omega arith
 
 -- where neither rows of its own nor the lead-in's go on, a state leads to the dead state
 made_none : (nfa : Nfa) (asked : Facts) → is_dead_state (made nfa [] asked []) ≡ true

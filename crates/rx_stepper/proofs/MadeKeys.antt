@@ -1,16 +1,9 @@
 -- The key of a state that is made, as it is written.
-use Rattle.std.proofs.lemmas.Grind.{common_steps}
-use Rattle.std.proofs.Common.{◌≡◌, ℕ, ◌^◌, ◌<◌, ◌≤◌, ◌==◌, ◌&&◌, Bool, true, false, not, if◌then◌else◌, List, [], ◌∷◌}
-use Rattle.std.proofs.Common.{◌++◌, length, refl, ap, sym, ◌∙◌, subst, arith}
-use Rattle.std.proofs.lemmas.Bool.{ne_eqb}
-use Rattle.std.proofs.lemmas.List.Elements.{recursion_from_All}
-use Rattle.std.specs.Prelude.{All}
-use Rattle.std.specs.List.{list_any, AllByRecursion as Every}
-use Rattle.rx_spec.specs.Builds.{is_dead_state}
-use Rattle.rx_spec.specs.Causes.{id_count, max_id}
-use Rattle.rx_spec.specs.Contexts.{Facts}
-use Rattle.rx_spec.specs.Nfas.{Nfa}
-use Rattle.rx_spec.specs.States.{Standing, row_at, is_look_row}
+use Rattle.rx_spec.proofs.Prelude.{common_steps, ◌≡◌, ℕ, ◌^◌, ◌<◌, ◌≤◌, ◌==◌, ◌&&◌, Bool, true, false, not}
+use Rattle.rx_spec.proofs.Prelude.{if◌then◌else◌, List, [], ◌∷◌, ◌++◌, length, refl, ap, sym, ◌∙◌, subst, arith}
+use Rattle.rx_spec.proofs.Prelude.{recursion_from_All, All, list_any, is_dead_state, id_count, max_id, Facts, Nfa}
+use Rattle.rx_spec.proofs.Prelude.{Standing, row_at, is_look_row}
+use Rattle.std.specs.List.{AllByRecursion as Every}
 use Rattle.lemmas_walks.proofs.Every.{every-append, every-weaker}
 use Rattle.lemmas_walks.proofs.Firsts.{by_test}
 use Rattle.rx_base.specs.FactBits.{bit, bits_of, facts_with}
@@ -35,17 +28,9 @@ every_by : (P : ℕ → Type 0) (lead own : List ℕ) (is_led : Bool) → Every 
 every_by P lead own true h k = every-append P own (without own lead) h (every_without P own lead k)
 every_by P lead own false h k = h
 
--- rows that are led are some, and there is a lead-in
-not_zero : (n : ℕ) → 0 < n → (n == 0) ≡ false
-not_zero n h = ne_eqb n 0 (λ e. omega arith)
-
 led_some : (lead own : List ℕ) → 0 < length lead → 0 < length (led own lead)
-led_some lead [] h = omega (arith, ap length (without_none [] lead (λ x i j. in_nil x j)), h)
+led_some lead [] h = omega (arith, ap length (without_none [] lead (λ x i j. in_nil x j)))
 led_some lead (x ∷ own) h = omega arith
-
-led_somewhere : (lead rows : List ℕ) {own : List ℕ} → written lead rows ≡ written_as true own → 0 < length lead
-led_somewhere [] rows e = absurd (let t = ap (λ w. w.is_led) e in cc)
-led_somewhere (x ∷ lead) rows e = omega arith
 
 -- how the rows of a state that is made are written
 pub record WritesRows (nfa : Nfa) (from own : List ℕ) (is_led : Bool) : Type 0 where
@@ -81,12 +66,12 @@ module _ {nfa : Nfa} {from own : List ℕ} {is_led : Bool} (w : WritesRows nfa f
   dead_by : (b : Bool) (xs : List ℕ) (label : List ℕ) → rows_by (lead_of nfa) b xs ≡ closed
       → (b ≡ true → 0 < length (lead_of nfa))
       → ((length closed == 0) && (length label == 0)) ≡ (not b && (length xs == 0) && (length label == 0))
-  dead_by true xs label e some = grind (arith, common_steps, not_zero, led_some)
+  dead_by true xs label e some = grind (arith, common_steps, led_some)
   dead_by false xs label e some = ap (λ l. (length l == 0) && (length label == 0)) (sym e)
 
   pub dead_made : (asked : Facts) (label : List ℕ) → is_dead_state (made nfa from asked label)
       ≡ (not is_led && (length own == 0) && (length label == 0))
-  dead_made asked label = grind (arith, common_steps, dead_by, rows_are, led_somewhere)
+  dead_made asked label = grind (arith, common_steps, dead_by, rows_are)
 
   -- the key as it is written, from what its parts are found to be
   pub key_made : (group : ℕ) {label key : List ℕ} {bits : ℕ} → group ≡ bits_of (facts_with group)

@@ -1,29 +1,11 @@
 -- Members of lists, as the test that computes them.
-use Rattle.std.proofs.Common.{◌≡◌, ℕ, ◌==◌, ◌⊎◌, Bool, false, List, [], ◌∷◌, ◌++◌, refl, sym, ◌∙◌, ⊎_elim}
-use Rattle.std.proofs.lemmas.Bool.{or_left, or_right, or_cases, eq-eqb, false_from_ne_true}
-use Rattle.std.proofs.lemmas.List.Folds.{list_any-append}
-use Rattle.std.specs.Prelude.{Contains}
-use Rattle.std.specs.List.{list_any}
+use Rattle.rx_spec.proofs.Prelude.{◌≡◌, ℕ, ◌==◌, ◌⊎◌, Bool, false, List, [], ◌∷◌, ◌++◌, sym, ⊎_elim, or_left, eq-eqb}
+use Rattle.rx_spec.proofs.Prelude.{false_from_ne_true, Contains, list_any}
 use Rattle.lemmas_walks.proofs.Firsts.{Apart, seen_true, seen_if}
-pub use Rattle.rx_powerset.proofs.Search.{In, in_cases, in_nil}
+pub use Rattle.rx_powerset.proofs.Search.{In, in_cases, in_here, in_left, in_nil, in_right, in_split, in_there}
 
 abbrev pub was : List ℕ → ℕ → Bool
 was seen x = list_any (λ y. x == y) seen
-
-pub in_here : (x : ℕ) (xs : List ℕ) → In (x ∷ xs) x
-in_here x xs = or_left (x == x) (was xs x) (eq-eqb x x refl)
-
-pub in_there : (y x : ℕ) (xs : List ℕ) → In xs x → In (y ∷ xs) x
-in_there y x xs h = or_right (x == y) (was xs x) h
-
-pub in_left : (xs ys : List ℕ) (x : ℕ) → In xs x → In (xs ++ ys) x
-in_left xs ys x h = list_any-append (λ y. x == y) xs ys ∙ or_left (was xs x) (was ys x) h
-
-pub in_right : (xs ys : List ℕ) (x : ℕ) → In ys x → In (xs ++ ys) x
-in_right xs ys x h = list_any-append (λ y. x == y) xs ys ∙ or_right (was xs x) (was ys x) h
-
-pub in_split : (xs ys : List ℕ) (x : ℕ) → In (xs ++ ys) x → In xs x ⊎ In ys x
-in_split xs ys x h = or_cases (was xs x) (was ys x) (sym (list_any-append (λ y. x == y) xs ys) ∙ h)
 
 pub not_in : (xs : List ℕ) (x : ℕ) → (In xs x → ⊥) → was xs x ≡ false
 not_in xs x h = false_from_ne_true (was xs x) h

@@ -1,22 +1,16 @@
 -- The columns that rows read: each is named once, and more of them behind change no row's.
-use Rattle.std.proofs.lemmas.Grind.{common_steps}
-use Rattle.std.proofs.Common.{◌≡◌, ℕ, zero, suc, ◌+◌, ◌<◌, ◌≤◌, ◌==◌, ◌⊎◌, inl, inr, ⊎_elim, Bool, true, false, List}
-use Rattle.std.proofs.Common.{[], ◌∷◌, ◌++◌, Some, length, refl, ap, ap₂, sym, ◌∙◌, arith, append-nil, append_assoc}
-use Rattle.std.proofs.Common.{length-append, subst, map, get_or}
-use Rattle.std.specs.Prelude.{filter, slice_get, slice_index, All}
-use Rattle.std.specs.List.{range_with_len}
-use Rattle.std.proofs.lemmas.Bool.{cases_lt, eq-eqb, ne_eqb}
-use Rattle.std.proofs.lemmas.List.{get_or-map}
-use Rattle.std.proofs.lemmas.List.Elements.{filter-append}
-use Rattle.std.proofs.lemmas.List.FromFn.{length-range_with_len, get_or-range_with_len}
-use Rattle.rx_spec.specs.Rows.{Row}
-use Rattle.rx_spec.specs.States.{row_at, target}
+use Rattle.rx_spec.proofs.Prelude.{common_steps, ◌≡◌, ℕ, zero, suc, ◌+◌, ◌<◌, ◌≤◌, ◌==◌, ◌⊎◌, inl, inr, ⊎_elim, Bool}
+use Rattle.rx_spec.proofs.Prelude.{true, false, List, [], ◌∷◌, ◌++◌, Some, length, refl, ap, ap₂, sym, ◌∙◌, arith}
+use Rattle.rx_spec.proofs.Prelude.{append-nil, length-append, subst, map, get_or, filter, slice_get, slice_index, All}
+use Rattle.rx_spec.proofs.Prelude.{range_with_len, cases_lt, eq-eqb, ne_eqb, get_or-map, filter-append}
+use Rattle.rx_spec.proofs.Prelude.{length-range_with_len, get_or-range_with_len, Row, row_at, target}
 use Rattle.rx_spec.specs.declared.Unit.{Unit}
 use Rattle.rx_base.specs.Unit.{unit_number}
 use Rattle.lemmas_walks.proofs.Every.{flat_map-append_of}
 use Rattle.rx_stepper.specs.Columns.{only_if, led_by, columns_of, next_of, AreSpans, Reads}
 use Rattle.rx_stepper.specs.ListedSets.{Grown, IsRowSpan}
 use Rattle.rx_stepper.specs.declared.column_span.ColumnSpan.{ColumnSpan}
+use Rattle.rx_stepper.proofs.TargetLists.{only_nothing}
 
 -- ---- one row
 
@@ -52,17 +46,13 @@ module _ (next : ℕ) (test : ℕ → Bool) (column : ℕ) where
   led_last n true = append-nil (only_if (column == n) (next ∷ []))
   led_last n false = refl
 
-  only_none : (b : Bool) → only_if b [] ≡ []
-  only_none true = refl
-  only_none false = refl
-
   led_none : (n : ℕ) → n ≤ column → led (filter test (range_with_len 0 n)) ≡ []
   led_none zero h = refl
   led_none (suc n) h =
       let other : (column == n) ≡ false = ne_eqb column n (omega arith) in
       led_more n
       ∙ ap₂ (λ a b. a ++ b) (led_none n (omega arith))
-      (led_last n (test n) ∙ ap (λ b. only_if (test n) (only_if b (next ∷ []))) other ∙ only_none (test n))
+      (led_last n (test n) ∙ ap (λ b. only_if (test n) (only_if b (next ∷ []))) other ∙ only_nothing (test n))
 
   pub led_once : (n : ℕ) → column < n → led (filter test (range_with_len 0 n)) ≡ only_if (test column) (next ∷ [])
   led_once zero h = absurd (omega arith)
@@ -72,7 +62,7 @@ module _ (next : ℕ) (test : ℕ → Bool) (column : ℕ) where
       (λ (lt : column < n).
       let other : (column == n) ≡ false = ne_eqb column n (omega arith) in
       ap₂ (λ a b. a ++ b) (led_once n lt)
-      (led_last n (test n) ∙ ap (λ b. only_if (test n) (only_if b (next ∷ []))) other ∙ only_none (test n))
+      (led_last n (test n) ∙ ap (λ b. only_if (test n) (only_if b (next ∷ []))) other ∙ only_nothing (test n))
       ∙ append-nil (only_if (test column) (next ∷ [])))
       (λ (le : n ≤ column).
       let same : n ≡ column = omega arith in
@@ -84,21 +74,18 @@ module _ (next : ℕ) (test : ℕ → Bool) (column : ℕ) where
 pub led_of : (row : Row) (units : List ℕ) (column : ℕ) → column < length units
     → led_by (next_of row) (columns_of row units) column ≡ target (slice_index units column) row
 led_of (Row.Bytes set next) units column h = grind (arith, common_steps, led_once)
-led_of (Row.Split first second) units column h = refl
-led_of (Row.Look look next) units column h = refl
-led_of (Row.Match pattern) units column h = refl
-led_of Row.Fail units column h = refl
+led_of _ units column h = refl
 
 -- a turn of the loop over columns: the column is read, or it isn't
 pub column_pushed : (test : ℕ → Bool) (n : ℕ) (old : List ℕ) {before after : List ℕ}
     → before ≡ old ++ filter test (range_with_len 0 n) → test n ≡ true → after ≡ before ++ n ∷ []
     → after ≡ old ++ filter test (range_with_len 0 (n + 1))
-column_pushed test n old so_far read e = grind (arith, common_steps, append_assoc, read_more)
+column_pushed test n old so_far read e = grind (arith, common_steps, read_more)
 
 pub column_passed : (test : ℕ → Bool) (n : ℕ) (old : List ℕ) {before after : List ℕ}
     → before ≡ old ++ filter test (range_with_len 0 n) → test n ≡ false → after ≡ before
     → after ≡ old ++ filter test (range_with_len 0 (n + 1))
-column_passed test n old so_far unread e = grind (arith, common_steps, append-nil, read_more)
+column_passed test n old so_far unread e = grind (arith, common_steps, read_more)
 
 pub unit_there : (units : List Unit) (column : ℕ) (d : Unit) → column < length units
     → slice_index (map unit_number units) column ≡ unit_number (get_or units column d)
@@ -137,7 +124,7 @@ pub reads_more : {rows : List Row} {units : List ℕ} {i count : ℕ} {before af
     → row_at rows i ≡ row → IsRowSpan units after row s → more ≡ spans ++ s ∷ []
     → ReadsBelow rows units (i + 1) after more
 reads_more {rows} {units} {i} {count} {before} {after} {spans} {more} {row} {s} below grown here is e = rw e (record {
-  len = omega (arith, length-append spans (s ∷ []), below.len);
+  len = omega (arith, length-append spans (s ∷ []));
   each = λ q t there. elim (get-push spans s q t there) [
     | inl old ↦ span_grown grown (below.each q t old)
     | inr end ↦

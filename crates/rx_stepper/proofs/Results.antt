@@ -1,10 +1,5 @@
 -- What holds where a call succeeds.
-use Rattle.std.proofs.Common.{Bool, true, false, Result, Ok, Err}
-use Rattle.std.specs.Prelude.{IfOk, MatchBool, OnOk}
-
-pub on_ok : {T E : Type 0} (r : Result T E) {P : Type 0} → P → OnOk r P
-on_ok (Ok x) p = p
-on_ok (Err e) p = tt
+use Rattle.rx_spec.proofs.Prelude.{Bool, true, false, Result, Ok, Err, IfOk, MatchBool, OnOk}
 
 pub on_ok-map : {T E : Type 0} (r : Result T E) {P Q : Type 0} → (P → Q) → OnOk r P → OnOk r Q
 on_ok-map (Ok x) f p = f p

@@ -1,23 +1,15 @@
 -- The searches that list a closure, with stamps for the rows that were met and a stack of those that wait.
-use Rattle.std.proofs.lemmas.Grind.{common_steps}
-use Rattle.std.proofs.Common.{◌≡◌, ℕ, ◌+◌, ◌<◌, ◌≤◌, ◌==◌, ◌||◌, ◌⊎◌, Bool, true, false, not, if◌then◌else◌, List, []}
-use Rattle.std.proofs.Common.{◌∷◌, ◌++◌, get_or, drop, reverse, length, refl, ap, sym, ◌∙◌, subst, arith, append_assoc}
-use Rattle.std.proofs.Common.{append-nil, length-append, ⊎_elim}
-use Rattle.std.proofs.Math.ListN.{drop_of_length-le}
-use Rattle.std.proofs.lemmas.Bool.{cases_lt, or_left, or_right, or_cases, eqb-true, eq-eqb}
-use Rattle.std.proofs.lemmas.List.{nil_from_length, drop_more}
-use Rattle.std.proofs.lemmas.List.Sums.{sum_by-cons}
-use Rattle.std.proofs.lemmas.Option.{slice_get_past}
-use Rattle.std.specs.Cmp.{both_ways}
-use Rattle.std.specs.Prelude.{option_to_list, Option, Some, None, IfNone, MatchOption}
-use Rattle.std.specs.List.{flat_map, list_any, AllByRecursion as Every}
-use Rattle.rx_spec.specs.Causes.{id_count}
-use Rattle.rx_spec.specs.Rows.{Row}
-use Rattle.rx_spec.specs.Shallow.{IsShallow}
-use Rattle.rx_spec.specs.States.{Passing, row_at, closure, fresh}
+use Rattle.rx_spec.proofs.Prelude.{common_steps, ◌≡◌, ℕ, ◌+◌, ◌<◌, ◌≤◌, ◌==◌, ◌||◌, ◌⊎◌, Bool, true, false, not}
+use Rattle.rx_spec.proofs.Prelude.{if◌then◌else◌, List, [], ◌∷◌, ◌++◌, get_or, drop, reverse, length, ap, sym, ◌∙◌}
+use Rattle.rx_spec.proofs.Prelude.{subst, arith, append-nil, length-append, ⊎_elim, not-false, not-true}
+use Rattle.rx_spec.proofs.Prelude.{nil_from_length, sum_by-cons, slice_get_past, both_ways, option_to_list, Option}
+use Rattle.rx_spec.proofs.Prelude.{Some, None, MatchOption, flat_map, list_any, id_count, Row, IsShallow, Passing}
+use Rattle.rx_spec.proofs.Prelude.{row_at, closure, fresh}
+use Rattle.std.specs.Prelude.{IfNone}
+use Rattle.std.specs.List.{AllByRecursion as Every}
 use Rattle.lemmas_walks.proofs.Every.{every-append, flat_map-append_of}
 use Rattle.lemmas_walks.proofs.Firsts.{by_test, fresh_alike, fresh_append, fresh_keeps, fresh_within, seen_if}
-use Rattle.lemmas_walks.proofs.Firsts.{seen_true}
+use Rattle.lemmas_walks.proofs.Firsts.{seen_true, fresh_new, fresh_nil, fresh_old}
 use Rattle.rx_powerset.specs.Closures.{closed_rows}
 use Rattle.rx_powerset.proofs.Closures.{graph_of, closure_unfolds}
 use Rattle.rx_powerset.proofs.Search.{Graph, In, Listed, Notes, Searching, in_cases, in_nil, search_passes}
@@ -28,14 +20,6 @@ use Rattle.rx_stepper.specs.Stamps.{is_met, unmet}
 use Rattle.rx_stepper.specs.ThinRows.{IsThin, is_end, row_of_thin}
 use Rattle.rx_stepper.specs.declared.thin_row.ThinRow.{ThinRow}
 use Rattle.rx_stepper.proofs.Members.{in_here, in_left, in_right, in_split, not_in, was}
-
-not_false : (b : Bool) {first : Bool} → first ≡ not b → first ≡ false → b ≡ true
-not_false true e f = refl
-not_false false e f = cc
-
-not_true : (b : Bool) {first : Bool} → first ≡ not b → first ≡ true → b ≡ false
-not_true true e f = cc
-not_true false e f = refl
 
 -- ---- room: no more rows can be new than there are
 
@@ -61,7 +45,7 @@ abbrev pub Flags : (seen after : ℕ → Bool) → ℕ → Type 0
 Flags seen after id = (x : ℕ) → after x ≡ ((x == id) || seen x)
 
 notes : (seen after : ℕ → Bool) (id : ℕ) → Flags seen after id → Notes seen after id
-notes seen after id only = grind (arith, common_steps, or_left, eq-eqb, or_right, eqb-true, or_cases)
+notes seen after id only = grind (arith, common_steps)
 
 -- the row in front gives way to those behind it, or to none
 module _ (g : Graph) {target out before : List ℕ} (rest : List ℕ) (id : ℕ) where
@@ -74,7 +58,7 @@ module _ (g : Graph) {target out before : List ℕ} (rest : List ℕ) (id : ℕ)
       subst
       (Searching g target after out)
       (sym goes)
-      (search_passes g (not_false (seen id) f old) (notes seen after id only) here)
+      (search_passes g (not-false (seen id) (sym f ∙ old)) (notes seen after id only) here)
 
   -- it is met for the first time
   pub met_now : (seen after : ℕ → Bool) {first : Bool} {more left : List ℕ} → Flags seen after id
@@ -82,7 +66,7 @@ module _ (g : Graph) {target out before : List ℕ} (rest : List ℕ) (id : ℕ)
       → more ≡ out ++ g.own id → left ≡ g.branches id ++ rest → Searching g target after more left
   met_now seen after {left = left} only s e f new listed goes =
       let here = subst (Searching g target seen out) e s in
-      let turned = search_turns g (not_true (seen id) f new) (notes seen after id only) here in
+      let turned = search_turns g (not-true (seen id) (sym f ∙ new)) (notes seen after id only) here in
       subst
       (λ o. Searching g target after o left)
       (sym listed)
@@ -115,11 +99,6 @@ none_in_turn (Some row) stack e h = absurd (cc)
 -- ---- a search from one row: its beginning and its end
 
 module _ (rows : List Row) (pass : Passing) (shallow : IsShallow rows) {stamps found : List ℕ} {now : ℕ} where
-  pub search_from : (row : ℕ) {stack : List ℕ} → IsSearched rows pass stamps now found → stack ≡ []
-      → Searching (graph_of rows pass shallow) (found ++ fresh found (closure rows pass row)) (is_met stamps now) found
-      (row ∷ reverse stack)
-  search_from row s none = grind (arith, common_steps, graph_of, append-nil)
-
   pub searched : {target : List ℕ} (hand : Option ℕ) (stack : List ℕ) → hand ≡ None → IfNone hand (stack ≡ [])
       → Searching (graph_of rows pass shallow) target (is_met stamps now) found (in_turn hand stack)
       → Every (λ q. q < id_count) found → length found + unmet stamps now ≤ length rows
@@ -156,18 +135,6 @@ pub itself_there : (rows : List Row) (shallow : IsShallow rows) (q : ℕ) (thin 
     → IsThin (row_of_thin at_q) (row_at rows q) → thin ≡ at_q → is_end thin ≡ true → ReachesItself rows q
 itself_there rows shallow q thin {at_q} thinned e ends pass = grind (arith, common_steps, closure_unfolds)
 
-fresh_nil : (seen : List ℕ) → fresh seen [] ≡ []
-unfolding fresh
-fresh_nil seen = refl
-
-fresh_new : (seen : List ℕ) (q : ℕ) → was seen q ≡ false → fresh seen (q ∷ []) ≡ q ∷ []
-unfolding fresh
-fresh_new seen q e = rw e refl
-
-fresh_old : (seen : List ℕ) (q : ℕ) → was seen q ≡ true → fresh seen (q ∷ []) ≡ []
-unfolding fresh
-fresh_old seen q e = rw e refl
-
 module _ (rows : List Row) (pass : Passing) {stamps more found : List ℕ} {now later : ℕ} (q : ℕ) where
   -- it was met before
   pub itself_again : {first : Bool} → ReachesItself rows q → first ≡ not (is_met stamps now q) → first ≡ false
@@ -175,8 +142,8 @@ module _ (rows : List Row) (pass : Passing) {stamps more found : List ℕ} {now 
       → IsSearched rows pass stamps now found
       → (found ≡ found ++ fresh found (closure rows pass q)) × IsSearched rows pass more later found
   itself_again alone f old only count s = (
-    sym (ap (λ l. found ++ fresh found l) (alone pass) ∙ ap (λ l. found ++ l) (fresh_old found q here)
-        ∙ append-nil found),
+    sym (ap (λ l. found ++ fresh found l) (alone pass)
+        ∙ ap (λ l. found ++ l) (fresh_old found [] q here ∙ fresh_nil found) ∙ append-nil found),
     record {
       met = λ x h. n.stays x (s.met x h);
       listed =
@@ -185,7 +152,7 @@ module _ (rows : List Row) (pass : Passing) {stamps more found : List ℕ} {now 
           (λ (e : is_met stamps now p ≡ true). s.listed p e)
           (n.only p h);
       ids = s.ids;
-      room = omega (arith, count, s.room);
+      room = omega arith;
     },
   )
     where
@@ -193,7 +160,7 @@ module _ (rows : List Row) (pass : Passing) {stamps more found : List ℕ} {now 
       n = notes (is_met stamps now) (is_met more later) q only
 
       was_met : is_met stamps now q ≡ true
-      was_met = not_false (is_met stamps now q) f old
+      was_met = not-false (is_met stamps now q) (sym f ∙ old)
 
       here : In found q
       here = s.listed q was_met q (subst (λ l. In l q) (sym (alone pass)) (in_here q []))
@@ -218,7 +185,8 @@ module _ (rows : List Row) (pass : Passing) {stamps more found : List ℕ} {now 
         notes,
         was,
         not_in,
-        not_true,
+        not-true,
+        fresh_nil,
       )
 
 -- ---- the rows that are given, one after the other
@@ -230,17 +198,13 @@ past_end rows pass shallow q h = grind (arith, common_steps, slice_get_past, clo
 pub begun : (rows : List Row) (pass : Passing) (shallow : IsShallow rows) (stamps : List ℕ) {out : List ℕ} (now : ℕ)
     → length stamps ≡ length rows → out ≡ [] → ((x : ℕ) → x < length stamps → is_met stamps now x ≡ false)
     → IsSearched rows pass stamps now out
-begun rows pass shallow stamps now len none new = grind (arith, common_steps, in_nil, past_end, unmet_within, cases_lt)
+begun rows pass shallow stamps now len none new = grind (arith, common_steps, past_end, unmet_within)
 
 -- what is new in two lists is new in the first, and then in the second
 fresh_parts : (out xs ys : List ℕ)
     → out ++ fresh out (xs ++ ys) ≡ (out ++ fresh out xs) ++ fresh (out ++ fresh out xs) ys
 fresh_parts out xs ys =
-    ap
-    (λ l. out ++ l)
-    (fresh_append out xs ys
-    ∙ ap (λ l. fresh out xs ++ l) (fresh_alike (xs ++ out) (out ++ fresh out xs) ys same))
-    ∙ sym (append_assoc out (fresh out xs) (fresh (out ++ fresh out xs) ys))
+    grind (arith, common_steps, fresh_append, fresh_alike, same)
   where
     to : (x : ℕ) → In (xs ++ out) x → In (out ++ fresh out xs) x
     to x h =
@@ -272,10 +236,10 @@ module _ (rows : List Row) (pass : Passing) (found : List ℕ) {target : List �
   pub next_given : (q : ℕ) {more : List ℕ} → i < length from → q ≡ get_or from i q
       → more ≡ found ++ fresh found (closure rows pass q)
       → Leaves rows pass found (drop i from) target → Leaves rows pass more (drop (i + 1) from) target
-  next_given q {more} h is e s = grind (arith, common_steps, drop_more, fresh_parts)
+  next_given q {more} h is e s = grind (arith, common_steps, fresh_parts)
 
   pub all_given : length from ≤ i → Leaves rows pass found (drop i from) target → found ≡ target
-  all_given h s = grind (arith, common_steps, fresh_nil, append-nil, drop_of_length-le)
+  all_given h s = grind (arith, common_steps, fresh_nil)
 
 -- what two lists add, one after the other, is what both reach
 pub both_given : (rows : List Row) (pass : Passing) {out more found : List ℕ} (xs ys : List ℕ) → out ≡ []

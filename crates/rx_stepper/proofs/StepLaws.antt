@@ -1,19 +1,12 @@
 -- Steps of a state: how its groups are gone through, and what its columns lead to.
-use Rattle.std.proofs.lemmas.Grind.{common_steps}
-use Rattle.std.proofs.Common.{◌≡◌, ◌≢◌, ℕ, ◌+◌, ◌<◌, ◌≤◌, ◌==◌, Bool, true, false, if◌then◌else◌, List, [], ◌∷◌, ◌++◌}
-use Rattle.std.proofs.Common.{length, refl, ap, ap₂, sym, ◌∙◌, arith, append-nil}
-use Rattle.std.specs.Prelude.{slice_index, slice_index_or}
-use Rattle.std.specs.List.{flat_map, list_any}
-use Rattle.std.proofs.lemmas.Bool.{cases_lt, eq-eqb, ne_eqb}
-use Rattle.rx_spec.specs.Causes.{id_count}
-use Rattle.rx_spec.specs.Contexts.{Facts, no_facts}
-use Rattle.rx_spec.specs.Nfas.{Nfa}
-use Rattle.rx_spec.specs.Rows.{Row}
-use Rattle.rx_spec.specs.States.{State, Passing, Standing, Tested, row_at, cut, to_first_match, fresh, decided_rows}
-use Rattle.rx_spec.specs.States.{holds_before, is_look_row, is_match_row, target, step}
+use Rattle.rx_spec.proofs.Prelude.{common_steps, ◌≡◌, ◌≢◌, ℕ, ◌+◌, ◌<◌, ◌≤◌, ◌==◌, Bool, true, false, if◌then◌else◌}
+use Rattle.rx_spec.proofs.Prelude.{List, [], ◌∷◌, ◌++◌, length, refl, ap, ap₂, sym, ◌∙◌, arith, append-nil, slice_index}
+use Rattle.rx_spec.proofs.Prelude.{slice_index_or, flat_map, ne_eqb, id_count, Facts, Nfa, Row, Passing, Standing}
+use Rattle.rx_spec.proofs.Prelude.{Tested, row_at, cut, to_first_match, fresh, decided_rows, holds_before, is_match_row}
+use Rattle.rx_spec.proofs.Prelude.{target, step}
 use Rattle.rx_spec.specs.declared.MatchKind.{MatchKind}
 use Rattle.rx_base.specs.FactBits.{facts_with}
-use Rattle.lemmas_walks.proofs.Every.{flat_map-append_of, flat_map-flat_map}
+use Rattle.lemmas_walks.proofs.Every.{flat_map-flat_map}
 use Rattle.rx_powerset.specs.Closures.{closed_rows}
 use Rattle.rx_powerset.proofs.StateBounds.{first_few}
 use Rattle.rx_stepper.specs.Columns.{list_at, only_if, asked_of, AreGroups, AreUsed}
@@ -33,16 +26,11 @@ pub record Done (s : Stand) (units groups : List ℕ) (i : ℕ) (targets matches
   pub left : (column : ℕ) → column < length units → i ≤ slice_index groups column → list_at targets column ≡ []
   pub matches_left : (place : ℕ) → i ≤ place → list_at matches place ≡ []
 
-pub done_none : {s : Stand} {units groups : List ℕ} {targets matches : List (List ℕ)} → AreEmpty targets
-    → AreEmpty matches
-    → Done s units groups 0 targets matches
-done_none t l = grind (arith, common_steps)
-
 -- a group that has no column
 pub done_passed : {s : Stand} {units groups : List ℕ} {i : ℕ} {targets matches : List (List ℕ)} (used : List Bool)
     → length groups ≡ length units → AreUsed groups used → slice_index_or used i false ≡ false
     → Done s units groups i targets matches → Done s units groups (i + 1) targets matches
-done_passed {units = units} {groups} {i} used len are unused d = grind (arith, common_steps, cases_lt)
+done_passed {units = units} {groups} {i} used len are unused d = grind (arith, common_steps)
 
 flat_nothing : (xs : List ℕ) → flat_map {A = ℕ} (λ (q : ℕ). []) xs ≡ []
 flat_nothing [] = refl
@@ -79,10 +67,10 @@ module _ {s : Stand} {units groups : List ℕ} {i : ℕ} {targets matches target
 
   here : (column : ℕ) → column < length units → slice_index groups column ≡ i
       → IsStep s (slice_index units column) (list_at targets' column) (list_at matches' (slice_index groups column))
-  here column h e = grind (arith, common_steps, eq-eqb)
+  here column h e = grind (arith, common_steps)
 
   pub done_more : Done s units groups (i + 1) targets' matches'
-  done_more = grind (arith, common_steps, stays, here, cases_lt, unchanged)
+  done_more = grind (arith, common_steps, stays, here, unchanged)
 
 -- the facts of a group decide for its columns
 pub group_goes : (s : Stand) (units groups : List ℕ) (i : ℕ) {last : Facts} {from : List ℕ}
@@ -120,7 +108,7 @@ pub plain_steps : (s : Stand) (units groups : List ℕ) (used : List Bool) (targ
     → list_at targets column ≡ flat_map (λ q. target (slice_index units column) (row_at s.nfa.rows q)) going')
     → AreSteps s units groups targets matches
 plain_steps s units groups used targets matches {going'} e plain len are few ms ts column h =
-    grind (arith, common_steps, here)
+    grind (arith, common_steps)
 
 -- no more rows match than there are
 pub few_told : (kind : MatchKind) (rows : List Row) (qs : List ℕ)
@@ -140,7 +128,7 @@ fresh_nil = refl
 
 pub dead_steps : (s : Stand) (units groups : List ℕ) (targets matches : List (List ℕ)) → s.state.rows ≡ []
     → AreEmpty targets → AreEmpty matches → AreSteps s units groups targets matches
-dead_steps s units groups targets matches none t l column h = grind (arith, common_steps, fresh_nil, cut_nil, here)
+dead_steps s units groups targets matches none t l column h = grind (arith, common_steps, fresh_nil, cut_nil)
 
 -- ---- a step, from what its column needs
 
@@ -149,13 +137,6 @@ pub record Leads (s : Stand) (unit : ℕ) (from label : List ℕ) : Type 0 where
   pub reaches : closed_rows s.nfa.rows Standing from
       ≡ closed_rows s.nfa.rows Standing (flat_map (λ q. target unit (row_at s.nfa.rows q)) (going s unit))
   pub label_is : label ≡ patterns_of s.nfa.rows (going s unit)
-
-abbrev state_of_rows : Nfa → List ℕ → Facts → List ℕ → State
-state_of_rows nfa rows asked label = record {
-  rows = rows;
-  context = if list_any (λ q. is_look_row (row_at nfa.rows q)) rows then asked else no_facts;
-  label = label;
-}
 
 pub step_made : (s : Stand) (unit : ℕ) {from label : List ℕ} → Leads s unit from label
     → step s.nfa s.kind s.state unit ≡ made s.nfa from (asked_of s.nfa unit) label
@@ -204,13 +185,4 @@ module _ (s : Stand) (unit : ℕ) (own lead : List ℕ) (rows_are : s.state.rows
       → IsStep (by lead) unit others told → goes_on s.kind matches ≡ true
       → Leads s unit (targets ++ others) (patterns_of s.nfa.rows (matches ++ without matches told))
   leads_led {targets} {matches} {others} {told} mine theirs h =
-      grind (
-        arith,
-        common_steps,
-        going_led,
-        flat_map-flat_map,
-        led_gives,
-        flat_map-append_of,
-        patterns_matches,
-        patterns_without,
-      )
+      grind (arith, common_steps, going_led, flat_map-flat_map, led_gives, patterns_matches, patterns_without)

@@ -1,15 +1,9 @@
 -- The parts of a stepper: leads before any was found, when one is found, and the dead state.
-use Rattle.std.proofs.lemmas.Grind.{common_steps}
-use Rattle.std.proofs.Common.{◌≡◌, ℕ, zero, suc, ◌^◌, ◌<◌, ◌≤◌, ◌⊎◌, inl, inr, Bool, true, false, if◌then◌else◌, List}
-use Rattle.std.proofs.Common.{[], ◌∷◌, ◌++◌, length, map, set, Option, None, Some, refl, ap, sym, ◌∙◌, subst, arith}
-use Rattle.std.proofs.Common.{length-append, append-nil, length-set, ⊎_elim}
-use Rattle.std.specs.Borrow.{Bor}
-use Rattle.std.specs.Prelude.{All, slice_get, slice_index, unwrap_or}
-use Rattle.std.specs.Option.{option_copied, option_map_or}
-use Rattle.rx_spec.specs.Causes.{id_count}
-use Rattle.rx_spec.specs.Contexts.{Facts}
-use Rattle.rx_spec.specs.Rows.{Row}
-use Rattle.rx_spec.specs.States.{pattern_of, row_at}
+use Rattle.rx_spec.proofs.Prelude.{common_steps, ◌≡◌, ℕ, zero, suc, ◌^◌, ◌<◌, ◌≤◌, ◌⊎◌, inl, inr, Bool, true, false}
+use Rattle.rx_spec.proofs.Prelude.{if◌then◌else◌, List, [], ◌∷◌, ◌++◌, length, map, set, Option, None, Some, refl, ap}
+use Rattle.rx_spec.proofs.Prelude.{sym, ◌∙◌, subst, arith, length-append, append-nil, length-set, ⊎_elim, Bor, All}
+use Rattle.rx_spec.proofs.Prelude.{slice_get, slice_index, unwrap_or, option_copied, option_map_or, id_count, Facts}
+use Rattle.rx_spec.proofs.Prelude.{Row, pattern_of, row_at}
 use Rattle.lemmas_walks.proofs.Firsts.{by_test}
 use Rattle.rx_base.specs.FactBits.{bits_of, facts_with}
 use Rattle.rx_powerset.proofs.StateBounds.{pattern_few}
@@ -27,11 +21,7 @@ use Rattle.rx_stepper.specs.declared.steps.Steps.{Steps}
 use Rattle.rx_stepper.proofs.Members.{was}
 use Rattle.rx_stepper.proofs.StepLaws.{Leads, dead_steps, going_alone, leads_alone, leads_led}
 use Rattle.rx_stepper.proofs.Without.{without_nil, without_new, without_old}
-
-pub all_at : {X : Type 0} (P : X → Type 0) (xs : List X) (i : ℕ) {x : X} → All P xs → slice_get xs i ≡ Some x → P x
-all_at P [] i h e = absurd (cc)
-all_at P (y ∷ ys) zero {x} h e = let same : y ≡ x = cc in subst P same (h zero x (omega arith))
-all_at P (y ∷ ys) (suc i) {x} h e = all_at P ys i (λ k d lt. h (suc k) d (omega arith)) e
+use Rattle.lemmas_walks.proofs.ReadUnits.{All-got}
 
 pub no_leads : (t : Table) (lead_in : LeadIn) (leads : List LeadSteps) → IsLeadIn t.nfa lead_in → length leads ≡ 32
     → All (λ l. length l.steps.targets.items ≡ length (units_of t.classes)) leads
@@ -39,10 +29,10 @@ pub no_leads : (t : Table) (lead_in : LeadIn) (leads : List LeadSteps) → IsLea
 no_leads t lead_in leads is len columns none = record {
   is = is;
   len = len;
-  columns = λ context l e. all_at (λ s. length s.steps.targets.items ≡ length (units_of t.classes)) leads context
+  columns = λ context l e. All-got (λ s. length s.steps.targets.items ≡ length (units_of t.classes)) leads context l
       columns e;
   steps = λ context l e found.
-      let unfound = all_at (λ s. s.are_found ≡ false) leads context none e in
+      let unfound = All-got (λ s. s.are_found ≡ false) leads context l none e in
       absurd (cc);
 }
 
@@ -255,7 +245,7 @@ module _ (t : Table) {lead_in : LeadIn} {leads : List LeadSteps} {current : Curr
   }
 
   alone : led_of key ≡ false → Gathers s unit (targets_in current.steps column) (patterns_of t.nfa.rows mine)
-  alone e = grind (arith, common_steps, by_own, lead_rows)
+  alone e = grind (arith, common_steps, by_own)
 
   led_is : (b : Bool) → led_of key ≡ b
       → current.led_in ≡ (if b then Some (bits_of (facts_with (slice_index key 0))) else None)
@@ -286,7 +276,6 @@ module _ (t : Table) {lead_in : LeadIn} {leads : List LeadSteps} {current : Curr
           length-append mine (without mine (matches_in b group)),
           few_without mine (matches_in b group),
           few_mine,
-          theirs.few,
         );
       })
       (λ e. absurd (let clash = sym (led_is false e) ∙ f.led_in in cc))

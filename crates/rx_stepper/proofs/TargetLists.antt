@@ -1,13 +1,7 @@
 -- Lists of targets that are added to at the places of some columns.
-use Rattle.std.proofs.lemmas.Grind.{common_steps}
-use Rattle.std.proofs.Common.{◌≡◌, ℕ, ◌+◌, ◌<◌, ◌==◌, Bool, true, false, List, [], ◌∷◌, ◌++◌, length, map, get_or, set}
-use Rattle.std.proofs.Common.{take, refl, ap, ap₂, sym, ◌∙◌, arith, append_assoc, append-nil}
-use Rattle.std.specs.Prelude.{filter, cond}
-use Rattle.std.specs.List.{flat_map}
-use Rattle.std.proofs.lemmas.Bool.{eqb-true, eqb-false}
-use Rattle.std.proofs.lemmas.List.{take_more, get_or-set_same, get_or-set_other, get_or-map, length-map, map-set}
-use Rattle.std.proofs.lemmas.List.Elements.{filter-append}
-use Rattle.lemmas_walks.proofs.Every.{flat_map-append_of}
+use Rattle.rx_spec.proofs.Prelude.{common_steps, ◌≡◌, ℕ, ◌+◌, ◌<◌, ◌==◌, Bool, true, false, List, [], ◌∷◌, ◌++◌, length}
+use Rattle.rx_spec.proofs.Prelude.{map, get_or, set, take, refl, ap, ap₂, sym, ◌∙◌, arith, append_assoc, append-nil}
+use Rattle.rx_spec.proofs.Prelude.{filter, cond, eqb-true, map-set}
 use Rattle.lemmas_walks.proofs.Firsts.{by_test}
 use Rattle.rx_stepper.specs.Columns.{led_by, list_at, only_if}
 
@@ -15,14 +9,11 @@ use Rattle.rx_stepper.specs.Columns.{led_by, list_at, only_if}
 
 module _ {X : Type 0} (f : X → List ℕ) (vs : List X) (v : ℕ) (x y : X) (next : ℕ) (lt : v < length vs)
     (e : f y ≡ f (get_or vs v x) ++ next ∷ []) where
-  at_place : list_at (map f (set vs v y)) v ≡ list_at (map f vs) v ++ next ∷ []
-  at_place = grind (arith, common_steps, length-map, map-set, get_or-set_same, get_or-map)
-
   -- one list has one more
   pub pushed_one : (column : ℕ) → list_at (map f (set vs v y)) column
       ≡ list_at (map f vs) column ++ only_if (column == v) (next ∷ [])
   pushed_one column =
-      grind (arith, common_steps, by_test, eqb-true, at_place, eqb-false, map-set, get_or-set_other, append-nil)
+      grind (arith, common_steps, by_test, eqb-true, map-set)
 
 -- ---- a turn of the loop over columns
 
@@ -30,7 +21,7 @@ module _ (next : ℕ) (p : ℕ → Bool) (columns : List ℕ) (i d : ℕ) (lt : 
   led_next : (column : ℕ) (b : Bool) → p (get_or columns i d) ≡ b
       → led_by next (filter p (take (i + 1) columns)) column
       ≡ led_by next (filter p (take i columns)) column ++ led_by next (only_if b (get_or columns i d ∷ [])) column
-  led_next column b t = grind (arith, common_steps, take_more, filter-append, flat_map-append_of)
+  led_next column b t = grind (arith, common_steps)
 
   module _ {X : Type 0} (f : X → List ℕ) (first vs : List X)
       (so_far : (column : ℕ) → list_at (map f vs) column
@@ -59,7 +50,7 @@ module _ (next : ℕ) (p : ℕ → Bool) (columns : List ℕ) (i d : ℕ) (lt : 
 
 -- ---- all columns of a row
 
-only_nothing : (b : Bool) → only_if b [] ≡ []
+pub only_nothing : (b : Bool) → only_if b [] ≡ []
 only_nothing true = refl
 only_nothing false = refl
 
@@ -79,21 +70,8 @@ led_filtered next p (c ∷ cs) column =
     ∙ led_filtered next p cs column ∙ passed t)
   where
     here : p c ≡ true → only_if (column == c) (next ∷ []) ≡ only_if (p column) (only_if (column == c) (next ∷ []))
-    here t =
-        by_test (column == c)
-        (λ e. let same : p column ≡ true = ap p (eqb-true column c e) ∙ t in rw same refl)
-        (λ e. rw e (sym (only_nothing (p column))))
+    here t = grind (arith, common_steps)
 
     passed : p c ≡ false → only_if (p column) (led_by next cs column)
         ≡ only_if (p column) (only_if (column == c) (next ∷ []) ++ led_by next cs column)
-    passed t =
-        by_test (column == c)
-        (λ e. let same : p column ≡ false = ap p (eqb-true column c e) ∙ t in rw same refl)
-        (λ e. rw e refl)
-
--- a row more
-pub row_added : (leads : ℕ → List ℕ) (rows : List ℕ) (i d : ℕ) (first : List ℕ) {before after more : List ℕ}
-    → i < length rows → before ≡ first ++ flat_map leads (take i rows) → after ≡ before ++ more
-    → more ≡ leads (get_or rows i d) → after ≡ first ++ flat_map leads (take (i + 1) rows)
-row_added leads rows i d first {before} {after} {more} lt so_far e is =
-    grind (arith, common_steps, append_assoc, append-nil, take_more, flat_map-append_of)
+    passed t = grind (arith, common_steps)

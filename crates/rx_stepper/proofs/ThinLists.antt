@@ -1,13 +1,7 @@
 -- Lists of thin rows that grow at the end.
-use Rattle.std.proofs.lemmas.Grind.{common_steps}
-use Rattle.std.proofs.Common.{◌≡◌, ℕ, zero, suc, ◌+◌, ◌<◌, ◌≤◌, List, [], ◌∷◌, ◌++◌, length, get_or, refl, ap, sym, ◌∙◌}
-use Rattle.std.proofs.Common.{subst, arith, ⊎_elim, true, false, nat_lt}
-use Rattle.std.proofs.lemmas.Bool.{cases_lt, ltb-true}
-use Rattle.std.proofs.lemmas.Option.{slice_get_past}
-use Rattle.std.specs.Prelude.{map, unwrap_or}
-use Rattle.std.specs.List.{list_any}
-use Rattle.rx_spec.specs.Rows.{Row}
-use Rattle.rx_spec.specs.States.{row_at, is_look_row}
+use Rattle.rx_spec.proofs.Prelude.{common_steps, ◌≡◌, ℕ, zero, suc, ◌+◌, ◌<◌, ◌≤◌, List, [], ◌∷◌, ◌++◌, length, get_or}
+use Rattle.rx_spec.proofs.Prelude.{refl, ap, sym, ◌∙◌, subst, arith, ⊎_elim, true, false, nat_lt, cases_lt}
+use Rattle.rx_spec.proofs.Prelude.{slice_get_past, map, list_any, Row, row_at, is_look_row}
 use Rattle.rx_expr.specs.Nfa.{row_of}
 use Rattle.rx_expr.specs.declared.thompson.nfa.Row as code
 use Rattle.rx_stepper.specs.ThinRows.{row_of_thin, thin_at, IsThin, AreThin}
@@ -22,7 +16,7 @@ thin_there (x ∷ xs) (suc q) lt e = thin_there xs q (omega arith) e
 -- a thin row that was looked up
 pub thin_found : (thin : List ThinRow) {looked : List ThinRow} {i q : ℕ} {row : ThinRow} → looked ≡ thin → i ≡ q
     → true ≡ nat_lt i (length looked) → row ≡ get_or looked i row → row ≡ thin_at thin q
-thin_found thin {looked} {i} {q} {row} same e lt is = grind (arith, common_steps, thin_there, ltb-true)
+thin_found thin {looked} {i} {q} {row} same e lt is = grind (arith, common_steps, thin_there)
 
 thin_before : (xs : List ThinRow) (y : ThinRow) (q : ℕ) → q < length xs → thin_at xs q ≡ thin_at (xs ++ y ∷ []) q
 thin_before [] y q lt = absurd (omega arith)
@@ -65,16 +59,10 @@ thin_push thin rows {more} {n} new len e is each q h =
     (subst (λ r. IsThin (row_of_thin r) (row_at rows n)) (sym here) is))
     (cases_lt q n))
 
-thin_past : (thin : List ThinRow) (q : ℕ) → length thin ≤ q → thin_at thin q ≡ ThinRow.Fail
-thin_past thin q h = ap (λ o. unwrap_or o ThinRow.Fail) (slice_get_past thin q h)
-
-fail_thin : IsThin Row.Fail Row.Fail
-fail_thin = grind (arith, common_steps)
-
 -- all rows are thin, and past the end there are none
 pub thin_all : (thin : List ThinRow) (rows : List Row) → length thin ≡ length rows
     → ((q : ℕ) → q < length rows → IsThin (row_of_thin (thin_at thin q)) (row_at rows q)) → AreThin thin rows
-thin_all thin rows len each q = grind (arith, common_steps, slice_get_past, thin_past, fail_thin, cases_lt)
+thin_all thin rows len each q = grind (arith, common_steps, slice_get_past)
 
 -- ---- assertions
 

@@ -1,37 +1,24 @@
 -- There are as many units as columns.
-use Rattle.std.proofs.lemmas.Grind.{common_steps}
-use Rattle.std.proofs.Common.{◌≡◌, ℕ, zero, suc, ◌+◌, ◌≤◌, ◌==◌, Bool, not, if◌then◌else◌, List, [], ◌∷◌, length, refl}
-use Rattle.std.proofs.Common.{ap, sym, ◌∙◌, arith, length-append}
-use Rattle.std.specs.Prelude.{slice_index}
-use Rattle.std.proofs.lemmas.Bool.{eqb-true, eqb-false}
-use Rattle.rx_spec.specs.Bytes.{eoi}
-use Rattle.rx_spec.specs.Classes.{class_by, representatives}
+use Rattle.rx_spec.proofs.Prelude.{common_steps, ◌≡◌, ℕ, zero, suc, ◌+◌, ◌≤◌, ◌==◌, not, if◌then◌else◌, List, [], ◌∷◌}
+use Rattle.rx_spec.proofs.Prelude.{length, ap, sym, ◌∙◌, arith, length-append, slice_index, eoi, class_by}
+use Rattle.rx_spec.proofs.Prelude.{representatives}
 use Rattle.rx_base.specs.ByteClasses.{AreClasses, ends_of, alphabet_len}
 use Rattle.rx_base.proofs.Classes.{class_by-le}
-use Rattle.lemmas_walks.proofs.Firsts.{by_test}
-use Rattle.lemmas_tables.proofs.ClassNumbers.{representatives_counted}
+use Rattle.lemmas_tables.proofs.ClassNumbers.{class_suc, class_zero, representatives_counted}
 use Rattle.rx_stepper.specs.Units.{units_of}
 
-class_next : (ends : ℕ → Bool) (b : ℕ) → class_by ends (suc b) ≡ class_by ends b + (if ends b then 1 else 0)
-unfolding class_by
-class_next ends b = refl
-
-class_first : (ends : ℕ → Bool) → class_by ends 0 ≡ 0
-unfolding class_by
-class_first ends = refl
-
 risen : (a b : ℕ) → a ≤ b → b ≤ a + 1 → a + (if not (a == b) then 1 else 0) ≡ b
-risen a b low high = grind (arith, common_steps, by_test, eqb-true, eqb-false)
+risen a b low high = grind (arith, common_steps)
 
 -- each class is the number of those that end below
 class_number : (classes : List ℕ) → AreClasses classes → (b : ℕ) → b ≤ 255
     → class_by (ends_of classes) b ≡ slice_index classes b
-class_number classes are zero h = class_first (ends_of classes) ∙ sym are.first
+class_number classes are zero h = class_zero (ends_of classes) ∙ sym are.first
 class_number classes are (suc b) h =
     let one : b + 1 ≡ suc b = omega arith in
     let low = are.rises b (omega arith) in
     let high = are.by_one b (omega arith) in
-    class_next (ends_of classes) b
+    class_suc (ends_of classes) b
     ∙ ap (λ n. n + (if ends_of classes b then 1 else 0)) (class_number classes are b (omega arith))
     ∙ risen (slice_index classes b) (slice_index classes (b + 1)) low high
     ∙ ap (slice_index classes) one
@@ -40,7 +27,7 @@ pub units_counted : (classes : List ℕ) → AreClasses classes → length (unit
 units_counted classes are =
     let ends = ends_of classes in
     let last = class_number classes are 255 (omega arith) in
-    omega (arith, length-append (representatives ends) (eoi ∷ []), representatives_counted ends, last)
+    omega (arith, length-append (representatives ends) (eoi ∷ []), representatives_counted ends)
 
 pub units_few : (classes : List ℕ) → length (units_of classes) ≤ 257
 units_few classes =

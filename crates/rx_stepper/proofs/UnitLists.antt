@@ -1,7 +1,5 @@
 -- The units of columns, as they are listed one after another.
-use Rattle.std.proofs.Common.{arith, ◌≡◌, ℕ, List, [], ◌∷◌, ◌++◌, map, append_assoc}
-use Rattle.std.proofs.lemmas.Grind.{common_steps}
-use Rattle.std.proofs.lemmas.List.{map-append}
+use Rattle.rx_spec.proofs.Prelude.{arith, ◌≡◌, ℕ, List, [], ◌∷◌, ◌++◌, map, common_steps}
 use Rattle.rx_base.specs.Unit.{unit_number}
 use Rattle.rx_spec.specs.declared.Unit.{Unit}
 
@@ -9,4 +7,4 @@ use Rattle.rx_spec.specs.declared.Unit.{Unit}
 pub units_more : (units more : List Unit) (unit : Unit) (left rest : List ℕ) {all : List ℕ}
     → more ≡ units ++ unit ∷ [] → left ≡ unit_number unit ∷ rest → map unit_number units ++ left ≡ all
     → map unit_number more ++ rest ≡ all
-units_more units more unit left rest pushed first so_far = grind (arith, common_steps, map-append, append_assoc)
+units_more units more unit left rest pushed first so_far = grind (arith, common_steps)

@@ -1,19 +1,16 @@
 -- A list without the members of another, and first occurrences of joined lists.
-use Rattle.std.proofs.lemmas.Grind.{common_steps}
-use Rattle.std.proofs.Common.{◌≡◌, ℕ, ◌+◌, ◌==◌, Bool, true, false, List, [], ◌∷◌, ◌++◌, length, refl, ap, sym, ◌∙◌}
-use Rattle.std.proofs.Common.{subst, arith, append-nil, ⊎_elim, ◌||◌, sum_by}
-use Rattle.std.proofs.lemmas.Bool.{or_left, eqb-true, eqb-false, eq-eqb}
-use Rattle.std.proofs.lemmas.List.Sums.{sum_by-cons}
-use Rattle.std.specs.Cmp.{both_ways}
-use Rattle.std.specs.Prelude.{Contains}
-use Rattle.std.specs.List.{flat_map}
-use Rattle.rx_spec.specs.States.{fresh, firsts}
+use Rattle.rx_spec.proofs.Prelude.{common_steps, ◌≡◌, ℕ, ◌+◌, ◌==◌, Bool, true, false, List, [], ◌∷◌, ◌++◌, length}
+use Rattle.rx_spec.proofs.Prelude.{refl, ap, sym, ◌∙◌, subst, arith, append-nil, ⊎_elim, ◌||◌, sum_by, or_left}
+use Rattle.rx_spec.proofs.Prelude.{eqb-true, eqb-false, eq-eqb, sum_by-cons, both_ways, Contains, flat_map, fresh}
+use Rattle.rx_spec.proofs.Prelude.{firsts}
 use Rattle.lemmas_walks.proofs.Every.{flat_map-append_of}
 use Rattle.lemmas_walks.proofs.Firsts.{by_test, fresh_append, fresh_alike, fresh_within, fresh_keeps, Apart}
-use Rattle.lemmas_walks.proofs.Firsts.{Contains-here, Contains-nil, Contains-there, seen_true, seen_if}
+use Rattle.lemmas_walks.proofs.Firsts.{Contains-here, Contains-nil, Contains-there, seen_true, seen_if, fresh_new}
+use Rattle.lemmas_walks.proofs.Firsts.{fresh_nil, fresh_old}
 use Rattle.rx_base.specs.FactBits.{bit}
 use Rattle.rx_stepper.specs.Leads.{without, led}
-use Rattle.rx_stepper.proofs.Members.{In, in_cases, in_nil, was, in_here, in_there, in_left, in_right, in_split, not_in}
+use Rattle.rx_stepper.proofs.Members.{In, in_cases, in_nil, was, in_here, in_there, in_left, in_right, not_in}
+use Rattle.rx_powerset.proofs.Search.{fresh_skips}
 
 -- ---- its equations
 
@@ -29,18 +26,6 @@ pub without_new : (seen xs : List ℕ) (y : ℕ) → was seen y ≡ false → wi
 unfolding without
 without_new seen xs y e = rw e refl
 
-fresh_end : (seen : List ℕ) → fresh seen [] ≡ []
-unfolding fresh
-fresh_end seen = refl
-
-fresh_old : (seen xs : List ℕ) (y : ℕ) → In seen y → fresh seen (y ∷ xs) ≡ fresh seen xs
-unfolding fresh
-fresh_old seen xs y e = rw e refl
-
-fresh_new : (seen xs : List ℕ) (y : ℕ) → was seen y ≡ false → fresh seen (y ∷ xs) ≡ y ∷ fresh (y ∷ seen) xs
-unfolding fresh
-fresh_new seen xs y e = rw e refl
-
 -- what is left out counts by membership alone
 pub without_alike : (seen others xs : List ℕ) → ((x : ℕ) → was seen x ≡ was others x)
     → without seen xs ≡ without others xs
@@ -53,7 +38,7 @@ without_alike seen others (y ∷ ys) same =
     ∙ sym (without_new others ys y (sym (same y) ∙ e)))
 
 out_both : (xs ys : List ℕ) (x : ℕ) → was xs x ≡ false → was ys x ≡ false → was (xs ++ ys) x ≡ false
-out_both xs ys x e f = grind (arith, common_steps, not_in, in_split)
+out_both xs ys x e f = grind (arith, common_steps)
 
 pub without_append : (a b xs : List ℕ) → without (a ++ b) xs ≡ without b (without a xs)
 without_append a b [] = without_nil (a ++ b) ∙ sym (ap (without b) (without_nil a) ∙ without_nil b)
@@ -123,11 +108,11 @@ without_keeps seen (y ∷ ys) x i new =
 -- ---- first occurrences
 
 seen_again : (y : ℕ) (seen : List ℕ) → In seen y → (x : ℕ) → was seen x ≡ was (y ∷ seen) x
-seen_again y seen e x = grind (arith, common_steps, was, in_there, in_cases)
+seen_again y seen e x = grind (arith, common_steps)
 
 -- where more was seen
 fresh_without : (a seen xs : List ℕ) → fresh (a ++ seen) xs ≡ without seen (fresh a xs)
-fresh_without a seen [] = fresh_end (a ++ seen) ∙ sym (ap (without seen) (fresh_end a) ∙ without_nil seen)
+fresh_without a seen [] = fresh_nil (a ++ seen) ∙ sym (ap (without seen) (fresh_nil a) ∙ without_nil seen)
 fresh_without a seen (y ∷ ys) =
     by_test (was a y)
     (λ e. fresh_old (a ++ seen) ys y (in_left a seen y e) ∙ fresh_without a seen ys
@@ -168,31 +153,24 @@ fresh_left out seen (y ∷ ys) h =
     ∙ sym (fresh_new out ys y o)))
 
 firsts_led : (own lead : List ℕ) → firsts (led own lead) ≡ firsts (own ++ lead)
-firsts_led own lead = grind (arith, common_steps, fresh_append, append-nil, fresh_left)
-
-fresh_passes : (seen xs ys : List ℕ) → ((x : ℕ) → In xs x → In seen x) → fresh seen (xs ++ ys) ≡ fresh seen ys
-fresh_passes seen [] ys h = refl
-fresh_passes seen (x ∷ xs) ys h =
-    fresh_old seen (xs ++ ys) x (h x (in_here x xs)) ∙ fresh_passes seen xs ys (λ y i. h y (in_there x y xs i))
+firsts_led own lead = grind (arith, common_steps, fresh_append, fresh_left)
 
 module _ (g : ℕ → List ℕ) where
   -- what a row gives counts where it is met first
   fresh_gives : (out seen xs : List ℕ) → ((x : ℕ) → In seen x → (z : ℕ) → In (g x) z → In out z)
       → fresh out (flat_map g (fresh seen xs)) ≡ fresh out (flat_map g xs)
-  fresh_gives out seen [] h = ap (λ (l : List ℕ). fresh out (flat_map g l)) (fresh_end seen)
+  fresh_gives out seen [] h = ap (λ (l : List ℕ). fresh out (flat_map g l)) (fresh_nil seen)
   fresh_gives out seen (y ∷ ys) h =
       by_test (was seen y)
       (λ e. ap (λ (l : List ℕ). fresh out (flat_map g l)) (fresh_old seen ys y e) ∙ fresh_gives out seen ys h
-      ∙ sym (fresh_passes out (g y) (flat_map g ys) (h y e)))
+      ∙ sym (fresh_skips out (g y) (flat_map g ys) (h y e)))
       (λ e. ap (λ (l : List ℕ). fresh out (flat_map g l)) (fresh_new seen ys y e)
       ∙ fresh_append out (g y) (flat_map g (fresh (y ∷ seen) ys))
       ∙ ap (λ (l : List ℕ). fresh out (g y) ++ l) (fresh_gives (g y ++ out) (y ∷ seen) ys (more y))
       ∙ sym (fresh_append out (g y) (flat_map g ys)))
     where
       more : (y x : ℕ) → In (y ∷ seen) x → (z : ℕ) → In (g x) z → In (g y ++ out) z
-      more y x i z k =
-          ⊎_elim (λ (s : x ≡ y). in_left (g y) out z (subst (λ v. In (g v) z) s k))
-          (λ (o : In seen x). in_right (g y) out z (h x o z k)) (in_cases y x seen i)
+      more y x i z k = grind (arith, common_steps)
 
   -- What is closed a second time adds nothing.
   pub firsts_of_firsts : (xs : List ℕ) → firsts (flat_map g (firsts xs)) ≡ firsts (flat_map g xs)
@@ -243,12 +221,11 @@ without_one x (y ∷ ys) a =
     z_is x y z same j = ⊎_elim (λ (s : z ≡ x). s ∙ same) (λ (o : In [] z). absurd (in_nil z o)) (in_cases x z [] j)
 
     apart : (x y : ℕ) → (x ≡ y → ⊥) → In (x ∷ []) y → ⊥
-    apart x y other i =
-        ⊎_elim (λ (s : y ≡ x). other (sym s)) (λ (o : In [] y). in_nil y o) (in_cases x y [] i)
+    apart x y other i = grind (arith, common_steps)
 
 pub length_without : (own lead : List ℕ) → Apart own → Apart lead
     → length (without own lead) + sum_by (λ x. bit (was lead x)) own ≡ length lead
-length_without [] lead a b = grind (arith, common_steps, without_none, in_nil)
+length_without [] lead a b = grind (arith, common_steps, without_none)
 length_without (x ∷ own) lead a b =
     let less = without (x ∷ []) lead in
     let counted : sum_by (λ y. bit (was less y)) own ≡ sum_by (λ y. bit (was lead y)) own =
@@ -263,10 +240,7 @@ length_without (x ∷ own) lead a b =
     )
   where
     one : (y : ℕ) → (y ≡ x → ⊥) → was (without (x ∷ []) lead) y ≡ was lead y
-    one y other =
-        both_ways (was (without (x ∷ []) lead) y) (was lead y) (without_within (x ∷ []) lead y)
-        (λ i. without_keeps (x ∷ []) lead y i (not_in (x ∷ []) y (λ j.
-        ⊎_elim (λ (s : y ≡ x). other s) (λ (o : In [] y). in_nil y o) (in_cases x y [] j))))
+    one y other = grind (arith, common_steps, was, without_within, without_keeps)
 
     counts : (ys : List ℕ) → (Contains ys x → ⊥)
         → sum_by (λ y. bit (was (without (x ∷ []) lead) y)) ys ≡ sum_by (λ y. bit (was lead y)) ys

@@ -1,10 +1,7 @@
 -- Rows as they are written: the own ones are the least, and there is one way.
-use Rattle.std.proofs.lemmas.Grind.{common_steps}
-use Rattle.std.proofs.Common.{◌≡◌, ℕ, ◌<◌, true, false, if◌then◌else◌, List, [], ◌∷◌, ◌++◌, length, refl, ap, ap₂, sym}
-use Rattle.std.proofs.Common.{◌∙◌, subst, arith, append-nil, append_assoc, ⊎_elim}
-use Rattle.std.proofs.lemmas.Bool.{false_from_ne_true}
-use Rattle.std.proofs.lemmas.Slice.Eq.{bytes_eq-Decides}
-use Rattle.std.specs.Str.{bytes_eq}
+use Rattle.rx_spec.proofs.Prelude.{common_steps, ◌≡◌, ℕ, ◌<◌, true, false, if◌then◌else◌, List, [], ◌∷◌, ◌++◌, length}
+use Rattle.rx_spec.proofs.Prelude.{refl, ap, ap₂, sym, ◌∙◌, subst, arith, append_assoc, ⊎_elim, false_from_ne_true}
+use Rattle.rx_spec.proofs.Prelude.{bytes_eq-Decides, bytes_eq}
 use Rattle.lemmas_walks.proofs.Firsts.{Apart, by_test, seen_true}
 use Rattle.rx_stepper.specs.Leads.{without, led, written_as, rows_by, split_by, written, IsLeast}
 use Rattle.rx_stepper.proofs.Members.{In, in_cases, in_nil, was, in_here, in_left, in_right, not_in, apart_last}
@@ -26,7 +23,7 @@ split_more lead front rest x = refl
 -- what follows is what the lead-in adds
 pub split_here : (lead front rows : List ℕ) → without front lead ≡ rows
     → split_by lead front rows ≡ written_as true front
-split_here lead front [] e = grind (arith, common_steps, split_end, bytes_eq-Decides)
+split_here lead front [] e = grind (arith, common_steps, split_end)
 split_here lead front (x ∷ rest) e = grind (arith, common_steps, split_more, bytes_eq-Decides)
 
 pub split_later : (lead front rest : List ℕ) (x : ℕ) → bytes_eq (without front lead) (x ∷ rest) ≡ false
@@ -42,7 +39,7 @@ split_nowhere lead front e = split_end lead front ∙ ap (λ b. written_as b fro
 pub split_spells : (lead front rows : List ℕ)
     → rows_by lead (split_by lead front rows).is_led (split_by lead front rows).own ≡ front ++ rows
 split_spells lead front [] =
-    grind (arith, common_steps, by_test, bytes_eq-Decides, split_here, split_nowhere, append-nil)
+    grind (arith, common_steps, by_test, bytes_eq-Decides, split_here, split_nowhere)
 split_spells lead front (x ∷ rest) =
     by_test (bytes_eq (without front lead) (x ∷ rest))
     (λ e. let same = (bytes_eq-Decides (without front lead) (x ∷ rest)).0 e in
@@ -60,11 +57,11 @@ written_spells (x ∷ lead) rows = split_spells (x ∷ lead) [] rows
 apart_from : (lead front rows : List ℕ) (q : ℕ) → In lead q → was (front ++ rows) q ≡ false
     → bytes_eq (without front lead) rows ≡ false
 apart_from lead front rows q i new =
-    grind (arith, common_steps, false_from_ne_true, bytes_eq-Decides, without_keeps, not_in, was, in_right, in_left)
+    grind (arith, common_steps, false_from_ne_true, bytes_eq-Decides, without_keeps)
 
 pub split_missing : (lead front rows : List ℕ) (q : ℕ) → In lead q → was (front ++ rows) q ≡ false
     → split_by lead front rows ≡ written_as false (front ++ rows)
-split_missing lead front [] q i new = grind (arith, common_steps, split_nowhere, apart_from, append-nil)
+split_missing lead front [] q i new = grind (arith, common_steps, split_nowhere, apart_from)
 split_missing lead front (x ∷ rest) q i new =
     split_later lead front rest x (apart_from lead front (x ∷ rest) q i new)
     ∙ split_missing lead (front ++ x ∷ []) rest q i
@@ -95,16 +92,10 @@ last_left lead p front x {q} e a w =
     (without_none front (without q lead) behind)
   where
     here : (y : ℕ) → In (x ∷ []) y → In front y → ⊥
-    here y i f =
-        ⊎_elim
-        (λ (s : y ≡ x). apart_last (p ++ front) x (subst Apart e a) (in_right p front x (subst (In front) s f)))
-        (λ (o : In [] y). in_nil y o)
-        (in_cases x y [] i)
+    here y i f = grind (arith, common_steps, apart_last)
 
     behind : (y : ℕ) → In (without q lead) y → In front y → ⊥
-    behind y i f =
-        without_out q lead y i
-        (subst (λ l. In l y) (sym e) (in_left (p ++ front) (x ∷ []) y (in_right p front y f)))
+    behind y i f = grind (arith, common_steps, without_out)
 
 no_shorter : (lead p ys : List ℕ) (y : ℕ) {q : List ℕ} → q ≡ p ++ y ∷ ys → Apart q → IsLeast lead q
     → without p lead ≡ (y ∷ ys) ++ without q lead → ⊥
@@ -112,12 +103,11 @@ no_shorter lead p ys y {q} e a least w =
     let t = ends y ys in
     let whole : q ≡ (p ++ t.0) ++ t.1 ∷ [] =
     e ∙ ap (λ (l : List ℕ). p ++ l) t.2 ∙ sym (append_assoc p t.0 (t.1 ∷ [])) in
-    least.least (p ++ t.0) t.1 whole
-    (last_left lead p t.0 t.1 whole a (w ∙ ap (λ (l : List ℕ). l ++ without q lead) t.2))
+    grind (arith, common_steps, last_left)
 
 pub split_least : (lead front rest own : List ℕ) → own ≡ front ++ rest → Apart own → IsLeast lead own
     → split_by lead front (rest ++ without own lead) ≡ written_as true own
-split_least lead front [] own e a least = grind (arith, common_steps, append-nil, split_here)
+split_least lead front [] own e a least = grind (arith, common_steps, split_here)
 split_least lead front (x ∷ rest) own e a least =
     by_test (bytes_eq (without front lead) ((x ∷ rest) ++ without own lead))
     (λ b. absurd (no_shorter lead front rest x e a least
@@ -134,7 +124,7 @@ written_least (x ∷ lead) own h a least = split_least (x ∷ lead) [] own own r
 
 pub dropped : (lead front : List ℕ) (x : ℕ) → without front lead ≡ x ∷ without (front ++ x ∷ []) lead
     → led front lead ≡ led (front ++ x ∷ []) lead
-dropped lead front x e = grind (arith, common_steps, append_assoc)
+dropped lead front x e = grind (arith, common_steps)
 
 -- that is so where all that stands before it in the lead-in's rows stands in front of it
 pub comes_again : (front before behind : List ℕ) (x : ℕ) → Apart (front ++ x ∷ []) → Apart (before ++ x ∷ behind)
@@ -154,11 +144,7 @@ comes_again front before behind x a b h =
   where
     other : (before : List ℕ) → Apart (before ++ x ∷ behind) → (y : ℕ) → In (without front behind) y → In (x ∷ []) y
         → ⊥
-    other [] b y i s =
-        ⊎_elim
-        (λ (e : y ≡ x). b.0 (seen_true x behind (subst (In behind) e (without_within front behind y i))))
-        (λ (o : In [] y). in_nil y o)
-        (in_cases x y [] s)
+    other [] b y i s = grind (arith, common_steps, seen_true, without_within)
     other (z ∷ zs) b y i s = other zs b.1 y i s
 
 -- and only there

@@ -1,14 +1,7 @@
 -- A text cut into pieces.
-use Rattle.std.proofs.Common.{arith, ◌≡◌, ℕ, ◌<◌, Some, None, List, [], ◌∷◌, ◌++◌, drop, refl, ap, sym, ◌∙◌}
-use Rattle.std.proofs.lemmas.Grind.{common_steps}
-use Rattle.std.proofs.Math.Seq.{drop-length}
-use Rattle.std.proofs.lemmas.List.{append-nil}
-use Rattle.std.proofs.lemmas.List.Elements.{All-append, All-head, All-tail, All-nil}
-use Rattle.std.specs.Prelude.{All}
-use Rattle.std.specs.List.{concat}
-use Rattle.rx_spec.specs.Bytes.{AreBytes}
-use Rattle.rx_spec.specs.Overlapping.{Item, Ending}
-use Rattle.rx_spec.specs.Tables.{Table}
+use Rattle.rx_spec.proofs.Prelude.{arith, ◌≡◌, ℕ, ◌<◌, Some, None, List, [], ◌∷◌, ◌++◌, drop, refl, ap, sym, ◌∙◌}
+use Rattle.rx_spec.proofs.Prelude.{common_steps, drop-length, append-nil, All-append, All-head, All-tail, All-nil, All}
+use Rattle.rx_spec.proofs.Prelude.{concat, AreBytes, Item, Ending, Table}
 use Rattle.rx_stream.specs.Remaining.{events, ending_events, told_over, units_to, remaining, now}
 use Rattle.rx_stream.specs.Calls.{IsFed}
 use Rattle.rx_stream.specs.Cuttings.{Feeds, Finishes, CutTellsWhole, CutTellsNow, QuitIsLast, QuitTellsNoMore}

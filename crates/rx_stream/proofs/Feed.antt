@@ -1,15 +1,7 @@
 -- What a call of `feed` tells and leaves.
-use Rattle.std.proofs.lemmas.Grind.{common_steps}
-use Rattle.std.proofs.Common.{◌≡◌, ℕ, ◌+◌, ◌-◌, ◌≤◌, true, Some, None, Option, List, [], ◌∷◌, ◌++◌, length, drop, refl}
-use Rattle.std.proofs.Common.{ap, sym, ◌∙◌, subst, arith}
-use Rattle.std.proofs.Math.Seq.{drop-length}
-use Rattle.std.proofs.lemmas.List.{append-nil, append_assoc}
-use Rattle.std.specs.Prelude.{slice_index}
-use Rattle.rx_spec.specs.Bytes.{eoi, AreBytes}
-use Rattle.rx_spec.specs.Ids.{row_of}
-use Rattle.rx_spec.specs.Machines.{IsWord}
-use Rattle.rx_spec.specs.Queries.{HalfMatch}
-use Rattle.rx_spec.specs.Tables.{Table}
+use Rattle.rx_spec.proofs.Prelude.{common_steps, ◌≡◌, ℕ, ◌+◌, ◌-◌, ◌≤◌, true, Some, None, Option, List, [], ◌∷◌, ◌++◌}
+use Rattle.rx_spec.proofs.Prelude.{length, drop, refl, ap, sym, ◌∙◌, subst, arith, drop-length, append-nil}
+use Rattle.rx_spec.proofs.Prelude.{append_assoc, slice_index, eoi, AreBytes, row_of, IsWord, HalfMatch, Table}
 use Rattle.lemmas_walks.proofs.Words.{IsWord-nil}
 use Rattle.rx_search.specs.Labels.{patterns_of}
 use Rattle.rx_search.proofs.Standing.{Standing}
@@ -20,15 +12,15 @@ use Rattle.rx_stream.specs.declared.event.Fed.{Fed}
 use Rattle.rx_stream.specs.declared.event.StreamEvent.{StreamEvent}
 use Rattle.rx_stream.specs.declared.place.Place.{Place}
 use Rattle.rx_stream.specs.declared.place.Stage.{Stage}
-use Rattle.rx_stream.proofs.Remaining.{IsRead, bytes_word, reads_pattern, reads_match, reads_quit, reads_all}
+use Rattle.rx_stream.proofs.Remaining.{IsRead, reads_pattern, reads_match, reads_quit, reads_all}
+use Rattle.lemmas_walks.proofs.ReadUnits.{bytes_word}
 
 pub ended_word : (bytes : List ℕ) → AreBytes bytes → IsWord (bytes ++ (eoi ∷ []))
 ended_word bytes are = grind (arith, common_steps, bytes_word)
 
 pub open_stage : (s : Stage) → is_open s ≡ true → s ≡ Stage.Open
 open_stage Stage.Open e = refl
-open_stage Stage.Closed e = absurd (cc)
-open_stage Stage.Ended e = absurd (cc)
+open_stage _ e = absurd (cc)
 
 -- how far a call has come
 pub record Advances (old new : Place) (piece : List ℕ) (from : ℕ) (fed : Fed) : Type 0 where

@@ -1,11 +1,7 @@
 -- What a call of `finish` tells and leaves.
-use Rattle.std.proofs.Common.{arith, ◌≡◌, ℕ, ◌+◌, true, false, Some, None, List, [], ◌∷◌, refl, ap, sym, ◌∙◌, subst}
-use Rattle.std.proofs.lemmas.Grind.{common_steps}
-use Rattle.rx_spec.specs.Bytes.{eoi}
-use Rattle.rx_spec.specs.Ids.{row_of}
-use Rattle.rx_spec.specs.Queries.{HalfMatch}
-use Rattle.rx_spec.specs.Overlapping.{Ending, none_left, pattern_items, with_items}
-use Rattle.rx_spec.specs.Tables.{Table, is_match}
+use Rattle.rx_spec.proofs.Prelude.{arith, ◌≡◌, ℕ, ◌+◌, true, false, Some, None, List, [], ◌∷◌, refl, ap, sym, ◌∙◌}
+use Rattle.rx_spec.proofs.Prelude.{subst, common_steps, eoi, row_of, HalfMatch, Ending, none_left, pattern_items}
+use Rattle.rx_spec.proofs.Prelude.{with_items, Table, is_match}
 use Rattle.rx_spec.specs.declared.Direction.{Direction}
 use Rattle.lemmas_walks.proofs.Firsts.{by_test}
 use Rattle.lemmas_walks.proofs.Overlapping.{overlapping-nil}
@@ -25,24 +21,20 @@ use Rattle.rx_stream.proofs.Remaining.{none_pending, pattern_told}
 -- ---- stages
 
 ended_not_open : (s : Stage) → is_ended s ≡ true → is_open s ≡ false
-ended_not_open Stage.Open e = absurd (cc)
-ended_not_open Stage.Closed e = absurd (cc)
 ended_not_open Stage.Ended e = refl
+ended_not_open _ e = absurd (cc)
 
 same_units : (s : Stage) → units_to (closed s) [] ≡ units_to s []
 same_units Stage.Open = refl
-same_units Stage.Closed = refl
-same_units Stage.Ended = refl
+same_units _ = refl
 
 no_unit : (s : Stage) → is_ended (closed s) ≡ true → units_to s [] ≡ []
-no_unit Stage.Open e = absurd (cc)
-no_unit Stage.Closed e = absurd (cc)
 no_unit Stage.Ended e = refl
+no_unit _ e = absurd (cc)
 
 end_mark : (s : Stage) → is_ended (closed s) ≡ false → units_to s [] ≡ eoi ∷ []
-end_mark Stage.Open e = refl
-end_mark Stage.Closed e = refl
 end_mark Stage.Ended e = absurd (cc)
+end_mark _ e = refl
 
 -- ---- a place where no more pieces come, and the one to which the end mark leads
 

@@ -1,10 +1,7 @@
 -- The first event, and a half search that stops at the first match.
-use Rattle.std.proofs.Common.{arith, ◌≡◌, ℕ, ◌+◌, ◌<◌, true, if◌then◌else◌, None, Ok, List, [], ◌∷◌, refl, ap, sym, ◌∙◌}
-use Rattle.std.proofs.lemmas.Grind.{common_steps}
-use Rattle.rx_spec.specs.Machines.{Label, IsWord}
-use Rattle.rx_spec.specs.HalfSearches.{at_label, last_match, walk, units_of}
-use Rattle.rx_spec.specs.Overlapping.{Ending, none_left, at_item_label, overlapping_walk}
-use Rattle.rx_spec.specs.Tables.{Table, IsTable}
+use Rattle.rx_spec.proofs.Prelude.{arith, ◌≡◌, ℕ, ◌+◌, ◌<◌, true, if◌then◌else◌, None, Ok, List, [], ◌∷◌, refl, ap, sym}
+use Rattle.rx_spec.proofs.Prelude.{◌∙◌, common_steps, Label, IsWord, at_label, last_match, walk, units_of, Ending}
+use Rattle.rx_spec.proofs.Prelude.{none_left, at_item_label, overlapping_walk, Table, IsTable}
 use Rattle.rx_spec.specs.declared.Direction.{Direction}
 use Rattle.rx_spec.specs.declared.Start.{Start}
 use Rattle.lemmas_walks.proofs.Firsts.{by_test}
@@ -12,7 +9,7 @@ use Rattle.lemmas_walks.proofs.HalfSearches.{half_walks}
 use Rattle.lemmas_walks.proofs.Walking.{walk-nil, walk-cons}
 use Rattle.lemmas_walks.proofs.Overlapping.{overlapping-nil, overlapping-cons, overlapping_walks}
 use Rattle.lemmas_walks.proofs.Words.{IsWord-head, IsWord-tail}
-use Rattle.lemmas_tables.proofs.Tables.{units_below}
+use Rattle.lemmas_walks.proofs.ReadUnits.{units_word}
 use Rattle.rx_stream.specs.Remaining.{events, whole}
 use Rattle.rx_stream.specs.Cuttings.{first_answer, FirstIsEarliest}
 use Rattle.rx_stream.proofs.New.{not_done}
@@ -44,11 +41,10 @@ first_walk {t} is row offset (unit ∷ units) below w =
         ≡ first_answer (events (at_item_label (t.machine.label next) Direction.Forward unit offset
         (if t.machine.is_dead next then none_left Ending.Ended
         else overlapping_walk t.machine Direction.Forward next (offset + 1) units)))
-    by_label Label.Quits e later = rw e refl
     by_label (Label.Matches []) e later = absurd (is.lists next next_below e)
-    by_label (Label.Matches (k ∷ ks)) e later = rw e refl
     by_label Label.Plain e later =
         by_test (t.machine.is_dead next) (λ d. rw (e, d) refl) (λ d. rw (e, d) later)
+    by_label _ e later = rw e refl
 
 pub first_is_earliest : FirstIsEarliest
 first_is_earliest t mode bytes is are supported =
@@ -56,6 +52,6 @@ first_is_earliest t mode bytes is are supported =
     let row = t.machine.entry mode Start.Text in
     half_walks t.machine t.settings Direction.Forward q (not_done bytes mode) supported
     ∙ first_walk is row 0 (units_of Direction.Forward (whole bytes mode)) (is.entries mode Start.Text)
-    (units_below Direction.Forward (whole bytes mode) are)
+    (units_word Direction.Forward (whole bytes mode) are)
     ∙ sym (ap (λ m. first_answer (events m))
     (overlapping_walks t.machine t.settings Direction.Forward (whole bytes mode) (not_done bytes mode) supported))

@@ -1,15 +1,9 @@
 -- What is told before the end is a front of what is told, and from dead nothing is told.
-use Rattle.std.proofs.Common.{arith, ◌≡◌, ℕ, ◌+◌, Bool, true, false, if◌then◌else◌, List, [], ◌∷◌, ◌++◌, refl, ap, sym}
-use Rattle.std.proofs.Common.{◌∙◌, subst}
-use Rattle.std.proofs.lemmas.Grind.{common_steps, flat_map-append}
-use Rattle.std.proofs.lemmas.List.{append-nil, append_assoc}
-use Rattle.std.specs.List.{flat_map}
-use Rattle.rx_spec.specs.Bytes.{eoi}
-use Rattle.rx_spec.specs.Ids.{row_of}
-use Rattle.rx_spec.specs.Machines.{Label, IsWord}
-use Rattle.rx_spec.specs.Overlapping.{Item, Ending, OverlappingMatches, none_left, at_item_label, label_items}
-use Rattle.rx_spec.specs.Overlapping.{pattern_items, with_items}
-use Rattle.rx_spec.specs.Tables.{Table}
+use Rattle.rx_spec.proofs.Prelude.{arith, ◌≡◌, ℕ, ◌+◌, Bool, true, false, if◌then◌else◌, List, [], ◌∷◌, ◌++◌, refl, ap}
+use Rattle.rx_spec.proofs.Prelude.{sym, ◌∙◌, subst, common_steps, flat_map-append, append-nil, append_assoc, flat_map}
+use Rattle.rx_spec.proofs.Prelude.{eoi, row_of, Label, IsWord, Item, Ending, OverlappingMatches, none_left}
+use Rattle.rx_spec.proofs.Prelude.{at_item_label, pattern_items, with_items, Table}
+use Rattle.rx_spec.specs.Overlapping.{label_items}
 use Rattle.rx_spec.specs.declared.Direction.{Direction}
 use Rattle.lemmas_walks.proofs.Overlapping.{overlapping-nil, overlapping-cons, overlapping_silent}
 use Rattle.lemmas_walks.proofs.SilentRows.{zero_is_silent}
@@ -84,9 +78,8 @@ now_is_front t ids place bytes = by_stage place.stage
 
     by_stage : (stage : Stage)
         → IsFront (now_at stage t ids place bytes) (events (told_over t ids place (units_to stage bytes)))
-    by_stage Stage.Open = front (eoi ∷ [])
-    by_stage Stage.Closed = front (eoi ∷ [])
     by_stage Stage.Ended = (events (told_over t ids place []), refl)
+    by_stage _ = front (eoi ∷ [])
 
 pub dead_tells_nothing : DeadTellsNothing
 dead_tells_nothing t ids place bytes is dead are = ap events (all (units_to place.stage bytes) (word place.stage))
@@ -97,9 +90,8 @@ dead_tells_nothing t ids place bytes is dead are = ap events (all (units_to plac
         (ap (patterns_of t) dead ∙ ap (λ (l : Label). label_patterns l) is.dead_label)
 
     word : (stage : Stage) → IsWord (units_to stage bytes)
-    word Stage.Open = ended_word bytes are
-    word Stage.Closed = ended_word bytes are
     word Stage.Ended = IsWord-nil
+    word _ = ended_word bytes are
 
     all : (units : List ℕ) → IsWord units → told_over t ids place units ≡ none_left Ending.Ended
     all units w =

@@ -1,14 +1,7 @@
 -- What a new searcher tells of a whole text.
-use Rattle.std.proofs.lemmas.Grind.{common_steps}
-use Rattle.std.proofs.Common.{◌≡◌, ℕ, ◌-◌, false, List, [], ◌∷◌, ◌++◌, refl, ap, sym, ◌∙◌, arith}
-use Rattle.std.proofs.Math.Seq.{take-length}
-use Rattle.std.proofs.lemmas.Bool.{false_from_ne_true, ltb-true}
-use Rattle.std.proofs.lemmas.Option.{slice_get_past}
-use Rattle.rx_spec.specs.Bytes.{eoi}
-use Rattle.rx_spec.specs.Ids.{row_of}
-use Rattle.rx_spec.specs.Queries.{Anchored, is_done}
-use Rattle.rx_spec.specs.HalfSearches.{units_of}
-use Rattle.rx_spec.specs.Tables.{Table}
+use Rattle.rx_spec.proofs.Prelude.{common_steps, ◌≡◌, ℕ, ◌-◌, false, List, [], ◌∷◌, ◌++◌, refl, ap, sym, ◌∙◌, arith}
+use Rattle.rx_spec.proofs.Prelude.{take-length, false_from_ne_true, ltb-true, slice_get_past, eoi, row_of, Anchored}
+use Rattle.rx_spec.proofs.Prelude.{is_done, units_of, Table}
 use Rattle.rx_spec.specs.declared.Direction.{Direction}
 use Rattle.lemmas_walks.proofs.Overlapping.{overlapping_walks}
 use Rattle.rx_search.specs.Labels.{label_patterns}

@@ -1,16 +1,9 @@
 -- Walks over a piece of a text, whatever follows it.
-use Rattle.std.proofs.lemmas.Grind.{common_steps}
-use Rattle.std.proofs.Common.{◌≡◌, ℕ, suc, zero, ◌+◌, ◌-◌, ◌<◌, ◌≤◌, ◌==◌, Bool, true, false, if◌then◌else◌, Some, None}
-use Rattle.std.proofs.Common.{List, ◌∷◌, ◌++◌, length, take, drop, refl, ap, sym, ◌∙◌, subst, arith, length-drop}
-use Rattle.std.proofs.Math.Seq.{drop-length, take-length}
-use Rattle.std.proofs.lemmas.Bool.{false_from_ne_true, eqb-true}
-use Rattle.std.proofs.lemmas.List.{get_or-drop}
-use Rattle.std.specs.Prelude.{slice_index}
-use Rattle.rx_spec.specs.Bytes.{AreBytes}
-use Rattle.rx_spec.specs.Ids.{row_of}
-use Rattle.rx_spec.specs.Machines.{Label, IsWord}
-use Rattle.rx_spec.specs.Overlapping.{OverlappingMatches, Ending, none_left, at_item_label}
-use Rattle.rx_spec.specs.Tables.{Table, is_match}
+use Rattle.rx_spec.proofs.Prelude.{common_steps, ◌≡◌, ℕ, suc, zero, ◌+◌, ◌-◌, ◌<◌, ◌≤◌, ◌==◌, Bool, true, false}
+use Rattle.rx_spec.proofs.Prelude.{if◌then◌else◌, Some, None, List, ◌∷◌, ◌++◌, length, drop, refl, ap, sym, ◌∙◌, subst}
+use Rattle.rx_spec.proofs.Prelude.{arith, length-drop, drop-length, false_from_ne_true, eqb-true, get_or-drop}
+use Rattle.rx_spec.proofs.Prelude.{slice_index, AreBytes, row_of, Label, IsWord, OverlappingMatches, Ending, none_left}
+use Rattle.rx_spec.proofs.Prelude.{at_item_label, Table, is_match}
 use Rattle.rx_spec.specs.declared.Direction.{Direction}
 use Rattle.lemmas_walks.proofs.Overlapping.{overlapping-cons, overlapping_on, overlapping_silent}
 use Rattle.lemmas_walks.proofs.SilentRows.{zero_is_silent}
@@ -191,10 +184,6 @@ module _ {t : Table} {row from here at : ℕ} {piece : List ℕ} (ids : List ℕ
   walk_passes_by bytes by skip =
       walk_skips bytes turn.standing by.no_match
       (walk_goes_on walk h turn (quiet turn.standing by.no_match by.no_quit by.alive)) skip
-
--- the rest of a piece, as a slice of it is known
-pub rest_of_piece : (piece : List ℕ) (from : ℕ) → take (length piece - from) (drop from piece) ≡ drop from piece
-rest_of_piece piece from = grind (arith, common_steps, length-drop, take-length)
 
 -- a byte of it that is no needle may be skipped
 unread : (t : Table) (row : ℕ) (piece : List ℕ) {needles : List ℕ} {from : ℕ} → needles ≡ t.needles row

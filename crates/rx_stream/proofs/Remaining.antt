@@ -1,16 +1,8 @@
 -- What remains to be told over any units, and what a piece makes of it.
-use Rattle.std.proofs.lemmas.Grind.{common_steps}
-use Rattle.std.proofs.Common.{◌≡◌, ℕ, ◌+◌, ◌-◌, ◌<◌, ◌≤◌, Some, None, List, [], ◌∷◌, ◌++◌, length, drop, ap, sym, ◌∙◌}
-use Rattle.std.proofs.Common.{arith}
+use Rattle.rx_spec.proofs.Prelude.{common_steps, ◌≡◌, ℕ, ◌+◌, ◌-◌, ◌<◌, ◌≤◌, Some, None, List, [], ◌∷◌, ◌++◌, length}
+use Rattle.rx_spec.proofs.Prelude.{drop, ap, sym, ◌∙◌, arith, All-drop, slice_index, AreBytes, row_of, IsWord}
+use Rattle.rx_spec.proofs.Prelude.{HalfMatch, Ending, none_left, pattern_items, with_items, Table, is_match}
 use Rattle.std.proofs.Math.Seq.{drop-nil}
-use Rattle.std.proofs.lemmas.List.Elements.{All-contains, All-drop}
-use Rattle.std.specs.Prelude.{slice_index}
-use Rattle.rx_spec.specs.Bytes.{AreBytes}
-use Rattle.rx_spec.specs.Ids.{row_of}
-use Rattle.rx_spec.specs.Machines.{IsWord}
-use Rattle.rx_spec.specs.Queries.{HalfMatch}
-use Rattle.rx_spec.specs.Overlapping.{Ending, none_left, pattern_items, with_items}
-use Rattle.rx_spec.specs.Tables.{Table, is_match}
 use Rattle.rx_spec.specs.declared.Direction.{Direction}
 use Rattle.lemmas_walks.proofs.Firsts.{by_test}
 use Rattle.lemmas_walks.proofs.Overlapping.{overlapping-nil}
@@ -25,9 +17,7 @@ use Rattle.rx_stream.specs.Pieces.{walked, IsQuietWalk, MeetsMatch, MeetsQuit}
 use Rattle.rx_stream.specs.declared.event.Fed.{Fed}
 use Rattle.rx_stream.specs.declared.event.StreamEvent.{StreamEvent}
 use Rattle.rx_stream.specs.declared.place.Place.{Place}
-
-pub bytes_word : (bytes : List ℕ) → AreBytes bytes → IsWord bytes
-bytes_word bytes are unit c = let below = All-contains (λ b. b < 256) bytes unit are c in omega (arith, below)
+use Rattle.lemmas_walks.proofs.ReadUnits.{bytes_word}
 
 -- ---- patterns that are left
 

@@ -1,7 +1,6 @@
 -- One field more behind a text.
-use Rattle.std.proofs.Common.{◌≡◌, ℕ, ◌+◌, ◌-◌, ◌≤◌, List, [], ◌++◌, length, take, drop, append_assoc, arith}
-use Rattle.std.proofs.lemmas.List.{take_at, drop_at, drop-drop, length-append, length-drop, append-nil}
-use Rattle.std.proofs.lemmas.Grind.{common_steps}
+use Rattle.rx_spec.proofs.Prelude.{◌≡◌, ℕ, ◌+◌, ◌-◌, ◌≤◌, List, [], ◌++◌, length, take, drop, append_assoc, arith}
+use Rattle.rx_spec.proofs.Prelude.{take_at, drop_at, drop-drop, length-append, length-drop, append-nil, common_steps}
 use Rattle.rx_wire.specs.Fields.{Stands}
 
 -- a field of so many bytes was written at a place

@@ -1,12 +1,9 @@
 -- What was written is read back, in either order, whatever follows: numbers, ids and bytes.
-use Rattle.std.proofs.lemmas.Grind.{common_steps}
-use Rattle.std.proofs.Common.{◌≡◌, ℕ, ◌^◌, ◌<◌, ◌≤◌, true, List, length, refl, arith}
-use Rattle.std.specs.Int.{Width, w16, w32, w128, byte_len}
-use Rattle.std.proofs.lemmas.Bool.{le-ltb}
-use Rattle.std.proofs.lemmas.List.{take_at, drop_at, length-append}
+use Rattle.rx_spec.proofs.Prelude.{common_steps, ◌≡◌, ℕ, ◌^◌, ◌<◌, ◌≤◌, true, List, length, refl, arith, w16, w32, w128}
+use Rattle.rx_spec.proofs.Prelude.{le-ltb, take_at, drop_at, length-append, max_id}
+use Rattle.std.specs.Int.{Width, byte_len}
 use Rattle.std.proofs.lemmas.Nat.{from_le_bytes-to_le_bytes_2, from_be_bytes-to_be_bytes_2, from_le_bytes-to_le_bytes_4}
 use Rattle.std.proofs.lemmas.Nat.{from_be_bytes-to_be_bytes_4}
-use Rattle.rx_spec.specs.Causes.{max_id}
 use Rattle.rx_wire.specs.declared.order.Order.{Order}
 use Rattle.rx_wire.specs.Kinds.{Kind, Reads}
 use Rattle.rx_wire.specs.Fields.{bytes_at, field, id_at, number, number_at}
@@ -28,7 +25,7 @@ pub length-field_16 : (order : Order) (n : ℕ) → length (field order w16 n) �
 length-field_16 Order.Little n = refl
 length-field_16 Order.Big n = refl
 
-again16 : (order : Order) (n : ℕ) → n < 2 ^ 16 → number order w16 (field order w16 n) ≡ n
+pub again16 : (order : Order) (n : ℕ) → n < 2 ^ 16 → number order w16 (field order w16 n) ≡ n
 again16 Order.Little n h = from_le_bytes-to_le_bytes_2 n h
 again16 Order.Big n h = from_be_bytes-to_be_bytes_2 n h
 

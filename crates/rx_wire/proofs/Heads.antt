@@ -1,12 +1,8 @@
 -- What was written is read back: labels, the words that tell an order, and versions.
-use Rattle.std.proofs.Common.{◌≡◌, ℕ, zero, suc, ◌+◌, ◌^◌, ◌<◌, true, false, ltb, eqb, List, [], ◌∷◌, ◌++◌, length}
-use Rattle.std.proofs.Common.{take, replicate, refl, ap, ◌∙◌, append_assoc, arith}
-use Rattle.std.specs.List.{list_all, prefix_len}
-use Rattle.std.specs.Int.{w32}
-use Rattle.std.proofs.lemmas.Bool.{and_parts, le-ltb}
-use Rattle.std.proofs.lemmas.List.{take_at, drop_at, length-append, length-take}
-use Rattle.std.proofs.lemmas.Slice.Eq.{bytes_eq-Decides}
-use Rattle.std.proofs.lemmas.Grind.{common_steps}
+use Rattle.rx_spec.proofs.Prelude.{◌≡◌, ℕ, zero, suc, ◌+◌, ◌^◌, ◌<◌, true, false, ltb, eqb, List, [], ◌∷◌, ◌++◌, length}
+use Rattle.rx_spec.proofs.Prelude.{take, replicate, refl, ap, ◌∙◌, append_assoc, arith, list_all, prefix_len, w32}
+use Rattle.rx_spec.proofs.Prelude.{and_parts, le-ltb, take_at, drop_at, length-append, length-take, bytes_eq-Decides}
+use Rattle.rx_spec.proofs.Prelude.{common_steps}
 use Rattle.rx_wire.specs.declared.order.Order.{Order}
 use Rattle.rx_wire.specs.Kinds.{Reads}
 use Rattle.rx_wire.specs.Fields.{field}

@@ -2,6 +2,8 @@
 pub mod WideNumbers
 -- numbers, ids and bytes are read back
 pub mod Fields
+-- words one behind another
+pub mod Words
 -- labels and the words of order and version are read back
 pub mod Heads
 -- one field more behind a text

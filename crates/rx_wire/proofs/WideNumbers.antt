@@ -1,8 +1,8 @@
 -- Numbers of 16 bytes.
-use Rattle.std.proofs.Common.{◌≡◌, ℕ, zero, suc, ◌+◌, ◌*◌, ◌/◌, ◌%◌, ◌^◌, ◌<◌, refl, sym, ap, ◌∙◌, arith}
-use Rattle.std.specs.Int.{w128, byte_at, byte_worth, sum_through}
+use Rattle.rx_spec.proofs.Prelude.{◌≡◌, ℕ, zero, suc, ◌+◌, ◌*◌, ◌/◌, ◌%◌, ◌^◌, ◌<◌, refl, sym, ap, ◌∙◌, arith, w128}
+use Rattle.rx_spec.proofs.Prelude.{common_steps}
+use Rattle.std.specs.Int.{byte_at, byte_worth, sum_through}
 use Rattle.std.proofs.Math.Arith.{mod-mul}
-use Rattle.std.proofs.lemmas.Grind.{common_steps}
 use Rattle.rx_wire.specs.declared.order.Order.{Order}
 use Rattle.rx_wire.specs.Fields.{field, number}
 

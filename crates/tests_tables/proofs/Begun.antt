@@ -1,7 +1,6 @@
 -- The first table of a build, before its states are added.
-use Rattle.std.proofs.Common.{◌≡◌, ℕ, Bool, true, false, Some, None, length, refl, ap, sym, ◌∙◌}
-use Rattle.std.specs.Prelude.{if◌then◌else◌, is_some}
-use Rattle.rx_spec.specs.Nfas.{Nfa}
+use Rattle.rx_spec.proofs.Prelude.{◌≡◌, ℕ, Bool, true, false, Some, None, length, refl, ap, sym, ◌∙◌, if◌then◌else◌}
+use Rattle.rx_spec.proofs.Prelude.{is_some, Nfa}
 use Rattle.rx_dense.specs.Builder.{Beginning, initial}
 use Rattle.rx_dense.specs.Layouts.{Layout}
 use Rattle.rx_determinize.specs.Determinized.{IsBegun, Settings, classes_of}

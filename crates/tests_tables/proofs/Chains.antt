@@ -1,12 +1,8 @@
 -- The table of the tests of renaming: a change of its list of ids is the same change of its rows.
-use Rattle.std.proofs.Common.{◌≡◌, ℕ, ◌*◌, ◌/◌, ◌^◌, ◌<◌, ◌≤◌, List, [], ◌∷◌, length, get_or, map, refl, ap, ◌∙◌}
-use Rattle.std.proofs.Common.{subst, arith, lit<}
-use Rattle.std.specs.Prelude.{All}
-use Rattle.std.specs.List.{swap}
-use Rattle.std.proofs.lemmas.List.{get_or-map, length-map}
-use Rattle.std.proofs.lemmas.List.Elements.{All-cons, All-map, All-nil, All-weaker}
-use Rattle.std.proofs.lemmas.Nat.{pow_pos}
-use Rattle.std.proofs.Math.Nat.{mul-div_cancel, mul-le-mul, mul-mod_left, pow-le-pow_right}
+use Rattle.rx_spec.proofs.Prelude.{◌≡◌, ℕ, ◌*◌, ◌/◌, ◌^◌, ◌<◌, ◌≤◌, List, [], ◌∷◌, length, get_or, map, refl, ap, ◌∙◌}
+use Rattle.rx_spec.proofs.Prelude.{subst, arith, lit<, All, swap, get_or-map, length-map, All-cons, All-map, All-nil}
+use Rattle.rx_spec.proofs.Prelude.{All-weaker, pow_pos, mul-div_cancel, mul-mod_left, pow-le-pow_right}
+use Rattle.std.proofs.Math.Nat.{mul-le-mul}
 use Rattle.rx_order.specs.Transitions.{Transitions, AreRows, IsRowId, with_ids, with_swapped}
 use Rattle.tests_tables.specs.Chains.{chain_of}
 use Rattle.rx_order.proofs.ExchangedRows.{map-swap}
@@ -35,9 +31,6 @@ module _ (next starts : List ℕ) (s : ℕ) (h : AreRows (chain_of next starts s
       let row = subst (All (IsRowId (chain_of next starts s))) (get_or-map (λ id. id ∷ []) next k d [] low)
       (h.entries k [] here) in
       row_within next starts s (get_or next k d) (row 0 d (lit< tt))
-
-  pub starts_within : All (λ id. id / 2 ^ s < length next) starts
-  starts_within k d low = row_within next starts s (get_or starts k d) (h.starts k d low)
 
 -- a chain of at most 100 rows
 module _ (next starts : List ℕ) (s : ℕ) (small : s ≤ 9) (few : length next ≤ 100) where

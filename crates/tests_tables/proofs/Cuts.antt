@@ -1,8 +1,6 @@
 -- A last row that is added and removed again.
-use Rattle.std.proofs.Common.{◌≡◌, ℕ, ◌+◌, ◌*◌, ◌<◌, ◌++◌, ◌∙◌, length, slice_index, arith}
-use Rattle.std.specs.Prelude.{replicate}
-use Rattle.std.proofs.lemmas.List.{get_or-set_other, get_or_append_left}
-use Rattle.std.proofs.lemmas.Nat.{pow_pos}
+use Rattle.rx_spec.proofs.Prelude.{◌≡◌, ℕ, ◌+◌, ◌*◌, ◌<◌, ◌++◌, ◌∙◌, length, slice_index, arith, replicate}
+use Rattle.rx_spec.proofs.Prelude.{get_or-set_other, get_or_append_left, pow_pos}
 use Rattle.rx_dense.specs.Builder.{with_next, with_row}
 use Rattle.rx_dense.specs.Layouts.{Layout, AreRows, AreStarts, column, row_count, stride}
 use Rattle.rx_dense.proofs.Rows.{quotient}

@@ -1,12 +1,7 @@
 -- Pattern lists, one after another.
-use Rattle.std.proofs.lemmas.Grind.{common_steps}
-use Rattle.std.proofs.Common.{◌≡◌, ℕ, ◌*◌, ◌<◌, All, Vec, Global, Some, length, ap, arith}
+use Rattle.rx_spec.proofs.Prelude.{common_steps, ◌≡◌, ℕ, ◌*◌, ◌<◌, All, Vec, Global, Some, length, ap, arith, nat_cmp}
+use Rattle.rx_spec.proofs.Prelude.{Contains, eqb-true, pow_pos, row_fits, row_of}
 use Rattle.std.specs.BTreeMap.{Updates}
-use Rattle.std.specs.Ordering.{nat_cmp}
-use Rattle.std.specs.Prelude.{Contains}
-use Rattle.std.proofs.lemmas.Bool.{eqb-true}
-use Rattle.std.proofs.lemmas.Nat.{pow_pos, row_fits}
-use Rattle.rx_spec.specs.Ids.{row_of}
 use Rattle.rx_search.specs.Starts.{IsId}
 use Rattle.rx_dense.specs.Layouts.{Layout, IsRowId, ids_of, stride}
 use Rattle.rx_dense.proofs.Rows.{id-times}

@@ -1,8 +1,5 @@
 -- Tables that are built.
-use Rattle.std.proofs.Common.{◌≤◌, length, ap, ◌∙◌}
-use Rattle.std.specs.List.{concat}
-use Rattle.rx_spec.specs.Causes.{max_id}
-use Rattle.rx_spec.specs.Tables.{IsSound}
+use Rattle.rx_spec.proofs.Prelude.{◌≤◌, length, ap, ◌∙◌, concat, max_id, IsSound}
 use Rattle.rx_dense.specs.Layouts.{Layout, table_of}
 use Rattle.rx_order.specs.Ordering.{IsShuffled, Matches}
 use Rattle.rx_order.specs.RowOrder.{match_lists}

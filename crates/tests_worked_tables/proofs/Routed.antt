@@ -1,12 +1,7 @@
 -- Tables whose rows can be put in order.
-use Rattle.std.proofs.Common.{◌≡◌, ◌≢◌, ℕ, ◌+◌, ◌*◌, ◌/◌, ◌<◌, ◌≤◌, ◌==◌, Bool, if◌then◌else◌, List, length, map, ap}
-use Rattle.std.proofs.Common.{sym, ◌∙◌, subst, ⊎_elim, arith, slice_index}
-use Rattle.std.specs.List.{list_any}
-use Rattle.std.specs.Prelude.{Contains}
-use Rattle.std.proofs.Math.Nat.{zero-div}
-use Rattle.std.proofs.lemmas.Bool.{cases_lt, le-ltb, lt-ltb}
-use Rattle.std.proofs.lemmas.List.Elements.{Contains-get_or}
-use Rattle.rx_spec.specs.Queries.{Anchored}
+use Rattle.rx_spec.proofs.Prelude.{◌≡◌, ◌≢◌, ℕ, ◌+◌, ◌*◌, ◌/◌, ◌<◌, ◌≤◌, ◌==◌, Bool, if◌then◌else◌, List, length, map}
+use Rattle.rx_spec.proofs.Prelude.{ap, sym, ◌∙◌, subst, ⊎_elim, arith, slice_index, list_any, Contains, zero-div}
+use Rattle.rx_spec.proofs.Prelude.{cases_lt, le-ltb, lt-ltb, Contains-get_or, Anchored}
 use Rattle.rx_spec.specs.declared.Start.{Start}
 use Rattle.rx_dense.specs.Layouts.{Layout, AreStarts, context_number, machine_of, mode_place, stride}
 use Rattle.rx_dense.proofs.Rows.{quotient, start_is_row, start_within}

@@ -1,6 +1,5 @@
-use Rattle.std.proofs.Common.{◌≡◌, ◌∙◌, ◌+◌, ◌<◌, arith, None, Option, Some, ℕ, sym, subst}
-use Rattle.std.proofs.lemmas.List.{get_or_default}
-use Rattle.std.specs.Prelude.{MatchOption}
+use Rattle.rx_spec.proofs.Prelude.{◌≡◌, ◌∙◌, ◌+◌, ◌<◌, arith, None, Option, Some, ℕ, sym, subst, get_or_default}
+use Rattle.rx_spec.proofs.Prelude.{MatchOption}
 use Rattle.rx_seek.specs.Seeking.{IsFirstShown}
 use Rattle.rx_seek.proofs.Showing.{IsPart, first_shown, none_shown, not_some}
 use Rattle.rx_seek.proofs.place_in.Goals as goal

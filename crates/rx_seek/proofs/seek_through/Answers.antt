@@ -1,6 +1,5 @@
-use Rattle.std.proofs.Common.{◌≡◌, ◌≤◌, min, ℕ, ◌+◌, ◌-◌, ap, sym, ◌∙◌, subst, arith, drop, length, length-take}
-use Rattle.std.proofs.Common.{slice_index, take}
-use Rattle.std.proofs.lemmas.List.{get_or-take}
+use Rattle.rx_spec.proofs.Prelude.{◌≡◌, ◌≤◌, min, ℕ, ◌+◌, ◌-◌, ap, sym, ◌∙◌, subst, arith, drop, length, length-take}
+use Rattle.rx_spec.proofs.Prelude.{slice_index, take, get_or-take}
 use Rattle.rx_seek.proofs.Seeking.{IsUnderWay, found_next, none_read, read_len, read_more, shows_read}
 use Rattle.rx_seek.proofs.seek_through.Goals as goal
 

@@ -1,4 +1,4 @@
-use Rattle.std.proofs.Common.{◌≡◌, ◌≤◌, ◌+◌, ◌-◌, length}
+use Rattle.rx_spec.proofs.Prelude.{◌≡◌, ◌≤◌, ◌+◌, ◌-◌, length}
 use Rattle.rx_seek.proofs.Seeking.{IsUnderWay}
 use Rattle.rx_seek.proofs.seek_through.Given as goal
 

@@ -1,4 +1,4 @@
-use Rattle.std.proofs.Common.{arith}
+use Rattle.rx_spec.proofs.Prelude.{arith}
 use Rattle.rx_transfer.proofs.Transfers.{written_more}
 use Rattle.rx_transfer.proofs.write_text.Goals as goal
 

@@ -1,5 +1,4 @@
-use Rattle.std.proofs.Common.{◌-◌, ◌≤◌, length, take}
-use Rattle.std.specs.Io.KnownBytes.{Appends}
+use Rattle.rx_spec.proofs.Prelude.{◌-◌, ◌≤◌, length, take, Appends}
 use Rattle.rx_transfer.proofs.write_text.Given as goal
 
 abbrev pub invariant-writes : goal.invariant-writes

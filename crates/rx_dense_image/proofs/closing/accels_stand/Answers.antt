@@ -1,10 +1,9 @@
-use Rattle.std.proofs.Common.{◌≡◌, ℕ, ◌+◌, ◌*◌, ◌<◌, true, false, eqb, length, sym, subst, ◌∙◌, arith, rules}
-use Rattle.std.proofs.Common.{below_more}
-use Rattle.std.proofs.lemmas.Bool.{eq-eqb}
+use Rattle.rx_spec.proofs.Prelude.{◌≡◌, ℕ, ◌+◌, ◌*◌, ◌<◌, true, false, eqb, length, sym, subst, ◌∙◌, arith, rules}
+use Rattle.rx_spec.proofs.Prelude.{below_more, eq-eqb, and_from, and_right}
 use Rattle.rx_dense.specs.Parts.{layout_of}
 use Rattle.rx_dense.specs.Layouts.{IsRowId, stride}
 use Rattle.rx_dense_image.specs.Closing.{has_needles, range_len}
-use Rattle.rx_dense_image.proofs.EachBelow.{all_of, and_of, not_all, and_false}
+use Rattle.rx_dense_image.proofs.EachBelow.{all_of, not_all}
 use Rattle.rx_dense_image.proofs.AccelRows.{first_accel, last_accel, range_row}
 use Rattle.rx_dense_image.proofs.closing.accels_stand.Goals as goal
 
@@ -31,14 +30,14 @@ pub returns-then-not-has_needles : goal.returns-then-not-has_needles
 returns-then-not-has_needles c =
     let l = layout_of c.args.parts.now in
     let has : c.has_needles.result ≡ false = search rules in
-    sym (and_false (eqb (length l.accels) (range_len l l.special.min_accel l.special.max_accel)) _
+    sym (and_right (eqb (length l.accels) (range_len l l.special.min_accel l.special.max_accel)) _
     (not_all (length l.accels) (has_needles l) c.loop-i.i
     (subst (λ (n : ℕ). c.loop-i.i < n) c.len-len.ensures.value c.loop-i-test.true) (sym c.has_needles.ensures ∙ has)))
 
 pub returns : goal.returns
 returns c =
     let l = layout_of c.args.parts.now in
-    sym (and_of (eqb (length l.accels) (range_len l l.special.min_accel l.special.max_accel)) _
+    sym (and_from (eqb (length l.accels) (range_len l l.special.min_accel l.special.max_accel)) _
     (eq-eqb _ _ (sym c.len-len.ensures.value ∙ c.if-len-range_len.false ∙ c.range_len.ensures))
     (all_of (length l.accels) (has_needles l)
-    (λ k lt. c.loop-i.invariant k (omega (arith, lt, c.loop-i-test.false, c.len-len.ensures.value)))))
+    (λ k lt. c.loop-i.invariant k (omega arith))))

@@ -1,5 +1,4 @@
-use Rattle.std.proofs.lemmas.Grind.{common_steps}
-use Rattle.std.proofs.Common.{◌≡◌, ℕ, ◌+◌, true, false, sym, subst, arith}
+use Rattle.rx_spec.proofs.Prelude.{common_steps, ◌≡◌, ℕ, ◌+◌, true, false, sym, subst, arith}
 use Rattle.rx_dense.specs.Parts.{layout_of}
 use Rattle.rx_dense_image.specs.Closing.{leaves}
 use Rattle.rx_dense_image.proofs.LeavingBytes.{AreMet, all_leave, another_leaves, few_leave, leaves_where, met_less}
@@ -36,7 +35,7 @@ returns-then-met-needles c =
     few_leave l c.args.id c.loop-byte.invariant c.loop-byte-test.true passes c.if-met-needles.true
 
 pub returns-then-needles-met : goal.returns-then-needles-met
-returns-then-needles-met c = grind (arith, common_steps, leaves_where, another_leaves)
+returns-then-needles-met c = grind (arith, common_steps, another_leaves)
 
 pub returns : goal.returns
 returns c =

@@ -1,12 +1,11 @@
-use Rattle.std.proofs.lemmas.Grind.{common_steps}
-use Rattle.std.proofs.Common.{◌≡◌, ◌/◌, false, length, sym, ◌∙◌, arith, rules, below_more}
+use Rattle.rx_spec.proofs.Prelude.{common_steps, ◌≡◌, ◌/◌, false, length, sym, ◌∙◌, arith, rules}
 use Rattle.rx_dense.specs.Parts.{layout_of}
 use Rattle.rx_dense_image.specs.Closing.{is_list}
 use Rattle.rx_dense_image.proofs.EachBelow.{all_of, not_all}
 use Rattle.rx_dense_image.proofs.closing.are_lists.Goals as goal
 
 pub loop-i-preserved : goal.loop-i-preserved
-loop-i-preserved c = grind (arith, common_steps, below_more)
+loop-i-preserved c = grind (arith, common_steps)
 
 pub returns-then-not-is_list : goal.returns-then-not-is_list
 returns-then-not-is_list c =

@@ -1,4 +1,4 @@
-use Rattle.std.proofs.Common.{◌≡◌, ℕ, ◌<◌, true}
+use Rattle.rx_spec.proofs.Prelude.{◌≡◌, ℕ, ◌<◌, true}
 use Rattle.rx_dense.specs.Parts.{layout_of}
 use Rattle.rx_dense_image.specs.Closing.{is_list}
 use Rattle.rx_dense_image.proofs.closing.are_lists.Given as goal

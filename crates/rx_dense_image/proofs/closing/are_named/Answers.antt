@@ -1,4 +1,4 @@
-use Rattle.std.proofs.Common.{◌≡◌, ℕ, ◌+◌, ◌*◌, ◌/◌, Bool, true, false, sym, ap, ◌∙◌, arith, rules, below_more}
+use Rattle.rx_spec.proofs.Prelude.{◌≡◌, ℕ, ◌+◌, ◌*◌, ◌/◌, Bool, true, false, sym, ap, ◌∙◌, arith, rules, below_more}
 use Rattle.rx_dense.specs.Layouts.{Layout, stride}
 use Rattle.rx_dense.specs.Parts.{layout_of}
 use Rattle.rx_dense_image.specs.Closing.{is_named}
@@ -31,11 +31,11 @@ returns-then-not-is_named c =
     sym (ap (λ (s : ℕ). is_named l.special (row * s)) c.stride-stride.ensures.value)
     ∙ sym c.is_named.ensures ∙ named in
     let count = same_count _ _ _ _ c.as_usize.ensures.value c.stride-stride.ensures.value in
-    sym (not_all (l.special.max / stride l + 1) (row_named l) row (omega (arith, c.loop-row-test.true, count)) here)
+    sym (not_all (l.special.max / stride l + 1) (row_named l) row (omega arith) here)
 
 pub returns : goal.returns
 returns c =
     let l = layout_of c.args.parts.now in
     let count = same_count _ _ _ _ c.as_usize.ensures.value c.stride-stride.ensures.value in
     sym (all_of (l.special.max / stride l + 1) (row_named l)
-    (λ k lt. c.loop-row.invariant k (omega (arith, lt, c.loop-row-test.false, count))))
+    (λ k lt. c.loop-row.invariant k (omega arith)))

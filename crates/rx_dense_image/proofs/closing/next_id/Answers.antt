@@ -1,6 +1,5 @@
-use Rattle.std.proofs.lemmas.Grind.{common_steps}
-use Rattle.std.proofs.Common.{◌≡◌, ℕ, ◌+◌, ◌<◌, eqb, false, cond, length, slice_index, sym, ap, ◌∙◌, arith}
-use Rattle.std.proofs.lemmas.List.{get_or_read}
+use Rattle.rx_spec.proofs.Prelude.{common_steps, ◌≡◌, ℕ, ◌+◌, ◌<◌, eqb, false, cond, length, slice_index, sym, ap, ◌∙◌}
+use Rattle.rx_spec.proofs.Prelude.{arith}
 use Rattle.rx_dense.specs.Parts.{layout_of}
 use Rattle.rx_dense.specs.Layouts.{column}
 use Rattle.rx_dense.proofs.Rows.{class_column}
@@ -20,12 +19,5 @@ returns c =
     ap (λ b. cond b (slice_index l.classes 255 + 1) (slice_index l.classes c.args.byte)) (byte_not c.args.byte byte)
     ∙ sym c.get.ensures in
     let within : c.args.id + c.get.result < length l.words =
-    omega (
-      arith,
-      class_column l.classes c.requires.rows.classes c.args.byte byte,
-      c.requires.rows.fits,
-      c.requires.row.below,
-      c.get.ensures,
-    ) in
-    get_or_read l.words (c.args.id + c.get.result) _ within c.index.ensures 0
-    ∙ sym (ap (λ (n : ℕ). slice_index l.words (c.args.id + n)) col)
+    omega (arith, class_column l.classes c.requires.rows.classes c.args.byte byte) in
+    grind (arith, common_steps)

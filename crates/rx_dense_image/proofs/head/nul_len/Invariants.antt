@@ -1,5 +1,4 @@
-use Rattle.std.proofs.Common.{◌≡◌, ◌+◌, ◌==◌, drop}
-use Rattle.std.specs.List.{prefix_len}
+use Rattle.rx_spec.proofs.Prelude.{◌≡◌, ◌+◌, ◌==◌, drop, prefix_len}
 use Rattle.rx_dense_image.proofs.head.nul_len.Given as goal
 
 abbrev pub invariant-loop-i : goal.invariant-loop-i

@@ -1,5 +1,4 @@
-use Rattle.std.proofs.Common.{◌≡◌, map}
-use Rattle.std.specs.List.{range_with_len}
+use Rattle.rx_spec.proofs.Prelude.{◌≡◌, map, range_with_len}
 use Rattle.rx_dense_image.specs.Marks.{needles_in}
 use Rattle.rx_dense_image.proofs.marks.accels_of.Given as goal
 

@@ -1,4 +1,4 @@
-use Rattle.std.proofs.Common.{◌*◌, ap, ◌∙◌}
+use Rattle.rx_spec.proofs.Prelude.{◌*◌, ap, ◌∙◌}
 use Rattle.rx_dense_image.specs.Marks.{needles_of}
 use Rattle.rx_dense_image.proofs.Accelerators.{all_from}
 use Rattle.rx_dense_image.proofs.marks.needles_in.Goals as goal

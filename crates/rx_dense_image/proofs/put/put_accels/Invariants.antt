@@ -1,6 +1,4 @@
-use Rattle.std.proofs.Common.{◌≡◌, ◌+◌, ◌*◌, ◌++◌, length, take}
-use Rattle.std.specs.Int.{w32}
-use Rattle.std.specs.List.{flat_map}
+use Rattle.rx_spec.proofs.Prelude.{◌≡◌, ◌+◌, ◌*◌, ◌++◌, length, take, w32, flat_map}
 use Rattle.rx_wire.specs.Fields.{field}
 use Rattle.rx_dense_image.specs.Marks.{accel_text}
 use Rattle.rx_dense_image.specs.Written.{IsPut}

@@ -1,4 +1,4 @@
-use Rattle.std.proofs.Common.{refl}
+use Rattle.rx_spec.proofs.Prelude.{refl}
 use Rattle.rx_dense_image.proofs.Behind.{and_then, of_word, put_same}
 use Rattle.rx_dense_image.proofs.put.put_head.Goals as goal
 

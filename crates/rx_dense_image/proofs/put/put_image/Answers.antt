@@ -1,4 +1,4 @@
-use Rattle.std.proofs.Common.{ap}
+use Rattle.rx_spec.proofs.Prelude.{ap}
 use Rattle.rx_dense_image.specs.Heads.{dense_label, head_text}
 use Rattle.rx_dense_image.specs.Images.{text}
 use Rattle.rx_dense_image.proofs.Behind.{and_then, put_same}

@@ -1,4 +1,4 @@
-use Rattle.std.proofs.Common.{◌≡◌, ◌+◌, ◌*◌, length, take}
+use Rattle.rx_spec.proofs.Prelude.{◌≡◌, ◌+◌, ◌*◌, length, take}
 use Rattle.rx_dense_image.specs.Rows.{words_text}
 use Rattle.rx_dense_image.specs.Written.{IsPut}
 use Rattle.rx_dense_image.proofs.put.put_words.Given as goal

@@ -1,4 +1,4 @@
-use Rattle.std.proofs.Common.{rules}
+use Rattle.rx_spec.proofs.Prelude.{rules}
 use Rattle.rx_dense.specs.Parts.{layout_of}
 use Rattle.rx_dense_image.proofs.ShapedImages.{shaped}
 use Rattle.rx_dense_image.proofs.read.read_table.Goals as goal

@@ -1,4 +1,4 @@
-use Rattle.std.proofs.Common.{◌≡◌, ℕ, ◌<◌, length, slice_index}
+use Rattle.rx_spec.proofs.Prelude.{◌≡◌, ℕ, ◌<◌, length, slice_index}
 use Rattle.rx_dense_image.specs.Bulk.{column_forbidden}
 use Rattle.rx_dense_image.proofs.rows.column_forbidden.Given as goal
 

@@ -1,5 +1,4 @@
-use Rattle.std.proofs.Common.{ℕ, ◌^◌, Bool, slice_index, sym, ap, ◌∙◌, arith}
-use Rattle.std.proofs.lemmas.List.FromFn.{fill_by_all}
+use Rattle.rx_spec.proofs.Prelude.{ℕ, ◌^◌, Bool, slice_index, sym, ap, ◌∙◌, arith, fill_by_all}
 use Rattle.rx_wire.specs.declared.order.Order.{Order}
 use Rattle.rx_dense_image.specs.Rows.{cleared, word_at}
 use Rattle.rx_dense_image.specs.Bulk.{column_forbidden, each_below, may_stand, word_stands}

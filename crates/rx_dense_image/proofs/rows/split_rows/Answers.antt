@@ -1,4 +1,4 @@
-use Rattle.std.proofs.Common.{◌≡◌, ℕ, ◌-◌, ◌^◌, sym, ap, subst, ◌∙◌}
+use Rattle.rx_spec.proofs.Prelude.{◌≡◌, ℕ, ◌-◌, ◌^◌, sym, ap, subst, ◌∙◌}
 use Rattle.rx_dense_image.specs.Rows.{ArePadded, AreReadRows, Rows}
 use Rattle.rx_dense_image.specs.Bulk.{stand_below}
 use Rattle.rx_dense_image.proofs.ColumnMasks.{IsFound, found_entries}

@@ -1,10 +1,7 @@
-use Rattle.std.proofs.Common.{◌≡◌, ℕ, ◌+◌, ◌<◌, List, length, get_or, map, slice_index, refl, sym, ap, subst, ◌∙◌}
-use Rattle.std.proofs.Common.{arith}
-use Rattle.std.specs.List.{range_with_len}
+use Rattle.rx_spec.proofs.Prelude.{◌≡◌, ℕ, ◌+◌, ◌<◌, List, length, get_or, map, slice_index, refl, sym, ap, subst, ◌∙◌}
+use Rattle.rx_spec.proofs.Prelude.{arith, range_with_len, fill_by_all, map-map, set}
 use Rattle.std.proofs.lemmas.List.Edits.{fill_by_more}
-use Rattle.std.proofs.lemmas.List.FromFn.{fill_by_all}
-use Rattle.std.proofs.lemmas.Simd.{map-map}
-use Rattle.std.proofs.Math.ListN.{length-set, set}
+use Rattle.std.proofs.Math.ListN.{length-set}
 use Rattle.rx_spec.specs.declared.Start.{Start}
 use Rattle.rx_dense_image.specs.StartTables.{context_of}
 use Rattle.rx_dense_image.proofs.start_table.contexts_of.Goals as goal
@@ -17,7 +14,7 @@ loop-byte-preserved c =
     let numbers = c.args.numbers.now in
     let byte : ℕ = c.loop-byte.byte in
     let contexts = c.loop-byte.contexts in
-    let lt : byte < length contexts = omega (arith, c.loop-byte.invariant.len, c.loop-byte-test.true) in
+    let lt : byte < length contexts = omega arith in
     record {
       len = simp length-set c.loop-byte.invariant.len;
       each =
@@ -35,5 +32,5 @@ returns c =
     let in_order : numbers ≡ map (λ k. slice_index numbers k) (range_with_len 0 256) =
     fill_by_all (λ k. slice_index numbers k) numbers 256 0 c.requires (λ k lt. refl) in
     fill_by_all (of_place numbers) contexts 256 Start.NonWordByte c.loop-byte.invariant.len
-    (λ k lt. c.loop-byte.invariant.each k (omega (arith, lt, c.loop-byte-test.false)))
+    (λ k lt. c.loop-byte.invariant.each k (omega arith))
     ∙ sym (ap (map context_of) in_order ∙ map-map context_of (λ k. slice_index numbers k) (range_with_len 0 256))

@@ -1,4 +1,4 @@
-use Rattle.std.proofs.Common.{◌≡◌, ℕ, ◌<◌, length, get_or, slice_index}
+use Rattle.rx_spec.proofs.Prelude.{◌≡◌, ℕ, ◌<◌, length, get_or, slice_index}
 use Rattle.rx_spec.specs.declared.Start.{Start}
 use Rattle.rx_dense_image.specs.StartTables.{context_of}
 use Rattle.rx_dense_image.proofs.start_table.contexts_of.Given as goal

@@ -1,5 +1,4 @@
-use Rattle.std.proofs.Common.{◌≡◌, ℕ, ◌<◌, List, length, slice_index, arith}
-use Rattle.std.proofs.lemmas.List.FromFn.{fill_by_all}
+use Rattle.rx_spec.proofs.Prelude.{◌≡◌, ℕ, ◌<◌, List, length, slice_index, arith, fill_by_all}
 use Rattle.rx_wire.specs.declared.order.Order.{Order}
 use Rattle.rx_dense_image.specs.Rows.{word_at, words_of}
 use Rattle.rx_dense_image.proofs.Padding.{words_fit}
@@ -8,7 +7,7 @@ use Rattle.rx_dense_image.proofs.words.words_of.Goals as goal
 filled : (order : Order) (bytes words : List ℕ) (count i : ℕ) → length words ≡ count
     → ((k : ℕ) → k < i → slice_index words k ≡ word_at order bytes k) → i ≡ count → words ≡ words_of order bytes count
 filled order bytes words count i len each done =
-    fill_by_all (word_at order bytes) words count 0 len (λ k lt. each k (omega (arith, lt, done)))
+    fill_by_all (word_at order bytes) words count 0 len (λ k lt. each k (omega arith))
 
 pub returns-clause-ok : goal.returns-clause-ok
 returns-clause-ok c =

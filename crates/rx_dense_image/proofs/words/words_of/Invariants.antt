@@ -1,4 +1,4 @@
-use Rattle.std.proofs.Common.{◌≡◌, ℕ, ◌<◌, length, slice_index}
+use Rattle.rx_spec.proofs.Prelude.{◌≡◌, ℕ, ◌<◌, length, slice_index}
 use Rattle.rx_dense_image.specs.Rows.{word_at}
 use Rattle.rx_dense_image.proofs.words.words_of.Given as goal
 

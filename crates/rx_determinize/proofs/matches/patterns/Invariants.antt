@@ -1,4 +1,4 @@
-use Rattle.std.proofs.Common.{◌≡◌, take}
+use Rattle.rx_spec.proofs.Prelude.{◌≡◌, take}
 use Rattle.rx_determinize.proofs.matches.patterns.Given as goal
 
 abbrev pub invariant-loop-pattern : goal.invariant-loop-pattern

@@ -1,7 +1,5 @@
-use Rattle.std.proofs.lemmas.Grind.{common_steps}
-use Rattle.std.proofs.Common.{◌≡◌, ◌*◌, ◌^◌, ℕ, length, sym, ap, subst, arith}
-use Rattle.std.proofs.lemmas.Nat.{pow_pos}
-use Rattle.rx_dense.proofs.Rows.{multiple_below, stride_few}
+use Rattle.rx_spec.proofs.Prelude.{common_steps, ◌≡◌, ◌*◌, length, sym, subst, arith, pow_pos}
+use Rattle.rx_dense.proofs.Rows.{multiple_below}
 use Rattle.rx_dense.specs.Layouts.{IsRowId, stride}
 use Rattle.rx_determinize.proofs.RowIds.{row_is_id, row_id as row_at}
 use Rattle.rx_determinize.proofs.states.row_id.Goals as goal
@@ -11,14 +9,7 @@ same c =
     let l = c.args.dfa.now in
     let rows = c.state_len-rows.ensures.rows in
     let below = multiple_below c.args.row (stride l) (length l.words) (pow_pos l.stride2) c.requires in
-    omega (
-      arith,
-      c.must.ensures,
-      ap (λ (n : ℕ). c.args.row * 2 ^ n) c.stride2.ensures.value,
-      below,
-      rows.few,
-      stride_few l.stride2 rows.exponent,
-    )
+    grind (arith, common_steps)
 
 pub returns-clause-is_id : goal.returns-clause-is_id
 returns-clause-is_id c = grind (arith, common_steps, same, row_is_id)

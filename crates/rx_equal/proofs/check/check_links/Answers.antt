@@ -1,5 +1,4 @@
-use Rattle.std.proofs.lemmas.Grind.{common_steps}
-use Rattle.std.proofs.Common.{◌≤◌, arith, length}
+use Rattle.rx_spec.proofs.Prelude.{common_steps, ◌≤◌, arith, length}
 use Rattle.rx_equal.specs.Pairs.{rows_of}
 use Rattle.rx_equal.proofs.Closed.{nothing_parts}
 use Rattle.rx_equal.proofs.Meets.{named_all, named_closed, named_link, named_none, named_stop, named_equal}
@@ -37,7 +36,7 @@ loop-i-preserved g c =
 
 -- all links were looked at
 past : (g : given.Over) (c : In_ok-units g) → length c.args.links.now ≤ c.loop-i.i
-past g c = omega (arith, c.loop-i-test.false, c.len-i-end.ensures)
+past g c = omega arith
 
 pub returns-then-not-knows_nexts-clause-exact : goal.returns-then-not-knows_nexts-clause-exact
 returns-then-not-knows_nexts-clause-exact g c =
@@ -47,7 +46,6 @@ returns-then-not-knows_nexts-clause-exact g c =
 
 pub returns-clause-exact : goal.returns-clause-exact
 returns-clause-exact g c =
-    let s = sides g.A.Automaton g.B.Automaton c.args.a.now c.args.b.now in
     let end = past g (goal.at.returns-clause-exact g c).In_ok-units in (
       λ yes. record {
         pairs = _;

@@ -1,5 +1,4 @@
-use Rattle.std.proofs.Common.{◌≡◌, map, arith}
-use Rattle.rx_spec.specs.Machines.{run}
+use Rattle.rx_spec.proofs.Prelude.{◌≡◌, map, arith, run}
 use Rattle.rx_base.specs.Unit.{unit_number}
 use Rattle.rx_equal.specs.Evidence.{next_pair}
 use Rattle.rx_equal.specs.Pairs.{rows_of}
@@ -26,7 +25,7 @@ returns-after-loop-i g c =
     let begins = c.in-Rows.ensures.0 in
     let leads : run (next_pair s.t s.u) (rows c.in-Rows.start) word ≡ rows c.loop-i.pair =
     word_end (next_pair s.t s.u) c.args.parting.now.word c.loop-i.i (rows c.loop-i.pair)
-    (omega (arith, c.len-i-end.ensures))
+    (omega arith)
     c.loop-i.invariant.left in
     let equal = c.have_equal_labels.ensures in (
       λ yes. (

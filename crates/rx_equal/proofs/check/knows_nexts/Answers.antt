@@ -1,7 +1,6 @@
-use Rattle.std.proofs.Common.{refl, subst, arith}
+use Rattle.rx_spec.proofs.Prelude.{refl, subst, arith, slice_get_within}
 use Rattle.rx_equal.specs.Pairs.{pairs_of, rows_of}
 use Rattle.rx_equal.specs.Places.{HaveNexts}
-use Rattle.std.proofs.lemmas.Option.{slice_get_within}
 use Rattle.rx_equal.proofs.Kept.{kept_ids, kept_rows}
 use Rattle.rx_equal.proofs.Sides.{sides}
 use Rattle.rx_equal.proofs.Tests.{contains_get, map_contained, each_more, false_by}
@@ -30,7 +29,7 @@ returns g c =
           (let from = map_contained (rows_of s.ids s.others) items p listed in
           let within = slice_get_within items from.place from.item from.there in
           subst (HaveNexts s.t s.u (pairs_of s.ids s.others c.args.known.now)) from.is
-          (c.loop-i.invariant from.place (omega (arith, within, c.loop-i-test.false, c.len-i-end.ensures)) from.item
+          (c.loop-i.invariant from.place (omega arith) from.item
           from.there)),
       λ _. refl,
     )

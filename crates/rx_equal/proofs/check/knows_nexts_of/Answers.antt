@@ -1,5 +1,4 @@
-use Rattle.std.proofs.Common.{refl, sym, subst, arith}
-use Rattle.std.specs.Prelude.{Contains}
+use Rattle.rx_spec.proofs.Prelude.{refl, sym, subst, arith, Contains}
 use Rattle.rx_base.specs.Unit.{unit_number}
 use Rattle.rx_equal.specs.Evidence.{next_pair}
 use Rattle.rx_equal.specs.Pairs.{pairs_of, rows_of}
@@ -30,6 +29,6 @@ returns g c =
     let s = sides g.A.Automaton g.B.Automaton c.args.a.now c.args.b.now in (
       λ _. nexts_by (pairs_of s.ids s.others c.args.known.now) c.requires.represent
           (g.met.A.Automaton.are_ids c.args.a.now) (g.met.B.Automaton.are_ids c.args.b.now) c.requires.ids
-          c.loop-i.invariant (omega (arith, c.loop-i-test.false, c.len-i-end.ensures)),
+          c.loop-i.invariant (omega arith),
       λ _. refl,
     )

@@ -1,6 +1,4 @@
-use Rattle.std.proofs.Common.{ℕ, zero, suc, ◌≡◌, Some, None, List, [], ◌∷◌, refl, ap, sym, ◌∙◌, arith}
-use Rattle.std.specs.Prelude.{Contains}
-use Rattle.rx_spec.specs.Machines.{Label}
+use Rattle.rx_spec.proofs.Prelude.{ℕ, zero, suc, ◌≡◌, List, [], ◌∷◌, refl, ap, sym, ◌∙◌, arith, Contains, Label}
 use Rattle.lemmas_walks.proofs.Firsts.{Contains-nil}
 use Rattle.rx_equal.specs.Evidence.{RowPair}
 use Rattle.rx_equal.specs.Examples.{at_edge}
@@ -24,23 +22,20 @@ abbrev dead : RowPair
 dead = record { row = 0; other = 0 }
 
 is_live : (row : ℕ) (p : RowPair) → p ≡ dead → p.row ≡ suc row → ⊥
-is_live row p e f = let same : 0 ≡ suc row = sym (ap (λ (q : RowPair). q.row) e) ∙ f in omega (arith, same)
+is_live row p e f = let same : 0 ≡ suc row = sym (ap (λ (q : RowPair). q.row) e) ∙ f in omega arith
 
 no_dead : Contains two_pairs dead → ⊥
 no_dead (zero, h, e) = is_live 1 (record { row = 2; other = 2 }) e refl
 no_dead (suc zero, h, e) = is_live 2 (record { row = 3; other = 3 }) e refl
-no_dead (suc (suc k), h, e) = omega (arith, h)
+no_dead (suc (suc k), h, e) = omega arith
 
 pub returns-clause-no_next : goal.returns-clause-no_next
 returns-clause-no_next c = λ evidence.
     no_dead ((evidence_closed {pairs = two_pairs} refl evidence).nexts (record { row = 2; other = 2 }) 256
     (0, omega arith, refl) (omega arith))
 
-no_pairs : (pairs : List RowPair) → None ≡ Some pairs → ⊥
-no_pairs pairs e = cc
-
 pub returns-clause-no_pair : goal.returns-clause-no_pair
-returns-clause-no_pair c = λ evidence. no_pairs evidence.pairs evidence.named
+returns-clause-no_pair c = λ evidence. cc evidence.named
 
 first_is_no_second : Label.Matches (0 ∷ []) ≡ Label.Matches (1 ∷ []) → ⊥
 first_is_no_second e = cc

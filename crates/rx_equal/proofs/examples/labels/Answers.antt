@@ -1,5 +1,4 @@
-use Rattle.std.proofs.Common.{◌≡◌, [], ◌∷◌, refl}
-use Rattle.rx_spec.specs.Machines.{Label, run}
+use Rattle.rx_spec.proofs.Prelude.{◌≡◌, [], ◌∷◌, refl, Label, run}
 use Rattle.rx_equal.proofs.Closed.{nothing_parts}
 use Rattle.rx_equal.proofs.FourRows.{three_closed}
 use Rattle.rx_equal.proofs.examples.labels.Goals as goal

@@ -1,10 +1,7 @@
-use Rattle.std.proofs.lemmas.Grind.{common_steps}
-use Rattle.std.proofs.Common.{ℕ, ◌≡◌, Option, Some, None, List, refl, arith}
-use Rattle.rx_spec.specs.Queries.{Anchored}
-use Rattle.rx_spec.specs.Tables.{Table}
+use Rattle.rx_spec.proofs.Prelude.{common_steps, ℕ, ◌≡◌, Option, Some, None, List, refl, arith, Anchored, Table}
 use Rattle.rx_equal.specs.Partings.{AreAlikeBy, IsParting, answer_at}
 use Rattle.rx_equal.specs.Examples.{no_patterns}
-use Rattle.rx_equal.proofs.PartingsLaws.{alike_same, starts_of_no_pattern}
+use Rattle.rx_equal.proofs.PartingsLaws.{starts_of_no_pattern}
 use Rattle.rx_equal.proofs.examples.tables_without_patterns.Goals as goal
 
 abbrev t : Table
@@ -24,11 +21,11 @@ AlikeIn mode = (beside : Option ℕ) (word : List ℕ)
 
 no_alike : AlikeIn Anchored.No
 no_alike None word = refl
-no_alike (Some byte) word = grind (arith, common_steps, alike_same)
+no_alike (Some byte) word = grind (arith, common_steps)
 
 yes_alike : AlikeIn Anchored.Yes
 yes_alike None word = refl
-yes_alike (Some byte) word = grind (arith, common_steps, alike_same)
+yes_alike (Some byte) word = grind (arith, common_steps)
 
 alone : (beside : Option ℕ) (mode : Anchored) (word : List ℕ)
     → IsParting t u (record { beside = beside; mode = mode }) word → mode ≡ Anchored.Pattern 0
@@ -40,4 +37,4 @@ pub returns-clause-alone : goal.returns-clause-alone
 returns-clause-alone c = λ place word parting. alone place.beside place.mode word parting
 
 pub returns-clause-dead_starts : goal.returns-clause-dead_starts
-returns-clause-dead_starts c = grind (arith, common_steps, alike_same)
+returns-clause-dead_starts c = grind (arith, common_steps)

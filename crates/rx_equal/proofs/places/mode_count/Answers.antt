@@ -1,6 +1,4 @@
-use Rattle.std.proofs.lemmas.Grind.{common_steps}
-use Rattle.std.proofs.Common.{None, ap, ◌∙◌, subst, arith}
-use Rattle.rx_spec.specs.Queries.{Anchored}
+use Rattle.rx_spec.proofs.Prelude.{common_steps, None, ap, ◌∙◌, subst, arith, Anchored}
 use Rattle.rx_base.specs.StartConfig.{StartConfig}
 use Rattle.rx_equal.specs.Pairs.{AreRefused}
 use Rattle.rx_equal.proofs.RefusedPatterns.{two_suffice, all_suffice}

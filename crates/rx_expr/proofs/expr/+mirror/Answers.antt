@@ -1,4 +1,4 @@
-use Rattle.std.proofs.Common.{◌∙◌}
+use Rattle.rx_spec.proofs.Prelude.{◌∙◌}
 use Rattle.rx_expr.proofs.MirroredForms.{IsKeptOf-mirror}
 use Rattle.rx_expr.proofs.expr.+mirror.Goals as goal
 

@@ -1,6 +1,4 @@
-use Rattle.std.proofs.Common.{arith, ℕ, List, Option, Err, ap, subst}
-use Rattle.std.proofs.lemmas.Grind.{common_steps}
-use Rattle.std.proofs.lemmas.Result.{err_from_is_err_and}
+use Rattle.rx_spec.proofs.Prelude.{arith, ℕ, List, Option, Err, ap, subst, common_steps, err_from_is_err_and}
 use Rattle.rx_spec.specs.declared.Form.{Form}
 use Rattle.rx_base.specs.Search.{mode_of}
 use Rattle.rx_dense.specs.Layouts as dense

@@ -1,6 +1,4 @@
-use Rattle.std.proofs.lemmas.Grind.{common_steps}
-use Rattle.std.proofs.Common.{◌<◌, Some, length, drop, refl, ap, sym, ◌∙◌, subst, arith}
-use Rattle.std.specs.Io.KnownBytes.{Appends}
+use Rattle.rx_spec.proofs.Prelude.{common_steps, ◌<◌, Some, length, drop, refl, ap, sym, ◌∙◌, subst, arith, Appends}
 use Rattle.rx_search.proofs.Cursors.{at_same}
 use Rattle.rx_search.proofs.Walks.{bytes_of}
 use Rattle.rx_stream.specs.Calls.{IsFed}

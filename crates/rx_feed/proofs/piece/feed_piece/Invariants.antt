@@ -1,5 +1,4 @@
-use Rattle.std.proofs.Common.{◌≡◌, ◌≤◌, length, drop}
-use Rattle.rx_spec.specs.Bytes.{AreBytes}
+use Rattle.rx_spec.proofs.Prelude.{◌≡◌, ◌≤◌, length, drop, AreBytes}
 use Rattle.rx_stream.specs.Remaining.{now}
 use Rattle.rx_feed.proofs.Pieces.{Feeds}
 use Rattle.rx_feed.proofs.piece.feed_piece.Given as goal

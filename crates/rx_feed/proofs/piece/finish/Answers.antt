@@ -1,7 +1,4 @@
-use Rattle.std.proofs.lemmas.Grind.{common_steps}
-use Rattle.std.proofs.Common.{Some, refl, ◌∙◌, subst, arith}
-use Rattle.std.specs.Io.KnownBytes.{Appends}
-use Rattle.std.specs.Prelude.{[]}
+use Rattle.rx_spec.proofs.Prelude.{common_steps, Some, refl, ◌∙◌, subst, arith, Appends, []}
 use Rattle.rx_search.proofs.Cursors.{at_same}
 use Rattle.rx_stream.specs.Calls.{IsFinished}
 use Rattle.rx_feed.specs.Lines.{end_line}

@@ -1,4 +1,4 @@
-use Rattle.std.proofs.Common.{◌≡◌, ◌≤◌, [], length}
+use Rattle.rx_spec.proofs.Prelude.{◌≡◌, ◌≤◌, [], length}
 use Rattle.rx_stream.specs.Remaining.{remaining}
 use Rattle.rx_feed.proofs.Pieces.{Finishes}
 use Rattle.rx_feed.proofs.piece.finish.Given as goal

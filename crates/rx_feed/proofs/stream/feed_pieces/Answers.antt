@@ -1,6 +1,5 @@
-use Rattle.std.proofs.lemmas.Grind.{common_steps}
-use Rattle.std.proofs.Common.{◌≡◌, ℕ, List, false, ◌∙◌, subst, arith, length, take, length-take}
-use Rattle.std.specs.Prelude.{[], ◌++◌}
+use Rattle.rx_spec.proofs.Prelude.{common_steps, ◌≡◌, ℕ, List, false, ◌∙◌, subst, arith, length, take, length-take, []}
+use Rattle.rx_spec.proofs.Prelude.{◌++◌}
 use Rattle.rx_search.proofs.Cursors.{at_same}
 use Rattle.rx_stream.specs.Remaining.{remaining}
 use Rattle.rx_feed.specs.Lines.{end_line, lines}

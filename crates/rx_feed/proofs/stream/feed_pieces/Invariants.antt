@@ -1,4 +1,4 @@
-use Rattle.std.proofs.Common.{◌≡◌, ◌+◌, ◌-◌, ◌≤◌}
+use Rattle.rx_spec.proofs.Prelude.{◌≡◌, ◌+◌, ◌-◌, ◌≤◌}
 use Rattle.rx_feed.specs.Replies.{most_data, most_of_piece}
 use Rattle.rx_feed.proofs.Streams.{HasRead}
 use Rattle.rx_feed.proofs.stream.feed_pieces.Given as goal

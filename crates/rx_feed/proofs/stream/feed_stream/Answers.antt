@@ -1,6 +1,4 @@
-use Rattle.std.proofs.Common.{arith, ◌∙◌, subst}
-use Rattle.std.proofs.lemmas.Grind.{common_steps}
-use Rattle.std.specs.Prelude.{[], ◌++◌}
+use Rattle.rx_spec.proofs.Prelude.{arith, ◌∙◌, subst, common_steps, [], ◌++◌}
 use Rattle.rx_search.proofs.Cursors.{at_same}
 use Rattle.rx_stream.specs.Remaining.{now, remaining}
 use Rattle.rx_feed.specs.Lines.{end_line, lines}

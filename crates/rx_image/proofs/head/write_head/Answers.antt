@@ -1,4 +1,4 @@
-use Rattle.std.proofs.Common.{refl, arith}
+use Rattle.rx_spec.proofs.Prelude.{refl, arith}
 use Rattle.rx_dense_image.proofs.Behind.{and_then, filled, of_word, put_same}
 use Rattle.rx_image.proofs.head.write_head.Goals as goal
 

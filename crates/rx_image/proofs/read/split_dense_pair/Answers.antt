@@ -1,4 +1,4 @@
-use Rattle.std.proofs.lemmas.Result.{err_from_is_err_and}
+use Rattle.rx_spec.proofs.Prelude.{err_from_is_err_and}
 use Rattle.rx_image.proofs.SecondTable.{second_fails}
 use Rattle.rx_image.proofs.read.split_dense_pair.Goals as goal
 

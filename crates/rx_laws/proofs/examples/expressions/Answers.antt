@@ -1,4 +1,4 @@
-use Rattle.std.proofs.Common.{refl, arith}
+use Rattle.rx_spec.proofs.Prelude.{refl, arith}
 use Rattle.rx_laws.proofs.Computing.{computing}
 use Rattle.rx_laws.proofs.examples.expressions.Goals as goal
 
@@ -24,7 +24,7 @@ returns-clause-safe_loop c = (omega arith, tt)
 
 pub returns-clause-unsafe_loop : goal.returns-clause-unsafe_loop
 unfolding computing
-returns-clause-unsafe_loop c = λ safe. omega (arith, safe.0)
+returns-clause-unsafe_loop c = λ safe. omega arith
 
 pub returns-clause-at_end : goal.returns-clause-at_end
 unfolding computing

@@ -1,4 +1,4 @@
-use Rattle.std.proofs.Common.{refl}
+use Rattle.rx_spec.proofs.Prelude.{refl}
 use Rattle.rx_laws.proofs.Computing.{computing}
 use Rattle.rx_laws.proofs.examples.joins.Goals as goal
 

@@ -1,4 +1,4 @@
-use Rattle.std.proofs.Common.{refl, arith}
+use Rattle.rx_spec.proofs.Prelude.{refl, arith}
 use Rattle.rx_laws.proofs.Computing.{computing}
 use Rattle.rx_laws.proofs.examples.refusals.Goals as goal
 
@@ -6,7 +6,7 @@ pub returns-clause-fit : goal.returns-clause-fit
 returns-clause-fit c = record { within = omega arith; ordered = omega arith }
 
 pub returns-clause-unfit : goal.returns-clause-unfit
-returns-clause-unfit c = λ fit. omega (arith, fit.ordered)
+returns-clause-unfit c = λ fit. omega arith
 
 pub returns-clause-done : goal.returns-clause-done
 unfolding computing

@@ -1,4 +1,4 @@
-use Rattle.std.proofs.Common.{arith}
+use Rattle.rx_spec.proofs.Prelude.{arith}
 use Rattle.lemmas_tables.proofs.ClassNumbers.{column_below, column_used}
 use Rattle.rx_laws.proofs.laws.columns.Goals as goal
 

@@ -1,4 +1,4 @@
-use Rattle.std.proofs.Common.{rules}
+use Rattle.rx_spec.proofs.Prelude.{rules}
 use Rattle.lemmas_walks.proofs.Facts.{facts_decide, kept_last, kept_cover, start_knows}
 use Rattle.rx_laws.proofs.StatesLaws.{kept_read_both}
 use Rattle.rx_laws.proofs.laws.contexts_decide.Goals as goal

@@ -1,5 +1,4 @@
-use Rattle.std.proofs.Common.{arith}
-use Rattle.std.proofs.lemmas.Grind.{common_steps}
+use Rattle.rx_spec.proofs.Prelude.{arith, common_steps}
 use Rattle.lemmas_walks.proofs.Ends.{ends_lie}
 use Rattle.rx_laws.proofs.laws.ends_lie.Goals as goal
 

@@ -1,4 +1,4 @@
-use Rattle.std.proofs.Common.{true, false}
+use Rattle.rx_spec.proofs.Prelude.{true, false}
 use Rattle.lemmas_walks.proofs.Ends.{ends_repeat_more, ends_repeat_none, ends_repeat_optional}
 use Rattle.rx_laws.proofs.EndsLaws.{unbounded_round}
 use Rattle.rx_laws.proofs.laws.ends_of_repetitions.Goals as goal

@@ -1,7 +1,4 @@
-use Rattle.std.proofs.Common.{arith}
-use Rattle.std.proofs.lemmas.Grind.{common_steps}
-use Rattle.rx_spec.specs.Queries.{Query}
-use Rattle.rx_spec.specs.Joining.{Answer}
+use Rattle.rx_spec.proofs.Prelude.{arith, common_steps, Query, Answer}
 use Rattle.rx_laws.specs.SearchesLaws as laws
 use Rattle.lemmas_tables.proofs.Iterating.{IsOrderly, matches_uncut, matches_again, matches_lie, matches_rise}
 use Rattle.rx_laws.proofs.laws.matches_in_order.Goals as goal
@@ -16,7 +13,7 @@ pub returns-clause-again : goal.returns-clause-again
 returns-clause-again c = λ search q last_end is. matches_again (orderly search is) q last_end
 
 pub returns-clause-lie : goal.returns-clause-lie
-returns-clause-lie c = grind (arith, common_steps, matches_lie, orderly)
+returns-clause-lie c = grind (arith, common_steps, matches_lie)
 
 pub returns-clause-rise : goal.returns-clause-rise
 returns-clause-rise c = λ search q is. matches_rise (orderly search is) q

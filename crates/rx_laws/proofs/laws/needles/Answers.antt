@@ -1,5 +1,4 @@
-use Rattle.std.proofs.Common.{arith}
-use Rattle.std.proofs.lemmas.Grind.{common_steps}
+use Rattle.rx_spec.proofs.Prelude.{arith, common_steps}
 use Rattle.lemmas_tables.proofs.Tables.{leaving_exactly, leaving_rises, between_needles}
 use Rattle.rx_laws.proofs.laws.needles.Goals as goal
 

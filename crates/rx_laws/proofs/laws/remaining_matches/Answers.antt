@@ -1,11 +1,9 @@
-use Rattle.std.proofs.Common.{arith}
-use Rattle.std.proofs.lemmas.Grind.{common_steps}
+use Rattle.rx_spec.proofs.Prelude.{arith, common_steps}
 use Rattle.lemmas_walks.proofs.Overlapping.{overlapping_match, remaining-cons, remaining-nil}
-use Rattle.lemmas_tables.proofs.Tables.{match_alive}
 use Rattle.rx_laws.proofs.laws.remaining_matches.Goals as goal
 
 pub returns-clause-at_match : goal.returns-clause-at_match
-returns-clause-at_match c = grind (arith, common_steps, match_alive, overlapping_match)
+returns-clause-at_match c = grind (arith, common_steps, overlapping_match)
 
 pub returns-clause-after_call : goal.returns-clause-after_call
 returns-clause-after_call c = λ t direction. remaining-cons t.machine direction

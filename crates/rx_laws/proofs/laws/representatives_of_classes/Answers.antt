@@ -1,4 +1,4 @@
-use Rattle.std.proofs.Common.{arith}
+use Rattle.rx_spec.proofs.Prelude.{arith}
 use Rattle.lemmas_tables.proofs.ClassNumbers.{representatives_rise, representatives_counted, representative_class}
 use Rattle.lemmas_tables.proofs.ClassNumbers.{representative_least}
 use Rattle.rx_laws.proofs.laws.representatives_of_classes.Goals as goal

@@ -1,5 +1,4 @@
-use Rattle.std.proofs.Common.{refl}
-use Rattle.rx_spec.specs.Rows.{compile}
+use Rattle.rx_spec.proofs.Prelude.{refl, compile}
 use Rattle.rx_laws.proofs.laws.rows_by_form.Goals as goal
 
 pub returns-clause-empty : goal.returns-clause-empty

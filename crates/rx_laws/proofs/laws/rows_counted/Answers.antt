@@ -1,5 +1,4 @@
-use Rattle.std.proofs.Common.{refl}
-use Rattle.rx_spec.specs.Rows.{rows_count}
+use Rattle.rx_spec.proofs.Prelude.{refl, rows_count}
 use Rattle.lemmas_walks.proofs.Rows.{rows_counted}
 use Rattle.rx_laws.proofs.laws.rows_counted.Goals as goal
 

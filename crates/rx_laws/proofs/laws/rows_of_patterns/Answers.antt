@@ -1,5 +1,4 @@
-use Rattle.std.proofs.Common.{refl}
-use Rattle.rx_spec.specs.Nfas.{patterns_from, start_of_all}
+use Rattle.rx_spec.proofs.Prelude.{refl, patterns_from, start_of_all}
 use Rattle.rx_laws.proofs.RowsLaws.{patterns_counted, start_of_more}
 use Rattle.rx_laws.proofs.laws.rows_of_patterns.Goals as goal
 

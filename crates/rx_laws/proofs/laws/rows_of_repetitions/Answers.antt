@@ -1,5 +1,4 @@
-use Rattle.std.proofs.Common.{refl}
-use Rattle.rx_spec.specs.Rows.{compile, copies, optional}
+use Rattle.rx_spec.proofs.Prelude.{refl, compile, copies, optional}
 use Rattle.rx_laws.proofs.RowsLaws.{needed_round, optional_round, loop_alone}
 use Rattle.rx_laws.proofs.laws.rows_of_repetitions.Goals as goal
 

@@ -1,8 +1,5 @@
-use Rattle.std.proofs.Common.{◌≡◌, ℕ, false, Option, Some, None, refl}
-use Rattle.rx_spec.specs.Bytes.{contains}
-use Rattle.rx_spec.specs.Queries.{Anchored}
-use Rattle.rx_spec.specs.Machines.{Settings}
-use Rattle.rx_spec.specs.Starts.{mode_error, start_error}
+use Rattle.rx_spec.proofs.Prelude.{◌≡◌, ℕ, false, Option, Some, None, refl, contains, Anchored, Settings, mode_error}
+use Rattle.rx_spec.proofs.Prelude.{start_error}
 use Rattle.lemmas_tables.proofs.Splits.{half_when_done}
 use Rattle.rx_laws.proofs.laws.starts_refused.Goals as goal
 

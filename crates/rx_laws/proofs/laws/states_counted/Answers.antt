@@ -1,7 +1,6 @@
-use Rattle.std.proofs.Common.{List, length}
-use Rattle.rx_spec.specs.States.{State}
-use Rattle.rx_spec.specs.Sizes.{determinizer_size, label_total, start_entries, build_stride, table_size, last_id}
-use Rattle.rx_spec.specs.Causes.{max_id, sparse_length}
+use Rattle.rx_spec.proofs.Prelude.{List, length, State, determinizer_size, label_total, table_size, last_id, max_id}
+use Rattle.rx_spec.specs.Sizes.{start_entries, build_stride}
+use Rattle.rx_spec.specs.Causes.{sparse_length}
 use Rattle.lemmas_tables.proofs.Sizes.{reached_count, exceeds_exactly, determinizer_grows, labels_grow, table_grows}
 use Rattle.lemmas_tables.proofs.Sizes.{ids_grow, length_grows}
 use Rattle.rx_laws.proofs.laws.states_counted.Goals as goal

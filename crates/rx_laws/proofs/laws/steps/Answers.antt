@@ -1,4 +1,4 @@
-use Rattle.std.proofs.Common.{refl}
+use Rattle.rx_spec.proofs.Prelude.{refl}
 use Rattle.rx_laws.proofs.Closures.{end_mark_ends, tells_one, tells_all}
 use Rattle.rx_laws.proofs.laws.steps.Goals as goal
 

@@ -1,4 +1,4 @@
-use Rattle.std.proofs.Common.{refl, arith}
+use Rattle.rx_spec.proofs.Prelude.{refl, arith}
 use Rattle.rx_laws.proofs.laws.stray_starts.Goals as goal
 
 pub returns-clause-unanchored : goal.returns-clause-unanchored

@@ -1,5 +1,4 @@
-use Rattle.std.proofs.Common.{arith}
-use Rattle.std.proofs.lemmas.Grind.{common_steps}
+use Rattle.rx_spec.proofs.Prelude.{arith, common_steps}
 use Rattle.lemmas_tables.proofs.ToldInSpan.{half_within, unsplit_within}
 use Rattle.lemmas_tables.proofs.Joining.{join_orderly}
 use Rattle.rx_laws.proofs.laws.told_in_span.Goals as goal

@@ -1,6 +1,4 @@
-use Rattle.std.proofs.Common.{arith, ap, sym, ◌∙◌}
-use Rattle.std.proofs.lemmas.Grind.{common_steps}
-use Rattle.std.proofs.lemmas.Result.{IfOk-weaker}
+use Rattle.rx_spec.proofs.Prelude.{arith, ap, sym, ◌∙◌, common_steps, IfOk-weaker}
 use Rattle.rx_main.specs.Check.{pair_rows_reply, reading_reply}
 use Rattle.rx_main.proofs.CheckAnswers.{failed_test_answers}
 use Rattle.rx_main.proofs.check.check_pair.Goals as goal

@@ -1,5 +1,4 @@
-use Rattle.std.proofs.Common.{arith}
-use Rattle.std.proofs.lemmas.Grind.{common_steps}
+use Rattle.rx_spec.proofs.Prelude.{arith, common_steps}
 use Rattle.rx_main.proofs.Counts.{five_words, four_words, one_word, three_words, two_words}
 use Rattle.rx_main.proofs.command.command_of.Goals as goal
 

@@ -1,5 +1,4 @@
-use Rattle.std.proofs.lemmas.Grind.{common_steps}
-use Rattle.std.proofs.Common.{arith}
+use Rattle.rx_spec.proofs.Prelude.{common_steps, arith}
 use Rattle.rx_main.proofs.Numerals.{no_number, number_within}
 use Rattle.rx_main.proofs.command.number_of.Goals as goal
 

@@ -1,11 +1,7 @@
-use Rattle.std.proofs.lemmas.Grind.{common_steps}
-use Rattle.std.proofs.Common.{◌≡◌, ◌++◌, ◌∷◌, [], ◌∙◌, List, length, map, Ok, Err, ap, sym, append-nil, eqb-true, arith}
-use Rattle.std.proofs.lemmas.Bool.{eqb-false}
-use Rattle.std.proofs.lemmas.List.{flat_map_more, nil_from_length}
-use Rattle.std.proofs.lemmas.Result.{IfOk-weaker}
-use Rattle.std.specs.String.{string_bytes, string_len}
-use Rattle.rx_spec.specs.Iterating.{iterate}
-use Rattle.rx_spec.specs.Plans.{outcome}
+use Rattle.rx_spec.proofs.Prelude.{common_steps, ◌≡◌, ◌++◌, ◌∷◌, [], ◌∙◌, List, length, map, Ok, Err, ap, sym}
+use Rattle.rx_spec.proofs.Prelude.{append-nil, eqb-true, arith, eqb-false, flat_map_more, nil_from_length, IfOk-weaker}
+use Rattle.rx_spec.proofs.Prelude.{string_bytes, iterate, outcome}
+use Rattle.std.specs.String.{string_len}
 use Rattle.rx_base.specs.Input.{query_of}
 use Rattle.rx_main.specs.Lines.{error_reply, match_line}
 use Rattle.rx_main.proofs.Matches.{Item, as_item, failed_reply, matches_told, none_reply, told_more}

@@ -1,8 +1,4 @@
-use Rattle.std.proofs.Common.{◌≡◌, ◌++◌, List, map}
-use Rattle.std.specs.Prelude.{Ok}
-use Rattle.std.specs.List.{flat_map}
-use Rattle.std.specs.String.{string_bytes}
-use Rattle.rx_spec.specs.Queries.{Match}
+use Rattle.rx_spec.proofs.Prelude.{◌≡◌, ◌++◌, List, map, Ok, flat_map, string_bytes, Match}
 use Rattle.rx_main.specs.Lines.{match_line}
 use Rattle.rx_main.proofs.each.matches_reply.Given as goal
 

@@ -1,6 +1,4 @@
-use Rattle.std.proofs.Common.{arith}
-use Rattle.std.proofs.lemmas.Grind.{common_steps}
-use Rattle.std.proofs.lemmas.Result.{IfOk-weaker}
+use Rattle.rx_spec.proofs.Prelude.{arith, common_steps, IfOk-weaker}
 use Rattle.rx_base.specs.Input.{query_of}
 use Rattle.rx_plan.specs.Plan.{plan_of}
 use Rattle.rx_script.specs.Script.{script_read}

@@ -1,5 +1,4 @@
-use Rattle.std.proofs.Common.{ap, subst, ◌∙◌, arith}
-use Rattle.std.proofs.lemmas.Result.{IfOk-weaker}
+use Rattle.rx_spec.proofs.Prelude.{ap, subst, ◌∙◌, arith, IfOk-weaker}
 use Rattle.rx_equal.specs.Walks.{IsVerdict}
 use Rattle.rx_main.specs.EqualLines.{equal_reply}
 use Rattle.rx_main.proofs.EqualAnswers.{equal_told}

@@ -1,5 +1,4 @@
-use Rattle.std.proofs.lemmas.Grind.{common_steps}
-use Rattle.std.proofs.Common.{append_assoc, arith}
+use Rattle.rx_spec.proofs.Prelude.{common_steps, append_assoc, arith}
 use Rattle.rx_main.proofs.WordTexts.{word_taken}
 use Rattle.rx_main.proofs.equal.push_word.Goals as goal
 

@@ -1,6 +1,4 @@
-use Rattle.std.proofs.Common.{◌≡◌, ◌++◌, map}
-use Rattle.std.specs.String.{string_bytes}
-use Rattle.std.specs.Prelude.{take}
+use Rattle.rx_spec.proofs.Prelude.{◌≡◌, ◌++◌, map, string_bytes, take}
 use Rattle.rx_base.specs.Unit.{unit_number}
 use Rattle.rx_main.specs.EqualLines.{word_text}
 use Rattle.rx_main.proofs.equal.push_word.Given as goal

@@ -1,7 +1,4 @@
-use Rattle.std.proofs.Common.{arith, ◌∙◌, [], Err, ap, subst}
-use Rattle.std.proofs.lemmas.Grind.{common_steps}
-use Rattle.std.proofs.lemmas.Result.{IfOk-weaker}
-use Rattle.rx_spec.specs.Queries.{MatchError}
+use Rattle.rx_spec.proofs.Prelude.{arith, ◌∙◌, [], Err, ap, subst, common_steps, IfOk-weaker, MatchError}
 use Rattle.rx_base.specs.Input.{query_of}
 use Rattle.rx_base.specs.Search.{mode_of}
 use Rattle.rx_plan.specs.Plan.{plan_of}

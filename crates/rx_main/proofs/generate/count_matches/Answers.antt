@@ -1,8 +1,6 @@
-use Rattle.std.proofs.lemmas.Grind.{common_steps}
-use Rattle.std.proofs.Common.{◌≡◌, ◌+◌, ◌≤◌, ◌++◌, ◌∷◌, [], ◌∙◌, List, map, Ok, ap, sym, append-nil, arith}
-use Rattle.std.proofs.lemmas.List.{length-append}
+use Rattle.rx_spec.proofs.Prelude.{common_steps, ◌≡◌, ◌+◌, ◌≤◌, ◌++◌, ◌∷◌, [], ◌∙◌, List, map, Ok, ap, sym, append-nil}
+use Rattle.rx_spec.proofs.Prelude.{arith, length-append, Match}
 use Rattle.std.proofs.lemmas.List.Sums.{sum_by_push}
-use Rattle.rx_spec.specs.Queries.{Match}
 use Rattle.rx_main.proofs.Matches.{Item, as_item, told_more}
 use Rattle.rx_main.proofs.Generated.{gen_all, gen_few, gen_given, gen_items, gen_no_error, haystack_short}
 use Rattle.rx_main.proofs.generate.count_matches.Goals as goal

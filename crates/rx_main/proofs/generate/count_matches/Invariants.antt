@@ -1,7 +1,4 @@
-use Rattle.std.proofs.Common.{◌≡◌, ◌≤◌, ◌*◌, ◌++◌, List, map, length, sum_by}
-use Rattle.std.specs.Prelude.{Ok}
-use Rattle.rx_spec.specs.Causes.{max_id}
-use Rattle.rx_spec.specs.Queries.{Match}
+use Rattle.rx_spec.proofs.Prelude.{◌≡◌, ◌≤◌, ◌*◌, ◌++◌, List, map, length, sum_by, Ok, max_id, Match}
 use Rattle.rx_main.proofs.Generated.{gen_items}
 use Rattle.rx_main.proofs.generate.count_matches.Given as goal
 

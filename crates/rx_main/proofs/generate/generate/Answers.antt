@@ -1,6 +1,4 @@
-use Rattle.std.proofs.Common.{arith}
-use Rattle.std.proofs.lemmas.Grind.{common_steps}
-use Rattle.std.proofs.lemmas.Result.{IfOk-weaker}
+use Rattle.rx_spec.proofs.Prelude.{arith, common_steps, IfOk-weaker}
 use Rattle.rx_main.specs.Scripts.{BuildReplies}
 use Rattle.rx_main.proofs.Refusals.{kind_told}
 use Rattle.rx_main.proofs.generate.generate.Goals as goal

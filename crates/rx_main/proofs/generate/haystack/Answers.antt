@@ -1,5 +1,4 @@
-use Rattle.std.proofs.Common.{arith, [], append_assoc}
-use Rattle.std.proofs.lemmas.Grind.{common_steps}
+use Rattle.rx_spec.proofs.Prelude.{arith, [], append_assoc, common_steps}
 use Rattle.rx_main.proofs.Generated.{haystack_more}
 use Rattle.rx_main.proofs.generate.haystack.Goals as goal
 

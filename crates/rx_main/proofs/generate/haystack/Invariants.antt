@@ -1,5 +1,4 @@
-use Rattle.std.proofs.Common.{◌≡◌}
-use Rattle.std.specs.List.{flat_map, range_with_len}
+use Rattle.rx_spec.proofs.Prelude.{◌≡◌, flat_map, range_with_len}
 use Rattle.rx_main.specs.Gen.{gen_piece}
 use Rattle.rx_main.proofs.generate.haystack.Given as goal
 

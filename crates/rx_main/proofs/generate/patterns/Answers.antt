@@ -1,5 +1,4 @@
-use Rattle.std.proofs.Common.{◌++◌, ◌∷◌, [], ◌∙◌, ap, sym, arith}
-use Rattle.std.proofs.lemmas.List.FromFn.{map-range_with_len_more}
+use Rattle.rx_spec.proofs.Prelude.{◌++◌, ◌∷◌, [], ◌∙◌, ap, sym, arith, map-range_with_len_more}
 use Rattle.rx_expr.specs.Expr.{literal_of}
 use Rattle.rx_main.specs.Gen.{gen_literal, gen_patterns}
 use Rattle.rx_main.proofs.generate.patterns.Goals as goal

@@ -1,4 +1,4 @@
-use Rattle.std.proofs.Common.{◌≡◌}
+use Rattle.rx_spec.proofs.Prelude.{◌≡◌}
 use Rattle.rx_main.specs.Gen.{gen_patterns}
 use Rattle.rx_main.proofs.generate.patterns.Given as goal
 

@@ -1,5 +1,4 @@
-use Rattle.std.proofs.Common.{arith}
-use Rattle.std.proofs.lemmas.Grind.{common_steps}
+use Rattle.rx_spec.proofs.Prelude.{arith, common_steps}
 use Rattle.rx_main.proofs.Refusals.{kind_told}
 use Rattle.rx_main.proofs.image.image_reply.Goals as goal
 

@@ -1,8 +1,5 @@
-use Rattle.std.proofs.Common.{arith, ◌≡◌, ◌++◌, ◌∙◌, ap}
-use Rattle.std.proofs.lemmas.Grind.{common_steps}
-use Rattle.std.proofs.lemmas.Result.{on_ok_weaker}
-use Rattle.std.specs.String.{string_bytes}
-use Rattle.rx_spec.specs.Queries.{Anchored, MatchError}
+use Rattle.rx_spec.proofs.Prelude.{arith, ◌≡◌, ◌++◌, ◌∙◌, ap, common_steps, on_ok_weaker, string_bytes, Anchored}
+use Rattle.rx_spec.proofs.Prelude.{MatchError}
 use Rattle.rx_base.specs.declared.match_error.MatchErrorKind.{MatchErrorKind}
 use Rattle.rx_base.specs.declared.search.Anchored.{Anchored as Mode}
 use Rattle.rx_base.specs.MatchError.{error_of}

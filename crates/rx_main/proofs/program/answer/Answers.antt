@@ -1,5 +1,4 @@
-use Rattle.std.proofs.Common.{refl, subst}
-use Rattle.std.proofs.lemmas.Result.{err_from_is_err_and}
+use Rattle.rx_spec.proofs.Prelude.{refl, subst, err_from_is_err_and}
 use Rattle.rx_main.specs.Commands.{Says}
 use Rattle.rx_main.specs.Replies.{Replies}
 use Rattle.rx_main.specs.declared.command.Command.{Command}

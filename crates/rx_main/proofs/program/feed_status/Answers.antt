@@ -1,4 +1,4 @@
-use Rattle.std.proofs.Common.{◌≡◌, Err, subst}
+use Rattle.rx_spec.proofs.Prelude.{◌≡◌, Err, subst}
 use Rattle.rx_base.specs.Search.{mode_of}
 use Rattle.rx_transfer.specs.Outside.{Ends}
 use Rattle.rx_feed.specs.Run.{FeedEnds}

@@ -1,5 +1,4 @@
-use Rattle.std.proofs.Common.{Err, ap}
-use Rattle.std.proofs.lemmas.Result.{IfOk-weaker}
+use Rattle.rx_spec.proofs.Prelude.{Err, ap, IfOk-weaker}
 use Rattle.rx_main.proofs.TakenReplies.{took_long}
 use Rattle.rx_main.proofs.program.reply.Goals as goal
 

@@ -1,5 +1,4 @@
-use Rattle.std.proofs.lemmas.Grind.{common_steps}
-use Rattle.std.proofs.Common.{subst, arith}
+use Rattle.rx_spec.proofs.Prelude.{common_steps, subst, arith}
 use Rattle.rx_base.specs.Search.{mode_of}
 use Rattle.rx_feed.specs.Run.{FeedBreaks, FeedCut, FeedStarved}
 use Rattle.rx_main.specs.Run.{Breaks, IsCut, IsOutput, IsStarved}

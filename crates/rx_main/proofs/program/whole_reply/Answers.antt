@@ -1,4 +1,4 @@
-use Rattle.std.proofs.Common.{Ok, ap, refl, subst, sym}
+use Rattle.rx_spec.proofs.Prelude.{Ok, ap, refl, subst, sym}
 use Rattle.rx_transfer.proofs.Transfers.{consumes_more}
 use Rattle.rx_main.specs.Replies.{ReadReplies}
 use Rattle.rx_main.proofs.TakenReplies.{took_all}

@@ -1,5 +1,4 @@
-use Rattle.std.proofs.Common.{arith}
-use Rattle.std.proofs.lemmas.Grind.{common_steps}
+use Rattle.rx_spec.proofs.Prelude.{arith, common_steps}
 use Rattle.rx_sparse.specs.Layouts as sparse
 use Rattle.rx_main.proofs.CheckAnswers.{failed_test_answers}
 use Rattle.rx_main.proofs.scan.scan_sparse.Goals as goal

@@ -1,7 +1,4 @@
-use Rattle.std.proofs.lemmas.Grind.{common_steps}
-use Rattle.std.proofs.Common.{◌++◌, ◌∷◌, [], ◌∙◌, ap, arith}
-use Rattle.std.proofs.lemmas.List.{flat_map_more}
-use Rattle.std.proofs.lemmas.Option.{same_Some}
+use Rattle.rx_spec.proofs.Prelude.{common_steps, ◌++◌, ◌∷◌, [], ◌∙◌, ap, arith, flat_map_more, same_Some}
 use Rattle.rx_scan.specs.Tokens.{tokens}
 use Rattle.rx_main.specs.Scan.{token_line}
 use Rattle.rx_main.proofs.TokenLines.{all_told, count_more, end_known, fewer, lines_count_more, told_more}

@@ -1,6 +1,4 @@
-use Rattle.std.proofs.Common.{◌≡◌, ◌++◌, length, List}
-use Rattle.std.specs.List.{flat_map}
-use Rattle.std.specs.String.{string_bytes}
+use Rattle.rx_spec.proofs.Prelude.{◌≡◌, ◌++◌, length, List, flat_map, string_bytes}
 use Rattle.rx_scan.specs.States.{state}
 use Rattle.rx_scan.specs.declared.token.Token.{Token}
 use Rattle.rx_main.specs.Scan.{token_line}

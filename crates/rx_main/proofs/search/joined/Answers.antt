@@ -1,5 +1,4 @@
-use Rattle.std.proofs.Common.{ap, sym, ◌∙◌}
-use Rattle.std.proofs.lemmas.Result.{IfOk-weaker}
+use Rattle.rx_spec.proofs.Prelude.{ap, sym, ◌∙◌, IfOk-weaker}
 use Rattle.rx_base.specs.Input.{query_of}
 use Rattle.rx_image.specs.Tables.{pair_of}
 use Rattle.rx_image.specs.declared.tables.Tables.{Tables}

@@ -1,10 +1,10 @@
-use Rattle.std.proofs.lemmas.Grind.{common_steps}
-use Rattle.std.proofs.Common.{◌∙◌, ◌++◌, List, ℕ, ap, arith, length, length-append, subst, sym}
+use Rattle.rx_spec.proofs.Prelude.{common_steps, ◌∙◌, ◌++◌, List, ℕ, ap, arith, length, length-append, subst, sym}
 use Rattle.rx_transfer.proofs.Transfers.{consumes_more}
 use Rattle.rx_base.specs.Search.{mode_of}
 use Rattle.rx_main.specs.Replies.{ReadReplies}
-use Rattle.rx_main.proofs.LiteralImages.{long_behind, unanchored}
+use Rattle.rx_main.proofs.LiteralImages.{long_behind}
 use Rattle.rx_main.proofs.seek.seek_reply.Goals as goal
+use Rattle.rx_meaning.proofs.EndStarts.{not_anchored}
 
 pub returns-in_err-sought-clause-long : goal.returns-in_err-sought-clause-long
 returns-in_err-sought-clause-long g c = grind (arith, common_steps, long_behind)
@@ -26,6 +26,6 @@ returns-clause-replied g c =
       omega (arith, all, n, size, count, c.in_ok-sought.ensures.few, c.if-len-gt-LONGEST.false),
       subst (λ command. ReadReplies command (first.0 ++ rest.0) c.in_ok-sought_reply.field-0) (sym c.in-Search.is)
           (c.in_ok-sought_reply.ensures first.0 rest.0 (sym n ∙ size)
-          (unanchored (mode_of c.in-Search.search.mode) (sym c.is_anchored.ensures ∙ c.if-is_anchored.false)) is
+          (not_anchored (mode_of c.in-Search.search.mode) (sym c.is_anchored.ensures ∙ c.if-is_anchored.false)) is
           (rw c.deref-2.ensures.value at rest.2)),
     )

@@ -1,7 +1,4 @@
-use Rattle.std.proofs.Common.{arith, ◌∙◌, Option, [], ap}
-use Rattle.std.proofs.lemmas.Grind.{common_steps}
-use Rattle.std.proofs.lemmas.Result.{IfOk-weaker}
-use Rattle.rx_spec.specs.Queries.{Match}
+use Rattle.rx_spec.proofs.Prelude.{arith, ◌∙◌, Option, [], ap, common_steps, IfOk-weaker, Match}
 use Rattle.rx_main.specs.Find.{found_reply}
 use Rattle.rx_main.proofs.LiteralImages.{ends_within, found_told, unfit_told}
 use Rattle.rx_main.proofs.seek.sought_reply.Goals as goal

@@ -1,6 +1,5 @@
-use Rattle.std.proofs.lemmas.Grind.{common_steps}
-use Rattle.std.proofs.Common.{◌≡◌, ◌<◌, ◌∙◌, ℕ, All, Vec, Global, List, length, sym, subst, arith}
-use Rattle.std.proofs.lemmas.Result.{IfOk-weaker}
+use Rattle.rx_spec.proofs.Prelude.{common_steps, ◌≡◌, ◌<◌, ◌∙◌, ℕ, All, Vec, Global, List, length, sym, subst, arith}
+use Rattle.rx_spec.proofs.Prelude.{IfOk-weaker}
 use Rattle.rx_base.proofs.Classes.{alphabet_len-le}
 use Rattle.rx_refine.specs.Moves.{Moves, AreAlikeByNumber, AreToldByNumber}
 use Rattle.rx_dense.specs.Layouts.{Layout, table_of}

@@ -1,34 +1,27 @@
-use Rattle.std.proofs.lemmas.Grind.{common_steps}
-use Rattle.std.proofs.Common.{◌≡◌, ◌*◌, ◌==◌, ◌&&◌, ◌∙◌, ℕ, Bool, false, nat_lt, slice_index, ap, ap₂, sym, subst}
-use Rattle.std.proofs.Common.{arith}
-use Rattle.std.specs.List.{list_any}
-use Rattle.std.proofs.lemmas.List.{get_or_default}
-use Rattle.rx_spec.specs.Ids.{row_of}
-use Rattle.rx_spec.specs.Tables.{is_match}
+use Rattle.rx_spec.proofs.Prelude.{common_steps, ◌≡◌, ◌*◌, ◌==◌, ◌&&◌, ◌∙◌, ℕ, Bool, false, nat_lt, slice_index, ap}
+use Rattle.rx_spec.proofs.Prelude.{ap₂, sym, subst, arith, list_any, get_or_default, row_of, is_match}
 use Rattle.rx_search.specs.Starts.{IsId}
 use Rattle.rx_dense.specs.Layouts.{Layout, ids_of, stride, table_of}
 use Rattle.rx_order.specs.RowOrder.{kind_by, kind_of}
-use Rattle.rx_order.proofs.Sorted.{row_numbered}
+use Rattle.rx_order.proofs.Sorted.{id_of_number}
 use Rattle.rx_minimize.proofs.KeptEnds.{AreEndsUpTo, kind_ended, place_begun, place_ended}
+use Rattle.rx_minimize.proofs.kinds.ends.Goals.{After-must-id}
 use Rattle.rx_minimize.proofs.kinds.ends.Goals as goal
 
+-- the id is that of the row that is kept at the place
+at_row : (c : After-must-id)
+    → IsId (ids_of c.args.dfa.now) c.must-id.result
+    × (row_of (ids_of c.args.dfa.now) c.must-id.result ≡ slice_index c.args.firsts.now c.rows.place)
+at_row c =
+    id_of_number c.args.dfa.now c.in_ok-starts.ensures.are_rows (slice_index c.args.firsts.now c.rows.place)
+    (c.requires.firsts.below c.rows.place c.rows-test.true) c.must-id.result
+    (rw c.stride2-stride2.ensures.value at c.must-id.ensures)
+
 pub is_match_state-is_match-requires : goal.is_match_state-is_match-requires
-is_match_state-is_match-requires c =
-    let l : Layout = c.args.dfa.now in
-    let row : ℕ = slice_index c.args.firsts.now c.rows.place in
-    let low = c.requires.firsts.below c.rows.place c.rows-test.true in
-    let n = row_numbered l c.in_ok-starts.ensures.are_rows row low in
-    let id : c.must-id.result ≡ row * stride l = c.must-id.ensures ∙ rw c.stride2-stride2.ensures.value n.shifted in
-    subst (IsId (ids_of l)) (sym id) n.is_id
+is_match_state-is_match-requires c = (at_row (goal.at.is_match_state-is_match-requires c).After-must-id).0
 
 pub is_accel_state-is_accel-requires : goal.is_accel_state-is_accel-requires
-is_accel_state-is_accel-requires c =
-    let l : Layout = c.args.dfa.now in
-    let row : ℕ = slice_index c.args.firsts.now c.rows.place in
-    let low = c.requires.firsts.below c.rows.place c.rows-test.true in
-    let n = row_numbered l c.in_ok-starts.ensures.are_rows row low in
-    let id : c.must-id.result ≡ row * stride l = c.must-id.ensures ∙ rw c.stride2-stride2.ensures.value n.shifted in
-    subst (IsId (ids_of l)) (sym id) n.is_id
+is_accel_state-is_accel-requires c = (at_row (goal.at.is_accel_state-is_accel-requires c).After-must-id).0
 
 pub kinds-init : goal.kinds-init
 kinds-init c =
@@ -36,9 +29,7 @@ kinds-init c =
     let row : ℕ = slice_index c.args.firsts.now c.rows.place in
     let starts = c.in_ok-starts.ensures.rows in
     let low = c.requires.firsts.below c.rows.place c.rows-test.true in
-    let n = row_numbered l c.in_ok-starts.ensures.are_rows row low in
-    let id : c.must-id.result ≡ row * stride l = c.must-id.ensures ∙ rw c.stride2-stride2.ensures.value n.shifted in
-    let own : row_of (ids_of l) c.must-id.result ≡ row = ap (row_of (ids_of l)) id ∙ n.row_is in
+    let own = (at_row (goal.at.kinds-init c).After-must-id).1 in
     let matches : c.is_match_state-is_match.result ≡ is_match (table_of l) row =
     c.is_match_state-is_match.ensures ∙ ap (is_match (table_of l)) own in
     let accel : c.is_accel_state-is_accel.result ≡ (table_of l).is_accelerated row =

@@ -1,5 +1,4 @@
-use Rattle.std.proofs.Common.{sym, arith}
-use Rattle.rx_spec.specs.Ids.{row_of}
+use Rattle.rx_spec.proofs.Prelude.{sym, arith, row_of}
 use Rattle.rx_dense.specs.Layouts.{ids_of, table_of}
 use Rattle.rx_minimize.proofs.LabelLists.{IsInterned, interned_below, match_added}
 use Rattle.rx_minimize.proofs.labels.label.Goals as goal

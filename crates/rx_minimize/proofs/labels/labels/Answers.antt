@@ -1,7 +1,5 @@
-use Rattle.std.proofs.Common.{◌≡◌, ◌+◌, ◌*◌, ◌<◌, ◌≤◌, ◌∙◌, ℕ, length, ap, sym, subst, arith, ⊎_elim}
-use Rattle.std.proofs.lemmas.List.{get_or_default}
-use Rattle.std.proofs.Math.Nat.{mod-eq_of_lt}
-use Rattle.rx_spec.specs.Ids.{row_of}
+use Rattle.rx_spec.proofs.Prelude.{◌≡◌, ◌+◌, ◌*◌, ◌<◌, ◌≤◌, ◌∙◌, ℕ, length, ap, sym, subst, arith, ⊎_elim}
+use Rattle.rx_spec.proofs.Prelude.{get_or_default, mod-eq_of_lt, row_of}
 use Rattle.rx_search.specs.Starts.{IsId}
 use Rattle.rx_dense.specs.Layouts.{Layout, ids_of, row_count, stride, table_of}
 use Rattle.rx_dense.proofs.Rows.{IsId-row_id, IsRowId-row, id_few, row_of-row}

@@ -1,7 +1,7 @@
-use Rattle.std.proofs.Common.{◌≡◌, ◌*◌, ◌^◌, ◌==◌, ◌∙◌, ℕ, Bool, not, length, map, slice_index, refl, ap, ap₂, sym}
-use Rattle.std.proofs.Common.{subst, arith}
+use Rattle.rx_spec.proofs.Prelude.{◌≡◌, ◌*◌, ◌^◌, ◌==◌, ◌∙◌, ℕ, Bool, not, length, map, slice_index, refl, ap, ap₂, sym}
+use Rattle.rx_spec.proofs.Prelude.{subst, arith}
 use Rattle.rx_dense.specs.Builder.{pattern_lists, with_patterns}
-use Rattle.rx_dense.specs.Layouts.{AreRows, AreStarts, Layout, stride, table_of}
+use Rattle.rx_dense.specs.Layouts.{AreRows, AreStarts, Layout, stride}
 use Rattle.rx_dense.specs.declared.special.Special.{Special}
 use Rattle.rx_dense.proofs.Shaped.{rows_kept, starts_kept}
 use Rattle.rx_order.specs.RowOrder.{is_marked}
@@ -10,26 +10,31 @@ use Rattle.rx_minimize.specs.Joined.{AreNewIds}
 use Rattle.rx_minimize.specs.Minimized.{IsMinimized}
 use Rattle.rx_minimize.proofs.JoinedTables.{IsMinimizing}
 use Rattle.rx_minimize.proofs.Minimizing.{minimized}
-use Rattle.rx_minimize.proofs.KeptKinds.{IsKept, have_matches}
+use Rattle.rx_minimize.proofs.KeptKinds.{IsKept, have_matches, numbered}
 use Rattle.rx_minimize.proofs.NewIds.{are_firsts, ends_few, new_ids, numbers_few}
-use Rattle.rx_minimize.proofs.Quotients.{AreNumbered, two_firsts}
+use Rattle.rx_minimize.proofs.Quotients.{two_firsts}
+use Rattle.rx_minimize.proofs.minimize_rows.join_blocks.Goals.{In_ok-ends}
 use Rattle.rx_minimize.proofs.minimize_rows.join_blocks.Goals as goal
 
 pub ids-requires-clause-ids : goal.ids-requires-clause-ids
 ids-requires-clause-ids c = rw c.stride2.ensures.value (numbers_few c.requires c.in_ok-numbering.ensures)
 
+-- the rows that are kept
+kept : (c : In_ok-ends) → IsKept c.args.dfa.now c.args.blocks.now c.in_ok-numbering.numbering.numbers.items
+    c.in_ok-numbering.numbering.firsts.items c.in_ok-ends.ends
+kept c = record {
+  in_order = c.requires.in_order;
+  plain = c.requires.plain;
+  are_blocks = c.requires.are_blocks;
+  renumbered = c.in_ok-numbering.ensures;
+  within = rw c.deref.ensures.value at c.in_ok-ends.ensures.within;
+  to_end = rw c.deref.ensures.value at c.in_ok-ends.ensures.to_end;
+}
+
 pub patterns_of_rows-requires-clause-places : goal.patterns_of_rows-requires-clause-places
 patterns_of_rows-requires-clause-places c =
-    let kept : IsKept c.args.dfa.now c.args.blocks.now c.in_ok-numbering.numbering.numbers.items
-    c.in_ok-numbering.numbering.firsts.items c.in_ok-ends.ends = record {
-      in_order = c.requires.in_order;
-      plain = c.requires.plain;
-      are_blocks = c.requires.are_blocks;
-      renumbered = c.in_ok-numbering.ensures;
-      within = rw c.deref.ensures.value at c.in_ok-ends.ensures.within;
-      to_end = rw c.deref.ensures.value at c.in_ok-ends.ensures.to_end;
-    } in
-    rw c.deref-2.ensures.value (have_matches kept c.requires.rows)
+    rw c.deref-2.ensures.value
+    (have_matches (kept (goal.at.patterns_of_rows-requires-clause-places c).In_ok-ends) c.requires.rows)
 
 pub special-special-requires-clause-ids : goal.special-special-requires-clause-ids
 special-special-requires-clause-ids c =
@@ -55,13 +60,7 @@ join_rows-requires-clause-starts c =
 
 pub join_rows-requires-clause-two : goal.join_rows-requires-clause-two
 join_rows-requires-clause-two c =
-    let by : AreNumbered (table_of c.args.dfa.now) c.args.blocks.now c.in_ok-numbering.numbering.numbers.items
-    c.in_ok-numbering.numbering.firsts.items =
-    record {
-      is = c.requires.in_order.sound.is_table;
-      are = c.requires.are_blocks;
-      renumbered = c.in_ok-numbering.ensures;
-    } in
+    let by = numbered (kept (goal.at.join_rows-requires-clause-two c).In_ok-ends) in
     rw c.deref-3.ensures.value (two_firsts by)
 
 pub join_rows-requires-clause-ids : goal.join_rows-requires-clause-ids
@@ -85,14 +84,7 @@ returns-clause-ok c =
     let s : IsMinimizing l c.args.blocks.now c.in_ok-numbering.numbering.numbers.items
     c.in_ok-numbering.numbering.firsts.items c.in_ok-ids.ids.items c.in_ok-ends.ends lists c.join_rows.new.dfa =
     record {
-      kept = record {
-        in_order = c.requires.in_order;
-        plain = c.requires.plain;
-        are_blocks = c.requires.are_blocks;
-        renumbered = c.in_ok-numbering.ensures;
-        within = rw c.deref.ensures.value at c.in_ok-ends.ensures.within;
-        to_end = rw c.deref.ensures.value at c.in_ok-ends.ensures.to_end;
-      };
+      kept = kept (goal.at.returns-clause-ok c).In_ok-ends;
       are_starts = c.requires.starts;
       ids_are = rw c.stride2.ensures.value at c.in_ok-ids.ensures;
       patterns = rw c.deref-2.ensures.value at c.in_ok-patterns.ensures.lists;

@@ -1,5 +1,4 @@
-use Rattle.std.proofs.lemmas.Grind.{common_steps}
-use Rattle.std.proofs.Common.{length, arith}
+use Rattle.rx_spec.proofs.Prelude.{common_steps, length, arith}
 use Rattle.rx_minimize.proofs.JoinedRows.{AreSteps, all_ids, joined, renamed_count, renamed_rows, rows_is, starts_below}
 use Rattle.rx_minimize.proofs.JoinedRows.{words_below}
 use Rattle.rx_minimize.proofs.rows.join_rows.Goals.{After-move_rows}

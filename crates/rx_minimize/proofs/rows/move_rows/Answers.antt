@@ -1,5 +1,4 @@
-use Rattle.std.proofs.lemmas.Grind.{common_steps}
-use Rattle.std.proofs.Common.{◌≡◌, ◌<◌, ◌*◌, ◌∙◌, ℕ, slice_index, sym, subst, arith}
+use Rattle.rx_spec.proofs.Prelude.{common_steps, ◌≡◌, ◌<◌, ◌*◌, ◌∙◌, ℕ, slice_index, sym, subst, arith}
 use Rattle.rx_search.specs.Starts.{IsId}
 use Rattle.rx_dense.specs.Layouts.{Layout, ids_of, row_count, stride}
 use Rattle.rx_minimize.proofs.MovedRows.{id_kept, none_moved, place_least, rest_kept, row_moved, shifted, swapped_kept}

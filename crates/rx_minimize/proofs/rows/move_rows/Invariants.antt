@@ -1,4 +1,4 @@
-use Rattle.std.proofs.Common.{◌≡◌}
+use Rattle.rx_spec.proofs.Prelude.{◌≡◌}
 use Rattle.rx_dense.specs.Layouts.{stride}
 use Rattle.rx_minimize.specs.Joined.{AreMoved}
 use Rattle.rx_minimize.proofs.rows.move_rows.Given as goal

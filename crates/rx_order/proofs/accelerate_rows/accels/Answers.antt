@@ -1,14 +1,13 @@
-use Rattle.std.proofs.Common.{◌≡◌, ◌+◌, ◌-◌, ◌*◌, ◌≤◌, ◌∙◌, ◌++◌, [], ◌∷◌, ℕ, List, length, map, slice_index, ap, ap₂}
-use Rattle.std.proofs.Common.{sym, subst, arith}
-use Rattle.std.specs.List.{range_with_len}
-use Rattle.std.proofs.lemmas.List.{get_or_default}
-use Rattle.std.proofs.lemmas.List.FromFn.{length-map-range_with_len, map-range_with_len_more}
-use Rattle.rx_spec.specs.Ids.{row_of}
+use Rattle.rx_spec.proofs.Prelude.{◌≡◌, ◌+◌, ◌-◌, ◌≤◌, ◌∙◌, ◌++◌, [], ◌∷◌, ℕ, List, length, map, slice_index, ap, ap₂}
+use Rattle.rx_spec.proofs.Prelude.{sym, arith, range_with_len, get_or_default, length-map-range_with_len}
+use Rattle.rx_spec.proofs.Prelude.{map-range_with_len_more, row_of}
 use Rattle.rx_search.specs.Starts.{IsId}
-use Rattle.rx_dense.specs.Layouts.{ids_of, stride, table_of}
+use Rattle.rx_dense.specs.Layouts.{ids_of, table_of}
 use Rattle.rx_order.specs.ByKind.{leaving_of}
 use Rattle.rx_order.specs.RowOrder.{are_needles}
-use Rattle.rx_order.proofs.Sorted.{ends_rise, number_few, numbered, place_below, row_in, rows_count, skippable, some_of}
+use Rattle.rx_order.proofs.Sorted.{ends_rise, id_of_number, number_few, numbered, place_below, row_in, rows_count}
+use Rattle.rx_order.proofs.Sorted.{skippable, some_of}
+use Rattle.rx_order.proofs.accelerate_rows.accels.Goals.{After-must-id}
 use Rattle.rx_order.proofs.accelerate_rows.accels.Goals as goal
 
 pub index-requires : goal.index-requires
@@ -28,35 +27,31 @@ must-id-requires c =
     let n = numbered s (slice_index rows place) (row_in s place low) in
     rw (row, c.stride2-stride2.ensures.value, n.shifted) n.few
 
-pub needles-requires : goal.needles-requires
-needles-requires c =
+-- the id is that of the row at the place
+at_place : (c : After-must-id)
+    → IsId (ids_of c.args.dfa.now) c.must-id.result
+    × (row_of (ids_of c.args.dfa.now) c.must-id.result
+    ≡ slice_index c.args.order.now.rows.items c.loop-place.place)
+at_place c =
     let s = c.requires.sorted in
     let place = c.loop-place.place in
     let rows = c.args.order.now.rows.items in
     let low = place_below s place 5 (omega arith) c.loop-place-test.true in
     let row : c.index.result.now ≡ slice_index rows place =
     c.index.ensures ∙ get_or_default rows place c.index.result.now 0 (omega (arith, rows_count s)) in
-    let n = numbered s (slice_index rows place) (row_in s place low) in
-    let id : c.must-id.result ≡ slice_index rows place * stride c.args.dfa.now =
-    c.must-id.ensures ∙ rw (row, c.stride2-stride2.ensures.value) n.shifted in
-    subst (IsId (ids_of c.args.dfa.now)) (sym id) n.is_id
+    id_of_number c.args.dfa.now s.are_rows (slice_index rows place) (row_in s place low) c.must-id.result
+    (rw (row, c.stride2-stride2.ensures.value) at c.must-id.ensures)
+
+pub needles-requires : goal.needles-requires
+needles-requires c = (at_place (goal.at.needles-requires c).After-must-id).0
 
 pub unwrap-requires : goal.unwrap-requires
 unwrap-requires c =
-    let s = c.requires.sorted in
-    let l = c.args.dfa.now in
-    let place = c.loop-place.place in
-    let rows = c.args.order.now.rows.items in
-    let low = place_below s place 5 (omega arith) c.loop-place-test.true in
-    let row : c.index.result.now ≡ slice_index rows place =
-    c.index.ensures ∙ get_or_default rows place c.index.result.now 0 (omega (arith, rows_count s)) in
-    let n = numbered s (slice_index rows place) (row_in s place low) in
-    let id : c.must-id.result ≡ slice_index rows place * stride l =
-    c.must-id.ensures ∙ rw (row, c.stride2-stride2.ensures.value) n.shifted in
-    let own : row_of (ids_of l) c.must-id.result ≡ slice_index rows place = ap (row_of (ids_of l)) id ∙ n.row_is in
     some_of c.needles.result
-    (c.needles.ensures.exactly ∙ ap (λ r. are_needles (leaving_of (table_of l) r)) own
-    ∙ skippable s place c.loop-place.auto.place c.loop-place-test.true)
+    (c.needles.ensures.exactly
+    ∙ ap (λ r. are_needles (leaving_of (table_of c.args.dfa.now) r))
+    (at_place (goal.at.unwrap-requires c).After-must-id).1
+    ∙ skippable c.requires.sorted c.loop-place.place c.loop-place.auto.place c.loop-place-test.true)
 
 pub add-requires : goal.add-requires
 add-requires c =
@@ -77,13 +72,7 @@ loop-place-preserved c =
     let place = c.loop-place.place in
     let rows = c.args.order.now.rows.items in
     let from = slice_index c.args.order.now.ends 2 in
-    let low = place_below s place 5 (omega arith) c.loop-place-test.true in
-    let row : c.index.result.now ≡ slice_index rows place =
-    c.index.ensures ∙ get_or_default rows place c.index.result.now 0 (omega (arith, rows_count s)) in
-    let n = numbered s (slice_index rows place) (row_in s place low) in
-    let id : c.must-id.result ≡ slice_index rows place * stride l =
-    c.must-id.ensures ∙ rw (row, c.stride2-stride2.ensures.value) n.shifted in
-    let own : row_of (ids_of l) c.must-id.result ≡ slice_index rows place = ap (row_of (ids_of l)) id ∙ n.row_is in
+    let own = (at_place (goal.at.loop-place-preserved c).After-must-id).1 in
     let behind : from ≤ place = c.loop-place.auto.place in
     let f = λ (place : ℕ). leaving_of (table_of l) (slice_index rows place) in
     let more : place + 1 - from ≡ place - from + 1 = omega arith in

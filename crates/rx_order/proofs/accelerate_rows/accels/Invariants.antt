@@ -1,5 +1,4 @@
-use Rattle.std.proofs.Common.{◌≡◌, ◌-◌, map, slice_index}
-use Rattle.std.specs.List.{range_with_len}
+use Rattle.rx_spec.proofs.Prelude.{◌≡◌, ◌-◌, map, slice_index, range_with_len}
 use Rattle.rx_dense.specs.Layouts.{table_of}
 use Rattle.rx_order.specs.ByKind.{leaving_of}
 use Rattle.rx_order.proofs.accelerate_rows.accels.Given as goal

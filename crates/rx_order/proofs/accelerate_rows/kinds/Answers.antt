@@ -1,42 +1,29 @@
-use Rattle.std.proofs.Common.{◌≡◌, ◌==◌, ◌*◌, ◌<◌, ◌∙◌, ◌++◌, [], ◌∷◌, ◌&&◌, ℕ, Bool, false, length, nat_lt}
-use Rattle.std.proofs.Common.{slice_index, ap, ap₂, sym, subst, ⊎_elim, arith}
-use Rattle.std.specs.List.{list_any}
-use Rattle.std.proofs.lemmas.Bool.{cases_eq}
-use Rattle.std.proofs.lemmas.List.{get_or_append_left, get_or_default, get_or_push, length_push}
-use Rattle.std.proofs.lemmas.List.Elements.{All-push}
-use Rattle.std.proofs.Math.Nat.{mod-eq_of_lt}
-use Rattle.rx_spec.specs.Ids.{row_of}
-use Rattle.rx_spec.specs.Tables.{is_match}
+use Rattle.rx_spec.proofs.Prelude.{◌≡◌, ◌==◌, ◌*◌, ◌<◌, ◌∙◌, ◌++◌, [], ◌∷◌, ◌&&◌, ℕ, Bool, false, length, nat_lt}
+use Rattle.rx_spec.proofs.Prelude.{slice_index, ap, ap₂, sym, subst, ⊎_elim, arith, list_any, cases_eq}
+use Rattle.rx_spec.proofs.Prelude.{get_or_append_left, get_or_default, get_or_push, length_push, All-push, row_of}
+use Rattle.rx_spec.proofs.Prelude.{is_match}
 use Rattle.rx_search.specs.Starts.{IsId}
 use Rattle.rx_dense.specs.Layouts.{Layout, ids_of, row_count, stride, table_of}
-use Rattle.rx_dense.proofs.Rows.{IsId-row_id, IsRowId-row, id_few, row_of-row}
 use Rattle.rx_order.specs.ByKind.{leaving_of}
 use Rattle.rx_order.specs.RowOrder.{are_needles, is_start_row, kind_by}
+use Rattle.rx_order.proofs.Sorted.{id_of_number}
+use Rattle.rx_order.proofs.accelerate_rows.kinds.Goals.{After-must-id}
 use Rattle.rx_order.proofs.accelerate_rows.kinds.Goals as goal
 
+-- the id is that of the row
+at_row : (c : After-must-id)
+    → IsId (ids_of c.args.dfa.now) c.must-id.result × (row_of (ids_of c.args.dfa.now) c.must-id.result ≡ c.loop-row.row)
+at_row c =
+    let starts = c.in_ok-starts.ensures in
+    id_of_number c.args.dfa.now starts.are_rows c.loop-row.row
+    (omega (arith, c.len-row-end.ensures, starts.rows.count, c.in_ok-starts.starts.ok.0)) c.must-id.result
+    (rw c.stride2-stride2.ensures.value at c.must-id.ensures)
+
 pub needles-requires : goal.needles-requires
-needles-requires c =
-    let l : Layout = c.args.dfa.now in
-    let row : ℕ = c.loop-row.row in
-    let starts = c.in_ok-starts.ensures.rows in
-    let low : row < row_count l = omega (arith, c.len-row-end.ensures, starts.count, c.in_ok-starts.starts.ok.0) in
-    let is = IsRowId-row l row low in
-    let few = id_few l c.in_ok-starts.ensures.are_rows (row * stride l) is in
-    let id : c.must-id.result ≡ row * stride l =
-    c.must-id.ensures ∙ rw c.stride2-stride2.ensures.value (mod-eq_of_lt (omega (arith, few))) in
-    subst (IsId (ids_of l)) (sym id) (IsId-row_id l (row * stride l) is)
+needles-requires c = (at_row (goal.at.needles-requires c).After-must-id).0
 
 pub is_match_state-requires : goal.is_match_state-requires
-is_match_state-requires c =
-    let l : Layout = c.args.dfa.now in
-    let row : ℕ = c.loop-row.row in
-    let starts = c.in_ok-starts.ensures.rows in
-    let low : row < row_count l = omega (arith, c.len-row-end.ensures, starts.count, c.in_ok-starts.starts.ok.0) in
-    let is = IsRowId-row l row low in
-    let few = id_few l c.in_ok-starts.ensures.are_rows (row * stride l) is in
-    let id : c.must-id.result ≡ row * stride l =
-    c.must-id.ensures ∙ rw c.stride2-stride2.ensures.value (mod-eq_of_lt (omega (arith, few))) in
-    subst (IsId (ids_of l)) (sym id) (IsId-row_id l (row * stride l) is)
+is_match_state-requires c = (at_row (goal.at.is_match_state-requires c).After-must-id).0
 
 pub loop-row-preserved : goal.loop-row-preserved
 loop-row-preserved c =
@@ -46,10 +33,7 @@ loop-row-preserved c =
     let count = c.loop-row.invariant.count in
     let starts = c.in_ok-starts.ensures.rows in
     let low : row < row_count l = omega (arith, c.len-row-end.ensures, starts.count, c.in_ok-starts.starts.ok.0) in
-    let few = id_few l c.in_ok-starts.ensures.are_rows (row * stride l) (IsRowId-row l row low) in
-    let id : c.must-id.result ≡ row * stride l =
-    c.must-id.ensures ∙ rw c.stride2-stride2.ensures.value (mod-eq_of_lt (omega (arith, few))) in
-    let own : row_of (ids_of l) c.must-id.result ≡ row = ap (row_of (ids_of l)) id ∙ row_of-row l row low in
+    let own = (at_row (goal.at.loop-row-preserved c).After-must-id).1 in
     let matches : c.is_match_state.result ≡ is_match (table_of l) row =
     c.is_match_state.ensures ∙ ap (is_match (table_of l)) own in
     let skips : c.is_some-accelerated.result ≡ are_needles (leaving_of (table_of l) row) =

@@ -1,5 +1,4 @@
-use Rattle.std.proofs.Common.{◌≡◌, ℕ, ◌<◌, All, length, slice_index}
-use Rattle.rx_spec.specs.Tables.{is_match}
+use Rattle.rx_spec.proofs.Prelude.{◌≡◌, ℕ, ◌<◌, All, length, slice_index, is_match}
 use Rattle.rx_dense.specs.Layouts.{table_of}
 use Rattle.rx_order.specs.ByKind.{leaving_of}
 use Rattle.rx_order.specs.RowOrder.{are_needles, is_start_row, kind_by}

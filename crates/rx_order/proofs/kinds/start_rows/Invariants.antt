@@ -1,4 +1,4 @@
-use Rattle.std.proofs.Common.{map}
+use Rattle.rx_spec.proofs.Prelude.{map}
 use Rattle.rx_order.proofs.MarkedRows.{AreNoted, Entry}
 use Rattle.rx_order.proofs.kinds.start_rows.Given as goal
 

@@ -1,7 +1,6 @@
-use Rattle.std.proofs.Common.{◌≡◌, ℕ, zero, suc, ◌+◌, ◌<◌, ◌≤◌, ◌∙◌, Bool, true, false, if◌then◌else◌, not, nat_le}
-use Rattle.std.proofs.Common.{nat_lt, slice_index, refl, subst, arith, lit<}
-use Rattle.std.specs.List.{list_all, range_with_len}
-use Rattle.std.proofs.lemmas.List.FromFn.{get_or-range_with_len}
+use Rattle.rx_spec.proofs.Prelude.{◌≡◌, ℕ, zero, suc, ◌+◌, ◌<◌, ◌≤◌, ◌∙◌, Bool, true, false, if◌then◌else◌, not, nat_le}
+use Rattle.rx_spec.proofs.Prelude.{nat_lt, slice_index, refl, subst, arith, lit<, list_all, range_with_len}
+use Rattle.rx_spec.proofs.Prelude.{get_or-range_with_len}
 use Rattle.std.proofs.lemmas.List.Sums.{AllPass-from_list_all}
 use Rattle.rx_order.specs.Examples.{five_ends, five_kinds}
 use Rattle.rx_order.proofs.laws.five_rows.Goals as goal

@@ -1,4 +1,4 @@
-use Rattle.std.proofs.Common.{◌≡◌, ℕ, suc, zero, ◌<◌, [], ◌∷◌, map, refl, arith, lit<}
+use Rattle.rx_spec.proofs.Prelude.{◌≡◌, ℕ, suc, zero, ◌<◌, [], ◌∷◌, map, refl, arith, lit<}
 use Rattle.rx_order.specs.Renaming.{new_id, place_of, row_at}
 use Rattle.rx_order.specs.Examples.{three_rows, three_renamed, last_first}
 use Rattle.rx_order.proofs.laws.three_rows.Goals as goal

@@ -1,6 +1,4 @@
-use Rattle.std.proofs.lemmas.Grind.{common_steps}
-use Rattle.std.proofs.Common.{◌∙◌, ◌++◌, [], ◌∷◌, List, ap, sym, arith}
-use Rattle.std.proofs.lemmas.List.FromFn.{map-range_with_len_more}
+use Rattle.rx_spec.proofs.Prelude.{common_steps, ◌∙◌, ◌++◌, [], ◌∷◌, List, ap, sym, arith, map-range_with_len_more}
 use Rattle.rx_order.specs.Ranks.{ranked_row}
 use Rattle.rx_order.specs.declared.order.Ranked.{Ranked}
 use Rattle.rx_order.proofs.order.unsorted.Goals as goal

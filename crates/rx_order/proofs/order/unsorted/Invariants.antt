@@ -1,5 +1,4 @@
-use Rattle.std.proofs.Common.{◌≡◌, map}
-use Rattle.std.specs.List.{range_with_len}
+use Rattle.rx_spec.proofs.Prelude.{◌≡◌, map, range_with_len}
 use Rattle.rx_order.specs.Ranks.{ranked_row}
 use Rattle.rx_order.proofs.order.unsorted.Given as goal
 

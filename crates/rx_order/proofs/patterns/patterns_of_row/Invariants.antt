@@ -1,5 +1,4 @@
-use Rattle.std.proofs.Common.{◌≡◌, take}
-use Rattle.rx_spec.specs.Ids.{row_of}
+use Rattle.rx_spec.proofs.Prelude.{◌≡◌, take, row_of}
 use Rattle.rx_search.specs.Labels.{patterns_of}
 use Rattle.rx_dense.specs.Layouts.{ids_of, table_of}
 use Rattle.rx_order.proofs.patterns.patterns_of_row.Given as goal

@@ -1,4 +1,4 @@
-use Rattle.std.proofs.Common.{slice_index}
+use Rattle.rx_spec.proofs.Prelude.{slice_index}
 use Rattle.rx_search.specs.Labels.{patterns_of}
 use Rattle.rx_dense.specs.Layouts.{stride, table_of}
 use Rattle.rx_order.proofs.InsertedLists.{AreInserted}

@@ -1,9 +1,6 @@
-use Rattle.std.proofs.Common.{rules, ℕ, ◌+◌, ◌-◌, ◌*◌, ◌/◌, ◌%◌, ◌^◌, ◌<◌, ◌∙◌, Bool, true, Vec, Global, length}
-use Rattle.std.proofs.Common.{slice_index, ap, sym, arith}
-use Rattle.std.proofs.lemmas.Grind.{common_steps}
+use Rattle.rx_spec.proofs.Prelude.{rules, ℕ, ◌+◌, ◌-◌, ◌*◌, ◌/◌, ◌%◌, ◌^◌, ◌<◌, ◌∙◌, Bool, true, Vec, Global, length}
+use Rattle.rx_spec.proofs.Prelude.{slice_index, ap, sym, arith, common_steps, All-push, length-range_with_len}
 use Rattle.std.proofs.lemmas.List.{length-set}
-use Rattle.std.proofs.lemmas.List.Elements.{All-push}
-use Rattle.std.proofs.lemmas.List.FromFn.{length-range_with_len}
 use Rattle.rx_dense.specs.Layouts.{row_count}
 use Rattle.rx_dense.proofs.Rows.{row-below}
 use Rattle.rx_order.proofs.DepthFirst.{IsLeft, found_row, last_left, numbered, ranks_kept, step}

@@ -1,4 +1,4 @@
-use Rattle.std.proofs.Common.{◌≡◌, ℕ, ◌<◌, length, slice_index}
+use Rattle.rx_spec.proofs.Prelude.{◌≡◌, ℕ, ◌<◌, length, slice_index}
 use Rattle.rx_dense.specs.Layouts.{row_count}
 use Rattle.rx_order.proofs.DepthFirst.{AreLeft, IsLeft}
 use Rattle.rx_order.proofs.ranks.depth_first.Given as goal

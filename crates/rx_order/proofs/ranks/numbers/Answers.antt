@@ -1,5 +1,4 @@
-use Rattle.std.proofs.lemmas.Grind.{common_steps}
-use Rattle.std.proofs.Common.{◌∙◌, sym, arith}
+use Rattle.rx_spec.proofs.Prelude.{common_steps, ◌∙◌, sym, arith}
 use Rattle.rx_order.proofs.ExchangedRows.{range_more}
 use Rattle.rx_order.proofs.ranks.numbers.Goals as goal
 

@@ -1,9 +1,6 @@
-use Rattle.std.proofs.Common.{◌++◌, [], ◌∷◌, ◌≡◌, ◌&&◌, ◌==◌, ◌*◌, ◌<◌, ◌∙◌, ℕ, Bool, false, length, nat_lt}
-use Rattle.std.proofs.Common.{slice_index, ap₂, sym, subst, ⊎_elim, arith}
-use Rattle.std.specs.List.{list_any}
-use Rattle.std.proofs.lemmas.Bool.{cases_eq}
-use Rattle.std.proofs.lemmas.List.{get_or_append_left, get_or_default, get_or_push, length_push}
-use Rattle.std.proofs.lemmas.List.Elements.{All-push}
+use Rattle.rx_spec.proofs.Prelude.{◌++◌, [], ◌∷◌, ◌≡◌, ◌&&◌, ◌==◌, ◌*◌, ◌<◌, ◌∙◌, ℕ, Bool, false, length, nat_lt}
+use Rattle.rx_spec.proofs.Prelude.{slice_index, ap₂, sym, subst, ⊎_elim, arith, list_any, cases_eq, get_or_append_left}
+use Rattle.rx_spec.proofs.Prelude.{get_or_default, get_or_push, length_push, All-push}
 use Rattle.rx_dense.specs.Layouts.{Layout, row_count, stride}
 use Rattle.rx_order.specs.Ordering.{is_match_row}
 use Rattle.rx_order.specs.RowOrder.{is_start_row, kind_by}

@@ -1,4 +1,4 @@
-use Rattle.std.specs.BTreeMap.{keys}
+use Rattle.rx_spec.proofs.Prelude.{keys}
 use Rattle.rx_order.proofs.MarkedRows.{AreNoted}
 use Rattle.rx_order.proofs.shuffle_rows.match_rows.Given as goal
 

@@ -1,58 +1,48 @@
-use Rattle.std.proofs.Common.{ℕ, ◌^◌, ◌≤◌, true, List, length, ◌∙◌, ap, refl, rules, subst, sym}
-use Rattle.std.specs.List.{concat}
-use Rattle.rx_spec.specs.Causes.{max_id}
+use Rattle.rx_spec.proofs.Prelude.{◌≡◌, ℕ, ◌^◌, ◌≤◌, true, List, length, ◌∙◌, ap, refl, rules, subst, sym, concat}
+use Rattle.rx_spec.proofs.Prelude.{max_id}
+use Rattle.rx_dense.specs.Layouts.{Layout}
 use Rattle.rx_dense.specs.declared.special.Special.{Special}
 use Rattle.rx_order.specs.SpecialIds.{special_ids}
 use Rattle.rx_order.proofs.MatchRows.{lists_are}
 use Rattle.rx_order.proofs.Ordered.{specials}
 use Rattle.rx_order.proofs.Shuffled.{IsShuffling, has_patterns, is_shuffle, shuffled, shuffled_sound, shuffling_ends}
+use Rattle.rx_order.proofs.shuffle_rows.shuffle.Goals.{After-arrange}
 use Rattle.rx_order.proofs.shuffle_rows.shuffle.Goals as goal
+
+-- what the calls leave
+shuffling : (c : After-arrange) (m : Layout)
+    → m ≡ record c.arrange.new.dfa {
+      special = special_ids (2 ^ c.arrange.new.dfa.stride2) c.in_ok-order.order.ends true;
+    }
+    → IsShuffling c.args.dfa.now c.args.matches c.in_ok-kinds.kinds.items c.in_ok-ranks.ranks.items
+    c.in_ok-order.order.rows.items c.in_ok-order.order.ends c.set_pattern_map.new.self c.arrange.new.dfa m
+shuffling c m set =
+    let kinds = c.in_ok-kinds.ensures in
+    record {
+      are = c.requires;
+      ordered = kinds.ordered;
+      are_rows = kinds.are_rows;
+      are_starts = kinds.are_starts;
+      kinds_are = kinds.kinds;
+      by_kind = rw c.deref-2.ensures.value at c.in_ok-order.ensures.by_kind;
+      ranked = rw (c.deref-2.ensures.value, c.deref-3.ensures.value) at c.in_ok-order.ensures.ranked;
+      match_ranks = rw c.deref.ensures.value at c.in_ok-ranks.ensures.matches;
+      next_is = c.in_ok-set_pattern_map.ensures.ok;
+      reordered = rw c.deref-4.ensures.value at c.arrange.ensures;
+      set = set;
+    }
 
 pub special-requires-clause-ids : goal.special-requires-clause-ids
 special-requires-clause-ids c =
-    let kinds = c.in_ok-kinds.ensures in
-    let next = c.arrange.new.dfa in
-    let s : IsShuffling c.args.dfa.now c.args.matches c.in_ok-kinds.kinds.items
-    c.in_ok-ranks.ranks.items c.in_ok-order.order.rows.items c.in_ok-order.order.ends c.set_pattern_map.new.self next
-    (record next { special = special_ids (2 ^ next.stride2) c.in_ok-order.order.ends true }) = record {
-      are = c.requires;
-      ordered = kinds.ordered;
-      are_rows = kinds.are_rows;
-      are_starts = kinds.are_starts;
-      kinds_are = kinds.kinds;
-      by_kind = rw c.deref-2.ensures.value at c.in_ok-order.ensures.by_kind;
-      ranked = rw (c.deref-2.ensures.value, c.deref-3.ensures.value) at c.in_ok-order.ensures.ranked;
-      match_ranks = rw c.deref.ensures.value at c.in_ok-ranks.ensures.matches;
-      next_is = c.in_ok-set_pattern_map.ensures.ok;
-      reordered = rw c.deref-4.ensures.value at c.arrange.ensures;
-      set = refl;
-    } in
-    rw c.stride2.ensures.value (shuffling_ends s)
+    rw c.stride2.ensures.value
+    (shuffling_ends (shuffling (goal.at.special-requires-clause-ids c).After-arrange _ refl))
 
 pub returns : goal.returns
 returns c =
-    let kinds = c.in_ok-kinds.ensures in
-    let next = c.arrange.new.dfa in
-    let ends = c.in_ok-order.order.ends in
-    let s : IsShuffling c.args.dfa.now c.args.matches c.in_ok-kinds.kinds.items
-    c.in_ok-ranks.ranks.items c.in_ok-order.order.rows.items ends c.set_pattern_map.new.self next
-    c.set_special.new.self = record {
-      are = c.requires;
-      ordered = kinds.ordered;
-      are_rows = kinds.are_rows;
-      are_starts = kinds.are_starts;
-      kinds_are = kinds.kinds;
-      by_kind = rw c.deref-2.ensures.value at c.in_ok-order.ensures.by_kind;
-      ranked = rw (c.deref-2.ensures.value, c.deref-3.ensures.value) at c.in_ok-order.ensures.ranked;
-      match_ranks = rw c.deref.ensures.value at c.in_ok-ranks.ensures.matches;
-      next_is = c.in_ok-set_pattern_map.ensures.ok;
-      reordered = rw c.deref-4.ensures.value at c.arrange.ensures;
-      set =
-          c.set_special.ensures
-          ∙ ap (λ (special : Special). record next { special = special })
-          (c.special.ensures ∙ ap (λ k. special_ids (2 ^ k) ends true) c.stride2.ensures.value);
-    } in
-    let is = is_shuffle s in
+    let is = is_shuffle (shuffling (goal.at.returns c).After-arrange c.set_special.new.self
+    (c.set_special.ensures
+    ∙ ap (λ (special : Special). record c.arrange.new.dfa { special = special })
+    (c.special.ensures ∙ ap (λ k. special_ids (2 ^ k) c.in_ok-order.order.ends true) c.stride2.ensures.value))) in
     record {
       ok = shuffled is;
       sound = shuffled_sound is;

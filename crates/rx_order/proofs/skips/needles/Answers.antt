@@ -1,7 +1,5 @@
-use Rattle.std.proofs.lemmas.Grind.{common_steps}
-use Rattle.std.proofs.Common.{◌≡◌, ◌≢◌, ◌==◌, [], ◌∷◌, ◌++◌, ◌+◌, if◌then◌else◌, length, ◌∙◌, ap, sym, subst, arith}
-use Rattle.std.proofs.lemmas.Bool.{eqb-true, eqb-false}
-use Rattle.rx_spec.specs.Ids.{row_of}
+use Rattle.rx_spec.proofs.Prelude.{common_steps, ◌≡◌, ◌≢◌, ◌==◌, [], ◌∷◌, ◌++◌, ◌+◌, if◌then◌else◌, length, ◌∙◌, ap}
+use Rattle.rx_spec.proofs.Prelude.{sym, subst, arith, eqb-true, eqb-false, row_of}
 use Rattle.rx_dense.specs.Layouts.{ids_of, table_of}
 use Rattle.rx_order.specs.RowOrder.{are_needles}
 use Rattle.rx_order.proofs.Leaving.{AreFound, found_all, found_none, leaves_found, leaving_is, new_byte, none_found}

@@ -1,6 +1,4 @@
-use Rattle.std.proofs.Common.{◌≡◌, ◌∙◌, ℕ, ◌-◌, List, sym, ap, subst, slice_index}
-use Rattle.rx_spec.specs.HalfSearches.{next_offset}
-use Rattle.rx_spec.specs.Ids.{row_of}
+use Rattle.rx_spec.proofs.Prelude.{◌≡◌, ◌∙◌, ℕ, ◌-◌, List, sym, ap, subst, slice_index, next_offset, row_of}
 use Rattle.rx_spec.specs.declared.Direction.{Direction}
 use Rattle.rx_base.specs.Input.{query_of}
 use Rattle.rx_search.specs.Needles.{byte_ahead}

@@ -1,7 +1,4 @@
-use Rattle.std.proofs.Common.{ℕ}
-use Rattle.std.specs.List.{flat_map}
-use Rattle.rx_spec.specs.Causes.{id_count}
-use Rattle.rx_spec.specs.States.{row_at, closure}
+use Rattle.rx_spec.proofs.Prelude.{ℕ, flat_map, id_count, row_at, closure}
 use Rattle.rx_expr.specs.Nfa.{meaning}
 use Rattle.rx_powerset.specs.Closures.{passing_of}
 use Rattle.rx_powerset.proofs.Closures.{nfa_graph, own_either}

@@ -1,6 +1,5 @@
-use Rattle.std.proofs.Common.{◌<◌, reverse, sum_by}
+use Rattle.rx_spec.proofs.Prelude.{◌<◌, reverse, sum_by, id_count}
 use Rattle.std.specs.List.{AllByRecursion as Every}
-use Rattle.rx_spec.specs.Causes.{id_count}
 use Rattle.rx_expr.specs.Nfa.{meaning}
 use Rattle.rx_powerset.specs.Closures.{passing_of, closed_rows}
 use Rattle.rx_powerset.proofs.Closures.{nfa_graph, weight_of}

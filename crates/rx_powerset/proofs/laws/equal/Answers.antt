@@ -1,5 +1,4 @@
-use Rattle.std.proofs.Common.{arith}
-use Rattle.std.proofs.lemmas.Grind.{common_steps}
+use Rattle.rx_spec.proofs.Prelude.{arith, common_steps}
 use Rattle.rx_powerset.proofs.StateOrder.{told_equal, equal_told}
 use Rattle.rx_powerset.proofs.laws.equal.Goals as goal
 

@@ -1,6 +1,5 @@
-use Rattle.std.proofs.Common.{ap, sym, ◌∙◌}
+use Rattle.rx_spec.proofs.Prelude.{ap, sym, ◌∙◌, is_eq}
 use Rattle.std.proofs.lemmas.Cmp.{is_eq_index}
-use Rattle.std.specs.Ordering.{is_eq}
 use Rattle.rx_powerset.proofs.StateOrder.{ranked_equal, equal_ranked}
 use Rattle.rx_powerset.proofs.laws.same_rank.Goals as goal
 

@@ -1,5 +1,4 @@
-use Rattle.std.proofs.lemmas.Grind.{common_steps}
-use Rattle.std.proofs.Common.{arith}
+use Rattle.rx_spec.proofs.Prelude.{common_steps, arith}
 use Rattle.rx_powerset.proofs.FirstMatch.{uncut_more, cut_here, cut_nowhere}
 use Rattle.rx_powerset.proofs.state.to_first_match.Goals as goal
 

@@ -1,4 +1,4 @@
-use Rattle.std.proofs.Common.{None, Some, refl, arith}
+use Rattle.rx_spec.proofs.Prelude.{None, Some, refl, arith}
 use Rattle.rx_prefilter.specs.LiteralExamples.{asked}
 use Rattle.rx_prefilter.proofs.Examples as examples
 use Rattle.rx_prefilter.proofs.laws.matches.Goals as goal

@@ -1,7 +1,5 @@
-use Rattle.std.proofs.Common.{◌≡◌, ℕ, ◌<◌, ◌≤◌, ◌==◌, ◌-◌, ap, sym, ◌∙◌, subst, ⊎_elim, arith, length, slice_index}
-use Rattle.std.proofs.lemmas.Bool.{cases_lt}
-use Rattle.rx_spec.specs.Bytes.{eoi}
-use Rattle.rx_spec.specs.Ids.{row_of}
+use Rattle.rx_spec.proofs.Prelude.{◌≡◌, ℕ, ◌<◌, ◌≤◌, ◌==◌, ◌-◌, ap, sym, ◌∙◌, subst, ⊎_elim, arith, length, slice_index}
+use Rattle.rx_spec.proofs.Prelude.{cases_lt, eoi, row_of}
 use Rattle.rx_search.proofs.Standing.{standing}
 use Rattle.rx_search.proofs.Walks.{unaccelerated}
 use Rattle.rx_prefilter.specs.Literals.{rows_at}
@@ -13,15 +11,14 @@ loop-k-preserved g c = λ k low.
     let t = g.A.Automaton.table c.args.dfa.now in
     let ids = g.A.Automaton.ids c.args.dfa.now in
     let at = rows_at ids c.args.rows.now in
-    let n = c.requires.count in
-    let within : c.loop-k.k < length c.args.rows.now = omega (arith, n, c.loop-k-test.true) in
+    let within : c.loop-k.k < length c.args.rows.now = omega arith in
     let row = read c.args.rows.now c.loop-k.k c.index-rows-k.result within c.index-rows-k.is in
     let s = standing (slice_index c.args.rows.now c.loop-k.k)
     (g.met.A.Automaton.sound c.args.dfa.now c.requires.sound) (g.met.A.Automaton.are_ids c.args.dfa.now)
     (c.requires.ids c.loop-k.k 0 within) in
     ⊎_elim (λ (before : k < c.loop-k.k). c.loop-k.invariant k before)
     (λ (last : c.loop-k.k ≤ k).
-    let here : c.loop-k.k ≡ k = omega (arith, low, last) in
+    let here : c.loop-k.k ≡ k = omega arith in
     subst (IsRowOf t c.args.literal.now at) here
     (record {
       plain =
@@ -43,24 +40,22 @@ returns g c = λ yes.
     let t = g.A.Automaton.table c.args.dfa.now in
     let ids = g.A.Automaton.ids c.args.dfa.now in
     let len = length c.args.literal.now in
-    let n = c.requires.count in
     let some = c.if-len-lt2.false in
-    let all : c.loop-k.k ≡ len = omega (arith, c.loop-k.auto.k-end, c.loop-k-test.false) in
-    let last = read c.args.rows.now (len - 1) c.index-rows-len.result (omega (arith, n)) c.index-rows-len.is in
-    let end = read c.args.rows.now len c.index-rows-len-else-is_special_state.result (omega (arith, n))
+    let last = read c.args.rows.now (len - 1) c.index-rows-len.result (omega arith) c.index-rows-len.is in
+    let end = read c.args.rows.now len c.index-rows-len-else-is_special_state.result (omega arith)
     c.index-rows-len-else-is_special_state.is in
     let s = standing (slice_index c.args.rows.now (len - 1))
     (g.met.A.Automaton.sound c.args.dfa.now c.requires.sound) (g.met.A.Automaton.are_ids c.args.dfa.now)
-    (c.requires.ids (len - 1) 0 (omega (arith, n))) in
+    (c.requires.ids (len - 1) 0 (omega arith)) in
     let rows : (k : ℕ) → k < len → IsRowOf t c.args.literal.now (rows_at ids c.args.rows.now) k = λ k h.
-    c.loop-k.invariant k (omega (arith, h, all)) in
+    c.loop-k.invariant k (omega arith) in
     record {
-      some = omega (arith, some);
+      some = omega arith;
       leads = λ k byte h low. (rows k h).leads byte low;
       plain = λ k h.
           ⊎_elim (λ (before : k < len). (rows k before).plain)
           (λ (over : len ≤ k).
-          let there : k ≡ len = omega (arith, h, over) in
+          let there : k ≡ len = omega arith in
           ap (λ (k : ℕ). t.machine.label (rows_at ids c.args.rows.now k)) there
           ∙ ap (λ (id : ℕ). t.machine.label (row_of ids id)) end
           ∙ c.tells_nothing.ensures c.if-not-tells_nothing.false)

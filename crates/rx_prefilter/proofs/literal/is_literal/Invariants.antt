@@ -1,4 +1,4 @@
-use Rattle.std.proofs.Common.{ℕ, ◌<◌}
+use Rattle.rx_spec.proofs.Prelude.{ℕ, ◌<◌}
 use Rattle.rx_prefilter.specs.Literals.{rows_at}
 use Rattle.rx_prefilter.proofs.RowsOf.{IsRowOf}
 use Rattle.rx_prefilter.proofs.literal.is_literal.Given as goal

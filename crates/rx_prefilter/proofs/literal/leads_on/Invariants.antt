@@ -1,4 +1,4 @@
-use Rattle.std.proofs.Common.{ℕ, ◌<◌}
+use Rattle.rx_spec.proofs.Prelude.{ℕ, ◌<◌}
 use Rattle.rx_prefilter.specs.Literals.{LeadsOn, rows_at}
 use Rattle.rx_prefilter.proofs.literal.leads_on.Given as goal
 

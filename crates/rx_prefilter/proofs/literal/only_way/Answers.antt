@@ -1,18 +1,14 @@
-use Rattle.std.proofs.lemmas.Grind.{common_steps}
-use Rattle.std.proofs.Common.{[], arith}
-use Rattle.std.proofs.Math.ListN.{get_or-append}
-use Rattle.std.proofs.lemmas.List.{length-append}
-use Rattle.rx_prefilter.proofs.RowsOf.{first_row}
+use Rattle.rx_spec.proofs.Prelude.{common_steps, [], arith}
 use Rattle.rx_prefilter.proofs.literal.only_way.Goals as goal
 
 pub loop-init : goal.loop-init
-loop-init g c = grind (arith, common_steps, first_row)
+loop-init g c = grind (arith, common_steps)
 
 pub way_on-requires : goal.way_on-requires
 way_on-requires g c = c.loop.invariant.is_id
 
 pub loop-preserved : goal.loop-preserved
-loop-preserved g c = grind (arith, common_steps, get_or-append, length-append)
+loop-preserved g c = grind (arith, common_steps)
 
 pub returns-clause-start : goal.returns-clause-start
 returns-clause-start g c = c.loop.invariant.first

@@ -1,4 +1,4 @@
-use Rattle.std.proofs.Common.{◌≡◌, ◌+◌, All, length, slice_index}
+use Rattle.rx_spec.proofs.Prelude.{◌≡◌, ◌+◌, All, length, slice_index}
 use Rattle.rx_search.specs.Starts.{IsId}
 use Rattle.rx_prefilter.proofs.literal.only_way.Given as goal
 

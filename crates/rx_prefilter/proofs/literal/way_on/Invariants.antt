@@ -1,4 +1,4 @@
-use Rattle.std.proofs.Common.{IfSome}
+use Rattle.rx_spec.proofs.Prelude.{IfSome}
 use Rattle.rx_search.specs.Starts.{IsId}
 use Rattle.rx_prefilter.proofs.literal.way_on.Given as goal
 

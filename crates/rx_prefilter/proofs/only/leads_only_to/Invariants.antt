@@ -1,5 +1,4 @@
-use Rattle.std.proofs.Common.{◌≡◌, ℕ, ◌<◌}
-use Rattle.rx_spec.specs.Ids.{row_of}
+use Rattle.rx_spec.proofs.Prelude.{◌≡◌, ℕ, ◌<◌, row_of}
 use Rattle.rx_prefilter.proofs.only.leads_only_to.Given as goal
 
 abbrev pub invariant-loop-byte : goal.invariant-loop-byte

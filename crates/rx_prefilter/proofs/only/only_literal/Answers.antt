@@ -1,13 +1,10 @@
-use Rattle.std.proofs.lemmas.Grind.{common_steps}
-use Rattle.std.proofs.Common.{◌≡◌, ◌==◌, ℕ, length, ap, sym, ◌∙◌, subst, arith, slice_index, slice_index_or}
-use Rattle.std.proofs.lemmas.Bool.{eqb-true}
-use Rattle.rx_spec.specs.Ids.{row_of}
-use Rattle.rx_spec.specs.Queries.{Anchored}
+use Rattle.rx_spec.proofs.Prelude.{common_steps, ◌≡◌, ◌==◌, ℕ, length, ap, sym, ◌∙◌, subst, arith, slice_index}
+use Rattle.rx_spec.proofs.Prelude.{slice_index_or, eqb-true, not-false, row_of, Anchored}
 use Rattle.rx_search.proofs.Standing.{standing}
 use Rattle.rx_prefilter.specs.Literals.{rows_at}
 use Rattle.rx_prefilter.specs.OnlyLiterals.{SearchesFor, StartsAt, Tells}
 use Rattle.rx_prefilter.proofs.LiteralSearches.{IsForward, IsReverse, searches_for}
-use Rattle.rx_prefilter.proofs.RowsOf.{not_false, read}
+use Rattle.rx_prefilter.proofs.RowsOf.{read}
 use Rattle.rx_prefilter.proofs.only.only_literal.Goals as goal
 
 pub returns-clause-searches : goal.returns-clause-searches
@@ -24,10 +21,9 @@ returns-clause-searches g c =
     (rw c.forward-forward.ensures.table c.forward-forward.ensures.sound) in
     let reverse_sound = g.met.A.Automaton.sound reverse
     (rw c.reverse-reverse.ensures.table c.reverse-reverse.ensures.sound) in
-    let count = is.1.count in
     let first = is.0 in
     let end : slice_index rows (length bytes) ≡ c.index-end.result.now =
-    read rows (length bytes) c.index-end.result.now (omega (arith, count))
+    read rows (length bytes) c.index-end.result.now (omega arith)
     (c.index-end.ensures
     ∙ ap (λ (n : ℕ). slice_index_or rows n c.index-end.result.now)
     (c.len.ensures ∙ sym c.deref.ensures.len ∙ ap length c.deref.ensures.value)) in
@@ -41,7 +37,7 @@ returns-clause-searches g c =
       is_literal = is.2;
       below = λ k h.
           (standing (slice_index rows k) forward_sound (g.met.A.Automaton.are_ids forward)
-          (is.1.are_ids k 0 (omega (arith, h, count)))).below;
+          (is.1.are_ids k 0 (omega arith))).below;
       tells =
           subst (λ (id : ℕ). Tells f (row_of ids id) c.in-Some-told_at.pattern) (sym end) c.in-Some-told_at.ensures;
     } in
@@ -60,7 +56,7 @@ returns-clause-searches g c =
       tells =
           subst (Tells r (row_of (g.A.Automaton.ids reverse) c.in-Some-row_before.before))
           (eqb-true c.in-Some-told_at-2.other c.in-Some-told_at.pattern
-          (not_false (c.in-Some-told_at-2.other == c.in-Some-told_at.pattern) (sym c.ne.ensures ∙ c.if-ne.false)))
+          (not-false (c.in-Some-told_at-2.other == c.in-Some-told_at.pattern) (sym c.ne.ensures ∙ c.if-ne.false)))
           c.in-Some-told_at-2.ensures;
     } in
     let both : SearchesFor f r bytes c.in-Some-told_at.pattern =

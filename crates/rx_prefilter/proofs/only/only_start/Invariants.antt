@@ -1,5 +1,4 @@
-use Rattle.std.proofs.Common.{ℕ, ◌<◌, Some}
-use Rattle.rx_spec.specs.Ids.{row_of}
+use Rattle.rx_spec.proofs.Prelude.{ℕ, ◌<◌, Some, row_of}
 use Rattle.rx_base.specs.Search.{mode_of}
 use Rattle.rx_prefilter.specs.OnlyLiterals.{StartsBeside}
 use Rattle.rx_prefilter.proofs.only.only_start.Given as goal

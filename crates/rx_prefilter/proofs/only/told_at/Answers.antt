@@ -1,23 +1,17 @@
-use Rattle.std.proofs.Common.{◌∷◌, ℕ, ap, sym, ◌∙◌, arith}
-use Rattle.std.proofs.lemmas.Bool.{eqb-true}
-use Rattle.rx_spec.specs.Ids.{row_of}
-use Rattle.rx_spec.specs.Machines.{Label}
+use Rattle.rx_spec.proofs.Prelude.{◌∷◌, ℕ, ap, sym, ◌∙◌, arith, eqb-true, row_of, Label}
 use Rattle.rx_search.proofs.Standing.{standing}
 use Rattle.rx_prefilter.proofs.Telling.{first_told}
 use Rattle.rx_prefilter.proofs.only.told_at.Goals as goal
 
 pub match_pattern-requires-clause-within : goal.match_pattern-requires-clause-within
 match_pattern-requires-clause-within g c =
-    let t = g.A.Automaton.table c.args.dfa.now in
-    let ids = g.A.Automaton.ids c.args.dfa.now in
     let s = standing c.next_eoi_state-told.result (g.met.A.Automaton.sound c.args.dfa.now c.requires.sound)
     (g.met.A.Automaton.are_ids c.args.dfa.now) c.next_eoi_state-told.ensures.is_id in
     let is = sym c.is_match_state.ensures ∙ c.if-not-is_match_state.false in
-    let first = first_told s is in omega (arith, first.some)
+    let first = first_told s is in omega arith
 
 pub returns : goal.returns
 returns g c =
-    let t = g.A.Automaton.table c.args.dfa.now in
     let ids = g.A.Automaton.ids c.args.dfa.now in
     let told = c.next_eoi_state-told.result in
     let s = standing told (g.met.A.Automaton.sound c.args.dfa.now c.requires.sound)

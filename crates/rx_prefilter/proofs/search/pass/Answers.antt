@@ -1,7 +1,4 @@
-use Rattle.std.proofs.Common.{◌≡◌, ap, sym, ◌∙◌, arith, slice_index, List, ℕ}
-use Rattle.std.proofs.lemmas.Bool.{eqb-true}
-use Rattle.rx_spec.specs.Ids.{row_of}
-use Rattle.rx_base.specs.Input.{query_of}
+use Rattle.rx_spec.proofs.Prelude.{◌≡◌, ap, sym, ◌∙◌, arith, slice_index, List, ℕ, eqb-true, row_of}
 use Rattle.rx_search.proofs.Standing.{standing}
 use Rattle.rx_search.proofs.Walks.{ordinary, unaccelerated}
 use Rattle.rx_prefilter.proofs.Going.{going_on}
@@ -11,8 +8,6 @@ pub returns-then-eq : goal.returns-then-eq
 returns-then-eq g c =
     let t = g.A.Automaton.table c.args.dfa.now in
     let ids = g.A.Automaton.ids c.args.dfa.now in
-    let q = query_of c.args.input.now in
-    let on = c.bytes.invariant.on in
     let same : c.next_state-next.result ≡ c.args.start =
     eqb-true c.next_state-next.result c.args.start (sym c.eq.ensures ∙ c.if-eq.true) in
     let s = standing c.next_state-next.result (g.met.A.Automaton.sound c.args.dfa.now c.requires.sound)
@@ -25,7 +20,7 @@ returns-then-eq g c =
     c.requires.fits c.bytes.invariant.stopped.going (λ over. c.bytes-test.true (over ∙ sym c.end.ensures))
     (c.next_state-next.ensures.row
     ∙ ap (λ (hay : List ℕ). t.machine.next (row_of ids c.bytes.row) (slice_index hay c.bytes.at)) c.haystack.ensures) in
-    (rw (sym same) going, omega (arith, on))
+    (rw (sym same) going, omega arith)
 
 pub bytes-preserved : goal.bytes-preserved
 bytes-preserved g c =
@@ -46,5 +41,5 @@ bytes-preserved g c =
             c.haystack.ensures);
         no_needles = s.sound.no_needle (row_of ids c.next_state-next.result) s.below (unaccelerated s plain);
       };
-      on = omega (arith, on);
+      on = omega arith;
     }

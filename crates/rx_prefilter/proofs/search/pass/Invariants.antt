@@ -1,4 +1,4 @@
-use Rattle.std.proofs.Common.{◌-◌, ◌≤◌}
+use Rattle.rx_spec.proofs.Prelude.{◌-◌, ◌≤◌}
 use Rattle.rx_base.specs.Input.{query_of}
 use Rattle.rx_prefilter.specs.Literals.{IsStopped}
 use Rattle.rx_prefilter.proofs.search.pass.Given as goal

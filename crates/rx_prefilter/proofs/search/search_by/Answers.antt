@@ -1,9 +1,7 @@
-use Rattle.std.proofs.Common.{◌≡◌, ◌+◌, ◌-◌, ℕ, ap, sym, ◌∙◌, subst, arith, length, slice_index, slice_index_or}
-use Rattle.rx_spec.specs.Bytes.{AreBytes}
-use Rattle.rx_spec.specs.Ids.{row_of}
+use Rattle.rx_spec.proofs.Prelude.{common_steps, ◌≡◌, ◌+◌, ◌-◌, ℕ, ap, sym, ◌∙◌, arith, length, slice_index}
+use Rattle.rx_spec.proofs.Prelude.{slice_index_or, AreBytes}
 use Rattle.rx_spec.specs.declared.Direction.{Direction}
 use Rattle.rx_base.specs.Input.{query_of}
-use Rattle.rx_search.specs.Starts.{IsId}
 use Rattle.rx_search.proofs.InSpan.{unsplit_in_span}
 use Rattle.rx_search.proofs.Standing.{standing}
 use Rattle.rx_search.proofs.Walks.{Place}
@@ -20,7 +18,6 @@ returns-in_default-clause-answer g c =
     let bytes = c.args.literal.now.bytes.items in
     let sound = g.met.A.Automaton.sound c.args.dfa.now c.requires.sound in
     let is = c.requires.literal in
-    let count = is.rows.count in
     let place : Place q c.literals.at = record {
       fits = c.requires.fits.within;
       in_span = c.literals.invariant.in_span;
@@ -32,7 +29,7 @@ returns-in_default-clause-answer g c =
     ∙ nowhere sound is.is_literal
     (λ k h.
     (standing (slice_index rows k) sound (g.met.A.Automaton.are_ids c.args.dfa.now)
-    (is.rows.are_ids k 0 (omega (arith, h, count)))).below)
+    (is.rows.are_ids k 0 (omega arith))).below)
     hay place
     (ends_nowhere q.haystack bytes c.literals.invariant.in_span.high c.requires.fits.within none))
 
@@ -46,7 +43,6 @@ pass-requires-clause-stopped g c =
     let from = c.literals.at in
     let sound = g.met.A.Automaton.sound c.args.dfa.now c.requires.sound in
     let is = c.requires.literal in
-    let count = is.rows.count in
     let some = is.is_literal.some in
     let low = c.literals.invariant.in_span.low in
     let high = c.literals.invariant.in_span.high in
@@ -60,29 +56,23 @@ pass-requires-clause-stopped g c =
     c.len.ensures ∙ sym c.deref.ensures.len ∙ ap length c.deref.ensures.value in
     let id = c.index-in-literals.result.now in
     let row : slice_index rows (length bytes - 1) ≡ id =
-    read rows (length bytes - 1) id (omega (arith, count, some))
+    read rows (length bytes - 1) id (omega arith)
     (c.index-in-literals.ensures ∙ ap (λ (n : ℕ). slice_index_or rows (n - 1) id) len) in
     let to : from + c.in-Some.place + length bytes - 1 ≡ from + c.in-Some.place + (c.len.result - 1) =
-    omega (arith, len, some) in
+    omega arith in
     let walked = found sound is.is_literal
     (λ k h.
     (standing (slice_index rows k) sound (g.met.A.Automaton.are_ids c.args.dfa.now)
-    (is.rows.are_ids k 0 (omega (arith, h, count)))).below)
+    (is.rows.are_ids k 0 (omega arith))).below)
     hay place c.in-Some.place room
     (all_but_one q.haystack bytes high fits finds some)
     (ends_later q.haystack bytes high fits finds) in
     let last : IsGoing t q (rows_at ids rows (length bytes - 1)) (from + c.in-Some.place + length bytes - 1) =
     record {
-      in_span = record { low = omega (arith, low, some); high = omega (arith, room, some) };
+      in_span = record { low = omega arith; high = omega arith };
       answer = c.literals.invariant.answer ∙ walked;
     } in
-    record {
-      is_id = subst (IsId ids) row (is.rows.are_ids (length bytes - 1) 0 (omega (arith, count, some)));
-      going =
-          subst (IsGoing t q (row_of ids id)) to
-          (subst (λ (i : ℕ). IsGoing t q (row_of ids i) (from + c.in-Some.place + length bytes - 1)) row last);
-      no_needles = ap (λ (i : ℕ). t.needles (row_of ids i)) (sym row) ∙ is.is_literal.no_needles;
-    }
+    grind (arith, common_steps)
 
 pub returns-in-Stopped-clause-within : goal.returns-in-Stopped-clause-within
 returns-in-Stopped-clause-within g c =

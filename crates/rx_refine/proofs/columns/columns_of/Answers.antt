@@ -1,11 +1,11 @@
 use Rattle.std.proofs.lemmas.Grind.{common_steps}
-use Rattle.std.proofs.Common.{◌≡◌, ◌+◌, ◌*◌, ◌≤◌, length, sym, ◌∙◌, arith, mul-le-mul_left, mul-le-mul_right}
+use Rattle.std.proofs.Common.{◌≡◌, ◌+◌, ◌*◌, ◌≤◌, length, sym, ◌∙◌, arith, mul-le-mul_right}
 use Rattle.std.proofs.lemmas.List.{with_items_is}
 use Rattle.rx_refine.proofs.TableColumns.{AreColumns-grown}
 use Rattle.rx_refine.proofs.columns.columns_of.Goals as goal
 
 pub overflow_mul-most : goal.overflow_mul-most
-overflow_mul-most c = grind (arith, common_steps, mul-le-mul_left, mul-le-mul_right)
+overflow_mul-most c = grind (arith, common_steps)
 
 pub loop-first-preserved : goal.loop-first-preserved
 loop-first-preserved c =

@@ -23,26 +23,20 @@ loop-seen-smaller g c = let b = blocks_below c.loop-seen.invariant.round in omeg
 -- ---- a unit takes all blocks that wait for it
 reads_all : (g : given.Over) (c : After-index-then-is_crowded g)
     → c.index-then-is_crowded.result.now ≡ get_or c.loop-unit.taken.items c.loop-unit.unit 0
-reads_all g c = grind (arith, common_steps, taken_read)
+reads_all g c = grind (arith, common_steps)
 
 pub take_all-requires-clause-room : goal.take_all-requires-clause-room
 take_all-requires-clause-room g c =
-    let units = c.units-units.ensures.units in
-    let test = c.loop-unit-test.true in
     let is = reads_all g (goal.at.take_all-requires-clause-room g c).After-index-then-is_crowded in
     lt_of_le_of_lt (all_allowed c.loop-unit.invariant (omega arith) is) c.requires.room
 
 pub returns-in_err-taken-2-clause-steps : goal.returns-in_err-taken-2-clause-steps
 returns-in_err-taken-2-clause-steps g c =
-    let units = c.units-units.ensures.units in
-    let test = c.loop-unit-test.true in
     let is = reads_all g (goal.at.returns-in_err-taken-2-clause-steps g c).After-index-then-is_crowded in
     le_trans c.in_err-taken-2.ensures.steps (all_allowed c.loop-unit.invariant (omega arith) is)
 
 pub loop-unit-preserved-then-is_crowded-2 : goal.loop-unit-preserved-then-is_crowded-2
 loop-unit-preserved-then-is_crowded-2 g c =
-    let units = c.units-units.ensures.units in
-    let test = c.loop-unit-test.true in
     let is = reads_all g (goal.at.loop-unit-preserved-then-is_crowded-2 g c).After-index-then-is_crowded in
     let taken = c.in_ok-taken-2.ensures in
     rw taken.end
@@ -51,8 +45,6 @@ loop-unit-preserved-then-is_crowded-2 g c =
 pub loop-partition-init : goal.loop-partition-init
 loop-partition-init g c = elim c.if-is_crowded.branch [
   | then-is_crowded+in_ok-taken-2+else-is_crowded-2 w ↦
-      let units = c.units-units.ensures.units in
-      let test = c.loop-unit-test.true in
       let is =
       taken_read c.loop-unit.invariant (omega arith) w.index-then-is_crowded.result.now w.index-then-is_crowded.ensures
       in
@@ -89,48 +81,41 @@ returns-then-is_discrete-clause-no_gaps g c =
 next_block : (g : given.Over) (c : After-members g)
     → IsNext (parts c.loop-partition.partition) c.loop-partition.taken.items c.loop-unit.unit c.index-block.result.now
     c.members.result.now
-next_block g c = grind (arith, common_steps, taken_read)
+next_block g c = grind (arith, common_steps)
 
 pub gather-requires-clause-members : goal.gather-requires-clause-members
 gather-requires-clause-members g c =
-    let units = c.units-units.ensures.units in
     let next = next_block g (goal.at.gather-requires-clause-members g c).After-members in
     taking_small c.loop-partition.invariant (omega arith) next
 
 pub gather-requires-clause-room : goal.gather-requires-clause-room
 gather-requires-clause-room g c =
-    let units = c.units-units.ensures.units in
     let next = next_block g (goal.at.gather-requires-clause-room g c).After-members in
     lt_of_le_of_lt (turn_allowed c.loop-partition.invariant (omega arith) next) c.requires.room
 
 pub returns-in_err-gather-clause-steps : goal.returns-in_err-gather-clause-steps
 returns-in_err-gather-clause-steps g c =
-    let units = c.units-units.ensures.units in
     let next = next_block g (goal.at.returns-in_err-gather-clause-steps g c).After-members in
     le_trans c.in_err-gather.ensures.steps (turn_allowed c.loop-partition.invariant (omega arith) next)
 
 pub split-requires-clause-hits : goal.split-requires-clause-hits
 split-requires-clause-hits g c =
-    let units = c.units-units.ensures.units in
     let next = next_block g (goal.at.split-requires-clause-hits g c).After-members in
     hits_small c.loop-partition.invariant (omega arith) next c.units-units.ensures.moves
     (c.deref.ensures.value ∙ c.in_ok-gather.ensures.hits)
 
 pub returns-in_err-split-clause-steps : goal.returns-in_err-split-clause-steps
 returns-in_err-split-clause-steps g c =
-    let units = c.units-units.ensures.units in
     let next = next_block g (goal.at.returns-in_err-split-clause-steps g c).After-members in
     le_trans c.in_ok-gather.ensures.steps (turn_allowed c.loop-partition.invariant (omega arith) next)
 
 pub loop-partition-smaller : goal.loop-partition-smaller
 loop-partition-smaller g c =
-    let units = c.units-units.ensures.units in
     let next = next_block g (goal.at.loop-partition-smaller g c).After-members in
     turn_falls c.loop-partition.invariant (omega arith) next
 
 pub loop-partition-preserved : goal.loop-partition-preserved
 loop-partition-preserved g c =
-    let units = c.units-units.ensures.units in
     let next = next_block g (goal.at.loop-partition-preserved g c).After-members in
     let gathered = c.in_ok-gather.ensures in
     turn_more c.loop-partition.invariant (omega arith) next c.units-units.ensures.moves
@@ -139,8 +124,6 @@ loop-partition-preserved g c =
 -- ---- a unit took all blocks
 pub loop-unit-preserved : goal.loop-unit-preserved
 loop-unit-preserved g c =
-    let units = c.units-units.ensures.units in
-    let test = c.loop-unit-test.true in
     let sweep = c.loop-partition.invariant in
     let read = c.index-in-loop-partition.result.now in
     let is = taken_read sweep (omega arith) read c.index-in-loop-partition.ensures in
@@ -151,12 +134,11 @@ loop-unit-preserved g c =
 -- ---- no sweep is left
 pub returns-clause-alike : goal.returns-clause-alike
 returns-clause-alike g c =
-    let len = c.len.ensures in
     subst (λ xs. AreAlikeByNumber c.args.incoming.now c.args.first.now xs) (sym c.into_blocks-2.ensures)
     (result_alike c.units-units.ensures.moves c.loop-seen.invariant (omega arith))
 
 pub returns-clause-told : goal.returns-clause-told
-returns-clause-told g c = search (rules, result_told)
+returns-clause-told g c = search rules
 
 pub returns-clause-numbers : goal.returns-clause-numbers
 returns-clause-numbers g c =

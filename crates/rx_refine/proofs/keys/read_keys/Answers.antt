@@ -1,6 +1,6 @@
 use Rattle.std.proofs.lemmas.Grind.{common_steps}
 use Rattle.std.proofs.Common.{◌∙◌, arith, lt_of_le_of_lt}
-use Rattle.rx_refine.proofs.NextKeys.{reading_none, reading_room, reading_read, reading_passed, reading_all}
+use Rattle.rx_refine.proofs.NextKeys.{reading_none, reading_room, reading_read, reading_passed}
 use Rattle.rx_refine.proofs.keys.read_keys.Goals.{then-taken-block, else-taken-block}
 use Rattle.rx_refine.proofs.keys.read_keys.Goals as goal
 
@@ -9,14 +9,11 @@ loop-row-init g c = reading_none (c.clear.ensures.len ∙ c.requires.keys) (λ x
 
 pub set_keys-requires-clause-room : goal.set_keys-requires-clause-room
 set_keys-requires-clause-room g c =
-    let rows = c.rows-row-end.ensures.rows in
     lt_of_le_of_lt (reading_room c.loop-row.invariant (omega arith) c.if-taken-block.true) c.requires.room
 
 pub loop-row-preserved : goal.loop-row-preserved
 loop-row-preserved g c = elim c.if-taken-block.branch [
   | then-taken-block w ↦
-      let rows = c.rows-row-end.ensures.rows in
-      let test = c.loop-row-test.true in
       let set = w.set_keys.ensures in
       rw (w.keys-is, w.steps-is)
       (reading_read c.loop-row.invariant c.requires.moves c.requires.unit (omega arith) w.if-taken-block.true set.len
@@ -25,4 +22,4 @@ loop-row-preserved g c = elim c.if-taken-block.branch [
 ]
 
 pub returns-clause-keys : goal.returns-clause-keys
-returns-clause-keys g c = grind (arith, common_steps, reading_all)
+returns-clause-keys g c = grind (arith, common_steps)

@@ -1,6 +1,5 @@
 use Rattle.std.proofs.lemmas.Grind.{common_steps}
 use Rattle.std.proofs.Common.{◌*◌, ◌^◌, ◌≤◌, arith}
-use Rattle.std.proofs.lemmas.Nat.{mul-le}
 use Rattle.std.proofs.lemmas.Int.Digits.{length-digits_of-le}
 use Rattle.rx_refine.specs.Moves.{binary_digits, read_limit}
 use Rattle.rx_refine.proofs.laws.room.Goals as goal
@@ -9,6 +8,6 @@ use Rattle.rx_refine.proofs.laws.room.Goals as goal
 pub returns : goal.returns
 returns c m a h =
     let digits : binary_digits m.rows ≤ 32 = grind (arith, common_steps, length-digits_of-le) in
-    let lists : 2 * m.units * m.rows ≤ 2 ^ 27 * 2 ^ 31 = grind (arith, common_steps, mul-le) in
-    let all : read_limit m ≤ 2 ^ 27 * 2 ^ 31 * 32 = grind (arith, common_steps, mul-le) in
+    let lists : 2 * m.units * m.rows ≤ 2 ^ 27 * 2 ^ 31 = grind (arith, common_steps) in
+    let all : read_limit m ≤ 2 ^ 27 * 2 ^ 31 * 32 = grind (arith, common_steps) in
     omega arith

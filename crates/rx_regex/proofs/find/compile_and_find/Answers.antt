@@ -1,4 +1,4 @@
-use Rattle.std.proofs.Common.{sym}
+use Rattle.rx_spec.proofs.Prelude.{sym}
 use Rattle.rx_base.specs.Input.{query_of}
 use Rattle.rx_plan.specs.Plan.{plan_of}
 use Rattle.rx_regex.proofs.Faults.{answers_fault}

@@ -1,6 +1,4 @@
-use Rattle.std.proofs.Common.{arith}
-use Rattle.std.proofs.lemmas.Grind.{common_steps}
-use Rattle.std.proofs.lemmas.Result.{err_from_is_err_and}
+use Rattle.rx_spec.proofs.Prelude.{arith, common_steps, err_from_is_err_and}
 use Rattle.rx_plan.specs.Plan.{plan_of}
 use Rattle.rx_regex.proofs.PairImages.{same_patterns}
 use Rattle.rx_regex.proofs.Refusals.{forward_refused, reverse_refused}

@@ -1,5 +1,4 @@
-use Rattle.std.proofs.Common.{◌∙◌}
-use Rattle.std.proofs.lemmas.Result.{IfOk-weaker}
+use Rattle.rx_spec.proofs.Prelude.{◌∙◌, IfOk-weaker}
 use Rattle.rx_regex.proofs.PairImages.{pair_read_back}
 use Rattle.rx_regex.proofs.form.read_pair_back.Goals as goal
 

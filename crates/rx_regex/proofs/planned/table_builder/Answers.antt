@@ -1,4 +1,4 @@
-use Rattle.std.proofs.Common.{sym, ap, ◌∙◌}
+use Rattle.rx_spec.proofs.Prelude.{sym, ap, ◌∙◌}
 use Rattle.rx_build.specs.Builders.{Both}
 use Rattle.rx_build.specs.Settings.{asked, overwritten}
 use Rattle.rx_expr.specs.Settings as nfa

@@ -1,5 +1,4 @@
-use Rattle.std.proofs.Common.{refl}
-use Rattle.rx_spec.specs.Overlapping.{overlapping_walk}
+use Rattle.rx_spec.proofs.Prelude.{refl, overlapping_walk}
 use Rattle.rx_scan.specs.Tokens.{line_feeds, line_start, longest, tokens_from}
 use Rattle.rx_scan.proofs.examples.tokens_of_short_texts.Goals as goal
 

@@ -1,5 +1,4 @@
-use Rattle.std.proofs.lemmas.Grind.{common_steps}
-use Rattle.std.proofs.Common.{arith}
+use Rattle.rx_spec.proofs.Prelude.{common_steps, arith}
 use Rattle.rx_scan.proofs.LineCounts.{feeds_to, start_to, feeds_before, start_before_feed, feeds_past, start_past}
 use Rattle.rx_scan.proofs.LineCounts.{found_within, feeds_few}
 use Rattle.rx_scan.proofs.lines.seek.Goals as goal

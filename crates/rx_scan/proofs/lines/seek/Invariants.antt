@@ -1,4 +1,4 @@
-use Rattle.std.proofs.Common.{◌≤◌, ◌-◌}
+use Rattle.rx_spec.proofs.Prelude.{◌≤◌, ◌-◌}
 use Rattle.rx_scan.specs.Lines.{AreLines}
 use Rattle.rx_scan.proofs.lines.seek.Given as goal
 

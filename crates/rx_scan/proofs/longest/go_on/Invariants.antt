@@ -1,5 +1,4 @@
-use Rattle.std.proofs.Common.{ℕ, ◌≤◌, ◌-◌, length}
-use Rattle.rx_spec.specs.Ids.{row_of}
+use Rattle.rx_spec.proofs.Prelude.{ℕ, ◌≤◌, ◌-◌, length, row_of}
 use Rattle.rx_search.specs.Starts.{IsId}
 use Rattle.rx_scan.specs.Walks.{IsWalk, Walked, kept_met}
 use Rattle.rx_scan.proofs.longest.go_on.Given as goal

@@ -1,5 +1,4 @@
-use Rattle.std.proofs.Common.{sym, ◌∙◌, refl}
-use Rattle.rx_spec.specs.Ids.{row_of}
+use Rattle.rx_spec.proofs.Prelude.{sym, ◌∙◌, refl, row_of}
 use Rattle.rx_search.proofs.Cursors.{held_by, held_row}
 use Rattle.rx_search.proofs.Walks.{Turn, eoi_no_quit}
 use Rattle.rx_scan.proofs.LastRows.{met_last, ends_last, end_step, last_keeps}

@@ -1,8 +1,4 @@
-use Rattle.std.proofs.lemmas.Grind.{common_steps}
-use Rattle.std.proofs.Common.{◌-◌, Err, sym, ◌∙◌, ap, arith, refl}
-use Rattle.rx_spec.specs.Bytes.{AreBytes}
-use Rattle.rx_spec.specs.Ids.{row_of}
-use Rattle.rx_spec.specs.Queries.{MatchError}
+use Rattle.rx_spec.proofs.Prelude.{common_steps, ◌-◌, Err, sym, ◌∙◌, ap, arith, refl, AreBytes, row_of, MatchError}
 use Rattle.rx_spec.specs.declared.Direction.{Direction}
 use Rattle.rx_search.proofs.Cursors.{held_by, held_row}
 use Rattle.rx_search.proofs.Walks.{Step, bytes_of, quiet}

@@ -1,8 +1,5 @@
-use Rattle.std.proofs.lemmas.Grind.{common_steps}
-use Rattle.std.proofs.Common.{◌≡◌, ◌<◌, ◌==◌, if◌then◌else◌, Some, None, sym, ◌∙◌, ap, subst, arith, length}
-use Rattle.std.proofs.lemmas.Bool.{eq-eqb, eqb-true, false_from_ne_true}
-use Rattle.rx_spec.specs.Ids.{row_of}
-use Rattle.rx_spec.specs.Queries.{HalfMatch}
+use Rattle.rx_spec.proofs.Prelude.{common_steps, ◌≡◌, ◌<◌, ◌==◌, if◌then◌else◌, Some, None, sym, ◌∙◌, ap, subst, arith}
+use Rattle.rx_spec.proofs.Prelude.{length, eq-eqb, eqb-true, false_from_ne_true, row_of, HalfMatch}
 use Rattle.rx_search.specs.Labels.{patterns_of}
 use Rattle.rx_all.specs.Matches.{told_at}
 use Rattle.rx_scan.specs.Walks.{IsLast, kept_met}

@@ -1,5 +1,4 @@
-use Rattle.std.proofs.Common.{◌≤◌, ◌-◌, take, length}
-use Rattle.rx_spec.specs.Ids.{row_of}
+use Rattle.rx_spec.proofs.Prelude.{◌≤◌, ◌-◌, take, length, row_of}
 use Rattle.rx_search.specs.Labels.{patterns_of}
 use Rattle.rx_scan.specs.Walks.{IsLowest}
 use Rattle.rx_scan.proofs.longest.lowest.Given as goal

@@ -1,6 +1,4 @@
-use Rattle.std.proofs.lemmas.Grind.{common_steps}
-use Rattle.std.proofs.Common.{true, false, arith, sym, ◌∙◌}
-use Rattle.std.proofs.lemmas.Result.{err_from_is_err_and}
+use Rattle.rx_spec.proofs.Prelude.{common_steps, true, false, arith, sym, ◌∙◌, err_from_is_err_and}
 use Rattle.rx_script.proofs.ItemsAt.{items_turn, items_fail, items_end}
 use Rattle.rx_script.proofs.expression.items.Goals as goal
 

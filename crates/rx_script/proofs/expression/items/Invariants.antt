@@ -1,4 +1,4 @@
-use Rattle.std.proofs.Common.{◌+◌, ◌≤◌}
+use Rattle.rx_spec.proofs.Prelude.{◌+◌, ◌≤◌}
 use Rattle.rx_script.specs.Pieces.{words_left, line_left}
 use Rattle.rx_script.specs.Items.{items_at}
 use Rattle.rx_script.proofs.ItemsAt.{ReadItems}

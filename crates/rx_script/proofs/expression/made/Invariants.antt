@@ -1,5 +1,5 @@
-use Rattle.std.proofs.Common.{[], vec_len}
-use Rattle.std.specs.Prelude.{reverse}
+use Rattle.rx_spec.proofs.Prelude.{[], reverse}
+use Rattle.std.proofs.Common.{vec_len}
 use Rattle.rx_script.specs.Items.{made_onto}
 use Rattle.rx_script.proofs.MadeOnto.{MakesParts}
 use Rattle.rx_script.proofs.expression.made.Given as goal

@@ -1,11 +1,9 @@
-use Rattle.std.proofs.Common.{arith, sym, ◌+◌}
-use Rattle.std.proofs.lemmas.Grind.{common_steps}
-use Rattle.std.proofs.lemmas.List.{take_rest}
+use Rattle.rx_spec.proofs.Prelude.{arith, sym, ◌+◌, common_steps, take_rest}
 use Rattle.rx_script.proofs.Cut.{split_at, split_none, cut_at, cut_none}
 use Rattle.rx_script.proofs.pieces.cut.Goals as goal
 
 pub returns-in-Some-clause-parts : goal.returns-in-Some-clause-parts
-returns-in-Some-clause-parts c = grind (arith, common_steps, take_rest, cut_at)
+returns-in-Some-clause-parts c = grind (arith, common_steps, cut_at)
 
 pub returns-in-Some-clause-pieces : goal.returns-in-Some-clause-pieces
 returns-in-Some-clause-pieces c =

@@ -1,4 +1,4 @@
-use Rattle.std.proofs.Common.{◌≡◌, true, drop}
+use Rattle.rx_spec.proofs.Prelude.{◌≡◌, true, drop}
 use Rattle.rx_script.specs.Pieces.{is_spaced}
 use Rattle.rx_script.proofs.pieces.is_spaced.Given as goal
 

@@ -1,5 +1,4 @@
-use Rattle.std.proofs.Common.{◌≢◌, Some, None, arith, length, sym, ◌∙◌}
-use Rattle.std.proofs.lemmas.Bool.{eqb-false}
+use Rattle.rx_spec.proofs.Prelude.{◌≢◌, Some, None, arith, length, sym, ◌∙◌, eqb-false}
 use Rattle.rx_script.proofs.Cut.{lines_next}
 use Rattle.rx_script.proofs.pieces.next_line.Goals as goal
 

@@ -1,4 +1,4 @@
-use Rattle.std.proofs.Common.{◌+◌, ◌≤◌, length}
+use Rattle.rx_spec.proofs.Prelude.{◌+◌, ◌≤◌, length}
 use Rattle.rx_script.specs.Pieces.{lines_of}
 use Rattle.rx_script.specs.Reading.{lines_at}
 use Rattle.rx_script.proofs.LinesAt.{ReadLines}

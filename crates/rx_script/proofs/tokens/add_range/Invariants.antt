@@ -1,4 +1,4 @@
-use Rattle.std.proofs.Common.{◌≡◌, ◌-◌, ◌^◌, bit_or}
+use Rattle.rx_spec.proofs.Prelude.{◌≡◌, ◌-◌, ◌^◌, bit_or}
 use Rattle.rx_script.proofs.tokens.add_range.Given as goal
 
 abbrev pub invariant-loop-byte : goal.invariant-loop-byte

@@ -1,13 +1,11 @@
-use Rattle.std.proofs.Common.{arith}
-use Rattle.std.proofs.lemmas.Grind.{common_steps}
-use Rattle.rx_script.proofs.Digits.{byte_there, no_high, no_low}
+use Rattle.rx_spec.proofs.Prelude.{arith, common_steps}
 use Rattle.rx_script.proofs.tokens.byte.Goals as goal
 
 pub returns-then-high_value-ge-NO_DIGIT : goal.returns-then-high_value-ge-NO_DIGIT
-returns-then-high_value-ge-NO_DIGIT c = grind (arith, common_steps, no_high)
+returns-then-high_value-ge-NO_DIGIT c = grind (arith, common_steps)
 
 pub returns-then-low_value-ge-NO_DIGIT : goal.returns-then-low_value-ge-NO_DIGIT
-returns-then-low_value-ge-NO_DIGIT c = grind (arith, common_steps, no_low)
+returns-then-low_value-ge-NO_DIGIT c = grind (arith, common_steps)
 
 pub returns : goal.returns
-returns c = grind (arith, common_steps, byte_there)
+returns c = grind (arith, common_steps)

@@ -1,4 +1,4 @@
-use Rattle.std.proofs.Common.{◌≡◌, ◌<◌, ◌^◌, drop}
+use Rattle.rx_spec.proofs.Prelude.{◌≡◌, ◌<◌, ◌^◌, drop}
 use Rattle.rx_script.specs.Tokens.{number_from}
 use Rattle.rx_script.proofs.tokens.digits.Given as goal
 

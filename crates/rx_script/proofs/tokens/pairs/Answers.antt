@@ -1,5 +1,4 @@
-use Rattle.std.proofs.lemmas.Grind.{common_steps}
-use Rattle.std.proofs.Common.{arith}
+use Rattle.rx_spec.proofs.Prelude.{common_steps, arith}
 use Rattle.rx_script.proofs.Pairs.{pairs_turn, pairs_odd}
 use Rattle.rx_script.proofs.tokens.pairs.Goals as goal
 

@@ -1,4 +1,4 @@
-use Rattle.std.proofs.Common.{◌-◌, ◌+◌, ◌≤◌, length}
+use Rattle.rx_spec.proofs.Prelude.{◌-◌, ◌+◌, ◌≤◌, length}
 use Rattle.rx_script.proofs.Pairs.{ReadPairs}
 use Rattle.rx_script.proofs.tokens.pairs.Given as goal
 

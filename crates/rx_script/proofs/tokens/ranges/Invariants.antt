@@ -1,4 +1,4 @@
-use Rattle.std.proofs.Common.{◌≡◌, option_map}
+use Rattle.rx_spec.proofs.Prelude.{◌≡◌, option_map}
 use Rattle.rx_script.specs.Pieces.{pieces_left, bytes_left}
 use Rattle.rx_script.specs.Tokens.{ranges_from}
 use Rattle.rx_script.proofs.tokens.ranges.Given as goal

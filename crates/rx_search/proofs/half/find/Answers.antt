@@ -1,6 +1,5 @@
-use Rattle.std.proofs.Common.{rules, ◌+◌, ◌<◌, ◌^◌, length, inr}
+use Rattle.rx_spec.proofs.Prelude.{rules, ◌+◌, ◌<◌, ◌^◌, length, inr, row_of}
 use Rattle.rx_base.specs.Input.{query_of}
-use Rattle.rx_spec.specs.Ids.{row_of}
 use Rattle.rx_search.proofs.Halves.{counted_room}
 use Rattle.rx_search.proofs.half.find.Goals as goal
 

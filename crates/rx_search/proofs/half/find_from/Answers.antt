@@ -1,6 +1,5 @@
-use Rattle.std.proofs.Common.{rules, ◌+◌, ◌<◌, ◌^◌, length}
+use Rattle.rx_spec.proofs.Prelude.{rules, ◌+◌, ◌<◌, ◌^◌, length, row_of}
 use Rattle.rx_base.specs.Input.{query_of}
-use Rattle.rx_spec.specs.Ids.{row_of}
 use Rattle.rx_search.proofs.Halves.{room_left}
 use Rattle.rx_search.proofs.half.find_from.Goals as goal
 

@@ -1,5 +1,5 @@
 use Rattle.rx_base.specs.Input.{query_of}
-use Rattle.rx_spec.specs.Ids.{row_of}
+use Rattle.rx_spec.proofs.Prelude.{row_of}
 use Rattle.rx_spec.specs.declared.Direction.{Direction}
 use Rattle.rx_search.proofs.Halves.{counted_room}
 use Rattle.rx_search.proofs.half.find_rev_counted.Goals as goal

@@ -1,6 +1,4 @@
-use Rattle.std.proofs.Common.{◌≡◌}
-use Rattle.rx_spec.specs.Bytes.{AreBytes}
-use Rattle.rx_spec.specs.Ids.{row_of}
+use Rattle.rx_spec.proofs.Prelude.{◌≡◌, AreBytes, row_of}
 use Rattle.rx_base.specs.Input.{query_of}
 use Rattle.rx_search.specs.Walks.{bytes_left}
 use Rattle.rx_search.proofs.Halves.{HalfProgress}

@@ -1,4 +1,4 @@
-use Rattle.std.proofs.Common.{◌≡◌, length}
+use Rattle.rx_spec.proofs.Prelude.{◌≡◌, length}
 use Rattle.rx_base.specs.Input.{query_of}
 use Rattle.rx_search.specs.OverlappingCalls.{Fits, remaining_matches, next_call}
 use Rattle.rx_search.specs.SplitSearches.{remaining_unsplit}

@@ -1,12 +1,7 @@
-use Rattle.std.proofs.Common.{◌≡◌, ℕ, sym, ◌∙◌, ap, subst, List}
-use Rattle.rx_spec.specs.Bytes.{AreBytes}
-use Rattle.rx_spec.specs.Ids.{row_of}
-use Rattle.rx_spec.specs.Overlapping.{overlapping_walk}
-use Rattle.rx_spec.specs.Tables.{Table}
+use Rattle.rx_spec.proofs.Prelude.{arith, ℕ, sym, ◌∙◌, subst, List, common_steps, AreBytes, Table}
 use Rattle.rx_base.specs.Input.{query_of}
-use Rattle.rx_search.specs.OverlappingCalls.{Call, next_call, remaining_matches}
+use Rattle.rx_search.specs.OverlappingCalls.{Call, remaining_matches}
 use Rattle.rx_search.specs.Starts.{IsId}
-use Rattle.rx_search.specs.Walks.{units_left}
 use Rattle.rx_search.proofs.Cursors.{held_by, held_row, at_same, skips_at}
 use Rattle.rx_search.proofs.Halves.{open_span}
 use Rattle.rx_search.proofs.Overlaps.{begun_overlapping}
@@ -32,7 +27,4 @@ returns-in-Ok-clause-call g c =
       told = c.tell_next.new.state.told;
       left = remaining_matches t ids d q c.tell_next.new.state;
     } in
-    at_same a.table a.ids (λ t ids. called t ids
-    ≡ next_call (overlapping_walk t.machine d (row_of ids row) c.skip-at.result (units_left d q c.skip-at.result)))
-    same c.tell_next.ensures.call
-    ∙ ap next_call (sym walked)
+    grind (arith, common_steps)

@@ -1,13 +1,10 @@
-use Rattle.std.proofs.Common.{rules, ◌≡◌, ℕ, slice_index, sym, ◌∙◌, ap, ap₂, subst, arith, length, List}
-use Rattle.std.proofs.lemmas.Grind.{common_steps}
-use Rattle.rx_spec.specs.Ids.{row_of}
-use Rattle.rx_spec.specs.Overlapping.{overlapping_walk}
-use Rattle.rx_spec.specs.Tables.{Table}
+use Rattle.rx_spec.proofs.Prelude.{rules, ◌≡◌, ℕ, slice_index, sym, ◌∙◌, ap, subst, arith, length, List, common_steps}
+use Rattle.rx_spec.proofs.Prelude.{row_of, overlapping_walk, Table}
 use Rattle.rx_base.specs.Input.{query_of}
 use Rattle.rx_search.specs.Labels.{patterns_of}
 use Rattle.rx_search.specs.OverlappingCalls.{Call, next_call, IsTold, remaining_matches}
 use Rattle.rx_search.specs.Walks.{units_left}
-use Rattle.rx_search.proofs.Cursors.{held_by, held_row, at_same, row_at}
+use Rattle.rx_search.proofs.Cursors.{held_by, held_row}
 use Rattle.rx_search.proofs.Halves.{Open}
 use Rattle.rx_search.proofs.Overlaps.{told_within, none_remaining, over_at, goes_on_at}
 use Rattle.rx_search.proofs.overlapping.tell_more.Goals as goal
@@ -16,7 +13,7 @@ use Rattle.rx_search.proofs.overlapping.tell_more.Goals as goal
 row_tells : {A : Type 0} (table : A → Table) (ids : A → List ℕ) {first other : A} {row row' told : ℕ}
     (value : Table → ℕ → ℕ) → other ≡ first → row' ≡ row → told ≡ value (table other) (row_of (ids other) row')
     → told ≡ value (table first) (row_of (ids first) row)
-row_tells table ids {first} {other} {row} {row'} {told} value same same_row tells = grind (arith, common_steps, row_at)
+row_tells table ids {first} {other} {row} {row'} {told} value same same_row tells = grind (arith, common_steps)
 
 pub returns-then-met-match_len-clause-told : goal.returns-then-met-match_len-clause-told
 returns-then-met-match_len-clause-told g c =
@@ -34,10 +31,10 @@ returns-then-met-match_len-clause-told g c =
     (λ t row. slice_index (patterns_of t row) here.told) at.table at.row c.pattern.ensures in
     subst (IsTold t q) (sym (c.new.ensures ∙ ap (λ (k : ℕ). record { pattern = k; offset = here.offset }) pattern))
     (told_within there is.is_match c.args.direction q here.offset is.in_span here.told
-    (omega (arith, count, c.if-met-match_len.true)))
+    (omega arith))
 
 pub returns-then-met-last_offset-clause-call : goal.returns-then-met-last_offset-clause-call
-returns-then-met-last_offset-clause-call g c = search (rules, held_row, held_by, row_tells, none_remaining, over_at)
+returns-then-met-last_offset-clause-call g c = search (rules, held_row, none_remaining, over_at)
 
 pub returns-clause-call : goal.returns-clause-call
 returns-clause-call g c =
@@ -54,8 +51,6 @@ returns-clause-call g c =
     let count = row_tells (λ x. a.table x.now) (λ x. a.ids x.now) (λ t row. length (patterns_of t row)) at.table at.row
     c.match_len.ensures in
     let span : Open q = record { order = omega arith; fits = c.requires.fits.within } in
-    let none = none_remaining there is.is_match d q here.offset here.told
-    (omega (arith, count, c.if-met-match_len.false)) in
     let called : Table → List ℕ → Call = λ t ids. record {
       result = c.tell_next.result;
       told = c.tell_next.new.state.told;
@@ -63,9 +58,4 @@ returns-clause-call g c =
     } in
     let walked = λ (t : Table) (ids : List ℕ) (row o : ℕ).
     next_call (overlapping_walk t.machine d (row_of ids row) o (units_left d q o)) in
-    let tells = at_same (λ x. a.table x.now) (λ x. a.ids x.now)
-    (λ t ids. called t ids ≡ walked t ids c.at-cursor.result.row c.next_offset-at.result) at.table
-    c.tell_next.ensures.call in
-    tells ∙ ap₂ (walked t ids) at.row c.next_offset-at.ensures
-    ∙ sym (ap next_call (none ∙ goes_on_at there is.is_match d q here.offset span is.in_span
-    (λ e. c.if-met-last_offset.false (e ∙ sym c.last_offset.ensures))))
+    grind (arith, common_steps, goes_on_at)

@@ -1,22 +1,19 @@
-use Rattle.std.proofs.Common.{arith, ◌≡◌, ℕ, slice_index, Some, Ok, drop, refl, sym, ◌∙◌, ap, ap₂, subst}
-use Rattle.std.proofs.lemmas.Grind.{common_steps}
-use Rattle.rx_spec.specs.Ids.{row_of}
-use Rattle.rx_spec.specs.Overlapping.{OverlappingMatches, remaining}
-use Rattle.rx_spec.specs.Queries.{HalfMatch}
+use Rattle.rx_spec.proofs.Prelude.{arith, ◌≡◌, ℕ, slice_index, Some, Ok, drop, refl, sym, ◌∙◌, ap, ap₂, subst}
+use Rattle.rx_spec.proofs.Prelude.{common_steps, row_of, OverlappingMatches, remaining, HalfMatch}
 use Rattle.rx_base.specs.Input.{query_of}
 use Rattle.rx_search.specs.Labels.{patterns_of}
 use Rattle.rx_search.specs.OverlappingCalls.{next_call, IsTold, IsMatchRow}
 use Rattle.rx_search.specs.declared.overlapping.MetRow.{MetRow}
 use Rattle.rx_search.specs.Walks.{units_after}
-use Rattle.rx_search.proofs.Cursors.{held_by, reached, match_there, some_there, some_told, first_pattern}
+use Rattle.rx_search.proofs.Cursors.{held_by, reached, some_there, some_told, first_pattern}
 use Rattle.rx_search.proofs.Overlaps.{walk_ended, call_fails, walk_met, call_more, told_within}
 use Rattle.rx_search.proofs.overlapping.tell_next.Goals as goal
 
 pub pattern-requires-clause-is_match : goal.pattern-requires-clause-is_match
-pattern-requires-clause-is_match g c = grind (arith, common_steps, held_by, match_there, reached)
+pattern-requires-clause-is_match g c = grind (arith, common_steps)
 
 pub pattern-requires-clause-within : goal.pattern-requires-clause-within
-pattern-requires-clause-within g c = grind (arith, common_steps, held_by, some_there, reached)
+pattern-requires-clause-within g c = grind (arith, common_steps, some_there, reached)
 
 pub returns-in-Err-clause-call : goal.returns-in-Err-clause-call
 returns-in-Err-clause-call g c = grind (arith, common_steps, call_fails)

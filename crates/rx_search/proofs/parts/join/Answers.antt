@@ -1,5 +1,4 @@
-use Rattle.std.proofs.Common.{rules, arith}
-use Rattle.std.proofs.lemmas.Grind.{common_steps}
+use Rattle.rx_spec.proofs.Prelude.{rules, arith, common_steps}
 use Rattle.rx_search.proofs.FourWalks.{through_two, through_three, through_four}
 use Rattle.rx_search.proofs.Passing.{same_id}
 use Rattle.rx_search.proofs.parts.join.Goals as goal

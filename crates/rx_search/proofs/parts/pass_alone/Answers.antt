@@ -1,6 +1,4 @@
-use Rattle.std.proofs.lemmas.Grind.{common_steps}
-use Rattle.std.proofs.Common.{sym, ◌∙◌, arith}
-use Rattle.rx_spec.specs.Ids.{row_of}
+use Rattle.rx_spec.proofs.Prelude.{common_steps, sym, ◌∙◌, arith, row_of}
 use Rattle.rx_spec.specs.declared.Direction.{Direction}
 use Rattle.rx_search.proofs.Passing.{leads_none, leads_more, leads_no_further}
 use Rattle.rx_search.proofs.parts.pass_alone.Goals as goal
@@ -16,7 +14,7 @@ returns-then-is_special_state-clause-farthest g c =
     (sym c.is_special_state.ensures ∙ c.if-is_special_state.true)
 
 pub returns-clause-farthest : goal.returns-clause-farthest
-returns-clause-farthest g c = record { stops = λ h. absurd (omega (arith, h, c.bytes-test.false)) }
+returns-clause-farthest g c = record { stops = λ h. absurd (omega arith) }
 
 pub bytes-preserved : goal.bytes-preserved
 bytes-preserved g c = record {
@@ -25,5 +23,5 @@ bytes-preserved g c = record {
       (row_of (g.A.Automaton.ids c.args.dfa.now) c.next_state-next.result)
       c.bytes.invariant.leads c.next_state-next.ensures.row
       (sym c.is_special_state.ensures ∙ c.if-is_special_state.false);
-  few = omega (arith, c.bytes.invariant.few, c.bytes-test.true);
+  few = omega arith;
 }

@@ -1,6 +1,4 @@
-use Rattle.std.proofs.Common.{rules, ◌≡◌, ℕ, subst, arith}
-use Rattle.std.proofs.lemmas.Grind.{common_steps}
-use Rattle.rx_search.specs.FourWalks.{AreWalks}
+use Rattle.rx_spec.proofs.Prelude.{rules, ◌≡◌, arith, common_steps}
 use Rattle.rx_search.specs.declared.parts.Rows.{Rows}
 use Rattle.rx_search.proofs.FourWalks.{walks_none, walks_more}
 use Rattle.rx_search.proofs.parts.pass_block.Goals as goal
@@ -13,7 +11,7 @@ bytes-preserved g c =
     let inv = c.bytes.invariant in record {
       are_ids = c.step-next.ensures.ids;
       walks = walks_more inv.walks c.step-next.ensures.led (c.is_one_special.ensures c.if-is_one_special.false);
-      few = omega (arith, inv.few, c.bytes-test.true);
+      few = omega arith;
     }
 
 pub returns-then-is_one_special : goal.returns-then-is_one_special
@@ -24,17 +22,11 @@ returns g c =
     let t = g.A.Automaton.table c.args.dfa.now in
     let ids = g.A.Automaton.ids c.args.dfa.now in
     let inv = c.bytes.invariant in
-    let full : c.bytes.count ≡ 1024 = omega (arith, inv.few, c.bytes-test.false) in
+    let full : c.bytes.count ≡ 1024 = omega arith in
     let entries : Rows = record {
       first = c.args.row;
       second = c.lead.result;
       third = c.lead-2.result;
       fourth = c.lead-3.result;
     } in
-    let walks = subst (λ (n : ℕ). AreWalks t ids c.args.haystack.now c.args.from n entries c.bytes.rows) full
-    inv.walks in
-    record {
-      is_id = c.join.ensures.is_id ids inv.are_ids;
-      leads = c.join.ensures.leads t ids c.args.haystack.now c.args.from walks;
-      within = c.join.ensures.within;
-    }
+    grind (arith, common_steps)

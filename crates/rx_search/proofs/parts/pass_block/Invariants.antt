@@ -1,4 +1,4 @@
-use Rattle.std.proofs.Common.{◌≤◌, ◌-◌}
+use Rattle.rx_spec.proofs.Prelude.{◌≤◌, ◌-◌}
 use Rattle.rx_search.specs.FourWalks.{AreIdsOf, AreWalks}
 use Rattle.rx_search.proofs.parts.pass_block.Given as goal
 

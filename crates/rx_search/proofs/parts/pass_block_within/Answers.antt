@@ -1,5 +1,4 @@
-use Rattle.std.proofs.Common.{arith}
-use Rattle.std.proofs.lemmas.Grind.{common_steps}
+use Rattle.rx_spec.proofs.Prelude.{arith, common_steps}
 use Rattle.rx_search.proofs.Passing.{leads_none}
 use Rattle.rx_search.proofs.parts.pass_block_within.Goals as goal
 

@@ -1,5 +1,4 @@
-use Rattle.std.proofs.Common.{rules, arith}
-use Rattle.std.proofs.lemmas.Grind.{common_steps}
+use Rattle.rx_spec.proofs.Prelude.{rules, arith, common_steps}
 use Rattle.rx_search.proofs.Passing.{leads_none, leads_on, no_further_on}
 use Rattle.rx_search.proofs.parts.pass_far.Goals as goal
 
@@ -16,7 +15,7 @@ pub returns-then-more-bytes-clause-farthest : goal.returns-then-more-bytes-claus
 returns-then-more-bytes-clause-farthest g c = search (rules, leads_on, no_further_on)
 
 pub returns-clause-farthest : goal.returns-clause-farthest
-returns-clause-farthest g c = record { stops = λ h. absurd (omega (arith, h, c.turns-test.false)) }
+returns-clause-farthest g c = record { stops = λ h. absurd (omega arith) }
 
 pub turns-preserved : goal.turns-preserved
 turns-preserved g c = search (rules, leads_on)

@@ -1,5 +1,4 @@
-use Rattle.std.proofs.lemmas.Grind.{common_steps}
-use Rattle.std.proofs.Common.{arith}
+use Rattle.rx_spec.proofs.Prelude.{common_steps, arith}
 use Rattle.rx_search.proofs.Needles.{first_of_one, first_of_two, first_of_three}
 use Rattle.rx_search.proofs.skip.first_needle.Goals as goal
 

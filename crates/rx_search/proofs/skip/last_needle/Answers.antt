@@ -1,5 +1,4 @@
-use Rattle.std.proofs.lemmas.Grind.{common_steps}
-use Rattle.std.proofs.Common.{arith}
+use Rattle.rx_spec.proofs.Prelude.{common_steps, arith}
 use Rattle.rx_search.proofs.Needles.{last_of_one, last_of_two, last_of_three}
 use Rattle.rx_search.proofs.skip.last_needle.Goals as goal
 

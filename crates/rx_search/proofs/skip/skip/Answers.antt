@@ -1,12 +1,11 @@
-use Rattle.std.proofs.Common.{arith, sym, ◌∙◌}
-use Rattle.std.proofs.lemmas.Grind.{common_steps}
+use Rattle.rx_spec.proofs.Prelude.{arith, sym, ◌∙◌, common_steps}
 use Rattle.rx_base.specs.Input.{query_of}
 use Rattle.rx_search.proofs.Standing.{standing}
 use Rattle.rx_search.proofs.Needles.{stays, skips}
 use Rattle.rx_search.proofs.skip.skip.Goals as goal
 
 pub returns-then-not-is_accel-clause-skips : goal.returns-then-not-is_accel-clause-skips
-returns-then-not-is_accel-clause-skips g c = grind (arith, common_steps, stays, standing)
+returns-then-not-is_accel-clause-skips g c = grind (arith, common_steps, stays)
 
 pub returns-clause-skips : goal.returns-clause-skips
 returns-clause-skips g c =

@@ -1,9 +1,7 @@
-use Rattle.std.proofs.Common.{arith, sym, ◌∙◌, rules}
-use Rattle.std.proofs.lemmas.Grind.{common_steps}
-use Rattle.rx_spec.specs.HalfSearches.{half_search}
+use Rattle.rx_spec.proofs.Prelude.{arith, sym, ◌∙◌, rules, common_steps, half_search}
 use Rattle.rx_spec.specs.declared.Direction.{Direction}
 use Rattle.rx_base.specs.Input.{query_of}
-use Rattle.rx_search.proofs.Unsplit.{unsplit_none, unsplit_fails, unsplit_match, told_in_span}
+use Rattle.rx_search.proofs.Unsplit.{unsplit_none, unsplit_fails, unsplit_match}
 use Rattle.rx_search.proofs.InSpan.{unsplit_in_span}
 use Rattle.rx_search.proofs.splits.find_unsplit_fwd.Goals as goal
 
@@ -19,10 +17,10 @@ returns-in-Err-clause-answer g c =
     sym (unsplit_fails t Direction.Forward c.requires.fits c.in-Err.error (sym c.in-Err.ensures.answer))
 
 pub skip_splits_fwd-requires-clause-first : goal.skip_splits_fwd-requires-clause-first
-skip_splits_fwd-requires-clause-first g c = grind (arith, common_steps, told_in_span)
+skip_splits_fwd-requires-clause-first g c = grind (arith, common_steps)
 
 pub skip_splits_fwd-requires-clause-within : goal.skip_splits_fwd-requires-clause-within
-skip_splits_fwd-requires-clause-within g c = grind (arith, common_steps, told_in_span)
+skip_splits_fwd-requires-clause-within g c = grind (arith, common_steps)
 
 pub returns-clause-answer : goal.returns-clause-answer
 returns-clause-answer g c =

@@ -1,7 +1,4 @@
-use Rattle.std.proofs.Common.{◌≡◌}
-use Rattle.rx_spec.specs.HalfSearches.{HalfAnswer}
-use Rattle.rx_spec.specs.Queries.{Query, IsFit}
-use Rattle.rx_spec.specs.Splits.{split_limit}
+use Rattle.rx_spec.proofs.Prelude.{◌≡◌, HalfAnswer, Query, IsFit, split_limit}
 use Rattle.rx_base.specs.Input.{query_of}
 use Rattle.rx_search.specs.SplitSearches.{unsplit_from}
 use Rattle.rx_search.specs.Walks.{IsInSpan}

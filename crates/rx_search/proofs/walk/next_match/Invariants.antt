@@ -1,5 +1,4 @@
-use Rattle.std.proofs.Common.{◌≡◌}
-use Rattle.rx_spec.specs.Ids.{row_of}
+use Rattle.rx_spec.proofs.Prelude.{◌≡◌, row_of}
 use Rattle.rx_base.specs.Input.{query_of}
 use Rattle.rx_search.specs.Walks.{bytes_left}
 use Rattle.rx_search.proofs.Progress.{Progress}

@@ -1,5 +1,4 @@
-use Rattle.std.proofs.Common.{arith}
-use Rattle.std.proofs.lemmas.Grind.{common_steps}
+use Rattle.rx_spec.proofs.Prelude.{arith, common_steps}
 use Rattle.rx_search.proofs.Passing.{passes_none}
 use Rattle.rx_search.proofs.walk.pass.Goals as goal
 

@@ -1,6 +1,5 @@
-use Rattle.std.proofs.lemmas.Grind.{common_steps}
-use Rattle.std.proofs.Common.{◌≡◌, ℕ, Bool, true, false, List, Some, Ok, refl, ap, sym, ◌∙◌, subst, arith, length}
-use Rattle.std.specs.Prelude.{slice_set}
+use Rattle.rx_spec.proofs.Prelude.{common_steps, ◌≡◌, ℕ, Bool, true, false, List, Some, Ok, refl, ap, sym, ◌∙◌, subst}
+use Rattle.rx_spec.proofs.Prelude.{arith, length, slice_set}
 use Rattle.std.proofs.lemmas.List.{length-set}
 use Rattle.rx_spec.specs.declared.Direction.{Direction}
 use Rattle.rx_base.specs.Input.{query_of}
@@ -8,7 +7,7 @@ use Rattle.rx_search.specs.Collected.{is_full}
 use Rattle.rx_search.specs.SplitSearches.{remaining_unsplit}
 use Rattle.rx_search.proofs.OverlapSplits.{called}
 use Rattle.rx_search.proofs.Collecting.{collect, collect_error, collect_none, collect_full, collect_first}
-use Rattle.rx_search.proofs.Collecting.{collect_on_next, fewer_items, full_is, open_is}
+use Rattle.rx_search.proofs.Collecting.{collect_on_next, full_is, open_is}
 use Rattle.rx_search.proofs.which.which_overlapping_matches.Goals as goal
 
 pub returns-in-Err : goal.returns-in-Err
@@ -72,12 +71,7 @@ matches-preserved g c =
     let room = open_is c.insert.new.self c.is_full.ensures c.if-is_full.false in
     record {
       state = c.in-Ok.ensures.state;
-      capacity = omega (
-        arith,
-        inv.capacity,
-        ap length inserted,
-        length-set c.matches.patset c.in-Some.found.pattern true,
-      );
+      capacity = omega (arith, ap length inserted, length-set c.matches.patset c.in-Some.found.pattern true);
       same =
           ap (collect q.earliest after) inserted
           ∙ sym (collect_on_next q.earliest c.matches.patset call c.in-Some.found told
@@ -87,4 +81,4 @@ matches-preserved g c =
     }
 
 pub matches-smaller : goal.matches-smaller
-matches-smaller g c = grind (arith, common_steps, called, fewer_items)
+matches-smaller g c = grind (arith, common_steps)

@@ -1,4 +1,4 @@
-use Rattle.std.proofs.Common.{◌≡◌, ◌≤◌, length}
+use Rattle.rx_spec.proofs.Prelude.{◌≡◌, ◌≤◌, length}
 use Rattle.rx_spec.specs.Splits.{overlapping_unsplit}
 use Rattle.rx_spec.specs.declared.Direction.{Direction}
 use Rattle.rx_base.specs.Input.{query_of}

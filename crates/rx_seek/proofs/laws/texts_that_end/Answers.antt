@@ -1,5 +1,4 @@
-use Rattle.std.proofs.Common.{◌≡◌, refl, arith}
-use Rattle.std.specs.Prelude.{codes}
+use Rattle.rx_spec.proofs.Prelude.{◌≡◌, refl, arith, codes}
 use Rattle.memchr.specs.Find.{OccursAt}
 use Rattle.rx_prefilter.specs.LiteralExamples.{literal}
 use Rattle.rx_prefilter.proofs.Examples as examples

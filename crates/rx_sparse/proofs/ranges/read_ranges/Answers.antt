@@ -1,5 +1,4 @@
-use Rattle.std.proofs.Common.{arith}
-use Rattle.std.proofs.lemmas.Grind.{common_steps}
+use Rattle.rx_spec.proofs.Prelude.{arith, common_steps}
 use Rattle.rx_sparse.proofs.ReadRanges.{all_read, eoi_read, read_byte, read_eoi, read_first}
 use Rattle.rx_sparse.proofs.ranges.read_ranges.Goals as goal
 

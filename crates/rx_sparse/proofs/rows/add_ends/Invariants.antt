@@ -1,4 +1,4 @@
-use Rattle.std.proofs.Common.{◌≡◌, ◌++◌, take}
+use Rattle.rx_spec.proofs.Prelude.{◌≡◌, ◌++◌, take}
 use Rattle.rx_sparse.proofs.RowTexts.{pairs_text}
 use Rattle.rx_sparse.proofs.rows.add_ends.Given as goal
 

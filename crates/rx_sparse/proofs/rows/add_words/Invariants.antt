@@ -1,4 +1,4 @@
-use Rattle.std.proofs.Common.{◌≡◌, ◌++◌, take}
+use Rattle.rx_spec.proofs.Prelude.{◌≡◌, ◌++◌, take}
 use Rattle.rx_wire.specs.declared.order.Order.TheVariants.{Little}
 use Rattle.rx_sparse.specs.Rows.{words_text}
 use Rattle.rx_sparse.proofs.rows.add_words.Given as goal

@@ -1,5 +1,4 @@
-use Rattle.std.proofs.Common.{arith}
-use Rattle.std.proofs.lemmas.Grind.{common_steps}
+use Rattle.rx_spec.proofs.Prelude.{arith, common_steps}
 use Rattle.rx_sparse.proofs.WrittenRows.{no_patterns, patterns_read}
 use Rattle.rx_sparse.proofs.rows.patterns.Goals as goal
 

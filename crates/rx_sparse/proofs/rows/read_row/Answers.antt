@@ -1,5 +1,4 @@
-use Rattle.std.proofs.Common.{arith}
-use Rattle.std.proofs.lemmas.Grind.{common_steps}
+use Rattle.rx_spec.proofs.Prelude.{arith, common_steps}
 use Rattle.rx_dense.proofs.Rows.{id-times}
 use Rattle.rx_sparse.proofs.WrittenRows.{row_parts}
 use Rattle.rx_sparse.proofs.rows.read_row.Goals as goal

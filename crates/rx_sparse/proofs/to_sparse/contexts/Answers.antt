@@ -1,5 +1,4 @@
-use Rattle.std.proofs.Common.{◌∙◌, sym, arith}
-use Rattle.std.proofs.lemmas.List.{ext_get_or}
+use Rattle.rx_spec.proofs.Prelude.{◌∙◌, sym, arith, ext_get_or}
 use Rattle.rx_spec.specs.declared.Start.{Start}
 use Rattle.rx_sparse.proofs.to_sparse.contexts.Goals as goal
 

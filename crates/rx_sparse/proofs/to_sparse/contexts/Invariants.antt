@@ -1,4 +1,4 @@
-use Rattle.std.proofs.Common.{◌≡◌, ℕ, ◌<◌, length, get_or}
+use Rattle.rx_spec.proofs.Prelude.{◌≡◌, ℕ, ◌<◌, length, get_or}
 use Rattle.rx_spec.specs.declared.Start.{Start}
 use Rattle.rx_sparse.proofs.to_sparse.contexts.Given as goal
 

@@ -1,5 +1,4 @@
-use Rattle.std.proofs.Common.{arith}
-use Rattle.std.proofs.lemmas.Grind.{common_steps}
+use Rattle.rx_spec.proofs.Prelude.{arith, common_steps}
 use Rattle.rx_dense.proofs.Rows.{IsRowId-id}
 use Rattle.rx_sparse.proofs.SparseBytes.{exponent, offset_same, offset_small, offset_within}
 use Rattle.rx_sparse.proofs.to_sparse.offset.Goals as goal

@@ -1,5 +1,4 @@
-use Rattle.std.proofs.Common.{arith}
-use Rattle.std.proofs.lemmas.Grind.{common_steps}
+use Rattle.rx_spec.proofs.Prelude.{arith, common_steps}
 use Rattle.rx_sparse.proofs.SparseBytes.{all_written, none_written, one_written, written_few, written_id}
 use Rattle.rx_sparse.proofs.SparseBytes.{written_offsets, written_patterns}
 use Rattle.rx_sparse.proofs.to_sparse.row_bytes.Goals as goal

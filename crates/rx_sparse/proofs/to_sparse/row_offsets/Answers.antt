@@ -1,7 +1,5 @@
-use Rattle.std.proofs.Common.{arith, ap, ◌∙◌, ◌≤◌, ℕ, subst, rules}
-use Rattle.std.proofs.lemmas.Grind.{common_steps}
+use Rattle.rx_spec.proofs.Prelude.{arith, ap, ◌∙◌, ◌≤◌, ℕ, subst, rules, common_steps, max_id}
 use Rattle.rx_sparse.specs.Sparse.{IsTooLong, sparse_len}
-use Rattle.rx_spec.specs.Causes.{max_id}
 use Rattle.rx_sparse.proofs.SparseBytes.{all_noted, len_noted, none_noted, noted_few, noted_id, one_noted}
 use Rattle.rx_sparse.proofs.SparseBytes.{refused_whole, too_long}
 use Rattle.rx_sparse.proofs.to_sparse.row_offsets.Goals as goal

@@ -1,5 +1,4 @@
-use Rattle.std.proofs.Common.{arith, ℕ, ◌<◌, List, length, slice_index, sym, subst}
-use Rattle.std.proofs.lemmas.Grind.{common_steps}
+use Rattle.rx_spec.proofs.Prelude.{arith, ℕ, ◌<◌, List, length, slice_index, sym, subst, common_steps}
 use Rattle.rx_dense.specs.Layouts.{IsRowId}
 use Rattle.rx_sparse.proofs.SparseBytes.{exponent, offset_within, starts_written}
 use Rattle.rx_sparse.proofs.to_sparse.start_bytes.Goals as goal

@@ -1,4 +1,4 @@
-use Rattle.std.proofs.Common.{◌≡◌, map, take}
+use Rattle.rx_spec.proofs.Prelude.{◌≡◌, map, take}
 use Rattle.rx_wire.specs.declared.order.Order.TheVariants.{Little}
 use Rattle.rx_sparse.specs.Reading.{offset_in}
 use Rattle.rx_sparse.specs.Rows.{words_text}

@@ -1,4 +1,4 @@
-use Rattle.std.proofs.Common.{subst}
+use Rattle.rx_spec.proofs.Prelude.{subst}
 use Rattle.rx_dense.specs.Layouts.{IsShaped}
 use Rattle.rx_sparse_build.proofs.Limits.{all_fit, made, made_refused}
 use Rattle.rx_sparse_build.proofs.Ordered.{special_rows}

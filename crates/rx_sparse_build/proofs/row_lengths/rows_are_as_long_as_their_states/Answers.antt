@@ -1,5 +1,4 @@
-use Rattle.std.proofs.Common.{arith}
-use Rattle.std.proofs.lemmas.Grind.{common_steps}
+use Rattle.rx_spec.proofs.Prelude.{arith, common_steps}
 use Rattle.rx_sparse_build.proofs.Lengths.{len_greatest, len_is}
 use Rattle.rx_sparse_build.proofs.row_lengths.rows_are_as_long_as_their_states.Goals as goal
 

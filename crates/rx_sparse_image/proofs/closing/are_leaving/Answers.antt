@@ -1,5 +1,5 @@
-use Rattle.std.proofs.lemmas.Grind.{common_steps}
-use Rattle.std.proofs.Common.{◌≡◌, ℕ, ◌+◌, List, true, false, slice_index, sym, ap, ◌∙◌, subst, arith}
+use Rattle.rx_spec.proofs.Prelude.{common_steps, ◌≡◌, ℕ, ◌+◌, List, true, false, slice_index, sym, ap, ◌∙◌, subst}
+use Rattle.rx_spec.proofs.Prelude.{arith}
 use Rattle.rx_dense_image.proofs.LeavingBytes.{AreMet, met_less, met_more, none_met}
 use Rattle.rx_sparse.specs.Rows.{Row, next_among}
 use Rattle.rx_sparse_image.specs.Closing.{leaves}
@@ -41,10 +41,10 @@ loop-byte-preserved c =
     ]
 
 pub returns-then-met-needles : goal.returns-then-met-needles
-returns-then-met-needles c = grind (arith, common_steps, leaves_where, few_leave)
+returns-then-met-needles c = grind (arith, common_steps, few_leave)
 
 pub returns-then-needles-met : goal.returns-then-needles-met
-returns-then-needles-met c = grind (arith, common_steps, leaves_where, another_leaves)
+returns-then-needles-met c = grind (arith, common_steps, another_leaves)
 
 pub returns : goal.returns
 returns c =

@@ -1,6 +1,5 @@
-use Rattle.std.proofs.Common.{◌≡◌, ℕ, ◌/◌, true, false, length, sym, ap, ◌∙◌, arith, rules, below_more}
-use Rattle.std.specs.List.{range_with_len}
-use Rattle.std.proofs.lemmas.List.Folds.{list_all-map}
+use Rattle.rx_spec.proofs.Prelude.{◌≡◌, ℕ, ◌/◌, true, false, length, sym, ap, ◌∙◌, arith, rules, below_more}
+use Rattle.rx_spec.proofs.Prelude.{range_with_len, list_all-map}
 use Rattle.rx_sparse.specs.Layouts.{Layout}
 use Rattle.rx_sparse.specs.Rows.{word_at}
 use Rattle.rx_sparse_image.specs.Closing.{is_start_row}
@@ -34,4 +33,4 @@ returns c = λ marks.
     let n : ℕ = length image.starts.now / 4 in
     sym (list_all-map (is_start_row l) (word_at image.parts.order image.starts.now) (range_with_len 0 n)
     ∙ all_of n (λ k. is_start_row l (word_at image.parts.order image.starts.now k))
-    (λ k lt. c.loop-i.invariant marks k (omega (arith, lt))))
+    (λ k lt. c.loop-i.invariant marks k (omega arith)))

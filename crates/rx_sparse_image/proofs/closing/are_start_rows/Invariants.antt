@@ -1,4 +1,4 @@
-use Rattle.std.proofs.Common.{◌≡◌, ℕ, ◌<◌, true}
+use Rattle.rx_spec.proofs.Prelude.{◌≡◌, ℕ, ◌<◌, true}
 use Rattle.rx_sparse.specs.Layouts.{ids_of}
 use Rattle.rx_sparse.specs.Rows.{word_at}
 use Rattle.rx_sparse_image.specs.Closing.{is_start_row}

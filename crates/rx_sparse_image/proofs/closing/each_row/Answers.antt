@@ -1,5 +1,5 @@
-use Rattle.std.proofs.lemmas.Grind.{common_steps}
-use Rattle.std.proofs.Common.{◌≡◌, ℕ, ◌+◌, ◌<◌, Bool, true, false, take, get_or, ap, sym, ◌∙◌, arith, below_more}
+use Rattle.rx_spec.proofs.Prelude.{common_steps, ◌≡◌, ℕ, ◌+◌, ◌<◌, Bool, true, false, take, get_or, ap, sym, ◌∙◌, arith}
+use Rattle.rx_spec.proofs.Prelude.{below_more}
 use Rattle.rx_sparse.specs.Layouts.{Layout}
 use Rattle.rx_sparse.specs.Rows.{Row, no_row, row_in, rows_len}
 use Rattle.rx_sparse.proofs.RowPlaces.{length-rows_in}
@@ -23,21 +23,14 @@ pub loop-init : goal.loop-init
 loop-init c = record { rest = all_ahead c.requires; passed = λ marks k h. absurd (omega arith) }
 
 pub split_parts-requires : goal.split_parts-requires
-split_parts-requires c = whole_here c.requires c.loop.counter (omega (arith, c.loop-test.true)) c.loop.invariant.rest
+split_parts-requires c = whole_here c.requires c.loop.counter (omega arith) c.loop.invariant.rest
 
 pub row_stands-requires : goal.row_stands-requires
 row_stands-requires c =
     let image = c.args.image.now in
-    let whole = whole_here c.requires c.loop.counter (omega (arith, c.loop-test.true)) c.loop.invariant.rest in
+    let whole = whole_here c.requires c.loop.counter (omega arith) c.loop.invariant.rest in
     let pieces : ArePieces image.parts.order (row_in image.parts.order c.loop.rest.now) c.split_parts.result.0 =
-    record {
-      fits = whole.fits;
-      head = c.split_parts.ensures.head;
-      ends = c.split_parts.ensures.ends;
-      next_ids = c.split_parts.ensures.next_ids;
-      patterns = c.split_parts.ensures.patterns;
-      needles = c.split_parts.ensures.needles;
-    } in
+    grind (arith, common_steps) in
     are_parts pieces
 
 pub returns-then-not-row_stands : goal.returns-then-not-row_stands
@@ -45,7 +38,7 @@ returns-then-not-row_stands c = λ marks.
     let image = c.args.image.now in
     let l : Layout = image_layout image in
     let i : ℕ = c.loop.counter in
-    let low : i < image.parts.state_len = omega (arith, c.loop-test.true) in
+    let low : i < image.parts.state_len = omega arith in
     let whole = whole_here c.requires i low c.loop.invariant.rest in
     let pieces : ArePieces image.parts.order (row_in image.parts.order c.loop.rest.now) c.split_parts.result.0 =
     record {
@@ -60,7 +53,7 @@ returns-then-not-row_stands c = λ marks.
     let fails : row_stands l (rows_len (take i l.rows)) (get_or l.rows i no_row) ≡ false =
     stands_here l (c.row_stands.ensures marks) (place_here c.requires i low c.loop.invariant.rest) (row_is pieces)
     (row_here c.requires i low c.loop.invariant.rest) c.if-not-row_stands.true in
-    sym (one_fails (row_stands l) 0 l.rows i (omega (arith, low, count))
+    sym (one_fails (row_stands l) 0 l.rows i (omega arith)
     (ap (λ n. row_stands l n (get_or l.rows i no_row)) (from_zero (rows_len (take i l.rows))) ∙ fails))
 
 pub loop-preserved : goal.loop-preserved
@@ -68,7 +61,7 @@ loop-preserved c =
     let image = c.args.image.now in
     let l : Layout = image_layout image in
     let i : ℕ = c.loop.counter in
-    let low : i < image.parts.state_len = omega (arith, c.loop-test.true) in
+    let low : i < image.parts.state_len = omega arith in
     let whole = whole_here c.requires i low c.loop.invariant.rest in
     let pieces : ArePieces image.parts.order (row_in image.parts.order c.loop.rest.now) c.split_parts.result.0 =
     record {
@@ -96,4 +89,4 @@ returns c = λ marks.
     sym (each_passes (row_stands l) 0 l.rows
     (λ k h.
     ap (λ n. row_stands l n (get_or l.rows k no_row)) (from_zero (rows_len (take k l.rows)))
-    ∙ c.loop.invariant.passed marks k (omega (arith, h, count, c.loop-test.false))))
+    ∙ c.loop.invariant.passed marks k (omega arith)))

@@ -1,4 +1,4 @@
-use Rattle.std.proofs.Common.{◌≡◌, ℕ, ◌<◌, true, drop, get_or, take}
+use Rattle.rx_spec.proofs.Prelude.{◌≡◌, ℕ, ◌<◌, true, drop, get_or, take}
 use Rattle.rx_sparse.specs.Layouts.{ids_of}
 use Rattle.rx_sparse.specs.Rows.{no_row, rows_len}
 use Rattle.rx_sparse_image.specs.Closing.{row_stands}

@@ -1,8 +1,8 @@
-use Rattle.std.proofs.Common.{◌≡◌, ◌&&◌, ◌==◌, Bool, true, false, length, refl, ap, sym, ◌∙◌}
-use Rattle.std.proofs.lemmas.Bool.{eq-eqb}
+use Rattle.rx_spec.proofs.Prelude.{arith, ◌≡◌, ◌&&◌, ◌==◌, Bool, true, false, length, refl, sym, ◌∙◌, common_steps}
+use Rattle.rx_spec.proofs.Prelude.{eq-eqb}
 use Rattle.rx_sparse.specs.Layouts.{Layout}
 use Rattle.rx_sparse.proofs.RowPlaces.{length-rows_in}
-use Rattle.rx_sparse_image.specs.Closing.{are_special_rows, rows_stand, starts_stand}
+use Rattle.rx_sparse_image.specs.Closing.{are_special_rows, rows_stand}
 use Rattle.rx_sparse_image.specs.Reading.{image_layout}
 use Rattle.rx_sparse_image.proofs.closing.is_closed.Goals as goal
 use Rattle.rx_sparse_image.proofs.closing.is_closed.Goals.{then-rows_stand, else-rows_stand}
@@ -13,11 +13,6 @@ both_asked first both = rw (first, both) refl
 
 first_asked : {both first : Bool} (second : Bool) → first ≡ false → both ≡ first → both ≡ (first && second)
 first_asked second first both = rw (both, first) refl
-
--- where the first test of four holds, and the next two are one
-in_order : {told both : Bool} (stand special starts : Bool) → told ≡ true → both ≡ (stand && special)
-    → (told && stand && special && starts) ≡ (both && starts)
-in_order stand special starts told both = rw (told, both) refl
 
 pub returns-then-are_special_rows : goal.returns-then-are_special_rows
 returns-then-are_special_rows c =
@@ -34,9 +29,7 @@ returns-then-are_special_rows c =
       | else-rows_stand w ↦
           first_asked (are_special_rows l l.special) (sym stand ∙ w.if-rows_stand.false) (w.value-is ∙ stand)
     ] in
-    c.starts_stand.ensures marks
-    ∙ sym (in_order (rows_stand l) (are_special_rows l l.special) (starts_stand l) count both
-    ∙ ap (λ b. b && starts_stand l) c.if-are_special_rows.true)
+    grind (arith, common_steps)
 
 pub returns-else-are_special_rows : goal.returns-else-are_special_rows
 returns-else-are_special_rows c =
@@ -53,6 +46,4 @@ returns-else-are_special_rows c =
       | else-rows_stand w ↦
           first_asked (are_special_rows l l.special) (sym stand ∙ w.if-rows_stand.false) (w.value-is ∙ stand)
     ] in
-    c.if-are_special_rows.false
-    ∙ sym (in_order (rows_stand l) (are_special_rows l l.special) (starts_stand l) count both
-    ∙ ap (λ b. b && starts_stand l) c.if-are_special_rows.false)
+    grind (arith, common_steps)

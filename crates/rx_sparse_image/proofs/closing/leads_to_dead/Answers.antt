@@ -1,5 +1,4 @@
-use Rattle.std.proofs.Common.{◌/◌, ◌==◌, length, sym, ◌∙◌, arith}
-use Rattle.std.proofs.lemmas.Bool.{ne_eqb}
+use Rattle.rx_spec.proofs.Prelude.{◌/◌, ◌==◌, length, sym, ◌∙◌, arith, ne_eqb}
 use Rattle.rx_sparse.specs.Rows.{word_at}
 use Rattle.rx_dense_image.proofs.EachBelow.{all_of, not_all}
 use Rattle.rx_sparse_image.proofs.PartsOfRows.{all_next, id_within}
@@ -20,4 +19,4 @@ returns c =
     let p = c.args.row.now in
     sym (all_next c.requires (λ id. id == 0)
     ∙ all_of (length p.ends.now / 2) (λ k. word_at c.args.image.now.parts.order p.next_ids.now k == 0)
-    (λ k lt. c.loop-i.invariant k (omega (arith, lt))))
+    (λ k lt. c.loop-i.invariant k (omega arith)))

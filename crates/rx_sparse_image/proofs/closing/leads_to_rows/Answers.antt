@@ -1,4 +1,4 @@
-use Rattle.std.proofs.Common.{◌≡◌, ◌/◌, true, false, length, sym, ap, ◌∙◌, arith, rules, below_more}
+use Rattle.rx_spec.proofs.Prelude.{◌≡◌, ◌/◌, true, false, length, sym, ap, ◌∙◌, arith, rules, below_more}
 use Rattle.rx_sparse.specs.Layouts.{Layout}
 use Rattle.rx_sparse.specs.Rows.{word_at}
 use Rattle.rx_sparse_image.specs.Closing.{is_row_id}
@@ -34,4 +34,4 @@ returns c = λ marks.
     let p = c.args.row.now in
     sym (all_next c.requires.parts (is_row_id l)
     ∙ all_of (length p.ends.now / 2) (λ k. is_row_id l (word_at c.args.image.now.parts.order p.next_ids.now k))
-    (λ k lt. c.loop-i.invariant marks k (omega (arith, lt))))
+    (λ k lt. c.loop-i.invariant marks k (omega arith)))

@@ -1,7 +1,4 @@
-use Rattle.std.proofs.Common.{◌≡◌, ℕ, get_or, map, refl, sym, ap, ◌∙◌, arith}
-use Rattle.std.specs.List.{range_with_len}
-use Rattle.std.proofs.lemmas.List.FromFn.{fill_by_all}
-use Rattle.std.proofs.lemmas.Simd.{map-map}
+use Rattle.rx_spec.proofs.Prelude.{◌≡◌, ℕ, get_or, map, refl, sym, ap, ◌∙◌, arith, range_with_len, fill_by_all, map-map}
 use Rattle.rx_spec.specs.declared.Start.{Start}
 use Rattle.rx_dense.specs.Layouts.{context_number}
 use Rattle.rx_sparse_image.proofs.put.context_numbers.Goals as goal
@@ -13,5 +10,5 @@ returns-clause-value g c =
     let in_order : contexts ≡ map at (range_with_len 0 256) =
     fill_by_all at contexts 256 Start.NonWordByte c.requires.starts.contexts (λ k lt. refl) in
     fill_by_all (λ k. context_number (at k)) c.loop-byte.numbers 256 0 c.loop-byte.invariant.len
-    (λ k lt. c.loop-byte.invariant.each k (omega (arith, lt, c.loop-byte-test.false)))
+    (λ k lt. c.loop-byte.invariant.each k (omega arith))
     ∙ sym (ap (map context_number) in_order ∙ map-map context_number at (range_with_len 0 256))

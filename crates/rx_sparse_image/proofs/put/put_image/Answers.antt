@@ -1,4 +1,4 @@
-use Rattle.std.proofs.Common.{ap}
+use Rattle.rx_spec.proofs.Prelude.{ap}
 use Rattle.rx_dense_image.specs.Heads.{head_text}
 use Rattle.rx_dense_image.specs.Marks.{quit_text, special_text}
 use Rattle.rx_dense_image.proofs.Behind.{and_then, put_same}

@@ -1,10 +1,7 @@
-use Rattle.std.proofs.lemmas.Grind.{common_steps}
-use Rattle.std.proofs.Common.{◌≡◌, true, refl, ap, sym, ◌∙◌, arith}
-use Rattle.rx_dense_image.proofs.Behind.{and_then, of_word, put_same}
-use Rattle.rx_sparse.specs.Rows.{rows_text}
+use Rattle.rx_spec.proofs.Prelude.{common_steps, ◌≡◌, true, refl, sym, ◌∙◌, arith, false≢true}
+use Rattle.rx_dense_image.proofs.Behind.{and_then}
 use Rattle.rx_sparse.proofs.RowTexts.{length-rows}
 use Rattle.rx_sparse_image.proofs.Pieces.{are_whole, rows_there}
-use Rattle.std.proofs.lemmas.Bool.{false≢true}
 use denote.Enum.Bare.{sameb}
 use Rattle.rx_wire.specs.declared.order.Order.{Order}
 use Rattle.rx_wire.specs.contracts.order.Order.{the_type}
@@ -36,14 +33,10 @@ returns-then-eq-clause-put g c =
     sym c.order.ensures
     ∙ one_order c.order.result c.args.order (sym c.eq.ensures ∙ c.if-eq.true)
     ∙ c.requires.order in
-    and_then (of_word other c.row_word.ensures c.put_word-count.ensures.put)
-    (and_then (of_word other c.pattern_len_word.ensures c.put_word-patterns.ensures.put)
-    (and_then (put_same (c.as_bytes.ensures ∙ c.byte_classes.ensures.value) c.put_plain-classes.ensures.put)
-    (and_then (of_word other c.len_word.ensures c.put_word-len.ensures.put)
-    (put_same (c.row_bytes.ensures ∙ ap (λ o. rows_text o dfa.layout.rows) same) c.put_plain.ensures.put))))
+    grind (arith, common_steps, and_then)
 
 pub returns-else-eq-clause-place : goal.returns-else-eq-clause-place
 returns-else-eq-clause-place g c = grind (arith, common_steps, length-rows)
 
 pub returns-else-eq-clause-put : goal.returns-else-eq-clause-put
-returns-else-eq-clause-put g c = grind (arith, common_steps, rows_there, and_then, of_word, put_same)
+returns-else-eq-clause-put g c = grind (arith, common_steps, rows_there, and_then)

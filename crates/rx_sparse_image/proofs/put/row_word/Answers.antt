@@ -1,5 +1,4 @@
-use Rattle.std.proofs.lemmas.Grind.{common_steps}
-use Rattle.std.proofs.Common.{arith}
+use Rattle.rx_spec.proofs.Prelude.{common_steps, arith}
 use Rattle.rx_sparse_image.proofs.Sizes.{rows_few}
 use Rattle.rx_sparse_image.proofs.put.row_word.Goals as goal
 

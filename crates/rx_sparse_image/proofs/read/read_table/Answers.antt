@@ -1,5 +1,4 @@
-use Rattle.std.proofs.Common.{arith}
-use Rattle.std.proofs.lemmas.Grind.{common_steps}
+use Rattle.rx_spec.proofs.Prelude.{arith, common_steps}
 use Rattle.rx_sparse_image.proofs.ReadImages.{image_whole, miscounted_image, parts_fit}
 use Rattle.rx_sparse_image.proofs.read.read_table.Goals as goal
 

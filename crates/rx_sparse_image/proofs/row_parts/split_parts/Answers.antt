@@ -1,8 +1,7 @@
-use Rattle.std.proofs.lemmas.Grind.{common_steps}
-use Rattle.std.proofs.Common.{◌<◌, length, arith}
+use Rattle.rx_spec.proofs.Prelude.{common_steps, ◌<◌, length, arith}
 use Rattle.rx_sparse.proofs.RowTexts.{whole_ends, whole_ids}
 use Rattle.rx_sparse_image.proofs.Pieces.{after_low, ends_there, head_there, ids_there, left_there, needles_low}
-use Rattle.rx_sparse_image.proofs.Pieces.{needles_there, patterns_there, size_low, size_within}
+use Rattle.rx_sparse_image.proofs.Pieces.{patterns_there, size_low, size_within}
 use Rattle.rx_sparse_image.proofs.row_parts.split_parts.Goals as goal
 
 pub split_at-requires-2 : goal.split_at-requires-2
@@ -30,7 +29,7 @@ bounds-rest-0 c =
       c.split_at.ensures.back,
     )
     (after_low c.requires) in
-    omega (arith, low)
+    omega arith
 
 pub split_at-requires-5 : goal.split_at-requires-5
 split_at-requires-5 c = grind (arith, common_steps, needles_low)
@@ -48,7 +47,7 @@ pub returns-clause-patterns : goal.returns-clause-patterns
 returns-clause-patterns c = grind (arith, common_steps, patterns_there)
 
 pub returns-clause-needles : goal.returns-clause-needles
-returns-clause-needles c = grind (arith, common_steps, needles_there)
+returns-clause-needles c = grind (arith, common_steps)
 
 pub returns-clause-rest : goal.returns-clause-rest
 returns-clause-rest c = grind (arith, common_steps, left_there)

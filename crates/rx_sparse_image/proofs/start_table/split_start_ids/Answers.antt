@@ -1,6 +1,4 @@
-use Rattle.std.proofs.lemmas.Grind.{common_steps}
-use Rattle.std.proofs.Common.{arith}
-use Rattle.std.proofs.lemmas.List.FromFn.{length-map-range_with_len}
+use Rattle.rx_spec.proofs.Prelude.{common_steps, arith, length-map-range_with_len}
 use Rattle.rx_dense_image.specs.Rows.{words_at}
 use Rattle.rx_sparse_image.proofs.start_table.split_start_ids.Goals as goal
 

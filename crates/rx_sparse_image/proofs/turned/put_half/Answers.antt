@@ -1,5 +1,4 @@
-use Rattle.std.proofs.Common.{refl, arith}
-use Rattle.std.specs.Int.{w16}
+use Rattle.rx_spec.proofs.Prelude.{refl, arith, w16}
 use Rattle.rx_wire.specs.Fields.{field}
 use Rattle.rx_wire.proofs.Fields.{length-field_16}
 use Rattle.rx_wire.proofs.Behind.{put_behind, stands_more}
@@ -12,4 +11,4 @@ returns-clause-put g c =
     put_up_to refl
     (stands_more
     (put_behind c.args.dst.now c.write_u16.new.dst (field order w16 c.args.number) c.args.at _
-    (omega (arith, c.requires)) (length-field_16 order c.args.number) c.write_u16.ensures))
+    (omega arith) (length-field_16 order c.args.number) c.write_u16.ensures))

@@ -1,6 +1,4 @@
-use Rattle.std.proofs.lemmas.Grind.{common_steps}
-use Rattle.std.proofs.Common.{◌/◌, length, ap, ◌∙◌, arith}
-use Rattle.std.specs.Int.{w16}
+use Rattle.rx_spec.proofs.Prelude.{common_steps, ◌/◌, length, ap, ◌∙◌, arith, w16}
 use Rattle.rx_wire.specs.Fields.{field}
 use Rattle.rx_dense_image.proofs.Behind.{and_then, put_same}
 use Rattle.rx_sparse.specs.Rows.{row_in, words_in, words_text, next_ids}
@@ -10,14 +8,7 @@ use Rattle.rx_sparse_image.proofs.turned.put_row.Goals as goal
 pub put_plain-end-requires : goal.put_plain-end-requires
 put_plain-end-requires g c =
     let sizes = row_sizes c.args.order (row_in c.args.order c.args.bytes.now) in
-    omega (
-      arith,
-      sizes,
-      ap length c.split_parts.ensures.ends,
-      c.put_half-end.ensures.len,
-      c.put_half-end.ensures.place,
-      c.requires.fits,
-    )
+    grind (arith, common_steps)
 
 pub put_words-end-requires-clause-whole : goal.put_words-end-requires-clause-whole
 put_words-end-requires-clause-whole g c = grind (arith, common_steps, words_whole)
@@ -25,17 +16,7 @@ put_words-end-requires-clause-whole g c = grind (arith, common_steps, words_whol
 pub put_words-end-requires-clause-fits : goal.put_words-end-requires-clause-fits
 put_words-end-requires-clause-fits g c =
     let sizes = row_sizes c.args.order (row_in c.args.order c.args.bytes.now) in
-    omega (
-      arith,
-      sizes,
-      ap length c.split_parts.ensures.ends,
-      ap length c.split_parts.ensures.next_ids,
-      c.put_half-end.ensures.len,
-      c.put_half-end.ensures.place,
-      c.put_plain-end.ensures.len,
-      c.put_plain-end.ensures.place,
-      c.requires.fits,
-    )
+    grind (arith, common_steps)
 
 pub put_words-end-requires-2-clause-whole : goal.put_words-end-requires-2-clause-whole
 put_words-end-requires-2-clause-whole g c = grind (arith, common_steps, patterns_whole)
@@ -43,58 +24,17 @@ put_words-end-requires-2-clause-whole g c = grind (arith, common_steps, patterns
 pub put_words-end-requires-2-clause-fits : goal.put_words-end-requires-2-clause-fits
 put_words-end-requires-2-clause-fits g c =
     let sizes = row_sizes c.args.order (row_in c.args.order c.args.bytes.now) in
-    omega (
-      arith,
-      sizes,
-      ap length c.split_parts.ensures.ends,
-      ap length c.split_parts.ensures.next_ids,
-      ap length c.split_parts.ensures.patterns,
-      c.put_half-end.ensures.len,
-      c.put_half-end.ensures.place,
-      c.put_plain-end.ensures.len,
-      c.put_plain-end.ensures.place,
-      c.put_words-end.ensures.len,
-      c.put_words-end.ensures.place,
-      c.requires.fits,
-    )
+    grind (arith, common_steps)
 
 pub put_plain-requires : goal.put_plain-requires
 put_plain-requires g c =
     let sizes = row_sizes c.args.order (row_in c.args.order c.args.bytes.now) in
-    omega (
-      arith,
-      sizes,
-      ap length c.split_parts.ensures.ends,
-      ap length c.split_parts.ensures.next_ids,
-      ap length c.split_parts.ensures.patterns,
-      ap length c.split_parts.ensures.needles,
-      c.put_half-end.ensures.len,
-      c.put_half-end.ensures.place,
-      c.put_plain-end.ensures.len,
-      c.put_plain-end.ensures.place,
-      c.put_words-end.ensures.len,
-      c.put_words-end.ensures.place,
-      c.put_words-end-2.ensures.len,
-      c.put_words-end-2.ensures.place,
-      c.requires.fits,
-    )
+    grind (arith, common_steps)
 
 pub returns-clause-place : goal.returns-clause-place
 returns-clause-place g c =
     let sizes = row_sizes c.args.order (row_in c.args.order c.args.bytes.now) in
-    omega (
-      arith,
-      sizes,
-      ap length c.split_parts.ensures.ends,
-      ap length c.split_parts.ensures.next_ids,
-      ap length c.split_parts.ensures.patterns,
-      ap length c.split_parts.ensures.needles,
-      c.put_half-end.ensures.place,
-      c.put_plain-end.ensures.place,
-      c.put_words-end.ensures.place,
-      c.put_words-end-2.ensures.place,
-      c.put_plain.ensures.place,
-    )
+    grind (arith, common_steps)
 
 pub returns-clause-put : goal.returns-clause-put
 returns-clause-put g c =

@@ -1,7 +1,5 @@
-use Rattle.std.proofs.lemmas.Grind.{common_steps}
-use Rattle.std.proofs.Common.{ℕ, ◌<◌, drop, ap, ◌∙◌, arith}
-use Rattle.std.proofs.lemmas.List.{take_all}
-use Rattle.rx_dense_image.proofs.Behind.{and_then, put_nothing, put_same}
+use Rattle.rx_spec.proofs.Prelude.{common_steps, ℕ, ◌<◌, drop, ap, ◌∙◌, arith}
+use Rattle.rx_dense_image.proofs.Behind.{and_then, put_same}
 use Rattle.rx_sparse.specs.Rows.{row_in, row_len, row_text, rows_len}
 use Rattle.rx_sparse.proofs.RowPlaces.{length-rows_in}
 use Rattle.rx_sparse_image.proofs.Pieces.{next_len, next_there, place_within, rows_more, rows_size, whole_there}
@@ -15,7 +13,7 @@ put_row-requires-clause-fits g c = grind (arith, common_steps, place_within)
 
 pub loop-init : goal.loop-init
 unfolding rows_len
-loop-init g c = grind (arith, common_steps, put_nothing)
+loop-init g c = grind (arith, common_steps)
 
 pub loop-preserved : goal.loop-preserved
 loop-preserved g c =
@@ -23,19 +21,13 @@ loop-preserved g c =
     let bytes = c.args.bytes.now in
     let i : ℕ = c.loop.counter in
     let are = c.requires.rows in
-    let low : i < c.args.count = omega (arith, c.loop-test.true) in
+    let low : i < c.args.count = omega arith in
     let here = c.loop.invariant.rest in
     let same = ap (λ t. row_len (row_in order t)) here in
     record {
-      len = omega (arith, c.put_row.ensures.len, c.loop.invariant.len);
+      len = omega arith;
       place =
-          omega (
-            arith,
-            c.put_row.ensures.place,
-            c.loop.invariant.place,
-            same,
-            next_len order c.args.count bytes are i low c.args.at,
-          );
+          omega (arith, next_len order c.args.count bytes are i low c.args.at);
       rest =
           c.put_row.ensures.rest
           ∙ ap (λ t. drop (row_len (row_in order t)) t) here
@@ -47,7 +39,7 @@ loop-preserved g c =
     }
 
 pub returns-clause-place : goal.returns-clause-place
-returns-clause-place g c = grind (arith, common_steps, take_all, length-rows_in, rows_size)
+returns-clause-place g c = grind (arith, common_steps, length-rows_in, rows_size)
 
 pub returns-clause-put : goal.returns-clause-put
-returns-clause-put g c = grind (arith, common_steps, put_same, take_all, length-rows_in)
+returns-clause-put g c = grind (arith, common_steps, length-rows_in)

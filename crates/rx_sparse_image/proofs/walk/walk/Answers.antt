@@ -1,14 +1,11 @@
-use Rattle.std.proofs.lemmas.Grind.{common_steps}
-use Rattle.std.proofs.Common.{◌≡◌, ℕ, ◌-◌, ◌<◌, false, Ok, length, subst, ap, ◌∙◌, arith, rules}
-use Rattle.std.proofs.lemmas.List.{length-replicate, length-set}
-use Rattle.std.proofs.lemmas.Result.{err_from_is_err_and}
-use Rattle.std.proofs.lemmas.List.Elements.{All-drop}
-use Rattle.rx_spec.specs.Bytes.{AreBytes}
+use Rattle.rx_spec.proofs.Prelude.{common_steps, ◌≡◌, ℕ, ◌-◌, ◌<◌, false, Ok, length, subst, ap, ◌∙◌, arith, rules}
+use Rattle.rx_spec.proofs.Prelude.{length-replicate, err_from_is_err_and, All-drop, AreBytes}
+use Rattle.std.proofs.lemmas.List.{length-set}
 use Rattle.rx_sparse.specs.Rows.{offsets, row_in, rows_in, rows_len}
 use Rattle.rx_sparse_image.specs.Walks.{row_at, rows_at}
 use Rattle.rx_sparse_image.proofs.DecodedBytes.{are_bytes}
-use Rattle.rx_sparse_image.proofs.PassedRows.{all_read, all_tested, all_whole, marks_more, marks_none, none_passed}
-use Rattle.rx_sparse_image.proofs.PassedRows.{offsets_are, rest_is, fails_by, row_fails, row_passed}
+use Rattle.rx_sparse_image.proofs.PassedRows.{all_read, all_tested, marks_more, marks_none, none_passed, offsets_are}
+use Rattle.rx_sparse_image.proofs.PassedRows.{rest_is, fails_by, row_fails, row_passed}
 use Rattle.rx_sparse_image.proofs.walk.walk.Goals as goal
 
 pub rows-init : goal.rows-init
@@ -43,7 +40,7 @@ rows-preserved c =
     (All-drop (λ x. x < 256) (rows_len rows) bytes (are_bytes bytes c.type_inv.bytes)) in
     let read : row_at b at rest ≡ Ok (row_in b.order rest, c.in_ok-rest.rest.now) = c.in_ok-rest.ensures.read in
     let size = c.rows.invariant.size in
-    let within : at < length c.rows.rows.begins.items = omega (arith, some, size) in
+    let within : at < length c.rows.rows.begins.items = omega arith in
     record {
       passed = row_passed are c.requires some bytes_rest read;
       size = ap length c.insert.ensures ∙ simp length-set size;
@@ -56,7 +53,7 @@ pub returns-clause-read : goal.returns-clause-read
 returns-clause-read c = grind (arith, common_steps, all_read)
 
 pub returns-clause-whole : goal.returns-clause-whole
-returns-clause-whole c = grind (arith, common_steps, all_whole)
+returns-clause-whole c = grind (arith, common_steps)
 
 pub returns-clause-tested : goal.returns-clause-tested
 returns-clause-tested c = grind (arith, common_steps, all_tested)

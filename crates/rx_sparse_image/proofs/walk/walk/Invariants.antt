@@ -1,4 +1,4 @@
-use Rattle.std.proofs.Common.{◌≡◌, length}
+use Rattle.rx_spec.proofs.Prelude.{◌≡◌, length}
 use Rattle.rx_sparse.specs.Rows.{offsets, rows_in}
 use Rattle.rx_sparse_image.specs.RowSets.{Marks}
 use Rattle.rx_sparse_image.proofs.PassedRows.{ArePassed}

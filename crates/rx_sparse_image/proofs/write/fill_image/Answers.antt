@@ -1,4 +1,4 @@
-use Rattle.std.proofs.Common.{sym, ◌∙◌}
+use Rattle.rx_spec.proofs.Prelude.{sym, ◌∙◌}
 use Rattle.rx_dense_image.proofs.Behind.{filled}
 use Rattle.rx_sparse_image.proofs.write.fill_image.Goals as goal
 

@@ -1,4 +1,4 @@
-use Rattle.std.proofs.Common.{◌≡◌, ◌++◌, map}
+use Rattle.rx_spec.proofs.Prelude.{◌≡◌, ◌++◌, map}
 use Rattle.rx_base.specs.Unit.{unit_number}
 use Rattle.rx_stepper.specs.Units.{units_of}
 use Rattle.rx_stepper.proofs.columns.units_of.Given as goal

@@ -1,4 +1,4 @@
-use Rattle.std.proofs.Common.{◌≡◌, ◌++◌, take}
+use Rattle.rx_spec.proofs.Prelude.{◌≡◌, ◌++◌, take}
 use Rattle.rx_stepper.proofs.current.push_rows.Given as goal
 
 abbrev pub invariant-loop-number : goal.invariant-loop-number

@@ -1,16 +1,10 @@
-use Rattle.std.proofs.lemmas.Grind.{common_steps}
-use Rattle.std.proofs.Common.{◌≡◌, ℕ, ◌++◌, List, [], map, Option, None, Some, ap, sym, ◌∙◌, append-nil, arith}
-use Rattle.std.specs.Borrow.{Bor}
-use Rattle.std.specs.Prelude.{IfSome}
-use Rattle.std.specs.Option.{option_map_or}
-use Rattle.rx_spec.specs.Rows.{Row}
-use Rattle.lemmas_walks.proofs.Every.{flat_map-append_of}
+use Rattle.rx_spec.proofs.Prelude.{common_steps, ◌≡◌, ℕ, ◌++◌, List, [], map, Option, None, Some, ap, sym, ◌∙◌, arith}
+use Rattle.rx_spec.proofs.Prelude.{Bor, IfSome, option_map_or, Row}
 use Rattle.rx_expr.specs.Nfa.{meaning}
 use Rattle.rx_stepper.specs.Gathering.{matches_in}
 use Rattle.rx_stepper.specs.Leads.{without}
 use Rattle.rx_stepper.specs.Steps.{AreEmpty, patterns_of}
 use Rattle.rx_stepper.specs.declared.steps.Steps.{Steps}
-use Rattle.rx_stepper.proofs.EmptyLists.{list_there}
 use Rattle.rx_stepper.proofs.Without.{without_nil}
 use Rattle.rx_stepper.proofs.gathered.write_label.Goals as goal
 
@@ -30,7 +24,7 @@ returns-then-not-may_match c =
     ∙ sym (none_told rows c.args.group c.args.lead none (c.may_match.ensures c.if-not-may_match.true))
 
 pub returns-in_default : goal.returns-in_default
-returns-in_default c = grind (arith, common_steps, list_there, append-nil)
+returns-in_default c = grind (arith, common_steps)
 
 pub returns-in_ok-add_other_patterns : goal.returns-in_ok-add_other_patterns
-returns-in_ok-add_other_patterns c = grind (arith, common_steps, list_there, flat_map-append_of)
+returns-in_ok-add_other_patterns c = grind (arith, common_steps)

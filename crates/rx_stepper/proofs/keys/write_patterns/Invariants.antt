@@ -1,6 +1,4 @@
-use Rattle.std.proofs.Common.{◌≡◌, ℕ, ◌+◌, ◌<◌, ◌≤◌, ◌++◌, length, take}
-use Rattle.std.specs.Prelude.{slice_index}
-use Rattle.rx_spec.specs.Causes.{max_id}
+use Rattle.rx_spec.proofs.Prelude.{◌≡◌, ℕ, ◌+◌, ◌<◌, ◌≤◌, ◌++◌, length, take, slice_index, max_id}
 use Rattle.rx_stepper.proofs.keys.write_patterns.Given as goal
 
 abbrev pub invariant-loop-i : goal.invariant-loop-i

@@ -1,4 +1,4 @@
-use Rattle.std.proofs.Common.{◌≡◌, ◌+◌, ◌++◌, length, take}
+use Rattle.rx_spec.proofs.Prelude.{◌≡◌, ◌+◌, ◌++◌, length, take}
 use Rattle.rx_stepper.proofs.keys.write_rows.Given as goal
 
 abbrev pub invariant-loop-i : goal.invariant-loop-i

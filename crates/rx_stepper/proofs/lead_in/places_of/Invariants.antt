@@ -1,4 +1,4 @@
-use Rattle.std.proofs.Common.{◌≡◌, length}
+use Rattle.rx_spec.proofs.Prelude.{◌≡◌, length}
 use Rattle.rx_stepper.proofs.LeadPlaces.{Placed}
 use Rattle.rx_stepper.proofs.lead_in.places_of.Given as goal
 

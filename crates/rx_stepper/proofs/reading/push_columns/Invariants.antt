@@ -1,7 +1,4 @@
-use Rattle.std.proofs.Common.{◌≡◌, ◌++◌, ℕ, map}
-use Rattle.std.specs.Prelude.{filter, slice_index}
-use Rattle.std.specs.List.{range_with_len}
-use Rattle.rx_spec.specs.Bytes.{contains}
+use Rattle.rx_spec.proofs.Prelude.{◌≡◌, ◌++◌, ℕ, map, filter, slice_index, range_with_len, contains}
 use Rattle.rx_base.specs.Unit.{unit_number}
 use Rattle.rx_stepper.proofs.reading.push_columns.Given as goal
 

@@ -1,4 +1,4 @@
-use Rattle.std.proofs.Common.{◌≡◌, ℕ, ◌<◌, get_or}
+use Rattle.rx_spec.proofs.Prelude.{◌≡◌, ℕ, ◌<◌, get_or}
 use Rattle.rx_stepper.proofs.stamps.clear.Given as goal
 
 abbrev pub invariant-loop-number : goal.invariant-loop-number

@@ -1,4 +1,4 @@
-use Rattle.std.proofs.Common.{◌≡◌, ◌<◌, ℕ, get_or}
+use Rattle.rx_spec.proofs.Prelude.{◌≡◌, ◌<◌, ℕ, get_or}
 use Rattle.rx_stepper.proofs.stepper.are_equal.Given as goal
 
 abbrev pub invariant-loop-i : goal.invariant-loop-i

@@ -1,19 +1,17 @@
-use Rattle.std.proofs.lemmas.Grind.{common_steps}
-use Rattle.std.proofs.Common.{ap, sym, ◌∙◌, subst, arith}
-use Rattle.std.specs.Prelude.{IfSome, length, ◌<◌}
+use Rattle.rx_spec.proofs.Prelude.{common_steps, ap, sym, ◌∙◌, subst, arith, IfSome, length, ◌<◌}
 use Rattle.rx_stepper.specs.Steps.{goes_on}
 use Rattle.rx_stepper.proofs.EmptyLists.{list_there}
 use Rattle.rx_stepper.proofs.LeadPlaces.{at_or}
 use Rattle.rx_stepper.proofs.stepper.lead_steps.Goals as goal
 
 pub returns-then-not-goes_on : goal.returns-then-not-goes_on
-returns-then-not-goes_on c = grind (arith, common_steps, list_there)
+returns-then-not-goes_on c = grind (arith, common_steps)
 
 pub returns : goal.returns
 returns c =
     let own = c.args.current.now.steps in
     let there = list_there (λ v. v.items) own.matches.items c.args.group c.index.result.now
-    (omega (arith, own.matches_len, c.requires.group)) c.index.ensures in
+    (omega arith) c.index.ensures in
     let within =
     subst (λ o. IfSome o (λ context. context < length c.args.leads.now)) c.in_ok-context.was c.requires.context in
     record {

@@ -1,5 +1,4 @@
-use Rattle.std.proofs.Common.{arith}
-use Rattle.std.proofs.lemmas.Grind.{common_steps}
+use Rattle.rx_spec.proofs.Prelude.{arith, common_steps}
 use Rattle.rx_stepper.proofs.EmptyLists.{empty_set}
 use Rattle.rx_stepper.proofs.steps.clear_lists.Goals as goal
 

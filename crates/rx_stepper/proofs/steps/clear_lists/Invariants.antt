@@ -1,4 +1,4 @@
-use Rattle.std.proofs.Common.{◌≡◌, ◌<◌, ℕ, [], get_or, map}
+use Rattle.rx_spec.proofs.Prelude.{◌≡◌, ◌<◌, ℕ, [], get_or, map}
 use Rattle.rx_stepper.proofs.steps.clear_lists.Given as goal
 
 abbrev pub invariant-loop-list : goal.invariant-loop-list

@@ -1,15 +1,11 @@
-use Rattle.std.proofs.lemmas.Grind.{common_steps}
-use Rattle.std.proofs.Common.{ℕ, map, ap, ◌∙◌, arith}
-use Rattle.std.proofs.lemmas.List.{take_all}
-use Rattle.std.specs.Prelude.{slice_index, ◌++◌}
-use Rattle.std.specs.List.{flat_map}
-use Rattle.rx_spec.specs.States.{row_at, target}
+use Rattle.rx_spec.proofs.Prelude.{common_steps, ℕ, map, ap, ◌∙◌, arith, take_all, slice_index, ◌++◌, flat_map, row_at}
+use Rattle.rx_spec.proofs.Prelude.{target}
 use Rattle.rx_stepper.specs.Columns.{takes, only_if, list_at}
-use Rattle.rx_stepper.proofs.TargetLists.{led_filtered, row_added}
+use Rattle.rx_stepper.proofs.TargetLists.{led_filtered}
 use Rattle.rx_stepper.proofs.targets.add_targets.Goals as goal
 
 pub loop-row-preserved : goal.loop-row-preserved
-loop-row-preserved c = grind (arith, common_steps, led_filtered, row_added)
+loop-row-preserved c = grind (arith, common_steps, led_filtered)
 
 pub returns-clause-lists : goal.returns-clause-lists
 returns-clause-lists c = λ nfa units reads column h.

@@ -1,8 +1,5 @@
-use Rattle.std.proofs.Common.{◌≡◌, ℕ, ◌<◌, ◌++◌, List, length, map, take}
-use Rattle.std.specs.Prelude.{slice_index}
-use Rattle.std.specs.List.{flat_map}
-use Rattle.rx_spec.specs.Rows.{Row}
-use Rattle.rx_spec.specs.States.{row_at, target}
+use Rattle.rx_spec.proofs.Prelude.{◌≡◌, ℕ, ◌<◌, ◌++◌, List, length, map, take, slice_index, flat_map, Row, row_at}
+use Rattle.rx_spec.proofs.Prelude.{target}
 use Rattle.rx_stepper.specs.Columns.{list_at, only_if, takes, Reads}
 use Rattle.rx_stepper.proofs.targets.add_targets.Given as goal
 

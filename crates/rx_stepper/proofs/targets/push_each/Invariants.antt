@@ -1,5 +1,4 @@
-use Rattle.std.proofs.Common.{◌≡◌, ℕ, ◌++◌, length, map, take}
-use Rattle.std.specs.Prelude.{filter}
+use Rattle.rx_spec.proofs.Prelude.{◌≡◌, ℕ, ◌++◌, length, map, take, filter}
 use Rattle.rx_stepper.specs.Columns.{led_by, list_at, takes}
 use Rattle.rx_stepper.proofs.targets.push_each.Given as goal
 

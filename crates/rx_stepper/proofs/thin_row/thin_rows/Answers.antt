@@ -1,5 +1,4 @@
-use Rattle.std.proofs.Common.{◌≡◌, length, ap, sym, ◌∙◌, subst, arith, rules}
-use Rattle.std.proofs.lemmas.List.{length-map}
+use Rattle.rx_spec.proofs.Prelude.{◌≡◌, length, ap, sym, ◌∙◌, subst, arith, rules, length-map}
 use Rattle.rx_expr.specs.Nfa.{meaning, row_of}
 use Rattle.rx_stepper.specs.ThinRows.{row_of_thin, IsThin}
 use Rattle.rx_stepper.proofs.ThinLists.{row_there, thin_push, thin_all}
@@ -21,6 +20,6 @@ pub returns-clause-rows : goal.returns-clause-rows
 returns-clause-rows c =
     let rows = (meaning c.args.nfa.now).rows in
     let rows_len = sym (length-map c.rows-rows.result.now row_of) ∙ ap length c.rows-rows.ensures in
-    let all : c.loop-row.row-index ≡ length rows = omega (arith, rows_len) in
+    let all : c.loop-row.row-index ≡ length rows = omega arith in
     thin_all c.loop-row.thin.items rows (c.loop-row.invariant.len ∙ all)
     (λ q h. c.loop-row.invariant.each q (omega arith))

@@ -1,5 +1,4 @@
-use Rattle.std.proofs.Common.{◌≡◌, ℕ, ◌<◌, length}
-use Rattle.rx_spec.specs.States.{row_at}
+use Rattle.rx_spec.proofs.Prelude.{◌≡◌, ℕ, ◌<◌, length, row_at}
 use Rattle.rx_expr.specs.Nfa.{meaning}
 use Rattle.rx_stepper.specs.ThinRows.{row_of_thin, thin_at, IsThin}
 use Rattle.rx_stepper.proofs.thin_row.thin_rows.Given as goal

@@ -1,5 +1,4 @@
-use Rattle.std.proofs.Common.{refl}
-use Rattle.rx_spec.specs.Overlapping.{overlapping_walk}
+use Rattle.rx_spec.proofs.Prelude.{refl, overlapping_walk}
 use Rattle.rx_stream.proofs.examples.ends.Goals as goal
 
 pub returns-clause-remaining : goal.returns-clause-remaining

@@ -1,13 +1,12 @@
-use Rattle.std.proofs.Common.{arith, sym, ◌∙◌, ℕ, List, None, subst}
-use Rattle.std.proofs.lemmas.Grind.{common_steps}
+use Rattle.rx_spec.proofs.Prelude.{arith, sym, ◌∙◌, ℕ, List, None, subst, common_steps, take_rest}
 use Rattle.rx_search.specs.Needles.{IsFirstNeedle}
 use Rattle.rx_search.proofs.Standing.{standing}
 use Rattle.rx_search.proofs.Needles.{some_needles}
-use Rattle.rx_stream.proofs.Pieces.{skip_found, skip_none, rest_of_piece}
+use Rattle.rx_stream.proofs.Pieces.{skip_found, skip_none}
 use Rattle.rx_stream.proofs.skips.skip.Goals as goal
 
 pub returns-in-Some : goal.returns-in-Some
-returns-in-Some g c = grind (arith, common_steps, standing, skip_found, some_needles, rest_of_piece)
+returns-in-Some g c = grind (arith, common_steps, standing, skip_found, some_needles, take_rest)
 
 pub returns-in-None : goal.returns-in-None
 returns-in-None g c =
@@ -17,4 +16,4 @@ returns-in-None g c =
     let accelerated = sym c.is_accel_state.ensures ∙ c.if-not-is_accel_state.false in
     skip_none (c.as_slice.ensures ∙ c.accelerator.ensures) (some_needles s accelerated) c.requires.within
     (subst (λ (xs : List ℕ). IsFirstNeedle c.as_slice.result.now xs None)
-    (rest_of_piece c.args.piece.now c.args.from) c.in-None.ensures)
+    (take_rest c.args.piece.now c.args.from) c.in-None.ensures)

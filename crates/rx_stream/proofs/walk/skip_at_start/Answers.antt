@@ -1,5 +1,4 @@
-use Rattle.std.proofs.Common.{sym, ◌∙◌, refl, arith}
-use Rattle.rx_spec.specs.Ids.{row_of}
+use Rattle.rx_spec.proofs.Prelude.{sym, ◌∙◌, refl, arith, row_of}
 use Rattle.rx_search.proofs.Standing.{standing}
 use Rattle.rx_search.proofs.Walks.{bytes_of}
 use Rattle.rx_stream.proofs.Pieces.{walk_begins, walk_skips}

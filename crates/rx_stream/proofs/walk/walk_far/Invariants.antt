@@ -1,5 +1,4 @@
-use Rattle.std.proofs.Common.{length, ◌-◌, ◌≤◌}
-use Rattle.rx_spec.specs.Ids.{row_of}
+use Rattle.rx_spec.proofs.Prelude.{length, ◌-◌, ◌≤◌, row_of}
 use Rattle.rx_search.specs.Starts.{IsId}
 use Rattle.rx_stream.specs.Pieces.{IsQuietWalk}
 use Rattle.rx_stream.proofs.walk.walk_far.Given as goal

@@ -1,4 +1,4 @@
-use Rattle.std.proofs.Common.{refl, sym, ◌∙◌, arith}
+use Rattle.rx_spec.proofs.Prelude.{refl, sym, ◌∙◌, arith}
 use Rattle.rx_search.proofs.Standing.{standing}
 use Rattle.rx_search.proofs.Walks.{bytes_of, ordinary}
 use Rattle.rx_stream.proofs.Pieces.{turn_to, walk_goes_on, walk_halts, walk_passes_by}

@@ -1,4 +1,4 @@
-use Rattle.std.proofs.Common.{◌≤◌, ◌+◌, ◌++◌, ap, length, take, arith, length-append, length-take}
+use Rattle.rx_spec.proofs.Prelude.{◌≤◌, ◌+◌, ◌++◌, ap, length, take, arith, length-append, length-take}
 use Rattle.rx_transfer.proofs.Transfers.{consumes_more}
 use Rattle.rx_transfer.proofs.reading.read_up_to.Goals as goal
 

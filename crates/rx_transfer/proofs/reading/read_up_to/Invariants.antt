@@ -1,5 +1,5 @@
-use Rattle.std.proofs.Common.{◌≡◌, ◌++◌, ◌-◌, ◌≤◌, ℕ, List, length, vec_len}
-use Rattle.std.specs.Io.KnownBytes.{Consumes}
+use Rattle.rx_spec.proofs.Prelude.{◌≡◌, ◌++◌, ◌-◌, ◌≤◌, ℕ, List, length, Consumes}
+use Rattle.std.proofs.Common.{vec_len}
 use Rattle.rx_transfer.proofs.reading.read_up_to.Given as goal
 
 abbrev pub invariant-reads : goal.invariant-reads

@@ -1,5 +1,4 @@
-use Rattle.std.proofs.Common.{◌≡◌, ◌+◌, drop}
-use Rattle.std.specs.List.{prefix_len}
+use Rattle.rx_spec.proofs.Prelude.{◌≡◌, ◌+◌, drop, prefix_len}
 use Rattle.rx_wire.specs.Heads.{is_text}
 use Rattle.rx_wire.proofs.label.text_len.Given as goal
 

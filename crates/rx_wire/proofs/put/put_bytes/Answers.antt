@@ -1,5 +1,4 @@
-use Rattle.std.proofs.Common.{arith}
-use Rattle.std.proofs.lemmas.Grind.{common_steps}
+use Rattle.rx_spec.proofs.Prelude.{arith, common_steps}
 use Rattle.rx_wire.proofs.Behind.{put_between, stands_more}
 use Rattle.rx_wire.proofs.put.put_bytes.Goals as goal
 

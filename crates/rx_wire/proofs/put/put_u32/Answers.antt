@@ -1,5 +1,4 @@
-use Rattle.std.proofs.Common.{arith}
-use Rattle.std.specs.Int.{w32}
+use Rattle.rx_spec.proofs.Prelude.{arith, w32}
 use Rattle.rx_wire.specs.Fields.{field}
 use Rattle.rx_wire.proofs.Fields.{length-field_32}
 use Rattle.rx_wire.proofs.Behind.{put_behind, stands_more}

@@ -1,4 +1,4 @@
-use Rattle.std.proofs.Common.{◌≡◌, true}
+use Rattle.rx_spec.proofs.Prelude.{◌≡◌, true}
 use Rattle.rx_stepper.specs.Steppers.{stepping_of}
 use Rattle.tests_expressions.proofs.stepper.agree_along.Given as goal
 

@@ -1,4 +1,4 @@
-use Rattle.std.proofs.Common.{◌≡◌, ◌≤◌}
+use Rattle.rx_spec.proofs.Prelude.{◌≡◌, ◌≤◌}
 use Rattle.rx_stepper.specs.Steppers.{stepping_of}
 use Rattle.tests_expressions.proofs.stepper.columns_agree.Given as goal
 

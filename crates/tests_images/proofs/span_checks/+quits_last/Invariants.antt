@@ -1,4 +1,4 @@
-use Rattle.std.proofs.Common.{length}
+use Rattle.rx_spec.proofs.Prelude.{length}
 use Rattle.tests_images.proofs.span_checks.+quits_last.Given as goal
 
 abbrev pub decreases-quits_last : goal.decreases-quits_last

@@ -1,10 +1,5 @@
-use Rattle.std.proofs.Common.{◌≡◌, ℕ, List, [], ◌∷◌, refl, arith}
-use Rattle.std.proofs.lemmas.Fmt.{decimal_digit}
-use Rattle.std.proofs.lemmas.List.Elements.{All-cons, All-nil}
-use Rattle.std.specs.Fmt.{decimal}
-use Rattle.std.specs.Prelude.{All, codes}
-use Rattle.rx_spec.specs.Overlapping.{overlapping_walk}
-use Rattle.rx_spec.specs.Queries.{Anchored}
+use Rattle.rx_spec.proofs.Prelude.{◌≡◌, ℕ, List, [], ◌∷◌, refl, arith, decimal_digit, All-cons, All-nil, decimal, All}
+use Rattle.rx_spec.proofs.Prelude.{codes, overlapping_walk, Anchored}
 use Rattle.rx_stream.specs.Examples.{found, letter}
 use Rattle.rx_stream.specs.declared.event.StreamEvent.{StreamEvent}
 use Rattle.rx_feed.specs.Lines.{IsMatch}

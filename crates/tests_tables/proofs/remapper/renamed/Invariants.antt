@@ -1,4 +1,4 @@
-use Rattle.std.proofs.Common.{◌≡◌, length}
+use Rattle.rx_spec.proofs.Prelude.{◌≡◌, length}
 use Rattle.rx_order.specs.Renaming.{Fits}
 use Rattle.tests_tables.proofs.remapper.renamed.Given as goal
 

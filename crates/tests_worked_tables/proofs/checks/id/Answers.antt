@@ -1,5 +1,4 @@
-use Rattle.std.proofs.Common.{arith}
-use Rattle.std.proofs.lemmas.Grind.{common_steps}
+use Rattle.rx_spec.proofs.Prelude.{arith, common_steps}
 use Rattle.rx_dense.proofs.Rows.{IsId-row_id, IsRowId-row, row_of-row}
 use Rattle.rx_dense.proofs.States.{first_shifted}
 use Rattle.tests_worked_tables.proofs.checks.id.Goals as goal

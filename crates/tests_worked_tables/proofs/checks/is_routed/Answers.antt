@@ -1,5 +1,4 @@
-use Rattle.std.proofs.Common.{◌≡◌, ◌*◌, ◌∙◌, ap, sym, below_more, arith}
-use Rattle.std.proofs.lemmas.Bool.{eqb-false}
+use Rattle.rx_spec.proofs.Prelude.{◌≡◌, ◌*◌, ◌∙◌, ap, sym, below_more, arith, eqb-false}
 use Rattle.rx_dense.specs.Layouts.{Layout, stride, table_of}
 use Rattle.rx_dense.proofs.Rows.{id-times}
 use Rattle.tests_worked_tables.proofs.Routed.{starts_elsewhere}

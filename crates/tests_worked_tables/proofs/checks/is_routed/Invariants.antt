@@ -1,4 +1,4 @@
-use Rattle.std.proofs.Common.{◌≢◌, ◌<◌, ℕ}
+use Rattle.rx_spec.proofs.Prelude.{◌≢◌, ◌<◌, ℕ}
 use Rattle.rx_dense.specs.Layouts.{table_of}
 use Rattle.tests_worked_tables.proofs.checks.is_routed.Given as goal
 

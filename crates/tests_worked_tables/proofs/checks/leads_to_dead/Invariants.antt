@@ -1,5 +1,4 @@
-use Rattle.std.proofs.Common.{◌≡◌, ◌<◌, ℕ}
-use Rattle.rx_spec.specs.Ids.{row_of}
+use Rattle.rx_spec.proofs.Prelude.{◌≡◌, ◌<◌, ℕ, row_of}
 use Rattle.rx_dense.specs.Layouts.{ids_of, table_of}
 use Rattle.tests_worked_tables.proofs.checks.leads_to_dead.Given as goal
 

@@ -1,5 +1,4 @@
-use Rattle.std.proofs.Common.{◌≡◌, ◌==◌}
-use Rattle.std.specs.List.{list_any}
+use Rattle.rx_spec.proofs.Prelude.{◌≡◌, ◌==◌, list_any}
 use Rattle.tests_worked_tables.proofs.Routed.{any_left}
 use Rattle.tests_worked_tables.proofs.checks.starts_at.Given as goal
 

@@ -1,4 +1,4 @@
-use Rattle.std.proofs.Common.{◌<◌, All}
+use Rattle.rx_spec.proofs.Prelude.{◌<◌, All}
 use Rattle.tests_worked_tables.proofs.match_lists.list.Given as goal
 
 abbrev pub invariant-loop-pattern : goal.invariant-loop-pattern

@@ -1,4 +1,4 @@
-use Rattle.std.proofs.Common.{arith}
+use Rattle.rx_spec.proofs.Prelude.{arith}
 use Rattle.rx_dense.specs.Layouts.{Layout}
 use Rattle.rx_dense.proofs.Rows.{IsRowId-id}
 use Rattle.tests_worked_tables.proofs.MatchLists.{IsMatch, behind_quit, more_matches}

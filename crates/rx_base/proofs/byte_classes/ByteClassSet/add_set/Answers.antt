@@ -1,5 +1,4 @@
-use Rattle.std.proofs.Common.{arith}
-use Rattle.std.proofs.lemmas.Grind.{common_steps}
+use Rattle.rx_spec.proofs.Prelude.{arith, common_steps}
 use Rattle.rx_base.proofs.ByteSets.{contains-or}
 use Rattle.rx_base.proofs.byte_classes.ByteClassSet.add_set.Goals as goal
 

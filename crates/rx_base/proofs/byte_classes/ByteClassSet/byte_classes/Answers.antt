@@ -1,6 +1,4 @@
-use Rattle.std.proofs.lemmas.Grind.{common_steps}
-use Rattle.std.proofs.Common.{length-set, get_or-set_same, get_or-set_other, arith}
-use Rattle.rx_spec.specs.Bytes.{contains}
+use Rattle.rx_spec.proofs.Prelude.{common_steps, length-set, get_or-set_same, get_or-set_other, arith, contains}
 use Rattle.rx_base.proofs.Classes.{class_by-zero, class_by-next, class_by-le, AreClasses-class_by}
 use Rattle.rx_base.proofs.byte_classes.ByteClassSet.byte_classes.Goals as goal
 

@@ -1,6 +1,4 @@
-use Rattle.std.proofs.Common.{◌≡◌, ℕ, ◌≤◌, length, get_or}
-use Rattle.rx_spec.specs.Bytes.{contains}
-use Rattle.rx_spec.specs.Classes.{class_by}
+use Rattle.rx_spec.proofs.Prelude.{◌≡◌, ℕ, ◌≤◌, length, get_or, contains, class_by}
 use Rattle.rx_base.proofs.byte_classes.ByteClassSet.byte_classes.Given as goal
 
 -- the bytes up to this one have their classes

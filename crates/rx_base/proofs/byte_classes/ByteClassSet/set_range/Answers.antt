@@ -1,7 +1,4 @@
-use Rattle.std.proofs.lemmas.Grind.{common_steps}
-use Rattle.std.proofs.Common.{ℕ, ◌≡◌, ◌+◌, ◌-◌, ◌<◌, ◌≤◌, ◌==◌, false, arith}
-use Rattle.std.proofs.Math.Bool.{or-false}
-use Rattle.std.proofs.lemmas.Bool.Decides.{nat_tests}
+use Rattle.rx_spec.proofs.Prelude.{common_steps, ℕ, ◌≡◌, ◌+◌, ◌-◌, ◌<◌, ◌≤◌, ◌==◌, false, arith, or-false, nat_tests}
 use Rattle.rx_base.proofs.ByteSets.{contains-add}
 use Rattle.rx_base.proofs.Classes.{ends-with_range}
 use Rattle.rx_base.proofs.byte_classes.ByteClassSet.set_range.Goals as goal

@@ -1,4 +1,4 @@
-use Rattle.std.proofs.Common.{List, ℕ, sym, subst, refl}
+use Rattle.rx_spec.proofs.Prelude.{List, ℕ, sym, subst, refl}
 use Rattle.rx_base.specs.ByteClasses.{AreClasses}
 use Rattle.rx_base.proofs.Classes.{AreClasses-risen}
 use Rattle.rx_base.proofs.byte_classes.ByteClasses.from_bytes.Goals as goal

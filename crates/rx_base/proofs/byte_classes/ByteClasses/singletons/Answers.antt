@@ -1,5 +1,5 @@
-use Rattle.std.proofs.lemmas.Grind.{common_steps}
-use Rattle.std.proofs.Common.{◌<◌, length, length-set, get_or-set_same, get_or-set_other, ◌≢◌, below_more, arith}
+use Rattle.rx_spec.proofs.Prelude.{common_steps, ◌<◌, length, length-set, get_or-set_same, get_or-set_other, ◌≢◌}
+use Rattle.rx_spec.proofs.Prelude.{below_more, arith}
 use Rattle.rx_base.proofs.byte_classes.ByteClasses.singletons.Goals as goal
 
 pub loop-byte-init : goal.loop-byte-init

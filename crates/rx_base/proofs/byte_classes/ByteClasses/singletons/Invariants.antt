@@ -1,4 +1,4 @@
-use Rattle.std.proofs.Common.{◌≡◌, ℕ, ◌<◌, length, get_or}
+use Rattle.rx_spec.proofs.Prelude.{◌≡◌, ℕ, ◌<◌, length, get_or}
 use Rattle.rx_base.proofs.byte_classes.ByteClasses.singletons.Given as goal
 
 abbrev pub invariant-loop-byte : goal.invariant-loop-byte

@@ -1,7 +1,5 @@
-use Rattle.std.proofs.Common.{rules, ◌≡◌, ◌+◌, ◌-◌, ◌^◌, ◌<◌, ◌∙◌, ap, arith}
-use Rattle.std.proofs.lemmas.Grind.{common_steps}
-use Rattle.std.proofs.lemmas.Nat.{one_shl}
-use Rattle.rx_spec.specs.Classes.{least_exponent}
+use Rattle.rx_spec.proofs.Prelude.{rules, ◌≡◌, ◌+◌, ◌-◌, ◌^◌, ◌<◌, ◌∙◌, ap, arith, common_steps, one_shl}
+use Rattle.rx_spec.proofs.Prelude.{least_exponent}
 use Rattle.rx_base.proofs.Classes.{least_exponent-next, least_exponent-here, alphabet_len-le, exponent-below}
 use Rattle.rx_base.proofs.byte_classes.ByteClasses.stride2.Goals as goal
 use Rattle.rx_base.proofs.byte_classes.ByteClasses.stride2.Goals.{In-loop-exponent}

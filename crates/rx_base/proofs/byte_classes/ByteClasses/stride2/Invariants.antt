@@ -1,5 +1,4 @@
-use Rattle.std.proofs.Common.{◌≡◌, ◌-◌, ◌≤◌}
-use Rattle.rx_spec.specs.Classes.{least_exponent}
+use Rattle.rx_spec.proofs.Prelude.{◌≡◌, ◌-◌, ◌≤◌, least_exponent}
 use Rattle.rx_base.proofs.byte_classes.ByteClasses.stride2.Given as goal
 
 -- so far no smaller exponent will do

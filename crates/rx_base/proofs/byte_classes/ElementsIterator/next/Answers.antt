@@ -1,5 +1,4 @@
-use Rattle.std.proofs.Common.{arith, rules}
-use Rattle.std.proofs.lemmas.Grind.{common_steps}
+use Rattle.rx_spec.proofs.Prelude.{arith, rules, common_steps}
 use Rattle.rx_base.proofs.Classes.{elements_from-pass, elements_from-skip}
 use Rattle.rx_base.proofs.byte_classes.ElementsIterator.next.Goals as goal
 

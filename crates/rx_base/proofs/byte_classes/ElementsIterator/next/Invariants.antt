@@ -1,4 +1,4 @@
-use Rattle.std.proofs.Common.{◌≡◌, ◌-◌}
+use Rattle.rx_spec.proofs.Prelude.{◌≡◌, ◌-◌}
 use Rattle.rx_base.specs.ByteClasses.{elements_from}
 use Rattle.rx_base.proofs.byte_classes.ElementsIterator.next.Given as goal
 

@@ -1,5 +1,4 @@
-use Rattle.std.proofs.Common.{arith, rules}
-use Rattle.std.proofs.lemmas.Grind.{common_steps}
+use Rattle.rx_spec.proofs.Prelude.{arith, rules, common_steps}
 use Rattle.rx_base.proofs.Classes.{representatives_from-pass, representatives_from-skip}
 use Rattle.rx_base.proofs.byte_classes.RepresentativesIterator.next.Goals as goal
 

@@ -1,4 +1,4 @@
-use Rattle.std.proofs.Common.{◌≡◌, ◌-◌}
+use Rattle.rx_spec.proofs.Prelude.{◌≡◌, ◌-◌}
 use Rattle.rx_base.specs.ByteClasses.{representatives_from}
 use Rattle.rx_base.proofs.byte_classes.RepresentativesIterator.next.Given as goal
 

@@ -1,5 +1,4 @@
-use Rattle.std.proofs.lemmas.Grind.{common_steps}
-use Rattle.std.proofs.Common.{arith, bit_or}
+use Rattle.rx_spec.proofs.Prelude.{common_steps, arith, bit_or}
 use Rattle.rx_base.proofs.ByteSets.{or-fits, joined-or_low, joined-or_high}
 use Rattle.rx_base.proofs.byte_set.ByteSet.add.Goals as goal
 

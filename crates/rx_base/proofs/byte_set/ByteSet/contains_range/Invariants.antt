@@ -1,5 +1,4 @@
-use Rattle.std.proofs.Common.{◌≡◌, ℕ, ◌<◌, ◌≤◌, true}
-use Rattle.rx_spec.specs.Bytes.{contains}
+use Rattle.rx_spec.proofs.Prelude.{◌≡◌, ℕ, ◌<◌, ◌≤◌, true, contains}
 use Rattle.rx_base.proofs.byte_set.ByteSet.contains_range.Given as goal
 
 abbrev pub invariant-loop-byte : goal.invariant-loop-byte

@@ -1,5 +1,4 @@
-use Rattle.std.proofs.Common.{arith, rules}
-use Rattle.std.proofs.lemmas.Grind.{common_steps}
+use Rattle.rx_spec.proofs.Prelude.{arith, rules, common_steps}
 use Rattle.std.proofs.lemmas.Nat.{xor_lt}
 use Rattle.rx_base.proofs.ByteSets.{contains-ends, half-fits, next_low-fits}
 use Rattle.rx_base.proofs.byte_set.ByteSet.ends.Goals as goal

@@ -1,6 +1,4 @@
-use Rattle.std.proofs.Common.{arith, rules, bit_or}
-use Rattle.std.proofs.lemmas.Grind.{common_steps}
-use Rattle.std.proofs.lemmas.Nat.{or_lt}
+use Rattle.rx_spec.proofs.Prelude.{arith, rules, bit_or, common_steps, or_lt}
 use Rattle.rx_base.proofs.ByteSets.{joined-or}
 use Rattle.rx_base.proofs.byte_set.ByteSet.union.Goals as goal
 

@@ -1,5 +1,4 @@
-use Rattle.std.proofs.Common.{arith}
-use Rattle.std.proofs.lemmas.Grind.{common_steps}
+use Rattle.rx_spec.proofs.Prelude.{arith, common_steps}
 use Rattle.lemmas_walks.proofs.Facts.{facts_decide}
 use Rattle.rx_base.proofs.looks.LookMatcher.matches.Goals as goal
 

@@ -1,7 +1,4 @@
-use Rattle.std.proofs.lemmas.Grind.{common_steps}
-use Rattle.std.proofs.Common.{below_more, arith}
-use Rattle.std.proofs.lemmas.List.{get_or_default}
-use Rattle.std.proofs.lemmas.Bool.{false≢true}
+use Rattle.rx_spec.proofs.Prelude.{common_steps, below_more, arith, get_or_default, false≢true}
 use Rattle.rx_base.proofs.LookBits.{word_looks, has_word_look, no_word_look}
 use Rattle.rx_base.proofs.looks.LookSet.contains_word_unicode.Goals as goal
 

@@ -1,4 +1,4 @@
-use Rattle.std.proofs.Common.{ℕ, ap, ◌∙◌}
+use Rattle.rx_spec.proofs.Prelude.{ℕ, ap, ◌∙◌}
 use Rattle.rx_base.specs.LookSet.{holds_look}
 use Rattle.rx_base.proofs.LookBits.{insert-below, insert-same, insert-other}
 use Rattle.rx_base.proofs.looks.LookSet.insert.Goals as goal

@@ -1,4 +1,4 @@
-use Rattle.std.proofs.Common.{◌≡◌, take}
+use Rattle.rx_spec.proofs.Prelude.{◌≡◌, take}
 use Rattle.rx_base.specs.Needles.{padded}
 use Rattle.rx_base.proofs.needles.Needles.new.Given as goal
 

@@ -1,5 +1,4 @@
-use Rattle.std.proofs.Common.{arith, ◌≡◌, false, ap, subst, sym, ◌∙◌}
-use Rattle.std.proofs.lemmas.Grind.{common_steps}
+use Rattle.rx_spec.proofs.Prelude.{arith, ◌≡◌, false, ap, subst, sym, ◌∙◌, common_steps}
 use Rattle.rx_dense.specs.declared.special.Special.{Special}
 use Rattle.rx_dense.specs.Layouts.{Layout}
 use Rattle.rx_build.specs.Making.{IsMade, marked_as}

@@ -1,5 +1,4 @@
-use Rattle.std.proofs.Common.{arith, ◌≡◌, ◌||◌, Bool, true, false, if◌then◌else◌, refl, sym}
-use Rattle.std.proofs.lemmas.Grind.{common_steps}
+use Rattle.rx_spec.proofs.Prelude.{arith, ◌≡◌, ◌||◌, Bool, true, false, if◌then◌else◌, refl, sym, common_steps}
 use Rattle.rx_base.proofs.ByteSets.{contains-add}
 use Rattle.rx_build.proofs.dense.config.with_byte.Goals as goal
 

@@ -1,4 +1,4 @@
-use Rattle.std.proofs.Common.{ap, length, arith}
+use Rattle.rx_spec.proofs.Prelude.{ap, length, arith}
 use Rattle.rx_dense.proofs.AccelLists.{accel_lists_len}
 use Rattle.rx_dense.proofs.accel.Accels.len.Goals as goal
 

@@ -1,5 +1,4 @@
-use Rattle.std.proofs.lemmas.Grind.{common_steps}
-use Rattle.std.proofs.Common.{[], arith}
+use Rattle.rx_spec.proofs.Prelude.{common_steps, [], arith}
 use Rattle.rx_dense.proofs.AccelLists.{accel_lists_len, accel_lists_at}
 use Rattle.rx_dense.proofs.accel.Accels.needles.Goals as goal
 

@@ -1,5 +1,4 @@
-use Rattle.std.proofs.lemmas.Grind.{common_steps}
-use Rattle.std.proofs.Common.{arith}
+use Rattle.rx_spec.proofs.Prelude.{common_steps, arith}
 use Rattle.rx_dense.proofs.Rows.{class_column}
 use Rattle.rx_dense.proofs.dfa.DFA.column.Goals as goal
 

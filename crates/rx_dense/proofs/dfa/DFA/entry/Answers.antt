@@ -1,4 +1,4 @@
-use Rattle.std.proofs.Common.{◌≡◌, ◌+◌, ◌∙◌, slice_index}
+use Rattle.rx_spec.proofs.Prelude.{arith, ◌≡◌, ◌+◌, ◌∙◌, slice_index, common_steps}
 use Rattle.rx_dense.proofs.Rows.{entry_within, entry_few, entry_id, entry_row, from_column_has, from_column_is}
 use Rattle.rx_dense.proofs.dfa.DFA.entry.Goals as goal
 
@@ -13,8 +13,7 @@ must-requires g c =
     let l = c.args.self.now in
     let rows = c.words.ensures.rows in
     let within = entry_within l rows c.args.id c.args.column c.requires.is_id c.requires.within in
-    rw (c.words.ensures.value, c.as_usize.ensures.value, from_column_is l.words c.args.column c.args.id within)
-    (entry_few l rows c.args.id c.args.column c.requires.is_id c.requires.within)
+    grind (arith, common_steps, from_column_is, entry_few)
 
 pub returns : goal.returns
 returns g c =
@@ -24,8 +23,4 @@ returns g c =
     let value : c.must.result ≡ slice_index l.words (c.args.id + c.args.column) =
     (rw (c.words.ensures.value, c.as_usize.ensures.value) at c.must.ensures)
     ∙ from_column_is l.words c.args.column c.args.id within in
-    record {
-      value = value;
-      is_id = rw value (entry_id l rows c.args.id c.args.column c.requires.is_id c.requires.within);
-      row = rw value (entry_row l rows c.args.id c.args.column c.requires.is_id c.requires.within);
-    }
+    grind (arith, common_steps, entry_id, entry_row)

@@ -1,6 +1,4 @@
-use Rattle.std.proofs.Common.{arith, ◌∙◌, ℕ, ◌^◌, ◌%◌, sym, subst, ap}
-use Rattle.std.proofs.lemmas.Grind.{common_steps}
-use Rattle.std.proofs.lemmas.Bool.{leb-true}
+use Rattle.rx_spec.proofs.Prelude.{arith, sym, subst, common_steps, leb-true}
 use Rattle.rx_dense.specs.Layouts.{IsShaped}
 use Rattle.rx_dense.proofs.Marks.{HasMarks, found, mark_first, mark_final}
 use Rattle.rx_dense.proofs.RowKinds.{match_first}
@@ -26,8 +24,7 @@ returns-in-Some-clause-first g c =
     let shaped = subst IsShaped c.self.view_is c.self.invariant in
     let f = found l marks c.args.id (rw c.special.ensures at c.place_in_range-place.ensures) c.words.ensures
     (sym c.in-Some.ensures.lookup.0) c.in-Some.ensures.lookup.1 in
-    c.must.ensures ∙ ap (λ (x : ℕ). x % 2 ^ 31) f.mark_is
-    ∙ mark_first l c.args.id c.requires.is_id c.requires.sound c.requires.is_match are f.has shaped.lists
+    grind (arith, common_steps, mark_first)
 
 pub returns-in-Some-clause-ends : goal.returns-in-Some-clause-ends
 returns-in-Some-clause-ends g c final = grind (arith, common_steps, found, mark_final, leb-true)

@@ -1,6 +1,4 @@
-use Rattle.std.proofs.lemmas.Grind.{common_steps}
-use Rattle.std.proofs.Common.{ℕ, ◌<◌, ◌≤◌, List, length, slice_index, subst, sym, arith}
-use Rattle.rx_spec.specs.Causes.{max_id}
+use Rattle.rx_spec.proofs.Prelude.{common_steps, ℕ, ◌<◌, ◌≤◌, List, length, slice_index, subst, sym, arith, max_id}
 use Rattle.rx_dense.specs.Layouts.{place_in_range}
 use Rattle.rx_dense.proofs.RowKinds.{match_first, match_place, match_patterns, pattern_ids}
 use Rattle.rx_dense.proofs.Rows.{part_is}

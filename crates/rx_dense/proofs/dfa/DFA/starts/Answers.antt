@@ -1,5 +1,4 @@
-use Rattle.std.proofs.Common.{arith}
-use Rattle.std.proofs.lemmas.Grind.{common_steps}
+use Rattle.rx_spec.proofs.Prelude.{arith, common_steps}
 use Rattle.rx_dense.proofs.States.{starts_of-len}
 use Rattle.rx_dense.proofs.dfa.DFA.starts.Goals as goal
 

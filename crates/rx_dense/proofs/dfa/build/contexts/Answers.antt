@@ -1,9 +1,6 @@
-use Rattle.std.proofs.Common.{◌≡◌, ◌∙◌, ap, sym, subst, get_or, arith}
-use Rattle.std.specs.Prelude.{slice_set}
+use Rattle.rx_spec.proofs.Prelude.{◌≡◌, ◌∙◌, ap, sym, subst, get_or, arith, slice_set, fill_by_all, start_of_byte}
 use Rattle.std.proofs.lemmas.List.{length-set}
 use Rattle.std.proofs.lemmas.List.Edits.{fill_by_more}
-use Rattle.std.proofs.lemmas.List.FromFn.{fill_by_all}
-use Rattle.rx_spec.specs.Contexts.{start_of_byte}
 use Rattle.rx_spec.specs.declared.Start.{Start}
 use Rattle.rx_dense.proofs.dfa.build.contexts.Goals as goal
 
@@ -18,11 +15,11 @@ loop-byte-preserved c =
       λ k h.
           subst (λ (v : Start). get_or (slice_set c.loop-byte.contexts c.loop-byte.byte v) k Start.NonWordByte ≡ f k)
           (sym value)
-          (fill_by_more f c.loop-byte.contexts c.loop-byte.byte Start.NonWordByte (omega (arith, inv.0)) inv.2 k h),
+          (fill_by_more f c.loop-byte.contexts c.loop-byte.byte Start.NonWordByte (omega arith) inv.2 k h),
     )
 
 pub returns : goal.returns
 returns c =
     let inv = c.loop-byte.invariant in
     fill_by_all (start_of_byte c.args.lookm.now) c.loop-byte.contexts 256 Start.NonWordByte inv.0
-    (λ k h. inv.2 k (omega (arith, c.loop-byte-test.false)))
+    (λ k h. inv.2 k (omega arith))

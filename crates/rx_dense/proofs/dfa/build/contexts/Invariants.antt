@@ -1,5 +1,4 @@
-use Rattle.std.proofs.Common.{◌≡◌, ◌<◌, ℕ, length, get_or}
-use Rattle.rx_spec.specs.Contexts.{start_of_byte}
+use Rattle.rx_spec.proofs.Prelude.{◌≡◌, ◌<◌, ℕ, length, get_or, start_of_byte}
 use Rattle.rx_spec.specs.declared.Start.{Start}
 use Rattle.rx_dense.proofs.dfa.build.contexts.Given as goal
 

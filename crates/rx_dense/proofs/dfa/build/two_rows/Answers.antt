@@ -1,5 +1,4 @@
-use Rattle.std.proofs.lemmas.Grind.{common_steps}
-use Rattle.std.proofs.Common.{◌≤◌, arith}
+use Rattle.rx_spec.proofs.Prelude.{common_steps, ◌≤◌, arith}
 use Rattle.rx_base.specs.ByteClasses.{alphabet_len}
 use Rattle.lemmas_tables.proofs.ClassNumbers.{stride_holds, stride_within}
 use Rattle.rx_dense.proofs.Rows.{alphabet_few, stride_few, stride_shifted}
@@ -12,14 +11,14 @@ pub prove-unreachable-requires : goal.prove-unreachable-requires
 prove-unreachable-requires c =
     let alphabet = c.alphabet_len-alphabet_len.ensures in
     let within = stride_within (alphabet_len c.args.classes.now) (omega arith) in
-    let exponent : c.stride2-stride.result ≤ 9 = omega (arith, c.stride2-stride.ensures, within.1) in
+    let exponent : c.stride2-stride.result ≤ 9 = omega arith in
     let few = alphabet_few c.args.classes.now alphabet.classes in
     let holds =
-    rw (← c.stride2-stride.ensures) at (stride_holds (alphabet_len c.args.classes.now) (omega (arith, few))) in
-    omega (arith, c.if-prove.true, stride_shifted c.stride2-stride.result exponent, alphabet.value, holds)
+    rw (← c.stride2-stride.ensures) at (stride_holds (alphabet_len c.args.classes.now) (omega arith)) in
+    omega (arith, stride_shifted c.stride2-stride.result exponent)
 
 pub overflow_mul-result : goal.overflow_mul-result
-overflow_mul-result c = grind (arith, common_steps, stride_within, stride_shifted, stride_few)
+overflow_mul-result c = grind (arith, common_steps, stride_within, stride_few)
 
 pub returns-clause-value : goal.returns-clause-value
 returns-clause-value c = grind (arith, common_steps, stride_within, stride_shifted)

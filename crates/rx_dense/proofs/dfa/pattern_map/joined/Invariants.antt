@@ -1,6 +1,4 @@
-use Rattle.std.proofs.Common.{◌≡◌, ◌++◌, map, take}
-use Rattle.std.specs.List.{concat}
-use Rattle.std.specs.Vec.{vec_items}
+use Rattle.rx_spec.proofs.Prelude.{◌≡◌, ◌++◌, map, take, concat, vec_items}
 use Rattle.rx_dense.specs.Builder.{pattern_lists}
 use Rattle.rx_dense.proofs.dfa.pattern_map.joined.Given as goal
 

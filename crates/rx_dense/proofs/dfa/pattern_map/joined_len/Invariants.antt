@@ -1,7 +1,4 @@
-use Rattle.std.proofs.Common.{◌≡◌, ◌+◌, ◌≤◌, length, map}
-use Rattle.std.specs.List.{concat}
-use Rattle.std.specs.Vec.{vec_items}
-use Rattle.rx_spec.specs.Causes.{max_id}
+use Rattle.rx_spec.proofs.Prelude.{◌≡◌, ◌+◌, ◌≤◌, length, map, concat, vec_items, max_id}
 use Rattle.rx_dense.specs.Builder.{pattern_lists}
 use Rattle.rx_dense.proofs.dfa.pattern_map.joined_len.Given as goal
 

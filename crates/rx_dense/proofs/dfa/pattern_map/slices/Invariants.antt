@@ -1,6 +1,4 @@
-use Rattle.std.proofs.Common.{◌≡◌, ◌+◌, ◌++◌, length, map}
-use Rattle.std.specs.List.{concat}
-use Rattle.std.specs.Vec.{vec_items}
+use Rattle.rx_spec.proofs.Prelude.{◌≡◌, ◌+◌, ◌++◌, length, map, concat, vec_items}
 use Rattle.rx_dense.specs.Builder.{pattern_lists, slices_from}
 use Rattle.rx_dense.proofs.dfa.pattern_map.slices.Given as goal
 

@@ -1,7 +1,7 @@
-use Rattle.std.proofs.Common.{◌≡◌, ℕ, ◌/◌, ◌^◌, ◌<◌, ◌∙◌, length, slice_index, arith, ap}
-use Rattle.std.proofs.lemmas.List.{get_or_default, places}
+use Rattle.rx_spec.proofs.Prelude.{◌≡◌, ℕ, ◌/◌, ◌^◌, ◌<◌, ◌∙◌, length, slice_index, arith, ap, get_or_default}
+use Rattle.rx_spec.proofs.Prelude.{All-get_or}
+use Rattle.std.proofs.lemmas.List.{places}
 use Rattle.std.proofs.lemmas.List.Edits.{map_over_more}
-use Rattle.std.proofs.lemmas.List.Elements.{All-get_or}
 use Rattle.rx_dense.proofs.dfa.rows.rename.Goals as goal
 
 pub loop-id-preserved : goal.loop-id-preserved

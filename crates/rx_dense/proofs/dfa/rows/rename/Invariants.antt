@@ -1,4 +1,4 @@
-use Rattle.std.proofs.Common.{◌≡◌, ◌/◌, ◌^◌, ◌++◌, map, take, drop, slice_index}
+use Rattle.rx_spec.proofs.Prelude.{◌≡◌, ◌/◌, ◌^◌, ◌++◌, map, take, drop, slice_index}
 use Rattle.rx_dense.proofs.dfa.rows.rename.Given as goal
 
 abbrev pub invariant-loop-id : goal.invariant-loop-id

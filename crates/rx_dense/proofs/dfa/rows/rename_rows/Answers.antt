@@ -1,4 +1,4 @@
-use Rattle.std.proofs.Common.{◌≡◌, ◌+◌, ◌-◌, ◌*◌, ◌/◌, ◌^◌, ◌<◌, length, arith}
+use Rattle.rx_spec.proofs.Prelude.{◌≡◌, ◌+◌, ◌-◌, ◌*◌, ◌/◌, ◌^◌, ◌<◌, length, arith}
 use Rattle.rx_dense.proofs.Renaming.{row_ids, row_more}
 use Rattle.rx_dense.proofs.Rows.{stride_shifted}
 use Rattle.rx_dense.proofs.dfa.rows.rename_rows.Goals as goal

@@ -1,4 +1,4 @@
-use Rattle.std.proofs.Common.{◌/◌, ◌^◌, slice_index}
+use Rattle.rx_spec.proofs.Prelude.{◌/◌, ◌^◌, slice_index}
 use Rattle.rx_dense.proofs.Renaming.{RenamedBelow}
 use Rattle.rx_dense.proofs.dfa.rows.rename_rows.Given as goal
 

@@ -1,4 +1,4 @@
-use Rattle.std.proofs.Common.{rules, tests, ◌+◌, ◌==◌, ap, get_or}
+use Rattle.rx_spec.proofs.Prelude.{rules, ◌+◌, ◌==◌, ap, get_or}
 use Rattle.std.proofs.lemmas.Iterator.{YieldsList-from_slice}
 use Rattle.std.proofs.lemmas.Iterator.Consumers.{YieldsList-at, count_from_yields_List}
 use Rattle.std.proofs.lemmas.Iterator.Search.{YieldsList-from_take_while}
@@ -12,4 +12,4 @@ returns-clause-value c =
     (YieldsList-from_take_while _ (λ id. id == next)
     (YieldsList-at c.take_while.ensures.source (YieldsList-from_slice _ c.iter.ensures.rest))
     c.take_while.ensures.closure c.take_while.ensures.done
-    (λ x b q k. search (rules, tests))))
+    (λ x b q k. search rules)))

@@ -1,6 +1,5 @@
-use Rattle.std.proofs.Common.{rules, ◌≡◌, ℕ, ◌+◌, ◌-◌, ◌%◌, ◌^◌, ◌<◌, ◌&&◌, Bool, bit_and, length, min, slice_index}
-use Rattle.std.proofs.Common.{sym, ap, subst, ◌∙◌, arith}
-use Rattle.std.proofs.lemmas.Grind.{common_steps}
+use Rattle.rx_spec.proofs.Prelude.{rules, ◌≡◌, ℕ, ◌+◌, ◌-◌, ◌%◌, ◌^◌, ◌<◌, ◌&&◌, Bool, bit_and, length, min}
+use Rattle.rx_spec.proofs.Prelude.{slice_index, sym, ap, subst, ◌∙◌, arith, common_steps}
 use Rattle.rx_dense_image.specs.Rows.{word_at}
 use Rattle.rx_dense_image.specs.Bulk.{each_below, kept_word, may_stand, word_stands}
 use Rattle.rx_dense_image.proofs.WordBytes.{below_more, next_begins, pushed, wraps}

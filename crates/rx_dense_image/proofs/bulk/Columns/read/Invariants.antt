@@ -1,5 +1,4 @@
-use Rattle.std.proofs.Common.{◌≡◌, ℕ, ◌+◌, ◌-◌, ◌%◌, ◌^◌, ◌<◌, ◌≤◌, length, slice_index}
-use Rattle.std.specs.Vec.{vec_capacity}
+use Rattle.rx_spec.proofs.Prelude.{◌≡◌, ℕ, ◌+◌, ◌-◌, ◌%◌, ◌^◌, ◌<◌, ◌≤◌, length, slice_index, vec_capacity}
 use Rattle.rx_dense_image.specs.Bulk.{each_below, is_clean, kept_word, word_stands}
 use Rattle.rx_dense_image.proofs.bulk.Columns.read.Given as goal
 

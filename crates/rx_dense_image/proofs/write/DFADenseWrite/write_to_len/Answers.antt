@@ -1,4 +1,4 @@
-use Rattle.std.proofs.Common.{sym}
+use Rattle.rx_spec.proofs.Prelude.{sym}
 use Rattle.rx_dense_image.proofs.write.DFADenseWrite.write_to_len.Goals as goal
 
 pub returns : goal.returns

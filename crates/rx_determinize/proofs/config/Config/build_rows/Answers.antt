@@ -1,8 +1,5 @@
-use Rattle.std.proofs.lemmas.Grind.{common_steps}
-use Rattle.std.proofs.Common.{◌≡◌, ◌≤◌, Bool, true, All, ap, ◌∙◌, subst, sym, arith}
-use Rattle.std.proofs.lemmas.List.Elements.{All-weaker}
-use Rattle.std.proofs.lemmas.Result.{err_from_is_err_and}
-use Rattle.rx_spec.specs.Causes.{max_id}
+use Rattle.rx_spec.proofs.Prelude.{common_steps, ◌≡◌, ◌≤◌, Bool, true, All, ap, ◌∙◌, subst, sym, arith, All-weaker}
+use Rattle.rx_spec.proofs.Prelude.{err_from_is_err_and, max_id}
 use Rattle.rx_expr.specs.Nfa.{meaning}
 use Rattle.rx_stepper.specs.Keys.{label_of}
 use Rattle.rx_stepper.specs.Stepping.{HasOneKeyEach, SpellStates, Stepping}
@@ -109,4 +106,4 @@ pub returns-in_err-construction-clause-err : goal.returns-in_err-construction-cl
 returns-in_err-construction-clause-err c = grind (arith, common_steps, err_from_is_err_and)
 
 pub returns-in_err-matches-clause-err : goal.returns-in_err-matches-clause-err
-returns-in_err-matches-clause-err c = grind (arith, common_steps, err_from_is_err_and)
+returns-in_err-matches-clause-err c = grind (arith, common_steps)

@@ -1,6 +1,4 @@
-use Rattle.std.proofs.Common.{refl, ap, sym, subst}
-use Rattle.std.specs.Prelude.{MatchBool}
-use Rattle.rx_spec.specs.Causes.{IsSupported, IsUnsupported}
+use Rattle.rx_spec.proofs.Prelude.{refl, ap, sym, subst, MatchBool, IsSupported, IsUnsupported}
 use Rattle.rx_expr.specs.Nfa.{meaning}
 use Rattle.rx_determinize.specs.Determinized.{Settings, build_in}
 use Rattle.rx_determinize.proofs.DeterminizedLaws.{IsInPlace, determinized}

@@ -1,4 +1,4 @@
-use Rattle.std.proofs.Common.{◌≡◌, ◌*◌, ℕ, Some, ap, sym, ◌∙◌, subst, arith}
+use Rattle.rx_spec.proofs.Prelude.{◌≡◌, ◌*◌, ℕ, Some, ap, sym, ◌∙◌, subst, arith}
 use Rattle.rx_dense.specs.Builder.{IsCopied}
 use Rattle.rx_dense.specs.Layouts.{stride}
 use Rattle.rx_stepper.specs.Steppers.{stepping_of}
@@ -15,7 +15,7 @@ pub row_id-from-requires : goal.row_id-from-requires
 row_id-from-requires c =
     let before = model_before c.args.models.now c.args.place (stepping_of c.args.self.now.stepper).led_in
     c.requires.models (is_model (goal.at.row_id-from-requires c).In-Some) in
-    omega (arith, before, place_row c.requires.stepping)
+    omega arith
 
 pub row_id-to-requires : goal.row_id-to-requires
 row_id-to-requires c = place_row c.requires.stepping

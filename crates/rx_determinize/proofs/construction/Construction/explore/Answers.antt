@@ -1,5 +1,4 @@
-use Rattle.std.proofs.Common.{◌≡◌, length, subst, arith}
-use Rattle.std.proofs.lemmas.Result.{err_from_is_err_and}
+use Rattle.rx_spec.proofs.Prelude.{◌≡◌, length, subst, arith, err_from_is_err_and}
 use Rattle.rx_determinize.specs.Constructions.{keys_in, work_of}
 use Rattle.rx_determinize.specs.Filling.{IsEntering}
 use Rattle.rx_determinize.proofs.AddingLaws.{few_keys}
@@ -32,10 +31,10 @@ places-preserved c =
 pub places-smaller : goal.places-smaller
 places-smaller c =
     let entering = c.places.invariant.exploring.entering in
-    omega (arith, few_keys entering.serves.working entering.serves.rows, entering.written.within)
+    omega (arith, few_keys entering.serves.working entering.serves.rows)
 
 pub returns-clause-entering : goal.returns-clause-entering
 returns-clause-entering c =
     let entering = c.places.invariant.exploring.entering in
-    let all : c.places.place ≡ length c.places.self.states.keys = omega (arith, entering.written.within) in
+    let all : c.places.place ≡ length c.places.self.states.keys = omega arith in
     subst (IsEntering (work_of c.places.self) c.places.dfa (length c.places.dfa.starts)) all entering

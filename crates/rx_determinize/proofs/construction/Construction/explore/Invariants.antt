@@ -1,4 +1,4 @@
-use Rattle.std.proofs.Common.{◌-◌, ◌^◌}
+use Rattle.rx_spec.proofs.Prelude.{◌-◌, ◌^◌}
 use Rattle.rx_determinize.specs.Constructions.{Continues, work_of}
 use Rattle.rx_determinize.specs.Models.{IsExploring}
 use Rattle.rx_determinize.proofs.construction.Construction.explore.Given as goal

@@ -1,11 +1,8 @@
-use Rattle.std.proofs.lemmas.Grind.{common_steps}
-use Rattle.std.proofs.Common.{◌≡◌, ℕ, false, ap, ◌∙◌, arith, inl}
-use Rattle.std.proofs.lemmas.Result.{err_from_is_err_and}
-use Rattle.rx_spec.specs.Bytes.{contains}
+use Rattle.rx_spec.proofs.Prelude.{common_steps, ◌≡◌, ℕ, false, ap, ◌∙◌, arith, inl, err_from_is_err_and, contains}
 use Rattle.rx_base.specs.ByteClasses.{alphabet_len}
 use Rattle.rx_stepper.specs.Stepping.{unit_of}
 use Rattle.rx_determinize.specs.Constructions.{work_of}
-use Rattle.rx_stepper.proofs.ListedColumns.{in_none}
+use Rattle.lemmas_walks.proofs.QuitSets.{contains-empty}
 use Rattle.rx_determinize.proofs.ColumnLaws.{units_count}
 use Rattle.rx_determinize.proofs.ContinuesLaws.{continues_none, continues_twice, refused_later, same_classes, same_quit}
 use Rattle.rx_determinize.proofs.FillingLaws.{filled}
@@ -15,7 +12,7 @@ use Rattle.rx_determinize.proofs.construction.Construction.fill.Goals as goal
 
 -- no byte quits where columns are skipped
 no_quit : (quit unit : ℕ) → quit ≡ 0 → contains quit unit ≡ false
-no_quit quit unit none = ap (λ q. contains q unit) none ∙ in_none unit
+no_quit quit unit none = ap (λ q. contains q unit) none ∙ contains-empty unit
 
 pub columns-init : goal.columns-init
 columns-init c =
@@ -27,7 +24,7 @@ columns-init c =
           let ready = next.ensures.ready column from below in
           let can = c.can_skip-skips.ensures ready.0 in
           (can.0, no_quit l.quit (unit_of l.classes column) can.1, ready.1));
-      within = omega (arith, next.ensures.within, ap alphabet_len stepping.entering.serves.classes);
+      within = omega (arith, ap alphabet_len stepping.entering.serves.classes);
       later = continues_none (work_of c.args.self.now) l;
     }
 
@@ -44,7 +41,7 @@ returns-in_err-last-clause-err c =
     rw (p.1, p.2) (refused_later c.columns.invariant.later c.in_err-last.field-0.0.kind c.in_err-last.ensures.err)
 
 pub next_unready-column-requires-in-columns : goal.next_unready-column-requires-in-columns
-next_unready-column-requires-in-columns c = grind (arith, common_steps, all_units, same_classes)
+next_unready-column-requires-in-columns c = grind (arith, common_steps, all_units)
 
 pub columns-preserved : goal.columns-preserved
 columns-preserved c =
@@ -58,12 +55,7 @@ columns-preserved c =
           let can = c.can_skip-skips.ensures ready.0 in
           (can.0, no_quit m.quit (unit_of m.classes column) (same_quit later ∙ can.1), ready.1));
       within =
-          omega (
-            arith,
-            next.ensures.within,
-            ap alphabet_len e.stepping.entering.serves.classes,
-            ap alphabet_len (same_classes later),
-          );
+          omega (arith, ap alphabet_len e.stepping.entering.serves.classes, ap alphabet_len (same_classes later));
       later = later;
     }
 
@@ -74,7 +66,7 @@ pub returns-clause-entering : goal.returns-clause-entering
 returns-clause-entering c =
     let i = c.columns.invariant in
     let all = all_units (goal.at.returns-clause-entering c).After-len in
-    filled i.stepping.entering (λ column low. inl (omega (arith, low, all, c.columns-test.false))) i.stepping.filling
+    filled i.stepping.entering (λ column low. inl (omega arith)) i.stepping.filling
 
 pub returns-clause-current : goal.returns-clause-current
 returns-clause-current c = grind (arith, common_steps)

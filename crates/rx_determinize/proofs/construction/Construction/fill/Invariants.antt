@@ -1,4 +1,4 @@
-use Rattle.std.proofs.Common.{◌≤◌, ◌-◌, length}
+use Rattle.rx_spec.proofs.Prelude.{◌≤◌, ◌-◌, length}
 use Rattle.rx_base.specs.ByteClasses.{alphabet_len}
 use Rattle.rx_determinize.specs.Constructions.{Continues, work_of}
 use Rattle.rx_determinize.specs.Filling.{IsStepping}

@@ -1,14 +1,12 @@
-use Rattle.std.proofs.Common.{arith, ◌≡◌, ℕ, true, Option, refl, ap, subst}
-use Rattle.std.proofs.lemmas.Grind.{common_steps}
-use Rattle.std.specs.Prelude.{IfSome, MatchBool}
-use Rattle.rx_spec.specs.Builds.{is_dead_state}
+use Rattle.rx_spec.proofs.Prelude.{arith, ◌≡◌, ℕ, true, Option, refl, ap, subst, common_steps, IfSome, MatchBool}
+use Rattle.rx_spec.proofs.Prelude.{is_dead_state}
 use Rattle.rx_stepper.specs.Stepping.{IsKeyOf, Stepping, stepped}
 use Rattle.rx_stepper.specs.Steppers.{stepping_of}
 use Rattle.rx_determinize.specs.Adding.{CanAdd}
 use Rattle.rx_determinize.specs.Constructions.{keys_in, work_of}
 use Rattle.rx_determinize.specs.Filling.{IsStepped}
 use Rattle.rx_determinize.specs.Working.{states_of}
-use Rattle.rx_determinize.proofs.NextLaws.{dead_id, dead_is_row, found_added, found_before, key_may, may_by, over_by}
+use Rattle.rx_determinize.proofs.NextLaws.{dead_id, dead_is_row, found_added, found_before, key_may, may_by}
 use Rattle.rx_determinize.proofs.NextLaws.{stepped_alike, stepped_reached, working_by}
 use Rattle.rx_determinize.proofs.SteppingLaws.{current_reached}
 use Rattle.rx_determinize.proofs.construction.Construction.find_row.Goals.{After-deref}
@@ -51,7 +49,7 @@ returns-then-branch-clause-found c =
     c.add.new.dfa c.add.ensures.working)
 
 pub returns-then-branch-clause-err : goal.returns-then-branch-clause-err
-returns-then-branch-clause-err c = grind (arith, common_steps, over_by)
+returns-then-branch-clause-err c = grind (arith, common_steps)
 
 pub returns-else-branch-clause-found : goal.returns-else-branch-clause-found
 returns-else-branch-clause-found c =

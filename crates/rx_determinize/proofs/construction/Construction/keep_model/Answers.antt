@@ -1,14 +1,12 @@
-use Rattle.std.proofs.lemmas.Grind.{common_steps}
-use Rattle.std.proofs.Common.{◌+◌, ℕ, List, Option, sym, subst, arith}
+use Rattle.rx_spec.proofs.Prelude.{common_steps, ◌+◌, ℕ, List, Option, sym, subst, arith}
 use Rattle.rx_determinize.specs.Constructions.{keys_in, work_of}
 use Rattle.rx_determinize.specs.Models.{AreModels, IsAllAlone, kept_in}
-use Rattle.rx_determinize.proofs.AddingLaws.{few_keys}
 use Rattle.rx_determinize.proofs.ColumnLaws.{units_count}
 use Rattle.rx_determinize.proofs.ModelLaws.{model_added, model_of_alone}
 use Rattle.rx_determinize.proofs.construction.Construction.keep_model.Goals as goal
 
 pub overflow_add-place : goal.overflow_add-place
-overflow_add-place c = grind (arith, common_steps, few_keys)
+overflow_add-place c = grind (arith, common_steps)
 
 pub returns : goal.returns
 returns c =
@@ -18,7 +16,7 @@ returns c =
     let serves = r.exploring.entering.serves in
     let count = units_count l w.units serves.rows.classes serves.units in
     let alone : IsAllAlone w.stepping l = λ column low. c.next_own.ensures.alone column (omega arith)
-    (omega (arith, low, count, c.len.ensures, c.if-next_own-len.false)) in
+    (omega arith) in
     let Are = λ (models : List (Option ℕ)). AreModels (keys_in w l) w.met l models (c.args.place + 1) in
     record {
       entering = r.exploring.entering;

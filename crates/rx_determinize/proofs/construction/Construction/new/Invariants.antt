@@ -1,6 +1,4 @@
-use Rattle.std.proofs.Common.{◌≡◌, [], ◌∷◌, ◌++◌, map}
-use Rattle.rx_spec.specs.Bytes.{eoi}
-use Rattle.rx_spec.specs.Classes.{representatives}
+use Rattle.rx_spec.proofs.Prelude.{◌≡◌, [], ◌∷◌, ◌++◌, map, eoi, representatives}
 use Rattle.rx_base.specs.ByteClasses.{ends_of}
 use Rattle.rx_base.specs.Unit.{unit_number}
 use Rattle.rx_determinize.proofs.construction.Construction.new.Given as goal

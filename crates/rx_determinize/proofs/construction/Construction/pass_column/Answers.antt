@@ -1,13 +1,12 @@
-use Rattle.std.proofs.lemmas.Grind.{common_steps}
-use Rattle.std.proofs.Common.{◌≡◌, ◌+◌, ◌<◌, ℕ, true, false, length, ap, ap₂, sym, ◌∙◌, subst, arith}
-use Rattle.rx_spec.specs.Bytes.{contains}
+use Rattle.rx_spec.proofs.Prelude.{common_steps, ◌≡◌, ◌+◌, ◌<◌, ℕ, true, false, length, ap, ap₂, sym, ◌∙◌, subst, arith}
+use Rattle.rx_spec.proofs.Prelude.{contains}
 use Rattle.rx_base.specs.Unit.{unit_number}
 use Rattle.rx_dense.specs.Builder.{with_next}
 use Rattle.rx_stepper.specs.Stepping.{IsAlone, unit_of}
 use Rattle.rx_stepper.specs.Steppers.{stepping_of}
 use Rattle.rx_determinize.specs.Constructions.{work_of}
 use Rattle.rx_determinize.proofs.ColumnLaws.{unit_is, units_count}
-use Rattle.rx_determinize.proofs.ContinuesLaws.{continues_none, continues_over, started_over, written_over}
+use Rattle.rx_determinize.proofs.ContinuesLaws.{continues_none}
 use Rattle.rx_determinize.proofs.SteppingLaws.{passed_to, place_row, quit_led, written}
 use Rattle.rx_determinize.proofs.construction.Construction.pass_column.Goals.{After-index-unit, Start}
 use Rattle.rx_determinize.proofs.construction.Construction.pass_column.Goals as goal
@@ -17,7 +16,7 @@ low : (c : Start) → c.args.at.column < length c.args.self.now.units.items
 low c =
     let serves = c.requires.stepping.entering.serves in
     let count = units_count c.args.dfa.now c.args.self.now.units.items serves.rows.classes serves.units in
-    omega (arith, count, c.requires.column)
+    omega arith
 
 unit_at : (c : After-index-unit)
     → unit_number c.index-unit.result.now ≡ unit_of c.args.dfa.now.classes c.args.at.column
@@ -45,7 +44,7 @@ returns-then-is_quit-clause-stepping c =
     r.stepping.stepped_last
 
 pub returns-then-is_quit-clause-later : goal.returns-then-is_quit-clause-later
-returns-then-is_quit-clause-later c = grind (arith, common_steps, continues_over, started_over, written_over)
+returns-then-is_quit-clause-later c = grind (arith, common_steps)
 
 pub returns-then-not-has_own-clause-stepping : goal.returns-then-not-has_own-clause-stepping
 returns-then-not-has_own-clause-stepping c =

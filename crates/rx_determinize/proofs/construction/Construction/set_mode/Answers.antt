@@ -1,6 +1,4 @@
-use Rattle.std.proofs.lemmas.Grind.{common_steps}
-use Rattle.std.proofs.Common.{◌≡◌, ◌+◌, ap, sym, subst, arith}
-use Rattle.std.proofs.lemmas.Result.{err_from_is_err_and}
+use Rattle.rx_spec.proofs.Prelude.{common_steps, ◌≡◌, ◌+◌, ap, sym, subst, arith, err_from_is_err_and}
 use Rattle.rx_base.specs.Search.{mode_of}
 use Rattle.rx_dense.specs.Layouts.{mode_place}
 use Rattle.rx_dense.proofs.Rows.{IsId-row_id}
@@ -44,11 +42,11 @@ contexts-preserved c =
     let number = context_at c.contexts.i _ (omega arith) in
     let entering = start_set sets
     (subst (λ n. IsEntering (work_of c.contexts.self) c.contexts.dfa n 0) (ap (λ n. place + n) (sym number))
-    i.entering) (omega (arith, number, i.later.over.count, c.requires.entries)) in
+    i.entering) (omega arith) in
     record {
       entering =
           subst (λ n. IsEntering (work_of c.start_row.new.self) c.set_start_state.new.self n 0)
-          (omega (arith, number)) entering;
+          (omega arith) entering;
       later = continues_twice i.later (start_continues sets);
     }
 
@@ -56,5 +54,4 @@ pub returns-clause-entering : goal.returns-clause-entering
 returns-clause-entering c =
     let i = c.contexts.invariant in
     let all : c.contexts.i ≡ 6 = omega arith in
-    subst (λ n. IsEntering (work_of c.contexts.self) c.contexts.dfa (mode_place (mode_of c.args.mode.now) + n) 0) all
-    i.entering
+    grind (arith, common_steps)

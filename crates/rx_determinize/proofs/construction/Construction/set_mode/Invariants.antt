@@ -1,4 +1,4 @@
-use Rattle.std.proofs.Common.{◌+◌}
+use Rattle.rx_spec.proofs.Prelude.{◌+◌}
 use Rattle.rx_base.specs.Search.{mode_of}
 use Rattle.rx_dense.specs.Layouts.{mode_place}
 use Rattle.rx_determinize.specs.Constructions.{Continues, work_of}

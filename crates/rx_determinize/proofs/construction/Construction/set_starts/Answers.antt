@@ -1,10 +1,6 @@
-use Rattle.std.proofs.lemmas.Grind.{common_steps}
-use Rattle.std.proofs.Common.{◌≡◌, ◌+◌, ◌*◌, ℕ, Bool, true, false, length, ap, ap₂, sym, ◌∙◌, subst, arith}
-use Rattle.std.proofs.lemmas.Result.{err_from_is_err_and}
-use Rattle.std.specs.Bool.{then_some}
-use Rattle.std.specs.Prelude.{is_some, slice_get}
-use Rattle.rx_spec.specs.Nfas.{Nfa}
-use Rattle.rx_spec.specs.Starts.{has_anchored, has_unanchored}
+use Rattle.rx_spec.proofs.Prelude.{common_steps, ◌≡◌, ◌+◌, ◌*◌, ℕ, Bool, true, false, length, ap, ap₂, sym, ◌∙◌, subst}
+use Rattle.rx_spec.proofs.Prelude.{arith, err_from_is_err_and, then_some, is_some, slice_get, Nfa, has_anchored}
+use Rattle.rx_spec.proofs.Prelude.{has_unanchored}
 use Rattle.rx_dense.specs.Layouts.{Layout}
 use Rattle.rx_expr.specs.Nfa.{meaning}
 use Rattle.rx_determinize.specs.Constructions.{Continues, work_of}
@@ -34,7 +30,7 @@ set_mode-requires-2-clause-starts c =
     (c.start_anchored.ensures ∙ ap (λ (n : Nfa). n.start_anchored) (sym c.requires.nfa))))
 
 pub set_mode-requires-2-clause-entries : goal.set_mode-requires-2-clause-entries
-set_mode-requires-2-clause-entries c = grind (arith, common_steps, entries_twelve)
+set_mode-requires-2-clause-entries c = grind (arith, common_steps)
 
 pub returns-in_err-set_mode-2-clause-err : goal.returns-in_err-set_mode-2-clause-err
 returns-in_err-set_mode-2-clause-err c =
@@ -92,10 +88,7 @@ pub patterns-preserved : goal.patterns-preserved
 patterns-preserved c =
     let e = c.in_ok-set_mode-3.ensures in
     let call = c.set_mode-in-patterns in
-    let place : 12 + 6 * c.must-pattern.result + 6 ≡ 12 + 6 * (c.patterns.k + 1) = omega (
-      arith,
-      c.must-pattern.ensures,
-    ) in
+    let place : 12 + 6 * c.must-pattern.result + 6 ≡ 12 + 6 * (c.patterns.k + 1) = omega arith in
     record {
       entering = subst (λ n. IsEntering (work_of call.new.self) call.new.dfa n 0) place e.entering;
       later = continues_twice c.patterns.invariant.later e.later;
@@ -110,5 +103,5 @@ returns-clause-entering c =
     let n : ℕ = length (meaning c.args.nfa.now).start_patterns in
     let entries : length c.args.dfa.now.starts ≡ 12 + 6 * n = entries_with c.requires.entries some in
     let count : 12 + 6 * c.patterns.k ≡ length c.patterns.dfa.starts =
-    omega (arith, entries, i.later.over.count, c.pattern_len-k-end.ensures) in
+    omega arith in
     subst (λ k. IsEntering (work_of c.patterns.self) c.patterns.dfa k 0) count i.entering

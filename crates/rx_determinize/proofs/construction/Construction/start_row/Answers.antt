@@ -1,9 +1,5 @@
-use Rattle.std.proofs.Common.{arith, ◌≡◌, Option, true, false, ℕ, refl, ap, sym, subst}
-use Rattle.std.proofs.lemmas.Grind.{common_steps}
-use Rattle.std.proofs.lemmas.Bool.Decides.{when_false, when_true}
-use Rattle.std.specs.Prelude.{IfOk, IfSome}
-use Rattle.rx_spec.specs.Builds.{IsReached, dead, is_dead_state, start_node}
-use Rattle.rx_spec.specs.States.{start_state}
+use Rattle.rx_spec.proofs.Prelude.{arith, ◌≡◌, Option, true, false, ℕ, refl, ap, sym, subst, common_steps, when_false}
+use Rattle.rx_spec.proofs.Prelude.{IfSome, IsReached, dead, is_dead_state, start_node, start_state}
 use Rattle.rx_stepper.specs.Stepping.{IsKeyOf, Stepping}
 use Rattle.rx_stepper.specs.Steppers.{stepping_of}
 use Rattle.rx_determinize.specs.Adding.{CanAdd}
@@ -23,13 +19,12 @@ returns-in_default-clause-found c =
     let l = c.args.dfa.now in
     let serves = c.requires.serves in
     let found : FindsRow w l dead w l 0 = found_before refl serves (zero_row l) (dead_id serves.rows) in
-    subst (λ (row : Option ℕ). FindsRow w l (start_node w.stepping.nfa row c.args.start) w l 0) (sym c.in_default.is)
-    found
+    grind (arith, common_steps)
 
 -- the key that the stepper gave is that of the state in which searches start, which can be added
 key_is : (c : After-deref) → IsKeyOf (stepping_of c.args.self.now.stepper) c.deref.result.now
     (start_state (stepping_of c.args.self.now.stepper).nfa c.in-Some.row c.args.start)
-key_is c = grind (arith, common_steps, when_true)
+key_is c = grind (arith, common_steps)
 
 can_add : (c : After-deref) → CanAdd (keys_in (work_of c.args.self.now) c.args.dfa.now) c.args.self.now.limits
     c.args.self.now.states c.args.dfa.now c.deref.result.now
@@ -54,8 +49,7 @@ returns-then-branch-clause-found c =
     c.add.ensures.rows (working_by c.args.dfa.now c.start.ensures.kept c.args.self.now.limits c.add.result
     c.add.new.self c.add.new.dfa c.add.ensures.working) in
     let v = record w { stepping = stepping_of c.start.new.self; met = c.add.new.self } in
-    subst (λ (row : Option ℕ). IfOk c.add.result (FindsRow w c.args.dfa.now (start_node w.stepping.nfa row c.args.start)
-    v c.add.new.dfa)) (sym c.in-Some.is) found
+    grind (arith, common_steps)
 
 pub returns-then-branch-clause-err : goal.returns-then-branch-clause-err
 returns-then-branch-clause-err c =

@@ -1,15 +1,11 @@
-use Rattle.std.proofs.Common.{arith, ◌≡◌, ◌+◌, ℕ, true, List, [], ap, sym, subst}
-use Rattle.std.proofs.lemmas.Grind.{common_steps}
-use Rattle.std.proofs.lemmas.List.Elements.{All-get_or}
-use Rattle.std.proofs.lemmas.Option.{get_or_from_slice_get}
-use Rattle.std.proofs.lemmas.Result.{err_from_is_err_and}
+use Rattle.rx_spec.proofs.Prelude.{arith, ◌≡◌, ◌+◌, ℕ, true, List, [], ap, sym, subst, common_steps, All-get_or}
+use Rattle.rx_spec.proofs.Prelude.{get_or_from_slice_get, err_from_is_err_and}
 use Rattle.rx_stepper.specs.Stepping.{Stepping}
 use Rattle.rx_stepper.specs.Steppers.{stepping_of}
 use Rattle.rx_determinize.specs.Constructions.{Continues, work_of}
 use Rattle.rx_determinize.specs.Models.{AreModels, IsExploring}
 use Rattle.rx_determinize.specs.Working.{Keying, keying}
-use Rattle.rx_determinize.proofs.ContinuesLaws.{continues_other, continues_over, continues_twice, refused_later}
-use Rattle.rx_determinize.proofs.ContinuesLaws.{started_over}
+use Rattle.rx_determinize.proofs.ContinuesLaws.{continues_twice, refused_later}
 use Rattle.rx_determinize.proofs.ModelLaws.{models_later}
 use Rattle.rx_determinize.proofs.SteppingLaws.{stepping_begun}
 use Rattle.rx_determinize.proofs.construction.Construction.step.Goals.{After-begin_row-copied, In_ok-fill}
@@ -38,7 +34,7 @@ begin_row-copied-requires-clause-models c =
 -- the state is begun, and its row may have been copied
 begun : (c : After-begin_row-copied) → Continues (work_of c.args.self.now) c.args.dfa.now
     (record (work_of c.args.self.now) { stepping = stepping_of c.begin.new.self }) c.begin_row-copied.new.dfa
-begun c = grind (arith, common_steps, continues_twice, continues_other, continues_over, started_over)
+begun c = grind (arith, common_steps)
 
 pub returns-in_err-fill-clause-err : goal.returns-in_err-fill-clause-err
 returns-in_err-fill-clause-err c =

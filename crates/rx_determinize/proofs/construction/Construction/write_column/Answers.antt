@@ -1,13 +1,11 @@
-use Rattle.std.proofs.lemmas.Grind.{common_steps}
-use Rattle.std.proofs.Common.{◌≡◌, ◌<◌, ℕ, length, ap₂, ◌∙◌, arith}
+use Rattle.rx_spec.proofs.Prelude.{common_steps, ◌≡◌, ◌<◌, ℕ, length, ap₂, ◌∙◌, arith}
 use Rattle.rx_base.specs.Unit.{unit_number}
 use Rattle.rx_dense.specs.Builder.{with_next}
 use Rattle.rx_dense.proofs.Rows.{IsId-row_id}
 use Rattle.rx_stepper.specs.Stepping.{unit_of}
-use Rattle.rx_determinize.proofs.ContinuesLaws.{continues_found, continues_over, continues_twice, started_over}
-use Rattle.rx_determinize.proofs.ContinuesLaws.{written_over}
+use Rattle.rx_determinize.proofs.ContinuesLaws.{continues_twice}
 use Rattle.rx_determinize.proofs.ColumnLaws.{unit_is, units_count}
-use Rattle.rx_determinize.proofs.SteppingLaws.{row_there, stepped_on}
+use Rattle.rx_determinize.proofs.SteppingLaws.{found_row, found_with, stepped_on}
 use Rattle.rx_determinize.proofs.construction.Construction.write_column.Goals.{Start}
 use Rattle.rx_determinize.proofs.construction.Construction.write_column.Goals as goal
 
@@ -16,13 +14,13 @@ low : (c : Start) → c.args.at.column < length c.args.self.now.units.items
 low c =
     let serves = c.requires.stepping.entering.serves in
     let count = units_count c.args.dfa.now c.args.self.now.units.items serves.rows.classes serves.units in
-    omega (arith, count, c.requires.column)
+    omega arith
 
 pub index-unit-requires : goal.index-unit-requires
 index-unit-requires c = omega (arith, low (goal.at.index-unit-requires c).Start)
 
 pub row_id-requires : goal.row_id-requires
-row_id-requires c = row_there c.requires.stepping c.in_ok-id.ensures.found
+row_id-requires c = found_row c.requires.stepping (found_with c.requires.stepping c.in_ok-id.ensures.found)
 
 pub set_transition-requires-clause-to : goal.set_transition-requires-clause-to
 set_transition-requires-clause-to c =
@@ -41,4 +39,4 @@ returns-clause-stepping c =
 
 pub returns-clause-later : goal.returns-clause-later
 returns-clause-later c =
-    grind (arith, common_steps, continues_twice, continues_found, continues_over, started_over, written_over)
+    grind (arith, common_steps, continues_twice)

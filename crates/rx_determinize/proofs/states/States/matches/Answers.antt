@@ -1,6 +1,4 @@
-use Rattle.std.proofs.lemmas.Grind.{common_steps}
-use Rattle.std.proofs.Common.{arith}
-use Rattle.std.proofs.lemmas.List.{take_all}
+use Rattle.rx_spec.proofs.Prelude.{common_steps, arith}
 use Rattle.rx_determinize.proofs.MatchingLaws.{labels_none}
 use Rattle.rx_determinize.proofs.states.States.matches.Goals as goal
 
@@ -8,4 +6,4 @@ pub places-init : goal.places-init
 places-init c = labels_none c.args.dfa.now c.new-matches.result c.new-matches.ensures.empty
 
 pub returns : goal.returns
-returns c = grind (arith, common_steps, take_all)
+returns c = grind (arith, common_steps)

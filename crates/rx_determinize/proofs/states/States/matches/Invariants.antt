@@ -1,4 +1,4 @@
-use Rattle.std.proofs.Common.{take}
+use Rattle.rx_spec.proofs.Prelude.{take}
 use Rattle.rx_determinize.specs.Matching.{AreLabels}
 use Rattle.rx_determinize.proofs.states.States.matches.Given as goal
 

@@ -1,5 +1,4 @@
-use Rattle.std.proofs.Common.{refl}
-use Rattle.std.specs.Prelude.{nat_eq}
+use Rattle.rx_spec.proofs.Prelude.{refl, nat_eq}
 use Rattle.std.specs.HashSet.{contains}
 use Rattle.rx_equal.specs.Pairs.{pairs_of, key_of}
 use Rattle.rx_equal.proofs.Tests.{from_not}

@@ -1,4 +1,4 @@
-use Rattle.std.proofs.Common.{ℕ, Option, ap, ◌∙◌, subst}
+use Rattle.rx_spec.proofs.Prelude.{ℕ, Option, ap, ◌∙◌, subst}
 use Rattle.rx_base.specs.Search.{mode_of}
 use Rattle.rx_base.specs.StartConfig.{StartConfig}
 use Rattle.rx_equal.specs.Pairs.{pairs_of}

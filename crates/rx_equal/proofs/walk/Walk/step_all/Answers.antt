@@ -1,5 +1,4 @@
-use Rattle.std.proofs.Common.{◌≡◌, None, Some, subst, arith}
-use Rattle.std.specs.Prelude.{Contains, slice_get}
+use Rattle.rx_spec.proofs.Prelude.{◌≡◌, None, Some, subst, arith, Contains, slice_get}
 use Rattle.rx_spec.specs.declared.Unit.{Unit}
 use Rattle.rx_base.specs.Unit.{unit_number}
 use Rattle.rx_equal.specs.Evidence.{next_pair}
@@ -57,7 +56,7 @@ returns-clause-stepped g c =
       c.loop-i.invariant.labels,
       nexts_by after c.requires.represent (g.met.A.Automaton.are_ids c.args.a.now)
           (g.met.B.Automaton.are_ids c.args.b.now) (kept_ids kept c.args.at c.get-pair.ensures)
-          c.loop-i.invariant.done (omega (arith, c.loop-i-test.false, c.len-i-end.ensures)),
+          c.loop-i.invariant.done (omega arith),
     )
 
 pub returns-then-not-branch-clause-went_on : goal.returns-then-not-branch-clause-went_on

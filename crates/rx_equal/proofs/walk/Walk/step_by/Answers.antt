@@ -1,5 +1,4 @@
-use Rattle.std.proofs.Common.{arith, refl}
-use Rattle.std.proofs.lemmas.Grind.{common_steps}
+use Rattle.rx_spec.proofs.Prelude.{arith, refl, common_steps}
 use Rattle.rx_base.specs.Unit.{unit_number}
 use Rattle.rx_equal.specs.declared.evidence.Link.{Link}
 use Rattle.rx_equal.specs.Pairs.{pairs_of, rows_of}
@@ -8,7 +7,7 @@ use Rattle.rx_equal.proofs.Walks.{stepped_by, went_by}
 use Rattle.rx_equal.proofs.walk.Walk.step_by.Goals as goal
 
 pub add-requires-clause-stands : goal.add-requires-clause-stands
-add-requires-clause-stands g c = grind (arith, common_steps, sides)
+add-requires-clause-stands g c = grind (arith, common_steps)
 
 pub returns-clause-stepped : goal.returns-clause-stepped
 returns-clause-stepped g c =

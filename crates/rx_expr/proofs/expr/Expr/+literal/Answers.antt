@@ -1,10 +1,9 @@
-use Rattle.std.proofs.lemmas.Grind.{common_steps}
-use Rattle.std.proofs.Common.{arith}
-use Rattle.rx_expr.proofs.Literals.{literal_joined, literal_shallow, only_memory, ok_as}
+use Rattle.rx_spec.proofs.Prelude.{common_steps, arith}
+use Rattle.rx_expr.proofs.Literals.{literal_joined, literal_shallow, only_memory}
 use Rattle.rx_expr.proofs.expr.Expr.+literal.Goals as goal
 
 pub returns-in_ok-second-in_default-clause-ok : goal.returns-in_ok-second-in_default-clause-ok
-returns-in_ok-second-in_default-clause-ok t c = grind (arith, common_steps, literal_joined, ok_as)
+returns-in_ok-second-in_default-clause-ok t c = grind (arith, common_steps, literal_joined)
 
 pub returns-in_ok-second-in_default-clause-err : goal.returns-in_ok-second-in_default-clause-err
 returns-in_ok-second-in_default-clause-err t c =

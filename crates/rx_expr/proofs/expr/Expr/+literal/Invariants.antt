@@ -1,4 +1,4 @@
-use Rattle.std.proofs.Common.{length}
+use Rattle.rx_spec.proofs.Prelude.{length}
 use Rattle.rx_expr.proofs.expr.Expr.+literal.Given as goal
 
 abbrev pub decreases-literal : goal.decreases-literal

@@ -1,5 +1,4 @@
-use Rattle.std.proofs.Common.{◌≡◌, ℕ, ◌<◌, ◌||◌, map, drop}
-use Rattle.rx_spec.specs.Bytes.{contains}
+use Rattle.rx_spec.proofs.Prelude.{◌≡◌, ℕ, ◌<◌, ◌||◌, map, drop, contains}
 use Rattle.rx_expr.specs.NfaRows.{row_of, rows_part}
 use Rattle.rx_expr.proofs.thompson.classes.byte_class_set.Given as goal
 

@@ -1,9 +1,7 @@
-use Rattle.std.proofs.Common.{arith, ◌∙◌}
-use Rattle.std.proofs.lemmas.Grind.{common_steps}
-use Rattle.std.proofs.lemmas.Bool.{le-ltb}
+use Rattle.rx_spec.proofs.Prelude.{arith, ◌∙◌, common_steps}
 use Rattle.rx_expr.proofs.Edges.{nothing-read_as, begins-empty, begins-class, begins-look, begins-concat}
 use Rattle.rx_expr.proofs.Edges.{begins-concat_reverse, begins-alternate, begins-repeat_none, begins-repeat_some}
-use Rattle.rx_expr.proofs.Edges.{and_then, and_else, or_then, or_else}
+use Rattle.rx_expr.proofs.Edges.{and_then, and_else}
 use Rattle.rx_expr.proofs.thompson.edge.+begins.Goals as goal
 
 pub begins_with_edge-returns-in-Empty : goal.begins_with_edge-returns-in-Empty
@@ -36,13 +34,13 @@ pub begins_with_edge-returns-then-min-gt0 : goal.begins_with_edge-returns-then-m
 begins_with_edge-returns-then-min-gt0 t c = grind (arith, common_steps, begins-repeat_some)
 
 pub begins_with_edge-returns-else-min-gt0 : goal.begins_with_edge-returns-else-min-gt0
-begins_with_edge-returns-else-min-gt0 t c = grind (arith, common_steps, le-ltb, begins-repeat_none)
+begins_with_edge-returns-else-min-gt0 t c = grind (arith, common_steps, begins-repeat_none)
 
 pub either_begins-returns-then-begins_with_edge : goal.either_begins-returns-then-begins_with_edge
-either_begins-returns-then-begins_with_edge t c = grind (arith, common_steps, or_then)
+either_begins-returns-then-begins_with_edge t c = grind (arith, common_steps)
 
 pub either_begins-returns-then-reads_nothing : goal.either_begins-returns-then-reads_nothing
-either_begins-returns-then-reads_nothing t c = grind (arith, common_steps, nothing-read_as, and_then, or_else)
+either_begins-returns-then-reads_nothing t c = grind (arith, common_steps, nothing-read_as)
 
 pub either_begins-returns-else-reads_nothing : goal.either_begins-returns-else-reads_nothing
-either_begins-returns-else-reads_nothing t c = grind (arith, common_steps, nothing-read_as, and_else, or_else)
+either_begins-returns-else-reads_nothing t c = grind (arith, common_steps, nothing-read_as)

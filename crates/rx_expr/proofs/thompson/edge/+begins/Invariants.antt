@@ -1,5 +1,4 @@
-use Rattle.std.proofs.Common.{max, ◌+◌, ◌*◌}
-use Rattle.rx_spec.specs.Expressions.{depth}
+use Rattle.rx_spec.proofs.Prelude.{max, ◌+◌, ◌*◌, depth}
 use Rattle.rx_expr.proofs.thompson.edge.+begins.Given as goal
 
 abbrev pub decreases-begins_with_edge : goal.decreases-begins_with_edge

@@ -1,4 +1,4 @@
-use Rattle.rx_spec.specs.Expressions.{depth}
+use Rattle.rx_spec.proofs.Prelude.{depth}
 use Rattle.rx_expr.proofs.thompson.edge.+reads_nothing.Given as goal
 
 abbrev pub decreases-reads_nothing : goal.decreases-reads_nothing

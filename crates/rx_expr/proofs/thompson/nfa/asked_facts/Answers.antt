@@ -1,4 +1,4 @@
-use Rattle.std.proofs.Common.{arith, ◌<◌, length}
+use Rattle.rx_spec.proofs.Prelude.{arith, ◌<◌, length}
 use Rattle.rx_expr.proofs.NfaFacts.{asked_more, asked_last}
 use Rattle.rx_expr.proofs.thompson.nfa.asked_facts.Goals as goal
 

@@ -1,5 +1,4 @@
-use Rattle.std.proofs.Common.{◌≡◌, map, drop}
-use Rattle.rx_spec.specs.Contexts.{facts_kept, either_of}
+use Rattle.rx_spec.proofs.Prelude.{◌≡◌, map, drop, facts_kept, either_of}
 use Rattle.rx_expr.specs.Nfa.{row_of}
 use Rattle.rx_expr.proofs.thompson.nfa.asked_facts.Given as goal
 

@@ -1,4 +1,4 @@
-use Rattle.std.proofs.Common.{◌≡◌, ◌||◌, map, drop}
+use Rattle.rx_spec.proofs.Prelude.{◌≡◌, ◌||◌, map, drop}
 use Rattle.rx_spec.specs.declared.Look.{Look}
 use Rattle.rx_base.specs.LookSet.{holds_look}
 use Rattle.rx_expr.specs.Nfa.{row_of, has_look}

@@ -1,14 +1,12 @@
-use Rattle.std.proofs.lemmas.Grind.{common_steps}
-use Rattle.std.proofs.Common.{arith, ◌+◌}
-use Rattle.rx_spec.specs.Rows.{rows_count}
+use Rattle.rx_spec.proofs.Prelude.{common_steps, arith, ◌+◌, rows_count}
 use Rattle.rx_spec.specs.Rows as spec
-use Rattle.lemmas_walks.proofs.Rows.{copies_make, optional_makes, loop_makes}
+use Rattle.lemmas_walks.proofs.Rows.{copies_make, optional_makes}
 use Rattle.rx_expr.specs.Compiles.{maker}
-use Rattle.rx_expr.proofs.ExpressionRows.{maker_makes, length-counted, ok_row, adds_nothing, adds_optional}
-use Rattle.rx_expr.proofs.ExpressionRows.{adds_no_round, adds_loop, adds_no_copy, adds_copy, round_fits, adds_same}
-use Rattle.rx_expr.proofs.ExpressionRows.{adds_before, adds_entered, ok_same, adds_bare, adds_bare_copies, maker-empty}
-use Rattle.rx_expr.proofs.ExpressionRows.{maker-class, maker-look, maker-concat, maker-concat_reverse, maker-alternate}
-use Rattle.rx_expr.proofs.ExpressionRows.{maker-repeat, rows-concat, rows-alternate, rows-repeat}
+use Rattle.rx_expr.proofs.ExpressionRows.{maker_makes, length-counted, adds_optional, adds_no_round, adds_loop}
+use Rattle.rx_expr.proofs.ExpressionRows.{adds_no_copy, adds_copy, round_fits, adds_entered, ok_same, adds_bare}
+use Rattle.rx_expr.proofs.ExpressionRows.{adds_bare_copies, maker-empty, maker-class, maker-look, maker-concat}
+use Rattle.rx_expr.proofs.ExpressionRows.{maker-concat_reverse, maker-alternate, maker-repeat, rows-concat}
+use Rattle.rx_expr.proofs.ExpressionRows.{rows-alternate, rows-repeat}
 use Rattle.rx_expr.proofs.thompson.rows.+compile.Goals as goal
 
 -- ---- an expression
@@ -17,13 +15,13 @@ pub compile-returns-then-rows_len-eq0 : goal.compile-returns-then-rows_len-eq0
 compile-returns-then-rows_len-eq0 t c = grind (arith, common_steps, adds_bare)
 
 pub compile-returns-in-Empty : goal.compile-returns-in-Empty
-compile-returns-in-Empty t c = grind (arith, common_steps, adds_same, maker-empty, adds_nothing)
+compile-returns-in-Empty t c = grind (arith, common_steps, maker-empty)
 
 pub compile-returns-in-Class : goal.compile-returns-in-Class
-compile-returns-in-Class t c = grind (arith, common_steps, maker-class, ok_row, ok_same)
+compile-returns-in-Class t c = grind (arith, common_steps, maker-class)
 
 pub compile-returns-in-Look : goal.compile-returns-in-Look
-compile-returns-in-Look t c = grind (arith, common_steps, maker-look, ok_row, ok_same)
+compile-returns-in-Look t c = grind (arith, common_steps, maker-look)
 
 pub compile-concat-requires : goal.compile-concat-requires
 compile-concat-requires t c = grind (arith, common_steps, rows-concat)
@@ -53,26 +51,26 @@ pub compile-repeat-requires : goal.compile-repeat-requires
 compile-repeat-requires t c = grind (arith, common_steps, rows-repeat)
 
 pub compile-returns-in-Repeat : goal.compile-returns-in-Repeat
-compile-returns-in-Repeat t c = grind (arith, common_steps, maker-repeat, ok_same)
+compile-returns-in-Repeat t c = grind (arith, common_steps, maker-repeat)
 
 -- ---- a concatenation and an alternation
 
 pub concat-compile-requires-2 : goal.concat-compile-requires-2
-concat-compile-requires-2 t c = grind (arith, common_steps, length-counted, maker_makes)
+concat-compile-requires-2 t c = grind (arith, common_steps, maker_makes)
 
 pub alternate-compile-requires-2 : goal.alternate-compile-requires-2
-alternate-compile-requires-2 t c = grind (arith, common_steps, length-counted, maker_makes)
+alternate-compile-requires-2 t c = grind (arith, common_steps, maker_makes)
 
 pub alternate-push-requires : goal.alternate-push-requires
-alternate-push-requires t c = grind (arith, common_steps, length-counted, maker_makes)
+alternate-push-requires t c = grind (arith, common_steps, maker_makes)
 
 -- ---- repetitions
 
 pub repeat-repeat_exactly-requires : goal.repeat-repeat_exactly-requires
-repeat-repeat_exactly-requires t c = grind (arith, common_steps, length-counted, loop_makes, maker_makes)
+repeat-repeat_exactly-requires t c = grind (arith, common_steps, maker_makes)
 
 pub repeat-repeat_exactly-requires-in-Some : goal.repeat-repeat_exactly-requires-in-Some
-repeat-repeat_exactly-requires-in-Some t c = grind (arith, common_steps, length-counted, optional_makes, maker_makes)
+repeat-repeat_exactly-requires-in-Some t c = grind (arith, common_steps, optional_makes, maker_makes)
 
 pub repeat_exactly-returns-then-rows_len-eq0 : goal.repeat_exactly-returns-then-rows_len-eq0
 repeat_exactly-returns-then-rows_len-eq0 t c = grind (arith, common_steps, adds_bare_copies)
@@ -86,7 +84,7 @@ repeat_exactly-compile-requires t c =
     let makes = copies_make _ each (maker_makes c.args.direction c.args.body.now) c.loop-round.round in
     let n = length-counted makes c.loop-round.invariant in
     let more = round_fits c.loop-round.round c.args.count each c.loop-round-test.true in
-    (omega (arith, c.decreases), omega (arith, c.requires))
+    (omega arith, omega arith)
 
 pub repeat_exactly-loop-round-preserved : goal.repeat_exactly-loop-round-preserved
 repeat_exactly-loop-round-preserved t c = adds_copy c.loop-round.round c.loop-round.invariant c.in_ok-entry.ensures
@@ -100,7 +98,7 @@ repeat_up_to-compile-requires t c =
     let makes = optional_makes c.args.greedy _ each (maker_makes c.args.direction c.args.body.now) c.loop-round.round in
     let n = length-counted makes c.loop-round.invariant in
     let more = round_fits c.loop-round.round c.args.count (each + 1) c.loop-round-test.true in
-    (omega (arith, c.decreases), omega (arith, c.requires))
+    (omega arith, omega arith)
 
 pub repeat_up_to-push-requires : goal.repeat_up_to-push-requires
 repeat_up_to-push-requires t c =
@@ -109,7 +107,7 @@ repeat_up_to-push-requires t c =
     let n = length-counted (optional_makes c.args.greedy _ each makes c.loop-round.round) c.loop-round.invariant in
     let m = length-counted makes c.in_ok-body_entry.ensures in
     let more = round_fits c.loop-round.round c.args.count (each + 1) c.loop-round-test.true in
-    omega (arith, c.requires)
+    omega arith
 
 pub repeat_up_to-loop-round-preserved : goal.repeat_up_to-loop-round-preserved
 repeat_up_to-loop-round-preserved t c =
@@ -127,4 +125,4 @@ repeat_up_to-loop-round-preserved t c =
     pushed.rows)
 
 pub repeat_forever-returns : goal.repeat_forever-returns
-repeat_forever-returns t c = grind (arith, common_steps, adds_before, adds_entered, adds_loop)
+repeat_forever-returns t c = grind (arith, common_steps, adds_loop)

@@ -1,6 +1,4 @@
-use Rattle.std.proofs.Common.{◌+◌, ◌*◌, max}
-use Rattle.rx_spec.specs.Expressions.{depth}
-use Rattle.rx_spec.specs.Rows.{copies, optional}
+use Rattle.rx_spec.proofs.Prelude.{◌+◌, ◌*◌, max, depth, copies, optional}
 use Rattle.rx_expr.specs.Compiles.{Adds, maker}
 use Rattle.rx_expr.proofs.thompson.rows.+compile.Given as goal
 

@@ -1,4 +1,4 @@
-use Rattle.std.proofs.Common.{arith, ◌<◌, ap, sym, subst, length, ◌+◌}
+use Rattle.rx_spec.proofs.Prelude.{arith, ◌<◌, ap, sym, subst, length, ◌+◌}
 use Rattle.rx_spec.specs.Rows as spec
 use Rattle.rx_expr.proofs.Lists.{drop_at}
 use Rattle.rx_expr.proofs.ExpressionRows.{adds_before}
@@ -6,7 +6,7 @@ use Rattle.rx_expr.proofs.PatternRows.{Going, going_more, going_last, length-le-
 use Rattle.rx_expr.proofs.thompson.starts.add_patterns.Goals as goal
 
 pub pattern_of-pattern-requires : goal.pattern_of-pattern-requires
-pattern_of-pattern-requires c = omega (arith, length-le-patterns_count c.args.exprs.now, c.requires.room)
+pattern_of-pattern-requires c = omega (arith, length-le-patterns_count c.args.exprs.now)
 
 pub loop-k-preserved : goal.loop-k-preserved
 loop-k-preserved c =

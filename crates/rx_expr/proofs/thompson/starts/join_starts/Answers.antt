@@ -1,6 +1,4 @@
-use Rattle.std.proofs.lemmas.Grind.{common_steps}
-use Rattle.std.proofs.Common.{arith, sym, subst, ◌+◌, ◌-◌, length, drop}
-use Rattle.rx_spec.specs.Causes.{id_count}
+use Rattle.rx_spec.proofs.Prelude.{common_steps, arith, sym, subst, ◌+◌, ◌-◌, length, drop, id_count}
 use Rattle.rx_expr.specs.Compiles.{AddsJoined}
 use Rattle.rx_expr.proofs.JoinedStarts.{ok_failed, joined_last, joined_more, joined_room}
 use Rattle.rx_expr.proofs.thompson.starts.join_starts.Goals as goal

@@ -1,4 +1,4 @@
-use Rattle.std.proofs.Common.{◌-◌, drop, length}
+use Rattle.rx_spec.proofs.Prelude.{◌-◌, drop, length}
 use Rattle.rx_expr.specs.Compiles.{AddsJoined}
 use Rattle.rx_expr.proofs.thompson.starts.join_starts.Given as goal
 

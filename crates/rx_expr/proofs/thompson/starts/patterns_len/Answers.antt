@@ -1,8 +1,5 @@
-use Rattle.std.proofs.Common.{arith, subst, All}
-use Rattle.std.proofs.lemmas.Grind.{common_steps}
-use Rattle.std.proofs.lemmas.List.{take_all}
+use Rattle.rx_spec.proofs.Prelude.{arith, subst, All, common_steps, take_all, IsLoopSafe}
 use Rattle.std.proofs.lemmas.List.Elements.{All-more}
-use Rattle.rx_spec.specs.Expressions.{IsLoopSafe}
 use Rattle.rx_expr.proofs.thompson.starts.patterns_len.Goals as goal
 
 pub loop-expr-preserved : goal.loop-expr-preserved

@@ -1,4 +1,4 @@
-use Rattle.std.proofs.Common.{take}
+use Rattle.rx_spec.proofs.Prelude.{take}
 use Rattle.rx_expr.proofs.PatternRows.{Counted}
 use Rattle.rx_expr.proofs.thompson.starts.patterns_len.Given as goal
 

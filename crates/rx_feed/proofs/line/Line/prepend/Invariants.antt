@@ -1,4 +1,4 @@
-use Rattle.std.proofs.Common.{◌≡◌, ◌+◌, ◌≤◌, ◌++◌, length, drop}
+use Rattle.rx_spec.proofs.Prelude.{◌≡◌, ◌+◌, ◌≤◌, ◌++◌, length, drop}
 use Rattle.rx_feed.proofs.line.Line.prepend.Given as goal
 
 abbrev pub invariant-bytes : goal.invariant-bytes

@@ -1,8 +1,6 @@
-use Rattle.std.proofs.lemmas.Grind.{common_steps}
-use Rattle.std.proofs.Common.{◌≡◌, ◌≤◌, ◌<◌, ◌+◌, ◌/◌, ◌%◌, ◌^◌, ◌∷◌, ◌++◌, [], length, ℕ, List, arith, append_assoc}
-use Rattle.std.proofs.Common.{length-append}
-use Rattle.std.proofs.lemmas.Fmt.{decimal_digit, decimal_nonempty, decimal_step, length-decimal-le}
-use Rattle.std.specs.Fmt.{decimal}
+use Rattle.rx_spec.proofs.Prelude.{common_steps, ◌≡◌, ◌≤◌, ◌<◌, ◌+◌, ◌/◌, ◌%◌, ◌^◌, ◌∷◌, ◌++◌, [], length, ℕ, List}
+use Rattle.rx_spec.proofs.Prelude.{arith, append_assoc, length-append, decimal_digit, decimal}
+use Rattle.std.proofs.lemmas.Fmt.{decimal_nonempty, decimal_step, length-decimal-le}
 use Rattle.rx_feed.proofs.line.Line.prepend_number.Goals as goal
 
 number_len : (n : ℕ) → n < 2 ^ 64 → length (decimal n) ≤ 20

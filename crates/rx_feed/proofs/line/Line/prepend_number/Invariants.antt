@@ -1,5 +1,4 @@
-use Rattle.std.proofs.Common.{◌≡◌, ◌+◌, ◌≤◌, ◌++◌, length}
-use Rattle.std.specs.Fmt.{decimal}
+use Rattle.rx_spec.proofs.Prelude.{◌≡◌, ◌+◌, ◌≤◌, ◌++◌, length, decimal}
 use Rattle.rx_feed.proofs.line.Line.prepend_number.Given as goal
 
 abbrev pub invariant-digits : goal.invariant-digits

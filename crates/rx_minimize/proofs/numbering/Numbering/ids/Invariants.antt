@@ -1,4 +1,4 @@
-use Rattle.std.proofs.Common.{◌≡◌, ◌*◌, ◌^◌, map, take}
+use Rattle.rx_spec.proofs.Prelude.{◌≡◌, ◌*◌, ◌^◌, map, take}
 use Rattle.rx_minimize.proofs.numbering.Numbering.ids.Given as goal
 
 abbrev pub invariant-loop-number : goal.invariant-loop-number

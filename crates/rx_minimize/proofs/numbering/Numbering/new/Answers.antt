@@ -1,6 +1,6 @@
-use Rattle.std.proofs.lemmas.Grind.{common_steps}
-use Rattle.std.proofs.Common.{◌≡◌, ◌≢◌, ◌<◌, ◌∙◌, ℕ, List, length, slice_index, slice_set, ap, arith, Vec, Global}
-use Rattle.std.proofs.lemmas.List.{get_or_default, get_or-set_same, length-set}
+use Rattle.rx_spec.proofs.Prelude.{common_steps, ◌≡◌, ◌≢◌, ◌<◌, ◌∙◌, ℕ, List, length, slice_index, slice_set, ap, arith}
+use Rattle.rx_spec.proofs.Prelude.{Vec, Global, get_or_default, get_or-set_same}
+use Rattle.std.proofs.lemmas.List.{length-set}
 use Rattle.rx_minimize.proofs.Renumbered.{known_named, new_named, all_named}
 use Rattle.rx_minimize.proofs.numbering.Numbering.new.Goals.{then-index-unnamed+in_ok-push, else-index-unnamed}
 use Rattle.rx_minimize.proofs.numbering.Numbering.new.Goals as goal

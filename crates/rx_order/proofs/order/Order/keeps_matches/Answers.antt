@@ -1,7 +1,4 @@
-use Rattle.std.proofs.Common.{rules, arith}
-use Rattle.std.proofs.lemmas.Grind.{common_steps}
-use Rattle.std.proofs.lemmas.Bool.{cases_eq, false≢true}
-use Rattle.std.proofs.lemmas.List.{get_or_default}
+use Rattle.rx_spec.proofs.Prelude.{rules, arith, common_steps, cases_eq, false≢true, get_or_default}
 use Rattle.rx_order.proofs.order.Order.keeps_matches.Goals as goal
 
 pub loop-place-init : goal.loop-place-init

@@ -1,4 +1,4 @@
-use Rattle.std.proofs.Common.{◌≡◌, ℕ, ◌<◌, ◌≤◌, slice_index}
+use Rattle.rx_spec.proofs.Prelude.{◌≡◌, ℕ, ◌<◌, ◌≤◌, slice_index}
 use Rattle.rx_order.proofs.order.Order.keeps_matches.Given as goal
 
 abbrev pub invariant-loop-place : goal.invariant-loop-place

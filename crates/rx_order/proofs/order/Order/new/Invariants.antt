@@ -1,4 +1,4 @@
-use Rattle.std.proofs.Common.{◌≡◌, ℕ, ◌<◌, length, slice_index}
+use Rattle.rx_spec.proofs.Prelude.{◌≡◌, ℕ, ◌<◌, length, slice_index}
 use Rattle.rx_order.proofs.ByKind.{AreSorted, IsEnd}
 use Rattle.rx_order.proofs.order.Order.new.Given as goal
 

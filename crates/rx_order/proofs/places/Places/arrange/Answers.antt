@@ -1,12 +1,9 @@
-use Rattle.std.proofs.Common.{rules, ◌≡◌, ◌*◌, ◌/◌, ◌^◌, ◌∙◌, ℕ, List, slice_index, ap, sym, refl, subst, true, arith}
-use Rattle.std.proofs.Math.Nat.{mul-div_cancel}
-use Rattle.std.proofs.lemmas.List.{get_or_default}
+use Rattle.rx_spec.proofs.Prelude.{rules, ◌≡◌, ◌*◌, ◌/◌, ◌^◌, ◌∙◌, ℕ, List, slice_index, ap, sym, refl, subst, true}
+use Rattle.rx_spec.proofs.Prelude.{arith, mul-div_cancel, get_or_default, pow_pos, swap}
 use Rattle.std.proofs.lemmas.List.Sorted.{non_decreasing_from_is_sorted}
-use Rattle.std.proofs.lemmas.Nat.{pow_pos}
 use Rattle.rx_order.proofs.ExchangedRows.{count_of}
 use Rattle.rx_dense.specs.Builder.{AreSwapped}
 use Rattle.rx_dense.specs.Layouts.{Layout, stride}
-use Rattle.std.specs.List.{swap}
 use Rattle.rx_order.specs.Moved.{AreMoved}
 use Rattle.rx_order.proofs.InPlace.{each_in_place, in_place}
 use Rattle.rx_order.proofs.Moved.{IsExchange, all_ids, exchanged, id_of_place, placed, turn, unmoved}

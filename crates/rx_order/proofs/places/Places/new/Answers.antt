@@ -1,6 +1,4 @@
-use Rattle.std.proofs.Common.{rules, ◌≡◌, ◌*◌, ◌^◌, ◌<◌, ◌∙◌, sym, arith}
-use Rattle.std.proofs.Math.Nat.{mod-eq_of_lt}
-use Rattle.std.proofs.lemmas.List.FromFn.{map-range_with_len_more}
+use Rattle.rx_spec.proofs.Prelude.{rules, ◌≡◌, ◌*◌, ◌^◌, ◌<◌, ◌∙◌, sym, arith, mod-eq_of_lt, map-range_with_len_more}
 use Rattle.rx_dense.specs.Layouts.{row_count, stride}
 use Rattle.rx_dense.proofs.Rows.{IsRowId-row}
 use Rattle.rx_order.proofs.places.Places.new.Goals as goal

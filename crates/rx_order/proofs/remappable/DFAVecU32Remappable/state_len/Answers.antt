@@ -1,5 +1,4 @@
-use Rattle.std.proofs.Common.{arith}
-use Rattle.std.proofs.lemmas.Grind.{common_steps}
+use Rattle.rx_spec.proofs.Prelude.{arith, common_steps}
 use Rattle.rx_order.proofs.RowLists.{are_row_lists, row_lists_count}
 use Rattle.rx_order.proofs.remappable.DFAVecU32Remappable.state_len.Goals as goal
 

@@ -1,4 +1,4 @@
-use Rattle.std.proofs.Common.{rules}
+use Rattle.rx_spec.proofs.Prelude.{rules}
 use Rattle.rx_dense.proofs.Rows.{IsId-row_id}
 use Rattle.rx_order.proofs.RowLists.{id_in_words, rows_swapped}
 use Rattle.rx_order.proofs.remappable.DFAVecU32Remappable.swap_states.Goals as goal

@@ -1,6 +1,5 @@
-use Rattle.std.proofs.Common.{◌≡◌, ◌<◌, length, sym, ◌∙◌, arith}
+use Rattle.rx_spec.proofs.Prelude.{◌≡◌, ◌<◌, length, sym, ◌∙◌, arith, pow_pos}
 use Rattle.std.proofs.Math.Nat.{le-mul_of_pos_right}
-use Rattle.std.proofs.lemmas.Nat.{pow_pos}
 use Rattle.rx_order.proofs.Renamed.{unmoved_arrangement, unmoved_fits, unmoved_rearranged}
 use Rattle.rx_order.proofs.ExchangedRows.{range_more}
 use Rattle.rx_order.proofs.remapper.Remapper.new.Goals as goal

@@ -1,5 +1,4 @@
-use Rattle.std.proofs.Common.{◌≡◌}
-use Rattle.std.specs.List.{range_with_len}
+use Rattle.rx_spec.proofs.Prelude.{◌≡◌, range_with_len}
 use Rattle.rx_order.proofs.remapper.Remapper.new.Given as goal
 
 abbrev pub invariant-loop-row : goal.invariant-loop-row

@@ -1,6 +1,4 @@
-use Rattle.std.proofs.Common.{rules, ◌≡◌, ◌*◌, ◌^◌, ◌<◌, length, ◌∙◌, ap, subst, arith}
-use Rattle.std.proofs.lemmas.Grind.{common_steps}
-use Rattle.std.proofs.Math.Nat.{mod-eq_of_lt}
+use Rattle.rx_spec.proofs.Prelude.{rules, ◌≡◌, ◌*◌, ◌^◌, ◌<◌, length, ◌∙◌, ap, subst, arith, common_steps, mod-eq_of_lt}
 use Rattle.rx_order.specs.Renaming.{IsArrangement}
 use Rattle.rx_order.proofs.ExchangedRows.{row_below}
 use Rattle.rx_order.proofs.NewIds.{AreNoted, are_ids, looked_up, none_noted, one_noted}

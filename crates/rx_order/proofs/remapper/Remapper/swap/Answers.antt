@@ -1,5 +1,4 @@
-use Rattle.std.proofs.Common.{arith, ◌≡◌, ◌<◌, ◌/◌, ◌^◌, length, sym, ◌∙◌, ap, subst}
-use Rattle.std.proofs.lemmas.Grind.{common_steps}
+use Rattle.rx_spec.proofs.Prelude.{arith, ◌≡◌, ◌<◌, ◌/◌, ◌^◌, length, sym, ◌∙◌, ap, subst, common_steps}
 use Rattle.rx_order.specs.Transitions.{with_swapped}
 use Rattle.rx_order.specs.Renaming.{Arrangement, IsRearranged}
 use Rattle.rx_order.proofs.Renamed.{arrangement_of_exchanged, rearranged_of_exchanged}

@@ -1,7 +1,4 @@
-use Rattle.std.proofs.Common.{◌≡◌, None, ap, rules, subst, sym, ◌∙◌}
-use Rattle.std.specs.Prelude.{All, IfOk}
-use Rattle.rx_spec.specs.Joining.{join}
-use Rattle.rx_spec.specs.Queries.{LiesIn, Query}
+use Rattle.rx_spec.proofs.Prelude.{◌≡◌, None, ap, rules, subst, sym, ◌∙◌, All, IfOk, join, LiesIn, Query}
 use Rattle.rx_base.specs.Input.{query_of}
 use Rattle.rx_base.specs.Searcher.{Search}
 use Rattle.rx_pair.specs.Matches.{items, matches_left}

@@ -1,6 +1,4 @@
-use Rattle.std.proofs.Common.{◌∷◌, ap, refl, rules, sym, ◌∙◌}
-use Rattle.std.specs.Prelude.{Ok}
-use Rattle.rx_spec.specs.Joining.{join}
+use Rattle.rx_spec.proofs.Prelude.{◌∷◌, ap, refl, rules, sym, ◌∙◌, Ok, join}
 use Rattle.rx_base.specs.Searcher.{Search}
 use Rattle.rx_pair.specs.Matches.{items, matches_left}
 use Rattle.rx_pair.proofs.Iterated.{ended, next_match, no_match}

@@ -1,4 +1,4 @@
-use Rattle.std.proofs.Common.{◌∙◌, sym}
+use Rattle.rx_spec.proofs.Prelude.{◌∙◌, sym}
 use Rattle.rx_spec.specs.declared.Direction.{Direction}
 use Rattle.rx_base.specs.Input.{query_of}
 use Rattle.rx_search.proofs.InSpan.{unsplit_in_span}

@@ -1,6 +1,4 @@
-use Rattle.std.proofs.Common.{ap, ◌∙◌, arith, length}
-use Rattle.rx_spec.specs.Contexts.{unit_facts}
-use Rattle.rx_spec.specs.States.{state_at, cut}
+use Rattle.rx_spec.proofs.Prelude.{ap, ◌∙◌, arith, length, unit_facts, state_at, cut}
 use Rattle.rx_base.specs.Unit.{unit_number}
 use Rattle.rx_expr.specs.Nfa.{meaning}
 use Rattle.rx_powerset.specs.PowerState.{state_of}

@@ -1,6 +1,4 @@
-use Rattle.std.proofs.lemmas.Grind.{common_steps}
-use Rattle.std.proofs.Common.{arith, rules}
-use Rattle.std.proofs.lemmas.Result.{err_from_is_err_and}
+use Rattle.rx_spec.proofs.Prelude.{common_steps, arith, rules, err_from_is_err_and}
 use Rattle.rx_dense.specs.Layouts.{IsShaped}
 use Rattle.rx_plan.specs.Plan.{plan_of}
 use Rattle.rx_regex.proofs.Refusals.{table_fits, table_refused}

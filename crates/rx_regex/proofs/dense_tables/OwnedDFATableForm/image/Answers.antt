@@ -1,4 +1,4 @@
-use Rattle.std.proofs.Common.{sym, ap, ◌∙◌}
+use Rattle.rx_spec.proofs.Prelude.{sym, ap, ◌∙◌}
 use Rattle.rx_dense_image.specs.Images.{text}
 use Rattle.rx_wire.specs.declared.order.Order.{Order}
 use Rattle.rx_regex.proofs.Whole.{is_dense_image}

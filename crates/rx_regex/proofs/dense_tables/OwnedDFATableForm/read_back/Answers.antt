@@ -1,4 +1,4 @@
-use Rattle.std.proofs.Common.{◌∙◌}
+use Rattle.rx_spec.proofs.Prelude.{◌∙◌}
 use Rattle.rx_wire.specs.declared.order.Order.{Order}
 use Rattle.rx_regex.proofs.Whole.{dense_again}
 use Rattle.rx_regex.proofs.dense_tables.OwnedDFATableForm.read_back.Goals as goal

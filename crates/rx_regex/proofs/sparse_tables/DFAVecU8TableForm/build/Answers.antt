@@ -1,6 +1,4 @@
-use Rattle.std.proofs.lemmas.Grind.{common_steps}
-use Rattle.std.proofs.Common.{arith}
-use Rattle.std.proofs.lemmas.Result.{IfOk-weaker, on_ok_weaker}
+use Rattle.rx_spec.proofs.Prelude.{common_steps, arith, IfOk-weaker, on_ok_weaker}
 use Rattle.rx_plan.specs.Plan.{plan_of}
 use Rattle.rx_regex.proofs.Refusals.{sparse_table_fits, sparse_table_refused}
 use Rattle.rx_regex.proofs.Whole.{is_sparse, sparse_whole}

@@ -1,5 +1,4 @@
-use Rattle.std.proofs.Common.{sym, ap, ◌∙◌}
-use Rattle.std.proofs.lemmas.Result.{IfOk-weaker}
+use Rattle.rx_spec.proofs.Prelude.{sym, ap, ◌∙◌, IfOk-weaker}
 use Rattle.rx_sparse_image.specs.Images.{text}
 use Rattle.rx_wire.specs.declared.order.Order.{Order}
 use Rattle.rx_regex.proofs.Whole.{is_sparse_image}

@@ -1,5 +1,4 @@
-use Rattle.std.proofs.Common.{◌∙◌}
-use Rattle.std.proofs.lemmas.Result.{IfOk-weaker}
+use Rattle.rx_spec.proofs.Prelude.{◌∙◌, IfOk-weaker}
 use Rattle.rx_regex.proofs.Whole.{is_little, sparse_read_again}
 use Rattle.rx_regex.proofs.sparse_tables.DFAVecU8TableForm.read_back.Goals as goal
 

@@ -1,6 +1,4 @@
-use Rattle.std.proofs.Common.{All, IfOk, ap, ◌∙◌, subst}
-use Rattle.rx_spec.specs.Iterating.{iterate}
-use Rattle.rx_spec.specs.Queries.{LiesIn, Query}
+use Rattle.rx_spec.proofs.Prelude.{All, IfOk, ap, ◌∙◌, subst, iterate, LiesIn, Query}
 use Rattle.rx_base.specs.Input.{query_of}
 use Rattle.rx_pair.specs.Matches.{items}
 use Rattle.rx_regex.specs.Forms.{pair_of}

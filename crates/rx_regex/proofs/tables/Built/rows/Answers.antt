@@ -1,4 +1,4 @@
-use Rattle.std.proofs.Common.{subst}
+use Rattle.rx_spec.proofs.Prelude.{subst}
 use Rattle.rx_regex.specs.Forms.{pair_of}
 use Rattle.rx_regex.specs.Pairs.{AreTables}
 use Rattle.rx_regex.specs.declared.tables.Tables.{Tables}

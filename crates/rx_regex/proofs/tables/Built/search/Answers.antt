@@ -1,4 +1,4 @@
-use Rattle.std.proofs.Common.{IfErr, sym, ap, ◌∙◌, subst}
+use Rattle.rx_spec.proofs.Prelude.{IfErr, sym, ap, ◌∙◌, subst}
 use Rattle.rx_base.specs.Input.{query_of}
 use Rattle.rx_regex.specs.Find.{IsPaired}
 use Rattle.rx_regex.specs.Forms.{pair_of}

@@ -1,4 +1,4 @@
-use Rattle.std.proofs.lemmas.Result.{err_from_is_err_and}
+use Rattle.rx_spec.proofs.Prelude.{err_from_is_err_and}
 use Rattle.rx_regex_builder.specs.Pairs.{IsFitBy, IsRefusedBy, both_of}
 use Rattle.rx_regex_builder.proofs.Refusals.{reverse_refused}
 use Rattle.rx_regex_builder.proofs.builder.Builder.build_many.Goals as goal

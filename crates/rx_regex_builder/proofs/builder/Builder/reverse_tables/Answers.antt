@@ -1,4 +1,4 @@
-use Rattle.std.proofs.Common.{◌≡◌, ap, ◌∙◌, rules}
+use Rattle.rx_spec.proofs.Prelude.{◌≡◌, ap, ◌∙◌, rules}
 use Rattle.rx_build.specs.Settings as tables
 use Rattle.rx_expr.specs.Settings as nfa
 use Rattle.rx_regex_builder.specs.Pairs.{reverse_tables, reverse_nfa}

@@ -1,6 +1,4 @@
-use Rattle.std.proofs.lemmas.Grind.{common_steps}
-use Rattle.std.proofs.Common.{◌≡◌, ◌<◌, sym, ◌∙◌, ap, subst, arith, refl, length}
-use Rattle.rx_spec.specs.Queries.{HalfMatch}
+use Rattle.rx_spec.proofs.Prelude.{common_steps, ◌≡◌, ◌<◌, sym, ◌∙◌, ap, subst, arith, refl, length, HalfMatch}
 use Rattle.rx_base.specs.MatchError.{error_of}
 use Rattle.rx_scan.specs.Tokens.{IsMeantEnd, no_more, error_end}
 use Rattle.rx_scan.specs.declared.token.ScanEnd.{ScanEnd}

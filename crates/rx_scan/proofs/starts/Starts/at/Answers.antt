@@ -1,4 +1,4 @@
-use Rattle.std.proofs.Common.{sym, ◌∙◌, subst, arith, refl}
+use Rattle.rx_spec.proofs.Prelude.{sym, ◌∙◌, subst, arith, refl}
 use Rattle.rx_search.proofs.Walks.{bytes_of}
 use Rattle.rx_scan.specs.Starts.{AreStarts}
 use Rattle.rx_scan.proofs.StartsKept.{IsBehind, start_behind, start_kept}

@@ -1,5 +1,4 @@
-use Rattle.std.proofs.Common.{arith}
-use Rattle.std.proofs.lemmas.Grind.{common_steps}
+use Rattle.rx_spec.proofs.Prelude.{arith, common_steps}
 use Rattle.rx_base.specs.Search.{mode_of}
 use Rattle.rx_sparse.proofs.RowPlaces.{entry_there, zero_is_id}
 use Rattle.rx_sparse.proofs.dfa.DFA.start.Goals as goal

@@ -1,4 +1,4 @@
-use Rattle.std.proofs.Common.{◌<◌, length, sym, subst}
+use Rattle.rx_spec.proofs.Prelude.{◌<◌, length, sym, subst}
 use Rattle.rx_sparse.specs.Layouts.{Stored}
 use Rattle.rx_sparse.proofs.RowPlaces.{start_is, start_small, start_within}
 use Rattle.rx_sparse.proofs.dfa.DFA.start_at.Goals as goal

@@ -1,5 +1,4 @@
-use Rattle.std.proofs.Common.{arith}
-use Rattle.std.proofs.lemmas.Grind.{common_steps}
+use Rattle.rx_spec.proofs.Prelude.{arith, common_steps}
 use Rattle.rx_sparse.proofs.RowPlaces.{id_within, row_is_at, row_there_at}
 use Rattle.rx_sparse.proofs.dfa.DFA.state.Goals as goal
 

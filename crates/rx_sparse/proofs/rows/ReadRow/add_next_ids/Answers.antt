@@ -1,4 +1,4 @@
-use Rattle.std.proofs.Common.{◌/◌, ◌^◌, ◌<◌, ℕ, length, subst, arith}
+use Rattle.rx_spec.proofs.Prelude.{◌/◌, ◌^◌, ◌<◌, ℕ, length, subst, arith}
 use Rattle.rx_wire.specs.declared.order.Order.TheVariants.{Little}
 use Rattle.rx_sparse.specs.Reading.{offset_in, read_row}
 use Rattle.rx_sparse.specs.Rows.{next_ids}

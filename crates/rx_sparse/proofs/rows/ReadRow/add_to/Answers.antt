@@ -1,5 +1,4 @@
-use Rattle.std.proofs.Common.{◌++◌, List, ℕ, ap, ◌∙◌}
-use Rattle.std.specs.Int.{w16}
+use Rattle.rx_spec.proofs.Prelude.{◌++◌, List, ℕ, ap, ◌∙◌, w16}
 use Rattle.rx_wire.specs.Fields.{field}
 use Rattle.rx_wire.specs.declared.order.Order.TheVariants.{Little}
 use Rattle.rx_sparse.specs.Reading.{offset_in, read_row}

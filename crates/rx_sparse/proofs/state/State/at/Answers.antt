@@ -1,5 +1,4 @@
-use Rattle.std.proofs.Common.{arith}
-use Rattle.std.proofs.lemmas.Grind.{common_steps}
+use Rattle.rx_spec.proofs.Prelude.{arith, common_steps}
 use Rattle.rx_sparse.proofs.RowTexts.{whole_decoded, whole_ends, whole_ids}
 use Rattle.rx_sparse.proofs.state.State.at.Goals as goal
 

@@ -1,5 +1,4 @@
-use Rattle.std.proofs.Common.{arith, ◌-◌}
-use Rattle.std.proofs.lemmas.Grind.{common_steps}
+use Rattle.rx_spec.proofs.Prelude.{arith, ◌-◌, common_steps}
 use Rattle.rx_sparse.proofs.DecodedRows.{next-found, next-none, next-passed, ranges-first}
 use Rattle.rx_sparse.proofs.state.State.next.Goals as goal
 

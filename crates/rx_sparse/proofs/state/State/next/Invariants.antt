@@ -1,4 +1,4 @@
-use Rattle.std.proofs.Common.{◌≡◌}
+use Rattle.rx_spec.proofs.Prelude.{◌≡◌}
 use Rattle.rx_sparse.specs.Rows.{next_among}
 use Rattle.rx_sparse.proofs.DecodedRows.{ranges_from}
 use Rattle.rx_sparse.proofs.state.State.next.Given as goal

@@ -1,4 +1,4 @@
-use Rattle.std.proofs.Common.{◌<◌, length, slice_index, ap, sym, ◌∙◌, subst, arith}
+use Rattle.rx_spec.proofs.Prelude.{◌<◌, length, slice_index, ap, sym, ◌∙◌, subst, arith}
 use Rattle.rx_sparse.specs.Rows.{Row}
 use Rattle.rx_sparse.proofs.DecodedRows.{pattern_is, pattern_place}
 use Rattle.rx_sparse.proofs.state.State.pattern.Goals as goal

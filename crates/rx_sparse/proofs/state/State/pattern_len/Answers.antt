@@ -1,4 +1,4 @@
-use Rattle.std.proofs.Common.{length, ap, ◌∙◌}
+use Rattle.rx_spec.proofs.Prelude.{length, ap, ◌∙◌}
 use Rattle.rx_sparse.specs.Rows.{Row}
 use Rattle.rx_sparse.proofs.DecodedRows.{pattern_count}
 use Rattle.rx_sparse.proofs.state.State.pattern_len.Goals as goal

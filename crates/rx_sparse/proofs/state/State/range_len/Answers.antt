@@ -1,6 +1,4 @@
-use Rattle.std.proofs.Common.{arith, ◌-◌}
-use Rattle.std.proofs.lemmas.Grind.{common_steps}
-use Rattle.std.proofs.lemmas.List.FromFn.{length-map-range_with_len}
+use Rattle.rx_spec.proofs.Prelude.{arith, ◌-◌, common_steps, length-map-range_with_len}
 use Rattle.rx_sparse.proofs.state.State.range_len.Goals as goal
 
 pub returns : goal.returns

@@ -1,5 +1,4 @@
-use Rattle.std.proofs.Common.{arith}
-use Rattle.std.proofs.lemmas.Grind.{common_steps}
+use Rattle.rx_spec.proofs.Prelude.{arith, common_steps}
 use Rattle.rx_dense.specs.Layouts.{IsShaped}
 use Rattle.rx_dense.specs.Layouts as dense
 use Rattle.rx_sparse.proofs.SparseBytes.{parts_fit, stored_is}

@@ -1,4 +1,5 @@
-use Rattle.std.proofs.lemmas.Result.{IfErr-weaker, on_ok_weaker}
+use Rattle.rx_spec.proofs.Prelude.{on_ok_weaker}
+use Rattle.std.proofs.lemmas.Result.{IfErr-weaker}
 use Rattle.rx_build.specs.Builders.{both_of}
 use Rattle.rx_build.specs.Settings.{settled}
 use Rattle.rx_expr.specs.Compiles.{wanted_nfa}

@@ -1,5 +1,4 @@
-use Rattle.std.proofs.Common.{◌≡◌, ◌-◌, ◌/◌, length, map}
-use Rattle.std.specs.List.{range_with_len}
+use Rattle.rx_spec.proofs.Prelude.{◌≡◌, ◌-◌, ◌/◌, length, map, range_with_len}
 use Rattle.rx_sparse.specs.Rows.{next_among, range_in}
 use Rattle.rx_sparse.proofs.DecodedRows.{ranges_from}
 use Rattle.rx_sparse_image.proofs.row_parts.RowParts.next.Given as goal

@@ -1,6 +1,4 @@
-use Rattle.std.proofs.lemmas.Grind.{common_steps}
-use Rattle.std.proofs.Common.{◌≡◌, Ok, ap, sym, ◌∙◌, arith, rules}
-use Rattle.std.proofs.lemmas.Result.{err_from_is_err_and}
+use Rattle.rx_spec.proofs.Prelude.{common_steps, ◌≡◌, Ok, ap, sym, ◌∙◌, arith, rules, err_from_is_err_and}
 use Rattle.rx_sparse_image.specs.Walks.{tested_count, tested_pattern}
 use Rattle.rx_sparse_image.proofs.Passes.{patterns_fail, patterns_pass}
 use Rattle.rx_sparse_image.proofs.walk.Bounds.after_patterns.Goals as goal
@@ -13,7 +11,7 @@ returns-in_err-test_pattern c =
     rw (p.1, p.2)
     (patterns_fail c.args.self.now c.in_ok-count.count c.args.bytes.now c.in_ok-count.rest.now c.in_ok-ids.ids.now
     c.in_ok-ids.rest.now some c.in_ok-count.ensures c.in_ok-ids.ensures.read c.each.i _
-    (omega (arith, c.each-test.true)) c.each.invariant
+    (omega arith) c.each.invariant
     (ap (tested_pattern c.args.self.now) (sym c.word_at.ensures) ∙ c.in_err-test_pattern.ensures))
 
 pub returns : goal.returns

@@ -1,4 +1,4 @@
-use Rattle.std.proofs.Common.{◌≡◌, ℕ, ◌<◌, Ok}
+use Rattle.rx_spec.proofs.Prelude.{◌≡◌, ℕ, ◌<◌, Ok}
 use Rattle.rx_sparse.specs.Rows.{word_at}
 use Rattle.rx_sparse_image.specs.Walks.{tested_pattern}
 use Rattle.rx_sparse_image.proofs.walk.Bounds.after_patterns.Given as goal

@@ -1,5 +1,4 @@
-use Rattle.std.proofs.Common.{◌≡◌, Ok, rules}
-use Rattle.rx_spec.specs.Bytes.{AreBytes}
+use Rattle.rx_spec.proofs.Prelude.{◌≡◌, Ok, rules, AreBytes}
 use Rattle.rx_sparse.specs.Rows.{row_in}
 use Rattle.rx_sparse_image.specs.Walks.{row_at}
 use Rattle.rx_sparse_image.proofs.DecodedBytes.{are_bytes}

@@ -1,12 +1,11 @@
-use Rattle.std.proofs.lemmas.Grind.{common_steps}
-use Rattle.std.proofs.Common.{◌≡◌, ◌-◌, ◌*◌, ◌==◌, ◌&&◌, true, false, slice_index, sym, ap, ◌∙◌, arith, rules}
-use Rattle.std.proofs.Common.{below_more}
+use Rattle.rx_spec.proofs.Prelude.{common_steps, ◌≡◌, ◌-◌, ◌*◌, ◌==◌, ◌&&◌, false, slice_index, sym, ap, ◌∙◌, arith}
+use Rattle.rx_spec.proofs.Prelude.{rules}
 use Rattle.rx_dense_image.proofs.EachBelow.{all_of, not_all}
 use Rattle.rx_sparse_image.specs.Walks.{is_range_at}
 use Rattle.rx_sparse_image.proofs.walk.Bounds.are_ends.Goals as goal
 
 pub loop-i-preserved : goal.loop-i-preserved
-loop-i-preserved c = grind (arith, common_steps, below_more)
+loop-i-preserved c = grind (arith, common_steps)
 
 pub returns-then-not-is_range_at : goal.returns-then-not-is_range_at
 returns-then-not-is_range_at c =
@@ -15,7 +14,7 @@ returns-then-not-is_range_at c =
     let stands : c.is_range_at.result ≡ false = search rules in
     sym (
     ap (λ b. b && (slice_index ends (2 * count - 2) == 0) && (slice_index ends (2 * count - 1) == 0))
-    (not_all (count - 1) (is_range_at c.args.self.now.last_class ends) c.loop-i.i (omega (arith, c.loop-i-test.true))
+    (not_all (count - 1) (is_range_at c.args.self.now.last_class ends) c.loop-i.i (omega arith)
     (sym c.is_range_at.ensures ∙ stands))
     )
 
@@ -27,5 +26,5 @@ returns c =
     ∙ sym (
     ap (λ b. b && (slice_index ends (2 * count - 2) == 0) && (slice_index ends (2 * count - 1) == 0))
     (all_of (count - 1) (is_range_at c.args.self.now.last_class ends)
-    (λ k lt. c.loop-i.invariant k (omega (arith, lt, c.loop-i-test.false))))
+    (λ k lt. c.loop-i.invariant k (omega arith)))
     )

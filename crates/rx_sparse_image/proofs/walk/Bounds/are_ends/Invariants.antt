@@ -1,4 +1,4 @@
-use Rattle.std.proofs.Common.{◌≡◌, ℕ, ◌<◌, true}
+use Rattle.rx_spec.proofs.Prelude.{◌≡◌, ℕ, ◌<◌, true}
 use Rattle.rx_sparse_image.specs.Walks.{is_range_at}
 use Rattle.rx_sparse_image.proofs.walk.Bounds.are_ends.Given as goal
 

@@ -1,6 +1,4 @@
-use Rattle.std.proofs.lemmas.Grind.{common_steps}
-use Rattle.std.proofs.Common.{◌≡◌, Ok, ap, sym, subst, ◌∙◌, arith, below_more}
-use Rattle.std.proofs.lemmas.Result.{err_from_is_err_and}
+use Rattle.rx_spec.proofs.Prelude.{common_steps, ◌≡◌, Ok, ap, sym, subst, ◌∙◌, arith, below_more, err_from_is_err_and}
 use Rattle.rx_sparse.specs.Rows.{word_at}
 use Rattle.rx_sparse_image.specs.Walks.{tested_id}
 use Rattle.rx_sparse_image.proofs.Passes.{next_ids_fail, next_ids_pass}
@@ -18,7 +16,7 @@ returns-in_err-test_id-clause-read c =
     let p = err_from_is_err_and c.from_residual-in_err-test_id.result c.from_residual-in_err-test_id.ensures.1 in
     rw (p.1, p.2)
     (next_ids_fail c.args.self.now c.args.count c.args.bytes.now c.in_ok-ids.ids.now c.in_ok-ids.rest.now
-    c.in_ok-ids.ensures.read c.each.i _ (omega (arith, c.each-test.true)) c.each.invariant
+    c.in_ok-ids.ensures.read c.each.i _ (omega arith) c.each.invariant
     (ap (tested_id c.args.self.now) (sym c.word_at.ensures) ∙ c.in_err-test_id.ensures))
 
 pub returns-clause-read : goal.returns-clause-read

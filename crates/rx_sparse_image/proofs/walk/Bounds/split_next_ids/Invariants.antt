@@ -1,4 +1,4 @@
-use Rattle.std.proofs.Common.{◌≡◌, ℕ, ◌<◌, Ok}
+use Rattle.rx_spec.proofs.Prelude.{◌≡◌, ℕ, ◌<◌, Ok}
 use Rattle.rx_sparse.specs.Rows.{word_at}
 use Rattle.rx_sparse_image.specs.Walks.{tested_id}
 use Rattle.rx_sparse_image.proofs.walk.Bounds.split_next_ids.Given as goal

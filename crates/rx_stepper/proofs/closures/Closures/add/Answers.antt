@@ -1,7 +1,4 @@
-use Rattle.std.proofs.lemmas.Grind.{common_steps}
-use Rattle.std.proofs.Common.{ap, ◌∙◌, ◌++◌, arith}
-use Rattle.std.specs.List.{flat_map}
-use Rattle.rx_spec.specs.States.{closure, fresh}
+use Rattle.rx_spec.proofs.Prelude.{common_steps, ap, ◌∙◌, ◌++◌, arith, flat_map, closure, fresh}
 use Rattle.rx_expr.specs.Nfa.{meaning}
 use Rattle.rx_expr.specs.declared.thompson.nfa.NFA.{NFA}
 use Rattle.rx_stepper.specs.ThinRows.{passing_of}
@@ -34,8 +31,8 @@ each-preserved c =
             searched = done.1;
             left = next_given rows pass found from i q (omega arith) c.row-item.is done.0 left.left;
             empty = left.empty;
-            found_room = omega (arith, left.found_room, w.put.ensures.room);
-            found_grown = omega (arith, left.found_grown, w.put.ensures.room);
+            found_room = omega arith;
+            found_grown = omega arith;
             nfa = left.nfa;
           })
       | then-stops+else-is_first w ↦
@@ -58,8 +55,8 @@ each-preserved c =
             searched = done.searched;
             left = next_given rows pass found from i q (omega arith) c.row-item.is done.rows left.left;
             empty = done.waiting;
-            found_room = omega (arith, left.found_room, done.room);
-            found_grown = omega (arith, left.found_grown, done.room);
+            found_room = omega arith;
+            found_grown = omega arith;
             nfa = left.nfa;
           })
     ]

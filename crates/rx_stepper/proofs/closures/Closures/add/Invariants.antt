@@ -1,7 +1,4 @@
-use Rattle.std.specs.Prelude.{vec_capacity}
-use Rattle.std.proofs.Common.{◌≡◌, ◌≤◌, ◌++◌, [], length, drop}
-use Rattle.std.specs.List.{flat_map}
-use Rattle.rx_spec.specs.States.{closure, fresh}
+use Rattle.rx_spec.proofs.Prelude.{vec_capacity, ◌≡◌, ◌≤◌, ◌++◌, [], length, drop, flat_map, closure, fresh}
 use Rattle.rx_expr.specs.Nfa.{meaning}
 use Rattle.rx_stepper.specs.Searches.{IsSearched}
 use Rattle.rx_stepper.specs.ThinRows.{passing_of}

@@ -1,4 +1,4 @@
-use Rattle.std.proofs.Common.{◌≡◌, ◌++◌, drop}
+use Rattle.rx_spec.proofs.Prelude.{◌≡◌, ◌++◌, drop}
 use Rattle.rx_expr.specs.Nfa.{meaning}
 use Rattle.rx_stepper.specs.Steps.{matches_of}
 use Rattle.rx_stepper.proofs.closures.Closures.add_matches.Given as goal

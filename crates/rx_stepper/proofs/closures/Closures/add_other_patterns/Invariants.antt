@@ -1,4 +1,4 @@
-use Rattle.std.proofs.Common.{◌≡◌, ◌++◌, drop}
+use Rattle.rx_spec.proofs.Prelude.{◌≡◌, ◌++◌, drop}
 use Rattle.rx_expr.specs.Nfa.{meaning}
 use Rattle.rx_stepper.specs.Leads.{without}
 use Rattle.rx_stepper.specs.Steps.{patterns_of}

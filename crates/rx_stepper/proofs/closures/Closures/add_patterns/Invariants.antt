@@ -1,6 +1,4 @@
-use Rattle.std.proofs.Common.{◌≡◌, ◌++◌, drop, ℕ}
-use Rattle.std.specs.List.{flat_map}
-use Rattle.rx_spec.specs.States.{row_at, pattern_of}
+use Rattle.rx_spec.proofs.Prelude.{◌≡◌, ◌++◌, drop, ℕ, flat_map, row_at, pattern_of}
 use Rattle.rx_expr.specs.Nfa.{meaning}
 use Rattle.rx_stepper.proofs.closures.Closures.add_patterns.Given as goal
 

@@ -1,4 +1,4 @@
-use Rattle.std.proofs.Common.{◌∙◌}
+use Rattle.rx_spec.proofs.Prelude.{◌∙◌}
 use Rattle.rx_expr.specs.Nfa.{meaning}
 use Rattle.rx_stepper.proofs.ThinLists.{no_looks}
 use Rattle.rx_stepper.proofs.closures.Closures.has_look.Goals as goal

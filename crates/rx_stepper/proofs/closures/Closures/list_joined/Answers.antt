@@ -1,8 +1,4 @@
-use Rattle.std.proofs.Common.{arith, rules, ◌++◌}
-use Rattle.std.proofs.lemmas.Grind.{common_steps}
-use Rattle.std.specs.List.{flat_map}
-use Rattle.rx_spec.specs.Causes.{id_count}
-use Rattle.rx_spec.specs.States.{closure}
+use Rattle.rx_spec.proofs.Prelude.{arith, rules, ◌++◌, common_steps, flat_map, id_count, closure}
 use Rattle.rx_expr.specs.Nfa.{meaning}
 use Rattle.rx_powerset.proofs.StateBounds.{few_firsts}
 use Rattle.rx_stepper.specs.ThinRows.{passing_of}

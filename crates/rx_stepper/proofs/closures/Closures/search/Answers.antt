@@ -1,7 +1,5 @@
-use Rattle.std.proofs.lemmas.Grind.{common_steps}
-use Rattle.std.proofs.Common.{◌≡◌, ◌<◌, ◌++◌, List, ℕ, reverse, ◌∷◌, get_or, length, ap, arith, ◌∙◌, sym, subst}
-use Rattle.rx_spec.specs.Causes.{id_count}
-use Rattle.rx_spec.specs.States.{closure, fresh, row_at}
+use Rattle.rx_spec.proofs.Prelude.{common_steps, ◌≡◌, ◌<◌, ◌++◌, List, ℕ, reverse, ◌∷◌, get_or, length, ap, arith, ◌∙◌}
+use Rattle.rx_spec.proofs.Prelude.{sym, subst, id_count, closure, fresh, row_at}
 use Rattle.rx_expr.specs.Nfa.{meaning}
 use Rattle.rx_expr.specs.declared.thompson.nfa.NFA.{NFA}
 use Rattle.rx_powerset.specs.Closures.{own_by, branches_by}
@@ -11,13 +9,13 @@ use Rattle.rx_powerset.proofs.StateBounds.{few_more}
 use Rattle.rx_stepper.specs.Stamps.{is_met}
 use Rattle.rx_stepper.specs.ThinRows.{row_of_thin, passing_of}
 use Rattle.rx_stepper.specs.declared.thin_row.ThinRow.{ThinRow}
-use Rattle.rx_stepper.proofs.StampedSearch.{search_from, searched, passed_on, met_now, hand_first, top_in_hand}
-use Rattle.rx_stepper.proofs.StampedSearch.{none_waits, unmet_within, count_new, count_old}
+use Rattle.rx_stepper.proofs.StampedSearch.{searched, passed_on, met_now, hand_first, top_in_hand, none_waits}
+use Rattle.rx_stepper.proofs.StampedSearch.{count_new}
 use Rattle.rx_stepper.proofs.ThinLists.{thin_there}
 use Rattle.rx_stepper.proofs.closures.Closures.search.Goals as goal
 
 pub search-init : goal.search-init
-search-init c = grind (arith, common_steps, search_from, unmet_within)
+search-init c = grind (arith, common_steps)
 
 -- ---- a row that is new
 
@@ -31,12 +29,7 @@ search-smaller-then-is_first c =
     let stack = c.search.self.waiting.items in
     let thin = c.search.self.thin_rows c.in-Some.id in
     let at_id = there c.search.self.thin.items c.as_usize.ensures.value c.index.ensures in
-    let within : c.in-Some.id < length c.search.self.thin.items = omega (
-      arith,
-      c.is_first.ensures.within c.if-is_first.true,
-      c.search.self.thin_len,
-      c.search.self.stamps_len,
-    ) in
+    let within : c.in-Some.id < length c.search.self.thin.items = omega arith in
     let row = thin_there c.search.self.thin.items c.in-Some.id within at_id in
     let behind = c.hand_or_top-next.ensures.order ∙ c.enter-hand.ensures.waiting ∙ ap (λ l. l ++ reverse stack)
     (ap (λ r. branches_by pass (row_of_thin r)) row ∙ thin.branches pass) in
@@ -54,12 +47,7 @@ search-preserved-then-is_first c =
     let id = c.in-Some.id in
     let thin = c.search.self.thin_rows id in
     let at_id = there c.search.self.thin.items c.as_usize.ensures.value c.index.ensures in
-    let within : id < length c.search.self.thin.items = omega (
-      arith,
-      c.is_first.ensures.within c.if-is_first.true,
-      c.search.self.thin_len,
-      c.search.self.stamps_len,
-    ) in
+    let within : id < length c.search.self.thin.items = omega arith in
     let row = thin_there c.search.self.thin.items id within at_id in
     let entered = c.enter-hand.ensures in
     let taken = c.hand_or_top-next.ensures in
@@ -75,10 +63,10 @@ search-preserved-then-is_first c =
           c.if-is_first.true own behind;
       few = few_more id_count _ entered.bound (own_either pass id (row_at (meaning nfa).rows id)) own before.few;
       none = taken.none;
-      stack = omega (arith, before.stack, entered.waiting_len, taken.len, count);
-      listed = omega (arith, before.listed, entered.found_len, count);
-      found_room = omega (arith, before.found_room, entered.found_room);
-      found_grown = omega (arith, before.found_grown, entered.found_room);
+      stack = omega arith;
+      listed = omega arith;
+      found_room = omega arith;
+      found_grown = omega arith;
       nfa = before.nfa;
     }
 
@@ -102,7 +90,6 @@ search-preserved c =
     let stack = c.search.self.waiting.items in
     let rest = c.pop-next.new.self in
     let first = c.is_first.ensures in
-    let count = count_old _ c.is_first.result first.count c.if-is_first.false in
     record {
       search =
           passed_on graph (reverse stack) c.in-Some.id (is_met old.stamps.items old.now)
@@ -110,8 +97,8 @@ search-preserved c =
           c.if-is_first.false (top_in_hand c.pop-next.result rest.items c.pop-next.ensures.items);
       few = before.few;
       none = none_waits c.pop-next.result rest.items _ rest.ok.0 c.pop-next.ensures.cases;
-      stack = omega (arith, before.stack, rest.ok.0, c.search.self.waiting.ok.0, c.pop-next.ensures.len, count);
-      listed = omega (arith, before.listed, count);
+      stack = omega arith;
+      listed = omega arith;
       found_room = before.found_room;
       found_grown = before.found_grown;
       nfa = before.nfa;

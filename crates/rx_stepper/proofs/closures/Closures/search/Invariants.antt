@@ -1,8 +1,6 @@
-use Rattle.std.specs.Prelude.{vec_capacity, IfNone}
-use Rattle.std.proofs.Common.{◌≡◌, ◌+◌, ◌<◌, ◌≤◌, ◌++◌, [], length, sum_by}
+use Rattle.rx_spec.proofs.Prelude.{vec_capacity, ◌≡◌, ◌+◌, ◌<◌, ◌≤◌, ◌++◌, [], length, sum_by, id_count, closure, fresh}
+use Rattle.std.specs.Prelude.{IfNone}
 use Rattle.std.specs.List.{AllByRecursion as Every}
-use Rattle.rx_spec.specs.Causes.{id_count}
-use Rattle.rx_spec.specs.States.{closure, fresh}
 use Rattle.rx_powerset.proofs.Closures.{graph_of, weight_of}
 use Rattle.rx_powerset.proofs.Search.{Searching}
 use Rattle.rx_expr.specs.Nfa.{meaning}

@@ -1,4 +1,4 @@
-use Rattle.std.proofs.Common.{◌∙◌, sym}
+use Rattle.rx_spec.proofs.Prelude.{◌∙◌, sym}
 use Rattle.rx_expr.specs.Nfa.{meaning}
 use Rattle.rx_stepper.proofs.StampedSearch.{itself_there}
 use Rattle.rx_stepper.proofs.ThinLists.{thin_found}

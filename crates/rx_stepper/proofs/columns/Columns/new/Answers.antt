@@ -1,5 +1,4 @@
-use Rattle.std.proofs.Common.{length, ap, sym, ◌∙◌, arith}
-use Rattle.std.proofs.lemmas.List.{length-map}
+use Rattle.rx_spec.proofs.Prelude.{length, ap, sym, ◌∙◌, arith, length-map}
 use Rattle.rx_base.specs.Unit.{unit_number}
 use Rattle.rx_stepper.proofs.UnitCounts.{units_few}
 use Rattle.rx_stepper.proofs.columns.Columns.new.Goals as goal
@@ -8,4 +7,4 @@ pub new-requires : goal.new-requires
 new-requires c =
     let units = c.in_ok-units.units.items in
     let counted = sym (length-map units unit_number) ∙ ap length c.in_ok-units.ensures in
-    omega (arith, ap length c.deref.ensures.value, counted, units_few c.args.classes.now)
+    omega (arith, units_few c.args.classes.now)

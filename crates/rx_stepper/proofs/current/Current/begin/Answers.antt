@@ -1,21 +1,18 @@
-use Rattle.std.proofs.Common.{arith, ◌++◌, List, ℕ, map, ap₂, ◌∙◌, subst}
-use Rattle.std.proofs.lemmas.Grind.{common_steps}
-use Rattle.rx_spec.specs.Contexts.{Facts}
+use Rattle.rx_spec.proofs.Prelude.{arith, ◌++◌, List, ℕ, map, ap₂, ◌∙◌, subst, common_steps, Facts}
 use Rattle.rx_stepper.specs.Keys.{own_of}
 use Rattle.rx_stepper.specs.Steps.{AreSteps, rows_in}
 use Rattle.rx_stepper.proofs.GroupLoop.{stand}
-use Rattle.rx_stepper.proofs.KeyLaws.{rows_tested}
-use Rattle.rx_stepper.proofs.Results.{on_ok, on_ok-map}
+use Rattle.rx_stepper.proofs.Results.{on_ok-map}
 use Rattle.rx_stepper.proofs.current.Current.begin.Goals as goal
 
 pub push_rows-requires : goal.push_rows-requires
-push_rows-requires c = grind (arith, common_steps, rows_tested)
+push_rows-requires c = grind (arith, common_steps)
 
 pub find-requires-clause-closed : goal.find-requires-clause-closed
 find-requires-clause-closed c = grind (arith, common_steps)
 
 pub returns-clause-led_in : goal.returns-clause-led_in
-returns-clause-led_in c = grind (arith, common_steps, on_ok)
+returns-clause-led_in c = grind (arith, common_steps)
 
 pub returns-clause-steps : goal.returns-clause-steps
 returns-clause-steps c =

@@ -1,8 +1,5 @@
-use Rattle.std.proofs.Common.{◌≡◌, ◌+◌, ◌<◌, [], ◌∷◌, ℕ, List, length, map, get_or, set, true, false, sym, subst, arith}
-use Rattle.std.proofs.Common.{rules}
-use Rattle.std.proofs.lemmas.List.{get_or-set_same}
-use Rattle.std.proofs.lemmas.List.Elements.{All-append, All-cons, All-nil}
-use Rattle.std.specs.Prelude.{All, slice_index}
+use Rattle.rx_spec.proofs.Prelude.{◌≡◌, ◌+◌, ◌<◌, [], ◌∷◌, ℕ, List, length, map, get_or, set, true, false, sym, subst}
+use Rattle.rx_spec.proofs.Prelude.{arith, rules, get_or-set_same, All-append, All-cons, All-nil, All, slice_index}
 use Rattle.rx_base.specs.Unit.{unit_number}
 use Rattle.rx_expr.specs.Nfa.{meaning}
 use Rattle.rx_stepper.specs.Columns.{IsGroup}
@@ -28,10 +25,10 @@ loop-unit-preserved c =
     bits.value bits.back in
     let place = before.len in
     let used_len = before.used_len in
-    let set_here = get_or-set_same used group true false (omega (arith, bits.bound)) in
+    let set_here = get_or-set_same used group true false (omega arith) in
     let Marked = λ (k v : ℕ). get_or (set used group true) v false ≡ true in
     let still =
-    λ (k : ℕ) (h : k < i). still_marked used group (get_or of k 0) (omega (arith, bits.bound)) (before.used k h) in
+    λ (k : ℕ) (h : k < i). still_marked used group (get_or of k 0) (omega arith) (before.used k h) in
     let Each = λ (l : List ℕ). (k : ℕ) → k < i + 1 → IsGroup nfa (slice_index units k) (get_or l k 0) in
     let Used = λ (l : List ℕ). (k : ℕ) → k < i + 1 → get_or (set used group true) (get_or l k 0) false ≡ true in
     record {

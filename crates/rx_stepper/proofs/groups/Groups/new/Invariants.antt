@@ -1,5 +1,4 @@
-use Rattle.std.proofs.Common.{◌≡◌, ◌<◌, ℕ, length, map, get_or, true, false}
-use Rattle.std.specs.Prelude.{All}
+use Rattle.rx_spec.proofs.Prelude.{◌≡◌, ◌<◌, ℕ, length, map, get_or, true, false, All}
 use Rattle.rx_base.specs.Unit.{unit_number}
 use Rattle.rx_expr.specs.Nfa.{meaning}
 use Rattle.rx_stepper.specs.Columns.{IsGroup}

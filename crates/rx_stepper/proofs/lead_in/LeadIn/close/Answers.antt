@@ -1,13 +1,12 @@
-use Rattle.std.proofs.lemmas.Grind.{common_steps}
-use Rattle.std.proofs.Common.{◌≡◌, ◌++◌, List, ℕ, true, take, drop, ap, sym, ◌∙◌, subst, arith, length-take}
+use Rattle.rx_spec.proofs.Prelude.{common_steps, ◌≡◌, ◌++◌, List, ℕ, true, take, drop, ap, sym, ◌∙◌, subst, arith}
+use Rattle.rx_spec.proofs.Prelude.{firsts}
 use Rattle.std.proofs.Common.{take-append-drop}
-use Rattle.rx_spec.specs.States.{firsts}
 use Rattle.lemmas_walks.proofs.Firsts.{Apart}
 use Rattle.rx_expr.specs.Nfa.{meaning}
 use Rattle.rx_stepper.specs.Leads.{IsLeast, led, written_as}
 use Rattle.rx_stepper.proofs.Decisions.{firsts_twice}
 use Rattle.rx_stepper.proofs.KeyLaws.{once_apart}
-use Rattle.rx_stepper.proofs.LeadClosing.{Starts, every_all, every_take, lead_alone, met_alike, written_led}
+use Rattle.rx_stepper.proofs.LeadClosing.{Starts, every_all, lead_alone, met_alike, written_led}
 use Rattle.rx_stepper.proofs.Members.{apart_front, was}
 use Rattle.rx_stepper.proofs.lead_in.LeadIn.close.Goals as goal
 
@@ -46,16 +45,16 @@ returns-in-Some-clause-rows c =
     ∙ ap (written_as true) (sym c.truncate.ensures.items)
 
 pub returns-in-Some-clause-ids : goal.returns-in-Some-clause-ids
-returns-in-Some-clause-ids c = grind (arith, common_steps, every_take)
+returns-in-Some-clause-ids c = grind (arith, common_steps)
 
 pub split-requires : goal.split-requires
-split-requires c = grind (arith, common_steps, every_all, was, lead_alone)
+split-requires c = grind (arith, common_steps, every_all, lead_alone)
 
 pub returns-clause-rows : goal.returns-clause-rows
 returns-clause-rows c = grind (arith, common_steps)
 
 pub returns-clause-few : goal.returns-clause-few
-returns-clause-few c = grind (arith, common_steps, length-take)
+returns-clause-few c = grind (arith, common_steps)
 
 pub returns-clause-ids : goal.returns-clause-ids
-returns-clause-ids c = grind (arith, common_steps, every_take)
+returns-clause-ids c = grind (arith, common_steps)

@@ -1,5 +1,4 @@
-use Rattle.std.proofs.Common.{◌≡◌, ◌≤◌, length, drop}
-use Rattle.std.specs.Str.{bytes_eq}
+use Rattle.rx_spec.proofs.Prelude.{◌≡◌, ◌≤◌, length, drop, bytes_eq}
 use Rattle.rx_stepper.specs.Leads.{without}
 use Rattle.rx_stepper.proofs.lead_in.LeadIn.follows.Given as goal
 

@@ -1,5 +1,4 @@
-use Rattle.std.proofs.lemmas.Grind.{common_steps}
-use Rattle.std.proofs.Common.{arith}
+use Rattle.rx_spec.proofs.Prelude.{common_steps, arith}
 use Rattle.rx_stepper.proofs.LeadPlaces.{has_place}
 use Rattle.rx_stepper.proofs.lead_in.LeadIn.has.Goals as goal
 

@@ -1,4 +1,4 @@
-use Rattle.std.proofs.Common.{◌<◌, get_or, length, ap, sym, ◌∙◌, subst, arith}
+use Rattle.rx_spec.proofs.Prelude.{◌<◌, get_or, length, ap, sym, ◌∙◌, subst, arith}
 use Rattle.rx_stepper.specs.Places.{AreMetTo}
 use Rattle.rx_stepper.specs.Stamps.{is_met}
 use Rattle.rx_stepper.proofs.LeadPlaces.{met_all, met_more, met_to}
@@ -29,6 +29,6 @@ returns c =
     let rows = c.args.self.now.rows in
     let stamps = c.args.closures.now.stamps in
     let met = is_met stamps.stamps.items stamps.now in
-    subst (AreMetTo met rows.items) (omega (arith, c.len.ensures, rows.len))
+    subst (AreMetTo met rows.items) (omega arith)
     (met_all met rows.items c.loop-place.invariant
-    (omega (arith, c.loop-place-test.false, ap length c.deref-row-items.ensures.value)))
+    (omega arith))

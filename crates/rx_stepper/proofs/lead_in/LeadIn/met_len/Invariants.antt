@@ -1,5 +1,4 @@
-use Rattle.std.proofs.Common.{◌≡◌, ◌<◌, ℕ, true}
-use Rattle.std.specs.Prelude.{Some, slice_get}
+use Rattle.rx_spec.proofs.Prelude.{◌≡◌, ◌<◌, ℕ, true, Some, slice_get}
 use Rattle.rx_stepper.specs.Stamps.{is_met}
 use Rattle.rx_stepper.proofs.lead_in.LeadIn.met_len.Given as goal
 

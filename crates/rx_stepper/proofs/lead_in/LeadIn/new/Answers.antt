@@ -1,7 +1,5 @@
-use Rattle.std.proofs.lemmas.Grind.{common_steps}
-use Rattle.std.proofs.Common.{◌≡◌, ◌<◌, List, ℕ, length, ap, sym, ◌∙◌, subst, arith}
+use Rattle.rx_spec.proofs.Prelude.{common_steps, ◌≡◌, ◌<◌, List, ℕ, length, ap, sym, ◌∙◌, subst, arith, firsts}
 use Rattle.std.specs.List.{AllByRecursion as Every}
-use Rattle.rx_spec.specs.States.{firsts}
 use Rattle.rx_expr.specs.Nfa.{meaning}
 use Rattle.rx_expr.specs.declared.thompson.nfa.NFA.{NFA}
 use Rattle.rx_stepper.specs.Places.{ArePlaces}
@@ -12,19 +10,15 @@ pub places_of-requires : goal.places_of-requires
 places_of-requires c =
     let nfa = meaning c.args.closures.now.nfa.now in
     let listed = c.deref.ensures.value ∙ c.list_lead_in.ensures.rows in
-    let thin = c.list_lead_in.new.closures in
     let len : length nfa.rows ≡ c.len.result = omega (
       arith,
-      c.len.ensures,
-      thin.thin.ok.0,
-      thin.thin_len,
       ap (λ (n : NFA). length (meaning n).rows) c.list_lead_in.ensures.nfa,
     ) in
     record {
       within = subst (λ n. Every (λ q. q < n) c.deref.result.now) len
           (subst (Every (λ q. q < length nfa.rows)) (sym listed) (lead_within nfa));
       once = subst (λ (l : List ℕ). firsts l ≡ l) (sym listed) (lead_once nfa);
-      few = omega (arith, ap length c.deref.ensures.value, c.list_lead_in.ensures.few);
+      few = omega arith;
     }
 
 pub invariant_of-result : goal.invariant_of-result
@@ -37,7 +31,7 @@ invariant_of-result c =
           subst (λ l. ArePlaces l c.in_ok-places_of.field-0.items) (c.deref.ensures.value ∙ sym same)
           c.in_ok-places_of.ensures;
       once = subst (λ (l : List ℕ). firsts l ≡ l) (sym (same ∙ c.list_lead_in.ensures.rows)) (lead_once nfa);
-      few = omega (arith, ap length same, c.list_lead_in.ensures.few);
+      few = omega (arith, ap length same);
     }
 
 pub returns-clause-is : goal.returns-clause-is

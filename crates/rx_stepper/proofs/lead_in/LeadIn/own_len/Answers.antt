@@ -1,9 +1,7 @@
-use Rattle.std.proofs.lemmas.Grind.{common_steps}
-use Rattle.std.proofs.Common.{ℕ, ◌-◌, ◌<◌, ◌≤◌, ap, subst, sym, ◌∙◌, arith}
-use Rattle.std.specs.Prelude.{slice_index_or}
+use Rattle.rx_spec.proofs.Prelude.{common_steps, ℕ, ◌-◌, ◌<◌, ◌≤◌, ap, subst, sym, ◌∙◌, arith, slice_index_or}
 use Rattle.rx_stepper.specs.Places.{no_place}
 use Rattle.rx_stepper.proofs.KeyLaws.{once_apart}
-use Rattle.rx_stepper.proofs.LeadPlaces.{Trimmed, last_row, least_none, trimmed_least, trimmed_more, trimmed_none}
+use Rattle.rx_stepper.proofs.LeadPlaces.{Trimmed, last_row, trimmed_least, trimmed_more, trimmed_none}
 use Rattle.rx_stepper.proofs.lead_in.LeadIn.own_len.Goals as goal
 
 pub loop-len-init : goal.loop-len-init
@@ -40,4 +38,4 @@ returns-then-place-met c =
     }
 
 pub returns : goal.returns
-returns c = grind (arith, common_steps, least_none)
+returns c = grind (arith, common_steps)

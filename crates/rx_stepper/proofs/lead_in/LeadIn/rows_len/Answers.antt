@@ -1,5 +1,4 @@
-use Rattle.std.proofs.Common.{ℕ, length, slice_index, ap, sym, ◌∙◌, arith}
-use Rattle.std.proofs.lemmas.List.{get_or_default}
+use Rattle.rx_spec.proofs.Prelude.{ℕ, length, slice_index, ap, sym, ◌∙◌, arith, get_or_default}
 use Rattle.rx_base.specs.FactBits.{bit}
 use Rattle.rx_stepper.specs.Leads.{rows_by}
 use Rattle.rx_stepper.proofs.KeyLaws.{once_apart}
@@ -31,9 +30,9 @@ loop-row-preserved c =
           let left =
           shared_left lead own c.loop-row.row-index (once_apart own c.requires.once) (once_apart lead self.once)
           c.loop-row-test.true is one c.loop-row.invariant in
-          omega (arith, w.others-is, c.loop-row.invariant, more, ap bit one, left)
+          omega (arith, ap bit one)
       | else-has w ↦
-          omega (arith, w.others-is, c.loop-row.invariant, more, ap bit (sym c.has.ensures ∙ w.if-has.false))
+          omega (arith, ap bit (sym c.has.ensures ∙ w.if-has.false))
     ]
 
 pub returns : goal.returns
@@ -42,5 +41,5 @@ returns c =
     let lead = self.rows.items in
     let own = c.args.own.now in
     shared_all lead own c.loop-row.row-index c.loop-row.others (once_apart own c.requires.once)
-    (once_apart lead self.once) (omega (arith, c.loop-row-test.false)) c.loop-row.invariant
+    (once_apart lead self.once) (omega arith) c.loop-row.invariant
     ∙ ap (λ b. length (rows_by lead b own)) (sym c.if-not-is_led.false)

@@ -1,4 +1,4 @@
-use Rattle.std.proofs.Common.{◌≡◌, ◌+◌, length, take, sum_by}
+use Rattle.rx_spec.proofs.Prelude.{◌≡◌, ◌+◌, length, take, sum_by}
 use Rattle.rx_stepper.proofs.Members.{was}
 use Rattle.rx_base.specs.FactBits.{bit}
 use Rattle.rx_stepper.proofs.lead_in.LeadIn.rows_len.Given as goal

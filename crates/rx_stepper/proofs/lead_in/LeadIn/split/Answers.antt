@@ -1,15 +1,14 @@
-use Rattle.std.proofs.Common.{arith, ◌≡◌, ◌-◌, List, ℕ, [], true, length, sym, ◌∙◌, subst}
-use Rattle.std.proofs.lemmas.Grind.{common_steps}
-use Rattle.std.specs.Prelude.{Some, slice_get}
+use Rattle.rx_spec.proofs.Prelude.{arith, ◌≡◌, ◌-◌, List, ℕ, [], true, length, sym, ◌∙◌, subst, common_steps, Some}
+use Rattle.rx_spec.proofs.Prelude.{slice_get}
 use Rattle.rx_stepper.specs.Stamps.{is_met}
 use Rattle.rx_stepper.proofs.LeadPlaces.{at_in}
-use Rattle.rx_stepper.proofs.LeadSplits.{every_in, written_none, written_split}
+use Rattle.rx_stepper.proofs.LeadSplits.{every_in}
 use Rattle.rx_stepper.proofs.Members.{was}
 use Rattle.rx_stepper.proofs.WrittenRows.{written_missing}
 use Rattle.rx_stepper.proofs.lead_in.LeadIn.split.Goals as goal
 
 pub returns-in-None-clause-rows : goal.returns-in-None-clause-rows
-returns-in-None-clause-rows c = grind (arith, common_steps, written_none)
+returns-in-None-clause-rows c = grind (arith, common_steps)
 
 pub returns-then-not-is_met-clause-rows : goal.returns-then-not-is_met-clause-rows
 returns-then-not-is_met-clause-rows c =
@@ -24,7 +23,7 @@ returns-then-not-is_met-clause-rows c =
     written_missing lead own q member (sym met ∙ sym c.is_met.ensures ∙ c.if-not-is_met.true)
 
 pub returns-in-Some-split_len-clause-rows : goal.returns-in-Some-split_len-clause-rows
-returns-in-Some-split_len-clause-rows c = grind (arith, common_steps, written_split)
+returns-in-Some-split_len-clause-rows c = grind (arith, common_steps)
 
 pub returns-in-None-split_len-clause-rows : goal.returns-in-None-split_len-clause-rows
-returns-in-None-split_len-clause-rows c = grind (arith, common_steps, written_split)
+returns-in-None-split_len-clause-rows c = grind (arith, common_steps)

@@ -1,8 +1,5 @@
-use Rattle.std.proofs.Common.{arith, ◌==◌, ◌&&◌, not, if◌then◌else◌, List, ℕ, ◌∷◌, ◌++◌, length, ap, ap₂, sym, ◌∙◌}
-use Rattle.std.proofs.lemmas.Grind.{common_steps}
-use Rattle.std.proofs.lemmas.List.Elements.{recursion_from_All}
-use Rattle.std.specs.List.{list_any}
-use Rattle.rx_spec.specs.States.{is_look_row, row_at}
+use Rattle.rx_spec.proofs.Prelude.{arith, ◌==◌, ◌&&◌, not, if◌then◌else◌, List, ℕ, ◌∷◌, ◌++◌, length, ap, ap₂, sym, ◌∙◌}
+use Rattle.rx_spec.proofs.Prelude.{common_steps, recursion_from_All, list_any, is_look_row, row_at}
 use Rattle.rx_base.specs.FactBits.{bit, facts_with}
 use Rattle.rx_expr.specs.Nfa.{meaning}
 use Rattle.rx_expr.specs.declared.thompson.nfa.NFA.{NFA}

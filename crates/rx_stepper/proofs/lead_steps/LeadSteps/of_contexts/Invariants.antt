@@ -1,5 +1,4 @@
-use Rattle.std.proofs.Common.{◌≡◌, length, false}
-use Rattle.std.specs.Prelude.{All}
+use Rattle.rx_spec.proofs.Prelude.{◌≡◌, length, false, All}
 use Rattle.rx_stepper.proofs.lead_steps.LeadSteps.of_contexts.Given as goal
 
 abbrev pub invariant-loop-context : goal.invariant-loop-context

@@ -1,4 +1,4 @@
-use Rattle.std.proofs.Common.{◌≡◌, [], replicate}
+use Rattle.rx_spec.proofs.Prelude.{◌≡◌, [], replicate}
 use Rattle.std.proofs.lemmas.List.Elements.{All-same, All-replicate}
 use Rattle.rx_stepper.specs.ListedSets.{IsListed}
 use Rattle.rx_stepper.specs.declared.listed_sets.ListedSet.{ListedSet}

@@ -1,7 +1,4 @@
-use Rattle.std.proofs.Common.{◌<◌, length, map, arith, sym, ap, subst}
-use Rattle.std.specs.Prelude.{All}
-use Rattle.std.proofs.lemmas.List.{length-map}
-use Rattle.std.proofs.lemmas.List.Elements.{All-nil}
+use Rattle.rx_spec.proofs.Prelude.{◌<◌, length, map, arith, sym, ap, subst, All, length-map, All-nil}
 use Rattle.rx_base.specs.Unit.{unit_number}
 use Rattle.rx_expr.specs.Nfa.{row_of}
 use Rattle.rx_stepper.specs.ListedSets.{AreListed}

@@ -1,5 +1,4 @@
-use Rattle.std.proofs.Common.{◌<◌, length, map}
-use Rattle.std.specs.Prelude.{All}
+use Rattle.rx_spec.proofs.Prelude.{◌<◌, length, map, All}
 use Rattle.rx_base.specs.Unit.{unit_number}
 use Rattle.rx_expr.specs.Nfa.{meaning}
 use Rattle.rx_stepper.specs.ListedSets.{AreListed}

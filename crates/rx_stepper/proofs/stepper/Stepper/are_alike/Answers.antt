@@ -1,7 +1,5 @@
-use Rattle.std.proofs.lemmas.Grind.{common_steps}
-use Rattle.std.proofs.Common.{◌≡◌, ◌<◌, ◌++◌, ◌⊎◌, List, ℕ, [], false, None, Some, length, refl, ap, ap₂, sym, ◌∙◌}
-use Rattle.std.proofs.Common.{subst, arith}
-use Rattle.std.specs.Prelude.{IfSome, slice_index}
+use Rattle.rx_spec.proofs.Prelude.{common_steps, ◌≡◌, ◌<◌, ◌++◌, ◌⊎◌, List, ℕ, [], false, None, Some, length, refl, ap}
+use Rattle.rx_spec.proofs.Prelude.{ap₂, sym, ◌∙◌, subst, arith, IfSome, slice_index}
 use Rattle.rx_stepper.specs.Gathering.{Follows, matches_in, targets_in}
 use Rattle.rx_stepper.specs.Steppers.{stepping_of}
 use Rattle.rx_stepper.specs.Steps.{goes_on}
@@ -15,11 +13,11 @@ use Rattle.rx_stepper.proofs.stepper.Stepper.are_alike.Goals as goal
 -- both columns have a unit
 column_in : (c : Start) → c.args.column < length (units_of c.args.self.now.classes)
 unfolding stepping_of
-column_in c = omega (arith, c.requires.column, c.args.self.now.fits.counted)
+column_in c = omega arith
 
 other_in : (c : Start) → c.args.other < length (units_of c.args.self.now.classes)
 unfolding stepping_of
-other_in c = omega (arith, c.requires.other, c.args.self.now.fits.counted)
+other_in c = omega arith
 
 -- they are of one group, and its own rows lead to the same rows
 same_group : (c : Else-not-are_equal) → slice_index c.args.self.now.columns.groups.of.items c.args.column
@@ -33,7 +31,7 @@ same_own c =
     let steps = self.current.steps in
     let start = (goal.at.Else-not-are_equal c).Start in
     let here = list_there (λ v. v.items) steps.targets.items c.args.column c.index.result.now
-    (omega (arith, column_in start, self.fits_current.columns)) c.index.ensures in
+    (omega (arith, column_in start)) c.index.ensures in
     let there = list_there (λ v. v.items) steps.targets.items c.args.other c.index-2.result.now
     (omega (arith, other_in start, self.fits_current.columns)) c.index-2.ensures in
     here ∙ sym c.deref.ensures.value ∙ c.if-not-are_equal.ensures refl ∙ c.deref-2.ensures.value ∙ sym there
@@ -73,9 +71,9 @@ returns-in-Some c = λ equal.
     let lead = c.in-Some.lead in
     let len = lead_columns before.In-Some in
     let mine = list_there (λ v. v.items) lead.now.targets.items c.args.column c.index-in-Some.result.now
-    (omega (arith, column_in before.Start, len)) c.index-in-Some.ensures in
+    (omega arith) c.index-in-Some.ensures in
     let its = list_there (λ v. v.items) lead.now.targets.items c.args.other c.index-in-Some-2.result.now
-    (omega (arith, other_in before.Start, len)) c.index-in-Some-2.ensures in
+    (omega arith) c.index-in-Some-2.ensures in
     let theirs =
     mine ∙ sym c.deref-in-Some.ensures.value ∙ c.are_equal-in-Some.ensures equal ∙ c.deref-in-Some-2.ensures.value
     ∙ sym its in

@@ -1,8 +1,7 @@
-use Rattle.std.proofs.Common.{◌≡◌, true, length, ap, sym, ◌∙◌, subst, arith}
-use Rattle.rx_spec.specs.Nfas.{Nfa}
+use Rattle.rx_spec.proofs.Prelude.{common_steps, ◌≡◌, true, ap, sym, ◌∙◌, subst, arith, Nfa}
 use Rattle.rx_expr.specs.Nfa.{meaning}
 use Rattle.rx_expr.specs.declared.thompson.nfa.NFA.{NFA}
-use Rattle.rx_stepper.specs.Fits.{Fits, FitsCurrent, FitsLead, table_of}
+use Rattle.rx_stepper.specs.Fits.{table_of}
 use Rattle.rx_stepper.specs.Keys.{are_closed, own_of}
 use Rattle.rx_stepper.specs.Leads.{lead_of}
 use Rattle.rx_stepper.specs.Steppers.{stepping_of}
@@ -50,12 +49,7 @@ invariant_of-self c =
     (begun.columns ∙ self.fits_current.columns) c.in-Ok.ensures.key
     (c.in-Ok.ensures.steps (units_of self.classes) self.fits.reads self.fits.groups) c.in-Ok.ensures.led_in
     c.in_ok-find_lead.ensures.found in
-    record {
-      fits = subst (λ (n : NFA). Fits (meaning n) self.classes self.columns) e self.fits;
-      fits_lead = subst (λ (n : NFA). FitsLead (table n) self.lead_in self.leads.items) e self.fits_lead;
-      fits_current = subst (λ (n : NFA). FitsCurrent (table n) self.leads.items new) e current;
-      room = omega (arith, self.room, begun.room, ap (λ (n : NFA). length (meaning n).rows) e);
-    }
+    grind (arith, common_steps)
 
 pub invariant_of-self-in-Err : goal.invariant_of-self-in-Err
 invariant_of-self-in-Err c =
@@ -68,9 +62,4 @@ invariant_of-self-in-Err c =
     let current = dead_current (table self.closures.nfa.now) self.leads.items new
     (forgot.columns ∙ begun.columns ∙ self.fits_current.columns) forgot.key forgot.targets forgot.matches
     forgot.led_in in
-    record {
-      fits = subst (λ (n : NFA). Fits (meaning n) self.classes self.columns) e self.fits;
-      fits_lead = subst (λ (n : NFA). FitsLead (table n) self.lead_in self.leads.items) e self.fits_lead;
-      fits_current = subst (λ (n : NFA). FitsCurrent (table n) self.leads.items new) e current;
-      room = omega (arith, self.room, begun.room, ap (λ (n : NFA). length (meaning n).rows) e);
-    }
+    grind (arith, common_steps)

@@ -1,5 +1,4 @@
-use Rattle.std.proofs.Common.{◌≡◌, ◌<◌, List, ℕ, true, length, map, set, ap, sym, ◌∙◌, subst, arith}
-use Rattle.rx_spec.specs.Contexts.{Facts}
+use Rattle.rx_spec.proofs.Prelude.{◌≡◌, ◌<◌, List, ℕ, true, length, map, set, ap, sym, ◌∙◌, subst, arith, Facts}
 use Rattle.rx_base.specs.FactBits.{bits_of}
 use Rattle.rx_expr.specs.Nfa.{meaning}
 use Rattle.rx_expr.specs.declared.thompson.nfa.NFA.{NFA}
@@ -26,7 +25,7 @@ pub find-requires-clause-reading : goal.find-requires-clause-reading
 find-requires-clause-reading c =
     let self = c.args.self.now in
     let i = c.to_bits.result in
-    let within : i < length self.leads.items = omega (arith, c.to_bits.ensures.bound, self.fits_lead.len) in
+    let within : i < length self.leads.items = omega arith in
     let there = at_or self.leads.items i within c.index_mut.ensures.value in
     self.fits.count ∙ sym (self.fits_lead.columns i c.index_mut.result.now there)
 
@@ -34,7 +33,7 @@ pub find-requires-clause-groups : goal.find-requires-clause-groups
 find-requires-clause-groups c =
     let self = c.args.self.now in
     let i = c.to_bits.result in
-    let within : i < length self.leads.items = omega (arith, c.to_bits.ensures.bound, self.fits_lead.len) in
+    let within : i < length self.leads.items = omega arith in
     let there = at_or self.leads.items i within c.index_mut.ensures.value in
     self.fits.groups.len ∙ sym (self.fits_lead.columns i c.index_mut.result.now there)
 
@@ -45,7 +44,7 @@ invariant_of-self-2 c =
     let i = c.to_bits.result in
     let old = c.index_mut.result.now in
     let new = c.find.new.self in
-    let within : i < length self.leads.items = omega (arith, c.to_bits.ensures.bound, self.fits_lead.len) in
+    let within : i < length self.leads.items = omega arith in
     let there = at_or self.leads.items i within c.index_mut.ensures.value in
     let table = λ (n : NFA). table_of (meaning n) self.kind self.classes self.columns in
     let units = units_of self.classes in
@@ -79,7 +78,7 @@ invariant_of-self-2 c =
       fits_current =
           subst (λ (n : NFA). FitsCurrent (table n) (set self.leads.items i new) self.current) e
           (current_set finds there self.fits_current);
-      room = omega (arith, self.room, c.find.ensures.room, ap (λ (n : NFA). length (meaning n).rows) e);
+      room = omega (arith, ap (λ (n : NFA). length (meaning n).rows) e);
     }
 
 pub returns-clause-found : goal.returns-clause-found
@@ -87,7 +86,7 @@ unfolding stepping_of
 returns-clause-found c =
     let self = c.args.self.now in
     let i = c.to_bits.result in
-    let within : i < length self.leads.items = omega (arith, c.to_bits.ensures.bound, self.fits_lead.len) in
+    let within : i < length self.leads.items = omega arith in
     let same = sym (c.to_bits.ensures.value ∙ ap bits_of c.context_of-last.ensures) in
     on_ok-map c.find.result (λ found led l e. found_there self.leads.items i c.find.new.self within found same l e)
     c.find.ensures.found

@@ -1,6 +1,4 @@
-use Rattle.std.proofs.Common.{◌≡◌, ◌<◌, [], length, sym, ap, ◌∙◌, arith}
-use Rattle.std.proofs.lemmas.Bool.{not-false}
-use Rattle.std.specs.Prelude.{slice_index}
+use Rattle.rx_spec.proofs.Prelude.{◌≡◌, ◌<◌, [], length, sym, ap, ◌∙◌, arith, not-false, slice_index}
 use Rattle.rx_stepper.specs.Gathering.{matches_in, targets_in}
 use Rattle.rx_stepper.specs.Steppers.{stepping_of}
 use Rattle.rx_stepper.specs.Units.{units_of}
@@ -14,22 +12,16 @@ returns c = λ is_empty.
     let self = c.args.self.now in
     let own = self.current.steps in
     let group = c.of-group.ensures in
-    let within : c.args.column < length (units_of self.classes) = omega (arith, c.requires, self.fits.counted) in
+    let within : c.args.column < length (units_of self.classes) = omega arith in
     let list = c.index.result.now in
     let targets : targets_in own c.args.column ≡ [] =
-    empty_there (λ v. v.items) own.targets.items c.args.column list (omega (
-      arith,
-      within,
-      self.fits_current.columns,
-    )) c.index.ensures list.ok.0 c.is_empty.ensures c.if-not-is_empty.false in
+    empty_there (λ v. v.items) own.targets.items c.args.column list (omega arith) c.index.ensures list.ok.0
+    c.is_empty.ensures c.if-not-is_empty.false in
     let last = c.index-2.result.now in
     let matches : matches_in own (slice_index self.columns.groups.of.items c.args.column) ≡ [] =
     ap (matches_in own) (sym group.value)
-    ∙ empty_there (λ v. v.items) own.matches.items c.of-group.result last (omega (
-      arith,
-      own.matches_len,
-      group.bound,
-    )) c.index-2.ensures last.ok.0 c.is_empty-2.ensures (not-false c.is_empty-2.result is_empty) in
+    ∙ empty_there (λ v. v.items) own.matches.items c.of-group.result last (omega arith) c.index-2.ensures last.ok.0
+    c.is_empty-2.ensures (not-false c.is_empty-2.result is_empty) in
     alone self.fits.groups self.fits_lead self.fits_current within targets matches
 
 -- none of the rows matches before any unit
@@ -38,13 +30,10 @@ unfolding stepping_of
 returns-then-not-own c = λ e.
     let self = c.args.self.now in
     let own = self.current.steps in
-    let within : c.args.column < length (units_of self.classes) = omega (arith, c.requires, self.fits.counted) in
+    let within : c.args.column < length (units_of self.classes) = omega arith in
     let list = c.index.result.now in
     let targets : targets_in own c.args.column ≡ [] =
-    empty_there (λ v. v.items) own.targets.items c.args.column list (omega (
-      arith,
-      within,
-      self.fits_current.columns,
-    )) c.index.ensures list.ok.0 c.is_empty.ensures c.if-not-is_empty.false in
+    empty_there (λ v. v.items) own.targets.items c.args.column list (omega arith) c.index.ensures list.ok.0
+    c.is_empty.ensures c.if-not-is_empty.false in
     alone self.fits.groups self.fits_lead self.fits_current within targets
     (own.no_matches c.if-not-own.true (slice_index self.columns.groups.of.items c.args.column))

@@ -1,9 +1,7 @@
-use Rattle.std.proofs.Common.{rules, ◌≡◌, length, refl, ap, sym, ◌∙◌, subst, arith}
-use Rattle.std.proofs.lemmas.List.{length-map}
-use Rattle.std.specs.Prelude.{All}
-use Rattle.rx_expr.specs.Nfa.{meaning, row_of}
+use Rattle.rx_spec.proofs.Prelude.{common_steps, rules, ◌≡◌, length, refl, sym, ◌∙◌, subst, arith, All}
+use Rattle.rx_expr.specs.Nfa.{meaning}
 use Rattle.rx_expr.specs.declared.thompson.nfa.NFA.{NFA}
-use Rattle.rx_stepper.specs.Fits.{Fits, FitsCurrent, FitsLead, table_of}
+use Rattle.rx_stepper.specs.Fits.{Fits, table_of}
 use Rattle.rx_stepper.specs.LeadIns.{IsLeadIn}
 use Rattle.rx_stepper.specs.Leads.{lead_of}
 use Rattle.rx_stepper.specs.Steppers.{stepping_of}
@@ -21,8 +19,6 @@ invariant_of-result c =
     let current = c.in_ok-current.ensures in
     let counted = units_counted classes c.alphabet_len-width.ensures.classes in
     let width = c.alphabet_len-width.ensures.value ∙ sym counted in
-    let same = c.in_ok-lead_in.ensures.nfa ∙ c.in_ok-closures.ensures in
-    let rows = ap length c.rows.ensures in
     let is = subst (λ (n : NFA). IsLeadIn (meaning n) c.in_ok-lead_in.lead_in) c.in_ok-closures.ensures
     c.in_ok-lead_in.ensures.is in
     let table = λ (n : NFA). table_of (meaning n) c.args.kind classes columns in
@@ -37,19 +33,7 @@ invariant_of-result c =
     c.in_ok-leads.ensures.none in
     let fits_current = dead_current (table nfa) leads c.in_ok-current.current (current.columns ∙ width) current.key
     current.targets current.matches current.led_in in
-    record {
-      fits = subst (λ (n : NFA). Fits (meaning n) classes columns) (sym same) fits;
-      fits_lead = subst (λ (n : NFA). FitsLead (table n) c.in_ok-lead_in.lead_in leads) (sym same) fits_lead;
-      fits_current = subst (λ (n : NFA). FitsCurrent (table n) leads c.in_ok-current.current) (sym same) fits_current;
-      room = omega (
-        arith,
-        c.in_ok-reached.ensures.exact,
-        c.in_ok-lead_in.ensures.room,
-        rows,
-        length-map c.rows.result.now row_of,
-        ap (λ (n : NFA). length (meaning n).rows) same,
-      );
-    }
+    grind (arith, common_steps)
 
 pub returns-clause-spells : goal.returns-clause-spells
 unfolding stepping_of

@@ -1,7 +1,5 @@
-use Rattle.std.proofs.Common.{◌<◌, ◌^◌, ◌++◌, ℕ, List, length, ap, sym, ◌∙◌, subst, arith}
-use Rattle.std.specs.Option.{option_copied}
-use Rattle.std.specs.Prelude.{IfSome}
-use Rattle.rx_spec.specs.Builds.{is_dead_state}
+use Rattle.rx_spec.proofs.Prelude.{◌<◌, ◌^◌, ◌++◌, ℕ, List, length, ap, sym, ◌∙◌, subst, arith, option_copied, IfSome}
+use Rattle.rx_spec.proofs.Prelude.{is_dead_state}
 use Rattle.rx_base.specs.FactBits.{bits_of, facts_with}
 use Rattle.rx_expr.specs.Nfa.{meaning}
 use Rattle.rx_expr.specs.declared.thompson.nfa.NFA.{NFA}
@@ -18,7 +16,7 @@ use Rattle.rx_stepper.proofs.stepper.Stepper.next.Goals as goal
 
 within : (c : Start) → c.args.column < length (units_of c.args.self.now.classes)
 unfolding stepping_of
-within c = omega (arith, c.requires, c.args.self.now.fits.counted)
+within c = omega arith
 
 abbrev table : (c : Start) → Table
 table c =
@@ -80,7 +78,7 @@ invariant_of-self-2 c =
       fits = subst (λ (n : NFA). Fits (meaning n) self.classes self.columns) e self.fits;
       fits_lead = subst (λ (n : NFA). FitsLead (table n) self.lead_in self.leads.items) e self.fits_lead;
       fits_current = subst (λ (n : NFA). FitsCurrent (table n) self.leads.items self.current) e self.fits_current;
-      room = omega (arith, self.room, c.write_key.ensures.room, ap (λ (n : NFA). length (meaning n).rows) e);
+      room = omega (arith, ap (λ (n : NFA). length (meaning n).rows) e);
     }
 
 pub returns-clause-key : goal.returns-clause-key

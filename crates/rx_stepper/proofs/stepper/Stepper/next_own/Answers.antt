@@ -1,5 +1,4 @@
-use Rattle.std.proofs.Common.{◌≡◌, ◌<◌, ◌≤◌, sym, subst, arith, ⊎_elim}
-use Rattle.std.proofs.lemmas.Bool.{cases_lt}
+use Rattle.rx_spec.proofs.Prelude.{◌≡◌, ◌<◌, ◌≤◌, sym, subst, arith, ⊎_elim, cases_lt}
 use Rattle.rx_stepper.specs.Stepping.{IsAlone}
 use Rattle.rx_stepper.specs.Steppers.{stepping_of}
 use Rattle.rx_stepper.proofs.stepper.Stepper.next_own.Goals as goal
@@ -20,4 +19,4 @@ loop-column-preserved c = λ column from below.
 
 pub returns-clause-alone : goal.returns-clause-alone
 returns-clause-alone c = λ column from below.
-    c.loop-column.invariant column from (omega (arith, c.loop-column-test.false))
+    c.loop-column.invariant column from (omega arith)

@@ -1,4 +1,4 @@
-use Rattle.std.proofs.Common.{ℕ, ◌<◌, ◌≤◌}
+use Rattle.rx_spec.proofs.Prelude.{ℕ, ◌<◌, ◌≤◌}
 use Rattle.rx_stepper.specs.Stepping.{IsAlone}
 use Rattle.rx_stepper.specs.Steppers.{stepping_of}
 use Rattle.rx_stepper.proofs.stepper.Stepper.next_own.Given as goal

@@ -1,6 +1,5 @@
-use Rattle.std.proofs.Common.{rules, ◌≡◌, ◌≤◌, ◌<◌, ◌^◌, Bool, true, List, ℕ, length, ap, ap₂, sym, subst, arith, ◌∙◌}
-use Rattle.rx_spec.specs.Causes.{id_count}
-use Rattle.rx_spec.specs.States.{firsts}
+use Rattle.rx_spec.proofs.Prelude.{rules, ◌≡◌, ◌≤◌, ◌<◌, ◌^◌, Bool, true, List, ℕ, length, ap, ap₂, sym, subst, arith}
+use Rattle.rx_spec.proofs.Prelude.{◌∙◌, id_count, firsts}
 use Rattle.rx_expr.specs.Nfa.{meaning}
 use Rattle.rx_stepper.specs.Keys.{own_of, spelled}
 use Rattle.rx_stepper.specs.Leads.{lead_of, rows_by}
@@ -35,8 +34,8 @@ parts c =
     record {
       rows_are = rows;
       label_is = ap length c.label_of.ensures;
-      rows_few = omega (arith, rows, rows_few s);
-      label_few = omega (arith, ap length c.label_of.ensures, s.closed.few);
+      rows_few = omega (arith, rows_few s);
+      label_few = omega (arith, ap length c.label_of.ensures);
     }
 
 pub own_of-requires : goal.own_of-requires
@@ -54,17 +53,17 @@ rows_len-rows-requires-clause-few c =
     omega (arith, ap length c.own_of.ensures, own_few (spelt c.args.self.now c.requires))
 
 pub overflow_add-result : goal.overflow_add-result
-overflow_add-result c = let p = parts c in omega (arith, p.rows_few, p.label_few)
+overflow_add-result c = let p = parts c in omega arith
 
 pub overflow_mul-result : goal.overflow_mul-result
-overflow_mul-result c = let p = parts c in omega (arith, p.rows_few, p.label_few)
+overflow_mul-result c = let p = parts c in omega arith
 
 pub overflow_add-result-2 : goal.overflow_add-result-2
-overflow_add-result-2 c = let p = parts c in omega (arith, p.rows_few, p.label_few)
+overflow_add-result-2 c = let p = parts c in omega arith
 
 pub returns-clause-small : goal.returns-clause-small
-returns-clause-small c = let p = parts c in omega (arith, p.rows_few, p.label_few)
+returns-clause-small c = let p = parts c in omega arith
 
 pub returns-clause-value : goal.returns-clause-value
 unfolding stepping_of
-returns-clause-value c = let p = parts c in omega (arith, p.rows_are, p.label_is)
+returns-clause-value c = let p = parts c in omega arith

@@ -1,7 +1,5 @@
-use Rattle.std.proofs.Common.{rules, [], arith}
-use Rattle.std.proofs.lemmas.Grind.{common_steps}
+use Rattle.rx_spec.proofs.Prelude.{rules, [], arith, common_steps}
 use Rattle.rx_stepper.specs.Steppers.{stepping_of}
-use Rattle.rx_stepper.proofs.Results.{if_ok-map, match_bool-map}
 use Rattle.rx_stepper.proofs.stepper.Stepper.start.Goals as goal
 
 pub write_key-requires-clause-asked : goal.write_key-requires-clause-asked
@@ -14,4 +12,4 @@ invariant_of-self c = grind (arith, common_steps)
 
 pub returns-clause-key : goal.returns-clause-key
 unfolding stepping_of
-returns-clause-key c = search (rules, if_ok-map, match_bool-map)
+returns-clause-key c = search rules

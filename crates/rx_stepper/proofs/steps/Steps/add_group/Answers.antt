@@ -1,38 +1,26 @@
-use Rattle.std.proofs.Common.{rules, ◌≡◌, ◌++◌, ℕ, length, map, Some, ap, ap₂, ◌∙◌, arith}
-use Rattle.std.proofs.lemmas.Grind.{common_steps}
-use Rattle.std.specs.Prelude.{slice_index}
-use Rattle.std.specs.List.{flat_map}
-use Rattle.rx_spec.specs.Contexts.{holds_read}
-use Rattle.rx_spec.specs.States.{Tested, row_at, target}
+use Rattle.rx_spec.proofs.Prelude.{rules, ◌≡◌, ◌++◌, ℕ, length, map, Some, ap, ap₂, ◌∙◌, arith, common_steps}
+use Rattle.rx_spec.proofs.Prelude.{slice_index, flat_map, row_at, target}
 use Rattle.rx_base.specs.FactBits.{facts_with}
 use Rattle.rx_expr.specs.Nfa.{meaning}
-use Rattle.rx_powerset.specs.Closures.{closed_rows}
 use Rattle.rx_stepper.specs.Columns.{takes, only_if, list_at}
 use Rattle.rx_stepper.specs.Steps.{going_by}
-use Rattle.rx_stepper.proofs.EmptyLists.{set_here, set_other, list_there, written_back}
-use Rattle.rx_stepper.proofs.Results.{on_ok, on_ok-map}
+use Rattle.rx_stepper.proofs.EmptyLists.{set_here, set_other, written_back}
+use Rattle.rx_stepper.proofs.Results.{on_ok-map}
 use Rattle.rx_stepper.proofs.StepLaws.{few_told}
 use Rattle.rx_stepper.proofs.steps.Steps.add_group.Goals as goal
 
-settled_is : (c : goal.After-self-3-1) → c.deref.result.now
-    ≡ closed_rows (meaning c.args.closures.now.nfa.now).rows
-    (Tested (λ look. holds_read (meaning c.args.closures.now.nfa.now).direction look c.args.last
-    (facts_with c.args.group)))
-    c.args.rows.now
-settled_is c = search rules
-
 going_is : (c : goal.After-self-3-1) → c.cut-going.result.now
     ≡ going_by (meaning c.args.closures.now.nfa.now) c.args.kind c.args.last (facts_with c.args.group) c.args.rows.now
-going_is c = search (rules, settled_is)
+going_is c = search rules
 
 pub returns-clause-others : goal.returns-clause-others
-returns-clause-others c = grind (arith, common_steps, on_ok, set_other)
+returns-clause-others c = grind (arith, common_steps, set_other)
 
 pub returns-clause-matches : goal.returns-clause-matches
-returns-clause-matches c = grind (arith, common_steps, list_there, going_is, on_ok, set_here)
+returns-clause-matches c = grind (arith, common_steps, going_is, set_here)
 
 pub returns-clause-few : goal.returns-clause-few
-returns-clause-few c = search (rules, on_ok, few_told, settled_is)
+returns-clause-few c = search (rules, few_told)
 
 pub returns-clause-targets : goal.returns-clause-targets
 returns-clause-targets c =

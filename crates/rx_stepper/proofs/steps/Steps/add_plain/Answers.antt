@@ -1,23 +1,20 @@
-use Rattle.std.proofs.lemmas.Grind.{common_steps}
-use Rattle.std.proofs.Common.{ℕ, map, ap, sym, ◌∙◌, arith}
-use Rattle.std.specs.Prelude.{slice_index}
-use Rattle.rx_spec.specs.States.{row_at, target}
+use Rattle.rx_spec.proofs.Prelude.{common_steps, ℕ, map, ap, sym, ◌∙◌, arith, slice_index, row_at, target}
 use Rattle.rx_expr.specs.Nfa.{meaning}
 use Rattle.rx_stepper.specs.Columns.{list_at}
 use Rattle.rx_stepper.specs.Steps.{matches_of}
 use Rattle.rx_stepper.proofs.EmptyLists.{set_here, set_other, list_there, written_more}
-use Rattle.rx_stepper.proofs.GroupLoop.{plain_next, matches_all, matches_more, matches_none, matches_passed, none_match}
+use Rattle.rx_stepper.proofs.GroupLoop.{matches_more, none_match}
 use Rattle.rx_stepper.proofs.steps.Steps.add_plain.Goals as goal
 
 pub loop-group-init : goal.loop-group-init
-loop-group-init c = grind (arith, common_steps, matches_none)
+loop-group-init c = grind (arith, common_steps)
 
 pub loop-group-preserved : goal.loop-group-preserved
 loop-group-preserved c =
-    grind (arith, common_steps, list_there, set_other, set_here, plain_next, matches_more, matches_passed)
+    grind (arith, common_steps, list_there, set_other, set_here, matches_more)
 
 pub returns-clause-matches : goal.returns-clause-matches
-returns-clause-matches c = grind (arith, common_steps, matches_all)
+returns-clause-matches c = grind (arith, common_steps)
 
 pub returns-clause-targets : goal.returns-clause-targets
 returns-clause-targets c = λ units reads column h.

@@ -1,8 +1,5 @@
-use Rattle.std.proofs.lemmas.Grind.{common_steps}
-use Rattle.std.specs.Prelude.{vec_capacity, slice_index}
-use Rattle.std.proofs.Common.{ℕ, ◌+◌, ◌++◌, List, length, map, refl, ap, sym, ◌∙◌, subst, arith}
-use Rattle.std.specs.List.{flat_map}
-use Rattle.rx_spec.specs.States.{Tested, cut, holds_before, row_at, target}
+use Rattle.rx_spec.proofs.Prelude.{common_steps, vec_capacity, slice_index, ℕ, ◌+◌, ◌++◌, List, length, map, refl, ap}
+use Rattle.rx_spec.proofs.Prelude.{sym, ◌∙◌, subst, arith, flat_map, Tested, cut, holds_before, row_at, target}
 use Rattle.rx_base.specs.FactBits.{facts_with}
 use Rattle.rx_expr.specs.Nfa.{meaning}
 use Rattle.rx_expr.specs.declared.thompson.nfa.NFA.{NFA}
@@ -12,14 +9,13 @@ use Rattle.rx_stepper.specs.Steps.{going_by, rows_in}
 use Rattle.rx_stepper.proofs.Decisions.{closed_plain}
 use Rattle.rx_stepper.proofs.KeyLaws.{closed_few, rows_tested}
 use Rattle.rx_stepper.proofs.Results.{on_ok-both}
-use Rattle.rx_stepper.proofs.StepLaws.{GroupDone, done_none, done_passed, done_more, all_done, few_told, group_goes}
-use Rattle.rx_stepper.proofs.StepLaws.{plain_steps}
+use Rattle.rx_stepper.proofs.StepLaws.{GroupDone, done_passed, done_more, all_done, few_told, group_goes, plain_steps}
 use Rattle.rx_stepper.proofs.GroupLoop.{Finding, Between, stand}
 use Rattle.rx_stepper.proofs.steps.Steps.find.Goals as goal
 use Rattle.rx_stepper.proofs.steps.Steps.find.Goals.{then-has+in_ok-add_group, else-has}
 
 pub loop-group-init : goal.loop-group-init
-loop-group-init c = grind (arith, common_steps, done_none)
+loop-group-init c = grind (arith, common_steps)
 
 pub loop-group-preserved : goal.loop-group-preserved
 loop-group-preserved c =
@@ -43,7 +39,7 @@ loop-group-preserved c =
           (vec_capacity w.add_group.new.reached) = record {
             nfa = e.nfa ∙ before.nfa;
             columns = e.columns ∙ before.columns;
-            kept_room = omega (arith, e.room, before.kept_room);
+            kept_room = omega arith;
             done = λ units reads groups.
                 let gs = f.columns.groups.of.items in
                 let columns = f.columns.reading.columns.items in
@@ -69,10 +65,7 @@ loop-group-preserved c =
                 }))
                 (before.done units reads groups);
           } in
-          subst (λ s. Between f (i + 1) s c.if-has.closures (vec_capacity c.if-has.reached)) (sym w.self-is)
-          (subst (λ r. Between f (i + 1) w.add_group.new.self c.if-has.closures (vec_capacity r)) (sym w.reached-is)
-          (subst (λ n. Between f (i + 1) w.add_group.new.self n (vec_capacity w.add_group.new.reached))
-          (sym w.closures-is) more))
+          grind (arith, common_steps)
       | else-has w ↦
           let more : Between f (i + 1) c.loop-group.self c.loop-group.closures (vec_capacity c.loop-group.reached) =
           record {
@@ -83,10 +76,7 @@ loop-group-preserved c =
                 done_passed used groups.len c.args.columns.now.groups.are_used (sym c.has.ensures ∙ w.if-has.false)
                 (before.done units reads groups);
           } in
-          subst (λ s. Between f (i + 1) s c.if-has.closures (vec_capacity c.if-has.reached)) (sym w.self-is)
-          (subst (λ r. Between f (i + 1) c.loop-group.self c.if-has.closures (vec_capacity r)) (sym w.reached-is)
-          (subst (λ n. Between f (i + 1) c.loop-group.self n (vec_capacity c.loop-group.reached))
-          (sym w.closures-is) more))
+          grind (arith, common_steps)
     ]
 
 pub returns-then-not-has_look-clause-steps : goal.returns-then-not-has_look-clause-steps
@@ -116,9 +106,5 @@ returns-then-not-has_look-clause-steps c =
 pub returns-clause-steps : goal.returns-clause-steps
 returns-clause-steps c = λ units reads groups.
     all_done
-    (λ column h. omega (
-      arith,
-      c.args.columns.now.groups.below column 0 (omega (arith, groups.len)),
-      c.loop-group-test.false,
-    ))
+    (λ column h. omega arith)
     (c.loop-group.invariant.done units reads groups)

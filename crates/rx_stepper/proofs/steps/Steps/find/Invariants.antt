@@ -1,5 +1,4 @@
-use Rattle.std.specs.Prelude.{vec_capacity}
-use Rattle.std.proofs.Common.{length}
+use Rattle.rx_spec.proofs.Prelude.{vec_capacity, length}
 use Rattle.rx_stepper.proofs.GroupLoop.{Between, Finding}
 use Rattle.rx_stepper.proofs.steps.Steps.find.Given as goal
 

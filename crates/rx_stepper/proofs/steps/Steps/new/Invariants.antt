@@ -1,4 +1,4 @@
-use Rattle.std.proofs.Common.{◌≡◌, length, map}
+use Rattle.rx_spec.proofs.Prelude.{◌≡◌, length, map}
 use Rattle.rx_stepper.specs.Steps.{AreEmpty}
 use Rattle.rx_stepper.proofs.steps.Steps.new.Given as goal
 

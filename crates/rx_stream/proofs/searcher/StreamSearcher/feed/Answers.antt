@@ -1,7 +1,4 @@
-use Rattle.std.proofs.lemmas.Grind.{common_steps}
-use Rattle.std.proofs.Common.{refl, arith, ◌≡◌}
-use Rattle.std.specs.Prelude.{slice_index}
-use Rattle.rx_spec.specs.Ids.{row_of}
+use Rattle.rx_spec.proofs.Prelude.{common_steps, refl, arith, ◌≡◌, slice_index, row_of}
 use Rattle.rx_search.specs.Labels.{patterns_of}
 use Rattle.rx_search.proofs.Cursors.{held_by, held_row, at_same, row_at}
 use Rattle.rx_search.proofs.Halves.{some_pattern}

@@ -1,4 +1,4 @@
-use Rattle.std.proofs.Common.{sym, ◌∙◌, None, Some}
+use Rattle.rx_spec.proofs.Prelude.{sym, ◌∙◌, None, Some}
 use Rattle.rx_search.specs.Starts.{IsId}
 use Rattle.rx_search.proofs.Cursors.{held_by, held_row, at_same, turned}
 use Rattle.rx_stream.specs.Calls.{IsNextPattern}

@@ -1,5 +1,4 @@
-use Rattle.std.proofs.Common.{arith, []}
-use Rattle.std.proofs.lemmas.Grind.{common_steps}
+use Rattle.rx_spec.proofs.Prelude.{arith, [], common_steps}
 use Rattle.rx_search.proofs.Cursors.{held_by, held_row}
 use Rattle.rx_stream.proofs.New.{is_new}
 use Rattle.rx_stream.proofs.searcher.StreamSearcher.new.Goals as goal

@@ -1,4 +1,4 @@
-use Rattle.std.proofs.Common.{◌∙◌, ap, length, length-take-le, sym}
+use Rattle.rx_spec.proofs.Prelude.{◌∙◌, ap, length, length-take-le, sym}
 use Rattle.rx_wire.proofs.endian.LEEndian.write_u128.Goals as goal
 
 pub copy_from_slice-requires : goal.copy_from_slice-requires

@@ -1,4 +1,4 @@
-use Rattle.rx_spec.specs.Expressions.{depth}
+use Rattle.rx_spec.proofs.Prelude.{depth}
 use Rattle.tests_expressions.proofs.expr.shown.+write_expr.Given as goal
 
 abbrev pub decreases-write_expr : goal.decreases-write_expr

@@ -1,4 +1,4 @@
-use Rattle.std.proofs.Common.{◌≡◌, take}
+use Rattle.rx_spec.proofs.Prelude.{◌≡◌, take}
 use Rattle.tests_tables.proofs.dense.tables.accels.Given as goal
 
 abbrev pub invariant-loop-row : goal.invariant-loop-row

@@ -1,4 +1,4 @@
-use Rattle.std.proofs.Common.{◌≡◌, ◌∙◌, ap, length}
+use Rattle.rx_spec.proofs.Prelude.{◌≡◌, ◌∙◌, ap, length}
 use Rattle.rx_dense.specs.Builder.{with_next, with_row}
 use Rattle.tests_tables.proofs.Cuts.{longer_starts, longer_words}
 use Rattle.tests_tables.proofs.dense.tables.add_and_cut.Goals as goal

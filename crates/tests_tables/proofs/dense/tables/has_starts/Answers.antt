@@ -1,5 +1,4 @@
-use Rattle.std.proofs.Common.{arith, ap, length}
-use Rattle.std.proofs.lemmas.Bool.{ltb-true}
+use Rattle.rx_spec.proofs.Prelude.{arith, ap, length, ltb-true}
 use Rattle.rx_dense.proofs.States.{starts_of-len}
 use Rattle.tests_tables.proofs.dense.tables.has_starts.Goals as goal
 

@@ -1,5 +1,4 @@
-use Rattle.std.proofs.Common.{◌≡◌, ◌++◌, ◌∷◌, [], All, refl, sym, subst}
-use Rattle.std.proofs.lemmas.List.Elements.{All-push}
+use Rattle.rx_spec.proofs.Prelude.{◌≡◌, ◌++◌, ◌∷◌, [], All, refl, sym, subst, All-push}
 use Rattle.std.proofs.lemmas.Slice.{pushed}
 use Rattle.rx_search.specs.Starts.{IsId}
 use Rattle.rx_dense.specs.Layouts.{ids_of}

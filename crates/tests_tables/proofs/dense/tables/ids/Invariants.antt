@@ -1,4 +1,4 @@
-use Rattle.std.proofs.Common.{All}
+use Rattle.rx_spec.proofs.Prelude.{All}
 use Rattle.rx_search.specs.Starts.{IsId}
 use Rattle.rx_dense.specs.Layouts.{ids_of}
 use Rattle.tests_tables.proofs.dense.tables.ids.Given as goal

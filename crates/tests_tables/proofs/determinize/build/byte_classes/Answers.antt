@@ -1,6 +1,4 @@
-use Rattle.std.proofs.Common.{◌+◌, ◌||◌, sym, ap, ◌∙◌}
-use Rattle.rx_spec.specs.Bytes.{contains}
-use Rattle.rx_spec.specs.Classes.{parts}
+use Rattle.rx_spec.proofs.Prelude.{◌+◌, ◌||◌, sym, ap, ◌∙◌, contains, parts}
 use Rattle.rx_expr.specs.Nfa.{meaning}
 use Rattle.rx_determinize.proofs.Columns.{own_classes, shared_classes}
 use Rattle.tests_tables.proofs.determinize.build.byte_classes.Goals as goal

@@ -1,4 +1,4 @@
-use Rattle.std.proofs.Common.{◌≡◌, ap, sym, ◌∙◌}
+use Rattle.rx_spec.proofs.Prelude.{◌≡◌, ap, sym, ◌∙◌}
 use Rattle.rx_expr.specs.Nfa.{meaning}
 use Rattle.rx_dense.specs.Builder.{Beginning}
 use Rattle.rx_determinize.specs.Determinized.{Settings, classes_of}

@@ -1,5 +1,6 @@
-use Rattle.std.proofs.Common.{ℕ, ◌*◌, ◌^◌, ◌<◌, ◌≤◌, slice_index, sym, ◌∙◌, arith, lit<}
-use Rattle.std.proofs.Math.Nat.{mod-eq_of_lt, mul-le-mul, pow-le-pow_right}
+use Rattle.rx_spec.proofs.Prelude.{ℕ, ◌*◌, ◌^◌, ◌<◌, ◌≤◌, slice_index, sym, ◌∙◌, arith, lit<, mod-eq_of_lt}
+use Rattle.rx_spec.proofs.Prelude.{pow-le-pow_right}
+use Rattle.std.proofs.Math.Nat.{mul-le-mul}
 use Rattle.std.proofs.lemmas.List.{map_more}
 use Rattle.tests_tables.proofs.remapper.chain.ids.Goals as goal
 

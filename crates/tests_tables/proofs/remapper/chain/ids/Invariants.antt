@@ -1,4 +1,4 @@
-use Rattle.std.proofs.Common.{◌≡◌, ◌*◌, ◌^◌, map, take}
+use Rattle.rx_spec.proofs.Prelude.{◌≡◌, ◌*◌, ◌^◌, map, take}
 use Rattle.tests_tables.proofs.remapper.chain.ids.Given as goal
 
 abbrev pub invariant-loop-row : goal.invariant-loop-row

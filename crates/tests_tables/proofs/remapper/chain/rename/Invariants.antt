@@ -1,4 +1,4 @@
-use Rattle.std.proofs.Common.{◌≡◌, ℕ, ◌/◌, ◌^◌, ◌<◌, ◌≤◌, length, slice_index}
+use Rattle.rx_spec.proofs.Prelude.{◌≡◌, ℕ, ◌/◌, ◌^◌, ◌<◌, ◌≤◌, length, slice_index}
 use Rattle.tests_tables.proofs.remapper.chain.rename.Given as goal
 
 abbrev pub invariant-loop-place : goal.invariant-loop-place

@@ -1,4 +1,4 @@
-use Rattle.std.proofs.Common.{◌≡◌, ap₂, subst, ◌∙◌}
+use Rattle.rx_spec.proofs.Prelude.{◌≡◌, ap₂, subst, ◌∙◌}
 use Rattle.std.specs.Result.{IfOk}
 use Rattle.rx_dense.specs.Builder.{initial}
 use Rattle.rx_dense.specs.Layouts.{Layout}

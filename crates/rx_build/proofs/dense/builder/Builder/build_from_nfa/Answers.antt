@@ -1,4 +1,4 @@
-use Rattle.std.proofs.Common.{refl, subst, sym}
+use Rattle.rx_spec.proofs.Prelude.{refl, subst, sym}
 use Rattle.rx_dense.specs.Builder.{HasUniversalStarts}
 use Rattle.rx_dense.specs.Layouts.{Layout, table_of}
 use Rattle.rx_expr.specs.Nfa.{meaning}

@@ -1,4 +1,4 @@
-use Rattle.std.proofs.lemmas.Result.{err_from_is_err_and}
+use Rattle.rx_spec.proofs.Prelude.{err_from_is_err_and}
 use Rattle.rx_expr.specs.Nfa.{meaning}
 use Rattle.rx_build.specs.Settings.{asked, settled}
 use Rattle.rx_build.proofs.Beginnings.{begun_by, begun_with, fits_by, made_by, refused_by}

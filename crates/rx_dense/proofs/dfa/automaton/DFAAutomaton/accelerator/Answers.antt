@@ -1,5 +1,4 @@
-use Rattle.std.proofs.lemmas.Grind.{common_steps}
-use Rattle.std.proofs.Common.{◌∙◌, ◌<◌, ℕ, List, [], length, get_or, sym, ap, arith}
+use Rattle.rx_spec.proofs.Prelude.{common_steps, ◌∙◌, ◌<◌, ℕ, List, [], length, get_or, sym, ap, arith}
 use Rattle.rx_dense.specs.Accels.{accel_lists}
 use Rattle.rx_dense.specs.Layouts.{place_in_range}
 use Rattle.rx_dense.proofs.RowKinds.{no_needles, accel_first, accel_place, needles_are}

@@ -1,4 +1,4 @@
-use Rattle.std.proofs.Common.{◌∙◌}
+use Rattle.rx_spec.proofs.Prelude.{◌∙◌}
 use Rattle.rx_dense.proofs.RowKinds.{special_kind}
 use Rattle.rx_dense.proofs.dfa.automaton.DFAAutomaton.is_special_state.Goals as goal
 

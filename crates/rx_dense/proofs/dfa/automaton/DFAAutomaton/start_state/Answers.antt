@@ -1,5 +1,4 @@
-use Rattle.std.proofs.Common.{◌∙◌, ◌/◌, sym, ap}
-use Rattle.std.specs.Prelude.{option_map}
+use Rattle.rx_spec.proofs.Prelude.{◌∙◌, ◌/◌, sym, ap, option_map}
 use Rattle.rx_search.specs.Starts.{refusal_of}
 use Rattle.rx_dense.specs.Layouts.{stride}
 use Rattle.rx_dense.proofs.Rows.{IsId-row_id, row_of-id}

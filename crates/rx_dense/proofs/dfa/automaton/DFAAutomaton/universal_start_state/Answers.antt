@@ -1,4 +1,4 @@
-use Rattle.std.proofs.Common.{◌∙◌, sym}
+use Rattle.rx_spec.proofs.Prelude.{◌∙◌, sym}
 use Rattle.rx_base.specs.Search.{mode_of}
 use Rattle.rx_dense.proofs.Rows.{IsId-row_id, valid_id}
 use Rattle.rx_dense.proofs.RowKinds.{no_universal, universal_at, invalid_universal}

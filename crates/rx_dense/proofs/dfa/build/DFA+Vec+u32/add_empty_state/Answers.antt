@@ -1,5 +1,4 @@
-use Rattle.std.proofs.lemmas.Grind.{common_steps}
-use Rattle.std.proofs.Common.{arith}
+use Rattle.rx_spec.proofs.Prelude.{common_steps, arith}
 use Rattle.rx_dense.proofs.Shaped.{shaped_row, new_id}
 use Rattle.rx_dense.proofs.dfa.build.DFA+Vec+u32.add_empty_state.Goals as goal
 

@@ -1,4 +1,4 @@
-use Rattle.std.proofs.Common.{refl}
+use Rattle.rx_spec.proofs.Prelude.{refl}
 use Rattle.rx_dense.specs.Builder.{Beginning}
 use Rattle.rx_dense.proofs.Marks.{unmarked}
 use Rattle.rx_dense.proofs.Shaped.{shaped_initial}

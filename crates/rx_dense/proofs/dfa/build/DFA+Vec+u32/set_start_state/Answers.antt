@@ -1,4 +1,4 @@
-use Rattle.std.proofs.Common.{◌<◌, length, sym, subst}
+use Rattle.rx_spec.proofs.Prelude.{◌<◌, length, sym, subst}
 use Rattle.rx_base.specs.Search.{mode_of}
 use Rattle.rx_search.specs.Starts.{IsId}
 use Rattle.rx_dense.specs.Layouts.{Layout, ids_of, mode_place}

@@ -1,4 +1,4 @@
-use Rattle.std.proofs.Common.{sym, subst, arith}
+use Rattle.rx_spec.proofs.Prelude.{sym, subst, arith}
 use Rattle.rx_search.specs.Starts.{IsId}
 use Rattle.rx_dense.specs.Layouts.{Layout, ids_of}
 use Rattle.rx_dense.proofs.Rows.{IsRowId-id, entry_within}
@@ -10,7 +10,7 @@ index_mut-requires c =
     let within = rw (← c.self.view_is) at c.column-column.ensures.within in
     let from = subst (λ (l : Layout). IsId (ids_of l) c.args.from) (sym c.self.view_is) c.requires.from in
     let place = entry_within _ c.self.invariant.rows c.args.from c.column-column.result from within in
-    omega (arith, place, c.as_usize.ensures.value)
+    omega arith
 
 pub invariant_of-self : goal.invariant_of-self
 invariant_of-self c =

@@ -1,4 +1,4 @@
-use Rattle.std.proofs.Common.{rules, sym, subst}
+use Rattle.rx_spec.proofs.Prelude.{rules, sym, subst}
 use Rattle.rx_dense.specs.Builder.{HasUniversalStarts}
 use Rattle.rx_dense.specs.Layouts.{Layout, IsShaped, table_of}
 use Rattle.rx_dense.proofs.Shaped.{shaped_universal}

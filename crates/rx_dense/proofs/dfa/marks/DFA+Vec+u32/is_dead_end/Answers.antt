@@ -1,4 +1,4 @@
-use Rattle.std.proofs.Common.{◌∙◌, sym, ap}
+use Rattle.rx_spec.proofs.Prelude.{◌∙◌, sym, ap}
 use Rattle.rx_dense.specs.Layouts.{Layout}
 use Rattle.rx_dense.proofs.Marks.{zeros_from}
 use Rattle.rx_dense.proofs.dfa.marks.DFA+Vec+u32.is_dead_end.Goals as goal

@@ -1,4 +1,4 @@
-use Rattle.std.proofs.Common.{◌≡◌, length}
+use Rattle.rx_spec.proofs.Prelude.{◌≡◌, length}
 use Rattle.rx_dense.proofs.Marks.{HasMarks}
 use Rattle.rx_dense.proofs.dfa.marks.DFA+Vec+u32.made_marks.Given as goal
 

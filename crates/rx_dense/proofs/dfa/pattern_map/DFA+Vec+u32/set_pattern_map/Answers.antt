@@ -1,4 +1,4 @@
-use Rattle.std.proofs.Common.{◌*◌, ◌^◌, ◌<◌, length, arith}
+use Rattle.rx_spec.proofs.Prelude.{◌*◌, ◌^◌, ◌<◌, length, arith}
 use Rattle.rx_dense.specs.Builder.{pattern_lists, slices_from}
 use Rattle.rx_dense.proofs.PatternLists.{length-slices_from, map_len, patterns_are, shaped_patterns}
 use Rattle.rx_dense.proofs.dfa.pattern_map.DFA+Vec+u32.set_pattern_map.Goals as goal

@@ -1,32 +1,25 @@
-use Rattle.std.proofs.Common.{◌∙◌, sym, subst}
-use Rattle.std.proofs.lemmas.Bool.{eqb-false}
+use Rattle.rx_spec.proofs.Prelude.{◌∙◌, sym, eqb-false}
 use Rattle.std.proofs.lemmas.List.{with_items_is}
-use Rattle.rx_dense.specs.Layouts.{Layout, IsRowId}
-use Rattle.rx_dense.proofs.Rows.{IsRowId-id}
-use Rattle.rx_dense.proofs.Shaped.{rows_apart, shaped_copy}
+use Rattle.rx_dense.proofs.Shaped.{IsRowId-same, rows_apart, shaped_copy}
 use Rattle.rx_dense.proofs.dfa.rows.DFA+Vec+u32.copy_state.Goals as goal
 
 pub copy_row-requires-clause-from_within : goal.copy_row-requires-clause-from_within
 copy_row-requires-clause-from_within c =
     let stride_is = rw (← c.self.view_is) at c.stride-width.ensures.value in
-    let row = IsRowId-id c.args.self.now c.args.from c.requires.from in
-    let is = subst (λ (l : Layout). IsRowId l c.args.from) (sym c.self.view_is) row in
+    let is = IsRowId-same c.self.view_is c.requires.from in
     rw (c.as_usize.ensures.value, stride_is, c.deref_mut.ensures.value) is.below
 
 pub copy_row-requires-clause-to_within : goal.copy_row-requires-clause-to_within
 copy_row-requires-clause-to_within c =
     let stride_is = rw (← c.self.view_is) at c.stride-width.ensures.value in
-    let row = IsRowId-id c.args.self.now c.args.to c.requires.to in
-    let is = subst (λ (l : Layout). IsRowId l c.args.to) (sym c.self.view_is) row in
+    let is = IsRowId-same c.self.view_is c.requires.to in
     rw (c.as_usize-2.ensures.value, stride_is, c.deref_mut.ensures.value) is.below
 
 pub copy_row-requires-clause-apart : goal.copy_row-requires-clause-apart
 copy_row-requires-clause-apart c =
     let stride_is = rw (← c.self.view_is) at c.stride-width.ensures.value in
-    let from_row = IsRowId-id c.args.self.now c.args.from c.requires.from in
-    let from_is = subst (λ (l : Layout). IsRowId l c.args.from) (sym c.self.view_is) from_row in
-    let to_row = IsRowId-id c.args.self.now c.args.to c.requires.to in
-    let to_is = subst (λ (l : Layout). IsRowId l c.args.to) (sym c.self.view_is) to_row in
+    let from_is = IsRowId-same c.self.view_is c.requires.from in
+    let to_is = IsRowId-same c.self.view_is c.requires.to in
     let differ = eqb-false _ _ (sym c.eq.ensures ∙ c.if-eq.false) in
     rw (c.as_usize.ensures.value, c.as_usize-2.ensures.value, stride_is)
     (rows_apart _ c.args.from c.args.to from_is to_is differ)
@@ -34,10 +27,8 @@ copy_row-requires-clause-apart c =
 pub invariant_of-self : goal.invariant_of-self
 invariant_of-self c =
     let stride_is = rw (← c.self.view_is) at c.stride-width.ensures.value in
-    let from_row = IsRowId-id c.args.self.now c.args.from c.requires.from in
-    let from_is = subst (λ (l : Layout). IsRowId l c.args.from) (sym c.self.view_is) from_row in
-    let to_row = IsRowId-id c.args.self.now c.args.to c.requires.to in
-    let to_is = subst (λ (l : Layout). IsRowId l c.args.to) (sym c.self.view_is) to_row in
+    let from_is = IsRowId-same c.self.view_is c.requires.from in
+    let to_is = IsRowId-same c.self.view_is c.requires.to in
     let kept_words =
     with_items_is c.self.inside.words c.copy_row.new.words (c.copy_row.ensures.count ∙ c.deref_mut.ensures.len) in
     rw kept_words

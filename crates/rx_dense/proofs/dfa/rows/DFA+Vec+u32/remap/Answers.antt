@@ -1,5 +1,4 @@
-use Rattle.std.proofs.Common.{arith, ◌≡◌, ◌∙◌, sym, ap, subst}
-use Rattle.std.proofs.lemmas.Grind.{common_steps}
+use Rattle.rx_spec.proofs.Prelude.{arith, ◌≡◌, ◌∙◌, sym, ap, subst, common_steps}
 use Rattle.std.proofs.lemmas.List.{with_items_is}
 use Rattle.rx_dense.specs.Builder.{IsMachineRenamed}
 use Rattle.rx_dense.specs.Layouts.{Layout, IsShaped}
@@ -14,8 +13,7 @@ pub rename-requires-clause-rows : goal.rename-requires-clause-rows
 rename-requires-clause-rows c =
     let l = c.args.self.now in
     let shaped = subst IsShaped c.self.view_is c.self.invariant in
-    rw (c.deref_mut-2.ensures.value ∙ ap (λ (l : Layout). l.starts) c.self.view_is, c.stride2-stride2.ensures.value)
-    (starts_within l c.args.map.now c.requires.count c.requires.ids shaped)
+    grind (arith, common_steps, starts_within)
 
 pub returns-clause-value : goal.returns-clause-value
 returns-clause-value c =

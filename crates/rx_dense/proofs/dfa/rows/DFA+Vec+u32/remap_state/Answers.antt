@@ -1,12 +1,9 @@
-use Rattle.std.proofs.lemmas.Grind.{common_steps}
-use Rattle.std.proofs.Common.{List, ◌≡◌, ◌+◌, ◌-◌, ◌≤◌, ◌∙◌, ℕ, length, sym, ap, subst, arith}
-use Rattle.std.proofs.lemmas.List.{with_items_is}
+use Rattle.rx_spec.proofs.Prelude.{common_steps, List, ◌≡◌, ◌+◌, ◌-◌, ◌≤◌, ◌∙◌, ℕ, length, ap, subst, arith}
 use Rattle.rx_base.specs.ByteClasses.{alphabet_len}
 use Rattle.rx_dense.specs.Builder.{renamed_id}
 use Rattle.rx_dense.specs.Layouts.{Layout, IsShaped}
 use Rattle.rx_dense.proofs.Rows.{IsRowId-id}
-use Rattle.rx_dense.proofs.Renaming.{RenamedPart, length-part, renamed_part, row_renamed, same_ids, same_lists}
-use Rattle.rx_dense.proofs.Renaming.{shaped_renamed_row, words_within}
+use Rattle.rx_dense.proofs.Renaming.{RenamedPart, row_renamed, shaped_renamed_row, words_within}
 use Rattle.rx_dense.proofs.dfa.rows.DFA+Vec+u32.remap_state.Goals as goal
 use borrow.Rule.Slice.PartMut.{put_mid}
 
@@ -43,15 +40,10 @@ returns-clause-value c =
           ) at c.rename.ensures;
     } in
     let ws : List ℕ = put_mid c.args.id (alphabet_len l.classes) l.words c.rename.new.ids in
-    let kept = with_items_is c.self.inside.words ws
-    (length-part (renamed_part part)
-    ∙ sym (ap length old_words) ∙ c.deref_mut.ensures.len) in
-    rw (old_words, c.as_usize-first.ensures.value, c.alphabet_len.ensures, n)
-    (same_lists c.self.view_is (kept ∙ row_renamed l c.args.map.now c.rename.new.ids c.args.id is fits part)
-    (ap (λ (l : Layout). l.starts) c.self.view_is))
+    grind (arith, common_steps, row_renamed)
 
 pub returns-clause-rows : goal.returns-clause-rows
-returns-clause-rows c = grind (arith, common_steps, returns-clause-value, same_ids)
+returns-clause-rows c = grind (arith, common_steps)
 
 pub invariant_of-self : goal.invariant_of-self
 invariant_of-self c = grind (arith, common_steps, returns-clause-value, shaped_renamed_row)

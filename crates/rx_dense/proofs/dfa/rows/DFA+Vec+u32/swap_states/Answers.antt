@@ -1,35 +1,24 @@
-use Rattle.std.proofs.Common.{◌∙◌, sym, subst}
-use Rattle.std.proofs.lemmas.Bool.{eqb-false}
-use Rattle.rx_dense.specs.Layouts.{Layout, IsRowId}
-use Rattle.rx_dense.proofs.Rows.{IsRowId-id}
-use Rattle.rx_dense.proofs.Shaped.{rows_apart, shaped_swap}
+use Rattle.rx_spec.proofs.Prelude.{◌∙◌, sym, eqb-false}
+use Rattle.rx_dense.proofs.Shaped.{IsRowId-same, rows_apart, shaped_swap}
 use Rattle.rx_dense.proofs.dfa.rows.DFA+Vec+u32.swap_states.Goals as goal
 
 pub swap_rows-requires-clause-first_within : goal.swap_rows-requires-clause-first_within
 swap_rows-requires-clause-first_within c =
     let stride_is = rw (← c.self.view_is) at c.stride-width.ensures.value in
-    let row1 = IsRowId-id c.args.self.now c.args.id1 c.requires.id1 in
-    let is1 = subst (λ (l : Layout). IsRowId l c.args.id1) (sym c.self.view_is) row1 in
-    let row2 = IsRowId-id c.args.self.now c.args.id2 c.requires.id2 in
-    let is2 = subst (λ (l : Layout). IsRowId l c.args.id2) (sym c.self.view_is) row2 in
+    let is1 = IsRowId-same c.self.view_is c.requires.id1 in
     rw (c.as_usize.ensures.value, stride_is) is1.below
 
 pub swap_rows-requires-clause-second_within : goal.swap_rows-requires-clause-second_within
 swap_rows-requires-clause-second_within c =
     let stride_is = rw (← c.self.view_is) at c.stride-width.ensures.value in
-    let row1 = IsRowId-id c.args.self.now c.args.id1 c.requires.id1 in
-    let is1 = subst (λ (l : Layout). IsRowId l c.args.id1) (sym c.self.view_is) row1 in
-    let row2 = IsRowId-id c.args.self.now c.args.id2 c.requires.id2 in
-    let is2 = subst (λ (l : Layout). IsRowId l c.args.id2) (sym c.self.view_is) row2 in
+    let is2 = IsRowId-same c.self.view_is c.requires.id2 in
     rw (c.as_usize-2.ensures.value, stride_is) is2.below
 
 pub swap_rows-requires-clause-apart : goal.swap_rows-requires-clause-apart
 swap_rows-requires-clause-apart c =
     let stride_is = rw (← c.self.view_is) at c.stride-width.ensures.value in
-    let row1 = IsRowId-id c.args.self.now c.args.id1 c.requires.id1 in
-    let is1 = subst (λ (l : Layout). IsRowId l c.args.id1) (sym c.self.view_is) row1 in
-    let row2 = IsRowId-id c.args.self.now c.args.id2 c.requires.id2 in
-    let is2 = subst (λ (l : Layout). IsRowId l c.args.id2) (sym c.self.view_is) row2 in
+    let is1 = IsRowId-same c.self.view_is c.requires.id1 in
+    let is2 = IsRowId-same c.self.view_is c.requires.id2 in
     let differ = eqb-false _ _ (sym c.eq.ensures ∙ c.if-eq.false) in
     rw (c.as_usize.ensures.value, c.as_usize-2.ensures.value, stride_is)
     (rows_apart _ c.args.id1 c.args.id2 is1 is2 differ)
@@ -37,9 +26,7 @@ swap_rows-requires-clause-apart c =
 pub invariant_of-self : goal.invariant_of-self
 invariant_of-self c =
     let stride_is = rw (← c.self.view_is) at c.stride-width.ensures.value in
-    let row1 = IsRowId-id c.args.self.now c.args.id1 c.requires.id1 in
-    let is1 = subst (λ (l : Layout). IsRowId l c.args.id1) (sym c.self.view_is) row1 in
-    let row2 = IsRowId-id c.args.self.now c.args.id2 c.requires.id2 in
-    let is2 = subst (λ (l : Layout). IsRowId l c.args.id2) (sym c.self.view_is) row2 in
+    let is1 = IsRowId-same c.self.view_is c.requires.id1 in
+    let is2 = IsRowId-same c.self.view_is c.requires.id2 in
     shaped_swap _ c.swap_rows.new.words.items c.args.id1 c.args.id2 c.self.invariant is1 is2
     (rw (c.as_usize.ensures.value, c.as_usize-2.ensures.value, stride_is) at c.swap_rows.ensures)

@@ -1,5 +1,4 @@
-use Rattle.std.proofs.Common.{arith, ℕ, ◌*◌, ◌<◌, ◌≤◌, length, slice_index, sym, subst}
-use Rattle.std.proofs.lemmas.Grind.{common_steps}
+use Rattle.rx_spec.proofs.Prelude.{arith, ℕ, ◌*◌, ◌<◌, ◌≤◌, length, slice_index, sym, subst, common_steps}
 use Rattle.rx_dense.specs.Layouts.{Layout, row_count, stride}
 use Rattle.rx_dense.proofs.Shaped.{shaped_cut}
 use Rattle.rx_dense.proofs.dfa.rows.DFA+Vec+u32.truncate_states.Goals as goal

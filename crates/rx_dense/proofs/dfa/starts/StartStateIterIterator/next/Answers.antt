@@ -1,20 +1,19 @@
-use Rattle.std.proofs.lemmas.Grind.{common_steps}
-use Rattle.std.proofs.Common.{rules, ◌+◌, ◌<◌, ◌∙◌, ◌∷◌, ℕ, List, [], ap, ap₂, sym, arith, length, drop, slice_index}
-use Rattle.std.proofs.lemmas.List.{drop_all}
+use Rattle.rx_spec.proofs.Prelude.{common_steps, rules, ◌+◌, ◌<◌, ◌∙◌, ◌∷◌, ℕ, List, [], ap, ap₂, sym, arith, length}
+use Rattle.rx_spec.proofs.Prelude.{drop, slice_index}
 use Rattle.rx_dense.specs.States.{starts_of}
 use Rattle.rx_dense.proofs.Rows.{id_few}
 use Rattle.rx_dense.proofs.States.{starts_of-next}
 use Rattle.rx_dense.proofs.dfa.starts.StartStateIterIterator.next.Goals as goal
 
 pub returns-in_err-place-clause-steps : goal.returns-in_err-place-clause-steps
-returns-in_err-place-clause-steps g c = grind (arith, common_steps, drop_all)
+returns-in_err-place-clause-steps g c = grind (arith, common_steps)
 
 pub must-id-requires : goal.must-id-requires
 must-id-requires g c =
     let next = c.in_ok-place.ensures.steps.1 in
     rw c.start_ids.ensures.value
     (id_few c.self.inside.dfa.now c.start_ids.ensures.rows _
-    (c.start_ids.ensures.starts.start_ids c.in_ok-place.place (omega (arith, c.self.invariant, next.0, next.1))))
+    (c.start_ids.ensures.starts.start_ids c.in_ok-place.place (omega arith)))
 
 pub returns-clause-steps : goal.returns-clause-steps
 returns-clause-steps g c =
@@ -22,7 +21,7 @@ returns-clause-steps g c =
     let place = c.in_ok-place.place in
     let ids = c.start_ids.ensures in
     let next = c.in_ok-place.ensures.steps.1 in
-    let below : place < length l.starts = omega (arith, c.self.invariant, next.0, next.1) in
+    let below : place < length l.starts = omega arith in
     sym c.self.view_is
     ∙ ap (λ at. drop at (starts_of l)) (sym next.1)
     ∙ starts_of-next l ids.starts place below c.mode_of_group.result c.context_of_number.result

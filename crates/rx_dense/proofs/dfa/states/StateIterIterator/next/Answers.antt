@@ -1,5 +1,4 @@
-use Rattle.std.proofs.lemmas.Grind.{common_steps}
-use Rattle.std.proofs.Common.{rules, arith}
+use Rattle.rx_spec.proofs.Prelude.{common_steps, rules, arith}
 use Rattle.rx_dense.proofs.States.{rows_from-next}
 use Rattle.rx_dense.proofs.dfa.states.StateIterIterator.next.Goals as goal
 

@@ -1,4 +1,4 @@
-use Rattle.std.proofs.Common.{◌≡◌, ◌-◌, ◌+◌, ◌<◌, length, true}
+use Rattle.rx_spec.proofs.Prelude.{◌≡◌, ◌-◌, ◌+◌, ◌<◌, length, true}
 use Rattle.rx_dense.specs.States.{AreNextIds, begins_range, sparse_transitions_from}
 use Rattle.rx_dense.proofs.dfa.states.StateSparseTransitionIterIterator.next.Given as goal
 

@@ -1,5 +1,4 @@
-use Rattle.std.proofs.Common.{arith, rules}
-use Rattle.std.proofs.lemmas.Grind.{common_steps}
+use Rattle.rx_spec.proofs.Prelude.{arith, rules, common_steps}
 use Rattle.rx_dense.proofs.States.{transitions_from-next}
 use Rattle.rx_dense.proofs.dfa.states.StateTransitionIterIterator.next.Goals as goal
 

@@ -1,11 +1,7 @@
-use Rattle.std.proofs.Common.{arith, length, map, ◌∙◌, ap, ap₂, sym, subst}
-use Rattle.rx_spec.specs.Contexts.{facts_kept}
-use Rattle.rx_spec.specs.Nfas.{Nfa}
-use Rattle.rx_spec.specs.Shallow.{IsShallow}
+use Rattle.rx_spec.proofs.Prelude.{common_steps, arith, length, ◌∙◌, ap}
 use Rattle.lemmas_walks.proofs.Shallows.{nfa_shallow}
 use Rattle.rx_expr.specs.Compiler.{asked_by}
 use Rattle.rx_expr.specs.Compiles.{joined_count, lead_count}
-use Rattle.rx_expr.specs.NfaRows.{NamesPatterns, row_of, has_look, rows_part}
 use Rattle.rx_expr.proofs.PatternRows.{length-added_patterns, length-starts}
 use Rattle.rx_expr.proofs.JoinedStarts.{length-joined}
 use Rattle.rx_expr.proofs.BuiltNfas.{rows_fit, adds_all, nfa_made, nfa_same}
@@ -45,21 +41,7 @@ invariant_of-result c =
     let made = nfa_made c.new.result c.get_utf8.result steps c.any_empty.ensures in
     let shallow = nfa_shallow c.direction-direction.result c.new.result c.get_utf8.result c.args.exprs.now in
     let patterns = nfa_names_patterns c.direction-direction.result c.new.result c.get_utf8.result c.args.exprs.now in
-    record {
-      facts_are = c.asked_facts-asked.ensures ∙ ap (λ rows. facts_kept (map row_of rows)) c.deref-2.ensures.value;
-      looks_are =
-          λ look.
-          c.look_set_any-look_set_any.ensures look
-          ∙ ap (λ rows. has_look (map row_of rows) look) c.deref-3.ensures.value;
-      classes_are =
-          λ b below.
-          c.byte_class_set-byte_class_set.ensures b below
-          ∙ ap₂ (λ t rows. rows_part t (map row_of rows) b) (sym c.new.ensures) c.deref-4.ensures.value;
-      patterns =
-          subst (λ (n : Nfa). NamesPatterns (length n.start_patterns) n.rows) (sym made)
-          (patterns c.requires.fits.patterns);
-      shallow = subst (λ (n : Nfa). IsShallow n.rows) (sym made) (shallow c.requires.safe);
-    }
+    grind (arith, common_steps)
 
 pub returns : goal.returns
 returns c =

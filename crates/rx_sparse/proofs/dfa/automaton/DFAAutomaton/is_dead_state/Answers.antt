@@ -1,4 +1,4 @@
-use Rattle.std.proofs.Common.{◌∙◌}
+use Rattle.rx_spec.proofs.Prelude.{◌∙◌}
 use Rattle.rx_sparse.proofs.RowPlaces.{dead_kind}
 use Rattle.rx_sparse.proofs.dfa.automaton.DFAAutomaton.is_dead_state.Goals as goal
 

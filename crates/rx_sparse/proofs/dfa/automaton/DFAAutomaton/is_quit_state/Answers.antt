@@ -1,4 +1,4 @@
-use Rattle.std.proofs.Common.{◌&&◌, not, ap, sym, ◌∙◌}
+use Rattle.rx_spec.proofs.Prelude.{◌&&◌, not, ap, sym, ◌∙◌}
 use Rattle.rx_dense.specs.Specials.{is_match_id}
 use Rattle.rx_sparse.proofs.RowKinds.{match_kind, quit_kind}
 use Rattle.rx_sparse.proofs.dfa.automaton.DFAAutomaton.is_quit_state.Goals as goal

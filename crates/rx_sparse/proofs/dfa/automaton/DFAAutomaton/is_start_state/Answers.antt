@@ -1,5 +1,4 @@
-use Rattle.std.proofs.Common.{arith}
-use Rattle.std.proofs.lemmas.Grind.{common_steps}
+use Rattle.rx_spec.proofs.Prelude.{arith, common_steps}
 use Rattle.rx_sparse.proofs.RowKinds.{start_kind}
 use Rattle.rx_sparse.proofs.dfa.automaton.DFAAutomaton.is_start_state.Goals as goal
 

@@ -1,5 +1,4 @@
-use Rattle.std.proofs.lemmas.Grind.{common_steps}
-use Rattle.std.proofs.Common.{arith}
+use Rattle.rx_spec.proofs.Prelude.{common_steps, arith}
 use Rattle.rx_sparse.proofs.RowPlaces.{next_is_id, next_on_byte}
 use Rattle.rx_sparse.proofs.dfa.automaton.DFAAutomaton.next_state.Goals as goal
 

@@ -1,5 +1,4 @@
-use Rattle.std.proofs.Common.{arith}
-use Rattle.std.proofs.lemmas.Grind.{common_steps}
+use Rattle.rx_spec.proofs.Prelude.{arith, common_steps}
 use Rattle.rx_sparse.proofs.dfa.automaton.DFAAutomaton.universal_start_state.Goals as goal
 
 pub returns-in-No-clause-is_id : goal.returns-in-No-clause-is_id

@@ -1,5 +1,4 @@
-use Rattle.std.proofs.Common.{ap, sym, ◌∙◌, subst}
-use Rattle.rx_spec.specs.Ids.{row_of}
+use Rattle.rx_spec.proofs.Prelude.{ap, sym, ◌∙◌, subst, row_of}
 use Rattle.tests_searches.specs.Samples.{sample_ids}
 use Rattle.tests_searches.specs.SampleFacts.{is_named, row_named}
 use Rattle.rx_search.specs.Starts.{IsId}

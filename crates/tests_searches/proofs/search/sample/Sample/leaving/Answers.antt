@@ -1,7 +1,6 @@
-use Rattle.std.proofs.Common.{◌≡◌, ◌+◌, ◌-◌, ℕ, suc, ◌∷◌, [], ◌++◌, List, length, take, refl, ap, sym, ◌∙◌, arith}
-use Rattle.std.proofs.Common.{length-append, length-take-le, length-set}
+use Rattle.rx_spec.proofs.Prelude.{◌≡◌, ◌+◌, ◌-◌, ℕ, suc, ◌∷◌, [], ◌++◌, List, length, take, refl, ap, sym, ◌∙◌, arith}
+use Rattle.rx_spec.proofs.Prelude.{length-append, length-take-le, length-set, slice_set}
 use Rattle.std.proofs.Math.Seq.{take-suc-set}
-use Rattle.std.specs.Prelude.{slice_set}
 use Rattle.tests_searches.specs.Samples.{leaving_below}
 use Rattle.tests_searches.specs.SampleFacts.{stays_more, leaves_more, leaving_grows}
 use Rattle.tests_searches.proofs.search.sample.Sample.leaving.Goals as goal

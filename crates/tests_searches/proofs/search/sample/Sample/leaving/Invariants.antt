@@ -1,4 +1,4 @@
-use Rattle.std.proofs.Common.{◌≡◌, ◌≤◌, length, take}
+use Rattle.rx_spec.proofs.Prelude.{◌≡◌, ◌≤◌, length, take}
 use Rattle.tests_searches.specs.Samples.{leaving_below}
 use Rattle.tests_searches.proofs.search.sample.Sample.leaving.Given as goal
 

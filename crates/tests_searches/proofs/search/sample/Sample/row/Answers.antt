@@ -1,4 +1,4 @@
-use Rattle.std.proofs.Common.{arith, ap, length}
+use Rattle.rx_spec.proofs.Prelude.{arith, ap, length}
 use Rattle.tests_searches.specs.Samples.{Sample}
 use Rattle.tests_searches.specs.SampleFacts.{id_there}
 use Rattle.tests_searches.proofs.search.sample.Sample.row.Goals as goal

@@ -1,5 +1,4 @@
-use Rattle.std.proofs.Common.{ap, sym, ◌∙◌, arith}
-use Rattle.rx_spec.specs.Ids.{row_of}
+use Rattle.rx_spec.proofs.Prelude.{ap, sym, ◌∙◌, arith, row_of}
 use Rattle.tests_searches.specs.Samples.{Sample, sample_ids}
 use Rattle.tests_searches.specs.SampleFacts.{count_is, count_within, pattern_is}
 use Rattle.tests_searches.proofs.search.sample.SampleAutomaton.match_pattern.Goals as goal

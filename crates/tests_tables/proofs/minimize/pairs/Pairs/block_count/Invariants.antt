@@ -1,4 +1,4 @@
-use Rattle.std.proofs.Common.{◌≤◌}
+use Rattle.rx_spec.proofs.Prelude.{◌≤◌}
 use Rattle.tests_tables.proofs.minimize.pairs.Pairs.block_count.Given as goal
 
 abbrev pub invariant-loop-row : goal.invariant-loop-row

@@ -1,5 +1,4 @@
-use Rattle.std.proofs.Common.{rules, ◌<◌, length}
-use Rattle.std.specs.Prelude.{All}
+use Rattle.rx_spec.proofs.Prelude.{rules, ◌<◌, length, All}
 use Rattle.tests_tables.proofs.Chains.{chain_of_rows}
 use Rattle.tests_tables.proofs.remapper.chain.Chain.new.Goals as goal
 

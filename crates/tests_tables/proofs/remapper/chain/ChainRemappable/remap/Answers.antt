@@ -1,5 +1,4 @@
-use Rattle.std.proofs.Common.{ℕ, ◌/◌, ◌^◌, ◌∙◌, [], ◌∷◌, length, ap, sym, subst, slice_index}
-use Rattle.std.proofs.lemmas.List.{length-map}
+use Rattle.rx_spec.proofs.Prelude.{ℕ, ◌/◌, ◌^◌, ◌∙◌, [], ◌∷◌, length, ap, sym, subst, slice_index, length-map}
 use Rattle.rx_order.specs.Transitions.{Transitions, AreRows, IsRowId, row_of, with_ids}
 use Rattle.tests_tables.specs.Chains.{chain_of}
 use Rattle.rx_order.proofs.KeptRows.{renamed_are_rows}

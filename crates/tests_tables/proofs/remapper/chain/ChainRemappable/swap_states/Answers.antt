@@ -1,4 +1,4 @@
-use Rattle.std.proofs.Common.{◌∙◌, ap, sym, subst}
+use Rattle.rx_spec.proofs.Prelude.{◌∙◌, ap, sym, subst}
 use Rattle.rx_order.specs.Transitions.{Transitions, AreRows, IsRowId, row_of, with_swapped}
 use Rattle.rx_order.proofs.KeptRows.{swapped_are_rows}
 use Rattle.tests_tables.proofs.Chains.{row_within, swapped_chain}

@@ -1,0 +1,2 @@
+-- what proofs take from std and from this crate
+pub mod Prelude
