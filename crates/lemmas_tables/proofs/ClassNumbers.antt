@@ -8,8 +8,7 @@ use Rattle.rx_spec.proofs.Prelude.{length-range_with_len, get_or-range_with_len,
 use Rattle.rx_spec.proofs.Prelude.{column_by, representatives, least_exponent}
 use Rattle.std.proofs.lemmas.List.Elements.{filter_passes}
 use Rattle.std.proofs.lemmas.List.FromFn.{filter_of_map_range_with_len_more}
-use Rattle.rx_spec.specs.Classes.{alphabet_by, begins_class}
-use Rattle.rx_spec.specs.Classes.{stride2_of}
+use Rattle.rx_spec.specs.Classes.{alphabet_by, begins_class, stride2_of}
 use Rattle.lemmas_walks.proofs.Firsts.{by_test}
 
 module _ (ends : ℕ → Bool) where

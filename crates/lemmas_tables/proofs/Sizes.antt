@@ -6,8 +6,7 @@ use Rattle.rx_spec.proofs.Prelude.{sum_by, lt-ltb, ltb-true, sum_by-cons, mul-le
 use Rattle.rx_spec.proofs.Prelude.{determinizer_size, label_total, table_size, last_id, sparse_size, sparse_bound}
 use Rattle.rx_spec.proofs.Prelude.{Exceeds}
 use Rattle.std.proofs.lemmas.List.Sums.{sum_by-le-sum_by}
-use Rattle.rx_spec.specs.Sizes.{state_size, leaving_bytes}
-use Rattle.rx_spec.specs.Sizes.{is_skippable_node, needle_count, sparse_row_size}
+use Rattle.rx_spec.specs.Sizes.{state_size, leaving_bytes, is_skippable_node, needle_count, sparse_row_size}
 use Rattle.rx_spec.specs.Causes.{Limits, sparse_length}
 use Rattle.lemmas_walks.proofs.Firsts.{by_test}
 use Rattle.lemmas_tables.proofs.Sublists.{sum_by-within, length-within}
@@ -42,8 +41,7 @@ module _ (b : Build) (byte_classes accelerate : Bool) where
 
   -- a row has needles only where there is a state
   abbrev needles_where : Node → Bool → ℕ
-  needles_where node some =
-      if accelerate && some && is_skippable_node b node then length (leaving_bytes b node) else 0
+  needles_where node some = if accelerate && some && is_skippable_node b node then length (leaving_bytes b node) else 0
 
   needles_grow : (xs ys : List State) → length xs ≤ length ys → (node : Node)
       → needle_count b accelerate xs node ≤ needle_count b accelerate ys node

@@ -150,8 +150,7 @@ pub ends_repeat_more : (r : Reading) (n : ℕ) (most : Option ℕ) (greedy : Boo
     → ends r (Expression.Repeat (suc n) most greedy body) i
     ≡ flat_map (λ j. ends r (Expression.Repeat n (lowered most) greedy body) j) (ends r body i)
 unfolding ends rounds
-ends_repeat_more r n most greedy body i =
-    grind (arith, common_steps, flat_map-flat_map)
+ends_repeat_more r n most greedy body i = grind (arith, common_steps, flat_map-flat_map)
 
 -- no rounds at all
 pub ends_repeat_none : (r : Reading) (greedy : Bool) (body : Expression) (i : ℕ)

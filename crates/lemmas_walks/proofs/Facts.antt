@@ -3,8 +3,7 @@ use Rattle.rx_spec.proofs.Prelude.{common_steps, [], ◌≡◌, ℕ, suc, zero, 
 use Rattle.rx_spec.proofs.Prelude.{◌∙◌, arith, ne_eqb, Contains, Row, Facts, facts_of, unit_facts, both, either_of}
 use Rattle.rx_spec.proofs.Prelude.{holds_read, facts_read, row_reads, facts_kept, start_of}
 use Rattle.rx_spec.specs.Looks.{holds}
-use Rattle.rx_spec.specs.Contexts.{holds_by}
-use Rattle.rx_spec.specs.Contexts.{start_facts}
+use Rattle.rx_spec.specs.Contexts.{holds_by, start_facts}
 use Rattle.rx_spec.specs.declared.Direction.{Direction}
 use Rattle.rx_spec.specs.declared.Look.{Look}
 use Rattle.rx_spec.specs.declared.Start.{Start}

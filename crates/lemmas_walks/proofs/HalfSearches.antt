@@ -99,5 +99,4 @@ pub record Begun {R : Type 0} (m : Machine R) (s : Settings) (direction : Direct
 
 pub half_begun : {R : Type 0} (m : Machine R) (s : Settings) (direction : Direction) (q : Query) (h : Option HalfMatch)
     → half_search m s direction q ≡ Ok h → ((q.end < q.start) × (h ≡ None)) ⊎ Begun m s direction q h
-half_begun m s direction q h e =
-    grind (arith, common_steps, begins, told_same, half_done)
+half_begun m s direction q h e = grind (arith, common_steps, begins, told_same, half_done)

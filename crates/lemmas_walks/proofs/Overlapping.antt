@@ -5,8 +5,7 @@ use Rattle.rx_spec.proofs.Prelude.{StartError, start_error, start_row, State, st
 use Rattle.rx_spec.proofs.Prelude.{beside, next_offset, unit_offset, match_error, Ending, OverlappingMatches, none_left}
 use Rattle.rx_spec.proofs.Prelude.{with_items, at_item_label, overlapping_walk, whole_overlapping_walk, overlapping}
 use Rattle.rx_spec.proofs.Prelude.{remaining}
-use Rattle.rx_spec.specs.Overlapping.{Reported}
-use Rattle.rx_spec.specs.Overlapping.{overlapping_from}
+use Rattle.rx_spec.specs.Overlapping.{Reported, overlapping_from}
 use Rattle.rx_spec.specs.declared.Direction.{Direction}
 use Rattle.lemmas_walks.proofs.SilentRows.{IsSilent, silent_label, silent_next}
 use Rattle.lemmas_walks.proofs.Words.{IsWord-head, IsWord-tail}
@@ -74,8 +73,7 @@ module _ {R : Type 0} (m : Machine R) (direction : Direction) where
   pub overlapping-more : (row : R) (unit offset : ℕ) (units : List ℕ) → IsWord units
       → (m.is_dead (m.next row unit) ≡ true → IsSilent m (m.next row unit))
       → overlapping_walk m direction row offset (unit ∷ units) ≡ overlapping_through unit offset units (m.next row unit)
-  overlapping-more row unit offset units w silent =
-      grind (arith, common_steps, overlapping-cons, overlapping_silent)
+  overlapping-more row unit offset units w silent = grind (arith, common_steps, overlapping-cons, overlapping_silent)
 
 -- over a build's powerset machine: dead, quit, or on to a step of the state
 module _ (b : Build) (direction : Direction) where
@@ -97,8 +95,7 @@ module _ (b : Build) (direction : Direction) where
       → state_overlapping s offset (unit ∷ units)
       ≡ at_item_label (label_of (step b.nfa b.kind s unit).label) direction unit offset
       (state_overlapping (step b.nfa b.kind s unit) (next_offset direction offset) units)
-  overlapping_steps s unit offset units e f =
-      grind (arith, common_steps, overlapping-cons, overlapping_dead)
+  overlapping_steps s unit offset units e f = grind (arith, common_steps, overlapping-cons, overlapping_dead)
 
 -- the search: done, refused, or a walk
 module _ {R : Type 0} (m : Machine R) (s : Settings) (direction : Direction) (q : Query) where

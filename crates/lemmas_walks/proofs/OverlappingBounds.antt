@@ -153,8 +153,7 @@ module _ {R : Type 0} (m : Machine R) (s : Settings) (direction : Direction) (q 
       → (q.start ≤ q.end)
       × Came m (start_row m s (beside direction q) q.mode) (units_of direction q)
       (LeadsToItem m direction (first_offset direction q) h)
-  search_met h c =
-      grind (arith, common_steps, begins, overlapping_met)
+  search_met h c = grind (arith, common_steps, begins, overlapping_met)
 
   pub overlapping_in_span : (h : HalfMatch) → Contains (overlapping m s direction q).items (Item.Reported h)
       → (q.start ≤ h.offset) × (h.offset ≤ q.end)
@@ -169,12 +168,10 @@ module _ {R : Type 0} (m : Machine R) (s : Settings) (direction : Direction) (q 
       → (q.start ≤ q.end)
       × Came m (start_row m s (beside direction q) q.mode) (units_of direction q)
       (LeadsToQuit m direction (first_offset direction q) (MatchError.Quit byte at))
-  search_quit byte at e =
-      grind (arith, common_steps, begins, overlapping_quit)
+  search_quit byte at e = grind (arith, common_steps, begins, overlapping_quit)
 
   pub search_refused : (error : MatchError) → (overlapping m s direction q).ending ≡ Ending.Refused error
       → (q.start ≤ q.end)
       × ((refused : StartError) × (start_error s (beside direction q) q.mode ≡ Some refused)
       × (error ≡ match_error direction q refused))
-  search_refused error e =
-      search (rules, begins, not_refused)
+  search_refused error e = search (rules, begins, not_refused)

@@ -237,8 +237,7 @@ module _ (rows : List Row) where
 
   either_stops : {first second : Maker} {c d : ℕ} → Stops first c → Stops second d
       → Stops (either first second) (c + d + 1)
-  either_stops {first} {second} {c} {d} f s =
-      grind (arith, common_steps, stands-left, stands-right, last_short, more)
+  either_stops {first} {second} {c} {d} f s = grind (arith, common_steps, stands-left, stands-right, last_short, more)
 
   copies_stop : {body : Maker} {c : ℕ} → Lengthens body c → Stops body c → (n : ℕ) → 0 < n
       → Stops (copies n body) (n * c)

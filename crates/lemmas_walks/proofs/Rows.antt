@@ -40,8 +40,7 @@ optional_makes greedy body c h (suc n) base next =
 
 pub repeated_makes : (least : ℕ) (most : Option ℕ) (greedy : Bool) (body : Maker) (c : ℕ) → Makes body c
     → Makes (repeated least most greedy body) (repeated_count least most c)
-repeated_makes least None greedy body c h base next =
-    grind (arith, common_steps, copies_make)
+repeated_makes least None greedy body c h base next = grind (arith, common_steps, copies_make)
 repeated_makes least (Some most) greedy body c h base next =
     grind (arith, common_steps, copies_make, optional_makes, chained_makes)
 

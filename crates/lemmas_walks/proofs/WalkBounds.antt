@@ -186,8 +186,7 @@ module _ {R : Type 0} (m : Machine R) (s : Settings) (direction : Direction) (q 
       × (((refused : StartError) × (start_error s (beside direction q) q.mode ≡ Some refused)
       × (error ≡ match_error direction q refused))
       ⊎ CameIn (LeadsToQuit m direction (first_offset direction q) error))
-  half_error error e =
-      grind (arith, common_steps, begins, error_not_told, walk_quit)
+  half_error error e = grind (arith, common_steps, begins, error_not_told, walk_quit)
 
   pub half_in_span : (h : HalfMatch) → half_search m s direction q ≡ Ok (Some h)
       → (q.start ≤ h.offset) × (h.offset ≤ q.end)

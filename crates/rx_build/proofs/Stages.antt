@@ -52,8 +52,7 @@ module _ {b : Build} {begun : Layout} where
         reached = m.reached (built_modes b) made.reached;
         power = λ e. absurd (true≢false e);
         apart = λ e. m.apart;
-        left_out =
-            joined_left_out b old new made.in_order.sound.is_table m.in_order.sound.is_table m made.left_out;
+        left_out = joined_left_out b old new made.in_order.sound.is_table m.in_order.sound.is_table m made.left_out;
         in_order = m.in_order;
         plain = λ e. m.plain;
         joined = m.joined;

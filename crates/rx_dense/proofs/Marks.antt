@@ -25,8 +25,7 @@ module _ (words : List ℕ) (alphabet_len stride min_match : ℕ) (slices patter
       → AreMarks words alphabet_len stride min_match slices pattern_ids marks
       → IsMark words alphabet_len stride min_match slices pattern_ids (length marks) mark
       → AreMarks words alphabet_len stride min_match slices pattern_ids (marks ++ mark ∷ [])
-  marked_more marks mark aligned are is =
-      grind (arith, common_steps, length-append)
+  marked_more marks mark aligned are is = grind (arith, common_steps, length-append)
 
 -- ---- rows that lead to the dead row
 
@@ -61,8 +60,7 @@ from_first s first id some whole_first whole order =
 
 -- the marks of a layout
 abbrev pub HasMarks : Layout → List ℕ → Type 0
-HasMarks l marks =
-    AreMarks l.words (alphabet_len l.classes) (stride l) l.special.min_match l.slices l.pattern_ids marks
+HasMarks l marks = AreMarks l.words (alphabet_len l.classes) (stride l) l.special.min_match l.slices l.pattern_ids marks
 
 -- the mark of a row, as it is looked up
 pub record Found (l : Layout) (marks : List ℕ) (id mark : ℕ) : Type 0 where

@@ -30,8 +30,7 @@ module _ (next_ids : List ℕ) where
   eoi = length next_ids - 1
 
   abbrev firsts_from : ℕ → List ℕ
-  firsts_from class =
-      filter (λ c. begins_range next_ids c && is_live next_ids c) (range_with_len class (eoi - class))
+  firsts_from class = filter (λ c. begins_range next_ids c && is_live next_ids c) (range_with_len class (eoi - class))
 
   -- ---- a range
 

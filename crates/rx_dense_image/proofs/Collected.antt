@@ -18,5 +18,4 @@ pub one_more_word : (s last forbidden low greatest met x : ℕ)
     → (((eqb (bit_or low x % 2 ^ s) 0) && leb (max greatest x) last)
     && eqb (bit_or met (all_bits (eqb x forbidden))) 0)
     ≡ ((((eqb (low % 2 ^ s) 0) && leb greatest last) && eqb met 0) && may_stand (2 ^ s) last forbidden x)
-one_more_word s last forbidden low greatest met x =
-    grind (arith, common_steps, bit_or, or_whole, or_none)
+one_more_word s last forbidden low greatest met x = grind (arith, common_steps, bit_or, or_whole, or_none)

@@ -76,8 +76,7 @@ at_most_last x n s some words whole of = grind (arith, common_steps)
 
 stands_entry : (x n s : ℕ) (b : Bool) → 0 < s → 0 < n → n % s ≡ 0 → n - s ≤ 2147483646
     → may_stand s (n - s) (cond b s 4294967295) x ≡ (((eqb (x % s) 0) && ltb x n) && not (b && eqb x s))
-stands_entry x n s b some words whole small =
-    grind (arith, common_steps, at_most_last)
+stands_entry x n s b some words whole small = grind (arith, common_steps, at_most_last)
 
 -- all words stand where each is an entry
 pub stand_entries : (rows : Rows) → length rows.words % 2 ^ rows.stride2 ≡ 0

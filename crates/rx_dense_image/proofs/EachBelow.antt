@@ -18,8 +18,7 @@ below_at (suc n) p k h lt =
 
 below_of : (n : ℕ) (p : ℕ → Bool) → ((k : ℕ) → k < n → p k ≡ true) → each_below n p ≡ true
 below_of zero p h = refl
-below_of (suc n) p h =
-    and_from (each_below n p) (p n) (below_of n p (λ k lt. h k (omega arith))) (h n (omega arith))
+below_of (suc n) p h = and_from (each_below n p) (p n) (below_of n p (λ k lt. h k (omega arith))) (h n (omega arith))
 
 below_not : (n : ℕ) (p : ℕ → Bool) (k : ℕ) → k < n → p k ≡ false → each_below n p ≡ false
 below_not zero p k lt h = absurd (search rules)

@@ -26,8 +26,7 @@ start_at starts mode start =
 pub start_is : (starts : List ℕ) (o : Option ℕ) → length starts ≡ start_entries o → (P : ℕ → Type 0) → P 0
     → ((k : ℕ) → k < length starts → P (slice_index starts k))
     → (mode : Anchored) (start : Start) → P (start_at starts mode start)
-start_is starts o count P zero each mode start =
-    grind (arith, common_steps)
+start_is starts o count P zero each mode start = grind (arith, common_steps)
 
 -- ---- rows and their ids
 
@@ -57,33 +56,27 @@ labels m q ks = refl
 
 module _ (t : IdTable) where
   pub dead_is : (row : ℕ) → row < t.table.size → eqb (t.id row) 0 ≡ eqb row 0
-  dead_is row h =
-      grind (arith, common_steps)
+  dead_is row h = grind (arith, common_steps)
 
   pub quit_is : (row : ℕ) → row < t.table.size → eqb (t.id row) t.special.quit ≡ eqb row 1
-  quit_is row h =
-      grind (arith, common_steps)
+  quit_is row h = grind (arith, common_steps)
 
   pub quit_some : 0 < t.special.quit
-  quit_some =
-      grind (arith, common_steps)
+  quit_some = grind (arith, common_steps)
 
   -- ---- labels
 
   -- a row matches where its id is in the range of match rows
   pub match_is : (row : ℕ) → is_match t.table row ≡ is_match_id t.special (t.id row)
-  match_is row =
-      grind (arith, common_steps, matches_by)
+  match_is row = grind (arith, common_steps, matches_by)
 
   -- the patterns of a match row are those of the row
   pub patterns_of : (row : ℕ) (ks : List ℕ) → t.table.machine.label row ≡ Label.Matches ks
       → (is_match_id t.special (t.id row) ≡ true) × (t.patterns row ≡ ks)
-  patterns_of row ks e =
-      grind (arith, common_steps, lists_by)
+  patterns_of row ks e = grind (arith, common_steps, lists_by)
 
   pub quit_only : (row : ℕ) → row < t.table.size → t.table.machine.label row ≡ Label.Quits → row ≡ 1
-  quit_only row h e =
-      grind (arith, common_steps, quits_only_by)
+  quit_only row h e = grind (arith, common_steps, quits_only_by)
 
   -- ---- special rows
 
@@ -91,8 +84,7 @@ module _ (t : IdTable) where
   pub named_is : (row : ℕ) → row < t.table.size → is_named t.special (t.id row)
       ≡ (eqb row 0 || eqb row 1 || is_match t.table row || is_accel_id t.special (t.id row)
       || is_start_id t.special (t.id row))
-  named_is row h =
-      grind (arith, common_steps, match_is)
+  named_is row h = grind (arith, common_steps, match_is)
 
   module _ (test : are_special t.special ≡ true) where
     pub dead_label : t.table.machine.label 0 ≡ Label.Plain

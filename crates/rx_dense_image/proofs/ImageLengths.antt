@@ -24,8 +24,7 @@ length-rows order rows classes = grind (arith, common_steps, length-words)
 
 pub length-start_table : (order : Order) (table : StartTable) → length table.contexts ≡ 256
     → length (start_table_text order table) ≡ 276 + 4 * length table.starts
-length-start_table order table contexts =
-    grind (arith, common_steps, length-words)
+length-start_table order table contexts = grind (arith, common_steps, length-words)
 
 length-pattern_lists : (order : Order) (lists : PatternLists)
     → length (pattern_lists_text order lists) ≡ 12 + 4 * length lists.slices + 4 * length lists.pattern_ids
@@ -48,8 +47,7 @@ pub length-quit : (order : Order) (quit : ℕ) → length (quit_text order quit)
 length-quit order quit = grind (arith, common_steps)
 
 length-marks : (order : Order) (marks : Marks) → length (marks_text order marks) ≡ 68 + 8 * length marks.accels
-length-marks order marks =
-    grind (arith, common_steps, length-each)
+length-marks order marks = grind (arith, common_steps, length-each)
 
 pub length-text : (order : Order) (l : Layout) → length l.classes ≡ 256 → length l.contexts ≡ 256
     → length (text order l) ≡ image_len l

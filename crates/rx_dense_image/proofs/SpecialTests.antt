@@ -75,8 +75,7 @@ module _ (s : Special) (test : are_special s ≡ true) where
 
   -- dead and quit are no match rows
   pub no_match : (id : ℕ) → id ≤ s.quit → is_match_id s id ≡ false
-  no_match id le =
-      grind (arith, common_steps, false_from_ne_true)
+  no_match id le = grind (arith, common_steps, false_from_ne_true)
 
   -- a named id is at most the greatest
   pub named_few : (id : ℕ) → is_named s id ≡ true → id ≤ s.max

@@ -139,8 +139,7 @@ module _ {k : Keying} {limits : SizeLimits} {met : Met} {l : Layout} {key : List
       bare = record {
         slices = working.bare.slices;
         pattern_ids = working.bare.pattern_ids;
-        accels =
-            working.bare.accels;
+        accels = working.bare.accels;
       };
       count = more_rows;
       distinct = distinct;

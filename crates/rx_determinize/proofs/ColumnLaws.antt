@@ -32,8 +32,7 @@ module _ (l : Layout) (are : AreClasses l.classes) where
   unit_last c e = get_or_push (representatives (ends_of l.classes)) 256 0 c (counted ∙ sym e)
 
   byte_below : (c : ℕ) → c < slice_index l.classes 255 + 1 → unit_of l.classes c < 256
-  byte_below c h =
-      omega (arith, unit_below c h, representative_below (ends_of l.classes) c (omega (arith, counted)))
+  byte_below c h = omega (arith, unit_below c h, representative_below (ends_of l.classes) c (omega (arith, counted)))
 
   pub unit_in : (c : ℕ) → c < alphabet_len l.classes → unit_of l.classes c < 257
   unit_in c h =

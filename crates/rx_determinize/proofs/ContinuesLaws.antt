@@ -28,8 +28,7 @@ pub continues_none : (w : Work) (l : Layout) → Continues w l w l
 continues_none w l = continues_over w (record { rest = refl; count = refl })
 
 pub continues_twice : {w v u : Work} {l m n : Layout} → Continues w l v m → Continues v m u n → Continues w l u n
-continues_twice {w} {v} {u} {l} {m} {n} first second =
-    grind (arith, common_steps)
+continues_twice {w} {v} {u} {l} {m} {n} first second = grind (arith, common_steps)
 
 -- more states were met, and words were written
 pub continues_grown : (w : Work) (after : Met) {l m : Layout} → Extends w.met.keys after.keys → IsWrittenOver l m

@@ -154,8 +154,7 @@ module _ {w : Work} {nfa : Nfa} {settings : Settings} {byte_classes : Bool} {l :
             subst (λ (n : Nfa). HasEntries (length n.start_patterns) m) (sym same)
             (record {
               count = later.over.count ∙ has_entries.count ∙ ap start_entries (sym own);
-              own =
-                  subst (λ (o : Option ℕ). IfSome o (λ n. n ≡ length nfa.start_patterns)) (sym own) has_entries.own;
+              own = subst (λ (o : Option ℕ). IfSome o (λ n. n ≡ length nfa.start_patterns)) (sym own) has_entries.own;
             });
       }
 

@@ -18,8 +18,7 @@ starts_later {w} {v} {l} {m} {mode} {row} later at = grind (arith, common_steps)
 pub mode_reached : {w : Work} {l : Layout} {mode : Anchored} {row : Option ℕ} (start : Start) → StartsAt w l mode row
     → IfSome row (λ q. is_dead_state (start_state w.stepping.nfa q start) ≡ false
     → IsReached (keys_in w l).build (start_state w.stepping.nfa q start))
-mode_reached {w} {l} {mode} {row} start at =
-    row_reached (keys_in w l).build mode start row at.built (at.entry start)
+mode_reached {w} {l} {mode} {row} start at = row_reached (keys_in w l).build mode start row at.built (at.entry start)
 
 -- the row of a context was found, and then its entry set
 pub context_set : {w v : Work} {l m n : Layout} {mode : Anchored} {row : Option ℕ} {start : Start} {id : ℕ}

@@ -58,8 +58,7 @@ place_of mode start = mode_place mode + context_number start
 -- each place is that of one mode and one context
 one_start : (mode other : Anchored) (start context : Start) → place_of mode start ≡ place_of other context
     → (mode ≡ other) × (start ≡ context)
-one_start mode other start context e =
-    grind (arith, common_steps, group, place_of_group, one_place, number_low)
+one_start mode other start context e = grind (arith, common_steps, group, place_of_group, one_place, number_low)
 
 group_of_mode : (n : ℕ) → group (mode_at n) ≡ n
 unfolding group mode_at

@@ -108,8 +108,7 @@ state_at state_of keys id there = slice_get-map state_of keys id ∙ ap (option_
 pub interned_row : {key : List ℕ} {id : ℕ} {before after : List (List ℕ)} (state_of : List ℕ → State)
     → Interns before key id after → is_dead_state (state_of key) ≡ false
     → IsRowOf (map state_of after) (Running (state_of key)) (suc (suc id))
-interned_row {key} {id} {before} {after} state_of interns alive =
-    grind (arith, common_steps, in_false, slice_get-map)
+interned_row {key} {id} {before} {after} state_of interns alive = grind (arith, common_steps, in_false, slice_get-map)
 
 map_at : {X Y : Type 0} (f : X → Y) (xs : List X) (i : ℕ) (y : Y) → slice_get (map f xs) i ≡ Some y
     → (x : X) × (slice_get xs i ≡ Some x) × (f x ≡ y)

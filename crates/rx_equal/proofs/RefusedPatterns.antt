@@ -41,8 +41,7 @@ module _ (t u : Table) (refused : AreRefused t u (record { beside = None; mode =
       → IfSome beside (λ byte. byte < 256)
       → Meet t u pairs (record { beside = beside; mode = Anchored.Pattern k })
   pattern_met pairs plain k None h = grind (arith, common_steps)
-  pattern_met pairs plain k (Some byte) h =
-      grind (arith, common_steps, refused_met, quits_met)
+  pattern_met pairs plain k (Some byte) h = grind (arith, common_steps, refused_met, quits_met)
 
   by_mode : (pairs : List RowPair) → ((m : ℕ) → m < 2 → MeetMode t u pairs (mode_at m)) → (mode : Anchored)
       (beside : Option ℕ) → IfSome beside (λ byte. byte < 256)

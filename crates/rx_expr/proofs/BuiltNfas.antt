@@ -53,8 +53,7 @@ pub adds_all : {direction : Direction} {es : List Expression} {first mid last : 
     → AddsJoined given first mid anchored → at_edge ≡ all_at_edge direction es
     → Adds (lead_in at_edge) mid last anchored unanchored
     → AddsAll direction es first mid last starts anchored unanchored
-adds_all {first = first} {mid = mid} {anchored = anchored} patterns same joined edge led =
-    grind (arith, common_steps)
+adds_all {first = first} {mid = mid} {anchored = anchored} patterns same joined edge led = grind (arith, common_steps)
 
 pub nfa_made : {direction : Direction} {es : List Expression} {first mid last : List Row} {starts : List ℕ}
     {anchored unanchored : ℕ} {has_empty : Bool} (terminator : ℕ) (utf8 : Bool)
@@ -70,8 +69,7 @@ pub nfa_made : {direction : Direction} {es : List Expression} {first mid last : 
       is_utf8 = utf8;
     } ≡ nfa_of direction terminator utf8 es
 unfolding nfa_of
-nfa_made {direction} {es} {first} {mid} {last} terminator utf8 steps empty =
-    grind (arith, common_steps, edge_of)
+nfa_made {direction} {es} {first} {mid} {last} terminator utf8 steps empty = grind (arith, common_steps, edge_of)
 
 pub nfa_same : {r s : Direction} {t u : ℕ} {v w : Bool} (es : List Expression) → r ≡ s → t ≡ u → v ≡ w
     → nfa_of r t v es ≡ nfa_of s u w es

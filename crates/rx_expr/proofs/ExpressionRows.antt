@@ -141,8 +141,7 @@ bare (Expression.Repeat least (Some most) greedy body) z base next =
     ap rounds (no_more least more (rows_count body) z)
     ∙ (elim (eq-zero-or-pos (rows_count body)) [
       | inl none ↦ bare_copies (compile body) (bare body none) least (base + 0) next
-      | inr some ↦
-          ap (λ n. copies n (compile body) (base + 0) next) (no_copies least more (rows_count body) z some)
+      | inr some ↦ ap (λ n. copies n (compile body) (base + 0) next) (no_copies least more (rows_count body) z some)
     ])
 bare _ z base next = absurd (omega arith)
 

@@ -128,8 +128,7 @@ module _ (run : Run) {image : List ℕ} {over : Bool} {left : Option (List ℕ)}
       replies = FeedReplies.Refused kind split_whole read refl w.0;
       written = w.1;
     }
-    refused_by kind (Err Fault.Sink) read w =
-        FeedBreaks.InRefusal image over kind takes_image split_whole read w
+    refused_by kind (Err Fault.Sink) read w = FeedBreaks.InRefusal image over kind takes_image split_whole read w
     refused_by kind _ read w = absurd w
 
     feed_refuses : {L : Type 0} (table_of : L → Table) (reads : Result (L × ℕ) Kind) (kind : Kind)

@@ -59,8 +59,7 @@ Same text other status again = (text ≡ other) × (status ≡ again)
 module _ {t : Table} {mode : Anchored} {haystack : List ℕ} where
   now_no_quit : {matches : List StreamEvent} {byte offset : ℕ} → All IsMatch (told_now t mode haystack)
       → IsToldLast t mode haystack matches (StreamEvent.Quit byte offset) → ⊥
-  now_no_quit {matches} {byte} {offset} all is =
-      no_quit matches is.later byte offset (subst (All IsMatch) is.tells all)
+  now_no_quit {matches} {byte} {offset} all is = no_quit matches is.later byte offset (subst (All IsMatch) is.tells all)
 
   stream_once : {ended also : Bool} {text other : List ℕ} {status again : ℕ}
       → StreamReplies t mode haystack ended text status → StreamReplies t mode haystack also other again

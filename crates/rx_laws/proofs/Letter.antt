@@ -42,11 +42,9 @@ from_unanchored : (quits a any : Bool) (facts : Facts) → (a ≡ true → any �
     → Known five_states (then_at letter_forward quits (where_a a ++ (where_any any ++ [])) facts [])
 unfolding computing
 from_unanchored true a any facts h = tt
-from_unanchored false true true facts h =
-    λ alive. at_place five_states 3 (state (0 ∷ 1 ∷ 3 ∷ []) []) (omega arith) refl
+from_unanchored false true true facts h = λ alive. at_place five_states 3 (state (0 ∷ 1 ∷ 3 ∷ []) []) (omega arith) refl
 from_unanchored false true false facts h = absurd (let e = h refl in cc)
-from_unanchored false false true facts h =
-    λ alive. at_place five_states 1 (state (1 ∷ 3 ∷ []) []) (omega arith) refl
+from_unanchored false false true facts h = λ alive. at_place five_states 1 (state (1 ∷ 3 ∷ []) []) (omega arith) refl
 from_unanchored false false false facts h = λ alive. absurd (cc)
 
 to_match : (quits : Bool) (facts : Facts) → Known five_states (then_at letter_forward quits [] facts (0 ∷ []))

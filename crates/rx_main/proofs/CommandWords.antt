@@ -22,8 +22,7 @@ abbrev first_of : List (List ℕ) → ℕ → ℕ
 first_of words i = get_or (get_or words i []) 0 0
 
 abbrev table_by : ℕ → PlanTable
-table_by byte =
-    if byte == 102 then PlanTable.Forward else (if byte == 97 then PlanTable.All else PlanTable.Reverse)
+table_by byte = if byte == 102 then PlanTable.Forward else (if byte == 97 then PlanTable.All else PlanTable.Reverse)
 
 abbrev order_by : ℕ → Order
 order_by byte = if byte == 108 then Order.Little else Order.Big
@@ -50,8 +49,7 @@ abbrev searched : ℕ → ℕ → Mode → ℕ → Search
 searched start end mode image_len = record { start = start; end = end; mode = mode; image_len = image_len }
 
 abbrev search_by : List (List ℕ) → Search
-search_by words =
-    searched (number_by words 1) (number_by words 2) (mode_by (get_or words 3 [])) (number_by words 4)
+search_by words = searched (number_by words 1) (number_by words 2) (mode_by (get_or words 3 [])) (number_by words 4)
 
 -- two commands begin with the same byte
 abbrev cut_by : ℕ → List (List ℕ) → ReadCommand

@@ -200,8 +200,7 @@ module _ (words : List (List ℕ)) (bytes : List ℕ) where
   command_alike : (command : Command) → Says words command → (ended also : Bool) (reply other : Reply)
       → CommandReplies command bytes ended reply → CommandReplies command bytes also other
       → SayTheSame words bytes reply other
-  command_alike (Command.Read command) says ended also reply other h k =
-      read_alike command says reply other h.1 k.1
+  command_alike (Command.Read command) says ended also reply other h k = read_alike command says reply other h.1 k.1
   command_alike (Command.Gen count) says ended also reply other h k = grind (arith, common_steps, plan_alike)
   command_alike (Command.Feed f) says ended also reply other h k =
       let same = feed_once f.form (mode_of f.mode) f.image_len bytes ended also reply.text other.text reply.status

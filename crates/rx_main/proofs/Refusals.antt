@@ -2,8 +2,7 @@
 use Rattle.rx_spec.proofs.Prelude.{common_steps, ◌≡◌, ⊎_elim, ℕ, Bool, true, false, List, Option, refl, arith}
 use Rattle.rx_spec.proofs.Prelude.{Expression, Nfa, Build, BuildCause, IsSupported, IsUnsupported, BuildFits, Plan}
 use Rattle.rx_spec.proofs.Prelude.{Cause}
-use Rattle.rx_spec.specs.Causes.{NfaCause, NfaFits, NfaRefused}
-use Rattle.rx_spec.specs.Causes.{BuildRefused, HasTooLongRows}
+use Rattle.rx_spec.specs.Causes.{NfaCause, NfaFits, NfaRefused, BuildRefused, HasTooLongRows}
 use Rattle.rx_spec.specs.Plans.{DirectionFits, DirectionRefused, plan_limits}
 use Rattle.rx_spec.specs.declared.Direction.{Direction}
 use Rattle.rx_regex.specs.Find.{PlanFits, PlanRefused}

@@ -58,8 +58,7 @@ module _ (c : Scan) where
   pub first_told : (n i : ℕ) (s : State) (h : HalfMatch) → StandsAt c s i
       → state_walk c.build Direction.Forward true s i None (units_from (read_in c) i n) ≡ Ok (Some h)
       → (i ≤ h.offset) × (tells c s i h.offset ≡ Some h.pattern)
-  first_told zero i s h at w =
-      grind (arith, common_steps, units_from-zero, walk-nil)
+  first_told zero i s h at w = grind (arith, common_steps, units_from-zero, walk-nil)
   first_told (suc n) i s h at w =
       let unit = unit_at (read_in c) i in
       let units = units_from (read_in c) (i + 1) n in

@@ -37,5 +37,4 @@ pub answered : (a : Asked) (end : HalfMatch) → half a Direction.Forward ≡ Ok
     → (b : Begins a end.pattern end.offset)
     → with_end (build_half_search (plan_build a.plan Direction.Reverse a.expressions) Direction.Reverse) (always a)
     a.query (Ok (Some end)) ≡ match_at end.pattern b.start end.offset
-answered a end told b =
-    grind (arith, common_steps, start_of_end_holds)
+answered a end told b = grind (arith, common_steps, start_of_end_holds)

@@ -86,5 +86,4 @@ places_from f look (x ∷ xs) a h =
 
 pub first_of-places : {A V : Type 0} (f : A → Option V) (xs : List A)
     → first_of f xs ≡ first_of (λ k. option_and_then f (slice_get xs k)) (range_with_len 0 (length xs))
-first_of-places f xs =
-    places_from f (slice_get xs) xs 0 (λ k l. let z : 0 + k ≡ k = omega arith in ap (slice_get xs) z)
+first_of-places f xs = places_from f (slice_get xs) xs 0 (λ k l. let z : 0 + k ≡ k = omega arith in ap (slice_get xs) z)

@@ -76,8 +76,7 @@ module _ (a : Asked) where
   -- and past the edge neither, where one start serves all searches
   nothing_after : is_always_start_anchored (plan_nfa a.plan Direction.Forward a.expressions) ≡ true
       → (p : ℕ) → 0 < p → p ≤ size → all_found a.expressions t a.query p ≡ None
-  nothing_after always p above within =
-      grind (arith, common_steps, first_of-none, edge_alone, first_of-nil)
+  nothing_after always p above within = grind (arith, common_steps, first_of-none, edge_alone, first_of-nil)
 
   start_found : a.query.start ≤ a.query.end → (mode : Anchored)
       → mode_worth a Direction.Forward worth mode a.query.start ≡ mode_found a.expressions t a.query mode

@@ -51,8 +51,7 @@ module _ (c : Scan) where
   dead_tells s i place d = grind (arith, common_steps, first_of-nil)
 
   pub tells_here : (s : State) (i : ℕ) → StandsAt c s i → slice_get (step_at c s i).label 0 ≡ tells s i i
-  tells_here s i at =
-      grind (arith, common_steps, valued, given, given_none, label_head, label_exactly, step_here)
+  tells_here s i at = grind (arith, common_steps, valued, given, given_none, label_head, label_exactly, step_here)
 
   pub tells_later : (s : State) (i place : ℕ) → StandsAt c s i → i < place
       → CutsNothing c.build.nfa c.build.kind s (unit_at (read_in c) i)

@@ -53,8 +53,7 @@ module _ {V : Type 0} (x : Valued V) where
   -- a body's ends, and from each of them what comes after
   ends_lead : (q next i : ℕ) (A B : ℕ → List ℕ) → Advances (length x.reading.units) 0 A → Leads q next B
       → i ≤ length x.reading.units → first_end q (A i) ≡ first_end next (flat_map (λ j. B j) (A i))
-  ends_lead q next i A B lies leads within =
-      grind (arith, common_steps, first_of-same, given, first_of-flat_map)
+  ends_lead q next i A B lies leads within = grind (arith, common_steps, first_of-same, given, first_of-flat_map)
 
   straight_means : Means straight (λ i. i ∷ [])
   straight_means = record { entry = λ base next stands i within. sym (first_of-single (λ j. given x next j) i) }
@@ -62,8 +61,7 @@ module _ {V : Type 0} (x : Valued V) where
   class_given : (set next i : ℕ) (byte : Option ℕ)
       → read_by set byte (given x next (i + 1)) ≡ first_end next (class_ends set byte i)
   class_given set next i None = sym (first_of-nil (λ j. given x next j))
-  class_given set next i (Some byte) =
-      grind (arith, common_steps, given, first_of-single, first_of-nil)
+  class_given set next i (Some byte) = grind (arith, common_steps, given, first_of-single, first_of-nil)
 
   class_means : (set : ℕ) → Means (row_to (Row.Bytes set)) (λ i. class_ends set (after x.reading.units i) i)
   class_means set = record {
@@ -124,8 +122,7 @@ module _ {V : Type 0} (x : Valued V) where
   choice_given : (greedy : Bool) (round next i : ℕ) (more : List ℕ) → given x round i ≡ first_end next more
       → gives_at x i (choice greedy round next) ≡ first_end next (preferring greedy more i)
   unfolding first_of
-  choice_given true round next i more e =
-      grind (arith, common_steps, first_of-single, given, first_of-append)
+  choice_given true round next i more e = grind (arith, common_steps, first_of-single, given, first_of-append)
   choice_given false round next i more e = ap (option_or (given x next i)) e
 
   optional_means : (greedy : Bool) {body : Maker} {B : ℕ → List ℕ} → Advances (length x.reading.units) 0 B

@@ -57,8 +57,7 @@ module _ (b : Build) (r : Reading) (direction : Direction) (size : ℕ) where
   pub told_read : (earliest : Bool) (n i : ℕ) (s : State) (last : Option HalfMatch) (h : HalfMatch)
       → state_walk b direction earliest s (place_of direction size i) last (units_from r i n) ≡ Ok (Some h)
       → (last ≡ Some h) ⊎ ReadTo i n h
-  told_read earliest zero i s last h w =
-      grind (arith, common_steps, units_from-zero, walk-nil)
+  told_read earliest zero i s last h w = grind (arith, common_steps, units_from-zero, walk-nil)
   told_read earliest (suc n) i s last h w =
       let unit = unit_at r i in
       let offset = place_of direction size i in

@@ -8,8 +8,7 @@ use Rattle.rx_spec.proofs.Prelude.{OverlappingMatches, overlapping, is_split, na
 use Rattle.rx_spec.proofs.Prelude.{skip_splits, split_limit, skips_splits, half_unsplit, item_unsplit, Answer, match_at}
 use Rattle.rx_spec.proofs.Prelude.{with_start, back_from, with_end, joined_search, join, is_repeat, unless_repeat}
 use Rattle.rx_spec.proofs.Prelude.{and_then, iterate_from, is_always_start_anchored, plan_nfa, plan_build}
-use Rattle.rx_spec.specs.Splits.{is_boundary_byte}
-use Rattle.rx_spec.specs.Splits.{overlapping_unsplit}
+use Rattle.rx_spec.specs.Splits.{is_boundary_byte, overlapping_unsplit}
 use Rattle.rx_spec.specs.declared.Direction.{Direction}
 use Rattle.lemmas_walks.proofs.WalkBounds.{half_met, half_in_span}
 use Rattle.lemmas_walks.proofs.Firsts.{by_test, Contains-here, Contains-there}
@@ -37,8 +36,7 @@ unless_same : (direction : Direction) (p : Query) (haystack : List ℕ) (o again
     → unless_split direction p o again ≡ unless_split direction (other p haystack) o other_again
 unless_same direction p haystack (Err error) again other_again split same = refl
 unless_same direction p haystack (Ok None) again other_again split same = refl
-unless_same direction p haystack (Ok (Some h)) again other_again split same =
-    grind (arith, common_steps)
+unless_same direction p haystack (Ok (Some h)) again other_again split same = grind (arith, common_steps)
 
 module _ (t : Table) (direction : Direction) where
   abbrev search : Query → HalfAnswer
@@ -208,5 +206,4 @@ module _ (f r : Table) (sound : IsSound f) (sound_reverse : IsSound r) where
       (span_decides_join f r sound p (other p haystack) bytes same))
 
 pub span_decides_iterate : SpanDecidesIterate
-span_decides_iterate f r sound sound_reverse p q bytes same =
-    grind (arith, common_steps, iterate_same)
+span_decides_iterate f r sound sound_reverse p q bytes same = grind (arith, common_steps, iterate_same)

@@ -68,8 +68,7 @@ module _ {V : Type 0} (x : Valued V) where
       → AreBytes x.reading.units → (m i : ℕ) → i + m ≡ length x.reading.units
       → given x base i ≡ first_of (λ p. given x anchored p) (range_with_len i (suc m))
   unfolding first_of
-  lead_in_gives base anchored stands bytes zero i e =
-      grind (arith, common_steps, given_as, slice_get_past)
+  lead_in_gives base anchored stands bytes zero i e = grind (arith, common_steps, given_as, slice_get_past)
   lead_in_gives base anchored stands bytes (suc m) i e =
       let byte = get_or x.reading.units i 0 in
       let within : i < length x.reading.units = omega arith in

@@ -44,8 +44,7 @@ pub started_search : (b : Build) (direction : Direction) (t : ℕ) (q : Query) �
     → build_half_search b direction q
     ≡ state_walk b direction q.earliest (query_state b direction q) (first_offset direction q) None
     (units_from (reading direction t q.haystack) (first_place direction q) (suc (q.end - q.start)))
-started_search b direction t q order inside start =
-    grind (arith, common_steps, started_walk)
+started_search b direction t q order inside start = grind (arith, common_steps, started_walk)
 
 module _ (a : Asked) (direction : Direction) where
   abbrev nfa : Nfa

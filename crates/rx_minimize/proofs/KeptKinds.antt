@@ -38,8 +38,7 @@ module _ {old : Layout} {blocks numbers firsts ends : List ℕ} (s : IsKept old 
   first_low (suc (suc place)) h = absurd (omega (arith, h))
 
   pub first_high : (place : ℕ) → 1 < place → place < length firsts → 1 < first place
-  first_high place high h =
-      omega (arith, s.renumbered.are_firsts.rising 1 place high h, first_one numbered)
+  first_high place high h = omega (arith, s.renumbered.are_firsts.rising 1 place high h, first_one numbered)
 
   -- ---- kinds
 

@@ -121,8 +121,7 @@ module _ {blocks : List ℕ} {row : ℕ} {names numbers firsts : List ℕ} (h : 
 
     -- no row before is in this block
     elsewhere : (x : ℕ) → x < row → slice_index blocks x ≢ block
-    elsewhere x l e =
-        omega (arith, ap (slice_index names) e, h.named x l, h.below x l, h.few, unknown, within)
+    elsewhere x l e = omega (arith, ap (slice_index names) e, h.named x l, h.below x l, h.few, unknown, within)
 
     pub new_named : AreNamed blocks (row + 1) new_names new_numbers new_firsts
     new_named = record {

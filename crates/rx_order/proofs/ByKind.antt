@@ -72,8 +72,7 @@ module _ {kinds ranks : List ℕ} {sorted : List Ranked} (s : AreSorted kinds ra
     rank_at = ap (slice_index ranks) number_at ∙ sym own.1
 
   kinds_rise : IsNonDecreasingBy (λ row. row.kind) sorted
-  kinds_rise x y d low h =
-      omega (arith, s.rises x y d low h, (own y d h).1, s.few (get_or sorted y d).number)
+  kinds_rise x y d low h = omega (arith, s.rises x y d low h, (own y d h).1, s.few (get_or sorted y d).number)
 
   -- what `partition_point` gives
   pub is_end : (kind end : ℕ) → end ≤ length sorted

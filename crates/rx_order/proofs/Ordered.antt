@@ -94,8 +94,7 @@ module _ {x : Sorting} {l new m : Layout} (a : IsArranged x l new m) where
 
   pub kind_of_number : (row : ℕ) → row < row_count l
       → kind_at (number row) ≡ kind_by row (x.matches row) (x.accelerated row) (is_start_row l row)
-  kind_of_number row h =
-      ap (slice_index x.kinds) (row_at_number a.reordered a.before row h) ∙ a.kinds.kinds_are row h
+  kind_of_number row h = ap (slice_index x.kinds) (row_at_number a.reordered a.before row h) ∙ a.kinds.kinds_are row h
 
   pub before_end : (place kind : ℕ) → kind < 8 → place < end kind → (place < row_count l) × (kind_at place ≤ kind)
   before_end place kind h b =
@@ -124,8 +123,7 @@ module _ {x : Sorting} {l new m : Layout} (a : IsArranged x l new m) where
       (cases_lt (number 0) (end 0))
 
   pub dead : number 0 ≡ 0
-  dead =
-      ap number (sym first_row) ∙ number_of_place a.reordered a.before 0 (omega (arith, two))
+  dead = ap number (sym first_row) ∙ number_of_place a.reordered a.before 0 (omega (arith, two))
 
   quit_place : 1 < end 1
   quit_place =
@@ -264,8 +262,7 @@ module _ {x : Sorting} {l new m : Layout} (a : IsArranged x l new m) where
 
   pub start_is : (place : ℕ) → place < row_count l
       → (table_of m).is_start place ≡ (x.marked && is_start_row m place)
-  start_is place h =
-      KindRanges.start_is specials kinds_here starts_here place (omega (arith, size_same))
+  start_is place h = KindRanges.start_is specials kinds_here starts_here place (omega (arith, size_same))
 
   pub ordered : IsOrdered m
   ordered = KindRanges.ordered specials kinds_here starts_here

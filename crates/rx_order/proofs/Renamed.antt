@@ -52,8 +52,7 @@ rearranged_of_exchanged a i j {old = old} hi hj e h = grind (arith, common_steps
 map-same : {X Y : Type 0} (P : X → Type 0) (f g : X → Y) (xs : List X) → ((x : X) → P x → f x ≡ g x) → All P xs
     → map f xs ≡ map g xs
 map-same P f g [] e h = refl
-map-same P f g (x ∷ xs) e h =
-    ap₂ (λ y ys. y ∷ ys) (e x (All-head P x xs h)) (map-same P f g xs e (All-tail P x xs h))
+map-same P f g (x ∷ xs) e h = ap₂ (λ y ys. y ∷ ys) (e x (All-head P x xs h)) (map-same P f g xs e (All-tail P x xs h))
 
 -- what agrees on the ids of rows renames alike
 pub with_ids-same : (t : Transitions) (f g : ℕ → ℕ) → AreRows t → ((id : ℕ) → IsRowId t id → f id ≡ g id)

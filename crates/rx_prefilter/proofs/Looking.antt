@@ -24,8 +24,7 @@ pub walk_on : {t : Table} {direction : Direction} {q : Query} {row offset next :
     → walk t.machine direction q.earliest row offset None (units_left direction q offset)
     ≡ walk t.machine direction q.earliest next (next_offset direction offset) None
     (units_left direction q (next_offset direction offset))
-walk_on {t} {direction} {q} {row} {offset} {next} step quiet =
-    grind (arith, common_steps, walk_stops, step_quiet)
+walk_on {t} {direction} {q} {row} {offset} {next} step quiet = grind (arith, common_steps, walk_stops, step_quiet)
 
 -- the last unit, if it leads to a row that tells nothing
 pub walk_ends : (t : Table) (row unit offset : ℕ) (earliest : Bool)

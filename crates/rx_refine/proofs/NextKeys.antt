@@ -96,5 +96,4 @@ module _ {w : Waiting} {start n : ℕ} {keys : List ℕ} {steps : ℕ} (r : IsRe
 pub next_keys_small : {m : Moves} {unit : ℕ} {p : Parts} (taken : ℕ) (keys : List ℕ) → AreMoves m → unit < m.units
     → IsPartition p → length p.rows ≡ m.rows → length keys ≡ m.rows → AreNextKeys m unit p.blocks taken keys
     → All (λ key. key < length keys) keys
-next_keys_small {m} {unit} {p} taken keys a hu w rows len at k d l =
-    search (rules, get_or_default, blocks_few)
+next_keys_small {m} {unit} {p} taken keys a hu w rows len at k d l = search (rules, get_or_default, blocks_few)

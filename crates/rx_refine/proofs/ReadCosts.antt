@@ -24,8 +24,7 @@ digits_half n h = length-digits_of_step 2 n (omega arith) h
 
 below_power : (f n : ℕ) → n ≤ f → n < 2 ^ binary_digits n
 below_power zero n h = let e : n ≡ 0 = omega arith in rw e (pow_pos (binary_digits 0))
-below_power (suc f) n h =
-    grind (arith, common_steps, digits_half, below_power f (n / 2) (omega arith))
+below_power (suc f) n h = grind (arith, common_steps, digits_half, below_power f (n / 2) (omega arith))
 
 digits-le : (a b : ℕ) → a ≤ b → binary_digits a ≤ binary_digits b
 digits-le a b h = length-digits_of-le 2 (binary_digits b) a (omega arith) (omega (arith, below_power b b (omega arith)))
@@ -93,8 +92,7 @@ module _ {m : Moves} {labels : List ℕ} {p : Parts} (r : IsRefined m labels p) 
   take_row : (unit taken row : ℕ) → taken < length p.sizes → row < m.rows
       → row_potential m p (taken + 1) unit row + cond (is_in (members p taken) row) (cost m unit row) 0
       ≤ row_potential m p taken unit row
-  take_row unit taken row h l =
-      search (rules, is_in_members, cases_eq, digits_half)
+  take_row unit taken row h l = search (rules, is_in_members, cases_eq, digits_half)
 
   unit_take : (unit taken : ℕ) → taken < length p.sizes
       → unit_potential m p (taken + 1) unit + sum_by (cost m unit) (members p taken) ≤ unit_potential m p taken unit

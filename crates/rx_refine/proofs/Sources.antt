@@ -33,8 +33,7 @@ places_of-small xs v n e k d l =
 pub is_in-flat_map : (m : Moves) (rows : List ℕ) (unit row : ℕ) → row < length (column m unit)
     → is_in (flat_map (λ r. sources m r unit) rows) row ≡ is_in rows (next_row m row unit)
 is_in-flat_map m [] unit row l = refl
-is_in-flat_map m (r ∷ rs) unit row l =
-    grind (arith, common_steps, is_in-places_of, is_in-flat_map m rs unit row l)
+is_in-flat_map m (r ∷ rs) unit row l = grind (arith, common_steps, is_in-places_of, is_in-flat_map m rs unit row l)
 
 pub flat_map-small : {m : Moves} (rows : List ℕ) (unit : ℕ) → AreMoves m → unit < m.units → 0 < m.rows
     → All (λ row. row < m.rows) (flat_map (λ r. sources m r unit) rows)

@@ -24,8 +24,7 @@ module _ (p : Plan) (es : List Expression) where
       counts p.minimize (table_build p PlanTable.Forward es) (table_of l) is.power is.least
   dense_rows PlanTable.Reverse l is =
       counts p.minimize (table_build p PlanTable.Reverse es) (table_of l) is.power is.least
-  dense_rows PlanTable.All l is =
-      counts p.minimize (table_build p PlanTable.All es) (table_of l) is.power is.least
+  dense_rows PlanTable.All l is = counts p.minimize (table_build p PlanTable.All es) (table_of l) is.power is.least
 
   sparse_rows : (table : PlanTable) (t : sparse.Stored) → IsSparse p table es t
       → HasRows p table es (sparse.table_of t.layout).size

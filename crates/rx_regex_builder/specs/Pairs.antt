@@ -81,7 +81,7 @@ pub record AreBuilt {T : Type 0} (IsOne : Both → List Expression → T → Typ
   pub forward : IsOne both es f
   pub reverse : IsOne (in_reverse both) es r
 
--- nothing refuses one
+-- nothing refuses either
 pub record AreBothFit (IsFit : Both → List Expression → Type 0) (both : Both) (es : List Expression) : Type 0 where
   pub forward : IsFit both es
   pub reverse : IsFit (in_reverse both) es

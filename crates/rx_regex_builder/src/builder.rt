@@ -69,7 +69,8 @@ impl Builder {
     pub fn build_many(&self, alloc: Global, exprs: &[Expr]) -> Result<Regex<OwnedDFA>, BuildError>
         ensures ok { IfOk result (λ regex. AreBuilt IsOf (both_of self.now) exprs.now regex.forward regex.reverse) }
         ensures fits { OnOk result (AreBothFit IsFitBy (both_of self.now) exprs.now) }
-        ensures err { IfErr result (λ e. IsRefused (PairRefused IsFitBy IsRefusedBy (both_of self.now) exprs.now) e.kind) }
+        ensures err { IfErr result (λ e.
+            IsRefused (PairRefused IsFitBy IsRefusedBy (both_of self.now) exprs.now) e.kind) }
         // Each repetition in an expression is bounded.
         ensures safe { All IsLoopSafe exprs.now }
     {
@@ -101,7 +102,8 @@ impl Builder {
         alloc: Global,
         exprs: &[Expr],
     ) -> Result<Regex<SparseDFA<Vec<u8>>>, BuildError>
-        ensures ok { IfOk result (λ regex. AreBuilt IsSparseOf (both_of self.now) exprs.now regex.forward regex.reverse) }
+        ensures ok { IfOk result (λ regex.
+            AreBuilt IsSparseOf (both_of self.now) exprs.now regex.forward regex.reverse) }
         ensures fits { OnOk result (AreBothFit IsSparseFitBy (both_of self.now) exprs.now) }
         ensures err { IfErr result (λ e.
             IsRefused (PairRefused IsSparseFitBy IsSparseRefusedBy (both_of self.now) exprs.now) e.kind) }

@@ -115,8 +115,7 @@ module _ (text : List ℕ) where
       found_within = let n = part_length in let high = first.0.high in omega (arith, n, high)
 
       plain_before : (k : ℕ) → k < i → is_feed (at + k) ≡ false
-      plain_before =
-          none_before i (let w = found_within in omega (arith, w)) (λ k h. first.0.before k (omega arith) h)
+      plain_before = none_before i (let w = found_within in omega (arith, w)) (λ k h. first.0.before k (omega arith) h)
 
       pub feeds_before : line_feeds text at ≡ line_feeds text (at + i)
       feeds_before = sym (feeds_kept at i plain_before)

@@ -52,8 +52,7 @@ longest_ends p (Item.Reported m ∷ items) n e =
 pub longest_later : (p o : ℕ) (items : List Item) (n : HalfMatch) → AllPast o items → longest p items ≡ Some n
     → o < n.offset
 longest_later p o [] n all e = absurd (let none = sym (longest-nil p) ∙ e in cc)
-longest_later p o (Item.Skipped ∷ items) n all e =
-    longest_later p o items n all.1 (sym (longest_skips p items) ∙ e)
+longest_later p o (Item.Skipped ∷ items) n all e = longest_later p o items n all.1 (sym (longest_skips p items) ∙ e)
 longest_later p o (Item.Reported m ∷ items) n all e =
     by_test (nat_lt p m.offset)
     (λ b. ⊎_elim

@@ -42,5 +42,4 @@ module _ (t : Table) (plan : Plan) (es : List Expression) (text : List ℕ) (ser
       (λ b. subst AreLongest (sym (no_bytes t text (suc n) p (ltb-false p (length text) b))) (All-nil IsLongest))
 
 pub tokens_are_longest : TokensAreLongest
-tokens_are_longest t plan es text serves safe bytes =
-    all_longest t plan es text serves safe bytes (length text - 0) 0
+tokens_are_longest t plan es text serves safe bytes = all_longest t plan es text serves safe bytes (length text - 0) 0

@@ -23,8 +23,7 @@ pair_spelled high low b e = on (digit_of high) (digit_of low) refl refl e where
   on : (h l : Option ℕ) → digit_of high ≡ h → digit_of low ≡ l → byte_from h l ≡ Some b → SpellsPair b high low
   on None l p q z = absurd cc
   on (Some h) None p q z = absurd cc
-  on (Some h) (Some l) p q z =
-      (h, l, digit_spelled high h p, digit_spelled low l q, sym (same_Some (16 * h + l) b z))
+  on (Some h) (Some l) p q z = (h, l, digit_spelled high h p, digit_spelled low l q, sym (same_Some (16 * h + l) b z))
 
 pub pair_read : (high low b : ℕ) → SpellsPair b high low → byte_of high low ≡ Some b
 pair_read high low b s = rw (digit_read high s.0 s.2, digit_read low s.1 s.3) (ap (λ (x : ℕ). Some x) (sym s.4))

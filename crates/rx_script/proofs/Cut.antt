@@ -64,8 +64,7 @@ cut_is c (b ∷ bs) = on (eqb b c) (position_or_len (λ x. eqb x c) bs) (cut_is 
       : (t : Bool) (n : ℕ) → cut c bs ≡ parts_at n bs
       → cond t ([], Some bs) (b ∷ (cut c bs).0, (cut c bs).1) ≡ parts_at (cond (not t) (1 + n) 0) (b ∷ bs)
   on true n e = ap (λ (t : Bool). ([], cond t (Some bs) None)) (sym (lt-ltb 0 (length (b ∷ bs)) (omega arith)))
-  on false n e =
-      ap (λ (p : List ℕ × Option (List ℕ)). (b ∷ p.0, p.1)) e ∙ sym (shifted (1 + n) n (omega arith))
+  on false n e = ap (λ (p : List ℕ × Option (List ℕ)). (b ∷ p.0, p.1)) e ∙ sym (shifted (1 + n) n (omega arith))
 
 pub cut_at
     : (c : ℕ) (text : List ℕ) (at : ℕ) → position (λ b. eqb b c) text ≡ Some at

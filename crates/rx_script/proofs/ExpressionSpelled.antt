@@ -537,8 +537,7 @@ phrase_accepted n (Phrase.Concat a b) =
 phrase_accepted n (Phrase.Alternate a b) =
     let f : Finish n Item.Alternate = record { form = λ x y. Expression.Alternate x y; finished = λ x y parts. refl } in
     record { accepted = two_accepted f (phrase_accepted n a) (phrase_accepted n b) }
-phrase_accepted n (Phrase.Repeat least most greedy body) =
-    repeat_accepted least most greedy (phrase_accepted n body)
+phrase_accepted n (Phrase.Repeat least most greedy body) = repeat_accepted least most greedy (phrase_accepted n body)
 
 pub expression_spelled
     : (n : ℕ) (words : List (List ℕ)) (e : Expression) → expression_at n words ≡ Ok e → SpellsExpression e words
@@ -559,8 +558,7 @@ expression_spelled n words e h =
           let acc = (phrase_accepted n p).accepted [] parts only in
           record {
             phrase = p;
-            spelled =
-                subst (SpellsPhrase p) (sym (w ∙ ap (λ (l : List (List ℕ)). xs ++ l) nothing ∙ append-nil xs)) sp;
+            spelled = subst (SpellsPhrase p) (sym (w ∙ ap (λ (l : List (List ℕ)). xs ++ l) nothing ∙ append-nil xs)) sp;
             accepted = acc.0;
             made = sym (ok_is (meaning p) e (ap (single_of n) (sym acc.1) ∙ z));
           }

@@ -15,8 +15,7 @@ Spelled word mode = SpellsMode (mode_of mode) word
 
 numbered_spelled : (word : List ℕ) (mode : Mode) → numbered_mode word ≡ Some mode → Spelled word mode
 numbered_spelled [] mode e = absurd cc
-numbered_spelled (c ∷ cs) mode e =
-    grind (arith, common_steps, cases_Bool, eqb-true, none-some, number_spelled)
+numbered_spelled (c ∷ cs) mode e = grind (arith, common_steps, cases_Bool, eqb-true, none-some, number_spelled)
 
 pub mode_spelled : (word : List ℕ) (mode : Mode) → mode_word word ≡ Some mode → SpellsMode (mode_of mode) word
 unfolding mode_word

@@ -63,8 +63,7 @@ valued
     → ((x : A) → o ≡ Some x → IsNamed name (61 ∷ value) (make x)) → option_map make o ≡ Some word
     → IsNamed name (61 ∷ value) word
 valued name value None make word is e = absurd cc
-valued name value (Some x) make word is e =
-    subst (IsNamed name (61 ∷ value)) (same_Some (make x) word e) (is x refl)
+valued name value (Some x) make word is e = subst (IsNamed name (61 ∷ value)) (same_Some (make x) word e) (is x refl)
 
 valued_spelled
     : (name : PlanName) (value : List ℕ) (word : PlanWord) → valued_word name value ≡ Some word

@@ -96,8 +96,7 @@ ranges_read
 ranges_read set [] [] s = refl
 ranges_read set [] (piece ∷ pieces) s = absurd s
 ranges_read set (r ∷ rs) [] s = absurd s
-ranges_read set (r ∷ rs) (piece ∷ pieces) s =
-    rw (range_read piece r s.0) (ranges_read (with_range set r) rs pieces s.1)
+ranges_read set (r ∷ rs) (piece ∷ pieces) s = rw (range_read piece r s.0) (ranges_read (with_range set r) rs pieces s.1)
 
 -- ---- sets
 

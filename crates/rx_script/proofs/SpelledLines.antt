@@ -67,8 +67,7 @@ pub line_spaced
     : (words : List (List ℕ)) (gap : Bool) → AllByRecursion IsWord words → 0 < length words
     → is_spaced gap (line_text words) ≡ true
 line_spaced [] gap each some = absurd (omega arith)
-line_spaced (w ∷ []) gap each some =
-    ap (is_spaced gap) (sym (append-nil w)) ∙ visible_steps w [] gap each.0.1 each.0.0
+line_spaced (w ∷ []) gap each some = ap (is_spaced gap) (sym (append-nil w)) ∙ visible_steps w [] gap each.0.1 each.0.0
 line_spaced (w ∷ (v ∷ ws)) gap each some =
     visible_steps w (32 ∷ line_text (v ∷ ws)) gap each.0.1 each.0.0 ∙ line_spaced (v ∷ ws) true each.1 (omega arith)
 

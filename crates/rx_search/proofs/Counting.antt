@@ -143,8 +143,7 @@ last_match_counted {t} {direction} {q} {row} {unit} {next} s =
 -- what is left of a span isn't nothing
 some_left : (direction : Direction) (q : Query) (offset : ℕ) → q.start ≤ q.end → Place q offset
     → is_nil (units_left direction q offset) ≡ false
-some_left direction q offset order p =
-    grind (arith, common_steps)
+some_left direction q offset order p = grind (arith, common_steps)
 
 pub skip_counts : {t : Table} {row : ℕ} (earliest : Bool) (direction : Direction) (q : Query) → Standing t row
     → (t.machine.is_dead row ≡ false → ends_at t earliest row ≡ false)

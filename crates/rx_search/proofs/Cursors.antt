@@ -43,8 +43,7 @@ module _ {A : Type 0} (table : A → Table) (ids : A → List ℕ) where
   pub skips_at : {first other : A} {direction : Direction} {q : Query} (id : ℕ) {from from' to : ℕ} → other ≡ first
       → from' ≡ from → Skips (table other) direction q (row_of (ids other) id) from' to
       → Skips (table first) direction q (row_of (ids first) id) from to
-  skips_at {first} {other} {direction} {q} id {from} {from'} {to} same same_from skips =
-      grind (arith, common_steps)
+  skips_at {first} {other} {direction} {q} id {from} {from'} {to} same same_from skips = grind (arith, common_steps)
 
   -- a turn of a cursor
   pub turned : {first here there : A} → Held (table first) (ids first) → (id next : ℕ) {unit : ℕ} → here ≡ first

@@ -65,8 +65,7 @@ module _ (m : Machine ℕ) (direction : Direction) (earliest : Bool) (last : Opt
           (at_stop_label l direction (m.next row unit) unit offset units
           (if m.is_dead (m.next row unit) then Stop.Ended
           else next_stop m direction (m.next row unit) (next_offset direction offset) units))) (sym e)
-      by_label Label.Plain e later =
-          by_test (m.is_dead (m.next row unit)) (λ d. rw (e, d) refl) (λ d. rw (e, d) later)
+      by_label Label.Plain e later = by_test (m.is_dead (m.next row unit)) (λ d. rw (e, d) refl) (λ d. rw (e, d) later)
 
 pub first_is : (ks : List ℕ) (offset : ℕ)
     → first_match ks offset ≡ record { pattern = slice_index ks 0; offset = offset }

@@ -59,8 +59,7 @@ module _ (m : Machine ℕ) (direction : Direction) where
           ∙ ap (λ (l : Label). told_by_stop m direction (at_stop_label l direction (m.next row unit) unit offset units
           (if m.is_dead (m.next row unit) then Stop.Ended
           else next_stop m direction (m.next row unit) (next_offset direction offset) units))) (sym e)
-      by_label Label.Plain e later =
-          by_test (m.is_dead (m.next row unit)) (λ d. rw (e, d) refl) (λ d. rw (e, d) later)
+      by_label Label.Plain e later = by_test (m.is_dead (m.next row unit)) (λ d. rw (e, d) refl) (λ d. rw (e, d) later)
 
 -- ---- calls
 

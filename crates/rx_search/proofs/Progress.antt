@@ -84,8 +84,7 @@ module _ {t : Table} {direction : Direction} {q : Query} {first now : Standpoint
         → StopsAt t direction q first.offset next
         (next_stop t.machine direction first.row first.offset (units_left direction q first.offset))
         (Ok (Some now.offset))
-    met_stop is =
-        (p.stop ∙ step_match s is, record { in_span = s.place.in_span; on = p.on; is_match = is })
+    met_stop is = (p.stop ∙ step_match s is, record { in_span = s.place.in_span; on = p.on; is_match = is })
 
     pub met_count : Ready
         → now.steps + 1 + counted_on t direction q next (Ok (Some now.offset))
@@ -112,8 +111,7 @@ module _ {t : Table} {direction : Direction} {q : Query} {first now : Standpoint
     last_stop : next_stop t.machine direction first.row first.offset (units_left direction q first.offset)
         ≡ next_stop t.machine direction now.row (last_offset direction q)
         (units_left direction q (last_offset direction q))
-    last_stop =
-        p.stop ∙ ap (λ (o : ℕ). next_stop t.machine direction now.row o (units_left direction q o)) over
+    last_stop = p.stop ∙ ap (λ (o : ℕ). next_stop t.machine direction now.row o (units_left direction q o)) over
 
     pub last_met_stop : {last : ℕ} → last ≡ last_offset direction q → is_match t next ≡ true
         → StopsAt t direction q first.offset next

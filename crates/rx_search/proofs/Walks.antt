@@ -135,8 +135,7 @@ module _ {t : Table} {row : ℕ} (s : Standing t row) where
 
   -- a byte that may be skipped leads back to the row
   pub loops : (byte : ℕ) → byte < 256 → is_read t row byte ≡ false → t.machine.next row byte ≡ row
-  loops byte below unread =
-      search (rules, by_test, eqb-true, seen_if, leaving_exactly)
+  loops byte below unread = search (rules, by_test, eqb-true, seen_if, leaving_exactly)
 
   -- nor does such a row quit, so it is quiet if it isn't a match row
   pub unread_quiet : (byte : ℕ) → byte < 256 → is_match t row ≡ false → is_read t row byte ≡ false → IsQuiet t row

@@ -24,8 +24,7 @@ use Rattle.rx_sparse.proofs.RowTexts.{eoi_there, length-next_ids, length-row, le
 pub length-rows_in : (order : Order) (count : ℕ) (bytes : List ℕ) → length (rows_in order count bytes) ≡ count
 unfolding rows_in
 length-rows_in order zero bytes = refl
-length-rows_in order (suc count) bytes =
-    ap suc (length-rows_in order count (drop (row_len (row_in order bytes)) bytes))
+length-rows_in order (suc count) bytes = ap suc (length-rows_in order count (drop (row_len (row_in order bytes)) bytes))
 
 -- the bytes from a row on spell it first
 pub row_in-there : (order : Order) (count : ℕ) (bytes : List ℕ) (row : ℕ) → row < count

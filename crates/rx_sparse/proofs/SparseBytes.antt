@@ -283,8 +283,7 @@ module _ (l : dense.Layout) (shaped : dense.IsShaped l) (sound : dense_facts.IsS
   parts_fit = record {
     whole = ap (rows_text Order.Little) rows_back ∙ sym rows_are;
     words = omega (arith, starts_size);
-    shaped =
-        subst (λ (s : Stored). IsShaped s.layout) (sym stored_is) (sparse_shaped l shaped sound special fits);
+    shaped = subst (λ (s : Stored). IsShaped s.layout) (sym stored_is) (sparse_shaped l shaped sound special fits);
   }
 
 -- ---- refusals

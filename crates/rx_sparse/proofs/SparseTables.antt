@@ -279,8 +279,7 @@ module _ (l : dense.Layout) (rows : dense.AreRows l) where
     match_same = in_range row h l.special.min_match l.special.max_match special.min_match special.max_match
 
     quit_same : is_quit_id new (id_of offs row) ≡ is_quit_id l.special (row * stride l)
-    quit_same =
-        ap₂ (λ (x y : Bool). x && y) (equal row h l.special.quit special.quit) (ap not (is_dead row h))
+    quit_same = ap₂ (λ (x y : Bool). x && y) (equal row h l.special.quit special.quit) (ap not (is_dead row h))
 
     by_kind : (m q : Bool) (ks : List ℕ)
         → (if m then Label.Matches (if m then ks else []) else (if q then Label.Quits else Label.Plain))
@@ -297,8 +296,7 @@ module _ (l : dense.Layout) (rows : dense.AreRows l) where
         ∙ by_kind (is_match_id l.special (row * stride l)) (is_quit_id l.special (row * stride l)) ks
 
     label_row_same : (table_of (sparse_of l)).machine.label row ≡ (dense.table_of l).machine.label row
-    label_row_same =
-        ap₂ (λ (id : ℕ) (r : Row). label_of_row new id r) (id_there row h) (row_there row h) ∙ label_same
+    label_row_same = ap₂ (λ (id : ℕ) (r : Row). label_of_row new id r) (id_there row h) (row_there row h) ∙ label_same
 
   -- ---- start rows
 

@@ -51,8 +51,7 @@ module _ (l : Layout) (rows : AreRows l) (row : ℕ) (h : row < row_count l) whe
 
   -- and each is the id of a row
   id_is : (c : ℕ) → c < alphabet_len l.classes → IsRowId l (id_at c)
-  id_is c low =
-      rw (word_at c low) (rows.next_ids (row * stride l + c) (omega (arith, row_within l row h rows)))
+  id_is c low = rw (word_at c low) (rows.next_ids (row * stride l + c) (omega (arith, row_within l row h rows)))
 
 -- ---- its ranges
 

@@ -196,8 +196,7 @@ module _ {t : Table} {b : Build} (is : IsApart t b) where
               λ same.
               states_differ (2 + i) (2 + j) _ _ (omega arith) (omega arith) (λ e. omega (arith, e))
               (all.each i (omega arith)) (all.each j (omega arith)) (sym a ∙ same ∙ c);
-          reached =
-              All-from_get_or (IsReached b) all.states dead_state (λ i h. (all.each i (within i h)).reached);
+          reached = All-from_get_or (IsReached b) all.states dead_state (λ i h. (all.each i (within i h)).reached);
           each = λ i h. all.each i (within i h);
         },
       )

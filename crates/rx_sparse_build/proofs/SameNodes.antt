@@ -2,8 +2,7 @@
 use Rattle.rx_spec.proofs.Prelude.{arith, ◌≡◌, ℕ, ◌==◌, Bool, true, false, refl, ap, common_steps, and_from, and_parts}
 use Rattle.rx_spec.proofs.Prelude.{cases_eq, eq-eqb, false_from_ne_true, ne_eqb, not-true, or_parts, bytes_eq-Decides}
 use Rattle.rx_spec.proofs.Prelude.{Node, dead, is_dead, Facts, differ, same_node, State}
-use Rattle.std.proofs.lemmas.Bool.{or_from}
-use Rattle.std.proofs.lemmas.Bool.{not_from_false}
+use Rattle.std.proofs.lemmas.Bool.{or_from, not_from_false}
 use Rattle.rx_spec.specs.Sizes.{same_facts, same_state}
 use Rattle.lemmas_tables.proofs.Classes.{same_tests}
 

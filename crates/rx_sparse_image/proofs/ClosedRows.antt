@@ -46,8 +46,7 @@ row_at_offset test at rows row passed h =
 module _ (P : ℕ → Type 0) (row : Row)
     (all : (i : ℕ) → i < length (next_ids row) → P (slice_index (next_ids row) i)) where
   pub range_leads : (i : ℕ) → i < length row.ranges → P (get_or row.ranges i no_range).next
-  range_leads i h =
-      subst P (next_there row.ranges (row.eoi ∷ []) i h) (all i (omega (arith, length-next_ids row)))
+  range_leads i h = subst P (next_there row.ranges (row.eoi ∷ []) i h) (all i (omega (arith, length-next_ids row)))
 
   pub eoi_leads : P row.eoi
   eoi_leads = subst P (eoi_there row.ranges row.eoi) (all (length row.ranges) (omega (arith, length-next_ids row)))

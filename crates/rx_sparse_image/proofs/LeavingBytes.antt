@@ -19,19 +19,16 @@ module _ (classes : List ℕ) (at : ℕ) (row : Row) where
         ap not (ne_eqb (next_id classes row byte) at (λ e. ne (is ∙ next_on_byte classes row byte low ∙ e)))
 
     pub stays_where : next ≡ at → leaves classes at row byte ≡ false
-    stays_where e =
-        ap not (eq-eqb (next_id classes row byte) at (sym (is ∙ next_on_byte classes row byte low) ∙ e))
+    stays_where e = ap not (eq-eqb (next_id classes row byte) at (sym (is ∙ next_on_byte classes row byte low) ∙ e))
 
   module _ {needles : List ℕ} {met byte : ℕ} (h : AreMet needles (leaves classes at row) met byte) where
     pub few_leave : byte < 256 → leaves classes at row byte ≡ true → length needles ≤ met
         → false ≡ bytes_eq needles (leaving classes at row)
-    few_leave low passes le =
-        sym (ap (bytes_eq needles) (leaving_is classes at row) ∙ too_few h low passes le)
+    few_leave low passes le = sym (ap (bytes_eq needles) (leaving_is classes at row) ∙ too_few h low passes le)
 
     pub another_leaves : byte < 256 → leaves classes at row byte ≡ true → get_or needles met 0 ≢ byte
         → false ≡ bytes_eq needles (leaving classes at row)
-    another_leaves low passes ne =
-        sym (ap (bytes_eq needles) (leaving_is classes at row) ∙ another h low passes ne)
+    another_leaves low passes ne = sym (ap (bytes_eq needles) (leaving_is classes at row) ∙ another h low passes ne)
 
     pub all_leave : byte ≡ 256 → eqb met (length needles) ≡ bytes_eq needles (leaving classes at row)
     all_leave last = all_met h last ∙ sym (ap (bytes_eq needles) (leaving_is classes at row))

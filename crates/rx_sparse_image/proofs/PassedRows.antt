@@ -134,8 +134,7 @@ module _ {b : Bounds} {bytes rest : List ℕ} {count : ℕ} (are : ArePassed b b
 
     -- where the row fails its test, all reading does
     pub row_fails : {kind : Kind} → row_at b (length bytes - length rest) rest ≡ Err kind → rows_at b bytes ≡ Err kind
-    row_fails e =
-        turn ∙ ap (λ r. r >>= (λ row. rows_from b left row.1 >>= (λ more. Ok (rows ++ (row.0 ∷ more))))) e
+    row_fails e = turn ∙ ap (λ r. r >>= (λ row. rows_from b left row.1 >>= (λ more. Ok (rows ++ (row.0 ∷ more))))) e
 
     module _ {behind : List ℕ} (bytes_rest : AreBytes rest)
         (e : row_at b (length bytes - length rest) rest ≡ Ok (row_in b.order rest, behind)) where
@@ -247,8 +246,7 @@ marks_none order bytes begins len e k = ap (λ t. begins_at t k) e ∙ no_mark l
 pub marks_more : (begins : List Bool) (places : List ℕ) (at : ℕ) → at < length begins
     → ((k : ℕ) → begins_at begins k ≡ list_any (λ place. place == k) places)
     → (k : ℕ) → begins_at (marked begins at) k ≡ list_any (λ place. place == k) (places ++ at ∷ [])
-marks_more begins places at h before k =
-    grind (arith, common_steps, get_or-set_same, list_any-append, or_right, eq-eqb)
+marks_more begins places at h before k = grind (arith, common_steps, get_or-set_same, list_any-append, or_right, eq-eqb)
 
 -- ---- failures
 

@@ -173,8 +173,7 @@ module _ (b : Bounds) (at : ℕ) (row : Row) (is : IsTestedRow b at row) where
 
   -- the next ids are read again
   ids_again : (rest : List ℕ) → next_ids_at b count (ids ++ rest) ≡ Ok (ids, rest)
-  ids_again rest =
-      grind (arith, common_steps, next_ids_pass, front_there, length-words, id_there)
+  ids_again rest = grind (arith, common_steps, next_ids_pass, front_there, length-words, id_there)
 
   eoi_is : word_at order ids (count - 1) ≡ row.eoi
   eoi_is = grind (arith, common_steps, id_there)

@@ -33,8 +33,7 @@ module _ {order : Order} {count : ℕ} {bytes : List ℕ} (are : AreWholeRows or
 
     pub next_here : drop (row_len (row_in order rest)) rest
         ≡ drop (rows_len (take (i + 1) (rows_in order count bytes))) bytes
-    next_here =
-        ap (λ t. drop (row_len (row_in order t)) t) here ∙ next_there order count bytes are i h
+    next_here = ap (λ t. drop (row_len (row_in order t)) t) here ∙ next_there order count bytes are i h
 
   -- all rows are ahead of the first
   pub all_ahead : bytes ≡ drop (rows_len (take 0 (rows_in order count bytes))) bytes

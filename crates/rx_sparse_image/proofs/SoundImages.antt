@@ -90,8 +90,7 @@ module _ (l : Layout) (read : IsRead l) (facts : AreClosed l) where
       ap (row_of ids) dead ∙ row_zero
 
   dead_ends : (unit : ℕ) → row_of ids (next_id l.classes (row_at l 0) unit) ≡ 0
-  dead_ends unit =
-      ends 0 unit first_row (let dead : eqb (id_of ids 0) 0 ≡ true = eq-eqb _ _ table.dead in rw dead refl)
+  dead_ends unit = ends 0 unit first_row (let dead : eqb (id_of ids 0) 0 ≡ true = eq-eqb _ _ table.dead in rw dead refl)
 
   quit_ends : (unit : ℕ) → row_of ids (next_id l.classes (row_at l 1) unit) ≡ 0
   quit_ends unit =

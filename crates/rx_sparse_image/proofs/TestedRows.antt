@@ -216,8 +216,7 @@ module _ (b : Bounds) (at : ℕ) (bytes rest : List ℕ) (are : AreBytes bytes)
 
   -- together they have as many bytes as there are
   row_size : row_len row + length rest ≡ length bytes
-  row_size =
-      omega (arith, length-row order row, length-append (row_text order row) rest, ap length row_stands)
+  row_size = omega (arith, length-row order row, length-append (row_text order row) rest, ap length row_stands)
 
   module _ (i : ℕ) (h : i < length row.ranges) where
     range_low : i < count - 1

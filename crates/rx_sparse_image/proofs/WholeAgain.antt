@@ -71,8 +71,7 @@ bytes_of order l = record {
 settings_again : (order : Order) (l : Layout) → IsRead l
     → Reads (settings_at order) (field order w32 l.pattern_len ++ l.classes) (l.pattern_len, l.classes)
 unfolding settings_at
-settings_again order l read rest =
-    grind (arith, common_steps, le-leb, and_from, classes_pass, bytes_again, u32_again)
+settings_again order l read rest = grind (arith, common_steps, le-leb, and_from, classes_pass, bytes_again, u32_again)
 
 row_bytes_again : (order : Order) (l : Layout) → IsRead l → rows_len l.rows ≤ max_id
     → Reads (row_bytes_at order) (row_bytes_text order l) (bytes_of order l)

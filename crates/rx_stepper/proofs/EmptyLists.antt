@@ -11,8 +11,7 @@ empty_set f [] i y e h k lt = refl
 empty_set f (v ∷ vs) zero y e h zero lt = e
 empty_set f (v ∷ vs) zero y e h (suc k) lt = absurd (omega arith)
 empty_set f (v ∷ vs) (suc i) y e h zero lt = h zero (omega arith)
-empty_set f (v ∷ vs) (suc i) y e h (suc k) lt =
-    empty_set f vs i y e (λ j k. h (suc j) (omega arith)) k (omega arith)
+empty_set f (v ∷ vs) (suc i) y e h (suc k) lt = empty_set f vs i y e (λ j k. h (suc j) (omega arith)) k (omega arith)
 
 -- ---- one list is another
 

@@ -12,8 +12,7 @@ each_push P xs y i len each here k h = grind (arith, common_steps)
 -- a mark more
 pub still_marked : (used : List Bool) (group v : ℕ) → group < length used → get_or used v false ≡ true
     → get_or (set used group true) v false ≡ true
-still_marked used group v lt old =
-    grind (arith, common_steps)
+still_marked used group v lt old = grind (arith, common_steps)
 
 -- a group as it is made: from the facts of a unit that are asked for
 pub is_group : (nfa : Nfa) {unit number group t : ℕ} {asked known facts : Facts} → unit ≡ number

@@ -45,8 +45,7 @@ lead_once nfa = grind (arith, common_steps, apart_once, firsts_twice)
 
 pub lead_closed : (nfa : Nfa) {lead : List ℕ} → lead ≡ lead_of nfa → All (λ q. q < id_count) lead
     → are_closed nfa.rows lead ≡ true
-lead_closed nfa {lead} e ids =
-    grind (arith, common_steps, rows_closed, lead_stands, recursion_from_All, lead_once)
+lead_closed nfa {lead} e ids = grind (arith, common_steps, rows_closed, lead_stands, recursion_from_All, lead_once)
 
 pub lead_alone : (nfa : NFA) {lead : List ℕ} → lead ≡ lead_of (meaning nfa) → (q : ℕ) → In lead q
     → closure (meaning nfa).rows Standing q ≡ q ∷ []

@@ -102,8 +102,7 @@ module _ (own lead : List ℕ) (i : ℕ) {q : ℕ} (rows : List ℕ) (place : �
 -- all of the lead-in's rows were gone through
 pub follows_ends : (own lead rows : List ℕ) {i : ℕ} (place : ℕ) → length lead ≤ i → place ≤ length rows
     → bytes_eq (without own (drop i lead)) (drop place rows) ≡ (place == length rows)
-follows_ends own lead rows {i} place past within =
-    grind (arith, common_steps, drop_of_length-le, without_nil)
+follows_ends own lead rows {i} place past within = grind (arith, common_steps, drop_of_length-le, without_nil)
 
 -- ---- how many rows of the lead-in are among the own ones
 

@@ -21,8 +21,7 @@ set_added set units {count} {before} {after} len e = grind (arith, common_steps,
 pub set_listed : (set : ℕ) (units before : List ℕ) {after : List ℕ} {start stop : ℕ}
     → after ≡ before ++ read_by set units → start ≡ length before → stop ≡ length after
     → IsListed units after set start stop
-set_listed set units before {after} {start} {stop} e begins ends =
-    grind (arith, common_steps)
+set_listed set units before {after} {start} {stop} e begins ends = grind (arith, common_steps)
 
 -- what was listed before is listed still
 pub listed_still : {units : List ℕ} {count : ℕ} {before after : List ℕ} (sets : List ListedSet)

@@ -43,8 +43,7 @@ module _ {nfa : Nfa} {from own : List ℕ} {is_led : Bool} (w : WritesRows nfa f
   closed = closed_rows nfa.rows Standing from
 
   pub rows_are : rows_by (lead_of nfa) is_led own ≡ closed
-  rows_are =
-      sym (ap (λ v. rows_by (lead_of nfa) v.is_led v.own) w.written) ∙ written_spells (lead_of nfa) closed
+  rows_are = sym (ap (λ v. rows_by (lead_of nfa) v.is_led v.own) w.written) ∙ written_spells (lead_of nfa) closed
 
   are_closed : AreClosed nfa.rows closed
   are_closed = grind (arith, common_steps, closed_stands, every-weaker, rows_are, every_by, firsts_twice)

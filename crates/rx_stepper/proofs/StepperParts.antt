@@ -66,8 +66,7 @@ set_at [] i v k e = absurd (cc)
 set_at (y ∷ ys) zero v zero e = inl (refl, cc)
 set_at (y ∷ ys) zero v (suc k) e = inr e
 set_at (y ∷ ys) (suc i) v zero e = inr e
-set_at (y ∷ ys) (suc i) v (suc k) e =
-    ⊎_elim (λ s. inl (ap suc s.0, s.1)) (λ o. inr o) (set_at ys i v k e)
+set_at (y ∷ ys) (suc i) v (suc k) e = ⊎_elim (λ s. inl (ap suc s.0, s.1)) (λ o. inr o) (set_at ys i v k e)
 
 -- what becomes of it
 pub record Finds (t : Table) (lead_in : LeadIn) (i : ℕ) (old new : LeadSteps) : Type 0 where
@@ -268,8 +267,7 @@ module _ (t : Table) {lead_in : LeadIn} {leads : List LeadSteps} {current : Curr
       (subst (λ k. Is (lead_of t.nfa) k f.lead.steps) facts
       (subst (λ r. Is r (facts_with f.context) f.lead.steps) fits_lead.is.rows found)) in
       record {
-        leads =
-            leads_led s unit (own_of key) (lead_of t.nfa) (lead_rows true e) (fits.steps column h) theirs f.goes_on;
+        leads = leads_led s unit (own_of key) (lead_of t.nfa) (lead_rows true e) (fits.steps column h) theirs f.goes_on;
         few = omega (
           arith,
           few_patterns t.nfa.rows (mine ++ without mine (matches_in b group)),

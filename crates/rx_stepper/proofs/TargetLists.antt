@@ -12,8 +12,7 @@ module _ {X : Type 0} (f : X → List ℕ) (vs : List X) (v : ℕ) (x y : X) (ne
   -- one list has one more
   pub pushed_one : (column : ℕ) → list_at (map f (set vs v y)) column
       ≡ list_at (map f vs) column ++ only_if (column == v) (next ∷ [])
-  pushed_one column =
-      grind (arith, common_steps, by_test, eqb-true, map-set)
+  pushed_one column = grind (arith, common_steps, by_test, eqb-true, map-set)
 
 -- ---- a turn of the loop over columns
 

@@ -38,8 +38,7 @@ split_nowhere lead front e = split_end lead front ∙ ap (λ b. written_as b fro
 
 pub split_spells : (lead front rows : List ℕ)
     → rows_by lead (split_by lead front rows).is_led (split_by lead front rows).own ≡ front ++ rows
-split_spells lead front [] =
-    grind (arith, common_steps, by_test, bytes_eq-Decides, split_here, split_nowhere)
+split_spells lead front [] = grind (arith, common_steps, by_test, bytes_eq-Decides, split_here, split_nowhere)
 split_spells lead front (x ∷ rest) =
     by_test (bytes_eq (without front lead) (x ∷ rest))
     (λ e. let same = (bytes_eq-Decides (without front lead) (x ∷ rest)).0 e in
@@ -56,8 +55,7 @@ written_spells (x ∷ lead) rows = split_spells (x ∷ lead) [] rows
 
 apart_from : (lead front rows : List ℕ) (q : ℕ) → In lead q → was (front ++ rows) q ≡ false
     → bytes_eq (without front lead) rows ≡ false
-apart_from lead front rows q i new =
-    grind (arith, common_steps, false_from_ne_true, bytes_eq-Decides, without_keeps)
+apart_from lead front rows q i new = grind (arith, common_steps, false_from_ne_true, bytes_eq-Decides, without_keeps)
 
 pub split_missing : (lead front rows : List ℕ) (q : ℕ) → In lead q → was (front ++ rows) q ≡ false
     → split_by lead front rows ≡ written_as false (front ++ rows)

@@ -42,8 +42,7 @@ first_walk {t} is row offset (unit ∷ units) below w =
         (if t.machine.is_dead next then none_left Ending.Ended
         else overlapping_walk t.machine Direction.Forward next (offset + 1) units)))
     by_label (Label.Matches []) e later = absurd (is.lists next next_below e)
-    by_label Label.Plain e later =
-        by_test (t.machine.is_dead next) (λ d. rw (e, d) refl) (λ d. rw (e, d) later)
+    by_label Label.Plain e later = by_test (t.machine.is_dead next) (λ d. rw (e, d) refl) (λ d. rw (e, d) later)
     by_label _ e later = rw e refl
 
 pub first_is_earliest : FirstIsEarliest

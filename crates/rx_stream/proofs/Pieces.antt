@@ -171,12 +171,9 @@ module _ {t : Table} {row from here at : ℕ} {piece : List ℕ} (ids : List ℕ
     (turn : Turn t here (slice_index piece at) (row_of ids id)) where
   pub walk_halts : IsId ids id → (halt : Halt) → IsMetBy t ids id (slice_index piece at) at halt
       → HaltsAt t ids row piece from halt
-  walk_halts is_id (Halt.Match next place) met =
-      rw (met.0, met.1) (is_id, walk_meets_match walk h turn met.2)
-  walk_halts is_id (Halt.Quit next byte place) met =
-      rw (met.0, met.1, met.2) (is_id, walk_meets_quit walk h turn met.3)
-  walk_halts is_id (Halt.End next) met =
-      rw met.0 (is_id, walk_ends walk h turn met.1 met.2 met.3)
+  walk_halts is_id (Halt.Match next place) met = rw (met.0, met.1) (is_id, walk_meets_match walk h turn met.2)
+  walk_halts is_id (Halt.Quit next byte place) met = rw (met.0, met.1, met.2) (is_id, walk_meets_quit walk h turn met.3)
+  walk_halts is_id (Halt.End next) met = rw met.0 (is_id, walk_ends walk h turn met.1 met.2 met.3)
 
   -- a row from which a walk goes on, once it has skipped
   pub walk_passes_by : {to : ℕ} → AreBytes piece → IsPassedBy t (row_of ids id)

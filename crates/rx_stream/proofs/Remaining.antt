@@ -101,8 +101,7 @@ module _ (t : Table) (ids : List ℕ) where
         new = record old { row = next; taken = old.taken + (at - from) + 1 }
 
         no_more : pending t ids new ≡ []
-        no_more =
-            no_pending t ids new (ap label_patterns (quit_label (t.machine.label (row_of ids next)) quit.is_quit))
+        no_more = no_pending t ids new (ap label_patterns (quit_label (t.machine.label (row_of ids next)) quit.is_quit))
 
         nothing : (more : List ℕ) → IsWord more
             → walked t (row_of ids next) new.taken (drop (at + 1) piece ++ more) ≡ none_left Ending.Ended

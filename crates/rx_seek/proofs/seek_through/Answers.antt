@@ -47,7 +47,6 @@ pieces-preserved g c =
           ∙ sym (get_or-take (kept + count) buffer (kept + length read - c.min-kept.result + i) 0
           (omega (arith, h, n, c.min-kept.ensures)))));
       room = c.copy_within.ensures.len ∙ len ∙ full;
-      few =
-          omega (arith, length-take room (drop kept buffer), got.1, c.min-room.ensures, c.pieces-test.true);
+      few = omega (arith, length-take room (drop kept buffer), got.1, c.min-room.ensures, c.pieces-test.true);
       counted = omega (arith, c.pieces.invariant.counted, c.in-Got.ensures.cause);
     }

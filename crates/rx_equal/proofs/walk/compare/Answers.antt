@@ -10,8 +10,7 @@ begin_all-requires-clause-walked g c =
     walked_none {s = s} new.0 new.1 c.new.ensures
 
 pub pairs-init : goal.pairs-init
-pairs-init g c =
-    way_begins c.new.ensures c.in_ok-place.ensures.went_on c.in_ok-place.ensures.looked c.in_default.is
+pairs-init g c = way_begins c.new.ensures c.in_ok-place.ensures.went_on c.in_ok-place.ensures.looked c.in_default.is
 
 pub returns-in-Some-2 : goal.returns-in-Some-2
 returns-in-Some-2 g c =

@@ -28,8 +28,7 @@ at_place c =
     (rw c.stride2-stride2.ensures.value at c.must-id.ensures)
 
 pub patterns_of_row-requires-clause-is_id : goal.patterns_of_row-requires-clause-is_id
-patterns_of_row-requires-clause-is_id c =
-    (at_place (goal.at.patterns_of_row-requires-clause-is_id c).After-must-id).0
+patterns_of_row-requires-clause-is_id c = (at_place (goal.at.patterns_of_row-requires-clause-is_id c).After-must-id).0
 
 pub patterns_of_row-requires-clause-is_match : goal.patterns_of_row-requires-clause-is_match
 patterns_of_row-requires-clause-is_match c =

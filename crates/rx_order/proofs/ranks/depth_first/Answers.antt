@@ -69,8 +69,7 @@ loop-step-init c =
       found = c.loop-id.invariant.found;
       left = last.0;
       own = last.1;
-      count =
-          ap length c.in_ok-ranks.ensures ∙ length-range_with_len 0 (length c.args.kinds.now) ∙ c.requires;
+      count = ap length c.in_ok-ranks.ensures ∙ length-range_with_len 0 (length c.args.kinds.now) ∙ c.requires;
       matches = λ row h e.
           numbered c.in_ok-ranks.ranks.items (length c.args.kinds.now) row c.in_ok-ranks.ensures
           (omega (arith, h, c.requires));

@@ -32,8 +32,7 @@ search-preserved-in-Continue-branch-3 c =
 -- ---- a row that was seen
 
 pub search-smaller : goal.search-smaller
-search-smaller c =
-    passed_falls (nfa_graph c.args.nfa.now c.args.passing.now) (popped _ c.in-Some.ensures.items)
+search-smaller c = passed_falls (nfa_graph c.args.nfa.now c.args.passing.now) (popped _ c.in-Some.ensures.items)
 
 pub search-preserved : goal.search-preserved
 search-preserved c =

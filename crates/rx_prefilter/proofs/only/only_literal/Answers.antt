@@ -31,15 +31,13 @@ returns-clause-searches g c =
       started = record {
         sound = forward_sound;
         whole = sym c.skips_splits.ensures ∙ c.if-skips_splits.false;
-        starts =
-            subst (λ (id : ℕ). StartsAt f Anchored.No (row_of ids id)) (sym first) c.in-Some.ensures.1;
+        starts = subst (λ (id : ℕ). StartsAt f Anchored.No (row_of ids id)) (sym first) c.in-Some.ensures.1;
       };
       is_literal = is.2;
       below = λ k h.
           (standing (slice_index rows k) forward_sound (g.met.A.Automaton.are_ids forward)
           (is.1.are_ids k 0 (omega arith))).below;
-      tells =
-          subst (λ (id : ℕ). Tells f (row_of ids id) c.in-Some-told_at.pattern) (sym end) c.in-Some-told_at.ensures;
+      tells = subst (λ (id : ℕ). Tells f (row_of ids id) c.in-Some-told_at.pattern) (sym end) c.in-Some-told_at.ensures;
     } in
     let reverse_is : IsReverse r bytes c.in-Some-told_at.pattern
     (row_of (g.A.Automaton.ids reverse) c.in-Some-only_start.last)

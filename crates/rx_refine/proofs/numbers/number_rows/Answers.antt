@@ -21,8 +21,7 @@ loop-row-preserved c =
             rw (w.count-is, v.count-is, w.blocks-is, w.names-is, v.names-is)
             (numbered_again at numbering w.if-key-kept.true (omega arith) v.if-names-key.false)
       ]
-      | else-key-kept w ↦
-          rw (w.names-is, w.blocks-is, w.count-is) (numbered_kept at numbering w.if-key-kept.false)
+      | else-key-kept w ↦ rw (w.names-is, w.blocks-is, w.count-is) (numbered_kept at numbering w.if-key-kept.false)
     ]
 
 pub returns-clause-numbers : goal.returns-clause-numbers

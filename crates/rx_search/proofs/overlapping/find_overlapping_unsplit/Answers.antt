@@ -11,8 +11,7 @@ pub returns-then-not-skips_splits-clause-call : goal.returns-then-not-skips_spli
 returns-then-not-skips_splits-clause-call g c = grind (arith, common_steps)
 
 pub returns-then-is_char_boundary-clause-call : goal.returns-then-is_char_boundary-clause-call
-returns-then-is_char_boundary-clause-call g c =
-    grind (arith, common_steps)
+returns-then-is_char_boundary-clause-call g c = grind (arith, common_steps)
 
 pub returns-then-is_anchored-clause-call : goal.returns-then-is_anchored-clause-call
 returns-then-is_anchored-clause-call g c = grind (arith, common_steps)

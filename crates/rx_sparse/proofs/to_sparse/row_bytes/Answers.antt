@@ -7,8 +7,7 @@ pub loop-row-init : goal.loop-row-init
 loop-row-init g c = grind (arith, common_steps, none_written)
 
 pub add_row-requires-clause-is_id : goal.add_row-requires-clause-is_id
-add_row-requires-clause-is_id g c =
-    written_id c.requires.offsets c.loop-row.invariant c.in-Some.ensures.steps
+add_row-requires-clause-is_id g c = written_id c.requires.offsets c.loop-row.invariant c.in-Some.ensures.steps
 
 pub add_row-requires-clause-few : goal.add_row-requires-clause-few
 add_row-requires-clause-few g c = grind (arith, common_steps, written_few)
@@ -18,8 +17,7 @@ add_row-requires-clause-few_patterns g c =
     written_patterns c.requires.offsets c.loop-row.invariant c.in-Some.ensures.steps
 
 pub add_row-requires-clause-ids : goal.add_row-requires-clause-ids
-add_row-requires-clause-ids g c =
-    written_offsets c.requires.offsets c.loop-row.invariant c.in-Some.ensures.steps
+add_row-requires-clause-ids g c = written_offsets c.requires.offsets c.loop-row.invariant c.in-Some.ensures.steps
 
 pub loop-row-preserved : goal.loop-row-preserved
 loop-row-preserved g c =

@@ -2,12 +2,10 @@ use Rattle.rx_dense.proofs.Rows.{IsId-row_id}
 use Rattle.rx_sparse.proofs.to_sparse.special.Goals as goal
 
 pub offset-requires-clause-is_id : goal.offset-requires-clause-is_id
-offset-requires-clause-is_id g c =
-    rw c.special-special.ensures (IsId-row_id c.args.dfa.now _ c.requires.special.max)
+offset-requires-clause-is_id g c = rw c.special-special.ensures (IsId-row_id c.args.dfa.now _ c.requires.special.max)
 
 pub offset-requires-2-clause-is_id : goal.offset-requires-2-clause-is_id
-offset-requires-2-clause-is_id g c =
-    rw c.special-special.ensures (IsId-row_id c.args.dfa.now _ c.requires.special.quit)
+offset-requires-2-clause-is_id g c = rw c.special-special.ensures (IsId-row_id c.args.dfa.now _ c.requires.special.quit)
 
 pub offset-requires-3-clause-is_id : goal.offset-requires-3-clause-is_id
 offset-requires-3-clause-is_id g c =

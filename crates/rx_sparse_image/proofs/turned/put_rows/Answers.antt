@@ -26,8 +26,7 @@ loop-preserved g c =
     let same = ap (λ t. row_len (row_in order t)) here in
     record {
       len = omega arith;
-      place =
-          omega (arith, next_len order c.args.count bytes are i low c.args.at);
+      place = omega (arith, next_len order c.args.count bytes are i low c.args.at);
       rest =
           c.put_row.ensures.rest
           ∙ ap (λ t. drop (row_len (row_in order t)) t) here

@@ -22,7 +22,6 @@ loop-column-preserved c =
             ∙ column_taken c.args.next p columns i 0 within (λ x. x.items) c.args.targets.now c.loop-column.targets
             before.lists column v.result w.push.new.self refl (sym c.takes.ensures ∙ w.if-takes.true) few
             w.in_ok-push.ensures.items k
-        | else-takes w ↦
-            grind (arith, common_steps)
+        | else-takes w ↦ grind (arith, common_steps)
       ];
     }

@@ -9,8 +9,7 @@ pub overflow_add-class : goal.overflow_add-class
 overflow_add-class c = grind (arith, common_steps, class_by-le)
 
 pub loop-byte-preserved : goal.loop-byte-preserved
-loop-byte-preserved c =
-    grind (arith, common_steps, class_by-next, length-set, get_or-set_other, get_or-set_same)
+loop-byte-preserved c = grind (arith, common_steps, class_by-next, length-set, get_or-set_other, get_or-set_same)
 
 pub invariant_of-result : goal.invariant_of-result
 invariant_of-result c =

@@ -10,5 +10,4 @@ no_lower_edge : (first b : ℕ) → first ≤ 0 → false ≡ (b + 1 == first)
 no_lower_edge first b h = grind (arith, nat_tests)
 
 pub returns : goal.returns
-returns c b below =
-    grind (arith, common_steps, contains-add, the_lower_edge, or-false, no_lower_edge, ends-with_range)
+returns c b below = grind (arith, common_steps, contains-add, the_lower_edge, or-false, no_lower_edge, ends-with_range)

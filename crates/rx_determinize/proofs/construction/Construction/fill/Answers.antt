@@ -54,8 +54,7 @@ columns-preserved c =
           let ready = next.ensures.ready column from below in
           let can = c.can_skip-skips.ensures ready.0 in
           (can.0, no_quit m.quit (unit_of m.classes column) (same_quit later ∙ can.1), ready.1));
-      within =
-          omega (arith, ap alphabet_len e.stepping.entering.serves.classes, ap alphabet_len (same_classes later));
+      within = omega (arith, ap alphabet_len e.stepping.entering.serves.classes, ap alphabet_len (same_classes later));
       later = later;
     }
 

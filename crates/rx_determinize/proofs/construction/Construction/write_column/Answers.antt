@@ -23,8 +23,7 @@ pub row_id-requires : goal.row_id-requires
 row_id-requires c = found_row c.requires.stepping (found_with c.requires.stepping c.in_ok-id.ensures.found)
 
 pub set_transition-requires-clause-to : goal.set_transition-requires-clause-to
-set_transition-requires-clause-to c =
-    IsId-row_id c.find_row.new.dfa c.in_ok-id.id c.in_ok-id.ensures.found.is_id
+set_transition-requires-clause-to c = IsId-row_id c.find_row.new.dfa c.in_ok-id.id c.in_ok-id.ensures.found.is_id
 
 pub returns-clause-stepping : goal.returns-clause-stepping
 returns-clause-stepping c =
@@ -38,5 +37,4 @@ returns-clause-stepping c =
     (c.set_transition.ensures ∙ ap₂ (λ (from u : ℕ). with_next m from u c.in_ok-id.id) c.row_id.ensures.value unit)
 
 pub returns-clause-later : goal.returns-clause-later
-returns-clause-later c =
-    grind (arith, common_steps, continues_twice)
+returns-clause-later c = grind (arith, common_steps, continues_twice)

@@ -9,8 +9,7 @@ pub returns-then-class-self : goal.returns-then-class-self
 returns-then-class-self c = grind (arith, common_steps, next-found)
 
 pub loop-i-preserved : goal.loop-i-preserved
-loop-i-preserved c =
-    grind (arith, common_steps, is_there, next-passed)
+loop-i-preserved c = grind (arith, common_steps, is_there, next-passed)
 
 pub returns : goal.returns
 returns c = grind (arith, common_steps, next-none)

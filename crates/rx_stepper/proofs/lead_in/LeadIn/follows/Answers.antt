@@ -9,8 +9,7 @@ pub returns-then-ne : goal.returns-then-ne
 returns-then-ne c = grind (arith, common_steps, follows_other)
 
 pub loop-row-preserved : goal.loop-row-preserved
-loop-row-preserved c =
-    grind (arith, common_steps, follows_next, follows_passed)
+loop-row-preserved c = grind (arith, common_steps, follows_next, follows_passed)
 
 pub returns : goal.returns
 returns c = grind (arith, common_steps, follows_ends)

@@ -6,5 +6,4 @@ pub returns-then-self : goal.returns-then-self
 returns-then-self c = grind (arith, common_steps, any_led)
 
 pub returns-else-is_led : goal.returns-else-is_led
-returns-else-is_led c =
-    grind (arith, common_steps, any_led)
+returns-else-is_led c = grind (arith, common_steps, any_led)

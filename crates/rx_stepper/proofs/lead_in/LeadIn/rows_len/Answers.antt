@@ -31,8 +31,7 @@ loop-row-preserved c =
           shared_left lead own c.loop-row.row-index (once_apart own c.requires.once) (once_apart lead self.once)
           c.loop-row-test.true is one c.loop-row.invariant in
           omega (arith, ap bit one)
-      | else-has w ↦
-          omega (arith, ap bit (sym c.has.ensures ∙ w.if-has.false))
+      | else-has w ↦ omega (arith, ap bit (sym c.has.ensures ∙ w.if-has.false))
     ]
 
 pub returns : goal.returns

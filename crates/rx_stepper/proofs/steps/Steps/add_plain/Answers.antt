@@ -10,8 +10,7 @@ pub loop-group-init : goal.loop-group-init
 loop-group-init c = grind (arith, common_steps)
 
 pub loop-group-preserved : goal.loop-group-preserved
-loop-group-preserved c =
-    grind (arith, common_steps, list_there, set_other, set_here, matches_more)
+loop-group-preserved c = grind (arith, common_steps, list_there, set_other, set_here, matches_more)
 
 pub returns-clause-matches : goal.returns-clause-matches
 returns-clause-matches c = grind (arith, common_steps)
